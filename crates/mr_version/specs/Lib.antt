@@ -1,0 +1,4 @@
+pub mod Name
+pub mod Order
+pub mod Fault
+pub mod Number

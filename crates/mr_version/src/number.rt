@@ -1,0 +1,22 @@
+ghost use Rattle.std.specs.Prelude.{◌≡◌, ◌<◌, ◌^◌, ◌↔◌, ℕ, Some, IsTrue, IfSome};
+ghost use Rattle.std.specs.Fmt.{decimal};
+ghost use Rattle.mr_version.specs.Number.{IsPlain};
+
+fn is_plain(text: &str) -> bool
+    ensures { IsTrue result ↔ IsPlain text.now }
+{
+    let bytes = text.as_bytes();
+    bytes.is_empty() || (bytes[0] != b'+' && (bytes[0] != b'0' || bytes.len() == 1))
+}
+
+/// The number that the text is in decimal, with no sign and no leading zeros.
+pub(crate) fn read_decimal(text: &str) -> Option<u32>
+    ensures spelled { IfSome result (λ n. text.now ≡ decimal n) }
+    ensures whole { (n : ℕ) → n < 2 ^ 32 → text.now ≡ decimal n → result ≡ Some n }
+{
+    if is_plain(text) {
+        text.parse().ok()
+    } else {
+        None
+    }
+}
