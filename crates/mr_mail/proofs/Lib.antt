@@ -1,0 +1,4 @@
+mod AdmitsLemmas
+mod DayLemmas
+mod FlagLemmas
+mod LabelLemmas

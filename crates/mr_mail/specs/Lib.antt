@@ -1,0 +1,6 @@
+pub mod Admits
+pub mod Day
+pub mod Fault
+pub mod Flag
+pub mod Label
+pub mod Mail

@@ -1,0 +1,207 @@
+//! Messages.
+ghost use Rattle.std.specs.Prelude.{◌≡◌, ◌<◌, ◌≤◌, IfOk, IfSome, IfNone, IsOkUnless, length, string_bytes};
+ghost use Rattle.mr_mail.specs.Admits.{first_fault};
+ghost use Rattle.mr_mail.specs.Label.{texts_of, AreLabelsOf};
+ghost use Rattle.mr_mail.specs.Mail.{card_of, IsMail};
+
+use crate::card::Card;
+use crate::day::Day;
+use crate::fault::MessageFault;
+use crate::flags::Flags;
+use crate::label::{Label, are_texts_of_labels, into_labels, sort_once};
+use std::alloc::{AllocError, Global};
+use std::marker::Model;
+use std::sync::Arc;
+
+/// The parts of a message, once for all of its owners.
+#[derive(Debug, Drop)]
+struct Parts {
+    from: String,
+    subject: String,
+    body: Vec<u8>,
+    card: Card,
+}
+
+impl Model for Parts {
+    ghost use Rattle.std.specs.Prelude.{string_bytes};
+    ghost use Rattle.mr_mail.specs.Mail.{Mail, mail_code, mail_with, IsMail};
+
+    ghost Value = { Mail };
+
+    ghost coded = { mail_code };
+
+    ghost view = { λ m. mail_with (string_bytes m.from) (string_bytes m.subject) m.body.items m.card };
+
+    ghost invariant = { λ m. IsMail (mail_with (string_bytes m.from) (string_bytes m.subject) m.body.items m.card) };
+}
+
+/// A message: sender, subject, body, labels, flags and day.
+///
+/// A message never changes, so its copies share one body: `copy` makes one more owner, and the
+/// memory is given back with the last of them.
+#[derive(Debug, Drop)]
+pub struct Message {
+    parts: Arc<Parts, Global>,
+}
+
+impl Model for Message {
+    ghost use Rattle.std.specs.Arc.{arc_value};
+    ghost use Rattle.mr_mail.specs.Mail.{Mail, mail_code, IsMail};
+
+    ghost Value = { Mail };
+
+    ghost coded = { mail_code };
+
+    ghost view = { λ m. arc_value m.parts };
+
+    ghost invariant = { λ m. IsMail (arc_value m.parts) };
+}
+
+/// The most bytes of a sender.
+const MAX_FROM_BYTES: usize = 254;
+
+/// The most bytes of a subject.
+const MAX_SUBJECT_BYTES: usize = 998;
+
+/// The most bytes of a body.
+const MAX_BODY_BYTES: usize = 65_536;
+
+/// The most labels of a message.
+const MAX_LABELS: usize = 16;
+
+impl Message {
+    /// The message of these parts. The labels may come in any order and more than once; the message
+    /// has each of them once, in rising order of their bytes. The sender, the subject and the body
+    /// are moved.
+    ///
+    /// The faults are tried in this order: `FromTooLong` over 254 bytes, `SubjectTooLong` over 998,
+    /// `BodyTooLong` over 65,536, `BadLabel` if a label is not one to 32 bytes of a-z, 0-9 and `-`,
+    /// `TooManyLabels` over 16 different ones, `BadFlags` for a flag byte over 31, and
+    /// `OutOfMemory` last.
+    #[tactic(auto, using(crate::proofs::LabelLemmas::list_all_of_texts))]
+    pub fn try_new(
+        alloc: Global,
+        from: String,
+        subject: String,
+        body: Vec<u8>,
+        mut labels: Vec<String>,
+        flags: u8,
+        day: Day,
+    ) -> Result<Message, MessageFault>
+        ensures refused { IfSome (first_fault (string_bytes from) (string_bytes subject) body.items
+            (texts_of labels.items) flags)
+            (λ fault. result ≡ Err fault) }
+        ensures admitted { IfNone (first_fault (string_bytes from) (string_bytes subject) body.items
+            (texts_of labels.items) flags)
+            (IsOkUnless result MessageFault.OutOfMemory) }
+
+        ensures from { IfOk result (λ message. message.from ≡ string_bytes from) }
+        ensures subject { IfOk result (λ message. message.subject ≡ string_bytes subject) }
+        ensures body { IfOk result (λ message. message.body ≡ body.items) }
+        ensures labels { IfOk result (λ message. AreLabelsOf (texts_of labels.items) message.labels) }
+        ensures flags { IfOk result (λ message. message.flags ≡ flags) }
+        ensures day { IfOk result (λ message. message.day ≡ day) }
+        ensures kept { IfOk result IsMail }
+    {
+        if from.len() > MAX_FROM_BYTES {
+            return Err(MessageFault::FromTooLong);
+        }
+        if subject.len() > MAX_SUBJECT_BYTES {
+            return Err(MessageFault::SubjectTooLong);
+        }
+        if body.len() > MAX_BODY_BYTES {
+            return Err(MessageFault::BodyTooLong);
+        }
+        if !are_texts_of_labels(labels.as_slice()) {
+            return Err(MessageFault::BadLabel);
+        }
+        sort_once(&mut labels);
+        if labels.len() > MAX_LABELS {
+            return Err(MessageFault::TooManyLabels);
+        }
+        let Some(flags) = Flags::from_bits(flags) else {
+            return Err(MessageFault::BadFlags);
+        };
+        let labels = into_labels(alloc, labels)?;
+        let parts = Parts {
+            from,
+            subject,
+            body,
+            card: Card::new(labels, flags, day),
+        };
+        Ok(Message {
+            parts: Arc::new(alloc, parts)?,
+        })
+    }
+
+    /// Who sent it, at most 254 bytes.
+    pub fn from(&self) -> &str
+        ensures value { result.now ≡ self.now.from }
+        ensures kept { length self.now.from ≤ 254 }
+    {
+        self.parts.from.as_str()
+    }
+
+    /// The subject, at most 998 bytes.
+    pub fn subject(&self) -> &str
+        ensures value { result.now ≡ self.now.subject }
+        ensures kept { length self.now.subject ≤ 998 }
+    {
+        self.parts.subject.as_str()
+    }
+
+    /// The body, at most 65,536 bytes.
+    pub fn body(&self) -> &[u8]
+        ensures value { result.now ≡ self.now.body }
+        ensures kept { length self.now.body ≤ 65536 }
+    {
+        self.parts.body.as_slice()
+    }
+
+    /// The labels, in rising order of their bytes, each once, and at most 16.
+    pub fn labels(&self) -> &[Label]
+        ensures value { result.now ≡ self.now.labels }
+        ensures kept { IsMail self.now }
+    {
+        self.parts.card.labels()
+    }
+
+    /// The flags.
+    pub fn flags(&self) -> Flags
+        ensures value { result ≡ self.now.flags }
+        ensures kept { self.now.flags ≤ 31 }
+    {
+        self.parts.card.flags()
+    }
+
+    /// The day.
+    pub fn day(&self) -> Day
+        ensures value { result ≡ self.now.day }
+        ensures kept { self.now.day < 65536 }
+    {
+        self.parts.card.day()
+    }
+
+    /// The message's card, lent.
+    pub fn as_card(&self) -> &Card
+        ensures { result.now ≡ card_of self.now }
+    {
+        &self.parts.card
+    }
+
+    /// The message's card, as a value of its own.
+    pub fn card(&self) -> Result<Card, AllocError>
+        ensures { IfOk result (λ card. card ≡ card_of self.now) }
+    {
+        self.parts.card.copy()
+    }
+
+    /// An equal message, which shares the body: it costs the same for every message.
+    pub fn copy(&self) -> Result<Message, AllocError>
+        ensures { IfOk result (λ message. message ≡ self.now) }
+    {
+        Ok(Message {
+            parts: Arc::try_clone(&self.parts)?,
+        })
+    }
+}

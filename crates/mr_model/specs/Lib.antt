@@ -1,0 +1,14 @@
+pub mod Versions
+pub mod History
+pub mod Moment
+pub mod Changes
+pub mod Rules
+pub mod Headline
+pub mod Laws
+pub mod Check
+pub mod Rows
+pub mod SyncRows
+pub mod StreamRows
+pub mod ReceiptRows
+pub mod PortRows
+pub mod RefusedRows
