@@ -1,0 +1,51 @@
+use Rattle.std.proofs.Common.{◌≡◌, ◌==◌, ◌↔◌, ℕ, ap, ◌∙◌, List}
+use Rattle.std.specs.Prelude.{IsTrue}
+use Rattle.std.specs.Bool.{Decides}
+use Rattle.std.specs.Cmp.{unsigned_Decides}
+use Rattle.std.specs.Cmp.Lexicographic.{pointwise, pointwise_decides}
+use Rattle.std.specs.Cmp.Derive.{both_true}
+use Rattle.std.proofs.lemmas.Bool.{and_parts}
+use Rattle.mr_forms.specs.Sets.{IsSame}
+use Rattle.mr_concise.specs.declared.column.Hole.{Hole}
+use Rattle.mr_concise.specs.declared.vector.AuthorColumn.{AuthorColumn}
+use Rattle.mr_concise.specs.Column.{Extent}
+use Rattle.mr_concise.specs.Equal.{hole_eq, extent_eq, author_column_eq, vector_eq}
+use Rattle.mr_concise.specs.Vector.{column_of, vector_has, IsVectorFrom}
+use Rattle.mr_concise.proofs.ColumnLemmas.{column_unique}
+use Rattle.mr_concise.proofs.VectorLemmas.{vector_unique}
+use Rattle.mr_concise.proofs.UnionLemmas.{column_of-IsColumn}
+
+-- vectors of one meaning are one
+pub vectors_same : (a b : List AuthorColumn) → IsVectorFrom 0 a → IsVectorFrom 0 b → IsSame (vector_has a) (vector_has b) → a ≡ b
+vectors_same a b va vb h = vector_unique 0 0 a b va vb (λ q. column_unique (column_of a q) (column_of b q) ((column_of-IsColumn 0 a q va).apart) ((column_of-IsColumn 0 b q vb).apart) (λ c. h (record { author = q; counter = c })))
+
+holes_Decides : (g h : Hole) → Decides (hole_eq g h) (g ≡ h)
+holes_Decides g h = (
+  λ t.
+      let p = and_parts (g.first == h.first) (g.last == h.last) t in
+      ap (λ (x : ℕ). record { first = x; last = g.last }) ((unsigned_Decides g.first h.first).0 p.0) ∙ ap (λ (y : ℕ). record { first = h.first; last = y }) ((unsigned_Decides g.last h.last).0 p.1),
+  λ e. both_true ((unsigned_Decides g.first h.first).1 (ap (λ (z : Hole). z.first) e)) ((unsigned_Decides g.last h.last).1 (ap (λ (z : Hole). z.last) e)),
+)
+
+extents_Decides : (a b : Extent) → Decides (extent_eq a b) (a ≡ b)
+extents_Decides a b = (
+  λ t.
+      let p = and_parts (a.upto == b.upto) (pointwise hole_eq a.holes b.holes) t in
+      ap (λ (x : ℕ). record { upto = x; holes = a.holes }) ((unsigned_Decides a.upto b.upto).0 p.0) ∙ ap (λ (hs : List Hole). record { upto = b.upto; holes = hs }) ((pointwise_decides holes_Decides a.holes b.holes).0 p.1),
+  λ e. both_true ((unsigned_Decides a.upto b.upto).1 (ap (λ (z : Extent). z.upto) e)) ((pointwise_decides holes_Decides a.holes b.holes).1 (ap (λ (z : Extent). z.holes) e)),
+)
+
+author_columns_Decides : (a b : AuthorColumn) → Decides (author_column_eq a b) (a ≡ b)
+author_columns_Decides a b = (
+  λ t.
+      let p = and_parts (a.author == b.author) (extent_eq a.column b.column) t in
+      ap (λ (x : ℕ). record { author = x; column = a.column }) ((unsigned_Decides a.author b.author).0 p.0) ∙ ap (λ (c : Extent). record { author = b.author; column = c }) ((extents_Decides a.column b.column).0 p.1),
+  λ e. both_true ((unsigned_Decides a.author b.author).1 (ap (λ (z : AuthorColumn). z.author) e)) ((extents_Decides a.column b.column).1 (ap (λ (z : AuthorColumn). z.column) e)),
+)
+
+-- vectors compare equal exactly where their sets agree
+pub vector_eq-same : (a b : List AuthorColumn) → IsVectorFrom 0 a → IsVectorFrom 0 b → IsTrue (vector_eq a b) ↔ IsSame (vector_has a) (vector_has b)
+vector_eq-same a b va vb = (
+  λ t v. ap (λ xs. vector_has xs v) ((pointwise_decides author_columns_Decides a b).0 t),
+  λ h. (pointwise_decides author_columns_Decides a b).1 (vectors_same a b va vb h),
+)

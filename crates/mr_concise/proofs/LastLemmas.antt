@@ -1,0 +1,45 @@
+use Rattle.std.proofs.Common.{◌≡◌, ◌≤◌, ◌<◌, nat_lt, ap, get_or, length, ℕ, suc, zero, true, false, nat_le, refl, ◌∙◌, arith, List}
+use Rattle.std.proofs.lemmas.Bool.{lt-leb, and_right, ltb-true, ltb-false, lt-ltb, le-ltb}
+use Rattle.std.specs.List.Sorted.{IsPartitionPoint}
+use Rattle.mr_concise.specs.Source.{IsNextAuthor, HasNoAuthorFrom}
+use Rattle.mr_concise.proofs.VectorLemmas.{column_of-missed, column_of-past}
+use Rattle.mr_concise.specs.declared.vector.AuthorColumn.{AuthorColumn}
+use Rattle.mr_concise.specs.Column.{Extent, column_has}
+use Rattle.mr_concise.specs.Vector.{column_of, vector_has, IsVectorFrom}
+use Rattle.mr_concise.specs.Last.{IsLast, HasNoneOf}
+use Rattle.mr_concise.proofs.ColumnLemmas.{column_has-edges}
+use Rattle.mr_concise.proofs.UnionLemmas.{column_of-IsColumn, bound-on, item-IsColumn, column_has-empty}
+
+pub column_has-above : (column : Extent) (c : ℕ) → column.upto < c → column_has column c ≡ false
+column_has-above column c l = rw (lt-leb c column.upto l, and_right (nat_le 1 c) false refl) refl
+
+-- the bound is the author's last
+pub bound-is_last : (columns : List AuthorColumn) (q : ℕ) → IsVectorFrom 0 columns → 1 ≤ (column_of columns q).upto → IsLast (vector_has columns) q (column_of columns q).upto
+bound-is_last columns q v some =
+    let is = column_of-IsColumn 0 columns q v in
+    record {
+      is_in = column_has-edges (column_of columns q) (column_of columns q).upto is.apart some ∙ bound-on 0 (column_of columns q).upto (column_of columns q).holes is.apart;
+      above = λ c l. column_has-above (column_of columns q) c l;
+    }
+
+pub no_bound-none : (columns : List AuthorColumn) (q : ℕ) → (column_of columns q).upto ≡ 0 → HasNoneOf (vector_has columns) q
+no_bound-none columns q none c = go c
+  where
+    go : (c : ℕ) → column_has (column_of columns q) c ≡ false
+    go zero = refl
+    go (suc c) = column_has-above (column_of columns q) (suc c) (omega arith)
+
+-- authors below id are below q
+before-lower : (xs : List AuthorColumn) (id i q : ℕ) → IsPartitionPoint (λ x. nat_lt x.author id ≡ true) (λ x. nat_lt x.author id ≡ false) xs i → id ≤ q → (k : ℕ) (d : AuthorColumn) → 0 ≤ k → k < i → nat_lt (get_or xs k d).author q ≡ true
+before-lower xs id i q place f k d z l = let lt : (get_or xs k d).author < id = ltb-true (get_or xs k d).author id (place.0 k d z l) in let up : (get_or xs k d).author < q = omega arith in lt-ltb (get_or xs k d).author q up
+
+-- the author of the column at the place is the next one
+pub next_author-place : (xs : List AuthorColumn) (id i : ℕ) (x : AuthorColumn) → IsVectorFrom 0 xs → IsPartitionPoint (λ x. nat_lt x.author id ≡ true) (λ x. nat_lt x.author id ≡ false) xs i → i < length xs → x ≡ get_or xs i x → IsNextAuthor (vector_has xs) id x.author
+next_author-place xs id i x v place l at = record {
+  above = ltb-false x.author id (rw (← at) at (place.1 i x (omega arith) l));
+  author_in = (item-IsColumn 0 xs i x v l at).2;
+  between = λ q f lt c. let ne : x.author ≡ q → ⊥ = λ e. omega arith in let ge : q ≤ x.author = omega arith in ap (λ (e : Extent). column_has e c) (column_of-missed 0 xs i q x v (before-lower xs id i q place f) l at (le-ltb x.author q ge) ne) ∙ column_has-empty c;
+}
+
+pub no_author-past : (xs : List AuthorColumn) (id i : ℕ) → IsPartitionPoint (λ x. nat_lt x.author id ≡ true) (λ x. nat_lt x.author id ≡ false) xs i → length xs ≤ i → HasNoAuthorFrom (vector_has xs) id
+no_author-past xs id i place l q f c = ap (λ (e : Extent). column_has e c) (column_of-past xs i q (before-lower xs id i q place f) l) ∙ column_has-empty c

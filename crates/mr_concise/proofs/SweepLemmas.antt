@@ -1,0 +1,226 @@
+use Rattle.std.proofs.Common.{inl, inr, ◌⊎◌, ◌≡◌, ◌<◌, ◌≤◌, ◌+◌, ◌-◌, ◌==◌, ◌&&◌, ℕ, Bool, true, false, nat_lt, cond, refl, ap, sym, ◌∙◌, arith, List, [], ◌∷◌, ◌++◌, length, length-append, suc, zero}
+use Rattle.std.specs.Prelude.{if◌then◌else◌}
+use Rattle.std.proofs.lemmas.Bool.{cases_lt, cases_eq, true≢false, eq-eqb, ne_eqb, lt-ltb, le-ltb}
+use Rattle.std.proofs.lemmas.Bool.Decides.{nat_tests}
+use Rattle.mr_forms.specs.Sets.{Test, IsSame}
+use Rattle.mr_concise.specs.Edges.{is_on, IsRising}
+use Rattle.mr_concise.specs.declared.column.Hole.{Hole}
+use Rattle.mr_concise.specs.declared.vector.AuthorColumn.{AuthorColumn}
+use Rattle.mr_concise.specs.Column.{Extent, hole_edges, edges, column_has, empty_column, IsColumn}
+use Rattle.mr_concise.specs.Next.{IsNextOut, IsNextIn, HasNoneFrom}
+use Rattle.mr_concise.specs.Last.{of_author}
+use Rattle.mr_concise.specs.Source.{IsColumnOf, HasFewHoles, HasManyHoles, HasNoAuthorFrom, IsNextAuthor}
+use Rattle.mr_concise.specs.Vector.{column_of, vector_has, IsVectorFrom, placed, HasTooManyHoles}
+use Rattle.mr_concise.proofs.EdgeLemmas.{is_on-turn, is_on-stay, IsRising-end}
+use Rattle.mr_concise.proofs.ColumnLemmas.{column_unique, column_has-edges}
+use Rattle.mr_concise.proofs.VectorLemmas.{column_of-placed, IsVectorFrom-placed}
+use Rattle.mr_concise.proofs.UnionLemmas.{column_has-empty, IsColumn-empty}
+use Rattle.mr_concise.proofs.LastLemmas.{column_has-above}
+
+bool-extend : (c at t e : ℕ) → at < t → t < e → (if nat_lt c at then true else (if nat_lt c t then false else (if nat_lt c e then true else false))) ≡ (if nat_lt c t then (if nat_lt c at then true else false) else nat_lt c e)
+bool-extend c at t e l m = grind (arith, nat_tests)
+
+bool-under : (c first last t : ℕ) (x y z : Bool) → first ≤ last + 1 → last + 1 < t → y ≡ (if nat_lt c t then x else z) → (if nat_lt c first then true else (if nat_lt c (last + 1) then false else y)) ≡ (if nat_lt c t then (if nat_lt c first then true else (if nat_lt c (last + 1) then false else x)) else z)
+bool-under c first last t x y z o l e = grind (arith, nat_tests)
+
+-- a hole more, from where the column ended, and a new end
+extend : (low at t e : ℕ) (holes : List Hole) → IsRising low (hole_edges holes ++ at ∷ []) → at < t → t < e → IsRising low (hole_edges (holes ++ (record { first = at; last = t - 1 }) ∷ []) ++ e ∷ []) × ((c : ℕ) → is_on true (hole_edges (holes ++ (record { first = at; last = t - 1 }) ∷ []) ++ e ∷ []) c ≡ (if nat_lt c t then is_on true (hole_edges holes ++ at ∷ []) c else nat_lt c e))
+extend low at t e [] r l m = let back : t - 1 + 1 ≡ t = omega arith in rw back ((r.0, (l, (m, tt))), λ c. bool-extend c at t e l m)
+extend low at t e (h ∷ holes) r l m =
+    let rest = extend (h.last + 1) at t e holes r.1.1 l m in
+    let end : h.last + 1 < at = IsRising-end (h.last + 1) (hole_edges holes) at r.1.1 in
+    ((r.0, (r.1.0, rest.0)), λ c. bool-under c h.first h.last t (is_on true (hole_edges holes ++ at ∷ []) c) (is_on true (hole_edges (holes ++ (record { first = at; last = t - 1 }) ∷ []) ++ e ∷ []) c) (nat_lt c e) (let o = r.1.0 in omega arith) (omega arith) (rest.1 c))
+
+-- How far a walk along a set has come: the holes found, and the first counter after them that it has not.
+pub record Swept (has : ℕ → Bool) (holes : List Hole) (at : ℕ) : Type 0 where
+  pub rising : IsRising 0 (hole_edges holes ++ at ∷ [])
+  pub from_one : 1 ≤ at
+  pub bound : at ≤ 1000001
+  pub is_out : has at ≡ false
+  pub means : (c : ℕ) → 1 ≤ c → c < at → is_on true (hole_edges holes ++ at ∷ []) c ≡ has c
+  pub past : (c : ℕ) → at ≤ c → is_on true (hole_edges holes ++ at ∷ []) c ≡ false
+  pub counted : length holes < at
+
+pub swept-begin : (has : ℕ → Bool) (at : ℕ) → IsNextOut has 1 at → at ≤ 1000001 → Swept has [] at
+swept-begin has at n bound =
+    let above = n.above in
+    record {
+      rising = (omega arith, tt);
+      from_one = n.above;
+      bound = bound;
+      is_out = n.is_out;
+      means = λ c f l. is_on-stay true at [] c l ∙ sym (n.between c f l);
+      past = λ c g. is_on-turn true at [] c g;
+      counted = omega arith;
+    }
+
+pub swept-more : (has : ℕ → Bool) (holes : List Hole) (at t e : ℕ) → Swept has holes at → IsNextIn has at t → IsNextOut has t e → e ≤ 1000001 → Swept has (holes ++ (record { first = at; last = t - 1 }) ∷ []) e
+swept-more has holes at t e w n o bound =
+    let up = n.above in
+    let further = o.above in
+    let lt : at < t = elim (cases_eq at t) [
+      | inl q ↦ absurd (true≢false (sym n.is_in ∙ ap has (sym q) ∙ w.is_out))
+      | inr q ↦ omega arith
+    ] in
+    let lt' : t < e = elim (cases_eq t e) [
+      | inl q ↦ absurd (true≢false (sym n.is_in ∙ ap has q ∙ o.is_out))
+      | inr q ↦ omega arith
+    ] in
+    let both = extend 0 at t e holes w.rising lt lt' in
+    let count = w.counted in
+    let one = w.from_one in
+    record {
+      rising = both.0;
+      from_one = omega arith;
+      bound = bound;
+      is_out = o.is_out;
+      means = λ c f l. both.1 c ∙ elim (cases_lt c t) [
+        | inl b ↦ rw (lt-ltb c t b) (elim (cases_lt c at) [
+          | inl a ↦ w.means c f a
+          | inr a ↦ w.past c a ∙ sym (n.between c a b)
+        ])
+        | inr b ↦ rw (le-ltb c t b, lt-ltb c e l) (sym (o.between c b l))
+      ];
+      past = λ c g. let above : t ≤ c = omega arith in both.1 c ∙ rw (le-ltb c t above, le-ltb c e g) refl;
+      counted = let k = length-append holes ((record { first = at; last = t - 1 }) ∷ []) in omega arith;
+    }
+
+-- where nothing is left, the holes and the end are the set's column
+pub swept-end : (has : ℕ → Bool) (holes : List Hole) (at : ℕ) → has 0 ≡ false → Swept has holes at → HasNoneFrom has at → IsColumnOf has (record { upto = at - 1; holes = holes })
+swept-end has holes at zero_out w none =
+    let one = w.from_one in
+    let top = w.bound in
+    let back : at - 1 + 1 ≡ at = omega arith in
+    let rising : IsRising 0 (edges (record { upto = at - 1; holes = holes })) = rw back w.rising in
+    record {
+      apart = rising;
+      in_range = omega arith;
+      means = λ c. elim (cases_lt c 1) [
+        | inl l ↦ let z : c ≡ 0 = omega arith in rw z (sym zero_out)
+        | inr g ↦ column_has-edges (record { upto = at - 1; holes = holes }) c rising g ∙ rw back (elim (cases_lt c at) [
+          | inl l ↦ w.means c g l
+          | inr a ↦ w.past c a ∙ sym (none c a)
+        ])
+      ];
+    }
+
+-- one column, so one number of holes
+pub IsColumnOf-unique : (has : ℕ → Bool) (a b : Extent) → IsColumnOf has a → IsColumnOf has b → a ≡ b
+IsColumnOf-unique has a b x y = column_unique a b x.apart y.apart (λ c. x.means c ∙ sym (y.means c))
+
+pub few-from_column : (has : ℕ → Bool) (column : Extent) → IsColumnOf has column → length column.holes ≤ 4096 → HasFewHoles has
+few-from_column has column is few other w = let e = ap (λ (x : Extent). length x.holes) (IsColumnOf-unique has other column w is) in omega arith
+
+pub IsColumn-from_few : (has : ℕ → Bool) (column : Extent) → IsColumnOf has column → HasFewHoles has → IsColumn column
+IsColumn-from_few has column is few = record { apart = is.apart; in_range = is.in_range; few = few column is }
+
+-- the empty column has no holes
+pub few-from_none : (has : ℕ → Bool) → ((c : ℕ) → has c ≡ false) → HasFewHoles has
+few-from_none has none = few-from_column has empty_column (record { apart = IsColumn-empty.apart; in_range = IsColumn-empty.in_range; means = λ c. column_has-empty c ∙ sym (none c) }) (omega arith)
+
+pub too_many-from_author : (set : Test) (q : ℕ) → q < 64 → HasManyHoles (of_author set q) → HasTooManyHoles set
+too_many-from_author set q in_range many = record { author = q; author_in = in_range; column = many.column; apart = many.is.apart; in_range = many.is.in_range; means = many.is.means; many = many.many }
+
+pub few-of_authors : (set : Test) → ((q : ℕ) → HasFewHoles (of_author set q)) → HasTooManyHoles set → ⊥
+few-of_authors set few many = let f = few many.author many.column (record { apart = many.apart; in_range = many.in_range; means = many.means }) in let m = many.many in absurd (omega arith)
+
+pub few-from_not : (set : Test) (q : ℕ) → q < 64 → (HasTooManyHoles set → ⊥) → HasFewHoles (of_author set q)
+few-from_not set q in_range never column is = elim (cases_lt 4096 (length column.holes)) [
+  | inl l ↦ absurd (never (record { author = q; author_in = in_range; column = column; apart = is.apart; in_range = is.in_range; means = is.means; many = l }))
+  | inr g ↦ g
+]
+
+-- so many holes are found
+pub record SweptCount (has : ℕ → Bool) (count at : ℕ) : Type 0 where
+  pub holes : List Hole
+  pub count_is : count ≡ length holes
+  pub swept : Swept has holes at
+
+pub SweptCount-begin : (has : ℕ → Bool) (at : ℕ) → IsNextOut has 1 at → at ≤ 1000001 → SweptCount has 0 at
+SweptCount-begin has at n bound = record { holes = []; count_is = refl; swept = swept-begin has at n bound }
+
+pub SweptCount-more : (has : ℕ → Bool) (count at t e : ℕ) → SweptCount has count at → IsNextIn has at t → IsNextOut has t e → e ≤ 1000001 → SweptCount has (count + 1) e
+SweptCount-more has count at t e w n o bound = record {
+  holes = w.holes ++ (record { first = at; last = t - 1 }) ∷ [];
+  count_is = let c = w.count_is in let k = length-append w.holes ((record { first = at; last = t - 1 }) ∷ []) in omega arith;
+  swept = swept-more has w.holes at t e w.swept n o bound;
+}
+
+-- each step takes the walk on
+pub swept-onward : (has : ℕ → Bool) (at t e : ℕ) → has at ≡ false → IsNextIn has at t → IsNextOut has t e → at < e
+swept-onward has at t e is_out n o =
+    let up = n.above in
+    let further = o.above in
+    elim (cases_eq at t) [
+      | inl q ↦ absurd (true≢false (sym n.is_in ∙ ap has (sym q) ∙ is_out))
+      | inr q ↦ omega arith
+    ]
+
+pub SweptCount-many : (has : ℕ → Bool) (count at : ℕ) → has 0 ≡ false → SweptCount has count at → HasNoneFrom has at → 4096 < count → HasManyHoles has
+SweptCount-many has count at zero_out w none l = record { column = record { upto = at - 1; holes = w.holes }; is = swept-end has w.holes at zero_out w.swept none; many = let c = w.count_is in omega arith }
+
+pub SweptCount-few : (has : ℕ → Bool) (count at : ℕ) → has 0 ≡ false → SweptCount has count at → HasNoneFrom has at → count ≤ 4096 → HasFewHoles has
+SweptCount-few has count at zero_out w none l = few-from_column has (record { upto = at - 1; holes = w.holes }) (swept-end has w.holes at zero_out w.swept none) (let c = w.count_is in omega arith)
+
+-- the authors below id are gone through
+pub few-next : (set : Test) (id author : ℕ) → ((q : ℕ) → q < id → HasFewHoles (of_author set q)) → IsNextAuthor set id author → HasFewHoles (of_author set author) → (q : ℕ) → q < author + 1 → HasFewHoles (of_author set q)
+few-next set id author below n few q l = elim (cases_lt q id) [
+  | inl b ↦ below q b
+  | inr f ↦ elim (cases_eq q author) [
+    | inl e ↦ rw e few
+    | inr e ↦ few-from_none (of_author set q) (n.between q f (omega arith))
+  ]
+]
+
+pub few-all : (set : Test) (id : ℕ) → ((q : ℕ) → q < id → HasFewHoles (of_author set q)) → HasNoAuthorFrom set id → (q : ℕ) → HasFewHoles (of_author set q)
+few-all set id below none q = elim (cases_lt q id) [
+  | inl b ↦ below q b
+  | inr f ↦ few-from_none (of_author set q) (none q f)
+]
+
+-- the columns of the authors below id
+pub record GatheredTo (set : Test) (columns : List AuthorColumn) (id : ℕ) : Type 0 where
+  pub vector : IsVectorFrom 0 columns
+  pub means : (q c : ℕ) → column_has (column_of columns q) c ≡ (nat_lt q id && of_author set q c)
+
+pub GatheredTo-begin : (set : Test) → GatheredTo set [] 0
+GatheredTo-begin set = record { vector = tt; means = λ q c. column_has-empty c ∙ rw (le-ltb q 0 (omega arith)) refl }
+
+-- what the columns have once the author is gone through
+gathered-means : (set : Test) (columns : List AuthorColumn) (id author : ℕ) (column : Extent) → GatheredTo set columns id → IsNextAuthor set id author → IsColumnOf (of_author set author) column → (q c : ℕ) → column_has (cond (author == q) column (column_of columns q)) c ≡ (nat_lt q (author + 1) && of_author set q c)
+gathered-means set columns id author column w n is q c = elim (cases_eq author q) [
+  | inl e ↦ let l : q < author + 1 = omega arith in rw (eq-eqb author q e, lt-ltb q (author + 1) l) (rw e at (is.means c))
+  | inr m ↦ rw (ne_eqb author q m) (w.means q c ∙ elim (cases_lt q id) [
+    | inl b ↦ let l : q < author + 1 = let a = n.above in omega arith in rw (lt-ltb q id b, lt-ltb q (author + 1) l) refl
+    | inr f ↦ rw (le-ltb q id f) (elim (cases_lt q author) [
+      | inl b ↦ let l : q < author + 1 = omega arith in rw (lt-ltb q (author + 1) l, n.between q f b c) refl
+      | inr g ↦ let l : author + 1 ≤ q = omega arith in rw (le-ltb q (author + 1) l) refl
+    ])
+  ])
+]
+
+pub GatheredTo-put : (set : Test) (columns : List AuthorColumn) (id author : ℕ) (column : Extent) → GatheredTo set columns id → IsNextAuthor set id author → IsColumn column → IsColumnOf (of_author set author) column → 0 < column.upto → GatheredTo set (placed (record { author = author; column = column }) columns) (author + 1)
+GatheredTo-put set columns id author column w n normal is some = record {
+  vector = IsVectorFrom-placed 0 (record { author = author; column = column }) columns w.vector (omega arith) (omega arith) normal n.author_in;
+  means = λ q c. rw (column_of-placed (record { author = author; column = column }) columns q) (gathered-means set columns id author column w n is q c);
+}
+
+pub GatheredTo-skip : (set : Test) (columns : List AuthorColumn) (id author : ℕ) (column : Extent) → GatheredTo set columns id → IsNextAuthor set id author → IsColumnOf (of_author set author) column → column.upto ≤ 0 → GatheredTo set columns (author + 1)
+GatheredTo-skip set columns id author column w n is none = record {
+  vector = w.vector;
+  means = λ q c. go q c (cases_eq author q) ∙ gathered-means set columns id author column w n is q c;
+}
+  where
+    nothing : (c : ℕ) → column_has column c ≡ false
+    nothing zero = refl
+    nothing (suc c) = column_has-above column (suc c) (omega arith)
+
+    go : (q c : ℕ) → (author ≡ q) ⊎ (author ≡ q → ⊥) → column_has (column_of columns q) c ≡ column_has (cond (author == q) column (column_of columns q)) c
+    go q c (inl e) = let ge : id ≤ q = let a = n.above in omega arith in w.means q c ∙ rw (le-ltb q id ge, eq-eqb author q e) (sym (nothing c))
+    go q c (inr m) = rw (ne_eqb author q m) refl
+
+pub GatheredTo-end : (set : Test) (columns : List AuthorColumn) (id : ℕ) → GatheredTo set columns id → HasNoAuthorFrom set id → IsSame (vector_has columns) set
+GatheredTo-end set columns id w none v = w.means v.author v.counter ∙ elim (cases_lt v.author id) [
+  | inl b ↦ rw (lt-ltb v.author id b) refl
+  | inr f ↦ rw (le-ltb v.author id f) (sym (none v.author f v.counter))
+]

@@ -1,0 +1,13 @@
+pub mod Edges
+pub mod Next
+pub mod Column
+pub mod Walk
+pub mod Vector
+pub mod Runs
+pub mod Equal
+pub mod Last
+pub mod Source
+pub mod AllOf
+pub mod Part
+pub mod Meet
+pub mod Text

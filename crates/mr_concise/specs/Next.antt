@@ -1,0 +1,32 @@
+use Rattle.std.specs.Prelude.{◌≡◌, ◌<◌, ◌≤◌, ◌+◌, ℕ, Bool, true, false, nat_le}
+use Rattle.mr_concise.specs.declared.column.Hole.{Hole}
+
+-- at is the first number from here on that the set has not
+pub record IsNextOut (has : ℕ → Bool) (from at : ℕ) : Type 0 where
+  pub above : from ≤ at
+  pub is_out : has at ≡ false
+  pub between : (c : ℕ) → from ≤ c → c < at → has c ≡ true
+
+-- at is the first number from here on that the set has
+pub record IsNextIn (has : ℕ → Bool) (from at : ℕ) : Type 0 where
+  pub above : from ≤ at
+  pub is_in : has at ≡ true
+  pub between : (c : ℕ) → from ≤ c → c < at → has c ≡ false
+
+-- the set has nothing from here on
+abbrev pub HasNoneFrom : (ℕ → Bool) → ℕ → Type 0
+HasNoneFrom has from = (c : ℕ) → from ≤ c → has c ≡ false
+
+-- the set has all up to the bound, from here on
+abbrev pub HasNoHoleFrom : (ℕ → Bool) → ℕ → ℕ → Type 0
+HasNoHoleFrom has upto from = (c : ℕ) → from ≤ c → has c ≡ nat_le c upto
+
+-- the hole is the first that ends here or later, and the set goes on after it
+pub record IsHoleFrom (has : ℕ → Bool) (upto from : ℕ) (hole : Hole) : Type 0 where
+  pub reaches : from ≤ hole.last
+  pub ordered : hole.first ≤ hole.last
+  pub from_one : 1 ≤ hole.first
+  pub below : hole.last < upto
+  pub before : (c : ℕ) → from ≤ c → c < hole.first → has c ≡ true
+  pub inside : (c : ℕ) → hole.first ≤ c → c ≤ hole.last → has c ≡ false
+  pub after : has (hole.last + 1) ≡ true

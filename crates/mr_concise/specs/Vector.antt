@@ -1,0 +1,65 @@
+use Rattle.std.specs.Prelude.{◌≡◌, ◌<◌, ◌≤◌, ◌+◌, ℕ, ◌==◌, nat_lt, if◌then◌else◌, List, [], ◌∷◌, length, refl, All}
+use Rattle.std.specs.Coded.{Coded, code_by, coded×, coded_ℕ}
+use Rattle.mr_forms.specs.Sets.{Test}
+use Rattle.mr_concise.specs.declared.vector.AuthorColumn.{AuthorColumn}
+use Rattle.mr_concise.specs.Edges.{IsRising}
+use Rattle.mr_concise.specs.declared.walk.Op.TheVariants.{Union}
+use Rattle.mr_concise.specs.Walk.{CountsEdges, IsCombined}
+use Rattle.mr_concise.specs.Column.{Extent, extent_code, edges, column_has, empty_column, IsColumn, with_counter}
+
+abbrev pub author_column_code : Coded AuthorColumn
+author_column_code = code_by (ℕ × Extent) (coded× coded_ℕ extent_code) (λ x. (x.author, x.column)) (λ p. record { author = p.0; column = p.1 }) (λ _. refl)
+
+-- the author's column, or an empty one
+abbrev pub column_of : List AuthorColumn → ℕ → Extent
+column_of [] author = empty_column
+column_of (x ∷ xs) author = if x.author == author then x.column else column_of xs author
+
+-- the versions of each author's column
+abbrev pub vector_has : List AuthorColumn → Test
+vector_has columns v = column_has (column_of columns v.author) v.counter
+
+-- columns by strictly rising author, from low on, none empty
+abbrev pub IsVectorFrom : ℕ → List AuthorColumn → Type 0
+IsVectorFrom low [] = Unit {0}
+IsVectorFrom low (x ∷ xs) = (low ≤ x.author) × (1 ≤ x.column.upto) × IsColumn x.column × IsVectorFrom (x.author + 1) xs × (x.author < 64)
+
+-- the columns with this one in its author's place
+abbrev pub placed : AuthorColumn → List AuthorColumn → List AuthorColumn
+placed new [] = new ∷ []
+placed new (x ∷ xs) = if nat_lt x.author new.author then x ∷ placed new xs else (if x.author == new.author then new ∷ xs else new ∷ (x ∷ xs))
+
+-- a column of the set has more than 4,096 holes
+pub record HasTooManyHoles (set : Test) : Type 0 where
+  pub author : ℕ
+  pub author_in : author < 64
+  pub column : Extent
+  pub apart : IsRising 0 (edges column)
+  pub in_range : column.upto ≤ 1000000
+  pub means : (c : ℕ) → column_has column c ≡ set (record { author = author; counter = c })
+  pub many : 4096 < length column.holes
+
+-- no author's columns put together have more edges than 4,096 holes give
+abbrev pub HasFewEdges : List AuthorColumn → List AuthorColumn → Type 0
+HasFewEdges a b = (q n : ℕ) → CountsEdges Union (edges (column_of a q)) (edges (column_of b q)) n → n ≤ 8193
+
+-- each author's columns are put together
+abbrev pub AreUnited : List AuthorColumn → List AuthorColumn → List AuthorColumn → Type 0
+AreUnited a b new = (q : ℕ) → IsCombined Union (edges (column_of a q)) (edges (column_of b q)) (edges (column_of new q))
+
+-- the author's column with one counter more
+abbrev pub with_one : List AuthorColumn → ℕ → ℕ → AuthorColumn
+with_one columns author counter = record { author = author; column = with_counter (column_of columns author) counter }
+
+-- one author's column alone
+abbrev pub single : ℕ → Extent → List AuthorColumn
+single author column = (record { author = author; column = column }) ∷ []
+
+-- none is empty, and each is a column of an author
+abbrev pub AreColumns : List AuthorColumn → Type 0
+AreColumns xs = All (λ x. (1 ≤ x.column.upto) × IsColumn x.column × (x.author < 64)) xs
+
+-- the columns with each of these in its author's place, one after the other
+abbrev pub all_placed : List AuthorColumn → List AuthorColumn → List AuthorColumn
+all_placed [] columns = columns
+all_placed (x ∷ xs) columns = all_placed xs (placed x columns)

@@ -1,0 +1,108 @@
+ghost use Rattle.std.specs.Prelude.{◌≡◌, ◌≤◌, ◌<◌, ◌+◌, true, false, length, MatchOption, IfSome};
+ghost use Rattle.mr_concise.specs.Edges.{is_on, IsRising, AreUpTo};
+ghost use Rattle.mr_concise.specs.Column.{Extent, IsColumn, column_has, edges, empty_column};
+ghost use Rattle.mr_concise.specs.Next.{IsNextOut, IsNextIn, HasNoneFrom, HasNoHoleFrom, IsHoleFrom};
+
+use crate::column::Hole;
+use crate::cursor::Edges;
+use crate::holes::hole_place;
+use std::marker::Model;
+
+/// A column that is lent: its bound and its holes.
+#[derive(Drop)]
+pub(crate) struct ColumnRef<'a> {
+    upto: u32,
+    holes: &'a [Hole],
+}
+
+impl<'a> Model for ColumnRef<'a> {
+    ghost use Rattle.mr_concise.specs.Column.{Extent, extent_code, IsColumn};
+
+    ghost Value = { Extent };
+
+    ghost coded = { extent_code };
+
+    ghost view = { λ a. record { upto = a.upto; holes = a.holes.now } };
+
+    ghost invariant = { λ a. IsColumn (record { upto = a.upto; holes = a.holes.now }) };
+}
+
+impl<'a> ColumnRef<'a> {
+    pub(crate) fn new(upto: u32, holes: &'a [Hole]) -> ColumnRef<'a>
+        requires { IsColumn (record { upto = upto; holes = holes.now }) }
+        ensures { result ≡ record { upto = upto; holes = holes.now } }
+    {
+        ColumnRef { upto, holes }
+    }
+
+    /// The column with nothing in it.
+    pub(crate) fn empty() -> ColumnRef<'a>
+        ensures { result ≡ empty_column }
+    {
+        ColumnRef {
+            upto: 0,
+            holes: &[],
+        }
+    }
+
+    /// The bound.
+    pub(crate) fn upto(&self) -> u32
+        ensures { result ≡ self.now.upto }
+    {
+        self.upto
+    }
+
+    /// The hole that has the counter, or else the first one after it.
+    fn hole_from(&self, counter: u32) -> Option<Hole>
+        requires { 1 ≤ counter }
+        ensures { MatchOption result (HasNoHoleFrom (column_has self.now) self.now.upto counter) (λ hole. IsHoleFrom (column_has self.now) self.now.upto counter hole) }
+    {
+        let at = hole_place(self.holes, counter);
+        if at < self.holes.len() {
+            Some(self.holes[at])
+        } else {
+            None
+        }
+    }
+
+    /// The first counter from here on that is not covered.
+    pub(crate) fn next_out(&self, from: u32) -> u32
+        requires { 1 ≤ from }
+        ensures next { IsNextOut (column_has self.now) from result }
+        ensures bound { from ≤ 1000001 → result ≤ 1000001 }
+    {
+        match self.hole_from(from) {
+            Some(hole) => from.max(hole.first),
+            None => from.max(self.upto + 1),
+        }
+    }
+
+    /// The first counter from here on that is covered.
+    pub(crate) fn next_in(&self, from: u32) -> Option<u32>
+        requires { 1 ≤ from }
+        ensures next { MatchOption result (HasNoneFrom (column_has self.now) from) (λ at. IsNextIn (column_has self.now) from at) }
+        ensures bound { IfSome result (λ at. at ≤ 1000000) }
+    {
+        match self.hole_from(from) {
+            Some(hole) if hole.first <= from => Some(hole.last + 1),
+            _ if from <= self.upto => Some(from),
+            _ => None,
+        }
+    }
+
+    pub(crate) fn contains(&self, counter: u32) -> bool
+        ensures { result ≡ column_has self.now counter }
+    {
+        1 <= counter && counter < self.next_out(counter)
+    }
+
+    pub(crate) fn edges(&self) -> Edges<'_>
+        ensures is { result ≡ edges self.now }
+        ensures apart { IsRising 0 (edges self.now) }
+        ensures in_range { AreUpTo 1000001 (edges self.now) }
+        ensures far { is_on true (edges self.now) 1000001 ≡ false }
+        ensures few { length (edges self.now) ≤ 8193 }
+    {
+        Edges::new(self.upto, self.holes)
+    }
+}

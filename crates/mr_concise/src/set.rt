@@ -1,0 +1,87 @@
+ghost use Rattle.std.specs.Prelude.{◌≡◌, ◌≤◌, ◌<◌, ◌-◌, ◌↔◌, ◌≢◌, false, IsTrue, IfOk, OnOk, OnErr, IsErrOf, Err, [], ◌∷◌};
+ghost use Rattle.mr_forms.specs.Sets.{Test, IsSame, both, with_version, Covers};
+ghost use Rattle.mr_forms.specs.Runs.{with_run, AreRunsOf};
+ghost use Rattle.mr_concise.specs.Column.{Extent};
+ghost use Rattle.mr_concise.specs.Vector.{vector_has, IsVectorFrom, HasTooManyHoles};
+
+use crate::column::Hole;
+use crate::column_ref::ColumnRef;
+use crate::insert::insert_in;
+use crate::runs::push_runs;
+use crate::union::{covers_columns, unite_column, unite_columns};
+use crate::vector::{AuthorColumn, ConciseVector, column_at};
+use mr_forms::{FormFault, Run, VersionSet};
+use mr_version::Version;
+use std::alloc::Global;
+
+impl VersionSet for ConciseVector {
+    ghost has = { vector_has };
+
+    ghost has_too_many_holes = { HasTooManyHoles };
+
+    fn new(alloc: Global) -> ConciseVector
+        ensures is { result ≡ [] }
+        ensures none { IsSame (vector_has result) (λ _. false) }
+    {
+        ConciseVector {
+            alloc,
+            columns: Vec::new(alloc),
+        }
+    }
+
+    fn copy(&self) -> Result<ConciseVector, FormFault> {
+        let mut columns = Vec::new(self.alloc);
+        for x in &self.columns {
+            columns.push(AuthorColumn {
+                author: x.author,
+                column: x.column.copy()?,
+            })?;
+        }
+        Ok(ConciseVector {
+            alloc: self.alloc,
+            columns,
+        })
+    }
+
+    fn contains(&self, version: Version) -> bool {
+        column_at(&self.columns, version.author()).contains(version.counter())
+    }
+
+    fn insert(&mut self, version: Version) -> Result<(), FormFault> {
+        let alloc = self.alloc;
+        insert_in(
+            &mut self.columns,
+            alloc,
+            version.author(),
+            version.counter(),
+        )
+    }
+
+    fn insert_range(&mut self, run: Run) -> Result<(), FormFault> {
+        let alloc = self.alloc;
+        let before = [Hole {
+            first: 1,
+            last: run.first - 1,
+        }];
+        let count = if run.first > 1 { 1 } else { 0 };
+        let added = ColumnRef::new(run.last, &before[..count]);
+        unite_column(&mut self.columns, alloc, run.author, &added)
+    }
+
+    fn union(&mut self, other: &ConciseVector) -> Result<(), FormFault> {
+        let alloc = self.alloc;
+        unite_columns(&mut self.columns, alloc, other.author_columns())
+    }
+
+    fn covers(&self, other: &ConciseVector) -> bool {
+        covers_columns(&self.columns, &other.columns)
+    }
+
+    fn columns(&self) -> Result<Vec<Run>, FormFault> {
+        let mut runs = Vec::new(self.alloc);
+        for x in &self.columns {
+            push_runs(x, &mut runs)?;
+        }
+        Ok(runs)
+    }
+}

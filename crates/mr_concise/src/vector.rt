@@ -1,0 +1,128 @@
+ghost use Rattle.std.specs.Prelude.{◌≡◌, ◌≤◌, ◌+◌, ◌<◌, ℕ, true, false, nat_lt, length, OnOk, OnErr, MatchOption};
+ghost use Rattle.mr_concise.specs.Last.{IsLast, HasNoneOf};
+ghost use Rattle.mr_concise.specs.Source.{HasNoAuthorFrom, IsNextAuthor};
+ghost use Rattle.std.specs.List.Sorted.{IsPartitionPoint};
+ghost use Rattle.mr_concise.specs.Column.{Extent, empty_column};
+ghost use Rattle.mr_concise.specs.Vector.{column_of, vector_has, IsVectorFrom, placed};
+
+use crate::column::Column;
+use crate::column_ref::ColumnRef;
+use mr_version::Author;
+use std::alloc::{AllocError, Global};
+use std::marker::Model;
+
+/// An author's column.
+#[derive(Debug, Drop)]
+pub struct AuthorColumn {
+    pub author: Author,
+    pub column: Column,
+}
+
+/// A set of versions, one column for each author that has some.
+#[derive(Debug, Drop)]
+pub struct ConciseVector {
+    pub(crate) alloc: Global,
+    pub(crate) columns: Vec<AuthorColumn>,
+}
+
+impl Model for ConciseVector {
+    ghost use Rattle.std.specs.Prelude.{List};
+    ghost use Rattle.std.specs.Coded.{coded_list};
+    ghost use Rattle.mr_concise.specs.declared.vector.AuthorColumn.{AuthorColumn};
+    ghost use Rattle.mr_concise.specs.Vector.{author_column_code, IsVectorFrom};
+
+    ghost Value = { List AuthorColumn };
+
+    ghost coded = { coded_list author_column_code };
+
+    ghost view = { λ a. a.columns.items };
+
+    ghost invariant = { λ a. IsVectorFrom 0 a.columns.items };
+}
+
+/// How many columns have an author with a lower id.
+pub(crate) fn place_of_id(columns: &[AuthorColumn], id: u16) -> usize
+    requires { IsVectorFrom 0 columns.now }
+    ensures bound { result ≤ length columns.now }
+    ensures place { IsPartitionPoint (λ x. nat_lt x.author id ≡ true) (λ x. nat_lt x.author id ≡ false) columns.now result }
+{
+    columns.partition_point(|x| x.author.id() < id)
+}
+
+/// How many columns have a lower author.
+pub(crate) fn place(columns: &[AuthorColumn], author: Author) -> usize
+    requires { IsVectorFrom 0 columns.now }
+    ensures bound { result ≤ length columns.now }
+    ensures place { IsPartitionPoint (λ x. nat_lt x.author author ≡ true) (λ x. nat_lt x.author author ≡ false) columns.now result }
+{
+    place_of_id(columns, author.id())
+}
+
+/// The next author, from this id on, who has a column.
+pub(crate) fn next_author(columns: &[AuthorColumn], id: u16) -> Option<Author>
+    requires { IsVectorFrom 0 columns.now }
+    ensures { MatchOption result (HasNoAuthorFrom (vector_has columns.now) id) (λ author. IsNextAuthor (vector_has columns.now) id author) }
+{
+    let at = place_of_id(columns, id);
+    if at < columns.len() {
+        Some(columns[at].author)
+    } else {
+        None
+    }
+}
+
+/// The author's column, or the empty one.
+pub(crate) fn column_at(columns: &[AuthorColumn], author: Author) -> ColumnRef<'_>
+    requires { IsVectorFrom 0 columns.now }
+    ensures { result ≡ column_of columns.now author }
+{
+    let at = place(columns, author);
+    if at < columns.len() {
+        let found = &columns[at];
+        if found.author.id() == author.id() {
+            return found.column.lent();
+        }
+    }
+    ColumnRef::empty()
+}
+
+/// Puts a column in its author's place.
+pub(crate) fn put(columns: &mut Vec<AuthorColumn>, new: AuthorColumn) -> Result<(), AllocError>
+    requires { IsVectorFrom 0 columns.old.items }
+    ensures ok { OnOk result (columns.new.items ≡ placed new columns.old.items) }
+    ensures err { OnErr result (columns.new.items ≡ columns.old.items) }
+{
+    let at = place(columns, new.author);
+    if at < columns.len() && columns[at].author.id() == new.author.id() {
+        columns[at] = new;
+    } else {
+        columns.insert(at, new)?;
+    }
+    Ok(())
+}
+
+impl ConciseVector {
+    /// The vector with these columns, which stand by rising author, and of which none is empty.
+    pub fn from_columns(alloc: Global, columns: Vec<AuthorColumn>) -> ConciseVector
+        requires { IsVectorFrom 0 columns.items }
+        ensures { result ≡ columns.items }
+    {
+        ConciseVector { alloc, columns }
+    }
+
+    /// The columns, by rising author. None is empty.
+    pub fn author_columns(&self) -> &[AuthorColumn]
+        ensures is { result.now ≡ self.now }
+        ensures vector { IsVectorFrom 0 self.now }
+    {
+        self.columns.as_slice()
+    }
+
+    /// The author's highest counter that the set has.
+    pub fn last(&self, author: Author) -> Option<u32>
+        ensures { MatchOption result (HasNoneOf (vector_has self.now) author) (λ counter. IsLast (vector_has self.now) author counter) }
+    {
+        let upto = column_at(&self.columns, author).upto();
+        if upto > 0 { Some(upto) } else { None }
+    }
+}

@@ -1,0 +1,194 @@
+use Rattle.std.proofs.Common.{◌≡◌, ◌≢◌, Bool, true, false, ◌||◌, ◌&&◌, List, [], ◌∷◌, ◌++◌, All, get_or, refl, ap, sym, ◌∙◌, subst}
+use Rattle.std.specs.declared.cmp.Ordering.{Ordering}
+use Rattle.std.specs.declared.cmp.Ordering.TheVariants.{Less, Equal, Greater}
+use Rattle.std.specs.Ordering.{is_gt, eq_by_cmp, ordering_then}
+use Rattle.std.specs.List.Sorted.{IsStrictlySortedBy}
+use Rattle.std.proofs.lemmas.Cmp.{tied_itself, upto}
+use Rattle.std.proofs.lemmas.List.Elements.{All-nil, All-cons, All-head, All-push, All-weaker, All-from_recursion}
+use Rattle.std.proofs.lemmas.List.Folds.{list_any-append}
+use Rattle.std.proofs.lemmas.List.Quantifiers.{all_pairs_push}
+use Rattle.std.proofs.lemmas.Map.Keys.{sorted_head}
+use Rattle.mr_version.specs.Name.{Name, name_eq, name_cmp}
+use Rattle.mr_version.specs.Order.{names_total, exact_names}
+use Rattle.mr_forms.specs.declared.fragment.ItemSet.{ItemSet}
+use Rattle.mr_forms.specs.declared.fragment.ItemSet.TheVariants.{All as AllItems, Listed}
+use Rattle.mr_forms.specs.declared.fragment.Fragment.{Fragment}
+use Rattle.mr_forms.specs.declared.plain_knowledge.Pair.{Pair}
+use Rattle.mr_forms.specs.Sets.{is_listed}
+use Rattle.mr_forms.specs.Covered.{HasItems, all_covered, has_item}
+use Rattle.mr_forms.specs.PlainPair.{pair, pair_cmp}
+use Rattle.mr_forms.specs.Plain.{IsOnly, IsAllOrOne, ComesBefore, IsOneByOne, is_all, is_named, had_for_all, had_by_item}
+use Rattle.mr_forms.specs.PlainSteps.{EndsBy, GainsPair, IsFragmentOf, GainsVersionOf}
+use Rattle.mr_forms.proofs.SetLemmas.{or_nothing}
+use Rattle.mr_forms.proofs.PairLemmas.{pair_eq-parts}
+use Rattle.mr_forms.proofs.ListLemmas.{All-front, All-last, AllPairs-front, AllPairs-last}
+
+-- ---- one item
+
+is_all-only : (i : Name) (items : ItemSet) → IsOnly i items → is_all items ≡ false
+is_all-only i AllItems only = absurd only
+is_all-only i (Listed items) only = refl
+
+is_named-only : (i j : Name) (items : ItemSet) → IsOnly i items → is_named items j ≡ name_eq i j
+is_named-only i j AllItems only = absurd only
+is_named-only i j (Listed items) only = rw only (sym (or_nothing (name_eq i j)))
+
+all_or_one-only : (i : Name) (items : ItemSet) → IsOnly i items → IsAllOrOne items
+all_or_one-only i AllItems only = tt
+all_or_one-only i (Listed items) only = (i, only)
+
+ends_by-only : (i : Name) (items : ItemSet) → IsOnly i items → EndsBy i items
+ends_by-only i AllItems only = tt
+ends_by-only i (Listed items) only = rw only (All-cons (λ j. is_gt (name_cmp j i) ≡ false) i [] (ap is_gt (tied_itself names_total i)) (All-nil (λ j. is_gt (name_cmp j i) ≡ false)))
+
+-- ---- the order of fragments
+
+less_from_other : (a b : Name) (o : Ordering) → name_cmp a b ≡ o → is_gt o ≡ false → ¬ (a ≡ b) → name_cmp a b ≡ Less
+less_from_other a b Less e below other = e
+less_from_other a b Equal e below other = absurd (other (exact_names a b e))
+less_from_other a b Greater e below other = cc
+
+-- one item's fragment stands after those of lower items
+comes_before-other : (i : Name) (items only : ItemSet) → IsOnly i only → EndsBy i items → IsAllOrOne items → ¬ IsOnly i items → ComesBefore items only
+comes_before-other i items AllItems is ends single other = absurd is
+comes_before-other i AllItems (Listed only) is ends single other = tt
+comes_before-other i (Listed items) (Listed only) is ends single other =
+    let below : All (λ j. is_gt (name_cmp j i) ≡ false) (single.0 ∷ []) = rw single.1 at ends in
+    let apart : ¬ (single.0 ≡ i) = λ same. other (single.1 ∙ ap (λ j. j ∷ []) same) in
+    let less : name_cmp single.0 i ≡ Less = less_from_other single.0 i (name_cmp single.0 i) refl (All-head (λ j. is_gt (name_cmp j i) ≡ false) single.0 [] below) apart in
+    rw (is, single.1) (All-cons (λ a. All (λ b. name_cmp a b ≡ Less) (i ∷ [])) single.0 [] (All-cons (λ b. name_cmp single.0 b ≡ Less) i [] less (All-nil (λ b. name_cmp single.0 b ≡ Less))) (All-nil (λ a. All (λ b. name_cmp a b ≡ Less) (i ∷ []))))
+
+comes_before-through : (a b c : ItemSet) → IsAllOrOne b → ComesBefore a b → ComesBefore b c → ComesBefore a c
+comes_before-through a AllItems c single ab bc = absurd ab
+comes_before-through a (Listed b) AllItems single ab bc = absurd bc
+comes_before-through AllItems (Listed b) (Listed c) single ab bc = tt
+comes_before-through (Listed a) (Listed b) (Listed c) single ab bc =
+    let m = single.0 in
+    let above : All (λ y. name_cmp m y ≡ Less) c.items = All-head (λ x. All (λ y. name_cmp x y ≡ Less) c.items) m [] (rw single.1 at bc) in
+    let below : All (λ x. All (λ y. name_cmp x y ≡ Less) (m ∷ [])) a.items = rw single.1 at ab in
+    All-weaker (λ x. All (λ y. name_cmp x y ≡ Less) (m ∷ [])) (λ x. All (λ y. name_cmp x y ≡ Less) c.items)
+    (λ x under. All-weaker (λ y. name_cmp m y ≡ Less) (λ y. name_cmp x y ≡ Less) (λ y over. names_total.trans x m y (All-head (λ z. name_cmp x z ≡ Less) m [] under) over) c.items above)
+    a.items below
+
+-- ---- what fragments have
+
+had_for_all-push : (fs : List (Fragment (List Name))) (f : Fragment (List Name)) (v : Name) → is_all f.items ≡ false → had_for_all (fs ++ f ∷ []) v ≡ had_for_all fs v
+had_for_all-push fs f v not_all =
+    list_any-append (λ g. is_all g.items && is_listed g.vector v) fs (f ∷ [])
+    ∙ ap (λ b. had_for_all fs v || ((b && is_listed f.vector v) || false)) not_all
+    ∙ sym (or_nothing (had_for_all fs v))
+
+had_by_item-push : (fs : List (Fragment (List Name))) (f : Fragment (List Name)) (i v : Name) → had_by_item (fs ++ f ∷ []) i v ≡ (had_by_item fs i v || ((is_named f.items i && is_listed f.vector v) || false))
+had_by_item-push fs f i v = list_any-append (λ g. is_named g.items i && is_listed g.vector v) fs (f ∷ [])
+
+new_cases : (had e : Bool) → (had || (e || false)) ≡ (e || had)
+new_cases true true = refl
+new_cases true false = refl
+new_cases false true = refl
+new_cases false false = refl
+
+grown_cases : (had named same has : Bool) → (had || ((named && (same || has)) || false)) ≡ ((named && same) || (had || ((named && has) || false)))
+grown_cases true true true has = refl
+grown_cases true true false has = refl
+grown_cases true false same has = refl
+grown_cases false true true has = refl
+grown_cases false true false has = refl
+grown_cases false false same has = refl
+
+-- a pair's own fragment is put at the end
+pub gains_fragment : (fs : List (Fragment (List Name))) (f : Fragment (List Name)) (p : Pair) → IsFragmentOf f p → IsOneByOne fs → All (λ g. EndsBy p.item g.items) fs → All (λ g. ComesBefore g.items f.items) fs → GainsPair fs (fs ++ f ∷ []) p
+gains_fragment fs f p of_pair shape ends before = record {
+  for_all = λ v. had_for_all-push fs f v (is_all-only p.item f.items of_pair.item);
+  by_item = λ i v. had_by_item-push fs f i v
+      ∙ ap (λ b. had_by_item fs i v || ((b && is_listed f.vector v) || false)) (is_named-only p.item i f.items of_pair.item)
+      ∙ ap (λ b. had_by_item fs i v || ((name_eq p.item i && b) || false)) (of_pair.versions v)
+      ∙ ap (λ b. had_by_item fs i v || (b || false)) (sym (pair_eq-parts i v p))
+      ∙ new_cases (had_by_item fs i v) (eq_by_cmp pair_cmp (pair i v) p);
+  one_by_one = record {
+    single = All-push (λ g. IsAllOrOne g.items) fs f shape.single (all_or_one-only p.item f.items of_pair.item);
+    in_order = all_pairs_push (λ g h. ComesBefore g.items h.items) fs f shape.in_order (λ k d within. before k d within);
+    filled = All-push (λ g. g.vector ≢ []) fs f shape.filled of_pair.filled;
+  };
+  up_to = All-push (λ g. EndsBy p.item g.items) fs f ends (ends_by-only p.item f.items of_pair.item);
+}
+
+-- the last fragment is of lower items: a new one follows it
+pub gains_after_last : (old new front : List (Fragment (List Name))) (last f : Fragment (List Name)) (p : Pair) → old ≡ front ++ last ∷ [] → new ≡ (front ++ last ∷ []) ++ f ∷ [] → ¬ IsOnly p.item last.items → IsFragmentOf f p → IsOneByOne old → All (λ g. EndsBy p.item g.items) old → GainsPair old new p
+gains_after_last old new front last f p was is other of_pair one_by_one up_to =
+    let shape : IsOneByOne (front ++ last ∷ []) = rw was at one_by_one in
+    let ends : All (λ g. EndsBy p.item g.items) (front ++ last ∷ []) = rw was at up_to in
+    let single : IsAllOrOne last.items = All-last (λ g. IsAllOrOne g.items) front last shape.single in
+    let after : ComesBefore last.items f.items = comes_before-other p.item last.items f.items of_pair.item (All-last (λ g. EndsBy p.item g.items) front last ends) single other in
+    let before : All (λ g. ComesBefore g.items f.items) front =
+    All-weaker (λ g. ComesBefore g.items last.items) (λ g. ComesBefore g.items f.items) (λ g under. comes_before-through g.items last.items f.items single under after) front
+    (AllPairs-last (λ g h. ComesBefore g.items h.items) front last shape.in_order) in
+    rw (was, is) (gains_fragment (front ++ last ∷ []) f p of_pair shape ends (All-push (λ g. ComesBefore g.items f.items) front last before after))
+
+-- the last fragment is the item's: it gains the version
+pub gains_in_last : (old new front : List (Fragment (List Name))) (last f : Fragment (List Name)) (p : Pair) → old ≡ front ++ last ∷ [] → new ≡ front ++ f ∷ [] → IsOnly p.item last.items → GainsVersionOf last f p.version → IsOneByOne old → All (λ g. EndsBy p.item g.items) old → GainsPair old new p
+gains_in_last old new front last f p was is only gains one_by_one up_to =
+    let shape : IsOneByOne (front ++ last ∷ []) = rw was at one_by_one in
+    let ends : All (λ g. EndsBy p.item g.items) (front ++ last ∷ []) = rw was at up_to in
+    let also : IsOnly p.item f.items = subst (IsOnly p.item) (sym gains.items) only in
+    rw (was, is) (record {
+      for_all = λ v. had_for_all-push front f v (is_all-only p.item f.items also) ∙ sym (had_for_all-push front last v (is_all-only p.item last.items only));
+      by_item = λ i v. had_by_item-push front f i v
+          ∙ ap (λ b. had_by_item front i v || ((b && is_listed f.vector v) || false)) (is_named-only p.item i f.items also)
+          ∙ ap (λ b. had_by_item front i v || ((name_eq p.item i && b) || false)) (gains.versions v)
+          ∙ grown_cases (had_by_item front i v) (name_eq p.item i) (name_eq p.version v) (is_listed last.vector v)
+          ∙ ap (λ b. b || (had_by_item front i v || ((name_eq p.item i && is_listed last.vector v) || false))) (sym (pair_eq-parts i v p))
+          ∙ ap (λ b. eq_by_cmp pair_cmp (pair i v) p || (had_by_item front i v || ((b && is_listed last.vector v) || false))) (sym (is_named-only p.item i last.items only))
+          ∙ ap (λ b. eq_by_cmp pair_cmp (pair i v) p || b) (sym (had_by_item-push front last i v));
+      one_by_one = record {
+        single = All-push (λ g. IsAllOrOne g.items) front f (All-front (λ g. IsAllOrOne g.items) front last shape.single) (all_or_one-only p.item f.items also);
+        in_order = all_pairs_push (λ g h. ComesBefore g.items h.items) front f (AllPairs-front (λ g h. ComesBefore g.items h.items) front last shape.in_order)
+            (λ k d within. subst (ComesBefore (get_or front k d).items) (sym gains.items) (AllPairs-last (λ g h. ComesBefore g.items h.items) front last shape.in_order k d within));
+        filled = All-push (λ g. g.vector ≢ []) front f (All-front (λ g. g.vector ≢ []) front last shape.filled) gains.filled;
+      };
+      up_to = All-push (λ g. EndsBy p.item g.items) front f (All-front (λ g. EndsBy p.item g.items) front last ends) (ends_by-only p.item f.items also);
+    })
+
+-- ---- all of them
+
+-- what fragments cover is what they have for all items, and by item
+covered_cases : (items : ItemSet) (vector : List Name) (i v : Name) → (has_item items i && is_listed vector v) ≡ ((is_all items && is_listed vector v) || (is_named items i && is_listed vector v))
+covered_cases AllItems vector i v = or_nothing (is_listed vector v)
+covered_cases (Listed items) vector i v = refl
+
+or_interchange : (a b c d : Bool) → ((a || b) || (c || d)) ≡ ((a || c) || (b || d))
+or_interchange true b c d = refl
+or_interchange false true true d = refl
+or_interchange false true false d = refl
+or_interchange false false c d = refl
+
+pub all_covered-parts : (fs : List (Fragment (List Name))) (i v : Name) → all_covered is_listed fs i v ≡ (had_for_all fs v || had_by_item fs i v)
+all_covered-parts [] i v = refl
+all_covered-parts (f ∷ fs) i v =
+    ap (λ b. b || all_covered is_listed fs i v) (covered_cases f.items f.vector i v)
+    ∙ ap (λ b. ((is_all f.items && is_listed f.vector v) || (is_named f.items i && is_listed f.vector v)) || b) (all_covered-parts fs i v)
+    ∙ or_interchange (is_all f.items && is_listed f.vector v) (is_named f.items i && is_listed f.vector v) (had_for_all fs v) (had_by_item fs i v)
+
+has_items-single : (items : ItemSet) → IsAllOrOne items → HasItems items
+has_items-single AllItems single = tt
+has_items-single (Listed items) single = λ empty. let wrong : (single.0 ∷ []) ≡ [] = sym single.1 ∙ empty in cc
+
+pub all_have_items : (fs : List (Fragment (List Name))) → IsOneByOne fs → All (λ f. HasItems f.items) fs
+all_have_items fs shape = All-weaker (λ f. IsAllOrOne f.items) (λ f. HasItems f.items) (λ f single. has_items-single f.items single) fs shape.single
+
+-- ---- the pairs that are left
+
+below_from_less : (a b : Ordering) → ordering_then a b ≡ Less → is_gt a ≡ false
+below_from_less Less b less = refl
+below_from_less Equal b less = refl
+below_from_less Greater b less = cc
+
+ends_by-later : (i j : Name) (items : ItemSet) → is_gt (name_cmp i j) ≡ false → EndsBy i items → EndsBy j items
+ends_by-later i j AllItems below ends = tt
+ends_by-later i j (Listed items) below ends = All-weaker (λ k. is_gt (name_cmp k i) ≡ false) (λ k. is_gt (name_cmp k j) ≡ false) (λ k under. upto names_total k i j under below) items.items ends
+
+-- fragments that end by a pair's item end by those of the pairs after it
+pub ends_by-rest : (p : Pair) (rest : List Pair) (fs : List (Fragment (List Name))) → IsStrictlySortedBy pair_cmp (p ∷ rest) → All (λ f. EndsBy p.item f.items) fs → All (λ q. All (λ f. EndsBy q.item f.items) fs) rest
+ends_by-rest p rest fs sorted ends =
+    All-weaker (λ q. pair_cmp p q ≡ Less) (λ q. All (λ f. EndsBy q.item f.items) fs)
+    (λ q less. All-weaker (λ f. EndsBy p.item f.items) (λ f. EndsBy q.item f.items) (λ f by_p. ends_by-later p.item q.item f.items (below_from_less (name_cmp p.item q.item) (name_cmp p.version q.version) less) by_p) fs ends)
+    rest (All-from_recursion (λ q. pair_cmp p q ≡ Less) rest (sorted_head pair_cmp p rest sorted))

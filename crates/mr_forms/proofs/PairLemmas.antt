@@ -1,0 +1,85 @@
+use Rattle.std.proofs.Common.{◌≡◌, ◌≢◌, ◌++◌, Bool, true, false, cond, ◌||◌, ◌&&◌, List, [], ◌∷◌, refl, ap, ◌∙◌}
+use Rattle.std.specs.declared.cmp.Ordering.{Ordering}
+use Rattle.std.specs.declared.cmp.Ordering.TheVariants.{Less, Equal, Greater}
+use Rattle.std.specs.Ordering.{is_eq, eq_by_cmp, ordering_then}
+use Rattle.std.specs.Cmp.{IsTotalOrder}
+use Rattle.std.proofs.lemmas.Cmp.{tied_itself, then_total, on_total, eq_by_cmp_equiv}
+use Rattle.std.proofs.lemmas.List.Folds.{list_any-append}
+use Rattle.mr_version.specs.Name.{Name, name_eq, name_cmp}
+use Rattle.mr_version.specs.Order.{names_total}
+use Rattle.mr_forms.specs.declared.plain_knowledge.Pair.{Pair}
+use Rattle.mr_forms.specs.Sets.{is_listed}
+use Rattle.mr_forms.specs.PlainPair.{pair, pair_cmp, has_pair}
+use Rattle.mr_forms.proofs.SetLemmas.{name_eq-symmetric}
+
+is_eq-then : (a b : Ordering) → is_eq (ordering_then a b) ≡ (is_eq a && is_eq b)
+is_eq-then Less b = refl
+is_eq-then Equal b = refl
+is_eq-then Greater b = refl
+
+-- a pair is the one whose parts it has
+pub pair_eq-parts : (i v : Name) (p : Pair) → eq_by_cmp pair_cmp (pair i v) p ≡ (name_eq p.item i && name_eq p.version v)
+pair_eq-parts i v p =
+    is_eq-then (name_cmp i p.item) (name_cmp v p.version)
+    ∙ ap (λ b. b && name_eq v p.version) (name_eq-symmetric i p.item)
+    ∙ ap (λ b. name_eq p.item i && b) (name_eq-symmetric v p.version)
+
+pub name_eq-itself : (v : Name) → name_eq v v ≡ true
+name_eq-itself v = ap is_eq (tied_itself names_total v)
+
+-- what has a version is not empty
+pub filled_from_has : (vs : List Name) (v : Name) → is_listed vs v ≡ true → vs ≢ []
+filled_from_has [] v has empty = cc
+filled_from_has (w ∷ vs) v has empty = cc
+
+-- one pair more, beside what is known for all
+learned_cases : (b all old : Bool) → (all || cond b true old) ≡ (b || (all || old))
+learned_cases true true old = refl
+learned_cases true false old = refl
+learned_cases false all old = refl
+
+pub learned_pair : (all new old : Bool) (item version i v : Name) → new ≡ cond (is_eq (pair_cmp (pair item version) (pair i v))) true old → (all || new) ≡ ((name_eq item i && name_eq version v) || (all || old))
+learned_pair all new old item version i v updates =
+    ap (λ b. all || b) updates
+    ∙ learned_cases (is_eq (pair_cmp (pair item version) (pair i v))) all old
+    ∙ ap (λ b. b || (all || old)) (is_eq-then (name_cmp item i) (name_cmp version v))
+
+-- the order of pairs is total
+pub pairs_total : IsTotalOrder pair_cmp
+pairs_total = then_total (on_total (λ p. p.item) names_total) (on_total (λ p. p.version) names_total)
+
+has_pair-congruent : (pairs : List Pair) (p q : Pair) → eq_by_cmp pair_cmp p q ≡ true → has_pair pairs p ≡ has_pair pairs q
+has_pair-congruent [] p q same = refl
+has_pair-congruent (x ∷ pairs) p q same = rw ((eq_by_cmp_equiv pairs_total).congr p q x same, has_pair-congruent pairs p q same) refl
+
+absorbed_cases : (e known old : Bool) → (e ≡ true → known ≡ true) → (old || known) ≡ (e || (old || known))
+absorbed_cases true true true implied = refl
+absorbed_cases true true false implied = refl
+absorbed_cases true false old implied = let wrong : false ≡ true = implied refl in cc
+absorbed_cases false known old implied = refl
+
+-- a known pair adds nothing
+pub absorbed : (known : List Pair) (x p : Pair) (old : Bool) → has_pair known x ≡ true → (old || has_pair known p) ≡ (eq_by_cmp pair_cmp p x || (old || has_pair known p))
+absorbed known x p old has = absorbed_cases (eq_by_cmp pair_cmp p x) (has_pair known p) old (λ same. has_pair-congruent known p x same ∙ has)
+
+appended_cases : (e known old : Bool) → ((old || (e || false)) || known) ≡ (e || (old || known))
+appended_cases true known true = refl
+appended_cases true known false = refl
+appended_cases false known true = refl
+appended_cases false known false = refl
+
+-- a pair more at the end of the list
+pub appended : (known : Bool) (old : List Pair) (x p : Pair) → (has_pair (old ++ x ∷ []) p || known) ≡ (eq_by_cmp pair_cmp p x || (has_pair old p || known))
+appended known old x p =
+    ap (λ b. b || known) (list_any-append (eq_by_cmp pair_cmp p) old (x ∷ []))
+    ∙ appended_cases (eq_by_cmp pair_cmp p x) known (has_pair old p)
+
+joined_cases : (all any has missing old : Bool) → (missing || old) ≡ ((any && has) || old) → (all || (missing || old)) ≡ ((any && has) || (all || old))
+joined_cases true true true missing old same = refl
+joined_cases true true false missing old same = refl
+joined_cases true false has missing old same = refl
+joined_cases false any has missing old same = same
+
+-- pairs that join those known, beside what is known for all
+pub joined_pairs : (all any listed has new missing old : Bool) → new ≡ (missing || old) → (missing || old) ≡ ((any && listed) || old) → listed ≡ has → (all || new) ≡ ((any && has) || (all || old))
+joined_pairs all any listed has new missing old joins same is = ap (λ b. all || b) joins ∙ joined_cases all any has missing old (rw is at same)

@@ -1,0 +1,44 @@
+use Rattle.std.proofs.Common.{◌≡◌, ◌<◌, ◌⊎◌, Bool, true, false, cond, ◌||◌, ◌&&◌, ◌==◌, refl, arith, inl, inr}
+use Rattle.std.specs.declared.cmp.Ordering.TheVariants.{Less}
+use Rattle.std.proofs.lemmas.Bool.{cases_order}
+use Rattle.std.proofs.lemmas.Bool.Decides.{nat_tests}
+use Rattle.std.proofs.lemmas.Cmp.{eq_by_cmp_equiv}
+use Rattle.mr_version.specs.Name.{Name, name_eq, name_cmp}
+use Rattle.mr_version.specs.Order.{names_total}
+
+pub or_comm : (a b : Bool) → (a || b) ≡ (b || a)
+or_comm true true = refl
+or_comm true false = refl
+or_comm false true = refl
+or_comm false false = refl
+
+pub or_cond : (b x : Bool) → cond b true x ≡ (b || x)
+or_cond true x = refl
+or_cond false x = refl
+
+-- a name is the one whose parts it has
+pub name_eq-parts : (a b : Name) → name_eq a b ≡ ((a.author == b.author) && (a.counter == b.counter))
+name_eq-parts a b = grind (arith, nat_tests)
+
+pub name_eq-symmetric : (a b : Name) → name_eq a b ≡ name_eq b a
+name_eq-symmetric a b = (eq_by_cmp_equiv names_total).symm a b
+
+-- what the order of names says of their parts
+parts_by_author : (a b : Name) → name_cmp a b ≡ Less → (a.author ≡ b.author) ⊎ ((a.author < b.author) ⊎ (b.author < a.author)) → (a.author < b.author) ⊎ ((a.author ≡ b.author) × (a.counter < b.counter))
+parts_by_author a b less (inl same) = inr (same, grind (arith, nat_tests))
+parts_by_author a b less (inr (inl below)) = inl below
+parts_by_author a b less (inr (inr above)) = absurd (grind (arith, nat_tests))
+
+pub parts_from_less : (a b : Name) → name_cmp a b ≡ Less → (a.author < b.author) ⊎ ((a.author ≡ b.author) × (a.counter < b.counter))
+parts_from_less a b less = parts_by_author a b less (cases_order a.author b.author)
+
+pub or_nothing : (b : Bool) → b ≡ (b || false)
+or_nothing true = refl
+or_nothing false = refl
+
+-- what is added passes from what is left to what is had
+pub passes_on : (new old rest total here there : Bool) → new ≡ (here || old) → there ≡ here → (old || (there || rest)) ≡ total → (new || rest) ≡ total
+passes_on new true rest total true there gains same whole = rw gains whole
+passes_on new true rest total false there gains same whole = rw gains whole
+passes_on new false rest total true there gains same whole = rw gains (rw same at whole)
+passes_on new false rest total false there gains same whole = rw gains (rw same at whole)

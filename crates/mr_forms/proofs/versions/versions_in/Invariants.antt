@@ -1,0 +1,8 @@
+use Rattle.std.proofs.Common.{take}
+use Rattle.mr_forms.specs.Sets.{IsSame, is_listed}
+use Rattle.mr_forms.specs.Runs.{in_runs}
+use Rattle.mr_forms.proofs.versions.versions_in.Given as goal
+
+-- the runs up to here are listed
+abbrev pub invariant-loop-run : goal.invariant-loop-run
+invariant-loop-run g l = IsSame (is_listed l.versions.items) (in_runs (take l.run-index l.run-items))

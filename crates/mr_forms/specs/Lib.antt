@@ -1,0 +1,10 @@
+pub mod Sets
+pub mod Runs
+pub mod Known
+pub mod Covered
+pub mod Fault
+pub mod Additions
+pub mod Columns
+pub mod PlainPair
+pub mod Plain
+pub mod PlainSteps

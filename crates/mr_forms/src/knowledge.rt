@@ -1,0 +1,64 @@
+ghost use Rattle.std.specs.Prelude.{◌≡◌, ◌↔◌, ◌≢◌, false, All, IfOk, OnOk, OnErr, IsErrOf, Err};
+ghost use Rattle.mr_forms.specs.Known.{Form, AreSame, IsOnlyOverItems, with_learned, with_below, with_pairs};
+
+use crate::{FormFault, Fragment, VersionSet};
+use mr_version::{ItemId, Version};
+use std::alloc::Global;
+
+/// Which versions are known for which items, in some form.
+///
+/// A knowledge means a set of pairs of an item and a version: see `form.known`. A form may have no
+/// value for some of these sets, as one that keeps a limited number of gaps and of listed items; a
+/// call whose result would be such a set answers `TooManyHoles`, or else `TooManyItems`. Each call
+/// that grows or copies can answer `OutOfMemory`, after every other fault, and a call that answers a
+/// fault leaves its value as it was.
+pub trait Knowledge: Drop {
+    ghost use Rattle.mr_forms.specs.Covered.{covered, all_covered, HasItems};
+
+    /// The form of the vectors of its fragments.
+    type Vector: VersionSet;
+
+    /// What its values mean, and which knowledge it has no value for.
+    ghost form: { Form Self };
+
+    /// The knowledge of nothing. It allocates nothing; what grows later takes its memory from `alloc`.
+    fn new(alloc: Global) -> Self
+        ensures { AreSame (form.known result) (λ _ _. false) };
+
+    /// An equal knowledge. `OutOfMemory` is its only fault.
+    fn copy(&self) -> Result<Self, FormFault>
+        ensures ok { IfOk result (λ knowledge. knowledge ≡ self.now) }
+        ensures memory { OnErr result (result ≡ Err FormFault.OutOfMemory) };
+
+    /// Whether the version is known for the item.
+    fn knows(&self, item: ItemId, version: Version) -> bool
+        ensures { result ≡ form.known self.now item version };
+
+    /// Adds the version for the item. Some forms add it for no other item, others for all items.
+    fn learn(&mut self, item: ItemId, version: Version) -> Result<(), FormFault>
+        ensures ok { OnOk result (AreSame (form.known self.new) (with_learned form.learns_for_all (form.known self.old) item version)) }
+        ensures holes { IsErrOf result FormFault.TooManyHoles ↔ form.has_too_many_holes (with_learned form.learns_for_all (form.known self.old) item version) }
+        ensures items { IsErrOf result FormFault.TooManyItems ↔ IsOnlyOverItems form (with_learned form.learns_for_all (form.known self.old) item version) }
+        ensures err { OnErr result (self.new ≡ self.old) };
+
+    /// Adds all versions of a set, of any form, for the item, and nothing else.
+    fn learn_below<S: VersionSet>(&mut self, item: ItemId, set: &S) -> Result<(), FormFault>
+        ensures ok { OnOk result (AreSame (form.known self.new) (with_below (form.known self.old) item (S.has set.now))) }
+        ensures holes { IsErrOf result FormFault.TooManyHoles ↔ form.has_too_many_holes (with_below (form.known self.old) item (S.has set.now)) }
+        ensures items { IsErrOf result FormFault.TooManyItems ↔ IsOnlyOverItems form (with_below (form.known self.old) item (S.has set.now)) }
+        ensures err { OnErr result (self.new ≡ self.old) };
+
+    /// Adds all versions of a fragment, whose vector is of any form, for each of its items, and
+    /// nothing else.
+    fn merge<S: VersionSet>(&mut self, fragment: &Fragment<S>) -> Result<(), FormFault>
+        ensures ok { OnOk result (AreSame (form.known self.new) (with_pairs (form.known self.old) (covered S.has fragment.now))) }
+        ensures holes { IsErrOf result FormFault.TooManyHoles ↔ form.has_too_many_holes (with_pairs (form.known self.old) (covered S.has fragment.now)) }
+        ensures items { IsErrOf result FormFault.TooManyItems ↔ IsOnlyOverItems form (with_pairs (form.known self.old) (covered S.has fragment.now)) }
+        ensures err { OnErr result (self.new ≡ self.old) };
+
+    /// The knowledge as fragments, none of which lists no item. `OutOfMemory` is its only fault.
+    fn fragments(&self) -> Result<Vec<Fragment<Self::Vector>>, FormFault>
+        ensures ok { IfOk result (λ fragments. AreSame (form.known self.now) (all_covered Self.Vector.has fragments.items)) }
+        ensures items { IfOk result (λ fragments. All (λ fragment. HasItems fragment.items) fragments.items) }
+        ensures memory { OnErr result (result ≡ Err FormFault.OutOfMemory) };
+}
