@@ -1,0 +1,130 @@
+//! The words of the command line, and the help.
+use clap::{ArgMatches, Command, Error};
+use std::alloc::Global;
+
+const ABOUT: &str = "Replicas of a mail collection, driven by scripts.
+
+A replica holds messages, each one revision of an item. A script makes replicas, gives them events, and
+asks what they hold. The code that runs is proved against its contracts.";
+
+const AFTER: &str = "Exit status:
+  0  the script ran to its end (a replica's refusal is an answer, no fault)
+  1  a line that can't be run, a failed read or write, or want of memory
+  2  a wrong command line";
+
+const RUN_ABOUT: &str = "Runs the script on standard input, line by line, and prints its answers.
+
+Each line is one command; its words are separated by one space. Empty lines and lines that begin
+with # are skipped. A line is run before the next one is waited for, and its answer is written then.";
+
+const RUN_AFTER: &str = "Commands:
+  replica ID LIMIT CAP FILTER                     makes a replica (today one, and FILTER is `all`)
+  create R LABELS FLAGS DATE FROM SUBJECT         gives replica R a new message
+  edit R BASES LABELS FLAGS DATE FROM SUBJECT     replaces the versions BASES of one item
+  heads R    the versions that R holds
+  feed R     what entered (+) and left (-) R's store, in order of time
+  log R      how many events R has admitted
+  show R V   the message of version V, if R holds it
+
+  A version is A.C: the replica that issued it and its number there. LABELS are joined by `,`, FLAGS
+  (seen, answered, flagged, draft, deleted) by `+`, BASES by `,`; `.` stands for none of each. DATE is
+  YYYY-MM-DD, 1970-01-01 to 2149-06-06. SUBJECT is the rest of the line, and may be missing; what
+  stands after ` // ` is the body.
+
+Example:
+  $ mailrep run <<'END'
+  replica 0 1000000 4096 all
+  create 0 inbox . 2026-01-05 ann Hi
+  edit 0 0.1 inbox,work seen 2026-01-05 ann Hi
+  heads 0
+  feed 0
+  show 0 0.2
+  edit 0 0.1 inbox . 2026-01-05 ann Hi
+  END
+  issued 0.1
+  issued 0.2
+  heads 0: 0.2
+  feed 0: +0.1 -0.1 +0.2
+  show 0.2 inbox,work seen 2026-01-05 ann Hi
+  refused 3 NotHeld 0.1
+
+Limits:
+  ids 0 to 63; LIMIT 1 to 1000000 events; CAP 1 to 4096; a script 16777216 bytes; a sender 254 bytes,
+  a subject 998, a body 65536; 16 labels a message, each 1 to 32 bytes of a-z, 0-9 and -
+
+Exit status:
+  0  the script ran to its end (a replica's refusal is an answer, no fault)
+  1  a fault, told on standard error as `line N: TEXT`, `read fault`, `write fault` or
+     `script too long`; the answers of the lines before it stand
+  2  a wrong command line";
+
+/// Reads the words of a command line, the program's name first. `run` is the one subcommand; asking for
+/// help or for the version is an `Err` too, whose text they are.
+pub fn read_command_line<'a>(alloc: Global, words: &'a [String]) -> Result<ArgMatches<'a>, Error> {
+    let run = Command::new(alloc, "run")
+        .about("Runs the script on standard input, and prints its answers")
+        .long_about(RUN_ABOUT)
+        .after_long_help(RUN_AFTER);
+    let mailrep = Command::new(alloc, "mailrep")
+        .bin_name("mailrep")?
+        .version("0.1.0")
+        .about("Replicas of a mail collection, driven by scripts")
+        .long_about(ABOUT)
+        .after_long_help(AFTER)
+        .subcommand_required(true)
+        .arg_required_else_help(true)
+        .subcommand(run)?;
+    mailrep.try_get_matches_from(words)
+}
+
+#[cfg(test)]
+mod tests {
+    use super::*;
+    use std::test::Fail;
+
+    /// The text that answers the words in place of a run, and the exit status that it stands for.
+    fn answer(alloc: Global, words: &[&str]) -> Result<(String, i32), Fail> {
+        let mut line = Vec::new(alloc);
+        for word in words {
+            line.push(String::from_str(alloc, word)?)?;
+        }
+        match read_command_line(alloc, line.as_slice()) {
+            Ok(_) => Ok((String::new(alloc), 0)),
+            Err(error) => Ok((format!(in alloc; "{error}")?, error.exit_code())),
+        }
+    }
+
+    #[test]
+    fn ample_memory(rt: HostRuntime) -> Result<(), Fail> {
+        let alloc = rt.alloc();
+        let (text, status) = answer(alloc, &["mailrep", "run"])?;
+        assert_eq!(rt; (text.as_str(), status), ("", 0));
+        let (text, status) = answer(alloc, &["mailrep", "--version"])?;
+        assert_eq!(rt; (text.as_str(), status), ("mailrep 0.1.0\n", 0));
+        for words in [
+            &["mailrep"][..],
+            &["mailrep", "walk"],
+            &["mailrep", "run", "fast"],
+        ] {
+            let (text, status) = answer(alloc, words)?;
+            assert_eq!(rt; status, 2);
+            assert!(rt; text.as_str().contains("Usage: mailrep"), "{text}");
+        }
+        Ok(())
+    }
+
+    #[test]
+    fn helps(rt: HostRuntime) -> Result<(), Fail> {
+        let (text, status) = answer(rt.alloc(), &["mailrep", "run", "--help"])?;
+        assert_eq!(rt; status, 0);
+        for part in [RUN_ABOUT, RUN_AFTER, "Usage: mailrep run\n"] {
+            assert!(rt; text.as_str().contains(part), "{text}");
+        }
+        let (text, status) = answer(rt.alloc(), &["mailrep", "--help"])?;
+        assert_eq!(rt; status, 0);
+        for part in [ABOUT, AFTER, "Usage: mailrep <COMMAND>\n"] {
+            assert!(rt; text.as_str().contains(part), "{text}");
+        }
+        Ok(())
+    }
+}

@@ -1,0 +1,66 @@
+//! `mailrep`: mail replicas on the command line.
+//!
+//! `mailrep run` hands standard input to `run_script`, which runs it line by line and prints the
+//! answers. Here stand the command line with its help, and the exit status: 0; 1 for a script, read
+//! or write fault and for want of memory; 2 for a wrong command line. A fault's text goes to standard
+//! error.
+#![tactic(auto)]
+
+mod command_line;
+mod fault;
+
+use clap::error::ErrorKind;
+use command_line::read_command_line;
+use fault::Fault;
+use mr_script::run_script;
+use std::process::ExitCode;
+use std::rt::Env;
+use std::{env, io};
+
+/// The status of a wrong command line.
+const WRONG_COMMAND_LINE: u8 = 2;
+
+fn main(rt: HostRuntime) -> ExitCode {
+    match run(&rt) {
+        Ok(status) => status,
+        Err(fault) => {
+            let _ = eprintln!(rt; "{fault}");
+            ExitCode::from(fault.status())
+        }
+    }
+}
+
+/// Does what the command line asks for.
+fn run<R: Env + Input + Print + Eprint + AllocGlobal>(rt: &R) -> Result<ExitCode, Fault> {
+    let words = words(rt)?;
+    match read_command_line(rt.alloc(), words.as_slice()) {
+        Ok(_) => match run_script(rt.alloc(), rt.reader(), &mut io::writer(rt)) {
+            Ok(()) => Ok(ExitCode::SUCCESS),
+            Err(fault) => Err(Fault::Script(fault)),
+        },
+        Err(error) => say(rt, &error),
+    }
+}
+
+/// The words of the command line, the program's name first.
+fn words<R: Env + AllocGlobal>(rt: &R) -> Result<Vec<String>, Fault> {
+    let words = env::args(rt).map_err(|error| match error.kind() {
+        io::ErrorKind::OutOfMemory => Fault::OutOfMemory,
+        _ => Fault::NotText,
+    })?;
+    words.collect(rt.alloc()).map_err(|_| Fault::OutOfMemory)
+}
+
+/// Prints what the command line is answered with in place of a run: help, the version, or what is
+/// wrong with it.
+fn say<R: Print + Eprint>(rt: &R, error: &clap::Error) -> Result<ExitCode, Fault> {
+    if error.kind() == ErrorKind::OutOfMemory {
+        return Err(Fault::OutOfMemory);
+    }
+    let printed = error.print(rt);
+    if error.use_stderr() {
+        return Ok(ExitCode::from(WRONG_COMMAND_LINE));
+    }
+    printed.map_err(|_| Fault::Write)?;
+    Ok(ExitCode::SUCCESS)
+}

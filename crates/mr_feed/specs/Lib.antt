@@ -1,0 +1,6 @@
+pub mod Entry
+pub mod Feed
+pub mod Fold
+pub mod Port
+pub mod PortFault
+pub mod PlainPort

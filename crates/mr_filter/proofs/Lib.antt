@@ -1,0 +1,12 @@
+mod MeaningLemmas
+mod SearchLemmas
+mod TextLemmas
+mod CutLemmas
+mod SpellingLemmas
+mod CombineLemmas
+mod ReadsLemmas
+mod Progress
+mod ColonLemmas
+mod Reading
+mod LabelLemmas
+mod UniqueLemmas

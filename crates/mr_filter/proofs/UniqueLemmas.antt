@@ -1,0 +1,264 @@
+-- a text means one filter, and one that means a filter has no fault
+use Rattle.std.proofs.Common.{◌≡◌, ℕ, ◌+◌, ◌/◌, ◌%◌, ◌≤◌, ◌⊎◌, false, eqb, List, [], ◌∷◌, ◌++◌, length, get_or, refl, sym, ◌∙◌, ap, subst, inl, inr, arith, codes}
+use Rattle.std.specs.List.{All, AllZip, AllByRecursion, list_any}
+use Rattle.std.specs.BTreeSet.{BTreeSet}
+use Rattle.std.specs.Ordering.{eq_by_cmp}
+use Rattle.std.specs.Cmp.Lexicographic.{nat_list_cmp_total, texts_ties}
+use Rattle.std.proofs.lemmas.Bool.{false≢true}
+use Rattle.std.proofs.lemmas.List.Elements.{All-head, All-tail}
+use Rattle.std.proofs.lemmas.Map.Lookups.{btree_set_from_contains, exact_bytes}
+use Rattle.std.proofs.lemmas.Slice.Eq.{bytes_eq-Decides}
+use Rattle.jiff_core.proofs.SignedLemmas.{signed_arith}
+use Rattle.jiff_core.proofs.DateLemmas.{epoch_day_same}
+use Rattle.mr_mail.specs.declared.flags.Flag.{Flag}
+use Rattle.mr_mail.specs.declared.flags.Flag.TheVariants.{Seen, Answered, Flagged, Draft, Deleted}
+use Rattle.mr_mail.specs.Flag.{flag_name}
+use Rattle.mr_mail.specs.Label.{text_eq, text_cmp, AreLabelsOf}
+use Rattle.mr_mail.specs.Day.{Spells, date_digits}
+use Rattle.mr_filter.specs.Filter.{ClauseParts, IsClause, IsFilter}
+use Rattle.mr_filter.specs.Condition.{Condition, HasLabel, LacksLabel, HasFlag, LacksFlag, Since, kind_of, IsValueOf, SpellsCondition, Combines}
+use Rattle.mr_filter.specs.declared.fault.FilterFault.{FilterFault}
+use Rattle.mr_filter.specs.declared.fault.FilterFault.TheVariants.{OutOfMemory, BadFilter, TooManyClauses, TooManyLabels}
+use Rattle.mr_filter.specs.Fault.{IsFaultOf}
+use Rattle.mr_filter.specs.Grammar.{pieces_of, clauses_of, SpellsConditions, ReadsClause, Reads, IsInGrammar, IsFirstBad, HasTooManyClauses, HasCrowdedClause, HasTooManyLabels}
+use Rattle.mr_filter.specs.Written.{LacksColon}
+use Rattle.mr_filter.proofs.LabelLemmas.{length-AreLabelsOf}
+use Rattle.mr_filter.proofs.Reading.{at_place, length_zip}
+
+-- texts that a test tells apart are not the same
+apart : (xs ys : List ℕ) → text_eq xs ys ≡ false → xs ≡ ys → ⊥
+apart xs ys told same = false≢true (sym told ∙ (bytes_eq-Decides xs ys).1 same)
+
+-- what stands before the first colon and what stands behind it
+colon_parts : (k l v w : List ℕ) → LacksColon k → LacksColon l → k ++ 58 ∷ v ≡ l ++ 58 ∷ w → (k ≡ l) × (v ≡ w)
+colon_parts [] [] v w none other same = (refl, cc)
+colon_parts [] (b ∷ l) v w none other same = let h : 58 ≡ b = cc in absurd (false≢true (sym other.0 ∙ ap (λ n. eqb n 58) (sym h)))
+colon_parts (a ∷ k) [] v w none other same = let h : a ≡ 58 = cc in absurd (false≢true (sym none.0 ∙ ap (λ n. eqb n 58) h))
+colon_parts (a ∷ k) (b ∷ l) v w none other same =
+    let h : a ≡ b = cc in
+    let rest : k ++ 58 ∷ v ≡ l ++ 58 ∷ w = cc in
+    let parts = colon_parts k l v w none.1 other.1 rest in
+    (λ i. h i ∷ parts.0 i, parts.1)
+
+kind_lacks : (c : Condition) → LacksColon (kind_of c)
+kind_lacks (HasLabel label) = (refl, (refl, (refl, (refl, (refl, tt)))))
+kind_lacks (LacksLabel label) = (refl, (refl, (refl, (refl, (refl, (refl, tt))))))
+kind_lacks (HasFlag flag) = (refl, (refl, (refl, (refl, tt))))
+kind_lacks (LacksFlag flag) = (refl, (refl, (refl, (refl, (refl, tt)))))
+kind_lacks (Since day) = (refl, (refl, (refl, (refl, (refl, tt)))))
+
+flag_name-injective : (f g : Flag) → flag_name f ≡ flag_name g → f ≡ g
+flag_name-injective Seen Seen same = refl
+flag_name-injective Answered Answered same = refl
+flag_name-injective Flagged Flagged same = refl
+flag_name-injective Draft Draft same = refl
+flag_name-injective Deleted Deleted same = refl
+flag_name-injective f g same = absurd (apart (flag_name f) (flag_name g) refl same)
+
+-- four digits are of one number below 10,000, and two of one below 100
+two_digits-injective : (m n : ℕ) → 48 + m / 10 ≡ 48 + n / 10 → 48 + m % 10 ≡ 48 + n % 10 → m ≡ n
+two_digits-injective m n tens units = omega arith
+
+date_digits-injective : (a b c d e f : ℕ) → date_digits a b c ≡ date_digits d e f → (a ≡ d) × (b ≡ e) × (c ≡ f)
+date_digits-injective a b c d e f same =
+    let at : (k : ℕ) → get_or (date_digits a b c) k 0 ≡ get_or (date_digits d e f) k 0 = λ k. ap (λ ds. get_or ds k 0) same in
+    let high : a / 100 ≡ d / 100 = two_digits-injective (a / 100) (d / 100) (at 0) (at 1) in
+    let low : a % 100 ≡ d % 100 = two_digits-injective (a % 100) (d % 100) (at 2) (at 3) in
+    (omega arith, two_digits-injective b e (at 5) (at 6), two_digits-injective c f (at 8) (at 9))
+
+-- a text spells one day
+Spells-unique : (text : List ℕ) (a b : ℕ) → Spells text a → Spells text b → a ≡ b
+Spells-unique text a b x y =
+    let parts = date_digits-injective x.year x.month x.day_of_month y.year y.month y.day_of_month (sym x.written ∙ y.written) in
+    let year_same = parts.0 in
+    let month_same = parts.1 in
+    let day_same = parts.2 in
+    let xd = x.is_day in
+    let yd = y.is_day in
+    let year : xd.date.year ≡ yd.date.year = omega (arith, signed_arith, xd.parts.0, yd.parts.0, year_same) in
+    let month : xd.date.month ≡ yd.date.month = omega (arith, signed_arith, xd.parts.1, yd.parts.1, month_same) in
+    let day : xd.date.day ≡ yd.date.day = omega (arith, signed_arith, xd.parts.2, yd.parts.2, day_same) in
+    let same = epoch_day_same xd.date yd.date year month day in
+    omega (arith, signed_arith, same, xd.counted, yd.counted)
+
+-- a kind and a value are of one condition
+value_unique : (c d : Condition) (value : List ℕ) → kind_of c ≡ kind_of d → IsValueOf c value → IsValueOf d value → c ≡ d
+value_unique (HasLabel a) (HasLabel b) value kinds x y = ap HasLabel (sym x.1 ∙ y.1)
+value_unique (LacksLabel a) (LacksLabel b) value kinds x y = ap LacksLabel (sym x.1 ∙ y.1)
+value_unique (HasFlag f) (HasFlag g) value kinds x y = ap HasFlag (flag_name-injective f g (sym x ∙ y))
+value_unique (LacksFlag f) (LacksFlag g) value kinds x y = ap LacksFlag (flag_name-injective f g (sym x ∙ y))
+value_unique (Since a) (Since b) value kinds x y = ap Since (Spells-unique value a b x y)
+value_unique c d value kinds x y = absurd (apart (kind_of c) (kind_of d) refl kinds)
+
+SpellsCondition-unique : (text : List ℕ) (c d : Condition) → SpellsCondition text c → SpellsCondition text d → c ≡ d
+SpellsCondition-unique text c d x y =
+    let parts = colon_parts (kind_of c) (kind_of d) x.0 y.0 (kind_lacks c) (kind_lacks d) (sym x.2 ∙ y.2) in
+    value_unique c d x.0 parts.0 x.1 (subst (IsValueOf d) (sym parts.1) y.1)
+
+zip_unique : {A B : Type 0} (R : A → B → Type 0) → ((x : A) (y z : B) → R x y → R x z → y ≡ z) → (xs : List A) (ys zs : List B) → AllZip R xs ys → AllZip R xs zs → ys ≡ zs
+zip_unique R one [] [] [] a b = refl
+zip_unique R one [] [] (z ∷ zs) a b = absurd b
+zip_unique R one [] (y ∷ ys) zs a b = absurd a
+zip_unique R one (x ∷ xs) [] zs a b = absurd a
+zip_unique R one (x ∷ xs) (y ∷ ys) [] a b = absurd b
+zip_unique R one (x ∷ xs) (y ∷ ys) (z ∷ zs) a b =
+    let head = one x y z a.0 b.0 in
+    let tail = zip_unique R one xs ys zs a.1 b.1 in
+    λ i. head i ∷ tail i
+
+-- what has no colon is no condition
+colon_stands : (k v : List ℕ) → LacksColon (k ++ 58 ∷ v) → ⊥
+colon_stands [] v lacks = false≢true (sym lacks.0)
+colon_stands (a ∷ k) v lacks = colon_stands k v lacks.1
+
+no_condition : (text : List ℕ) → LacksColon text → (c : Condition) → SpellsCondition text c → ⊥
+no_condition text lacks c spelled = colon_stands (kind_of c) spelled.0 (subst LacksColon spelled.2 lacks)
+
+all_is_none : (given : List Condition) → AllZip SpellsCondition (pieces_of (codes "all")) given → ⊥
+all_is_none [] each = each
+all_is_none (c ∷ given) each = no_condition (codes "all") (refl, (refl, (refl, tt))) c each.0
+
+SpellsConditions-unique : (text : List ℕ) (given other : List Condition) → SpellsConditions text given → SpellsConditions text other → given ≡ other
+SpellsConditions-unique text given other x y =
+    elim x [
+      | inl a ↦ elim y [
+        | inl b ↦ a.1 ∙ sym b.1
+        | inr b ↦ absurd (all_is_none other (subst (λ t. AllZip SpellsCondition (pieces_of t) other) a.0 b))
+      ]
+      | inr a ↦ elim y [
+        | inl b ↦ absurd (all_is_none given (subst (λ t. AllZip SpellsCondition (pieces_of t) given) b.0 a))
+        | inr b ↦ zip_unique SpellsCondition SpellsCondition-unique (pieces_of text) given other a b
+      ]
+    ]
+
+-- labels that rise are determined by what is among them
+AreLabelsOf-unique : (given xs ys : List (List ℕ)) → AreLabelsOf given xs → AreLabelsOf given ys → xs ≡ ys
+AreLabelsOf-unique given xs ys x y =
+    let same_test : eq_by_cmp text_cmp ≡ text_eq = λ i a b. sym (texts_ties a b) i in
+    let same : (label : List ℕ) → list_any (eq_by_cmp text_cmp label) xs ≡ list_any (eq_by_cmp text_cmp label) ys =
+    λ label. ap (λ e. list_any (e label) xs) same_test ∙ x.same label ∙ sym (y.same label) ∙ ap (λ e. list_any (e label) ys) (sym same_test) in
+    let first : BTreeSet (List ℕ) = record { keys = xs } in
+    let second : BTreeSet (List ℕ) = record { keys = ys } in
+    btree_set_from_contains nat_list_cmp_total first second x.rising y.rising same exact_bytes
+
+Combines-unique : (given : List Condition) (a b : ClauseParts) → Combines given a → Combines given b → a ≡ b
+Combines-unique given a b x y =
+    let wanted = AreLabelsOf-unique _ a.all_labels b.all_labels x.wanted y.wanted in
+    let barred = AreLabelsOf-unique _ a.no_labels b.no_labels x.barred y.barred in
+    let on : a.flags_on ≡ b.flags_on = x.on ∙ sym y.on in
+    let off : a.flags_off ≡ b.flags_off = x.off ∙ sym y.off in
+    let since : a.since ≡ b.since = x.since ∙ sym y.since in
+    λ i. record { all_labels = wanted i; no_labels = barred i; flags_on = on i; flags_off = off i; since = since i }
+
+ReadsClause-unique : (text : List ℕ) (a b : ClauseParts) → ReadsClause text a → ReadsClause text b → a ≡ b
+ReadsClause-unique text a b x y =
+    Combines-unique x.given a b x.combined (subst (λ given. Combines given b) (SpellsConditions-unique text y.given x.given y.spelled x.spelled) y.combined)
+
+-- `none` is no clause
+none_is_no_clause : (given : List Condition) → SpellsConditions (codes "none") given → ⊥
+none_is_no_clause given spelled =
+    elim spelled [ inl all ↦ apart (codes "none") (codes "all") refl all.0 | inr each ↦ by given each ]
+  where
+    by : (given : List Condition) → AllZip SpellsCondition (pieces_of (codes "none")) given → ⊥
+    by [] each = each
+    by (c ∷ given) each = no_condition (codes "none") (refl, (refl, (refl, (refl, tt)))) c each.0
+
+none_is_no_filter : (filter : List ClauseParts) → AllZip ReadsClause (clauses_of (codes "none")) filter → ⊥
+none_is_no_filter [] each = each
+none_is_no_filter (c ∷ filter) each = none_is_no_clause each.0.given each.0.spelled
+
+-- a text means one filter
+pub Reads-unique : (text : List ℕ) (a b : List ClauseParts) → Reads text a → Reads text b → a ≡ b
+Reads-unique text a b x y =
+    elim x [
+      | inl p ↦ elim y [
+        | inl q ↦ p.1 ∙ sym q.1
+        | inr q ↦ absurd (none_is_no_filter b (subst (λ t. AllZip ReadsClause (clauses_of t) b) p.0 q))
+      ]
+      | inr p ↦ elim y [
+        | inl q ↦ absurd (none_is_no_filter a (subst (λ t. AllZip ReadsClause (clauses_of t) a) q.0 p))
+        | inr q ↦ zip_unique ReadsClause ReadsClause-unique (clauses_of text) a b p q
+      ]
+    ]
+
+-- what stands at a place of the one list has a partner in the other
+zip_at : {A B : Type 0} (R : A → B → Type 0) (before : List A) (x : A) (after : List A) (ys : List B) → AllZip R (before ++ x ∷ after) ys → (y : B) × R x y
+zip_at R [] x after [] each = absurd each
+zip_at R [] x after (y ∷ ys) each = (y, each.0)
+zip_at R (b ∷ before) x after [] each = absurd each
+zip_at R (b ∷ before) x after (y ∷ ys) each = zip_at R before x after ys each.1
+
+zip_kept : {A B : Type 0} (R : A → B → Type 0) (P : B → Type 0) (xs : List A) (ys : List B) → AllZip R xs ys → All P ys → AllZip (λ x y. R x y × P y) xs ys
+zip_kept R P [] [] each kept = tt
+zip_kept R P [] (y ∷ ys) each kept = absurd each
+zip_kept R P (x ∷ xs) [] each kept = absurd each
+zip_kept R P (x ∷ xs) (y ∷ ys) each kept = ((each.0, All-head P y ys kept), zip_kept R P xs ys each.1 (All-tail P y ys kept))
+
+-- a text that means a filter has no bad piece
+no_bad_piece : (text : List ℕ) (filter : List ClauseParts) (place : ℕ) → Reads text filter → IsFirstBad text place → ⊥
+no_bad_piece text filter place reads bad =
+    elim reads [
+      | inl none ↦ bad.not_none none.0
+      | inr each ↦ in_clause (zip_at ReadsClause bad.before bad.clause bad.after filter (subst (λ cs. AllZip ReadsClause cs filter) bad.clauses each))
+    ]
+  where
+    in_clause : (c : ClauseParts) × ReadsClause bad.clause c → ⊥
+    in_clause (c, read) =
+        elim read.spelled [
+          | inl all ↦ bad.bad.not_all all.0
+          | inr each ↦
+              let here = zip_at SpellsCondition bad.bad.before bad.bad.piece bad.bad.after read.given (subst (λ ps. AllZip SpellsCondition ps read.given) bad.bad.pieces each) in
+              bad.bad.bad here
+        ]
+
+no_more_clauses : (text : List ℕ) (filter : List ClauseParts) → Reads text filter → IsFilter filter → HasTooManyClauses text → ⊥
+no_more_clauses text filter reads kept many =
+    elim reads [
+      | inl none ↦
+          let one : length (clauses_of text) ≡ 1 = ap (λ t. length (clauses_of t)) none.0 in
+          let more = many.many in absurd (omega arith)
+      | inr each ↦
+          let long = length_zip ReadsClause (clauses_of text) filter each in
+          let more = many.many in
+          let few = kept.few in
+          absurd (omega (arith, long))
+    ]
+
+no_more_labels : (text : List ℕ) (filter : List ClauseParts) → Reads text filter → IsFilter filter → HasTooManyLabels text → ⊥
+no_more_labels text filter reads kept many =
+    let crowded = many.crowded in
+    elim reads [
+      | inl none ↦
+          let each : AllByRecursion (λ clause. SpellsConditions clause crowded.many.given → ⊥) (clauses_of text) =
+          subst (λ t. AllByRecursion (λ clause. SpellsConditions clause crowded.many.given → ⊥) (clauses_of t)) (sym none.0) (none_is_no_clause crowded.many.given, tt) in
+          at_place (λ clause. SpellsConditions clause crowded.many.given → ⊥) crowded.before crowded.clause crowded.after
+          (subst (AllByRecursion (λ clause. SpellsConditions clause crowded.many.given → ⊥)) crowded.clauses each) crowded.many.spelled
+      | inr each ↦
+          let both = zip_kept ReadsClause IsClause (clauses_of text) filter each kept.each in
+          in_clause (zip_at (λ t c. ReadsClause t c × IsClause c) crowded.before crowded.clause crowded.after filter (subst (λ cs. AllZip (λ t c. ReadsClause t c × IsClause c) cs filter) crowded.clauses both))
+    ]
+  where
+    in_clause : (c : ClauseParts) × (ReadsClause many.crowded.clause c × IsClause c) → ⊥
+    in_clause (c, (read, in_limits)) =
+        let same = SpellsConditions-unique many.crowded.clause read.given many.crowded.many.given read.spelled many.crowded.many.spelled in
+        let combined = subst (λ given. Combines given c) same read.combined in
+        let wanted = length-AreLabelsOf _ _ combined.wanted in
+        let barred = length-AreLabelsOf _ _ combined.barred in
+        let more = many.crowded.many.many in
+        let few = in_limits.few in
+        absurd (omega (arith, wanted, barred))
+
+-- at a text that means a filter only memory can be wanting
+pub Reads-fault : (text : List ℕ) (filter : List ClauseParts) → Reads text filter → IsFilter filter → (fault : FilterFault) → IsFaultOf text fault → fault ≡ OutOfMemory
+Reads-fault text filter reads kept OutOfMemory is = refl
+Reads-fault text filter reads kept (BadFilter place) is = absurd (no_bad_piece text filter place reads is)
+Reads-fault text filter reads kept TooManyClauses is = absurd (no_more_clauses text filter reads kept is)
+Reads-fault text filter reads kept TooManyLabels is = absurd (no_more_labels text filter reads kept is)
+
+-- what stops the reading of clauses is a fault of the text
+pub IsFaultOf-clauses : (text : List ℕ) (fault : FilterFault) → (fault ≡ OutOfMemory) ⊎ ((fault ≡ TooManyLabels) × HasCrowdedClause text) → IsInGrammar text → length (clauses_of text) ≤ 16 → IsFaultOf text fault
+IsFaultOf-clauses text fault found in_grammar few =
+    elim found [
+      | inl memory ↦ subst (IsFaultOf text) (sym memory) (in_grammar, few)
+      | inr crowded ↦ subst (IsFaultOf text) (sym crowded.0) (record { in_grammar = in_grammar; few = few; crowded = crowded.1 })
+    ]

@@ -1,0 +1,13 @@
+use Rattle.std.proofs.Common.{◌≡◌, ◌∙◌, string_bytes}
+use Rattle.std.proofs.lemmas.Result.{IfOk-weaker}
+use Rattle.mr_filter.specs.Grammar.{Reads}
+use Rattle.mr_filter.specs.Text.{IsFilterText}
+use Rattle.mr_filter.proofs.ReadsLemmas.{Reads-text}
+use Rattle.mr_filter.proofs.filter.Filter.text.Goals as goal
+
+pub returns-clause-read : goal.returns-clause-read
+returns-clause-read c =
+    let same : c.as_slice.result.now ≡ c.args.self.now = c.as_slice.ensures.value ∙ c.self.view_is in
+    IfOk-weaker c.filter_text.result (λ text. IsFilterText c.as_slice.result.now (string_bytes text)) (λ text. Reads (string_bytes text) c.args.self.now)
+    (λ text is. rw (← same) (Reads-text c.as_slice.result.now (string_bytes text) (rw c.as_slice.ensures.value c.self.invariant) is))
+    c.filter_text.ensures

@@ -1,0 +1,11 @@
+use Rattle.std.proofs.Common.{length}
+use Rattle.mr_filter.specs.Grammar.{IsCondition}
+use Rattle.mr_filter.proofs.Progress.{HasPassed}
+use Rattle.std.specs.Str.{IsUtf8}
+use Rattle.mr_filter.proofs.pieces.first_bad_piece.Given as goal
+
+abbrev pub invariant-loop-piece : goal.invariant-loop-piece
+invariant-loop-piece l = HasPassed 38 IsCondition l.fn.clause l.rest l.place × IsUtf8 l.rest
+
+abbrev pub decreases-loop-piece : goal.decreases-loop-piece
+decreases-loop-piece l = length l.rest

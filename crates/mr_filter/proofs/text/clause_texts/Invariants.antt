@@ -1,0 +1,8 @@
+use Rattle.std.proofs.Common.{take}
+use Rattle.std.specs.List.{AllZip}
+use Rattle.mr_mail.specs.Label.{texts_of}
+use Rattle.mr_filter.specs.Text.{IsClauseText}
+use Rattle.mr_filter.proofs.text.clause_texts.Given as goal
+
+abbrev pub invariant-loop-clause : goal.invariant-loop-clause
+invariant-loop-clause l = AllZip IsClauseText (take l.clause-index l.clauses) (texts_of l.texts.items)

@@ -1,0 +1,19 @@
+-- why a text is no filter
+use Rattle.std.specs.Prelude.{ℕ, ◌≤◌, List, length}
+use Rattle.mr_filter.specs.declared.fault.FilterFault.{FilterFault}
+use Rattle.mr_filter.specs.declared.fault.FilterFault.TheVariants.{OutOfMemory, BadFilter, TooManyClauses, TooManyLabels}
+use Rattle.mr_filter.specs.Grammar.{clauses_of, IsInGrammar, IsFirstBad, HasTooManyClauses, HasTooManyLabels}
+
+-- the number by which a host knows a fault
+abbrev pub fault_number : FilterFault → ℕ
+fault_number OutOfMemory = 0
+fault_number (BadFilter _) = 1
+fault_number TooManyClauses = 2
+fault_number TooManyLabels = 3
+
+-- the case of each fault; memory is wanting only at a text in the grammar with at most sixteen clauses
+abbrev pub IsFaultOf : List ℕ → FilterFault → Type 0
+IsFaultOf text OutOfMemory = IsInGrammar text × (length (clauses_of text) ≤ 16)
+IsFaultOf text (BadFilter place) = IsFirstBad text place
+IsFaultOf text TooManyClauses = HasTooManyClauses text
+IsFaultOf text TooManyLabels = HasTooManyLabels text

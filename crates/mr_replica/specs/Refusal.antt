@@ -1,0 +1,34 @@
+-- refusals: their numbers, their names, and which of them a form's fault is
+use Rattle.std.specs.Prelude.{ℕ, List, codes}
+use Rattle.mr_forms.specs.declared.fault.FormFault.{FormFault}
+use Rattle.mr_forms.specs.declared.fault.FormFault.TheVariants as fault
+use Rattle.mr_replica.specs.declared.refusal.Refusal.{Refusal}
+use Rattle.mr_replica.specs.declared.refusal.Refusal.TheVariants.{OutOfMemory, NoBase, NotHeld, MixedItems, OwnHeadLeft, TooManyHoles, TooManyItems, LogFull}
+
+-- the number by which a host knows the refusal
+abbrev pub refusal_number : Refusal → ℕ
+refusal_number OutOfMemory = 0
+refusal_number NoBase = 2
+refusal_number (NotHeld version) = 3
+refusal_number MixedItems = 4
+refusal_number (OwnHeadLeft version) = 5
+refusal_number TooManyHoles = 6
+refusal_number TooManyItems = 7
+refusal_number LogFull = 8
+
+-- the name under which it is printed
+abbrev pub refusal_name : Refusal → List ℕ
+refusal_name OutOfMemory = codes "OutOfMemory"
+refusal_name NoBase = codes "NoBase"
+refusal_name (NotHeld version) = codes "NotHeld"
+refusal_name MixedItems = codes "MixedItems"
+refusal_name (OwnHeadLeft version) = codes "OwnHeadLeft"
+refusal_name TooManyHoles = codes "TooManyHoles"
+refusal_name TooManyItems = codes "TooManyItems"
+refusal_name LogFull = codes "LogFull"
+
+-- which refusal a form's fault is
+abbrev pub refusal_of : FormFault → Refusal
+refusal_of fault.OutOfMemory = OutOfMemory
+refusal_of fault.TooManyHoles = TooManyHoles
+refusal_of fault.TooManyItems = TooManyItems

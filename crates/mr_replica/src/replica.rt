@@ -1,0 +1,172 @@
+//! The replica, and its step.
+ghost use Rattle.std.specs.Prelude.{◌≡◌, ◌<◌, ◌≤◌, ◌↔◌, [], IsOk, IfOk, IfErr, OnOk, OnErr, length};
+ghost use Rattle.std.specs.Option.{option_copied};
+
+mod step;
+
+use crate::store::Store;
+use crate::trail::Trail;
+use crate::{Event, Filter, Revision};
+use mr_feed::{Entry, Feed};
+use mr_forms::{Knowledge, PlainVersions, VersionSet};
+use mr_version::{Author, ItemId, Version};
+use std::alloc::{AllocError, Global};
+use std::marker::Model;
+use thiserror::Error;
+
+/// Why there is no such replica.
+#[derive(Clone, Copy, Debug, PartialEq, Eq, Error)]
+pub enum ReplicaFault {
+    #[error("an event limit is 1 to 1,000,000")]
+    BadLimit,
+}
+
+impl ReplicaFault {
+    /// The fault's number.
+    pub fn number(self) -> u8
+        ensures { result ≡ 1 }
+    {
+        match self {
+            ReplicaFault::BadLimit => 1,
+        }
+    }
+}
+
+/// A replica over a form of knowledge.
+#[derive(Drop)]
+pub struct Replica<K: Knowledge> {
+    alloc: Global,
+    id: Author,
+    filter: Filter,
+    event_limit: u32,
+    issued: u32,
+    knowledge: K,
+    store: Store,
+    trail: Trail,
+    feed: Feed,
+    log: Vec<Event>,
+}
+
+impl<K: Knowledge> Model for Replica<K> {
+    ghost use Rattle.std.specs.Prelude.{◌≤◌, length};
+    ghost use Rattle.mr_replica.specs.State.{State};
+    ghost use Rattle.mr_replica.specs.Sound.{IsSound};
+
+    ghost Value = { State K };
+
+    ghost view = { λ r. record { id = r.id; filter = r.filter; event_limit = r.event_limit; issued = r.issued; knowledge = r.knowledge; heads = r.store.heads; trail = r.trail.lasts; feed = r.feed.entries; log = r.log.items } };
+
+    ghost invariant = { λ r. IsSound K.form (record { id = r.id; filter = r.filter; event_limit = r.event_limit; issued = r.issued; knowledge = r.knowledge; heads = r.store.heads; trail = r.trail.lasts; feed = r.feed.entries; log = r.log.items }) };
+}
+
+impl<K: Knowledge> Replica<K> {
+    ghost use Rattle.std.specs.Prelude.{false};
+    ghost use Rattle.mr_forms.specs.Known.{AreSame};
+    ghost use Rattle.mr_replica.specs.Heads.{AreHeads, AreConflicts, held};
+
+    /// A replica of this id, with nothing in it. Its log takes up to `event_limit` events, 1 to
+    /// 1,000,000; any other limit is a `BadLimit`. Nothing is allocated; what grows later takes its
+    /// memory from `alloc`.
+    pub fn try_new(
+        alloc: Global,
+        id: Author,
+        filter: Filter,
+        event_limit: u32,
+    ) -> Result<Replica<K>, ReplicaFault>
+        ensures exact { IsOk result ↔ ((1 ≤ event_limit) × (event_limit ≤ 1000000)) }
+        ensures fault { IfErr result (λ fault. fault ≡ ReplicaFault.BadLimit) }
+        ensures knows_nothing { IfOk result (λ replica. AreSame (K.form.known replica.knowledge) (λ _ _. false)) }
+        ensures is_empty { IfOk result (λ replica. replica ≡ record { id = id; filter = filter; event_limit = event_limit; issued = 0; knowledge = replica.knowledge; heads = []; trail = []; feed = []; log = [] }) }
+    {
+        if event_limit == 0 || event_limit > 1_000_000 {
+            return Err(ReplicaFault::BadLimit);
+        }
+        Ok(Replica {
+            alloc,
+            id,
+            filter,
+            event_limit,
+            issued: 0,
+            knowledge: K::new(alloc),
+            store: Store::new(alloc),
+            trail: Trail::new(alloc),
+            feed: Feed::new(alloc),
+            log: Vec::new(alloc),
+        })
+    }
+
+    /// The replica's id, which is the author of the versions that it issues.
+    pub fn id(&self) -> Author
+        ensures { result ≡ self.now.id }
+    {
+        self.id
+    }
+
+    /// Which messages it selects.
+    pub fn filter(&self) -> Filter
+        ensures { result ≡ self.now.filter }
+    {
+        self.filter
+    }
+
+    /// How many events its log takes.
+    pub fn event_limit(&self) -> u32
+        ensures is { result ≡ self.now.event_limit }
+        ensures low { 1 ≤ result }
+        ensures high { result ≤ 1000000 }
+    {
+        self.event_limit
+    }
+
+    /// The revisions in the store, in version order.
+    pub fn heads(&self) -> &[Revision]
+        ensures all { result.now ≡ self.now.heads }
+        ensures rising { AreHeads self.now.heads }
+    {
+        self.store.heads()
+    }
+
+    /// The revision of a held version. It costs a binary search.
+    pub fn held(&self, version: Version) -> Option<&Revision>
+        ensures { option_copied result ≡ held self.now.heads version }
+    {
+        self.store.held(version)
+    }
+
+    /// The items with two or more revisions in the store, in rising order. It costs a walk over the
+    /// items that were ever held.
+    pub fn conflicts(&self) -> Result<Vec<ItemId>, AllocError>
+        ensures { IfOk result (λ items. AreConflicts self.now.heads items.items) }
+    {
+        self.store.conflicts()
+    }
+
+    /// Whether the version is known for the item. Its cost is that of the form of knowledge.
+    pub fn knows(&self, item: ItemId, version: Version) -> bool
+        ensures { result ≡ K.form.known self.now.knowledge item version }
+    {
+        self.knowledge.knows(item, version)
+    }
+
+    /// What is known.
+    pub fn knowledge(&self) -> &K
+        ensures { result.now ≡ self.now.knowledge }
+    {
+        &self.knowledge
+    }
+
+    /// The changes of the store, in order of time.
+    pub fn feed(&self) -> &[Entry]
+        ensures { result.now ≡ self.now.feed }
+    {
+        self.feed.entries()
+    }
+
+    /// The admitted events, in order of time.
+    pub fn log(&self) -> &[Event]
+        ensures all { result.now ≡ self.now.log }
+        ensures issued_few { self.now.issued ≤ length self.now.log }
+    {
+        &self.log
+    }
+}

@@ -1,0 +1,173 @@
+//! What no clause says: that calls find memory, and rows whose values were computed elsewhere.
+use crate::{Bases, Event, Filter, Refusal, Replica, ReplicaFault, Reply};
+use mr_feed::Entry;
+use mr_forms::PlainKnowledge;
+use mr_mail::{Day, Message};
+use mr_version::{Author, Version};
+use std::alloc::Global;
+use std::test::Fail;
+
+type PlainReplica = Replica<PlainKnowledge>;
+
+fn message(alloc: Global) -> Result<Message, Fail> {
+    let from = String::from_str(alloc, "ann")?;
+    let subject = String::from_str(alloc, "Hi")?;
+    let labels = Vec::new(alloc);
+    let day = Day::read("2026-01-05")?;
+    Ok(Message::try_new(alloc, from, subject, Vec::new(alloc), labels, 0, day)?)
+}
+
+/// The event of a line: `create`, or the bases of an edit.
+fn event_of(alloc: Global, line: &str) -> Result<Event, Fail> {
+    if line == "create" {
+        return Ok(Event::Create(message(alloc)?));
+    }
+    let mut bases = Vec::new(alloc);
+    for base in line.split_whitespace() {
+        bases.push(Version::read(base)?)?;
+    }
+    Ok(Event::Edit(Bases::new(bases), message(alloc)?))
+}
+
+/// The answer: the version, or the refusal's name, number and text.
+fn answer_text(alloc: Global, answer: Result<Reply, Refusal>) -> Result<String, Fail> {
+    match answer {
+        Ok(reply) => issued_text(alloc, reply),
+        Err(refusal) => refusal_text(alloc, refusal),
+    }
+}
+
+fn issued_text(alloc: Global, reply: Reply) -> Result<String, Fail> {
+    let Reply::Issued(version) = reply;
+    Ok(version.text(alloc)?)
+}
+
+fn refusal_text(alloc: Global, refusal: Refusal) -> Result<String, Fail> {
+    let number = refusal.number();
+    let name = refusal.name();
+    Ok(format!(in alloc; "{number} {name}, {refusal}")?)
+}
+
+/// The answers to these lines, each behind a mark.
+fn answers(alloc: Global, replica: &mut PlainReplica, lines: &[&str]) -> Result<String, Fail> {
+    let mut text = String::new(alloc);
+    for line in lines {
+        let answer = replica.step(event_of(alloc, line)?);
+        text.push_str("; ")?;
+        text.push_str(answer_text(alloc, answer)?.as_str())?;
+    }
+    Ok(text)
+}
+
+/// The feed as it is printed: a sign and the version of each entry.
+fn feed_text(alloc: Global, entries: &[Entry]) -> Result<String, Fail> {
+    let mut text = String::new(alloc);
+    for entry in entries {
+        text.push_str(match entry {
+            Entry::Added { .. } => " +",
+            Entry::Dropped { .. } => " -",
+        })?;
+        text.push_str(entry.version().text(alloc)?.as_str())?;
+    }
+    Ok(text)
+}
+
+/// The heads' versions.
+fn heads_text(alloc: Global, replica: &PlainReplica) -> Result<String, Fail> {
+    let mut text = String::new(alloc);
+    for revision in replica.heads() {
+        text.push(' ')?;
+        text.push_str(revision.version().text(alloc)?.as_str())?;
+    }
+    Ok(text)
+}
+
+fn replica_of(alloc: Global, event_limit: u32) -> Result<PlainReplica, Fail> {
+    Ok(Replica::try_new(alloc, Author::try_new(0)?, Filter::all(), event_limit)?)
+}
+
+#[test]
+fn ample_memory(rt: HostRuntime) -> Result<(), Fail> {
+    let alloc = rt.alloc();
+    let mut replica = replica_of(alloc, 1_000_000)?;
+    let answers = answers(alloc, &mut replica, &["create", "0.1 0.1"])?;
+    assert_eq!(rt; answers.as_str(), "; 0.1; 0.2");
+    assert_eq!(rt; replica.conflicts()?.len(), 0);
+    Ok(())
+}
+
+#[test]
+fn full_log(rt: HostRuntime) -> Result<(), Fail> {
+    let alloc = rt.alloc();
+    let mut replica = replica_of(alloc, 2)?;
+    let answers = answers(
+        alloc,
+        &mut replica,
+        &["create", "0.1", "create", "0.2", "0.1"],
+    )?;
+    assert_eq!(rt;
+        answers.as_str(),
+        "; 0.1; 0.2; 8 LogFull, the log is full; 8 LogFull, the log is full; 3 NotHeld, the base 0.1 is not held"
+    );
+    assert_eq!(rt; heads_text(alloc, &replica)?.as_str(), " 0.2");
+    assert_eq!(rt;
+        feed_text(alloc, replica.feed())?.as_str(),
+        " +0.1 -0.1 +0.2"
+    );
+    assert_eq!(rt; replica.log().len(), 2);
+    Ok(())
+}
+
+#[test]
+fn refusals_of_edits(rt: HostRuntime) -> Result<(), Fail> {
+    let alloc = rt.alloc();
+    let mut replica = replica_of(alloc, 9)?;
+    let lines = ["", "0.1", "create", "create", "0.1 0.2", "0.1 9.9 8.8 0.2"];
+    let answers = answers(alloc, &mut replica, &lines)?;
+    assert_eq!(rt;
+        answers.as_str(),
+        "; 2 NoBase, the edit names no base; 3 NotHeld, the base 0.1 is not held; 0.1; 0.2; 4 MixedItems, the bases are versions of several items; 3 NotHeld, the base 9.9 is not held"
+    );
+    assert_eq!(rt; heads_text(alloc, &replica)?.as_str(), " 0.1 0.2");
+    assert_eq!(rt; replica.log().len(), 2);
+    Ok(())
+}
+
+#[test]
+fn edits_of_one_item_among_several(rt: HostRuntime) -> Result<(), Fail> {
+    let alloc = rt.alloc();
+    let mut replica = replica_of(alloc, 9)?;
+    let _answers = answers(alloc, &mut replica, &["create", "create", "0.1", "0.3"])?;
+    assert_eq!(rt; heads_text(alloc, &replica)?.as_str(), " 0.2 0.4");
+    assert_eq!(rt;
+        feed_text(alloc, replica.feed())?.as_str(),
+        " +0.1 +0.2 -0.1 +0.3 -0.3 +0.4"
+    );
+    assert!(rt; replica.held(Version::read("0.4")?).is_some());
+    Ok(())
+}
+
+#[test]
+fn limits_of_the_log(rt: HostRuntime) -> Result<(), Fail> {
+    let alloc = rt.alloc();
+    let id = Author::try_new(63)?;
+    for event_limit in [0, 1_000_001, u32::MAX] {
+        let refused: Result<PlainReplica, ReplicaFault> = Replica::try_new(
+            alloc,
+            id,
+            Filter::all(),
+            event_limit,
+        );
+        assert_eq!(rt; refused.err().map(ReplicaFault::number), Some(1));
+    }
+    for event_limit in [1, 1_000_000] {
+        let made: Result<PlainReplica, ReplicaFault> = Replica::try_new(
+            alloc,
+            id,
+            Filter::all(),
+            event_limit,
+        );
+        assert!(rt; made.is_ok());
+    }
+    Ok(())
+}

@@ -1,0 +1,15 @@
+use Rattle.std.proofs.Common.{ℕ, ◌+◌, ◌≤◌, List, Option}
+use Rattle.std.specs.Io.Buffered.{reader_remaining}
+use Rattle.std.specs.Io.Take.{take_remaining}
+use Rattle.mr_script.specs.Script.{Accounts}
+use Rattle.mr_script.proofs.script.run_lines.Given as goal
+
+-- what was taken is accounted for, and each line before this one took a byte
+pub record IsReadSoFar (script left : Option (List ℕ)) (taken number : ℕ) : Type 0 where
+  pub within : taken ≤ 16777216
+  pub counted : Accounts script left taken
+  pub lines : number ≤ taken + 1
+
+abbrev pub invariant-loop-number : goal.invariant-loop-number
+invariant-loop-number g l =
+    IsReadSoFar (g.R.Read.remaining l.fn.reader) (reader_remaining (take_remaining g.R.Read.remaining) l.source.reader) l.source.taken l.number-counter

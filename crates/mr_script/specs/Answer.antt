@@ -1,0 +1,87 @@
+-- the texts of answers, each a line with its line feed
+use Rattle.std.specs.Prelude.{◌≡◌, ℕ, List, [], ◌∷◌, ◌++◌, Option, Some, None, map, filter, codes}
+use Rattle.std.specs.List.{concat, flat_map, join_by}
+use Rattle.std.specs.Fmt.{decimal}
+use Rattle.mr_version.specs.Name.{Name, name_text}
+use Rattle.mr_mail.specs.Day.{Spells}
+use Rattle.mr_mail.specs.Flag.{flag_name, has_flag, all_flags}
+use Rattle.mr_feed.specs.declared.entry.Entry.{Entry}
+use Rattle.mr_feed.specs.declared.entry.Entry.TheVariants.{Added, Dropped}
+use Rattle.mr_replica.specs.declared.event.Reply.{Reply}
+use Rattle.mr_replica.specs.declared.event.Reply.TheVariants.{Issued}
+use Rattle.mr_replica.specs.declared.refusal.Refusal.{Refusal}
+use Rattle.mr_replica.specs.declared.refusal.Refusal.TheVariants.{NotHeld, OwnHeadLeft}
+use Rattle.mr_replica.specs.Refusal.{refusal_number, refusal_name}
+use Rattle.mr_replica.specs.Revision.{Rev}
+
+-- `issued V`
+abbrev pub reply_text : Reply → List ℕ
+reply_text (Issued version) = codes "issued " ++ name_text version ++ codes "\n"
+
+-- the version that a refusal is about
+abbrev pub named_version : Refusal → Option Name
+named_version (NotHeld version) = Some version
+named_version (OwnHeadLeft version) = Some version
+named_version refusal = None
+
+-- a version after a space, if there is one
+abbrev pub spaced : Option Name → List ℕ
+spaced None = []
+spaced (Some version) = codes " " ++ name_text version
+
+-- `refused N Name`, and the version that is named
+abbrev pub refused_text : Refusal → List ℕ
+refused_text refusal =
+    concat (codes "refused " ∷ decimal (refusal_number refusal) ∷ codes " " ∷ refusal_name refusal ∷ spaced (named_version refusal) ∷ codes "\n" ∷ [])
+
+-- each version after a space
+abbrev pub spaced_versions : List Rev → List ℕ
+spaced_versions heads = flat_map (λ r. codes " " ++ name_text r.version) heads
+
+-- `heads R:` and the versions
+abbrev pub heads_text : ℕ → List Rev → List ℕ
+heads_text replica heads = codes "heads " ++ decimal replica ++ codes ":" ++ spaced_versions heads ++ codes "\n"
+
+-- `+V` for a version that entered, `-V` for one that left
+abbrev pub entry_text : Entry → List ℕ
+entry_text (Added item version card) = codes " +" ++ name_text version
+entry_text (Dropped item version) = codes " -" ++ name_text version
+
+-- `feed R:` and each entry after a space
+abbrev pub feed_text : ℕ → List Entry → List ℕ
+feed_text replica entries = codes "feed " ++ decimal replica ++ codes ":" ++ flat_map entry_text entries ++ codes "\n"
+
+-- `log R: N`
+abbrev pub log_text : ℕ → ℕ → List ℕ
+log_text replica count = concat (codes "log " ∷ decimal replica ∷ codes ": " ∷ decimal count ∷ codes "\n" ∷ [])
+
+-- texts with a separator between each two, or a dot where there is none
+abbrev pub joined : List ℕ → List (List ℕ) → List ℕ
+joined separator [] = codes "."
+joined separator (text ∷ texts) = join_by (λ t. t) separator (text ∷ texts)
+
+-- the names of a flag byte's flags
+abbrev pub flags_text : ℕ → List ℕ
+flags_text flags = joined (codes "+") (map flag_name (filter (has_flag flags) all_flags))
+
+-- a subject behind what stands before it: after a space, if it is not empty
+abbrev pub subject_text : List ℕ → List ℕ
+subject_text [] = []
+subject_text (b ∷ bs) = codes " " ++ b ∷ bs
+
+-- `show V LABELS FLAGS DATE FROM`, of these words
+abbrev pub shown_words : Name → List ℕ → List ℕ → List ℕ → List ℕ → List ℕ
+shown_words version labels flags date from =
+    concat (codes "show " ∷ name_text version ∷ codes " " ∷ labels ∷ codes " " ∷ flags ∷ codes " " ∷ date ∷ codes " " ∷ from ∷ [])
+
+-- `show V LABELS FLAGS DATE FROM SUBJECT` of a revision, with this text of its day
+abbrev pub shown_text : Rev → List ℕ → List ℕ
+shown_text r date =
+    shown_words r.version (joined (codes ",") r.message.labels) (flags_text r.message.flags) date r.message.from
+    ++ subject_text r.message.subject ++ codes "\n"
+
+-- the line shows the revision
+pub record Shows (r : Rev) (line : List ℕ) : Type 0 where
+  pub date : List ℕ
+  pub is_date : Spells date r.message.day
+  pub written : line ≡ shown_text r date

@@ -1,0 +1,29 @@
+-- faults of a line
+use Rattle.std.specs.Prelude.{ℕ, ◌≤◌, ⊤}
+use Rattle.mr_mail.specs.Fault.{fault_number}
+use Rattle.mr_mail.specs.declared.fault.MessageFault.{MessageFault}
+use Rattle.mr_mail.specs.declared.fault.MessageFault.TheVariants.{OutOfMemory as NoMemory}
+use Rattle.mr_script.specs.declared.fault.LineFault.{LineFault}
+use Rattle.mr_script.specs.declared.fault.LineFault.TheVariants.{OutOfMemory, MessageRefused}
+use Rattle.mr_script.specs.declared.fault.ScriptFault.{ScriptFault}
+use Rattle.mr_script.specs.declared.fault.ScriptFault.TheVariants.{Line, Read, Write, TooLong}
+use Rattle.mr_script.specs.declared.source.SourceFault.{SourceFault}
+use Rattle.mr_script.specs.declared.source.SourceFault.TheVariants as source
+
+-- how a script tells that words make no message: want of memory as such, all else by its number
+abbrev pub fault_of_message : MessageFault → LineFault
+fault_of_message NoMemory = OutOfMemory
+fault_of_message fault = MessageRefused (fault_number fault)
+
+-- what ends a script whose line of this number can't be had
+abbrev pub fault_of_source : ℕ → SourceFault → ScriptFault
+fault_of_source number source.OutOfMemory = Line number OutOfMemory
+fault_of_source number source.Read = Read
+fault_of_source number source.TooLong = TooLong
+
+-- a fault of a line has its number, from 1 to one past the most lines that a script can have
+abbrev pub NumbersItsLine : ScriptFault → Type 0
+NumbersItsLine (Line number fault) = (1 ≤ number) × (number ≤ 16777217)
+NumbersItsLine Read = ⊤
+NumbersItsLine Write = ⊤
+NumbersItsLine TooLong = ⊤

@@ -1,0 +1,5 @@
+pub mod Answer
+pub mod Fault
+pub mod List
+pub mod Number
+pub mod Script

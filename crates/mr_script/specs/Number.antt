@@ -1,0 +1,7 @@
+-- numbers as a script writes them
+use Rattle.std.specs.Prelude.{◌≡◌, ◌≢◌, ◌≤◌, ℕ, List, length, slice_index}
+
+-- no sign in front, and no leading zero
+pub record IsPlain (text : List ℕ) : Type 0 where
+  pub no_sign : slice_index text 0 ≢ 43
+  pub no_zeros : slice_index text 0 ≡ 48 → length text ≤ 1

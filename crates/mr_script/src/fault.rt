@@ -1,0 +1,106 @@
+//! Why a script ends before its end.
+ghost use Rattle.std.specs.Prelude.{◌≡◌};
+ghost use Rattle.mr_script.specs.declared.fault.LineFault.TheVariants.{OutOfMemory};
+ghost use Rattle.mr_script.specs.Fault.{fault_of_message};
+
+use mr_mail::MessageFault;
+use std::alloc::{AllocError, AllocFailed};
+use thiserror::Error;
+
+/// Why a line can't be run. Its text is what stands after the line's number on standard error.
+#[derive(Clone, Copy, Debug, PartialEq, Eq, Error)]
+pub enum LineFault {
+    /// The line is not UTF-8.
+    #[error("not text")]
+    NotText,
+    /// The first word is no command.
+    #[error("unknown command")]
+    UnknownCommand,
+    /// The line has too few or too many words for its command.
+    #[error("wrong words")]
+    WrongWords,
+    /// A word is no decimal number without leading zeros, or an id is over 63.
+    #[error("bad number")]
+    BadNumber,
+    /// A word is no version.
+    #[error("bad version")]
+    BadVersion,
+    /// A word is no date from 1970-01-01 to 2149-06-06.
+    #[error("bad date")]
+    BadDate,
+    /// A word is no list of flags.
+    #[error("bad flags")]
+    BadFlags,
+    /// The text of a filter is none from this place on, counted in bytes.
+    #[error("bad filter at {place}")]
+    BadFilter { place: u64 },
+    /// The parts of a message make none, for the reason that has this number among those of
+    /// `MessageFault`.
+    #[error("message refused {number}")]
+    MessageRefused { number: u8 },
+    /// A `replica` line comes after another command.
+    #[error("replica after the first event")]
+    LateReplica,
+    /// There is a replica of this id already.
+    #[error("same replica")]
+    SameReplica,
+    /// An event limit is outside 1 to 1,000,000.
+    #[error("bad limit")]
+    BadLimit,
+    /// A port's capacity is outside 1 to 4,096.
+    #[error("bad capacity")]
+    BadCapacity,
+    /// No replica has this id.
+    #[error("no such replica")]
+    NoSuchReplica,
+    /// A growth was refused.
+    #[error("out of memory")]
+    OutOfMemory,
+}
+
+/// Why a script ended before its end. Its text is what is printed on standard error.
+#[derive(Clone, Copy, Debug, PartialEq, Eq, Error)]
+pub enum ScriptFault {
+    /// A line can't be run. Lines are counted from 1.
+    #[error("line {line}: {fault}")]
+    Line { line: u64, fault: LineFault },
+    /// The reader failed.
+    #[error("read fault")]
+    Read,
+    /// The writer failed.
+    #[error("write fault")]
+    Write,
+    /// The script has more than 16,777,216 bytes.
+    #[error("script too long")]
+    TooLong,
+}
+
+impl From<AllocError> for LineFault {
+    ghost from_gives = { λ _ fault. fault ≡ OutOfMemory };
+
+    fn from(_error: AllocError) -> LineFault {
+        LineFault::OutOfMemory
+    }
+}
+
+impl<T: Drop> From<AllocFailed<T>> for LineFault {
+    ghost from_gives = { λ _ fault. fault ≡ OutOfMemory };
+
+    fn from(_error: AllocFailed<T>) -> LineFault {
+        LineFault::OutOfMemory
+    }
+}
+
+/// A message's fault but for want of memory is told by its number.
+impl From<MessageFault> for LineFault {
+    ghost from_gives = { λ error fault. fault ≡ fault_of_message error };
+
+    fn from(error: MessageFault) -> LineFault {
+        match error {
+            MessageFault::OutOfMemory => LineFault::OutOfMemory,
+            refused => LineFault::MessageRefused {
+                number: refused.number(),
+            },
+        }
+    }
+}

@@ -1,0 +1,54 @@
+//! Numbers: decimal, without leading zeros.
+ghost use Rattle.std.specs.Prelude.{◌≡◌, ◌<◌, ◌^◌, ◌↔◌, ℕ, Ok, Some, IsTrue, IfOk, IfErr, IfSome};
+ghost use Rattle.std.specs.Fmt.{decimal};
+ghost use Rattle.mr_script.specs.Number.{IsPlain};
+
+use crate::LineFault;
+use mr_version::Author;
+
+/// Whether the text has no sign in front and no leading zero.
+fn is_plain(text: &str) -> bool
+    ensures { IsTrue result ↔ IsPlain text.now }
+{
+    let bytes = text.as_bytes();
+    bytes.is_empty() || (bytes[0] != b'+' && (bytes[0] != b'0' || bytes.len() == 1))
+}
+
+/// The number below 2^64 whose decimal text this is.
+fn number_of(text: &str) -> Option<u64>
+    ensures spelled { IfSome result (λ n. text.now ≡ decimal n) }
+    ensures whole { (n : ℕ) → n < 2 ^ 64 → text.now ≡ decimal n → result ≡ Some n }
+{
+    if is_plain(text) {
+        text.parse().ok()
+    } else {
+        None
+    }
+}
+
+/// The number that the word is. `BadNumber` where it is none below 2^64.
+pub(crate) fn read_number(word: &str) -> Result<u64, LineFault>
+    ensures spelled { IfOk result (λ n. word.now ≡ decimal n) }
+    ensures whole { (n : ℕ) → n < 2 ^ 64 → word.now ≡ decimal n → result ≡ Ok n }
+    ensures fault { IfErr result (λ fault. fault ≡ LineFault.BadNumber) }
+{
+    number_of(word).ok_or(LineFault::BadNumber)
+}
+
+/// The author whose id has this decimal text.
+fn author_of(text: &str) -> Option<Author>
+    ensures spelled { IfSome result (λ id. text.now ≡ decimal id) }
+    ensures whole { (id : ℕ) → id < 64 → text.now ≡ decimal id → result ≡ Some id }
+{
+    let id = u16::try_from(number_of(text)?).ok()?;
+    Author::try_new(id).ok()
+}
+
+/// The replica's id that the word is. `BadNumber` where it is no number of 0 to 63.
+pub(crate) fn read_id(word: &str) -> Result<Author, LineFault>
+    ensures spelled { IfOk result (λ id. word.now ≡ decimal id) }
+    ensures whole { (id : ℕ) → id < 64 → word.now ≡ decimal id → result ≡ Ok id }
+    ensures fault { IfErr result (λ fault. fault ≡ LineFault.BadNumber) }
+{
+    author_of(word).ok_or(LineFault::BadNumber)
+}

@@ -1,0 +1,89 @@
+//! The lines of a script, out of a reader.
+ghost use Rattle.std.specs.Prelude.{◌≡◌, ◌≢◌, ◌≤◌, ◌<◌, ℕ, List, Option, Err, IsTrue, IfOk, OnOk, IfSome, length};
+ghost use Rattle.std.specs.Io.Buffered.{reader_remaining};
+ghost use Rattle.std.specs.Io.Take.{take_remaining};
+ghost use Rattle.mr_script.specs.Script.{Accounts};
+
+use crate::ScriptFault;
+use std::alloc::Global;
+use std::io::{BufRead, BufReader, Error, ErrorKind, Read, Take};
+
+/// The most bytes of a script.
+pub(crate) const MAX_SCRIPT_BYTES: u64 = 16_777_216;
+
+/// How many bytes are asked of the reader at once.
+const READ_BYTES: usize = 65_536;
+
+/// Why there is no next line.
+#[derive(Clone, Copy, Debug, PartialEq, Eq)]
+pub(crate) enum SourceFault {
+    OutOfMemory,
+    Read,
+    TooLong,
+}
+
+impl SourceFault {
+    fn of(error: Error) -> SourceFault
+        ensures { result ≢ SourceFault.TooLong }
+    {
+        match error.kind() {
+            ErrorKind::OutOfMemory => SourceFault::OutOfMemory,
+            _ => SourceFault::Read,
+        }
+    }
+}
+
+/// A script that is read line by line.
+///
+/// No more than one byte past the most that a script may have is asked of the reader.
+#[derive(Drop)]
+pub(crate) struct Source<R> {
+    reader: BufReader<Take<R>>,
+    taken: u64,
+}
+
+impl<R: Read + Drop> Source<R> {
+    /// The script that the reader gives.
+    pub(crate) fn try_new(alloc: Global, reader: R) -> Result<Source<R>, SourceFault>
+        ensures counted { IfOk result (λ source. Accounts (R.remaining reader)
+            (reader_remaining (take_remaining R.remaining) source.reader) source.taken) }
+        ensures none_taken { IfOk result (λ source. source.taken ≡ 0) }
+        ensures fault { result ≢ Err SourceFault.TooLong }
+    {
+        let limited = reader.take(MAX_SCRIPT_BYTES + 1);
+        let reader = BufReader::with_capacity(alloc, READ_BYTES, limited).map_err(SourceFault::of)?;
+        Ok(Source { reader, taken: 0 })
+    }
+
+    /// Whether the next line has been read already, so that taking it waits for nobody.
+    pub(crate) fn has_line(&self) -> bool {
+        self.reader.buffer().contains(&b'\n')
+    }
+
+    /// Puts the next line into `line`, without its line feed, and answers whether there was one.
+    pub(crate) fn next_line(&mut self, line: &mut Vec<u8>) -> Result<bool, SourceFault>
+        requires { self.old.taken ≤ 16777216 }
+        ensures few { OnOk result (self.new.taken ≤ 16777216) }
+        ensures more { IfOk result (λ is_line. IsTrue is_line → self.old.taken < self.new.taken) }
+        ensures counted { (script : Option (List ℕ))
+            → Accounts script (reader_remaining (take_remaining R.remaining) self.old.reader) self.old.taken
+            → OnOk result (Accounts script (reader_remaining (take_remaining R.remaining) self.new.reader) self.new.taken) }
+        ensures too_long { (script : Option (List ℕ))
+            → Accounts script (reader_remaining (take_remaining R.remaining) self.old.reader) self.old.taken
+            → result ≡ Err SourceFault.TooLong → IfSome script (λ bytes. 16777216 < length bytes) }
+    {
+        line.clear();
+        self.reader
+            .read_until(b'\n', line)
+            .map_err(SourceFault::of)?;
+        let count = line.len();
+        self.taken = self.taken.saturating_add(count as u64);
+        if self.taken > MAX_SCRIPT_BYTES {
+            return Err(SourceFault::TooLong);
+        }
+        if line.last() == Some(&b'\n') {
+            line.truncate(line.len() - 1);
+        }
+        Ok(count > 0)
+    }
+}

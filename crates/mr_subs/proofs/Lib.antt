@@ -1,0 +1,5 @@
+pub mod SubscriberLemmas
+pub mod UnseenLemmas
+pub mod ShelfLemmas
+pub mod LabelLemmas
+pub mod IndexLemmas

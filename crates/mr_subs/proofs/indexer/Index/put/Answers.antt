@@ -1,0 +1,19 @@
+use Rattle.std.proofs.Common.{◌∙◌, sym, ap, subst, cond, Some, IsTrue}
+use Rattle.mr_version.specs.Name.{name_eq}
+use Rattle.mr_mail.specs.Label.{has_label}
+use Rattle.mr_subs.specs.Index.{card_at}
+use Rattle.mr_subs.proofs.IndexLemmas.{AreShelved-put}
+use Rattle.mr_subs.proofs.indexer.Index.put.Goals as goal
+
+pub invariant_of-self-in_default : goal.invariant_of-self-in_default
+invariant_of-self-in_default c =
+    AreShelved-put c.self.inside.cards.entries c.insert.new.self.entries c.self.inside.shelves.entries c.shelve_all.new.shelves.entries c.args.version c.in_ok-copy.field-0
+    c.in_ok-older.ensures.updates.0 c.self.invariant
+    (λ q h. c.in_ok-shelve_all.ensures.ok q (subst (λ ls. IsTrue (has_label ls q)) (ap (λ k. k.labels) c.in_ok-copy.ensures ∙ sym c.labels.ensures.value) h))
+    c.shelve_all.ensures.kept
+
+pub returns-in-Some-clause-ok : goal.returns-in-Some-clause-ok
+returns-in-Some-clause-ok c v = rw (← c.self.view_is) (c.in_ok-older.ensures.updates.0 v ∙ ap (λ k. cond (name_eq c.args.version v) (Some k) (card_at c.self.inside.cards.entries v)) c.in_ok-copy.ensures)
+
+pub returns-in_default-clause-ok : goal.returns-in_default-clause-ok
+returns-in_default-clause-ok c v = rw (← c.self.view_is) (c.in_ok-older.ensures.updates.0 v ∙ ap (λ k. cond (name_eq c.args.version v) (Some k) (card_at c.self.inside.cards.entries v)) c.in_ok-copy.ensures)

@@ -1,0 +1,3 @@
+pub mod Subscriber
+pub mod Unseen
+pub mod Index
