@@ -1,12 +1,17 @@
 mod MeaningLemmas
 mod SearchLemmas
 mod TextLemmas
+mod ZipLemmas
 mod CutLemmas
 mod SpellingLemmas
 mod CombineLemmas
 mod ReadsLemmas
 mod Progress
 mod ColonLemmas
+mod CountLemmas
+mod PlaceLemmas
+mod DraftLemmas
 mod Reading
 mod LabelLemmas
 mod UniqueLemmas
+mod WrittenLemmas

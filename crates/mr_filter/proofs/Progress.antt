@@ -1,5 +1,5 @@
 -- how far a walk over the pieces of a text has come
-use Rattle.std.proofs.Common.{◌≡◌, ℕ, ◌+◌, List, [], ◌∷◌, ◌++◌, length, refl, sym, ◌∙◌, ap, arith, append_assoc, true, false, eqb, Option, Some, None}
+use Rattle.std.proofs.Common.{◌≡◌, ℕ, ◌+◌, List, [], ◌∷◌, ◌++◌, length, sym, ◌∙◌, ap, arith, append_assoc, true, false, eqb, Option, Some, None}
 use Rattle.std.specs.Option.{MatchOption, IfSome, IfNone, is_some}
 use Rattle.std.proofs.lemmas.Bool.{true≢false, false≢true}
 use Rattle.std.specs.Cmp.Lexicographic.{pointwise}
@@ -15,9 +15,6 @@ pub record HasPassed (mark : ℕ) (Fine : List ℕ → Type 0) (text rest : List
   pub fine : AllByRecursion Fine before
   pub place_is : place ≡ width before
   pub left : place + length rest ≡ length text
-
-pub HasPassed-none : (mark : ℕ) (Fine : List ℕ → Type 0) (text : List ℕ) → HasPassed mark Fine text text 0
-HasPassed-none mark Fine text = record { before = []; pieces = refl; fine = tt; place_is = refl; left = omega arith }
 
 AllByRecursion-push : (Fine : List ℕ → Type 0) (before : List (List ℕ)) (piece : List ℕ) → AllByRecursion Fine before → Fine piece → AllByRecursion Fine (before ++ piece ∷ [])
 AllByRecursion-push Fine [] piece each here = (here, tt)

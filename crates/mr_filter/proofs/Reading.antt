@@ -1,70 +1,60 @@
 -- how far the reading of a text has come
-use Rattle.std.proofs.Common.{◌≡◌, ℕ, suc, length, ◌+◌, ◌<◌, ◌≤◌, max, ◌++◌, List, [], ◌∷◌, refl, sym, ◌∙◌, ap, inl, inr, codes, arith, append_assoc, append-nil}
+use Rattle.std.proofs.Common.{◌≡◌, ℕ, length, ◌<◌, ◌≤◌, Bool, true, false, ◌||◌, ◌++◌, List, [], ◌∷◌, refl, sym, ◌∙◌, ap, subst, inl, inr, codes, arith, append_assoc}
 use Rattle.std.specs.Int.Bits.{or_zero_r}
 use Rattle.std.specs.Int.RustNames.{bit_or}
-use Rattle.std.specs.List.{AllZip, All, AllByRecursion}
+use Rattle.std.specs.List.{AllZip, All, AllByRecursion, list_any}
+use Rattle.std.specs.List.Sorted.{IsStrictlySortedBy}
 use Rattle.std.specs.Str.{IsUtf8}
+use Rattle.std.proofs.lemmas.Bool.{false≢true}
 use Rattle.std.proofs.lemmas.List.Elements.{filter_map-append, All-push}
-use Rattle.mr_mail.specs.Flag.{bit_of}
-use Rattle.mr_mail.specs.Label.{different_labels}
+use Rattle.std.proofs.lemmas.List.Folds.{list_any-append}
+use Rattle.mr_mail.specs.Label.{text_eq, different_labels, AreLabelsOf}
 use Rattle.mr_filter.specs.Filter.{ClauseParts, IsClause, IsFilter}
-use Rattle.mr_filter.specs.Condition.{Condition, HasLabel, LacksLabel, HasFlag, LacksFlag, Since, SpellsCondition, wanted_label, barred_label, wanted_labels, barred_labels, bit_on, bit_off, bits_on, bits_off, latest_day}
-use Rattle.mr_filter.specs.Draft.{IsDraftOf, Finishes, with_condition}
-use Rattle.mr_filter.specs.Grammar.{pieces_of, clauses_of, IsCondition, IsClauseInGrammar, SpellsConditions, ReadsClause, NamesTooMany}
+use Rattle.mr_filter.specs.Condition.{Condition, SpellsCondition, Combines, label_count, wanted_label, barred_label, wanted_labels, barred_labels, bit_on, bit_off}
+use Rattle.mr_filter.specs.Draft.{IsWithCondition, label_count_with, no_condition}
+use Rattle.mr_filter.specs.Grammar.{pieces_of, clauses_of, IsCondition, IsClauseInGrammar, ReadsClause, NamesTooMany}
 use Rattle.mr_filter.proofs.CombineLemmas.{all_bits-append, latest_day-append}
+use Rattle.mr_filter.proofs.CountLemmas.{different_labels-le}
+use Rattle.mr_filter.proofs.ZipLemmas.{AllZip-append, length_zip}
 
--- a draft with one more condition is the draft of one more
-more_wanted : (draft : ClauseParts) (c : Condition) → (with_condition draft c).all_labels ≡ draft.all_labels ++ wanted_labels (c ∷ [])
-more_wanted draft (HasLabel label) = refl
-more_wanted draft (LacksLabel label) = sym (append-nil draft.all_labels)
-more_wanted draft (HasFlag flag) = sym (append-nil draft.all_labels)
-more_wanted draft (LacksFlag flag) = sym (append-nil draft.all_labels)
-more_wanted draft (Since day) = sym (append-nil draft.all_labels)
-
-more_barred : (draft : ClauseParts) (c : Condition) → (with_condition draft c).no_labels ≡ draft.no_labels ++ barred_labels (c ∷ [])
-more_barred draft (HasLabel label) = sym (append-nil draft.no_labels)
-more_barred draft (LacksLabel label) = refl
-more_barred draft (HasFlag flag) = sym (append-nil draft.no_labels)
-more_barred draft (LacksFlag flag) = sym (append-nil draft.no_labels)
-more_barred draft (Since day) = sym (append-nil draft.no_labels)
-
-more_on : (draft : ClauseParts) (c : Condition) → (with_condition draft c).flags_on ≡ bit_or draft.flags_on (bits_on (c ∷ []))
-more_on draft (HasLabel label) = sym (or_zero_r draft.flags_on)
-more_on draft (LacksLabel label) = sym (or_zero_r draft.flags_on)
-more_on draft (HasFlag flag) = ap (bit_or draft.flags_on) (sym (or_zero_r (bit_of flag)))
-more_on draft (LacksFlag flag) = sym (or_zero_r draft.flags_on)
-more_on draft (Since day) = sym (or_zero_r draft.flags_on)
-
-more_off : (draft : ClauseParts) (c : Condition) → (with_condition draft c).flags_off ≡ bit_or draft.flags_off (bits_off (c ∷ []))
-more_off draft (HasLabel label) = sym (or_zero_r draft.flags_off)
-more_off draft (LacksLabel label) = sym (or_zero_r draft.flags_off)
-more_off draft (HasFlag flag) = sym (or_zero_r draft.flags_off)
-more_off draft (LacksFlag flag) = ap (bit_or draft.flags_off) (sym (or_zero_r (bit_of flag)))
-more_off draft (Since day) = sym (or_zero_r draft.flags_off)
-
-more_since : (draft : ClauseParts) (c : Condition) → (with_condition draft c).since ≡ max draft.since (latest_day (c ∷ []))
-more_since draft (HasLabel label) = omega arith
-more_since draft (LacksLabel label) = omega arith
-more_since draft (HasFlag flag) = omega arith
-more_since draft (LacksFlag flag) = omega arith
-more_since draft (Since day) = omega arith
-
-pub IsDraftOf-more : (given : List Condition) (draft : ClauseParts) (c : Condition) → IsDraftOf given draft → IsDraftOf (given ++ c ∷ []) (with_condition draft c)
-IsDraftOf-more given draft c drafted = record {
-  wanted = more_wanted draft c ∙ ap (λ labels. labels ++ wanted_labels (c ∷ [])) drafted.wanted ∙ sym (filter_map-append wanted_label given (c ∷ []));
-  barred = more_barred draft c ∙ ap (λ labels. labels ++ barred_labels (c ∷ [])) drafted.barred ∙ sym (filter_map-append barred_label given (c ∷ []));
-  on = more_on draft c ∙ ap (λ bits. bit_or bits (bits_on (c ∷ []))) drafted.on ∙ sym (all_bits-append bit_on given (c ∷ []));
-  off = more_off draft c ∙ ap (λ bits. bit_or bits (bits_off (c ∷ []))) drafted.off ∙ sym (all_bits-append bit_off given (c ∷ []));
-  since = more_since draft c ∙ ap (λ day. max day (latest_day (c ∷ []))) drafted.since ∙ sym (latest_day-append given (c ∷ []));
+-- labels so far, with those of one more condition
+AreLabelsOf-more : (given labels added new : List (List ℕ)) → AreLabelsOf given labels → AreLabelsOf (labels ++ added) new → AreLabelsOf (given ++ added) new
+AreLabelsOf-more given labels added new so_far more = record {
+  rising = more.rising;
+  same = λ label.
+      more.same label
+      ∙ list_any-append (text_eq label) labels added
+      ∙ ap (λ has. has || list_any (text_eq label) added) (so_far.same label)
+      ∙ sym (list_any-append (text_eq label) given added);
 }
 
--- the pieces before the rest are conditions, which make the draft
+pub Combines-more : (given : List Condition) (old new : ClauseParts) (c : Condition) → Combines given old → IsWithCondition old c new → Combines (given ++ c ∷ []) new
+Combines-more given old new c so_far more = record {
+  wanted = rw (filter_map-append wanted_label given (c ∷ [])) (AreLabelsOf-more (wanted_labels given) old.all_labels (wanted_labels (c ∷ [])) new.all_labels so_far.wanted more.wanted);
+  barred = rw (filter_map-append barred_label given (c ∷ [])) (AreLabelsOf-more (barred_labels given) old.no_labels (barred_labels (c ∷ [])) new.no_labels so_far.barred more.barred);
+  on = more.on ∙ (λ i. bit_or (so_far.on i) (sym (or_zero_r (bit_on c)) i)) ∙ sym (all_bits-append bit_on given (c ∷ []));
+  off = more.off ∙ (λ i. bit_or (so_far.off i) (sym (or_zero_r (bit_off c)) i)) ∙ sym (all_bits-append bit_off given (c ∷ []));
+  since = let both = latest_day-append given (c ∷ []) in let was = so_far.since in let now = more.since in omega (arith, both, was, now);
+}
+
+-- no condition asks nothing
+pub Combines-none : Combines [] no_condition
+unfolding IsStrictlySortedBy
+Combines-none = record {
+  wanted = record { rising = tt; same = λ label. refl };
+  barred = record { rising = tt; same = λ label. refl };
+  on = refl;
+  off = refl;
+  since = refl;
+}
+
+-- the pieces before the rest are conditions, which the draft asks together
 pub record HasReadConditions (text rest : List ℕ) (draft : ClauseParts) : Type 0 where
   pub before : List (List ℕ)
   pub given : List Condition
   pub pieces : pieces_of text ≡ before ++ pieces_of rest
   pub spelled : AllZip SpellsCondition before given
-  pub drafted : IsDraftOf given draft
+  pub combined : Combines given draft
   pub utf8 : IsUtf8 rest
 
 -- the clauses before the rest are these
@@ -80,18 +70,12 @@ pub at_place : (P : List ℕ → Type 0) (before : List (List ℕ)) (x : List �
 at_place P [] x after each = each.0
 at_place P (y ∷ before) x after each = at_place P before x after each.1
 
-AllZip-append : {A B : Type 0} (R : A → B → Type 0) (xs : List A) (ys : List B) (x : A) (y : B) → AllZip R xs ys → R x y → AllZip R (xs ++ x ∷ []) (ys ++ y ∷ [])
-AllZip-append R [] [] x y each here = (here, tt)
-AllZip-append R [] (b ∷ ys) x y each here = absurd each
-AllZip-append R (a ∷ xs) [] x y each here = absurd each
-AllZip-append R (a ∷ xs) (b ∷ ys) x y each here = (each.0, AllZip-append R xs ys x y each.1 here)
-
 -- one more clause
 pub HasReadClauses-more : (text rest next piece : List ℕ) (clauses new : List ClauseParts) (clause : ClauseParts) → HasReadClauses text rest clauses → clauses_of rest ≡ piece ∷ clauses_of next → ReadsClause piece clause → IsClause clause → IsUtf8 next → new ≡ clauses ++ clause ∷ [] → HasReadClauses text next new
 HasReadClauses-more text rest next piece clauses new clause so_far cut read kept utf8 added = record {
   before = so_far.before ++ piece ∷ [];
   pieces = so_far.pieces ∙ ap (λ ps. so_far.before ++ ps) cut ∙ sym (append_assoc so_far.before (piece ∷ []) (clauses_of next));
-  read = rw added (AllZip-append ReadsClause so_far.before clauses piece clause so_far.read read);
+  read = rw added (AllZip-append ReadsClause so_far.before (piece ∷ []) clauses (clause ∷ []) so_far.read (read, tt));
   kept = rw added (All-push IsClause clauses clause so_far.kept kept);
   utf8 = utf8;
 }
@@ -99,47 +83,73 @@ HasReadClauses-more text rest next piece clauses new clause so_far cut read kept
 -- the last clause
 pub HasReadClauses-all : (text rest piece : List ℕ) (clauses new : List ClauseParts) (clause : ClauseParts) → HasReadClauses text rest clauses → clauses_of rest ≡ piece ∷ [] → ReadsClause piece clause → new ≡ clauses ++ clause ∷ [] → AllZip ReadsClause (clauses_of text) new
 HasReadClauses-all text rest piece clauses new clause so_far cut read added =
-    rw (so_far.pieces ∙ ap (λ ps. so_far.before ++ ps) cut, added) (AllZip-append ReadsClause so_far.before clauses piece clause so_far.read read)
+    rw (so_far.pieces ∙ ap (λ ps. so_far.before ++ ps) cut, added) (AllZip-append ReadsClause so_far.before (piece ∷ []) clauses (clause ∷ []) so_far.read (read, tt))
 
 -- one more condition
-pub HasReadConditions-more : (text rest next piece : List ℕ) (draft new : ClauseParts) (condition : Condition) → HasReadConditions text rest draft → pieces_of rest ≡ piece ∷ pieces_of next → SpellsCondition piece condition → IsUtf8 next → new ≡ with_condition draft condition → HasReadConditions text next new
+pub HasReadConditions-more : (text rest next piece : List ℕ) (draft new : ClauseParts) (condition : Condition) → HasReadConditions text rest draft → pieces_of rest ≡ piece ∷ pieces_of next → SpellsCondition piece condition → IsUtf8 next → IsWithCondition draft condition new → HasReadConditions text next new
 HasReadConditions-more text rest next piece draft new condition so_far cut spelled utf8 added = record {
   before = so_far.before ++ piece ∷ [];
   given = so_far.given ++ condition ∷ [];
   pieces = so_far.pieces ∙ ap (λ ps. so_far.before ++ ps) cut ∙ sym (append_assoc so_far.before (piece ∷ []) (pieces_of next));
-  spelled = AllZip-append SpellsCondition so_far.before so_far.given piece condition so_far.spelled spelled;
-  drafted = rw added (IsDraftOf-more so_far.given draft condition so_far.drafted);
+  spelled = AllZip-append SpellsCondition so_far.before (piece ∷ []) so_far.given (condition ∷ []) so_far.spelled (spelled, tt);
+  combined = Combines-more so_far.given draft new condition so_far.combined added;
   utf8 = utf8;
 }
 
 -- the last condition
-pub HasReadConditions-all : (text rest piece : List ℕ) (draft new : ClauseParts) (condition : Condition) → HasReadConditions text rest draft → pieces_of rest ≡ piece ∷ [] → SpellsCondition piece condition → new ≡ with_condition draft condition → (given : List Condition) × SpellsConditions text given × IsDraftOf given new
-HasReadConditions-all text rest piece draft new condition so_far cut spelled added = (
-  so_far.given ++ condition ∷ [],
-  inr (rw (so_far.pieces ∙ ap (λ ps. so_far.before ++ ps) cut) (AllZip-append SpellsCondition so_far.before so_far.given piece condition so_far.spelled spelled)),
-  rw added (IsDraftOf-more so_far.given draft condition so_far.drafted),
-)
-
--- a finished draft of a clause's conditions is what the clause's text means
-pub ReadsClause-finished : (text : List ℕ) (draft clause : ClauseParts) → (given : List Condition) × SpellsConditions text given × IsDraftOf given draft → Finishes draft clause → ReadsClause text clause
-ReadsClause-finished text draft clause (given, spelled, drafted) done = record {
-  given = given;
-  spelled = spelled;
-  combined = record {
-    wanted = rw (← drafted.wanted) done.wanted;
-    barred = rw (← drafted.barred) done.barred;
-    on = done.on ∙ drafted.on;
-    off = done.off ∙ drafted.off;
-    since = done.since ∙ drafted.since;
-  };
+pub HasReadConditions-all : (text rest piece : List ℕ) (draft new : ClauseParts) (condition : Condition) → HasReadConditions text rest draft → pieces_of rest ≡ piece ∷ [] → SpellsCondition piece condition → IsWithCondition draft condition new → ReadsClause text new
+HasReadConditions-all text rest piece draft new condition so_far cut spelled added = record {
+  given = so_far.given ++ condition ∷ [];
+  spelled = inr (rw (so_far.pieces ∙ ap (λ ps. so_far.before ++ ps) cut) (AllZip-append SpellsCondition so_far.before (piece ∷ []) so_far.given (condition ∷ []) so_far.spelled (spelled, tt)));
+  combined = Combines-more so_far.given draft new condition so_far.combined added;
 }
 
-pub NamesTooMany-drafted : (text : List ℕ) (draft : ClauseParts) → (given : List Condition) × SpellsConditions text given × IsDraftOf given draft → 8 < different_labels draft.all_labels + different_labels draft.no_labels → NamesTooMany text
-NamesTooMany-drafted text draft (given, spelled, drafted) many = record {
-  given = given;
-  spelled = spelled;
-  many = rw (← drafted.wanted, ← drafted.barred) many;
-}
+-- what is among the first labels is among all of them
+or_more : (a b c : Bool) → (a || b) ≡ true → (a || (b || c)) ≡ true
+or_more true b c some = refl
+or_more false true c some = refl
+or_more false false c some = absurd (false≢true some)
+
+different_labels-more : (given labels added later : List (List ℕ)) → AreLabelsOf given labels → different_labels (labels ++ added) ≤ different_labels (given ++ (added ++ later))
+different_labels-more given labels added later so_far =
+    different_labels-le (labels ++ added) (given ++ (added ++ later))
+    (λ label has.
+    let first : (list_any (text_eq label) labels || list_any (text_eq label) added) ≡ true = sym (list_any-append (text_eq label) labels added) ∙ has in
+    let here : (list_any (text_eq label) given || list_any (text_eq label) added) ≡ true = ap (λ b. b || list_any (text_eq label) added) (sym (so_far.same label)) ∙ first in
+    list_any-append (text_eq label) given (added ++ later)
+    ∙ ap (λ b. list_any (text_eq label) given || b) (list_any-append (text_eq label) added later)
+    ∙ or_more (list_any (text_eq label) given) (list_any (text_eq label) added) (list_any (text_eq label) later) here)
+
+label_count-more : (given later : List Condition) (draft : ClauseParts) (c : Condition) → Combines given draft → label_count_with draft c ≤ label_count (given ++ c ∷ later)
+label_count-more given later draft c so_far =
+    let wanted : different_labels (draft.all_labels ++ wanted_labels (c ∷ [])) ≤ different_labels (wanted_labels (given ++ c ∷ later)) =
+    rw (filter_map-append wanted_label given (c ∷ later), filter_map-append wanted_label (c ∷ []) later) (different_labels-more (wanted_labels given) draft.all_labels (wanted_labels (c ∷ [])) (wanted_labels later) so_far.wanted) in
+    let barred : different_labels (draft.no_labels ++ barred_labels (c ∷ [])) ≤ different_labels (barred_labels (given ++ c ∷ later)) =
+    rw (filter_map-append barred_label given (c ∷ later), filter_map-append barred_label (c ∷ []) later) (different_labels-more (barred_labels given) draft.no_labels (barred_labels (c ∷ [])) (barred_labels later) so_far.barred) in
+    omega (arith, wanted, barred)
+
+-- the conditions of pieces of which each is one
+conditions_spelled : (pieces : List (List ℕ)) → AllByRecursion IsCondition pieces → (given : List Condition) × AllZip SpellsCondition pieces given
+conditions_spelled [] each = ([], tt)
+conditions_spelled (p ∷ pieces) each =
+    let rest = conditions_spelled pieces each.1 in (each.0.0 ∷ rest.0, (each.0.1, rest.1))
+
+behind_place : (P : List ℕ → Type 0) (before : List (List ℕ)) (x : List ℕ) (after : List (List ℕ)) → AllByRecursion P (before ++ x ∷ after) → AllByRecursion P after
+behind_place P [] x after each = each.1
+behind_place P (y ∷ before) x after each = behind_place P before x after each.1
+
+-- a clause names too many labels if the conditions so far do with the next one, whatever follows
+pub NamesTooMany-so_far : (text rest piece : List ℕ) (after : List (List ℕ)) (draft : ClauseParts) (condition : Condition) → IsClauseInGrammar text → (text ≡ codes "all" → ⊥) → HasReadConditions text rest draft → pieces_of rest ≡ piece ∷ after → SpellsCondition piece condition → 8 < label_count_with draft condition → NamesTooMany text
+NamesTooMany-so_far text rest piece after draft condition fine other so_far cut spelled many =
+    let pieces : pieces_of text ≡ so_far.before ++ piece ∷ after = so_far.pieces ∙ ap (λ ps. so_far.before ++ ps) cut in
+    let each : AllByRecursion IsCondition (pieces_of text) = elim fine [ inl all ↦ absurd (other all) | inr each ↦ each ] in
+    let later = conditions_spelled after (behind_place IsCondition so_far.before piece after (rw (← pieces) each)) in
+    let most = label_count-more so_far.given later.0 draft condition so_far.combined in
+    record {
+      given = so_far.given ++ condition ∷ later.0;
+      spelled = inr (subst (λ ps. AllZip SpellsCondition ps (so_far.given ++ condition ∷ later.0)) (sym pieces) (AllZip-append SpellsCondition so_far.before (piece ∷ after) so_far.given (condition ∷ later.0) so_far.spelled (spelled, later.1)));
+      many = omega (arith, most, many);
+    }
 
 -- each piece of a clause that isn't `all` is a condition
 pub piece_in_grammar : (text : List ℕ) (before after : List (List ℕ)) (piece : List ℕ) → IsClauseInGrammar text → (text ≡ codes "all" → ⊥) → pieces_of text ≡ before ++ piece ∷ after → IsCondition piece
@@ -148,12 +158,6 @@ piece_in_grammar text before after piece fine other pieces =
       | inl all ↦ absurd (other all)
       | inr each ↦ at_place IsCondition before piece after (rw (← pieces) each)
     ]
-
-pub length_zip : {A B : Type 0} (R : A → B → Type 0) (xs : List A) (ys : List B) → AllZip R xs ys → length ys ≡ length xs
-length_zip R [] [] each = refl
-length_zip R [] (y ∷ ys) each = absurd each
-length_zip R (x ∷ xs) [] each = absurd each
-length_zip R (x ∷ xs) (y ∷ ys) each = ap suc (length_zip R xs ys each.1)
 
 -- the clauses of a text with at most sixteen are a filter
 pub IsFilter-read : (text : List ℕ) (clauses : List ClauseParts) → AllZip ReadsClause (clauses_of text) clauses → All IsClause clauses → length (clauses_of text) ≤ 16 → IsFilter clauses

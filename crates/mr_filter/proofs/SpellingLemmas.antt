@@ -6,14 +6,12 @@ use Rattle.std.specs.Cmp.{first_so, second_so}
 use Rattle.std.specs.Cmp.Derive.{both_true}
 use Rattle.std.proofs.lemmas.Bool.{leb-true, eqb-true, ne_eqb}
 use Rattle.std.proofs.lemmas.List.Folds.{list_all-append}
-use Rattle.jiff_core.proofs.SignedLemmas.{signed_arith}
-use Rattle.jiff_core.proofs.CalendarLemmas.{days_in_month_bounds}
-use Rattle.jiff_core.proofs.DateLemmas.{civil}
 use Rattle.mr_mail.specs.declared.flags.Flag.{Flag}
 use Rattle.mr_mail.specs.declared.flags.Flag.TheVariants.{Seen, Answered, Flagged, Draft, Deleted}
 use Rattle.mr_mail.specs.Flag.{flag_name}
 use Rattle.mr_mail.specs.Label.{is_label_byte}
-use Rattle.mr_mail.specs.Day.{Spells, IsDayOf, two_digits}
+use Rattle.mr_mail.specs.Day.{Spells, two_digits}
+use Rattle.mr_mail.proofs.DayLemmas.{IsDayOf_bounds}
 use Rattle.mr_filter.specs.Condition.{Condition, HasLabel, LacksLabel, HasFlag, LacksFlag, Since, kind_of, IsValueOf, SpellsCondition}
 use Rattle.mr_filter.proofs.MeaningLemmas.{or_cases}
 
@@ -62,18 +60,12 @@ two_digits-plain n small =
     both_true (is_plain-from (48 + n / 10) (λ e. omega arith) (λ e. omega arith))
     (both_true (is_plain-from (48 + n % 10) (λ e. omega arith) (λ e. omega arith)) refl)
 
--- the parts of a date have four, two and two digits
-IsDayOf-bounds : (year month day_of_month day : ℕ) → IsDayOf year month day_of_month day → (year < 10000) × (month < 100) × (day_of_month < 100)
-IsDayOf-bounds year month day_of_month day h =
-    let date = civil h.date in
-    (omega (arith, signed_arith, h.parts.0, date.0), omega (arith, signed_arith, h.parts.1, date.1), omega (arith, signed_arith, h.parts.2, date.2, days_in_month_bounds h.date.year h.date.month))
-
 joined_plain : (xs ys : List ℕ) → list_all is_plain xs ≡ true → list_all is_plain ys ≡ true → list_all is_plain (xs ++ ys) ≡ true
 joined_plain xs ys first second = list_all-append is_plain xs ys ∙ both_true first second
 
 date-plain : (date : List ℕ) (day : ℕ) → Spells date day → list_all is_plain date ≡ true
 date-plain date day s =
-    let b = IsDayOf-bounds s.year s.month s.day_of_month day s.is_day in
+    let b = IsDayOf_bounds s.year s.month s.day_of_month day s.is_day in
     let century : s.year / 100 < 100 = omega (arith, b.0) in
     let year : s.year % 100 < 100 = omega arith in
     let front : List ℕ = two_digits (s.year / 100) ++ two_digits (s.year % 100) in

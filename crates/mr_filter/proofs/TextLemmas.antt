@@ -14,6 +14,7 @@ use Rattle.mr_mail.specs.Label.{texts_of, is_label}
 use Rattle.mr_filter.specs.Filter.{ClauseParts, IsClause}
 use Rattle.mr_filter.specs.Condition.{HasLabel, LacksLabel, HasFlag, LacksFlag, Since, SpellsCondition}
 use Rattle.mr_filter.specs.Text.{IsClauseText, since_condition, SpellsMore, join_or}
+use Rattle.mr_filter.proofs.ZipLemmas.{AllZip-append}
 
 -- a loop's step: one more text at the end
 pub texts_of-push : {X : Type 0} (f : X → List ℕ) (before : List (List ℕ)) (items new : List (String Global)) (text : String Global) (xs : List X) (i : ℕ) (x d : X) → i < length xs → x ≡ get_or xs i d → string_bytes text ≡ f x → texts_of items ≡ before ++ map f (take i xs) → new ≡ items ++ text ∷ [] → texts_of new ≡ before ++ map f (take (i + 1) xs)
@@ -32,12 +33,6 @@ join_or-cons none separator text [] = sym (append-nil text)
 join_or-cons none separator text (next ∷ more) =
     ap (λ rest. text ++ (separator ++ rest)) (join_or-cons none separator next more)
     ∙ ap (λ rest. text ++ rest) (sym (append_assoc separator next (flat_map (λ part. separator ++ part) more)))
-
-pub AllZip-append : {A B : Type 0} (R : A → B → Type 0) (xs us : List A) (ys vs : List B) → AllZip R xs ys → AllZip R us vs → AllZip R (xs ++ us) (ys ++ vs)
-AllZip-append R [] us [] vs first second = second
-AllZip-append R [] us (y ∷ ys) vs first second = absurd first
-AllZip-append R (x ∷ xs) us [] vs first second = absurd first
-AllZip-append R (x ∷ xs) us (y ∷ ys) vs first second = (first.0, AllZip-append R xs us ys vs first.1 second)
 
 -- a loop's step: one more pair at the end
 pub AllZip-push : {A B : Type 0} (R : A → B → Type 0) (xs : List A) (i : ℕ) (x : A) (ys new : List B) (y : B) → i < length xs → x ≡ get_or xs i x → AllZip R (take i xs) ys → R x y → new ≡ ys ++ y ∷ [] → AllZip R (take (i + 1) xs) new

@@ -1,15 +1,13 @@
 -- a text means one filter, and one that means a filter has no fault
-use Rattle.std.proofs.Common.{◌≡◌, ℕ, ◌+◌, ◌/◌, ◌%◌, ◌≤◌, ◌⊎◌, false, eqb, List, [], ◌∷◌, ◌++◌, length, get_or, refl, sym, ◌∙◌, ap, subst, inl, inr, arith, codes}
-use Rattle.std.specs.List.{All, AllZip, AllByRecursion, list_any}
+use Rattle.std.proofs.Common.{◌≡◌, ℕ, ◌+◌, ◌/◌, ◌%◌, true, false, Result, Ok, Err, eqb, List, [], ◌∷◌, ◌++◌, length, get_or, refl, sym, ◌∙◌, ap, subst, inl, inr, arith, codes}
+use Rattle.std.specs.List.{AllZip, AllByRecursion, list_any}
 use Rattle.std.specs.BTreeSet.{BTreeSet}
 use Rattle.std.specs.Ordering.{eq_by_cmp}
 use Rattle.std.specs.Cmp.Lexicographic.{nat_list_cmp_total, texts_ties}
+use Rattle.std.specs.Result.{IfOk, IfErr, is_err}
 use Rattle.std.proofs.lemmas.Bool.{false≢true}
-use Rattle.std.proofs.lemmas.List.Elements.{All-head, All-tail}
 use Rattle.std.proofs.lemmas.Map.Lookups.{btree_set_from_contains, exact_bytes}
 use Rattle.std.proofs.lemmas.Slice.Eq.{bytes_eq-Decides}
-use Rattle.jiff_core.proofs.SignedLemmas.{signed_arith}
-use Rattle.jiff_core.proofs.DateLemmas.{epoch_day_same}
 use Rattle.mr_mail.specs.declared.flags.Flag.{Flag}
 use Rattle.mr_mail.specs.declared.flags.Flag.TheVariants.{Seen, Answered, Flagged, Draft, Deleted}
 use Rattle.mr_mail.specs.Flag.{flag_name}
@@ -20,10 +18,12 @@ use Rattle.mr_filter.specs.Condition.{Condition, HasLabel, LacksLabel, HasFlag, 
 use Rattle.mr_filter.specs.declared.fault.FilterFault.{FilterFault}
 use Rattle.mr_filter.specs.declared.fault.FilterFault.TheVariants.{OutOfMemory, BadFilter, TooManyClauses, TooManyLabels}
 use Rattle.mr_filter.specs.Fault.{IsFaultOf}
-use Rattle.mr_filter.specs.Grammar.{pieces_of, clauses_of, SpellsConditions, ReadsClause, Reads, IsInGrammar, IsFirstBad, HasTooManyClauses, HasCrowdedClause, HasTooManyLabels}
+use Rattle.mr_filter.specs.Grammar.{pieces_of, clauses_of, SpellsConditions, ReadsClause, Reads, IsFirstBad, HasTooManyClauses, NamesTooMany, HasTooManyLabels}
 use Rattle.mr_filter.specs.Written.{LacksColon}
-use Rattle.mr_filter.proofs.LabelLemmas.{length-AreLabelsOf}
-use Rattle.mr_filter.proofs.Reading.{at_place, length_zip}
+use Rattle.mr_mail.proofs.DayLemmas.{IsDayOf_day}
+use Rattle.mr_mail.proofs.LabelLemmas.{length-AreLabelsOf}
+use Rattle.mr_filter.proofs.Reading.{at_place}
+use Rattle.mr_filter.proofs.ZipLemmas.{length_zip, zip_unique, zip_at, zip_kept}
 
 -- texts that a test tells apart are not the same
 apart : (xs ys : List ℕ) → text_eq xs ys ≡ false → xs ≡ ys → ⊥
@@ -70,16 +70,7 @@ date_digits-injective a b c d e f same =
 Spells-unique : (text : List ℕ) (a b : ℕ) → Spells text a → Spells text b → a ≡ b
 Spells-unique text a b x y =
     let parts = date_digits-injective x.year x.month x.day_of_month y.year y.month y.day_of_month (sym x.written ∙ y.written) in
-    let year_same = parts.0 in
-    let month_same = parts.1 in
-    let day_same = parts.2 in
-    let xd = x.is_day in
-    let yd = y.is_day in
-    let year : xd.date.year ≡ yd.date.year = omega (arith, signed_arith, xd.parts.0, yd.parts.0, year_same) in
-    let month : xd.date.month ≡ yd.date.month = omega (arith, signed_arith, xd.parts.1, yd.parts.1, month_same) in
-    let day : xd.date.day ≡ yd.date.day = omega (arith, signed_arith, xd.parts.2, yd.parts.2, day_same) in
-    let same = epoch_day_same xd.date yd.date year month day in
-    omega (arith, signed_arith, same, xd.counted, yd.counted)
+    IsDayOf_day y.year y.month y.day_of_month a b (rw (← parts.0, ← parts.1, ← parts.2) x.is_day) y.is_day
 
 -- a kind and a value are of one condition
 value_unique : (c d : Condition) (value : List ℕ) → kind_of c ≡ kind_of d → IsValueOf c value → IsValueOf d value → c ≡ d
@@ -94,17 +85,6 @@ SpellsCondition-unique : (text : List ℕ) (c d : Condition) → SpellsCondition
 SpellsCondition-unique text c d x y =
     let parts = colon_parts (kind_of c) (kind_of d) x.0 y.0 (kind_lacks c) (kind_lacks d) (sym x.2 ∙ y.2) in
     value_unique c d x.0 parts.0 x.1 (subst (IsValueOf d) (sym parts.1) y.1)
-
-zip_unique : {A B : Type 0} (R : A → B → Type 0) → ((x : A) (y z : B) → R x y → R x z → y ≡ z) → (xs : List A) (ys zs : List B) → AllZip R xs ys → AllZip R xs zs → ys ≡ zs
-zip_unique R one [] [] [] a b = refl
-zip_unique R one [] [] (z ∷ zs) a b = absurd b
-zip_unique R one [] (y ∷ ys) zs a b = absurd a
-zip_unique R one (x ∷ xs) [] zs a b = absurd a
-zip_unique R one (x ∷ xs) (y ∷ ys) [] a b = absurd b
-zip_unique R one (x ∷ xs) (y ∷ ys) (z ∷ zs) a b =
-    let head = one x y z a.0 b.0 in
-    let tail = zip_unique R one xs ys zs a.1 b.1 in
-    λ i. head i ∷ tail i
 
 -- what has no colon is no condition
 colon_stands : (k v : List ℕ) → LacksColon (k ++ 58 ∷ v) → ⊥
@@ -181,19 +161,6 @@ Reads-unique text a b x y =
       ]
     ]
 
--- what stands at a place of the one list has a partner in the other
-zip_at : {A B : Type 0} (R : A → B → Type 0) (before : List A) (x : A) (after : List A) (ys : List B) → AllZip R (before ++ x ∷ after) ys → (y : B) × R x y
-zip_at R [] x after [] each = absurd each
-zip_at R [] x after (y ∷ ys) each = (y, each.0)
-zip_at R (b ∷ before) x after [] each = absurd each
-zip_at R (b ∷ before) x after (y ∷ ys) each = zip_at R before x after ys each.1
-
-zip_kept : {A B : Type 0} (R : A → B → Type 0) (P : B → Type 0) (xs : List A) (ys : List B) → AllZip R xs ys → All P ys → AllZip (λ x y. R x y × P y) xs ys
-zip_kept R P [] [] each kept = tt
-zip_kept R P [] (y ∷ ys) each kept = absurd each
-zip_kept R P (x ∷ xs) [] each kept = absurd each
-zip_kept R P (x ∷ xs) (y ∷ ys) each kept = ((each.0, All-head P y ys kept), zip_kept R P xs ys each.1 (All-tail P y ys kept))
-
 -- a text that means a filter has no bad piece
 no_bad_piece : (text : List ℕ) (filter : List ClauseParts) (place : ℕ) → Reads text filter → IsFirstBad text place → ⊥
 no_bad_piece text filter place reads bad =
@@ -224,6 +191,25 @@ no_more_clauses text filter reads kept many =
           absurd (omega (arith, long))
     ]
 
+-- a clause's text that means a clause names no more labels than the clause has
+pub names_few : (text : List ℕ) (clause : ClauseParts) → ReadsClause text clause → IsClause clause → NamesTooMany text → ⊥
+names_few text clause read kept crowded =
+    let combined = subst (λ given. Combines given clause) (SpellsConditions-unique text read.given crowded.given read.spelled crowded.spelled) read.combined in
+    let wanted = length-AreLabelsOf _ _ combined.wanted in
+    let barred = length-AreLabelsOf _ _ combined.barred in
+    let more = crowded.many in
+    let few = kept.few in
+    absurd (omega (arith, wanted, barred))
+
+-- what the reading of a clause says of its labels
+pub crowded_at : {X E : Type 0} (found : Result X E) (P : Type 0) → IfErr found (λ _. P) → true ≡ is_err found → P
+crowded_at (Ok x) P many failed = absurd (false≢true (sym failed))
+crowded_at (Err e) P many failed = many
+
+pub uncrowded_at : {E : Type 0} (text : List ℕ) (found : Result ClauseParts E) → IfOk found (ReadsClause text) → IfOk found IsClause → false ≡ is_err found → NamesTooMany text → ⊥
+uncrowded_at text (Ok clause) read kept failed = names_few text clause read kept
+uncrowded_at text (Err e) read kept failed = absurd (false≢true failed)
+
 no_more_labels : (text : List ℕ) (filter : List ClauseParts) → Reads text filter → IsFilter filter → HasTooManyLabels text → ⊥
 no_more_labels text filter reads kept many =
     let crowded = many.crowded in
@@ -239,14 +225,7 @@ no_more_labels text filter reads kept many =
     ]
   where
     in_clause : (c : ClauseParts) × (ReadsClause many.crowded.clause c × IsClause c) → ⊥
-    in_clause (c, (read, in_limits)) =
-        let same = SpellsConditions-unique many.crowded.clause read.given many.crowded.many.given read.spelled many.crowded.many.spelled in
-        let combined = subst (λ given. Combines given c) same read.combined in
-        let wanted = length-AreLabelsOf _ _ combined.wanted in
-        let barred = length-AreLabelsOf _ _ combined.barred in
-        let more = many.crowded.many.many in
-        let few = in_limits.few in
-        absurd (omega (arith, wanted, barred))
+    in_clause (c, (read, in_limits)) = names_few many.crowded.clause c read in_limits many.crowded.many
 
 -- at a text that means a filter only memory can be wanting
 pub Reads-fault : (text : List ℕ) (filter : List ClauseParts) → Reads text filter → IsFilter filter → (fault : FilterFault) → IsFaultOf text fault → fault ≡ OutOfMemory
@@ -254,11 +233,3 @@ Reads-fault text filter reads kept OutOfMemory is = refl
 Reads-fault text filter reads kept (BadFilter place) is = absurd (no_bad_piece text filter place reads is)
 Reads-fault text filter reads kept TooManyClauses is = absurd (no_more_clauses text filter reads kept is)
 Reads-fault text filter reads kept TooManyLabels is = absurd (no_more_labels text filter reads kept is)
-
--- what stops the reading of clauses is a fault of the text
-pub IsFaultOf-clauses : (text : List ℕ) (fault : FilterFault) → (fault ≡ OutOfMemory) ⊎ ((fault ≡ TooManyLabels) × HasCrowdedClause text) → IsInGrammar text → length (clauses_of text) ≤ 16 → IsFaultOf text fault
-IsFaultOf-clauses text fault found in_grammar few =
-    elim found [
-      | inl memory ↦ subst (IsFaultOf text) (sym memory) (in_grammar, few)
-      | inr crowded ↦ subst (IsFaultOf text) (sym crowded.0) (record { in_grammar = in_grammar; few = few; crowded = crowded.1 })
-    ]

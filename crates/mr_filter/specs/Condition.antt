@@ -1,10 +1,10 @@
 -- single conditions, how each is spelled, and which clause a list of them makes
-use Rattle.std.specs.Prelude.{◌≡◌, ℕ, max, List, [], ◌∷◌, ◌++◌, Option, Some, None, IsTrue, codes}
+use Rattle.std.specs.Prelude.{◌≡◌, ℕ, ◌+◌, max, List, [], ◌∷◌, ◌++◌, Option, Some, None, IsTrue, codes}
 use Rattle.std.specs.Int.RustNames.{bit_or}
 use Rattle.std.specs.List.{filter_map}
 use Rattle.mr_mail.specs.declared.flags.Flag.{Flag}
 use Rattle.mr_mail.specs.Flag.{bit_of, flag_name}
-use Rattle.mr_mail.specs.Label.{is_label, AreLabelsOf}
+use Rattle.mr_mail.specs.Label.{is_label, different_labels, AreLabelsOf}
 use Rattle.mr_mail.specs.Day.{Spells}
 use Rattle.mr_filter.specs.Filter.{ClauseParts}
 
@@ -64,6 +64,10 @@ wanted_labels = filter_map wanted_label
 
 abbrev pub barred_labels : List Condition → List (List ℕ)
 barred_labels = filter_map barred_label
+
+-- how many labels are named, those that are wanted and those that are barred each once
+abbrev pub label_count : List Condition → ℕ
+label_count given = different_labels (wanted_labels given) + different_labels (barred_labels given)
 
 -- the flags that are named, together
 abbrev pub all_bits : (Condition → ℕ) → List Condition → ℕ

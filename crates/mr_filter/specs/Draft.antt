@@ -1,41 +1,24 @@
--- a clause in the making: its labels in the order in which they are named, each as often as it is
-use Rattle.std.specs.Prelude.{◌≡◌, max, List, [], ◌∷◌, ◌++◌}
+-- a clause in the making: what the conditions so far ask together
+use Rattle.std.specs.Prelude.{◌≡◌, ℕ, ◌+◌, max, [], ◌∷◌, ◌++◌}
 use Rattle.std.specs.Int.RustNames.{bit_or}
-use Rattle.std.specs.List.{AllPass}
-use Rattle.mr_mail.specs.Flag.{bit_of}
-use Rattle.mr_mail.specs.Label.{is_label, AreLabelsOf}
+use Rattle.mr_mail.specs.Label.{different_labels, AreLabelsOf}
 use Rattle.mr_filter.specs.Filter.{ClauseParts}
-use Rattle.mr_filter.specs.Condition.{Condition, HasLabel, LacksLabel, HasFlag, LacksFlag, Since, wanted_labels, barred_labels, bits_on, bits_off, latest_day}
+use Rattle.mr_filter.specs.Condition.{Condition, wanted_labels, barred_labels, bit_on, bit_off, first_day}
 
--- what each draft keeps
-pub record IsDraft (draft : ClauseParts) : Type 0 where
-  pub wanted : AllPass is_label draft.all_labels
-  pub barred : AllPass is_label draft.no_labels
-
--- the draft of no condition
+-- the clause of no condition
 abbrev pub no_condition : ClauseParts
 no_condition = record { all_labels = []; no_labels = []; flags_on = 0; flags_off = 0; since = 0 }
 
--- the draft with one more condition
-abbrev pub with_condition : ClauseParts → Condition → ClauseParts
-with_condition draft (HasLabel label) = record draft { all_labels = draft.all_labels ++ label ∷ [] }
-with_condition draft (LacksLabel label) = record draft { no_labels = draft.no_labels ++ label ∷ [] }
-with_condition draft (HasFlag flag) = record draft { flags_on = bit_or draft.flags_on (bit_of flag) }
-with_condition draft (LacksFlag flag) = record draft { flags_off = bit_or draft.flags_off (bit_of flag) }
-with_condition draft (Since day) = record draft { since = max draft.since day }
+-- the new clause asks what the old one does and what this condition does
+pub record IsWithCondition (old : ClauseParts) (condition : Condition) (new : ClauseParts) : Type 0 where
+  pub wanted : AreLabelsOf (old.all_labels ++ wanted_labels (condition ∷ [])) new.all_labels
+  pub barred : AreLabelsOf (old.no_labels ++ barred_labels (condition ∷ [])) new.no_labels
+  pub on : new.flags_on ≡ bit_or old.flags_on (bit_on condition)
+  pub off : new.flags_off ≡ bit_or old.flags_off (bit_off condition)
+  pub since : new.since ≡ max old.since (first_day condition)
 
--- the draft of these conditions
-pub record IsDraftOf (given : List Condition) (draft : ClauseParts) : Type 0 where
-  pub wanted : draft.all_labels ≡ wanted_labels given
-  pub barred : draft.no_labels ≡ barred_labels given
-  pub on : draft.flags_on ≡ bits_on given
-  pub off : draft.flags_off ≡ bits_off given
-  pub since : draft.since ≡ latest_day given
-
--- the clause has the draft's labels in rising order and each once
-pub record Finishes (draft clause : ClauseParts) : Type 0 where
-  pub wanted : AreLabelsOf draft.all_labels clause.all_labels
-  pub barred : AreLabelsOf draft.no_labels clause.no_labels
-  pub on : clause.flags_on ≡ draft.flags_on
-  pub off : clause.flags_off ≡ draft.flags_off
-  pub since : clause.since ≡ draft.since
+-- how many labels the clause and this condition name, those that they want and those that they bar each once
+abbrev pub label_count_with : ClauseParts → Condition → ℕ
+label_count_with clause condition =
+    different_labels (clause.all_labels ++ wanted_labels (condition ∷ []))
+    + different_labels (clause.no_labels ++ barred_labels (condition ∷ []))

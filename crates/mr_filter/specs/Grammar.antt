@@ -1,9 +1,8 @@
 -- which texts are filters, which filter each is, and what is wrong with the others
 use Rattle.std.specs.Prelude.{◌≡◌, ◌≢◌, ℕ, ◌+◌, ◌<◌, ◌≤◌, Bool, true, false, ◌==◌, ◌&&◌, ◌⊎◌, List, [], ◌∷◌, ◌++◌, length, codes}
 use Rattle.std.specs.List.{AllZip, AllByRecursion, onto_first, sum_by}
-use Rattle.mr_mail.specs.Label.{different_labels}
 use Rattle.mr_filter.specs.Filter.{ClauseParts}
-use Rattle.mr_filter.specs.Condition.{Condition, SpellsCondition, Combines, wanted_labels, barred_labels}
+use Rattle.mr_filter.specs.Condition.{Condition, SpellsCondition, Combines, label_count}
 
 -- the mark between two spaces
 abbrev pub is_separator : ℕ → ℕ → ℕ → ℕ → Bool
@@ -85,7 +84,7 @@ pub record HasTooManyClauses (text : List ℕ) : Type 0 where
 pub record NamesTooMany (clause : List ℕ) : Type 0 where
   pub given : List Condition
   pub spelled : SpellsConditions clause given
-  pub many : 8 < different_labels (wanted_labels given) + different_labels (barred_labels given)
+  pub many : 8 < label_count given
 
 -- some clause of the text names more than eight labels
 pub record HasCrowdedClause (text : List ℕ) : Type 0 where

@@ -7,7 +7,7 @@ ghost use Rattle.mr_filter.specs.Filter.{IsClause, clause_with};
 ghost use Rattle.mr_filter.specs.Meaning.{meets, is_as_wide};
 
 use mr_mail::{Card, Day, Flags, Label};
-use std::alloc::{AllocError, Global};
+use std::alloc::AllocError;
 use std::marker::Model;
 
 /// Conditions that a message is to meet together: labels that it has, labels that it lacks, flags
@@ -108,8 +108,8 @@ impl Clause {
         ensures { IfOk result (λ clause. clause ≡ self.now) }
     {
         Ok(Clause {
-            all_labels: copies(self.all_labels.allocator().clone()?, self.all_labels())?,
-            no_labels: copies(self.no_labels.allocator().clone()?, self.no_labels())?,
+            all_labels: Label::copy_all(self.all_labels.allocator().clone()?, self.all_labels())?,
+            no_labels: Label::copy_all(self.no_labels.allocator().clone()?, self.no_labels())?,
             flags_on: self.flags_on,
             flags_off: self.flags_off,
             since: self.since,
@@ -137,17 +137,6 @@ impl Clause {
             && has_each(other.all_labels(), self.all_labels())
             && has_each(other.no_labels(), self.no_labels())
     }
-}
-
-/// Equal labels, in the same order.
-fn copies(alloc: Global, labels: &[Label]) -> Result<Vec<Label>, AllocError>
-    ensures { IfOk result (λ copied. copied.items ≡ labels.now) }
-{
-    let mut copied = Vec::with_capacity(alloc, labels.len())?;
-    for label in labels {
-        copied.push(label.copy()?)?;
-    }
-    Ok(copied)
 }
 
 /// Whether the label is among these, which rise.

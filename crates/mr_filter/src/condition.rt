@@ -1,12 +1,11 @@
 //! Conditions, as they stand in a filter's text.
 ghost use Rattle.std.specs.Prelude.{◌≡◌, ℕ, List, ◌∷◌, ◌++◌, ◌↔◌, IsTrue, IsSome, IfSome, IfNone, IsSomeAnd};
-ghost use Rattle.std.specs.List.{list_all, AllByRecursion};
-ghost use Rattle.mr_mail.specs.Label.{is_label, is_label_byte};
+ghost use Rattle.mr_mail.specs.Label.{is_label};
 ghost use Rattle.mr_filter.specs.Condition.{SpellsCondition, IsValueOf, kind_of};
 ghost use Rattle.mr_filter.specs.Condition as specs;
 ghost use Rattle.mr_filter.specs.Written.{meaning_of, LacksColon};
 
-use mr_mail::{Day, Flag};
+use mr_mail::{Day, Flag, Label};
 
 /// One condition of a filter's text. A label is lent from the text.
 #[derive(Clone, Copy)]
@@ -50,7 +49,7 @@ fn label_text(text: &str) -> Option<&str>
     ensures found { IfSome result (λ label. label.now ≡ text.now) }
     ensures exact { IsSome result ↔ IsTrue (is_label text.now) }
 {
-    if is_text_of_label(text) {
+    if Label::admits(text) {
         Some(text)
     } else {
         None
@@ -64,20 +63,4 @@ fn kind_and_value(piece: &str) -> Option<(&str, &str)>
         → IsSomeAnd result (λ parts. (parts.0.now ≡ kind) × (parts.1.now ≡ value)) }
 {
     piece.split_once(':')
-}
-
-/// Whether the text is a label's.
-fn is_text_of_label(text: &str) -> bool
-    ensures { result ≡ is_label text.now }
-{
-    1 <= text.len() && text.len() <= 32 && are_bytes_of_label(text.as_bytes())
-}
-
-/// Whether a label may have each of these bytes.
-fn are_bytes_of_label(bytes: &[u8]) -> bool
-    ensures { result ≡ list_all is_label_byte bytes.now }
-{
-    bytes
-        .iter()
-        .all(|byte| matches!(*byte, b'a'..=b'z' | b'0'..=b'9' | b'-'))
 }

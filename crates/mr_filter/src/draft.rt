@@ -1,14 +1,16 @@
 //! A clause in the making, while its conditions are read.
-ghost use Rattle.std.specs.Prelude.{◌≡◌, ℕ, List, ◌+◌, ◌<◌, IsTrue, IfOk, IfErr, OnOk, length};
+ghost use Rattle.std.specs.Prelude.{◌≡◌, ℕ, List, [], ◌∷◌, ◌++◌, ◌<◌, ◌≤◌, IsTrue, IfOk, IfErr, OnOk, OnErr, length};
 ghost use Rattle.std.specs.List.{AllPass};
-ghost use Rattle.mr_mail.specs.Label.{is_label, different_labels, AreLabelsOf};
+ghost use Rattle.mr_mail.specs.Label.{is_label, different_labels, AreLabelsOf, IsLabelSet};
 ghost use Rattle.mr_filter.specs.Condition.{SpellsCondition};
-ghost use Rattle.mr_filter.specs.Draft.{Finishes, no_condition, with_condition};
-ghost use Rattle.mr_filter.specs.Written.{meaning_of};
+ghost use Rattle.mr_filter.specs.Draft.{IsWithCondition, label_count_with, no_condition};
+ghost use Rattle.mr_filter.specs.Filter.{IsClause};
+ghost use Rattle.mr_filter.specs.Written.{meaning_of, lent_texts};
 
 use crate::clause::Clause;
 use crate::condition::Condition;
 use crate::fault::FilterFault;
+use arrayvec::ArrayVec;
 use mr_mail::{Day, Flags, Label};
 use std::alloc::{AllocError, Global};
 use std::marker::Model;
@@ -16,51 +18,65 @@ use std::marker::Model;
 /// The most labels of a clause, wanted and barred together.
 const MAX_LABELS: usize = 8;
 
-/// The conditions of a clause so far. Labels stand as they come, in any order and also again.
+/// Labels in rising order, each once. They are lent from the filter's text, so that reading needs
+/// no memory.
+type LentLabels<'a> = ArrayVec<&'a str, MAX_LABELS>;
+
+/// What the conditions of a clause so far ask together.
 #[derive(Drop)]
-pub(crate) struct Draft {
-    wanted: Vec<Label>,
-    barred: Vec<Label>,
+pub(crate) struct Draft<'a> {
+    wanted: LentLabels<'a>,
+    barred: LentLabels<'a>,
     on: Flags,
     off: Flags,
     since: Day,
 }
 
-impl Model for Draft {
-    ghost use Rattle.mr_filter.specs.Filter.{ClauseParts, clause_code, clause_with};
-    ghost use Rattle.mr_filter.specs.Draft.{IsDraft};
+impl<'a> Model for Draft<'a> {
+    ghost use Rattle.mr_filter.specs.Filter.{ClauseParts, clause_code, clause_with, IsClause};
+    ghost use Rattle.mr_filter.specs.Written.{lent_texts};
 
     ghost Value = { ClauseParts };
 
     ghost coded = { clause_code };
 
-    ghost view = { λ d. clause_with d.wanted.items d.barred.items d.on d.off d.since };
+    ghost view = { λ d. clause_with (lent_texts d.wanted.items) (lent_texts d.barred.items) d.on d.off d.since };
 
-    ghost invariant = { λ d. IsDraft (clause_with d.wanted.items d.barred.items d.on d.off d.since) };
+    ghost invariant = { λ d. IsClause
+        (clause_with (lent_texts d.wanted.items) (lent_texts d.barred.items) d.on d.off d.since) };
 }
 
-impl Draft {
+impl<'a> Draft<'a> {
     /// No condition.
-    pub(crate) fn new(alloc: Global) -> Draft
-        ensures { result ≡ no_condition }
+    pub(crate) fn new() -> Draft<'a>
+        ensures value { result ≡ no_condition }
+        ensures kept { IsClause result }
     {
         Draft {
-            wanted: Vec::new(alloc),
-            barred: Vec::new(alloc),
+            wanted: ArrayVec::new(),
+            barred: ArrayVec::new(),
             on: Flags::empty(),
             off: Flags::empty(),
             since: Day::new(0),
         }
     }
 
-    /// One more condition.
-    pub(crate) fn add(&mut self, alloc: Global, condition: Condition<'_>) -> Result<(), AllocError>
+    /// One more condition. `TooManyLabels` if the conditions would name more than eight labels.
+    pub(crate) fn add(&mut self, condition: Condition<'a>) -> Result<(), FilterFault>
         requires { (text : List ℕ) × SpellsCondition text (meaning_of condition) }
-        ensures { OnOk result (self.new ≡ with_condition self.old (meaning_of condition.entry)) }
+        ensures added { OnOk result (IsWithCondition self.old (meaning_of condition.entry) self.new) }
+        ensures kept { OnOk result (IsClause self.new) }
+        ensures many { IfErr result (λ _. 8 < label_count_with self.old (meaning_of condition.entry)) }
+        ensures fault { IfErr result (λ fault. fault ≡ FilterFault.TooManyLabels) }
+        ensures err { OnErr result (self.new ≡ self.old) }
     {
         match condition {
-            Condition::HasLabel(label) => self.wanted.push(label_of(alloc, label)?)?,
-            Condition::LacksLabel(label) => self.barred.push(label_of(alloc, label)?)?,
+            Condition::HasLabel(label) => {
+                put_label(&mut self.wanted, label, MAX_LABELS - self.barred.len())?
+            }
+            Condition::LacksLabel(label) => {
+                put_label(&mut self.barred, label, MAX_LABELS - self.wanted.len())?
+            }
             Condition::HasFlag(flag) => self.on = self.on.with(flag),
             Condition::LacksFlag(flag) => self.off = self.off.with(flag),
             Condition::Since(day) => self.since = self.since.max(day),
@@ -68,27 +84,60 @@ impl Draft {
         Ok(())
     }
 
-    /// The clause of these conditions, or `TooManyLabels` over eight different labels.
-    pub(crate) fn finish(self) -> Result<Clause, FilterFault>
-        ensures ok { IfOk result (Finishes self) }
-        ensures many { IfErr result
-            (λ _. 8 < different_labels self.all_labels + different_labels self.no_labels) }
-        ensures fault { IfErr result (λ fault. fault ≡ FilterFault.TooManyLabels) }
+    /// The clause of these conditions.
+    pub(crate) fn to_clause(&self, alloc: Global) -> Result<Clause, AllocError>
+        ensures { IfOk result (λ clause. clause ≡ self.now) }
     {
-        let Draft {
-            wanted,
-            barred,
-            on,
-            off,
-            since,
-        } = self;
-        let wanted = label_set(wanted);
-        let barred = label_set(barred);
-        if wanted.len() > MAX_LABELS || barred.len() > MAX_LABELS - wanted.len() {
-            return Err(FilterFault::TooManyLabels);
-        }
-        Ok(Clause::new(wanted, barred, on, off, since))
+        Ok(Clause::new(
+            owned_labels(alloc, self.wanted.as_slice())?,
+            owned_labels(alloc, self.barred.as_slice())?,
+            self.on,
+            self.off,
+            self.since,
+        ))
     }
+}
+
+/// Puts the label at its place, unless it is there already. `TooManyLabels` if there are as many as
+/// there may be.
+fn put_label<'a>(
+    labels: &mut LentLabels<'a>,
+    label: &'a str,
+    most: usize,
+) -> Result<(), FilterFault>
+    requires set { IsLabelSet (lent_texts labels.old.items) }
+    requires label { IsTrue (is_label label.now) }
+    requires few { length labels.old.items ≤ most }
+    requires room { most ≤ 8 }
+    ensures put { OnOk result
+        (AreLabelsOf (lent_texts labels.old.items ++ label.now ∷ []) (lent_texts labels.new.items)) }
+    ensures kept { OnOk result (IsLabelSet (lent_texts labels.new.items)) }
+    ensures few { OnOk result (length labels.new.items ≤ most) }
+    ensures many { IfErr result
+        (λ _. most < different_labels (lent_texts labels.old.items ++ label.now ∷ [])) }
+    ensures fault { IfErr result (λ fault. fault ≡ FilterFault.TooManyLabels) }
+    ensures err { OnErr result (labels.new ≡ labels.old) }
+{
+    let Err(place) = labels.as_slice().binary_search(&label) else {
+        return Ok(());
+    };
+    if labels.len() >= most {
+        return Err(FilterFault::TooManyLabels);
+    }
+    labels.insert(place, label);
+    Ok(())
+}
+
+/// The labels of these texts, in the same order.
+fn owned_labels(alloc: Global, texts: &[&str]) -> Result<Vec<Label>, AllocError>
+    requires { AllPass is_label (lent_texts texts.now) }
+    ensures { IfOk result (λ labels. labels.items ≡ lent_texts texts.now) }
+{
+    let mut labels = Vec::with_capacity(alloc, texts.len())?;
+    for text in texts {
+        labels.push(label_of(alloc, text)?)?;
+    }
+    Ok(labels)
 }
 
 /// The label of this text.
@@ -98,16 +147,4 @@ fn label_of(alloc: Global, text: &str) -> Result<Label, AllocError>
 {
     let text = String::from_str(alloc, text)?;
     Ok(Label::try_new(text).unwrap())
-}
-
-/// The labels in rising order, each once.
-fn label_set(labels: Vec<Label>) -> Vec<Label>
-    ensures set { AreLabelsOf labels.items result.items }
-    ensures each { AllPass is_label labels.items → AllPass is_label result.items }
-    ensures count { length result.items ≡ different_labels labels.items }
-{
-    let mut labels = labels;
-    labels.sort_unstable();
-    labels.dedup();
-    labels
 }

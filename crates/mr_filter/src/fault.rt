@@ -6,7 +6,7 @@ ghost use Rattle.mr_filter.specs.Fault.{fault_number};
 use std::alloc::{AllocError, AllocFailed};
 use thiserror::Error;
 
-/// Why a text is no filter, and after want of memory in the order in which the reasons are tried.
+/// Why a text is no filter, in the order in which the reasons are tried; memory is tried last.
 #[derive(Clone, Copy, Debug, PartialEq, Eq, Drop, Error)]
 pub enum FilterFault {
     #[error("out of memory")]

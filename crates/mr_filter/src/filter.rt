@@ -1,5 +1,5 @@
 //! Filters: clauses of which one is to be met.
-ghost use Rattle.std.specs.Prelude.{◌≡◌, ◌≤◌, IsTrue, List, IfOk, IfErr, MatchResult, length, string_bytes};
+ghost use Rattle.std.specs.Prelude.{◌≡◌, ◌≤◌, ℕ, IsTrue, List, IfOk, IfErr, MatchResult, length, string_bytes};
 ghost use Rattle.mr_mail.specs.Mail.{MailCard, card_of};
 ghost use Rattle.mr_filter.specs.Fault.{IsFaultOf};
 ghost use Rattle.mr_filter.specs.Filter.{ClauseParts, IsFilter};
@@ -11,7 +11,7 @@ ghost use Rattle.mr_filter.specs.Text.{IsFilterText};
 use crate::clause::Clause;
 use crate::fault::FilterFault;
 use crate::pieces::{NO_CLAUSE, count_clauses, first_bad};
-use crate::read::read_clauses;
+use crate::read::{is_crowded, read_clauses};
 use crate::text::filter_text;
 use mr_mail::{Card, Message};
 use std::alloc::{AllocError, Global};
@@ -73,8 +73,8 @@ impl Filter {
     /// The faults are tried in this order: `BadFilter` at the first piece between two separators
     /// that is not in the grammar, as also `none` beside a clause or `all` beside a condition;
     /// `TooManyClauses` over sixteen; `TooManyLabels` where a clause names more than eight, those
-    /// that it wants and those that it bars each once. `OutOfMemory` comes only at a text with none
-    /// of the first two faults; memory may be wanting before the labels are counted.
+    /// that it wants and those that it bars each once; and `OutOfMemory` last. The text is walked
+    /// four times, and each label of it is sought among at most eight.
     pub fn read(alloc: Global, text: &str) -> Result<Filter, FilterFault>
         ensures read { IfOk result (Reads text.now) }
         ensures fault { IfErr result (IsFaultOf text.now) }
@@ -92,6 +92,9 @@ impl Filter {
         if count_clauses(text) > MAX_CLAUSES {
             return Err(FilterFault::TooManyClauses);
         }
+        if is_crowded(text) {
+            return Err(FilterFault::TooManyLabels);
+        }
         Ok(Filter {
             clauses: read_clauses(alloc, text)?,
         })
@@ -99,9 +102,11 @@ impl Filter {
 
     /// The filter's text: its clauses with ` | ` between them, or `none`. A clause is written as its
     /// conditions with ` & ` between them, or `all`: the wanted labels, the barred labels, the flags
-    /// on, the flags off, and the first day unless it is 1970-01-01.
+    /// on, the flags off, and the first day unless it is 1970-01-01. So each filter has one text.
     pub fn text(&self) -> Result<String, AllocError>
         ensures written { IfOk result (λ text. IsFilterText self.now (string_bytes text)) }
+        ensures only { IfOk result
+            (λ text. (other : List ℕ) → IsFilterText self.now other → other ≡ string_bytes text) }
         ensures read { IfOk result (λ text. Reads (string_bytes text) self.now) }
     {
         filter_text(self.clauses.allocator().clone()?, self.clauses.as_slice())

@@ -1,10 +1,8 @@
 //! Filters from their texts.
-ghost use Rattle.std.specs.Prelude.{◌≡◌, ◌⊎◌, List, IfOk, IfErr, All};
+ghost use Rattle.std.specs.Prelude.{◌≡◌, ◌↔◌, IsTrue, IfOk, IfErr, All};
 ghost use Rattle.std.specs.List.{AllZip, AllByRecursion};
-ghost use Rattle.mr_filter.specs.Condition.{Condition};
-ghost use Rattle.mr_filter.specs.Draft.{IsDraftOf};
 ghost use Rattle.mr_filter.specs.Filter.{IsClause};
-ghost use Rattle.mr_filter.specs.Grammar.{clauses_of, HasCrowdedClause, IsClauseInGrammar, NamesTooMany, ReadsClause, SpellsConditions};
+ghost use Rattle.mr_filter.specs.Grammar.{clauses_of, HasCrowdedClause, IsClauseInGrammar, NamesTooMany, ReadsClause};
 
 use crate::clause::Clause;
 use crate::condition::condition_of;
@@ -13,13 +11,16 @@ use crate::fault::FilterFault;
 use crate::pieces::{AND, NO_CONDITION, OR, cut};
 use std::alloc::{AllocError, Global};
 
-/// The conditions of a clause's text, which is in the grammar.
-fn read_conditions(alloc: Global, text: &str) -> Result<Draft, AllocError>
+/// The conditions of a clause's text, which is in the grammar, or `TooManyLabels` if they name more
+/// than eight.
+fn read_conditions(text: &str) -> Result<Draft<'_>, FilterFault>
     requires { IsClauseInGrammar text.now }
-    ensures { IfOk result
-        (λ draft. (given : List Condition) × SpellsConditions text.now given × IsDraftOf given draft) }
+    ensures read { IfOk result (ReadsClause text.now) }
+    ensures kept { IfOk result IsClause }
+    ensures many { IfErr result (λ _. NamesTooMany text.now) }
+    ensures fault { IfErr result (λ fault. fault ≡ FilterFault.TooManyLabels) }
 {
-    let mut draft = Draft::new(alloc);
+    let mut draft = Draft::new();
     if text == NO_CONDITION {
         return Ok(draft);
     }
@@ -29,7 +30,7 @@ fn read_conditions(alloc: Global, text: &str) -> Result<Draft, AllocError>
         let Some(condition) = condition_of(piece) else {
             unreachable!()
         };
-        draft.add(alloc, condition)?;
+        draft.add(condition)?;
         let Some(next) = more else {
             return Ok(draft);
         };
@@ -37,31 +38,50 @@ fn read_conditions(alloc: Global, text: &str) -> Result<Draft, AllocError>
     }
 }
 
-/// The clause of a text that is in the grammar.
-fn read_clause(alloc: Global, text: &str) -> Result<Clause, FilterFault>
-    requires { IsClauseInGrammar text.now }
-    ensures read { IfOk result (ReadsClause text.now) }
-    ensures fault { IfErr result (λ fault. (fault ≡ FilterFault.OutOfMemory)
-        ⊎ ((fault ≡ FilterFault.TooManyLabels) × NamesTooMany text.now)) }
+/// Whether a clause of a text that is in the grammar names more than eight labels. It takes no
+/// memory.
+pub(crate) fn is_crowded(text: &str) -> bool
+    requires { AllByRecursion IsClauseInGrammar (clauses_of text.now) }
+    ensures { IsTrue result ↔ HasCrowdedClause text.now }
 {
-    read_conditions(alloc, text)?.finish()
+    let mut rest = text;
+    loop {
+        let (clause, more) = cut(rest, OR);
+        if read_conditions(clause).is_err() {
+            return true;
+        }
+        let Some(next) = more else {
+            return false;
+        };
+        rest = next;
+    }
 }
 
-/// The clauses of a text that is in the grammar.
-pub(crate) fn read_clauses(alloc: Global, text: &str) -> Result<Vec<Clause>, FilterFault>
-    requires { AllByRecursion IsClauseInGrammar (clauses_of text.now) }
+/// The clause of a text that is in the grammar and names at most eight labels.
+fn read_clause(alloc: Global, text: &str) -> Result<Clause, AllocError>
+    requires in_grammar { IsClauseInGrammar text.now }
+    requires few { NamesTooMany text.now → ⊥ }
+    ensures read { IfOk result (ReadsClause text.now) }
+    ensures kept { IfOk result IsClause }
+{
+    let Ok(draft) = read_conditions(text) else {
+        unreachable!()
+    };
+    draft.to_clause(alloc)
+}
+
+/// The clauses of a text that is in the grammar and of which none names more than eight labels.
+pub(crate) fn read_clauses(alloc: Global, text: &str) -> Result<Vec<Clause>, AllocError>
+    requires in_grammar { AllByRecursion IsClauseInGrammar (clauses_of text.now) }
+    requires few { HasCrowdedClause text.now → ⊥ }
     ensures read { IfOk result (λ clauses. AllZip ReadsClause (clauses_of text.now) clauses.items) }
     ensures kept { IfOk result (λ clauses. All IsClause clauses.items) }
-    ensures fault { IfErr result (λ fault. (fault ≡ FilterFault.OutOfMemory)
-        ⊎ ((fault ≡ FilterFault.TooManyLabels) × HasCrowdedClause text.now)) }
 {
     let mut clauses = Vec::new(alloc);
     let mut rest = text;
     loop {
         let (clause, more) = cut(rest, OR);
-        let clause = read_clause(alloc, clause)?;
-        let _labels = clause.all_labels();
-        clauses.push(clause)?;
+        clauses.push(read_clause(alloc, clause)?)?;
         let Some(next) = more else {
             return Ok(clauses);
         };

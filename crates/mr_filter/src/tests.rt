@@ -180,6 +180,30 @@ fn too_many(rt: HostRuntime) -> Result<(), Fail> {
 }
 
 #[test]
+fn labels_of_a_clause(rt: HostRuntime) {
+    for (text, want) in [
+        (
+            "label:a & label:b & label:c & label:d & label:e & label:f & label:g & label:h",
+            None,
+        ),
+        (
+            "!label:a & label:b & label:c & label:d & label:e & label:f & label:g & label:b & !label:a",
+            None,
+        ),
+        (
+            "all | label:a & label:b & label:c & label:d & label:e & label:f & label:g & label:h & label:i",
+            Some((3, None)),
+        ),
+        (
+            "label:a & label:b & label:c & label:d & label:e & label:f & label:g & label:h & !label:a",
+            Some((3, None)),
+        ),
+    ] {
+        assert_eq!(&rt; fault_of(rt.alloc(), text), want, "{text}");
+    }
+}
+
+#[test]
 fn covered_filters(rt: HostRuntime) -> Result<(), Fail> {
     for (wide, narrow, want) in [
         ("label:inbox | label:work", "label:work & flag:seen", true),

@@ -1,4 +1,4 @@
 mod AdmitsLemmas
-mod DayLemmas
+pub mod DayLemmas
 mod FlagLemmas
-mod LabelLemmas
+pub mod LabelLemmas

@@ -5,7 +5,7 @@ ghost use Rattle.mr_mail.specs.Label.{IsLabelSet};
 use crate::day::Day;
 use crate::flags::Flags;
 use crate::label::Label;
-use std::alloc::{AllocError, Global};
+use std::alloc::AllocError;
 use std::marker::Model;
 
 /// A message's labels, flags and day. The labels are in rising order, each once, and at most 16.
@@ -68,20 +68,9 @@ impl Card {
         ensures { IfOk result (λ card. card ≡ self.now) }
     {
         Ok(Card {
-            labels: copies(self.labels.allocator().clone()?, self.labels.as_slice())?,
+            labels: Label::copy_all(self.labels.allocator().clone()?, self.labels.as_slice())?,
             flags: self.flags,
             day: self.day,
         })
     }
-}
-
-/// Equal labels, in the same order.
-fn copies(alloc: Global, labels: &[Label]) -> Result<Vec<Label>, AllocError>
-    ensures { IfOk result (λ copied. copied.items ≡ labels.now) }
-{
-    let mut copied = Vec::with_capacity(alloc, labels.len())?;
-    for label in labels {
-        copied.push(label.copy()?)?;
-    }
-    Ok(copied)
 }

@@ -44,18 +44,11 @@ fn are_bytes_of_label(bytes: &[u8]) -> bool
     bytes.iter().all(|byte| is_byte_of_label(*byte))
 }
 
-/// Whether the text is a label's.
-pub(crate) fn is_text_of_label(text: &str) -> bool
-    ensures { result ≡ is_label text.now }
-{
-    1 <= text.len() && text.len() <= MAX_LABEL_BYTES && are_bytes_of_label(text.as_bytes())
-}
-
 /// Whether each of the texts is a label's.
 pub(crate) fn are_texts_of_labels(texts: &[String]) -> bool
     ensures { result ≡ list_all (λ text. is_label (string_bytes text)) texts.now }
 {
-    texts.iter().all(|text| is_text_of_label(text.as_str()))
+    texts.iter().all(|text| Label::admits(text.as_str()))
 }
 
 /// Sorts the texts by their bytes, and drops repeats.
@@ -82,13 +75,20 @@ pub(crate) fn into_labels(alloc: Global, texts: Vec<String>) -> Result<Vec<Label
 }
 
 impl Label {
+    /// Whether the text is a label's: one to 32 bytes of a-z, 0-9 and `-`.
+    pub fn admits(text: &str) -> bool
+        ensures { result ≡ is_label text.now }
+    {
+        1 <= text.len() && text.len() <= MAX_LABEL_BYTES && are_bytes_of_label(text.as_bytes())
+    }
+
     /// The label of this text. `BadLabel` if the text is none of a label.
     pub fn try_new(text: String) -> Result<Label, MessageFault>
         ensures exact { IsOk result ↔ IsTrue (is_label (string_bytes text)) }
         ensures value { IfOk result (λ label. label ≡ string_bytes text) }
         ensures fault { IfErr result (λ fault. fault ≡ MessageFault.BadLabel) }
     {
-        if is_text_of_label(text.as_str()) {
+        if Label::admits(text.as_str()) {
             Ok(Label { text })
         } else {
             Err(MessageFault::BadLabel)
@@ -110,6 +110,17 @@ impl Label {
         Ok(Label {
             text: self.text.clone()?,
         })
+    }
+
+    /// Equal labels, in the same order.
+    pub fn copy_all(alloc: Global, labels: &[Label]) -> Result<Vec<Label>, AllocError>
+        ensures { IfOk result (λ copied. copied.items ≡ labels.now) }
+    {
+        let mut copied = Vec::with_capacity(alloc, labels.len())?;
+        for label in labels {
+            copied.push(label.copy()?)?;
+        }
+        Ok(copied)
     }
 }
 

@@ -74,6 +74,8 @@ fn check_card(rt: &impl Abort, alloc: Global, card: &Card) -> Result<(), AllocEr
 fn check_label(rt: &impl Abort, alloc: Global) -> Result<(), Fail> {
     let label = Label::try_new(String::from_str(alloc, "to-do")?)?;
     assert_eq!(rt; label.copy()?.as_str(), "to-do");
+    assert!(rt; Label::admits("to-do"));
+    assert!(rt; !Label::admits("To-do"));
     Ok(())
 }
 
@@ -98,6 +100,8 @@ fn ample_memory(rt: HostRuntime) -> Result<(), Fail> {
     let message = sample(alloc)?;
     check_message(&rt, &message);
     check_message(&rt, &message.copy()?);
+    let copied = Label::copy_all(alloc, message.labels())?;
+    assert_eq!(&rt; joined(alloc, copied.as_slice())?.as_str(), "inbox work ");
     check_card(&rt, alloc, message.as_card())?;
     check_card(&rt, alloc, &message.card()?)?;
     check_card(&rt, alloc, &message.card()?.copy()?)?;

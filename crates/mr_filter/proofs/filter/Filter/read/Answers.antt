@@ -1,9 +1,8 @@
 use Rattle.std.proofs.Common.{◌≤◌, length, arith, inr}
-use Rattle.std.proofs.lemmas.Result.{err_from_is_err_and}
-use Rattle.mr_filter.specs.declared.fault.FilterFault.TheVariants.{BadFilter, TooManyClauses}
+use Rattle.mr_filter.specs.declared.fault.FilterFault.TheVariants.{BadFilter, TooManyClauses, TooManyLabels}
 use Rattle.mr_filter.specs.Grammar.{clauses_of}
 use Rattle.mr_filter.proofs.Reading.{IsFilter-read}
-use Rattle.mr_filter.proofs.UniqueLemmas.{Reads-fault, Reads-unique, IsFaultOf-clauses}
+use Rattle.mr_filter.proofs.UniqueLemmas.{Reads-fault, Reads-unique}
 use Rattle.mr_filter.proofs.filter.Filter.read.Goals as goal
 
 pub invariant_of-result-2 : goal.invariant_of-result-2
@@ -19,14 +18,9 @@ pub returns-then-count_clauses-gt-MAX_CLAUSES-clause-complete : goal.returns-the
 returns-then-count_clauses-gt-MAX_CLAUSES-clause-complete c =
     λ filter reads kept. Reads-fault c.args.text.now filter reads kept TooManyClauses (record { in_grammar = c.in_default.ensures; many = omega arith })
 
-pub returns-in_err-read_clauses-clause-complete : goal.returns-in_err-read_clauses-clause-complete
-returns-in_err-read_clauses-clause-complete c =
-    λ filter reads kept.
-    let few : length (clauses_of c.args.text.now) ≤ 16 = omega arith in
-    let p = err_from_is_err_and c.from_residual.result c.from_residual.ensures.1 in
-    rw (p.1, p.2)
-    (Reads-fault c.args.text.now filter reads kept c.in_err-read_clauses.field-0.0
-    (IsFaultOf-clauses c.args.text.now c.in_err-read_clauses.field-0.0 c.in_err-read_clauses.ensures.fault c.in_default.ensures few))
+pub returns-then-is_crowded-clause-complete : goal.returns-then-is_crowded-clause-complete
+returns-then-is_crowded-clause-complete c =
+    λ filter reads kept. Reads-fault c.args.text.now filter reads kept TooManyLabels (record { in_grammar = c.in_default.ensures; few = omega arith; crowded = c.is_crowded.ensures.0 c.if-is_crowded.true })
 
 pub returns-clause-complete : goal.returns-clause-complete
 returns-clause-complete c =

@@ -1,0 +1,52 @@
+-- a draft with one more condition
+use Rattle.std.proofs.Common.{◌≡◌, ℕ, ◌-◌, ◌<◌, List, [], ◌∷◌, ◌++◌, length, max, Result, Ok, Err, sym, subst, refl, arith, append-nil}
+use Rattle.std.specs.Int.Bits.{or_zero_r}
+use Rattle.std.specs.Int.RustNames.{bit_or}
+use Rattle.std.specs.List.Sorted.{IsStrictlySortedBy}
+use Rattle.std.specs.Result.{IfErr}
+use Rattle.mr_mail.specs.declared.flags.Flag.{Flag}
+use Rattle.mr_mail.specs.Flag.{bit_of}
+use Rattle.mr_mail.specs.Label.{text_cmp, different_labels, AreLabelsOf}
+use Rattle.mr_filter.specs.Filter.{ClauseParts, IsClause}
+use Rattle.mr_filter.specs.Condition.{HasLabel, LacksLabel, HasFlag, LacksFlag, Since}
+use Rattle.mr_filter.specs.Draft.{IsWithCondition, label_count_with}
+use Rattle.mr_filter.proofs.PlaceLemmas.{different_labels-rising}
+
+-- labels to which none comes
+AreLabelsOf-same : (labels : List (List ℕ)) → IsStrictlySortedBy text_cmp labels → AreLabelsOf (labels ++ []) labels
+AreLabelsOf-same labels rising = subst (λ given. AreLabelsOf given labels) (sym (append-nil labels)) (record { rising = rising; same = λ label. refl })
+
+same_bits : (bits : ℕ) → bits ≡ bit_or bits 0
+same_bits bits = sym (or_zero_r bits)
+
+module _ (old : ClauseParts) (kept : IsClause old) where
+  pub with_wanted : (label : List ℕ) (labels : List (List ℕ)) → AreLabelsOf (old.all_labels ++ label ∷ []) labels → IsWithCondition old (HasLabel label) (record old { all_labels = labels })
+  with_wanted label labels put = record { wanted = put; barred = AreLabelsOf-same old.no_labels kept.barred.rising; on = same_bits old.flags_on; off = same_bits old.flags_off; since = omega arith }
+
+  pub with_barred : (label : List ℕ) (labels : List (List ℕ)) → AreLabelsOf (old.no_labels ++ label ∷ []) labels → IsWithCondition old (LacksLabel label) (record old { no_labels = labels })
+  with_barred label labels put = record { wanted = AreLabelsOf-same old.all_labels kept.wanted.rising; barred = put; on = same_bits old.flags_on; off = same_bits old.flags_off; since = omega arith }
+
+  pub with_flag_on : (flag : Flag) → IsWithCondition old (HasFlag flag) (record old { flags_on = bit_or old.flags_on (bit_of flag) })
+  with_flag_on flag = record { wanted = AreLabelsOf-same old.all_labels kept.wanted.rising; barred = AreLabelsOf-same old.no_labels kept.barred.rising; on = refl; off = same_bits old.flags_off; since = omega arith }
+
+  pub with_flag_off : (flag : Flag) → IsWithCondition old (LacksFlag flag) (record old { flags_off = bit_or old.flags_off (bit_of flag) })
+  with_flag_off flag = record { wanted = AreLabelsOf-same old.all_labels kept.wanted.rising; barred = AreLabelsOf-same old.no_labels kept.barred.rising; on = same_bits old.flags_on; off = refl; since = omega arith }
+
+  pub with_day : (day latest : ℕ) → latest ≡ max old.since day → IsWithCondition old (Since day) (record old { since = latest })
+  with_day day latest is = record { wanted = AreLabelsOf-same old.all_labels kept.wanted.rising; barred = AreLabelsOf-same old.no_labels kept.barred.rising; on = same_bits old.flags_on; off = same_bits old.flags_off; since = is }
+
+  -- one more label than there is room for
+  pub wanted_too_many : (label : List ℕ) → 8 - length old.no_labels < different_labels (old.all_labels ++ label ∷ []) → 8 < label_count_with old (HasLabel label)
+  wanted_too_many label more =
+      let others : different_labels (old.no_labels ++ []) ≡ length old.no_labels = rw (append-nil old.no_labels) (different_labels-rising old.no_labels kept.barred.rising) in
+      omega (arith, others, more)
+
+  pub barred_too_many : (label : List ℕ) → 8 - length old.all_labels < different_labels (old.no_labels ++ label ∷ []) → 8 < label_count_with old (LacksLabel label)
+  barred_too_many label more =
+      let others : different_labels (old.all_labels ++ []) ≡ length old.all_labels = rw (append-nil old.all_labels) (different_labels-rising old.all_labels kept.wanted.rising) in
+      omega (arith, others, more)
+
+-- a fact of no error is one of each
+pub IfErr-any : {X E : Type 0} (result : Result X E) (P : Type 0) → P → IfErr result (λ _. P)
+IfErr-any (Ok x) P holds = tt
+IfErr-any (Err e) P holds = holds
