@@ -16,3 +16,5 @@ pub mod MeetLemmas
 pub mod VersionLemmas
 pub mod HoleLemmas
 pub mod VectorInsertLemmas
+pub mod OrderedRunLemmas
+pub mod FragmentLemmas

@@ -1,43 +1,41 @@
-use Rattle.std.proofs.Common.{◌≡◌, ◌<◌, ◌≤◌, ◌+◌, ◌==◌, ◌&&◌, ◌||◌, ℕ, Bool, true, false, refl, ap, sym, ◌∙◌, arith, List, [], ◌∷◌, ◌++◌, length, get_or, take}
+use Rattle.std.proofs.Common.{◌≡◌, ◌<◌, ◌≤◌, ◌+◌, ◌==◌, ◌&&◌, ◌||◌, ℕ, Bool, true, false, refl, ap, sym, ◌∙◌, arith, List, [], ◌∷◌, ◌++◌, length, get_or, take, take_all}
 use Rattle.std.proofs.lemmas.List.{take_more}
 use Rattle.std.proofs.lemmas.List.Folds.{list_any-append}
 use Rattle.mr_version.specs.Name.{Name, name_eq}
-use Rattle.mr_forms.specs.Sets.{Test, IsSame, is_listed}
+use Rattle.mr_forms.specs.Sets.{Test, IsSame, is_listed, with_version}
+use Rattle.std.specs.List.{list_any}
+use Rattle.mr_concise.specs.AllOf.{in_all}
+use Rattle.mr_concise.proofs.NameLemmas.{name_eq_parts}
 use Rattle.mr_concise.specs.declared.vector.AuthorColumn.{AuthorColumn}
 use Rattle.mr_concise.specs.Column.{Extent}
-use Rattle.mr_concise.specs.Vector.{column_of, vector_has, IsVectorFrom, placed, with_one, HasTooManyHoles}
-use Rattle.mr_concise.proofs.NameLemmas.{name_eq_parts}
+use Rattle.mr_concise.specs.Vector.{column_of, vector_has, IsVectorFrom, HasTooManyHoles}
 use Rattle.mr_concise.proofs.ColumnLemmas.{column_unique}
-use Rattle.mr_concise.proofs.UnionLemmas.{column_has-empty, column_of-IsColumn, or_comm}
-use Rattle.mr_concise.proofs.VectorInsertLemmas.{inserted-means, eq-sym}
+use Rattle.mr_concise.proofs.UnionLemmas.{column_of-IsColumn, or_comm}
+use Rattle.mr_concise.proofs.VectorInsertLemmas.{eq-sym}
 
 name_eq-sym : (a b : Name) → name_eq a b ≡ name_eq b a
 name_eq-sym a b = name_eq_parts a b ∙ ap (λ x. x && (a.counter == b.counter)) (eq-sym a.author b.author) ∙ ap (λ x. (b.author == a.author) && x) (eq-sym a.counter b.counter) ∙ sym (name_eq_parts b a)
+
+-- the versions of a list, either way round
+pub in_all-names : (versions : List Name) → in_all name_eq versions ≡ is_listed versions
+in_all-names versions = let h : (v w : Name) → name_eq w v ≡ name_eq v w = λ v w. name_eq-sym w v in λ i v. list_any (λ w. h v w i) versions
 
 or_none : (b : Bool) → (b || false) ≡ b
 or_none true = refl
 or_none false = refl
 
--- the first k versions are inserted
-pub record InsertedTo (versions : List Name) (k : ℕ) (columns : List AuthorColumn) : Type 0 where
-  pub vector : IsVectorFrom 0 columns
-  pub means : IsSame (vector_has columns) (is_listed (take k versions))
+-- one version more
+pub listed-more : (versions : List Name) (k : ℕ) (x : Name) (set : Test) → k < length versions → x ≡ get_or versions k x → IsSame set (is_listed (take k versions)) → IsSame (with_version set x) (is_listed (take (k + 1) versions))
+listed-more versions k x set l at same v =
+    ap (λ b. name_eq x v || b) (same v)
+    ∙ or_comm (name_eq x v) (is_listed (take k versions) v)
+    ∙ ap (λ b. is_listed (take k versions) v || b) (name_eq-sym x v ∙ sym (or_none (name_eq v x)))
+    ∙ sym (list_any-append (name_eq v) (take k versions) (x ∷ []))
+    ∙ ap (λ xs. is_listed xs v) (sym (take_more versions k x l ∙ ap (λ y. take k versions ++ y ∷ []) (sym at)))
 
-pub InsertedTo-begin : (versions : List Name) → InsertedTo versions 0 []
-InsertedTo-begin versions = record { vector = tt; means = λ v. column_has-empty v.counter }
-
-pub InsertedTo-more : (versions : List Name) (k : ℕ) (x : Name) (old new : List AuthorColumn) → k < length versions → x ≡ get_or versions k x → 1 ≤ x.counter → InsertedTo versions k old → IsVectorFrom 0 new → new ≡ placed (with_one old x.author x.counter) old → InsertedTo versions (k + 1) new
-InsertedTo-more versions k x old new l at from w vector is = record {
-  vector = vector;
-  means = λ v.
-      ap (λ xs. vector_has xs v) is
-      ∙ inserted-means old x v w.vector from
-      ∙ ap (λ b. name_eq x v || b) (w.means v)
-      ∙ or_comm (name_eq x v) (is_listed (take k versions) v)
-      ∙ ap (λ b. is_listed (take k versions) v || b) (name_eq-sym x v ∙ sym (or_none (name_eq v x)))
-      ∙ sym (list_any-append (name_eq v) (take k versions) (x ∷ []))
-      ∙ ap (λ xs. is_listed xs v) (sym (take_more versions k x l ∙ ap (λ y. take k versions ++ y ∷ []) (sym at)));
-}
+-- at the end the set has them all
+pub listed-end : (versions : List Name) (k : ℕ) (set : Test) → length versions ≤ k → IsSame set (is_listed (take k versions)) → set ≡ is_listed versions
+listed-end versions k set l same = let h : (v : Name) → set v ≡ is_listed versions v = rw (take_all k versions l) at same in λ i v. h v i
 
 -- no column of a vector has too many holes
 pub few-vector : (columns : List AuthorColumn) (set : Test) → IsVectorFrom 0 columns → IsSame (vector_has columns) set → HasTooManyHoles set → ⊥

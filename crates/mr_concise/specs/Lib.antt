@@ -8,6 +8,7 @@ pub mod Equal
 pub mod Last
 pub mod Source
 pub mod AllOf
-pub mod Part
 pub mod Meet
 pub mod Text
+pub mod OrderedRuns
+pub mod Fragments

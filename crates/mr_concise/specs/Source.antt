@@ -1,4 +1,4 @@
-use Rattle.std.specs.Prelude.{◌≡◌, ◌<◌, ◌≤◌, ℕ, Bool, length}
+use Rattle.std.specs.Prelude.{◌≡◌, ◌<◌, ◌≤◌, ℕ, Bool, false, length, Option, Some, None}
 use Rattle.mr_forms.specs.Sets.{Test}
 use Rattle.mr_concise.specs.Edges.{IsRising}
 use Rattle.mr_concise.specs.Column.{Extent, edges, column_has}
@@ -29,3 +29,8 @@ pub record HasManyHoles (has : ℕ → Bool) : Type 0 where
   pub column : Extent
   pub is : IsColumnOf has column
   pub many : 4096 < length column.holes
+
+-- what it has, where there is one
+abbrev pub in_some : {X : Type 0} → (X → Test) → Option X → Test
+in_some has None v = false
+in_some has (Some x) v = has x v

@@ -5,10 +5,10 @@ ghost use Rattle.mr_concise.specs.AllOf.{in_all, lower_of, IsPassed};
 use crate::source::Source;
 use mr_version::Author;
 
-/// Sources that are united.
+/// Sources that are united: what one of them has.
 #[derive(Drop)]
-pub(crate) struct AllOf<'a, S> {
-    pub(crate) sources: &'a [S],
+pub struct AllOf<'a, S> {
+    pub sources: &'a [S],
 }
 
 impl<'a, S: Source> Source for AllOf<'a, S> {
@@ -43,7 +43,7 @@ impl<'a, S: Source> Source for AllOf<'a, S> {
 }
 
 /// The lower of two authors, where there are any.
-fn lower_author(a: Option<Author>, b: Option<Author>) -> Option<Author>
+pub(crate) fn lower_author(a: Option<Author>, b: Option<Author>) -> Option<Author>
     ensures { result ≡ lower_of a b }
 {
     match (a, b) {
@@ -54,7 +54,7 @@ fn lower_author(a: Option<Author>, b: Option<Author>) -> Option<Author>
 }
 
 /// The lower of two counters, where there are any.
-fn lower(a: Option<u32>, b: Option<u32>) -> Option<u32>
+pub(crate) fn lower(a: Option<u32>, b: Option<u32>) -> Option<u32>
     ensures { result ≡ lower_of a b }
 {
     match (a, b) {

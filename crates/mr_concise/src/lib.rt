@@ -10,6 +10,9 @@
 //! A column has at most 4,096 holes. A call whose result would have a column with more answers
 //! `TooManyHoles` and changes nothing, and it does so before it asks for memory.
 //!
+//! A set in any other form becomes a vector by `from_set`, and the fragments of a knowledge get concise
+//! vectors by `concise_fragments`. `knowledge_text` shows them, as `all 0:1; 0.3,0.5 0:9!2!5..7`.
+//!
 //! ```
 //! let mut vector = ConciseVector::from_versions(alloc, &versions)?;
 //! vector.union(&other)?;
@@ -23,22 +26,30 @@ mod column;
 mod column_ref;
 mod cursor;
 mod equal;
+#[cfg(test)]
+mod fragment_tests;
+mod fragments;
 mod holes;
 mod insert;
 mod meet;
-mod part;
+mod ordered_runs;
 mod runs;
 mod set;
 mod source;
+mod sources;
 mod sweep;
 #[cfg(test)]
 mod tests;
 mod text;
+#[cfg(test)]
+mod twin_tests;
 mod union;
 mod vector;
 mod versions;
 mod walk;
 
+pub use all_of::AllOf;
 pub use column::{Column, Hole, MAX_HOLES};
-pub use part::Part;
+pub use fragments::{concise_fragments, knowledge_text};
+pub use source::Source;
 pub use vector::{AuthorColumn, ConciseVector};

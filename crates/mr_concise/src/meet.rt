@@ -4,7 +4,6 @@ ghost use Rattle.mr_concise.specs.Meet.{in_both, meet_has};
 ghost use Rattle.mr_concise.specs.Vector.{vector_has, HasTooManyHoles};
 
 use crate::source::Source;
-use crate::sweep::gathered;
 use crate::vector::{ConciseVector, column_at, next_author};
 use mr_forms::FormFault;
 use mr_version::Author;
@@ -52,6 +51,6 @@ impl ConciseVector {
         ensures holes { IsErrOf result FormFault.TooManyHoles ↔ HasTooManyHoles (in_both (vector_has self.now) (vector_has other.now)) }
         ensures items { result ≢ Err FormFault.TooManyItems }
     {
-        gathered(self.alloc, &Meet { a: self, b: other })
+        ConciseVector::gather(self.alloc, &Meet { a: self, b: other })
     }
 }

@@ -2,13 +2,10 @@ ghost use Rattle.std.specs.Prelude.{◌≡◌, ◌≤◌, ◌<◌, ◌↔◌, �
 ghost use Rattle.mr_forms.specs.Sets.{IsSame};
 ghost use Rattle.mr_concise.specs.Column.{Extent, column_has, IsColumn};
 ghost use Rattle.mr_concise.specs.Last.{of_author};
-ghost use Rattle.mr_concise.specs.Part.{in_parts};
 ghost use Rattle.mr_concise.specs.Source.{IsColumnOf, HasFewHoles, HasManyHoles};
 ghost use Rattle.mr_concise.specs.Vector.{vector_has, column_of, IsVectorFrom, HasTooManyHoles};
 
-use crate::all_of::AllOf;
 use crate::column::{Column, Hole, MAX_HOLES};
-use crate::part::Part;
 use crate::source::Source;
 use crate::vector::{AuthorColumn, ConciseVector, put};
 use mr_forms::FormFault;
@@ -83,30 +80,22 @@ fn gathered_columns<S: Source>(alloc: Global, source: &S) -> Result<Vec<AuthorCo
     Ok(columns)
 }
 
-/// The vector of the versions.
-pub(crate) fn gathered<S: Source>(alloc: Global, source: &S) -> Result<ConciseVector, FormFault>
-    ensures ok { IfOk result (λ vector. IsSame (vector_has vector) (S.has source.now)) }
-    ensures holes { IsErrOf result FormFault.TooManyHoles ↔ HasTooManyHoles (S.has source.now) }
-    ensures items { result ≢ Err FormFault.TooManyItems }
-{
-    if would_have_too_many(source) {
-        return Err(FormFault::TooManyHoles);
-    }
-    let Ok(columns) = gathered_columns(alloc, source) else {
-        return Err(FormFault::OutOfMemory);
-    };
-    Ok(ConciseVector { alloc, columns })
-}
-
 impl ConciseVector {
-    /// All versions of some vectors and runs in one vector. `TooManyHoles` exactly where a column of
-    /// them all has more than 4,096 holes, whatever some of them alone would have; `OutOfMemory` only
-    /// after it.
-    pub fn union_of(alloc: Global, parts: &[Part<'_>]) -> Result<ConciseVector, FormFault>
-        ensures ok { IfOk result (λ vector. IsSame (vector_has vector) (in_parts parts.now)) }
-        ensures holes { IsErrOf result FormFault.TooManyHoles ↔ HasTooManyHoles (in_parts parts.now) }
+    /// All versions of a source in one vector: of a set, of several of them ([`AllOf`](crate::AllOf), a
+    /// pair), or of none. `TooManyHoles` exactly where a column of them all has more than 4,096 holes,
+    /// whatever some of them alone would have; `OutOfMemory` only after it. Nothing is allocated before
+    /// the holes are counted.
+    pub fn gather<S: Source>(alloc: Global, source: &S) -> Result<ConciseVector, FormFault>
+        ensures ok { IfOk result (λ vector. IsSame (vector_has vector) (S.has source.now)) }
+        ensures holes { IsErrOf result FormFault.TooManyHoles ↔ HasTooManyHoles (S.has source.now) }
         ensures items { result ≢ Err FormFault.TooManyItems }
     {
-        gathered(alloc, &AllOf { sources: parts })
+        if would_have_too_many(source) {
+            return Err(FormFault::TooManyHoles);
+        }
+        let Ok(columns) = gathered_columns(alloc, source) else {
+            return Err(FormFault::OutOfMemory);
+        };
+        Ok(ConciseVector { alloc, columns })
     }
 }

@@ -1,7 +1,5 @@
-ghost use Rattle.std.specs.Prelude.{◌≤◌, ◌<◌};
-
-use crate::{AuthorColumn, ConciseVector, Hole, Part};
-use mr_forms::{FormFault, PlainVersions, Run, VersionSet};
+use crate::{AllOf, AuthorColumn, ConciseVector, Hole};
+use mr_forms::{FormFault, Run, VersionSet};
 use mr_version::{Author, Version};
 use std::alloc::Global;
 use std::test::Fail;
@@ -59,15 +57,12 @@ fn ample_memory(rt: HostRuntime) -> Result<(), Fail> {
     };
     assert_eq!(rt; runs.get(1).copied(), Some(single));
     assert_eq!(rt; runs.get(3).copied(), Some(run));
-    let parts = [
-        Part::Vector(&vector),
-        Part::Run(Run {
-            author,
-            first: 1,
-            last: 9,
-        }),
-    ];
-    let whole = ConciseVector::union_of(alloc, &parts)?;
+    let filling = Run {
+        author,
+        first: 1,
+        last: 9,
+    };
+    let whole = ConciseVector::gather(alloc, &(&vector, Some(filling)))?;
     assert_eq!(rt; whole.text()?.as_str(), "0:9,63:4!1");
     let listed = [
         Version::try_new(author, 8)?,
@@ -152,11 +147,11 @@ fn only_the_whole_union_is_limited(rt: HostRuntime) -> Result<(), Fail> {
         first: 4,
         last: 4,
     };
-    let too_many = [Part::Vector(&full), Part::Run(far)];
-    let refused = ConciseVector::union_of(alloc, &too_many);
+    let refused = ConciseVector::gather(alloc, &(&full, far));
     assert!(rt; matches!(refused, Err(FormFault::TooManyHoles)));
-    let enough = [Part::Vector(&full), Part::Run(far), Part::Run(filling)];
-    let whole = ConciseVector::union_of(alloc, &enough)?;
+    let runs = [far, filling];
+    let enough = (&full, AllOf { sources: &runs });
+    let whole = ConciseVector::gather(alloc, &enough)?;
     assert_eq!(rt; whole.last(author), Some(8195));
     for x in whole.author_columns() {
         assert_eq!(rt; x.column.holes().len(), 4096);
@@ -169,89 +164,5 @@ fn only_the_whole_union_is_limited(rt: HostRuntime) -> Result<(), Fail> {
     assert!(rt; matches!(refused, Err(FormFault::TooManyHoles)));
     versions.push(Version::try_new(author, 4)?)?;
     assert!(rt; ConciseVector::from_versions(alloc, &versions)? == whole);
-    Ok(())
-}
-
-/// The next number of a linear congruential sequence.
-fn next_number(number: u64) -> u64 {
-    number
-        .wrapping_mul(6364136223846793005)
-        .wrapping_add(1442695040888963407)
-}
-
-/// A number below the limit, from the upper half of a number.
-fn below(number: u64, limit: u64) -> u64
-    requires { 1 ≤ limit }
-    ensures { result < limit }
-{
-    (number >> 33) % limit
-}
-
-/// One set of versions, in both forms.
-#[derive(Drop)]
-struct Twin {
-    concise: ConciseVector,
-    plain: PlainVersions,
-}
-
-impl Twin {
-    fn new(alloc: Global) -> Twin {
-        Twin {
-            concise: ConciseVector::new(alloc),
-            plain: PlainVersions::new(alloc),
-        }
-    }
-
-    /// Whether both forms give the same answers, to each question that can be asked.
-    fn agrees(&self, other: &Twin, version: Version) -> Result<bool, Fail> {
-        let concise_runs = self.concise.columns()?;
-        let plain_runs = self.plain.columns()?;
-        let covers = self.concise.covers(&other.concise) == self.plain.covers(&other.plain);
-        let contains = self.concise.contains(version) == self.plain.contains(version);
-        let other_runs = other.plain.columns()?;
-        let is_one = plain_runs == other_runs;
-        let same = (self.concise == other.concise) == is_one;
-        Ok(concise_runs == plain_runs && covers && contains && same)
-    }
-}
-
-#[test]
-fn agrees_with_plain_versions(rt: HostRuntime) -> Result<(), Fail> {
-    let alloc = rt.alloc();
-    let mut number = 20_051u64;
-    let mut twin = Twin::new(alloc);
-    let mut other = Twin::new(alloc);
-    for _ in 0..4000 {
-        number = next_number(number);
-        let author = Author::try_new(below(number, 3) as u16)?;
-        number = next_number(number);
-        let first = below(number, 40) as u32 + 1;
-        number = next_number(number);
-        let last = first + below(number, 7) as u32;
-        let version = Version::try_new(author, first)?;
-        let run = Run {
-            author,
-            first,
-            last,
-        };
-        number = next_number(number);
-        match below(number, 16) {
-            0 => twin = Twin::new(alloc),
-            1 | 2 => std::mem::swap(&mut twin, &mut other),
-            3 | 4 => {
-                twin.concise.insert_range(run)?;
-                twin.plain.insert_range(run)?;
-            }
-            5 => {
-                twin.concise.union(&other.concise)?;
-                twin.plain.union(&other.plain)?;
-            }
-            _ => {
-                twin.concise.insert(version)?;
-                twin.plain.insert(version)?;
-            }
-        }
-        assert!(rt; twin.agrees(&other, version)?);
-    }
     Ok(())
 }

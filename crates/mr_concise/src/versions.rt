@@ -1,20 +1,20 @@
-ghost use Rattle.std.specs.Prelude.{◌≡◌, ◌↔◌, ◌≢◌, IfOk, IsErrOf, Err};
-ghost use Rattle.mr_version.specs.Name.{Name, name_eq};
+ghost use Rattle.std.specs.Prelude.{◌≡◌, ◌↔◌, ◌≢◌, IfOk, OnOk, IsErrOf, Err};
+ghost use Rattle.mr_version.specs.Name.{name_eq};
 ghost use Rattle.mr_forms.specs.Sets.{IsSame, is_listed};
-ghost use Rattle.mr_concise.specs.Vector.{vector_has, IsVectorFrom, HasTooManyHoles};
+ghost use Rattle.mr_concise.specs.Vector.{vector_has, HasTooManyHoles};
 
 use crate::all_of::AllOf;
-use crate::insert::insert_in;
 use crate::source::Source;
 use crate::sweep::would_have_too_many;
-use crate::vector::{AuthorColumn, ConciseVector};
-use mr_forms::FormFault;
+use crate::vector::ConciseVector;
+use mr_forms::{FormFault, PlainVersions, VersionSet};
 use mr_version::{Author, Version};
 use std::alloc::Global;
 
+/// The version alone.
 #[tactic(auto, using(crate::proofs::NameLemmas::name_eq_parts))]
 impl Source for Version {
-    ghost has = { λ version v. name_eq v version };
+    ghost has = { name_eq };
 
     fn next_author(&self, id: u16) -> Option<Author> {
         let author = self.author();
@@ -44,35 +44,42 @@ impl Source for Version {
     }
 }
 
-/// The columns of the versions. These are put in order first, so that each goes to the end of its column.
-fn inserted(alloc: Global, versions: &[Version]) -> Result<Vec<AuthorColumn>, FormFault>
-    ensures vector { IfOk result (λ columns. IsVectorFrom 0 columns.items) }
-    ensures means { IfOk result (λ columns. IsSame (vector_has columns.items) (is_listed versions.now)) }
+/// The vector of the versions, by way of their set, which brings them in order. It may want memory before
+/// the holes are counted.
+fn by_set(alloc: Global, versions: &[Version]) -> Result<ConciseVector, FormFault>
+    ensures ok { IfOk result (λ vector. IsSame (vector_has vector) (is_listed versions.now)) }
+    ensures few { OnOk result (¬ HasTooManyHoles (is_listed versions.now)) }
+    ensures holes { IsErrOf result FormFault.TooManyHoles → HasTooManyHoles (is_listed versions.now) }
+    ensures items { result ≢ Err FormFault.TooManyItems }
 {
-    let mut sorted = Vec::from_slice(alloc, versions)?;
-    sorted.sort()?;
-    let mut columns = Vec::new(alloc);
-    for version in &sorted {
-        insert_in(&mut columns, alloc, version.author(), version.counter())?;
+    let mut set = PlainVersions::new(alloc);
+    for version in versions {
+        set.insert(*version)?;
     }
-    Ok(columns)
+    ConciseVector::from_set(alloc, &set)
 }
 
 impl ConciseVector {
     /// The vector of these versions, in any order. `TooManyHoles` exactly where one of its columns
     /// would have more than 4,096 holes, whatever some of the versions alone would have;
     /// `OutOfMemory` only after it.
+    ///
+    /// It takes time for the versions times the logarithm of their number. Only where memory ends the
+    /// holes are counted without any, which goes over the versions again and again.
     pub fn from_versions(alloc: Global, versions: &[Version]) -> Result<ConciseVector, FormFault>
         ensures ok { IfOk result (λ vector. IsSame (vector_has vector) (is_listed versions.now)) }
         ensures holes { IsErrOf result FormFault.TooManyHoles ↔ HasTooManyHoles (is_listed versions.now) }
         ensures items { result ≢ Err FormFault.TooManyItems }
     {
-        if let Ok(columns) = inserted(alloc, versions) {
-            return Ok(ConciseVector { alloc, columns });
+        match by_set(alloc, versions) {
+            Err(FormFault::OutOfMemory) => {
+                if would_have_too_many(&AllOf { sources: versions }) {
+                    Err(FormFault::TooManyHoles)
+                } else {
+                    Err(FormFault::OutOfMemory)
+                }
+            }
+            answer => answer,
         }
-        if would_have_too_many(&AllOf { sources: versions }) {
-            return Err(FormFault::TooManyHoles);
-        }
-        Err(FormFault::OutOfMemory)
     }
 }

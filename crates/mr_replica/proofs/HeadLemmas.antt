@@ -8,12 +8,12 @@ use Rattle.std.proofs.lemmas.List.Elements.{filter_agree}
 use Rattle.std.proofs.lemmas.List.Folds.{list_any-append}
 use Rattle.mr_version.specs.Name.{Name, name_cmp, name_eq}
 use Rattle.mr_forms.specs.Sets.{Test, is_listed}
-use Rattle.mr_replica.specs.Revision.{Rev}
-use Rattle.mr_replica.specs.Keyed.{without, is_before}
+use Rattle.mr_madewith.specs.Revision.{Rev}
+use Rattle.mr_madewith.specs.Keyed.{without, is_before}
 use Rattle.mr_replica.specs.Heads.{AreHeads, version_of, entered, is_of, versions_of, supersedes, left_by}
 use Rattle.mr_replica.specs.Index.{version_placed}
-use Rattle.mr_replica.proofs.Rising.{name_eq_self, same_names, name_eq-swap, head_before, tail_rises, all_filtered}
-use Rattle.mr_replica.proofs.Found.{first_place}
+use Rattle.mr_madewith.proofs.Rising.{name_eq_self, same_names, name_eq-swap, head_before, tail_rises, all_filtered}
+use Rattle.mr_madewith.proofs.Found.{first_place}
 
 pub either : (b : Bool) → (b ≡ true) ⊎ (b ≡ false)
 either true = inl refl

@@ -5,7 +5,7 @@ use Rattle.std.specs.Option.{option_map_or}
 use Rattle.std.specs.BTreeMap.{BTreeMap, get}
 use Rattle.mr_version.specs.Name.{Name, name_cmp, name_eq}
 use Rattle.mr_replica.specs.Index.{listed_for, HasRoomFor}
-use Rattle.mr_replica.proofs.Rising.{name_eq_self, same_names}
+use Rattle.mr_madewith.proofs.Rising.{name_eq_self, same_names}
 use Rattle.mr_replica.proofs.HeadLemmas.{either}
 
 module _ {Z : Type 0} where

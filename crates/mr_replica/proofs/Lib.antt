@@ -1,10 +1,9 @@
-pub mod Rising
-pub mod Found
-pub mod Placed
 pub mod HeadLemmas
 pub mod IndexLemmas
+pub mod Choice
+pub mod Below
 pub mod Issuing
-pub mod Taught
 pub mod Answered
 pub mod Several
+pub mod FragmentLemmas
 mod Rows

@@ -1,13 +1,15 @@
 -- Worked rows: what the definitions of a step say of states that were computed by hand.
 use Rattle.std.proofs.Common.{◌≡◌, ℕ, true, false, refl, List, [], ◌∷◌, map, Some, None}
 use Rattle.mr_version.specs.Name.{Name}
+use Rattle.mr_forms.specs.Known.{Form}
+use Rattle.mr_concise.specs.declared.vector.AuthorColumn.{AuthorColumn}
 use Rattle.mr_mail.specs.Mail.{Mail, card_of}
 use Rattle.mr_feed.specs.declared.entry.Entry.TheVariants.{Added, Dropped}
-use Rattle.mr_replica.specs.Revision.{Rev, has_below}
+use Rattle.mr_madewith.specs.Revision.{Rev, has_below}
 use Rattle.mr_replica.specs.Heads.{version_of, entered, left_by, has_conflict}
-use Rattle.mr_replica.specs.Trail.{Own}
+use Rattle.mr_madewith.specs.Trail.{Own}
 use Rattle.mr_replica.specs.State.{State}
-use Rattle.mr_replica.specs.Step.{first_refusal, below_of, news_of}
+use Rattle.mr_replica.specs.Step.{first_refusal, edited_below, version_learned, news_of}
 use Rattle.mr_replica.specs.declared.filter.Filter.TheVariants as filters
 use Rattle.mr_replica.specs.declared.event.Event.TheVariants.{Edit}
 use Rattle.mr_replica.specs.declared.refusal.Refusal.TheVariants.{NoBase, NotHeld, MixedItems, OwnHeadLeft, LogFull}
@@ -18,7 +20,11 @@ name author counter = record { author = author; counter = counter }
 abbrev mail : Mail
 mail = record { from = []; subject = []; body = []; labels = []; flags = 0; day = 0 }
 
-abbrev rev : Name → List Name → Rev
+-- the versions 1 to this one of an author
+abbrev column : ℕ → ℕ → AuthorColumn
+column author upto = record { author = author; column = record { upto = upto; holes = [] } }
+
+abbrev rev : Name → List AuthorColumn → Rev
 rev version below = record { item = name 0 1; version = version; below = below; message = mail }
 
 -- a replica 0 that issued so many versions, with these heads and last own versions
@@ -28,7 +34,7 @@ replica issued heads trail = record { id = 0; filter = filters.All; event_limit 
 -- ---- a conflict and its merge: 1.1 and 2.1 both replace 0.1
 
 abbrev conflict : State (Unit {0})
-conflict = replica 1 (rev (name 1 1) (name 0 1 ∷ []) ∷ rev (name 2 1) (name 0 1 ∷ []) ∷ []) (record { item = name 0 1; version = name 0 1; below = [] } ∷ [])
+conflict = replica 1 (rev (name 1 1) (column 0 1 ∷ []) ∷ rev (name 2 1) (column 0 1 ∷ []) ∷ []) (record { item = name 0 1; version = name 0 1; below = [] } ∷ [])
 
 conflict_is_told : has_conflict conflict.heads (name 0 1) ≡ true
 conflict_is_told = refl
@@ -37,11 +43,11 @@ conflict_is_told = refl
 edit_of_one_head : first_refusal conflict (Edit (name 2 1 ∷ []) mail) ≡ None
 edit_of_one_head = refl
 
-edit_of_one_head_below : map (below_of conflict (name 0 1) (name 2 1 ∷ [])) (name 0 1 ∷ name 0 2 ∷ name 1 1 ∷ name 2 1 ∷ []) ≡ true ∷ false ∷ false ∷ true ∷ []
+edit_of_one_head_below : map (edited_below conflict (name 2 1 ∷ [])) (name 0 1 ∷ name 0 2 ∷ name 1 1 ∷ name 2 1 ∷ []) ≡ true ∷ false ∷ false ∷ true ∷ []
 edit_of_one_head_below = refl
 
 abbrev second : Rev
-second = rev (name 0 2) (name 0 1 ∷ name 2 1 ∷ [])
+second = rev (name 0 2) (column 0 1 ∷ column 2 1 ∷ [])
 
 edit_of_one_head_heads : map version_of (entered second (left_by second.item (has_below second) conflict.heads)) ≡ name 0 2 ∷ name 1 1 ∷ []
 edit_of_one_head_heads = refl
@@ -51,7 +57,7 @@ edit_of_one_head_news = refl
 
 -- an edit of 1.1 alone leaves the own head 0.2, and is refused; one of both is admitted
 abbrev half_merged : State (Unit {0})
-half_merged = replica 2 (second ∷ rev (name 1 1) (name 0 1 ∷ []) ∷ []) (record { item = name 0 1; version = name 0 2; below = name 0 1 ∷ name 2 1 ∷ [] } ∷ [])
+half_merged = replica 2 (second ∷ rev (name 1 1) (column 0 1 ∷ []) ∷ []) (record { item = name 0 1; version = name 0 2; below = column 0 1 ∷ column 2 1 ∷ [] } ∷ [])
 
 own_head_left : first_refusal half_merged (Edit (name 1 1 ∷ []) mail) ≡ Some (OwnHeadLeft (name 0 2))
 own_head_left = refl
@@ -59,11 +65,11 @@ own_head_left = refl
 merge_is_admitted : first_refusal half_merged (Edit (name 0 2 ∷ name 1 1 ∷ []) mail) ≡ None
 merge_is_admitted = refl
 
-merge_below : map (below_of half_merged (name 0 1) (name 0 2 ∷ name 1 1 ∷ [])) (name 0 1 ∷ name 0 2 ∷ name 0 3 ∷ name 1 1 ∷ name 2 1 ∷ []) ≡ true ∷ true ∷ false ∷ true ∷ true ∷ []
+merge_below : map (edited_below half_merged (name 0 2 ∷ name 1 1 ∷ [])) (name 0 1 ∷ name 0 2 ∷ name 0 3 ∷ name 1 1 ∷ name 2 1 ∷ []) ≡ true ∷ true ∷ false ∷ true ∷ true ∷ []
 merge_below = refl
 
 abbrev third : Rev
-third = rev (name 0 3) (name 0 1 ∷ name 0 2 ∷ name 1 1 ∷ name 2 1 ∷ [])
+third = rev (name 0 3) (column 0 2 ∷ column 1 1 ∷ column 2 1 ∷ [])
 
 -- what leaves comes first, in version order
 merge_news : news_of third half_merged.heads ≡ Dropped (name 0 1) (name 0 2) ∷ Dropped (name 0 1) (name 1 1) ∷ Added (name 0 1) (name 0 3) (card_of mail) ∷ []
@@ -85,7 +91,7 @@ abbrev other_item : Rev
 other_item = record { item = name 3 7; version = name 3 7; below = []; message = mail }
 
 -- mixed items, before an own head that is left
-mixed_items : first_refusal (replica 2 (second ∷ rev (name 1 1) (name 0 1 ∷ []) ∷ other_item ∷ []) []) (Edit (name 1 1 ∷ name 3 7 ∷ []) mail) ≡ Some MixedItems
+mixed_items : first_refusal (replica 2 (second ∷ rev (name 1 1) (column 0 1 ∷ []) ∷ other_item ∷ []) []) (Edit (name 1 1 ∷ name 3 7 ∷ []) mail) ≡ Some MixedItems
 mixed_items = refl
 
 -- a full log comes after what the state refuses
@@ -98,12 +104,33 @@ full_log = refl
 -- ---- the trail: the own 0.2 has left the store, and still goes into the next below, with what it superseded
 
 abbrev own_has_left : State (Unit {0})
-own_has_left = replica 2 (rev (name 1 1) (name 0 1 ∷ []) ∷ []) (record { item = name 0 1; version = name 0 2; below = name 0 1 ∷ name 2 1 ∷ [] } ∷ [])
+own_has_left = replica 2 (rev (name 1 1) (column 0 1 ∷ []) ∷ []) (record { item = name 0 1; version = name 0 2; below = column 0 1 ∷ column 2 1 ∷ [] } ∷ [])
 
-trail_below : map (below_of own_has_left (name 0 1) (name 1 1 ∷ [])) (name 0 1 ∷ name 0 2 ∷ name 0 3 ∷ name 1 1 ∷ name 2 1 ∷ []) ≡ true ∷ true ∷ false ∷ true ∷ true ∷ []
+trail_below : map (edited_below own_has_left (name 1 1 ∷ [])) (name 0 1 ∷ name 0 2 ∷ name 0 3 ∷ name 1 1 ∷ name 2 1 ∷ []) ≡ true ∷ true ∷ false ∷ true ∷ true ∷ []
 trail_below = refl
 
--- ---- dropping asks for the item too: a filled below has counters of other items
+-- ---- the own column is filled: 0.3 and 0.4 are other items' first versions
 
-other_items_stay : map version_of (left_by (name 0 1) (has_below (rev (name 0 3) (name 0 1 ∷ name 1 1 ∷ name 3 7 ∷ []))) (rev (name 1 1) [] ∷ other_item ∷ [])) ≡ name 3 7 ∷ []
+abbrev creates_between : State (Unit {0})
+creates_between = replica 4 (rev (name 0 2) (column 0 1 ∷ []) ∷ []) (record { item = name 0 1; version = name 0 2; below = column 0 1 ∷ [] } ∷ [])
+
+filled_below : map (edited_below creates_between (name 0 2 ∷ [])) (name 0 1 ∷ name 0 2 ∷ name 0 3 ∷ name 0 4 ∷ name 0 5 ∷ name 1 1 ∷ []) ≡ true ∷ true ∷ true ∷ true ∷ false ∷ false ∷ []
+filled_below = refl
+
+-- so dropping asks for the item too
+abbrev of_item : Name → Rev
+of_item version = record { item = version; version = version; below = []; message = mail }
+
+other_items_stay : map version_of (left_by (name 0 1) (has_below (rev (name 0 5) (column 0 4 ∷ []))) (rev (name 0 2) (column 0 1 ∷ []) ∷ of_item (name 0 3) ∷ of_item (name 0 4) ∷ [])) ≡ name 0 3 ∷ name 0 4 ∷ []
 other_items_stay = refl
+
+-- ---- a version is learned alone
+
+abbrev knows_nothing : Form (Unit {0})
+knows_nothing = record { known = λ _ _ _. false; learns_for_all = false; has_too_many_holes = λ _. ⊥; has_too_many_items = λ _. ⊥ }
+
+learned_alone : map (version_learned knows_nothing creates_between (name 0 1) (name 0 1)) (name 0 2 ∷ name 0 3 ∷ name 0 4 ∷ name 0 5 ∷ name 0 6 ∷ []) ≡ false ∷ false ∷ false ∷ true ∷ false ∷ []
+learned_alone = refl
+
+learned_for_no_other_item : version_learned knows_nothing creates_between (name 0 1) (name 0 3) (name 0 5) ≡ false
+learned_for_no_other_item = refl

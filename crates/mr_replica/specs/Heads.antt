@@ -3,8 +3,8 @@ use Rattle.std.specs.Prelude.{◌≡◌, Bool, not, ◌&&◌, nat_le, Option, Li
 use Rattle.std.specs.List.Sorted.{IsStrictlySortedBy}
 use Rattle.mr_version.specs.Name.{Name, name_cmp, name_eq}
 use Rattle.mr_forms.specs.Sets.{Test, is_listed}
-use Rattle.mr_replica.specs.Revision.{Rev}
-use Rattle.mr_replica.specs.Keyed.{AreRising, named, placed}
+use Rattle.mr_madewith.specs.Revision.{Rev}
+use Rattle.mr_madewith.specs.Keyed.{AreRising, named, placed}
 
 abbrev pub version_of : Rev → Name
 version_of r = r.version

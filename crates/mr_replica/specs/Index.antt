@@ -4,8 +4,8 @@ use Rattle.std.specs.declared.vec.Vec.{Vec}
 use Rattle.std.specs.Option.{option_map_or}
 use Rattle.std.specs.BTreeMap.{BTreeMap, get}
 use Rattle.mr_version.specs.Name.{Name, name_cmp}
-use Rattle.mr_replica.specs.Revision.{Rev}
-use Rattle.mr_replica.specs.Keyed.{placed}
+use Rattle.mr_madewith.specs.Revision.{Rev}
+use Rattle.mr_madewith.specs.Keyed.{placed}
 use Rattle.mr_replica.specs.Heads.{versions_of}
 
 -- the versions with one more at its place

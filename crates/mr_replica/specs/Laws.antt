@@ -1,5 +1,5 @@
 -- what each step keeps
-use Rattle.std.specs.Prelude.{◌≡◌, true, false, Bool, ◌||◌, Option, Some, None, Result, Ok, Err, refl}
+use Rattle.std.specs.Prelude.{◌≡◌, true, false, Bool, ◌||◌, ◌&&◌, Option, Some, None, Result, Ok, Err, refl}
 use Rattle.std.proofs.Common.{ap, sym, subst, ◌∙◌}
 use Rattle.std.proofs.lemmas.Cmp.{tied_itself}
 use Rattle.std.specs.Ordering.{is_eq}
@@ -55,10 +55,19 @@ module _ {K : Type 0} (form : Form K) (s new : State K) (event : Event) where
   step_keeps_known (Err e) h i v known = subst (λ t. form.known t.knowledge i v ≡ true) (sym (refusal_changes_nothing e h)) known
   step_keeps_known (Ok (Issued w)) h i v known =
       let changes = reply_changes (Issued w) h in
-      changes.1.3 i v ∙ or_true _ _ (learned_keeps form.learns_for_all (form.known s.knowledge) (issued_item s event) (next_version s) i v known)
+      changes.2.2 i v ∙ learned_keeps form.learns_for_all (form.known s.knowledge) (issued_item s event) (next_version s) i v known
 
-  -- a version that is issued is known, and so is all that it supersedes
+  -- a version that is issued is known
   pub issued_known : (w : Name) → Steps form s event (Ok (Issued w)) new → form.known new.knowledge (issued_item s event) w ≡ true
   issued_known w h =
       let changes = reply_changes (Issued w) h in
-      changes.1.3 (issued_item s event) w ∙ or_true _ _ (subst (λ v. version_learned form s (issued_item s event) (issued_item s event) v ≡ true) (sym changes.0) (learned_itself form.learns_for_all (form.known s.knowledge) (issued_item s event) (next_version s)))
+      changes.2.2 (issued_item s event) w ∙ (subst (λ v. version_learned form s (issued_item s event) (issued_item s event) v ≡ true) (sym changes.0) (learned_itself form.learns_for_all (form.known s.knowledge) (issued_item s event) (next_version s)))
+
+  -- nothing else becomes known, where the form learns a version for its item alone
+  pub issued_alone : (w : Name) → Steps form s event (Ok (Issued w)) new → form.learns_for_all ≡ false
+      → (i v : Name) → form.known new.knowledge i v ≡ ((name_eq (issued_item s event) i && name_eq w v) || form.known s.knowledge i v)
+  issued_alone w h alone i v =
+      let changes = reply_changes (Issued w) h in
+      changes.2.2 i v
+      ∙ ap (λ for_all. with_learned for_all (form.known s.knowledge) (issued_item s event) (next_version s) i v) alone
+      ∙ ap (λ (u : Name). (name_eq (issued_item s event) i && name_eq u v) || form.known s.knowledge i v) (sym changes.0)

@@ -1,14 +1,11 @@
-pub mod Revision
-pub mod Keyed
 pub mod Heads
 pub mod Index
-pub mod Search
 pub mod Store
-pub mod Trail
 pub mod State
 pub mod Step
 pub mod Refusal
 pub mod Sound
 pub mod Issue
+pub mod Fragments
 pub mod News
 pub mod Laws

@@ -1,8 +1,8 @@
 -- a replica as contracts see it
 use Rattle.std.specs.Prelude.{ℕ, List}
 use Rattle.mr_feed.specs.declared.entry.Entry.{Entry}
-use Rattle.mr_replica.specs.Revision.{Rev}
-use Rattle.mr_replica.specs.Trail.{Own}
+use Rattle.mr_madewith.specs.Revision.{Rev}
+use Rattle.mr_madewith.specs.Trail.{Own}
 use Rattle.mr_replica.specs.declared.filter.Filter.{Filter}
 use Rattle.mr_replica.specs.declared.event.Event.{Event}
 

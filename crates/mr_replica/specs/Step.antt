@@ -1,16 +1,19 @@
 -- One event of a replica: its refusals, in their order, and the change that each answer stands for.
-use Rattle.std.specs.Prelude.{◌≡◌, ◌+◌, ◌==◌, nat_le, Bool, false, not, ◌&&◌, ◌||◌, if◌then◌else◌, Option, Some, None, Result, Ok, Err, ◌⊎◌, List, [], ◌∷◌, ◌++◌, is_none, length, find, filter, map, All}
-use Rattle.std.specs.List.{list_any, list_all}
+use Rattle.std.specs.Prelude.{◌≡◌, ◌+◌, ◌==◌, nat_le, Bool, false, not, ◌&&◌, if◌then◌else◌, Option, Some, None, Result, Ok, Err, ◌⊎◌, List, [], ◌∷◌, ◌++◌, is_none, length, find, filter, map, All}
+use Rattle.std.specs.List.{list_all, filter_map}
 use Rattle.std.specs.Option.{option_map_or, option_map}
 use Rattle.mr_version.specs.Name.{Name, name_eq}
 use Rattle.mr_forms.specs.Sets.{Test, IsSame, is_listed}
-use Rattle.mr_forms.specs.Known.{Pairs, Form, AreSame, IsOnlyOverItems, with_learned, with_below}
+use Rattle.mr_forms.specs.Known.{Pairs, Form, AreSame, IsOnlyOverItems, with_learned}
+use Rattle.mr_concise.specs.declared.vector.AuthorColumn.{AuthorColumn}
+use Rattle.mr_concise.specs.Vector.{vector_has, HasTooManyHoles}
 use Rattle.mr_mail.specs.Mail.{Mail, card_of}
 use Rattle.mr_feed.specs.declared.entry.Entry.{Entry}
 use Rattle.mr_feed.specs.declared.entry.Entry.TheVariants.{Added, Dropped}
-use Rattle.mr_replica.specs.Revision.{Rev, has_below}
+use Rattle.mr_madewith.specs.Revision.{Rev, has_below}
 use Rattle.mr_replica.specs.Heads.{version_of, held, entered, supersedes, left_by}
-use Rattle.mr_replica.specs.Trail.{last_of, noted, own_of}
+use Rattle.mr_madewith.specs.Trail.{last_of, noted, own_of}
+use Rattle.mr_madewith.specs.MadeWith.{made_with}
 use Rattle.mr_replica.specs.State.{State}
 use Rattle.mr_replica.specs.declared.event.Event.{Event}
 use Rattle.mr_replica.specs.declared.event.Event.TheVariants.{Create, Edit}
@@ -46,6 +49,11 @@ nothing v = false
 abbrev pub message_of : Event → Mail
 message_of (Create message) = message
 message_of (Edit bases message) = message
+
+-- what an event wants a value of, where its form may have none: a set of versions, or a knowledge
+pub data Wanted : Type 0 where
+  Vector : (set : Test) → Wanted
+  Knowledge : (pairs : Pairs) → Wanted
 
 module _ {K : Type 0} where
   -- the version that the replica issues next
@@ -95,17 +103,13 @@ module _ {K : Type 0} where
   edited_item s [] = next_version s
   edited_item s (b ∷ bs) = item_of s b
 
-  -- whether v is the base, or superseded by it
-  abbrev pub is_base_or_below : State K → Name → Name → Bool
-  is_base_or_below s base v = name_eq base v || option_map_or (λ r. has_below r v) (held s.heads base) false
+  -- the held revisions of these versions
+  abbrev pub revisions_of : State K → List Name → List Rev
+  revisions_of s bases = filter_map (held s.heads) bases
 
-  -- whether v is the last own version of the item, or superseded by it
-  abbrev pub is_last_or_below : State K → Name → Name → Bool
-  is_last_or_below s item v = option_map_or (λ l. name_eq l.version v || is_listed l.below v) (last_of s.trail item) false
-
-  -- the bases and the last own version of the item, with all that they supersede
-  abbrev pub below_of : State K → (item : Name) → (bases : List Name) → Test
-  below_of s item bases v = list_any (λ base. is_base_or_below s base v) bases || is_last_or_below s item v
+  -- what the next version supersedes as an edit of these bases
+  abbrev pub edited_below : State K → List Name → Test
+  edited_below s bases = made_with (revisions_of s bases) (last_of s.trail (edited_item s bases)) (next_version s)
 
   -- the item that the event issues a version of, and what that version supersedes
   abbrev pub issued_item : State K → Event → Name
@@ -114,34 +118,34 @@ module _ {K : Type 0} where
 
   abbrev pub issued_below : State K → Event → Test
   issued_below s (Create message) = nothing
-  issued_below s (Edit bases message) = below_of s (edited_item s bases) bases
+  issued_below s (Edit bases message) = edited_below s bases
 
   -- ---- what is known
 
-  -- what is known once the replica has learned its next version for the item, and then once it has learned what that version supersedes
+  -- what is known once the replica has learned its next version for the item
   abbrev pub version_learned : Form K → State K → (item : Name) → Pairs
   version_learned form s item = with_learned form.learns_for_all (form.known s.knowledge) item (next_version s)
 
-  abbrev pub below_learned : Form K → State K → (item : Name) → (below : Test) → Pairs
-  below_learned form s item below = with_below (version_learned form s item) item below
+  -- what the event wants, in the order of the tries: a vector of what its version supersedes, and the knowledge with that version
+  abbrev pub wanted_by : Form K → State K → Event → List Wanted
+  wanted_by form s event = Vector (issued_below s event) ∷ Knowledge (version_learned form s (issued_item s event)) ∷ []
 
-  abbrev pub learnings : Form K → State K → (item : Name) → (below : Test) → List Pairs
-  learnings form s item below = version_learned form s item ∷ below_learned form s item below ∷ []
+  -- there is a value for it
+  abbrev pub Fits : Form K → Wanted → Type 0
+  Fits form (Vector set) = ¬ HasTooManyHoles set
+  Fits form (Knowledge pairs) = (¬ form.has_too_many_holes pairs) × (¬ form.has_too_many_items pairs)
 
-  -- the form has a value for this knowledge
-  abbrev pub Fits : Form K → Pairs → Type 0
-  Fits form pairs = (¬ form.has_too_many_holes pairs) × (¬ form.has_too_many_items pairs)
+  -- the refusal tells why there is no value for it
+  abbrev pub HasFault : Form K → Refusal → Wanted → Type 0
+  HasFault form TooManyHoles (Vector set) = HasTooManyHoles set
+  HasFault form TooManyHoles (Knowledge pairs) = form.has_too_many_holes pairs
+  HasFault form TooManyItems (Knowledge pairs) = IsOnlyOverItems form pairs
+  HasFault form _ _ = ⊥
 
-  -- the refusal tells why the form has no value for it
-  abbrev pub HasFault : Form K → Refusal → Pairs → Type 0
-  HasFault form TooManyHoles pairs = form.has_too_many_holes pairs
-  HasFault form TooManyItems pairs = IsOnlyOverItems form pairs
-  HasFault form _ pairs = ⊥
-
-  -- the refusal tells it of the first of these that the form has no value for
-  abbrev pub FirstFault : Form K → Refusal → List Pairs → Type 0
+  -- the refusal tells it of the first of these for which there is no value
+  abbrev pub FirstFault : Form K → Refusal → List Wanted → Type 0
   FirstFault form e [] = ⊥
-  FirstFault form e (p ∷ ps) = HasFault form e p ⊎ (Fits form p × FirstFault form e ps)
+  FirstFault form e (w ∷ ws) = HasFault form e w ⊎ (Fits form w × FirstFault form e ws)
 
   -- ---- changes
 
@@ -158,21 +162,22 @@ module _ {K : Type 0} where
     feed = s.feed ++ news_of r s.heads;
   }
 
-  -- The event issued a version of the item, which supersedes what is below and has the message.
+  -- The event issued a version of the item, which supersedes what is below and has the message. That version alone is learned.
   abbrev pub Issues : Form K → State K → (item : Name) → (below : Test) → Mail → Event → State K → Type 0
   Issues form s item below message event new =
-      (versions : List Name) × IsSame (is_listed versions) below ×
-      All (Fits form) (learnings form s item below) × AreSame (form.known new.knowledge) (below_learned form s item below) ×
-      (new ≡ logged (issuing s new.knowledge (record { item = item; version = next_version s; below = versions; message = message })) event)
+      (columns : List AuthorColumn) × IsSame (vector_has columns) below ×
+      AreSame (form.known new.knowledge) (version_learned form s item) ×
+      (new ≡ logged (issuing s new.knowledge (record { item = item; version = next_version s; below = columns; message = message })) event)
 
   -- The change that the reply stands for.
   abbrev pub Changes : Form K → State K → Event → Reply → State K → Type 0
-  Changes form s event (Issued v) new = (v ≡ next_version s) × Issues form s (issued_item s event) (issued_below s event) (message_of event) event new
+  Changes form s event (Issued v) new =
+      (v ≡ next_version s) × All (Fits form) (wanted_by form s event) × Issues form s (issued_item s event) (issued_below s event) (message_of event) event new
 
   -- A refusal of the forms or of memory, which the event meets last of all.
   abbrev pub RefusesLate : Form K → State K → Event → Refusal → Type 0
   RefusesLate form s event OutOfMemory = Unit {0}
-  RefusesLate form s event e = FirstFault form e (learnings form s (issued_item s event) (issued_below s event))
+  RefusesLate form s event e = FirstFault form e (wanted_by form s event)
 
   abbrev pub Answers : Form K → State K → Event → Result Reply Refusal → State K → Type 0
   Answers form s event (Ok reply) new = Changes form s event reply new

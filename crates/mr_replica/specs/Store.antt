@@ -3,7 +3,7 @@ use Rattle.std.specs.Prelude.{◌<◌, Option, List, vec_len, vec_capacity, IsSo
 use Rattle.std.specs.declared.vec.Vec.{Vec}
 use Rattle.std.specs.BTreeMap.{BTreeMap}
 use Rattle.mr_version.specs.Name.{Name}
-use Rattle.mr_replica.specs.Revision.{Rev}
+use Rattle.mr_madewith.specs.Revision.{Rev}
 use Rattle.mr_replica.specs.Heads.{AreHeads}
 use Rattle.mr_replica.specs.Index.{IsIndexOf, HasRoomFor}
 

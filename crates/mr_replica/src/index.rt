@@ -4,10 +4,12 @@ ghost use Rattle.std.specs.BTreeMap.{get};
 ghost use Rattle.std.specs.List.Sorted.{IsStrictlySortedBy};
 ghost use Rattle.mr_version.specs.Name.{Name, name_cmp, name_eq};
 ghost use Rattle.mr_forms.specs.Sets.{is_listed};
-ghost use Rattle.mr_replica.specs.Keyed.{is_before};
+ghost use Rattle.mr_concise.specs.Vector.{vector_has};
+ghost use Rattle.mr_madewith.specs.Keyed.{is_before};
 ghost use Rattle.mr_replica.specs.Index.{listed_for, HasRoomFor, version_placed, are_several};
 
-use mr_forms::{PlainVersions, VersionSet};
+use mr_concise::ConciseVector;
+use mr_forms::VersionSet;
 use mr_version::{ItemId, Version};
 use std::alloc::{AllocError, Global};
 use std::collections::BTreeMap;
@@ -89,8 +91,8 @@ pub fn list(index: &mut BTreeMap<ItemId, Vec<Version>>, item: ItemId, version: V
 }
 
 /// Lists no version of the item that is below.
-pub fn unlist(index: &mut BTreeMap<ItemId, Vec<Version>>, item: ItemId, below: &PlainVersions)
-    ensures others { (i : Name) → listed_for index.new i ≡ (if name_eq item i then filter (λ v. not (is_listed below.now v)) (listed_for index.old i) else listed_for index.old i) }
+pub fn unlist(index: &mut BTreeMap<ItemId, Vec<Version>>, item: ItemId, below: &ConciseVector)
+    ensures others { (i : Name) → listed_for index.new i ≡ (if name_eq item i then filter (λ v. not (vector_has below.now v)) (listed_for index.old i) else listed_for index.old i) }
     ensures room { (i : Name) → HasRoomFor (Some i) index.old → HasRoomFor (Some i) index.new }
 {
     if let Some(versions) = index.get_mut(&item) {
@@ -116,8 +118,8 @@ fn place_of(versions: &[Version], version: Version) -> usize
 }
 
 // Keeps the versions that are not below.
-fn retain_others(versions: &mut Vec<Version>, below: &PlainVersions)
-    ensures others { versions.new.items ≡ filter (λ v. not (is_listed below.now v)) versions.old.items }
+fn retain_others(versions: &mut Vec<Version>, below: &ConciseVector)
+    ensures others { versions.new.items ≡ filter (λ v. not (vector_has below.now v)) versions.old.items }
     ensures fewer { vec_len versions.new ≤ vec_len versions.old }
     ensures capacity { vec_capacity versions.new ≡ vec_capacity versions.old }
 {

@@ -4,9 +4,14 @@
 //! time, an [`Event`], and [`Replica::step`] either answers it or refuses it and changes nothing. A
 //! create issues the first version of a new item; an edit issues a version that supersedes held
 //! versions of one item, its bases, with all that these supersede, and the replica's own last version
-//! of the item. What a new version supersedes leaves the store. Each change of the store is an entry
-//! of the feed, each admitted event one of the log. What is known is kept in a form that the caller
-//! chooses, by the type `K`.
+//! of the item likewise. An edit's version also supersedes each lower counter of the replica's own, so
+//! that its own column has no holes, and there versions of other items are among them: what leaves the
+//! store is what the new version supersedes **of its item**. Each change of the store is an entry of
+//! the feed, each admitted event one of the log.
+//!
+//! What is known is kept in a form that the caller chooses, by the type `K`. A version that is issued
+//! is learned for its item, alone: what it supersedes of its item was learned before it, and the rest are
+//! versions of other items. [`Replica::fragments`] tells what is known, with concise vectors.
 //!
 //! ```text
 //! let id = Author::try_new(0)?;
@@ -17,7 +22,8 @@
 //! ```
 //!
 //! After these lines the store has the second version alone, and the feed tells that the first
-//! entered, left, and that the second entered.
+//! entered, left, and that the second entered. The fragments are one, which tells that `0.1` and `0.2`
+//! are known for the item `0.1`.
 #![tactic(auto)]
 
 mod event;
@@ -25,14 +31,12 @@ mod filter;
 mod index;
 mod refusal;
 mod replica;
-mod revision;
 mod store;
 #[cfg(test)]
 mod tests;
-mod trail;
 
 pub use event::{Bases, Event, Reply};
 pub use filter::Filter;
+pub use mr_madewith::Revision;
 pub use refusal::Refusal;
 pub use replica::{Replica, ReplicaFault};
-pub use revision::Revision;

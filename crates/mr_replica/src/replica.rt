@@ -1,14 +1,15 @@
 //! The replica, and its step.
-ghost use Rattle.std.specs.Prelude.{◌≡◌, ◌<◌, ◌≤◌, ◌↔◌, [], IsOk, IfOk, IfErr, OnOk, OnErr, length};
+ghost use Rattle.std.specs.Prelude.{◌≡◌, ◌<◌, ◌≤◌, ◌↔◌, ◌≢◌, [], IsOk, IfOk, IfErr, IsErrOf, Err, length};
 ghost use Rattle.std.specs.Option.{option_copied};
 
 mod step;
 
 use crate::store::Store;
-use crate::trail::Trail;
 use crate::{Event, Filter, Revision};
+use mr_concise::{ConciseVector, concise_fragments};
 use mr_feed::{Entry, Feed};
-use mr_forms::{Knowledge, PlainVersions, VersionSet};
+use mr_forms::{FormFault, Fragment, Knowledge};
+use mr_madewith::Trail;
 use mr_version::{Author, ItemId, Version};
 use std::alloc::{AllocError, Global};
 use std::marker::Model;
@@ -56,13 +57,15 @@ impl<K: Knowledge> Model for Replica<K> {
 
     ghost view = { λ r. record { id = r.id; filter = r.filter; event_limit = r.event_limit; issued = r.issued; knowledge = r.knowledge; heads = r.store.heads; trail = r.trail.lasts; feed = r.feed.entries; log = r.log.items } };
 
-    ghost invariant = { λ r. IsSound K.form (record { id = r.id; filter = r.filter; event_limit = r.event_limit; issued = r.issued; knowledge = r.knowledge; heads = r.store.heads; trail = r.trail.lasts; feed = r.feed.entries; log = r.log.items }) };
+    ghost invariant = { λ r. IsSound (record { id = r.id; filter = r.filter; event_limit = r.event_limit; issued = r.issued; knowledge = r.knowledge; heads = r.store.heads; trail = r.trail.lasts; feed = r.feed.entries; log = r.log.items }) };
 }
 
 impl<K: Knowledge> Replica<K> {
     ghost use Rattle.std.specs.Prelude.{false};
     ghost use Rattle.mr_forms.specs.Known.{AreSame};
+    ghost use Rattle.mr_concise.specs.Vector.{vector_has};
     ghost use Rattle.mr_replica.specs.Heads.{AreHeads, AreConflicts, held};
+    ghost use Rattle.mr_replica.specs.Fragments.{HaveKnown, HasHoleyFragments};
 
     /// A replica of this id, with nothing in it. Its log takes up to `event_limit` events, 1 to
     /// 1,000,000; any other limit is a `BadLimit`. Nothing is allocated; what grows later takes its
@@ -153,6 +156,23 @@ impl<K: Knowledge> Replica<K> {
         ensures { result.now ≡ self.now.knowledge }
     {
         &self.knowledge
+    }
+
+    /// What is known, as fragments with concise vectors, as they leave the replica. None of them
+    /// lists no item.
+    ///
+    /// `TooManyHoles` only where a vector of the form's own fragments has a column with more than
+    /// 4,096 holes; `OutOfMemory` may come in place of it. It costs the form's fragments and their
+    /// vectors.
+    pub fn fragments(&self) -> Result<Vec<Fragment<ConciseVector>>, FormFault>
+        ensures ok { IfOk result (λ fragments. HaveKnown vector_has (K.form.known self.now.knowledge) fragments.items) }
+        ensures holes { IsErrOf result FormFault.TooManyHoles → HasHoleyFragments K.Vector.has (K.form.known self.now.knowledge) }
+        ensures items { result ≢ Err FormFault.TooManyItems }
+    {
+        let Ok(fragments) = self.knowledge.fragments() else {
+            return Err(FormFault::OutOfMemory);
+        };
+        concise_fragments(self.alloc, fragments)
     }
 
     /// The changes of the store, in order of time.

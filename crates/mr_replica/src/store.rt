@@ -2,13 +2,15 @@
 ghost use Rattle.std.specs.Prelude.{◌≡◌, ◌<◌, ◌≤◌, ◌&&◌, not, [], Some, None, IfOk, IfErr, OnOk, OnErr, length, map, filter, vec_len, vec_capacity};
 ghost use Rattle.std.specs.Option.{option_copied};
 ghost use Rattle.mr_forms.specs.Sets.{is_listed};
+ghost use Rattle.mr_concise.specs.Vector.{vector_has};
 ghost use Rattle.mr_replica.specs.Heads.{AreHeads, version_of, held, entered, versions_of, supersedes, left_by, AreConflicts};
-ghost use Rattle.mr_replica.specs.Keyed.{without};
-ghost use Rattle.mr_replica.specs.Search.{IsFoundAt, IsGapFor};
+ghost use Rattle.mr_madewith.specs.Keyed.{without};
+ghost use Rattle.mr_madewith.specs.Search.{IsFoundAt, IsGapFor};
 
 use crate::Revision;
 use crate::index::{items_with_several, list, listed_for, make_room, unlist};
-use mr_forms::{PlainVersions, VersionSet};
+use mr_concise::ConciseVector;
+use mr_forms::VersionSet;
 use mr_version::{ItemId, Version};
 use std::alloc::{AllocError, Global};
 use std::collections::BTreeMap;
@@ -96,9 +98,9 @@ impl Store {
     pub fn superseded(
         &self,
         item: ItemId,
-        below: &PlainVersions,
+        below: &ConciseVector,
     ) -> Result<Vec<Version>, AllocError>
-        ensures { IfOk result (λ versions. versions.items ≡ map version_of (filter (supersedes item (is_listed below.now)) self.now.heads)) }
+        ensures { IfOk result (λ versions. versions.items ≡ map version_of (filter (supersedes item (vector_has below.now)) self.now.heads)) }
     {
         self.versions_of(item)
             .iter()
@@ -132,8 +134,8 @@ impl Store {
 
     /// What a version of the item with this `below` supersedes leaves. It costs a look-up for each
     /// held version of the item, and a shift for each revision that leaves.
-    pub fn drop_below(&mut self, item: ItemId, below: &PlainVersions)
-        ensures { self.new ≡ record { heads = left_by item (is_listed below.now) self.old.heads; room = self.old.room } }
+    pub fn drop_below(&mut self, item: ItemId, below: &ConciseVector)
+        ensures { self.new ≡ record { heads = left_by item (vector_has below.now) self.old.heads; room = self.old.room } }
     {
         remove_below(&mut self.heads, listed_for(&self.index, item), below);
         unlist(&mut self.index, item, below);
@@ -154,9 +156,9 @@ fn remove(heads: &mut Vec<Revision>, version: Version)
 }
 
 // Takes out those of these versions that are below.
-fn remove_below(heads: &mut Vec<Revision>, versions: &[Version], below: &PlainVersions)
+fn remove_below(heads: &mut Vec<Revision>, versions: &[Version], below: &ConciseVector)
     requires { AreHeads heads.old.items }
-    ensures items { heads.new.items ≡ filter (λ r. not (is_listed versions.now r.version && is_listed below.now r.version)) heads.old.items }
+    ensures items { heads.new.items ≡ filter (λ r. not (is_listed versions.now r.version && vector_has below.now r.version)) heads.old.items }
     ensures rising { AreHeads heads.new.items }
     ensures fewer { vec_len heads.new ≤ vec_len heads.old }
     ensures capacity { vec_capacity heads.new ≡ vec_capacity heads.old }

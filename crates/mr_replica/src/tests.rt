@@ -1,5 +1,6 @@
 //! What no clause says: that calls find memory, and rows whose values were computed elsewhere.
 use crate::{Bases, Event, Filter, Refusal, Replica, ReplicaFault, Reply};
+use mr_concise::knowledge_text;
 use mr_feed::Entry;
 use mr_forms::PlainKnowledge;
 use mr_mail::{Day, Message};
@@ -27,6 +28,14 @@ fn event_of(alloc: Global, line: &str) -> Result<Event, Fail> {
         bases.push(Version::read(base)?)?;
     }
     Ok(Event::Edit(Bases::new(bases), message(alloc)?))
+}
+
+/// How many bases the event names.
+fn base_count(event: &Event) -> usize {
+    match event {
+        Event::Create(_) => 0,
+        Event::Edit(bases, _) => bases.as_slice().len(),
+    }
 }
 
 /// The answer: the version, or the refusal's name, number and text.
@@ -93,6 +102,9 @@ fn ample_memory(rt: HostRuntime) -> Result<(), Fail> {
     let answers = answers(alloc, &mut replica, &["create", "0.1 0.1"])?;
     assert_eq!(rt; answers.as_str(), "; 0.1; 0.2");
     assert_eq!(rt; replica.conflicts()?.len(), 0);
+    assert_eq!(rt; replica.fragments()?.len(), 1);
+    let event = event_of(alloc, "0.2 0.1")?.copy()?;
+    assert_eq!(rt; base_count(&event), 2);
     Ok(())
 }
 
@@ -133,17 +145,47 @@ fn refusals_of_edits(rt: HostRuntime) -> Result<(), Fail> {
     Ok(())
 }
 
+/// What a held version supersedes, or a question mark.
+fn below_text(alloc: Global, replica: &PlainReplica, version: &str) -> Result<String, Fail> {
+    match replica.held(Version::read(version)?) {
+        Some(revision) => Ok(format!(in alloc; "{}", revision.below())?),
+        None => Ok(String::from_str(alloc, "?")?),
+    }
+}
+
 #[test]
 fn edits_of_one_item_among_several(rt: HostRuntime) -> Result<(), Fail> {
     let alloc = rt.alloc();
     let mut replica = replica_of(alloc, 9)?;
-    let _answers = answers(alloc, &mut replica, &["create", "create", "0.1", "0.3"])?;
+    let _answers = answers(alloc, &mut replica, &["create", "create", "0.1"])?;
+    assert_eq!(rt; heads_text(alloc, &replica)?.as_str(), " 0.2 0.3");
+    assert_eq!(rt; below_text(alloc, &replica, "0.2")?.as_str(), "-");
+    assert_eq!(rt; below_text(alloc, &replica, "0.3")?.as_str(), "0:2");
+    let _answers = answers(alloc, &mut replica, &["0.3"])?;
     assert_eq!(rt; heads_text(alloc, &replica)?.as_str(), " 0.2 0.4");
+    assert_eq!(rt; below_text(alloc, &replica, "0.4")?.as_str(), "0:3");
     assert_eq!(rt;
         feed_text(alloc, replica.feed())?.as_str(),
         " +0.1 +0.2 -0.1 +0.3 -0.3 +0.4"
     );
-    assert!(rt; replica.held(Version::read("0.4")?).is_some());
+    Ok(())
+}
+
+#[test]
+fn fragments_after_an_edit(rt: HostRuntime) -> Result<(), Fail> {
+    let alloc = rt.alloc();
+    let mut replica = replica_of(alloc, 9)?;
+    assert_eq!(rt; knowledge_text(alloc, &replica.fragments()?)?.as_str(), "-");
+    let _answers = answers(alloc, &mut replica, &["create", "0.1"])?;
+    assert_eq!(rt;
+        knowledge_text(alloc, &replica.fragments()?)?.as_str(),
+        "0.1 0:2"
+    );
+    let _answers = answers(alloc, &mut replica, &["create", "0.2"])?;
+    assert_eq!(rt;
+        knowledge_text(alloc, &replica.fragments()?)?.as_str(),
+        "0.1 0:4!3; 0.3 0:3!1..2"
+    );
     Ok(())
 }
 

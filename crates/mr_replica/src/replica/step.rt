@@ -1,38 +1,47 @@
 //! What one event does.
-ghost use Rattle.std.specs.Prelude.{◌≡◌, ◌==◌, ◌||◌, ◌&&◌, not, find, ◌<◌, ◌≤◌, ◌+◌, ◌++◌, ◌∷◌, [], None, Some, IfOk, OnOk, OnErr, Err, length, map, vec_len, vec_capacity, true};
+ghost use Rattle.std.specs.Prelude.{◌≡◌, ◌==◌, ◌&&◌, not, find, ◌<◌, ◌≤◌, ◌+◌, ◌++◌, ◌∷◌, [], None, Some, IfOk, IfErr, OnOk, OnErr, Err, length, map, vec_len, vec_capacity, true};
 ghost use Rattle.mr_version.specs.Name.{Name};
 ghost use Rattle.mr_mail.specs.Mail.{MailCard};
 ghost use Rattle.mr_forms.specs.Sets.{IsSame, is_listed};
+ghost use Rattle.mr_concise.specs.Vector.{vector_has, HasTooManyHoles};
 ghost use Rattle.mr_feed.specs.declared.entry.Entry.{Entry};
-ghost use Rattle.mr_replica.specs.Revision.{has_below};
+ghost use Rattle.mr_madewith.specs.Revision.{IsRevision, has_below};
 ghost use Rattle.mr_replica.specs.Heads.{held, entered, left_by};
-ghost use Rattle.mr_replica.specs.Trail.{noted, own_of};
+ghost use Rattle.mr_madewith.specs.Trail.{noted, own_of};
 ghost use Rattle.mr_replica.specs.Step.{dropped, news_of};
 ghost use Rattle.mr_replica.specs.News.{IsNewsOf};
 
 use super::Replica;
 use crate::store::Store;
-use crate::trail::{Last, Trail};
-use crate::{Bases, Event, Refusal, Reply, Revision};
+use crate::{Bases, Event, Refusal, Reply};
+use mr_concise::ConciseVector;
 use mr_feed::{Entry, Feed};
-use mr_forms::{FormFault, Knowledge, PlainVersions, VersionSet};
+use mr_forms::{Knowledge, VersionSet};
+use mr_madewith::{Last, Revision, Trail, below_of};
 use mr_mail::{Card, Message};
 use mr_version::{Author, ItemId, Version};
 use std::alloc::AllocError;
 
 impl<K: Knowledge> Replica<K> {
-    ghost use Rattle.mr_replica.specs.Step.{Steps, Answers, first_refusal, edit_refusal, base_refusal, log_full, not_held, item_of, are_all_of, own_left, next_version, edited_item, below_of, is_base_or_below, is_last_or_below, nothing, issued_below};
-    ghost use Rattle.mr_replica.specs.Issue.{IssuesRevision};
+    ghost use Rattle.mr_replica.specs.Step.{Steps, Answers, first_refusal, edit_refusal, base_refusal, log_full, not_held, item_of, are_all_of, own_left, next_version, edited_item, revisions_of, edited_below};
+    ghost use Rattle.mr_replica.specs.Sound.{IsNoLater};
+    ghost use Rattle.mr_replica.specs.Issue.{IsNext, RefusesVector, IssuesRevision};
 
     /// One event: it is answered and changes the replica, or it is refused and changes nothing.
     ///
-    /// An admitted event is one entry of the log. A version that is issued is known, and so is what
-    /// it supersedes; what it supersedes leaves the store, and it enters. The refusals are tried in
-    /// the order of their numbers, but for a full log, which comes before those of the form of
-    /// knowledge, and memory, which comes last.
+    /// An admitted event is one entry of the log. A version that is issued is learned, alone; what it
+    /// supersedes leaves the store, and it enters. A create supersedes nothing. An edit supersedes its
+    /// bases and the replica's last own version of the item, with all that these supersede, and each
+    /// lower counter of the replica's own.
     ///
-    /// It costs searches, a shift in the store, and copies of what the new version supersedes and
-    /// of the message; an edit looks at the held revisions of its item alone.
+    /// The refusals are tried in the order of their numbers, but for a full log, which comes before
+    /// those of the forms. Of these, `TooManyHoles` comes first where there is no vector of what the
+    /// version supersedes, and then that or `TooManyItems` where the form of knowledge has no value
+    /// for what would be known. `OutOfMemory` may come in place of one of these or of an answer, and
+    /// of no other refusal.
+    ///
+    /// It costs searches, a shift in the store, and one copy each of what the new version supersedes
+    /// and of the message; an edit looks at the held revisions of its item alone.
     pub fn step(&mut self, event: Event) -> Result<Reply, Refusal>
         ensures { Steps K.form self.old event result self.new }
     {
@@ -154,39 +163,60 @@ impl<K: Knowledge> Replica<K> {
         }
     }
 
-    // A base with all that it supersedes.
-    fn add_base(&self, below: &mut PlainVersions, base: Version) -> Result<(), FormFault>
-        ensures ok { OnOk result (IsSame (is_listed below.new) (λ v. is_base_or_below self.now base v || is_listed below.old v)) }
-        ensures memory { OnErr result (result ≡ Err FormFault.OutOfMemory) }
+    // The held revisions of these versions.
+    fn revisions_of(&self, bases: &[Version]) -> Result<Vec<&Revision>, AllocError>
+        ensures { IfOk result (λ revisions. map (λ r. r.now) revisions.items ≡ revisions_of self.now bases.now) }
     {
-        below.insert(base)?;
-        if let Some(revision) = self.held(base) {
-            below.union(revision.below())?;
-        }
-        Ok(())
-    }
-
-    // The last own version of the item with all that it supersedes.
-    fn last_below(&self, item: ItemId) -> Result<PlainVersions, FormFault>
-        ensures ok { IfOk result (λ below. IsSame (is_listed below) (is_last_or_below self.now item)) }
-        ensures memory { OnErr result (result ≡ Err FormFault.OutOfMemory) }
-    {
-        match self.trail.last(item) {
-            Some(last) => last.with_below(),
-            None => Ok(PlainVersions::new(self.alloc)),
-        }
-    }
-
-    // The bases and the last own version of the item, with all that they supersede.
-    fn below_of(&self, item: ItemId, bases: &[Version]) -> Result<PlainVersions, FormFault>
-        ensures ok { IfOk result (λ below. IsSame (is_listed below) (below_of self.now item bases.now)) }
-        ensures memory { OnErr result (result ≡ Err FormFault.OutOfMemory) }
-    {
-        let mut below = self.last_below(item)?;
+        let mut revisions = Vec::new(self.alloc);
         for base in bases {
-            self.add_base(&mut below, *base)?;
+            if let Some(revision) = self.held(*base) {
+                revisions.push(revision)?;
+            }
         }
+        Ok(revisions)
+    }
+
+    // The first version of an item.
+    fn created(&self, message: Message) -> Revision
+        requires { length self.now.log < self.now.event_limit }
+        ensures { IsNext self.now (Event.Create message) result }
+    {
+        let version = self.next_version();
+        let below = ConciseVector::new(self.alloc);
+        Revision::new(ItemId::new(version), version, below, message)
+    }
+
+    // What the next version of the item supersedes as an edit of these bases.
+    fn edited_below(
+        &self,
+        bases: &[Version],
+        item: ItemId,
+        version: Version,
+    ) -> Result<ConciseVector, Refusal>
+        requires admitted { edit_refusal self.now bases.now ≡ None }
+        requires item { item ≡ edited_item self.now bases.now }
+        requires version { version ≡ next_version self.now }
+        ensures ok { IfOk result (λ below. IsSame (vector_has below) (edited_below self.now bases.now)) }
+        ensures fits { OnOk result (¬ HasTooManyHoles (edited_below self.now bases.now)) }
+        ensures is { IfOk result (λ below. IsRevision item version below) }
+        ensures no_later { IfOk result (λ below. (v : Name) → vector_has below v ≡ true → IsNoLater self.now.id self.now.issued v) }
+        ensures refused { IfErr result (λ e. RefusesVector (edited_below self.now bases.now) e) }
+    {
+        let revisions = self.revisions_of(bases)?;
+        let below = below_of(self.alloc, &revisions, self.trail.last(item), version)?;
         Ok(below)
+    }
+
+    // A version with these bases.
+    fn edited(&self, bases: &Bases, message: Message) -> Result<Revision, Refusal>
+        requires { first_refusal self.now (Event.Edit bases.now message) ≡ None }
+        ensures ok { IfOk result (λ revision. IsNext self.now (Event.Edit bases.now message) revision) }
+        ensures refused { IfErr result (λ e. RefusesVector (edited_below self.now bases.now) e) }
+    {
+        let version = self.next_version();
+        let item = self.edited_item(bases.as_slice());
+        let below = self.edited_below(bases.as_slice(), item, version)?;
+        Ok(Revision::new(item, version, below, message))
     }
 
     // Issues the first version of an item.
@@ -194,10 +224,8 @@ impl<K: Knowledge> Replica<K> {
         requires { first_refusal self.old (Event.Create message) ≡ None }
         ensures { Answers K.form self.old (Event.Create message) result self.new }
     {
-        let version = self.next_version();
-        let below = PlainVersions::new(self.alloc);
         let event = Event::Create(message.copy()?);
-        let revision = Revision::new(ItemId::new(version), version, below, message);
+        let revision = self.created(message);
         self.issue(revision, event)
     }
 
@@ -206,20 +234,15 @@ impl<K: Knowledge> Replica<K> {
         requires { first_refusal self.old (Event.Edit bases message) ≡ None }
         ensures { Answers K.form self.old (Event.Edit bases message) result self.new }
     {
-        // What the replica keeps is needed here: all that a held revision supersedes is known.
-        let _ = &self.knowledge;
-        let version = self.next_version();
-        let item = self.edited_item(bases.as_slice());
-        let below = self.below_of(item, bases.as_slice())?;
-        let event = Event::Edit(bases, message.copy()?);
-        self.issue(Revision::new(item, version, below, message), event)
+        let revision = self.edited(&bases, message)?;
+        let event = Event::Edit(bases, revision.message().copy()?);
+        self.issue(revision, event)
     }
 
-    // Issues a revision, all of whose below is known.
+    // Issues the event's revision.
     fn issue(&mut self, revision: Revision, event: Event) -> Result<Reply, Refusal>
         requires room { length self.old.log < self.old.event_limit }
-        requires next { revision.version ≡ next_version self.old }
-        requires taught { (v : Name) → has_below revision v ≡ true → K.form.known self.old.knowledge revision.item v ≡ true }
+        requires next { IsNext self.old event revision }
         ensures { IssuesRevision K.form self.old revision event result self.new }
     {
         let item = revision.item();
@@ -262,11 +285,7 @@ impl News {
         ensures memory { OnErr result (result ≡ Err Refusal.OutOfMemory) }
     {
         Ok(News {
-            last: Last::new(
-                revision.item(),
-                revision.version(),
-                revision.below().copy()?,
-            ),
+            last: Last::of(revision)?,
             card: revision.message().card()?,
             dropped: store.superseded(revision.item(), revision.below())?,
         })
@@ -303,7 +322,7 @@ fn enter(
     let version = revision.version();
     store.drop_below(item, revision.below());
     store.put(revision);
-    trail.note(last);
+    trail.note_reserved(last);
     tell_dropped(feed, item, &dropped);
     feed.push_reserved(Entry::Added {
         item,

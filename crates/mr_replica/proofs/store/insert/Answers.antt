@@ -1,6 +1,6 @@
 use Rattle.std.proofs.Common.{subst, sym}
 use Rattle.mr_replica.specs.Heads.{AreHeads, version_of}
-use Rattle.mr_replica.proofs.Rising.{rises-placed}
+use Rattle.mr_madewith.proofs.Rising.{rises-placed}
 use Rattle.mr_replica.proofs.store.insert.Goals as goal
 
 pub returns-clause-items : goal.returns-clause-items

@@ -1,7 +1,7 @@
 use Rattle.std.proofs.Common.{not}
 use Rattle.mr_version.specs.Name.{name_eq}
 use Rattle.mr_replica.specs.Heads.{version_of}
-use Rattle.mr_replica.proofs.Rising.{rises-filter}
+use Rattle.mr_madewith.proofs.Rising.{rises-filter}
 use Rattle.mr_replica.proofs.store.remove.Goals as goal
 
 pub returns-in-Ok-clause-rising : goal.returns-in-Ok-clause-rising

@@ -1,10 +1,10 @@
 use Rattle.std.proofs.Common.{◌≡◌, ◌+◌, refl, ap, sym, ◌∙◌, List, [], ◌∷◌, ◌++◌, take, arith}
 use Rattle.std.specs.List.{filter}
 use Rattle.std.proofs.lemmas.List.{take_more}
-use Rattle.mr_forms.specs.Sets.{is_listed}
+use Rattle.mr_concise.specs.Vector.{vector_has}
 use Rattle.mr_version.specs.Name.{Name}
-use Rattle.mr_replica.specs.Revision.{Rev}
-use Rattle.mr_replica.specs.Keyed.{without}
+use Rattle.mr_madewith.specs.Revision.{Rev}
+use Rattle.mr_madewith.specs.Keyed.{without}
 use Rattle.mr_replica.specs.Heads.{version_of}
 use Rattle.mr_replica.proofs.HeadLemmas.{is_none_of, filter-all, without-more, is_none_of-more}
 use Rattle.mr_replica.proofs.store.remove_below.Goals.{then-contains, else-contains}
@@ -22,7 +22,7 @@ pub loop-version-preserved : goal.loop-version-preserved
 loop-version-preserved c =
     let vs = take c.loop-version.version-index c.args.versions.now in
     let v = c.version-item.result in
-    let below = is_listed c.args.below.now in
+    let below = vector_has c.args.below.now in
     let heads = c.args.heads.now.items in
     let more : take (c.loop-version.version-index + 1) c.args.versions.now ≡ vs ++ v ∷ [] = take_more c.args.versions.now c.loop-version.version-index v (omega arith) ∙ ap (λ (w : Name). vs ++ w ∷ []) (sym c.version-item.is) in
     let to_more : filter (is_none_of (vs ++ v ∷ []) below) heads ≡ filter (is_none_of (take (c.loop-version.version-index + 1) c.args.versions.now) below) heads = ap (λ (ws : List Name). filter (is_none_of ws below) heads) (sym more) in

@@ -1,7 +1,7 @@
 use Rattle.std.proofs.Common.{rules}
 use Rattle.std.proofs.lemmas.List.Sorted.{answers_always}
 use Rattle.mr_replica.specs.Heads.{version_of}
-use Rattle.mr_replica.proofs.Found.{searched}
+use Rattle.mr_madewith.proofs.Found.{searched}
 use Rattle.mr_replica.proofs.store.search.Goals as goal
 
 -- the closure gives a revision's version

@@ -1,6 +1,9 @@
-use Rattle.mr_forms.specs.Sets.{is_listed}
-use Rattle.mr_concise.proofs.VersionLemmas.{few-vector}
+use Rattle.std.proofs.Common.{rules}
+use Rattle.mr_concise.proofs.VersionLemmas.{in_all-names}
 use Rattle.mr_concise.proofs.vector.ConciseVector.from_versions.Goals as goal
 
-pub returns-in-Ok-clause-holes : goal.returns-in-Ok-clause-holes
-returns-in-Ok-clause-holes c = (λ h. absurd (cc), λ many. absurd (few-vector c.in-Ok.columns.items (is_listed c.args.versions.now) c.in-Ok.ensures.vector c.in-Ok.ensures.means many))
+pub returns-then-would_have_too_many-clause-holes : goal.returns-then-would_have_too_many-clause-holes
+returns-then-would_have_too_many-clause-holes c = let e = rw (in_all-names c.args.versions.now) at c.would_have_too_many.ensures in search rules
+
+pub returns-else-would_have_too_many-clause-holes : goal.returns-else-would_have_too_many-clause-holes
+returns-else-would_have_too_many-clause-holes c = let e = rw (in_all-names c.args.versions.now) at c.would_have_too_many.ensures in search rules

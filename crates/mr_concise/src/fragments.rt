@@ -1,0 +1,124 @@
+ghost use Rattle.std.specs.Prelude.{◌≡◌, ◌≢◌, Some, All, IfOk, OnOk, IsErrOf, Err, string_bytes};
+ghost use Rattle.std.specs.List.{AllZip, Any};
+ghost use Rattle.mr_forms.specs.Sets.{IsSame};
+ghost use Rattle.mr_concise.specs.Vector.{vector_has, HasTooManyHoles};
+ghost use Rattle.mr_concise.specs.Fragments.{IsConciseOf, IsTooHoley, items_text, fragment_text, knowledge_text};
+
+use crate::ordered_runs::OrderedRuns;
+use crate::vector::ConciseVector;
+use mr_forms::{FormFault, Fragment, ItemSet, VersionSet};
+use std::alloc::{AllocError, Global};
+use std::fmt;
+
+impl ConciseVector {
+    /// The vector of the versions of a set in any form.
+    ///
+    /// `TooManyHoles` where a column of the set has more than 4,096 holes. To tell this it asks for the
+    /// set's runs first, so it may answer `OutOfMemory` in place of it. It takes memory for the runs and
+    /// time for the runs times their logarithm.
+    pub fn from_set<S: VersionSet>(alloc: Global, set: &S) -> Result<ConciseVector, FormFault>
+        ensures ok { IfOk result (λ vector. IsSame (vector_has vector) (S.has set.now)) }
+        ensures few { OnOk result (¬ HasTooManyHoles (S.has set.now)) }
+        ensures holes { IsErrOf result FormFault.TooManyHoles → HasTooManyHoles (S.has set.now) }
+        ensures items { result ≢ Err FormFault.TooManyItems }
+    {
+        let Ok(runs) = set.columns() else {
+            return Err(FormFault::OutOfMemory);
+        };
+        ConciseVector::gather(alloc, &OrderedRuns { runs: &runs })
+    }
+}
+
+/// The fragment with the concise vector of its set.
+fn concise_fragment<V: VersionSet>(
+    alloc: Global,
+    fragment: Fragment<V>,
+) -> Result<Fragment<ConciseVector>, FormFault>
+    ensures ok { IfOk result (λ concise. IsConciseOf V.has fragment concise) }
+    ensures few { OnOk result (¬ IsTooHoley V.has fragment) }
+    ensures holes { IsErrOf result FormFault.TooManyHoles → IsTooHoley V.has fragment }
+    ensures items { result ≢ Err FormFault.TooManyItems }
+{
+    let Fragment { items, vector } = fragment;
+    let vector = ConciseVector::from_set(alloc, &vector)?;
+    Ok(Fragment { items, vector })
+}
+
+/// The fragments with concise vectors: the same items in the same order, each with the vector of its set.
+///
+/// `TooManyHoles` only where one of the sets has a column with more than 4,096 holes; where there is such
+/// a set it answers that or `OutOfMemory`.
+pub fn concise_fragments<V: VersionSet>(
+    alloc: Global,
+    fragments: Vec<Fragment<V>>,
+) -> Result<Vec<Fragment<ConciseVector>>, FormFault>
+    ensures ok { IfOk result (λ concise. AllZip (IsConciseOf V.has) fragments.items concise.items) }
+    ensures few { OnOk result (All (λ fragment. ¬ IsTooHoley V.has fragment) fragments.items) }
+    ensures holes { IsErrOf result FormFault.TooManyHoles → Any (IsTooHoley V.has) fragments.items }
+    ensures items { result ≢ Err FormFault.TooManyItems }
+{
+    let mut concise = Vec::new(alloc);
+    for fragment in fragments {
+        concise.push(concise_fragment(alloc, fragment)?)?;
+    }
+    Ok(concise)
+}
+
+/// Items, as a text shows them.
+#[derive(Drop)]
+struct ItemsText<'a>(&'a ItemSet);
+
+/// Writes `all`, or the items with commas between them.
+impl<'a> fmt::Display for ItemsText<'a> {
+    ghost output = { λ items. Some (items_text items.0.now) };
+
+    fn fmt<W: fmt::Write>(&self, f: &mut fmt::Formatter<W>) -> fmt::Result {
+        let ItemSet::Listed(items) = self.0 else {
+            return write!(f, "all");
+        };
+        match items.as_slice() {
+            [] => Ok(()),
+            [first, rest @ ..] => {
+                write!(f, "{}", first.creator())?;
+                for item in rest {
+                    write!(f, ",{}", item.creator())?;
+                }
+                Ok(())
+            }
+        }
+    }
+}
+
+/// Fragments, as a text shows them.
+#[derive(Drop)]
+struct KnowledgeText<'a>(&'a [Fragment<ConciseVector>]);
+
+/// Writes the fragments with `; ` between them, or `-` where there is none.
+impl<'a> fmt::Display for KnowledgeText<'a> {
+    ghost output = { λ fragments. Some (knowledge_text fragments.0.now) };
+
+    fn fmt<W: fmt::Write>(&self, f: &mut fmt::Formatter<W>) -> fmt::Result {
+        match self.0 {
+            [] => write!(f, "-"),
+            [first, rest @ ..] => {
+                write!(f, "{} {}", ItemsText(&first.items), first.vector)?;
+                for fragment in rest {
+                    write!(f, "; {} {}", ItemsText(&fragment.items), fragment.vector)?;
+                }
+                Ok(())
+            }
+        }
+    }
+}
+
+/// The text of a knowledge, given by its fragments: `all` or the items with commas between them, a space
+/// and the vector's text; fragments have `; ` between them, as `all 0:1; 0.3,0.5 0:9!2!5..7`. It is `-` for
+/// no fragment.
+pub fn knowledge_text(
+    alloc: Global,
+    fragments: &[Fragment<ConciseVector>],
+) -> Result<String, AllocError>
+    ensures { IfOk result (λ text. string_bytes text ≡ knowledge_text fragments.now) }
+{
+    format!(in alloc; "{}", KnowledgeText(fragments))
+}

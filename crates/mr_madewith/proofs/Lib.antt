@@ -1,0 +1,4 @@
+pub mod Rising
+pub mod Found
+pub mod Placed
+pub mod MadeWithLemmas

@@ -1,0 +1,5 @@
+pub mod Keyed
+pub mod Search
+pub mod Revision
+pub mod Trail
+pub mod MadeWith
