@@ -24,9 +24,11 @@ const RUN_AFTER: &str = "Commands:
   heads R    the versions that R holds
   feed R     what entered (+) and left (-) R's store, in order of time
   log R      how many events R has admitted
+  know R     what R knows: items and, behind a space, which versions are known of them
   show R V   the message of version V, if R holds it
 
-  A version is A.C: the replica that issued it and its number there. LABELS are joined by `,`, FLAGS
+  A version is A.C: the replica that issued it and its number there. `0:9!2!5..7` is the versions 1 to 9
+  of replica 0 without 2 and 5 to 7. LABELS are joined by `,`, FLAGS
   (seen, answered, flagged, draft, deleted) by `+`, BASES by `,`; `.` stands for none of each. DATE is
   YYYY-MM-DD, 1970-01-01 to 2149-06-06. SUBJECT is the rest of the line, and may be missing; what
   stands after ` // ` is the body.
@@ -38,6 +40,7 @@ Example:
   edit 0 0.1 inbox,work seen 2026-01-05 ann Hi
   heads 0
   feed 0
+  know 0
   show 0 0.2
   edit 0 0.1 inbox . 2026-01-05 ann Hi
   END
@@ -45,6 +48,7 @@ Example:
   issued 0.2
   heads 0: 0.2
   feed 0: +0.1 -0.1 +0.2
+  know 0: 0.1 0:2
   show 0.2 inbox,work seen 2026-01-05 ann Hi
   refused 3 NotHeld 0.1
 

@@ -5,6 +5,7 @@ use Rattle.std.specs.Fmt.{decimal}
 use Rattle.mr_version.specs.Name.{Name, name_text}
 use Rattle.mr_mail.specs.Day.{Spells}
 use Rattle.mr_mail.specs.Flag.{flag_name, has_flag, all_flags}
+use Rattle.mr_concise.specs.Fragments.{ConciseFragment, knowledge_text}
 use Rattle.mr_feed.specs.declared.entry.Entry.{Entry}
 use Rattle.mr_feed.specs.declared.entry.Entry.TheVariants.{Added, Dropped}
 use Rattle.mr_replica.specs.declared.event.Reply.{Reply}
@@ -12,7 +13,7 @@ use Rattle.mr_replica.specs.declared.event.Reply.TheVariants.{Issued}
 use Rattle.mr_replica.specs.declared.refusal.Refusal.{Refusal}
 use Rattle.mr_replica.specs.declared.refusal.Refusal.TheVariants.{NotHeld, OwnHeadLeft}
 use Rattle.mr_replica.specs.Refusal.{refusal_number, refusal_name}
-use Rattle.mr_replica.specs.Revision.{Rev}
+use Rattle.mr_madewith.specs.Revision.{Rev}
 
 -- `issued V`
 abbrev pub reply_text : Reply → List ℕ
@@ -54,6 +55,10 @@ feed_text replica entries = codes "feed " ++ decimal replica ++ codes ":" ++ fla
 -- `log R: N`
 abbrev pub log_text : ℕ → ℕ → List ℕ
 log_text replica count = concat (codes "log " ∷ decimal replica ∷ codes ": " ∷ decimal count ∷ codes "\n" ∷ [])
+
+-- `know R: ` and the text of the fragments
+abbrev pub know_text : ℕ → List ConciseFragment → List ℕ
+know_text replica fragments = concat (codes "know " ∷ decimal replica ∷ codes ": " ∷ knowledge_text fragments ∷ codes "\n" ∷ [])
 
 -- texts with a separator between each two, or a dot where there is none
 abbrev pub joined : List ℕ → List (List ℕ) → List ℕ

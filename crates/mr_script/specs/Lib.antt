@@ -1,5 +1,10 @@
 pub mod Answer
+pub mod Command
 pub mod Fault
 pub mod List
 pub mod Number
+pub mod Reading
+pub mod Run
 pub mod Script
+pub mod Stage
+pub mod Words

@@ -1,21 +1,39 @@
 -- words that are lists
-use Rattle.std.specs.Prelude.{◌≡◌, ◌≢◌, ℕ, ◌==◌, List, [], fold, map, codes}
+use Rattle.std.specs.Prelude.{◌≡◌, ℕ, ◌==◌, List, [], if◌then◌else◌, fold, map, codes, All}
 use Rattle.std.specs.Int.RustNames.{bit_or}
 use Rattle.std.specs.List.{slice_split}
+use Rattle.mr_version.specs.Name.{Name, IsVersion, name_text}
 use Rattle.mr_mail.specs.declared.flags.Flag.{Flag}
 use Rattle.mr_mail.specs.Flag.{bit_of, flag_name}
+use Rattle.mr_mail.specs.Label.{text_eq}
 
 -- the parts of a word between its separators; a word of one dot has none
-pub record ArePieces (separator : ℕ) (word : List ℕ) (pieces : List (List ℕ)) : Type 0 where
-  pub none : word ≡ codes "." → pieces ≡ []
-  pub some : word ≢ codes "." → pieces ≡ slice_split (λ b. b == separator) word
+abbrev pub pieces_of : ℕ → List ℕ → List (List ℕ)
+pieces_of separator word = if text_eq word (codes ".") then [] else slice_split (λ b. b == separator) word
 
 -- the flag byte that has these flags
 abbrev pub united : List Flag → ℕ
 united flags = fold (λ bits flag. bit_or bits (bit_of flag)) 0 flags
 
+-- the word joins these flags by `+`
+abbrev pub JoinsFlags : List ℕ → List Flag → Type 0
+JoinsFlags word flags = map flag_name flags ≡ pieces_of 43 word
+
 -- the word names the flags of this byte
 pub record NamesFlags (word : List ℕ) (bits : ℕ) : Type 0 where
   pub flags : List Flag
-  pub named : ArePieces 43 word (map flag_name flags)
+  pub named : JoinsFlags word flags
   pub are : bits ≡ united flags
+
+abbrev pub IsVersionName : Name → Type 0
+IsVersionName v = IsVersion v.author v.counter
+
+-- the word is this version's text
+pub record SpellsVersion (word : List ℕ) (v : Name) : Type 0 where
+  pub spelled : word ≡ name_text v
+  pub is_version : IsVersionName v
+
+-- the word joins these versions by `,`
+pub record JoinsVersions (word : List ℕ) (versions : List Name) : Type 0 where
+  pub joined : map name_text versions ≡ pieces_of 44 word
+  pub each : All IsVersionName versions

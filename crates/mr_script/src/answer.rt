@@ -1,8 +1,10 @@
 //! The texts of answers, each a line with its line feed.
 ghost use Rattle.std.specs.Prelude.{◌≡◌, IfOk, OnOk, ◌++◌, map, codes, string_bytes};
-ghost use Rattle.mr_script.specs.Answer.{reply_text, refused_text, named_version, heads_text, feed_text, log_text, flags_text, joined, subject_text, shown_words, Shows};
+ghost use Rattle.mr_script.specs.Answer.{reply_text, refused_text, named_version, heads_text, feed_text, log_text, know_text, flags_text, joined, subject_text, shown_words, Shows};
 
+use mr_concise::{ConciseVector, knowledge_text};
 use mr_feed::Entry;
+use mr_forms::Fragment;
 use mr_mail::{Flags, Label, Message};
 use mr_replica::{Refusal, Reply, Revision};
 use mr_version::{Author, Version};
@@ -80,6 +82,19 @@ pub(crate) fn log_line(alloc: Global, replica: Author, count: usize) -> Result<S
     ensures { IfOk result (λ line. string_bytes line ≡ log_text replica count) }
 {
     format!(in alloc; "log {replica}: {count}\n")
+}
+
+/// `know R: ` and the text of the fragments.
+pub(crate) fn know_line(
+    alloc: Global,
+    replica: Author,
+    fragments: &[Fragment<ConciseVector>],
+) -> Result<String, AllocError>
+    ensures { IfOk result (λ line. string_bytes line ≡ know_text replica fragments.now) }
+{
+    let text = knowledge_text(alloc, fragments)?;
+    let text = text.as_str();
+    format!(in alloc; "know {replica}: {text}\n")
 }
 
 /// `not held`

@@ -1,12 +1,18 @@
 //! Commands: what a line asks for.
+ghost use Rattle.std.specs.Prelude.{◌≡◌};
+ghost use Rattle.mr_mail.specs.Day.{Spells};
+ghost use Rattle.mr_script.specs.Command.{Scene, subject_of, body_of, takes_parts, reads_message, makes, reads_up_to, reads_filter, reads_replica, reads_new_id, reads_first_id, reads_opening_words, reads_opening, reads_add, reads_create, reads_edit, reads_only_replica, reads_show, reads_args, reads_command};
+ghost use Rattle.mr_script.specs.Reading.{names};
+
 use crate::LineFault;
-use crate::lists::{read_flags, read_labels, read_versions};
+use crate::lists::{read_bases, read_flags, read_labels, read_version};
 use crate::number::{read_id, read_number};
 use crate::words::Words;
-use mr_mail::{Day, Message};
-use mr_replica::Filter;
+use mr_mail::{Day, Flags, Message};
+use mr_replica::{Event, Filter};
 use mr_version::{Author, Version};
 use std::alloc::Global;
+use std::marker::Model;
 
 /// The most events that a replica's limit may allow.
 const MAX_EVENTS: u32 = 1_000_000;
@@ -30,16 +36,10 @@ pub(crate) enum Command {
         capacity: u32,
         filter: Filter,
     },
-    /// Gives a replica a message as a new item.
-    Create {
+    /// Gives a replica an event.
+    Give {
         replica: Author,
-        message: Message,
-    },
-    /// Gives a replica a message in place of some versions of one item.
-    Edit {
-        replica: Author,
-        bases: Vec<Version>,
-        message: Message,
+        event: Event,
     },
     /// Asks for the versions that a replica holds.
     Heads {
@@ -53,6 +53,10 @@ pub(crate) enum Command {
     Log {
         replica: Author,
     },
+    /// Asks for what a replica knows.
+    Know {
+        replica: Author,
+    },
     /// Asks for a version's message.
     Show {
         replica: Author,
@@ -62,14 +66,22 @@ pub(crate) enum Command {
 
 /// What a line's words are looked up in.
 pub(crate) trait Roster {
+    ghost use Rattle.mr_script.specs.Command.{Scene};
+
+    /// What the words are read by.
+    ghost scene: { Self → Scene };
+
     /// Whether a replica has this id.
-    fn has(&self, id: Author) -> bool;
+    fn has(&self, id: Author) -> bool
+        ensures { result ≡ (scene self.now).has id };
 
     /// Whether a script that has come so far may have one replica more. Today it has only one.
-    fn has_room(&self) -> bool;
+    fn has_room(&self) -> bool
+        ensures { result ≡ (scene self.now).has_room };
 
     /// Whether no line yet asked for anything but a replica.
-    fn is_opening(&self) -> bool;
+    fn is_opening(&self) -> bool
+        ensures { result ≡ (scene self.now).is_opening };
 }
 
 impl Command {
@@ -80,41 +92,79 @@ impl Command {
         alloc: Global,
         line: &str,
         roster: &R,
-    ) -> Result<Command, LineFault> {
+    ) -> Result<Command, LineFault>
+        ensures { reads_command (R.scene roster.now) line.now result }
+    {
         let mut words = Words::new(line);
-        match words.next_word()? {
-            "replica" => read_add_replica(words, roster),
-            "create" => read_create(alloc, words, roster),
-            "edit" => read_edit(alloc, words, roster),
-            "heads" => Ok(Command::Heads {
-                replica: read_only_replica(words, roster)?,
-            }),
-            "feed" => Ok(Command::Feed {
-                replica: read_only_replica(words, roster)?,
-            }),
-            "log" => Ok(Command::Log {
-                replica: read_only_replica(words, roster)?,
-            }),
-            "show" => read_show(words, roster),
-            _ => Err(LineFault::UnknownCommand),
-        }
+        let name = words.next_word()?;
+        read_args(alloc, name, words, roster)
+    }
+}
+
+/// The command of this name with the words after it.
+fn read_args<R: Roster>(
+    alloc: Global,
+    name: &str,
+    words: Words,
+    roster: &R,
+) -> Result<Command, LineFault>
+    ensures { reads_args (R.scene roster.now) name.now words.entry result }
+{
+    match name {
+        "replica" => read_add_replica(words, roster),
+        "create" => read_create(alloc, words, roster),
+        "edit" => read_edit(alloc, words, roster),
+        "heads" => Ok(Command::Heads {
+            replica: read_only_replica(words, roster)?,
+        }),
+        "feed" => Ok(Command::Feed {
+            replica: read_only_replica(words, roster)?,
+        }),
+        "log" => Ok(Command::Log {
+            replica: read_only_replica(words, roster)?,
+        }),
+        "know" => Ok(Command::Know {
+            replica: read_only_replica(words, roster)?,
+        }),
+        "show" => read_show(words, roster),
+        _ => Err(LineFault::UnknownCommand),
+    }
+}
+
+/// `ID LIMIT CAP FILTER`, where there may be one replica more.
+fn read_add_replica<R: Roster>(words: Words, roster: &R) -> Result<Command, LineFault>
+    ensures { reads_add (R.scene roster.now) words.entry result }
+{
+    if roster.has_room() {
+        read_opening(words, roster)
+    } else {
+        Err(LineFault::UnknownCommand)
     }
 }
 
 /// `ID LIMIT CAP FILTER`
-fn read_add_replica<R: Roster>(mut words: Words, roster: &R) -> Result<Command, LineFault> {
-    if !roster.has_room() {
-        return Err(LineFault::UnknownCommand);
-    }
+fn read_opening<R: Roster>(mut words: Words, roster: &R) -> Result<Command, LineFault>
+    ensures { reads_opening (R.scene roster.now) words.entry result }
+{
     let id = words.next_word()?;
     let limit = words.next_word()?;
     let capacity = words.next_word()?;
     let filter = words.text()?;
-    if !roster.is_opening() {
-        return Err(LineFault::LateReplica);
-    }
+    read_opening_words(id, limit, capacity, filter, roster)
+}
+
+/// `ID LIMIT CAP FILTER`, once each has its words.
+fn read_opening_words<R: Roster>(
+    id: &str,
+    limit: &str,
+    capacity: &str,
+    filter: &str,
+    roster: &R,
+) -> Result<Command, LineFault>
+    ensures { reads_opening_words (R.scene roster.now) id.now limit.now capacity.now filter.now result }
+{
     Ok(Command::AddReplica {
-        id: read_new_id(id, roster)?,
+        id: read_first_id(id, roster)?,
         event_limit: read_up_to(limit, MAX_EVENTS, LineFault::BadLimit)?,
         capacity: read_up_to(capacity, MAX_CAPACITY, LineFault::BadCapacity)?,
         filter: read_filter(filter)?,
@@ -122,51 +172,61 @@ fn read_add_replica<R: Roster>(mut words: Words, roster: &R) -> Result<Command, 
 }
 
 /// `R LABELS FLAGS DATE FROM SUBJECT`
-fn read_create<R: Roster>(
-    alloc: Global,
-    mut words: Words,
-    roster: &R,
-) -> Result<Command, LineFault> {
+fn read_create<R: Roster>(alloc: Global, mut words: Words, roster: &R) -> Result<Command, LineFault>
+    ensures { reads_create (R.scene roster.now) words.entry result }
+{
     let replica = words.next_word()?;
     let message = MessageWords::take(words)?;
-    Ok(Command::Create {
-        replica: read_replica(replica, roster)?,
-        message: message.read(alloc)?,
+    let replica = read_replica(replica, roster)?;
+    let message = message.read(alloc)?;
+    Ok(Command::Give {
+        replica,
+        event: Event::Create(message),
     })
 }
 
 /// `R BASES LABELS FLAGS DATE FROM SUBJECT`
-fn read_edit<R: Roster>(alloc: Global, mut words: Words, roster: &R) -> Result<Command, LineFault> {
+fn read_edit<R: Roster>(alloc: Global, mut words: Words, roster: &R) -> Result<Command, LineFault>
+    ensures { reads_edit (R.scene roster.now) words.entry result }
+{
     let replica = words.next_word()?;
     let bases = words.next_word()?;
     let message = MessageWords::take(words)?;
-    Ok(Command::Edit {
-        replica: read_replica(replica, roster)?,
-        bases: read_versions(alloc, bases)?,
-        message: message.read(alloc)?,
+    let replica = read_replica(replica, roster)?;
+    let bases = read_bases(alloc, bases)?;
+    let message = message.read(alloc)?;
+    Ok(Command::Give {
+        replica,
+        event: Event::Edit(bases, message),
     })
 }
 
 /// `R V`
-fn read_show<R: Roster>(mut words: Words, roster: &R) -> Result<Command, LineFault> {
+fn read_show<R: Roster>(mut words: Words, roster: &R) -> Result<Command, LineFault>
+    ensures { reads_show (R.scene roster.now) words.entry result }
+{
     let replica = words.next_word()?;
     let version = words.next_word()?;
     words.end()?;
     Ok(Command::Show {
         replica: read_replica(replica, roster)?,
-        version: Version::read(version).map_err(|_| LineFault::BadVersion)?,
+        version: read_version(version)?,
     })
 }
 
 /// `R`, and no more.
-fn read_only_replica<R: Roster>(mut words: Words, roster: &R) -> Result<Author, LineFault> {
+fn read_only_replica<R: Roster>(mut words: Words, roster: &R) -> Result<Author, LineFault>
+    ensures { reads_only_replica (R.scene roster.now) words.entry result }
+{
     let replica = words.next_word()?;
     words.end()?;
     read_replica(replica, roster)
 }
 
 /// The id of a replica that is there. `BadNumber`, `NoSuchReplica`.
-fn read_replica<R: Roster>(word: &str, roster: &R) -> Result<Author, LineFault> {
+fn read_replica<R: Roster>(word: &str, roster: &R) -> Result<Author, LineFault>
+    ensures { reads_replica (R.scene roster.now) word.now result }
+{
     let id = read_id(word)?;
     if roster.has(id) {
         Ok(id)
@@ -175,8 +235,21 @@ fn read_replica<R: Roster>(word: &str, roster: &R) -> Result<Author, LineFault> 
     }
 }
 
+/// The id of a replica that comes before all else. `LateReplica`, `BadNumber`, `SameReplica`.
+fn read_first_id<R: Roster>(word: &str, roster: &R) -> Result<Author, LineFault>
+    ensures { reads_first_id (R.scene roster.now) word.now result }
+{
+    if roster.is_opening() {
+        read_new_id(word, roster)
+    } else {
+        Err(LineFault::LateReplica)
+    }
+}
+
 /// The id of a replica that is not there yet. `BadNumber`, `SameReplica`.
-fn read_new_id<R: Roster>(word: &str, roster: &R) -> Result<Author, LineFault> {
+fn read_new_id<R: Roster>(word: &str, roster: &R) -> Result<Author, LineFault>
+    ensures { reads_new_id (R.scene roster.now) word.now result }
+{
     let id = read_id(word)?;
     if roster.has(id) {
         Err(LineFault::SameReplica)
@@ -186,21 +259,35 @@ fn read_new_id<R: Roster>(word: &str, roster: &R) -> Result<Author, LineFault> {
 }
 
 /// A number of 1 to `most`. `BadNumber`, and `outside` for a number that is not one of these.
-fn read_up_to(word: &str, most: u32, outside: LineFault) -> Result<u32, LineFault> {
-    let number = u32::try_from(read_number(word)?).map_err(|_| outside)?;
-    if 1 <= number && number <= most {
-        Ok(number)
+fn read_up_to(word: &str, most: u32, outside: LineFault) -> Result<u32, LineFault>
+    ensures { reads_up_to most outside word.now result }
+{
+    let number = read_number(word)?;
+    if 1 <= number && number <= u64::from(most) {
+        Ok(number as u32)
     } else {
         Err(outside)
     }
 }
 
 /// The filter whose text this is. `BadFilter` for each text but `all`.
-fn read_filter(text: &str) -> Result<Filter, LineFault> {
+fn read_filter(text: &str) -> Result<Filter, LineFault>
+    ensures { reads_filter text.now result }
+{
     if text == ALL {
         Ok(Filter::all())
     } else {
         Err(LineFault::BadFilter { place: 0 })
+    }
+}
+
+/// The day that the word is. `BadDate` where it is none.
+fn read_day(word: &str) -> Result<Day, LineFault>
+    ensures { names Spells LineFault.BadDate word.now result }
+{
+    match Day::read(word) {
+        Ok(day) => Ok(day),
+        Err(_) => Err(LineFault::BadDate),
     }
 }
 
@@ -214,9 +301,19 @@ struct MessageWords<'a> {
     subject_and_body: &'a str,
 }
 
+impl<'a> Model for MessageWords<'a> {
+    ghost use Rattle.mr_script.specs.Command.{Parts};
+
+    ghost Value = { Parts };
+
+    ghost view = { λ w. record { labels = w.labels.now; flags = w.flags.now; date = w.date.now; from = w.from.now; subject_and_body = w.subject_and_body.now } };
+}
+
 impl<'a> MessageWords<'a> {
     /// `LABELS FLAGS DATE FROM SUBJECT`, of which SUBJECT may be missing.
-    fn take(mut words: Words<'a>) -> Result<MessageWords<'a>, LineFault> {
+    fn take(mut words: Words<'a>) -> Result<MessageWords<'a>, LineFault>
+        ensures { takes_parts words.entry result }
+    {
         Ok(MessageWords {
             labels: words.next_word()?,
             flags: words.next_word()?,
@@ -227,13 +324,19 @@ impl<'a> MessageWords<'a> {
     }
 
     /// The message. `BadFlags`, `BadDate`, and `MessageRefused` for what makes no message.
-    fn read(self, alloc: Global) -> Result<Message, LineFault> {
+    fn read(self, alloc: Global) -> Result<Message, LineFault>
+        ensures { reads_message self.entry result }
+    {
         let flags = read_flags(alloc, self.flags)?;
-        let day = Day::read(self.date).map_err(|_| LineFault::BadDate)?;
-        let (subject, body) = self
-            .subject_and_body
-            .split_once(BODY_MARK)
-            .unwrap_or((self.subject_and_body, ""));
+        let day = read_day(self.date)?;
+        self.make(alloc, flags, day)
+    }
+
+    /// The message of these words, with these flags and this day. `MessageRefused`, `OutOfMemory`.
+    fn make(self, alloc: Global, flags: Flags, day: Day) -> Result<Message, LineFault>
+        ensures { makes self.entry flags day result }
+    {
+        let (subject, body) = cut_body(self.subject_and_body);
         let message = Message::try_new(
             alloc,
             String::from_str(alloc, self.from)?,
@@ -244,5 +347,16 @@ impl<'a> MessageWords<'a> {
             day,
         )?;
         Ok(message)
+    }
+}
+
+/// What stands before the first mark and what stands after it; all and nothing where there is none.
+fn cut_body(text: &str) -> (&str, &str)
+    ensures subject { result.0.now ≡ subject_of text.now }
+    ensures body { result.1.now ≡ body_of text.now }
+{
+    match text.split_once(BODY_MARK) {
+        Some((subject, body)) => (subject, body),
+        None => (text, ""),
     }
 }

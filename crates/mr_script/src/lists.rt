@@ -1,12 +1,12 @@
 //! Words that are lists: labels, flags and versions. A word of one dot is the empty list.
 ghost use Rattle.std.specs.Prelude.{◌≡◌, ◌<◌, ◌⊎◌, map, IfOk, IfErr};
-ghost use Rattle.mr_version.specs.Name.{name_text};
-ghost use Rattle.mr_mail.specs.Flag.{flag_name};
 ghost use Rattle.mr_mail.specs.Label.{texts_of};
-ghost use Rattle.mr_script.specs.List.{ArePieces, NamesFlags, united};
+ghost use Rattle.mr_script.specs.List.{pieces_of, NamesFlags, JoinsFlags, SpellsVersion, JoinsVersions, united};
+ghost use Rattle.mr_script.specs.Reading.{names, NamesNone, if_memory};
 
 use crate::LineFault;
 use mr_mail::{Flag, Flags};
+use mr_replica::Bases;
 use mr_version::Version;
 use std::alloc::{AllocError, Global};
 
@@ -16,9 +16,7 @@ const NONE: &str = ".";
 /// The flags whose names the word joins by `+`, in any order and more than once each. `BadFlags`
 /// where a name is no flag's.
 pub(crate) fn read_flags(alloc: Global, word: &str) -> Result<Flags, LineFault>
-    ensures named { IfOk result (λ flags. NamesFlags word.now flags) }
-    ensures fault { IfErr result
-        (λ fault. (fault ≡ LineFault.BadFlags) ⊎ (fault ≡ LineFault.OutOfMemory)) }
+    ensures { if_memory (names NamesFlags LineFault.BadFlags word.now) result }
 {
     let flags = flags_named(alloc, word)?;
     Ok(unite(flags.as_slice()))
@@ -26,7 +24,7 @@ pub(crate) fn read_flags(alloc: Global, word: &str) -> Result<Flags, LineFault>
 
 /// The texts that the word joins by `,`. They need not be labels.
 pub(crate) fn read_labels(alloc: Global, word: &str) -> Result<Vec<String>, AllocError>
-    ensures { IfOk result (λ labels. ArePieces 44 word.now (texts_of labels.items)) }
+    ensures { IfOk result (λ labels. texts_of labels.items ≡ pieces_of 44 word.now) }
 {
     let pieces = pieces(alloc, word, ',')?;
     let mut labels = Vec::with_capacity(alloc, pieces.len())?;
@@ -36,16 +34,36 @@ pub(crate) fn read_labels(alloc: Global, word: &str) -> Result<Vec<String>, Allo
     Ok(labels)
 }
 
+/// The version that the word is. `BadVersion` where it is none.
+pub(crate) fn read_version(word: &str) -> Result<Version, LineFault>
+    ensures { names SpellsVersion LineFault.BadVersion word.now result }
+{
+    match Version::read(word) {
+        Ok(version) => Ok(version),
+        Err(_) => Err(LineFault::BadVersion),
+    }
+}
+
 /// The versions whose texts the word joins by `,`. `BadVersion` where a text is no version's.
-pub(crate) fn read_versions(alloc: Global, word: &str) -> Result<Vec<Version>, LineFault>
-    ensures spelled { IfOk result (λ versions. ArePieces 44 word.now (map name_text versions.items)) }
-    ensures fault { IfErr result
-        (λ fault. (fault ≡ LineFault.BadVersion) ⊎ (fault ≡ LineFault.OutOfMemory)) }
+pub(crate) fn read_bases(alloc: Global, word: &str) -> Result<Bases, LineFault>
+    ensures { if_memory (names JoinsVersions LineFault.BadVersion word.now) result }
+{
+    let versions = versions_named(alloc, word)?;
+    Ok(Bases::new(versions))
+}
+
+/// The versions whose texts the word joins by `,`, as they stand there.
+fn versions_named(alloc: Global, word: &str) -> Result<Vec<Version>, LineFault>
+    ensures joined { IfOk result (λ versions. JoinsVersions word.now versions.items) }
+    ensures fault { IfErr result (λ fault. (fault ≡ LineFault.OutOfMemory)
+        ⊎ ((fault ≡ LineFault.BadVersion) × NamesNone JoinsVersions word.now)) }
 {
     let pieces = pieces(alloc, word, ',')?;
     let mut versions = Vec::with_capacity(alloc, pieces.len())?;
     for piece in &pieces {
-        let version = Version::read(piece).map_err(|_| LineFault::BadVersion)?;
+        let Ok(version) = Version::read(piece) else {
+            return Err(LineFault::BadVersion);
+        };
         versions.push(version)?;
     }
     Ok(versions)
@@ -53,14 +71,16 @@ pub(crate) fn read_versions(alloc: Global, word: &str) -> Result<Vec<Version>, L
 
 /// The flags whose names the word joins by `+`, as they stand there.
 fn flags_named(alloc: Global, word: &str) -> Result<Vec<Flag>, LineFault>
-    ensures spelled { IfOk result (λ flags. ArePieces 43 word.now (map flag_name flags.items)) }
-    ensures fault { IfErr result
-        (λ fault. (fault ≡ LineFault.BadFlags) ⊎ (fault ≡ LineFault.OutOfMemory)) }
+    ensures joined { IfOk result (λ flags. JoinsFlags word.now flags.items) }
+    ensures fault { IfErr result (λ fault. (fault ≡ LineFault.OutOfMemory)
+        ⊎ ((fault ≡ LineFault.BadFlags) × NamesNone JoinsFlags word.now)) }
 {
     let pieces = pieces(alloc, word, '+')?;
     let mut flags = Vec::with_capacity(alloc, pieces.len())?;
     for piece in &pieces {
-        let flag = Flag::from_name(piece).ok_or(LineFault::BadFlags)?;
+        let Some(flag) = Flag::from_name(piece) else {
+            return Err(LineFault::BadFlags);
+        };
         flags.push(flag)?;
     }
     Ok(flags)
@@ -81,7 +101,7 @@ fn unite(flags: &[Flag]) -> Flags
 fn pieces(alloc: Global, word: &str, separator: char) -> Result<Vec<&str>, AllocError>
     requires { separator < 128 }
     ensures { IfOk result
-        (λ pieces. ArePieces separator word.now (map (λ piece. piece.now) pieces.items)) }
+        (λ pieces. map (λ piece. piece.now) pieces.items ≡ pieces_of separator word.now) }
 {
     if word == NONE {
         return Ok(Vec::new(alloc));

@@ -1,7 +1,8 @@
 //! Numbers: decimal, without leading zeros.
-ghost use Rattle.std.specs.Prelude.{◌≡◌, ◌<◌, ◌^◌, ◌↔◌, ℕ, Ok, Some, IsTrue, IfOk, IfErr, IfSome};
+ghost use Rattle.std.specs.Prelude.{◌≡◌, ◌<◌, ◌^◌, ◌↔◌, ℕ, Some, IsTrue, IfSome};
 ghost use Rattle.std.specs.Fmt.{decimal};
-ghost use Rattle.mr_script.specs.Number.{IsPlain};
+ghost use Rattle.mr_script.specs.Number.{IsPlain, SpellsNumber, SpellsId};
+ghost use Rattle.mr_script.specs.Reading.{names};
 
 use crate::LineFault;
 use mr_version::Author;
@@ -28,16 +29,17 @@ fn number_of(text: &str) -> Option<u64>
 
 /// The number that the word is. `BadNumber` where it is none below 2^64.
 pub(crate) fn read_number(word: &str) -> Result<u64, LineFault>
-    ensures spelled { IfOk result (λ n. word.now ≡ decimal n) }
-    ensures whole { (n : ℕ) → n < 2 ^ 64 → word.now ≡ decimal n → result ≡ Ok n }
-    ensures fault { IfErr result (λ fault. fault ≡ LineFault.BadNumber) }
+    ensures { names SpellsNumber LineFault.BadNumber word.now result }
 {
-    number_of(word).ok_or(LineFault::BadNumber)
+    match number_of(word) {
+        Some(number) => Ok(number),
+        None => Err(LineFault::BadNumber),
+    }
 }
 
 /// The author whose id has this decimal text.
 fn author_of(text: &str) -> Option<Author>
-    ensures spelled { IfSome result (λ id. text.now ≡ decimal id) }
+    ensures spelled { IfSome result (λ id. SpellsId text.now id) }
     ensures whole { (id : ℕ) → id < 64 → text.now ≡ decimal id → result ≡ Some id }
 {
     let id = u16::try_from(number_of(text)?).ok()?;
@@ -46,9 +48,10 @@ fn author_of(text: &str) -> Option<Author>
 
 /// The replica's id that the word is. `BadNumber` where it is no number of 0 to 63.
 pub(crate) fn read_id(word: &str) -> Result<Author, LineFault>
-    ensures spelled { IfOk result (λ id. word.now ≡ decimal id) }
-    ensures whole { (id : ℕ) → id < 64 → word.now ≡ decimal id → result ≡ Ok id }
-    ensures fault { IfErr result (λ fault. fault ≡ LineFault.BadNumber) }
+    ensures { names SpellsId LineFault.BadNumber word.now result }
 {
-    author_of(word).ok_or(LineFault::BadNumber)
+    match author_of(word) {
+        Some(id) => Ok(id),
+        None => Err(LineFault::BadNumber),
+    }
 }

@@ -1,14 +1,20 @@
 //! The replicas of a script, and what its commands do to them.
+ghost use Rattle.std.specs.Prelude.{◌≡◌, [], true, Some, None, MatchResult};
+ghost use Rattle.mr_forms.specs.Plain.{plain_form, plain_known};
+ghost use Rattle.mr_replica.specs.Heads.{held};
+ghost use Rattle.mr_script.specs.Stage.{Does, Makes, Takes, tells_answer, tells_known, tells_held, replica_at, text_of};
+
 use crate::LineFault;
 use crate::answer::{
-    feed_line, heads_line, log_line, not_held_line, refused_line, reply_line, show_line,
+    feed_line, heads_line, know_line, log_line, not_held_line, refused_line, reply_line, show_line,
 };
 use crate::command::{Command, Roster};
-use mr_forms::PlainKnowledge;
-use mr_replica::{Bases, Event, Filter, Refusal, Replica};
+use mr_forms::{FormFault, PlainKnowledge};
+use mr_replica::{Event, Filter, Refusal, Replica, Reply};
 use mr_version::{Author, Version};
 use std::alloc::Global;
 use std::collections::BTreeMap;
+use std::marker::Model;
 
 /// The replicas of a script, by id.
 #[derive(Drop)]
@@ -18,7 +24,20 @@ pub(crate) struct Runner {
     is_opening: bool,
 }
 
+impl Model for Runner {
+    ghost use Rattle.mr_forms.specs.PlainPair.{PlainKnown};
+    ghost use Rattle.mr_script.specs.Stage.{Stage};
+
+    ghost Value = { Stage PlainKnown };
+
+    ghost view = { λ r. record { replicas = r.replicas.entries; is_opening = r.is_opening } };
+}
+
 impl Roster for Runner {
+    ghost use Rattle.mr_script.specs.Stage.{scene_of};
+
+    ghost scene = { scene_of };
+
     fn has(&self, id: Author) -> bool {
         self.replicas.contains_key(&id)
     }
@@ -34,7 +53,9 @@ impl Roster for Runner {
 
 impl Runner {
     /// No replica yet.
-    pub(crate) fn new(alloc: Global) -> Runner {
+    pub(crate) fn new(alloc: Global) -> Runner
+        ensures { result ≡ record { replicas = []; is_opening = true } }
+    {
         Runner {
             alloc,
             replicas: BTreeMap::new(alloc),
@@ -44,7 +65,9 @@ impl Runner {
 
     /// Runs a command, and gives what it prints, which may be nothing. `NoSuchReplica` for a replica
     /// that isn't there, `BadLimit` for a limit that no replica has, `OutOfMemory`.
-    pub(crate) fn run(&mut self, command: Command) -> Result<String, LineFault> {
+    pub(crate) fn run(&mut self, command: Command) -> Result<String, LineFault>
+        ensures { Does plain_form self.old command (text_of result) self.new }
+    {
         match command {
             Command::AddReplica {
                 id,
@@ -52,15 +75,11 @@ impl Runner {
                 capacity: _,
                 filter,
             } => self.add_replica(id, event_limit, filter),
-            Command::Create { replica, message } => self.step(replica, Event::Create(message)),
-            Command::Edit {
-                replica,
-                bases,
-                message,
-            } => self.step(replica, Event::Edit(Bases::new(bases), message)),
+            Command::Give { replica, event } => self.give(replica, event),
             Command::Heads { replica } => self.heads(replica),
             Command::Feed { replica } => self.feed(replica),
             Command::Log { replica } => self.log(replica),
+            Command::Know { replica } => self.know(replica),
             Command::Show { replica, version } => self.show(replica, version),
         }
     }
@@ -70,59 +89,127 @@ impl Runner {
         id: Author,
         event_limit: u32,
         filter: Filter,
-    ) -> Result<String, LineFault> {
-        let replica = Replica::try_new(self.alloc, id, filter, event_limit).map_err(
-            |_| LineFault::BadLimit,
-        )?;
+    ) -> Result<String, LineFault>
+        ensures { Makes plain_form self.old id event_limit filter (text_of result) self.new }
+    {
+        let Ok(replica) = Replica::try_new(self.alloc, id, filter, event_limit) else {
+            return Err(LineFault::BadLimit);
+        };
         self.replicas.insert(id, replica)?;
         Ok(String::new(self.alloc))
     }
 
     /// Gives the replica an event.
-    fn step(&mut self, id: Author, event: Event) -> Result<String, LineFault> {
+    fn give(&mut self, id: Author, event: Event) -> Result<String, LineFault>
+        ensures { Does plain_form self.old (Command.Give id event) (text_of result) self.new }
+    {
         self.is_opening = false;
-        let alloc = self.alloc;
-        let replica = self.replicas.get_mut(&id).ok_or(LineFault::NoSuchReplica)?;
-        match replica.step(event) {
-            Ok(reply) => Ok(reply_line(alloc, reply)?),
-            Err(refusal) => refused(alloc, refusal),
+        match self.replicas.get_mut(&id) {
+            Some(replica) => step(self.alloc, replica, event),
+            None => Err(LineFault::NoSuchReplica),
         }
     }
 
     /// The replica with this id, for a command that asks.
-    fn replica(&mut self, id: Author) -> Result<&Replica<PlainKnowledge>, LineFault> {
-        self.is_opening = false;
-        self.replicas.get(&id).ok_or(LineFault::NoSuchReplica)
+    fn replica(&self, id: Author) -> Result<&Replica<PlainKnowledge>, LineFault>
+        ensures { MatchResult result (λ replica. replica_at self.now id ≡ Some replica.now)
+            (λ fault. (replica_at self.now id ≡ None) × (fault ≡ LineFault.NoSuchReplica)) }
+    {
+        match self.replicas.get(&id) {
+            Some(replica) => Ok(replica),
+            None => Err(LineFault::NoSuchReplica),
+        }
     }
 
-    fn heads(&mut self, id: Author) -> Result<String, LineFault> {
+    fn heads(&mut self, id: Author) -> Result<String, LineFault>
+        ensures { Does plain_form self.old (Command.Heads id) (text_of result) self.new }
+    {
+        self.is_opening = false;
         let alloc = self.alloc;
         Ok(heads_line(alloc, id, self.replica(id)?.heads())?)
     }
 
-    fn feed(&mut self, id: Author) -> Result<String, LineFault> {
+    fn feed(&mut self, id: Author) -> Result<String, LineFault>
+        ensures { Does plain_form self.old (Command.Feed id) (text_of result) self.new }
+    {
+        self.is_opening = false;
         let alloc = self.alloc;
         Ok(feed_line(alloc, id, self.replica(id)?.feed())?)
     }
 
-    fn log(&mut self, id: Author) -> Result<String, LineFault> {
+    fn log(&mut self, id: Author) -> Result<String, LineFault>
+        ensures { Does plain_form self.old (Command.Log id) (text_of result) self.new }
+    {
+        self.is_opening = false;
         let alloc = self.alloc;
         Ok(log_line(alloc, id, self.replica(id)?.log().len())?)
     }
 
-    fn show(&mut self, id: Author, version: Version) -> Result<String, LineFault> {
+    fn know(&mut self, id: Author) -> Result<String, LineFault>
+        ensures { Does plain_form self.old (Command.Know id) (text_of result) self.new }
+    {
+        self.is_opening = false;
         let alloc = self.alloc;
-        match self.replica(id)?.held(version) {
-            Some(revision) => Ok(show_line(alloc, revision)?),
-            None => Ok(not_held_line(alloc)?),
-        }
+        known_line(alloc, id, self.replica(id)?)
+    }
+
+    fn show(&mut self, id: Author, version: Version) -> Result<String, LineFault>
+        ensures { Does plain_form self.old (Command.Show id version) (text_of result) self.new }
+    {
+        self.is_opening = false;
+        let alloc = self.alloc;
+        held_line(alloc, self.replica(id)?, version)
     }
 }
 
-/// What a refusal is to a script: want of memory ends it, and each other one is an answer.
-fn refused(alloc: Global, refusal: Refusal) -> Result<String, LineFault> {
-    match refusal {
-        Refusal::OutOfMemory => Err(LineFault::OutOfMemory),
-        _ => Ok(refused_line(alloc, refusal)?),
+/// What the replica tells of what it knows. A fragment that has no concise vector is a refusal.
+fn known_line(
+    alloc: Global,
+    id: Author,
+    replica: &Replica<PlainKnowledge>,
+) -> Result<String, LineFault>
+    ensures { tells_known id (plain_known replica.now.knowledge) (text_of result) }
+{
+    match replica.fragments() {
+        Ok(fragments) => Ok(know_line(alloc, id, fragments.as_slice())?),
+        Err(FormFault::TooManyHoles) => Ok(refused_line(alloc, Refusal::TooManyHoles)?),
+        Err(_) => Err(LineFault::OutOfMemory),
+    }
+}
+
+/// What the replica shows of a version.
+fn held_line(
+    alloc: Global,
+    replica: &Replica<PlainKnowledge>,
+    version: Version,
+) -> Result<String, LineFault>
+    ensures { tells_held (held replica.now.heads version) (text_of result) }
+{
+    match replica.held(version) {
+        Some(revision) => Ok(show_line(alloc, revision)?),
+        None => Ok(not_held_line(alloc)?),
+    }
+}
+
+/// Gives the replica an event, and tells its answer.
+fn step(
+    alloc: Global,
+    replica: &mut Replica<PlainKnowledge>,
+    event: Event,
+) -> Result<String, LineFault>
+    ensures { Takes plain_form replica.old event (text_of result) replica.new }
+{
+    let answer = replica.step(event);
+    answer_line(alloc, answer)
+}
+
+/// The line for a replica's answer. Want of memory ends a script, and each other refusal is an answer.
+fn answer_line(alloc: Global, answer: Result<Reply, Refusal>) -> Result<String, LineFault>
+    ensures { tells_answer answer (text_of result) }
+{
+    match answer {
+        Ok(reply) => Ok(reply_line(alloc, reply)?),
+        Err(Refusal::OutOfMemory) => Err(LineFault::OutOfMemory),
+        Err(refusal) => Ok(refused_line(alloc, refusal)?),
     }
 }

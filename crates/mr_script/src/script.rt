@@ -1,6 +1,14 @@
 //! Scripts, run as they are read.
-ghost use Rattle.std.specs.Prelude.{◌≡◌, ◌<◌, ◌≤◌, Err, IfErr, IfSome, length};
+ghost use Rattle.std.specs.Prelude.{◌≡◌, ◌≢◌, ◌-◌, ◌<◌, ◌≤◌, ◌++◌, ℕ, List, Option, [], Err, IfOk, IfErr, IfSome, OnOk, OnErr, IsSome, length};
+ghost use Rattle.std.specs.Option.{option_map};
+ghost use Rattle.std.specs.Io.Buffered.{reader_remaining};
+ghost use Rattle.std.specs.Io.KnownBytes.{Appends};
+ghost use Rattle.std.specs.Io.Take.{take_remaining};
+ghost use Rattle.mr_forms.specs.Plain.{plain_form};
 ghost use Rattle.mr_script.specs.Fault.{fault_of_source, NumbersItsLine};
+ghost use Rattle.mr_script.specs.Run.{Breaks, LineDoes, NextAnswer, Prints, Settles, TextDoes, end_of, is_skipped};
+ghost use Rattle.mr_script.specs.Script.{Accounts, looked_at};
+ghost use Rattle.mr_script.specs.Stage.{text_of};
 
 use crate::command::Command;
 use crate::output::Output;
@@ -15,7 +23,11 @@ use std::io::{Read, Write};
 /// Each line is run before a later one is read, and what it prints is written, and the writer flushed,
 /// before a read that might wait, and at the end. So a person or a program can wait for an answer
 /// before the next line is given. The first fault ends the script; what the lines before it printed
-/// is written all the same.
+/// is written all the same, and nothing else.
+///
+/// `Line` is the fault of the first line that has one, or `OutOfMemory` where memory is wanting for
+/// it; `TooLong` comes at the line that ends past 16,777,216 bytes, `Read` and `Write` where the
+/// reader and the writer fail. A line costs what its command costs, and the memory of its text.
 pub fn run_script<R: Read + Drop, W: Write>(
     alloc: Global,
     reader: R,
@@ -24,10 +36,12 @@ pub fn run_script<R: Read + Drop, W: Write>(
     ensures too_long { result ≡ Err ScriptFault.TooLong
         → IfSome (R.remaining reader) (λ script. 16777216 < length script) }
     ensures line { IfErr result NumbersItsLine }
+    ensures prints { result ≢ Err ScriptFault.Write → IfSome (R.remaining reader)
+        (λ script. Prints plain_form script (end_of result) (W.contents writer.old) (W.contents writer.new) []) }
 {
     let mut output = Output::new(alloc);
     let ran = run_lines(alloc, reader, &mut output, writer);
-    output.flush(writer).map_err(|_| ScriptFault::Write)?;
+    write_all(&mut output, writer)?;
     ran
 }
 
@@ -38,31 +52,120 @@ fn run_lines<R: Read + Drop, W: Write>(
     output: &mut Output,
     writer: &mut W,
 ) -> Result<(), ScriptFault>
+    requires { output.old ≡ [] }
     ensures too_long { result ≡ Err ScriptFault.TooLong
         → IfSome (R.remaining reader) (λ script. 16777216 < length script) }
     ensures line { IfErr result NumbersItsLine }
+    ensures prints { result ≢ Err ScriptFault.Write → IfSome (R.remaining reader)
+        (λ script. Prints plain_form script (end_of result) (W.contents writer.old) (W.contents writer.new) output.new) }
 {
-    let mut source = Source::try_new(alloc, reader).map_err(|fault| source_fault(1, fault))?;
+    let mut source = first_source(alloc, reader)?;
     let mut runner = Runner::new(alloc);
     let mut line = Vec::new(alloc);
     for number in 1..MAX_SCRIPT_BYTES + 2 {
-        if !source.has_line() || output.is_full() {
-            output.flush(writer).map_err(|_| ScriptFault::Write)?;
-        }
-        let is_line = source
-            .next_line(&mut line)
-            .map_err(|fault| source_fault(number, fault))?;
-        if !is_line {
+        settle(&source, output, writer)?;
+        let answer = next_answer(alloc, &mut source, &mut runner, &mut line, number)?;
+        let Some(answer) = answer else {
             return Ok(());
-        }
-        run_line(alloc, &mut runner, line.as_slice(), output).map_err(|fault| {
-            ScriptFault::Line {
-                line: number,
-                fault,
-            }
-        })?;
+        };
+        push_answer(output, answer.as_str(), number)?;
     }
     Err(ScriptFault::TooLong)
+}
+
+/// The script that the reader gives, before its first line.
+fn first_source<R: Read + Drop>(alloc: Global, reader: R) -> Result<Source<R>, ScriptFault>
+    ensures counted { IfOk result (λ source. Accounts (R.remaining reader)
+        (reader_remaining (take_remaining R.remaining) source.reader) source.taken) }
+    ensures none_taken { IfOk result (λ source. source.taken ≡ 0) }
+    ensures left { IfOk result (λ source. reader_remaining (take_remaining R.remaining) source.reader
+        ≡ option_map looked_at (R.remaining reader)) }
+    ensures fault { IfErr result (λ fault. Breaks 1 fault) }
+{
+    match Source::try_new(alloc, reader) {
+        Ok(source) => Ok(source),
+        Err(fault) => Err(source_fault(1, fault)),
+    }
+}
+
+/// Puts the answer to a line behind the output. Where there is no memory, nothing of it is added.
+fn push_answer(output: &mut Output, answer: &str, number: u64) -> Result<(), ScriptFault>
+    ensures ok { OnOk result (output.new ≡ output.old ++ answer.now) }
+    ensures unchanged { OnErr result (output.new ≡ output.old) }
+    ensures fault { IfErr result (λ fault. fault ≡ ScriptFault.Line number LineFault.OutOfMemory) }
+{
+    match output.push(answer) {
+        Ok(()) => Ok(()),
+        Err(_) => Err(ScriptFault::Line {
+            line: number,
+            fault: LineFault::OutOfMemory,
+        }),
+    }
+}
+
+/// Writes what waits, unless the next line is at hand and not much waits.
+fn settle<R: Read + Drop, W: Write>(
+    source: &Source<R>,
+    output: &mut Output,
+    writer: &mut W,
+) -> Result<(), ScriptFault>
+    ensures ok { OnOk result
+        (Settles (W.contents writer.old) (W.contents writer.new) output.old output.new) }
+    ensures fault { IfErr result (λ fault. fault ≡ ScriptFault.Write) }
+{
+    if !source.has_line() || output.is_full() {
+        write_all(output, writer)?;
+    }
+    Ok(())
+}
+
+/// Writes all that waits.
+fn write_all<W: Write>(output: &mut Output, writer: &mut W) -> Result<(), ScriptFault>
+    ensures ok { OnOk result
+        (Appends (W.contents writer.old) (W.contents writer.new) output.old) }
+    ensures empty { output.new ≡ [] }
+    ensures fault { IfErr result (λ fault. fault ≡ ScriptFault.Write) }
+{
+    match output.flush(writer) {
+        Ok(()) => Ok(()),
+        Err(_) => Err(ScriptFault::Write),
+    }
+}
+
+/// Takes the next line and runs it, and gives what it prints. There is none at the end.
+fn next_answer<R: Read + Drop>(
+    alloc: Global,
+    source: &mut Source<R>,
+    runner: &mut Runner,
+    line: &mut Vec<u8>,
+    number: u64,
+) -> Result<Option<String>, ScriptFault>
+    requires { source.old.taken ≤ 16777216 }
+    ensures few { OnOk result (source.new.taken ≤ 16777216) }
+    ensures more { IfOk result (λ answer. IsSome answer → source.old.taken < source.new.taken) }
+    ensures counted { (script : Option (List ℕ))
+        → Accounts script (reader_remaining (take_remaining R.remaining) source.old.reader) source.old.taken
+        → OnOk result (Accounts script (reader_remaining (take_remaining R.remaining) source.new.reader) source.new.taken) }
+    ensures too_long { (script : Option (List ℕ))
+        → Accounts script (reader_remaining (take_remaining R.remaining) source.old.reader) source.old.taken
+        → result ≡ Err ScriptFault.TooLong → IfSome script (λ bytes. 16777216 < length bytes) }
+    ensures line { 1 ≤ number → number ≤ 16777217 → IfErr result NumbersItsLine }
+    ensures no_write { result ≢ Err ScriptFault.Write }
+    ensures answer { IfSome (reader_remaining (take_remaining R.remaining) source.old.reader) (λ bytes.
+        NextAnswer plain_form runner.old number (16777216 - source.old.taken) bytes result runner.new
+        (reader_remaining (take_remaining R.remaining) source.new.reader) (16777216 - source.new.taken)) }
+{
+    match source.next_line(line) {
+        Ok(true) => match run_line(alloc, runner, line.as_slice()) {
+            Ok(answer) => Ok(Some(answer)),
+            Err(fault) => Err(ScriptFault::Line {
+                line: number,
+                fault,
+            }),
+        },
+        Ok(false) => Ok(None),
+        Err(fault) => Err(source_fault(number, fault)),
+    }
 }
 
 /// What ends a script whose line of this number can't be had.
@@ -79,21 +182,35 @@ fn source_fault(number: u64, fault: SourceFault) -> ScriptFault
     }
 }
 
-/// Runs one line, whose line feed is cut off, and puts what it prints behind the output.
-fn run_line(
-    alloc: Global,
-    runner: &mut Runner,
-    line: &[u8],
-    output: &mut Output,
-) -> Result<(), LineFault> {
-    let text = str::from_utf8(line).map_err(|_| LineFault::NotText)?;
-    if text.is_empty() || text.starts_with('#') {
-        return Ok(());
+/// Runs one line, whose line feed is cut off, and gives what it prints.
+fn run_line(alloc: Global, runner: &mut Runner, line: &[u8]) -> Result<String, LineFault>
+    ensures { LineDoes plain_form runner.old line.now (text_of result) runner.new }
+{
+    match str::from_utf8(line) {
+        Ok(text) => run_text(alloc, runner, text),
+        Err(_) => Err(LineFault::NotText),
+    }
+}
+
+/// Whether a line is skipped.
+fn is_skipped(text: &str) -> bool
+    ensures { result ≡ is_skipped text.now }
+{
+    match text.as_bytes().first() {
+        Some(byte) => *byte == b'#',
+        None => true,
+    }
+}
+
+/// Runs a line of text.
+fn run_text(alloc: Global, runner: &mut Runner, text: &str) -> Result<String, LineFault>
+    ensures { TextDoes plain_form runner.old text.now runner.new (text_of result) }
+{
+    if is_skipped(text) {
+        return Ok(String::new(alloc));
     }
     let command = Command::read(alloc, text, runner)?;
-    let answer = runner.run(command)?;
-    output.push(answer.as_str())?;
-    Ok(())
+    runner.run(command)
 }
 
 #[cfg(test)]

@@ -1,8 +1,9 @@
 //! The lines of a script, out of a reader.
-ghost use Rattle.std.specs.Prelude.{◌≡◌, ◌≢◌, ◌≤◌, ◌<◌, ℕ, List, Option, Err, IsTrue, IfOk, OnOk, IfSome, length};
+ghost use Rattle.std.specs.Prelude.{◌≡◌, ◌≢◌, ◌≤◌, ◌<◌, ℕ, List, Option, Err, IsTrue, IfOk, OnOk, IfSome, length, take};
+ghost use Rattle.std.specs.Option.{option_map};
 ghost use Rattle.std.specs.Io.Buffered.{reader_remaining};
 ghost use Rattle.std.specs.Io.Take.{take_remaining};
-ghost use Rattle.mr_script.specs.Script.{Accounts};
+ghost use Rattle.mr_script.specs.Script.{Accounts, TakesLine, looked_at};
 
 use crate::ScriptFault;
 use std::alloc::Global;
@@ -44,14 +45,16 @@ pub(crate) struct Source<R> {
 
 impl<R: Read + Drop> Source<R> {
     /// The script that the reader gives.
+    #[tactic(auto, unfolding(crate::specs::Script::looked_at))]
     pub(crate) fn try_new(alloc: Global, reader: R) -> Result<Source<R>, SourceFault>
         ensures counted { IfOk result (λ source. Accounts (R.remaining reader)
             (reader_remaining (take_remaining R.remaining) source.reader) source.taken) }
         ensures none_taken { IfOk result (λ source. source.taken ≡ 0) }
+        ensures left { IfOk result (λ source. reader_remaining (take_remaining R.remaining) source.reader
+            ≡ option_map looked_at (R.remaining reader)) }
         ensures fault { result ≢ Err SourceFault.TooLong }
     {
-        let limited = reader.take(MAX_SCRIPT_BYTES + 1);
-        let reader = BufReader::with_capacity(alloc, READ_BYTES, limited).map_err(SourceFault::of)?;
+        let reader = buffered(alloc, reader, MAX_SCRIPT_BYTES + 1)?;
         Ok(Source { reader, taken: 0 })
     }
 
@@ -71,6 +74,9 @@ impl<R: Read + Drop> Source<R> {
         ensures too_long { (script : Option (List ℕ))
             → Accounts script (reader_remaining (take_remaining R.remaining) self.old.reader) self.old.taken
             → result ≡ Err SourceFault.TooLong → IfSome script (λ bytes. 16777216 < length bytes) }
+        ensures line { IfSome (reader_remaining (take_remaining R.remaining) self.old.reader) (λ bytes.
+            TakesLine bytes self.old.taken result line.new.items
+            (reader_remaining (take_remaining R.remaining) self.new.reader) self.new.taken) }
     {
         line.clear();
         self.reader
@@ -86,4 +92,19 @@ impl<R: Read + Drop> Source<R> {
         }
         Ok(count > 0)
     }
+}
+
+/// The reader's first bytes, up to the limit, read ahead.
+fn buffered<R: Read + Drop>(
+    alloc: Global,
+    reader: R,
+    limit: u64,
+) -> Result<BufReader<Take<R>>, SourceFault>
+    ensures counted { IfOk result (λ buffered. Accounts (R.remaining reader)
+        (reader_remaining (take_remaining R.remaining) buffered) 0) }
+    ensures left { IfOk result (λ buffered. reader_remaining (take_remaining R.remaining) buffered
+        ≡ option_map (take limit) (R.remaining reader)) }
+    ensures fault { result ≢ Err SourceFault.TooLong }
+{
+    BufReader::with_capacity(alloc, READ_BYTES, reader.take(limit)).map_err(SourceFault::of)
 }

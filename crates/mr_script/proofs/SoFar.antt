@@ -1,0 +1,106 @@
+-- what a script has printed up to some line
+use Rattle.std.proofs.Common.{◌≡◌, ◌+◌, ◌-◌, ℕ, List, [], ◌++◌, Option, Some, None, Ok, IfSome, inr, string_bytes, sym, refl, append_assoc, append-nil}
+use Rattle.std.specs.Option.{option_map}
+use Rattle.std.specs.Io.KnownBytes.{Appends}
+use Rattle.std.specs.declared.string.String.{String}
+use Rattle.std.specs.declared.alloc.Global.{Global}
+use Rattle.mr_forms.specs.Known.{Form}
+use Rattle.mr_script.specs.declared.fault.LineFault.TheVariants.{OutOfMemory}
+use Rattle.mr_script.specs.declared.fault.ScriptFault.{ScriptFault}
+use Rattle.mr_script.specs.declared.fault.ScriptFault.TheVariants.{Line}
+use Rattle.mr_script.specs.Run.{Runs, LeadsTo, NextAnswer, Settles, Prints, Breaks, bare}
+use Rattle.mr_script.specs.Run.Runs.{breaks}
+use Rattle.mr_script.specs.Script.{lines_of, looked_at}
+use Rattle.mr_script.specs.Stage.{Stage}
+
+-- nothing was written
+pub Appends-nothing : (known : Option (List ℕ)) → Appends known known []
+Appends-nothing None = tt
+Appends-nothing (Some xs) = sym (append-nil xs)
+
+-- one text after another was written
+pub Appends-both : (first second third : Option (List ℕ)) (xs ys : List ℕ) → Appends first second xs → Appends second third ys → Appends first third (xs ++ ys)
+Appends-both None second third xs ys a b = tt
+Appends-both (Some f) None third xs ys a b = absurd a
+Appends-both (Some f) (Some s) None xs ys a b = absurd b
+Appends-both (Some f) (Some s) (Some t) xs ys a b = rw (b, a) (append_assoc f xs ys)
+
+module _ {K : Type 0} (form : Form K) where
+  -- what was written and what waits are what the lines so far print, and the rest is left
+  pub record SoFar (script : List ℕ) (s : Stage K) (number taken : ℕ) (left : Option (List ℕ)) (old new : Option (List ℕ)) (waits : List ℕ) : Type 0 where
+    pub rest : List ℕ
+    pub is_left : left ≡ Some rest
+    pub written : List ℕ
+    pub are : Appends old new written
+    pub leads : LeadsTo form bare 1 16777216 (looked_at script) (written ++ waits) s number (16777216 - taken) rest
+
+  -- before the first line
+  pub so_far-start : (script : Option (List ℕ)) (left old : Option (List ℕ)) (taken : ℕ) (waits : List ℕ) → left ≡ option_map looked_at script → taken ≡ 0 → waits ≡ [] → IfSome script (λ bytes. SoFar bytes bare 1 taken left old old waits)
+  so_far-start None left old taken waits is none empty = tt
+  so_far-start (Some bytes) left old taken waits is none empty = record {
+    rest = looked_at bytes;
+    is_left = is;
+    written = [];
+    are = Appends-nothing old;
+    leads = λ end output runs. rw empty (rw none at runs);
+  }
+
+  -- where not even the first line can be read
+  pub never_began : (script : Option (List ℕ)) (fault : ScriptFault) (old : Option (List ℕ)) (waits : List ℕ) → Breaks 1 fault → waits ≡ [] → IfSome script (λ bytes. Prints form bytes (Some fault) old old waits)
+  never_began None fault old waits broken empty = tt
+  never_began (Some bytes) fault old waits broken empty = record {
+    written = [];
+    are = Appends-nothing old;
+    runs = rw empty (breaks broken);
+  }
+
+  -- what waited was written
+  pub prints_all : (script : List ℕ) (end : Option ScriptFault) (old new newer : Option (List ℕ)) (waits : List ℕ) → Prints form script end old new waits → Appends new newer waits → Prints form script end old newer []
+  prints_all script end old new newer waits so_far flushed = record {
+    written = so_far.written ++ waits;
+    are = Appends-both old new newer so_far.written waits so_far.are flushed;
+    runs = rw append-nil so_far.runs;
+  }
+
+  module _ (script : List ℕ) (s : Stage K) (number taken : ℕ) (left old new : Option (List ℕ)) (waits : List ℕ) (so_far : SoFar script s number taken left old new waits) where
+    -- after some of what waits was written
+    pub so_far-settled : (newer : Option (List ℕ)) (waits_still : List ℕ) → Settles new newer waits waits_still → SoFar script s number taken left old newer waits_still
+    so_far-settled newer waits_still settles = record {
+      rest = so_far.rest;
+      is_left = so_far.is_left;
+      written = so_far.written ++ settles.written;
+      are = Appends-both old new newer so_far.written settles.written so_far.are settles.are;
+      leads = λ end output runs. rw (append_assoc so_far.written settles.written waits_still, ← settles.all) (so_far.leads end output runs);
+    }
+
+    -- after one more line
+    pub so_far-more : (after : Stage K) (text : String Global) (taken_then : ℕ) (left_then : Option (List ℕ)) (waits_then : List ℕ)
+        → IfSome left (λ bytes. NextAnswer form s number (16777216 - taken) bytes (Ok (Some text)) after left_then (16777216 - taken_then)) → waits_then ≡ waits ++ string_bytes text
+        → SoFar script after (number + 1) taken_then left_then old new waits_then
+    so_far-more after text taken_then left_then waits_then answer pushed =
+        let next = rw so_far.is_left at answer in
+        record {
+          rest = next.0;
+          is_left = next.1;
+          written = so_far.written;
+          are = so_far.are;
+          leads = λ end output runs.
+              rw (pushed, ← append_assoc so_far.written waits (string_bytes text), append_assoc (so_far.written ++ waits) (string_bytes text) output)
+              (so_far.leads end (string_bytes text ++ output) (next.2 end output runs));
+        }
+
+    -- where the script ends here
+    so_far-ends : (end : Option ScriptFault) → Runs form s number (16777216 - taken) (lines_of so_far.rest) end [] → Prints form script end old new waits
+    so_far-ends end runs = record {
+      written = so_far.written;
+      are = so_far.are;
+      runs = rw append-nil at (so_far.leads end [] runs);
+    }
+
+    -- at a fault of the next line, or at the end
+    pub so_far-stops : (end : Option ScriptFault) → IfSome left (λ bytes. Runs form s number (16777216 - taken) (lines_of bytes) end []) → Prints form script end old new waits
+    so_far-stops end runs = so_far-ends end (rw so_far.is_left at runs)
+
+    -- where there is no memory
+    pub so_far-no_memory : Prints form script (Some (Line number OutOfMemory)) old new waits
+    so_far-no_memory = so_far-ends (Some (Line number OutOfMemory)) (breaks (inr refl))

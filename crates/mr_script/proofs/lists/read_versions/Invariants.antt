@@ -1,6 +1,0 @@
-use Rattle.std.proofs.Common.{◌≡◌, take, map}
-use Rattle.mr_version.specs.Name.{name_text}
-use Rattle.mr_script.proofs.lists.read_versions.Given as goal
-
-abbrev pub invariant-loop-piece : goal.invariant-loop-piece
-invariant-loop-piece l = map name_text l.versions.items ≡ map (λ piece. piece.now) (take l.piece-index l.piece-items)

@@ -1,0 +1,88 @@
+-- a script from its first line to its end
+use Rattle.std.specs.Prelude.{◌≡◌, ◌<◌, ◌≤◌, ◌+◌, ◌-◌, ◌==◌, ℕ, Bool, true, List, [], ◌∷◌, ◌++◌, length, Option, Some, None, Result, Ok, Err, ◌⊎◌, string_bytes}
+use Rattle.std.specs.Str.{IsUtf8}
+use Rattle.std.specs.declared.string.String.{String}
+use Rattle.std.specs.declared.alloc.Global.{Global}
+use Rattle.std.specs.Io.KnownBytes.{Appends}
+use Rattle.mr_forms.specs.Known.{Form}
+use Rattle.mr_script.specs.declared.fault.LineFault.{LineFault}
+use Rattle.mr_script.specs.declared.fault.LineFault.TheVariants.{NotText, OutOfMemory}
+use Rattle.mr_script.specs.declared.fault.ScriptFault.{ScriptFault}
+use Rattle.mr_script.specs.declared.fault.ScriptFault.TheVariants.{Line, Read, TooLong}
+use Rattle.mr_script.specs.Command.{reads_command}
+use Rattle.mr_script.specs.Reading.{Reading, choose, ◌andthen◌}
+use Rattle.mr_script.specs.Script.{lines_of, line_text, looked_at}
+use Rattle.mr_script.specs.Stage.{Stage, scene_of, Does}
+
+-- an empty line and one that begins with `#` are skipped
+abbrev pub is_skipped : List ℕ → Bool
+is_skipped [] = true
+is_skipped (b ∷ bs) = b == 35
+
+-- the fault that ended a script, if one did
+abbrev pub end_of : {T : Type 0} → Result T ScriptFault → Option ScriptFault
+end_of (Ok x) = None
+end_of (Err fault) = Some fault
+
+-- the reader fails, or there is no memory for the line of this number
+abbrev pub Breaks : ℕ → ScriptFault → Type 0
+Breaks number fault = (fault ≡ Read) ⊎ (fault ≡ Line number OutOfMemory)
+
+-- no replica yet
+abbrev pub bare : {K : Type 0} → Stage K
+bare = record { replicas = []; is_opening = true }
+
+module _ {K : Type 0} (form : Form K) where
+  -- a line of text is skipped, or it is read as a command and that is done
+  abbrev pub TextDoes : Stage K → List ℕ → Stage K → Reading (List ℕ)
+  TextDoes s text new =
+      choose (is_skipped text) (λ result. (result ≡ Ok []) × (new ≡ s))
+      (reads_command (scene_of s) text andthen λ command. λ result. Does form s command result new)
+
+  -- From s, a line without its line feed prints this, and what is there goes on to new.
+  abbrev pub LineDoes : Stage K → List ℕ → Result (List ℕ) LineFault → Stage K → Type 0
+  LineDoes s line result new = (IsUtf8 line × TextDoes s line new result) ⊎ ((¬ IsUtf8 line) × (result ≡ Err NotText))
+
+  -- From s, with room for so many bytes, these lines print the output and end so. They are numbered from this number on.
+  pub data Runs : Stage K → (number room : ℕ) → (lines : List (List ℕ)) → (end : Option ScriptFault) → (output : List ℕ) → Type 0 where
+    -- no line is left
+    all_run : {s : Stage K} {number room : ℕ} → Runs s number room [] None []
+    -- the reader fails, or memory is wanting
+    breaks : {s : Stage K} {number room : ℕ} {lines : List (List ℕ)} {fault : ScriptFault} → Breaks number fault → Runs s number room lines (Some fault) []
+    -- the next line ends past the greatest length
+    too_long : {s : Stage K} {number room : ℕ} {line : List ℕ} {lines : List (List ℕ)} → room < length line → Runs s number room (line ∷ lines) (Some TooLong) []
+    -- it is at fault
+    at_fault : {s : Stage K} (new : Stage K) {number room : ℕ} {line : List ℕ} {lines : List (List ℕ)} {fault : LineFault} → length line ≤ room
+        → LineDoes s (line_text line) (Err fault) new → Runs s number room (line ∷ lines) (Some (Line number fault)) []
+    -- or it prints a text, and the lines after it go on
+    prints : {s : Stage K} (new : Stage K) {number room : ℕ} {line : List ℕ} {lines : List (List ℕ)} {end : Option ScriptFault} {text output : List ℕ} → length line ≤ room
+        → LineDoes s (line_text line) (Ok text) new → Runs new (number + 1) (room - length line) lines end output
+        → Runs s number room (line ∷ lines) end (text ++ output)
+
+  -- what the script prints, and how it ends
+  abbrev pub RunsScript : List ℕ → Option ScriptFault → List ℕ → Type 0
+  RunsScript script end output = Runs bare 1 16777216 (lines_of (looked_at script)) end output
+
+  -- Whatever the lines at the new place print, those at the old one print the text and then that.
+  abbrev pub LeadsTo : Stage K → (number room : ℕ) → List ℕ → (text : List ℕ) → Stage K → (number_then room_then : ℕ) → List ℕ → Type 0
+  LeadsTo s number room bytes text new number_then room_then left =
+      (end : Option ScriptFault) (output : List ℕ) → Runs new number_then room_then (lines_of left) end output → Runs s number room (lines_of bytes) end (text ++ output)
+
+  -- what comes of the next line of these bytes
+  abbrev pub NextAnswer : Stage K → (number room : ℕ) → List ℕ → Result (Option (String Global)) ScriptFault → Stage K → Option (List ℕ) → ℕ → Type 0
+  NextAnswer s number room bytes (Ok (Some text)) new left room_then =
+      (rest : List ℕ) × (left ≡ Some rest) × LeadsTo s number room bytes (string_bytes text) new (number + 1) room_then rest
+  NextAnswer s number room bytes (Ok None) new left room_then = Runs s number room (lines_of bytes) None []
+  NextAnswer s number room bytes (Err fault) new left room_then = Runs s number room (lines_of bytes) (Some fault) []
+
+-- what waited was written up to what waits still
+pub record Settles (old new : Option (List ℕ)) (waited waits : List ℕ) : Type 0 where
+  pub written : List ℕ
+  pub are : Appends old new written
+  pub all : waited ≡ written ++ waits
+
+-- of a script whose bytes are known, it was written what it prints but for what waits
+pub record Prints {K : Type 0} (form : Form K) (script : List ℕ) (end : Option ScriptFault) (old new : Option (List ℕ)) (waits : List ℕ) : Type 0 where
+  pub written : List ℕ
+  pub are : Appends old new written
+  pub runs : RunsScript form script end (written ++ waits)
