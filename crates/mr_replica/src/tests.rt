@@ -6,6 +6,7 @@ use mr_forms::PlainKnowledge;
 use mr_mail::{Day, Message};
 use mr_version::{Author, Version};
 use std::alloc::Global;
+use std::process::Abort;
 use std::test::Fail;
 
 type PlainReplica = Replica<PlainKnowledge>;
@@ -95,6 +96,12 @@ fn replica_of(alloc: Global, event_limit: u32) -> Result<PlainReplica, Fail> {
     Ok(Replica::try_new(alloc, Author::try_new(0)?, Filter::all(), event_limit)?)
 }
 
+fn check_copy(rt: &impl Abort, alloc: Global) -> Result<(), Fail> {
+    let event = event_of(alloc, "0.2 0.1")?.copy()?;
+    assert_eq!(rt; base_count(&event), 2);
+    Ok(())
+}
+
 #[test]
 fn ample_memory(rt: HostRuntime) -> Result<(), Fail> {
     let alloc = rt.alloc();
@@ -103,9 +110,7 @@ fn ample_memory(rt: HostRuntime) -> Result<(), Fail> {
     assert_eq!(rt; answers.as_str(), "; 0.1; 0.2");
     assert_eq!(rt; replica.conflicts()?.len(), 0);
     assert_eq!(rt; replica.fragments()?.len(), 1);
-    let event = event_of(alloc, "0.2 0.1")?.copy()?;
-    assert_eq!(rt; base_count(&event), 2);
-    Ok(())
+    check_copy(&rt, alloc)
 }
 
 #[test]
@@ -153,17 +158,45 @@ fn below_text(alloc: Global, replica: &PlainReplica, version: &str) -> Result<St
     }
 }
 
+/// Asks for the steps, and then for these heads.
+fn check_heads(
+    rt: &impl Abort,
+    alloc: Global,
+    replica: &mut PlainReplica,
+    lines: &[&str],
+    heads: &str,
+) -> Result<(), Fail> {
+    let _answers = answers(alloc, replica, lines)?;
+    assert_eq!(rt; heads_text(alloc, replica)?.as_str(), heads);
+    Ok(())
+}
+
+fn check_below(
+    rt: &impl Abort,
+    alloc: Global,
+    replica: &PlainReplica,
+    version: &str,
+    below: &str,
+) -> Result<(), Fail> {
+    assert_eq!(rt; below_text(alloc, replica, version)?.as_str(), below);
+    Ok(())
+}
+
 #[test]
 fn edits_of_one_item_among_several(rt: HostRuntime) -> Result<(), Fail> {
     let alloc = rt.alloc();
     let mut replica = replica_of(alloc, 9)?;
-    let _answers = answers(alloc, &mut replica, &["create", "create", "0.1"])?;
-    assert_eq!(rt; heads_text(alloc, &replica)?.as_str(), " 0.2 0.3");
-    assert_eq!(rt; below_text(alloc, &replica, "0.2")?.as_str(), "-");
-    assert_eq!(rt; below_text(alloc, &replica, "0.3")?.as_str(), "0:2");
-    let _answers = answers(alloc, &mut replica, &["0.3"])?;
-    assert_eq!(rt; heads_text(alloc, &replica)?.as_str(), " 0.2 0.4");
-    assert_eq!(rt; below_text(alloc, &replica, "0.4")?.as_str(), "0:3");
+    check_heads(
+        &rt,
+        alloc,
+        &mut replica,
+        &["create", "create", "0.1"],
+        " 0.2 0.3",
+    )?;
+    check_below(&rt, alloc, &replica, "0.2", "-")?;
+    check_below(&rt, alloc, &replica, "0.3", "0:2")?;
+    check_heads(&rt, alloc, &mut replica, &["0.3"], " 0.2 0.4")?;
+    check_below(&rt, alloc, &replica, "0.4", "0:3")?;
     assert_eq!(rt;
         feed_text(alloc, replica.feed())?.as_str(),
         " +0.1 +0.2 -0.1 +0.3 -0.3 +0.4"
@@ -171,21 +204,33 @@ fn edits_of_one_item_among_several(rt: HostRuntime) -> Result<(), Fail> {
     Ok(())
 }
 
+/// Asks for the steps, and then for what is known.
+fn check_known(
+    rt: &impl Abort,
+    alloc: Global,
+    replica: &mut PlainReplica,
+    lines: &[&str],
+    known: &str,
+) -> Result<(), Fail> {
+    let _answers = answers(alloc, replica, lines)?;
+    let fragments = replica.fragments()?;
+    assert_eq!(rt; knowledge_text(alloc, &fragments)?.as_str(), known);
+    Ok(())
+}
+
 #[test]
 fn fragments_after_an_edit(rt: HostRuntime) -> Result<(), Fail> {
     let alloc = rt.alloc();
     let mut replica = replica_of(alloc, 9)?;
-    assert_eq!(rt; knowledge_text(alloc, &replica.fragments()?)?.as_str(), "-");
-    let _answers = answers(alloc, &mut replica, &["create", "0.1"])?;
-    assert_eq!(rt;
-        knowledge_text(alloc, &replica.fragments()?)?.as_str(),
-        "0.1 0:2"
-    );
-    let _answers = answers(alloc, &mut replica, &["create", "0.2"])?;
-    assert_eq!(rt;
-        knowledge_text(alloc, &replica.fragments()?)?.as_str(),
-        "0.1 0:4!3; 0.3 0:3!1..2"
-    );
+    check_known(&rt, alloc, &mut replica, &[], "-")?;
+    check_known(&rt, alloc, &mut replica, &["create", "0.1"], "0.1 0:2")?;
+    check_known(
+        &rt,
+        alloc,
+        &mut replica,
+        &["create", "0.2"],
+        "0.1 0:4!3; 0.3 0:3!1..2",
+    )?;
     Ok(())
 }
 

@@ -87,6 +87,7 @@ reads_message p =
 
 -- ---- other words
 
+-- a version, by its text
 abbrev pub reads_version : List ℕ → Reading Name
 reads_version word = names SpellsVersion BadVersion word
 
@@ -113,6 +114,7 @@ module _ (scene : Scene) where
 
   -- ---- commands: the number of words first, then each of them from left to right
 
+  -- these four texts, each in its turn
   abbrev pub reads_opening_words : (id limit capacity filter : List ℕ) → Reading Command
   reads_opening_words id limit capacity filter =
       reads_first_id id andthen λ id.
@@ -175,6 +177,7 @@ module _ (scene : Scene) where
       choose (text_eq name (codes "show")) (reads_show args) (
       fails UnknownCommand))))))))
 
+  -- the name and what comes after it
   abbrev pub reads_words : List (List ℕ) → Reading Command
   reads_words (name ∷ args) = reads_args name args
   reads_words [] = fails WrongWords

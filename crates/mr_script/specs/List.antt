@@ -25,6 +25,7 @@ pub record NamesFlags (word : List ℕ) (bits : ℕ) : Type 0 where
   pub named : JoinsFlags word flags
   pub are : bits ≡ united flags
 
+-- the author and the counter are in range
 abbrev pub IsVersionName : Name → Type 0
 IsVersionName v = IsVersion v.author v.counter
 

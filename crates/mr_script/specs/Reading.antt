@@ -42,6 +42,7 @@ pub data Both {X Y : Type 0} (First : Result X LineFault → Type 0) (Next : X �
   goes_on : {x : X} {result : Result Y LineFault} → First (Ok x) → Next x result → Both First Next result
   ends : {fault : LineFault} → First (Err fault) → Both First Next (Err fault)
 
+-- the same, between the two
 infixr 20 ◌andthen◌
 abbrev pub ◌andthen◌ : {X Y : Type 0} → Reading X → (X → Reading Y) → Reading Y
 First andthen Next = Both First Next

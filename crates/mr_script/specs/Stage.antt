@@ -32,6 +32,7 @@ pub record Stage (K : Type 0) : Type 0 where
   pub replicas : List (ℕ × State K)
   pub is_opening : Bool
 
+-- whether a list is empty
 abbrev pub is_nil : {X : Type 0} → List X → Bool
 is_nil [] = true
 is_nil (x ∷ xs) = false
