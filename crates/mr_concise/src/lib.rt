@@ -26,8 +26,6 @@ mod column;
 mod column_ref;
 mod cursor;
 mod equal;
-#[cfg(test)]
-mod fragment_tests;
 mod fragments;
 mod holes;
 mod insert;
@@ -38,11 +36,7 @@ mod set;
 mod source;
 mod sources;
 mod sweep;
-#[cfg(test)]
-mod tests;
 mod text;
-#[cfg(test)]
-mod twin_tests;
 mod union;
 mod vector;
 mod versions;

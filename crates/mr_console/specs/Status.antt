@@ -1,11 +1,13 @@
 -- exit statuses
 use Rattle.std.specs.Prelude.{ℕ}
-use Rattle.mr_console.specs.declared.fault.Fault.{Fault}
-use Rattle.mr_console.specs.declared.fault.Fault.TheVariants.{NotText, Write, OutOfMemory, Script}
+use Rattle.mr_console.specs.declared.ending.Fault.{Fault}
+use Rattle.mr_console.specs.declared.ending.Fault.TheVariants.{NotText}
+use Rattle.mr_console.specs.declared.ending.Ending.{Ending}
+use Rattle.mr_console.specs.declared.ending.Ending.TheVariants.{Done, WrongCommandLine, Stopped}
 
--- 2 for a wrong command line, 1 for all else
-abbrev pub status_of : Fault → ℕ
-status_of NotText = 2
-status_of Write = 1
-status_of OutOfMemory = 1
-status_of (Script _) = 1
+-- 0 where all was done, 2 for a wrong command line, 1 for all else
+abbrev pub status_of : Ending → ℕ
+status_of Done = 0
+status_of WrongCommandLine = 2
+status_of (Stopped NotText) = 2
+status_of (Stopped _) = 1

@@ -7,35 +7,33 @@
 #![tactic(auto)]
 
 mod command_line;
-mod fault;
+mod ending;
 
 use clap::error::ErrorKind;
 use command_line::read_command_line;
-use fault::Fault;
+use ending::{Ending, Fault, exit_of};
 use mr_script::run_script;
 use std::process::ExitCode;
 use std::rt::Env;
 use std::{env, io};
 
-/// The status of a wrong command line.
-const WRONG_COMMAND_LINE: u8 = 2;
-
 fn main(rt: HostRuntime) -> ExitCode {
-    match run(&rt) {
-        Ok(status) => status,
+    let ending = match run(&rt) {
+        Ok(ending) => ending,
         Err(fault) => {
             let _ = eprintln!(rt; "{fault}");
-            ExitCode::from(fault.status())
+            Ending::Stopped(fault)
         }
-    }
+    };
+    ExitCode::from(exit_of(ending))
 }
 
 /// Does what the command line asks for.
-fn run<R: Env + Input + Print + Eprint + AllocGlobal>(rt: &R) -> Result<ExitCode, Fault> {
+fn run<R: Env + Input + Print + Eprint + AllocGlobal>(rt: &R) -> Result<Ending, Fault> {
     let words = words(rt)?;
     match read_command_line(rt.alloc(), words.as_slice()) {
         Ok(_) => match run_script(rt.alloc(), rt.reader(), &mut io::writer(rt)) {
-            Ok(()) => Ok(ExitCode::SUCCESS),
+            Ok(()) => Ok(Ending::Done),
             Err(fault) => Err(Fault::Script(fault)),
         },
         Err(error) => say(rt, &error),
@@ -53,14 +51,14 @@ fn words<R: Env + AllocGlobal>(rt: &R) -> Result<Vec<String>, Fault> {
 
 /// Prints what the command line is answered with in place of a run: help, the version, or what is
 /// wrong with it.
-fn say<R: Print + Eprint>(rt: &R, error: &clap::Error) -> Result<ExitCode, Fault> {
+fn say<R: Print + Eprint>(rt: &R, error: &clap::Error) -> Result<Ending, Fault> {
     if error.kind() == ErrorKind::OutOfMemory {
         return Err(Fault::OutOfMemory);
     }
     let printed = error.print(rt);
     if error.use_stderr() {
-        return Ok(ExitCode::from(WRONG_COMMAND_LINE));
+        return Ok(Ending::WrongCommandLine);
     }
     printed.map_err(|_| Fault::Write)?;
-    Ok(ExitCode::SUCCESS)
+    Ok(Ending::Done)
 }

@@ -16,8 +16,6 @@ mod feed;
 mod plain_port;
 mod port;
 mod port_fault;
-#[cfg(test)]
-mod tests;
 
 pub use entry::Entry;
 pub use feed::{Feed, fold};

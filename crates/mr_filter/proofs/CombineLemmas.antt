@@ -1,16 +1,16 @@
 -- a clause's own conditions make the clause again
-use Rattle.std.proofs.Common.{◌≡◌, ℕ, ◌≤◌, ◌<◌, max, zero, suc, ◌&&◌, ◌⊎◌, Bool, true, cond, eqb, List, [], ◌∷◌, ◌++◌, map, Option, Some, None, refl, sym, ◌∙◌, ap, inl, inr, arith, append-nil}
+use Rattle.std.proofs.Common.{◌≡◌, ℕ, ◌≤◌, max, ◌⊎◌, cond, eqb, List, [], ◌∷◌, ◌++◌, map, Option, Some, None, refl, sym, ◌∙◌, ap, inl, inr, arith, append-nil}
 use Rattle.std.specs.Prelude.{filter}
 use Rattle.std.specs.Int.Bits.{or_zero_r}
 use Rattle.std.specs.Int.RustNames.{bit_or}
 use Rattle.std.specs.List.{filter_map}
-use Rattle.std.specs.Cmp.{first_so, second_so}
-use Rattle.std.proofs.lemmas.Bool.{eqb-true, cases_lt}
+use Rattle.std.proofs.lemmas.Bool.{eqb-true}
 use Rattle.std.proofs.lemmas.Bool.Decides.{eqb_tells}
 use Rattle.std.proofs.lemmas.List.Elements.{filter_map-append}
 use Rattle.std.proofs.lemmas.Nat.Bits.{same_from_bits, bit_at_or}
 use Rattle.mr_mail.specs.declared.flags.Flag.{Flag}
 use Rattle.mr_mail.specs.Flag.{all_flags, bit_of, has_flag}
+use Rattle.mr_mail.proofs.FlagLemmas.{passes-below}
 use Rattle.mr_filter.specs.Filter.{ClauseParts, IsClause}
 use Rattle.mr_filter.specs.Condition.{Condition, HasLabel, LacksLabel, HasFlag, LacksFlag, Since, wanted_label, barred_label, wanted_labels, barred_labels, bit_on, bit_off, all_bits, bits_on, bits_off, latest_day, Combines}
 use Rattle.mr_filter.specs.Text.{conditions_of, since_condition}
@@ -53,23 +53,9 @@ unfolding union
 all_bits_flags bit f same [] = refl
 all_bits_flags bit f same (x ∷ xs) = rw (same x) (ap (bit_or (bit_of x)) (all_bits_flags bit f same xs))
 
--- a number below a bound passes what each does
-passes_below : ℕ → (ℕ → Bool) → Bool
-passes_below zero test = true
-passes_below (suc k) test = test k && passes_below k test
-
-passes-below : (k : ℕ) (test : ℕ → Bool) → passes_below k test ≡ true → (n : ℕ) → n < k → test n ≡ true
-unfolding passes_below
-passes-below zero test each n below = absurd (omega arith)
-passes-below (suc k) test each n below =
-    elim (cases_lt n k) [
-      | inl less ↦ passes-below k test (second_so (test k) (passes_below k test) each) n less
-      | inr more ↦ let same : n ≡ k = omega arith in rw same (first_so (test k) (passes_below k test) each)
-    ]
-
 -- the flags of a flag byte, together, are the byte
 union-flags : (bits : ℕ) → bits ≤ 31 → union (filter (has_flag bits) all_flags) ≡ bits
-unfolding union passes_below
+unfolding union
 union-flags bits within =
     eqb-true (union (filter (has_flag bits) all_flags)) bits (passes-below 32 (λ n. eqb (union (filter (has_flag n) all_flags)) n) refl bits (omega arith))
 

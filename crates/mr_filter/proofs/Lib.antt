@@ -1,4 +1,5 @@
 mod MeaningLemmas
+pub mod SelectsLemmas
 mod SearchLemmas
 mod TextLemmas
 mod ZipLemmas

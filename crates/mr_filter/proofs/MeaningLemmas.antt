@@ -1,30 +1,28 @@
 -- a filter that covers another selects all that the other does
-use Rattle.std.proofs.Common.{◌≡◌, ℕ, min, ◌≤◌, Bool, true, false, not, ◌⊎◌, ◌&&◌, ◌||◌, List, [], ◌∷◌, sym, ◌∙◌, ap, refl, arith, inl, inr}
+use Rattle.std.proofs.Common.{◌≡◌, ℕ, ◌≤◌, Bool, true, false, not, ◌⊎◌, ◌&&◌, ◌||◌, List, [], ◌∷◌, sym, ◌∙◌, ap, refl, arith, inl, inr}
 use Rattle.std.specs.Prelude.{nat_le, IsTrue}
-use Rattle.std.specs.Int.RustNames.{bit_and}
-use Rattle.std.specs.List.{list_any}
+use Rattle.std.specs.List.{list_any, list_all}
 use Rattle.std.specs.Cmp.{first_so, second_so}
 use Rattle.std.specs.Cmp.Derive.{both_true}
 use Rattle.std.specs.Cmp.Lexicographic.{nat_list_eq_equiv}
 use Rattle.std.proofs.lemmas.Map.Steps.{list_any_congr}
-use Rattle.std.proofs.lemmas.Nat.{and_assoc}
-use Rattle.std.proofs.lemmas.Nat.Bits.{same_from_bits, bit_at_and, bit_at-zero}
-use Rattle.std.specs.Int.{bit_at}
-use Rattle.std.proofs.lemmas.Bool.{eqb-true, eq-eqb, leb-true, le-leb}
+use Rattle.std.proofs.lemmas.Bool.{leb-true, le-leb}
+use Rattle.mr_mail.specs.declared.flags.Flag.{Flag}
+use Rattle.mr_mail.specs.Flag.{has_flag, has_flags, lacks_flags, all_flags}
 use Rattle.mr_mail.specs.Label.{text_eq, has_label}
 use Rattle.mr_mail.specs.Mail.{MailCard}
 use Rattle.mr_filter.specs.Filter.{ClauseParts}
-use Rattle.mr_filter.specs.Meaning.{has_flags, lacks_flags, has_labels, lacks_labels, meets, selects, is_as_wide, covers}
+use Rattle.mr_filter.specs.Meaning.{has_labels, lacks_labels, meets, selects, is_as_wide, covers}
 
 -- which of two holds where one does
 pub or_cases : (a b : Bool) → (a || b) ≡ true → (a ≡ true) ⊎ (b ≡ true)
 or_cases true b h = inl refl
 or_cases false b h = inr h
 
-or_first : (a b : Bool) → a ≡ true → (a || b) ≡ true
+pub or_first : (a b : Bool) → a ≡ true → (a || b) ≡ true
 or_first a b h = ap (λ x. x || b) h
 
-or_second : (a b : Bool) → b ≡ true → (a || b) ≡ true
+pub or_second : (a b : Bool) → b ≡ true → (a || b) ≡ true
 or_second true b h = refl
 or_second false b h = h
 
@@ -38,7 +36,7 @@ passes_if_named labels (x ∷ names) label each named =
     ]
 
 -- the labels of a wider list are among those of a narrower one
-has_labels-chain : (labels narrow wide : List (List ℕ)) → has_labels labels narrow ≡ true → has_labels narrow wide ≡ true → has_labels labels wide ≡ true
+pub has_labels-chain : (labels narrow wide : List (List ℕ)) → has_labels labels narrow ≡ true → has_labels narrow wide ≡ true → has_labels labels wide ≡ true
 has_labels-chain labels narrow [] met among = refl
 has_labels-chain labels narrow (x ∷ wide) met among =
     both_true
@@ -71,29 +69,42 @@ lacks_if_not : (b : Bool) → (b ≡ true → false ≡ true) → not b ≡ true
 lacks_if_not true never = never refl
 lacks_if_not false never = refl
 
-lacks_labels-chain : (labels narrow wide : List (List ℕ)) → lacks_labels labels narrow ≡ true → has_labels narrow wide ≡ true → lacks_labels labels wide ≡ true
+pub lacks_labels-chain : (labels narrow wide : List (List ℕ)) → lacks_labels labels narrow ≡ true → has_labels narrow wide ≡ true → lacks_labels labels wide ≡ true
 lacks_labels-chain labels narrow wide met among =
     lacks_if_not (list_any (has_label labels) wide)
     (λ found. not_both (list_any (has_label labels) narrow) met (finds_more labels narrow wide among found))
 
-bit_and-zero : (n : ℕ) → bit_and 0 n ≡ 0
-bit_and-zero n = same_from_bits (bit_and 0 n) 0 (λ i. bit_at_and 0 n i ∙ ap (λ b. min b (bit_at n i)) (bit_at-zero i) ∙ least (bit_at n i) ∙ sym (bit_at-zero i))
-  where
-    least : (b : ℕ) → min 0 b ≡ 0
-    least b = omega arith
+-- a flag that is asked for by a wider set is asked for by a narrower one
+asked_more : (f n w : Bool) → (not n || f) ≡ true → (not w || n) ≡ true → (not w || f) ≡ true
+asked_more f n false met among = refl
+asked_more f true true met among = met
+asked_more f false true met among = cc
+
+barred_more : (f n w : Bool) → not (n && f) ≡ true → (not w || n) ≡ true → not (w && f) ≡ true
+barred_more f n false met among = refl
+barred_more f true true met among = met
+barred_more f false true met among = cc
+
+chain_has : (flags narrow wide : ℕ) (fs : List Flag) → list_all (λ f. not (has_flag narrow f) || has_flag flags f) fs ≡ true → list_all (λ f. not (has_flag wide f) || has_flag narrow f) fs ≡ true → list_all (λ f. not (has_flag wide f) || has_flag flags f) fs ≡ true
+chain_has flags narrow wide [] met among = refl
+chain_has flags narrow wide (f ∷ fs) met among =
+    both_true
+    (asked_more (has_flag flags f) (has_flag narrow f) (has_flag wide f) (first_so _ _ met) (first_so _ _ among))
+    (chain_has flags narrow wide fs (second_so _ _ met) (second_so _ _ among))
+
+chain_lacks : (flags narrow wide : ℕ) (fs : List Flag) → list_all (λ f. not (has_flag narrow f && has_flag flags f)) fs ≡ true → list_all (λ f. not (has_flag wide f) || has_flag narrow f) fs ≡ true → list_all (λ f. not (has_flag wide f && has_flag flags f)) fs ≡ true
+chain_lacks flags narrow wide [] met among = refl
+chain_lacks flags narrow wide (f ∷ fs) met among =
+    both_true
+    (barred_more (has_flag flags f) (has_flag narrow f) (has_flag wide f) (first_so _ _ met) (first_so _ _ among))
+    (chain_lacks flags narrow wide fs (second_so _ _ met) (second_so _ _ among))
 
 -- the same of flags
 has_flags-chain : (flags narrow wide : ℕ) → has_flags flags narrow ≡ true → has_flags narrow wide ≡ true → has_flags flags wide ≡ true
-has_flags-chain flags narrow wide met among =
-    let m : bit_and flags narrow ≡ narrow = eqb-true _ _ met in
-    let a : bit_and narrow wide ≡ wide = eqb-true _ _ among in
-    eq-eqb _ _ (ap (bit_and flags) (sym a) ∙ sym (and_assoc wide flags narrow) ∙ ap (λ n. bit_and n wide) m ∙ a)
+has_flags-chain flags narrow wide met among = chain_has flags narrow wide all_flags met among
 
 lacks_flags-chain : (flags narrow wide : ℕ) → lacks_flags flags narrow ≡ true → has_flags narrow wide ≡ true → lacks_flags flags wide ≡ true
-lacks_flags-chain flags narrow wide met among =
-    let m : bit_and flags narrow ≡ 0 = eqb-true _ _ met in
-    let a : bit_and narrow wide ≡ wide = eqb-true _ _ among in
-    eq-eqb _ _ (ap (bit_and flags) (sym a) ∙ sym (and_assoc wide flags narrow) ∙ ap (λ n. bit_and n wide) m ∙ bit_and-zero wide)
+lacks_flags-chain flags narrow wide met among = chain_lacks flags narrow wide all_flags met among
 
 -- the same of days
 since-chain : (day narrow wide : ℕ) → nat_le narrow day ≡ true → nat_le wide narrow ≡ true → nat_le wide day ≡ true

@@ -98,7 +98,7 @@ all_is_none : (given : List Condition) → AllZip SpellsCondition (pieces_of (co
 all_is_none [] each = each
 all_is_none (c ∷ given) each = no_condition (codes "all") (refl, (refl, (refl, tt))) c each.0
 
-SpellsConditions-unique : (text : List ℕ) (given other : List Condition) → SpellsConditions text given → SpellsConditions text other → given ≡ other
+pub SpellsConditions-unique : (text : List ℕ) (given other : List Condition) → SpellsConditions text given → SpellsConditions text other → given ≡ other
 SpellsConditions-unique text given other x y =
     elim x [
       | inl a ↦ elim y [
@@ -135,7 +135,7 @@ ReadsClause-unique text a b x y =
     Combines-unique x.given a b x.combined (subst (λ given. Combines given b) (SpellsConditions-unique text y.given x.given y.spelled x.spelled) y.combined)
 
 -- `none` is no clause
-none_is_no_clause : (given : List Condition) → SpellsConditions (codes "none") given → ⊥
+pub none_is_no_clause : (given : List Condition) → SpellsConditions (codes "none") given → ⊥
 none_is_no_clause given spelled =
     elim spelled [ inl all ↦ apart (codes "none") (codes "all") refl all.0 | inr each ↦ by given each ]
   where

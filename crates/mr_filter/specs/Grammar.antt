@@ -1,7 +1,9 @@
 -- which texts are filters, which filter each is, and what is wrong with the others
-use Rattle.std.specs.Prelude.{◌≡◌, ◌≢◌, ℕ, ◌+◌, ◌<◌, ◌≤◌, Bool, true, false, ◌==◌, ◌&&◌, ◌⊎◌, List, [], ◌∷◌, ◌++◌, length, codes}
-use Rattle.std.specs.List.{AllZip, AllByRecursion, onto_first, sum_by}
+use Rattle.std.specs.Prelude.{IsTrue, ◌≡◌, ◌≢◌, ℕ, ◌+◌, ◌<◌, ◌≤◌, Bool, true, false, ◌==◌, ◌&&◌, ◌⊎◌, List, [], ◌∷◌, ◌++◌, length, codes}
+use Rattle.std.specs.List.{AllZip, AllByRecursion, list_all, onto_first, sum_by}
+use Rattle.mr_mail.specs.Mail.{MailCard}
 use Rattle.mr_filter.specs.Filter.{ClauseParts}
+use Rattle.mr_filter.specs.Meaning.{is_true_of}
 use Rattle.mr_filter.specs.Condition.{Condition, SpellsCondition, Combines, label_count}
 
 -- the mark between two spaces
@@ -37,6 +39,17 @@ pub record ReadsClause (text : List ℕ) (clause : ClauseParts) : Type 0 where
 -- the text means this filter: its clauses in their order, or none for `none`
 abbrev pub Reads : List ℕ → List ClauseParts → Type 0
 Reads text filter = ((text ≡ codes "none") × (filter ≡ [])) ⊎ AllZip ReadsClause (clauses_of text) filter
+
+-- the clause's text is in the grammar, and each of its conditions is true of a message with this card
+pub record IsTrueClause (card : MailCard) (clause : List ℕ) : Type 0 where
+  pub given : List Condition
+  pub spelled : SpellsConditions clause given
+  pub each : IsTrue (list_all (is_true_of card) given)
+
+-- some of the clauses is true of a message with this card
+abbrev pub HasTrueClause : MailCard → List (List ℕ) → Type 0
+HasTrueClause card [] = ⊥
+HasTrueClause card (clause ∷ clauses) = IsTrueClause card clause ⊎ HasTrueClause card clauses
 
 -- a piece that is a condition, and a clause's text that is in the grammar
 abbrev pub IsCondition : List ℕ → Type 0

@@ -1,18 +1,19 @@
 -- which messages a filter selects, and when one filter covers another
-use Rattle.std.specs.Prelude.{ℕ, Bool, not, ◌&&◌, ◌==◌, nat_le, List}
-use Rattle.std.specs.Int.RustNames.{bit_and}
+use Rattle.std.specs.Prelude.{ℕ, Bool, not, ◌&&◌, nat_le, List}
 use Rattle.std.specs.List.{list_all, list_any}
+use Rattle.mr_mail.specs.Flag.{has_flag, has_flags, lacks_flags}
 use Rattle.mr_mail.specs.Label.{has_label}
 use Rattle.mr_mail.specs.Mail.{MailCard}
 use Rattle.mr_filter.specs.Filter.{ClauseParts}
+use Rattle.mr_filter.specs.Condition.{Condition, HasLabel, LacksLabel, HasFlag, LacksFlag, Since}
 
--- whether each of the wanted flags is among these
-abbrev pub has_flags : ℕ → ℕ → Bool
-has_flags flags wanted = bit_and flags wanted == wanted
-
--- whether none of the barred flags is among these
-abbrev pub lacks_flags : ℕ → ℕ → Bool
-lacks_flags flags barred = bit_and flags barred == 0
+-- whether the condition is true of a message with this card
+abbrev pub is_true_of : MailCard → Condition → Bool
+is_true_of card (HasLabel label) = has_label card.labels label
+is_true_of card (LacksLabel label) = not (has_label card.labels label)
+is_true_of card (HasFlag flag) = has_flag card.flags flag
+is_true_of card (LacksFlag flag) = not (has_flag card.flags flag)
+is_true_of card (Since day) = nat_le day card.day
 
 -- whether each of the wanted labels is among these
 abbrev pub has_labels : List (List ℕ) → List (List ℕ) → Bool

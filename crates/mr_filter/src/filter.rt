@@ -1,10 +1,10 @@
 //! Filters: clauses of which one is to be met.
-ghost use Rattle.std.specs.Prelude.{◌≡◌, ◌≤◌, ℕ, IsTrue, List, IfOk, IfErr, MatchResult, length, string_bytes};
-ghost use Rattle.mr_mail.specs.Mail.{MailCard, card_of};
+ghost use Rattle.std.specs.Prelude.{◌≡◌, ◌≤◌, ◌↔◌, ℕ, IsTrue, List, IfOk, IfErr, MatchResult, length, string_bytes};
+ghost use Rattle.mr_mail.specs.Mail.{MailCard, IsCard, card_of};
 ghost use Rattle.mr_filter.specs.Fault.{IsFaultOf};
 ghost use Rattle.mr_filter.specs.Filter.{ClauseParts, IsFilter};
 ghost use Rattle.std.specs.List.{list_any};
-ghost use Rattle.mr_filter.specs.Grammar.{Reads};
+ghost use Rattle.mr_filter.specs.Grammar.{Reads, HasTrueClause, clauses_of};
 ghost use Rattle.mr_filter.specs.Meaning.{selects, covers, is_as_wide};
 ghost use Rattle.mr_filter.specs.Text.{IsFilterText};
 
@@ -75,8 +75,13 @@ impl Filter {
     /// `TooManyClauses` over sixteen; `TooManyLabels` where a clause names more than eight, those
     /// that it wants and those that it bars each once; and `OutOfMemory` last. The text is walked
     /// four times, and each label of it is sought among at most eight.
+    ///
+    /// The filter selects just the messages of which each condition of some clause of the text is true.
+    #[tactic(auto, using(crate::proofs::SelectsLemmas::selects_by_text))]
     pub fn read(alloc: Global, text: &str) -> Result<Filter, FilterFault>
         ensures read { IfOk result (Reads text.now) }
+        ensures selects { IfOk result (λ filter. (card : MailCard) → IsCard card
+            → (IsTrue (selects filter card) ↔ HasTrueClause card (clauses_of text.now))) }
         ensures fault { IfErr result (IsFaultOf text.now) }
         ensures complete { (filter : List ClauseParts) → Reads text.now filter → IsFilter filter
             → MatchResult result (λ found. found ≡ filter) (λ fault. fault ≡ FilterFault.OutOfMemory) }

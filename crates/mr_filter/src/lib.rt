@@ -19,8 +19,6 @@ mod fault;
 mod filter;
 mod pieces;
 mod read;
-#[cfg(test)]
-mod tests;
 mod text;
 
 pub use clause::Clause;

@@ -26,8 +26,6 @@ mod knowledge;
 mod plain_knowledge;
 mod plain_versions;
 mod run;
-#[cfg(test)]
-mod tests;
 mod version_set;
 mod versions;
 

@@ -23,8 +23,6 @@
 
 mod below;
 mod revision;
-#[cfg(test)]
-mod tests;
 mod trail;
 
 pub use below::below_of;

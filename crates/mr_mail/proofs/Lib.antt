@@ -1,4 +1,4 @@
 mod AdmitsLemmas
 pub mod DayLemmas
-mod FlagLemmas
+pub mod FlagLemmas
 pub mod LabelLemmas

@@ -1,5 +1,6 @@
 -- flags, their bits and their names
-use Rattle.std.specs.Prelude.{ℕ, Bool, ◌==◌, List, [], ◌∷◌, codes}
+use Rattle.std.specs.Prelude.{ℕ, Bool, not, ◌==◌, ◌&&◌, ◌||◌, List, [], ◌∷◌, codes}
+use Rattle.std.specs.List.{list_all}
 use Rattle.std.specs.Int.RustNames.{bit_and}
 use Rattle.mr_mail.specs.declared.flags.Flag.{Flag}
 use Rattle.mr_mail.specs.declared.flags.Flag.TheVariants.{Seen, Answered, Flagged, Draft, Deleted}
@@ -27,3 +28,15 @@ all_flags = Seen ∷ Answered ∷ Flagged ∷ Draft ∷ Deleted ∷ []
 -- whether a flag byte has the flag
 abbrev pub has_flag : ℕ → Flag → Bool
 has_flag bits flag = bit_and bits (bit_of flag) == bit_of flag
+
+-- whether each flag of the second byte is one of the first's
+abbrev pub has_flags : ℕ → ℕ → Bool
+has_flags bits wanted = list_all (λ flag. not (has_flag wanted flag) || has_flag bits flag) all_flags
+
+-- whether no flag of the second byte is one of the first's
+abbrev pub lacks_flags : ℕ → ℕ → Bool
+lacks_flags bits barred = list_all (λ flag. not (has_flag barred flag && has_flag bits flag)) all_flags
+
+-- whether two flags are one
+abbrev pub flag_eq : Flag → Flag → Bool
+flag_eq a b = bit_of a == bit_of b

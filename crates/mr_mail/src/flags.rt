@@ -1,7 +1,7 @@
 //! A message's flags.
-ghost use Rattle.std.specs.Prelude.{◌≡◌, ◌≢◌, ◌≤◌, ◌==◌, ◌↔◌, IsSome, IfSome, IfNone, IfOk, filter};
-ghost use Rattle.std.specs.Int.RustNames.{bit_and, bit_or};
-ghost use Rattle.mr_mail.specs.Flag.{bit_of, flag_name, has_flag, all_flags};
+ghost use Rattle.std.specs.Prelude.{◌≡◌, ◌≢◌, ◌≤◌, ◌||◌, ◌↔◌, ℕ, IsSome, IfSome, IfNone, IfOk, filter};
+ghost use Rattle.std.specs.Int.RustNames.{bit_or};
+ghost use Rattle.mr_mail.specs.Flag.{bit_of, flag_name, flag_eq, has_flag, has_flags, lacks_flags, all_flags};
 
 use std::alloc::{AllocError, Global};
 use std::marker::Model;
@@ -122,22 +122,26 @@ impl Flags {
     }
 
     /// Whether the set has each flag of the other.
+    #[tactic(auto, using(crate::proofs::FlagLemmas::has_flags_by_bits))]
     pub fn is_superset(self, other: Flags) -> bool
-        ensures { result ≡ (bit_and self other == other) }
+        ensures { result ≡ has_flags self other }
     {
         self.bits & other.bits == other.bits
     }
 
     /// Whether the two sets have no flag in common.
+    #[tactic(auto, using(crate::proofs::FlagLemmas::lacks_flags_by_bits))]
     pub fn is_disjoint(self, other: Flags) -> bool
-        ensures { result ≡ (bit_and self other == 0) }
+        ensures { result ≡ lacks_flags self other }
     {
         self.bits & other.bits == 0
     }
 
     /// The set with one more flag.
     pub fn with(self, flag: Flag) -> Flags
-        ensures { result ≡ bit_or self (bit_of flag) }
+        ensures bits { result ≡ bit_or self (bit_of flag) }
+        ensures flags { (f : Flag) → has_flag result f ≡ (flag_eq flag f || has_flag self f) }
+        ensures only { (bits : ℕ) → bits ≤ 31 → ((f : Flag) → has_flag bits f ≡ has_flag result f) → bits ≡ result }
     {
         Flags {
             bits: self.bits | flag.bit(),

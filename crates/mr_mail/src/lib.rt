@@ -19,8 +19,6 @@ mod fault;
 mod flags;
 mod label;
 mod message;
-#[cfg(test)]
-mod tests;
 
 pub use card::Card;
 pub use day::{Day, DayFault};

@@ -32,8 +32,6 @@ mod index;
 mod refusal;
 mod replica;
 mod store;
-#[cfg(test)]
-mod tests;
 
 pub use event::{Bases, Event, Reply};
 pub use filter::Filter;

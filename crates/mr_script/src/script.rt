@@ -212,6 +212,3 @@ fn run_text(alloc: Global, runner: &mut Runner, text: &str) -> Result<String, Li
     let command = Command::read(alloc, text, runner)?;
     runner.run(command)
 }
-
-#[cfg(test)]
-mod tests;

@@ -1,5 +1,5 @@
 -- what a subscriber keeps, and what its calls make of it
-use Rattle.std.specs.Prelude.{◌≡◌, Bool, refl, if◌then◌else◌, IsTrue, IsFalse, List, [], ◌∷◌, ◌++◌, Option, Some, None}
+use Rattle.std.specs.Prelude.{◌≡◌, Bool, refl, if◌then◌else◌, IsTrue, IsFalse, IsSome, List, [], ◌∷◌, ◌++◌, Option, Some, None}
 use Rattle.std.specs.Option.{option_to_list}
 use Rattle.mr_mail.specs.Mail.{MailCard}
 use Rattle.mr_model.specs.Headline.{Cards, fold, fold_from, no_cards}
@@ -39,6 +39,12 @@ EndedSo is_done was_empty port Closed = IsTrue (is_done port)
 -- the entries that a subscriber has yet to apply, before those that it takes next
 abbrev pub pending : {F : Type 0} → Keeping F → List Entry
 pending s = option_to_list s.kept
+
+-- there was a kept entry, it alone is applied, and none is kept
+pub record CatchesUp {F : Type 0} (shows : F → Cards MailCard → Type 0) (s t : Keeping F) : Type 0 where
+  pub was_kept : IsSome s.kept
+  pub applies : Applies shows s.fold (pending s) t.fold
+  pub none_kept : t.kept ≡ None
 
 module _ {F P : Type 0} (shows : F → Cards MailCard → Type 0) (took : P → List Entry → P → Type 0) where
   -- the kept entry and all that was taken are applied, and none is kept

@@ -16,8 +16,6 @@ mod indexer;
 mod notifier;
 mod shelves;
 mod subscriber;
-#[cfg(test)]
-mod tests;
 
 pub use indexer::{Index, Indexer};
 pub use notifier::{Notifier, UnseenVersions};

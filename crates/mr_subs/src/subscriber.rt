@@ -4,7 +4,7 @@ ghost use Rattle.std.specs.Option.{option_copied};
 ghost use Rattle.mr_mail.specs.Mail.{MailCard};
 ghost use Rattle.mr_model.specs.Headline.{Cards, no_cards};
 ghost use Rattle.mr_feed.specs.declared.entry.Entry.{Entry};
-ghost use Rattle.mr_subs.specs.Subscriber.{ShowsFold, Applies, EndedSo, AppliesAll, KeepsLast, pending};
+ghost use Rattle.mr_subs.specs.Subscriber.{ShowsFold, Applies, EndedSo, CatchesUp, AppliesAll, KeepsLast, pending};
 
 use mr_feed::{Entry, PortOut, Taken};
 use std::alloc::{AllocError, AllocFailed, Global};
@@ -79,13 +79,12 @@ impl<F: Fold> Subscriber<F> {
     /// Applies an entry, and before it the kept one, if there is one.
     ///
     /// Where memory runs out the entry is handed back, and is not kept. Then nothing has changed, or the
-    /// kept entry was applied and no more.
+    /// kept entry alone was applied: that one found memory, and the entry given found none.
     pub fn apply(&mut self, entry: Entry) -> Result<(), AllocFailed<Entry>>
         ensures ok { OnOk result (Applies F.shows self.old.fold (pending self.old ++ entry ∷ []) self.new.fold) }
         ensures none_kept { OnOk result (self.new.kept ≡ None) }
         ensures value_returned { IfErr result (λ failed. failed.value ≡ entry) }
-        ensures err { OnErr result ((self.new ≡ self.old)
-            ⊎ ((self.new.kept ≡ None) × Applies F.shows self.old.fold (pending self.old) self.new.fold)) }
+        ensures err { OnErr result ((self.new ≡ self.old) ⊎ CatchesUp F.shows self.old self.new) }
         ensures unchanged { self.old.kept ≡ None → OnErr result (self.new ≡ self.old) }
     {
         if self.catch_up().is_err() {
@@ -102,6 +101,7 @@ impl<F: Fold> Subscriber<F> {
         ensures ok { OnOk result (Applies F.shows self.old.fold (pending self.old) self.new.fold) }
         ensures none_kept { OnOk result (self.new.kept ≡ None) }
         ensures same { self.old.kept ≡ None → self.new ≡ self.old }
+        ensures either { OnOk result ((self.new ≡ self.old) ⊎ CatchesUp F.shows self.old self.new) }
         ensures err { OnErr result (IsSome self.old.kept × (self.new ≡ self.old)) }
     {
         if let Some(entry) = &self.kept {

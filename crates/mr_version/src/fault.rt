@@ -26,25 +26,3 @@ impl VersionFault {
         }
     }
 }
-
-#[cfg(test)]
-mod tests {
-    use super::*;
-    use std::test::Fail;
-
-    #[test]
-    fn say_what_is_expected(rt: HostRuntime) -> Result<(), Fail> {
-        let author = format!(in rt.alloc(); "{}", VersionFault::NoSuchAuthor)?;
-        assert_eq!(rt;
-            author.as_str(),
-            "no such author: an author's id is 0 to 63"
-        );
-        let version = format!(in rt.alloc(); "{}", VersionFault::BadVersion)?;
-        assert!(rt;
-            version.as_str().starts_with(
-                "bad version: expected an author of 0 to 63, a dot and a counter of 1 to 1000000"
-            )
-        );
-        Ok(())
-    }
-}

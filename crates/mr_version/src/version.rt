@@ -1,15 +1,20 @@
-ghost use Rattle.std.specs.Prelude.{◌≡◌, ◌<◌, ◌≤◌, ◌↔◌, ℕ, Some, Ok, IsOk, IfOk, IfErr, IfSome, string_bytes};
+ghost use Rattle.std.specs.Prelude.{◌≡◌, ◌<◌, ◌≤◌, ◌↔◌, ℕ, Some, Ok, IsOk, IfOk, IfErr, IfSome, string_bytes, refl};
 ghost use Rattle.std.specs.Fmt.{decimal};
-ghost use Rattle.mr_version.specs.Name.{Name, IsVersion, name_text};
+ghost use Rattle.std.specs.Cmp;
+ghost use Rattle.std.proofs.Common.{rules};
+ghost use Rattle.std.specs.Cmp.Rules.{comparing};
+ghost use Rattle.mr_version.specs.Name.{Name, IsVersion, name_text, name_cmp};
+ghost use Rattle.mr_version.specs.Order.{names_total};
 
 use crate::number::read_decimal;
 use crate::{Author, VersionFault};
 use std::alloc::{AllocError, Global};
+use std::cmp::Ordering;
 use std::fmt;
 use std::marker::Model;
 
 /// A version: its author, and its number among that author's, 1 to 1,000,000.
-#[derive(Clone, Copy, Debug, PartialEq, Eq, PartialOrd, Ord)]
+#[derive(Clone, Copy, Debug, PartialEq, Eq)]
 pub struct Version {
     author: Author,
     counter: u32,
@@ -104,73 +109,28 @@ impl fmt::Display for Version {
     }
 }
 
-#[cfg(test)]
-mod tests {
-    use super::*;
-    use crate::ItemId;
-    use std::test::Fail;
+impl PartialOrd for Version {
+    ghost partial_cmp = { λ a b. Some (name_cmp a b) };
 
-    #[test]
-    fn ample_memory(rt: HostRuntime) -> Result<(), Fail> {
-        let first = Version::try_new(Author::try_new(0)?, 1)?;
-        let last = Version::try_new(Author::try_new(63)?, 1_000_000)?;
-        assert_eq!(rt; first.text(rt.alloc())?.as_str(), "0.1");
-        assert_eq!(rt; last.text(rt.alloc())?.as_str(), "63.1000000");
-        Ok(())
+    ghost laws = { Cmp.partial_order_from_agreeing_total name_cmp names_total (λ _ _. refl) (Prim.search (comparing, rules)) };
+
+    fn partial_cmp(&self, other: &Version) -> Option<Ordering> {
+        Some(self.cmp(other))
     }
+}
 
-    #[test]
-    fn reads_only_the_texts_of_versions(rt: HostRuntime) -> Result<(), Fail> {
-        for (text, author, counter) in [
-            ("0.1", 0, 1),
-            ("3.17", 3, 17),
-            ("63.1000000", 63, 1_000_000),
-        ] {
-            let version = Version::read(text)?;
-            assert_eq!(rt; version.author().id(), author, "in {text}");
-            assert_eq!(rt; version.counter(), counter, "in {text}");
-        }
-        for text in [
-            "",
-            ".",
-            "0.",
-            ".1",
-            "00.1",
-            "0.0",
-            "64.1",
-            "0.1000001",
-            " 0.1",
-            "0.1 ",
-            "0.01",
-            "+0.1",
-            "0.+1",
-            "0,1",
-            "0.1.1",
-            "0.4294967297",
-            "65536.1",
-        ] {
-            assert_eq!(rt;
-                Version::read(text),
-                Err(VersionFault::BadVersion),
-                "in {text}"
-            );
-        }
-        Ok(())
-    }
+/// By author, then by counter.
+impl Ord for Version {
+    ghost cmp = { name_cmp };
 
-    #[test]
-    fn stand_by_author_and_then_by_counter(rt: HostRuntime) -> Result<(), Fail> {
-        let rising = ["0.2", "0.10", "2.1", "10.1"];
-        for (low, high) in rising.iter().zip(&rising[1..]) {
-            assert!(rt;
-                Version::read(low)? < Version::read(high)?,
-                "{low} and {high}"
-            );
-            assert!(rt;
-                ItemId::new(Version::read(low)?) < ItemId::new(Version::read(high)?),
-                "{low} and {high}"
-            );
-        }
-        Ok(())
+    ghost total = { names_total };
+
+    ghost matches_partial_cmp = { λ _ _. refl };
+
+    ghost matches_eq = { Prim.search (comparing, rules) };
+
+    fn cmp(&self, other: &Version) -> Ordering {
+        let by_author = self.author.cmp(&other.author);
+        by_author.then_with(|| self.counter.cmp(&other.counter))
     }
 }

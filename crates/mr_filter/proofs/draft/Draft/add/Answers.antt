@@ -26,11 +26,11 @@ returns-in_ok-put_label-in-LacksLabel-clause-added c =
 
 pub returns-in-HasFlag-clause-added : goal.returns-in-HasFlag-clause-added
 returns-in-HasFlag-clause-added c =
-    rw (c.in-HasFlag.is, ← c.self.view_is, c.with-self-inside.ensures) (with_flag_on _ c.self.invariant c.in-HasFlag.flag)
+    rw (c.in-HasFlag.is, ← c.self.view_is, c.with-self-inside.ensures.bits) (with_flag_on _ c.self.invariant c.in-HasFlag.flag)
 
 pub returns-in-LacksFlag-clause-added : goal.returns-in-LacksFlag-clause-added
 returns-in-LacksFlag-clause-added c =
-    rw (c.in-LacksFlag.is, ← c.self.view_is, c.with-self-inside-in-LacksFlag.ensures) (with_flag_off _ c.self.invariant c.in-LacksFlag.flag)
+    rw (c.in-LacksFlag.is, ← c.self.view_is, c.with-self-inside-in-LacksFlag.ensures.bits) (with_flag_off _ c.self.invariant c.in-LacksFlag.flag)
 
 pub returns-in-Since-clause-added : goal.returns-in-Since-clause-added
 returns-in-Since-clause-added c =
