@@ -9,7 +9,7 @@ asks what they hold. The code that runs is proved against its contracts.";
 
 const AFTER: &str = "Exit status:
   0  the script ran to its end (a replica's refusal is an answer, no fault)
-  1  a line that can't be run, a failed read or write, or want of memory
+  1  a line that can't be run, a failed read or write, or no memory left
   2  a wrong command line";
 
 const RUN_ABOUT: &str = "Runs the script on standard input, line by line, and prints its answers.

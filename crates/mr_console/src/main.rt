@@ -2,7 +2,7 @@
 //!
 //! `mailrep run` hands standard input to `run_script`, which runs it line by line and prints the
 //! answers. Here stand the command line with its help, and the exit status: 0; 1 for a script, read
-//! or write fault and for want of memory; 2 for a wrong command line. A fault's text goes to standard
+//! or write fault, or where memory runs out; 2 for a wrong command line. A fault's text goes to standard
 //! error.
 #![tactic(auto)]
 

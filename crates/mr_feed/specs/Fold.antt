@@ -1,16 +1,13 @@
 -- what the fold of a feed's entries has
 use Rattle.std.specs.Prelude.{◌≡◌, if◌then◌else◌, List, [], ◌∷◌, ◌++◌, Some, None, refl}
 use Rattle.std.specs.Option.{is_some}
-use Rattle.std.specs.List.{list_any}
-use Rattle.mr_version.specs.Name.{Name, name_eq}
+use Rattle.mr_version.specs.Name.{Name}
+pub use Rattle.mr_version.specs.Sets.{is_listed}
 use Rattle.mr_mail.specs.Mail.{MailCard}
-use Rattle.mr_model.specs.Versions.{Versions, is}
+use Rattle.mr_version.specs.Sets.{Versions}
+use Rattle.mr_model.specs.Versions.{is}
 use Rattle.mr_model.specs.History.{Entry, Entry.Added, Entry.Dropped}
 use Rattle.mr_model.specs.Headline.{Cards, fold_from}
-
--- whether the version is among these
-abbrev pub is_listed : List Name → Versions
-is_listed versions v = list_any (name_eq v) versions
 
 -- which versions have a card
 abbrev pub with_card : Cards MailCard → Versions

@@ -66,7 +66,7 @@ impl CloseFault {
 }
 
 impl PortFault {
-    /// The fault's number: 0 for want of memory, 1 for a capacity that no port has.
+    /// The fault's number: 0 for out of memory, 1 for a capacity that no port has.
     pub fn number(self) -> u8
         ensures { result ≡ port_number self }
     {

@@ -26,7 +26,7 @@ pub enum MessageFault {
 }
 
 impl MessageFault {
-    /// The fault's number: 0 for want of memory, and from 1 in the order in which faults are tried.
+    /// The fault's number: 0 for out of memory, and from 1 in the order in which faults are tried.
     pub fn number(self) -> u8
         ensures { result ≡ fault_number self }
     {

@@ -1,24 +1,12 @@
 -- Versions, the list of all that was issued, and what a version supersedes.
 use Rattle.std.specs.Prelude.{◌≡◌, ◌≢◌, ℕ, ◌+◌, ◌==◌, Bool, false, ◌&&◌, ◌||◌, if◌then◌else◌, IsTrue, List, [], ◌∷◌, ◌++◌}
-use Rattle.std.specs.Ordering.{is_lt}
 use Rattle.std.specs.List.{list_any}
-use Rattle.mr_version.specs.Name.{Name, name_cmp, name_eq}
+use Rattle.mr_version.specs.Name.{Name, name_eq}
+pub use Rattle.mr_version.specs.Sets.{Versions, nothing, is_before}
 
 -- v is w
 abbrev pub is : Name → Name → Bool
 is v w = name_eq v w
-
--- v stands before w in the order of versions: by author, then by counter
-abbrev pub is_before : Name → Name → Bool
-is_before v w = is_lt (name_cmp v w)
-
--- a set of versions
-abbrev pub Versions : Type 0
-Versions = Name → Bool
-
--- the empty set
-abbrev pub nothing : Versions
-nothing v = false
 
 -- ---- the issue list
 

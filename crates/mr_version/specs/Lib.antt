@@ -1,4 +1,5 @@
 pub mod Name
 pub mod Order
+pub mod Sets
 pub mod Fault
 pub mod Number
