@@ -7,8 +7,8 @@ use Rattle.std.proofs.lemmas.Bool.{cases_lt, lt-leb, le-leb, or_right}
 use Rattle.mr_version.specs.Name.{Name}
 use Rattle.mr_forms.specs.Sets.{Test}
 use Rattle.mr_concise.specs.Next.{IsNextOut, IsNextIn, HasNoneFrom}
-use Rattle.mr_concise.specs.Last.{HasNoneOf}
-use Rattle.mr_concise.specs.Source.{HasNoAuthorFrom, IsNextAuthor}
+use Rattle.mr_forms.specs.Runs.{HasNoneOf}
+use Rattle.mr_forms.specs.Runs.{HasNoAuthorFrom, IsNextAuthor}
 use Rattle.mr_concise.specs.AllOf.{in_all, lower_of, IsPassed}
 
 or_none : (b : Bool) → (b || false) ≡ b

@@ -43,6 +43,10 @@ author_columns_Decides a b = (
   λ e. both_true ((unsigned_Decides a.author b.author).1 (ap (λ (z : AuthorColumn). z.author) e)) ((extents_Decides a.column b.column).1 (ap (λ (z : AuthorColumn). z.column) e)),
 )
 
+-- vectors compare equal exactly where they are one
+pub vectors_Decides : (a b : List AuthorColumn) → Decides (vector_eq a b) (a ≡ b)
+vectors_Decides a b = pointwise_decides author_columns_Decides a b
+
 -- vectors compare equal exactly where their sets agree
 pub vector_eq-same : (a b : List AuthorColumn) → IsVectorFrom 0 a → IsVectorFrom 0 b → IsTrue (vector_eq a b) ↔ IsSame (vector_has a) (vector_has b)
 vector_eq-same a b va vb = (

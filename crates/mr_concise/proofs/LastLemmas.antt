@@ -1,12 +1,15 @@
-use Rattle.std.proofs.Common.{◌≡◌, ◌≤◌, ◌<◌, nat_lt, ap, get_or, length, ℕ, suc, zero, true, false, nat_le, refl, ◌∙◌, arith, List}
-use Rattle.std.proofs.lemmas.Bool.{lt-leb, and_right, ltb-true, ltb-false, lt-ltb, le-ltb}
+use Rattle.std.proofs.Common.{◌≡◌, ◌≤◌, ◌<◌, ◌+◌, ◌⊎◌, ◌&&◌, inl, inr, nat_lt, ap, sym, get_or, length, ℕ, suc, zero, true, false, nat_le, refl, ◌∙◌, arith, List, [], ◌∷◌}
+use Rattle.std.proofs.lemmas.Bool.{lt-leb, and_parts, and_right, cases_lt, false≢true, leb-true, ltb-true, ltb-false, lt-ltb, le-ltb, ne_eqb}
 use Rattle.std.specs.List.Sorted.{IsPartitionPoint}
-use Rattle.mr_concise.specs.Source.{IsNextAuthor, HasNoAuthorFrom}
+use Rattle.mr_forms.specs.Runs.{IsNextAuthor, HasNoAuthorFrom}
 use Rattle.mr_concise.proofs.VectorLemmas.{column_of-missed, column_of-past}
 use Rattle.mr_concise.specs.declared.vector.AuthorColumn.{AuthorColumn}
-use Rattle.mr_concise.specs.Column.{Extent, column_has}
+use Rattle.mr_version.specs.Name.{IsVersion}
+use Rattle.mr_forms.specs.Runs.{HasVersionsAlone}
+use Rattle.mr_concise.specs.Column.{Extent, column_has, empty_column, IsColumn}
 use Rattle.mr_concise.specs.Vector.{column_of, vector_has, IsVectorFrom}
-use Rattle.mr_concise.specs.Last.{IsLast, HasNoneOf}
+use Rattle.mr_concise.specs.Last.{IsLast}
+use Rattle.mr_forms.specs.Runs.{HasNoneOf}
 use Rattle.mr_concise.proofs.ColumnLemmas.{column_has-edges}
 use Rattle.mr_concise.proofs.UnionLemmas.{column_of-IsColumn, bound-on, item-IsColumn, column_has-empty}
 
@@ -43,3 +46,24 @@ next_author-place xs id i x v place l at = record {
 
 pub no_author-past : (xs : List AuthorColumn) (id i : ℕ) → IsPartitionPoint (λ x. nat_lt x.author id ≡ true) (λ x. nat_lt x.author id ≡ false) xs i → length xs ≤ i → HasNoAuthorFrom (vector_has xs) id
 no_author-past xs id i place l q f c = ap (λ (e : Extent). column_has e c) (column_of-past xs i q (before-lower xs id i q place f) l) ∙ column_has-empty c
+
+column_of-far : (low : ℕ) (xs : List AuthorColumn) (q : ℕ) → IsVectorFrom low xs → 64 ≤ q → column_of xs q ≡ empty_column
+column_of-far low [] q v far = refl
+column_of-far low (x ∷ xs) q v far = let a = v.4 in rw (ne_eqb x.author q (λ e. omega arith)) (column_of-far (x.author + 1) xs q v.3 far)
+
+in_range-cases : (column : Extent) (q c : ℕ) → IsColumn column → q < 64 → column_has column c ≡ true → IsVersion q c
+in_range-cases column q c is author there =
+    let parts = and_parts (nat_le 1 c && nat_le c column.upto) _ there in
+    let ends = and_parts (nat_le 1 c) (nat_le c column.upto) parts.0 in
+    let low : 1 ≤ c = leb-true 1 c ends.0 in
+    let high : c ≤ column.upto = leb-true c column.upto ends.1 in
+    let top = is.in_range in
+    record { author_in = author; counter_from = low; counter_to = omega arith }
+
+-- what a vector has is versions
+pub vector_has-versions : (columns : List AuthorColumn) → IsVectorFrom 0 columns → HasVersionsAlone (vector_has columns)
+vector_has-versions columns is v there = go (cases_lt v.author 64)
+  where
+    go : (v.author < 64) ⊎ (64 ≤ v.author) → IsVersion v.author v.counter
+    go (inl author) = in_range-cases (column_of columns v.author) v.author v.counter (column_of-IsColumn 0 columns v.author is) author there
+    go (inr far) = absurd (false≢true (sym (column_has-empty v.counter) ∙ ap (λ (e : Extent). column_has e v.counter) (sym (column_of-far 0 columns v.author is far)) ∙ there))

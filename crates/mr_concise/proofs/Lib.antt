@@ -16,5 +16,4 @@ pub mod MeetLemmas
 pub mod VersionLemmas
 pub mod HoleLemmas
 pub mod VectorInsertLemmas
-pub mod OrderedRunLemmas
 pub mod FragmentLemmas

@@ -2,14 +2,18 @@ use Rattle.std.proofs.Common.{inl, inr, ◌⊎◌, ◌≡◌, ◌<◌, ◌≤◌
 use Rattle.std.specs.Prelude.{if◌then◌else◌}
 use Rattle.std.proofs.lemmas.Bool.{cases_lt, cases_eq, true≢false, eq-eqb, ne_eqb, lt-ltb, le-ltb}
 use Rattle.std.proofs.lemmas.Bool.Decides.{nat_tests}
+use Rattle.std.specs.Prelude.{Result, Ok, Err, OnOk, IsErrOf}
+use Rattle.mr_forms.specs.declared.fault.FormFault.{FormFault}
+use Rattle.mr_forms.specs.declared.fault.FormFault.TheVariants.{TooManyHoles}
 use Rattle.mr_forms.specs.Sets.{Test, IsSame}
 use Rattle.mr_concise.specs.Edges.{is_on, IsRising}
 use Rattle.mr_concise.specs.declared.column.Hole.{Hole}
 use Rattle.mr_concise.specs.declared.vector.AuthorColumn.{AuthorColumn}
 use Rattle.mr_concise.specs.Column.{Extent, hole_edges, edges, column_has, empty_column, IsColumn}
 use Rattle.mr_concise.specs.Next.{IsNextOut, IsNextIn, HasNoneFrom}
-use Rattle.mr_concise.specs.Last.{of_author}
-use Rattle.mr_concise.specs.Source.{IsColumnOf, HasFewHoles, HasManyHoles, HasNoAuthorFrom, IsNextAuthor}
+use Rattle.mr_forms.specs.Runs.{of_author}
+use Rattle.mr_concise.specs.Source.{IsColumnOf, HasFewHoles, HasManyHoles}
+use Rattle.mr_forms.specs.Runs.{HasNoAuthorFrom, IsNextAuthor}
 use Rattle.mr_concise.specs.Vector.{column_of, vector_has, IsVectorFrom, placed, HasTooManyHoles}
 use Rattle.mr_concise.proofs.EdgeLemmas.{is_on-turn, is_on-stay, IsRising-end}
 use Rattle.mr_concise.proofs.ColumnLemmas.{column_unique, column_has-edges}
@@ -224,3 +228,8 @@ GatheredTo-end set columns id w none v = w.means v.author v.counter ∙ elim (ca
   | inl b ↦ rw (lt-ltb v.author id b) refl
   | inr f ↦ rw (le-ltb v.author id f) (sym (none v.author f v.counter))
 ]
+
+-- where a fault comes in each case of a fact, success comes in none
+pub few_from_holes : {T : Type 0} {P : Type 0} (result : Result T FormFault) → (P → IsErrOf result TooManyHoles) → OnOk result (¬ P)
+few_from_holes (Ok value) fault = λ many. let wrong = fault many in absurd (cc)
+few_from_holes (Err e) fault = tt

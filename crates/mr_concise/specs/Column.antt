@@ -2,6 +2,7 @@ use Rattle.std.specs.Prelude.{◌≤◌, ◌+◌, ◌-◌, ℕ, Bool, not, nat_l
 use Rattle.std.specs.List.{list_any}
 use Rattle.std.specs.Coded.{Coded, code_by, coded×, coded_ℕ, coded_list}
 use Rattle.mr_concise.specs.declared.column.Hole.{Hole}
+use Rattle.mr_concise.specs.declared.column.TheConstants.{MAX_HOLES}
 use Rattle.mr_concise.specs.Edges.{IsRising, AreUpTo}
 
 -- whether c is in the hole
@@ -37,7 +38,7 @@ edges column = hole_edges column.holes ++ (column.upto + 1) ∷ []
 pub record IsColumn (column : Extent) : Type 0 where
   pub apart : IsRising 0 (edges column)
   pub in_range : column.upto ≤ 1000000
-  pub few : length column.holes ≤ 4096
+  pub few : length column.holes ≤ MAX_HOLES
 
 -- the column with nothing in it
 abbrev pub empty_column : Extent

@@ -10,5 +10,4 @@ pub mod Source
 pub mod AllOf
 pub mod Meet
 pub mod Text
-pub mod OrderedRuns
 pub mod Fragments

@@ -1,18 +1,8 @@
 use Rattle.std.specs.Prelude.{◌≡◌, ◌<◌, ◌≤◌, ℕ, Bool, false, length, Option, Some, None}
 use Rattle.mr_forms.specs.Sets.{Test}
+use Rattle.mr_concise.specs.declared.column.TheConstants.{MAX_HOLES}
 use Rattle.mr_concise.specs.Edges.{IsRising}
 use Rattle.mr_concise.specs.Column.{Extent, edges, column_has}
-use Rattle.mr_concise.specs.Last.{HasNoneOf}
-
--- the set has nothing of an author whose id is this or higher
-abbrev pub HasNoAuthorFrom : Test → ℕ → Type 0
-HasNoAuthorFrom set id = (q : ℕ) → id ≤ q → HasNoneOf set q
-
--- an author from this id on, and the set has nothing of those that are passed over
-pub record IsNextAuthor (set : Test) (id author : ℕ) : Type 0 where
-  pub above : id ≤ author
-  pub author_in : author < 64
-  pub between : (q : ℕ) → id ≤ q → q < author → HasNoneOf set q
 
 -- the column in normal form that has these counters, whatever the number of its holes
 pub record IsColumnOf (has : ℕ → Bool) (column : Extent) : Type 0 where
@@ -20,15 +10,15 @@ pub record IsColumnOf (has : ℕ → Bool) (column : Extent) : Type 0 where
   pub in_range : column.upto ≤ 1000000
   pub means : (c : ℕ) → column_has column c ≡ has c
 
--- the column of these counters has at most 4,096 holes
+-- the column of these counters has no more holes than a column may have
 abbrev pub HasFewHoles : (ℕ → Bool) → Type 0
-HasFewHoles has = (column : Extent) → IsColumnOf has column → length column.holes ≤ 4096
+HasFewHoles has = (column : Extent) → IsColumnOf has column → length column.holes ≤ MAX_HOLES
 
 -- the column of these counters has more
 pub record HasManyHoles (has : ℕ → Bool) : Type 0 where
   pub column : Extent
   pub is : IsColumnOf has column
-  pub many : 4096 < length column.holes
+  pub many : MAX_HOLES < length column.holes
 
 -- what it has, where there is one
 abbrev pub in_some : {X : Type 0} → (X → Test) → Option X → Test

@@ -1,7 +1,8 @@
 use Rattle.std.specs.Prelude.{◌≡◌, ◌<◌, ◌≤◌, ◌+◌, ℕ, ◌==◌, nat_lt, if◌then◌else◌, List, [], ◌∷◌, length, refl, All}
 use Rattle.std.specs.Coded.{Coded, code_by, coded×, coded_ℕ}
-use Rattle.mr_forms.specs.Sets.{Test}
+use Rattle.mr_forms.specs.Sets.{Test, IsSame}
 use Rattle.mr_concise.specs.declared.vector.AuthorColumn.{AuthorColumn}
+use Rattle.mr_concise.specs.declared.column.TheConstants.{MAX_HOLES, MAX_EDGES}
 use Rattle.mr_concise.specs.Edges.{IsRising}
 use Rattle.mr_concise.specs.declared.walk.Op.TheVariants.{Union}
 use Rattle.mr_concise.specs.Walk.{CountsEdges, IsCombined}
@@ -24,12 +25,17 @@ abbrev pub IsVectorFrom : ℕ → List AuthorColumn → Type 0
 IsVectorFrom low [] = Unit {0}
 IsVectorFrom low (x ∷ xs) = (low ≤ x.author) × (1 ≤ x.column.upto) × IsColumn x.column × IsVectorFrom (x.author + 1) xs × (x.author < 64)
 
+-- The vector of a set: columns as they have to be, with just the set's versions. A set has one at most.
+pub record IsVectorOf (set : Test) (columns : List AuthorColumn) : Type 0 where
+  pub columns_ok : IsVectorFrom 0 columns
+  pub has : IsSame (vector_has columns) set
+
 -- the columns with this one in its author's place
 abbrev pub placed : AuthorColumn → List AuthorColumn → List AuthorColumn
 placed new [] = new ∷ []
 placed new (x ∷ xs) = if nat_lt x.author new.author then x ∷ placed new xs else (if x.author == new.author then new ∷ xs else new ∷ (x ∷ xs))
 
--- a column of the set has more than 4,096 holes
+-- a column of the set has more holes than it may
 pub record HasTooManyHoles (set : Test) : Type 0 where
   pub author : ℕ
   pub author_in : author < 64
@@ -37,11 +43,11 @@ pub record HasTooManyHoles (set : Test) : Type 0 where
   pub apart : IsRising 0 (edges column)
   pub in_range : column.upto ≤ 1000000
   pub means : (c : ℕ) → column_has column c ≡ set (record { author = author; counter = c })
-  pub many : 4096 < length column.holes
+  pub many : MAX_HOLES < length column.holes
 
--- no author's columns put together have more edges than 4,096 holes give
+-- no author's columns put together have more edges than a column may have
 abbrev pub HasFewEdges : List AuthorColumn → List AuthorColumn → Type 0
-HasFewEdges a b = (q n : ℕ) → CountsEdges Union (edges (column_of a q)) (edges (column_of b q)) n → n ≤ 8193
+HasFewEdges a b = (q n : ℕ) → CountsEdges Union (edges (column_of a q)) (edges (column_of b q)) n → n ≤ MAX_EDGES
 
 -- each author's columns are put together
 abbrev pub AreUnited : List AuthorColumn → List AuthorColumn → List AuthorColumn → Type 0

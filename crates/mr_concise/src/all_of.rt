@@ -1,5 +1,5 @@
 ghost use Rattle.std.specs.Prelude.{◌≡◌, ◌≤◌};
-ghost use Rattle.mr_concise.specs.Last.{of_author};
+ghost use Rattle.mr_forms.specs.Runs.{of_author};
 ghost use Rattle.mr_concise.specs.AllOf.{in_all, lower_of, IsPassed};
 
 use crate::source::Source;

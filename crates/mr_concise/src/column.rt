@@ -12,6 +12,9 @@ use std::marker::Model;
 /// The most holes that a column has.
 pub const MAX_HOLES: usize = 4096;
 
+/// The most edges that a column has: two of each hole, and one past the bound.
+pub const MAX_EDGES: usize = 2 * MAX_HOLES + 1;
+
 /// Counters that a column does not cover, from the first to the last.
 #[derive(Clone, Copy, Debug, PartialEq, Eq)]
 pub struct Hole {
@@ -104,7 +107,7 @@ impl Column {
     /// One counter more, where that leaves few enough holes.
     fn put(&mut self, counter: u32) -> Result<(), AllocError>
         requires counter { (1 ≤ counter) × (counter ≤ 1000000) }
-        requires few { length (with_counter self.old counter).holes ≤ 4096 }
+        requires few { length (with_counter self.old counter).holes ≤ MAX_HOLES }
         ensures ok { OnOk result (self.new ≡ with_counter self.old counter) }
         ensures err { OnErr result (self.new ≡ self.old) }
     {
@@ -126,7 +129,7 @@ impl Column {
     pub(crate) fn insert(&mut self, counter: u32) -> Result<(), FormFault>
         requires { (1 ≤ counter) × (counter ≤ 1000000) }
         ensures ok { OnOk result (self.new ≡ with_counter self.old counter) }
-        ensures many { IsErrOf result FormFault.TooManyHoles ↔ (4096 < length (with_counter self.old counter).holes) }
+        ensures many { IsErrOf result FormFault.TooManyHoles ↔ (MAX_HOLES < length (with_counter self.old counter).holes) }
         ensures items { result ≢ Err FormFault.TooManyItems }
         ensures err { OnErr result (self.new ≡ self.old) }
     {

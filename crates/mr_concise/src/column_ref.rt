@@ -3,7 +3,7 @@ ghost use Rattle.mr_concise.specs.Edges.{is_on, IsRising, AreUpTo};
 ghost use Rattle.mr_concise.specs.Column.{Extent, IsColumn, column_has, edges, empty_column};
 ghost use Rattle.mr_concise.specs.Next.{IsNextOut, IsNextIn, HasNoneFrom, HasNoHoleFrom, IsHoleFrom};
 
-use crate::column::Hole;
+use crate::column::{Hole, MAX_EDGES};
 use crate::cursor::Edges;
 use crate::holes::hole_place;
 use std::marker::Model;
@@ -101,7 +101,7 @@ impl<'a> ColumnRef<'a> {
         ensures apart { IsRising 0 (edges self.now) }
         ensures in_range { AreUpTo 1000001 (edges self.now) }
         ensures far { is_on true (edges self.now) 1000001 ≡ false }
-        ensures few { length (edges self.now) ≤ 8193 }
+        ensures few { length (edges self.now) ≤ MAX_EDGES }
     {
         Edges::new(self.upto, self.holes)
     }

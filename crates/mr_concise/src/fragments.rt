@@ -1,10 +1,10 @@
-ghost use Rattle.std.specs.Prelude.{◌≡◌, ◌≢◌, Some, All, IfOk, OnOk, IsErrOf, Err, string_bytes};
+ghost use Rattle.std.specs.Prelude.{◌≡◌, ◌≢◌, ◌↔◌, Some, All, IfOk, OnOk, IsErrOf, Err, string_bytes};
 ghost use Rattle.std.specs.List.{AllZip, Any};
 ghost use Rattle.mr_forms.specs.Sets.{IsSame};
-ghost use Rattle.mr_concise.specs.Vector.{vector_has, HasTooManyHoles};
+ghost use Rattle.mr_concise.specs.Vector.{vector_has, IsVectorOf, HasTooManyHoles};
 ghost use Rattle.mr_concise.specs.Fragments.{IsConciseOf, IsTooHoley, items_text, fragment_text, knowledge_text};
 
-use crate::ordered_runs::OrderedRuns;
+use crate::of_set::OfSet;
 use crate::vector::ConciseVector;
 use mr_forms::{FormFault, Fragment, ItemSet, VersionSet};
 use std::alloc::{AllocError, Global};
@@ -13,19 +13,15 @@ use std::fmt;
 impl ConciseVector {
     /// The vector of the versions of a set in any form.
     ///
-    /// `TooManyHoles` where a column of the set has more than 4,096 holes. To tell this it asks for the
-    /// set's runs first, so it may answer `OutOfMemory` in place of it. It takes memory for the runs and
-    /// time for the runs times their logarithm.
+    /// `TooManyHoles` exactly where a column of the set has more than 4,096 holes; `OutOfMemory` only
+    /// after it. It takes the set's runs twice, and memory for the vector alone.
     pub fn from_set<S: VersionSet>(alloc: Global, set: &S) -> Result<ConciseVector, FormFault>
         ensures ok { IfOk result (λ vector. IsSame (vector_has vector) (S.has set.now)) }
-        ensures few { OnOk result (¬ HasTooManyHoles (S.has set.now)) }
-        ensures holes { IsErrOf result FormFault.TooManyHoles → HasTooManyHoles (S.has set.now) }
+        ensures canonical { IfOk result (λ vector. IsVectorOf (S.has set.now) vector) }
+        ensures holes { IsErrOf result FormFault.TooManyHoles ↔ HasTooManyHoles (S.has set.now) }
         ensures items { result ≢ Err FormFault.TooManyItems }
     {
-        let Ok(runs) = set.columns() else {
-            return Err(FormFault::OutOfMemory);
-        };
-        ConciseVector::gather(alloc, &OrderedRuns { runs: &runs })
+        ConciseVector::gather(alloc, &OfSet { set })
     }
 }
 

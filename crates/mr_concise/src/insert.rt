@@ -2,7 +2,7 @@ ghost use Rattle.std.specs.Prelude.{◌≡◌, ◌≤◌, ◌<◌, ◌+◌, ◌�
 ghost use Rattle.mr_concise.specs.Column.{Extent, empty_column, with_counter};
 ghost use Rattle.mr_concise.specs.Vector.{column_of, IsVectorFrom, placed, with_one};
 
-use crate::column::Column;
+use crate::column::{Column, MAX_HOLES};
 use crate::vector::{AuthorColumn, place, put};
 use mr_forms::FormFault;
 use mr_version::Author;
@@ -18,7 +18,7 @@ pub(crate) fn insert_in(
     requires columns { IsVectorFrom 0 columns.old.items }
     requires counter { (1 ≤ counter) × (counter ≤ 1000000) }
     ensures ok { OnOk result (columns.new.items ≡ placed (with_one columns.old.items author counter) columns.old.items) }
-    ensures many { IsErrOf result FormFault.TooManyHoles ↔ (4096 < length (with_one columns.old.items author counter).column.holes) }
+    ensures many { IsErrOf result FormFault.TooManyHoles ↔ (MAX_HOLES < length (with_one columns.old.items author counter).column.holes) }
     ensures items { result ≢ Err FormFault.TooManyItems }
     ensures err { OnErr result (columns.new.items ≡ columns.old.items) }
 {

@@ -1,7 +1,7 @@
 ghost use Rattle.std.specs.Prelude.{◌≡◌, ◌≤◌, ◌↔◌, ◌≢◌, IfOk, IsErrOf, Err};
 ghost use Rattle.mr_forms.specs.Sets.{IsSame};
 ghost use Rattle.mr_concise.specs.Meet.{in_both, meet_has};
-ghost use Rattle.mr_concise.specs.Vector.{vector_has, HasTooManyHoles};
+ghost use Rattle.mr_concise.specs.Vector.{vector_has, IsVectorOf, HasTooManyHoles};
 
 use crate::source::Source;
 use crate::vector::{ConciseVector, column_at, next_author};
@@ -48,6 +48,7 @@ impl ConciseVector {
     /// than 4,096 holes; `OutOfMemory` only after it.
     pub fn meet(&self, other: &ConciseVector) -> Result<ConciseVector, FormFault>
         ensures ok { IfOk result (λ meet. IsSame (vector_has meet) (in_both (vector_has self.now) (vector_has other.now))) }
+        ensures canonical { IfOk result (λ meet. IsVectorOf (in_both (vector_has self.now) (vector_has other.now)) meet) }
         ensures holes { IsErrOf result FormFault.TooManyHoles ↔ HasTooManyHoles (in_both (vector_has self.now) (vector_has other.now)) }
         ensures items { result ≢ Err FormFault.TooManyItems }
     {

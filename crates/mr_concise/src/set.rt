@@ -1,6 +1,6 @@
 ghost use Rattle.std.specs.Prelude.{◌≡◌, ◌≤◌, ◌<◌, ◌-◌, ◌↔◌, ◌≢◌, false, IsTrue, IfOk, OnOk, OnErr, IsErrOf, Err, [], ◌∷◌};
 ghost use Rattle.mr_forms.specs.Sets.{Test, IsSame, both, with_version, Covers};
-ghost use Rattle.mr_forms.specs.Runs.{with_run, AreRunsOf};
+ghost use Rattle.mr_forms.specs.Runs.{with_run, AreRunsOf, HasVersionsAlone, HasNoAuthorFrom, IsNextAuthor, HasNoRunFrom, IsRunFrom};
 ghost use Rattle.mr_concise.specs.Column.{Extent};
 ghost use Rattle.mr_concise.specs.Vector.{vector_has, IsVectorFrom, HasTooManyHoles};
 
@@ -9,9 +9,9 @@ use crate::column_ref::ColumnRef;
 use crate::insert::insert_in;
 use crate::runs::push_runs;
 use crate::union::{covers_columns, unite_column, unite_columns};
-use crate::vector::{AuthorColumn, ConciseVector, column_at};
+use crate::vector::{AuthorColumn, ConciseVector, column_at, next_author};
 use mr_forms::{FormFault, Run, VersionSet};
-use mr_version::Version;
+use mr_version::{Author, Version};
 use std::alloc::Global;
 
 impl VersionSet for ConciseVector {
@@ -32,10 +32,7 @@ impl VersionSet for ConciseVector {
     fn copy(&self) -> Result<ConciseVector, FormFault> {
         let mut columns = Vec::new(self.alloc);
         for x in &self.columns {
-            columns.push(AuthorColumn {
-                author: x.author,
-                column: x.column.copy()?,
-            })?;
+            columns.push(x.copy()?)?;
         }
         Ok(ConciseVector {
             alloc: self.alloc,
@@ -45,6 +42,21 @@ impl VersionSet for ConciseVector {
 
     fn contains(&self, version: Version) -> bool {
         column_at(&self.columns, version.author()).contains(version.counter())
+    }
+
+    fn next_author(&self, id: u16) -> Option<Author> {
+        next_author(&self.columns, id)
+    }
+
+    fn run_from(&self, author: Author, from: u32) -> Option<Run> {
+        let column = column_at(&self.columns, author);
+        let first = column.next_in(from)?;
+        let after = column.next_out(first);
+        Some(Run {
+            author,
+            first,
+            last: after - 1,
+        })
     }
 
     fn insert(&mut self, version: Version) -> Result<(), FormFault> {

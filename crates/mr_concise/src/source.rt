@@ -1,8 +1,8 @@
 ghost use Rattle.std.specs.Prelude.{◌≡◌, ◌≤◌, MatchOption, IfSome, false};
 ghost use Rattle.mr_forms.specs.Sets.{Test};
-ghost use Rattle.mr_concise.specs.Last.{of_author, HasNoneOf};
+ghost use Rattle.mr_forms.specs.Runs.{of_author, HasNoneOf};
 ghost use Rattle.mr_concise.specs.Next.{IsNextOut, IsNextIn, HasNoneFrom};
-ghost use Rattle.mr_concise.specs.Source.{HasNoAuthorFrom, IsNextAuthor};
+ghost use Rattle.mr_forms.specs.Runs.{HasNoAuthorFrom, IsNextAuthor};
 
 use mr_version::Author;
 

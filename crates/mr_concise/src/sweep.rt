@@ -1,9 +1,9 @@
 ghost use Rattle.std.specs.Prelude.{◌≡◌, ◌≤◌, ◌<◌, ◌↔◌, ◌≢◌, ℕ, true, false, IsTrue, IfOk, IsErrOf, Err, length};
 ghost use Rattle.mr_forms.specs.Sets.{IsSame};
 ghost use Rattle.mr_concise.specs.Column.{Extent, column_has, IsColumn};
-ghost use Rattle.mr_concise.specs.Last.{of_author};
+ghost use Rattle.mr_forms.specs.Runs.{of_author};
 ghost use Rattle.mr_concise.specs.Source.{IsColumnOf, HasFewHoles, HasManyHoles};
-ghost use Rattle.mr_concise.specs.Vector.{vector_has, column_of, IsVectorFrom, HasTooManyHoles};
+ghost use Rattle.mr_concise.specs.Vector.{vector_has, column_of, IsVectorFrom, IsVectorOf, HasTooManyHoles};
 
 use crate::column::{Column, Hole, MAX_HOLES};
 use crate::source::Source;
@@ -48,8 +48,8 @@ fn gathered_column<S: Source>(
     Ok(Column::new(at - 1, holes))
 }
 
-/// Whether some author's column would have too many holes. It allocates nothing.
-pub(crate) fn would_have_too_many<S: Source>(source: &S) -> bool
+/// Whether a vector of the source would have a column with more than 4,096 holes. It allocates nothing.
+pub fn would_have_too_many<S: Source>(source: &S) -> bool
     ensures { IsTrue result ↔ HasTooManyHoles (S.has source.now) }
 {
     let mut id = 0;
@@ -87,6 +87,7 @@ impl ConciseVector {
     /// the holes are counted.
     pub fn gather<S: Source>(alloc: Global, source: &S) -> Result<ConciseVector, FormFault>
         ensures ok { IfOk result (λ vector. IsSame (vector_has vector) (S.has source.now)) }
+        ensures canonical { IfOk result (λ vector. IsVectorOf (S.has source.now) vector) }
         ensures holes { IsErrOf result FormFault.TooManyHoles ↔ HasTooManyHoles (S.has source.now) }
         ensures items { result ≢ Err FormFault.TooManyItems }
     {

@@ -6,6 +6,7 @@ ghost use Rattle.mr_concise.specs.Walk.{CountsEdges, IsCombined};
 ghost use Rattle.mr_concise.specs.declared.walk.Op.TheVariants.{Union};
 ghost use Rattle.mr_concise.specs.Vector.{column_of, vector_has, IsVectorFrom, HasTooManyHoles, HasFewEdges, AreUnited, AreColumns, all_placed, placed, single};
 
+use crate::column::MAX_EDGES;
 use crate::column_ref::ColumnRef;
 use crate::vector::{AuthorColumn, column_at, place, put};
 use crate::walk::{Op, combined, edge_count};
@@ -21,7 +22,7 @@ fn has_too_many(a: &[AuthorColumn], b: &[AuthorColumn]) -> bool
     ensures few { result ≡ false → HasFewEdges a.now b.now }
 {
     for x in b {
-        if edge_count(Op::Union, &column_at(a, x.author), &x.column.lent()) > 8193 {
+        if edge_count(Op::Union, &column_at(a, x.author), &x.column.lent()) > MAX_EDGES {
             return true;
         }
     }
@@ -130,7 +131,7 @@ pub(crate) fn unite_column(
     ensures err { OnErr result (columns.new.items ≡ columns.old.items) }
 {
     let had = column_at(columns, author);
-    if edge_count(Op::Union, &had, added) > 8193 {
+    if edge_count(Op::Union, &had, added) > MAX_EDGES {
         return Err(FormFault::TooManyHoles);
     }
     let Ok(column) = combined(alloc, Op::Union, &had, added) else {

@@ -1,6 +1,7 @@
-ghost use Rattle.std.specs.Prelude.{◌≡◌, ◌≤◌, ◌+◌, ◌<◌, ℕ, true, false, nat_lt, length, OnOk, OnErr, MatchOption};
-ghost use Rattle.mr_concise.specs.Last.{IsLast, HasNoneOf};
-ghost use Rattle.mr_concise.specs.Source.{HasNoAuthorFrom, IsNextAuthor};
+ghost use Rattle.std.specs.Prelude.{◌≡◌, ◌≤◌, ◌+◌, ◌<◌, ℕ, true, false, nat_lt, length, IfOk, OnOk, OnErr, MatchOption};
+ghost use Rattle.mr_concise.specs.Last.{IsLast};
+ghost use Rattle.mr_forms.specs.Runs.{HasNoneOf};
+ghost use Rattle.mr_forms.specs.Runs.{HasNoAuthorFrom, IsNextAuthor};
 ghost use Rattle.std.specs.List.Sorted.{IsPartitionPoint};
 ghost use Rattle.mr_concise.specs.Column.{Extent, empty_column};
 ghost use Rattle.mr_concise.specs.Vector.{column_of, vector_has, IsVectorFrom, placed};
@@ -16,6 +17,18 @@ use std::marker::Model;
 pub struct AuthorColumn {
     pub author: Author,
     pub column: Column,
+}
+
+impl AuthorColumn {
+    /// An equal column of the same author.
+    pub fn copy(&self) -> Result<AuthorColumn, AllocError>
+        ensures { IfOk result (λ column. column ≡ self.now) }
+    {
+        Ok(AuthorColumn {
+            author: self.author,
+            column: self.column.copy()?,
+        })
+    }
 }
 
 /// A set of versions, one column for each author that has some.

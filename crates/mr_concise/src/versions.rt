@@ -1,7 +1,7 @@
 ghost use Rattle.std.specs.Prelude.{◌≡◌, ◌↔◌, ◌≢◌, IfOk, OnOk, IsErrOf, Err};
 ghost use Rattle.mr_version.specs.Name.{name_eq};
 ghost use Rattle.mr_forms.specs.Sets.{IsSame, is_listed};
-ghost use Rattle.mr_concise.specs.Vector.{vector_has, HasTooManyHoles};
+ghost use Rattle.mr_concise.specs.Vector.{vector_has, IsVectorOf, HasTooManyHoles};
 
 use crate::all_of::AllOf;
 use crate::source::Source;
@@ -48,6 +48,7 @@ impl Source for Version {
 /// the holes are counted.
 fn by_set(alloc: Global, versions: &[Version]) -> Result<ConciseVector, FormFault>
     ensures ok { IfOk result (λ vector. IsSame (vector_has vector) (is_listed versions.now)) }
+    ensures canonical { IfOk result (λ vector. IsVectorOf (is_listed versions.now) vector) }
     ensures few { OnOk result (¬ HasTooManyHoles (is_listed versions.now)) }
     ensures holes { IsErrOf result FormFault.TooManyHoles → HasTooManyHoles (is_listed versions.now) }
     ensures items { result ≢ Err FormFault.TooManyItems }
@@ -68,6 +69,7 @@ impl ConciseVector {
     /// holes are counted without any, which goes over the versions again and again.
     pub fn from_versions(alloc: Global, versions: &[Version]) -> Result<ConciseVector, FormFault>
         ensures ok { IfOk result (λ vector. IsSame (vector_has vector) (is_listed versions.now)) }
+        ensures canonical { IfOk result (λ vector. IsVectorOf (is_listed versions.now) vector) }
         ensures holes { IsErrOf result FormFault.TooManyHoles ↔ HasTooManyHoles (is_listed versions.now) }
         ensures items { result ≢ Err FormFault.TooManyItems }
     {

@@ -1,9 +1,9 @@
-ghost use Rattle.std.specs.Prelude.{◌≡◌, ◌≤◌, ◌<◌, ◌+◌, ◌↔◌, ℕ, Bool, true, false, not, List, [], ◌∷◌, length, IsTrue, IfOk, IfSome, IfNone, OnOk, OnErr, Some, None};
+ghost use Rattle.std.specs.Prelude.{◌≡◌, ◌≤◌, ◌<◌, ◌+◌, ◌*◌, ◌↔◌, ℕ, Bool, true, false, not, List, [], ◌∷◌, length, IsTrue, IfOk, IfSome, IfNone, OnOk, OnErr, Some, None};
 ghost use Rattle.mr_concise.specs.Edges.{is_on, IsRising, AreUpTo};
 ghost use Rattle.mr_concise.specs.Column.{edges, IsColumn};
 ghost use Rattle.mr_concise.specs.Walk.{op_of, nearest, passed, turned, IsCombined, CountsEdges};
 
-use crate::column::{Column, Hole};
+use crate::column::{Column, Hole, MAX_EDGES};
 use crate::column_ref::ColumnRef;
 use crate::cursor::Edges;
 use std::alloc::{AllocError, Global};
@@ -61,7 +61,7 @@ impl<'a> Walk<'a> {
         ensures apart { IsRising 0 (edges a.now) × IsRising 0 (edges b.now) }
         ensures in_range { AreUpTo 1000001 (edges a.now) × AreUpTo 1000001 (edges b.now) }
         ensures far { (is_on true (edges a.now) 1000001 ≡ false) × (is_on true (edges b.now) 1000001 ≡ false) }
-        ensures few { length (edges a.now) + length (edges b.now) ≤ 16386 }
+        ensures few { length (edges a.now) + length (edges b.now) ≤ 2 * MAX_EDGES }
     {
         Walk {
             a: Side {
@@ -123,7 +123,7 @@ pub(crate) fn combined(
     b: &ColumnRef<'_>,
 ) -> Result<Column, AllocError>
     requires union { op_of op true true ≡ true }
-    requires few { (n : ℕ) → CountsEdges op (edges a.now) (edges b.now) n → n ≤ 8193 }
+    requires few { (n : ℕ) → CountsEdges op (edges a.now) (edges b.now) n → n ≤ MAX_EDGES }
     ensures combined { IfOk result (λ column. IsCombined op (edges a.now) (edges b.now) (edges column)) }
     ensures column { IfOk result IsColumn }
 {

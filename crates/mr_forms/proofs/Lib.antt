@@ -4,3 +4,6 @@ pub mod SetLemmas
 pub mod ColumnLemmas
 pub mod PairLemmas
 pub mod FragmentLemmas
+pub mod VersionLemmas
+pub mod PartLemmas
+pub mod PlainPartLemmas

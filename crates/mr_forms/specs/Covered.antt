@@ -1,4 +1,4 @@
-use Rattle.std.specs.Prelude.{◌≢◌, Bool, true, ◌&&◌, List, []}
+use Rattle.std.specs.Prelude.{◌≢◌, Bool, true, ◌&&◌, List, [], Option, Some, None}
 use Rattle.std.specs.List.{list_any}
 use Rattle.mr_version.specs.Name.{Name, name_eq}
 use Rattle.mr_forms.specs.declared.fragment.ItemSet.{ItemSet}
@@ -11,6 +11,11 @@ use Rattle.mr_forms.specs.Known.{Pairs}
 abbrev pub has_item : ItemSet → Name → Bool
 has_item All i = true
 has_item (Listed items) i = list_any (λ item. name_eq item i) items.items
+
+-- the items that are listed, or none where they are all items
+abbrev pub listed_items : ItemSet → Option (List Name)
+listed_items All = None
+listed_items (Listed items) = Some items.items
 
 -- they are all items, or at least one
 abbrev pub HasItems : ItemSet → Type 0

@@ -1,4 +1,4 @@
-use Rattle.std.specs.Prelude.{◌≡◌, Bool, ◌||◌, ◌&&◌}
+use Rattle.std.specs.Prelude.{◌≡◌, ◌⊎◌, Bool, ◌||◌, ◌&&◌, List, Option}
 use Rattle.mr_version.specs.Name.{Name, name_eq}
 use Rattle.mr_forms.specs.Sets.{Test}
 
@@ -18,14 +18,26 @@ with_learned for_all old item version = λ i v. ((for_all || name_eq item i) && 
 abbrev pub with_below : Pairs → Name → Test → Pairs
 with_below old item set = λ i v. (name_eq item i && set v) || old i v
 
+-- the pairs with one version more, and then with all of a set for its item
+abbrev pub with_learned_below : Bool → Pairs → Name → Name → Test → Pairs
+with_learned_below for_all old item version set = with_below (with_learned for_all old item version) item set
+
 -- the pairs of both
 abbrev pub with_pairs : Pairs → Pairs → Pairs
 with_pairs s t = λ i v. t i v || s i v
+
+-- A part of a knowledge: the items that are listed, or none where they are all items; and which versions are known for
+-- each of them.
+pub record Part : Type 0 where
+  pub items : Option (List Name)
+  pub versions : Test
 
 -- A form of knowledge, as contracts see its values.
 pub record Form (K : Type 0) : Type 1 where
   -- which versions are known for which items
   pub known : K → Pairs
+  -- which parts its fragments are
+  pub is_part : K → Part → Type 0
   -- whether a version that is learned for an item is learned for all
   pub learns_for_all : Bool
   -- the knowledge that this form has no value for, since a vector of it would have too many holes
@@ -36,3 +48,15 @@ pub record Form (K : Type 0) : Type 1 where
 -- the knowledge would list too many items, and have no vector with too many holes
 abbrev pub IsOnlyOverItems : {K : Type 0} → Form K → Pairs → Type 0
 IsOnlyOverItems form pairs = form.has_too_many_items pairs × ¬ form.has_too_many_holes pairs
+
+-- the form has a value for the knowledge
+abbrev pub HasValue : {K : Type 0} → Form K → Pairs → Type 0
+HasValue form pairs = ¬ form.has_too_many_holes pairs × ¬ form.has_too_many_items pairs
+
+-- Of two results in turn: the first has too many holes, or it has a value and the second has too many holes.
+abbrev pub IsOverHolesInTurn : {K : Type 0} → Form K → Pairs → Pairs → Type 0
+IsOverHolesInTurn form first second = form.has_too_many_holes first ⊎ (HasValue form first × form.has_too_many_holes second)
+
+-- the same of too many items, where the result at fault has no vector with too many holes
+abbrev pub IsOverItemsInTurn : {K : Type 0} → Form K → Pairs → Pairs → Type 0
+IsOverItemsInTurn form first second = IsOnlyOverItems form first ⊎ (HasValue form first × IsOnlyOverItems form second)

@@ -2,6 +2,7 @@ pub mod Sets
 pub mod Runs
 pub mod Known
 pub mod Covered
+pub mod Parts
 pub mod Fault
 pub mod Additions
 pub mod Columns

@@ -1,4 +1,4 @@
-use Rattle.std.specs.Prelude.{◌≡◌, ◌≢◌, Bool, true, false, ◌||◌, ◌&&◌, List, [], ◌∷◌, All, AllPairs}
+use Rattle.std.specs.Prelude.{◌≡◌, ◌≢◌, Bool, true, false, ◌||◌, ◌&&◌, List, [], ◌∷◌, Option, Some, None, All, AllPairs}
 use Rattle.std.specs.List.{list_any}
 use Rattle.std.specs.declared.cmp.Ordering.TheVariants.{Less}
 use Rattle.mr_version.specs.Name.{Name, name_cmp, name_eq}
@@ -6,17 +6,28 @@ use Rattle.mr_forms.specs.declared.fragment.ItemSet.{ItemSet}
 use Rattle.mr_forms.specs.declared.fragment.ItemSet.TheVariants.{All as AllItems, Listed}
 use Rattle.mr_forms.specs.declared.fragment.Fragment.{Fragment}
 use Rattle.mr_forms.specs.Sets.{Test, IsSame, is_listed}
-use Rattle.mr_forms.specs.Known.{Pairs, AreSame, Form}
+use Rattle.mr_forms.specs.Known.{Pairs, AreSame, Part, Form}
 use Rattle.mr_forms.specs.PlainPair.{PlainKnown, pair, has_pair}
 
 -- the versions of all items are known for each, and the pairs
 abbrev pub plain_known : PlainKnown → Pairs
 plain_known k i v = is_listed k.for_all v || has_pair k.pairs (pair i v)
 
+-- the versions that are known for all items, or beside them for the one item that is listed
+abbrev pub HasPlainVersions : PlainKnown → Option (List Name) → Test → Type 0
+HasPlainVersions k None versions = versions ≡ is_listed k.for_all
+HasPlainVersions k (Some []) versions = ⊥
+HasPlainVersions k (Some (i ∷ rest)) versions = (rest ≡ []) × (versions ≡ (λ v. has_pair k.pairs (pair i v)))
+
+-- What is known for all items is one part, where it is something; and the pairs of an item are one, where it has some.
+abbrev pub IsPlainPart : PlainKnown → Part → Type 0
+IsPlainPart k p = ((v : Name) × (p.versions v ≡ true)) × HasPlainVersions k p.items p.versions
+
 -- a version is learned for its item alone, and there is a value for all that can be known
 abbrev pub plain_form : Form PlainKnown
 plain_form = record {
   known = plain_known;
+  is_part = IsPlainPart;
   learns_for_all = false;
   has_too_many_holes = λ _. ⊥;
   has_too_many_items = λ _. ⊥;

@@ -1,5 +1,6 @@
-use Rattle.std.specs.Prelude.{◌≡◌, ◌+◌, ◌<◌, ◌⊎◌, ◌||◌, ◌&&◌, ◌==◌, nat_le, List, AllPairs}
+use Rattle.std.specs.Prelude.{◌≡◌, ◌+◌, ◌<◌, ◌≤◌, ◌⊎◌, ℕ, Bool, true, false, ◌||◌, ◌&&◌, ◌==◌, nat_le, List, AllPairs}
 use Rattle.std.specs.List.{list_any}
+use Rattle.mr_version.specs.Name.{Name, IsVersion}
 use Rattle.mr_forms.specs.Sets.{Test, IsSame}
 use Rattle.mr_forms.specs.declared.run.Run.{Run}
 
@@ -23,3 +24,47 @@ StandsBefore a b = (a.author < b.author) ⊎ ((a.author ≡ b.author) × (a.last
 pub record AreRunsOf (set : Test) (runs : List Run) : Type 0 where
   pub have : IsSame set (in_runs runs)
   pub apart : AllPairs StandsBefore runs
+
+-- the set has nothing but versions
+abbrev pub HasVersionsAlone : Test → Type 0
+HasVersionsAlone set = (v : Name) → set v ≡ true → IsVersion v.author v.counter
+
+-- the set's test, for one author
+abbrev pub of_author : Test → ℕ → ℕ → Bool
+of_author set author counter = set (record { author = author; counter = counter })
+
+-- the set has nothing of the author
+abbrev pub HasNoneOf : Test → ℕ → Type 0
+HasNoneOf set author = (c : ℕ) → of_author set author c ≡ false
+
+-- the set has nothing of the authors from this id on
+abbrev pub HasNoAuthorFrom : Test → ℕ → Type 0
+HasNoAuthorFrom set id = (q : ℕ) → id ≤ q → HasNoneOf set q
+
+-- an author from this id on, and the set has nothing of those that are passed over
+pub record IsNextAuthor (set : Test) (id author : ℕ) : Type 0 where
+  pub above : id ≤ author
+  pub author_in : author < 64
+  pub between : (q : ℕ) → id ≤ q → q < author → HasNoneOf set q
+
+-- the set has no version of the author from the counter on
+abbrev pub HasNoRunFrom : Test → ℕ → ℕ → Type 0
+HasNoRunFrom set author from = (c : ℕ) → from ≤ c → of_author set author c ≡ false
+
+-- the first of the author's counters from here on that the set has
+pub record IsFirstFrom (set : Test) (author from first : ℕ) : Type 0 where
+  pub above : from ≤ first
+  pub is_in : of_author set author first ≡ true
+  pub before : (c : ℕ) → from ≤ c → c < first → of_author set author c ≡ false
+
+-- the last counter of those that the set has without a gap from this one on
+pub record IsEndOfRun (set : Test) (author first last : ℕ) : Type 0 where
+  pub ordered : first ≤ last
+  pub is_in : (c : ℕ) → first ≤ c → c ≤ last → of_author set author c ≡ true
+  pub after : of_author set author (last + 1) ≡ false
+
+-- the author's first unbroken run from a counter on, as long as can be
+pub record IsRunFrom (set : Test) (author from : ℕ) (run : Run) : Type 0 where
+  pub same_author : run.author ≡ author
+  pub begins : IsFirstFrom set author from run.first
+  pub ends : IsEndOfRun set author run.first run.last

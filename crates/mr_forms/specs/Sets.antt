@@ -1,6 +1,6 @@
-use Rattle.std.specs.Prelude.{◌≡◌, Bool, true, ◌||◌, List}
-use Rattle.std.specs.List.{list_any}
+use Rattle.std.specs.Prelude.{◌≡◌, Bool, true, ◌||◌}
 use Rattle.mr_version.specs.Name.{Name, name_eq}
+pub use Rattle.mr_version.specs.Sets.{is_listed}
 
 -- a set of versions, by its test
 abbrev pub Test : Type 0
@@ -21,7 +21,3 @@ IsSame s t = (v : Name) → s v ≡ t v
 -- what is in t is in s
 abbrev pub Covers : Test → Test → Type 0
 Covers s t = (v : Name) → t v ≡ true → s v ≡ true
-
--- whether the list has v
-abbrev pub is_listed : List Name → Test
-is_listed vs v = list_any (name_eq v) vs

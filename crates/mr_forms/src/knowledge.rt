@@ -1,5 +1,5 @@
-ghost use Rattle.std.specs.Prelude.{◌≡◌, ◌↔◌, ◌≢◌, false, All, IfOk, OnOk, OnErr, IsErrOf, Err};
-ghost use Rattle.mr_forms.specs.Known.{Form, AreSame, IsOnlyOverItems, with_learned, with_below, with_pairs};
+ghost use Rattle.std.specs.Prelude.{◌≡◌, ◌↔◌, ◌≢◌, false, All, IfOk, OnOk, OnErr, IsErrOf, Err, map};
+ghost use Rattle.mr_forms.specs.Known.{Form, AreSame, IsOnlyOverItems, IsOverHolesInTurn, IsOverItemsInTurn, with_learned, with_below, with_learned_below, with_pairs};
 
 use crate::{FormFault, Fragment, VersionSet};
 use mr_version::{ItemId, Version};
@@ -14,6 +14,7 @@ use std::alloc::Global;
 /// fault leaves its value as it was.
 pub trait Knowledge: Drop {
     ghost use Rattle.mr_forms.specs.Covered.{covered, all_covered, HasItems};
+    ghost use Rattle.mr_forms.specs.Parts.{part_of, ArePartsThat};
 
     /// The form of the vectors of its fragments.
     type Vector: VersionSet;
@@ -41,12 +42,45 @@ pub trait Knowledge: Drop {
         ensures items { IsErrOf result FormFault.TooManyItems ↔ IsOnlyOverItems form (with_learned form.learns_for_all (form.known self.old) item version) }
         ensures err { OnErr result (self.new ≡ self.old) };
 
+    /// The fault that `learn` would answer where memory is there. It allocates nothing, so it answers
+    /// no `OutOfMemory`.
+    fn may_learn(&self, item: ItemId, version: Version) -> Result<(), FormFault>
+        ensures holes { IsErrOf result FormFault.TooManyHoles ↔ form.has_too_many_holes (with_learned form.learns_for_all (form.known self.now) item version) }
+        ensures items { IsErrOf result FormFault.TooManyItems ↔ IsOnlyOverItems form (with_learned form.learns_for_all (form.known self.now) item version) }
+        ensures memory { result ≢ Err FormFault.OutOfMemory };
+
     /// Adds all versions of a set, of any form, for the item, and nothing else.
     fn learn_below<S: VersionSet>(&mut self, item: ItemId, set: &S) -> Result<(), FormFault>
         ensures ok { OnOk result (AreSame (form.known self.new) (with_below (form.known self.old) item (S.has set.now))) }
         ensures holes { IsErrOf result FormFault.TooManyHoles ↔ form.has_too_many_holes (with_below (form.known self.old) item (S.has set.now)) }
         ensures items { IsErrOf result FormFault.TooManyItems ↔ IsOnlyOverItems form (with_below (form.known self.old) item (S.has set.now)) }
         ensures err { OnErr result (self.new ≡ self.old) };
+
+    /// Learns a version that came with the set of versions below it: what `learn` and then `learn_below`
+    /// add. A fault of what `learn` would give comes first, then one of the whole, and `OutOfMemory`
+    /// after both.
+    fn learn_with<S: VersionSet>(
+        &mut self,
+        item: ItemId,
+        version: Version,
+        below: &S,
+    ) -> Result<(), FormFault>
+        ensures ok { OnOk result (AreSame (form.known self.new) (with_learned_below form.learns_for_all (form.known self.old) item version (S.has below.now))) }
+        ensures holes { IsErrOf result FormFault.TooManyHoles ↔ IsOverHolesInTurn form (with_learned form.learns_for_all (form.known self.old) item version) (with_learned_below form.learns_for_all (form.known self.old) item version (S.has below.now)) }
+        ensures items { IsErrOf result FormFault.TooManyItems ↔ IsOverItemsInTurn form (with_learned form.learns_for_all (form.known self.old) item version) (with_learned_below form.learns_for_all (form.known self.old) item version (S.has below.now)) }
+        ensures err { OnErr result (self.new ≡ self.old) };
+
+    /// The fault that `learn_with` would answer where memory is there. It allocates nothing, so it
+    /// answers no `OutOfMemory`.
+    fn may_learn_with<S: VersionSet>(
+        &self,
+        item: ItemId,
+        version: Version,
+        below: &S,
+    ) -> Result<(), FormFault>
+        ensures holes { IsErrOf result FormFault.TooManyHoles ↔ IsOverHolesInTurn form (with_learned form.learns_for_all (form.known self.now) item version) (with_learned_below form.learns_for_all (form.known self.now) item version (S.has below.now)) }
+        ensures items { IsErrOf result FormFault.TooManyItems ↔ IsOverItemsInTurn form (with_learned form.learns_for_all (form.known self.now) item version) (with_learned_below form.learns_for_all (form.known self.now) item version (S.has below.now)) }
+        ensures memory { result ≢ Err FormFault.OutOfMemory };
 
     /// Adds all versions of a fragment, whose vector is of any form, for each of its items, and
     /// nothing else.
@@ -56,9 +90,12 @@ pub trait Knowledge: Drop {
         ensures items { IsErrOf result FormFault.TooManyItems ↔ IsOnlyOverItems form (with_pairs (form.known self.old) (covered S.has fragment.now)) }
         ensures err { OnErr result (self.new ≡ self.old) };
 
-    /// The knowledge as fragments, none of which lists no item. `OutOfMemory` is its only fault.
+    /// The knowledge as fragments: those that the form has for it, each once. At most one is of all
+    /// items, and it comes first; each other one lists 1 to 65,536 items in rising order, and these
+    /// come by their first item. `OutOfMemory` is its only fault.
     fn fragments(&self) -> Result<Vec<Fragment<Self::Vector>>, FormFault>
         ensures ok { IfOk result (λ fragments. AreSame (form.known self.now) (all_covered Self.Vector.has fragments.items)) }
         ensures items { IfOk result (λ fragments. All (λ fragment. HasItems fragment.items) fragments.items) }
+        ensures parts { IfOk result (λ fragments. ArePartsThat (form.is_part self.now) (map (part_of Self.Vector.has) fragments.items)) }
         ensures memory { OnErr result (result ≡ Err FormFault.OutOfMemory) };
 }

@@ -30,7 +30,7 @@ mod version_set;
 mod versions;
 
 pub use fault::FormFault;
-pub use fragment::{Fragment, ItemSet};
+pub use fragment::{Fragment, ItemSet, MAX_ITEMS};
 pub use knowledge::Knowledge;
 pub use plain_knowledge::PlainKnowledge;
 pub use plain_versions::PlainVersions;

@@ -1,4 +1,4 @@
-ghost use Rattle.std.specs.Prelude.{◌≡◌, ◌&&◌, ◌||◌, All, OnOk, OnErr, Err, IfOk};
+ghost use Rattle.std.specs.Prelude.{◌≡◌, ◌&&◌, ◌||◌, All, OnOk, OnErr, Err, IfOk, map};
 ghost use Rattle.std.specs.List.{list_any};
 ghost use Rattle.std.specs.Ordering.{eq_by_cmp};
 ghost use Rattle.mr_forms.specs.declared.plain_knowledge.Pair.{Pair};
@@ -7,7 +7,8 @@ ghost use Rattle.mr_forms.specs.Sets.{is_listed};
 ghost use Rattle.mr_forms.specs.Known.{AreSame, with_pairs};
 ghost use Rattle.mr_forms.specs.Covered.{HasItems, all_covered};
 ghost use Rattle.mr_forms.specs.PlainPair.{pair, pair_cmp, has_pair};
-ghost use Rattle.mr_forms.specs.Plain.{plain_form, plain_known, IsOneByOne, AreFragmentsOf};
+ghost use Rattle.mr_forms.specs.Plain.{plain_form, plain_known, IsPlainPart, IsOneByOne, AreFragmentsOf};
+ghost use Rattle.mr_forms.specs.Parts.{part_of, ArePartsThat};
 ghost use Rattle.mr_forms.specs.PlainSteps.{EndsBy, GainsPair, IsFragmentOf, GainsVersionOf, AreForAll};
 
 use crate::additions::add_all;
@@ -156,6 +157,20 @@ impl PlainKnowledge {
         Ok(fragments)
     }
 
+    /// Adds the versions for each of the items.
+    fn learn_versions(&mut self, items: &[ItemId], versions: &[Version]) -> Result<(), FormFault>
+        ensures ok { OnOk result (AreSame (plain_known self.new) (with_pairs (plain_known self.old) (λ i v. list_any (λ item. name_eq item i) items.now && is_listed versions.now v))) }
+        ensures err { OnErr result (self.new ≡ self.old) }
+        ensures memory { OnErr result (result ≡ Err FormFault.OutOfMemory) }
+    {
+        let mut missing: Vec<Pair> = Vec::new(self.alloc);
+        for item in items {
+            push_all_missing(&mut missing, &self.pairs, *item, versions)?;
+        }
+        add_all(&mut self.pairs, &missing, self.alloc)?;
+        Ok(())
+    }
+
     /// Adds all versions of a set for each of the items.
     fn learn_for_each<S: VersionSet>(&mut self, items: &[ItemId], set: &S) -> Result<(), FormFault>
         ensures ok { OnOk result (AreSame (plain_known self.new) (with_pairs (plain_known self.old) (λ i v. list_any (λ item. name_eq item i) items.now && S.has set.now v))) }
@@ -163,12 +178,7 @@ impl PlainKnowledge {
         ensures memory { OnErr result (result ≡ Err FormFault.OutOfMemory) }
     {
         let versions = versions_in(set, self.alloc)?;
-        let mut missing: Vec<Pair> = Vec::new(self.alloc);
-        for item in items {
-            push_all_missing(&mut missing, &self.pairs, *item, &versions)?;
-        }
-        add_all(&mut self.pairs, &missing, self.alloc)?;
-        Ok(())
+        self.learn_versions(items, &versions)
     }
 
     /// Adds all versions of a set for all items.
@@ -212,8 +222,32 @@ impl Knowledge for PlainKnowledge {
         Ok(())
     }
 
+    fn may_learn(&self, _item: ItemId, _version: Version) -> Result<(), FormFault> {
+        Ok(())
+    }
+
     fn learn_below<S: VersionSet>(&mut self, item: ItemId, set: &S) -> Result<(), FormFault> {
         self.learn_for_each(&[item], set)
+    }
+
+    fn learn_with<S: VersionSet>(
+        &mut self,
+        item: ItemId,
+        version: Version,
+        below: &S,
+    ) -> Result<(), FormFault> {
+        let mut versions = versions_in(below, self.alloc)?;
+        versions.push(version)?;
+        self.learn_versions(&[item], &versions)
+    }
+
+    fn may_learn_with<S: VersionSet>(
+        &self,
+        _item: ItemId,
+        _version: Version,
+        _below: &S,
+    ) -> Result<(), FormFault> {
+        Ok(())
     }
 
     fn merge<S: VersionSet>(&mut self, fragment: &Fragment<S>) -> Result<(), FormFault> {
@@ -227,6 +261,7 @@ impl Knowledge for PlainKnowledge {
         ensures ok { IfOk result (λ fragments. AreSame (plain_known self.now) (all_covered is_listed fragments.items)) }
         ensures items { IfOk result (λ fragments. All (λ fragment. HasItems fragment.items) fragments.items) }
         ensures one_by_one { IfOk result (λ fragments. AreFragmentsOf self.now fragments.items) }
+        ensures parts { IfOk result (λ fragments. ArePartsThat (IsPlainPart self.now) (map (part_of is_listed) fragments.items)) }
         ensures memory { OnErr result (result ≡ Err FormFault.OutOfMemory) }
     {
         let mut fragments = self.fragments_for_all()?;

@@ -1,11 +1,12 @@
-ghost use Rattle.std.specs.Prelude.{◌≡◌, ◌↔◌, [], false, All, IsTrue, OnOk, OnErr, Err};
+ghost use Rattle.std.specs.Prelude.{◌≡◌, ◌≤◌, ◌↔◌, [], true, false, All, IsTrue, OnOk, OnErr, Err, MatchOption};
 ghost use Rattle.mr_forms.specs.Sets.{is_listed, both, IsSame};
+ghost use Rattle.mr_forms.specs.Runs.{HasVersionsAlone, HasNoAuthorFrom, IsNextAuthor, HasNoRunFrom, IsFirstFrom, IsEndOfRun, of_author};
 ghost use Rattle.mr_forms.specs.Columns.{EndsBelow, GainsVersion};
 
 use crate::additions::add_all;
 use crate::versions::push_run;
 use crate::{FormFault, Run, VersionSet};
-use mr_version::Version;
+use mr_version::{Author, Version};
 use std::alloc::Global;
 use std::collections::BTreeSet;
 use std::marker::Model;
@@ -25,17 +26,76 @@ impl Model for PlainVersions {
     ghost use Rattle.std.specs.Prelude.{List};
     ghost use Rattle.std.specs.Coded.{coded_list};
     ghost use Rattle.mr_version.specs.Name.{Name, name_code};
+    ghost use Rattle.mr_forms.specs.Sets.{is_listed};
+    ghost use Rattle.mr_forms.specs.Runs.{HasVersionsAlone};
 
     ghost Value = { List Name };
 
     ghost coded = { coded_list name_code };
 
     ghost view = { λ set. set.versions.keys };
+
+    ghost invariant = { λ set. HasVersionsAlone (is_listed set.versions.keys) };
+}
+
+/// The next author from this id on.
+fn next_author(versions: &BTreeSet<Version>, id: u16) -> Option<Author>
+    requires { HasVersionsAlone (is_listed versions.now.keys) }
+    ensures { MatchOption result (HasNoAuthorFrom (is_listed versions.now.keys) id) (λ author. IsNextAuthor (is_listed versions.now.keys) id author) }
+{
+    let Ok(author) = Author::try_new(id) else {
+        return None;
+    };
+    let Ok(start) = Version::try_new(author, 1) else {
+        return None;
+    };
+    let Some(next) = versions.range(start..).next() else {
+        return None;
+    };
+    Some(next.author())
+}
+
+/// The author's first counter from this one on.
+fn first_from(versions: &BTreeSet<Version>, author: Author, from: u32) -> Option<u32>
+    requires from { 1 ≤ from }
+    requires versions { HasVersionsAlone (is_listed versions.now.keys) }
+    ensures { MatchOption result (HasNoRunFrom (is_listed versions.now.keys) author from) (λ first. IsFirstFrom (is_listed versions.now.keys) author from first) }
+{
+    let Ok(start) = Version::try_new(author, from) else {
+        return None;
+    };
+    let Some(next) = versions.range(start..).next() else {
+        return None;
+    };
+    if next.author().id() == author.id() {
+        Some(next.counter())
+    } else {
+        None
+    }
+}
+
+/// The last counter of the author's unbroken run that begins here.
+fn end_of_run(versions: &BTreeSet<Version>, author: Author, first: u32) -> u32
+    requires first { (1 ≤ first) × (first ≤ 1000000) }
+    requires is_in { of_author (is_listed versions.now.keys) author first ≡ true }
+    requires versions { HasVersionsAlone (is_listed versions.now.keys) }
+    ensures { IsEndOfRun (is_listed versions.now.keys) author first result }
+{
+    for counter in first..1_000_000 {
+        let Ok(next) = Version::try_new(author, counter + 1) else {
+            return counter;
+        };
+        if !versions.contains(&next) {
+            return counter;
+        }
+    }
+    1_000_000
 }
 
 impl PlainVersions {
     /// Adds all versions of a list.
     pub(crate) fn insert_all(&mut self, versions: &[Version]) -> Result<(), FormFault>
+        requires { HasVersionsAlone (is_listed versions.now) }
         ensures ok { OnOk result (IsSame (is_listed self.new) (both (is_listed self.old) (is_listed versions.now))) }
         ensures err { OnErr result (self.new ≡ self.old) }
         ensures memory { OnErr result (result ≡ Err FormFault.OutOfMemory) }
@@ -99,7 +159,22 @@ impl VersionSet for PlainVersions {
         self.versions.contains(&version)
     }
 
+    fn next_author(&self, id: u16) -> Option<Author> {
+        next_author(&self.versions, id)
+    }
+
+    fn run_from(&self, author: Author, from: u32) -> Option<Run> {
+        let first = first_from(&self.versions, author, from)?;
+        let last = end_of_run(&self.versions, author, first);
+        Some(Run {
+            author,
+            first,
+            last,
+        })
+    }
+
     fn insert(&mut self, version: Version) -> Result<(), FormFault> {
+        prove!(version.counter() <= 1_000_000);
         self.versions.insert(version)?;
         Ok(())
     }

@@ -1,9 +1,9 @@
-ghost use Rattle.std.specs.Prelude.{◌≡◌, ◌↔◌, ◌≢◌, false, IsTrue, IfOk, OnOk, OnErr, IsErrOf, Err};
+ghost use Rattle.std.specs.Prelude.{◌≡◌, ◌≤◌, ◌↔◌, ◌≢◌, false, MatchOption, IsTrue, IfOk, OnOk, OnErr, IsErrOf, Err};
 ghost use Rattle.mr_forms.specs.Sets.{Test, IsSame, Covers, with_version, both};
-ghost use Rattle.mr_forms.specs.Runs.{with_run, AreRunsOf};
+ghost use Rattle.mr_forms.specs.Runs.{with_run, AreRunsOf, HasVersionsAlone, HasNoAuthorFrom, IsNextAuthor, HasNoRunFrom, IsRunFrom};
 
 use crate::{FormFault, Run};
-use mr_version::Version;
+use mr_version::{Author, Version};
 use std::alloc::Global;
 
 /// A set of versions, in some form.
@@ -31,6 +31,18 @@ pub trait VersionSet: Drop {
     /// Whether the set has the version.
     fn contains(&self, version: Version) -> bool
         ensures { result ≡ has self.now version };
+
+    /// The next author, from this id on, of whom the set may have something: it has nothing of those
+    /// that are passed over. `None` where it has nothing from this id on. It allocates nothing.
+    fn next_author(&self, id: u16) -> Option<Author>
+        ensures { MatchOption result (HasNoAuthorFrom (has self.now) id) (λ author. IsNextAuthor (has self.now) id author) };
+
+    /// The author's first unbroken run from this counter on, as long as can be. It allocates nothing,
+    /// so that a set can be walked where no memory is left. `from` is 1 or more.
+    fn run_from(&self, author: Author, from: u32) -> Option<Run>
+        requires { 1 ≤ from }
+        ensures run { MatchOption result (HasNoRunFrom (has self.now) author from) (λ run. IsRunFrom (has self.now) author from run) }
+        ensures versions { HasVersionsAlone (has self.now) };
 
     /// Adds one version.
     fn insert(&mut self, version: Version) -> Result<(), FormFault>

@@ -1,7 +1,7 @@
 ghost use Rattle.std.specs.Prelude.{◌≡◌, ◌||◌, OnOk, IfOk, OnErr, Err};
 ghost use Rattle.mr_version.specs.Name.{Name};
 ghost use Rattle.mr_forms.specs.Sets.{IsSame, is_listed};
-ghost use Rattle.mr_forms.specs.Runs.{in_run};
+ghost use Rattle.mr_forms.specs.Runs.{in_run, HasVersionsAlone};
 
 use crate::{FormFault, Run, VersionSet};
 use mr_version::Version;
@@ -10,6 +10,7 @@ use std::alloc::Global;
 /// Lists the versions of a run too.
 pub(crate) fn push_run(versions: &mut Vec<Version>, run: Run) -> Result<(), FormFault>
     ensures ok { OnOk result (IsSame (is_listed versions.new.items) (λ v. in_run run v || is_listed versions.old.items v)) }
+    ensures versions { HasVersionsAlone (is_listed versions.old.items) → OnOk result (HasVersionsAlone (is_listed versions.new.items)) }
     ensures memory { OnErr result (result ≡ Err FormFault.OutOfMemory) }
 {
     for counter in run.first..run.last + 1 {
@@ -23,6 +24,7 @@ pub(crate) fn push_run(versions: &mut Vec<Version>, run: Run) -> Result<(), Form
 /// The versions of a set, of any form, one by one.
 pub(crate) fn versions_in<S: VersionSet>(set: &S, alloc: Global) -> Result<Vec<Version>, FormFault>
     ensures ok { IfOk result (λ versions. IsSame (is_listed versions.items) (S.has set.now)) }
+    ensures versions { IfOk result (λ versions. HasVersionsAlone (is_listed versions.items)) }
     ensures memory { OnErr result (result ≡ Err FormFault.OutOfMemory) }
 {
     let mut versions: Vec<Version> = Vec::new(alloc);

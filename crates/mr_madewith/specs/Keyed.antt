@@ -1,12 +1,8 @@
 -- lists whose elements each have a name, in the order of the names
 use Rattle.std.specs.Prelude.{Bool, not, if◌then◌else◌, Option, List, [], ◌∷◌, map, filter, find}
 use Rattle.std.specs.List.Sorted.{IsStrictlySortedBy}
-use Rattle.std.specs.Ordering.{is_lt}
 use Rattle.mr_version.specs.Name.{Name, name_cmp, name_eq}
-
--- whether a stands before b
-abbrev pub is_before : Name → Name → Bool
-is_before a b = is_lt (name_cmp a b)
+pub use Rattle.mr_version.specs.Sets.{is_before}
 
 module _ {X : Type 0} (name : X → Name) where
   -- each name stands before those after it

@@ -9,14 +9,15 @@
 //! - each version of its author with a lower counter, whatever the item: the author's column is filled,
 //!   so that it has no holes.
 //!
-//! [`below_of`] builds the set, as a concise vector. So an author's versions of one item form a chain,
+//! [`below_of`] builds the set, as a concise vector. A revision is one shared handle, so its copies cost
+//! the same whatever it holds. An author's versions of one item form a chain,
 //! and two versions of an item are in conflict where neither's set has the other.
 //!
 //! ```
-//! let first = Revision::new(item, version, ConciseVector::new(alloc), message);
+//! let first = Revision::new(alloc, item, version, ConciseVector::new(alloc), message)?;
 //! trail.note(&first)?;
-//! let below = below_of(alloc, &[&first], trail.last(item), next)?;
-//! let second = Revision::new(item, next, below, reply);
+//! let below = below_of(alloc, &first, trail.last(item), next)?;
+//! let second = Revision::new(alloc, item, next, below, reply)?;
 //! assert!(second.supersedes(version));
 //! ```
 #![tactic(auto)]
@@ -27,4 +28,4 @@ mod trail;
 
 pub use below::below_of;
 pub use revision::Revision;
-pub use trail::{Last, Trail};
+pub use trail::Trail;

@@ -3,109 +3,21 @@ ghost use Rattle.std.specs.Prelude.{◌≡◌, ◌<◌, [], IfOk, IfErr, OnOk, O
 ghost use Rattle.std.specs.Option.{option_copied};
 ghost use Rattle.mr_madewith.specs.Keyed.{AreRising};
 ghost use Rattle.mr_madewith.specs.Search.{IsFoundAt, IsGapFor};
-ghost use Rattle.mr_madewith.specs.Trail.{item_of_last, last_of, noted, own_of, by_last};
+ghost use Rattle.mr_madewith.specs.Trail.{item_of_last, last_of, noted};
 
 use crate::Revision;
-use mr_concise::{ConciseVector, Source};
-use mr_forms::VersionSet;
-use mr_version::{Author, ItemId, Version};
+use mr_version::ItemId;
 use std::alloc::{AllocError, Global};
 use std::marker::Model;
 
-/// An author's last version of an item, with the versions that it supersedes.
-#[derive(Debug, Drop)]
-pub struct Last {
-    item: ItemId,
-    version: Version,
-    below: ConciseVector,
-}
-
-impl Model for Last {
-    ghost use Rattle.mr_madewith.specs.Trail.{Own, own_code};
-
-    ghost Value = { Own };
-
-    ghost coded = { own_code };
-
-    ghost view = { λ l. record { item = l.item; version = l.version; below = l.below } };
-}
-
-impl Last {
-    /// The revision as the last version of its item. It costs a copy of its made-with set.
-    pub fn of(revision: &Revision) -> Result<Last, AllocError>
-        ensures { IfOk result (λ last. last ≡ own_of revision.now) }
-    {
-        let Ok(below) = revision.below().copy() else {
-            return Err(AllocError);
-        };
-        Ok(Last {
-            item: revision.item(),
-            version: revision.version(),
-            below,
-        })
-    }
-
-    /// The item.
-    pub fn item(&self) -> ItemId
-        ensures { result ≡ self.now.item }
-    {
-        self.item
-    }
-
-    /// The version.
-    pub fn version(&self) -> Version
-        ensures { result ≡ self.now.version }
-    {
-        self.version
-    }
-
-    /// The versions that it supersedes.
-    pub fn below(&self) -> &ConciseVector
-        ensures { result.now ≡ self.now.below }
-    {
-        &self.below
-    }
-
-    /// An equal value. It costs a copy of what the version supersedes.
-    pub fn copy(&self) -> Result<Last, AllocError>
-        ensures { IfOk result (λ last. last ≡ self.now) }
-    {
-        let Ok(below) = self.below.copy() else {
-            return Err(AllocError);
-        };
-        Ok(Last {
-            item: self.item,
-            version: self.version,
-            below,
-        })
-    }
-}
-
-/// The version, with all that it supersedes.
-impl Source for Last {
-    ghost has = { by_last };
-
-    fn next_author(&self, id: u16) -> Option<Author> {
-        (self.version, &self.below).next_author(id)
-    }
-
-    fn next_out(&self, author: Author, from: u32) -> u32 {
-        (self.version, &self.below).next_out(author, from)
-    }
-
-    fn next_in(&self, author: Author, from: u32) -> Option<u32> {
-        (self.version, &self.below).next_in(author, from)
-    }
-}
-
 /// An author's last version of each item of which it made one.
 ///
-/// It keeps what such a version superseded after that version has left the store, so that the author's
+/// It keeps such a version, with what this supersedes, after it has left the store, so that the author's
 /// versions of an item form a chain.
 #[derive(Debug, Drop)]
 pub struct Trail {
     alloc: Global,
-    lasts: Vec<Last>,
+    lasts: Vec<Revision>,
 }
 
 impl Model for Trail {
@@ -132,7 +44,7 @@ impl Trail {
     }
 
     /// The author's last version of the item. It costs a binary search.
-    pub fn last(&self, item: ItemId) -> Option<&Last>
+    pub fn last(&self, item: ItemId) -> Option<&Revision>
         ensures { option_copied result ≡ last_of self.now.lasts item }
     {
         match search(&self.lasts, item) {
@@ -141,13 +53,13 @@ impl Trail {
         }
     }
 
-    /// Notes the revision as the last version of its item. It costs a copy of the made-with set, a
-    /// binary search, and a shift where the item is new.
+    /// Notes the revision as the last version of its item: the trail becomes one more of its owners.
+    /// It costs a binary search, and a shift where the item is new.
     pub fn note(&mut self, revision: &Revision) -> Result<(), AllocError>
-        ensures ok { OnOk result (self.new.lasts ≡ noted (own_of revision.now) self.old.lasts) }
+        ensures ok { OnOk result (self.new.lasts ≡ noted revision.now self.old.lasts) }
         ensures err { OnErr result (self.new ≡ self.old) }
     {
-        let last = Last::of(revision)?;
+        let last = revision.copy()?;
         self.reserve()?;
         self.note_reserved(last);
         Ok(())
@@ -164,7 +76,7 @@ impl Trail {
 
     /// Notes the last version of its item, for which there is room: it can't fail. It costs a binary
     /// search, and a shift where the item is new.
-    pub fn note_reserved(&mut self, last: Last)
+    pub fn note_reserved(&mut self, last: Revision)
         requires { 0 < self.old.room }
         ensures { self.new.lasts ≡ noted last self.old.lasts }
     {
@@ -174,7 +86,7 @@ impl Trail {
         }
     }
 
-    /// A trail with equal last versions. It costs a copy of what each of them supersedes.
+    /// A trail with equal last versions, which share their parts.
     pub fn copy(&self) -> Result<Trail, AllocError>
         ensures { IfOk result (λ trail. trail.lasts ≡ self.now.lasts) }
     {
@@ -190,7 +102,7 @@ impl Trail {
 }
 
 // Where the item's last version is, or where it would go.
-fn search(lasts: &[Last], item: ItemId) -> Result<usize, usize>
+fn search(lasts: &[Revision], item: ItemId) -> Result<usize, usize>
     requires { AreRising item_of_last lasts.now }
     ensures found { IfOk result (IsFoundAt item_of_last item lasts.now) }
     ensures absent { IfErr result (IsGapFor item_of_last item lasts.now) }

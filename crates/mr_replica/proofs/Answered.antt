@@ -1,74 +1,112 @@
--- an event's revision that was issued, or was not, answers it
-use Rattle.std.proofs.Common.{◌≡◌, ◌≢◌, IsErrOf, subst, ◌∙◌, [], ◌∷◌, Result, Ok, Err, inl, inr}
+-- an event's issue that was made, or was not, answers it
+use Rattle.std.proofs.Common.{◌≡◌, ◌≢◌, ◌↔◌, IsErrOf, sym, subst, ◌∙◌, List, [], ◌∷◌, Result, Ok, Err, inl, inr}
 use Rattle.std.specs.List.{All}
 use Rattle.std.proofs.lemmas.List.Elements.{All-nil, All-cons}
-use Rattle.mr_forms.specs.Sets.{Test}
+use Rattle.mr_version.specs.Name.{Name}
+use Rattle.mr_forms.specs.Known.{Pairs, Form, IsOnlyOverItems}
 use Rattle.mr_forms.specs.declared.fault.FormFault.{FormFault}
 use Rattle.mr_forms.specs.declared.fault.FormFault.TheVariants as faults
-use Rattle.mr_forms.specs.Known.{Form, AreSame, IsOnlyOverItems}
+use Rattle.mr_concise.specs.declared.vector.AuthorColumn.{AuthorColumn}
 use Rattle.mr_concise.specs.Vector.{HasTooManyHoles}
-use Rattle.mr_madewith.specs.Revision.{Rev}
+use Rattle.mr_mail.specs.Mail.{Mail}
+use Rattle.mr_madewith.specs.MadeWith.{AreColumnsOf}
 use Rattle.mr_replica.specs.State.{State}
-use Rattle.mr_replica.specs.Step.{Wanted.Vector, Wanted.Knowledge, issued_item, issued_below, message_of, version_learned, wanted_by, Fits, HasFault, FirstFault, issuing, logged, Issues, RefusesLate, Answers}
-use Rattle.mr_replica.specs.Issue.{IsNext, RefusesVector, RefusesVersion, IssuesRevision}
 use Rattle.mr_replica.specs.Refusal.{refusal_of}
+use Rattle.mr_replica.specs.Issue.{Issue, Wanted.Vector, Wanted.Knowledge, below_of_issue, version_learned, wanted_by_issue, Fits, FirstFault, revision_for, Issues}
+use Rattle.mr_replica.specs.Issued.{RefusesMade, IssuesRevision}
+use Rattle.mr_replica.specs.Create.{created}
+use Rattle.mr_replica.specs.Edit.{edited}
+use Rattle.mr_replica.specs.Step.{Answers}
 use Rattle.mr_replica.specs.declared.event.Event.{Event}
+use Rattle.mr_replica.specs.declared.event.Event.TheVariants.{Create, Edit}
 use Rattle.mr_replica.specs.declared.event.Reply.{Reply}
 use Rattle.mr_replica.specs.declared.event.Reply.TheVariants.{Issued}
 use Rattle.mr_replica.specs.declared.refusal.Refusal.{Refusal}
 use Rattle.mr_replica.specs.declared.refusal.Refusal.TheVariants.{OutOfMemory, NoBase, NotHeld, MixedItems, OwnHeadLeft, TooManyHoles, TooManyItems, LogFull}
 
-module _ {K : Type 0} (form : Form K) (s : State K) (event : Event) where
-  -- where there is no vector, the event is refused so
-  pub refused_vector : (e : Refusal) → RefusesVector (issued_below s event) e → RefusesLate form s event e
-  refused_vector OutOfMemory h = tt
-  refused_vector NoBase h = absurd h
-  refused_vector (NotHeld v) h = absurd h
-  refused_vector MixedItems h = absurd h
-  refused_vector (OwnHeadLeft v) h = absurd h
-  refused_vector TooManyHoles h = inl h
-  refused_vector TooManyItems h = absurd h
-  refused_vector LogFull h = absurd h
+-- the fault of learning a version where memory is there, as a refusal
+pub refused_learning : {K V : Type 0} (form : Form K) (made : Result V FormFault) (pairs : Pairs) (f : FormFault) → made ≢ Err faults.TooManyHoles → f ≢ faults.OutOfMemory
+    → (f ≡ faults.TooManyHoles → form.has_too_many_holes pairs) → (f ≡ faults.TooManyItems → IsOnlyOverItems form pairs) → RefusesMade form made pairs (refusal_of f)
+refused_learning form made pairs faults.OutOfMemory few memory holes items = absurd (memory (λ i. faults.OutOfMemory))
+refused_learning form made pairs faults.TooManyHoles few memory holes items = inr (few, holes (λ i. faults.TooManyHoles))
+refused_learning form made pairs faults.TooManyItems few memory holes items = (few, items (λ i. faults.TooManyItems))
 
-  module _ (new : State K) (r : Rev) (next : IsNext s event r) where
-    all_fit : Fits form (Knowledge (version_learned form s r.item)) → All (Fits form) (wanted_by form s event)
-    all_fit fits =
-        All-cons (Fits form) (Vector (issued_below s event)) (Knowledge (version_learned form s (issued_item s event)) ∷ []) next.fits
-        (All-cons (Fits form) (Knowledge (version_learned form s (issued_item s event))) [] (subst (λ i. Fits form (Knowledge (version_learned form s i))) next.item fits) (All-nil (Fits form)))
+module _ {K : Type 0} (form : Form K) (s : State K) (i : Issue) (event : Event) where
+  -- what comes of an issue
+  abbrev pub AnswersIssue : Result Reply Refusal → State K → Type 0
+  AnswersIssue (Ok (Issued v)) new = All (Fits form) (wanted_by_issue form s i) × Issues form s i v event new
+  AnswersIssue (Err OutOfMemory) new = All (Fits form) (wanted_by_issue form s i) × (new ≡ s)
+  AnswersIssue (Err e) new = FirstFault form e (wanted_by_issue form s i) × (new ≡ s)
 
-    issues : AreSame (form.known new.knowledge) (version_learned form s r.item) → new ≡ logged (issuing s new.knowledge r) event
-        → Issues form s (issued_item s event) (issued_below s event) (message_of event) event new
-    issues known is = (
-      r.below,
-      next.below,
-      subst (λ i. AreSame (form.known new.knowledge) (version_learned form s i)) next.item known,
-      is ∙ (λ j. logged (issuing s new.knowledge (record { item = next.item j; version = next.version j; below = r.below; message = next.message j })) event),
-    )
+  -- the vector that was made, or was not
+  module _ (made : Result (List AuthorColumn) FormFault) (holes : IsErrOf made faults.TooManyHoles ↔ HasTooManyHoles (below_of_issue s i)) where
+    vector_fits : made ≢ Err faults.TooManyHoles → Fits form (Vector (below_of_issue s i))
+    vector_fits few many = few (holes.1 many)
 
-    fault_at : (e : Refusal) → HasFault form e (Knowledge (version_learned form s r.item)) → FirstFault form e (wanted_by form s event)
-    fault_at e h = inr (next.fits, inl (subst (λ i. HasFault form e (Knowledge (version_learned form s i))) next.item h))
+    all_fit : made ≢ Err faults.TooManyHoles → Fits form (Knowledge (version_learned form s i.item)) → All (Fits form) (wanted_by_issue form s i)
+    all_fit few fits =
+        All-cons (Fits form) (Vector (below_of_issue s i)) (Knowledge (version_learned form s i.item) ∷ []) (vector_fits few)
+        (All-cons (Fits form) (Knowledge (version_learned form s i.item)) [] fits (All-nil (Fits form)))
 
-    pub answers_issued : (answer : Result Reply Refusal) → IssuesRevision form s r event answer new → Answers form s event answer new
-    answers_issued (Ok (Issued v)) h = (h.0 ∙ next.version, all_fit h.1, issues h.2 h.3)
-    answers_issued (Err OutOfMemory) h = h
-    answers_issued (Err NoBase) h = absurd h.0
-    answers_issued (Err (NotHeld v)) h = absurd h.0
-    answers_issued (Err MixedItems) h = absurd h.0
-    answers_issued (Err (OwnHeadLeft v)) h = absurd h.0
-    answers_issued (Err TooManyHoles) h = (fault_at TooManyHoles h.0, h.1)
-    answers_issued (Err TooManyItems) h = (fault_at TooManyItems h.0, h.1)
-    answers_issued (Err LogFull) h = absurd h.0
+    -- an issue that was not admitted
+    pub refused_issue : (e : Refusal) (answer : Result Reply Refusal) (new : State K) → answer ≡ Err e → new ≡ s → RefusesMade form made (version_learned form s i.item) e → AnswersIssue answer new
+    refused_issue e answer new is same h = subst (λ (a : Result Reply Refusal). AnswersIssue a new) (sym is) (go e h)
+      where
+        go : (e : Refusal) → RefusesMade form made (version_learned form s i.item) e → AnswersIssue (Err e) new
+        go OutOfMemory h = (all_fit (λ many. cc (sym h.0 ∙ many)) h.1, same)
+        go NoBase h = absurd h
+        go (NotHeld v) h = absurd h
+        go MixedItems h = absurd h
+        go (OwnHeadLeft v) h = absurd h
+        go TooManyHoles (inl many) = (inl (holes.0 many), same)
+        go TooManyHoles (inr h) = (inr (vector_fits h.0, inl h.1), same)
+        go TooManyItems h = (inr (vector_fits h.0, inl h.1), same)
+        go LogFull h = absurd h
 
--- the fault of a call that makes a vector, as a refusal
-pub refused_fault : {T : Type 0} (set : Test) (f : FormFault) (r : Result T FormFault) → r ≡ Err f → (IsErrOf r faults.TooManyHoles → HasTooManyHoles set) → r ≢ Err faults.TooManyItems → RefusesVector set (refusal_of f)
-refused_fault set faults.OutOfMemory r is holes items = tt
-refused_fault set faults.TooManyHoles r is holes items = holes is
-refused_fault set faults.TooManyItems r is holes items = absurd (items is)
+    -- an issue that found no memory
+    pub unmade_issue : (answer : Result Reply Refusal) (new : State K) → answer ≡ Err OutOfMemory → new ≡ s → made ≢ Err faults.TooManyHoles → Fits form (Knowledge (version_learned form s i.item)) → AnswersIssue answer new
+    unmade_issue answer new is same few fits = subst (λ (a : Result Reply Refusal). AnswersIssue a new) (sym is) (all_fit few fits, same)
 
--- the fault of learning the version, as a refusal
-pub refused_learning : {K T : Type 0} (form : Form K) (s : State K) (r : Rev) (f : FormFault) (answer : Result T FormFault) → answer ≡ Err f
-    → (IsErrOf answer faults.TooManyHoles → form.has_too_many_holes (version_learned form s r.item))
-    → (IsErrOf answer faults.TooManyItems → IsOnlyOverItems form (version_learned form s r.item)) → RefusesVersion form s r (refusal_of f)
-refused_learning form s r faults.OutOfMemory answer is holes items = tt
-refused_learning form s r faults.TooManyHoles answer is holes items = holes is
-refused_learning form s r faults.TooManyItems answer is holes items = items is
+    -- an issue that was admitted
+    pub answers_issue : (answer : Result Reply Refusal) (new : State K) (columns : List AuthorColumn) → made ≡ Ok columns → AreColumnsOf (below_of_issue s i) columns → Fits form (Knowledge (version_learned form s i.item))
+        → IssuesRevision form s (revision_for s i columns) event answer new → AnswersIssue answer new
+    answers_issue answer new columns is of fits h = go answer h
+      where
+        few : made ≢ Err faults.TooManyHoles
+        few many = cc (sym is ∙ many)
+
+        go : (answer : Result Reply Refusal) → IssuesRevision form s (revision_for s i columns) event answer new → AnswersIssue answer new
+        go (Ok (Issued v)) h = (all_fit few fits, (h.0, columns, of, h.1, h.2))
+        go (Err OutOfMemory) h = (all_fit few fits, h.1)
+        go (Err NoBase) h = cc h.0
+        go (Err (NotHeld v)) h = cc h.0
+        go (Err MixedItems) h = cc h.0
+        go (Err (OwnHeadLeft v)) h = cc h.0
+        go (Err TooManyHoles) h = cc h.0
+        go (Err TooManyItems) h = cc h.0
+        go (Err LogFull) h = cc h.0
+
+module _ {K : Type 0} (form : Form K) (s : State K) where
+  -- it answers a Create
+  pub answers_create : (message : Mail) (answer : Result Reply Refusal) (new : State K) → AnswersIssue form s (created s message) (Create message) answer new → Answers form s (Create message) answer new
+  answers_create message (Ok (Issued v)) new h = h
+  answers_create message (Err OutOfMemory) new h = h
+  answers_create message (Err NoBase) new h = h
+  answers_create message (Err (NotHeld v)) new h = h
+  answers_create message (Err MixedItems) new h = h
+  answers_create message (Err (OwnHeadLeft v)) new h = h
+  answers_create message (Err TooManyHoles) new h = h
+  answers_create message (Err TooManyItems) new h = h
+  answers_create message (Err LogFull) new h = h
+
+  -- it answers an Edit
+  pub answers_edit : (bases : List Name) (message : Mail) (answer : Result Reply Refusal) (new : State K) → AnswersIssue form s (edited s bases message) (Edit bases message) answer new → Answers form s (Edit bases message) answer new
+  answers_edit bases message (Ok (Issued v)) new h = h
+  answers_edit bases message (Err OutOfMemory) new h = h
+  answers_edit bases message (Err NoBase) new h = h
+  answers_edit bases message (Err (NotHeld v)) new h = h
+  answers_edit bases message (Err MixedItems) new h = h
+  answers_edit bases message (Err (OwnHeadLeft v)) new h = h
+  answers_edit bases message (Err TooManyHoles) new h = h
+  answers_edit bases message (Err TooManyItems) new h = h
+  answers_edit bases message (Err LogFull) new h = h

@@ -1,21 +1,31 @@
 -- what an admitted edit supersedes: all of it was issued before, and the item is among it
-use Rattle.std.proofs.Common.{◌≡◌, ◌≤◌, ◌+◌, ℕ, true, false, not, ◌&&◌, ◌||◌, ◌==◌, nat_le, nat_lt, refl, sym, ap, subst, ◌∙◌, arith, List, [], ◌∷◌, Option, Some, None, inl, inr}
-use Rattle.std.specs.List.{list_any, cons_option}
+use Rattle.std.proofs.Common.{◌≡◌, ◌≤◌, ◌+◌, ℕ, Bool, true, false, not, ◌&&◌, ◌||◌, ◌==◌, nat_le, nat_lt, refl, sym, ap, subst, ◌∙◌, arith, List, [], ◌∷◌, ◌++◌, Option, Some, None, inl, inr}
+use Rattle.std.specs.List.{list_any, cons_option, filter_map}
 use Rattle.std.specs.Option.{option_map, option_map_or, is_none}
 use Rattle.std.proofs.lemmas.Bool.{cases_Bool, and_parts, or_cases, or_left, or_right, ltb-true}
 use Rattle.mr_version.specs.Name.{Name, name_eq}
-use Rattle.mr_forms.specs.Sets.{IsSame, with_version}
+use Rattle.mr_forms.specs.Sets.{IsSame}
 use Rattle.mr_concise.specs.declared.vector.AuthorColumn.{AuthorColumn}
 use Rattle.mr_concise.specs.Source.{in_some}
 use Rattle.mr_concise.specs.Vector.{vector_has}
 use Rattle.mr_madewith.specs.Revision.{Rev, IsRevision, has_below, by_base}
-use Rattle.mr_madewith.specs.Trail.{Own, last_of, by_last}
-use Rattle.mr_madewith.specs.MadeWith.{own_before, made_with}
+use Rattle.mr_madewith.specs.Trail.{last_of}
+use Rattle.mr_madewith.specs.MadeWith.{own_before, by_bases, filled_below, AreColumnsOf}
 use Rattle.mr_madewith.proofs.Rising.{same_names, name_eq_self, unnamed}
-use Rattle.mr_replica.specs.Heads.{held}
-use Rattle.mr_replica.specs.State.{State}
+use Rattle.std.specs.List.{All}
+use Rattle.std.proofs.lemmas.List.Elements.{All-append}
+use Rattle.mr_concise.specs.AllOf.{in_all}
+use Rattle.mr_store.specs.Revisions.{revision_of}
+use Rattle.mr_store.specs.Holdings.{Holdings}
+use Rattle.mr_store.specs.HeldVersions.{by_held}
+use Rattle.mr_replica.specs.State.{State, next_version, held, item_of_held}
+use Rattle.mr_replica.specs.Refusal.{◌orelse◌, refused_if}
 use Rattle.mr_replica.specs.Sound.{IsNoLater, AreNoLater, IsSound}
-use Rattle.mr_replica.specs.Step.{◌orelse◌, refused_if, next_version, log_full, not_held, item_of, are_all_of, own_left, base_refusal, edit_refusal, edited_item, revisions_of, edited_below}
+use Rattle.mr_replica.specs.Issue.{revisions_of, below_for}
+use Rattle.mr_mail.specs.Mail.{Mail}
+use Rattle.mr_replica.specs.Issued.{IsNext}
+use Rattle.mr_replica.specs.Create.{log_full}
+use Rattle.mr_replica.specs.Edit.{not_held, are_all_of, own_left, item_refusal, edit_refusal, edited_item}
 use Rattle.mr_replica.specs.declared.refusal.Refusal.TheVariants.{NotHeld, MixedItems, OwnHeadLeft}
 use Rattle.mr_replica.proofs.Choice.{first_none, map_none, found_has}
 
@@ -25,44 +35,76 @@ lower a b c n h =
     let parts = and_parts (a == b) (nat_le 1 c && nat_lt c (n + 1)) h in
     omega (arith, ltb-true c (n + 1) (and_parts (nat_le 1 c) (nat_lt c (n + 1)) parts.1).1)
 
+-- ---- the sources of an edit's made-with set
+
+found_base : (v : Name) (o : Option Rev) (has : Bool) (rest : List Rev) → has ≡ by_bases rest v → (in_some by_base o v || has) ≡ by_bases (cons_option o rest) v
+found_base v None has rest is = is
+found_base v (Some r) has rest is = ap (λ c. by_base r v || c) is
+
+found_bases : (find : Name → Option Rev) (bases : List Name) (v : Name) → list_any (λ b. in_some by_base (find b) v) bases ≡ by_bases (filter_map find bases) v
+found_bases find [] v = refl
+found_bases find (b ∷ bs) v = found_base v (find b) (list_any (λ b. in_some by_base (find b) v) bs) (filter_map find bs) (found_bases find bs v)
+
+module _ {K : Type 0} (s : State K) where
+  -- the held bases, the last version and the own column are what an admitted edit supersedes
+  pub below_for-sources : (h : Holdings) (item : Name) (bases : List Name) (last : Option Rev) (new : Name) → h.heads ≡ s.heads → h.push_outs ≡ s.push_outs → last ≡ last_of s.trail item → new ≡ next_version s
+      → edit_refusal s bases ≡ None → filled_below (in_all (by_held h) bases) last new ≡ below_for s item bases
+  below_for-sources h item [] last new heads push_outs last_is new_is admitted = cc admitted
+  below_for-sources h item (b ∷ bs) last new heads push_outs last_is new_is admitted =
+      let lists : h.heads ++ h.push_outs ≡ s.heads ++ s.push_outs = ap (λ (rs : List Rev). rs ++ h.push_outs) heads ∙ ap (λ (rs : List Rev). s.heads ++ rs) push_outs in
+      let of_bases : (v : Name) → in_all (by_held h) (b ∷ bs) v ≡ by_bases (revisions_of s (b ∷ bs)) v =
+      λ v. found_bases (λ u. revision_of (h.heads ++ h.push_outs) u) (b ∷ bs) v ∙ ap (λ (rs : List Rev). by_bases (filter_map (λ u. revision_of rs u) (b ∷ bs)) v) lists in
+      let same : (v : Name) → filled_below (in_all (by_held h) (b ∷ bs)) last new v ≡ below_for s item (b ∷ bs) v =
+      λ v. ap (λ c. (c || in_some by_base last v) || own_before new v) (of_bases v)
+      ∙ ap (λ (o : Option Rev). (by_bases (revisions_of s (b ∷ bs)) v || in_some by_base o v) || own_before new v) last_is
+      ∙ ap (λ (n : Name). (by_bases (revisions_of s (b ∷ bs)) v || in_some by_base (last_of s.trail item) v) || own_before n v) new_is in
+      λ i v. same v i
+
 module _ {K : Type 0} (s : State K) (sound : IsSound s) where
+  -- what all held revisions are
+  held_are : All (λ r. IsRevision r.item r.version r.below) (s.heads ++ s.push_outs)
+  held_are = All-append (λ r. IsRevision r.item r.version r.below) s.heads s.push_outs sound.heads_issued.are sound.push_outs_issued.are
+
+  held_no_later : All (λ r. AreNoLater s.id s.issued r.version r.below) (s.heads ++ s.push_outs)
+  held_no_later = All-append (λ r. AreNoLater s.id s.issued r.version r.below) s.heads s.push_outs sound.heads_issued.no_later sound.push_outs_issued.no_later
+
   -- a version with all that it supersedes
-  no_later_up_to : (version : Name) (below : List AuthorColumn) → AreNoLater s.id s.issued version below → (v : Name) → with_version (vector_has below) version v ≡ true → IsNoLater s.id s.issued v
-  no_later_up_to version below h v in' =
-      elim (or_cases (name_eq version v) (vector_has below v) in') [
-        | inl same ↦ subst (IsNoLater s.id s.issued) (same_names version v same) h.itself
+  no_later_up_to : (r : Rev) → AreNoLater s.id s.issued r.version r.below → (v : Name) → by_base r v ≡ true → IsNoLater s.id s.issued v
+  no_later_up_to r h v in' =
+      elim (or_cases (name_eq r.version v) (has_below r v) in') [
+        | inl same ↦ subst (IsNoLater s.id s.issued) (same_names r.version v same) h.itself
         | inr is_below ↦ h.all_below v is_below
       ]
 
   -- a base that is held, or a later one
-  no_later_by_held : (base v : Name) (rest : List Rev) (o : Option Rev) → held s.heads base ≡ o → (list_any (λ r. by_base r v) rest ≡ true → IsNoLater s.id s.issued v)
-      → list_any (λ r. by_base r v) (cons_option o rest) ≡ true → IsNoLater s.id s.issued v
+  no_later_by_held : (base v : Name) (rest : List Rev) (o : Option Rev) → held s base ≡ o → (by_bases rest v ≡ true → IsNoLater s.id s.issued v)
+      → by_bases (cons_option o rest) v ≡ true → IsNoLater s.id s.issued v
   no_later_by_held base v rest None is later in' = later in'
   no_later_by_held base v rest (Some r) is later in' =
-      elim (or_cases (by_base r v) (list_any (λ r. by_base r v) rest) in') [
-        | inl here ↦ no_later_up_to r.version r.below (found_has (λ r. AreNoLater s.id s.issued r.version r.below) (λ r. name_eq r.version base) s.heads r sound.heads_no_later is).0 v here
+      elim (or_cases (by_base r v) (by_bases rest v) in') [
+        | inl here ↦ no_later_up_to r (found_has (λ r. AreNoLater s.id s.issued r.version r.below) (λ r. name_eq r.version base) (s.heads ++ s.push_outs) r held_no_later is).0 v here
         | inr there ↦ later there
       ]
 
-  no_later_by_bases : (v : Name) (bases : List Name) → list_any (λ r. by_base r v) (revisions_of s bases) ≡ true → IsNoLater s.id s.issued v
+  no_later_by_bases : (v : Name) (bases : List Name) → by_bases (revisions_of s bases) v ≡ true → IsNoLater s.id s.issued v
   no_later_by_bases v [] in' = cc in'
-  no_later_by_bases v (b ∷ bs) in' = no_later_by_held b v (revisions_of s bs) (held s.heads b) refl (no_later_by_bases v bs) in'
+  no_later_by_bases v (b ∷ bs) in' = no_later_by_held b v (revisions_of s bs) (held s b) refl (no_later_by_bases v bs) in'
 
   -- the last own version of the item
-  no_later_by_last : (item v : Name) (o : Option Own) → last_of s.trail item ≡ o → in_some by_last o v ≡ true → IsNoLater s.id s.issued v
+  no_later_by_last : (item v : Name) (o : Option Rev) → last_of s.trail item ≡ o → in_some by_base o v ≡ true → IsNoLater s.id s.issued v
   no_later_by_last item v None is in' = cc in'
   no_later_by_last item v (Some l) is in' =
-      no_later_up_to l.version l.below (found_has (λ l. AreNoLater s.id s.issued l.version l.below) (λ l. name_eq l.item item) s.trail l sound.trail_no_later is).0 v in'
+      no_later_up_to l (found_has (λ l. AreNoLater s.id s.issued l.version l.below) (λ l. name_eq l.item item) s.trail l sound.trail_issued.no_later is).0 v in'
 
-  -- all that an edit of these bases supersedes was issued before, where it is of the own ones
-  pub edited_no_later : (bases : List Name) (v : Name) → edited_below s bases v ≡ true → IsNoLater s.id s.issued v
-  edited_no_later bases v in' =
-      let item = edited_item s bases in
-      let by_bases = list_any (λ r. by_base r v) (revisions_of s bases) in
-      let by_own = in_some by_last (last_of s.trail item) v in
-      elim (or_cases (by_bases || by_own) (own_before (next_version s) v) in') [
-        | inl by ↦ elim (or_cases by_bases by_own by) [
-          | inl base ↦ no_later_by_bases v bases base
+  -- all that a version with these bases supersedes was issued before, where it is of the own ones
+  below_no_later : (item : Name) (bases : List Name) (v : Name) → below_for s item bases v ≡ true → IsNoLater s.id s.issued v
+  below_no_later item [] v in' = cc in'
+  below_no_later item (b ∷ bs) v in' =
+      let of_bases = by_bases (revisions_of s (b ∷ bs)) v in
+      let of_last = in_some by_base (last_of s.trail item) v in
+      elim (or_cases (of_bases || of_last) (own_before (next_version s) v) in') [
+        | inl by ↦ elim (or_cases of_bases of_last by) [
+          | inl base ↦ no_later_by_bases v (b ∷ bs) base
           | inr last ↦ no_later_by_last item v (last_of s.trail item) refl last
         ]
         | inr own ↦ λ _. lower v.author s.id v.counter s.issued own
@@ -76,23 +118,23 @@ module _ {K : Type 0} (s : State K) (sound : IsSound s) where
         | inr apart ↦ or_right (name_eq r.version r.item) (has_below r r.item) (is.later (λ same. cc (sym apart ∙ ap (λ v. name_eq v r.item) same ∙ name_eq_self r.item)))
       ]
 
-  has_item_by : (b : Name) (rest : List Rev) (last : Option Own) (new : Name) (o : Option Rev) → held s.heads b ≡ o → is_none o ≡ false
-      → made_with (cons_option o rest) last new (option_map_or (λ r. r.item) o b) ≡ true
+  has_item_by : (b : Name) (rest : List Rev) (last : Option Rev) (new : Name) (o : Option Rev) → held s b ≡ o → is_none o ≡ false
+      → filled_below (by_bases (cons_option o rest)) last new (option_map_or (λ r. r.item) o b) ≡ true
   has_item_by b rest last new None is held_one = cc held_one
   has_item_by b rest last new (Some r) is held_one =
-      let of : IsRevision r.item r.version r.below = (found_has (λ r. IsRevision r.item r.version r.below) (λ r. name_eq r.version b) s.heads r sound.heads_are is).0 in
+      let of : IsRevision r.item r.version r.below = (found_has (λ r. IsRevision r.item r.version r.below) (λ r. name_eq r.version b) (s.heads ++ s.push_outs) r held_are is).0 in
       rw (has_first r of) refl
 
   -- an admitted edit supersedes the item's first version
-  pub edited_has_item : (bases : List Name) → edit_refusal s bases ≡ None → edited_below s bases (edited_item s bases) ≡ true
-  edited_has_item [] admitted = cc admitted
-  edited_has_item (b ∷ bs) admitted =
+  below_has_item : (bases : List Name) → edit_refusal s bases ≡ None → below_for s (edited_item s bases) bases (edited_item s bases) ≡ true
+  below_has_item [] admitted = cc admitted
+  below_has_item (b ∷ bs) admitted =
       let bases = b ∷ bs in
-      let mixed = refused_if (not (are_all_of s (item_of s b) bases)) MixedItems in
-      let left = option_map OwnHeadLeft (own_left s (item_of s b) bases) in
-      let no_base : base_refusal s bases ≡ None = first_none (base_refusal s bases) (log_full s) admitted in
-      let all_held : not_held s bases ≡ None = map_none NotHeld (not_held s bases) (first_none (option_map NotHeld (not_held s bases)) (mixed orelse left) no_base) in
-      has_item_by b (revisions_of s bs) (last_of s.trail (item_of s b)) (next_version s) (held s.heads b) refl (unnamed (is_none (held s.heads b)) b (not_held s bs) all_held)
+      let later = option_map OwnHeadLeft (own_left s (item_of_held s b) bases) orelse log_full s in
+      let mixed = refused_if (not (are_all_of s (item_of_held s b) bases)) MixedItems in
+      let one_item : item_refusal s bases ≡ None = first_none (item_refusal s bases) later admitted in
+      let all_held : not_held s bases ≡ None = map_none NotHeld (not_held s bases) (first_none (option_map NotHeld (not_held s bases)) mixed one_item) in
+      has_item_by b (revisions_of s bs) (last_of s.trail (item_of_held s b)) (next_version s) (held s b) refl (unnamed (is_none (held s b)) b (not_held s bs) all_held)
 
   -- the next version is not below itself, since its counter was not issued yet
   lacks_next : (below : List AuthorColumn) → ((v : Name) → vector_has below v ≡ true → IsNoLater s.id s.issued v) → vector_has below (next_version s) ≡ false
@@ -102,14 +144,37 @@ module _ {K : Type 0} (s : State K) (sound : IsSound s) where
         | inr out ↦ out
       ]
 
-  -- so the next version of the item, with what it supersedes, is a revision
-  pub edited_is : (bases : List Name) (below : List AuthorColumn) → edit_refusal s bases ≡ None → IsSame (vector_has below) (edited_below s bases)
-      → IsRevision (edited_item s bases) (next_version s) below
-  edited_is bases below admitted same =
-      let lacks : vector_has below (next_version s) ≡ false = lacks_next below (λ v in'. edited_no_later bases v (sym (same v) ∙ in')) in
-      let has : vector_has below (edited_item s bases) ≡ true = same (edited_item s bases) ∙ edited_has_item bases admitted in
+  -- so the next version of the item, with what an admitted edit supersedes, is a revision
+  pub edited_next : (bases : List Name) (message : Mail) (below : List AuthorColumn) → edit_refusal s bases ≡ None → AreColumnsOf (below_for s (edited_item s bases) bases) below
+      → IsNext s (record { item = edited_item s bases; version = next_version s; below = below; message = message })
+  edited_next bases message below admitted columns =
+      let item = edited_item s bases in
+      let no_later : (v : Name) → vector_has below v ≡ true → IsNoLater s.id s.issued v = λ v in'. below_no_later item bases v (sym (columns.same v) ∙ in') in
+      let lacks : vector_has below (next_version s) ≡ false = lacks_next below no_later in
+      let has : vector_has below item ≡ true = columns.same item ∙ below_has_item bases admitted in
       record {
-        lacks_itself = lacks;
-        first = λ is. cc (sym lacks ∙ ap (vector_has below) is ∙ has);
-        later = λ _. has;
+        version = refl;
+        is = record {
+          lacks_itself = lacks;
+          first = λ is. cc (sym lacks ∙ ap (vector_has below) is ∙ has);
+          later = λ _. has;
+        };
+        no_later = no_later;
       }
+
+-- the columns of no version
+pub no_columns : (below : List AuthorColumn) → below ≡ [] → IsSame (vector_has below) (λ _. false) → AreColumnsOf (λ _. false) below
+no_columns below is none = record { vector = rw is tt; same = none }
+
+-- an item's first version is a revision
+pub created_next : {K : Type 0} (s : State K) (message : Mail) (below : List AuthorColumn) → below ≡ [] → IsSame (vector_has below) (λ _. false)
+    → IsNext s (record { item = next_version s; version = next_version s; below = below; message = message })
+created_next s message below is none = record {
+  version = refl;
+  is = record {
+    lacks_itself = none (next_version s);
+    first = λ _. is;
+    later = λ apart. absurd (apart refl);
+  };
+  no_later = λ v in'. cc (sym (none v) ∙ in');
+}

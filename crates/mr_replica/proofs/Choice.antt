@@ -1,10 +1,13 @@
 -- what an answer that is there, or is not, says of the tests behind it
-use Rattle.std.proofs.Common.{◌≡◌, Bool, true, refl, sym, ap, subst, ◌∙◌, List, [], ◌∷◌, Option, Some, None, inl, inr}
-use Rattle.std.specs.List.{All, find}
+use Rattle.std.proofs.Common.{◌≡◌, ◌<◌, ◌+◌, ℕ, zero, suc, Bool, true, false, ◌&&◌, ◌++◌, arith, length, get_or, take, refl, sym, ap, subst, ◌∙◌, List, [], ◌∷◌, Option, Some, None, inl, inr}
+use Rattle.std.specs.List.{All, find, list_all}
 use Rattle.std.specs.Option.{option_map}
+use Rattle.std.proofs.lemmas.List.{take_more}
+use Rattle.std.proofs.lemmas.List.Folds.{find-append, list_all-append}
+use Rattle.mr_madewith.proofs.Rising.{unnamed}
 use Rattle.std.proofs.lemmas.Bool.{cases_Bool}
 use Rattle.std.proofs.lemmas.List.Elements.{All-head, All-tail}
-use Rattle.mr_replica.specs.Step.{◌orelse◌}
+use Rattle.mr_replica.specs.Refusal.{◌orelse◌}
 
 -- where neither of two answers comes, the first does not
 pub first_none : {A : Type 0} (a b : Option A) → (a orelse b) ≡ None → a ≡ None
@@ -28,3 +31,30 @@ found_has P p (y ∷ ys) x all found =
           (subst P same (All-head P y ys all), ap p (sym same) ∙ passes)
       | inr fails ↦ found_has P p ys x (All-tail P y ys all) (rw fails at found)
     ]
+
+-- ---- a place more of a list
+
+-- the first that passes is at this place
+pub find_here : {X : Type 0} (p : X → Bool) (xs : List X) (k : ℕ) (x : X) → k < length xs → x ≡ get_or xs k x → find p (take k xs) ≡ None → p x ≡ true → find p xs ≡ Some x
+find_here p [] k x within at none passes = absurd (omega arith)
+find_here p (y ∷ ys) zero x within at none passes = rw (ap p (sym at) ∙ passes) (ap Some (sym at))
+find_here p (y ∷ ys) (suc k) x within at none passes =
+    let fails : p y ≡ false = unnamed (p y) y (find p (take k ys)) none in
+    rw fails (find_here p ys k x (omega arith) at (rw fails at none) passes)
+
+more : {X : Type 0} (xs : List X) (k : ℕ) (x : X) → k < length xs → x ≡ get_or xs k x → take (k + 1) xs ≡ take k xs ++ x ∷ []
+more xs k x within at = take_more xs k x within ∙ ap (λ y. take k xs ++ y ∷ []) (sym at)
+
+-- none passes, nor does the next
+pub find_none_more : {X : Type 0} (p : X → Bool) (xs : List X) (k : ℕ) (x : X) → k < length xs → x ≡ get_or xs k x → find p (take k xs) ≡ None → p x ≡ false → find p (take (k + 1) xs) ≡ None
+find_none_more p xs k x within at none fails =
+    ap (find p) (more xs k x within at) ∙ find-append p (take k xs) (x ∷ []) ∙ rw (none, fails) refl
+
+-- all pass, and so does the next
+pub list_all-take_more : {X : Type 0} (p : X → Bool) (xs : List X) (k : ℕ) (x : X) → k < length xs → x ≡ get_or xs k x → list_all p (take (k + 1) xs) ≡ (list_all p (take k xs) && p x)
+list_all-take_more p xs k x within at =
+    ap (list_all p) (more xs k x within at) ∙ list_all-append p (take k xs) (x ∷ []) ∙ ap (λ b. list_all p (take k xs) && b) (and_true (p x))
+  where
+    and_true : (b : Bool) → (b && true) ≡ b
+    and_true true = refl
+    and_true false = refl

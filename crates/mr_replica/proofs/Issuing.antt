@@ -1,21 +1,21 @@
 -- what a replica keeps when it issues a revision
-use Rattle.std.proofs.Common.{◌≡◌, ◌≤◌, ◌+◌, ℕ, Bool, true, false, not, cond, ap, ◌∙◌, arith, refl, List, [], ◌∷◌, None, inl, inr}
+use Rattle.std.proofs.Common.{◌≡◌, ◌≤◌, ◌+◌, ℕ, Bool, true, false, not, cond, ap, ◌∙◌, arith, refl, List, [], ◌∷◌, ◌++◌, None, inl, inr}
 use Rattle.std.specs.List.{All}
+use Rattle.std.proofs.lemmas.Bool.{cases_Bool}
 use Rattle.std.proofs.lemmas.List.{length_push}
-use Rattle.std.proofs.lemmas.List.Elements.{All-cons, All-head, All-tail, All-filter, All-weaker}
+use Rattle.std.proofs.lemmas.List.Elements.{All-cons, All-head, All-tail, All-filter, All-weaker, All-append}
 use Rattle.mr_version.specs.Name.{Name, name_eq}
 use Rattle.mr_concise.specs.declared.vector.AuthorColumn.{AuthorColumn}
 use Rattle.mr_madewith.specs.Revision.{Rev, IsRevision, has_below}
 use Rattle.mr_madewith.specs.Keyed.{without, placed, is_before}
-use Rattle.mr_madewith.specs.Trail.{Own, own_of, item_of_last}
+use Rattle.mr_madewith.specs.Trail.{item_of_last}
 use Rattle.mr_madewith.proofs.Rising.{same_names}
-use Rattle.mr_replica.specs.Heads.{version_of, held, supersedes, left_by}
-use Rattle.mr_replica.specs.State.{State}
-use Rattle.mr_replica.specs.Sound.{AreNoLater, IsSound}
-use Rattle.mr_replica.specs.Step.{issuing, logged}
-use Rattle.mr_replica.specs.Issue.{IsNext}
+use Rattle.mr_store.specs.Revisions.{version_of, revision_of, supersedes, left_by}
+use Rattle.mr_replica.specs.State.{State, held}
+use Rattle.mr_replica.specs.Sound.{AreNoLater, AreIssued, IsSound}
+use Rattle.mr_replica.specs.Issue.{is_selected, entered_if, issuing, logged}
+use Rattle.mr_replica.specs.Issued.{IsNext}
 use Rattle.mr_replica.specs.declared.event.Event.{Event}
-use Rattle.mr_replica.proofs.HeadLemmas.{either}
 
 -- what holds of all and of one more holds with that one at its place
 All-placed : {X : Type 0} (name : X → Name) (P : X → Type 0) (r : X) (xs : List X) → P r → All P xs → All P (placed name r xs)
@@ -26,19 +26,29 @@ All-placed name P r (x ∷ xs) p h =
       | false ↦ All-cons P r (x ∷ xs) p h
     ]
 
--- the next own version is not held yet
-pub next_not_held : (id issued : ℕ) (v : Name) (heads : List Rev) → All (λ r. AreNoLater id issued r.version r.below) heads → v.author ≡ id → v.counter ≡ issued + 1 → held heads v ≡ None
-next_not_held id issued v [] h author counter = refl
-next_not_held id issued v (r ∷ rs) h author counter =
-    elim (either (name_eq r.version v)) [
+All-entered_if : (b : Bool) (P : Rev → Type 0) (r : Rev) (rs : List Rev) → P r → All P rs → All P (entered_if b r rs)
+All-entered_if true P r rs p h = All-placed version_of P r rs p h
+All-entered_if false P r rs p h = h
+
+-- a version that was not issued yet is none of these
+not_issued : (id issued : ℕ) (v : Name) (rs : List Rev) → All (λ r. AreNoLater id issued r.version r.below) rs → v.author ≡ id → v.counter ≡ issued + 1 → revision_of rs v ≡ None
+not_issued id issued v [] h author counter = refl
+not_issued id issued v (r ∷ rs) h author counter =
+    elim (cases_Bool (name_eq r.version v)) [
       | inl same ↦
           let is : r.version ≡ v = same_names r.version v same in
           let low : r.version.counter ≤ issued = (All-head (λ r. AreNoLater id issued r.version r.below) r rs h).itself (ap (λ n. n.author) is ∙ author) in
           absurd (omega (arith, low, ap (λ (n : Name). n.counter) is, counter))
-      | inr apart ↦ rw apart (next_not_held id issued v rs (All-tail (λ r. AreNoLater id issued r.version r.below) r rs h) author counter)
+      | inr apart ↦ rw apart (not_issued id issued v rs (All-tail (λ r. AreNoLater id issued r.version r.below) r rs h) author counter)
     ]
 
-module _ {K : Type 0} (s : State K) (k : K) (r : Rev) (event : Event) (sound : IsSound s) (next : IsNext s event r) where
+-- the next own version is not held yet
+pub next_not_held : {K : Type 0} (s : State K) (v : Name) → IsSound s → v.author ≡ s.id → v.counter ≡ s.issued + 1 → held s v ≡ None
+next_not_held s v sound author counter =
+    not_issued s.id s.issued v (s.heads ++ s.push_outs)
+    (All-append (λ r. AreNoLater s.id s.issued r.version r.below) s.heads s.push_outs sound.heads_issued.no_later sound.push_outs_issued.no_later) author counter
+
+module _ {K : Type 0} (s : State K) (k : K) (r : Rev) (event : Event) (sound : IsSound s) (next : IsNext s r) where
   -- what was no later is no later than the next
   later_still : (version : Name) (below : List AuthorColumn) → AreNoLater s.id s.issued version below → AreNoLater s.id (s.issued + 1) version below
   later_still version below h = record { itself = λ a. omega (arith, h.itself a); all_below = λ v in' a. omega (arith, h.all_below v in' a) }
@@ -46,23 +56,37 @@ module _ {K : Type 0} (s : State K) (k : K) (r : Rev) (event : Event) (sound : I
   next_no_later : AreNoLater s.id (s.issued + 1) r.version r.below
   next_no_later = record { itself = λ _. rw next.version (omega arith); all_below = λ v in' a. omega (arith, next.no_later v in' a) }
 
-  pub sound_issued : IsSound (logged (issuing s k r) event)
-  sound_issued =
-      let IsOne : Rev → Type 0 = λ q. IsRevision q.item q.version q.below in
+  -- a list of the store, once what is superseded left and the revision entered, or did not
+  issued_entered : (b : Bool) (rs : List Rev) → AreIssued s.id s.issued rs → AreIssued s.id (s.issued + 1) (entered_if b r (left_by r.item (has_below r) rs))
+  issued_entered b rs h =
+      let One : Rev → Type 0 = λ q. IsRevision q.item q.version q.below in
       let WasNoLater : Rev → Type 0 = λ q. AreNoLater s.id s.issued q.version q.below in
       let NoLater : Rev → Type 0 = λ q. AreNoLater s.id (s.issued + 1) q.version q.below in
-      let OwnWas : Own → Type 0 = λ l. AreNoLater s.id s.issued l.version l.below in
-      let OwnNoLater : Own → Type 0 = λ l. AreNoLater s.id (s.issued + 1) l.version l.below in
-      let left = left_by r.item (has_below r) s.heads in
       let stays : Rev → Bool = λ q. not (supersedes r.item (has_below r) q) in
-      let of_others : Own → Bool = λ l. not (name_eq l.item r.item) in
+      let left = left_by r.item (has_below r) rs in
       record {
-        limit_from = sound.limit_from;
-        limit_to = sound.limit_to;
-        issued_few = omega (arith, sound.issued_few, length_push s.log event);
-        heads_are = All-placed version_of IsOne r left next.is (All-filter stays IsOne s.heads sound.heads_are);
-        heads_no_later = All-placed version_of NoLater r left next_no_later
-            (All-filter stays NoLater s.heads (All-weaker WasNoLater NoLater (λ q h. later_still q.version q.below h) s.heads sound.heads_no_later));
-        trail_no_later = All-placed item_of_last OwnNoLater (own_of r) (without item_of_last r.item s.trail) next_no_later
-            (All-filter of_others OwnNoLater s.trail (All-weaker OwnWas OwnNoLater (λ l h. later_still l.version l.below h) s.trail sound.trail_no_later));
+        are = All-entered_if b One r left next.is (All-filter stays One rs h.are);
+        no_later = All-entered_if b NoLater r left next_no_later (All-filter stays NoLater rs (All-weaker WasNoLater NoLater (λ q n. later_still q.version q.below n) rs h.no_later));
       }
+
+  issued_noted : AreIssued s.id (s.issued + 1) (placed item_of_last r (without item_of_last r.item s.trail))
+  issued_noted =
+      let One : Rev → Type 0 = λ q. IsRevision q.item q.version q.below in
+      let WasNoLater : Rev → Type 0 = λ q. AreNoLater s.id s.issued q.version q.below in
+      let NoLater : Rev → Type 0 = λ q. AreNoLater s.id (s.issued + 1) q.version q.below in
+      let of_others : Rev → Bool = λ l. not (name_eq l.item r.item) in
+      let others = without item_of_last r.item s.trail in
+      record {
+        are = All-placed item_of_last One r others next.is (All-filter of_others One s.trail sound.trail_issued.are);
+        no_later = All-placed item_of_last NoLater r others next_no_later (All-filter of_others NoLater s.trail (All-weaker WasNoLater NoLater (λ l n. later_still l.version l.below n) s.trail sound.trail_issued.no_later));
+      }
+
+  pub sound_issued : IsSound (logged (issuing s k r) event)
+  sound_issued = record {
+    limit_from = sound.limit_from;
+    limit_to = sound.limit_to;
+    issued_few = omega (arith, sound.issued_few, length_push s.log event);
+    heads_issued = issued_entered (is_selected s r) s.heads sound.heads_issued;
+    push_outs_issued = issued_entered (not (is_selected s r)) s.push_outs sound.push_outs_issued;
+    trail_issued = issued_noted;
+  }

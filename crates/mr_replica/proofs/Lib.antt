@@ -1,9 +1,7 @@
-pub mod HeadLemmas
-pub mod IndexLemmas
+pub mod FragmentLemmas
 pub mod Choice
 pub mod Below
 pub mod Issuing
 pub mod Answered
-pub mod Several
-pub mod FragmentLemmas
+pub mod Decided
 mod Rows

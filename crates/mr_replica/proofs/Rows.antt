@@ -1,16 +1,18 @@
 -- Worked rows: what the definitions of a step say of states that were computed by hand.
-use Rattle.std.proofs.Common.{◌≡◌, ℕ, true, false, refl, List, [], ◌∷◌, map, Some, None}
+use Rattle.std.proofs.Common.{◌≡◌, ℕ, Bool, true, false, refl, List, [], ◌∷◌, map, Some, None}
 use Rattle.mr_version.specs.Name.{Name}
 use Rattle.mr_forms.specs.Known.{Form}
 use Rattle.mr_concise.specs.declared.vector.AuthorColumn.{AuthorColumn}
 use Rattle.mr_mail.specs.Mail.{Mail, card_of}
 use Rattle.mr_feed.specs.declared.entry.Entry.TheVariants.{Added, Dropped}
 use Rattle.mr_madewith.specs.Revision.{Rev, has_below}
-use Rattle.mr_replica.specs.Heads.{version_of, entered, left_by, has_conflict}
-use Rattle.mr_madewith.specs.Trail.{Own}
+use Rattle.mr_store.specs.Revisions.{version_of, entered, left_by, has_conflict}
+use Rattle.mr_filter.specs.Filter.{ClauseParts}
 use Rattle.mr_replica.specs.State.{State}
-use Rattle.mr_replica.specs.Step.{first_refusal, edited_below, version_learned, news_of}
-use Rattle.mr_replica.specs.declared.filter.Filter.TheVariants as filters
+use Rattle.mr_replica.specs.Issue.{below_of_issue, version_learned, issuing}
+use Rattle.mr_replica.specs.Contents.{news_of}
+use Rattle.mr_replica.specs.Edit.{edited}
+use Rattle.mr_replica.specs.Step.{first_refusal}
 use Rattle.mr_replica.specs.declared.event.Event.TheVariants.{Edit}
 use Rattle.mr_replica.specs.declared.refusal.Refusal.TheVariants.{NoBase, NotHeld, MixedItems, OwnHeadLeft, LogFull}
 
@@ -27,14 +29,22 @@ column author upto = record { author = author; column = record { upto = upto; ho
 abbrev rev : Name → List AuthorColumn → Rev
 rev version below = record { item = name 0 1; version = version; below = below; message = mail }
 
+-- the filter of one clause with no condition
+abbrev all_messages : List ClauseParts
+all_messages = record { all_labels = []; no_labels = []; flags_on = 0; flags_off = 0; since = 0 } ∷ []
+
+-- what an edit of these bases supersedes
+abbrev edited_below : State (Unit {0}) → List Name → Name → Bool
+edited_below s bases = below_of_issue s (edited s bases mail)
+
 -- a replica 0 that issued so many versions, with these heads and last own versions
-abbrev replica : ℕ → List Rev → List Own → State (Unit {0})
-replica issued heads trail = record { id = 0; filter = filters.All; event_limit = 9; issued = issued; knowledge = tt; heads = heads; trail = trail; feed = []; log = [] }
+abbrev replica : ℕ → List Rev → List Rev → State (Unit {0})
+replica issued heads trail = record { id = 0; filter = all_messages; event_limit = 9; issued = issued; knowledge = tt; heads = heads; push_outs = []; trail = trail; feed = []; log = [] }
 
 -- ---- a conflict and its merge: 1.1 and 2.1 both replace 0.1
 
 abbrev conflict : State (Unit {0})
-conflict = replica 1 (rev (name 1 1) (column 0 1 ∷ []) ∷ rev (name 2 1) (column 0 1 ∷ []) ∷ []) (record { item = name 0 1; version = name 0 1; below = [] } ∷ [])
+conflict = replica 1 (rev (name 1 1) (column 0 1 ∷ []) ∷ rev (name 2 1) (column 0 1 ∷ []) ∷ []) (rev (name 0 1) [] ∷ [])
 
 conflict_is_told : has_conflict conflict.heads (name 0 1) ≡ true
 conflict_is_told = refl
@@ -52,12 +62,12 @@ second = rev (name 0 2) (column 0 1 ∷ column 2 1 ∷ [])
 edit_of_one_head_heads : map version_of (entered second (left_by second.item (has_below second) conflict.heads)) ≡ name 0 2 ∷ name 1 1 ∷ []
 edit_of_one_head_heads = refl
 
-edit_of_one_head_news : news_of second conflict.heads ≡ Dropped (name 0 1) (name 2 1) ∷ Added (name 0 1) (name 0 2) (card_of mail) ∷ []
+edit_of_one_head_news : news_of true second conflict.heads ≡ Dropped (name 0 1) (name 2 1) ∷ Added (name 0 1) (name 0 2) (card_of mail) ∷ []
 edit_of_one_head_news = refl
 
 -- an edit of 1.1 alone leaves the own head 0.2, and is refused; one of both is admitted
 abbrev half_merged : State (Unit {0})
-half_merged = replica 2 (second ∷ rev (name 1 1) (column 0 1 ∷ []) ∷ []) (record { item = name 0 1; version = name 0 2; below = column 0 1 ∷ column 2 1 ∷ [] } ∷ [])
+half_merged = replica 2 (second ∷ rev (name 1 1) (column 0 1 ∷ []) ∷ []) (rev (name 0 2) (column 0 1 ∷ column 2 1 ∷ []) ∷ [])
 
 own_head_left : first_refusal half_merged (Edit (name 1 1 ∷ []) mail) ≡ Some (OwnHeadLeft (name 0 2))
 own_head_left = refl
@@ -72,7 +82,7 @@ abbrev third : Rev
 third = rev (name 0 3) (column 0 2 ∷ column 1 1 ∷ column 2 1 ∷ [])
 
 -- what leaves comes first, in version order
-merge_news : news_of third half_merged.heads ≡ Dropped (name 0 1) (name 0 2) ∷ Dropped (name 0 1) (name 1 1) ∷ Added (name 0 1) (name 0 3) (card_of mail) ∷ []
+merge_news : news_of true third half_merged.heads ≡ Dropped (name 0 1) (name 0 2) ∷ Dropped (name 0 1) (name 1 1) ∷ Added (name 0 1) (name 0 3) (card_of mail) ∷ []
 merge_news = refl
 
 merge_heads : map version_of (entered third (left_by third.item (has_below third) half_merged.heads)) ≡ name 0 3 ∷ []
@@ -104,7 +114,7 @@ full_log = refl
 -- ---- the trail: the own 0.2 has left the store, and still goes into the next below, with what it superseded
 
 abbrev own_has_left : State (Unit {0})
-own_has_left = replica 2 (rev (name 1 1) (column 0 1 ∷ []) ∷ []) (record { item = name 0 1; version = name 0 2; below = column 0 1 ∷ column 2 1 ∷ [] } ∷ [])
+own_has_left = replica 2 (rev (name 1 1) (column 0 1 ∷ []) ∷ []) (rev (name 0 2) (column 0 1 ∷ column 2 1 ∷ []) ∷ [])
 
 trail_below : map (edited_below own_has_left (name 1 1 ∷ [])) (name 0 1 ∷ name 0 2 ∷ name 0 3 ∷ name 1 1 ∷ name 2 1 ∷ []) ≡ true ∷ true ∷ false ∷ true ∷ true ∷ []
 trail_below = refl
@@ -112,7 +122,7 @@ trail_below = refl
 -- ---- the own column is filled: 0.3 and 0.4 are other items' first versions
 
 abbrev creates_between : State (Unit {0})
-creates_between = replica 4 (rev (name 0 2) (column 0 1 ∷ []) ∷ []) (record { item = name 0 1; version = name 0 2; below = column 0 1 ∷ [] } ∷ [])
+creates_between = replica 4 (rev (name 0 2) (column 0 1 ∷ []) ∷ []) (rev (name 0 2) (column 0 1 ∷ []) ∷ [])
 
 filled_below : map (edited_below creates_between (name 0 2 ∷ [])) (name 0 1 ∷ name 0 2 ∷ name 0 3 ∷ name 0 4 ∷ name 0 5 ∷ name 1 1 ∷ []) ≡ true ∷ true ∷ true ∷ true ∷ false ∷ false ∷ []
 filled_below = refl
@@ -127,10 +137,28 @@ other_items_stay = refl
 -- ---- a version is learned alone
 
 abbrev knows_nothing : Form (Unit {0})
-knows_nothing = record { known = λ _ _ _. false; learns_for_all = false; has_too_many_holes = λ _. ⊥; has_too_many_items = λ _. ⊥ }
+knows_nothing = record { known = λ _ _ _. false; is_part = λ _ _. ⊥; learns_for_all = false; has_too_many_holes = λ _. ⊥; has_too_many_items = λ _. ⊥ }
 
 learned_alone : map (version_learned knows_nothing creates_between (name 0 1) (name 0 1)) (name 0 2 ∷ name 0 3 ∷ name 0 4 ∷ name 0 5 ∷ name 0 6 ∷ []) ≡ false ∷ false ∷ false ∷ true ∷ false ∷ []
 learned_alone = refl
 
 learned_for_no_other_item : version_learned knows_nothing creates_between (name 0 1) (name 0 3) (name 0 5) ≡ false
 learned_for_no_other_item = refl
+
+-- ---- a filter that selects nothing: an own version joins the push-outs, and the feed tells nothing of it
+
+abbrev selects_nothing : State (Unit {0})
+selects_nothing = record conflict { filter = []; heads = rev (name 1 1) (column 0 1 ∷ []) ∷ []; push_outs = rev (name 2 1) (column 0 1 ∷ []) ∷ [] }
+
+-- a push-out may be a base
+edit_of_push_out : first_refusal selects_nothing (Edit (name 2 1 ∷ []) mail) ≡ None
+edit_of_push_out = refl
+
+joined_push_outs : map version_of (issuing selects_nothing tt second).push_outs ≡ name 0 2 ∷ []
+joined_push_outs = refl
+
+heads_stay : map version_of (issuing selects_nothing tt second).heads ≡ name 1 1 ∷ []
+heads_stay = refl
+
+told_nothing : (issuing selects_nothing tt second).feed ≡ []
+told_nothing = refl

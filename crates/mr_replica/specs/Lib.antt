@@ -1,11 +1,10 @@
-pub mod Heads
-pub mod Index
-pub mod Store
 pub mod State
-pub mod Step
 pub mod Refusal
 pub mod Sound
 pub mod Issue
+pub mod Create
+pub mod Edit
+pub mod Contents
+pub mod Issued
+pub mod Step
 pub mod Fragments
-pub mod News
-pub mod Laws

@@ -1,5 +1,5 @@
--- refusals: their numbers, their names, and which of them a form's fault is
-use Rattle.std.specs.Prelude.{ℕ, List, codes}
+-- refusals: their numbers, their names, which of them a form's fault is, and the first of several
+use Rattle.std.specs.Prelude.{ℕ, Bool, if◌then◌else◌, Option, Some, None, List, codes}
 use Rattle.mr_forms.specs.declared.fault.FormFault.{FormFault}
 use Rattle.mr_forms.specs.declared.fault.FormFault.TheVariants as fault
 use Rattle.mr_replica.specs.declared.refusal.Refusal.{Refusal}
@@ -32,3 +32,13 @@ abbrev pub refusal_of : FormFault → Refusal
 refusal_of fault.OutOfMemory = OutOfMemory
 refusal_of fault.TooManyHoles = TooManyHoles
 refusal_of fault.TooManyItems = TooManyItems
+
+-- the first of two answers that there is
+infixr 20 ◌orelse◌
+abbrev pub ◌orelse◌ : {A : Type 0} → Option A → Option A → Option A
+None orelse b = b
+(Some a) orelse b = Some a
+
+-- the refusal, if its case holds
+abbrev pub refused_if : Bool → Refusal → Option Refusal
+refused_if b e = if b then Some e else None

@@ -3,7 +3,7 @@ use Rattle.std.specs.Prelude.{◌≡◌, ◌≤◌, ℕ, true, List, length, All
 use Rattle.mr_version.specs.Name.{Name}
 use Rattle.mr_concise.specs.Vector.{vector_has}
 use Rattle.mr_concise.specs.declared.vector.AuthorColumn.{AuthorColumn}
-use Rattle.mr_madewith.specs.Revision.{IsRevision}
+use Rattle.mr_madewith.specs.Revision.{Rev, IsRevision}
 use Rattle.mr_replica.specs.State.{State}
 
 -- the version is no own one, or one of those issued
@@ -15,10 +15,15 @@ pub record AreNoLater (id issued : ℕ) (version : Name) (below : List AuthorCol
   pub itself : IsNoLater id issued version
   pub all_below : (v : Name) → vector_has below v ≡ true → IsNoLater id issued v
 
+-- each of these is a revision, and none of its versions is an own one that was not issued
+pub record AreIssued (id issued : ℕ) (rs : List Rev) : Type 0 where
+  pub are : All (λ r. IsRevision r.item r.version r.below) rs
+  pub no_later : All (λ r. AreNoLater id issued r.version r.below) rs
+
 pub record IsSound {K : Type 0} (s : State K) : Type 0 where
   pub limit_from : 1 ≤ s.event_limit
   pub limit_to : s.event_limit ≤ 1000000
   pub issued_few : s.issued ≤ length s.log
-  pub heads_are : All (λ r. IsRevision r.item r.version r.below) s.heads
-  pub heads_no_later : All (λ r. AreNoLater s.id s.issued r.version r.below) s.heads
-  pub trail_no_later : All (λ l. AreNoLater s.id s.issued l.version l.below) s.trail
+  pub heads_issued : AreIssued s.id s.issued s.heads
+  pub push_outs_issued : AreIssued s.id s.issued s.push_outs
+  pub trail_issued : AreIssued s.id s.issued s.trail

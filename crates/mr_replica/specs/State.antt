@@ -1,22 +1,38 @@
 -- a replica as contracts see it
-use Rattle.std.specs.Prelude.{ℕ, List}
+use Rattle.std.specs.Prelude.{◌+◌, ◌++◌, ℕ, Option, List}
+use Rattle.std.specs.Option.{option_map_or}
+use Rattle.mr_version.specs.Name.{Name}
+use Rattle.mr_filter.specs.Filter.{ClauseParts}
 use Rattle.mr_feed.specs.declared.entry.Entry.{Entry}
 use Rattle.mr_madewith.specs.Revision.{Rev}
-use Rattle.mr_madewith.specs.Trail.{Own}
-use Rattle.mr_replica.specs.declared.filter.Filter.{Filter}
+use Rattle.mr_store.specs.Revisions.{revision_of}
 use Rattle.mr_replica.specs.declared.event.Event.{Event}
 
 pub record State (K : Type 0) : Type 0 where
   pub id : ℕ
-  pub filter : Filter
+  pub filter : List ClauseParts
   pub event_limit : ℕ
   -- how many versions were issued
   pub issued : ℕ
   pub knowledge : K
-  -- the store, in version order
+  -- the held revisions that the filter selects, and the others, each in version order
   pub heads : List Rev
+  pub push_outs : List Rev
   -- the last own version of each item, in the order of the items
-  pub trail : List Own
-  -- the changes of the store and the admitted events, in order of time
+  pub trail : List Rev
+  -- the changes of the heads and the admitted events, in order of time
   pub feed : List Entry
   pub log : List Event
+
+module _ {K : Type 0} where
+  -- the version that the replica issues next
+  abbrev pub next_version : State K → Name
+  next_version s = record { author = s.id; counter = s.issued + 1 }
+
+  -- the held revision of a version
+  abbrev pub held : State K → Name → Option Rev
+  held s v = revision_of (s.heads ++ s.push_outs) v
+
+  -- the item of a held version
+  abbrev pub item_of_held : State K → Name → Name
+  item_of_held s v = option_map_or (λ r. r.item) (held s v) v

@@ -1,13 +1,16 @@
-//! One replica of a mail collection: its store, what it knows, and the atomic step.
+//! One replica of a mail collection: what it holds, what it knows, and the atomic step.
 //!
-//! A replica holds the latest versions of mail items, its heads. It is asked to do one thing at a
-//! time, an [`Event`], and [`Replica::step`] either answers it or refuses it and changes nothing. A
-//! create issues the first version of a new item; an edit issues a version that supersedes held
-//! versions of one item, its bases, with all that these supersede, and the replica's own last version
-//! of the item likewise. An edit's version also supersedes each lower counter of the replica's own, so
-//! that its own column has no holes, and there versions of other items are among them: what leaves the
-//! store is what the new version supersedes **of its item**. Each change of the store is an entry of
-//! the feed, each admitted event one of the log.
+//! A replica holds the latest versions of mail items. It is asked to do one thing at a time, an
+//! [`Event`], and [`Replica::step`] either answers it or refuses it and changes nothing. A create issues
+//! the first version of a new item; an edit issues a version that supersedes held versions of one item,
+//! its bases, with all that these supersede, and the replica's own last version of the item likewise. An
+//! edit's version also supersedes each lower counter of the replica's own, so that its own column has no
+//! holes, and there versions of other items are among them: what leaves the replica is what the new
+//! version supersedes **of its item**.
+//!
+//! An own version that the replica's filter selects enters its heads, another one its push-outs, which
+//! it holds until another replica has them. Each change of the heads is an entry of the feed, each
+//! admitted event one of the log.
 //!
 //! What is known is kept in a form that the caller chooses, by the type `K`. A version that is issued
 //! is learned for its item, alone: what it supersedes of its item was learned before it, and the rest are
@@ -15,26 +18,24 @@
 //!
 //! ```text
 //! let id = Author::try_new(0)?;
-//! let mut replica: Replica<PlainKnowledge> = Replica::try_new(alloc, id, Filter::all(), 1_000_000)?;
+//! let filter = Filter::read(alloc, "label:inbox")?;
+//! let mut replica: Replica<PlainKnowledge> = Replica::try_new(alloc, id, filter, 1_000_000)?;
 //! let Reply::Issued(first) = replica.step(Event::Create(message))?;
 //! let bases = Bases::new(vec![in alloc; first]?);
 //! let Reply::Issued(second) = replica.step(Event::Edit(bases, reply))?;
 //! ```
 //!
-//! After these lines the store has the second version alone, and the feed tells that the first
-//! entered, left, and that the second entered. The fragments are one, which tells that `0.1` and `0.2`
-//! are known for the item `0.1`.
+//! After these lines, where both messages have the label `inbox`, the second version is the one head,
+//! and the feed tells that the first entered, left, and that the second entered. The fragments are one,
+//! which tells that `0.1` and `0.2` are known for the item `0.1`.
 #![tactic(auto)]
 
 mod event;
-mod filter;
-mod index;
 mod refusal;
 mod replica;
-mod store;
 
 pub use event::{Bases, Event, Reply};
-pub use filter::Filter;
+pub use mr_filter::Filter;
 pub use mr_madewith::Revision;
 pub use refusal::Refusal;
 pub use replica::{Replica, ReplicaFault};

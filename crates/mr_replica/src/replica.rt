@@ -2,14 +2,18 @@
 ghost use Rattle.std.specs.Prelude.{◌≡◌, ◌<◌, ◌≤◌, ◌↔◌, ◌≢◌, [], IsOk, IfOk, IfErr, IsErrOf, Err, length};
 ghost use Rattle.std.specs.Option.{option_copied};
 
+mod contents;
+mod create;
+mod edit;
+mod issue;
 mod step;
 
-use crate::store::Store;
-use crate::{Event, Filter, Revision};
+use crate::{Event, Revision};
+use contents::Contents;
 use mr_concise::{ConciseVector, concise_fragments};
-use mr_feed::{Entry, Feed};
+use mr_feed::Entry;
+use mr_filter::Filter;
 use mr_forms::{FormFault, Fragment, Knowledge};
-use mr_madewith::Trail;
 use mr_version::{Author, ItemId, Version};
 use std::alloc::{AllocError, Global};
 use std::marker::Model;
@@ -33,6 +37,9 @@ impl ReplicaFault {
     }
 }
 
+/// The most events that a log may take.
+const MAX_EVENTS: u32 = 1_000_000;
+
 /// A replica over a form of knowledge.
 #[derive(Drop)]
 pub struct Replica<K: Knowledge> {
@@ -42,10 +49,7 @@ pub struct Replica<K: Knowledge> {
     event_limit: u32,
     issued: u32,
     knowledge: K,
-    store: Store,
-    trail: Trail,
-    feed: Feed,
-    log: Vec<Event>,
+    contents: Contents,
 }
 
 impl<K: Knowledge> Model for Replica<K> {
@@ -55,16 +59,17 @@ impl<K: Knowledge> Model for Replica<K> {
 
     ghost Value = { State K };
 
-    ghost view = { λ r. record { id = r.id; filter = r.filter; event_limit = r.event_limit; issued = r.issued; knowledge = r.knowledge; heads = r.store.heads; trail = r.trail.lasts; feed = r.feed.entries; log = r.log.items } };
+    ghost view = { λ r. record { id = r.id; filter = r.filter; event_limit = r.event_limit; issued = r.issued; knowledge = r.knowledge; heads = r.contents.store.heads; push_outs = r.contents.store.push_outs; trail = r.contents.trail.lasts; feed = r.contents.feed.entries; log = r.contents.log } };
 
-    ghost invariant = { λ r. IsSound (record { id = r.id; filter = r.filter; event_limit = r.event_limit; issued = r.issued; knowledge = r.knowledge; heads = r.store.heads; trail = r.trail.lasts; feed = r.feed.entries; log = r.log.items }) };
+    ghost invariant = { λ r. IsSound (record { id = r.id; filter = r.filter; event_limit = r.event_limit; issued = r.issued; knowledge = r.knowledge; heads = r.contents.store.heads; push_outs = r.contents.store.push_outs; trail = r.contents.trail.lasts; feed = r.contents.feed.entries; log = r.contents.log }) };
 }
 
 impl<K: Knowledge> Replica<K> {
     ghost use Rattle.std.specs.Prelude.{false};
     ghost use Rattle.mr_forms.specs.Known.{AreSame};
     ghost use Rattle.mr_concise.specs.Vector.{vector_has};
-    ghost use Rattle.mr_replica.specs.Heads.{AreHeads, AreConflicts, held};
+    ghost use Rattle.mr_replica.specs.State.{held};
+    ghost use Rattle.mr_store.specs.Revisions.{AreInVersionOrder, AreApart, AreConflicts};
     ghost use Rattle.mr_replica.specs.Fragments.{HaveKnown, HasHoleyFragments};
 
     /// A replica of this id, with nothing in it. Its log takes up to `event_limit` events, 1 to
@@ -76,12 +81,12 @@ impl<K: Knowledge> Replica<K> {
         filter: Filter,
         event_limit: u32,
     ) -> Result<Replica<K>, ReplicaFault>
-        ensures exact { IsOk result ↔ ((1 ≤ event_limit) × (event_limit ≤ 1000000)) }
+        ensures exact { IsOk result ↔ ((1 ≤ event_limit) × (event_limit ≤ MAX_EVENTS)) }
         ensures fault { IfErr result (λ fault. fault ≡ ReplicaFault.BadLimit) }
         ensures knows_nothing { IfOk result (λ replica. AreSame (K.form.known replica.knowledge) (λ _ _. false)) }
-        ensures is_empty { IfOk result (λ replica. replica ≡ record { id = id; filter = filter; event_limit = event_limit; issued = 0; knowledge = replica.knowledge; heads = []; trail = []; feed = []; log = [] }) }
+        ensures is_empty { IfOk result (λ replica. replica ≡ record { id = id; filter = filter; event_limit = event_limit; issued = 0; knowledge = replica.knowledge; heads = []; push_outs = []; trail = []; feed = []; log = [] }) }
     {
-        if event_limit == 0 || event_limit > 1_000_000 {
+        if event_limit == 0 || event_limit > MAX_EVENTS {
             return Err(ReplicaFault::BadLimit);
         }
         Ok(Replica {
@@ -91,10 +96,7 @@ impl<K: Knowledge> Replica<K> {
             event_limit,
             issued: 0,
             knowledge: K::new(alloc),
-            store: Store::new(alloc),
-            trail: Trail::new(alloc),
-            feed: Feed::new(alloc),
-            log: Vec::new(alloc),
+            contents: Contents::new(alloc),
         })
     }
 
@@ -106,42 +108,52 @@ impl<K: Knowledge> Replica<K> {
     }
 
     /// Which messages it selects.
-    pub fn filter(&self) -> Filter
-        ensures { result ≡ self.now.filter }
+    pub fn filter(&self) -> &Filter
+        ensures { result.now ≡ self.now.filter }
     {
-        self.filter
+        &self.filter
     }
 
     /// How many events its log takes.
     pub fn event_limit(&self) -> u32
         ensures is { result ≡ self.now.event_limit }
         ensures low { 1 ≤ result }
-        ensures high { result ≤ 1000000 }
+        ensures high { result ≤ MAX_EVENTS }
     {
         self.event_limit
     }
 
-    /// The revisions in the store, in version order.
+    /// The held revisions that the filter selects, in version order.
     pub fn heads(&self) -> &[Revision]
         ensures all { result.now ≡ self.now.heads }
-        ensures rising { AreHeads self.now.heads }
+        ensures in_order { AreInVersionOrder self.now.heads }
     {
-        self.store.heads()
+        self.contents.store().heads()
     }
 
-    /// The revision of a held version. It costs a binary search.
+    /// The held own revisions that the filter does not select, in version order. None of them has the
+    /// version of a head.
+    pub fn push_outs(&self) -> &[Revision]
+        ensures all { result.now ≡ self.now.push_outs }
+        ensures in_order { AreInVersionOrder self.now.push_outs }
+        ensures apart { AreApart self.now.heads self.now.push_outs }
+    {
+        self.contents.store().push_outs()
+    }
+
+    /// The revision of a version that is held, as a head or a push-out. It costs two binary searches.
     pub fn held(&self, version: Version) -> Option<&Revision>
-        ensures { option_copied result ≡ held self.now.heads version }
+        ensures { option_copied result ≡ held self.now version }
     {
-        self.store.held(version)
+        self.contents.store().held(version)
     }
 
-    /// The items with two or more revisions in the store, in rising order. It costs a walk over the
-    /// items that were ever held.
+    /// The items with two or more heads, in rising order. It costs a walk over the items that were
+    /// ever held.
     pub fn conflicts(&self) -> Result<Vec<ItemId>, AllocError>
         ensures { IfOk result (λ items. AreConflicts self.now.heads items.items) }
     {
-        self.store.conflicts()
+        self.contents.store().conflicts()
     }
 
     /// Whether the version is known for the item. Its cost is that of the form of knowledge.
@@ -175,11 +187,11 @@ impl<K: Knowledge> Replica<K> {
         concise_fragments(self.alloc, fragments)
     }
 
-    /// The changes of the store, in order of time.
+    /// The changes of the heads, in order of time.
     pub fn feed(&self) -> &[Entry]
         ensures { result.now ≡ self.now.feed }
     {
-        self.feed.entries()
+        self.contents.feed()
     }
 
     /// The admitted events, in order of time.
@@ -187,6 +199,6 @@ impl<K: Knowledge> Replica<K> {
         ensures all { result.now ≡ self.now.log }
         ensures issued_few { self.now.issued ≤ length self.now.log }
     {
-        &self.log
+        self.contents.log()
     }
 }

@@ -43,6 +43,18 @@ spaced_versions heads = flat_map (λ r. codes " " ++ name_text r.version) heads
 abbrev pub heads_text : ℕ → List Rev → List ℕ
 heads_text replica heads = codes "heads " ++ decimal replica ++ codes ":" ++ spaced_versions heads ++ codes "\n"
 
+-- `pushouts R:` and the versions
+abbrev pub push_outs_text : ℕ → List Rev → List ℕ
+push_outs_text replica push_outs = codes "pushouts " ++ decimal replica ++ codes ":" ++ spaced_versions push_outs ++ codes "\n"
+
+-- each item after a space
+abbrev pub spaced_items : List Name → List ℕ
+spaced_items items = flat_map (λ i. codes " " ++ name_text i) items
+
+-- `conflicts R:` and the items
+abbrev pub conflicts_text : ℕ → List Name → List ℕ
+conflicts_text replica items = codes "conflicts " ++ decimal replica ++ codes ":" ++ spaced_items items ++ codes "\n"
+
 -- `+V` for a version that entered, `-V` for one that left
 abbrev pub entry_text : Entry → List ℕ
 entry_text (Added item version card) = codes " +" ++ name_text version

@@ -8,13 +8,15 @@ use Rattle.mr_mail.specs.Label.{AreLabelsOf, text_eq}
 use Rattle.mr_mail.specs.Mail.{Mail}
 use Rattle.mr_mail.specs.declared.fault.MessageFault.{MessageFault}
 use Rattle.mr_replica.specs.declared.event.Event.TheVariants.{Create, Edit}
-use Rattle.mr_replica.specs.declared.filter.Filter.{Filter}
-use Rattle.mr_replica.specs.declared.filter.Filter.TheVariants.{All}
+use Rattle.mr_filter.specs.Fault.{IsFaultOf}
+use Rattle.mr_filter.specs.Filter.{ClauseParts}
+use Rattle.mr_filter.specs.Grammar.{Reads}
+use Rattle.mr_filter.specs.declared.fault.FilterFault.{FilterFault}
 use Rattle.mr_script.specs.declared.command.Command.{Command}
-use Rattle.mr_script.specs.declared.command.Command.TheVariants.{AddReplica, Give, Heads, Feed, Log, Know, Show}
+use Rattle.mr_script.specs.declared.command.Command.TheVariants.{AddReplica, Give, Heads, PushOuts, Conflicts, Feed, Log, Know, Show}
 use Rattle.mr_script.specs.declared.fault.LineFault.{LineFault}
-use Rattle.mr_script.specs.declared.fault.LineFault.TheVariants.{UnknownCommand, WrongWords, BadNumber, BadVersion, BadDate, BadFlags, BadFilter, LateReplica, SameReplica, BadLimit, BadCapacity, NoSuchReplica, OutOfMemory}
-use Rattle.mr_script.specs.Fault.{fault_of_message}
+use Rattle.mr_script.specs.declared.fault.LineFault.TheVariants.{UnknownCommand, WrongWords, BadNumber, BadVersion, BadDate, BadFlags, LateReplica, SameReplica, BadLimit, BadCapacity, NoSuchReplica, OutOfMemory}
+use Rattle.mr_script.specs.Fault.{fault_of_message, fault_of_filter}
 use Rattle.mr_script.specs.List.{pieces_of, NamesFlags, SpellsVersion, JoinsVersions}
 use Rattle.mr_script.specs.Number.{SpellsNumber, SpellsId}
 use Rattle.mr_script.specs.Reading.{Reading, gives, fails, choose, gives_if, names, if_memory, ◌andthen◌}
@@ -95,9 +97,10 @@ reads_version word = names SpellsVersion BadVersion word
 abbrev pub reads_up_to : ℕ → LineFault → List ℕ → Reading ℕ
 reads_up_to most outside word = names SpellsNumber BadNumber word andthen λ n. gives_if (nat_le 1 n && nat_le n most) outside n
 
--- `all` is the one filter so far
-abbrev pub reads_filter : List ℕ → Reading Filter
-reads_filter text = gives_if (text_eq text (codes "all")) (BadFilter 0) All
+-- the filter that the text means, or why it means none
+abbrev pub reads_filter : List ℕ → Reading (List ClauseParts)
+reads_filter text (Ok filter) = Reads text filter
+reads_filter text (Err fault) = (f : FilterFault) × IsFaultOf text f × (fault ≡ fault_of_filter f)
 
 module _ (scene : Scene) where
   -- the id of a replica that is there
@@ -171,11 +174,13 @@ module _ (scene : Scene) where
       choose (text_eq name (codes "create")) (reads_create args) (
       choose (text_eq name (codes "edit")) (reads_edit args) (
       choose (text_eq name (codes "heads")) (reads_only_replica args andthen λ id. gives (Heads id)) (
+      choose (text_eq name (codes "pushouts")) (reads_only_replica args andthen λ id. gives (PushOuts id)) (
+      choose (text_eq name (codes "conflicts")) (reads_only_replica args andthen λ id. gives (Conflicts id)) (
       choose (text_eq name (codes "feed")) (reads_only_replica args andthen λ id. gives (Feed id)) (
       choose (text_eq name (codes "log")) (reads_only_replica args andthen λ id. gives (Log id)) (
       choose (text_eq name (codes "know")) (reads_only_replica args andthen λ id. gives (Know id)) (
       choose (text_eq name (codes "show")) (reads_show args) (
-      fails UnknownCommand))))))))
+      fails UnknownCommand))))))))))
 
   -- the name and what comes after it
   abbrev pub reads_words : List (List ℕ) → Reading Command

@@ -3,8 +3,10 @@ use Rattle.std.specs.Prelude.{ℕ, ◌≤◌, ⊤}
 use Rattle.mr_mail.specs.Fault.{fault_number}
 use Rattle.mr_mail.specs.declared.fault.MessageFault.{MessageFault}
 use Rattle.mr_mail.specs.declared.fault.MessageFault.TheVariants.{OutOfMemory as NoMemory}
+use Rattle.mr_filter.specs.declared.fault.FilterFault.{FilterFault}
+use Rattle.mr_filter.specs.declared.fault.FilterFault.TheVariants as filters
 use Rattle.mr_script.specs.declared.fault.LineFault.{LineFault}
-use Rattle.mr_script.specs.declared.fault.LineFault.TheVariants.{OutOfMemory, MessageRefused}
+use Rattle.mr_script.specs.declared.fault.LineFault.TheVariants.{OutOfMemory, MessageRefused, BadFilter, TooManyClauses, TooManyLabels}
 use Rattle.mr_script.specs.declared.fault.ScriptFault.{ScriptFault}
 use Rattle.mr_script.specs.declared.fault.ScriptFault.TheVariants.{Line, Read, Write, TooLong}
 use Rattle.mr_script.specs.declared.source.SourceFault.{SourceFault}
@@ -14,6 +16,13 @@ use Rattle.mr_script.specs.declared.source.SourceFault.TheVariants as source
 abbrev pub fault_of_message : MessageFault → LineFault
 fault_of_message NoMemory = OutOfMemory
 fault_of_message fault = MessageRefused (fault_number fault)
+
+-- how a script tells that a text is no filter
+abbrev pub fault_of_filter : FilterFault → LineFault
+fault_of_filter filters.OutOfMemory = OutOfMemory
+fault_of_filter (filters.BadFilter place) = BadFilter place
+fault_of_filter filters.TooManyClauses = TooManyClauses
+fault_of_filter filters.TooManyLabels = TooManyLabels
 
 -- what ends a script whose line of this number can't be had
 abbrev pub fault_of_source : ℕ → SourceFault → ScriptFault

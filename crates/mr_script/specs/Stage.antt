@@ -10,20 +10,21 @@ use Rattle.mr_forms.specs.Sets.{is_listed}
 use Rattle.mr_concise.specs.Fragments.{ConciseFragment}
 use Rattle.mr_concise.specs.Vector.{vector_has}
 use Rattle.mr_replica.specs.Fragments.{HaveKnown, HasHoleyFragments}
-use Rattle.mr_replica.specs.Heads.{held}
+use Rattle.mr_version.specs.Name.{Name}
 use Rattle.mr_madewith.specs.Revision.{Rev}
-use Rattle.mr_replica.specs.State.{State}
+use Rattle.mr_store.specs.Revisions.{AreConflicts}
+use Rattle.mr_replica.specs.State.{State, held}
 use Rattle.mr_replica.specs.Step.{Steps}
 use Rattle.mr_replica.specs.declared.event.Event.{Event}
 use Rattle.mr_replica.specs.declared.event.Reply.{Reply}
-use Rattle.mr_replica.specs.declared.filter.Filter.{Filter}
+use Rattle.mr_filter.specs.Filter.{ClauseParts}
 use Rattle.mr_replica.specs.declared.refusal.Refusal.{Refusal}
 use Rattle.mr_replica.specs.declared.refusal.Refusal.TheVariants.{OutOfMemory as NoMemory, TooManyHoles}
 use Rattle.mr_script.specs.declared.command.Command.{Command}
-use Rattle.mr_script.specs.declared.command.Command.TheVariants.{AddReplica, Give, Heads, Feed, Log, Know, Show}
+use Rattle.mr_script.specs.declared.command.Command.TheVariants.{AddReplica, Give, Heads, PushOuts, Conflicts, Feed, Log, Know, Show}
 use Rattle.mr_script.specs.declared.fault.LineFault.{LineFault}
 use Rattle.mr_script.specs.declared.fault.LineFault.TheVariants.{BadLimit, NoSuchReplica, OutOfMemory}
-use Rattle.mr_script.specs.Answer.{reply_text, refused_text, heads_text, feed_text, log_text, know_text, Shows}
+use Rattle.mr_script.specs.Answer.{reply_text, refused_text, heads_text, push_outs_text, conflicts_text, feed_text, log_text, know_text, Shows}
 use Rattle.mr_script.specs.Command.{Scene}
 use Rattle.mr_script.specs.Reading.{Reading}
 
@@ -58,6 +59,11 @@ tells_held None result = tells (codes "not held\n") result
 tells_held (Some r) (Ok text) = Shows r text
 tells_held (Some r) (Err fault) = fault ≡ OutOfMemory
 
+-- what is printed of the items with several heads
+abbrev pub tells_conflicts : ℕ → List Rev → Reading (List ℕ)
+tells_conflicts id heads (Ok text) = (items : List Name) × AreConflicts heads items × (text ≡ conflicts_text id items)
+tells_conflicts id heads (Err fault) = fault ≡ OutOfMemory
+
 -- the text is that of fragments that have what is known
 pub record IsKnowText (id : ℕ) (known : Pairs) (text : List ℕ) : Type 0 where
   pub fragments : List ConciseFragment
@@ -87,10 +93,10 @@ module _ {K : Type 0} where
   with_replica s id state = record s { replicas = set_value (is_at (nat_cmp id)) s.replicas state }
 
   -- a replica with nothing in it, which knows nothing
-  abbrev pub IsFresh : Form K → ℕ → Filter → ℕ → State K → Type 0
+  abbrev pub IsFresh : Form K → ℕ → List ClauseParts → ℕ → State K → Type 0
   IsFresh form id filter limit state =
       AreSame (form.known state.knowledge) (λ _ _. false) ×
-      (state ≡ record { id = id; filter = filter; event_limit = limit; issued = 0; knowledge = state.knowledge; heads = []; trail = []; feed = []; log = [] })
+      (state ≡ record { id = id; filter = filter; event_limit = limit; issued = 0; knowledge = state.knowledge; heads = []; push_outs = []; trail = []; feed = []; log = [] })
 
   -- what is done to the replica that there is
   abbrev pub at_replica : Option (State K) → (State K → Reading (List ℕ)) → Reading (List ℕ)
@@ -104,7 +110,7 @@ module _ {K : Type 0} where
     pub told : tells_answer answer result
 
   -- a replica is made
-  abbrev pub Makes : Form K → Stage K → ℕ → ℕ → Filter → Result (List ℕ) LineFault → Stage K → Type 0
+  abbrev pub Makes : Form K → Stage K → ℕ → ℕ → List ClauseParts → Result (List ℕ) LineFault → Stage K → Type 0
   Makes form s id limit filter (Ok text) new =
       (text ≡ []) × ((state : State K) × IsFresh form id filter limit state × (new ≡ record s { replicas = insert_entry nat_cmp s.replicas id state }))
   Makes form s id limit filter (Err fault) new = (fault ≡ OutOfMemory) ⊎ ((fault ≡ BadLimit) × ¬ ((1 ≤ limit) × (limit ≤ 1000000)))
@@ -115,7 +121,9 @@ module _ {K : Type 0} where
   Does form s (Give id event) result new =
       at_replica (replica_at s id) (λ state r. (after : State K) × Takes form state event r after × (new ≡ with_replica (opened s) id after)) result
   Does form s (Heads id) result new = at_replica (replica_at s id) (λ state r. tells (heads_text id state.heads) r × (new ≡ opened s)) result
+  Does form s (PushOuts id) result new = at_replica (replica_at s id) (λ state r. tells (push_outs_text id state.push_outs) r × (new ≡ opened s)) result
+  Does form s (Conflicts id) result new = at_replica (replica_at s id) (λ state r. tells_conflicts id state.heads r × (new ≡ opened s)) result
   Does form s (Feed id) result new = at_replica (replica_at s id) (λ state r. tells (feed_text id state.feed) r × (new ≡ opened s)) result
   Does form s (Log id) result new = at_replica (replica_at s id) (λ state r. tells (log_text id (length state.log)) r × (new ≡ opened s)) result
   Does form s (Know id) result new = at_replica (replica_at s id) (λ state r. tells_known id (form.known state.knowledge) r × (new ≡ opened s)) result
-  Does form s (Show id v) result new = at_replica (replica_at s id) (λ state r. tells_held (held state.heads v) r × (new ≡ opened s)) result
+  Does form s (Show id v) result new = at_replica (replica_at s id) (λ state r. tells_held (held state v) r × (new ≡ opened s)) result

@@ -1,13 +1,13 @@
 //! The texts of answers, each a line with its line feed.
 ghost use Rattle.std.specs.Prelude.{◌≡◌, IfOk, OnOk, ◌++◌, map, codes, string_bytes};
-ghost use Rattle.mr_script.specs.Answer.{reply_text, refused_text, named_version, heads_text, feed_text, log_text, know_text, flags_text, joined, subject_text, shown_words, Shows};
+ghost use Rattle.mr_script.specs.Answer.{reply_text, refused_text, named_version, heads_text, push_outs_text, spaced_versions, conflicts_text, feed_text, log_text, know_text, flags_text, joined, subject_text, shown_words, Shows};
 
 use mr_concise::{ConciseVector, knowledge_text};
 use mr_feed::Entry;
 use mr_forms::Fragment;
 use mr_mail::{Flags, Label, Message};
 use mr_replica::{Refusal, Reply, Revision};
-use mr_version::{Author, Version};
+use mr_version::{Author, ItemId, Version};
 use std::alloc::{AllocError, Global};
 
 /// `issued V`: the version that a replica gave to a message.
@@ -49,9 +49,43 @@ pub(crate) fn heads_line(
 ) -> Result<String, AllocError>
     ensures { IfOk result (λ line. string_bytes line ≡ heads_text replica heads.now) }
 {
-    let mut line = format!(in alloc; "heads {replica}:")?;
-    for revision in heads {
+    with_versions(format!(in alloc; "heads {replica}:")?, heads)
+}
+
+/// `pushouts R:` and each version after a space.
+pub(crate) fn push_outs_line(
+    alloc: Global,
+    replica: Author,
+    push_outs: &[Revision],
+) -> Result<String, AllocError>
+    ensures { IfOk result (λ line. string_bytes line ≡ push_outs_text replica push_outs.now) }
+{
+    with_versions(format!(in alloc; "pushouts {replica}:")?, push_outs)
+}
+
+/// The line goes on with each version after a space, and ends.
+fn with_versions(mut line: String, revisions: &[Revision]) -> Result<String, AllocError>
+    ensures { IfOk result (λ whole. string_bytes whole ≡ string_bytes line ++ spaced_versions revisions.now ++ codes "\n") }
+{
+    for revision in revisions {
         let version = revision.version();
+        write!(line, " {version}")?;
+    }
+    line.push('\n')?;
+    Ok(line)
+}
+
+/// `conflicts R:` and each item after a space.
+pub(crate) fn conflicts_line(
+    alloc: Global,
+    replica: Author,
+    items: &[ItemId],
+) -> Result<String, AllocError>
+    ensures { IfOk result (λ line. string_bytes line ≡ conflicts_text replica items.now) }
+{
+    let mut line = format!(in alloc; "conflicts {replica}:")?;
+    for item in items {
+        let version = item.creator();
         write!(line, " {version}")?;
     }
     line.push('\n')?;

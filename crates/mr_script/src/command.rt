@@ -8,8 +8,9 @@ use crate::LineFault;
 use crate::lists::{read_bases, read_flags, read_labels, read_version};
 use crate::number::{read_id, read_number};
 use crate::words::Words;
+use mr_filter::Filter;
 use mr_mail::{Day, Flags, Message};
-use mr_replica::{Event, Filter};
+use mr_replica::Event;
 use mr_version::{Author, Version};
 use std::alloc::Global;
 use std::marker::Model;
@@ -19,9 +20,6 @@ const MAX_EVENTS: u32 = 1_000_000;
 
 /// The most entries that may wait at a port.
 const MAX_CAPACITY: u32 = 4_096;
-
-/// The one text that is a filter today: all messages.
-const ALL: &str = "all";
 
 /// What stands between a subject and a body.
 const BODY_MARK: &str = " // ";
@@ -41,8 +39,16 @@ pub(crate) enum Command {
         replica: Author,
         event: Event,
     },
-    /// Asks for the versions that a replica holds.
+    /// Asks for the versions of a replica's heads.
     Heads {
+        replica: Author,
+    },
+    /// Asks for the versions of a replica's push-outs.
+    PushOuts {
+        replica: Author,
+    },
+    /// Asks for the items of which a replica has several heads.
+    Conflicts {
         replica: Author,
     },
     /// Asks for the entries of a replica's feed.
@@ -111,10 +117,16 @@ fn read_args<R: Roster>(
     ensures { reads_args (R.scene roster.now) name.now words.entry result }
 {
     match name {
-        "replica" => read_add_replica(words, roster),
+        "replica" => read_add_replica(alloc, words, roster),
         "create" => read_create(alloc, words, roster),
         "edit" => read_edit(alloc, words, roster),
         "heads" => Ok(Command::Heads {
+            replica: read_only_replica(words, roster)?,
+        }),
+        "pushouts" => Ok(Command::PushOuts {
+            replica: read_only_replica(words, roster)?,
+        }),
+        "conflicts" => Ok(Command::Conflicts {
             replica: read_only_replica(words, roster)?,
         }),
         "feed" => Ok(Command::Feed {
@@ -132,29 +144,38 @@ fn read_args<R: Roster>(
 }
 
 /// `ID LIMIT CAP FILTER`, where there may be one replica more.
-fn read_add_replica<R: Roster>(words: Words, roster: &R) -> Result<Command, LineFault>
+fn read_add_replica<R: Roster>(
+    alloc: Global,
+    words: Words,
+    roster: &R,
+) -> Result<Command, LineFault>
     ensures { reads_add (R.scene roster.now) words.entry result }
 {
     if roster.has_room() {
-        read_opening(words, roster)
+        read_opening(alloc, words, roster)
     } else {
         Err(LineFault::UnknownCommand)
     }
 }
 
 /// `ID LIMIT CAP FILTER`
-fn read_opening<R: Roster>(mut words: Words, roster: &R) -> Result<Command, LineFault>
+fn read_opening<R: Roster>(
+    alloc: Global,
+    mut words: Words,
+    roster: &R,
+) -> Result<Command, LineFault>
     ensures { reads_opening (R.scene roster.now) words.entry result }
 {
     let id = words.next_word()?;
     let limit = words.next_word()?;
     let capacity = words.next_word()?;
     let filter = words.text()?;
-    read_opening_words(id, limit, capacity, filter, roster)
+    read_opening_words(alloc, id, limit, capacity, filter, roster)
 }
 
 /// `ID LIMIT CAP FILTER`, once each has its words.
 fn read_opening_words<R: Roster>(
+    alloc: Global,
     id: &str,
     limit: &str,
     capacity: &str,
@@ -167,7 +188,7 @@ fn read_opening_words<R: Roster>(
         id: read_first_id(id, roster)?,
         event_limit: read_up_to(limit, MAX_EVENTS, LineFault::BadLimit)?,
         capacity: read_up_to(capacity, MAX_CAPACITY, LineFault::BadCapacity)?,
-        filter: read_filter(filter)?,
+        filter: read_filter(alloc, filter)?,
     })
 }
 
@@ -270,15 +291,12 @@ fn read_up_to(word: &str, most: u32, outside: LineFault) -> Result<u32, LineFaul
     }
 }
 
-/// The filter whose text this is. `BadFilter` for each text but `all`.
-fn read_filter(text: &str) -> Result<Filter, LineFault>
+/// The filter whose text this is. `BadFilter`, `TooManyClauses`, `TooManyLabels`, and `OutOfMemory`
+/// last.
+fn read_filter(alloc: Global, text: &str) -> Result<Filter, LineFault>
     ensures { reads_filter text.now result }
 {
-    if text == ALL {
-        Ok(Filter::all())
-    } else {
-        Err(LineFault::BadFilter { place: 0 })
-    }
+    Ok(Filter::read(alloc, text)?)
 }
 
 /// The day that the word is. `BadDate` where it is none.

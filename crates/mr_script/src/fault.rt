@@ -1,8 +1,9 @@
 //! Why a script ends before its end.
 ghost use Rattle.std.specs.Prelude.{◌≡◌};
 ghost use Rattle.mr_script.specs.declared.fault.LineFault.TheVariants.{OutOfMemory};
-ghost use Rattle.mr_script.specs.Fault.{fault_of_message};
+ghost use Rattle.mr_script.specs.Fault.{fault_of_message, fault_of_filter};
 
+use mr_filter::FilterFault;
 use mr_mail::MessageFault;
 use std::alloc::{AllocError, AllocFailed};
 use thiserror::Error;
@@ -31,9 +32,15 @@ pub enum LineFault {
     /// A word is no list of flags.
     #[error("bad flags")]
     BadFlags,
-    /// The text of a filter is none from this place on, counted in bytes.
+    /// A piece of a filter's text is none, the first of them with so many bytes before it.
     #[error("bad filter at {place}")]
-    BadFilter { place: u64 },
+    BadFilter { place: usize },
+    /// A filter's text has more than 16 clauses.
+    #[error("too many clauses")]
+    TooManyClauses,
+    /// A clause of a filter's text has more than 8 labels.
+    #[error("too many labels")]
+    TooManyLabels,
     /// The parts of a message make none, for the reason that has this number among those of
     /// `MessageFault`.
     #[error("message refused {number}")]
@@ -101,6 +108,20 @@ impl From<MessageFault> for LineFault {
             refused => LineFault::MessageRefused {
                 number: refused.number(),
             },
+        }
+    }
+}
+
+/// A filter's fault is told as it is.
+impl From<FilterFault> for LineFault {
+    ghost from_gives = { λ error fault. fault ≡ fault_of_filter error };
+
+    fn from(error: FilterFault) -> LineFault {
+        match error {
+            FilterFault::OutOfMemory => LineFault::OutOfMemory,
+            FilterFault::BadFilter(place) => LineFault::BadFilter { place },
+            FilterFault::TooManyClauses => LineFault::TooManyClauses,
+            FilterFault::TooManyLabels => LineFault::TooManyLabels,
         }
     }
 }

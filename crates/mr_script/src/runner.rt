@@ -1,16 +1,18 @@
 //! The replicas of a script, and what its commands do to them.
 ghost use Rattle.std.specs.Prelude.{◌≡◌, [], true, Some, None, MatchResult};
 ghost use Rattle.mr_forms.specs.Plain.{plain_form, plain_known};
-ghost use Rattle.mr_replica.specs.Heads.{held};
-ghost use Rattle.mr_script.specs.Stage.{Does, Makes, Takes, tells_answer, tells_known, tells_held, replica_at, text_of};
+ghost use Rattle.mr_replica.specs.State.{held};
+ghost use Rattle.mr_script.specs.Stage.{Does, Makes, Takes, tells_answer, tells_known, tells_held, tells_conflicts, replica_at, text_of};
 
 use crate::LineFault;
 use crate::answer::{
-    feed_line, heads_line, know_line, log_line, not_held_line, refused_line, reply_line, show_line,
+    conflicts_line, feed_line, heads_line, know_line, log_line, not_held_line, push_outs_line,
+    refused_line, reply_line, show_line,
 };
 use crate::command::{Command, Roster};
+use mr_filter::Filter;
 use mr_forms::{FormFault, PlainKnowledge};
-use mr_replica::{Event, Filter, Refusal, Replica, Reply};
+use mr_replica::{Event, Refusal, Replica, Reply};
 use mr_version::{Author, Version};
 use std::alloc::Global;
 use std::collections::BTreeMap;
@@ -77,6 +79,8 @@ impl Runner {
             } => self.add_replica(id, event_limit, filter),
             Command::Give { replica, event } => self.give(replica, event),
             Command::Heads { replica } => self.heads(replica),
+            Command::PushOuts { replica } => self.push_outs(replica),
+            Command::Conflicts { replica } => self.conflicts(replica),
             Command::Feed { replica } => self.feed(replica),
             Command::Log { replica } => self.log(replica),
             Command::Know { replica } => self.know(replica),
@@ -129,6 +133,22 @@ impl Runner {
         Ok(heads_line(alloc, id, self.replica(id)?.heads())?)
     }
 
+    fn push_outs(&mut self, id: Author) -> Result<String, LineFault>
+        ensures { Does plain_form self.old (Command.PushOuts id) (text_of result) self.new }
+    {
+        self.is_opening = false;
+        let alloc = self.alloc;
+        Ok(push_outs_line(alloc, id, self.replica(id)?.push_outs())?)
+    }
+
+    fn conflicts(&mut self, id: Author) -> Result<String, LineFault>
+        ensures { Does plain_form self.old (Command.Conflicts id) (text_of result) self.new }
+    {
+        self.is_opening = false;
+        let alloc = self.alloc;
+        several_line(alloc, id, self.replica(id)?)
+    }
+
     fn feed(&mut self, id: Author) -> Result<String, LineFault>
         ensures { Does plain_form self.old (Command.Feed id) (text_of result) self.new }
     {
@@ -177,13 +197,25 @@ fn known_line(
     }
 }
 
+/// The items of which the replica has several heads.
+fn several_line(
+    alloc: Global,
+    id: Author,
+    replica: &Replica<PlainKnowledge>,
+) -> Result<String, LineFault>
+    ensures { tells_conflicts id replica.now.heads (text_of result) }
+{
+    let items = replica.conflicts()?;
+    Ok(conflicts_line(alloc, id, &items)?)
+}
+
 /// What the replica shows of a version.
 fn held_line(
     alloc: Global,
     replica: &Replica<PlainKnowledge>,
     version: Version,
 ) -> Result<String, LineFault>
-    ensures { tells_held (held replica.now.heads version) (text_of result) }
+    ensures { tells_held (held replica.now version) (text_of result) }
 {
     match replica.held(version) {
         Some(revision) => Ok(show_line(alloc, revision)?),

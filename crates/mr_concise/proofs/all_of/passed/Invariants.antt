@@ -1,5 +1,5 @@
 use Rattle.std.proofs.Common.{take}
-use Rattle.mr_concise.specs.Last.{of_author}
+use Rattle.mr_forms.specs.Runs.{of_author}
 use Rattle.mr_concise.specs.AllOf.{in_all, IsPassed}
 use Rattle.mr_concise.proofs.all_of.passed.Given as goal
 

@@ -1,4 +1,4 @@
-use Rattle.mr_concise.specs.Last.{of_author}
+use Rattle.mr_forms.specs.Runs.{of_author}
 use Rattle.std.proofs.Common.{◌-◌}
 use Rattle.mr_concise.proofs.SweepLemmas.{swept-more, swept-end, IsColumn-from_few}
 use Rattle.mr_concise.proofs.sweep.gathered_column.Goals as goal

@@ -1,5 +1,5 @@
 use Rattle.std.proofs.lemmas.Bool.{ltb-true, ltb-false}
-use Rattle.mr_concise.specs.Last.{of_author}
+use Rattle.mr_forms.specs.Runs.{of_author}
 use Rattle.mr_concise.proofs.SweepLemmas.{SweptCount-more, SweptCount-many, SweptCount-few}
 use Rattle.mr_concise.proofs.sweep.has_many_holes.Goals as goal
 

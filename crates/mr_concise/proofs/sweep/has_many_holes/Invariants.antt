@@ -1,5 +1,5 @@
 use Rattle.std.proofs.Common.{◌-◌}
-use Rattle.mr_concise.specs.Last.{of_author}
+use Rattle.mr_forms.specs.Runs.{of_author}
 use Rattle.mr_concise.proofs.SweepLemmas.{SweptCount}
 use Rattle.mr_concise.proofs.sweep.has_many_holes.Given as goal
 

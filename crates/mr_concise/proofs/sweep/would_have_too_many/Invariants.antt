@@ -1,5 +1,5 @@
 use Rattle.std.proofs.Common.{◌-◌, ◌<◌, ℕ}
-use Rattle.mr_concise.specs.Last.{of_author}
+use Rattle.mr_forms.specs.Runs.{of_author}
 use Rattle.mr_concise.specs.Source.{HasFewHoles}
 use Rattle.mr_concise.proofs.sweep.would_have_too_many.Given as goal
 

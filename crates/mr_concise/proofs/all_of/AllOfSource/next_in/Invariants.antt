@@ -1,6 +1,6 @@
 use Rattle.std.proofs.Common.{take, ◌≤◌}
 use Rattle.std.specs.Prelude.{IfSome}
-use Rattle.mr_concise.specs.Last.{of_author}
+use Rattle.mr_forms.specs.Runs.{of_author}
 use Rattle.mr_concise.specs.AllOf.{in_all}
 use Rattle.mr_concise.proofs.AllOfLemmas.{NextIn}
 use Rattle.mr_concise.proofs.all_of.AllOfSource.next_in.Given as goal

@@ -1,5 +1,5 @@
 use Rattle.std.proofs.Common.{◌-◌}
-use Rattle.mr_concise.specs.Last.{of_author}
+use Rattle.mr_forms.specs.Runs.{of_author}
 use Rattle.mr_concise.specs.AllOf.{in_all}
 use Rattle.mr_concise.proofs.AllOfLemmas.{IsAllTo}
 use Rattle.mr_concise.proofs.all_of.AllOfSource.next_out.Given as goal

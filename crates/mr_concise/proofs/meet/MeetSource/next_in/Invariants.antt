@@ -1,5 +1,5 @@
 use Rattle.std.proofs.Common.{◌-◌}
-use Rattle.mr_concise.specs.Last.{of_author}
+use Rattle.mr_forms.specs.Runs.{of_author}
 use Rattle.mr_concise.specs.Meet.{meet_has}
 use Rattle.mr_concise.proofs.MeetLemmas.{NoneTo}
 use Rattle.mr_concise.proofs.meet.MeetSource.next_in.Given as goal

@@ -1,6 +1,6 @@
 use Rattle.std.proofs.Common.{◌-◌}
 use Rattle.mr_forms.specs.Sets.{both}
-use Rattle.mr_concise.specs.Last.{of_author}
+use Rattle.mr_forms.specs.Runs.{of_author}
 use Rattle.mr_concise.proofs.AllOfLemmas.{IsAllTo}
 use Rattle.mr_concise.proofs.sources.Tuple2Source.next_out.Given as goal
 

@@ -10,6 +10,7 @@ use Rattle.mr_forms.specs.Plain.{had_by_item}
 use Rattle.mr_forms.specs.PlainSteps.{EndsBy}
 use Rattle.mr_forms.proofs.SetLemmas.{passes_on, or_nothing}
 use Rattle.mr_forms.proofs.FragmentLemmas.{all_covered-parts, ends_by-rest}
+use Rattle.mr_forms.proofs.PlainPartLemmas.{plain_parts}
 use Rattle.mr_forms.proofs.plain_knowledge.PlainKnowledgeKnowledge.fragments.Goals as goal
 
 pub loop-pair-init : goal.loop-pair-init
@@ -50,3 +51,12 @@ returns-clause-ok c i v =
     sym (all_covered-parts c.loop-pair.fragments.items i v
     ∙ ap (λ b. b || had_by_item c.loop-pair.fragments.items i v) (c.loop-pair.invariant.for_all v)
     ∙ ap (λ b. is_listed c.args.self.now.for_all v || b) (or_nothing (had_by_item c.loop-pair.fragments.items i v) ∙ by_item))
+
+pub returns-clause-parts : goal.returns-clause-parts
+returns-clause-parts c =
+    let none_left : c.loop-pair.pair-iterator ≡ [] = rest_all deref c.loop-pair.pair-iterator c.next.new.self c.next.result c.in-None.is c.next.ensures.steps in
+    plain_parts c.args.self.now c.loop-pair.fragments.items (record {
+      for_all = c.loop-pair.invariant.for_all;
+      by_item = λ i v. or_nothing (had_by_item c.loop-pair.fragments.items i v) ∙ rw none_left at (c.loop-pair.invariant.by_item i v);
+      one_by_one = c.loop-pair.invariant.one_by_one;
+    })

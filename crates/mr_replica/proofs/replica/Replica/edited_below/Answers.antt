@@ -1,39 +1,50 @@
-use Rattle.std.proofs.Common.{◌∙◌, sym, subst, ap}
-use Rattle.std.proofs.lemmas.Result.{err_from_is_err_and}
+use Rattle.std.proofs.Common.{◌≡◌, ◌↔◌, List, IfOk, IsErrOf, subst, ap, ◌∙◌}
+use Rattle.std.specs.Option.{option_copied}
+use Rattle.mr_forms.specs.Sets.{Test}
+use Rattle.mr_forms.specs.declared.fault.FormFault.TheVariants.{TooManyHoles}
+use Rattle.mr_concise.specs.Vector.{HasTooManyHoles}
+use Rattle.mr_concise.specs.AllOf.{in_all}
+use Rattle.mr_madewith.specs.MadeWith.{filled_below, AreColumnsOf}
+use Rattle.mr_madewith.specs.Revision.{Rev}
+use Rattle.mr_madewith.specs.Trail.{Track, last_of}
+use Rattle.mr_store.specs.Holdings.{Holdings}
+use Rattle.mr_store.specs.HeldVersions.{by_held}
 use Rattle.mr_replica.specs.State.{State}
+use Rattle.mr_replica.specs.Issue.{below_for}
+use Rattle.std.proofs.lemmas.Result.{IfOk-weaker}
+use Rattle.mr_version.specs.Name.{Name}
 use Rattle.mr_replica.specs.Sound.{IsSound}
-use Rattle.mr_replica.specs.Step.{edited_below}
-use Rattle.mr_replica.proofs.Below.{edited_no_later, edited_is}
-use Rattle.mr_replica.proofs.Answered.{refused_fault}
+use Rattle.mr_replica.specs.Edit.{edited_item}
+use Rattle.mr_replica.proofs.Below.{below_for-sources, edited_next}
 use Rattle.mr_replica.proofs.replica.Replica.edited_below.Goals as goal
-
-pub returns-in_err-below-clause-refused : goal.returns-in_err-below-clause-refused
-returns-in_err-below-clause-refused g c =
-    let p = err_from_is_err_and c.from_residual-in_err-below.result c.from_residual-in_err-below.ensures.1 in
-    let trail = ap (λ (s : State g.row.K.Denot). s.trail) c.self.view_is in
-    rw (p.1, p.2)
-    (refused_fault (edited_below c.args.self.now c.args.bases.now) c.in_err-below.field-0.0 c.below_of.result c.in_err-below.was
-    (rw (c.deref.ensures.value, c.in_ok-revisions.ensures, c.last.ensures, c.requires.item, c.requires.version, trail) at c.below_of.ensures.holes.0)
-    c.below_of.ensures.items)
 
 pub returns-clause-ok : goal.returns-clause-ok
 returns-clause-ok g c =
-    let trail = ap (λ (s : State g.row.K.Denot). s.trail) c.self.view_is in
-    rw (c.deref.ensures.value, c.in_ok-revisions.ensures, c.last.ensures, c.requires.item, c.requires.version, trail) at c.in_ok-below.ensures.ok
+    let s = c.args.self.now in
+    let heads = ap (λ (p : State g.row.K.Denot). p.heads) c.self.view_is in
+    let push_outs = ap (λ (p : State g.row.K.Denot). p.push_outs) c.self.view_is in
+    let trail = ap (λ (p : State g.row.K.Denot). p.trail) c.self.view_is in
+    let is : filled_below (in_all (by_held c.store.result.now) c.args.bases.now) (option_copied c.last.result) c.args.version ≡ below_for s c.args.item c.args.bases.now =
+    below_for-sources s c.store.result.now c.args.item c.args.bases.now (option_copied c.last.result) c.args.version
+    (ap (λ (h : Holdings). h.heads) c.store.ensures ∙ heads) (ap (λ (h : Holdings). h.push_outs) c.store.ensures ∙ push_outs) (c.last.ensures ∙ ap (λ (t : List Rev). last_of t c.args.item) (ap (λ (t : Track). t.lasts) c.trail.ensures ∙ trail)) c.requires.version c.requires.admitted in
+    subst (λ (t : Test). IfOk c.below_of.result (AreColumnsOf t)) is c.below_of.ensures.ok
 
-pub returns-clause-fits : goal.returns-clause-fits
-returns-clause-fits g c many =
-    let trail = ap (λ (s : State g.row.K.Denot). s.trail) c.self.view_is in
-    let err = (rw (c.deref.ensures.value, c.in_ok-revisions.ensures, c.last.ensures, c.requires.item, c.requires.version, trail) at c.below_of.ensures.holes.1) many in
-    cc (sym c.in_ok-below.was ∙ err)
+pub returns-clause-holes : goal.returns-clause-holes
+returns-clause-holes g c =
+    let s = c.args.self.now in
+    let heads = ap (λ (p : State g.row.K.Denot). p.heads) c.self.view_is in
+    let push_outs = ap (λ (p : State g.row.K.Denot). p.push_outs) c.self.view_is in
+    let trail = ap (λ (p : State g.row.K.Denot). p.trail) c.self.view_is in
+    let is : filled_below (in_all (by_held c.store.result.now) c.args.bases.now) (option_copied c.last.result) c.args.version ≡ below_for s c.args.item c.args.bases.now =
+    below_for-sources s c.store.result.now c.args.item c.args.bases.now (option_copied c.last.result) c.args.version
+    (ap (λ (h : Holdings). h.heads) c.store.ensures ∙ heads) (ap (λ (h : Holdings). h.push_outs) c.store.ensures ∙ push_outs) (c.last.ensures ∙ ap (λ (t : List Rev). last_of t c.args.item) (ap (λ (t : Track). t.lasts) c.trail.ensures ∙ trail)) c.requires.version c.requires.admitted in
+    subst (λ (t : Test). IsErrOf c.below_of.result TooManyHoles ↔ HasTooManyHoles t) is c.below_of.ensures.holes
 
-pub returns-clause-is : goal.returns-clause-is
-returns-clause-is g c =
+pub returns-clause-next : goal.returns-clause-next
+returns-clause-next g c =
+    let s = c.args.self.now in
+    let bases = c.args.bases.now in
     let sound = subst IsSound c.self.view_is c.self.invariant in
-    rw (c.requires.item, c.requires.version)
-    (edited_is c.args.self.now sound c.args.bases.now c.in_ok-below.below c.requires.admitted (returns-clause-ok g c))
-
-pub returns-clause-no_later : goal.returns-clause-no_later
-returns-clause-no_later g c v in' =
-    let sound = subst IsSound c.self.view_is c.self.invariant in
-    edited_no_later c.args.self.now sound c.args.bases.now v (sym (returns-clause-ok g c v) ∙ in')
+    IfOk-weaker c.below_of.result _ _ (λ below of m.
+    let of' : AreColumnsOf (below_for s (edited_item s bases) bases) below = subst (λ (i : Name). AreColumnsOf (below_for s i bases) below) c.requires.item of in
+    rw (c.requires.item, c.requires.version) (edited_next s sound bases m below c.requires.admitted of')) (returns-clause-ok g c)

@@ -1,9 +1,10 @@
-use Rattle.std.proofs.Common.{rules, ◌==◌, ◌&&◌, not}
-use Rattle.mr_version.specs.Name.{Name}
-use Rattle.mr_forms.specs.Sets.{is_listed}
-use Rattle.mr_replica.proofs.HeadLemmas.{find-versions_of}
+use Rattle.std.proofs.Common.{refl, ap}
+use Rattle.mr_replica.specs.State.{State}
 use Rattle.mr_replica.proofs.replica.Replica.own_left.Goals as goal
 
 pub returns : goal.returns
 returns g c =
-    rw (← find-versions_of (λ (v : Name). (v.author == c.args.self.now.id) && not (is_listed c.args.bases.now v)) c.args.item c.args.self.now.heads) (search rules)
+    let id = ap (λ (p : State g.row.K.Denot). p.id) c.self.view_is in
+    let heads = ap (λ (p : State g.row.K.Denot). p.heads) c.self.view_is in
+    let push_outs = ap (λ (p : State g.row.K.Denot). p.push_outs) c.self.view_is in
+    rw (c.lower.ensures, c.first_left.ensures, c.first_left-2.ensures, c.heads_of.ensures, c.push_outs_of.ensures, c.store-store.ensures, id, heads, push_outs) refl

@@ -1,0 +1,100 @@
+use Rattle.std.proofs.Common.{◌≡◌, ◌<◌, ◌≤◌, ◌⊎◌, ℕ, Bool, true, false, refl, ap, sym, ◌∙◌, arith, inl, inr}
+use Rattle.std.specs.Ordering.{is_gt}
+use Rattle.std.proofs.lemmas.Bool.{or_cases, false≢true}
+use Rattle.std.proofs.lemmas.Bool.Decides.{nat_tests}
+use Rattle.mr_version.specs.Name.{Name, IsVersion, name_cmp, name_eq}
+use Rattle.mr_forms.specs.Sets.{Test, IsSame, both}
+use Rattle.mr_forms.specs.Runs.{HasVersionsAlone, HasNoAuthorFrom, IsNextAuthor, HasNoRunFrom, IsFirstFrom}
+
+-- two sets of versions together
+pub versions_alone-both : (s t u : Test) → IsSame u (both s t) → HasVersionsAlone s → HasVersionsAlone t → HasVersionsAlone u
+versions_alone-both s t u same from_s from_t v h = by_side (or_cases (s v) (t v) (sym (same v) ∙ h))
+  where
+    by_side : (s v ≡ true) ⊎ (t v ≡ true) → IsVersion v.author v.counter
+    by_side (inl l) = from_s v l
+    by_side (inr r) = from_t v r
+
+-- a version alone
+pub version_alone : (w : Name) → IsVersion w.author w.counter → HasVersionsAlone (name_eq w)
+version_alone w is v same =
+    let a : w.author ≡ v.author = grind (arith, nat_tests) in
+    let c : w.counter ≡ v.counter = grind (arith, nat_tests) in
+    record { author_in = rw (← a) is.author_in; counter_from = rw (← c) is.counter_from; counter_to = rw (← c) is.counter_to }
+
+-- a version of an author from a counter on is none below that one
+pub from_start : (author from c : ℕ) → from ≤ c → is_gt (name_cmp (record { author = author; counter = from }) (record { author = author; counter = c })) ≡ false
+from_start author from c above = grind (arith, nat_tests)
+
+pub from_start_at : (start : Name) (author from c : ℕ) → (start.author ≡ author) × (start.counter ≡ from) → from ≤ c → is_gt (name_cmp start (record { author = author; counter = c })) ≡ false
+from_start_at start author from c is above = rw (is.0, is.1) (from_start author from c above)
+
+-- what is not below w, and of its author, has its counter or a higher one
+pub from_counter : (author a b : ℕ) → is_gt (name_cmp (record { author = author; counter = a }) (record { author = author; counter = b })) ≡ false → a ≤ b
+from_counter author a b h = grind (arith, nat_tests)
+
+-- what is not below w is of no lower author
+pub from_author : (a b : Name) → is_gt (name_cmp a b) ≡ false → a.author ≤ b.author
+from_author a b h = grind (arith, nat_tests)
+
+not_in : (b : Bool) → (b ≡ true → ⊥) → b ≡ false
+not_in true h = absurd (h refl)
+not_in false h = refl
+
+after_first : (id q k : ℕ) → id ≤ q → 1 ≤ k → is_gt (name_cmp (record { author = id; counter = 1 }) (record { author = q; counter = k })) ≡ false
+after_first id q k above from = grind (arith, nat_tests)
+
+after_start : (start : Name) (id q k : ℕ) → (start.author ≡ id) × (start.counter ≡ 1) → id ≤ q → 1 ≤ k → is_gt (name_cmp start (record { author = q; counter = k })) ≡ false
+after_start start id q k is above from = rw (is.0, is.1) (after_first id q k above from)
+
+-- the first version from a place on is of another author, and so there is none of this author
+pub no_run-other : (set : Test) (author from : ℕ) (w : Name) → is_gt (name_cmp (record { author = author; counter = from }) w) ≡ false → ((q : Name) → is_gt (name_cmp (record { author = author; counter = from }) q) ≡ false → set q ≡ true → is_gt (name_cmp w q) ≡ false) → (w.author ≡ author → ⊥) → HasNoRunFrom set author from
+no_run-other set author from w after least other c above =
+    not_in (set (record { author = author; counter = c })) (λ is_in.
+    let low = from_author (record { author = author; counter = from }) w after in
+    let high = from_author w (record { author = author; counter = c }) (least (record { author = author; counter = c }) (from_start author from c above) is_in) in
+    other (omega arith))
+
+-- the first version from a place on is of the author, and so it is the first of the author's
+pub first_from-least : (set : Test) (author from : ℕ) (w : Name) → is_gt (name_cmp (record { author = author; counter = from }) w) ≡ false → ((q : Name) → is_gt (name_cmp (record { author = author; counter = from }) q) ≡ false → set q ≡ true → is_gt (name_cmp w q) ≡ false) → set w ≡ true → w.author ≡ author → IsFirstFrom set author from w.counter
+first_from-least set author from w after least is_in same =
+    let is : record { author = author; counter = w.counter } ≡ w = ap (λ (a : ℕ). record { author = a; counter = w.counter }) (sym same) in
+    record {
+      above = from_counter author from w.counter (rw (← is) at after);
+      is_in = ap set is ∙ is_in;
+      before = λ c above below. not_in (set (record { author = author; counter = c })) (λ there.
+          let high = from_counter author w.counter c (rw (← is) at (least (record { author = author; counter = c }) (from_start author from c above) there)) in
+          absurd (omega arith));
+    }
+
+-- the same, from a version
+pub no_run-after : (set : Test) (start : Name) (author from : ℕ) (w : Name) → (start.author ≡ author) × (start.counter ≡ from) → is_gt (name_cmp start w) ≡ false → ((q : Name) → is_gt (name_cmp start q) ≡ false → set q ≡ true → is_gt (name_cmp w q) ≡ false) → (w.author ≡ author → ⊥) → HasNoRunFrom set author from
+no_run-after set start author from w is after least other = rw (← is.0, ← is.1) (no_run-other set start.author start.counter w after least (λ same. other (same ∙ is.0)))
+
+pub first_from-after : (set : Test) (start : Name) (author from : ℕ) (w : Name) → (start.author ≡ author) × (start.counter ≡ from) → is_gt (name_cmp start w) ≡ false → ((q : Name) → is_gt (name_cmp start q) ≡ false → set q ≡ true → is_gt (name_cmp w q) ≡ false) → set w ≡ true → w.author ≡ author → IsFirstFrom set author from w.counter
+first_from-after set start author from w is after least is_in same = rw (← is.0, ← is.1) (first_from-least set start.author start.counter w after least is_in (same ∙ sym is.0))
+
+-- the first version from an author on is of the next author
+pub next_author-first : (set : Test) (start : Name) (id : ℕ) (w : Name) → (start.author ≡ id) × (start.counter ≡ 1) → HasVersionsAlone set → ((q : Name) → is_gt (name_cmp start q) ≡ false → set q ≡ true → is_gt (name_cmp w q) ≡ false) → is_gt (name_cmp start w) ≡ false → set w ≡ true → IsNextAuthor set id w.author
+next_author-first set start id w is alone least after is_in = record {
+  above = let low = from_author start w after in let e = is.0 in omega arith;
+  author_in = (alone w is_in).author_in;
+  between = λ q above below k. not_in (set (record { author = q; counter = k })) (λ there.
+      let real = alone (record { author = q; counter = k }) there in
+      let high = from_author w (record { author = q; counter = k }) (least (record { author = q; counter = k }) (after_start start id q k is above real.counter_from) there) in
+      absurd (omega arith));
+}
+
+pub no_author-none : (set : Test) (start : Name) (id : ℕ) → (start.author ≡ id) × (start.counter ≡ 1) → HasVersionsAlone set → ((q : Name) → is_gt (name_cmp start q) ≡ false → set q ≡ false) → HasNoAuthorFrom set id
+no_author-none set start id is alone none q above k =
+    not_in (set (record { author = q; counter = k })) (λ there.
+    let real = alone (record { author = q; counter = k }) there in
+    false≢true (sym (none (record { author = q; counter = k }) (after_start start id q k is above real.counter_from)) ∙ there))
+
+pub no_author-far : (set : Test) (id : ℕ) → HasVersionsAlone set → 64 ≤ id → HasNoAuthorFrom set id
+no_author-far set id alone far q above k =
+    not_in (set (record { author = q; counter = k })) (λ there. let real = (alone (record { author = q; counter = k }) there).author_in in absurd (omega arith))
+
+-- past the last counter there is no version
+pub no_run-past : (set : Test) (author from : ℕ) → HasVersionsAlone set → 1000000 < from → HasNoRunFrom set author from
+no_run-past set author from alone past c above =
+    not_in (set (record { author = author; counter = c })) (λ is_in. let v = (alone (record { author = author; counter = c }) is_in).counter_to in absurd (omega arith))

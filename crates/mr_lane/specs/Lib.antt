@@ -1,0 +1,10 @@
+pub mod Desk
+pub mod Fault
+pub mod Inbox
+pub mod InboxRule
+pub mod Note
+pub mod Piece
+pub mod Post
+pub mod Tap
+pub mod TapPort
+pub mod TapRule

@@ -1,0 +1,126 @@
+-- a step is a function: its answer and the new replica are decided, memory aside
+use Rattle.std.proofs.Common.{◌≡◌, ◌≢◌, refl, sym, ap, ◌∙◌, List, [], ◌∷◌, Option, Some, None, Result, Ok, Err, inl, inr}
+use Rattle.std.specs.List.{All}
+use Rattle.std.proofs.lemmas.List.Elements.{All-head, All-tail}
+use Rattle.mr_version.specs.Name.{Name}
+use Rattle.mr_forms.specs.Known.{Form}
+use Rattle.mr_concise.specs.declared.vector.AuthorColumn.{AuthorColumn}
+use Rattle.mr_madewith.proofs.MadeWithLemmas.{columns_unique}
+use Rattle.mr_replica.specs.State.{State}
+use Rattle.mr_replica.specs.Issue.{Issue, Wanted, Wanted.Vector, Wanted.Knowledge, below_of_issue, Fits, HasFault, FirstFault, revision_for, issuing, logged, Issues}
+use Rattle.mr_replica.specs.Create.{created}
+use Rattle.mr_replica.specs.Edit.{edited}
+use Rattle.mr_replica.specs.Step.{first_refusal, wanted_by, RefusesLate, Changes, Answers, Steps, IsExact, IsDecided}
+use Rattle.mr_replica.specs.declared.event.Event.{Event}
+use Rattle.mr_replica.specs.declared.event.Event.TheVariants.{Create, Edit}
+use Rattle.mr_replica.specs.declared.event.Reply.{Reply}
+use Rattle.mr_replica.specs.declared.event.Reply.TheVariants.{Issued}
+use Rattle.mr_replica.specs.declared.refusal.Refusal.{Refusal}
+use Rattle.mr_replica.specs.declared.refusal.Refusal.TheVariants.{OutOfMemory, NoBase, NotHeld, MixedItems, OwnHeadLeft, TooManyHoles, TooManyItems, LogFull}
+
+module _ {K : Type 0} (form : Form K) where
+  -- what fits has no fault
+  no_fault : (e : Refusal) (w : Wanted) → Fits form w → HasFault form e w → ⊥
+  no_fault TooManyHoles (Vector set) fits fault = fits fault
+  no_fault TooManyHoles (Knowledge pairs) fits fault = fits.0 fault
+  no_fault TooManyItems (Knowledge pairs) fits fault = fits.1 fault.0
+  no_fault TooManyItems (Vector set) fits fault = fault
+  no_fault OutOfMemory w fits fault = fault
+  no_fault NoBase w fits fault = fault
+  no_fault (NotHeld v) w fits fault = fault
+  no_fault MixedItems w fits fault = fault
+  no_fault (OwnHeadLeft v) w fits fault = fault
+  no_fault LogFull w fits fault = fault
+
+  no_first_fault : (e : Refusal) (ws : List Wanted) → All (Fits form) ws → FirstFault form e ws → ⊥
+  no_first_fault e [] fits fault = fault
+  no_first_fault e (w ∷ ws) fits (inl here) = no_fault e w (All-head (Fits form) w ws fits) here
+  no_first_fault e (w ∷ ws) fits (inr later) = no_first_fault e ws (All-tail (Fits form) w ws fits) later.1
+
+  -- what is wanted has one fault
+  one_fault : (e f : Refusal) (w : Wanted) → HasFault form e w → HasFault form f w → e ≡ f
+  one_fault TooManyHoles TooManyHoles w x y = refl
+  one_fault TooManyItems TooManyItems w x y = refl
+  one_fault TooManyHoles TooManyItems (Vector set) x y = absurd y
+  one_fault TooManyHoles TooManyItems (Knowledge pairs) x y = absurd (y.1 x)
+  one_fault TooManyItems TooManyHoles (Vector set) x y = absurd x
+  one_fault TooManyItems TooManyHoles (Knowledge pairs) x y = absurd (x.1 y)
+  one_fault OutOfMemory f w x y = absurd x
+  one_fault NoBase f w x y = absurd x
+  one_fault (NotHeld v) f w x y = absurd x
+  one_fault MixedItems f w x y = absurd x
+  one_fault (OwnHeadLeft v) f w x y = absurd x
+  one_fault LogFull f w x y = absurd x
+  one_fault e OutOfMemory w x y = absurd y
+  one_fault e NoBase w x y = absurd y
+  one_fault e (NotHeld v) w x y = absurd y
+  one_fault e MixedItems w x y = absurd y
+  one_fault e (OwnHeadLeft v) w x y = absurd y
+  one_fault e LogFull w x y = absurd y
+
+  one_first_fault : (e f : Refusal) (ws : List Wanted) → FirstFault form e ws → FirstFault form f ws → e ≡ f
+  one_first_fault e f [] x y = absurd x
+  one_first_fault e f (w ∷ ws) (inl x) (inl y) = one_fault e f w x y
+  one_first_fault e f (w ∷ ws) (inl x) (inr y) = absurd (no_fault e w y.0 x)
+  one_first_fault e f (w ∷ ws) (inr x) (inl y) = absurd (no_fault f w x.0 y)
+  one_first_fault e f (w ∷ ws) (inr x) (inr y) = one_first_fault e f ws x.1 y.1
+
+  module _ (s : State K) (event : Event) where
+    late_fault : (e : Refusal) → e ≢ OutOfMemory → RefusesLate form s event e → FirstFault form e (wanted_by form s event)
+    late_fault OutOfMemory ne h = absurd (ne refl)
+    late_fault NoBase ne h = h
+    late_fault (NotHeld v) ne h = h
+    late_fault MixedItems ne h = h
+    late_fault (OwnHeadLeft v) ne h = h
+    late_fault TooManyHoles ne h = h
+    late_fault TooManyItems ne h = h
+    late_fault LogFull ne h = h
+
+    -- an issue has one version and leads to one replica
+    same_issue : (i : Issue) (v w : Name) (new other : State K) → IsExact form → Issues form s i v event new → Issues form s i w event other → (w ≡ v) × (other ≡ new)
+    same_issue i v w new other exact h k =
+        let columns : k.1 ≡ h.1 = columns_unique (below_of_issue s i) k.1 h.1 k.2 h.2 in
+        let knowledge : other.knowledge ≡ new.knowledge = exact other.knowledge new.knowledge (λ a b. k.3 a b ∙ sym (h.3 a b)) in (
+          k.0 ∙ sym h.0,
+          k.4
+              ∙ ap (λ (c : List AuthorColumn). logged (issuing s other.knowledge (revision_for s i c)) event) columns
+              ∙ ap (λ (t : K). logged (issuing s t (revision_for s i h.1)) event) knowledge
+              ∙ sym h.4,
+        )
+
+  issued_same : (v w : Name) → w ≡ v → (let r : Reply = Issued w in r ≡ Issued v)
+  issued_same v w is = ap (λ (u : Name). Issued u) is
+
+  -- a reply stands for one change
+  same_change : (s : State K) (event : Event) (r q : Reply) (new other : State K) → IsExact form → Changes form s event r new → Changes form s event q other → (q ≡ r) × (other ≡ new)
+  same_change s (Create message) (Issued v) (Issued w) new other exact h k =
+      let same = same_issue s (Create message) (created s message) v w new other exact h k in
+      (issued_same v w same.0, same.1)
+  same_change s (Edit bases message) (Issued v) (Issued w) new other exact h k =
+      let same = same_issue s (Edit bases message) (edited s bases message) v w new other exact h k in
+      (issued_same v w same.0, same.1)
+
+  answered : (s : State K) (event : Event) (a b : Result Reply Refusal) (new other : State K) → IsExact form → Answers form s event a new → Answers form s event b other → a ≢ Err OutOfMemory → b ≢ Err OutOfMemory → (b ≡ a) × (other ≡ new)
+  answered s event (Ok r) (Ok q) new other exact h k na nb =
+      let same = same_change s event r q new other exact h.1 k.1 in
+      (ap (λ (x : Reply). Ok x) same.0, same.1)
+  answered s event (Ok r) (Err f) new other exact h k na nb = absurd (no_first_fault f (wanted_by form s event) h.0 (late_fault s event f (λ is. nb (ap (λ (x : Refusal). Err x) is)) k.0))
+  answered s event (Err e) (Ok q) new other exact h k na nb = absurd (no_first_fault e (wanted_by form s event) k.0 (late_fault s event e (λ is. na (ap (λ (x : Refusal). Err x) is)) h.0))
+  answered s event (Err e) (Err f) new other exact h k na nb =
+      let late_e = late_fault s event e (λ is. na (ap (λ (x : Refusal). Err x) is)) h.0 in
+      let late_f = late_fault s event f (λ is. nb (ap (λ (x : Refusal). Err x) is)) k.0 in
+      (ap (λ (x : Refusal). Err x) (one_first_fault f e (wanted_by form s event) late_f late_e), k.1 ∙ sym h.1)
+
+  abbrev GoesOn : State K → Event → Option Refusal → Result Reply Refusal → State K → Type 0
+  GoesOn s event first answer new = elim first [
+    | Some e ↦ (answer ≡ Err e) × (new ≡ s)
+    | None ↦ Answers form s event answer new
+  ]
+
+  stepped : (s : State K) (event : Event) (first : Option Refusal) (a b : Result Reply Refusal) (new other : State K) → IsExact form → GoesOn s event first a new → GoesOn s event first b other → a ≢ Err OutOfMemory → b ≢ Err OutOfMemory → (b ≡ a) × (other ≡ new)
+  stepped s event (Some e) a b new other exact h k na nb = (k.0 ∙ sym h.0, k.1 ∙ sym h.1)
+  stepped s event None a b new other exact h k na nb = answered s event a b new other exact h k na nb
+
+  -- two steps of one replica by one event are one
+  pub decided : (s : State K) (event : Event) (a : Result Reply Refusal) (new : State K) → IsExact form → Steps form s event a new → IsDecided form s event a new
+  decided s event a new exact h na b other nb k = stepped s event (first_refusal s event) a b new other exact h k na nb

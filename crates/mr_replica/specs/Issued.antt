@@ -1,0 +1,36 @@
+-- what comes of issuing a revision
+use Rattle.std.specs.Prelude.{◌≡◌, ◌≢◌, ◌⊎◌, true, Result, Ok, Err}
+use Rattle.mr_version.specs.Name.{Name}
+use Rattle.mr_forms.specs.declared.fault.FormFault.{FormFault}
+use Rattle.mr_forms.specs.declared.fault.FormFault.TheVariants as fault
+use Rattle.mr_forms.specs.Known.{Pairs, Form, AreSame, IsOnlyOverItems}
+use Rattle.mr_madewith.specs.Revision.{Rev, IsRevision, has_below}
+use Rattle.mr_replica.specs.State.{State, next_version}
+use Rattle.mr_replica.specs.Sound.{IsNoLater}
+use Rattle.mr_replica.specs.Issue.{Wanted.Knowledge, version_learned, Fits, issuing, logged}
+use Rattle.mr_replica.specs.declared.event.Event.{Event}
+use Rattle.mr_replica.specs.declared.event.Reply.{Reply}
+use Rattle.mr_replica.specs.declared.event.Reply.TheVariants.{Issued}
+use Rattle.mr_replica.specs.declared.refusal.Refusal.{Refusal}
+use Rattle.mr_replica.specs.declared.refusal.Refusal.TheVariants.{OutOfMemory, TooManyHoles, TooManyItems}
+
+-- a revision of the next version, which supersedes no own version that was not issued
+pub record IsNext {K : Type 0} (s : State K) (r : Rev) : Type 0 where
+  pub version : r.version ≡ next_version s
+  pub is : IsRevision r.item r.version r.below
+  pub no_later : (v : Name) → has_below r v ≡ true → IsNoLater s.id s.issued v
+
+module _ {K V : Type 0} (form : Form K) (made : Result V FormFault) (pairs : Pairs) where
+  -- why there is no vector or no knowledge: the vector's limit, then those of the knowledge, then memory for the vector
+  abbrev pub RefusesMade : Refusal → Type 0
+  RefusesMade OutOfMemory = (made ≡ Err fault.OutOfMemory) × Fits form (Knowledge pairs)
+  RefusesMade TooManyHoles = (made ≡ Err fault.TooManyHoles) ⊎ ((made ≢ Err fault.TooManyHoles) × form.has_too_many_holes pairs)
+  RefusesMade TooManyItems = (made ≢ Err fault.TooManyHoles) × IsOnlyOverItems form pairs
+  RefusesMade _ = ⊥
+
+module _ {K : Type 0} where
+  -- The revision is issued by the event and its version is learned; or there is no memory, and nothing changes.
+  abbrev pub IssuesRevision : Form K → State K → Rev → Event → Result Reply Refusal → State K → Type 0
+  IssuesRevision form s r event (Ok (Issued v)) new =
+      (v ≡ next_version s) × AreSame (form.known new.knowledge) (version_learned form s r.item) × (new ≡ logged (issuing s new.knowledge r) event)
+  IssuesRevision form s r event (Err e) new = (e ≡ OutOfMemory) × (new ≡ s)

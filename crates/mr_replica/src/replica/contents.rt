@@ -1,0 +1,203 @@
+//! What a replica holds and tells.
+ghost use Rattle.std.specs.Prelude.{◌≡◌, ◌<◌, ◌≤◌, ◌+◌, ◌++◌, ◌∷◌, [], not, None, IfOk, OnOk, length, map, vec_len};
+ghost use Rattle.mr_madewith.specs.Revision.{Rev, has_below};
+ghost use Rattle.mr_madewith.specs.Trail.{noted};
+ghost use Rattle.mr_store.specs.Revisions.{revision_of, left_by};
+ghost use Rattle.mr_replica.specs.Issue.{dropped, added, entered_if};
+ghost use Rattle.mr_replica.specs.Contents.{part_for};
+
+use crate::Event;
+use mr_feed::{Entry, Feed};
+use mr_madewith::{Revision, Trail};
+use mr_store::{Part, Store};
+use std::alloc::{AllocError, Global};
+use std::marker::Model;
+
+/// A revision that is to enter, with all that takes memory.
+#[derive(Drop)]
+pub struct Arrival {
+    pub selected: bool,
+    pub revision: Revision,
+    // the same, for the trail
+    pub last: Revision,
+    pub entries: Vec<Entry>,
+}
+
+impl Arrival {
+    ghost use Rattle.mr_replica.specs.Contents.{news_of};
+
+    /// The arrival of a revision that the filter selects, or does not, at this store.
+    pub fn of(
+        alloc: Global,
+        selected: bool,
+        revision: Revision,
+        store: &Store,
+    ) -> Result<Arrival, AllocError>
+        ensures selected { IfOk result (λ arrival. arrival.selected ≡ selected) }
+        ensures revision { IfOk result (λ arrival. arrival.revision ≡ revision) }
+        ensures last { IfOk result (λ arrival. arrival.last ≡ revision) }
+        ensures entries { IfOk result (λ arrival. arrival.entries.items ≡ news_of selected revision store.now.heads) }
+    {
+        let last = revision.copy()?;
+        let left = store.superseded(revision.item(), revision.below())?;
+        let mut entries = entries_of_left(alloc, &left)?;
+        if selected {
+            entries.push(entry_of(&revision)?)?;
+        }
+        Ok(Arrival {
+            selected,
+            revision,
+            last,
+            entries,
+        })
+    }
+}
+
+// The entry of a revision that enters the heads.
+fn entry_of(revision: &Revision) -> Result<Entry, AllocError>
+    ensures { IfOk result (λ entry. entry ≡ added revision.now) }
+{
+    Ok(Entry::Added {
+        item: revision.item(),
+        version: revision.version(),
+        card: revision.message().card()?,
+    })
+}
+
+// The entries of revisions that leave the heads.
+fn entries_of_left(alloc: Global, left: &[Revision]) -> Result<Vec<Entry>, AllocError>
+    ensures { IfOk result (λ entries. entries.items ≡ map dropped left.now) }
+{
+    let mut entries = Vec::new(alloc);
+    for revision in left {
+        entries.push(Entry::Dropped {
+            item: revision.item(),
+            version: revision.version(),
+        })?;
+    }
+    Ok(entries)
+}
+
+/// The store, the trail, the feed and the log of a replica, which change together.
+#[derive(Drop)]
+pub struct Contents {
+    alloc: Global,
+    store: Store,
+    trail: Trail,
+    feed: Feed,
+    log: Vec<Event>,
+}
+
+impl Model for Contents {
+    ghost use Rattle.std.specs.Prelude.{◌-◌, vec_len, vec_capacity};
+    ghost use Rattle.mr_replica.specs.Contents.{ContentParts};
+
+    ghost Value = { ContentParts };
+
+    ghost view = { λ c. record { store = c.store; trail = c.trail; feed = c.feed; log = c.log.items; log_room = vec_capacity c.log - vec_len c.log } };
+}
+
+impl Contents {
+    ghost use Rattle.mr_replica.specs.Contents.{HasRoom, HoldsSame, news_of};
+
+    /// Nothing. It allocates nothing.
+    pub fn new(alloc: Global) -> Contents
+        ensures heads { result.store.heads ≡ [] }
+        ensures push_outs { result.store.push_outs ≡ [] }
+        ensures trail { result.trail.lasts ≡ [] }
+        ensures feed { result.feed.entries ≡ [] }
+        ensures log { result.log ≡ [] }
+    {
+        Contents {
+            alloc,
+            store: Store::new(alloc),
+            trail: Trail::new(alloc),
+            feed: Feed::new(alloc),
+            log: Vec::new(alloc),
+        }
+    }
+
+    /// The held revisions.
+    pub fn store(&self) -> &Store
+        ensures { result.now ≡ self.now.store }
+    {
+        &self.store
+    }
+
+    /// The last own version of each item.
+    pub fn trail(&self) -> &Trail
+        ensures { result.now ≡ self.now.trail }
+    {
+        &self.trail
+    }
+
+    /// The changes of the heads, in order of time.
+    pub fn feed(&self) -> &[Entry]
+        ensures { result.now ≡ self.now.feed.entries }
+    {
+        self.feed.entries()
+    }
+
+    /// The admitted events, in order of time.
+    pub fn log(&self) -> &[Event]
+        ensures { result.now ≡ self.now.log }
+    {
+        &self.log
+    }
+
+    /// Makes room for the arrival and one event.
+    pub fn reserve(&mut self, arrival: &Arrival) -> Result<(), AllocError>
+        ensures same { HoldsSame self.old self.new }
+        ensures room { OnOk result (HasRoom arrival.now.selected arrival.now.revision.item (vec_len arrival.now.entries) self.new) }
+    {
+        self.store
+            .reserve(part_for(arrival.selected), arrival.revision.item())?;
+        self.trail.reserve()?;
+        self.feed.reserve(arrival.entries.len())?;
+        self.log.reserve(1)
+    }
+
+    /// Lets a revision enter, by an event, where there is room: what it supersedes leaves.
+    pub fn enter(&mut self, arrival: Arrival, event: Event)
+        requires room { HasRoom arrival.selected arrival.revision.item (vec_len arrival.entries) self.old }
+        requires new { revision_of (self.old.store.heads ++ self.old.store.push_outs) arrival.revision.version ≡ None }
+        ensures heads { self.new.store.heads ≡ entered_if arrival.selected arrival.revision (left_by arrival.revision.item (has_below arrival.revision) self.old.store.heads) }
+        ensures push_outs { self.new.store.push_outs ≡ entered_if (not arrival.selected) arrival.revision (left_by arrival.revision.item (has_below arrival.revision) self.old.store.push_outs) }
+        ensures trail { self.new.trail.lasts ≡ noted arrival.last self.old.trail.lasts }
+        ensures feed { self.new.feed.entries ≡ self.old.feed.entries ++ arrival.entries.items }
+        ensures log { self.new.log ≡ self.old.log ++ event ∷ [] }
+    {
+        let Arrival {
+            selected,
+            revision,
+            last,
+            entries,
+        } = arrival;
+        self.store.remove_below(revision.item(), revision.below());
+        self.store.put(part_for(selected), revision);
+        self.trail.note_reserved(last);
+        tell(&mut self.feed, entries);
+        self.log.push_reserved(event);
+    }
+}
+
+// The part of the store that a revision enters.
+fn part_for(selected: bool) -> Part
+    ensures { result ≡ part_for selected }
+{
+    if selected {
+        Part::Heads
+    } else {
+        Part::PushOuts
+    }
+}
+
+// Puts the entries behind those of the feed.
+fn tell(feed: &mut Feed, entries: Vec<Entry>)
+    requires { vec_len entries ≤ feed.old.room }
+    ensures { feed.new.entries ≡ feed.old.entries ++ entries.items }
+{
+    for entry in entries {
+        feed.push_reserved(entry);
+    }
+}

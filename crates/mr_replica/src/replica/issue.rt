@@ -1,0 +1,96 @@
+//! Issuing a version.
+ghost use Rattle.std.specs.Prelude.{◌≡◌, ◌≢◌, ◌<◌, ◌≤◌, None, IfOk, IfErr, OnOk, OnErr, Ok, Err, length};
+
+use super::Replica;
+use super::contents::Arrival;
+use crate::{Event, Refusal, Reply};
+use mr_concise::ConciseVector;
+use mr_forms::{FormFault, Knowledge};
+use mr_madewith::Revision;
+use mr_mail::Message;
+use mr_version::{ItemId, Version};
+use std::alloc::AllocError;
+
+impl<K: Knowledge> Replica<K> {
+    ghost use Rattle.mr_forms.specs.Known.{AreSame};
+    ghost use Rattle.mr_madewith.specs.Revision.{IsRevision};
+    ghost use Rattle.mr_replica.specs.State.{next_version};
+    ghost use Rattle.mr_replica.specs.Create.{log_full};
+    ghost use Rattle.mr_replica.specs.Issue.{Wanted.Knowledge as KnowledgeWanted, version_learned, Fits, is_selected};
+    ghost use Rattle.mr_replica.specs.Issued.{IsNext, RefusesMade, IssuesRevision};
+
+    pub(crate) fn log_full(&self) -> Option<Refusal>
+        ensures { result ≡ log_full self.now }
+    {
+        if self.event_limit as usize <= self.contents.log().len() {
+            Some(Refusal::LogFull)
+        } else {
+            None
+        }
+    }
+
+    // The version that is issued next.
+    pub(crate) fn next_version(&self) -> Version
+        requires { length self.now.log < self.now.event_limit }
+        ensures { result ≡ next_version self.now }
+    {
+        Version::try_new(self.id, self.issued + 1).unwrap()
+    }
+
+    // The vector of what a version of the item supersedes, where there is one, and where what would be
+    // known has a value too. Memory for the vector comes last.
+    pub(crate) fn admit(
+        &self,
+        item: ItemId,
+        version: Version,
+        made: Result<ConciseVector, FormFault>,
+    ) -> Result<ConciseVector, Refusal>
+        requires next { version ≡ next_version self.now }
+        requires no_items { made ≢ Err FormFault.TooManyItems }
+        ensures ok { IfOk result (λ below. made ≡ Ok below) }
+        ensures fits { OnOk result (Fits K.form (KnowledgeWanted (version_learned K.form self.now item))) }
+        ensures refused { IfErr result (RefusesMade K.form made (version_learned K.form self.now item)) }
+    {
+        if let Err(FormFault::TooManyHoles) = &made {
+            return Err(Refusal::TooManyHoles);
+        }
+        self.knowledge.may_learn(item, version)?;
+        Ok(made?)
+    }
+
+    // Issues a version of the item by the event.
+    pub(crate) fn issue(
+        &mut self,
+        item: ItemId,
+        version: Version,
+        below: ConciseVector,
+        message: Message,
+        event: Event,
+    ) -> Result<Reply, Refusal>
+        requires room { length self.old.log < self.old.event_limit }
+        requires next { IsNext self.old (record { item = item; version = version; below = below; message = message }) }
+        requires fits { Fits K.form (KnowledgeWanted (version_learned K.form self.old item)) }
+        ensures { IssuesRevision K.form self.old (record { item = item; version = version; below = below; message = message }) event result self.new }
+    {
+        let revision = Revision::new(self.alloc, item, version, below, message)?;
+        self.enter(revision, event)
+    }
+
+    // Lets the next own revision enter by the event.
+    fn enter(&mut self, revision: Revision, event: Event) -> Result<Reply, Refusal>
+        requires room { length self.old.log < self.old.event_limit }
+        requires next { IsNext self.old revision }
+        requires fits { Fits K.form (KnowledgeWanted (version_learned K.form self.old revision.item)) }
+        ensures { IssuesRevision K.form self.old revision event result self.new }
+    {
+        let item = revision.item();
+        let version = revision.version();
+        let selected = self.filter.select(revision.message());
+        let arrival = Arrival::of(self.alloc, selected, revision, self.contents.store())?;
+        self.contents.reserve(&arrival)?;
+        self.knowledge.learn(item, version)?;
+        self.contents.enter(arrival, event);
+        self.issued += 1;
+        Ok(Reply::Issued(version))
+    }
+}

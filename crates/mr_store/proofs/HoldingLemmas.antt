@@ -1,0 +1,88 @@
+-- two lists that have no version in common, after each edit
+use Rattle.std.proofs.Common.{◌≡◌, Bool, true, false, ◌&&◌, ◌||◌, cond, refl, sym, ap, ◌∙◌, List, [], ◌∷◌, ◌++◌, inl, inr, Option, Some, None, is_some}
+use Rattle.std.specs.List.{filter}
+use Rattle.std.specs.Option.{option_or}
+use Rattle.std.proofs.lemmas.List.Folds.{find-append}
+use Rattle.std.proofs.lemmas.Bool.{or_right}
+use Rattle.mr_version.specs.Name.{Name, name_eq}
+use Rattle.mr_madewith.specs.Revision.{Rev}
+use Rattle.mr_madewith.specs.Keyed.{is_before}
+use Rattle.mr_madewith.proofs.Rising.{same_names, named-filter}
+use Rattle.mr_store.specs.Revisions.{version_of, revision_of, holds, AreApart, entered}
+use Rattle.mr_store.proofs.RevisionLemmas.{either}
+
+-- ---- a version in either list
+
+-- the first list comes first
+pub revision_of-first : (a b : List Rev) (v : Name) (r : Rev) → Some r ≡ revision_of a v → Some r ≡ revision_of (a ++ b) v
+revision_of-first a b v r is = ap (λ o. option_or o (revision_of b v)) is ∙ sym (find-append (λ x. name_eq x.version v) a b)
+
+pub revision_of-second : (a b : List Rev) (v : Name) → None ≡ revision_of a v → revision_of b v ≡ revision_of (a ++ b) v
+revision_of-second a b v none = ap (λ o. option_or o (revision_of b v)) none ∙ sym (find-append (λ x. name_eq x.version v) a b)
+
+neither : {X : Type 0} (a b : Option X) → option_or a b ≡ None → record { first : a ≡ None; second : b ≡ None }
+neither None b h = record { first = refl; second = h }
+neither (Some x) b h = cc
+
+-- what is in neither list is in none of the two
+pub revision_of-neither : (a b : List Rev) (v : Name) → revision_of (a ++ b) v ≡ None → record { first : revision_of a v ≡ None; second : revision_of b v ≡ None }
+revision_of-neither a b v none = neither (revision_of a v) (revision_of b v) (sym (find-append (λ x. name_eq x.version v) a b) ∙ none)
+
+-- ---- apart
+
+-- the list has no version that was not in the old one
+abbrev pub HasNoNew : List Rev → List Rev → Type 0
+HasNoNew old new = (v : Name) → holds old v ≡ false → holds new v ≡ false
+
+pub no_new_itself : (rs : List Rev) → HasNoNew rs rs
+no_new_itself rs v h = h
+
+none_of : {X : Type 0} (o : Option X) → is_some o ≡ false → o ≡ None
+none_of None h = refl
+none_of (Some x) h = cc
+
+pub no_new-filter : (p : Rev → Bool) (rs : List Rev) → HasNoNew rs (filter p rs)
+no_new-filter p rs v h = ap is_some (named-filter version_of p v rs (none_of (revision_of rs v) h))
+
+and_left : (a b : Bool) → (a && b) ≡ false → a ≡ true → b ≡ false
+and_left true b h e = h
+and_left false b h e = cc
+
+and_none : (a b : Bool) → b ≡ false → (a && b) ≡ false
+and_none true b h = h
+and_none false b h = refl
+
+-- lists that have no new version stay apart
+pub apart_kept : (a b a' b' : List Rev) → AreApart a b → HasNoNew a a' → HasNoNew b b' → AreApart a' b'
+apart_kept a b a' b' apart fewer_a fewer_b v =
+    elim (either (holds a v)) [
+      | inl in' ↦ and_none (holds a' v) (holds b' v) (fewer_b v (and_left (holds a v) (holds b v) (apart v) in'))
+      | inr out ↦ ap (λ c. c && holds b' v) (fewer_a v out)
+    ]
+
+-- the versions with one that enters
+pub holds-entered : (r : Rev) (rs : List Rev) (v : Name) → holds (entered r rs) v ≡ (name_eq r.version v || holds rs v)
+holds-entered r [] v = elim (name_eq r.version v) as (λ b. is_some (cond b (Some r) None) ≡ (b || false)) [ true ↦ refl | false ↦ refl ]
+holds-entered r (x ∷ xs) v =
+    elim (is_before x.version r.version) as (λ b. holds (cond b (x ∷ entered r xs) (r ∷ x ∷ xs)) v ≡ (name_eq r.version v || holds (x ∷ xs) v)) [
+      | true ↦ elim (either (name_eq x.version v)) [
+        | inl here ↦ rw here (sym (or_right (name_eq r.version v) true refl))
+        | inr later ↦ rw later (holds-entered r xs v)
+      ]
+      | false ↦ elim (name_eq r.version v) as (λ b. is_some (cond b (Some r) (revision_of (x ∷ xs) v)) ≡ (b || holds (x ∷ xs) v)) [ true ↦ refl | false ↦ refl ]
+    ]
+
+-- a version that neither has enters one of them
+pub apart_entered_first : (r : Rev) (a b : List Rev) → AreApart a b → revision_of b r.version ≡ None → AreApart (entered r a) b
+apart_entered_first r a b apart new v =
+    rw (holds-entered r a v) (elim (either (name_eq r.version v)) [
+      | inl same ↦ rw same (ap (λ (w : Name). holds b w) (sym (same_names r.version v same)) ∙ ap is_some new)
+      | inr other ↦ rw other (apart v)
+    ])
+
+pub apart_entered_second : (r : Rev) (a b : List Rev) → AreApart a b → revision_of a r.version ≡ None → AreApart a (entered r b)
+apart_entered_second r a b apart new v =
+    rw (holds-entered r b v) (elim (either (name_eq r.version v)) [
+      | inl same ↦ ap (λ c. c && (name_eq r.version v || holds b v)) (ap (λ (w : Name). holds a w) (sym (same_names r.version v same)) ∙ ap is_some new)
+      | inr other ↦ rw other (apart v)
+    ])

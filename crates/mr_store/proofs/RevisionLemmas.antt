@@ -1,0 +1,298 @@
+-- the versions of an item, after each edit of a list
+use Rattle.std.proofs.Common.{◌≡◌, Bool, true, false, not, ◌&&◌, ◌||◌, cond, if◌then◌else◌, refl, sym, ap, subst, ◌∙◌, List, [], ◌∷◌, ◌++◌, map, ◌⊎◌, inl, inr, Option, Some, None}
+use Rattle.std.specs.declared.cmp.Ordering.TheVariants.{Less}
+use Rattle.std.specs.Ordering.{is_eq}
+use Rattle.std.specs.List.{AllByRecursion, filter, filter_map, find, list_any, cons_option}
+use Rattle.std.specs.Option.{option_map}
+use Rattle.std.proofs.lemmas.List.Elements.{filter_agree}
+use Rattle.std.proofs.lemmas.List.Folds.{list_any-append}
+use Rattle.mr_version.specs.Name.{Name, name_cmp, name_eq}
+use Rattle.mr_forms.specs.Sets.{Test, is_listed}
+use Rattle.mr_forms.specs.Known.{Pairs}
+use Rattle.mr_madewith.specs.Revision.{Rev}
+use Rattle.mr_madewith.specs.Keyed.{without, is_before}
+use Rattle.mr_store.specs.Revisions.{AreInVersionOrder, version_of, revision_of, entered, is_of, versions_of, supersedes, left_by}
+use Rattle.mr_store.specs.Index.{version_placed}
+use Rattle.mr_madewith.proofs.Rising.{name_eq_self, same_names, name_eq-swap, head_before, tail_rises, all_filtered}
+use Rattle.mr_madewith.proofs.Found.{first_place}
+
+pub either : (b : Bool) → (b ≡ true) ⊎ (b ≡ false)
+either true = inl refl
+either false = inr refl
+
+-- those of the item that are below are what is superseded
+pub filter-versions_of : (item : Name) (below : Test) (heads : List Rev) → filter below (versions_of item heads) ≡ map version_of (filter (supersedes item below) heads)
+filter-versions_of item below [] = refl
+filter-versions_of item below (r ∷ rs) =
+    elim (is_of item r) as (λ b. filter below (map version_of (cond b (r ∷ filter (is_of item) rs) (filter (is_of item) rs))) ≡ map version_of (cond (b && below r.version) (r ∷ filter (supersedes item below) rs) (filter (supersedes item below) rs))) [
+      | true ↦ elim (below r.version) as (λ b. cond b (r.version ∷ filter below (versions_of item rs)) (filter below (versions_of item rs)) ≡ map version_of (cond b (r ∷ filter (supersedes item below) rs) (filter (supersedes item below) rs))) [
+        | true ↦ ap (λ vs. r.version ∷ vs) (filter-versions_of item below rs)
+        | false ↦ filter-versions_of item below rs
+      ]
+      | false ↦ filter-versions_of item below rs
+    ]
+
+-- of the item itself the superseded versions leave
+versions_of-left_by_same : (item : Name) (below : Test) (heads : List Rev) → versions_of item (left_by item below heads) ≡ filter (λ v. not (below v)) (versions_of item heads)
+versions_of-left_by_same item below [] = refl
+versions_of-left_by_same item below (r ∷ rs) =
+    elim (either (is_of item r)) [
+      | inl of ↦ elim (either (below r.version)) [
+        | inl is_below ↦ rw (of, is_below) (versions_of-left_by_same item below rs)
+        | inr above ↦ rw (of, above, of) (ap (λ vs. r.version ∷ vs) (versions_of-left_by_same item below rs))
+      ]
+      | inr other ↦ rw (other, other) (versions_of-left_by_same item below rs)
+    ]
+
+-- of another item none leaves
+versions_of-left_by_other : (i item : Name) (below : Test) (heads : List Rev) → name_eq item i ≡ false → versions_of i (left_by item below heads) ≡ versions_of i heads
+versions_of-left_by_other i item below [] apart = refl
+versions_of-left_by_other i item below (r ∷ rs) apart =
+    elim (either (is_of item r)) [
+      | inl of ↦
+          let not_here : is_of i r ≡ false = ap (λ n. name_eq n i) (same_names r.item item of) ∙ apart in
+          elim (either (below r.version)) [
+            | inl is_below ↦ rw (of, is_below, not_here) (versions_of-left_by_other i item below rs apart)
+            | inr above ↦ rw (of, above, not_here) (versions_of-left_by_other i item below rs apart)
+          ]
+      | inr other ↦ rw other (elim (is_of i r) as (λ b. map version_of (cond b (r ∷ filter (is_of i) (left_by item below rs)) (filter (is_of i) (left_by item below rs))) ≡ map version_of (cond b (r ∷ filter (is_of i) rs) (filter (is_of i) rs))) [
+        | true ↦ ap (λ vs. r.version ∷ vs) (versions_of-left_by_other i item below rs apart)
+        | false ↦ versions_of-left_by_other i item below rs apart
+      ])
+    ]
+
+pub versions_of-left_by : (i item : Name) (below : Test) (heads : List Rev) → versions_of i (left_by item below heads) ≡ (if name_eq item i then filter (λ v. not (below v)) (versions_of i heads) else versions_of i heads)
+versions_of-left_by i item below heads =
+    elim (either (name_eq item i)) [
+      | inl same ↦ rw same (subst (λ j. versions_of j (left_by item below heads) ≡ filter (λ v. not (below v)) (versions_of j heads)) (same_names item i same) (versions_of-left_by_same item below heads))
+      | inr apart ↦ rw apart (versions_of-left_by_other i item below heads apart)
+    ]
+
+itself : Name → Name
+itself v = v
+
+map-itself : (P : Name → Type 0) (rs : List Name) → AllByRecursion P rs → AllByRecursion P (map (λ v. v) rs)
+map-itself P [] h = tt
+map-itself P (v ∷ vs) h = (h.0, map-itself P vs h.1)
+
+-- a revision that enters adds its version to its item's
+pub versions_of-entered : (i : Name) (r : Rev) (heads : List Rev) → AreInVersionOrder (entered r heads) → versions_of i (entered r heads) ≡ (if name_eq r.item i then version_placed r.version (versions_of i heads) else versions_of i heads)
+versions_of-entered i r [] rising = elim (name_eq r.item i) as (λ b. map version_of (cond b (r ∷ []) []) ≡ (if b then r.version ∷ [] else [])) [ true ↦ refl | false ↦ refl ]
+versions_of-entered i r (x ∷ xs) rising =
+    elim (either (is_before x.version r.version)) [
+      | inl before ↦
+          let rest : versions_of i (entered r xs) ≡ (if name_eq r.item i then version_placed r.version (versions_of i xs) else versions_of i xs) =
+          versions_of-entered i r xs (tail_rises version_of x (entered r xs) (rw before at rising)) in
+          elim (either (is_of i x)) [
+            | inl here ↦ rw (before, here) (ap (λ vs. x.version ∷ vs) rest ∙ (elim (name_eq r.item i) as (λ b. x.version ∷ (if b then version_placed r.version (versions_of i xs) else versions_of i xs) ≡ (if b then version_placed r.version (x.version ∷ versions_of i xs) else x.version ∷ versions_of i xs)) [ true ↦ rw before refl | false ↦ refl ]))
+            | inr other ↦ rw (before, other) rest
+          ]
+      | inr after ↦
+          let later : AllByRecursion (λ v. name_cmp r.version v ≡ Less) (versions_of i (x ∷ xs)) =
+          all_filtered version_of (λ v. name_cmp r.version v ≡ Less) (is_of i) (x ∷ xs) (head_before version_of r (x ∷ xs) (rw after at rising)) in
+          rw after (elim (name_eq r.item i) as (λ b. map version_of (cond b (r ∷ filter (is_of i) (x ∷ xs)) (filter (is_of i) (x ∷ xs))) ≡ (if b then version_placed r.version (versions_of i (x ∷ xs)) else versions_of i (x ∷ xs))) [
+            | true ↦ sym (first_place (λ v. v) r.version (versions_of i (x ∷ xs)) (map-itself (λ v. name_cmp r.version v ≡ Less) (versions_of i (x ∷ xs)) later))
+            | false ↦ refl
+          ])
+    ]
+
+pub filter-filter : {X : Type 0} (p q : X → Bool) (xs : List X) → filter q (filter p xs) ≡ filter (λ x. p x && q x) xs
+filter-filter p q [] = refl
+filter-filter p q (x ∷ xs) =
+    elim (p x) as (λ b. filter q (cond b (x ∷ filter p xs) (filter p xs)) ≡ cond (b && q x) (x ∷ filter (λ x. p x && q x) xs) (filter (λ x. p x && q x) xs)) [
+      | true ↦ elim (q x) as (λ b. cond b (x ∷ filter q (filter p xs)) (filter q (filter p xs)) ≡ cond b (x ∷ filter (λ x. p x && q x) xs) (filter (λ x. p x && q x) xs)) [
+        | true ↦ ap (λ ys. x ∷ ys) (filter-filter p q xs)
+        | false ↦ filter-filter p q xs
+      ]
+      | false ↦ filter-filter p q xs
+    ]
+
+-- whether a revision stays, once one more of the listed versions was looked at
+stays_more : (listed here below : Bool) → (here ≡ true → below ≡ true) → (not (listed && below) && not here) ≡ not ((listed || (here || false)) && below)
+stays_more true here true h = refl
+stays_more true true false h = cc (h refl)
+stays_more true false false h = refl
+stays_more false true true h = refl
+stays_more false true false h = cc (h refl)
+stays_more false false true h = refl
+stays_more false false false h = refl
+
+stays_as_well : (listed here below : Bool) → (here ≡ true → below ≡ false) → not (listed && below) ≡ not ((listed || (here || false)) && below)
+stays_as_well true here below h = refl
+stays_as_well false true true h = cc (h refl)
+stays_as_well false true false h = refl
+stays_as_well false false below h = refl
+
+-- whether the revision is none of these versions that are below
+abbrev pub is_none_of : List Name → Test → Rev → Bool
+is_none_of vs below r = not (is_listed vs r.version && below r.version)
+
+pub without-more : (vs : List Name) (v : Name) (below : Test) (heads : List Rev) → below v ≡ true
+    → without version_of v (filter (is_none_of vs below) heads) ≡ filter (is_none_of (vs ++ v ∷ []) below) heads
+without-more vs v below heads is_below =
+    filter-filter (is_none_of vs below) (λ r. not (name_eq r.version v)) heads
+    ∙ filter_agree _ (is_none_of (vs ++ v ∷ []) below) (λ r.
+    rw (list_any-append (name_eq r.version) vs (v ∷ []))
+    (stays_more (is_listed vs r.version) (name_eq r.version v) (below r.version) (λ same. subst (λ w. below w ≡ true) (sym (same_names r.version v same)) is_below))) heads
+
+pub is_none_of-more : (vs : List Name) (v : Name) (below : Test) (heads : List Rev) → below v ≡ false
+    → filter (is_none_of vs below) heads ≡ filter (is_none_of (vs ++ v ∷ []) below) heads
+is_none_of-more vs v below heads above =
+    filter_agree (is_none_of vs below) (is_none_of (vs ++ v ∷ []) below) (λ r.
+    rw (list_any-append (name_eq r.version) vs (v ∷ []))
+    (stays_as_well (is_listed vs r.version) (name_eq r.version v) (below r.version) (λ same. subst (λ w. below w ≡ false) (sym (same_names r.version v same)) above))) heads
+
+-- tests that agree along a list keep the same elements
+filter-along : {X : Type 0} (p q : X → Bool) (xs : List X) → AllByRecursion (λ x. p x ≡ q x) xs → filter p xs ≡ filter q xs
+filter-along p q [] h = refl
+filter-along p q (x ∷ xs) h = rw h.0 (elim (q x) as (λ b. cond b (x ∷ filter p xs) (filter p xs) ≡ cond b (x ∷ filter q xs) (filter q xs)) [ true ↦ ap (λ ys. x ∷ ys) (filter-along p q xs h.1) | false ↦ filter-along p q xs h.1 ])
+
+-- among rising versions, those of an item are its held revisions'
+pub unlisted_before : (v : Name) (vs : List Name) → AllByRecursion (λ u. name_cmp v u ≡ Less) vs → is_listed vs v ≡ false
+unlisted_before v [] h = refl
+unlisted_before v (u ∷ vs) h = rw h.0 (unlisted_before v vs h.1)
+
+along_later : (item : Name) (x : Rev) (xs ys : List Rev) → AllByRecursion (λ v. name_cmp x.version v ≡ Less) (map version_of ys)
+    → AllByRecursion (λ r. is_listed (versions_of item xs) r.version ≡ is_of item r) ys → AllByRecursion (λ r. is_listed (versions_of item (x ∷ xs)) r.version ≡ is_of item r) ys
+along_later item x xs [] later h = tt
+along_later item x xs (y ∷ ys) later h =
+    let apart : name_eq y.version x.version ≡ false = name_eq-swap y.version x.version ∙ ap is_eq later.0 in
+    (elim (is_of item x) as (λ b. is_listed (map version_of (cond b (x ∷ filter (is_of item) xs) (filter (is_of item) xs))) y.version ≡ is_of item y) [ true ↦ rw apart h.0 | false ↦ h.0 ], along_later item x xs ys later.1 h.1)
+
+is_listed-versions_of : (item : Name) (heads : List Rev) → AreInVersionOrder heads → AllByRecursion (λ r. is_listed (versions_of item heads) r.version ≡ is_of item r) heads
+is_listed-versions_of item [] rising = tt
+is_listed-versions_of item (x ∷ xs) rising =
+    let later = head_before version_of x xs rising in (
+      elim (is_of item x) as (λ b. is_listed (map version_of (cond b (x ∷ filter (is_of item) xs) (filter (is_of item) xs))) x.version ≡ b) [
+        | true ↦ rw (name_eq_self x.version) refl
+        | false ↦ unlisted_before x.version (versions_of item xs) (all_filtered version_of (λ v. name_cmp x.version v ≡ Less) (is_of item) xs later)
+      ],
+      along_later item x xs xs later (is_listed-versions_of item xs (tail_rises version_of x xs rising)),
+    )
+
+all_by : {X : Type 0} (P Q : X → Type 0) → ((x : X) → P x → Q x) → (xs : List X) → AllByRecursion P xs → AllByRecursion Q xs
+all_by P Q f [] h = tt
+all_by P Q f (x ∷ xs) h = (f x h.0, all_by P Q f xs h.1)
+
+-- what is left when the item's versions that are below are taken out
+pub left_by-listed : (item : Name) (below : Test) (heads : List Rev) → AreInVersionOrder heads → filter (is_none_of (versions_of item heads) below) heads ≡ left_by item below heads
+left_by-listed item below heads rising =
+    filter-along (is_none_of (versions_of item heads) below) (λ r. not (supersedes item below r)) heads
+    (all_by (λ r. is_listed (versions_of item heads) r.version ≡ is_of item r) (λ r. is_none_of (versions_of item heads) below r ≡ not (supersedes item below r)) (λ r h. ap (λ b. not (b && below r.version)) h) heads (is_listed-versions_of item heads rising))
+
+-- a test that all pass keeps all
+pub filter-all : {X : Type 0} (xs : List X) → xs ≡ filter (λ _. true) xs
+filter-all [] = refl
+filter-all (x ∷ xs) = ap (λ ys. x ∷ ys) (filter-all xs)
+
+-- the first version of the item that passes is the first such revision's
+pub find-versions_of : (p : Name → Bool) (item : Name) (heads : List Rev) → find p (versions_of item heads) ≡ option_map version_of (find (λ r. is_of item r && p r.version) heads)
+find-versions_of p item [] = refl
+find-versions_of p item (r ∷ rs) =
+    elim (is_of item r) as (λ b. find p (map version_of (cond b (r ∷ filter (is_of item) rs) (filter (is_of item) rs))) ≡ option_map version_of (cond (b && p r.version) (Some r) (find (λ r. is_of item r && p r.version) rs))) [
+      | true ↦ elim (p r.version) as (λ b. cond b (Some r.version) (find p (versions_of item rs)) ≡ option_map version_of (cond b (Some r) (find (λ r. is_of item r && p r.version) rs))) [
+        | true ↦ refl
+        | false ↦ find-versions_of p item rs
+      ]
+      | false ↦ find-versions_of p item rs
+    ]
+
+-- whether some version of the item passes
+pub any-versions_of : (p : Name → Bool) (item : Name) (rs : List Rev) → list_any p (versions_of item rs) ≡ list_any (λ r. is_of item r && p r.version) rs
+any-versions_of p item [] = refl
+any-versions_of p item (r ∷ rs) =
+    elim (is_of item r) as (λ b. list_any p (map version_of (cond b (r ∷ filter (is_of item) rs) (filter (is_of item) rs))) ≡ ((b && p r.version) || list_any (λ r. is_of item r && p r.version) rs)) [
+      | true ↦ ap (λ b. p r.version || b) (any-versions_of p item rs)
+      | false ↦ any-versions_of p item rs
+    ]
+
+-- ---- the revisions of the versions that are below
+
+-- the revision of a version that is below
+abbrev pub found_below : Test → List Rev → Name → Option Rev
+found_below below rs v = if below v then revision_of rs v else None
+
+found_along : (h k : Name → Option Rev) (vs : List Name) → AllByRecursion (λ v. h v ≡ k v) vs → filter_map h vs ≡ filter_map k vs
+found_along h k [] same = refl
+found_along h k (v ∷ vs) same = rw same.0 (ap (cons_option (k v)) (found_along h k vs same.1))
+
+found_later : (below : Test) (x : Rev) (xs : List Rev) (vs : List Name) → AllByRecursion (λ v. name_cmp x.version v ≡ Less) vs → AllByRecursion (λ v. found_below below (x ∷ xs) v ≡ found_below below xs v) vs
+found_later below x xs [] later = tt
+found_later below x xs (v ∷ vs) later = (rw later.0 refl, found_later below x xs vs later.1)
+
+-- they are the revisions that are superseded
+pub found-versions_of : (item : Name) (below : Test) (rs : List Rev) → AreInVersionOrder rs → filter_map (found_below below rs) (versions_of item rs) ≡ filter (supersedes item below) rs
+found-versions_of item below [] rising = refl
+found-versions_of item below (x ∷ xs) rising =
+    let rest : filter_map (found_below below (x ∷ xs)) (versions_of item xs) ≡ filter (supersedes item below) xs =
+    found_along (found_below below (x ∷ xs)) (found_below below xs) (versions_of item xs) (found_later below x xs (versions_of item xs) (all_filtered version_of (λ v. name_cmp x.version v ≡ Less) (is_of item) xs (head_before version_of x xs rising)))
+    ∙ found-versions_of item below xs (tail_rises version_of x xs rising) in
+    elim (is_of item x) as (λ b. filter_map (found_below below (x ∷ xs)) (map version_of (cond b (x ∷ filter (is_of item) xs) (filter (is_of item) xs))) ≡ cond (b && below x.version) (x ∷ filter (supersedes item below) xs) (filter (supersedes item below) xs)) [
+      | true ↦ rw (name_eq_self x.version) (elim (below x.version) as (λ b. cons_option (if b then Some x else None) (filter_map (found_below below (x ∷ xs)) (versions_of item xs)) ≡ cond b (x ∷ filter (supersedes item below) xs) (filter (supersedes item below) xs)) [
+        | true ↦ ap (λ rs. x ∷ rs) rest
+        | false ↦ rest
+      ])
+      | false ↦ rest
+    ]
+
+-- ---- what is left by a test of pairs
+
+-- the versions of the item that pass
+pub versions_of-filter : (passes : Pairs) (i : Name) (rs : List Rev) → versions_of i (filter (λ r. not (passes r.item r.version)) rs) ≡ filter (λ v. not (passes i v)) (versions_of i rs)
+versions_of-filter passes i [] = refl
+versions_of-filter passes i (r ∷ rs) =
+    elim (either (is_of i r)) [
+      | inl of ↦
+          let same : passes r.item r.version ≡ passes i r.version = ap (λ j. passes j r.version) (same_names r.item i of) in
+          elim (either (passes i r.version)) [
+            | inl pass ↦ rw (same, of, pass) (versions_of-filter passes i rs)
+            | inr fail ↦ rw (same, of, fail, of) (ap (λ vs. r.version ∷ vs) (versions_of-filter passes i rs))
+          ]
+      | inr other ↦ rw other (elim (passes r.item r.version) as (λ b. versions_of i (cond (not b) (r ∷ filter (λ r. not (passes r.item r.version)) rs) (filter (λ r. not (passes r.item r.version)) rs)) ≡ filter (λ v. not (passes i v)) (versions_of i rs)) [
+        | true ↦ versions_of-filter passes i rs
+        | false ↦ rw other (versions_of-filter passes i rs)
+      ])
+    ]
+
+-- one of the revisions is of the item
+abbrev pub is_reached : List Rev → Name → Bool
+is_reached rs i = list_any (λ r. name_eq r.item i) rs
+
+versions_of-unreached : (rs : List Rev) (i : Name) → is_reached rs i ≡ false → versions_of i rs ≡ []
+versions_of-unreached [] i h = refl
+versions_of-unreached (r ∷ rs) i h =
+    elim (either (is_of i r)) [
+      | inl of ↦ absurd (cc (sym (ap (λ b. b || is_reached rs i) of) ∙ h))
+      | inr other ↦ rw other (versions_of-unreached rs i (rw other at h))
+    ]
+
+-- all that pass are out once each revision's item was looked at
+pub filter-reached : (passes : Pairs) (rs : List Rev) (i : Name) → filter (λ v. not (is_reached rs i && passes i v)) (versions_of i rs) ≡ versions_of i (filter (λ r. not (passes r.item r.version)) rs)
+filter-reached passes rs i =
+    elim (either (is_reached rs i)) [
+      | inl reached ↦ rw reached (sym (versions_of-filter passes i rs))
+      | inr unreached ↦ rw (versions_of-filter passes i rs, versions_of-unreached rs i unreached) refl
+    ]
+
+out_twice : (reached passes : Bool) → (not (reached && passes) && not passes) ≡ not ((reached || true) && passes)
+out_twice true true = refl
+out_twice true false = refl
+out_twice false true = refl
+out_twice false false = refl
+
+out_once : (reached passes : Bool) → not (reached && passes) ≡ not ((reached || false) && passes)
+out_once true passes = refl
+out_once false passes = refl
+
+-- one item more is looked at
+pub filter-reached_more : (passes : Pairs) (vs : List Name) (reached : Bool) (item i : Name)
+    → (if name_eq item i then filter (λ v. not (passes item v)) (filter (λ v. not (reached && passes i v)) vs) else filter (λ v. not (reached && passes i v)) vs)
+    ≡ filter (λ v. not ((reached || name_eq item i) && passes i v)) vs
+filter-reached_more passes vs reached item i =
+    elim (either (name_eq item i)) [
+      | inl same ↦ rw same (
+          ap (λ j. filter (λ v. not (passes j v)) (filter (λ v. not (reached && passes i v)) vs)) (same_names item i same)
+          ∙ filter-filter (λ v. not (reached && passes i v)) (λ v. not (passes i v)) vs
+          ∙ filter_agree (λ v. not (reached && passes i v) && not (passes i v)) (λ v. not ((reached || true) && passes i v)) (λ v. out_twice reached (passes i v)) vs)
+      | inr apart ↦ rw apart (filter_agree (λ v. not (reached && passes i v)) (λ v. not ((reached || false) && passes i v)) (λ v. out_once reached (passes i v)) vs)
+    ]

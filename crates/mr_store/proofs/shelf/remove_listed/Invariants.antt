@@ -1,0 +1,15 @@
+use Rattle.std.proofs.Common.{◌≡◌, ◌≤◌, take, vec_len, vec_capacity}
+use Rattle.std.specs.List.{filter}
+use Rattle.mr_store.specs.Leaving.{leaves}
+use Rattle.mr_store.specs.Revisions.{AreInVersionOrder}
+use Rattle.mr_store.proofs.RevisionLemmas.{is_none_of}
+use Rattle.mr_store.proofs.shelf.remove_listed.Given as goal
+
+-- the versions looked at so far that are below are taken out
+abbrev pub invariant-loop-version : goal.invariant-loop-version
+invariant-loop-version l = record {
+  items : l.revisions.items ≡ filter (is_none_of (take l.version-index l.versions) (leaves l.ones l.below)) l.initial.revisions.items;
+  in_order : AreInVersionOrder l.revisions.items;
+  fewer : vec_len l.revisions ≤ vec_len l.initial.revisions;
+  capacity : vec_capacity l.revisions ≡ vec_capacity l.initial.revisions;
+}

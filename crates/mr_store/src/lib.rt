@@ -1,0 +1,28 @@
+//! The held revisions of a replica: its heads and its push-outs.
+//!
+//! A replica holds the latest versions of mail items. Those that its filter selects are its **heads**;
+//! own revisions that it does not select are its **push-outs**, which it keeps until another replica
+//! has them. A [`Store`] has both, each in version order, and no version twice.
+//!
+//! What a newer version supersedes leaves both parts ([`Store::drop_below`]). What a full source covers
+//! and did not hold leaves the heads ([`Store::drop_unheld`]). What another replica vouches for leaves the
+//! push-outs ([`Store::drop_push_outs`]). A revision is a handle of eight bytes, so a shift of 50,000 of
+//! them moves 400,000 bytes. Two versions of an item may be held beside one another, also where one
+//! supersedes the other: a stranger's late version may enter after what superseded it.
+//!
+//! ```
+//! store.reserve(Part::Heads, revision.item())?;
+//! store.put(Part::Heads, revision);
+//! let left = store.drop_below(item, newer.below())?;
+//! ```
+#![tactic(auto)]
+
+mod held_versions;
+mod index;
+mod leaving;
+mod shelf;
+mod store;
+mod unheld;
+
+pub use held_versions::HeldVersions;
+pub use store::{Part, Store};

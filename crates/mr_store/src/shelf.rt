@@ -1,0 +1,263 @@
+//! One list of a store: revisions in version order, and an index of them by item.
+ghost use Rattle.std.specs.Prelude.{◌≡◌, ◌<◌, ◌≤◌, ◌&&◌, if◌then◌else◌, not, [], Some, None, IfOk, IfErr, OnOk, OnErr, All, filter, vec_len, vec_capacity};
+ghost use Rattle.std.specs.List.{list_any};
+ghost use Rattle.std.specs.Option.{option_copied};
+ghost use Rattle.mr_forms.specs.Sets.{is_listed};
+ghost use Rattle.mr_concise.specs.Vector.{vector_has};
+ghost use Rattle.mr_madewith.specs.Keyed.{without};
+ghost use Rattle.mr_madewith.specs.Search.{IsFoundAt, IsGapFor};
+ghost use Rattle.mr_store.specs.Leaving.{leaves};
+ghost use Rattle.mr_store.specs.Revisions.{AreInVersionOrder, version_of, revision_of, entered, versions_of, supersedes, left_by, AreConflicts};
+ghost use Rattle.mr_store.specs.Unheld.{ListsInOrder, is_unheld};
+
+use crate::index::{items_with_several, list, listed_for, make_room, unlist, unlist_unheld};
+use crate::leaving::{leaves, some_leave};
+use crate::unheld::is_unheld;
+use mr_concise::ConciseVector;
+use mr_forms::{Fragment, VersionSet};
+use mr_madewith::Revision;
+use mr_version::{ItemId, Version};
+use std::alloc::{AllocError, Global};
+use std::collections::BTreeMap;
+use std::marker::Model;
+
+/// Revisions in version order.
+///
+/// An index lists the versions of each item, so that an edit of one item looks at no other's
+/// revisions.
+#[derive(Drop)]
+pub struct Shelf {
+    alloc: Global,
+    revisions: Vec<Revision>,
+    index: BTreeMap<ItemId, Vec<Version>>,
+    // the item for one more revision of which there is room
+    room: Option<ItemId>,
+}
+
+impl Model for Shelf {
+    ghost use Rattle.mr_store.specs.Shelf.{ShelfParts, IsShelf};
+
+    ghost Value = { ShelfParts };
+
+    ghost view = { λ s. record { revisions = s.revisions.items; room = s.room } };
+
+    ghost invariant = { λ s. IsShelf s.revisions s.index s.room };
+}
+
+// Where the revision of the version is, or where it would go.
+fn search(revisions: &[Revision], version: Version) -> Result<usize, usize>
+    requires { AreInVersionOrder revisions.now }
+    ensures found { IfOk result (IsFoundAt version_of version revisions.now) }
+    ensures absent { IfErr result (IsGapFor version_of version revisions.now) }
+{
+    revisions.binary_search_by_key(&version, |revision| revision.version())
+}
+
+impl Shelf {
+    /// An empty list.
+    pub fn new(alloc: Global) -> Shelf
+        ensures { result ≡ record { revisions = []; room = None } }
+    {
+        Shelf {
+            alloc,
+            revisions: Vec::new(alloc),
+            index: BTreeMap::new(alloc),
+            room: None,
+        }
+    }
+
+    /// The revisions, in version order.
+    pub fn revisions(&self) -> &[Revision]
+        ensures all { result.now ≡ self.now.revisions }
+        ensures in_order { AreInVersionOrder self.now.revisions }
+    {
+        &self.revisions
+    }
+
+    /// The revision of a version. It costs a binary search.
+    pub fn revision(&self, version: Version) -> Option<&Revision>
+        ensures { option_copied result ≡ revision_of self.now.revisions version }
+    {
+        match search(&self.revisions, version) {
+            Ok(place) => Some(&self.revisions[place]),
+            Err(_) => None,
+        }
+    }
+
+    /// The versions of an item, in version order. It costs a look-up.
+    pub fn versions_of(&self, item: ItemId) -> &[Version]
+        ensures { result.now ≡ versions_of item self.now.revisions }
+    {
+        listed_for(&self.index, item)
+    }
+
+    /// The items with two or more revisions, in rising order. It costs a walk over the items.
+    pub fn conflicts(&self) -> Result<Vec<ItemId>, AllocError>
+        ensures { IfOk result (λ items. AreConflicts self.now.revisions items.items) }
+    {
+        items_with_several(&self.index, self.alloc)
+    }
+
+    /// The revisions that a version of the item with this `below` supersedes, in version order. It
+    /// costs a search for each version of the item.
+    pub fn superseded(
+        &self,
+        item: ItemId,
+        below: &ConciseVector,
+    ) -> Result<Vec<Revision>, AllocError>
+        ensures { IfOk result (λ left. left.items ≡ filter (supersedes item (vector_has below.now)) self.now.revisions) }
+    {
+        let mut left = Vec::new(self.alloc);
+        for version in self.versions_of(item) {
+            if let Some(revision) = self.revision_below(below, *version) {
+                left.push(revision.copy()?)?;
+            }
+        }
+        Ok(left)
+    }
+
+    // The revision of a version, if that is below.
+    fn revision_below(&self, below: &ConciseVector, version: Version) -> Option<&Revision>
+        ensures { option_copied result ≡ (if vector_has below.now version then revision_of self.now.revisions version else None) }
+    {
+        if below.contains(version) {
+            self.revision(version)
+        } else {
+            None
+        }
+    }
+
+    /// Whether some version of the item is one of these, or below.
+    pub fn has_leaving(&self, item: ItemId, ones: &[Version], below: &ConciseVector) -> bool
+        ensures { result ≡ list_any (supersedes item (leaves ones.now below.now)) self.now.revisions }
+    {
+        some_leave(ones, below, self.versions_of(item))
+    }
+
+    /// The revisions that these fragments cover and that no vector has, in version order. It costs
+    /// the test of each revision.
+    pub fn unheld(
+        &self,
+        learned: &[Fragment<ConciseVector>],
+        held: &[ConciseVector],
+    ) -> Result<Vec<Revision>, AllocError>
+        requires { All (λ fragment. ListsInOrder fragment.items) learned.now }
+        ensures { IfOk result (λ left. left.items ≡ filter (λ r. is_unheld learned.now held.now r.item r.version) self.now.revisions) }
+    {
+        let mut left = Vec::new(self.alloc);
+        for revision in &self.revisions {
+            if is_unheld(learned, held, revision.item(), revision.version()) {
+                left.push(revision.copy()?)?;
+            }
+        }
+        Ok(left)
+    }
+
+    /// Makes room for one more revision of the item.
+    pub fn reserve(&mut self, item: ItemId) -> Result<(), AllocError>
+        ensures ok { OnOk result (self.new ≡ record { revisions = self.old.revisions; room = Some item }) }
+        ensures err { OnErr result (self.new.revisions ≡ self.old.revisions) }
+    {
+        self.room = None;
+        self.revisions.reserve(1)?;
+        make_room(&mut self.index, self.alloc, item)?;
+        self.room = Some(item);
+        Ok(())
+    }
+
+    /// Lets a revision enter, for which there is room. It costs a binary search and a shift.
+    pub fn put(&mut self, revision: Revision)
+        requires room { self.old.room ≡ Some revision.item }
+        requires new { revision_of self.old.revisions revision.version ≡ None }
+        ensures { self.new ≡ record { revisions = entered revision self.old.revisions; room = None } }
+    {
+        self.room = None;
+        list(&mut self.index, revision.item(), revision.version());
+        insert(&mut self.revisions, revision);
+    }
+
+    /// The revisions of the item leave whose version is one of these, or below. It costs a look-up for each
+    /// version of the item, and a shift for each revision that leaves.
+    pub fn remove_leaving(&mut self, item: ItemId, ones: &[Version], below: &ConciseVector)
+        ensures { self.new ≡ record { revisions = left_by item (leaves ones.now below.now) self.old.revisions; room = self.old.room } }
+    {
+        remove_listed(
+            &mut self.revisions,
+            listed_for(&self.index, item),
+            ones,
+            below,
+        );
+        unlist(&mut self.index, item, ones, below);
+    }
+
+    /// The revisions leave that these fragments cover and that no vector has. It costs their test, and
+    /// one shift.
+    pub fn remove_unheld(&mut self, learned: &[Fragment<ConciseVector>], held: &[ConciseVector])
+        requires { All (λ fragment. ListsInOrder fragment.items) learned.now }
+        ensures { self.new ≡ record { revisions = filter (λ r. not (is_unheld learned.now held.now r.item r.version)) self.old.revisions; room = self.old.room } }
+    {
+        unlist_unheld(&mut self.index, &self.revisions, learned, held);
+        retain_held(&mut self.revisions, learned, held);
+    }
+}
+
+// Takes the revision of the version out.
+fn remove(revisions: &mut Vec<Revision>, version: Version)
+    requires { AreInVersionOrder revisions.old.items }
+    ensures items { revisions.new.items ≡ without version_of version revisions.old.items }
+    ensures in_order { AreInVersionOrder revisions.new.items }
+    ensures fewer { vec_len revisions.new ≤ vec_len revisions.old }
+    ensures capacity { vec_capacity revisions.new ≡ vec_capacity revisions.old }
+{
+    if let Ok(place) = search(revisions, version) {
+        revisions.remove(place);
+    }
+}
+
+// Takes out those of these versions that leave.
+fn remove_listed(
+    revisions: &mut Vec<Revision>,
+    versions: &[Version],
+    ones: &[Version],
+    below: &ConciseVector,
+)
+    requires { AreInVersionOrder revisions.old.items }
+    ensures items { revisions.new.items ≡ filter (λ r. not (is_listed versions.now r.version && leaves ones.now below.now r.version)) revisions.old.items }
+    ensures in_order { AreInVersionOrder revisions.new.items }
+    ensures fewer { vec_len revisions.new ≤ vec_len revisions.old }
+    ensures capacity { vec_capacity revisions.new ≡ vec_capacity revisions.old }
+{
+    for version in versions {
+        if leaves(ones, below, *version) {
+            remove(revisions, *version);
+        }
+    }
+}
+
+// Takes out those that the fragments cover and that no vector has.
+fn retain_held(
+    revisions: &mut Vec<Revision>,
+    learned: &[Fragment<ConciseVector>],
+    held: &[ConciseVector],
+)
+    requires { All (λ fragment. ListsInOrder fragment.items) learned.now }
+    ensures items { revisions.new.items ≡ filter (λ r. not (is_unheld learned.now held.now r.item r.version)) revisions.old.items }
+    ensures fewer { vec_len revisions.new ≤ vec_len revisions.old }
+    ensures capacity { vec_capacity revisions.new ≡ vec_capacity revisions.old }
+{
+    revisions.retain(|revision| !is_unheld(learned, held, revision.item(), revision.version()));
+}
+
+// Puts a revision at its place, where there is room.
+fn insert(revisions: &mut Vec<Revision>, revision: Revision)
+    requires in_order { AreInVersionOrder revisions.old.items }
+    requires new { revision_of revisions.old.items revision.version ≡ None }
+    requires room { vec_len revisions.old < vec_capacity revisions.old }
+    ensures items { revisions.new.items ≡ entered revision revisions.old.items }
+    ensures in_order { AreInVersionOrder revisions.new.items }
+{
+    match search(revisions, revision.version()) {
+        Ok(_) => unreachable!(),
+        Err(place) => revisions.insert(place, revision).unwrap(),
+    }
+}
