@@ -18,15 +18,20 @@ Each line is one command; its words are separated by one space. Empty lines and 
 with # are skipped. A line is run before the next one is waited for, and its answer is written then.";
 
 const RUN_AFTER: &str = "Commands:
-  replica ID LIMIT CAP FILTER                     makes a replica (today one, and FILTER is `all`)
+  replica ID LIMIT CAP FILTER                     makes a replica (today there is one)
   create R LABELS FLAGS DATE FROM SUBJECT         gives replica R a new message
   edit R BASES LABELS FLAGS DATE FROM SUBJECT     replaces the versions BASES of one item
-  heads R    the versions that R holds
-  feed R     what entered (+) and left (-) R's store, in order of time
-  log R      how many events R has admitted
-  know R     what R knows: items and, behind a space, which versions are known of them
-  show R V   the message of version V, if R holds it
+  heads R      the versions that R holds and its filter selects
+  pushouts R   the versions that R holds for others, since its filter doesn't select them
+  conflicts R  the items of which R has several heads
+  feed R       what entered (+) and left (-) R's heads, in order of time
+  log R        how many events R has admitted
+  know R       what R knows: items and, behind a space, which versions are known of them
+  show R V     the message of version V, if R holds it
 
+  FILTER is `none`, or clauses joined by ` | `. A clause is `all`, or conditions joined by ` & `:
+  label:L, !label:L, flag:F, !flag:F and since:DATE. A message is selected if some clause has all its
+  conditions true.
   A version is A.C: the replica that issued it and its number there. `0:9!2!5..7` is the versions 1 to 9
   of replica 0 without 2 and 5 to 7. LABELS are joined by `,`, FLAGS
   (seen, answered, flagged, draft, deleted) by `+`, BASES by `,`; `.` stands for none of each. DATE is

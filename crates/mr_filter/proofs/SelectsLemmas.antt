@@ -54,8 +54,8 @@ later_of a b day =
     both_ways (nat_le (max a b) day) (nat_le a day && nat_le b day)
     (λ h. let m : max a b ≤ day = leb-true _ _ h in both_true (le-leb a day (omega arith)) (le-leb b day (omega arith)))
     (λ h. let x : a ≤ day = leb-true _ _ (first_so (nat_le a day) (nat_le b day) h) in
-          let y : b ≤ day = leb-true _ _ (second_so (nat_le a day) (nat_le b day) h) in
-          le-leb (max a b) day (omega arith))
+    let y : b ≤ day = leb-true _ _ (second_so (nat_le a day) (nat_le b day) h) in
+    le-leb (max a b) day (omega arith))
 
 bits_on-within : (given : List Condition) → bits_on given ≤ 31
 bits_on-within [] = omega arith

@@ -101,7 +101,7 @@ unfolding same
 has_flag-with bits flag f within =
     let test : ℕ → Flag → Flag → Bool = λ n a b. same (has_flag (bit_or n (bit_of a)) b) (flag_eq a b || has_flag n b) in
     let all : list_all (λ a. list_all (test bits a) all_flags) all_flags ≡ true =
-        passes-below 32 (λ n. list_all (λ a. list_all (test n a) all_flags) all_flags) refl bits (omega arith) in
+    passes-below 32 (λ n. list_all (λ a. list_all (test n a) all_flags) all_flags) refl bits (omega arith) in
     same-true (has_flag (bit_or bits (bit_of flag)) f) (flag_eq flag f || has_flag bits f)
     (each_flag (test bits flag) (each_flag (λ a. list_all (test bits a) all_flags) all flag) f)
 
@@ -115,10 +115,10 @@ unfolding same
 flags_alike a b a_in b_in alike =
     let both : ℕ → ℕ → Flag → Bool = λ a b f. same (has_flag a f) (has_flag b f) in
     let told : list_all (both a b) all_flags ≡ true =
-        both_true (same-refl _ _ (alike Seen)) (both_true (same-refl _ _ (alike Answered)) (both_true (same-refl _ _ (alike Flagged)) (both_true (same-refl _ _ (alike Draft)) (both_true (same-refl _ _ (alike Deleted)) refl)))) in
+    both_true (same-refl _ _ (alike Seen)) (both_true (same-refl _ _ (alike Answered)) (both_true (same-refl _ _ (alike Flagged)) (both_true (same-refl _ _ (alike Draft)) (both_true (same-refl _ _ (alike Deleted)) refl)))) in
     eqb-true a b
     (not_or (list_all (both a b) all_flags) (a == b)
-     (passes_both 32 (λ a b. not (list_all (both a b) all_flags) || (a == b)) refl a b (omega arith) (omega arith)) told)
+    (passes_both 32 (λ a b. not (list_all (both a b) all_flags) || (a == b)) refl a b (omega arith) (omega arith)) told)
 
 -- a flag more among those that are asked for
 pub has_flags-or : (bits rest : ℕ) (flag : Flag) → bits ≤ 31 → rest ≤ 31 → has_flags bits (bit_or (bit_of flag) rest) ≡ (has_flag bits flag && has_flags bits rest)

@@ -1,0 +1,191 @@
+use Rattle.std.proofs.Common.{◌≡◌, ◌<◌, ◌≤◌, ◌+◌, ◌⊎◌, ℕ, zero, suc, Bool, true, false, ◌&&◌, ◌==◌, List, [], ◌∷◌, length, get_or, All, AllPairs, Contains, refl, ap, sym, ◌∙◌, arith, inl, inr}
+use Rattle.std.specs.declared.cmp.Ordering.{Ordering}
+use Rattle.std.specs.declared.cmp.Ordering.TheVariants.{Less, Equal, Greater}
+use Rattle.std.specs.Ordering.{is_eq, is_lt, ordering_reverse}
+use Rattle.std.specs.List.{list_any}
+use Rattle.std.specs.List.Sorted.{IsPartitionedBy}
+use Rattle.std.proofs.lemmas.Bool.{false≢true, cases_Bool, cases_lt, or_parts}
+use Rattle.std.proofs.lemmas.Cmp.{tied_itself}
+use Rattle.std.proofs.lemmas.List.Elements.{All-contains, All-head, All-tail, All-weaker}
+use Rattle.mr_version.specs.Name.{Name, name_cmp, name_eq}
+use Rattle.mr_version.specs.Order.{names_total, exact_names}
+use Rattle.mr_forms.specs.Sets.{IsSame}
+use Rattle.mr_forms.specs.Known.{AreSame}
+use Rattle.mr_forms.proofs.SetLemmas.{name_eq-symmetric, name_eq-parts}
+use Rattle.mr_forms.proofs.PairLemmas.{name_eq-itself}
+use Rattle.mr_forms.proofs.PartLemmas.{AllPairs-head, AllPairs-tail, Contains-cases, Contains-here, Contains-there}
+use Rattle.mr_concise.specs.declared.vector.AuthorColumn.{AuthorColumn}
+use Rattle.mr_concise.specs.Vector.{vector_has}
+use Rattle.mr_concise.proofs.EqualLemmas.{vectors_same}
+use Rattle.mr_itemset.specs.declared.knowledge.Listed.{Listed}
+use Rattle.mr_itemset.specs.Normal.{Normal, items_of, IsBefore, vector_in, normal_known, HasMore, IsNormal}
+
+-- ---- names
+
+name_eq-less : (a b : Name) → name_cmp a b ≡ Less → name_eq a b ≡ false
+name_eq-less a b less = ap is_eq less
+
+name_eq-more : (a b : Name) → name_cmp a b ≡ Less → name_eq b a ≡ false
+name_eq-more a b less = name_eq-symmetric b a ∙ ap is_eq less
+
+equal_from_test : (o : Ordering) → is_eq o ≡ true → o ≡ Equal
+equal_from_test Less e = absurd (false≢true e)
+equal_from_test Equal e = refl
+equal_from_test Greater e = absurd (false≢true e)
+
+pub same_name : (a b : Name) → name_eq a b ≡ true → a ≡ b
+same_name a b e = exact_names a b (equal_from_test (name_cmp a b) e)
+
+less_not_more : (a b : Name) → name_cmp a b ≡ Less → name_cmp b a ≡ Less → ⊥
+less_not_more a b ab ba = let round = names_total.trans a b a ab ba in let same = tied_itself names_total a in cc
+
+pub more_from_not_less : (a b : Name) (o : Ordering) → name_cmp a b ≡ o → is_lt o ≡ false → (a ≡ b → ⊥) → name_cmp b a ≡ Less
+more_from_not_less a b Less e low other = absurd (false≢true (sym low))
+more_from_not_less a b Equal e low other = absurd (other (exact_names a b e))
+more_from_not_less a b Greater e low other = names_total.antisymm b a ∙ ap ordering_reverse e
+
+less_from_test : (o : Ordering) → is_lt o ≡ true → o ≡ Less
+less_from_test Less e = refl
+less_from_test Equal e = absurd (false≢true e)
+less_from_test Greater e = absurd (false≢true e)
+
+-- ---- what is known of an item
+
+-- below all listed items there is what is known for all
+vector_in-past : (all : List AuthorColumn) (xs : List Listed) (i : Name) → All (λ x. name_cmp i x.item ≡ Less) xs → vector_in all xs i ≡ all
+vector_in-past all [] i above = refl
+vector_in-past all (x ∷ xs) i above = rw (name_eq-more i x.item (All-head (λ y. name_cmp i y.item ≡ Less) x xs above)) (vector_in-past all xs i (All-tail (λ y. name_cmp i y.item ≡ Less) x xs above))
+
+-- a listed item has its own vector
+pub vector_in-has : (all : List AuthorColumn) (xs : List Listed) (x : Listed) → AllPairs IsBefore xs → Contains xs x → vector_in all xs x.item ≡ x.vector
+vector_in-has all [] x sorted has = let within = has.1 in absurd (omega arith)
+vector_in-has all (y ∷ ys) x sorted has = go (Contains-cases y x ys has) (λ there. vector_in-has all ys x (AllPairs-tail IsBefore y ys sorted) there)
+  where
+    go : (y ≡ x) ⊎ Contains ys x → (Contains ys x → vector_in all ys x.item ≡ x.vector) → vector_in all (y ∷ ys) x.item ≡ x.vector
+    go (inl e) rest = let same : name_eq y.item x.item ≡ true = ap (λ (z : Listed). name_eq z.item x.item) e ∙ name_eq-itself x.item in rw same (ap (λ (z : Listed). z.vector) e)
+    go (inr there) rest =
+        let less : name_cmp y.item x.item ≡ Less = All-contains (IsBefore y) ys x (AllPairs-head IsBefore y ys sorted) there in
+        rw (name_eq-less y.item x.item less) (rest there)
+
+-- at the place where an item would stand it is not listed
+pub vector_in-missed : (all : List AuthorColumn) (xs : List Listed) (i : Name) (k : ℕ) → AllPairs IsBefore xs → ((j : ℕ) (d : Listed) → j < k → j < length xs → is_lt (name_cmp (get_or xs j d).item i) ≡ true) → ((d : Listed) → k < length xs → is_lt (name_cmp (get_or xs k d).item i) ≡ false) → ((d : Listed) → k < length xs → (get_or xs k d).item ≡ i → ⊥) → vector_in all xs i ≡ all
+vector_in-missed all [] i k sorted low high other = refl
+vector_in-missed all (y ∷ ys) i zero sorted low high other =
+    let more = more_from_not_less y.item i (name_cmp y.item i) refl (high y (omega arith)) (other y (omega arith)) in
+    rw (name_eq-more i y.item more) (vector_in-past all ys i (All-weaker (IsBefore y) (λ x. name_cmp i x.item ≡ Less) (λ x after. names_total.trans i y.item x.item more after) ys (AllPairs-head IsBefore y ys sorted)))
+vector_in-missed all (y ∷ ys) i (suc k) sorted low high other =
+    let less = less_from_test (name_cmp y.item i) (low 0 y (omega arith) (omega arith)) in
+    rw (name_eq-less y.item i less)
+    (vector_in-missed all ys i k (AllPairs-tail IsBefore y ys sorted) (λ j d before within. low (suc j) d (omega arith) (omega arith)) (λ d within. high d (omega arith)) (λ d within. other d (omega arith)))
+
+-- an item that is not listed has what is known for all
+pub vector_in-unlisted : (all : List AuthorColumn) (xs : List Listed) (i : Name) → list_any (name_eq i) (items_of xs) ≡ false → vector_in all xs i ≡ all
+vector_in-unlisted all [] i free = refl
+vector_in-unlisted all (x ∷ xs) i free =
+    let parts = or_parts (name_eq i x.item) (list_any (name_eq i) (items_of xs)) free in
+    rw (name_eq-symmetric x.item i ∙ parts.0) (vector_in-unlisted all xs i parts.1)
+
+-- either an item is listed, or it has what is known for all
+pub vector_in-cases : (all : List AuthorColumn) (xs : List Listed) (i : Name) → (vector_in all xs i ≡ all) ⊎ ((x : Listed) × (Contains xs x × ((x.item ≡ i) × (vector_in all xs i ≡ x.vector))))
+vector_in-cases all [] i = inl refl
+vector_in-cases all (x ∷ xs) i = go (cases_Bool (name_eq x.item i)) (vector_in-cases all xs i)
+  where
+    go : (name_eq x.item i ≡ true) ⊎ (name_eq x.item i ≡ false) → (vector_in all xs i ≡ all) ⊎ ((y : Listed) × (Contains xs y × ((y.item ≡ i) × (vector_in all xs i ≡ y.vector)))) → (vector_in all (x ∷ xs) i ≡ all) ⊎ ((y : Listed) × (Contains (x ∷ xs) y × ((y.item ≡ i) × (vector_in all (x ∷ xs) i ≡ y.vector))))
+    go (inl same) rest = inr (x, (Contains-here x xs, (same_name x.item i same, rw same refl)))
+    go (inr other) (inl none) = inl (rw other none)
+    go (inr other) (inr some) = inr (some.0, (Contains-there x some.0 xs some.1.0, (some.1.1.0, rw other some.1.1.1)))
+
+-- ---- some item is not listed
+
+abbrev pub top : List Name → ℕ
+top [] = 0
+top (j ∷ js) = j.counter + top js
+
+not_in : (b : Bool) → (b ≡ true → ⊥) → b ≡ false
+not_in true h = absurd (h refl)
+not_in false h = refl
+
+pub free-above : (n : ℕ) (js : List Name) → top js < n → list_any (name_eq (record { author = 0; counter = n })) js ≡ false
+free-above n [] above = refl
+free-above n (j ∷ js) above =
+    let other : name_eq (record { author = 0; counter = n }) j ≡ false = not_in (name_eq (record { author = 0; counter = n }) j) (λ same. let is : n ≡ j.counter = ap (λ (a : Name). a.counter) (same_name (record { author = 0; counter = n }) j same) in absurd (omega arith)) in
+    rw other (free-above n js (omega arith))
+
+-- ---- one form
+
+-- rising items with the same members are one list
+listed_unique : (xs ys : List Listed) → AllPairs IsBefore xs → AllPairs IsBefore ys → ((x : Listed) → Contains xs x → Contains ys x) → ((x : Listed) → Contains ys x → Contains xs x) → xs ≡ ys
+listed_unique [] [] sx sy xy yx = refl
+listed_unique [] (y ∷ ys) sx sy xy yx = let has = yx y (Contains-here y ys) in let within = has.1 in absurd (omega arith)
+listed_unique (x ∷ xs) [] sx sy xy yx = let has = xy x (Contains-here x xs) in let within = has.1 in absurd (omega arith)
+listed_unique (x ∷ xs) (y ∷ ys) sx sy xy yx =
+    let same = heads (Contains-cases y x ys (xy x (Contains-here x xs))) (Contains-cases x y xs (yx y (Contains-here y ys))) in
+    let rest = listed_unique xs ys (AllPairs-tail IsBefore x xs sx) (AllPairs-tail IsBefore y ys sy)
+    (λ z has. drop_head x y ys z same (after x xs sx z has) (Contains-cases y z ys (xy z (Contains-there x z xs has))))
+    (λ z has. drop_head y x xs z (sym same) (after y ys sy z has) (Contains-cases x z xs (yx z (Contains-there y z ys has)))) in
+    cc
+  where
+    after : (a : Listed) (rest : List Listed) → AllPairs IsBefore (a ∷ rest) → (z : Listed) → Contains rest z → name_cmp a.item z.item ≡ Less
+    after a rest sorted z has = All-contains (IsBefore a) rest z (AllPairs-head IsBefore a rest sorted) has
+
+    heads : (y ≡ x) ⊎ Contains ys x → (x ≡ y) ⊎ Contains xs y → x ≡ y
+    heads (inl e) b = sym e
+    heads (inr a) (inl e) = e
+    heads (inr a) (inr b) = absurd (less_not_more x.item y.item (after x xs sx y b) (after y ys sy x a))
+
+    drop_head : (a b : Listed) (bs : List Listed) (z : Listed) → a ≡ b → name_cmp a.item z.item ≡ Less → (b ≡ z) ⊎ Contains bs z → Contains bs z
+    drop_head a b bs z same less (inl e) = let loop : name_cmp z.item z.item ≡ Less = rw (same ∙ e) at less in absurd (less_not_more z.item z.item loop loop)
+    drop_head a b bs z same less (inr has) = has
+
+-- what one lists, the other lists
+lists_too : (a b : Normal) → IsNormal a → IsNormal b → a.all ≡ b.all → AreSame (normal_known a) (normal_known b) → (x : Listed) → Contains a.listed x → Contains b.listed x
+lists_too a b na nb all same x has = go (vector_in-cases b.all b.listed x.item)
+  where
+    mine : HasMore a.all x
+    mine = All-contains (HasMore a.all) a.listed x na.more has
+
+    known : IsSame (vector_has x.vector) (vector_has (vector_in b.all b.listed x.item))
+    known v = ap (λ (c : List AuthorColumn). vector_has c v) (sym (vector_in-has a.all a.listed x na.rising has)) ∙ same x.item v
+
+    go : (vector_in b.all b.listed x.item ≡ b.all) ⊎ ((y : Listed) × (Contains b.listed y × ((y.item ≡ x.item) × (vector_in b.all b.listed x.item ≡ y.vector)))) → Contains b.listed x
+    go (inl none) = absurd (mine.more (λ v. known v ∙ ap (λ (c : List AuthorColumn). vector_has c v) (none ∙ sym all)))
+    go (inr some) =
+        let theirs = All-contains (HasMore b.all) b.listed some.0 nb.more some.1.0 in
+        let vector : some.0.vector ≡ x.vector = sym (vectors_same x.vector some.0.vector mine.vector_ok theirs.vector_ok (λ v. known v ∙ ap (λ (c : List AuthorColumn). vector_has c v) some.1.1.1)) in
+        let is : some.0 ≡ x = ap (λ (i : Name). record { item = i; vector = some.0.vector }) some.1.1.0 ∙ ap (λ (c : List AuthorColumn). record { item = x.item; vector = c }) vector in
+        rw (← is) some.1.0
+
+-- ONE FORM of a knowledge: some item is listed by neither, so the vectors of all items are one, and with them the
+-- listed items.
+pub normal_unique : (a b : Normal) → IsNormal a → IsNormal b → AreSame (normal_known a) (normal_known b) → a ≡ b
+normal_unique a b na nb same =
+    let n : ℕ = suc (top (items_of a.listed) + top (items_of b.listed)) in
+    let ea = vector_in-unlisted a.all a.listed (record { author = 0; counter = suc (top (items_of a.listed) + top (items_of b.listed)) }) (free-above (suc (top (items_of a.listed) + top (items_of b.listed))) (items_of a.listed) (omega arith)) in
+    let eb = vector_in-unlisted b.all b.listed (record { author = 0; counter = suc (top (items_of a.listed) + top (items_of b.listed)) }) (free-above (suc (top (items_of a.listed) + top (items_of b.listed))) (items_of b.listed) (omega arith)) in
+    let all : a.all ≡ b.all = vectors_same a.all b.all na.all_ok nb.all_ok (λ v. ap (λ (c : List AuthorColumn). vector_has c v) (sym ea) ∙ same (record { author = 0; counter = suc (top (items_of a.listed) + top (items_of b.listed)) }) v ∙ ap (λ (c : List AuthorColumn). vector_has c v) eb) in
+    let listed : a.listed ≡ b.listed = listed_unique a.listed b.listed na.rising nb.rising (lists_too a b na nb all same) (lists_too b a nb na (sym all) (λ i v. sym (same i v))) in
+    ap (λ (c : List AuthorColumn). record { all = c; listed = a.listed }) all ∙ ap (λ (xs : List Listed). record { all = b.all; listed = xs }) listed
+
+-- ---- a place among rising items
+
+pub partitioned : (xs : List Listed) (i : Name) → AllPairs IsBefore xs → IsPartitionedBy (λ x. is_lt (name_cmp x.item i)) xs
+partitioned xs i rising j k d le within low = go (cases_lt j k)
+  where
+    go : (j < k) ⊎ (k ≤ j) → is_lt (name_cmp (get_or xs j d).item i) ≡ true
+    go (inl less) = ap is_lt (names_total.trans (get_or xs j d).item (get_or xs k d).item i (rising j k d less within) (less_from_test (name_cmp (get_or xs k d).item i) low))
+    go (inr same) = let is : j ≡ k = omega arith in rw is low
+
+-- what the test of two items says
+pub item_from_test : (a b : Name) → ((a.author == b.author) && (a.counter == b.counter)) ≡ true → a ≡ b
+item_from_test a b t = same_name a b (name_eq-parts a b ∙ t)
+
+pub item_not_from_test : (a b : Name) → ((a.author == b.author) && (a.counter == b.counter)) ≡ false → a ≡ b → ⊥
+item_not_from_test a b t e = false≢true (sym t ∙ sym (name_eq-parts a b) ∙ ap (λ (z : Name). name_eq a z) (sym e) ∙ name_eq-itself a)
+
+pub get_or-any : (xs : List Listed) (k : ℕ) (d e : Listed) → k < length xs → get_or xs k d ≡ get_or xs k e
+get_or-any [] k d e within = absurd (omega arith)
+get_or-any (x ∷ xs) zero d e within = refl
+get_or-any (x ∷ xs) (suc k) d e within = get_or-any xs k d e (omega arith)
+
+pub contains_at : (xs : List Listed) (k : ℕ) (x : Listed) → k < length xs → x ≡ get_or xs k x → Contains xs x
+contains_at xs k x within is = (k, within, sym is)

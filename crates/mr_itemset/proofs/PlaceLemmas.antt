@@ -1,0 +1,126 @@
+use Rattle.std.proofs.Common.{◌≡◌, ◌<◌, ◌≤◌, ◌+◌, ◌⊎◌, ℕ, zero, suc, Bool, true, false, cond, List, [], ◌∷◌, ◌++◌, length, get_or, take, drop, set, All, AllPairs, refl, ap, sym, ◌∙◌, arith, inl, inr}
+use Rattle.std.specs.declared.cmp.Ordering.{Ordering}
+use Rattle.std.specs.declared.cmp.Ordering.TheVariants.{Less, Equal, Greater}
+use Rattle.std.specs.Ordering.{is_eq, is_lt, ordering_reverse}
+use Rattle.std.proofs.lemmas.Bool.{cases_Bool, false≢true}
+use Rattle.std.proofs.lemmas.List.Elements.{All-nil, All-cons, All-head, All-tail, All-weaker}
+use Rattle.mr_version.specs.Name.{Name, name_cmp, name_eq}
+use Rattle.mr_version.specs.Order.{names_total, exact_names}
+use Rattle.mr_forms.proofs.SetLemmas.{name_eq-symmetric}
+use Rattle.mr_forms.proofs.PairLemmas.{name_eq-itself}
+use Rattle.mr_forms.proofs.PartLemmas.{AllPairs-head, AllPairs-tail}
+use Rattle.mr_concise.specs.declared.vector.AuthorColumn.{AuthorColumn}
+use Rattle.mr_itemset.specs.declared.knowledge.Listed.{Listed}
+use Rattle.mr_itemset.specs.Normal.{IsBefore, vector_in}
+use Rattle.mr_itemset.specs.Placed.{placed}
+use Rattle.mr_itemset.proofs.NormalLemmas.{same_name}
+
+-- ---- two names
+
+pub name_cases : (a b : Name) (o : Ordering) → name_cmp a b ≡ o → (name_cmp a b ≡ Less) ⊎ ((a ≡ b) ⊎ (name_cmp b a ≡ Less))
+name_cases a b Less e = inl e
+name_cases a b Equal e = inr (inl (exact_names a b e))
+name_cases a b Greater e = inr (inr (names_total.antisymm b a ∙ ap ordering_reverse e))
+
+not_lt-more : (a b : Name) → name_cmp b a ≡ Less → is_lt (name_cmp a b) ≡ false
+not_lt-more a b more = ap is_lt (names_total.antisymm a b ∙ ap ordering_reverse more)
+
+not_lt-same : (a b : Name) → a ≡ b → is_lt (name_cmp a b) ≡ false
+not_lt-same a b e = ap (λ (z : Name). is_lt (name_cmp a z)) (sym e) ∙ not_lt-itself a
+  where
+    not_lt-itself : (a : Name) → is_lt (name_cmp a a) ≡ false
+    not_lt-itself a = go (cases_Bool (is_lt (name_cmp a a)))
+      where
+        go : (is_lt (name_cmp a a) ≡ true) ⊎ (is_lt (name_cmp a a) ≡ false) → is_lt (name_cmp a a) ≡ false
+        go (inl less) = absurd (impossible (name_cmp a a) refl less)
+          where
+            impossible : (o : Ordering) → name_cmp a a ≡ o → is_lt o ≡ true → ⊥
+            impossible Less e t = let same = name_eq-itself a in let wrong : is_eq Less ≡ true = ap is_eq (sym e) ∙ same in false≢true wrong
+            impossible Equal e t = false≢true t
+            impossible Greater e t = false≢true t
+        go (inr not_less) = not_less
+
+same_test : (a b : Name) → a ≡ b → name_eq a b ≡ true
+same_test a b e = ap (λ (z : Name). name_eq a z) (sym e) ∙ name_eq-itself a
+
+other_test : (a b : Name) → name_cmp b a ≡ Less → name_eq a b ≡ false
+other_test a b more = name_eq-symmetric a b ∙ ap is_eq more
+
+-- ---- a place
+
+pub placed-insert : (new : Listed) (xs : List Listed) (i : ℕ) → ((k : ℕ) (d : Listed) → k < i → k < length xs → is_lt (name_cmp (get_or xs k d).item new.item) ≡ true) → ((d : Listed) → i < length xs → name_cmp new.item (get_or xs i d).item ≡ Less) → i ≤ length xs → placed new xs ≡ take i xs ++ new ∷ drop i xs
+placed-insert new [] zero before from fits = refl
+placed-insert new [] (suc i) before from fits = absurd (omega arith)
+placed-insert new (x ∷ xs) zero before from fits =
+    let more = from x (omega arith) in
+    rw (not_lt-more x.item new.item more, other_test x.item new.item more) refl
+placed-insert new (x ∷ xs) (suc i) before from fits =
+    rw (before 0 x (omega arith) (omega arith)) (ap (λ (ys : List Listed). x ∷ ys) (placed-insert new xs i (λ k d less within. before (suc k) d (omega arith) (omega arith)) (λ d within. from d (omega arith)) (omega arith)))
+
+pub placed-set : (new : Listed) (xs : List Listed) (i : ℕ) → ((k : ℕ) (d : Listed) → k < i → k < length xs → is_lt (name_cmp (get_or xs k d).item new.item) ≡ true) → ((d : Listed) → i < length xs → (get_or xs i d).item ≡ new.item) → i < length xs → placed new xs ≡ set xs i new
+placed-set new [] i before at fits = absurd (omega arith)
+placed-set new (x ∷ xs) zero before at fits =
+    let same = at x (omega arith) in
+    rw (not_lt-same x.item new.item same, same_test x.item new.item same) refl
+placed-set new (x ∷ xs) (suc i) before at fits =
+    rw (before 0 x (omega arith) (omega arith)) (ap (λ (ys : List Listed). x ∷ ys) (placed-set new xs i (λ k d less within. before (suc k) d (omega arith) (omega arith)) (λ d within. at d (omega arith)) (omega arith)))
+
+-- ---- what holds of the placed ones
+
+AllPairs-cons : (R : Listed → Listed → Type 0) (x : Listed) (xs : List Listed) → All (R x) xs → AllPairs R xs → AllPairs R (x ∷ xs)
+AllPairs-cons R x xs first rest zero zero d less within = absurd (omega arith)
+AllPairs-cons R x xs first rest zero (suc j) d less within = first j d (omega arith)
+AllPairs-cons R x xs first rest (suc i) zero d less within = absurd (omega arith)
+AllPairs-cons R x xs first rest (suc i) (suc j) d less within = rest i j d (omega arith) (omega arith)
+
+pub All-placed : (P : Listed → Type 0) (new : Listed) (xs : List Listed) → All P xs → P new → All P (placed new xs)
+All-placed P new [] all here = All-cons P new [] here all
+All-placed P new (x ∷ xs) all here = go (name_cases x.item new.item (name_cmp x.item new.item) refl) (All-placed P new xs (All-tail P x xs all) here)
+  where
+    go : (name_cmp x.item new.item ≡ Less) ⊎ ((x.item ≡ new.item) ⊎ (name_cmp new.item x.item ≡ Less)) → All P (placed new xs) → All P (placed new (x ∷ xs))
+    go (inl less) rest = rw (ap is_lt less) (All-cons P x (placed new xs) (All-head P x xs all) rest)
+    go (inr (inl same)) rest = rw (not_lt-same x.item new.item same, same_test x.item new.item same) (All-cons P new xs here (All-tail P x xs all))
+    go (inr (inr more)) rest = rw (not_lt-more x.item new.item more, other_test x.item new.item more) (All-cons P new (x ∷ xs) here all)
+
+pub rising-placed : (new : Listed) (xs : List Listed) → AllPairs IsBefore xs → AllPairs IsBefore (placed new xs)
+rising-placed new [] rising = AllPairs-cons IsBefore new [] (All-nil (IsBefore new)) rising
+rising-placed new (x ∷ xs) rising = go (name_cases x.item new.item (name_cmp x.item new.item) refl) (rising-placed new xs (AllPairs-tail IsBefore x xs rising))
+  where
+    after : All (IsBefore x) xs
+    after = AllPairs-head IsBefore x xs rising
+
+    go : (name_cmp x.item new.item ≡ Less) ⊎ ((x.item ≡ new.item) ⊎ (name_cmp new.item x.item ≡ Less)) → AllPairs IsBefore (placed new xs) → AllPairs IsBefore (placed new (x ∷ xs))
+    go (inl less) rest = rw (ap is_lt less) (AllPairs-cons IsBefore x (placed new xs) (All-placed (IsBefore x) new xs after less) rest)
+    go (inr (inl same)) rest = rw (not_lt-same x.item new.item same, same_test x.item new.item same) (AllPairs-cons IsBefore new xs (All-weaker (IsBefore x) (IsBefore new) (λ y before. rw (← same) before) xs after) (AllPairs-tail IsBefore x xs rising))
+    go (inr (inr more)) rest = rw (not_lt-more x.item new.item more, other_test x.item new.item more)
+        (AllPairs-cons IsBefore new (x ∷ xs) (All-cons (IsBefore new) x xs more (All-weaker (IsBefore x) (IsBefore new) (λ y before. names_total.trans new.item x.item y.item more before) xs after)) rising)
+
+pub length-placed : (new : Listed) (xs : List Listed) → length (placed new xs) ≤ length xs + 1
+length-placed new [] = omega arith
+length-placed new (x ∷ xs) = go (name_cases x.item new.item (name_cmp x.item new.item) refl) (length-placed new xs)
+  where
+    go : (name_cmp x.item new.item ≡ Less) ⊎ ((x.item ≡ new.item) ⊎ (name_cmp new.item x.item ≡ Less)) → length (placed new xs) ≤ length xs + 1 → length (placed new (x ∷ xs)) ≤ suc (length xs) + 1
+    go (inl less) rest = rw (ap is_lt less) (omega arith)
+    go (inr (inl same)) rest = rw (not_lt-same x.item new.item same, same_test x.item new.item same) (omega arith)
+    go (inr (inr more)) rest = rw (not_lt-more x.item new.item more, other_test x.item new.item more) (omega arith)
+
+-- what is known once an item is placed
+pub vector_in-placed : (all : List AuthorColumn) (new : Listed) (xs : List Listed) (i : Name) → vector_in all (placed new xs) i ≡ cond (name_eq new.item i) new.vector (vector_in all xs i)
+vector_in-placed all new [] i = refl
+vector_in-placed all new (x ∷ xs) i = go (name_cases x.item new.item (name_cmp x.item new.item) refl) (vector_in-placed all new xs i)
+  where
+    swallow : (b : Bool) (p q r : List AuthorColumn) → cond b p r ≡ cond b p (cond b q r)
+    swallow true p q r = refl
+    swallow false p q r = refl
+
+    exchange : (a n : Bool) (p q r : List AuthorColumn) → (a ≡ true → n ≡ true → ⊥) → cond a p (cond n q r) ≡ cond n q (cond a p r)
+    exchange true true p q r apart = absurd (apart refl refl)
+    exchange true false p q r apart = refl
+    exchange false n p q r apart = refl
+
+    go : (name_cmp x.item new.item ≡ Less) ⊎ ((x.item ≡ new.item) ⊎ (name_cmp new.item x.item ≡ Less)) → vector_in all (placed new xs) i ≡ cond (name_eq new.item i) new.vector (vector_in all xs i) → vector_in all (placed new (x ∷ xs)) i ≡ cond (name_eq new.item i) new.vector (vector_in all (x ∷ xs) i)
+    go (inl less) rest =
+        rw (ap is_lt less, rest) (exchange (name_eq x.item i) (name_eq new.item i) x.vector new.vector (vector_in all xs i)
+        (λ here there. let e : x.item ≡ new.item = same_name x.item i here ∙ sym (same_name new.item i there) in false≢true (sym (ap is_eq less) ∙ same_test x.item new.item e)))
+    go (inr (inl same)) rest = rw (not_lt-same x.item new.item same, same_test x.item new.item same, same) (swallow (name_eq new.item i) new.vector x.vector (vector_in all xs i))
+    go (inr (inr more)) rest = rw (not_lt-more x.item new.item more, other_test x.item new.item more) refl

@@ -1,0 +1,48 @@
+use Rattle.std.specs.Prelude.{◌≡◌, ◌≢◌, ◌<◌, ◌↔◌, true, false, ◌||◌, List, [], Option, Some, None, All, length}
+use Rattle.std.specs.List.{list_any, IsDistinct}
+use Rattle.std.specs.List.Sorted.{IsStrictlySortedBy}
+use Rattle.mr_version.specs.Name.{Name, name_cmp, name_eq}
+use Rattle.mr_forms.specs.declared.fragment.TheConstants.{MAX_ITEMS}
+use Rattle.mr_forms.specs.Sets.{Test, IsSame}
+use Rattle.mr_forms.specs.Known.{Pairs, Part, Form}
+use Rattle.mr_concise.specs.Vector.{vector_has, HasTooManyHoles}
+use Rattle.mr_itemset.specs.Normal.{Normal, normal_known}
+
+-- the pairs with all of a set for all items
+abbrev pub with_all : Pairs → Test → Pairs
+with_all old set = λ i v. set v || old i v
+
+-- of some item so much is known that its vector has a column with too many holes
+pub record HasHoleyItem (pairs : Pairs) : Type 0 where
+  pub item : Name
+  pub holes : HasTooManyHoles (pairs item)
+
+-- Of these items, and of no others, something else is known than of all the others; and they are more than a fragment lists.
+pub record ListsTooMany (pairs : Pairs) : Type 0 where
+  pub all : Test
+  pub items : List Name
+  pub distinct : IsDistinct name_eq items
+  pub more : All (λ i. ¬ IsSame (pairs i) all) items
+  pub rest : (i : Name) → list_any (name_eq i) items ≡ false → IsSame (pairs i) all
+  pub many : MAX_ITEMS < length items
+
+-- The versions are those of all items; or the items, in rising order, are all those of which just these are known, and
+-- that is something else than of all items.
+abbrev pub HasNormalVersions : Normal → Option (List Name) → Test → Type 0
+HasNormalVersions k None versions = versions ≡ vector_has k.all
+HasNormalVersions k (Some items) versions = (items ≢ []) × IsStrictlySortedBy name_cmp items × (versions ≢ vector_has k.all) × ((i : Name) → (list_any (name_eq i) items ≡ true) ↔ (normal_known k i ≡ versions))
+
+-- one part of all items, and for each set of versions that some items have beyond it, one part of all of these
+abbrev pub IsNormalPart : Normal → Part → Type 0
+IsNormalPart k p = HasNormalVersions k p.items p.versions
+
+-- A version is learned for all items. There is no value where a vector would have too many holes, nor where too many
+-- items would be listed.
+abbrev pub item_form : Form Normal
+item_form = record {
+  known = normal_known;
+  is_part = IsNormalPart;
+  learns_for_all = true;
+  has_too_many_holes = HasHoleyItem;
+  has_too_many_items = ListsTooMany;
+}

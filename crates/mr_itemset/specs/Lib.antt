@@ -1,0 +1,6 @@
+pub mod Normal
+pub mod Equal
+pub mod ItemForm
+pub mod Growth
+pub mod Lacking
+pub mod Placed

@@ -1,0 +1,39 @@
+ghost use Rattle.std.specs.Prelude.{◌≡◌, ◌↔◌, IsTrue};
+ghost use Rattle.std.specs.Cmp.{partial_equiv_from_equiv};
+ghost use Rattle.mr_forms.specs.Known.{AreSame};
+ghost use Rattle.mr_itemset.specs.Normal.{normal_known};
+ghost use Rattle.mr_itemset.specs.Equal.{listed_eq, normal_eq, listed_equiv, normals_equiv};
+
+use crate::knowledge::{ItemKnowledge, Listed};
+
+impl PartialEq for Listed {
+    ghost eq = { listed_eq };
+
+    ghost laws = { partial_equiv_from_equiv listed_equiv };
+
+    fn eq(&self, other: &Listed) -> bool {
+        self.item == other.item && self.vector == other.vector
+    }
+}
+
+impl Eq for Listed {
+    ghost laws = { listed_equiv };
+}
+
+/// Two values are equal exactly where they know the same: each knowledge has one value.
+impl PartialEq for ItemKnowledge {
+    ghost eq = { normal_eq };
+
+    ghost laws = { partial_equiv_from_equiv normals_equiv };
+
+    fn eq(&self, other: &ItemKnowledge) -> bool
+        ensures value { result ≡ normal_eq self.now other.now }
+        ensures same { IsTrue result ↔ AreSame (normal_known self.now) (normal_known other.now) }
+    {
+        self.for_all() == other.for_all() && self.listed() == other.listed()
+    }
+}
+
+impl Eq for ItemKnowledge {
+    ghost laws = { normals_equiv };
+}

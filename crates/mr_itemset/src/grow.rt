@@ -1,0 +1,70 @@
+ghost use Rattle.std.specs.Prelude.{◌≡◌, ◌≤◌, ◌+◌, true, [], ◌∷◌, ◌++◌, All, AllPairs, OnOk, OnErr, IfOk, Err, take, length};
+ghost use Rattle.mr_version.specs.Name.{Name};
+ghost use Rattle.mr_forms.specs.Sets.{IsSame, both};
+ghost use Rattle.mr_forms.specs.Known.{AreSame};
+ghost use Rattle.mr_concise.specs.Vector.{vector_has, IsVectorFrom};
+ghost use Rattle.mr_itemset.specs.Normal.{normal_known, IsNormal, IsBefore, HasMore};
+ghost use Rattle.mr_itemset.specs.ItemForm.{with_all};
+ghost use Rattle.mr_itemset.specs.Growth.{IsGrown, GainsListed};
+
+use crate::knowledge::{ItemKnowledge, Listed};
+use mr_concise::{ConciseVector, Source};
+use std::alloc::{AllocError, Global};
+
+/// Lists the item with all that is known of it and the added versions, unless all items have just that.
+fn push_grown<A: Source>(
+    listed: &mut Vec<Listed>,
+    alloc: Global,
+    all: &ConciseVector,
+    x: &Listed,
+    added: &A,
+) -> Result<(), AllocError>
+    requires all { IsVectorFrom 0 all.now }
+    requires before { All (λ y. IsBefore y x.now) listed.old.items }
+    requires covers { (v : Name) → vector_has all.now v ≡ true → both (A.has added.now) (vector_has x.now.vector) v ≡ true }
+    ensures { OnOk result (GainsListed (A.has added.now) all.now x.now listed.old.items listed.new.items) }
+{
+    let Ok(vector) = ConciseVector::gather(alloc, &(added, &x.vector)) else {
+        return Err(AllocError);
+    };
+    if vector == *all {
+        return Ok(());
+    }
+    listed.push(Listed {
+        item: x.item,
+        vector,
+    })?;
+    Ok(())
+}
+
+impl ItemKnowledge {
+    /// The listed items, with the added versions, of which more is known than of all.
+    fn grown_listed<A: Source>(
+        &self,
+        all: &ConciseVector,
+        added: &A,
+    ) -> Result<Vec<Listed>, AllocError>
+        requires vector { IsVectorFrom 0 all.now }
+        requires has { IsSame (vector_has all.now) (both (A.has added.now) (vector_has self.now.all)) }
+        ensures { IfOk result (λ listed. IsGrown (A.has added.now) all.now self.now.listed listed.items) }
+    {
+        let alloc = self.allocator();
+        let mut listed = Vec::new(alloc);
+        for x in self.listed() {
+            push_grown(&mut listed, alloc, all, x, added)?;
+        }
+        Ok(listed)
+    }
+
+    /// The knowledge with the added versions for all items.
+    pub(crate) fn with_all<A: Source>(&self, added: &A) -> Result<ItemKnowledge, AllocError>
+        ensures { IfOk result (λ k. AreSame (normal_known k) (with_all (normal_known self.now) (A.has added.now))) }
+    {
+        let alloc = self.allocator();
+        let Ok(all) = ConciseVector::gather(alloc, &(added, self.for_all())) else {
+            return Err(AllocError);
+        };
+        let listed = self.grown_listed(&all, added)?;
+        Ok(ItemKnowledge::from_parts(alloc, all, listed))
+    }
+}

@@ -1,0 +1,74 @@
+ghost use Rattle.std.specs.Prelude.{◌≡◌, ◌↔◌, true, false, IsTrue};
+ghost use Rattle.mr_forms.specs.Sets.{Covers};
+ghost use Rattle.mr_forms.specs.Runs.{HasVersionsAlone};
+ghost use Rattle.mr_concise.specs.Vector.{vector_has};
+ghost use Rattle.mr_itemset.specs.Lacking.{HasCounters, LacksCounter, CoversAuthor, Lacks};
+ghost use Rattle.mr_itemset.specs.Normal.{normal_known, IsNormal};
+ghost use Rattle.mr_itemset.specs.ItemForm.{HasHoleyItem, with_all};
+
+use crate::knowledge::ItemKnowledge;
+use mr_concise::{ConciseVector, Source, would_have_too_many};
+use mr_forms::{Run, VersionSet};
+use mr_version::Author;
+
+/// Whether a vector has all of a run.
+fn has_run(vector: &ConciseVector, run: &Run) -> bool
+    ensures yes { result ≡ true → HasCounters (vector_has vector.now) run.now.author run.now.first run.now.last }
+    ensures no { result ≡ false → LacksCounter (vector_has vector.now) run.now.author run.now.first run.now.last }
+{
+    match vector.run_from(run.author, run.first) {
+        Some(found) => found.first == run.first && run.last <= found.last,
+        None => false,
+    }
+}
+
+/// Whether a vector lacks some version of the author that the set has.
+fn lacks_of<S: VersionSet>(vector: &ConciseVector, set: &S, author: Author) -> bool
+    ensures yes { result ≡ true → Lacks (vector_has vector.now) (S.has set.now) }
+    ensures no { result ≡ false → CoversAuthor (vector_has vector.now) (S.has set.now) author }
+    ensures versions { HasVersionsAlone (S.has set.now) }
+{
+    let mut from = 1;
+    while let Some(run) = set.run_from(author, from) {
+        let last = run.last;
+        if !has_run(vector, &run) {
+            return true;
+        }
+        from = last + 1;
+    }
+    false
+}
+
+/// Whether a vector lacks some version that the set has. It allocates nothing.
+pub(crate) fn lacks<S: VersionSet>(vector: &ConciseVector, set: &S) -> bool
+    ensures yes { result ≡ true → Lacks (vector_has vector.now) (S.has set.now) }
+    ensures no { result ≡ false → Covers (vector_has vector.now) (S.has set.now) }
+{
+    let mut id = 0;
+    while let Some(author) = set.next_author(id) {
+        if lacks_of(vector, set, author) {
+            return true;
+        }
+        id = author.id() + 1;
+    }
+    false
+}
+
+impl ItemKnowledge {
+    /// Whether some vector would have too many holes, once these versions are known for all items. It
+    /// allocates nothing.
+    pub(crate) fn would_be_holey<A: Source>(&self, added: &A) -> bool
+        ensures holey { IsTrue result ↔ HasHoleyItem (with_all (normal_known self.now) (A.has added.now)) }
+        ensures normal { IsNormal self.now }
+    {
+        if would_have_too_many(&(added, self.for_all())) {
+            return true;
+        }
+        for x in self.listed() {
+            if would_have_too_many(&(added, &x.vector)) {
+                return true;
+            }
+        }
+        false
+    }
+}

@@ -1,0 +1,4 @@
+pub mod SlotLemmas
+pub mod PieceLemmas
+pub mod TableLemmas
+pub mod ViewLemmas

@@ -1,0 +1,4 @@
+pub mod Table
+pub mod Slots
+pub mod Fault
+pub mod Session

@@ -1,0 +1,291 @@
+//! What no clause says: that calls find memory, and rows whose values were computed elsewhere.
+use mr_concise::knowledge_text;
+use mr_feed::Entry;
+use mr_filter::Filter;
+use mr_forms::PlainKnowledge;
+use mr_mail::{Day, Message};
+use mr_replica::{Bases, Event, Refusal, Replica, ReplicaFault, Reply};
+use mr_version::{Author, Version};
+use std::alloc::Global;
+use std::process::Abort;
+use std::test::Fail;
+
+type PlainReplica = Replica<PlainKnowledge>;
+
+fn message(alloc: Global) -> Result<Message, Fail> {
+    let from = String::from_str(alloc, "ann")?;
+    let subject = String::from_str(alloc, "Hi")?;
+    let labels = Vec::new(alloc);
+    let day = Day::read("2026-01-05")?;
+    Ok(Message::try_new(alloc, from, subject, Vec::new(alloc), labels, 0, day)?)
+}
+
+/// The event of a line: `create`, or the bases of an edit.
+fn event_of(alloc: Global, line: &str) -> Result<Event, Fail> {
+    if line == "create" {
+        return Ok(Event::Create(message(alloc)?));
+    }
+    let mut bases = Vec::new(alloc);
+    for base in line.split_whitespace() {
+        bases.push(Version::read(base)?)?;
+    }
+    Ok(Event::Edit(Bases::new(bases), message(alloc)?))
+}
+
+/// How many bases the event names.
+fn base_count(event: &Event) -> usize {
+    match event {
+        Event::Create(_) => 0,
+        Event::Edit(bases, _) => bases.as_slice().len(),
+    }
+}
+
+/// The answer: the version, or the refusal's name, number and text.
+fn answer_text(alloc: Global, answer: Result<Reply, Refusal>) -> Result<String, Fail> {
+    match answer {
+        Ok(reply) => issued_text(alloc, reply),
+        Err(refusal) => refusal_text(alloc, refusal),
+    }
+}
+
+fn issued_text(alloc: Global, reply: Reply) -> Result<String, Fail> {
+    let Reply::Issued(version) = reply;
+    Ok(version.text(alloc)?)
+}
+
+fn refusal_text(alloc: Global, refusal: Refusal) -> Result<String, Fail> {
+    let number = refusal.number();
+    let name = refusal.name();
+    Ok(format!(in alloc; "{number} {name}, {refusal}")?)
+}
+
+/// The answers to these lines, each behind a mark.
+fn answers(alloc: Global, replica: &mut PlainReplica, lines: &[&str]) -> Result<String, Fail> {
+    let mut text = String::new(alloc);
+    for line in lines {
+        let answer = replica.step(event_of(alloc, line)?);
+        text.push_str("; ")?;
+        text.push_str(answer_text(alloc, answer)?.as_str())?;
+    }
+    Ok(text)
+}
+
+/// The feed as it is printed: a sign and the version of each entry.
+fn feed_text(alloc: Global, entries: &[Entry]) -> Result<String, Fail> {
+    let mut text = String::new(alloc);
+    for entry in entries {
+        text.push_str(match entry {
+            Entry::Added { .. } => " +",
+            Entry::Dropped { .. } => " -",
+        })?;
+        text.push_str(entry.version().text(alloc)?.as_str())?;
+    }
+    Ok(text)
+}
+
+/// The heads' versions.
+fn heads_text(alloc: Global, replica: &PlainReplica) -> Result<String, Fail> {
+    let mut text = String::new(alloc);
+    for revision in replica.heads() {
+        text.push(' ')?;
+        text.push_str(revision.version().text(alloc)?.as_str())?;
+    }
+    Ok(text)
+}
+
+fn replica_of(alloc: Global, event_limit: u32) -> Result<PlainReplica, Fail> {
+    Ok(Replica::try_new(
+        alloc,
+        Author::try_new(0)?,
+        Filter::read(alloc, "all")?,
+        event_limit,
+    )?)
+}
+
+fn check_copy(rt: &impl Abort, alloc: Global) -> Result<(), Fail> {
+    let event = event_of(alloc, "0.2 0.1")?.copy()?;
+    assert_eq!(rt; base_count(&event), 2);
+    Ok(())
+}
+
+#[test]
+fn ample_memory_for_steps(rt: HostRuntime) -> Result<(), Fail> {
+    let alloc = rt.alloc();
+    let mut replica = replica_of(alloc, 1_000_000)?;
+    let answers = answers(alloc, &mut replica, &["create", "0.1 0.1"])?;
+    assert_eq!(rt; answers.as_str(), "; 0.1; 0.2");
+    assert_eq!(rt; replica.conflicts()?.len(), 0);
+    assert_eq!(rt; replica.fragments()?.len(), 1);
+    check_copy(&rt, alloc)
+}
+
+#[test]
+fn full_log(rt: HostRuntime) -> Result<(), Fail> {
+    let alloc = rt.alloc();
+    let mut replica = replica_of(alloc, 2)?;
+    let answers = answers(
+        alloc,
+        &mut replica,
+        &["create", "0.1", "create", "0.2", "0.1"],
+    )?;
+    assert_eq!(rt;
+        answers.as_str(),
+        "; 0.1; 0.2; 8 LogFull, the log is full; 8 LogFull, the log is full; 3 NotHeld, the base 0.1 is not held"
+    );
+    assert_eq!(rt; heads_text(alloc, &replica)?.as_str(), " 0.2");
+    assert_eq!(rt;
+        feed_text(alloc, replica.feed())?.as_str(),
+        " +0.1 -0.1 +0.2"
+    );
+    assert_eq!(rt; replica.log().len(), 2);
+    Ok(())
+}
+
+#[test]
+fn refusals_of_edits(rt: HostRuntime) -> Result<(), Fail> {
+    let alloc = rt.alloc();
+    let mut replica = replica_of(alloc, 9)?;
+    let lines = ["", "0.1", "create", "create", "0.1 0.2", "0.1 9.9 8.8 0.2"];
+    let answers = answers(alloc, &mut replica, &lines)?;
+    assert_eq!(rt;
+        answers.as_str(),
+        "; 2 NoBase, the edit names no base; 3 NotHeld, the base 0.1 is not held; 0.1; 0.2; 4 MixedItems, the bases are versions of several items; 3 NotHeld, the base 9.9 is not held"
+    );
+    assert_eq!(rt; heads_text(alloc, &replica)?.as_str(), " 0.1 0.2");
+    assert_eq!(rt; replica.log().len(), 2);
+    Ok(())
+}
+
+/// What a held version supersedes, or a question mark.
+fn below_text(alloc: Global, replica: &PlainReplica, version: &str) -> Result<String, Fail> {
+    match replica.held(Version::read(version)?) {
+        Some(revision) => Ok(format!(in alloc; "{}", revision.below())?),
+        None => Ok(String::from_str(alloc, "?")?),
+    }
+}
+
+/// Asks for the steps, and then for these heads.
+fn check_heads(
+    rt: &impl Abort,
+    alloc: Global,
+    replica: &mut PlainReplica,
+    lines: &[&str],
+    heads: &str,
+) -> Result<(), Fail> {
+    let _answers = answers(alloc, replica, lines)?;
+    assert_eq!(rt; heads_text(alloc, replica)?.as_str(), heads);
+    Ok(())
+}
+
+fn check_below(
+    rt: &impl Abort,
+    alloc: Global,
+    replica: &PlainReplica,
+    version: &str,
+    below: &str,
+) -> Result<(), Fail> {
+    assert_eq!(rt; below_text(alloc, replica, version)?.as_str(), below);
+    Ok(())
+}
+
+#[test]
+fn edits_of_one_item_among_several(rt: HostRuntime) -> Result<(), Fail> {
+    let alloc = rt.alloc();
+    let mut replica = replica_of(alloc, 9)?;
+    check_heads(
+        &rt,
+        alloc,
+        &mut replica,
+        &["create", "create", "0.1"],
+        " 0.2 0.3",
+    )?;
+    check_below(&rt, alloc, &replica, "0.2", "-")?;
+    check_below(&rt, alloc, &replica, "0.3", "0:2")?;
+    check_heads(&rt, alloc, &mut replica, &["0.3"], " 0.2 0.4")?;
+    check_below(&rt, alloc, &replica, "0.4", "0:3")?;
+    assert_eq!(rt;
+        feed_text(alloc, replica.feed())?.as_str(),
+        " +0.1 +0.2 -0.1 +0.3 -0.3 +0.4"
+    );
+    Ok(())
+}
+
+/// Asks for the steps, and then for what is known.
+fn check_known(
+    rt: &impl Abort,
+    alloc: Global,
+    replica: &mut PlainReplica,
+    lines: &[&str],
+    known: &str,
+) -> Result<(), Fail> {
+    let _answers = answers(alloc, replica, lines)?;
+    let fragments = replica.fragments()?;
+    assert_eq!(rt; knowledge_text(alloc, &fragments)?.as_str(), known);
+    Ok(())
+}
+
+#[test]
+fn fragments_after_an_edit(rt: HostRuntime) -> Result<(), Fail> {
+    let alloc = rt.alloc();
+    let mut replica = replica_of(alloc, 9)?;
+    check_known(&rt, alloc, &mut replica, &[], "-")?;
+    check_known(&rt, alloc, &mut replica, &["create", "0.1"], "0.1 0:2")?;
+    check_known(
+        &rt,
+        alloc,
+        &mut replica,
+        &["create", "0.2"],
+        "0.1 0:4!3; 0.3 0:3!1..2",
+    )?;
+    Ok(())
+}
+
+#[test]
+fn limits_of_the_log(rt: HostRuntime) -> Result<(), Fail> {
+    let alloc = rt.alloc();
+    let id = Author::try_new(63)?;
+    for event_limit in [0, 1_000_001, u32::MAX] {
+        let refused: Result<PlainReplica, ReplicaFault> = Replica::try_new(
+            alloc,
+            id,
+            Filter::read(alloc, "all")?,
+            event_limit,
+        );
+        assert_eq!(rt; refused.err().map(ReplicaFault::number), Some(1));
+    }
+    for event_limit in [1, 1_000_000] {
+        let made: Result<PlainReplica, ReplicaFault> = Replica::try_new(
+            alloc,
+            id,
+            Filter::read(alloc, "all")?,
+            event_limit,
+        );
+        assert!(rt; made.is_ok());
+    }
+    Ok(())
+}
+
+/// The versions of the push-outs.
+fn push_outs_text(alloc: Global, replica: &PlainReplica) -> Result<String, Fail> {
+    let mut text = String::new(alloc);
+    for revision in replica.push_outs() {
+        text.push(' ')?;
+        text.push_str(revision.version().text(alloc)?.as_str())?;
+    }
+    Ok(text)
+}
+
+/// A replica that selects no message.
+fn selecting_nothing(alloc: Global) -> Result<PlainReplica, Fail> {
+    Ok(Replica::try_new(alloc, Author::try_new(0)?, Filter::read(alloc, "none")?, 9)?)
+}
+
+#[test]
+fn what_is_not_selected_is_pushed_out(rt: HostRuntime) -> Result<(), Fail> {
+    let alloc = rt.alloc();
+    let mut replica = selecting_nothing(alloc)?;
+    check_heads(&rt, alloc, &mut replica, &["create", "create", "0.1"], "")?;
+    assert_eq!(rt; push_outs_text(alloc, &replica)?.as_str(), " 0.2 0.3");
+    assert_eq!(rt; replica.feed().len(), 0);
+    check_below(&rt, alloc, &replica, "0.3", "0:2")
+}

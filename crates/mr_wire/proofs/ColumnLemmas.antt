@@ -1,0 +1,125 @@
+-- A column is read from its parts.
+use Rattle.std.proofs.Common.{◌≡◌, ℕ, ◌<◌, ◌≤◌, ◌+◌, ◌||◌, Bool, true, false, ◌&&◌, ◌⊎◌, inl, inr, List, [], ◌∷◌, length, Option, Some, None, refl, sym, ap, ◌∙◌, arith}
+use Rattle.std.specs.Prelude.{IfSome, IsSomeAnd, nat_le, not, ◌==◌}
+use Rattle.std.specs.List.{list_any}
+use Rattle.std.specs.Global.{Vec}
+use Rattle.std.specs.Int.{w16}
+use Rattle.std.proofs.lemmas.Bool.{le-leb, ne_eqb, eqb-true, lt-leb}
+use Rattle.std.proofs.lemmas.Bool.Decides.{leb_tells}
+use Rattle.mr_concise.specs.declared.column.Hole.{Hole}
+use Rattle.mr_concise.specs.declared.vector.AuthorColumn.{AuthorColumn}
+use Rattle.mr_concise.specs.Column.{IsColumn, empty_column, column_has, hole_has}
+use Rattle.mr_wire.specs.declared.vector.Counters.{Counters}
+use Rattle.mr_wire.specs.declared.vector.Seen.{Seen}
+use Rattle.mr_wire.specs.declared.vector.Head.{Head}
+use Rattle.mr_wire.specs.declared.vector.Watch.{Watch}
+use Rattle.mr_wire.specs.declared.vector.Place.{Place}
+use Rattle.mr_concise.specs.Vector.{IsVectorFrom, vector_has}
+use Rattle.mr_wire.specs.Watch.{AreSeen, IsHead, AreIn, AreHad, is_in_column, name_of_place}
+use Rattle.mr_wire.specs.Reading.{number_at, Stands}
+use Rattle.mr_wire.specs.Parts.{author_at, counter_at, holes_at, column_at, columns_at, vector_at}
+use Rattle.mr_wire.proofs.PartLaws.{reads_counter, reads_hole, after_hole, holes_rise, reads_column, after_column, columns_stand}
+use Rattle.mr_wire.proofs.Laws.{reads_run}
+
+module _ (old r1 r2 r3 : List ℕ) (low author upto count : ℕ) (e1 : author_at old ≡ Some (author, r1)) (le : low ≤ author) (e2 : counter_at r1 ≡ Some (upto, r2)) (e3 : number_at w16 r2 ≡ Some (count, r3)) (few : count ≤ 4096) where
+  pub is_column : (holes : List Hole) (new : List ℕ) → holes_at upto 0 count r3 ≡ Some (holes, new) → IsColumn (record { upto = upto; holes = holes })
+  is_column holes new h =
+      let bound = reads_counter.takes r1 upto r2 e2 in
+      let run = (reads_run after_hole (reads_hole upto) 0 count).takes r3 holes new h in
+      record { apart = holes_rise upto holes 0 (omega arith) run.1.1; in_range = bound.1.1; few = omega (arith, run.1.0) }
+
+  pub if_column : (kept : Option (Vec Hole)) (new : List ℕ) (Told : List Hole → Type 0) → Stands (λ (v : Vec Hole). v.items) (holes_at upto 0 count) r3 kept new Told → IfSome kept (λ v. IsColumn (record { upto = upto; holes = v.items }))
+  if_column None new Told s = tt
+  if_column (Some v) new Told s = let P : List Hole → Type 0 = λ holes. IsColumn (record { upto = upto; holes = holes }) in rw s.is_part (is_column s.part new s.stands)
+
+  column_stands : (holes : List Hole) (new : List ℕ) → holes_at upto 0 count r3 ≡ Some (holes, new) → column_at low old ≡ Some (record { author = author; column = record { upto = upto; holes = holes } }, new)
+  column_stands holes new h = rw (e1, le-leb low author le, e2, e3, le-leb count 4096 few, h) refl
+
+  kept_column : (column : Option AuthorColumn) (kept : Option (Vec Hole)) (holes : List Hole) → IfSome kept (λ v. v.items ≡ holes) →
+      IfSome column (λ x. IsSomeAnd kept (λ v. x ≡ record { author = author; column = record { upto = upto; holes = v.items } })) →
+      IfSome column (λ x. x ≡ record { author = author; column = record { upto = upto; holes = holes } })
+  kept_column None kept holes a b = tt
+  kept_column (Some x) None holes a b = absurd b
+  kept_column (Some x) (Some v) holes a b = b ∙ ap (λ (hs : List Hole). record { author = author; column = record { upto = upto; holes = hs } }) a
+
+  pub stands_column : (watch : Watch) (counters : Counters) (hits : Seen) (head : Head) (column : Option AuthorColumn) (kept : Option (Vec Hole)) (new : List ℕ) →
+      Stands (λ (v : Vec Hole). v.items) (holes_at upto 0 count) r3 kept new (AreSeen counters hits) →
+      counters.version ≡ watch.version.counter → counters.item ≡ watch.item.counter → head.author ≡ author →
+      head.seen.version ≡ ((author == watch.version.author) && ((nat_le 1 watch.version.counter && nat_le watch.version.counter upto) && not hits.version)) →
+      head.seen.item ≡ ((author == watch.item.author) && ((nat_le 1 watch.item.counter && nat_le watch.item.counter upto) && not hits.item)) →
+      IfSome column (λ x. IsSomeAnd kept (λ v. x ≡ record { author = author; column = record { upto = upto; holes = v.items } })) →
+      Stands (λ (x : AuthorColumn). x) (column_at low) old column new (IsHead watch head)
+  stands_column watch counters hits head column kept new s cv ci ha hv hi made = record {
+    part = record { author = author; column = record { upto = upto; holes = s.part } };
+    stands = column_stands s.part new s.stands;
+    is_part = kept_column column kept s.part s.is_part made;
+    told = record {
+      author = ha;
+      version = hv ∙ ap (λ (b : Bool). (author == watch.version.author) && ((nat_le 1 watch.version.counter && nat_le watch.version.counter upto) && not b)) (s.told.version ∙ ap (λ (c : ℕ). list_any (λ hole. hole_has hole c) s.part) cv);
+      item = hi ∙ ap (λ (b : Bool). (author == watch.item.author) && ((nat_le 1 watch.item.counter && nat_le watch.item.counter upto) && not b)) (s.told.item ∙ ap (λ (c : ℕ). list_any (λ hole. hole_has hole c) s.part) ci);
+    };
+  }
+
+-- ---- vectors
+
+-- a vector that rises from above the author has nothing of that author
+none_below : (xs : List AuthorColumn) (low : ℕ) (place : Place) → place.author < low → IsVectorFrom low xs → list_any (λ x. is_in_column x place) xs ≡ false
+none_below [] low place lt h = refl
+none_below (x ∷ xs) low place lt h =
+    let a = h.0 in
+    let other : (x.author == place.author) ≡ false = ne_eqb _ _ (λ e. omega (arith, e)) in
+    rw (other, none_below xs (x.author + 1) place (omega arith) h.3) refl
+
+or_none : (b : Bool) → (b || false) ≡ b
+or_none true = refl
+or_none false = refl
+
+and_none : (b : Bool) → ((b && false) && true) ≡ false
+and_none true = refl
+and_none false = refl
+
+in_empty : (c : ℕ) → column_has empty_column c ≡ false
+in_empty c = at_one (leb_tells c 0)
+  where
+    at_one : ((nat_le c 0 ≡ true) × (c ≤ 0)) ⊎ ((nat_le c 0 ≡ false) × (0 < c)) → ((nat_le 1 c && nat_le c 0) && true) ≡ false
+    at_one (inl (e, le)) = let one : nat_le 1 c ≡ false = lt-leb 1 c (omega arith) in rw one refl
+    at_one (inr (e, lt)) = rw e (and_none (nat_le 1 c))
+
+pub any_column : (xs : List AuthorColumn) (low : ℕ) (place : Place) → IsVectorFrom low xs → list_any (λ x. is_in_column x place) xs ≡ vector_has xs (name_of_place place)
+any_column [] low place h = sym (in_empty place.counter)
+any_column (x ∷ xs) low place h = at_author (x.author == place.author) refl (any_column xs (x.author + 1) place h.3)
+  where
+    at_author : (b : Bool) → (x.author == place.author) ≡ b → list_any (λ y. is_in_column y place) xs ≡ vector_has xs (name_of_place place) → list_any (λ y. is_in_column y place) (x ∷ xs) ≡ vector_has (x ∷ xs) (name_of_place place)
+    at_author true e others =
+        let same : x.author ≡ place.author = eqb-true _ _ e in
+        rw (e, none_below xs (x.author + 1) place (omega (arith, same)) h.3) (or_none (column_has x.column place.counter))
+    at_author false e others = rw e others
+
+module _ (r1 : List ℕ) (count : ℕ) where
+  is_vector : (columns : List AuthorColumn) (new : List ℕ) → columns_at 0 count r1 ≡ Some (columns, new) → IsVectorFrom 0 columns × (length columns ≡ count)
+  is_vector columns new h = let run = (reads_run after_column reads_column 0 count).takes r1 columns new h in (columns_stand columns 0 run.1.1, run.1.0)
+
+  pub if_vector : (kept : Option (Vec AuthorColumn)) (new : List ℕ) (Note : List AuthorColumn → Type 0) → Stands (λ (v : Vec AuthorColumn). v.items) (columns_at 0 count) r1 kept new Note → IfSome kept (λ v. IsVectorFrom 0 v.items)
+  if_vector None new Note s = tt
+  if_vector (Some v) new Note s = rw s.is_part ((is_vector s.part new s.stands).0)
+
+kept_vector : (vector : Option (List AuthorColumn)) (kept : Option (Vec AuthorColumn)) (columns : List AuthorColumn) → IfSome kept (λ v. v.items ≡ columns) → IfSome vector (λ x. IsSomeAnd kept (λ v. x ≡ v.items)) → IfSome vector (λ x. x ≡ columns)
+kept_vector None kept columns a b = tt
+kept_vector (Some x) None columns a b = absurd b
+kept_vector (Some x) (Some v) columns a b = b ∙ a
+
+pub stands_vector : (old r1 : List ℕ) (count : ℕ) → number_at w16 old ≡ Some (count, r1) → (watch : Watch) (seen : Seen) (vector : Option (List AuthorColumn)) (kept : Option (Vec AuthorColumn)) (new : List ℕ) →
+    Stands (λ (v : Vec AuthorColumn). v.items) (columns_at 0 count) r1 kept new (AreIn watch seen) → IfSome vector (λ x. IsSomeAnd kept (λ v. x ≡ v.items)) →
+    Stands (λ (v : List AuthorColumn). v) vector_at old vector new (AreHad watch (record { seen = seen; is_empty = count == 0 }))
+stands_vector old r1 count e watch seen vector kept new s made =
+    let is = is_vector r1 count s.part new s.stands in
+    record {
+      part = s.part;
+      stands = rw (e, s.stands) refl;
+      is_part = kept_vector vector kept s.part s.is_part made;
+      told = record {
+        version = s.told.version ∙ any_column s.part 0 watch.version is.0;
+        item = s.told.item ∙ any_column s.part 0 watch.item is.0;
+        empty = ap (λ (n : ℕ). n == 0) (sym is.1);
+      };
+    }

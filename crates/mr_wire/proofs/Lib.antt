@@ -1,0 +1,14 @@
+pub mod RunLemmas
+pub mod WatchLemmas
+pub mod Laws
+pub mod PartLaws
+pub mod ColumnLemmas
+pub mod FilterLaws
+pub mod FilterLemmas
+pub mod MessageLemmas
+pub mod ItemLemmas
+pub mod LineLemmas
+pub mod BodyLemmas
+pub mod FrameLaws
+pub mod DecodeLaws
+pub mod PutLemmas

@@ -1,0 +1,7 @@
+use Rattle.std.proofs.Common.{◌≡◌, ◌++◌, take}
+use Rattle.std.specs.List.{flat_map}
+use Rattle.mr_wire.specs.Spelling.{fragment_bytes}
+use Rattle.mr_wire.proofs.encoding.put_fragments.Given as goal
+
+abbrev pub invariant-loop-fragment : goal.invariant-loop-fragment
+invariant-loop-fragment l = l.out.items ≡ l.fn.out.items ++ flat_map fragment_bytes (take l.fragment-index l.fragments)

@@ -1,0 +1,9 @@
+use Rattle.std.proofs.Common.{◌≡◌, ◌-◌, None}
+use Rattle.mr_wire.specs.Parts.{item_at}
+use Rattle.mr_wire.specs.Items.{next_item, first_item}
+use Rattle.mr_wire.proofs.RunLemmas.{Running}
+use Rattle.mr_wire.proofs.items.items.Given as goal
+
+abbrev pub invariant-loop : goal.invariant-loop
+invariant-loop l =
+    Running item_at next_item None l.count l.fn.input l.items l.before (l.count - l.counter) l.input (λ xs. l.first ≡ first_item xs)

@@ -1,0 +1,61 @@
+-- what stands at the front of some bytes, or the first thing that is wrong with them
+use Rattle.std.specs.Prelude.{◌≡◌, ◌+◌, ℕ, ◌==◌, ◌||◌, nat_lt, if◌then◌else◌, List, [], ◌∷◌, length, Option, Some, None, Result, Ok, Err, IsOk, IfSome}
+use Rattle.std.specs.Int.{w32}
+use Rattle.mr_wire.specs.declared.fault.WireFault.{WireFault}
+use Rattle.mr_wire.specs.declared.fault.WireFault.TheVariants.{OutOfMemory, Truncated, TooLong, BadFormat, BadKind, BadBody}
+use Rattle.mr_wire.specs.declared.frame.Frame.{Frame}
+use Rattle.mr_wire.specs.declared.kind.Kind.{Kind}
+use Rattle.mr_wire.specs.Kinds.{kind_of_byte}
+use Rattle.mr_wire.specs.Reading.{◌>>=◌, number_at, bytes_at}
+use Rattle.mr_wire.specs.FrameParts.{frame_at}
+
+-- the value, or the fault where there is none
+abbrev pub or_fault : {X : Type 0} → WireFault → Option X → Result X WireFault
+or_fault fault None = Err fault
+or_fault fault (Some x) = Ok x
+
+abbrev pub and_then : {X Y : Type 0} → Result X WireFault → (X → Result Y WireFault) → Result Y WireFault
+and_then (Ok x) f = f x
+and_then (Err fault) f = Err fault
+
+-- so many bytes behind a length
+abbrev pub rest_from : ℕ × List ℕ → Result (List ℕ) WireFault
+rest_from len =
+    if nat_lt 8388608 len.0 then Err TooLong
+    else (if nat_lt len.0 2 then Err BadBody
+    else or_fault Truncated (bytes_at len.0 len.1 >>= λ found. Some found.0))
+
+-- what stands behind the length of the first frame
+abbrev pub rest_of : List ℕ → Result (List ℕ) WireFault
+rest_of bytes = and_then (or_fault Truncated (number_at w32 bytes)) rest_from
+
+-- the kind, and what stands behind it
+abbrev pub kind_and_parts : List ℕ → Result (Kind × List ℕ) WireFault
+kind_and_parts [] = Err BadBody
+kind_and_parts (format ∷ []) = Err BadBody
+kind_and_parts (format ∷ byte ∷ parts) =
+    if format == 1 || format == 2 then or_fault BadKind (kind_of_byte format byte >>= λ kind. Some (kind, parts)) else Err BadFormat
+
+-- the frame of this kind that the bytes are, all of them
+abbrev pub whole_frame : Kind → List ℕ → Option Frame
+whole_frame kind parts = frame_at kind parts >>= λ found. if length found.1 == 0 then Some found.0 else None
+
+-- the first frame, and how many bytes it takes
+abbrev pub decoded : List ℕ → Result (Frame × ℕ) WireFault
+decoded bytes =
+    and_then (rest_of bytes) (λ rest. and_then (kind_and_parts rest) (λ head. or_fault BadBody (whole_frame head.0 head.1 >>= λ f. Some (f, length rest + 4))))
+
+-- What is answered is what was decoded. Memory is wanting only where there is a frame.
+abbrev pub Answers : {X : Type 0} → Result X WireFault → Result X WireFault → Type 0
+Answers read (Ok x) = read ≡ Ok x
+Answers read (Err OutOfMemory) = IsOk read
+Answers read (Err Truncated) = read ≡ Err Truncated
+Answers read (Err TooLong) = read ≡ Err TooLong
+Answers read (Err BadFormat) = read ≡ Err BadFormat
+Answers read (Err BadKind) = read ≡ Err BadKind
+Answers read (Err BadBody) = read ≡ Err BadBody
+
+-- The frame that the bytes are is kept, or not; or they are none.
+abbrev pub FindsWhole : Kind → List ℕ → Option (Option Frame) → Type 0
+FindsWhole kind parts None = whole_frame kind parts ≡ None
+FindsWhole kind parts (Some kept) = (f : Frame) × (whole_frame kind parts ≡ Some f) × IfSome kept (λ k. k ≡ f)

@@ -1,0 +1,17 @@
+pub mod Fault
+pub mod Parts
+pub mod Values
+pub mod Spelling
+pub mod Reading
+pub mod Watch
+pub mod Frames
+pub mod Labels
+pub mod Items
+pub mod Kinds
+pub mod FrameParts
+pub mod Bodies
+pub mod FrameSpelling
+pub mod Grammar
+pub mod Decoding
+pub mod Rests
+pub mod Encoding

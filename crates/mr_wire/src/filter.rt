@@ -1,0 +1,79 @@
+//! Filters: a count of clauses, and each clause with its labels, flags and first day.
+ghost use Rattle.std.specs.Prelude.{◌≡◌, ◌≤◌, ◌+◌, IfSome, IsSomeAnd, length};
+ghost use Rattle.mr_mail.specs.Label.{IsLabelSet};
+ghost use Rattle.mr_filter.specs.Filter.{IsFilter, clause_with};
+ghost use Rattle.mr_wire.specs.Parts.{clause_at, clauses_at, filter_at};
+ghost use Rattle.mr_wire.specs.Reading.{Finds};
+
+use crate::input::Input;
+use crate::keep::{keep, room};
+use crate::label::{flags, labels};
+use mr_filter::{Clause, Filter};
+use mr_mail::{Day, Flags, Label};
+use std::alloc::Global;
+
+/// The most clauses of a filter.
+const MAX_CLAUSES: u8 = 16;
+
+/// The most labels of a clause, wanted and barred together.
+const MAX_CLAUSE_LABELS: u8 = 8;
+
+/// The clause of these parts, where its labels are kept.
+fn clause_of(
+    wanted: Option<Vec<Label>>,
+    barred: Option<Vec<Label>>,
+    on: Flags,
+    off: Flags,
+    since: Day,
+) -> Option<Clause>
+    requires wanted { IfSome wanted (λ v. IsLabelSet v.items) }
+    requires barred { IfSome barred (λ v. IsLabelSet v.items) }
+    requires few { IfSome wanted (λ a. IfSome barred (λ b. length a.items + length b.items ≤ 8)) }
+    ensures { IfSome result (λ c. IsSomeAnd wanted (λ a. IsSomeAnd barred (λ b. c ≡ clause_with a.items b.items on off since))) }
+{
+    Some(Clause::new(wanted?, barred?, on, off, since))
+}
+
+fn clause(input: &mut Input<'_>, memory: Option<Global>) -> Option<Option<Clause>>
+    ensures { Finds (λ c. c) clause_at input.old result input.new }
+{
+    let (wanted, wanted_count) = labels(input, memory)?;
+    let (barred, barred_count) = labels(input, memory)?;
+    let on = flags(input)?;
+    let off = flags(input)?;
+    let since = Day::new(input.u16()?);
+    if wanted_count + barred_count > MAX_CLAUSE_LABELS {
+        return None;
+    }
+    Some(clause_of(wanted, barred, on, off, since))
+}
+
+fn clauses(input: &mut Input<'_>, memory: Option<Global>, count: u8) -> Option<Option<Vec<Clause>>>
+    ensures { Finds (λ v. v.items) (clauses_at count) input.old result input.new }
+{
+    let mut clauses = room(memory, usize::from(count));
+    for _ in 0..count {
+        let clause = clause(input, memory)?;
+        keep(&mut clauses, clause);
+    }
+    Some(clauses)
+}
+
+/// The filter of these clauses, where they are kept.
+fn filter_of(clauses: Option<Vec<Clause>>) -> Option<Filter>
+    requires { IfSome clauses (λ v. IsFilter v.items) }
+    ensures { IfSome result (λ f. IsSomeAnd clauses (λ v. f ≡ v.items)) }
+{
+    Some(Filter::new(clauses?))
+}
+
+pub(crate) fn filter(input: &mut Input<'_>, memory: Option<Global>) -> Option<Option<Filter>>
+    ensures { Finds (λ f. f) filter_at input.old result input.new }
+{
+    let count = input.u8()?;
+    if count > MAX_CLAUSES {
+        return None;
+    }
+    let clauses = clauses(input, memory, count)?;
+    Some(filter_of(clauses))
+}

@@ -1,0 +1,50 @@
+//! Fragments of knowledge, as frames carry them.
+ghost use Rattle.std.specs.Prelude.{◌≡◌, ◌↔◌, IsTrue};
+ghost use Rattle.mr_wire.specs.Values.{AreItems, piece_of};
+
+use mr_concise::ConciseVector;
+use mr_forms::Fragment;
+use std::marker::Model;
+
+/// A fragment of all items, or of 1 to 65,536 items in rising order.
+#[derive(Debug, Drop)]
+pub struct FrameFragment {
+    fragment: Fragment<ConciseVector>,
+}
+
+impl Model for FrameFragment {
+    ghost use Rattle.mr_wire.specs.Values.{Piece, piece_code, piece_of, AreItems};
+
+    ghost Value = { Piece };
+
+    ghost coded = { piece_code };
+
+    ghost view = { λ f. piece_of f.fragment };
+
+    ghost invariant = { λ f. AreItems (piece_of f.fragment).items };
+}
+
+impl FrameFragment {
+    /// The fragment, as a frame carries it. It costs no copy.
+    pub fn new(fragment: Fragment<ConciseVector>) -> FrameFragment
+        requires { AreItems (piece_of fragment).items }
+        ensures { result ≡ piece_of fragment }
+    {
+        FrameFragment { fragment }
+    }
+
+    /// The fragment.
+    pub fn as_fragment(&self) -> &Fragment<ConciseVector>
+        ensures is { piece_of result.now ≡ self.now }
+        ensures kept { AreItems self.now.items }
+    {
+        &self.fragment
+    }
+
+    /// The fragment, moved out.
+    pub fn into_fragment(self) -> Fragment<ConciseVector>
+        ensures { piece_of result ≡ self }
+    {
+        self.fragment
+    }
+}

@@ -1,0 +1,171 @@
+//! Frames: what replicas send to one another.
+ghost use Rattle.std.specs.Prelude.{◌≡◌};
+ghost use Rattle.mr_wire.specs.Frames.{IsSent, IsQuestion};
+
+use crate::descent::Descent;
+use crate::fragment::FrameFragment;
+use mr_concise::ConciseVector;
+use mr_filter::Filter;
+use mr_madewith::Revision;
+use mr_version::Author;
+use std::marker::Model;
+
+/// Whether a stream tells all that its source knows, or what the target's filter selects.
+#[derive(Clone, Copy, Debug, PartialEq, Eq)]
+pub enum Mode {
+    Partial,
+    Full,
+}
+
+/// From whom a record comes, for whom it is, and where it stands in its stream.
+#[derive(Clone, Copy, Debug, PartialEq, Eq)]
+pub struct Header {
+    /// Who gives the record.
+    pub source: Author,
+    /// The source's number of the stream, from 1.
+    pub stream: u64,
+    /// For whom it is.
+    pub target: Author,
+    /// The target's number of the session that the stream answers, from 1.
+    pub session: u64,
+    /// The record's number in the stream: 0 for the Start, and from 1 for the others.
+    pub index: u32,
+}
+
+/// What a record says.
+#[derive(Debug, Drop)]
+pub enum Body {
+    Start(Mode),
+    Item(Revision),
+    MoveOut(Descent),
+    Held(ConciseVector),
+    Know(FrameFragment),
+    End,
+}
+
+/// A record of a stream. Its stream and session have numbers from 1; its index is 0 exactly for a Start.
+#[derive(Debug, Drop)]
+pub struct Record {
+    header: Header,
+    body: Body,
+}
+
+impl Model for Record {
+    ghost use Rattle.mr_wire.specs.Frames.{Sent, IsSent};
+
+    ghost Value = { Sent };
+
+    ghost view = { λ r. record { header = r.header; body = r.body } };
+
+    ghost invariant = { λ r. IsSent r.header r.body };
+}
+
+impl Record {
+    /// The record with this header and body.
+    pub fn new(header: Header, body: Body) -> Record
+        requires { IsSent header body }
+        ensures { result ≡ record { header = header; body = body } }
+    {
+        Record { header, body }
+    }
+
+    /// The record's header.
+    pub fn header(&self) -> Header
+        ensures is { result ≡ self.now.header }
+        ensures kept { IsSent self.now.header self.now.body }
+    {
+        self.header
+    }
+
+    /// What the record says.
+    pub fn body(&self) -> &Body
+        ensures { result.now ≡ self.now.body }
+    {
+        &self.body
+    }
+}
+
+/// A request for what the target knows not yet of what its filter selects.
+///
+/// Its session has a number from 1. A fragment of all items comes first, if there is one; the others
+/// rise by their least items.
+#[derive(Debug, Drop)]
+pub struct Ask {
+    target: Author,
+    session: u64,
+    filter: Filter,
+    fragments: Vec<FrameFragment>,
+}
+
+impl Model for Ask {
+    ghost use Rattle.mr_wire.specs.Frames.{Question, question_code, IsQuestion};
+
+    ghost Value = { Question };
+
+    ghost coded = { question_code };
+
+    ghost view = { λ a. record { target = a.target; session = a.session; filter = a.filter; fragments = a.fragments.items } };
+
+    ghost invariant = { λ a. IsQuestion a.session a.fragments.items };
+}
+
+impl Ask {
+    /// The request with these parts.
+    pub fn new(target: Author, session: u64, filter: Filter, fragments: Vec<FrameFragment>) -> Ask
+        requires { IsQuestion session fragments.items }
+        ensures { result ≡ record { target = target; session = session; filter = filter; fragments = fragments.items } }
+    {
+        Ask {
+            target,
+            session,
+            filter,
+            fragments,
+        }
+    }
+
+    /// Who asks.
+    pub fn target(&self) -> Author
+        ensures { result ≡ self.now.target }
+    {
+        self.target
+    }
+
+    /// The asking replica's number of the session, from 1.
+    pub fn session(&self) -> u64
+        ensures is { result ≡ self.now.session }
+        ensures kept { IsQuestion self.now.session self.now.fragments }
+    {
+        self.session
+    }
+
+    /// What the asking replica selects.
+    pub fn filter(&self) -> &Filter
+        ensures { result.now ≡ self.now.filter }
+    {
+        &self.filter
+    }
+
+    /// What the asking replica knows.
+    pub fn fragments(&self) -> &[FrameFragment]
+        ensures { result.now ≡ self.now.fragments }
+    {
+        self.fragments.as_slice()
+    }
+}
+
+/// A replica's word that it holds a version, or one that supersedes it.
+#[derive(Debug, Drop)]
+pub struct Receipt {
+    /// Who gives it.
+    pub giver: Author,
+    /// The version of an item, with what it supersedes.
+    pub descent: Descent,
+}
+
+/// What a replica sends to another.
+#[derive(Debug, Drop)]
+pub enum Frame {
+    Ask(Ask),
+    Record(Record),
+    Receipt(Receipt),
+}

@@ -1,0 +1,46 @@
+//! Frames: what replicas send to one another, as bytes.
+//!
+//! A replica asks for what it lacks by an [`Ask`] and is answered by a stream of [`Record`]s; by a
+//! [`Receipt`] it vouches for a version. A frame is a length of four bytes and so many bytes behind it:
+//! a format byte, a kind byte, and the parts that the kind has. Numbers have their highest byte first.
+//!
+//! Each frame has one spelling in a format, and no spelling begins another one's. [`encode`] writes
+//! format 2. [`decode`] reads it, and format 1, which is the same without receipts. It takes what a
+//! stranger sent: bytes that are no frame are refused with the first fault, and nothing is built of
+//! them, since a body is first walked without memory and then built by the same functions.
+//!
+//! ```
+//! let bytes = encode(alloc, &Frame::Record(record))?;
+//! let (frame, used) = decode(alloc, &bytes)?;
+//! assert_eq!(used, bytes.len());
+//! assert_eq!(frame.kind(), Kind::Held);
+//! ```
+#![tactic(auto)]
+
+mod body;
+mod decoding;
+mod descent;
+mod encoding;
+mod fault;
+mod filter;
+mod fragment;
+mod frame;
+mod input;
+mod items;
+mod keep;
+mod kind;
+mod label;
+mod line;
+mod message;
+mod put;
+mod spellings;
+mod vector;
+
+pub use decoding::{MAX_REST_BYTES, decode};
+pub use descent::Descent;
+pub use encoding::encode;
+pub use fault::WireFault;
+pub use fragment::FrameFragment;
+pub use frame::{Ask, Body, Frame, Header, Mode, Receipt, Record};
+pub use kind::Kind;
+pub use spellings::{no_spelling_begins_another, one_spelling};

@@ -1,0 +1,120 @@
+//! Messages: texts and the body behind their lengths, labels, flags and the day.
+ghost use Rattle.std.specs.Prelude.{◌≡◌, true, false, MatchOption, IfOk, IfSome, IsSomeAnd};
+ghost use Rattle.std.specs.Option.{option_copied};
+ghost use Rattle.std.specs.Str.{is_utf8};
+ghost use Rattle.mr_mail.specs.Label.{IsLabelSet, texts_of};
+ghost use Rattle.mr_mail.specs.Mail.{Mail};
+ghost use Rattle.mr_wire.specs.Parts.{message_at, text_at, message_body_at};
+ghost use Rattle.mr_wire.specs.Reading.{Gives, Finds};
+ghost use Rattle.mr_wire.specs.Labels.{message_with};
+
+use crate::input::Input;
+use crate::label::{flags, labels};
+use mr_mail::{Day, Flags, Label, Message, MessageFault};
+use std::alloc::{AllocError, Global};
+
+/// The most bytes of a sender.
+const MAX_FROM_BYTES: u16 = 254;
+
+/// The most bytes of a subject.
+const MAX_SUBJECT_BYTES: u16 = 998;
+
+/// The most bytes of a body.
+const MAX_BODY_BYTES: u32 = 65_536;
+
+/// The text of these bytes, if they are UTF-8.
+#[tactic(auto, using(crate::proofs::MessageLemmas::no_text, crate::proofs::MessageLemmas::is_text))]
+fn text_of(bytes: &[u8]) -> Option<&str>
+    ensures { MatchOption result (is_utf8 bytes.now ≡ false) (λ text. (text.now ≡ bytes.now) × (is_utf8 bytes.now ≡ true)) }
+{
+    match str::from_utf8(bytes) {
+        Ok(text) => Some(text),
+        Err(_) => None,
+    }
+}
+
+/// A text of at most so many bytes.
+fn text<'a>(input: &mut Input<'a>, most: u16) -> Option<&'a str>
+    ensures { Gives (text_at most) input.old (option_copied result) input.new }
+{
+    let len = input.u16()?;
+    if len > most {
+        return None;
+    }
+    let bytes = input.bytes(usize::from(len))?;
+    text_of(bytes)
+}
+
+/// A message's body.
+fn message_body<'a>(input: &mut Input<'a>) -> Option<&'a [u8]>
+    ensures { Gives message_body_at input.old (option_copied result) input.new }
+{
+    let len = input.u32()?;
+    if len > MAX_BODY_BYTES {
+        return None;
+    }
+    input.bytes(len as usize)
+}
+
+/// The texts of the labels.
+fn label_texts(alloc: Global, labels: &[Label]) -> Result<Vec<String>, AllocError>
+    ensures { IfOk result (λ texts. texts_of texts.items ≡ labels.now) }
+{
+    let mut texts = Vec::with_capacity(alloc, labels.len())?;
+    for label in labels {
+        texts.push(String::from_str(alloc, label.as_str())?)?;
+    }
+    Ok(texts)
+}
+
+/// The message of these parts.
+fn built(
+    alloc: Global,
+    from: &str,
+    subject: &str,
+    body: &[u8],
+    labels: &[Label],
+    flags: Flags,
+    day: Day,
+) -> Result<Message, MessageFault>
+    requires { IsLabelSet labels.now }
+    ensures { IfOk result (λ m. m ≡ message_with from.now subject.now body.now labels.now flags day) }
+{
+    let texts = label_texts(alloc, labels)?;
+    let from = String::from_str(alloc, from)?;
+    let subject = String::from_str(alloc, subject)?;
+    let body = Vec::from_slice(alloc, body)?;
+    Message::try_new(alloc, from, subject, body, texts, flags.bits(), day)
+}
+
+/// The message of these parts, where its labels are kept.
+fn message_of(
+    memory: Option<Global>,
+    from: &str,
+    subject: &str,
+    body: &[u8],
+    labels: Option<Vec<Label>>,
+    flags: Flags,
+    day: Day,
+) -> Option<Message>
+    requires { IfSome labels (λ v. IsLabelSet v.items) }
+    ensures { IfSome result (λ m. IsSomeAnd labels (λ v. m ≡ message_with from.now subject.now body.now v.items flags day)) }
+{
+    let alloc = memory?;
+    let labels = labels?;
+    built(alloc, from, subject, body, &labels, flags, day).ok()
+}
+
+/// A message.
+pub(crate) fn message(input: &mut Input<'_>, memory: Option<Global>) -> Option<Option<Message>>
+    ensures { Finds (λ m. m) message_at input.old result input.new }
+{
+    let from = text(input, MAX_FROM_BYTES)?;
+    let subject = text(input, MAX_SUBJECT_BYTES)?;
+    let body = message_body(input)?;
+    let (labels, _) = labels(input, memory)?;
+    let flags = flags(input)?;
+    let day = input.u16()?;
+    let day = Day::new(day);
+    Some(message_of(memory, from, subject, body, labels, flags, day))
+}
