@@ -5,7 +5,7 @@ use Rattle.std.proofs.lemmas.List.{take_more}
 use Rattle.std.proofs.lemmas.List.Folds.{list_any-append}
 use Rattle.std.proofs.lemmas.Bool.{cases_lt, lt-leb, le-leb, or_right}
 use Rattle.mr_version.specs.Name.{Name}
-use Rattle.mr_forms.specs.Sets.{Test}
+use Rattle.mr_forms.specs.Sets.{Versions}
 use Rattle.mr_concise.specs.Next.{IsNextOut, IsNextIn, HasNoneFrom}
 use Rattle.mr_forms.specs.Runs.{HasNoneOf}
 use Rattle.mr_forms.specs.Runs.{HasNoAuthorFrom, IsNextAuthor}
@@ -16,13 +16,13 @@ or_none true = refl
 or_none false = refl
 
 -- one more
-pub in_all-more : {X : Type 0} (has : X → Test) (xs : List X) (k : ℕ) (x : X) → k < length xs → x ≡ get_or xs k x → (v : Name) → in_all has (take (k + 1) xs) v ≡ (in_all has (take k xs) v || has x v)
+pub in_all-more : {X : Type 0} (has : X → Versions) (xs : List X) (k : ℕ) (x : X) → k < length xs → x ≡ get_or xs k x → (v : Name) → in_all has (take (k + 1) xs) v ≡ (in_all has (take k xs) v || has x v)
 in_all-more has xs k x l at v =
     ap (λ ys. in_all has ys v) (take_more xs k x l ∙ ap (λ y. take k xs ++ y ∷ []) (sym at))
     ∙ list_any-append (λ y. has y v) (take k xs) (x ∷ [])
     ∙ ap (λ b. in_all has (take k xs) v || b) (or_none (has x v))
 
-pub in_all-more_is : {X : Type 0} (has : X → Test) (xs : List X) (k : ℕ) (x : X) → k < length xs → x ≡ get_or xs k x → in_all has (take (k + 1) xs) ≡ (λ v. in_all has (take k xs) v || has x v)
+pub in_all-more_is : {X : Type 0} (has : X → Versions) (xs : List X) (k : ℕ) (x : X) → k < length xs → x ≡ get_or xs k x → in_all has (take (k + 1) xs) ≡ (λ v. in_all has (take k xs) v || has x v)
 in_all-more_is has xs k x l at = let h : (v : Name) → in_all has (take (k + 1) xs) v ≡ (in_all has (take k xs) v || has x v) = in_all-more has xs k x l at in λ i v. h v i
 
 -- either of two sets
@@ -54,16 +54,16 @@ bound-lower n (Some s) (Some t) x y = elim (cases_lt t s) [
 ]
 
 -- the next author of one set, or none
-abbrev pub NextAuthor : Test → ℕ → Option ℕ → Type 0
+abbrev pub NextAuthor : Versions → ℕ → Option ℕ → Type 0
 NextAuthor set id r = MatchOption r (HasNoAuthorFrom set id) (λ author. IsNextAuthor set id author)
 
-abbrev pub either_set : Test → Test → Test
+abbrev pub either_set : Versions → Versions → Versions
 either_set s t = λ v. s v || t v
 
-none-either : (s t : Test) (q : ℕ) → HasNoneOf s q → HasNoneOf t q → HasNoneOf (either_set s t) q
+none-either : (s t : Versions) (q : ℕ) → HasNoneOf s q → HasNoneOf t q → HasNoneOf (either_set s t) q
 none-either s t q x y c = rw (x c, y c) refl
 
-pub NextAuthor-lower : (s t : Test) (id : ℕ) (a b : Option ℕ) → NextAuthor s id a → NextAuthor t id b → NextAuthor (either_set s t) id (lower_of a b)
+pub NextAuthor-lower : (s t : Versions) (id : ℕ) (a b : Option ℕ) → NextAuthor s id a → NextAuthor t id b → NextAuthor (either_set s t) id (lower_of a b)
 NextAuthor-lower s t id None None x y = λ q f. none-either s t q (x q f) (y q f)
 NextAuthor-lower s t id None (Some n) x y = record { above = y.above; author_in = y.author_in; between = λ q f l. none-either s t q (x q f) (y.between q f l) }
 NextAuthor-lower s t id (Some m) None x y = record { above = x.above; author_in = x.author_in; between = λ q f l. none-either s t q (x.between q f l) (y q f) }

@@ -4,7 +4,7 @@ use Rattle.std.proofs.lemmas.Bool.{cases_lt}
 use Rattle.std.proofs.lemmas.List.{get_or_append_left, append-nil}
 use Rattle.std.proofs.Math.Seq.{get_or-append_seam}
 use Rattle.mr_forms.specs.declared.fragment.Fragment.{Fragment}
-use Rattle.mr_forms.specs.Sets.{Test}
+use Rattle.mr_forms.specs.Sets.{Versions}
 use Rattle.mr_concise.specs.Fragments.{ConciseFragment, IsConciseOf, IsTooHoley}
 
 -- one element more in each list
@@ -22,17 +22,17 @@ All-last P xs x all p k d l = elim (cases_lt k (length xs)) [
 ]
 
 -- How far fragments are made concise: those before the ones that are left, none of which is too holey.
-pub record ConciseSoFar {V : Type 0} (has : V → Test) (all yielded left : List (Fragment V)) (concise : List ConciseFragment) : Type 0 where
+pub record ConciseSoFar {V : Type 0} (has : V → Versions) (all yielded left : List (Fragment V)) (concise : List ConciseFragment) : Type 0 where
   pub whole : all ≡ yielded ++ left
   pub each : AllZip (IsConciseOf has) yielded concise
   pub few : All (λ fragment. ¬ IsTooHoley has fragment) yielded
 
 -- at first none is made
-pub ConciseSoFar-begin : {V : Type 0} (has : V → Test) (all left : List (Fragment V)) → left ≡ all → ConciseSoFar has all [] left []
+pub ConciseSoFar-begin : {V : Type 0} (has : V → Versions) (all left : List (Fragment V)) → left ≡ all → ConciseSoFar has all [] left []
 ConciseSoFar-begin has all left e = record { whole = sym e; each = tt; few = λ k d l. absurd (omega arith) }
 
 -- one fragment more
-pub ConciseSoFar-more : {V : Type 0} (has : V → Test) (all yielded left next : List (Fragment V)) (concise : List ConciseFragment) (x : Fragment V) (y : ConciseFragment) → ConciseSoFar has all yielded left concise → left ≡ x ∷ next → IsConciseOf has x y → (¬ IsTooHoley has x) → ConciseSoFar has all (yielded ++ x ∷ []) next (concise ++ y ∷ [])
+pub ConciseSoFar-more : {V : Type 0} (has : V → Versions) (all yielded left next : List (Fragment V)) (concise : List ConciseFragment) (x : Fragment V) (y : ConciseFragment) → ConciseSoFar has all yielded left concise → left ≡ x ∷ next → IsConciseOf has x y → (¬ IsTooHoley has x) → ConciseSoFar has all (yielded ++ x ∷ []) next (concise ++ y ∷ [])
 ConciseSoFar-more has all yielded left next concise x y w taken is few = record {
   whole = w.whole ∙ ap (λ rest. yielded ++ rest) taken ∙ sym (append_assoc yielded (x ∷ []) next);
   each = AllZip-last (IsConciseOf has) yielded concise x y w.each is;
@@ -40,9 +40,9 @@ ConciseSoFar-more has all yielded left next concise x y w taken is few = record 
 }
 
 -- one that is left is among them all
-pub holey-among : {V : Type 0} (has : V → Test) (all yielded left next : List (Fragment V)) (concise : List ConciseFragment) (x : Fragment V) → ConciseSoFar has all yielded left concise → left ≡ x ∷ next → IsTooHoley has x → Any (IsTooHoley has) all
+pub holey-among : {V : Type 0} (has : V → Versions) (all yielded left next : List (Fragment V)) (concise : List ConciseFragment) (x : Fragment V) → ConciseSoFar has all yielded left concise → left ≡ x ∷ next → IsTooHoley has x → Any (IsTooHoley has) all
 holey-among has all yielded left next concise x w taken h = rw (w.whole, taken) (length yielded, x, let e = length-append yielded (x ∷ next) in omega arith, get_or-append_seam yielded x next x, h)
 
 -- at the end all are made
-pub ConciseSoFar-end : {V : Type 0} (has : V → Test) (all yielded left : List (Fragment V)) (concise : List ConciseFragment) → ConciseSoFar has all yielded left concise → left ≡ [] → AllZip (IsConciseOf has) all concise × All (λ fragment. ¬ IsTooHoley has fragment) all
+pub ConciseSoFar-end : {V : Type 0} (has : V → Versions) (all yielded left : List (Fragment V)) (concise : List ConciseFragment) → ConciseSoFar has all yielded left concise → left ≡ [] → AllZip (IsConciseOf has) all concise × All (λ fragment. ¬ IsTooHoley has fragment) all
 ConciseSoFar-end has all yielded left concise w none = rw (w.whole, none, append-nil yielded) (w.each, w.few)

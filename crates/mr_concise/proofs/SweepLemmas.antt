@@ -5,7 +5,7 @@ use Rattle.std.proofs.lemmas.Bool.Decides.{nat_tests}
 use Rattle.std.specs.Prelude.{Result, Ok, Err, OnOk, IsErrOf}
 use Rattle.mr_forms.specs.declared.fault.FormFault.{FormFault}
 use Rattle.mr_forms.specs.declared.fault.FormFault.TheVariants.{TooManyHoles}
-use Rattle.mr_forms.specs.Sets.{Test, IsSame}
+use Rattle.mr_forms.specs.Sets.{Versions, IsSame}
 use Rattle.mr_concise.specs.Edges.{is_on, IsRising}
 use Rattle.mr_concise.specs.declared.column.Hole.{Hole}
 use Rattle.mr_concise.specs.declared.vector.AuthorColumn.{AuthorColumn}
@@ -122,13 +122,13 @@ IsColumn-from_few has column is few = record { apart = is.apart; in_range = is.i
 pub few-from_none : (has : ℕ → Bool) → ((c : ℕ) → has c ≡ false) → HasFewHoles has
 few-from_none has none = few-from_column has empty_column (record { apart = IsColumn-empty.apart; in_range = IsColumn-empty.in_range; means = λ c. column_has-empty c ∙ sym (none c) }) (omega arith)
 
-pub too_many-from_author : (set : Test) (q : ℕ) → q < 64 → HasManyHoles (of_author set q) → HasTooManyHoles set
+pub too_many-from_author : (set : Versions) (q : ℕ) → q < 64 → HasManyHoles (of_author set q) → HasTooManyHoles set
 too_many-from_author set q in_range many = record { author = q; author_in = in_range; column = many.column; apart = many.is.apart; in_range = many.is.in_range; means = many.is.means; many = many.many }
 
-pub few-of_authors : (set : Test) → ((q : ℕ) → HasFewHoles (of_author set q)) → HasTooManyHoles set → ⊥
+pub few-of_authors : (set : Versions) → ((q : ℕ) → HasFewHoles (of_author set q)) → HasTooManyHoles set → ⊥
 few-of_authors set few many = let f = few many.author many.column (record { apart = many.apart; in_range = many.in_range; means = many.means }) in let m = many.many in absurd (omega arith)
 
-pub few-from_not : (set : Test) (q : ℕ) → q < 64 → (HasTooManyHoles set → ⊥) → HasFewHoles (of_author set q)
+pub few-from_not : (set : Versions) (q : ℕ) → q < 64 → (HasTooManyHoles set → ⊥) → HasFewHoles (of_author set q)
 few-from_not set q in_range never column is = elim (cases_lt 4096 (length column.holes)) [
   | inl l ↦ absurd (never (record { author = q; author_in = in_range; column = column; apart = is.apart; in_range = is.in_range; means = is.means; many = l }))
   | inr g ↦ g
@@ -167,7 +167,7 @@ pub SweptCount-few : (has : ℕ → Bool) (count at : ℕ) → has 0 ≡ false �
 SweptCount-few has count at zero_out w none l = few-from_column has (record { upto = at - 1; holes = w.holes }) (swept-end has w.holes at zero_out w.swept none) (let c = w.count_is in omega arith)
 
 -- the authors below id are gone through
-pub few-next : (set : Test) (id author : ℕ) → ((q : ℕ) → q < id → HasFewHoles (of_author set q)) → IsNextAuthor set id author → HasFewHoles (of_author set author) → (q : ℕ) → q < author + 1 → HasFewHoles (of_author set q)
+pub few-next : (set : Versions) (id author : ℕ) → ((q : ℕ) → q < id → HasFewHoles (of_author set q)) → IsNextAuthor set id author → HasFewHoles (of_author set author) → (q : ℕ) → q < author + 1 → HasFewHoles (of_author set q)
 few-next set id author below n few q l = elim (cases_lt q id) [
   | inl b ↦ below q b
   | inr f ↦ elim (cases_eq q author) [
@@ -176,22 +176,22 @@ few-next set id author below n few q l = elim (cases_lt q id) [
   ]
 ]
 
-pub few-all : (set : Test) (id : ℕ) → ((q : ℕ) → q < id → HasFewHoles (of_author set q)) → HasNoAuthorFrom set id → (q : ℕ) → HasFewHoles (of_author set q)
+pub few-all : (set : Versions) (id : ℕ) → ((q : ℕ) → q < id → HasFewHoles (of_author set q)) → HasNoAuthorFrom set id → (q : ℕ) → HasFewHoles (of_author set q)
 few-all set id below none q = elim (cases_lt q id) [
   | inl b ↦ below q b
   | inr f ↦ few-from_none (of_author set q) (none q f)
 ]
 
 -- the columns of the authors below id
-pub record GatheredTo (set : Test) (columns : List AuthorColumn) (id : ℕ) : Type 0 where
+pub record GatheredTo (set : Versions) (columns : List AuthorColumn) (id : ℕ) : Type 0 where
   pub vector : IsVectorFrom 0 columns
   pub means : (q c : ℕ) → column_has (column_of columns q) c ≡ (nat_lt q id && of_author set q c)
 
-pub GatheredTo-begin : (set : Test) → GatheredTo set [] 0
+pub GatheredTo-begin : (set : Versions) → GatheredTo set [] 0
 GatheredTo-begin set = record { vector = tt; means = λ q c. column_has-empty c ∙ rw (le-ltb q 0 (omega arith)) refl }
 
 -- what the columns have once the author is gone through
-gathered-means : (set : Test) (columns : List AuthorColumn) (id author : ℕ) (column : Extent) → GatheredTo set columns id → IsNextAuthor set id author → IsColumnOf (of_author set author) column → (q c : ℕ) → column_has (cond (author == q) column (column_of columns q)) c ≡ (nat_lt q (author + 1) && of_author set q c)
+gathered-means : (set : Versions) (columns : List AuthorColumn) (id author : ℕ) (column : Extent) → GatheredTo set columns id → IsNextAuthor set id author → IsColumnOf (of_author set author) column → (q c : ℕ) → column_has (cond (author == q) column (column_of columns q)) c ≡ (nat_lt q (author + 1) && of_author set q c)
 gathered-means set columns id author column w n is q c = elim (cases_eq author q) [
   | inl e ↦ let l : q < author + 1 = omega arith in rw (eq-eqb author q e, lt-ltb q (author + 1) l) (rw e at (is.means c))
   | inr m ↦ rw (ne_eqb author q m) (w.means q c ∙ elim (cases_lt q id) [
@@ -203,13 +203,13 @@ gathered-means set columns id author column w n is q c = elim (cases_eq author q
   ])
 ]
 
-pub GatheredTo-put : (set : Test) (columns : List AuthorColumn) (id author : ℕ) (column : Extent) → GatheredTo set columns id → IsNextAuthor set id author → IsColumn column → IsColumnOf (of_author set author) column → 0 < column.upto → GatheredTo set (placed (record { author = author; column = column }) columns) (author + 1)
+pub GatheredTo-put : (set : Versions) (columns : List AuthorColumn) (id author : ℕ) (column : Extent) → GatheredTo set columns id → IsNextAuthor set id author → IsColumn column → IsColumnOf (of_author set author) column → 0 < column.upto → GatheredTo set (placed (record { author = author; column = column }) columns) (author + 1)
 GatheredTo-put set columns id author column w n normal is some = record {
   vector = IsVectorFrom-placed 0 (record { author = author; column = column }) columns w.vector (omega arith) (omega arith) normal n.author_in;
   means = λ q c. rw (column_of-placed (record { author = author; column = column }) columns q) (gathered-means set columns id author column w n is q c);
 }
 
-pub GatheredTo-skip : (set : Test) (columns : List AuthorColumn) (id author : ℕ) (column : Extent) → GatheredTo set columns id → IsNextAuthor set id author → IsColumnOf (of_author set author) column → column.upto ≤ 0 → GatheredTo set columns (author + 1)
+pub GatheredTo-skip : (set : Versions) (columns : List AuthorColumn) (id author : ℕ) (column : Extent) → GatheredTo set columns id → IsNextAuthor set id author → IsColumnOf (of_author set author) column → column.upto ≤ 0 → GatheredTo set columns (author + 1)
 GatheredTo-skip set columns id author column w n is none = record {
   vector = w.vector;
   means = λ q c. go q c (cases_eq author q) ∙ gathered-means set columns id author column w n is q c;
@@ -223,7 +223,7 @@ GatheredTo-skip set columns id author column w n is none = record {
     go q c (inl e) = let ge : id ≤ q = let a = n.above in omega arith in w.means q c ∙ rw (le-ltb q id ge, eq-eqb author q e) (sym (nothing c))
     go q c (inr m) = rw (ne_eqb author q m) refl
 
-pub GatheredTo-end : (set : Test) (columns : List AuthorColumn) (id : ℕ) → GatheredTo set columns id → HasNoAuthorFrom set id → IsSame (vector_has columns) set
+pub GatheredTo-end : (set : Versions) (columns : List AuthorColumn) (id : ℕ) → GatheredTo set columns id → HasNoAuthorFrom set id → IsSame (vector_has columns) set
 GatheredTo-end set columns id w none v = w.means v.author v.counter ∙ elim (cases_lt v.author id) [
   | inl b ↦ rw (lt-ltb v.author id b) refl
   | inr f ↦ rw (le-ltb v.author id f) (sym (none v.author f v.counter))

@@ -2,7 +2,7 @@ use Rattle.std.proofs.Common.{◌≡◌, ◌<◌, ◌≤◌, ◌+◌, ◌==◌, 
 use Rattle.std.proofs.lemmas.List.{take_more}
 use Rattle.std.proofs.lemmas.List.Folds.{list_any-append}
 use Rattle.mr_version.specs.Name.{Name, name_eq}
-use Rattle.mr_forms.specs.Sets.{Test, IsSame, is_listed, with_version}
+use Rattle.mr_forms.specs.Sets.{Versions, IsSame, is_listed, with_version}
 use Rattle.std.specs.List.{list_any}
 use Rattle.mr_concise.specs.AllOf.{in_all}
 use Rattle.mr_concise.proofs.NameLemmas.{name_eq_parts}
@@ -25,7 +25,7 @@ or_none true = refl
 or_none false = refl
 
 -- one version more
-pub listed-more : (versions : List Name) (k : ℕ) (x : Name) (set : Test) → k < length versions → x ≡ get_or versions k x → IsSame set (is_listed (take k versions)) → IsSame (with_version set x) (is_listed (take (k + 1) versions))
+pub listed-more : (versions : List Name) (k : ℕ) (x : Name) (set : Versions) → k < length versions → x ≡ get_or versions k x → IsSame set (is_listed (take k versions)) → IsSame (with_version set x) (is_listed (take (k + 1) versions))
 listed-more versions k x set l at same v =
     ap (λ b. name_eq x v || b) (same v)
     ∙ or_comm (name_eq x v) (is_listed (take k versions) v)
@@ -34,11 +34,11 @@ listed-more versions k x set l at same v =
     ∙ ap (λ xs. is_listed xs v) (sym (take_more versions k x l ∙ ap (λ y. take k versions ++ y ∷ []) (sym at)))
 
 -- at the end the set has them all
-pub listed-end : (versions : List Name) (k : ℕ) (set : Test) → length versions ≤ k → IsSame set (is_listed (take k versions)) → set ≡ is_listed versions
+pub listed-end : (versions : List Name) (k : ℕ) (set : Versions) → length versions ≤ k → IsSame set (is_listed (take k versions)) → set ≡ is_listed versions
 listed-end versions k set l same = let h : (v : Name) → set v ≡ is_listed versions v = rw (take_all k versions l) at same in λ i v. h v i
 
 -- no column of a vector has too many holes
-pub few-vector : (columns : List AuthorColumn) (set : Test) → IsVectorFrom 0 columns → IsSame (vector_has columns) set → HasTooManyHoles set → ⊥
+pub few-vector : (columns : List AuthorColumn) (set : Versions) → IsVectorFrom 0 columns → IsSame (vector_has columns) set → HasTooManyHoles set → ⊥
 few-vector columns set v same many =
     let is = column_of-IsColumn 0 columns many.author v in
     let e = ap (λ (x : Extent). length x.holes) (column_unique many.column (column_of columns many.author) many.apart is.apart (λ c. many.means c ∙ sym (same (record { author = many.author; counter = c })))) in

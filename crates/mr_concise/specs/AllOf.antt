@@ -1,9 +1,9 @@
 use Rattle.std.specs.Prelude.{◌≡◌, ◌≤◌, ◌<◌, ℕ, Bool, true, false, nat_le, if◌then◌else◌, List, Option, Some, None}
 use Rattle.std.specs.List.{list_any}
-use Rattle.mr_forms.specs.Sets.{Test}
+use Rattle.mr_forms.specs.Sets.{Versions}
 
 -- what one of them has
-abbrev pub in_all : {X : Type 0} → (X → Test) → List X → Test
+abbrev pub in_all : {X : Type 0} → (X → Versions) → List X → Versions
 in_all has xs v = list_any (λ x. has x v) xs
 
 -- the lower one, where there are any

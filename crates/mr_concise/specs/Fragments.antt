@@ -4,9 +4,9 @@ use Rattle.mr_version.specs.Name.{name_text}
 use Rattle.mr_forms.specs.declared.fragment.ItemSet.{ItemSet}
 use Rattle.mr_forms.specs.declared.fragment.ItemSet.TheVariants.{All, Listed}
 use Rattle.mr_forms.specs.declared.fragment.Fragment.{Fragment}
-use Rattle.mr_forms.specs.Sets.{Test, IsSame}
+use Rattle.mr_forms.specs.Sets.{Versions}
 use Rattle.mr_concise.specs.declared.vector.AuthorColumn.{AuthorColumn}
-use Rattle.mr_concise.specs.Vector.{vector_has, HasTooManyHoles}
+use Rattle.mr_concise.specs.Vector.{IsVectorOf, HasTooManyHoles}
 use Rattle.mr_concise.specs.Text.{vector_text}
 
 -- a fragment whose vector is concise
@@ -14,12 +14,12 @@ abbrev pub ConciseFragment : Type 0
 ConciseFragment = Fragment (List AuthorColumn)
 
 -- the same items, with the concise vector of the same set
-pub record IsConciseOf {V : Type 0} (has : V → Test) (fragment : Fragment V) (concise : ConciseFragment) : Type 0 where
+pub record IsConciseOf {V : Type 0} (has : V → Versions) (fragment : Fragment V) (concise : ConciseFragment) : Type 0 where
   pub items : concise.items ≡ fragment.items
-  pub versions : IsSame (vector_has concise.vector) (has fragment.vector)
+  pub vector : IsVectorOf (has fragment.vector) concise.vector
 
 -- a column of the fragment's set has more than 4,096 holes
-abbrev pub IsTooHoley : {V : Type 0} → (V → Test) → Fragment V → Type 0
+abbrev pub IsTooHoley : {V : Type 0} → (V → Versions) → Fragment V → Type 0
 IsTooHoley has fragment = HasTooManyHoles (has fragment.vector)
 
 -- all, or the items with commas between them

@@ -1,5 +1,5 @@
 use Rattle.std.specs.Prelude.{◌≡◌, ◌<◌, ◌≤◌, ℕ, Bool, false, length, Option, Some, None}
-use Rattle.mr_forms.specs.Sets.{Test}
+use Rattle.mr_forms.specs.Sets.{Versions}
 use Rattle.mr_concise.specs.declared.column.TheConstants.{MAX_HOLES}
 use Rattle.mr_concise.specs.Edges.{IsRising}
 use Rattle.mr_concise.specs.Column.{Extent, edges, column_has}
@@ -21,6 +21,6 @@ pub record HasManyHoles (has : ℕ → Bool) : Type 0 where
   pub many : MAX_HOLES < length column.holes
 
 -- what it has, where there is one
-abbrev pub in_some : {X : Type 0} → (X → Test) → Option X → Test
+abbrev pub in_some : {X : Type 0} → (X → Versions) → Option X → Versions
 in_some has None v = false
 in_some has (Some x) v = has x v

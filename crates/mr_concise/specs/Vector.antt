@@ -1,6 +1,6 @@
 use Rattle.std.specs.Prelude.{◌≡◌, ◌<◌, ◌≤◌, ◌+◌, ℕ, ◌==◌, nat_lt, if◌then◌else◌, List, [], ◌∷◌, length, refl, All}
 use Rattle.std.specs.Coded.{Coded, code_by, coded×, coded_ℕ}
-use Rattle.mr_forms.specs.Sets.{Test, IsSame}
+use Rattle.mr_forms.specs.Sets.{Versions, IsSame}
 use Rattle.mr_concise.specs.declared.vector.AuthorColumn.{AuthorColumn}
 use Rattle.mr_concise.specs.declared.column.TheConstants.{MAX_HOLES, MAX_EDGES}
 use Rattle.mr_concise.specs.Edges.{IsRising}
@@ -17,7 +17,7 @@ column_of [] author = empty_column
 column_of (x ∷ xs) author = if x.author == author then x.column else column_of xs author
 
 -- the versions of each author's column
-abbrev pub vector_has : List AuthorColumn → Test
+abbrev pub vector_has : List AuthorColumn → Versions
 vector_has columns v = column_has (column_of columns v.author) v.counter
 
 -- columns by strictly rising author, from low on, none empty
@@ -26,7 +26,7 @@ IsVectorFrom low [] = Unit {0}
 IsVectorFrom low (x ∷ xs) = (low ≤ x.author) × (1 ≤ x.column.upto) × IsColumn x.column × IsVectorFrom (x.author + 1) xs × (x.author < 64)
 
 -- The vector of a set: columns as they have to be, with just the set's versions. A set has one at most.
-pub record IsVectorOf (set : Test) (columns : List AuthorColumn) : Type 0 where
+pub record IsVectorOf (set : Versions) (columns : List AuthorColumn) : Type 0 where
   pub columns_ok : IsVectorFrom 0 columns
   pub has : IsSame (vector_has columns) set
 
@@ -36,7 +36,7 @@ placed new [] = new ∷ []
 placed new (x ∷ xs) = if nat_lt x.author new.author then x ∷ placed new xs else (if x.author == new.author then new ∷ xs else new ∷ (x ∷ xs))
 
 -- a column of the set has more holes than it may
-pub record HasTooManyHoles (set : Test) : Type 0 where
+pub record HasTooManyHoles (set : Versions) : Type 0 where
   pub author : ℕ
   pub author_in : author < 64
   pub column : Extent

@@ -1,5 +1,5 @@
 ghost use Rattle.std.specs.Prelude.{◌≡◌, ◌≤◌, ◌<◌, ◌-◌, ◌↔◌, ◌≢◌, false, IsTrue, IfOk, OnOk, OnErr, IsErrOf, Err, [], ◌∷◌};
-ghost use Rattle.mr_forms.specs.Sets.{Test, IsSame, both, with_version, Covers};
+ghost use Rattle.mr_forms.specs.Sets.{Versions, IsSame, both, with_version, Covers};
 ghost use Rattle.mr_forms.specs.Runs.{with_run, AreRunsOf, HasVersionsAlone, HasNoAuthorFrom, IsNextAuthor, HasNoRunFrom, IsRunFrom};
 ghost use Rattle.mr_concise.specs.Column.{Extent};
 ghost use Rattle.mr_concise.specs.Vector.{vector_has, IsVectorFrom, HasTooManyHoles};

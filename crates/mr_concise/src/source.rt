@@ -1,5 +1,5 @@
 ghost use Rattle.std.specs.Prelude.{◌≡◌, ◌≤◌, MatchOption, IfSome, false};
-ghost use Rattle.mr_forms.specs.Sets.{Test};
+ghost use Rattle.mr_forms.specs.Sets.{Versions};
 ghost use Rattle.mr_forms.specs.Runs.{of_author, HasNoneOf};
 ghost use Rattle.mr_concise.specs.Next.{IsNextOut, IsNextIn, HasNoneFrom};
 ghost use Rattle.mr_forms.specs.Runs.{HasNoAuthorFrom, IsNextAuthor};
@@ -14,7 +14,7 @@ use mr_version::Author;
 /// 1,000,000, so that the place past the last one is 1,000,001.
 pub trait Source: Drop {
     /// Which versions it has.
-    ghost has: { Self → Test };
+    ghost has: { Self → Versions };
 
     /// The next author, from this id on, of which there may be something: it has nothing of those
     /// that are passed over. `None` where it has nothing from this id on.

@@ -13,7 +13,7 @@ use Rattle.mr_version.specs.Name.{Name, name_eq, name_cmp}
 use Rattle.mr_forms.specs.declared.fragment.ItemSet.{ItemSet}
 use Rattle.mr_forms.specs.declared.fragment.ItemSet.TheVariants.{All as AllItems, Listed}
 use Rattle.mr_forms.specs.declared.fragment.Fragment.{Fragment}
-use Rattle.mr_forms.specs.Sets.{Test, is_listed}
+use Rattle.mr_forms.specs.Sets.{Versions, is_listed}
 use Rattle.mr_forms.specs.Known.{Part}
 use Rattle.mr_forms.specs.Covered.{listed_items}
 use Rattle.mr_forms.specs.Parts.{part_of, AreListable, ComesFirst, AreInOrder, ArePartsThat}
@@ -127,7 +127,7 @@ own_item (g ∷ fs) f i v single order has only = go (Contains-cases g f fs has)
 
 -- ---- the parts
 
-same_tests : (s t : Test) → ((v : Name) → s v ≡ t v) → s ≡ t
+same_tests : (s t : Versions) → ((v : Name) → s v ≡ t v) → s ≡ t
 same_tests s t h = λ i v. h v i
 
 some_version : (vs : List Name) → vs ≢ [] → (v : Name) × (is_listed vs v ≡ true)
@@ -173,20 +173,20 @@ listed_only AllItems i only = absurd only
 listed_only (Listed items) i only = ap (λ (is : List Name). Some is) only
 
 -- a part is what its items and its versions are
-part_is : (f : Fragment (List Name)) (items : Option (List Name)) (versions : Test) → listed_items f.items ≡ items → is_listed f.vector ≡ versions → part_of is_listed f ≡ record { items = items; versions = versions }
-part_is f items versions same_items same = ap (λ (x : Option (List Name)). record { items = x; versions = is_listed f.vector }) same_items ∙ ap (λ (t : Test). record { items = items; versions = t }) same
+part_is : (f : Fragment (List Name)) (items : Option (List Name)) (versions : Versions) → listed_items f.items ≡ items → is_listed f.vector ≡ versions → part_of is_listed f ≡ record { items = items; versions = versions }
+part_is f items versions same_items same = ap (λ (x : Option (List Name)). record { items = x; versions = is_listed f.vector }) same_items ∙ ap (λ (t : Versions). record { items = items; versions = t }) same
 
 -- each part is a fragment's
-has_part : (k : PlainKnown) (fs : List (Fragment (List Name))) → AreFragmentsOf k fs → (items : Option (List Name)) (versions : Test) (v : Name) → versions v ≡ true → HasPlainVersions k items versions → Contains (map (part_of is_listed) fs) (record { items = items; versions = versions })
+has_part : (k : PlainKnown) (fs : List (Fragment (List Name))) → AreFragmentsOf k fs → (items : Option (List Name)) (versions : Versions) (v : Name) → versions v ≡ true → HasPlainVersions k items versions → Contains (map (part_of is_listed) fs) (record { items = items; versions = versions })
 has_part k fs are None versions v some is =
-    let had : had_for_all fs v ≡ true = are.for_all v ∙ ap (λ (t : Test). t v) (sym is) ∙ some in
+    let had : had_for_all fs v ≡ true = are.for_all v ∙ ap (λ (t : Versions). t v) (sym is) ∙ some in
     let f = found (λ g. is_all g.items && is_listed g.vector v) fs had in
     let all : is_all f.0.items ≡ true = (and_parts (is_all f.0.items) (is_listed f.0.vector v) f.1.1).0 in
     let same : is_listed f.0.vector ≡ versions = same_tests (is_listed f.0.vector) (is_listed k.for_all) (λ w. sym (own_all fs f.0 w are.one_by_one.in_order f.1.0 all) ∙ are.for_all w) ∙ sym is in
     rw (← part_is f.0 None versions (all_from_test f.0.items all) same) (Contains-map (part_of is_listed) f.0 fs f.1.0)
 has_part k fs are (Some []) versions v some is = absurd is
 has_part k fs are (Some (i ∷ rest)) versions v some is =
-    let had : had_by_item fs i v ≡ true = are.by_item i v ∙ ap (λ (t : Test). t v) (sym is.1) ∙ some in
+    let had : had_by_item fs i v ≡ true = are.by_item i v ∙ ap (λ (t : Versions). t v) (sym is.1) ∙ some in
     let f = found (λ g. is_named g.items i && is_listed g.vector v) fs had in
     let named : is_named f.0.items i ≡ true = (and_parts (is_named f.0.items i) (is_listed f.0.vector v) f.1.1).0 in
     let only : IsOnly i f.0.items = only_from_test f.0.items i (All-contains (λ g. IsAllOrOne g.items) fs f.0 are.one_by_one.single f.1.0) named in

@@ -3,11 +3,11 @@ use Rattle.std.specs.Ordering.{is_gt}
 use Rattle.std.proofs.lemmas.Bool.{or_cases, false≢true}
 use Rattle.std.proofs.lemmas.Bool.Decides.{nat_tests}
 use Rattle.mr_version.specs.Name.{Name, IsVersion, name_cmp, name_eq}
-use Rattle.mr_forms.specs.Sets.{Test, IsSame, both}
+use Rattle.mr_forms.specs.Sets.{Versions, IsSame, both}
 use Rattle.mr_forms.specs.Runs.{HasVersionsAlone, HasNoAuthorFrom, IsNextAuthor, HasNoRunFrom, IsFirstFrom}
 
 -- two sets of versions together
-pub versions_alone-both : (s t u : Test) → IsSame u (both s t) → HasVersionsAlone s → HasVersionsAlone t → HasVersionsAlone u
+pub versions_alone-both : (s t u : Versions) → IsSame u (both s t) → HasVersionsAlone s → HasVersionsAlone t → HasVersionsAlone u
 versions_alone-both s t u same from_s from_t v h = by_side (or_cases (s v) (t v) (sym (same v) ∙ h))
   where
     by_side : (s v ≡ true) ⊎ (t v ≡ true) → IsVersion v.author v.counter
@@ -47,7 +47,7 @@ after_start : (start : Name) (id q k : ℕ) → (start.author ≡ id) × (start.
 after_start start id q k is above from = rw (is.0, is.1) (after_first id q k above from)
 
 -- the first version from a place on is of another author, and so there is none of this author
-pub no_run-other : (set : Test) (author from : ℕ) (w : Name) → is_gt (name_cmp (record { author = author; counter = from }) w) ≡ false → ((q : Name) → is_gt (name_cmp (record { author = author; counter = from }) q) ≡ false → set q ≡ true → is_gt (name_cmp w q) ≡ false) → (w.author ≡ author → ⊥) → HasNoRunFrom set author from
+pub no_run-other : (set : Versions) (author from : ℕ) (w : Name) → is_gt (name_cmp (record { author = author; counter = from }) w) ≡ false → ((q : Name) → is_gt (name_cmp (record { author = author; counter = from }) q) ≡ false → set q ≡ true → is_gt (name_cmp w q) ≡ false) → (w.author ≡ author → ⊥) → HasNoRunFrom set author from
 no_run-other set author from w after least other c above =
     not_in (set (record { author = author; counter = c })) (λ is_in.
     let low = from_author (record { author = author; counter = from }) w after in
@@ -55,7 +55,7 @@ no_run-other set author from w after least other c above =
     other (omega arith))
 
 -- the first version from a place on is of the author, and so it is the first of the author's
-pub first_from-least : (set : Test) (author from : ℕ) (w : Name) → is_gt (name_cmp (record { author = author; counter = from }) w) ≡ false → ((q : Name) → is_gt (name_cmp (record { author = author; counter = from }) q) ≡ false → set q ≡ true → is_gt (name_cmp w q) ≡ false) → set w ≡ true → w.author ≡ author → IsFirstFrom set author from w.counter
+pub first_from-least : (set : Versions) (author from : ℕ) (w : Name) → is_gt (name_cmp (record { author = author; counter = from }) w) ≡ false → ((q : Name) → is_gt (name_cmp (record { author = author; counter = from }) q) ≡ false → set q ≡ true → is_gt (name_cmp w q) ≡ false) → set w ≡ true → w.author ≡ author → IsFirstFrom set author from w.counter
 first_from-least set author from w after least is_in same =
     let is : record { author = author; counter = w.counter } ≡ w = ap (λ (a : ℕ). record { author = a; counter = w.counter }) (sym same) in
     record {
@@ -67,14 +67,14 @@ first_from-least set author from w after least is_in same =
     }
 
 -- the same, from a version
-pub no_run-after : (set : Test) (start : Name) (author from : ℕ) (w : Name) → (start.author ≡ author) × (start.counter ≡ from) → is_gt (name_cmp start w) ≡ false → ((q : Name) → is_gt (name_cmp start q) ≡ false → set q ≡ true → is_gt (name_cmp w q) ≡ false) → (w.author ≡ author → ⊥) → HasNoRunFrom set author from
+pub no_run-after : (set : Versions) (start : Name) (author from : ℕ) (w : Name) → (start.author ≡ author) × (start.counter ≡ from) → is_gt (name_cmp start w) ≡ false → ((q : Name) → is_gt (name_cmp start q) ≡ false → set q ≡ true → is_gt (name_cmp w q) ≡ false) → (w.author ≡ author → ⊥) → HasNoRunFrom set author from
 no_run-after set start author from w is after least other = rw (← is.0, ← is.1) (no_run-other set start.author start.counter w after least (λ same. other (same ∙ is.0)))
 
-pub first_from-after : (set : Test) (start : Name) (author from : ℕ) (w : Name) → (start.author ≡ author) × (start.counter ≡ from) → is_gt (name_cmp start w) ≡ false → ((q : Name) → is_gt (name_cmp start q) ≡ false → set q ≡ true → is_gt (name_cmp w q) ≡ false) → set w ≡ true → w.author ≡ author → IsFirstFrom set author from w.counter
+pub first_from-after : (set : Versions) (start : Name) (author from : ℕ) (w : Name) → (start.author ≡ author) × (start.counter ≡ from) → is_gt (name_cmp start w) ≡ false → ((q : Name) → is_gt (name_cmp start q) ≡ false → set q ≡ true → is_gt (name_cmp w q) ≡ false) → set w ≡ true → w.author ≡ author → IsFirstFrom set author from w.counter
 first_from-after set start author from w is after least is_in same = rw (← is.0, ← is.1) (first_from-least set start.author start.counter w after least is_in (same ∙ sym is.0))
 
 -- the first version from an author on is of the next author
-pub next_author-first : (set : Test) (start : Name) (id : ℕ) (w : Name) → (start.author ≡ id) × (start.counter ≡ 1) → HasVersionsAlone set → ((q : Name) → is_gt (name_cmp start q) ≡ false → set q ≡ true → is_gt (name_cmp w q) ≡ false) → is_gt (name_cmp start w) ≡ false → set w ≡ true → IsNextAuthor set id w.author
+pub next_author-first : (set : Versions) (start : Name) (id : ℕ) (w : Name) → (start.author ≡ id) × (start.counter ≡ 1) → HasVersionsAlone set → ((q : Name) → is_gt (name_cmp start q) ≡ false → set q ≡ true → is_gt (name_cmp w q) ≡ false) → is_gt (name_cmp start w) ≡ false → set w ≡ true → IsNextAuthor set id w.author
 next_author-first set start id w is alone least after is_in = record {
   above = let low = from_author start w after in let e = is.0 in omega arith;
   author_in = (alone w is_in).author_in;
@@ -84,17 +84,17 @@ next_author-first set start id w is alone least after is_in = record {
       absurd (omega arith));
 }
 
-pub no_author-none : (set : Test) (start : Name) (id : ℕ) → (start.author ≡ id) × (start.counter ≡ 1) → HasVersionsAlone set → ((q : Name) → is_gt (name_cmp start q) ≡ false → set q ≡ false) → HasNoAuthorFrom set id
+pub no_author-none : (set : Versions) (start : Name) (id : ℕ) → (start.author ≡ id) × (start.counter ≡ 1) → HasVersionsAlone set → ((q : Name) → is_gt (name_cmp start q) ≡ false → set q ≡ false) → HasNoAuthorFrom set id
 no_author-none set start id is alone none q above k =
     not_in (set (record { author = q; counter = k })) (λ there.
     let real = alone (record { author = q; counter = k }) there in
     false≢true (sym (none (record { author = q; counter = k }) (after_start start id q k is above real.counter_from)) ∙ there))
 
-pub no_author-far : (set : Test) (id : ℕ) → HasVersionsAlone set → 64 ≤ id → HasNoAuthorFrom set id
+pub no_author-far : (set : Versions) (id : ℕ) → HasVersionsAlone set → 64 ≤ id → HasNoAuthorFrom set id
 no_author-far set id alone far q above k =
     not_in (set (record { author = q; counter = k })) (λ there. let real = (alone (record { author = q; counter = k }) there).author_in in absurd (omega arith))
 
 -- past the last counter there is no version
-pub no_run-past : (set : Test) (author from : ℕ) → HasVersionsAlone set → 1000000 < from → HasNoRunFrom set author from
+pub no_run-past : (set : Versions) (author from : ℕ) → HasVersionsAlone set → 1000000 < from → HasNoRunFrom set author from
 no_run-past set author from alone past c above =
     not_in (set (record { author = author; counter = c })) (λ is_in. let v = (alone (record { author = author; counter = c }) is_in).counter_to in absurd (omega arith))

@@ -4,7 +4,7 @@ use Rattle.mr_version.specs.Name.{Name, name_eq}
 use Rattle.mr_forms.specs.declared.fragment.ItemSet.{ItemSet}
 use Rattle.mr_forms.specs.declared.fragment.ItemSet.TheVariants.{All, Listed}
 use Rattle.mr_forms.specs.declared.fragment.Fragment.{Fragment}
-use Rattle.mr_forms.specs.Sets.{Test}
+use Rattle.mr_forms.specs.Sets.{Versions}
 use Rattle.mr_forms.specs.Known.{Pairs}
 
 -- whether the item is among them
@@ -23,9 +23,9 @@ HasItems All = Unit {0}
 HasItems (Listed items) = items.items ≢ []
 
 -- a fragment covers each version of its vector for each of its items
-abbrev pub covered : {V : Type 0} → (V → Test) → Fragment V → Pairs
+abbrev pub covered : {V : Type 0} → (V → Versions) → Fragment V → Pairs
 covered has f i v = has_item f.items i && has f.vector v
 
 -- what some fragment covers
-abbrev pub all_covered : {V : Type 0} → (V → Test) → List (Fragment V) → Pairs
+abbrev pub all_covered : {V : Type 0} → (V → Versions) → List (Fragment V) → Pairs
 all_covered has fs i v = list_any (λ f. covered has f i v) fs

@@ -1,6 +1,6 @@
 use Rattle.std.specs.Prelude.{◌≡◌, ◌⊎◌, Bool, ◌||◌, ◌&&◌, List, Option}
 use Rattle.mr_version.specs.Name.{Name, name_eq}
-use Rattle.mr_forms.specs.Sets.{Test}
+use Rattle.mr_forms.specs.Sets.{Versions}
 
 -- a knowledge, by its test of an item and a version
 abbrev pub Pairs : Type 0
@@ -15,11 +15,11 @@ abbrev pub with_learned : Bool → Pairs → Name → Name → Pairs
 with_learned for_all old item version = λ i v. ((for_all || name_eq item i) && name_eq version v) || old i v
 
 -- the pairs with all of a set for an item
-abbrev pub with_below : Pairs → Name → Test → Pairs
+abbrev pub with_below : Pairs → Name → Versions → Pairs
 with_below old item set = λ i v. (name_eq item i && set v) || old i v
 
 -- the pairs with one version more, and then with all of a set for its item
-abbrev pub with_learned_below : Bool → Pairs → Name → Name → Test → Pairs
+abbrev pub with_learned_below : Bool → Pairs → Name → Name → Versions → Pairs
 with_learned_below for_all old item version set = with_below (with_learned for_all old item version) item set
 
 -- the pairs of both
@@ -30,7 +30,7 @@ with_pairs s t = λ i v. t i v || s i v
 -- each of them.
 pub record Part : Type 0 where
   pub items : Option (List Name)
-  pub versions : Test
+  pub versions : Versions
 
 -- A form of knowledge, as contracts see its values.
 pub record Form (K : Type 0) : Type 1 where

@@ -3,13 +3,13 @@ use Rattle.std.specs.List.Sorted.{IsStrictlySortedBy}
 use Rattle.std.specs.declared.cmp.Ordering.TheVariants.{Less}
 use Rattle.mr_version.specs.Name.{Name, name_cmp}
 use Rattle.mr_forms.specs.declared.fragment.TheConstants.{MAX_ITEMS}
-use Rattle.mr_forms.specs.Sets.{Test}
+use Rattle.mr_forms.specs.Sets.{Versions}
 use Rattle.mr_forms.specs.declared.fragment.Fragment.{Fragment}
 use Rattle.mr_forms.specs.Covered.{listed_items}
 use Rattle.mr_forms.specs.Known.{Part}
 
 -- what a fragment says: its items, and which versions are known for each
-abbrev pub part_of : {V : Type 0} → (V → Test) → Fragment V → Part
+abbrev pub part_of : {V : Type 0} → (V → Versions) → Fragment V → Part
 part_of has f = record { items = listed_items f.items; versions = has f.vector }
 
 -- strictly rising items: at least one, and no more than a fragment lists

@@ -5,7 +5,7 @@ use Rattle.mr_version.specs.Name.{Name, name_cmp, name_eq}
 use Rattle.mr_forms.specs.declared.fragment.ItemSet.{ItemSet}
 use Rattle.mr_forms.specs.declared.fragment.ItemSet.TheVariants.{All as AllItems, Listed}
 use Rattle.mr_forms.specs.declared.fragment.Fragment.{Fragment}
-use Rattle.mr_forms.specs.Sets.{Test, IsSame, is_listed}
+use Rattle.mr_forms.specs.Sets.{Versions, IsSame, is_listed}
 use Rattle.mr_forms.specs.Known.{Pairs, AreSame, Part, Form}
 use Rattle.mr_forms.specs.PlainPair.{PlainKnown, pair, has_pair}
 
@@ -14,7 +14,7 @@ abbrev pub plain_known : PlainKnown → Pairs
 plain_known k i v = is_listed k.for_all v || has_pair k.pairs (pair i v)
 
 -- the versions that are known for all items, or beside them for the one item that is listed
-abbrev pub HasPlainVersions : PlainKnown → Option (List Name) → Test → Type 0
+abbrev pub HasPlainVersions : PlainKnown → Option (List Name) → Versions → Type 0
 HasPlainVersions k None versions = versions ≡ is_listed k.for_all
 HasPlainVersions k (Some []) versions = ⊥
 HasPlainVersions k (Some (i ∷ rest)) versions = (rest ≡ []) × (versions ≡ (λ v. has_pair k.pairs (pair i v)))
@@ -66,7 +66,7 @@ is_named AllItems i = false
 is_named (Listed items) i = list_any (λ item. name_eq item i) items.items
 
 -- what fragments of all items have
-abbrev pub had_for_all : List (Fragment (List Name)) → Test
+abbrev pub had_for_all : List (Fragment (List Name)) → Versions
 had_for_all fragments v = list_any (λ f. is_all f.items && is_listed f.vector v) fragments
 
 -- what fragments that list an item have for it

@@ -1,5 +1,5 @@
 ghost use Rattle.std.specs.Prelude.{◌≡◌, ◌≤◌, ◌↔◌, ◌≢◌, false, MatchOption, IsTrue, IfOk, OnOk, OnErr, IsErrOf, Err};
-ghost use Rattle.mr_forms.specs.Sets.{Test, IsSame, Covers, with_version, both};
+ghost use Rattle.mr_forms.specs.Sets.{Versions, IsSame, Covers, with_version, both};
 ghost use Rattle.mr_forms.specs.Runs.{with_run, AreRunsOf, HasVersionsAlone, HasNoAuthorFrom, IsNextAuthor, HasNoRunFrom, IsRunFrom};
 
 use crate::{FormFault, Run};
@@ -14,10 +14,10 @@ use std::alloc::Global;
 /// answers a fault leaves its value as it was.
 pub trait VersionSet: Drop {
     /// Which versions the set has.
-    ghost has: { Self → Test };
+    ghost has: { Self → Versions };
 
     /// The sets that this form has no value for.
-    ghost has_too_many_holes: { Test → Type 0 };
+    ghost has_too_many_holes: { Versions → Type 0 };
 
     /// The empty set. It allocates nothing; what grows later takes its memory from `alloc`.
     fn new(alloc: Global) -> Self

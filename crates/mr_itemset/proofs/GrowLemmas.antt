@@ -3,7 +3,7 @@ use Rattle.std.proofs.Math.ListN.{length-append}
 use Rattle.std.proofs.lemmas.List.Elements.{All-nil, All-cons, All-get_or, All-push, All-contains, Contains-push, Contains-push_cases, Contains-append_left}
 use Rattle.std.proofs.lemmas.List.Quantifiers.{all_pairs_push}
 use Rattle.mr_version.specs.Name.{Name}
-use Rattle.mr_forms.specs.Sets.{Test, IsSame, both}
+use Rattle.mr_forms.specs.Sets.{Versions, IsSame, both}
 use Rattle.mr_forms.specs.Known.{AreSame}
 use Rattle.mr_forms.proofs.PartLemmas.{AllPairs-head, AllPairs-tail}
 use Rattle.mr_concise.specs.declared.vector.AuthorColumn.{AuthorColumn}
@@ -15,7 +15,7 @@ use Rattle.mr_itemset.specs.Growth.{HasGained, GainsListed, IsGrown}
 use Rattle.mr_itemset.proofs.NormalLemmas.{vector_in-has, vector_in-cases}
 
 -- an item is put at the end with its grown vector
-pub gains_pushed : (set : Test) (all : List AuthorColumn) (x : Listed) (old : List Listed) (vector : List AuthorColumn) → All (λ y. IsBefore y x) old → IsVectorFrom 0 vector → IsSame (vector_has vector) (both set (vector_has x.vector)) → ((v : Name) → vector_has all v ≡ true → both set (vector_has x.vector) v ≡ true) → (IsSame (vector_has vector) (vector_has all) → ⊥) → GainsListed set all x old (old ++ (record { item = x.item; vector = vector }) ∷ [])
+pub gains_pushed : (set : Versions) (all : List AuthorColumn) (x : Listed) (old : List Listed) (vector : List AuthorColumn) → All (λ y. IsBefore y x) old → IsVectorFrom 0 vector → IsSame (vector_has vector) (both set (vector_has x.vector)) → ((v : Name) → vector_has all v ≡ true → both set (vector_has x.vector) v ≡ true) → (IsSame (vector_has vector) (vector_has all) → ⊥) → GainsListed set all x old (old ++ (record { item = x.item; vector = vector }) ∷ [])
 gains_pushed set all x old vector before vector_ok has covers more = record {
   rising = λ rising. all_pairs_push IsBefore old (record { item = x.item; vector = vector }) rising (λ k d within. before k d within);
   more = λ each. All-push (HasMore all) old (record { item = x.item; vector = vector }) each (record { vector_ok = vector_ok; covers = λ v there. has v ∙ covers v there; more = more });
@@ -30,7 +30,7 @@ gains_pushed set all x old vector before vector_ok has covers more = record {
     cases y (inr e) = inr (record { item = ap (λ (z : Listed). z.item) (sym e); vector = λ v. ap (λ (z : Listed). vector_has z.vector v) (sym e) ∙ has v })
 
 -- one item more has grown
-pub grown_more : (set : Test) (all : List AuthorColumn) (old new next : List Listed) (x : Listed) → IsGrown set all old new → GainsListed set all x new next → IsGrown set all (old ++ x ∷ []) next
+pub grown_more : (set : Versions) (all : List AuthorColumn) (old new next : List Listed) (x : Listed) → IsGrown set all old new → GainsListed set all x new next → IsGrown set all (old ++ x ∷ []) next
 grown_more set all old new next x grown gains = record {
   rising = gains.rising grown.rising;
   more = gains.more grown.more;
@@ -52,7 +52,7 @@ grown_more set all old new next x grown gains = record {
     went z (inr e) = rw (← e) gains.gains
 
 -- what has grown so far stands before the next item
-pub before_next : (set : Test) (all : List AuthorColumn) (old new : List Listed) (x : Listed) → IsGrown set all old new → All (λ y. IsBefore y x) old → All (λ y. IsBefore y x) new
+pub before_next : (set : Versions) (all : List AuthorColumn) (old new : List Listed) (x : Listed) → IsGrown set all old new → All (λ y. IsBefore y x) old → All (λ y. IsBefore y x) new
 before_next set all old new x grown before k d within =
     let from = grown.from_old (get_or new k d) (k, within, default new k d within) in
     let low : IsBefore from.0 x = All-contains (λ y. IsBefore y x) old from.0 before from.1.0 in
@@ -67,7 +67,7 @@ before_next set all old new x grown before k d within =
         go (suc j) inside rest = rest j (omega arith)
 
 -- THE GROWN KNOWLEDGE knows what was known, and the set for all items
-pub grown_known : (set : Test) (k new : Normal) → IsNormal k → IsGrown set new.all k.listed new.listed → IsSame (vector_has new.all) (both set (vector_has k.all)) → AreSame (normal_known new) (with_all (normal_known k) set)
+pub grown_known : (set : Versions) (k new : Normal) → IsNormal k → IsGrown set new.all k.listed new.listed → IsSame (vector_has new.all) (both set (vector_has k.all)) → AreSame (normal_known new) (with_all (normal_known k) set)
 grown_known set k new normal grown all i v = go (vector_in-cases new.all new.listed i)
   where
     has : List AuthorColumn → Bool

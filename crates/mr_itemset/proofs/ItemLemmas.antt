@@ -8,7 +8,7 @@ use Rattle.std.proofs.lemmas.List.Elements.{All-contains, All-head, All-tail, Al
 use Rattle.mr_version.specs.Name.{Name, name_cmp, name_eq}
 use Rattle.mr_version.specs.Order.{names_total}
 use Rattle.mr_forms.specs.declared.fragment.TheConstants.{MAX_ITEMS}
-use Rattle.mr_forms.specs.Sets.{Test, IsSame, both}
+use Rattle.mr_forms.specs.Sets.{Versions, IsSame, both}
 use Rattle.mr_forms.specs.Known.{AreSame, with_below}
 use Rattle.mr_forms.proofs.SetLemmas.{name_eq-symmetric}
 use Rattle.mr_forms.proofs.PairLemmas.{name_eq-itself}
@@ -51,7 +51,7 @@ absorbed true false grown false is same covers = let wrong : false ≡ true = sy
 absorbed false false grown all is same covers = refl
 
 -- where the item then has no more than all, nothing changes
-pub item_kept : (k : Normal) (set : Test) (item : Name) (vector : List AuthorColumn) → IsNormal k → IsSame (vector_has vector) (both set (vector_has (vector_of k item))) → IsSame (vector_has vector) (vector_has k.all) → AreSame (normal_known k) (with_below (normal_known k) item set)
+pub item_kept : (k : Normal) (set : Versions) (item : Name) (vector : List AuthorColumn) → IsNormal k → IsSame (vector_has vector) (both set (vector_has (vector_of k item))) → IsSame (vector_has vector) (vector_has k.all) → AreSame (normal_known k) (with_below (normal_known k) item set)
 item_kept k set item vector normal grown same i v = go (cases_Bool (name_eq item i))
   where
     go : (name_eq item i ≡ true) ⊎ (name_eq item i ≡ false) → normal_known k i v ≡ ((name_eq item i && set v) || normal_known k i v)
@@ -66,7 +66,7 @@ item_kept k set item vector normal grown same i v = go (cases_Bool (name_eq item
 abbrev pub with_item : Normal → Name → List AuthorColumn → Normal
 with_item k item vector = record { all = k.all; listed = placed (record { item = item; vector = vector }) k.listed }
 
-pub item_placed : (k : Normal) (set : Test) (item : Name) (vector : List AuthorColumn) → IsSame (vector_has vector) (both set (vector_has (vector_of k item))) → AreSame (normal_known (with_item k item vector)) (with_below (normal_known k) item set)
+pub item_placed : (k : Normal) (set : Versions) (item : Name) (vector : List AuthorColumn) → IsSame (vector_has vector) (both set (vector_has (vector_of k item))) → AreSame (normal_known (with_item k item vector)) (with_below (normal_known k) item set)
 item_placed k set item vector grown i v = ap (λ (c : List AuthorColumn). vector_has c v) (vector_in-placed k.all (record { item = item; vector = vector }) k.listed i) ∙ go (cases_Bool (name_eq item i))
   where
     go : (name_eq item i ≡ true) ⊎ (name_eq item i ≡ false) → vector_has (cond (name_eq item i) vector (vector_in k.all k.listed i)) v ≡ ((name_eq item i && set v) || normal_known k i v)
@@ -75,12 +75,12 @@ item_placed k set item vector grown i v = ap (λ (c : List AuthorColumn). vector
 
 -- ---- how many are listed
 
-free_below : (n : Name) (xs : List Listed) → All (λ y. name_cmp n y.item ≡ Less) xs → list_any (name_eq n) (items_of xs) ≡ false
+pub free_below : (n : Name) (xs : List Listed) → All (λ y. name_cmp n y.item ≡ Less) xs → list_any (name_eq n) (items_of xs) ≡ false
 free_below n [] above = refl
 free_below n (x ∷ xs) above =
     rw (ap is_eq (All-head (λ y. name_cmp n y.item ≡ Less) x xs above)) (free_below n xs (All-tail (λ y. name_cmp n y.item ≡ Less) x xs above))
 
-lt_not_eq : (o : Ordering) → is_lt o ≡ true → is_eq o ≡ false
+pub lt_not_eq : (o : Ordering) → is_lt o ≡ true → is_eq o ≡ false
 lt_not_eq Less less = refl
 lt_not_eq Equal less = absurd (false≢true less)
 lt_not_eq Greater less = refl
@@ -109,7 +109,7 @@ length-placed-listed new (x ∷ xs) rising any = go (cases_Bool (is_lt (name_cmp
             let none : (name_eq new.item x.item || list_any (name_eq new.item) (items_of xs)) ≡ false = rw (ap is_eq m, free) refl in
             false≢true (sym none ∙ any)
 
-few_placed : (k : Normal) (set : Test) (item : Name) (vector : List AuthorColumn) → IsNormal k → HasRoom k item set → IsSame (vector_has vector) (both set (vector_has (vector_of k item))) → (IsSame (vector_has vector) (vector_has k.all) → ⊥) → length (placed (record { item = item; vector = vector }) k.listed) ≤ MAX_ITEMS
+few_placed : (k : Normal) (set : Versions) (item : Name) (vector : List AuthorColumn) → IsNormal k → HasRoom k item set → IsSame (vector_has vector) (both set (vector_has (vector_of k item))) → (IsSame (vector_has vector) (vector_has k.all) → ⊥) → length (placed (record { item = item; vector = vector }) k.listed) ≤ MAX_ITEMS
 few_placed k set item vector normal (inl room) grown more = let up = length-placed (record { item = item; vector = vector }) k.listed in omega arith
 few_placed k set item vector normal (inr (inl listed)) grown more = let up = length-placed-listed (record { item = item; vector = vector }) k.listed normal.rising listed in let few = normal.few in omega arith
 few_placed k set item vector normal (inr (inr covers)) grown more = go (cases_Bool (list_any (name_eq item) (items_of k.listed)))
@@ -123,7 +123,7 @@ few_placed k set item vector normal (inr (inr covers)) grown more = go (cases_Bo
     go (inr free) = absurd (more (λ v. grown v ∙ ap (λ (c : List AuthorColumn). set v || vector_has c v) (vector_in-unlisted k.all k.listed item free) ∙ nothing_new (set v) (vector_has k.all v) (covers v)))
 
 -- the placed item is in normal form
-pub item_normal : (k : Normal) (set : Test) (item : Name) (vector : List AuthorColumn) → IsNormal k → HasRoom k item set → IsVectorFrom 0 vector → IsSame (vector_has vector) (both set (vector_has (vector_of k item))) → (IsSame (vector_has vector) (vector_has k.all) → ⊥) → IsNormal (with_item k item vector)
+pub item_normal : (k : Normal) (set : Versions) (item : Name) (vector : List AuthorColumn) → IsNormal k → HasRoom k item set → IsVectorFrom 0 vector → IsSame (vector_has vector) (both set (vector_has (vector_of k item))) → (IsSame (vector_has vector) (vector_has k.all) → ⊥) → IsNormal (with_item k item vector)
 item_normal k set item vector normal room vector_ok grown more = record {
   all_ok = normal.all_ok;
   rising = rising-placed (record { item = item; vector = vector }) k.listed normal.rising;
@@ -137,16 +137,16 @@ item_normal k set item vector normal room vector_ok grown more = record {
 
 -- ---- its limits
 
-same_tests : (s t : Test) → ((v : Name) → s v ≡ t v) → s ≡ t
+pub same_tests : (s t : Versions) → ((v : Name) → s v ≡ t v) → s ≡ t
 same_tests s t h = λ i v. h v i
 
-pub holey_item : (k : Normal) (set : Test) (item : Name) → HasTooManyHoles (both set (vector_has (vector_of k item))) → HasHoleyItem (with_below (normal_known k) item set)
+pub holey_item : (k : Normal) (set : Versions) (item : Name) → HasTooManyHoles (both set (vector_has (vector_of k item))) → HasHoleyItem (with_below (normal_known k) item set)
 holey_item k set item many = record {
   item = item;
   holes = subst HasTooManyHoles (same_tests (both set (vector_has (vector_of k item))) (with_below (normal_known k) item set item) (λ v. ap (λ (b : Bool). (b && set v) || normal_known k item v) (sym (name_eq-itself item)))) many;
 }
 
-pub item_from_holey : (k : Normal) (set : Test) (item : Name) → IsNormal k → HasHoleyItem (with_below (normal_known k) item set) → HasTooManyHoles (both set (vector_has (vector_of k item)))
+pub item_from_holey : (k : Normal) (set : Versions) (item : Name) → IsNormal k → HasHoleyItem (with_below (normal_known k) item set) → HasTooManyHoles (both set (vector_has (vector_of k item)))
 item_from_holey k set item normal holey = go (cases_Bool (name_eq item holey.item))
   where
     go : (name_eq item holey.item ≡ true) ⊎ (name_eq item holey.item ≡ false) → HasTooManyHoles (both set (vector_has (vector_of k item)))

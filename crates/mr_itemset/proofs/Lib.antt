@@ -5,3 +5,5 @@ pub mod GrowLemmas
 pub mod PlaceLemmas
 pub mod ItemLemmas
 pub mod RoomLemmas
+pub mod WithLemmas
+pub mod EachLemmas

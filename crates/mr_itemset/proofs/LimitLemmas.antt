@@ -7,7 +7,7 @@ use Rattle.std.proofs.lemmas.Map.Made.{length-le_from_is_member}
 use Rattle.std.proofs.lemmas.List.Elements.{All-contains, All-head, All-tail}
 use Rattle.mr_version.specs.Name.{Name, name_eq}
 use Rattle.mr_version.specs.Order.{names_total}
-use Rattle.mr_forms.specs.Sets.{Test, IsSame, both}
+use Rattle.mr_forms.specs.Sets.{Versions, IsSame, both}
 use Rattle.mr_concise.specs.declared.vector.AuthorColumn.{AuthorColumn}
 use Rattle.mr_concise.specs.Vector.{vector_has, HasTooManyHoles}
 use Rattle.mr_itemset.specs.declared.knowledge.Listed.{Listed}
@@ -19,18 +19,18 @@ use Rattle.mr_itemset.proofs.NormalLemmas.{same_name, top, free-above, vector_in
 pub free_item : (k : Normal) → (i : Name) × (vector_in k.all k.listed i ≡ k.all)
 free_item k = (record { author = 0; counter = suc (top (items_of k.listed)) }, vector_in-unlisted k.all k.listed (record { author = 0; counter = suc (top (items_of k.listed)) }) (free-above (suc (top (items_of k.listed))) (items_of k.listed) (omega arith)))
 
-with_set : Test → List AuthorColumn → Type 0
+with_set : Versions → List AuthorColumn → Type 0
 with_set set columns = HasTooManyHoles (λ v. set v || vector_has columns v)
 
-pub holey_all : (k : Normal) (set : Test) → HasTooManyHoles (both set (vector_has k.all)) → HasHoleyItem (with_all (normal_known k) set)
+pub holey_all : (k : Normal) (set : Versions) → HasTooManyHoles (both set (vector_has k.all)) → HasHoleyItem (with_all (normal_known k) set)
 unfolding with_set
 holey_all k set many = let f = free_item k in record { item = f.0; holes = subst (with_set set) (sym f.1) many }
 
-pub holey_listed : (k : Normal) (set : Test) (x : Listed) → IsNormal k → Contains k.listed x → HasTooManyHoles (both set (vector_has x.vector)) → HasHoleyItem (with_all (normal_known k) set)
+pub holey_listed : (k : Normal) (set : Versions) (x : Listed) → IsNormal k → Contains k.listed x → HasTooManyHoles (both set (vector_has x.vector)) → HasHoleyItem (with_all (normal_known k) set)
 unfolding with_set
 holey_listed k set x normal has many = record { item = x.item; holes = subst (with_set set) (sym (vector_in-has k.all k.listed x normal.rising has)) many }
 
-pub not_holey : (k : Normal) (set : Test) → (HasTooManyHoles (both set (vector_has k.all)) → ⊥) → All (λ x. HasTooManyHoles (both set (vector_has x.vector)) → ⊥) k.listed → HasHoleyItem (with_all (normal_known k) set) → ⊥
+pub not_holey : (k : Normal) (set : Versions) → (HasTooManyHoles (both set (vector_has k.all)) → ⊥) → All (λ x. HasTooManyHoles (both set (vector_has x.vector)) → ⊥) k.listed → HasHoleyItem (with_all (normal_known k) set) → ⊥
 unfolding with_set
 not_holey k set few each holey = go (vector_in-cases k.all k.listed holey.item)
   where
@@ -49,7 +49,7 @@ any_all P (x ∷ xs) q all any = go (or_cases (name_eq q x) (list_any (name_eq q
     go (inr there) rest = rest there
 
 -- what is known of no listed item is known of all but some
-listed_only : (k : Normal) (set : Test) (many : ListsTooMany (with_all (normal_known k) set)) (q : Name) → list_any (name_eq q) many.items ≡ true → list_any (name_eq q) (items_of k.listed) ≡ true
+listed_only : (k : Normal) (set : Versions) (many : ListsTooMany (with_all (normal_known k) set)) (q : Name) → list_any (name_eq q) many.items ≡ true → list_any (name_eq q) (items_of k.listed) ≡ true
 listed_only k set many q any = go (cases_Bool (list_any (name_eq q) (items_of k.listed)))
   where
     n : ℕ
@@ -67,7 +67,7 @@ listed_only k set many q any = go (cases_Bool (list_any (name_eq q) (items_of k.
         (λ v. ap (λ (c : List AuthorColumn). set v || vector_has c v) (vector_in-unlisted k.all k.listed q free) ∙ all_is v))
 
 -- versions that all items learn list no item
-pub lists_few : (k : Normal) (set : Test) → IsNormal k → ListsTooMany (with_all (normal_known k) set) → ⊥
+pub lists_few : (k : Normal) (set : Versions) → IsNormal k → ListsTooMany (with_all (normal_known k) set) → ⊥
 lists_few k set normal many =
     let fits = length-le_from_is_member (eq_by_cmp_equiv names_total) many.items (items_of k.listed) many.distinct (listed_only k set many) in
     let same : length (items_of k.listed) ≡ length k.listed = length-map k.listed (λ x. x.item) in

@@ -3,13 +3,13 @@ use Rattle.std.specs.List.{list_any, IsDistinct}
 use Rattle.std.specs.List.Sorted.{IsStrictlySortedBy}
 use Rattle.mr_version.specs.Name.{Name, name_cmp, name_eq}
 use Rattle.mr_forms.specs.declared.fragment.TheConstants.{MAX_ITEMS}
-use Rattle.mr_forms.specs.Sets.{Test, IsSame}
+use Rattle.mr_forms.specs.Sets.{Versions, IsSame}
 use Rattle.mr_forms.specs.Known.{Pairs, Part, Form}
 use Rattle.mr_concise.specs.Vector.{vector_has, HasTooManyHoles}
 use Rattle.mr_itemset.specs.Normal.{Normal, normal_known}
 
 -- the pairs with all of a set for all items
-abbrev pub with_all : Pairs → Test → Pairs
+abbrev pub with_all : Pairs → Versions → Pairs
 with_all old set = λ i v. set v || old i v
 
 -- of some item so much is known that its vector has a column with too many holes
@@ -19,7 +19,7 @@ pub record HasHoleyItem (pairs : Pairs) : Type 0 where
 
 -- Of these items, and of no others, something else is known than of all the others; and they are more than a fragment lists.
 pub record ListsTooMany (pairs : Pairs) : Type 0 where
-  pub all : Test
+  pub all : Versions
   pub items : List Name
   pub distinct : IsDistinct name_eq items
   pub more : All (λ i. ¬ IsSame (pairs i) all) items
@@ -28,7 +28,7 @@ pub record ListsTooMany (pairs : Pairs) : Type 0 where
 
 -- The versions are those of all items; or the items, in rising order, are all those of which just these are known, and
 -- that is something else than of all items.
-abbrev pub HasNormalVersions : Normal → Option (List Name) → Test → Type 0
+abbrev pub HasNormalVersions : Normal → Option (List Name) → Versions → Type 0
 HasNormalVersions k None versions = versions ≡ vector_has k.all
 HasNormalVersions k (Some items) versions = (items ≢ []) × IsStrictlySortedBy name_cmp items × (versions ≢ vector_has k.all) × ((i : Name) → (list_any (name_eq i) items ≡ true) ↔ (normal_known k i ≡ versions))
 

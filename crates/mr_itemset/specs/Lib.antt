@@ -4,3 +4,5 @@ pub mod ItemForm
 pub mod Growth
 pub mod Lacking
 pub mod Placed
+pub mod Room
+pub mod Each

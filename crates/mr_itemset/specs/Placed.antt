@@ -3,7 +3,7 @@ use Rattle.std.specs.List.{list_any}
 use Rattle.std.specs.Ordering.{is_lt}
 use Rattle.mr_version.specs.Name.{Name, name_cmp, name_eq}
 use Rattle.mr_forms.specs.declared.fragment.TheConstants.{MAX_ITEMS}
-use Rattle.mr_forms.specs.Sets.{Test, Covers}
+use Rattle.mr_forms.specs.Sets.{Versions, Covers}
 use Rattle.mr_concise.specs.Vector.{vector_has}
 use Rattle.mr_itemset.specs.declared.knowledge.Listed.{Listed}
 use Rattle.mr_itemset.specs.Normal.{Normal, items_of}
@@ -19,5 +19,5 @@ abbrev pub Lists : Normal → Name → Type 0
 Lists k item = list_any (name_eq item) (items_of k.listed) ≡ true
 
 -- One more item may be listed, or the item is listed already, or all items have the versions.
-abbrev pub HasRoom : Normal → Name → Test → Type 0
+abbrev pub HasRoom : Normal → Name → Versions → Type 0
 HasRoom k item set = (length k.listed < MAX_ITEMS) ⊎ (Lists k item ⊎ Covers (vector_has k.all) set)

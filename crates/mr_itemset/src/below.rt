@@ -7,28 +7,29 @@ ghost use Rattle.mr_itemset.specs.Normal.{normal_known, items_of, IsNormal};
 ghost use Rattle.mr_itemset.specs.ItemForm.{item_form, HasHoleyItem, ListsTooMany};
 ghost use Rattle.mr_itemset.specs.Placed.{HasRoom};
 
-use crate::knowledge::{ItemKnowledge, Listed};
+use crate::knowledge::{ItemKnowledge, place};
 use crate::limits::lacks;
 use mr_concise::{OfSet, Source, would_have_too_many};
 use mr_forms::{FormFault, MAX_ITEMS, VersionSet};
 use mr_version::ItemId;
 
-/// Whether the item is among them.
-fn lists(listed: &[Listed], item: ItemId) -> bool
-    ensures { result ≡ list_any (name_eq item) (items_of listed.now) }
-{
-    for x in listed {
-        if x.item == item {
-            return true;
-        }
-    }
-    false
-}
-
 impl ItemKnowledge {
+    /// Whether the item is listed. It costs a search.
+    pub(crate) fn lists(&self, item: ItemId) -> bool
+        ensures { result ≡ list_any (name_eq item) (items_of self.now.listed) }
+    {
+        let listed = self.listed();
+        let at = place(listed, item);
+        if at < listed.len() {
+            return listed[at].item == item;
+        }
+        false
+    }
+
     /// Whether the item's vector would have too many holes with these versions. It allocates nothing.
-    fn would_be_holey_at<A: Source>(&self, item: ItemId, added: &A) -> bool
+    pub(crate) fn would_be_holey_at<A: Source>(&self, item: ItemId, added: &A) -> bool
         ensures holey { (result ≡ true) ↔ HasHoleyItem (with_below (normal_known self.now) item (A.has added.now)) }
+        ensures normal { IsNormal self.now }
     {
         would_have_too_many(&(added, self.vector_of(item)))
     }
@@ -42,7 +43,7 @@ impl ItemKnowledge {
         if self.listed().len() < MAX_ITEMS {
             return true;
         }
-        if lists(self.listed(), item) {
+        if self.lists(item) {
             return true;
         }
         !lacks(self.for_all(), set)
@@ -72,10 +73,9 @@ impl ItemKnowledge {
         ensures err { OnErr result (self.new ≡ self.old) }
     {
         self.may_learn_below(item, set)?;
-        let Ok(grown) = self.with_item(item, &OfSet { set }) else {
+        let Ok(()) = self.add_to_item(item, &OfSet { set }) else {
             return Err(FormFault::OutOfMemory);
         };
-        *self = grown;
         Ok(())
     }
 }

@@ -1,12 +1,14 @@
-ghost use Rattle.std.specs.Prelude.{◌≡◌, ◌≤◌, true, false, AllPairs, length};
+ghost use Rattle.std.specs.Prelude.{◌≡◌, ◌≤◌, true, false, AllPairs, OnOk, OnErr, length};
 ghost use Rattle.std.specs.Ordering.{is_lt};
 ghost use Rattle.std.specs.List.Sorted.{IsPartitionPoint};
 ghost use Rattle.mr_version.specs.Name.{name_cmp};
 ghost use Rattle.mr_itemset.specs.Normal.{Normal, IsBefore, IsNormal, vector_of};
+ghost use Rattle.mr_itemset.specs.Placed.{placed};
 
+use crate::item::put_in;
 use mr_concise::ConciseVector;
 use mr_version::ItemId;
-use std::alloc::Global;
+use std::alloc::{AllocError, Global};
 use std::marker::Model;
 
 /// An item of which more is known than of all, with all that is known of it.
@@ -77,6 +79,15 @@ impl ItemKnowledge {
         ensures normal { IsNormal self.now }
     {
         self.listed.as_slice()
+    }
+
+    /// Lists the item with all that is known of it, in place of what was.
+    pub(crate) fn list(&mut self, new: Listed) -> Result<(), AllocError>
+        requires { IsNormal (record { all = self.old.all; listed = placed new self.old.listed }) }
+        ensures ok { OnOk result (self.new ≡ record { all = self.old.all; listed = placed new self.old.listed }) }
+        ensures err { OnErr result (self.new ≡ self.old) }
+    {
+        put_in(&mut self.listed, new)
     }
 
     /// What is known of the item.

@@ -9,6 +9,7 @@
 #![tactic(auto)]
 
 mod below;
+mod each;
 mod equal;
 mod grow;
 mod item;
@@ -16,5 +17,6 @@ mod knowledge;
 mod learn;
 mod limits;
 mod merge;
+mod with;
 
 pub use knowledge::{ItemKnowledge, Listed};

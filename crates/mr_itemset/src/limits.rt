@@ -1,37 +1,33 @@
 ghost use Rattle.std.specs.Prelude.{◌≡◌, ◌↔◌, true, false, IsTrue};
 ghost use Rattle.mr_forms.specs.Sets.{Covers};
 ghost use Rattle.mr_forms.specs.Runs.{HasVersionsAlone};
-ghost use Rattle.mr_concise.specs.Vector.{vector_has};
 ghost use Rattle.mr_itemset.specs.Lacking.{HasCounters, LacksCounter, CoversAuthor, Lacks};
 ghost use Rattle.mr_itemset.specs.Normal.{normal_known, IsNormal};
 ghost use Rattle.mr_itemset.specs.ItemForm.{HasHoleyItem, with_all};
 
 use crate::knowledge::ItemKnowledge;
-use mr_concise::{ConciseVector, Source, would_have_too_many};
+use mr_concise::{Source, would_have_too_many};
 use mr_forms::{Run, VersionSet};
 use mr_version::Author;
 
-/// Whether a vector has all of a run.
-fn has_run(vector: &ConciseVector, run: &Run) -> bool
-    ensures yes { result ≡ true → HasCounters (vector_has vector.now) run.now.author run.now.first run.now.last }
-    ensures no { result ≡ false → LacksCounter (vector_has vector.now) run.now.author run.now.first run.now.last }
+/// Whether a source has all of a run.
+fn has_run<A: Source>(source: &A, run: &Run) -> bool
+    ensures yes { result ≡ true → HasCounters (A.has source.now) run.now.author run.now.first run.now.last }
+    ensures no { result ≡ false → LacksCounter (A.has source.now) run.now.author run.now.first run.now.last }
 {
-    match vector.run_from(run.author, run.first) {
-        Some(found) => found.first == run.first && run.last <= found.last,
-        None => false,
-    }
+    run.last < source.next_out(run.author, run.first)
 }
 
-/// Whether a vector lacks some version of the author that the set has.
-fn lacks_of<S: VersionSet>(vector: &ConciseVector, set: &S, author: Author) -> bool
-    ensures yes { result ≡ true → Lacks (vector_has vector.now) (S.has set.now) }
-    ensures no { result ≡ false → CoversAuthor (vector_has vector.now) (S.has set.now) author }
+/// Whether a source lacks some version of the author that the set has.
+fn lacks_of<A: Source, S: VersionSet>(source: &A, set: &S, author: Author) -> bool
+    ensures yes { result ≡ true → Lacks (A.has source.now) (S.has set.now) }
+    ensures no { result ≡ false → CoversAuthor (A.has source.now) (S.has set.now) author }
     ensures versions { HasVersionsAlone (S.has set.now) }
 {
     let mut from = 1;
     while let Some(run) = set.run_from(author, from) {
         let last = run.last;
-        if !has_run(vector, &run) {
+        if !has_run(source, &run) {
             return true;
         }
         from = last + 1;
@@ -39,14 +35,14 @@ fn lacks_of<S: VersionSet>(vector: &ConciseVector, set: &S, author: Author) -> b
     false
 }
 
-/// Whether a vector lacks some version that the set has. It allocates nothing.
-pub(crate) fn lacks<S: VersionSet>(vector: &ConciseVector, set: &S) -> bool
-    ensures yes { result ≡ true → Lacks (vector_has vector.now) (S.has set.now) }
-    ensures no { result ≡ false → Covers (vector_has vector.now) (S.has set.now) }
+/// Whether a source lacks some version that the set has. It allocates nothing.
+pub(crate) fn lacks<A: Source, S: VersionSet>(source: &A, set: &S) -> bool
+    ensures yes { result ≡ true → Lacks (A.has source.now) (S.has set.now) }
+    ensures no { result ≡ false → Covers (A.has source.now) (S.has set.now) }
 {
     let mut id = 0;
     while let Some(author) = set.next_author(id) {
-        if lacks_of(vector, set, author) {
+        if lacks_of(source, set, author) {
             return true;
         }
         id = author.id() + 1;

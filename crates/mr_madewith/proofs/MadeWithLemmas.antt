@@ -1,6 +1,6 @@
 -- a set has one list of columns
 use Rattle.std.proofs.Common.{◌≡◌, ℕ, sym, ◌∙◌, List}
-use Rattle.mr_forms.specs.Sets.{Test}
+use Rattle.mr_forms.specs.Sets.{Versions}
 use Rattle.mr_concise.specs.declared.vector.AuthorColumn.{AuthorColumn}
 use Rattle.mr_concise.specs.Vector.{column_of}
 use Rattle.mr_concise.proofs.ColumnLemmas.{column_unique}
@@ -9,7 +9,7 @@ use Rattle.mr_concise.proofs.VectorLemmas.{vector_unique}
 use Rattle.mr_madewith.specs.MadeWith.{AreColumnsOf}
 
 -- two lists of columns that have one set are one
-pub columns_unique : (set : Test) (a b : List AuthorColumn) → AreColumnsOf set a → AreColumnsOf set b → a ≡ b
+pub columns_unique : (set : Versions) (a b : List AuthorColumn) → AreColumnsOf set a → AreColumnsOf set b → a ≡ b
 columns_unique set a b x y = vector_unique 0 0 a b x.vector y.vector same
   where
     same : (q : ℕ) → column_of a q ≡ column_of b q

@@ -2,7 +2,7 @@
 use Rattle.std.specs.Prelude.{◌≡◌, ◌≢◌, true, false, List, [], refl}
 use Rattle.std.specs.Coded.{Coded, code_by, coded×, coded_list}
 use Rattle.mr_version.specs.Name.{Name, name_code}
-use Rattle.mr_forms.specs.Sets.{Test, with_version}
+use Rattle.mr_forms.specs.Sets.{Versions, with_version}
 use Rattle.mr_mail.specs.Mail.{Mail, mail_code}
 use Rattle.mr_concise.specs.declared.vector.AuthorColumn.{AuthorColumn}
 use Rattle.mr_concise.specs.Vector.{vector_has, author_column_code}
@@ -22,11 +22,11 @@ rev_code =
     (λ p. record { item = p.0.0; version = p.0.1; below = p.1.0; message = p.1.1 }) (λ _. refl)
 
 -- the set of versions that the revision supersedes
-abbrev pub has_below : Rev → Test
+abbrev pub has_below : Rev → Versions
 has_below r = vector_has r.below
 
 -- the revision's version, with all that it supersedes
-abbrev pub by_base : Rev → Test
+abbrev pub by_base : Rev → Versions
 by_base r = with_version (has_below r) r.version
 
 -- No version supersedes itself. The first version of an item supersedes nothing, each later one the first.

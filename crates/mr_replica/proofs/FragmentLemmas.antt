@@ -1,20 +1,25 @@
--- concise fragments have what their fragments have
-use Rattle.std.proofs.Common.{◌≡◌, ◌∙◌, ◌&&◌, refl, sym, ap, subst, List, [], ◌∷◌}
-use Rattle.std.specs.List.{All, AllZip}
+-- concise fragments have what their fragments have, and those of the parts of a knowledge are one text
+use Rattle.std.proofs.Common.{◌≡◌, ◌∙◌, ◌&&◌, ◌++◌, ℕ, flat_map, refl, sym, ap, subst, map, List, [], ◌∷◌}
+use Rattle.std.specs.List.{All, AllZip, Any}
 use Rattle.std.proofs.lemmas.List.Elements.{All-nil, All-cons, All-head, All-tail}
 use Rattle.mr_version.specs.Name.{Name}
+use Rattle.std.proofs.lemmas.List.Elements.{All-contains, All-map}
 use Rattle.mr_forms.specs.declared.fragment.ItemSet.{ItemSet}
+use Rattle.mr_forms.specs.declared.fragment.ItemSet.TheVariants as items
 use Rattle.mr_forms.specs.declared.fragment.Fragment.{Fragment}
-use Rattle.mr_forms.specs.Sets.{Test}
-use Rattle.mr_forms.specs.Known.{Pairs}
-use Rattle.mr_forms.specs.Covered.{has_item, HasItems, covered, all_covered}
-use Rattle.mr_concise.specs.Vector.{vector_has}
-use Rattle.mr_concise.specs.Fragments.{ConciseFragment, IsConciseOf}
-use Rattle.mr_replica.specs.Fragments.{HaveKnown}
+use Rattle.mr_forms.specs.Sets.{Versions}
+use Rattle.mr_forms.specs.Known.{Pairs, Part}
+use Rattle.mr_forms.specs.Covered.{has_item, HasItems, listed_items, covered, all_covered}
+use Rattle.mr_forms.specs.Parts.{part_of, ArePartsThat}
+use Rattle.mr_forms.proofs.PartLemmas.{Contains-map, parts_that-unique}
+use Rattle.mr_concise.specs.Vector.{vector_has, HasTooManyHoles}
+use Rattle.mr_concise.specs.Fragments.{ConciseFragment, IsConciseOf, IsTooHoley, items_text, fragment_text, knowledge_text}
+use Rattle.mr_concise.proofs.EqualLemmas.{vectors_same}
+use Rattle.mr_replica.specs.Fragments.{HaveKnown, IsFragmentOf, AreFragmentsOf, HasHoleyPart}
 
-module _ {V : Type 0} (has : V → Test) where
+module _ {V : Type 0} (has : V → Versions) where
   covered_alike : (f : Fragment V) (g : ConciseFragment) → IsConciseOf has f g → (i v : Name) → covered has f i v ≡ covered vector_has g i v
-  covered_alike f g h i v = ap (λ (items : ItemSet). has_item items i && has f.vector v) (sym h.items) ∙ ap (λ b. has_item g.items i && b) (sym (h.versions v))
+  covered_alike f g h i v = ap (λ (items : ItemSet). has_item items i && has f.vector v) (sym h.items) ∙ ap (λ b. has_item g.items i && b) (sym (h.vector.has v))
 
   all_alike : (fs : List (Fragment V)) (gs : List ConciseFragment) → AllZip (IsConciseOf has) fs gs → (i v : Name) → all_covered has fs i v ≡ all_covered vector_has gs i v
   all_alike [] [] h i v = refl
@@ -35,3 +40,60 @@ module _ {V : Type 0} (has : V → Test) where
     covered = λ i v. h.covered i v ∙ all_alike fs gs alike i v;
     items = items_alike fs gs alike h.items;
   }
+
+  -- the fragments of the parts that these are
+  pub alike_parts : (fs : List (Fragment V)) (gs : List ConciseFragment) → AllZip (IsConciseOf has) fs gs → AllZip IsFragmentOf (map (part_of has) fs) gs
+  alike_parts [] [] h = tt
+  alike_parts [] (g ∷ gs) h = absurd h
+  alike_parts (f ∷ fs) [] h = absurd h
+  alike_parts (f ∷ fs) (g ∷ gs) h = (record { items = ap listed_items h.0.items; vector = h.0.vector }, alike_parts fs gs h.1)
+
+  -- one that is too holey is a part that is
+  pub holey_part : (is_part : Part → Type 0) (fs : List (Fragment V)) → All is_part (map (part_of has) fs) → Any (IsTooHoley has) fs → HasHoleyPart is_part
+  holey_part is_part fs are (k, x, within, is, holey) = (part_of has x, All-contains is_part (map (part_of has) fs) (part_of has x) are (Contains-map (part_of has) x fs (k, within, is)), holey)
+
+  -- where none is too holey, no part is
+  pub no_holey_part : (is_part : Part → Type 0) (fs : List (Fragment V)) → ArePartsThat is_part (map (part_of has) fs) → All (λ f. ¬ IsTooHoley has f) fs → ¬ HasHoleyPart is_part
+  no_holey_part is_part fs are few (p, is, holey) =
+      All-contains (λ (q : Part). ¬ HasTooManyHoles q.versions) (map (part_of has) fs) p (All-map (λ (q : Part). ¬ HasTooManyHoles q.versions) (part_of has) fs few) (are.has_all p is) holey
+
+-- ---- one text
+
+-- fragments of one part have one text
+fragment_text-once : (p : Part) (f g : ConciseFragment) → IsFragmentOf p f → IsFragmentOf p g → fragment_text f ≡ fragment_text g
+fragment_text-once p f g a b =
+    let vectors : f.vector ≡ g.vector = vectors_same f.vector g.vector a.vector.columns_ok b.vector.columns_ok (λ v. a.vector.has v ∙ sym (b.vector.has v)) in
+    let texts : items_text f.items ≡ items_text g.items = same_items f.items g.items (a.items ∙ sym b.items) in
+    rw (texts, vectors) refl
+  where
+    same_items : (a b : ItemSet) → listed_items a ≡ listed_items b → items_text a ≡ items_text b
+    same_items items.All items.All e = refl
+    same_items items.All (items.Listed b) e = cc
+    same_items (items.Listed a) items.All e = cc
+    same_items (items.Listed a) (items.Listed b) e = let inner : a.items ≡ b.items = cc in rw inner refl
+
+-- what stands behind the first fragment of a text
+abbrev behind : List ConciseFragment → List ℕ
+behind fs = flat_map (λ f. (59 ∷ 32 ∷ []) ++ fragment_text f) fs
+
+behind-once : (ps : List Part) (fs gs : List ConciseFragment) → AllZip IsFragmentOf ps fs → AllZip IsFragmentOf ps gs → behind fs ≡ behind gs
+behind-once [] [] [] a b = refl
+behind-once [] [] (g ∷ gs) a b = absurd b
+behind-once [] (f ∷ fs) gs a b = absurd a
+behind-once (p ∷ ps) [] gs a b = absurd a
+behind-once (p ∷ ps) (f ∷ fs) [] a b = absurd b
+behind-once (p ∷ ps) (f ∷ fs) (g ∷ gs) a b = rw (fragment_text-once p f g a.0 b.0, behind-once ps fs gs a.1 b.1) refl
+
+text-once : (ps : List Part) (fs gs : List ConciseFragment) → AllZip IsFragmentOf ps fs → AllZip IsFragmentOf ps gs → knowledge_text fs ≡ knowledge_text gs
+text-once [] [] [] a b = refl
+text-once [] [] (g ∷ gs) a b = absurd b
+text-once [] (f ∷ fs) gs a b = absurd a
+text-once (p ∷ ps) [] gs a b = absurd a
+text-once (p ∷ ps) (f ∷ fs) [] a b = absurd b
+text-once (p ∷ ps) (f ∷ fs) (g ∷ gs) a b = rw (fragment_text-once p f g a.0 b.0, behind-once ps fs gs a.1 b.1) refl
+
+-- the fragments of the parts of a knowledge have one text
+pub one_text : (is_part : Part → Type 0) (fs gs : List ConciseFragment) → AreFragmentsOf is_part fs → AreFragmentsOf is_part gs → knowledge_text fs ≡ knowledge_text gs
+one_text is_part fs gs a b =
+    let same : b.parts ≡ a.parts = parts_that-unique is_part b.parts a.parts b.are_parts a.are_parts in
+    text-once a.parts fs gs a.by_part (subst (λ ps. AllZip IsFragmentOf ps gs) same b.by_part)

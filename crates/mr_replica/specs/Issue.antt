@@ -1,9 +1,9 @@
 -- What an event asks a replica to issue, and the change that an issue makes.
-use Rattle.std.specs.Prelude.{◌≡◌, ◌+◌, ◌⊎◌, Bool, false, not, if◌then◌else◌, List, [], ◌∷◌, ◌++◌, map, filter}
+use Rattle.std.specs.Prelude.{◌≡◌, ◌+◌, ◌⊎◌, Bool, not, if◌then◌else◌, List, [], ◌∷◌, ◌++◌, map, filter}
 use Rattle.std.specs.List.{filter_map}
 use Rattle.mr_version.specs.Name.{Name}
 pub use Rattle.mr_version.specs.Sets.{nothing}
-use Rattle.mr_forms.specs.Sets.{Test}
+use Rattle.mr_forms.specs.Sets.{Versions}
 use Rattle.mr_forms.specs.Known.{Pairs, Form, AreSame, IsOnlyOverItems, with_learned}
 use Rattle.mr_concise.specs.declared.vector.AuthorColumn.{AuthorColumn}
 use Rattle.mr_concise.specs.Vector.{HasTooManyHoles}
@@ -48,7 +48,7 @@ told_more feed left entering = feed ++ (map dropped left ++ map added entering)
 
 -- what an event wants a value of, where its form may have none: a set of versions, or a knowledge
 pub data Wanted : Type 0 where
-  Vector : (set : Test) → Wanted
+  Vector : (set : Versions) → Wanted
   Knowledge : (pairs : Pairs) → Wanted
 
 module _ {K : Type 0} where
@@ -57,11 +57,11 @@ module _ {K : Type 0} where
   revisions_of s bases = filter_map (held s) bases
 
   -- what a version of the item with these bases supersedes: with no base, nothing
-  abbrev pub below_for : State K → (item : Name) → (bases : List Name) → Test
+  abbrev pub below_for : State K → (item : Name) → (bases : List Name) → Versions
   below_for s item [] = nothing
   below_for s item (b ∷ bs) = filled_below (by_bases (revisions_of s (b ∷ bs))) (last_of s.trail item) (next_version s)
 
-  abbrev pub below_of_issue : State K → Issue → Test
+  abbrev pub below_of_issue : State K → Issue → Versions
   below_of_issue s i = below_for s i.item i.bases
 
   -- what is known once the replica has learned its next version for the item

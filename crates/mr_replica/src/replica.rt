@@ -65,12 +65,13 @@ impl<K: Knowledge> Model for Replica<K> {
 }
 
 impl<K: Knowledge> Replica<K> {
-    ghost use Rattle.std.specs.Prelude.{false};
+    ghost use Rattle.std.specs.Prelude.{false, List, OnOk};
     ghost use Rattle.mr_forms.specs.Known.{AreSame};
     ghost use Rattle.mr_concise.specs.Vector.{vector_has};
+    ghost use Rattle.mr_concise.specs.Fragments.{ConciseFragment, knowledge_text};
     ghost use Rattle.mr_replica.specs.State.{held};
     ghost use Rattle.mr_store.specs.Revisions.{AreInVersionOrder, AreApart, AreConflicts};
-    ghost use Rattle.mr_replica.specs.Fragments.{HaveKnown, HasHoleyFragments};
+    ghost use Rattle.mr_replica.specs.Fragments.{HaveKnown, AreFragmentsOf, HasHoleyPart};
 
     /// A replica of this id, with nothing in it. Its log takes up to `event_limit` events, 1 to
     /// 1,000,000; any other limit is a `BadLimit`. Nothing is allocated; what grows later takes its
@@ -170,15 +171,18 @@ impl<K: Knowledge> Replica<K> {
         &self.knowledge
     }
 
-    /// What is known, as fragments with concise vectors, as they leave the replica. None of them
+    /// What is known, as fragments with concise vectors, as they leave the replica: one for each part
+    /// that the form has of this knowledge, in their order, so that they have one text. None of them
     /// lists no item.
     ///
-    /// `TooManyHoles` only where a vector of the form's own fragments has a column with more than
-    /// 4,096 holes; `OutOfMemory` may come in place of it. It costs the form's fragments and their
-    /// vectors.
+    /// `TooManyHoles` only where one of these parts has a column with more than 4,096 holes; where there
+    /// is such a part it answers that or `OutOfMemory`. It costs the form's fragments and their vectors.
     pub fn fragments(&self) -> Result<Vec<Fragment<ConciseVector>>, FormFault>
         ensures ok { IfOk result (λ fragments. HaveKnown vector_has (K.form.known self.now.knowledge) fragments.items) }
-        ensures holes { IsErrOf result FormFault.TooManyHoles → HasHoleyFragments K.Vector.has (K.form.known self.now.knowledge) }
+        ensures parts { IfOk result (λ fragments. AreFragmentsOf (K.form.is_part self.now.knowledge) fragments.items) }
+        ensures one_text { IfOk result (λ fragments. (others : List ConciseFragment) → AreFragmentsOf (K.form.is_part self.now.knowledge) others → knowledge_text others ≡ knowledge_text fragments.items) }
+        ensures few { OnOk result (¬ HasHoleyPart (K.form.is_part self.now.knowledge)) }
+        ensures holes { IsErrOf result FormFault.TooManyHoles → HasHoleyPart (K.form.is_part self.now.knowledge) }
         ensures items { result ≢ Err FormFault.TooManyItems }
     {
         let Ok(fragments) = self.knowledge.fragments() else {

@@ -5,11 +5,10 @@ use Rattle.std.specs.declared.alloc.Global.{Global}
 use Rattle.std.specs.Ordering.{nat_cmp}
 use Rattle.std.specs.BTreeMap.{insert_entry, is_at}
 use Rattle.std.specs.Map.{lookup, set_value}
-use Rattle.mr_forms.specs.Known.{Pairs, Form, AreSame}
-use Rattle.mr_forms.specs.Sets.{is_listed}
+use Rattle.mr_forms.specs.Known.{Pairs, Part, Form, AreSame}
 use Rattle.mr_concise.specs.Fragments.{ConciseFragment}
 use Rattle.mr_concise.specs.Vector.{vector_has}
-use Rattle.mr_replica.specs.Fragments.{HaveKnown, HasHoleyFragments}
+use Rattle.mr_replica.specs.Fragments.{HaveKnown, AreFragmentsOf, HasHoleyPart}
 use Rattle.mr_version.specs.Name.{Name}
 use Rattle.mr_madewith.specs.Revision.{Rev}
 use Rattle.mr_store.specs.Revisions.{AreConflicts}
@@ -64,16 +63,17 @@ abbrev pub tells_conflicts : ℕ → List Rev → Reading (List ℕ)
 tells_conflicts id heads (Ok text) = (items : List Name) × AreConflicts heads items × (text ≡ conflicts_text id items)
 tells_conflicts id heads (Err fault) = fault ≡ OutOfMemory
 
--- the text is that of fragments that have what is known
-pub record IsKnowText (id : ℕ) (known : Pairs) (text : List ℕ) : Type 0 where
+-- the text is that of the fragments of a knowledge: those of its parts, which have what is known
+pub record IsKnowText (id : ℕ) (known : Pairs) (is_part : Part → Type 0) (text : List ℕ) : Type 0 where
   pub fragments : List ConciseFragment
   pub have : HaveKnown vector_has known fragments
+  pub are : AreFragmentsOf is_part fragments
   pub is : text ≡ know_text id fragments
 
--- what is printed of what is known, unless it has a fragment whose set has no concise vector
-abbrev pub tells_known : ℕ → Pairs → Reading (List ℕ)
-tells_known id known (Ok text) = IsKnowText id known text ⊎ ((text ≡ refused_text TooManyHoles) × HasHoleyFragments is_listed known)
-tells_known id known (Err fault) = fault ≡ OutOfMemory
+-- what is printed of what is known, unless a part of it has no concise vector
+abbrev pub tells_known : ℕ → Pairs → (Part → Type 0) → Reading (List ℕ)
+tells_known id known is_part (Ok text) = IsKnowText id known is_part text ⊎ ((text ≡ refused_text TooManyHoles) × HasHoleyPart is_part)
+tells_known id known is_part (Err fault) = fault ≡ OutOfMemory
 
 module _ {K : Type 0} where
   -- the replica of an id
@@ -125,5 +125,5 @@ module _ {K : Type 0} where
   Does form s (Conflicts id) result new = at_replica (replica_at s id) (λ state r. tells_conflicts id state.heads r × (new ≡ opened s)) result
   Does form s (Feed id) result new = at_replica (replica_at s id) (λ state r. tells (feed_text id state.feed) r × (new ≡ opened s)) result
   Does form s (Log id) result new = at_replica (replica_at s id) (λ state r. tells (log_text id (length state.log)) r × (new ≡ opened s)) result
-  Does form s (Know id) result new = at_replica (replica_at s id) (λ state r. tells_known id (form.known state.knowledge) r × (new ≡ opened s)) result
+  Does form s (Know id) result new = at_replica (replica_at s id) (λ state r. tells_known id (form.known state.knowledge) (form.is_part state.knowledge) r × (new ≡ opened s)) result
   Does form s (Show id v) result new = at_replica (replica_at s id) (λ state r. tells_held (held state v) r × (new ≡ opened s)) result

@@ -1,6 +1,6 @@
 //! The replicas of a script, and what its commands do to them.
 ghost use Rattle.std.specs.Prelude.{◌≡◌, [], true, Some, None, MatchResult};
-ghost use Rattle.mr_forms.specs.Plain.{plain_form, plain_known};
+ghost use Rattle.mr_forms.specs.Plain.{plain_form, plain_known, IsPlainPart};
 ghost use Rattle.mr_replica.specs.State.{held};
 ghost use Rattle.mr_script.specs.Stage.{Does, Makes, Takes, tells_answer, tells_known, tells_held, tells_conflicts, replica_at, text_of};
 
@@ -188,7 +188,7 @@ fn known_line(
     id: Author,
     replica: &Replica<PlainKnowledge>,
 ) -> Result<String, LineFault>
-    ensures { tells_known id (plain_known replica.now.knowledge) (text_of result) }
+    ensures { tells_known id (plain_known replica.now.knowledge) (IsPlainPart replica.now.knowledge) (text_of result) }
 {
     match replica.fragments() {
         Ok(fragments) => Ok(know_line(alloc, id, fragments.as_slice())?),

@@ -2,3 +2,6 @@ pub mod SlotLemmas
 pub mod PieceLemmas
 pub mod TableLemmas
 pub mod ViewLemmas
+pub mod HeldLemmas
+pub mod WalkLemmas
+pub mod DrawLemmas

@@ -1,4 +1,4 @@
-//! The open sessions of a replica: what it has taken of each stream that it asked for.
+//! The open sessions of a replica, what it has taken of each stream that it asked for, and its open streams.
 //!
 //! A replica that pulls opens a **session**, and gives its number away with what it asks for. A source
 //! answers with a **stream** of records. The session is bound by the first of them, a Start, to that
@@ -9,24 +9,45 @@
 //! [`Sessions`] is the table of those that are open: at most eight ([`MAX_OPEN`]), each under a number that
 //! is given once, from 1. The numbers stand in a slab of eight slots, so a look-up passes over eight entries.
 //!
+//! [`Streams`] is the same table of what the replica tells others. [`Streams::draw`] gives a stream's next
+//! record, of what the store holds at that draw: a Start; then the heads and push-outs together, by rising
+//! version, from behind the last one that a draw gave, each that the one who asked doesn't know as an Item
+//! if its filter selects it, and as a MoveOut if it knows the item's first version; then, in a full stream, the
+//! versions of the heads as they are at the first of those draws, in vectors, and the fragments that were
+//! kept for it; then an End, which closes the stream. A draw that finds nothing more to tell goes on for
+//! good.
+//!
 //! ```
 //! let number = sessions.open()?;
 //! sessions.check(&record)?;
 //! sessions.take(&record)?;
 //! let session = sessions.close(number);
+//!
+//! let asked = AskedOf::new(target, session_number, filter, claims);
+//! let number = streams.open(asked, Mode::Full, fragments)?;
+//! let record = streams.draw(number, source, &store)?;
 //! ```
 #![tactic(auto)]
 
+mod asked;
+mod claims;
 mod copies;
+mod due;
 mod fault;
+mod held;
 mod incoming;
 mod limits;
 mod origin;
+mod outgoing;
 mod sessions;
 mod slots;
+mod streams;
 
+pub use asked::AskedOf;
 pub use fault::SessionFault;
 pub use incoming::Incoming;
 pub use limits::MAX_OPEN;
 pub use origin::Origin;
+pub use outgoing::Outgoing;
 pub use sessions::Sessions;
+pub use streams::Streams;

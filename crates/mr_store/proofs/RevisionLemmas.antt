@@ -7,7 +7,7 @@ use Rattle.std.specs.Option.{option_map}
 use Rattle.std.proofs.lemmas.List.Elements.{filter_agree}
 use Rattle.std.proofs.lemmas.List.Folds.{list_any-append}
 use Rattle.mr_version.specs.Name.{Name, name_cmp, name_eq}
-use Rattle.mr_forms.specs.Sets.{Test, is_listed}
+use Rattle.mr_forms.specs.Sets.{Versions, is_listed}
 use Rattle.mr_forms.specs.Known.{Pairs}
 use Rattle.mr_madewith.specs.Revision.{Rev}
 use Rattle.mr_madewith.specs.Keyed.{without, is_before}
@@ -21,7 +21,7 @@ either true = inl refl
 either false = inr refl
 
 -- those of the item that are below are what is superseded
-pub filter-versions_of : (item : Name) (below : Test) (heads : List Rev) → filter below (versions_of item heads) ≡ map version_of (filter (supersedes item below) heads)
+pub filter-versions_of : (item : Name) (below : Versions) (heads : List Rev) → filter below (versions_of item heads) ≡ map version_of (filter (supersedes item below) heads)
 filter-versions_of item below [] = refl
 filter-versions_of item below (r ∷ rs) =
     elim (is_of item r) as (λ b. filter below (map version_of (cond b (r ∷ filter (is_of item) rs) (filter (is_of item) rs))) ≡ map version_of (cond (b && below r.version) (r ∷ filter (supersedes item below) rs) (filter (supersedes item below) rs))) [
@@ -33,7 +33,7 @@ filter-versions_of item below (r ∷ rs) =
     ]
 
 -- of the item itself the superseded versions leave
-versions_of-left_by_same : (item : Name) (below : Test) (heads : List Rev) → versions_of item (left_by item below heads) ≡ filter (λ v. not (below v)) (versions_of item heads)
+versions_of-left_by_same : (item : Name) (below : Versions) (heads : List Rev) → versions_of item (left_by item below heads) ≡ filter (λ v. not (below v)) (versions_of item heads)
 versions_of-left_by_same item below [] = refl
 versions_of-left_by_same item below (r ∷ rs) =
     elim (either (is_of item r)) [
@@ -45,7 +45,7 @@ versions_of-left_by_same item below (r ∷ rs) =
     ]
 
 -- of another item none leaves
-versions_of-left_by_other : (i item : Name) (below : Test) (heads : List Rev) → name_eq item i ≡ false → versions_of i (left_by item below heads) ≡ versions_of i heads
+versions_of-left_by_other : (i item : Name) (below : Versions) (heads : List Rev) → name_eq item i ≡ false → versions_of i (left_by item below heads) ≡ versions_of i heads
 versions_of-left_by_other i item below [] apart = refl
 versions_of-left_by_other i item below (r ∷ rs) apart =
     elim (either (is_of item r)) [
@@ -61,7 +61,7 @@ versions_of-left_by_other i item below (r ∷ rs) apart =
       ])
     ]
 
-pub versions_of-left_by : (i item : Name) (below : Test) (heads : List Rev) → versions_of i (left_by item below heads) ≡ (if name_eq item i then filter (λ v. not (below v)) (versions_of i heads) else versions_of i heads)
+pub versions_of-left_by : (i item : Name) (below : Versions) (heads : List Rev) → versions_of i (left_by item below heads) ≡ (if name_eq item i then filter (λ v. not (below v)) (versions_of i heads) else versions_of i heads)
 versions_of-left_by i item below heads =
     elim (either (name_eq item i)) [
       | inl same ↦ rw same (subst (λ j. versions_of j (left_by item below heads) ≡ filter (λ v. not (below v)) (versions_of j heads)) (same_names item i same) (versions_of-left_by_same item below heads))
@@ -124,10 +124,10 @@ stays_as_well false true false h = refl
 stays_as_well false false below h = refl
 
 -- whether the revision is none of these versions that are below
-abbrev pub is_none_of : List Name → Test → Rev → Bool
+abbrev pub is_none_of : List Name → Versions → Rev → Bool
 is_none_of vs below r = not (is_listed vs r.version && below r.version)
 
-pub without-more : (vs : List Name) (v : Name) (below : Test) (heads : List Rev) → below v ≡ true
+pub without-more : (vs : List Name) (v : Name) (below : Versions) (heads : List Rev) → below v ≡ true
     → without version_of v (filter (is_none_of vs below) heads) ≡ filter (is_none_of (vs ++ v ∷ []) below) heads
 without-more vs v below heads is_below =
     filter-filter (is_none_of vs below) (λ r. not (name_eq r.version v)) heads
@@ -135,7 +135,7 @@ without-more vs v below heads is_below =
     rw (list_any-append (name_eq r.version) vs (v ∷ []))
     (stays_more (is_listed vs r.version) (name_eq r.version v) (below r.version) (λ same. subst (λ w. below w ≡ true) (sym (same_names r.version v same)) is_below))) heads
 
-pub is_none_of-more : (vs : List Name) (v : Name) (below : Test) (heads : List Rev) → below v ≡ false
+pub is_none_of-more : (vs : List Name) (v : Name) (below : Versions) (heads : List Rev) → below v ≡ false
     → filter (is_none_of vs below) heads ≡ filter (is_none_of (vs ++ v ∷ []) below) heads
 is_none_of-more vs v below heads above =
     filter_agree (is_none_of vs below) (is_none_of (vs ++ v ∷ []) below) (λ r.
@@ -175,7 +175,7 @@ all_by P Q f [] h = tt
 all_by P Q f (x ∷ xs) h = (f x h.0, all_by P Q f xs h.1)
 
 -- what is left when the item's versions that are below are taken out
-pub left_by-listed : (item : Name) (below : Test) (heads : List Rev) → AreInVersionOrder heads → filter (is_none_of (versions_of item heads) below) heads ≡ left_by item below heads
+pub left_by-listed : (item : Name) (below : Versions) (heads : List Rev) → AreInVersionOrder heads → filter (is_none_of (versions_of item heads) below) heads ≡ left_by item below heads
 left_by-listed item below heads rising =
     filter-along (is_none_of (versions_of item heads) below) (λ r. not (supersedes item below r)) heads
     (all_by (λ r. is_listed (versions_of item heads) r.version ≡ is_of item r) (λ r. is_none_of (versions_of item heads) below r ≡ not (supersedes item below r)) (λ r h. ap (λ b. not (b && below r.version)) h) heads (is_listed-versions_of item heads rising))
@@ -209,19 +209,19 @@ any-versions_of p item (r ∷ rs) =
 -- ---- the revisions of the versions that are below
 
 -- the revision of a version that is below
-abbrev pub found_below : Test → List Rev → Name → Option Rev
+abbrev pub found_below : Versions → List Rev → Name → Option Rev
 found_below below rs v = if below v then revision_of rs v else None
 
 found_along : (h k : Name → Option Rev) (vs : List Name) → AllByRecursion (λ v. h v ≡ k v) vs → filter_map h vs ≡ filter_map k vs
 found_along h k [] same = refl
 found_along h k (v ∷ vs) same = rw same.0 (ap (cons_option (k v)) (found_along h k vs same.1))
 
-found_later : (below : Test) (x : Rev) (xs : List Rev) (vs : List Name) → AllByRecursion (λ v. name_cmp x.version v ≡ Less) vs → AllByRecursion (λ v. found_below below (x ∷ xs) v ≡ found_below below xs v) vs
+found_later : (below : Versions) (x : Rev) (xs : List Rev) (vs : List Name) → AllByRecursion (λ v. name_cmp x.version v ≡ Less) vs → AllByRecursion (λ v. found_below below (x ∷ xs) v ≡ found_below below xs v) vs
 found_later below x xs [] later = tt
 found_later below x xs (v ∷ vs) later = (rw later.0 refl, found_later below x xs vs later.1)
 
 -- they are the revisions that are superseded
-pub found-versions_of : (item : Name) (below : Test) (rs : List Rev) → AreInVersionOrder rs → filter_map (found_below below rs) (versions_of item rs) ≡ filter (supersedes item below) rs
+pub found-versions_of : (item : Name) (below : Versions) (rs : List Rev) → AreInVersionOrder rs → filter_map (found_below below rs) (versions_of item rs) ≡ filter (supersedes item below) rs
 found-versions_of item below [] rising = refl
 found-versions_of item below (x ∷ xs) rising =
     let rest : filter_map (found_below below (x ∷ xs)) (versions_of item xs) ≡ filter (supersedes item below) xs =

@@ -2,7 +2,7 @@
 use Rattle.std.specs.Prelude.{◌≡◌, Bool, false, not, ◌&&◌, nat_le, is_some, Option, List, length, map, filter}
 use Rattle.std.specs.List.Sorted.{IsStrictlySortedBy}
 use Rattle.mr_version.specs.Name.{Name, name_cmp, name_eq}
-use Rattle.mr_forms.specs.Sets.{Test, is_listed}
+use Rattle.mr_forms.specs.Sets.{Versions, is_listed}
 use Rattle.mr_madewith.specs.Revision.{Rev}
 use Rattle.mr_madewith.specs.Keyed.{AreRising, named, placed}
 
@@ -18,7 +18,7 @@ abbrev pub revision_of : List Rev → Name → Option Rev
 revision_of rs v = named version_of v rs
 
 -- one of them is of that version
-abbrev pub holds : List Rev → Test
+abbrev pub holds : List Rev → Versions
 holds rs v = is_some (revision_of rs v)
 
 -- no version is in both lists
@@ -37,11 +37,11 @@ abbrev pub versions_of : Name → List Rev → List Name
 versions_of item rs = map version_of (filter (is_of item) rs)
 
 -- whether a version of the item that supersedes all of the set supersedes the revision
-abbrev pub supersedes : (item : Name) → Test → Rev → Bool
+abbrev pub supersedes : (item : Name) → Versions → Rev → Bool
 supersedes item below r = is_of item r && below r.version
 
 -- what such a version leaves
-abbrev pub left_by : (item : Name) → Test → List Rev → List Rev
+abbrev pub left_by : (item : Name) → Versions → List Rev → List Rev
 left_by item below rs = filter (λ r. not (supersedes item below r)) rs
 
 -- whether there are two or more revisions of the item, which conflict

@@ -1,6 +1,6 @@
 use Rattle.std.proofs.Common.{◌∙◌, subst}
 use Rattle.std.specs.Prelude.{IfOk}
-use Rattle.mr_forms.specs.Sets.{Test, IsSame, is_listed}
+use Rattle.mr_forms.specs.Sets.{Versions, IsSame, is_listed}
 use Rattle.mr_concise.specs.Vector.{vector_has, IsVectorOf}
 use Rattle.mr_concise.proofs.SweepLemmas.{few_from_holes}
 use Rattle.mr_concise.proofs.VersionLemmas.{listed-more, listed-end}
@@ -11,7 +11,7 @@ loop-version-preserved c v = c.in_ok-insert.ensures.ok v ∙ listed-more c.args.
 
 pub returns-clause-ok : goal.returns-clause-ok
 returns-clause-ok c =
-    let P : Test → Type 0 = λ set. IfOk c.from_set.result (λ vector. IsSame (vector_has vector) set) in
+    let P : Versions → Type 0 = λ set. IfOk c.from_set.result (λ vector. IsSame (vector_has vector) set) in
     subst P (listed-end c.args.versions.now c.loop-version.version-index (is_listed c.loop-version.set) c.loop-version-test.false c.loop-version.invariant) c.from_set.ensures.ok
 
 pub returns-clause-few : goal.returns-clause-few
@@ -19,7 +19,7 @@ returns-clause-few c = few_from_holes c.from_set.result (rw (listed-end c.args.v
 
 pub returns-clause-canonical : goal.returns-clause-canonical
 returns-clause-canonical c =
-    let P : Test → Type 0 = λ set. IfOk c.from_set.result (λ vector. IsVectorOf set vector) in
+    let P : Versions → Type 0 = λ set. IfOk c.from_set.result (λ vector. IsVectorOf set vector) in
     subst P (listed-end c.args.versions.now c.loop-version.version-index (is_listed c.loop-version.set) c.loop-version-test.false c.loop-version.invariant) c.from_set.ensures.canonical
 
 pub returns-clause-holes : goal.returns-clause-holes

@@ -1,13 +1,12 @@
 use Rattle.std.proofs.Common.{◌<◌, ◌≤◌, ◌-◌, ℕ}
-use Rattle.mr_concise.specs.Vector.{vector_has}
 use Rattle.mr_itemset.specs.Lacking.{CoversAuthor}
 use Rattle.mr_itemset.proofs.limits.lacks.Given as goal
 
--- of lower authors the vector has what the set has
+-- of lower authors the source has what the set has
 abbrev pub invariant-loop-author : goal.invariant-loop-author
 invariant-loop-author g l = record {
   in_range : l.id ≤ 64;
-  covered : (q : ℕ) → q < l.id → CoversAuthor (vector_has l.vector) (g.S.VersionSet.has l.set) q;
+  covered : (q : ℕ) → q < l.id → CoversAuthor (g.A.Source.has l.source) (g.S.VersionSet.has l.set) q;
 }
 
 abbrev pub decreases-loop-author : goal.decreases-loop-author

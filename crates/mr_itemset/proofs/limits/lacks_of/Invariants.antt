@@ -1,14 +1,13 @@
 use Rattle.std.proofs.Common.{◌≡◌, ◌<◌, ◌≤◌, ◌-◌, ℕ, true}
 use Rattle.mr_forms.specs.Runs.{of_author}
-use Rattle.mr_concise.specs.Vector.{vector_has}
 use Rattle.mr_itemset.proofs.limits.lacks_of.Given as goal
 
--- up to here the vector has what the set has
+-- up to here the source has what the set has
 abbrev pub invariant-loop-run : goal.invariant-loop-run
 invariant-loop-run g l = record {
   from_one : 1 ≤ l.from;
   in_range : l.from ≤ 1000001;
-  covered : (c : ℕ) → 1 ≤ c → c < l.from → of_author (g.S.VersionSet.has l.set) l.author c ≡ true → of_author (vector_has l.vector) l.author c ≡ true;
+  covered : (c : ℕ) → 1 ≤ c → c < l.from → of_author (g.S.VersionSet.has l.set) l.author c ≡ true → of_author (g.A.Source.has l.source) l.author c ≡ true;
 }
 
 abbrev pub decreases-loop-run : goal.decreases-loop-run

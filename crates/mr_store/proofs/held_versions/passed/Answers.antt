@@ -2,7 +2,7 @@ use Rattle.std.proofs.Common.{◌≡◌, false, sym, subst, take}
 use Rattle.mr_concise.specs.Next.{IsNextOut}
 use Rattle.mr_concise.specs.AllOf.{in_all, IsPassed}
 use Rattle.mr_concise.proofs.AllOfLemmas.{in_all-more_is, IsPassed-more}
-use Rattle.mr_forms.specs.Sets.{Test}
+use Rattle.mr_forms.specs.Sets.{Versions}
 use Rattle.mr_forms.specs.Runs.{of_author}
 use Rattle.mr_store.specs.HeldVersions.{by_held}
 use Rattle.mr_store.proofs.HeldVersionLemmas.{looked_up}
@@ -16,7 +16,7 @@ loop-version-preserved c =
     let v = c.version-item.result in
     let at = c.loop-version.at in
     let same = looked_up c.args.store.now v c.held.result c.held.ensures in
-    let next : IsNextOut (of_author (held v) c.args.author) at c.next_out-at.result = subst (λ (t : Test). IsNextOut (of_author t c.args.author) at c.next_out-at.result) same c.next_out-at.ensures.next in
-    let zero : of_author (held v) c.args.author 0 ≡ false = subst (λ (t : Test). of_author t c.args.author 0 ≡ false) same c.next_out-at.ensures.zero in
-    subst (λ (t : Test). IsPassed (of_author t c.args.author) c.args.from c.next_out-at.result) (sym (in_all-more_is held vs k v c.loop-version-test.true c.version-item.is))
+    let next : IsNextOut (of_author (held v) c.args.author) at c.next_out-at.result = subst (λ (t : Versions). IsNextOut (of_author t c.args.author) at c.next_out-at.result) same c.next_out-at.ensures.next in
+    let zero : of_author (held v) c.args.author 0 ≡ false = subst (λ (t : Versions). of_author t c.args.author 0 ≡ false) same c.next_out-at.ensures.zero in
+    subst (λ (t : Versions). IsPassed (of_author t c.args.author) c.args.from c.next_out-at.result) (sym (in_all-more_is held vs k v c.loop-version-test.true c.version-item.is))
     (IsPassed-more (of_author (in_all held (take k vs)) c.args.author) (of_author (held v) c.args.author) c.args.from at c.next_out-at.result c.loop-version.invariant next c.next_out-at.ensures.bound zero)

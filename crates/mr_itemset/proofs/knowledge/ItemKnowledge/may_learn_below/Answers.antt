@@ -1,4 +1,4 @@
-use Rattle.mr_itemset.proofs.RoomLemmas.{lists_few-item}
+use Rattle.mr_itemset.proofs.WithLemmas.{lists_few-item}
 use Rattle.mr_itemset.proofs.knowledge.ItemKnowledge.may_learn_below.Goals as goal
 
 pub returns-clause-items : goal.returns-clause-items

@@ -1,6 +1,6 @@
 use Rattle.std.proofs.Common.{◌≡◌, ◌↔◌, List, IfOk, IsErrOf, subst, ap, ◌∙◌}
 use Rattle.std.specs.Option.{option_copied}
-use Rattle.mr_forms.specs.Sets.{Test}
+use Rattle.mr_forms.specs.Sets.{Versions}
 use Rattle.mr_forms.specs.declared.fault.FormFault.TheVariants.{TooManyHoles}
 use Rattle.mr_concise.specs.Vector.{HasTooManyHoles}
 use Rattle.mr_concise.specs.AllOf.{in_all}
@@ -27,7 +27,7 @@ returns-clause-ok g c =
     let is : filled_below (in_all (by_held c.store.result.now) c.args.bases.now) (option_copied c.last.result) c.args.version ≡ below_for s c.args.item c.args.bases.now =
     below_for-sources s c.store.result.now c.args.item c.args.bases.now (option_copied c.last.result) c.args.version
     (ap (λ (h : Holdings). h.heads) c.store.ensures ∙ heads) (ap (λ (h : Holdings). h.push_outs) c.store.ensures ∙ push_outs) (c.last.ensures ∙ ap (λ (t : List Rev). last_of t c.args.item) (ap (λ (t : Track). t.lasts) c.trail.ensures ∙ trail)) c.requires.version c.requires.admitted in
-    subst (λ (t : Test). IfOk c.below_of.result (AreColumnsOf t)) is c.below_of.ensures.ok
+    subst (λ (t : Versions). IfOk c.below_of.result (AreColumnsOf t)) is c.below_of.ensures.ok
 
 pub returns-clause-holes : goal.returns-clause-holes
 returns-clause-holes g c =
@@ -38,7 +38,7 @@ returns-clause-holes g c =
     let is : filled_below (in_all (by_held c.store.result.now) c.args.bases.now) (option_copied c.last.result) c.args.version ≡ below_for s c.args.item c.args.bases.now =
     below_for-sources s c.store.result.now c.args.item c.args.bases.now (option_copied c.last.result) c.args.version
     (ap (λ (h : Holdings). h.heads) c.store.ensures ∙ heads) (ap (λ (h : Holdings). h.push_outs) c.store.ensures ∙ push_outs) (c.last.ensures ∙ ap (λ (t : List Rev). last_of t c.args.item) (ap (λ (t : Track). t.lasts) c.trail.ensures ∙ trail)) c.requires.version c.requires.admitted in
-    subst (λ (t : Test). IsErrOf c.below_of.result TooManyHoles ↔ HasTooManyHoles t) is c.below_of.ensures.holes
+    subst (λ (t : Versions). IsErrOf c.below_of.result TooManyHoles ↔ HasTooManyHoles t) is c.below_of.ensures.holes
 
 pub returns-clause-next : goal.returns-clause-next
 returns-clause-next g c =

@@ -1,0 +1,265 @@
+use Rattle.std.proofs.Common.{◌≡◌, ◌<◌, ◌≤◌, ◌+◌, ◌⊎◌, ℕ, suc, Bool, true, false, ◌||◌, ◌&&◌, List, [], ◌∷◌, ◌++◌, length, All, Contains, refl, ap, sym, ◌∙◌, subst, arith, inl, inr}
+use Rattle.std.specs.List.{list_any}
+use Rattle.std.proofs.Math.ListN.{length-map, length-append}
+use Rattle.std.proofs.lemmas.Bool.{false≢true, cases_Bool, or_parts, or_cases}
+use Rattle.std.proofs.lemmas.Cmp.{eq_by_cmp_equiv}
+use Rattle.std.proofs.lemmas.List.Elements.{All-contains, All-head, All-tail, All-weaker, All-contains_itself}
+use Rattle.std.proofs.lemmas.List.Folds.{list_any-append}
+use Rattle.std.proofs.lemmas.Map.Keys.{IsDistinct-cons}
+use Rattle.std.proofs.lemmas.Map.Made.{length-le_from_is_member}
+use Rattle.mr_version.specs.Name.{Name, name_eq}
+use Rattle.mr_version.specs.Order.{names_total}
+use Rattle.mr_forms.specs.declared.fragment.TheConstants.{MAX_ITEMS}
+use Rattle.mr_forms.specs.Sets.{Versions, IsSame, Covers, both}
+use Rattle.mr_forms.specs.Known.{AreSame, with_below}
+use Rattle.mr_forms.proofs.SetLemmas.{name_eq-symmetric}
+use Rattle.mr_forms.proofs.PairLemmas.{name_eq-itself}
+use Rattle.mr_forms.proofs.PartLemmas.{Contains-cases, Contains-here, Contains-there}
+use Rattle.mr_concise.specs.declared.vector.AuthorColumn.{AuthorColumn}
+use Rattle.mr_concise.specs.Vector.{vector_has, HasTooManyHoles}
+use Rattle.mr_concise.proofs.VersionLemmas.{few-vector}
+use Rattle.mr_itemset.specs.declared.knowledge.Listed.{Listed}
+use Rattle.mr_itemset.specs.Normal.{Normal, items_of, HasMore, IsNormal, normal_known, vector_of}
+use Rattle.mr_itemset.specs.ItemForm.{ListsTooMany, HasHoleyItem}
+use Rattle.mr_itemset.specs.Lacking.{Lacks}
+use Rattle.mr_itemset.specs.Each.{with_each, CountsNew}
+use Rattle.mr_itemset.proofs.NormalLemmas.{same_name, top, free-above, vector_in-has, vector_in-unlisted}
+use Rattle.mr_itemset.proofs.LimitLemmas.{any_all}
+use Rattle.mr_itemset.proofs.ItemLemmas.{same_tests, vector_of-IsVector, covers_all, item_from_holey}
+use Rattle.mr_itemset.proofs.RoomLemmas.{none_by_recursion, items_distinct}
+
+or_right : (a b : Bool) → b ≡ true → (a || b) ≡ true
+or_right true b e = refl
+or_right false b e = e
+
+or_left : (a b : Bool) → a ≡ true → (a || b) ≡ true
+or_left a b e = rw e refl
+
+-- ---- which items
+
+any_flip : (items : List Name) (i : Name) → list_any (λ item. name_eq item i) items ≡ list_any (name_eq i) items
+any_flip [] i = refl
+any_flip (j ∷ js) i = ap (λ (b : Bool). b || list_any (λ item. name_eq item i) js) (name_eq-symmetric j i) ∙ ap (λ (b : Bool). name_eq i j || b) (any_flip js i)
+
+any_contained : (q : Name) (ys : List Name) → Contains ys q → list_any (name_eq q) ys ≡ true
+any_contained q [] there = let within = there.1 in absurd (omega arith)
+any_contained q (y ∷ ys) there = go (Contains-cases y q ys there) (λ rest. any_contained q ys rest)
+  where
+    go : (y ≡ q) ⊎ Contains ys q → (Contains ys q → list_any (name_eq q) ys ≡ true) → list_any (name_eq q) (y ∷ ys) ≡ true
+    go (inl e) rest = or_left (name_eq q y) (list_any (name_eq q) ys) (ap (λ (z : Name). name_eq q z) e ∙ name_eq-itself q)
+    go (inr inside) rest = or_right (name_eq q y) (list_any (name_eq q) ys) (rest inside)
+
+-- the listed item of this name
+listed_item : (q : Name) (xs : List Listed) → list_any (name_eq q) (items_of xs) ≡ true → (x : Listed) × (Contains xs x × (q ≡ x.item))
+listed_item q [] any = absurd (false≢true any)
+listed_item q (x ∷ xs) any = go (or_cases (name_eq q x.item) (list_any (name_eq q) (items_of xs)) any) (λ there. listed_item q xs there)
+  where
+    go : (name_eq q x.item ≡ true) ⊎ (list_any (name_eq q) (items_of xs) ≡ true) → (list_any (name_eq q) (items_of xs) ≡ true → (y : Listed) × (Contains xs y × (q ≡ y.item))) → (y : Listed) × (Contains (x ∷ xs) y × (q ≡ y.item))
+    go (inl here) rest = (x, (Contains-here x xs, same_name q x.item here))
+    go (inr there) rest = let found = rest there in (found.0, (Contains-there x found.0 xs found.1.0, found.1.1))
+
+-- ---- holes
+
+-- an item whose vector would have too many is among these
+pub holey_each : (k : Normal) (items : List Name) (set : Versions) (item : Name) → IsNormal k → Contains items item → HasHoleyItem (with_below (normal_known k) item set) → HasHoleyItem (with_each (normal_known k) items set)
+holey_each k items set item normal has holey = record {
+  item = item;
+  holes = subst HasTooManyHoles (same_tests (both set (vector_has (vector_of k item))) (with_each (normal_known k) items set item)
+      (λ v. ap (λ (b : Bool). (b && set v) || normal_known k item v) (sym (any_flip items item ∙ any_contained item items has))))
+      (item_from_holey k set item normal holey);
+}
+
+none_holds : (f : Name → Bool) (P : Name → Type 0) (items : List Name) → list_any f items ≡ true → All (λ i. ¬ P i) items → ((i : Name) → f i ≡ true → P i) → ⊥
+none_holds f P [] any all holds = false≢true any
+none_holds f P (i ∷ is) any all holds = go (or_cases (f i) (list_any f is) any) (λ there. none_holds f P is there (All-tail (λ j. ¬ P j) i is all) holds)
+  where
+    go : (f i ≡ true) ⊎ (list_any f is ≡ true) → (list_any f is ≡ true → ⊥) → ⊥
+    go (inl here) rest = All-head (λ j. ¬ P j) i is all (holds i here)
+    go (inr there) rest = rest there
+
+pub not_holey_each : (k : Normal) (items : List Name) (set : Versions) → IsNormal k → All (λ item. ¬ HasHoleyItem (with_below (normal_known k) item set)) items → HasHoleyItem (with_each (normal_known k) items set) → ⊥
+not_holey_each k items set normal none holey = go (cases_Bool (list_any (λ item. name_eq item holey.item) items))
+  where
+    go : (list_any (λ item. name_eq item holey.item) items ≡ true) ⊎ (list_any (λ item. name_eq item holey.item) items ≡ false) → ⊥
+    go (inl any) = none_holds (λ item. name_eq item holey.item) (λ item. HasHoleyItem (with_below (normal_known k) item set)) items any none (λ item here. record {
+      item = holey.item;
+      holes = subst HasTooManyHoles (same_tests (with_each (normal_known k) items set holey.item) (with_below (normal_known k) item set holey.item)
+          (λ v. ap (λ (b : Bool). (b && set v) || normal_known k holey.item v) (any ∙ sym here))) holey.holes;
+    })
+    go (inr other) = few-vector (vector_of k holey.item) (with_each (normal_known k) items set holey.item) (vector_of-IsVector k holey.item normal)
+        (λ v. sym (ap (λ (b : Bool). (b && set v) || normal_known k holey.item v) other)) holey.holes
+
+-- ---- a count
+
+pub counts_none : (k : Normal) → IsNormal k → CountsNew k [] 0
+counts_none k normal = record {
+  together = items_of k.listed;
+  distinct = items_distinct k.listed normal.rising;
+  members = λ q. refl;
+  many = let same : length (items_of k.listed) ≡ length k.listed = length-map k.listed (λ x. x.item) in omega arith;
+}
+
+any_push : (q item : Name) (items : List Name) → list_any (name_eq q) (items ++ item ∷ []) ≡ (list_any (name_eq q) items || (name_eq q item || false))
+any_push q item items = list_any-append (name_eq q) items (item ∷ [])
+
+pub counts_one : (k : Normal) (items : List Name) (item : Name) (n : ℕ) → list_any (name_eq item) items ≡ false → list_any (name_eq item) (items_of k.listed) ≡ false → CountsNew k items n → CountsNew k (items ++ item ∷ []) (n + 1)
+counts_one k items item n fresh free c = record {
+  together = item ∷ c.together;
+  distinct = IsDistinct-cons name_eq item c.together (none_by_recursion item c.together (c.members item ∙ rw (fresh, free) refl)) c.distinct;
+  members = λ q.
+      ap (λ (b : Bool). name_eq q item || b) (c.members q)
+      ∙ exchange (name_eq q item) (list_any (name_eq q) items) (list_any (name_eq q) (items_of k.listed))
+      ∙ sym (ap (λ (b : Bool). b || list_any (name_eq q) (items_of k.listed)) (any_push q item items));
+  many = let many = c.many in omega arith;
+}
+  where
+    exchange : (a b c : Bool) → (a || (b || c)) ≡ ((b || (a || false)) || c)
+    exchange true true c = refl
+    exchange true false c = refl
+    exchange false true c = refl
+    exchange false false c = refl
+
+pub counts_known : (k : Normal) (items : List Name) (item : Name) (n : ℕ) → (list_any (name_eq item) items || list_any (name_eq item) (items_of k.listed)) ≡ true → CountsNew k items n → CountsNew k (items ++ item ∷ []) n
+counts_known k items item n known c = record {
+  together = c.together;
+  distinct = c.distinct;
+  members = λ q. c.members q ∙ same q (cases_Bool (name_eq q item)) ∙ sym (ap (λ (b : Bool). b || list_any (name_eq q) (items_of k.listed)) (any_push q item items));
+  many = c.many;
+}
+  where
+    with_true : (b c : Bool) → ((b || (true || false)) || c) ≡ true
+    with_true true c = refl
+    with_true false c = refl
+
+    with_false : (b c : Bool) → (b || c) ≡ ((b || (false || false)) || c)
+    with_false true c = refl
+    with_false false c = refl
+
+    same : (q : Name) → (name_eq q item ≡ true) ⊎ (name_eq q item ≡ false) → (list_any (name_eq q) items || list_any (name_eq q) (items_of k.listed)) ≡ ((list_any (name_eq q) items || (name_eq q item || false)) || list_any (name_eq q) (items_of k.listed))
+    same q (inl here) =
+        ap (λ (z : Name). list_any (name_eq z) items || list_any (name_eq z) (items_of k.listed)) (same_name q item here) ∙ known
+        ∙ sym (ap (λ (b : Bool). (list_any (name_eq q) items || (b || false)) || list_any (name_eq q) (items_of k.listed)) here ∙ with_true (list_any (name_eq q) items) (list_any (name_eq q) (items_of k.listed)))
+    same q (inr other) =
+        with_false (list_any (name_eq q) items) (list_any (name_eq q) (items_of k.listed))
+        ∙ sym (ap (λ (b : Bool). (list_any (name_eq q) items || (b || false)) || list_any (name_eq q) (items_of k.listed)) other)
+
+-- ---- too many items
+
+same_both : (x a : Bool) → (x ≡ true → a ≡ true) → (a ≡ true → x ≡ true) → x ≡ a
+same_both true a up down = sym (up refl)
+same_both false true up down = down refl
+same_both false false up down = refl
+
+pub many_each : (k : Normal) (items : List Name) (set : Versions) (n : ℕ) → IsNormal k → Lacks (vector_has k.all) set → CountsNew k items n → MAX_ITEMS < length k.listed + n → ListsTooMany (with_each (normal_known k) items set)
+many_each k items set n normal lacks c over = record {
+  all = vector_has k.all;
+  items = c.together;
+  distinct = c.distinct;
+  more = All-weaker (Contains c.together) (λ i. ¬ IsSame (with_each (normal_known k) items set i) (vector_has k.all))
+      (λ q has. theirs q (or_cases (list_any (name_eq q) items) (list_any (name_eq q) (items_of k.listed)) (sym (c.members q) ∙ any_contained q c.together has))) c.together (All-contains_itself c.together);
+  rest = λ i none v.
+      let parts = or_parts (list_any (name_eq i) items) (list_any (name_eq i) (items_of k.listed)) (sym (c.members i) ∙ none) in
+      ap (λ (b : Bool). (b && set v) || normal_known k i v) (any_flip items i ∙ parts.0) ∙ ap (λ (d : List AuthorColumn). vector_has d v) (vector_in-unlisted k.all k.listed i parts.1);
+  many = let many = c.many in omega arith;
+}
+  where
+    theirs : (q : Name) → (list_any (name_eq q) items ≡ true) ⊎ (list_any (name_eq q) (items_of k.listed) ≡ true) → ¬ IsSame (with_each (normal_known k) items set q) (vector_has k.all)
+    theirs q (inl given) same = false≢true (sym lacks.is_out ∙ sym (same lacks.version) ∙ gained)
+      where
+        gained : with_each (normal_known k) items set q lacks.version ≡ true
+        gained = rw (any_flip items q ∙ given, lacks.is_in) refl
+    theirs q (inr listed) same =
+        let found = listed_item q k.listed listed in
+        let more = All-contains (HasMore k.all) k.listed found.0 normal.more found.1.0 in
+        more.more (λ v. same_both (vector_has found.0.vector v) (vector_has k.all v)
+        (λ is_in. sym (same v) ∙ or_right (list_any (λ item. name_eq item q) items && set v) (normal_known k q v)
+        (ap (λ (j : Name). normal_known k j v) found.1.1 ∙ ap (λ (d : List AuthorColumn). vector_has d v) (vector_in-has k.all k.listed found.0 normal.rising found.1.0) ∙ is_in))
+        (more.covers v))
+
+-- all but some items have what all had
+all_each : (k : Normal) (items : List Name) (set : Versions) (many : ListsTooMany (with_each (normal_known k) items set)) (v : Name) → vector_has k.all v ≡ many.all v
+all_each k items set many v =
+    sym (ap (λ (b : Bool). (b && set v) || normal_known k (record { author = 0; counter = suc (top many.items + (top items + top (items_of k.listed))) }) v)
+    (any_flip items (record { author = 0; counter = suc (top many.items + (top items + top (items_of k.listed))) }) ∙ free-above (suc (top many.items + (top items + top (items_of k.listed)))) items (omega arith))
+    ∙ ap (λ (c : List AuthorColumn). vector_has c v) (vector_in-unlisted k.all k.listed (record { author = 0; counter = suc (top many.items + (top items + top (items_of k.listed))) }) (free-above (suc (top many.items + (top items + top (items_of k.listed)))) (items_of k.listed) (omega arith))))
+    ∙ many.rest (record { author = 0; counter = suc (top many.items + (top items + top (items_of k.listed))) }) (free-above (suc (top many.items + (top items + top (items_of k.listed)))) many.items (omega arith)) v
+
+-- few of which something else is known than of all
+few_of : (k : Normal) (items : List Name) (set : Versions) (others : List Name) → ((q : Name) → IsSame (with_each (normal_known k) items set q) (vector_has k.all) ⊎ (list_any (name_eq q) others ≡ true)) → length others ≤ MAX_ITEMS → ListsTooMany (with_each (normal_known k) items set) → ⊥
+few_of k items set others each few many =
+    let fits = length-le_from_is_member (eq_by_cmp_equiv names_total) many.items others many.distinct (λ q any. pick q any (each q)) in
+    let over = many.many in
+    omega arith
+  where
+    pick : (q : Name) → list_any (name_eq q) many.items ≡ true → IsSame (with_each (normal_known k) items set q) (vector_has k.all) ⊎ (list_any (name_eq q) others ≡ true) → list_any (name_eq q) others ≡ true
+    pick q any (inl same) = absurd (any_all (λ i. ¬ IsSame (with_each (normal_known k) items set i) many.all) many.items q many.more any (λ v. same v ∙ all_each k items set many v))
+    pick q any (inr other) = other
+
+-- of an item that is neither given nor listed nothing else is known
+same_or_among : (k : Normal) (items : List Name) (set : Versions) (q : Name) → IsSame (with_each (normal_known k) items set q) (vector_has k.all) ⊎ ((list_any (name_eq q) items || list_any (name_eq q) (items_of k.listed)) ≡ true)
+same_or_among k items set q = go (cases_Bool (list_any (name_eq q) items || list_any (name_eq q) (items_of k.listed)))
+  where
+    go : ((list_any (name_eq q) items || list_any (name_eq q) (items_of k.listed)) ≡ true) ⊎ ((list_any (name_eq q) items || list_any (name_eq q) (items_of k.listed)) ≡ false) → IsSame (with_each (normal_known k) items set q) (vector_has k.all) ⊎ ((list_any (name_eq q) items || list_any (name_eq q) (items_of k.listed)) ≡ true)
+    go (inl among) = inr among
+    go (inr apart) =
+        let parts = or_parts (list_any (name_eq q) items) (list_any (name_eq q) (items_of k.listed)) apart in
+        inl (λ v. ap (λ (b : Bool). (b && set v) || normal_known k q v) (any_flip items q ∙ parts.0) ∙ ap (λ (c : List AuthorColumn). vector_has c v) (vector_in-unlisted k.all k.listed q parts.1))
+
+pub few_counted : (k : Normal) (items : List Name) (set : Versions) (n : ℕ) → CountsNew k items n → length k.listed + n ≤ MAX_ITEMS → ListsTooMany (with_each (normal_known k) items set) → ⊥
+few_counted k items set n c few = few_of k items set c.together (λ q. go q (same_or_among k items set q)) (let many = c.many in omega arith)
+  where
+    go : (q : Name) → IsSame (with_each (normal_known k) items set q) (vector_has k.all) ⊎ ((list_any (name_eq q) items || list_any (name_eq q) (items_of k.listed)) ≡ true) → IsSame (with_each (normal_known k) items set q) (vector_has k.all) ⊎ (list_any (name_eq q) c.together ≡ true)
+    go q (inl same) = inl same
+    go q (inr among) = inr (c.members q ∙ among)
+
+pub few_given : (k : Normal) (items : List Name) (set : Versions) → length k.listed + length items ≤ MAX_ITEMS → ListsTooMany (with_each (normal_known k) items set) → ⊥
+few_given k items set few = few_of k items set (items ++ items_of k.listed) (λ q. go q (same_or_among k items set q)) (let same : length (items_of k.listed) ≡ length k.listed = length-map k.listed (λ x. x.item) in simp length-append (omega arith))
+  where
+    go : (q : Name) → IsSame (with_each (normal_known k) items set q) (vector_has k.all) ⊎ ((list_any (name_eq q) items || list_any (name_eq q) (items_of k.listed)) ≡ true) → IsSame (with_each (normal_known k) items set q) (vector_has k.all) ⊎ (list_any (name_eq q) (items ++ items_of k.listed) ≡ true)
+    go q (inl same) = inl same
+    go q (inr among) = inr (list_any-append (name_eq q) items (items_of k.listed) ∙ among)
+
+pub few_covered : (k : Normal) (items : List Name) (set : Versions) → IsNormal k → Covers (vector_has k.all) set → ListsTooMany (with_each (normal_known k) items set) → ⊥
+few_covered k items set normal covers = few_of k items set (items_of k.listed) (λ q. go q (cases_Bool (list_any (name_eq q) (items_of k.listed)))) (let same : length (items_of k.listed) ≡ length k.listed = length-map k.listed (λ x. x.item) in let few = normal.few in omega arith)
+  where
+    nothing_new : (b s a : Bool) → (s ≡ true → a ≡ true) → ((b && s) || a) ≡ a
+    nothing_new true true a h = sym (h refl)
+    nothing_new true false a h = refl
+    nothing_new false s a h = refl
+
+    go : (q : Name) → (list_any (name_eq q) (items_of k.listed) ≡ true) ⊎ (list_any (name_eq q) (items_of k.listed) ≡ false) → IsSame (with_each (normal_known k) items set q) (vector_has k.all) ⊎ (list_any (name_eq q) (items_of k.listed) ≡ true)
+    go q (inl listed) = inr listed
+    go q (inr free) = inl (λ v.
+        ap (λ (c : List AuthorColumn). (list_any (λ item. name_eq item q) items && set v) || vector_has c v) (vector_in-unlisted k.all k.listed q free)
+        ∙ nothing_new (list_any (λ item. name_eq item q) items) (set v) (vector_has k.all v) (covers v))
+
+-- ---- one item after another
+
+pub each_more : (k old new : Name → Name → Bool) (items : List Name) (item : Name) (set : Versions) → AreSame old (with_each k items set) → AreSame new (with_below old item set) → AreSame new (with_each k (items ++ item ∷ []) set)
+each_more k old new items item set before after i v =
+    after i v ∙ ap (λ (b : Bool). (name_eq item i && set v) || b) (before i v)
+    ∙ spread (name_eq item i) (list_any (λ j. name_eq j i) items) (set v) (k i v)
+    ∙ sym (ap (λ (b : Bool). (b && set v) || k i v) (list_any-append (λ j. name_eq j i) items (item ∷ [])))
+  where
+    spread : (a b s o : Bool) → ((a && s) || ((b && s) || o)) ≡ (((b || (a || false)) && s) || o)
+    spread true true true o = refl
+    spread true true false o = refl
+    spread true false true o = refl
+    spread true false false o = refl
+    spread false true s o = refl
+    spread false false s o = refl
+
+-- ---- where all items have the set
+
+nothing_each : (b s a o : Bool) → (s ≡ true → a ≡ true) → (a ≡ true → o ≡ true) → o ≡ ((b && s) || o)
+nothing_each b s a true h up = sym (or_right (b && s) true refl)
+nothing_each true true a false h up = up (h refl)
+nothing_each true false a false h up = refl
+nothing_each false s a false h up = refl
+
+pub covered_each : (k : Normal) (items : List Name) (set : Versions) → IsNormal k → Covers (vector_has k.all) set → AreSame (normal_known k) (with_each (normal_known k) items set)
+covered_each k items set normal covers i v = nothing_each (list_any (λ item. name_eq item i) items) (set v) (vector_has k.all v) (normal_known k i v) (covers v) (covers_all k i v normal)
+
+pub not_holey_covered : (k : Normal) (items : List Name) (set : Versions) → IsNormal k → Covers (vector_has k.all) set → HasHoleyItem (with_each (normal_known k) items set) → ⊥
+not_holey_covered k items set normal covers holey =
+    few-vector (vector_of k holey.item) (with_each (normal_known k) items set holey.item) (vector_of-IsVector k holey.item normal) (covered_each k items set normal covers holey.item) holey.holes

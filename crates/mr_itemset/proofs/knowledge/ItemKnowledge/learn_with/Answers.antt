@@ -1,0 +1,8 @@
+use Rattle.std.proofs.lemmas.Result.{err_from_is_err_and}
+use Rattle.mr_itemset.proofs.knowledge.ItemKnowledge.learn_with.Goals as goal
+
+pub returns-in_err-may_learn_with-clause-holes : goal.returns-in_err-may_learn_with-clause-holes
+returns-in_err-may_learn_with-clause-holes g c = let p = err_from_is_err_and c.from_residual.result c.from_residual.ensures.1 in rw (p.1, p.2) c.in_err-may_learn_with.ensures.holes
+
+pub returns-in_err-may_learn_with-clause-items : goal.returns-in_err-may_learn_with-clause-items
+returns-in_err-may_learn_with-clause-items g c = let p = err_from_is_err_and c.from_residual.result c.from_residual.ensures.1 in rw (p.1, p.2) c.in_err-may_learn_with.ensures.items

@@ -1,0 +1,126 @@
+ghost use Rattle.std.specs.Prelude.{◌≡◌, ◌≤◌, ◌↔◌, ◌||◌, true, false, length, IfOk, OnOk, OnErr, IsErrOf, Err};
+ghost use Rattle.std.specs.List.{list_any};
+ghost use Rattle.mr_version.specs.Name.{name_eq};
+ghost use Rattle.mr_forms.specs.Sets.{Versions};
+ghost use Rattle.mr_forms.specs.Known.{AreSame, HasValue, IsOnlyOverItems};
+ghost use Rattle.mr_concise.specs.Vector.{vector_has};
+ghost use Rattle.mr_itemset.specs.Lacking.{Lacks};
+ghost use Rattle.mr_itemset.specs.Normal.{normal_known, items_of, IsNormal};
+ghost use Rattle.mr_itemset.specs.ItemForm.{item_form, HasHoleyItem, ListsTooMany};
+ghost use Rattle.mr_itemset.specs.Each.{with_each, CountsNew};
+
+use crate::knowledge::ItemKnowledge;
+use crate::limits::lacks;
+use mr_concise::OfSet;
+use mr_forms::{FormFault, MAX_ITEMS, VersionSet};
+use mr_version::ItemId;
+use std::alloc::AllocError;
+
+/// Whether the item is among them.
+fn has_item(items: &[ItemId], item: ItemId) -> bool
+    ensures { result ≡ list_any (name_eq item) items.now }
+{
+    items.contains(&item)
+}
+
+impl ItemKnowledge {
+    /// Whether some item's vector would have too many holes with these versions. It allocates
+    /// nothing.
+    fn would_be_holey_in<S: VersionSet>(&self, items: &[ItemId], set: &S) -> bool
+        requires { IsNormal self.now }
+        ensures { (result ≡ true) ↔ HasHoleyItem (with_each (normal_known self.now) items.now (S.has set.now)) }
+    {
+        for item in items {
+            if self.would_be_holey_at(*item, &OfSet { set }) {
+                return true;
+            }
+        }
+        false
+    }
+
+    /// Whether the item is neither listed nor among those before it.
+    fn is_new(&self, before: &[ItemId], item: ItemId) -> bool
+        ensures yes { result ≡ true → (list_any (name_eq item) before.now ≡ false) × (list_any (name_eq item) (items_of self.now.listed) ≡ false) }
+        ensures no { result ≡ false → (list_any (name_eq item) before.now || list_any (name_eq item) (items_of self.now.listed)) ≡ true }
+    {
+        if has_item(before, item) {
+            return false;
+        }
+        !self.lists(item)
+    }
+
+    /// How many of the items are not listed, each counted once. It allocates nothing.
+    fn count_new(&self, items: &[ItemId]) -> usize
+        requires { IsNormal self.now }
+        ensures { CountsNew self.now items.now result }
+    {
+        let mut count = 0;
+        for at in 0..items.len() {
+            if self.is_new(&items[..at], items[at]) {
+                count += 1;
+            }
+        }
+        count
+    }
+
+    /// Whether all these items may be listed. It allocates nothing, and counts only where the
+    /// limit is near.
+    fn has_room_for(&self, items: &[ItemId]) -> bool
+        ensures yes { result ≡ true → (set : Versions) → ¬ ListsTooMany (with_each (normal_known self.now) items.now set) }
+        ensures no { result ≡ false → (set : Versions) → Lacks (vector_has self.now.all) set → ListsTooMany (with_each (normal_known self.now) items.now set) }
+    {
+        let room = MAX_ITEMS - self.listed().len();
+        if items.len() <= room {
+            return true;
+        }
+        self.count_new(items) <= room
+    }
+
+    /// The knowledge with the versions for each of the items.
+    fn with_each<S: VersionSet>(
+        &self,
+        items: &[ItemId],
+        set: &S,
+    ) -> Result<ItemKnowledge, AllocError>
+        requires { HasValue item_form (with_each (normal_known self.now) items.now (S.has set.now)) }
+        ensures { IfOk result (λ k. AreSame (normal_known k) (with_each (normal_known self.now) items.now (S.has set.now))) }
+    {
+        let Ok(mut grown) = self.copy() else {
+            return Err(AllocError);
+        };
+        for item in items {
+            let Ok(()) = grown.learn_below(*item, set) else {
+                return Err(AllocError);
+            };
+        }
+        Ok(grown)
+    }
+
+    /// Adds all versions of a set for each of the items. Where all items have them nothing is
+    /// copied.
+    pub(crate) fn learn_for_each<S: VersionSet>(
+        &mut self,
+        items: &[ItemId],
+        set: &S,
+    ) -> Result<(), FormFault>
+        ensures ok { OnOk result (AreSame (normal_known self.new) (with_each (normal_known self.old) items.now (S.has set.now))) }
+        ensures holes { IsErrOf result FormFault.TooManyHoles ↔ HasHoleyItem (with_each (normal_known self.old) items.now (S.has set.now)) }
+        ensures items { IsErrOf result FormFault.TooManyItems ↔ IsOnlyOverItems item_form (with_each (normal_known self.old) items.now (S.has set.now)) }
+        ensures err { OnErr result (self.new ≡ self.old) }
+    {
+        if !lacks(self.for_all(), set) {
+            return Ok(());
+        }
+        if self.would_be_holey_in(items, set) {
+            return Err(FormFault::TooManyHoles);
+        }
+        if !self.has_room_for(items) {
+            return Err(FormFault::TooManyItems);
+        }
+        let Ok(grown) = self.with_each(items, set) else {
+            return Err(FormFault::OutOfMemory);
+        };
+        *self = grown;
+        Ok(())
+    }
+}

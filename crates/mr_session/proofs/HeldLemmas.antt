@@ -1,0 +1,73 @@
+-- What one version more, or one vector more, makes of the vectors that cut a list.
+use Rattle.std.proofs.Common.{◌≡◌, ◌≤◌, ◌<◌, ◌+◌, ℕ, zero, suc, Bool, ◌||◌, List, [], ◌∷◌, ◌++◌, map, length, get_or, drop, append_assoc, append-nil, drop-cons, refl, sym, ap, subst, ◌∙◌, arith}
+use Rattle.std.proofs.lemmas.List.Folds.{list_any-append}
+use Rattle.mr_version.specs.Name.{Name, name_eq}
+use Rattle.mr_forms.specs.Sets.{is_listed, IsSame, with_version}
+use Rattle.mr_forms.proofs.SetLemmas.{or_comm, or_nothing, name_eq-symmetric}
+use Rattle.mr_concise.specs.declared.vector.AuthorColumn.{AuthorColumn}
+use Rattle.mr_concise.specs.Vector.{vector_has, HasTooManyHoles}
+use Rattle.mr_madewith.specs.Revision.{Rev}
+use Rattle.mr_store.specs.Revisions.{version_of}
+use Rattle.mr_session.specs.Held.{HasJust, IsAsLongAsCanBe, AreCut}
+
+-- a version more of a list is one more of its set
+listed_more : (front : List Name) (v w : Name) → is_listed (front ++ v ∷ []) w ≡ (name_eq v w || is_listed front w)
+listed_more front v w =
+    list_any-append (name_eq w) front (v ∷ [])
+    ∙ (ap (λ (b : Bool). is_listed front w || b) (sym (or_nothing (name_eq w v)) ∙ name_eq-symmetric w v)
+      ∙ or_comm (is_listed front w) (name_eq v w))
+
+-- a vector with a version more
+pub has_more : (front : List Name) (v : Name) (old new : List AuthorColumn) → HasJust front old → IsSame (vector_has new) (with_version (vector_has old) v) → HasJust (front ++ v ∷ []) new
+has_more front v old new has more = λ w. more w ∙ (ap (λ (b : Bool). name_eq v w || b) (has w) ∙ sym (listed_more front v w))
+
+-- a vector that has no room for a version more
+pub is_full_at : (front : List Name) (v : Name) (old : List AuthorColumn) → HasJust front old → HasTooManyHoles (with_version (vector_has old) v) → IsAsLongAsCanBe front v
+is_full_at front v old has many = record {
+  author = many.author;
+  author_in = many.author_in;
+  column = many.column;
+  apart = many.apart;
+  in_range = many.in_range;
+  means = λ c.
+    let w : Name = record { author = many.author; counter = c } in
+    many.means c ∙ (ap (λ (b : Bool). name_eq v w || b) (has w) ∙ sym (listed_more front v w));
+  many = many.many;
+}
+
+-- a full vector, and those that cut what follows
+pub cut_behind : (front back : List Name) (next : Name) (v : List AuthorColumn) (vs : List (List AuthorColumn)) → HasJust front v → IsAsLongAsCanBe front next → AreCut (next ∷ back) vs → AreCut (front ++ next ∷ back) (v ∷ vs)
+cut_behind front back next v [] has full cut = absurd cut
+cut_behind front back next v (w ∷ vs) has full cut = (front, next, back, refl, has, full, cut)
+
+-- what cuts the front part and the rest cuts, behind the vectors that are done, the whole
+abbrev pub Extends : (whole front rest : List Name) → (done : List (List AuthorColumn)) → Type 0
+Extends whole front rest done = (vs : List (List AuthorColumn)) → AreCut (front ++ rest) vs → AreCut whole (done ++ vs)
+
+module _ (whole front rest : List Name) (v : Name) (done : List (List AuthorColumn)) (vector : List AuthorColumn) where
+  pub extends_front : Extends whole front (v ∷ rest) done → Extends whole (front ++ v ∷ []) rest done
+  extends_front extends vs cut = extends vs (subst (λ (l : List Name). AreCut l vs) (append_assoc front (v ∷ []) rest) cut)
+
+  pub extends_done : Extends whole front (v ∷ rest) done → HasJust front vector → IsAsLongAsCanBe front v → Extends whole (v ∷ []) rest (done ++ vector ∷ [])
+  extends_done extends has full vs cut =
+      subst (λ (l : List (List AuthorColumn)). AreCut whole l) (sym (append_assoc done (vector ∷ []) vs)) (extends (vector ∷ vs) (cut_behind front rest v vector vs has full cut))
+
+pub extends_whole : (whole front : List Name) (done : List (List AuthorColumn)) (vector : List AuthorColumn) → Extends whole front [] done → HasJust front vector → AreCut whole (done ++ vector ∷ [])
+extends_whole whole front done vector extends has = extends (vector ∷ []) (λ w. has w ∙ ap (λ (l : List Name). is_listed l w) (sym (append-nil front)))
+
+-- the versions from a place on
+pub versions_from : (rs : List Rev) (k : ℕ) (r : Rev) → k < length rs → r ≡ get_or rs k r → map version_of (drop k rs) ≡ r.version ∷ map version_of (drop (k + 1) rs)
+versions_from rs k r within is =
+    let next : suc k ≡ k + 1 = omega arith in
+    ap (λ (l : List Rev). map version_of l) (drop-cons rs k r within)
+    ∙ (ap (λ (x : Rev). x.version ∷ map version_of (drop (suc k) rs)) (sym is) ∙ ap (λ (n : ℕ). r.version ∷ map version_of (drop n rs)) next)
+
+pub none_from : (rs : List Rev) (k : ℕ) → length rs ≤ k → map version_of (drop k rs) ≡ []
+none_from [] zero past = refl
+none_from [] (suc k) past = refl
+none_from (x ∷ rs) zero past = absurd (omega arith)
+none_from (x ∷ rs) (suc k) past = none_from rs k (omega arith)
+
+-- one vector more, by another name
+pub pushed : (done new : List (List AuthorColumn)) (x y : List AuthorColumn) → new ≡ done ++ x ∷ [] → x ≡ y → new ≡ done ++ y ∷ []
+pushed done new x y is same = is ∙ ap (λ (v : List AuthorColumn). done ++ v ∷ []) same

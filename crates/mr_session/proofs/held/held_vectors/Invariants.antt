@@ -1,0 +1,12 @@
+use Rattle.std.proofs.Common.{◌++◌, List, map, drop}
+use Rattle.mr_version.specs.Name.{Name}
+use Rattle.mr_concise.specs.declared.vector.AuthorColumn.{AuthorColumn}
+use Rattle.mr_store.specs.Revisions.{version_of}
+use Rattle.mr_session.specs.Held.{HasJust, AreCut}
+use Rattle.mr_session.proofs.held.held_vectors.Given as goal
+
+-- The vector has the versions of a front part; with whatever cuts that part and what is left, the vectors cut all.
+abbrev pub invariant-loop-revision : goal.invariant-loop-revision
+invariant-loop-revision l =
+    (front : List Name) × HasJust front l.vector
+    × ((vs : List (List AuthorColumn)) → AreCut (front ++ map version_of (drop l.revision-index l.revisions)) vs → AreCut (map version_of l.revisions) (l.vectors.items ++ vs))

@@ -1,0 +1,48 @@
+//! The held versions of a source, as a full stream tells them.
+ghost use Rattle.std.specs.Prelude.{[], ◌∷◌, map, IfOk};
+ghost use Rattle.mr_store.specs.Revisions.{version_of};
+ghost use Rattle.mr_session.specs.Held.{HasJust, AreCut};
+
+use mr_concise::ConciseVector;
+use mr_forms::{FormFault, VersionSet};
+use mr_madewith::Revision;
+use mr_version::Version;
+use std::alloc::{AllocError, Global};
+use std::collections::VecDeque;
+use std::mem;
+
+// The vector of one version. It has one hole at most, so only memory can be missing.
+fn vector_of(alloc: Global, version: Version) -> Result<ConciseVector, AllocError>
+    ensures { IfOk result (HasJust (version ∷ [])) }
+{
+    let mut vector = ConciseVector::new(alloc);
+    match vector.insert(version) {
+        Ok(()) => Ok(vector),
+        Err(_) => Err(AllocError),
+    }
+}
+
+/// The versions of these revisions, in order, in as few vectors as that order allows: a new vector is begun
+/// where a column of one would get too many holes. No revisions give one empty vector.
+pub fn held_vectors(
+    alloc: Global,
+    revisions: &[Revision],
+) -> Result<VecDeque<ConciseVector>, AllocError>
+    ensures { IfOk result (λ vectors. AreCut (map version_of revisions.now) vectors.items) }
+{
+    let mut vectors = VecDeque::new(alloc);
+    let mut vector = ConciseVector::new(alloc);
+    for revision in revisions {
+        let version = revision.version();
+        match vector.insert(version) {
+            Ok(()) => {}
+            Err(FormFault::TooManyHoles) => {
+                let next = vector_of(alloc, version)?;
+                vectors.push_back(mem::replace(&mut vector, next))?;
+            }
+            Err(_) => return Err(AllocError),
+        }
+    }
+    vectors.push_back(vector)?;
+    Ok(vectors)
+}
