@@ -14,5 +14,5 @@ mod PlaceLemmas
 mod DraftLemmas
 mod Reading
 mod LabelLemmas
-mod UniqueLemmas
+pub mod UniqueLemmas
 mod WrittenLemmas

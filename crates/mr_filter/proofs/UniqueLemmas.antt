@@ -112,7 +112,7 @@ SpellsConditions-unique text given other x y =
     ]
 
 -- labels that rise are determined by what is among them
-AreLabelsOf-unique : (given xs ys : List (List ℕ)) → AreLabelsOf given xs → AreLabelsOf given ys → xs ≡ ys
+pub AreLabelsOf-unique : (given xs ys : List (List ℕ)) → AreLabelsOf given xs → AreLabelsOf given ys → xs ≡ ys
 AreLabelsOf-unique given xs ys x y =
     let same_test : eq_by_cmp text_cmp ≡ text_eq = λ i a b. sym (texts_ties a b) i in
     let same : (label : List ℕ) → list_any (eq_by_cmp text_cmp label) xs ≡ list_any (eq_by_cmp text_cmp label) ys =

@@ -22,7 +22,7 @@ use Rattle.mr_replica.specs.declared.event.Event.TheVariants.{Create, Edit}
 use Rattle.mr_replica.specs.declared.event.Reply.{Reply}
 use Rattle.mr_replica.specs.declared.event.Reply.TheVariants.{Issued}
 use Rattle.mr_replica.specs.declared.refusal.Refusal.{Refusal}
-use Rattle.mr_replica.specs.declared.refusal.Refusal.TheVariants.{OutOfMemory, NoBase, NotHeld, MixedItems, OwnHeadLeft, TooManyHoles, TooManyItems, LogFull}
+use Rattle.mr_replica.specs.declared.refusal.Refusal.TheVariants.{OutOfMemory, TooManyHoles, TooManyItems}
 
 -- the fault of learning a version where memory is there, as a refusal
 pub refused_learning : {K V : Type 0} (form : Form K) (made : Result V FormFault) (pairs : Pairs) (f : FormFault) → made ≢ Err faults.TooManyHoles → f ≢ faults.OutOfMemory
@@ -35,6 +35,7 @@ module _ {K : Type 0} (form : Form K) (s : State K) (i : Issue) (event : Event) 
   -- what comes of an issue
   abbrev pub AnswersIssue : Result Reply Refusal → State K → Type 0
   AnswersIssue (Ok (Issued v)) new = All (Fits form) (wanted_by_issue form s i) × Issues form s i v event new
+  AnswersIssue (Ok reply) new = ⊥
   AnswersIssue (Err OutOfMemory) new = All (Fits form) (wanted_by_issue form s i) × (new ≡ s)
   AnswersIssue (Err e) new = FirstFault form e (wanted_by_issue form s i) × (new ≡ s)
 
@@ -54,14 +55,10 @@ module _ {K : Type 0} (form : Form K) (s : State K) (i : Issue) (event : Event) 
       where
         go : (e : Refusal) → RefusesMade form made (version_learned form s i.item) e → AnswersIssue (Err e) new
         go OutOfMemory h = (all_fit (λ many. cc (sym h.0 ∙ many)) h.1, same)
-        go NoBase h = absurd h
-        go (NotHeld v) h = absurd h
-        go MixedItems h = absurd h
-        go (OwnHeadLeft v) h = absurd h
         go TooManyHoles (inl many) = (inl (holes.0 many), same)
         go TooManyHoles (inr h) = (inr (vector_fits h.0, inl h.1), same)
         go TooManyItems h = (inr (vector_fits h.0, inl h.1), same)
-        go LogFull h = absurd h
+        go e h = absurd h
 
     -- an issue that found no memory
     pub unmade_issue : (answer : Result Reply Refusal) (new : State K) → answer ≡ Err OutOfMemory → new ≡ s → made ≢ Err faults.TooManyHoles → Fits form (Knowledge (version_learned form s i.item)) → AnswersIssue answer new
@@ -77,36 +74,21 @@ module _ {K : Type 0} (form : Form K) (s : State K) (i : Issue) (event : Event) 
 
         go : (answer : Result Reply Refusal) → IssuesRevision form s (revision_for s i columns) event answer new → AnswersIssue answer new
         go (Ok (Issued v)) h = (all_fit few fits, (h.0, columns, of, h.1, h.2))
+        go (Ok reply) h = absurd h
         go (Err OutOfMemory) h = (all_fit few fits, h.1)
-        go (Err NoBase) h = cc h.0
-        go (Err (NotHeld v)) h = cc h.0
-        go (Err MixedItems) h = cc h.0
-        go (Err (OwnHeadLeft v)) h = cc h.0
-        go (Err TooManyHoles) h = cc h.0
-        go (Err TooManyItems) h = cc h.0
-        go (Err LogFull) h = cc h.0
+        go (Err e) h = cc h.0
 
 module _ {K : Type 0} (form : Form K) (s : State K) where
   -- it answers a Create
   pub answers_create : (message : Mail) (answer : Result Reply Refusal) (new : State K) → AnswersIssue form s (created s message) (Create message) answer new → Answers form s (Create message) answer new
   answers_create message (Ok (Issued v)) new h = h
+  answers_create message (Ok reply) new h = absurd h
   answers_create message (Err OutOfMemory) new h = h
-  answers_create message (Err NoBase) new h = h
-  answers_create message (Err (NotHeld v)) new h = h
-  answers_create message (Err MixedItems) new h = h
-  answers_create message (Err (OwnHeadLeft v)) new h = h
-  answers_create message (Err TooManyHoles) new h = h
-  answers_create message (Err TooManyItems) new h = h
-  answers_create message (Err LogFull) new h = h
+  answers_create message (Err e) new h = h
 
   -- it answers an Edit
   pub answers_edit : (bases : List Name) (message : Mail) (answer : Result Reply Refusal) (new : State K) → AnswersIssue form s (edited s bases message) (Edit bases message) answer new → Answers form s (Edit bases message) answer new
   answers_edit bases message (Ok (Issued v)) new h = h
+  answers_edit bases message (Ok reply) new h = absurd h
   answers_edit bases message (Err OutOfMemory) new h = h
-  answers_edit bases message (Err NoBase) new h = h
-  answers_edit bases message (Err (NotHeld v)) new h = h
-  answers_edit bases message (Err MixedItems) new h = h
-  answers_edit bases message (Err (OwnHeadLeft v)) new h = h
-  answers_edit bases message (Err TooManyHoles) new h = h
-  answers_edit bases message (Err TooManyItems) new h = h
-  answers_edit bases message (Err LogFull) new h = h
+  answers_edit bases message (Err e) new h = h

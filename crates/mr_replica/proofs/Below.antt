@@ -24,10 +24,10 @@ use Rattle.mr_replica.specs.Sound.{IsNoLater, AreNoLater, IsSound}
 use Rattle.mr_replica.specs.Issue.{revisions_of, below_for}
 use Rattle.mr_mail.specs.Mail.{Mail}
 use Rattle.mr_replica.specs.Issued.{IsNext}
-use Rattle.mr_replica.specs.Create.{log_full}
+use Rattle.mr_replica.specs.Admission.{retired, log_full}
 use Rattle.mr_replica.specs.Edit.{not_held, are_all_of, own_left, item_refusal, edit_refusal, edited_item}
-use Rattle.mr_replica.specs.declared.refusal.Refusal.TheVariants.{NotHeld, MixedItems, OwnHeadLeft}
-use Rattle.mr_replica.proofs.Choice.{first_none, map_none, found_has}
+use Rattle.mr_replica.specs.declared.refusal.Refusal.TheVariants.{NoBase, NotHeld, MixedItems, OwnHeadLeft}
+use Rattle.mr_replica.proofs.Choice.{first_none, later_none, map_none, found_has}
 
 -- a counter below the next was issued
 lower : (a b c n : ℕ) → ((a == b) && (nat_le 1 c && nat_lt c (n + 1))) ≡ true → c ≤ n
@@ -45,11 +45,15 @@ found_bases : (find : Name → Option Rev) (bases : List Name) (v : Name) → li
 found_bases find [] v = refl
 found_bases find (b ∷ bs) v = found_base v (find b) (list_any (λ b. in_some by_base (find b) v) bs) (filter_map find bs) (found_bases find bs v)
 
+-- an edit of no base is not admitted
+needs_bases : {K : Type 0} (s : State K) → edit_refusal s [] ≡ None → Some NoBase ≡ None
+needs_bases s admitted = later_none (retired s) (Some NoBase) admitted
+
 module _ {K : Type 0} (s : State K) where
   -- the held bases, the last version and the own column are what an admitted edit supersedes
   pub below_for-sources : (h : Holdings) (item : Name) (bases : List Name) (last : Option Rev) (new : Name) → h.heads ≡ s.heads → h.push_outs ≡ s.push_outs → last ≡ last_of s.trail item → new ≡ next_version s
       → edit_refusal s bases ≡ None → filled_below (in_all (by_held h) bases) last new ≡ below_for s item bases
-  below_for-sources h item [] last new heads push_outs last_is new_is admitted = cc admitted
+  below_for-sources h item [] last new heads push_outs last_is new_is admitted = cc (needs_bases s admitted)
   below_for-sources h item (b ∷ bs) last new heads push_outs last_is new_is admitted =
       let lists : h.heads ++ h.push_outs ≡ s.heads ++ s.push_outs = ap (λ (rs : List Rev). rs ++ h.push_outs) heads ∙ ap (λ (rs : List Rev). s.heads ++ rs) push_outs in
       let of_bases : (v : Name) → in_all (by_held h) (b ∷ bs) v ≡ by_bases (revisions_of s (b ∷ bs)) v =
@@ -127,12 +131,12 @@ module _ {K : Type 0} (s : State K) (sound : IsSound s) where
 
   -- an admitted edit supersedes the item's first version
   below_has_item : (bases : List Name) → edit_refusal s bases ≡ None → below_for s (edited_item s bases) bases (edited_item s bases) ≡ true
-  below_has_item [] admitted = cc admitted
+  below_has_item [] admitted = cc (needs_bases s admitted)
   below_has_item (b ∷ bs) admitted =
       let bases = b ∷ bs in
       let later = option_map OwnHeadLeft (own_left s (item_of_held s b) bases) orelse log_full s in
       let mixed = refused_if (not (are_all_of s (item_of_held s b) bases)) MixedItems in
-      let one_item : item_refusal s bases ≡ None = first_none (item_refusal s bases) later admitted in
+      let one_item : item_refusal s bases ≡ None = first_none (item_refusal s bases) later (later_none (retired s) (item_refusal s bases orelse later) admitted) in
       let all_held : not_held s bases ≡ None = map_none NotHeld (not_held s bases) (first_none (option_map NotHeld (not_held s bases)) mixed one_item) in
       has_item_by b (revisions_of s bs) (last_of s.trail (item_of_held s b)) (next_version s) (held s b) refl (unnamed (is_none (held s b)) b (not_held s bs) all_held)
 

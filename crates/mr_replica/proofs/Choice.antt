@@ -14,11 +14,15 @@ pub first_none : {A : Type 0} (a b : Option A) → (a orelse b) ≡ None → a �
 first_none None b h = refl
 first_none (Some x) b h = cc
 
+pub later_none : {A : Type 0} (a b : Option A) → (a orelse b) ≡ None → b ≡ None
+later_none None b h = h
+later_none (Some x) b h = cc
+
 pub map_none : {A B : Type 0} (f : A → B) (o : Option A) → option_map f o ≡ None → o ≡ None
 map_none f None h = refl
 map_none f (Some x) h = cc
 
-some_same : {X : Type 0} (a b : X) → Some a ≡ Some b → a ≡ b
+pub some_same : {X : Type 0} (a b : X) → Some a ≡ Some b → a ≡ b
 some_same a b h = cc
 
 -- what is found has the fact that all have, and passes the test

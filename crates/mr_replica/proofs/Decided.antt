@@ -5,18 +5,22 @@ use Rattle.std.proofs.lemmas.List.Elements.{All-head, All-tail}
 use Rattle.mr_version.specs.Name.{Name}
 use Rattle.mr_forms.specs.Known.{Form}
 use Rattle.mr_concise.specs.declared.vector.AuthorColumn.{AuthorColumn}
+use Rattle.mr_madewith.specs.Revision.{Rev}
 use Rattle.mr_madewith.proofs.MadeWithLemmas.{columns_unique}
+use Rattle.mr_wire.specs.declared.frame.Receipt.{Receipt}
 use Rattle.mr_replica.specs.State.{State}
 use Rattle.mr_replica.specs.Issue.{Issue, Wanted, Wanted.Vector, Wanted.Knowledge, below_of_issue, Fits, HasFault, FirstFault, revision_for, issuing, logged, Issues}
 use Rattle.mr_replica.specs.Create.{created}
 use Rattle.mr_replica.specs.Edit.{edited}
+use Rattle.mr_replica.specs.Vouch.{receipt_for, IsReceiptFor}
+use Rattle.mr_replica.proofs.Choice.{some_same}
 use Rattle.mr_replica.specs.Step.{first_refusal, wanted_by, RefusesLate, Changes, Answers, Steps, IsExact, IsDecided}
 use Rattle.mr_replica.specs.declared.event.Event.{Event}
-use Rattle.mr_replica.specs.declared.event.Event.TheVariants.{Create, Edit}
+use Rattle.mr_replica.specs.declared.event.Event.TheVariants.{Create, Edit, Retire, CutIn, CutOut, Vouch, Release}
 use Rattle.mr_replica.specs.declared.event.Reply.{Reply}
-use Rattle.mr_replica.specs.declared.event.Reply.TheVariants.{Issued}
+use Rattle.mr_replica.specs.declared.event.Reply.TheVariants.{Issued, Done, Vouched}
 use Rattle.mr_replica.specs.declared.refusal.Refusal.{Refusal}
-use Rattle.mr_replica.specs.declared.refusal.Refusal.TheVariants.{OutOfMemory, NoBase, NotHeld, MixedItems, OwnHeadLeft, TooManyHoles, TooManyItems, LogFull}
+use Rattle.mr_replica.specs.declared.refusal.Refusal.TheVariants.{OutOfMemory, TooManyHoles, TooManyItems}
 
 module _ {K : Type 0} (form : Form K) where
   -- what fits has no fault
@@ -25,12 +29,7 @@ module _ {K : Type 0} (form : Form K) where
   no_fault TooManyHoles (Knowledge pairs) fits fault = fits.0 fault
   no_fault TooManyItems (Knowledge pairs) fits fault = fits.1 fault.0
   no_fault TooManyItems (Vector set) fits fault = fault
-  no_fault OutOfMemory w fits fault = fault
-  no_fault NoBase w fits fault = fault
-  no_fault (NotHeld v) w fits fault = fault
-  no_fault MixedItems w fits fault = fault
-  no_fault (OwnHeadLeft v) w fits fault = fault
-  no_fault LogFull w fits fault = fault
+  no_fault e w fits fault = fault
 
   no_first_fault : (e : Refusal) (ws : List Wanted) → All (Fits form) ws → FirstFault form e ws → ⊥
   no_first_fault e [] fits fault = fault
@@ -45,18 +44,9 @@ module _ {K : Type 0} (form : Form K) where
   one_fault TooManyHoles TooManyItems (Knowledge pairs) x y = absurd (y.1 x)
   one_fault TooManyItems TooManyHoles (Vector set) x y = absurd x
   one_fault TooManyItems TooManyHoles (Knowledge pairs) x y = absurd (x.1 y)
-  one_fault OutOfMemory f w x y = absurd x
-  one_fault NoBase f w x y = absurd x
-  one_fault (NotHeld v) f w x y = absurd x
-  one_fault MixedItems f w x y = absurd x
-  one_fault (OwnHeadLeft v) f w x y = absurd x
-  one_fault LogFull f w x y = absurd x
-  one_fault e OutOfMemory w x y = absurd y
-  one_fault e NoBase w x y = absurd y
-  one_fault e (NotHeld v) w x y = absurd y
-  one_fault e MixedItems w x y = absurd y
-  one_fault e (OwnHeadLeft v) w x y = absurd y
-  one_fault e LogFull w x y = absurd y
+  one_fault TooManyHoles f w x y = absurd y
+  one_fault TooManyItems f w x y = absurd y
+  one_fault e f w x y = absurd x
 
   one_first_fault : (e f : Refusal) (ws : List Wanted) → FirstFault form e ws → FirstFault form f ws → e ≡ f
   one_first_fault e f [] x y = absurd x
@@ -68,13 +58,7 @@ module _ {K : Type 0} (form : Form K) where
   module _ (s : State K) (event : Event) where
     late_fault : (e : Refusal) → e ≢ OutOfMemory → RefusesLate form s event e → FirstFault form e (wanted_by form s event)
     late_fault OutOfMemory ne h = absurd (ne refl)
-    late_fault NoBase ne h = h
-    late_fault (NotHeld v) ne h = h
-    late_fault MixedItems ne h = h
-    late_fault (OwnHeadLeft v) ne h = h
-    late_fault TooManyHoles ne h = h
-    late_fault TooManyItems ne h = h
-    late_fault LogFull ne h = h
+    late_fault e ne h = h
 
     -- an issue has one version and leads to one replica
     same_issue : (i : Issue) (v w : Name) (new other : State K) → IsExact form → Issues form s i v event new → Issues form s i w event other → (w ≡ v) × (other ≡ new)
@@ -91,14 +75,38 @@ module _ {K : Type 0} (form : Form K) where
   issued_same : (v w : Name) → w ≡ v → (let r : Reply = Issued w in r ≡ Issued v)
   issued_same v w is = ap (λ (u : Name). Issued u) is
 
+  -- a version has one receipt
+  same_receipt : (s : State K) (version : Name) (a b : Receipt) → IsReceiptFor s version a → IsReceiptFor s version b → b ≡ a
+  same_receipt s version a b h k = k.2 ∙ ap (λ (r : Rev). receipt_for s.id r) (some_same k.0 h.0 (sym k.1 ∙ h.1)) ∙ sym h.2
+
   -- a reply stands for one change
   same_change : (s : State K) (event : Event) (r q : Reply) (new other : State K) → IsExact form → Changes form s event r new → Changes form s event q other → (q ≡ r) × (other ≡ new)
   same_change s (Create message) (Issued v) (Issued w) new other exact h k =
       let same = same_issue s (Create message) (created s message) v w new other exact h k in
       (issued_same v w same.0, same.1)
+  same_change s (Create message) (Issued v) q new other exact h k = absurd k
+  same_change s (Create message) r q new other exact h k = absurd h
   same_change s (Edit bases message) (Issued v) (Issued w) new other exact h k =
       let same = same_issue s (Edit bases message) (edited s bases message) v w new other exact h k in
       (issued_same v w same.0, same.1)
+  same_change s (Edit bases message) (Issued v) q new other exact h k = absurd k
+  same_change s (Edit bases message) r q new other exact h k = absurd h
+  same_change s (Vouch version) (Vouched a) (Vouched b) new other exact h k =
+      (ap (λ (x : Receipt). Vouched x) (same_receipt s version a b h.0 k.0), k.1 ∙ sym h.1)
+  same_change s (Vouch version) (Vouched a) q new other exact h k = absurd k
+  same_change s (Vouch version) r q new other exact h k = absurd h
+  same_change s Retire Done Done new other exact h k = (refl, k ∙ sym h)
+  same_change s Retire Done q new other exact h k = absurd k
+  same_change s Retire r q new other exact h k = absurd h
+  same_change s (CutIn session) Done Done new other exact h k = (refl, k ∙ sym h)
+  same_change s (CutIn session) Done q new other exact h k = absurd k
+  same_change s (CutIn session) r q new other exact h k = absurd h
+  same_change s (CutOut stream) Done Done new other exact h k = (refl, k ∙ sym h)
+  same_change s (CutOut stream) Done q new other exact h k = absurd k
+  same_change s (CutOut stream) r q new other exact h k = absurd h
+  same_change s (Release receipt) Done Done new other exact h k = (refl, k ∙ sym h)
+  same_change s (Release receipt) Done q new other exact h k = absurd k
+  same_change s (Release receipt) r q new other exact h k = absurd h
 
   answered : (s : State K) (event : Event) (a b : Result Reply Refusal) (new other : State K) → IsExact form → Answers form s event a new → Answers form s event b other → a ≢ Err OutOfMemory → b ≢ Err OutOfMemory → (b ≡ a) × (other ≡ new)
   answered s event (Ok r) (Ok q) new other exact h k na nb =

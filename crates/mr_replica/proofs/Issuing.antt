@@ -16,6 +16,7 @@ use Rattle.mr_replica.specs.Sound.{AreNoLater, AreIssued, IsSound}
 use Rattle.mr_replica.specs.Issue.{is_selected, entered_if, issuing, logged}
 use Rattle.mr_replica.specs.Issued.{IsNext}
 use Rattle.mr_replica.specs.declared.event.Event.{Event}
+use Rattle.mr_replica.proofs.Keeping.{within_later}
 
 -- what holds of all and of one more holds with that one at its place
 All-placed : {X : Type 0} (name : X → Name) (P : X → Type 0) (r : X) (xs : List X) → P r → All P xs → All P (placed name r xs)
@@ -89,4 +90,6 @@ module _ {K : Type 0} (s : State K) (k : K) (r : Rev) (event : Event) (sound : I
     heads_issued = issued_entered (is_selected s r) s.heads sound.heads_issued;
     push_outs_issued = issued_entered (not (is_selected s r)) s.push_outs sound.push_outs_issued;
     trail_issued = issued_noted;
+    sessions_within = within_later (λ session. session.next) s.log event s.sessions sound.sessions_within;
+    streams_within = within_later (λ stream. stream.next) s.log event s.streams sound.streams_within;
   }

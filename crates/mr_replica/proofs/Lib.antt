@@ -1,7 +1,10 @@
 pub mod FragmentLemmas
 pub mod Choice
 pub mod Below
+pub mod Staying
+pub mod Keeping
 pub mod Issuing
+pub mod Releasing
 pub mod Answered
 pub mod Decided
 mod Rows

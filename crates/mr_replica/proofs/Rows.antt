@@ -8,13 +8,20 @@ use Rattle.mr_feed.specs.declared.entry.Entry.TheVariants.{Added, Dropped}
 use Rattle.mr_madewith.specs.Revision.{Rev, has_below}
 use Rattle.mr_store.specs.Revisions.{version_of, entered, left_by, has_conflict}
 use Rattle.mr_filter.specs.Filter.{ClauseParts}
+use Rattle.mr_session.specs.Table.{empty_table, with_opened}
+use Rattle.mr_session.specs.Session.{new_session}
+use Rattle.mr_wire.specs.declared.frame.Receipt.{Receipt}
 use Rattle.mr_replica.specs.State.{State}
 use Rattle.mr_replica.specs.Issue.{below_of_issue, version_learned, issuing}
 use Rattle.mr_replica.specs.Contents.{news_of}
 use Rattle.mr_replica.specs.Edit.{edited}
+use Rattle.mr_replica.specs.Retire.{retiring}
+use Rattle.mr_replica.specs.CutIn.{cutting_in}
+use Rattle.mr_replica.specs.Vouch.{receipt_for}
+use Rattle.mr_replica.specs.Release.{releasing}
 use Rattle.mr_replica.specs.Step.{first_refusal}
-use Rattle.mr_replica.specs.declared.event.Event.TheVariants.{Edit}
-use Rattle.mr_replica.specs.declared.refusal.Refusal.TheVariants.{NoBase, NotHeld, MixedItems, OwnHeadLeft, LogFull}
+use Rattle.mr_replica.specs.declared.event.Event.TheVariants.{Edit, Retire, CutIn, CutOut, Vouch, Release}
+use Rattle.mr_replica.specs.declared.refusal.Refusal.TheVariants.{Retired, NoBase, NotHeld, MixedItems, OwnHeadLeft, LogFull, NoSession, NoStream, NotPushedOut, PushOutsLeft}
 
 abbrev name : ℕ → ℕ → Name
 name author counter = record { author = author; counter = counter }
@@ -39,7 +46,7 @@ edited_below s bases = below_of_issue s (edited s bases mail)
 
 -- a replica 0 that issued so many versions, with these heads and last own versions
 abbrev replica : ℕ → List Rev → List Rev → State (Unit {0})
-replica issued heads trail = record { id = 0; filter = all_messages; event_limit = 9; issued = issued; knowledge = tt; heads = heads; push_outs = []; trail = trail; feed = []; log = [] }
+replica issued heads trail = record { id = 0; filter = all_messages; event_limit = 9; issued = issued; knowledge = tt; heads = heads; push_outs = []; trail = trail; feed = []; log = []; is_retired = false; sessions = empty_table; streams = empty_table }
 
 -- ---- a conflict and its merge: 1.1 and 2.1 both replace 0.1
 
@@ -162,3 +169,68 @@ heads_stay = refl
 
 told_nothing : (issuing selects_nothing tt second).feed ≡ []
 told_nothing = refl
+
+-- ---- retirement: push-outs keep it, a full log does not
+
+push_outs_left : first_refusal selects_nothing Retire ≡ Some PushOutsLeft
+push_outs_left = refl
+
+retires_past_a_full_log : first_refusal (record half_merged { event_limit = 0 }) Retire ≡ None
+retires_past_a_full_log = refl
+
+abbrev gone : State (Unit {0})
+gone = retiring selects_nothing
+
+retirement_keeps_push_outs : map version_of gone.push_outs ≡ name 2 1 ∷ []
+retirement_keeps_push_outs = refl
+
+-- a retired replica goes on telling others, and nothing else
+retired_before_push_outs_left : first_refusal gone Retire ≡ Some Retired
+retired_before_push_outs_left = refl
+
+retired_before_no_base : first_refusal gone (Edit [] mail) ≡ Some Retired
+retired_before_no_base = refl
+
+-- ---- cuts: one session or stream is closed, and its number is not used again
+
+abbrev two_sessions : State (Unit {0})
+two_sessions = record conflict { sessions = with_opened (with_opened empty_table new_session) new_session }
+
+no_session : first_refusal two_sessions (CutIn 3) ≡ Some NoSession
+no_session = refl
+
+retired_before_no_session : first_refusal (retiring two_sessions) (CutIn 3) ≡ Some Retired
+retired_before_no_session = refl
+
+one_session_left : cutting_in two_sessions 1 ≡ record two_sessions { sessions = record { opened = 2; open_ones = (record { number = 2; value = new_session }) ∷ [] } }
+one_session_left = refl
+
+no_stream : first_refusal (retiring two_sessions) (CutOut 1) ≡ Some NoStream
+no_stream = refl
+
+-- ---- receipts: a head is vouched for, a push-out is not
+
+vouches_for_a_head : first_refusal selects_nothing (Vouch (name 1 1)) ≡ None
+vouches_for_a_head = refl
+
+vouches_for_no_push_out : first_refusal selects_nothing (Vouch (name 2 1)) ≡ Some (NotHeld (name 2 1))
+vouches_for_no_push_out = refl
+
+not_held_before_full_log : first_refusal (record selects_nothing { event_limit = 0 }) (Vouch (name 2 1)) ≡ Some (NotHeld (name 2 1))
+not_held_before_full_log = refl
+
+-- the receipt of 2.2, which supersedes 0.1 and 2.1, frees 2.1 and not 1.1; of the filled column 2.1 of another item stays
+abbrev receipt : Receipt
+receipt = receipt_for 3 (rev (name 2 2) (column 0 1 ∷ column 2 1 ∷ []))
+
+abbrev pushing_out : List Rev → State (Unit {0})
+pushing_out rs = record selects_nothing { push_outs = rs }
+
+releases_what_is_superseded : map version_of (releasing (pushing_out (rev (name 1 2) [] ∷ rev (name 2 1) [] ∷ rev (name 2 2) [] ∷ [])) receipt).push_outs ≡ name 1 2 ∷ []
+releases_what_is_superseded = refl
+
+releases_of_its_item_alone : first_refusal (pushing_out (of_item (name 2 1) ∷ [])) (Release receipt) ≡ Some NotPushedOut
+releases_of_its_item_alone = refl
+
+releases_no_head : map version_of (releasing conflict receipt).heads ≡ name 1 1 ∷ name 2 1 ∷ []
+releases_no_head = refl

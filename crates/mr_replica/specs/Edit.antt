@@ -11,7 +11,7 @@ use Rattle.mr_store.specs.Revisions.{versions_of}
 use Rattle.mr_replica.specs.State.{State, next_version, held, item_of_held}
 use Rattle.mr_replica.specs.Refusal.{◌orelse◌, refused_if}
 use Rattle.mr_replica.specs.Issue.{Issue}
-use Rattle.mr_replica.specs.Create.{log_full}
+use Rattle.mr_replica.specs.Admission.{retired, log_full}
 use Rattle.mr_replica.specs.declared.refusal.Refusal.{Refusal}
 use Rattle.mr_replica.specs.declared.refusal.Refusal.TheVariants.{NoBase, NotHeld, MixedItems, OwnHeadLeft}
 
@@ -49,9 +49,9 @@ module _ {K : Type 0} where
   item_refusal s (b ∷ bs) =
       option_map NotHeld (not_held s (b ∷ bs)) orelse refused_if (not (are_all_of s (item_of_held s b) (b ∷ bs))) MixedItems
 
-  -- why it is refused: the bases must also leave out no own version of the item, and the log have a place
+  -- why it is refused: the bases must also leave out no own version of the item
   abbrev pub edit_refusal : State K → List Name → Option Refusal
-  edit_refusal s bases = item_refusal s bases orelse option_map OwnHeadLeft (own_left s (edited_item s bases) bases) orelse log_full s
+  edit_refusal s bases = retired s orelse item_refusal s bases orelse option_map OwnHeadLeft (own_left s (edited_item s bases) bases) orelse log_full s
 
   -- what it issues
   abbrev pub edited : State K → List Name → Mail → Issue

@@ -33,4 +33,5 @@ module _ {K : Type 0} where
   abbrev pub IssuesRevision : Form K → State K → Rev → Event → Result Reply Refusal → State K → Type 0
   IssuesRevision form s r event (Ok (Issued v)) new =
       (v ≡ next_version s) × AreSame (form.known new.knowledge) (version_learned form s r.item) × (new ≡ logged (issuing s new.knowledge r) event)
+  IssuesRevision form s r event (Ok reply) new = ⊥
   IssuesRevision form s r event (Err e) new = (e ≡ OutOfMemory) × (new ≡ s)

@@ -1,9 +1,15 @@
 pub mod State
 pub mod Refusal
+pub mod Admission
 pub mod Sound
 pub mod Issue
 pub mod Create
 pub mod Edit
+pub mod Retire
+pub mod CutIn
+pub mod CutOut
+pub mod Vouch
+pub mod Release
 pub mod Contents
 pub mod Issued
 pub mod Step

@@ -3,11 +3,12 @@ use Rattle.std.specs.Prelude.{ℕ, Bool, if◌then◌else◌, Option, Some, None
 use Rattle.mr_forms.specs.declared.fault.FormFault.{FormFault}
 use Rattle.mr_forms.specs.declared.fault.FormFault.TheVariants as fault
 use Rattle.mr_replica.specs.declared.refusal.Refusal.{Refusal}
-use Rattle.mr_replica.specs.declared.refusal.Refusal.TheVariants.{OutOfMemory, NoBase, NotHeld, MixedItems, OwnHeadLeft, TooManyHoles, TooManyItems, LogFull}
+use Rattle.mr_replica.specs.declared.refusal.Refusal.TheVariants.{OutOfMemory, Retired, NoBase, NotHeld, MixedItems, OwnHeadLeft, TooManyHoles, TooManyItems, LogFull, NoSession, NoStream, NotPushedOut, PushOutsLeft}
 
 -- the number by which a host knows the refusal
 abbrev pub refusal_number : Refusal → ℕ
 refusal_number OutOfMemory = 0
+refusal_number Retired = 1
 refusal_number NoBase = 2
 refusal_number (NotHeld version) = 3
 refusal_number MixedItems = 4
@@ -15,10 +16,15 @@ refusal_number (OwnHeadLeft version) = 5
 refusal_number TooManyHoles = 6
 refusal_number TooManyItems = 7
 refusal_number LogFull = 8
+refusal_number NoSession = 12
+refusal_number NoStream = 18
+refusal_number NotPushedOut = 20
+refusal_number PushOutsLeft = 21
 
 -- the name under which it is printed
 abbrev pub refusal_name : Refusal → List ℕ
 refusal_name OutOfMemory = codes "OutOfMemory"
+refusal_name Retired = codes "Retired"
 refusal_name NoBase = codes "NoBase"
 refusal_name (NotHeld version) = codes "NotHeld"
 refusal_name MixedItems = codes "MixedItems"
@@ -26,6 +32,10 @@ refusal_name (OwnHeadLeft version) = codes "OwnHeadLeft"
 refusal_name TooManyHoles = codes "TooManyHoles"
 refusal_name TooManyItems = codes "TooManyItems"
 refusal_name LogFull = codes "LogFull"
+refusal_name NoSession = codes "NoSession"
+refusal_name NoStream = codes "NoStream"
+refusal_name NotPushedOut = codes "NotPushedOut"
+refusal_name PushOutsLeft = codes "PushOutsLeft"
 
 -- which refusal a form's fault is
 abbrev pub refusal_of : FormFault → Refusal

@@ -4,6 +4,7 @@ use Rattle.mr_version.specs.Name.{Name}
 use Rattle.mr_concise.specs.Vector.{vector_has}
 use Rattle.mr_concise.specs.declared.vector.AuthorColumn.{AuthorColumn}
 use Rattle.mr_madewith.specs.Revision.{Rev, IsRevision}
+use Rattle.mr_session.specs.Table.{Table, Numbered}
 use Rattle.mr_replica.specs.State.{State}
 
 -- the version is no own one, or one of those issued
@@ -20,6 +21,11 @@ pub record AreIssued (id issued : ℕ) (rs : List Rev) : Type 0 where
   pub are : All (λ r. IsRevision r.item r.version r.below) rs
   pub no_later : All (λ r. AreNoLater id issued r.version r.below) rs
 
+-- no more of these were opened than there were events, and none of them has come further than that
+pub record AreWithin {T : Type 0} (next : T → ℕ) (events : ℕ) (table : Table T) : Type 0 where
+  pub opened : table.opened ≤ events
+  pub next_few : All (λ (x : Numbered T). next x.value ≤ events) table.open_ones
+
 pub record IsSound {K : Type 0} (s : State K) : Type 0 where
   pub limit_from : 1 ≤ s.event_limit
   pub limit_to : s.event_limit ≤ 1000000
@@ -27,3 +33,5 @@ pub record IsSound {K : Type 0} (s : State K) : Type 0 where
   pub heads_issued : AreIssued s.id s.issued s.heads
   pub push_outs_issued : AreIssued s.id s.issued s.push_outs
   pub trail_issued : AreIssued s.id s.issued s.trail
+  pub sessions_within : AreWithin (λ session. session.next) (length s.log) s.sessions
+  pub streams_within : AreWithin (λ stream. stream.next) (length s.log) s.streams

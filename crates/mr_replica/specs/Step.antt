@@ -1,14 +1,19 @@
 -- One event of a replica: its refusals, in their order, and the change that each answer stands for.
-use Rattle.std.specs.Prelude.{◌≡◌, ◌≢◌, Option, Some, None, Result, Ok, Err, List, All}
+use Rattle.std.specs.Prelude.{◌≡◌, ◌≢◌, Option, Some, None, Result, Ok, Err, List, [], All}
 use Rattle.mr_forms.specs.Known.{Form, AreSame}
 use Rattle.mr_replica.specs.State.{State}
-use Rattle.mr_replica.specs.Issue.{Wanted, wanted_by_issue, Fits, FirstFault, Issues}
+use Rattle.mr_replica.specs.Issue.{Wanted, wanted_by_issue, Fits, FirstFault, Issues, logged}
 use Rattle.mr_replica.specs.Create.{create_refusal, created}
 use Rattle.mr_replica.specs.Edit.{edit_refusal, edited}
+use Rattle.mr_replica.specs.Retire.{retire_refusal, retiring}
+use Rattle.mr_replica.specs.CutIn.{cut_in_refusal, cutting_in}
+use Rattle.mr_replica.specs.CutOut.{cut_out_refusal, cutting_out}
+use Rattle.mr_replica.specs.Vouch.{vouch_refusal, IsReceiptFor}
+use Rattle.mr_replica.specs.Release.{release_refusal, releasing}
 use Rattle.mr_replica.specs.declared.event.Event.{Event}
-use Rattle.mr_replica.specs.declared.event.Event.TheVariants.{Create, Edit}
+use Rattle.mr_replica.specs.declared.event.Event.TheVariants.{Create, Edit, Retire, CutIn, CutOut, Vouch, Release}
 use Rattle.mr_replica.specs.declared.event.Reply.{Reply}
-use Rattle.mr_replica.specs.declared.event.Reply.TheVariants.{Issued}
+use Rattle.mr_replica.specs.declared.event.Reply.TheVariants.{Issued, Done, Vouched}
 use Rattle.mr_replica.specs.declared.refusal.Refusal.{Refusal}
 use Rattle.mr_replica.specs.declared.refusal.Refusal.TheVariants.{OutOfMemory}
 
@@ -17,16 +22,28 @@ module _ {K : Type 0} where
   abbrev pub first_refusal : State K → Event → Option Refusal
   first_refusal s (Create message) = create_refusal s
   first_refusal s (Edit bases message) = edit_refusal s bases
+  first_refusal s Retire = retire_refusal s
+  first_refusal s (CutIn session) = cut_in_refusal s session
+  first_refusal s (CutOut stream) = cut_out_refusal s stream
+  first_refusal s (Vouch version) = vouch_refusal s version
+  first_refusal s (Release receipt) = release_refusal s receipt
 
   -- what the event wants, in the order of the tries
   abbrev pub wanted_by : Form K → State K → Event → List Wanted
   wanted_by form s (Create message) = wanted_by_issue form s (created s message)
   wanted_by form s (Edit bases message) = wanted_by_issue form s (edited s bases message)
+  wanted_by form s event = []
 
   -- The change that the reply stands for.
   abbrev pub Changes : Form K → State K → Event → Reply → State K → Type 0
   Changes form s (Create message) (Issued v) new = Issues form s (created s message) v (Create message) new
   Changes form s (Edit bases message) (Issued v) new = Issues form s (edited s bases message) v (Edit bases message) new
+  Changes form s Retire Done new = new ≡ logged (retiring s) Retire
+  Changes form s (CutIn session) Done new = new ≡ logged (cutting_in s session) (CutIn session)
+  Changes form s (CutOut stream) Done new = new ≡ logged (cutting_out s stream) (CutOut stream)
+  Changes form s (Vouch version) (Vouched receipt) new = IsReceiptFor s version receipt × (new ≡ logged s (Vouch version))
+  Changes form s (Release receipt) Done new = new ≡ logged (releasing s receipt) (Release receipt)
+  Changes form s event reply new = ⊥
 
   -- A refusal of the forms, or last of all memory.
   abbrev pub RefusesLate : Form K → State K → Event → Refusal → Type 0

@@ -1,8 +1,10 @@
 //! Events and replies.
 ghost use Rattle.std.specs.Prelude.{◌≡◌, IfOk};
 
+use crate::copies::copied_receipt;
 use mr_mail::Message;
 use mr_version::Version;
+use mr_wire::Receipt;
 use std::alloc::AllocError;
 use std::marker::Model;
 
@@ -57,23 +59,42 @@ pub enum Event {
     /// Issue a version that supersedes the bases, which are held versions of one item, with all
     /// that they supersede.
     Edit(Bases, Message),
+    /// Admit nothing more but to tell others.
+    Retire,
+    /// Close the session of this number. What was taken in it stays.
+    CutIn(u64),
+    /// Close the stream of this number.
+    CutOut(u64),
+    /// Give a receipt for the version, which is a head.
+    Vouch(Version),
+    /// Let go of the push-outs of the receipt's item that are its version, or superseded by it.
+    Release(Receipt),
 }
 
 impl Event {
-    /// An equal event. It costs a copy of the bases and one of the message.
+    /// An equal event. It costs a copy of what the event carries.
     pub fn copy(&self) -> Result<Event, AllocError>
         ensures { IfOk result (λ event. event ≡ self.now) }
     {
         match self {
             Event::Create(message) => Ok(Event::Create(message.copy()?)),
             Event::Edit(bases, message) => Ok(Event::Edit(bases.copy()?, message.copy()?)),
+            Event::Retire => Ok(Event::Retire),
+            Event::CutIn(session) => Ok(Event::CutIn(*session)),
+            Event::CutOut(stream) => Ok(Event::CutOut(*stream)),
+            Event::Vouch(version) => Ok(Event::Vouch(*version)),
+            Event::Release(receipt) => Ok(Event::Release(copied_receipt(receipt)?)),
         }
     }
 }
 
 /// What came of an admitted event.
-#[derive(Clone, Copy, Debug, PartialEq, Eq)]
+#[derive(Debug, Drop)]
 pub enum Reply {
-    /// The version was issued.
+    /// The version was issued, by a Create or an Edit.
     Issued(Version),
+    /// It is done: the replica has retired, a session or a stream is closed, or push-outs were let go.
+    Done,
+    /// The receipt that was asked for by a Vouch.
+    Vouched(Receipt),
 }

@@ -12,6 +12,11 @@
 //! it holds until another replica has them. Each change of the heads is an entry of the feed, each
 //! admitted event one of the log.
 //!
+//! A push-out may go once another replica vouches, by a receipt, that it holds that version or one that
+//! supersedes it. A replica that has let go of all its push-outs can retire, and from then on only tells
+//! others what it holds. What it has taken of the streams that it asked for, and what it tells others,
+//! are its sessions and streams; each can be cut.
+//!
 //! What is known is kept in a form that the caller chooses, by the type `K`. A version that is issued
 //! is learned for its item, alone: what it supersedes of its item was learned before it, and the rest are
 //! versions of other items. [`Replica::fragments`] tells what is known, with concise vectors.
@@ -20,9 +25,9 @@
 //! let id = Author::try_new(0)?;
 //! let filter = Filter::read(alloc, "label:inbox")?;
 //! let mut replica: Replica<PlainKnowledge> = Replica::try_new(alloc, id, filter, 1_000_000)?;
-//! let Reply::Issued(first) = replica.step(Event::Create(message))?;
+//! let Reply::Issued(first) = replica.step(Event::Create(message))? else { .. };
 //! let bases = Bases::new(vec![in alloc; first]?);
-//! let Reply::Issued(second) = replica.step(Event::Edit(bases, reply))?;
+//! let Reply::Issued(second) = replica.step(Event::Edit(bases, reply))? else { .. };
 //! ```
 //!
 //! After these lines, where both messages have the label `inbox`, the second version is the one head,
@@ -30,6 +35,7 @@
 //! which tells that `0.1` and `0.2` are known for the item `0.1`.
 #![tactic(auto)]
 
+mod copies;
 mod event;
 mod refusal;
 mod replica;

@@ -12,10 +12,13 @@ use thiserror::Error;
 pub enum Refusal {
     #[error("out of memory")]
     OutOfMemory,
+    #[error("the replica has retired")]
+    Retired,
     #[error("the edit names no base")]
     NoBase,
-    /// The first base, in the order given, that is not held.
-    #[error("the base {0} is not held")]
+    /// The first base, in the order given, that is not held; or the version to vouch for, which is no
+    /// head.
+    #[error("the version {0} is not held")]
     NotHeld(Version),
     #[error("the bases are versions of several items")]
     MixedItems,
@@ -28,17 +31,26 @@ pub enum Refusal {
     TooManyItems,
     #[error("the log is full")]
     LogFull,
+    #[error("no session of that number is open")]
+    NoSession,
+    #[error("no stream of that number is open")]
+    NoStream,
+    #[error("the receipt is for no push-out that is held")]
+    NotPushedOut,
+    #[error("push-outs are left")]
+    PushOutsLeft,
 }
 
 impl Refusal {
     ghost use Rattle.mr_replica.specs.Refusal.{refusal_number, refusal_name};
 
-    /// The refusal's number: 0 for want of memory.
+    /// The refusal's number: 0 for out of memory.
     pub fn number(self) -> u8
         ensures { result ≡ refusal_number self }
     {
         match self {
             Refusal::OutOfMemory => 0,
+            Refusal::Retired => 1,
             Refusal::NoBase => 2,
             Refusal::NotHeld(_) => 3,
             Refusal::MixedItems => 4,
@@ -46,6 +58,10 @@ impl Refusal {
             Refusal::TooManyHoles => 6,
             Refusal::TooManyItems => 7,
             Refusal::LogFull => 8,
+            Refusal::NoSession => 12,
+            Refusal::NoStream => 18,
+            Refusal::NotPushedOut => 20,
+            Refusal::PushOutsLeft => 21,
         }
     }
 
@@ -55,6 +71,7 @@ impl Refusal {
     {
         match self {
             Refusal::OutOfMemory => "OutOfMemory",
+            Refusal::Retired => "Retired",
             Refusal::NoBase => "NoBase",
             Refusal::NotHeld(_) => "NotHeld",
             Refusal::MixedItems => "MixedItems",
@@ -62,6 +79,10 @@ impl Refusal {
             Refusal::TooManyHoles => "TooManyHoles",
             Refusal::TooManyItems => "TooManyItems",
             Refusal::LogFull => "LogFull",
+            Refusal::NoSession => "NoSession",
+            Refusal::NoStream => "NoStream",
+            Refusal::NotPushedOut => "NotPushedOut",
+            Refusal::PushOutsLeft => "PushOutsLeft",
         }
     }
 }

@@ -1,12 +1,18 @@
 //! The replica, and its step.
-ghost use Rattle.std.specs.Prelude.{◌≡◌, ◌<◌, ◌≤◌, ◌↔◌, ◌≢◌, [], IsOk, IfOk, IfErr, IsErrOf, Err, length};
+ghost use Rattle.std.specs.Prelude.{◌≡◌, ◌<◌, ◌≤◌, ◌↔◌, ◌≢◌, IsOk, IfOk, IfErr, IsErrOf, Err, length};
 ghost use Rattle.std.specs.Option.{option_copied};
 
+mod admission;
 mod contents;
 mod create;
+mod cut_in;
+mod cut_out;
 mod edit;
 mod issue;
+mod release;
+mod retire;
 mod step;
+mod vouch;
 
 use crate::{Event, Revision};
 use contents::Contents;
@@ -14,6 +20,7 @@ use mr_concise::{ConciseVector, concise_fragments};
 use mr_feed::Entry;
 use mr_filter::Filter;
 use mr_forms::{FormFault, Fragment, Knowledge};
+use mr_session::{Sessions, Streams};
 use mr_version::{Author, ItemId, Version};
 use std::alloc::{AllocError, Global};
 use std::marker::Model;
@@ -50,6 +57,9 @@ pub struct Replica<K: Knowledge> {
     issued: u32,
     knowledge: K,
     contents: Contents,
+    is_retired: bool,
+    sessions: Sessions,
+    streams: Streams,
 }
 
 impl<K: Knowledge> Model for Replica<K> {
@@ -59,9 +69,9 @@ impl<K: Knowledge> Model for Replica<K> {
 
     ghost Value = { State K };
 
-    ghost view = { λ r. record { id = r.id; filter = r.filter; event_limit = r.event_limit; issued = r.issued; knowledge = r.knowledge; heads = r.contents.store.heads; push_outs = r.contents.store.push_outs; trail = r.contents.trail.lasts; feed = r.contents.feed.entries; log = r.contents.log } };
+    ghost view = { λ r. record { id = r.id; filter = r.filter; event_limit = r.event_limit; issued = r.issued; knowledge = r.knowledge; heads = r.contents.store.heads; push_outs = r.contents.store.push_outs; trail = r.contents.trail.lasts; feed = r.contents.feed.entries; log = r.contents.log; is_retired = r.is_retired; sessions = r.sessions; streams = r.streams } };
 
-    ghost invariant = { λ r. IsSound (record { id = r.id; filter = r.filter; event_limit = r.event_limit; issued = r.issued; knowledge = r.knowledge; heads = r.contents.store.heads; push_outs = r.contents.store.push_outs; trail = r.contents.trail.lasts; feed = r.contents.feed.entries; log = r.contents.log }) };
+    ghost invariant = { λ r. IsSound (record { id = r.id; filter = r.filter; event_limit = r.event_limit; issued = r.issued; knowledge = r.knowledge; heads = r.contents.store.heads; push_outs = r.contents.store.push_outs; trail = r.contents.trail.lasts; feed = r.contents.feed.entries; log = r.contents.log; is_retired = r.is_retired; sessions = r.sessions; streams = r.streams }) };
 }
 
 impl<K: Knowledge> Replica<K> {
@@ -69,7 +79,7 @@ impl<K: Knowledge> Replica<K> {
     ghost use Rattle.mr_forms.specs.Known.{AreSame};
     ghost use Rattle.mr_concise.specs.Vector.{vector_has};
     ghost use Rattle.mr_concise.specs.Fragments.{ConciseFragment, knowledge_text};
-    ghost use Rattle.mr_replica.specs.State.{held};
+    ghost use Rattle.mr_replica.specs.State.{new_state, held};
     ghost use Rattle.mr_store.specs.Revisions.{AreInVersionOrder, AreApart, AreConflicts};
     ghost use Rattle.mr_replica.specs.Fragments.{HaveKnown, AreFragmentsOf, HasHoleyPart};
 
@@ -85,7 +95,7 @@ impl<K: Knowledge> Replica<K> {
         ensures exact { IsOk result ↔ ((1 ≤ event_limit) × (event_limit ≤ MAX_EVENTS)) }
         ensures fault { IfErr result (λ fault. fault ≡ ReplicaFault.BadLimit) }
         ensures knows_nothing { IfOk result (λ replica. AreSame (K.form.known replica.knowledge) (λ _ _. false)) }
-        ensures is_empty { IfOk result (λ replica. replica ≡ record { id = id; filter = filter; event_limit = event_limit; issued = 0; knowledge = replica.knowledge; heads = []; push_outs = []; trail = []; feed = []; log = [] }) }
+        ensures is_empty { IfOk result (λ replica. replica ≡ new_state id filter event_limit replica.knowledge) }
     {
         if event_limit == 0 || event_limit > MAX_EVENTS {
             return Err(ReplicaFault::BadLimit);
@@ -98,6 +108,9 @@ impl<K: Knowledge> Replica<K> {
             issued: 0,
             knowledge: K::new(alloc),
             contents: Contents::new(alloc),
+            is_retired: false,
+            sessions: Sessions::new(alloc),
+            streams: Streams::new(alloc),
         })
     }
 
@@ -122,6 +135,13 @@ impl<K: Knowledge> Replica<K> {
         ensures high { result ≤ MAX_EVENTS }
     {
         self.event_limit
+    }
+
+    /// Whether it has retired: it admits nothing more but to tell others.
+    pub fn is_retired(&self) -> bool
+        ensures { result ≡ self.now.is_retired }
+    {
+        self.is_retired
     }
 
     /// The held revisions that the filter selects, in version order.

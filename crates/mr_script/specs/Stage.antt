@@ -12,7 +12,7 @@ use Rattle.mr_replica.specs.Fragments.{HaveKnown, AreFragmentsOf, HasHoleyPart}
 use Rattle.mr_version.specs.Name.{Name}
 use Rattle.mr_madewith.specs.Revision.{Rev}
 use Rattle.mr_store.specs.Revisions.{AreConflicts}
-use Rattle.mr_replica.specs.State.{State, held}
+use Rattle.mr_replica.specs.State.{State, new_state, held}
 use Rattle.mr_replica.specs.Step.{Steps}
 use Rattle.mr_replica.specs.declared.event.Event.{Event}
 use Rattle.mr_replica.specs.declared.event.Reply.{Reply}
@@ -96,7 +96,7 @@ module _ {K : Type 0} where
   abbrev pub IsFresh : Form K → ℕ → List ClauseParts → ℕ → State K → Type 0
   IsFresh form id filter limit state =
       AreSame (form.known state.knowledge) (λ _ _. false) ×
-      (state ≡ record { id = id; filter = filter; event_limit = limit; issued = 0; knowledge = state.knowledge; heads = []; push_outs = []; trail = []; feed = []; log = [] })
+      (state ≡ new_state id filter limit state.knowledge)
 
   -- what is done to the replica that there is
   abbrev pub at_replica : Option (State K) → (State K → Reading (List ℕ)) → Reading (List ℕ)

@@ -15,7 +15,7 @@ listed_more : (front : List Name) (v w : Name) → is_listed (front ++ v ∷ [])
 listed_more front v w =
     list_any-append (name_eq w) front (v ∷ [])
     ∙ (ap (λ (b : Bool). is_listed front w || b) (sym (or_nothing (name_eq w v)) ∙ name_eq-symmetric w v)
-      ∙ or_comm (is_listed front w) (name_eq v w))
+    ∙ or_comm (is_listed front w) (name_eq v w))
 
 -- a vector with a version more
 pub has_more : (front : List Name) (v : Name) (old new : List AuthorColumn) → HasJust front old → IsSame (vector_has new) (with_version (vector_has old) v) → HasJust (front ++ v ∷ []) new
@@ -30,8 +30,8 @@ is_full_at front v old has many = record {
   apart = many.apart;
   in_range = many.in_range;
   means = λ c.
-    let w : Name = record { author = many.author; counter = c } in
-    many.means c ∙ (ap (λ (b : Bool). name_eq v w || b) (has w) ∙ sym (listed_more front v w));
+      let w : Name = record { author = many.author; counter = c } in
+      many.means c ∙ (ap (λ (b : Bool). name_eq v w || b) (has w) ∙ sym (listed_more front v w));
   many = many.many;
 }
 

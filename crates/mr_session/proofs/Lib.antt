@@ -1,3 +1,4 @@
+pub mod OrderLemmas
 pub mod SlotLemmas
 pub mod PieceLemmas
 pub mod TableLemmas
@@ -5,3 +6,5 @@ pub mod ViewLemmas
 pub mod HeldLemmas
 pub mod WalkLemmas
 pub mod DrawLemmas
+pub mod ClaimLemmas
+mod Rows

@@ -157,14 +157,3 @@ module _ {T : Type 0} where
   -- where no key has the number nothing is under it
   pub none_at : (s : Slab (Entry T)) (n : ℕ) → AreOnce s → ((key : ℕ) → HasNumber s n key → ⊥) → value_at s n ≡ None
   none_at s n once absent = only s n None once absent
-
-  -- to take away what isn't there changes nothing
-  none_lifted_at : (s : Slab (Entry T)) (n : ℕ) → value_at s n ≡ None → (m : ℕ) → value_at s m ≡ with_at n None (value_at s) m
-  none_lifted_at s n none m =
-      elim (eqb_tells n m) [
-        | inl same ↦ rw same.0 (ap (value_at s) (sym same.1) ∙ none)
-        | inr differs ↦ rw differs.0 refl
-      ]
-
-  pub none_lifted : (s : Slab (Entry T)) (n : ℕ) → value_at s n ≡ None → value_at s ≡ with_at n None (value_at s)
-  none_lifted s n none = λ i m. none_lifted_at s n none m i

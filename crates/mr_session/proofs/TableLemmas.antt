@@ -4,7 +4,7 @@ use Rattle.std.proofs.Common.{◌≡◌, ◌≢◌, ◌⊎◌, ◌≤◌, ◌<�
 use Rattle.std.specs.Option.{option_map}
 use Rattle.std.proofs.lemmas.Bool.{cases_eq, ltb-true, ltb-false}
 use Rattle.std.proofs.lemmas.Bool.Decides.{eqb_tells}
-use Rattle.mr_session.specs.Table.{Numbered, at, changed, RisesFrom, AreNumberedTo}
+use Rattle.mr_session.specs.Table.{Numbered, Table, IsTable, at, open_at, changed, with_changed, with_closed, RisesFrom, AreNumberedTo}
 use Rattle.mr_session.specs.Slots.{put, with_at}
 
 lt_tells : (a b : ℕ) → ((nat_lt a b ≡ true) × (a < b)) ⊎ ((nat_lt a b ≡ false) × (b ≤ a))
@@ -188,3 +188,54 @@ module _ {T : Type 0} where
   pub rises-changed : (low n : ℕ) (change : T → T) (xs : List (Numbered T)) → RisesFrom low xs → RisesFrom low (map (changed n change) xs)
   rises-changed low n change [] rises = tt
   rises-changed low n change (x ∷ xs) rises = rw (changed_number n change x) (rises.0, rises-changed x.number n change xs rises.1)
+
+  -- two changes do the same where they agree on what is under the number
+  pub same_change : (n : ℕ) (f h : T → T) (v : T) (xs : List (Numbered T)) → RisesFrom 0 xs → at xs n ≡ Some v → f v ≡ h v → map (changed n f) xs ≡ map (changed n h) xs
+  same_change n f h v xs rises found agree =
+      let values : option_map f (at xs n) ≡ option_map h (at xs n) = ap (option_map f) found ∙ (ap Some agree ∙ sym (ap (option_map h) found)) in
+      same_list 0 0 (map (changed n f) xs) (map (changed n h) xs) (rises-changed 0 n f xs rises) (rises-changed 0 n h xs rises)
+      (λ m. sym (at-changed n f xs m) ∙ (ap (λ (o : Option T). with_at n o (at xs) m) values ∙ at-changed n h xs m))
+
+  -- to change a value into itself changes nothing
+  pub changed_itself : (n : ℕ) (xs : List (Numbered T)) → map (changed n (λ x. x)) xs ≡ xs
+  changed_itself n [] = refl
+  changed_itself n (x ∷ xs) =
+      elim (eqb_tells x.number n) [
+        | inl is ↦ rw is.0 (λ i. (record { number = sym is.1 i; value = x.value }) ∷ changed_itself n xs i)
+        | inr differs ↦ rw differs.0 (ap (λ (l : List (Numbered T)). x ∷ l) (changed_itself n xs))
+      ]
+
+  -- to change what is then taken away changes nothing
+  pub others-changed : (n : ℕ) (change : T → T) (xs : List (Numbered T)) → others n (map (changed n change) xs) ≡ others n xs
+  others-changed n change [] = refl
+  others-changed n change (x ∷ xs) =
+      elim (eqb_tells x.number n) [
+        | inl is ↦ rw is.0 (rw own (others-changed n change xs))
+        | inr differs ↦ rw differs.0 (rw differs.0 (ap (λ (l : List (Numbered T)). x ∷ l) (others-changed n change xs)))
+      ]
+    where
+      own : (n == n) ≡ true
+      own = elim (eqb_tells n n) [ inl is ↦ is.0 | inr differs ↦ absurd (differs.1 refl) ]
+
+  -- a table in which what is open under a number has become another value
+  module _ (table new : Table T) (n : ℕ) (before after : T) (is : IsTable table) (found : open_at table n ≡ Some before) (becomes : new ≡ with_changed n (λ _. after) table) where
+    -- it is changed by a function that does that
+    pub changed_by : (change : T → T) → after ≡ change before → new ≡ with_changed n change table
+    changed_by change same =
+        let ones = same_change n (λ _. after) change before table.open_ones is.rising found same in
+        becomes ∙ (λ i. record table { open_ones = ones i })
+
+    -- where the value is the same nothing has changed
+    pub unchanged : after ≡ before → new ≡ table
+    unchanged same =
+        let itself = changed_itself n table.open_ones in
+        changed_by (λ x. x) same ∙ (λ i. record table { open_ones = itself i })
+
+    -- once it is closed, the value does not matter
+    pub closed_after : with_closed new n ≡ with_closed table n
+    closed_after =
+        let ones = others-changed n (λ _. after) table.open_ones in
+        ap (λ (t : Table T). with_closed t n) becomes ∙ (λ i. record table { open_ones = ones i })
+
+    pub open_after : open_at new n ≡ Some after
+    open_after = ap (λ (t : Table T). open_at t n) becomes ∙ (changed_same n (λ _. after) table.open_ones ∙ ap (option_map (λ _. after)) found)

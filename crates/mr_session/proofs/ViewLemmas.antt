@@ -103,11 +103,6 @@ module _ {T : Type 0} where
         told new last (map (changed n change) (by_number old.slots)) once up (rises-changed 0 n change (by_number old.slots) (table_of old last are).rising)
         (λ m. ap (λ (f : ℕ → Option T). f m) left ∙ (ap (λ (f : ℕ → Option T). with_at n (option_map change (f n)) f m) (values_same old) ∙ at-changed n change (by_number old.slots) m))
 
-    -- nothing under the numbers has changed
-    pub same_view : AreUpTo new last → value_at new ≡ value_at old → by_number new.slots ≡ by_number old.slots
-    same_view up same =
-        told new last (by_number old.slots) once up (table_of old last are).rising (λ m. ap (λ (f : ℕ → Option T). f m) same ∙ sym (at-by_number old.slots m))
-
   -- nothing is under the number after the last one given
   pub none_above : (s : Slab (Entry T)) (last n : ℕ) → AreSlots s last → last < n → value_at s n ≡ None
   none_above s last n are above = none_at s n are.once (λ key has. omega (arith, (are.up_to n key has).1))
@@ -128,13 +123,6 @@ module _ {T : Type 0} where
   pub twice : (n : ℕ) (a b : Option T) (values : ℕ → Option T) → with_at n b (with_at n a values) ≡ with_at n b values
   twice n a b values = λ i m. twice_at n a b values m i
 
-  back_at : (n : ℕ) (values : ℕ → Option T) (m : ℕ) → with_at n (values n) values m ≡ values m
-  back_at n values m = elim (eqb_tells n m) [ inl is ↦ rw is.0 (ap values is.1) | inr differs ↦ rw differs.0 refl ]
-
-  -- to put back what was there changes nothing
-  pub back : (n : ℕ) (values : ℕ → Option T) → with_at n (values n) values ≡ values
-  back n values = λ i m. back_at n values m i
-
   -- what is open in a table is in its slots
   pub some_in : (s : Slab (Entry T)) (table : Table T) (opened n : ℕ) → record { opened = opened; open_ones = by_number s.slots } ≡ table → IsSome (open_at table n) → IsSome (value_at s n)
   some_in s table opened n is open_one = rw (at-by_number s.slots n) at (rw (← is) at open_one)
@@ -154,11 +142,6 @@ module _ {T : Type 0} where
     pub replaced_view : (change : T → T) → now ≡ change was → by_number new.slots ≡ map (changed n change) (by_number old.slots)
     replaced_view change is =
         changed_view old new last n are once change up (put_back ∙ ap (λ (o : Option T). with_at n o (value_at old)) (ap Some is ∙ sym (ap (option_map change) found)))
-
-    -- a value that was taken out and put back as it was
-    pub restored_view : now ≡ was → by_number new.slots ≡ by_number old.slots
-    restored_view is =
-        same_view old new last n are once up (put_back ∙ (ap (λ (o : Option T). with_at n o (value_at old)) (ap Some is ∙ sym found) ∙ back n (value_at old)))
 
 module _ {A E : Type 0} where
   pub on_ok : (r : Result A E) (P Q : Type 0) → OnOk r P → (P → Q) → OnOk r Q
@@ -202,15 +185,15 @@ module _ {A B : Type 0} where
   is_some-map f None = refl
   is_some-map f (Some x) = refl
 
-module _ {T : Type 0} where
-  -- each slot's clone has an equal number and an equal value
+module _ {T : Type 0} (is_clone : T → T → Type 0) (equal : (x y : T) → is_clone x y → y ≡ x) where
+  -- each slot's clone has an equal number, and a clone of the value
   abbrev pub IsSlotCopy : Option (Entry T) → Option (Entry T) → Type 0
-  IsSlotCopy = IsSlotClone (λ (e f : Entry T). (f.number ≡ e.number) × (f.value ≡ e.value))
+  IsSlotCopy = IsSlotClone (λ (e f : Entry T). (f.number ≡ e.number) × is_clone e.value f.value)
 
   same_slot : (slot copy : Option (Entry T)) → IsSlotCopy slot copy → copy ≡ slot
   same_slot None copy is = is
   same_slot (Some e) None is = absurd is
-  same_slot (Some e) (Some f) is = λ i. Some (record { number = is.0 i; value = is.1 i })
+  same_slot (Some e) (Some f) is = λ i. Some (record { number = is.0 i; value = equal e.value f.value is.1 i })
 
   -- slots of which each is a copy of the other's are the same
   pub same_slots : (slots copies : List (Option (Entry T))) → AllZip IsSlotCopy slots copies → copies ≡ slots
@@ -219,6 +202,7 @@ module _ {T : Type 0} where
   same_slots (x ∷ xs) [] are = absurd are
   same_slots (x ∷ xs) (y ∷ ys) are = λ i. same_slot x y are.0 i ∷ same_slots xs ys are.1 i
 
+module _ {T : Type 0} where
   -- a slab with a table's slots is a table's too
   pub slots_of : (s copy : Slab (Entry T)) (opened : ℕ) → copy.slots ≡ s.slots → AreSlots s opened → AreSlots copy opened
   slots_of s copy opened same are =

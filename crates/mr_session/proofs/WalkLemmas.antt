@@ -1,42 +1,25 @@
 -- A walk over two lists in version order, from a version on.
-use Rattle.std.proofs.Common.{◌≡◌, ◌≤◌, ◌<◌, ◌+◌, ◌==◌, ℕ, zero, suc, Bool, true, false, not, cond, List, [], ◌∷◌, map, length, get_or, take, ◌-◌, drop, filter, find, Option, Some, None, refl, sym, ap, subst, ◌∙◌, inl, inr, arith}
+use Rattle.std.proofs.Common.{◌≡◌, ◌≤◌, ◌<◌, ◌==◌, ℕ, zero, suc, Bool, true, false, not, cond, List, [], ◌∷◌, map, length, get_or, take, ◌-◌, drop, filter, find, Option, Some, None, refl, sym, ap, subst, ◌∙◌, inl, inr, arith}
 use Rattle.std.specs.declared.cmp.Ordering.{Ordering}
 use Rattle.std.specs.declared.cmp.Ordering.TheVariants.{Less, Equal, Greater}
-use Rattle.std.specs.Ordering.{is_lt, is_le, ordering_index, ordering_reverse}
-use Rattle.std.specs.List.{AllByRecursion}
-use Rattle.std.specs.List.Sorted.{IsPartitionedBy, IsPartitionPoint, IsNonDecreasingBy}
+use Rattle.std.specs.Ordering.{is_lt, is_le, ordering_reverse}
+use Rattle.std.specs.List.{AllByRecursion, slice_get}
+use Rattle.std.specs.List.Sorted.{IsPartitionPoint}
 use Rattle.std.proofs.Math.Seq.{take-length}
-use Rattle.std.proofs.lemmas.List.Sorted.{searchable_from_sorted}
+use Rattle.std.proofs.lemmas.List.{length-drop}
+use Rattle.std.proofs.lemmas.List.Sorted.{sorted_far, ranks_by}
+use Rattle.std.proofs.lemmas.Bool.{cases_order}
+use Rattle.std.proofs.lemmas.Bool.Decides.{nat_tests}
 use Rattle.mr_version.specs.Name.{Name, name_cmp}
 use Rattle.mr_version.specs.Order.{names_total}
 use Rattle.mr_madewith.specs.Revision.{Rev}
 use Rattle.mr_madewith.specs.Keyed.{is_before}
 use Rattle.mr_madewith.proofs.Rising.{sides_of, head_before, tail_rises, all_after, sorted_by_name}
 use Rattle.mr_store.specs.Revisions.{AreInVersionOrder, version_of}
-use Rattle.mr_session.specs.Stream.{Asked, is_wanted, is_ahead, is_due, lower}
+use Rattle.mr_session.specs.Stream.{Asked, claimed, is_wanted, is_ahead, is_due, lower}
 use Rattle.mr_session.specs.Merge.{is_left_first}
 
 -- ---- those ahead
-
-low_index : (o : Ordering) → is_le o ≡ true → ordering_index o ≤ 1
-low_index Less h = omega arith
-low_index Equal h = omega arith
-low_index Greater h = absurd (cc)
-
-from_index : (o : Ordering) → ordering_index o ≤ 1 → is_le o ≡ true
-from_index Less h = refl
-from_index Equal h = refl
-from_index Greater h = absurd (omega (arith, h))
-
--- versions up to one stand before the others
-pub parted : (past : Name) (rs : List Rev) → AreInVersionOrder rs → IsPartitionedBy (λ (r : Rev). is_le (name_cmp r.version past)) rs
-parted past rs rising i j d le lt at_j =
-    let up : IsNonDecreasingBy (λ (r : Rev). ordering_index (name_cmp r.version past)) rs = searchable_from_sorted names_total version_of rs past (sorted_by_name version_of rs rising) in
-    let a = get_or rs i d in
-    let b = get_or rs j d in
-    let low = low_index (name_cmp b.version past) at_j in
-    let steps = up i j d le lt in
-    from_index (name_cmp a.version past) (omega (arith, low, steps))
 
 behind_or_ahead : (o : Ordering) → is_lt (ordering_reverse o) ≡ not (is_le o)
 behind_or_ahead Less = refl
@@ -70,6 +53,53 @@ due_ahead asked past (r ∷ rs) =
       | inl ahead ↦ rw ahead (ap (λ (o : Option Rev). cond (is_wanted asked r) (Some r) o) (due_ahead asked past rs))
       | inr behind ↦ rw behind (due_ahead asked past rs)
     ]
+
+-- ---- those that are passed
+
+-- what a slice to the end has
+pub rest_of : (rs : List Rev) (i : ℕ) → take (length rs - i) (drop i rs) ≡ drop i rs
+rest_of rs i = ap (λ (n : ℕ). take n (drop i rs)) (sym (length-drop i rs)) ∙ take-length (drop i rs)
+
+pub drop_rises : (n : ℕ) (rs : List Rev) → AreInVersionOrder rs → AreInVersionOrder (drop n rs)
+drop_rises zero rs rising = rising
+drop_rises (suc n) [] rising = rising
+drop_rises (suc n) (x ∷ xs) rising = drop_rises n xs (tail_rises version_of x xs rising)
+
+-- a name that is not before another one, and before a counter of its author, is of that author and between
+between_names : (v low : Name) (until : ℕ) → is_before v (record { author = low.author; counter = until }) ≡ true → is_before v low ≡ false → (v.author ≡ low.author) × (low.counter ≤ v.counter) × (v.counter < until)
+between_names v low until before not_below =
+    elim (cases_order v.author low.author) [
+      | inl same ↦ (same, (let h : low.counter ≤ v.counter = grind (arith, nat_tests) in h), (let h : v.counter < until = grind (arith, nat_tests) in h))
+      | inr (inl less) ↦ absurd (grind (arith, nat_tests))
+      | inr (inr more) ↦ absurd (grind (arith, nat_tests))
+    ]
+
+find_behind : (p : Rev → Bool) (rs : List Rev) (n : ℕ) → n ≤ length rs → ((k : ℕ) (d : Rev) → k < n → p (get_or rs k d) ≡ false) → find p (drop n rs) ≡ find p rs
+find_behind p rs zero within none = refl
+find_behind p [] (suc n) within none = absurd (omega (arith, within))
+find_behind p (x ∷ xs) (suc n) within none = rw (none 0 x (omega arith)) (find_behind p xs n (omega (arith, within)) (λ k d lt. none (suc k) d (omega (arith, lt))))
+
+module _ (asked : Asked) (first : Rev) (until : ℕ)
+    (known : (counter : ℕ) → first.version.counter ≤ counter → counter < until → (item : Name) → claimed asked.claims item (record { author = first.version.author; counter = counter }) ≡ true) where
+  known_one : (r : Rev) → is_before r.version (record { author = first.version.author; counter = until }) ≡ true → is_before r.version first.version ≡ false → is_wanted asked r ≡ false
+  known_one r before not_below =
+      let between = between_names r.version first.version until before not_below in
+      let same : r.version ≡ record { author = first.version.author; counter = r.version.counter } = λ i. record { author = between.0 i; counter = r.version.counter } in
+      let claims : claimed asked.claims r.item r.version ≡ true = ap (claimed asked.claims r.item) same ∙ known r.version.counter between.1 between.2 r.item in
+      rw claims refl
+
+  -- the versions from the first one to one that may not be known are not wanted
+  pub passed : (rs : List Rev) (n : ℕ) → AreInVersionOrder rs → slice_get rs 0 ≡ Some first → n ≤ length rs
+      → IsPartitionPoint (λ (r : Rev). is_before r.version (record { author = first.version.author; counter = until }) ≡ true) (λ (r : Rev). is_before r.version (record { author = first.version.author; counter = until }) ≡ false) rs n
+      → find (is_wanted asked) (drop n rs) ≡ find (is_wanted asked) rs
+  passed [] n rising at_first within parts = absurd (cc)
+  passed (x ∷ xs) n rising at_first within parts =
+      let same : x ≡ first = cc in
+      find_behind (is_wanted asked) (x ∷ xs) n within
+      (λ k d lt.
+      let stays : is_before (get_or (x ∷ xs) k d).version x.version ≡ false =
+      sorted_far (λ (a b : Rev). is_before a.version b.version) (ranks_by names_total version_of) (x ∷ xs) (sorted_by_name version_of (x ∷ xs) rising) 0 k d (omega arith) (omega (arith, lt, within)) in
+      known_one (get_or (x ∷ xs) k d) (parts.0 k d (omega arith) lt) (ap (λ (f : Rev). is_before (get_or (x ∷ xs) k d).version f.version) (sym same) ∙ stays))
 
 -- ---- the first that is wanted
 
@@ -150,27 +180,11 @@ module _ (p : Rev → Bool) where
   at_right_not r ls [] some at is = absurd (omega (arith, some))
   at_right_not r ls (y ∷ ys) some at is = ap (λ (l : List Rev). lower (find p ls) (find p l)) (rest_is y ys) ∙ sym (right_is_not ls y ys (ap p (sym at) ∙ is))
 
-  pub at_end : (ls rs : List Rev) → is_left_first ls rs ≡ false → length rs ≡ 0 → lower (find p ls) (find p rs) ≡ None
-  at_end [] [] first none = refl
-  at_end (x ∷ xs) [] first none = absurd (cc)
-  at_end ls (y ∷ ys) first none = absurd (omega (arith, none))
-
 pub rest_rises : (ls : List Rev) → AreInVersionOrder ls → AreInVersionOrder (take (length ls - 1) (drop 1 ls))
 rest_rises [] rising = rising
 rest_rises (x ∷ xs) rising =
     let n : length (x ∷ xs) - 1 ≡ length xs = omega arith in
     subst AreInVersionOrder (sym (ap (λ (k : ℕ). take k xs) n ∙ take-length xs)) (tail_rises version_of x xs rising)
-
-pub length_rest : (ls : List Rev) → 0 < length ls → length (take (length ls - 1) (drop 1 ls)) + 1 ≡ length ls
-length_rest [] some = absurd (omega (arith, some))
-length_rest (x ∷ xs) some =
-    let n : length (x ∷ xs) - 1 ≡ length xs = omega arith in
-    let same = ap (λ (l : List Rev). length l) (ap (λ (k : ℕ). take k xs) n ∙ take-length xs) in
-    omega (arith, same)
-
-pub left_some : (ls rs : List Rev) → is_left_first ls rs ≡ true → 0 < length ls
-left_some [] rs first = absurd (cc)
-left_some (x ∷ xs) rs first = omega arith
 
 pub not_empty : (rs : List Rev) → (length rs == 0) ≡ false → 0 < length rs
 not_empty [] is = absurd (cc)

@@ -5,3 +5,4 @@ pub mod Session
 pub mod Held
 pub mod Stream
 pub mod Merge
+pub mod Claims

@@ -1,5 +1,5 @@
 -- streams, and what they draw
-use Rattle.std.specs.Prelude.{◌≡◌, ◌+◌, ◌==◌, ℕ, Bool, true, false, not, ◌&&◌, ◌||◌, if◌then◌else◌, List, [], ◌∷◌, map, find, Option, Some, None, Result, Ok, Err}
+use Rattle.std.specs.Prelude.{◌≡◌, ◌+◌, ◌==◌, ℕ, Bool, true, false, not, ◌&&◌, ◌||◌, if◌then◌else◌, List, [], ◌∷◌, map, find, Option, Some, None, is_some, is_none, Result, Ok, Err}
 use Rattle.std.specs.List.{list_any}
 use Rattle.mr_version.specs.Name.{Name, name_eq}
 use Rattle.mr_forms.specs.Sets.{Versions}
@@ -21,6 +21,7 @@ use Rattle.mr_wire.specs.declared.frame.Mode.TheVariants.{Full, Partial}
 use Rattle.mr_wire.specs.declared.frame.Body.{Body}
 use Rattle.mr_wire.specs.declared.frame.Body.TheVariants.{Start, Item, MoveOut, Held, Know, End}
 use Rattle.mr_session.specs.Held.{AreCut}
+use Rattle.mr_session.specs.Session.{is_full_mode}
 use Rattle.mr_session.specs.Table.{Table, open_at, with_closed, with_changed}
 
 -- ---- what is asked for
@@ -129,6 +130,10 @@ DrawsAt false s h body new = DrawsRest s.held s h body new
 -- then its fragments. The end stays the end.
 abbrev pub Draws : Stream → Holdings → Body → Stream → Type 0
 Draws s h body new = DrawsAt (s.next == 0) s h body new
+
+-- whether the next draw copies a revision, or gathers the heads into vectors, for which it may need memory
+abbrev pub needs_memory : Stream → Holdings → Bool
+needs_memory s h = not (s.next == 0) && (is_none s.held && (is_some (due s.asked s.past h.heads h.push_outs) || is_full_mode s.mode))
 
 -- ---- the records
 

@@ -1,13 +1,14 @@
 //! What a stream keeps of the Ask that it answers.
-ghost use Rattle.std.specs.Prelude.{◌≡◌, ◌≤◌, ◌&&◌, not};
-ghost use Rattle.mr_version.specs.Name.{name_eq};
+ghost use Rattle.std.specs.Prelude.{◌≡◌, ◌≤◌, ◌<◌, ◌&&◌, ℕ, not, true, IfOk};
+ghost use Rattle.mr_version.specs.Name.{Name, name_eq};
 ghost use Rattle.mr_session.specs.Stream.{Asked, is_item, is_wanted, claimed};
 
-use crate::claims::is_claimed;
+use crate::claims::Claims;
 use mr_filter::Filter;
 use mr_madewith::Revision;
 use mr_version::{Author, ItemId, Version};
 use mr_wire::FrameFragment;
+use std::alloc::{AllocError, Global};
 use std::marker::Model;
 
 /// What was asked for: by whom, for which of its sessions, what its filter selects, and what it claims to
@@ -17,7 +18,7 @@ pub struct AskedOf {
     target: Author,
     session: u64,
     filter: Filter,
-    claims: Vec<FrameFragment>,
+    claims: Claims,
 }
 
 impl Model for AskedOf {
@@ -26,29 +27,42 @@ impl Model for AskedOf {
 
     ghost Value = { Asked };
 
-    ghost view = { λ a. record { target = a.target; session = a.session; filter = a.filter; claims = a.claims.items } };
+    ghost view = { λ a. record { target = a.target; session = a.session; filter = a.filter; claims = a.claims } };
 
     ghost invariant = { λ a. 1 ≤ a.session };
 }
 
 impl AskedOf {
     /// What the target asks for one of its sessions, which are numbered from 1: what the filter selects,
-    /// and these fragments don't claim to be known. It costs no copy.
+    /// and these fragments don't claim to be known. It sorts the items that the fragments list.
     pub fn new(
+        alloc: Global,
         target: Author,
         session: u64,
         filter: Filter,
         claims: Vec<FrameFragment>,
-    ) -> AskedOf
+    ) -> Result<AskedOf, AllocError>
         requires { 1 ≤ session }
-        ensures { result ≡ record { target = target; session = session; filter = filter; claims = claims.items } }
+        ensures { IfOk result (λ asked. asked ≡ record { target = target; session = session; filter = filter; claims = claims.items }) }
     {
-        AskedOf {
+        Ok(AskedOf {
             target,
             session,
             filter,
-            claims,
-        }
+            claims: Claims::new(alloc, claims)?,
+        })
+    }
+
+    /// An equal one.
+    pub fn copy(&self) -> Result<AskedOf, AllocError>
+        ensures { IfOk result (λ asked. asked ≡ self.now) }
+    {
+        Ok(AskedOf {
+            target: self.target,
+            session: self.session,
+            filter: self.filter.copy()?,
+            claims: self.claims.copy()?,
+        })
     }
 
     /// Who asks.
@@ -70,7 +84,15 @@ impl AskedOf {
     pub fn knows(&self, item: ItemId, version: Version) -> bool
         ensures { result ≡ claimed self.now.claims item version }
     {
-        is_claimed(&self.claims, item, version)
+        self.claims.has(item, version)
+    }
+
+    /// The first counter from the version's on that the one who asks may not claim for all items: the author's
+    /// counters from the version's up to this one are claimed for each item.
+    pub fn known_until(&self, version: Version) -> u32
+        ensures { (counter : ℕ) → version.counter ≤ counter → counter < result → (item : Name) → claimed self.now.claims item (record { author = version.author; counter = counter }) ≡ true }
+    {
+        self.claims.known_until(version)
     }
 
     /// Whether the filter of the one who asks selects the revision.

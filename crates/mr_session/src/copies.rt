@@ -1,11 +1,14 @@
 //! Copies of what sessions keep.
-ghost use Rattle.std.specs.Prelude.{◌≡◌, map, All, IfOk};
+ghost use Rattle.std.specs.Prelude.{◌≡◌, ◌++◌, map, All, IfOk, OnOk};
+ghost use Rattle.std.specs.Option.{option_map};
 ghost use Rattle.mr_store.specs.Unheld.{ListsInOrder};
 ghost use Rattle.mr_wire.specs.Values.{piece_of};
 
 use mr_concise::ConciseVector;
 use mr_forms::{Fragment, VersionSet};
+use mr_wire::FrameFragment;
 use std::alloc::{AllocError, Global};
+use std::collections::VecDeque;
 
 /// An equal vector.
 pub fn copy_of(vector: &ConciseVector) -> Result<ConciseVector, AllocError>
@@ -17,6 +20,19 @@ pub fn copy_of(vector: &ConciseVector) -> Result<ConciseVector, AllocError>
     }
 }
 
+// Puts equal vectors behind these, in the same order.
+fn push_vectors(
+    copied: &mut Vec<ConciseVector>,
+    vectors: &[ConciseVector],
+) -> Result<(), AllocError>
+    ensures { OnOk result (copied.new.items ≡ copied.old.items ++ vectors.now) }
+{
+    for vector in vectors {
+        copied.push(copy_of(vector)?)?;
+    }
+    Ok(())
+}
+
 /// Equal vectors, in the same order.
 pub fn copied_vectors(
     alloc: Global,
@@ -25,10 +41,35 @@ pub fn copied_vectors(
     ensures { IfOk result (λ copied. copied.items ≡ vectors.now) }
 {
     let mut copied = Vec::with_capacity(alloc, vectors.len())?;
-    for vector in vectors {
-        copied.push(copy_of(vector)?)?;
-    }
+    push_vectors(&mut copied, vectors)?;
     Ok(copied)
+}
+
+// Equal vectors, in the same order, in a queue.
+fn copied_waiting(
+    alloc: Global,
+    vectors: &VecDeque<ConciseVector>,
+) -> Result<VecDeque<ConciseVector>, AllocError>
+    ensures { IfOk result (λ copied. copied.items ≡ vectors.now.items) }
+{
+    let (front, back) = vectors.as_slices();
+    let mut copied = Vec::with_capacity(alloc, vectors.len())?;
+    push_vectors(&mut copied, front)?;
+    push_vectors(&mut copied, back)?;
+    Ok(VecDeque::from_vec(copied))
+}
+
+/// The same for a queue of vectors, where there is one.
+pub fn copied_queue(
+    alloc: Global,
+    vectors: &Option<VecDeque<ConciseVector>>,
+) -> Result<Option<VecDeque<ConciseVector>>, AllocError>
+    ensures { IfOk result (λ copied. option_map (λ queue. queue.items) copied ≡ option_map (λ queue. queue.items) vectors.now) }
+{
+    match vectors {
+        Some(waiting) => Ok(Some(copied_waiting(alloc, waiting)?)),
+        None => Ok(None),
+    }
 }
 
 // An equal fragment.
@@ -56,4 +97,51 @@ pub fn copied_fragments(
         copied.push(copied_fragment(fragment)?)?;
     }
     Ok(copied)
+}
+
+// An equal fragment, as a frame carries it.
+fn copied_piece(fragment: &FrameFragment) -> Result<FrameFragment, AllocError>
+    ensures { IfOk result (λ copy. copy ≡ fragment.now) }
+{
+    let copy = fragment.as_fragment().copy()?;
+    Ok(FrameFragment::new(copy))
+}
+
+// Puts equal fragments behind these, in the same order.
+fn push_pieces(
+    copied: &mut Vec<FrameFragment>,
+    fragments: &[FrameFragment],
+) -> Result<(), AllocError>
+    ensures { OnOk result (copied.new.items ≡ copied.old.items ++ fragments.now) }
+{
+    for fragment in fragments {
+        copied.push(copied_piece(fragment)?)?;
+    }
+    Ok(())
+}
+
+/// Equal fragments, in the same order, as frames carry them.
+pub fn copied_pieces(
+    alloc: Global,
+    fragments: &[FrameFragment],
+) -> Result<Vec<FrameFragment>, AllocError>
+    ensures { IfOk result (λ copied. copied.items ≡ fragments.now) }
+{
+    let mut copied = Vec::with_capacity(alloc, fragments.len())?;
+    push_pieces(&mut copied, fragments)?;
+    Ok(copied)
+}
+
+/// The same for a queue of them.
+pub fn copied_know(
+    alloc: Global,
+    fragments: &VecDeque<FrameFragment>,
+) -> Result<VecDeque<FrameFragment>, AllocError>
+    ensures { IfOk result (λ copied. copied.items ≡ fragments.now.items) }
+{
+    let (front, back) = fragments.as_slices();
+    let mut copied = Vec::with_capacity(alloc, fragments.len())?;
+    push_pieces(&mut copied, front)?;
+    push_pieces(&mut copied, back)?;
+    Ok(VecDeque::from_vec(copied))
 }

@@ -4,6 +4,7 @@ ghost use Rattle.std.specs.List.Sorted.{IsPartitionPoint};
 ghost use Rattle.std.specs.Option.{option_copied};
 ghost use Rattle.std.specs.Ordering.{is_le};
 ghost use Rattle.mr_version.specs.Name.{name_cmp};
+ghost use Rattle.mr_madewith.specs.Keyed.{is_before};
 ghost use Rattle.mr_store.specs.Revisions.{AreInVersionOrder};
 ghost use Rattle.mr_session.specs.Stream.{is_wanted, is_ahead, lower, due};
 ghost use Rattle.mr_session.specs.Merge.{is_left_first};
@@ -11,7 +12,7 @@ ghost use Rattle.mr_session.specs.Merge.{is_left_first};
 use crate::asked::AskedOf;
 use mr_madewith::Revision;
 use mr_store::Store;
-use mr_version::Version;
+use mr_version::{Author, Version};
 
 // How many revisions have a version up to this one.
 fn place_behind(revisions: &[Revision], past: Version) -> usize
@@ -33,6 +34,40 @@ fn ahead<'a>(revisions: &'a [Revision], past: &Option<Version>) -> &'a [Revision
     }
 }
 
+// Whether the version stands before the author's version of this counter.
+fn is_before(version: Version, author: Author, counter: u32) -> bool
+    ensures { result ≡ is_before version (record { author = author; counter = counter }) }
+{
+    version.author() < author || (version.author() == author && version.counter() < counter)
+}
+
+// How many revisions stand before the author's version of this counter.
+fn place_before(revisions: &[Revision], author: Author, counter: u32) -> usize
+    requires { AreInVersionOrder revisions.now }
+    ensures bound { result ≤ length revisions.now }
+    ensures place { IsPartitionPoint (λ r. is_before r.version (record { author = author; counter = counter }) ≡ true) (λ r. is_before r.version (record { author = author; counter = counter }) ≡ false) revisions.now result }
+{
+    revisions.partition_point(|revision| is_before(revision.version(), author, counter))
+}
+
+// What is left behind the run of one author's versions, at the front, that the one who asks knows for all items.
+// It costs three binary searches.
+fn pass_known<'a>(asked: &AskedOf, revisions: &'a [Revision]) -> &'a [Revision]
+    requires { AreInVersionOrder revisions.now }
+    ensures in_order { AreInVersionOrder result.now }
+    ensures shorter { length result.now ≤ length revisions.now }
+    ensures found { find (is_wanted asked.now) result.now ≡ find (is_wanted asked.now) revisions.now }
+{
+    match revisions.first() {
+        Some(first) => {
+            let version = first.version();
+            let until = asked.known_until(version);
+            &revisions[place_before(revisions, version.author(), until)..]
+        }
+        None => revisions,
+    }
+}
+
 // Whether the first revision on the left comes before the first on the right, where there are any.
 fn is_left_first(left: &[Revision], right: &[Revision]) -> bool
     ensures { result ≡ is_left_first left.now right.now }
@@ -44,7 +79,8 @@ fn is_left_first(left: &[Revision], right: &[Revision]) -> bool
     }
 }
 
-// The first revision that is wanted, by version, of two lists in version order. It looks at none behind it.
+// The first revision that is wanted, by version, of two lists in version order. It looks at none behind it, and passes
+// a run of versions that are known for all items without looking at each.
 fn first_wanted<'a>(
     asked: &AskedOf,
     heads: &'a [Revision],
@@ -54,15 +90,15 @@ fn first_wanted<'a>(
     requires push_outs { AreInVersionOrder push_outs.now }
     ensures { option_copied result ≡ lower (find (is_wanted asked.now) heads.now) (find (is_wanted asked.now) push_outs.now) }
 {
-    let mut left = heads;
-    let mut right = push_outs;
+    let mut left = pass_known(asked, heads);
+    let mut right = pass_known(asked, push_outs);
     loop {
         if is_left_first(left, right) {
             let first = &left[0];
             if asked.wants(first) {
                 return Some(first);
             }
-            left = &left[1..];
+            left = pass_known(asked, &left[1..]);
         } else if right.is_empty() {
             return None;
         } else {
@@ -70,19 +106,16 @@ fn first_wanted<'a>(
             if asked.wants(first) {
                 return Some(first);
             }
-            right = &right[1..];
+            right = pass_known(asked, &right[1..]);
         }
     }
 }
 
 /// The revision that is due next in a stream that looked at this version last: the first one behind it, by
 /// version, of the heads and the push-outs together, that is wanted. It costs two binary searches, and a walk
-/// from that version to the one that is due.
-pub fn due<'a>(
-    asked: &AskedOf,
-    past: &Option<Version>,
-    store: &'a Store,
-) -> Option<&'a Revision>
+/// from that version to the one that is due, in which a run of versions that the Ask claims for all items is one
+/// search.
+pub fn due<'a>(asked: &AskedOf, past: &Option<Version>, store: &'a Store) -> Option<&'a Revision>
     ensures { option_copied result ≡ due asked.now past.now store.now.heads store.now.push_outs }
 {
     let heads = ahead(store.heads(), past);

@@ -7,7 +7,8 @@
 //! fragments of its Know records, is kept until its End; a partial stream's is not.
 //!
 //! [`Sessions`] is the table of those that are open: at most eight ([`MAX_OPEN`]), each under a number that
-//! is given once, from 1. The numbers stand in a slab of eight slots, so a look-up passes over eight entries.
+//! is given once, from 1. It is an [`OpenTable`], whose numbers stand in a slab of eight slots, so a look-up
+//! passes over eight entries.
 //!
 //! [`Streams`] is the same table of what the replica tells others. [`Streams::draw`] gives a stream's next
 //! record, of what the store holds at that draw: a Start; then the heads and push-outs together, by rising
@@ -15,7 +16,8 @@
 //! if its filter selects it, and as a MoveOut if it knows the item's first version; then, in a full stream, the
 //! versions of the heads as they are at the first of those draws, in vectors, and the fragments that were
 //! kept for it; then an End, which closes the stream. A draw that finds nothing more to tell goes on for
-//! good.
+//! good. What an Ask claims is kept sorted by item ([`AskedOf`]), so that asking whether it claims a version
+//! of an item is a search, and a run of versions that it claims for all items is passed in one.
 //!
 //! ```
 //! let number = sessions.open()?;
@@ -23,7 +25,7 @@
 //! sessions.take(&record)?;
 //! let session = sessions.close(number);
 //!
-//! let asked = AskedOf::new(target, session_number, filter, claims);
+//! let asked = AskedOf::new(alloc, target, session_number, filter, claims)?;
 //! let number = streams.open(asked, Mode::Full, fragments)?;
 //! let record = streams.draw(number, source, &store)?;
 //! ```
@@ -37,6 +39,7 @@ mod fault;
 mod held;
 mod incoming;
 mod limits;
+mod open_table;
 mod origin;
 mod outgoing;
 mod sessions;
@@ -47,6 +50,7 @@ pub use asked::AskedOf;
 pub use fault::SessionFault;
 pub use incoming::Incoming;
 pub use limits::MAX_OPEN;
+pub use open_table::OpenTable;
 pub use origin::Origin;
 pub use outgoing::Outgoing;
 pub use sessions::Sessions;

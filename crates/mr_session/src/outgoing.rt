@@ -1,9 +1,10 @@
 //! Streams: what a replica tells another one that asked.
-ghost use Rattle.std.specs.Prelude.{◌≡◌, ◌≤◌, ◌<◌, ◌+◌, ◌^◌, IfOk, OnErr};
-ghost use Rattle.mr_session.specs.Stream.{new_stream, told, due, Draws, DrawsFirstHeld, DrawsAfterWalk, DrawsWalk, DrawsKnow, Gives};
+ghost use Rattle.std.specs.Prelude.{◌≡◌, ◌≤◌, ◌<◌, ◌+◌, ◌^◌, ◌||◌, is_some, IfOk, OnErr, IsOk, IsFalse};
+ghost use Rattle.mr_session.specs.Session.{is_full_mode};
+ghost use Rattle.mr_session.specs.Stream.{new_stream, told, due, Draws, DrawsFirstHeld, DrawsAfterWalk, DrawsWalk, DrawsKnow, Gives, needs_memory};
 
 use crate::asked::AskedOf;
-use crate::copies::copy_of;
+use crate::copies::{copied_know, copied_queue, copy_of};
 use crate::due::due;
 use crate::held::held_vectors;
 use mr_concise::ConciseVector;
@@ -54,12 +55,7 @@ fn tell(asked: &AskedOf, revision: &Revision) -> Result<Body, AllocError>
 
 impl Outgoing {
     /// A stream of which nothing was drawn. A full one gives these fragments of what its source knows.
-    pub fn new(
-        alloc: Global,
-        asked: AskedOf,
-        mode: Mode,
-        know: VecDeque<FrameFragment>,
-    ) -> Outgoing
+    pub fn new(alloc: Global, asked: AskedOf, mode: Mode, know: VecDeque<FrameFragment>) -> Outgoing
         ensures { result ≡ new_stream asked mode know.items }
     {
         Outgoing {
@@ -96,6 +92,24 @@ impl Outgoing {
         self.next
     }
 
+    /// An equal stream. It copies what was asked for, and the vectors and fragments that are still to give.
+    pub fn copy(&self) -> Result<Outgoing, AllocError>
+        ensures { IfOk result (λ stream. stream ≡ self.now) }
+    {
+        let asked = self.asked.copy()?;
+        let held = copied_queue(self.alloc, &self.held)?;
+        let know = copied_know(self.alloc, &self.know)?;
+        Ok(Outgoing {
+            alloc: self.alloc,
+            asked,
+            mode: self.mode,
+            next: self.next,
+            past: self.past,
+            held,
+            know,
+        })
+    }
+
     // ---- draws
 
     // The first of the vectors of the heads, as they are now; the others are still to give.
@@ -117,6 +131,7 @@ impl Outgoing {
     fn draw_after_walk(&mut self, store: &Store) -> Result<Body, AllocError>
         ensures ok { IfOk result (λ body. DrawsAfterWalk self.old.mode self.old store.now body self.new) }
         ensures err { OnErr result (self.new ≡ self.old) }
+        ensures sure { IsFalse (is_full_mode self.old.mode) → IsOk result }
     {
         match self.mode {
             Mode::Full => self.draw_first_held(store),
@@ -128,6 +143,7 @@ impl Outgoing {
     fn draw_walk(&mut self, store: &Store) -> Result<Body, AllocError>
         ensures ok { IfOk result (λ body. DrawsWalk (due self.old.asked self.old.past store.now.heads store.now.push_outs) self.old store.now body self.new) }
         ensures err { OnErr result (self.new ≡ self.old) }
+        ensures sure { IsFalse (is_some (due self.old.asked self.old.past store.now.heads store.now.push_outs) || is_full_mode self.old.mode) → IsOk result }
     {
         match due(&self.asked, &self.past, store) {
             Some(revision) => {
@@ -153,6 +169,7 @@ impl Outgoing {
     fn draw_body(&mut self, store: &Store) -> Result<Body, AllocError>
         ensures ok { IfOk result (λ body. Draws self.old store.now body self.new) }
         ensures err { OnErr result (self.new ≡ self.old) }
+        ensures sure { IsFalse (needs_memory self.old store.now) → IsOk result }
     {
         if self.next == 0 {
             return Ok(Body::Start(self.mode));
@@ -182,6 +199,7 @@ impl Outgoing {
         requires goes_on { self.old.next + 1 < 2 ^ 32 }
         ensures ok { IfOk result (λ sent. Gives source number self.old store.now sent self.new) }
         ensures err { OnErr result (self.new ≡ self.old) }
+        ensures sure { IsFalse (needs_memory self.old store.now) → IsOk result }
     {
         let header = Header {
             source,
@@ -193,5 +211,13 @@ impl Outgoing {
         let body = self.draw_body(store)?;
         self.next = header.index + 1;
         Ok(Record::new(header, body))
+    }
+}
+
+impl Clone for Outgoing {
+    ghost is_clone = { λ stream copy. copy ≡ stream };
+
+    fn clone(&self) -> Result<Outgoing, AllocError> {
+        self.copy()
     }
 }

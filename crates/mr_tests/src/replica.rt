@@ -6,6 +6,7 @@ use mr_forms::PlainKnowledge;
 use mr_mail::{Day, Message};
 use mr_replica::{Bases, Event, Refusal, Replica, ReplicaFault, Reply};
 use mr_version::{Author, Version};
+use mr_wire::{Frame, Receipt, decode};
 use std::alloc::Global;
 use std::process::Abort;
 use std::test::Fail;
@@ -20,11 +21,19 @@ fn message(alloc: Global) -> Result<Message, Fail> {
     Ok(Message::try_new(alloc, from, subject, Vec::new(alloc), labels, 0, day)?)
 }
 
-/// The event of a line: `create`, or the bases of an edit.
+/// The event of a line: `create`, `retire`, `cutin`, `cutout`, `vouch`, or the bases of an edit.
 fn event_of(alloc: Global, line: &str) -> Result<Event, Fail> {
-    if line == "create" {
-        return Ok(Event::Create(message(alloc)?));
+    match line {
+        "create" => Ok(Event::Create(message(alloc)?)),
+        "retire" => Ok(Event::Retire),
+        "cutin" => Ok(Event::CutIn(1)),
+        "cutout" => Ok(Event::CutOut(1)),
+        "vouch" => Ok(Event::Vouch(Version::read("0.1")?)),
+        _ => edit_of(alloc, line),
     }
+}
+
+fn edit_of(alloc: Global, line: &str) -> Result<Event, Fail> {
     let mut bases = Vec::new(alloc);
     for base in line.split_whitespace() {
         bases.push(Version::read(base)?)?;
@@ -35,22 +44,33 @@ fn event_of(alloc: Global, line: &str) -> Result<Event, Fail> {
 /// How many bases the event names.
 fn base_count(event: &Event) -> usize {
     match event {
-        Event::Create(_) => 0,
         Event::Edit(bases, _) => bases.as_slice().len(),
+        _ => 0,
     }
 }
 
 /// The answer: the version, or the refusal's name, number and text.
 fn answer_text(alloc: Global, answer: Result<Reply, Refusal>) -> Result<String, Fail> {
     match answer {
-        Ok(reply) => issued_text(alloc, reply),
+        Ok(reply) => reply_text(alloc, reply),
         Err(refusal) => refusal_text(alloc, refusal),
     }
 }
 
-fn issued_text(alloc: Global, reply: Reply) -> Result<String, Fail> {
-    let Reply::Issued(version) = reply;
-    Ok(version.text(alloc)?)
+fn reply_text(alloc: Global, reply: Reply) -> Result<String, Fail> {
+    match reply {
+        Reply::Issued(version) => Ok(version.text(alloc)?),
+        Reply::Done => Ok(String::from_str(alloc, "done")?),
+        Reply::Vouched(receipt) => receipt_text(alloc, receipt),
+    }
+}
+
+/// Who vouches for which version of which item.
+fn receipt_text(alloc: Global, receipt: Receipt) -> Result<String, Fail> {
+    let giver = receipt.giver;
+    let version = receipt.descent.version();
+    let first = receipt.descent.item().creator();
+    Ok(format!(in alloc; "{giver} vouches for {version} of {first}")?)
 }
 
 fn refusal_text(alloc: Global, refusal: Refusal) -> Result<String, Fail> {
@@ -130,7 +150,7 @@ fn full_log(rt: HostRuntime) -> Result<(), Fail> {
     )?;
     assert_eq!(rt;
         answers.as_str(),
-        "; 0.1; 0.2; 8 LogFull, the log is full; 8 LogFull, the log is full; 3 NotHeld, the base 0.1 is not held"
+        "; 0.1; 0.2; 8 LogFull, the log is full; 8 LogFull, the log is full; 3 NotHeld, the version 0.1 is not held"
     );
     assert_eq!(rt; heads_text(alloc, &replica)?.as_str(), " 0.2");
     assert_eq!(rt;
@@ -149,7 +169,7 @@ fn refusals_of_edits(rt: HostRuntime) -> Result<(), Fail> {
     let answers = answers(alloc, &mut replica, &lines)?;
     assert_eq!(rt;
         answers.as_str(),
-        "; 2 NoBase, the edit names no base; 3 NotHeld, the base 0.1 is not held; 0.1; 0.2; 4 MixedItems, the bases are versions of several items; 3 NotHeld, the base 9.9 is not held"
+        "; 2 NoBase, the edit names no base; 3 NotHeld, the version 0.1 is not held; 0.1; 0.2; 4 MixedItems, the bases are versions of several items; 3 NotHeld, the version 9.9 is not held"
     );
     assert_eq!(rt; heads_text(alloc, &replica)?.as_str(), " 0.1 0.2");
     assert_eq!(rt; replica.log().len(), 2);
@@ -288,4 +308,83 @@ fn what_is_not_selected_is_pushed_out(rt: HostRuntime) -> Result<(), Fail> {
     assert_eq!(rt; push_outs_text(alloc, &replica)?.as_str(), " 0.2 0.3");
     assert_eq!(rt; replica.feed().len(), 0);
     check_below(&rt, alloc, &replica, "0.3", "0:2")
+}
+
+#[test]
+fn retires_past_a_full_log_once(rt: HostRuntime) -> Result<(), Fail> {
+    let alloc = rt.alloc();
+    let mut replica = replica_of(alloc, 2)?;
+    let answers = answers(
+        alloc,
+        &mut replica,
+        &["create", "0.1", "create", "retire", "create", "retire"],
+    )?;
+    assert_eq!(rt;
+        answers.as_str(),
+        "; 0.1; 0.2; 8 LogFull, the log is full; done; 1 Retired, the replica has retired; 1 Retired, the replica has retired"
+    );
+    assert!(rt; replica.is_retired());
+    assert_eq!(rt; replica.log().len(), 3);
+    Ok(())
+}
+
+#[test]
+fn vouches_for_a_head(rt: HostRuntime) -> Result<(), Fail> {
+    let alloc = rt.alloc();
+    let mut replica = replica_of(alloc, 9)?;
+    let answers = answers(alloc, &mut replica, &["vouch", "create", "vouch"])?;
+    assert_eq!(rt;
+        answers.as_str(),
+        "; 3 NotHeld, the version 0.1 is not held; 0.1; 0 vouches for 0.1 of 0.1"
+    );
+    assert_eq!(rt; replica.log().len(), 2);
+    Ok(())
+}
+
+#[test]
+fn cuts_nothing_that_is_not_open(rt: HostRuntime) -> Result<(), Fail> {
+    let alloc = rt.alloc();
+    let mut replica = replica_of(alloc, 9)?;
+    let answers = answers(
+        alloc,
+        &mut replica,
+        &["cutin", "cutout", "retire", "cutin", "cutout"],
+    )?;
+    assert_eq!(rt;
+        answers.as_str(),
+        "; 12 NoSession, no session of that number is open; 18 NoStream, no stream of that number is open; done; 1 Retired, the replica has retired; 18 NoStream, no stream of that number is open"
+    );
+    Ok(())
+}
+
+/// Replica 1's receipt for version 0.1 of the item 0.1.
+fn release_of_first(alloc: Global) -> Result<Event, Fail> {
+    let bytes = [0, 0, 0, 18, 2, 7, 0, 1, 0, 0, 0, 0, 0, 1, 0, 0, 0, 0, 0, 1, 0, 0];
+    match decode(alloc, &bytes)?.0 {
+        Frame::Receipt(receipt) => Ok(Event::Release(receipt)),
+        _ => Ok(Event::Retire),
+    }
+}
+
+/// What the replica answers to the receipt for its first version.
+fn release_text(alloc: Global, replica: &mut PlainReplica) -> Result<String, Fail> {
+    answer_text(alloc, replica.step(release_of_first(alloc)?.copy()?))
+}
+
+#[test]
+fn releases_and_retires(rt: HostRuntime) -> Result<(), Fail> {
+    let alloc = rt.alloc();
+    let mut replica = selecting_nothing(alloc)?;
+    let left = answers(alloc, &mut replica, &["create", "create", "retire", "vouch"])?;
+    assert_eq!(rt;
+        left.as_str(),
+        "; 0.1; 0.2; 21 PushOutsLeft, push-outs are left; 3 NotHeld, the version 0.1 is not held"
+    );
+    assert_eq!(rt; release_text(alloc, &mut replica)?.as_str(), "done");
+    assert_eq!(rt; push_outs_text(alloc, &replica)?.as_str(), " 0.2");
+    assert_eq!(rt;
+        release_text(alloc, &mut replica)?.as_str(),
+        "20 NotPushedOut, the receipt is for no push-out that is held"
+    );
+    Ok(())
 }

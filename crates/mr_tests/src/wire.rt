@@ -1,5 +1,5 @@
 //! `mr_wire`: frames find memory; bytes that others worked out; what is no frame.
-use mr_wire::{Kind, WireFault, decode, encode};
+use mr_wire::{Body, Frame, Kind, WireFault, decode, encode};
 use std::alloc::Global;
 use std::test::Fail;
 
@@ -37,6 +37,18 @@ const ITEM: [u8; 68] = [
     101, 114, 101, 1, 1, 97, 1, 0, 7,
 ];
 
+/// That 0.5, a version of 0.1 with 0.1 and 0.4 below it, was moved out.
+const MOVE_OUT: [u8; 60] = [
+    0, 0, 0, 56, 2, 3, 0, 0, 0, 0, 0, 0, 0, 0, 0, 1, 0, 1, 0, 0, 0, 0, 0, 0, 0, 1, 0, 0, 0, 2, 0,
+    0, 0, 0, 0, 1, 0, 0, 0, 0, 0, 5, 0, 1, 0, 0, 0, 0, 0, 4, 0, 1, 0, 0, 0, 2, 0, 0, 0, 3,
+];
+
+/// That the version 0.1 is known for the items 0.1 and 1.1.
+const KNOW: [u8; 57] = [
+    0, 0, 0, 53, 2, 5, 0, 0, 0, 0, 0, 0, 0, 0, 0, 1, 0, 1, 0, 0, 0, 0, 0, 0, 0, 1, 0, 0, 0, 3, 1,
+    0, 0, 0, 2, 0, 0, 0, 0, 0, 1, 0, 1, 0, 0, 0, 1, 0, 1, 0, 0, 0, 0, 0, 1, 0, 0,
+];
+
 /// The frame's bytes once it was read and written again.
 fn again(alloc: Global, bytes: &[u8]) -> Result<Vec<u8>, Fail> {
     let (frame, _) = decode(alloc, bytes)?;
@@ -50,6 +62,35 @@ fn in_format(alloc: Global, bytes: &[u8], format: u8) -> Result<Vec<u8>, Fail> {
         copy[4] = format;
     }
     Ok(copy)
+}
+
+/// How many bytes the frame says that it takes.
+fn told_len(alloc: Global, bytes: &[u8]) -> Result<usize, Fail> {
+    let (frame, _) = decode(alloc, bytes)?;
+    Ok(frame.encoded_len())
+}
+
+/// How many bytes the frame's fragments say that they take, and 0 where it has none.
+fn fragments_len(alloc: Global, bytes: &[u8]) -> Result<usize, Fail> {
+    let (frame, _) = decode(alloc, bytes)?;
+    match &frame {
+        Frame::Ask(ask) => Ok(ask.fragments_len()),
+        Frame::Record(record) => Ok(known_len(record.body())),
+        Frame::Receipt(_) => Ok(0),
+    }
+}
+
+/// How many bytes the fragment of a Know says that it takes.
+fn known_len(body: &Body) -> usize {
+    match body {
+        Body::Know(fragment) => fragment.encoded_len(),
+        _ => 0,
+    }
+}
+
+/// For how many bytes there is room once the frame was written again.
+fn written_room(alloc: Global, bytes: &[u8]) -> Result<usize, Fail> {
+    Ok(again(alloc, bytes)?.capacity())
 }
 
 /// The number of the fault that the bytes are refused with, and 9 where they are read.
@@ -85,6 +126,21 @@ fn ample_memory_item(rt: HostRuntime) -> Result<(), Fail> {
 }
 
 #[test]
+fn ample_memory_move_out(rt: HostRuntime) -> Result<(), Fail> {
+    assert_eq!(rt;
+        again(rt.alloc(), &MOVE_OUT)?.as_slice(),
+        MOVE_OUT.as_slice()
+    );
+    Ok(())
+}
+
+#[test]
+fn ample_memory_know(rt: HostRuntime) -> Result<(), Fail> {
+    assert_eq!(rt; again(rt.alloc(), &KNOW)?.as_slice(), KNOW.as_slice());
+    Ok(())
+}
+
+#[test]
 fn ample_memory_end(rt: HostRuntime) -> Result<(), Fail> {
     assert_eq!(rt; again(rt.alloc(), &END)?.as_slice(), END.as_slice());
     Ok(())
@@ -100,6 +156,51 @@ fn ample_memory_receipt(rt: HostRuntime) -> Result<(), Fail> {
 fn format_1_is_read(rt: HostRuntime) -> Result<(), Fail> {
     let old = in_format(rt.alloc(), &START, 1)?;
     assert_eq!(rt; again(rt.alloc(), &old)?.as_slice(), START.as_slice());
+    Ok(())
+}
+
+#[test]
+fn format_1_has_move_outs(rt: HostRuntime) -> Result<(), Fail> {
+    let old = in_format(rt.alloc(), &MOVE_OUT, 1)?;
+    assert_eq!(rt; again(rt.alloc(), &old)?.as_slice(), MOVE_OUT.as_slice());
+    Ok(())
+}
+
+#[test]
+fn format_1_has_knows(rt: HostRuntime) -> Result<(), Fail> {
+    let old = in_format(rt.alloc(), &KNOW, 1)?;
+    assert_eq!(rt; again(rt.alloc(), &old)?.as_slice(), KNOW.as_slice());
+    Ok(())
+}
+
+#[test]
+fn lengths_are_told(rt: HostRuntime) -> Result<(), Fail> {
+    assert_eq!(rt; told_len(rt.alloc(), &ASK)?, ASK.len());
+    assert_eq!(rt; told_len(rt.alloc(), &ITEM)?, ITEM.len());
+    assert_eq!(rt; told_len(rt.alloc(), &RECEIPT)?, RECEIPT.len());
+    Ok(())
+}
+
+#[test]
+fn lengths_of_records_are_told(rt: HostRuntime) -> Result<(), Fail> {
+    assert_eq!(rt; told_len(rt.alloc(), &MOVE_OUT)?, MOVE_OUT.len());
+    assert_eq!(rt; told_len(rt.alloc(), &HELD)?, HELD.len());
+    assert_eq!(rt; told_len(rt.alloc(), &KNOW)?, KNOW.len());
+    Ok(())
+}
+
+#[test]
+fn lengths_of_fragments_are_told(rt: HostRuntime) -> Result<(), Fail> {
+    assert_eq!(rt; fragments_len(rt.alloc(), &ASK)?, 3);
+    assert_eq!(rt; fragments_len(rt.alloc(), &KNOW)?, 27);
+    Ok(())
+}
+
+#[test]
+fn memory_is_taken_for_just_the_frame(rt: HostRuntime) -> Result<(), Fail> {
+    assert_eq!(rt; written_room(rt.alloc(), &ASK)?, ASK.len());
+    assert_eq!(rt; written_room(rt.alloc(), &ITEM)?, ITEM.len());
+    assert_eq!(rt; written_room(rt.alloc(), &KNOW)?, KNOW.len());
     Ok(())
 }
 
@@ -155,6 +256,19 @@ fn prefixes(rt: HostRuntime) {
     assert!(rt; are_prefixes_truncated(rt.alloc(), &ASK));
     assert!(rt; are_prefixes_truncated(rt.alloc(), &HELD));
     assert!(rt; are_prefixes_truncated(rt.alloc(), &RECEIPT));
+}
+
+#[test]
+fn prefixes_of_records(rt: HostRuntime) {
+    assert!(rt; are_prefixes_truncated(rt.alloc(), &ITEM));
+    assert!(rt; are_prefixes_truncated(rt.alloc(), &MOVE_OUT));
+    assert!(rt; are_prefixes_truncated(rt.alloc(), &KNOW));
+}
+
+#[test]
+fn prefixes_of_ends(rt: HostRuntime) {
+    assert!(rt; are_prefixes_truncated(rt.alloc(), &START));
+    assert!(rt; are_prefixes_truncated(rt.alloc(), &END));
 }
 
 #[test]

@@ -12,10 +12,10 @@ use Rattle.mr_wire.specs.declared.frame.Receipt.{Receipt}
 use Rattle.mr_wire.specs.declared.frame.Frame.TheVariants as frame
 use Rattle.mr_wire.specs.declared.kind.Kind.{Kind}
 use Rattle.mr_wire.specs.declared.kind.Kind.TheVariants as kind
-use Rattle.mr_wire.specs.Values.{Line, Piece, least_item}
+use Rattle.mr_wire.specs.Values.{DescentParts, Piece, least_item}
 use Rattle.mr_wire.specs.Frames.{Sent, Question, IsSent, IsIndexOf, IsQuestion, FragmentsRise, least_follows}
 use Rattle.mr_wire.specs.Reading.{Reader, number_at, as_at, Stands}
-use Rattle.mr_wire.specs.Parts.{author_at, filter_at, line_at, vector_at, fragment_at}
+use Rattle.mr_wire.specs.Parts.{author_at, filter_at, descent_at, vector_at, fragment_at}
 use Rattle.mr_wire.specs.FrameParts.{mode_at, revision_at, serial_at, header_at, body_at, index_fits, record_at, asked_at, next_asked, ask_at, receipt_at, frame_at}
 use Rattle.mr_wire.specs.Bodies.{asked_run}
 use Rattle.mr_wire.proofs.Laws.{Reads, RunFits, bind_some, some_is, reads_like, reads_only, reads_as, reads_then, reads_run, reads_u32, reads_u64}
@@ -49,7 +49,7 @@ at_as at index to each old says new e =
 pub index_of : (k : Kind) (old : List ℕ) (says : Body) (new : List ℕ) (index : ℕ) → body_at k old ≡ Some (says, new) → index_fits k index ≡ true → IsIndexOf says index
 index_of kind.Start old says new index e h = at_as mode_at index body.Start (λ mode. eqb-true index 0 h) old says new e
 index_of kind.Item old says new index e h = at_as revision_at index body.Item (λ r. leb-true 1 index h) old says new e
-index_of kind.MoveOut old says new index e h = at_as line_at index body.MoveOut (λ r. leb-true 1 index h) old says new e
+index_of kind.MoveOut old says new index e h = at_as descent_at index body.MoveOut (λ r. leb-true 1 index h) old says new e
 index_of kind.Held old says new index e h = at_as vector_at index body.Held (λ r. leb-true 1 index h) old says new e
 index_of kind.Know old says new index e h = at_as fragment_at index body.Know (λ r. leb-true 1 index h) old says new e
 index_of kind.End old says new index e h = let is : (body.End, old) ≡ (says, new) = some_is (body.End, old) (says, new) e in subst (λ (p : Body × List ℕ). IsIndexOf p.0 index) is (leb-true 1 index h)
@@ -90,12 +90,12 @@ module _ (k : Kind) (old r1 new : List ℕ) (header : Header) (e : header_at old
 
 -- ---- receipts
 
-kept_receipt : (r : Option Receipt) (kept : Option Line) (giver : ℕ) (line : Line) → IfSome kept (λ d. d ≡ line) → IfSome r (λ r. IsSomeAnd kept (λ d. r ≡ record { giver = giver; descent = d })) → IfSome r (λ r. r ≡ record { giver = giver; descent = line })
-kept_receipt None kept giver line is made = tt
-kept_receipt (Some r) None giver line is made = absurd made
-kept_receipt (Some r) (Some d) giver line is made = made ∙ ap (λ (l : Line). record { giver = giver; descent = l }) is
+kept_receipt : (r : Option Receipt) (kept : Option DescentParts) (giver : ℕ) (descent : DescentParts) → IfSome kept (λ d. d ≡ descent) → IfSome r (λ r. IsSomeAnd kept (λ d. r ≡ record { giver = giver; descent = d })) → IfSome r (λ r. r ≡ record { giver = giver; descent = descent })
+kept_receipt None kept giver descent is made = tt
+kept_receipt (Some r) None giver descent is made = absurd made
+kept_receipt (Some r) (Some d) giver descent is made = made ∙ ap (λ (l : DescentParts). record { giver = giver; descent = l }) is
 
-pub stands_receipt : (old r1 new : List ℕ) (giver : ℕ) (kept : Option Line) (Note : Line → Type 0) (r : Option Receipt) → author_at old ≡ Some (giver, r1) → Stands (λ (d : Line). d) line_at r1 kept new Note →
+pub stands_receipt : (old r1 new : List ℕ) (giver : ℕ) (kept : Option DescentParts) (Note : DescentParts → Type 0) (r : Option Receipt) → author_at old ≡ Some (giver, r1) → Stands (λ (d : DescentParts). d) descent_at r1 kept new Note →
     IfSome r (λ r. IsSomeAnd kept (λ d. r ≡ record { giver = giver; descent = d })) → Stands (λ (r : Receipt). r) receipt_at old r new (λ _. Unit {0})
 stands_receipt old r1 new giver kept Note r e s made = record { part = record { giver = giver; descent = s.part }; stands = rw (e, s.stands) refl; is_part = kept_receipt r kept giver s.part s.is_part made; told = tt }
 

@@ -18,19 +18,19 @@ use Rattle.mr_wire.specs.declared.frame.Frame.{Frame}
 use Rattle.mr_wire.specs.declared.frame.Frame.TheVariants as frame
 use Rattle.mr_wire.specs.declared.kind.Kind.{Kind}
 use Rattle.mr_wire.specs.declared.kind.Kind.TheVariants as kind
-use Rattle.mr_wire.specs.Values.{Line, Piece, least_item}
+use Rattle.mr_wire.specs.Values.{DescentParts, Piece, least_item}
 use Rattle.mr_wire.specs.Frames.{Sent, Question, IsIndexOf, FragmentsRise}
 use Rattle.mr_wire.specs.Reading.{Reader, ◌>>=◌, number_at, only_at, as_at, then_at}
 use Rattle.mr_wire.specs.FrameParts.{mode_of, mode_at, revision_at, rev_with, header_at, body_at, index_fits, record_at, next_asked, ask_at, receipt_at, frame_at}
-use Rattle.mr_wire.specs.Spelling.{u8, u16, line_bytes, message_bytes}
-use Rattle.mr_wire.specs.FrameSpelling.{header_bytes, mode_byte, line_of, body_bytes, ask_bytes, part_bytes, kind_of_body, kind_of}
+use Rattle.mr_wire.specs.Spelling.{u8, u16, descent_bytes, message_bytes}
+use Rattle.mr_wire.specs.FrameSpelling.{header_bytes, mode_byte, descent_of, body_bytes, ask_bytes, part_bytes, kind_of_body, kind_of}
 use Rattle.mr_wire.specs.Grammar.{IsDescent, IsLetter, IsFramed, IsHeader, IsSaid, IsAsked, IsFrame}
 use Rattle.mr_wire.proofs.Laws.{Reads, RunFits, bind_some, some_is, reads_like, reads_only, reads_as, reads_then, reads_counted, reads_run, reads_u8, reads_u32}
 use Rattle.mr_wire.proofs.PartLaws.{reads_author, reads_vector}
 use Rattle.mr_wire.proofs.FilterLaws.{reads_filter}
 use Rattle.mr_wire.proofs.MessageLemmas.{reads_message}
 use Rattle.mr_wire.proofs.ItemLemmas.{reads_fragment}
-use Rattle.mr_wire.proofs.LineLemmas.{reads_line}
+use Rattle.mr_wire.proofs.DescentLemmas.{reads_descent}
 use Rattle.mr_wire.proofs.BodyLemmas.{reads_serial, reads_header, reads_asked, fragments_rise, index_of, AskedFits}
 
 -- ---- one part seen as another value
@@ -64,8 +64,8 @@ mode_of_byte : (mode : Mode) → mode_of (mode_byte mode) ≡ mode
 mode_of_byte Partial = refl
 mode_of_byte Full = refl
 
-reads_revision : Reads (λ r. IsDescent (line_of r) × IsLetter r.message) (λ r. line_bytes (line_of r) ++ message_bytes r.message) revision_at
-reads_revision = reads_as (λ (p : Line × Mail). rev_with p.0 p.1) (λ (r : Rev). (line_of r, r.message)) (λ r. refl) (λ p. refl) (reads_then reads_line (λ _. reads_message))
+reads_revision : Reads (λ r. IsDescent (descent_of r) × IsLetter r.message) (λ r. descent_bytes (descent_of r) ++ message_bytes r.message) revision_at
+reads_revision = reads_as (λ (p : DescentParts × Mail). rev_with p.0 p.1) (λ (r : Rev). (descent_of r, r.message)) (λ r. refl) (λ p. refl) (reads_then reads_descent (λ _. reads_message))
 
 -- ---- bodies
 
@@ -94,7 +94,7 @@ reads_mode = record {
 body_takes : (k : Kind) (bytes : List ℕ) (says : Body) (rest : List ℕ) → body_at k bytes ≡ Some (says, rest) → TakesBody k bytes says rest
 body_takes kind.Start = takes_of body.Start kind.Start reads_mode (λ m. refl) (λ m. refl) (λ m h. tt)
 body_takes kind.Item = takes_of body.Item kind.Item reads_revision (λ m. refl) (λ m. refl) (λ m h. h)
-body_takes kind.MoveOut = takes_of body.MoveOut kind.MoveOut reads_line (λ m. refl) (λ m. refl) (λ m h. h)
+body_takes kind.MoveOut = takes_of body.MoveOut kind.MoveOut reads_descent (λ m. refl) (λ m. refl) (λ m h. h)
 body_takes kind.Held = takes_of body.Held kind.Held reads_vector (λ m. refl) (λ m. refl) (λ m h. h)
 body_takes kind.Know = takes_of body.Know kind.Know reads_fragment (λ m. refl) (λ m. refl) (λ m h. h)
 body_takes kind.End = λ bytes says rest e.
@@ -106,7 +106,7 @@ body_takes kind.Receipt = λ bytes says rest e. absurd cc
 body_again : (says : Body) (rest : List ℕ) → IsSaid says → body_at (kind_of_body says) (body_bytes says ++ rest) ≡ Some (says, rest)
 body_again (body.Start mode) rest h = as_again body.Start reads_mode mode rest tt
 body_again (body.Item r) rest h = as_again body.Item reads_revision r rest h
-body_again (body.MoveOut line) rest h = as_again body.MoveOut reads_line line rest h
+body_again (body.MoveOut descent) rest h = as_again body.MoveOut reads_descent descent rest h
 body_again (body.Held vector) rest h = as_again body.Held reads_vector vector rest h
 body_again (body.Know piece) rest h = as_again body.Know reads_fragment piece rest h
 body_again body.End rest h = refl
@@ -116,7 +116,7 @@ body_again body.End rest h = refl
 index_passes : (says : Body) (index : ℕ) → IsIndexOf says index → index_fits (kind_of_body says) index ≡ true
 index_passes (body.Start mode) index h = eq-eqb index 0 h
 index_passes (body.Item r) index h = le-leb 1 index h
-index_passes (body.MoveOut line) index h = le-leb 1 index h
+index_passes (body.MoveOut descent) index h = le-leb 1 index h
 index_passes (body.Held vector) index h = le-leb 1 index h
 index_passes (body.Know piece) index h = le-leb 1 index h
 index_passes body.End index h = le-leb 1 index h
@@ -166,8 +166,8 @@ reads_ask = reads_like IsAsked ask_bytes
     (λ q h. (h.target_in, (h.session_in, (h.filter_in, (h.few, asked_fit q.fragments None h.each h.rise)))))
     (λ q. refl)
 
-reads_receipt : Reads (λ (r : Receipt). (r.giver < 64) × IsDescent r.descent) (λ r. u16 r.giver ++ line_bytes r.descent) receipt_at
-reads_receipt = reads_as (λ (p : ℕ × Line). record { giver = p.0; descent = p.1 }) (λ (r : Receipt). (r.giver, r.descent)) (λ r. refl) (λ p. refl) (reads_then reads_author (λ _. reads_line))
+reads_receipt : Reads (λ (r : Receipt). (r.giver < 64) × IsDescent r.descent) (λ r. u16 r.giver ++ descent_bytes r.descent) receipt_at
+reads_receipt = reads_as (λ (p : ℕ × DescentParts). record { giver = p.0; descent = p.1 }) (λ (r : Receipt). (r.giver, r.descent)) (λ r. refl) (λ p. refl) (reads_then reads_author (λ _. reads_descent))
 
 -- ---- frames
 
@@ -205,7 +205,7 @@ frame_takes kind.End = record_frame kind.End
 kinds_are_records : (says : Body) → frame_at (kind_of_body says) ≡ as_at frame.Record (record_at (kind_of_body says))
 kinds_are_records (body.Start mode) = refl
 kinds_are_records (body.Item r) = refl
-kinds_are_records (body.MoveOut line) = refl
+kinds_are_records (body.MoveOut descent) = refl
 kinds_are_records (body.Held vector) = refl
 kinds_are_records (body.Know piece) = refl
 kinds_are_records body.End = refl

@@ -7,8 +7,10 @@ pub mod FilterLaws
 pub mod FilterLemmas
 pub mod MessageLemmas
 pub mod ItemLemmas
-pub mod LineLemmas
+pub mod DescentLemmas
 pub mod BodyLemmas
 pub mod FrameLaws
 pub mod DecodeLaws
 pub mod PutLemmas
+pub mod LengthLemmas
+mod Rows

@@ -3,17 +3,13 @@ use Rattle.std.proofs.Common.{◌≡◌, ℕ, ◌≤◌, ◌<◌, ◌^◌, Bool,
 use Rattle.std.specs.Prelude.{IfSome, IfOk, IsSomeAnd, nat_le}
 use Rattle.std.specs.Global.{Vec}
 use Rattle.std.specs.Int.{w16, w32}
-use Rattle.std.specs.List.{list_any}
 use Rattle.std.specs.Str.{IsUtf8, is_utf8}
-use Rattle.std.specs.Ordering.{eq_by_cmp}
-use Rattle.std.specs.Cmp.Lexicographic.{nat_list_cmp_total, texts_ties}
-use Rattle.std.specs.BTreeSet.{BTreeSet}
-use Rattle.std.proofs.lemmas.Map.Lookups.{btree_set_from_contains, exact_bytes}
 use Rattle.std.proofs.lemmas.Bool.{le-leb, leb-true}
 use Rattle.std.proofs.lemmas.Str.{IsUtf8-from_is_utf8, is_utf8-from_IsUtf8}
-use Rattle.mr_mail.specs.Label.{text_cmp, text_eq, IsLabelSet, AreLabelsOf}
+use Rattle.mr_mail.specs.Label.{IsLabelSet, AreLabelsOf}
 use Rattle.mr_mail.specs.Mail.{Mail}
 use Rattle.mr_mail.specs.declared.fault.MessageFault.{MessageFault}
+use Rattle.mr_filter.proofs.UniqueLemmas.{AreLabelsOf-unique}
 use Rattle.mr_wire.specs.Labels.{message_with}
 use Rattle.mr_wire.specs.Grammar.{IsLetter}
 use Rattle.mr_wire.specs.Reading.{number_at, only_at, Stands}
@@ -33,16 +29,6 @@ no_text bs h = at_test (is_utf8 bs) refl
     at_test true e = absurd (h (IsUtf8-from_is_utf8 bs e))
     at_test false e = e
 
--- labels that rise already are the labels that were given
-pub same_labels : (given xs : List (List ℕ)) → IsLabelSet given → AreLabelsOf given xs → xs ≡ given
-same_labels given xs set of =
-    let same_test : eq_by_cmp text_cmp ≡ text_eq = λ i a b. sym (texts_ties a b) i in
-    let same : (label : List ℕ) → list_any (eq_by_cmp text_cmp label) xs ≡ list_any (eq_by_cmp text_cmp label) given =
-    λ label. ap (λ e. list_any (e label) xs) same_test ∙ of.same label ∙ ap (λ e. list_any (e label) given) (sym same_test) in
-    let first : BTreeSet (List ℕ) = record { keys = xs } in
-    let second : BTreeSet (List ℕ) = record { keys = given } in
-    btree_set_from_contains nat_list_cmp_total first second of.rising set.rising same exact_bytes
-
 -- what a message is that was made of parts
 pub record IsMadeOf (from subject body : List ℕ) (labels : List (List ℕ)) (flags day : ℕ) (mail : Mail) : Type 0 where
   pub from_is : mail.from ≡ from
@@ -54,7 +40,8 @@ pub record IsMadeOf (from subject body : List ℕ) (labels : List (List ℕ)) (f
 
 pub is_message : (from subject body : List ℕ) (labels : List (List ℕ)) (flags day : ℕ) (mail : Mail) → IsLabelSet labels → IsMadeOf from subject body labels flags day mail → mail ≡ message_with from subject body labels flags day
 is_message from subject body labels flags day mail set m =
-    let e = same_labels labels mail.labels set m.labels_are in
+    let kept : AreLabelsOf labels labels = record { rising = set.rising; same = λ label. refl } in
+    let e : mail.labels ≡ labels = AreLabelsOf-unique labels mail.labels labels m.labels_are kept in
     rw (← m.from_is, ← m.subject_is, ← m.body_is, ← e, ← m.flags_are, ← m.day_is) refl
 
 pub is_built : (r : Result Mail MessageFault) (from subject body : List ℕ) (labels : List (List ℕ)) (flags day : ℕ) → IsLabelSet labels →

@@ -15,26 +15,26 @@ use Rattle.mr_wire.specs.declared.frame.Frame.{Frame}
 use Rattle.mr_wire.specs.declared.frame.Frame.TheVariants as frame
 use Rattle.mr_wire.specs.declared.kind.Kind.{Kind}
 use Rattle.mr_wire.specs.declared.kind.Kind.TheVariants as kind
-use Rattle.mr_wire.specs.declared.line.LineParts.{LineParts}
-use Rattle.mr_wire.specs.Values.{Line, Piece, least_item}
+use Rattle.mr_wire.specs.declared.revision.ReadDescent.{ReadDescent}
+use Rattle.mr_wire.specs.Values.{DescentParts, Piece, least_item}
 use Rattle.mr_wire.specs.Frames.{Sent, Question, least_follows}
 use Rattle.mr_wire.specs.Reading.{Reader, number_at, only_at, as_at, then_at, counted_at, run_at, Stands}
-use Rattle.mr_wire.specs.Parts.{author_at, vector_at, line_at, filter_at, message_at, fragment_at}
+use Rattle.mr_wire.specs.Parts.{author_at, vector_at, descent_at, filter_at, message_at, fragment_at}
 
 -- the version of the item, with what it supersedes
-abbrev pub line_with : Name → Name → List AuthorColumn → Line
-line_with item version below = record { item = item; version = version; below = below }
+abbrev pub descent_with : Name → Name → List AuthorColumn → DescentParts
+descent_with item version below = record { item = item; version = version; below = below }
 
-abbrev pub FindsLine : List ℕ → Option LineParts → List ℕ → Type 0
-FindsLine old None new = line_at old ≡ None
-FindsLine old (Some found) new = Stands (line_with found.item found.version) line_at old found.below new (λ line. (line.item ≡ found.item) × (line.version ≡ found.version))
+abbrev pub FindsDescent : List ℕ → Option ReadDescent → List ℕ → Type 0
+FindsDescent old None new = descent_at old ≡ None
+FindsDescent old (Some found) new = Stands (descent_with found.item found.version) descent_at old found.below new (λ descent. (descent.item ≡ found.item) × (descent.version ≡ found.version))
 
-abbrev pub rev_with : Line → Mail → Rev
-rev_with line message = record { item = line.item; version = line.version; below = line.below; message = message }
+abbrev pub rev_with : DescentParts → Mail → Rev
+rev_with descent message = record { item = descent.item; version = descent.version; below = descent.below; message = message }
 
 -- a revision: a version of an item, and its message
 abbrev pub revision_at : Reader Rev
-revision_at = as_at (λ p. rev_with p.0 p.1) (then_at line_at (λ _. message_at))
+revision_at = as_at (λ p. rev_with p.0 p.1) (then_at descent_at (λ _. message_at))
 
 -- the number of a stream or a session: 1 or more
 abbrev pub serial_at : Reader ℕ
@@ -65,13 +65,13 @@ ask_at =
     (then_at author_at (λ _. then_at serial_at (λ _. then_at filter_at (λ _. counted_at (number_at w32) (run_at asked_at next_asked None)))))
 
 abbrev pub receipt_at : Reader Receipt
-receipt_at = as_at (λ p. record { giver = p.0; descent = p.1 }) (then_at author_at (λ _. line_at))
+receipt_at = as_at (λ p. record { giver = p.0; descent = p.1 }) (then_at author_at (λ _. descent_at))
 
 -- what a record of this kind says
 abbrev pub body_at : Kind → Reader Body
 body_at kind.Start = as_at body.Start mode_at
 body_at kind.Item = as_at body.Item revision_at
-body_at kind.MoveOut = as_at body.MoveOut line_at
+body_at kind.MoveOut = as_at body.MoveOut descent_at
 body_at kind.Held = as_at body.Held vector_at
 body_at kind.Know = as_at body.Know fragment_at
 body_at kind.End = λ bytes. Some (body.End, bytes)

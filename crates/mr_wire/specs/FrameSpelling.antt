@@ -11,10 +11,10 @@ use Rattle.mr_wire.specs.declared.frame.Frame.{Frame}
 use Rattle.mr_wire.specs.declared.frame.Frame.TheVariants as frame
 use Rattle.mr_wire.specs.declared.kind.Kind.{Kind}
 use Rattle.mr_wire.specs.declared.kind.Kind.TheVariants as kind
-use Rattle.mr_wire.specs.Values.{Line}
+use Rattle.mr_wire.specs.Values.{DescentParts}
 use Rattle.mr_wire.specs.Frames.{Question}
 use Rattle.mr_wire.specs.Kinds.{kind_byte}
-use Rattle.mr_wire.specs.Spelling.{u8, u16, u32, u64, vector_bytes, filter_bytes, message_bytes, fragment_bytes, line_bytes}
+use Rattle.mr_wire.specs.Spelling.{u8, u16, u32, u64, vector_bytes, filter_bytes, message_bytes, fragment_bytes, descent_bytes}
 
 -- a header: source, stream, target, session, index
 abbrev pub header_bytes : Header → List ℕ
@@ -25,14 +25,14 @@ abbrev pub mode_byte : Mode → ℕ
 mode_byte Partial = 0
 mode_byte Full = 1
 
-abbrev pub line_of : Rev → Line
-line_of r = record { item = r.item; version = r.version; below = r.below }
+abbrev pub descent_of : Rev → DescentParts
+descent_of r = record { item = r.item; version = r.version; below = r.below }
 
 -- what stands behind a record's header
 abbrev pub body_bytes : Body → List ℕ
 body_bytes (body.Start mode) = u8 (mode_byte mode)
-body_bytes (body.Item r) = line_bytes (line_of r) ++ message_bytes r.message
-body_bytes (body.MoveOut line) = line_bytes line
+body_bytes (body.Item r) = descent_bytes (descent_of r) ++ message_bytes r.message
+body_bytes (body.MoveOut descent) = descent_bytes descent
 body_bytes (body.Held vector) = vector_bytes vector
 body_bytes (body.Know piece) = fragment_bytes piece
 body_bytes body.End = []
@@ -45,12 +45,12 @@ ask_bytes q = u16 q.target ++ (u64 q.session ++ (filter_bytes q.filter ++ (u32 (
 abbrev pub part_bytes : Frame → List ℕ
 part_bytes (frame.Ask q) = ask_bytes q
 part_bytes (frame.Record r) = header_bytes r.header ++ body_bytes r.body
-part_bytes (frame.Receipt r) = u16 r.giver ++ line_bytes r.descent
+part_bytes (frame.Receipt r) = u16 r.giver ++ descent_bytes r.descent
 
 abbrev pub kind_of_body : Body → Kind
 kind_of_body (body.Start mode) = kind.Start
 kind_of_body (body.Item r) = kind.Item
-kind_of_body (body.MoveOut line) = kind.MoveOut
+kind_of_body (body.MoveOut descent) = kind.MoveOut
 kind_of_body (body.Held vector) = kind.Held
 kind_of_body (body.Know piece) = kind.Know
 kind_of_body body.End = kind.End

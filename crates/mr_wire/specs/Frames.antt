@@ -16,7 +16,7 @@ pub record Sent : Type 0 where
 abbrev pub IsIndexOf : Body → ℕ → Type 0
 IsIndexOf (Start mode) index = index ≡ 0
 IsIndexOf (Item revision) index = 1 ≤ index
-IsIndexOf (MoveOut line) index = 1 ≤ index
+IsIndexOf (MoveOut descent) index = 1 ≤ index
 IsIndexOf (Held vector) index = 1 ≤ index
 IsIndexOf (Know piece) index = 1 ≤ index
 IsIndexOf End index = 1 ≤ index

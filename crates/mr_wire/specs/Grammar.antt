@@ -12,17 +12,17 @@ use Rattle.mr_wire.specs.declared.frame.Body.{Body}
 use Rattle.mr_wire.specs.declared.frame.Body.TheVariants as body
 use Rattle.mr_wire.specs.declared.frame.Frame.{Frame}
 use Rattle.mr_wire.specs.declared.frame.Frame.TheVariants as frame
-use Rattle.mr_wire.specs.Values.{Line, Piece, AreItems}
+use Rattle.mr_wire.specs.Values.{DescentParts, Piece, AreItems}
 use Rattle.mr_wire.specs.Frames.{Question, IsIndexOf, FragmentsRise}
 use Rattle.mr_wire.specs.Kinds.{kind_byte, kind_of_byte}
-use Rattle.mr_wire.specs.FrameSpelling.{line_of, kind_of, rest_bytes, frame_bytes}
+use Rattle.mr_wire.specs.FrameSpelling.{descent_of, kind_of, rest_bytes, frame_bytes}
 
 -- the item and the version are such, what it supersedes is a vector, and together they are as those of a revision
-pub record IsDescent (line : Line) : Type 0 where
-  pub item_in : IsVersion line.item.author line.item.counter
-  pub version_in : IsVersion line.version.author line.version.counter
-  pub vector_in : IsVectorFrom 0 line.below
-  pub revision_in : IsRevision line.item line.version line.below
+pub record IsDescent (descent : DescentParts) : Type 0 where
+  pub item_in : IsVersion descent.item.author descent.item.counter
+  pub version_in : IsVersion descent.version.author descent.version.counter
+  pub vector_in : IsVectorFrom 0 descent.below
+  pub revision_in : IsRevision descent.item descent.version descent.below
 
 -- a message whose sender and subject are texts
 pub record IsLetter (mail : Mail) : Type 0 where
@@ -55,8 +55,8 @@ pub record IsHeader (header : Header) : Type 0 where
 -- what a record says is in the grammar
 abbrev pub IsSaid : Body → Type 0
 IsSaid (body.Start mode) = Unit {0}
-IsSaid (body.Item r) = IsDescent (line_of r) × IsLetter r.message
-IsSaid (body.MoveOut line) = IsDescent line
+IsSaid (body.Item r) = IsDescent (descent_of r) × IsLetter r.message
+IsSaid (body.MoveOut descent) = IsDescent descent
 IsSaid (body.Held vector) = IsVectorFrom 0 vector
 IsSaid (body.Know piece) = IsFramed piece
 IsSaid body.End = Unit {0}

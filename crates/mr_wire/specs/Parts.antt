@@ -8,7 +8,7 @@ use Rattle.mr_mail.specs.Label.{is_label, text_cmp}
 use Rattle.mr_mail.specs.Mail.{Mail}
 use Rattle.mr_filter.specs.Filter.{ClauseParts, clause_with}
 use Rattle.mr_concise.specs.Vector.{vector_has}
-use Rattle.mr_wire.specs.Values.{Line, Piece, item_follows}
+use Rattle.mr_wire.specs.Values.{DescentParts, Piece, item_follows}
 use Rattle.mr_concise.specs.declared.column.Hole.{Hole}
 use Rattle.mr_concise.specs.declared.vector.AuthorColumn.{AuthorColumn}
 use Rattle.mr_wire.specs.Reading.{Reader, ◌>>=◌, number_at, bytes_at, only_at, as_at, then_at, counted_at, run_at}
@@ -53,14 +53,14 @@ abbrev pub vector_at : Reader (List AuthorColumn)
 vector_at = counted_at (number_at w16) (columns_at 0)
 
 -- a version never supersedes itself; an item's first one supersedes nothing, and each other one the first
-abbrev pub is_line : Line → Bool
-is_line line =
-    not (vector_has line.below line.version)
-    && (if name_eq line.version line.item then length line.below == 0 else vector_has line.below line.item)
+abbrev pub is_descent : DescentParts → Bool
+is_descent descent =
+    not (vector_has descent.below descent.version)
+    && (if name_eq descent.version descent.item then length descent.below == 0 else vector_has descent.below descent.item)
 
 -- an item, a version of it, and what that supersedes
-abbrev pub line_at : Reader Line
-line_at = only_at is_line (as_at (λ p. record { item = p.0; version = p.1.0; below = p.1.1 }) (then_at name_at (λ _. then_at name_at (λ _. vector_at))))
+abbrev pub descent_at : Reader DescentParts
+descent_at = only_at is_descent (as_at (λ p. record { item = p.0; version = p.1.0; below = p.1.1 }) (then_at name_at (λ _. then_at name_at (λ _. vector_at))))
 
 -- whether a label may follow the one before it, if there is one: labels rise by their bytes
 abbrev pub label_follows : Option (List ℕ) → List ℕ → Bool

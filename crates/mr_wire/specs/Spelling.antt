@@ -7,7 +7,7 @@ use Rattle.mr_concise.specs.declared.column.Hole.{Hole}
 use Rattle.mr_concise.specs.declared.vector.AuthorColumn.{AuthorColumn}
 use Rattle.mr_filter.specs.Filter.{ClauseParts}
 use Rattle.mr_mail.specs.Mail.{Mail}
-use Rattle.mr_wire.specs.Values.{Line, Piece}
+use Rattle.mr_wire.specs.Values.{DescentParts, Piece}
 
 -- numbers of one, two, four and eight bytes, the highest byte first
 abbrev pub u8 : ℕ → List ℕ
@@ -76,5 +76,5 @@ abbrev pub fragment_bytes : Piece → List ℕ
 fragment_bytes piece = items_bytes piece.items ++ vector_bytes piece.vector
 
 -- a version of an item: item, version, what it supersedes
-abbrev pub line_bytes : Line → List ℕ
-line_bytes line = name_bytes line.item ++ (name_bytes line.version ++ vector_bytes line.below)
+abbrev pub descent_bytes : DescentParts → List ℕ
+descent_bytes descent = name_bytes descent.item ++ (name_bytes descent.version ++ vector_bytes descent.below)

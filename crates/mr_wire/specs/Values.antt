@@ -3,21 +3,20 @@ use Rattle.std.specs.Prelude.{◌≡◌, ◌≤◌, Bool, true, List, [], ◌∷
 use Rattle.std.specs.Coded.{Coded, code_by, coded×, coded_list, coded_option}
 use Rattle.std.specs.Ordering.{is_lt}
 use Rattle.mr_version.specs.Name.{Name, name_code, name_cmp}
-use Rattle.mr_forms.specs.declared.fragment.ItemSet.{ItemSet}
-use Rattle.mr_forms.specs.declared.fragment.ItemSet.TheVariants.{All, Listed}
 use Rattle.mr_forms.specs.declared.fragment.Fragment.{Fragment}
+pub use Rattle.mr_forms.specs.Covered.{listed_items}
 use Rattle.mr_concise.specs.declared.vector.AuthorColumn.{AuthorColumn}
 use Rattle.mr_concise.specs.Vector.{author_column_code}
 
 -- a version of an item, with the versions that it supersedes
-pub record Line : Type 0 where
+pub record DescentParts : Type 0 where
   pub item : Name
   pub version : Name
   pub below : List AuthorColumn
 
 -- it is stored as the tuple of its parts
-abbrev pub line_code : Coded Line
-line_code =
+abbrev pub descent_code : Coded DescentParts
+descent_code =
     code_by ((Name × Name) × List AuthorColumn) (coded× (coded× name_code name_code) (coded_list author_column_code))
     (λ d. ((d.item, d.version), d.below)) (λ p. record { item = p.0.0; version = p.0.1; below = p.1 }) (λ _. refl)
 
@@ -31,11 +30,6 @@ abbrev pub piece_code : Coded Piece
 piece_code =
     code_by (Option (List Name) × List AuthorColumn) (coded× (coded_option (coded_list name_code)) (coded_list author_column_code))
     (λ f. (f.items, f.vector)) (λ p. record { items = p.0; vector = p.1 }) (λ _. refl)
-
--- the items of an item set
-abbrev pub listed_items : ItemSet → Option (List Name)
-listed_items All = None
-listed_items (Listed items) = Some items.items
 
 -- the fragment without where it lies in memory
 abbrev pub piece_of : Fragment (List AuthorColumn) → Piece

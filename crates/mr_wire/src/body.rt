@@ -15,7 +15,7 @@ use crate::input::Input;
 use crate::items::{follows, fragment};
 use crate::keep::{keep, room};
 use crate::kind::Kind;
-use crate::line::{descent, revision};
+use crate::revision::{descent, revision};
 use crate::vector::vector;
 use mr_filter::Filter;
 use mr_version::{Author, Version};

@@ -18,12 +18,12 @@ pub struct Descent {
 }
 
 impl Model for Descent {
-    ghost use Rattle.mr_wire.specs.Values.{Line, line_code};
+    ghost use Rattle.mr_wire.specs.Values.{DescentParts, descent_code};
     ghost use Rattle.mr_madewith.specs.Revision.{IsRevision};
 
-    ghost Value = { Line };
+    ghost Value = { DescentParts };
 
-    ghost coded = { line_code };
+    ghost coded = { descent_code };
 
     ghost view = { λ d. record { item = d.item; version = d.version; below = d.below } };
 

@@ -1,19 +1,26 @@
 //! From a frame to bytes.
-ghost use Rattle.std.specs.Prelude.{◌≡◌, ◌≤◌, ◌<◌, ◌++◌, OnOk, IfOk, length};
+ghost use Rattle.std.specs.Prelude.{◌≡◌, ◌≢◌, ◌≤◌, ◌<◌, ◌^◌, ◌++◌, OnOk, IfOk, All, Err, length};
 ghost use Rattle.std.specs.List.{flat_map};
-ghost use Rattle.mr_wire.specs.Spelling.{u64, fragment_bytes, line_bytes, message_bytes};
-ghost use Rattle.mr_wire.specs.FrameSpelling.{ask_bytes, body_bytes, header_bytes, kind_of, kind_of_body, line_of, part_bytes};
-ghost use Rattle.mr_wire.specs.Encoding.{Encodes, unfinished, with_length};
-ghost use Rattle.mr_wire.specs.Grammar.{IsFrame, Spells};
+ghost use Rattle.mr_wire.specs.Spelling.{u64, fragment_bytes, descent_bytes, message_bytes};
+ghost use Rattle.mr_wire.specs.FrameSpelling.{ask_bytes, body_bytes, header_bytes, kind_of, kind_of_body, descent_of, part_bytes, frame_bytes};
+ghost use Rattle.mr_wire.specs.Frames.{IsIndexOf};
+ghost use Rattle.mr_wire.specs.Encoding.{Encodes, HasShortFragments};
+ghost use Rattle.mr_wire.specs.Grammar.{IsAsked, IsDescent, IsFrame, IsFramed, IsHeader, IsLetter, IsSaid, Spells};
 
 use crate::decoding::{LENGTH_BYTES, MAX_REST_BYTES};
 use crate::fault::WireFault;
 use crate::fragment::FrameFragment;
 use crate::frame::{Ask, Body, Frame, Header, Mode, Record};
 use crate::kind::{FORMAT, Kind};
-use crate::put::{put_filter, put_fragment, put_line, put_message, put_u16, put_u32, put_vector};
+use crate::lengths::parts_len;
+use crate::put::{
+    put_descent, put_filter, put_fragment, put_message, put_u16, put_u32, put_vector,
+};
 use mr_madewith::Revision;
 use std::alloc::{AllocError, Global};
+
+/// The bytes of format and kind.
+const KIND_BYTES: usize = 2;
 
 impl Body {
     /// The kind of a record with this body.
@@ -42,16 +49,31 @@ impl Frame {
             Frame::Receipt(_) => Kind::Receipt,
         }
     }
+
+    /// How many bytes the frame takes in the format that is written, its length's own four among them.
+    /// It may be more than a frame may have, where a request has many fragments.
+    ///
+    /// It takes no memory, and looks at each column, clause and label once, and at no text, item or hole.
+    pub fn encoded_len(&self) -> usize
+        ensures exact { result ≡ length (frame_bytes 2 self.now) }
+        ensures short { HasShortFragments self.now → result ≤ 8388612 }
+    {
+        LENGTH_BYTES + KIND_BYTES + parts_len(self)
+    }
 }
 
 fn put_u64(out: &mut Vec<u8>, n: u64) -> Result<(), AllocError>
-    ensures { OnOk result (out.new.items ≡ out.old.items ++ u64 n) }
+    ensures written { OnOk result (out.new.items ≡ out.old.items ++ u64 n) }
+    ensures in_range { OnOk result (n < 2 ^ 64) }
 {
     out.extend_from_slice(&n.to_be_bytes())
 }
 
 fn put_header(out: &mut Vec<u8>, header: Header) -> Result<(), AllocError>
-    ensures { OnOk result (out.new.items ≡ out.old.items ++ header_bytes header) }
+    requires stream { 1 ≤ header.stream }
+    requires session { 1 ≤ header.session }
+    ensures written { OnOk result (out.new.items ≡ out.old.items ++ header_bytes header) }
+    ensures in_grammar { OnOk result (IsHeader header) }
 {
     put_u16(out, header.source.id())?;
     put_u64(out, header.stream)?;
@@ -61,35 +83,47 @@ fn put_header(out: &mut Vec<u8>, header: Header) -> Result<(), AllocError>
 }
 
 fn put_revision(out: &mut Vec<u8>, revision: &Revision) -> Result<(), AllocError>
-    ensures { OnOk result (out.new.items ≡ out.old.items ++ (line_bytes (line_of revision.now) ++ message_bytes revision.now.message)) }
+    ensures written { OnOk result (out.new.items ≡ out.old.items ++ (descent_bytes (descent_of revision.now) ++ message_bytes revision.now.message)) }
+    ensures descent { OnOk result (IsDescent (descent_of revision.now)) }
+    ensures letter { OnOk result (IsLetter revision.now.message) }
 {
-    put_line(out, revision.item(), revision.version(), revision.below())?;
+    put_descent(out, revision.item(), revision.version(), revision.below())?;
     put_message(out, revision.message())
 }
 
 fn put_body(out: &mut Vec<u8>, body: &Body) -> Result<(), AllocError>
-    ensures { OnOk result (out.new.items ≡ out.old.items ++ body_bytes body.now) }
+    ensures written { OnOk result (out.new.items ≡ out.old.items ++ body_bytes body.now) }
+    ensures in_grammar { OnOk result (IsSaid body.now) }
 {
     match body {
         Body::Start(Mode::Partial) => Ok(out.push(0)?),
         Body::Start(Mode::Full) => Ok(out.push(1)?),
         Body::Item(revision) => put_revision(out, revision),
-        Body::MoveOut(line) => put_line(out, line.item(), line.version(), line.below()),
+        Body::MoveOut(descent) => put_descent(
+            out,
+            descent.item(),
+            descent.version(),
+            descent.below(),
+        ),
         Body::Held(vector) => put_vector(out, vector),
         Body::Know(fragment) => put_fragment(out, fragment),
         Body::End => Ok(()),
     }
 }
 
-fn put_record(out: &mut Vec<u8>, record: &Record) -> Result<(), AllocError>
-    ensures { OnOk result (out.new.items ≡ out.old.items ++ (header_bytes record.now.header ++ body_bytes record.now.body)) }
+fn put_record(out: &mut Vec<u8>, sent: &Record) -> Result<(), AllocError>
+    ensures written { OnOk result (out.new.items ≡ out.old.items ++ (header_bytes sent.now.header ++ body_bytes sent.now.body)) }
+    ensures header { OnOk result (IsHeader sent.now.header) }
+    ensures index { OnOk result (IsIndexOf sent.now.body sent.now.header.index) }
+    ensures body { OnOk result (IsSaid sent.now.body) }
 {
-    put_header(out, record.header())?;
-    put_body(out, record.body())
+    put_header(out, sent.header())?;
+    put_body(out, sent.body())
 }
 
 fn put_fragments(out: &mut Vec<u8>, fragments: &[FrameFragment]) -> Result<(), AllocError>
-    ensures { OnOk result (out.new.items ≡ out.old.items ++ flat_map fragment_bytes fragments.now) }
+    ensures written { OnOk result (out.new.items ≡ out.old.items ++ flat_map fragment_bytes fragments.now) }
+    ensures in_grammar { OnOk result (All IsFramed fragments.now) }
 {
     for fragment in fragments {
         put_fragment(out, fragment)?;
@@ -98,7 +132,8 @@ fn put_fragments(out: &mut Vec<u8>, fragments: &[FrameFragment]) -> Result<(), A
 }
 
 fn put_ask(out: &mut Vec<u8>, ask: &Ask) -> Result<(), AllocError>
-    ensures { OnOk result (out.new.items ≡ out.old.items ++ ask_bytes ask.now) }
+    ensures written { OnOk result (out.new.items ≡ out.old.items ++ ask_bytes ask.now) }
+    ensures in_grammar { OnOk result (IsAsked ask.now) }
 {
     put_u16(out, ask.target().id())?;
     put_u64(out, ask.session())?;
@@ -110,56 +145,49 @@ fn put_ask(out: &mut Vec<u8>, ask: &Ask) -> Result<(), AllocError>
 
 /// What stands behind the kind.
 fn put_parts(out: &mut Vec<u8>, frame: &Frame) -> Result<(), AllocError>
-    ensures { OnOk result (out.new.items ≡ out.old.items ++ part_bytes frame.now) }
+    ensures written { OnOk result (out.new.items ≡ out.old.items ++ part_bytes frame.now) }
+    ensures in_grammar { OnOk result (IsFrame frame.now) }
 {
     match frame {
         Frame::Ask(ask) => put_ask(out, ask),
         Frame::Record(record) => put_record(out, record),
         Frame::Receipt(receipt) => {
             put_u16(out, receipt.giver.id())?;
-            let line = &receipt.descent;
-            put_line(out, line.item(), line.version(), line.below())
+            let descent = &receipt.descent;
+            put_descent(out, descent.item(), descent.version(), descent.below())
         }
     }
 }
 
-/// The frame with zeros for its length.
-fn without_length(alloc: Global, frame: &Frame) -> Result<Vec<u8>, AllocError>
-    ensures { IfOk result (λ v. v.items ≡ unfinished frame.now) }
+/// A frame of this length: its length without that of the length itself, format, kind, and the parts.
+fn put_frame(out: &mut Vec<u8>, frame: &Frame, len: usize) -> Result<(), AllocError>
+    requires exact { len ≡ length (frame_bytes 2 frame.now) }
+    requires few { len ≤ 8388612 }
+    ensures written { OnOk result (out.new.items ≡ out.old.items ++ frame_bytes 2 frame.now) }
+    ensures in_grammar { OnOk result (IsFrame frame.now) }
 {
-    let mut out = Vec::new(alloc);
-    put_u32(&mut out, 0)?;
+    put_u32(out, (len - LENGTH_BYTES) as u32)?;
     out.push(FORMAT)?;
     out.push(frame.kind().byte())?;
-    put_parts(&mut out, frame)?;
-    Ok(out)
+    put_parts(out, frame)
 }
 
-/// Writes the length over the first four bytes.
-fn set_length(out: &mut Vec<u8>, len: u32)
-    requires { 4 ≤ length out.old.items }
-    ensures { out.new.items ≡ with_length len out.old.items }
-{
-    let bytes = len.to_be_bytes();
-    out[0] = bytes[0];
-    out[1] = bytes[1];
-    out[2] = bytes[2];
-    out[3] = bytes[3];
-}
-
-/// The frame's bytes in the format that is written. They are walked once; a body is copied once.
+/// The frame's bytes in the format that is written.
 ///
-/// `TooLong` where more than 8,388,608 bytes would follow the length. That is known once they are
-/// written, so memory may be wanting first.
+/// `TooLong` where more than 8,388,608 bytes would follow the length, which is known before memory is
+/// asked for: no record and no receipt is so long, and no request whose fragments take at most
+/// 8,000,000 bytes. `OutOfMemory` otherwise. One piece of memory is taken, of just the length, and each
+/// byte of a body is copied once.
 pub fn encode(alloc: Global, frame: &Frame) -> Result<Vec<u8>, WireFault>
     ensures exact { Encodes frame.now result }
-    ensures spelled { IfOk result (λ v. IsFrame frame.now → Spells 2 frame.now v.items) }
+    ensures spelled { IfOk result (λ v. Spells 2 frame.now v.items) }
+    ensures short { HasShortFragments frame.now → result ≢ Err WireFault.TooLong }
 {
-    let mut out = without_length(alloc, frame)?;
-    let len = out.len() - LENGTH_BYTES;
-    if len > MAX_REST_BYTES as usize {
+    let len = frame.encoded_len();
+    if len > LENGTH_BYTES + MAX_REST_BYTES as usize {
         return Err(WireFault::TooLong);
     }
-    set_length(&mut out, len as u32);
+    let mut out = Vec::with_capacity(alloc, len)?;
+    put_frame(&mut out, frame, len)?;
     Ok(out)
 }

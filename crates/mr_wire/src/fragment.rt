@@ -1,7 +1,9 @@
 //! Fragments of knowledge, as frames carry them.
-ghost use Rattle.std.specs.Prelude.{◌≡◌, ◌↔◌, IsTrue};
+ghost use Rattle.std.specs.Prelude.{◌≡◌, ◌≤◌, length};
 ghost use Rattle.mr_wire.specs.Values.{AreItems, piece_of};
+ghost use Rattle.mr_wire.specs.Spelling.{fragment_bytes};
 
+use crate::lengths::{item_set_len, vector_len};
 use mr_concise::ConciseVector;
 use mr_forms::Fragment;
 use std::marker::Model;
@@ -46,5 +48,15 @@ impl FrameFragment {
         ensures { piece_of result ≡ self }
     {
         self.fragment
+    }
+
+    /// How many bytes the fragment takes in a frame: 3 to 2,490,887.
+    ///
+    /// It takes no memory, and looks at each column once, at no item and at no hole.
+    pub fn encoded_len(&self) -> usize
+        ensures exact { result ≡ length (fragment_bytes self.now) }
+        ensures most { result ≤ 2490887 }
+    {
+        item_set_len(&self.fragment.items) + vector_len(&self.fragment.vector)
     }
 }

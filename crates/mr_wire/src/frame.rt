@@ -1,5 +1,6 @@
 //! Frames: what replicas send to one another.
-ghost use Rattle.std.specs.Prelude.{◌≡◌};
+ghost use Rattle.std.specs.Prelude.{◌≡◌, ◌<◌, ◌^◌};
+ghost use Rattle.mr_wire.specs.Encoding.{total_len};
 ghost use Rattle.mr_wire.specs.Frames.{IsSent, IsQuestion};
 
 use crate::descent::Descent;
@@ -150,6 +151,21 @@ impl Ask {
         ensures { result.now ≡ self.now.fragments }
     {
         self.fragments.as_slice()
+    }
+
+    /// How many bytes the fragments take together. Where they take at most 8,000,000, the request is
+    /// never too long for a frame.
+    ///
+    /// It takes no memory, and looks at each column of each fragment once.
+    pub fn fragments_len(&self) -> usize
+        ensures exact { result ≡ total_len self.now.fragments }
+        ensures most { result < 2 ^ 54 }
+    {
+        let mut len = 0;
+        for fragment in &self.fragments {
+            len += fragment.encoded_len();
+        }
+        len
     }
 }
 

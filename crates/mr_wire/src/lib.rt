@@ -5,9 +5,10 @@
 //! a format byte, a kind byte, and the parts that the kind has. Numbers have their highest byte first.
 //!
 //! Each frame has one spelling in a format, and no spelling begins another one's. [`encode`] writes
-//! format 2. [`decode`] reads it, and format 1, which is the same without receipts. It takes what a
-//! stranger sent: bytes that are no frame are refused with the first fault, and nothing is built of
-//! them, since a body is first walked without memory and then built by the same functions.
+//! format 2, into memory of just the length that [`Frame::encoded_len`] tells. [`decode`] reads it, and
+//! format 1, which is the same without receipts. It takes what a stranger sent: bytes that are no frame
+//! are refused with the first fault, and nothing is built of them, since a body is first walked without
+//! memory and then built by the same functions.
 //!
 //! ```
 //! let bytes = encode(alloc, &Frame::Record(record))?;
@@ -30,9 +31,10 @@ mod items;
 mod keep;
 mod kind;
 mod label;
-mod line;
+mod lengths;
 mod message;
 mod put;
+mod revision;
 mod spellings;
 mod vector;
 

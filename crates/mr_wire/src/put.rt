@@ -1,11 +1,18 @@
 //! Parts of frames, appended to bytes.
-ghost use Rattle.std.specs.Prelude.{◌≡◌, ◌≤◌, ◌<◌, ◌^◌, ◌++◌, OnOk, length};
+ghost use Rattle.std.specs.Prelude.{◌≡◌, ◌≤◌, ◌<◌, ◌^◌, ◌++◌, OnOk, All, length};
 ghost use Rattle.std.specs.List.{flat_map};
+ghost use Rattle.std.specs.Str.{IsUtf8};
 ghost use Rattle.mr_concise.specs.Column.{IsColumn};
 ghost use Rattle.mr_concise.specs.Vector.{IsVectorFrom};
+ghost use Rattle.mr_filter.specs.Filter.{IsFilter};
+ghost use Rattle.mr_madewith.specs.Revision.{IsRevision};
 ghost use Rattle.mr_mail.specs.Label.{IsLabelSet};
+ghost use Rattle.mr_mail.specs.Mail.{IsMail};
+ghost use Rattle.mr_version.specs.Name.{IsVersion};
+ghost use Rattle.mr_wire.specs.FrameParts.{descent_with};
+ghost use Rattle.mr_wire.specs.Grammar.{AreFramed, IsDescent, IsFramed, IsItem, IsLetter};
 ghost use Rattle.mr_wire.specs.Values.{AreItems, listed_items};
-ghost use Rattle.mr_wire.specs.Spelling.{u16, u32, name_bytes, hole_bytes, column_bytes, vector_bytes, label_bytes, labels_bytes, clause_bytes, filter_bytes, texts_bytes, card_bytes, message_bytes, items_bytes, fragment_bytes, line_bytes};
+ghost use Rattle.mr_wire.specs.Spelling.{u16, u32, name_bytes, hole_bytes, column_bytes, vector_bytes, label_bytes, labels_bytes, clause_bytes, filter_bytes, texts_bytes, card_bytes, message_bytes, items_bytes, fragment_bytes, descent_bytes};
 
 use crate::fragment::FrameFragment;
 use crate::items::{ALL_ITEMS, LISTED_ITEMS};
@@ -29,7 +36,8 @@ pub(crate) fn put_u32(out: &mut Vec<u8>, n: u32) -> Result<(), AllocError>
 }
 
 pub(crate) fn put_version(out: &mut Vec<u8>, version: Version) -> Result<(), AllocError>
-    ensures { OnOk result (out.new.items ≡ out.old.items ++ name_bytes version) }
+    ensures written { OnOk result (out.new.items ≡ out.old.items ++ name_bytes version) }
+    ensures in_grammar { OnOk result (IsVersion version.author version.counter) }
 {
     put_u16(out, version.author().id())?;
     put_u32(out, version.counter())
@@ -73,7 +81,8 @@ fn put_columns(out: &mut Vec<u8>, columns: &[AuthorColumn]) -> Result<(), AllocE
 }
 
 pub(crate) fn put_vector(out: &mut Vec<u8>, vector: &ConciseVector) -> Result<(), AllocError>
-    ensures { OnOk result (out.new.items ≡ out.old.items ++ vector_bytes vector.now) }
+    ensures written { OnOk result (out.new.items ≡ out.old.items ++ vector_bytes vector.now) }
+    ensures in_grammar { OnOk result (IsVectorFrom 0 vector.now) }
 {
     let columns = vector.author_columns();
     put_u16(out, columns.len() as u16)?;
@@ -125,7 +134,8 @@ fn put_clauses(out: &mut Vec<u8>, clauses: &[Clause]) -> Result<(), AllocError>
 }
 
 pub(crate) fn put_filter(out: &mut Vec<u8>, filter: &Filter) -> Result<(), AllocError>
-    ensures { OnOk result (out.new.items ≡ out.old.items ++ filter_bytes filter.now) }
+    ensures written { OnOk result (out.new.items ≡ out.old.items ++ filter_bytes filter.now) }
+    ensures in_grammar { OnOk result (IsFilter filter.now) }
 {
     let clauses = filter.clauses();
     out.push(clauses.len() as u8)?;
@@ -150,7 +160,9 @@ fn put_message_body(out: &mut Vec<u8>, body: &[u8]) -> Result<(), AllocError>
 
 /// Sender, subject and body.
 fn put_texts(out: &mut Vec<u8>, message: &Message) -> Result<(), AllocError>
-    ensures { OnOk result (out.new.items ≡ out.old.items ++ texts_bytes message.now) }
+    ensures written { OnOk result (out.new.items ≡ out.old.items ++ texts_bytes message.now) }
+    ensures from { OnOk result (IsUtf8 message.now.from) }
+    ensures subject { OnOk result (IsUtf8 message.now.subject) }
 {
     put_text(out, message.from())?;
     put_text(out, message.subject())?;
@@ -159,7 +171,8 @@ fn put_texts(out: &mut Vec<u8>, message: &Message) -> Result<(), AllocError>
 
 /// Labels, flags and the day.
 fn put_card(out: &mut Vec<u8>, message: &Message) -> Result<(), AllocError>
-    ensures { OnOk result (out.new.items ≡ out.old.items ++ card_bytes message.now) }
+    ensures written { OnOk result (out.new.items ≡ out.old.items ++ card_bytes message.now) }
+    ensures in_grammar { OnOk result (IsMail message.now) }
 {
     put_labels(out, message.labels())?;
     out.push(message.flags().bits())?;
@@ -167,14 +180,16 @@ fn put_card(out: &mut Vec<u8>, message: &Message) -> Result<(), AllocError>
 }
 
 pub(crate) fn put_message(out: &mut Vec<u8>, message: &Message) -> Result<(), AllocError>
-    ensures { OnOk result (out.new.items ≡ out.old.items ++ message_bytes message.now) }
+    ensures written { OnOk result (out.new.items ≡ out.old.items ++ message_bytes message.now) }
+    ensures in_grammar { OnOk result (IsLetter message.now) }
 {
     put_texts(out, message)?;
     put_card(out, message)
 }
 
 fn put_items(out: &mut Vec<u8>, items: &[ItemId]) -> Result<(), AllocError>
-    ensures { OnOk result (out.new.items ≡ out.old.items ++ flat_map name_bytes items.now) }
+    ensures written { OnOk result (out.new.items ≡ out.old.items ++ flat_map name_bytes items.now) }
+    ensures in_grammar { OnOk result (All IsItem items.now) }
 {
     for item in items {
         put_version(out, item.creator())?;
@@ -184,7 +199,8 @@ fn put_items(out: &mut Vec<u8>, items: &[ItemId]) -> Result<(), AllocError>
 
 fn put_item_set(out: &mut Vec<u8>, items: &ItemSet) -> Result<(), AllocError>
     requires { AreItems (listed_items items.now) }
-    ensures { OnOk result (out.new.items ≡ out.old.items ++ items_bytes (listed_items items.now)) }
+    ensures written { OnOk result (out.new.items ≡ out.old.items ++ items_bytes (listed_items items.now)) }
+    ensures in_grammar { OnOk result (AreFramed (listed_items items.now)) }
 {
     match items {
         ItemSet::All => Ok(out.push(ALL_ITEMS)?),
@@ -197,20 +213,23 @@ fn put_item_set(out: &mut Vec<u8>, items: &ItemSet) -> Result<(), AllocError>
 }
 
 pub(crate) fn put_fragment(out: &mut Vec<u8>, piece: &FrameFragment) -> Result<(), AllocError>
-    ensures { OnOk result (out.new.items ≡ out.old.items ++ fragment_bytes piece.now) }
+    ensures written { OnOk result (out.new.items ≡ out.old.items ++ fragment_bytes piece.now) }
+    ensures in_grammar { OnOk result (IsFramed piece.now) }
 {
     let fragment = piece.as_fragment();
     put_item_set(out, &fragment.items)?;
     put_vector(out, &fragment.vector)
 }
 
-pub(crate) fn put_line(
+pub(crate) fn put_descent(
     out: &mut Vec<u8>,
     item: ItemId,
     version: Version,
     below: &ConciseVector,
 ) -> Result<(), AllocError>
-    ensures { OnOk result (out.new.items ≡ out.old.items ++ line_bytes (record { item = item; version = version; below = below.now })) }
+    requires { IsRevision item version below.now }
+    ensures written { OnOk result (out.new.items ≡ out.old.items ++ descent_bytes (descent_with item version below.now)) }
+    ensures in_grammar { OnOk result (IsDescent (descent_with item version below.now)) }
 {
     put_version(out, item.creator())?;
     put_version(out, version)?;

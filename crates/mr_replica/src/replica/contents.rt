@@ -5,11 +5,13 @@ ghost use Rattle.mr_madewith.specs.Trail.{noted};
 ghost use Rattle.mr_store.specs.Revisions.{revision_of, left_by};
 ghost use Rattle.mr_replica.specs.Issue.{dropped, added, entered_if};
 ghost use Rattle.mr_replica.specs.Contents.{part_for};
+ghost use Rattle.mr_replica.specs.Release.{vouched};
 
 use crate::Event;
 use mr_feed::{Entry, Feed};
 use mr_madewith::{Revision, Trail};
 use mr_store::{Part, Store};
+use mr_wire::Receipt;
 use std::alloc::{AllocError, Global};
 use std::marker::Model;
 
@@ -157,7 +159,44 @@ impl Contents {
         self.log.reserve(1)
     }
 
+    /// Makes room for one event.
+    pub fn reserve_event(&mut self) -> Result<(), AllocError>
+        ensures same { HoldsSame self.old self.new }
+        ensures room { OnOk result (0 < self.new.log_room) }
+    {
+        self.log.reserve(1)
+    }
+
+    /// Notes an event, for which there is room, in the log.
+    pub fn note_event(&mut self, event: Event)
+        requires { 0 < self.old.log_room }
+        ensures heads { self.new.store.heads ≡ self.old.store.heads }
+        ensures push_outs { self.new.store.push_outs ≡ self.old.store.push_outs }
+        ensures trail { self.new.trail.lasts ≡ self.old.trail.lasts }
+        ensures feed { self.new.feed.entries ≡ self.old.feed.entries }
+        ensures log { self.new.log ≡ self.old.log ++ event ∷ [] }
+    {
+        self.log.push_reserved(event);
+    }
+
+    /// Lets go of the push-outs of the item that are the version, or below it, by an event for which
+    /// there is room.
+    pub fn release(&mut self, receipt: Receipt)
+        requires { 0 < self.old.log_room }
+        ensures heads { self.new.store.heads ≡ self.old.store.heads }
+        ensures push_outs { self.new.store.push_outs ≡ left_by receipt.descent.item (vouched receipt.descent) self.old.store.push_outs }
+        ensures trail { self.new.trail.lasts ≡ self.old.trail.lasts }
+        ensures feed { self.new.feed.entries ≡ self.old.feed.entries }
+        ensures log { self.new.log ≡ self.old.log ++ Event.Release receipt ∷ [] }
+    {
+        let descent = &receipt.descent;
+        self.store
+            .drop_push_outs(descent.item(), descent.version(), descent.below());
+        self.log.push_reserved(Event::Release(receipt));
+    }
+
     /// Lets a revision enter, by an event, where there is room: what it supersedes leaves.
+    #[tactic(auto, using(crate::proofs::Staying::stays_new))]
     pub fn enter(&mut self, arrival: Arrival, event: Event)
         requires room { HasRoom arrival.selected arrival.revision.item (vec_len arrival.entries) self.old }
         requires new { revision_of (self.old.store.heads ++ self.old.store.push_outs) arrival.revision.version ≡ None }

@@ -1,5 +1,5 @@
 //! Create: the first version of a new item.
-ghost use Rattle.std.specs.Prelude.{◌≡◌, None};
+ghost use Rattle.std.specs.Prelude.{◌≡◌, None, Some, MatchResult};
 
 use super::Replica;
 use crate::{Event, Refusal, Reply};
@@ -15,10 +15,16 @@ impl<K: Knowledge> Replica<K> {
     pub(crate) fn create(&mut self, message: Message) -> Result<Reply, Refusal>
         ensures { Steps K.form self.old (Event.Create message) result self.new }
     {
-        if let Some(refusal) = self.log_full() {
-            return Err(refusal);
-        }
+        self.check_create()?;
         self.issue_created(message)
+    }
+
+    // Nothing, where a create is admitted.
+    fn check_create(&self) -> Result<(), Refusal>
+        ensures { MatchResult result (λ _. create_refusal self.now ≡ None) (λ e. create_refusal self.now ≡ Some e) }
+    {
+        self.check_retired()?;
+        self.check_log()
     }
 
     fn issue_created(&mut self, message: Message) -> Result<Reply, Refusal>

@@ -37,14 +37,13 @@ impl<K: Knowledge> Replica<K> {
     fn checked_item(&self, bases: &[Version]) -> Result<ItemId, Refusal>
         ensures { MatchResult result (λ item. (edit_refusal self.now bases.now ≡ None) × (item ≡ edited_item self.now bases.now)) (λ e. edit_refusal self.now bases.now ≡ Some e) }
     {
+        self.check_retired()?;
         let item = self.item_of(bases)?;
         if let Some(left) = self.own_left(item, bases) {
             return Err(Refusal::OwnHeadLeft(left));
         }
-        match self.log_full() {
-            Some(refusal) => Err(refusal),
-            None => Ok(item),
-        }
+        self.check_log()?;
+        Ok(item)
     }
 
     // The one item of these bases, which are all held.

@@ -15,19 +15,8 @@ impl<K: Knowledge> Replica<K> {
     ghost use Rattle.mr_forms.specs.Known.{AreSame};
     ghost use Rattle.mr_madewith.specs.Revision.{IsRevision};
     ghost use Rattle.mr_replica.specs.State.{next_version};
-    ghost use Rattle.mr_replica.specs.Create.{log_full};
     ghost use Rattle.mr_replica.specs.Issue.{Wanted.Knowledge as KnowledgeWanted, version_learned, Fits, is_selected};
     ghost use Rattle.mr_replica.specs.Issued.{IsNext, RefusesMade, IssuesRevision};
-
-    pub(crate) fn log_full(&self) -> Option<Refusal>
-        ensures { result ≡ log_full self.now }
-    {
-        if self.event_limit as usize <= self.contents.log().len() {
-            Some(Refusal::LogFull)
-        } else {
-            None
-        }
-    }
 
     // The version that is issued next.
     pub(crate) fn next_version(&self) -> Version

@@ -16,10 +16,16 @@ impl<K: Knowledge> Replica<K> {
     /// and the replica's last own version of the item, with all that these supersede, and each lower
     /// counter of the replica's own.
     ///
-    /// The refusals are tried in the order of their numbers, but for a full log, which comes before
-    /// those of the forms. Of these, `TooManyHoles` comes first where there is no vector of what the
-    /// version supersedes, and then that or `TooManyItems` where the form of knowledge has no value
-    /// for what would be known. `OutOfMemory` comes only where no other refusal's case holds.
+    /// A receipt is given for a head alone, and changes nothing but the log. To release by one lets go
+    /// of the push-outs of its item that are its version, or superseded by it. A replica retires only
+    /// once it has no push-outs; after that it admits nothing but what tells others.
+    ///
+    /// The first refusal whose case holds is given, in this order: `Retired`, of all but a cut of a
+    /// stream; then those of what is asked for, for an edit by their numbers; then `LogFull`, of all but
+    /// Retire, which is admitted past a full log once; then those of the forms. Of these,
+    /// `TooManyHoles` comes first where there is no vector of what the version supersedes, and then
+    /// that or `TooManyItems` where the form of knowledge has no value for what would be known.
+    /// `OutOfMemory` comes only where no other refusal's case holds.
     ///
     /// It costs searches, a shift of handles in the store, and the vector of what the new version
     /// supersedes; an edit looks at the held revisions of its item alone, and no message is copied.
@@ -32,6 +38,11 @@ impl<K: Knowledge> Replica<K> {
         match event {
             Event::Create(message) => self.create(message),
             Event::Edit(bases, message) => self.edit(bases, message),
+            Event::Retire => self.retire(),
+            Event::CutIn(session) => self.cut_in(session),
+            Event::CutOut(stream) => self.cut_out(stream),
+            Event::Vouch(version) => self.vouch(version),
+            Event::Release(receipt) => self.release(receipt),
         }
     }
 }

@@ -1,12 +1,6 @@
-use Rattle.std.proofs.Common.{◌≡◌, ◌-◌, ℕ, length, take, drop, sym, ap, ◌∙◌, List}
-use Rattle.std.proofs.lemmas.List.{length-drop}
-use Rattle.std.proofs.Math.Seq.{take-length}
-use Rattle.mr_madewith.specs.Revision.{Rev}
-use Rattle.mr_session.proofs.WalkLemmas.{ahead_from, all_ahead}
+use Rattle.std.proofs.Common.{◌∙◌}
+use Rattle.mr_session.proofs.WalkLemmas.{ahead_from, all_ahead, rest_of}
 use Rattle.mr_session.proofs.due.ahead.Goals as goal
-
-rest_of : (rs : List Rev) (i : ℕ) → take (length rs - i) (drop i rs) ≡ drop i rs
-rest_of rs i = ap (λ (n : ℕ). take n (drop i rs)) (sym (length-drop i rs)) ∙ take-length (drop i rs)
 
 pub returns-in-Some : goal.returns-in-Some
 returns-in-Some c =

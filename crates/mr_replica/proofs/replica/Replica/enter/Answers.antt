@@ -24,7 +24,7 @@ enter-requires-clause-new g c =
 pub invariant_of-self-2 : goal.invariant_of-self-2
 invariant_of-self-2 g c =
     let i = c.self.inside in
-    let s : State g.row.K.Denot = record { id = i.id; filter = i.filter; event_limit = i.event_limit; issued = i.issued; knowledge = i.knowledge; heads = i.contents.store.heads; push_outs = i.contents.store.push_outs; trail = i.contents.trail.lasts; feed = i.contents.feed.entries; log = i.contents.log } in
+    let s : State g.row.K.Denot = record { id = i.id; filter = i.filter; event_limit = i.event_limit; issued = i.issued; knowledge = i.knowledge; heads = i.contents.store.heads; push_outs = i.contents.store.push_outs; trail = i.contents.trail.lasts; feed = i.contents.feed.entries; log = i.contents.log; is_retired = i.is_retired; sessions = i.sessions; streams = i.streams } in
     let next : IsNext s c.args.revision = subst (λ (s : State g.row.K.Denot). IsNext s c.args.revision) (sym c.self.view_is) c.requires.next in
     let selected : c.select-selected.result ≡ is_selected s c.args.revision = c.select-selected.ensures ∙ ap (λ (m : Mail). selects i.filter (card_of m)) c.message.ensures in
     rw (

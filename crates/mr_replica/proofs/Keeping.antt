@@ -1,0 +1,55 @@
+-- what a replica keeps as it admits an event
+use Rattle.std.proofs.Common.{◌≡◌, ◌≤◌, ◌+◌, ◌==◌, ℕ, Bool, not, arith, List, [], ◌∷◌, ◌++◌, length}
+use Rattle.std.specs.List.{All}
+use Rattle.std.proofs.lemmas.List.{length_push}
+use Rattle.std.proofs.lemmas.List.Elements.{All-filter, All-weaker}
+use Rattle.mr_forms.specs.Sets.{Versions}
+use Rattle.mr_version.specs.Name.{Name}
+use Rattle.mr_madewith.specs.Revision.{Rev, IsRevision}
+use Rattle.mr_store.specs.Revisions.{supersedes, left_by}
+use Rattle.mr_session.specs.Table.{Table, Numbered, with_closed}
+use Rattle.mr_session.specs.Session.{Session}
+use Rattle.mr_session.specs.Stream.{Stream}
+use Rattle.mr_replica.specs.State.{State}
+use Rattle.mr_replica.specs.Sound.{AreNoLater, AreIssued, AreWithin, IsSound}
+use Rattle.mr_replica.specs.Issue.{logged}
+use Rattle.mr_replica.specs.declared.event.Event.{Event}
+
+module _ {T : Type 0} (next : T → ℕ) where
+  -- what is within a log is within a longer one
+  pub within_later : (log : List Event) (event : Event) (table : Table T) → AreWithin next (length log) table → AreWithin next (length (log ++ event ∷ [])) table
+  within_later log event table h = record {
+    opened = omega (arith, h.opened, length_push log event);
+    next_few = All-weaker (λ (x : Numbered T). next x.value ≤ length log) (λ (x : Numbered T). next x.value ≤ length (log ++ event ∷ [])) (λ x few. omega (arith, few, length_push log event)) table.open_ones h.next_few;
+  }
+
+  -- and so is what is left once one was closed
+  pub within_closed : (events number : ℕ) (table : Table T) → AreWithin next events table → AreWithin next events (with_closed table number)
+  within_closed events number table h = record {
+    opened = h.opened;
+    next_few = All-filter (λ (x : Numbered T). not (x.number == number)) (λ (x : Numbered T). next x.value ≤ events) table.open_ones h.next_few;
+  }
+
+-- what is left of issued revisions was issued
+pub issued_left : (id issued : ℕ) (item : Name) (below : Versions) (rs : List Rev) → AreIssued id issued rs → AreIssued id issued (left_by item below rs)
+issued_left id issued item below rs h =
+    let stays : Rev → Bool = λ r. not (supersedes item below r) in
+    record {
+      are = All-filter stays (λ r. IsRevision r.item r.version r.below) rs h.are;
+      no_later = All-filter stays (λ r. AreNoLater id issued r.version r.below) rs h.no_later;
+    }
+
+-- a replica that admits an event which only closes, releases or retires
+pub sound_with : {K : Type 0} (s : State K) (push_outs : List Rev) (is_retired : Bool) (sessions : Table Session) (streams : Table Stream) (event : Event) → IsSound s → AreIssued s.id s.issued push_outs
+    → AreWithin (λ session. session.next) (length s.log) sessions → AreWithin (λ stream. stream.next) (length s.log) streams
+    → IsSound (logged (record s { push_outs = push_outs; is_retired = is_retired; sessions = sessions; streams = streams }) event)
+sound_with s push_outs is_retired sessions streams event sound issued sessions_within streams_within = record {
+  limit_from = sound.limit_from;
+  limit_to = sound.limit_to;
+  issued_few = omega (arith, sound.issued_few, length_push s.log event);
+  heads_issued = sound.heads_issued;
+  push_outs_issued = issued;
+  trail_issued = sound.trail_issued;
+  sessions_within = within_later (λ session. session.next) s.log event sessions sessions_within;
+  streams_within = within_later (λ stream. stream.next) s.log event streams streams_within;
+}

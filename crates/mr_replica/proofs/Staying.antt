@@ -1,0 +1,13 @@
+-- a version that is not held is not among what stays
+use Rattle.std.proofs.Common.{◌≡◌, ◌++◌, not, List, None}
+use Rattle.std.proofs.lemmas.List.Elements.{filter-append}
+use Rattle.mr_version.specs.Name.{Name}
+use Rattle.mr_forms.specs.Sets.{Versions}
+use Rattle.mr_madewith.specs.Revision.{Rev}
+use Rattle.mr_madewith.proofs.Rising.{named-filter}
+use Rattle.mr_store.specs.Revisions.{version_of, revision_of, supersedes, left_by}
+
+pub stays_new : (item : Name) (below : Versions) (heads push_outs : List Rev) (v : Name) → revision_of (heads ++ push_outs) v ≡ None → revision_of (left_by item below heads ++ left_by item below push_outs) v ≡ None
+stays_new item below heads push_outs v new =
+    let stays = λ (r : Rev). not (supersedes item below r) in
+    rw (← filter-append stays heads push_outs) (named-filter version_of stays v (heads ++ push_outs) new)

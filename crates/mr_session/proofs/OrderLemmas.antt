@@ -1,0 +1,45 @@
+-- What is sorted by name is parted by a name: what is below it, or up to it, stands before the others.
+use Rattle.std.proofs.Common.{◌≡◌, ◌≤◌, true, List, get_or, refl, arith}
+use Rattle.std.specs.declared.cmp.Ordering.{Ordering}
+use Rattle.std.specs.declared.cmp.Ordering.TheVariants.{Less, Equal, Greater}
+use Rattle.std.specs.Ordering.{is_lt, is_le, ordering_index}
+use Rattle.std.specs.List.Sorted.{IsSortedBy, IsPartitionedBy, IsNonDecreasingBy}
+use Rattle.std.proofs.lemmas.List.Sorted.{searchable_from_sorted}
+use Rattle.mr_version.specs.Name.{Name, name_cmp}
+use Rattle.mr_version.specs.Order.{names_total}
+
+below_one : (o : Ordering) → is_lt o ≡ true → ordering_index o ≤ 0
+below_one Less h = omega arith
+below_one Equal h = absurd (cc)
+below_one Greater h = absurd (cc)
+
+is_below : (o : Ordering) → ordering_index o ≤ 0 → is_lt o ≡ true
+is_below Less h = refl
+is_below Equal h = absurd (omega (arith, h))
+is_below Greater h = absurd (omega (arith, h))
+
+below_two : (o : Ordering) → is_le o ≡ true → ordering_index o ≤ 1
+below_two Less h = omega arith
+below_two Equal h = omega arith
+below_two Greater h = absurd (cc)
+
+is_up_to : (o : Ordering) → ordering_index o ≤ 1 → is_le o ≡ true
+is_up_to Less h = refl
+is_up_to Equal h = refl
+is_up_to Greater h = absurd (omega (arith, h))
+
+module _ {X : Type 0} (name : X → Name) (xs : List X) (v : Name) (sorted : IsSortedBy (λ (a b : X). is_lt (name_cmp (name a) (name b))) xs) where
+  rises : IsNonDecreasingBy (λ (x : X). ordering_index (name_cmp (name x) v)) xs
+  rises = searchable_from_sorted names_total name xs v sorted
+
+  pub parted_below : IsPartitionedBy (λ (x : X). is_lt (name_cmp (name x) v)) xs
+  parted_below i j d le lt at_j =
+      let low = below_one (name_cmp (name (get_or xs j d)) v) at_j in
+      let steps = rises i j d le lt in
+      is_below (name_cmp (name (get_or xs i d)) v) (omega (arith, low, steps))
+
+  pub parted_up_to : IsPartitionedBy (λ (x : X). is_le (name_cmp (name x) v)) xs
+  parted_up_to i j d le lt at_j =
+      let low = below_two (name_cmp (name (get_or xs j d)) v) at_j in
+      let steps = rises i j d le lt in
+      is_up_to (name_cmp (name (get_or xs i d)) v) (omega (arith, low, steps))

@@ -1,5 +1,0 @@
-use Rattle.std.proofs.Common.{◌≡◌, take}
-use Rattle.mr_session.proofs.copies.copied_vectors.Given as goal
-
-abbrev pub invariant-loop-vector : goal.invariant-loop-vector
-invariant-loop-vector l = l.copied.items ≡ take l.vector-index l.vectors

@@ -1,6 +1,0 @@
-use Rattle.std.proofs.Common.{nat_le, sym, ap, ◌∙◌}
-use Rattle.mr_session.proofs.ViewLemmas.{length-by_number}
-use Rattle.mr_session.proofs.sessions.Sessions.is_full.Goals as goal
-
-pub returns : goal.returns
-returns c = rw (← c.self.view_is) (ap (nat_le 8) (c.len.ensures ∙ sym (length-by_number c.self.inside.slots)))
