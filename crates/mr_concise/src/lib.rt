@@ -31,6 +31,7 @@ mod holes;
 mod insert;
 mod meet;
 mod of_set;
+mod order;
 mod runs;
 mod set;
 mod source;

@@ -7,3 +7,8 @@ pub mod ItemLemmas
 pub mod RoomLemmas
 pub mod WithLemmas
 pub mod EachLemmas
+pub mod GroupLemmas
+pub mod GroupedLemmas
+pub mod FormLemmas
+pub mod ShownLemmas
+mod Rows

@@ -166,7 +166,7 @@ lists_few-with k learned set item normal (inr rest) many = go (cases_Bool (list_
     one_dropped : list_any (name_eq item) (items_of k.listed) ≡ false → Drops learned k → ⊥
     one_dropped free drops =
         let fits = length-le_from_is_member (eq_by_cmp_equiv names_total) (drops.dropped.item ∷ many.items) (item ∷ items_of k.listed)
-            (IsDistinct-cons name_eq drops.dropped.item many.items (none_by_recursion drops.dropped.item many.items (not_many k learned set item many drops.dropped.item gone)) many.distinct) members in
+        (IsDistinct-cons name_eq drops.dropped.item many.items (none_by_recursion drops.dropped.item many.items (not_many k learned set item many drops.dropped.item gone)) many.distinct) members in
         let same : length (items_of k.listed) ≡ length k.listed = length-map k.listed (λ x. x.item) in
         let over = many.many in
         let few = normal.few in

@@ -6,3 +6,6 @@ pub mod Lacking
 pub mod Placed
 pub mod Room
 pub mod Each
+pub mod NormalForm
+pub mod Groups
+pub mod Shown

@@ -1,6 +1,7 @@
 //! The replicas of a script, and what its commands do to them.
 ghost use Rattle.std.specs.Prelude.{◌≡◌, [], true, Some, None, MatchResult};
-ghost use Rattle.mr_forms.specs.Plain.{plain_form, plain_known, IsPlainPart};
+ghost use Rattle.mr_itemset.specs.ItemForm.{item_form, IsNormalPart};
+ghost use Rattle.mr_itemset.specs.Normal.{normal_known};
 ghost use Rattle.mr_replica.specs.State.{held};
 ghost use Rattle.mr_script.specs.Stage.{Does, Makes, Takes, tells_answer, tells_known, tells_held, tells_conflicts, replica_at, text_of};
 
@@ -11,7 +12,8 @@ use crate::answer::{
 };
 use crate::command::{Command, Roster};
 use mr_filter::Filter;
-use mr_forms::{FormFault, PlainKnowledge};
+use mr_forms::FormFault;
+use mr_itemset::ItemKnowledge;
 use mr_replica::{Event, Refusal, Replica, Reply};
 use mr_version::{Author, Version};
 use std::alloc::Global;
@@ -22,15 +24,15 @@ use std::marker::Model;
 #[derive(Drop)]
 pub(crate) struct Runner {
     alloc: Global,
-    replicas: BTreeMap<Author, Replica<PlainKnowledge>>,
+    replicas: BTreeMap<Author, Replica<ItemKnowledge>>,
     is_opening: bool,
 }
 
 impl Model for Runner {
-    ghost use Rattle.mr_forms.specs.PlainPair.{PlainKnown};
+    ghost use Rattle.mr_itemset.specs.Normal.{Normal};
     ghost use Rattle.mr_script.specs.Stage.{Stage};
 
-    ghost Value = { Stage PlainKnown };
+    ghost Value = { Stage Normal };
 
     ghost view = { λ r. record { replicas = r.replicas.entries; is_opening = r.is_opening } };
 }
@@ -68,7 +70,7 @@ impl Runner {
     /// Runs a command, and gives what it prints, which may be nothing. `NoSuchReplica` for a replica
     /// that isn't there, `BadLimit` for a limit that no replica has, `OutOfMemory`.
     pub(crate) fn run(&mut self, command: Command) -> Result<String, LineFault>
-        ensures { Does plain_form self.old command (text_of result) self.new }
+        ensures { Does item_form self.old command (text_of result) self.new }
     {
         match command {
             Command::AddReplica {
@@ -94,7 +96,7 @@ impl Runner {
         event_limit: u32,
         filter: Filter,
     ) -> Result<String, LineFault>
-        ensures { Makes plain_form self.old id event_limit filter (text_of result) self.new }
+        ensures { Makes item_form self.old id event_limit filter (text_of result) self.new }
     {
         let Ok(replica) = Replica::try_new(self.alloc, id, filter, event_limit) else {
             return Err(LineFault::BadLimit);
@@ -105,7 +107,7 @@ impl Runner {
 
     /// Gives the replica an event.
     fn give(&mut self, id: Author, event: Event) -> Result<String, LineFault>
-        ensures { Does plain_form self.old (Command.Give id event) (text_of result) self.new }
+        ensures { Does item_form self.old (Command.Give id event) (text_of result) self.new }
     {
         self.is_opening = false;
         match self.replicas.get_mut(&id) {
@@ -115,7 +117,7 @@ impl Runner {
     }
 
     /// The replica with this id, for a command that asks.
-    fn replica(&self, id: Author) -> Result<&Replica<PlainKnowledge>, LineFault>
+    fn replica(&self, id: Author) -> Result<&Replica<ItemKnowledge>, LineFault>
         ensures { MatchResult result (λ replica. replica_at self.now id ≡ Some replica.now)
             (λ fault. (replica_at self.now id ≡ None) × (fault ≡ LineFault.NoSuchReplica)) }
     {
@@ -126,7 +128,7 @@ impl Runner {
     }
 
     fn heads(&mut self, id: Author) -> Result<String, LineFault>
-        ensures { Does plain_form self.old (Command.Heads id) (text_of result) self.new }
+        ensures { Does item_form self.old (Command.Heads id) (text_of result) self.new }
     {
         self.is_opening = false;
         let alloc = self.alloc;
@@ -134,7 +136,7 @@ impl Runner {
     }
 
     fn push_outs(&mut self, id: Author) -> Result<String, LineFault>
-        ensures { Does plain_form self.old (Command.PushOuts id) (text_of result) self.new }
+        ensures { Does item_form self.old (Command.PushOuts id) (text_of result) self.new }
     {
         self.is_opening = false;
         let alloc = self.alloc;
@@ -142,7 +144,7 @@ impl Runner {
     }
 
     fn conflicts(&mut self, id: Author) -> Result<String, LineFault>
-        ensures { Does plain_form self.old (Command.Conflicts id) (text_of result) self.new }
+        ensures { Does item_form self.old (Command.Conflicts id) (text_of result) self.new }
     {
         self.is_opening = false;
         let alloc = self.alloc;
@@ -150,7 +152,7 @@ impl Runner {
     }
 
     fn feed(&mut self, id: Author) -> Result<String, LineFault>
-        ensures { Does plain_form self.old (Command.Feed id) (text_of result) self.new }
+        ensures { Does item_form self.old (Command.Feed id) (text_of result) self.new }
     {
         self.is_opening = false;
         let alloc = self.alloc;
@@ -158,7 +160,7 @@ impl Runner {
     }
 
     fn log(&mut self, id: Author) -> Result<String, LineFault>
-        ensures { Does plain_form self.old (Command.Log id) (text_of result) self.new }
+        ensures { Does item_form self.old (Command.Log id) (text_of result) self.new }
     {
         self.is_opening = false;
         let alloc = self.alloc;
@@ -166,7 +168,7 @@ impl Runner {
     }
 
     fn know(&mut self, id: Author) -> Result<String, LineFault>
-        ensures { Does plain_form self.old (Command.Know id) (text_of result) self.new }
+        ensures { Does item_form self.old (Command.Know id) (text_of result) self.new }
     {
         self.is_opening = false;
         let alloc = self.alloc;
@@ -174,7 +176,7 @@ impl Runner {
     }
 
     fn show(&mut self, id: Author, version: Version) -> Result<String, LineFault>
-        ensures { Does plain_form self.old (Command.Show id version) (text_of result) self.new }
+        ensures { Does item_form self.old (Command.Show id version) (text_of result) self.new }
     {
         self.is_opening = false;
         let alloc = self.alloc;
@@ -186,9 +188,9 @@ impl Runner {
 fn known_line(
     alloc: Global,
     id: Author,
-    replica: &Replica<PlainKnowledge>,
+    replica: &Replica<ItemKnowledge>,
 ) -> Result<String, LineFault>
-    ensures { tells_known id (plain_known replica.now.knowledge) (IsPlainPart replica.now.knowledge) (text_of result) }
+    ensures { tells_known id (normal_known replica.now.knowledge) (IsNormalPart replica.now.knowledge) (text_of result) }
 {
     match replica.fragments() {
         Ok(fragments) => Ok(know_line(alloc, id, fragments.as_slice())?),
@@ -201,7 +203,7 @@ fn known_line(
 fn several_line(
     alloc: Global,
     id: Author,
-    replica: &Replica<PlainKnowledge>,
+    replica: &Replica<ItemKnowledge>,
 ) -> Result<String, LineFault>
     ensures { tells_conflicts id replica.now.heads (text_of result) }
 {
@@ -212,7 +214,7 @@ fn several_line(
 /// What the replica shows of a version.
 fn held_line(
     alloc: Global,
-    replica: &Replica<PlainKnowledge>,
+    replica: &Replica<ItemKnowledge>,
     version: Version,
 ) -> Result<String, LineFault>
     ensures { tells_held (held replica.now version) (text_of result) }
@@ -226,10 +228,10 @@ fn held_line(
 /// Gives the replica an event, and tells its answer.
 fn step(
     alloc: Global,
-    replica: &mut Replica<PlainKnowledge>,
+    replica: &mut Replica<ItemKnowledge>,
     event: Event,
 ) -> Result<String, LineFault>
-    ensures { Takes plain_form replica.old event (text_of result) replica.new }
+    ensures { Takes item_form replica.old event (text_of result) replica.new }
 {
     let answer = replica.step(event);
     answer_line(alloc, answer)

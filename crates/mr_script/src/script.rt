@@ -4,7 +4,7 @@ ghost use Rattle.std.specs.Option.{option_map};
 ghost use Rattle.std.specs.Io.Buffered.{reader_remaining};
 ghost use Rattle.std.specs.Io.KnownBytes.{Appends};
 ghost use Rattle.std.specs.Io.Take.{take_remaining};
-ghost use Rattle.mr_forms.specs.Plain.{plain_form};
+ghost use Rattle.mr_itemset.specs.ItemForm.{item_form};
 ghost use Rattle.mr_script.specs.Fault.{fault_of_source, NumbersItsLine};
 ghost use Rattle.mr_script.specs.Run.{Breaks, LineDoes, NextAnswer, Prints, Settles, TextDoes, end_of, is_skipped};
 ghost use Rattle.mr_script.specs.Script.{Accounts, looked_at};
@@ -37,7 +37,7 @@ pub fn run_script<R: Read + Drop, W: Write>(
         → IfSome (R.remaining reader) (λ script. 16777216 < length script) }
     ensures line { IfErr result NumbersItsLine }
     ensures prints { result ≢ Err ScriptFault.Write → IfSome (R.remaining reader)
-        (λ script. Prints plain_form script (end_of result) (W.contents writer.old) (W.contents writer.new) []) }
+        (λ script. Prints item_form script (end_of result) (W.contents writer.old) (W.contents writer.new) []) }
 {
     let mut output = Output::new(alloc);
     let ran = run_lines(alloc, reader, &mut output, writer);
@@ -57,7 +57,7 @@ fn run_lines<R: Read + Drop, W: Write>(
         → IfSome (R.remaining reader) (λ script. 16777216 < length script) }
     ensures line { IfErr result NumbersItsLine }
     ensures prints { result ≢ Err ScriptFault.Write → IfSome (R.remaining reader)
-        (λ script. Prints plain_form script (end_of result) (W.contents writer.old) (W.contents writer.new) output.new) }
+        (λ script. Prints item_form script (end_of result) (W.contents writer.old) (W.contents writer.new) output.new) }
 {
     let mut source = first_source(alloc, reader)?;
     let mut runner = Runner::new(alloc);
@@ -152,7 +152,7 @@ fn next_answer<R: Read + Drop>(
     ensures line { 1 ≤ number → number ≤ 16777217 → IfErr result NumbersItsLine }
     ensures no_write { result ≢ Err ScriptFault.Write }
     ensures answer { IfSome (reader_remaining (take_remaining R.remaining) source.old.reader) (λ bytes.
-        NextAnswer plain_form runner.old number (16777216 - source.old.taken) bytes result runner.new
+        NextAnswer item_form runner.old number (16777216 - source.old.taken) bytes result runner.new
         (reader_remaining (take_remaining R.remaining) source.new.reader) (16777216 - source.new.taken)) }
 {
     match source.next_line(line) {
@@ -184,7 +184,7 @@ fn source_fault(number: u64, fault: SourceFault) -> ScriptFault
 
 /// Runs one line, whose line feed is cut off, and gives what it prints.
 fn run_line(alloc: Global, runner: &mut Runner, line: &[u8]) -> Result<String, LineFault>
-    ensures { LineDoes plain_form runner.old line.now (text_of result) runner.new }
+    ensures { LineDoes item_form runner.old line.now (text_of result) runner.new }
 {
     match str::from_utf8(line) {
         Ok(text) => run_text(alloc, runner, text),
@@ -204,7 +204,7 @@ fn is_skipped(text: &str) -> bool
 
 /// Runs a line of text.
 fn run_text(alloc: Global, runner: &mut Runner, text: &str) -> Result<String, LineFault>
-    ensures { TextDoes plain_form runner.old text.now runner.new (text_of result) }
+    ensures { TextDoes item_form runner.old text.now runner.new (text_of result) }
 {
     if is_skipped(text) {
         return Ok(String::new(alloc));

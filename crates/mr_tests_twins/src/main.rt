@@ -3,11 +3,14 @@
 //! against each other, in runs that are longer than a test's.
 //!
 //! A module compares one pair and gives its calls back, or the number of the call that differs:
-//! here concise vectors beside plain sets. A further pair is a module of its own and a line in
+//! here concise vectors beside plain sets, and knowledge by sets of items beside plain knowledge, each
+//! with its limit. A further pair is a module of its own and a line in
 //! `run_all`. The numbers come from fixed seeds, so that each run of the program is the same.
 #![tactic(auto)]
 
+mod knowledge;
 mod limits;
+mod many_items;
 mod numbers;
 mod sets;
 
@@ -33,7 +36,13 @@ fn run_all(rt: &(impl Print + AllocGlobal)) -> Result<bool> {
         sets::compare(rt.alloc())?,
     )?;
     let limits = say(rt, "their limits of holes", limits::compare(rt.alloc())?)?;
-    Ok(sets && limits)
+    let knowledge = say(
+        rt,
+        "knowledge by sets of items and plain knowledge",
+        knowledge::compare(rt.alloc())?,
+    )?;
+    let items = say(rt, "their limit of items", many_items::compare(rt.alloc())?)?;
+    Ok(sets && limits && knowledge && items)
 }
 
 /// How a comparison ended.

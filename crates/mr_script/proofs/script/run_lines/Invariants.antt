@@ -1,7 +1,7 @@
 use Rattle.std.proofs.Common.{ℕ, ◌+◌, ◌≤◌, List, Option, IfSome}
 use Rattle.std.specs.Io.Buffered.{reader_remaining}
 use Rattle.std.specs.Io.Take.{take_remaining}
-use Rattle.mr_forms.specs.Plain.{plain_form}
+use Rattle.mr_itemset.specs.ItemForm.{item_form}
 use Rattle.mr_script.specs.Script.{Accounts}
 use Rattle.mr_script.proofs.SoFar.{SoFar}
 use Rattle.mr_script.proofs.script.run_lines.Given as goal
@@ -16,5 +16,5 @@ abbrev pub invariant-loop-number : goal.invariant-loop-number
 invariant-loop-number g l =
     IsReadSoFar (g.R.Read.remaining l.fn.reader) (reader_remaining (take_remaining g.R.Read.remaining) l.source.reader) l.source.taken l.number
     × IfSome (g.R.Read.remaining l.fn.reader) (λ script.
-    SoFar plain_form script l.runner l.number l.source.taken (reader_remaining (take_remaining g.R.Read.remaining) l.source.reader)
+    SoFar item_form script l.runner l.number l.source.taken (reader_remaining (take_remaining g.R.Read.remaining) l.source.reader)
     (g.W.Write.contents l.fn.writer) (g.W.Write.contents l.writer) l.output)

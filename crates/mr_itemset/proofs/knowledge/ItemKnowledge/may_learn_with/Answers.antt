@@ -28,8 +28,10 @@ returns-then-would_be_holey_with-clause-items g c = (
 pub returns-then-not-has_room_with-clause-items : goal.returns-then-not-has_room_with-clause-items
 returns-then-not-has_room_with-clause-items g c =
     let first : ¬ HasHoleyItem (with_learned true (normal_known c.args.self.now) c.args.item c.args.version) = λ holey. false≢true (sym c.if-would_be_holey.false ∙ c.would_be_holey.ensures.holey.1 holey) in (
-      λ _. inr ((first, lists_few c.args.self.now (name_eq c.args.version) c.would_be_holey.ensures.normal),
-          (c.has_room_with.ensures.no c.if-not-has_room_with.true, λ holey. first (c.would_be_holey_with.ensures.no c.if-would_be_holey_with.false holey))),
+      λ _. inr (
+        (first, lists_few c.args.self.now (name_eq c.args.version) c.would_be_holey.ensures.normal),
+        (c.has_room_with.ensures.no c.if-not-has_room_with.true, λ holey. first (c.would_be_holey_with.ensures.no c.if-would_be_holey_with.false holey)),
+      ),
       λ _. refl,
     )
 

@@ -1,0 +1,265 @@
+use Rattle.std.proofs.Common.{◌≡◌, ◌<◌, ◌+◌, ◌⊎◌, ◌↔◌, ℕ, suc, Bool, true, false, ◌||◌, List, [], ◌∷◌, Option, Some, None, All, AllPairs, Contains, IfSome, refl, ap, sym, ◌∙◌, subst, arith, inl, inr}
+use Rattle.std.specs.declared.cmp.Ordering.TheVariants.{Less}
+use Rattle.std.specs.List.{list_any, AllByRecursion}
+use Rattle.std.specs.List.Sorted.{IsStrictlySortedBy}
+use Rattle.std.proofs.lemmas.Bool.{false≢true, cases_Bool, or_cases, or_parts, or_right}
+use Rattle.std.proofs.lemmas.Cmp.{tied_itself}
+use Rattle.std.proofs.lemmas.List.Elements.{All-cons, All-head, All-tail, All-weaker, All-contains, All-contains_itself}
+use Rattle.mr_version.specs.Name.{Name, name_cmp, name_eq}
+use Rattle.mr_version.specs.Order.{names_total}
+use Rattle.mr_forms.specs.Sets.{Versions, IsSame}
+use Rattle.mr_forms.specs.Known.{AreSame, Part}
+use Rattle.mr_forms.specs.Parts.{AreListable, ComesFirst, AreInOrder, ArePartsThat}
+use Rattle.mr_forms.proofs.SetLemmas.{name_eq-symmetric}
+use Rattle.mr_forms.proofs.PairLemmas.{name_eq-itself}
+use Rattle.mr_forms.proofs.PartLemmas.{AllPairs-head, AllPairs-tail, Contains-cases, Contains-here, Contains-there, parts_that-unique}
+use Rattle.mr_concise.specs.declared.vector.AuthorColumn.{AuthorColumn}
+use Rattle.mr_concise.specs.Vector.{vector_has}
+use Rattle.mr_itemset.specs.Normal.{Normal, items_of, normal_known}
+use Rattle.mr_itemset.specs.ItemForm.{HasNormalVersions, IsNormalPart}
+use Rattle.mr_itemset.specs.NormalForm.{is_of, said, IsGreater, AreApart, AreNormalOf}
+use Rattle.mr_itemset.proofs.NormalLemmas.{same_name, vector_in-unlisted, free-above, top}
+use Rattle.mr_itemset.proofs.ItemLemmas.{same_tests}
+
+-- ---- rising items with the same members are one list
+
+-- what stands behind a lower item is above it
+behind : (x : Name) (xs : List Name) (i : Name) → AllByRecursion (λ z. name_cmp x z ≡ Less) xs → list_any (name_eq i) xs ≡ true → name_cmp x i ≡ Less
+behind x [] i above any = absurd (false≢true any)
+behind x (z ∷ zs) i above any = go (or_cases (name_eq i z) (list_any (name_eq i) zs) any) (behind x zs i above.1)
+  where
+    go : (name_eq i z ≡ true) ⊎ (list_any (name_eq i) zs ≡ true) → (list_any (name_eq i) zs ≡ true → name_cmp x i ≡ Less) → name_cmp x i ≡ Less
+    go (inl here) rest = rw (same_name i z here) above.0
+    go (inr there) rest = rest there
+
+not_twice : (a b : Name) → name_cmp a b ≡ Less → name_cmp b a ≡ Less → ⊥
+not_twice a b ab ba = let round = names_total.trans a b a ab ba in let same = tied_itself names_total a in cc
+
+among_head : (x : Name) (xs : List Name) → list_any (name_eq x) (x ∷ xs) ≡ true
+among_head x xs = rw (name_eq-itself x) refl
+
+among_tail : (i x : Name) (xs : List Name) → list_any (name_eq i) xs ≡ true → list_any (name_eq i) (x ∷ xs) ≡ true
+among_tail i x xs any = or_right (name_eq i x) (list_any (name_eq i) xs) any
+
+names_unique : (xs ys : List Name) → IsStrictlySortedBy name_cmp xs → IsStrictlySortedBy name_cmp ys → ((i : Name) → list_any (name_eq i) xs ≡ true → list_any (name_eq i) ys ≡ true) → ((i : Name) → list_any (name_eq i) ys ≡ true → list_any (name_eq i) xs ≡ true) → xs ≡ ys
+unfolding IsStrictlySortedBy
+names_unique [] [] sx sy xy yx = refl
+names_unique [] (y ∷ ys) sx sy xy yx = absurd (false≢true (yx y (among_head y ys)))
+names_unique (x ∷ xs) [] sx sy xy yx = absurd (false≢true (xy x (among_head x xs)))
+names_unique (x ∷ xs) (y ∷ ys) sx sy xy yx =
+    let same = heads (or_cases (name_eq x y) (list_any (name_eq x) ys) (xy x (among_head x xs))) (or_cases (name_eq y x) (list_any (name_eq y) xs) (yx y (among_head y ys))) in
+    let rest = names_unique xs ys sx.1 sy.1
+    (λ i any. drop_head x y ys i same (behind x xs i sx.0 any) (or_cases (name_eq i y) (list_any (name_eq i) ys) (xy i (among_tail i x xs any))))
+    (λ i any. drop_head y x xs i (sym same) (behind y ys i sy.0 any) (or_cases (name_eq i x) (list_any (name_eq i) xs) (yx i (among_tail i y ys any)))) in
+    cc
+  where
+    heads : (name_eq x y ≡ true) ⊎ (list_any (name_eq x) ys ≡ true) → (name_eq y x ≡ true) ⊎ (list_any (name_eq y) xs ≡ true) → x ≡ y
+    heads (inl e) b = same_name x y e
+    heads (inr a) (inl e) = sym (same_name y x e)
+    heads (inr a) (inr b) = absurd (not_twice x y (behind x xs y sx.0 b) (behind y ys x sy.0 a))
+
+    drop_head : (a b : Name) (bs : List Name) (i : Name) → a ≡ b → name_cmp a i ≡ Less → (name_eq i b ≡ true) ⊎ (list_any (name_eq i) bs ≡ true) → list_any (name_eq i) bs ≡ true
+    drop_head a b bs i same less (inl e) = let loop : name_cmp i i ≡ Less = rw (same ∙ sym (same_name i b e)) at less in absurd (not_twice i i loop loop)
+    drop_head a b bs i same less (inr any) = any
+
+-- ---- what parts say of an item
+
+any_both : (items : List Name) (i : Name) → list_any (λ item. name_eq item i) items ≡ list_any (name_eq i) items
+any_both [] i = refl
+any_both (j ∷ js) i = rw (name_eq-symmetric j i, any_both js i) refl
+
+or_no : (b : Bool) → (b || false) ≡ b
+or_no true = refl
+or_no false = refl
+
+-- parts that lack the item say nothing of it
+said_none : (ps : List Part) (i v : Name) → list_any (λ p. is_of p.items i) ps ≡ false → said ps i v ≡ false
+said_none [] i v none = refl
+said_none (p ∷ ps) i v none = let parts = or_parts (is_of p.items i) (list_any (λ q. is_of q.items i) ps) none in rw parts.0 (said_none ps i v parts.1)
+
+-- where the one has the item, the later ones lack it
+others_lack : (p : Part) (ps : List Part) (i : Name) → All (λ q. AreApart p.items q.items) ps → is_of p.items i ≡ true → list_any (λ q. is_of q.items i) ps ≡ false
+others_lack p [] i apart among = refl
+others_lack p (q ∷ qs) i apart among =
+    rw (All-head (λ r. AreApart p.items r.items) q qs apart i among) (others_lack p qs i (All-tail (λ r. AreApart p.items r.items) q qs apart) among)
+
+abbrev Apart : Part → Part → Type 0
+Apart p q = AreApart p.items q.items
+
+abbrev Unlike : Part → Part → Type 0
+Unlike p q = ¬ IsSame p.versions q.versions
+
+covered : (a p r : Bool) → (a ≡ true → p ≡ true) → r ≡ false → (a || (p || r)) ≡ p
+covered true p r covers none = rw (covers refl) refl
+covered false p r covers none = rw none (or_no p)
+
+-- a part that has the item says what is said of it
+pub said_by : (all : Versions) (ps : List Part) (q : Part) (i v : Name) → All (λ p. IsGreater p.versions all) ps → AllPairs Apart ps → Contains ps q → is_of q.items i ≡ true → (all v || said ps i v) ≡ q.versions v
+said_by all [] q i v greater apart has among = let within = has.1 in absurd (omega arith)
+said_by all (p ∷ ps) q i v greater apart has among = go (Contains-cases p q ps has) (λ there. said_by all ps q i v (All-tail (λ r. IsGreater r.versions all) p ps greater) (AllPairs-tail Apart p ps apart) there among)
+  where
+    go : (p ≡ q) ⊎ Contains ps q → (Contains ps q → (all v || said ps i v) ≡ q.versions v) → (all v || said (p ∷ ps) i v) ≡ q.versions v
+    go (inl e) rest =
+        let mine : is_of p.items i ≡ true = ap (λ (r : Part). is_of r.items i) e ∙ among in
+        let none = said_none ps i v (others_lack p ps i (AllPairs-head Apart p ps apart) mine) in
+        rw mine (covered (all v) (p.versions v) (said ps i v) (λ has. (All-head (λ r. IsGreater r.versions all) p ps greater).covers v has) none) ∙ ap (λ (r : Part). r.versions v) e
+    go (inr there) rest =
+        let lack : is_of p.items i ≡ false = lacks (cases_Bool (is_of p.items i)) there in
+        rw lack (rest there)
+      where
+        lacks : (is_of p.items i ≡ true) ⊎ (is_of p.items i ≡ false) → Contains ps q → is_of p.items i ≡ false
+        lacks (inl mine) there = absurd (false≢true (sym (All-contains (λ r. AreApart p.items r.items) ps q (AllPairs-head Apart p ps apart) there i mine) ∙ among))
+        lacks (inr lack) there = lack
+
+-- some part has the item, or none has
+with_item-cases : (ps : List Part) (i : Name) → ((q : Part) × (Contains ps q × (is_of q.items i ≡ true))) ⊎ (list_any (λ p. is_of p.items i) ps ≡ false)
+with_item-cases [] i = inr refl
+with_item-cases (p ∷ ps) i = go (cases_Bool (is_of p.items i)) (with_item-cases ps i)
+  where
+    go : (is_of p.items i ≡ true) ⊎ (is_of p.items i ≡ false) → ((q : Part) × (Contains ps q × (is_of q.items i ≡ true))) ⊎ (list_any (λ r. is_of r.items i) ps ≡ false) → ((q : Part) × (Contains (p ∷ ps) q × (is_of q.items i ≡ true))) ⊎ (list_any (λ r. is_of r.items i) (p ∷ ps) ≡ false)
+    go (inl mine) rest = inl (p, (Contains-here p ps, mine))
+    go (inr lack) (inl q) = inl (q.0, (Contains-there p q.0 ps q.1.0, q.1.1))
+    go (inr lack) (inr none) = inr (rw lack none)
+
+-- parts of the same versions are one
+one_part : (ps : List Part) (p q : Part) → AllPairs Unlike ps → Contains ps p → Contains ps q → IsSame p.versions q.versions → p ≡ q
+one_part [] p q unlike hp hq same = let within = hp.1 in absurd (omega arith)
+one_part (r ∷ rs) p q unlike hp hq same = go (Contains-cases r p rs hp) (Contains-cases r q rs hq) (λ tp tq. one_part rs p q (AllPairs-tail Unlike r rs unlike) tp tq same)
+  where
+    go : (r ≡ p) ⊎ Contains rs p → (r ≡ q) ⊎ Contains rs q → (Contains rs p → Contains rs q → p ≡ q) → p ≡ q
+    go (inl a) (inl b) rest = sym a ∙ b
+    go (inl a) (inr b) rest = absurd (All-contains (Unlike r) rs q (AllPairs-head Unlike r rs unlike) b (λ v. ap (λ (s : Part). s.versions v) a ∙ same v))
+    go (inr a) (inl b) rest = absurd (All-contains (Unlike r) rs p (AllPairs-head Unlike r rs unlike) a (λ v. ap (λ (s : Part). s.versions v) b ∙ sym (same v)))
+    go (inr a) (inr b) rest = rest a b
+
+-- ---- some item is in no part
+
+abbrev top_of : Option (List Name) → ℕ
+top_of None = 0
+top_of (Some items) = top items
+
+abbrev tops : List Part → ℕ
+tops [] = 0
+tops (p ∷ ps) = top_of p.items + tops ps
+
+abbrev nth : ℕ → Name
+nth n = record { author = 0; counter = n }
+
+free_item : (items : Option (List Name)) (n : ℕ) → ComesFirst None items → top_of items < n → is_of items (nth n) ≡ false
+free_item None n listed above = absurd listed
+free_item (Some items) n listed above = any_both items (nth n) ∙ free-above n items above
+
+free_parts : (ps : List Part) (n : ℕ) → All (λ p. ComesFirst None p.items) ps → tops ps < n → list_any (λ p. is_of p.items (nth n)) ps ≡ false
+free_parts [] n listed above = refl
+free_parts (p ∷ ps) n listed above =
+    rw (free_item p.items n (All-head (λ q. ComesFirst None q.items) p ps listed) (omega arith))
+    (free_parts ps n (All-tail (λ q. ComesFirst None q.items) p ps listed) (omega arith))
+
+-- ---- the normal form's parts
+
+abbrev first_part : Versions → Part
+first_part all = record { items = None; versions = all }
+
+-- what is said of all items is known of all
+all_known : (k : Normal) (all : Versions) (ps : List Part) → All (λ p. ComesFirst None p.items) ps → AreSame (normal_known k) (said (first_part all ∷ ps)) → all ≡ vector_has k.all
+all_known k all ps listed same =
+    let n : ℕ = suc (top (items_of k.listed) + tops ps) in
+    let mine = vector_in-unlisted k.all k.listed (nth (suc (top (items_of k.listed) + tops ps))) (free-above (suc (top (items_of k.listed) + tops ps)) (items_of k.listed) (omega arith)) in
+    let none = free_parts ps (suc (top (items_of k.listed) + tops ps)) listed (omega arith) in
+    same_tests all (vector_has k.all) (λ v.
+    sym (or_no (all v)) ∙ ap (λ b. all v || b) (sym (said_none ps (nth (suc (top (items_of k.listed) + tops ps))) v none))
+    ∙ sym (same (nth (suc (top (items_of k.listed) + tops ps))) v) ∙ ap (λ (c : List AuthorColumn). vector_has c v) mine)
+
+-- what a listed part of a normal form is
+record Facts (k : Normal) (all : Versions) (ps : List Part) : Type 0 where
+  same : AreSame (normal_known k) (said (first_part all ∷ ps))
+  is_all : all ≡ vector_has k.all
+  listable : All (λ p. IfSome p.items AreListable) ps
+  listed : All (λ p. ComesFirst None p.items) ps
+  greater : All (λ p. IsGreater p.versions all) ps
+  unlike : AllPairs Unlike ps
+  apart : AllPairs Apart ps
+
+-- an item is of a part exactly where the part's versions are known of it
+of_part : (k : Normal) (all : Versions) (ps : List Part) → Facts k all ps → (q : Part) → Contains ps q → (i : Name) → (is_of q.items i ≡ true) ↔ (normal_known k i ≡ q.versions)
+of_part k all ps facts q has i = (
+  λ among. same_tests (normal_known k i) q.versions (λ v. facts.same i v ∙ said_by all ps q i v facts.greater facts.apart has among),
+  λ known. go known (with_item-cases ps i),
+)
+  where
+    go : normal_known k i ≡ q.versions → ((r : Part) × (Contains ps r × (is_of r.items i ≡ true))) ⊎ (list_any (λ p. is_of p.items i) ps ≡ false) → is_of q.items i ≡ true
+    go known (inl r) =
+        let one = one_part ps r.0 q facts.unlike r.1.0 has (λ v. sym (said_by all ps r.0 i v facts.greater facts.apart r.1.0 r.1.1) ∙ sym (facts.same i v) ∙ ap (λ (s : Versions). s v) known) in
+        ap (λ (p : Part). is_of p.items i) (sym one) ∙ r.1.1
+    go known (inr none) =
+        absurd ((All-contains (λ p. IsGreater p.versions all) ps q facts.greater has).more
+        (λ v. ap (λ (s : Versions). s v) (sym known) ∙ facts.same i v ∙ ap (λ b. all v || b) (said_none ps i v none) ∙ or_no (all v)))
+
+listed_is_part : (k : Normal) (all : Versions) (ps : List Part) → Facts k all ps → (q : Part) → Contains ps q → IsNormalPart k q
+listed_is_part k all ps facts q has = go q.items (All-contains (λ p. IfSome p.items AreListable) ps q facts.listable has) (All-contains (λ p. ComesFirst None p.items) ps q facts.listed has) (of_part k all ps facts q has)
+  where
+    go : (items : Option (List Name)) → IfSome items AreListable → ComesFirst None items → ((i : Name) → (is_of items i ≡ true) ↔ (normal_known k i ≡ q.versions)) → HasNormalVersions k items q.versions
+    go None listable first of = absurd first
+    go (Some items) listable first of = (
+      listable.some,
+      listable.rising,
+      λ e. (All-contains (λ p. IsGreater p.versions all) ps q facts.greater has).more (λ v. ap (λ (s : Versions). s v) (e ∙ sym facts.is_all)),
+      λ i. (λ any. (of i).0 (any_both items i ∙ any), λ known. sym (any_both items i) ∙ (of i).1 known),
+    )
+
+-- a part that the form has for the knowledge is one of these
+part_is_listed : (k : Normal) (all : Versions) (ps : List Part) → Facts k all ps → (p : Part) → IsNormalPart k p → Contains (first_part all ∷ ps) p
+part_is_listed k all ps facts p is = go p.items is
+  where
+    same_items : (q : Part) → Contains ps q → (items : List Name) → HasNormalVersions k (Some items) p.versions → q.versions ≡ p.versions → q.items ≡ Some items
+    same_items q has items is e = by_cases q.items (listed_is_part k all ps facts q has) (All-contains (λ r. ComesFirst None r.items) ps q facts.listed has)
+      where
+        by_cases : (others : Option (List Name)) → HasNormalVersions k others q.versions → ComesFirst None others → others ≡ Some items
+        by_cases None theirs first = absurd first
+        by_cases (Some others) theirs first = ap Some (names_unique others items theirs.1 is.1 (λ i any. (is.3 i).1 ((theirs.3 i).0 any ∙ e)) (λ i any. (theirs.3 i).1 ((is.3 i).0 any ∙ sym e)))
+
+    found : (j : Name) (js : List Name) → HasNormalVersions k (Some (j ∷ js)) p.versions → ((q : Part) × (Contains ps q × (is_of q.items j ≡ true))) ⊎ (list_any (λ r. is_of r.items j) ps ≡ false) → (q : Part) × (Contains ps q × ((q.items ≡ Some (j ∷ js)) × (q.versions ≡ p.versions)))
+    found j js is (inl q) =
+        let e : q.0.versions ≡ p.versions = sym ((of_part k all ps facts q.0 q.1.0 j).0 q.1.1) ∙ (is.3 j).0 (among_head j js) in
+        (q.0, (q.1.0, (same_items q.0 q.1.0 (j ∷ js) is e, e)))
+    found j js is (inr none) =
+        let known : normal_known k j ≡ all = same_tests (normal_known k j) all (λ v. facts.same j v ∙ ap (λ b. all v || b) (said_none ps j v none) ∙ or_no (all v)) in
+        absurd (is.2 (sym ((is.3 j).0 (among_head j js)) ∙ known ∙ facts.is_all))
+
+    go : (items : Option (List Name)) → HasNormalVersions k items p.versions → Contains (first_part all ∷ ps) (record { items = items; versions = p.versions })
+    go None versions = (0, omega arith, ap (λ (s : Versions). record { items = None; versions = s }) (facts.is_all ∙ sym versions))
+    go (Some []) is = absurd (is.0 refl)
+    go (Some (j ∷ js)) is =
+        let q = found j js is (with_item-cases ps j) in
+        let one : q.0 ≡ record { items = Some (j ∷ js); versions = p.versions } = ap (λ (o : Option (List Name)). record { items = o; versions = q.0.versions }) q.1.1.0 ∙ ap (λ (s : Versions). record { items = Some (j ∷ js); versions = s }) q.1.1.1 in
+        subst (Contains (first_part all ∷ ps)) one (Contains-there (first_part all) q.0 ps q.1.0)
+
+facts_of : (k : Normal) (all : Versions) (ps : List Part) → AreSame (normal_known k) (said (first_part all ∷ ps)) → AreInOrder (first_part all ∷ ps) → All (λ p. IsGreater p.versions all) ps → AllPairs Unlike ps → AllPairs Apart ps → Facts k all ps
+facts_of k all ps same in_order greater unlike apart =
+    let listed : All (λ p. ComesFirst None p.items) ps = AllPairs-head (λ p q. ComesFirst p.items q.items) (first_part all) ps in_order.in_order in
+    record {
+      same = same;
+      is_all = all_known k all ps listed same;
+      listable = All-tail (λ p. IfSome p.items AreListable) (first_part all) ps in_order.listable;
+      listed = listed;
+      greater = greater;
+      unlike = unlike;
+      apart = apart;
+    }
+
+-- THE PARTS of a normal form are those that the form has for the knowledge
+pub normal_parts_that : (k : Normal) (parts : List Part) → AreNormalOf k parts → ArePartsThat (IsNormalPart k) parts
+normal_parts_that k parts of =
+    let normal = of.normal in
+    let same : AreSame (normal_known k) (said (first_part normal.all ∷ normal.listed)) = subst (λ ps. AreSame (normal_known k) (said ps)) normal.first of.same in
+    let in_order : AreInOrder (first_part normal.all ∷ normal.listed) = subst AreInOrder normal.first normal.in_order in
+    let facts = facts_of k normal.all normal.listed same in_order normal.greater normal.unlike normal.apart in
+    subst (ArePartsThat (IsNormalPart k)) (sym normal.first) (record {
+      in_order = in_order;
+      are = All-cons (IsNormalPart k) (first_part normal.all) normal.listed facts.is_all (All-weaker (Contains normal.listed) (IsNormalPart k) (λ q has. listed_is_part k normal.all normal.listed facts q has) normal.listed (All-contains_itself normal.listed));
+      has_all = λ p is. part_is_listed k normal.all normal.listed facts p is;
+    })
+
+-- so two normal forms of a knowledge are one
+pub normal_form_unique : (k : Normal) (a b : List Part) → AreNormalOf k a → AreNormalOf k b → a ≡ b
+normal_form_unique k a b oa ob = parts_that-unique (IsNormalPart k) a b (normal_parts_that k a oa) (normal_parts_that k b ob)

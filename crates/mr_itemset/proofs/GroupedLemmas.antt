@@ -1,0 +1,299 @@
+use Rattle.std.proofs.Common.{◌≡◌, ◌≢◌, ◌≤◌, ◌+◌, ◌⊎◌, ℕ, suc, Bool, true, false, ◌||◌, ◌&&◌, List, [], ◌∷◌, ◌++◌, length, get_or, Some, None, IfSome, All, AllPairs, map, refl, ap, sym, ◌∙◌, arith, inl, inr}
+use Rattle.std.specs.declared.cmp.Ordering.TheVariants.{Less}
+use Rattle.std.specs.Ordering.{is_eq}
+use Rattle.std.specs.List.{list_any, AllByRecursion}
+use Rattle.std.specs.List.Sorted.{IsStrictlySortedBy}
+use Rattle.std.proofs.Math.ListN.{length-append}
+use Rattle.std.proofs.lemmas.Bool.{false≢true, cases_Bool, or_cases}
+use Rattle.std.proofs.lemmas.List.Elements.{All-nil, All-cons, All-head, All-tail, All-weaker, All-push, All-map}
+use Rattle.std.proofs.lemmas.List.Folds.{list_any-append}
+use Rattle.std.proofs.lemmas.List.Kept.{AllPairs-cons}
+use Rattle.mr_version.specs.Name.{Name, name_cmp, name_eq}
+use Rattle.mr_version.specs.Order.{names_total}
+use Rattle.mr_forms.specs.Sets.{IsSame}
+use Rattle.mr_forms.specs.Known.{Part}
+use Rattle.mr_forms.specs.Parts.{AreListable, ComesFirst, AreInOrder}
+use Rattle.mr_forms.proofs.SetLemmas.{name_eq-symmetric}
+use Rattle.mr_forms.proofs.PartLemmas.{AllPairs-head, AllPairs-tail}
+use Rattle.mr_concise.specs.declared.vector.AuthorColumn.{AuthorColumn}
+use Rattle.mr_concise.specs.Vector.{vector_has}
+use Rattle.mr_concise.specs.Equal.{vector_eq}
+use Rattle.mr_concise.proofs.EqualLemmas.{vectors_Decides, vectors_same}
+use Rattle.mr_itemset.specs.declared.knowledge.Listed.{Listed}
+use Rattle.mr_itemset.specs.Normal.{Normal, IsBefore, HasMore, IsNormal, vector_in}
+use Rattle.mr_itemset.specs.NormalForm.{is_of, said, IsGreater, AreApart, AreNormalOf, HasOneNormalForm}
+use Rattle.mr_itemset.specs.Groups.{Alike, alone, with_item, grouped, all_grouped, part_of_group}
+use Rattle.mr_itemset.proofs.NormalLemmas.{same_name}
+use Rattle.mr_itemset.proofs.FormLemmas.{normal_form_unique}
+
+-- ---- what holds of each group, and of each two, as an item is put in
+
+all_grouped_by : (S P : Alike → Type 0) (gs : List Alike) (x : Listed) → All S gs → All P gs → P (alone x) → ((g : Alike) → S g → P g → P (with_item g x.item)) → All P (grouped gs x)
+all_grouped_by S P [] x side all one more = All-cons P (alone x) [] one (All-nil P)
+all_grouped_by S P (g ∷ gs) x side all one more = go (cases_Bool (vector_eq g.vector x.vector)) (all_grouped_by S P gs x (All-tail S g gs side) (All-tail P g gs all) one more)
+  where
+    go : (vector_eq g.vector x.vector ≡ true) ⊎ (vector_eq g.vector x.vector ≡ false) → All P (grouped gs x) → All P (grouped (g ∷ gs) x)
+    go (inl same) rest = rw same (All-cons P (with_item g x.item) gs (more g (All-head S g gs side) (All-head P g gs all)) (All-tail P g gs all))
+    go (inr other) rest = rw other (All-cons P g (grouped gs x) (All-head P g gs all) rest)
+
+pairs_grouped_by : (S : Alike → Type 0) (R : Alike → Alike → Type 0) (gs : List Alike) (x : Listed) → All S gs → AllPairs R gs → ((g : Alike) → S g → vector_eq g.vector x.vector ≡ false → R g (alone x)) → ((g h : Alike) → S g → S h → R g h → R g (with_item h x.item)) → ((g h : Alike) → S g → S h → R g h → R (with_item g x.item) h) → AllPairs R (grouped gs x)
+pairs_grouped_by S R [] x side all last right left = AllPairs-cons R (alone x) [] (All-nil (R (alone x))) all
+pairs_grouped_by S R (g ∷ gs) x side all last right left = go (cases_Bool (vector_eq g.vector x.vector)) (pairs_grouped_by S R gs x (All-tail S g gs side) (AllPairs-tail R g gs all) last right left)
+  where
+    mine : S g
+    mine = All-head S g gs side
+
+    go : (vector_eq g.vector x.vector ≡ true) ⊎ (vector_eq g.vector x.vector ≡ false) → AllPairs R (grouped gs x) → AllPairs R (grouped (g ∷ gs) x)
+    go (inl same) rest = rw same (AllPairs-cons R (with_item g x.item) gs (λ k d within. left g _ mine (All-tail S g gs side k d within) (AllPairs-head R g gs all k d within)) (AllPairs-tail R g gs all))
+    go (inr other) rest = rw other (AllPairs-cons R g (grouped gs x) (all_grouped_by S (R g) gs x (All-tail S g gs side) (AllPairs-head R g gs all) (last g mine other) (λ h yours r. right g h mine yours r)) rest)
+
+-- ---- the groups so far
+
+-- every item of the group is lower
+abbrev pub EndsBefore : Name → Alike → Type 0
+EndsBefore item g = All (λ i. name_cmp i item ≡ Less) g.items
+
+-- groups of n items at most, each of one vector beyond that of all items
+pub record AreGroups (all : List AuthorColumn) (n : ℕ) (gs : List Alike) : Type 0 where
+  pub some : All (λ g. g.items ≢ []) gs
+  pub few : All (λ g. length g.items ≤ n) gs
+  pub rising : All (λ g. IsStrictlySortedBy name_cmp g.items) gs
+  pub greater : All (λ g. (item : Name) → HasMore all (record { item = item; vector = g.vector })) gs
+  pub by_first : AllPairs (λ g h. ComesFirst (Some g.items) (Some h.items)) gs
+  pub unlike : AllPairs (λ g h. g.vector ≡ h.vector → ⊥) gs
+  pub apart : AllPairs (λ g h. AreApart (Some g.items) (Some h.items)) gs
+
+not_empty : (xs : List Name) (x : Name) → xs ++ x ∷ [] ≢ []
+not_empty [] x e = cc
+not_empty (y ∷ ys) x e = cc
+
+each_more : (P : Name → Type 0) (xs : List Name) (x : Name) → AllByRecursion P xs → P x → AllByRecursion P (xs ++ x ∷ [])
+each_more P [] x each one = (one, tt)
+each_more P (y ∷ ys) x each one = (each.0, each_more P ys x each.1 one)
+
+sorted_more : (xs : List Name) (x : Name) → IsStrictlySortedBy name_cmp xs → All (λ i. name_cmp i x ≡ Less) xs → IsStrictlySortedBy name_cmp (xs ++ x ∷ [])
+unfolding IsStrictlySortedBy
+sorted_more [] x sorted below = (tt, tt)
+sorted_more (y ∷ ys) x sorted below = (
+  each_more (λ i. name_cmp y i ≡ Less) ys x sorted.0 (All-head (λ i. name_cmp i x ≡ Less) y ys below),
+  sorted_more ys x sorted.1 (All-tail (λ i. name_cmp i x ≡ Less) y ys below),
+)
+
+first_last : (g h : List Name) (x : Name) → ComesFirst (Some g) (Some h) → ComesFirst (Some g) (Some (h ++ x ∷ []))
+first_last [] h x before = before
+first_last (i ∷ is) [] x before = absurd before
+first_last (i ∷ is) (j ∷ js) x before = before
+
+first_stays : (g h : List Name) (x : Name) → ComesFirst (Some g) (Some h) → ComesFirst (Some (g ++ x ∷ [])) (Some h)
+first_stays [] h x before = absurd before
+first_stays (i ∷ is) [] x before = before
+first_stays (i ∷ is) (j ∷ js) x before = before
+
+first_before : (g : List Name) (x : Name) → g ≢ [] → All (λ i. name_cmp i x ≡ Less) g → ComesFirst (Some g) (Some (x ∷ []))
+first_before [] x some below = some refl
+first_before (i ∷ is) x some below = All-head (λ j. name_cmp j x ≡ Less) i is below
+
+-- a lower item is not this one
+not_among : (g : List Name) (x : Name) → All (λ i. name_cmp i x ≡ Less) g → list_any (λ item. name_eq item x) g ≡ false
+not_among [] x below = refl
+not_among (i ∷ is) x below = rw (All-head (λ j. name_cmp j x ≡ Less) i is below) (not_among is x (All-tail (λ j. name_cmp j x ≡ Less) i is below))
+
+is_of-push : (g : List Name) (x i : Name) → is_of (Some (g ++ x ∷ [])) i ≡ (is_of (Some g) i || name_eq x i)
+is_of-push g x i = list_any-append (λ item. name_eq item i) g (x ∷ []) ∙ ap (λ b. is_of (Some g) i || b) (or_no (name_eq x i))
+  where
+    or_no : (b : Bool) → (b || false) ≡ b
+    or_no true = refl
+    or_no false = refl
+
+apart_last : (g h : List Name) (x : Name) → All (λ i. name_cmp i x ≡ Less) g → AreApart (Some g) (Some h) → AreApart (Some g) (Some (h ++ x ∷ []))
+apart_last g h x below apart i among = is_of-push h x i ∙ go (cases_Bool (name_eq x i))
+  where
+    go : (name_eq x i ≡ true) ⊎ (name_eq x i ≡ false) → (is_of (Some h) i || name_eq x i) ≡ false
+    go (inl same) = absurd (false≢true (sym (not_among g x below) ∙ ap (λ (j : Name). is_of (Some g) j) (same_name x i same) ∙ among))
+    go (inr other) = rw (other, apart i among) refl
+
+apart_first : (g h : List Name) (x : Name) → All (λ i. name_cmp i x ≡ Less) h → AreApart (Some g) (Some h) → AreApart (Some (g ++ x ∷ [])) (Some h)
+apart_first g h x below apart i among = go (or_cases (is_of (Some g) i) (name_eq x i) (sym (is_of-push g x i) ∙ among))
+  where
+    go : (is_of (Some g) i ≡ true) ⊎ (name_eq x i ≡ true) → is_of (Some h) i ≡ false
+    go (inl old) = apart i old
+    go (inr same) = ap (λ (j : Name). is_of (Some h) j) (sym (same_name x i same)) ∙ not_among h x below
+
+apart_alone : (g : List Name) (x : Name) → All (λ i. name_cmp i x ≡ Less) g → AreApart (Some g) (Some (x ∷ []))
+apart_alone g x below i among = go (cases_Bool (name_eq x i))
+  where
+    go : (name_eq x i ≡ true) ⊎ (name_eq x i ≡ false) → is_of (Some (x ∷ [])) i ≡ false
+    go (inl same) = absurd (false≢true (sym (not_among g x below) ∙ ap (λ (j : Name). is_of (Some g) j) (same_name x i same) ∙ among))
+    go (inr other) = rw other refl
+
+both_hold : (S T : Alike → Type 0) (gs : List Alike) → All S gs → All T gs → All (λ g. S g × T g) gs
+both_hold S T gs a b k d within = (a k d within, b k d within)
+
+groups_more : (all : List AuthorColumn) (n : ℕ) (gs : List Alike) (x : Listed) → AreGroups all n gs → HasMore all x → All (EndsBefore x.item) gs → AreGroups all (suc n) (grouped gs x)
+unfolding IsStrictlySortedBy
+groups_more all n gs x are more below = record {
+  some = all_grouped_by (EndsBefore x.item) (λ g. g.items ≢ []) gs x below are.some (λ e. cc) (λ g low old. not_empty g.items x.item);
+  few = all_grouped_by (λ g. length g.items ≤ n) (λ g. length g.items ≤ suc n) gs x are.few (All-weaker (λ g. length g.items ≤ n) (λ g. length g.items ≤ suc n) (λ g few. omega arith) gs are.few) (omega arith) (λ g few more. simp length-append (omega arith));
+  rising = all_grouped_by (EndsBefore x.item) (λ g. IsStrictlySortedBy name_cmp g.items) gs x below are.rising (tt, tt) (λ g low sorted. sorted_more g.items x.item sorted low);
+  greater = all_grouped_by (EndsBefore x.item) (λ g. (item : Name) → HasMore all (record { item = item; vector = g.vector })) gs x below are.greater (λ item. record { vector_ok = more.vector_ok; covers = more.covers; more = more.more }) (λ g low old. old);
+  by_first = pairs_grouped_by (λ g. EndsBefore x.item g × (g.items ≢ [])) (λ g h. ComesFirst (Some g.items) (Some h.items)) gs x sides are.by_first (λ g s other. first_before g.items x.item s.1 s.0) (λ g h s t before. first_last g.items h.items x.item before) (λ g h s t before. first_stays g.items h.items x.item before);
+  unlike = pairs_grouped_by (EndsBefore x.item) (λ g h. g.vector ≡ h.vector → ⊥) gs x below are.unlike (λ g s other e. false≢true (sym other ∙ (vectors_Decides g.vector x.vector).1 e)) (λ g h s t r. r) (λ g h s t r. r);
+  apart = pairs_grouped_by (EndsBefore x.item) (λ g h. AreApart (Some g.items) (Some h.items)) gs x below are.apart (λ g s other. apart_alone g.items x.item s) (λ g h s t r. apart_last g.items h.items x.item s r) (λ g h s t r. apart_first g.items h.items x.item t r);
+}
+  where
+    sides : All (λ g. EndsBefore x.item g × (g.items ≢ [])) gs
+    sides = both_hold (EndsBefore x.item) (λ g. g.items ≢ []) gs below are.some
+
+-- the next item is above those of the groups, and above this one
+next_below : (gs : List Alike) (x y : Listed) → IsBefore x y → All (EndsBefore x.item) gs → All (EndsBefore y.item) (grouped gs x)
+next_below gs x y before below = all_grouped_by (EndsBefore x.item) (EndsBefore y.item) gs x below
+    (All-weaker (EndsBefore x.item) (EndsBefore y.item) (λ g low k d within. names_total.trans _ x.item y.item (low k d within) before) gs below)
+    (All-cons (λ i. name_cmp i y.item ≡ Less) x.item [] before (All-nil (λ i. name_cmp i y.item ≡ Less)))
+    (λ g low new. All-push (λ i. name_cmp i y.item ≡ Less) g.items x.item new before)
+
+-- rising items that are listed with more than all make groups
+pub all_groups : (all : List AuthorColumn) (n : ℕ) (gs : List Alike) (xs : List Listed) → AreGroups all n gs → AllPairs IsBefore xs → All (HasMore all) xs → All (λ y. All (EndsBefore y.item) gs) xs → AreGroups all (length xs + n) (all_grouped gs xs)
+all_groups all n gs [] are rising more below = let same : n ≡ 0 + n = omega arith in rw (← same) are
+all_groups all n gs (x ∷ xs) are rising more below =
+    let rest = all_groups all (suc n) (grouped gs x) xs (groups_more all n gs x are (All-head (HasMore all) x xs more) (All-head (λ y. All (EndsBefore y.item) gs) x xs below)) (AllPairs-tail IsBefore x xs rising) (All-tail (HasMore all) x xs more)
+    (λ k d within. next_below gs x (get_or xs k d) (AllPairs-head IsBefore x xs rising k d within) (All-head (λ y. All (EndsBefore y.item) gs) x xs below)) in
+    let same : length xs + suc n ≡ suc (length xs) + n = omega arith in
+    rw (← same) rest
+
+pub no_groups : (all : List AuthorColumn) → AreGroups all 0 []
+no_groups all = record {
+  some = All-nil (λ g. g.items ≢ []);
+  few = All-nil (λ g. length g.items ≤ 0);
+  rising = All-nil (λ g. IsStrictlySortedBy name_cmp g.items);
+  greater = All-nil (λ g. (item : Name) → HasMore all (record { item = item; vector = g.vector }));
+  by_first = λ i j d less within. absurd (omega arith);
+  unlike = λ i j d less within. absurd (omega arith);
+  apart = λ i j d less within. absurd (omega arith);
+}
+
+-- ---- what the groups say
+
+with_or : (a b c r : Bool) → (((a || b) && c) || r) ≡ ((b && c) || ((a && c) || r))
+with_or true true true r = refl
+with_or true true false r = refl
+with_or true false true r = refl
+with_or true false false r = refl
+with_or false true true r = refl
+with_or false true false r = refl
+with_or false false c r = refl
+
+or_turn : (p q r : Bool) → (p || (q || r)) ≡ (q || (p || r))
+or_turn true true r = refl
+or_turn true false r = refl
+or_turn false q r = refl
+
+or_join : (s q r : Bool) → (s || (q || r)) ≡ ((q || s) || r)
+or_join true true r = refl
+or_join true false r = refl
+or_join false true r = refl
+or_join false false r = refl
+
+one_says : (a b : Bool) → (((a || false) && b) || false) ≡ ((a && b) || false)
+one_says true b = refl
+one_says false b = refl
+
+said_grouped : (gs : List Alike) (x : Listed) (i v : Name) → said (map part_of_group (grouped gs x)) i v ≡ ((name_eq x.item i && vector_has x.vector v) || said (map part_of_group gs) i v)
+said_grouped [] x i v = one_says (name_eq x.item i) (vector_has x.vector v)
+said_grouped (g ∷ gs) x i v = go (cases_Bool (vector_eq g.vector x.vector)) (said_grouped gs x i v)
+  where
+    go : (vector_eq g.vector x.vector ≡ true) ⊎ (vector_eq g.vector x.vector ≡ false) → said (map part_of_group (grouped gs x)) i v ≡ ((name_eq x.item i && vector_has x.vector v) || said (map part_of_group gs) i v) → said (map part_of_group (grouped (g ∷ gs) x)) i v ≡ ((name_eq x.item i && vector_has x.vector v) || said (map part_of_group (g ∷ gs)) i v)
+    go (inl same) rest =
+        rw (same, is_of-push g.items x.item i)
+        (with_or (is_of (Some g.items) i) (name_eq x.item i) (vector_has g.vector v) (said (map part_of_group gs) i v)
+        ∙ ap (λ (c : List AuthorColumn). (name_eq x.item i && vector_has c v) || ((is_of (Some g.items) i && vector_has g.vector v) || said (map part_of_group gs) i v)) ((vectors_Decides g.vector x.vector).0 same))
+    go (inr other) rest =
+        rw (other, rest) (or_turn (is_of (Some g.items) i && vector_has g.vector v) (name_eq x.item i && vector_has x.vector v) (said (map part_of_group gs) i v))
+
+-- what the listed items say
+abbrev says : List Listed → Name → Name → Bool
+says xs i v = list_any (λ x. name_eq x.item i && vector_has x.vector v) xs
+
+said_all : (gs : List Alike) (xs : List Listed) (i v : Name) → said (map part_of_group (all_grouped gs xs)) i v ≡ (says xs i v || said (map part_of_group gs) i v)
+said_all gs [] i v = refl
+said_all gs (x ∷ xs) i v =
+    said_all (grouped gs x) xs i v ∙ ap (λ b. says xs i v || b) (said_grouped gs x i v)
+    ∙ or_join (says xs i v) (name_eq x.item i && vector_has x.vector v) (said (map part_of_group gs) i v)
+
+says_none : (xs : List Listed) (i v : Name) → All (λ y. name_cmp i y.item ≡ Less) xs → says xs i v ≡ false
+says_none [] i v above = refl
+says_none (x ∷ xs) i v above =
+    let other : name_eq x.item i ≡ false = name_eq-symmetric x.item i ∙ ap is_eq (All-head (λ y. name_cmp i y.item ≡ Less) x xs above) in
+    rw other (says_none xs i v (All-tail (λ y. name_cmp i y.item ≡ Less) x xs above))
+
+with_all : (a p : Bool) → (a ≡ true → p ≡ true) → (a || ((p || false) || false)) ≡ p
+with_all true p covers = sym (covers refl)
+with_all false true covers = refl
+with_all false false covers = refl
+
+says_known : (all : List AuthorColumn) (xs : List Listed) (i v : Name) → AllPairs IsBefore xs → All (HasMore all) xs → (vector_has all v || (says xs i v || false)) ≡ vector_has (vector_in all xs i) v
+says_known all [] i v rising more = or_false (vector_has all v)
+  where
+    or_false : (a : Bool) → (a || (false || false)) ≡ a
+    or_false true = refl
+    or_false false = refl
+says_known all (x ∷ xs) i v rising more = go (cases_Bool (name_eq x.item i)) (says_known all xs i v (AllPairs-tail IsBefore x xs rising) (All-tail (HasMore all) x xs more))
+  where
+    go : (name_eq x.item i ≡ true) ⊎ (name_eq x.item i ≡ false) → (vector_has all v || (says xs i v || false)) ≡ vector_has (vector_in all xs i) v → (vector_has all v || (says (x ∷ xs) i v || false)) ≡ vector_has (vector_in all (x ∷ xs) i) v
+    go (inl same) rest =
+        let none : says xs i v ≡ false = says_none xs i v (All-weaker (IsBefore x) (λ y. name_cmp i y.item ≡ Less) (λ y before. rw (← same_name x.item i same) before) xs (AllPairs-head IsBefore x xs rising)) in
+        rw (same, none) (with_all (vector_has all v) (vector_has x.vector v) (λ has. (All-head (HasMore all) x xs more).covers v has))
+    go (inr other) rest = rw other rest
+
+-- ---- the normal form of a knowledge
+
+AllPairs-map : {X Y : Type 0} (R : Y → Y → Type 0) (f : X → Y) (xs : List X) → AllPairs (λ a b. R (f a) (f b)) xs → AllPairs R (map f xs)
+AllPairs-map R f [] all = λ i j d less within. absurd (omega arith)
+AllPairs-map R f (x ∷ xs) all =
+    AllPairs-cons R (f x) (map f xs) (All-map (R (f x)) f xs (AllPairs-head (λ a b. R (f a) (f b)) x xs all)) (AllPairs-map R f xs (AllPairs-tail (λ a b. R (f a) (f b)) x xs all))
+
+abbrev groups_in : Normal → List Alike
+groups_in k = all_grouped [] k.listed
+
+-- what all items have, and then the groups
+abbrev pub parts_in : Normal → List Part
+parts_in k = (record { items = None; versions = vector_has k.all }) ∷ map part_of_group (groups_in k)
+
+are_groups : (k : Normal) → IsNormal k → AreGroups k.all (length k.listed + 0) (groups_in k)
+are_groups k normal = all_groups k.all 0 [] k.listed (no_groups k.all) normal.rising normal.more (λ j d within. All-nil (EndsBefore (get_or k.listed j d).item))
+
+in_order : (k : Normal) → IsNormal k → AreInOrder (parts_in k)
+in_order k normal =
+    let are = are_groups k normal in
+    let few = normal.few in
+    record {
+      listable = All-cons (λ p. IfSome p.items AreListable) (record { items = None; versions = vector_has k.all }) (map part_of_group (groups_in k)) tt
+          (All-map (λ p. IfSome p.items AreListable) part_of_group (groups_in k) (λ j d within. let small = are.few j d within in record { some = are.some j d within; few = omega arith; rising = are.rising j d within }));
+      in_order = AllPairs-cons (λ p q. ComesFirst p.items q.items) (record { items = None; versions = vector_has k.all }) (map part_of_group (groups_in k))
+          (All-map (λ q. ComesFirst None q.items) part_of_group (groups_in k) (λ j d within. tt))
+          (AllPairs-map (λ p q. ComesFirst p.items q.items) part_of_group (groups_in k) are.by_first);
+    }
+
+pub parts_are_normal : (k : Normal) → IsNormal k → AreNormalOf k (parts_in k)
+parts_are_normal k normal =
+    let are = are_groups k normal in
+    record {
+      normal = record {
+        all = vector_has k.all;
+        listed = map part_of_group (groups_in k);
+        first = refl;
+        in_order = in_order k normal;
+        greater = All-map (λ p. IsGreater p.versions (vector_has k.all)) part_of_group (groups_in k) (λ j d within. let more = are.greater j d within (record { author = 0; counter = 0 }) in record { covers = more.covers; more = more.more });
+        unlike = AllPairs-map (λ p q. ¬ IsSame p.versions q.versions) part_of_group (groups_in k)
+            (λ i j d less within same. are.unlike i j d less within (vectors_same (get_or (groups_in k) i d).vector (get_or (groups_in k) j d).vector (are.greater i d (omega arith) (record { author = 0; counter = 0 })).vector_ok (are.greater j d within (record { author = 0; counter = 0 })).vector_ok same));
+        apart = AllPairs-map (λ p q. AreApart p.items q.items) part_of_group (groups_in k) are.apart;
+      };
+      same = λ i v. sym (ap (λ b. vector_has k.all v || b) (said_all [] k.listed i v) ∙ says_known k.all k.listed i v normal.rising normal.more);
+    }
+
+-- EACH KNOWLEDGE HAS ONE NORMAL FORM
+pub one_form : (k : Normal) → IsNormal k → HasOneNormalForm k
+one_form k normal = record {
+  parts = parts_in k;
+  are = parts_are_normal k normal;
+  one = λ others are. normal_form_unique k others (parts_in k) are (parts_are_normal k normal);
+}

@@ -1,0 +1,78 @@
+use Rattle.std.proofs.Common.{◌≡◌, ◌≢◌, List, [], ◌∷◌, None, All, IfSome, map, refl, ap, sym, ◌∙◌}
+use Rattle.std.specs.List.{flat_map, join_by}
+use Rattle.std.proofs.lemmas.Simd.{map-map}
+use Rattle.std.proofs.lemmas.List.Elements.{All-nil, All-cons, All-head, All-tail}
+use Rattle.std.proofs.lemmas.List.Folds.{flat_map-map}
+use Rattle.mr_version.specs.Name.{Name}
+use Rattle.mr_forms.specs.declared.fragment.ItemSet.{ItemSet}
+use Rattle.mr_forms.specs.declared.fragment.ItemSet.TheVariants.{All as AllItems, Listed}
+use Rattle.mr_forms.specs.Known.{AreSame}
+use Rattle.mr_forms.specs.Covered.{has_item, listed_items, HasItems, all_covered}
+use Rattle.mr_forms.specs.Parts.{part_of, AreListable, ArePartsThat}
+use Rattle.mr_concise.specs.Vector.{vector_has}
+use Rattle.mr_concise.specs.Fragments.{ConciseFragment, items_text, fragment_text, knowledge_text}
+use Rattle.mr_itemset.specs.Normal.{Normal, normal_known, IsNormal}
+use Rattle.mr_itemset.specs.ItemForm.{IsNormalPart}
+use Rattle.mr_itemset.specs.NormalForm.{is_of, said, AreNormalOf}
+use Rattle.mr_itemset.specs.Groups.{all_grouped}
+use Rattle.mr_itemset.specs.Shown.{shown, shown_group, fragments_in, part_in, shown_items, shown_text, normal_text}
+use Rattle.mr_itemset.proofs.FormLemmas.{normal_parts_that}
+use Rattle.mr_itemset.proofs.GroupedLemmas.{parts_in, parts_are_normal}
+
+-- the fragments' parts are those of the normal form
+pub parts_shown : (k : Normal) (fs : List ConciseFragment) → map shown fs ≡ fragments_in k → map (part_of vector_has) fs ≡ parts_in k
+parts_shown k fs are =
+    sym (map-map part_in shown fs) ∙ ap (map part_in) are
+    ∙ ap (λ ps. (record { items = None; versions = vector_has k.all }) ∷ ps) (map-map part_in shown_group (all_grouped [] k.listed))
+
+-- so they are in normal form
+pub shown_normal : (k : Normal) (fs : List ConciseFragment) → IsNormal k → map shown fs ≡ fragments_in k → AreNormalOf k (map (part_of vector_has) fs)
+shown_normal k fs normal are = rw (parts_shown k fs are) (parts_are_normal k normal)
+
+pub shown_parts : (k : Normal) (fs : List ConciseFragment) → IsNormal k → map shown fs ≡ fragments_in k → ArePartsThat (IsNormalPart k) (map (part_of vector_has) fs)
+shown_parts k fs normal are = normal_parts_that k (map (part_of vector_has) fs) (shown_normal k fs normal are)
+
+has_item-is_of : (items : ItemSet) (i : Name) → is_of (listed_items items) i ≡ has_item items i
+has_item-is_of AllItems i = refl
+has_item-is_of (Listed items) i = refl
+
+said_covered : (fs : List ConciseFragment) (i v : Name) → said (map (part_of vector_has) fs) i v ≡ all_covered vector_has fs i v
+said_covered [] i v = refl
+said_covered (f ∷ fs) i v = rw (has_item-is_of f.items i, said_covered fs i v) refl
+
+-- and cover what is known
+pub shown_known : (k : Normal) (fs : List ConciseFragment) → IsNormal k → map shown fs ≡ fragments_in k → AreSame (normal_known k) (all_covered vector_has fs)
+shown_known k fs normal are i v = (shown_normal k fs normal are).same i v ∙ said_covered fs i v
+
+has_items : (items : ItemSet) → IfSome (listed_items items) AreListable → HasItems items
+has_items AllItems listable = tt
+has_items (Listed items) listable = listable.some
+
+each_has_items : (fs : List ConciseFragment) → All (λ p. IfSome p.items AreListable) (map (part_of vector_has) fs) → All (λ f. HasItems f.items) fs
+each_has_items [] listable = All-nil (λ f. HasItems f.items)
+each_has_items (f ∷ fs) listable =
+    All-cons (λ g. HasItems g.items) f fs (has_items f.items (All-head (λ p. IfSome p.items AreListable) (part_of vector_has f) (map (part_of vector_has) fs) listable))
+    (each_has_items fs (All-tail (λ p. IfSome p.items AreListable) (part_of vector_has f) (map (part_of vector_has) fs) listable))
+
+-- each for some item
+pub shown_has_items : (k : Normal) (fs : List ConciseFragment) → IsNormal k → map shown fs ≡ fragments_in k → All (λ f. HasItems f.items) fs
+shown_has_items k fs normal are = each_has_items fs (shown_normal k fs normal are).normal.in_order.listable
+
+-- ---- the text
+
+items_shown : (items : ItemSet) → items_text items ≡ shown_items (listed_items items)
+items_shown AllItems = refl
+items_shown (Listed items) = refl
+
+each_text : (fs : List ConciseFragment) → flat_map (λ f. 59 ∷ 32 ∷ fragment_text f) fs ≡ flat_map (λ f. 59 ∷ 32 ∷ shown_text (shown f)) fs
+each_text [] = refl
+each_text (f ∷ fs) = rw (items_shown f.items, each_text fs) refl
+
+joined : (fs : List ConciseFragment) → fs ≢ [] → knowledge_text fs ≡ join_by shown_text (59 ∷ 32 ∷ []) (map shown fs)
+joined [] some = absurd (some refl)
+joined (f ∷ fs) some = rw (items_shown f.items, each_text fs, flat_map-map (λ s. 59 ∷ 32 ∷ shown_text s) shown fs) refl
+
+-- THE TEXT of the fragments is that of the knowledge
+pub text_shown : (k : Normal) (fs : List ConciseFragment) → map shown fs ≡ fragments_in k → knowledge_text fs ≡ normal_text k
+text_shown k [] are = cc
+text_shown k (f ∷ fs) are = joined (f ∷ fs) (λ e. cc) ∙ ap (join_by shown_text (59 ∷ 32 ∷ [])) are

@@ -1,0 +1,64 @@
+ghost use Rattle.std.specs.Prelude.{◌≡◌, ◌++◌, All, IfOk, OnOk, OnErr, Err, map, string_bytes};
+ghost use Rattle.mr_forms.specs.Known.{AreSame};
+ghost use Rattle.mr_forms.specs.Covered.{all_covered, HasItems};
+ghost use Rattle.mr_forms.specs.Parts.{part_of, ArePartsThat};
+ghost use Rattle.mr_concise.specs.Vector.{vector_has};
+ghost use Rattle.mr_itemset.specs.Normal.{normal_known, IsNormal};
+ghost use Rattle.mr_itemset.specs.ItemForm.{IsNormalPart};
+ghost use Rattle.mr_itemset.specs.NormalForm.{AreNormal};
+ghost use Rattle.mr_itemset.specs.Shown.{shown, shown_group, fragments_in, normal_text};
+
+use crate::groups::{Group, groups_of};
+use crate::knowledge::ItemKnowledge;
+use mr_concise::{ConciseVector, knowledge_text};
+use mr_forms::{FormFault, Fragment, ItemSet, VersionSet};
+
+/// Puts a fragment of each group behind the others.
+fn push_groups(
+    fragments: &mut Vec<Fragment<ConciseVector>>,
+    groups: Vec<Group<'_>>,
+) -> Result<(), FormFault>
+    ensures ok { OnOk result (map shown fragments.new.items ≡ map shown fragments.old.items ++ map shown_group groups.entry.items) }
+    ensures memory { OnErr result (result ≡ Err FormFault.OutOfMemory) }
+{
+    for group in groups {
+        fragments.push(group.into_fragment()?)?;
+    }
+    Ok(())
+}
+
+impl ItemKnowledge {
+    /// The knowledge as fragments, in normal form. That of all items comes first, and its vector may be
+    /// empty. Each listed item is in one of the others, with a vector that has all that all items have,
+    /// and more; no two of these have the same vector. They come by their first items, and the items of
+    /// each rise. `OutOfMemory` is the only fault. For n listed items it takes about n log n comparisons
+    /// of vectors.
+    pub fn fragments(&self) -> Result<Vec<Fragment<ConciseVector>>, FormFault>
+        ensures are { IfOk result (λ fragments. map shown fragments.items ≡ fragments_in self.now) }
+        ensures normal { IfOk result (λ fragments. AreNormal (map (part_of vector_has) fragments.items)) }
+        ensures ok { IfOk result (λ fragments. AreSame (normal_known self.now) (all_covered vector_has fragments.items)) }
+        ensures items { IfOk result (λ fragments. All (λ fragment. HasItems fragment.items) fragments.items) }
+        ensures parts { IfOk result (λ fragments. ArePartsThat (IsNormalPart self.now) (map (part_of vector_has) fragments.items)) }
+        ensures memory { OnErr result (result ≡ Err FormFault.OutOfMemory) }
+    {
+        let alloc = self.allocator();
+        let mut fragments = Vec::new(alloc);
+        fragments.push(Fragment {
+            items: ItemSet::All,
+            vector: self.for_all().copy()?,
+        })?;
+        let groups = groups_of(self.listed(), alloc)?;
+        push_groups(&mut fragments, groups)?;
+        Ok(fragments)
+    }
+
+    /// The text of the knowledge: `all` or items with commas between them, a space and the vector's text,
+    /// for each fragment, and `; ` between the fragments, as `all 0:4; 0.3,0.5 0:9!2!5..7`.
+    pub fn text(&self) -> Result<String, FormFault>
+        ensures ok { IfOk result (λ text. string_bytes text ≡ normal_text self.now) }
+        ensures memory { OnErr result (result ≡ Err FormFault.OutOfMemory) }
+    {
+        let fragments = self.fragments()?;
+        Ok(knowledge_text(self.allocator(), &fragments)?)
+    }
+}

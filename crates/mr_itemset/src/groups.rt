@@ -1,0 +1,97 @@
+ghost use Rattle.std.specs.Prelude.{◌≡◌, [], Err, IfOk, OnOk, OnErr};
+ghost use Rattle.mr_itemset.specs.Groups.{alone, with_item, grouped, all_grouped, ArePlaces};
+ghost use Rattle.mr_itemset.specs.Shown.{shown, shown_group};
+
+use crate::knowledge::Listed;
+use mr_concise::ConciseVector;
+use mr_forms::{FormFault, Fragment, ItemSet, VersionSet};
+use mr_version::ItemId;
+use std::alloc::{AllocError, Global};
+use std::collections::BTreeMap;
+use std::marker::Model;
+
+/// Listed items that have one vector, by rising item.
+#[derive(Drop)]
+pub(crate) struct Group<'a> {
+    vector: &'a ConciseVector,
+    items: Vec<ItemId>,
+}
+
+impl<'a> Model for Group<'a> {
+    ghost use Rattle.mr_itemset.specs.Groups.{Alike, alike_code};
+
+    ghost Value = { Alike };
+
+    ghost coded = { alike_code };
+
+    ghost view = { λ g. record { vector = g.vector.now; items = g.items.items } };
+}
+
+impl<'a> Group<'a> {
+    /// The group of one item.
+    fn of(x: &'a Listed, alloc: Global) -> Result<Group<'a>, AllocError>
+        ensures { IfOk result (λ group. group ≡ alone x.now) }
+    {
+        let mut items = Vec::new(alloc);
+        items.push(x.item)?;
+        Ok(Group {
+            vector: &x.vector,
+            items,
+        })
+    }
+
+    /// Its items, with a copy of their vector.
+    pub(crate) fn into_fragment(self) -> Result<Fragment<ConciseVector>, FormFault>
+        ensures ok { IfOk result (λ fragment. shown fragment ≡ shown_group self.entry) }
+        ensures memory { OnErr result (result ≡ Err FormFault.OutOfMemory) }
+    {
+        let vector = self.vector.copy()?;
+        Ok(Fragment {
+            items: ItemSet::Listed(self.items),
+            vector,
+        })
+    }
+
+    /// Puts an item behind the others.
+    fn push(&mut self, item: ItemId) -> Result<(), AllocError>
+        ensures { OnOk result (self.new ≡ with_item self.old item) }
+    {
+        self.items.push(item)?;
+        Ok(())
+    }
+}
+
+/// Puts a listed item into the group of its vector, or else into one of its own behind the others. The
+/// map says which group has a vector.
+fn add<'a>(
+    groups: &mut Vec<Group<'a>>,
+    places: &mut BTreeMap<&'a ConciseVector, usize>,
+    x: &'a Listed,
+    alloc: Global,
+) -> Result<(), AllocError>
+    requires { ArePlaces (λ vector. vector.now) groups.old.items places.old }
+    ensures added { OnOk result (groups.new.items ≡ grouped groups.old.items x.now) }
+    ensures places { OnOk result (ArePlaces (λ vector. vector.now) groups.new.items places.new) }
+{
+    let vector = &x.vector;
+    match places.get(&vector) {
+        Some(at) => groups[*at].push(x.item)?,
+        None => {
+            places.insert(vector, groups.len())?;
+            groups.push(Group::of(x, alloc)?)?;
+        }
+    }
+    Ok(())
+}
+
+/// The listed items, grouped by their vectors: the groups stand by their first items.
+pub(crate) fn groups_of(listed: &[Listed], alloc: Global) -> Result<Vec<Group<'_>>, AllocError>
+    ensures { IfOk result (λ groups. groups.items ≡ all_grouped [] listed.now) }
+{
+    let mut groups = Vec::new(alloc);
+    let mut places = BTreeMap::new(alloc);
+    for x in listed {
+        add(&mut groups, &mut places, x, alloc)?;
+    }
+    Ok(groups)
+}
