@@ -10,6 +10,7 @@ use Rattle.mr_concise.specs.Next.{IsNextOut, IsNextIn, HasNoneFrom}
 use Rattle.mr_forms.specs.Runs.{HasNoneOf}
 use Rattle.mr_forms.specs.Runs.{HasNoAuthorFrom, IsNextAuthor}
 use Rattle.mr_concise.specs.AllOf.{in_all, lower_of, IsPassed}
+use Rattle.mr_concise.specs.declared.column.TheConstants.{COUNTERS_END}
 
 or_none : (b : Bool) → (b || false) ≡ b
 or_none true = refl
@@ -73,7 +74,7 @@ NextAuthor-lower s t id (Some m) (Some n) x y = elim (cases_lt n m) [
 ]
 
 -- past one part more
-pub IsPassed-more : (s t : ℕ → Bool) (from at next : ℕ) → IsPassed s from at → IsNextOut t at next → next ≤ 1000001 → t 0 ≡ false → IsPassed (either s t) from next
+pub IsPassed-more : (s t : ℕ → Bool) (from at next : ℕ) → IsPassed s from at → IsNextOut t at next → next ≤ COUNTERS_END → t 0 ≡ false → IsPassed (either s t) from next
 IsPassed-more s t from at next w n bound zero_out =
     let up = w.above in
     let further = n.above in
@@ -91,7 +92,7 @@ IsPassed-more s t from at next w n bound zero_out =
 -- all from here up to the place are in the set
 pub record IsAllTo (has : ℕ → Bool) (from at : ℕ) : Type 0 where
   pub above : from ≤ at
-  pub bound : at ≤ 1000001
+  pub bound : at ≤ COUNTERS_END
   pub between : (c : ℕ) → from ≤ c → c < at → has c ≡ true
 
 pub IsAllTo-more : (has : ℕ → Bool) (from at next : ℕ) → IsAllTo has from at → IsPassed has at next → IsAllTo has from next
@@ -111,7 +112,7 @@ pub IsAllTo-end : (has : ℕ → Bool) (from at next : ℕ) → IsAllTo has from
 IsAllTo-end has from at next w p e = record { above = w.above; is_out = p.stays e; between = w.between }
 
 -- past one set, and from there past another
-pub IsPassed-two : (s t : ℕ → Bool) (from middle next : ℕ) → IsNextOut s from middle → middle ≤ 1000001 → s 0 ≡ false → IsNextOut t middle next → next ≤ 1000001 → t 0 ≡ false → IsPassed (either s t) from next
+pub IsPassed-two : (s t : ℕ → Bool) (from middle next : ℕ) → IsNextOut s from middle → middle ≤ COUNTERS_END → s 0 ≡ false → IsNextOut t middle next → next ≤ COUNTERS_END → t 0 ≡ false → IsPassed (either s t) from next
 IsPassed-two s t from middle next m in_range s_zero n bound t_zero =
     let up = m.above in
     let first : IsPassed s from middle = record { above = up; bound = in_range; between = m.between; stays = λ e. let q : middle ≡ from = e in rw q at m.is_out; zero = s_zero } in

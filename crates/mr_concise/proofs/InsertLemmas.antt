@@ -2,6 +2,7 @@ use Rattle.std.proofs.Common.{inl, inr, ◌≡◌, ◌<◌, ◌≤◌, ◌+◌, 
 use Rattle.std.proofs.lemmas.Bool.{cases_lt, cases_eq, le-leb, lt-leb, lt-ltb, le-ltb, eq-eqb, ne_eqb}
 use Rattle.std.specs.Prelude.{if◌then◌else◌}
 use Rattle.std.proofs.lemmas.Bool.Decides.{nat_tests}
+use Rattle.mr_forms.specs.declared.run.TheConstants.{MAX_COUNTER}
 use Rattle.mr_concise.specs.Edges.{is_on, IsRising}
 use Rattle.mr_concise.specs.declared.column.Hole.{Hole}
 use Rattle.mr_concise.specs.Column.{Extent, hole_edges, edges, gap, filled, with_counter, column_has, IsColumn}
@@ -118,7 +119,7 @@ with_counter-means column k r from =
       ],
     )
 
-pub IsColumn-with_counter : (column : Extent) (k : ℕ) → IsColumn column → 1 ≤ k → k ≤ 1000000 → length (with_counter column k).holes ≤ 4096 → IsColumn (with_counter column k)
+pub IsColumn-with_counter : (column : Extent) (k : ℕ) → IsColumn column → 1 ≤ k → k ≤ MAX_COUNTER → length (with_counter column k).holes ≤ 4096 → IsColumn (with_counter column k)
 IsColumn-with_counter column k h from to few = record {
   apart = (with_counter-means column k h.apart from).0;
   in_range = elim (cases_lt column.upto k) [
@@ -128,10 +129,10 @@ IsColumn-with_counter column k h from to few = record {
   few = few;
 }
 
-pub IsColumn-above : (upto k : ℕ) (holes new : List Hole) → IsColumn (record { upto = upto; holes = holes }) → upto < k → k ≤ 1000000 → length (with_counter (record { upto = upto; holes = holes }) k).holes ≤ 4096 → new ≡ holes ++ gap (upto + 1) (k - 1) → IsColumn (record { upto = k; holes = new })
+pub IsColumn-above : (upto k : ℕ) (holes new : List Hole) → IsColumn (record { upto = upto; holes = holes }) → upto < k → k ≤ MAX_COUNTER → length (with_counter (record { upto = upto; holes = holes }) k).holes ≤ 4096 → new ≡ holes ++ gap (upto + 1) (k - 1) → IsColumn (record { upto = k; holes = new })
 IsColumn-above upto k holes new h l to few e = rw e (rw (lt-ltb upto k l) at (IsColumn-with_counter (record { upto = upto; holes = holes }) k h (omega arith) to few))
 
-pub IsColumn-within : (upto k : ℕ) (holes new : List Hole) → IsColumn (record { upto = upto; holes = holes }) → k ≤ upto → 1 ≤ k → k ≤ 1000000 → length (with_counter (record { upto = upto; holes = holes }) k).holes ≤ 4096 → new ≡ filled k holes → IsColumn (record { upto = upto; holes = new })
+pub IsColumn-within : (upto k : ℕ) (holes new : List Hole) → IsColumn (record { upto = upto; holes = holes }) → k ≤ upto → 1 ≤ k → k ≤ MAX_COUNTER → length (with_counter (record { upto = upto; holes = holes }) k).holes ≤ 4096 → new ≡ filled k holes → IsColumn (record { upto = upto; holes = new })
 IsColumn-within upto k holes new h l from to few e = rw e (rw (le-ltb upto k l) at (IsColumn-with_counter (record { upto = upto; holes = holes }) k h from to few))
 
 pub gap-one : (f l : ℕ) (holes : List Hole) → f ≤ l → holes ++ (record { first = f; last = l }) ∷ [] ≡ holes ++ gap f l

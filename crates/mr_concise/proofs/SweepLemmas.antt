@@ -14,12 +14,13 @@ use Rattle.mr_concise.specs.Next.{IsNextOut, IsNextIn, HasNoneFrom}
 use Rattle.mr_forms.specs.Runs.{of_author}
 use Rattle.mr_concise.specs.Source.{IsColumnOf, HasFewHoles, HasManyHoles}
 use Rattle.mr_forms.specs.Runs.{HasNoAuthorFrom, IsNextAuthor}
-use Rattle.mr_concise.specs.Vector.{column_of, vector_has, IsVectorFrom, placed, HasTooManyHoles}
+use Rattle.mr_concise.specs.Vector.{column_of, vector_has, IsVectorFrom, with_column, HasTooManyHoles}
 use Rattle.mr_concise.proofs.EdgeLemmas.{is_on-turn, is_on-stay, IsRising-end}
 use Rattle.mr_concise.proofs.ColumnLemmas.{column_unique, column_has-edges}
-use Rattle.mr_concise.proofs.VectorLemmas.{column_of-placed, IsVectorFrom-placed}
+use Rattle.mr_concise.proofs.VectorLemmas.{column_of-with_column, IsVectorFrom-with_column}
 use Rattle.mr_concise.proofs.UnionLemmas.{column_has-empty, IsColumn-empty}
 use Rattle.mr_concise.proofs.LastLemmas.{column_has-above}
+use Rattle.mr_concise.specs.declared.column.TheConstants.{COUNTERS_END}
 
 bool-extend : (c at t e : ℕ) → at < t → t < e → (if nat_lt c at then true else (if nat_lt c t then false else (if nat_lt c e then true else false))) ≡ (if nat_lt c t then (if nat_lt c at then true else false) else nat_lt c e)
 bool-extend c at t e l m = grind (arith, nat_tests)
@@ -39,13 +40,13 @@ extend low at t e (h ∷ holes) r l m =
 pub record Swept (has : ℕ → Bool) (holes : List Hole) (at : ℕ) : Type 0 where
   pub rising : IsRising 0 (hole_edges holes ++ at ∷ [])
   pub from_one : 1 ≤ at
-  pub bound : at ≤ 1000001
+  pub bound : at ≤ COUNTERS_END
   pub is_out : has at ≡ false
   pub means : (c : ℕ) → 1 ≤ c → c < at → is_on true (hole_edges holes ++ at ∷ []) c ≡ has c
   pub past : (c : ℕ) → at ≤ c → is_on true (hole_edges holes ++ at ∷ []) c ≡ false
   pub counted : length holes < at
 
-pub swept-begin : (has : ℕ → Bool) (at : ℕ) → IsNextOut has 1 at → at ≤ 1000001 → Swept has [] at
+pub swept-begin : (has : ℕ → Bool) (at : ℕ) → IsNextOut has 1 at → at ≤ COUNTERS_END → Swept has [] at
 swept-begin has at n bound =
     let above = n.above in
     record {
@@ -58,7 +59,7 @@ swept-begin has at n bound =
       counted = omega arith;
     }
 
-pub swept-more : (has : ℕ → Bool) (holes : List Hole) (at t e : ℕ) → Swept has holes at → IsNextIn has at t → IsNextOut has t e → e ≤ 1000001 → Swept has (holes ++ (record { first = at; last = t - 1 }) ∷ []) e
+pub swept-more : (has : ℕ → Bool) (holes : List Hole) (at t e : ℕ) → Swept has holes at → IsNextIn has at t → IsNextOut has t e → e ≤ COUNTERS_END → Swept has (holes ++ (record { first = at; last = t - 1 }) ∷ []) e
 swept-more has holes at t e w n o bound =
     let up = n.above in
     let further = o.above in
@@ -140,10 +141,10 @@ pub record SweptCount (has : ℕ → Bool) (count at : ℕ) : Type 0 where
   pub count_is : count ≡ length holes
   pub swept : Swept has holes at
 
-pub SweptCount-begin : (has : ℕ → Bool) (at : ℕ) → IsNextOut has 1 at → at ≤ 1000001 → SweptCount has 0 at
+pub SweptCount-begin : (has : ℕ → Bool) (at : ℕ) → IsNextOut has 1 at → at ≤ COUNTERS_END → SweptCount has 0 at
 SweptCount-begin has at n bound = record { holes = []; count_is = refl; swept = swept-begin has at n bound }
 
-pub SweptCount-more : (has : ℕ → Bool) (count at t e : ℕ) → SweptCount has count at → IsNextIn has at t → IsNextOut has t e → e ≤ 1000001 → SweptCount has (count + 1) e
+pub SweptCount-more : (has : ℕ → Bool) (count at t e : ℕ) → SweptCount has count at → IsNextIn has at t → IsNextOut has t e → e ≤ COUNTERS_END → SweptCount has (count + 1) e
 SweptCount-more has count at t e w n o bound = record {
   holes = w.holes ++ (record { first = at; last = t - 1 }) ∷ [];
   count_is = let c = w.count_is in let k = length-append w.holes ((record { first = at; last = t - 1 }) ∷ []) in omega arith;
@@ -203,10 +204,10 @@ gathered-means set columns id author column w n is q c = elim (cases_eq author q
   ])
 ]
 
-pub GatheredTo-put : (set : Versions) (columns : List AuthorColumn) (id author : ℕ) (column : Extent) → GatheredTo set columns id → IsNextAuthor set id author → IsColumn column → IsColumnOf (of_author set author) column → 0 < column.upto → GatheredTo set (placed (record { author = author; column = column }) columns) (author + 1)
+pub GatheredTo-put : (set : Versions) (columns : List AuthorColumn) (id author : ℕ) (column : Extent) → GatheredTo set columns id → IsNextAuthor set id author → IsColumn column → IsColumnOf (of_author set author) column → 0 < column.upto → GatheredTo set (with_column (record { author = author; column = column }) columns) (author + 1)
 GatheredTo-put set columns id author column w n normal is some = record {
-  vector = IsVectorFrom-placed 0 (record { author = author; column = column }) columns w.vector (omega arith) (omega arith) normal n.author_in;
-  means = λ q c. rw (column_of-placed (record { author = author; column = column }) columns q) (gathered-means set columns id author column w n is q c);
+  vector = IsVectorFrom-with_column 0 (record { author = author; column = column }) columns w.vector (omega arith) (omega arith) normal n.author_in;
+  means = λ q c. rw (column_of-with_column (record { author = author; column = column }) columns q) (gathered-means set columns id author column w n is q c);
 }
 
 pub GatheredTo-skip : (set : Versions) (columns : List AuthorColumn) (id author : ℕ) (column : Extent) → GatheredTo set columns id → IsNextAuthor set id author → IsColumnOf (of_author set author) column → column.upto ≤ 0 → GatheredTo set columns (author + 1)

@@ -14,12 +14,13 @@ use Rattle.mr_concise.specs.declared.walk.Op.TheVariants.{Union, Without}
 use Rattle.mr_concise.specs.declared.walk.Op.{Op}
 use Rattle.mr_concise.specs.Walk.{op_of, IsCombined, CountsEdges}
 use Rattle.mr_concise.specs.declared.vector.AuthorColumn.{AuthorColumn}
-use Rattle.mr_concise.specs.Vector.{column_of, vector_has, IsVectorFrom, placed, HasTooManyHoles, HasFewEdges, AreUnited, AreColumns, all_placed, single}
+use Rattle.mr_concise.specs.Vector.{column_of, vector_has, IsVectorFrom, with_column, HasTooManyHoles, HasFewEdges, AreUnited, AreColumns, with_columns, single}
 use Rattle.mr_concise.proofs.EdgeLemmas.{is_on-at_first, is_on-before, is_on-turn, is_on-stay, edges_unique, IsRising-end, AreUpTo-rising}
 use Rattle.mr_concise.proofs.ColumnLemmas.{column_has-edges, column_has-zero}
 use Rattle.mr_concise.proofs.CursorLemmas.{length-edges, far-edges}
 use Rattle.mr_concise.proofs.WalkLemmas.{AreUpTo-end}
-use Rattle.mr_concise.proofs.VectorLemmas.{column_of-placed, IsVectorFrom-placed}
+use Rattle.mr_concise.proofs.VectorLemmas.{column_of-with_column, IsVectorFrom-with_column}
+use Rattle.mr_concise.specs.declared.column.TheConstants.{COUNTERS_END}
 
 -- two counts of the same edges agree
 pub CountsEdges-unique : (op : Op) (a b : List ℕ) (m n : ℕ) → CountsEdges op a b m → CountsEdges op a b n → m ≡ n
@@ -69,12 +70,12 @@ extent [] = empty_column
 extent (t ∷ []) = record { upto = t - 1; holes = [] }
 extent (s ∷ (t ∷ ts)) = record { upto = (extent ts).upto; holes = (record { first = s; last = t - 1 }) ∷ (extent ts).holes }
 
-edges-extent : (low : ℕ) (ts : List ℕ) → IsRising low ts → AreUpTo 1000001 ts → is_on true ts 1000001 ≡ false → edges (extent ts) ≡ ts
+edges-extent : (low : ℕ) (ts : List ℕ) → IsRising low ts → AreUpTo COUNTERS_END ts → is_on true ts COUNTERS_END ≡ false → edges (extent ts) ≡ ts
 edges-extent low [] r u f = absurd (true≢false f)
 edges-extent low (t ∷ []) r u f = let back : t - 1 + 1 ≡ t = let h = r.0 in omega arith in rw back refl
 edges-extent low (s ∷ (t ∷ ts)) r u f =
     let back : t - 1 + 1 ≡ t = let h = r.1.0 in omega arith in
-    let rest : is_on true ts 1000001 ≡ false = sym (is_on-turn false t ts 1000001 u.1.0) ∙ sym (is_on-turn true s (t ∷ ts) 1000001 u.0) ∙ f in
+    let rest : is_on true ts COUNTERS_END ≡ false = sym (is_on-turn false t ts COUNTERS_END u.1.0) ∙ sym (is_on-turn true s (t ∷ ts) COUNTERS_END u.0) ∙ f in
     let ih = edges-extent t ts r.1.1 u.1.1 rest in
     rw (back, ih) refl
 
@@ -99,9 +100,9 @@ pub too_many-from_count : (s t : List AuthorColumn) (q n : ℕ) → q < 64 → I
 too_many-from_count s t q n q_in v w h l =
     let a = column_of-IsColumn 0 s q v in
     let b = column_of-IsColumn 0 t q w in
-    let fa : is_on true (edges (column_of s q)) 1000001 ≡ false = far-edges (column_of s q).holes ((column_of s q).upto + 1) (AreUpTo-rising 0 (hole_edges (column_of s q).holes) ((column_of s q).upto + 1) 1000001 (let r = a.in_range in omega arith) a.apart) in
-    let fb : is_on true (edges (column_of t q)) 1000001 ≡ false = far-edges (column_of t q).holes ((column_of t q).upto + 1) (AreUpTo-rising 0 (hole_edges (column_of t q).holes) ((column_of t q).upto + 1) 1000001 (let r = b.in_range in omega arith) b.apart) in
-    let far : is_on true h.out 1000001 ≡ false = h.combined.means 1000001 ∙ ap (λ x. x || is_on true (edges (column_of t q)) 1000001) fa ∙ fb in
+    let fa : is_on true (edges (column_of s q)) COUNTERS_END ≡ false = far-edges (column_of s q).holes ((column_of s q).upto + 1) (AreUpTo-rising 0 (hole_edges (column_of s q).holes) ((column_of s q).upto + 1) COUNTERS_END (let r = a.in_range in omega arith) a.apart) in
+    let fb : is_on true (edges (column_of t q)) COUNTERS_END ≡ false = far-edges (column_of t q).holes ((column_of t q).upto + 1) (AreUpTo-rising 0 (hole_edges (column_of t q).holes) ((column_of t q).upto + 1) COUNTERS_END (let r = b.in_range in omega arith) b.apart) in
+    let far : is_on true h.out COUNTERS_END ≡ false = h.combined.means COUNTERS_END ∙ ap (λ x. x || is_on true (edges (column_of t q)) COUNTERS_END) fa ∙ fb in
     let is : edges (extent h.out) ≡ h.out = edges-extent 0 h.out h.combined.apart h.in_range far in
     let comb : IsCombined Union (edges (column_of s q)) (edges (column_of t q)) (edges (extent h.out)) = rw is h.combined in
     let long : length (edges (extent h.out)) ≡ n = ap length is ∙ sym h.length_is in
@@ -111,7 +112,7 @@ too_many-from_count s t q n q_in v w h l =
       author_in = q_in;
       column = extent h.out;
       apart = comb.apart;
-      in_range = let r = AreUpTo-end 1000001 (hole_edges (extent h.out).holes) ((extent h.out).upto + 1) (rw is h.in_range) in omega arith;
+      in_range = let r = AreUpTo-end COUNTERS_END (hole_edges (extent h.out).holes) ((extent h.out).upto + 1) (rw is h.in_range) in omega arith;
       means = combined-means Union (column_of s q) (column_of t q) (extent h.out) refl refl a b comb;
       many = omega arith;
     }
@@ -122,7 +123,7 @@ few-from_counts s t v w few many =
     let a = column_of-IsColumn 0 s many.author v in
     let b = column_of-IsColumn 0 t many.author w in
     let comb = means-combined Union (column_of s many.author) (column_of t many.author) many.column refl refl a b many.apart many.means in
-    let n : length (hole_edges many.column.holes ++ (many.column.upto + 1) ∷ []) ≤ 8193 = few many.author (length (edges many.column)) (record { out = edges many.column; combined = comb; in_range = AreUpTo-rising 0 (hole_edges many.column.holes) (many.column.upto + 1) 1000001 (let r = many.in_range in omega arith) many.apart; length_is = refl }) in
+    let n : length (hole_edges many.column.holes ++ (many.column.upto + 1) ∷ []) ≤ 8193 = few many.author (length (edges many.column)) (record { out = edges many.column; combined = comb; in_range = AreUpTo-rising 0 (hole_edges many.column.holes) (many.column.upto + 1) COUNTERS_END (let r = many.in_range in omega arith) many.apart; length_is = refl }) in
     let count = length-edges many.column.holes (many.column.upto + 1) in
     let l = many.many in
     absurd (omega arith)
@@ -166,9 +167,9 @@ few-more a b k x n w l at few counts in_limit q m h =
 pub united-begin : (a : List AuthorColumn) → IsVectorFrom 0 a → AreUnited a [] a
 united-begin a v q = combined-empty (column_of a q) (column_of-IsColumn 0 a q v)
 
-pub united-more : (a b grown : List AuthorColumn) (k : ℕ) (x : AuthorColumn) (column : Extent) → IsVectorFrom 0 b → k < length b → x ≡ get_or b k x → AreUnited a (take k b) grown → IsCombined Union (edges (column_of a x.author)) (edges x.column) (edges column) → AreUnited a (take (k + 1) b) (placed (record { author = x.author; column = column }) grown)
+pub united-more : (a b grown : List AuthorColumn) (k : ℕ) (x : AuthorColumn) (column : Extent) → IsVectorFrom 0 b → k < length b → x ≡ get_or b k x → AreUnited a (take k b) grown → IsCombined Union (edges (column_of a x.author)) (edges x.column) (edges column) → AreUnited a (take (k + 1) b) (with_column (record { author = x.author; column = column }) grown)
 united-more a b grown k x column w l at united combined q =
-    rw (add-one k, column_of-take_more 0 b k x q w l, ← at, column_of-placed (record { author = x.author; column = column }) grown q) (go (cases_eq x.author q))
+    rw (add-one k, column_of-take_more 0 b k x q w l, ← at, column_of-with_column (record { author = x.author; column = column }) grown q) (go (cases_eq x.author q))
   where
     go : (x.author ≡ q) ⊎ (x.author ≡ q → ⊥) → IsCombined Union (edges (column_of a q)) (edges (cond (x.author == q) x.column (column_of (take k b) q))) (edges (cond (x.author == q) column (column_of grown q)))
     go (inl e) = rw (eq-eqb x.author q e, ← e) combined
@@ -216,10 +217,10 @@ item-IsColumn low (y ∷ ys) zero x v l at = rw at (v.2, v.1, v.4)
 item-IsColumn low (y ∷ ys) (suc k) x v l at = item-IsColumn (y.author + 1) ys k x v.3 (omega arith) at
 
 -- one column more of b is put to a
-pub unite-step : (a b grown : List AuthorColumn) (k : ℕ) (x : AuthorColumn) (column : Extent) → IsVectorFrom 0 a → IsVectorFrom 0 b → k < length b → x ≡ get_or b k x → IsVectorFrom 0 grown → IsCombined Union (edges (column_of a x.author)) (edges x.column) (edges column) → IsColumn column → IsVectorFrom 0 (placed (record { author = x.author; column = column }) grown)
+pub unite-step : (a b grown : List AuthorColumn) (k : ℕ) (x : AuthorColumn) (column : Extent) → IsVectorFrom 0 a → IsVectorFrom 0 b → k < length b → x ≡ get_or b k x → IsVectorFrom 0 grown → IsCombined Union (edges (column_of a x.author)) (edges x.column) (edges column) → IsColumn column → IsVectorFrom 0 (with_column (record { author = x.author; column = column }) grown)
 unite-step a b grown k x column va vb l at vg combined is =
     let item = item-IsColumn 0 b k x vb l at in
-    IsVectorFrom-placed 0 (record { author = x.author; column = column }) grown vg (omega arith) (united-some (column_of a x.author) x.column column (column_of-IsColumn 0 a x.author va) item.0 item.1 is combined) is item.2
+    IsVectorFrom-with_column 0 (record { author = x.author; column = column }) grown vg (omega arith) (united-some (column_of a x.author) x.column column (column_of-IsColumn 0 a x.author va) item.0 item.1 is combined) is item.2
 
 -- one column alone is the author's
 pub column_of-single : (q : ℕ) (column : Extent) → column_of (single q column) q ≡ column
@@ -228,7 +229,7 @@ column_of-single q column = rw (eq-eqb q q refl) refl
 pub few-single : (a : List AuthorColumn) (q n : ℕ) (column : Extent) → IsVectorFrom 0 a → IsVectorFrom 0 (single q column) → CountsEdges Union (edges (column_of a q)) (edges column) n → n ≤ 8193 → HasFewEdges a (single q column)
 few-single a q n column v w counts in_limit = few-more a (single q column) 0 (record { author = q; column = column }) n w (omega arith) refl (few-begin a v) counts in_limit
 
-pub united-single : (a : List AuthorColumn) (q : ℕ) (column new : Extent) → IsVectorFrom 0 a → IsVectorFrom 0 (single q column) → IsCombined Union (edges (column_of a q)) (edges column) (edges new) → IsColumn new → AreUnited a (single q column) (placed (record { author = q; column = new }) a) × IsVectorFrom 0 (placed (record { author = q; column = new }) a)
+pub united-single : (a : List AuthorColumn) (q : ℕ) (column new : Extent) → IsVectorFrom 0 a → IsVectorFrom 0 (single q column) → IsCombined Union (edges (column_of a q)) (edges column) (edges new) → IsColumn new → AreUnited a (single q column) (with_column (record { author = q; column = new }) a) × IsVectorFrom 0 (with_column (record { author = q; column = new }) a)
 united-single a q column new v w combined is =
     let x : AuthorColumn = record { author = q; column = column } in
     (united-more a (single q column) a 0 (record { author = q; column = column }) new w (omega arith) refl (united-begin a v) combined, unite-step a (single q column) a 0 (record { author = q; column = column }) new v w (omega arith) refl v combined is)
@@ -339,16 +340,16 @@ run-IsVectorFrom run count more one author = elim (cases_lt 1 run.first) [
     some : 1 ≤ run.last
     some = let f = run.from_one in let o = run.ordered in omega arith
 
-pub all_placed-push : (xs : List AuthorColumn) (x : AuthorColumn) (old : List AuthorColumn) → all_placed (xs ++ x ∷ []) old ≡ placed x (all_placed xs old)
-all_placed-push [] x old = refl
-all_placed-push (y ∷ xs) x old = all_placed-push xs x (placed y old)
+pub with_columns-push : (xs : List AuthorColumn) (x : AuthorColumn) (old : List AuthorColumn) → with_columns (xs ++ x ∷ []) old ≡ with_column x (with_columns xs old)
+with_columns-push [] x old = refl
+with_columns-push (y ∷ xs) x old = with_columns-push xs x (with_column y old)
 
 -- one of the columns is put
-pub all_placed-step : (xs rest : List AuthorColumn) (x : AuthorColumn) (old : List AuthorColumn) → AreColumns (xs ++ x ∷ rest) → IsVectorFrom 0 (all_placed xs old) → IsVectorFrom 0 (all_placed (xs ++ x ∷ []) old)
-all_placed-step xs rest x old all v =
+pub with_columns-step : (xs rest : List AuthorColumn) (x : AuthorColumn) (old : List AuthorColumn) → AreColumns (xs ++ x ∷ rest) → IsVectorFrom 0 (with_columns xs old) → IsVectorFrom 0 (with_columns (xs ++ x ∷ []) old)
+with_columns-step xs rest x old all v =
     let l : length xs < length (xs ++ x ∷ rest) = let e = length-append xs (x ∷ rest) in omega arith in
     let is = rw (get_or-append_seam xs x rest x) at (all (length xs) x l) in
-    rw (all_placed-push xs x old) (IsVectorFrom-placed 0 x (all_placed xs old) v (omega arith) is.0 is.1 is.2)
+    rw (with_columns-push xs x old) (IsVectorFrom-with_column 0 x (with_columns xs old) v (omega arith) is.0 is.1 is.2)
 
 -- a column that its author's column covers changes nothing
 pub united-skip : (a b grown : List AuthorColumn) (k : ℕ) (x : AuthorColumn) → IsVectorFrom 0 a → IsVectorFrom 0 b → k < length b → x ≡ get_or b k x → AreUnited a (take k b) grown → CountsEdges Without (edges x.column) (edges (column_of a x.author)) 0 → AreUnited a (take (k + 1) b) grown
@@ -387,15 +388,15 @@ united-skip a b grown k x va vb l at united counts q =
 
 -- what one step of putting columns in their places keeps
 pub record PutSoFar (changed old yielded left new : List AuthorColumn) (len capacity : ℕ) : Type 0 where
-  pub is : new ≡ all_placed yielded old
+  pub is : new ≡ with_columns yielded old
   pub vector : IsVectorFrom 0 new
   pub whole : changed ≡ yielded ++ left
   pub room : len + length left ≤ capacity
 
-pub PutSoFar-more : (changed old yielded left left' columns new : List AuthorColumn) (x : AuthorColumn) (len capacity len' capacity' : ℕ) → AreColumns changed → PutSoFar changed old yielded left columns len capacity → left ≡ x ∷ left' → new ≡ placed x columns → len' ≤ len + 1 → capacity ≤ capacity' → PutSoFar changed old (yielded ++ x ∷ []) left' new len' capacity'
+pub PutSoFar-more : (changed old yielded left left' columns new : List AuthorColumn) (x : AuthorColumn) (len capacity len' capacity' : ℕ) → AreColumns changed → PutSoFar changed old yielded left columns len capacity → left ≡ x ∷ left' → new ≡ with_column x columns → len' ≤ len + 1 → capacity ≤ capacity' → PutSoFar changed old (yielded ++ x ∷ []) left' new len' capacity'
 PutSoFar-more changed old yielded left left' columns new x len capacity len' capacity' all w next put l m = record {
-  is = put ∙ ap (λ ys. placed x ys) w.is ∙ sym (all_placed-push yielded x old);
-  vector = rw (put ∙ ap (λ ys. placed x ys) w.is ∙ sym (all_placed-push yielded x old)) (all_placed-step yielded left' x old (rw (w.whole, next) at all) (rw w.is at w.vector));
+  is = put ∙ ap (λ ys. with_column x ys) w.is ∙ sym (with_columns-push yielded x old);
+  vector = rw (put ∙ ap (λ ys. with_column x ys) w.is ∙ sym (with_columns-push yielded x old)) (with_columns-step yielded left' x old (rw (w.whole, next) at all) (rw w.is at w.vector));
   whole = w.whole ∙ ap (λ ys. yielded ++ ys) next ∙ sym (append_assoc yielded (x ∷ []) left');
   room = let r = w.room in let k : length left ≡ length left' + 1 = ap length next ∙ sym (add-one (length left')) in omega arith;
 }
@@ -410,8 +411,8 @@ AreColumns-push xs x all some is author k d l = elim (cases_lt k (length xs)) [
 -- How far the columns of b are put to those of a.
 pub record ChangedTo (a b : List AuthorColumn) (k : ℕ) (changed : List AuthorColumn) : Type 0 where
   pub columns : AreColumns changed
-  pub vector : IsVectorFrom 0 (all_placed changed a)
-  pub united : AreUnited a (take k b) (all_placed changed a)
+  pub vector : IsVectorFrom 0 (with_columns changed a)
+  pub united : AreUnited a (take k b) (with_columns changed a)
 
 pub ChangedTo-begin : (a b changed : List AuthorColumn) → IsVectorFrom 0 a → changed ≡ [] → ChangedTo a b 0 changed
 ChangedTo-begin a b changed v e = rw e (record { columns = λ k d l. absurd (omega arith); vector = v; united = united-begin a v })
@@ -421,13 +422,13 @@ ChangedTo-push a b changed k x column va vb l at w combined is =
     let item = item-IsColumn 0 b k x vb l at in
     record {
       columns = AreColumns-push changed (record { author = x.author; column = column }) w.columns (united-some (column_of a x.author) x.column column (column_of-IsColumn 0 a x.author va) item.0 item.1 is combined) is item.2;
-      vector = rw (all_placed-push changed (record { author = x.author; column = column }) a) (unite-step a b (all_placed changed a) k x column va vb l at w.vector combined is);
-      united = rw (all_placed-push changed (record { author = x.author; column = column }) a) (united-more a b (all_placed changed a) k x column vb l at w.united combined);
+      vector = rw (with_columns-push changed (record { author = x.author; column = column }) a) (unite-step a b (with_columns changed a) k x column va vb l at w.vector combined is);
+      united = rw (with_columns-push changed (record { author = x.author; column = column }) a) (united-more a b (with_columns changed a) k x column vb l at w.united combined);
     }
 
 pub ChangedTo-skip : (a b changed : List AuthorColumn) (k n : ℕ) (x : AuthorColumn) → IsVectorFrom 0 a → IsVectorFrom 0 b → k < length b → x ≡ get_or b k x → ChangedTo a b k changed → CountsEdges Without (edges x.column) (edges (column_of a x.author)) n → n ≤ 0 → ChangedTo a b (k + 1) changed
 ChangedTo-skip a b changed k n x va vb l at w counts none = record {
   columns = w.columns;
   vector = w.vector;
-  united = let zero_is : n ≡ 0 = omega arith in united-skip a b (all_placed changed a) k x va vb l at w.united (rw zero_is at counts);
+  united = let zero_is : n ≡ 0 = omega arith in united-skip a b (with_columns changed a) k x va vb l at w.united (rw zero_is at counts);
 }

@@ -5,12 +5,13 @@ use Rattle.mr_forms.specs.declared.fault.FormFault.TheVariants.{TooManyHoles}
 use Rattle.std.proofs.lemmas.Bool.{cases_eq, cases_lt, lt-ltb, le-ltb, eq-eqb, ne_eqb, lt-leb, le-leb}
 use Rattle.mr_version.specs.Name.{Name, name_eq}
 use Rattle.mr_forms.specs.Sets.{with_version}
+use Rattle.mr_forms.specs.declared.run.TheConstants.{MAX_COUNTER}
 use Rattle.mr_concise.proofs.NameLemmas.{name_eq_parts}
 use Rattle.mr_concise.specs.Column.{Extent, column_has, with_counter, empty_column, gap}
 use Rattle.mr_concise.specs.declared.vector.AuthorColumn.{AuthorColumn}
-use Rattle.mr_concise.specs.Vector.{column_of, vector_has, IsVectorFrom, placed, HasTooManyHoles, with_one}
+use Rattle.mr_concise.specs.Vector.{column_of, vector_has, IsVectorFrom, with_column, HasTooManyHoles, with_one}
 use Rattle.mr_concise.proofs.ColumnLemmas.{column_unique}
-use Rattle.mr_concise.proofs.VectorLemmas.{column_of-placed, column_of-at, set-placed, IsVectorFrom-placed}
+use Rattle.mr_concise.proofs.VectorLemmas.{column_of-with_column, column_of-at, set-with_column, IsVectorFrom-with_column}
 use Rattle.mr_concise.proofs.UnionLemmas.{column_of-IsColumn}
 use Rattle.mr_concise.proofs.InsertLemmas.{with_counter-means, IsColumn-with_counter}
 
@@ -21,9 +22,9 @@ eq-sym a b = elim (cases_eq a b) [
 ]
 
 -- the set with one version more
-pub inserted-means : (old : List AuthorColumn) (version v : Name) → IsVectorFrom 0 old → 1 ≤ version.counter → vector_has (placed (with_one old version.author version.counter) old) v ≡ with_version (vector_has old) version v
+pub inserted-means : (old : List AuthorColumn) (version v : Name) → IsVectorFrom 0 old → 1 ≤ version.counter → vector_has (with_column (with_one old version.author version.counter) old) v ≡ with_version (vector_has old) version v
 inserted-means old version v w from =
-    ap (λ (c : Extent). column_has c v.counter) (column_of-placed (with_one old version.author version.counter) old v.author)
+    ap (λ (c : Extent). column_has c v.counter) (column_of-with_column (with_one old version.author version.counter) old v.author)
     ∙ go (cases_eq version.author v.author)
     ∙ ap (λ b. b || vector_has old v) (sym (name_eq_parts version v))
   where
@@ -39,14 +40,14 @@ same-author version c = eq-sym c version.counter ∙ sym (name_eq_parts version 
 other-author : (version : Name) (q c : ℕ) → (version.author ≡ q → ⊥) → name_eq version (record { author = q; counter = c }) ≡ false
 other-author version q c n = name_eq_parts version (record { author = q; counter = c }) ∙ rw (ne_eqb version.author q n) refl
 
-with_counter-range : (column : Extent) (k : ℕ) → column.upto ≤ 1000000 → k ≤ 1000000 → (with_counter column k).upto ≤ 1000000
+with_counter-range : (column : Extent) (k : ℕ) → column.upto ≤ MAX_COUNTER → k ≤ MAX_COUNTER → (with_counter column k).upto ≤ MAX_COUNTER
 with_counter-range column k h to = elim (cases_lt column.upto k) [
   | inl l ↦ rw (lt-ltb column.upto k l) to
   | inr g ↦ rw (le-ltb column.upto k g) h
 ]
 
 -- too many holes exactly where the author's column has too many
-pub too_many-from_one : (old : List AuthorColumn) (version : Name) → version.author < 64 → IsVectorFrom 0 old → 1 ≤ version.counter → version.counter ≤ 1000000 → 4096 < length (with_one old version.author version.counter).column.holes → HasTooManyHoles (with_version (vector_has old) version)
+pub too_many-from_one : (old : List AuthorColumn) (version : Name) → version.author < 64 → IsVectorFrom 0 old → 1 ≤ version.counter → version.counter ≤ MAX_COUNTER → 4096 < length (with_one old version.author version.counter).column.holes → HasTooManyHoles (with_version (vector_has old) version)
 too_many-from_one old version author_in w from to many =
     let column = column_of-IsColumn 0 old version.author w in
     let both = with_counter-means (column_of old version.author) version.counter column.apart from in
@@ -78,11 +79,11 @@ one-from_too_many old version w from many = go (cases_eq version.author many.aut
         absurd (omega arith)
 
 -- a column put in place of the author's
-pub with_one-set : (xs : List AuthorColumn) (i a k : ℕ) (x : AuthorColumn) (new : Extent) → ((j : ℕ) (d : AuthorColumn) → 0 ≤ j → j < i → nat_lt (get_or xs j d).author a ≡ true) → i < length xs → x ≡ get_or xs i x → x.author ≡ a → new ≡ with_counter x.column k → set xs i (record { author = x.author; column = new }) ≡ placed (with_one xs a k) xs
+pub with_one-set : (xs : List AuthorColumn) (i a k : ℕ) (x : AuthorColumn) (new : Extent) → ((j : ℕ) (d : AuthorColumn) → 0 ≤ j → j < i → nat_lt (get_or xs j d).author a ≡ true) → i < length xs → x ≡ get_or xs i x → x.author ≡ a → new ≡ with_counter x.column k → set xs i (record { author = x.author; column = new }) ≡ with_column (with_one xs a k) xs
 with_one-set xs i a k x new before l at e is =
     let column = column_of-at xs i a x before l at e in
     let one : record { author = x.author; column = new } ≡ with_one xs a k = ap (λ (c : Extent). record { author = x.author; column = c }) (is ∙ ap (λ (c : Extent). with_counter c k) column) ∙ ap (λ (b : ℕ). record { author = b; column = with_counter (column_of xs a) k }) e in
-    rw one (set-placed (with_one xs a k) xs i x before l at e)
+    rw one (set-with_column (with_one xs a k) xs i x before l at e)
 
 pub few-empty : (column : Extent) (k : ℕ) → column ≡ empty_column → 1 ≤ k → 4096 < length (with_counter column k).holes → ⊥
 few-empty column k e from many =
@@ -99,11 +100,11 @@ some-upto column k from = elim (cases_lt column.upto k) [
 ]
 
 -- the columns after an insert are a vector, whatever its result
-pub inserted-vector : (r : Result (Unit {0}) FormFault) (old new : List AuthorColumn) (author counter : ℕ) → IsVectorFrom 0 old → author < 64 → 1 ≤ counter → counter ≤ 1000000 → OnOk r (new ≡ placed (with_one old author counter) old) → OnErr r (new ≡ old) → (4096 < length (with_one old author counter).column.holes → IsErrOf r TooManyHoles) → IsVectorFrom 0 new
+pub inserted-vector : (r : Result (Unit {0}) FormFault) (old new : List AuthorColumn) (author counter : ℕ) → IsVectorFrom 0 old → author < 64 → 1 ≤ counter → counter ≤ MAX_COUNTER → OnOk r (new ≡ with_column (with_one old author counter) old) → OnErr r (new ≡ old) → (4096 < length (with_one old author counter).column.holes → IsErrOf r TooManyHoles) → IsVectorFrom 0 new
 inserted-vector (Ok u) old new author counter v low from to ok err many =
     let few : length (with_one old author counter).column.holes ≤ 4096 = elim (cases_lt 4096 (length (with_one old author counter).column.holes)) [
       | inl l ↦ let no = many l in absurd (cc)
       | inr g ↦ g
     ] in
-    rw ok (IsVectorFrom-placed 0 (with_one old author counter) old v (omega arith) (some-upto (column_of old author) counter from) (IsColumn-with_counter (column_of old author) counter (column_of-IsColumn 0 old author v) from to few) low)
+    rw ok (IsVectorFrom-with_column 0 (with_one old author counter) old v (omega arith) (some-upto (column_of old author) counter from) (IsColumn-with_counter (column_of old author) counter (column_of-IsColumn 0 old author v) from to few) low)
 inserted-vector (Err e) old new author counter v low from to ok err many = rw err v

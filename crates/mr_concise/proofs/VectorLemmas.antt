@@ -4,7 +4,7 @@ use Rattle.std.proofs.lemmas.Bool.{cases_eq, cases_order, lt-ltb, le-ltb, eq-eqb
 use Rattle.std.proofs.lemmas.List.{get_or_default}
 use Rattle.mr_concise.specs.Column.{Extent, empty_column, IsColumn}
 use Rattle.mr_concise.specs.declared.vector.AuthorColumn.{AuthorColumn}
-use Rattle.mr_concise.specs.Vector.{column_of, IsVectorFrom, placed}
+use Rattle.mr_concise.specs.Vector.{column_of, IsVectorFrom, with_column}
 
 author-above : (low : ℕ) (xs : List AuthorColumn) (j : ℕ) (d : AuthorColumn) → IsVectorFrom low xs → j < length xs → low ≤ (get_or xs j d).author
 author-above low [] j d v l = absurd (omega arith)
@@ -55,19 +55,19 @@ vector_unique low high (x ∷ xs) (y ∷ ys) v w h = heads (cases_order x.author
         absurd (let o = w.1 in omega arith)
 
 -- a column put in its place
-pub IsVectorFrom-placed : (low : ℕ) (new : AuthorColumn) (xs : List AuthorColumn) → IsVectorFrom low xs → low ≤ new.author → 1 ≤ new.column.upto → IsColumn new.column → new.author < 64 → IsVectorFrom low (placed new xs)
-IsVectorFrom-placed low new [] v l u c i = (l, u, c, tt, i)
-IsVectorFrom-placed low new (x ∷ xs) v l u c i = elim (cases_order x.author new.author) [
+pub IsVectorFrom-with_column : (low : ℕ) (new : AuthorColumn) (xs : List AuthorColumn) → IsVectorFrom low xs → low ≤ new.author → 1 ≤ new.column.upto → IsColumn new.column → new.author < 64 → IsVectorFrom low (with_column new xs)
+IsVectorFrom-with_column low new [] v l u c i = (l, u, c, tt, i)
+IsVectorFrom-with_column low new (x ∷ xs) v l u c i = elim (cases_order x.author new.author) [
   | inl e ↦ let ge : new.author ≤ x.author = omega arith in rw (le-ltb x.author new.author ge, eq-eqb x.author new.author e) (l, u, c, rw (← e) v.3, i)
-  | inr (inl lt) ↦ rw (lt-ltb x.author new.author lt) (v.0, v.1, v.2, IsVectorFrom-placed (x.author + 1) new xs v.3 (omega arith) u c i, v.4)
+  | inr (inl lt) ↦ rw (lt-ltb x.author new.author lt) (v.0, v.1, v.2, IsVectorFrom-with_column (x.author + 1) new xs v.3 (omega arith) u c i, v.4)
   | inr (inr gt) ↦ let ge : new.author ≤ x.author = omega arith in let ne : x.author ≡ new.author → ⊥ = λ k. omega arith in rw (le-ltb x.author new.author ge, ne_eqb x.author new.author ne) (l, u, c, (omega arith, v.1, v.2, v.3, v.4), i)
 ]
 
-pub column_of-placed : (new : AuthorColumn) (xs : List AuthorColumn) (q : ℕ) → column_of (placed new xs) q ≡ cond (new.author == q) new.column (column_of xs q)
-column_of-placed new [] q = refl
-column_of-placed new (x ∷ xs) q = elim (cases_order x.author new.author) [
+pub column_of-with_column : (new : AuthorColumn) (xs : List AuthorColumn) (q : ℕ) → column_of (with_column new xs) q ≡ cond (new.author == q) new.column (column_of xs q)
+column_of-with_column new [] q = refl
+column_of-with_column new (x ∷ xs) q = elim (cases_order x.author new.author) [
   | inl e ↦ let ge : new.author ≤ x.author = omega arith in rw (le-ltb x.author new.author ge, eq-eqb x.author new.author e, e) (swallow (new.author == q) new.column x.column (column_of xs q))
-  | inr (inl lt) ↦ let ih = column_of-placed new xs q in rw (lt-ltb x.author new.author lt, ih) (apart x.author new.author q x.column new.column (column_of xs q) (λ k. omega arith))
+  | inr (inl lt) ↦ let ih = column_of-with_column new xs q in rw (lt-ltb x.author new.author lt, ih) (apart x.author new.author q x.column new.column (column_of xs q) (λ k. omega arith))
   | inr (inr gt) ↦ let ge : new.author ≤ x.author = omega arith in let ne : x.author ≡ new.author → ⊥ = λ k. omega arith in rw (le-ltb x.author new.author ge, ne_eqb x.author new.author ne) refl
 ]
   where
@@ -82,16 +82,16 @@ column_of-placed new (x ∷ xs) q = elim (cases_order x.author new.author) [
     ]
 
 -- the place is where a column is put in
-pub placed-insert : (new : AuthorColumn) (xs : List AuthorColumn) (i : ℕ) → ((k : ℕ) (d : AuthorColumn) → k < i → (get_or xs k d).author < new.author) → ((d : AuthorColumn) → i < length xs → new.author < (get_or xs i d).author) → i ≤ length xs → placed new xs ≡ take i xs ++ new ∷ drop i xs
-placed-insert new [] zero before from l = refl
-placed-insert new [] (suc i) before from l = absurd (omega arith)
-placed-insert new (x ∷ xs) zero before from l = let gt : new.author < x.author = from x (omega arith) in let ge : new.author ≤ x.author = omega arith in let ne : x.author ≡ new.author → ⊥ = λ k. omega arith in rw (le-ltb x.author new.author ge, ne_eqb x.author new.author ne) refl
-placed-insert new (x ∷ xs) (suc i) before from l = rw (lt-ltb x.author new.author (before 0 x (omega arith))) (ap (λ ys. x ∷ ys) (placed-insert new xs i (λ k d h. before (suc k) d (omega arith)) (λ d h. from d (omega arith)) (omega arith)))
+pub with_column-insert : (new : AuthorColumn) (xs : List AuthorColumn) (i : ℕ) → ((k : ℕ) (d : AuthorColumn) → k < i → (get_or xs k d).author < new.author) → ((d : AuthorColumn) → i < length xs → new.author < (get_or xs i d).author) → i ≤ length xs → with_column new xs ≡ take i xs ++ new ∷ drop i xs
+with_column-insert new [] zero before from l = refl
+with_column-insert new [] (suc i) before from l = absurd (omega arith)
+with_column-insert new (x ∷ xs) zero before from l = let gt : new.author < x.author = from x (omega arith) in let ge : new.author ≤ x.author = omega arith in let ne : x.author ≡ new.author → ⊥ = λ k. omega arith in rw (le-ltb x.author new.author ge, ne_eqb x.author new.author ne) refl
+with_column-insert new (x ∷ xs) (suc i) before from l = rw (lt-ltb x.author new.author (before 0 x (omega arith))) (ap (λ ys. x ∷ ys) (with_column-insert new xs i (λ k d h. before (suc k) d (omega arith)) (λ d h. from d (omega arith)) (omega arith)))
 
-pub placed-set : (new : AuthorColumn) (xs : List AuthorColumn) (i : ℕ) → ((k : ℕ) (d : AuthorColumn) → k < i → (get_or xs k d).author < new.author) → ((d : AuthorColumn) → new.author ≡ (get_or xs i d).author) → i < length xs → placed new xs ≡ set xs i new
-placed-set new [] i before at l = absurd (omega arith)
-placed-set new (x ∷ xs) zero before at l = let e : new.author ≡ x.author = at x in let ge : new.author ≤ x.author = omega arith in rw (le-ltb x.author new.author ge, eq-eqb x.author new.author (sym e)) refl
-placed-set new (x ∷ xs) (suc i) before at l = rw (lt-ltb x.author new.author (before 0 x (omega arith))) (ap (λ ys. x ∷ ys) (placed-set new xs i (λ k d h. before (suc k) d (omega arith)) (λ d. at d) (omega arith)))
+pub with_column-set : (new : AuthorColumn) (xs : List AuthorColumn) (i : ℕ) → ((k : ℕ) (d : AuthorColumn) → k < i → (get_or xs k d).author < new.author) → ((d : AuthorColumn) → new.author ≡ (get_or xs i d).author) → i < length xs → with_column new xs ≡ set xs i new
+with_column-set new [] i before at l = absurd (omega arith)
+with_column-set new (x ∷ xs) zero before at l = let e : new.author ≡ x.author = at x in let ge : new.author ≤ x.author = omega arith in rw (le-ltb x.author new.author ge, eq-eqb x.author new.author (sym e)) refl
+with_column-set new (x ∷ xs) (suc i) before at l = rw (lt-ltb x.author new.author (before 0 x (omega arith))) (ap (λ ys. x ∷ ys) (with_column-set new xs i (λ k d h. before (suc k) d (omega arith)) (λ d. at d) (omega arith)))
 
 -- the place is where the column is, or would be
 pub column_of-at : (xs : List AuthorColumn) (i a : ℕ) (x : AuthorColumn) → ((k : ℕ) (d : AuthorColumn) → 0 ≤ k → k < i → nat_lt (get_or xs k d).author a ≡ true) → i < length xs → x ≡ get_or xs i x → x.author ≡ a → x.column ≡ column_of xs a
@@ -122,11 +122,11 @@ column_of-missed low (y ∷ ys) (suc i) a x v before l at g n =
     let ne : y.author ≡ a → ⊥ = λ h. omega arith in
     rw (ne_eqb y.author a ne) (column_of-missed (y.author + 1) ys i a x v.3 (λ k d z h. before (suc k) d (omega arith) (omega arith)) (omega arith) at g n)
 
-pub set-placed : (new : AuthorColumn) (xs : List AuthorColumn) (i : ℕ) (x : AuthorColumn) → ((k : ℕ) (d : AuthorColumn) → 0 ≤ k → k < i → nat_lt (get_or xs k d).author new.author ≡ true) → i < length xs → x ≡ get_or xs i x → x.author ≡ new.author → set xs i new ≡ placed new xs
-set-placed new xs i x before l at e = sym (placed-set new xs i (λ k d h. ltb-true (get_or xs k d).author new.author (before k d (omega arith) h)) (λ d. sym (ap (λ (z : AuthorColumn). z.author) (get_or_default xs i d x l ∙ sym at) ∙ e)) l)
+pub set-with_column : (new : AuthorColumn) (xs : List AuthorColumn) (i : ℕ) (x : AuthorColumn) → ((k : ℕ) (d : AuthorColumn) → 0 ≤ k → k < i → nat_lt (get_or xs k d).author new.author ≡ true) → i < length xs → x ≡ get_or xs i x → x.author ≡ new.author → set xs i new ≡ with_column new xs
+set-with_column new xs i x before l at e = sym (with_column-set new xs i (λ k d h. ltb-true (get_or xs k d).author new.author (before k d (omega arith) h)) (λ d. sym (ap (λ (z : AuthorColumn). z.author) (get_or_default xs i d x l ∙ sym at) ∙ e)) l)
 
-pub insert-placed : (new : AuthorColumn) (xs : List AuthorColumn) (i : ℕ) → ((k : ℕ) (d : AuthorColumn) → 0 ≤ k → k < i → nat_lt (get_or xs k d).author new.author ≡ true) → ((d : AuthorColumn) → i < length xs → new.author < (get_or xs i d).author) → i ≤ length xs → take i xs ++ new ∷ drop i xs ≡ placed new xs
-insert-placed new xs i before from l = sym (placed-insert new xs i (λ k d h. ltb-true (get_or xs k d).author new.author (before k d (omega arith) h)) from l)
+pub insert-with_column : (new : AuthorColumn) (xs : List AuthorColumn) (i : ℕ) → ((k : ℕ) (d : AuthorColumn) → 0 ≤ k → k < i → nat_lt (get_or xs k d).author new.author ≡ true) → ((d : AuthorColumn) → i < length xs → new.author < (get_or xs i d).author) → i ≤ length xs → take i xs ++ new ∷ drop i xs ≡ with_column new xs
+insert-with_column new xs i before from l = sym (with_column-insert new xs i (λ k d h. ltb-true (get_or xs k d).author new.author (before k d (omega arith) h)) from l)
 
 pub above-place : (new : AuthorColumn) (xs : List AuthorColumn) (i : ℕ) (x : AuthorColumn) → ((k : ℕ) (d : AuthorColumn) → i ≤ k → k < length xs → nat_lt (get_or xs k d).author new.author ≡ false) → i < length xs → x ≡ get_or xs i x → (x.author ≡ new.author → ⊥) → (d : AuthorColumn) → new.author < (get_or xs i d).author
 above-place new xs i x from l at n d =

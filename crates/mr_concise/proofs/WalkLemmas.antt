@@ -2,13 +2,14 @@ use Rattle.std.proofs.Common.{inl, inr, ◌≡◌, ◌<◌, ◌≤◌, ◌+◌, 
 use Rattle.std.proofs.lemmas.Bool.{cases_eq, true≢false, false≢true, eq-eqb, ne_eqb}
 use mathlib.Core.Bool.{beq}
 use Rattle.mr_concise.specs.declared.walk.Op.{Op}
-use Rattle.mr_concise.specs.declared.walk.Op.TheVariants.{Union, Meet, Without}
+use Rattle.mr_concise.specs.declared.walk.Op.TheVariants.{Union, Without}
 use Rattle.mr_concise.specs.Edges.{is_on, IsRising, AreUpTo}
 use Rattle.mr_concise.specs.declared.column.Hole.{Hole}
 use Rattle.mr_concise.specs.Column.{hole_edges, edges, IsColumn}
 use Rattle.mr_concise.specs.Walk.{op_of, nearest, passed, turned, IsCombined, CountsEdges}
 use Rattle.mr_concise.proofs.EdgeLemmas.{is_on-turn, is_on-stay, Walked, Walked-begin, Walked-turn, Walked-stay, Walked-end, IsRising-end, AreUpTo-rising}
 use Rattle.mr_concise.proofs.CursorLemmas.{length-edges}
+use Rattle.mr_concise.specs.declared.column.TheConstants.{COUNTERS_END}
 
 -- no edge is below t
 abbrev pub AreFrom : ℕ → List ℕ → Type 0
@@ -85,15 +86,15 @@ pub record WalkState (op : Op) (a0 b0 out : List ℕ) (on : Bool) (a : List ℕ)
   pub low : ℕ
   pub a_apart : IsRising low a
   pub b_apart : IsRising low b
-  pub a_range : AreUpTo 1000001 a
-  pub b_range : AreUpTo 1000001 b
-  pub a_far : is_on a_on a 1000001 ≡ false
-  pub b_far : is_on b_on b 1000001 ≡ false
+  pub a_range : AreUpTo COUNTERS_END a
+  pub b_range : AreUpTo COUNTERS_END b
+  pub a_far : is_on a_on a COUNTERS_END ≡ false
+  pub b_far : is_on b_on b COUNTERS_END ≡ false
   pub on_is : on ≡ op_of op a_on b_on
-  pub out_range : AreUpTo 1000001 out
+  pub out_range : AreUpTo COUNTERS_END out
   pub walked : Walked (op_of op true true) (λ c. op_of op (is_on true a0 c) (is_on true b0 c)) out low on (λ c. op_of op (is_on a_on a c) (is_on b_on b c))
 
-pub WalkState-begin : (op : Op) (a b : List ℕ) (on : Bool) → on ≡ op_of op true true → IsRising 0 a → IsRising 0 b → AreUpTo 1000001 a → AreUpTo 1000001 b → is_on true a 1000001 ≡ false → is_on true b 1000001 ≡ false → WalkState op a b [] on a true b true
+pub WalkState-begin : (op : Op) (a b : List ℕ) (on : Bool) → on ≡ op_of op true true → IsRising 0 a → IsRising 0 b → AreUpTo COUNTERS_END a → AreUpTo COUNTERS_END b → is_on true a COUNTERS_END ≡ false → is_on true b COUNTERS_END ≡ false → WalkState op a b [] on a true b true
 WalkState-begin op a b on e ra rb ua ub fa fb = record {
   low = 0;
   a_apart = ra;
@@ -128,18 +129,18 @@ same-not_beq false false h = refl
 -- a step at which the set turns
 pub WalkState-turn : (op : Op) (a0 b0 out : List ℕ) (on : Bool) (a : List ℕ) (a_on : Bool) (b : List ℕ) (b_on : Bool) (t : ℕ) (now : Bool) → WalkState op a0 b0 out on a a_on b b_on → nearest a b ≡ Some t → now ≡ op_of op (turned t a_on a) (turned t b_on b) → (now ≡ on → ⊥) → WalkState op a0 b0 (out ++ t ∷ []) now (passed t a) (turned t a_on a) (passed t b) (turned t b_on b)
 WalkState-turn op a0 b0 out on a a_on b b_on t now w h e differ =
-    let n : IsNearest w.low 1000001 t a b = is_nearest w.low 1000001 t a b h w.a_apart w.b_apart w.a_range w.b_range in
-    let far : t ≤ 1000001 = n.within in
+    let n : IsNearest w.low COUNTERS_END t a b = is_nearest w.low COUNTERS_END t a b h w.a_apart w.b_apart w.a_range w.b_range in
+    let far : t ≤ COUNTERS_END = n.within in
     record {
       low = t;
       a_apart = side-rising w.low t a n.from_a w.a_apart;
       b_apart = side-rising w.low t b n.from_b w.b_apart;
-      a_range = side-range t 1000001 a w.a_range;
-      b_range = side-range t 1000001 b w.b_range;
-      a_far = sym (side-after t a_on a 1000001 far) ∙ w.a_far;
-      b_far = sym (side-after t b_on b 1000001 far) ∙ w.b_far;
+      a_range = side-range t COUNTERS_END a w.a_range;
+      b_range = side-range t COUNTERS_END b w.b_range;
+      a_far = sym (side-after t a_on a COUNTERS_END far) ∙ w.a_far;
+      b_far = sym (side-after t b_on b COUNTERS_END far) ∙ w.b_far;
       on_is = e;
-      out_range = AreUpTo-push 1000001 out t w.out_range far;
+      out_range = AreUpTo-push COUNTERS_END out t w.out_range far;
       walked = rw (turn-is now on differ) (Walked-turn (op_of op true true) (λ c. op_of op (is_on true a0 c) (is_on true b0 c)) out w.low t on (λ c. op_of op (is_on a_on a c) (is_on b_on b c)) (λ c. op_of op (is_on (turned t a_on a) (passed t a) c) (is_on (turned t b_on b) (passed t b) c)) w.walked n.above
           (λ c l. rw (side-before t a_on a c n.from_a l, side-before t b_on b c n.from_b l) (sym w.on_is))
           (λ c g. rw (side-after t a_on a c g, side-after t b_on b c g) refl));
@@ -148,16 +149,16 @@ WalkState-turn op a0 b0 out on a a_on b b_on t now w h e differ =
 -- a step at which the set stays
 pub WalkState-stay : (op : Op) (a0 b0 out : List ℕ) (on : Bool) (a : List ℕ) (a_on : Bool) (b : List ℕ) (b_on : Bool) (t : ℕ) → WalkState op a0 b0 out on a a_on b b_on → nearest a b ≡ Some t → on ≡ op_of op (turned t a_on a) (turned t b_on b) → WalkState op a0 b0 out on (passed t a) (turned t a_on a) (passed t b) (turned t b_on b)
 WalkState-stay op a0 b0 out on a a_on b b_on t w h e =
-    let n : IsNearest w.low 1000001 t a b = is_nearest w.low 1000001 t a b h w.a_apart w.b_apart w.a_range w.b_range in
-    let far : t ≤ 1000001 = n.within in
+    let n : IsNearest w.low COUNTERS_END t a b = is_nearest w.low COUNTERS_END t a b h w.a_apart w.b_apart w.a_range w.b_range in
+    let far : t ≤ COUNTERS_END = n.within in
     record {
       low = t;
       a_apart = side-rising w.low t a n.from_a w.a_apart;
       b_apart = side-rising w.low t b n.from_b w.b_apart;
-      a_range = side-range t 1000001 a w.a_range;
-      b_range = side-range t 1000001 b w.b_range;
-      a_far = sym (side-after t a_on a 1000001 far) ∙ w.a_far;
-      b_far = sym (side-after t b_on b 1000001 far) ∙ w.b_far;
+      a_range = side-range t COUNTERS_END a w.a_range;
+      b_range = side-range t COUNTERS_END b w.b_range;
+      a_far = sym (side-after t a_on a COUNTERS_END far) ∙ w.a_far;
+      b_far = sym (side-after t b_on b COUNTERS_END far) ∙ w.b_far;
       on_is = e;
       out_range = w.out_range;
       walked = Walked-stay (op_of op true true) (λ c. op_of op (is_on true a0 c) (is_on true b0 c)) out w.low t on (λ c. op_of op (is_on a_on a c) (is_on b_on b c)) (λ c. op_of op (is_on (turned t a_on a) (passed t a) c) (is_on (turned t b_on b) (passed t b) c)) w.walked n.above
@@ -223,19 +224,18 @@ pub Building-on : (op : Op) (a0 b0 : List ℕ) (holes : List Hole) (start : ℕ)
 Building-on op a0 b0 holes start true a a_on b b_on t now o w h e d = absurd (true≢false o)
 Building-on op a0 b0 holes start false a a_on b b_on t false o w h e d = absurd (false≢true d)
 Building-on op a0 b0 holes start false a a_on b b_on t true o w h e d =
-    let n : IsNearest w.low 1000001 t a b = is_nearest w.low 1000001 t a b h w.a_apart w.b_apart w.a_range w.b_range in
+    let n : IsNearest w.low COUNTERS_END t a b = is_nearest w.low COUNTERS_END t a b h w.a_apart w.b_apart w.a_range w.b_range in
     let back : t - 1 + 1 ≡ t = let q = n.above in omega arith in
     rw (hole_edges-push holes (record { first = start; last = t - 1 }), back) (WalkState-turn op a0 b0 (hole_edges holes ++ start ∷ []) false a a_on b b_on t true w h e (differ-not_beq true false d))
 
 op-off : (op : Op) → op_of op false false ≡ false
 op-off Union = refl
-op-off Meet = refl
 op-off Without = refl
 
 -- what was built is a column
 pub record IsBuilt (op : Op) (a0 b0 : List ℕ) (holes : List Hole) (start : ℕ) : Type 0 where
   pub from_one : 1 ≤ start
-  pub to : start ≤ 1000001
+  pub to : start ≤ COUNTERS_END
   pub combined : IsCombined op a0 b0 (edges (record { upto = start - 1; holes = holes }))
 
 pub Building-end : (op : Op) (a0 b0 : List ℕ) (holes : List Hole) (start : ℕ) (on : Bool) (a : List ℕ) (a_on : Bool) (b : List ℕ) (b_on : Bool) → WalkState op a0 b0 (found_edges holes on start) on a a_on b b_on → nearest a b ≡ None → IsBuilt op a0 b0 holes start
@@ -244,11 +244,11 @@ Building-end op a0 b0 holes start false a a_on b b_on w h =
     let all = WalkState-end op a0 b0 (hole_edges holes ++ start ∷ []) false a a_on b b_on w h in
     let from : 0 < start = IsRising-end 0 (hole_edges holes) start (all.0.apart) in
     let back : start - 1 + 1 ≡ start = omega arith in
-    record { from_one = omega arith; to = AreUpTo-end 1000001 (hole_edges holes) start w.out_range; combined = rw back (all.0) }
+    record { from_one = omega arith; to = AreUpTo-end COUNTERS_END (hole_edges holes) start w.out_range; combined = rw back (all.0) }
 
 -- few edges, few holes
 pub column-built : (op : Op) (a0 b0 : List ℕ) (holes : List Hole) (start : ℕ) → IsBuilt op a0 b0 holes start → ((n : ℕ) → CountsEdges op a0 b0 n → n ≤ 8193) → IsColumn (record { upto = start - 1; holes = holes })
 column-built op a0 b0 holes start w few =
-    let n : length (edges (record { upto = start - 1; holes = holes })) ≤ 8193 = few (length (edges (record { upto = start - 1; holes = holes }))) (record { out = edges (record { upto = start - 1; holes = holes }); combined = w.combined; in_range = AreUpTo-rising 0 (hole_edges holes) (start - 1 + 1) 1000001 (let t = w.to in let f = w.from_one in omega arith) w.combined.apart; length_is = refl }) in
+    let n : length (edges (record { upto = start - 1; holes = holes })) ≤ 8193 = few (length (edges (record { upto = start - 1; holes = holes }))) (record { out = edges (record { upto = start - 1; holes = holes }); combined = w.combined; in_range = AreUpTo-rising 0 (hole_edges holes) (start - 1 + 1) COUNTERS_END (let t = w.to in let f = w.from_one in omega arith) w.combined.apart; length_is = refl }) in
     let l : length (edges (record { upto = start - 1; holes = holes })) ≡ 2 * length holes + 1 = length-edges holes (start - 1 + 1) in
     record { apart = w.combined.apart; in_range = let t = w.to in omega arith; few = omega arith }

@@ -1,8 +1,9 @@
 use Rattle.std.specs.Prelude.{◌≤◌, ◌+◌, ◌-◌, ℕ, Bool, not, nat_lt, nat_le, ◌&&◌, if◌then◌else◌, List, [], ◌∷◌, ◌++◌, length, refl, Option, Some, None}
 use Rattle.std.specs.List.{list_any}
 use Rattle.std.specs.Coded.{Coded, code_by, coded×, coded_ℕ, coded_list}
+use Rattle.mr_forms.specs.declared.run.TheConstants.{MAX_COUNTER}
 use Rattle.mr_concise.specs.declared.column.Hole.{Hole}
-use Rattle.mr_concise.specs.declared.column.TheConstants.{MAX_HOLES}
+use Rattle.mr_concise.specs.declared.column.TheConstants.{COUNTERS_END, MAX_HOLES}
 use Rattle.mr_concise.specs.Edges.{IsRising, AreUpTo}
 
 -- whether c is in the hole
@@ -37,7 +38,7 @@ edges column = hole_edges column.holes ++ (column.upto + 1) ∷ []
 -- and above the last one, and it is the bound.
 pub record IsColumn (column : Extent) : Type 0 where
   pub apart : IsRising 0 (edges column)
-  pub in_range : column.upto ≤ 1000000
+  pub in_range : column.upto ≤ MAX_COUNTER
   pub few : length column.holes ≤ MAX_HOLES
 
 -- the column with nothing in it
@@ -53,8 +54,8 @@ edges_left (Some end) is_done column = end ∷ (hole_edges column.holes ++ (if i
 pub record AreEdges (left : List ℕ) (upto : ℕ) : Type 0 where
   pub low : ℕ
   pub apart : IsRising low left
-  pub in_range : AreUpTo 1000001 left
-  pub upto_to : upto ≤ 1000000
+  pub in_range : AreUpTo COUNTERS_END left
+  pub upto_to : upto ≤ MAX_COUNTER
 
 -- the hole from first to last, or none
 abbrev pub gap : ℕ → ℕ → List Hole

@@ -1,5 +1,6 @@
 use Rattle.std.specs.Prelude.{◌≡◌, ◌<◌, ◌≤◌, ℕ, Bool, false, length, Option, Some, None}
 use Rattle.mr_forms.specs.Sets.{Versions}
+use Rattle.mr_forms.specs.declared.run.TheConstants.{MAX_COUNTER}
 use Rattle.mr_concise.specs.declared.column.TheConstants.{MAX_HOLES}
 use Rattle.mr_concise.specs.Edges.{IsRising}
 use Rattle.mr_concise.specs.Column.{Extent, edges, column_has}
@@ -7,7 +8,7 @@ use Rattle.mr_concise.specs.Column.{Extent, edges, column_has}
 -- the column in normal form that has these counters, whatever the number of its holes
 pub record IsColumnOf (has : ℕ → Bool) (column : Extent) : Type 0 where
   pub apart : IsRising 0 (edges column)
-  pub in_range : column.upto ≤ 1000000
+  pub in_range : column.upto ≤ MAX_COUNTER
   pub means : (c : ℕ) → column_has column c ≡ has c
 
 -- the column of these counters has no more holes than a column may have

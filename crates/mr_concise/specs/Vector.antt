@@ -1,6 +1,7 @@
 use Rattle.std.specs.Prelude.{◌≡◌, ◌<◌, ◌≤◌, ◌+◌, ℕ, ◌==◌, nat_lt, if◌then◌else◌, List, [], ◌∷◌, length, refl, All}
 use Rattle.std.specs.Coded.{Coded, code_by, coded×, coded_ℕ}
 use Rattle.mr_forms.specs.Sets.{Versions, IsSame}
+use Rattle.mr_forms.specs.declared.run.TheConstants.{MAX_COUNTER}
 use Rattle.mr_concise.specs.declared.vector.AuthorColumn.{AuthorColumn}
 use Rattle.mr_concise.specs.declared.column.TheConstants.{MAX_HOLES, MAX_EDGES}
 use Rattle.mr_concise.specs.Edges.{IsRising}
@@ -31,9 +32,9 @@ pub record IsVectorOf (set : Versions) (columns : List AuthorColumn) : Type 0 wh
   pub has : IsSame (vector_has columns) set
 
 -- the columns with this one in its author's place
-abbrev pub placed : AuthorColumn → List AuthorColumn → List AuthorColumn
-placed new [] = new ∷ []
-placed new (x ∷ xs) = if nat_lt x.author new.author then x ∷ placed new xs else (if x.author == new.author then new ∷ xs else new ∷ (x ∷ xs))
+abbrev pub with_column : AuthorColumn → List AuthorColumn → List AuthorColumn
+with_column new [] = new ∷ []
+with_column new (x ∷ xs) = if nat_lt x.author new.author then x ∷ with_column new xs else (if x.author == new.author then new ∷ xs else new ∷ (x ∷ xs))
 
 -- a column of the set has more holes than it may
 pub record HasTooManyHoles (set : Versions) : Type 0 where
@@ -41,7 +42,7 @@ pub record HasTooManyHoles (set : Versions) : Type 0 where
   pub author_in : author < 64
   pub column : Extent
   pub apart : IsRising 0 (edges column)
-  pub in_range : column.upto ≤ 1000000
+  pub in_range : column.upto ≤ MAX_COUNTER
   pub means : (c : ℕ) → column_has column c ≡ set (record { author = author; counter = c })
   pub many : MAX_HOLES < length column.holes
 
@@ -66,6 +67,6 @@ abbrev pub AreColumns : List AuthorColumn → Type 0
 AreColumns xs = All (λ x. (1 ≤ x.column.upto) × IsColumn x.column × (x.author < 64)) xs
 
 -- the columns with each of these in its author's place, one after the other
-abbrev pub all_placed : List AuthorColumn → List AuthorColumn → List AuthorColumn
-all_placed [] columns = columns
-all_placed (x ∷ xs) columns = all_placed xs (placed x columns)
+abbrev pub with_columns : List AuthorColumn → List AuthorColumn → List AuthorColumn
+with_columns [] columns = columns
+with_columns (x ∷ xs) columns = with_columns xs (with_column x columns)

@@ -1,12 +1,12 @@
 use Rattle.std.specs.Prelude.{◌≡◌, ℕ, Bool, true, not, ◌&&◌, ◌||◌, ◌==◌, if◌then◌else◌, List, [], ◌∷◌, Option, Some, None, min, length}
 use Rattle.mr_concise.specs.declared.walk.Op.{Op}
-use Rattle.mr_concise.specs.declared.walk.Op.TheVariants.{Union, Meet, Without}
+use Rattle.mr_concise.specs.declared.walk.Op.TheVariants.{Union, Without}
 use Rattle.mr_concise.specs.Edges.{is_on, IsRising, AreUpTo}
+use Rattle.mr_concise.specs.declared.column.TheConstants.{COUNTERS_END}
 
--- what is in both, in one of the two, in the first alone
+-- what is in one of the two, in the first alone
 abbrev pub op_of : Op → Bool → Bool → Bool
 op_of Union a b = a || b
-op_of Meet a b = a && b
 op_of Without a b = a && not b
 
 -- the first edge of two lists
@@ -35,5 +35,5 @@ pub record IsCombined (op : Op) (a b out : List ℕ) : Type 0 where
 pub record CountsEdges (op : Op) (a b : List ℕ) (n : ℕ) : Type 0 where
   pub out : List ℕ
   pub combined : IsCombined op a b out
-  pub in_range : AreUpTo 1000001 out
+  pub in_range : AreUpTo COUNTERS_END out
   pub length_is : n ≡ length out

@@ -2,6 +2,7 @@ ghost use Rattle.std.specs.Prelude.{◌≡◌, ◌≤◌};
 ghost use Rattle.mr_forms.specs.Runs.{of_author};
 ghost use Rattle.mr_concise.specs.AllOf.{in_all, lower_of, IsPassed};
 
+use crate::column::COUNTERS_END;
 use crate::source::Source;
 use mr_version::Author;
 
@@ -66,7 +67,7 @@ pub(crate) fn lower(a: Option<u32>, b: Option<u32>) -> Option<u32>
 
 /// Goes on from here past what a source has, source by source.
 fn passed<S: Source>(sources: &[S], author: Author, from: u32) -> u32
-    requires { (1 ≤ from) × (from ≤ 1000001) }
+    requires { (1 ≤ from) × (from ≤ COUNTERS_END) }
     ensures { IsPassed (of_author (in_all S.has sources.now) author) from result }
 {
     let mut at = from;

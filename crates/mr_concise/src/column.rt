@@ -5,7 +5,7 @@ ghost use Rattle.mr_concise.specs.Column.{Extent, hole_has, IsColumn, column_has
 
 use crate::column_ref::ColumnRef;
 use crate::holes::{fill, filled_count};
-use mr_forms::FormFault;
+use mr_forms::{FormFault, MAX_COUNTER};
 use std::alloc::{AllocError, Global};
 use std::marker::Model;
 
@@ -14,6 +14,9 @@ pub const MAX_HOLES: usize = 4096;
 
 /// The most edges that a column has: two of each hole, and one past the bound.
 pub const MAX_EDGES: usize = 2 * MAX_HOLES + 1;
+
+/// One past the highest counter of a version: where the counters of an author end.
+pub const COUNTERS_END: u32 = MAX_COUNTER + 1;
 
 /// Counters that a column does not cover, from the first to the last.
 #[derive(Clone, Copy, Debug, PartialEq, Eq)]
@@ -106,7 +109,7 @@ impl Column {
 
     /// One counter more, where that leaves few enough holes.
     fn put(&mut self, counter: u32) -> Result<(), AllocError>
-        requires counter { (1 ≤ counter) × (counter ≤ 1000000) }
+        requires counter { (1 ≤ counter) × (counter ≤ MAX_COUNTER) }
         requires few { length (with_counter self.old counter).holes ≤ MAX_HOLES }
         ensures ok { OnOk result (self.new ≡ with_counter self.old counter) }
         ensures err { OnErr result (self.new ≡ self.old) }
@@ -127,7 +130,7 @@ impl Column {
 
     /// One counter more. `TooManyHoles` where that leaves more than 4,096 holes.
     pub(crate) fn insert(&mut self, counter: u32) -> Result<(), FormFault>
-        requires { (1 ≤ counter) × (counter ≤ 1000000) }
+        requires { (1 ≤ counter) × (counter ≤ MAX_COUNTER) }
         ensures ok { OnOk result (self.new ≡ with_counter self.old counter) }
         ensures many { IsErrOf result FormFault.TooManyHoles ↔ (MAX_HOLES < length (with_counter self.old counter).holes) }
         ensures items { result ≢ Err FormFault.TooManyItems }

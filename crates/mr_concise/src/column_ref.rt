@@ -3,9 +3,10 @@ ghost use Rattle.mr_concise.specs.Edges.{is_on, IsRising, AreUpTo};
 ghost use Rattle.mr_concise.specs.Column.{Extent, IsColumn, column_has, edges, empty_column};
 ghost use Rattle.mr_concise.specs.Next.{IsNextOut, IsNextIn, HasNoneFrom, HasNoHoleFrom, IsHoleFrom};
 
-use crate::column::{Hole, MAX_EDGES};
+use crate::column::{COUNTERS_END, Hole, MAX_EDGES};
 use crate::cursor::Edges;
 use crate::holes::hole_place;
+use mr_forms::MAX_COUNTER;
 use std::marker::Model;
 
 /// A column that is lent: its bound and its holes.
@@ -69,7 +70,7 @@ impl<'a> ColumnRef<'a> {
     pub(crate) fn next_out(&self, from: u32) -> u32
         requires { 1 ≤ from }
         ensures next { IsNextOut (column_has self.now) from result }
-        ensures bound { from ≤ 1000001 → result ≤ 1000001 }
+        ensures bound { from ≤ COUNTERS_END → result ≤ COUNTERS_END }
     {
         match self.hole_from(from) {
             Some(hole) => from.max(hole.first),
@@ -81,7 +82,7 @@ impl<'a> ColumnRef<'a> {
     pub(crate) fn next_in(&self, from: u32) -> Option<u32>
         requires { 1 ≤ from }
         ensures next { MatchOption result (HasNoneFrom (column_has self.now) from) (λ at. IsNextIn (column_has self.now) from at) }
-        ensures bound { IfSome result (λ at. at ≤ 1000000) }
+        ensures bound { IfSome result (λ at. at ≤ MAX_COUNTER) }
     {
         match self.hole_from(from) {
             Some(hole) if hole.first <= from => Some(hole.last + 1),
@@ -99,8 +100,8 @@ impl<'a> ColumnRef<'a> {
     pub(crate) fn edges(&self) -> Edges<'_>
         ensures is { result ≡ edges self.now }
         ensures apart { IsRising 0 (edges self.now) }
-        ensures in_range { AreUpTo 1000001 (edges self.now) }
-        ensures far { is_on true (edges self.now) 1000001 ≡ false }
+        ensures in_range { AreUpTo COUNTERS_END (edges self.now) }
+        ensures far { is_on true (edges self.now) COUNTERS_END ≡ false }
         ensures few { length (edges self.now) ≤ MAX_EDGES }
     {
         Edges::new(self.upto, self.holes)

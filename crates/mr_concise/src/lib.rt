@@ -44,7 +44,7 @@ mod versions;
 mod walk;
 
 pub use all_of::AllOf;
-pub use column::{Column, Hole, MAX_EDGES, MAX_HOLES};
+pub use column::{COUNTERS_END, Column, Hole, MAX_EDGES, MAX_HOLES};
 pub use fragments::{concise_fragments, knowledge_text};
 pub use of_set::OfSet;
 pub use source::Source;

@@ -4,6 +4,8 @@ ghost use Rattle.mr_forms.specs.Runs.{of_author, HasNoneOf};
 ghost use Rattle.mr_concise.specs.Next.{IsNextOut, IsNextIn, HasNoneFrom};
 ghost use Rattle.mr_forms.specs.Runs.{HasNoAuthorFrom, IsNextAuthor};
 
+use crate::column::COUNTERS_END;
+use mr_forms::MAX_COUNTER;
 use mr_version::Author;
 
 /// Versions of which a vector is gathered: they tell, for a place in their order, what comes next.
@@ -23,9 +25,9 @@ pub trait Source: Drop {
 
     /// The author's first counter from here on that is not among them. `from` is 1 to 1,000,001.
     fn next_out(&self, author: Author, from: u32) -> u32
-        requires { (1 ≤ from) × (from ≤ 1000001) }
+        requires { (1 ≤ from) × (from ≤ COUNTERS_END) }
         ensures next { IsNextOut (of_author (has self.now) author) from result }
-        ensures bound { result ≤ 1000001 }
+        ensures bound { result ≤ COUNTERS_END }
         ensures zero { of_author (has self.now) author 0 ≡ false };
 
     /// The author's first counter from here on that is among them, if there is one. `from` is 1 or
@@ -33,5 +35,5 @@ pub trait Source: Drop {
     fn next_in(&self, author: Author, from: u32) -> Option<u32>
         requires { 1 ≤ from }
         ensures next { MatchOption result (HasNoneFrom (of_author (has self.now) author) from) (λ at. IsNextIn (of_author (has self.now) author) from at) }
-        ensures bound { IfSome result (λ at. at ≤ 1000000) };
+        ensures bound { IfSome result (λ at. at ≤ MAX_COUNTER) };
 }

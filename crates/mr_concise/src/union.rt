@@ -4,7 +4,7 @@ ghost use Rattle.mr_forms.specs.Sets.{both, Covers};
 ghost use Rattle.mr_concise.specs.Column.{Extent, edges, IsColumn};
 ghost use Rattle.mr_concise.specs.Walk.{CountsEdges, IsCombined};
 ghost use Rattle.mr_concise.specs.declared.walk.Op.TheVariants.{Union};
-ghost use Rattle.mr_concise.specs.Vector.{column_of, vector_has, IsVectorFrom, HasTooManyHoles, HasFewEdges, AreUnited, AreColumns, all_placed, placed, single};
+ghost use Rattle.mr_concise.specs.Vector.{column_of, vector_has, IsVectorFrom, HasTooManyHoles, HasFewEdges, AreUnited, AreColumns, with_columns, with_column, single};
 
 use crate::column::MAX_EDGES;
 use crate::column_ref::ColumnRef;
@@ -39,8 +39,8 @@ fn changed_columns(
     requires b { IsVectorFrom 0 b.now }
     requires few { HasFewEdges a.now b.now }
     ensures columns { IfOk result (λ changed. AreColumns changed.items) }
-    ensures vector { IfOk result (λ changed. IsVectorFrom 0 (all_placed changed.items a.now)) }
-    ensures united { IfOk result (λ changed. AreUnited a.now b.now (all_placed changed.items a.now)) }
+    ensures vector { IfOk result (λ changed. IsVectorFrom 0 (with_columns changed.items a.now)) }
+    ensures united { IfOk result (λ changed. AreUnited a.now b.now (with_columns changed.items a.now)) }
 {
     let mut changed = Vec::new(alloc);
     for x in b {
@@ -61,7 +61,7 @@ fn changed_columns(
 fn put_in_room(columns: &mut Vec<AuthorColumn>, new: AuthorColumn)
     requires vector { IsVectorFrom 0 columns.old.items }
     requires room { vec_len columns.old < vec_capacity columns.old }
-    ensures placed { columns.new.items ≡ placed new columns.old.items }
+    ensures placed { columns.new.items ≡ with_column new columns.old.items }
     ensures len { vec_len columns.new ≤ vec_len columns.old + 1 }
     ensures capacity { vec_capacity columns.old ≤ vec_capacity columns.new }
 {
@@ -79,7 +79,7 @@ fn put_in_room(columns: &mut Vec<AuthorColumn>, new: AuthorColumn)
 fn put_all(columns: &mut Vec<AuthorColumn>, changed: Vec<AuthorColumn>) -> Result<(), AllocError>
     requires vector { IsVectorFrom 0 columns.old.items }
     requires columns { AreColumns changed.items }
-    ensures ok { OnOk result (columns.new.items ≡ all_placed changed.items columns.old.items) }
+    ensures ok { OnOk result (columns.new.items ≡ with_columns changed.items columns.old.items) }
     ensures err { OnErr result (columns.new.items ≡ columns.old.items) }
 {
     columns.reserve(changed.len())?;

@@ -4,7 +4,7 @@ ghost use Rattle.mr_forms.specs.Runs.{HasNoneOf};
 ghost use Rattle.mr_forms.specs.Runs.{HasNoAuthorFrom, IsNextAuthor};
 ghost use Rattle.std.specs.List.Sorted.{IsPartitionPoint};
 ghost use Rattle.mr_concise.specs.Column.{Extent, empty_column};
-ghost use Rattle.mr_concise.specs.Vector.{column_of, vector_has, IsVectorFrom, placed};
+ghost use Rattle.mr_concise.specs.Vector.{column_of, vector_has, IsVectorFrom, with_column};
 
 use crate::column::Column;
 use crate::column_ref::ColumnRef;
@@ -102,7 +102,7 @@ pub(crate) fn column_at(columns: &[AuthorColumn], author: Author) -> ColumnRef<'
 /// Puts a column in its author's place.
 pub(crate) fn put(columns: &mut Vec<AuthorColumn>, new: AuthorColumn) -> Result<(), AllocError>
     requires { IsVectorFrom 0 columns.old.items }
-    ensures ok { OnOk result (columns.new.items ≡ placed new columns.old.items) }
+    ensures ok { OnOk result (columns.new.items ≡ with_column new columns.old.items) }
     ensures err { OnErr result (columns.new.items ≡ columns.old.items) }
 {
     let at = place(columns, new.author);

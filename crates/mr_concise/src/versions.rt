@@ -44,8 +44,8 @@ impl Source for Version {
     }
 }
 
-/// The vector of the versions, by way of their set, which brings them in order. It may want memory before
-/// the holes are counted.
+/// The vector of the versions, by way of their set, which brings them in order. It may run out of
+/// memory before the holes are counted.
 fn by_set(alloc: Global, versions: &[Version]) -> Result<ConciseVector, FormFault>
     ensures ok { IfOk result (λ vector. IsSame (vector_has vector) (is_listed versions.now)) }
     ensures canonical { IfOk result (λ vector. IsVectorOf (is_listed versions.now) vector) }

@@ -3,7 +3,7 @@ ghost use Rattle.mr_concise.specs.Edges.{is_on, IsRising, AreUpTo};
 ghost use Rattle.mr_concise.specs.Column.{edges, IsColumn};
 ghost use Rattle.mr_concise.specs.Walk.{op_of, nearest, passed, turned, IsCombined, CountsEdges};
 
-use crate::column::{Column, Hole, MAX_EDGES};
+use crate::column::{COUNTERS_END, Column, Hole, MAX_EDGES};
 use crate::column_ref::ColumnRef;
 use crate::cursor::Edges;
 use std::alloc::{AllocError, Global};
@@ -12,7 +12,6 @@ use std::alloc::{AllocError, Global};
 #[derive(Clone, Copy, Debug, PartialEq, Eq)]
 pub(crate) enum Op {
     Union,
-    Meet,
     Without,
 }
 
@@ -22,7 +21,6 @@ impl Op {
     {
         match self {
             Op::Union => a || b,
-            Op::Meet => a && b,
             Op::Without => a && !b,
         }
     }
@@ -59,8 +57,8 @@ impl<'a> Walk<'a> {
         ensures a { (result.a.left ≡ edges a.now) × (result.a.on ≡ true) }
         ensures b { (result.b.left ≡ edges b.now) × (result.b.on ≡ true) }
         ensures apart { IsRising 0 (edges a.now) × IsRising 0 (edges b.now) }
-        ensures in_range { AreUpTo 1000001 (edges a.now) × AreUpTo 1000001 (edges b.now) }
-        ensures far { (is_on true (edges a.now) 1000001 ≡ false) × (is_on true (edges b.now) 1000001 ≡ false) }
+        ensures in_range { AreUpTo COUNTERS_END (edges a.now) × AreUpTo COUNTERS_END (edges b.now) }
+        ensures far { (is_on true (edges a.now) COUNTERS_END ≡ false) × (is_on true (edges b.now) COUNTERS_END ≡ false) }
         ensures few { length (edges a.now) + length (edges b.now) ≤ 2 * MAX_EDGES }
     {
         Walk {

@@ -1,6 +1,6 @@
 //! The words of the command line, and the help.
-use clap::{ArgMatches, Command, Error};
-use std::alloc::Global;
+use clap::{Arg, Command, Error};
+use std::alloc::{AllocError, Global};
 
 const ABOUT: &str = "Replicas of a mail collection, driven by scripts.
 
@@ -8,8 +8,8 @@ A replica holds messages, each one revision of an item. A script makes replicas,
 asks what they hold. The code that runs is proved against its contracts.";
 
 const AFTER: &str = "Exit status:
-  0  the script ran to its end (a replica's refusal is an answer, no fault)
-  1  a line that can't be run, a failed read or write, or no memory left
+  0  the script ran to its end (a replica's refusal is an answer, no fault), or the frame was told
+  1  a line that can't be run, no frame, a failed read or write, or no memory left
   2  a wrong command line";
 
 const RUN_ABOUT: &str = "Runs the script on standard input, line by line, and prints its answers.
@@ -67,14 +67,72 @@ Exit status:
      `script too long`; the answers of the lines before it stand
   2  a wrong command line";
 
-/// Reads the words of a command line, the program's name first. `run` is the one subcommand; asking for
-/// help or for the version is an `Err` too, whose text they are.
-pub fn read_command_line<'a>(alloc: Global, words: &'a [String]) -> Result<ArgMatches<'a>, Error> {
+const FRAME_ABOUT: &str = "Tells what the bytes of a frame say.
+
+HEX is one word: two digits of either case for each byte, with spaces wherever they help.";
+
+const FRAME_AFTER: &str = "Frames are told in one line:
+  ask target T session N knows KNOWLEDGE filter FILTER
+  KIND source A stream N target T session N index I ..
+       start, with `full` or `partial`; item and moveout, with `V of ITEM`; held, with a vector; know,
+       with a fragment; end
+  receipt giver A version V of ITEM
+Where bytes follow the frame, `rest N` counts them in a second line.
+
+Where there is no frame:
+  refused 1 Truncated  more bytes have to follow
+  refused 2 TooLong    more than 8388608 bytes would follow the length
+  refused 3 BadFormat  the format byte is neither 1 nor 2
+  refused 4 BadKind    the format has no such kind
+  refused 5 BadBody    the bytes are none of a frame of that kind
+  not hex              a character is neither a digit nor a space, or a digit is left over
+
+Example:
+  $ mailrep frame '0000001b 02 01 0000 0000000000000001 0001 0000000000000001 00000000 01'
+  start source 0 stream 1 target 1 session 1 index 0 full
+
+Exit status:
+  0  the frame was told
+  1  there is no frame, standard output can't be written, or no memory is left
+  2  a wrong command line";
+
+/// The name of the word of digits in the help.
+const HEX: &str = "HEX";
+
+/// What a command line asks for.
+#[derive(Clone, Copy, Debug, PartialEq, Eq)]
+pub enum Request<'a> {
+    /// To run the script on standard input.
+    Run,
+    /// To tell what the frame says that this word spells.
+    Frame(&'a str),
+}
+
+/// Reads the words of a command line, the program's name first. Asking for help or for the version is an
+/// `Err` too, whose text they are.
+pub fn read_command_line<'a>(alloc: Global, words: &'a [String]) -> Result<Request<'a>, Error> {
+    let matches = mailrep(alloc)?.try_get_matches_from(words)?;
+    match matches.subcommand_matches("frame") {
+        Some(frame) => Ok(Request::Frame(frame.get_str(HEX).unwrap_or(""))),
+        None => Ok(Request::Run),
+    }
+}
+
+/// The program's subcommands, their words and their help.
+fn mailrep<'a>(alloc: Global) -> Result<Command<'a>, AllocError> {
     let run = Command::new(alloc, "run")
         .about("Runs the script on standard input, and prints its answers")
         .long_about(RUN_ABOUT)
         .after_long_help(RUN_AFTER);
-    let mailrep = Command::new(alloc, "mailrep")
+    let hex = Arg::new(alloc, HEX)
+        .help("The frame's bytes, by two hexadecimal digits each")
+        .required(true);
+    let frame = Command::new(alloc, "frame")
+        .about("Tells what the bytes of a frame say")
+        .long_about(FRAME_ABOUT)
+        .after_long_help(FRAME_AFTER)
+        .arg(hex)?;
+    Command::new(alloc, "mailrep")
         .bin_name("mailrep")?
         .version("0.1.0")
         .about("Replicas of a mail collection, driven by scripts")
@@ -82,6 +140,6 @@ pub fn read_command_line<'a>(alloc: Global, words: &'a [String]) -> Result<ArgMa
         .after_long_help(AFTER)
         .subcommand_required(true)
         .arg_required_else_help(true)
-        .subcommand(run)?;
-    mailrep.try_get_matches_from(words)
+        .subcommand(run)?
+        .subcommand(frame)
 }

@@ -11,7 +11,7 @@ pub enum Fault {
     /// A word of the command line is not UTF-8.
     #[error("error: the command line is not text")]
     NotText,
-    /// Help or the version can't be printed.
+    /// A frame's text, help or the version can't be printed.
     #[error("write fault")]
     Write,
     #[error("out of memory")]
@@ -24,8 +24,10 @@ pub enum Fault {
 /// How the program ends.
 #[derive(Clone, Copy, Debug, PartialEq, Eq)]
 pub enum Ending {
-    /// The script ran to its end, or help or the version was printed.
+    /// The script ran to its end, or a frame was told, or help or the version was printed.
     Done,
+    /// The word of the command line spells no frame, and standard output says how.
+    NoFrame,
     /// The command line is wrong, and standard error says how.
     WrongCommandLine,
     /// A fault ended it.
@@ -39,6 +41,7 @@ pub fn exit_of(ending: Ending) -> u8
     match ending {
         Ending::Done => 0,
         Ending::WrongCommandLine | Ending::Stopped(Fault::NotText) => 2,
-        Ending::Stopped(Fault::Write | Fault::OutOfMemory | Fault::Script(_)) => 1,
+        Ending::NoFrame | Ending::Stopped(Fault::Write | Fault::OutOfMemory | Fault::Script(_)) =>
+            1,
     }
 }

@@ -1,7 +1,7 @@
 //! `mailrep`: mail replicas on the command line.
 //!
 //! `mailrep run` hands standard input to `run_script`, which runs it line by line and prints the
-//! answers. Here stand the command line with its help, and the exit status: 0; 1 for a script, read
+//! answers; `mailrep frame HEX` prints what `frame_text` says of HEX. Here stand the command line with its help, and the exit status: 0; 1 for a script, read
 //! or write fault, or where memory runs out; 2 for a wrong command line. A fault's text goes to standard
 //! error.
 #![tactic(auto)]
@@ -10,9 +10,10 @@ mod command_line;
 mod ending;
 
 use clap::error::ErrorKind;
-use command_line::read_command_line;
+use command_line::{Request, read_command_line};
 use ending::{Ending, Fault, exit_of};
-use mr_script::run_script;
+use mr_script::{frame_text, run_script};
+use std::io::Write;
 use std::process::ExitCode;
 use std::rt::Env;
 use std::{env, io};
@@ -32,12 +33,30 @@ fn main(rt: HostRuntime) -> ExitCode {
 fn run<R: Env + Input + Print + Eprint + AllocGlobal>(rt: &R) -> Result<Ending, Fault> {
     let words = words(rt)?;
     match read_command_line(rt.alloc(), words.as_slice()) {
-        Ok(_) => match run_script(rt.alloc(), rt.reader(), &mut io::writer(rt)) {
+        Ok(Request::Frame(hex)) => tell_frame(rt, hex),
+        Ok(Request::Run) => match run_script(rt.alloc(), rt.reader(), &mut io::writer(rt)) {
             Ok(()) => Ok(Ending::Done),
             Err(fault) => Err(Fault::Script(fault)),
         },
         Err(error) => say(rt, &error),
     }
+}
+
+/// Prints what the frame says that the word spells.
+fn tell_frame<R: Print + AllocGlobal>(rt: &R, hex: &str) -> Result<Ending, Fault> {
+    let text = frame_text(rt.alloc(), hex).map_err(|_| Fault::OutOfMemory)?;
+    print_all(rt, text.lines.as_str()).map_err(|_| Fault::Write)?;
+    if text.is_fault {
+        return Ok(Ending::NoFrame);
+    }
+    Ok(Ending::Done)
+}
+
+/// Prints the text on standard output, and flushes that.
+fn print_all<R: Print>(rt: &R, text: &str) -> io::Result<()> {
+    let mut writer = io::writer(rt);
+    writer.write_all(text.as_bytes())?;
+    writer.flush()
 }
 
 /// The words of the command line, the program's name first.

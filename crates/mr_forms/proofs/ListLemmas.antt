@@ -1,6 +1,9 @@
-use Rattle.std.proofs.Common.{List, [], ◌∷◌, ◌++◌, All, AllPairs, length, arith}
+use Rattle.std.proofs.Common.{◌≡◌, ◌+◌, ◌<◌, ◌||◌, ℕ, Bool, List, [], ◌∷◌, ◌++◌, All, AllPairs, length, take, get_or, ap, sym, ◌∙◌, arith}
+use Rattle.std.specs.List.{list_any}
+use Rattle.std.proofs.lemmas.List.Folds.{list_any_more}
 use Rattle.std.proofs.Math.ListN.{get_or-append, length-append}
 use Rattle.std.proofs.Math.Seq.{get_or-append_seam}
+use Rattle.mr_forms.proofs.SetLemmas.{or_comm}
 
 -- what holds of a list with one element more holds of the list, and of the element
 pub All-front : {X : Type 0} (P : X → Type 0) (xs : List X) (y : X) → All P (xs ++ y ∷ []) → All P xs
@@ -16,3 +19,10 @@ AllPairs-front R xs y all i j d before within =
 pub AllPairs-last : {X : Type 0} (R : X → X → Type 0) (xs : List X) (y : X) → AllPairs R (xs ++ y ∷ []) → All (λ x. R x y) xs
 AllPairs-last R xs y all k d within =
     rw (get_or-append xs (y ∷ []) d k within, get_or-append_seam xs y [] d) at (all k (length xs) d within (simp length-append (omega arith)))
+
+-- one of those up to here passes: the one that is here, or one before it
+pub list_any-here : {X : Type 0} (p : X → Bool) (xs : List X) (i : ℕ) (x : X) → i < length xs → x ≡ get_or xs i x → list_any p (take (i + 1) xs) ≡ (p x || list_any p (take i xs))
+list_any-here p xs i x within here =
+    list_any_more p xs i x within
+    ∙ or_comm (list_any p (take i xs)) (p (get_or xs i x))
+    ∙ ap (λ y. p y || list_any p (take i xs)) (sym here)

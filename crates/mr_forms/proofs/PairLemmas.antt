@@ -83,3 +83,16 @@ joined_cases false any has missing old same = same
 -- pairs that join those known, beside what is known for all
 pub joined_pairs : (all any listed has new missing old : Bool) → new ≡ (missing || old) → (missing || old) ≡ ((any && listed) || old) → listed ≡ has → (all || new) ≡ ((any && has) || (all || old))
 joined_pairs all any listed has new missing old joins same is = ap (λ b. all || b) joins ∙ joined_cases all any has missing old (rw is at same)
+
+-- a version more of those that are listed for an item
+pub one_more_listed : (for_item this before rest : Bool) → ((for_item && this) || ((for_item && before) || rest)) ≡ ((for_item && (this || before)) || rest)
+one_more_listed true true before rest = refl
+one_more_listed true false before rest = refl
+one_more_listed false this before rest = refl
+
+-- the versions below and the version itself, listed for one item
+pub listed_with : (for_item below this rest : Bool) → (((for_item || false) && (below || (this || false))) || rest) ≡ ((for_item && below) || ((for_item && this) || rest))
+listed_with true true this rest = refl
+listed_with true false true rest = refl
+listed_with true false false rest = refl
+listed_with false below this rest = refl

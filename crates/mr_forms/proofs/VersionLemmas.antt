@@ -5,6 +5,7 @@ use Rattle.std.proofs.lemmas.Bool.Decides.{nat_tests}
 use Rattle.mr_version.specs.Name.{Name, IsVersion, name_cmp, name_eq}
 use Rattle.mr_forms.specs.Sets.{Versions, IsSame, both}
 use Rattle.mr_forms.specs.Runs.{HasVersionsAlone, HasNoAuthorFrom, IsNextAuthor, HasNoRunFrom, IsFirstFrom}
+use Rattle.mr_forms.specs.declared.run.TheConstants.{MAX_COUNTER}
 
 -- two sets of versions together
 pub versions_alone-both : (s t u : Versions) → IsSame u (both s t) → HasVersionsAlone s → HasVersionsAlone t → HasVersionsAlone u
@@ -95,6 +96,6 @@ no_author-far set id alone far q above k =
     not_in (set (record { author = q; counter = k })) (λ there. let real = (alone (record { author = q; counter = k }) there).author_in in absurd (omega arith))
 
 -- past the last counter there is no version
-pub no_run-past : (set : Versions) (author from : ℕ) → HasVersionsAlone set → 1000000 < from → HasNoRunFrom set author from
+pub no_run-past : (set : Versions) (author from : ℕ) → HasVersionsAlone set → MAX_COUNTER < from → HasNoRunFrom set author from
 no_run-past set author from alone past c above =
     not_in (set (record { author = author; counter = c })) (λ is_in. let v = (alone (record { author = author; counter = c }) is_in).counter_to in absurd (omega arith))

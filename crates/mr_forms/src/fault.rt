@@ -21,7 +21,7 @@ pub enum FormFault {
 impl FormFault {
     ghost use Rattle.mr_forms.specs.Fault.{fault_number};
 
-    /// The fault's number: 0 for want of memory, else 1 or 2.
+    /// The fault's number: 0 for out of memory, else 1 or 2.
     pub fn number(self) -> u8
         ensures { result ≡ fault_number self }
     {

@@ -4,6 +4,7 @@ ghost use Rattle.mr_forms.specs.Runs.{HasVersionsAlone, HasNoAuthorFrom, IsNextA
 ghost use Rattle.mr_forms.specs.Columns.{EndsBelow, GainsVersion};
 
 use crate::additions::add_all;
+use crate::run::MAX_COUNTER;
 use crate::versions::push_run;
 use crate::{FormFault, Run, VersionSet};
 use mr_version::{Author, Version};
@@ -76,12 +77,12 @@ fn first_from(versions: &BTreeSet<Version>, author: Author, from: u32) -> Option
 
 /// The last counter of the author's unbroken run that begins here.
 fn end_of_run(versions: &BTreeSet<Version>, author: Author, first: u32) -> u32
-    requires first { (1 ≤ first) × (first ≤ 1000000) }
+    requires first { (1 ≤ first) × (first ≤ MAX_COUNTER) }
     requires is_in { of_author (is_listed versions.now.keys) author first ≡ true }
     requires versions { HasVersionsAlone (is_listed versions.now.keys) }
     ensures { IsEndOfRun (is_listed versions.now.keys) author first result }
 {
-    for counter in first..1_000_000 {
+    for counter in first..MAX_COUNTER {
         let Ok(next) = Version::try_new(author, counter + 1) else {
             return counter;
         };
@@ -89,7 +90,7 @@ fn end_of_run(versions: &BTreeSet<Version>, author: Author, first: u32) -> u32
             return counter;
         }
     }
-    1_000_000
+    MAX_COUNTER
 }
 
 impl PlainVersions {
@@ -174,7 +175,7 @@ impl VersionSet for PlainVersions {
     }
 
     fn insert(&mut self, version: Version) -> Result<(), FormFault> {
-        prove!(version.counter() <= 1_000_000);
+        prove!(version.counter() <= MAX_COUNTER);
         self.versions.insert(version)?;
         Ok(())
     }

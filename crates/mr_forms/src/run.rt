@@ -1,6 +1,10 @@
 ghost use Rattle.std.specs.Prelude.{◌≡◌, ◌≤◌, ◌+◌, ◌↔◌, IsTrue};
+ghost use Rattle.mr_forms.specs.declared.run.TheConstants.{MAX_COUNTER};
 
 use mr_version::{Author, Version};
+
+/// The highest counter of a version; the lowest is 1.
+pub const MAX_COUNTER: u32 = 1_000_000;
 
 /// An unbroken run of one author's versions, from the first counter to the last, both included.
 ///
@@ -12,7 +16,7 @@ pub struct Run {
     pub last: u32,
     ghost from_one: { 1 ≤ first },
     ghost ordered: { first ≤ last },
-    ghost in_range: { last ≤ 1000000 },
+    ghost in_range: { last ≤ MAX_COUNTER },
 }
 
 impl Run {

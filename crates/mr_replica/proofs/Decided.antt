@@ -7,18 +7,21 @@ use Rattle.mr_forms.specs.Known.{Form}
 use Rattle.mr_concise.specs.declared.vector.AuthorColumn.{AuthorColumn}
 use Rattle.mr_madewith.specs.Revision.{Rev}
 use Rattle.mr_madewith.proofs.MadeWithLemmas.{columns_unique}
+use Rattle.mr_wire.specs.Frames.{Question}
 use Rattle.mr_wire.specs.declared.frame.Receipt.{Receipt}
 use Rattle.mr_replica.specs.State.{State}
 use Rattle.mr_replica.specs.Issue.{Issue, Wanted, Wanted.Vector, Wanted.Knowledge, below_of_issue, Fits, HasFault, FirstFault, revision_for, issuing, logged, Issues}
 use Rattle.mr_replica.specs.Create.{created}
 use Rattle.mr_replica.specs.Edit.{edited}
+use Rattle.mr_replica.specs.Fragments.{HasHoleyPart}
 use Rattle.mr_replica.specs.Vouch.{receipt_for, IsReceiptFor}
 use Rattle.mr_replica.proofs.Choice.{some_same}
+use Rattle.mr_replica.proofs.PullLemmas.{same_ask}
 use Rattle.mr_replica.specs.Step.{first_refusal, wanted_by, RefusesLate, Changes, Answers, Steps, IsExact, IsDecided}
 use Rattle.mr_replica.specs.declared.event.Event.{Event}
-use Rattle.mr_replica.specs.declared.event.Event.TheVariants.{Create, Edit, Retire, CutIn, CutOut, Vouch, Release}
+use Rattle.mr_replica.specs.declared.event.Event.TheVariants.{Create, Edit, Retire, Pull, CutIn, CutOut, Vouch, Release}
 use Rattle.mr_replica.specs.declared.event.Reply.{Reply}
-use Rattle.mr_replica.specs.declared.event.Reply.TheVariants.{Issued, Done, Vouched}
+use Rattle.mr_replica.specs.declared.event.Reply.TheVariants.{Issued, Done, Asked, Vouched}
 use Rattle.mr_replica.specs.declared.refusal.Refusal.{Refusal}
 use Rattle.mr_replica.specs.declared.refusal.Refusal.TheVariants.{OutOfMemory, TooManyHoles, TooManyItems}
 
@@ -56,10 +59,6 @@ module _ {K : Type 0} (form : Form K) where
   one_first_fault e f (w ∷ ws) (inr x) (inr y) = one_first_fault e f ws x.1 y.1
 
   module _ (s : State K) (event : Event) where
-    late_fault : (e : Refusal) → e ≢ OutOfMemory → RefusesLate form s event e → FirstFault form e (wanted_by form s event)
-    late_fault OutOfMemory ne h = absurd (ne refl)
-    late_fault e ne h = h
-
     -- an issue has one version and leads to one replica
     same_issue : (i : Issue) (v w : Name) (new other : State K) → IsExact form → Issues form s i v event new → Issues form s i w event other → (w ≡ v) × (other ≡ new)
     same_issue i v w new other exact h k =
@@ -71,6 +70,27 @@ module _ {K : Type 0} (form : Form K) where
               ∙ ap (λ (t : K). logged (issuing s t (revision_for s i h.1)) event) knowledge
               ∙ sym h.4,
         )
+
+  -- what a late refusal tells, but that of memory
+  abbrev LateFault : State K → Event → Refusal → Type 0
+  LateFault s Pull e = (e ≡ TooManyHoles) × HasHoleyPart (form.is_part s.knowledge)
+  LateFault s event e = FirstFault form e (wanted_by form s event)
+
+  late_fault : (s : State K) (event : Event) (e : Refusal) → e ≢ OutOfMemory → RefusesLate form s event e → LateFault s event e
+  late_fault s event OutOfMemory ne h = absurd (ne refl)
+  late_fault s Pull TooManyHoles ne h = (refl, h)
+  late_fault s Pull e ne h = absurd h
+  late_fault s event e ne h = h
+
+  one_late_fault : (s : State K) (event : Event) (e f : Refusal) → LateFault s event e → LateFault s event f → e ≡ f
+  one_late_fault s Pull e f h k = h.0 ∙ sym k.0
+  one_late_fault s event e f h k = one_first_fault e f (wanted_by form s event) h k
+
+  -- what is answered has none
+  no_late_fault : (s : State K) (event : Event) (r : Reply) (new : State K) (e : Refusal) → All (Fits form) (wanted_by form s event) → Changes form s event r new → LateFault s event e → ⊥
+  no_late_fault s Pull (Asked ask) new e fits change fault = change.0.few fault.1
+  no_late_fault s Pull r new e fits change fault = change
+  no_late_fault s event r new e fits change fault = no_first_fault e (wanted_by form s event) fits fault
 
   issued_same : (v w : Name) → w ≡ v → (let r : Reply = Issued w in r ≡ Issued v)
   issued_same v w is = ap (λ (u : Name). Issued u) is
@@ -98,6 +118,9 @@ module _ {K : Type 0} (form : Form K) where
   same_change s Retire Done Done new other exact h k = (refl, k ∙ sym h)
   same_change s Retire Done q new other exact h k = absurd k
   same_change s Retire r q new other exact h k = absurd h
+  same_change s Pull (Asked a) (Asked b) new other exact h k = (ap (λ (q : Question). Asked q) (same_ask form s a b h.0 k.0), k.1 ∙ sym h.1)
+  same_change s Pull (Asked a) q new other exact h k = absurd k
+  same_change s Pull r q new other exact h k = absurd h
   same_change s (CutIn session) Done Done new other exact h k = (refl, k ∙ sym h)
   same_change s (CutIn session) Done q new other exact h k = absurd k
   same_change s (CutIn session) r q new other exact h k = absurd h
@@ -112,12 +135,12 @@ module _ {K : Type 0} (form : Form K) where
   answered s event (Ok r) (Ok q) new other exact h k na nb =
       let same = same_change s event r q new other exact h.1 k.1 in
       (ap (λ (x : Reply). Ok x) same.0, same.1)
-  answered s event (Ok r) (Err f) new other exact h k na nb = absurd (no_first_fault f (wanted_by form s event) h.0 (late_fault s event f (λ is. nb (ap (λ (x : Refusal). Err x) is)) k.0))
-  answered s event (Err e) (Ok q) new other exact h k na nb = absurd (no_first_fault e (wanted_by form s event) k.0 (late_fault s event e (λ is. na (ap (λ (x : Refusal). Err x) is)) h.0))
+  answered s event (Ok r) (Err f) new other exact h k na nb = absurd (no_late_fault s event r new f h.0 h.1 (late_fault s event f (λ is. nb (ap (λ (x : Refusal). Err x) is)) k.0))
+  answered s event (Err e) (Ok q) new other exact h k na nb = absurd (no_late_fault s event q other e k.0 k.1 (late_fault s event e (λ is. na (ap (λ (x : Refusal). Err x) is)) h.0))
   answered s event (Err e) (Err f) new other exact h k na nb =
       let late_e = late_fault s event e (λ is. na (ap (λ (x : Refusal). Err x) is)) h.0 in
       let late_f = late_fault s event f (λ is. nb (ap (λ (x : Refusal). Err x) is)) k.0 in
-      (ap (λ (x : Refusal). Err x) (one_first_fault f e (wanted_by form s event) late_f late_e), k.1 ∙ sym h.1)
+      (ap (λ (x : Refusal). Err x) (one_late_fault s event f e late_f late_e), k.1 ∙ sym h.1)
 
   abbrev GoesOn : State K → Event → Option Refusal → Result Reply Refusal → State K → Type 0
   GoesOn s event first answer new = elim first [

@@ -5,6 +5,7 @@ pub mod Staying
 pub mod Keeping
 pub mod Issuing
 pub mod Releasing
+pub mod PullLemmas
 pub mod Answered
 pub mod Decided
 mod Rows

@@ -1,5 +1,5 @@
 -- which receipts are admitted
-use Rattle.std.proofs.Common.{◌≡◌, ◌||◌, Bool, true, false, not, refl, sym, ap, ◌∙◌, List, [], ◌∷◌, Some, None, inl, inr}
+use Rattle.std.proofs.Common.{◌≡◌, ◌||◌, Bool, true, false, refl, sym, ap, ◌∙◌, List, [], ◌∷◌, Some, None, inl, inr}
 use Rattle.std.specs.List.{list_any}
 use Rattle.std.proofs.lemmas.Bool.{cases_Bool}
 use Rattle.mr_version.specs.Name.{Name}

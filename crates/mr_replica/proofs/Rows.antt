@@ -1,5 +1,5 @@
 -- Worked rows: what the definitions of a step say of states that were computed by hand.
-use Rattle.std.proofs.Common.{◌≡◌, ℕ, Bool, true, false, refl, List, [], ◌∷◌, map, Some, None}
+use Rattle.std.proofs.Common.{◌≡◌, arith, ℕ, Bool, true, false, refl, List, [], ◌∷◌, map, Some, None}
 use Rattle.mr_version.specs.Name.{Name}
 use Rattle.mr_forms.specs.Known.{Form}
 use Rattle.mr_concise.specs.declared.vector.AuthorColumn.{AuthorColumn}
@@ -10,18 +10,22 @@ use Rattle.mr_store.specs.Revisions.{version_of, entered, left_by, has_conflict}
 use Rattle.mr_filter.specs.Filter.{ClauseParts}
 use Rattle.mr_session.specs.Table.{empty_table, with_opened}
 use Rattle.mr_session.specs.Session.{new_session}
+use Rattle.mr_wire.specs.Values.{Piece}
+use Rattle.mr_wire.specs.Encoding.{total_len}
 use Rattle.mr_wire.specs.declared.frame.Receipt.{Receipt}
 use Rattle.mr_replica.specs.State.{State}
 use Rattle.mr_replica.specs.Issue.{below_of_issue, version_learned, issuing}
 use Rattle.mr_replica.specs.Contents.{news_of}
 use Rattle.mr_replica.specs.Edit.{edited}
 use Rattle.mr_replica.specs.Retire.{retiring}
+use Rattle.mr_replica.specs.Pull.{IsLongestWithin, pulling}
 use Rattle.mr_replica.specs.CutIn.{cutting_in}
 use Rattle.mr_replica.specs.Vouch.{receipt_for}
 use Rattle.mr_replica.specs.Release.{releasing}
 use Rattle.mr_replica.specs.Step.{first_refusal}
-use Rattle.mr_replica.specs.declared.event.Event.TheVariants.{Edit, Retire, CutIn, CutOut, Vouch, Release}
-use Rattle.mr_replica.specs.declared.refusal.Refusal.TheVariants.{Retired, NoBase, NotHeld, MixedItems, OwnHeadLeft, LogFull, NoSession, NoStream, NotPushedOut, PushOutsLeft}
+use Rattle.mr_replica.specs.declared.event.Event.TheVariants.{Edit, Retire, Pull, CutIn, CutOut, Vouch, Release}
+use Rattle.mr_replica.proofs.PullLemmas.{fits_until}
+use Rattle.mr_replica.specs.declared.refusal.Refusal.TheVariants.{Retired, NoBase, NotHeld, MixedItems, OwnHeadLeft, LogFull, TooManySessions, NoSession, NoStream, NotPushedOut, PushOutsLeft}
 
 abbrev name : ℕ → ℕ → Name
 name author counter = record { author = author; counter = counter }
@@ -207,6 +211,48 @@ one_session_left = refl
 
 no_stream : first_refusal (retiring two_sessions) (CutOut 1) ≡ Some NoStream
 no_stream = refl
+
+-- ---- a pull: eight sessions may be open, and each gets a number of its own
+
+abbrev third_is_open : State (Unit {0})
+third_is_open = pulling (cutting_in two_sessions 2)
+
+third_number : third_is_open.sessions ≡ record { opened = 3; open_ones = (record { number = 1; value = new_session }) ∷ (record { number = 3; value = new_session }) ∷ [] }
+third_number = refl
+
+abbrev eight_sessions : State (Unit {0})
+eight_sessions = pulling (pulling (pulling (pulling (pulling (pulling two_sessions)))))
+
+eighth_is_admitted : first_refusal (cutting_in eight_sessions 8) Pull ≡ None
+eighth_is_admitted = refl
+
+ninth_is_refused : first_refusal eight_sessions Pull ≡ Some TooManySessions
+ninth_is_refused = refl
+
+ninth_at_a_full_log : first_refusal (record eight_sessions { event_limit = 0 }) Pull ≡ Some TooManySessions
+ninth_at_a_full_log = refl
+
+third_at_a_full_log : first_refusal (record two_sessions { event_limit = 0 }) Pull ≡ Some LogFull
+third_at_a_full_log = refl
+
+retired_before_too_many_sessions : first_refusal (retiring eight_sessions) Pull ≡ Some Retired
+retired_before_too_many_sessions = refl
+
+-- of three pieces of 3 bytes two take at most 8 bytes: not three, and not one
+abbrev piece : Piece
+piece = record { items = None; vector = [] }
+
+two_take_six : total_len (piece ∷ piece ∷ []) ≡ 6
+two_take_six = refl
+
+two_fit : IsLongestWithin 8 (piece ∷ piece ∷ piece ∷ []) (piece ∷ piece ∷ [])
+two_fit = fits_until 8 (piece ∷ piece ∷ piece ∷ []) (piece ∷ piece ∷ []) [] piece 2 (record { whole = refl; used = refl }) (omega arith)
+
+three_do_not : ¬ IsLongestWithin 8 (piece ∷ piece ∷ piece ∷ []) (piece ∷ piece ∷ piece ∷ [])
+three_do_not h = let nine : total_len (piece ∷ piece ∷ piece ∷ []) ≡ 9 = refl in omega (arith, nine, h.within)
+
+one_is_not_all : ¬ IsLongestWithin 8 (piece ∷ piece ∷ piece ∷ []) (piece ∷ [])
+one_is_not_all h = let two = h.longest 2 (omega (arith, two_take_six)) in omega (arith, two)
 
 -- ---- receipts: a head is vouched for, a push-out is not
 

@@ -6,6 +6,8 @@ pub mod Issue
 pub mod Create
 pub mod Edit
 pub mod Retire
+pub mod Fragments
+pub mod Pull
 pub mod CutIn
 pub mod CutOut
 pub mod Vouch
@@ -13,4 +15,3 @@ pub mod Release
 pub mod Contents
 pub mod Issued
 pub mod Step
-pub mod Fragments

@@ -3,7 +3,7 @@ use Rattle.std.specs.Prelude.{ℕ, Bool, if◌then◌else◌, Option, Some, None
 use Rattle.mr_forms.specs.declared.fault.FormFault.{FormFault}
 use Rattle.mr_forms.specs.declared.fault.FormFault.TheVariants as fault
 use Rattle.mr_replica.specs.declared.refusal.Refusal.{Refusal}
-use Rattle.mr_replica.specs.declared.refusal.Refusal.TheVariants.{OutOfMemory, Retired, NoBase, NotHeld, MixedItems, OwnHeadLeft, TooManyHoles, TooManyItems, LogFull, NoSession, NoStream, NotPushedOut, PushOutsLeft}
+use Rattle.mr_replica.specs.declared.refusal.Refusal.TheVariants.{OutOfMemory, Retired, NoBase, NotHeld, MixedItems, OwnHeadLeft, TooManyHoles, TooManyItems, LogFull, TooManySessions, NoSession, NoStream, NotPushedOut, PushOutsLeft}
 
 -- the number by which a host knows the refusal
 abbrev pub refusal_number : Refusal → ℕ
@@ -16,6 +16,7 @@ refusal_number (OwnHeadLeft version) = 5
 refusal_number TooManyHoles = 6
 refusal_number TooManyItems = 7
 refusal_number LogFull = 8
+refusal_number TooManySessions = 9
 refusal_number NoSession = 12
 refusal_number NoStream = 18
 refusal_number NotPushedOut = 20
@@ -32,6 +33,7 @@ refusal_name (OwnHeadLeft version) = codes "OwnHeadLeft"
 refusal_name TooManyHoles = codes "TooManyHoles"
 refusal_name TooManyItems = codes "TooManyItems"
 refusal_name LogFull = codes "LogFull"
+refusal_name TooManySessions = codes "TooManySessions"
 refusal_name NoSession = codes "NoSession"
 refusal_name NoStream = codes "NoStream"
 refusal_name NotPushedOut = codes "NotPushedOut"

@@ -6,16 +6,18 @@ use Rattle.mr_replica.specs.Issue.{Wanted, wanted_by_issue, Fits, FirstFault, Is
 use Rattle.mr_replica.specs.Create.{create_refusal, created}
 use Rattle.mr_replica.specs.Edit.{edit_refusal, edited}
 use Rattle.mr_replica.specs.Retire.{retire_refusal, retiring}
+use Rattle.mr_replica.specs.Fragments.{HasHoleyPart}
+use Rattle.mr_replica.specs.Pull.{pull_refusal, IsAskOf, pulling}
 use Rattle.mr_replica.specs.CutIn.{cut_in_refusal, cutting_in}
 use Rattle.mr_replica.specs.CutOut.{cut_out_refusal, cutting_out}
 use Rattle.mr_replica.specs.Vouch.{vouch_refusal, IsReceiptFor}
 use Rattle.mr_replica.specs.Release.{release_refusal, releasing}
 use Rattle.mr_replica.specs.declared.event.Event.{Event}
-use Rattle.mr_replica.specs.declared.event.Event.TheVariants.{Create, Edit, Retire, CutIn, CutOut, Vouch, Release}
+use Rattle.mr_replica.specs.declared.event.Event.TheVariants.{Create, Edit, Retire, Pull, CutIn, CutOut, Vouch, Release}
 use Rattle.mr_replica.specs.declared.event.Reply.{Reply}
-use Rattle.mr_replica.specs.declared.event.Reply.TheVariants.{Issued, Done, Vouched}
+use Rattle.mr_replica.specs.declared.event.Reply.TheVariants.{Issued, Done, Asked, Vouched}
 use Rattle.mr_replica.specs.declared.refusal.Refusal.{Refusal}
-use Rattle.mr_replica.specs.declared.refusal.Refusal.TheVariants.{OutOfMemory}
+use Rattle.mr_replica.specs.declared.refusal.Refusal.TheVariants.{OutOfMemory, TooManyHoles}
 
 module _ {K : Type 0} where
   -- The first refusal whose case holds. Those of forms and of memory come after it.
@@ -23,6 +25,7 @@ module _ {K : Type 0} where
   first_refusal s (Create message) = create_refusal s
   first_refusal s (Edit bases message) = edit_refusal s bases
   first_refusal s Retire = retire_refusal s
+  first_refusal s Pull = pull_refusal s
   first_refusal s (CutIn session) = cut_in_refusal s session
   first_refusal s (CutOut stream) = cut_out_refusal s stream
   first_refusal s (Vouch version) = vouch_refusal s version
@@ -39,15 +42,17 @@ module _ {K : Type 0} where
   Changes form s (Create message) (Issued v) new = Issues form s (created s message) v (Create message) new
   Changes form s (Edit bases message) (Issued v) new = Issues form s (edited s bases message) v (Edit bases message) new
   Changes form s Retire Done new = new ≡ logged (retiring s) Retire
+  Changes form s Pull (Asked ask) new = IsAskOf form s ask × (new ≡ logged (pulling s) Pull)
   Changes form s (CutIn session) Done new = new ≡ logged (cutting_in s session) (CutIn session)
   Changes form s (CutOut stream) Done new = new ≡ logged (cutting_out s stream) (CutOut stream)
   Changes form s (Vouch version) (Vouched receipt) new = IsReceiptFor s version receipt × (new ≡ logged s (Vouch version))
   Changes form s (Release receipt) Done new = new ≡ logged (releasing s receipt) (Release receipt)
   Changes form s event reply new = ⊥
 
-  -- A refusal of the forms, or last of all memory.
+  -- A refusal of the forms, or last of all memory; but where a knowledge is put into vectors, memory may come in place of a part that has none.
   abbrev pub RefusesLate : Form K → State K → Event → Refusal → Type 0
   RefusesLate form s event OutOfMemory = All (Fits form) (wanted_by form s event)
+  RefusesLate form s Pull TooManyHoles = HasHoleyPart (form.is_part s.knowledge)
   RefusesLate form s event e = FirstFault form e (wanted_by form s event)
 
   abbrev pub Answers : Form K → State K → Event → Result Reply Refusal → State K → Type 0

@@ -4,7 +4,7 @@ ghost use Rattle.std.specs.Prelude.{◌≡◌, IfOk};
 use crate::copies::copied_receipt;
 use mr_mail::Message;
 use mr_version::Version;
-use mr_wire::Receipt;
+use mr_wire::{Ask, Receipt};
 use std::alloc::AllocError;
 use std::marker::Model;
 
@@ -61,6 +61,8 @@ pub enum Event {
     Edit(Bases, Message),
     /// Admit nothing more but to tell others.
     Retire,
+    /// Open a session, and ask in it for what the replica lacks.
+    Pull,
     /// Close the session of this number. What was taken in it stays.
     CutIn(u64),
     /// Close the stream of this number.
@@ -80,6 +82,7 @@ impl Event {
             Event::Create(message) => Ok(Event::Create(message.copy()?)),
             Event::Edit(bases, message) => Ok(Event::Edit(bases.copy()?, message.copy()?)),
             Event::Retire => Ok(Event::Retire),
+            Event::Pull => Ok(Event::Pull),
             Event::CutIn(session) => Ok(Event::CutIn(*session)),
             Event::CutOut(stream) => Ok(Event::CutOut(*stream)),
             Event::Vouch(version) => Ok(Event::Vouch(*version)),
@@ -95,6 +98,8 @@ pub enum Reply {
     Issued(Version),
     /// It is done: the replica has retired, a session or a stream is closed, or push-outs were let go.
     Done,
+    /// The request of the session that was opened by a Pull.
+    Asked(Ask),
     /// The receipt that was asked for by a Vouch.
     Vouched(Receipt),
 }

@@ -31,6 +31,8 @@ pub enum Refusal {
     TooManyItems,
     #[error("the log is full")]
     LogFull,
+    #[error("eight sessions are open")]
+    TooManySessions,
     #[error("no session of that number is open")]
     NoSession,
     #[error("no stream of that number is open")]
@@ -58,6 +60,7 @@ impl Refusal {
             Refusal::TooManyHoles => 6,
             Refusal::TooManyItems => 7,
             Refusal::LogFull => 8,
+            Refusal::TooManySessions => 9,
             Refusal::NoSession => 12,
             Refusal::NoStream => 18,
             Refusal::NotPushedOut => 20,
@@ -79,6 +82,7 @@ impl Refusal {
             Refusal::TooManyHoles => "TooManyHoles",
             Refusal::TooManyItems => "TooManyItems",
             Refusal::LogFull => "LogFull",
+            Refusal::TooManySessions => "TooManySessions",
             Refusal::NoSession => "NoSession",
             Refusal::NoStream => "NoStream",
             Refusal::NotPushedOut => "NotPushedOut",

@@ -9,6 +9,7 @@ mod cut_in;
 mod cut_out;
 mod edit;
 mod issue;
+mod pull;
 mod release;
 mod retire;
 mod step;

@@ -1,21 +1,14 @@
-use Rattle.std.proofs.Common.{◌≡◌, ◌<◌, ◌≤◌, ◌^◌, ℕ, zero, suc, List, length, get_or, Result, Ok, Err, IfSome, sym, arith}
+use Rattle.std.proofs.Common.{◌≡◌, ◌≤◌, ℕ, List, length, Result, Ok, Err, IfSome, sym, arith}
 use Rattle.std.specs.Result.{result_ok}
-use Rattle.std.proofs.lemmas.Fmt.{decimal_digit, first_decimal, decimal-digits_value}
+use Rattle.std.proofs.lemmas.Fmt.{decimal-digits_value}
 use Rattle.std.proofs.lemmas.Str.Parse.{IsNumeralModel, numerals_by_value, tells_digits, parse_plain}
 use Rattle.std.specs.Fmt.{decimal}
 use Rattle.std.specs.Str.Parse.{AllDigits, ParsesUnsigned, digits_value}
-use Rattle.mr_script.specs.Number.{IsPlain}
+use Rattle.mr_version.specs.Number.{IsPlain}
 
 -- digits, and what they are worth
 numerals : IsNumeralModel (AllDigits 10) (digits_value 10)
 numerals = numerals_by_value (AllDigits 10) tells_digits
-
--- a number is written plainly
-pub IsPlain-decimal : (n : ℕ) → n < 2 ^ 64 → IsPlain (decimal n)
-IsPlain-decimal zero small = rw (decimal_digit 0 (omega arith)) (record { no_sign = λ e. omega arith; no_zeros = λ _. omega arith })
-IsPlain-decimal (suc n) small =
-    let first : 48 < get_or (decimal (suc n)) 0 0 = first_decimal (suc n) (omega arith) small in
-    record { no_sign = λ e. omega arith; no_zeros = λ e. omega arith }
 
 -- what is read of a plain text is the number that is so written
 pub decimal-parse : {E : Type 0} (text : List ℕ) (r : Result ℕ E) → ParsesUnsigned 64 10 text r → IsPlain text → IfSome (result_ok r) (λ n. text ≡ decimal n)

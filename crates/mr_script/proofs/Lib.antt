@@ -9,3 +9,5 @@ pub mod Readings
 pub mod RunLemmas
 pub mod SoFar
 pub mod WordLemmas
+mod FrameLemmas
+mod FrameRows

@@ -1,5 +1,5 @@
 -- which command a line's words are, or which fault they have
-use Rattle.std.specs.Prelude.{◌≡◌, ℕ, nat_eq, nat_le, Bool, not, ◌&&◌, if◌then◌else◌, List, [], ◌∷◌, drop, Option, None, Ok, Err, ◌⊎◌, IsSomeAnd, codes}
+use Rattle.std.specs.Prelude.{◌≡◌, ℕ, nat_eq, nat_le, Bool, ◌&&◌, if◌then◌else◌, List, [], ◌∷◌, drop, Option, None, Ok, Err, ◌⊎◌, IsSomeAnd, codes}
 use Rattle.std.specs.List.{starts_with}
 use Rattle.mr_version.specs.Name.{Name}
 use Rattle.mr_mail.specs.Admits.{first_fault}
@@ -15,7 +15,7 @@ use Rattle.mr_filter.specs.declared.fault.FilterFault.{FilterFault}
 use Rattle.mr_script.specs.declared.command.Command.{Command}
 use Rattle.mr_script.specs.declared.command.Command.TheVariants.{AddReplica, Give, Heads, PushOuts, Conflicts, Feed, Log, Know, Show}
 use Rattle.mr_script.specs.declared.fault.LineFault.{LineFault}
-use Rattle.mr_script.specs.declared.fault.LineFault.TheVariants.{UnknownCommand, WrongWords, BadNumber, BadVersion, BadDate, BadFlags, LateReplica, SameReplica, BadLimit, BadCapacity, NoSuchReplica, OutOfMemory}
+use Rattle.mr_script.specs.declared.fault.LineFault.TheVariants.{UnknownCommand, WrongWords, BadNumber, BadVersion, BadDate, BadFlags, BadLimit, BadCapacity, NoSuchReplica, OutOfMemory}
 use Rattle.mr_script.specs.Fault.{fault_of_message, fault_of_filter}
 use Rattle.mr_script.specs.List.{pieces_of, NamesFlags, SpellsVersion, JoinsVersions}
 use Rattle.mr_script.specs.Number.{SpellsNumber, SpellsId}
@@ -28,8 +28,6 @@ pub record Scene : Type 0 where
   pub has : ℕ → Bool
   -- there may be one replica more
   pub has_room : Bool
-  -- no line yet asked for anything but a replica
-  pub is_opening : Bool
 
 -- ---- messages
 
@@ -102,34 +100,26 @@ abbrev pub reads_filter : List ℕ → Reading (List ClauseParts)
 reads_filter text (Ok filter) = Reads text filter
 reads_filter text (Err fault) = (f : FilterFault) × IsFaultOf text f × (fault ≡ fault_of_filter f)
 
+-- ---- commands: the number of words first, then each of them from left to right
+
+-- a replica's id, limit, capacity and filter, each in its turn
+abbrev pub reads_opening_words : (id limit capacity filter : List ℕ) → Reading Command
+reads_opening_words id limit capacity filter =
+    names SpellsId BadNumber id andthen λ id.
+    reads_up_to 1000000 BadLimit limit andthen λ limit.
+    reads_up_to 4096 BadCapacity capacity andthen λ capacity.
+    reads_filter filter andthen λ filter.
+    gives (AddReplica id limit capacity filter)
+
+-- `ID LIMIT CAP FILTER`, of which FILTER is the rest
+abbrev pub reads_opening : List (List ℕ) → Reading Command
+reads_opening (id ∷ limit ∷ capacity ∷ f ∷ filter) = reads_opening_words id limit capacity (unwords (f ∷ filter))
+reads_opening args = fails WrongWords
+
 module _ (scene : Scene) where
   -- the id of a replica that is there
   abbrev pub reads_replica : List ℕ → Reading ℕ
   reads_replica word = names SpellsId BadNumber word andthen λ id. gives_if (scene.has id) NoSuchReplica id
-
-  -- the id of one that is not there yet
-  abbrev pub reads_new_id : List ℕ → Reading ℕ
-  reads_new_id word = names SpellsId BadNumber word andthen λ id. gives_if (not (scene.has id)) SameReplica id
-
-  -- a replica comes before all else
-  abbrev pub reads_first_id : List ℕ → Reading ℕ
-  reads_first_id word = choose scene.is_opening (reads_new_id word) (fails LateReplica)
-
-  -- ---- commands: the number of words first, then each of them from left to right
-
-  -- these four texts, each in its turn
-  abbrev pub reads_opening_words : (id limit capacity filter : List ℕ) → Reading Command
-  reads_opening_words id limit capacity filter =
-      reads_first_id id andthen λ id.
-      reads_up_to 1000000 BadLimit limit andthen λ limit.
-      reads_up_to 4096 BadCapacity capacity andthen λ capacity.
-      reads_filter filter andthen λ filter.
-      gives (AddReplica id limit capacity filter)
-
-  -- `ID LIMIT CAP FILTER`, of which FILTER is the rest
-  abbrev pub reads_opening : List (List ℕ) → Reading Command
-  reads_opening (id ∷ limit ∷ capacity ∷ f ∷ filter) = reads_opening_words id limit capacity (unwords (f ∷ filter))
-  reads_opening args = fails WrongWords
 
   -- another replica than those that there may be is no command
   abbrev pub reads_add : List (List ℕ) → Reading Command

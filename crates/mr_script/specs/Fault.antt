@@ -1,5 +1,7 @@
 -- faults of a line
 use Rattle.std.specs.Prelude.{ℕ, ◌≤◌, ⊤}
+use Rattle.std.specs.declared.io.ErrorKind.{ErrorKind}
+use Rattle.std.specs.declared.io.ErrorKind.TheVariants as kinds
 use Rattle.mr_mail.specs.Fault.{fault_number}
 use Rattle.mr_mail.specs.declared.fault.MessageFault.{MessageFault}
 use Rattle.mr_mail.specs.declared.fault.MessageFault.TheVariants.{OutOfMemory as NoMemory}
@@ -12,7 +14,7 @@ use Rattle.mr_script.specs.declared.fault.ScriptFault.TheVariants.{Line, Read, W
 use Rattle.mr_script.specs.declared.source.SourceFault.{SourceFault}
 use Rattle.mr_script.specs.declared.source.SourceFault.TheVariants as source
 
--- how a script tells that words make no message: want of memory as such, all else by its number
+-- how a script tells that words make no message: out of memory as such, all else by its number
 abbrev pub fault_of_message : MessageFault → LineFault
 fault_of_message NoMemory = OutOfMemory
 fault_of_message fault = MessageRefused (fault_number fault)
@@ -23,6 +25,11 @@ fault_of_filter filters.OutOfMemory = OutOfMemory
 fault_of_filter (filters.BadFilter place) = BadFilter place
 fault_of_filter filters.TooManyClauses = TooManyClauses
 fault_of_filter filters.TooManyLabels = TooManyLabels
+
+-- why a reader's error of this kind keeps the next line away
+abbrev pub fault_of_kind : ErrorKind → SourceFault
+fault_of_kind kinds.OutOfMemory = source.OutOfMemory
+fault_of_kind kind = source.Read
 
 -- what ends a script whose line of this number can't be had
 abbrev pub fault_of_source : ℕ → SourceFault → ScriptFault

@@ -1,6 +1,7 @@
 pub mod Answer
 pub mod Command
 pub mod Fault
+pub mod Frame
 pub mod List
 pub mod Number
 pub mod Reading

@@ -1,11 +1,6 @@
 -- numbers as a script writes them
-use Rattle.std.specs.Prelude.{◌≡◌, ◌≢◌, ◌≤◌, ◌<◌, ◌^◌, ℕ, List, length, slice_index}
+use Rattle.std.specs.Prelude.{◌≡◌, ◌<◌, ◌^◌, ℕ, List}
 use Rattle.std.specs.Fmt.{decimal}
-
--- no sign in front, and no leading zero
-pub record IsPlain (text : List ℕ) : Type 0 where
-  pub no_sign : slice_index text 0 ≢ 43
-  pub no_zeros : slice_index text 0 ≡ 48 → length text ≤ 1
 
 -- the word is this number's decimal text
 pub record SpellsNumber (word : List ℕ) (n : ℕ) : Type 0 where

@@ -33,7 +33,7 @@ abbrev pub names : {X : Type 0} → (List ℕ → X → Type 0) → LineFault �
 names Names fault word (Ok x) = Names word x
 names Names fault word (Err e) = (e ≡ fault) × NamesNone Names word
 
--- a reading that takes memory, which may be wanting
+-- a reading that takes memory, and may be out of it
 abbrev pub if_memory : {X : Type 0} → Reading X → Reading X
 if_memory reads result = (result ≡ Err OutOfMemory) ⊎ reads result
 

@@ -30,7 +30,7 @@ Breaks number fault = (fault ≡ Read) ⊎ (fault ≡ Line number OutOfMemory)
 
 -- no replica yet
 abbrev pub bare : {K : Type 0} → Stage K
-bare = record { replicas = []; is_opening = true }
+bare = record { replicas = [] }
 
 module _ {K : Type 0} (form : Form K) where
   -- a line of text is skipped, or it is read as a command and that is done
@@ -47,7 +47,7 @@ module _ {K : Type 0} (form : Form K) where
   pub data Runs : Stage K → (number room : ℕ) → (lines : List (List ℕ)) → (end : Option ScriptFault) → (output : List ℕ) → Type 0 where
     -- no line is left
     all_run : {s : Stage K} {number room : ℕ} → Runs s number room [] None []
-    -- the reader fails, or memory is wanting
+    -- the reader fails, or there is no memory
     breaks : {s : Stage K} {number room : ℕ} {lines : List (List ℕ)} {fault : ScriptFault} → Breaks number fault → Runs s number room lines (Some fault) []
     -- the next line ends past the greatest length
     too_long : {s : Stage K} {number room : ℕ} {line : List ℕ} {lines : List (List ℕ)} → room < length line → Runs s number room (line ∷ lines) (Some TooLong) []

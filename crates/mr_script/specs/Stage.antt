@@ -27,10 +27,9 @@ use Rattle.mr_script.specs.Answer.{reply_text, refused_text, heads_text, push_ou
 use Rattle.mr_script.specs.Command.{Scene}
 use Rattle.mr_script.specs.Reading.{Reading}
 
--- the replicas with their ids, in the order of the ids, and whether no line yet asked for anything but a replica
+-- the replicas with their ids, in the order of the ids
 pub record Stage (K : Type 0) : Type 0 where
   pub replicas : List (ℕ × State K)
-  pub is_opening : Bool
 
 -- whether a list is empty
 abbrev pub is_nil : {X : Type 0} → List X → Bool
@@ -42,11 +41,11 @@ abbrev pub text_of : Result (String Global) LineFault → Result (List ℕ) Line
 text_of (Ok text) = Ok (string_bytes text)
 text_of (Err fault) = Err fault
 
--- the text, unless memory is wanting
+-- the text, or out of memory
 abbrev pub tells : List ℕ → Reading (List ℕ)
 tells text result = (result ≡ Ok text) ⊎ (result ≡ Err OutOfMemory)
 
--- what is printed of a replica's answer: want of memory is no answer
+-- what is printed of a replica's answer: that it is out of memory is no answer
 abbrev pub tells_answer : Result Reply Refusal → Reading (List ℕ)
 tells_answer (Ok reply) result = tells (reply_text reply) result
 tells_answer (Err NoMemory) result = result ≡ Err OutOfMemory
@@ -82,15 +81,11 @@ module _ {K : Type 0} where
 
   -- what the words of a line are read by; there is one replica at most so far
   abbrev pub scene_of : Stage K → Scene
-  scene_of s = record { has = λ id. is_some (replica_at s id); has_room = is_nil s.replicas; is_opening = s.is_opening }
-
-  -- a command other than that which makes a replica was given
-  abbrev pub opened : Stage K → Stage K
-  opened s = record s { is_opening = false }
+  scene_of s = record { has = λ id. is_some (replica_at s id); has_room = is_nil s.replicas }
 
   -- the replica of this id is now so
   abbrev pub with_replica : Stage K → ℕ → State K → Stage K
-  with_replica s id state = record s { replicas = set_value (is_at (nat_cmp id)) s.replicas state }
+  with_replica s id state = record { replicas = set_value (is_at (nat_cmp id)) s.replicas state }
 
   -- a replica with nothing in it, which knows nothing
   abbrev pub IsFresh : Form K → ℕ → List ClauseParts → ℕ → State K → Type 0
@@ -112,18 +107,18 @@ module _ {K : Type 0} where
   -- a replica is made
   abbrev pub Makes : Form K → Stage K → ℕ → ℕ → List ClauseParts → Result (List ℕ) LineFault → Stage K → Type 0
   Makes form s id limit filter (Ok text) new =
-      (text ≡ []) × ((state : State K) × IsFresh form id filter limit state × (new ≡ record s { replicas = insert_entry nat_cmp s.replicas id state }))
+      (text ≡ []) × ((state : State K) × IsFresh form id filter limit state × (new ≡ record { replicas = insert_entry nat_cmp s.replicas id state }))
   Makes form s id limit filter (Err fault) new = (fault ≡ OutOfMemory) ⊎ ((fault ≡ BadLimit) × ¬ ((1 ≤ limit) × (limit ≤ 1000000)))
 
   -- From s, the command prints the text, and what is there goes on to new.
   abbrev pub Does : Form K → Stage K → Command → Result (List ℕ) LineFault → Stage K → Type 0
   Does form s (AddReplica id limit capacity filter) result new = Makes form s id limit filter result new
   Does form s (Give id event) result new =
-      at_replica (replica_at s id) (λ state r. (after : State K) × Takes form state event r after × (new ≡ with_replica (opened s) id after)) result
-  Does form s (Heads id) result new = at_replica (replica_at s id) (λ state r. tells (heads_text id state.heads) r × (new ≡ opened s)) result
-  Does form s (PushOuts id) result new = at_replica (replica_at s id) (λ state r. tells (push_outs_text id state.push_outs) r × (new ≡ opened s)) result
-  Does form s (Conflicts id) result new = at_replica (replica_at s id) (λ state r. tells_conflicts id state.heads r × (new ≡ opened s)) result
-  Does form s (Feed id) result new = at_replica (replica_at s id) (λ state r. tells (feed_text id state.feed) r × (new ≡ opened s)) result
-  Does form s (Log id) result new = at_replica (replica_at s id) (λ state r. tells (log_text id (length state.log)) r × (new ≡ opened s)) result
-  Does form s (Know id) result new = at_replica (replica_at s id) (λ state r. tells_known id (form.known state.knowledge) (form.is_part state.knowledge) r × (new ≡ opened s)) result
-  Does form s (Show id v) result new = at_replica (replica_at s id) (λ state r. tells_held (held state v) r × (new ≡ opened s)) result
+      at_replica (replica_at s id) (λ state r. (after : State K) × Takes form state event r after × (new ≡ with_replica s id after)) result
+  Does form s (Heads id) result new = at_replica (replica_at s id) (λ state r. tells (heads_text id state.heads) r × (new ≡ s)) result
+  Does form s (PushOuts id) result new = at_replica (replica_at s id) (λ state r. tells (push_outs_text id state.push_outs) r × (new ≡ s)) result
+  Does form s (Conflicts id) result new = at_replica (replica_at s id) (λ state r. tells_conflicts id state.heads r × (new ≡ s)) result
+  Does form s (Feed id) result new = at_replica (replica_at s id) (λ state r. tells (feed_text id state.feed) r × (new ≡ s)) result
+  Does form s (Log id) result new = at_replica (replica_at s id) (λ state r. tells (log_text id (length state.log)) r × (new ≡ s)) result
+  Does form s (Know id) result new = at_replica (replica_at s id) (λ state r. tells_known id (form.known state.knowledge) (form.is_part state.knowledge) r × (new ≡ s)) result
+  Does form s (Show id v) result new = at_replica (replica_at s id) (λ state r. tells_held (held state v) r × (new ≡ s)) result

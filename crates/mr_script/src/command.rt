@@ -1,7 +1,7 @@
 //! Commands: what a line asks for.
 ghost use Rattle.std.specs.Prelude.{◌≡◌};
 ghost use Rattle.mr_mail.specs.Day.{Spells};
-ghost use Rattle.mr_script.specs.Command.{Scene, subject_of, body_of, takes_parts, reads_message, makes, reads_up_to, reads_filter, reads_replica, reads_new_id, reads_first_id, reads_opening_words, reads_opening, reads_add, reads_create, reads_edit, reads_only_replica, reads_show, reads_args, reads_command};
+ghost use Rattle.mr_script.specs.Command.{Scene, subject_of, body_of, takes_parts, reads_message, makes, reads_up_to, reads_filter, reads_replica, reads_opening_words, reads_opening, reads_add, reads_create, reads_edit, reads_only_replica, reads_show, reads_args, reads_command};
 ghost use Rattle.mr_script.specs.Reading.{names};
 
 use crate::LineFault;
@@ -84,16 +84,12 @@ pub(crate) trait Roster {
     /// Whether a script that has come so far may have one replica more. Today it has only one.
     fn has_room(&self) -> bool
         ensures { result ≡ (scene self.now).has_room };
-
-    /// Whether no line yet asked for anything but a replica.
-    fn is_opening(&self) -> bool
-        ensures { result ≡ (scene self.now).is_opening };
 }
 
 impl Command {
     /// The command that the line is. The first of these faults is answered: `UnknownCommand`,
     /// `WrongWords`, the faults of its words from left to right, and `MessageRefused`; `OutOfMemory`
-    /// wherever memory is wanting.
+    /// wherever there is no memory.
     pub(crate) fn read<R: Roster>(
         alloc: Global,
         line: &str,
@@ -152,40 +148,35 @@ fn read_add_replica<R: Roster>(
     ensures { reads_add (R.scene roster.now) words.entry result }
 {
     if roster.has_room() {
-        read_opening(alloc, words, roster)
+        read_opening(alloc, words)
     } else {
         Err(LineFault::UnknownCommand)
     }
 }
 
 /// `ID LIMIT CAP FILTER`
-fn read_opening<R: Roster>(
-    alloc: Global,
-    mut words: Words,
-    roster: &R,
-) -> Result<Command, LineFault>
-    ensures { reads_opening (R.scene roster.now) words.entry result }
+fn read_opening(alloc: Global, mut words: Words) -> Result<Command, LineFault>
+    ensures { reads_opening words.entry result }
 {
     let id = words.next_word()?;
     let limit = words.next_word()?;
     let capacity = words.next_word()?;
     let filter = words.text()?;
-    read_opening_words(alloc, id, limit, capacity, filter, roster)
+    read_opening_words(alloc, id, limit, capacity, filter)
 }
 
 /// `ID LIMIT CAP FILTER`, once each has its words.
-fn read_opening_words<R: Roster>(
+fn read_opening_words(
     alloc: Global,
     id: &str,
     limit: &str,
     capacity: &str,
     filter: &str,
-    roster: &R,
 ) -> Result<Command, LineFault>
-    ensures { reads_opening_words (R.scene roster.now) id.now limit.now capacity.now filter.now result }
+    ensures { reads_opening_words id.now limit.now capacity.now filter.now result }
 {
     Ok(Command::AddReplica {
-        id: read_first_id(id, roster)?,
+        id: read_id(id)?,
         event_limit: read_up_to(limit, MAX_EVENTS, LineFault::BadLimit)?,
         capacity: read_up_to(capacity, MAX_CAPACITY, LineFault::BadCapacity)?,
         filter: read_filter(alloc, filter)?,
@@ -253,29 +244,6 @@ fn read_replica<R: Roster>(word: &str, roster: &R) -> Result<Author, LineFault>
         Ok(id)
     } else {
         Err(LineFault::NoSuchReplica)
-    }
-}
-
-/// The id of a replica that comes before all else. `LateReplica`, `BadNumber`, `SameReplica`.
-fn read_first_id<R: Roster>(word: &str, roster: &R) -> Result<Author, LineFault>
-    ensures { reads_first_id (R.scene roster.now) word.now result }
-{
-    if roster.is_opening() {
-        read_new_id(word, roster)
-    } else {
-        Err(LineFault::LateReplica)
-    }
-}
-
-/// The id of a replica that is not there yet. `BadNumber`, `SameReplica`.
-fn read_new_id<R: Roster>(word: &str, roster: &R) -> Result<Author, LineFault>
-    ensures { reads_new_id (R.scene roster.now) word.now result }
-{
-    let id = read_id(word)?;
-    if roster.has(id) {
-        Err(LineFault::SameReplica)
-    } else {
-        Ok(id)
     }
 }
 

@@ -45,12 +45,6 @@ pub enum LineFault {
     /// `MessageFault`.
     #[error("message refused {number}")]
     MessageRefused { number: u8 },
-    /// A `replica` line comes after another command.
-    #[error("replica after the first event")]
-    LateReplica,
-    /// There is a replica of this id already.
-    #[error("same replica")]
-    SameReplica,
     /// An event limit is outside 1 to 1,000,000.
     #[error("bad limit")]
     BadLimit,
@@ -98,7 +92,7 @@ impl<T: Drop> From<AllocFailed<T>> for LineFault {
     }
 }
 
-/// A message's fault but for want of memory is told by its number.
+/// A message's fault is told by its number, but for `OutOfMemory`, which is told as it is.
 impl From<MessageFault> for LineFault {
     ghost from_gives = { λ error fault. fault ≡ fault_of_message error };
 

@@ -14,11 +14,15 @@
 //!
 //! A replica's refusal is an answer like any other. A line that can't be read as a command ends the
 //! script with a fault that names the line; what the lines before it printed stands.
+//!
+//! [`frame_text`] is no part of a script: it tells in a line what the bytes of a frame say.
 #![tactic(auto)]
 
 mod answer;
 mod command;
 mod fault;
+mod frame;
+mod frame_line;
 mod lists;
 mod number;
 mod output;
@@ -28,4 +32,5 @@ mod source;
 mod words;
 
 pub use fault::{LineFault, ScriptFault};
+pub use frame::{FrameText, frame_text};
 pub use script::run_script;

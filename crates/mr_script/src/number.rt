@@ -1,7 +1,8 @@
 //! Numbers: decimal, without leading zeros.
 ghost use Rattle.std.specs.Prelude.{◌≡◌, ◌<◌, ◌^◌, ◌↔◌, ℕ, Some, IsTrue, IfSome};
 ghost use Rattle.std.specs.Fmt.{decimal};
-ghost use Rattle.mr_script.specs.Number.{IsPlain, SpellsNumber, SpellsId};
+ghost use Rattle.mr_version.specs.Number.{IsPlain};
+ghost use Rattle.mr_script.specs.Number.{SpellsNumber, SpellsId};
 ghost use Rattle.mr_script.specs.Reading.{names};
 
 use crate::LineFault;

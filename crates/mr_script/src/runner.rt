@@ -1,5 +1,5 @@
 //! The replicas of a script, and what its commands do to them.
-ghost use Rattle.std.specs.Prelude.{◌≡◌, [], true, Some, None, MatchResult};
+ghost use Rattle.std.specs.Prelude.{◌≡◌, [], Some, None, MatchResult};
 ghost use Rattle.mr_itemset.specs.ItemForm.{item_form, IsNormalPart};
 ghost use Rattle.mr_itemset.specs.Normal.{normal_known};
 ghost use Rattle.mr_replica.specs.State.{held};
@@ -25,7 +25,6 @@ use std::marker::Model;
 pub(crate) struct Runner {
     alloc: Global,
     replicas: BTreeMap<Author, Replica<ItemKnowledge>>,
-    is_opening: bool,
 }
 
 impl Model for Runner {
@@ -34,7 +33,7 @@ impl Model for Runner {
 
     ghost Value = { Stage Normal };
 
-    ghost view = { λ r. record { replicas = r.replicas.entries; is_opening = r.is_opening } };
+    ghost view = { λ r. record { replicas = r.replicas.entries } };
 }
 
 impl Roster for Runner {
@@ -49,21 +48,16 @@ impl Roster for Runner {
     fn has_room(&self) -> bool {
         self.replicas.is_empty()
     }
-
-    fn is_opening(&self) -> bool {
-        self.is_opening
-    }
 }
 
 impl Runner {
     /// No replica yet.
     pub(crate) fn new(alloc: Global) -> Runner
-        ensures { result ≡ record { replicas = []; is_opening = true } }
+        ensures { result ≡ record { replicas = [] } }
     {
         Runner {
             alloc,
             replicas: BTreeMap::new(alloc),
-            is_opening: true,
         }
     }
 
@@ -109,7 +103,6 @@ impl Runner {
     fn give(&mut self, id: Author, event: Event) -> Result<String, LineFault>
         ensures { Does item_form self.old (Command.Give id event) (text_of result) self.new }
     {
-        self.is_opening = false;
         match self.replicas.get_mut(&id) {
             Some(replica) => step(self.alloc, replica, event),
             None => Err(LineFault::NoSuchReplica),
@@ -127,60 +120,46 @@ impl Runner {
         }
     }
 
-    fn heads(&mut self, id: Author) -> Result<String, LineFault>
-        ensures { Does item_form self.old (Command.Heads id) (text_of result) self.new }
+    fn heads(&self, id: Author) -> Result<String, LineFault>
+        ensures { Does item_form self.now (Command.Heads id) (text_of result) self.now }
     {
-        self.is_opening = false;
-        let alloc = self.alloc;
-        Ok(heads_line(alloc, id, self.replica(id)?.heads())?)
+        Ok(heads_line(self.alloc, id, self.replica(id)?.heads())?)
     }
 
-    fn push_outs(&mut self, id: Author) -> Result<String, LineFault>
-        ensures { Does item_form self.old (Command.PushOuts id) (text_of result) self.new }
+    fn push_outs(&self, id: Author) -> Result<String, LineFault>
+        ensures { Does item_form self.now (Command.PushOuts id) (text_of result) self.now }
     {
-        self.is_opening = false;
-        let alloc = self.alloc;
-        Ok(push_outs_line(alloc, id, self.replica(id)?.push_outs())?)
+        Ok(push_outs_line(self.alloc, id, self.replica(id)?.push_outs())?)
     }
 
-    fn conflicts(&mut self, id: Author) -> Result<String, LineFault>
-        ensures { Does item_form self.old (Command.Conflicts id) (text_of result) self.new }
+    fn conflicts(&self, id: Author) -> Result<String, LineFault>
+        ensures { Does item_form self.now (Command.Conflicts id) (text_of result) self.now }
     {
-        self.is_opening = false;
-        let alloc = self.alloc;
-        several_line(alloc, id, self.replica(id)?)
+        several_line(self.alloc, id, self.replica(id)?)
     }
 
-    fn feed(&mut self, id: Author) -> Result<String, LineFault>
-        ensures { Does item_form self.old (Command.Feed id) (text_of result) self.new }
+    fn feed(&self, id: Author) -> Result<String, LineFault>
+        ensures { Does item_form self.now (Command.Feed id) (text_of result) self.now }
     {
-        self.is_opening = false;
-        let alloc = self.alloc;
-        Ok(feed_line(alloc, id, self.replica(id)?.feed())?)
+        Ok(feed_line(self.alloc, id, self.replica(id)?.feed())?)
     }
 
-    fn log(&mut self, id: Author) -> Result<String, LineFault>
-        ensures { Does item_form self.old (Command.Log id) (text_of result) self.new }
+    fn log(&self, id: Author) -> Result<String, LineFault>
+        ensures { Does item_form self.now (Command.Log id) (text_of result) self.now }
     {
-        self.is_opening = false;
-        let alloc = self.alloc;
-        Ok(log_line(alloc, id, self.replica(id)?.log().len())?)
+        Ok(log_line(self.alloc, id, self.replica(id)?.log().len())?)
     }
 
-    fn know(&mut self, id: Author) -> Result<String, LineFault>
-        ensures { Does item_form self.old (Command.Know id) (text_of result) self.new }
+    fn know(&self, id: Author) -> Result<String, LineFault>
+        ensures { Does item_form self.now (Command.Know id) (text_of result) self.now }
     {
-        self.is_opening = false;
-        let alloc = self.alloc;
-        known_line(alloc, id, self.replica(id)?)
+        known_line(self.alloc, id, self.replica(id)?)
     }
 
-    fn show(&mut self, id: Author, version: Version) -> Result<String, LineFault>
-        ensures { Does item_form self.old (Command.Show id version) (text_of result) self.new }
+    fn show(&self, id: Author, version: Version) -> Result<String, LineFault>
+        ensures { Does item_form self.now (Command.Show id version) (text_of result) self.now }
     {
-        self.is_opening = false;
-        let alloc = self.alloc;
-        held_line(alloc, self.replica(id)?, version)
+        held_line(self.alloc, self.replica(id)?, version)
     }
 }
 
@@ -237,7 +216,7 @@ fn step(
     answer_line(alloc, answer)
 }
 
-/// The line for a replica's answer. Want of memory ends a script, and each other refusal is an answer.
+/// The line for a replica's answer. Out of memory ends a script, and each other refusal is an answer.
 fn answer_line(alloc: Global, answer: Result<Reply, Refusal>) -> Result<String, LineFault>
     ensures { tells_answer answer (text_of result) }
 {

@@ -25,7 +25,7 @@ use std::io::{Read, Write};
 /// before the next line is given. The first fault ends the script; what the lines before it printed
 /// is written all the same, and nothing else.
 ///
-/// `Line` is the fault of the first line that has one, or `OutOfMemory` where memory is wanting for
+/// `Line` is the fault of the first line that has one, or `OutOfMemory` where there is no memory for
 /// it; `TooLong` comes at the line that ends past 16,777,216 bytes, `Read` and `Write` where the
 /// reader and the writer fail. A line costs what its command costs, and the memory of its text.
 pub fn run_script<R: Read + Drop, W: Write>(

@@ -1,8 +1,10 @@
 //! The lines of a script, out of a reader.
-ghost use Rattle.std.specs.Prelude.{◌≡◌, ◌≢◌, ◌≤◌, ◌<◌, ℕ, List, Option, Err, IsTrue, IfOk, OnOk, IfSome, length, take};
+ghost use Rattle.std.specs.Prelude.{◌≡◌, ◌≢◌, ◌≤◌, ◌<◌, ℕ, List, Option, Err, IsTrue, IfOk, IfErr, OnOk, IfSome, length, take};
 ghost use Rattle.std.specs.Option.{option_map};
 ghost use Rattle.std.specs.Io.Buffered.{reader_remaining};
 ghost use Rattle.std.specs.Io.Take.{take_remaining};
+ghost use Rattle.std.specs.IoError.{error_kind};
+ghost use Rattle.mr_script.specs.Fault.{fault_of_kind};
 ghost use Rattle.mr_script.specs.Script.{Accounts, TakesLine, looked_at};
 
 use crate::ScriptFault;
@@ -24,8 +26,9 @@ pub(crate) enum SourceFault {
 }
 
 impl SourceFault {
+    /// What a reader's error is: out of memory as such, and each other kind a failed read.
     fn of(error: Error) -> SourceFault
-        ensures { result ≢ SourceFault.TooLong }
+        ensures { result ≡ fault_of_kind (error_kind error) }
     {
         match error.kind() {
             ErrorKind::OutOfMemory => SourceFault::OutOfMemory,
@@ -52,7 +55,7 @@ impl<R: Read + Drop> Source<R> {
         ensures none_taken { IfOk result (λ source. source.taken ≡ 0) }
         ensures left { IfOk result (λ source. reader_remaining (take_remaining R.remaining) source.reader
             ≡ option_map looked_at (R.remaining reader)) }
-        ensures fault { result ≢ Err SourceFault.TooLong }
+        ensures fault { IfErr result (λ fault. fault ≡ SourceFault.OutOfMemory) }
     {
         let reader = buffered(alloc, reader, MAX_SCRIPT_BYTES + 1)?;
         Ok(Source { reader, taken: 0 })
@@ -104,7 +107,7 @@ fn buffered<R: Read + Drop>(
         (reader_remaining (take_remaining R.remaining) buffered) 0) }
     ensures left { IfOk result (λ buffered. reader_remaining (take_remaining R.remaining) buffered
         ≡ option_map (take limit) (R.remaining reader)) }
-    ensures fault { result ≢ Err SourceFault.TooLong }
+    ensures fault { IfErr result (λ fault. fault ≡ SourceFault.OutOfMemory) }
 {
     BufReader::with_capacity(alloc, READ_BYTES, reader.take(limit)).map_err(SourceFault::of)
 }

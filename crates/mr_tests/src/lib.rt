@@ -23,6 +23,8 @@ mod filter;
 #[cfg(test)]
 mod forms;
 #[cfg(test)]
+mod frames;
+#[cfg(test)]
 mod itemset;
 #[cfg(test)]
 mod lane;

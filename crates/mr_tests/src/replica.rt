@@ -6,7 +6,7 @@ use mr_forms::PlainKnowledge;
 use mr_mail::{Day, Message};
 use mr_replica::{Bases, Event, Refusal, Replica, ReplicaFault, Reply};
 use mr_version::{Author, Version};
-use mr_wire::{Frame, Receipt, decode};
+use mr_wire::{Ask, Frame, Receipt, decode};
 use std::alloc::Global;
 use std::process::Abort;
 use std::test::Fail;
@@ -21,11 +21,12 @@ fn message(alloc: Global) -> Result<Message, Fail> {
     Ok(Message::try_new(alloc, from, subject, Vec::new(alloc), labels, 0, day)?)
 }
 
-/// The event of a line: `create`, `retire`, `cutin`, `cutout`, `vouch`, or the bases of an edit.
+/// The event of a line: `create`, `retire`, `pull`, `cutin`, `cutout`, `vouch`, or the bases of an edit.
 fn event_of(alloc: Global, line: &str) -> Result<Event, Fail> {
     match line {
         "create" => Ok(Event::Create(message(alloc)?)),
         "retire" => Ok(Event::Retire),
+        "pull" => Ok(Event::Pull),
         "cutin" => Ok(Event::CutIn(1)),
         "cutout" => Ok(Event::CutOut(1)),
         "vouch" => Ok(Event::Vouch(Version::read("0.1")?)),
@@ -61,8 +62,18 @@ fn reply_text(alloc: Global, reply: Reply) -> Result<String, Fail> {
     match reply {
         Reply::Issued(version) => Ok(version.text(alloc)?),
         Reply::Done => Ok(String::from_str(alloc, "done")?),
+        Reply::Asked(ask) => ask_text(alloc, ask),
         Reply::Vouched(receipt) => receipt_text(alloc, receipt),
     }
+}
+
+/// Who asks, for which session, with which filter, and how many fragments.
+fn ask_text(alloc: Global, ask: Ask) -> Result<String, Fail> {
+    let target = ask.target();
+    let session = ask.session();
+    let filter = ask.filter().text()?;
+    let count = ask.fragments().len();
+    Ok(format!(in alloc; "{target} asks in {session} for {filter}, {count}")?)
 }
 
 /// Who vouches for which version of which item.
@@ -357,9 +368,47 @@ fn cuts_nothing_that_is_not_open(rt: HostRuntime) -> Result<(), Fail> {
     Ok(())
 }
 
+#[test]
+fn pulls_eight_times(rt: HostRuntime) -> Result<(), Fail> {
+    let alloc = rt.alloc();
+    let mut replica = replica_of(alloc, 99)?;
+    let first = answers(alloc, &mut replica, &["pull", "create", "pull", "cutin"])?;
+    assert_eq!(rt;
+        first.as_str(),
+        "; 0 asks in 1 for all, 0; 0.1; 0 asks in 2 for all, 1; done"
+    );
+    let _more = answers(alloc, &mut replica, &["pull"; 6])?;
+    let last = answers(
+        alloc,
+        &mut replica,
+        &["pull", "pull", "cutin", "retire", "pull"],
+    )?;
+    assert_eq!(rt;
+        last.as_str(),
+        "; 0 asks in 9 for all, 1; 9 TooManySessions, eight sessions are open; 12 NoSession, no session of that number is open; done; 1 Retired, the replica has retired"
+    );
+    assert_eq!(rt; Event::Pull.copy().is_ok(), true);
+    Ok(())
+}
+
+#[test]
+fn pulls_nothing_of_a_full_log(rt: HostRuntime) -> Result<(), Fail> {
+    let alloc = rt.alloc();
+    let mut replica = replica_of(alloc, 1)?;
+    let answers = answers(alloc, &mut replica, &["pull", "pull", "cutin"])?;
+    assert_eq!(rt;
+        answers.as_str(),
+        "; 0 asks in 1 for all, 0; 8 LogFull, the log is full; 8 LogFull, the log is full"
+    );
+    assert_eq!(rt; replica.log().len(), 1);
+    Ok(())
+}
+
 /// Replica 1's receipt for version 0.1 of the item 0.1.
 fn release_of_first(alloc: Global) -> Result<Event, Fail> {
-    let bytes = [0, 0, 0, 18, 2, 7, 0, 1, 0, 0, 0, 0, 0, 1, 0, 0, 0, 0, 0, 1, 0, 0];
+    let bytes = [
+        0, 0, 0, 18, 2, 7, 0, 1, 0, 0, 0, 0, 0, 1, 0, 0, 0, 0, 0, 1, 0, 0,
+    ];
     match decode(alloc, &bytes)?.0 {
         Frame::Receipt(receipt) => Ok(Event::Release(receipt)),
         _ => Ok(Event::Retire),
@@ -375,7 +424,11 @@ fn release_text(alloc: Global, replica: &mut PlainReplica) -> Result<String, Fai
 fn releases_and_retires(rt: HostRuntime) -> Result<(), Fail> {
     let alloc = rt.alloc();
     let mut replica = selecting_nothing(alloc)?;
-    let left = answers(alloc, &mut replica, &["create", "create", "retire", "vouch"])?;
+    let left = answers(
+        alloc,
+        &mut replica,
+        &["create", "create", "retire", "vouch"],
+    )?;
     assert_eq!(rt;
         left.as_str(),
         "; 0.1; 0.2; 21 PushOutsLeft, push-outs are left; 3 NotHeld, the version 0.1 is not held"

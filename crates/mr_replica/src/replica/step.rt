@@ -16,6 +16,9 @@ impl<K: Knowledge> Replica<K> {
     /// and the replica's last own version of the item, with all that these supersede, and each lower
     /// counter of the replica's own.
     ///
+    /// A pull opens the next session, of which eight may be open, and makes the request for it: what the
+    /// replica selects, and the longest beginning of its fragments that takes at most 8,000,000 bytes.
+    ///
     /// A receipt is given for a head alone, and changes nothing but the log. To release by one lets go
     /// of the push-outs of its item that are its version, or superseded by it. A replica retires only
     /// once it has no push-outs; after that it admits nothing but what tells others.
@@ -25,10 +28,12 @@ impl<K: Knowledge> Replica<K> {
     /// Retire, which is admitted past a full log once; then those of the forms. Of these,
     /// `TooManyHoles` comes first where there is no vector of what the version supersedes, and then
     /// that or `TooManyItems` where the form of knowledge has no value for what would be known.
-    /// `OutOfMemory` comes only where no other refusal's case holds.
+    /// A pull is refused by `TooManyHoles` where a part of the knowledge has no vector. `OutOfMemory` comes
+    /// only where no other refusal's case holds, or in place of that one.
     ///
     /// It costs searches, a shift of handles in the store, and the vector of what the new version
-    /// supersedes; an edit looks at the held revisions of its item alone, and no message is copied.
+    /// supersedes; an edit looks at the held revisions of its item alone, and no message is copied. A pull
+    /// costs the fragments of what is known.
     pub fn step(&mut self, event: Event) -> Result<Reply, Refusal>
         ensures steps { Steps K.form self.old event result self.new }
         // Over a form whose values are their meanings, answer and new replica are one function of
@@ -39,6 +44,7 @@ impl<K: Knowledge> Replica<K> {
             Event::Create(message) => self.create(message),
             Event::Edit(bases, message) => self.edit(bases, message),
             Event::Retire => self.retire(),
+            Event::Pull => self.pull(),
             Event::CutIn(session) => self.cut_in(session),
             Event::CutOut(stream) => self.cut_out(stream),
             Event::Vouch(version) => self.vouch(version),

@@ -3,7 +3,7 @@ use Rattle.std.proofs.lemmas.Result.{on_ok_weaker}
 use Rattle.mr_concise.specs.Column.{Extent, empty_column, with_counter}
 use Rattle.std.proofs.lemmas.List.{get_or_default}
 use Rattle.mr_concise.specs.declared.vector.AuthorColumn.{AuthorColumn}
-use Rattle.mr_concise.specs.Vector.{column_of, placed}
+use Rattle.mr_concise.specs.Vector.{column_of, with_column}
 use Rattle.mr_concise.proofs.VectorLemmas.{column_of-at, column_of-past, column_of-missed}
 use Rattle.mr_concise.proofs.VectorInsertLemmas.{with_one-set, few-empty}
 use Rattle.mr_concise.proofs.insert.insert_in.Goals as goal
@@ -47,4 +47,4 @@ returns-clause-ok c =
       | else-at-len-via-then-at-len+else-id w ↦ column_of-missed 0 c.args.columns.now.items c.place-at.result c.args.author w.index.result.now c.requires.columns (rw c.deref.ensures.value at c.place-at.ensures.place.0) (let l = w.if-at-len.true in omega arith) w.index.ensures (rw (← w.index.ensures) at ((rw c.deref.ensures.value at c.place-at.ensures.place.1) c.place-at.result w.index.result.now (omega arith) (let l = w.if-at-len.true in omega arith))) (λ e. w.if-id.false (cc))
       | else-at-len-via-else-at-len w ↦ column_of-past c.args.columns.now.items c.place-at.result c.args.author (rw c.deref.ensures.value at c.place-at.ensures.place.0) (let l = w.if-at-len.false in omega arith)
     ] in
-    c.in-Ok-put.ensures.ok ∙ ap (λ (k : Extent). placed (record { author = c.args.author; column = k }) c.args.columns.now.items) (c.in-Ok.ensures.ok ∙ ap (λ (e : Extent). with_counter e c.args.counter) (c.empty-column.ensures ∙ sym missing))
+    c.in-Ok-put.ensures.ok ∙ ap (λ (k : Extent). with_column (record { author = c.args.author; column = k }) c.args.columns.now.items) (c.in-Ok.ensures.ok ∙ ap (λ (e : Extent). with_counter e c.args.counter) (c.empty-column.ensures ∙ sym missing))

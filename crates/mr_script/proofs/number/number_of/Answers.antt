@@ -1,8 +1,9 @@
 use Rattle.std.proofs.Common.{◌≡◌, ◌∙◌, ap, true}
 use Rattle.std.proofs.lemmas.Fmt.{parse-decimal}
 use Rattle.std.specs.Result.{result_ok}
-use Rattle.mr_script.specs.Number.{IsPlain}
-use Rattle.mr_script.proofs.Decimal.{IsPlain-decimal, decimal-parse}
+use Rattle.mr_version.specs.Number.{IsPlain}
+use Rattle.mr_version.proofs.Decimal.{IsPlain-decimal}
+use Rattle.mr_script.proofs.Decimal.{decimal-parse}
 use Rattle.mr_script.proofs.number.number_of.Goals as goal
 
 pub returns-then-is_plain-clause-spelled : goal.returns-then-is_plain-clause-spelled

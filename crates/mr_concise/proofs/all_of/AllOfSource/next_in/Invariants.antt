@@ -1,9 +1,10 @@
 use Rattle.std.proofs.Common.{take, ◌≤◌}
 use Rattle.std.specs.Prelude.{IfSome}
 use Rattle.mr_forms.specs.Runs.{of_author}
+use Rattle.mr_forms.specs.declared.run.TheConstants.{MAX_COUNTER}
 use Rattle.mr_concise.specs.AllOf.{in_all}
 use Rattle.mr_concise.proofs.AllOfLemmas.{NextIn}
 use Rattle.mr_concise.proofs.all_of.AllOfSource.next_in.Given as goal
 
 abbrev pub invariant-loop-source : goal.invariant-loop-source
-invariant-loop-source g l = record { next : NextIn (of_author (in_all g.S.Source.has (take l.source-index l.self.sources.now)) l.author) l.from l.next; bound : IfSome l.next (λ at. at ≤ 1000000) }
+invariant-loop-source g l = record { next : NextIn (of_author (in_all g.S.Source.has (take l.source-index l.self.sources.now)) l.author) l.from l.next; bound : IfSome l.next (λ at. at ≤ MAX_COUNTER) }

@@ -3,9 +3,10 @@ use Rattle.mr_forms.specs.Runs.{of_author}
 use Rattle.mr_concise.specs.AllOf.{in_all}
 use Rattle.mr_concise.proofs.AllOfLemmas.{IsAllTo}
 use Rattle.mr_concise.proofs.all_of.AllOfSource.next_out.Given as goal
+use Rattle.mr_concise.specs.declared.column.TheConstants.{COUNTERS_END}
 
 abbrev pub invariant-loop-at : goal.invariant-loop-at
 invariant-loop-at g l = IsAllTo (of_author (in_all g.S.Source.has l.self.sources.now) l.author) l.from l.at
 
 abbrev pub decreases-loop-at : goal.decreases-loop-at
-decreases-loop-at g l = 1000001 - l.at
+decreases-loop-at g l = COUNTERS_END - l.at

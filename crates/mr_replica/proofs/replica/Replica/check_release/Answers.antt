@@ -1,11 +1,11 @@
-use Rattle.std.proofs.Common.{◌≡◌, sym, ap, ◌∙◌, List}
+use Rattle.std.proofs.Common.{ap, ◌∙◌, List}
 use Rattle.std.specs.List.{list_any}
 use Rattle.mr_version.specs.Name.{Name}
 use Rattle.mr_madewith.specs.Revision.{Rev}
 use Rattle.mr_store.specs.Holdings.{Holdings}
-use Rattle.mr_store.specs.Revisions.{versions_of, supersedes}
+use Rattle.mr_store.specs.Revisions.{versions_of}
 use Rattle.mr_replica.specs.State.{State}
-use Rattle.mr_replica.specs.Release.{vouched, release_refusal}
+use Rattle.mr_replica.specs.Release.{vouched}
 use Rattle.mr_replica.proofs.Releasing.{any_of_versions, release_refused, release_goes_on}
 use Rattle.mr_replica.proofs.replica.Replica.check_release.Goals as goal
 

@@ -1,7 +1,7 @@
 use Rattle.std.proofs.Common.{sym, subst}
 use Rattle.mr_replica.specs.Step.{IsDecided}
 use Rattle.mr_replica.specs.declared.event.Event.{Event}
-use Rattle.mr_replica.specs.declared.event.Event.TheVariants.{Create, Edit, Retire, CutIn, CutOut, Vouch, Release}
+use Rattle.mr_replica.specs.declared.event.Event.TheVariants.{Create, Edit, Retire, Pull, CutIn, CutOut, Vouch, Release}
 use Rattle.mr_replica.proofs.Decided.{decided}
 use Rattle.mr_replica.proofs.replica.Replica.step.Goals as goal
 
@@ -25,6 +25,13 @@ returns-in-Retire-clause-decided g c exact =
     let s = c.args.self.now in
     subst (λ (e : Event). IsDecided form s e c.retire.result c.retire.new.self) (sym c.in-Retire.is)
     (decided form s Retire c.retire.result c.retire.new.self exact c.retire.ensures)
+
+pub returns-in-Pull-clause-decided : goal.returns-in-Pull-clause-decided
+returns-in-Pull-clause-decided g c exact =
+    let form = g.K.Knowledge.form in
+    let s = c.args.self.now in
+    subst (λ (e : Event). IsDecided form s e c.pull.result c.pull.new.self) (sym c.in-Pull.is)
+    (decided form s Pull c.pull.result c.pull.new.self exact c.pull.ensures)
 
 pub returns-in-CutIn-clause-decided : goal.returns-in-CutIn-clause-decided
 returns-in-CutIn-clause-decided g c exact =

@@ -1,0 +1,4 @@
+pub mod StreamLaws
+pub mod PartLaws
+pub mod CallLaws
+pub mod Rows

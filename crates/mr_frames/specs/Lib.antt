@@ -1,0 +1,4 @@
+pub mod Fault
+pub mod Stream
+pub mod Reader
+pub mod Calls

@@ -1,0 +1,9 @@
+use Rattle.std.proofs.Common.{◌≡◌, string_bytes, ◌++◌, take}
+use Rattle.std.specs.Prelude.{codes}
+use Rattle.std.specs.List.{flat_map}
+use Rattle.mr_script.specs.Frame.{piece_text}
+use Rattle.mr_script.proofs.frame_line.fragments_text.Given as goal
+
+abbrev pub invariant-loop-fragment : goal.invariant-loop-fragment
+invariant-loop-fragment l =
+    string_bytes l.text ≡ string_bytes l.initial.text ++ flat_map (λ piece. codes "; " ++ piece_text piece) (take l.fragment-index l.others)
