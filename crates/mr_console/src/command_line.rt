@@ -53,7 +53,7 @@ Example:
   issued 0.2
   heads 0: 0.2
   feed 0: +0.1 -0.1 +0.2
-  know 0: 0.1 0:2
+  know 0: all 0:2
   show 0.2 inbox,work seen 2026-01-05 ann Hi
   refused 3 NotHeld 0.1
 

@@ -1,5 +1,5 @@
 -- a step is a function: its answer and the new replica are decided, memory aside
-use Rattle.std.proofs.Common.{◌≡◌, ◌≢◌, refl, sym, ap, ◌∙◌, List, [], ◌∷◌, Option, Some, None, Result, Ok, Err, inl, inr}
+use Rattle.std.proofs.Common.{◌≡◌, ◌≢◌, refl, sym, ap, ◌∙◌, ℕ, ◌⊎◌, List, [], ◌∷◌, Option, Some, None, Result, Ok, Err, inl, inr}
 use Rattle.std.specs.List.{All}
 use Rattle.std.proofs.lemmas.List.Elements.{All-head, All-tail}
 use Rattle.mr_version.specs.Name.{Name}
@@ -14,14 +14,19 @@ use Rattle.mr_replica.specs.Issue.{Issue, Wanted, Wanted.Vector, Wanted.Knowledg
 use Rattle.mr_replica.specs.Create.{created}
 use Rattle.mr_replica.specs.Edit.{edited}
 use Rattle.mr_replica.specs.Fragments.{HasHoleyPart}
+use Rattle.mr_wire.specs.Values.{Piece}
+use Rattle.mr_wire.specs.declared.frame.Mode.{Mode}
+use Rattle.mr_wire.specs.declared.frame.Mode.TheVariants.{Full, Partial}
+use Rattle.mr_replica.specs.Answer.{mode_for, Keeps, KeepsHoley, answering}
+use Rattle.mr_replica.proofs.Kept.{pieces_unique, no_holey}
 use Rattle.mr_replica.specs.Vouch.{receipt_for, IsReceiptFor}
 use Rattle.mr_replica.proofs.Choice.{some_same}
 use Rattle.mr_replica.proofs.PullLemmas.{same_ask}
 use Rattle.mr_replica.specs.Step.{first_refusal, wanted_by, RefusesLate, Changes, Answers, Steps, IsExact, IsDecided}
 use Rattle.mr_replica.specs.declared.event.Event.{Event}
-use Rattle.mr_replica.specs.declared.event.Event.TheVariants.{Create, Edit, Retire, Pull, CutIn, CutOut, Vouch, Release}
+use Rattle.mr_replica.specs.declared.event.Event.TheVariants.{Create, Edit, Retire, Pull, CutIn, Answer, CutOut, Vouch, Release}
 use Rattle.mr_replica.specs.declared.event.Reply.{Reply}
-use Rattle.mr_replica.specs.declared.event.Reply.TheVariants.{Issued, Done, Asked, Vouched}
+use Rattle.mr_replica.specs.declared.event.Reply.TheVariants.{Issued, Done, Asked, Streaming, Vouched}
 use Rattle.mr_replica.specs.declared.refusal.Refusal.{Refusal}
 use Rattle.mr_replica.specs.declared.refusal.Refusal.TheVariants.{OutOfMemory, TooManyHoles, TooManyItems}
 
@@ -58,6 +63,16 @@ module _ {K : Type 0} (form : Form K) where
   one_first_fault e f (w ∷ ws) (inr x) (inl y) = absurd (no_fault f w x.0 y)
   one_first_fault e f (w ∷ ws) (inr x) (inr y) = one_first_fault e f ws x.1 y.1
 
+  -- ---- what a stream keeps
+
+  know_one : (mode : Mode) (k : K) (a b : List Piece) → Keeps form mode k a → Keeps form mode k b → a ≡ b
+  know_one Full k a b x y = pieces_unique (form.is_part k) a b x y
+  know_one Partial k a b x y = x ∙ sym y
+
+  kept_not_holey : (mode : Mode) (k : K) (know : List Piece) → Keeps form mode k know → KeepsHoley form mode k → ⊥
+  kept_not_holey Full k know keeps holey = no_holey (form.is_part k) know keeps holey
+  kept_not_holey Partial k know keeps holey = holey
+
   module _ (s : State K) (event : Event) where
     -- an issue has one version and leads to one replica
     same_issue : (i : Issue) (v w : Name) (new other : State K) → IsExact form → Issues form s i v event new → Issues form s i w event other → (w ≡ v) × (other ≡ new)
@@ -74,23 +89,32 @@ module _ {K : Type 0} (form : Form K) where
   -- what a late refusal tells, but that of memory
   abbrev LateFault : State K → Event → Refusal → Type 0
   LateFault s Pull e = (e ≡ TooManyHoles) × HasHoleyPart (form.is_part s.knowledge)
+  LateFault s (Answer ask) e = (e ≡ TooManyHoles) × KeepsHoley form (mode_for s ask) s.knowledge
   LateFault s event e = FirstFault form e (wanted_by form s event)
 
   late_fault : (s : State K) (event : Event) (e : Refusal) → e ≢ OutOfMemory → RefusesLate form s event e → LateFault s event e
   late_fault s event OutOfMemory ne h = absurd (ne refl)
   late_fault s Pull TooManyHoles ne h = (refl, h)
   late_fault s Pull e ne h = absurd h
+  late_fault s (Answer ask) TooManyHoles ne h = (refl, h)
+  late_fault s (Answer ask) e ne h = absurd h
   late_fault s event e ne h = h
 
   one_late_fault : (s : State K) (event : Event) (e f : Refusal) → LateFault s event e → LateFault s event f → e ≡ f
   one_late_fault s Pull e f h k = h.0 ∙ sym k.0
+  one_late_fault s (Answer ask) e f h k = h.0 ∙ sym k.0
   one_late_fault s event e f h k = one_first_fault e f (wanted_by form s event) h k
 
   -- what is answered has none
   no_late_fault : (s : State K) (event : Event) (r : Reply) (new : State K) (e : Refusal) → All (Fits form) (wanted_by form s event) → Changes form s event r new → LateFault s event e → ⊥
   no_late_fault s Pull (Asked ask) new e fits change fault = change.0.few fault.1
   no_late_fault s Pull r new e fits change fault = change
+  no_late_fault s (Answer ask) (Streaming n) new e fits change fault = kept_not_holey (mode_for s ask) s.knowledge change.1 change.2 fault.1
+  no_late_fault s (Answer ask) r new e fits change fault = change
   no_late_fault s event r new e fits change fault = no_first_fault e (wanted_by form s event) fits fault
+
+  streaming_same : (n m : ℕ) → m ≡ n → (let r : Reply = Streaming m in r ≡ Streaming n)
+  streaming_same n m is = ap (λ (k : ℕ). Streaming k) is
 
   issued_same : (v w : Name) → w ≡ v → (let r : Reply = Issued w in r ≡ Issued v)
   issued_same v w is = ap (λ (u : Name). Issued u) is
@@ -115,6 +139,11 @@ module _ {K : Type 0} (form : Form K) where
       (ap (λ (x : Receipt). Vouched x) (same_receipt s version a b h.0 k.0), k.1 ∙ sym h.1)
   same_change s (Vouch version) (Vouched a) q new other exact h k = absurd k
   same_change s (Vouch version) r q new other exact h k = absurd h
+  same_change s (Answer ask) (Streaming n) (Streaming m) new other exact h k =
+      let know : k.1 ≡ h.1 = know_one (mode_for s ask) s.knowledge k.1 h.1 k.2 h.2 in
+      (streaming_same n m (k.0 ∙ sym h.0), k.3 ∙ ap (λ (pieces : List Piece). logged (answering s ask pieces) (Answer ask)) know ∙ sym h.3)
+  same_change s (Answer ask) (Streaming n) q new other exact h k = absurd k
+  same_change s (Answer ask) r q new other exact h k = absurd h
   same_change s Retire Done Done new other exact h k = (refl, k ∙ sym h)
   same_change s Retire Done q new other exact h k = absurd k
   same_change s Retire r q new other exact h k = absurd h

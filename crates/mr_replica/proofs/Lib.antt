@@ -7,5 +7,8 @@ pub mod Issuing
 pub mod Releasing
 pub mod PullLemmas
 pub mod Answered
+pub mod PieceLemmas
+pub mod Kept
+pub mod Opening
 pub mod Decided
 mod Rows

@@ -1,5 +1,5 @@
 -- Worked rows: what the definitions of a step say of states that were computed by hand.
-use Rattle.std.proofs.Common.{◌≡◌, arith, ℕ, Bool, true, false, refl, List, [], ◌∷◌, map, Some, None}
+use Rattle.std.proofs.Common.{◌≡◌, arith, ℕ, zero, suc, Bool, true, false, refl, List, [], ◌∷◌, map, Some, None}
 use Rattle.mr_version.specs.Name.{Name}
 use Rattle.mr_forms.specs.Known.{Form}
 use Rattle.mr_concise.specs.declared.vector.AuthorColumn.{AuthorColumn}
@@ -8,10 +8,13 @@ use Rattle.mr_feed.specs.declared.entry.Entry.TheVariants.{Added, Dropped}
 use Rattle.mr_madewith.specs.Revision.{Rev, has_below}
 use Rattle.mr_store.specs.Revisions.{version_of, entered, left_by, has_conflict}
 use Rattle.mr_filter.specs.Filter.{ClauseParts}
-use Rattle.mr_session.specs.Table.{empty_table, with_opened}
+use Rattle.mr_session.specs.Table.{Table, empty_table, with_opened}
 use Rattle.mr_session.specs.Session.{new_session}
 use Rattle.mr_wire.specs.Values.{Piece}
 use Rattle.mr_wire.specs.Encoding.{total_len}
+use Rattle.mr_session.specs.Stream.{Stream, new_stream}
+use Rattle.mr_wire.specs.Frames.{Question}
+use Rattle.mr_wire.specs.declared.frame.Mode.TheVariants.{Full, Partial}
 use Rattle.mr_wire.specs.declared.frame.Receipt.{Receipt}
 use Rattle.mr_replica.specs.State.{State}
 use Rattle.mr_replica.specs.Issue.{below_of_issue, version_learned, issuing}
@@ -20,12 +23,14 @@ use Rattle.mr_replica.specs.Edit.{edited}
 use Rattle.mr_replica.specs.Retire.{retiring}
 use Rattle.mr_replica.specs.Pull.{IsLongestWithin, pulling}
 use Rattle.mr_replica.specs.CutIn.{cutting_in}
+use Rattle.mr_replica.specs.CutOut.{cutting_out}
+use Rattle.mr_replica.specs.Answer.{asked_of, mode_for, Keeps, answering}
 use Rattle.mr_replica.specs.Vouch.{receipt_for}
 use Rattle.mr_replica.specs.Release.{releasing}
 use Rattle.mr_replica.specs.Step.{first_refusal}
-use Rattle.mr_replica.specs.declared.event.Event.TheVariants.{Edit, Retire, Pull, CutIn, CutOut, Vouch, Release}
+use Rattle.mr_replica.specs.declared.event.Event.TheVariants.{Edit, Retire, Pull, CutIn, Answer, CutOut, Vouch, Release}
 use Rattle.mr_replica.proofs.PullLemmas.{fits_until}
-use Rattle.mr_replica.specs.declared.refusal.Refusal.TheVariants.{Retired, NoBase, NotHeld, MixedItems, OwnHeadLeft, LogFull, TooManySessions, NoSession, NoStream, NotPushedOut, PushOutsLeft}
+use Rattle.mr_replica.specs.declared.refusal.Refusal.TheVariants.{Retired, NoBase, NotHeld, MixedItems, OwnHeadLeft, LogFull, TooManySessions, TooManyStreams, NoSession, NoStream, OwnAsk, NotPushedOut, PushOutsLeft}
 
 abbrev name : ℕ → ℕ → Name
 name author counter = record { author = author; counter = counter }
@@ -280,3 +285,57 @@ releases_of_its_item_alone = refl
 
 releases_no_head : map version_of (releasing conflict receipt).heads ≡ name 1 1 ∷ name 2 1 ∷ []
 releases_no_head = refl
+
+-- ---- requests: a stream is opened for another replica, one of eight at most
+
+-- the filter of one clause, which wants flags
+abbrev flagged : List ClauseParts
+flagged = record { all_labels = []; no_labels = []; flags_on = 1; flags_off = 0; since = 0 } ∷ []
+
+abbrev request : ℕ → List ClauseParts → Question
+request target filter = record { target = target; session = 1; filter = filter; fragments = [] }
+
+-- so many streams were opened, and are open
+abbrev streams_of : ℕ → Table Stream
+streams_of zero = empty_table
+streams_of (suc n) = with_opened (streams_of n) (new_stream (asked_of (request 1 flagged)) Partial [])
+
+abbrev telling : ℕ → State (Unit {0})
+telling n = record conflict { streams = streams_of n }
+
+answers_with_seven_open : first_refusal (telling 7) (Answer (request 1 flagged)) ≡ None
+answers_with_seven_open = refl
+
+too_many_streams : first_refusal (telling 8) (Answer (request 1 flagged)) ≡ Some TooManyStreams
+too_many_streams = refl
+
+-- one was closed
+answers_with_eight_opened : first_refusal (cutting_out (telling 8) 3) (Answer (request 1 flagged)) ≡ None
+answers_with_eight_opened = refl
+
+own_request_first : first_refusal (record (telling 8) { event_limit = 0 }) (Answer (request 0 flagged)) ≡ Some OwnAsk
+own_request_first = refl
+
+too_many_streams_before_full_log : first_refusal (record (telling 8) { event_limit = 0 }) (Answer (request 1 flagged)) ≡ Some TooManyStreams
+too_many_streams_before_full_log = refl
+
+no_room_in_the_log : first_refusal (record (telling 7) { event_limit = 0 }) (Answer (request 1 flagged)) ≡ Some LogFull
+no_room_in_the_log = refl
+
+-- a retired replica goes on telling others
+answers_after_retirement : first_refusal (retiring (telling 7)) (Answer (request 1 flagged)) ≡ None
+answers_after_retirement = refl
+
+-- the mode is full where the replica selects all that is asked for, not where all that it selects is asked for
+full_for_a_narrower_filter : mode_for conflict (request 1 flagged) ≡ Full
+full_for_a_narrower_filter = refl
+
+partial_for_a_wider_filter : mode_for (record conflict { filter = flagged }) (request 1 all_messages) ≡ Partial
+partial_for_a_wider_filter = refl
+
+-- all that is known goes into a full stream, and nothing into a partial one
+keeps_nothing_in_part : Keeps knows_nothing Partial tt []
+keeps_nothing_in_part = refl
+
+next_stream : (answering (telling 2) (request 1 flagged) []).streams.opened ≡ 3
+next_stream = refl

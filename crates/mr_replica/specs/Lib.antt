@@ -12,6 +12,8 @@ pub mod CutIn
 pub mod CutOut
 pub mod Vouch
 pub mod Release
+pub mod Pieces
+pub mod Answer
 pub mod Contents
 pub mod Issued
 pub mod Step

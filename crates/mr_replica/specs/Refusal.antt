@@ -3,7 +3,7 @@ use Rattle.std.specs.Prelude.{ℕ, Bool, if◌then◌else◌, Option, Some, None
 use Rattle.mr_forms.specs.declared.fault.FormFault.{FormFault}
 use Rattle.mr_forms.specs.declared.fault.FormFault.TheVariants as fault
 use Rattle.mr_replica.specs.declared.refusal.Refusal.{Refusal}
-use Rattle.mr_replica.specs.declared.refusal.Refusal.TheVariants.{OutOfMemory, Retired, NoBase, NotHeld, MixedItems, OwnHeadLeft, TooManyHoles, TooManyItems, LogFull, TooManySessions, NoSession, NoStream, NotPushedOut, PushOutsLeft}
+use Rattle.mr_replica.specs.declared.refusal.Refusal.TheVariants.{OutOfMemory, Retired, NoBase, NotHeld, MixedItems, OwnHeadLeft, TooManyHoles, TooManyItems, LogFull, TooManySessions, TooManyStreams, NoSession, NoStream, OwnAsk, NotPushedOut, PushOutsLeft}
 
 -- the number by which a host knows the refusal
 abbrev pub refusal_number : Refusal → ℕ
@@ -17,8 +17,10 @@ refusal_number TooManyHoles = 6
 refusal_number TooManyItems = 7
 refusal_number LogFull = 8
 refusal_number TooManySessions = 9
+refusal_number TooManyStreams = 10
 refusal_number NoSession = 12
 refusal_number NoStream = 18
+refusal_number OwnAsk = 19
 refusal_number NotPushedOut = 20
 refusal_number PushOutsLeft = 21
 
@@ -34,8 +36,10 @@ refusal_name TooManyHoles = codes "TooManyHoles"
 refusal_name TooManyItems = codes "TooManyItems"
 refusal_name LogFull = codes "LogFull"
 refusal_name TooManySessions = codes "TooManySessions"
+refusal_name TooManyStreams = codes "TooManyStreams"
 refusal_name NoSession = codes "NoSession"
 refusal_name NoStream = codes "NoStream"
+refusal_name OwnAsk = codes "OwnAsk"
 refusal_name NotPushedOut = codes "NotPushedOut"
 refusal_name PushOutsLeft = codes "PushOutsLeft"
 

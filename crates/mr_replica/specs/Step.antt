@@ -10,12 +10,13 @@ use Rattle.mr_replica.specs.Fragments.{HasHoleyPart}
 use Rattle.mr_replica.specs.Pull.{pull_refusal, IsAskOf, pulling}
 use Rattle.mr_replica.specs.CutIn.{cut_in_refusal, cutting_in}
 use Rattle.mr_replica.specs.CutOut.{cut_out_refusal, cutting_out}
+use Rattle.mr_replica.specs.Answer.{answer_refusal, mode_for, KeepsHoley, Opens}
 use Rattle.mr_replica.specs.Vouch.{vouch_refusal, IsReceiptFor}
 use Rattle.mr_replica.specs.Release.{release_refusal, releasing}
 use Rattle.mr_replica.specs.declared.event.Event.{Event}
-use Rattle.mr_replica.specs.declared.event.Event.TheVariants.{Create, Edit, Retire, Pull, CutIn, CutOut, Vouch, Release}
+use Rattle.mr_replica.specs.declared.event.Event.TheVariants.{Create, Edit, Retire, Pull, CutIn, Answer, CutOut, Vouch, Release}
 use Rattle.mr_replica.specs.declared.event.Reply.{Reply}
-use Rattle.mr_replica.specs.declared.event.Reply.TheVariants.{Issued, Done, Asked, Vouched}
+use Rattle.mr_replica.specs.declared.event.Reply.TheVariants.{Issued, Done, Asked, Streaming, Vouched}
 use Rattle.mr_replica.specs.declared.refusal.Refusal.{Refusal}
 use Rattle.mr_replica.specs.declared.refusal.Refusal.TheVariants.{OutOfMemory, TooManyHoles}
 
@@ -27,6 +28,7 @@ module _ {K : Type 0} where
   first_refusal s Retire = retire_refusal s
   first_refusal s Pull = pull_refusal s
   first_refusal s (CutIn session) = cut_in_refusal s session
+  first_refusal s (Answer ask) = answer_refusal s ask
   first_refusal s (CutOut stream) = cut_out_refusal s stream
   first_refusal s (Vouch version) = vouch_refusal s version
   first_refusal s (Release receipt) = release_refusal s receipt
@@ -44,6 +46,7 @@ module _ {K : Type 0} where
   Changes form s Retire Done new = new ≡ logged (retiring s) Retire
   Changes form s Pull (Asked ask) new = IsAskOf form s ask × (new ≡ logged (pulling s) Pull)
   Changes form s (CutIn session) Done new = new ≡ logged (cutting_in s session) (CutIn session)
+  Changes form s (Answer ask) (Streaming stream) new = Opens form s ask stream new
   Changes form s (CutOut stream) Done new = new ≡ logged (cutting_out s stream) (CutOut stream)
   Changes form s (Vouch version) (Vouched receipt) new = IsReceiptFor s version receipt × (new ≡ logged s (Vouch version))
   Changes form s (Release receipt) Done new = new ≡ logged (releasing s receipt) (Release receipt)
@@ -53,6 +56,7 @@ module _ {K : Type 0} where
   abbrev pub RefusesLate : Form K → State K → Event → Refusal → Type 0
   RefusesLate form s event OutOfMemory = All (Fits form) (wanted_by form s event)
   RefusesLate form s Pull TooManyHoles = HasHoleyPart (form.is_part s.knowledge)
+  RefusesLate form s (Answer ask) TooManyHoles = KeepsHoley form (mode_for s ask) s.knowledge
   RefusesLate form s event e = FirstFault form e (wanted_by form s event)
 
   abbrev pub Answers : Form K → State K → Event → Result Reply Refusal → State K → Type 0

@@ -1,11 +1,12 @@
 //! Events and replies.
 ghost use Rattle.std.specs.Prelude.{◌≡◌, IfOk};
 
+use crate::asks::copied_ask;
 use crate::copies::copied_receipt;
 use mr_mail::Message;
 use mr_version::Version;
 use mr_wire::{Ask, Receipt};
-use std::alloc::AllocError;
+use std::alloc::{AllocError, Global};
 use std::marker::Model;
 
 /// The versions that an edit names, in the order given. A repeated one counts once.
@@ -65,6 +66,8 @@ pub enum Event {
     Pull,
     /// Close the session of this number. What was taken in it stays.
     CutIn(u64),
+    /// Open a stream for one who asks.
+    Answer(Ask),
     /// Close the stream of this number.
     CutOut(u64),
     /// Give a receipt for the version, which is a head.
@@ -75,7 +78,7 @@ pub enum Event {
 
 impl Event {
     /// An equal event. It costs a copy of what the event carries.
-    pub fn copy(&self) -> Result<Event, AllocError>
+    pub fn copy(&self, alloc: Global) -> Result<Event, AllocError>
         ensures { IfOk result (λ event. event ≡ self.now) }
     {
         match self {
@@ -84,6 +87,7 @@ impl Event {
             Event::Retire => Ok(Event::Retire),
             Event::Pull => Ok(Event::Pull),
             Event::CutIn(session) => Ok(Event::CutIn(*session)),
+            Event::Answer(ask) => Ok(Event::Answer(copied_ask(alloc, ask)?)),
             Event::CutOut(stream) => Ok(Event::CutOut(*stream)),
             Event::Vouch(version) => Ok(Event::Vouch(*version)),
             Event::Release(receipt) => Ok(Event::Release(copied_receipt(receipt)?)),
@@ -100,6 +104,8 @@ pub enum Reply {
     Done,
     /// The request of the session that was opened by a Pull.
     Asked(Ask),
+    /// The stream of this number was opened, by an Answer.
+    Streaming(u64),
     /// The receipt that was asked for by a Vouch.
     Vouched(Receipt),
 }

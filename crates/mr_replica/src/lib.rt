@@ -15,7 +15,8 @@
 //! A push-out may go once another replica vouches, by a receipt, that it holds that version or one that
 //! supersedes it. A replica that has let go of all its push-outs can retire, and from then on only tells
 //! others what it holds. What it has taken of the streams that it asked for, and what it tells others,
-//! are its sessions and streams; each can be cut.
+//! are its sessions and streams; each can be cut. Another replica's request is answered by a stream, which
+//! is full, and keeps what is known at that moment, where all that the other selects is selected here.
 //!
 //! What is known is kept in a form that the caller chooses, by the type `K`. A version that is issued
 //! is learned for its item, alone: what it supersedes of its item was learned before it, and the rest are
@@ -35,8 +36,10 @@
 //! which tells that `0.1` and `0.2` are known for the item `0.1`.
 #![tactic(auto)]
 
+mod asks;
 mod copies;
 mod event;
+mod pieces;
 mod refusal;
 mod replica;
 

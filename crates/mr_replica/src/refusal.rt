@@ -33,10 +33,14 @@ pub enum Refusal {
     LogFull,
     #[error("eight sessions are open")]
     TooManySessions,
+    #[error("eight streams are open")]
+    TooManyStreams,
     #[error("no session of that number is open")]
     NoSession,
     #[error("no stream of that number is open")]
     NoStream,
+    #[error("the request is the replica's own")]
+    OwnAsk,
     #[error("the receipt is for no push-out that is held")]
     NotPushedOut,
     #[error("push-outs are left")]
@@ -61,8 +65,10 @@ impl Refusal {
             Refusal::TooManyItems => 7,
             Refusal::LogFull => 8,
             Refusal::TooManySessions => 9,
+            Refusal::TooManyStreams => 10,
             Refusal::NoSession => 12,
             Refusal::NoStream => 18,
+            Refusal::OwnAsk => 19,
             Refusal::NotPushedOut => 20,
             Refusal::PushOutsLeft => 21,
         }
@@ -83,8 +89,10 @@ impl Refusal {
             Refusal::TooManyItems => "TooManyItems",
             Refusal::LogFull => "LogFull",
             Refusal::TooManySessions => "TooManySessions",
+            Refusal::TooManyStreams => "TooManyStreams",
             Refusal::NoSession => "NoSession",
             Refusal::NoStream => "NoStream",
+            Refusal::OwnAsk => "OwnAsk",
             Refusal::NotPushedOut => "NotPushedOut",
             Refusal::PushOutsLeft => "PushOutsLeft",
         }

@@ -10,14 +10,15 @@ use mr_replica::{Refusal, Reply, Revision};
 use mr_version::{Author, ItemId, Version};
 use std::alloc::{AllocError, Global};
 
-/// `issued V`: the version that a replica gave to a message; `done`; `asked session N`, of a request; or
-/// `vouched V`, of a receipt.
+/// `issued V`: the version that a replica gave to a message; `done`; `asked session N`, of a request;
+/// `streaming N`; or `vouched V`, of a receipt.
 pub(crate) fn reply_line(alloc: Global, reply: Reply) -> Result<String, AllocError>
     ensures { IfOk result (λ line. string_bytes line ≡ reply_text reply) }
 {
     match reply {
         Reply::Issued(version) => format!(in alloc; "issued {version}\n"),
         Reply::Done => String::from_str(alloc, "done\n"),
+        Reply::Streaming(stream) => format!(in alloc; "streaming {stream}\n"),
         Reply::Asked(ask) => {
             let session = ask.session();
             format!(in alloc; "asked session {session}\n")

@@ -21,13 +21,16 @@ fn message(alloc: Global) -> Result<Message, Fail> {
     Ok(Message::try_new(alloc, from, subject, Vec::new(alloc), labels, 0, day)?)
 }
 
-/// The event of a line: `create`, `retire`, `pull`, `cutin`, `cutout`, `vouch`, or the bases of an edit.
+/// The event of a line: `create`, `retire`, `pull`, `cutin`, `ask`, `ownask`, `cutout`, `vouch`, or the bases of
+/// an edit.
 fn event_of(alloc: Global, line: &str) -> Result<Event, Fail> {
     match line {
         "create" => Ok(Event::Create(message(alloc)?)),
         "retire" => Ok(Event::Retire),
         "pull" => Ok(Event::Pull),
         "cutin" => Ok(Event::CutIn(1)),
+        "ask" => request_of(alloc, 1),
+        "ownask" => request_of(alloc, 0),
         "cutout" => Ok(Event::CutOut(1)),
         "vouch" => Ok(Event::Vouch(Version::read("0.1")?)),
         _ => edit_of(alloc, line),
@@ -40,6 +43,17 @@ fn edit_of(alloc: Global, line: &str) -> Result<Event, Fail> {
         bases.push(Version::read(base)?)?;
     }
     Ok(Event::Edit(Bases::new(bases), message(alloc)?))
+}
+
+/// The request of replica 0 or 1 for what `none` selects.
+fn request_of(alloc: Global, target: u8) -> Result<Event, Fail> {
+    let bytes = [
+        0, 0, 0, 17, 2, 0, 0, target, 0, 0, 0, 0, 0, 0, 0, 1, 0, 0, 0, 0, 0,
+    ];
+    match decode(alloc, &bytes)?.0 {
+        Frame::Ask(ask) => Ok(Event::Answer(ask)),
+        _ => Ok(Event::Retire),
+    }
 }
 
 /// How many bases the event names.
@@ -63,6 +77,7 @@ fn reply_text(alloc: Global, reply: Reply) -> Result<String, Fail> {
         Reply::Issued(version) => Ok(version.text(alloc)?),
         Reply::Done => Ok(String::from_str(alloc, "done")?),
         Reply::Asked(ask) => ask_text(alloc, ask),
+        Reply::Streaming(stream) => Ok(format!(in alloc; "streaming {stream}")?),
         Reply::Vouched(receipt) => receipt_text(alloc, receipt),
     }
 }
@@ -134,7 +149,7 @@ fn replica_of(alloc: Global, event_limit: u32) -> Result<PlainReplica, Fail> {
 }
 
 fn check_copy(rt: &impl Abort, alloc: Global) -> Result<(), Fail> {
-    let event = event_of(alloc, "0.2 0.1")?.copy()?;
+    let event = event_of(alloc, "0.2 0.1")?.copy(alloc)?;
     assert_eq!(rt; base_count(&event), 2);
     Ok(())
 }
@@ -387,7 +402,7 @@ fn pulls_eight_times(rt: HostRuntime) -> Result<(), Fail> {
         last.as_str(),
         "; 0 asks in 9 for all, 1; 9 TooManySessions, eight sessions are open; 12 NoSession, no session of that number is open; done; 1 Retired, the replica has retired"
     );
-    assert_eq!(rt; Event::Pull.copy().is_ok(), true);
+    assert_eq!(rt; Event::Pull.copy(alloc).is_ok(), true);
     Ok(())
 }
 
@@ -417,7 +432,7 @@ fn release_of_first(alloc: Global) -> Result<Event, Fail> {
 
 /// What the replica answers to the receipt for its first version.
 fn release_text(alloc: Global, replica: &mut PlainReplica) -> Result<String, Fail> {
-    answer_text(alloc, replica.step(release_of_first(alloc)?.copy()?))
+    answer_text(alloc, replica.step(release_of_first(alloc)?.copy(alloc)?))
 }
 
 #[test]
@@ -439,5 +454,46 @@ fn releases_and_retires(rt: HostRuntime) -> Result<(), Fail> {
         release_text(alloc, &mut replica)?.as_str(),
         "20 NotPushedOut, the receipt is for no push-out that is held"
     );
+    Ok(())
+}
+
+#[test]
+fn eight_streams_at_a_time(rt: HostRuntime) -> Result<(), Fail> {
+    let alloc = rt.alloc();
+    let mut replica = replica_of(alloc, 99)?;
+    let eight = answers(alloc, &mut replica, &["ask"; 8])?;
+    assert_eq!(rt;
+        eight.as_str(),
+        "; streaming 1; streaming 2; streaming 3; streaming 4; streaming 5; streaming 6; streaming 7; streaming 8"
+    );
+    let more = answers(alloc, &mut replica, &["ask", "ownask", "cutout", "ask"])?;
+    assert_eq!(rt;
+        more.as_str(),
+        "; 10 TooManyStreams, eight streams are open; 19 OwnAsk, the request is the replica's own; done; streaming 9"
+    );
+    Ok(())
+}
+
+#[test]
+fn answers_after_retirement(rt: HostRuntime) -> Result<(), Fail> {
+    let alloc = rt.alloc();
+    let mut replica = replica_of(alloc, 3)?;
+    let lines = ["create", "retire", "ask", "ownask", "ask"];
+    let answers = answers(alloc, &mut replica, &lines)?;
+    assert_eq!(rt;
+        answers.as_str(),
+        "; 0.1; done; streaming 1; 19 OwnAsk, the request is the replica's own; 8 LogFull, the log is full"
+    );
+    Ok(())
+}
+
+#[test]
+fn ample_memory_for_answers(rt: HostRuntime) -> Result<(), Fail> {
+    let alloc = rt.alloc();
+    let mut replica = replica_of(alloc, 9)?;
+    let _issued = answers(alloc, &mut replica, &["create", "0.1"])?;
+    let request = event_of(alloc, "ask")?.copy(alloc)?;
+    let opened = answer_text(alloc, replica.step(request))?;
+    assert_eq!(rt; opened.as_str(), "streaming 1");
     Ok(())
 }

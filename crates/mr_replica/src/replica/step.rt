@@ -23,13 +23,18 @@ impl<K: Knowledge> Replica<K> {
     /// of the push-outs of its item that are its version, or superseded by it. A replica retires only
     /// once it has no push-outs; after that it admits nothing but what tells others.
     ///
-    /// The first refusal whose case holds is given, in this order: `Retired`, of all but a cut of a
-    /// stream; then those of what is asked for, for an edit by their numbers; then `LogFull`, of all but
+    /// An answer opens the next stream for another replica, of eight at a time. It is full where the replica's
+    /// filter covers that of the request, and then keeps what is known at that moment; else it is partial,
+    /// and keeps nothing of it.
+    ///
+    /// The first refusal whose case holds is given, in this order: `Retired`, of all but an
+    /// answer and a cut of a stream; then those of what is asked for, for an edit by their numbers, for an
+    /// answer `OwnAsk` and then `TooManyStreams`; then `LogFull`, of all but
     /// Retire, which is admitted past a full log once; then those of the forms. Of these,
     /// `TooManyHoles` comes first where there is no vector of what the version supersedes, and then
     /// that or `TooManyItems` where the form of knowledge has no value for what would be known.
-    /// A pull is refused by `TooManyHoles` where a part of the knowledge has no vector. `OutOfMemory` comes
-    /// only where no other refusal's case holds, or in place of that one.
+    /// A pull, and an answer by a full stream, are refused by `TooManyHoles` where a part of the knowledge has
+    /// no vector. `OutOfMemory` comes only where no other refusal's case holds, or in place of that one.
     ///
     /// It costs searches, a shift of handles in the store, and the vector of what the new version
     /// supersedes; an edit looks at the held revisions of its item alone, and no message is copied. A pull
@@ -46,6 +51,7 @@ impl<K: Knowledge> Replica<K> {
             Event::Retire => self.retire(),
             Event::Pull => self.pull(),
             Event::CutIn(session) => self.cut_in(session),
+            Event::Answer(ask) => self.answer(ask),
             Event::CutOut(stream) => self.cut_out(stream),
             Event::Vouch(version) => self.vouch(version),
             Event::Release(receipt) => self.release(receipt),

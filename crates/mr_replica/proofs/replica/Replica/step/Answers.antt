@@ -1,7 +1,7 @@
 use Rattle.std.proofs.Common.{sym, subst}
 use Rattle.mr_replica.specs.Step.{IsDecided}
 use Rattle.mr_replica.specs.declared.event.Event.{Event}
-use Rattle.mr_replica.specs.declared.event.Event.TheVariants.{Create, Edit, Retire, Pull, CutIn, CutOut, Vouch, Release}
+use Rattle.mr_replica.specs.declared.event.Event.TheVariants.{Create, Edit, Retire, Pull, CutIn, Answer, CutOut, Vouch, Release}
 use Rattle.mr_replica.proofs.Decided.{decided}
 use Rattle.mr_replica.proofs.replica.Replica.step.Goals as goal
 
@@ -39,6 +39,13 @@ returns-in-CutIn-clause-decided g c exact =
     let s = c.args.self.now in
     subst (λ (e : Event). IsDecided form s e c.cut_in.result c.cut_in.new.self) (sym c.in-CutIn.is)
     (decided form s (CutIn c.in-CutIn.session) c.cut_in.result c.cut_in.new.self exact c.cut_in.ensures)
+
+pub returns-in-Answer-clause-decided : goal.returns-in-Answer-clause-decided
+returns-in-Answer-clause-decided g c exact =
+    let form = g.K.Knowledge.form in
+    let s = c.args.self.now in
+    subst (λ (e : Event). IsDecided form s e c.answer.result c.answer.new.self) (sym c.in-Answer.is)
+    (decided form s (Answer c.in-Answer.ask) c.answer.result c.answer.new.self exact c.answer.ensures)
 
 pub returns-in-CutOut-clause-decided : goal.returns-in-CutOut-clause-decided
 returns-in-CutOut-clause-decided g c exact =

@@ -1,0 +1,94 @@
+-- the pieces of a knowledge: frames may carry them, and there is one list of them
+use Rattle.std.proofs.Common.{◌≡◌, refl, sym, ap, subst, ◌∙◌, arith, List, [], ◌∷◌, map, Option, Some, None}
+use Rattle.std.specs.List.{All, AllZip, Any, AllByRecursion}
+use Rattle.std.specs.List.Sorted.{IsStrictlySortedBy}
+use Rattle.std.specs.Option.{IfSome}
+use Rattle.std.specs.Ordering.{is_lt}
+use Rattle.std.specs.declared.cmp.Ordering.{Ordering}
+use Rattle.std.specs.declared.cmp.Ordering.TheVariants.{Less}
+use Rattle.std.proofs.lemmas.List.Elements.{All-nil, All-cons, All-head, All-tail, All-contains}
+use Rattle.mr_version.specs.Name.{Name, name_cmp}
+use Rattle.mr_forms.specs.declared.fragment.Fragment.{Fragment}
+use Rattle.mr_forms.specs.Sets.{Versions}
+use Rattle.mr_forms.specs.Covered.{listed_items}
+use Rattle.mr_forms.specs.Known.{Part}
+use Rattle.mr_forms.specs.Parts.{part_of, AreListable}
+use Rattle.mr_forms.proofs.PartLemmas.{Contains-map, parts_that-unique}
+use Rattle.mr_concise.specs.declared.vector.AuthorColumn.{AuthorColumn}
+use Rattle.mr_concise.specs.Vector.{IsVectorOf, HasTooManyHoles}
+use Rattle.mr_concise.specs.Fragments.{IsTooHoley}
+use Rattle.mr_concise.proofs.VersionLemmas.{few-vector}
+use Rattle.mr_madewith.proofs.MadeWithLemmas.{columns_unique}
+use Rattle.mr_wire.specs.Values.{Piece, ItemsRise, AreItems}
+use Rattle.mr_replica.specs.Fragments.{HasHoleyPart}
+use Rattle.mr_replica.specs.Pieces.{IsPieceOf, ArePiecesOf}
+
+-- ---- what a form lists, a frame may
+
+rises_from : (x : Name) (items : List Name) → AllByRecursion (λ z. name_cmp x z ≡ Less) items → IsStrictlySortedBy name_cmp items → ItemsRise (Some x) items
+unfolding IsStrictlySortedBy
+rises_from x [] above sorted = tt
+rises_from x (y ∷ items) above sorted = (ap (λ (o : Ordering). is_lt o) above.0, rises_from y items sorted.0 sorted.1)
+
+rises : (items : List Name) → IsStrictlySortedBy name_cmp items → ItemsRise None items
+unfolding IsStrictlySortedBy
+rises [] sorted = tt
+rises (x ∷ items) sorted = (refl, rises_from x items sorted.0 sorted.1)
+
+may_list : (items : Option (List Name)) → IfSome items AreListable → AreItems items
+may_list None h = tt
+may_list (Some []) h = absurd (h.some refl)
+may_list (Some (x ∷ items)) h = (omega arith, h.few, rises (x ∷ items) h.rising)
+
+module _ {V : Type 0} (has : V → Versions) where
+  pub all_may_list : (fs : List (Fragment V)) → All (λ p. IfSome p.items AreListable) (map (part_of has) fs) → All (λ f. AreItems (listed_items f.items)) fs
+  all_may_list [] h = All-nil (λ (f : Fragment V). AreItems (listed_items f.items))
+  all_may_list (f ∷ fs) h =
+      All-cons (λ (f : Fragment V). AreItems (listed_items f.items)) f fs
+      (may_list (listed_items f.items) (All-head (λ (p : Part). IfSome p.items AreListable) (part_of has f) (map (part_of has) fs) h))
+      (all_may_list fs (All-tail (λ (p : Part). IfSome p.items AreListable) (part_of has f) (map (part_of has) fs) h))
+
+  -- a fragment with too many holes is a part with too many
+  pub holey_part : (is_part : Part → Type 0) (fs : List (Fragment V)) → All is_part (map (part_of has) fs) → Any (IsTooHoley has) fs → HasHoleyPart is_part
+  holey_part is_part fs each (k, f, within, at, holey) =
+      (part_of has f, All-contains is_part (map (part_of has) fs) (part_of has f) each (Contains-map (part_of has) f fs (k, within, at)), holey)
+
+-- ---- there is one list of pieces
+
+columns_one : (set : Versions) (a b : List AuthorColumn) → IsVectorOf set a → IsVectorOf set b → a ≡ b
+columns_one set a b h k = columns_unique set a b (record { vector = h.columns_ok; same = h.has }) (record { vector = k.columns_ok; same = k.has })
+
+piece_one : (part : Part) (a b : Piece) → IsPieceOf part a → IsPieceOf part b → a ≡ b
+piece_one part a b h k =
+    let items : a.items ≡ b.items = h.items ∙ sym k.items in
+    let vector : a.vector ≡ b.vector = columns_one part.versions a.vector b.vector h.versions k.versions in
+    λ i. record { items = items i; vector = vector i }
+
+pieces_one : (parts : List Part) (xs ys : List Piece) → AllZip IsPieceOf parts xs → AllZip IsPieceOf parts ys → xs ≡ ys
+pieces_one [] [] [] h k = refl
+pieces_one [] (x ∷ xs) ys h k = absurd h
+pieces_one [] [] (y ∷ ys) h k = absurd k
+pieces_one (p ∷ ps) [] ys h k = absurd h
+pieces_one (p ∷ ps) (x ∷ xs) [] h k = absurd k
+pieces_one (p ∷ ps) (x ∷ xs) (y ∷ ys) h k =
+    let first : x ≡ y = piece_one p x y h.0 k.0 in
+    let rest : xs ≡ ys = pieces_one ps xs ys h.1 k.1 in
+    λ i. first i ∷ rest i
+
+module _ (is_part : Part → Type 0) where
+  pub pieces_unique : (xs ys : List Piece) → ArePiecesOf is_part xs → ArePiecesOf is_part ys → xs ≡ ys
+  pieces_unique xs ys h k =
+      let parts : k.0 ≡ h.0 = parts_that-unique is_part k.0 h.0 k.1 h.1 in
+      pieces_one h.0 xs ys h.2 (subst (λ (ps : List Part). AllZip IsPieceOf ps ys) parts k.2)
+
+  -- a part that has a piece has few holes
+  few_in : (parts : List Part) (xs : List Piece) → AllZip IsPieceOf parts xs → All (λ p. ¬ HasTooManyHoles p.versions) parts
+  few_in [] [] h = All-nil (λ (p : Part). ¬ HasTooManyHoles p.versions)
+  few_in [] (x ∷ xs) h = absurd h
+  few_in (p ∷ ps) [] h = absurd h
+  few_in (p ∷ ps) (x ∷ xs) h =
+      All-cons (λ (p : Part). ¬ HasTooManyHoles p.versions) p ps (few-vector x.vector p.versions h.0.versions.columns_ok h.0.versions.has) (few_in ps xs h.1)
+
+  pub no_holey : (xs : List Piece) → ArePiecesOf is_part xs → HasHoleyPart is_part → ⊥
+  no_holey xs h holey =
+      All-contains (λ (p : Part). ¬ HasTooManyHoles p.versions) h.0 holey.0 (few_in h.0 xs h.2) (h.1.has_all holey.0 holey.1) holey.2
