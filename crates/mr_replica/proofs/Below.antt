@@ -5,6 +5,7 @@ use Rattle.std.specs.Option.{option_map, option_map_or, is_none}
 use Rattle.std.proofs.lemmas.Bool.{cases_Bool, and_parts, or_cases, or_left, or_right, ltb-true}
 use Rattle.mr_version.specs.Name.{Name, name_eq}
 use Rattle.mr_forms.specs.Sets.{IsSame}
+use Rattle.mr_forms.specs.Known.{Form}
 use Rattle.mr_concise.specs.declared.vector.AuthorColumn.{AuthorColumn}
 use Rattle.mr_concise.specs.Source.{in_some}
 use Rattle.mr_concise.specs.Vector.{vector_has}
@@ -64,7 +65,7 @@ module _ {K : Type 0} (s : State K) where
       ∙ ap (λ (n : Name). (by_bases (revisions_of s (b ∷ bs)) v || in_some by_base (last_of s.trail item) v) || own_before n v) new_is in
       λ i v. same v i
 
-module _ {K : Type 0} (s : State K) (sound : IsSound s) where
+module _ {K : Type 0} (form : Form K) (s : State K) (sound : IsSound form s) where
   -- what all held revisions are
   held_are : All (λ r. IsRevision r.item r.version r.below) (s.heads ++ s.push_outs)
   held_are = All-append (λ r. IsRevision r.item r.version r.below) s.heads s.push_outs sound.heads_issued.are sound.push_outs_issued.are

@@ -1,5 +1,5 @@
 -- a step is a function: its answer and the new replica are decided, memory aside
-use Rattle.std.proofs.Common.{◌≡◌, ◌≢◌, refl, sym, ap, ◌∙◌, ℕ, ◌⊎◌, List, [], ◌∷◌, Option, Some, None, Result, Ok, Err, inl, inr}
+use Rattle.std.proofs.Common.{◌≡◌, ◌≢◌, refl, sym, ap, ◌∙◌, Bool, true, false, ℕ, List, [], ◌∷◌, Option, Some, None, Result, Ok, Err, inl, inr}
 use Rattle.std.specs.List.{All}
 use Rattle.std.proofs.lemmas.List.Elements.{All-head, All-tail}
 use Rattle.mr_version.specs.Name.{Name}
@@ -7,8 +7,19 @@ use Rattle.mr_forms.specs.Known.{Form}
 use Rattle.mr_concise.specs.declared.vector.AuthorColumn.{AuthorColumn}
 use Rattle.mr_madewith.specs.Revision.{Rev}
 use Rattle.mr_madewith.proofs.MadeWithLemmas.{columns_unique}
-use Rattle.mr_wire.specs.Frames.{Question}
+use Rattle.mr_session.specs.Table.{Table}
+use Rattle.mr_session.specs.Stream.{Stream}
+use Rattle.mr_session.proofs.DrawnLemmas.{gives_unique}
+use Rattle.mr_wire.specs.Values.{DescentParts}
+use Rattle.mr_wire.specs.Frames.{Question, Sent}
 use Rattle.mr_wire.specs.declared.frame.Receipt.{Receipt}
+use Rattle.mr_wire.specs.declared.frame.Frame.{Frame}
+use Rattle.mr_wire.specs.declared.frame.Frame.TheVariants.{Record}
+use Rattle.mr_wire.specs.declared.frame.Body.{Body}
+use Rattle.mr_wire.specs.declared.frame.Body.TheVariants.{Item, MoveOut, End}
+use Rattle.mr_session.specs.Session.{Session, is_full}
+use Rattle.mr_replica.specs.Forged.{line_of}
+use Rattle.mr_replica.specs.Receive.{session_for, entering, moved_on, finished, learning, ending, TakesLine, Ends, EndsSession, TakesBody, TakesFrame}
 use Rattle.mr_replica.specs.State.{State}
 use Rattle.mr_replica.specs.Issue.{Issue, Wanted, Wanted.Vector, Wanted.Knowledge, below_of_issue, Fits, HasFault, FirstFault, revision_for, issuing, logged, Issues}
 use Rattle.mr_replica.specs.Create.{created}
@@ -19,14 +30,15 @@ use Rattle.mr_wire.specs.declared.frame.Mode.{Mode}
 use Rattle.mr_wire.specs.declared.frame.Mode.TheVariants.{Full, Partial}
 use Rattle.mr_replica.specs.Answer.{mode_for, Keeps, KeepsHoley, answering}
 use Rattle.mr_replica.proofs.Kept.{pieces_unique, no_holey}
+use Rattle.mr_replica.specs.Next.{held_now}
 use Rattle.mr_replica.specs.Vouch.{receipt_for, IsReceiptFor}
 use Rattle.mr_replica.proofs.Choice.{some_same}
 use Rattle.mr_replica.proofs.PullLemmas.{same_ask}
 use Rattle.mr_replica.specs.Step.{first_refusal, wanted_by, RefusesLate, Changes, Answers, Steps, IsExact, IsDecided}
 use Rattle.mr_replica.specs.declared.event.Event.{Event}
-use Rattle.mr_replica.specs.declared.event.Event.TheVariants.{Create, Edit, Retire, Pull, CutIn, Answer, CutOut, Vouch, Release}
+use Rattle.mr_replica.specs.declared.event.Event.TheVariants.{Create, Edit, Retire, Pull, Receive, CutIn, Answer, Next, CutOut, Vouch, Release}
 use Rattle.mr_replica.specs.declared.event.Reply.{Reply}
-use Rattle.mr_replica.specs.declared.event.Reply.TheVariants.{Issued, Done, Asked, Streaming, Vouched}
+use Rattle.mr_replica.specs.declared.event.Reply.TheVariants.{Issued, Done, Asked, Streaming, Gave, Took, Known, Finished, Vouched}
 use Rattle.mr_replica.specs.declared.refusal.Refusal.{Refusal}
 use Rattle.mr_replica.specs.declared.refusal.Refusal.TheVariants.{OutOfMemory, TooManyHoles, TooManyItems}
 
@@ -119,9 +131,52 @@ module _ {K : Type 0} (form : Form K) where
   issued_same : (v w : Name) → w ≡ v → (let r : Reply = Issued w in r ≡ Issued v)
   issued_same v w is = ap (λ (u : Name). Issued u) is
 
+  gave_same : (a b : Sent) → b ≡ a → (let r : Reply = Gave b in r ≡ Gave a)
+  gave_same a b is = ap (λ (x : Sent). Gave x) is
+
   -- a version has one receipt
   same_receipt : (s : State K) (version : Name) (a b : Receipt) → IsReceiptFor s version a → IsReceiptFor s version b → b ≡ a
   same_receipt s version a b h k = k.2 ∙ ap (λ (r : Rev). receipt_for s.id r) (some_same k.0 h.0 (sym k.1 ∙ h.1)) ∙ sym h.2
+
+  -- ---- a record
+
+  module _ (s : State K) (sent : Sent) (exact : IsExact form) where
+    -- a version that is told has one reply, and leads to one replica
+    same_line : (line : DescentParts) (comer : Option Rev) (r q : Reply) (new other : State K) → TakesLine form s sent line comer r new → TakesLine form s sent line comer q other → (q ≡ r) × (other ≡ new)
+    same_line line comer Known Known new other h k = (refl, k.1 ∙ sym h.1)
+    same_line line comer Known Took new other h k = cc (sym h.0 ∙ k.0)
+    same_line line comer Known q new other h k = absurd k
+    same_line line comer Took Known new other h k = cc (sym k.0 ∙ h.0)
+    same_line line comer Took Took new other h k =
+        let knowledge : other.knowledge ≡ new.knowledge = exact other.knowledge new.knowledge (λ a b. k.1 a b ∙ sym (h.1 a b)) in
+        (refl, k.2 ∙ ap (λ (t : K). moved_on (learning s t line comer) sent) knowledge ∙ sym h.2)
+    same_line line comer Took q new other h k = absurd k
+    same_line line comer r q new other h k = absurd h
+
+    -- the end of a session leads to one replica
+    same_end : (session : Option Session) (new other : State K) → EndsSession form s sent session new → EndsSession form s sent session other → other ≡ new
+    same_end None new other h k = absurd h
+    same_end (Some session) new other h k = by_mode (is_full session.origin) h k
+      where
+        by_mode : (b : Bool) → Ends form s sent session b new → Ends form s sent session b other → other ≡ new
+        by_mode true h k =
+            let knowledge : other.knowledge ≡ new.knowledge = exact other.knowledge new.knowledge (λ a b. k.0 a b ∙ sym (h.0 a b)) in
+            k.1 ∙ ap (λ (t : K). finished (ending s t session) sent) knowledge ∙ sym h.1
+        by_mode false h k = k ∙ sym h
+
+    same_body : (body : Body) (r q : Reply) (new other : State K) → TakesBody form s sent body r new → TakesBody form s sent body q other → (q ≡ r) × (other ≡ new)
+    same_body (Item rev) r q new other h k = same_line (line_of rev) (entering s (Item rev)) r q new other h k
+    same_body (MoveOut line) r q new other h k = same_line line None r q new other h k
+    same_body End Finished Finished new other h k = (refl, same_end (session_for s sent) new other h k)
+    same_body End Finished q new other h k = absurd k
+    same_body End r q new other h k = absurd h
+    same_body body Took Took new other h k = (refl, k ∙ sym h)
+    same_body body Took q new other h k = absurd k
+    same_body body r q new other h k = absurd h
+
+  same_taken : (s : State K) (frame : Frame) (r q : Reply) (new other : State K) → IsExact form → TakesFrame form s frame r new → TakesFrame form s frame q other → (q ≡ r) × (other ≡ new)
+  same_taken s (Record sent) r q new other exact h k = same_body s sent exact sent.body r q new other h k
+  same_taken s frame r q new other exact h k = absurd h
 
   -- a reply stands for one change
   same_change : (s : State K) (event : Event) (r q : Reply) (new other : State K) → IsExact form → Changes form s event r new → Changes form s event q other → (q ≡ r) × (other ≡ new)
@@ -144,6 +199,7 @@ module _ {K : Type 0} (form : Form K) where
       (streaming_same n m (k.0 ∙ sym h.0), k.3 ∙ ap (λ (pieces : List Piece). logged (answering s ask pieces) (Answer ask)) know ∙ sym h.3)
   same_change s (Answer ask) (Streaming n) q new other exact h k = absurd k
   same_change s (Answer ask) r q new other exact h k = absurd h
+  same_change s (Receive frame) r q new other exact h k = same_taken s frame r q new other exact h k
   same_change s Retire Done Done new other exact h k = (refl, k ∙ sym h)
   same_change s Retire Done q new other exact h k = absurd k
   same_change s Retire r q new other exact h k = absurd h
@@ -153,6 +209,11 @@ module _ {K : Type 0} (form : Form K) where
   same_change s (CutIn session) Done Done new other exact h k = (refl, k ∙ sym h)
   same_change s (CutIn session) Done q new other exact h k = absurd k
   same_change s (CutIn session) r q new other exact h k = absurd h
+  same_change s (Next stream) (Gave a) (Gave b) new other exact h k =
+      let one = gives_unique s.id stream s.streams (held_now s) a b h.0 k.0 h.1 k.1 in
+      (gave_same a b one.0, k.2 ∙ ap (λ (t : Table Stream). logged (record s { streams = t }) (Next stream)) one.1 ∙ sym h.2)
+  same_change s (Next stream) (Gave a) q new other exact h k = absurd k
+  same_change s (Next stream) r q new other exact h k = absurd h
   same_change s (CutOut stream) Done Done new other exact h k = (refl, k ∙ sym h)
   same_change s (CutOut stream) Done q new other exact h k = absurd k
   same_change s (CutOut stream) r q new other exact h k = absurd h

@@ -1,25 +1,26 @@
 -- what a replica keeps when it issues a revision
-use Rattle.std.proofs.Common.{◌≡◌, ◌≤◌, ◌+◌, ℕ, Bool, true, false, not, cond, ap, ◌∙◌, arith, refl, List, [], ◌∷◌, ◌++◌, None, inl, inr}
+use Rattle.std.proofs.Common.{◌≡◌, ◌≤◌, ◌+◌, ℕ, Bool, true, false, not, ◌&&◌, ◌||◌, cond, ap, ◌∙◌, arith, refl, List, [], ◌∷◌, ◌++◌, None, inl, inr}
 use Rattle.std.specs.List.{All}
-use Rattle.std.proofs.lemmas.Bool.{cases_Bool}
+use Rattle.std.proofs.lemmas.Bool.{cases_Bool, or_left, or_right}
 use Rattle.std.proofs.lemmas.List.{length_push}
 use Rattle.std.proofs.lemmas.List.Elements.{All-cons, All-head, All-tail, All-filter, All-weaker, All-append}
 use Rattle.mr_version.specs.Name.{Name, name_eq}
+use Rattle.mr_forms.specs.Known.{Form, AreSame}
 use Rattle.mr_concise.specs.declared.vector.AuthorColumn.{AuthorColumn}
 use Rattle.mr_madewith.specs.Revision.{Rev, IsRevision, has_below}
 use Rattle.mr_madewith.specs.Keyed.{without, placed, is_before}
 use Rattle.mr_madewith.specs.Trail.{item_of_last}
-use Rattle.mr_madewith.proofs.Rising.{same_names}
+use Rattle.mr_madewith.proofs.Rising.{same_names, name_eq_self}
 use Rattle.mr_store.specs.Revisions.{version_of, revision_of, supersedes, left_by}
-use Rattle.mr_replica.specs.State.{State, held}
-use Rattle.mr_replica.specs.Sound.{AreNoLater, AreIssued, IsSound}
-use Rattle.mr_replica.specs.Issue.{is_selected, entered_if, issuing, logged}
+use Rattle.mr_replica.specs.State.{State, held, next_version}
+use Rattle.mr_replica.specs.Sound.{AreNoLater, AreIssued, AreKnown, IsSound}
+use Rattle.mr_replica.specs.Issue.{version_learned, is_selected, entered_if, issuing, logged}
 use Rattle.mr_replica.specs.Issued.{IsNext}
 use Rattle.mr_replica.specs.declared.event.Event.{Event}
 use Rattle.mr_replica.proofs.Keeping.{within_later}
 
 -- what holds of all and of one more holds with that one at its place
-All-placed : {X : Type 0} (name : X → Name) (P : X → Type 0) (r : X) (xs : List X) → P r → All P xs → All P (placed name r xs)
+pub All-placed : {X : Type 0} (name : X → Name) (P : X → Type 0) (r : X) (xs : List X) → P r → All P xs → All P (placed name r xs)
 All-placed name P r [] p h = All-cons P r [] p h
 All-placed name P r (x ∷ xs) p h =
     elim (is_before (name x) (name r)) as (λ b. All P (cond b (x ∷ placed name r xs) (r ∷ x ∷ xs))) [
@@ -44,12 +45,30 @@ not_issued id issued v (r ∷ rs) h author counter =
     ]
 
 -- the next own version is not held yet
-pub next_not_held : {K : Type 0} (s : State K) (v : Name) → IsSound s → v.author ≡ s.id → v.counter ≡ s.issued + 1 → held s v ≡ None
-next_not_held s v sound author counter =
+pub next_not_held : {K : Type 0} (form : Form K) (s : State K) (v : Name) → IsSound form s → v.author ≡ s.id → v.counter ≡ s.issued + 1 → held s v ≡ None
+next_not_held form s v sound author counter =
     not_issued s.id s.issued v (s.heads ++ s.push_outs)
     (All-append (λ r. AreNoLater s.id s.issued r.version r.below) s.heads s.push_outs sound.heads_issued.no_later sound.push_outs_issued.no_later) author counter
 
-module _ {K : Type 0} (s : State K) (k : K) (r : Rev) (event : Event) (sound : IsSound s) (next : IsNext s r) where
+module _ {K : Type 0} (form : Form K) (s : State K) (k : K) (r : Rev) (event : Event) (sound : IsSound form s) (next : IsNext s r) (known : AreSame (form.known k) (version_learned form s r.item)) where
+  -- what was known is known still, and the new version too
+  still_known : (i v : Name) → form.known s.knowledge i v ≡ true → form.known k i v ≡ true
+  still_known i v h = known i v ∙ or_right ((form.learns_for_all || name_eq r.item i) && name_eq (next_version s) v) (form.known s.knowledge i v) h
+
+  new_known : form.known k r.item r.version ≡ true
+  new_known =
+      let of_item : (form.learns_for_all || name_eq r.item r.item) ≡ true = or_right form.learns_for_all (name_eq r.item r.item) (name_eq_self r.item) in
+      let is_next : name_eq (next_version s) r.version ≡ true = ap (λ (v : Name). name_eq (next_version s) v) next.version ∙ name_eq_self (next_version s) in
+      let both : ((form.learns_for_all || name_eq r.item r.item) && name_eq (next_version s) r.version) ≡ true = ap (λ b. b && name_eq (next_version s) r.version) of_item ∙ is_next in
+      known r.item r.version ∙ or_left ((form.learns_for_all || name_eq r.item r.item) && name_eq (next_version s) r.version) (form.known s.knowledge r.item r.version) both
+
+  known_entered : (b : Bool) (rs : List Rev) → AreKnown (form.known s.knowledge) rs → AreKnown (form.known k) (entered_if b r (left_by r.item (has_below r) rs))
+  known_entered b rs h =
+      let Now : Rev → Type 0 = λ q. form.known k q.item q.version ≡ true in
+      let Was : Rev → Type 0 = λ q. form.known s.knowledge q.item q.version ≡ true in
+      let stays : Rev → Bool = λ q. not (supersedes r.item (has_below r) q) in
+      All-entered_if b Now r (left_by r.item (has_below r) rs) new_known (All-filter stays Now rs (All-weaker Was Now (λ q was. still_known q.item q.version was) rs h))
+
   -- what was no later is no later than the next
   later_still : (version : Name) (below : List AuthorColumn) → AreNoLater s.id s.issued version below → AreNoLater s.id (s.issued + 1) version below
   later_still version below h = record { itself = λ a. omega (arith, h.itself a); all_below = λ v in' a. omega (arith, h.all_below v in' a) }
@@ -82,7 +101,7 @@ module _ {K : Type 0} (s : State K) (k : K) (r : Rev) (event : Event) (sound : I
         no_later = All-placed item_of_last NoLater r others next_no_later (All-filter of_others NoLater s.trail (All-weaker WasNoLater NoLater (λ l n. later_still l.version l.below n) s.trail sound.trail_issued.no_later));
       }
 
-  pub sound_issued : IsSound (logged (issuing s k r) event)
+  pub sound_issued : IsSound form (logged (issuing s k r) event)
   sound_issued = record {
     limit_from = sound.limit_from;
     limit_to = sound.limit_to;
@@ -90,6 +109,8 @@ module _ {K : Type 0} (s : State K) (k : K) (r : Rev) (event : Event) (sound : I
     heads_issued = issued_entered (is_selected s r) s.heads sound.heads_issued;
     push_outs_issued = issued_entered (not (is_selected s r)) s.push_outs sound.push_outs_issued;
     trail_issued = issued_noted;
+    heads_known = known_entered (is_selected s r) s.heads sound.heads_known;
+    push_outs_known = known_entered (not (is_selected s r)) s.push_outs sound.push_outs_known;
     sessions_within = within_later (λ session. session.next) s.log event s.sessions sound.sessions_within;
     streams_within = within_later (λ stream. stream.next) s.log event s.streams sound.streams_within;
   }

@@ -1,8 +1,9 @@
 -- what a replica keeps as it admits an event
-use Rattle.std.proofs.Common.{◌≤◌, ◌==◌, ℕ, Bool, not, arith, List, [], ◌∷◌, ◌++◌, length}
+use Rattle.std.proofs.Common.{◌≡◌, ◌≤◌, ◌==◌, ℕ, Bool, true, not, arith, List, [], ◌∷◌, ◌++◌, length}
 use Rattle.std.proofs.lemmas.List.{length_push}
 use Rattle.std.proofs.lemmas.List.Elements.{All-filter, All-weaker}
 use Rattle.mr_forms.specs.Sets.{Versions}
+use Rattle.mr_forms.specs.Known.{Pairs, Form}
 use Rattle.mr_version.specs.Name.{Name}
 use Rattle.mr_madewith.specs.Revision.{Rev, IsRevision}
 use Rattle.mr_store.specs.Revisions.{supersedes, left_by}
@@ -10,7 +11,7 @@ use Rattle.mr_session.specs.Table.{Table, Numbered, with_closed}
 use Rattle.mr_session.specs.Session.{Session}
 use Rattle.mr_session.specs.Stream.{Stream}
 use Rattle.mr_replica.specs.State.{State}
-use Rattle.mr_replica.specs.Sound.{AreNoLater, AreIssued, AreWithin, IsSound}
+use Rattle.mr_replica.specs.Sound.{AreNoLater, AreIssued, AreKnown, AreWithin, IsSound}
 use Rattle.mr_replica.specs.Issue.{logged}
 use Rattle.mr_replica.specs.declared.event.Event.{Event}
 
@@ -38,17 +39,23 @@ issued_left id issued item below rs h =
       no_later = All-filter stays (λ r. AreNoLater id issued r.version r.below) rs h.no_later;
     }
 
+-- what is left of known versions is known
+pub known_left : (known : Pairs) (item : Name) (below : Versions) (rs : List Rev) → AreKnown known rs → AreKnown known (left_by item below rs)
+known_left known item below rs h = All-filter (λ r. not (supersedes item below r)) (λ r. known r.item r.version ≡ true) rs h
+
 -- a replica that admits an event which only closes, releases or retires
-pub sound_with : {K : Type 0} (s : State K) (push_outs : List Rev) (is_retired : Bool) (sessions : Table Session) (streams : Table Stream) (event : Event) → IsSound s → AreIssued s.id s.issued push_outs
+pub sound_with : {K : Type 0} (form : Form K) (s : State K) (push_outs : List Rev) (is_retired : Bool) (sessions : Table Session) (streams : Table Stream) (event : Event) → IsSound form s → AreIssued s.id s.issued push_outs → AreKnown (form.known s.knowledge) push_outs
     → AreWithin (λ session. session.next) (length s.log) sessions → AreWithin (λ stream. stream.next) (length s.log) streams
-    → IsSound (logged (record s { push_outs = push_outs; is_retired = is_retired; sessions = sessions; streams = streams }) event)
-sound_with s push_outs is_retired sessions streams event sound issued sessions_within streams_within = record {
+    → IsSound form (logged (record s { push_outs = push_outs; is_retired = is_retired; sessions = sessions; streams = streams }) event)
+sound_with form s push_outs is_retired sessions streams event sound issued known sessions_within streams_within = record {
   limit_from = sound.limit_from;
   limit_to = sound.limit_to;
   issued_few = omega (arith, sound.issued_few, length_push s.log event);
   heads_issued = sound.heads_issued;
   push_outs_issued = issued;
   trail_issued = sound.trail_issued;
+  heads_known = sound.heads_known;
+  push_outs_known = known;
   sessions_within = within_later (λ session. session.next) s.log event sessions sessions_within;
   streams_within = within_later (λ stream. stream.next) s.log event streams streams_within;
 }

@@ -4,11 +4,17 @@ pub mod Below
 pub mod Staying
 pub mod Keeping
 pub mod Issuing
+pub mod Highest
+pub mod Taking
+pub mod Told
+pub mod Taken
+pub mod Merging
 pub mod Releasing
 pub mod PullLemmas
 pub mod Answered
 pub mod PieceLemmas
 pub mod Kept
 pub mod Opening
+pub mod Drawing
 pub mod Decided
 mod Rows

@@ -2,6 +2,7 @@
 use Rattle.std.proofs.Common.{◌≡◌, ◌≤◌, ◌+◌, ℕ, arith, List, [], ◌∷◌, ◌++◌, length}
 use Rattle.std.proofs.lemmas.List.{length_push}
 use Rattle.std.proofs.lemmas.List.Elements.{All-push, All-weaker}
+use Rattle.mr_forms.specs.Known.{Form}
 use Rattle.mr_session.specs.Table.{Table, Numbered, with_opened}
 use Rattle.mr_session.specs.Stream.{Stream}
 use Rattle.mr_replica.specs.State.{State}
@@ -21,14 +22,16 @@ within_opened {T} next log event table value begun h = record {
 }
 
 -- a replica that admits an event which changes its streams alone
-pub sound_streaming : {K : Type 0} (s : State K) (streams : Table Stream) (event : Event) → IsSound s → AreWithin (λ stream. stream.next) (length (s.log ++ event ∷ [])) streams → IsSound (logged (record s { streams = streams }) event)
-sound_streaming s streams event sound within = record {
+pub sound_streaming : {K : Type 0} (form : Form K) (s : State K) (streams : Table Stream) (event : Event) → IsSound form s → AreWithin (λ stream. stream.next) (length (s.log ++ event ∷ [])) streams → IsSound form (logged (record s { streams = streams }) event)
+sound_streaming form s streams event sound within = record {
   limit_from = sound.limit_from;
   limit_to = sound.limit_to;
   issued_few = omega (arith, sound.issued_few, length_push s.log event);
   heads_issued = sound.heads_issued;
   push_outs_issued = sound.push_outs_issued;
   trail_issued = sound.trail_issued;
+  heads_known = sound.heads_known;
+  push_outs_known = sound.push_outs_known;
   sessions_within = within_later (λ session. session.next) s.log event s.sessions sound.sessions_within;
   streams_within = within;
 }

@@ -233,14 +233,14 @@ module _ {K : Type 0} (s : State K) (admitted : pull_refusal s ≡ None) where
   session_room = leb-false most_open (length s.sessions.open_ones) (refused_not (nat_le most_open (length s.sessions.open_ones)) TooManySessions (first_none (refused_if (nat_le most_open (length s.sessions.open_ones)) TooManySessions) (log_full s) (later_none (retired s) (refused_if (nat_le most_open (length s.sessions.open_ones)) TooManySessions orelse log_full s) admitted)))
 
   -- there is a number for it
-  pub session_number : IsSound s → s.sessions.opened < 1000000
-  session_number sound =
+  pub session_number : (form : Form K) → IsSound form s → s.sessions.opened < 1000000
+  session_number form sound =
       let room : length s.log < s.event_limit = leb-false s.event_limit (length s.log) (refused_not (nat_le s.event_limit (length s.log)) LogFull (later_none (refused_if (nat_le most_open (length s.sessions.open_ones)) TooManySessions) (log_full s) (later_none (retired s) (refused_if (nat_le most_open (length s.sessions.open_ones)) TooManySessions orelse log_full s) admitted))) in
       omega (arith, room, sound.limit_to, sound.sessions_within.opened)
 
 -- the replica keeps what it keeps
-pub sound_pulled : {K : Type 0} (s : State K) (event : Event) → IsSound s → IsSound (logged (pulling s) event)
-sound_pulled s event sound =
+pub sound_pulled : {K : Type 0} (form : Form K) (s : State K) (event : Event) → IsSound form s → IsSound form (logged (pulling s) event)
+sound_pulled form s event sound =
     let later = within_later (λ (k : Session). k.next) s.log event s.sessions sound.sessions_within in
     record {
       limit_from = sound.limit_from;
@@ -249,6 +249,8 @@ sound_pulled s event sound =
       heads_issued = sound.heads_issued;
       push_outs_issued = sound.push_outs_issued;
       trail_issued = sound.trail_issued;
+      heads_known = sound.heads_known;
+      push_outs_known = sound.push_outs_known;
       sessions_within = record {
         opened = omega (arith, sound.sessions_within.opened, length_push s.log event);
         next_few = All-push (λ (x : Numbered Session). x.value.next ≤ length (s.log ++ event ∷ [])) s.sessions.open_ones (record { number = s.sessions.opened + 1; value = new_session }) later.next_few (omega arith);

@@ -1,5 +1,5 @@
 -- Worked rows: what the definitions of a step say of states that were computed by hand.
-use Rattle.std.proofs.Common.{◌≡◌, arith, ℕ, zero, suc, Bool, true, false, refl, List, [], ◌∷◌, map, Some, None}
+use Rattle.std.proofs.Common.{◌≡◌, arith, ℕ, zero, suc, Bool, true, false, refl, List, [], ◌∷◌, ◌++◌, map, Option, Some, None}
 use Rattle.mr_version.specs.Name.{Name}
 use Rattle.mr_forms.specs.Known.{Form}
 use Rattle.mr_concise.specs.declared.vector.AuthorColumn.{AuthorColumn}
@@ -13,11 +13,13 @@ use Rattle.mr_session.specs.Session.{new_session}
 use Rattle.mr_wire.specs.Values.{Piece}
 use Rattle.mr_wire.specs.Encoding.{total_len}
 use Rattle.mr_session.specs.Stream.{Stream, new_stream}
-use Rattle.mr_wire.specs.Frames.{Question}
+use Rattle.mr_wire.specs.Frames.{Sent, Question}
+use Rattle.mr_wire.specs.declared.frame.Body.{Body}
+use Rattle.mr_wire.specs.declared.frame.Body.TheVariants.{Item, End}
 use Rattle.mr_wire.specs.declared.frame.Mode.TheVariants.{Full, Partial}
 use Rattle.mr_wire.specs.declared.frame.Receipt.{Receipt}
 use Rattle.mr_replica.specs.State.{State}
-use Rattle.mr_replica.specs.Issue.{below_of_issue, version_learned, issuing}
+use Rattle.mr_replica.specs.Issue.{below_of_issue, version_learned, issuing, logged}
 use Rattle.mr_replica.specs.Contents.{news_of}
 use Rattle.mr_replica.specs.Edit.{edited}
 use Rattle.mr_replica.specs.Retire.{retiring}
@@ -25,10 +27,11 @@ use Rattle.mr_replica.specs.Pull.{IsLongestWithin, pulling}
 use Rattle.mr_replica.specs.CutIn.{cutting_in}
 use Rattle.mr_replica.specs.CutOut.{cutting_out}
 use Rattle.mr_replica.specs.Answer.{asked_of, mode_for, Keeps, answering}
+use Rattle.mr_replica.specs.Next.{GivesNext}
 use Rattle.mr_replica.specs.Vouch.{receipt_for}
 use Rattle.mr_replica.specs.Release.{releasing}
 use Rattle.mr_replica.specs.Step.{first_refusal}
-use Rattle.mr_replica.specs.declared.event.Event.TheVariants.{Edit, Retire, Pull, CutIn, Answer, CutOut, Vouch, Release}
+use Rattle.mr_replica.specs.declared.event.Event.TheVariants.{Edit, Retire, Pull, CutIn, Answer, Next, CutOut, Vouch, Release}
 use Rattle.mr_replica.proofs.PullLemmas.{fits_until}
 use Rattle.mr_replica.specs.declared.refusal.Refusal.TheVariants.{Retired, NoBase, NotHeld, MixedItems, OwnHeadLeft, LogFull, TooManySessions, TooManyStreams, NoSession, NoStream, OwnAsk, NotPushedOut, PushOutsLeft}
 
@@ -339,3 +342,49 @@ keeps_nothing_in_part = refl
 
 next_stream : (answering (telling 2) (request 1 flagged) []).streams.opened ≡ 3
 next_stream = refl
+
+-- ---- records: the stream must be open, and gives of what is held now
+
+no_stream_to_give : first_refusal (record (telling 2) { event_limit = 0 }) (Next 3) ≡ Some NoStream
+no_stream_to_give = refl
+
+gives_nothing_of_a_full_log : first_refusal (record (telling 2) { event_limit = 0 }) (Next 2) ≡ Some LogFull
+gives_nothing_of_a_full_log = refl
+
+gives_after_retirement : first_refusal (retiring (telling 2)) (Next 2) ≡ None
+gives_after_retirement = refl
+
+-- a partial stream for all messages, of which the next record has this index, and whose walk looked at this version last
+abbrev walking : ℕ → Option Name → Stream
+walking index past = record (new_stream (asked_of (request 1 all_messages)) Partial []) { next = index; past = past }
+
+-- a replica with these heads, of which the stream 1 is open
+abbrev giving : List Rev → Stream → State (Unit {0})
+giving heads stream = record conflict { heads = heads; streams = record { opened = 1; open_ones = (record { number = 1; value = stream }) ∷ [] } }
+
+-- the record of that index
+abbrev record_of : ℕ → Body → Sent
+record_of index body = record { header = record { source = 0; stream = 1; target = 1; session = 1; index = index }; body = body }
+
+-- 3.1 has entered since the walk looked at 2.1, the last head of then
+abbrev entered_since : Rev
+entered_since = rev (name 3 1) (column 0 1 ∷ [])
+
+gives_what_entered_since :
+    GivesNext (giving (conflict.heads ++ entered_since ∷ []) (walking 3 (Some (name 2 1)))) 1 (record_of 3 (Item entered_since))
+    (logged (giving (conflict.heads ++ entered_since ∷ []) (walking 4 (Some (name 3 1)))) (Next 1))
+gives_what_entered_since = (
+  (giving [] (walking 4 (Some (name 3 1)))).streams,
+  (walking 3 (Some (name 2 1)), walking 4 (Some (name 3 1)), refl, (walking 3 (Some (name 3 1)), (refl, refl), refl, refl), refl),
+  refl,
+)
+
+-- else the stream ends, and is closed
+closed_with_its_end :
+    GivesNext (giving conflict.heads (walking 3 (Some (name 2 1)))) 1 (record_of 3 End)
+    (logged (record conflict { streams = record { opened = 1; open_ones = [] } }) (Next 1))
+closed_with_its_end = (
+  record { opened = 1; open_ones = [] },
+  (walking 3 (Some (name 2 1)), walking 4 (Some (name 2 1)), refl, (walking 3 (Some (name 2 1)), (refl, refl), refl, refl), refl),
+  refl,
+)

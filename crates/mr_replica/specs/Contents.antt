@@ -1,5 +1,5 @@
 -- what a replica holds and tells, and one revision more
-use Rattle.std.specs.Prelude.{◌≡◌, ◌≤◌, ◌<◌, ℕ, Bool, true, false, Some, List, ◌++◌, map, filter}
+use Rattle.std.specs.Prelude.{◌≡◌, ◌≤◌, ◌<◌, ℕ, Bool, true, false, Option, Some, None, List, ◌++◌, map, filter}
 use Rattle.mr_version.specs.Name.{Name}
 use Rattle.mr_feed.specs.declared.entry.Entry.{Entry}
 use Rattle.mr_feed.specs.Feed.{FeedView}
@@ -35,6 +35,11 @@ pub record HasRoom (selected : Bool) (item : Name) (entries : ℕ) (c : ContentP
   pub in_trail : 0 < c.trail.room
   pub in_feed : entries ≤ c.feed.room
   pub in_log : 0 < c.log_room
+
+-- there is room for the revision in the heads, where there is one
+abbrev pub HasPlace : Option Rev → Holdings → Type 0
+HasPlace None store = Unit {0}
+HasPlace (Some r) store = room_in Heads store ≡ Some r.item
 
 -- nothing but room has changed
 pub record HoldsSame (old new : ContentParts) : Type 0 where

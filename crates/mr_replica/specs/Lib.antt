@@ -14,6 +14,10 @@ pub mod Vouch
 pub mod Release
 pub mod Pieces
 pub mod Answer
+pub mod Next
+pub mod Forged
+pub mod Receive
+pub mod Taking
 pub mod Contents
 pub mod Issued
 pub mod Step

@@ -1,6 +1,7 @@
 -- what each replica keeps
 use Rattle.std.specs.Prelude.{◌≡◌, ◌≤◌, ℕ, true, List, length, All}
 use Rattle.mr_version.specs.Name.{Name}
+use Rattle.mr_forms.specs.Known.{Pairs, Form}
 use Rattle.mr_concise.specs.Vector.{vector_has}
 use Rattle.mr_concise.specs.declared.vector.AuthorColumn.{AuthorColumn}
 use Rattle.mr_madewith.specs.Revision.{Rev, IsRevision}
@@ -26,12 +27,18 @@ pub record AreWithin {T : Type 0} (next : T → ℕ) (events : ℕ) (table : Tab
   pub opened : table.opened ≤ events
   pub next_few : All (λ (x : Numbered T). next x.value ≤ events) table.open_ones
 
-pub record IsSound {K : Type 0} (s : State K) : Type 0 where
+-- each of these versions is known for its item
+abbrev pub AreKnown : Pairs → List Rev → Type 0
+AreKnown known rs = All (λ r. known r.item r.version ≡ true) rs
+
+pub record IsSound {K : Type 0} (form : Form K) (s : State K) : Type 0 where
   pub limit_from : 1 ≤ s.event_limit
   pub limit_to : s.event_limit ≤ 1000000
   pub issued_few : s.issued ≤ length s.log
   pub heads_issued : AreIssued s.id s.issued s.heads
   pub push_outs_issued : AreIssued s.id s.issued s.push_outs
   pub trail_issued : AreIssued s.id s.issued s.trail
+  pub heads_known : AreKnown (form.known s.knowledge) s.heads
+  pub push_outs_known : AreKnown (form.known s.knowledge) s.push_outs
   pub sessions_within : AreWithin (λ session. session.next) (length s.log) s.sessions
   pub streams_within : AreWithin (λ stream. stream.next) (length s.log) s.streams

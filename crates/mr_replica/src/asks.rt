@@ -6,8 +6,8 @@ use mr_session::AskedOf;
 use mr_wire::{Ask, FrameFragment};
 use std::alloc::{AllocError, Global};
 
-// An equal fragment.
-fn copied_piece(fragment: &FrameFragment) -> Result<FrameFragment, AllocError>
+/// An equal fragment.
+pub fn copied_piece(fragment: &FrameFragment) -> Result<FrameFragment, AllocError>
     ensures { IfOk result (λ copy. copy ≡ fragment.now) }
 {
     let copy = fragment.as_fragment().copy()?;

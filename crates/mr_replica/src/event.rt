@@ -2,10 +2,10 @@
 ghost use Rattle.std.specs.Prelude.{◌≡◌, IfOk};
 
 use crate::asks::copied_ask;
-use crate::copies::copied_receipt;
+use crate::copies::{copied_frame, copied_receipt};
 use mr_mail::Message;
 use mr_version::Version;
-use mr_wire::{Ask, Receipt};
+use mr_wire::{Ask, Frame, Receipt, Record};
 use std::alloc::{AllocError, Global};
 use std::marker::Model;
 
@@ -64,10 +64,14 @@ pub enum Event {
     Retire,
     /// Open a session, and ask in it for what the replica lacks.
     Pull,
+    /// Take a record of the stream that one of its sessions asked for.
+    Receive(Frame),
     /// Close the session of this number. What was taken in it stays.
     CutIn(u64),
     /// Open a stream for one who asks.
     Answer(Ask),
+    /// Give the next record of the stream of this number.
+    Next(u64),
     /// Close the stream of this number.
     CutOut(u64),
     /// Give a receipt for the version, which is a head.
@@ -86,8 +90,10 @@ impl Event {
             Event::Edit(bases, message) => Ok(Event::Edit(bases.copy()?, message.copy()?)),
             Event::Retire => Ok(Event::Retire),
             Event::Pull => Ok(Event::Pull),
+            Event::Receive(frame) => Ok(Event::Receive(copied_frame(alloc, frame)?)),
             Event::CutIn(session) => Ok(Event::CutIn(*session)),
             Event::Answer(ask) => Ok(Event::Answer(copied_ask(alloc, ask)?)),
+            Event::Next(stream) => Ok(Event::Next(*stream)),
             Event::CutOut(stream) => Ok(Event::CutOut(*stream)),
             Event::Vouch(version) => Ok(Event::Vouch(*version)),
             Event::Release(receipt) => Ok(Event::Release(copied_receipt(receipt)?)),
@@ -106,6 +112,14 @@ pub enum Reply {
     Asked(Ask),
     /// The stream of this number was opened, by an Answer.
     Streaming(u64),
+    /// The stream's next record, of what was held as a Next asked for it.
+    Gave(Record),
+    /// The record was taken, and what it tells was not known.
+    Took,
+    /// The record was taken, and tells of a version that is known already.
+    Known,
+    /// The stream's last record was taken, and its session is closed.
+    Finished,
     /// The receipt that was asked for by a Vouch.
     Vouched(Receipt),
 }

@@ -17,6 +17,11 @@
 //! others what it holds. What it has taken of the streams that it asked for, and what it tells others,
 //! are its sessions and streams; each can be cut. Another replica's request is answered by a stream, which
 //! is full, and keeps what is known at that moment, where all that the other selects is selected here.
+//! A stream gives a record at a time, of what is held as it is asked for, and is closed with its End.
+//!
+//! What a stream tells is taken record by record, by the session that asked for it. A version that is told is
+//! learned at once with what it supersedes; what a full stream tells behind its versions is kept until its end,
+//! and then tells which heads the source no longer holds.
 //!
 //! What is known is kept in a form that the caller chooses, by the type `K`. A version that is issued
 //! is learned for its item, alone: what it supersedes of its item was learned before it, and the rest are

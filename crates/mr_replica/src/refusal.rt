@@ -2,6 +2,7 @@
 ghost use Rattle.std.specs.Prelude.{◌≡◌};
 
 use mr_forms::FormFault;
+use mr_session::SessionFault;
 use mr_version::Version;
 use std::alloc::AllocError;
 use thiserror::Error;
@@ -35,8 +36,20 @@ pub enum Refusal {
     TooManySessions,
     #[error("eight streams are open")]
     TooManyStreams,
+    #[error("the record is for another replica")]
+    NotForMe,
     #[error("no session of that number is open")]
     NoSession,
+    #[error("the session waits for a start")]
+    NotStart,
+    #[error("the session takes another stream")]
+    OtherStream,
+    #[error("the session has taken the record")]
+    Repeated,
+    #[error("the session has not taken the record before")]
+    Gap,
+    #[error("the frame is no record")]
+    NotARecord,
     #[error("no stream of that number is open")]
     NoStream,
     #[error("the request is the replica's own")]
@@ -45,6 +58,10 @@ pub enum Refusal {
     NotPushedOut,
     #[error("push-outs are left")]
     PushOutsLeft,
+    /// The record tells of an own version that was not issued, or of a held version as one of another
+    /// item.
+    #[error("no replica gave the record")]
+    Forged,
 }
 
 impl Refusal {
@@ -66,11 +83,18 @@ impl Refusal {
             Refusal::LogFull => 8,
             Refusal::TooManySessions => 9,
             Refusal::TooManyStreams => 10,
+            Refusal::NotForMe => 11,
             Refusal::NoSession => 12,
+            Refusal::NotStart => 13,
+            Refusal::OtherStream => 14,
+            Refusal::Repeated => 15,
+            Refusal::Gap => 16,
+            Refusal::NotARecord => 17,
             Refusal::NoStream => 18,
             Refusal::OwnAsk => 19,
             Refusal::NotPushedOut => 20,
             Refusal::PushOutsLeft => 21,
+            Refusal::Forged => 22,
         }
     }
 
@@ -90,11 +114,18 @@ impl Refusal {
             Refusal::LogFull => "LogFull",
             Refusal::TooManySessions => "TooManySessions",
             Refusal::TooManyStreams => "TooManyStreams",
+            Refusal::NotForMe => "NotForMe",
             Refusal::NoSession => "NoSession",
+            Refusal::NotStart => "NotStart",
+            Refusal::OtherStream => "OtherStream",
+            Refusal::Repeated => "Repeated",
+            Refusal::Gap => "Gap",
+            Refusal::NotARecord => "NotARecord",
             Refusal::NoStream => "NoStream",
             Refusal::OwnAsk => "OwnAsk",
             Refusal::NotPushedOut => "NotPushedOut",
             Refusal::PushOutsLeft => "PushOutsLeft",
+            Refusal::Forged => "Forged",
         }
     }
 }
@@ -122,5 +153,21 @@ impl From<AllocError> for Refusal {
 
     fn from(_error: AllocError) -> Refusal {
         Refusal::OutOfMemory
+    }
+}
+
+impl From<SessionFault> for Refusal {
+    ghost use Rattle.std.specs.Prelude.{◌≡◌};
+    ghost use Rattle.mr_replica.specs.Refusal.{refusal_of_session};
+
+    ghost from_gives = { λ fault refusal. refusal ≡ refusal_of_session fault };
+
+    fn from(fault: SessionFault) -> Refusal {
+        match fault {
+            SessionFault::NotStart => Refusal::NotStart,
+            SessionFault::OtherStream => Refusal::OtherStream,
+            SessionFault::Repeated => Refusal::Repeated,
+            SessionFault::Gap => Refusal::Gap,
+        }
     }
 }

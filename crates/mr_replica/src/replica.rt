@@ -9,11 +9,16 @@ mod create;
 mod cut_in;
 mod cut_out;
 mod edit;
+mod end;
+mod forged;
 mod issue;
+mod next;
 mod pull;
+mod receive;
 mod release;
 mod retire;
 mod step;
+mod take;
 mod vouch;
 
 use crate::{Event, Revision};
@@ -73,7 +78,7 @@ impl<K: Knowledge> Model for Replica<K> {
 
     ghost view = { λ r. record { id = r.id; filter = r.filter; event_limit = r.event_limit; issued = r.issued; knowledge = r.knowledge; heads = r.contents.store.heads; push_outs = r.contents.store.push_outs; trail = r.contents.trail.lasts; feed = r.contents.feed.entries; log = r.contents.log; is_retired = r.is_retired; sessions = r.sessions; streams = r.streams } };
 
-    ghost invariant = { λ r. IsSound (record { id = r.id; filter = r.filter; event_limit = r.event_limit; issued = r.issued; knowledge = r.knowledge; heads = r.contents.store.heads; push_outs = r.contents.store.push_outs; trail = r.contents.trail.lasts; feed = r.contents.feed.entries; log = r.contents.log; is_retired = r.is_retired; sessions = r.sessions; streams = r.streams }) };
+    ghost invariant = { λ r. IsSound K.form (record { id = r.id; filter = r.filter; event_limit = r.event_limit; issued = r.issued; knowledge = r.knowledge; heads = r.contents.store.heads; push_outs = r.contents.store.push_outs; trail = r.contents.trail.lasts; feed = r.contents.feed.entries; log = r.contents.log; is_retired = r.is_retired; sessions = r.sessions; streams = r.streams }) };
 }
 
 impl<K: Knowledge> Replica<K> {

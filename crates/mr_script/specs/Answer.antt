@@ -9,18 +9,22 @@ use Rattle.mr_concise.specs.Fragments.{ConciseFragment, knowledge_text}
 use Rattle.mr_feed.specs.declared.entry.Entry.{Entry}
 use Rattle.mr_feed.specs.declared.entry.Entry.TheVariants.{Added, Dropped}
 use Rattle.mr_replica.specs.declared.event.Reply.{Reply}
-use Rattle.mr_replica.specs.declared.event.Reply.TheVariants.{Issued, Done, Asked, Streaming, Vouched}
+use Rattle.mr_replica.specs.declared.event.Reply.TheVariants.{Issued, Done, Asked, Streaming, Gave, Took, Known, Finished, Vouched}
 use Rattle.mr_replica.specs.declared.refusal.Refusal.{Refusal}
 use Rattle.mr_replica.specs.declared.refusal.Refusal.TheVariants.{NotHeld, OwnHeadLeft}
 use Rattle.mr_replica.specs.Refusal.{refusal_number, refusal_name}
 use Rattle.mr_madewith.specs.Revision.{Rev}
 
--- `issued V`, `done`, `asked session N`, `streaming N`, or `vouched V`
+-- `issued V`, `done`, `asked session N`, `streaming N`, `gave record N`, `took`, `known`, `finished`, or `vouched V`
 abbrev pub reply_text : Reply → List ℕ
 reply_text (Issued version) = codes "issued " ++ name_text version ++ codes "\n"
 reply_text Done = codes "done\n"
+reply_text Took = codes "took\n"
+reply_text Known = codes "known\n"
+reply_text Finished = codes "finished\n"
 reply_text (Streaming stream) = codes "streaming " ++ decimal stream ++ codes "\n"
 reply_text (Asked ask) = codes "asked session " ++ decimal ask.session ++ codes "\n"
+reply_text (Gave sent) = codes "gave record " ++ decimal sent.header.index ++ codes "\n"
 reply_text (Vouched receipt) = codes "vouched " ++ name_text receipt.descent.version ++ codes "\n"
 
 -- the version that a refusal is about

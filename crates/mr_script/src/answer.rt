@@ -11,17 +11,25 @@ use mr_version::{Author, ItemId, Version};
 use std::alloc::{AllocError, Global};
 
 /// `issued V`: the version that a replica gave to a message; `done`; `asked session N`, of a request;
-/// `streaming N`; or `vouched V`, of a receipt.
+/// `streaming N`; `gave record N`, of a record by its index; `took`, `known` or `finished`, of a record; or
+/// `vouched V`, of a receipt.
 pub(crate) fn reply_line(alloc: Global, reply: Reply) -> Result<String, AllocError>
     ensures { IfOk result (λ line. string_bytes line ≡ reply_text reply) }
 {
     match reply {
         Reply::Issued(version) => format!(in alloc; "issued {version}\n"),
         Reply::Done => String::from_str(alloc, "done\n"),
+        Reply::Took => String::from_str(alloc, "took\n"),
+        Reply::Known => String::from_str(alloc, "known\n"),
+        Reply::Finished => String::from_str(alloc, "finished\n"),
         Reply::Streaming(stream) => format!(in alloc; "streaming {stream}\n"),
         Reply::Asked(ask) => {
             let session = ask.session();
             format!(in alloc; "asked session {session}\n")
+        }
+        Reply::Gave(sent) => {
+            let index = sent.header().index;
+            format!(in alloc; "gave record {index}\n")
         }
         Reply::Vouched(receipt) => {
             let version = receipt.descent.version();

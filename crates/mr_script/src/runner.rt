@@ -105,7 +105,7 @@ impl Runner {
     {
         match self.replicas.get_mut(&id) {
             Some(replica) => step(self.alloc, replica, event),
-            None => Err(LineFault::NoSuchReplica),
+            None => Err(no_replica_for(event)),
         }
     }
 
@@ -202,6 +202,14 @@ fn held_line(
         Some(revision) => Ok(show_line(alloc, revision)?),
         None => Ok(not_held_line(alloc)?),
     }
+}
+
+/// The fault of an event for a replica that isn't there. The event is let go here, so that its kinds are
+/// no cases of the caller.
+fn no_replica_for(_event: Event) -> LineFault
+    ensures { result ≡ LineFault.NoSuchReplica }
+{
+    LineFault::NoSuchReplica
 }
 
 /// Gives the replica an event, and tells its answer.

@@ -1,14 +1,17 @@
 -- What one version more, or one vector more, makes of the vectors that cut a list.
-use Rattle.std.proofs.Common.{◌≡◌, ◌≤◌, ◌<◌, ◌+◌, ℕ, zero, suc, Bool, ◌||◌, List, [], ◌∷◌, ◌++◌, map, length, get_or, drop, append_assoc, append-nil, drop-cons, refl, sym, ap, subst, ◌∙◌, arith}
+use Rattle.std.proofs.Common.{◌≡◌, ◌≤◌, ◌<◌, ◌+◌, ℕ, zero, suc, Bool, false, ◌||◌, List, [], ◌∷◌, ◌++◌, map, length, get_or, drop, append_assoc, append-nil, drop-cons, length-append, refl, sym, ap, subst, ◌∙◌, inl, inr, arith}
+use Rattle.std.proofs.lemmas.Bool.{cases_lt}
+use Rattle.std.proofs.lemmas.List.{take-append-le, take_all}
 use Rattle.std.proofs.lemmas.List.Folds.{list_any-append}
 use Rattle.mr_version.specs.Name.{Name, name_eq}
 use Rattle.mr_forms.specs.Sets.{is_listed, IsSame, with_version}
 use Rattle.mr_forms.proofs.SetLemmas.{or_comm, or_nothing, name_eq-symmetric}
 use Rattle.mr_concise.specs.declared.vector.AuthorColumn.{AuthorColumn}
-use Rattle.mr_concise.specs.Vector.{vector_has, HasTooManyHoles}
+use Rattle.mr_concise.specs.Vector.{vector_has, IsVectorFrom, IsVectorOf, HasTooManyHoles}
+use Rattle.mr_concise.proofs.VersionLemmas.{few-vector}
 use Rattle.mr_madewith.specs.Revision.{Rev}
 use Rattle.mr_store.specs.Revisions.{version_of}
-use Rattle.mr_session.specs.Held.{HasJust, IsAsLongAsCanBe, AreCut}
+use Rattle.mr_session.specs.Held.{FitOneByOne, HasJust, IsAsLongAsCanBe, AreCut}
 
 -- a version more of a list is one more of its set
 listed_more : (front : List Name) (v w : Name) → is_listed (front ++ v ∷ []) w ≡ (name_eq v w || is_listed front w)
@@ -17,9 +20,36 @@ listed_more front v w =
     ∙ (ap (λ (b : Bool). is_listed front w || b) (sym (or_nothing (name_eq w v)) ∙ name_eq-symmetric w v)
     ∙ or_comm (is_listed front w) (name_eq v w))
 
+-- what has just the versions of a list has few holes
+few_holes : (versions : List Name) (vector : List AuthorColumn) → IsVectorOf (is_listed versions) vector → ¬ HasTooManyHoles (is_listed versions)
+few_holes versions vector is many = few-vector vector (is_listed versions) is.columns_ok is.has many
+
+-- an empty vector has just no versions
+pub has_none : (vector : List AuthorColumn) → IsSame (vector_has vector) (λ v. false) → IsVectorFrom 0 vector → HasJust [] vector
+has_none vector none columns =
+    let is : IsVectorOf (is_listed []) vector = record { columns_ok = columns; has = none } in
+    record { vector_of = is; one_by_one = λ n many. few_holes [] vector is (subst (λ (l : List Name). HasTooManyHoles (is_listed l)) (take_all n [] (omega arith)) many) }
+
+-- versions that fit one by one, and one more, which fits behind them all
+fit_more : (front : List Name) (v : Name) → FitOneByOne front → ¬ HasTooManyHoles (is_listed (front ++ v ∷ [])) → FitOneByOne (front ++ v ∷ [])
+fit_more front v fit few n many =
+    elim (cases_lt (length front) n) [
+      | inl more ↦ few (subst (λ (l : List Name). HasTooManyHoles (is_listed l)) (take_all n (front ++ v ∷ []) (let len = length-append front (v ∷ []) in omega arith)) many)
+      | inr less ↦ fit n (subst (λ (l : List Name). HasTooManyHoles (is_listed l)) (take-append-le n front (v ∷ []) less) many)
+    ]
+
 -- a vector with a version more
-pub has_more : (front : List Name) (v : Name) (old new : List AuthorColumn) → HasJust front old → IsSame (vector_has new) (with_version (vector_has old) v) → HasJust (front ++ v ∷ []) new
-has_more front v old new has more = λ w. more w ∙ (ap (λ (b : Bool). name_eq v w || b) (has w) ∙ sym (listed_more front v w))
+pub has_more : (front : List Name) (v : Name) (old new : List AuthorColumn) → HasJust front old → IsSame (vector_has new) (with_version (vector_has old) v) → IsVectorFrom 0 new → HasJust (front ++ v ∷ []) new
+has_more front v old new has more columns =
+    let is : IsVectorOf (is_listed (front ++ v ∷ [])) new = record { columns_ok = columns; has = λ w. more w ∙ (ap (λ (b : Bool). name_eq v w || b) (has.vector_of.has w) ∙ sym (listed_more front v w)) } in
+    record { vector_of = is; one_by_one = fit_more front v has.one_by_one (few_holes (front ++ v ∷ []) new is) }
+
+-- a vector of one version, where no version fits
+pub has_one : (v : Name) (new : List AuthorColumn) → ¬ HasTooManyHoles (is_listed []) → IsVectorOf (is_listed (v ∷ [])) new → HasJust (v ∷ []) new
+has_one v new few is = record {
+  vector_of = is;
+  one_by_one = fit_more [] v (λ n many. few (subst (λ (l : List Name). HasTooManyHoles (is_listed l)) (take_all n [] (omega arith)) many)) (few_holes (v ∷ []) new is);
+}
 
 -- a vector that has no room for a version more
 pub is_full_at : (front : List Name) (v : Name) (old : List AuthorColumn) → HasJust front old → HasTooManyHoles (with_version (vector_has old) v) → IsAsLongAsCanBe front v
@@ -31,7 +61,7 @@ is_full_at front v old has many = record {
   in_range = many.in_range;
   means = λ c.
       let w : Name = record { author = many.author; counter = c } in
-      many.means c ∙ (ap (λ (b : Bool). name_eq v w || b) (has w) ∙ sym (listed_more front v w));
+      many.means c ∙ (ap (λ (b : Bool). name_eq v w || b) (has.vector_of.has w) ∙ sym (listed_more front v w));
   many = many.many;
 }
 
@@ -53,7 +83,11 @@ module _ (whole front rest : List Name) (v : Name) (done : List (List AuthorColu
       subst (λ (l : List (List AuthorColumn)). AreCut whole l) (sym (append_assoc done (vector ∷ []) vs)) (extends (vector ∷ vs) (cut_behind front rest v vector vs has full cut))
 
 pub extends_whole : (whole front : List Name) (done : List (List AuthorColumn)) (vector : List AuthorColumn) → Extends whole front [] done → HasJust front vector → AreCut whole (done ++ vector ∷ [])
-extends_whole whole front done vector extends has = extends (vector ∷ []) (λ w. has w ∙ ap (λ (l : List Name). is_listed l w) (sym (append-nil front)))
+extends_whole whole front done vector extends has = extends (vector ∷ []) (subst (λ (l : List Name). HasJust l vector) (sym (append-nil front)) has)
+
+-- with nothing done yet
+pub extends_all : (whole : List Name) (done : List (List AuthorColumn)) → done ≡ [] → Extends whole [] whole done
+extends_all whole done none vs cut = rw none cut
 
 -- the versions from a place on
 pub versions_from : (rs : List Rev) (k : ℕ) (r : Rev) → k < length rs → r ≡ get_or rs k r → map version_of (drop k rs) ≡ r.version ∷ map version_of (drop (k + 1) rs)

@@ -4,6 +4,8 @@ pub mod PieceLemmas
 pub mod TableLemmas
 pub mod ViewLemmas
 pub mod HeldLemmas
+pub mod CutLemmas
+pub mod DrawnLemmas
 pub mod WalkLemmas
 pub mod DrawLemmas
 pub mod ClaimLemmas

@@ -5,9 +5,13 @@ use Rattle.mr_store.specs.Holdings.{Holdings}
 use Rattle.mr_wire.specs.Values.{Piece}
 use Rattle.mr_wire.specs.declared.frame.Mode.{Mode}
 use Rattle.mr_wire.specs.declared.frame.Mode.TheVariants.{Full, Partial}
+use Rattle.mr_concise.proofs.UnionLemmas.{column_has-empty}
+use Rattle.mr_session.specs.Held.{AreCut}
 use Rattle.mr_session.specs.Claims.{listing_at, listings_from, general_from}
 use Rattle.mr_session.specs.Stream.{Asked, Stream, new_stream, needs_memory}
 use Rattle.mr_session.specs.Table.{Table, empty_table, with_opened, with_closed, with_changed, open_at}
+use Rattle.mr_session.proofs.HeldLemmas.{has_none}
+use Rattle.mr_session.proofs.CutLemmas.{cut_unique}
 
 abbrev one : Name
 one = record { author = 0; counter = 1 }
@@ -26,6 +30,14 @@ general_row = refl
 
 listings_row : listings_from 0 pieces ≡ listing_at 1 one ∷ listing_at 1 two ∷ listing_at 2 one ∷ []
 listings_row = refl
+
+-- ---- how heads are cut into vectors
+
+no_heads_in_one : AreCut [] ([] ∷ [])
+no_heads_in_one = has_none [] (λ v. column_has-empty v.counter) tt
+
+no_heads_not_in_two : ¬ AreCut [] ([] ∷ [] ∷ [])
+no_heads_not_in_two cut = let same = cut_unique [] ([] ∷ [] ∷ []) ([] ∷ []) cut no_heads_in_one in absurd (cc)
 
 -- ---- which draws need memory
 

@@ -166,3 +166,8 @@ abbrev pub GivesIn : (source number : ℕ) → Table Stream → Holdings → Sen
 GivesIn source number table h sent new =
     (s : Stream) × (left : Stream) × (open_at table number ≡ Some s) × Gives source number s h sent left
     × (new ≡ (if is_end sent.body then with_closed table number else with_changed number (λ _. left) table))
+
+-- nothing but this record may be drawn, and nothing but this table be left
+abbrev pub IsOnlyDraw : (source number : ℕ) → Table Stream → Holdings → Sent → Table Stream → Type 0
+IsOnlyDraw source number table h sent new =
+    (other : Sent) (after : Table Stream) → GivesIn source number table h other after → (other ≡ sent) × (after ≡ new)

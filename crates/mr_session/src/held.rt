@@ -1,7 +1,9 @@
 //! The held versions of a source, as a full stream tells them.
 ghost use Rattle.std.specs.Prelude.{[], ◌∷◌, map, IfOk};
+ghost use Rattle.mr_forms.specs.Sets.{is_listed};
+ghost use Rattle.mr_concise.specs.Vector.{IsVectorOf};
 ghost use Rattle.mr_store.specs.Revisions.{version_of};
-ghost use Rattle.mr_session.specs.Held.{HasJust, AreCut};
+ghost use Rattle.mr_session.specs.Held.{AreCut};
 
 use mr_concise::ConciseVector;
 use mr_forms::{FormFault, VersionSet};
@@ -13,11 +15,14 @@ use std::mem;
 
 // The vector of one version. It has one hole at most, so only memory can be missing.
 fn vector_of(alloc: Global, version: Version) -> Result<ConciseVector, AllocError>
-    ensures { IfOk result (HasJust (version ∷ [])) }
+    ensures { IfOk result (IsVectorOf (is_listed (version ∷ []))) }
 {
     let mut vector = ConciseVector::new(alloc);
     match vector.insert(version) {
-        Ok(()) => Ok(vector),
+        Ok(()) => {
+            let _columns = vector.author_columns();
+            Ok(vector)
+        }
         Err(_) => Err(AllocError),
     }
 }
@@ -42,6 +47,8 @@ pub fn held_vectors(
             }
             Err(_) => return Err(AllocError),
         }
+        // the columns of a vector are as they have to be
+        let _columns = vector.author_columns();
     }
     vectors.push_back(vector)?;
     Ok(vectors)

@@ -1,6 +1,6 @@
 //! The open streams of a replica.
 ghost use Rattle.std.specs.Prelude.{◌≡◌, ◌<◌, ◌+◌, ◌^◌, length, IsSome, IfSome, IsOk, IsFalse, IfOk, OnOk, OnErr};
-ghost use Rattle.mr_session.specs.Stream.{new_stream, is_end, ends, needs_memory, GivesIn};
+ghost use Rattle.mr_session.specs.Stream.{new_stream, is_end, ends, needs_memory, GivesIn, IsOnlyDraw};
 ghost use Rattle.mr_session.specs.Table.{most_open, open_at, with_opened};
 
 use crate::asked::AskedOf;
@@ -62,6 +62,7 @@ impl OpenTable<Outgoing> {
         requires open { IsSome (open_at self.old number) }
         requires goes_on { IfSome (open_at self.old number) (λ stream. stream.next + 1 < 2 ^ 32) }
         ensures ok { IfOk result (λ sent. GivesIn source number self.old store.now sent self.new) }
+        ensures one { IfOk result (λ sent. IsOnlyDraw source number self.old store.now sent self.new) }
         ensures err { OnErr result (self.new ≡ self.old) }
         ensures sure { IfSome (open_at self.old number) (λ stream. IsFalse (needs_memory stream store.now) → IsOk result) }
     {

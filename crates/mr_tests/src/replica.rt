@@ -6,7 +6,7 @@ use mr_forms::PlainKnowledge;
 use mr_mail::{Day, Message};
 use mr_replica::{Bases, Event, Refusal, Replica, ReplicaFault, Reply};
 use mr_version::{Author, Version};
-use mr_wire::{Ask, Frame, Receipt, decode};
+use mr_wire::{Ask, Body, Frame, Receipt, Record, decode};
 use std::alloc::Global;
 use std::process::Abort;
 use std::test::Fail;
@@ -21,8 +21,8 @@ fn message(alloc: Global) -> Result<Message, Fail> {
     Ok(Message::try_new(alloc, from, subject, Vec::new(alloc), labels, 0, day)?)
 }
 
-/// The event of a line: `create`, `retire`, `pull`, `cutin`, `ask`, `ownask`, `cutout`, `vouch`, or the bases of
-/// an edit.
+/// The event of a line: `create`, `retire`, `pull`, `cutin`, `ask`, `ownask`, `askall`, `next`, `cutout`,
+/// `vouch`, or the bases of an edit.
 fn event_of(alloc: Global, line: &str) -> Result<Event, Fail> {
     match line {
         "create" => Ok(Event::Create(message(alloc)?)),
@@ -31,6 +31,8 @@ fn event_of(alloc: Global, line: &str) -> Result<Event, Fail> {
         "cutin" => Ok(Event::CutIn(1)),
         "ask" => request_of(alloc, 1),
         "ownask" => request_of(alloc, 0),
+        "askall" => request_for_all(alloc),
+        "next" => Ok(Event::Next(1)),
         "cutout" => Ok(Event::CutOut(1)),
         "vouch" => Ok(Event::Vouch(Version::read("0.1")?)),
         _ => edit_of(alloc, line),
@@ -50,7 +52,19 @@ fn request_of(alloc: Global, target: u8) -> Result<Event, Fail> {
     let bytes = [
         0, 0, 0, 17, 2, 0, 0, target, 0, 0, 0, 0, 0, 0, 0, 1, 0, 0, 0, 0, 0,
     ];
-    match decode(alloc, &bytes)?.0 {
+    answer_to(alloc, &bytes)
+}
+
+/// The request of replica 1 for what `all` selects.
+fn request_for_all(alloc: Global) -> Result<Event, Fail> {
+    let bytes = [
+        0, 0, 0, 23, 2, 0, 0, 1, 0, 0, 0, 0, 0, 0, 0, 1, 1, 0, 0, 0, 0, 0, 0, 0, 0, 0, 0,
+    ];
+    answer_to(alloc, &bytes)
+}
+
+fn answer_to(alloc: Global, bytes: &[u8]) -> Result<Event, Fail> {
+    match decode(alloc, bytes)?.0 {
         Frame::Ask(ask) => Ok(Event::Answer(ask)),
         _ => Ok(Event::Retire),
     }
@@ -76,9 +90,29 @@ fn reply_text(alloc: Global, reply: Reply) -> Result<String, Fail> {
     match reply {
         Reply::Issued(version) => Ok(version.text(alloc)?),
         Reply::Done => Ok(String::from_str(alloc, "done")?),
+        Reply::Took => Ok(String::from_str(alloc, "took")?),
+        Reply::Known => Ok(String::from_str(alloc, "known")?),
+        Reply::Finished => Ok(String::from_str(alloc, "finished")?),
         Reply::Asked(ask) => ask_text(alloc, ask),
         Reply::Streaming(stream) => Ok(format!(in alloc; "streaming {stream}")?),
+        Reply::Gave(sent) => record_text(alloc, &sent),
         Reply::Vouched(receipt) => receipt_text(alloc, receipt),
+    }
+}
+
+/// The record's index, and what it tells.
+fn record_text(alloc: Global, sent: &Record) -> Result<String, Fail> {
+    let index = sent.header().index;
+    match sent.body() {
+        Body::Item(revision) => {
+            let version = revision.version();
+            Ok(format!(in alloc; "{index} item {version}")?)
+        }
+        Body::Start(_) => Ok(format!(in alloc; "{index} start")?),
+        Body::MoveOut(_) => Ok(format!(in alloc; "{index} moveout")?),
+        Body::Held(_) => Ok(format!(in alloc; "{index} held")?),
+        Body::Know(_) => Ok(format!(in alloc; "{index} know")?),
+        Body::End => Ok(format!(in alloc; "{index} end")?),
     }
 }
 
@@ -495,5 +529,45 @@ fn ample_memory_for_answers(rt: HostRuntime) -> Result<(), Fail> {
     let request = event_of(alloc, "ask")?.copy(alloc)?;
     let opened = answer_text(alloc, replica.step(request))?;
     assert_eq!(rt; opened.as_str(), "streaming 1");
+    Ok(())
+}
+
+#[test]
+fn gives_what_is_held_at_each_draw(rt: HostRuntime) -> Result<(), Fail> {
+    let alloc = rt.alloc();
+    let mut replica = replica_of(alloc, 99)?;
+    let begun = answers(alloc, &mut replica, &["create", "askall", "next", "create"])?;
+    assert_eq!(rt; begun.as_str(), "; 0.1; streaming 1; 0 start; 0.2");
+    let given = answers(alloc, &mut replica, &["next"; 6])?;
+    assert_eq!(rt;
+        given.as_str(),
+        "; 1 item 0.1; 2 item 0.2; 3 held; 4 know; 5 end; 18 NoStream, no stream of that number is open"
+    );
+    assert_eq!(rt; replica.log().len(), 9);
+    Ok(())
+}
+
+#[test]
+fn gives_after_retirement(rt: HostRuntime) -> Result<(), Fail> {
+    let alloc = rt.alloc();
+    let mut replica = replica_of(alloc, 3)?;
+    let lines = ["ask", "retire", "next", "next"];
+    let given = answers(alloc, &mut replica, &lines)?;
+    assert_eq!(rt;
+        given.as_str(),
+        "; streaming 1; done; 0 start; 8 LogFull, the log is full"
+    );
+    Ok(())
+}
+
+#[test]
+fn ample_memory_for_records(rt: HostRuntime) -> Result<(), Fail> {
+    let alloc = rt.alloc();
+    let mut replica = replica_of(alloc, 99)?;
+    let _opened = answers(alloc, &mut replica, &["create", "0.1", "askall"])?;
+    let draw = event_of(alloc, "next")?.copy(alloc)?;
+    assert_eq!(rt; answer_text(alloc, replica.step(draw))?.as_str(), "0 start");
+    let given = answers(alloc, &mut replica, &["next"; 4])?;
+    assert_eq!(rt; given.as_str(), "; 1 item 0.2; 2 held; 3 know; 4 end");
     Ok(())
 }

@@ -1,16 +1,22 @@
 //! What a replica holds and tells.
-ghost use Rattle.std.specs.Prelude.{◌≡◌, ◌<◌, ◌≤◌, ◌+◌, ◌++◌, ◌∷◌, [], not, None, IfOk, OnOk, length, map, vec_len};
+ghost use Rattle.std.specs.Prelude.{◌≡◌, ◌<◌, ◌≤◌, ◌+◌, ◌++◌, ◌∷◌, [], not, filter, None, All, IfOk, IfSome, OnOk, length, map, vec_len};
 ghost use Rattle.mr_madewith.specs.Revision.{Rev, has_below};
 ghost use Rattle.mr_madewith.specs.Trail.{noted};
-ghost use Rattle.mr_store.specs.Revisions.{revision_of, left_by};
+ghost use Rattle.mr_concise.specs.Vector.{vector_has};
+ghost use Rattle.mr_store.specs.Revisions.{revision_of, left_by, supersedes};
+ghost use Rattle.mr_store.specs.Unheld.{ListsInOrder, is_unheld};
 ghost use Rattle.mr_replica.specs.Issue.{dropped, added, entered_if};
-ghost use Rattle.mr_replica.specs.Contents.{part_for};
+ghost use Rattle.mr_replica.specs.Contents.{part_for, HasPlace};
+ghost use Rattle.mr_replica.specs.Receive.{arrived, arrival_alone};
 ghost use Rattle.mr_replica.specs.Release.{vouched};
 
 use crate::Event;
+use mr_concise::ConciseVector;
 use mr_feed::{Entry, Feed};
+use mr_forms::Fragment;
 use mr_madewith::{Revision, Trail};
 use mr_store::{Part, Store};
+use mr_version::ItemId;
 use mr_wire::Receipt;
 use std::alloc::{AllocError, Global};
 use std::marker::Model;
@@ -67,7 +73,7 @@ fn entry_of(revision: &Revision) -> Result<Entry, AllocError>
 }
 
 // The entries of revisions that leave the heads.
-fn entries_of_left(alloc: Global, left: &[Revision]) -> Result<Vec<Entry>, AllocError>
+pub fn entries_of_left(alloc: Global, left: &[Revision]) -> Result<Vec<Entry>, AllocError>
     ensures { IfOk result (λ entries. entries.items ≡ map dropped left.now) }
 {
     let mut entries = Vec::new(alloc);
@@ -76,6 +82,25 @@ fn entries_of_left(alloc: Global, left: &[Revision]) -> Result<Vec<Entry>, Alloc
             item: revision.item(),
             version: revision.version(),
         })?;
+    }
+    Ok(entries)
+}
+
+/// The entries of what leaves the heads for a version of the item with this `below`, and of the revision
+/// that comes, if there is one.
+pub fn news(
+    alloc: Global,
+    store: &Store,
+    item: ItemId,
+    below: &ConciseVector,
+    comer: &Option<Revision>,
+) -> Result<Vec<Entry>, AllocError>
+    ensures { IfOk result (λ entries. entries.items ≡ map dropped (filter (supersedes item (vector_has below.now)) store.now.heads) ++ map added (arrival_alone comer.now)) }
+{
+    let left = store.superseded(item, below)?;
+    let mut entries = entries_of_left(alloc, &left)?;
+    if let Some(revision) = comer {
+        entries.push(entry_of(revision)?)?;
     }
     Ok(entries)
 }
@@ -177,6 +202,72 @@ impl Contents {
         ensures log { self.new.log ≡ self.old.log ++ event ∷ [] }
     {
         self.log.push_reserved(event);
+    }
+
+    /// Makes room for a revision that comes to the heads, if there is one, for so many entries, and for
+    /// one event.
+    pub fn reserve_taken(
+        &mut self,
+        comer: &Option<Revision>,
+        entries: usize,
+    ) -> Result<(), AllocError>
+        ensures same { HoldsSame self.old self.new }
+        ensures store { OnOk result (HasPlace comer.now self.new.store) }
+        ensures feed { OnOk result (entries ≤ self.new.feed.room) }
+        ensures log { OnOk result (0 < self.new.log_room) }
+    {
+        if let Some(revision) = comer {
+            self.store.reserve(Part::Heads, revision.item())?;
+        }
+        self.feed.reserve(entries)?;
+        self.log.reserve(1)
+    }
+
+    /// What a version of the item with this `below` supersedes leaves, and the revision comes to the
+    /// heads, if there is one.
+    #[tactic(auto, using(crate::proofs::Staying::stays_new))]
+    pub fn learn(
+        &mut self,
+        item: ItemId,
+        below: &ConciseVector,
+        comer: Option<Revision>,
+        entries: Vec<Entry>,
+    )
+        requires place { HasPlace comer self.old.store }
+        requires new { IfSome comer (λ r. revision_of (self.old.store.heads ++ self.old.store.push_outs) r.version ≡ None) }
+        requires room { vec_len entries ≤ self.old.feed.room }
+        ensures heads { self.new.store.heads ≡ arrived comer (left_by item (vector_has below.now) self.old.store.heads) }
+        ensures push_outs { self.new.store.push_outs ≡ left_by item (vector_has below.now) self.old.store.push_outs }
+        ensures trail { self.new.trail.lasts ≡ self.old.trail.lasts }
+        ensures feed { self.new.feed.entries ≡ self.old.feed.entries ++ entries.items }
+        ensures log { self.new.log ≡ self.old.log }
+        ensures log_room { self.new.log_room ≡ self.old.log_room }
+    {
+        self.store.remove_below(item, below);
+        if let Some(revision) = comer {
+            self.store.put(Part::Heads, revision);
+        }
+        tell(&mut self.feed, entries);
+    }
+
+    /// What these fragments cover and no vector has leaves the heads.
+    pub fn drop_unheld(
+        &mut self,
+        learned: &[Fragment<ConciseVector>],
+        held: &[ConciseVector],
+        entries: Vec<Entry>,
+    )
+        requires in_order { All (λ fragment. ListsInOrder fragment.items) learned.now }
+        requires room { vec_len entries ≤ self.old.feed.room }
+        ensures heads { self.new.store.heads ≡ filter (λ r. not (is_unheld learned.now held.now r.item r.version)) self.old.store.heads }
+        ensures push_outs { self.new.store.push_outs ≡ self.old.store.push_outs }
+        ensures trail { self.new.trail.lasts ≡ self.old.trail.lasts }
+        ensures feed { self.new.feed.entries ≡ self.old.feed.entries ++ entries.items }
+        ensures log { self.new.log ≡ self.old.log }
+        ensures log_room { self.new.log_room ≡ self.old.log_room }
+    {
+        self.store.remove_unheld(learned, held);
+        tell(&mut self.feed, entries);
     }
 
     /// Lets go of the push-outs of the item that are the version, or below it, by an event for which

@@ -19,26 +19,41 @@ impl<K: Knowledge> Replica<K> {
     /// A pull opens the next session, of which eight may be open, and makes the request for it: what the
     /// replica selects, and the longest beginning of its fragments that takes at most 8,000,000 bytes.
     ///
+    /// A record is taken by the open session that it is for, if it is the next of the stream to which the session
+    /// is bound. A known version changes nothing else. An unknown one is learned with what it supersedes, which
+    /// leaves the heads and the push-outs, and an item that the replica's filter selects enters the heads. The
+    /// end of a full stream teaches what its fragments cover; what these cover and no held vector has leaves
+    /// the heads, and no push-outs. The end of a partial one teaches nothing. Either closes the session.
+    ///
     /// A receipt is given for a head alone, and changes nothing but the log. To release by one lets go
     /// of the push-outs of its item that are its version, or superseded by it. A replica retires only
     /// once it has no push-outs; after that it admits nothing but what tells others.
     ///
     /// An answer opens the next stream for another replica, of eight at a time. It is full where the replica's
     /// filter covers that of the request, and then keeps what is known at that moment; else it is partial,
-    /// and keeps nothing of it.
+    /// and keeps nothing of it. A next gives the stream's next record, of the heads and push-outs as they are
+    /// then, and closes the stream with its End.
     ///
     /// The first refusal whose case holds is given, in this order: `Retired`, of all but an
-    /// answer and a cut of a stream; then those of what is asked for, for an edit by their numbers, for an
+    /// answer, a next and a cut of a stream; then those of what is asked for, for an edit by their numbers, for an
     /// answer `OwnAsk` and then `TooManyStreams`; then `LogFull`, of all but
     /// Retire, which is admitted past a full log once; then those of the forms. Of these,
     /// `TooManyHoles` comes first where there is no vector of what the version supersedes, and then
     /// that or `TooManyItems` where the form of knowledge has no value for what would be known.
     /// A pull, and an answer by a full stream, are refused by `TooManyHoles` where a part of the knowledge has
-    /// no vector. `OutOfMemory` comes only where no other refusal's case holds, or in place of that one.
+    /// no vector.
+    ///
+    /// A record is refused by `NotForMe`, `NoSession`, the session's own reasons and `Forged`, in this order, and
+    /// another frame by `NotARecord`; then by the first knowledge that has no value: a version is learned, and
+    /// then with what it supersedes, and at the end of a full stream its fragments are merged one by one.
+    /// `OutOfMemory` comes only where no other refusal's case holds, or in place of a part that has no vector, or
+    /// of a later fragment's fault.
     ///
     /// It costs searches, a shift of handles in the store, and the vector of what the new version
     /// supersedes; an edit looks at the held revisions of its item alone, and no message is copied. A pull
-    /// costs the fragments of what is known.
+    /// costs the fragments of what is known, and a next what its record copies; the first record of the heads costs
+    /// a walk over them. A record that is received costs what the form takes to learn the version, and the end of a
+    /// full stream the merge of its fragments and one walk over the heads.
     pub fn step(&mut self, event: Event) -> Result<Reply, Refusal>
         ensures steps { Steps K.form self.old event result self.new }
         // Over a form whose values are their meanings, answer and new replica are one function of
@@ -50,8 +65,10 @@ impl<K: Knowledge> Replica<K> {
             Event::Edit(bases, message) => self.edit(bases, message),
             Event::Retire => self.retire(),
             Event::Pull => self.pull(),
+            Event::Receive(frame) => self.receive(frame),
             Event::CutIn(session) => self.cut_in(session),
             Event::Answer(ask) => self.answer(ask),
+            Event::Next(stream) => self.next(stream),
             Event::CutOut(stream) => self.cut_out(stream),
             Event::Vouch(version) => self.vouch(version),
             Event::Release(receipt) => self.release(receipt),

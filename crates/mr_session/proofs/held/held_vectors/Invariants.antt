@@ -5,7 +5,7 @@ use Rattle.mr_store.specs.Revisions.{version_of}
 use Rattle.mr_session.specs.Held.{HasJust, AreCut}
 use Rattle.mr_session.proofs.held.held_vectors.Given as goal
 
--- The vector has the versions of a front part; with whatever cuts that part and what is left, the vectors cut all.
+-- The vector is that of a front part; with whatever cuts that part and what is left, the vectors cut all.
 abbrev pub invariant-loop-revision : goal.invariant-loop-revision
 invariant-loop-revision l =
     (front : List Name) × HasJust front l.vector

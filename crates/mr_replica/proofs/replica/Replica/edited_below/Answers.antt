@@ -44,7 +44,7 @@ pub returns-clause-next : goal.returns-clause-next
 returns-clause-next g c =
     let s = c.args.self.now in
     let bases = c.args.bases.now in
-    let sound = subst IsSound c.self.view_is c.self.invariant in
+    let sound = subst (IsSound g.K.Knowledge.form) c.self.view_is c.self.invariant in
     IfOk-weaker c.below_of.result _ _ (λ below of m.
     let of' : AreColumnsOf (below_for s (edited_item s bases) bases) below = subst (λ (i : Name). AreColumnsOf (below_for s i bases) below) c.requires.item of in
-    rw (c.requires.item, c.requires.version) (edited_next s sound bases m below c.requires.admitted of')) (returns-clause-ok g c)
+    rw (c.requires.item, c.requires.version) (edited_next g.K.Knowledge.form s sound bases m below c.requires.admitted of')) (returns-clause-ok g c)

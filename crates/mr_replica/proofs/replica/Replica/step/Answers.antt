@@ -1,7 +1,7 @@
 use Rattle.std.proofs.Common.{sym, subst}
 use Rattle.mr_replica.specs.Step.{IsDecided}
 use Rattle.mr_replica.specs.declared.event.Event.{Event}
-use Rattle.mr_replica.specs.declared.event.Event.TheVariants.{Create, Edit, Retire, Pull, CutIn, Answer, CutOut, Vouch, Release}
+use Rattle.mr_replica.specs.declared.event.Event.TheVariants.{Create, Edit, Retire, Pull, Receive, CutIn, Answer, Next, CutOut, Vouch, Release}
 use Rattle.mr_replica.proofs.Decided.{decided}
 use Rattle.mr_replica.proofs.replica.Replica.step.Goals as goal
 
@@ -33,6 +33,13 @@ returns-in-Pull-clause-decided g c exact =
     subst (λ (e : Event). IsDecided form s e c.pull.result c.pull.new.self) (sym c.in-Pull.is)
     (decided form s Pull c.pull.result c.pull.new.self exact c.pull.ensures)
 
+pub returns-in-Receive-clause-decided : goal.returns-in-Receive-clause-decided
+returns-in-Receive-clause-decided g c exact =
+    let form = g.K.Knowledge.form in
+    let s = c.args.self.now in
+    subst (λ (e : Event). IsDecided form s e c.receive.result c.receive.new.self) (sym c.in-Receive.is)
+    (decided form s (Receive c.in-Receive.frame) c.receive.result c.receive.new.self exact c.receive.ensures)
+
 pub returns-in-CutIn-clause-decided : goal.returns-in-CutIn-clause-decided
 returns-in-CutIn-clause-decided g c exact =
     let form = g.K.Knowledge.form in
@@ -46,6 +53,13 @@ returns-in-Answer-clause-decided g c exact =
     let s = c.args.self.now in
     subst (λ (e : Event). IsDecided form s e c.answer.result c.answer.new.self) (sym c.in-Answer.is)
     (decided form s (Answer c.in-Answer.ask) c.answer.result c.answer.new.self exact c.answer.ensures)
+
+pub returns-in-Next-clause-decided : goal.returns-in-Next-clause-decided
+returns-in-Next-clause-decided g c exact =
+    let form = g.K.Knowledge.form in
+    let s = c.args.self.now in
+    subst (λ (e : Event). IsDecided form s e c.next.result c.next.new.self) (sym c.in-Next.is)
+    (decided form s (Next c.in-Next.stream) c.next.result c.next.new.self exact c.next.ensures)
 
 pub returns-in-CutOut-clause-decided : goal.returns-in-CutOut-clause-decided
 returns-in-CutOut-clause-decided g c exact =

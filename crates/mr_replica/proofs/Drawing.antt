@@ -1,0 +1,93 @@
+-- what a replica keeps as a stream gives a record, and how far a stream may come
+use Rattle.std.proofs.Common.{◌≡◌, ◌≤◌, ◌<◌, ◌+◌, ◌^◌, nat_le, not, is_some, IfSome, ℕ, Bool, true, false, if◌then◌else◌, arith, List, [], ◌∷◌, ◌++◌, length, map, Option, Some, None, refl, ap, sym, subst, inl, inr}
+use Rattle.std.proofs.lemmas.Bool.{leb-false}
+use Rattle.std.proofs.lemmas.Bool.Decides.{eqb_tells}
+use Rattle.std.proofs.lemmas.List.{length_push}
+use Rattle.std.specs.List.{All}
+use Rattle.std.proofs.lemmas.List.Elements.{All-nil, All-cons, All-head, All-tail}
+use Rattle.mr_store.specs.Holdings.{Holdings}
+use Rattle.mr_wire.specs.Frames.{Sent}
+use Rattle.mr_session.specs.Table.{Table, Numbered, at, open_at, changed, with_closed, with_changed}
+use Rattle.mr_session.specs.Stream.{Stream, is_end, GivesIn}
+use Rattle.mr_replica.specs.State.{State}
+use Rattle.mr_replica.specs.Refusal.{◌orelse◌, refused_if}
+use Rattle.mr_replica.specs.Admission.{log_full}
+use Rattle.mr_replica.specs.Next.{next_refusal}
+use Rattle.mr_forms.specs.Known.{Form}
+use Rattle.mr_replica.specs.Sound.{AreWithin, IsSound}
+use Rattle.mr_replica.specs.declared.refusal.Refusal.{Refusal}
+use Rattle.mr_replica.specs.declared.refusal.Refusal.TheVariants.{NoStream, LogFull}
+use Rattle.mr_replica.specs.declared.event.Event.{Event}
+use Rattle.mr_replica.proofs.Keeping.{within_later, within_closed}
+
+module _ {T : Type 0} (next : T → ℕ) (events : ℕ) where
+  abbrev IsFew : Numbered T → Type 0
+  IsFew x = next x.value ≤ events
+
+  -- what is open under a number has come no further than all
+  at_within : (n : ℕ) (xs : List (Numbered T)) (v : T) → All IsFew xs → at xs n ≡ Some v → next v ≤ events
+  at_within n [] v few found = absurd (cc)
+  at_within n (x ∷ xs) v few found =
+      elim (eqb_tells x.number n) [
+        | inl is ↦
+            let here : Some x.value ≡ Some v = rw is.0 at found in
+            let value : x.value ≡ v = cc in
+            subst (λ (u : T). next u ≤ events) value (All-head IsFew x xs few)
+        | inr differs ↦ at_within n xs v (All-tail IsFew x xs few) (rw differs.0 at found)
+      ]
+
+  -- one that has come no further either takes its place
+  all_changed : (n : ℕ) (left : T) (xs : List (Numbered T)) → next left ≤ events → All IsFew xs → All IsFew (map (changed n (λ _. left)) xs)
+  all_changed n left [] is few = All-nil IsFew
+  all_changed n left (x ∷ xs) is few =
+      All-cons IsFew (changed n (λ _. left) x) (map (changed n (λ _. left)) xs)
+      (elim (eqb_tells x.number n) [
+        | inl same ↦ rw same.0 is
+        | inr differs ↦ rw differs.0 (All-head IsFew x xs few)
+      ])
+      (all_changed n left xs is (All-tail IsFew x xs few))
+
+  pub open_within : (n : ℕ) (table : Table T) (v : T) → AreWithin next events table → open_at table n ≡ Some v → next v ≤ events
+  open_within n table v within found = at_within n table.open_ones v within.next_few found
+
+  within_changed : (n : ℕ) (left : T) (table : Table T) → next left ≤ events → AreWithin next events table → AreWithin next events (with_changed n (λ _. left) table)
+  within_changed n left table is within = record { opened = within.opened; next_few = all_changed n left table.open_ones is within.next_few }
+
+abbrev next_of : Stream → ℕ
+next_of stream = stream.next
+
+-- a table of which one stream gave a record
+pub within_drawn : (log : List Event) (event : Event) (source number : ℕ) (table : Table Stream) (h : Holdings) (sent : Sent) (new : Table Stream) → GivesIn source number table h sent new → AreWithin next_of (length log) table → AreWithin next_of (length (log ++ event ∷ [])) new
+within_drawn log event source number table h sent new (s, left, found, (core, draws, header, is_next), is) within =
+    let longer = within_later next_of log event table within in
+    let came : s.next ≤ length log = open_within next_of (length log) number table s within found in
+    let next : left.next ≡ s.next + 1 = ap next_of is_next in
+    let most = length (log ++ event ∷ []) in
+    subst (λ (t : Table Stream). AreWithin next_of most t) (sym is) (by_end (is_end sent.body) longer (omega (arith, came, next, length_push log event)))
+  where
+    by_end : (ends : Bool) → AreWithin next_of (length (log ++ event ∷ [])) table → left.next ≤ length (log ++ event ∷ []) → AreWithin next_of (length (log ++ event ∷ [])) (if ends then with_closed table number else with_changed number (λ _. left) table)
+    by_end true longer few = within_closed next_of (length (log ++ event ∷ [])) number table longer
+    by_end false longer few = within_changed next_of (length (log ++ event ∷ [])) number left table few longer
+
+-- ---- an index is below the last one that there is
+
+module _ {K : Type 0} where
+  short_log : (s : State K) (first : Option Refusal) → (first orelse log_full s) ≡ None → length s.log < s.event_limit
+  short_log s (Some e) none = absurd (cc)
+  short_log s None none = by_test (nat_le s.event_limit (length s.log)) refl none
+    where
+      by_test : (is_full : Bool) → nat_le s.event_limit (length s.log) ≡ is_full → refused_if is_full LogFull ≡ None → length s.log < s.event_limit
+      by_test true is none = absurd (cc)
+      by_test false is none = leb-false s.event_limit (length s.log) is
+
+  pub goes_on : (form : Form K) (s : State K) (number : ℕ) → IsSound form s → next_refusal s number ≡ None → IfSome (open_at s.streams number) (λ stream. stream.next + 1 < 2 ^ 32)
+  goes_on form s number sound admitted = by_stream (open_at s.streams number) refl
+    where
+      short : length s.log < s.event_limit
+      short = short_log s (refused_if (not (is_some (open_at s.streams number))) NoStream) admitted
+
+      by_stream : (stream : Option Stream) → open_at s.streams number ≡ stream → IfSome stream (λ stream. stream.next + 1 < 2 ^ 32)
+      by_stream None is = tt
+      by_stream (Some stream) is =
+          let few = open_within next_of (length s.log) number s.streams stream sound.streams_within is in
+          omega (arith, few, short, sound.limit_to)

@@ -1,0 +1,124 @@
+-- what comes of a version that a record tells of
+use Rattle.std.proofs.Common.{◌≡◌, ◌≢◌, ◌↔◌, IsErrOf, Bool, true, false, if◌then◌else◌, refl, sym, ap, subst, ◌∙◌, [], ◌∷◌, Option, Some, None, IfSome, Result, Ok, Err, inl, inr}
+use Rattle.std.specs.List.{All}
+use Rattle.std.proofs.lemmas.List.Elements.{All-nil, All-cons, All-head, All-tail}
+use Rattle.mr_version.specs.Name.{Name}
+use Rattle.mr_forms.specs.Known.{Pairs, Form, IsOverHolesInTurn, IsOverItemsInTurn, with_learned}
+use Rattle.mr_forms.specs.declared.fault.FormFault.{FormFault}
+use Rattle.mr_forms.specs.declared.fault.FormFault.TheVariants as fault
+use Rattle.mr_madewith.specs.Revision.{Rev}
+use Rattle.mr_wire.specs.Values.{DescentParts}
+use Rattle.mr_wire.specs.declared.frame.Body.{Body}
+use Rattle.mr_wire.specs.declared.frame.Body.TheVariants.{Start, Item, MoveOut, Held, Know, End}
+use Rattle.mr_replica.specs.State.{State, held}
+use Rattle.mr_replica.specs.Sound.{IsSound}
+use Rattle.mr_replica.specs.Refusal.{refusal_of}
+use Rattle.mr_replica.specs.Forged.{line_of, is_early_line, is_misfiled, is_forged}
+use Rattle.mr_replica.specs.Issue.{Wanted.Knowledge, Fits, FirstFault, is_selected}
+use Rattle.mr_replica.specs.Receive.{line_learned, wanted_by_line, entering}
+use Rattle.mr_replica.specs.Taking.{told_line, told_by}
+use Rattle.mr_replica.specs.declared.refusal.Refusal.TheVariants.{TooManyHoles, TooManyItems}
+use Rattle.mr_replica.proofs.Choice.{some_same}
+use Rattle.mr_replica.proofs.Taking.{neither, not_held_yet}
+
+-- ---- what is not forged
+
+module _ {K : Type 0} (s : State K) where
+  pub told_not_early : (body : Body) (line : DescentParts) → told_line body ≡ Some line → is_forged s body ≡ false → is_early_line s line ≡ false
+  told_not_early (Item r) line told sure = ap (is_early_line s) (sym (some_same (line_of r) line told)) ∙ (neither (is_early_line s (line_of r)) (is_misfiled s r.item r.version) sure).0
+  told_not_early (MoveOut l) line told sure = ap (is_early_line s) (sym (some_same l line told)) ∙ sure
+  told_not_early (Start mode) line told sure = cc
+  told_not_early (Held vector) line told sure = cc
+  told_not_early (Know piece) line told sure = cc
+  told_not_early End line told sure = cc
+
+  -- the one that comes is the Item's revision
+  comes_if : (b : Bool) (r q : Rev) → (if b then Some r else None) ≡ Some q → r ≡ q
+  comes_if true r q is = some_same r q is
+  comes_if false r q is = cc
+
+  pub comer_told : (body : Body) (r : Rev) (line : DescentParts) → entering s body ≡ Some r → told_line body ≡ Some line → line_of r ≡ line
+  comer_told (Item q) r line comes told = ap line_of (sym (comes_if (is_selected s q) q r comes)) ∙ some_same (line_of q) line told
+  comer_told (MoveOut l) r line comes told = cc
+  comer_told (Start mode) r line comes told = cc
+  comer_told (Held vector) r line comes told = cc
+  comer_told (Know piece) r line comes told = cc
+  comer_told End r line comes told = cc
+
+  pub comer_filed : (body : Body) (r : Rev) → entering s body ≡ Some r → is_forged s body ≡ false → is_misfiled s r.item r.version ≡ false
+  comer_filed (Item q) r comes sure = ap (λ (x : Rev). is_misfiled s x.item x.version) (sym (comes_if (is_selected s q) q r comes)) ∙ (neither (is_early_line s (line_of q)) (is_misfiled s q.item q.version) sure).1
+  comer_filed (MoveOut l) r comes sure = cc
+  comer_filed (Start mode) r comes sure = cc
+  comer_filed (Held vector) r comes sure = cc
+  comer_filed (Know piece) r comes sure = cc
+  comer_filed End r comes sure = cc
+
+-- the one that comes is not held yet
+pub comer_new : {K : Type 0} (form : Form K) (s : State K) (sound : IsSound form s) (item version : Name) (body : Body) → told_line body ≡ Some (told_by item version body) → form.known s.knowledge item version ≡ false
+    → is_forged s body ≡ false → (comer : Option Rev) → comer ≡ entering s body → IfSome comer (λ r. held s r.version ≡ None)
+comer_new form s sound item version body told unknown sure None is = tt
+comer_new form s sound item version body told unknown sure (Some r) is =
+    let of_line : line_of r ≡ told_by item version body = comer_told s body r (told_by item version body) (sym is) told in
+    not_held_yet form s r.item r.version sound (ap (λ (l : DescentParts). form.known s.knowledge l.item l.version) of_line ∙ unknown) (comer_filed s body r (sym is) sure)
+
+-- ---- what is wanted
+
+module _ {K : Type 0} (form : Form K) (s : State K) (line : DescentParts) (unknown : form.known s.knowledge line.item line.version ≡ false) where
+  abbrev first : Pairs
+  first = with_learned form.learns_for_all (form.known s.knowledge) line.item line.version
+
+  abbrev second : Pairs
+  second = line_learned form s line
+
+  wants : wanted_by_line form s line ≡ Knowledge first ∷ Knowledge second ∷ []
+  wants = rw unknown refl
+
+  -- both have a value, or the first fault is told
+  module _ (made : Result (Unit {0}) FormFault) (holes : IsErrOf made fault.TooManyHoles ↔ IsOverHolesInTurn form first second) (items : IsErrOf made fault.TooManyItems ↔ IsOverItemsInTurn form first second) where
+    pub line_fits : made ≡ Ok tt → All (Fits form) (wanted_by_line form s line)
+    line_fits is =
+        let no_holes : ¬ IsOverHolesInTurn form first second = λ over. cc (sym is ∙ holes.1 over) in
+        let no_items : ¬ IsOverItemsInTurn form first second = λ over. cc (sym is ∙ items.1 over) in
+        let first_fits : Fits form (Knowledge first) = (λ many. no_holes (inl many), λ many. no_items (inl (many, λ h. no_holes (inl h)))) in
+        let second_fits : Fits form (Knowledge second) = (λ many. no_holes (inr (first_fits, many)), λ many. no_items (inr (first_fits, (many, λ h. no_holes (inr (first_fits, h)))))) in
+        subst (All (Fits form)) (sym wants) (All-cons (Fits form) (Knowledge first) (Knowledge second ∷ []) first_fits (All-cons (Fits form) (Knowledge second) [] second_fits (All-nil (Fits form))))
+
+    pub line_fault : (f : FormFault) → made ≡ Err f → f ≢ fault.OutOfMemory → FirstFault form (refusal_of f) (wanted_by_line form s line)
+    line_fault f is memory = subst (FirstFault form (refusal_of f)) (sym wants) (go f is memory)
+      where
+        go : (f : FormFault) → made ≡ Err f → f ≢ fault.OutOfMemory → FirstFault form (refusal_of f) (Knowledge first ∷ Knowledge second ∷ [])
+        go fault.OutOfMemory is memory = absurd (memory refl)
+        go fault.TooManyHoles is memory = over (holes.0 is)
+          where
+            over : IsOverHolesInTurn form first second → FirstFault form TooManyHoles (Knowledge first ∷ Knowledge second ∷ [])
+            over (inl h) = inl h
+            over (inr h) = inr (h.0, inl h.1)
+        go fault.TooManyItems is memory = over (items.0 is)
+          where
+            over : IsOverItemsInTurn form first second → FirstFault form TooManyItems (Knowledge first ∷ Knowledge second ∷ [])
+            over (inl h) = inl h
+            over (inr h) = inr (h.0, inl h.1)
+
+  -- where both have a value there is no fault but of memory
+  module _ (fits : All (Fits form) (wanted_by_line form s line)) where
+    both : All (Fits form) (Knowledge first ∷ Knowledge second ∷ [])
+    both = subst (All (Fits form)) wants fits
+
+    first_has : Fits form (Knowledge first)
+    first_has = All-head (Fits form) (Knowledge first) (Knowledge second ∷ []) both
+
+    second_has : Fits form (Knowledge second)
+    second_has = All-head (Fits form) (Knowledge second) [] (All-tail (Fits form) (Knowledge first) (Knowledge second ∷ []) both)
+
+    no_holes_in_turn : ¬ IsOverHolesInTurn form first second
+    no_holes_in_turn (inl h) = first_has.0 h
+    no_holes_in_turn (inr h) = second_has.0 h.1
+
+    no_items_in_turn : ¬ IsOverItemsInTurn form first second
+    no_items_in_turn (inl h) = first_has.1 h.0
+    no_items_in_turn (inr h) = second_has.1 h.1.0
+
+    pub line_memory : (made : Result (Unit {0}) FormFault) → (IsErrOf made fault.TooManyHoles ↔ IsOverHolesInTurn form first second) → (IsErrOf made fault.TooManyItems ↔ IsOverItemsInTurn form first second) → (f : FormFault) → made ≡ Err f → f ≡ fault.OutOfMemory
+    line_memory made holes items fault.OutOfMemory is = refl
+    line_memory made holes items fault.TooManyHoles is = absurd (no_holes_in_turn (holes.0 is))
+    line_memory made holes items fault.TooManyItems is = absurd (no_items_in_turn (items.0 is))

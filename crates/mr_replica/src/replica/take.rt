@@ -1,0 +1,144 @@
+//! Taking what a record tells of a version.
+ghost use Rattle.std.specs.Prelude.{◌≡◌, ◌≢◌, None, Some, IfSome, IfOk, OnOk, OnErr, IfErr, All};
+ghost use Rattle.mr_madewith.specs.Revision.{IsRevision};
+ghost use Rattle.mr_wire.specs.Frames.{IsSent};
+ghost use Rattle.mr_replica.specs.Taking.{below_told, told_by, told_line, news_told};
+
+use super::Replica;
+use super::contents::news;
+use crate::{Event, Refusal, Reply};
+use mr_concise::ConciseVector;
+use mr_feed::Entry;
+use mr_forms::Knowledge;
+use mr_madewith::Revision;
+use mr_version::{ItemId, Version};
+use mr_wire::{Body, Frame, Record};
+use std::alloc::AllocError;
+
+// What a version that is told changes of the heads: the revision that comes to them, if there is one, and the
+// entries that tell of it and of what leaves.
+#[derive(Drop)]
+struct Told {
+    comer: Option<Revision>,
+    entries: Vec<Entry>,
+}
+
+impl<K: Knowledge> Replica<K> {
+    ghost use Rattle.std.specs.Prelude.{false};
+    ghost use Rattle.mr_replica.specs.declared.refusal.Refusal.TheVariants.{OutOfMemory};
+    ghost use Rattle.mr_replica.specs.Issue.{Fits};
+    ghost use Rattle.mr_replica.specs.Receive.{record_refusal, moved_on, entering, wanted_by_line, TakesLine};
+    ghost use Rattle.mr_replica.specs.Taking.{RefusesLine};
+
+    // The session takes the record, which teaches nothing.
+    pub(crate) fn move_on(&mut self, sent: Record) -> Result<(), Refusal>
+        requires taken { record_refusal self.old sent ≡ None }
+        requires kept { IsSent sent.header sent.body }
+        ensures ok { OnOk result (self.new ≡ moved_on self.old sent) }
+        ensures err { OnErr result (self.new ≡ self.old) }
+        ensures memory { IfErr result (λ e. e ≡ OutOfMemory) }
+    {
+        self.contents.reserve_event()?;
+        self.sessions.take(&sent)?;
+        self.contents
+            .note_event(Event::Receive(Frame::Record(sent)));
+        Ok(())
+    }
+
+    // The session takes the record, which tells of this version.
+    pub(crate) fn take_line(
+        &mut self,
+        item: ItemId,
+        version: Version,
+        sent: Record,
+    ) -> Result<Reply, Refusal>
+        requires taken { record_refusal self.old sent ≡ None }
+        requires kept { IsSent sent.header sent.body }
+        requires told { told_line sent.body ≡ Some (told_by item version sent.body) }
+        ensures fits { OnOk result (All (Fits K.form) (wanted_by_line K.form self.old (told_by item version sent.body))) }
+        ensures ok { IfOk result (λ reply. TakesLine K.form self.old sent (told_by item version sent.body) (entering self.old sent.body) reply self.new) }
+        ensures err { OnErr result (self.new ≡ self.old) }
+        ensures refused { IfErr result (RefusesLine K.form self.old (told_by item version sent.body)) }
+    {
+        if self.knowledge.knows(item, version) {
+            self.move_on(sent)?;
+            return Ok(Reply::Known);
+        }
+        let told = self.told(item, version, &sent)?;
+        self.take_told(item, version, told, sent)?;
+        Ok(Reply::Took)
+    }
+
+    // What the record, which tells of this version, changes of the heads.
+    fn told(&self, item: ItemId, version: Version, sent: &Record) -> Result<Told, Refusal>
+        requires unknown { K.form.known self.now.knowledge item version ≡ false }
+        requires told { told_line sent.now.body ≡ Some (told_by item version sent.now.body) }
+        ensures fits { OnOk result (All (Fits K.form) (wanted_by_line K.form self.now (told_by item version sent.now.body))) }
+        ensures comer { IfOk result (λ told. told.comer ≡ entering self.now sent.now.body) }
+        ensures entries { IfOk result (λ told. told.entries.items ≡ news_told (told_by item version sent.now.body) told.comer self.now.heads) }
+        ensures refused { IfErr result (RefusesLine K.form self.now (told_by item version sent.now.body)) }
+    {
+        let below = told_below(sent.body());
+        self.knowledge.may_learn_with(item, version, below)?;
+        let comer = self.comer(sent.body())?;
+        let entries = news(self.alloc, self.contents.store(), item, below, &comer)?;
+        Ok(Told { comer, entries })
+    }
+
+    // The session takes the record, and what it tells is learned.
+    fn take_told(
+        &mut self,
+        item: ItemId,
+        version: Version,
+        told: Told,
+        sent: Record,
+    ) -> Result<(), Refusal>
+        requires taken { record_refusal self.old sent ≡ None }
+        requires kept { IsSent sent.header sent.body }
+        requires unknown { K.form.known self.old.knowledge item version ≡ false }
+        requires told { told_line sent.body ≡ Some (told_by item version sent.body) }
+        requires comer { told.comer ≡ entering self.old sent.body }
+        requires entries { told.entries.items ≡ news_told (told_by item version sent.body) told.comer self.old.heads }
+        requires fits { All (Fits K.form) (wanted_by_line K.form self.old (told_by item version sent.body)) }
+        ensures ok { OnOk result (TakesLine K.form self.old sent (told_by item version sent.body) (entering self.old sent.body) Reply.Took self.new) }
+        ensures err { OnErr result (self.new ≡ self.old) }
+        ensures memory { IfErr result (λ e. e ≡ OutOfMemory) }
+    {
+        let below = told_below(sent.body());
+        self.contents
+            .reserve_taken(&told.comer, told.entries.len())?;
+        self.knowledge.learn_with(item, version, below)?;
+        let Ok(()) = self.sessions.take(&sent) else {
+            unreachable!()
+        };
+        self.contents.learn(item, below, told.comer, told.entries);
+        self.contents
+            .note_event(Event::Receive(Frame::Record(sent)));
+        Ok(())
+    }
+
+    // The revision that a record brings to the heads, if there is one.
+    fn comer(&self, body: &Body) -> Result<Option<Revision>, AllocError>
+        ensures { IfOk result (λ comer. comer ≡ entering self.now body.now) }
+    {
+        match body {
+            Body::Item(revision) if self.filter.select(revision.message()) => {
+                Ok(Some(revision.copy()?))
+            }
+            _ => Ok(None),
+        }
+    }
+}
+
+// What the version that the record tells of supersedes.
+fn told_below(body: &Body) -> &ConciseVector
+    requires { told_line body.now ≢ None }
+    ensures is { result.now ≡ below_told body.now }
+    ensures kept { IfSome (told_line body.now) (λ line. IsRevision line.item line.version line.below) }
+{
+    match body {
+        Body::Item(revision) => revision.below(),
+        Body::MoveOut(descent) => descent.below(),
+        _ => unreachable!(),
+    }
+}
