@@ -1,4 +1,4 @@
-mod MeaningLemmas
+pub mod MeaningLemmas
 pub mod SelectsLemmas
 mod SearchLemmas
 mod TextLemmas

@@ -32,6 +32,13 @@ or_right : (a b : Bool) → b ≡ true → (a || b) ≡ true
 or_right true b e = refl
 or_right false b e = e
 
+-- an item is among the first or the others
+pub among_listed : (a b : Bool) → b ≡ true → (a || b) ≡ true
+among_listed a b e = or_right a b e
+
+pub among_first : (a b : Bool) → a ≡ true → (a || b) ≡ true
+among_first a b e = rw e refl
+
 or_left : (a b : Bool) → a ≡ true → (a || b) ≡ true
 or_left a b e = rw e refl
 

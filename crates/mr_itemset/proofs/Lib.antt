@@ -6,6 +6,7 @@ pub mod PlaceLemmas
 pub mod ItemLemmas
 pub mod RoomLemmas
 pub mod WithLemmas
+pub mod RisingLemmas
 pub mod EachLemmas
 pub mod GroupLemmas
 pub mod GroupedLemmas

@@ -1,6 +1,7 @@
-ghost use Rattle.std.specs.Prelude.{◌≡◌, ◌≤◌, ◌↔◌, ◌||◌, true, false, length, IfOk, OnOk, OnErr, IsErrOf, Err};
+ghost use Rattle.std.specs.Prelude.{◌≡◌, ◌≤◌, ◌↔◌, true, false, All, AllPairs, IfOk, OnOk, OnErr, IsErrOf, Err};
 ghost use Rattle.std.specs.List.{list_any};
-ghost use Rattle.mr_version.specs.Name.{name_eq};
+ghost use Rattle.std.specs.declared.cmp.Ordering.TheVariants.{Less};
+ghost use Rattle.mr_version.specs.Name.{name_cmp, name_eq};
 ghost use Rattle.mr_forms.specs.Sets.{Versions};
 ghost use Rattle.mr_forms.specs.Known.{AreSame, HasValue, IsOnlyOverItems};
 ghost use Rattle.mr_concise.specs.Vector.{vector_has};
@@ -16,11 +17,27 @@ use mr_forms::{FormFault, MAX_ITEMS, VersionSet};
 use mr_version::ItemId;
 use std::alloc::AllocError;
 
-/// Whether the item is among them.
-fn has_item(items: &[ItemId], item: ItemId) -> bool
-    ensures { result ≡ list_any (name_eq item) items.now }
+/// Whether each item is higher than the one before it.
+fn rises(items: &[ItemId]) -> bool
+    ensures { result ≡ true → AllPairs (λ x y. name_cmp x y ≡ Less) items.now }
 {
-    items.contains(&item)
+    for at in 1..items.len() {
+        if items[at - 1] >= items[at] {
+            return false;
+        }
+    }
+    true
+}
+
+/// Whether the item is among them. Where all of them are lower it isn't, and nothing is searched.
+fn is_among(before: &[ItemId], item: ItemId, are_lower: bool) -> bool
+    requires { are_lower ≡ true → All (λ x. name_cmp x item ≡ Less) before.now }
+    ensures { result ≡ list_any (name_eq item) before.now }
+{
+    if are_lower {
+        return false;
+    }
+    before.contains(&item)
 }
 
 impl ItemKnowledge {
@@ -38,25 +55,17 @@ impl ItemKnowledge {
         false
     }
 
-    /// Whether the item is neither listed nor among those before it.
-    fn is_new(&self, before: &[ItemId], item: ItemId) -> bool
-        ensures yes { result ≡ true → (list_any (name_eq item) before.now ≡ false) × (list_any (name_eq item) (items_of self.now.listed) ≡ false) }
-        ensures no { result ≡ false → (list_any (name_eq item) before.now || list_any (name_eq item) (items_of self.now.listed)) ≡ true }
-    {
-        if has_item(before, item) {
-            return false;
-        }
-        !self.lists(item)
-    }
-
-    /// How many of the items are not listed, each counted once. It allocates nothing.
+    /// How many of the items are not listed, each counted once. It allocates nothing. Items that don't
+    /// rise cost a search each among those before them.
     fn count_new(&self, items: &[ItemId]) -> usize
         requires { IsNormal self.now }
         ensures { CountsNew self.now items.now result }
     {
+        let are_rising = rises(items);
         let mut count = 0;
         for at in 0..items.len() {
-            if self.is_new(&items[..at], items[at]) {
+            let item = items[at];
+            if !is_among(&items[..at], item, are_rising) && !self.lists(item) {
                 count += 1;
             }
         }

@@ -7,7 +7,8 @@ use Rattle.std.proofs.lemmas.List.Folds.{find-append, list_all-append}
 use Rattle.mr_madewith.proofs.Rising.{unnamed}
 use Rattle.std.proofs.lemmas.Bool.{cases_Bool}
 use Rattle.std.proofs.lemmas.List.Elements.{All-head, All-tail}
-use Rattle.mr_replica.specs.Refusal.{◌orelse◌}
+use Rattle.mr_replica.specs.Refusal.{◌orelse◌, refused_if}
+use Rattle.mr_replica.specs.declared.refusal.Refusal.{Refusal}
 
 -- where neither of two answers comes, the first does not
 pub first_none : {A : Type 0} (a b : Option A) → (a orelse b) ≡ None → a ≡ None
@@ -17,6 +18,11 @@ first_none (Some x) b h = cc
 pub later_none : {A : Type 0} (a b : Option A) → (a orelse b) ≡ None → b ≡ None
 later_none None b h = h
 later_none (Some x) b h = cc
+
+-- a refusal whose case does not hold
+pub not_refused : (b : Bool) (e : Refusal) → refused_if b e ≡ None → b ≡ false
+not_refused true e h = cc
+not_refused false e h = refl
 
 pub map_none : {A B : Type 0} (f : A → B) (o : Option A) → option_map f o ≡ None → o ≡ None
 map_none f None h = refl

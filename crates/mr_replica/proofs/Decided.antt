@@ -78,11 +78,11 @@ module _ {K : Type 0} (form : Form K) where
   -- ---- what a stream keeps
 
   know_one : (mode : Mode) (k : K) (a b : List Piece) → Keeps form mode k a → Keeps form mode k b → a ≡ b
-  know_one Full k a b x y = pieces_unique (form.is_part k) a b x y
+  know_one Full k a b x y = pieces_unique (form.is_part k) a b x.0 y.0
   know_one Partial k a b x y = x ∙ sym y
 
   kept_not_holey : (mode : Mode) (k : K) (know : List Piece) → Keeps form mode k know → KeepsHoley form mode k → ⊥
-  kept_not_holey Full k know keeps holey = no_holey (form.is_part k) know keeps holey
+  kept_not_holey Full k know keeps holey = no_holey (form.is_part k) know keeps.0 holey
   kept_not_holey Partial k know keeps holey = holey
 
   module _ (s : State K) (event : Event) where

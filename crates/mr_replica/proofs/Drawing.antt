@@ -50,10 +50,10 @@ module _ {T : Type 0} (next : T → ℕ) (events : ℕ) where
   pub open_within : (n : ℕ) (table : Table T) (v : T) → AreWithin next events table → open_at table n ≡ Some v → next v ≤ events
   open_within n table v within found = at_within n table.open_ones v within.next_few found
 
-  within_changed : (n : ℕ) (left : T) (table : Table T) → next left ≤ events → AreWithin next events table → AreWithin next events (with_changed n (λ _. left) table)
+  pub within_changed : (n : ℕ) (left : T) (table : Table T) → next left ≤ events → AreWithin next events table → AreWithin next events (with_changed n (λ _. left) table)
   within_changed n left table is within = record { opened = within.opened; next_few = all_changed n left table.open_ones is within.next_few }
 
-abbrev next_of : Stream → ℕ
+abbrev pub next_of : Stream → ℕ
 next_of stream = stream.next
 
 -- a table of which one stream gave a record

@@ -1,6 +1,6 @@
 -- concise fragments have what their fragments have, and those of the parts of a knowledge are one text
 use Rattle.std.proofs.Common.{◌≡◌, ◌∙◌, ◌&&◌, ◌++◌, ℕ, flat_map, refl, sym, ap, subst, map, List, [], ◌∷◌}
-use Rattle.std.specs.List.{All, AllZip, Any}
+use Rattle.std.specs.List.{All, AllZip}
 use Rattle.std.proofs.lemmas.List.Elements.{All-nil, All-cons, All-head, All-tail}
 use Rattle.mr_version.specs.Name.{Name}
 use Rattle.std.proofs.lemmas.List.Elements.{All-contains, All-map}
@@ -11,11 +11,14 @@ use Rattle.mr_forms.specs.Sets.{Versions}
 use Rattle.mr_forms.specs.Known.{Pairs, Part}
 use Rattle.mr_forms.specs.Covered.{has_item, HasItems, listed_items, covered, all_covered}
 use Rattle.mr_forms.specs.Parts.{part_of, ArePartsThat}
-use Rattle.mr_forms.proofs.PartLemmas.{Contains-map, parts_that-unique}
+use Rattle.mr_forms.proofs.PartLemmas.{parts_that-unique}
 use Rattle.mr_concise.specs.Vector.{vector_has, HasTooManyHoles}
 use Rattle.mr_concise.specs.Fragments.{ConciseFragment, IsConciseOf, IsTooHoley, items_text, fragment_text, knowledge_text}
 use Rattle.mr_concise.proofs.EqualLemmas.{vectors_same}
-use Rattle.mr_replica.specs.Fragments.{HaveKnown, IsFragmentOf, AreFragmentsOf, HasHoleyPart}
+use Rattle.mr_wire.specs.Values.{piece_of}
+use Rattle.mr_replica.specs.Fragments.{HaveKnown, AreFragmentsOf, HasHoleyPart}
+use Rattle.mr_replica.specs.Pieces.{IsPieceOf}
+pub use Rattle.mr_replica.proofs.Kept.{holey_part}
 
 module _ {V : Type 0} (has : V → Versions) where
   covered_alike : (f : Fragment V) (g : ConciseFragment) → IsConciseOf has f g → (i v : Name) → covered has f i v ≡ covered vector_has g i v
@@ -42,15 +45,11 @@ module _ {V : Type 0} (has : V → Versions) where
   }
 
   -- the fragments of the parts that these are
-  pub alike_parts : (fs : List (Fragment V)) (gs : List ConciseFragment) → AllZip (IsConciseOf has) fs gs → AllZip IsFragmentOf (map (part_of has) fs) gs
+  pub alike_parts : (fs : List (Fragment V)) (gs : List ConciseFragment) → AllZip (IsConciseOf has) fs gs → AllZip IsPieceOf (map (part_of has) fs) (map piece_of gs)
   alike_parts [] [] h = tt
   alike_parts [] (g ∷ gs) h = absurd h
   alike_parts (f ∷ fs) [] h = absurd h
-  alike_parts (f ∷ fs) (g ∷ gs) h = (record { items = ap listed_items h.0.items; vector = h.0.vector }, alike_parts fs gs h.1)
-
-  -- one that is too holey is a part that is
-  pub holey_part : (is_part : Part → Type 0) (fs : List (Fragment V)) → All is_part (map (part_of has) fs) → Any (IsTooHoley has) fs → HasHoleyPart is_part
-  holey_part is_part fs are (k, x, within, is, holey) = (part_of has x, All-contains is_part (map (part_of has) fs) (part_of has x) are (Contains-map (part_of has) x fs (k, within, is)), holey)
+  alike_parts (f ∷ fs) (g ∷ gs) h = (record { items = ap listed_items h.0.items; versions = h.0.vector }, alike_parts fs gs h.1)
 
   -- where none is too holey, no part is
   pub no_holey_part : (is_part : Part → Type 0) (fs : List (Fragment V)) → ArePartsThat is_part (map (part_of has) fs) → All (λ f. ¬ IsTooHoley has f) fs → ¬ HasHoleyPart is_part
@@ -60,9 +59,9 @@ module _ {V : Type 0} (has : V → Versions) where
 -- ---- one text
 
 -- fragments of one part have one text
-fragment_text-once : (p : Part) (f g : ConciseFragment) → IsFragmentOf p f → IsFragmentOf p g → fragment_text f ≡ fragment_text g
+fragment_text-once : (p : Part) (f g : ConciseFragment) → IsPieceOf p (piece_of f) → IsPieceOf p (piece_of g) → fragment_text f ≡ fragment_text g
 fragment_text-once p f g a b =
-    let vectors : f.vector ≡ g.vector = vectors_same f.vector g.vector a.vector.columns_ok b.vector.columns_ok (λ v. a.vector.has v ∙ sym (b.vector.has v)) in
+    let vectors : f.vector ≡ g.vector = vectors_same f.vector g.vector a.versions.columns_ok b.versions.columns_ok (λ v. a.versions.has v ∙ sym (b.versions.has v)) in
     let texts : items_text f.items ≡ items_text g.items = same_items f.items g.items (a.items ∙ sym b.items) in
     rw (texts, vectors) refl
   where
@@ -76,7 +75,7 @@ fragment_text-once p f g a b =
 abbrev behind : List ConciseFragment → List ℕ
 behind fs = flat_map (λ f. (59 ∷ 32 ∷ []) ++ fragment_text f) fs
 
-behind-once : (ps : List Part) (fs gs : List ConciseFragment) → AllZip IsFragmentOf ps fs → AllZip IsFragmentOf ps gs → behind fs ≡ behind gs
+behind-once : (ps : List Part) (fs gs : List ConciseFragment) → AllZip IsPieceOf ps (map piece_of fs) → AllZip IsPieceOf ps (map piece_of gs) → behind fs ≡ behind gs
 behind-once [] [] [] a b = refl
 behind-once [] [] (g ∷ gs) a b = absurd b
 behind-once [] (f ∷ fs) gs a b = absurd a
@@ -84,7 +83,7 @@ behind-once (p ∷ ps) [] gs a b = absurd a
 behind-once (p ∷ ps) (f ∷ fs) [] a b = absurd b
 behind-once (p ∷ ps) (f ∷ fs) (g ∷ gs) a b = rw (fragment_text-once p f g a.0 b.0, behind-once ps fs gs a.1 b.1) refl
 
-text-once : (ps : List Part) (fs gs : List ConciseFragment) → AllZip IsFragmentOf ps fs → AllZip IsFragmentOf ps gs → knowledge_text fs ≡ knowledge_text gs
+text-once : (ps : List Part) (fs gs : List ConciseFragment) → AllZip IsPieceOf ps (map piece_of fs) → AllZip IsPieceOf ps (map piece_of gs) → knowledge_text fs ≡ knowledge_text gs
 text-once [] [] [] a b = refl
 text-once [] [] (g ∷ gs) a b = absurd b
 text-once [] (f ∷ fs) gs a b = absurd a
@@ -96,4 +95,4 @@ text-once (p ∷ ps) (f ∷ fs) (g ∷ gs) a b = rw (fragment_text-once p f g a.
 pub one_text : (is_part : Part → Type 0) (fs gs : List ConciseFragment) → AreFragmentsOf is_part fs → AreFragmentsOf is_part gs → knowledge_text fs ≡ knowledge_text gs
 one_text is_part fs gs a b =
     let same : b.parts ≡ a.parts = parts_that-unique is_part b.parts a.parts b.are_parts a.are_parts in
-    text-once a.parts fs gs a.by_part (subst (λ ps. AllZip IsFragmentOf ps gs) same b.by_part)
+    text-once a.parts fs gs a.by_part (subst (λ ps. AllZip IsPieceOf ps (map piece_of gs)) same b.by_part)

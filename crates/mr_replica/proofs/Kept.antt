@@ -35,7 +35,7 @@ unfolding IsStrictlySortedBy
 rises [] sorted = tt
 rises (x ∷ items) sorted = (refl, rises_from x items sorted.0 sorted.1)
 
-may_list : (items : Option (List Name)) → IfSome items AreListable → AreItems items
+pub may_list : (items : Option (List Name)) → IfSome items AreListable → AreItems items
 may_list None h = tt
 may_list (Some []) h = absurd (h.some refl)
 may_list (Some (x ∷ items)) h = (omega arith, h.few, rises (x ∷ items) h.rising)
@@ -64,7 +64,7 @@ piece_one part a b h k =
     let vector : a.vector ≡ b.vector = columns_one part.versions a.vector b.vector h.versions k.versions in
     λ i. record { items = items i; vector = vector i }
 
-pieces_one : (parts : List Part) (xs ys : List Piece) → AllZip IsPieceOf parts xs → AllZip IsPieceOf parts ys → xs ≡ ys
+pub pieces_one : (parts : List Part) (xs ys : List Piece) → AllZip IsPieceOf parts xs → AllZip IsPieceOf parts ys → xs ≡ ys
 pieces_one [] [] [] h k = refl
 pieces_one [] (x ∷ xs) ys h k = absurd h
 pieces_one [] [] (y ∷ ys) h k = absurd k
@@ -78,8 +78,8 @@ pieces_one (p ∷ ps) (x ∷ xs) (y ∷ ys) h k =
 module _ (is_part : Part → Type 0) where
   pub pieces_unique : (xs ys : List Piece) → ArePiecesOf is_part xs → ArePiecesOf is_part ys → xs ≡ ys
   pieces_unique xs ys h k =
-      let parts : k.0 ≡ h.0 = parts_that-unique is_part k.0 h.0 k.1 h.1 in
-      pieces_one h.0 xs ys h.2 (subst (λ (ps : List Part). AllZip IsPieceOf ps ys) parts k.2)
+      let parts : k.parts ≡ h.parts = parts_that-unique is_part k.parts h.parts k.are_parts h.are_parts in
+      pieces_one h.parts xs ys h.by_part (subst (λ (ps : List Part). AllZip IsPieceOf ps ys) parts k.by_part)
 
   -- a part that has a piece has few holes
   few_in : (parts : List Part) (xs : List Piece) → AllZip IsPieceOf parts xs → All (λ p. ¬ HasTooManyHoles p.versions) parts
@@ -91,4 +91,4 @@ module _ (is_part : Part → Type 0) where
 
   pub no_holey : (xs : List Piece) → ArePiecesOf is_part xs → HasHoleyPart is_part → ⊥
   no_holey xs h holey =
-      All-contains (λ (p : Part). ¬ HasTooManyHoles p.versions) h.0 holey.0 (few_in h.0 xs h.2) (h.1.has_all holey.0 holey.1) holey.2
+      All-contains (λ (p : Part). ¬ HasTooManyHoles p.versions) h.parts holey.0 (few_in h.parts xs h.by_part) (h.are_parts.has_all holey.0 holey.1) holey.2

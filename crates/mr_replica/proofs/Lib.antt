@@ -16,5 +16,8 @@ pub mod PieceLemmas
 pub mod Kept
 pub mod Opening
 pub mod Drawing
+pub mod Advancing
 pub mod Decided
+pub mod Replies
 mod Rows
+mod RecordRows

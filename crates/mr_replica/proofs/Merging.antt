@@ -28,7 +28,7 @@ pub one_pairs : (s t : Pairs) → AreSame s t → s ≡ t
 one_pairs s t h = λ i a b. h a b i
 
 -- what a fragment covers is what it claims
-lists_same : (items : ItemSet) (i : Name) → has_item items i ≡ lists (listed_items items) i
+pub lists_same : (items : ItemSet) (i : Name) → has_item items i ≡ lists (listed_items items) i
 lists_same AllItems i = refl
 lists_same (Listed items) i = refl
 

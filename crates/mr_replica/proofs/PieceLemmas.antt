@@ -1,19 +1,35 @@
 -- how fragments are made pieces, one by one
-use Rattle.std.proofs.Common.{◌≡◌, ap, sym, ◌∙◌, arith, List, [], ◌∷◌, ◌++◌, length, All, map, length-append, append_assoc}
+use Rattle.std.proofs.Common.{◌≡◌, ◌&&◌, ◌||◌, refl, ap, sym, ◌∙◌, arith, List, [], ◌∷◌, ◌++◌, length, All, map, Option, length-append, append_assoc}
 use Rattle.std.specs.List.{AllZip, Any}
 use Rattle.std.proofs.lemmas.List.{append-nil}
 use Rattle.std.proofs.Math.Seq.{get_or-append_seam}
 use Rattle.mr_forms.specs.declared.fragment.Fragment.{Fragment}
 use Rattle.mr_forms.specs.Sets.{Versions}
+use Rattle.mr_forms.specs.Covered.{has_item, listed_items, all_covered}
+use Rattle.mr_forms.specs.Known.{AreSame}
 use Rattle.mr_forms.specs.Parts.{part_of}
 use Rattle.mr_concise.specs.Fragments.{IsTooHoley}
+use Rattle.mr_concise.specs.Vector.{vector_has}
+use Rattle.mr_session.specs.Stream.{lists, claimed}
+use Rattle.mr_version.specs.Name.{Name}
 use Rattle.mr_wire.specs.Values.{Piece}
 use Rattle.mr_replica.specs.Pieces.{IsPieceOf}
+use Rattle.mr_replica.proofs.Merging.{lists_same}
 
 module _ {V : Type 0} (has : V → Versions) where
   -- the pieces of these fragments
   abbrev pub AreMade : List (Fragment V) → List Piece → Type 0
   AreMade fs pieces = AllZip IsPieceOf (map (part_of has) fs) pieces
+
+  -- they claim what the fragments cover
+  pub made_claim : (fs : List (Fragment V)) (ps : List Piece) → AreMade fs ps → AreSame (all_covered has fs) (claimed ps)
+  made_claim [] [] made i v = refl
+  made_claim [] (p ∷ ps) made i v = absurd made
+  made_claim (f ∷ fs) [] made i v = absurd made
+  made_claim (f ∷ fs) (p ∷ ps) made i v =
+      let items : has_item f.items i ≡ lists p.items i = lists_same f.items i ∙ ap (λ (o : Option (List Name)). lists o i) (sym made.0.items) in
+      let versions : has f.vector v ≡ vector_has p.vector v = sym (made.0.versions.has v) in
+      rw (items, versions, made_claim fs ps made.1 i v) refl
 
   made_last : (fs : List (Fragment V)) (ps : List Piece) (f : Fragment V) (p : Piece) → AreMade fs ps → IsPieceOf (part_of has f) p → AreMade (fs ++ f ∷ []) (ps ++ p ∷ [])
   made_last [] [] f p all is = (is, tt)

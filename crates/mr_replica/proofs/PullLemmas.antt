@@ -1,66 +1,44 @@
 -- what a request may carry, and that there is one request
-use Rattle.std.proofs.Common.{◌≡◌, ◌≢◌, ◌≤◌, ◌<◌, ◌+◌, ℕ, zero, suc, Bool, true, false, nat_le, refl, sym, ap, subst, ◌∙◌, arith, List, [], ◌∷◌, ◌++◌, take, map, length, Option, Some, None, IfSome}
-use Rattle.std.specs.List.{All, AllZip, AllPairs, AllByRecursion}
-use Rattle.std.specs.List.Sorted.{IsStrictlySortedBy}
+use Rattle.std.proofs.Common.{◌≡◌, ◌≤◌, ◌<◌, ◌+◌, ℕ, zero, suc, true, nat_le, refl, sym, ap, subst, ◌∙◌, arith, List, [], ◌∷◌, ◌++◌, take, map, length, Option, Some, None, IfSome}
+use Rattle.std.specs.List.{All, AllZip, AllPairs}
 use Rattle.std.proofs.lemmas.List.{length_push, length-append, append-nil, append_assoc, take_all}
 use Rattle.std.proofs.lemmas.List.Sums.{sum_by_push, sum_by-cons}
 use Rattle.std.proofs.lemmas.List.Elements.{All-nil, All-cons, All-head, All-tail, All-push}
 use Rattle.std.proofs.lemmas.Bool.{leb-false}
-use Rattle.std.specs.declared.cmp.Ordering.TheVariants.{Less}
-use Rattle.mr_version.specs.Name.{Name, name_cmp}
-use Rattle.mr_forms.specs.Known.{Part, Form}
-use Rattle.mr_forms.specs.Covered.{listed_items}
+use Rattle.mr_version.specs.Name.{Name}
+use Rattle.mr_forms.specs.Known.{Pairs, Part, Form}
 use Rattle.mr_forms.specs.Parts.{AreListable, ComesFirst}
-use Rattle.mr_forms.proofs.PartLemmas.{AllPairs-head, AllPairs-tail, parts_that-unique}
+use Rattle.mr_forms.proofs.PartLemmas.{AllPairs-head, AllPairs-tail}
 use Rattle.mr_concise.specs.Fragments.{ConciseFragment}
-use Rattle.mr_concise.proofs.EqualLemmas.{vectors_same}
 use Rattle.mr_session.specs.Table.{most_open, Numbered}
 use Rattle.mr_session.specs.Session.{Session, new_session}
-use Rattle.mr_wire.specs.Values.{Piece, piece_of, AreItems, ItemsRise, least_item}
+use Rattle.mr_wire.specs.Values.{Piece, piece_of, AreItems, least_item}
 use Rattle.mr_wire.specs.Frames.{FragmentsRise, IsQuestion, Question, least_follows}
 use Rattle.mr_wire.specs.Encoding.{total_len}
 use Rattle.mr_wire.specs.Spelling.{fragment_bytes, items_bytes, vector_bytes}
 use Rattle.mr_replica.specs.State.{State}
 use Rattle.mr_replica.specs.Sound.{IsSound}
 use Rattle.mr_replica.specs.Issue.{logged}
-use Rattle.mr_replica.specs.Fragments.{IsFragmentOf}
+use Rattle.mr_replica.specs.Pieces.{IsPieceOf}
 use Rattle.mr_replica.specs.Refusal.{◌orelse◌, refused_if}
 use Rattle.mr_replica.specs.Pull.{IsLongestWithin, AreAsked, IsAskOf, pull_refusal, pulling, most_asked}
 use Rattle.mr_replica.specs.Admission.{retired, log_full}
 use Rattle.mr_replica.specs.declared.event.Event.{Event}
-use Rattle.mr_replica.specs.declared.refusal.Refusal.{Refusal}
 use Rattle.mr_replica.specs.declared.refusal.Refusal.TheVariants.{TooManySessions, LogFull}
-use Rattle.mr_replica.proofs.Choice.{first_none, later_none}
+use Rattle.mr_replica.proofs.Choice.{first_none, later_none, not_refused}
 use Rattle.mr_replica.proofs.Keeping.{within_later}
+use Rattle.mr_replica.proofs.Kept.{may_list, pieces_unique}
 
 -- ---- a frame carries the fragments of parts
 
-rise_above : (x : Name) (items : List Name) → AllByRecursion (λ y. name_cmp x y ≡ Less) items → IsStrictlySortedBy name_cmp items → ItemsRise (Some x) items
-unfolding IsStrictlySortedBy
-rise_above x [] above sorted = tt
-rise_above x (y ∷ items) above sorted = (rw above.0 refl, rise_above y items sorted.0 sorted.1)
-
-rise_all : (items : List Name) → IsStrictlySortedBy name_cmp items → ItemsRise None items
-unfolding IsStrictlySortedBy
-rise_all [] sorted = tt
-rise_all (x ∷ items) sorted = (refl, rise_above x items sorted.0 sorted.1)
-
-some_length : (items : List Name) → items ≢ [] → 1 ≤ length items
-some_length [] some = absurd (some refl)
-some_length (x ∷ items) some = omega arith
-
-listable : (items : Option (List Name)) → IfSome items AreListable → AreItems items
-listable None h = tt
-listable (Some items) h = (some_length items h.some, h.few, rise_all items h.rising)
-
 -- the fragments of listable parts have items that a frame carries
-pub parts_carried : (ps : List Part) (fs : List ConciseFragment) → AllZip IsFragmentOf ps fs → All (λ p. IfSome p.items AreListable) ps → All (λ f. AreItems (piece_of f).items) fs
+pub parts_carried : (ps : List Part) (fs : List ConciseFragment) → AllZip IsPieceOf ps (map piece_of fs) → All (λ p. IfSome p.items AreListable) ps → All (λ f. AreItems (piece_of f).items) fs
 parts_carried [] [] are h = All-nil (λ (f : ConciseFragment). AreItems (piece_of f).items)
 parts_carried [] (f ∷ fs) are h = absurd are
 parts_carried (p ∷ ps) [] are h = absurd are
 parts_carried (p ∷ ps) (f ∷ fs) are h =
     All-cons (λ (f : ConciseFragment). AreItems (piece_of f).items) f fs
-    (subst AreItems (sym are.0.items) (listable p.items (All-head (λ (p : Part). IfSome p.items AreListable) p ps h)))
+    (subst AreItems (sym are.0.items) (may_list p.items (All-head (λ (p : Part). IfSome p.items AreListable) p ps h)))
     (parts_carried ps fs are.1 (All-tail (λ (p : Part). IfSome p.items AreListable) p ps h))
 
 -- the least items of parts in order
@@ -78,7 +56,7 @@ Listable p = IfSome p.items AreListable
 abbrev Before : Part → Part → Type 0
 Before p q = ComesFirst p.items q.items
 
-rise_behind : (p : Part) (ps : List Part) (fs : List ConciseFragment) → AllZip IsFragmentOf ps fs → All Listable ps → All (Before p) ps → AllPairs Before ps → FragmentsRise (Some (least_item p.items)) (map piece_of fs)
+rise_behind : (p : Part) (ps : List Part) (fs : List Piece) → AllZip IsPieceOf ps fs → All Listable ps → All (Before p) ps → AllPairs Before ps → FragmentsRise (Some (least_item p.items)) fs
 rise_behind p [] [] are ok above order = tt
 rise_behind p [] (f ∷ fs) are ok above order = absurd are
 rise_behind p (q ∷ qs) [] are ok above order = absurd are
@@ -86,7 +64,7 @@ rise_behind p (q ∷ qs) (f ∷ fs) are ok above order =
     rw are.0.items
     (follows p.items q.items (All-head Listable q qs ok) (All-head (Before p) q qs above), rise_behind q qs fs are.1 (All-tail Listable q qs ok) (AllPairs-head Before q qs order) (AllPairs-tail Before q qs order))
 
-parts_rise : (ps : List Part) (fs : List ConciseFragment) → AllZip IsFragmentOf ps fs → All Listable ps → AllPairs Before ps → FragmentsRise None (map piece_of fs)
+parts_rise : (ps : List Part) (fs : List Piece) → AllZip IsPieceOf ps fs → All Listable ps → AllPairs Before ps → FragmentsRise None fs
 parts_rise [] [] are ok order = tt
 parts_rise [] (f ∷ fs) are ok order = absurd are
 parts_rise (q ∷ qs) [] are ok order = absurd are
@@ -100,10 +78,10 @@ rise_take (suc n) before [] h = tt
 rise_take (suc n) before (p ∷ ps) h = (h.0, rise_take n (Some (least_item p.items)) ps h.1)
 
 -- the fragments that a request tells rise
-asked_rise : (is_part : Part → Type 0) (asked : List Piece) → AreAsked is_part asked → FragmentsRise None asked
-asked_rise is_part asked h =
+asked_rise : (is_part : Part → Type 0) (known : Pairs) (asked : List Piece) → AreAsked is_part known asked → FragmentsRise None asked
+asked_rise is_part known asked h =
     subst (FragmentsRise None) (sym h.longest.beginning)
-    (rise_take (length asked) None (map piece_of h.fragments) (parts_rise h.are.parts h.fragments h.are.by_part h.are.are_parts.in_order.listable h.are.are_parts.in_order.in_order))
+    (rise_take (length asked) None (map piece_of h.fragments) (parts_rise h.are.parts (map piece_of h.fragments) h.are.by_part h.are.are_parts.in_order.listable h.are.are_parts.in_order.in_order))
 
 -- how many bytes a piece takes
 abbrev size : Piece → ℕ
@@ -119,10 +97,10 @@ piece_counts (p ∷ ps) = omega (arith, sum_by-cons size p ps, one p.items, leng
     one (Some items) = omega arith
 
 -- such a request is one that a frame carries
-pub asked_question : (is_part : Part → Type 0) (session : ℕ) (asked : List Piece) → 1 ≤ session → AreAsked is_part asked → IsQuestion session asked
-asked_question is_part session asked from h = record {
+pub asked_question : (is_part : Part → Type 0) (known : Pairs) (session : ℕ) (asked : List Piece) → 1 ≤ session → AreAsked is_part known asked → IsQuestion session asked
+asked_question is_part known session asked from h = record {
   session_from = from;
-  rise = asked_rise is_part asked h;
+  rise = asked_rise is_part known asked h;
   few = omega (arith, piece_counts asked, h.longest.within);
 }
 
@@ -194,22 +172,10 @@ one_longest most all a b h k =
 
 -- ---- one request
 
-same_pieces : (ps : List Part) (fs gs : List ConciseFragment) → AllZip IsFragmentOf ps fs → AllZip IsFragmentOf ps gs → map piece_of fs ≡ map piece_of gs
-same_pieces [] [] [] a b = refl
-same_pieces [] [] (g ∷ gs) a b = absurd b
-same_pieces [] (f ∷ fs) gs a b = absurd a
-same_pieces (p ∷ ps) [] gs a b = absurd a
-same_pieces (p ∷ ps) (f ∷ fs) [] a b = absurd b
-same_pieces (p ∷ ps) (f ∷ fs) (g ∷ gs) a b =
-    let vectors : f.vector ≡ g.vector = vectors_same f.vector g.vector a.0.vector.columns_ok b.0.vector.columns_ok (λ v. a.0.vector.has v ∙ sym (b.0.vector.has v)) in
-    let items : listed_items f.items ≡ listed_items g.items = a.0.items ∙ sym b.0.items in
-    rw (items, vectors, same_pieces ps fs gs a.1 b.1) refl
-
 -- what a request tells of a knowledge is one list
-same_asked : (is_part : Part → Type 0) (a b : List Piece) → AreAsked is_part a → AreAsked is_part b → a ≡ b
-same_asked is_part a b h k =
-    let parts : k.are.parts ≡ h.are.parts = parts_that-unique is_part k.are.parts h.are.parts k.are.are_parts h.are.are_parts in
-    let pieces : map piece_of k.fragments ≡ map piece_of h.fragments = same_pieces h.are.parts k.fragments h.fragments (subst (λ ps. AllZip IsFragmentOf ps k.fragments) parts k.are.by_part) h.are.by_part in
+same_asked : (is_part : Part → Type 0) (known : Pairs) (a b : List Piece) → AreAsked is_part known a → AreAsked is_part known b → a ≡ b
+same_asked is_part known a b h k =
+    let pieces : map piece_of k.fragments ≡ map piece_of h.fragments = pieces_unique is_part (map piece_of k.fragments) (map piece_of h.fragments) k.are h.are in
     one_longest most_asked (map piece_of h.fragments) a b h.longest (subst (λ ps. IsLongestWithin most_asked ps b) pieces k.longest)
 
 -- a replica has one request to make
@@ -218,24 +184,20 @@ same_ask form s a b h k =
     let target : b.target ≡ a.target = k.target ∙ sym h.target in
     let session : b.session ≡ a.session = k.session ∙ sym h.session in
     let filter : b.filter ≡ a.filter = k.filter ∙ sym h.filter in
-    let fragments : b.fragments ≡ a.fragments = same_asked (form.is_part s.knowledge) b.fragments a.fragments k.fragments h.fragments in
+    let fragments : b.fragments ≡ a.fragments = same_asked (form.is_part s.knowledge) (form.known s.knowledge) b.fragments a.fragments k.fragments h.fragments in
     λ i. record { target = target i; session = session i; filter = filter i; fragments = fragments i }
 
 -- ---- the session
 
-refused_not : (b : Bool) (e : Refusal) → refused_if b e ≡ None → b ≡ false
-refused_not true e h = cc
-refused_not false e h = refl
-
 module _ {K : Type 0} (s : State K) (admitted : pull_refusal s ≡ None) where
   -- there is room for one session more
   pub session_room : length s.sessions.open_ones < most_open
-  session_room = leb-false most_open (length s.sessions.open_ones) (refused_not (nat_le most_open (length s.sessions.open_ones)) TooManySessions (first_none (refused_if (nat_le most_open (length s.sessions.open_ones)) TooManySessions) (log_full s) (later_none (retired s) (refused_if (nat_le most_open (length s.sessions.open_ones)) TooManySessions orelse log_full s) admitted)))
+  session_room = leb-false most_open (length s.sessions.open_ones) (not_refused (nat_le most_open (length s.sessions.open_ones)) TooManySessions (first_none (refused_if (nat_le most_open (length s.sessions.open_ones)) TooManySessions) (log_full s) (later_none (retired s) (refused_if (nat_le most_open (length s.sessions.open_ones)) TooManySessions orelse log_full s) admitted)))
 
   -- there is a number for it
   pub session_number : (form : Form K) → IsSound form s → s.sessions.opened < 1000000
   session_number form sound =
-      let room : length s.log < s.event_limit = leb-false s.event_limit (length s.log) (refused_not (nat_le s.event_limit (length s.log)) LogFull (later_none (refused_if (nat_le most_open (length s.sessions.open_ones)) TooManySessions) (log_full s) (later_none (retired s) (refused_if (nat_le most_open (length s.sessions.open_ones)) TooManySessions orelse log_full s) admitted))) in
+      let room : length s.log < s.event_limit = leb-false s.event_limit (length s.log) (not_refused (nat_le s.event_limit (length s.log)) LogFull (later_none (refused_if (nat_le most_open (length s.sessions.open_ones)) TooManySessions) (log_full s) (later_none (retired s) (refused_if (nat_le most_open (length s.sessions.open_ones)) TooManySessions orelse log_full s) admitted))) in
       omega (arith, room, sound.limit_to, sound.sessions_within.opened)
 
 -- the replica keeps what it keeps

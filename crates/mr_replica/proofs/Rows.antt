@@ -35,21 +35,21 @@ use Rattle.mr_replica.specs.declared.event.Event.TheVariants.{Edit, Retire, Pull
 use Rattle.mr_replica.proofs.PullLemmas.{fits_until}
 use Rattle.mr_replica.specs.declared.refusal.Refusal.TheVariants.{Retired, NoBase, NotHeld, MixedItems, OwnHeadLeft, LogFull, TooManySessions, TooManyStreams, NoSession, NoStream, OwnAsk, NotPushedOut, PushOutsLeft}
 
-abbrev name : ℕ → ℕ → Name
+abbrev pub name : ℕ → ℕ → Name
 name author counter = record { author = author; counter = counter }
 
-abbrev mail : Mail
+abbrev pub mail : Mail
 mail = record { from = []; subject = []; body = []; labels = []; flags = 0; day = 0 }
 
 -- the versions 1 to this one of an author
-abbrev column : ℕ → ℕ → AuthorColumn
+abbrev pub column : ℕ → ℕ → AuthorColumn
 column author upto = record { author = author; column = record { upto = upto; holes = [] } }
 
-abbrev rev : Name → List AuthorColumn → Rev
+abbrev pub rev : Name → List AuthorColumn → Rev
 rev version below = record { item = name 0 1; version = version; below = below; message = mail }
 
 -- the filter of one clause with no condition
-abbrev all_messages : List ClauseParts
+abbrev pub all_messages : List ClauseParts
 all_messages = record { all_labels = []; no_labels = []; flags_on = 0; flags_off = 0; since = 0 } ∷ []
 
 -- what an edit of these bases supersedes
@@ -147,7 +147,7 @@ filled_below : map (edited_below creates_between (name 0 2 ∷ [])) (name 0 1 �
 filled_below = refl
 
 -- so dropping asks for the item too
-abbrev of_item : Name → Rev
+abbrev pub of_item : Name → Rev
 of_item version = record { item = version; version = version; below = []; message = mail }
 
 other_items_stay : map version_of (left_by (name 0 1) (has_below (rev (name 0 5) (column 0 4 ∷ []))) (rev (name 0 2) (column 0 1 ∷ []) ∷ of_item (name 0 3) ∷ of_item (name 0 4) ∷ [])) ≡ name 0 3 ∷ name 0 4 ∷ []

@@ -2,7 +2,7 @@
 use Rattle.std.proofs.Common.{◌≡◌, ◌≤◌, ◌<◌, ◌+◌, ◌==◌, nat_lt, nat_le, ℕ, Bool, true, false, not, ◌&&◌, ◌||◌, if◌then◌else◌, refl, sym, ap, subst, ◌∙◌, arith, List, [], ◌∷◌, ◌++◌, length, Option, Some, None, inl, inr, eq-eqb}
 use Rattle.std.specs.List.{All}
 use Rattle.std.specs.Option.{option_map_or}
-use Rattle.std.proofs.lemmas.Bool.{cases_Bool, or_left, or_right, ltb-true}
+use Rattle.std.proofs.lemmas.Bool.{cases_Bool, or_left, or_right, or_parts, not-false, ltb-true, ltb-false, leb-false}
 use Rattle.std.proofs.lemmas.List.{length_push}
 use Rattle.std.proofs.lemmas.List.Elements.{All-head, All-tail, All-map, All-filter, All-weaker, All-append}
 use Rattle.mr_version.specs.Name.{Name, name_eq}
@@ -30,12 +30,11 @@ use Rattle.mr_replica.specs.Forged.{line_of, is_early, has_early, is_early_line,
 use Rattle.mr_replica.specs.Receive.{session_refusal, session_for, record_refusal, moved_on, line_learned, arrived, learning, finished, ending, is_unheld}
 use Rattle.mr_replica.specs.declared.event.Event.{Event}
 use Rattle.mr_replica.specs.declared.event.Event.TheVariants.{Receive}
-use Rattle.mr_replica.specs.declared.refusal.Refusal.{Refusal}
 use Rattle.mr_replica.specs.declared.refusal.Refusal.TheVariants.{NotForMe, LogFull, Forged}
 use Rattle.mr_wire.specs.declared.frame.Frame.TheVariants.{Record}
-use Rattle.mr_replica.proofs.Choice.{first_none, later_none, map_none, some_same, found_has}
+use Rattle.mr_replica.proofs.Choice.{first_none, later_none, not_refused, map_none, some_same, found_has}
 use Rattle.mr_replica.proofs.Issuing.{All-placed}
-use Rattle.mr_replica.proofs.Keeping.{within_later, within_closed, issued_left}
+use Rattle.mr_replica.proofs.Keeping.{within_later, within_closed, issued_left, sound_with}
 
 -- ---- the next index
 
@@ -47,14 +46,6 @@ at_has {T} P n v (x ∷ xs) all found =
       | inl same ↦ subst P (some_same x.value v (rw same at found)) (All-head (λ (x : Numbered T). P x.value) x xs all)
       | inr other ↦ at_has P n v xs (All-tail (λ (x : Numbered T). P x.value) x xs all) (rw other at found)
     ]
-
-pub neither : (a b : Bool) → (a || b) ≡ false → (a ≡ false) × (b ≡ false)
-neither false b h = (refl, h)
-neither true b h = cc
-
-not_false : (b : Bool) → not b ≡ false → b ≡ true
-not_false true h = refl
-not_false false h = cc
 
 own_late : (own late : Bool) → own ≡ true → (own && late) ≡ false → late ≡ false
 own_late true late is h = h
@@ -72,16 +63,6 @@ third_fails false true c x y z h = cc
 third_fails false false true x y z h = cc
 third_fails false false false x y z h = refl
 
-not_above : (a b : ℕ) → nat_lt a b ≡ false → b ≤ a
-not_above a b h = grind (arith, h)
-
-not_refused : (b : Bool) (e : Refusal) → refused_if b e ≡ None → b ≡ false
-not_refused true e h = cc
-not_refused false e h = refl
-
-below_limit : (a b : ℕ) → nat_le a b ≡ false → b < a
-below_limit a b h = grind (arith, h)
-
 -- a first record has the index 0
 start_index : (body : Body) (index : ℕ) → IsIndexOf body index → (if is_start body then None else Some faults.NotStart) ≡ None → index ≡ 0
 start_index (Start mode) index is h = is
@@ -95,7 +76,7 @@ start_index End index is h = cc
 index_of_next : (origin : Option Origin) (next : ℕ) (sent : Sent) → IsIndexOf sent.body sent.header.index → first_fault origin next sent ≡ None → sent.header.index ≤ next
 index_of_next None next sent is h = omega (arith, start_index sent.body sent.header.index is h)
 index_of_next (Some origin) next sent is h =
-    not_above next sent.header.index (third_fails (not (is_of origin sent.header)) (nat_lt sent.header.index next) (nat_lt next sent.header.index) faults.OtherStream faults.Repeated faults.Gap h)
+    ltb-false next sent.header.index (third_fails (not (is_of origin sent.header)) (nat_lt sent.header.index next) (nat_lt next sent.header.index) faults.OtherStream faults.Repeated faults.Gap h)
 
 module _ {K : Type 0} (form : Form K) (s : State K) (sent : Sent) (sound : IsSound form s) (kept : IsSent sent.header sent.body) (taken : record_refusal s sent ≡ None) where
   -- the parts of what refuses a record
@@ -133,7 +114,7 @@ module _ {K : Type 0} (form : Form K) (s : State K) (sent : Sent) (sound : IsSou
       let mine = refused_if (not (sent.header.target == s.id)) NotForMe in
       let room : log_full s ≡ None =
       later_none (refused_if (is_forged s sent.body) Forged) (log_full s) (later_none (session_refusal (session_for s sent) sent) later (later_none mine (session_refusal (session_for s sent) sent orelse later) taken)) in
-      let few : length s.log < s.event_limit = below_limit s.event_limit (length s.log) (not_refused (nat_le s.event_limit (length s.log)) LogFull room) in
+      let few : length s.log < s.event_limit = leb-false s.event_limit (length s.log) (not_refused (nat_le s.event_limit (length s.log)) LogFull room) in
       omega (arith, index_within, few, sound.limit_to)
 
   -- the table of sessions once one has taken the record
@@ -167,20 +148,9 @@ module _ {K : Type 0} (form : Form K) (s : State K) (sent : Sent) (sound : IsSou
   }
 
   pub sound_finished : IsSound form (finished s sent)
-  sound_finished = record {
-    limit_from = sound.limit_from;
-    limit_to = sound.limit_to;
-    issued_few = omega (arith, sound.issued_few, length_push s.log (Receive (Record sent)));
-    heads_issued = sound.heads_issued;
-    push_outs_issued = sound.push_outs_issued;
-    trail_issued = sound.trail_issued;
-    heads_known = sound.heads_known;
-    push_outs_known = sound.push_outs_known;
-    sessions_within =
-        within_later (λ session. session.next) s.log (Receive (Record sent)) (with_closed s.sessions sent.header.session)
-        (within_closed (λ session. session.next) (length s.log) sent.header.session s.sessions sound.sessions_within);
-    streams_within = within_later (λ stream. stream.next) s.log (Receive (Record sent)) s.streams sound.streams_within;
-  }
+  sound_finished =
+      sound_with form s s.push_outs s.is_retired (with_closed s.sessions sent.header.session) s.streams (Receive (Record sent)) sound sound.push_outs_issued sound.push_outs_known
+      (within_closed (λ session. session.next) (length s.log) sent.header.session s.sessions sound.sessions_within) sound.streams_within
 
   -- ---- a version that is told
 
@@ -188,24 +158,24 @@ module _ {K : Type 0} (form : Form K) (s : State K) (sent : Sent) (sound : IsSou
       (brings : (r : Rev) → comer ≡ Some r → (line_of r ≡ line) × IsRevision r.item r.version r.below) where
     line_no_later : AreNoLater s.id s.issued line.version line.below
     line_no_later =
-        let parts = neither (is_early s line.item) (is_early s line.version || has_early s line.below) early in
-        let later = neither (is_early s line.version) (has_early s line.below) parts.1 in
+        let parts = or_parts (is_early s line.item) (is_early s line.version || has_early s line.below) early in
+        let later = or_parts (is_early s line.version) (has_early s line.below) parts.1 in
         record {
           itself = λ own. issued_own line.version later.0 own;
           all_below = λ v in' own. below_upto line.below v later.1 in' own;
         }
       where
         issued_own : (v : Name) → is_early s v ≡ false → IsNoLater s.id s.issued v
-        issued_own v late own = not_above s.issued v.counter (own_late (v.author == s.id) (nat_lt s.issued v.counter) (eq-eqb v.author s.id own) late)
+        issued_own v late own = ltb-false s.issued v.counter (own_late (v.author == s.id) (nat_lt s.issued v.counter) (eq-eqb v.author s.id own) late)
 
         below_upto : (below : List AuthorColumn) (v : Name) → has_early s below ≡ false → vector_has below v ≡ true → IsNoLater s.id s.issued v
         below_upto below v late in' own =
             elim (cases_Bool (nat_lt s.issued v.counter)) [
               | inl above ↦
-                  let low : (column_of below s.id).upto ≤ s.issued = not_above s.issued (column_of below s.id).upto late in
+                  let low : (column_of below s.id).upto ≤ s.issued = ltb-false s.issued (column_of below s.id).upto late in
                   let high : (column_of below s.id).upto < v.counter = omega (arith, low, ltb-true s.issued v.counter above) in
                   absurd (cc (sym in' ∙ ap (λ a. column_has (column_of below a) v.counter) own ∙ column_has-above (column_of below s.id) v.counter high))
-              | inr here ↦ not_above s.issued v.counter here
+              | inr here ↦ ltb-false s.issued v.counter here
             ]
 
     -- what was known is known still, and the told version too
@@ -286,5 +256,5 @@ not_held_yet {K} form s item version sound unknown filed = go (held s version) r
         let found = found_has (λ r. form.known s.knowledge r.item r.version ≡ true) (λ r. name_eq r.version version) (s.heads ++ s.push_outs) r all is in
         let version_is : r.version ≡ version = same_names r.version version found.1 in
         let of_item : not (name_eq r.item item) ≡ false = sym (ap (λ (o : Option Rev). option_map_or (λ r. not (name_eq r.item item)) o false) is) ∙ filed in
-        let item_is : r.item ≡ item = same_names r.item item (not_false (name_eq r.item item) of_item) in
+        let item_is : r.item ≡ item = same_names r.item item (not-false (name_eq r.item item) of_item) in
         absurd (cc (sym found.0 ∙ ap (λ (i : Name). form.known s.knowledge i r.version) item_is ∙ ap (λ (v : Name). form.known s.knowledge item v) version_is ∙ unknown))

@@ -1,6 +1,7 @@
 -- what comes of a version that a record tells of
 use Rattle.std.proofs.Common.{◌≡◌, ◌≢◌, ◌↔◌, IsErrOf, Bool, true, false, if◌then◌else◌, refl, sym, ap, subst, ◌∙◌, [], ◌∷◌, Option, Some, None, IfSome, Result, Ok, Err, inl, inr}
 use Rattle.std.specs.List.{All}
+use Rattle.std.proofs.lemmas.Bool.{or_parts}
 use Rattle.std.proofs.lemmas.List.Elements.{All-nil, All-cons, All-head, All-tail}
 use Rattle.mr_version.specs.Name.{Name}
 use Rattle.mr_forms.specs.Known.{Pairs, Form, IsOverHolesInTurn, IsOverItemsInTurn, with_learned}
@@ -19,13 +20,13 @@ use Rattle.mr_replica.specs.Receive.{line_learned, wanted_by_line, entering}
 use Rattle.mr_replica.specs.Taking.{told_line, told_by}
 use Rattle.mr_replica.specs.declared.refusal.Refusal.TheVariants.{TooManyHoles, TooManyItems}
 use Rattle.mr_replica.proofs.Choice.{some_same}
-use Rattle.mr_replica.proofs.Taking.{neither, not_held_yet}
+use Rattle.mr_replica.proofs.Taking.{not_held_yet}
 
 -- ---- what is not forged
 
 module _ {K : Type 0} (s : State K) where
   pub told_not_early : (body : Body) (line : DescentParts) → told_line body ≡ Some line → is_forged s body ≡ false → is_early_line s line ≡ false
-  told_not_early (Item r) line told sure = ap (is_early_line s) (sym (some_same (line_of r) line told)) ∙ (neither (is_early_line s (line_of r)) (is_misfiled s r.item r.version) sure).0
+  told_not_early (Item r) line told sure = ap (is_early_line s) (sym (some_same (line_of r) line told)) ∙ (or_parts (is_early_line s (line_of r)) (is_misfiled s r.item r.version) sure).0
   told_not_early (MoveOut l) line told sure = ap (is_early_line s) (sym (some_same l line told)) ∙ sure
   told_not_early (Start mode) line told sure = cc
   told_not_early (Held vector) line told sure = cc
@@ -46,7 +47,7 @@ module _ {K : Type 0} (s : State K) where
   comer_told End r line comes told = cc
 
   pub comer_filed : (body : Body) (r : Rev) → entering s body ≡ Some r → is_forged s body ≡ false → is_misfiled s r.item r.version ≡ false
-  comer_filed (Item q) r comes sure = ap (λ (x : Rev). is_misfiled s x.item x.version) (sym (comes_if (is_selected s q) q r comes)) ∙ (neither (is_early_line s (line_of q)) (is_misfiled s q.item q.version) sure).1
+  comer_filed (Item q) r comes sure = ap (λ (x : Rev). is_misfiled s x.item x.version) (sym (comes_if (is_selected s q) q r comes)) ∙ (or_parts (is_early_line s (line_of q)) (is_misfiled s q.item q.version) sure).1
   comer_filed (MoveOut l) r comes sure = cc
   comer_filed (Start mode) r comes sure = cc
   comer_filed (Held vector) r comes sure = cc

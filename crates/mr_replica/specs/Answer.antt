@@ -1,9 +1,9 @@
 -- Answer: a stream is opened for one who asks.
 use Rattle.std.specs.Prelude.{◌≡◌, ◌+◌, ◌==◌, nat_le, ℕ, if◌then◌else◌, Option, List, [], length}
-use Rattle.mr_forms.specs.Known.{Form}
+use Rattle.mr_forms.specs.Known.{Form, AreSame}
 use Rattle.mr_filter.specs.Meaning.{covers}
 use Rattle.mr_session.specs.Table.{most_open, with_opened}
-use Rattle.mr_session.specs.Stream.{Asked, new_stream}
+use Rattle.mr_session.specs.Stream.{Asked, claimed, new_stream}
 use Rattle.mr_wire.specs.Values.{Piece}
 use Rattle.mr_wire.specs.Frames.{Question}
 use Rattle.mr_wire.specs.declared.frame.Mode.{Mode}
@@ -34,7 +34,7 @@ module _ {K : Type 0} where
 
   -- what a stream of this mode keeps of the knowledge, to tell it behind the heads: all of it, or nothing
   abbrev pub Keeps : Form K → Mode → K → List Piece → Type 0
-  Keeps form Full knowledge know = ArePiecesOf (form.is_part knowledge) know
+  Keeps form Full knowledge know = ArePiecesOf (form.is_part knowledge) know × AreSame (form.known knowledge) (claimed know)
   Keeps form Partial knowledge know = know ≡ []
 
   -- it would keep a part that has no piece

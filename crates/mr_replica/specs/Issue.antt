@@ -15,6 +15,7 @@ use Rattle.mr_madewith.specs.Revision.{Rev, has_below}
 use Rattle.mr_madewith.specs.Trail.{last_of, noted}
 use Rattle.mr_madewith.specs.MadeWith.{by_bases, filled_below, AreColumnsOf}
 use Rattle.mr_store.specs.Revisions.{entered, supersedes, left_by}
+pub use Rattle.mr_session.specs.Session.{if_so}
 use Rattle.mr_replica.specs.State.{State, next_version, held}
 use Rattle.mr_replica.specs.declared.event.Event.{Event}
 use Rattle.mr_replica.specs.declared.refusal.Refusal.{Refusal}
@@ -33,10 +34,6 @@ dropped r = Dropped r.item r.version
 -- a revision enters the heads
 abbrev pub added : Rev → Entry
 added r = Added r.item r.version (card_of r.message)
-
--- the revision alone, if so
-abbrev pub if_so : Bool → Rev → List Rev
-if_so b r = if b then r ∷ [] else []
 
 -- the revisions with one more at its place, if so
 abbrev pub entered_if : Bool → Rev → List Rev → List Rev

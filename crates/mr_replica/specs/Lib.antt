@@ -20,4 +20,6 @@ pub mod Receive
 pub mod Taking
 pub mod Contents
 pub mod Issued
+pub mod StepThen
+pub mod Methods
 pub mod Step

@@ -12,5 +12,7 @@ pub record IsPieceOf (part : Part) (piece : Piece) : Type 0 where
   pub versions : IsVectorOf part.versions piece.vector
 
 -- the pieces of all the parts, in their order: there is one such list at most
-abbrev pub ArePiecesOf : (is_part : Part → Type 0) → List Piece → Type 0
-ArePiecesOf is_part pieces = (parts : List Part) × ArePartsThat is_part parts × AllZip IsPieceOf parts pieces
+pub record ArePiecesOf (is_part : Part → Type 0) (pieces : List Piece) : Type 0 where
+  pub parts : List Part
+  pub are_parts : ArePartsThat is_part parts
+  pub by_part : AllZip IsPieceOf parts pieces

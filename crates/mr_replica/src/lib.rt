@@ -1,7 +1,9 @@
 //! One replica of a mail collection: what it holds, what it knows, and the atomic step.
 //!
 //! A replica holds the latest versions of mail items. It is asked to do one thing at a time, an
-//! [`Event`], and [`Replica::step`] either answers it or refuses it and changes nothing. A create issues
+//! [`Event`], and [`Replica::step`] either answers it or refuses it and changes nothing. Each event has a
+//! method of its own too, which gives just what that event can; and [`Replica::step_then`] lends the reply to
+//! its caller before anything changes, so that a frame can be made of it, or a place be found. A create issues
 //! the first version of a new item; an edit issues a version that supersedes held versions of one item,
 //! its bases, with all that these supersede, and the replica's own last version of the item likewise. An
 //! edit's version also supersedes each lower counter of the replica's own, so that its own column has no
@@ -31,9 +33,8 @@
 //! let id = Author::try_new(0)?;
 //! let filter = Filter::read(alloc, "label:inbox")?;
 //! let mut replica: Replica<PlainKnowledge> = Replica::try_new(alloc, id, filter, 1_000_000)?;
-//! let Reply::Issued(first) = replica.step(Event::Create(message))? else { .. };
-//! let bases = Bases::new(vec![in alloc; first]?);
-//! let Reply::Issued(second) = replica.step(Event::Edit(bases, reply))? else { .. };
+//! let first = replica.create(message)?;
+//! let second = replica.edit(Bases::new(vec![in alloc; first]?), reply)?;
 //! ```
 //!
 //! After these lines, where both messages have the label `inbox`, the second version is the one head,
@@ -52,4 +53,4 @@ pub use event::{Bases, Event, Reply};
 pub use mr_filter::Filter;
 pub use mr_madewith::Revision;
 pub use refusal::Refusal;
-pub use replica::{Replica, ReplicaFault};
+pub use replica::{Received, Replica, ReplicaFault};

@@ -18,6 +18,7 @@ mod receive;
 mod release;
 mod retire;
 mod step;
+mod step_then;
 mod take;
 mod vouch;
 
@@ -29,6 +30,7 @@ use mr_filter::Filter;
 use mr_forms::{FormFault, Fragment, Knowledge};
 use mr_session::{Sessions, Streams};
 use mr_version::{Author, ItemId, Version};
+pub use receive::Received;
 use std::alloc::{AllocError, Global};
 use std::marker::Model;
 use thiserror::Error;

@@ -9,4 +9,5 @@ pub mod DrawnLemmas
 pub mod WalkLemmas
 pub mod DrawLemmas
 pub mod ClaimLemmas
+pub mod OnwardLemmas
 mod Rows

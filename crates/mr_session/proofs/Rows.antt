@@ -1,15 +1,23 @@
 -- Worked rows of the definitions, computed.
-use Rattle.std.proofs.Common.{◌≡◌, true, false, List, [], ◌∷◌, Some, None, refl}
+use Rattle.std.proofs.Common.{◌≡◌, ℕ, true, false, List, [], ◌∷◌, map, Option, Some, None, refl}
 use Rattle.mr_version.specs.Name.{Name}
+use Rattle.mr_concise.specs.declared.vector.AuthorColumn.{AuthorColumn}
+use Rattle.mr_filter.specs.Filter.{ClauseParts}
+use Rattle.mr_madewith.specs.Revision.{Rev}
 use Rattle.mr_store.specs.Holdings.{Holdings}
 use Rattle.mr_wire.specs.Values.{Piece}
+use Rattle.mr_wire.specs.Frames.{Sent}
+use Rattle.mr_wire.specs.declared.frame.Body.{Body}
+use Rattle.mr_wire.specs.declared.frame.Body.TheVariants.{Start, Item, MoveOut, Held, Know, End}
 use Rattle.mr_wire.specs.declared.frame.Mode.{Mode}
 use Rattle.mr_wire.specs.declared.frame.Mode.TheVariants.{Full, Partial}
 use Rattle.mr_concise.proofs.UnionLemmas.{column_has-empty}
 use Rattle.mr_session.specs.Held.{AreCut}
 use Rattle.mr_session.specs.Claims.{listing_at, listings_from, general_from}
-use Rattle.mr_session.specs.Stream.{Asked, Stream, new_stream, needs_memory}
+use Rattle.mr_session.specs.Session.{Session, new_session, first_fault, after_record}
+use Rattle.mr_session.specs.Stream.{Asked, Stream, claimed, due, told, is_wanted, new_stream, needs_memory, Draws}
 use Rattle.mr_session.specs.Table.{Table, empty_table, with_opened, with_closed, with_changed, open_at}
+use Rattle.mr_session.specs.declared.fault.SessionFault.TheVariants.{NotStart, OtherStream, Repeated, Gap}
 use Rattle.mr_session.proofs.HeldLemmas.{has_none}
 use Rattle.mr_session.proofs.CutLemmas.{cut_unique}
 
@@ -76,3 +84,97 @@ changed_row = refl
 
 others_stay_row : open_at (with_changed 2 (λ _. one) opened_twice) 1 ≡ Some one
 others_stay_row = refl
+
+-- ---- what a session takes
+
+-- a record of a stream of replica 0
+abbrev sent : (stream index : ℕ) → Body → Sent
+sent stream index body = record { header = record { source = 0; stream = stream; target = 9; session = 1; index = index }; body = body }
+
+-- a session that is bound to the stream 1, and takes the record of this index next
+abbrev bound : Mode → (next : ℕ) → Session
+bound mode next = record { origin = Some (record { source = 0; stream = 1; mode = mode }); next = next; held = []; know = [] }
+
+begins_with_a_start : map (first_fault None 0) (sent 1 1 End ∷ sent 1 0 (Start Full) ∷ []) ≡ Some NotStart ∷ None ∷ []
+begins_with_a_start = refl
+
+goes_on_by_index : map (first_fault (bound Full 2).origin 2) (sent 1 1 End ∷ sent 1 2 End ∷ sent 1 3 End ∷ []) ≡ Some Repeated ∷ None ∷ Some Gap ∷ []
+goes_on_by_index = refl
+
+-- another stream comes first, at any index; a second Start is refused as any other record
+other_stream_first : map (first_fault (bound Full 2).origin 2) (sent 2 0 (Start Full) ∷ sent 2 2 End ∷ sent 2 3 End ∷ sent 1 0 (Start Full) ∷ []) ≡ Some OtherStream ∷ Some OtherStream ∷ Some OtherStream ∷ Some Repeated ∷ []
+other_stream_first = refl
+
+bound_by_its_start : after_record (sent 1 0 (Start Full)) new_session ≡ bound Full 1
+bound_by_its_start = refl
+
+-- a full stream's Held and Know are kept, once, and those of a partial one are not
+abbrev for_all : Piece
+for_all = record { items = None; vector = [] }
+
+kept_of_a_full_stream : after_record (sent 1 3 (Know for_all)) (after_record (sent 1 2 (Held [])) (bound Full 2)) ≡ record (bound Full 4) { held = [] ∷ []; know = for_all ∷ [] }
+kept_of_a_full_stream = refl
+
+not_kept_of_a_partial_one : after_record (sent 1 3 (Know for_all)) (after_record (sent 1 2 (Held [])) (bound Partial 2)) ≡ bound Partial 4
+not_kept_of_a_partial_one = refl
+
+-- ---- what a stream tells
+
+abbrev name : ℕ → ℕ → Name
+name author counter = record { author = author; counter = counter }
+
+abbrev column : ℕ → ℕ → AuthorColumn
+column author upto = record { author = author; column = record { upto = upto; holes = [] } }
+
+-- a version of an item
+abbrev rev : (item version : Name) → Rev
+rev item version = record { item = item; version = version; below = []; message = record { from = []; subject = []; body = []; labels = []; flags = 0; day = 0 } }
+
+-- the filters of no clause, and of one with no condition
+abbrev no_message : List ClauseParts
+no_message = []
+
+abbrev all_messages : List ClauseParts
+all_messages = record { all_labels = []; no_labels = []; flags_on = 0; flags_off = 0; since = 0 } ∷ []
+
+-- what selects so, and claims 0.1 for all items, and 0.4 for the item 0.2
+abbrev asking : List ClauseParts → Asked
+asking filter = record { target = 9; session = 1; filter = filter; claims = (record { items = None; vector = column 0 1 ∷ [] }) ∷ (record { items = Some (name 0 2 ∷ []); vector = column 0 4 ∷ [] }) ∷ [] }
+
+claimed_for_its_item_alone : map (λ item. claimed (asking no_message).claims item (name 0 4)) (name 0 1 ∷ name 0 2 ∷ []) ≡ false ∷ true ∷ []
+claimed_for_its_item_alone = refl
+
+-- what is selected and not known is told: 1.1, and not 0.1
+wanted_if_selected : map (is_wanted (asking all_messages)) (rev (name 0 1) (name 0 1) ∷ rev (name 1 1) (name 1 1) ∷ []) ≡ false ∷ true ∷ []
+wanted_if_selected = refl
+
+-- what is not selected moves out, where the item's first version is known: not the first version itself, not of the item 1.1
+wanted_if_it_moves_out : map (is_wanted (asking no_message)) (rev (name 0 1) (name 1 1) ∷ rev (name 0 3) (name 0 3) ∷ rev (name 1 1) (name 2 1) ∷ []) ≡ true ∷ false ∷ false ∷ []
+wanted_if_it_moves_out = refl
+
+-- a later version of a known item is not claimed by that
+later_is_not_claimed : is_wanted (asking all_messages) (rev (name 0 1) (name 1 1)) ≡ true
+later_is_not_claimed = refl
+
+moved_out : told (asking no_message) (rev (name 0 1) (name 1 1)) ≡ MoveOut (record { item = name 0 1; version = name 1 1; below = [] })
+moved_out = refl
+
+-- heads and push-outs are walked together, from behind the version that was looked at last
+abbrev walked : Option Name → Option Rev
+walked past = due (asking all_messages) past (rev (name 1 2) (name 1 2) ∷ rev (name 3 1) (name 3 1) ∷ []) (rev (name 1 1) (name 1 1) ∷ rev (name 2 1) (name 2 1) ∷ [])
+
+walked_by_version : map walked (None ∷ Some (name 1 1) ∷ Some (name 1 2) ∷ Some (name 2 1) ∷ Some (name 3 1) ∷ []) ≡ Some (rev (name 1 1) (name 1 1)) ∷ Some (rev (name 1 2) (name 1 2)) ∷ Some (rev (name 2 1) (name 2 1)) ∷ Some (rev (name 3 1) (name 3 1)) ∷ None ∷ []
+walked_by_version = refl
+
+-- of no heads one empty vector is drawn, then the fragments, then the end; a head that comes later is not told
+abbrev behind_held : List Piece → Stream
+behind_held know = record (new_stream asked Full know) { next = 2; held = Some [] }
+
+first_held_of_nothing : Draws (record (begun Full) { know = for_all ∷ [] }) nothing_held (Held []) (record (begun Full) { held = Some []; know = for_all ∷ [] })
+first_held_of_nothing = ([], [], no_heads_in_one, refl, refl)
+
+fragment_behind_held : Draws (behind_held (for_all ∷ [])) (record nothing_held { heads = rev one one ∷ [] }) (Know for_all) (behind_held [])
+fragment_behind_held = (refl, refl)
+
+end_behind_fragments : Draws (behind_held []) (record nothing_held { heads = rev one one ∷ [] }) End (behind_held [])
+end_behind_fragments = (refl, refl)

@@ -6,3 +6,4 @@ pub mod Held
 pub mod Stream
 pub mod Merge
 pub mod Claims
+pub mod Onward

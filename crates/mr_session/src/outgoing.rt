@@ -3,6 +3,10 @@ ghost use Rattle.std.specs.Prelude.{◌≡◌, ◌≤◌, ◌<◌, ◌+◌, ◌^
 ghost use Rattle.mr_session.specs.Session.{is_full_mode};
 ghost use Rattle.mr_session.specs.Stream.{new_stream, told, due, Draws, DrawsFirstHeld, DrawsAfterWalk, DrawsWalk, DrawsKnow, Gives, needs_memory};
 
+mod onward;
+
+pub use onward::{Onward, Prepared};
+
 use crate::asked::AskedOf;
 use crate::copies::{copied_know, copied_queue, copy_of};
 use crate::due::due;

@@ -111,22 +111,31 @@ impl Twin {
         }
     }
 
-    /// Makes a call that teaches on both forms, and gives whether they answer alike.
-    fn learn(&mut self, call: &Call) -> bool {
+    /// Makes a call that teaches on both forms. With so few items and versions neither may refuse.
+    fn learn(&mut self, call: &Call) -> Result<bool> {
         let (item, version, set) = (call.item, call.version, &call.set);
         match call.kind {
-            5 | 6 => self.items.learn_below(item, set) == self.plain.learn_below(item, set),
-            7 | 8 => {
-                let answer = self.items.learn_with(item, version, set);
-                answer == self.plain.learn_with(item, version, set)
+            5 | 6 => {
+                self.items.learn_below(item, set)?;
+                self.plain.learn_below(item, set)?;
             }
-            _ => self.items.learn(item, version) == self.plain.learn(item, version),
+            7 | 8 => {
+                self.items.learn_with(item, version, set)?;
+                self.plain.learn_with(item, version, set)?;
+            }
+            _ => {
+                self.items.learn(item, version)?;
+                self.plain.learn(item, version)?;
+            }
         }
+        Ok(true)
     }
 
-    /// Whether both forms answer alike to a fragment.
-    fn merge(&mut self, fragment: &Fragment<ConciseVector>) -> bool {
-        self.items.merge(fragment) == self.plain.merge(fragment)
+    /// Both forms take a fragment, which neither may refuse.
+    fn merge(&mut self, fragment: &Fragment<ConciseVector>) -> Result<bool> {
+        self.items.merge(fragment)?;
+        self.plain.merge(fragment)?;
+        Ok(true)
     }
 
     /// Each form takes what the other form of another knowledge has.
@@ -136,8 +145,9 @@ impl Twin {
         Ok(true)
     }
 
-    /// Whether a copy is equal, and what is made anew of the fragments.
-    fn is_made(&self, alloc: Global) -> Result<bool> {
+    /// Whether a copy is equal, and what is made anew of the fragments. The plain form goes on as a copy.
+    fn is_made(&mut self, alloc: Global) -> Result<bool> {
+        self.plain = self.plain.copy()?;
         let mut made = ItemKnowledge::new(alloc);
         merge_all(&self.items, &mut made)?;
         Ok(self.items == made && self.items == self.items.copy()?)
@@ -184,9 +194,9 @@ fn make(twin: &mut Twin, other: &mut Twin, alloc: Global, call: &Call) -> Result
             Ok(true)
         }
         2 => twin.take(other),
-        3 | 4 => Ok(twin.merge(&call.fragment(alloc)?)),
+        3 | 4 => twin.merge(&call.fragment(alloc)?),
         9 => twin.is_made(alloc),
-        _ => Ok(twin.learn(call)),
+        _ => twin.learn(call),
     }
 }
 

@@ -1,5 +1,7 @@
 //! Answer: a stream is opened for one who asks.
-ghost use Rattle.std.specs.Prelude.{◌≡◌, ◌≢◌, None, Some, Err, IsErrOf, IfOk, OnErr, MatchResult};
+ghost use Rattle.std.specs.Prelude.{◌≡◌, ◌≢◌, ◌+◌, None, Some, Ok, Err, IsErrOf, IfOk, OnOk, OnErr, MatchResult};
+ghost use Rattle.std.specs.Fn.{FnOnceReturnsAt};
+ghost use Rattle.mr_replica.specs.StepThen.{answer_of, answer_by};
 
 use super::Replica;
 use crate::asks::asked_of;
@@ -11,16 +13,48 @@ use std::alloc::AllocError;
 use std::collections::VecDeque;
 
 impl<K: Knowledge> Replica<K> {
+    ghost use Rattle.mr_forms.specs.Known.{AreSame};
+    ghost use Rattle.mr_session.specs.Stream.{claimed};
     ghost use Rattle.mr_replica.specs.Fragments.{HasHoleyPart};
     ghost use Rattle.mr_replica.specs.Pieces.{ArePiecesOf};
     ghost use Rattle.mr_replica.specs.Answer.{answer_refusal, mode_for, Keeps, KeepsHoley, Opens};
-    ghost use Rattle.mr_replica.specs.Step.{Steps, Answers};
+    ghost use Rattle.mr_replica.specs.Step.{Steps};
 
-    pub(crate) fn answer(&mut self, ask: Ask) -> Result<Reply, Refusal>
-        ensures { Steps K.form self.old (Event.Answer ask) result self.new }
+    /// Opens the next stream for one who asks, and gives its number. It is full where the replica's filter
+    /// covers that of the request, and then keeps what is known now; else it is partial. A retired replica
+    /// may do so too.
+    ///
+    /// `OwnAsk`, then `TooManyStreams` where eight are open, then `LogFull`; `TooManyHoles` where the stream is
+    /// full and a part of the knowledge has no vector; and `OutOfMemory` last, or in place of a part that has no
+    /// vector. A refused event changes nothing.
+    pub fn answer(&mut self, ask: Ask) -> Result<u64, Refusal>
+        ensures { Steps K.form self.old (Event.Answer ask) (answer_by (λ stream. Reply.Streaming stream) result) self.new }
     {
         self.check_answer(&ask)?;
-        self.admit_answer(ask)
+        let mode = self.mode_for(&ask);
+        let know = self.kept_for(mode)?;
+        let stream = self.streams.opened() + 1;
+        self.open_stream(ask, mode, know)?;
+        Ok(stream)
+    }
+
+    // The same, with what is made of the reply first.
+    pub(crate) fn answer_then<T: Drop, F: FnOnce(&Reply) -> Result<T, AllocError>>(
+        &mut self,
+        ask: Ask,
+        before: F,
+    ) -> Result<(Reply, T), Refusal>
+        requires { F.IsAlwaysCallable before }
+        ensures steps { Steps K.form self.old (Event.Answer ask) (answer_of result) self.new }
+        ensures made { IfOk result (λ p. FnOnceReturnsAt F.FnOnce before p.0 (Ok p.1)) }
+    {
+        self.check_answer(&ask)?;
+        let mode = self.mode_for(&ask);
+        let know = self.kept_for(mode)?;
+        let reply = Reply::Streaming(self.streams.opened() + 1);
+        let made = before(&reply)?;
+        self.open_stream(ask, mode, know)?;
+        Ok((reply, made))
     }
 
     // Nothing, where a stream may be opened for the request.
@@ -34,16 +68,6 @@ impl<K: Knowledge> Replica<K> {
             return Err(Refusal::TooManyStreams);
         }
         self.check_log()
-    }
-
-    fn admit_answer(&mut self, ask: Ask) -> Result<Reply, Refusal>
-        requires { answer_refusal self.old ask ≡ None }
-        ensures { Answers K.form self.old (Event.Answer ask) result self.new }
-    {
-        let mode = self.mode_for(&ask);
-        let know = self.kept_for(mode)?;
-        let stream = self.open_stream(ask, mode, know)?;
-        Ok(Reply::Streaming(stream))
     }
 
     // Full where the replica selects all that the one who asks does.
@@ -72,6 +96,7 @@ impl<K: Knowledge> Replica<K> {
     // What is known, as frames carry it.
     fn pieces(&self) -> Result<VecDeque<FrameFragment>, FormFault>
         ensures ok { IfOk result (λ pieces. ArePiecesOf (K.form.is_part self.now.knowledge) pieces.items) }
+        ensures known { IfOk result (λ pieces. AreSame (K.form.known self.now.knowledge) (claimed pieces.items)) }
         ensures holes { IsErrOf result FormFault.TooManyHoles → HasHoleyPart (K.form.is_part self.now.knowledge) }
         ensures items { result ≢ Err FormFault.TooManyItems }
     {
@@ -87,17 +112,17 @@ impl<K: Knowledge> Replica<K> {
         ask: Ask,
         mode: Mode,
         know: VecDeque<FrameFragment>,
-    ) -> Result<u64, AllocError>
+    ) -> Result<(), AllocError>
         requires admitted { answer_refusal self.old ask ≡ None }
         requires mode { mode ≡ mode_for self.old ask }
         requires know { Keeps K.form mode self.old.knowledge know.items }
-        ensures ok { IfOk result (λ stream. Opens K.form self.old ask stream self.new) }
+        ensures ok { OnOk result (Opens K.form self.old ask (self.old.streams.opened + 1) self.new) }
         ensures err { OnErr result (self.new ≡ self.old) }
     {
         let asked = asked_of(self.alloc, &ask)?;
         self.contents.reserve_event()?;
-        let stream = self.streams.open(asked, mode, know)?;
+        self.streams.open(asked, mode, know)?;
         self.contents.note_event(Event::Answer(ask));
-        Ok(stream)
+        Ok(())
     }
 }

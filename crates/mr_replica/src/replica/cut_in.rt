@@ -1,19 +1,44 @@
 //! CutIn: a session is closed. What was taken in it stays.
-ghost use Rattle.std.specs.Prelude.{◌≡◌, None, Some, MatchResult};
+ghost use Rattle.std.specs.Prelude.{◌≡◌, None, Some, Ok, MatchResult, IfOk, OnOk, OnErr};
+ghost use Rattle.std.specs.Fn.{FnOnceReturnsAt};
+ghost use Rattle.mr_replica.specs.StepThen.{answer_of, answer_by};
 
 use super::Replica;
 use crate::{Event, Refusal, Reply};
 use mr_forms::Knowledge;
+use std::alloc::AllocError;
 
 impl<K: Knowledge> Replica<K> {
-    ghost use Rattle.mr_replica.specs.CutIn.{cut_in_refusal};
-    ghost use Rattle.mr_replica.specs.Step.{Steps, Answers};
+    ghost use Rattle.mr_replica.specs.Issue.{logged};
+    ghost use Rattle.mr_replica.specs.CutIn.{cut_in_refusal, cutting_in};
+    ghost use Rattle.mr_replica.specs.Step.{Steps};
 
-    pub(crate) fn cut_in(&mut self, session: u64) -> Result<Reply, Refusal>
-        ensures { Steps K.form self.old (Event.CutIn session) result self.new }
+    /// Closes the open session of this number; what was taken in it stays.
+    ///
+    /// `Retired`, then `NoSession`, then `LogFull`, and `OutOfMemory` last; a refused event changes nothing.
+    pub fn cut_in(&mut self, session: u64) -> Result<(), Refusal>
+        ensures { Steps K.form self.old (Event.CutIn session) (answer_by (λ _. Reply.Done) result) self.new }
     {
         self.check_cut_in(session)?;
-        self.admit_cut_in(session)
+        self.close_session(session)?;
+        Ok(())
+    }
+
+    // The same, with what is made of the reply first.
+    pub(crate) fn cut_in_then<T: Drop, F: FnOnce(&Reply) -> Result<T, AllocError>>(
+        &mut self,
+        session: u64,
+        before: F,
+    ) -> Result<(Reply, T), Refusal>
+        requires { F.IsAlwaysCallable before }
+        ensures steps { Steps K.form self.old (Event.CutIn session) (answer_of result) self.new }
+        ensures made { IfOk result (λ p. FnOnceReturnsAt F.FnOnce before p.0 (Ok p.1)) }
+    {
+        self.check_cut_in(session)?;
+        let reply = Reply::Done;
+        let made = before(&reply)?;
+        self.close_session(session)?;
+        Ok((reply, made))
     }
 
     // Nothing, where the session may be closed.
@@ -27,13 +52,15 @@ impl<K: Knowledge> Replica<K> {
         self.check_log()
     }
 
-    fn admit_cut_in(&mut self, session: u64) -> Result<Reply, Refusal>
+    // Closes the session.
+    fn close_session(&mut self, session: u64) -> Result<(), AllocError>
         requires { cut_in_refusal self.old session ≡ None }
-        ensures { Answers K.form self.old (Event.CutIn session) result self.new }
+        ensures ok { OnOk result (self.new ≡ logged (cutting_in self.old session) (Event.CutIn session)) }
+        ensures err { OnErr result (self.new ≡ self.old) }
     {
         self.contents.reserve_event()?;
         self.sessions.close(session);
         self.contents.note_event(Event::CutIn(session));
-        Ok(Reply::Done)
+        Ok(())
     }
 }

@@ -1,9 +1,12 @@
 //! Edit: a version that supersedes held versions of one item.
 ghost use Rattle.std.specs.Prelude.{◌≡◌, ◌≢◌, ◌==◌, ◌&&◌, ◌↔◌, not, find, None, Some, Ok, Err, IfOk, IfErr, OnOk, OnErr, IsErrOf, MatchResult, true, length};
+ghost use Rattle.std.specs.Fn.{FnOnceReturnsAt};
+ghost use Rattle.mr_replica.specs.StepThen.{answer_of, answer_by};
 ghost use Rattle.mr_forms.specs.Sets.{is_listed};
 ghost use Rattle.mr_replica.specs.Edit.{lower_of};
 
 use super::Replica;
+use super::issue::issued_version;
 use crate::{Bases, Event, Refusal, Reply};
 use mr_concise::ConciseVector;
 use mr_forms::{FormFault, Knowledge};
@@ -11,6 +14,7 @@ use mr_madewith::below_of;
 use mr_mail::Message;
 use mr_store::HeldVersions;
 use mr_version::{Author, ItemId, Version};
+use std::alloc::AllocError;
 
 impl<K: Knowledge> Replica<K> {
     ghost use Rattle.mr_concise.specs.Vector.{HasTooManyHoles};
@@ -24,11 +28,35 @@ impl<K: Knowledge> Replica<K> {
     ghost use Rattle.mr_replica.specs.declared.refusal.Refusal.TheVariants.{NotHeld};
     ghost use Rattle.mr_replica.specs.Step.{Steps, Answers};
 
-    pub(crate) fn edit(&mut self, bases: Bases, message: Message) -> Result<Reply, Refusal>
-        ensures { Steps K.form self.old (Event.Edit bases message) result self.new }
+    /// Issues a version that supersedes the bases, which are held versions of one item, with all that they
+    /// supersede, and gives it. It also supersedes the replica's last own version of the item likewise, and
+    /// each lower counter of the replica's own. What it supersedes of its item leaves the heads and the
+    /// push-outs; it enters the heads if the replica's filter selects it, and else the push-outs.
+    ///
+    /// `Retired`; then `NoBase`, `NotHeld` with the first base that is not held, `MixedItems`, and `OwnHeadLeft`
+    /// with the lowest own version of the item that is held and no base; then `LogFull`. Then `TooManyHoles`
+    /// where there is no vector of what the version supersedes, and that or `TooManyItems` where the form of
+    /// knowledge has no value for what would be known; and `OutOfMemory` last. A refused event changes nothing.
+    pub fn edit(&mut self, bases: Bases, message: Message) -> Result<Version, Refusal>
+        ensures { Steps K.form self.old (Event.Edit bases message) (answer_by (λ version. Reply.Issued version) result) self.new }
+    {
+        let (reply, ()) = self.edit_then(bases, message, |_| Ok(()))?;
+        Ok(issued_version(&reply))
+    }
+
+    // The same, with what is made of the reply first.
+    pub(crate) fn edit_then<T: Drop, F: FnOnce(&Reply) -> Result<T, AllocError>>(
+        &mut self,
+        bases: Bases,
+        message: Message,
+        before: F,
+    ) -> Result<(Reply, T), Refusal>
+        requires { F.IsAlwaysCallable before }
+        ensures steps { Steps K.form self.old (Event.Edit bases message) (answer_of result) self.new }
+        ensures made { IfOk result (λ p. FnOnceReturnsAt F.FnOnce before p.0 (Ok p.1)) }
     {
         let item = self.checked_item(bases.as_slice())?;
-        self.issue_edited(item, bases, message)
+        self.issue_edited(item, bases, message, before)
     }
 
     // ---- refusals
@@ -91,21 +119,24 @@ impl<K: Knowledge> Replica<K> {
 
     // ---- what is issued
 
-    fn issue_edited(
+    fn issue_edited<T: Drop, F: FnOnce(&Reply) -> Result<T, AllocError>>(
         &mut self,
         item: ItemId,
         bases: Bases,
         message: Message,
-    ) -> Result<Reply, Refusal>
+        before: F,
+    ) -> Result<(Reply, T), Refusal>
         requires admitted { edit_refusal self.old bases ≡ None }
         requires item { item ≡ edited_item self.old bases }
-        ensures { Answers K.form self.old (Event.Edit bases message) result self.new }
+        requires callable { F.IsAlwaysCallable before }
+        ensures answers { Answers K.form self.old (Event.Edit bases message) (answer_of result) self.new }
+        ensures made { IfOk result (λ p. FnOnceReturnsAt F.FnOnce before p.0 (Ok p.1)) }
     {
         let version = self.next_version();
         let made = self.edited_below(bases.as_slice(), item, version);
         let below = self.admit(item, version, made)?;
         let event = Event::Edit(bases, message.copy()?);
-        self.issue(item, version, below, message, event)
+        self.issue(item, version, below, message, event, before)
     }
 
     // What the next version of the item supersedes as an edit of these bases.

@@ -1,9 +1,11 @@
 //! Taking the End of a stream.
-ghost use Rattle.std.specs.Prelude.{◌≡◌, None, true, map, filter, All, IfSome, OnOk, OnErr, IfOk, IfErr};
+ghost use Rattle.std.specs.Prelude.{◌≡◌, None, true, map, filter, All, IfSome, OnOk, OnErr, IfOk, IfErr, Ok};
+ghost use Rattle.std.specs.Fn.{FnOnceReturnsAt};
 ghost use Rattle.mr_store.specs.Unheld.{ListsInOrder};
 ghost use Rattle.mr_wire.specs.Values.{piece_of};
 ghost use Rattle.mr_wire.specs.Frames.{IsSent};
 ghost use Rattle.mr_session.specs.Stream.{is_end, claimed};
+ghost use Rattle.mr_replica.specs.StepThen.{answer_of};
 ghost use Rattle.mr_replica.specs.Receive.{merged_by, has_full, is_unheld};
 ghost use Rattle.mr_replica.specs.Issue.{dropped};
 
@@ -15,6 +17,7 @@ use mr_feed::Entry;
 use mr_forms::{FormFault, Fragment, Knowledge};
 use mr_session::Incoming;
 use mr_wire::{Frame, Record};
+use std::alloc::AllocError;
 
 // What the End of a full session changes: what is known with its fragments, and the entries of what leaves the
 // heads.
@@ -32,24 +35,32 @@ impl<K: Knowledge> Replica<K> {
     ghost use Rattle.mr_replica.specs.Taking.{RefusesEnd, RefusesEnding, RefusesMerged};
 
     // The session takes the End of its stream, and is closed.
-    pub(crate) fn take_end(&mut self, sent: Record) -> Result<Reply, Refusal>
+    pub(crate) fn take_end<T: Drop, F: FnOnce(&Reply) -> Result<T, AllocError>>(
+        &mut self,
+        sent: Record,
+        before: F,
+    ) -> Result<(Reply, T), Refusal>
         requires taken { record_refusal self.old sent ≡ None }
         requires kept { IsSent sent.header sent.body }
         requires ends { is_end sent.body ≡ true }
-        ensures fits { OnOk result (All (Fits K.form) (wanted_by_end K.form self.old (session_for self.old sent))) }
-        ensures reply { IfOk result (λ reply. reply ≡ Reply.Finished) }
-        ensures ok { OnOk result (EndsSession K.form self.old sent (session_for self.old sent) self.new) }
-        ensures err { OnErr result (self.new ≡ self.old) }
-        ensures refused { IfErr result (RefusesEnd K.form self.old (session_for self.old sent)) }
+        requires callable { F.IsAlwaysCallable before }
+        ensures fits { OnOk (answer_of result) (All (Fits K.form) (wanted_by_end K.form self.old (session_for self.old sent))) }
+        ensures reply { IfOk (answer_of result) (λ reply. reply ≡ Reply.Finished) }
+        ensures ok { OnOk (answer_of result) (EndsSession K.form self.old sent (session_for self.old sent) self.new) }
+        ensures err { OnErr (answer_of result) (self.new ≡ self.old) }
+        ensures refused { IfErr (answer_of result) (RefusesEnd K.form self.old (session_for self.old sent)) }
+        ensures made { IfOk result (λ p. FnOnceReturnsAt F.FnOnce before p.0 (Ok p.1)) }
     {
         let Some(session) = self.sessions.get(sent.header().session) else {
             unreachable!()
         };
         if session.is_full() {
-            return self.end_full(sent);
+            return self.end_full(sent, before);
         }
+        let reply = Reply::Finished;
+        let made = before(&reply)?;
         self.finish(sent)?;
-        Ok(Reply::Finished)
+        Ok((reply, made))
     }
 
     // The End of a session that is not full teaches nothing.
@@ -69,22 +80,30 @@ impl<K: Knowledge> Replica<K> {
 
     // The End of a full session teaches what its fragments cover, and what these cover and no Held vector
     // has leaves the heads.
-    fn end_full(&mut self, sent: Record) -> Result<Reply, Refusal>
+    fn end_full<T: Drop, F: FnOnce(&Reply) -> Result<T, AllocError>>(
+        &mut self,
+        sent: Record,
+        before: F,
+    ) -> Result<(Reply, T), Refusal>
         requires taken { record_refusal self.old sent ≡ None }
         requires kept { IsSent sent.header sent.body }
         requires full { has_full (session_for self.old sent) ≡ true }
-        ensures fits { OnOk result (All (Fits K.form) (wanted_by_end K.form self.old (session_for self.old sent))) }
-        ensures reply { IfOk result (λ reply. reply ≡ Reply.Finished) }
-        ensures ok { OnOk result (EndsSession K.form self.old sent (session_for self.old sent) self.new) }
-        ensures err { OnErr result (self.new ≡ self.old) }
-        ensures refused { IfErr result (RefusesEnd K.form self.old (session_for self.old sent)) }
+        requires callable { F.IsAlwaysCallable before }
+        ensures fits { OnOk (answer_of result) (All (Fits K.form) (wanted_by_end K.form self.old (session_for self.old sent))) }
+        ensures reply { IfOk (answer_of result) (λ reply. reply ≡ Reply.Finished) }
+        ensures ok { OnOk (answer_of result) (EndsSession K.form self.old sent (session_for self.old sent) self.new) }
+        ensures err { OnErr (answer_of result) (self.new ≡ self.old) }
+        ensures refused { IfErr (answer_of result) (RefusesEnd K.form self.old (session_for self.old sent)) }
+        ensures made { IfOk result (λ p. FnOnceReturnsAt F.FnOnce before p.0 (Ok p.1)) }
     {
         let Some(session) = self.sessions.get(sent.header().session) else {
             unreachable!()
         };
         let ended = self.ended(session)?;
+        let reply = Reply::Finished;
+        let made = before(&reply)?;
         self.finish_full(ended, sent)?;
-        Ok(Reply::Finished)
+        Ok((reply, made))
     }
 
     // What the End of a full session changes.

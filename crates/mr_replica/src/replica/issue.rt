@@ -1,5 +1,8 @@
 //! Issuing a version.
 ghost use Rattle.std.specs.Prelude.{◌≡◌, ◌≢◌, ◌<◌, ◌≤◌, None, IfOk, IfErr, OnOk, OnErr, Ok, Err, length};
+ghost use Rattle.std.specs.Fn.{FnOnceReturnsAt};
+ghost use Rattle.mr_replica.specs.StepThen.{answer_of, answer_by};
+ghost use Rattle.mr_replica.specs.Methods.{IsIssued};
 
 use super::Replica;
 use super::contents::Arrival;
@@ -48,29 +51,35 @@ impl<K: Knowledge> Replica<K> {
     }
 
     // Issues a version of the item by the event.
-    pub(crate) fn issue(
+    pub(crate) fn issue<T: Drop, F: FnOnce(&Reply) -> Result<T, AllocError>>(
         &mut self,
         item: ItemId,
         version: Version,
         below: ConciseVector,
         message: Message,
         event: Event,
-    ) -> Result<Reply, Refusal>
+        before: F,
+    ) -> Result<(Reply, T), Refusal>
         requires room { length self.old.log < self.old.event_limit }
         requires next { IsNext self.old (record { item = item; version = version; below = below; message = message }) }
         requires fits { Fits K.form (KnowledgeWanted (version_learned K.form self.old item)) }
-        ensures { IssuesRevision K.form self.old (record { item = item; version = version; below = below; message = message }) event result self.new }
+        requires callable { F.IsAlwaysCallable before }
+        ensures issues { IssuesRevision K.form self.old (record { item = item; version = version; below = below; message = message }) event (answer_of result) self.new }
+        ensures made { IfOk result (λ p. FnOnceReturnsAt F.FnOnce before p.0 (Ok p.1)) }
     {
+        let reply = Reply::Issued(version);
+        let made = before(&reply)?;
         let revision = Revision::new(self.alloc, item, version, below, message)?;
-        self.enter(revision, event)
+        self.enter(revision, event)?;
+        Ok((reply, made))
     }
 
     // Lets the next own revision enter by the event.
-    fn enter(&mut self, revision: Revision, event: Event) -> Result<Reply, Refusal>
+    fn enter(&mut self, revision: Revision, event: Event) -> Result<(), Refusal>
         requires room { length self.old.log < self.old.event_limit }
         requires next { IsNext self.old revision }
         requires fits { Fits K.form (KnowledgeWanted (version_learned K.form self.old revision.item)) }
-        ensures { IssuesRevision K.form self.old revision event result self.new }
+        ensures { IssuesRevision K.form self.old revision event (answer_by (λ _. Reply.Issued revision.version) result) self.new }
     {
         let item = revision.item();
         let version = revision.version();
@@ -80,6 +89,17 @@ impl<K: Knowledge> Replica<K> {
         self.knowledge.learn(item, version)?;
         self.contents.enter(arrival, event);
         self.issued += 1;
-        Ok(Reply::Issued(version))
+        Ok(())
+    }
+}
+
+// The version that was issued, as the reply says.
+pub(crate) fn issued_version(reply: &Reply) -> Version
+    requires { IsIssued reply.now }
+    ensures { reply.now ≡ Reply.Issued result }
+{
+    match reply {
+        Reply::Issued(version) => *version,
+        _ => unreachable!(),
     }
 }

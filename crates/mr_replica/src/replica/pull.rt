@@ -1,6 +1,8 @@
 //! Pull: a session is opened, and a request made for what the replica lacks.
-ghost use Rattle.std.specs.Prelude.{◌≡◌, ◌≢◌, None, Some, Err, All, IfOk, OnOk, IsErrOf, MatchResult, map};
+ghost use Rattle.std.specs.Prelude.{◌≡◌, ◌≢◌, None, Some, Ok, Err, All, IfOk, IfErr, OnOk, OnErr, IsErrOf, MatchResult, map};
+ghost use Rattle.std.specs.Fn.{FnOnceReturnsAt};
 ghost use Rattle.mr_wire.specs.Values.{AreItems, piece_of};
+ghost use Rattle.mr_replica.specs.StepThen.{answer_of, answer_by};
 ghost use Rattle.mr_replica.specs.Pull.{most_asked, IsLongestWithin};
 
 use super::Replica;
@@ -15,14 +17,39 @@ const MAX_ASKED_BYTES: usize = 8_000_000;
 
 impl<K: Knowledge> Replica<K> {
     ghost use Rattle.mr_replica.specs.Fragments.{HasHoleyPart};
-    ghost use Rattle.mr_replica.specs.Pull.{pull_refusal, AreAsked};
-    ghost use Rattle.mr_replica.specs.Step.{Steps, Answers};
+    ghost use Rattle.mr_replica.specs.Issue.{logged};
+    ghost use Rattle.mr_replica.specs.Pull.{pull_refusal, AreAsked, IsAskOf, pulling};
+    ghost use Rattle.mr_replica.specs.Step.{Steps, RefusesLate};
 
-    pub(crate) fn pull(&mut self) -> Result<Reply, Refusal>
-        ensures { Steps K.form self.old Event.Pull result self.new }
+    /// Opens the next session, and gives the request for it: what the replica selects, and the longest
+    /// beginning of its fragments that takes at most 8,000,000 bytes. It costs the fragments of what is known.
+    ///
+    /// `Retired`, then `TooManySessions` where eight are open, then `LogFull`; `TooManyHoles` where a part of the
+    /// knowledge has no vector; and `OutOfMemory` last, or in place of a part that has no vector. A refused
+    /// event changes nothing.
+    pub fn pull(&mut self) -> Result<Ask, Refusal>
+        ensures { Steps K.form self.old Event.Pull (answer_by (λ ask. Reply.Asked ask) result) self.new }
     {
         self.check_pull()?;
-        self.admit_pull()
+        let ask = self.next_ask()?;
+        self.open_session()?;
+        Ok(ask)
+    }
+
+    // The same, with what is made of the reply first.
+    pub(crate) fn pull_then<T: Drop, F: FnOnce(&Reply) -> Result<T, AllocError>>(
+        &mut self,
+        before: F,
+    ) -> Result<(Reply, T), Refusal>
+        requires { F.IsAlwaysCallable before }
+        ensures steps { Steps K.form self.old Event.Pull (answer_of result) self.new }
+        ensures made { IfOk result (λ p. FnOnceReturnsAt F.FnOnce before p.0 (Ok p.1)) }
+    {
+        self.check_pull()?;
+        let reply = Reply::Asked(self.next_ask()?);
+        let made = before(&reply)?;
+        self.open_session()?;
+        Ok((reply, made))
     }
 
     // Nothing, where a session may be opened.
@@ -36,21 +63,33 @@ impl<K: Knowledge> Replica<K> {
         self.check_log()
     }
 
-    fn admit_pull(&mut self) -> Result<Reply, Refusal>
-        requires { pull_refusal self.old ≡ None }
-        ensures { Answers K.form self.old Event.Pull result self.new }
+    // The request for the next session.
+    fn next_ask(&self) -> Result<Ask, Refusal>
+        requires { pull_refusal self.now ≡ None }
+        ensures ok { IfOk result (IsAskOf K.form self.now) }
+        ensures refused { IfErr result (RefusesLate K.form self.now Event.Pull) }
     {
         let asked = self.asked()?;
         let filter = self.filter.copy()?;
+        let session = self.sessions.opened() + 1;
+        Ok(Ask::new(self.id, session, filter, asked))
+    }
+
+    // Opens the next session.
+    fn open_session(&mut self) -> Result<(), AllocError>
+        requires { pull_refusal self.old ≡ None }
+        ensures ok { OnOk result (self.new ≡ logged (pulling self.old) Event.Pull) }
+        ensures err { OnErr result (self.new ≡ self.old) }
+    {
         self.contents.reserve_event()?;
-        let session = self.sessions.open()?;
+        self.sessions.open()?;
         self.contents.note_event(Event::Pull);
-        Ok(Reply::Asked(Ask::new(self.id, session, filter, asked)))
+        Ok(())
     }
 
     // What a request tells of what is known.
     fn asked(&self) -> Result<Vec<FrameFragment>, FormFault>
-        ensures ok { IfOk result (λ asked. AreAsked (K.form.is_part self.now.knowledge) asked.items) }
+        ensures ok { IfOk result (λ asked. AreAsked (K.form.is_part self.now.knowledge) (K.form.known self.now.knowledge) asked.items) }
         ensures few { OnOk result (¬ HasHoleyPart (K.form.is_part self.now.knowledge)) }
         ensures holes { IsErrOf result FormFault.TooManyHoles → HasHoleyPart (K.form.is_part self.now.knowledge) }
         ensures items { result ≢ Err FormFault.TooManyItems }

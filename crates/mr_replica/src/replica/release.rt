@@ -1,7 +1,9 @@
 //! Release: push-outs for which another replica vouches are let go.
-ghost use Rattle.std.specs.Prelude.{◌≡◌, ◌||◌, None, Some, MatchResult};
+ghost use Rattle.std.specs.Prelude.{◌≡◌, ◌||◌, None, Some, Ok, MatchResult, IfOk, OnOk, OnErr};
+ghost use Rattle.std.specs.Fn.{FnOnceReturnsAt};
 ghost use Rattle.std.specs.List.{list_any};
 ghost use Rattle.mr_store.specs.Revisions.{versions_of};
+ghost use Rattle.mr_replica.specs.StepThen.{answer_of, answer_by};
 ghost use Rattle.mr_replica.specs.Release.{vouched};
 
 use super::Replica;
@@ -9,16 +11,40 @@ use crate::{Event, Refusal, Reply};
 use mr_forms::{Knowledge, VersionSet};
 use mr_version::Version;
 use mr_wire::{Descent, Receipt};
+use std::alloc::AllocError;
 
 impl<K: Knowledge> Replica<K> {
-    ghost use Rattle.mr_replica.specs.Release.{release_refusal};
-    ghost use Rattle.mr_replica.specs.Step.{Steps, Answers};
+    ghost use Rattle.mr_replica.specs.Issue.{logged};
+    ghost use Rattle.mr_replica.specs.Release.{release_refusal, releasing};
+    ghost use Rattle.mr_replica.specs.Step.{Steps};
 
-    pub(crate) fn release(&mut self, receipt: Receipt) -> Result<Reply, Refusal>
-        ensures { Steps K.form self.old (Event.Release receipt) result self.new }
+    /// Lets go of the push-outs of the receipt's item that are its version, or superseded by it: another
+    /// replica vouches for them.
+    ///
+    /// `Retired`, then `NotPushedOut`, then `LogFull`, and `OutOfMemory` last; a refused event changes nothing.
+    pub fn release(&mut self, receipt: Receipt) -> Result<(), Refusal>
+        ensures { Steps K.form self.old (Event.Release receipt) (answer_by (λ _. Reply.Done) result) self.new }
     {
         self.check_release(&receipt)?;
-        self.admit_release(receipt)
+        self.let_go(receipt)?;
+        Ok(())
+    }
+
+    // The same, with what is made of the reply first.
+    pub(crate) fn release_then<T: Drop, F: FnOnce(&Reply) -> Result<T, AllocError>>(
+        &mut self,
+        receipt: Receipt,
+        before: F,
+    ) -> Result<(Reply, T), Refusal>
+        requires { F.IsAlwaysCallable before }
+        ensures steps { Steps K.form self.old (Event.Release receipt) (answer_of result) self.new }
+        ensures made { IfOk result (λ p. FnOnceReturnsAt F.FnOnce before p.0 (Ok p.1)) }
+    {
+        self.check_release(&receipt)?;
+        let reply = Reply::Done;
+        let made = before(&reply)?;
+        self.let_go(receipt)?;
+        Ok((reply, made))
     }
 
     // Nothing, where the receipt is for a push-out.
@@ -33,13 +59,14 @@ impl<K: Knowledge> Replica<K> {
         self.check_log()
     }
 
-    fn admit_release(&mut self, receipt: Receipt) -> Result<Reply, Refusal>
-        requires { release_refusal self.old receipt ≡ None }
-        ensures { Answers K.form self.old (Event.Release receipt) result self.new }
+    // The push-outs for which the receipt vouches leave.
+    fn let_go(&mut self, receipt: Receipt) -> Result<(), AllocError>
+        ensures ok { OnOk result (self.new ≡ logged (releasing self.old receipt) (Event.Release receipt)) }
+        ensures err { OnErr result (self.new ≡ self.old) }
     {
         self.contents.reserve_event()?;
         self.contents.release(receipt);
-        Ok(Reply::Done)
+        Ok(())
     }
 }
 

@@ -1,19 +1,43 @@
 //! Retire: the replica admits nothing more of its own.
-ghost use Rattle.std.specs.Prelude.{◌≡◌, None, Some, MatchResult};
+ghost use Rattle.std.specs.Prelude.{◌≡◌, None, Some, Ok, MatchResult, IfOk, OnOk, OnErr};
+ghost use Rattle.std.specs.Fn.{FnOnceReturnsAt};
+ghost use Rattle.mr_replica.specs.StepThen.{answer_of, answer_by};
 
 use super::Replica;
 use crate::{Event, Refusal, Reply};
 use mr_forms::Knowledge;
+use std::alloc::AllocError;
 
 impl<K: Knowledge> Replica<K> {
-    ghost use Rattle.mr_replica.specs.Retire.{retire_refusal};
-    ghost use Rattle.mr_replica.specs.Step.{Steps, Answers};
+    ghost use Rattle.mr_replica.specs.Issue.{logged};
+    ghost use Rattle.mr_replica.specs.Retire.{retire_refusal, retiring};
+    ghost use Rattle.mr_replica.specs.Step.{Steps};
 
-    pub(crate) fn retire(&mut self) -> Result<Reply, Refusal>
-        ensures { Steps K.form self.old Event.Retire result self.new }
+    /// Admits nothing more from now on but what tells others. It is admitted past a full log, once.
+    ///
+    /// `Retired`, then `PushOutsLeft`, and `OutOfMemory` last; a refused event changes nothing.
+    pub fn retire(&mut self) -> Result<(), Refusal>
+        ensures { Steps K.form self.old Event.Retire (answer_by (λ _. Reply.Done) result) self.new }
     {
         self.check_retire()?;
-        self.admit_retire()
+        self.note_retirement()?;
+        Ok(())
+    }
+
+    // The same, with what is made of the reply first.
+    pub(crate) fn retire_then<T: Drop, F: FnOnce(&Reply) -> Result<T, AllocError>>(
+        &mut self,
+        before: F,
+    ) -> Result<(Reply, T), Refusal>
+        requires { F.IsAlwaysCallable before }
+        ensures steps { Steps K.form self.old Event.Retire (answer_of result) self.new }
+        ensures made { IfOk result (λ p. FnOnceReturnsAt F.FnOnce before p.0 (Ok p.1)) }
+    {
+        self.check_retire()?;
+        let reply = Reply::Done;
+        let made = before(&reply)?;
+        self.note_retirement()?;
+        Ok((reply, made))
     }
 
     // Nothing, where it may retire: past a full log too, but not while push-outs are left.
@@ -27,13 +51,14 @@ impl<K: Knowledge> Replica<K> {
         Ok(())
     }
 
-    fn admit_retire(&mut self) -> Result<Reply, Refusal>
-        requires { retire_refusal self.old ≡ None }
-        ensures { Answers K.form self.old Event.Retire result self.new }
+    // From now on it has retired.
+    fn note_retirement(&mut self) -> Result<(), AllocError>
+        ensures ok { OnOk result (self.new ≡ logged (retiring self.old) Event.Retire) }
+        ensures err { OnErr result (self.new ≡ self.old) }
     {
         self.contents.reserve_event()?;
         self.is_retired = true;
         self.contents.note_event(Event::Retire);
-        Ok(Reply::Done)
+        Ok(())
     }
 }

@@ -60,18 +60,9 @@ impl<K: Knowledge> Replica<K> {
         // replica and event, memory aside.
         ensures decided { IsExact K.form → IsDecided K.form self.old event result self.new }
     {
-        match event {
-            Event::Create(message) => self.create(message),
-            Event::Edit(bases, message) => self.edit(bases, message),
-            Event::Retire => self.retire(),
-            Event::Pull => self.pull(),
-            Event::Receive(frame) => self.receive(frame),
-            Event::CutIn(session) => self.cut_in(session),
-            Event::Answer(ask) => self.answer(ask),
-            Event::Next(stream) => self.next(stream),
-            Event::CutOut(stream) => self.cut_out(stream),
-            Event::Vouch(version) => self.vouch(version),
-            Event::Release(receipt) => self.release(receipt),
+        match self.step_then(event, |_| Ok(())) {
+            Ok((reply, ())) => Ok(reply),
+            Err(refusal) => Err(refusal),
         }
     }
 }

@@ -1,7 +1,9 @@
 //! Taking what a record tells of a version.
-ghost use Rattle.std.specs.Prelude.{◌≡◌, ◌≢◌, None, Some, IfSome, IfOk, OnOk, OnErr, IfErr, All};
+ghost use Rattle.std.specs.Prelude.{◌≡◌, ◌≢◌, None, Some, IfSome, IfOk, OnOk, OnErr, IfErr, All, Ok};
+ghost use Rattle.std.specs.Fn.{FnOnceReturnsAt};
 ghost use Rattle.mr_madewith.specs.Revision.{IsRevision};
 ghost use Rattle.mr_wire.specs.Frames.{IsSent};
+ghost use Rattle.mr_replica.specs.StepThen.{answer_of};
 ghost use Rattle.mr_replica.specs.Taking.{below_told, told_by, told_line, news_told};
 
 use super::Replica;
@@ -46,27 +48,34 @@ impl<K: Knowledge> Replica<K> {
     }
 
     // The session takes the record, which tells of this version.
-    pub(crate) fn take_line(
+    pub(crate) fn take_line<T: Drop, F: FnOnce(&Reply) -> Result<T, AllocError>>(
         &mut self,
         item: ItemId,
         version: Version,
         sent: Record,
-    ) -> Result<Reply, Refusal>
+        before: F,
+    ) -> Result<(Reply, T), Refusal>
         requires taken { record_refusal self.old sent ≡ None }
         requires kept { IsSent sent.header sent.body }
         requires told { told_line sent.body ≡ Some (told_by item version sent.body) }
-        ensures fits { OnOk result (All (Fits K.form) (wanted_by_line K.form self.old (told_by item version sent.body))) }
-        ensures ok { IfOk result (λ reply. TakesLine K.form self.old sent (told_by item version sent.body) (entering self.old sent.body) reply self.new) }
-        ensures err { OnErr result (self.new ≡ self.old) }
-        ensures refused { IfErr result (RefusesLine K.form self.old (told_by item version sent.body)) }
+        requires callable { F.IsAlwaysCallable before }
+        ensures fits { OnOk (answer_of result) (All (Fits K.form) (wanted_by_line K.form self.old (told_by item version sent.body))) }
+        ensures ok { IfOk (answer_of result) (λ reply. TakesLine K.form self.old sent (told_by item version sent.body) (entering self.old sent.body) reply self.new) }
+        ensures err { OnErr (answer_of result) (self.new ≡ self.old) }
+        ensures refused { IfErr (answer_of result) (RefusesLine K.form self.old (told_by item version sent.body)) }
+        ensures made { IfOk result (λ p. FnOnceReturnsAt F.FnOnce before p.0 (Ok p.1)) }
     {
         if self.knowledge.knows(item, version) {
+            let reply = Reply::Known;
+            let made = before(&reply)?;
             self.move_on(sent)?;
-            return Ok(Reply::Known);
+            return Ok((reply, made));
         }
         let told = self.told(item, version, &sent)?;
+        let reply = Reply::Took;
+        let made = before(&reply)?;
         self.take_told(item, version, told, sent)?;
-        Ok(Reply::Took)
+        Ok((reply, made))
     }
 
     // What the record, which tells of this version, changes of the heads.

@@ -1,5 +1,7 @@
 //! Vouch: the replica gives its word that it holds a version as a head.
-ghost use Rattle.std.specs.Prelude.{◌≡◌, None, Some, MatchResult, IfOk};
+ghost use Rattle.std.specs.Prelude.{◌≡◌, None, Some, Ok, MatchResult, IfOk, OnOk, OnErr};
+ghost use Rattle.std.specs.Fn.{FnOnceReturnsAt};
+ghost use Rattle.mr_replica.specs.StepThen.{answer_of, answer_by};
 ghost use Rattle.mr_replica.specs.Vouch.{receipt_for};
 
 use super::Replica;
@@ -12,14 +14,39 @@ use mr_wire::{Descent, Receipt};
 use std::alloc::AllocError;
 
 impl<K: Knowledge> Replica<K> {
+    ghost use Rattle.mr_replica.specs.Issue.{logged};
     ghost use Rattle.mr_replica.specs.Vouch.{vouch_refusal, IsReceiptFor};
-    ghost use Rattle.mr_replica.specs.Step.{Steps, Answers};
+    ghost use Rattle.mr_replica.specs.Step.{Steps};
 
-    pub(crate) fn vouch(&mut self, version: Version) -> Result<Reply, Refusal>
-        ensures { Steps K.form self.old (Event.Vouch version) result self.new }
+    /// The receipt for a version, which is a head: the replica's word that it holds it. It changes nothing but
+    /// the log.
+    ///
+    /// `Retired`, then `NotHeld` with the version, then `LogFull`, and `OutOfMemory` last; a refused event
+    /// changes nothing.
+    pub fn vouch(&mut self, version: Version) -> Result<Receipt, Refusal>
+        ensures { Steps K.form self.old (Event.Vouch version) (answer_by (λ receipt. Reply.Vouched receipt) result) self.new }
     {
         self.check_vouch(version)?;
-        self.admit_vouch(version)
+        let receipt = self.receipt_of(version)?;
+        self.note_vouch(version)?;
+        Ok(receipt)
+    }
+
+    // The same, with what is made of the reply first.
+    pub(crate) fn vouch_then<T: Drop, F: FnOnce(&Reply) -> Result<T, AllocError>>(
+        &mut self,
+        version: Version,
+        before: F,
+    ) -> Result<(Reply, T), Refusal>
+        requires { F.IsAlwaysCallable before }
+        ensures steps { Steps K.form self.old (Event.Vouch version) (answer_of result) self.new }
+        ensures made { IfOk result (λ p. FnOnceReturnsAt F.FnOnce before p.0 (Ok p.1)) }
+    {
+        self.check_vouch(version)?;
+        let reply = Reply::Vouched(self.receipt_of(version)?);
+        let made = before(&reply)?;
+        self.note_vouch(version)?;
+        Ok((reply, made))
     }
 
     // Nothing, where the version may be vouched for.
@@ -33,14 +60,14 @@ impl<K: Knowledge> Replica<K> {
         self.check_log()
     }
 
-    fn admit_vouch(&mut self, version: Version) -> Result<Reply, Refusal>
-        requires { vouch_refusal self.old version ≡ None }
-        ensures { Answers K.form self.old (Event.Vouch version) result self.new }
+    // Notes that the version was vouched for.
+    fn note_vouch(&mut self, version: Version) -> Result<(), AllocError>
+        ensures ok { OnOk result (self.new ≡ logged self.old (Event.Vouch version)) }
+        ensures err { OnErr result (self.new ≡ self.old) }
     {
-        let receipt = self.receipt_of(version)?;
         self.contents.reserve_event()?;
         self.contents.note_event(Event::Vouch(version));
-        Ok(Reply::Vouched(receipt))
+        Ok(())
     }
 
     // The receipt for a version, which is a head.

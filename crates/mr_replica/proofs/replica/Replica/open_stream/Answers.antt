@@ -17,5 +17,5 @@ invariant_of-self-2 g c =
     let same = c.in_ok-reserve_event.ensures.same in
     let is = c.note_event.ensures in
     let stream : Stream = new_stream c.in_ok-asked.asked c.args.mode c.args.know.items in
-    rw (is.heads, is.push_outs, is.trail, is.feed, is.log, same.heads, same.push_outs, same.trail, same.feed, same.log, c.in_ok-stream.ensures.ok)
+    rw (is.heads, is.push_outs, is.trail, is.feed, is.log, same.heads, same.push_outs, same.trail, same.feed, same.log, c.in_ok-open.ensures.ok)
     (sound_streaming form s (with_opened s.streams stream) (Answer c.args.ask) sound (within_opened (λ stream. stream.next) s.log (Answer c.args.ask) s.streams stream refl sound.streams_within))

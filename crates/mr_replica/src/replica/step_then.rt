@@ -1,0 +1,60 @@
+//! What one event does, with something made of its reply first.
+ghost use Rattle.std.specs.Prelude.{◌≡◌, Ok, IfOk};
+ghost use Rattle.std.specs.Fn.{FnOnceReturnsAt};
+ghost use Rattle.mr_replica.specs.StepThen.{answer_of};
+
+use super::Replica;
+use crate::{Event, Refusal, Reply};
+use mr_forms::Knowledge;
+use std::alloc::AllocError;
+
+impl<K: Knowledge> Replica<K> {
+    ghost use Rattle.mr_replica.specs.Step.{Steps, IsExact, IsDecided};
+
+    /// One event, as [`Replica::step`] does it, with something made of its reply first.
+    ///
+    /// `before` is lent the reply once every other refusal has been decided, and before anything has changed:
+    /// a host can put the reply into a frame, or reserve a place for it. What `before` gives comes back with
+    /// the reply. Where it finds no memory the event is refused by `OutOfMemory`, with all as it was. It may
+    /// also be called, and what it gave dropped, where the replica then finds no memory itself.
+    pub fn step_then<T: Drop, F: FnOnce(&Reply) -> Result<T, AllocError>>(
+        &mut self,
+        event: Event,
+        before: F,
+    ) -> Result<(Reply, T), Refusal>
+        requires { F.IsAlwaysCallable before }
+        ensures steps { Steps K.form self.old event (answer_of result) self.new }
+        // Over a form whose values are their meanings, answer and new replica are one function of
+        // replica and event, memory aside.
+        ensures decided { IsExact K.form → IsDecided K.form self.old event (answer_of result) self.new }
+        // What came back is what the closure gave for the reply.
+        ensures made { IfOk result (λ p. FnOnceReturnsAt F.FnOnce before p.0 (Ok p.1)) }
+    {
+        self.answer_event(event, before)
+    }
+
+    // The event's own function answers it.
+    fn answer_event<T: Drop, F: FnOnce(&Reply) -> Result<T, AllocError>>(
+        &mut self,
+        event: Event,
+        before: F,
+    ) -> Result<(Reply, T), Refusal>
+        requires { F.IsAlwaysCallable before }
+        ensures steps { Steps K.form self.old event (answer_of result) self.new }
+        ensures made { IfOk result (λ p. FnOnceReturnsAt F.FnOnce before p.0 (Ok p.1)) }
+    {
+        match event {
+            Event::Create(message) => self.create_then(message, before),
+            Event::Edit(bases, message) => self.edit_then(bases, message, before),
+            Event::Retire => self.retire_then(before),
+            Event::Pull => self.pull_then(before),
+            Event::Receive(frame) => self.receive_then(frame, before),
+            Event::CutIn(session) => self.cut_in_then(session, before),
+            Event::Answer(ask) => self.answer_then(ask, before),
+            Event::Next(stream) => self.next_then(stream, before),
+            Event::CutOut(stream) => self.cut_out_then(stream, before),
+            Event::Vouch(version) => self.vouch_then(version, before),
+            Event::Release(receipt) => self.release_then(receipt, before),
+        }
+    }
+}

@@ -1,0 +1,43 @@
+-- how a table goes on once a stream gave what it had prepared
+use Rattle.std.proofs.Common.{◌≡◌, ◌≤◌, ℕ, zero, suc, Bool, true, false, if◌then◌else◌, List, [], ◌∷◌, Option, Some, None, Result, Ok, Err, IfOk, refl, sym, ap, ◌∙◌, inl, inr, arith}
+use Rattle.std.proofs.lemmas.Bool.Decides.{eqb_tells}
+use Rattle.mr_store.specs.Holdings.{Holdings}
+use Rattle.mr_session.specs.Table.{Numbered, Table, IsTable, RisesFrom, at, open_at, with_closed, with_changed}
+use Rattle.mr_session.specs.Stream.{Stream, Gives, GivesIn, is_end}
+use Rattle.mr_session.specs.Onward.{after_given, is_last, gone_on, advanced}
+use Rattle.mr_session.specs.declared.outgoing.onward.Onward.{Onward}
+use Rattle.mr_session.specs.declared.outgoing.onward.Onward.TheVariants as onward
+use Rattle.mr_session.specs.declared.outgoing.onward.Prepared.{Prepared}
+
+module _ {T : Type 0} where
+  -- nothing is under 0
+  at_zero : (low : ℕ) (xs : List (Numbered T)) → RisesFrom low xs → at xs 0 ≡ None
+  at_zero low [] rises = refl
+  at_zero low (x ∷ xs) rises =
+      elim (eqb_tells x.number 0) [
+        | inl is ↦ absurd (omega (arith, is.1, rises.0))
+        | inr differs ↦ rw differs.0 (at_zero x.number xs rises.1)
+      ]
+
+  -- an open number is at least 1
+  pub number_from : (n : ℕ) (table : Table T) (v : T) → IsTable table → open_at table n ≡ Some v → 1 ≤ n
+  number_from zero table v kept found = let none = at_zero 0 table.open_ones kept.rising in cc
+  number_from (suc n) table v kept found = omega arith
+
+-- a record that was prepared is drawn, and leaves the table that has gone on
+pub prepared_in : {E : Type 0} (source number : ℕ) (table : Table Stream) (h : Holdings) (prepared : Result Prepared E) (s : Stream) → open_at table number ≡ Some s → IfOk prepared (λ p. Gives source number s h p.record (after_given p.onward s))
+    → IfOk prepared (λ p. is_end p.record.body ≡ is_last p.onward) → IfOk prepared (λ p. GivesIn source number table h p.record (advanced number p.onward table))
+prepared_in source number table h (Ok p) s found gives last =
+    let is : advanced number p.onward table ≡ (if is_end p.record.body then with_closed table number else with_changed number (λ _. after_given p.onward s) table) =
+    ap (λ (o : Option Stream). gone_on o number p.onward table) found ∙ ap (λ (b : Bool). if b then with_closed table number else with_changed number (λ _. after_given p.onward s) table) (sym last) in
+    (s, after_given p.onward s, found, gives, is)
+prepared_in source number table h (Err e) s found gives last = tt
+
+-- a stream that is not closed has gone on in its table
+pub gone_open : (number : ℕ) (way : Onward) (table new : Table Stream) (before after : Stream) → (way ≡ onward.Closed → ⊥) → open_at table number ≡ Some before → after ≡ after_given way before → new ≡ with_changed number (λ _. after) table → new ≡ advanced number way table
+gone_open number way table new before after open_still found went is =
+    is ∙ ap (λ (s : Stream). with_changed number (λ _. s) table) went ∙ sym (ap (λ (o : Option Stream). gone_on o number way table) found ∙ by_way way open_still)
+  where
+    by_way : (w : Onward) → (w ≡ onward.Closed → ⊥) → (if is_last w then with_closed table number else with_changed number (λ _. after_given way before) table) ≡ with_changed number (λ _. after_given way before) table
+    by_way onward.Closed still = absurd (still refl)
+    by_way w still = refl

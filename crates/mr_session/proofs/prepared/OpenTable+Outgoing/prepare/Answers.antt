@@ -1,0 +1,16 @@
+use Rattle.std.proofs.Common.{◌≡◌, Some, sym, ap, ◌∙◌}
+use Rattle.std.specs.Option.{option_copied}
+use Rattle.mr_session.specs.Table.{open_at}
+use Rattle.mr_session.proofs.OnwardLemmas.{number_from, prepared_in}
+use Rattle.mr_session.proofs.prepared.OpenTable+Outgoing.prepare.Goals as goal
+
+-- it is a number that was given
+pub prepare-requires-clause-number : goal.prepare-requires-clause-number
+prepare-requires-clause-number c =
+    let found : open_at c.args.self.now c.args.number ≡ Some c.in-Some.stream.now = sym c.get.ensures ∙ ap option_copied c.in-Some.is in
+    number_from c.args.number c.args.self.now c.in-Some.stream.now c.opened-given.ensures.kept found
+
+pub returns : goal.returns
+returns c =
+    let found : open_at c.args.self.now c.args.number ≡ Some c.in-Some.stream.now = sym c.get.ensures ∙ ap option_copied c.in-Some.is in
+    prepared_in c.args.source c.args.number c.args.self.now c.args.store.now c.prepare.result c.in-Some.stream.now found c.prepare.ensures.gives c.prepare.ensures.last

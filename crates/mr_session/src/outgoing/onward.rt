@@ -1,0 +1,188 @@
+//! Records that are prepared before the stream goes on.
+ghost use Rattle.std.specs.Prelude.{◌≡◌, ◌≤◌, ◌<◌, ◌+◌, ◌^◌, IfOk};
+ghost use Rattle.std.specs.Option.{option_map};
+ghost use Rattle.mr_session.specs.Stream.{is_end, due, DrawsKnow, DrawsFirstHeld, DrawsAfterWalk, DrawsWalk, Draws, Gives};
+ghost use Rattle.mr_session.specs.Onward.{moved, after_given, is_last, behind_first};
+
+use super::{Outgoing, tell};
+use crate::copies::copy_of;
+use crate::due::due;
+use crate::held::held_vectors;
+use mr_concise::ConciseVector;
+use mr_store::Store;
+use mr_version::{Author, Version};
+use mr_wire::{Body, FrameFragment, Header, Mode, Record};
+use std::alloc::AllocError;
+use std::collections::VecDeque;
+
+/// How a stream goes on once the record that it prepared was given.
+#[derive(Drop)]
+pub enum Onward {
+    /// As it is: the record was its Start.
+    Same,
+    /// Its walk has looked at this version last.
+    Past(Version),
+    /// The first of its vectors was given, and these are still to give.
+    Held(VecDeque<ConciseVector>),
+    /// The next of its vectors was given.
+    BehindHeld,
+    /// The next of its fragments was given.
+    BehindKnow,
+    /// No further: the record was its End.
+    Closed,
+}
+
+/// A stream's next record, and how the stream goes on once it was given.
+#[derive(Drop)]
+pub struct Prepared {
+    pub record: Record,
+    pub onward: Onward,
+}
+
+// What the next record says, and how the stream goes on behind it.
+#[derive(Drop)]
+struct Saying {
+    body: Body,
+    onward: Onward,
+}
+
+impl Outgoing {
+    // The first of the vectors of the heads, as they are now.
+    fn first_held(&self, store: &Store) -> Result<Saying, AllocError>
+        ensures said { IfOk result (λ saying. DrawsFirstHeld self.now store.now saying.body (moved saying.onward self.now)) }
+        ensures last { IfOk result (λ saying. is_end saying.body ≡ is_last saying.onward) }
+    {
+        let mut vectors = held_vectors(self.alloc, store.heads())?;
+        match vectors.pop_front() {
+            Some(vector) => Ok(Saying {
+                body: Body::Held(vector),
+                onward: Onward::Held(vectors),
+            }),
+            None => unreachable!(),
+        }
+    }
+
+    // A full stream goes on to its Held records once nothing more is due, and a partial one ends.
+    fn behind_walk(&self, store: &Store) -> Result<Saying, AllocError>
+        ensures said { IfOk result (λ saying. DrawsAfterWalk self.now.mode self.now store.now saying.body (moved saying.onward self.now)) }
+        ensures last { IfOk result (λ saying. is_end saying.body ≡ is_last saying.onward) }
+    {
+        match self.mode {
+            Mode::Full => self.first_held(store),
+            Mode::Partial => Ok(Saying {
+                body: Body::End,
+                onward: Onward::Closed,
+            }),
+        }
+    }
+
+    // The revision that is due, or what comes after the walk.
+    fn next_due(&self, store: &Store) -> Result<Saying, AllocError>
+        ensures said { IfOk result (λ saying. DrawsWalk (due self.now.asked self.now.past store.now.heads store.now.push_outs) self.now store.now saying.body (moved saying.onward self.now)) }
+        ensures last { IfOk result (λ saying. is_end saying.body ≡ is_last saying.onward) }
+    {
+        match due(&self.asked, &self.past, store) {
+            Some(revision) => Ok(Saying {
+                body: tell(&self.asked, revision)?,
+                onward: Onward::Past(revision.version()),
+            }),
+            None => self.behind_walk(store),
+        }
+    }
+
+    // The next fragment, or the end.
+    fn next_known(&self) -> Result<Saying, AllocError>
+        ensures said { IfOk result (λ saying. DrawsKnow self.now.know self.now saying.body (moved saying.onward self.now)) }
+        ensures last { IfOk result (λ saying. is_end saying.body ≡ is_last saying.onward) }
+    {
+        match self.know.front() {
+            Some(fragment) => Ok(Saying {
+                body: Body::Know(FrameFragment::new(fragment.as_fragment().copy()?)),
+                onward: Onward::BehindKnow,
+            }),
+            None => Ok(Saying {
+                body: Body::End,
+                onward: Onward::Closed,
+            }),
+        }
+    }
+
+    // What the next record says.
+    fn next_body(&self, store: &Store) -> Result<Saying, AllocError>
+        ensures said { IfOk result (λ saying. Draws self.now store.now saying.body (moved saying.onward self.now)) }
+        ensures last { IfOk result (λ saying. is_end saying.body ≡ is_last saying.onward) }
+    {
+        if self.next == 0 {
+            return Ok(Saying {
+                body: Body::Start(self.mode),
+                onward: Onward::Same,
+            });
+        }
+        let Some(vectors) = &self.held else {
+            return self.next_due(store);
+        };
+        match vectors.front() {
+            Some(vector) => Ok(Saying {
+                body: Body::Held(copy_of(vector)?),
+                onward: Onward::BehindHeld,
+            }),
+            None => self.next_known(),
+        }
+    }
+
+    /// The next record of the stream of this number, of what its source holds now, and how the stream goes on
+    /// behind it. The stream stays as it is.
+    ///
+    /// It is the record that a draw would give. It costs what that costs, and a copy of the vector or the
+    /// fragment of a Held or Know.
+    pub(crate) fn prepare(
+        &self,
+        source: Author,
+        number: u64,
+        store: &Store,
+    ) -> Result<Prepared, AllocError>
+        requires number { 1 ≤ number }
+        requires goes_on { self.now.next + 1 < 2 ^ 32 }
+        ensures gives { IfOk result (λ prepared. Gives source number self.now store.now prepared.record (after_given prepared.onward self.now)) }
+        ensures last { IfOk result (λ prepared. is_end prepared.record.body ≡ is_last prepared.onward) }
+    {
+        let header = Header {
+            source,
+            stream: number,
+            target: self.asked.target(),
+            session: self.asked.session(),
+            index: self.next,
+        };
+        let Saying { body, onward } = self.next_body(store)?;
+        Ok(Prepared {
+            record: Record::new(header, body),
+            onward,
+        })
+    }
+
+    /// The stream goes on behind the record that it prepared. It can't fail.
+    pub(crate) fn advance(&mut self, onward: Onward)
+        requires { self.old.next + 1 < 2 ^ 32 }
+        ensures { self.new ≡ after_given onward self.old }
+    {
+        self.next += 1;
+        match onward {
+            Onward::Same | Onward::Closed => {}
+            Onward::Past(version) => self.past = Some(version),
+            Onward::Held(vectors) => self.held = Some(vectors),
+            Onward::BehindHeld => self.pass_held(),
+            Onward::BehindKnow => {
+                self.know.pop_front();
+            }
+        }
+    }
+
+    // The next of the vectors was given.
+    fn pass_held(&mut self)
+        ensures { self.new ≡ record self.old { held = option_map behind_first self.old.held } }
+    {
+        if let Some(vectors) = &mut self.held {
+            vectors.pop_front();
+        }
+    }
+}

@@ -1,0 +1,302 @@
+//! `mr_lane`: lanes find memory, and run as their worked examples tell.
+//!
+//! No clause can say that an inbox was full, or a lane empty, where it answers so: those answers
+//! are compared here.
+ghost use Rattle.std.specs.Prelude.{◌≡◌};
+ghost use Rattle.mr_lane.specs.Inbox.{ArePostsOf};
+
+use mr_feed::{PortIn, PortOut, Taken};
+use mr_lane::{
+    Arrival, Desk, Drawn, FinishFault, LaneFault, Posts, SendFault, Sender, SettleFault, Spout,
+    Tap, inbox, tap, tap_settle,
+};
+use mr_samples::{added, dropped, expect, shown};
+use mr_subs::{Drained, Notifier};
+use std::alloc::Global;
+use std::sync::Wait;
+use std::test::Fail;
+
+/// One call of an inbox.
+#[derive(Clone, Copy)]
+enum Call {
+    Send(Sender, char),
+    Finish(Sender),
+    Take,
+}
+
+/// What a send or an offer answers.
+fn sent(alloc: Global, answer: Result<(), SendFault<char>>) -> Result<String, Fail> {
+    match answer {
+        Ok(()) => Ok(String::from_str(alloc, "sent, ")?),
+        Err(SendFault::Full(letter)) => Ok(format!(in alloc; "full {letter}, ")?),
+        Err(SendFault::Ended(letter)) => Ok(format!(in alloc; "ended {letter}, ")?),
+    }
+}
+
+/// What a finish or a close answers.
+fn finished(alloc: Global, answer: Result<(), FinishFault>) -> Result<String, Fail> {
+    match answer {
+        Ok(()) => Ok(String::from_str(alloc, "finished, ")?),
+        Err(FinishFault::Full) => Ok(String::from_str(alloc, "full, ")?),
+    }
+}
+
+/// What a take of a desk answers.
+fn arrived(alloc: Global, arrival: Arrival<char>) -> Result<String, Fail> {
+    match arrival {
+        Arrival::Letter(sender, letter) => {
+            let number = sender.number();
+            Ok(format!(in alloc; "{letter} of {number}, ")?)
+        }
+        Arrival::End(sender) => {
+            let number = sender.number();
+            Ok(format!(in alloc; "end of {number}, ")?)
+        }
+        Arrival::Empty => Ok(String::from_str(alloc, "empty, ")?),
+    }
+}
+
+/// What one call of an inbox answers.
+fn answer<R: Wait>(
+    rt: &R,
+    alloc: Global,
+    posts: &mut Posts<char>,
+    desk: &mut Desk<char>,
+    call: Call,
+) -> Result<String, Fail>
+    requires { ArePostsOf desk.old posts.old }
+    ensures { ArePostsOf desk.new posts.new }
+{
+    match call {
+        Call::Send(Sender::User, letter) => sent(alloc, posts.user.send(rt, letter)),
+        Call::Send(Sender::FirstLink, letter) => sent(alloc, posts.first_link.send(rt, letter)),
+        Call::Send(Sender::SecondLink, letter) => sent(alloc, posts.second_link.send(rt, letter)),
+        Call::Finish(Sender::User) => finished(alloc, posts.user.finish(rt)),
+        Call::Finish(Sender::FirstLink) => finished(alloc, posts.first_link.finish(rt)),
+        Call::Finish(Sender::SecondLink) => finished(alloc, posts.second_link.finish(rt)),
+        Call::Take => arrived(alloc, desk.take(rt)),
+    }
+}
+
+/// What the calls answer, one behind the other.
+fn answers<R: Wait>(
+    rt: &R,
+    alloc: Global,
+    posts: &mut Posts<char>,
+    desk: &mut Desk<char>,
+    calls: &[Call],
+) -> Result<String, Fail>
+    requires { ArePostsOf desk.old posts.old }
+    ensures { ArePostsOf desk.new posts.new }
+{
+    let mut text = String::new(alloc);
+    for call in calls {
+        text.push_str(answer(rt, alloc, posts, desk, *call)?.as_str())?;
+    }
+    Ok(text)
+}
+
+/// What three takes of a tap answer.
+fn three_drawn<R: Wait>(alloc: Global, tap: &mut Tap<char, R>) -> Result<String, Fail>
+    ensures { tap.new.id ≡ tap.old.id }
+{
+    let mut text = String::new(alloc);
+    for _ in 0..3 {
+        match tap.take() {
+            Drawn::Item(item) => text.push(item)?,
+            Drawn::Empty => text.push_str("empty")?,
+            Drawn::Closed => text.push_str("closed")?,
+        }
+        text.push_str(", ")?;
+    }
+    Ok(text)
+}
+
+/// What two offers and a close of a spout answer.
+fn two_offers_and_a_close<R: Wait>(
+    alloc: Global,
+    spout: &mut Spout<char, R>,
+    first: char,
+    second: char,
+) -> Result<String, Fail>
+    ensures { spout.new.id ≡ spout.old.id }
+{
+    let mut text = sent(alloc, spout.offer(first))?;
+    text.push_str(sent(alloc, spout.offer(second))?.as_str())?;
+    text.push_str(finished(alloc, spout.close())?.as_str())?;
+    Ok(text)
+}
+
+#[test]
+fn ample_memory_inbox(rt: HostRuntime) -> Result<(), Fail> {
+    let (posts, desk) = inbox::<char>(rt.alloc(), 4096)?;
+    assert!(&rt; matches!(desk.settle(posts), Err(SettleFault::NotFinished(_, _))));
+    Ok(())
+}
+
+#[test]
+fn ample_memory_tap(rt: HostRuntime) -> Result<(), Fail> {
+    let (spout, tap) = tap::<char, _>(rt, rt.alloc(), 4096)?;
+    assert!(&rt; !tap_settle(spout, tap));
+    Ok(())
+}
+
+#[test]
+fn no_capacity(rt: HostRuntime) {
+    assert!(&rt; matches!(inbox::<char>(rt.alloc(), 0), Err(LaneFault::NoCapacity)));
+    assert!(&rt;
+        matches!(
+            tap::<char, _>(rt, rt.alloc(), 4097),
+            Err(LaneFault::NoCapacity)
+        )
+    );
+}
+
+/// Two places, and calls that fill them and end two of the three senders.
+const CALLS_TO_A_FULL_INBOX: [Call; 10] = [
+    Call::Send(Sender::User, 'a'),
+    Call::Send(Sender::FirstLink, 'b'),
+    Call::Send(Sender::User, 'c'),
+    Call::Take,
+    Call::Take,
+    Call::Take,
+    Call::Finish(Sender::User),
+    Call::Finish(Sender::FirstLink),
+    Call::Finish(Sender::SecondLink),
+    Call::Send(Sender::User, 'd'),
+];
+
+/// Calls that end the third sender, after which nothing comes any more.
+const CALLS_TO_ITS_END: [Call; 6] = [
+    Call::Take,
+    Call::Take,
+    Call::Finish(Sender::SecondLink),
+    Call::Finish(Sender::SecondLink),
+    Call::Take,
+    Call::Take,
+];
+
+#[test]
+fn small_inbox(rt: HostRuntime) -> Result<(), Fail> {
+    let (mut posts, mut desk) = inbox(rt.alloc(), 2)?;
+    let text = answers(
+        &rt,
+        rt.alloc(),
+        &mut posts,
+        &mut desk,
+        &CALLS_TO_A_FULL_INBOX,
+    )?;
+    let wanted = "sent, sent, full c, a of 0, b of 1, empty, finished, finished, full, ended d, ";
+    expect(text, wanted)?;
+    let text = answers(&rt, rt.alloc(), &mut posts, &mut desk, &CALLS_TO_ITS_END)?;
+    let wanted = "end of 0, end of 1, finished, finished, end of 2, empty, ";
+    expect(text, wanted)?;
+    assert!(&rt; desk.settle(posts).is_ok());
+    Ok(())
+}
+
+/// What two offers and a close of the spout answer once one item was offered, and what three takes do.
+fn tap_text<R: Wait>(
+    alloc: Global,
+    spout: &mut Spout<char, R>,
+    tap: &mut Tap<char, R>,
+) -> Result<String, Fail>
+    ensures spout { spout.new.id ≡ spout.old.id }
+    ensures tap { tap.new.id ≡ tap.old.id }
+{
+    let mut text = two_offers_and_a_close(alloc, spout, 'b', 'c')?;
+    text.push_str(three_drawn(alloc, tap)?.as_str())?;
+    Ok(text)
+}
+
+#[test]
+fn small_tap_is_full(rt: HostRuntime) -> Result<(), Fail> {
+    let (mut spout, mut tap) = tap(rt, rt.alloc(), 2)?;
+    assert!(&rt; spout.offer('a').is_ok());
+    let text = tap_text(rt.alloc(), &mut spout, &mut tap)?;
+    expect(text, "sent, full c, full, a, b, empty, ")?;
+    assert!(&rt; !tap_settle(spout, tap));
+    Ok(())
+}
+
+#[test]
+fn small_tap_is_closed(rt: HostRuntime) -> Result<(), Fail> {
+    let (mut spout, mut tap) = tap(rt, rt.alloc(), 2)?;
+    assert!(&rt; spout.offer('a').is_ok());
+    assert!(&rt; spout.close().is_ok());
+    let text = tap_text(rt.alloc(), &mut spout, &mut tap)?;
+    expect(text, "ended b, ended c, finished, a, closed, closed, ")?;
+    assert!(&rt; tap_settle(spout, tap));
+    Ok(())
+}
+
+/// Offers two entries, and closes.
+fn offer_two<P: PortIn>(alloc: Global, port: &mut P) -> Result<(), Fail> {
+    port.offer(added(alloc, "0.1", "inbox", 0)?)?;
+    port.offer(added(alloc, "0.2", "inbox", 0)?)?;
+    Ok(port.close()?)
+}
+
+/// What the next take of a port gives: an entry, or else a word.
+fn next<P: PortOut>(alloc: Global, port: &mut P) -> Result<String, Fail> {
+    match port.take() {
+        Taken::Entry(entry) => shown(alloc, &entry),
+        Taken::Empty => Ok(String::from_str(alloc, "empty ")?),
+        Taken::Closed => Ok(String::from_str(alloc, "closed ")?),
+    }
+}
+
+#[test]
+fn tap_as_a_port(rt: HostRuntime) -> Result<(), Fail> {
+    let (mut spout, mut tap) = tap(rt, rt.alloc(), 3)?;
+    offer_two(rt.alloc(), &mut spout)?;
+    assert!(&rt; PortIn::offer(&mut spout, dropped("0.1")?).is_err());
+    expect(next(rt.alloc(), &mut tap)?, "+0.1 ")
+}
+
+#[test]
+fn drain_of_a_tap(rt: HostRuntime) -> Result<(), Fail> {
+    let (mut spout, mut tap) = tap(rt, rt.alloc(), 3)?;
+    offer_two(rt.alloc(), &mut spout)?;
+    let mut notifier = Notifier::new(rt.alloc());
+    assert!(&rt; matches!(notifier.drain(&rt, &mut tap)?, Drained::Closed));
+    assert_eq!(&rt; notifier.unseen(), 2);
+    Ok(())
+}
+
+#[test]
+fn text_of_full(rt: HostRuntime) -> Result<(), Fail> {
+    let fault = SendFault::Full('a');
+    expect(format!(in rt.alloc(); "{fault}")?, "the lane is full")
+}
+
+#[test]
+fn text_of_ended(rt: HostRuntime) -> Result<(), Fail> {
+    let fault = SendFault::Ended('a');
+    expect(
+        format!(in rt.alloc(); "{fault}")?,
+        "the lane's end is closed",
+    )
+}
+
+#[test]
+fn text_of_no_place_for_the_end(rt: HostRuntime) -> Result<(), Fail> {
+    let text = format!(in rt.alloc(); "{}", FinishFault::Full)?;
+    expect(text, "the lane has no place for the end mark")
+}
+
+#[test]
+fn text_of_no_capacity(rt: HostRuntime) -> Result<(), Fail> {
+    let text = format!(in rt.alloc(); "{}", LaneFault::NoCapacity)?;
+    expect(text, "a lane has 1 to 4,096 places")
+}
+
+#[test]
+fn text_of_not_finished(rt: HostRuntime) -> Result<(), Fail> {
+    let (posts, desk) = inbox::<char>(rt.alloc(), 1)?;
+    let Err(fault) = desk.settle(posts) else {
+        return Err("settled before all had finished".into());
+    };
+    let text = format!(in rt.alloc(); "{fault}")?;
+    expect(text, "the end marks of all three posts were not taken yet")
+}

@@ -1,0 +1,27 @@
+//! Tests of values: versions, messages, filters, sets of versions, and frames.
+//!
+//! A contract can't say that memory is there: a body that always answers "out of memory" is proved
+//! too. So the tests named `ample_memory_..` make each call that allocates, let each thing that
+//! grows grow past the room that it had, and compare the stated answer. The others are of what no
+//! clause says: texts of faults, and definitions held against values that were computed elsewhere.
+//!
+//! A test is proved safe before it runs, and costs the more the longer it is. So each makes two or
+//! three calls, what several share is a function without clauses, and `mr_samples` has what the test
+//! crates share. A table of cases is no test: it goes through the program `mr_rows`, and two forms
+//! of one thing are compared by the program `mr_tests_twins`, which calls all that both forms have.
+//! `mr_console` is a program, whose functions no other crate can call: `tools/try-command-lines`
+//! tries it.
+#![tactic(auto)]
+
+#[cfg(test)]
+mod filter;
+#[cfg(test)]
+mod frames;
+#[cfg(test)]
+mod mail;
+#[cfg(test)]
+mod sets;
+#[cfg(test)]
+mod version;
+#[cfg(test)]
+mod wire;

@@ -1,0 +1,141 @@
+//! `mr_mail`: messages, labels and days find memory, up to their limits; what the definitions mean
+//! by a date and a flag, as computed elsewhere.
+use mr_mail::{Card, Day, Flag, Flags, Label, Message, MessageFault};
+use mr_samples::{expect, letters, message, owned};
+use std::alloc::Global;
+use std::test::Fail;
+
+/// Sixteen labels, one of them twice, not in order.
+const LABELS: [&str; 17] = [
+    "q", "b", "c", "d", "e", "f", "g", "h", "i", "j", "k", "l", "m", "n", "o", "p", "b",
+];
+
+/// The same labels in order, once each.
+const SORTED_LABELS: &str = "b c d e f g h i j k l m n o p q ";
+
+/// The labels, with a space after each.
+fn joined(alloc: Global, labels: &[Label]) -> Result<String, Fail> {
+    let mut text = String::new(alloc);
+    for label in labels {
+        text.push_str(label.as_str())?;
+        text.push(' ')?;
+    }
+    Ok(text)
+}
+
+/// A message as long as a message can be.
+fn longest(alloc: Global) -> Result<Message, Fail> {
+    let from = letters(alloc, 254)?;
+    let subject = letters(alloc, 998)?;
+    let body = letters(alloc, 65_536)?.into_bytes();
+    let labels = owned(alloc, &LABELS)?;
+    Ok(Message::try_new(alloc, from, subject, body, labels, 31, Day::new(65_535))?)
+}
+
+/// The labels of the longest message.
+fn longest_labels(alloc: Global) -> Result<String, Fail> {
+    joined(alloc, longest(alloc)?.labels())
+}
+
+/// The sender and the subject of a message's copy.
+fn copied_text(alloc: Global, message: &Message) -> Result<String, Fail> {
+    let copy = message.copy()?;
+    let from = copy.from();
+    let subject = copy.subject();
+    let bytes = copy.body().len();
+    Ok(format!(in alloc; "{from} {subject} {bytes}")?)
+}
+
+/// The card's labels, flags and day.
+fn card_text(alloc: Global, card: &Card) -> Result<String, Fail> {
+    let labels = joined(alloc, card.labels())?;
+    let flags = card.flags().bits();
+    let day = card.day().text(alloc)?;
+    Ok(format!(in alloc; "{labels}{flags} {day}")?)
+}
+
+/// The card of a message, once it was copied.
+fn copied_card(alloc: Global, message: &Message) -> Result<String, Fail> {
+    card_text(alloc, &message.card()?.copy()?)
+}
+
+/// A copy of the label of this text.
+fn copied_label(alloc: Global, text: &str) -> Result<String, Fail> {
+    let copy = Label::try_new(String::from_str(alloc, text)?)?.copy()?;
+    Ok(String::from_str(alloc, copy.as_str())?)
+}
+
+/// Copies of a message's labels.
+fn copied_labels(alloc: Global, message: &Message) -> Result<String, Fail> {
+    joined(alloc, &Label::copy_all(alloc, message.labels())?)
+}
+
+#[test]
+fn ample_memory_message(rt: HostRuntime) -> Result<(), Fail> {
+    expect(longest_labels(rt.alloc())?, SORTED_LABELS)
+}
+
+#[test]
+fn ample_memory_message_copy(rt: HostRuntime) -> Result<(), Fail> {
+    expect(
+        copied_text(rt.alloc(), &message(rt.alloc(), &[], 20)?)?,
+        "ann Hi 5",
+    )
+}
+
+#[test]
+fn ample_memory_card(rt: HostRuntime) -> Result<(), Fail> {
+    let message = message(rt.alloc(), &["work", "inbox", "a", "b", "c"], 20)?;
+    expect(
+        copied_card(rt.alloc(), &message)?,
+        "a b c inbox work 20 2026-01-05",
+    )
+}
+
+#[test]
+fn ample_memory_labels(rt: HostRuntime) -> Result<(), Fail> {
+    let message = message(rt.alloc(), &LABELS, 0)?;
+    expect(copied_labels(rt.alloc(), &message)?, SORTED_LABELS)
+}
+
+#[test]
+fn ample_memory_label_copy(rt: HostRuntime) -> Result<(), Fail> {
+    expect(copied_label(rt.alloc(), "to-do")?, "to-do")
+}
+
+#[test]
+fn ample_memory_flags(rt: HostRuntime) -> Result<(), Fail> {
+    let flags = Flags::empty().with(Flag::Deleted).with(Flag::Flagged);
+    assert_eq!(rt; flags.list(rt.alloc())?.len(), 2);
+    Ok(())
+}
+
+#[test]
+fn ample_memory_day(rt: HostRuntime) -> Result<(), Fail> {
+    expect(Day::new(65_535).text(rt.alloc())?, "2149-06-06")
+}
+
+#[test]
+fn days_are_those_of_the_calendar(rt: HostRuntime) -> Result<(), Fail> {
+    for (text, days) in [
+        ("1970-01-01", 0),
+        ("2000-02-29", 11_016),
+        ("2026-01-05", 20_458),
+        ("2028-02-29", 21_243),
+    ] {
+        assert_eq!(rt; Day::read(text)?.days(), days);
+    }
+    Ok(())
+}
+
+#[test]
+fn text_of_bad_label(rt: HostRuntime) -> Result<(), Fail> {
+    let text = format!(in rt.alloc(); "{}", MessageFault::BadLabel)?;
+    expect(text, "a label is 1 to 32 bytes of a-z, 0-9 and -")
+}
+
+#[test]
+fn text_of_bad_flags(rt: HostRuntime) -> Result<(), Fail> {
+    let text = format!(in rt.alloc(); "{}", MessageFault::BadFlags)?;
+    expect(text, "a flag byte is at most 31")
+}
