@@ -5,8 +5,6 @@ ghost use Rattle.mr_session.specs.Stream.{new_stream, told, due, Draws, DrawsFir
 
 mod onward;
 
-pub use onward::{Onward, Prepared};
-
 use crate::asked::AskedOf;
 use crate::copies::{copied_know, copied_queue, copy_of};
 use crate::due::due;
@@ -16,6 +14,7 @@ use mr_madewith::Revision;
 use mr_store::Store;
 use mr_version::{Author, Version};
 use mr_wire::{Body, Descent, FrameFragment, Header, Mode, Record};
+pub use onward::{Onward, Prepared};
 use std::alloc::{AllocError, Global};
 use std::collections::VecDeque;
 use std::marker::Model;

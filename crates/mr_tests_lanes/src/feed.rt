@@ -1,6 +1,6 @@
 //! `mr_feed`: feeds, folds and ports find memory, and how a port runs.
 use mr_feed::{Entry, Feed, OfferFault, PlainPort, PortFault, PortIn, PortOut, Taken, fold};
-use mr_samples::{added, all_shown, dropped, expect, listed, shown};
+use mr_tests_samples::{added, all_shown, dropped, expect, listed, shown};
 use std::alloc::Global;
 use std::test::Fail;
 

@@ -10,8 +10,8 @@ use mr_lane::{
     Arrival, Desk, Drawn, FinishFault, LaneFault, Posts, SendFault, Sender, SettleFault, Spout,
     Tap, inbox, tap, tap_settle,
 };
-use mr_samples::{added, dropped, expect, shown};
 use mr_subs::{Drained, Notifier};
+use mr_tests_samples::{added, dropped, expect, shown};
 use std::alloc::Global;
 use std::sync::Wait;
 use std::test::Fail;

@@ -2,7 +2,7 @@
 //!
 //! They are of what no clause says: that calls find memory, that lanes run between threads, and that an inbox
 //! was full, or a lane empty, where it answers so. What a test costs and where it goes is said in
-//! `mr_tests_values`.
+//! `mr_tests`.
 #![tactic(auto)]
 
 #[cfg(test)]

@@ -1,8 +1,8 @@
 //! `mr_subs`: subscribers find memory.
 use mr_feed::{PlainPort, PortIn};
 use mr_mail::Label;
-use mr_samples::{added, dropped, expect, listed};
 use mr_subs::{Drained, Indexer, Notifier};
+use mr_tests_samples::{added, dropped, expect, listed};
 use std::alloc::Global;
 use std::test::Fail;
 

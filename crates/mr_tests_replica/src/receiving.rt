@@ -4,7 +4,7 @@ use mr_filter::Filter;
 use mr_forms::{Knowledge, PlainKnowledge};
 use mr_itemset::ItemKnowledge;
 use mr_replica::{Bases, Event, Refusal, Replica, Reply};
-use mr_samples::{all_shown, message};
+use mr_tests_samples::{all_shown, message};
 use mr_version::{Author, Version};
 use mr_wire::{Frame, decode};
 use std::alloc::Global;

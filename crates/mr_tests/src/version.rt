@@ -1,5 +1,5 @@
 //! `mr_version`: texts of versions and of faults.
-use mr_samples::{expect, version};
+use mr_tests_samples::{expect, version};
 use mr_version::VersionFault;
 use std::test::Fail;
 

@@ -3,7 +3,7 @@
 use mr_concise::{AuthorColumn, ConciseVector, concise_fragments, knowledge_text};
 use mr_forms::{FormFault, Fragment, ItemSet, Knowledge, PlainVersions, VersionSet};
 use mr_itemset::ItemKnowledge;
-use mr_samples::{expect, item, version, versions};
+use mr_tests_samples::{expect, item, version, versions};
 use mr_version::ItemId;
 use std::alloc::Global;
 use std::test::Fail;

@@ -1,5 +1,5 @@
 //! `mr_wire`: a frame's memory, and the text of a fault.
-use mr_samples::expect;
+use mr_tests_samples::expect;
 use mr_wire::{WireFault, decode, encode};
 use std::alloc::Global;
 use std::test::Fail;

@@ -1,7 +1,7 @@
 //! `mr_filter`: the largest filter finds memory; which filters cover others, as worked out by hand. What
 //! filters select and how they are refused is in the rows of `mr_rows`.
 use mr_filter::Filter;
-use mr_samples::expect;
+use mr_tests_samples::expect;
 use std::alloc::Global;
 use std::test::Fail;
 

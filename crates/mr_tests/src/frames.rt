@@ -1,7 +1,7 @@
 //! `mr_frames`: a reader finds memory for what waits, and gives the frames of a piece one by one.
 use crate::wire::ITEM;
 use mr_frames::{FrameFault, FrameReader};
-use mr_samples::expect;
+use mr_tests_samples::expect;
 use mr_wire::{Kind, WireFault};
 use std::alloc::Global;
 use std::test::Fail;

@@ -1,7 +1,7 @@
 //! `mr_mail`: messages, labels and days find memory, up to their limits; what the definitions mean
 //! by a date and a flag, as computed elsewhere.
 use mr_mail::{Card, Day, Flag, Flags, Label, Message, MessageFault};
-use mr_samples::{expect, letters, message, owned};
+use mr_tests_samples::{expect, letters, message, owned};
 use std::alloc::Global;
 use std::test::Fail;
 
