@@ -1,0 +1,14 @@
+pub mod World
+pub mod Ports
+pub mod Moves
+pub mod Seen
+pub mod Issued
+pub mod Told
+pub mod Shared
+pub mod Sessions
+pub mod Streams
+pub mod Agrees
+pub mod Runs
+pub mod Normal
+pub mod ListedItems
+pub mod Replies

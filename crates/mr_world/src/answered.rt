@@ -1,0 +1,10 @@
+//! An event with its answer.
+use crate::answer::Answer;
+use crate::event::Event;
+
+/// An event of a world, with what the world answered.
+#[derive(Debug, Drop)]
+pub struct Answered {
+    pub event: Event,
+    pub answer: Answer,
+}
