@@ -1,9 +1,14 @@
 -- what is written of a frame's parts
-use Rattle.std.proofs.Common.{◌≡◌, ℕ, zero, suc, ◌+◌, ◌<◌, List, [], ◌∷◌, ◌++◌, length, get_or, Result, Ok, Err, ap, ◌∙◌, append_assoc, arith}
+use Rattle.std.proofs.Common.{◌≡◌, ℕ, zero, suc, ◌+◌, ◌<◌, List, [], ◌∷◌, ◌++◌, length, get_or, Result, Ok, Err, ap, sym, ◌∙◌, append_assoc, arith}
 use Rattle.std.specs.Prelude.{OnOk}
 use Rattle.mr_concise.specs.declared.vector.AuthorColumn.{AuthorColumn}
 use Rattle.mr_concise.specs.Column.{IsColumn}
 use Rattle.mr_concise.specs.Vector.{IsVectorFrom}
+use Rattle.mr_wire.specs.Kinds.{kind_byte}
+use Rattle.mr_wire.specs.Spelling.{u32}
+use Rattle.mr_wire.specs.FrameSpelling.{part_bytes, kind_of, rest_bytes, frame_bytes}
+use Rattle.mr_wire.specs.declared.frame.Frame.{Frame}
+use Rattle.mr_wire.specs.declared.kind.Kind.{Kind}
 
 -- a column of a vector is one
 pub column_of_vector : (xs : List AuthorColumn) (low i : ℕ) (d : AuthorColumn) → i < length xs → IsVectorFrom low xs → IsColumn ((get_or xs i d).column)
@@ -20,3 +25,10 @@ two_parts (Ok x) o a b o1 o2 e1 e2 = e2 ∙ ap (λ (z : List ℕ). z ++ b) e1 �
 pub five_parts : {E : Type 0} (r : Result (Unit {0}) E) (o a b c d e o1 o2 o3 o4 o5 : List ℕ) → o1 ≡ o ++ a → o2 ≡ o1 ++ b → o3 ≡ o2 ++ c → o4 ≡ o3 ++ d → OnOk r (o5 ≡ o4 ++ e) → OnOk r (o5 ≡ o ++ (a ++ (b ++ (c ++ (d ++ e)))))
 five_parts r o a b c d e o1 o2 o3 o4 o5 e1 e2 e3 e4 e5 =
     two_parts r o a (b ++ (c ++ (d ++ e))) o1 o5 e1 (two_parts r o1 b (c ++ (d ++ e)) o2 o5 e2 (two_parts r o2 c (d ++ e) o3 o5 e3 (two_parts r o3 d e o4 o5 e4 e5)))
+
+-- a frame is its start, and the bytes of its parts
+pub frame_from_parts : (f : Frame) (kind : Kind) (parts : ℕ) (start out : List ℕ) → kind_of f ≡ kind → parts ≡ length (part_bytes f) → start ≡ u32 (parts + 2) ++ (2 ∷ kind_byte kind ∷ []) → out ≡ start ++ part_bytes f → out ≡ frame_bytes 2 f
+frame_from_parts f kind parts start out k n s e =
+    let len : parts + 2 ≡ length (rest_bytes 2 f) = omega (arith, n) in
+    e ∙ ap (λ (z : List ℕ). z ++ part_bytes f) (s ∙ ap (λ (m : ℕ). u32 m ++ (2 ∷ kind_byte kind ∷ [])) len) ∙ append_assoc (u32 (length (rest_bytes 2 f))) (2 ∷ kind_byte kind ∷ []) (part_bytes f)
+    ∙ ap (λ (c : Kind). u32 (length (rest_bytes 2 f)) ++ (2 ∷ kind_byte c ∷ part_bytes f)) (sym k)

@@ -4,15 +4,15 @@ ghost use Rattle.std.specs.List.{flat_map};
 ghost use Rattle.mr_wire.specs.Spelling.{u64, fragment_bytes, descent_bytes, message_bytes};
 ghost use Rattle.mr_wire.specs.FrameSpelling.{ask_bytes, body_bytes, header_bytes, kind_of, kind_of_body, descent_of, part_bytes, frame_bytes};
 ghost use Rattle.mr_wire.specs.Frames.{IsIndexOf};
-ghost use Rattle.mr_wire.specs.Encoding.{Encodes, HasShortFragments};
+ghost use Rattle.mr_wire.specs.Encoding.{Begins, Encodes, HasShortFragments, total_len};
 ghost use Rattle.mr_wire.specs.Grammar.{IsAsked, IsDescent, IsFrame, IsFramed, IsHeader, IsLetter, IsSaid, Spells};
 
 use crate::decoding::{LENGTH_BYTES, MAX_REST_BYTES};
 use crate::fault::WireFault;
 use crate::fragment::FrameFragment;
-use crate::frame::{Ask, Body, Frame, Header, Mode, Record};
+use crate::frame::{Ask, Body, Frame, Header, Mode, Receipt, Record};
 use crate::kind::{FORMAT, Kind};
-use crate::lengths::parts_len;
+use crate::lengths::{ask_len, parts_len, receipt_len, record_len};
 use crate::put::{
     put_descent, put_filter, put_fragment, put_message, put_u16, put_u32, put_vector,
 };
@@ -143,33 +143,71 @@ fn put_ask(out: &mut Vec<u8>, ask: &Ask) -> Result<(), AllocError>
     put_fragments(out, fragments)
 }
 
-/// What stands behind the kind.
-fn put_parts(out: &mut Vec<u8>, frame: &Frame) -> Result<(), AllocError>
-    ensures written { OnOk result (out.new.items ≡ out.old.items ++ part_bytes frame.now) }
-    ensures in_grammar { OnOk result (IsFrame frame.now) }
+fn put_receipt(out: &mut Vec<u8>, receipt: &Receipt) -> Result<(), AllocError>
+    ensures written { OnOk result (out.new.items ≡ out.old.items ++ part_bytes (Frame.Receipt receipt.now)) }
+    ensures in_grammar { OnOk result (IsFrame (Frame.Receipt receipt.now)) }
 {
-    match frame {
-        Frame::Ask(ask) => put_ask(out, ask),
-        Frame::Record(record) => put_record(out, record),
-        Frame::Receipt(receipt) => {
-            put_u16(out, receipt.giver.id())?;
-            let descent = &receipt.descent;
-            put_descent(out, descent.item(), descent.version(), descent.below())
-        }
-    }
+    put_u16(out, receipt.giver.id())?;
+    let descent = &receipt.descent;
+    put_descent(out, descent.item(), descent.version(), descent.below())
 }
 
-/// A frame of this length: its length without that of the length itself, format, kind, and the parts.
-fn put_frame(out: &mut Vec<u8>, frame: &Frame, len: usize) -> Result<(), AllocError>
-    requires exact { len ≡ length (frame_bytes 2 frame.now) }
-    requires few { len ≤ 8388612 }
-    ensures written { OnOk result (out.new.items ≡ out.old.items ++ frame_bytes 2 frame.now) }
-    ensures in_grammar { OnOk result (IsFrame frame.now) }
+/// The start of a frame of this kind, with so many bytes behind the kind: the length of what follows
+/// it, format and kind, in memory of just the whole frame's length.
+fn begin(alloc: Global, kind: Kind, parts: usize) -> Result<Vec<u8>, WireFault>
+    requires { parts < 2 ^ 55 }
+    ensures { Begins kind parts result }
 {
-    put_u32(out, (len - LENGTH_BYTES) as u32)?;
+    let len = LENGTH_BYTES + KIND_BYTES + parts;
+    if len > LENGTH_BYTES + MAX_REST_BYTES as usize {
+        return Err(WireFault::TooLong);
+    }
+    let mut out = Vec::with_capacity(alloc, len)?;
+    put_u32(&mut out, (len - LENGTH_BYTES) as u32)?;
     out.push(FORMAT)?;
-    out.push(frame.kind().byte())?;
-    put_parts(out, frame)
+    out.push(kind.byte())?;
+    Ok(out)
+}
+
+/// The bytes of a request that is kept elsewhere, as [`encode`] writes them of its frame.
+///
+/// `TooLong` where more than 8,388,608 bytes would follow the length, and never where its fragments take
+/// at most 8,000,000 bytes; `OutOfMemory` otherwise.
+#[tactic(auto, using(crate::proofs::PutLemmas::frame_from_parts))]
+pub fn encode_ask(alloc: Global, ask: &Ask) -> Result<Vec<u8>, WireFault>
+    ensures exact { Encodes (Frame.Ask ask.now) result }
+    ensures spelled { IfOk result (λ v. Spells 2 (Frame.Ask ask.now) v.items) }
+    ensures short { total_len ask.now.fragments ≤ 8000000 → result ≢ Err WireFault.TooLong }
+{
+    let mut out = begin(alloc, Kind::Ask, ask_len(ask))?;
+    put_ask(&mut out, ask)?;
+    Ok(out)
+}
+
+/// The bytes of a record that is kept elsewhere, as [`encode`] writes them of its frame. It is never too
+/// long: `OutOfMemory` is the one fault.
+#[tactic(auto, using(crate::proofs::PutLemmas::frame_from_parts))]
+pub fn encode_record(alloc: Global, sent: &Record) -> Result<Vec<u8>, WireFault>
+    ensures exact { Encodes (Frame.Record sent.now) result }
+    ensures spelled { IfOk result (λ v. Spells 2 (Frame.Record sent.now) v.items) }
+    ensures short { result ≢ Err WireFault.TooLong }
+{
+    let mut out = begin(alloc, sent.body().kind(), record_len(sent))?;
+    put_record(&mut out, sent)?;
+    Ok(out)
+}
+
+/// The bytes of a receipt that is kept elsewhere, as [`encode`] writes them of its frame. It is never too
+/// long: `OutOfMemory` is the one fault.
+#[tactic(auto, using(crate::proofs::PutLemmas::frame_from_parts))]
+pub fn encode_receipt(alloc: Global, receipt: &Receipt) -> Result<Vec<u8>, WireFault>
+    ensures exact { Encodes (Frame.Receipt receipt.now) result }
+    ensures spelled { IfOk result (λ v. Spells 2 (Frame.Receipt receipt.now) v.items) }
+    ensures short { result ≢ Err WireFault.TooLong }
+{
+    let mut out = begin(alloc, Kind::Receipt, receipt_len(receipt))?;
+    put_receipt(&mut out, receipt)?;
+    Ok(out)
 }
 
 /// The frame's bytes in the format that is written.
@@ -183,11 +221,9 @@ pub fn encode(alloc: Global, frame: &Frame) -> Result<Vec<u8>, WireFault>
     ensures spelled { IfOk result (λ v. Spells 2 frame.now v.items) }
     ensures short { HasShortFragments frame.now → result ≢ Err WireFault.TooLong }
 {
-    let len = frame.encoded_len();
-    if len > LENGTH_BYTES + MAX_REST_BYTES as usize {
-        return Err(WireFault::TooLong);
+    match frame {
+        Frame::Ask(ask) => encode_ask(alloc, ask),
+        Frame::Record(record) => encode_record(alloc, record),
+        Frame::Receipt(receipt) => encode_receipt(alloc, receipt),
     }
-    let mut out = Vec::with_capacity(alloc, len)?;
-    put_frame(&mut out, frame, len)?;
-    Ok(out)
 }

@@ -9,7 +9,7 @@ ghost use Rattle.mr_wire.specs.Spelling.{column_bytes, vector_bytes, items_bytes
 ghost use Rattle.mr_wire.specs.FrameSpelling.{ask_bytes, body_bytes, descent_of, part_bytes};
 ghost use Rattle.mr_wire.specs.Encoding.{HasShortFragments, total_len};
 
-use crate::frame::{Ask, Body, Frame};
+use crate::frame::{Ask, Body, Frame, Receipt, Record};
 use mr_concise::{AuthorColumn, ConciseVector};
 use mr_filter::{Clause, Filter};
 use mr_forms::ItemSet;
@@ -208,12 +208,28 @@ fn body_len(body: &Body) -> usize
 
 /// The bytes of a request: what stands before its fragments is at most 17,007 bytes.
 #[tactic(auto, using(crate::proofs::LengthLemmas::length_of_ask))]
-fn ask_len(ask: &Ask) -> usize
+pub(crate) fn ask_len(ask: &Ask) -> usize
     ensures exact { result ≡ length (ask_bytes ask.now) }
     ensures most { result < 2 ^ 55 }
     ensures head { result ≤ 17007 + total_len ask.now.fragments }
 {
     ASK_HEAD_BYTES + filter_len(ask.filter()) + FRAGMENT_COUNT_BYTES + ask.fragments_len()
+}
+
+/// The bytes of a record: its header and what it says.
+pub(crate) fn record_len(sent: &Record) -> usize
+    ensures exact { result ≡ length (part_bytes (Frame.Record sent.now)) }
+    ensures most { result ≤ 8017007 }
+{
+    HEADER_BYTES + body_len(sent.body())
+}
+
+/// The bytes of a receipt.
+pub(crate) fn receipt_len(receipt: &Receipt) -> usize
+    ensures exact { result ≡ length (part_bytes (Frame.Receipt receipt.now)) }
+    ensures most { result ≤ 8017007 }
+{
+    AUTHOR_BYTES + descent_len(receipt.descent.below())
 }
 
 /// The bytes of what stands behind the kind.
@@ -224,7 +240,7 @@ pub(crate) fn parts_len(frame: &Frame) -> usize
 {
     match frame {
         Frame::Ask(ask) => ask_len(ask),
-        Frame::Record(record) => HEADER_BYTES + body_len(record.body()),
-        Frame::Receipt(receipt) => AUTHOR_BYTES + descent_len(receipt.descent.below()),
+        Frame::Record(record) => record_len(record),
+        Frame::Receipt(receipt) => receipt_len(receipt),
     }
 }

@@ -40,7 +40,7 @@ mod vector;
 
 pub use decoding::{MAX_REST_BYTES, decode};
 pub use descent::Descent;
-pub use encoding::encode;
+pub use encoding::{encode, encode_ask, encode_receipt, encode_record};
 pub use fault::WireFault;
 pub use fragment::FrameFragment;
 pub use frame::{Ask, Body, Frame, Header, Mode, Receipt, Record};

@@ -33,3 +33,14 @@ pub mod Replies
 mod RunSteps
 mod RunRow
 mod Rows
+pub mod PoolLemmas
+pub mod KeepsId
+pub mod MemberPlaces
+pub mod Moved
+pub mod Happening
+pub mod OutletLemmas
+pub mod TaskLemmas
+pub mod SteppedLemmas
+pub mod LoopLemmas
+pub mod MadeLemmas
+pub mod PromiseLemmas

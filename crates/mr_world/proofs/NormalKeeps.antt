@@ -81,7 +81,7 @@ pieces_normal (p ∷ ps) [] are piece i = elim i [ ]
 pieces_normal (p ∷ ps) (y ∷ ys) are piece i = elim i [ inl e ↦ subst (λ (z : Piece). IsNormal z.vector) e are.0.versions.columns_ok | inr j ↦ pieces_normal ps ys are.1 piece j ]
 
 kept_normal : {K : Type 0} (form : Form K) (mode : Mode) (knowledge : K) (know : List Piece) → Keeps form mode knowledge know → (piece : Piece) → In piece know → IsNormal piece.vector
-kept_normal form Full knowledge know keeps piece i = pieces_normal keeps.0.0 know keeps.0.2 piece i
+kept_normal form Full knowledge know keeps piece i = pieces_normal keeps.0.parts know keeps.0.by_part piece i
 kept_normal form Partial knowledge know keeps piece i = elim (subst (λ (ps : List Piece). In piece ps) keeps i) [ ]
 
 -- ---- one step

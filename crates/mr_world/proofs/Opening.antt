@@ -139,7 +139,7 @@ module _ {K : Type 0} (form : Form K) (knowledge : K) (know : List Piece) where
   kept_known Partial keeps i v h = let none : IsTrue (claimed [] i v) = subst (λ (ps : List Piece). IsTrue (claimed ps i v)) keeps h in absurd (cc)
 
   kept_listed : (mode : Mode) → Keeps form mode knowledge know → (piece : Piece) → In piece know → piece.items ≢ Some []
-  kept_listed Full keeps piece i = pieces_listed keeps.0.0 know keeps.0.2 keeps.0.1.in_order.listable piece i
+  kept_listed Full keeps piece i = pieces_listed keeps.0.parts know keeps.0.by_part keeps.0.are_parts.in_order.listable piece i
   kept_listed Partial keeps piece i = elim (subst (λ (ps : List Piece). In piece ps) keeps i) [ ]
 
   kept_whole : (mode : Mode) → is_full_mode mode ≡ true → Keeps form mode knowledge know → (i v : Name) → claimed know i v ≡ form.known knowledge i v

@@ -397,7 +397,7 @@ lists_none k (p ∷ ps) (y ∷ ys) are all piece i = elim i [
 ]
 
 row_lists_more : ListsMore row_form
-row_lists_more k know keeps piece i items listed item j = let none = lists_none k keeps.0.0 know keeps.0.2 keeps.0.1.are piece i in absurd (cc)
+row_lists_more k know keeps piece i items listed item j = let none = lists_none k keeps.0.parts know keeps.0.by_part keeps.0.are_parts.are piece i in absurd (cc)
 
 row_answers : (x : Answered) → In x (first_part ++ second_part) → x.answer ≢ answer.Stepped (Err refusal.Forged)
 row_answers x i = world_answers row_form filters row_lists_more world_0 world_34 (first_part ++ second_part) is_fresh row_runs x i

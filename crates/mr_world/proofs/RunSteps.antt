@@ -148,7 +148,7 @@ module _ (k : List AuthorColumn) (normal : IsVectorFrom 0 k) where
   or_nothing false = refl
 
   are_pieces : ArePiecesOf (row_form.is_part k) (the_piece ∷ []) × AreSame (row_form.known k) (claimed (the_piece ∷ []))
-  are_pieces = ((the_part ∷ [], are_parts, (record { items = refl; versions = is_vector }, tt)), (λ i v. or_nothing (vector_has k v)))
+  are_pieces = (record { parts = the_part ∷ []; are_parts = are_parts; by_part = (record { items = refl; versions = is_vector }, tt) }, (λ i v. or_nothing (vector_has k v)))
 
   short : (n : ℕ) → length (take n (the_piece ∷ [])) ≤ 1
   short zero = omega arith
@@ -158,7 +158,7 @@ module _ (k : List AuthorColumn) (normal : IsVectorFrom 0 k) where
   are_asked : total_len (the_piece ∷ []) ≤ most_asked → AreAsked (row_form.is_part k) (row_form.known k) (the_piece ∷ [])
   are_asked few = record {
     fragments = the_fragment ∷ [];
-    are = record { parts = the_part ∷ []; are_parts = are_parts; by_part = (record { items = refl; vector = is_vector }, tt) };
+    are = record { parts = the_part ∷ []; are_parts = are_parts; by_part = (record { items = refl; versions = is_vector }, tt) };
     have = record { covered = λ i v. or_nothing (vector_has k v); items = All-cons (λ (f : ConciseFragment). HasItems f.items) the_fragment [] tt (All-nil (λ (f : ConciseFragment). HasItems f.items)) };
     longest = record { beginning = refl; within = few; longest = λ n within. short n };
   }

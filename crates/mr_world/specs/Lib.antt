@@ -1,6 +1,17 @@
 pub mod World
 pub mod Ports
 pub mod Moves
+pub mod Event
+pub mod Fault
+pub mod Pool
+pub mod Kept
+pub mod Given
+pub mod Task
+pub mod Happens
+pub mod Made
+pub mod Run
+pub mod TakenAnswer
+pub mod Stepped
 pub mod Seen
 pub mod Issued
 pub mod Told
@@ -9,6 +20,7 @@ pub mod Sessions
 pub mod Streams
 pub mod Agrees
 pub mod Runs
+pub mod Promise
 pub mod Normal
 pub mod ListedItems
 pub mod Replies

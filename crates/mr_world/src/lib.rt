@@ -1,16 +1,47 @@
 //! A world of replicas: what each holds, all that they gave one another, and ports to their subscribers.
 //!
-//! The definitions in `specs/` say what one event of a world does (`Moves`), which history a run of it
-//! makes (`Seen`, `Runs`), and how a world agrees with a moment of that history (`Agrees`). That every run
-//! of a world is a history that the rules of `mr_model` allow, so that the headline holds of it, is a law
-//! of [`laws`].
+//! A [`World`] is made of [`Spec`]s, one for each replica, and then events happen in it. Most are events
+//! of one replica. Where a replica gives a request, a record or a receipt, its frame comes into a pool of
+//! the world, with a number from 1, and there it stays: other events deliver it to any replica, as often
+//! and in whatever order, or only a part of it. A replica's feed is told to two subscribers, an indexer
+//! and a notifier, by a port each.
+//!
+//! [`World::run`] lets a list of events happen. A replica's refusal is an answer like others; the run
+//! stops only where an event names a replica or a frame that isn't there, or where memory is wanting. What
+//! had happened before stands, and the event at which it stopped has changed nothing: all that an event
+//! may need is at hand before its replica changes.
+//!
+//! The definitions in `specs/` say what one event of a world does (`Moves`), and what a run of the code
+//! is (`Run`).
+//!
+//! ```text
+//! let spec = Spec { id, filter, event_limit: 1_000_000, port_capacity: 4096 };
+//! let world: World<ItemKnowledge> = World::try_new(alloc, vec![in alloc; spec]?)?;
+//! let world = world.run(vec![in alloc; Event::Create(id, message), Event::Offer(id, Subscriber::Indexer)]?)?;
+//! assert_eq!(world.answers().len(), 2);
+//! ```
 #![tactic(auto)]
 
 mod answer;
 mod answered;
 mod event;
+mod fault;
 pub mod laws;
+mod member;
+mod named;
+mod outlet;
+mod pool;
+mod pools;
+pub mod promises;
+mod run;
+mod spec;
+mod task;
+mod world;
 
 pub use answer::Answer;
 pub use answered::Answered;
 pub use event::{Event, Subscriber};
+pub use fault::{SpecFault, WorldFault};
+pub use run::Stopped;
+pub use spec::Spec;
+pub use world::World;

@@ -1,0 +1,67 @@
+//! Events, as scenes write them.
+use anyhow::Result;
+use mr_mail::{Day, Message};
+use mr_replica::Bases;
+use mr_version::{Author, Version};
+use mr_world::Event;
+use std::alloc::Global;
+
+/// The replica creates a message with this label.
+pub fn create(alloc: Global, id: Author, label: &str) -> Result<Event> {
+    Ok(Event::Create(id, message(alloc, label)?))
+}
+
+/// The replica edits the version, and gives the message this label.
+pub fn edit(alloc: Global, id: Author, base: &str, label: &str) -> Result<Event> {
+    let bases = Bases::new(vec![in alloc; Version::read(base)?]?);
+    Ok(Event::Edit(id, bases, message(alloc, label)?))
+}
+
+/// A message with this label.
+fn message(alloc: Global, label: &str) -> Result<Message> {
+    let from = String::from_str(alloc, "ann")?;
+    let subject = String::from_str(alloc, "Lunch on Friday?")?;
+    let body = String::from_str(alloc, "At noon, by the river.")?.into_bytes();
+    let labels = vec![in alloc; String::from_str(alloc, label)?]?;
+    let day = Day::read("2026-01-05")?;
+    Ok(Message::try_new(alloc, from, subject, body, labels, 0, day)?)
+}
+
+/// How one replica brings another up to date: by which request, which stream, and which records.
+#[derive(Clone, Copy)]
+pub struct Exchange<'a> {
+    pub target: Author,
+    pub source: Author,
+    pub ask: u64,
+    pub stream: u64,
+    pub records: &'a [u64],
+}
+
+/// The target pulls, the source answers and gives the records, and the target takes them.
+pub fn push_exchange(events: &mut Vec<Event>, exchange: &Exchange<'_>) -> Result<()> {
+    events.push(Event::Pull(exchange.target))?;
+    events.push(Event::Answer(exchange.source, exchange.ask))?;
+    push_draws(
+        events,
+        exchange.source,
+        exchange.stream,
+        exchange.records.len(),
+    )?;
+    push_receives(events, exchange.target, exchange.records)
+}
+
+/// The replica draws so many records from its stream.
+pub fn push_draws(events: &mut Vec<Event>, id: Author, stream: u64, records: usize) -> Result<()> {
+    for _ in 0..records {
+        events.push(Event::Next(id, stream))?;
+    }
+    Ok(())
+}
+
+/// The replica receives the records of these numbers.
+pub fn push_receives(events: &mut Vec<Event>, id: Author, records: &[u64]) -> Result<()> {
+    for number in records {
+        events.push(Event::Receive(id, *number))?;
+    }
+    Ok(())
+}

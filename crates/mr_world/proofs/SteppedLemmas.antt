@@ -1,0 +1,64 @@
+-- What a world makes of a replica's step.
+use Rattle.std.proofs.Common.{◌≡◌, ◌≢◌, Option, Some, None, Result, Ok, Err, refl, sym, ap, subst, ◌∙◌}
+use Rattle.mr_forms.specs.Known.{Form}
+use Rattle.mr_replica.specs.State.{State}
+use Rattle.mr_replica.specs.Step.{first_refusal, Answers, Steps}
+use Rattle.mr_replica.specs.declared.event.Event.{Event}
+use Rattle.mr_replica.specs.declared.event.Reply.{Reply}
+use Rattle.mr_replica.specs.declared.refusal.Refusal.{Refusal}
+use Rattle.mr_replica.specs.declared.refusal.Refusal.TheVariants as refusal
+use Rattle.mr_world.specs.Given.{IsGivenBy, KeepsFrames, Gains}
+use Rattle.mr_world.specs.Happens.{with_replica, Fulfils}
+use Rattle.mr_world.specs.Kept.{MemberView}
+use Rattle.mr_world.specs.Pool.{PoolList}
+use Rattle.mr_world.specs.Stepped.{IsRefusedBy, StepsIn}
+use Rattle.mr_world.specs.declared.answer.Answer.{Answer}
+use Rattle.mr_world.specs.declared.answer.Answer.TheVariants.{Stepped, Truncated, Offered, NothingNew, Full, TookEntry, Empty, Closed, Done}
+use Rattle.mr_world.specs.declared.fault.WorldFault.{WorldFault}
+use Rattle.mr_world.specs.declared.fault.WorldFault.TheVariants.{OutOfMemory, NoSuchReplica, NoSuchFrame}
+use Rattle.mr_world.specs.declared.pools.Given.{Given}
+use Rattle.mr_world.specs.declared.task.Task.TheVariants as task
+
+no_change : (p : PoolList) → KeepsFrames p p
+no_change p = record { asks = refl; records = refl; receipts = refl }
+
+module _ {K : Type 0} (form : Form K) where
+  abbrev GoesOn : State K → Event → Option Refusal → Result Reply Refusal → State K → Type 0
+  GoesOn s event first answer new = elim first [
+    | Some e ↦ (answer ≡ Err e) × (new ≡ s)
+    | None ↦ Answers form s event answer new
+  ]
+
+  same_state : (s : State K) (event : Event) (first : Option Refusal) (x : Refusal) (new : State K) → GoesOn s event first (Err x) new → new ≡ s
+  same_state s event None x new h = h.1
+  same_state s event (Some e) x new h = h.1
+
+  -- a refusal changes nothing
+  refused_same : (s : State K) (event : Event) (x : Refusal) (new : State K) → Steps form s event (Err x) new → new ≡ s
+  refused_same s event x new h = same_state s event (first_refusal s event) x new h
+
+  -- a refusal, as the world has it
+  pub refused_so : (s s' : State K) (p : PoolList) (event : Event) (x : Refusal) (result : Result Answer WorldFault) → Steps form s event (Err x) s' → IsRefusedBy x result → StepsIn form s p event result s' p
+  refused_so s s' p event x (Ok (Stepped (Err e))) h is =
+      (λ k. is.1 (sym is.0 ∙ same_refusal e refusal.OutOfMemory k), subst (λ (e : Refusal). Steps form s event (Err e) s') (sym is.0) h, no_change p)
+    where
+      same_refusal : (a b : Refusal) → ◌≡◌ {A = Result Reply Refusal} (Err a) (Err b) → a ≡ b
+      same_refusal a b k = cc
+  refused_so s s' p event x (Err OutOfMemory) h is = (refused_same s event x s' h, no_change p)
+  refused_so s s' p event x (Ok (Stepped (Ok told))) h is = absurd is
+  refused_so s s' p event x (Ok answer) h is = absurd is
+  refused_so s s' p event x (Err fault) h is = absurd is
+
+  -- a reply, as the world has it
+  pub replied_so : (s s' : State K) (p p' : PoolList) (event : Event) (told : Reply) (g : Given) → Steps form s event (Ok told) s' → IsGivenBy told g → Gains p g p' → StepsIn form s p event (Ok (Stepped (Ok told))) s' p'
+  replied_so s s' p p' event told g h is gain = (not_err told, h, (g, is, gain))
+    where
+      not_err : (told : Reply) → ◌≡◌ {A = Result Reply Refusal} (Ok told) (Err refusal.OutOfMemory) → ⊥
+      not_err told k = cc
+
+  -- a step of a member's replica is one of the member
+  pub fulfils_step : (m : MemberView K) (s' : State K) (p p' : PoolList) (event : Event) (result : Result Answer WorldFault) → StepsIn form m.replica p event result s' p' → Fulfils form m p (task.Step event) result (with_replica m s') p'
+  fulfils_step m s' p p' event (Ok (Stepped answer)) h = (h.0, s', h.1, refl, h.2)
+  fulfils_step m s' p p' event (Err OutOfMemory) h = (ap (λ (s : State K). record m { replica = s }) h.0, h.1)
+  fulfils_step m s' p p' event (Ok answer) h = absurd h
+  fulfils_step m s' p p' event (Err fault) h = absurd h

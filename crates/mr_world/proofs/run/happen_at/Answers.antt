@@ -1,0 +1,9 @@
+use Rattle.mr_world.specs.Event.{replica_of}
+use Rattle.mr_world.proofs.MemberPlaces.{place_found, place_there}
+use Rattle.mr_world.proofs.Happening.{no_task}
+use Rattle.mr_world.proofs.run.happen_at.Goals as goal
+
+pub returns-in-Err-clause-meets : goal.returns-in-Err-clause-meets
+returns-in-Err-clause-meets g c =
+    let x = place_there c.args.members.now.items (replica_of c.args.event) c.args.place c.requires.place in
+    no_task g.K.Knowledge.form c.args.members.now.items c.args.place x.0 c.args.pools.now c.args.answers.now.items c.args.event c.in-Err.fault x.1 c.requires.frames c.in-Err.ensures

@@ -1,0 +1,12 @@
+use Rattle.mr_wire.specs.declared.frame.Frame.TheVariants as frame
+use Rattle.mr_world.specs.Pool.{IsReceiptFrame}
+use Rattle.mr_world.proofs.TaskLemmas.{holds_of, is_receipt}
+use Rattle.mr_world.proofs.task.release.Goals as goal
+
+pub frame_of-requires : goal.frame_of-requires
+frame_of-requires c = let x = holds_of IsReceiptFrame c.args.receipts.now.frames c.args.number c.in-Some.bytes.now c.requires c.in-Some.ensures in (frame.Receipt x.0, x.1)
+
+pub unreachable-requires : goal.unreachable-requires
+unreachable-requires c =
+    let x = is_receipt c.args.receipts.now.frames c.args.number c.in-Some.bytes.now c.in_ok-frame.frame c.requires c.in-Some.ensures c.in_ok-frame.ensures in
+    c.in_default-frame.not-Receipt x.0 x.1

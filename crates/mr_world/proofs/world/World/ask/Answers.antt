@@ -1,0 +1,5 @@
+use Rattle.mr_world.proofs.PoolLemmas.{gives_ask}
+use Rattle.mr_world.proofs.world.World.ask.Goals as goal
+
+pub returns : goal.returns
+returns g c = rw (← c.self.view_is, c.get.ensures, c.asks.ensures) (gives_ask c.self.inside.pools.asks.frames c.args.number c.self.invariant.0.asks)

@@ -1,0 +1,10 @@
+use Rattle.mr_world.specs.Kept.{world_view}
+use Rattle.mr_world.proofs.PromiseLemmas.{meets_keeps}
+use Rattle.mr_world.proofs.world.World.happen.Goals as goal
+
+-- what comes of the event keeps the rules
+pub invariant_of-self : goal.invariant_of-self
+invariant_of-self g c = (
+  c.happen.ensures.frames,
+  meets_keeps g.K.Knowledge.form (world_view c.self.inside.members.items c.self.inside.pools c.self.inside.answers.items) (world_view c.happen.new.members.items c.happen.new.pools c.happen.new.answers.items) c.args.event c.happen.result c.self.invariant.1 c.happen.ensures.meets,
+)

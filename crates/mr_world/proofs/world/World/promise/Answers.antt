@@ -1,0 +1,9 @@
+use Rattle.std.proofs.Common.{subst}
+use Rattle.mr_world.specs.Promise.{KeepsRules}
+use Rattle.mr_world.proofs.world.World.promise.Goals as goal
+
+pub returns-clause-true_records : goal.returns-clause-true_records
+returns-clause-true_records g c = c.promise.ensures.true_records c.args.self.now (subst (KeepsRules g.K.Knowledge.form) c.self.view_is c.self.invariant.1)
+
+pub returns-clause-true_receipts : goal.returns-clause-true_receipts
+returns-clause-true_receipts g c = c.promise.ensures.true_receipts c.args.self.now (subst (KeepsRules g.K.Knowledge.form) c.self.view_is c.self.invariant.1)

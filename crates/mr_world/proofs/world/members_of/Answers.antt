@@ -1,0 +1,8 @@
+use Rattle.std.specs.Vec.Iter.{into_iter_items}
+use Rattle.mr_world.proofs.LoopLemmas.{members_more}
+use Rattle.mr_world.proofs.world.members_of.Goals as goal
+
+pub loop-spec-preserved : goal.loop-spec-preserved
+loop-spec-preserved g c =
+    rw c.in_ok-push.ensures.items
+    (members_more g.K.Knowledge.form c.args.specs.items c.loop-spec.yielded (into_iter_items c.loop-spec.spec-iterator) (into_iter_items c.next.new.self) c.loop-spec.members.items c.in-Some.spec c.in_ok-member_of.field-0 c.loop-spec.invariant c.in-Some.ensures.steps.0 c.in_ok-member_of.ensures)

@@ -1,0 +1,80 @@
+-- a world as contracts see it
+use Rattle.std.specs.Prelude.{ℕ, ◌==◌, if◌then◌else◌, Option, Some, None, List, find, slice_set}
+use Rattle.std.specs.List.{position_or_len}
+use Rattle.std.specs.Option.{option_map}
+use Rattle.mr_replica.specs.State.{State}
+use Rattle.mr_wire.specs.Frames.{Question, Sent}
+use Rattle.mr_wire.specs.declared.frame.Receipt.{Receipt}
+use Rattle.mr_world.specs.Pool.{PoolList, questions_in, sents_in, receipts_in}
+use Rattle.mr_world.specs.World.{Port, World}
+use Rattle.mr_world.specs.declared.event.Subscriber.{Subscriber}
+use Rattle.mr_world.specs.declared.event.Subscriber.TheVariants.{Indexer, Notifier}
+use Rattle.mr_world.specs.declared.answered.Answered.{Answered}
+
+-- a replica with the ports to its two subscribers
+pub record MemberView (K : Type 0) : Type 0 where
+  pub replica : State K
+  pub indexer : Port
+  pub notifier : Port
+
+-- The members in the order in which they were made; the three pools, the newest first; and each event so far with its answer, the oldest first.
+pub record WorldView (K : Type 0) : Type 0 where
+  pub members : List (MemberView K)
+  pub asks : List Question
+  pub records : List Sent
+  pub receipts : List Receipt
+  pub answers : List Answered
+
+module _ {K : Type 0} where
+  -- the world of these members, of what these frames are, and of these answers
+  abbrev pub world_view : List (MemberView K) → PoolList → List Answered → WorldView K
+  world_view members pools answers = record {
+    members = members;
+    asks = questions_in pools.asks.frames;
+    records = sents_in pools.records.frames;
+    receipts = receipts_in pools.receipts.frames;
+    answers = answers;
+  }
+
+  -- the member whose replica has this id
+  abbrev pub member_at : List (MemberView K) → ℕ → Option (MemberView K)
+  member_at members r = find (λ m. m.replica.id == r) members
+
+  -- the members with another in its place
+  abbrev pub with_member : List (MemberView K) → ℕ → MemberView K → List (MemberView K)
+  with_member members r new = slice_set members (position_or_len (λ m. m.replica.id == r) members) new
+
+  -- the replica of this id
+  abbrev pub replica_at : List (MemberView K) → ℕ → Option (State K)
+  replica_at members r = option_map (λ m. m.replica) (member_at members r)
+
+  -- the port to a subscriber
+  abbrev pub port_of : MemberView K → Subscriber → Port
+  port_of m Indexer = m.indexer
+  port_of m Notifier = m.notifier
+
+  -- the member with another port to a subscriber
+  abbrev pub with_outlet : MemberView K → Subscriber → Port → MemberView K
+  with_outlet m Indexer port = record m { indexer = port }
+  with_outlet m Notifier port = record m { notifier = port }
+
+  -- ---- as a world over all ids
+
+  -- what was found, or m
+  abbrev pub found_or : MemberView K → Option (MemberView K) → MemberView K
+  found_or m None = m
+  found_or m (Some n) = n
+
+  -- the port of that number, or the third
+  abbrev pub port_numbered : MemberView K → Port → ℕ → Port
+  port_numbered m third u = if u == 0 then m.indexer else (if u == 1 then m.notifier else third)
+
+  -- The world of these members and pools: an id of no member has an unused one, and so has a subscriber who is no one.
+  abbrev pub world_of : (unused : ℕ → MemberView K) → (third : Port) → WorldView K → World K
+  world_of unused third w = record {
+    replicas = λ r. (found_or (unused r) (member_at w.members r)).replica;
+    asks = w.asks;
+    records = w.records;
+    receipts = w.receipts;
+    ports = λ r u. port_numbered (found_or (unused r) (member_at w.members r)) third u;
+  }

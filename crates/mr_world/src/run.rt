@@ -1,0 +1,152 @@
+//! Runs of a world.
+ghost use Rattle.std.specs.Prelude.{◌≡◌, ◌==◌, ◌<◌, IfOk, IfErr, OnOk, Some, vec_len, vec_capacity};
+ghost use Rattle.std.specs.List.{position};
+ghost use Rattle.mr_world.specs.Event.{replica_of};
+ghost use Rattle.mr_world.specs.Given.{HasPlaces, KeepsFrames};
+ghost use Rattle.mr_world.specs.Task.{AreFrames, IsTask};
+ghost use Rattle.mr_world.specs.Kept.{world_view};
+ghost use Rattle.mr_world.specs.Run.{Meets};
+
+use crate::answered::Answered;
+use crate::event::Event;
+use crate::fault::WorldFault;
+use crate::member::Member;
+use crate::pools::Pools;
+use crate::task::{Task, task_of};
+use crate::world::{World, place_of};
+use mr_forms::Knowledge;
+use std::alloc::{AllocError, Global};
+
+/// A world that stopped at one of the events that it was given.
+#[derive(Drop)]
+pub struct Stopped<K: Knowledge> {
+    /// The world after the events before that one.
+    pub world: World<K>,
+    /// The event's place among those that were given, from 0.
+    pub at: usize,
+    /// Why it stopped.
+    pub fault: WorldFault,
+}
+
+impl<K: Knowledge> World<K> {
+    ghost use Rattle.mr_world.specs.Run.{Meets, Leads, StopsAt};
+    ghost use Rattle.mr_world.specs.Promise.{HasHeadline, HoldsSoundly, KeepsAll, HasCleanRetired, HoldsAsSeen, GivesTrueRecords, GivesTrueReceipts};
+
+    /// Lets these events happen, one after the other.
+    ///
+    /// A refusal of a replica, other than for want of memory, is an answer like others and stops
+    /// nothing. The world stops at the first event that can't be answered: `NoSuchReplica` where the
+    /// world has no replica of its id; else `NoSuchFrame` where it names a number that its pool hasn't
+    /// got; `OutOfMemory` otherwise. The events before it stand, and it has changed nothing.
+    ///
+    /// It costs what the replicas' steps cost, the frames of what they give, and for each event a walk
+    /// over the replicas and a copy of what it carries or names.
+    #[tactic(auto, using(crate::proofs::LoopLemmas::events_begin, crate::proofs::LoopLemmas::events_end))]
+    pub fn run(mut self, events: Vec<Event>) -> Result<World<K>, Stopped<K>>
+        ensures ran { IfOk result (Leads K.form self events.items) }
+        ensures headline { IfOk result HasHeadline }
+        ensures sound { IfOk result HoldsSoundly }
+        ensures no_loss { IfOk result KeepsAll }
+        ensures clean { IfOk result HasCleanRetired }
+        ensures as_seen { IfOk result (HoldsAsSeen K.form) }
+        ensures true_records { IfOk result GivesTrueRecords }
+        ensures true_receipts { IfOk result GivesTrueReceipts }
+        ensures stopped_headline { IfErr result (λ stopped. HasHeadline stopped.world) }
+        ensures stopped { IfErr result (λ stopped. StopsAt K.form self events.items stopped.at stopped.fault stopped.world) }
+    {
+        let mut at = 0;
+        for event in events {
+            match self.happen(event) {
+                Ok(()) => at += 1,
+                Err(fault) => {
+                    self.promise();
+                    return Err(Stopped {
+                        world: self,
+                        at,
+                        fault,
+                    });
+                }
+            }
+        }
+        self.promise();
+        Ok(self)
+    }
+}
+
+/// One event: it is answered, or nothing changes.
+pub(crate) fn happen<K: Knowledge>(
+    alloc: Global,
+    members: &mut Vec<Member<K>>,
+    pools: &mut Pools,
+    answers: &mut Vec<Answered>,
+    event: Event,
+) -> Result<(), WorldFault>
+    requires { AreFrames pools.old }
+    ensures meets { Meets K.form (world_view members.old.items pools.old answers.old.items) event result (world_view members.new.items pools.new answers.new.items) }
+    ensures frames { AreFrames pools.new }
+{
+    match place_of(members, event.replica()) {
+        Some(place) => happen_at(alloc, members, place, pools, answers, event),
+        None => Err(WorldFault::NoSuchReplica),
+    }
+}
+
+// One event of the member at this place.
+fn happen_at<K: Knowledge>(
+    alloc: Global,
+    members: &mut Vec<Member<K>>,
+    place: usize,
+    pools: &mut Pools,
+    answers: &mut Vec<Answered>,
+    event: Event,
+) -> Result<(), WorldFault>
+    requires place { position (λ m. m.replica.id == replica_of event) members.old.items ≡ Some place }
+    requires frames { AreFrames pools.old }
+    ensures meets { Meets K.form (world_view members.old.items pools.old answers.old.items) event result (world_view members.new.items pools.new answers.new.items) }
+    ensures frames { AreFrames pools.new }
+{
+    match task_of(alloc, pools, &event) {
+        Ok(task) => do_task(alloc, members, place, pools, answers, event, task),
+        Err(fault) => Err(fault),
+    }
+}
+
+// The event's task. All that may fail comes before the member changes.
+fn do_task<K: Knowledge>(
+    alloc: Global,
+    members: &mut Vec<Member<K>>,
+    place: usize,
+    pools: &mut Pools,
+    answers: &mut Vec<Answered>,
+    event: Event,
+    task: Task,
+) -> Result<(), WorldFault>
+    requires place { position (λ m. m.replica.id == replica_of event) members.old.items ≡ Some place }
+    requires frames { AreFrames pools.old }
+    requires task { IsTask pools.old event task }
+    ensures meets { Meets K.form (world_view members.old.items pools.old answers.old.items) event result (world_view members.new.items pools.new answers.new.items) }
+    ensures frames { AreFrames pools.new }
+{
+    let Ok(()) = reserve_places(pools, answers) else {
+        return Err(WorldFault::OutOfMemory);
+    };
+    let member = &mut members[place];
+    match member.fulfil(alloc, pools, task) {
+        Ok(answer) => {
+            answers.push_reserved(Answered { event, answer });
+            Ok(())
+        }
+        Err(fault) => Err(fault),
+    }
+}
+
+// Makes room for one frame more in each pool, and for one answer more.
+fn reserve_places(pools: &mut Pools, answers: &mut Vec<Answered>) -> Result<(), AllocError>
+    ensures places { OnOk result (HasPlaces pools.new) }
+    ensures room { OnOk result (vec_len answers.new < vec_capacity answers.new) }
+    ensures frames { KeepsFrames pools.old pools.new }
+    ensures answers { answers.new.items ≡ answers.old.items }
+{
+    answers.reserve(1)?;
+    pools.reserve()
+}
