@@ -8,8 +8,6 @@
 #[cfg(test)]
 mod madewith;
 #[cfg(test)]
-mod receiving;
-#[cfg(test)]
 mod replica;
 #[cfg(test)]
 mod script;
