@@ -559,15 +559,3 @@ fn gives_after_retirement(rt: HostRuntime) -> Result<(), Fail> {
     );
     Ok(())
 }
-
-#[test]
-fn ample_memory_for_records(rt: HostRuntime) -> Result<(), Fail> {
-    let alloc = rt.alloc();
-    let mut replica = replica_of(alloc, 99)?;
-    let _opened = answers(alloc, &mut replica, &["create", "0.1", "askall"])?;
-    let draw = event_of(alloc, "next")?.copy(alloc)?;
-    assert_eq!(rt; answer_text(alloc, replica.step(draw))?.as_str(), "0 start");
-    let given = answers(alloc, &mut replica, &["next"; 4])?;
-    assert_eq!(rt; given.as_str(), "; 1 item 0.2; 2 held; 3 know; 4 end");
-    Ok(())
-}
