@@ -4,8 +4,9 @@ use std::alloc::{AllocError, Global};
 
 const ABOUT: &str = "Replicas of a mail collection, driven by scripts.
 
-A replica holds messages, each one revision of an item. A script makes replicas, gives them events, and
-asks what they hold. The code that runs is proved against its contracts.";
+A replica holds messages, each one revision of an item. A script makes replicas, lets them edit and
+tell one another what they have, cut off wherever you like, and asks what they hold. The code that runs
+is proved: no mail is lost, and none is announced twice.";
 
 const AFTER: &str = "Exit status:
   0  the script ran to its end (a replica's refusal is an answer, no fault), or the frame was told
@@ -17,17 +18,37 @@ const RUN_ABOUT: &str = "Runs the script on standard input, line by line, and pr
 Each line is one command; its words are separated by one space. Empty lines and lines that begin
 with # are skipped. A line is run before the next one is waited for, and its answer is written then.";
 
-const RUN_AFTER: &str = "Commands:
-  replica ID LIMIT CAP FILTER                     makes a replica (today there is one)
-  create R LABELS FLAGS DATE FROM SUBJECT         gives replica R a new message
-  edit R BASES LABELS FLAGS DATE FROM SUBJECT     replaces the versions BASES of one item
-  heads R      the versions that R holds and its filter selects
-  pushouts R   the versions that R holds for others, since its filter doesn't select them
-  conflicts R  the items of which R has several heads
-  feed R       what entered (+) and left (-) R's heads, in order of time
-  log R        how many events R has admitted
-  know R       what R knows: items and, behind a space, which versions are known of them
-  show R V     the message of version V, if R holds it
+const RUN_AFTER: &str = "Replicas, before any other command:
+  replica ID LIMIT CAP FILTER   a replica that admits LIMIT events, with ports of CAP places
+
+Events:
+  create R LABELS FLAGS DATE FROM SUBJECT       a new message at replica R
+  edit R BASES LABELS FLAGS DATE FROM SUBJECT   replaces the versions BASES of one item
+  retire R                 R admits nothing more, but goes on telling others
+  pull R                   R opens a session and asks for what it lacks: request Qn
+  answer R Qn              R opens a stream for the one who asks
+  next R N                 R gives the next record of its stream N: record Pn
+  receive R Pn             the record comes to R
+  part R Pn BYTES          only so many bytes of it come
+  cutin R N, cutout R N    R closes its session N, its stream N
+  sync T S, sync T S N     T asks S and takes its records up to the end, or N of them
+  vouch R V                R gives a receipt for V, which is one of its heads: receipt Rn
+  release R Rn             R lets go of the push-outs that the receipt frees
+  offer R S                the next entry of R's feed goes into its port to S
+  take R S                 S, which is indexer or notifier, takes an entry out of its port
+  close R S                the port to S is closed
+
+Questions:
+  heads R        the versions that R holds and its filter selects
+  pushouts R     the versions that R holds for others, since its filter doesn't select them
+  conflicts R    the items of which R has several heads
+  show R V       the message of version V, if R holds it
+  know R         what R knows: items and, behind a space, which versions are known of them
+  feed R         what entered (+) and left (-) R's heads, in order of time
+  log R          how many events R has admitted
+  bytes Qn, bytes Pn, bytes Rn   the frame of a request, a record, a receipt
+  index R LABEL  the versions with that label, by what R's indexer has taken
+  unseen R       how many messages are unseen, by what R's notifier has taken
 
   FILTER is `none`, or clauses joined by ` | `. A clause is `all`, or conditions joined by ` & `:
   label:L, !label:L, flag:F, !flag:F and since:DATE. A message is selected if some clause has all its
@@ -41,20 +62,25 @@ const RUN_AFTER: &str = "Commands:
 Example:
   $ mailrep run <<'END'
   replica 0 1000000 4096 all
+  replica 1 1000000 4096 label:inbox
   create 0 inbox . 2026-01-05 ann Hi
-  edit 0 0.1 inbox,work seen 2026-01-05 ann Hi
-  heads 0
+  sync 1 0
+  heads 1
+  edit 1 0.1 inbox,work seen 2026-01-05 ann Hi
+  sync 0 1
   feed 0
   know 0
-  show 0 0.2
+  show 0 1.1
   edit 0 0.1 inbox . 2026-01-05 ann Hi
   END
   issued 0.1
-  issued 0.2
-  heads 0: 0.2
-  feed 0: +0.1 -0.1 +0.2
-  know 0: all 0:2
-  show 0.2 inbox,work seen 2026-01-05 ann Hi
+  sync 1 from 0: items 1 moveouts 0 finished
+  heads 1: 0.1
+  issued 1.1
+  sync 0 from 1: items 1 moveouts 0 finished
+  feed 0: +0.1 -0.1 +1.1
+  know 0: all 0:1,1:1
+  show 1.1 inbox,work seen 2026-01-05 ann Hi
   refused 3 NotHeld 0.1
 
 Limits:

@@ -57,7 +57,7 @@ any_contained q (y ∷ ys) there = go (Contains-cases y q ys there) (λ rest. an
     go (inr inside) rest = or_right (name_eq q y) (list_any (name_eq q) ys) (rest inside)
 
 -- the listed item of this name
-listed_item : (q : Name) (xs : List Listed) → list_any (name_eq q) (items_of xs) ≡ true → (x : Listed) × (Contains xs x × (q ≡ x.item))
+pub listed_item : (q : Name) (xs : List Listed) → list_any (name_eq q) (items_of xs) ≡ true → (x : Listed) × (Contains xs x × (q ≡ x.item))
 listed_item q [] any = absurd (false≢true any)
 listed_item q (x ∷ xs) any = go (or_cases (name_eq q x.item) (list_any (name_eq q) (items_of xs)) any) (λ there. listed_item q xs there)
   where

@@ -1,7 +1,13 @@
 pub mod NormalLemmas
+pub mod ColumnsLemmas
 pub mod EqualLemmas
 pub mod LimitLemmas
 pub mod GrowLemmas
+pub mod FoldedLemmas
+pub mod KeptLemmas
+pub mod SplitLemmas
+pub mod CountLemmas
+pub mod SplitLimitLemmas
 pub mod PlaceLemmas
 pub mod ItemLemmas
 pub mod RoomLemmas

@@ -6,6 +6,7 @@ use Rattle.mr_concise.specs.declared.column.Hole.{Hole}
 use Rattle.mr_concise.specs.declared.vector.AuthorColumn.{AuthorColumn}
 use Rattle.mr_itemset.specs.declared.knowledge.Listed.{Listed}
 use Rattle.mr_itemset.specs.Shown.{normal_text}
+use Rattle.mr_itemset.specs.Folded.{united, folded}
 
 -- an author's versions up to this one, but for the holes
 abbrev column : ℕ → ℕ → List Hole → AuthorColumn
@@ -31,3 +32,14 @@ groups_by_first_item :
     normal_text (record { all = column 0 4 [] ∷ []; listed = own 1 (column 0 4 [] ∷ column 1 1 [] ∷ []) ∷ own 3 (column 0 9 (record { first = 5; last = 7 } ∷ []) ∷ []) ∷ own 5 (column 0 4 [] ∷ column 1 1 [] ∷ []) ∷ [] })
     ≡ codes "all 0:4; 0.1,0.5 0:4,1:1; 0.3 0:9!5..7"
 groups_by_first_item = rw (decimal_digit 0 (omega arith), decimal_digit 1 (omega arith), decimal_digit 3 (omega arith), decimal_digit 4 (omega arith), decimal_digit 5 (omega arith), decimal_digit 7 (omega arith), decimal_digit 9 (omega arith)) refl
+
+-- 0.3 comes to 0.1: the counter between them is a hole
+united_with_a_hole : united (column 0 1 [] ∷ []) (column 0 3 (record { first = 1; last = 2 } ∷ []) ∷ []) ≡ column 0 3 (record { first = 2; last = 2 } ∷ []) ∷ []
+united_with_a_hole = refl
+
+-- 1.1 comes to all: the item of which it was known is listed no longer, and the other one keeps its own
+folded_into_all :
+    folded (record { all = []; listed = own 1 (column 1 1 [] ∷ []) ∷ own 2 (column 2 1 [] ∷ []) ∷ [] }) (column 1 1 [] ∷ [])
+    ≡ record { all = column 1 1 [] ∷ []; listed = own 2 (column 1 1 [] ∷ column 2 1 [] ∷ []) ∷ [] }
+unfolding folded
+folded_into_all = refl

@@ -7,13 +7,13 @@ ghost use Rattle.mr_itemset.specs.Normal.{normal_known, items_of, IsNormal};
 ghost use Rattle.mr_itemset.specs.ItemForm.{item_form, HasHoleyItem, ListsTooMany};
 ghost use Rattle.mr_itemset.specs.Placed.{HasRoom};
 
-use crate::knowledge::{ItemKnowledge, place};
 use crate::limits::lacks;
+use crate::settled::{Settled, place};
 use mr_concise::{OfSet, Source, would_have_too_many};
 use mr_forms::{FormFault, MAX_ITEMS, VersionSet};
 use mr_version::ItemId;
 
-impl ItemKnowledge {
+impl Settled {
     /// Whether the item is listed. It costs a search.
     pub(crate) fn lists(&self, item: ItemId) -> bool
         ensures { result ≡ list_any (name_eq item) (items_of self.now.listed) }
@@ -35,7 +35,7 @@ impl ItemKnowledge {
     }
 
     /// Whether the versions may be listed for the item. It allocates nothing.
-    fn has_room<S: VersionSet>(&self, item: ItemId, set: &S) -> bool
+    pub(crate) fn has_room<S: VersionSet>(&self, item: ItemId, set: &S) -> bool
         ensures yes { result ≡ true → HasRoom self.now item (S.has set.now) }
         ensures no { result ≡ false → ListsTooMany (with_below (normal_known self.now) item (S.has set.now)) }
         ensures normal { IsNormal self.now }
@@ -66,7 +66,11 @@ impl ItemKnowledge {
     }
 
     /// Adds all versions of a set, of any form, for the item, and nothing else.
-    pub fn learn_below<S: VersionSet>(&mut self, item: ItemId, set: &S) -> Result<(), FormFault>
+    pub(crate) fn learn_below<S: VersionSet>(
+        &mut self,
+        item: ItemId,
+        set: &S,
+    ) -> Result<(), FormFault>
         ensures ok { OnOk result (AreSame (normal_known self.new) (with_below (normal_known self.old) item (S.has set.now))) }
         ensures holes { IsErrOf result FormFault.TooManyHoles ↔ HasHoleyItem (with_below (normal_known self.old) item (S.has set.now)) }
         ensures items { IsErrOf result FormFault.TooManyItems ↔ IsOnlyOverItems item_form (with_below (normal_known self.old) item (S.has set.now)) }

@@ -11,8 +11,7 @@ ghost use Rattle.mr_itemset.specs.ItemForm.{item_form, HasHoleyItem, ListsTooMan
 ghost use Rattle.mr_itemset.specs.Each.{with_each, CountsNew};
 
 use crate::knowledge::ItemKnowledge;
-use crate::limits::lacks;
-use mr_concise::OfSet;
+use crate::settled::Settled;
 use mr_forms::{FormFault, MAX_ITEMS, VersionSet};
 use mr_version::ItemId;
 use std::alloc::AllocError;
@@ -48,7 +47,7 @@ impl ItemKnowledge {
         ensures { (result ≡ true) ↔ HasHoleyItem (with_each (normal_known self.now) items.now (S.has set.now)) }
     {
         for item in items {
-            if self.would_be_holey_at(*item, &OfSet { set }) {
+            if self.would_be_holey_at(*item, set) {
                 return true;
             }
         }
@@ -78,7 +77,7 @@ impl ItemKnowledge {
         ensures yes { result ≡ true → (set : Versions) → ¬ ListsTooMany (with_each (normal_known self.now) items.now set) }
         ensures no { result ≡ false → (set : Versions) → Lacks (vector_has self.now.all) set → ListsTooMany (with_each (normal_known self.now) items.now set) }
     {
-        let room = MAX_ITEMS - self.listed().len();
+        let room = MAX_ITEMS - self.listed_count();
         if items.len() <= room {
             return true;
         }
@@ -86,17 +85,11 @@ impl ItemKnowledge {
     }
 
     /// The knowledge with the versions for each of the items.
-    fn with_each<S: VersionSet>(
-        &self,
-        items: &[ItemId],
-        set: &S,
-    ) -> Result<ItemKnowledge, AllocError>
+    fn with_each<S: VersionSet>(&self, items: &[ItemId], set: &S) -> Result<Settled, AllocError>
         requires { HasValue item_form (with_each (normal_known self.now) items.now (S.has set.now)) }
         ensures { IfOk result (λ k. AreSame (normal_known k) (with_each (normal_known self.now) items.now (S.has set.now))) }
     {
-        let Ok(mut grown) = self.copy() else {
-            return Err(AllocError);
-        };
+        let mut grown = self.folded()?;
         for item in items {
             let Ok(()) = grown.learn_below(*item, set) else {
                 return Err(AllocError);
@@ -117,7 +110,7 @@ impl ItemKnowledge {
         ensures items { IsErrOf result FormFault.TooManyItems ↔ IsOnlyOverItems item_form (with_each (normal_known self.old) items.now (S.has set.now)) }
         ensures err { OnErr result (self.new ≡ self.old) }
     {
-        if !lacks(self.for_all(), set) {
+        if !self.all_lack(set) {
             return Ok(());
         }
         if self.would_be_holey_in(items, set) {
@@ -129,7 +122,7 @@ impl ItemKnowledge {
         let Ok(grown) = self.with_each(items, set) else {
             return Err(FormFault::OutOfMemory);
         };
-        *self = grown;
+        *self = ItemKnowledge::of(grown);
         Ok(())
     }
 }

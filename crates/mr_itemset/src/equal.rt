@@ -30,7 +30,7 @@ impl PartialEq for ItemKnowledge {
         ensures value { result ≡ normal_eq self.now other.now }
         ensures same { IsTrue result ↔ AreSame (normal_known self.now) (normal_known other.now) }
     {
-        self.for_all() == other.for_all() && self.listed() == other.listed()
+        self.covers(other) && other.covers(self)
     }
 }
 

@@ -9,7 +9,7 @@ ghost use Rattle.mr_itemset.specs.NormalForm.{AreNormal};
 ghost use Rattle.mr_itemset.specs.Shown.{shown, shown_group, fragments_in, normal_text};
 
 use crate::groups::{Group, groups_of};
-use crate::knowledge::ItemKnowledge;
+use crate::settled::Settled;
 use mr_concise::{ConciseVector, knowledge_text};
 use mr_forms::{FormFault, Fragment, ItemSet, VersionSet};
 
@@ -27,13 +27,13 @@ fn push_groups(
     Ok(())
 }
 
-impl ItemKnowledge {
+impl Settled {
     /// The knowledge as fragments, in normal form. That of all items comes first, and its vector may be
     /// empty. Each listed item is in one of the others, with a vector that has all that all items have,
     /// and more; no two of these have the same vector. They come by their first items, and the items of
     /// each rise. `OutOfMemory` is the only fault. For n listed items it takes about n log n comparisons
     /// of vectors.
-    pub fn fragments(&self) -> Result<Vec<Fragment<ConciseVector>>, FormFault>
+    pub(crate) fn fragments(&self) -> Result<Vec<Fragment<ConciseVector>>, FormFault>
         ensures are { IfOk result (λ fragments. map shown fragments.items ≡ fragments_in self.now) }
         ensures normal { IfOk result (λ fragments. AreNormal (map (part_of vector_has) fragments.items)) }
         ensures ok { IfOk result (λ fragments. AreSame (normal_known self.now) (all_covered vector_has fragments.items)) }
@@ -54,7 +54,7 @@ impl ItemKnowledge {
 
     /// The text of the knowledge: `all` or items with commas between them, a space and the vector's text,
     /// for each fragment, and `; ` between the fragments, as `all 0:4; 0.3,0.5 0:9!2!5..7`.
-    pub fn text(&self) -> Result<String, FormFault>
+    pub(crate) fn text(&self) -> Result<String, FormFault>
         ensures ok { IfOk result (λ text. string_bytes text ≡ normal_text self.now) }
         ensures memory { OnErr result (result ≡ Err FormFault.OutOfMemory) }
     {

@@ -7,7 +7,8 @@ ghost use Rattle.mr_itemset.specs.Normal.{normal_known, IsNormal, IsBefore, HasM
 ghost use Rattle.mr_itemset.specs.ItemForm.{with_all};
 ghost use Rattle.mr_itemset.specs.Growth.{IsGrown, GainsListed};
 
-use crate::knowledge::{ItemKnowledge, Listed};
+use crate::knowledge::Listed;
+use crate::settled::Settled;
 use mr_concise::{ConciseVector, Source};
 use std::alloc::{AllocError, Global};
 
@@ -37,7 +38,7 @@ fn push_grown<A: Source>(
     Ok(())
 }
 
-impl ItemKnowledge {
+impl Settled {
     /// The listed items, with the added versions, of which more is known than of all.
     fn grown_listed<A: Source>(
         &self,
@@ -57,14 +58,15 @@ impl ItemKnowledge {
     }
 
     /// The knowledge with the added versions for all items.
-    pub(crate) fn with_all<A: Source>(&self, added: &A) -> Result<ItemKnowledge, AllocError>
-        ensures { IfOk result (λ k. AreSame (normal_known k) (with_all (normal_known self.now) (A.has added.now))) }
+    pub(crate) fn with_all<A: Source>(&self, added: &A) -> Result<Settled, AllocError>
+        ensures same { IfOk result (λ k. AreSame (normal_known k) (with_all (normal_known self.now) (A.has added.now))) }
+        ensures normal { IfOk result IsNormal }
     {
         let alloc = self.allocator();
         let Ok(all) = ConciseVector::gather(alloc, &(added, self.for_all())) else {
             return Err(AllocError);
         };
         let listed = self.grown_listed(&all, added)?;
-        Ok(ItemKnowledge::from_parts(alloc, all, listed))
+        Ok(Settled::from_parts(alloc, all, listed))
     }
 }

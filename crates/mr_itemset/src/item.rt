@@ -3,7 +3,8 @@ ghost use Rattle.mr_forms.specs.Known.{AreSame, with_below};
 ghost use Rattle.mr_itemset.specs.Normal.{normal_known, IsBefore};
 ghost use Rattle.mr_itemset.specs.Placed.{placed, HasRoom};
 
-use crate::knowledge::{ItemKnowledge, Listed, place};
+use crate::knowledge::Listed;
+use crate::settled::{Settled, place};
 use mr_concise::{ConciseVector, Source};
 use mr_forms::VersionSet;
 use mr_version::ItemId;
@@ -24,7 +25,7 @@ pub(crate) fn put_in(listed: &mut Vec<Listed>, new: Listed) -> Result<(), AllocE
     Ok(())
 }
 
-impl ItemKnowledge {
+impl Settled {
     /// Adds the versions for the item. Where they are no more than all items have nothing changes.
     pub(crate) fn add_to_item<A: Source>(
         &mut self,

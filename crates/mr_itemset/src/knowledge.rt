@@ -1,14 +1,18 @@
-ghost use Rattle.std.specs.Prelude.{◌≡◌, ◌≤◌, true, false, AllPairs, OnOk, OnErr, length};
-ghost use Rattle.std.specs.Ordering.{is_lt};
-ghost use Rattle.std.specs.List.Sorted.{IsPartitionPoint};
-ghost use Rattle.mr_version.specs.Name.{name_cmp};
-ghost use Rattle.mr_itemset.specs.Normal.{Normal, IsBefore, IsNormal, vector_of};
-ghost use Rattle.mr_itemset.specs.Placed.{placed};
+ghost use Rattle.std.specs.Prelude.{◌≡◌, ◌≤◌, true, false, length, IfOk, OnErr};
+ghost use Rattle.mr_version.specs.Name.{name_eq};
+ghost use Rattle.mr_forms.specs.Known.{AreSame, with_below, with_learned, with_learned_below};
+ghost use Rattle.mr_itemset.specs.Normal.{normal_known, IsNormal};
+ghost use Rattle.mr_forms.specs.declared.fragment.TheConstants.{MAX_ITEMS};
+ghost use Rattle.mr_itemset.specs.ItemForm.{with_all, HasHoleyItem};
+ghost use Rattle.mr_itemset.specs.Folded.{IsSplit};
 
-use crate::item::put_in;
+use crate::listing::count_beyond;
+use crate::pending::{leaves_room, try_below};
+use crate::settled::Settled;
 use mr_concise::ConciseVector;
-use mr_version::ItemId;
-use std::alloc::{AllocError, Global};
+use mr_forms::VersionSet;
+use mr_version::{ItemId, Version};
+use std::alloc::AllocError;
 use std::marker::Model;
 
 /// An item of which more is known than of all, with all that is known of it.
@@ -18,90 +22,165 @@ pub struct Listed {
     pub vector: ConciseVector,
 }
 
-/// Which versions are known for which items: a vector for all items, and one for each listed item, by
-/// rising item.
+/// Which versions are known for which items. A version that is learned for all items waits beside what is
+/// settled, so that learning it looks at no listed item. No column of what is settled has more than
+/// `most_holes` holes, so that this number tells where a limit may be near.
 #[derive(Debug, Drop)]
 pub struct ItemKnowledge {
-    alloc: Global,
-    all: ConciseVector,
-    listed: Vec<Listed>,
+    settled: Settled,
+    pending: ConciseVector,
+    most_holes: usize,
 }
 
 impl Model for ItemKnowledge {
-    ghost use Rattle.mr_itemset.specs.Normal.{Normal, normal_code, IsNormal};
+    ghost use Rattle.mr_itemset.specs.Normal.{Normal, normal_code};
+    ghost use Rattle.mr_itemset.specs.Folded.{folded, IsKept};
 
     ghost Value = { Normal };
 
     ghost coded = { normal_code };
 
-    ghost view = { λ k. record { all = k.all; listed = k.listed.items } };
+    ghost view = { λ k. folded k.settled k.pending };
 
-    ghost invariant = { λ k. IsNormal (record { all = k.all; listed = k.listed.items }) };
+    ghost invariant = { λ k. IsKept k.settled k.pending k.most_holes };
 }
 
-/// How many listed items are lower than this one.
-pub(crate) fn place(listed: &[Listed], item: ItemId) -> usize
-    requires { AllPairs IsBefore listed.now }
-    ensures bound { result ≤ length listed.now }
-    ensures place { IsPartitionPoint (λ x. is_lt (name_cmp x.item item) ≡ true) (λ x. is_lt (name_cmp x.item item) ≡ false) listed.now result }
-{
-    listed.partition_point(|x| x.item < item)
+/// What a knowledge is made of: what is settled, and the versions of all items that are not yet in it.
+#[derive(Drop)]
+pub(crate) struct Parts<'a> {
+    pub(crate) settled: &'a Settled,
+    pub(crate) pending: &'a ConciseVector,
 }
 
 impl ItemKnowledge {
-    /// The knowledge with these parts, which are in normal form.
-    pub(crate) fn from_parts(
-        alloc: Global,
-        all: ConciseVector,
-        listed: Vec<Listed>,
-    ) -> ItemKnowledge
-        requires { IsNormal (record { all = all; listed = listed.items }) }
-        ensures { result ≡ record { all = all; listed = listed.items } }
+    /// The same knowledge, with nothing pending. It looks at all listed items.
+    pub(crate) fn of(settled: Settled) -> ItemKnowledge
+        ensures { result ≡ settled }
     {
-        ItemKnowledge { alloc, all, listed }
+        let most_holes = settled.most_holes();
+        let pending = ConciseVector::new(settled.allocator());
+        ItemKnowledge {
+            settled,
+            pending,
+            most_holes,
+        }
     }
 
-    pub(crate) fn allocator(&self) -> Global {
-        self.alloc
+    /// Its parts, lent.
+    pub(crate) fn parts(&self) -> Parts<'_>
+        ensures { IsSplit self.now result.settled.now result.pending.now }
+    {
+        Parts {
+            settled: &self.settled,
+            pending: &self.pending,
+        }
     }
 
-    /// What is known for all items.
-    pub(crate) fn for_all(&self) -> &ConciseVector
-        ensures is { result.now ≡ self.now.all }
+    /// An equal knowledge.
+    pub(crate) fn copy_parts(&self) -> Result<ItemKnowledge, AllocError>
+        ensures { IfOk result (λ k. k ≡ self.now) }
+    {
+        let Ok(settled) = self.settled.copy() else {
+            return Err(AllocError);
+        };
+        let Ok(pending) = self.pending.copy() else {
+            return Err(AllocError);
+        };
+        Ok(ItemKnowledge {
+            settled,
+            pending,
+            most_holes: self.most_holes,
+        })
+    }
+
+    /// Of how many items more is known than of all. It looks at all listed items.
+    pub(crate) fn listed_count(&self) -> usize
+        ensures count { result ≡ length self.now.listed }
+        ensures bound { result ≤ MAX_ITEMS }
         ensures normal { IsNormal self.now }
     {
-        &self.all
+        count_beyond(&self.settled, &self.pending)
     }
 
-    /// The items of which more is known, by rising item.
-    pub(crate) fn listed(&self) -> &[Listed]
-        ensures is { result.now ≡ self.now.listed }
-        ensures normal { IsNormal self.now }
+    /// Whether the holes leave room for a version of all items, without a look at the listed ones.
+    pub(crate) fn has_leeway(&self, version: Version) -> bool
+        ensures { result ≡ true → ¬ HasHoleyItem (with_all (normal_known self.now) (name_eq version)) }
     {
-        self.listed.as_slice()
+        let _counter = version.counter();
+        leaves_room(&self.pending, self.most_holes)
     }
 
-    /// Lists the item with all that is known of it, in place of what was.
-    pub(crate) fn list(&mut self, new: Listed) -> Result<(), AllocError>
-        requires { IsNormal (record { all = self.old.all; listed = placed new self.old.listed }) }
-        ensures ok { OnOk result (self.new ≡ record { all = self.old.all; listed = placed new self.old.listed }) }
+    /// Adds the version for all items, where the holes leave room for it. `false` where they don't.
+    pub(crate) fn try_learn(&mut self, version: Version) -> Result<bool, AllocError>
+        ensures done { IfOk result (λ done. done ≡ true → AreSame (normal_known self.new) (with_all (normal_known self.old) (name_eq version))) }
+        ensures not { IfOk result (λ done. done ≡ false → self.new ≡ self.old) }
         ensures err { OnErr result (self.new ≡ self.old) }
     {
-        put_in(&mut self.listed, new)
+        if !leaves_room(&self.pending, self.most_holes) {
+            return Ok(false);
+        }
+        let _counter = version.counter();
+        let Ok(()) = self.pending.insert(version) else {
+            return Err(AllocError);
+        };
+        let _columns = self.pending.author_columns();
+        Ok(true)
     }
 
-    /// What is known of the item.
-    pub(crate) fn vector_of(&self, item: ItemId) -> &ConciseVector
-        ensures is { result.now ≡ vector_of self.now item }
-        ensures normal { IsNormal self.now }
+    /// Adds the versions for the item, where neither holes nor listed items are near their limit. `false`
+    /// where one may be.
+    pub(crate) fn try_learn_below<S: VersionSet>(
+        &mut self,
+        item: ItemId,
+        set: &S,
+    ) -> Result<bool, AllocError>
+        ensures done { IfOk result (λ done. done ≡ true → AreSame (normal_known self.new) (with_below (normal_known self.old) item (S.has set.now))) }
+        ensures not { IfOk result (λ done. done ≡ false → self.new ≡ self.old) }
+        ensures err { OnErr result (self.new ≡ self.old) }
     {
-        let at = place(&self.listed, item);
-        if at < self.listed.len() {
-            let found = &self.listed[at];
-            if found.item == item {
-                return &found.vector;
-            }
+        let done = try_below(
+            &mut self.settled,
+            &mut self.most_holes,
+            &self.pending,
+            item,
+            set,
+        )?;
+        Ok(done)
+    }
+
+    /// Adds the version for all items and the set for its own, where neither holes nor listed items are near
+    /// their limit. `false` where one may be.
+    pub(crate) fn try_learn_with<S: VersionSet>(
+        &mut self,
+        item: ItemId,
+        version: Version,
+        below: &S,
+    ) -> Result<bool, AllocError>
+        ensures done { IfOk result (λ done. done ≡ true → AreSame (normal_known self.new) (with_learned_below true (normal_known self.old) item version (S.has below.now))) }
+        ensures not { IfOk result (λ done. done ≡ false → self.new ≡ self.old) }
+        ensures err { OnErr result (self.new ≡ self.old) }
+    {
+        if !leaves_room(&self.pending, self.most_holes) {
+            return Ok(false);
         }
-        &self.all
+        let Ok(mut pending) = self.pending.copy() else {
+            return Err(AllocError);
+        };
+        let _counter = version.counter();
+        let Ok(()) = pending.insert(version) else {
+            return Err(AllocError);
+        };
+        let _columns = pending.author_columns();
+        let done = try_below(
+            &mut self.settled,
+            &mut self.most_holes,
+            &pending,
+            item,
+            below,
+        )?;
+        if done {
+            self.pending = pending;
+        }
+        Ok(done)
     }
 }

@@ -5,7 +5,7 @@ ghost use Rattle.mr_itemset.specs.Lacking.{HasCounters, LacksCounter, CoversAuth
 ghost use Rattle.mr_itemset.specs.Normal.{normal_known, IsNormal};
 ghost use Rattle.mr_itemset.specs.ItemForm.{HasHoleyItem, with_all};
 
-use crate::knowledge::ItemKnowledge;
+use crate::settled::Settled;
 use mr_concise::{Source, would_have_too_many};
 use mr_forms::{Run, VersionSet};
 use mr_version::Author;
@@ -50,7 +50,7 @@ pub(crate) fn lacks<A: Source, S: VersionSet>(source: &A, set: &S) -> bool
     false
 }
 
-impl ItemKnowledge {
+impl Settled {
     /// Whether some vector would have too many holes, once these versions are known for all items. It
     /// allocates nothing.
     pub(crate) fn would_be_holey<A: Source>(&self, added: &A) -> bool

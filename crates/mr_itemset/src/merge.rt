@@ -20,10 +20,7 @@ impl ItemKnowledge {
         if self.would_be_holey(&OfSet { set }) {
             return Err(FormFault::TooManyHoles);
         }
-        let Ok(grown) = self.with_all(&OfSet { set }) else {
-            return Err(FormFault::OutOfMemory);
-        };
-        *self = grown;
+        self.settle_all(&OfSet { set })?;
         Ok(())
     }
 

@@ -1,5 +1,5 @@
 -- Worked examples that the definitions of a frame's lines have to meet.
-use Rattle.std.proofs.Common.{◌≡◌, true, false, refl}
+use Rattle.std.proofs.Common.{true, false, refl}
 use Rattle.std.specs.Prelude.{codes}
 use Rattle.std.specs.Fmt.{digits}
 use Rattle.mr_wire.specs.Reading.{run_at}

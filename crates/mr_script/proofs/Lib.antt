@@ -1,13 +1,15 @@
+pub mod Answering
 pub mod Counted
-pub mod Cut
-pub mod Decimal
+pub mod Cuts
+pub mod Following
 pub mod LineLemmas
 pub mod Lines
-pub mod ListLemmas
-pub mod Opening
-pub mod Readings
+pub mod OneEvent
+pub mod Rounds
 pub mod RunLemmas
 pub mod SoFar
-pub mod WordLemmas
+pub mod TakenLemmas
 mod FrameLemmas
 mod FrameRows
+mod AnswerRows
+mod TakenRows

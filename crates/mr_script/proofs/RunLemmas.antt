@@ -2,7 +2,7 @@
 use Rattle.std.proofs.Common.{◌≡◌, ◌+◌, ◌-◌, ◌<◌, ◌≤◌, ℕ, List, [], length, Option, Some, None, Ok, Err, inl, inr, refl, arith}
 use Rattle.std.specs.Io.BufRead.{take_through, drop_through}
 use Rattle.mr_forms.specs.Known.{Form}
-use Rattle.mr_script.specs.declared.fault.LineFault.{LineFault}
+use Rattle.mr_command.specs.declared.fault.LineFault.{LineFault}
 use Rattle.mr_script.specs.declared.fault.ScriptFault.TheVariants.{Line}
 use Rattle.mr_script.specs.declared.source.SourceFault.{SourceFault}
 use Rattle.mr_script.specs.declared.source.SourceFault.TheVariants as source

@@ -5,7 +5,7 @@ use Rattle.std.specs.Io.KnownBytes.{Appends}
 use Rattle.std.specs.declared.string.String.{String}
 use Rattle.std.specs.declared.alloc.Global.{Global}
 use Rattle.mr_forms.specs.Known.{Form}
-use Rattle.mr_script.specs.declared.fault.LineFault.TheVariants.{OutOfMemory}
+use Rattle.mr_command.specs.declared.fault.LineFault.TheVariants.{OutOfMemory}
 use Rattle.mr_script.specs.declared.fault.ScriptFault.{ScriptFault}
 use Rattle.mr_script.specs.declared.fault.ScriptFault.TheVariants.{Line}
 use Rattle.mr_script.specs.Run.{Runs, LeadsTo, NextAnswer, Settles, Prints, Breaks, bare}

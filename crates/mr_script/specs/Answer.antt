@@ -1,31 +1,30 @@
--- the texts of answers, each a line with its line feed
-use Rattle.std.specs.Prelude.{◌≡◌, ℕ, List, [], ◌∷◌, ◌++◌, Option, Some, None, map, filter, codes}
-use Rattle.std.specs.List.{concat, flat_map, join_by}
+-- the lines of a world's answers, of syncs and of frames' bytes, each with its line feed
+use Rattle.std.specs.Prelude.{ℕ, List, [], ◌∷◌, ◌++◌, Option, Some, None, Ok, Err, codes, encode_utf8}
+use Rattle.std.specs.List.{concat}
 use Rattle.std.specs.Fmt.{decimal}
+use Rattle.hex.specs.Hex.{encode_lower}
 use Rattle.mr_version.specs.Name.{Name, name_text}
-use Rattle.mr_mail.specs.Day.{Spells}
-use Rattle.mr_mail.specs.Flag.{flag_name, has_flag, all_flags}
-use Rattle.mr_concise.specs.Fragments.{ConciseFragment, knowledge_text}
 use Rattle.mr_feed.specs.declared.entry.Entry.{Entry}
 use Rattle.mr_feed.specs.declared.entry.Entry.TheVariants.{Added, Dropped}
+use Rattle.mr_wire.specs.declared.frame.Body.{Body}
+use Rattle.mr_wire.specs.declared.frame.Body.TheVariants.{Item, MoveOut}
 use Rattle.mr_replica.specs.declared.event.Reply.{Reply}
-use Rattle.mr_replica.specs.declared.event.Reply.TheVariants.{Issued, Done, Asked, Streaming, Gave, Took, Known, Finished, Vouched}
+use Rattle.mr_replica.specs.declared.event.Reply.TheVariants as reply
 use Rattle.mr_replica.specs.declared.refusal.Refusal.{Refusal}
 use Rattle.mr_replica.specs.declared.refusal.Refusal.TheVariants.{NotHeld, OwnHeadLeft}
 use Rattle.mr_replica.specs.Refusal.{refusal_number, refusal_name}
-use Rattle.mr_madewith.specs.Revision.{Rev}
+use Rattle.mr_world.specs.declared.answer.Answer.{Answer}
+use Rattle.mr_world.specs.declared.answer.Answer.TheVariants.{Stepped, Truncated, Offered, NothingNew, Full, TookEntry, Empty, Closed, Done}
+use Rattle.mr_script.specs.declared.answer.PoolSizes.{PoolSizes}
+use Rattle.mr_command.specs.declared.pool.Pool.{Pool}
+use Rattle.mr_command.specs.declared.command.Sync.{Sync}
+use Rattle.mr_script.specs.declared.sync_line.SyncCounts.{SyncCounts}
+use Rattle.mr_script.specs.declared.sync_line.SyncEnd.{SyncEnd}
+use Rattle.mr_script.specs.declared.sync_line.SyncEnd.TheVariants.{Finished, Cut, Refused}
+use Rattle.mr_command.specs.Pool.{letter_of}
+use Rattle.mr_script.specs.Frame.{joined_words, kind_word, said_words}
 
--- `issued V`, `done`, `asked session N`, `streaming N`, `gave record N`, `took`, `known`, `finished`, or `vouched V`
-abbrev pub reply_text : Reply → List ℕ
-reply_text (Issued version) = codes "issued " ++ name_text version ++ codes "\n"
-reply_text Done = codes "done\n"
-reply_text Took = codes "took\n"
-reply_text Known = codes "known\n"
-reply_text Finished = codes "finished\n"
-reply_text (Streaming stream) = codes "streaming " ++ decimal stream ++ codes "\n"
-reply_text (Asked ask) = codes "asked session " ++ decimal ask.session ++ codes "\n"
-reply_text (Gave sent) = codes "gave record " ++ decimal sent.header.index ++ codes "\n"
-reply_text (Vouched receipt) = codes "vouched " ++ name_text receipt.descent.version ++ codes "\n"
+-- ---- refusals
 
 -- the version that a refusal is about
 abbrev pub named_version : Refusal → Option Name
@@ -39,74 +38,85 @@ spaced None = []
 spaced (Some version) = codes " " ++ name_text version
 
 -- `refused N Name`, and the version that is named
+abbrev pub refusal_text : Refusal → List ℕ
+refusal_text refusal = concat (codes "refused " ∷ decimal (refusal_number refusal) ∷ codes " " ∷ refusal_name refusal ∷ spaced (named_version refusal) ∷ [])
+
+-- the same as a line
 abbrev pub refused_text : Refusal → List ℕ
-refused_text refusal =
-    concat (codes "refused " ∷ decimal (refusal_number refusal) ∷ codes " " ∷ refusal_name refusal ∷ spaced (named_version refusal) ∷ codes "\n" ∷ [])
+refused_text refusal = refusal_text refusal ++ codes "\n"
 
--- each version after a space
-abbrev pub spaced_versions : List Rev → List ℕ
-spaced_versions heads = flat_map (λ r. codes " " ++ name_text r.version) heads
-
--- `heads R:` and the versions
-abbrev pub heads_text : ℕ → List Rev → List ℕ
-heads_text replica heads = codes "heads " ++ decimal replica ++ codes ":" ++ spaced_versions heads ++ codes "\n"
-
--- `pushouts R:` and the versions
-abbrev pub push_outs_text : ℕ → List Rev → List ℕ
-push_outs_text replica push_outs = codes "pushouts " ++ decimal replica ++ codes ":" ++ spaced_versions push_outs ++ codes "\n"
-
--- each item after a space
-abbrev pub spaced_items : List Name → List ℕ
-spaced_items items = flat_map (λ i. codes " " ++ name_text i) items
-
--- `conflicts R:` and the items
-abbrev pub conflicts_text : ℕ → List Name → List ℕ
-conflicts_text replica items = codes "conflicts " ++ decimal replica ++ codes ":" ++ spaced_items items ++ codes "\n"
+-- ---- entries and records
 
 -- `+V` for a version that entered, `-V` for one that left
 abbrev pub entry_text : Entry → List ℕ
-entry_text (Added item version card) = codes " +" ++ name_text version
-entry_text (Dropped item version) = codes " -" ++ name_text version
+entry_text (Added item version card) = codes "+" ++ name_text version
+entry_text (Dropped item version) = codes "-" ++ name_text version
 
--- `feed R:` and each entry after a space
-abbrev pub feed_text : ℕ → List Entry → List ℕ
-feed_text replica entries = codes "feed " ++ decimal replica ++ codes ":" ++ flat_map entry_text entries ++ codes "\n"
+-- what a record says in short: of an item its version alone
+abbrev pub short_words : Body → List (List ℕ)
+short_words (Item revision) = name_text revision.version ∷ []
+short_words (MoveOut line) = name_text line.version ∷ []
+short_words body = said_words body
 
--- `log R: N`
-abbrev pub log_text : ℕ → ℕ → List ℕ
-log_text replica count = concat (codes "log " ∷ decimal replica ∷ codes ": " ∷ decimal count ∷ codes "\n" ∷ [])
+-- a record in short: its kind, and what it says
+abbrev pub record_text : Body → List ℕ
+record_text body = joined_words (kind_word body ∷ short_words body)
 
--- `know R: ` and the text of the fragments
-abbrev pub know_text : ℕ → List ConciseFragment → List ℕ
-know_text replica fragments = concat (codes "know " ∷ decimal replica ∷ codes ": " ∷ knowledge_text fragments ∷ codes "\n" ∷ [])
+-- `gave Pn ` and the record in short
+abbrev pub gave_text : ℕ → Body → List ℕ
+gave_text number body = concat (codes "gave P" ∷ decimal number ∷ codes " " ∷ record_text body ∷ codes "\n" ∷ [])
 
--- texts with a separator between each two, or a dot where there is none
-abbrev pub joined : List ℕ → List (List ℕ) → List ℕ
-joined separator [] = codes "."
-joined separator (text ∷ texts) = join_by (λ t. t) separator (text ∷ texts)
+-- `took +V` or `took -V`
+abbrev pub took_text : Entry → List ℕ
+took_text entry = codes "took " ++ entry_text entry ++ codes "\n"
 
--- the names of a flag byte's flags
-abbrev pub flags_text : ℕ → List ℕ
-flags_text flags = joined (codes "+") (map flag_name (filter (has_flag flags) all_flags))
+-- ---- answers, with the sizes of the pools after them: the size of a pool is the number of its newest frame
 
--- a subject behind what stands before it: after a space, if it is not empty
-abbrev pub subject_text : List ℕ → List ℕ
-subject_text [] = []
-subject_text (b ∷ bs) = codes " " ++ b ∷ bs
+-- what a replica replied
+abbrev pub reply_text : PoolSizes → Reply → List ℕ
+reply_text sizes (reply.Issued version) = codes "issued " ++ name_text version ++ codes "\n"
+reply_text sizes reply.Done = codes "done\n"
+reply_text sizes (reply.Asked ask) = concat (codes "asked Q" ∷ decimal sizes.asks ∷ codes " session " ∷ decimal ask.session ∷ codes "\n" ∷ [])
+reply_text sizes (reply.Streaming stream) = codes "streaming " ++ decimal stream ++ codes "\n"
+reply_text sizes (reply.Gave sent) = gave_text sizes.records sent.body
+reply_text sizes reply.Took = codes "took\n"
+reply_text sizes reply.Known = codes "known\n"
+reply_text sizes reply.Finished = codes "finished\n"
+reply_text sizes (reply.Vouched receipt) = codes "vouched R" ++ decimal sizes.receipts ++ codes "\n"
 
--- `show V LABELS FLAGS DATE FROM`, of these words
-abbrev pub shown_words : Name → List ℕ → List ℕ → List ℕ → List ℕ → List ℕ
-shown_words version labels flags date from =
-    concat (codes "show " ∷ name_text version ∷ codes " " ∷ labels ∷ codes " " ∷ flags ∷ codes " " ∷ date ∷ codes " " ∷ from ∷ [])
+-- what a world answered
+abbrev pub answer_text : PoolSizes → Answer → List ℕ
+answer_text sizes (Stepped (Ok reply)) = reply_text sizes reply
+answer_text sizes (Stepped (Err refusal)) = refused_text refusal
+answer_text sizes Truncated = codes "truncated\n"
+answer_text sizes (Offered entry) = codes "offered\n"
+answer_text sizes NothingNew = codes "nothing new\n"
+answer_text sizes Full = codes "full\n"
+answer_text sizes (TookEntry entry) = took_text entry
+answer_text sizes Empty = codes "empty\n"
+answer_text sizes Closed = codes "closed\n"
+answer_text sizes Done = codes "done\n"
 
--- `show V LABELS FLAGS DATE FROM SUBJECT` of a revision, with this text of its day
-abbrev pub shown_text : Rev → List ℕ → List ℕ
-shown_text r date =
-    shown_words r.version (joined (codes ",") r.message.labels) (flags_text r.message.flags) date r.message.from
-    ++ subject_text r.message.subject ++ codes "\n"
+-- ---- bytes of frames
 
--- the line shows the revision
-pub record Shows (r : Rev) (line : List ℕ) : Type 0 where
-  pub date : List ℕ
-  pub is_date : Spells date r.message.day
-  pub written : line ≡ shown_text r date
+-- `bytes Qn: ` and the bytes, by two lower case digits each
+abbrev pub bytes_text : Pool → ℕ → List ℕ → List ℕ
+bytes_text pool number frame = concat (codes "bytes " ∷ encode_utf8 (letter_of pool) ∷ decimal number ∷ codes ": " ∷ encode_lower frame ∷ codes "\n" ∷ [])
+
+-- ---- syncs
+
+-- how a sync ended
+abbrev pub ending_text : SyncEnd → List ℕ
+ending_text Finished = codes "finished"
+ending_text Cut = codes "cut"
+ending_text (Refused refusal) = refusal_text refusal
+
+-- `sync T from S: items I moveouts M `
+abbrev pub counted_text : Sync → SyncCounts → List ℕ
+counted_text sync counts =
+    concat (codes "sync " ∷ decimal sync.target ∷ codes " from " ∷ decimal sync.source
+    ∷ codes ": items " ∷ decimal counts.items ∷ codes " moveouts " ∷ decimal counts.move_outs ∷ codes " " ∷ [])
+
+-- and then how it ended
+abbrev pub sync_text : Sync → SyncCounts → SyncEnd → List ℕ
+sync_text sync counts ending = counted_text sync counts ++ ending_text ending ++ codes "\n"

@@ -1,30 +1,30 @@
--- faults of a line
+-- faults of a line and of a script
 use Rattle.std.specs.Prelude.{ℕ, ◌≤◌, ⊤}
 use Rattle.std.specs.declared.io.ErrorKind.{ErrorKind}
 use Rattle.std.specs.declared.io.ErrorKind.TheVariants as kinds
-use Rattle.mr_mail.specs.Fault.{fault_number}
-use Rattle.mr_mail.specs.declared.fault.MessageFault.{MessageFault}
-use Rattle.mr_mail.specs.declared.fault.MessageFault.TheVariants.{OutOfMemory as NoMemory}
-use Rattle.mr_filter.specs.declared.fault.FilterFault.{FilterFault}
-use Rattle.mr_filter.specs.declared.fault.FilterFault.TheVariants as filters
-use Rattle.mr_script.specs.declared.fault.LineFault.{LineFault}
-use Rattle.mr_script.specs.declared.fault.LineFault.TheVariants.{OutOfMemory, MessageRefused, BadFilter, TooManyClauses, TooManyLabels}
+use Rattle.mr_world.specs.declared.fault.SpecFault.{SpecFault}
+use Rattle.mr_world.specs.declared.fault.SpecFault.TheVariants as specs
+use Rattle.mr_world.specs.declared.fault.WorldFault.{WorldFault}
+use Rattle.mr_world.specs.declared.fault.WorldFault.TheVariants as stops
+use Rattle.mr_command.specs.declared.fault.LineFault.{LineFault}
+use Rattle.mr_command.specs.declared.fault.LineFault.TheVariants.{BadCapacity, BadLimit, NoSuchFrame, NoSuchReplica, OutOfMemory, SameReplica}
 use Rattle.mr_script.specs.declared.fault.ScriptFault.{ScriptFault}
 use Rattle.mr_script.specs.declared.fault.ScriptFault.TheVariants.{Line, Read, Write, TooLong}
 use Rattle.mr_script.specs.declared.source.SourceFault.{SourceFault}
 use Rattle.mr_script.specs.declared.source.SourceFault.TheVariants as source
 
--- how a script tells that words make no message: out of memory as such, all else by its number
-abbrev pub fault_of_message : MessageFault → LineFault
-fault_of_message NoMemory = OutOfMemory
-fault_of_message fault = MessageRefused (fault_number fault)
+-- why a line ends where its world stopped
+abbrev pub fault_of_stop : WorldFault → LineFault
+fault_of_stop stops.OutOfMemory = OutOfMemory
+fault_of_stop stops.NoSuchReplica = NoSuchReplica
+fault_of_stop stops.NoSuchFrame = NoSuchFrame
 
--- how a script tells that a text is no filter
-abbrev pub fault_of_filter : FilterFault → LineFault
-fault_of_filter filters.OutOfMemory = OutOfMemory
-fault_of_filter (filters.BadFilter place) = BadFilter place
-fault_of_filter filters.TooManyClauses = TooManyClauses
-fault_of_filter filters.TooManyLabels = TooManyLabels
+-- why a line ends where no world can be made
+abbrev pub fault_of_spec : SpecFault → LineFault
+fault_of_spec specs.OutOfMemory = OutOfMemory
+fault_of_spec specs.SameReplica = SameReplica
+fault_of_spec specs.BadLimit = BadLimit
+fault_of_spec specs.NoCapacity = BadCapacity
 
 -- why a reader's error of this kind keeps the next line away
 abbrev pub fault_of_kind : ErrorKind → SourceFault

@@ -1,11 +1,12 @@
 pub mod Answer
-pub mod Command
+pub mod Doing
 pub mod Fault
 pub mod Frame
-pub mod List
-pub mod Number
-pub mod Reading
+pub mod Holding
+pub mod Question
 pub mod Run
 pub mod Script
+pub mod Show
 pub mod Stage
-pub mod Words
+pub mod Sync
+pub mod Taken

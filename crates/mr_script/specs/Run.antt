@@ -1,18 +1,18 @@
 -- a script from its first line to its end
-use Rattle.std.specs.Prelude.{◌≡◌, ◌<◌, ◌≤◌, ◌+◌, ◌-◌, ◌==◌, ℕ, Bool, true, List, [], ◌∷◌, ◌++◌, length, Option, Some, None, Result, Ok, Err, ◌⊎◌, string_bytes}
+use Rattle.std.specs.Prelude.{◌≡◌, ◌<◌, ◌≤◌, ◌+◌, ◌-◌, ◌==◌, ℕ, Bool, true, false, List, [], ◌∷◌, ◌++◌, length, Option, Some, None, Result, Ok, Err, ◌⊎◌, string_bytes}
 use Rattle.std.specs.Str.{IsUtf8}
 use Rattle.std.specs.declared.string.String.{String}
 use Rattle.std.specs.declared.alloc.Global.{Global}
 use Rattle.std.specs.Io.KnownBytes.{Appends}
 use Rattle.mr_forms.specs.Known.{Form}
-use Rattle.mr_script.specs.declared.fault.LineFault.{LineFault}
-use Rattle.mr_script.specs.declared.fault.LineFault.TheVariants.{NotText, OutOfMemory}
+use Rattle.mr_command.specs.declared.fault.LineFault.{LineFault}
+use Rattle.mr_command.specs.declared.fault.LineFault.TheVariants.{NotText, OutOfMemory}
 use Rattle.mr_script.specs.declared.fault.ScriptFault.{ScriptFault}
 use Rattle.mr_script.specs.declared.fault.ScriptFault.TheVariants.{Line, Read, TooLong}
-use Rattle.mr_script.specs.Command.{reads_command}
-use Rattle.mr_script.specs.Reading.{Reading, choose, ◌andthen◌}
+use Rattle.mr_command.specs.Command.{reads_command}
+use Rattle.mr_command.specs.declared.command.Command.{Command}
 use Rattle.mr_script.specs.Script.{lines_of, line_text, looked_at}
-use Rattle.mr_script.specs.Stage.{Stage, scene_of, Does}
+use Rattle.mr_script.specs.Stage.{Stage, Stage.opening, scene_of, Does}
 
 -- an empty line and one that begins with `#` are skipped
 abbrev pub is_skipped : List ℕ → Bool
@@ -30,18 +30,18 @@ Breaks number fault = (fault ≡ Read) ⊎ (fault ≡ Line number OutOfMemory)
 
 -- no replica yet
 abbrev pub bare : {K : Type 0} → Stage K
-bare = record { replicas = [] }
+bare = opening []
 
 module _ {K : Type 0} (form : Form K) where
-  -- a line of text is skipped, or it is read as a command and that is done
-  abbrev pub TextDoes : Stage K → List ℕ → Stage K → Reading (List ℕ)
-  TextDoes s text new =
-      choose (is_skipped text) (λ result. (result ≡ Ok []) × (new ≡ s))
-      (reads_command (scene_of s) text andthen λ command. λ result. Does form s command result new)
+  -- A line of text is skipped; or it can't be read as a command, and nothing changes; or it is one, which is done.
+  pub data TextDoes (s : Stage K) (text : List ℕ) : Result (List ℕ) LineFault → Stage K → Type 0 where
+    skipped : is_skipped text ≡ true → TextDoes s text (Ok []) s
+    not_read : {fault : LineFault} → is_skipped text ≡ false → reads_command (scene_of s) text (Err fault) → TextDoes s text (Err fault) s
+    done : (command : Command) {result : Result (List ℕ) LineFault} {new : Stage K} → is_skipped text ≡ false → reads_command (scene_of s) text (Ok command) → Does form s command result new → TextDoes s text result new
 
   -- From s, a line without its line feed prints this, and what is there goes on to new.
   abbrev pub LineDoes : Stage K → List ℕ → Result (List ℕ) LineFault → Stage K → Type 0
-  LineDoes s line result new = (IsUtf8 line × TextDoes s line new result) ⊎ ((¬ IsUtf8 line) × (result ≡ Err NotText))
+  LineDoes s line result new = (IsUtf8 line × TextDoes s line result new) ⊎ ((¬ IsUtf8 line) × (result ≡ Err NotText) × (new ≡ s))
 
   -- From s, with room for so many bytes, these lines print the output and end so. They are numbered from this number on.
   pub data Runs : Stage K → (number room : ℕ) → (lines : List (List ℕ)) → (end : Option ScriptFault) → (output : List ℕ) → Type 0 where

@@ -1,40 +1,117 @@
-//! The texts of answers, each a line with its line feed.
-ghost use Rattle.std.specs.Prelude.{◌≡◌, IfOk, OnOk, ◌++◌, map, codes, string_bytes};
-ghost use Rattle.mr_script.specs.Answer.{reply_text, refused_text, named_version, heads_text, push_outs_text, spaced_versions, conflicts_text, feed_text, log_text, know_text, flags_text, joined, subject_text, shown_words, Shows};
+//! The lines of a world's answers, each with its line feed.
+ghost use Rattle.std.specs.Prelude.{◌≡◌, IfOk, OnOk, ◌++◌, codes, string_bytes};
+ghost use Rattle.mr_version.specs.Name.{name_text};
+ghost use Rattle.mr_script.specs.Answer.{answer_text, reply_text, gave_text, short_words, took_text, entry_text, refused_text, refusal_text, named_version};
+ghost use Rattle.mr_script.specs.Frame.{after_spaces};
 
-use mr_concise::{ConciseVector, knowledge_text};
+use crate::frame_line::{kind_of, push_said};
 use mr_feed::Entry;
-use mr_forms::Fragment;
-use mr_mail::{Flags, Label, Message};
-use mr_replica::{Refusal, Reply, Revision};
-use mr_version::{Author, ItemId, Version};
+use mr_replica::{Refusal, Reply};
+use mr_version::Version;
+use mr_wire::Body;
+use mr_world::Answer;
 use std::alloc::{AllocError, Global};
 
-/// `issued V`: the version that a replica gave to a message; `done`; `asked session N`, of a request;
-/// `streaming N`; `gave record N`, of a record by its index; `took`, `known` or `finished`, of a record; or
-/// `vouched V`, of a receipt.
-pub(crate) fn reply_line(alloc: Global, reply: Reply) -> Result<String, AllocError>
-    ensures { IfOk result (λ line. string_bytes line ≡ reply_text reply) }
+/// How many frames each of a world's pools has. It is the number of the pool's newest frame.
+#[derive(Clone, Copy, Debug, PartialEq, Eq)]
+pub(crate) struct PoolSizes {
+    pub(crate) asks: u64,
+    pub(crate) records: u64,
+    pub(crate) receipts: u64,
+}
+
+/// What is printed of an answer, after which the pools have these sizes: the frame that the answer gave
+/// is the newest of its pool.
+pub(crate) fn answer_line(
+    alloc: Global,
+    sizes: PoolSizes,
+    answer: &Answer,
+) -> Result<String, AllocError>
+    ensures { IfOk result (λ line. string_bytes line ≡ answer_text sizes answer.now) }
+{
+    match answer {
+        Answer::Stepped(Ok(reply)) => reply_line(alloc, sizes, reply),
+        Answer::Stepped(Err(refusal)) => refused_line(alloc, *refusal),
+        Answer::Truncated => String::from_str(alloc, "truncated\n"),
+        Answer::Offered(_) => String::from_str(alloc, "offered\n"),
+        Answer::NothingNew => String::from_str(alloc, "nothing new\n"),
+        Answer::Full => String::from_str(alloc, "full\n"),
+        Answer::TookEntry(entry) => took_line(alloc, entry),
+        Answer::Empty => String::from_str(alloc, "empty\n"),
+        Answer::Closed => String::from_str(alloc, "closed\n"),
+        Answer::Done => String::from_str(alloc, "done\n"),
+    }
+}
+
+/// What is printed of a replica's reply.
+fn reply_line(alloc: Global, sizes: PoolSizes, reply: &Reply) -> Result<String, AllocError>
+    ensures { IfOk result (λ line. string_bytes line ≡ reply_text sizes reply.now) }
 {
     match reply {
         Reply::Issued(version) => format!(in alloc; "issued {version}\n"),
         Reply::Done => String::from_str(alloc, "done\n"),
+        Reply::Asked(ask) => {
+            let (number, session) = (sizes.asks, ask.session());
+            format!(in alloc; "asked Q{number} session {session}\n")
+        }
+        Reply::Streaming(stream) => format!(in alloc; "streaming {stream}\n"),
+        Reply::Gave(record) => gave_line(alloc, sizes.records, record.body()),
         Reply::Took => String::from_str(alloc, "took\n"),
         Reply::Known => String::from_str(alloc, "known\n"),
         Reply::Finished => String::from_str(alloc, "finished\n"),
-        Reply::Streaming(stream) => format!(in alloc; "streaming {stream}\n"),
-        Reply::Asked(ask) => {
-            let session = ask.session();
-            format!(in alloc; "asked session {session}\n")
+        Reply::Vouched(_) => {
+            let number = sizes.receipts;
+            format!(in alloc; "vouched R{number}\n")
         }
-        Reply::Gave(sent) => {
-            let index = sent.header().index;
-            format!(in alloc; "gave record {index}\n")
-        }
-        Reply::Vouched(receipt) => {
-            let version = receipt.descent.version();
-            format!(in alloc; "vouched {version}\n")
-        }
+    }
+}
+
+/// `gave Pn `, and the record in short.
+fn gave_line(alloc: Global, number: u64, body: &Body) -> Result<String, AllocError>
+    ensures { IfOk result (λ line. string_bytes line ≡ gave_text number body.now) }
+{
+    let kind = kind_of(body);
+    let mut line = format!(in alloc; "gave P{number} {kind}")?;
+    push_short(alloc, &mut line, body)?;
+    line.push('\n')?;
+    Ok(line)
+}
+
+/// Adds what a record says in short, each word after a space.
+fn push_short(alloc: Global, line: &mut String, body: &Body) -> Result<(), AllocError>
+    ensures { OnOk result (string_bytes line.new ≡ string_bytes line.old ++ after_spaces (short_words body.now)) }
+{
+    match body {
+        Body::Item(revision) => push_version(line, revision.version()),
+        Body::MoveOut(descent) => push_version(line, descent.version()),
+        _ => push_said(alloc, line, body),
+    }
+}
+
+/// Adds a version after a space.
+fn push_version(line: &mut String, version: Version) -> Result<(), AllocError>
+    ensures { OnOk result (string_bytes line.new ≡ string_bytes line.old ++ codes " " ++ name_text version) }
+{
+    write!(line, " {version}")
+}
+
+/// `took +V` or `took -V`
+fn took_line(alloc: Global, entry: &Entry) -> Result<String, AllocError>
+    ensures { IfOk result (λ line. string_bytes line ≡ took_text entry.now) }
+{
+    let mut line = String::from_str(alloc, "took ")?;
+    push_entry(&mut line, entry)?;
+    line.push('\n')?;
+    Ok(line)
+}
+
+/// Adds `+V` for a version that entered, or `-V` for one that left.
+pub(crate) fn push_entry(line: &mut String, entry: &Entry) -> Result<(), AllocError>
+    ensures { OnOk result (string_bytes line.new ≡ string_bytes line.old ++ entry_text entry.now) }
+{
+    match entry {
+        Entry::Added { version, .. } => write!(line, "+{version}"),
+        Entry::Dropped { version, .. } => write!(line, "-{version}"),
     }
 }
 
@@ -42,10 +119,21 @@ pub(crate) fn reply_line(alloc: Global, reply: Reply) -> Result<String, AllocErr
 pub(crate) fn refused_line(alloc: Global, refusal: Refusal) -> Result<String, AllocError>
     ensures { IfOk result (λ line. string_bytes line ≡ refused_text refusal) }
 {
+    let mut line = String::new(alloc);
+    push_refusal(&mut line, refusal)?;
+    line.push('\n')?;
+    Ok(line)
+}
+
+/// Adds `refused N Name`, and the version that is named.
+pub(crate) fn push_refusal(line: &mut String, refusal: Refusal) -> Result<(), AllocError>
+    ensures { OnOk result (string_bytes line.new ≡ string_bytes line.old ++ refusal_text refusal) }
+{
     let (number, name) = (refusal.number(), refusal.name());
+    write!(line, "refused {number} {name}")?;
     match version_named(&refusal) {
-        Some(version) => format!(in alloc; "refused {number} {name} {version}\n"),
-        None => format!(in alloc; "refused {number} {name}\n"),
+        Some(version) => push_version(line, version),
+        None => Ok(()),
     }
 }
 
@@ -58,190 +146,4 @@ fn version_named(refusal: &Refusal) -> Option<Version>
         Refusal::OwnHeadLeft(version) => Some(*version),
         _ => None,
     }
-}
-
-/// `heads R:` and each version after a space.
-pub(crate) fn heads_line(
-    alloc: Global,
-    replica: Author,
-    heads: &[Revision],
-) -> Result<String, AllocError>
-    ensures { IfOk result (λ line. string_bytes line ≡ heads_text replica heads.now) }
-{
-    with_versions(format!(in alloc; "heads {replica}:")?, heads)
-}
-
-/// `pushouts R:` and each version after a space.
-pub(crate) fn push_outs_line(
-    alloc: Global,
-    replica: Author,
-    push_outs: &[Revision],
-) -> Result<String, AllocError>
-    ensures { IfOk result (λ line. string_bytes line ≡ push_outs_text replica push_outs.now) }
-{
-    with_versions(format!(in alloc; "pushouts {replica}:")?, push_outs)
-}
-
-/// The line goes on with each version after a space, and ends.
-fn with_versions(mut line: String, revisions: &[Revision]) -> Result<String, AllocError>
-    ensures { IfOk result (λ whole. string_bytes whole ≡ string_bytes line ++ spaced_versions revisions.now ++ codes "\n") }
-{
-    for revision in revisions {
-        let version = revision.version();
-        write!(line, " {version}")?;
-    }
-    line.push('\n')?;
-    Ok(line)
-}
-
-/// `conflicts R:` and each item after a space.
-pub(crate) fn conflicts_line(
-    alloc: Global,
-    replica: Author,
-    items: &[ItemId],
-) -> Result<String, AllocError>
-    ensures { IfOk result (λ line. string_bytes line ≡ conflicts_text replica items.now) }
-{
-    let mut line = format!(in alloc; "conflicts {replica}:")?;
-    for item in items {
-        let version = item.creator();
-        write!(line, " {version}")?;
-    }
-    line.push('\n')?;
-    Ok(line)
-}
-
-/// `feed R:` and each entry after a space: `+V` for a version that entered, `-V` for one that left.
-pub(crate) fn feed_line(
-    alloc: Global,
-    replica: Author,
-    entries: &[Entry],
-) -> Result<String, AllocError>
-    ensures { IfOk result (λ line. string_bytes line ≡ feed_text replica entries.now) }
-{
-    let mut line = format!(in alloc; "feed {replica}:")?;
-    for entry in entries {
-        match entry {
-            Entry::Added { version, .. } => write!(line, " +{version}")?,
-            Entry::Dropped { version, .. } => write!(line, " -{version}")?,
-        }
-    }
-    line.push('\n')?;
-    Ok(line)
-}
-
-/// `log R: N`: how many events the replica has admitted.
-pub(crate) fn log_line(alloc: Global, replica: Author, count: usize) -> Result<String, AllocError>
-    ensures { IfOk result (λ line. string_bytes line ≡ log_text replica count) }
-{
-    format!(in alloc; "log {replica}: {count}\n")
-}
-
-/// `know R: ` and the text of the fragments.
-pub(crate) fn know_line(
-    alloc: Global,
-    replica: Author,
-    fragments: &[Fragment<ConciseVector>],
-) -> Result<String, AllocError>
-    ensures { IfOk result (λ line. string_bytes line ≡ know_text replica fragments.now) }
-{
-    let text = knowledge_text(alloc, fragments)?;
-    let text = text.as_str();
-    format!(in alloc; "know {replica}: {text}\n")
-}
-
-/// `not held`
-pub(crate) fn not_held_line(alloc: Global) -> Result<String, AllocError>
-    ensures { IfOk result (λ line. string_bytes line ≡ codes "not held\n") }
-{
-    String::from_str(alloc, "not held\n")
-}
-
-/// `show V LABELS FLAGS DATE FROM SUBJECT`. An empty subject has no space before it, and the body is
-/// not shown.
-pub(crate) fn show_line(alloc: Global, revision: &Revision) -> Result<String, AllocError>
-    ensures { IfOk result (λ line. Shows revision.now (string_bytes line)) }
-{
-    let message = revision.message();
-    let labels = joined_labels(alloc, message.labels())?;
-    let flags = joined_flags(alloc, message.flags())?;
-    let date = message.day().text(alloc)?;
-    let (labels, flags, date) = (labels.as_str(), flags.as_str(), date.as_str());
-    let mut line = show_words(
-        alloc,
-        revision.version(),
-        labels,
-        flags,
-        date,
-        message.from(),
-    )?;
-    push_subject(&mut line, message.subject())?;
-    line.push('\n')?;
-    Ok(line)
-}
-
-/// `show V LABELS FLAGS DATE FROM`
-fn show_words(
-    alloc: Global,
-    version: Version,
-    labels: &str,
-    flags: &str,
-    date: &str,
-    from: &str,
-) -> Result<String, AllocError>
-    ensures { IfOk result (λ line. string_bytes line
-        ≡ shown_words version labels.now flags.now date.now from.now) }
-{
-    format!(in alloc; "show {version} {labels} {flags} {date} {from}")
-}
-
-/// Adds a subject after a space, if it is not empty.
-fn push_subject(line: &mut String, subject: &str) -> Result<(), AllocError>
-    ensures { OnOk result
-        (string_bytes line.new ≡ string_bytes line.old ++ subject_text subject.now) }
-{
-    if subject.is_empty() {
-        return Ok(());
-    }
-    line.push(' ')?;
-    line.push_str(subject)
-}
-
-/// The labels joined by `,`, or a dot where there is none.
-fn joined_labels(alloc: Global, labels: &[Label]) -> Result<String, AllocError>
-    ensures { IfOk result (λ text. string_bytes text ≡ joined (codes ",") labels.now) }
-{
-    let mut texts = Vec::with_capacity(alloc, labels.len())?;
-    for label in labels {
-        texts.push(label.as_str())?;
-    }
-    joined_text(alloc, texts.as_slice(), ",")
-}
-
-/// The names of the flags joined by `+`, or a dot where there is none.
-fn joined_flags(alloc: Global, flags: Flags) -> Result<String, AllocError>
-    ensures { IfOk result (λ text. string_bytes text ≡ flags_text flags) }
-{
-    let set = flags.list(alloc)?;
-    let mut names = Vec::with_capacity(alloc, set.len())?;
-    for flag in &set {
-        names.push(flag.name())?;
-    }
-    joined_text(alloc, names.as_slice(), "+")
-}
-
-/// The texts with the separator between each two, or a dot where there is none.
-fn joined_text(alloc: Global, texts: &[&str], separator: &str) -> Result<String, AllocError>
-    ensures { IfOk result (λ text. string_bytes text
-        ≡ joined separator.now (map (λ t. t.now) texts.now)) }
-{
-    let Some((first, others)) = texts.split_first() else {
-        return String::from_str(alloc, ".");
-    };
-    let mut joined = String::from_str(alloc, first)?;
-    for text in others {
-        joined.push_str(separator)?;
-        joined.push_str(text)?;
-    }
-    Ok(joined)
 }

@@ -51,7 +51,7 @@ fn record_line(alloc: Global, sent: &Record) -> Result<String, AllocError>
 }
 
 /// The first word of a record's line.
-fn kind_of(body: &Body) -> &'static str
+pub(crate) fn kind_of(body: &Body) -> &'static str
     ensures { result.now ≡ kind_word body.now }
 {
     match body {
@@ -76,7 +76,7 @@ fn header_text(alloc: Global, kind: &str, header: Header) -> Result<String, Allo
 }
 
 /// Adds what a record says, each word after a space.
-fn push_said(alloc: Global, line: &mut String, body: &Body) -> Result<(), AllocError>
+pub(crate) fn push_said(alloc: Global, line: &mut String, body: &Body) -> Result<(), AllocError>
     ensures { OnOk result (string_bytes line.new ≡ string_bytes line.old ++ after_spaces (said_words body.now)) }
 {
     match body {

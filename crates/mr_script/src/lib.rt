@@ -1,36 +1,47 @@
-//! Scripts: lines of text that make replicas, give them events and ask what they hold.
+//! Scripts: lines of text that make a world of replicas, let events happen in it and ask what it holds.
 //!
-//! A script is UTF-8 text of at most 16,777,216 bytes. Each line is one command, whose words are
-//! separated by one space; empty lines and lines that begin with `#` are skipped, but counted. The
-//! commands are run one by one as they are read, and each answer is a line of output.
+//! A script is UTF-8 text of at most 16,777,216 bytes. Each line is one command of `mr_command`; empty
+//! lines and lines that begin with `#` are skipped, but counted. Lines that make replicas come first,
+//! and the first other one makes a world of them. The commands are done one by one as they are read,
+//! and each answer is a line of output.
 //!
 //! ```text
 //! replica 0 1000000 4096 all
+//! replica 1 1000000 4096 label:inbox
 //! create 0 inbox . 2026-01-05 ann Hi         issued 0.1
-//! edit 0 0.1 inbox,work seen 2026-01-05 ann Hi   issued 0.2
-//! heads 0                                    heads 0: 0.2
-//! show 0 0.2                                 show 0.2 inbox,work seen 2026-01-05 ann Hi
+//! sync 1 0                                   sync 1 from 0: items 1 moveouts 0 finished
+//! heads 1                                    heads 1: 0.1
+//! show 1 0.1                                 show 0.1 inbox . 2026-01-05 ann Hi
 //! ```
 //!
-//! A replica's refusal is an answer like any other. A line that can't be read as a command ends the
-//! script with a fault that names the line; what the lines before it printed stands.
+//! A replica's refusal is an answer like any other. A line that can't be done ends the script with a
+//! fault that names the line; what the lines before it printed stands. Each event is one of
+//! `World::run`, so what a world promises holds after every line.
 //!
-//! [`frame_text`] is no part of a script: it tells in a line what the bytes of a frame say.
+//! [`Interpreter`] does the lines of a script that come from anywhere; [`run_script`] takes them out of
+//! a reader and writes their answers. [`frame_text`] is no part of a script: it tells in a line what the
+//! bytes of a frame say.
 #![tactic(auto)]
 
 mod answer;
-mod command;
+mod bytes_line;
 mod fault;
 mod frame;
 mod frame_line;
-mod lists;
-mod number;
+mod happening;
+mod holding;
+mod interpreter;
 mod output;
-mod runner;
+mod question;
 mod script;
+mod show;
 mod source;
-mod words;
+mod sync;
+mod sync_line;
+mod taken;
 
-pub use fault::{LineFault, ScriptFault};
+pub use fault::ScriptFault;
 pub use frame::{FrameText, frame_text};
+pub use interpreter::Interpreter;
+pub use mr_command::LineFault;
 pub use script::run_script;

@@ -6,13 +6,11 @@ ghost use Rattle.std.specs.Io.KnownBytes.{Appends};
 ghost use Rattle.std.specs.Io.Take.{take_remaining};
 ghost use Rattle.mr_itemset.specs.ItemForm.{item_form};
 ghost use Rattle.mr_script.specs.Fault.{fault_of_source, NumbersItsLine};
-ghost use Rattle.mr_script.specs.Run.{Breaks, LineDoes, NextAnswer, Prints, Settles, TextDoes, end_of, is_skipped};
+ghost use Rattle.mr_script.specs.Run.{Breaks, NextAnswer, Prints, Settles, end_of};
 ghost use Rattle.mr_script.specs.Script.{Accounts, looked_at};
-ghost use Rattle.mr_script.specs.Stage.{text_of};
 
-use crate::command::Command;
+use crate::interpreter::Interpreter;
 use crate::output::Output;
-use crate::runner::Runner;
 use crate::source::{MAX_SCRIPT_BYTES, Source, SourceFault};
 use crate::{LineFault, ScriptFault};
 use std::alloc::Global;
@@ -60,11 +58,11 @@ fn run_lines<R: Read + Drop, W: Write>(
         (λ script. Prints item_form script (end_of result) (W.contents writer.old) (W.contents writer.new) output.new) }
 {
     let mut source = first_source(alloc, reader)?;
-    let mut runner = Runner::new(alloc);
+    let mut interpreter = Interpreter::new(alloc);
     let mut line = Vec::new(alloc);
     for number in 1..MAX_SCRIPT_BYTES + 2 {
         settle(&source, output, writer)?;
-        let answer = next_answer(alloc, &mut source, &mut runner, &mut line, number)?;
+        let answer = next_answer(&mut source, &mut interpreter, &mut line, number)?;
         let Some(answer) = answer else {
             return Ok(());
         };
@@ -134,9 +132,8 @@ fn write_all<W: Write>(output: &mut Output, writer: &mut W) -> Result<(), Script
 
 /// Takes the next line and runs it, and gives what it prints. There is none at the end.
 fn next_answer<R: Read + Drop>(
-    alloc: Global,
     source: &mut Source<R>,
-    runner: &mut Runner,
+    interpreter: &mut Interpreter,
     line: &mut Vec<u8>,
     number: u64,
 ) -> Result<Option<String>, ScriptFault>
@@ -152,11 +149,11 @@ fn next_answer<R: Read + Drop>(
     ensures line { 1 ≤ number → number ≤ 16777217 → IfErr result NumbersItsLine }
     ensures no_write { result ≢ Err ScriptFault.Write }
     ensures answer { IfSome (reader_remaining (take_remaining R.remaining) source.old.reader) (λ bytes.
-        NextAnswer item_form runner.old number (16777216 - source.old.taken) bytes result runner.new
+        NextAnswer item_form interpreter.old number (16777216 - source.old.taken) bytes result interpreter.new
         (reader_remaining (take_remaining R.remaining) source.new.reader) (16777216 - source.new.taken)) }
 {
     match source.next_line(line) {
-        Ok(true) => match run_line(alloc, runner, line.as_slice()) {
+        Ok(true) => match interpreter.line(line.as_slice()) {
             Ok(answer) => Ok(Some(answer)),
             Err(fault) => Err(ScriptFault::Line {
                 line: number,
@@ -180,35 +177,4 @@ fn source_fault(number: u64, fault: SourceFault) -> ScriptFault
         SourceFault::Read => ScriptFault::Read,
         SourceFault::TooLong => ScriptFault::TooLong,
     }
-}
-
-/// Runs one line, whose line feed is cut off, and gives what it prints.
-fn run_line(alloc: Global, runner: &mut Runner, line: &[u8]) -> Result<String, LineFault>
-    ensures { LineDoes item_form runner.old line.now (text_of result) runner.new }
-{
-    match str::from_utf8(line) {
-        Ok(text) => run_text(alloc, runner, text),
-        Err(_) => Err(LineFault::NotText),
-    }
-}
-
-/// Whether a line is skipped.
-fn is_skipped(text: &str) -> bool
-    ensures { result ≡ is_skipped text.now }
-{
-    match text.as_bytes().first() {
-        Some(byte) => *byte == b'#',
-        None => true,
-    }
-}
-
-/// Runs a line of text.
-fn run_text(alloc: Global, runner: &mut Runner, text: &str) -> Result<String, LineFault>
-    ensures { TextDoes item_form runner.old text.now runner.new (text_of result) }
-{
-    if is_skipped(text) {
-        return Ok(String::new(alloc));
-    }
-    let command = Command::read(alloc, text, runner)?;
-    runner.run(command)
 }

@@ -1,26 +1,18 @@
-//! What no clause says: that calls find memory, and sets whose values were computed elsewhere.
+//! `mr_madewith`: revisions, trails and made-with sets find memory, and holes are limited.
 use mr_concise::{AllOf, ConciseVector};
 use mr_forms::{FormFault, VersionSet};
 use mr_madewith::{Revision, Trail, below_of};
-use mr_mail::{Day, Message};
+use mr_tests_samples::message;
 use mr_version::{Author, ItemId, Version};
 use std::alloc::Global;
 use std::process::Abort;
 use std::test::Fail;
 
-fn message(alloc: Global) -> Result<Message, Fail> {
-    let from = String::from_str(alloc, "ann")?;
-    let subject = String::from_str(alloc, "Hi")?;
-    let labels = Vec::new(alloc);
-    let day = Day::read("2026-01-05")?;
-    Ok(Message::try_new(alloc, from, subject, Vec::new(alloc), labels, 0, day)?)
-}
-
 /// The first version of its item.
 fn created(alloc: Global, version: &str) -> Result<Revision, Fail> {
     let version = Version::read(version)?;
     let item = ItemId::new(version);
-    let message = message(alloc)?;
+    let message = message(alloc, &["inbox"], 0)?;
     Ok(Revision::new(alloc, item, version, ConciseVector::new(alloc), message)?)
 }
 
@@ -35,7 +27,7 @@ fn edited(
     let version = Version::read(version)?;
     assert!(rt; below.contains(item.creator()));
     assert!(rt; !below.contains(version));
-    let message = message(alloc)?;
+    let message = message(alloc, &["inbox"], 0)?;
     Ok(Revision::new(alloc, item, version, below, message)?)
 }
 
@@ -91,56 +83,6 @@ fn ample_memory_for_revisions(rt: HostRuntime) -> Result<(), Fail> {
     assert_copies(&rt, &first)?;
     assert_noted(&rt, rt.alloc(), &first)?;
     assert_below(&rt, rt.alloc(), &[], None, "0.1", "-")
-}
-
-/// The next version of the base's item, whose made-with set has this text. The trail notes it.
-fn next_version(
-    rt: &impl Abort,
-    alloc: Global,
-    trail: &mut Trail,
-    base: &Revision,
-    new: &str,
-    text: &str,
-) -> Result<Revision, Fail> {
-    let last = trail.last(base.item());
-    let below = below_of(alloc, base, last, Version::read(new)?)?;
-    assert_eq!(rt; below.text()?.as_str(), text);
-    let revision = edited(rt, alloc, base.item(), new, below)?;
-    trail.note(&revision)?;
-    Ok(revision)
-}
-
-#[test]
-fn own_column_is_filled(rt: HostRuntime) -> Result<(), Fail> {
-    let mut trail = Trail::new(rt.alloc());
-    let first = created(rt.alloc(), "0.1")?;
-    trail.note(&first)?;
-    let second = next_version(&rt, rt.alloc(), &mut trail, &first, "0.2", "0:1")?;
-    trail.note(&created(rt.alloc(), "0.3")?)?;
-    let fourth = next_version(&rt, rt.alloc(), &mut trail, &second, "0.4", "0:3")?;
-    assert!(rt; fourth.supersedes(Version::read("0.3")?));
-    assert!(rt; !fourth.supersedes(Version::read("0.4")?));
-    Ok(())
-}
-
-#[test]
-fn base_of_another_author(rt: HostRuntime) -> Result<(), Fail> {
-    let alloc = rt.alloc();
-    let item = ItemId::new(Version::read("0.2")?);
-    let base = edited(&rt, alloc, item, "1.5", set_of(alloc, &["0.2", "1.2"])?)?;
-    assert_below(&rt, alloc, &[&base], None, "0.4", "0:3,1:5!1!3..4")
-}
-
-#[test]
-fn trail_keeps_what_left(rt: HostRuntime) -> Result<(), Fail> {
-    let alloc = rt.alloc();
-    let item = ItemId::new(Version::read("0.1")?);
-    let own = edited(&rt, alloc, item, "0.2", set_of(alloc, &["0.1", "2.1"])?)?;
-    let mut trail = Trail::new(alloc);
-    trail.note(&own)?;
-    let base = edited(&rt, alloc, item, "1.1", set_of(alloc, &["0.1"])?)?;
-    assert_below(&rt, alloc, &[&base], trail.last(item), "0.3", "0:2,1:1,2:1")?;
-    assert_below(&rt, alloc, &[&base], None, "0.3", "0:2,1:1")
 }
 
 /// The author's versions 1, 3, 5 and so on, so many of them.

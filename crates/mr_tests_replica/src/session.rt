@@ -137,61 +137,6 @@ fn ample_memory_copy(rt: HostRuntime) -> Result<(), Fail> {
     Ok(())
 }
 
-#[test]
-fn a_partial_stream_keeps_nothing(rt: HostRuntime) -> Result<(), Fail> {
-    let mut sessions = begun(rt.alloc(), Mode::Partial)?;
-    assert_eq!(rt; give(&mut sessions, &held(rt.alloc(), 0)?)?, TAKEN);
-    assert_eq!(rt; kept(&sessions).0, 0);
-    Ok(())
-}
-
-#[test]
-fn a_session_begins_with_a_start(rt: HostRuntime) -> Result<(), Fail> {
-    let mut sessions = Sessions::new(rt.alloc());
-    open(&mut sessions)?;
-    assert_eq!(rt; give(&mut sessions, &end(1, 0, 0)?)?, 13);
-    assert_eq!(rt; give(&mut sessions, &start(1, 0, Mode::Full)?)?, TAKEN);
-    Ok(())
-}
-
-#[test]
-fn two_starts(rt: HostRuntime) -> Result<(), Fail> {
-    let mut sessions = begun(rt.alloc(), Mode::Full)?;
-    assert_eq!(rt; give(&mut sessions, &start(1, 1, Mode::Full)?)?, 14);
-    assert_eq!(rt; give(&mut sessions, &start(1, 0, Mode::Full)?)?, 15);
-    Ok(())
-}
-
-#[test]
-fn records_out_of_turn(rt: HostRuntime) -> Result<(), Fail> {
-    let mut sessions = begun(rt.alloc(), Mode::Full)?;
-    assert_eq!(rt; give(&mut sessions, &end(2, 0, 0)?)?, 14);
-    assert_eq!(rt; give(&mut sessions, &end(1, 0, 1)?)?, 16);
-    Ok(())
-}
-
-#[test]
-fn eight_are_open(rt: HostRuntime) -> Result<(), Fail> {
-    let mut sessions = Sessions::new(rt.alloc());
-    for _ in 0..MAX_OPEN {
-        open(&mut sessions)?;
-    }
-    assert_eq!(rt; sessions.opened(), 8);
-    assert!(rt; sessions.is_full());
-    Ok(())
-}
-
-#[test]
-fn a_closed_one_is_gone(rt: HostRuntime) -> Result<(), Fail> {
-    let mut sessions = begun(rt.alloc(), Mode::Full)?;
-    if sessions.has(1) {
-        sessions.close(1);
-    }
-    assert_eq!(rt; give(&mut sessions, &end(1, 0, 0)?)?, NOT_OPEN);
-    assert_eq!(rt; open(&mut sessions)?, 2);
-    Ok(())
-}
-
 // ---- streams
 
 /// A fragment of all items that has this version.
@@ -344,15 +289,6 @@ fn ample_memory_draw_partial(rt: HostRuntime) -> Result<(), Fail> {
     let mut streams = begun_stream(rt.alloc(), Mode::Partial, "label:inbox", &["0.1"])?;
     let kinds = draws(rt.alloc(), &mut streams, &store, 5)?;
     assert_eq!(rt; kinds.as_str(), "SIME.");
-    Ok(())
-}
-
-#[test]
-fn a_move_out_needs_the_first_version(rt: HostRuntime) -> Result<(), Fail> {
-    let store = two_heads(&rt, rt.alloc())?;
-    let mut streams = begun_stream(rt.alloc(), Mode::Partial, "none", &["0.3"])?;
-    let kinds = draws(rt.alloc(), &mut streams, &store, 3)?;
-    assert_eq!(rt; kinds.as_str(), "SE.");
     Ok(())
 }
 

@@ -1,26 +1,18 @@
-//! Heads and push-outs.
+//! `mr_store`: heads and push-outs find memory.
 use mr_concise::ConciseVector;
-use mr_forms::{Fragment, ItemSet, VersionSet};
+use mr_forms::VersionSet;
 use mr_madewith::Revision;
-use mr_mail::{Day, Message};
 use mr_store::{Part, Store};
+use mr_tests_samples::message;
 use mr_version::{ItemId, Version};
 use std::alloc::Global;
 use std::process::Abort;
 use std::test::Fail;
 
-fn message(alloc: Global) -> Result<Message, Fail> {
-    let from = String::from_str(alloc, "ann")?;
-    let subject = String::from_str(alloc, "Hi")?;
-    let labels = Vec::new(alloc);
-    let day = Day::read("2026-01-05")?;
-    Ok(Message::try_new(alloc, from, subject, Vec::new(alloc), labels, 0, day)?)
-}
-
 /// The first version of its item.
 fn created(alloc: Global, version: &str) -> Result<Revision, Fail> {
     let version = Version::read(version)?;
-    let message = message(alloc)?;
+    let message = message(alloc, &["inbox"], 0)?;
     Ok(Revision::new(
         alloc,
         ItemId::new(version),
@@ -36,7 +28,7 @@ fn edited(rt: &impl Abort, alloc: Global, item: ItemId, version: &str) -> Result
     let below = ConciseVector::from_versions(alloc, &[item.creator()])?;
     assert!(rt; below.contains(item.creator()));
     assert!(rt; !below.contains(version));
-    let message = message(alloc)?;
+    let message = message(alloc, &["inbox"], 0)?;
     Ok(Revision::new(alloc, item, version, below, message)?)
 }
 
@@ -92,14 +84,6 @@ fn check_lists(
     Ok(())
 }
 
-fn vector(alloc: Global, versions: &[&str]) -> Result<ConciseVector, Fail> {
-    let mut set = ConciseVector::new(alloc);
-    for version in versions {
-        set.insert(Version::read(version)?)?;
-    }
-    Ok(set)
-}
-
 #[test]
 fn ample_memory_for_holdings(rt: HostRuntime) -> Result<(), Fail> {
     let store = filled(&rt, rt.alloc())?;
@@ -108,36 +92,3 @@ fn ample_memory_for_holdings(rt: HostRuntime) -> Result<(), Fail> {
     Ok(())
 }
 
-#[test]
-fn what_is_superseded_leaves(rt: HostRuntime) -> Result<(), Fail> {
-    let alloc = rt.alloc();
-    let mut store = filled(&rt, alloc)?;
-    let item = ItemId::new(Version::read("0.1")?);
-    let left = store.drop_below(item, &vector(alloc, &["0.1", "0.2", "1.1", "3.1"])?)?;
-    assert_eq!(rt; versions_text(alloc, &left)?.as_str(), " 1.1");
-    check_lists(&rt, alloc, &store, " 0.2 2.1", "")
-}
-
-#[test]
-fn what_is_not_held_leaves(rt: HostRuntime) -> Result<(), Fail> {
-    let alloc = rt.alloc();
-    let mut store = filled(&rt, alloc)?;
-    let known = [Fragment {
-        items: ItemSet::All,
-        vector: vector(alloc, &["0.2", "1.1", "3.1"])?,
-    }];
-    let held = [vector(alloc, &["0.2"])?];
-    let left = store.drop_unheld(&known, &held)?;
-    assert_eq!(rt; versions_text(alloc, &left)?.as_str(), " 1.1");
-    check_lists(&rt, alloc, &store, " 0.2 2.1", " 3.1")
-}
-
-#[test]
-fn what_is_vouched_for_leaves(rt: HostRuntime) -> Result<(), Fail> {
-    let alloc = rt.alloc();
-    let mut store = filled(&rt, alloc)?;
-    let item = ItemId::new(Version::read("0.1")?);
-    assert!(rt; !store.drop_push_outs(item, Version::read("1.1")?, &vector(alloc, &["2.1"])?));
-    assert!(rt; store.drop_push_outs(item, Version::read("3.1")?, &vector(alloc, &[])?));
-    check_lists(&rt, alloc, &store, " 0.2 1.1 2.1", "")
-}

@@ -1,21 +1,18 @@
 -- What one event comes to: what the code finds and does is what the definitions say.
 use Rattle.std.proofs.Common.{◌≡◌, ◌==◌, ◌++◌, ℕ, Bool, true, false, cond, List, [], ◌∷◌, Option, Some, None, Result, Ok, Err, refl, sym, ap, subst, ◌∙◌}
-use Rattle.std.specs.Prelude.{All, slice_set, is_none, take}
+use Rattle.std.specs.Prelude.{All, slice_set, is_none}
 use Rattle.std.specs.List.{position}
-use Rattle.std.proofs.Common.{get_or}
 use Rattle.std.proofs.lemmas.List.Elements.{All-nil, All-cons, All-append}
 use Rattle.mr_forms.specs.Known.{Form}
 use Rattle.mr_model.specs.Moment.{numbered}
-use Rattle.mr_replica.specs.State.{State}
-use Rattle.mr_wire.specs.declared.frame.Frame.{Frame}
 use Rattle.mr_wire.specs.declared.frame.Frame.TheVariants as frame
 use Rattle.mr_world.specs.Event.{replica_of}
 use Rattle.mr_world.specs.World.{Port}
 use Rattle.mr_world.specs.Given.{IsGivenBy, KeepsFrames, HasMore, Gains}
 use Rattle.mr_world.specs.Happens.{GainsBy, StepsTo, Answers, Fulfils}
 use Rattle.mr_world.specs.Kept.{MemberView, WorldView, world_view, member_at, port_of, with_outlet}
-use Rattle.mr_world.specs.Pool.{PoolList, at_number, IsAskFrame, IsRecordFrame, IsReceiptFrame, GivesFrame, questions_in, sents_in, receipts_in}
-use Rattle.mr_world.specs.Run.{answered, names_no_frame, stop_fault, IsStopFault, ids_of, Happens, Meets, Leads}
+use Rattle.mr_world.specs.Pool.{PoolList, at_number, IsAskFrame, IsRecordFrame, IsReceiptFrame, questions_in, sents_in, receipts_in}
+use Rattle.mr_world.specs.Run.{answered, names_no_frame, stop_fault, Happens, Meets, Leads}
 use Rattle.mr_world.specs.Task.{AreFrames, lacks_frame, IsTask, Finds}
 use Rattle.mr_replica.specs.declared.event.Event.{Event as ReplicaEvent}
 use Rattle.mr_replica.specs.declared.event.Reply.{Reply}

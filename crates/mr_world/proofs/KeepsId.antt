@@ -1,5 +1,5 @@
 -- A step leaves a replica its id.
-use Rattle.std.proofs.Common.{◌≡◌, refl, ap, ◌∙◌, Bool, true, false, Option, Some, None, Result, Ok, Err}
+use Rattle.std.proofs.Common.{◌≡◌, ap, Bool, true, false, Option, Some, None, Result, Ok, Err}
 use Rattle.mr_forms.specs.Known.{Form}
 use Rattle.mr_madewith.specs.Revision.{Rev}
 use Rattle.mr_replica.specs.Forged.{line_of}

@@ -29,7 +29,9 @@ pub mod NormalKeeps
 pub mod ListedKeeps
 pub mod NeverForged
 pub mod Genuine
+pub mod ItemListsMore
 pub mod Replies
+pub mod BySets
 mod RunSteps
 mod RunRow
 mod Rows
@@ -43,4 +45,5 @@ pub mod TaskLemmas
 pub mod SteppedLemmas
 pub mod LoopLemmas
 pub mod MadeLemmas
+pub mod SpecLemmas
 pub mod PromiseLemmas

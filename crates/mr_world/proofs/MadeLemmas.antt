@@ -1,5 +1,5 @@
 -- A world of members to which nothing has happened.
-use Rattle.std.proofs.Common.{◌≡◌, ℕ, List, [], refl, ap, ◌∙◌}
+use Rattle.std.proofs.Common.{◌≡◌, List, [], refl, ap, ◌∙◌}
 use Rattle.std.specs.List.{AllZip}
 use Rattle.mr_forms.specs.Known.{Form}
 use Rattle.mr_world.specs.Kept.{MemberView, world_view}

@@ -1,6 +1,6 @@
 -- A member stands at its place in the list, and one that goes back there changes the world at its id alone.
 use Rattle.std.proofs.Common.{◌≡◌, ◌≢◌, ◌<◌, ◌≤◌, ◌==◌, ◌&&◌, ℕ, zero, suc, Bool, true, false, cond, List, [], ◌∷◌, length, get_or, arith, Option, Some, None, refl, sym, ap, subst, ◌∙◌, eqb-true, eq-eqb}
-use Rattle.std.specs.Prelude.{nat_lt, find, map, slice_set, slice_get, is_none, if◌then◌else◌}
+use Rattle.std.specs.Prelude.{nat_lt, slice_set, slice_get}
 use Rattle.std.specs.List.{position, position_or_len}
 use Rattle.std.proofs.lemmas.Bool.{ltb-true, ltb-false}
 use Rattle.std.proofs.lemmas.List.{set-get_or, map-set}
@@ -11,17 +11,11 @@ use Rattle.std.specs.Option.{option_map}
 use Rattle.mr_model.specs.Moment.{at, at_two}
 use Rattle.mr_replica.specs.State.{State}
 use Rattle.mr_world.specs.World.{Port, World, subscriber_number}
-use Rattle.mr_world.specs.Kept.{MemberView, WorldView, member_at, replica_at, port_of, with_outlet, found_or, port_numbered, world_of}
+use Rattle.mr_world.specs.Kept.{MemberView, member_at, replica_at, port_of, with_outlet, found_or, port_numbered}
 use Rattle.mr_world.specs.Run.{ids_of}
 use Rattle.mr_world.specs.declared.event.Subscriber.{Subscriber}
 use Rattle.mr_world.specs.declared.event.Subscriber.TheVariants.{Indexer, Notifier}
-
-none_but : (b : Bool) → (b ≡ true → ⊥) → b ≡ false
-none_but true h = absurd (h refl)
-none_but false h = refl
-
-pub differs : (m n : ℕ) → m ≢ n → (m == n) ≡ false
-differs m n h = none_but (m == n) (λ e. h (eqb-true m n e))
+use Rattle.mr_world.proofs.Tools.{differs}
 
 none_here : {A : Type 0} (xs : List A) (i : ℕ) → slice_get xs i ≡ None → i < length xs → ⊥
 none_here [] i e lt = omega arith

@@ -1,5 +1,5 @@
 -- One more issue leaves what agrees.
-use Rattle.std.proofs.Common.{◌≡◌, refl, sym, ap, subst, ◌∙◌, ℕ, Bool, ◌||◌, List, [], ◌∷◌, ◌⊎◌, inl, inr, IsTrue, IsFalse, Option, Some}
+use Rattle.std.proofs.Common.{◌≡◌, refl, sym, ap, subst, ◌∙◌, ℕ, ◌≤◌, Bool, true, ◌||◌, List, [], ◌∷◌, ◌⊎◌, inl, inr, IsTrue, IsFalse, Option, Some}
 use Rattle.mr_version.specs.Name.{Name}
 use Rattle.mr_forms.specs.Known.{Pairs}
 use Rattle.mr_concise.specs.declared.vector.AuthorColumn.{AuthorColumn}
@@ -14,16 +14,46 @@ use Rattle.mr_model.proofs.Basics.{false_from, is_path, or_parts, or_right}
 use Rattle.mr_model.proofs.Issues.{IsIssuable, IsIssueList, fresh, item_back, made_issued, made_kept, not_new}
 use Rattle.mr_model.proofs.Sets.{Within}
 use Rattle.mr_replica.specs.Answer.{asked_of}
+use Rattle.mr_session.specs.Session.{is_full_mode}
 use Rattle.mr_session.specs.Stream.{Asked, Stream, claimed}
 use Rattle.mr_wire.specs.Frames.{Question, Sent}
 use Rattle.mr_wire.specs.declared.frame.Body.{Body}
 use Rattle.mr_wire.specs.declared.frame.Body.TheVariants.{Start, Item, MoveOut, Held, Know, End}
 use Rattle.mr_wire.specs.declared.frame.Receipt.{Receipt}
 use Rattle.mr_world.specs.Agrees.{HoldsAs}
-use Rattle.mr_world.specs.Issued.{IsBelow, IsTrueRevision, Shows, message_of}
+use Rattle.mr_world.specs.Issued.{AreOfIssues, IsBelow, IsTrueRevision, Shows, message_of}
 use Rattle.mr_world.specs.Shared.{ReceiptsAgree, SeesAsk, SeesAsks}
-use Rattle.mr_world.specs.Streams.{StreamAgrees}
+use Rattle.mr_world.specs.Streams.{StreamAgrees, left_to_show}
 use Rattle.mr_world.specs.Told.{IsTrueBody, RecordsAgree, told_pairs}
+
+-- What agrees of an open stream, once other issues, another request or another knowledge stand there: what it gave stays.
+pub stream_kept : (issues issues' : List (Issue Mail)) (filters : ℕ → List ClauseParts) (records : List Sent) (given : List Record) (r opened opened' number : ℕ) (ask ask' : Option Ask) (known known' held : Versions) (k : Stream)
+    (a : StreamAgrees issues filters records given r opened number ask known held k) → number ≤ opened' → ask' ≡ Some a.ask → SeesAsk issues' filters a.ask k.asked → AreOfIssues issues' (left_to_show k.held) →
+    (is_full_mode k.mode ≡ true → Shows issues' (λ i v. told_pairs records r number k.next i v || claimed k.know i v) known') → ((i : Name) → AreOfIssues issues' (claimed k.know i)) →
+    StreamAgrees issues' filters records given r opened' number ask' known' held k
+stream_kept issues issues' filters records given r opened opened' number ask ask' known known' held k a old asked sees held_issued knows know_issued = record {
+  old = old;
+  ask = a.ask;
+  asked = asked;
+  sees = sees;
+  covers = a.covers;
+  below_next = a.below_next;
+  begun = a.begun;
+  no_end = a.no_end;
+  starts = a.starts;
+  past = a.past;
+  behind = a.behind;
+  walking = a.walking;
+  showing = a.showing;
+  shows_full = a.shows_full;
+  unbegun = a.unbegun;
+  held = a.held;
+  none_shown = a.none_shown;
+  held_issued = held_issued;
+  knows = knows;
+  know_issued = know_issued;
+  listed = a.listed;
+}
 
 module _ (x : Issue Mail) (e : List (Issue Mail)) (ok : IsIssuable e x) (list : IsIssueList e) where
   pub issued_more : (v : Name) → IsTrue (is_issued e v) → IsTrue (is_issued (x ∷ e) v)
@@ -99,26 +129,6 @@ module _ (x : Issue Mail) (e : List (Issue Mail)) (ok : IsIssuable e x) (list : 
   pub stream_more : (filters : ℕ → List ClauseParts) (records : List Sent) (given : List Record) (r opened number : ℕ) (ask_of : Option Ask) (known_at held_at : Versions) (k : Stream) →
       ((a : Ask) → ask_of ≡ Some a → Within (claims a) (is_issued e)) → Within known_at (is_issued e) →
       StreamAgrees e filters records given r opened number ask_of known_at held_at k → StreamAgrees (x ∷ e) filters records given r opened number ask_of known_at held_at k
-  stream_more filters records given r opened number ask_of known_at held_at k claims_issued within a = record {
-    old = a.old;
-    ask = a.ask;
-    asked = a.asked;
-    sees = ask_more filters a.ask k.asked (claims_issued a.ask a.asked) a.sees;
-    covers = a.covers;
-    below_next = a.below_next;
-    begun = a.begun;
-    no_end = a.no_end;
-    starts = a.starts;
-    past = a.past;
-    behind = a.behind;
-    walking = a.walking;
-    showing = a.showing;
-    shows_full = a.shows_full;
-    unbegun = a.unbegun;
-    held = a.held;
-    none_shown = a.none_shown;
-    held_issued = λ v h. issued_more v (a.held_issued v h);
-    knows = λ q. shows_more (λ i v. told_pairs records r number k.next i v || claimed k.know i v) known_at within (a.knows q);
-    know_issued = λ i v h. issued_more v (a.know_issued i v h);
-    listed = a.listed;
-  }
+  stream_more filters records given r opened number ask_of known_at held_at k claims_issued within a =
+      stream_kept e (x ∷ e) filters records given r opened opened number ask_of ask_of known_at known_at held_at k a a.old a.asked (ask_more filters a.ask k.asked (claims_issued a.ask a.asked) a.sees) (λ v h. issued_more v (a.held_issued v h))
+      (λ full. shows_more (λ i v. told_pairs records r number k.next i v || claimed k.know i v) known_at within (a.knows full)) (λ i v h. issued_more v (a.know_issued i v h))

@@ -1,9 +1,9 @@
 -- What a task does to a member and to the pools is a move of the world.
-use Rattle.std.proofs.Common.{◌≡◌, ◌≢◌, ◌<◌, ◌≤◌, ◌==◌, ◌++◌, ℕ, Bool, true, false, cond, List, [], ◌∷◌, length, Option, Some, None, Result, Ok, Err, refl, sym, ap, subst, ◌∙◌}
-use Rattle.std.specs.Prelude.{All, slice_set, is_none, if◌then◌else◌}
+use Rattle.std.proofs.Common.{◌≡◌, ◌<◌, ◌≤◌, ℕ, List, [], ◌∷◌, length, Option, Some, None, Result, Ok, Err, refl, sym, ap, subst, ◌∙◌}
+use Rattle.std.specs.Prelude.{All, slice_set, is_none}
 use Rattle.std.proofs.lemmas.List.{append-nil}
 use Rattle.mr_forms.specs.Known.{Form}
-use Rattle.mr_model.specs.Moment.{numbered, at, at_two}
+use Rattle.mr_model.specs.Moment.{numbered, at}
 use Rattle.mr_replica.specs.State.{State}
 use Rattle.mr_replica.specs.Step.{Steps}
 use Rattle.mr_replica.specs.declared.event.Event.{Event as ReplicaEvent}
@@ -12,7 +12,6 @@ use Rattle.mr_replica.specs.declared.event.Reply.{Reply}
 use Rattle.mr_replica.specs.declared.event.Reply.TheVariants as reply
 use Rattle.mr_replica.specs.declared.refusal.Refusal.{Refusal}
 use Rattle.mr_wire.specs.Frames.{Question, Sent}
-use Rattle.mr_wire.specs.FrameSpelling.{frame_bytes}
 use Rattle.mr_wire.specs.Grammar.{Spells}
 use Rattle.mr_wire.specs.declared.frame.Frame.{Frame}
 use Rattle.mr_wire.specs.declared.frame.Frame.TheVariants as frame
@@ -21,13 +20,13 @@ use Rattle.mr_world.specs.World.{Port, World, subscriber_number, with_given, wit
 use Rattle.mr_world.specs.Moves.{OnPort, StepsAt, Delivers, DeliversPart, AnswersAsk, Releases, Moves, record_len}
 use Rattle.mr_world.specs.Ports.{Offers, Takes, Closes}
 use Rattle.mr_world.specs.Event.{replica_of}
-use Rattle.mr_world.specs.Pool.{PoolList, at_number, frame_in, questions_in, sents_in, receipts_in, IsAskFrame, IsRecordFrame, IsReceiptFrame, GivesFrame}
+use Rattle.mr_world.specs.Pool.{PoolList, at_number, questions_in, sents_in, receipts_in, IsAskFrame, IsRecordFrame, IsReceiptFrame, GivesFrame}
 use Rattle.mr_world.specs.Given.{IsGivenBy, KeepsFrames, HasMore, Gains}
-use Rattle.mr_world.specs.Kept.{MemberView, WorldView, world_view, member_at, port_of, with_outlet, found_or, port_numbered, world_of}
-use Rattle.mr_world.specs.Task.{AreFrames, HasNumber, lacks, lacks_frame, IsReceiving, IsDelivering, IsAnswering, IsReleasing, IsTask}
-use Rattle.mr_world.specs.Happens.{GainsBy, with_replica, OnOutlet, StepsTo, Answers}
+use Rattle.mr_world.specs.Kept.{MemberView, world_view, port_of, with_outlet, world_of}
+use Rattle.mr_world.specs.Task.{AreFrames, HasNumber, IsReceiving, IsDelivering, IsAnswering, IsReleasing, IsTask}
+use Rattle.mr_world.specs.Happens.{GainsBy, OnOutlet, StepsTo, Answers}
 use Rattle.mr_world.specs.declared.answer.Answer.{Answer}
-use Rattle.mr_world.specs.declared.answer.Answer.TheVariants.{Stepped, Truncated, Offered, NothingNew, Full, TookEntry, Empty, Closed, Done}
+use Rattle.mr_world.specs.declared.answer.Answer.TheVariants.{Stepped, Truncated}
 use Rattle.mr_world.specs.declared.answered.Answered.{Answered}
 use Rattle.mr_world.specs.declared.event.Event.{Event}
 use Rattle.mr_world.specs.declared.event.Event.TheVariants as event

@@ -60,6 +60,7 @@ use Rattle.mr_world.specs.declared.answer.Answer.{Answer}
 use Rattle.mr_world.specs.declared.answer.Answer.TheVariants.{Stepped}
 use Rattle.mr_world.specs.declared.event.Event.TheVariants as event
 use Rattle.mr_world.proofs.AtPlaces.{at_other, same_place, two_other}
+use Rattle.mr_world.proofs.More.{stream_kept}
 use Rattle.mr_world.proofs.Moves.{tables_hold}
 use Rattle.mr_world.proofs.Parts.{parts_none}
 use Rattle.mr_world.proofs.Refines.{Refines, alive, by_change, by_steps}
@@ -152,29 +153,9 @@ session_older records taken opened opened' number k le a = record { old = (let o
 pub stream_older : (issues : List (Issue Mail)) (filters : ℕ → List ClauseParts) (records : List Sent) (given : List Record) (r opened opened' number : ℕ) (ask ask' : Option Ask) (known known' held : Versions) (k : Stream) →
     opened ≤ opened' → ask' ≡ ask → known' ≡ known →
     StreamAgrees issues filters records given r opened number ask known held k → StreamAgrees issues filters records given r opened' number ask' known' held k
-stream_older issues filters records given r opened opened' number ask ask' known known' held k le ea ek a = record {
-  old = (let o = a.old in omega arith);
-  ask = a.ask;
-  asked = ea ∙ a.asked;
-  sees = a.sees;
-  covers = a.covers;
-  below_next = a.below_next;
-  begun = a.begun;
-  no_end = a.no_end;
-  starts = a.starts;
-  past = a.past;
-  behind = a.behind;
-  walking = a.walking;
-  showing = a.showing;
-  shows_full = a.shows_full;
-  unbegun = a.unbegun;
-  held = a.held;
-  none_shown = a.none_shown;
-  held_issued = a.held_issued;
-  knows = λ e. subst (Shows issues (λ i v. told_pairs records r number k.next i v || claimed k.know i v)) (sym ek) (a.knows e);
-  know_issued = a.know_issued;
-  listed = a.listed;
-}
+stream_older issues filters records given r opened opened' number ask ask' known known' held k le ea ek a =
+    stream_kept issues issues filters records given r opened opened' number ask ask' known known' held k a (let o = a.old in omega arith) (ea ∙ a.asked) a.sees a.held_issued
+    (λ full. subst (Shows issues (λ i v. told_pairs records r number k.next i v || claimed k.know i v)) (sym ek) (a.knows full)) a.know_issued
 
 module _ {K : Type 0} (form : Form K) (filters : ℕ → List ClauseParts) (w : World K) (m : MailMoment) (inv : Inv (setting_of filters) m) (a : Agrees form filters w m) where
   -- r's tables and log become others

@@ -1,5 +1,5 @@
 -- What a port gives is what a world answers.
-use Rattle.std.proofs.Common.{◌≡◌, ℕ, true, false, List, [], ◌∷◌, ◌++◌, refl, sym, ap, ◌∙◌}
+use Rattle.std.proofs.Common.{◌≡◌, ℕ, List, [], ◌++◌, refl, sym, ap, ◌∙◌}
 use Rattle.std.specs.Prelude.{◌↔◌, IsTrue, IsFalse}
 use Rattle.mr_feed.specs.PlainPort.{PortView}
 use Rattle.mr_feed.specs.Port.{taken_entries}

@@ -1,8 +1,7 @@
 -- What the frames of a pool are: each is read again as what it spells, and has the number at which it was put.
-use Rattle.std.proofs.Common.{◌≡◌, ◌≢◌, ◌<◌, ◌+◌, ◌-◌, ◌==◌, ℕ, zero, suc, Bool, true, false, cond, List, [], ◌∷◌, ◌++◌, length, Option, Some, None, Ok, refl, sym, ap, subst, ◌∙◌, arith, eqb-true, eq-eqb}
-use Rattle.std.specs.Prelude.{All, slice_get, reverse, is_none, if◌then◌else◌}
+use Rattle.std.proofs.Common.{◌≡◌, ◌≢◌, ◌+◌, ◌-◌, ◌==◌, ℕ, zero, suc, Bool, true, false, cond, List, [], ◌∷◌, ◌++◌, length, Option, Some, None, refl, sym, ap, ◌∙◌, arith, eqb-true, eq-eqb}
+use Rattle.std.specs.Prelude.{All, slice_get, reverse}
 use Rattle.std.specs.List.{filter_map, AllByRecursion}
-use Rattle.std.specs.Option.{option_and_then}
 use Rattle.std.proofs.lemmas.List.{append-nil, reverse-append, reverse-reverse, length-reverse}
 use Rattle.std.proofs.lemmas.List.Elements.{filter_map-append, recursion_from_All}
 use Rattle.mr_model.specs.Moment.{numbered}
@@ -14,15 +13,9 @@ use Rattle.mr_wire.specs.declared.frame.Frame.TheVariants as frame
 use Rattle.mr_wire.specs.declared.frame.Receipt.{Receipt}
 use Rattle.mr_wire.proofs.DecodeLaws.{decoded_again}
 use Rattle.mr_world.specs.Pool.{at_number, found_frame, frame_in, question_of, sent_of, receipt_of, questions_in, sents_in, receipts_in, IsAskFrame, IsRecordFrame, IsReceiptFrame, GivesFrame}
+use Rattle.mr_world.proofs.Tools.{differs}
 
 -- ---- numbers, from the oldest and from the newest
-
-none_but : (b : Bool) → (b ≡ true → ⊥) → b ≡ false
-none_but true h = absurd (h refl)
-none_but false h = refl
-
-differs : (m n : ℕ) → m ≢ n → (m == n) ≡ false
-differs m n h = none_but (m == n) (λ e. h (eqb-true m n e))
 
 module _ {A : Type 0} where
   get_last : (xs : List A) (x : A) → slice_get (xs ++ x ∷ []) (length xs) ≡ Some x
@@ -108,6 +101,14 @@ module _ {A : Type 0} (of : Option Frame → Option A) (wrap : A → Frame) (law
       numbered_oldest (reverse (filter_map value_in frames)) n ∙ ap (λ (xs : List A). at_number xs n) (reverse-reverse (filter_map value_in frames)) in
       rw same (number_values frames n (recursion_from_All IsOne frames h))
 
+  -- each frame spells one of them
+  count_values : (frames : List (List ℕ)) → AllByRecursion IsOne frames → length (filter_map value_in frames) ≡ length frames
+  count_values [] h = refl
+  count_values (bytes ∷ more) h = rw (value_is h.0.0 bytes h.0.1) (ap (λ (n : ℕ). suc n) (count_values more h.1))
+
+  pub counts : (frames : List (List ℕ)) → All IsOne frames → length frames ≡ length (reverse (filter_map value_in frames))
+  counts frames h = sym (length-reverse (filter_map value_in frames) ∙ count_values frames (recursion_from_All IsOne frames h))
+
   -- a frame more is one more of these, the newest
   pub one_more : (frames : List (List ℕ)) (x : A) (bytes : List ℕ) → Spells 2 (wrap x) bytes → reverse (filter_map value_in (frames ++ bytes ∷ [])) ≡ x ∷ reverse (filter_map value_in frames)
   one_more frames x bytes h =
@@ -135,6 +136,18 @@ gives_record frames n h = gives sent_of (λ x. frame.Record x) sent_law frames n
 pub gives_receipt : (frames : List (List ℕ)) (n : ℕ) → All IsReceiptFrame frames → GivesFrame (λ x. frame.Receipt x) (numbered (receipts_in frames) n) (at_number frames n)
 unfolding receipts_in
 gives_receipt frames n h = gives receipt_of (λ x. frame.Receipt x) receipt_law frames n h
+
+pub count_asks : (frames : List (List ℕ)) → All IsAskFrame frames → length frames ≡ length (questions_in frames)
+unfolding questions_in
+count_asks frames h = counts question_of (λ x. frame.Ask x) question_law frames h
+
+pub count_records : (frames : List (List ℕ)) → All IsRecordFrame frames → length frames ≡ length (sents_in frames)
+unfolding sents_in
+count_records frames h = counts sent_of (λ x. frame.Record x) sent_law frames h
+
+pub count_receipts : (frames : List (List ℕ)) → All IsReceiptFrame frames → length frames ≡ length (receipts_in frames)
+unfolding receipts_in
+count_receipts frames h = counts receipt_of (λ x. frame.Receipt x) receipt_law frames h
 
 pub one_more_ask : (frames : List (List ℕ)) (x : Question) (bytes : List ℕ) → Spells 2 (frame.Ask x) bytes → questions_in (frames ++ bytes ∷ []) ≡ x ∷ questions_in frames
 unfolding questions_in

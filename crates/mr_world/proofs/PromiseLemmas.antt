@@ -1,5 +1,5 @@
 -- A world keeps the rules from its first event on, and what holds of it then.
-use Rattle.std.proofs.Common.{◌≡◌, refl, sym, ap, subst, ◌∙◌, ℕ, ◌==◌, false, List, [], ◌∷◌, ◌++◌, find, inl, inr, IsTrue, eqb-true, Option, Some, None}
+use Rattle.std.proofs.Common.{◌≡◌, ◌≢◌, refl, sym, ap, subst, ◌∙◌, ℕ, ◌==◌, false, List, [], ◌∷◌, ◌++◌, inl, inr, eqb-true, Option, Some, None}
 use Rattle.std.specs.Prelude.{Err, Ok, Result}
 use Rattle.std.specs.List.{AllZip}
 use Rattle.std.specs.Option.{option_map, option_map_or}
@@ -10,22 +10,30 @@ use Rattle.mr_model.specs.Changes.{after, change, happens, now}
 use Rattle.mr_model.specs.History.{History}
 use Rattle.mr_model.specs.Moment.{start}
 use Rattle.mr_model.specs.Rules.{In, IsRun}
-use Rattle.mr_model.proofs.Basics.{cases}
+use Rattle.mr_model.proofs.Basics.{cases, in_append}
 use Rattle.mr_model.proofs.Theorem.{headline_holds, is_sound, loses_nothing, run_inv}
 use Rattle.mr_replica.specs.State.{State, new_state}
+use Rattle.mr_replica.specs.declared.refusal.Refusal.TheVariants as refusal
 use Rattle.mr_world.specs.Agrees.{Agrees, HoldingsAgree}
-use Rattle.mr_world.specs.Kept.{MemberView, WorldView, found_or, member_at, port_numbered, replica_at}
+use Rattle.mr_world.specs.Kept.{MemberView, WorldView, found_or, member_at, port_numbered}
+use Rattle.mr_world.specs.ListedItems.{IsGenuine, ListsMore}
+use Rattle.mr_world.specs.Moves.{Moves}
+use Rattle.mr_world.specs.Replies.{AreBySets, IsBySets}
 use Rattle.mr_world.specs.Made.{IsMadeOf, IsMadeWorld}
-use Rattle.mr_world.specs.Promise.{GivesTrueReceipts, GivesTrueRecords, HasCleanRetired, HasHeadline, HoldsAsSeen, HoldsSoundly, KeepsAll, KeepsRules, filters_of, history_of, moment_of, setting_in, unused_member, whole_world}
+use Rattle.mr_world.specs.Promise.{GivesTrueReceipts, GivesTrueRecords, FindsNoneForged, HasCleanRetired, HasHeadline, HoldsAsSeen, HoldsSoundly, KeepsAll, KeepsRules, TellsWhole, filters_of, history_of, moment_of, setting_in, unused_member, whole_world}
 use Rattle.mr_world.specs.Run.{Happens, Leads, Meets, answered}
-use Rattle.mr_world.specs.Runs.{IsFresh, IsFreshWorld, history, history_from, new_port, seen_step}
+use Rattle.mr_world.specs.Runs.{IsFresh, IsFreshWorld, history, history_from, seen_step}
 use Rattle.mr_world.specs.Seen.{MailMoment, setting_of}
-use Rattle.mr_world.specs.World.{Port, World}
+use Rattle.mr_world.specs.World.{new_port}
 use Rattle.mr_world.specs.declared.answer.Answer.{Answer}
+use Rattle.mr_world.specs.declared.answer.Answer.TheVariants.{Stepped}
 use Rattle.mr_world.specs.declared.answered.Answered.{Answered}
 use Rattle.mr_world.specs.declared.event.Event.{Event}
 use Rattle.mr_world.specs.declared.fault.WorldFault.{WorldFault}
 use Rattle.mr_world.specs.declared.spec.Spec.{Spec}
+use Rattle.mr_world.proofs.BySets.{is_by_sets, more_by_sets, none_by_sets}
+use Rattle.mr_world.proofs.Genuine.{fresh_genuine, one_more_genuine}
+use Rattle.mr_world.proofs.Refinement.{refines}
 use Rattle.mr_world.proofs.Tools.{find_in, some_path}
 use Rattle.mr_world.proofs.WholeRuns.{fresh_agrees, one_more}
 
@@ -108,6 +116,9 @@ module _ {K : Type 0} (form : Form K) where
       nothing = nothing;
       knows_nothing = knows;
       agrees = subst (λ (xs : List Answered). Agrees form (filters_of w) (whole_world form nothing w) (now (setting_in w) (history (filters_of w) xs))) (sym made.answers) (fresh_agrees form (filters_of w) (whole_world form nothing w) fresh_world);
+      by_sets = none_by_sets form (filters_of w) w.answers made.answers;
+      genuine = λ lists. subst (λ (xs : List Answered). IsGenuine form (now (setting_in w) (history (filters_of w) xs)).issues (whole_world form nothing w)) (sym made.answers) (fresh_genuine form (filters_of w) (whole_world form nothing w) fresh_world);
+      none_forged = λ lists x i. elim (subst (In x) made.answers i) [ ];
     }
 
   -- ---- an event happens
@@ -116,8 +127,25 @@ module _ {K : Type 0} (form : Form K) where
     abbrev x : Answered
     x = answered e answer
 
+    moves : Moves form (whole_world form k.nothing w) e answer (whole_world form k.nothing w')
+    moves = happens.moves (unused_member form k.nothing) (new_port 1)
+
     step : IsRun (setting_in w) start (history_of w ++ seen_step (moment_of w) x ∷ []) × Agrees form (filters_of w) (whole_world form k.nothing w') (now (setting_in w) (history_of w ++ seen_step (moment_of w) x ∷ []))
-    step = one_more form (filters_of w) (whole_world form k.nothing w) (whole_world form k.nothing w') (history_of w) x k.run k.agrees (happens.moves (unused_member form k.nothing) (new_port 1))
+    step = one_more form (filters_of w) (whole_world form k.nothing w) (whole_world form k.nothing w') (history_of w) x k.run k.agrees moves
+
+    by_sets : IsBySets form (moment_of w) e answer
+    by_sets =
+        let allowed = refines form (filters_of w) (whole_world form k.nothing w) (moment_of w) (run_inv (setting_in w) (history_of w) k.run) k.agrees e answer (whole_world form k.nothing w') moves in
+        is_by_sets form (filters_of w) (whole_world form k.nothing w) (whole_world form k.nothing w') (moment_of w) k.agrees e answer allowed.0 moves
+
+    genuine : ListsMore form → IsGenuine form (now (setting_in w) (history_of w ++ seen_step (moment_of w) x ∷ [])).issues (whole_world form k.nothing w') × (answer ≢ Stepped (Err refusal.Forged))
+    genuine lists = one_more_genuine form (filters_of w) lists (whole_world form k.nothing w) (whole_world form k.nothing w') (history_of w) x k.run k.agrees (k.genuine lists) moves
+
+    none_forged : ListsMore form → FindsNoneForged w'
+    none_forged lists z i = elim (in_append w.answers (x ∷ []) z (subst (In z) happens.answers i)) [
+      | inl old ↦ k.none_forged lists z old
+      | inr new ↦ elim new [ inl same ↦ subst (λ (y : Answered). y.answer ≢ Stepped (Err refusal.Forged)) same (genuine lists).1 | inr none ↦ elim none [ ] ]
+    ]
 
     -- a replica's filter never changes
     same_filters : filters_of w ≡ filters_of w'
@@ -134,6 +162,11 @@ module _ {K : Type 0} (form : Form K) where
       knows_nothing = k.knows_nothing;
       agrees = subst (λ (f : ℕ → List ClauseParts). Agrees form f (whole_world form k.nothing w') (now (setting_of f) (history f w'.answers))) same_filters
           (subst (λ (h : History Mail MailCard). Agrees form (filters_of w) (whole_world form k.nothing w') (now (setting_in w) h)) same_history step.1);
+      by_sets = subst (λ (f : ℕ → List ClauseParts). AreBySets form f w'.answers) same_filters
+          (subst (AreBySets form (filters_of w)) (sym happens.answers) (more_by_sets form (filters_of w) w.answers x k.by_sets by_sets));
+      genuine = λ lists. subst (λ (f : ℕ → List ClauseParts). IsGenuine form (now (setting_of f) (history f w'.answers)).issues (whole_world form k.nothing w')) same_filters
+          (subst (λ (h : History Mail MailCard). IsGenuine form (now (setting_in w) h).issues (whole_world form k.nothing w')) same_history (genuine lists).0);
+      none_forged = none_forged;
     }
 
   -- it is answered, or nothing changes
@@ -166,6 +199,9 @@ module _ {K : Type 0} (form : Form K) where
         there : (o : Option (MemberView K)) → option_map (λ m. m.replica) o ≡ Some s → (found_or (unused_member form k.nothing r) o).replica ≡ s
         there None e = absurd (cc)
         there (Some m) e = some_path m.replica s e
+
+    pub tells_whole : TellsWhole w
+    tells_whole = k.agrees.records.whole
 
     pub true_records : GivesTrueRecords w
     true_records = k.agrees.records.each

@@ -30,12 +30,13 @@ use Rattle.mr_wire.specs.declared.frame.Frame.TheVariants as frame
 use Rattle.mr_world.specs.Agrees.{Agrees}
 use Rattle.mr_world.specs.Issued.{IsTrueLine}
 use Rattle.mr_world.specs.Moves.{Moves}
-use Rattle.mr_world.specs.Replies.{IsTooLong}
+use Rattle.mr_world.specs.Replies.{ClaimsKnown, IsTooLong}
 use Rattle.mr_world.specs.Seen.{MailMoment, seen_body}
 use Rattle.mr_world.specs.Told.{IsTrueBody}
 use Rattle.mr_world.specs.World.{World}
 use Rattle.mr_world.specs.declared.answer.Answer.TheVariants.{Stepped}
 use Rattle.mr_world.specs.declared.event.Event.TheVariants as event
+use Rattle.mr_world.proofs.Opening.{asks_known as asks_no_more}
 use Rattle.mr_world.proofs.Refines.{steps_replied}
 use Rattle.mr_world.proofs.Tools.{some_path}
 
@@ -67,6 +68,18 @@ module _ {K : Type 0} (form : Form K) (filters : ℕ → List ClauseParts) (w w'
         | inl same ↦ inl (λ v issued. same (item_of m.issues v) v ∙ (a.holdings r).knows.same v issued)
         | inr long ↦ inr long
       ]
+
+  pub claims_known : (q : Question) → Moves form w (event.Pull r) (Stepped (Ok (Asked q))) w' → ClaimsKnown form m r q
+  claims_known q move =
+      let step = steps_replied form (w.replicas r) replica.Pull (Asked q) move.1 move.2 in
+      let knows = (a.holdings r).knows in
+      record {
+        no_more = λ v issued h. sym (knows.same v issued) ∙ asks_no_more form (w.replicas r) q step.1.0 (item_of m.issues v) v h;
+        all = elim (asks_all form (w.replicas r) q step.1.0) [
+          | inl same ↦ inl (λ v issued h. same (item_of m.issues v) v ∙ (knows.same v issued ∙ h))
+          | inr long ↦ inr ((w.replicas r).knowledge, knows, long)
+        ];
+      }
 
   -- ---- records
 

@@ -21,8 +21,8 @@ use Rattle.mr_wire.specs.Values.{Piece}
 use Rattle.mr_model.specs.Moment.{numbered}
 use Rattle.mr_world.specs.Moves.{Delivers, StepsAt}
 use Rattle.mr_world.specs.Ports.{with_close, with_offered, with_waiting}
-use Rattle.mr_world.specs.Runs.{IsFreshWorld, Runs, new_port}
-use Rattle.mr_world.specs.World.{Port, World, with_given, with_port, with_replica}
+use Rattle.mr_world.specs.Runs.{IsFreshWorld, Runs}
+use Rattle.mr_world.specs.World.{Port, World, new_port, with_given, with_port, with_replica}
 use Rattle.mr_world.specs.declared.answer.Answer.TheVariants as answer
 use Rattle.mr_world.specs.declared.answered.Answered.{Answered}
 use Rattle.mr_world.specs.declared.event.Event.{Event}

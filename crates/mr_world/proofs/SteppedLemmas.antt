@@ -1,5 +1,5 @@
 -- What a world makes of a replica's step.
-use Rattle.std.proofs.Common.{◌≡◌, ◌≢◌, Option, Some, None, Result, Ok, Err, refl, sym, ap, subst, ◌∙◌}
+use Rattle.std.proofs.Common.{◌≡◌, Option, Some, None, Result, Ok, Err, refl, sym, ap, subst, ◌∙◌}
 use Rattle.mr_forms.specs.Known.{Form}
 use Rattle.mr_replica.specs.State.{State}
 use Rattle.mr_replica.specs.Step.{first_refusal, Answers, Steps}
@@ -13,9 +13,9 @@ use Rattle.mr_world.specs.Kept.{MemberView}
 use Rattle.mr_world.specs.Pool.{PoolList}
 use Rattle.mr_world.specs.Stepped.{IsRefusedBy, StepsIn}
 use Rattle.mr_world.specs.declared.answer.Answer.{Answer}
-use Rattle.mr_world.specs.declared.answer.Answer.TheVariants.{Stepped, Truncated, Offered, NothingNew, Full, TookEntry, Empty, Closed, Done}
+use Rattle.mr_world.specs.declared.answer.Answer.TheVariants.{Stepped}
 use Rattle.mr_world.specs.declared.fault.WorldFault.{WorldFault}
-use Rattle.mr_world.specs.declared.fault.WorldFault.TheVariants.{OutOfMemory, NoSuchReplica, NoSuchFrame}
+use Rattle.mr_world.specs.declared.fault.WorldFault.TheVariants.{OutOfMemory}
 use Rattle.mr_world.specs.declared.pools.Given.{Given}
 use Rattle.mr_world.specs.declared.task.Task.TheVariants as task
 

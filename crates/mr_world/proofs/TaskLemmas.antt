@@ -1,17 +1,17 @@
 -- What is read of a pool's frame is what the frame is.
-use Rattle.std.proofs.Common.{◌≡◌, ◌-◌, ◌==◌, ℕ, zero, suc, Bool, true, false, cond, List, [], ◌∷◌, ◌++◌, length, Option, Some, None, Result, Ok, refl, sym, ap, subst, ◌∙◌}
+use Rattle.std.proofs.Common.{◌≡◌, ◌-◌, ◌==◌, ℕ, zero, suc, Bool, true, false, cond, List, [], ◌∷◌, Some, None, Result, Ok, sym, ap, subst, ◌∙◌}
 use Rattle.std.specs.Prelude.{All, slice_get}
 use Rattle.std.specs.List.{AllByRecursion}
 use Rattle.std.proofs.lemmas.List.Elements.{recursion_from_All}
 use Rattle.mr_replica.specs.declared.event.Event.TheVariants as replica
-use Rattle.mr_wire.specs.Frames.{Question, Sent}
+use Rattle.mr_wire.specs.Frames.{Question}
 use Rattle.mr_wire.specs.Grammar.{Spells}
 use Rattle.mr_wire.specs.declared.fault.WireFault.{WireFault}
 use Rattle.mr_wire.specs.declared.frame.Frame.{Frame}
 use Rattle.mr_wire.specs.declared.frame.Frame.TheVariants as frame
 use Rattle.mr_wire.specs.declared.frame.Receipt.{Receipt}
 use Rattle.mr_world.specs.Pool.{at_number, IsAskFrame, IsRecordFrame, IsReceiptFrame}
-use Rattle.mr_world.specs.Task.{IsReceiving, IsAnswering, IsReleasing}
+use Rattle.mr_world.specs.Task.{IsReceiving}
 use Rattle.mr_world.specs.declared.task.Task.TheVariants as task
 use Rattle.mr_world.proofs.PoolLemmas.{frame_again}
 

@@ -6,7 +6,7 @@ use Rattle.std.specs.Option.{option_map}
 use Rattle.std.proofs.lemmas.Bool.{and_parts}
 use Rattle.mr_model.specs.Moment.{at, numbered}
 use Rattle.mr_model.specs.Rules.{In}
-use Rattle.mr_model.proofs.Basics.{cases}
+use Rattle.mr_model.proofs.Basics.{cases, false_from}
 use Rattle.mr_replica.specs.Refusal.{refused_if, ◌orelse◌}
 use Rattle.mr_replica.specs.declared.refusal.Refusal.{Refusal}
 
@@ -19,6 +19,9 @@ to_true false h = absurd (cc)
 pub from_not : (b : Bool) → IsTrue (not b) → IsFalse b
 from_not true h = sym h
 from_not false h = refl
+
+pub differs : (m n : ℕ) → ¬ (m ≡ n) → IsFalse (m == n)
+differs m n h = false_from (m == n) (λ e. h (eqb-true m n e))
 
 pub or_none : (a : Bool) → (a || false) ≡ a
 or_none true = refl

@@ -17,13 +17,13 @@ use Rattle.mr_session.specs.Table.{empty_table}
 use Rattle.mr_wire.specs.Frames.{Sent}
 use Rattle.mr_world.specs.Agrees.{Agrees, HoldingsAgree, HoldsAs}
 use Rattle.mr_world.specs.Moves.{Moves}
-use Rattle.mr_world.specs.Runs.{IsFresh, IsFreshWorld, Runs, history, history_from, new_port, seen_step}
+use Rattle.mr_world.specs.Runs.{IsFresh, IsFreshWorld, Runs, history, history_from, seen_step}
 use Rattle.mr_world.specs.Seen.{MailMoment, seen_receipt, seen_record, setting_of}
 use Rattle.mr_world.specs.Sessions.{SessionsAgree}
 use Rattle.mr_world.specs.Shared.{PortAgrees, ReceiptsAgree, SeesAsks}
 use Rattle.mr_world.specs.Streams.{StreamsAgree}
 use Rattle.mr_world.specs.Told.{RecordsAgree}
-use Rattle.mr_world.specs.World.{Port, World}
+use Rattle.mr_world.specs.World.{Port, World, new_port}
 use Rattle.mr_world.specs.declared.answered.Answered.{Answered}
 use Rattle.mr_world.proofs.Orders.{none_in_order}
 use Rattle.mr_world.proofs.Refinement.{refines}

@@ -1,10 +1,9 @@
 -- of what a world is made, and what it is then
-use Rattle.std.specs.Prelude.{◌≡◌, ◌==◌, ◌||◌, ℕ, Bool, false, nat_lt, if◌then◌else◌, Option, Some, None, List, [], ◌∷◌}
+use Rattle.std.specs.Prelude.{◌≡◌, ◌==◌, ◌||◌, Bool, false, nat_lt, if◌then◌else◌, Option, Some, None, List, [], ◌∷◌}
 use Rattle.std.specs.List.{list_any, AllZip}
-use Rattle.mr_filter.specs.Filter.{ClauseParts}
 use Rattle.mr_forms.specs.Known.{Form, AreSame}
-use Rattle.mr_replica.specs.State.{State, new_state}
-use Rattle.mr_world.specs.World.{Port}
+use Rattle.mr_replica.specs.State.{new_state}
+use Rattle.mr_world.specs.World.{new_port}
 use Rattle.mr_world.specs.Kept.{MemberView, WorldView}
 use Rattle.mr_world.specs.declared.fault.SpecFault.{SpecFault}
 use Rattle.mr_world.specs.declared.fault.SpecFault.TheVariants.{OutOfMemory, SameReplica, BadLimit, NoCapacity}
@@ -32,10 +31,6 @@ spec_refusal specs =
 abbrev pub IsRefusedBy : Option SpecFault → SpecFault → Type 0
 IsRefusedBy refusal OutOfMemory = refusal ≡ None
 IsRefusedBy refusal fault = refusal ≡ Some fault
-
--- a port through which nothing went
-abbrev pub new_port : (capacity : ℕ) → Port
-new_port capacity = record { view = record { waiting = []; capacity = capacity; closed = false }; offered = 0 }
 
 module _ {K : Type 0} (form : Form K) where
   -- the member was made of this, and nothing has happened to it

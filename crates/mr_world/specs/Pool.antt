@@ -1,5 +1,5 @@
 -- the frames that replicas gave one another, as they are kept
-use Rattle.std.specs.Prelude.{◌≡◌, ◌-◌, ◌==◌, ℕ, if◌then◌else◌, Option, Some, None, List, slice_get, reverse, Result, Ok, Err}
+use Rattle.std.specs.Prelude.{◌-◌, ◌==◌, ℕ, if◌then◌else◌, Option, Some, None, List, slice_get, reverse, Result, Ok, Err}
 use Rattle.std.specs.List.{filter_map}
 use Rattle.mr_wire.specs.Frames.{Question, Sent}
 use Rattle.mr_wire.specs.Decoding.{decoded}

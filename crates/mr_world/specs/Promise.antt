@@ -1,5 +1,5 @@
 -- What a world promises: the history that its answers make, and what holds of it.
-use Rattle.std.specs.Prelude.{◌≡◌, ℕ, false, Option, Some, List, []}
+use Rattle.std.specs.Prelude.{◌≡◌, ◌≢◌, ℕ, false, Some, List, [], Err}
 use Rattle.std.specs.Option.{option_map_or}
 use Rattle.mr_forms.specs.Known.{AreSame, Form}
 use Rattle.mr_filter.specs.Filter.{ClauseParts}
@@ -10,14 +10,21 @@ use Rattle.mr_model.specs.Changes.{now}
 use Rattle.mr_model.specs.Rules.{In, IsRun}
 use Rattle.mr_model.specs.Headline.{Headline, IsSoundHolding, LosesNothing, RetiresClean}
 use Rattle.mr_replica.specs.State.{State, new_state}
+use Rattle.mr_replica.specs.declared.refusal.Refusal.TheVariants.{Forged}
 use Rattle.mr_wire.specs.Frames.{Sent}
-use Rattle.mr_world.specs.World.{World}
-use Rattle.mr_world.specs.Runs.{history, new_port}
+use Rattle.mr_wire.specs.declared.frame.Body.TheVariants.{Start, End}
+use Rattle.mr_wire.specs.declared.frame.Mode.TheVariants.{Full}
+use Rattle.mr_world.specs.World.{World, new_port}
+use Rattle.mr_world.specs.Runs.{history}
 use Rattle.mr_world.specs.Seen.{MailMoment, MailSetting, setting_of}
 use Rattle.mr_world.specs.Agrees.{Agrees, HoldingsAgree}
 use Rattle.mr_world.specs.Shared.{ReceiptsAgree}
-use Rattle.mr_world.specs.Told.{IsTrueBody}
+use Rattle.mr_world.specs.Told.{AreOfOneStream, IsToldWhole, IsTrueBody}
 use Rattle.mr_world.specs.Kept.{MemberView, WorldView, member_at, replica_at, world_of}
+use Rattle.mr_world.specs.ListedItems.{IsGenuine, ListsMore}
+use Rattle.mr_world.specs.Replies.{AreBySets}
+use Rattle.mr_world.specs.declared.answer.Answer.TheVariants.{Stepped}
+use Rattle.mr_world.specs.declared.answered.Answered.{Answered}
 
 module _ {K : Type 0} where
   -- the filter of each replica; an id of none has one that selects nothing
@@ -51,6 +58,20 @@ module _ {K : Type 0} where
   abbrev pub HasCleanRetired : WorldView K → Type 0
   HasCleanRetired w = RetiresClean (moment_of w)
 
+  -- all that happened is what the rules allow
+  abbrev pub FollowsRules : WorldView K → Type 0
+  FollowsRules w = IsRun (setting_in w) start (history_of w)
+
+  -- no record was taken for forged
+  abbrev pub FindsNoneForged : WorldView K → Type 0
+  FindsNoneForged w = (x : Answered) → In x w.answers → x.answer ≢ Stepped (Err Forged)
+
+  -- a full stream that was given to its End told its source's heads, as they were at its first Held record, and its
+  -- source's knowledge, as the stream was opened
+  abbrev pub TellsWhole : WorldView K → Type 0
+  TellsWhole w = (last first : Sent) → In last w.records → In first w.records → AreOfOneStream last first → last.body ≡ End → first.body ≡ Start Full →
+      IsToldWhole (moment_of w).issues w.records (moment_of w).known_at_answer (moment_of w).held_at_draw last
+
   -- what each record of the pool tells is of issues
   abbrev pub GivesTrueRecords : WorldView K → Type 0
   GivesTrueRecords w = (sent : Sent) → In sent w.records → IsTrueBody (moment_of w).issues sent.body
@@ -65,6 +86,10 @@ module _ {K : Type 0} (form : Form K) where
   HoldsAsSeen w = (r : ℕ) (s : State K) → replica_at w.members r ≡ Some s →
       HoldingsAgree form (moment_of w).issues (filters_of w) r ((moment_of w).holding r) ((moment_of w).feed r) ((moment_of w).is_retired r) s
 
+  -- each answer says of versions what the sets of its moment say
+  abbrev pub AnswersBySets : WorldView K → Type 0
+  AnswersBySets w = AreBySets form (filters_of w) w.answers
+
   -- ---- what a world keeps from its first event on
 
   -- a member of a replica that was never made, with a knowledge of nothing
@@ -75,9 +100,13 @@ module _ {K : Type 0} (form : Form K) where
   abbrev pub whole_world : K → WorldView K → World K
   whole_world nothing w = world_of (unused_member nothing) (new_port 1) w
 
-  -- its history is a run of the rules, and it agrees with the moment after it
+  -- Its history is a run of the rules, and it agrees with the moment after it. Each answer was by sets; and where fragments
+  -- list no more items than they have to, all is genuine, and nothing was taken for forged.
   pub record KeepsRules (w : WorldView K) : Type 0 where
-    pub run : IsRun (setting_in w) start (history_of w)
+    pub run : FollowsRules w
     pub nothing : K
     pub knows_nothing : AreSame (form.known nothing) (λ i v. false)
     pub agrees : Agrees form (filters_of w) (whole_world nothing w) (moment_of w)
+    pub by_sets : AnswersBySets w
+    pub genuine : ListsMore form → IsGenuine form (moment_of w).issues (whole_world nothing w)
+    pub none_forged : ListsMore form → FindsNoneForged w

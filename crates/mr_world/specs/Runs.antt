@@ -8,13 +8,9 @@ use Rattle.mr_model.specs.Moment.{start}
 use Rattle.mr_model.specs.Changes.{happens, change}
 use Rattle.mr_replica.specs.State.{State, new_state}
 use Rattle.mr_world.specs.declared.answered.Answered.{Answered}
-use Rattle.mr_world.specs.World.{Port, World}
+use Rattle.mr_world.specs.World.{World, new_port}
 use Rattle.mr_world.specs.Moves.{Moves}
 use Rattle.mr_world.specs.Seen.{MailMoment, setting_of, seen_event, seen_answer}
-
--- a port with so many places, through which nothing went
-abbrev pub new_port : (capacity : ℕ) → Port
-new_port capacity = record { view = record { waiting = []; capacity = capacity; closed = false }; offered = 0 }
 
 -- what a history sees of an event with its answer, at the moment m
 abbrev pub seen_step : MailMoment → Answered → Step Mail MailCard

@@ -1,6 +1,5 @@
 -- what an event of a world asks of its replica, or of one of the replica's ports
-use Rattle.std.specs.Prelude.{◌≡◌, ◌<◌, ◌≤◌, ◌⊎◌, ℕ, Bool, false, true, is_none, All, Option, Some, None, List, length, Result, Ok, Err}
-use Rattle.mr_replica.specs.declared.event.Event.{Event as ReplicaEvent}
+use Rattle.std.specs.Prelude.{◌≡◌, ◌<◌, ◌≤◌, ℕ, Bool, false, true, is_none, All, Some, List, length, Result, Ok, Err}
 use Rattle.mr_replica.specs.declared.event.Event.TheVariants as replica
 use Rattle.mr_wire.specs.Frames.{Question, Sent}
 use Rattle.mr_wire.specs.Grammar.{Spells}

@@ -1,5 +1,5 @@
 -- A world: replicas, all that they gave one another, and ports to their subscribers.
-use Rattle.std.specs.Prelude.{ℕ, List, ◌∷◌, Ok, Result}
+use Rattle.std.specs.Prelude.{ℕ, false, List, [], ◌∷◌, Ok, Result}
 use Rattle.mr_feed.specs.PlainPort.{PortView}
 use Rattle.mr_model.specs.Moment.{at, at_two}
 use Rattle.mr_replica.specs.State.{State}
@@ -20,6 +20,10 @@ subscriber_number Notifier = 1
 pub record Port : Type 0 where
   pub view : PortView
   pub offered : ℕ
+
+-- a port with so many places, through which nothing went
+abbrev pub new_port : (capacity : ℕ) → Port
+new_port capacity = record { view = record { waiting = []; capacity = capacity; closed = false }; offered = 0 }
 
 -- The pools have the newest first, and number what they have from 1, the oldest. An id at which no replica was made has
 -- one to which nothing happens.

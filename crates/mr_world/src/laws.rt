@@ -3,6 +3,7 @@
 //! The functions compute nothing. Each is a law, whose contract is a theorem.
 ghost use Rattle.std.specs.Prelude.{◌≡◌, ◌≢◌, ◌⊎◌, IsTrue, IsFalse, ℕ, List, [], ◌∷◌, ◌++◌, Some, Ok, Err};
 ghost use Rattle.mr_filter.specs.Filter.{ClauseParts};
+ghost use Rattle.mr_itemset.specs.ItemForm.{item_form};
 ghost use Rattle.mr_mail.specs.Mail.{Mail, MailCard};
 ghost use Rattle.mr_model.specs.History.{History};
 ghost use Rattle.mr_model.specs.Moment.{start, known, numbered};
@@ -74,6 +75,12 @@ pub fn never_forged<K: Knowledge>()
         x.answer ≢ Answer.Stepped (Err Refusal.Forged) }
     ensures runs { (filters : ℕ → List ClauseParts) (w w' : World K) (xs : List Answered) (x : Answered) →
         ListsMore K.form → IsFreshWorld K.form filters w → Runs K.form w xs w' → In x xs → x.answer ≢ Answer.Stepped (Err Refusal.Forged) }
+{}
+
+/// Knowledge by sets of items is such a form as `never_forged` wants: where a fragment lists an item, more
+/// is known for it than for all items.
+pub fn item_sets_list_more()
+    ensures { ListsMore item_form }
 {}
 
 /// What the replicas of a world that agrees with a moment reply is what sets say.

@@ -32,6 +32,13 @@ impl Pool {
         }
     }
 
+    /// How many frames there are: the number of the newest.
+    pub fn count(&self) -> u64
+        ensures { result ≡ length self.now.frames }
+    {
+        self.frames.len() as u64
+    }
+
     /// The frame of this number, where there is one.
     pub fn get(&self, number: u64) -> Option<&[u8]>
         ensures { option_copied result ≡ at_number self.now.frames number }

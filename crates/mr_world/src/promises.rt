@@ -11,6 +11,8 @@ ghost use Rattle.mr_world.specs.Made.{IsMadeWorld};
 ghost use Rattle.mr_world.specs.Run.{Happens, Leads};
 ghost use Rattle.mr_world.specs.Promise.{HasHeadline, HoldsSoundly, KeepsAll, HasCleanRetired};
 ghost use Rattle.mr_world.specs.Promise.{HoldsAsSeen, GivesTrueRecords, GivesTrueReceipts, KeepsRules};
+ghost use Rattle.mr_world.specs.Promise.{FollowsRules, AnswersBySets, TellsWhole, FindsNoneForged};
+ghost use Rattle.mr_world.specs.ListedItems.{ListsMore};
 
 use mr_forms::Knowledge;
 
@@ -23,6 +25,7 @@ pub fn keeping<K: Knowledge>()
 
 /// What holds of a world that keeps the rules.
 pub fn promise<K: Knowledge>()
+    ensures rules { (w : WorldView K) → KeepsRules K.form w → FollowsRules w }
     ensures headline { (w : WorldView K) → KeepsRules K.form w → HasHeadline w }
     ensures sound { (w : WorldView K) → KeepsRules K.form w → HoldsSoundly w }
     ensures no_loss { (w : WorldView K) → KeepsRules K.form w → KeepsAll w }
@@ -30,4 +33,7 @@ pub fn promise<K: Knowledge>()
     ensures as_seen { (w : WorldView K) → KeepsRules K.form w → HoldsAsSeen K.form w }
     ensures true_records { (w : WorldView K) → KeepsRules K.form w → GivesTrueRecords w }
     ensures true_receipts { (w : WorldView K) → KeepsRules K.form w → GivesTrueReceipts w }
+    ensures by_sets { (w : WorldView K) → KeepsRules K.form w → AnswersBySets K.form w }
+    ensures whole { (w : WorldView K) → KeepsRules K.form w → TellsWhole w }
+    ensures none_forged { (w : WorldView K) → ListsMore K.form → KeepsRules K.form w → FindsNoneForged w }
 {}

@@ -30,7 +30,9 @@ pub struct Stopped<K: Knowledge> {
 
 impl<K: Knowledge> World<K> {
     ghost use Rattle.mr_world.specs.Run.{Meets, Leads, StopsAt};
-    ghost use Rattle.mr_world.specs.Promise.{HasHeadline, HoldsSoundly, KeepsAll, HasCleanRetired, HoldsAsSeen, GivesTrueRecords, GivesTrueReceipts};
+    ghost use Rattle.mr_world.specs.ListedItems.{ListsMore};
+    ghost use Rattle.mr_world.specs.Promise.{FollowsRules, HasHeadline, HoldsSoundly, KeepsAll, HasCleanRetired, HoldsAsSeen};
+    ghost use Rattle.mr_world.specs.Promise.{GivesTrueRecords, GivesTrueReceipts, AnswersBySets, TellsWhole, FindsNoneForged};
 
     /// Lets these events happen, one after the other.
     ///
@@ -39,11 +41,14 @@ impl<K: Knowledge> World<K> {
     /// world has no replica of its id; else `NoSuchFrame` where it names a number that its pool hasn't
     /// got; `OutOfMemory` otherwise. The events before it stand, and it has changed nothing.
     ///
+    /// Of a world that was run to its end, and of one that stopped, all holds that [`World::promise`] says.
+    ///
     /// It costs what the replicas' steps cost, the frames of what they give, and for each event a walk
     /// over the replicas and a copy of what it carries or names.
     #[tactic(auto, using(crate::proofs::LoopLemmas::events_begin, crate::proofs::LoopLemmas::events_end))]
     pub fn run(mut self, events: Vec<Event>) -> Result<World<K>, Stopped<K>>
         ensures ran { IfOk result (Leads K.form self events.items) }
+        ensures rules { IfOk result FollowsRules }
         ensures headline { IfOk result HasHeadline }
         ensures sound { IfOk result HoldsSoundly }
         ensures no_loss { IfOk result KeepsAll }
@@ -51,14 +56,28 @@ impl<K: Knowledge> World<K> {
         ensures as_seen { IfOk result (HoldsAsSeen K.form) }
         ensures true_records { IfOk result GivesTrueRecords }
         ensures true_receipts { IfOk result GivesTrueReceipts }
-        ensures stopped_headline { IfErr result (λ stopped. HasHeadline stopped.world) }
+        ensures by_sets { IfOk result (AnswersBySets K.form) }
+        ensures whole { IfOk result TellsWhole }
+        ensures none_forged { ListsMore K.form → IfOk result FindsNoneForged }
         ensures stopped { IfErr result (λ stopped. StopsAt K.form self events.items stopped.at stopped.fault stopped.world) }
+        ensures stopped_rules { IfErr result (λ stopped. FollowsRules stopped.world) }
+        ensures stopped_headline { IfErr result (λ stopped. HasHeadline stopped.world) }
+        ensures stopped_sound { IfErr result (λ stopped. HoldsSoundly stopped.world) }
+        ensures stopped_no_loss { IfErr result (λ stopped. KeepsAll stopped.world) }
+        ensures stopped_clean { IfErr result (λ stopped. HasCleanRetired stopped.world) }
+        ensures stopped_as_seen { IfErr result (λ stopped. HoldsAsSeen K.form stopped.world) }
+        ensures stopped_true_records { IfErr result (λ stopped. GivesTrueRecords stopped.world) }
+        ensures stopped_true_receipts { IfErr result (λ stopped. GivesTrueReceipts stopped.world) }
+        ensures stopped_by_sets { IfErr result (λ stopped. AnswersBySets K.form stopped.world) }
+        ensures stopped_whole { IfErr result (λ stopped. TellsWhole stopped.world) }
+        ensures stopped_none_forged { ListsMore K.form → IfErr result (λ stopped. FindsNoneForged stopped.world) }
     {
         let mut at = 0;
         for event in events {
             match self.happen(event) {
                 Ok(()) => at += 1,
                 Err(fault) => {
+                    // What stands has the promise too.
                     self.promise();
                     return Err(Stopped {
                         world: self,

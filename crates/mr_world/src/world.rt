@@ -1,8 +1,9 @@
 //! A world: replicas, all that they gave one another, and ports to their subscribers.
-ghost use Rattle.std.specs.Prelude.{◌≡◌, ◌==◌, IfOk, IfErr, None, Some};
+ghost use Rattle.std.specs.Prelude.{◌≡◌, ◌==◌, ◌≤◌, IfOk, IfErr, None, Some, length};
 ghost use Rattle.std.specs.List.{position, AllZip};
 ghost use Rattle.std.specs.Option.{option_copied};
-ghost use Rattle.mr_world.specs.Made.{IsMadeOf};
+ghost use Rattle.mr_world.specs.Made.{IsMadeOf, spec_refusal};
+ghost use Rattle.mr_world.specs.World.{new_port};
 
 use crate::answered::Answered;
 use crate::event::Event;
@@ -12,7 +13,7 @@ use crate::pools::Pools;
 use crate::promises::promise;
 use crate::run::happen;
 use crate::spec::{Spec, check_specs};
-use mr_feed::PlainPort;
+use mr_feed::{PlainPort, PortFault};
 use mr_forms::Knowledge;
 use mr_replica::Replica;
 use mr_version::Author;
@@ -44,10 +45,12 @@ impl<K: Knowledge> World<K> {
     ghost use Rattle.mr_model.specs.Moment.{numbered};
     ghost use Rattle.mr_wire.specs.declared.frame.Frame.TheVariants as frame;
     ghost use Rattle.mr_world.specs.Kept.{replica_at};
-    ghost use Rattle.mr_world.specs.Made.{spec_refusal, IsMadeWorld, IsRefusedBy};
+    ghost use Rattle.mr_world.specs.Made.{IsMadeWorld, IsRefusedBy};
     ghost use Rattle.mr_world.specs.Pool.{GivesFrame};
     ghost use Rattle.mr_world.specs.Run.{Meets};
-    ghost use Rattle.mr_world.specs.Promise.{HasHeadline, HoldsSoundly, KeepsAll, HasCleanRetired, HoldsAsSeen, GivesTrueRecords, GivesTrueReceipts};
+    ghost use Rattle.mr_world.specs.ListedItems.{ListsMore};
+    ghost use Rattle.mr_world.specs.Promise.{FollowsRules, HasHeadline, HoldsSoundly, KeepsAll, HasCleanRetired, HoldsAsSeen};
+    ghost use Rattle.mr_world.specs.Promise.{GivesTrueRecords, GivesTrueReceipts, AnswersBySets, TellsWhole, FindsNoneForged};
 
     /// A world of these replicas, to which nothing has happened.
     ///
@@ -59,6 +62,7 @@ impl<K: Knowledge> World<K> {
         ensures made { IfOk result (IsMadeWorld K.form specs.items) }
         ensures fault { IfErr result (IsRefusedBy (spec_refusal specs.items)) }
     {
+        // That there is a knowledge of nothing, for the ids that no replica has.
         let _nothing = K::new(alloc);
         check_specs(&specs)?;
         let Ok(members) = members_of(alloc, specs) else {
@@ -89,6 +93,27 @@ impl<K: Knowledge> World<K> {
         }
     }
 
+    /// How many requests there are: the number of the newest.
+    pub fn ask_count(&self) -> u64
+        ensures { result ≡ length self.now.asks }
+    {
+        self.pools.asks().count()
+    }
+
+    /// How many records there are: the number of the newest.
+    pub fn record_count(&self) -> u64
+        ensures { result ≡ length self.now.records }
+    {
+        self.pools.records().count()
+    }
+
+    /// How many receipts there are: the number of the newest.
+    pub fn receipt_count(&self) -> u64
+        ensures { result ≡ length self.now.receipts }
+    {
+        self.pools.receipts().count()
+    }
+
     /// The frame of the request of this number, where there is one.
     pub fn ask(&self, number: u64) -> Option<&[u8]>
         ensures { GivesFrame (λ x. frame.Ask x) (numbered self.now.asks number) (option_copied result) }
@@ -111,10 +136,13 @@ impl<K: Knowledge> World<K> {
     }
 
     /// What holds of each world at each moment: no mail is lost and none is announced twice; each replica
-    /// holds and tells what the history of the world says, and the frames tell what was issued.
+    /// holds and tells what the history of the world says, what was answered is what sets say, and the
+    /// frames tell what was issued. Over a form whose fragments list an item only where more is known for it
+    /// than for all items, no record was ever taken for forged.
     ///
     /// It computes nothing.
     pub fn promise(&self)
+        ensures rules { FollowsRules self.now }
         ensures headline { HasHeadline self.now }
         ensures sound { HoldsSoundly self.now }
         ensures no_loss { KeepsAll self.now }
@@ -122,8 +150,12 @@ impl<K: Knowledge> World<K> {
         ensures as_seen { HoldsAsSeen K.form self.now }
         ensures true_records { GivesTrueRecords self.now }
         ensures true_receipts { GivesTrueReceipts self.now }
+        ensures by_sets { AnswersBySets K.form self.now }
+        ensures whole { TellsWhole self.now }
+        ensures none_forged { ListsMore K.form → FindsNoneForged self.now }
     {
         promise::<K>();
+        // To look at a world is to know what it keeps.
         let _answers = &self.answers;
     }
 
@@ -153,6 +185,7 @@ pub(crate) fn place_of<K: Knowledge>(members: &[Member<K>], id: Author) -> Optio
 // Members of these specifications, in their order.
 #[tactic(auto, using(crate::proofs::LoopLemmas::members_begin, crate::proofs::LoopLemmas::members_end))]
 fn members_of<K: Knowledge>(alloc: Global, specs: Vec<Spec>) -> Result<Vec<Member<K>>, AllocError>
+    requires { spec_refusal specs.items ≡ None }
     ensures { IfOk result (λ members. AllZip (IsMadeOf K.form) specs.items members.items) }
 {
     let mut members = Vec::new(alloc);
@@ -162,19 +195,28 @@ fn members_of<K: Knowledge>(alloc: Global, specs: Vec<Spec>) -> Result<Vec<Membe
     Ok(members)
 }
 
-// A member of this specification. What is refused here has no fault of its own: the checks before it
-// refuse it first.
+// A member of this specification.
 fn member_of<K: Knowledge>(alloc: Global, spec: Spec) -> Result<Member<K>, AllocError>
+    requires limit { (1 ≤ spec.event_limit) × (spec.event_limit ≤ 1000000) }
+    requires capacity { (1 ≤ spec.port_capacity) × (spec.port_capacity ≤ 4096) }
     ensures { IfOk result (IsMadeOf K.form spec) }
 {
-    let Ok(indexer) = PlainPort::try_new(alloc, spec.port_capacity) else {
-        return Err(AllocError);
-    };
-    let Ok(notifier) = PlainPort::try_new(alloc, spec.port_capacity) else {
-        return Err(AllocError);
-    };
+    let indexer = port_with(alloc, spec.port_capacity)?;
+    let notifier = port_with(alloc, spec.port_capacity)?;
     match Replica::try_new(alloc, spec.id, spec.filter, spec.event_limit) {
         Ok(replica) => Ok(Member::new(replica, indexer, notifier)),
-        Err(_) => Err(AllocError),
+        Err(_) => unreachable!(),
+    }
+}
+
+// A port with so many places.
+fn port_with(alloc: Global, capacity: usize) -> Result<PlainPort, AllocError>
+    requires { (1 ≤ capacity) × (capacity ≤ 4096) }
+    ensures { IfOk result (λ port. port ≡ (new_port capacity).view) }
+{
+    match PlainPort::try_new(alloc, capacity) {
+        Ok(port) => Ok(port),
+        Err(PortFault::OutOfMemory) => Err(AllocError),
+        Err(PortFault::NoCapacity) => unreachable!(),
     }
 }

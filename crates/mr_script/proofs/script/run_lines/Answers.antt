@@ -42,5 +42,5 @@ loop-number-preserved g c =
       },
       IfSome_then _ c.loop-number.invariant.1 (λ script so.
           so_far-more item_form _ _ _ _ _ _ _ _ (so_far-settled item_form _ _ _ _ _ _ _ _ so _ _ c.in_ok-settle.ensures.ok)
-          c.next_answer.new.runner c.in-Some.answer c.next_answer.new.source.taken (reader_remaining (take_remaining g.R.Read.remaining) c.next_answer.new.source.reader) c.push_answer.new.output answer pushed),
+          c.next_answer.new.interpreter c.in-Some.answer c.next_answer.new.source.taken (reader_remaining (take_remaining g.R.Read.remaining) c.next_answer.new.source.reader) c.push_answer.new.output answer pushed),
     )

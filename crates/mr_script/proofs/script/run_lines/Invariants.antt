@@ -16,5 +16,5 @@ abbrev pub invariant-loop-number : goal.invariant-loop-number
 invariant-loop-number g l =
     IsReadSoFar (g.R.Read.remaining l.fn.reader) (reader_remaining (take_remaining g.R.Read.remaining) l.source.reader) l.source.taken l.number
     × IfSome (g.R.Read.remaining l.fn.reader) (λ script.
-    SoFar item_form script l.runner l.number l.source.taken (reader_remaining (take_remaining g.R.Read.remaining) l.source.reader)
+    SoFar item_form script l.interpreter l.number l.source.taken (reader_remaining (take_remaining g.R.Read.remaining) l.source.reader)
     (g.W.Write.contents l.fn.writer) (g.W.Write.contents l.writer) l.output)

@@ -1,4 +1,4 @@
-use Rattle.mr_world.proofs.PromiseLemmas.{has_headline, holds_as_seen, holds_soundly, keeps_all, retired_clean, true_receipts, true_records}
+use Rattle.mr_world.proofs.PromiseLemmas.{has_headline, holds_as_seen, holds_soundly, keeps_all, retired_clean, tells_whole, true_receipts, true_records}
 use Rattle.mr_world.proofs.promises.promise.Goals as goal
 
 pub returns-clause-headline : goal.returns-clause-headline
@@ -21,3 +21,15 @@ returns-clause-true_records g c w k = true_records g.K.Knowledge.form w k
 
 pub returns-clause-true_receipts : goal.returns-clause-true_receipts
 returns-clause-true_receipts g c w k = true_receipts g.K.Knowledge.form w k
+
+pub returns-clause-whole : goal.returns-clause-whole
+returns-clause-whole g c w k = tells_whole g.K.Knowledge.form w k
+
+pub returns-clause-rules : goal.returns-clause-rules
+returns-clause-rules g c w k = k.run
+
+pub returns-clause-by_sets : goal.returns-clause-by_sets
+returns-clause-by_sets g c w k = k.by_sets
+
+pub returns-clause-none_forged : goal.returns-clause-none_forged
+returns-clause-none_forged g c w lists k = k.none_forged lists

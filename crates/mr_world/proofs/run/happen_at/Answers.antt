@@ -1,5 +1,5 @@
 use Rattle.mr_world.specs.Event.{replica_of}
-use Rattle.mr_world.proofs.MemberPlaces.{place_found, place_there}
+use Rattle.mr_world.proofs.MemberPlaces.{place_there}
 use Rattle.mr_world.proofs.Happening.{no_task}
 use Rattle.mr_world.proofs.run.happen_at.Goals as goal
 

@@ -1,18 +1,23 @@
-use Rattle.std.proofs.Common.{◌≡◌, true, sym, ◌∙◌}
+use Rattle.std.proofs.Common.{sym, ◌∙◌}
 use Rattle.std.proofs.lemmas.Bool.{false≢true}
-use Rattle.mr_concise.specs.Equal.{vector_eq}
-use Rattle.mr_concise.proofs.EqualLemmas.{vectors_Decides}
-use Rattle.mr_itemset.proofs.EqualLemmas.{same-listed, same-all}
+use Rattle.mr_itemset.proofs.EqualLemmas.{equal_from_same}
+use Rattle.mr_itemset.proofs.SplitLemmas.{same_from_covers, covers_from_same}
 use Rattle.mr_itemset.proofs.equal.ItemKnowledgePartialEq.eq.Goals as goal
 
-pub returns-then-eq-clause-same : goal.returns-then-eq-clause-same
-returns-then-eq-clause-same c =
-    let equal : vector_eq c.args.self.now.all c.args.other.now.all ≡ true = rw (← c.for_all.ensures.is, ← c.for_all-2.ensures.is) (sym c.eq.ensures ∙ c.if-eq.true) in
-    rw (c.eq-then-eq.ensures, c.listed.ensures.is, c.listed-then-eq.ensures.is)
-    (same-listed c.args.self.now c.args.other.now c.listed.ensures.normal c.listed-then-eq.ensures.normal ((vectors_Decides c.args.self.now.all c.args.other.now.all).0 equal))
-
-pub returns-else-eq-clause-same : goal.returns-else-eq-clause-same
-returns-else-eq-clause-same c = (
-  λ t. absurd (false≢true (sym c.if-eq.false ∙ t)),
-  λ h. rw (c.eq.ensures, c.for_all.ensures.is, c.for_all-2.ensures.is) (same-all c.args.self.now c.args.other.now c.for_all.ensures.normal c.for_all-2.ensures.normal h),
+pub returns-then-covers-clause-same : goal.returns-then-covers-clause-same
+returns-then-covers-clause-same c = (
+  λ t. same_from_covers c.args.self.now c.args.other.now (c.covers.ensures.covers.0 c.if-covers.true) (c.covers-then-covers.ensures.covers.0 t),
+  λ same. c.covers-then-covers.ensures.covers.1 (covers_from_same c.args.other.now c.args.self.now (λ i v. sym (same i v))),
 )
+
+pub returns-then-covers-clause-value : goal.returns-then-covers-clause-value
+returns-then-covers-clause-value c = equal_from_same c.args.self.now c.args.other.now c.covers-then-covers.result c.covers.ensures.normal c.covers.ensures.other_normal (returns-then-covers-clause-same c)
+
+pub returns-else-covers-clause-same : goal.returns-else-covers-clause-same
+returns-else-covers-clause-same c = (
+  λ t. absurd (false≢true (sym c.if-covers.false ∙ t)),
+  λ same. absurd (false≢true (sym c.if-covers.false ∙ c.covers.ensures.covers.1 (covers_from_same c.args.self.now c.args.other.now same))),
+)
+
+pub returns-else-covers-clause-value : goal.returns-else-covers-clause-value
+returns-else-covers-clause-value c = equal_from_same c.args.self.now c.args.other.now c.covers.result c.covers.ensures.normal c.covers.ensures.other_normal (returns-else-covers-clause-same c)

@@ -6,18 +6,18 @@ use Rattle.mr_itemset.proofs.knowledge.ItemKnowledge.has_room_for.Goals as goal
 
 pub returns-then-items-room-clause-yes : goal.returns-then-items-room-clause-yes
 returns-then-items-room-clause-yes c _ set =
-    let few = c.listed.ensures.normal.few in
-    let room = rw c.listed.ensures.is at c.if-items-room.true in
+    let few = c.listed_count-room.ensures.normal.few in
+    let room = rw c.listed_count-room.ensures.count at c.if-items-room.true in
     few_given c.args.self.now c.args.items.now set (omega arith)
 
 pub returns-clause-yes : goal.returns-clause-yes
 returns-clause-yes c is_few set =
-    let few = c.listed.ensures.normal.few in
-    let room : c.count_new.result ≤ MAX_ITEMS - length c.args.self.now.listed = rw c.listed.ensures.is at (leb-true c.count_new.result (MAX_ITEMS - length c.listed.result.now) is_few) in
+    let few = c.listed_count-room.ensures.normal.few in
+    let room : c.count_new.result ≤ MAX_ITEMS - length c.args.self.now.listed = rw c.listed_count-room.ensures.count at (leb-true c.count_new.result (MAX_ITEMS - c.listed_count-room.result) is_few) in
     few_counted c.args.self.now c.args.items.now set c.count_new.result c.count_new.ensures (omega arith)
 
 pub returns-clause-no : goal.returns-clause-no
 returns-clause-no c is_many set lacks =
-    let few = c.listed.ensures.normal.few in
-    let over : MAX_ITEMS - length c.args.self.now.listed < c.count_new.result = rw c.listed.ensures.is at (leb-false c.count_new.result (MAX_ITEMS - length c.listed.result.now) is_many) in
-    many_each c.args.self.now c.args.items.now set c.count_new.result c.listed.ensures.normal lacks c.count_new.ensures (omega arith)
+    let few = c.listed_count-room.ensures.normal.few in
+    let over : MAX_ITEMS - length c.args.self.now.listed < c.count_new.result = rw c.listed_count-room.ensures.count at (leb-false c.count_new.result (MAX_ITEMS - c.listed_count-room.result) is_many) in
+    many_each c.args.self.now c.args.items.now set c.count_new.result c.listed_count-room.ensures.normal lacks c.count_new.ensures (omega arith)

@@ -1,15 +1,8 @@
-use Rattle.std.proofs.Common.{◌≡◌, ◌≤◌, length, false, sym, ◌∙◌}
-use Rattle.std.specs.List.{list_any}
-use Rattle.mr_version.specs.Name.{name_eq}
-use Rattle.mr_forms.specs.declared.fragment.TheConstants.{MAX_ITEMS}
-use Rattle.mr_itemset.specs.Normal.{items_of}
-use Rattle.mr_itemset.proofs.WithLemmas.{lists_too_many-with}
+use Rattle.mr_itemset.proofs.SplitLimitLemmas.{room_with-yes, room_with-no}
 use Rattle.mr_itemset.proofs.knowledge.ItemKnowledge.has_room_with.Goals as goal
 
+pub returns-clause-yes : goal.returns-clause-yes
+returns-clause-yes g c t many = room_with-yes c.args.self.now c.parts-parts.result.settled.now c.parts-parts.result.pending.now c.args.item c.args.version (g.S.VersionSet.has c.args.below.now) c.parts-parts.ensures (c.has_room_with.ensures.yes t) many
+
 pub returns-clause-no : goal.returns-clause-no
-returns-clause-no g c full =
-    let free : list_any (name_eq c.args.item) (items_of c.args.self.now.listed) ≡ false = sym c.lists.ensures ∙ c.if-lists.false in
-    let many : MAX_ITEMS ≤ length c.args.self.now.listed = rw c.listed.ensures.is at c.if-listed-lt-MAX_ITEMS.false in
-    lists_too_many-with c.args.self.now (name_eq c.args.version) (g.S.VersionSet.has c.args.below.now) c.args.item c.listed.ensures.normal many free
-    (rw c.for_all.ensures.is at (c.lacks.ensures.yes c.if-not-lacks.false))
-    (c.would_drop.ensures.no full)
+returns-clause-no g c f = room_with-no c.args.self.now c.parts-parts.result.settled.now c.parts-parts.result.pending.now c.args.item c.args.version (g.S.VersionSet.has c.args.below.now) c.parts-parts.ensures (c.has_room_with.ensures.no f)

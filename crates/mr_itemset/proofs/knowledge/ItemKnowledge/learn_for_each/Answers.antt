@@ -3,20 +3,20 @@ use Rattle.std.proofs.lemmas.Bool.{false≢true}
 use Rattle.mr_itemset.proofs.EachLemmas.{covered_each, not_holey_covered, few_covered}
 use Rattle.mr_itemset.proofs.knowledge.ItemKnowledge.learn_for_each.Goals as goal
 
-pub returns-then-not-lacks-clause-ok : goal.returns-then-not-lacks-clause-ok
-returns-then-not-lacks-clause-ok g c =
-    covered_each c.args.self.now c.args.items.now (g.S.VersionSet.has c.args.set.now) c.for_all.ensures.normal (rw c.for_all.ensures.is at (c.lacks.ensures.no c.if-not-lacks.true))
+pub returns-then-not-all_lack-clause-ok : goal.returns-then-not-all_lack-clause-ok
+returns-then-not-all_lack-clause-ok g c =
+    covered_each c.args.self.now c.args.items.now (g.S.VersionSet.has c.args.set.now) c.all_lack.ensures.normal (c.all_lack.ensures.no c.if-not-all_lack.true)
 
-pub returns-then-not-lacks-clause-holes : goal.returns-then-not-lacks-clause-holes
-returns-then-not-lacks-clause-holes g c = (
+pub returns-then-not-all_lack-clause-holes : goal.returns-then-not-all_lack-clause-holes
+returns-then-not-all_lack-clause-holes g c = (
   λ wrong. absurd (cc),
-  λ holey. absurd (not_holey_covered c.args.self.now c.args.items.now (g.S.VersionSet.has c.args.set.now) c.for_all.ensures.normal (rw c.for_all.ensures.is at (c.lacks.ensures.no c.if-not-lacks.true)) holey),
+  λ holey. absurd (not_holey_covered c.args.self.now c.args.items.now (g.S.VersionSet.has c.args.set.now) c.all_lack.ensures.normal (c.all_lack.ensures.no c.if-not-all_lack.true) holey),
 )
 
-pub returns-then-not-lacks-clause-items : goal.returns-then-not-lacks-clause-items
-returns-then-not-lacks-clause-items g c = (
+pub returns-then-not-all_lack-clause-items : goal.returns-then-not-all_lack-clause-items
+returns-then-not-all_lack-clause-items g c = (
   λ wrong. absurd (cc),
-  λ only. absurd (few_covered c.args.self.now c.args.items.now (g.S.VersionSet.has c.args.set.now) c.for_all.ensures.normal (rw c.for_all.ensures.is at (c.lacks.ensures.no c.if-not-lacks.true)) only.0),
+  λ only. absurd (few_covered c.args.self.now c.args.items.now (g.S.VersionSet.has c.args.set.now) c.all_lack.ensures.normal (c.all_lack.ensures.no c.if-not-all_lack.true) only.0),
 )
 
 pub with_each-requires : goal.with_each-requires

@@ -6,3 +6,11 @@ returns-in_err-may_learn_with-clause-holes g c = let p = err_from_is_err_and c.f
 
 pub returns-in_err-may_learn_with-clause-items : goal.returns-in_err-may_learn_with-clause-items
 returns-in_err-may_learn_with-clause-items g c = let p = err_from_is_err_and c.from_residual.result c.from_residual.ensures.1 in rw (p.1, p.2) c.in_err-may_learn_with.ensures.items
+
+pub returns-in_err-settle_with-clause-items : goal.returns-in_err-settle_with-clause-items
+returns-in_err-settle_with-clause-items g c =
+    let p = err_from_is_err_and c.from_residual-in_err-settle_with.result c.from_residual-in_err-settle_with.ensures.1 in
+    rw (p.1, p.2) (λ wrong. absurd (cc), λ over. absurd (let none = c.in_ok-may_learn_with.ensures.items.1 over in cc))
+
+pub returns-clause-ok : goal.returns-clause-ok
+returns-clause-ok g c = rw (← c.in_ok-try_learn_with.ensures.not c.if-branch.false) c.in_ok-settle_with.ensures.ok

@@ -5,13 +5,12 @@ use Rattle.mr_forms.specs.Known.{with_learned}
 use Rattle.mr_itemset.specs.Normal.{normal_known}
 use Rattle.mr_itemset.specs.ItemForm.{HasHoleyItem}
 use Rattle.mr_itemset.proofs.LimitLemmas.{lists_few}
-use Rattle.mr_itemset.proofs.WithLemmas.{lists_few-with}
 use Rattle.mr_itemset.proofs.knowledge.ItemKnowledge.may_learn_with.Goals as goal
 
 pub returns-then-would_be_holey_with-clause-holes :
     goal.returns-then-would_be_holey_with-clause-holes
 returns-then-would_be_holey_with-clause-holes g c = (
-  λ _. inr ((λ holey. false≢true (sym c.if-would_be_holey.false ∙ c.would_be_holey.ensures.holey.1 holey), lists_few c.args.self.now (name_eq c.args.version) c.would_be_holey.ensures.normal), c.would_be_holey_with.ensures.yes c.if-would_be_holey_with.true),
+  λ _. inr ((λ holey. false≢true (sym c.if-would_be_holey_for_all.false ∙ c.would_be_holey_for_all.ensures.holey.1 holey), lists_few c.args.self.now (name_eq c.args.version) c.would_be_holey_for_all.ensures.normal), c.would_be_holey_with.ensures.yes c.if-would_be_holey_with.true),
   λ _. refl,
 )
 
@@ -20,16 +19,16 @@ pub returns-then-would_be_holey_with-clause-items :
 returns-then-would_be_holey_with-clause-items g c = (
   λ wrong. absurd (cc),
   λ over. elim over [
-    | inl only ↦ absurd (lists_few c.args.self.now (name_eq c.args.version) c.would_be_holey.ensures.normal only.0)
+    | inl only ↦ absurd (lists_few c.args.self.now (name_eq c.args.version) c.would_be_holey_for_all.ensures.normal only.0)
     | inr both ↦ absurd (both.1.1 (c.would_be_holey_with.ensures.yes c.if-would_be_holey_with.true))
   ],
 )
 
 pub returns-then-not-has_room_with-clause-items : goal.returns-then-not-has_room_with-clause-items
 returns-then-not-has_room_with-clause-items g c =
-    let first : ¬ HasHoleyItem (with_learned true (normal_known c.args.self.now) c.args.item c.args.version) = λ holey. false≢true (sym c.if-would_be_holey.false ∙ c.would_be_holey.ensures.holey.1 holey) in (
+    let first : ¬ HasHoleyItem (with_learned true (normal_known c.args.self.now) c.args.item c.args.version) = λ holey. false≢true (sym c.if-would_be_holey_for_all.false ∙ c.would_be_holey_for_all.ensures.holey.1 holey) in (
       λ _. inr (
-        (first, lists_few c.args.self.now (name_eq c.args.version) c.would_be_holey.ensures.normal),
+        (first, lists_few c.args.self.now (name_eq c.args.version) c.would_be_holey_for_all.ensures.normal),
         (c.has_room_with.ensures.no c.if-not-has_room_with.true, λ holey. first (c.would_be_holey_with.ensures.no c.if-would_be_holey_with.false holey)),
       ),
       λ _. refl,
@@ -37,15 +36,15 @@ returns-then-not-has_room_with-clause-items g c =
 
 pub returns-clause-ok : goal.returns-clause-ok
 returns-clause-ok g c = (
-  λ holey. false≢true (sym c.if-would_be_holey.false ∙ c.would_be_holey.ensures.holey.1 (c.would_be_holey_with.ensures.no c.if-would_be_holey_with.false holey)),
-  lists_few-with c.args.self.now (name_eq c.args.version) (g.S.VersionSet.has c.args.below.now) c.args.item c.would_be_holey.ensures.normal (c.has_room_with.ensures.yes c.if-not-has_room_with.false),
+  λ holey. false≢true (sym c.if-would_be_holey_for_all.false ∙ c.would_be_holey_for_all.ensures.holey.1 (c.would_be_holey_with.ensures.no c.if-would_be_holey_with.false holey)),
+  c.has_room_with.ensures.yes c.if-not-has_room_with.false,
 )
 
 pub returns-clause-items : goal.returns-clause-items
 returns-clause-items g c = (
   λ wrong. absurd (cc),
   λ over. elim over [
-    | inl only ↦ absurd (lists_few c.args.self.now (name_eq c.args.version) c.would_be_holey.ensures.normal only.0)
-    | inr both ↦ absurd (lists_few-with c.args.self.now (name_eq c.args.version) (g.S.VersionSet.has c.args.below.now) c.args.item c.would_be_holey.ensures.normal (c.has_room_with.ensures.yes c.if-not-has_room_with.false) both.1.0)
+    | inl only ↦ absurd (lists_few c.args.self.now (name_eq c.args.version) c.would_be_holey_for_all.ensures.normal only.0)
+    | inr both ↦ absurd (c.has_room_with.ensures.yes c.if-not-has_room_with.false both.1.0)
   ],
 )

@@ -9,4 +9,4 @@ pub loop-item-preserved : goal.loop-item-preserved
 loop-item-preserved g c =
     let within : c.loop-item.item-index < length c.args.items.now = omega arith in
     rw (take_more c.args.items.now c.loop-item.item-index c.item-item.result within ∙ ap (λ (y : Name). take c.loop-item.item-index c.args.items.now ++ y ∷ []) (sym c.item-item.is))
-    (each_more (normal_known c.args.self.now) (normal_known c.loop-item.grown) (normal_known c.learn_below.new.self) (take c.loop-item.item-index c.args.items.now) c.item-item.result (g.S.VersionSet.has c.args.set.now) c.loop-item.invariant c.in-Ok-learn_below.ensures.ok)
+    (each_more (normal_known c.args.self.now) (normal_known c.loop-item.grown) (normal_known c.learn_below.new.self) (take c.loop-item.item-index c.args.items.now) c.item-item.result (g.S.VersionSet.has c.args.set.now) c.loop-item.invariant c.in-Ok.ensures.ok)

@@ -1,13 +1,8 @@
-use Rattle.std.proofs.Common.{sym, ◌∙◌}
-use Rattle.std.proofs.lemmas.Bool.{false≢true}
-use Rattle.mr_version.specs.Name.{name_eq}
-use Rattle.mr_itemset.proofs.WithLemmas.{holey_with, holey_learned}
+use Rattle.mr_itemset.proofs.SplitLimitLemmas.{holey_with-yes, holey_with-no}
 use Rattle.mr_itemset.proofs.knowledge.ItemKnowledge.would_be_holey_with.Goals as goal
 
 pub returns-clause-yes : goal.returns-clause-yes
-returns-clause-yes g c true_is = holey_with c.args.self.now (name_eq c.args.version) (g.S.VersionSet.has c.args.below.now) c.args.item (rw c.vector_of.ensures.is at (c.would_have_too_many.ensures.0 true_is))
+returns-clause-yes g c t = holey_with-yes c.args.self.now c.parts-parts.result.settled.now c.parts-parts.result.pending.now c.args.item c.args.version (g.S.VersionSet.has c.args.below.now) c.parts-parts.ensures (c.would_be_holey_with.ensures.yes t)
 
 pub returns-clause-no : goal.returns-clause-no
-returns-clause-no g c false_is holey =
-    holey_learned c.args.self.now (name_eq c.args.version) (g.S.VersionSet.has c.args.below.now) c.args.item
-    (λ many. false≢true (sym false_is ∙ c.would_have_too_many.ensures.1 (rw (← c.vector_of.ensures.is) at many))) holey
+returns-clause-no g c f holey = holey_with-no c.args.self.now c.parts-parts.result.settled.now c.parts-parts.result.pending.now c.args.item c.args.version (g.S.VersionSet.has c.args.below.now) c.parts-parts.ensures (c.would_be_holey_with.ensures.no f) holey

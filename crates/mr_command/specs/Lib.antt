@@ -1,0 +1,16 @@
+pub mod Command
+pub mod Event
+pub mod Fault
+pub mod List
+pub mod Message
+pub mod Named
+pub mod Number
+pub mod Opening
+pub mod Pool
+pub mod Question
+pub mod Reading
+pub mod Scene
+pub mod Shape
+pub mod Taking
+pub mod There
+pub mod Words

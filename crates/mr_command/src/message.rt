@@ -1,0 +1,95 @@
+//! The words of a message.
+ghost use Rattle.std.specs.Prelude.{◌≡◌};
+ghost use Rattle.mr_mail.specs.Day.{Spells};
+ghost use Rattle.mr_command.specs.Message.{subject_of, body_of, takes_parts, reads_message, makes};
+ghost use Rattle.mr_command.specs.Reading.{names};
+
+use crate::LineFault;
+use crate::lists::{read_flags, read_labels};
+use crate::words::Words;
+use mr_mail::{Day, Flags, Message};
+use std::alloc::Global;
+use std::marker::Model;
+
+/// What stands between a subject and a body.
+const BODY_MARK: &str = " // ";
+
+/// The words of a message, not yet read.
+#[derive(Drop)]
+pub(crate) struct MessageWords<'a> {
+    labels: &'a str,
+    flags: &'a str,
+    date: &'a str,
+    from: &'a str,
+    subject_and_body: &'a str,
+}
+
+impl<'a> Model for MessageWords<'a> {
+    ghost use Rattle.mr_command.specs.Message.{Parts};
+
+    ghost Value = { Parts };
+
+    ghost view = { λ w. record { labels = w.labels.now; flags = w.flags.now; date = w.date.now; from = w.from.now; subject_and_body = w.subject_and_body.now } };
+}
+
+impl<'a> MessageWords<'a> {
+    /// `LABELS FLAGS DATE FROM SUBJECT`, of which SUBJECT may be missing.
+    pub(crate) fn take(mut words: Words<'a>) -> Result<MessageWords<'a>, LineFault>
+        ensures { takes_parts words.entry result }
+    {
+        Ok(MessageWords {
+            labels: words.next_word()?,
+            flags: words.next_word()?,
+            date: words.next_word()?,
+            from: words.next_word()?,
+            subject_and_body: words.text_or_empty(),
+        })
+    }
+
+    /// The message. `BadFlags`, `BadDate`, and `MessageRefused` for what makes no message.
+    pub(crate) fn read(self, alloc: Global) -> Result<Message, LineFault>
+        ensures { reads_message self.entry result }
+    {
+        let flags = read_flags(alloc, self.flags)?;
+        let day = read_day(self.date)?;
+        self.make(alloc, flags, day)
+    }
+
+    /// The message of these words, with these flags and this day. `MessageRefused`, `OutOfMemory`.
+    fn make(self, alloc: Global, flags: Flags, day: Day) -> Result<Message, LineFault>
+        ensures { makes self.entry flags day result }
+    {
+        let (subject, body) = cut_body(self.subject_and_body);
+        let message = Message::try_new(
+            alloc,
+            String::from_str(alloc, self.from)?,
+            String::from_str(alloc, subject)?,
+            Vec::from_slice(alloc, body.as_bytes())?,
+            read_labels(alloc, self.labels)?,
+            flags.bits(),
+            day,
+        )?;
+        Ok(message)
+    }
+}
+
+/// What stands before the first mark and what stands after it; all and nothing where there is none.
+fn cut_body(text: &str) -> (&str, &str)
+    ensures subject { result.0.now ≡ subject_of text.now }
+    ensures body { result.1.now ≡ body_of text.now }
+{
+    match text.split_once(BODY_MARK) {
+        Some((subject, body)) => (subject, body),
+        None => (text, ""),
+    }
+}
+
+/// The day that the word is. `BadDate` where it is none.
+fn read_day(word: &str) -> Result<Day, LineFault>
+    ensures { names Spells LineFault.BadDate word.now result }
+{
+    match Day::read(word) {
+        Ok(day) => Ok(day),
+        Err(_) => Err(LineFault::BadDate),
+    }
+}

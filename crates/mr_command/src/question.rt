@@ -1,0 +1,41 @@
+//! Lines that ask what there is.
+ghost use Rattle.std.specs.Prelude.{◌≡◌};
+ghost use Rattle.mr_command.specs.Question.{reads_text, reads_bytes, reads_index};
+
+use crate::LineFault;
+use crate::command::Question;
+use crate::named::{read_frame, read_pool, read_replica};
+use crate::roster::Roster;
+use crate::words::Words;
+use std::alloc::Global;
+
+/// `Qn`, `Pn` or `Rn`
+pub(crate) fn read_bytes<R: Roster>(words: Words, roster: &R) -> Result<Question, LineFault>
+    ensures { reads_bytes (R.scene roster.now) words.entry result }
+{
+    let frame = words.one()?;
+    let pool = read_pool(frame)?;
+    let number = read_frame(pool, frame, roster)?;
+    Ok(Question::Bytes(pool, number))
+}
+
+/// `R LABEL`, of which LABEL may be any word.
+pub(crate) fn read_index<R: Roster>(
+    alloc: Global,
+    words: Words,
+    roster: &R,
+) -> Result<Question, LineFault>
+    ensures { reads_index (R.scene roster.now) words.entry result }
+{
+    let (replica, label) = words.two()?;
+    let id = read_replica(replica, roster)?;
+    let label = read_text(alloc, label)?;
+    Ok(Question::Index(id, label))
+}
+
+/// Any word, as it stands.
+fn read_text(alloc: Global, word: &str) -> Result<String, LineFault>
+    ensures { reads_text word.now result }
+{
+    Ok(String::from_str(alloc, word)?)
+}

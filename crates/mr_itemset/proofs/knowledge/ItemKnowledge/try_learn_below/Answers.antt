@@ -1,0 +1,14 @@
+use Rattle.std.proofs.Common.{arith}
+use Rattle.mr_itemset.proofs.KeptLemmas.{below_kept, below_known}
+use Rattle.mr_itemset.proofs.knowledge.ItemKnowledge.try_learn_below.Goals as goal
+
+pub try_below-requires-clause-bound : goal.try_below-requires-clause-bound
+try_below-requires-clause-bound g c = let room = c.self.invariant.room 0 in omega arith
+
+pub invariant_of-self : goal.invariant_of-self
+invariant_of-self g c = below_kept c.self.inside.settled c.try_below.new.settled c.self.inside.pending c.try_below.new.most c.try_below.ensures.normal c.try_below.ensures.sparse c.self.invariant.vector_ok (c.try_below.ensures.room c.self.invariant.room)
+
+pub returns-clause-done : goal.returns-clause-done
+returns-clause-done g c t =
+    rw (← c.self.view_is)
+    (below_known c.self.inside.settled c.try_below.new.settled c.self.inside.pending c.self.inside.most_holes c.try_below.new.most c.args.item (g.S.VersionSet.has c.args.set.now) c.self.invariant (below_kept c.self.inside.settled c.try_below.new.settled c.self.inside.pending c.try_below.new.most c.try_below.ensures.normal c.try_below.ensures.sparse c.self.invariant.vector_ok (c.try_below.ensures.room c.self.invariant.room)) (c.in_ok-done.ensures.done t))

@@ -1,8 +1,0 @@
-use Rattle.mr_itemset.proofs.GrowLemmas.{grown_known}
-use Rattle.mr_itemset.proofs.knowledge.ItemKnowledge.with_all.Goals as goal
-
-pub returns : goal.returns
-returns g c i v =
-    rw c.from_parts.ensures
-    (grown_known (g.A.Source.has c.args.added.now) c.args.self.now (record { all = c.in-Ok.all; listed = c.in_ok-listed.listed.items }) c.for_all.ensures.normal c.in_ok-listed.ensures
-    (rw c.for_all.ensures.is at c.in-Ok.ensures.ok) i v)

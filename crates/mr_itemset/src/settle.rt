@@ -1,0 +1,66 @@
+//! Growth that looks at all listed items, and leaves nothing pending.
+ghost use Rattle.std.specs.Prelude.{◌≡◌, true, IfOk, OnOk, OnErr};
+ghost use Rattle.mr_forms.specs.Known.{AreSame, with_below, with_learned_below};
+ghost use Rattle.mr_itemset.specs.Normal.{normal_known};
+ghost use Rattle.mr_itemset.specs.ItemForm.{with_all};
+
+use crate::knowledge::ItemKnowledge;
+use crate::settled::Settled;
+use mr_concise::Source;
+use mr_forms::VersionSet;
+use mr_version::{ItemId, Version};
+use std::alloc::AllocError;
+
+impl ItemKnowledge {
+    /// The knowledge in its normal form.
+    pub(crate) fn folded(&self) -> Result<Settled, AllocError>
+        ensures { IfOk result (λ settled. settled ≡ self.now) }
+    {
+        let parts = self.parts();
+        let settled = parts.settled.with_all(parts.pending)?;
+        Ok(settled)
+    }
+
+    /// Adds the versions for all items.
+    pub(crate) fn settle_all<A: Source>(&mut self, added: &A) -> Result<(), AllocError>
+        ensures ok { OnOk result (AreSame (normal_known self.new) (with_all (normal_known self.old) (A.has added.now))) }
+        ensures err { OnErr result (self.new ≡ self.old) }
+    {
+        let parts = self.parts();
+        let grown = parts.settled.with_all(&(added, parts.pending))?;
+        *self = ItemKnowledge::of(grown);
+        Ok(())
+    }
+
+    /// Adds the versions for the item.
+    pub(crate) fn settle_below<S: VersionSet>(
+        &mut self,
+        item: ItemId,
+        set: &S,
+    ) -> Result<(), AllocError>
+        ensures ok { OnOk result (AreSame (normal_known self.new) (with_below (normal_known self.old) item (S.has set.now))) }
+        ensures err { OnErr result (self.new ≡ self.old) }
+    {
+        let parts = self.parts();
+        let grown = parts.settled.with_learned_below(item, parts.pending, set)?;
+        *self = ItemKnowledge::of(grown);
+        Ok(())
+    }
+
+    /// Adds the version for all items, and the versions for this one.
+    pub(crate) fn settle_with<S: VersionSet>(
+        &mut self,
+        item: ItemId,
+        version: Version,
+        below: &S,
+    ) -> Result<(), AllocError>
+        ensures ok { OnOk result (AreSame (normal_known self.new) (with_learned_below true (normal_known self.old) item version (S.has below.now))) }
+        ensures err { OnErr result (self.new ≡ self.old) }
+    {
+        let parts = self.parts();
+        let learned = (version, parts.pending);
+        let grown = parts.settled.with_learned_below(item, &learned, below)?;
+        *self = ItemKnowledge::of(grown);
+        Ok(())
+    }
+}

@@ -1,0 +1,116 @@
+//! What a knowledge learns, and what it would refuse.
+ghost use Rattle.std.specs.Prelude.{◌≡◌, ◌↔◌, ◌≢◌, true, OnOk, OnErr, IsErrOf, Err};
+ghost use Rattle.mr_forms.specs.Known.{AreSame, HasValue, IsOnlyOverItems, IsOverHolesInTurn, IsOverItemsInTurn, with_below, with_learned, with_learned_below};
+ghost use Rattle.mr_itemset.specs.Normal.{normal_known};
+ghost use Rattle.mr_itemset.specs.ItemForm.{item_form, HasHoleyItem};
+
+use crate::knowledge::ItemKnowledge;
+use mr_forms::{FormFault, VersionSet};
+use mr_version::{ItemId, Version};
+
+impl ItemKnowledge {
+    /// The fault that `learn` would answer where memory is there. It allocates nothing.
+    pub fn may_learn(&self, item: ItemId, version: Version) -> Result<(), FormFault>
+        ensures holes { IsErrOf result FormFault.TooManyHoles ↔ HasHoleyItem (with_learned true (normal_known self.now) item version) }
+        ensures items { IsErrOf result FormFault.TooManyItems ↔ IsOnlyOverItems item_form (with_learned true (normal_known self.now) item version) }
+        ensures memory { result ≢ Err FormFault.OutOfMemory }
+    {
+        if self.would_be_holey_for_all(version) {
+            return Err(FormFault::TooManyHoles);
+        }
+        Ok(())
+    }
+
+    /// Adds the version for all items. It costs a search in what waits; where holes may come near their
+    /// limit, a copy of each listed vector.
+    pub fn learn(&mut self, item: ItemId, version: Version) -> Result<(), FormFault>
+        ensures ok { OnOk result (AreSame (normal_known self.new) (with_learned true (normal_known self.old) item version)) }
+        ensures holes { IsErrOf result FormFault.TooManyHoles ↔ HasHoleyItem (with_learned true (normal_known self.old) item version) }
+        ensures items { IsErrOf result FormFault.TooManyItems ↔ IsOnlyOverItems item_form (with_learned true (normal_known self.old) item version) }
+        ensures err { OnErr result (self.new ≡ self.old) }
+    {
+        self.may_learn(item, version)?;
+        if self.try_learn(version)? {
+            return Ok(());
+        }
+        self.settle_all(&version)?;
+        Ok(())
+    }
+
+    /// The fault that `learn_below` would answer where memory is there. It allocates nothing.
+    fn may_learn_below<S: VersionSet>(&self, item: ItemId, set: &S) -> Result<(), FormFault>
+        ensures holes { IsErrOf result FormFault.TooManyHoles ↔ HasHoleyItem (with_below (normal_known self.now) item (S.has set.now)) }
+        ensures items { IsErrOf result FormFault.TooManyItems ↔ IsOnlyOverItems item_form (with_below (normal_known self.now) item (S.has set.now)) }
+        ensures memory { result ≢ Err FormFault.OutOfMemory }
+    {
+        if self.would_be_holey_at(item, set) {
+            return Err(FormFault::TooManyHoles);
+        }
+        if !self.has_room_at(item, set) {
+            return Err(FormFault::TooManyItems);
+        }
+        Ok(())
+    }
+
+    /// Adds all versions of a set, of any form, for the item, and nothing else. It costs a search for the
+    /// item and a copy of its vector; where a limit may be near, a copy of each listed vector.
+    pub fn learn_below<S: VersionSet>(&mut self, item: ItemId, set: &S) -> Result<(), FormFault>
+        ensures ok { OnOk result (AreSame (normal_known self.new) (with_below (normal_known self.old) item (S.has set.now))) }
+        ensures holes { IsErrOf result FormFault.TooManyHoles ↔ HasHoleyItem (with_below (normal_known self.old) item (S.has set.now)) }
+        ensures items { IsErrOf result FormFault.TooManyItems ↔ IsOnlyOverItems item_form (with_below (normal_known self.old) item (S.has set.now)) }
+        ensures err { OnErr result (self.new ≡ self.old) }
+    {
+        self.may_learn_below(item, set)?;
+        if self.try_learn_below(item, set)? {
+            return Ok(());
+        }
+        self.settle_below(item, set)?;
+        Ok(())
+    }
+
+    /// The fault that `learn_with` would answer where memory is there. It allocates nothing.
+    pub fn may_learn_with<S: VersionSet>(
+        &self,
+        item: ItemId,
+        version: Version,
+        below: &S,
+    ) -> Result<(), FormFault>
+        ensures ok { OnOk result (HasValue item_form (with_learned_below true (normal_known self.now) item version (S.has below.now))) }
+        ensures holes { IsErrOf result FormFault.TooManyHoles ↔ IsOverHolesInTurn item_form (with_learned true (normal_known self.now) item version) (with_learned_below true (normal_known self.now) item version (S.has below.now)) }
+        ensures items { IsErrOf result FormFault.TooManyItems ↔ IsOverItemsInTurn item_form (with_learned true (normal_known self.now) item version) (with_learned_below true (normal_known self.now) item version (S.has below.now)) }
+        ensures memory { result ≢ Err FormFault.OutOfMemory }
+    {
+        if self.would_be_holey_for_all(version) {
+            return Err(FormFault::TooManyHoles);
+        }
+        if self.would_be_holey_with(item, version, below) {
+            return Err(FormFault::TooManyHoles);
+        }
+        if !self.has_room_with(item, version, below) {
+            return Err(FormFault::TooManyItems);
+        }
+        Ok(())
+    }
+
+    /// Learns a version that came with the set of versions below it: the version for all items, and
+    /// the set for its own. It costs a search for the item, a copy of its vector and one of what waits;
+    /// where a limit may be near, a copy of each listed vector.
+    pub fn learn_with<S: VersionSet>(
+        &mut self,
+        item: ItemId,
+        version: Version,
+        below: &S,
+    ) -> Result<(), FormFault>
+        ensures ok { OnOk result (AreSame (normal_known self.new) (with_learned_below true (normal_known self.old) item version (S.has below.now))) }
+        ensures holes { IsErrOf result FormFault.TooManyHoles ↔ IsOverHolesInTurn item_form (with_learned true (normal_known self.old) item version) (with_learned_below true (normal_known self.old) item version (S.has below.now)) }
+        ensures items { IsErrOf result FormFault.TooManyItems ↔ IsOverItemsInTurn item_form (with_learned true (normal_known self.old) item version) (with_learned_below true (normal_known self.old) item version (S.has below.now)) }
+        ensures err { OnErr result (self.new ≡ self.old) }
+    {
+        self.may_learn_with(item, version, below)?;
+        if self.try_learn_with(item, version, below)? {
+            return Ok(());
+        }
+        self.settle_with(item, version, below)?;
+        Ok(())
+    }
+}

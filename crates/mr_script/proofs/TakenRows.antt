@@ -1,0 +1,43 @@
+-- Worked examples that the definitions of what subscribers took have to meet.
+use Rattle.std.proofs.Common.{◌≡◌, ℕ, refl, List, [], ◌∷◌}
+use Rattle.std.specs.Prelude.{codes}
+use Rattle.std.specs.Fmt.{digits}
+use Rattle.mr_version.specs.Name.{Name}
+use Rattle.mr_feed.specs.declared.entry.Entry.{Entry}
+use Rattle.mr_feed.specs.declared.entry.Entry.TheVariants.{Dropped}
+use Rattle.mr_world.specs.declared.answer.Answer.TheVariants.{TookEntry, Empty, Offered}
+use Rattle.mr_world.specs.declared.answered.Answered.{Answered}
+use Rattle.mr_world.specs.declared.event.Event.TheVariants.{Take, Offer}
+use Rattle.mr_world.specs.declared.event.Subscriber.TheVariants.{Indexer, Notifier}
+use Rattle.mr_script.specs.Taken.{taken_of, index_text, unseen_text}
+
+abbrev name : (counter : ℕ) → Name
+name counter = record { author = 0; counter = counter }
+
+abbrev gone : (counter : ℕ) → Entry
+gone counter = Dropped (name counter) (name counter)
+
+-- two replicas' subscribers take, one takes twice, and once nothing waits
+abbrev answers : List Answered
+answers =
+    record { event = Offer 0 Indexer; answer = Offered (gone 1) }
+    ∷ record { event = Take 0 Indexer; answer = TookEntry (gone 1) }
+    ∷ record { event = Take 0 Notifier; answer = TookEntry (gone 2) }
+    ∷ record { event = Take 1 Indexer; answer = TookEntry (gone 3) }
+    ∷ record { event = Take 0 Indexer; answer = TookEntry (gone 4) }
+    ∷ record { event = Take 0 Indexer; answer = Empty }
+    ∷ []
+
+by_indexer : taken_of answers 0 Indexer ≡ gone 1 ∷ gone 4 ∷ []
+by_indexer = refl
+
+by_another : taken_of answers 1 Notifier ≡ []
+by_another = refl
+
+indexed : index_text 0 (codes "inbox") (name 1 ∷ name 12 ∷ []) ≡ codes "index 0 inbox: 0.1 0.12\n"
+unfolding digits
+indexed = refl
+
+counted : unseen_text 0 12 ≡ codes "unseen 0: 12\n"
+unfolding digits
+counted = refl

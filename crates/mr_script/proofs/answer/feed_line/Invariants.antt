@@ -1,9 +1,0 @@
-use Rattle.std.proofs.Common.{◌≡◌, codes, string_bytes, ◌++◌, take}
-use Rattle.std.specs.Fmt.{decimal}
-use Rattle.std.specs.List.{flat_map}
-use Rattle.mr_script.specs.Answer.{entry_text}
-use Rattle.mr_script.proofs.answer.feed_line.Given as goal
-
-abbrev pub invariant-loop-entry : goal.invariant-loop-entry
-invariant-loop-entry l =
-    string_bytes l.line ≡ codes "feed " ++ decimal l.fn.replica ++ codes ":" ++ flat_map entry_text (take l.entry-index l.entries)

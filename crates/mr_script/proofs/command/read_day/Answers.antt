@@ -1,5 +1,0 @@
-use Rattle.std.proofs.Common.{◌∙◌, sym, refl}
-use Rattle.mr_script.proofs.command.read_day.Goals as goal
-
-pub returns-in-Err : goal.returns-in-Err
-returns-in-Err c = (refl, λ day spells. let same = sym c.in-Err.is ∙ c.read.ensures.complete day spells in cc)

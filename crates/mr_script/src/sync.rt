@@ -1,0 +1,310 @@
+//! A sync: a session that is run to its end, to a number of records, or to a refusal.
+ghost use Rattle.std.specs.Prelude.{◌≡◌, ◌<◌, [], Ok};
+ghost use Rattle.mr_itemset.specs.ItemForm.{item_form};
+ghost use Rattle.mr_script.specs.Question.{text_of};
+ghost use Rattle.mr_script.specs.Stage.{syncs_told};
+ghost use Rattle.mr_script.specs.Sync.{Draws, OpensSession, OpensStream, Takes, Rounds, answers, closes, draws, goes_through, most_of, outcome, pulls, receives, round, streams, syncs, told_by};
+ghost use Rattle.mr_script.specs.Sync.{MayOpenSession, MayOpenStream, MayDraw, MayTake, counts_with};
+
+use crate::happening::{happen, newest};
+use crate::sync_line::{SyncCounts, SyncEnd, sync_line};
+use mr_command::{LineFault, Sync};
+use mr_itemset::ItemKnowledge;
+use mr_replica::{Refusal, Reply};
+use mr_wire::Body;
+use mr_world::{Answer, Event, World};
+use std::alloc::Global;
+
+/// What a record tells.
+#[derive(Clone, Copy, Debug, PartialEq, Eq)]
+enum Told {
+    Item,
+    MoveOut,
+    Other,
+}
+
+/// What came of a draw and of taking what was drawn.
+#[derive(Debug, Drop)]
+enum Round {
+    /// The record was taken or known, and the next may follow.
+    Taken(Told),
+    /// No round follows.
+    Ended(SyncEnd),
+}
+
+/// How far a sync came.
+#[derive(Clone, Copy, Debug, PartialEq, Eq)]
+pub(crate) struct Outcome {
+    counts: SyncCounts,
+    end: SyncEnd,
+}
+
+/// Runs a sync and gives its line. At a fault the events before it stand.
+pub(crate) fn sync_and_tell(
+    alloc: Global,
+    world: &mut World<ItemKnowledge>,
+    sync: Sync,
+) -> Result<String, LineFault>
+    ensures { syncs_told item_form sync world.old (text_of result) world.new }
+{
+    match run_sync(alloc, world, &sync) {
+        Ok(Outcome { counts, end }) => Ok(sync_line(alloc, sync, counts, end)?),
+        Err(fault) => Err(fault),
+    }
+}
+
+/// Opens a session, and goes on with it where it was opened.
+fn run_sync(
+    alloc: Global,
+    world: &mut World<ItemKnowledge>,
+    sync: &Sync,
+) -> Result<Outcome, LineFault>
+    ensures { syncs item_form sync.now world.old result world.new }
+{
+    match pull(alloc, world, sync)? {
+        Ok(session) => run_session(alloc, world, sync, session),
+        Err(refusal) => Ok(Outcome::refused(refusal)),
+    }
+}
+
+/// Opens a stream for the session, and goes on with it where it was opened. Where it wasn't, the session
+/// is cut.
+fn run_session(
+    alloc: Global,
+    world: &mut World<ItemKnowledge>,
+    sync: &Sync,
+    session: u64,
+) -> Result<Outcome, LineFault>
+    ensures { goes_through item_form sync.now (Ok session) world.old result world.new }
+{
+    match answer(alloc, world, sync)? {
+        Ok(stream) => run_stream(alloc, world, sync, session, stream),
+        Err(refusal) => {
+            happen(alloc, world, Event::CutIn(sync.target, session))?;
+            Ok(Outcome::refused(refusal))
+        }
+    }
+}
+
+/// Draws records and has them taken. Both ends are cut unless End was taken.
+fn run_stream(
+    alloc: Global,
+    world: &mut World<ItemKnowledge>,
+    sync: &Sync,
+    session: u64,
+    stream: u64,
+) -> Result<Outcome, LineFault>
+    ensures { streams item_form sync.now session (Ok stream) world.old result world.new }
+{
+    match take_records(alloc, world, sync, stream) {
+        Ok(Outcome { counts, end }) => close(alloc, world, sync, session, stream, counts, end),
+        Err(fault) => Err(fault),
+    }
+}
+
+/// Cuts the session and the stream, unless End was taken.
+fn close(
+    alloc: Global,
+    world: &mut World<ItemKnowledge>,
+    sync: &Sync,
+    session: u64,
+    stream: u64,
+    counts: SyncCounts,
+    end: SyncEnd,
+) -> Result<Outcome, LineFault>
+    ensures { closes item_form sync.now session stream counts end world.old result world.new }
+{
+    if !matches!(&end, SyncEnd::Finished) {
+        happen(alloc, world, Event::CutIn(sync.target, session))?;
+        happen(alloc, world, Event::CutOut(sync.source, stream))?;
+    }
+    Ok(Outcome { counts, end })
+}
+
+/// Draws records and has them taken, up to a round that ends the sync, or to as many as may be taken.
+fn take_records(
+    alloc: Global,
+    world: &mut World<ItemKnowledge>,
+    sync: &Sync,
+    stream: u64,
+) -> Result<Outcome, LineFault>
+    ensures { Rounds item_form sync.now stream world.old result world.new }
+{
+    let mut counts = SyncCounts {
+        items: 0,
+        move_outs: 0,
+    };
+    for _taken in 0..sync.most.unwrap_or(u64::MAX) {
+        match take_record(alloc, world, sync, stream)? {
+            Round::Taken(told) => counts = with_counted(counts, told),
+            Round::Ended(end) => return Ok(Outcome { counts, end }),
+        }
+    }
+    Ok(Outcome {
+        counts,
+        end: SyncEnd::Cut,
+    })
+}
+
+/// One round: a record is drawn, and comes to the target.
+fn take_record(
+    alloc: Global,
+    world: &mut World<ItemKnowledge>,
+    sync: &Sync,
+    stream: u64,
+) -> Result<Round, LineFault>
+    ensures { round item_form sync.now stream world.old result world.new }
+{
+    match draw(alloc, world, sync, stream)? {
+        Ok(told) => receive(alloc, world, sync, told),
+        Err(refusal) => Ok(Round::Ended(SyncEnd::Refused(refusal))),
+    }
+}
+
+/// The counts with a record of this kind.
+fn with_counted(counts: SyncCounts, told: Told) -> SyncCounts
+    requires items { counts.items < 18446744073709551615 }
+    requires move_outs { counts.move_outs < 18446744073709551615 }
+    ensures { result ≡ counts_with counts told }
+{
+    match told {
+        Told::Item => SyncCounts {
+            items: counts.items + 1,
+            ..counts
+        },
+        Told::MoveOut => SyncCounts {
+            move_outs: counts.move_outs + 1,
+            ..counts
+        },
+        Told::Other => counts,
+    }
+}
+
+impl Outcome {
+    /// A sync that took nothing.
+    fn refused(refusal: Refusal) -> Outcome
+        ensures { result ≡ outcome [] (SyncEnd.Refused refusal) }
+    {
+        Outcome {
+            counts: SyncCounts {
+                items: 0,
+                move_outs: 0,
+            },
+            end: SyncEnd::Refused(refusal),
+        }
+    }
+}
+
+// ---- single events
+
+/// The target asks; the session that it opened, or its refusal.
+fn pull(
+    alloc: Global,
+    world: &mut World<ItemKnowledge>,
+    sync: &Sync,
+) -> Result<Result<u64, Refusal>, LineFault>
+    ensures { pulls item_form sync.now world.old result world.new }
+{
+    happen(alloc, world, Event::Pull(sync.target))?;
+    Ok(session_in(newest(world)))
+}
+
+/// The source answers the newest request; the stream that it opened, or its refusal.
+fn answer(
+    alloc: Global,
+    world: &mut World<ItemKnowledge>,
+    sync: &Sync,
+) -> Result<Result<u64, Refusal>, LineFault>
+    ensures { answers item_form sync.now world.old result world.new }
+{
+    let newest_ask = world.ask_count();
+    happen(alloc, world, Event::Answer(sync.source, newest_ask))?;
+    Ok(stream_in(newest(world)))
+}
+
+/// The source gives the stream's next record; what it tells, or the refusal.
+fn draw(
+    alloc: Global,
+    world: &mut World<ItemKnowledge>,
+    sync: &Sync,
+    stream: u64,
+) -> Result<Result<Told, Refusal>, LineFault>
+    ensures { draws item_form sync.now stream world.old result world.new }
+{
+    happen(alloc, world, Event::Next(sync.source, stream))?;
+    Ok(drawn_in(newest(world)))
+}
+
+/// The newest record, which tells this, comes to the target.
+fn receive(
+    alloc: Global,
+    world: &mut World<ItemKnowledge>,
+    sync: &Sync,
+    told: Told,
+) -> Result<Round, LineFault>
+    ensures { receives item_form sync.now told world.old result world.new }
+{
+    let newest_record = world.record_count();
+    happen(alloc, world, Event::Receive(sync.target, newest_record))?;
+    Ok(round_in(told, newest(world)))
+}
+
+// ---- what their answers say
+
+fn session_in(answer: &Answer) -> Result<u64, Refusal>
+    requires { MayOpenSession answer.now }
+    ensures { OpensSession answer.now result }
+{
+    match answer {
+        Answer::Stepped(Ok(Reply::Asked(ask))) => Ok(ask.session()),
+        Answer::Stepped(Err(refusal)) => Err(*refusal),
+        _ => unreachable!(),
+    }
+}
+
+fn stream_in(answer: &Answer) -> Result<u64, Refusal>
+    requires { MayOpenStream answer.now }
+    ensures { OpensStream answer.now result }
+{
+    match answer {
+        Answer::Stepped(Ok(Reply::Streaming(stream))) => Ok(*stream),
+        Answer::Stepped(Err(refusal)) => Err(*refusal),
+        _ => unreachable!(),
+    }
+}
+
+fn drawn_in(answer: &Answer) -> Result<Told, Refusal>
+    requires { MayDraw answer.now }
+    ensures { Draws answer.now result }
+{
+    match answer {
+        Answer::Stepped(Ok(Reply::Gave(sent))) => Ok(Told::of(sent.body())),
+        Answer::Stepped(Err(refusal)) => Err(*refusal),
+        _ => unreachable!(),
+    }
+}
+
+fn round_in(told: Told, answer: &Answer) -> Round
+    requires { MayTake answer.now }
+    ensures { Takes told answer.now result }
+{
+    match answer {
+        Answer::Stepped(Ok(Reply::Took)) | Answer::Stepped(Ok(Reply::Known)) => Round::Taken(told),
+        Answer::Stepped(Ok(Reply::Finished)) => Round::Ended(SyncEnd::Finished),
+        Answer::Stepped(Err(refusal)) => Round::Ended(SyncEnd::Refused(*refusal)),
+        _ => unreachable!(),
+    }
+}
+
+impl Told {
+    /// What a record of this body tells.
+    fn of(body: &Body) -> Told
+        ensures { result ≡ told_by body.now }
+    {
+        match body {
+            Body::Item(_) => Told::Item,
+            Body::MoveOut(_) => Told::MoveOut,
+            _ => Told::Other,
+        }
+    }
+}

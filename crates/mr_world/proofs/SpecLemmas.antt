@@ -1,0 +1,41 @@
+-- Specifications that are not refused.
+use Rattle.std.proofs.Common.{◌≡◌, sym, subst, ℕ, ◌≤◌, ◌==◌, nat_lt, Bool, true, false, ◌||◌, List, ◌∷◌, ◌++◌, inl, refl, if◌then◌else◌, arith, Some, None}
+use Rattle.std.specs.List.{list_any}
+use Rattle.std.proofs.lemmas.Bool.{both_ways, eqb-false, ltb-false}
+use Rattle.mr_model.proofs.Basics.{any_intro, append_right, false_from}
+use Rattle.mr_world.specs.Made.{has_bad_capacity, has_bad_limit, has_same_id, spec_refusal}
+use Rattle.mr_world.specs.declared.fault.SpecFault.TheVariants.{BadLimit, NoCapacity, SameReplica}
+use Rattle.mr_world.specs.declared.spec.Spec.{Spec}
+
+-- none of the cases holds
+none_bad : (same limit capacity : Bool) → (if same then Some SameReplica else (if limit then Some BadLimit else (if capacity then Some NoCapacity else None))) ≡ None → (limit ≡ false) × (capacity ≡ false)
+none_bad true limit capacity e = absurd (cc)
+none_bad false true capacity e = absurd (cc)
+none_bad false false true e = absurd (cc)
+none_bad false false false e = (refl, refl)
+
+neither : (a b : Bool) → (a || b) ≡ false → (a ≡ false) × (b ≡ false)
+neither true b e = absurd (cc)
+neither false b e = (refl, e)
+
+-- a number that is neither 0 nor past the limit
+in_range : (n most : ℕ) → ((n == 0) || nat_lt most n) ≡ false → (1 ≤ n) × (n ≤ most)
+in_range n most e =
+    let no = neither (n == 0) (nat_lt most n) e in
+    let some : ¬ (n ≡ 0) = eqb-false n 0 no.0 in
+    let few = ltb-false most n no.1 in
+    (omega (arith, some), omega (arith, few))
+
+module _ (all before after : List Spec) (spec : Spec) (whole : all ≡ before ++ spec ∷ after) (fine : spec_refusal all ≡ None) where
+  not_so : (p : Spec → Bool) → list_any p all ≡ false → p spec ≡ false
+  not_so p none = false_from (p spec) (λ t. both_ways (list_any p all) none
+      (subst (λ (xs : List Spec). list_any p xs ≡ true) (sym whole) (any_intro p (before ++ spec ∷ after) spec (append_right before (spec ∷ after) spec (inl refl)) t)))
+
+  none : (list_any has_bad_limit all ≡ false) × (list_any has_bad_capacity all ≡ false)
+  none = none_bad (has_same_id all) (list_any has_bad_limit all) (list_any has_bad_capacity all) fine
+
+  pub limit_fits : (1 ≤ spec.event_limit) × (spec.event_limit ≤ 1000000)
+  limit_fits = in_range spec.event_limit 1000000 (not_so has_bad_limit none.0)
+
+  pub capacity_fits : (1 ≤ spec.port_capacity) × (spec.port_capacity ≤ 4096)
+  capacity_fits = in_range spec.port_capacity 4096 (not_so has_bad_capacity none.1)
