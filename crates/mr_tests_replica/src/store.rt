@@ -91,4 +91,3 @@ fn ample_memory_for_holdings(rt: HostRuntime) -> Result<(), Fail> {
     assert_eq!(rt; store.conflicts()?.len(), 1);
     Ok(())
 }
-
