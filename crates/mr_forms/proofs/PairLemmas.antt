@@ -1,4 +1,5 @@
-use Rattle.std.proofs.Common.{◌≡◌, ◌≢◌, ◌++◌, Bool, true, false, cond, ◌||◌, ◌&&◌, List, [], ◌∷◌, refl, ap, ◌∙◌}
+use Rattle.std.proofs.Common.{◌≡◌, ◌≢◌, ◌++◌, Bool, true, false, cond, ◌||◌, ◌&&◌, not, List, [], ◌∷◌, refl, ap, sym, ◌∙◌}
+use Rattle.std.proofs.lemmas.Bool.{false≢true, and_parts}
 use Rattle.std.specs.declared.cmp.Ordering.{Ordering}
 use Rattle.std.specs.declared.cmp.Ordering.TheVariants.{Less, Equal, Greater}
 use Rattle.std.specs.Ordering.{is_eq, eq_by_cmp, ordering_then}
@@ -9,6 +10,7 @@ use Rattle.mr_version.specs.Name.{Name, name_eq, name_cmp}
 use Rattle.mr_version.specs.Order.{names_total}
 use Rattle.mr_forms.specs.declared.plain_knowledge.Pair.{Pair}
 use Rattle.mr_forms.specs.Sets.{is_listed}
+use Rattle.mr_forms.specs.Fresh.{same_name}
 use Rattle.mr_forms.specs.PlainPair.{pair, pair_cmp, has_pair}
 use Rattle.mr_forms.proofs.SetLemmas.{name_eq-symmetric}
 
@@ -96,3 +98,29 @@ listed_with true true this rest = refl
 listed_with true false true rest = refl
 listed_with true false false rest = refl
 listed_with false below this rest = refl
+
+-- ---- beyond what is known for all
+
+-- what is known for all of a pair's version is known for all of the version of an equal pair
+pub of_same_version : (all : List Name) (known : Bool) (i v : Name) (p : Pair) → is_listed all p.version ≡ known → eq_by_cmp pair_cmp (pair i v) p ≡ true → is_listed all v ≡ known
+of_same_version all known i v p is same = ap (is_listed all) (sym (same_name p.version v (and_parts (name_eq p.item i) (name_eq p.version v) (sym (pair_eq-parts i v p) ∙ same)).1)) ∙ is
+
+-- a pair whose version is known for all is left out
+pub left_out : (had here rest all : Bool) → (here ≡ true → all ≡ true) → (had || ((here || rest) && not all)) ≡ (had || (rest && not all))
+left_out had true true true known = refl
+left_out had true false true known = refl
+left_out had true rest false known = absurd (false≢true (known refl))
+left_out had false rest all known = refl
+
+-- another one passes from what is left to what is had
+pub taken_in : (new had here rest all total : Bool) → new ≡ (here || had) → (here ≡ true → all ≡ false) → (had || ((here || rest) && not all)) ≡ total → (new || (rest && not all)) ≡ total
+taken_in new had true rest true total gains apart whole = absurd (false≢true (sym (apart refl)))
+taken_in new true true rest false total gains apart whole = rw gains whole
+taken_in new false true rest false total gains apart whole = rw gains whole
+taken_in new had false rest all total gains apart whole = rw gains whole
+
+-- with what is known for all, what is beyond it is all that is known
+pub with_beyond : (all has : Bool) → (all || (has && not all)) ≡ (all || has)
+with_beyond true has = refl
+with_beyond false true = refl
+with_beyond false false = refl

@@ -1,13 +1,12 @@
 use Rattle.std.proofs.Common.{◌≡◌, ◌≢◌, ◌<◌, ◌⊎◌, ℕ, Bool, true, false, ◌||◌, ◌&&◌, List, [], ◌∷◌, length, get_or, Option, Some, None, All, AllPairs, Contains, map, IfSome, refl, ap, sym, ◌∙◌, arith, inl, inr}
-use Rattle.std.specs.declared.cmp.Ordering.{Ordering}
-use Rattle.std.specs.declared.cmp.Ordering.TheVariants.{Less, Equal, Greater}
+use Rattle.std.specs.declared.cmp.Ordering.TheVariants.{Less}
 use Rattle.std.specs.Ordering.{is_eq}
 use Rattle.std.specs.List.{list_any}
 use Rattle.std.proofs.Math.ListN.{length-map}
 use Rattle.std.proofs.lemmas.Bool.{false≢true, and_parts, or_cases}
 use Rattle.std.proofs.lemmas.List.{get_or-map}
 use Rattle.std.proofs.lemmas.Map.Keys.{sorted_from_all_adjacent}
-use Rattle.mr_version.specs.Order.{names_total, exact_names}
+use Rattle.mr_version.specs.Order.{names_total}
 use Rattle.std.proofs.lemmas.List.Elements.{All-head, All-tail, All-map, All-weaker, All-contains, All-contains_itself}
 use Rattle.mr_version.specs.Name.{Name, name_eq, name_cmp}
 use Rattle.mr_forms.specs.declared.fragment.ItemSet.{ItemSet}
@@ -16,9 +15,10 @@ use Rattle.mr_forms.specs.declared.fragment.Fragment.{Fragment}
 use Rattle.mr_forms.specs.Sets.{Versions, is_listed}
 use Rattle.mr_forms.specs.Known.{Part}
 use Rattle.mr_forms.specs.Covered.{listed_items}
+use Rattle.mr_forms.specs.Fresh.{same_name}
 use Rattle.mr_forms.specs.Parts.{part_of, AreListable, ComesFirst, AreInOrder, ArePartsThat}
-use Rattle.mr_forms.specs.PlainPair.{PlainKnown, pair, has_pair}
-use Rattle.mr_forms.specs.Plain.{IsOnly, IsAllOrOne, ComesBefore, IsOneByOne, AreFragmentsOf, HasPlainVersions, IsPlainPart, is_all, is_named, had_for_all, had_by_item}
+use Rattle.mr_forms.specs.PlainPair.{PlainKnown}
+use Rattle.mr_forms.specs.Plain.{IsOnly, IsAllOrOne, ComesBefore, IsOneByOne, AreFragmentsOf, HasPlainVersions, IsPlainPart, beyond_all, is_all, is_named, had_for_all, had_by_item}
 use Rattle.mr_forms.proofs.SetLemmas.{name_eq-symmetric, or_nothing}
 use Rattle.mr_forms.proofs.PairLemmas.{name_eq-itself}
 use Rattle.mr_forms.proofs.PartLemmas.{AllPairs-head, AllPairs-tail, Contains-cases, Contains-here, Contains-there, Contains-map}
@@ -142,7 +142,7 @@ fragment_is_part k fs are f has = (some_version f.vector (All-contains (λ g. g.
     go AllItems e single = same_tests (is_listed f.vector) (is_listed k.for_all) (λ v. sym (own_all fs f v are.one_by_one.in_order has (ap is_all e)) ∙ are.for_all v)
     go (Listed items) e single =
         let only : IsOnly single.0 f.items = rw e single.1 in
-        rw single.1 (refl, same_tests (is_listed f.vector) (λ v. has_pair k.pairs (pair single.0 v)) (λ v. sym (own_item fs f single.0 v are.one_by_one.single are.one_by_one.in_order has only) ∙ are.by_item single.0 v))
+        rw single.1 (refl, same_tests (is_listed f.vector) (beyond_all k single.0) (λ v. sym (own_item fs f single.0 v are.one_by_one.single are.one_by_one.in_order has only) ∙ are.by_item single.0 v))
 
 found : {X : Type 0} (p : X → Bool) (xs : List X) → list_any p xs ≡ true → (x : X) × (Contains xs x × (p x ≡ true))
 found {X} p [] any = absurd (false≢true any)
@@ -160,13 +160,8 @@ only_from_test : (items : ItemSet) (i : Name) → IsAllOrOne items → is_named 
 only_from_test AllItems i single named = absurd (false≢true named)
 only_from_test (Listed items) i single named =
     let test : (name_eq single.0 i || false) ≡ true = rw single.1 at named in
-    let same : single.0 ≡ i = exact_names single.0 i (equal_from_test (name_cmp single.0 i) (or_nothing (name_eq single.0 i) ∙ test)) in
+    let same : single.0 ≡ i = same_name single.0 i (or_nothing (name_eq single.0 i) ∙ test) in
     single.1 ∙ ap (λ (j : Name). j ∷ []) same
-  where
-    equal_from_test : (o : Ordering) → is_eq o ≡ true → o ≡ Equal
-    equal_from_test Less e = absurd (false≢true e)
-    equal_from_test Equal e = refl
-    equal_from_test Greater e = absurd (false≢true e)
 
 listed_only : (items : ItemSet) (i : Name) → IsOnly i items → listed_items items ≡ Some (i ∷ [])
 listed_only AllItems i only = absurd only
@@ -190,7 +185,7 @@ has_part k fs are (Some (i ∷ rest)) versions v some is =
     let f = found (λ g. is_named g.items i && is_listed g.vector v) fs had in
     let named : is_named f.0.items i ≡ true = (and_parts (is_named f.0.items i) (is_listed f.0.vector v) f.1.1).0 in
     let only : IsOnly i f.0.items = only_from_test f.0.items i (All-contains (λ g. IsAllOrOne g.items) fs f.0 are.one_by_one.single f.1.0) named in
-    let same : is_listed f.0.vector ≡ versions = same_tests (is_listed f.0.vector) (λ w. has_pair k.pairs (pair i w)) (λ w. sym (own_item fs f.0 i w are.one_by_one.single are.one_by_one.in_order f.1.0 only) ∙ are.by_item i w) ∙ sym is.1 in
+    let same : is_listed f.0.vector ≡ versions = same_tests (is_listed f.0.vector) (beyond_all k i) (λ w. sym (own_item fs f.0 i w are.one_by_one.single are.one_by_one.in_order f.1.0 only) ∙ are.by_item i w) ∙ sym is.1 in
     let items : listed_items f.0.items ≡ Some (i ∷ rest) = listed_only f.0.items i only ∙ ap (λ (r : List Name). Some (i ∷ r)) (sym is.0) in
     rw (← part_is f.0 (Some (i ∷ rest)) versions items same) (Contains-map (part_of is_listed) f.0 fs f.1.0)
 

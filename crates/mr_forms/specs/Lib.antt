@@ -3,9 +3,12 @@ pub mod Runs
 pub mod Known
 pub mod Covered
 pub mod Parts
+pub mod Listing
 pub mod Fault
 pub mod Additions
 pub mod Columns
 pub mod PlainPair
 pub mod Plain
 pub mod PlainSteps
+pub mod Fresh
+pub mod PlainLaws

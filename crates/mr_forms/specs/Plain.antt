@@ -1,4 +1,4 @@
-use Rattle.std.specs.Prelude.{◌≡◌, ◌≢◌, Bool, true, false, ◌||◌, ◌&&◌, List, [], ◌∷◌, Option, Some, None, All, AllPairs}
+use Rattle.std.specs.Prelude.{◌≡◌, ◌≢◌, Bool, true, false, ◌||◌, ◌&&◌, not, List, [], ◌∷◌, Option, Some, None, All, AllPairs}
 use Rattle.std.specs.List.{list_any}
 use Rattle.std.specs.declared.cmp.Ordering.TheVariants.{Less}
 use Rattle.mr_version.specs.Name.{Name, name_cmp, name_eq}
@@ -13,13 +13,18 @@ use Rattle.mr_forms.specs.PlainPair.{PlainKnown, pair, has_pair}
 abbrev pub plain_known : PlainKnown → Pairs
 plain_known k i v = is_listed k.for_all v || has_pair k.pairs (pair i v)
 
--- the versions that are known for all items, or beside them for the one item that is listed
+-- the pairs that are known beyond what is known for all items
+abbrev pub beyond_all : PlainKnown → Pairs
+beyond_all k i v = has_pair k.pairs (pair i v) && not (is_listed k.for_all v)
+
+-- the versions that are known for all items, or beyond them for the one item that is listed
 abbrev pub HasPlainVersions : PlainKnown → Option (List Name) → Versions → Type 0
 HasPlainVersions k None versions = versions ≡ is_listed k.for_all
 HasPlainVersions k (Some []) versions = ⊥
-HasPlainVersions k (Some (i ∷ rest)) versions = (rest ≡ []) × (versions ≡ (λ v. has_pair k.pairs (pair i v)))
+HasPlainVersions k (Some (i ∷ rest)) versions = (rest ≡ []) × (versions ≡ beyond_all k i)
 
--- What is known for all items is one part, where it is something; and the pairs of an item are one, where it has some.
+-- What is known for all items is one part, where it is something; and what is known for an item beyond it is one, where
+-- it is something.
 abbrev pub IsPlainPart : PlainKnown → Part → Type 0
 IsPlainPart k p = ((v : Name) × (p.versions v ≡ true)) × HasPlainVersions k p.items p.versions
 
@@ -73,8 +78,8 @@ had_for_all fragments v = list_any (λ f. is_all f.items && is_listed f.vector v
 abbrev pub had_by_item : List (Fragment (List Name)) → Pairs
 had_by_item fragments i v = list_any (λ f. is_named f.items i && is_listed f.vector v) fragments
 
--- The fragments have just what is known: for all items what is known for all, and for each other item its pairs.
+-- The fragments have just what is known: for all items what is known for all, and for each item what is known beyond it.
 pub record AreFragmentsOf (known : PlainKnown) (fragments : List (Fragment (List Name))) : Type 0 where
   pub for_all : IsSame (had_for_all fragments) (is_listed known.for_all)
-  pub by_item : AreSame (had_by_item fragments) (λ i v. has_pair known.pairs (pair i v))
+  pub by_item : AreSame (had_by_item fragments) (beyond_all known)
   pub one_by_one : IsOneByOne fragments

@@ -15,6 +15,7 @@ use std::alloc::Global;
 pub trait Knowledge: Drop {
     ghost use Rattle.mr_forms.specs.Covered.{covered, all_covered, HasItems};
     ghost use Rattle.mr_forms.specs.Parts.{part_of, ArePartsThat};
+    ghost use Rattle.mr_forms.specs.Listing.{ListsMore};
 
     /// The form of the vectors of its fragments.
     type Vector: VersionSet;
@@ -98,4 +99,9 @@ pub trait Knowledge: Drop {
         ensures items { IfOk result (λ fragments. All (λ fragment. HasItems fragment.items) fragments.items) }
         ensures parts { IfOk result (λ fragments. ArePartsThat (form.is_part self.now) (map (part_of Self.Vector.has) fragments.items)) }
         ensures memory { OnErr result (result ≡ Err FormFault.OutOfMemory) };
+
+    /// Fragments list an item only where more is known for it than for all items. So a form lists just
+    /// items for which some call was given something beyond what is known for all. The law is over the
+    /// parts of `form`, which the fragments are.
+    ghost lists_more: { ListsMore form };
 }

@@ -30,8 +30,9 @@ struct Pair {
 /// has a value for all that can be known, so `OutOfMemory` is its only fault. A version is learned for
 /// its item alone.
 ///
-/// Its fragments are one for each item that has pairs, in the items' order, and before them one for
-/// all items, only where something was merged for all.
+/// Its fragments are one for each item of which something is known beyond what was merged for all, in
+/// the items' order, and before them one for all items, only where something was merged for all. A pair
+/// stays when its version is merged for all items, but no fragment lists it then.
 ///
 /// `knows` and `learn` take time by the logarithm of the number of pairs; `learn_below` and `merge`
 /// take memory for what they are given, and not for what is known already.
@@ -193,9 +194,13 @@ impl PlainKnowledge {
 }
 
 impl Knowledge for PlainKnowledge {
+    ghost use Rattle.mr_forms.specs.PlainLaws.{plain_lists_more};
+
     type Vector = PlainVersions;
 
     ghost form = { plain_form };
+
+    ghost lists_more = { plain_lists_more };
 
     fn new(alloc: Global) -> Self {
         PlainKnowledge {
@@ -266,7 +271,9 @@ impl Knowledge for PlainKnowledge {
     {
         let mut fragments = self.fragments_for_all()?;
         for pair in &self.pairs {
-            add_pair(&mut fragments, *pair, self.alloc)?;
+            if !self.for_all.contains(pair.version) {
+                add_pair(&mut fragments, *pair, self.alloc)?;
+            }
         }
         Ok(fragments)
     }

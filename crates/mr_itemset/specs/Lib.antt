@@ -1,6 +1,7 @@
 pub mod Normal
 pub mod Equal
 pub mod ItemForm
+pub mod ListingLaws
 pub mod Folded
 pub mod Growth
 pub mod Lacking

@@ -6,10 +6,13 @@ use std::alloc::Global;
 
 impl Knowledge for ItemKnowledge {
     ghost use Rattle.mr_itemset.specs.ItemForm.{item_form};
+    ghost use Rattle.mr_itemset.specs.ListingLaws.{item_lists_more};
 
     type Vector = ConciseVector;
 
     ghost form = { item_form };
+
+    ghost lists_more = { item_lists_more };
 
     fn new(alloc: Global) -> ItemKnowledge {
         ItemKnowledge::new(alloc)

@@ -1,17 +1,18 @@
-use Rattle.std.proofs.Common.{◌≡◌, ◌||◌, All}
+use Rattle.std.proofs.Common.{◌≡◌, ◌||◌, ◌&&◌, not, All}
 use Rattle.std.specs.List.Sorted.{IsStrictlySortedBy}
 use Rattle.mr_version.specs.Name.{Name}
 use Rattle.mr_forms.specs.Sets.{IsSame, is_listed}
 use Rattle.mr_forms.specs.PlainPair.{pair, pair_cmp, has_pair}
-use Rattle.mr_forms.specs.Plain.{IsOneByOne, had_for_all, had_by_item}
+use Rattle.mr_forms.specs.Plain.{IsOneByOne, beyond_all, had_for_all, had_by_item}
 use Rattle.mr_forms.specs.PlainSteps.{EndsBy}
 use Rattle.mr_forms.proofs.plain_knowledge.PlainKnowledgeKnowledge.fragments.Given as goal
 
--- the fragments so far and the pairs that are left are all that is known, and the fragments end by what is left
+-- The fragments so far and those of the pairs left whose versions are not known for all are all that is known, and the
+-- fragments end by what is left.
 abbrev pub invariant-loop-pair : goal.invariant-loop-pair
 invariant-loop-pair l = record {
   for_all : IsSame (had_for_all l.fragments.items) (is_listed l.fn.self.for_all);
-  by_item : (i v : Name) → (had_by_item l.fragments.items i v || has_pair l.pair-iterator (pair i v)) ≡ has_pair l.fn.self.pairs (pair i v);
+  by_item : (i v : Name) → (had_by_item l.fragments.items i v || (has_pair l.pair-iterator (pair i v) && not (is_listed l.fn.self.for_all v))) ≡ beyond_all l.fn.self i v;
   one_by_one : IsOneByOne l.fragments.items;
   ahead : All (λ p. All (λ f. EndsBy p.item f.items) l.fragments.items) l.pair-iterator;
   sorted : IsStrictlySortedBy pair_cmp l.pair-iterator;
