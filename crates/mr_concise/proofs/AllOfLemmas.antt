@@ -111,9 +111,7 @@ IsAllTo-more has from at next w p =
 pub IsAllTo-end : (has : ℕ → Bool) (from at next : ℕ) → IsAllTo has from at → IsPassed has at next → next ≡ at → IsNextOut has from at
 IsAllTo-end has from at next w p e = record { above = w.above; is_out = p.stays e; between = w.between }
 
--- past one set, and from there past another
-pub IsPassed-two : (s t : ℕ → Bool) (from middle next : ℕ) → IsNextOut s from middle → middle ≤ COUNTERS_END → s 0 ≡ false → IsNextOut t middle next → next ≤ COUNTERS_END → t 0 ≡ false → IsPassed (either s t) from next
-IsPassed-two s t from middle next m in_range s_zero n bound t_zero =
-    let up = m.above in
-    let first : IsPassed s from middle = record { above = up; bound = in_range; between = m.between; stays = λ e. let q : middle ≡ from = e in rw q at m.is_out; zero = s_zero } in
-    IsPassed-more s t from middle next first n bound t_zero
+-- all from here up to the place are in one of two sets, and the place is not in the first
+pub record IsPastFirst (s t : ℕ → Bool) (from at : ℕ) : Type 0 where
+  pub all : IsAllTo (either s t) from at
+  pub is_out : s at ≡ false

@@ -18,6 +18,16 @@ lasts-rise low (x ∷ xs) end r zero (suc j) d h l = let q = last-above (x.last 
 lasts-rise low (x ∷ xs) end r (suc i) zero d h l = absurd (omega arith)
 lasts-rise low (x ∷ xs) end r (suc i) (suc j) d h l = lasts-rise (x.last + 1) xs end r.1.1 i j d (omega arith) (omega arith)
 
+pub same-last : (hs : List Hole) (i : ℕ) (d e : Hole) → i < length hs → (get_or hs i d).last ≡ (get_or hs i e).last
+same-last hs i d e l = ap (λ (h : Hole). h.last) (get_or_default hs i d e l)
+
+-- a place whose hole before it ends below k, and whose own does not
+pub place-between : (hs : List Hole) (i k : ℕ) → IsNonDecreasingBy (λ h. h.last) hs → i ≤ length hs → ((d : Hole) → 0 < i → (get_or hs (i - 1) d).last < k) → ((d : Hole) → i < length hs → k ≤ (get_or hs i d).last) → IsPartitionPoint (λ h. nat_lt h.last k ≡ true) (λ h. nat_lt h.last k ≡ false) hs i
+place-between hs i k rise le before from = (
+  λ j d z l. let some : 0 < i = omega arith in let up = rise j (i - 1) d (omega arith) (omega arith) in let b = before d some in let lt : (get_or hs j d).last < k = omega arith in lt-ltb (get_or hs j d).last k lt,
+  λ j d f l. let up = rise i j d f l in let b = from d (omega arith) in let ge : k ≤ (get_or hs j d).last = omega arith in le-ltb (get_or hs j d).last k ge,
+)
+
 set-is : (hs : List Hole) (i : ℕ) (x : Hole) → i < length hs → set hs i x ≡ take i hs ++ x ∷ drop (suc i) hs
 set-is [] i x l = absurd (omega arith)
 set-is (h ∷ hs) zero x l = refl

@@ -1,7 +1,5 @@
 pub mod NameLemmas
 pub mod EdgeLemmas
-pub mod CursorLemmas
-pub mod WalkLemmas
 pub mod ColumnLemmas
 pub mod NextLemmas
 pub mod InsertLemmas
@@ -17,3 +15,5 @@ pub mod VersionLemmas
 pub mod HoleLemmas
 pub mod VectorInsertLemmas
 pub mod FragmentLemmas
+pub mod CoverLemmas
+pub mod ChangeLemmas

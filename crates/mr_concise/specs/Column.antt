@@ -1,10 +1,10 @@
-use Rattle.std.specs.Prelude.{◌≤◌, ◌+◌, ◌-◌, ℕ, Bool, not, nat_lt, nat_le, ◌&&◌, if◌then◌else◌, List, [], ◌∷◌, ◌++◌, length, refl, Option, Some, None}
+use Rattle.std.specs.Prelude.{◌≡◌, ◌≤◌, ◌+◌, ◌-◌, ℕ, Bool, true, not, nat_lt, nat_le, ◌&&◌, if◌then◌else◌, List, [], ◌∷◌, ◌++◌, length, refl}
 use Rattle.std.specs.List.{list_any}
 use Rattle.std.specs.Coded.{Coded, code_by, coded×, coded_ℕ, coded_list}
 use Rattle.mr_forms.specs.declared.run.TheConstants.{MAX_COUNTER}
 use Rattle.mr_concise.specs.declared.column.Hole.{Hole}
-use Rattle.mr_concise.specs.declared.column.TheConstants.{COUNTERS_END, MAX_HOLES}
-use Rattle.mr_concise.specs.Edges.{IsRising, AreUpTo}
+use Rattle.mr_concise.specs.declared.column.TheConstants.{MAX_HOLES}
+use Rattle.mr_concise.specs.Edges.{IsRising}
 
 -- whether c is in the hole
 abbrev pub hole_has : Hole → ℕ → Bool
@@ -25,6 +25,10 @@ extent_code = code_by (ℕ × List Hole) (coded× coded_ℕ (coded_list hole_cod
 abbrev pub column_has : Extent → ℕ → Bool
 column_has column c = (nat_le 1 c && nat_le c column.upto) && not (list_any (λ hole. hole_has hole c) column.holes)
 
+-- what the second column has is in the first
+abbrev pub ColumnCovers : Extent → Extent → Type 0
+ColumnCovers a b = (c : ℕ) → column_has b c ≡ true → column_has a c ≡ true
+
 -- where the holes begin and end
 abbrev pub hole_edges : List Hole → List ℕ
 hole_edges [] = []
@@ -44,18 +48,6 @@ pub record IsColumn (column : Extent) : Type 0 where
 -- the column with nothing in it
 abbrev pub empty_column : Extent
 empty_column = record { upto = 0; holes = [] }
-
--- the edges that are left: one that waits, and those of the holes and the bound
-abbrev pub edges_left : Option ℕ → Bool → Extent → List ℕ
-edges_left None is_done column = hole_edges column.holes ++ (if is_done then [] else (column.upto + 1) ∷ [])
-edges_left (Some end) is_done column = end ∷ (hole_edges column.holes ++ (if is_done then [] else (column.upto + 1) ∷ []))
-
--- They rise, and are in range. Once the bound is passed no hole is left.
-pub record AreEdges (left : List ℕ) (upto : ℕ) : Type 0 where
-  pub low : ℕ
-  pub apart : IsRising low left
-  pub in_range : AreUpTo COUNTERS_END left
-  pub upto_to : upto ≤ MAX_COUNTER
 
 -- the hole from first to last, or none
 abbrev pub gap : ℕ → ℕ → List Hole

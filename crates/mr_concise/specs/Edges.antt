@@ -1,4 +1,4 @@
-use Rattle.std.specs.Prelude.{◌<◌, ◌≤◌, ℕ, Bool, not, nat_lt, if◌then◌else◌, List, [], ◌∷◌}
+use Rattle.std.specs.Prelude.{◌<◌, ℕ, Bool, not, nat_lt, if◌then◌else◌, List, [], ◌∷◌}
 
 -- whether c is in the set that begins with `on` and turns at each edge
 abbrev pub is_on : Bool → List ℕ → ℕ → Bool
@@ -9,8 +9,3 @@ is_on on (t ∷ ts) c = if nat_lt c t then on else is_on (not on) ts c
 abbrev pub IsRising : ℕ → List ℕ → Type 0
 IsRising low [] = Unit {0}
 IsRising low (t ∷ ts) = (low < t) × IsRising t ts
-
--- the edges are at most high
-abbrev pub AreUpTo : ℕ → List ℕ → Type 0
-AreUpTo high [] = Unit {0}
-AreUpTo high (t ∷ ts) = (t ≤ high) × AreUpTo high ts

@@ -1,7 +1,6 @@
 pub mod Edges
 pub mod Next
 pub mod Column
-pub mod Walk
 pub mod Vector
 pub mod Runs
 pub mod Equal

@@ -1,12 +1,10 @@
-use Rattle.std.specs.Prelude.{◌≡◌, ◌<◌, ◌≤◌, ◌+◌, ℕ, ◌==◌, nat_lt, if◌then◌else◌, List, [], ◌∷◌, length, refl, All}
+use Rattle.std.specs.Prelude.{◌≡◌, ◌<◌, ◌≤◌, ◌+◌, ℕ, ◌==◌, ◌&&◌, nat_lt, if◌then◌else◌, List, [], ◌∷◌, length, refl, All}
 use Rattle.std.specs.Coded.{Coded, code_by, coded×, coded_ℕ}
 use Rattle.mr_forms.specs.Sets.{Versions, IsSame}
 use Rattle.mr_forms.specs.declared.run.TheConstants.{MAX_COUNTER}
 use Rattle.mr_concise.specs.declared.vector.AuthorColumn.{AuthorColumn}
-use Rattle.mr_concise.specs.declared.column.TheConstants.{MAX_HOLES, MAX_EDGES}
+use Rattle.mr_concise.specs.declared.column.TheConstants.{MAX_HOLES}
 use Rattle.mr_concise.specs.Edges.{IsRising}
-use Rattle.mr_concise.specs.declared.walk.Op.TheVariants.{Union}
-use Rattle.mr_concise.specs.Walk.{CountsEdges, IsCombined}
 use Rattle.mr_concise.specs.Column.{Extent, extent_code, edges, column_has, empty_column, IsColumn, with_counter}
 
 abbrev pub author_column_code : Coded AuthorColumn
@@ -46,17 +44,13 @@ pub record HasTooManyHoles (set : Versions) : Type 0 where
   pub means : (c : ℕ) → column_has column c ≡ set (record { author = author; counter = c })
   pub many : MAX_HOLES < length column.holes
 
--- no author's columns put together have more edges than a column may have
-abbrev pub HasFewEdges : List AuthorColumn → List AuthorColumn → Type 0
-HasFewEdges a b = (q n : ℕ) → CountsEdges Union (edges (column_of a q)) (edges (column_of b q)) n → n ≤ MAX_EDGES
-
--- each author's columns are put together
-abbrev pub AreUnited : List AuthorColumn → List AuthorColumn → List AuthorColumn → Type 0
-AreUnited a b new = (q : ℕ) → IsCombined Union (edges (column_of a q)) (edges (column_of b q)) (edges (column_of new q))
-
 -- the author's column with one counter more
 abbrev pub with_one : List AuthorColumn → ℕ → ℕ → AuthorColumn
 with_one columns author counter = record { author = author; column = with_counter (column_of columns author) counter }
+
+-- the author's versions that the column has
+abbrev pub in_column : ℕ → Extent → Versions
+in_column author column v = (v.author == author) && column_has column v.counter
 
 -- one author's column alone
 abbrev pub single : ℕ → Extent → List AuthorColumn

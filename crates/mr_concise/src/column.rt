@@ -1,6 +1,5 @@
 ghost use Rattle.std.specs.Prelude.{◌≡◌, ◌≤◌, ◌<◌, ◌+◌, ◌↔◌, ℕ, Bool, true, false, not, nat_lt, if◌then◌else◌, List, [], ◌∷◌, length, IsTrue, IfOk, IfSome, IfNone, OnOk, OnErr, drop, slice_get, IsErrOf, Err, ◌≢◌};
 ghost use Rattle.std.specs.List.{list_any};
-ghost use Rattle.mr_concise.specs.Edges.{is_on, IsRising, AreUpTo};
 ghost use Rattle.mr_concise.specs.Column.{Extent, hole_has, IsColumn, column_has, edges, hole_edges, empty_column, with_counter};
 
 use crate::column_ref::ColumnRef;
@@ -11,9 +10,6 @@ use std::marker::Model;
 
 /// The most holes that a column has.
 pub const MAX_HOLES: usize = 4096;
-
-/// The most edges that a column has: two of each hole, and one past the bound.
-pub const MAX_EDGES: usize = 2 * MAX_HOLES + 1;
 
 /// One past the highest counter of a version: where the counters of an author end.
 pub const COUNTERS_END: u32 = MAX_COUNTER + 1;

@@ -1,19 +1,22 @@
-ghost use Rattle.std.specs.Prelude.{◌≡◌, ◌≤◌, ◌<◌, ◌+◌, true, false, length, MatchOption, IfSome};
-ghost use Rattle.mr_concise.specs.Edges.{is_on, IsRising, AreUpTo};
-ghost use Rattle.mr_concise.specs.Column.{Extent, IsColumn, column_has, edges, empty_column};
+ghost use Rattle.std.specs.Prelude.{◌≡◌, ◌≤◌, ◌<◌, ◌+◌, ◌↔◌, ℕ, true, false, length, MatchOption, IfSome, IsTrue};
+ghost use Rattle.mr_concise.specs.Column.{Extent, IsColumn, column_has, empty_column, ColumnCovers};
 ghost use Rattle.mr_concise.specs.Next.{IsNextOut, IsNextIn, HasNoneFrom, HasNoHoleFrom, IsHoleFrom};
 
-use crate::column::{COUNTERS_END, Hole, MAX_EDGES};
-use crate::cursor::Edges;
-use crate::holes::hole_place;
+use crate::column::{COUNTERS_END, Hole};
+use crate::holes::hole_place_near;
 use mr_forms::MAX_COUNTER;
+use std::cell::Cell;
 use std::marker::Model;
 
 /// A column that is lent: its bound and its holes.
+///
+/// Questions that go up along the column take no search, since each begins where the last one ended.
 #[derive(Drop)]
 pub(crate) struct ColumnRef<'a> {
     upto: u32,
     holes: &'a [Hole],
+    /// How many holes ended below the counter of the last question.
+    place: Cell<usize>,
 }
 
 impl<'a> Model for ColumnRef<'a> {
@@ -33,7 +36,11 @@ impl<'a> ColumnRef<'a> {
         requires { IsColumn (record { upto = upto; holes = holes.now }) }
         ensures { result ≡ record { upto = upto; holes = holes.now } }
     {
-        ColumnRef { upto, holes }
+        ColumnRef {
+            upto,
+            holes,
+            place: Cell::new(0),
+        }
     }
 
     /// The column with nothing in it.
@@ -43,6 +50,7 @@ impl<'a> ColumnRef<'a> {
         ColumnRef {
             upto: 0,
             holes: &[],
+            place: Cell::new(0),
         }
     }
 
@@ -58,7 +66,8 @@ impl<'a> ColumnRef<'a> {
         requires { 1 ≤ counter }
         ensures { MatchOption result (HasNoHoleFrom (column_has self.now) self.now.upto counter) (λ hole. IsHoleFrom (column_has self.now) self.now.upto counter hole) }
     {
-        let at = hole_place(self.holes, counter);
+        let at = hole_place_near(self.holes, self.place.get(), counter);
+        self.place.set(at);
         if at < self.holes.len() {
             Some(self.holes[at])
         } else {
@@ -97,13 +106,30 @@ impl<'a> ColumnRef<'a> {
         1 <= counter && counter < self.next_out(counter)
     }
 
-    pub(crate) fn edges(&self) -> Edges<'_>
-        ensures is { result ≡ edges self.now }
-        ensures apart { IsRising 0 (edges self.now) }
-        ensures in_range { AreUpTo COUNTERS_END (edges self.now) }
-        ensures far { is_on true (edges self.now) COUNTERS_END ≡ false }
-        ensures few { length (edges self.now) ≤ MAX_EDGES }
+    /// Whether nothing in the hole is covered.
+    fn has_none_in(&self, hole: &Hole) -> bool
+        requires { 1 ≤ hole.now.first }
+        ensures { IsTrue result ↔ ((c : ℕ) → hole.now.first ≤ c → c ≤ hole.now.last → column_has self.now c ≡ false) }
     {
-        Edges::new(self.upto, self.holes)
+        match self.next_in(hole.first) {
+            Some(at) => hole.last < at,
+            None => true,
+        }
+    }
+
+    /// Whether all that the other column covers is covered: its bound is no higher, and it has nothing
+    /// in the holes.
+    pub(crate) fn covers(&self, other: &ColumnRef<'_>) -> bool
+        ensures { IsTrue result ↔ ColumnCovers self.now other.now }
+    {
+        if other.upto > self.upto {
+            return false;
+        }
+        for hole in self.holes {
+            if !other.has_none_in(hole) {
+                return false;
+            }
+        }
+        true
     }
 }

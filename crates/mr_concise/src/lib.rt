@@ -24,7 +24,6 @@
 mod all_of;
 mod column;
 mod column_ref;
-mod cursor;
 mod equal;
 mod fragments;
 mod holes;
@@ -41,10 +40,9 @@ mod text;
 mod union;
 mod vector;
 mod versions;
-mod walk;
 
 pub use all_of::AllOf;
-pub use column::{COUNTERS_END, Column, Hole, MAX_EDGES, MAX_HOLES};
+pub use column::{COUNTERS_END, Column, Hole, MAX_HOLES};
 pub use fragments::{concise_fragments, knowledge_text};
 pub use of_set::OfSet;
 pub use source::Source;

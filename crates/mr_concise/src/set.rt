@@ -4,11 +4,9 @@ ghost use Rattle.mr_forms.specs.Runs.{with_run, AreRunsOf, HasVersionsAlone, Has
 ghost use Rattle.mr_concise.specs.Column.{Extent};
 ghost use Rattle.mr_concise.specs.Vector.{vector_has, IsVectorFrom, HasTooManyHoles};
 
-use crate::column::Hole;
-use crate::column_ref::ColumnRef;
 use crate::insert::insert_in;
 use crate::runs::push_runs;
-use crate::union::{covers_columns, unite_column, unite_columns};
+use crate::union::{covers_columns, unite_columns, unite_run};
 use crate::vector::{AuthorColumn, ConciseVector, column_at, next_author};
 use mr_forms::{FormFault, Run, VersionSet};
 use mr_version::{Author, Version};
@@ -71,13 +69,7 @@ impl VersionSet for ConciseVector {
 
     fn insert_range(&mut self, run: Run) -> Result<(), FormFault> {
         let alloc = self.alloc;
-        let before = [Hole {
-            first: 1,
-            last: run.first - 1,
-        }];
-        let count = if run.first > 1 { 1 } else { 0 };
-        let added = ColumnRef::new(run.last, &before[..count]);
-        unite_column(&mut self.columns, alloc, run.author, &added)
+        unite_run(&mut self.columns, alloc, run)
     }
 
     fn union(&mut self, other: &ConciseVector) -> Result<(), FormFault> {

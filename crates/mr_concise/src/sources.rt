@@ -3,9 +3,10 @@ ghost use Rattle.std.specs.Prelude.{◌≡◌, ◌≤◌};
 ghost use Rattle.mr_forms.specs.Sets.{both};
 ghost use Rattle.mr_forms.specs.Runs.{in_run};
 ghost use Rattle.mr_concise.specs.Source.{in_some};
-ghost use Rattle.mr_concise.specs.Vector.{vector_has};
+ghost use Rattle.mr_concise.specs.Vector.{vector_has, in_column};
 
 use crate::all_of::{lower, lower_author};
+use crate::column_ref::ColumnRef;
 use crate::source::Source;
 use crate::vector::{ConciseVector, column_at, next_author};
 use mr_forms::Run;
@@ -25,6 +26,41 @@ impl Source for ConciseVector {
 
     fn next_in(&self, author: Author, from: u32) -> Option<u32> {
         column_at(self.author_columns(), author).next_in(from)
+    }
+}
+
+/// An author's column, lent.
+#[derive(Drop)]
+pub(crate) struct OneColumn<'a> {
+    pub(crate) author: Author,
+    pub(crate) column: ColumnRef<'a>,
+}
+
+impl<'a> Source for OneColumn<'a> {
+    ghost has = { λ one. in_column one.author one.column };
+
+    fn next_author(&self, id: u16) -> Option<Author> {
+        if self.author.id() >= id {
+            Some(self.author)
+        } else {
+            None
+        }
+    }
+
+    fn next_out(&self, author: Author, from: u32) -> u32 {
+        if self.author.id() == author.id() {
+            self.column.next_out(from)
+        } else {
+            from
+        }
+    }
+
+    fn next_in(&self, author: Author, from: u32) -> Option<u32> {
+        if self.author.id() == author.id() {
+            self.column.next_in(from)
+        } else {
+            None
+        }
     }
 }
 
@@ -109,14 +145,13 @@ impl<A: Source, B: Source> Source for (A, B) {
     }
 
     fn next_out(&self, author: Author, from: u32) -> u32 {
-        let mut at = from;
+        let mut at = self.0.next_out(author, from);
         loop {
-            let middle = self.0.next_out(author, at);
-            let next = self.1.next_out(author, middle);
+            let next = self.1.next_out(author, at);
             if next == at {
                 return at;
             }
-            at = next;
+            at = self.0.next_out(author, next);
         }
     }
 

@@ -13,7 +13,7 @@ use mr_version::Author;
 use std::alloc::{AllocError, Global};
 
 /// Whether an author's column would have too many holes.
-fn has_many_holes<S: Source>(source: &S, author: Author) -> bool
+pub(crate) fn has_many_holes<S: Source>(source: &S, author: Author) -> bool
     ensures many { result ≡ true → HasManyHoles (of_author (S.has source.now) author) }
     ensures few { result ≡ false → HasFewHoles (of_author (S.has source.now) author) }
 {
@@ -27,7 +27,7 @@ fn has_many_holes<S: Source>(source: &S, author: Author) -> bool
 }
 
 /// An author's column.
-fn gathered_column<S: Source>(
+pub(crate) fn gathered_column<S: Source>(
     alloc: Global,
     source: &S,
     author: Author,

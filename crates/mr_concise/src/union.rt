@@ -1,28 +1,40 @@
-ghost use Rattle.std.specs.Prelude.{◌≡◌, ◌≤◌, ◌<◌, ◌+◌, ◌↔◌, ◌≢◌, ℕ, true, false, IsTrue, IfOk, OnOk, OnErr, IsErrOf, Err, [], ◌∷◌, length};
+ghost use Rattle.std.specs.Prelude.{◌≡◌, ◌≤◌, ◌<◌, ◌+◌, ◌↔◌, ◌≢◌, ℕ, true, false, IsTrue, IfOk, OnOk, OnErr, IsErrOf, Err, length};
 ghost use Rattle.std.specs.Vec.{vec_len, vec_capacity};
-ghost use Rattle.mr_forms.specs.Sets.{both, Covers};
-ghost use Rattle.mr_concise.specs.Column.{Extent, edges, IsColumn};
-ghost use Rattle.mr_concise.specs.Walk.{CountsEdges, IsCombined};
-ghost use Rattle.mr_concise.specs.declared.walk.Op.TheVariants.{Union};
-ghost use Rattle.mr_concise.specs.Vector.{column_of, vector_has, IsVectorFrom, HasTooManyHoles, HasFewEdges, AreUnited, AreColumns, with_columns, with_column, single};
+ghost use Rattle.mr_forms.specs.Sets.{both, Covers, IsSame};
+ghost use Rattle.mr_forms.specs.Runs.{with_run};
+ghost use Rattle.mr_concise.specs.Vector.{column_of, vector_has, IsVectorFrom, HasTooManyHoles, AreColumns, with_columns, with_column};
 
-use crate::column::MAX_EDGES;
-use crate::column_ref::ColumnRef;
+use crate::sources::OneColumn;
+use crate::sweep::{gathered_column, has_many_holes};
 use crate::vector::{AuthorColumn, column_at, place, put};
-use crate::walk::{Op, combined, edge_count};
-use mr_forms::FormFault;
-use mr_version::Author;
+use mr_forms::{FormFault, Run};
 use std::alloc::{AllocError, Global};
+
+/// The column that the author of another one has, and that other one.
+fn both_columns<'a>(a: &'a [AuthorColumn], x: &'a AuthorColumn) -> (OneColumn<'a>, OneColumn<'a>)
+    requires { IsVectorFrom 0 a.now }
+    ensures had { (result.0.author ≡ x.now.author) × (result.0.column ≡ column_of a.now x.now.author) }
+    ensures added { (result.1.author ≡ x.now.author) × (result.1.column ≡ x.now.column) }
+{
+    let had = OneColumn {
+        author: x.author,
+        column: column_at(a, x.author),
+    };
+    let added = OneColumn {
+        author: x.author,
+        column: x.column.lent(),
+    };
+    (had, added)
+}
 
 /// Whether an author's columns put together have too many holes.
 fn has_too_many(a: &[AuthorColumn], b: &[AuthorColumn]) -> bool
     requires a { IsVectorFrom 0 a.now }
     requires b { IsVectorFrom 0 b.now }
-    ensures many { result ≡ true → HasTooManyHoles (both (vector_has a.now) (vector_has b.now)) }
-    ensures few { result ≡ false → HasFewEdges a.now b.now }
+    ensures { IsTrue result ↔ HasTooManyHoles (both (vector_has a.now) (vector_has b.now)) }
 {
     for x in b {
-        if edge_count(Op::Union, &column_at(a, x.author), &x.column.lent()) > MAX_EDGES {
+        if has_many_holes(&both_columns(a, x), x.author) {
             return true;
         }
     }
@@ -37,17 +49,16 @@ fn changed_columns(
 ) -> Result<Vec<AuthorColumn>, AllocError>
     requires a { IsVectorFrom 0 a.now }
     requires b { IsVectorFrom 0 b.now }
-    requires few { HasFewEdges a.now b.now }
+    requires few { HasTooManyHoles (both (vector_has a.now) (vector_has b.now)) → ⊥ }
     ensures columns { IfOk result (λ changed. AreColumns changed.items) }
     ensures vector { IfOk result (λ changed. IsVectorFrom 0 (with_columns changed.items a.now)) }
-    ensures united { IfOk result (λ changed. AreUnited a.now b.now (with_columns changed.items a.now)) }
+    ensures united { IfOk result (λ changed. IsSame (vector_has (with_columns changed.items a.now)) (both (vector_has a.now) (vector_has b.now))) }
 {
     let mut changed = Vec::new(alloc);
     for x in b {
-        let had = column_at(a, x.author);
-        let added = x.column.lent();
-        if edge_count(Op::Without, &added, &had) > 0 {
-            let column = combined(alloc, Op::Union, &had, &added)?;
+        let source = both_columns(a, x);
+        if !source.0.column.covers(&source.1.column) {
+            let column = gathered_column(alloc, &source, x.author)?;
             changed.push(AuthorColumn {
                 author: x.author,
                 column,
@@ -98,7 +109,7 @@ pub(crate) fn unite_columns(
     requires columns { IsVectorFrom 0 columns.old.items }
     requires other { IsVectorFrom 0 other.now }
     ensures columns { OnOk result (IsVectorFrom 0 columns.new.items) }
-    ensures united { OnOk result (AreUnited columns.old.items other.now columns.new.items) }
+    ensures united { OnOk result (IsSame (vector_has columns.new.items) (both (vector_has columns.old.items) (vector_has other.now))) }
     ensures holes { IsErrOf result FormFault.TooManyHoles ↔ HasTooManyHoles (both (vector_has columns.old.items) (vector_has other.now)) }
     ensures items { result ≢ Err FormFault.TooManyItems }
     ensures err { OnErr result (columns.new.items ≡ columns.old.items) }
@@ -115,26 +126,29 @@ pub(crate) fn unite_columns(
     Ok(())
 }
 
-/// A column more, put together with the one that its author has.
-pub(crate) fn unite_column(
+/// A run more, put together with the column that its author has.
+pub(crate) fn unite_run(
     columns: &mut Vec<AuthorColumn>,
     alloc: Global,
-    author: Author,
-    added: &ColumnRef<'_>,
+    run: Run,
 ) -> Result<(), FormFault>
     requires columns { IsVectorFrom 0 columns.old.items }
-    requires added { IsVectorFrom 0 (single author added.now) }
     ensures columns { OnOk result (IsVectorFrom 0 columns.new.items) }
-    ensures united { OnOk result (AreUnited columns.old.items (single author added.now) columns.new.items) }
-    ensures holes { IsErrOf result FormFault.TooManyHoles ↔ HasTooManyHoles (both (vector_has columns.old.items) (vector_has (single author added.now))) }
+    ensures united { OnOk result (IsSame (vector_has columns.new.items) (with_run (vector_has columns.old.items) run)) }
+    ensures holes { IsErrOf result FormFault.TooManyHoles ↔ HasTooManyHoles (with_run (vector_has columns.old.items) run) }
     ensures items { result ≢ Err FormFault.TooManyItems }
     ensures err { OnErr result (columns.new.items ≡ columns.old.items) }
 {
-    let had = column_at(columns, author);
-    if edge_count(Op::Union, &had, added) > MAX_EDGES {
+    let author = run.author;
+    let had = OneColumn {
+        author,
+        column: column_at(columns, author),
+    };
+    let source = (run, had);
+    if has_many_holes(&source, author) {
         return Err(FormFault::TooManyHoles);
     }
-    let Ok(column) = combined(alloc, Op::Union, &had, added) else {
+    let Ok(column) = gathered_column(alloc, &source, author) else {
         return Err(FormFault::OutOfMemory);
     };
     let Ok(()) = put(columns, AuthorColumn { author, column }) else {
@@ -150,7 +164,7 @@ pub(crate) fn covers_columns(a: &[AuthorColumn], b: &[AuthorColumn]) -> bool
     ensures { IsTrue result ↔ Covers (vector_has a.now) (vector_has b.now) }
 {
     for x in b {
-        if edge_count(Op::Without, &x.column.lent(), &column_at(a, x.author)) > 0 {
+        if !column_at(a, x.author).covers(&x.column.lent()) {
             return false;
         }
     }

@@ -1,15 +1,23 @@
-use Rattle.mr_concise.proofs.UnionLemmas.{few-item, ChangedTo-begin, ChangedTo-push, ChangedTo-skip}
+use Rattle.std.proofs.Common.{take_all}
+use Rattle.mr_concise.proofs.ChangeLemmas.{ChangedTo-begin, ChangedTo-push, ChangedTo-skip, few-both}
 use Rattle.mr_concise.proofs.union.changed_columns.Goals as goal
-use Rattle.mr_concise.proofs.union.changed_columns.Goals.{then-edge_count-gt0+in_ok-column+in_ok-push, else-edge_count-gt0}
-
-pub combined-requires-clause-few : goal.combined-requires-clause-few
-combined-requires-clause-few c n h = few-item c.args.a.now c.args.b.now c.loop-x.x-index c.x-item.result c.requires.b c.loop-x-test.true c.x-item.is c.requires.few n (rw (c.column_at-had.ensures, c.lent-added.ensures) at h)
+use Rattle.mr_concise.proofs.union.changed_columns.Goals.{then-not-covers+in_ok-column+in_ok-push, else-not-covers}
 
 pub loop-x-init : goal.loop-x-init
 loop-x-init c = ChangedTo-begin c.args.a.now c.args.b.now c.new-changed.result.items c.requires.a c.new-changed.ensures.items
 
+pub gathered_column-requires : goal.gathered_column-requires
+gathered_column-requires c =
+    let e = c.both_columns-source.ensures in
+    rw (e.had.0, e.had.1, e.added.0, e.added.1) (few-both c.args.a.now c.args.b.now c.loop-x.x-index c.x-item.result c.requires.b c.loop-x-test.true c.x-item.is c.requires.few)
+
 pub loop-x-preserved : goal.loop-x-preserved
-loop-x-preserved c = elim c.if-edge_count-gt0.branch [
-  | then-edge_count-gt0+in_ok-column+in_ok-push w ↦ rw (w.changed-is, w.in_ok-push.ensures.items) (ChangedTo-push c.args.a.now c.args.b.now c.loop-x.changed.items c.loop-x.x-index c.x-item.result w.in_ok-column.column c.requires.a c.requires.b c.loop-x-test.true c.x-item.is c.loop-x.invariant (rw (c.column_at-had.ensures, c.lent-added.ensures) at w.in_ok-column.ensures.combined) w.in_ok-column.ensures.column)
-  | else-edge_count-gt0 w ↦ rw w.changed-is (ChangedTo-skip c.args.a.now c.args.b.now c.loop-x.changed.items c.loop-x.x-index c.edge_count.result c.x-item.result c.requires.a c.requires.b c.loop-x-test.true c.x-item.is c.loop-x.invariant (rw (c.column_at-had.ensures, c.lent-added.ensures) at c.edge_count.ensures) w.if-edge_count-gt0.false)
-]
+loop-x-preserved c =
+    let e = c.both_columns-source.ensures in
+    elim c.if-not-covers.branch [
+      | then-not-covers+in_ok-column+in_ok-push w ↦ rw (w.changed-is, w.in_ok-push.ensures.items) (ChangedTo-push c.args.a.now c.args.b.now c.loop-x.changed.items c.loop-x.x-index c.x-item.result w.in_ok-column.column c.requires.b c.loop-x-test.true c.x-item.is c.loop-x.invariant w.in_ok-column.ensures.column (rw (e.had.0, e.had.1, e.added.0, e.added.1) at w.in_ok-column.ensures.means))
+      | else-not-covers w ↦ rw w.changed-is (ChangedTo-skip c.args.a.now c.args.b.now c.loop-x.changed.items c.loop-x.x-index c.x-item.result c.requires.b c.loop-x-test.true c.x-item.is c.loop-x.invariant (rw (e.had.1, e.added.1) at (c.covers.ensures.0 w.if-not-covers.false)))
+    ]
+
+pub returns-clause-united : goal.returns-clause-united
+returns-clause-united c = let all = take_all c.loop-x.x-index c.args.b.now c.loop-x-test.false in rw all at c.loop-x.invariant.united

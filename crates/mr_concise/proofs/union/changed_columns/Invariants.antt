@@ -1,4 +1,4 @@
-use Rattle.mr_concise.proofs.UnionLemmas.{ChangedTo}
+use Rattle.mr_concise.proofs.ChangeLemmas.{ChangedTo}
 use Rattle.mr_concise.proofs.union.changed_columns.Given as goal
 
 -- the columns of b so far are put to those of a

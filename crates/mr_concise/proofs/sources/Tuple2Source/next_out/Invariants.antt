@@ -1,12 +1,11 @@
 use Rattle.std.proofs.Common.{◌-◌}
-use Rattle.mr_forms.specs.Sets.{both}
 use Rattle.mr_forms.specs.Runs.{of_author}
-use Rattle.mr_concise.proofs.AllOfLemmas.{IsAllTo}
+use Rattle.mr_concise.proofs.AllOfLemmas.{IsPastFirst}
 use Rattle.mr_concise.proofs.sources.Tuple2Source.next_out.Given as goal
 use Rattle.mr_concise.specs.declared.column.TheConstants.{COUNTERS_END}
 
 abbrev pub invariant-loop-at : goal.invariant-loop-at
-invariant-loop-at g l = IsAllTo (of_author (both (g.A.Source.has l.self.0) (g.B.Source.has l.self.1)) l.author) l.from l.at
+invariant-loop-at g l = IsPastFirst (of_author (g.A.Source.has l.self.0) l.author) (of_author (g.B.Source.has l.self.1) l.author) l.from l.at
 
 abbrev pub decreases-loop-at : goal.decreases-loop-at
 decreases-loop-at g l = COUNTERS_END - l.at
