@@ -3,7 +3,7 @@ use Rattle.std.specs.declared.cmp.Ordering.{Ordering}
 use Rattle.std.specs.declared.cmp.Ordering.TheVariants.{Less, Equal, Greater}
 use Rattle.std.specs.Ordering.{is_eq, is_lt}
 use Rattle.std.specs.List.{list_any}
-use Rattle.std.proofs.lemmas.Bool.{false≢true, cases_Bool, or_cases}
+use Rattle.std.proofs.lemmas.Bool.{false≢true, cases_Bool, or_cases, or_parts}
 use Rattle.std.proofs.lemmas.List.Elements.{All-contains, All-head, All-tail, All-weaker}
 use Rattle.mr_version.specs.Name.{Name, name_cmp, name_eq}
 use Rattle.mr_version.specs.Order.{names_total}
@@ -19,6 +19,7 @@ use Rattle.mr_concise.proofs.VersionLemmas.{few-vector}
 use Rattle.mr_itemset.specs.declared.knowledge.Listed.{Listed}
 use Rattle.mr_itemset.specs.Normal.{Normal, items_of, IsBefore, HasMore, IsNormal, vector_in, vector_of, normal_known}
 use Rattle.mr_itemset.specs.ItemForm.{HasHoleyItem}
+use Rattle.mr_itemset.specs.Lacking.{Lacks}
 use Rattle.mr_itemset.specs.Placed.{placed, HasRoom}
 use Rattle.mr_itemset.proofs.NormalLemmas.{same_name, vector_in-cases, vector_in-unlisted}
 use Rattle.mr_itemset.proofs.PlaceLemmas.{name_cases, All-placed, rising-placed, length-placed, vector_in-placed}
@@ -154,3 +155,16 @@ item_from_holey k set item normal holey = go (cases_Bool (name_eq item holey.ite
         (λ v. ap (λ (b : Bool). (b && set v) || normal_known k holey.item v) here ∙ ap (λ (j : Name). set v || normal_known k j v) (sym (same_name item holey.item here)))) holey.holes
     go (inr other) = absurd (few-vector (vector_of k holey.item) (with_below (normal_known k) item set holey.item) (vector_of-IsVector k holey.item normal)
         (λ v. sym (ap (λ (b : Bool). (b && set v) || normal_known k holey.item v) other)) holey.holes)
+
+-- what the item lacks of a set, all items lack
+pub more_than_all : (k : Normal) (set : Versions) (item : Name) (vector : List AuthorColumn) → IsNormal k → Lacks (vector_has (vector_of k item)) set → IsSame (vector_has vector) (both set (vector_has (vector_of k item))) → IsSame (vector_has vector) (vector_has k.all) → ⊥
+more_than_all k set item vector normal lacks grown same =
+    false≢true (sym lacks.is_out ∙ covers_all k item lacks.version normal (sym (same lacks.version) ∙ grown lacks.version ∙ ap (λ (b : Bool). b || vector_has (vector_of k item) lacks.version) lacks.is_in))
+
+-- what is in neither of two sets is not in the second
+pub lacks_second : (first second set : Versions) → Lacks (both first second) set → Lacks second set
+lacks_second first second set lacks = record {
+  version = lacks.version;
+  is_out = (or_parts (first lacks.version) (second lacks.version) lacks.is_out).1;
+  is_in = lacks.is_in;
+}

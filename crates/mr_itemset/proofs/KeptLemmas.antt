@@ -180,14 +180,17 @@ pub listed_below : (settled new : Normal) (pending : List AuthorColumn) (item : 
 listed_below settled new pending item set same i w =
     ap (λ (b : Bool). vector_has pending w || b) (same i w) ∙ exchange (vector_has pending w) (name_eq item i && set w) (normal_known settled i w)
 
--- what is pending, or listed for the item, need not be listed
-pub covered_below : (settled : Normal) (pending : List AuthorColumn) (item : Name) (set : Versions) → Covers (both (vector_has pending) (vector_has (vector_of settled item))) set → AreSame (with_all (normal_known settled) (vector_has pending)) (with_below (with_all (normal_known settled) (vector_has pending)) item set)
-covered_below settled pending item set covers i w = go (cases_Bool (name_eq item i)) (cases_Bool (set w))
+-- what all items learn, or is listed for the item, need not be listed
+pub covered_set : (k : Normal) (learned : Versions) (item : Name) (set : Versions) → Covers (both learned (vector_has (vector_of k item))) set → AreSame (with_all (normal_known k) learned) (with_below (with_all (normal_known k) learned) item set)
+covered_set k learned item set covers i w = go (cases_Bool (name_eq item i)) (cases_Bool (set w))
   where
-    go : (name_eq item i ≡ true) ⊎ (name_eq item i ≡ false) → (set w ≡ true) ⊎ (set w ≡ false) → (vector_has pending w || normal_known settled i w) ≡ ((name_eq item i && set w) || (vector_has pending w || normal_known settled i w))
+    go : (name_eq item i ≡ true) ⊎ (name_eq item i ≡ false) → (set w ≡ true) ⊎ (set w ≡ false) → (learned w || normal_known k i w) ≡ ((name_eq item i && set w) || (learned w || normal_known k i w))
     go (inr other) s = rw other refl
     go (inl here) (inr out) = rw (here, out) refl
-    go (inl here) (inl has) = rw (here, has) (ap (λ (j : Name). vector_has pending w || normal_known settled j w) (sym (same_name item i here)) ∙ covers w has)
+    go (inl here) (inl has) = rw (here, has) (ap (λ (j : Name). learned w || normal_known k j w) (sym (same_name item i here)) ∙ covers w has)
+
+pub covered_below : (settled : Normal) (pending : List AuthorColumn) (item : Name) (set : Versions) → Covers (both (vector_has pending) (vector_has (vector_of settled item))) set → AreSame (with_all (normal_known settled) (vector_has pending)) (with_below (with_all (normal_known settled) (vector_has pending)) item set)
+covered_below settled pending item set covers = covered_set settled (vector_has pending) item set covers
 
 pub below_known : (settled new : Normal) (pending : List AuthorColumn) (most more : ℕ) (item : Name) (set : Versions) → IsKept settled pending most → IsKept new pending more → AreSame (with_all (normal_known new) (vector_has pending)) (with_below (with_all (normal_known settled) (vector_has pending)) item set) → AreSame (normal_known (folded new pending)) (with_below (normal_known (folded settled pending)) item set)
 below_known settled new pending most more item set kept kept' same i w =
@@ -208,3 +211,17 @@ pub columns_at : (low : ℕ) (xs : List AuthorColumn) (k : ℕ) (x : AuthorColum
 columns_at low [] k x ok within is = absurd (omega arith)
 columns_at low (y ∷ ys) zero x ok within is = rw is ok.2
 columns_at low (y ∷ ys) (suc k) x ok within is = columns_at (y.author + 1) ys k x ok.3 (omega arith) is
+
+-- what is pending, or listed for the item, need not be listed once the version is learned
+pub covered_with : (settled : Normal) (pending : List AuthorColumn) (most : ℕ) (item v : Name) (set : Versions) → IsKept settled pending most → Covers (both (both (name_eq v) (vector_has pending)) (vector_has (vector_of settled item))) set → AreSame (with_all (normal_known (folded settled pending)) (name_eq v)) (with_learned_below true (normal_known (folded settled pending)) item v set)
+covered_with settled pending most item v set kept covers i w = go (cases_Bool (name_eq item i)) (cases_Bool (set w))
+  where
+    go : (name_eq item i ≡ true) ⊎ (name_eq item i ≡ false) → (set w ≡ true) ⊎ (set w ≡ false) → (name_eq v w || normal_known (folded settled pending) i w) ≡ ((name_eq item i && set w) || (name_eq v w || normal_known (folded settled pending) i w))
+    go (inr other) s = rw other refl
+    go (inl here) (inr out) = rw (here, out) refl
+    go (inl here) (inl has) = rw (here, has)
+        (ap (λ (b : Bool). name_eq v w || b) (folded_known settled pending most kept i w) ∙ sym (assoc (name_eq v w) (vector_has pending w) (normal_known settled i w))
+        ∙ ap (λ (j : Name). (name_eq v w || vector_has pending w) || normal_known settled j w) (sym (same_name item i here)) ∙ covers w has)
+
+pub with_covered : (settled new : Normal) (pending : List AuthorColumn) (most : ℕ) (item v : Name) (set : Versions) → IsKept settled pending most → Covers (both (both (name_eq v) (vector_has pending)) (vector_has (vector_of settled item))) set → AreSame (normal_known new) (with_all (normal_known (folded settled pending)) (name_eq v)) → AreSame (normal_known new) (with_learned_below true (normal_known (folded settled pending)) item v set)
+with_covered settled new pending most item v set kept covers same i w = same i w ∙ covered_with settled pending most item v set kept covers i w

@@ -5,6 +5,7 @@ pub mod LimitLemmas
 pub mod GrowLemmas
 pub mod FoldedLemmas
 pub mod KeptLemmas
+pub mod ValueLemmas
 pub mod SplitLemmas
 pub mod CountLemmas
 pub mod SplitLimitLemmas

@@ -1,13 +1,14 @@
 ghost use Rattle.std.specs.Prelude.{◌≡◌, ◌≤◌, true, false, length, IfOk, OnErr};
 ghost use Rattle.mr_version.specs.Name.{name_eq};
-ghost use Rattle.mr_forms.specs.Known.{AreSame, with_below, with_learned, with_learned_below};
+ghost use Rattle.mr_forms.specs.Known.{AreSame, HasValue, with_below, with_learned, with_learned_below};
 ghost use Rattle.mr_itemset.specs.Normal.{normal_known, IsNormal};
 ghost use Rattle.mr_forms.specs.declared.fragment.TheConstants.{MAX_ITEMS};
-ghost use Rattle.mr_itemset.specs.ItemForm.{with_all, HasHoleyItem};
+ghost use Rattle.mr_itemset.specs.ItemForm.{item_form, with_all, HasHoleyItem};
 ghost use Rattle.mr_itemset.specs.Folded.{IsSplit};
 
+use crate::limits::lacks;
 use crate::listing::count_beyond;
-use crate::pending::{leaves_room, try_below};
+use crate::pending::{leaves_room, try_below, try_list_with};
 use crate::settled::Settled;
 use mr_concise::ConciseVector;
 use mr_forms::VersionSet;
@@ -113,6 +114,7 @@ impl ItemKnowledge {
     /// Adds the version for all items, where the holes leave room for it. `false` where they don't.
     pub(crate) fn try_learn(&mut self, version: Version) -> Result<bool, AllocError>
         ensures done { IfOk result (λ done. done ≡ true → AreSame (normal_known self.new) (with_all (normal_known self.old) (name_eq version))) }
+        ensures value { IfOk result (λ done. done ≡ true → HasValue item_form (with_all (normal_known self.old) (name_eq version))) }
         ensures not { IfOk result (λ done. done ≡ false → self.new ≡ self.old) }
         ensures err { OnErr result (self.new ≡ self.old) }
     {
@@ -135,6 +137,7 @@ impl ItemKnowledge {
         set: &S,
     ) -> Result<bool, AllocError>
         ensures done { IfOk result (λ done. done ≡ true → AreSame (normal_known self.new) (with_below (normal_known self.old) item (S.has set.now))) }
+        ensures value { IfOk result (λ done. done ≡ true → HasValue item_form (with_below (normal_known self.old) item (S.has set.now))) }
         ensures not { IfOk result (λ done. done ≡ false → self.new ≡ self.old) }
         ensures err { OnErr result (self.new ≡ self.old) }
     {
@@ -157,30 +160,25 @@ impl ItemKnowledge {
         below: &S,
     ) -> Result<bool, AllocError>
         ensures done { IfOk result (λ done. done ≡ true → AreSame (normal_known self.new) (with_learned_below true (normal_known self.old) item version (S.has below.now))) }
+        ensures first { IfOk result (λ done. done ≡ true → HasValue item_form (with_learned true (normal_known self.old) item version)) }
+        ensures second { IfOk result (λ done. done ≡ true → HasValue item_form (with_learned_below true (normal_known self.old) item version (S.has below.now))) }
         ensures not { IfOk result (λ done. done ≡ false → self.new ≡ self.old) }
         ensures err { OnErr result (self.new ≡ self.old) }
     {
-        if !leaves_room(&self.pending, self.most_holes) {
-            return Ok(false);
+        let learned = (version, &self.pending);
+        if !lacks(&(learned, self.settled.vector_of(item)), below) {
+            return self.try_learn(version);
         }
-        let Ok(mut pending) = self.pending.copy() else {
-            return Err(AllocError);
-        };
         let _counter = version.counter();
-        let Ok(()) = pending.insert(version) else {
-            return Err(AllocError);
-        };
-        let _columns = pending.author_columns();
-        let done = try_below(
+        let done = try_list_with(
             &mut self.settled,
             &mut self.most_holes,
-            &pending,
+            &mut self.pending,
             item,
+            version,
             below,
         )?;
-        if done {
-            self.pending = pending;
-        }
+        let _columns = self.pending.author_columns();
         Ok(done)
     }
 }

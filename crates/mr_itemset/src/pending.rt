@@ -1,6 +1,6 @@
 //! What tells without a look at the listed items that no limit is near.
-ghost use Rattle.std.specs.Prelude.{◌≡◌, ◌≤◌, ◌+◌, ℕ, true, false, List, length, IfOk, OnErr};
-ghost use Rattle.mr_forms.specs.Sets.{both};
+ghost use Rattle.std.specs.Prelude.{◌≡◌, ◌≤◌, ◌+◌, ℕ, true, false, List, length, IfOk, IfSome, OnErr};
+ghost use Rattle.mr_forms.specs.Sets.{IsSame, both, with_version};
 ghost use Rattle.mr_forms.specs.Known.{AreSame, with_below};
 ghost use Rattle.mr_concise.specs.declared.column.TheConstants.{MAX_HOLES};
 ghost use Rattle.mr_concise.specs.declared.vector.AuthorColumn.{AuthorColumn};
@@ -8,12 +8,15 @@ ghost use Rattle.mr_concise.specs.Vector.{column_of, vector_has, IsVectorOf};
 ghost use Rattle.mr_itemset.specs.Normal.{normal_known, vector_of, IsNormal};
 ghost use Rattle.mr_itemset.specs.ItemForm.{with_all};
 ghost use Rattle.mr_itemset.specs.Folded.{HasAtMost, HasLeeway, IsSparse};
+ghost use Rattle.mr_itemset.specs.Lacking.{Lacks};
+ghost use Rattle.mr_itemset.specs.Placed.{HasRoom};
 
+use crate::knowledge::Listed;
 use crate::limits::lacks;
 use crate::settled::Settled;
 use mr_concise::{ConciseVector, MAX_HOLES, OfSet};
 use mr_forms::{FormFault, VersionSet};
-use mr_version::ItemId;
+use mr_version::{ItemId, Version};
 use std::alloc::AllocError;
 
 /// The higher of two numbers.
@@ -45,14 +48,6 @@ pub(crate) fn leaves_room(vector: &ConciseVector, most: usize) -> bool
     most + most_holes(vector) < MAX_HOLES
 }
 
-/// Whether a column may have these holes and those of the vector's.
-fn fits(vector: &ConciseVector, most: usize) -> bool
-    requires { most ≤ MAX_HOLES }
-    ensures { result ≡ true → (q : ℕ) → most + length (column_of vector.now q).holes ≤ MAX_HOLES }
-{
-    most + most_holes(vector) <= MAX_HOLES
-}
-
 impl Settled {
     /// The most holes of a column of any item.
     pub(crate) fn most_holes(&self) -> usize
@@ -67,15 +62,25 @@ impl Settled {
         most
     }
 
-    /// The most holes of a column of the item, with these versions. `TooManyHoles` where one has more than
-    /// it may.
-    fn most_holes_with<S: VersionSet>(&self, item: ItemId, set: &S) -> Result<usize, FormFault>
-        ensures most { IfOk result (λ most. (columns : List AuthorColumn) → IsVectorOf (both (S.has set.now) (vector_has (vector_of self.now item))) columns → HasAtMost most columns) }
-        ensures bound { IfOk result (λ most. most ≤ MAX_HOLES) }
+    /// The item's vector with these versions. `None` where it would have too many holes, or may not be listed.
+    fn grown_vector<S: VersionSet>(
+        &self,
+        item: ItemId,
+        set: &S,
+    ) -> Result<Option<ConciseVector>, AllocError>
+        ensures room { IfOk result (λ grown. IfSome grown (λ _. HasRoom self.now item (S.has set.now))) }
+        ensures vector { IfOk result (λ grown. IfSome grown (IsVectorOf (both (S.has set.now) (vector_has (vector_of self.now item))))) }
+        ensures normal { IsNormal self.now }
     {
+        if !self.has_room(item, set) {
+            return Ok(None);
+        }
         let sources = (OfSet { set }, self.vector_of(item));
-        let grown = ConciseVector::gather(self.allocator(), &sources)?;
-        Ok(most_holes(&grown))
+        match ConciseVector::gather(self.allocator(), &sources) {
+            Ok(vector) => Ok(Some(vector)),
+            Err(FormFault::OutOfMemory) => Err(AllocError),
+            Err(_) => Ok(None),
+        }
     }
 }
 
@@ -90,6 +95,7 @@ fn try_list<S: VersionSet>(
 ) -> Result<bool, AllocError>
     requires sparse { IsSparse settled.old most.old }
     requires bound { most.old ≤ MAX_HOLES }
+    requires lacks { Lacks (vector_has (vector_of settled.old item)) (S.has set.now) }
     ensures done { IfOk result (λ done. done ≡ true → AreSame (normal_known settled.new) (with_below (normal_known settled.old) item (S.has set.now))) }
     ensures sparse { IsSparse settled.new most.new }
     ensures normal { IsNormal settled.new }
@@ -97,18 +103,49 @@ fn try_list<S: VersionSet>(
     ensures not { IfOk result (λ done. done ≡ false → (settled.new ≡ settled.old) × (most.new ≡ most.old)) }
     ensures err { OnErr result ((settled.new ≡ settled.old) × (most.new ≡ most.old)) }
 {
-    if !settled.has_room(item, set) {
+    let Some(vector) = settled.grown_vector(item, set)? else {
         return Ok(false);
-    }
-    let holes = match settled.most_holes_with(item, set) {
-        Ok(holes) => higher(holes, *most),
-        Err(FormFault::OutOfMemory) => return Err(AllocError),
-        Err(_) => return Ok(false),
     };
-    if !fits(pending, holes) {
+    let holes = higher(most_holes(&vector), *most);
+    if !leaves_room(pending, holes) {
         return Ok(false);
     }
-    settled.add_to_item(item, &OfSet { set })?;
+    settled.list(Listed { item, vector })?;
+    let _listed = settled.listed();
+    *most = holes;
+    Ok(true)
+}
+
+/// Lists the versions for the item and adds the version to those that are pending, where the item may be
+/// listed and the holes of its columns leave room. `false` where they don't.
+pub(crate) fn try_list_with<S: VersionSet>(
+    settled: &mut Settled,
+    most: &mut usize,
+    pending: &mut ConciseVector,
+    item: ItemId,
+    version: Version,
+    set: &S,
+) -> Result<bool, AllocError>
+    requires sparse { IsSparse settled.old most.old }
+    requires bound { most.old ≤ MAX_HOLES }
+    requires lacks { Lacks (vector_has (vector_of settled.old item)) (S.has set.now) }
+    ensures done { IfOk result (λ done. done ≡ true → AreSame (normal_known settled.new) (with_below (normal_known settled.old) item (S.has set.now))) }
+    ensures pending { IfOk result (λ done. done ≡ true → IsSame (vector_has pending.new) (with_version (vector_has pending.old) version)) }
+    ensures leeway { IfOk result (λ done. done ≡ true → HasLeeway pending.old most.new) }
+    ensures more { most.old ≤ most.new }
+    ensures sparse { IsSparse settled.new most.new }
+    ensures normal { IsNormal settled.new }
+    ensures not { IfOk result (λ done. done ≡ false → (settled.new ≡ settled.old) × (pending.new ≡ pending.old) × (most.new ≡ most.old)) }
+    ensures err { OnErr result ((settled.new ≡ settled.old) × (pending.new ≡ pending.old) × (most.new ≡ most.old)) }
+{
+    let Some(vector) = settled.grown_vector(item, set)? else {
+        return Ok(false);
+    };
+    let holes = higher(most_holes(&vector), *most);
+    if !leaves_room(pending, holes) {
+        return Ok(false);
+    }
+    settled.list_with(Listed { item, vector }, pending, version)?;
     let _listed = settled.listed();
     *most = holes;
     Ok(true)

@@ -2,13 +2,15 @@ ghost use Rattle.std.specs.Prelude.{◌≡◌, ◌≤◌, true, false, AllPairs,
 ghost use Rattle.std.specs.Ordering.{is_lt};
 ghost use Rattle.std.specs.List.Sorted.{IsPartitionPoint};
 ghost use Rattle.mr_version.specs.Name.{name_cmp};
+ghost use Rattle.mr_forms.specs.Sets.{IsSame, with_version};
+ghost use Rattle.mr_concise.specs.Vector.{vector_has};
 ghost use Rattle.mr_itemset.specs.Normal.{Normal, IsBefore, IsNormal, vector_of};
 ghost use Rattle.mr_itemset.specs.Placed.{placed};
 
-use crate::item::put_in;
+use crate::item::{put_in, put_in_with};
 use crate::knowledge::Listed;
 use mr_concise::ConciseVector;
-use mr_version::ItemId;
+use mr_version::{ItemId, Version};
 use std::alloc::{AllocError, Global};
 use std::marker::Model;
 
@@ -77,6 +79,22 @@ impl Settled {
         ensures err { OnErr result (self.new ≡ self.old) }
     {
         put_in(&mut self.listed, new)
+    }
+
+    /// Lists the item with all that is known of it, in place of what was, and adds the version to those
+    /// that are pending: both or neither.
+    pub(crate) fn list_with(
+        &mut self,
+        new: Listed,
+        pending: &mut ConciseVector,
+        version: Version,
+    ) -> Result<(), AllocError>
+        requires { IsNormal (record { all = self.old.all; listed = placed new self.old.listed }) }
+        ensures ok { OnOk result (self.new ≡ record { all = self.old.all; listed = placed new self.old.listed }) }
+        ensures pending { OnOk result (IsSame (vector_has pending.new) (with_version (vector_has pending.old) version)) }
+        ensures err { OnErr result ((self.new ≡ self.old) × (pending.new ≡ pending.old)) }
+    {
+        put_in_with(&mut self.listed, new, pending, version)
     }
 
     /// What is known of the item.

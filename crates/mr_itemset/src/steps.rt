@@ -60,15 +60,20 @@ impl ItemKnowledge {
         ensures items { IsErrOf result FormFault.TooManyItems ↔ IsOnlyOverItems item_form (with_below (normal_known self.old) item (S.has set.now)) }
         ensures err { OnErr result (self.new ≡ self.old) }
     {
-        self.may_learn_below(item, set)?;
-        if self.try_learn_below(item, set)? {
+        let Ok(done) = self.try_learn_below(item, set) else {
+            self.may_learn_below(item, set)?;
+            return Err(FormFault::OutOfMemory);
+        };
+        if done {
             return Ok(());
         }
+        self.may_learn_below(item, set)?;
         self.settle_below(item, set)?;
         Ok(())
     }
 
-    /// The fault that `learn_with` would answer where memory is there. It allocates nothing.
+    /// The fault that `learn_with` would answer where memory is there. It allocates nothing. Where the set
+    /// has something new it walks through what waits.
     pub fn may_learn_with<S: VersionSet>(
         &self,
         item: ItemId,
@@ -93,8 +98,8 @@ impl ItemKnowledge {
     }
 
     /// Learns a version that came with the set of versions below it: the version for all items, and
-    /// the set for its own. It costs a search for the item, a copy of its vector and one of what waits;
-    /// where a limit may be near, a copy of each listed vector.
+    /// the set for its own. It costs a search for the item, a copy of its vector and, for each run of the
+    /// set, a search in what waits; where a limit may be near, a copy of each listed vector.
     pub fn learn_with<S: VersionSet>(
         &mut self,
         item: ItemId,
@@ -106,10 +111,14 @@ impl ItemKnowledge {
         ensures items { IsErrOf result FormFault.TooManyItems ↔ IsOverItemsInTurn item_form (with_learned true (normal_known self.old) item version) (with_learned_below true (normal_known self.old) item version (S.has below.now)) }
         ensures err { OnErr result (self.new ≡ self.old) }
     {
-        self.may_learn_with(item, version, below)?;
-        if self.try_learn_with(item, version, below)? {
+        let Ok(done) = self.try_learn_with(item, version, below) else {
+            self.may_learn_with(item, version, below)?;
+            return Err(FormFault::OutOfMemory);
+        };
+        if done {
             return Ok(());
         }
+        self.may_learn_with(item, version, below)?;
         self.settle_with(item, version, below)?;
         Ok(())
     }

@@ -14,8 +14,8 @@ use mr_version::ItemId;
 use std::alloc::AllocError;
 
 impl Settled {
-    /// Whether the item's vector would have too many holes with what all items learn and these. It
-    /// allocates nothing.
+    /// Whether the item's vector would have too many holes with what all items learn and these, where they
+    /// are something new. It allocates nothing.
     pub(crate) fn would_be_holey_with<A: Source, S: VersionSet>(
         &self,
         item: ItemId,
@@ -25,8 +25,11 @@ impl Settled {
         ensures yes { result ≡ true → HasHoleyItem (with_below (with_all (normal_known self.now) (A.has learned.now)) item (S.has below.now)) }
         ensures no { result ≡ false → HasHoleyItem (with_below (with_all (normal_known self.now) (A.has learned.now)) item (S.has below.now)) → HasHoleyItem (with_all (normal_known self.now) (A.has learned.now)) }
     {
-        let below = OfSet { set: below };
-        would_have_too_many(&(below, (learned, self.vector_of(item))))
+        let known = (learned, self.vector_of(item));
+        if !lacks(&known, below) {
+            return false;
+        }
+        would_have_too_many(&(OfSet { set: below }, known))
     }
 
     /// Whether some item would be listed no longer, once all items have what they learn. It allocates

@@ -1,5 +1,12 @@
-use Rattle.std.proofs.Common.{sym, ◌∙◌}
+use Rattle.std.proofs.Common.{sym, ◌∙◌, subst}
 use Rattle.std.proofs.lemmas.Bool.{false≢true}
+use Rattle.mr_forms.specs.Sets.{Covers, both}
+use Rattle.mr_forms.specs.Known.{with_below}
+use Rattle.mr_concise.specs.Vector.{vector_has}
+use Rattle.mr_itemset.specs.Normal.{normal_known, vector_of}
+use Rattle.mr_itemset.specs.ItemForm.{HasHoleyItem, with_all}
+use Rattle.mr_itemset.proofs.FoldedLemmas.{same_pairs}
+use Rattle.mr_itemset.proofs.KeptLemmas.{covered_set}
 use Rattle.mr_itemset.proofs.WithLemmas.{holey_with, holey_learned}
 use Rattle.mr_itemset.proofs.settled.Settled.would_be_holey_with.Goals as goal
 
@@ -10,3 +17,10 @@ pub returns-clause-no : goal.returns-clause-no
 returns-clause-no g c false_is holey =
     holey_learned c.args.self.now (g.A.Source.has c.args.learned.now) (g.S.VersionSet.has c.args.below.now) c.args.item
     (λ many. false≢true (sym false_is ∙ c.would_have_too_many.ensures.1 (rw (← c.vector_of.ensures.is) at many))) holey
+
+pub returns-then-not-lacks-clause-no : goal.returns-then-not-lacks-clause-no
+returns-then-not-lacks-clause-no g c _ holey =
+    let covers : Covers (both (g.A.Source.has c.args.learned.now) (vector_has (vector_of c.args.self.now c.args.item))) (g.S.VersionSet.has c.args.below.now) = rw c.vector_of.ensures.is at (c.lacks.ensures.no c.if-not-lacks.true) in
+    subst HasHoleyItem
+    (sym (same_pairs (with_all (normal_known c.args.self.now) (g.A.Source.has c.args.learned.now)) (with_below (with_all (normal_known c.args.self.now) (g.A.Source.has c.args.learned.now)) c.args.item (g.S.VersionSet.has c.args.below.now)) (covered_set c.args.self.now (g.A.Source.has c.args.learned.now) c.args.item (g.S.VersionSet.has c.args.below.now) covers)))
+    holey
