@@ -25,19 +25,20 @@ impl Model for PlainPort {
     ghost use Rattle.std.specs.Prelude.{◌≡◌, ◌≤◌};
     ghost use Rattle.std.specs.VecDeque.{deque_len, deque_capacity};
     ghost use Rattle.mr_feed.specs.PlainPort.{PortView};
+    ghost use Rattle.mr_feed.specs.declared.port.TheConstants.{MAX_CAPACITY};
 
     ghost Value = { PortView };
 
     ghost view = { λ p. record { waiting = p.waiting.items; capacity = p.capacity; closed = p.closed } };
 
-    ghost invariant = { λ p. (deque_len p.waiting ≤ p.capacity) × (deque_capacity p.waiting ≡ p.capacity) × (1 ≤ p.capacity) × (p.capacity ≤ 4096) };
+    ghost invariant = { λ p. (deque_len p.waiting ≤ p.capacity) × (deque_capacity p.waiting ≡ p.capacity) × (1 ≤ p.capacity) × (p.capacity ≤ MAX_CAPACITY) };
 }
 
 impl PlainPort {
     /// A port with this many places, 1 to 4,096; `NoCapacity` for other numbers.
     pub fn try_new(alloc: Global, capacity: usize) -> Result<PlainPort, PortFault>
         ensures ok { IfOk result (λ port. port ≡ record { waiting = []; capacity = capacity; closed = false }) }
-        ensures no_capacity { (result ≡ Err PortFault.NoCapacity) ↔ ((capacity ≡ 0) ⊎ (4096 < capacity)) }
+        ensures no_capacity { (result ≡ Err PortFault.NoCapacity) ↔ ((capacity ≡ 0) ⊎ (MAX_CAPACITY < capacity)) }
     {
         if capacity == 0 || capacity > MAX_CAPACITY {
             return Err(PortFault::NoCapacity);
@@ -52,7 +53,7 @@ impl PlainPort {
     /// How many places there are, 1 to 4,096.
     pub fn capacity(&self) -> usize
         ensures value { result ≡ self.now.capacity }
-        ensures in_range { (1 ≤ self.now.capacity) × (self.now.capacity ≤ 4096) }
+        ensures in_range { (1 ≤ self.now.capacity) × (self.now.capacity ≤ MAX_CAPACITY) }
     {
         self.capacity
     }

@@ -18,7 +18,7 @@ use std::sync::Arc;
 /// desk are lent the right to wait at each call.
 pub fn inbox<T: Drop>(alloc: Global, capacity: usize) -> Result<(Posts<T>, Desk<T>), LaneFault>
     ensures ok { IfOk result (λ made. IsNewInbox capacity made.0 made.1) }
-    ensures no_capacity { (result ≡ Err LaneFault.NoCapacity) ↔ ((capacity ≡ 0) ⊎ (4096 < capacity)) }
+    ensures no_capacity { (result ≡ Err LaneFault.NoCapacity) ↔ ((capacity ≡ 0) ⊎ (MAX_CAPACITY < capacity)) }
 {
     if !is_capacity(capacity) {
         return Err(LaneFault::NoCapacity);
@@ -45,7 +45,7 @@ pub fn tap<T: Drop, R: Copy>(
 ) -> Result<(Spout<T, R>, Tap<T, R>), LaneFault>
     ensures ok { IfOk result (λ ends.
         (ends.0 ≡ new_end ends.0.id capacity) × (ends.1 ≡ new_end ends.0.id capacity)) }
-    ensures no_capacity { (result ≡ Err LaneFault.NoCapacity) ↔ ((capacity ≡ 0) ⊎ (4096 < capacity)) }
+    ensures no_capacity { (result ≡ Err LaneFault.NoCapacity) ↔ ((capacity ≡ 0) ⊎ (MAX_CAPACITY < capacity)) }
 {
     if !is_capacity(capacity) {
         return Err(LaneFault::NoCapacity);
@@ -97,7 +97,7 @@ pub fn tap_settle<T: Drop, R: Drop>(spout: Spout<T, R>, tap: Tap<T, R>) -> bool
 
 /// Whether a lane may have this many places.
 fn is_capacity(places: usize) -> bool
-    ensures { IsTrue result ↔ ((0 < places) × (places ≤ 4096)) }
+    ensures { IsTrue result ↔ ((0 < places) × (places ≤ MAX_CAPACITY)) }
 {
     places > 0 && places <= MAX_CAPACITY
 }
