@@ -10,8 +10,7 @@ use Rattle.mr_replica.specs.State.{State}
 use Rattle.mr_replica.specs.Next.{held_now, GivesNext}
 use Rattle.mr_replica.specs.Methods.{going_on}
 use Rattle.mr_session.specs.declared.outgoing.onward.Onward.{Onward}
-use Rattle.mr_session.specs.declared.outgoing.onward.Onward.TheVariants as onward
-use Rattle.mr_session.specs.Onward.{moved, after_given, is_last, gone_on, advanced}
+use Rattle.mr_session.specs.Onward.{after_given, is_last, gone_on, advanced}
 use Rattle.mr_replica.specs.Sound.{AreWithin}
 use Rattle.mr_replica.specs.declared.event.Event.{Event}
 use Rattle.mr_replica.proofs.Keeping.{within_later, within_closed}

@@ -12,11 +12,13 @@ use Rattle.mr_madewith.specs.Keyed.{without, placed, is_before}
 use Rattle.mr_madewith.specs.Trail.{item_of_last}
 use Rattle.mr_madewith.proofs.Rising.{same_names, name_eq_self}
 use Rattle.mr_store.specs.Revisions.{version_of, revision_of, supersedes, left_by}
+use Rattle.mr_store.proofs.HoldingLemmas.{revision_of-neither}
 use Rattle.mr_replica.specs.State.{State, held, next_version}
 use Rattle.mr_replica.specs.Sound.{AreNoLater, AreIssued, AreKnown, IsSound}
 use Rattle.mr_replica.specs.Issue.{version_learned, is_selected, entered_if, issuing, logged}
 use Rattle.mr_replica.specs.Issued.{IsNext}
 use Rattle.mr_replica.specs.declared.event.Event.{Event}
+use Rattle.mr_replica.proofs.Folding.{folds_issued, in_order_issued}
 use Rattle.mr_replica.proofs.Keeping.{within_later}
 
 -- what holds of all and of one more holds with that one at its place
@@ -101,11 +103,16 @@ module _ {K : Type 0} (form : Form K) (s : State K) (k : K) (r : Rev) (event : E
         no_later = All-placed item_of_last NoLater r others next_no_later (All-filter of_others NoLater s.trail (All-weaker WasNoLater NoLater (λ l n. later_still l.version l.below n) s.trail sound.trail_issued.no_later));
       }
 
+  -- its version is no head's yet
+  new_head : revision_of s.heads r.version ≡ None
+  new_head = (revision_of-neither s.heads s.push_outs r.version (next_not_held form s r.version sound (ap (λ (n : Name). n.author) next.version) (ap (λ (n : Name). n.counter) next.version))).first
+
   pub sound_issued : IsSound form (logged (issuing s k r) event)
   sound_issued = record {
     limit_from = sound.limit_from;
     limit_to = sound.limit_to;
     issued_few = omega (arith, sound.issued_few, length_push s.log event);
+    heads_in_order = in_order_issued (supersedes r.item (has_below r)) (is_selected s r) r s.heads sound.heads_in_order new_head;
     heads_issued = issued_entered (is_selected s r) s.heads sound.heads_issued;
     push_outs_issued = issued_entered (not (is_selected s r)) s.push_outs sound.push_outs_issued;
     trail_issued = issued_noted;
@@ -113,4 +120,5 @@ module _ {K : Type 0} (form : Form K) (s : State K) (k : K) (r : Rev) (event : E
     push_outs_known = known_entered (not (is_selected s r)) s.push_outs sound.push_outs_known;
     sessions_within = within_later (λ session. session.next) s.log event s.sessions sound.sessions_within;
     streams_within = within_later (λ stream. stream.next) s.log event s.streams sound.streams_within;
+    folds = folds_issued (supersedes r.item (has_below r)) (is_selected s r) r s.feed s.heads sound.heads_in_order new_head sound.folds;
   }

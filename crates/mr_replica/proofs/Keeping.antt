@@ -51,6 +51,7 @@ sound_with form s push_outs is_retired sessions streams event sound issued known
   limit_from = sound.limit_from;
   limit_to = sound.limit_to;
   issued_few = omega (arith, sound.issued_few, length_push s.log event);
+  heads_in_order = sound.heads_in_order;
   heads_issued = sound.heads_issued;
   push_outs_issued = issued;
   trail_issued = sound.trail_issued;
@@ -58,4 +59,5 @@ sound_with form s push_outs is_retired sessions streams event sound issued known
   push_outs_known = known;
   sessions_within = within_later (λ session. session.next) s.log event sessions sessions_within;
   streams_within = within_later (λ stream. stream.next) s.log event streams streams_within;
+  folds = sound.folds;
 }

@@ -2,6 +2,7 @@ pub mod FragmentLemmas
 pub mod Choice
 pub mod Below
 pub mod Staying
+pub mod Folding
 pub mod Keeping
 pub mod Issuing
 pub mod Highest
@@ -19,5 +20,6 @@ pub mod Drawing
 pub mod Advancing
 pub mod Decided
 pub mod Replies
+pub mod Replaying
 mod Rows
 mod RecordRows

@@ -27,6 +27,7 @@ sound_streaming form s streams event sound within = record {
   limit_from = sound.limit_from;
   limit_to = sound.limit_to;
   issued_few = omega (arith, sound.issued_few, length_push s.log event);
+  heads_in_order = sound.heads_in_order;
   heads_issued = sound.heads_issued;
   push_outs_issued = sound.push_outs_issued;
   trail_issued = sound.trail_issued;
@@ -34,4 +35,5 @@ sound_streaming form s streams event sound within = record {
   push_outs_known = sound.push_outs_known;
   sessions_within = within_later (λ session. session.next) s.log event s.sessions sound.sessions_within;
   streams_within = within;
+  folds = sound.folds;
 }

@@ -1,11 +1,11 @@
 -- how fragments are made pieces, one by one
-use Rattle.std.proofs.Common.{◌≡◌, ◌&&◌, ◌||◌, refl, ap, sym, ◌∙◌, arith, List, [], ◌∷◌, ◌++◌, length, All, map, Option, length-append, append_assoc}
+use Rattle.std.proofs.Common.{◌≡◌, refl, ap, sym, ◌∙◌, arith, List, [], ◌∷◌, ◌++◌, length, All, map, Option, length-append, append_assoc}
 use Rattle.std.specs.List.{AllZip, Any}
 use Rattle.std.proofs.lemmas.List.{append-nil}
 use Rattle.std.proofs.Math.Seq.{get_or-append_seam}
 use Rattle.mr_forms.specs.declared.fragment.Fragment.{Fragment}
 use Rattle.mr_forms.specs.Sets.{Versions}
-use Rattle.mr_forms.specs.Covered.{has_item, listed_items, all_covered}
+use Rattle.mr_forms.specs.Covered.{has_item, all_covered}
 use Rattle.mr_forms.specs.Known.{AreSame}
 use Rattle.mr_forms.specs.Parts.{part_of}
 use Rattle.mr_concise.specs.Fragments.{IsTooHoley}

@@ -208,6 +208,7 @@ sound_pulled form s event sound =
       limit_from = sound.limit_from;
       limit_to = sound.limit_to;
       issued_few = omega (arith, sound.issued_few, length_push s.log event);
+      heads_in_order = sound.heads_in_order;
       heads_issued = sound.heads_issued;
       push_outs_issued = sound.push_outs_issued;
       trail_issued = sound.trail_issued;
@@ -218,4 +219,5 @@ sound_pulled form s event sound =
         next_few = All-push (λ (x : Numbered Session). x.value.next ≤ length (s.log ++ event ∷ [])) s.sessions.open_ones (record { number = s.sessions.opened + 1; value = new_session }) later.next_few (omega arith);
       };
       streams_within = within_later (λ stream. stream.next) s.log event s.streams sound.streams_within;
+      folds = sound.folds;
     }

@@ -1,5 +1,5 @@
 -- which reply an event has
-use Rattle.std.proofs.Common.{◌≡◌, List, Option, Some, None, Result, Ok, Err, refl}
+use Rattle.std.proofs.Common.{◌≡◌, List, Option, Some, None, Result, Ok, Err}
 use Rattle.mr_version.specs.Name.{Name}
 use Rattle.mr_mail.specs.Mail.{Mail}
 use Rattle.mr_forms.specs.Known.{Form}

@@ -1,8 +1,9 @@
 -- what a replica keeps as it takes a record
 use Rattle.std.proofs.Common.{◌≡◌, ◌≤◌, ◌<◌, ◌+◌, ◌==◌, nat_lt, nat_le, ℕ, Bool, true, false, not, ◌&&◌, ◌||◌, if◌then◌else◌, refl, sym, ap, subst, ◌∙◌, arith, List, [], ◌∷◌, ◌++◌, length, Option, Some, None, inl, inr, eq-eqb}
 use Rattle.std.specs.List.{All}
-use Rattle.std.specs.Option.{option_map_or}
+use Rattle.std.specs.Option.{option_map_or, IfSome}
 use Rattle.std.proofs.lemmas.Bool.{cases_Bool, or_left, or_right, or_parts, not-false, ltb-true, ltb-false, leb-false}
+use Rattle.std.proofs.lemmas.Option.{IfSome_then}
 use Rattle.std.proofs.lemmas.List.{length_push}
 use Rattle.std.proofs.lemmas.List.Elements.{All-head, All-tail, All-map, All-filter, All-weaker, All-append}
 use Rattle.mr_version.specs.Name.{Name, name_eq}
@@ -13,7 +14,8 @@ use Rattle.mr_concise.specs.Vector.{vector_has, column_of}
 use Rattle.mr_concise.proofs.LastLemmas.{column_has-above}
 use Rattle.mr_madewith.specs.Revision.{Rev, IsRevision}
 use Rattle.mr_madewith.proofs.Rising.{same_names, name_eq_self}
-use Rattle.mr_store.specs.Revisions.{version_of, supersedes, left_by}
+use Rattle.mr_store.specs.Revisions.{version_of, revision_of, supersedes, left_by}
+use Rattle.mr_store.proofs.HoldingLemmas.{revision_of-neither}
 use Rattle.mr_wire.specs.Values.{DescentParts}
 use Rattle.mr_wire.specs.Frames.{Sent, IsIndexOf, IsSent}
 use Rattle.mr_wire.specs.declared.frame.Body.{Body}
@@ -33,6 +35,7 @@ use Rattle.mr_replica.specs.declared.event.Event.TheVariants.{Receive}
 use Rattle.mr_replica.specs.declared.refusal.Refusal.TheVariants.{NotForMe, LogFull, Forged}
 use Rattle.mr_wire.specs.declared.frame.Frame.TheVariants.{Record}
 use Rattle.mr_replica.proofs.Choice.{first_none, later_none, not_refused, map_none, some_same, found_has}
+use Rattle.mr_replica.proofs.Folding.{folds_on, in_order_on}
 use Rattle.mr_replica.proofs.Issuing.{All-placed}
 use Rattle.mr_replica.proofs.Keeping.{within_later, within_closed, issued_left, sound_with}
 
@@ -138,6 +141,7 @@ module _ {K : Type 0} (form : Form K) (s : State K) (sent : Sent) (sound : IsSou
     limit_from = sound.limit_from;
     limit_to = sound.limit_to;
     issued_few = omega (arith, sound.issued_few, length_push s.log (Receive (Record sent)));
+    heads_in_order = sound.heads_in_order;
     heads_issued = sound.heads_issued;
     push_outs_issued = sound.push_outs_issued;
     trail_issued = sound.trail_issued;
@@ -145,6 +149,7 @@ module _ {K : Type 0} (form : Form K) (s : State K) (sent : Sent) (sound : IsSou
     push_outs_known = sound.push_outs_known;
     sessions_within = within_taken (Receive (Record sent));
     streams_within = within_later (λ stream. stream.next) s.log (Receive (Record sent)) s.streams sound.streams_within;
+    folds = sound.folds;
   }
 
   pub sound_finished : IsSound form (finished s sent)
@@ -155,7 +160,7 @@ module _ {K : Type 0} (form : Form K) (s : State K) (sent : Sent) (sound : IsSou
   -- ---- a version that is told
 
   module _ (k : K) (line : DescentParts) (comer : Option Rev) (early : is_early_line s line ≡ false) (known : AreSame (form.known k) (line_learned form s line))
-      (brings : (r : Rev) → comer ≡ Some r → (line_of r ≡ line) × IsRevision r.item r.version r.below) where
+      (brings : (r : Rev) → comer ≡ Some r → (line_of r ≡ line) × IsRevision r.item r.version r.below) (new : IfSome comer (λ r. held s r.version ≡ None)) where
     line_no_later : AreNoLater s.id s.issued line.version line.below
     line_no_later =
         let parts = or_parts (is_early s line.item) (is_early s line.version || has_early s line.below) early in
@@ -192,6 +197,10 @@ module _ {K : Type 0} (form : Form K) (s : State K) (sent : Sent) (sound : IsSou
         ∙ or_right (name_eq line.item line.item && vector_has line.below line.version) (((form.learns_for_all || name_eq line.item line.item) && name_eq line.version line.version) || form.known s.knowledge line.item line.version)
         (or_left ((form.learns_for_all || name_eq line.item line.item) && name_eq line.version line.version) (form.known s.knowledge line.item line.version) both)
 
+    -- the one that comes has no head's version
+    new_heads : IfSome comer (λ r. revision_of s.heads r.version ≡ None)
+    new_heads = IfSome_then comer new (λ r none. (revision_of-neither s.heads s.push_outs r.version none).first)
+
     pub sound_learned : IsSound form (moved_on (learning s k line comer) sent)
     sound_learned =
         let event = Receive (Record sent) in
@@ -207,6 +216,7 @@ module _ {K : Type 0} (form : Form K) (s : State K) (sent : Sent) (sound : IsSou
           limit_from = sound.limit_from;
           limit_to = sound.limit_to;
           issued_few = omega (arith, sound.issued_few, length_push s.log event);
+          heads_in_order = in_order_on (supersedes line.item (vector_has line.below)) comer s.heads sound.heads_in_order new_heads;
           heads_issued = record {
             are = arrived_all One comer left (λ r is. (brings r is).1) (All-filter stays One s.heads sound.heads_issued.are);
             no_later = arrived_all NoLater comer left of_line (All-filter stays NoLater s.heads sound.heads_issued.no_later);
@@ -217,6 +227,7 @@ module _ {K : Type 0} (form : Form K) (s : State K) (sent : Sent) (sound : IsSou
           push_outs_known = All-filter stays Now s.push_outs (All-weaker Was Now (λ r was. told_still r.item r.version was) s.push_outs sound.push_outs_known);
           sessions_within = within_taken event;
           streams_within = within_later (λ stream. stream.next) s.log event s.streams sound.streams_within;
+          folds = folds_on (supersedes line.item (vector_has line.below)) comer s.feed s.heads sound.heads_in_order new_heads sound.folds;
         }
 
   -- ---- the End of a full session
@@ -231,6 +242,7 @@ module _ {K : Type 0} (form : Form K) (s : State K) (sent : Sent) (sound : IsSou
         limit_from = sound.limit_from;
         limit_to = sound.limit_to;
         issued_few = omega (arith, sound.issued_few, length_push s.log event);
+        heads_in_order = in_order_on (is_unheld session) None s.heads sound.heads_in_order tt;
         heads_issued = record {
           are = All-filter stays (λ r. IsRevision r.item r.version r.below) s.heads sound.heads_issued.are;
           no_later = All-filter stays (λ r. AreNoLater s.id s.issued r.version r.below) s.heads sound.heads_issued.no_later;
@@ -241,6 +253,7 @@ module _ {K : Type 0} (form : Form K) (s : State K) (sent : Sent) (sound : IsSou
         push_outs_known = All-weaker Was Now (λ r was. still r.item r.version was) s.push_outs sound.push_outs_known;
         sessions_within = sound_finished.sessions_within;
         streams_within = sound_finished.streams_within;
+        folds = folds_on (is_unheld session) None s.feed s.heads sound.heads_in_order tt sound.folds;
       }
 
 -- ---- what is new

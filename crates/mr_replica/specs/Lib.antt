@@ -1,6 +1,7 @@
 pub mod State
 pub mod Refusal
 pub mod Admission
+pub mod Folded
 pub mod Sound
 pub mod Issue
 pub mod Create
@@ -23,3 +24,4 @@ pub mod Issued
 pub mod StepThen
 pub mod Methods
 pub mod Step
+pub mod Replay

@@ -5,8 +5,10 @@ use Rattle.mr_forms.specs.Known.{Pairs, Form}
 use Rattle.mr_concise.specs.Vector.{vector_has}
 use Rattle.mr_concise.specs.declared.vector.AuthorColumn.{AuthorColumn}
 use Rattle.mr_madewith.specs.Revision.{Rev, IsRevision}
+use Rattle.mr_store.specs.Revisions.{AreInVersionOrder}
 use Rattle.mr_session.specs.Table.{Table, Numbered}
 use Rattle.mr_replica.specs.State.{State}
+use Rattle.mr_replica.specs.Folded.{FoldsToStore}
 
 -- the version is no own one, or one of those issued
 abbrev pub IsNoLater : ℕ → ℕ → Name → Type 0
@@ -35,6 +37,7 @@ pub record IsSound {K : Type 0} (form : Form K) (s : State K) : Type 0 where
   pub limit_from : 1 ≤ s.event_limit
   pub limit_to : s.event_limit ≤ 1000000
   pub issued_few : s.issued ≤ length s.log
+  pub heads_in_order : AreInVersionOrder s.heads
   pub heads_issued : AreIssued s.id s.issued s.heads
   pub push_outs_issued : AreIssued s.id s.issued s.push_outs
   pub trail_issued : AreIssued s.id s.issued s.trail
@@ -42,3 +45,4 @@ pub record IsSound {K : Type 0} (form : Form K) (s : State K) : Type 0 where
   pub push_outs_known : AreKnown (form.known s.knowledge) s.push_outs
   pub sessions_within : AreWithin (λ session. session.next) (length s.log) s.sessions
   pub streams_within : AreWithin (λ stream. stream.next) (length s.log) s.streams
+  pub folds : FoldsToStore s

@@ -25,6 +25,8 @@
 //! learned at once with what it supersedes; what a full stream tells behind its versions is kept until its end,
 //! and then tells which heads the source no longer holds.
 //!
+//! A replica is its log replayed: [`Replica::replay`] makes it again of the events that it admitted.
+//!
 //! What is known is kept in a form that the caller chooses, by the type `K`. A version that is issued
 //! is learned for its item, alone: what it supersedes of its item was learned before it, and the rest are
 //! versions of other items. [`Replica::fragments`] tells what is known, with concise vectors.
@@ -53,4 +55,4 @@ pub use event::{Bases, Event, Reply};
 pub use mr_filter::Filter;
 pub use mr_madewith::Revision;
 pub use refusal::Refusal;
-pub use replica::{Received, Replica, ReplicaFault};
+pub use replica::{MAX_EVENTS, Received, ReplayFault, Replica, ReplicaFault};

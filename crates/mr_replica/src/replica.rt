@@ -5,6 +5,7 @@ ghost use Rattle.std.specs.Option.{option_copied};
 mod admission;
 mod answer;
 mod contents;
+mod copy;
 mod create;
 mod cut_in;
 mod cut_out;
@@ -16,6 +17,7 @@ mod next;
 mod pull;
 mod receive;
 mod release;
+mod replay;
 mod retire;
 mod step;
 mod step_then;
@@ -31,6 +33,7 @@ use mr_forms::{FormFault, Fragment, Knowledge};
 use mr_session::{Sessions, Streams};
 use mr_version::{Author, ItemId, Version};
 pub use receive::Received;
+pub use replay::ReplayFault;
 use std::alloc::{AllocError, Global};
 use std::marker::Model;
 use thiserror::Error;
@@ -53,8 +56,8 @@ impl ReplicaFault {
     }
 }
 
-/// The most events that a log may take.
-const MAX_EVENTS: u32 = 1_000_000;
+/// The most events that a replica's log may take.
+pub const MAX_EVENTS: u32 = 1_000_000;
 
 /// A replica over a form of knowledge.
 #[derive(Drop)]
@@ -89,6 +92,7 @@ impl<K: Knowledge> Replica<K> {
     ghost use Rattle.mr_concise.specs.Vector.{vector_has};
     ghost use Rattle.mr_concise.specs.Fragments.{ConciseFragment, knowledge_text};
     ghost use Rattle.mr_replica.specs.State.{new_state, held};
+    ghost use Rattle.mr_replica.specs.Folded.{FoldsToStore};
     ghost use Rattle.mr_store.specs.Revisions.{AreInVersionOrder, AreApart, AreConflicts};
     ghost use Rattle.mr_replica.specs.Fragments.{HaveKnown, AreFragmentsOf, HasHoleyPart};
 
@@ -220,9 +224,11 @@ impl<K: Knowledge> Replica<K> {
         concise_fragments(self.alloc, fragments)
     }
 
-    /// The changes of the heads, in order of time.
+    /// The changes of the heads, in order of time. Somebody who goes through all of them has each head's version
+    /// with its card and item, and no other.
     pub fn feed(&self) -> &[Entry]
-        ensures { result.now ≡ self.now.feed }
+        ensures all { result.now ≡ self.now.feed }
+        ensures folds { FoldsToStore self.now }
     {
         self.contents.feed()
     }

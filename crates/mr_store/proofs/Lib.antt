@@ -4,3 +4,4 @@ pub mod UnheldLemmas
 pub mod IndexLemmas
 pub mod Several
 pub mod HeldVersionLemmas
+pub mod CopyLemmas

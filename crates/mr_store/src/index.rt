@@ -45,6 +45,15 @@ pub fn items_with_several(
     Ok(items)
 }
 
+/// A copy, which lists the same versions.
+pub fn copied(
+    index: &BTreeMap<ItemId, Vec<Version>>,
+) -> Result<BTreeMap<ItemId, Vec<Version>>, AllocError>
+    ensures { IfOk result (λ copy. (i : Name) → listed_for copy i ≡ listed_for index.now i) }
+{
+    index.clone()
+}
+
 /// Makes room for one version more of the item.
 pub fn make_room(
     index: &mut BTreeMap<ItemId, Vec<Version>>,

@@ -10,7 +10,9 @@ ghost use Rattle.mr_store.specs.Leaving.{leaves};
 ghost use Rattle.mr_store.specs.Revisions.{AreInVersionOrder, version_of, revision_of, entered, versions_of, supersedes, left_by, AreConflicts};
 ghost use Rattle.mr_store.specs.Unheld.{ListsInOrder, is_unheld};
 
-use crate::index::{items_with_several, list, listed_for, make_room, unlist, unlist_unheld};
+use crate::index::{
+    copied, items_with_several, list, listed_for, make_room, unlist, unlist_unheld,
+};
 use crate::leaving::{leaves, some_leave};
 use crate::unheld::is_unheld;
 use mr_concise::ConciseVector;
@@ -199,6 +201,19 @@ impl Shelf {
         unlist_unheld(&mut self.index, &self.revisions, learned, held);
         retain_held(&mut self.revisions, learned, held);
     }
+
+    /// An equal list, which shares the revisions' parts. It costs a handle for each, and the index. It has
+    /// no room.
+    pub fn copy(&self) -> Result<Shelf, AllocError>
+        ensures { IfOk result (λ shelf. shelf ≡ record { revisions = self.now.revisions; room = None }) }
+    {
+        Ok(Shelf {
+            alloc: self.alloc,
+            revisions: copies(self.alloc, &self.revisions)?,
+            index: copied(&self.index)?,
+            room: None,
+        })
+    }
 }
 
 // Takes the revision of the version out.
@@ -260,4 +275,15 @@ fn insert(revisions: &mut Vec<Revision>, revision: Revision)
         Ok(_) => unreachable!(),
         Err(place) => revisions.insert(place, revision).unwrap(),
     }
+}
+
+// Equal revisions, in the same order.
+fn copies(alloc: Global, revisions: &[Revision]) -> Result<Vec<Revision>, AllocError>
+    ensures { IfOk result (λ copied. copied.items ≡ revisions.now) }
+{
+    let mut copied = Vec::with_capacity(alloc, revisions.len())?;
+    for revision in revisions {
+        copied.push(revision.copy()?)?;
+    }
+    Ok(copied)
 }

@@ -228,4 +228,14 @@ impl Store {
         self.push_outs.remove_leaving(item, &[version], below);
         any
     }
+    /// An equal store, which shares the revisions' parts. It costs a handle for each, and the indexes. It
+    /// has no room.
+    pub fn copy(&self) -> Result<Store, AllocError>
+        ensures { IfOk result (λ store. store ≡ record { heads = self.now.heads; push_outs = self.now.push_outs; head_room = None; push_out_room = None }) }
+    {
+        Ok(Store {
+            heads: self.heads.copy()?,
+            push_outs: self.push_outs.copy()?,
+        })
+    }
 }

@@ -172,6 +172,19 @@ impl Contents {
         &self.log
     }
 
+    /// Equal contents, with no room.
+    pub fn copy(&self) -> Result<Contents, AllocError>
+        ensures { IfOk result (HoldsSame self.now) }
+    {
+        Ok(Contents {
+            alloc: self.alloc,
+            store: self.store.copy()?,
+            trail: self.trail.copy()?,
+            feed: self.feed.copy()?,
+            log: copied_log(self.alloc, &self.log)?,
+        })
+    }
+
     /// Makes room for the arrival and one event.
     pub fn reserve(&mut self, arrival: &Arrival) -> Result<(), AllocError>
         ensures same { HoldsSame self.old self.new }
@@ -330,4 +343,15 @@ fn tell(feed: &mut Feed, entries: Vec<Entry>)
     for entry in entries {
         feed.push_reserved(entry);
     }
+}
+
+// Equal events, in the same order.
+fn copied_log(alloc: Global, log: &[Event]) -> Result<Vec<Event>, AllocError>
+    ensures { IfOk result (λ copied. copied.items ≡ log.now) }
+{
+    let mut copied = Vec::with_capacity(alloc, log.len())?;
+    for event in log {
+        copied.push(event.copy(alloc)?)?;
+    }
+    Ok(copied)
 }

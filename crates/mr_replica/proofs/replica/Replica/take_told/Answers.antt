@@ -1,9 +1,9 @@
-use Rattle.std.proofs.Common.{◌≡◌, None, Some, Err, refl, sym, ap, subst, ◌∙◌}
+use Rattle.std.proofs.Common.{◌≡◌, None, Some, IfSome, Err, refl, sym, ap, subst, ◌∙◌}
 use Rattle.std.proofs.lemmas.Result.{err_from_is_err_and}
 use Rattle.mr_forms.specs.Known.{AreSame}
 use Rattle.mr_madewith.specs.Revision.{Rev, IsRevision}
 use Rattle.mr_wire.specs.Values.{DescentParts}
-use Rattle.mr_replica.specs.State.{State}
+use Rattle.mr_replica.specs.State.{State, held}
 use Rattle.mr_replica.specs.Sound.{IsSound}
 use Rattle.mr_replica.specs.Forged.{line_of}
 use Rattle.mr_replica.specs.Refusal.{refusal_of}
@@ -66,8 +66,13 @@ invariant_of-self-2 g c =
     let same_line : (r : Rev) → comer ≡ Some r → line_of r ≡ line = λ r is. comer_told c.args.self.now body r line (sym c.requires.comer ∙ is) c.requires.told in
     let brings : (r : Rev) → comer ≡ Some r → (line_of r ≡ line) × IsRevision r.item r.version r.below =
     λ r is. (same_line r is, subst (λ (l : DescentParts). IsRevision l.item l.version l.below) (sym (same_line r is)) is_one) in
+    let sound_now = subst (IsSound form) c.self.view_is c.self.invariant in
+    let sure_now = not_forged form c.args.self.now c.args.sent sound_now c.requires.kept c.requires.taken in
+    let new : IfSome comer (λ r. held s r.version ≡ None) =
+    subst (λ (t : State g.row.K.Denot). IfSome comer (λ r. held t r.version ≡ None)) back
+    (comer_new form c.args.self.now sound_now c.args.item c.args.version body c.requires.told c.requires.unknown sure_now comer c.requires.comer) in
     let same = c.in_ok-reserve_taken.ensures.same in
     let is = c.note_event.ensures in
     let learned = c.learn.ensures in
     rw (is.heads, is.push_outs, is.trail, is.feed, is.log, learned.heads, learned.push_outs, learned.trail, learned.feed, learned.log, same.heads, same.push_outs, same.trail, same.feed, same.log, below, entries, c.in-Ok.ensures.ok)
-    (sound_learned form s c.args.sent sound c.requires.kept taken c.learn_with.new.self line comer (told_not_early s body line c.requires.told sure) known brings)
+    (sound_learned form s c.args.sent sound c.requires.kept taken c.learn_with.new.self line comer (told_not_early s body line c.requires.told sure) known brings new)

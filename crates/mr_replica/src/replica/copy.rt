@@ -1,0 +1,44 @@
+//! Copies of a replica.
+ghost use Rattle.std.specs.Prelude.{◌≡◌, IfOk};
+
+use super::Replica;
+use mr_forms::Knowledge;
+use std::alloc::AllocError;
+
+impl<K: Knowledge> Replica<K> {
+    /// An equal replica, which goes its own way from then on. Memory alone can be wanting.
+    ///
+    /// Held revisions share their parts with the original, and each message in the log its body; the feed, the
+    /// log, what is known and what is open are copied.
+    pub fn copy(&self) -> Result<Replica<K>, AllocError>
+        ensures { IfOk result (λ replica. replica ≡ self.now) }
+    {
+        let filter = self.filter.copy()?;
+        let knowledge = copied_knowledge(&self.knowledge)?;
+        let contents = self.contents.copy()?;
+        let sessions = self.sessions.copy()?;
+        let streams = self.streams.copy()?;
+        Ok(Replica {
+            alloc: self.alloc,
+            id: self.id,
+            filter,
+            event_limit: self.event_limit,
+            issued: self.issued,
+            knowledge,
+            contents,
+            is_retired: self.is_retired,
+            sessions,
+            streams,
+        })
+    }
+}
+
+// An equal knowledge.
+fn copied_knowledge<K: Knowledge>(knowledge: &K) -> Result<K, AllocError>
+    ensures { IfOk result (λ copy. copy ≡ knowledge.now) }
+{
+    match knowledge.copy() {
+        Ok(copy) => Ok(copy),
+        Err(_) => Err(AllocError),
+    }
+}
