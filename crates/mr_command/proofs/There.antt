@@ -1,6 +1,8 @@
 -- what a command that was read names is there
 use Rattle.std.proofs.Common.{◌≡◌, ◌≤◌, ◌&&◌, ◌∙◌, ℕ, Bool, true, false, not, nat_le, List, [], ◌∷◌, Result, Ok, Err, IsTrue, IsFalse, IfOk, codes, refl, arith}
 use Rattle.std.proofs.lemmas.Bool.Decides.{nat_tests}
+use Rattle.mr_feed.specs.declared.port.TheConstants.{MAX_CAPACITY}
+use Rattle.mr_replica.specs.declared.replica.TheConstants.{MAX_EVENTS}
 use Rattle.mr_mail.specs.Label.{text_eq}
 use Rattle.mr_version.specs.Name.{Name}
 use Rattle.mr_world.specs.declared.event.Event.{Event}
@@ -209,8 +211,8 @@ module _ (scene : Scene) where
       let (capacity, sized, c) = step b in
       let (filter, read, is) = step c in
       let same : spec ≡ record { id = id; filter = filter; event_limit = limit; port_capacity = capacity } = cc in
-      let events = up_to-between 1000000 _ p.limit limit counted in
-      let places = up_to-between 4096 _ p.capacity capacity sized in
+      let events = up_to-between MAX_EVENTS _ p.limit limit counted in
+      let places = up_to-between MAX_CAPACITY _ p.capacity capacity sized in
       rw same (record { opening = early; other = new-other p.id id new; some_events = events.0; few_events = events.1; some_places = places.0; few_places = places.1 })
 
   early-there : (p : SpecParts) (spec : Spec) (early : Bool) → scene.is_opening ≡ early → choose early (reads_spec scene p) (fails LateReplica) (Ok spec) → IsNew scene spec

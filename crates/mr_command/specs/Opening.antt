@@ -1,5 +1,7 @@
 -- the lines that make replicas
 use Rattle.std.specs.Prelude.{◌≡◌, ℕ, List, ◌∷◌, Ok, Err}
+use Rattle.mr_feed.specs.declared.port.TheConstants.{MAX_CAPACITY}
+use Rattle.mr_replica.specs.declared.replica.TheConstants.{MAX_EVENTS}
 use Rattle.mr_filter.specs.Fault.{IsFaultOf}
 use Rattle.mr_filter.specs.Filter.{ClauseParts}
 use Rattle.mr_filter.specs.Grammar.{Reads}
@@ -36,8 +38,8 @@ module _ (scene : Scene) where
   abbrev pub reads_spec : SpecParts → Reading Spec
   reads_spec p =
       reads_new_id scene p.id andthen λ id.
-      reads_up_to 1000000 BadLimit p.limit andthen λ limit.
-      reads_up_to 4096 BadCapacity p.capacity andthen λ capacity.
+      reads_up_to MAX_EVENTS BadLimit p.limit andthen λ limit.
+      reads_up_to MAX_CAPACITY BadCapacity p.capacity andthen λ capacity.
       reads_filter p.filter andthen λ filter.
       gives (record { id = id; filter = filter; event_limit = limit; port_capacity = capacity })
 

@@ -1,5 +1,7 @@
 -- what a command names is there
 use Rattle.std.specs.Prelude.{◌≤◌, Bool, true, IsTrue, IsFalse}
+use Rattle.mr_feed.specs.declared.port.TheConstants.{MAX_CAPACITY}
+use Rattle.mr_replica.specs.declared.replica.TheConstants.{MAX_EVENTS}
 use Rattle.mr_world.specs.Event.{replica_of}
 use Rattle.mr_world.specs.declared.event.Event.{Event}
 use Rattle.mr_world.specs.declared.event.Event.TheVariants.{Answer, Receive, DeliverPart, Release}
@@ -17,9 +19,9 @@ module _ (scene : Scene) where
     pub opening : IsTrue scene.is_opening
     pub other : IsFalse (scene.has_replica spec.id)
     pub some_events : 1 ≤ spec.event_limit
-    pub few_events : spec.event_limit ≤ 1000000
+    pub few_events : spec.event_limit ≤ MAX_EVENTS
     pub some_places : 1 ≤ spec.port_capacity
-    pub few_places : spec.port_capacity ≤ 4096
+    pub few_places : spec.port_capacity ≤ MAX_CAPACITY
 
   -- the frame that comes to the replica is there, where one comes
   abbrev pub has_frame_of : Event → Bool

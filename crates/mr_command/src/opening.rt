@@ -7,16 +7,12 @@ use crate::named::read_new_id;
 use crate::number::read_up_to;
 use crate::roster::Roster;
 use crate::words::Words;
+use mr_feed::MAX_CAPACITY;
 use mr_filter::Filter;
+use mr_replica::MAX_EVENTS;
 use mr_world::Spec;
 use std::alloc::Global;
 use std::marker::Model;
-
-/// The most events that a replica's limit may allow.
-const MAX_EVENTS: u32 = 1_000_000;
-
-/// The most entries that may wait at a port.
-const MAX_CAPACITY: u32 = 4_096;
 
 /// `ID LIMIT CAP FILTER`. `WrongWords`, then `LateReplica` where other lines came before, and then the
 /// faults of its words.
@@ -72,7 +68,7 @@ impl<'a> SpecWords<'a> {
     {
         let id = read_new_id(self.id, roster)?;
         let event_limit = read_up_to(self.limit, MAX_EVENTS, LineFault::BadLimit)?;
-        let capacity = read_up_to(self.capacity, MAX_CAPACITY, LineFault::BadCapacity)?;
+        let capacity = read_up_to(self.capacity, MAX_CAPACITY as u32, LineFault::BadCapacity)?;
         let filter = read_filter(alloc, self.filter)?;
         Ok(Spec {
             id,

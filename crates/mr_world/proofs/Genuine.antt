@@ -4,6 +4,7 @@ use Rattle.std.specs.Prelude.{Result, Ok, Err}
 use Rattle.std.proofs.lemmas.Bool.{both_ways}
 use Rattle.mr_version.specs.Name.{Name}
 use Rattle.mr_forms.specs.Known.{Form}
+use Rattle.mr_forms.specs.Listing.{ListsMore}
 use Rattle.mr_filter.specs.Filter.{ClauseParts}
 use Rattle.mr_mail.specs.Mail.{Mail, MailCard}
 use Rattle.mr_madewith.specs.Revision.{Rev}
@@ -31,7 +32,7 @@ use Rattle.mr_wire.specs.declared.frame.Body.TheVariants.{Item, MoveOut}
 use Rattle.mr_wire.specs.declared.frame.Frame.TheVariants as frame
 use Rattle.mr_world.specs.Agrees.{Agrees, HoldingsAgree}
 use Rattle.mr_world.specs.Issued.{IsTrueRevision}
-use Rattle.mr_world.specs.ListedItems.{IsGenuine, IsListedReplica, IsListedWorld, ListsIssued, ListsMore}
+use Rattle.mr_world.specs.ListedItems.{IsGenuine, IsListedReplica, IsListedWorld, ListsIssued}
 use Rattle.mr_world.specs.Moves.{Moves, StepsAt}
 use Rattle.mr_world.specs.Normal.{IsNormalReplica}
 use Rattle.mr_world.specs.Runs.{IsFresh, IsFreshWorld, Runs, seen_step}

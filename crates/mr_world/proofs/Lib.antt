@@ -26,10 +26,10 @@ pub mod PortMoves
 pub mod Refinement
 pub mod WholeRuns
 pub mod NormalKeeps
+pub mod PiecesListMore
 pub mod ListedKeeps
 pub mod NeverForged
 pub mod Genuine
-pub mod ItemListsMore
 pub mod Replies
 pub mod BySets
 mod RunSteps

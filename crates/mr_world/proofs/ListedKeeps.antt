@@ -3,6 +3,7 @@ use Rattle.std.proofs.Common.{◌≡◌, refl, sym, ap, subst, ◌∙◌, ℕ, B
 use Rattle.std.proofs.lemmas.Bool.{and_from, and_parts, both_ways}
 use Rattle.mr_version.specs.Name.{Name, name_eq}
 use Rattle.mr_forms.specs.Known.{AreSame, Form, Pairs, with_below, with_learned, with_pairs}
+use Rattle.mr_forms.specs.Listing.{ListsMore}
 use Rattle.mr_forms.specs.Sets.{Versions}
 use Rattle.mr_concise.specs.Vector.{vector_has}
 use Rattle.mr_mail.specs.Mail.{Mail}
@@ -36,9 +37,10 @@ use Rattle.mr_wire.specs.declared.frame.Frame.TheVariants as frame
 use Rattle.mr_wire.specs.declared.frame.Header.{Header}
 use Rattle.mr_wire.specs.declared.frame.Mode.{Mode}
 use Rattle.mr_wire.specs.declared.frame.Mode.TheVariants.{Full, Partial}
-use Rattle.mr_world.specs.ListedItems.{AreIssuedItems, IsFiled, IsListedReplica, ListIssued, ListsIssued, ListsMore}
+use Rattle.mr_world.specs.ListedItems.{AreIssuedItems, IsFiled, IsListedReplica, ListIssued, ListsIssued}
 use Rattle.mr_world.proofs.Drawn.{Drawn, Drawn.Ends_fully, Drawn.Ends_partly, Drawn.Shows_first, Drawn.Shows_more, Drawn.Starts, Drawn.Tells, Drawn.Walks, drawn}
 use Rattle.mr_world.proofs.Orders.{entered_in}
+use Rattle.mr_world.proofs.PiecesListMore.{pieces_list_more}
 use Rattle.mr_world.proofs.Tables.{changed_found, closed_found, opened_found}
 
 module _ (issues : List (Issue Mail)) where
@@ -206,7 +208,7 @@ module _ {K : Type 0} (form : Form K) (form_lists : ListsMore form) (issues : Li
       go None e = tt
       go (Some items) e = λ item j. elim (cases (is_issued issues item)) [
         | inl t ↦ t
-        | inr n ↦ absurd (form_lists s.knowledge know keeps piece i items e item j (λ v h. elim (listed.filed item v h) [ inl all ↦ all | inr issued ↦ absurd (both_ways (is_issued issues item) n issued) ]))
+        | inr n ↦ absurd (pieces_list_more form form_lists s.knowledge know keeps piece i items e item j (λ v h. elim (listed.filed item v h) [ inl all ↦ all | inr issued ↦ absurd (both_ways (is_issued issues item) n issued) ]))
       ]
 
   told_listed : (asked : AskedOf) (x : Rev) → ListsIssued issues (told asked x)

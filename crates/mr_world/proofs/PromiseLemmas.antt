@@ -4,6 +4,7 @@ use Rattle.std.specs.Prelude.{Err, Ok, Result}
 use Rattle.std.specs.List.{AllZip}
 use Rattle.std.specs.Option.{option_map, option_map_or}
 use Rattle.mr_forms.specs.Known.{AreSame, Form}
+use Rattle.mr_forms.specs.Listing.{ListsMore}
 use Rattle.mr_filter.specs.Filter.{ClauseParts}
 use Rattle.mr_mail.specs.Mail.{Mail, MailCard}
 use Rattle.mr_model.specs.Changes.{after, change, happens, now}
@@ -16,7 +17,7 @@ use Rattle.mr_replica.specs.State.{State, new_state}
 use Rattle.mr_replica.specs.declared.refusal.Refusal.TheVariants as refusal
 use Rattle.mr_world.specs.Agrees.{Agrees, HoldingsAgree}
 use Rattle.mr_world.specs.Kept.{MemberView, WorldView, found_or, member_at, port_numbered}
-use Rattle.mr_world.specs.ListedItems.{IsGenuine, ListsMore}
+use Rattle.mr_world.specs.ListedItems.{IsGenuine}
 use Rattle.mr_world.specs.Moves.{Moves}
 use Rattle.mr_world.specs.Replies.{AreBySets, IsBySets}
 use Rattle.mr_world.specs.Made.{IsMadeOf, IsMadeWorld}
@@ -117,13 +118,13 @@ module _ {K : Type 0} (form : Form K) where
       knows_nothing = knows;
       agrees = subst (λ (xs : List Answered). Agrees form (filters_of w) (whole_world form nothing w) (now (setting_in w) (history (filters_of w) xs))) (sym made.answers) (fresh_agrees form (filters_of w) (whole_world form nothing w) fresh_world);
       by_sets = none_by_sets form (filters_of w) w.answers made.answers;
-      genuine = λ lists. subst (λ (xs : List Answered). IsGenuine form (now (setting_in w) (history (filters_of w) xs)).issues (whole_world form nothing w)) (sym made.answers) (fresh_genuine form (filters_of w) (whole_world form nothing w) fresh_world);
-      none_forged = λ lists x i. elim (subst (In x) made.answers i) [ ];
+      genuine = subst (λ (xs : List Answered). IsGenuine form (now (setting_in w) (history (filters_of w) xs)).issues (whole_world form nothing w)) (sym made.answers) (fresh_genuine form (filters_of w) (whole_world form nothing w) fresh_world);
+      none_forged = λ x i. elim (subst (In x) made.answers i) [ ];
     }
 
   -- ---- an event happens
 
-  module _ (w w' : WorldView K) (e : Event) (answer : Answer) (k : KeepsRules form w) (happens : Happens form w e answer w') where
+  module _ (form_lists : ListsMore form) (w w' : WorldView K) (e : Event) (answer : Answer) (k : KeepsRules form w) (happens : Happens form w e answer w') where
     abbrev x : Answered
     x = answered e answer
 
@@ -138,13 +139,13 @@ module _ {K : Type 0} (form : Form K) where
         let allowed = refines form (filters_of w) (whole_world form k.nothing w) (moment_of w) (run_inv (setting_in w) (history_of w) k.run) k.agrees e answer (whole_world form k.nothing w') moves in
         is_by_sets form (filters_of w) (whole_world form k.nothing w) (whole_world form k.nothing w') (moment_of w) k.agrees e answer allowed.0 moves
 
-    genuine : ListsMore form → IsGenuine form (now (setting_in w) (history_of w ++ seen_step (moment_of w) x ∷ [])).issues (whole_world form k.nothing w') × (answer ≢ Stepped (Err refusal.Forged))
-    genuine lists = one_more_genuine form (filters_of w) lists (whole_world form k.nothing w) (whole_world form k.nothing w') (history_of w) x k.run k.agrees (k.genuine lists) moves
+    genuine : IsGenuine form (now (setting_in w) (history_of w ++ seen_step (moment_of w) x ∷ [])).issues (whole_world form k.nothing w') × (answer ≢ Stepped (Err refusal.Forged))
+    genuine = one_more_genuine form (filters_of w) form_lists (whole_world form k.nothing w) (whole_world form k.nothing w') (history_of w) x k.run k.agrees k.genuine moves
 
-    none_forged : ListsMore form → FindsNoneForged w'
-    none_forged lists z i = elim (in_append w.answers (x ∷ []) z (subst (In z) happens.answers i)) [
-      | inl old ↦ k.none_forged lists z old
-      | inr new ↦ elim new [ inl same ↦ subst (λ (y : Answered). y.answer ≢ Stepped (Err refusal.Forged)) same (genuine lists).1 | inr none ↦ elim none [ ] ]
+    none_forged : FindsNoneForged w'
+    none_forged z i = elim (in_append w.answers (x ∷ []) z (subst (In z) happens.answers i)) [
+      | inl old ↦ k.none_forged z old
+      | inr new ↦ elim new [ inl same ↦ subst (λ (y : Answered). y.answer ≢ Stepped (Err refusal.Forged)) same genuine.1 | inr none ↦ elim none [ ] ]
     ]
 
     -- a replica's filter never changes
@@ -164,19 +165,19 @@ module _ {K : Type 0} (form : Form K) where
           (subst (λ (h : History Mail MailCard). Agrees form (filters_of w) (whole_world form k.nothing w') (now (setting_in w) h)) same_history step.1);
       by_sets = subst (λ (f : ℕ → List ClauseParts). AreBySets form f w'.answers) same_filters
           (subst (AreBySets form (filters_of w)) (sym happens.answers) (more_by_sets form (filters_of w) w.answers x k.by_sets by_sets));
-      genuine = λ lists. subst (λ (f : ℕ → List ClauseParts). IsGenuine form (now (setting_of f) (history f w'.answers)).issues (whole_world form k.nothing w')) same_filters
-          (subst (λ (h : History Mail MailCard). IsGenuine form (now (setting_in w) h).issues (whole_world form k.nothing w')) same_history (genuine lists).0);
+      genuine = subst (λ (f : ℕ → List ClauseParts). IsGenuine form (now (setting_of f) (history f w'.answers)).issues (whole_world form k.nothing w')) same_filters
+          (subst (λ (h : History Mail MailCard). IsGenuine form (now (setting_in w) h).issues (whole_world form k.nothing w')) same_history genuine.0);
       none_forged = none_forged;
     }
 
   -- it is answered, or nothing changes
-  pub meets_keeps : (w w' : WorldView K) (e : Event) (result : Result (Unit {0}) WorldFault) → KeepsRules form w → Meets form w e result w' → KeepsRules form w'
-  meets_keeps w w' e (Ok done) k meets = happens_keeps w w' e meets.0 k meets.1
-  meets_keeps w w' e (Err fault) k meets = subst (KeepsRules form) (sym meets.1) k
+  pub meets_keeps : ListsMore form → (w w' : WorldView K) (e : Event) (result : Result (Unit {0}) WorldFault) → KeepsRules form w → Meets form w e result w' → KeepsRules form w'
+  meets_keeps form_lists w w' e (Ok done) k meets = happens_keeps form_lists w w' e meets.0 k meets.1
+  meets_keeps form_lists w w' e (Err fault) k meets = subst (KeepsRules form) (sym meets.1) k
 
-  pub leads_keeps : (w w' : WorldView K) (events : List Event) → KeepsRules form w → Leads form w events w' → KeepsRules form w'
-  leads_keeps w w' [] k leads = subst (KeepsRules form) (sym leads) k
-  leads_keeps w w' (e ∷ events) k leads = leads_keeps leads.0 w' events (happens_keeps w leads.0 e leads.1 k leads.2) leads.3
+  pub leads_keeps : ListsMore form → (w w' : WorldView K) (events : List Event) → KeepsRules form w → Leads form w events w' → KeepsRules form w'
+  leads_keeps form_lists w w' [] k leads = subst (KeepsRules form) (sym leads) k
+  leads_keeps form_lists w w' (e ∷ events) k leads = leads_keeps form_lists leads.0 w' events (happens_keeps form_lists w leads.0 e leads.1 k leads.2) leads.3
 
   -- ---- what holds then
 

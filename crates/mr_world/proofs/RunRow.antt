@@ -1,23 +1,20 @@
 -- A worked run of a world, of two replicas: a full stream is taken to its End; an edit moves a mail out of the one, which
 -- the other takes, vouches for and tells of; the push-out is released; a stream and a session are cut.
 use Rattle.std.proofs.Common.{◌≡◌, ◌≢◌, refl, sym, ap, subst, ◌∙◌, ℕ, List, [], ◌∷◌, ◌++◌, inl, inr, arith, Some, None}
-use Rattle.std.specs.Prelude.{Ok, Err, All}
-use Rattle.std.specs.List.{AllZip}
-use Rattle.std.proofs.lemmas.List.Elements.{All-head, All-tail}
+use Rattle.std.specs.Prelude.{Ok, Err, All, IfSome}
 use Rattle.mr_forms.specs.Known.{Part}
+use Rattle.mr_forms.specs.Listing.{HasMoreFor, ListsMore}
 use Rattle.mr_concise.specs.declared.vector.AuthorColumn.{AuthorColumn}
 use Rattle.mr_replica.specs.Issue.{added, dropped}
-use Rattle.mr_replica.specs.Pieces.{IsPieceOf}
 use Rattle.mr_replica.specs.declared.refusal.Refusal.TheVariants as refusal
 use Rattle.mr_model.specs.Rules.{In}
-use Rattle.mr_world.specs.ListedItems.{AreIssuedItems, ListsMore}
+use Rattle.mr_world.specs.ListedItems.{AreIssuedItems}
 use Rattle.mr_world.proofs.Genuine.{world_answers}
 use Rattle.mr_replica.specs.declared.event.Event.{Event as ReplicaEvent}
 use Rattle.mr_replica.specs.declared.event.Event.TheVariants as replica
 use Rattle.mr_replica.specs.declared.event.Reply.{Reply}
 use Rattle.mr_replica.specs.declared.event.Reply.TheVariants.{Asked, Done, Finished, Gave, Issued, Known, Streaming, Took, Vouched}
 use Rattle.mr_wire.specs.Frames.{Sent}
-use Rattle.mr_wire.specs.Values.{Piece}
 use Rattle.mr_model.specs.Moment.{numbered}
 use Rattle.mr_world.specs.Moves.{Delivers, StepsAt}
 use Rattle.mr_world.specs.Ports.{with_close, with_offered, with_waiting}
@@ -386,18 +383,9 @@ feed_of_1 = refl
 
 -- ---- no record of it is taken for forged
 
--- a fragment of the form lists no item
-lists_none : (k : List AuthorColumn) (parts : List Part) (pieces : List Piece) → AllZip IsPieceOf parts pieces → All (row_form.is_part k) parts → (piece : Piece) → In piece pieces → piece.items ≡ None
-lists_none k [] [] are all piece i = elim i [ ]
-lists_none k [] (y ∷ ys) are all piece i = absurd are
-lists_none k (p ∷ ps) [] are all piece i = elim i [ ]
-lists_none k (p ∷ ps) (y ∷ ys) are all piece i = elim i [
-  | inl e ↦ ap (λ (z : Piece). z.items) (sym e) ∙ (are.0.items ∙ ap (λ (z : Part). z.items) (sym (All-head (row_form.is_part k) p ps all)))
-  | inr j ↦ lists_none k ps ys are.1 (All-tail (row_form.is_part k) p ps all) piece j
-]
-
+-- no part of the form lists an item
 row_lists_more : ListsMore row_form
-row_lists_more k know keeps piece i items listed item j = let none = lists_none k keeps.0.parts know keeps.0.by_part keeps.0.are_parts.are piece i in absurd (cc)
+row_lists_more k said p is = subst (λ (q : Part). IfSome q.items (λ items. All (HasMoreFor (row_form.known k)) items)) is tt
 
 row_answers : (x : Answered) → In x (first_part ++ second_part) → x.answer ≢ answer.Stepped (Err refusal.Forged)
 row_answers x i = world_answers row_form filters row_lists_more world_0 world_34 (first_part ++ second_part) is_fresh row_runs x i

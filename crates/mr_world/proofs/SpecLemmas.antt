@@ -2,6 +2,8 @@
 use Rattle.std.proofs.Common.{◌≡◌, sym, subst, ℕ, ◌≤◌, ◌==◌, nat_lt, Bool, true, false, ◌||◌, List, ◌∷◌, ◌++◌, inl, refl, if◌then◌else◌, arith, Some, None}
 use Rattle.std.specs.List.{list_any}
 use Rattle.std.proofs.lemmas.Bool.{both_ways, eqb-false, ltb-false}
+use Rattle.mr_feed.specs.declared.port.TheConstants.{MAX_CAPACITY}
+use Rattle.mr_replica.specs.declared.replica.TheConstants.{MAX_EVENTS}
 use Rattle.mr_model.proofs.Basics.{any_intro, append_right, false_from}
 use Rattle.mr_world.specs.Made.{has_bad_capacity, has_bad_limit, has_same_id, spec_refusal}
 use Rattle.mr_world.specs.declared.fault.SpecFault.TheVariants.{BadLimit, NoCapacity, SameReplica}
@@ -34,8 +36,8 @@ module _ (all before after : List Spec) (spec : Spec) (whole : all ≡ before ++
   none : (list_any has_bad_limit all ≡ false) × (list_any has_bad_capacity all ≡ false)
   none = none_bad (has_same_id all) (list_any has_bad_limit all) (list_any has_bad_capacity all) fine
 
-  pub limit_fits : (1 ≤ spec.event_limit) × (spec.event_limit ≤ 1000000)
-  limit_fits = in_range spec.event_limit 1000000 (not_so has_bad_limit none.0)
+  pub limit_fits : (1 ≤ spec.event_limit) × (spec.event_limit ≤ MAX_EVENTS)
+  limit_fits = in_range spec.event_limit MAX_EVENTS (not_so has_bad_limit none.0)
 
-  pub capacity_fits : (1 ≤ spec.port_capacity) × (spec.port_capacity ≤ 4096)
-  capacity_fits = in_range spec.port_capacity 4096 (not_so has_bad_capacity none.1)
+  pub capacity_fits : (1 ≤ spec.port_capacity) × (spec.port_capacity ≤ MAX_CAPACITY)
+  capacity_fits = in_range spec.port_capacity MAX_CAPACITY (not_so has_bad_capacity none.1)

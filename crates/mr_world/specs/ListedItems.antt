@@ -5,7 +5,6 @@ use Rattle.mr_forms.specs.Known.{Form, Pairs}
 use Rattle.mr_mail.specs.Mail.{Mail}
 use Rattle.mr_model.specs.Rules.{In}
 use Rattle.mr_model.specs.Versions.{Issue, is_issued}
-use Rattle.mr_replica.specs.Answer.{Keeps}
 use Rattle.mr_replica.specs.State.{State}
 use Rattle.mr_session.specs.Session.{Session}
 use Rattle.mr_session.specs.Stream.{Stream}
@@ -14,7 +13,6 @@ use Rattle.mr_wire.specs.Frames.{Sent}
 use Rattle.mr_wire.specs.Values.{Piece}
 use Rattle.mr_wire.specs.declared.frame.Body.{Body}
 use Rattle.mr_wire.specs.declared.frame.Body.TheVariants.{Start, Item, MoveOut, Held, Know, End}
-use Rattle.mr_wire.specs.declared.frame.Mode.TheVariants.{Full}
 use Rattle.mr_world.specs.Normal.{IsNormalWorld}
 use Rattle.mr_world.specs.World.{World}
 
@@ -41,12 +39,6 @@ abbrev pub IsFiled : List (Issue Mail) → Pairs → Type 0
 IsFiled issues pairs = (i v : Name) → IsTrue (pairs i v) → ((j : Name) → IsTrue (pairs j v)) ⊎ IsTrue (is_issued issues i)
 
 module _ {K : Type 0} (form : Form K) where
-  -- The fragments of a knowledge list an item only where more is known for it than for all items.
-  abbrev pub ListsMore : Type 0
-  ListsMore =
-      (knowledge : K) (know : List Piece) → Keeps form Full knowledge know → (piece : Piece) → In piece know → (items : List Name) → piece.items ≡ Some items → (i : Name) → In i items →
-      ¬ ((v : Name) → IsTrue (form.known knowledge i v) → (j : Name) → IsTrue (form.known knowledge j v))
-
   -- what a replica knows, gives and has taken lists issued items alone
   pub record IsListedReplica (issues : List (Issue Mail)) (s : State K) : Type 0 where
     pub filed : IsFiled issues (form.known s.knowledge)

@@ -2,7 +2,9 @@
 use Rattle.std.specs.Prelude.{◌≡◌, ◌==◌, ◌||◌, Bool, false, nat_lt, if◌then◌else◌, Option, Some, None, List, [], ◌∷◌}
 use Rattle.std.specs.List.{list_any, AllZip}
 use Rattle.mr_forms.specs.Known.{Form, AreSame}
+use Rattle.mr_feed.specs.declared.port.TheConstants.{MAX_CAPACITY}
 use Rattle.mr_replica.specs.State.{new_state}
+use Rattle.mr_replica.specs.declared.replica.TheConstants.{MAX_EVENTS}
 use Rattle.mr_world.specs.World.{new_port}
 use Rattle.mr_world.specs.Kept.{MemberView, WorldView}
 use Rattle.mr_world.specs.declared.fault.SpecFault.{SpecFault}
@@ -15,10 +17,10 @@ has_same_id [] = false
 has_same_id (spec ∷ specs) = list_any (λ other. other.id == spec.id) specs || has_same_id specs
 
 abbrev pub has_bad_limit : Spec → Bool
-has_bad_limit spec = (spec.event_limit == 0) || nat_lt 1000000 spec.event_limit
+has_bad_limit spec = (spec.event_limit == 0) || nat_lt MAX_EVENTS spec.event_limit
 
 abbrev pub has_bad_capacity : Spec → Bool
-has_bad_capacity spec = (spec.port_capacity == 0) || nat_lt 4096 spec.port_capacity
+has_bad_capacity spec = (spec.port_capacity == 0) || nat_lt MAX_CAPACITY spec.port_capacity
 
 -- The first fault whose case holds of any of them.
 abbrev pub spec_refusal : List Spec → Option SpecFault

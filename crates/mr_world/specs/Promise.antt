@@ -21,7 +21,7 @@ use Rattle.mr_world.specs.Agrees.{Agrees, HoldingsAgree}
 use Rattle.mr_world.specs.Shared.{ReceiptsAgree}
 use Rattle.mr_world.specs.Told.{AreOfOneStream, IsToldWhole, IsTrueBody}
 use Rattle.mr_world.specs.Kept.{MemberView, WorldView, member_at, replica_at, world_of}
-use Rattle.mr_world.specs.ListedItems.{IsGenuine, ListsMore}
+use Rattle.mr_world.specs.ListedItems.{IsGenuine}
 use Rattle.mr_world.specs.Replies.{AreBySets}
 use Rattle.mr_world.specs.declared.answer.Answer.TheVariants.{Stepped}
 use Rattle.mr_world.specs.declared.answered.Answered.{Answered}
@@ -100,13 +100,13 @@ module _ {K : Type 0} (form : Form K) where
   abbrev pub whole_world : K → WorldView K → World K
   whole_world nothing w = world_of (unused_member nothing) (new_port 1) w
 
-  -- Its history is a run of the rules, and it agrees with the moment after it. Each answer was by sets; and where fragments
-  -- list no more items than they have to, all is genuine, and nothing was taken for forged.
+  -- Its history is a run of the rules, and it agrees with the moment after it. Each answer was by sets, all is genuine, and
+  -- nothing was taken for forged.
   pub record KeepsRules (w : WorldView K) : Type 0 where
     pub run : FollowsRules w
     pub nothing : K
     pub knows_nothing : AreSame (form.known nothing) (λ i v. false)
     pub agrees : Agrees form (filters_of w) (whole_world nothing w) (moment_of w)
     pub by_sets : AnswersBySets w
-    pub genuine : ListsMore form → IsGenuine form (moment_of w).issues (whole_world nothing w)
-    pub none_forged : ListsMore form → FindsNoneForged w
+    pub genuine : IsGenuine form (moment_of w).issues (whole_world nothing w)
+    pub none_forged : FindsNoneForged w

@@ -3,7 +3,6 @@
 //! The functions compute nothing. Each is a law, whose contract is a theorem.
 ghost use Rattle.std.specs.Prelude.{◌≡◌, ◌≢◌, ◌⊎◌, IsTrue, IsFalse, ℕ, List, [], ◌∷◌, ◌++◌, Some, Ok, Err};
 ghost use Rattle.mr_filter.specs.Filter.{ClauseParts};
-ghost use Rattle.mr_itemset.specs.ItemForm.{item_form};
 ghost use Rattle.mr_mail.specs.Mail.{Mail, MailCard};
 ghost use Rattle.mr_model.specs.History.{History};
 ghost use Rattle.mr_model.specs.Moment.{start, known, numbered};
@@ -22,7 +21,7 @@ ghost use Rattle.mr_world.specs.Told.{AreOfOneStream, IsToldWhole};
 ghost use Rattle.mr_world.specs.Replies.{IsTooLong};
 ghost use Rattle.mr_world.specs.Agrees.{Agrees};
 ghost use Rattle.mr_world.specs.Runs.{IsFreshWorld, Runs, history, seen_step};
-ghost use Rattle.mr_world.specs.ListedItems.{IsGenuine, ListsMore};
+ghost use Rattle.mr_world.specs.ListedItems.{IsGenuine};
 
 use crate::answer::Answer;
 use crate::event::Event;
@@ -57,8 +56,7 @@ pub fn one_more_event<K: Knowledge>()
         Agrees K.form filters w' (now s (h ++ seen_step (now s h) x ∷ [])) }
 {}
 
-/// No replica of a world takes a record for forged, given a form whose fragments list an item only where
-/// more is known for it than for all items.
+/// No replica of a world takes a record for forged.
 ///
 /// A fresh world is genuine, and by any event a genuine world that agrees with the moment after a run goes
 /// to a genuine one, whose answer is not `Forged`.
@@ -67,20 +65,14 @@ pub fn never_forged<K: Knowledge>()
         IsFreshWorld K.form filters w → IsGenuine K.form [] w }
     ensures kept { (filters : ℕ → List ClauseParts) (w w' : World K) (h : History Mail MailCard) (x : Answered) →
         let s = setting_of filters in
-        ListsMore K.form → IsRun s start h → Agrees K.form filters w (now s h) → IsGenuine K.form (now s h).issues w → Moves K.form w x.event x.answer w' →
+        IsRun s start h → Agrees K.form filters w (now s h) → IsGenuine K.form (now s h).issues w → Moves K.form w x.event x.answer w' →
         IsGenuine K.form (now s (h ++ seen_step (now s h) x ∷ [])).issues w' }
     ensures answer { (filters : ℕ → List ClauseParts) (w w' : World K) (h : History Mail MailCard) (x : Answered) →
         let s = setting_of filters in
-        ListsMore K.form → IsRun s start h → Agrees K.form filters w (now s h) → IsGenuine K.form (now s h).issues w → Moves K.form w x.event x.answer w' →
+        IsRun s start h → Agrees K.form filters w (now s h) → IsGenuine K.form (now s h).issues w → Moves K.form w x.event x.answer w' →
         x.answer ≢ Answer.Stepped (Err Refusal.Forged) }
     ensures runs { (filters : ℕ → List ClauseParts) (w w' : World K) (xs : List Answered) (x : Answered) →
-        ListsMore K.form → IsFreshWorld K.form filters w → Runs K.form w xs w' → In x xs → x.answer ≢ Answer.Stepped (Err Refusal.Forged) }
-{}
-
-/// Knowledge by sets of items is such a form as `never_forged` wants: where a fragment lists an item, more
-/// is known for it than for all items.
-pub fn item_sets_list_more()
-    ensures { ListsMore item_form }
+        IsFreshWorld K.form filters w → Runs K.form w xs w' → In x xs → x.answer ≢ Answer.Stepped (Err Refusal.Forged) }
 {}
 
 /// What the replicas of a world that agrees with a moment reply is what sets say.

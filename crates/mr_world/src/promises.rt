@@ -12,7 +12,6 @@ ghost use Rattle.mr_world.specs.Run.{Happens, Leads};
 ghost use Rattle.mr_world.specs.Promise.{HasHeadline, HoldsSoundly, KeepsAll, HasCleanRetired};
 ghost use Rattle.mr_world.specs.Promise.{HoldsAsSeen, GivesTrueRecords, GivesTrueReceipts, KeepsRules};
 ghost use Rattle.mr_world.specs.Promise.{FollowsRules, AnswersBySets, TellsWhole, FindsNoneForged};
-ghost use Rattle.mr_world.specs.ListedItems.{ListsMore};
 
 use mr_forms::Knowledge;
 
@@ -35,5 +34,5 @@ pub fn promise<K: Knowledge>()
     ensures true_receipts { (w : WorldView K) → KeepsRules K.form w → GivesTrueReceipts w }
     ensures by_sets { (w : WorldView K) → KeepsRules K.form w → AnswersBySets K.form w }
     ensures whole { (w : WorldView K) → KeepsRules K.form w → TellsWhole w }
-    ensures none_forged { (w : WorldView K) → ListsMore K.form → KeepsRules K.form w → FindsNoneForged w }
+    ensures none_forged { (w : WorldView K) → KeepsRules K.form w → FindsNoneForged w }
 {}

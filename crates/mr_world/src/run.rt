@@ -30,7 +30,6 @@ pub struct Stopped<K: Knowledge> {
 
 impl<K: Knowledge> World<K> {
     ghost use Rattle.mr_world.specs.Run.{Meets, Leads, StopsAt};
-    ghost use Rattle.mr_world.specs.ListedItems.{ListsMore};
     ghost use Rattle.mr_world.specs.Promise.{FollowsRules, HasHeadline, HoldsSoundly, KeepsAll, HasCleanRetired, HoldsAsSeen};
     ghost use Rattle.mr_world.specs.Promise.{GivesTrueRecords, GivesTrueReceipts, AnswersBySets, TellsWhole, FindsNoneForged};
 
@@ -58,7 +57,7 @@ impl<K: Knowledge> World<K> {
         ensures true_receipts { IfOk result GivesTrueReceipts }
         ensures by_sets { IfOk result (AnswersBySets K.form) }
         ensures whole { IfOk result TellsWhole }
-        ensures none_forged { ListsMore K.form → IfOk result FindsNoneForged }
+        ensures none_forged { IfOk result FindsNoneForged }
         ensures stopped { IfErr result (λ stopped. StopsAt K.form self events.items stopped.at stopped.fault stopped.world) }
         ensures stopped_rules { IfErr result (λ stopped. FollowsRules stopped.world) }
         ensures stopped_headline { IfErr result (λ stopped. HasHeadline stopped.world) }
@@ -70,7 +69,7 @@ impl<K: Knowledge> World<K> {
         ensures stopped_true_receipts { IfErr result (λ stopped. GivesTrueReceipts stopped.world) }
         ensures stopped_by_sets { IfErr result (λ stopped. AnswersBySets K.form stopped.world) }
         ensures stopped_whole { IfErr result (λ stopped. TellsWhole stopped.world) }
-        ensures stopped_none_forged { ListsMore K.form → IfErr result (λ stopped. FindsNoneForged stopped.world) }
+        ensures stopped_none_forged { IfErr result (λ stopped. FindsNoneForged stopped.world) }
     {
         let mut at = 0;
         for event in events {

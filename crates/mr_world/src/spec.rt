@@ -6,10 +6,8 @@ ghost use Rattle.mr_world.specs.Made.{has_same_id, has_bad_limit, has_bad_capaci
 use crate::fault::SpecFault;
 use mr_feed::MAX_CAPACITY;
 use mr_filter::Filter;
+use mr_replica::MAX_EVENTS;
 use mr_version::Author;
-
-/// The most events that a replica's log may take.
-const MAX_EVENTS: u32 = 1_000_000;
 
 /// One replica of a world that is to be made.
 #[derive(Debug, Drop)]

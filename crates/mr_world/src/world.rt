@@ -13,9 +13,9 @@ use crate::pools::Pools;
 use crate::promises::promise;
 use crate::run::happen;
 use crate::spec::{Spec, check_specs};
-use mr_feed::{PlainPort, PortFault};
+use mr_feed::{MAX_CAPACITY, PlainPort, PortFault};
 use mr_forms::Knowledge;
-use mr_replica::Replica;
+use mr_replica::{MAX_EVENTS, Replica};
 use mr_version::Author;
 use std::alloc::{AllocError, Global};
 use std::marker::Model;
@@ -48,7 +48,6 @@ impl<K: Knowledge> World<K> {
     ghost use Rattle.mr_world.specs.Made.{IsMadeWorld, IsRefusedBy};
     ghost use Rattle.mr_world.specs.Pool.{GivesFrame};
     ghost use Rattle.mr_world.specs.Run.{Meets};
-    ghost use Rattle.mr_world.specs.ListedItems.{ListsMore};
     ghost use Rattle.mr_world.specs.Promise.{FollowsRules, HasHeadline, HoldsSoundly, KeepsAll, HasCleanRetired, HoldsAsSeen};
     ghost use Rattle.mr_world.specs.Promise.{GivesTrueRecords, GivesTrueReceipts, AnswersBySets, TellsWhole, FindsNoneForged};
 
@@ -136,9 +135,8 @@ impl<K: Knowledge> World<K> {
     }
 
     /// What holds of each world at each moment: no mail is lost and none is announced twice; each replica
-    /// holds and tells what the history of the world says, what was answered is what sets say, and the
-    /// frames tell what was issued. Over a form whose fragments list an item only where more is known for it
-    /// than for all items, no record was ever taken for forged.
+    /// holds and tells what the history of the world says, what was answered is what sets say, the frames
+    /// tell what was issued, and no record was ever taken for forged.
     ///
     /// It computes nothing.
     pub fn promise(&self)
@@ -152,7 +150,7 @@ impl<K: Knowledge> World<K> {
         ensures true_receipts { GivesTrueReceipts self.now }
         ensures by_sets { AnswersBySets K.form self.now }
         ensures whole { TellsWhole self.now }
-        ensures none_forged { ListsMore K.form → FindsNoneForged self.now }
+        ensures none_forged { FindsNoneForged self.now }
     {
         promise::<K>();
         // To look at a world is to know what it keeps.
@@ -197,8 +195,8 @@ fn members_of<K: Knowledge>(alloc: Global, specs: Vec<Spec>) -> Result<Vec<Membe
 
 // A member of this specification.
 fn member_of<K: Knowledge>(alloc: Global, spec: Spec) -> Result<Member<K>, AllocError>
-    requires limit { (1 ≤ spec.event_limit) × (spec.event_limit ≤ 1000000) }
-    requires capacity { (1 ≤ spec.port_capacity) × (spec.port_capacity ≤ 4096) }
+    requires limit { (1 ≤ spec.event_limit) × (spec.event_limit ≤ MAX_EVENTS) }
+    requires capacity { (1 ≤ spec.port_capacity) × (spec.port_capacity ≤ MAX_CAPACITY) }
     ensures { IfOk result (IsMadeOf K.form spec) }
 {
     let indexer = port_with(alloc, spec.port_capacity)?;
@@ -211,7 +209,7 @@ fn member_of<K: Knowledge>(alloc: Global, spec: Spec) -> Result<Member<K>, Alloc
 
 // A port with so many places.
 fn port_with(alloc: Global, capacity: usize) -> Result<PlainPort, AllocError>
-    requires { (1 ≤ capacity) × (capacity ≤ 4096) }
+    requires { (1 ≤ capacity) × (capacity ≤ MAX_CAPACITY) }
     ensures { IfOk result (λ port. port ≡ (new_port capacity).view) }
 {
     match PlainPort::try_new(alloc, capacity) {

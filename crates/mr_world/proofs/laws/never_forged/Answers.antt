@@ -5,10 +5,10 @@ pub returns-clause-fresh : goal.returns-clause-fresh
 returns-clause-fresh g c filters w f = fresh_genuine g.K.Knowledge.form filters w f
 
 pub returns-clause-kept : goal.returns-clause-kept
-returns-clause-kept g c filters w w' h x lists run a genuine move = (one_more_genuine g.K.Knowledge.form filters lists w w' h x run a genuine move).0
+returns-clause-kept g c filters w w' h x run a genuine move = (one_more_genuine g.K.Knowledge.form filters g.met.K.Knowledge.lists_more w w' h x run a genuine move).0
 
 pub returns-clause-answer : goal.returns-clause-answer
-returns-clause-answer g c filters w w' h x lists run a genuine move = (one_more_genuine g.K.Knowledge.form filters lists w w' h x run a genuine move).1
+returns-clause-answer g c filters w w' h x run a genuine move = (one_more_genuine g.K.Knowledge.form filters g.met.K.Knowledge.lists_more w w' h x run a genuine move).1
 
 pub returns-clause-runs : goal.returns-clause-runs
-returns-clause-runs g c filters w w' xs x lists f run i = world_answers g.K.Knowledge.form filters lists w w' xs f run x i
+returns-clause-runs g c filters w w' xs x f run i = world_answers g.K.Knowledge.form filters g.met.K.Knowledge.lists_more w w' xs f run x i

@@ -32,4 +32,4 @@ pub returns-clause-by_sets : goal.returns-clause-by_sets
 returns-clause-by_sets g c w k = k.by_sets
 
 pub returns-clause-none_forged : goal.returns-clause-none_forged
-returns-clause-none_forged g c w lists k = k.none_forged lists
+returns-clause-none_forged g c w k = k.none_forged

@@ -18,4 +18,4 @@ pub returns-clause-whole : goal.returns-clause-whole
 returns-clause-whole g c = c.promise.ensures.whole c.args.self.now (subst (KeepsRules g.K.Knowledge.form) c.self.view_is c.self.invariant.1)
 
 pub returns-clause-none_forged : goal.returns-clause-none_forged
-returns-clause-none_forged g c lists = c.promise.ensures.none_forged c.args.self.now lists (subst (KeepsRules g.K.Knowledge.form) c.self.view_is c.self.invariant.1)
+returns-clause-none_forged g c = c.promise.ensures.none_forged c.args.self.now (subst (KeepsRules g.K.Knowledge.form) c.self.view_is c.self.invariant.1)
