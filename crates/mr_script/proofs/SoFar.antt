@@ -1,5 +1,5 @@
 -- what a script has printed up to some line
-use Rattle.std.proofs.Common.{◌≡◌, ◌+◌, ◌-◌, ℕ, List, [], ◌++◌, Option, Some, None, Ok, IfSome, inr, string_bytes, sym, refl, append_assoc, append-nil}
+use Rattle.std.proofs.Common.{◌≡◌, ◌+◌, ◌-◌, ℕ, List, [], ◌++◌, Option, Some, None, Ok, IfSome, inr, string_bytes, refl, append_assoc, append-nil}
 use Rattle.std.specs.Option.{option_map}
 use Rattle.std.specs.Io.KnownBytes.{Appends}
 use Rattle.std.specs.declared.string.String.{String}
@@ -8,22 +8,12 @@ use Rattle.mr_forms.specs.Known.{Form}
 use Rattle.mr_command.specs.declared.fault.LineFault.TheVariants.{OutOfMemory}
 use Rattle.mr_script.specs.declared.fault.ScriptFault.{ScriptFault}
 use Rattle.mr_script.specs.declared.fault.ScriptFault.TheVariants.{Line}
-use Rattle.mr_script.specs.Run.{Runs, LeadsTo, NextAnswer, Settles, Prints, Breaks, bare}
+use Rattle.mr_script.specs.Run.{Runs, LeadsTo, NextAnswer, Prints, PrintsSoFar, BeginsToPrint, Breaks, bare}
 use Rattle.mr_script.specs.Run.Runs.{breaks}
 use Rattle.mr_script.specs.Script.{lines_of, looked_at}
 use Rattle.mr_script.specs.Stage.{Stage}
-
--- nothing was written
-pub Appends-nothing : (known : Option (List ℕ)) → Appends known known []
-Appends-nothing None = tt
-Appends-nothing (Some xs) = sym (append-nil xs)
-
--- one text after another was written
-pub Appends-both : (first second third : Option (List ℕ)) (xs ys : List ℕ) → Appends first second xs → Appends second third ys → Appends first third (xs ++ ys)
-Appends-both None second third xs ys a b = tt
-Appends-both (Some f) None third xs ys a b = absurd a
-Appends-both (Some f) (Some s) None xs ys a b = absurd b
-Appends-both (Some f) (Some s) (Some t) xs ys a b = rw (b, a) (append_assoc f xs ys)
+use Rattle.mr_script.specs.Writing.{Settles}
+use Rattle.mr_script.proofs.Written.{Appends-both, Appends-nothing}
 
 module _ {K : Type 0} (form : Form K) where
   -- what was written and what waits are what the lines so far print, and the rest is left
@@ -54,13 +44,41 @@ module _ {K : Type 0} (form : Form K) where
     runs = rw empty (breaks broken);
   }
 
-  -- what waited was written
-  pub prints_all : (script : List ℕ) (end : Option ScriptFault) (old new newer : Option (List ℕ)) (waits : List ℕ) → Prints form script end old new waits → Appends new newer waits → Prints form script end old newer []
-  prints_all script end old new newer waits so_far flushed = record {
-    written = so_far.written ++ waits;
-    are = Appends-both old new newer so_far.written waits so_far.are flushed;
-    runs = rw append-nil so_far.runs;
+  -- nothing was printed yet
+  pub so_far-none : (script : Option (List ℕ)) (old : Option (List ℕ)) (waits : List ℕ) → waits ≡ [] → IfSome script (λ bytes. PrintsSoFar form bytes old old waits)
+  so_far-none None old waits empty = tt
+  so_far-none (Some bytes) old waits empty = record {
+    written = [];
+    are = Appends-nothing old;
+    reached = bare;
+    number = 1;
+    room = 16777216;
+    rest = looked_at bytes;
+    leads = λ end output runs. rw empty runs;
   }
+
+  -- what waited was written, at the end
+  pub prints_settled : (script : List ℕ) (end : Option ScriptFault) (old new newer : Option (List ℕ)) (waits still : List ℕ) → Prints form script end old new waits → Settles new newer waits still → Prints form script end old newer still
+  prints_settled script end old new newer waits still so_far settles = record {
+    written = so_far.written ++ settles.written;
+    are = Appends-both old new newer so_far.written settles.written so_far.are settles.are;
+    runs = rw (append_assoc so_far.written settles.written still, ← settles.all) so_far.runs;
+  }
+
+  -- and wherever the lines have come to
+  pub begins : (script : List ℕ) (old new newer : Option (List ℕ)) (waits still : List ℕ) → PrintsSoFar form script old new waits → Settles new newer waits still → BeginsToPrint form script old newer
+  begins script old new newer waits still so_far settles = (
+    still,
+    record {
+      written = so_far.written ++ settles.written;
+      are = Appends-both old new newer so_far.written settles.written so_far.are settles.are;
+      reached = so_far.reached;
+      number = so_far.number;
+      room = so_far.room;
+      rest = so_far.rest;
+      leads = λ end output runs. rw (append_assoc so_far.written settles.written still, ← settles.all) (so_far.leads end output runs);
+    },
+  )
 
   module _ (script : List ℕ) (s : Stage K) (number taken : ℕ) (left old new : Option (List ℕ)) (waits : List ℕ) (so_far : SoFar script s number taken left old new waits) where
     -- after some of what waits was written
@@ -104,3 +122,15 @@ module _ {K : Type 0} (form : Form K) where
     -- where there is no memory
     pub so_far-no_memory : Prints form script (Some (Line number OutOfMemory)) old new waits
     so_far-no_memory = so_far-ends (Some (Line number OutOfMemory)) (breaks (inr refl))
+
+    -- the lines so far printed a beginning
+    pub so_far-begun : PrintsSoFar form script old new waits
+    so_far-begun = record {
+      written = so_far.written;
+      are = so_far.are;
+      reached = s;
+      number = number;
+      room = 16777216 - taken;
+      rest = so_far.rest;
+      leads = so_far.leads;
+    }

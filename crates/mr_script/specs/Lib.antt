@@ -10,3 +10,4 @@ pub mod Show
 pub mod Stage
 pub mod Sync
 pub mod Taken
+pub mod Writing

@@ -75,14 +75,22 @@ module _ {K : Type 0} (form : Form K) where
   NextAnswer s number room bytes (Ok None) new left room_then = Runs s number room (lines_of bytes) None []
   NextAnswer s number room bytes (Err fault) new left room_then = Runs s number room (lines_of bytes) (Some fault) []
 
--- what waited was written up to what waits still
-pub record Settles (old new : Option (List ℕ)) (waited waits : List ℕ) : Type 0 where
-  pub written : List ℕ
-  pub are : Appends old new written
-  pub all : waited ≡ written ++ waits
-
 -- of a script whose bytes are known, it was written what it prints but for what waits
 pub record Prints {K : Type 0} (form : Form K) (script : List ℕ) (end : Option ScriptFault) (old new : Option (List ℕ)) (waits : List ℕ) : Type 0 where
   pub written : List ℕ
   pub are : Appends old new written
   pub runs : RunsScript form script end (written ++ waits)
+
+-- Of a script whose bytes are known, it was written what its lines print up to some place, but for what waits. Whatever the lines from there on print comes after it.
+pub record PrintsSoFar {K : Type 0} (form : Form K) (script : List ℕ) (old new : Option (List ℕ)) (waits : List ℕ) : Type 0 where
+  pub written : List ℕ
+  pub are : Appends old new written
+  pub reached : Stage K
+  pub number : ℕ
+  pub room : ℕ
+  pub rest : List ℕ
+  pub leads : LeadsTo form bare 1 16777216 (looked_at script) (written ++ waits) reached number room rest
+
+-- of a script whose bytes are known, a beginning was written of what it prints
+abbrev pub BeginsToPrint : {K : Type 0} → Form K → List ℕ → (old new : Option (List ℕ)) → Type 0
+BeginsToPrint form script old new = (unwritten : List ℕ) × PrintsSoFar form script old new unwritten

@@ -2,6 +2,10 @@
 use Rattle.std.specs.Prelude.{◌≡◌, ◌≢◌, ℕ, ◌+◌, ◌<◌, ◌≤◌, ◌==◌, if◌then◌else◌, true, false, Bool, List, [], ◌∷◌, length, take, Option, Some, None, Result, Ok, Err, ⊤}
 use Rattle.std.specs.List.{onto_first}
 use Rattle.std.specs.Io.BufRead.{take_through, drop_through, strip_last}
+use Rattle.std.specs.Io.Buffered.{reader_remaining}
+use Rattle.std.specs.Io.Take.{take_remaining}
+use Rattle.mr_script.specs.declared.metered.Metered.{Metered}
+use Rattle.mr_script.specs.declared.source.Source.{Source}
 use Rattle.mr_script.specs.declared.source.SourceFault.{SourceFault}
 use Rattle.mr_script.specs.declared.source.SourceFault.TheVariants.{OutOfMemory, Read, TooLong}
 
@@ -17,6 +21,14 @@ line_text line = strip_last 10 line
 -- the bytes of a script that are looked at: one more than it may have, so that it shows where there are too many
 unfoldable pub looked_at : List ℕ → List ℕ
 looked_at script = take 16777217 script
+
+-- the bytes that are left, whatever number of calls is
+abbrev pub metered_remaining : {R : Type 0} → (R → Option (List ℕ)) → Metered R → Option (List ℕ)
+metered_remaining remaining metered = remaining metered.reader
+
+-- the bytes of a script that are left, up to the last that is looked at, where they are known
+abbrev pub source_remaining : {R : Type 0} → (R → Option (List ℕ)) → Source R → Option (List ℕ)
+source_remaining remaining source = reader_remaining (take_remaining (metered_remaining remaining)) source.reader
 
 -- of a script whose bytes are known, no more was taken than is gone from what is left
 abbrev pub Accounts : Option (List ℕ) → Option (List ℕ) → ℕ → Type 0

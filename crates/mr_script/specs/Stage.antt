@@ -1,5 +1,5 @@
 -- the stage of a script, what its commands do to it, and what they print
-use Rattle.std.specs.Prelude.{◌≡◌, ◌==◌, ◌++◌, ◌⊎◌, ◌&&◌, nat_le, ℕ, true, false, is_some, List, [], ◌∷◌, Result, Ok, Err, length}
+use Rattle.std.specs.Prelude.{◌≡◌, ◌==◌, ◌++◌, ◌⊎◌, ◌&&◌, nat_le, ℕ, true, false, is_some, List, [], ◌∷◌, Option, Some, None, Result, Ok, Err, length}
 use Rattle.std.specs.List.{list_any}
 use Rattle.mr_forms.specs.Known.{Form}
 use Rattle.mr_world.specs.Kept.{WorldView, replica_at}
@@ -47,6 +47,11 @@ module _ {K : Type 0} where
   -- how many frames the pools have
   abbrev pub sizes_of : WorldView K → PoolSizes
   sizes_of w = record { asks = length w.asks; records = length w.records; receipts = length w.receipts }
+
+  -- the world that was made, where one was
+  abbrev pub world_of : Stage K → Option (WorldView K)
+  world_of (opening specs) = None
+  world_of (running w) = Some w
 
   -- what the words of a line are looked up in
   abbrev pub scene_of : Stage K → Scene

@@ -1,11 +1,12 @@
 //! What the lines of a script do, one after the other.
 ghost use Rattle.std.specs.Prelude.{◌≡◌, ◌==◌, [], IfOk, OnErr};
 ghost use Rattle.std.specs.List.{list_any};
+ghost use Rattle.std.specs.Option.{option_copied};
 ghost use Rattle.mr_itemset.specs.ItemForm.{item_form};
 ghost use Rattle.mr_script.specs.Fault.{fault_of_spec};
 ghost use Rattle.mr_script.specs.Question.{text_of};
 ghost use Rattle.mr_script.specs.Run.{LineDoes, TextDoes, is_skipped};
-ghost use Rattle.mr_script.specs.Stage.{Adds, Begins, Does, InWorld, Stage.opening, frame_count, happens_told, made_of, replies_told, syncs_told};
+ghost use Rattle.mr_script.specs.Stage.{Adds, Begins, Does, InWorld, Stage.opening, frame_count, happens_told, made_of, replies_told, syncs_told, world_of};
 
 use crate::happening::happen_and_tell;
 use crate::question::reply;
@@ -93,6 +94,17 @@ impl Interpreter {
         match str::from_utf8(line) {
             Ok(text) => self.text(text),
             Err(_) => Err(LineFault::NotText),
+        }
+    }
+
+    /// The world that the lines so far made, in which their events happened. There is none as long as lines
+    /// may still make replicas.
+    pub fn world(&self) -> Option<&World<ItemKnowledge>>
+        ensures { option_copied result ≡ world_of self.now }
+    {
+        match &self.stage {
+            Stage::Opening(_) => None,
+            Stage::Running(world) => Some(world),
         }
     }
 

@@ -18,8 +18,8 @@
 //! fault that names the line; what the lines before it printed stands. Each event is one of
 //! `World::run`, so what a world promises holds after every line.
 //!
-//! [`Interpreter`] does the lines of a script that come from anywhere; [`run_script`] takes them out of
-//! a reader and writes their answers. [`frame_text`] is no part of a script: it tells in a line what the
+//! [`Interpreter`] does the lines of a script that come from anywhere, and shows the world that they made;
+//! [`run_script`] takes them out of a reader and writes their answers. [`frame_text`] is no part of a script: it tells in a line what the
 //! bytes of a frame say.
 #![tactic(auto)]
 
@@ -31,6 +31,7 @@ mod frame_line;
 mod happening;
 mod holding;
 mod interpreter;
+mod metered;
 mod output;
 mod question;
 mod script;

@@ -1,13 +1,11 @@
 //! Scripts, run as they are read.
 ghost use Rattle.std.specs.Prelude.{◌≡◌, ◌≢◌, ◌-◌, ◌<◌, ◌≤◌, ◌++◌, ℕ, List, Option, [], Err, IfOk, IfErr, IfSome, OnOk, OnErr, IsSome, length};
 ghost use Rattle.std.specs.Option.{option_map};
-ghost use Rattle.std.specs.Io.Buffered.{reader_remaining};
-ghost use Rattle.std.specs.Io.KnownBytes.{Appends};
-ghost use Rattle.std.specs.Io.Take.{take_remaining};
 ghost use Rattle.mr_itemset.specs.ItemForm.{item_form};
 ghost use Rattle.mr_script.specs.Fault.{fault_of_source, NumbersItsLine};
-ghost use Rattle.mr_script.specs.Run.{Breaks, NextAnswer, Prints, Settles, end_of};
-ghost use Rattle.mr_script.specs.Script.{Accounts, looked_at};
+ghost use Rattle.mr_script.specs.Run.{BeginsToPrint, Breaks, NextAnswer, Prints, PrintsSoFar, end_of};
+ghost use Rattle.mr_script.specs.Script.{Accounts, looked_at, source_remaining};
+ghost use Rattle.mr_script.specs.Writing.{Settles};
 
 use crate::interpreter::Interpreter;
 use crate::output::Output;
@@ -21,11 +19,14 @@ use std::io::{Read, Write};
 /// Each line is run before a later one is read, and what it prints is written, and the writer flushed,
 /// before a read that might wait, and at the end. So a person or a program can wait for an answer
 /// before the next line is given. The first fault ends the script; what the lines before it printed
-/// is written all the same, and nothing else.
+/// is written all the same, and nothing else. After `Write` a beginning of that was written, and the
+/// writer isn't called again.
 ///
 /// `Line` is the fault of the first line that has one, or `OutOfMemory` where there is no memory for
 /// it; `TooLong` comes at the line that ends past 16,777,216 bytes, `Read` and `Write` where the
-/// reader and the writer fail. A line costs what its command costs, and the memory of its text.
+/// reader and the writer fail. A read or a write that was interrupted is no failure, and is tried again; a
+/// write that takes nothing is one. The reader is called at most 16,777,218 times, interrupted reads
+/// included: past them comes `Read`. A line costs what its command costs, and the memory of its text.
 pub fn run_script<R: Read + Drop, W: Write>(
     alloc: Global,
     reader: R,
@@ -36,10 +37,28 @@ pub fn run_script<R: Read + Drop, W: Write>(
     ensures line { IfErr result NumbersItsLine }
     ensures prints { result ≢ Err ScriptFault.Write → IfSome (R.remaining reader)
         (λ script. Prints item_form script (end_of result) (W.contents writer.old) (W.contents writer.new) []) }
+    ensures begins { IfSome (R.remaining reader)
+        (λ script. BeginsToPrint item_form script (W.contents writer.old) (W.contents writer.new)) }
 {
     let mut output = Output::new(alloc);
     let ran = run_lines(alloc, reader, &mut output, writer);
-    write_all(&mut output, writer)?;
+    finish(ran, &mut output, writer)
+}
+
+/// Writes what waits when the lines have run. A writer that has failed is left alone.
+fn finish<W: Write>(
+    ran: Result<(), ScriptFault>,
+    output: &mut Output,
+    writer: &mut W,
+) -> Result<(), ScriptFault>
+    ensures settles { Settles (W.contents writer.old) (W.contents writer.new) output.old output.new }
+    ensures ran { result ≢ Err ScriptFault.Write → result ≡ ran }
+    ensures empty { result ≢ Err ScriptFault.Write → output.new ≡ [] }
+    ensures left_alone { ran ≡ Err ScriptFault.Write → writer.new ≡ writer.old }
+{
+    if ran != Err(ScriptFault::Write) {
+        write_all(output, writer)?;
+    }
     ran
 }
 
@@ -56,6 +75,8 @@ fn run_lines<R: Read + Drop, W: Write>(
     ensures line { IfErr result NumbersItsLine }
     ensures prints { result ≢ Err ScriptFault.Write → IfSome (R.remaining reader)
         (λ script. Prints item_form script (end_of result) (W.contents writer.old) (W.contents writer.new) output.new) }
+    ensures so_far { IfSome (R.remaining reader)
+        (λ script. PrintsSoFar item_form script (W.contents writer.old) (W.contents writer.new) output.new) }
 {
     let mut source = first_source(alloc, reader)?;
     let mut interpreter = Interpreter::new(alloc);
@@ -74,9 +95,9 @@ fn run_lines<R: Read + Drop, W: Write>(
 /// The script that the reader gives, before its first line.
 fn first_source<R: Read + Drop>(alloc: Global, reader: R) -> Result<Source<R>, ScriptFault>
     ensures counted { IfOk result (λ source. Accounts (R.remaining reader)
-        (reader_remaining (take_remaining R.remaining) source.reader) source.taken) }
+        (source_remaining R.remaining source) source.taken) }
     ensures none_taken { IfOk result (λ source. source.taken ≡ 0) }
-    ensures left { IfOk result (λ source. reader_remaining (take_remaining R.remaining) source.reader
+    ensures left { IfOk result (λ source. source_remaining R.remaining source
         ≡ option_map looked_at (R.remaining reader)) }
     ensures fault { IfErr result (λ fault. Breaks 1 fault) }
 {
@@ -107,8 +128,7 @@ fn settle<R: Read + Drop, W: Write>(
     output: &mut Output,
     writer: &mut W,
 ) -> Result<(), ScriptFault>
-    ensures ok { OnOk result
-        (Settles (W.contents writer.old) (W.contents writer.new) output.old output.new) }
+    ensures settles { Settles (W.contents writer.old) (W.contents writer.new) output.old output.new }
     ensures fault { IfErr result (λ fault. fault ≡ ScriptFault.Write) }
 {
     if !source.has_line() || output.is_full() {
@@ -119,9 +139,8 @@ fn settle<R: Read + Drop, W: Write>(
 
 /// Writes all that waits.
 fn write_all<W: Write>(output: &mut Output, writer: &mut W) -> Result<(), ScriptFault>
-    ensures ok { OnOk result
-        (Appends (W.contents writer.old) (W.contents writer.new) output.old) }
-    ensures empty { output.new ≡ [] }
+    ensures settles { Settles (W.contents writer.old) (W.contents writer.new) output.old output.new }
+    ensures empty { OnOk result (output.new ≡ []) }
     ensures fault { IfErr result (λ fault. fault ≡ ScriptFault.Write) }
 {
     match output.flush(writer) {
@@ -141,16 +160,16 @@ fn next_answer<R: Read + Drop>(
     ensures few { OnOk result (source.new.taken ≤ 16777216) }
     ensures more { IfOk result (λ answer. IsSome answer → source.old.taken < source.new.taken) }
     ensures counted { (script : Option (List ℕ))
-        → Accounts script (reader_remaining (take_remaining R.remaining) source.old.reader) source.old.taken
-        → OnOk result (Accounts script (reader_remaining (take_remaining R.remaining) source.new.reader) source.new.taken) }
+        → Accounts script (source_remaining R.remaining source.old) source.old.taken
+        → OnOk result (Accounts script (source_remaining R.remaining source.new) source.new.taken) }
     ensures too_long { (script : Option (List ℕ))
-        → Accounts script (reader_remaining (take_remaining R.remaining) source.old.reader) source.old.taken
+        → Accounts script (source_remaining R.remaining source.old) source.old.taken
         → result ≡ Err ScriptFault.TooLong → IfSome script (λ bytes. 16777216 < length bytes) }
     ensures line { 1 ≤ number → number ≤ 16777217 → IfErr result NumbersItsLine }
     ensures no_write { result ≢ Err ScriptFault.Write }
-    ensures answer { IfSome (reader_remaining (take_remaining R.remaining) source.old.reader) (λ bytes.
+    ensures answer { IfSome (source_remaining R.remaining source.old) (λ bytes.
         NextAnswer item_form interpreter.old number (16777216 - source.old.taken) bytes result interpreter.new
-        (reader_remaining (take_remaining R.remaining) source.new.reader) (16777216 - source.new.taken)) }
+        (source_remaining R.remaining source.new) (16777216 - source.new.taken)) }
 {
     match source.next_line(line) {
         Ok(true) => match interpreter.line(line.as_slice()) {

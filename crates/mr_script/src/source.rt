@@ -5,14 +5,19 @@ ghost use Rattle.std.specs.Io.Buffered.{reader_remaining};
 ghost use Rattle.std.specs.Io.Take.{take_remaining};
 ghost use Rattle.std.specs.IoError.{error_kind};
 ghost use Rattle.mr_script.specs.Fault.{fault_of_kind};
-ghost use Rattle.mr_script.specs.Script.{Accounts, TakesLine, looked_at};
+ghost use Rattle.mr_script.specs.Script.{Accounts, TakesLine, looked_at, metered_remaining, source_remaining};
 
-use crate::ScriptFault;
+use crate::metered::Metered;
 use std::alloc::Global;
 use std::io::{BufRead, BufReader, Error, ErrorKind, Read, Take};
 
 /// The most bytes of a script.
 pub(crate) const MAX_SCRIPT_BYTES: u64 = 16_777_216;
+
+/// How often the reader is called at most. The longest script may come byte by byte; a read that gives
+/// nothing then ends a last line without a line feed, and another shows that no line follows. Reads that
+/// were interrupted count too, so that a reader that is always interrupted comes to an end.
+const MAX_READS: u64 = MAX_SCRIPT_BYTES + 2;
 
 /// How many bytes are asked of the reader at once.
 const READ_BYTES: usize = 65_536;
@@ -39,10 +44,11 @@ impl SourceFault {
 
 /// A script that is read line by line.
 ///
-/// No more than one byte past the most that a script may have is asked of the reader.
+/// No more than one byte past the most that a script may have is asked of the reader, in no more than
+/// `MAX_READS` reads. One that was interrupted is tried again; the first past them is a failed read.
 #[derive(Drop)]
 pub(crate) struct Source<R> {
-    reader: BufReader<Take<R>>,
+    reader: BufReader<Take<Metered<R>>>,
     taken: u64,
 }
 
@@ -51,9 +57,9 @@ impl<R: Read + Drop> Source<R> {
     #[tactic(auto, unfolding(crate::specs::Script::looked_at))]
     pub(crate) fn try_new(alloc: Global, reader: R) -> Result<Source<R>, SourceFault>
         ensures counted { IfOk result (λ source. Accounts (R.remaining reader)
-            (reader_remaining (take_remaining R.remaining) source.reader) source.taken) }
+            (source_remaining R.remaining source) source.taken) }
         ensures none_taken { IfOk result (λ source. source.taken ≡ 0) }
-        ensures left { IfOk result (λ source. reader_remaining (take_remaining R.remaining) source.reader
+        ensures left { IfOk result (λ source. source_remaining R.remaining source
             ≡ option_map looked_at (R.remaining reader)) }
         ensures fault { IfErr result (λ fault. fault ≡ SourceFault.OutOfMemory) }
     {
@@ -72,14 +78,14 @@ impl<R: Read + Drop> Source<R> {
         ensures few { OnOk result (self.new.taken ≤ 16777216) }
         ensures more { IfOk result (λ is_line. IsTrue is_line → self.old.taken < self.new.taken) }
         ensures counted { (script : Option (List ℕ))
-            → Accounts script (reader_remaining (take_remaining R.remaining) self.old.reader) self.old.taken
-            → OnOk result (Accounts script (reader_remaining (take_remaining R.remaining) self.new.reader) self.new.taken) }
+            → Accounts script (source_remaining R.remaining self.old) self.old.taken
+            → OnOk result (Accounts script (source_remaining R.remaining self.new) self.new.taken) }
         ensures too_long { (script : Option (List ℕ))
-            → Accounts script (reader_remaining (take_remaining R.remaining) self.old.reader) self.old.taken
+            → Accounts script (source_remaining R.remaining self.old) self.old.taken
             → result ≡ Err SourceFault.TooLong → IfSome script (λ bytes. 16777216 < length bytes) }
-        ensures line { IfSome (reader_remaining (take_remaining R.remaining) self.old.reader) (λ bytes.
+        ensures line { IfSome (source_remaining R.remaining self.old) (λ bytes.
             TakesLine bytes self.old.taken result line.new.items
-            (reader_remaining (take_remaining R.remaining) self.new.reader) self.new.taken) }
+            (source_remaining R.remaining self.new) self.new.taken) }
     {
         line.clear();
         self.reader
@@ -102,12 +108,13 @@ fn buffered<R: Read + Drop>(
     alloc: Global,
     reader: R,
     limit: u64,
-) -> Result<BufReader<Take<R>>, SourceFault>
+) -> Result<BufReader<Take<Metered<R>>>, SourceFault>
     ensures counted { IfOk result (λ buffered. Accounts (R.remaining reader)
-        (reader_remaining (take_remaining R.remaining) buffered) 0) }
-    ensures left { IfOk result (λ buffered. reader_remaining (take_remaining R.remaining) buffered
+        (reader_remaining (take_remaining (metered_remaining R.remaining)) buffered) 0) }
+    ensures left { IfOk result (λ buffered. reader_remaining (take_remaining (metered_remaining R.remaining)) buffered
         ≡ option_map (take limit) (R.remaining reader)) }
     ensures fault { IfErr result (λ fault. fault ≡ SourceFault.OutOfMemory) }
 {
-    BufReader::with_capacity(alloc, READ_BYTES, reader.take(limit)).map_err(SourceFault::of)
+    let metered = Metered::new(reader, MAX_READS);
+    BufReader::with_capacity(alloc, READ_BYTES, metered.take(limit)).map_err(SourceFault::of)
 }

@@ -1,8 +1,6 @@
 use Rattle.std.proofs.Common.{ℕ, ◌+◌, ◌≤◌, List, Option, IfSome}
-use Rattle.std.specs.Io.Buffered.{reader_remaining}
-use Rattle.std.specs.Io.Take.{take_remaining}
 use Rattle.mr_itemset.specs.ItemForm.{item_form}
-use Rattle.mr_script.specs.Script.{Accounts}
+use Rattle.mr_script.specs.Script.{Accounts, source_remaining}
 use Rattle.mr_script.proofs.SoFar.{SoFar}
 use Rattle.mr_script.proofs.script.run_lines.Given as goal
 
@@ -14,7 +12,7 @@ pub record IsReadSoFar (script left : Option (List ℕ)) (taken number : ℕ) : 
 
 abbrev pub invariant-loop-number : goal.invariant-loop-number
 invariant-loop-number g l =
-    IsReadSoFar (g.R.Read.remaining l.fn.reader) (reader_remaining (take_remaining g.R.Read.remaining) l.source.reader) l.source.taken l.number
+    IsReadSoFar (g.R.Read.remaining l.fn.reader) (source_remaining g.R.Read.remaining l.source) l.source.taken l.number
     × IfSome (g.R.Read.remaining l.fn.reader) (λ script.
-    SoFar item_form script l.interpreter l.number l.source.taken (reader_remaining (take_remaining g.R.Read.remaining) l.source.reader)
+    SoFar item_form script l.interpreter l.number l.source.taken (source_remaining g.R.Read.remaining l.source)
     (g.W.Write.contents l.fn.writer) (g.W.Write.contents l.writer) l.output)
