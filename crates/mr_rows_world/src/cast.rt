@@ -1,7 +1,7 @@
 //! The four replicas.
 use anyhow::Result;
 use mr_filter::Filter;
-use mr_itemset::ItemKnowledge;
+use mr_forms::Knowledge;
 use mr_version::Author;
 use mr_world::{Spec, World};
 use std::alloc::Global;
@@ -47,8 +47,8 @@ pub fn name(id: Author) -> &'static str {
     }
 }
 
-/// The world of the four, to which nothing has happened.
-pub fn world(alloc: Global, cast: &Cast) -> Result<World<ItemKnowledge>> {
+/// The world of the four, to which nothing has happened, over this form of knowledge.
+pub fn world<K: Knowledge>(alloc: Global, cast: &Cast) -> Result<World<K>> {
     let specs = vec![in alloc;
         spec(alloc, cast.office, "all")?,
         spec(alloc, cast.phone, "label:inbox")?,

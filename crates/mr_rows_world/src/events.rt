@@ -1,4 +1,5 @@
 //! Events, as scenes write them.
+use crate::records::Records;
 use anyhow::Result;
 use mr_mail::{Day, Message};
 use mr_replica::Bases;
@@ -11,10 +12,13 @@ pub fn create(alloc: Global, id: Author, label: &str) -> Result<Event> {
     Ok(Event::Create(id, message(alloc, label)?))
 }
 
-/// The replica edits the version, and gives the message this label.
-pub fn edit(alloc: Global, id: Author, base: &str, label: &str) -> Result<Event> {
-    let bases = Bases::new(vec![in alloc; Version::read(base)?]?);
-    Ok(Event::Edit(id, bases, message(alloc, label)?))
+/// The replica edits the versions, and gives the message this label.
+pub fn edit(alloc: Global, id: Author, bases: &[&str], label: &str) -> Result<Event> {
+    let mut versions = Vec::new(alloc);
+    for base in bases {
+        versions.push(Version::read(base)?)?;
+    }
+    Ok(Event::Edit(id, Bases::new(versions), message(alloc, label)?))
 }
 
 /// A message with this label.
@@ -27,33 +31,45 @@ fn message(alloc: Global, label: &str) -> Result<Message> {
     Ok(Message::try_new(alloc, from, subject, body, labels, 0, day)?)
 }
 
-/// How one replica brings another up to date: by which request, which stream, and which records.
+/// How one replica brings another up to date: by which request, which stream, and how many records.
 #[derive(Clone, Copy)]
-pub struct Exchange<'a> {
+pub struct Exchange {
     pub target: Author,
     pub source: Author,
     pub ask: u64,
     pub stream: u64,
-    pub records: &'a [u64],
+    pub count: usize,
 }
 
 /// The target pulls, the source answers and gives the records, and the target takes them.
-pub fn push_exchange(events: &mut Vec<Event>, exchange: &Exchange<'_>) -> Result<()> {
+pub fn push_exchange(
+    events: &mut Vec<Event>,
+    records: &mut Records,
+    exchange: Exchange,
+) -> Result<()> {
     events.push(Event::Pull(exchange.target))?;
     events.push(Event::Answer(exchange.source, exchange.ask))?;
-    push_draws(
-        events,
-        exchange.source,
-        exchange.stream,
-        exchange.records.len(),
-    )?;
-    push_receives(events, exchange.target, exchange.records)
+    push_draws(events, exchange.source, exchange.stream, exchange.count)?;
+    push_next_receives(events, records, exchange.target, exchange.count)
 }
 
 /// The replica draws so many records from its stream.
-pub fn push_draws(events: &mut Vec<Event>, id: Author, stream: u64, records: usize) -> Result<()> {
-    for _ in 0..records {
+pub fn push_draws(events: &mut Vec<Event>, id: Author, stream: u64, count: usize) -> Result<()> {
+    for _ in 0..count {
         events.push(Event::Next(id, stream))?;
+    }
+    Ok(())
+}
+
+/// The replica receives so many records, in the order in which they were given.
+pub fn push_next_receives(
+    events: &mut Vec<Event>,
+    records: &mut Records,
+    id: Author,
+    count: usize,
+) -> Result<()> {
+    for _ in 0..count {
+        events.push(Event::Receive(id, records.next()))?;
     }
     Ok(())
 }
@@ -62,6 +78,22 @@ pub fn push_draws(events: &mut Vec<Event>, id: Author, stream: u64, records: usi
 pub fn push_receives(events: &mut Vec<Event>, id: Author, records: &[u64]) -> Result<()> {
     for number in records {
         events.push(Event::Receive(id, *number))?;
+    }
+    Ok(())
+}
+
+/// The replica pulls so many times.
+pub fn push_pulls(events: &mut Vec<Event>, id: Author, count: usize) -> Result<()> {
+    for _ in 0..count {
+        events.push(Event::Pull(id))?;
+    }
+    Ok(())
+}
+
+/// The replica answers the request so many times.
+pub fn push_answers(events: &mut Vec<Event>, id: Author, ask: u64, count: usize) -> Result<()> {
+    for _ in 0..count {
+        events.push(Event::Answer(id, ask))?;
     }
     Ok(())
 }

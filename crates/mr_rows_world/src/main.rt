@@ -1,11 +1,16 @@
 //! A tour of a world: four replicas, their mail, and what is told of it.
 //!
 //! An office keeps all mail; a phone and an old phone keep the inbox, a laptop the inbox and work. The program
-//! lets events happen to them, scene by scene, and prints each with its answer: mail comes, records
-//! come out of order, twice, in part and to another replica, a stream is cut and asked for again, a message
-//! is moved out, a replica retires once its push-out is safe elsewhere, two edit one message, subscribers
-//! are told, and a run stops. At the end it prints what each replica holds, tells and knows, what each
-//! subscriber took, and how many frames were given.
+//! lets events happen to them, scene by scene, and prints each with its answer: a fresh replica refuses, mail
+//! comes, records come out of order, twice, in part and to another replica, a stream is cut and asked for
+//! again, a message is moved out, a replica retires once its push-out is safe elsewhere, two edit one message,
+//! a request is answered twice, all sessions and streams are open, subscribers are told, and a run stops. At the
+//! end it prints what each replica holds, tells and knows, what each subscriber took, and how many frames were
+//! given.
+//!
+//! It is played twice: over item sets, and over plain knowledge, which learns each version for its item alone.
+//! So what is known has other fragments there, a full stream has more records for it, and the records behind
+//! them have higher numbers. All else has to be the same, which the program compares.
 //!
 //! What it has to print, the file `stdout`, was worked out by hand from the rules.
 #![tactic(auto)]
@@ -13,20 +18,24 @@
 mod cast;
 mod events;
 mod readers;
+mod records;
 mod scenes;
 mod teller;
 mod words;
 
 use anyhow::Result;
+use mr_forms::{Knowledge, PlainKnowledge};
 use mr_itemset::ItemKnowledge;
 use mr_world::{Stopped, World, WorldFault};
+use records::KnowCounts;
 use scenes::Scene;
 use std::process::ExitCode;
 use teller::Teller;
 
 fn main(rt: HostRuntime) -> ExitCode {
-    match play_all(&rt) {
-        Ok(()) => ExitCode::SUCCESS,
+    match play_both(&rt) {
+        Ok(true) => ExitCode::SUCCESS,
+        Ok(false) => ExitCode::FAILURE,
         Err(error) => {
             let _ = eprintln!(rt; "{error:?}");
             ExitCode::FAILURE
@@ -34,27 +43,40 @@ fn main(rt: HostRuntime) -> ExitCode {
     }
 }
 
-/// Plays all scenes, and then tells how the world stands.
-fn play_all<R: Print + AllocGlobal>(rt: &R) -> Result<()> {
+/// Plays over both forms of knowledge, and gives whether both tell the same.
+fn play_both<R: Print + AllocGlobal>(rt: &R) -> Result<bool> {
+    let over_item_sets = play_all::<R, ItemKnowledge>(rt, KnowCounts::of_item_sets())?;
+    println!(rt; "The same over plain knowledge")?;
+    let over_plain = play_all::<R, PlainKnowledge>(rt, KnowCounts::of_plain())?;
+    let is_same = over_item_sets == over_plain;
+    let told = if is_same { "the same" } else { "not the same" };
+    println!(rt; "But for what is known and its records, both told {told}")?;
+    Ok(is_same)
+}
+
+/// Plays all scenes, and then tells how the world stands. Gives what doesn't depend on the form of knowledge.
+fn play_all<R: Print + AllocGlobal, K: Knowledge>(rt: &R, know: KnowCounts) -> Result<String> {
     let cast = cast::all()?;
-    let mut world = cast::world(rt.alloc(), &cast)?;
-    let mut teller = Teller::new();
-    for scene in scenes::all(rt.alloc(), &cast)? {
+    let mut world: World<K> = cast::world(rt.alloc(), &cast)?;
+    let mut teller = Teller::new(rt.alloc());
+    for scene in scenes::all(rt.alloc(), &cast, know)? {
         world = play(rt, &mut teller, world, scene)?;
     }
+    let mut account = teller.account;
     for id in cast.ids() {
-        readers::tell_replica(rt, &world, id)?;
+        readers::tell_replica(rt, &mut account, &world, id)?;
     }
-    readers::tell_pools(rt, &world)
+    readers::tell_pools(rt, &world)?;
+    Ok(account)
 }
 
 /// Lets the events of a scene happen, and tells each with its answer, and where the world stopped.
-fn play<R: Print + AllocGlobal>(
+fn play<R: Print + AllocGlobal, K: Knowledge>(
     rt: &R,
     teller: &mut Teller,
-    world: World<ItemKnowledge>,
+    world: World<K>,
     scene: Scene,
-) -> Result<World<ItemKnowledge>> {
+) -> Result<World<K>> {
     let title = scene.title;
     println!(rt; "{title}")?;
     match world.run(scene.events) {
@@ -67,11 +89,11 @@ fn play<R: Print + AllocGlobal>(
 }
 
 /// Tells what happened before the world stopped, and why it did. Want of memory is an error.
-fn tell_stop<R: Print + AllocGlobal>(
+fn tell_stop<R: Print + AllocGlobal, K: Knowledge>(
     rt: &R,
     teller: &mut Teller,
-    stopped: Stopped<ItemKnowledge>,
-) -> Result<World<ItemKnowledge>> {
+    stopped: Stopped<K>,
+) -> Result<World<K>> {
     let Stopped { world, at, fault } = stopped;
     if fault == WorldFault::OutOfMemory {
         return Err(fault.into());

@@ -4,16 +4,18 @@ use crate::words::entry_words;
 use anyhow::{Context, Result};
 use mr_concise::knowledge_text;
 use mr_feed::Entry;
-use mr_itemset::ItemKnowledge;
+use mr_forms::Knowledge;
 use mr_replica::{Replica, Revision};
 use mr_version::{Author, ItemId};
 use mr_world::{Answer, Answered, Event, Subscriber, World};
 use std::alloc::Global;
 
-/// Prints all that is told of the replica of this id.
-pub fn tell_replica<R: Print + AllocGlobal>(
+/// Prints all that is told of the replica of this id. What doesn't depend on the form of knowledge goes
+/// behind the account too.
+pub fn tell_replica<R: Print + AllocGlobal, K: Knowledge>(
     rt: &R,
-    world: &World<ItemKnowledge>,
+    account: &mut String,
+    world: &World<K>,
     id: Author,
 ) -> Result<()> {
     let who = name(id);
@@ -21,52 +23,69 @@ pub fn tell_replica<R: Print + AllocGlobal>(
         .replica(id)
         .context("a replica of the cast isn't there")?;
     println!(rt; "{who}")?;
-    tell_mail(rt, replica)?;
-    tell_knowledge(rt, replica)?;
-    tell_taken(rt, world.answers(), id)
+    tell_mail(rt, account, replica)?;
+    tell_knowledge(rt, account, replica)?;
+    tell_taken(rt, account, world.answers(), id)
 }
 
-fn tell_mail<R: Print + AllocGlobal>(rt: &R, replica: &Replica<ItemKnowledge>) -> Result<()> {
+fn tell_mail<R: Print + AllocGlobal, K: Knowledge>(
+    rt: &R,
+    account: &mut String,
+    replica: &Replica<K>,
+) -> Result<()> {
     let heads = revision_list(rt.alloc(), replica.heads())?;
     let push_outs = revision_list(rt.alloc(), replica.push_outs())?;
     let conflicts = item_list(rt.alloc(), &replica.conflicts()?)?;
     let feed = entry_list(rt.alloc(), replica.feed())?;
-    println!(rt; "  heads{}", or_none(&heads))?;
-    println!(rt; "  push-outs{}", or_none(&push_outs))?;
-    println!(rt; "  conflicts{}", or_none(&conflicts))?;
-    println!(rt; "  feed{}", or_none(&feed))?;
-    Ok(())
+    tell_list(rt, account, "heads", &heads)?;
+    tell_list(rt, account, "push-outs", &push_outs)?;
+    tell_list(rt, account, "conflicts", &conflicts)?;
+    tell_list(rt, account, "feed", &feed)
 }
 
-fn tell_knowledge<R: Print + AllocGlobal>(rt: &R, replica: &Replica<ItemKnowledge>) -> Result<()> {
+fn tell_knowledge<R: Print + AllocGlobal, K: Knowledge>(
+    rt: &R,
+    account: &mut String,
+    replica: &Replica<K>,
+) -> Result<()> {
     let known = knowledge_text(rt.alloc(), &replica.fragments()?)?;
     let events = replica.log().len();
-    let retired = if replica.is_retired() { "yes" } else { "no" };
+    let retired = if replica.is_retired() { " yes" } else { " no" };
     println!(rt; "  knows {known}")?;
     println!(rt; "  log of {events} events")?;
-    println!(rt; "  retired {retired}")?;
-    Ok(())
+    tell_list(rt, account, "retired", retired)
 }
 
-fn tell_taken<R: Print + AllocGlobal>(rt: &R, answers: &[Answered], id: Author) -> Result<()> {
+fn tell_taken<R: Print + AllocGlobal>(
+    rt: &R,
+    account: &mut String,
+    answers: &[Answered],
+    id: Author,
+) -> Result<()> {
     let indexer = taken_list(rt.alloc(), answers, id, Subscriber::Indexer)?;
     let notifier = taken_list(rt.alloc(), answers, id, Subscriber::Notifier)?;
-    println!(rt; "  its indexer took{}", or_none(&indexer))?;
-    println!(rt; "  its notifier took{}", or_none(&notifier))?;
+    tell_list(rt, account, "its indexer took", &indexer)?;
+    tell_list(rt, account, "its notifier took", &notifier)
+}
+
+/// Prints what the list is and what is in it, and puts that behind the account.
+fn tell_list<R: Print + AllocGlobal>(
+    rt: &R,
+    account: &mut String,
+    title: &str,
+    list: &str,
+) -> Result<()> {
+    let list = or_none(list);
+    println!(rt; "  {title}{list}")?;
+    write!(account, "{title}{list};")?;
     Ok(())
 }
 
 /// Prints how many frames of each kind were given.
-pub fn tell_pools<R: Print + AllocGlobal>(rt: &R, world: &World<ItemKnowledge>) -> Result<()> {
-    let requests = (1..u64::MAX)
-        .take_while(|number| world.ask(*number).is_some())
-        .count();
-    let records = (1..u64::MAX)
-        .take_while(|number| world.record(*number).is_some())
-        .count();
-    let receipts = (1..u64::MAX)
-        .take_while(|number| world.receipt(*number).is_some())
-        .count();
+pub fn tell_pools<R: Print + AllocGlobal, K: Knowledge>(rt: &R, world: &World<K>) -> Result<()> {
+    let requests = world.ask_count();
+    let records = world.record_count();
+    let receipts = world.receipt_count();
     println!(rt; "given: requests {requests}, records {records}, receipts {receipts}")?;
     Ok(())
 }

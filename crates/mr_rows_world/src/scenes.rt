@@ -1,6 +1,10 @@
 //! What happens, scene by scene.
 use crate::cast::Cast;
-use crate::events::{Exchange, create, edit, push_draws, push_exchange, push_receives};
+use crate::events::{
+    Exchange, create, edit, push_answers, push_draws, push_exchange, push_next_receives,
+    push_pulls, push_receives,
+};
+use crate::records::{KnowCounts, Records};
 use anyhow::Result;
 use mr_version::{Author, Version};
 use mr_world::{Event, Subscriber};
@@ -13,82 +17,147 @@ pub struct Scene {
     pub events: Vec<Event>,
 }
 
-/// The scenes, in order.
-pub fn all(alloc: Global, cast: &Cast) -> Result<Vec<Scene>> {
+/// The scenes, in order, for a form of knowledge whose full streams have so many records for what is
+/// known.
+pub fn all(alloc: Global, cast: &Cast, know: KnowCounts) -> Result<Vec<Scene>> {
     let mut scenes = Vec::new(alloc);
-    push_syncs(alloc, cast, &mut scenes)?;
-    push_retirement(alloc, cast, &mut scenes)?;
-    push_conflict(alloc, cast, &mut scenes)?;
+    let mut records = Records::new(know);
+    push_begin(alloc, cast, &mut scenes)?;
+    push_syncs(alloc, cast, &mut records, &mut scenes)?;
+    push_retirement(alloc, cast, &mut records, &mut scenes)?;
+    push_conflict(alloc, cast, &mut records, &mut scenes)?;
+    push_limits(alloc, cast, &mut records, &mut scenes)?;
     scenes.push(Scene {
         title: "The subscribers are told, by ports of two places",
         events: subscribers(alloc, cast)?,
     })?;
-    push_stops(alloc, cast, &mut scenes)?;
+    push_stops(alloc, cast, &mut records, &mut scenes)?;
     Ok(scenes)
 }
 
-/// The phone gets the office's mail, in two goes.
-fn push_syncs(alloc: Global, cast: &Cast, scenes: &mut Vec<Scene>) -> Result<()> {
+/// The office, to which nothing has happened, refuses what it can't do yet, and then gets mail.
+fn push_begin(alloc: Global, cast: &Cast, scenes: &mut Vec<Scene>) -> Result<()> {
+    scenes.push(Scene {
+        title: "A fresh replica refuses what it can't do yet",
+        events: refuses_when_fresh(alloc, cast)?,
+    })?;
     scenes.push(Scene {
         title: "Mail comes in",
         events: mail_comes(alloc, cast)?,
     })?;
+    Ok(())
+}
+
+/// The phone gets the office's mail, in two goes.
+fn push_syncs(
+    alloc: Global,
+    cast: &Cast,
+    records: &mut Records,
+    scenes: &mut Vec<Scene>,
+) -> Result<()> {
     scenes.push(Scene {
         title: "The phone asks, and the office begins to tell",
         events: begins(alloc, cast)?,
     })?;
     scenes.push(Scene {
         title: "Records come out of order, twice, in part and to another replica, and then both are cut off",
-        events: cut_off(alloc, cast)?,
+        events: cut_off(alloc, cast, records)?,
     })?;
     scenes.push(Scene {
         title: "The phone takes it up again",
-        events: taken_up(alloc, cast)?,
+        events: taken_up(alloc, cast, records)?,
     })?;
     Ok(())
 }
 
 /// The old phone moves a message out that the laptop has, and retires.
-fn push_retirement(alloc: Global, cast: &Cast, scenes: &mut Vec<Scene>) -> Result<()> {
+fn push_retirement(
+    alloc: Global,
+    cast: &Cast,
+    records: &mut Records,
+    scenes: &mut Vec<Scene>,
+) -> Result<()> {
     scenes.push(Scene {
         title: "The laptop takes a message of the old phone",
-        events: laptop_takes(alloc, cast)?,
+        events: laptop_takes(alloc, cast, records)?,
     })?;
     scenes.push(Scene {
         title: "The old phone moves it out",
-        events: moved_out(alloc, cast)?,
+        events: moved_out(alloc, cast, records)?,
     })?;
     scenes.push(Scene {
         title: "The old phone may retire once its push-out is safe elsewhere",
-        events: retires(alloc, cast)?,
+        events: retires(alloc, cast, records)?,
     })?;
     Ok(())
 }
 
 /// Two replicas edit one message.
-fn push_conflict(alloc: Global, cast: &Cast, scenes: &mut Vec<Scene>) -> Result<()> {
+fn push_conflict(
+    alloc: Global,
+    cast: &Cast,
+    records: &mut Records,
+    scenes: &mut Vec<Scene>,
+) -> Result<()> {
     scenes.push(Scene {
         title: "The office and the phone edit one message, and the office is told twice",
-        events: told_twice(alloc, cast)?,
+        events: told_twice(alloc, cast, records)?,
     })?;
     scenes.push(Scene {
         title: "The phone learns of the conflict",
-        events: phone_learns(alloc, cast)?,
+        events: phone_learns(alloc, cast, records)?,
+    })?;
+    Ok(())
+}
+
+/// A session takes one stream alone, and there are at most eight of each.
+fn push_limits(
+    alloc: Global,
+    cast: &Cast,
+    records: &mut Records,
+    scenes: &mut Vec<Scene>,
+) -> Result<()> {
+    scenes.push(Scene {
+        title: "The office answers one request twice, and the laptop's session takes one stream alone",
+        events: two_streams(alloc, cast, records)?,
+    })?;
+    scenes.push(Scene {
+        title: "Eight sessions and eight streams are open, and no ninth",
+        events: open_tables(alloc, cast)?,
     })?;
     Ok(())
 }
 
 /// Two runs stop, and what comes behind the event at which they do never happens.
-fn push_stops(alloc: Global, cast: &Cast, scenes: &mut Vec<Scene>) -> Result<()> {
+fn push_stops(
+    alloc: Global,
+    cast: &Cast,
+    records: &mut Records,
+    scenes: &mut Vec<Scene>,
+) -> Result<()> {
+    let missing = records.next();
     scenes.push(Scene {
         title: "An event names a record that nobody gave",
-        events: names_no_record(alloc, cast)?,
+        events: names_no_record(alloc, cast, missing)?,
     })?;
     scenes.push(Scene {
         title: "An event names a replica that isn't there, and a record that nobody gave",
-        events: names_no_replica(alloc, cast)?,
+        events: names_no_replica(alloc, cast, missing)?,
     })?;
     Ok(())
+}
+
+fn refuses_when_fresh(alloc: Global, cast: &Cast) -> Result<Vec<Event>> {
+    let mut events = Vec::new(alloc);
+    events.push(edit(alloc, cast.office, &[], "inbox")?)?;
+    events.push(edit(alloc, cast.office, &["0.1"], "inbox")?)?;
+    events.push(Event::Vouch(cast.office, Version::read("0.1")?))?;
+    events.push(Event::CutIn(cast.office, 1))?;
+    events.push(Event::Next(cast.office, 1))?;
+    events.push(Event::CutOut(cast.office, 1))?;
+    events.push(Event::Offer(cast.office, Subscriber::Indexer))?;
+    events.push(Event::Take(cast.office, Subscriber::Notifier))?;
+    Ok(events)
 }
 
 fn mail_comes(alloc: Global, cast: &Cast) -> Result<Vec<Event>> {
@@ -97,6 +166,7 @@ fn mail_comes(alloc: Global, cast: &Cast) -> Result<Vec<Event>> {
     events.push(create(alloc, cast.office, "work")?)?;
     events.push(create(alloc, cast.office, "inbox")?)?;
     events.push(create(alloc, cast.old_phone, "inbox")?)?;
+    events.push(edit(alloc, cast.office, &["0.1", "0.2"], "inbox")?)?;
     Ok(events)
 }
 
@@ -108,60 +178,64 @@ fn begins(alloc: Global, cast: &Cast) -> Result<Vec<Event>> {
     Ok(events)
 }
 
-fn cut_off(alloc: Global, cast: &Cast) -> Result<Vec<Event>> {
+fn cut_off(alloc: Global, cast: &Cast, records: &mut Records) -> Result<Vec<Event>> {
     let mut events = Vec::new(alloc);
-    push_receives(&mut events, cast.phone, &[2, 1, 2, 2, 4])?;
-    events.push(Event::DeliverPart(cast.phone, 3, 20))?;
-    events.push(Event::Receive(cast.laptop, 3))?;
-    events.push(Event::Receive(cast.phone, 3))?;
+    let start = records.next();
+    let first = records.next();
+    let second = records.next();
+    let held = records.next();
+    push_receives(&mut events, cast.phone, &[first, start, first, first, held])?;
+    events.push(Event::DeliverPart(cast.phone, second, 20))?;
+    events.push(Event::Receive(cast.laptop, second))?;
+    events.push(Event::Receive(cast.phone, second))?;
     events.push(Event::CutIn(cast.phone, 1))?;
-    events.push(Event::Receive(cast.phone, 4))?;
+    events.push(Event::Receive(cast.phone, held))?;
     events.push(Event::CutOut(cast.office, 1))?;
     events.push(Event::Next(cast.office, 1))?;
     Ok(events)
 }
 
-fn taken_up(alloc: Global, cast: &Cast) -> Result<Vec<Event>> {
+fn taken_up(alloc: Global, cast: &Cast, records: &mut Records) -> Result<Vec<Event>> {
     let mut events = Vec::new(alloc);
     let exchange = Exchange {
         target: cast.phone,
         source: cast.office,
         ask: 2,
         stream: 2,
-        records: &[5, 6, 7, 8],
+        count: records.know.taken_up.saturating_add(3),
     };
-    push_exchange(&mut events, &exchange)?;
+    push_exchange(&mut events, records, exchange)?;
     Ok(events)
 }
 
-fn laptop_takes(alloc: Global, cast: &Cast) -> Result<Vec<Event>> {
+fn laptop_takes(alloc: Global, cast: &Cast, records: &mut Records) -> Result<Vec<Event>> {
     let mut events = Vec::new(alloc);
     let exchange = Exchange {
         target: cast.laptop,
         source: cast.old_phone,
         ask: 3,
         stream: 1,
-        records: &[9, 10, 11],
+        count: 3,
     };
-    push_exchange(&mut events, &exchange)?;
+    push_exchange(&mut events, records, exchange)?;
     Ok(events)
 }
 
-fn moved_out(alloc: Global, cast: &Cast) -> Result<Vec<Event>> {
+fn moved_out(alloc: Global, cast: &Cast, records: &mut Records) -> Result<Vec<Event>> {
     let mut events = Vec::new(alloc);
-    events.push(edit(alloc, cast.old_phone, "3.1", "archive")?)?;
+    events.push(edit(alloc, cast.old_phone, &["3.1"], "archive")?)?;
     let exchange = Exchange {
         target: cast.laptop,
         source: cast.old_phone,
         ask: 4,
         stream: 2,
-        records: &[12, 13, 14],
+        count: 3,
     };
-    push_exchange(&mut events, &exchange)?;
+    push_exchange(&mut events, records, exchange)?;
     Ok(events)
 }
 
-fn retires(alloc: Global, cast: &Cast) -> Result<Vec<Event>> {
+fn retires(alloc: Global, cast: &Cast, records: &mut Records) -> Result<Vec<Event>> {
     let mut events = Vec::new(alloc);
     events.push(Event::Retire(cast.old_phone))?;
     let exchange = Exchange {
@@ -169,9 +243,9 @@ fn retires(alloc: Global, cast: &Cast) -> Result<Vec<Event>> {
         source: cast.old_phone,
         ask: 5,
         stream: 3,
-        records: &[15, 16, 17],
+        count: 3,
     };
-    push_exchange(&mut events, &exchange)?;
+    push_exchange(&mut events, records, exchange)?;
     events.push(Event::Vouch(cast.office, Version::read("3.1")?))?;
     events.push(Event::Vouch(cast.office, Version::read("3.2")?))?;
     events.push(Event::Release(cast.old_phone, 1))?;
@@ -181,32 +255,58 @@ fn retires(alloc: Global, cast: &Cast) -> Result<Vec<Event>> {
     Ok(events)
 }
 
-fn told_twice(alloc: Global, cast: &Cast) -> Result<Vec<Event>> {
+fn told_twice(alloc: Global, cast: &Cast, records: &mut Records) -> Result<Vec<Event>> {
     let mut events = Vec::new(alloc);
-    events.push(edit(alloc, cast.office, "0.1", "inbox")?)?;
-    events.push(edit(alloc, cast.phone, "0.1", "inbox")?)?;
+    events.push(edit(alloc, cast.office, &["0.1"], "inbox")?)?;
+    events.push(edit(alloc, cast.phone, &["0.1"], "inbox")?)?;
     events.push(Event::Pull(cast.office))?;
     events.push(Event::Pull(cast.office))?;
     events.push(Event::Answer(cast.phone, 6))?;
     events.push(Event::Answer(cast.phone, 7))?;
     push_draws(&mut events, cast.phone, 1, 3)?;
     push_draws(&mut events, cast.phone, 2, 2)?;
-    push_receives(&mut events, cast.office, &[18, 19, 20, 21, 22])?;
+    push_next_receives(&mut events, records, cast.office, 5)?;
     events.push(Event::CutIn(cast.office, 3))?;
     events.push(Event::CutOut(cast.phone, 2))?;
     Ok(events)
 }
 
-fn phone_learns(alloc: Global, cast: &Cast) -> Result<Vec<Event>> {
+fn phone_learns(alloc: Global, cast: &Cast, records: &mut Records) -> Result<Vec<Event>> {
     let mut events = Vec::new(alloc);
     let exchange = Exchange {
         target: cast.phone,
         source: cast.office,
         ask: 8,
         stream: 3,
-        records: &[23, 24, 25, 26, 27, 28],
+        count: records.know.conflict.saturating_add(4),
     };
-    push_exchange(&mut events, &exchange)?;
+    push_exchange(&mut events, records, exchange)?;
+    Ok(events)
+}
+
+fn two_streams(alloc: Global, cast: &Cast, records: &mut Records) -> Result<Vec<Event>> {
+    let mut events = Vec::new(alloc);
+    events.push(Event::Pull(cast.laptop))?;
+    push_answers(&mut events, cast.office, 9, 2)?;
+    push_draws(&mut events, cast.office, 4, 1)?;
+    push_draws(&mut events, cast.office, 5, 2)?;
+    push_next_receives(&mut events, records, cast.laptop, 3)?;
+    events.push(Event::CutIn(cast.laptop, 3))?;
+    events.push(Event::CutOut(cast.office, 4))?;
+    events.push(Event::CutOut(cast.office, 5))?;
+    Ok(events)
+}
+
+fn open_tables(alloc: Global, cast: &Cast) -> Result<Vec<Event>> {
+    let mut events = Vec::new(alloc);
+    push_pulls(&mut events, cast.phone, 9)?;
+    events.push(Event::CutIn(cast.phone, 11))?;
+    events.push(Event::CutIn(cast.phone, 11))?;
+    events.push(Event::Pull(cast.phone))?;
+    events.push(Event::Answer(cast.phone, 10))?;
+    push_answers(&mut events, cast.office, 10, 9)?;
+    events.push(Event::CutOut(cast.office, 13))?;
+    events.push(Event::Answer(cast.office, 10))?;
     Ok(events)
 }
 
@@ -261,18 +361,18 @@ fn push_takes(
     Ok(())
 }
 
-fn names_no_record(alloc: Global, cast: &Cast) -> Result<Vec<Event>> {
+fn names_no_record(alloc: Global, cast: &Cast, missing: u64) -> Result<Vec<Event>> {
     let mut events = Vec::new(alloc);
     events.push(create(alloc, cast.office, "inbox")?)?;
-    events.push(Event::Receive(cast.phone, 29))?;
+    events.push(Event::Receive(cast.phone, missing))?;
     events.push(create(alloc, cast.office, "inbox")?)?;
     Ok(events)
 }
 
-fn names_no_replica(alloc: Global, cast: &Cast) -> Result<Vec<Event>> {
+fn names_no_replica(alloc: Global, cast: &Cast, missing: u64) -> Result<Vec<Event>> {
     let mut events = Vec::new(alloc);
     events.push(create(alloc, cast.laptop, "archive")?)?;
-    events.push(Event::Receive(Author::try_new(4)?, 29))?;
+    events.push(Event::Receive(Author::try_new(4)?, missing))?;
     events.push(create(alloc, cast.office, "inbox")?)?;
     Ok(events)
 }

@@ -1,12 +1,15 @@
 //! Events and their answers, as lines.
-use crate::words::{answer_words, event_words};
+use crate::words::{answer_words, event_words, is_of_any_form};
 use anyhow::Result;
 use mr_replica::Reply;
 use mr_world::{Answer, Answered};
+use std::alloc::Global;
 
 /// How much was told, and how many frames of each kind were given in it.
 #[derive(Drop)]
 pub struct Teller {
+    /// What was told that doesn't depend on the form of knowledge.
+    pub account: String,
     answers: usize,
     requests: u64,
     records: u64,
@@ -15,8 +18,9 @@ pub struct Teller {
 
 impl Teller {
     /// Nothing was told.
-    pub fn new() -> Teller {
+    pub fn new(alloc: Global) -> Teller {
         Teller {
+            account: String::new(alloc),
             answers: 0,
             requests: 0,
             records: 0,
@@ -39,6 +43,9 @@ impl Teller {
         match self.number(&answered.answer) {
             Some((kind, number)) => println!(rt; "  {event}: {answer}, as {kind} {number}")?,
             None => println!(rt; "  {event}: {answer}")?,
+        }
+        if is_of_any_form(&answered.answer) {
+            write!(self.account, "{answer};")?;
         }
         Ok(())
     }

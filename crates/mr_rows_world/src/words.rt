@@ -120,6 +120,16 @@ pub fn entry_words(alloc: Global, entry: &Entry) -> Result<String> {
     })
 }
 
+/// Whether the answer doesn't depend on the form of knowledge: it gives no record of what is known, and
+/// takes none either, as far as it says.
+pub fn is_of_any_form(answer: &Answer) -> bool {
+    match answer {
+        Answer::Stepped(Ok(Reply::Gave(record))) => !matches!(record.body(), Body::Know(_)),
+        Answer::Stepped(Ok(Reply::Took)) => false,
+        _ => true,
+    }
+}
+
 fn reply_words(alloc: Global, reply: &Reply) -> Result<String> {
     let words = match reply {
         Reply::Issued(version) => format!(in alloc; "issued {version}")?,
