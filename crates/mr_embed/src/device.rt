@@ -1,0 +1,102 @@
+//! A device: a replica, and what it sends and takes.
+use crate::fault::Fault;
+use crate::mail::Draft;
+use crate::wire::Wire;
+use mr_feed::Entry;
+use mr_filter::Filter;
+use mr_itemset::ItemKnowledge;
+use mr_replica::{Bases, Received, Replica, Revision};
+use mr_version::{Author, Version};
+use mr_wire::{Ask, Frame, Record, encode_ask, encode_record};
+use std::alloc::Global;
+
+/// How many events a device's log takes.
+const EVENT_LIMIT: u32 = 1_000;
+
+/// One device with its replica. Each method is one event of the replica, with the bytes that it takes or gives.
+#[derive(Drop)]
+pub struct Device {
+    alloc: Global,
+    replica: Replica<ItemKnowledge>,
+}
+
+impl Device {
+    /// A device with no mail. No other device may ever have its id, 0 to 63; it keeps what the filter selects.
+    ///
+    /// `BadText` where there is no such id or filter; `OutOfMemory` for the filter.
+    pub fn new(alloc: Global, id: u16, filter: &str) -> Result<Device, Fault> {
+        let id = Author::try_new(id)?;
+        let filter = Filter::read(alloc, filter)?;
+        let replica = Replica::try_new(alloc, id, filter, EVENT_LIMIT)?;
+        Ok(Device { alloc, replica })
+    }
+
+    /// Writes a message. The version names it on all devices, for ever.
+    pub fn write(&mut self, draft: &Draft<'_>) -> Result<Version, Fault> {
+        let message = draft.message(self.alloc)?;
+        Ok(self.replica.create(message)?)
+    }
+
+    /// Puts a new version of a message in the place of the old one. It works offline: other devices hear of
+    /// it at their next sync, and show a conflict where somebody else edited the same version.
+    pub fn edit(&mut self, base: Version, draft: &Draft<'_>) -> Result<Version, Fault> {
+        let message = draft.message(self.alloc)?;
+        let bases = Bases::new(vec![in self.alloc; base]?);
+        Ok(self.replica.edit(bases, message)?)
+    }
+
+    /// Asks for what this device lacks, and gives the number of the session that waits for the answer.
+    pub fn ask(&mut self, wire: &mut Wire) -> Result<u64, Fault> {
+        let ask = self.replica.pull()?;
+        wire.send(&encode_ask(self.alloc, &ask)?)?;
+        Ok(ask.session())
+    }
+
+    /// Opens a stream for whoever asked, and gives its number.
+    pub fn answer(&mut self, wire: &mut Wire) -> Result<u64, Fault> {
+        wire.deliver()?;
+        let ask = asked(wire.next_frame()?)?;
+        Ok(self.replica.answer(ask)?)
+    }
+
+    /// Sends the next record of the stream.
+    pub fn give(&mut self, stream: u64, wire: &mut Wire) -> Result<(), Fault> {
+        let record = self.replica.next(stream)?;
+        wire.send(&encode_record(self.alloc, &record)?)
+    }
+
+    /// Takes the record that came: `Finished` at the last one.
+    pub fn take(&mut self, wire: &mut Wire) -> Result<Received, Fault> {
+        wire.deliver()?;
+        let frame = wire.next_frame()?;
+        Ok(self.replica.receive(frame)?)
+    }
+
+    /// Gives up a session whose connection is gone. What it took stays, and isn't told again.
+    pub fn cut_in(&mut self, session: u64) -> Result<(), Fault> {
+        Ok(self.replica.cut_in(session)?)
+    }
+
+    /// Gives up a stream whose connection is gone. A device has eight at a time, so it has to be let go.
+    pub fn cut_out(&mut self, stream: u64) -> Result<(), Fault> {
+        Ok(self.replica.cut_out(stream)?)
+    }
+
+    /// The messages of this device, in version order.
+    pub fn heads(&self) -> &[Revision] {
+        self.replica.heads()
+    }
+
+    /// What entered and left, from the first on. It only grows.
+    pub fn feed(&self) -> &[Entry] {
+        self.replica.feed()
+    }
+}
+
+/// The request in the frame.
+fn asked(frame: Frame) -> Result<Ask, Fault> {
+    match frame {
+        Frame::Ask(ask) => Ok(ask),
+        _ => Err(Fault::NotAnAsk),
+    }
+}

@@ -1,0 +1,44 @@
+//! The messages of the story.
+use crate::fault::Fault;
+use mr_mail::{Day, Flag, Message};
+use std::alloc::Global;
+
+/// What a message says, and where it belongs.
+#[derive(Clone, Copy)]
+pub struct Draft<'a> {
+    pub subject: &'a str,
+    pub label: &'a str,
+    pub is_seen: bool,
+}
+
+impl<'a> Draft<'a> {
+    /// A message that nobody has seen yet.
+    pub fn unseen(subject: &'a str, label: &'a str) -> Draft<'a> {
+        Draft {
+            subject,
+            label,
+            is_seen: false,
+        }
+    }
+
+    /// The same message, now seen.
+    pub fn seen(self) -> Draft<'a> {
+        Draft {
+            is_seen: true,
+            ..self
+        }
+    }
+
+    /// The message, with a sender, a body and a day.
+    ///
+    /// `BadText` where the label is none or the subject is too long; `OutOfMemory`.
+    pub fn message(&self, alloc: Global) -> Result<Message, Fault> {
+        let from = String::from_str(alloc, "ann@example.org")?;
+        let subject = String::from_str(alloc, self.subject)?;
+        let body = String::from_str(alloc, "See you there.")?.into_bytes();
+        let labels = vec![in alloc; String::from_str(alloc, self.label)?]?;
+        let flags = if self.is_seen { Flag::Seen.bit() } else { 0 };
+        let day = Day::read("2026-01-05")?;
+        Ok(Message::try_new(alloc, from, subject, body, labels, flags, day)?)
+    }
+}

@@ -1,0 +1,141 @@
+//! Two devices in one program: what to copy first.
+//!
+//! An office store keeps all mail, a phone the inbox. The office writes, the phone asks and is told, a
+//! connection breaks and its exchange is taken up again, an edit of the phone goes back, and the phone's inbox
+//! follows its feed. All that passes between the two is bytes.
+//!
+//! `device` has what a replica is asked to do, `wire` how frames come out of bytes, `exchange` the order of the
+//! calls of a sync, and `shelf` what the user sees. What the program prints, the file `stdout`, was worked
+//! out by hand from the rules.
+#![tactic(auto)]
+
+mod device;
+mod exchange;
+mod fault;
+mod mail;
+mod shelf;
+mod teller;
+mod wire;
+
+use device::Device;
+use exchange::Exchange;
+use fault::Fault;
+use mail::Draft;
+use mr_version::Version;
+use shelf::Shelf;
+use std::alloc::Global;
+use std::process::ExitCode;
+use teller::{tell_break, tell_edit, tell_exchange, tell_heads, tell_shelf, write};
+
+fn main(rt: HostRuntime) -> ExitCode {
+    match story(&rt) {
+        Ok(()) => ExitCode::SUCCESS,
+        Err(fault) => {
+            let _ = eprintln!(rt; "{fault}");
+            ExitCode::FAILURE
+        }
+    }
+}
+
+/// The whole story. It opens the office, and the functions below the phone and its inbox: one value that owns
+/// much in each, as the proof of a function grows with the places where it lets such a value go.
+fn story<R: Print + AllocGlobal>(rt: &R) -> Result<(), Fault> {
+    let mut office = Device::new(rt.alloc(), 0, "all")?;
+    with_phone(rt, &mut office)
+}
+
+/// The story from where the office is there.
+fn with_phone<R: Print + AllocGlobal>(rt: &R, office: &mut Device) -> Result<(), Fault> {
+    let mut phone = Device::new(rt.alloc(), 1, "label:inbox")?;
+    with_shelf(rt, office, &mut phone)
+}
+
+/// The story from where both devices are there.
+fn with_shelf<R: Print + AllocGlobal>(
+    rt: &R,
+    office: &mut Device,
+    phone: &mut Device,
+) -> Result<(), Fault> {
+    let mut shelf = Shelf::new(rt.alloc())?;
+    play(rt, office, phone, &mut shelf)
+}
+
+/// Scene by scene.
+fn play<R: Print + AllocGlobal>(
+    rt: &R,
+    office: &mut Device,
+    phone: &mut Device,
+    shelf: &mut Shelf,
+) -> Result<(), Fault> {
+    let lunch = first_mail(rt, office)?;
+    bring_to_phone(rt, phone, office, shelf)?;
+    break_off(rt, phone, office, shelf)?;
+    bring_to_phone(rt, phone, office, shelf)?;
+    read_on_phone(rt, phone, shelf, lunch)?;
+    bring_to_office(rt, office, phone)
+}
+
+/// The first mail comes to the office. The phone will want two of the three, and this gives the first of them.
+fn first_mail<R: Print>(rt: &R, office: &mut Device) -> Result<Version, Fault> {
+    write(rt, office, &Draft::unseen("Minutes", "work"))?;
+    let lunch = write(rt, office, &Draft::unseen("Lunch on Friday?", "inbox"))?;
+    write(rt, office, &Draft::unseen("Invoice 17", "inbox"))?;
+    Ok(lunch)
+}
+
+/// The phone is brought up to date, and then its inbox.
+fn bring_to_phone<R: Print + AllocGlobal>(
+    rt: &R,
+    phone: &mut Device,
+    office: &mut Device,
+    shelf: &mut Shelf,
+) -> Result<(), Fault> {
+    let exchange = Exchange::begin(rt.alloc(), phone, office)?;
+    let records = exchange.finish(phone, office)?;
+    tell_exchange(rt, "phone", records)?;
+    tell_shelf(rt, shelf, phone)
+}
+
+/// New mail comes, and the connection breaks while the phone is told of it.
+fn break_off<R: Print + AllocGlobal>(
+    rt: &R,
+    phone: &mut Device,
+    office: &mut Device,
+    shelf: &mut Shelf,
+) -> Result<(), Fault> {
+    write(rt, office, &Draft::unseen("Train at 8:40", "inbox"))?;
+    write(rt, office, &Draft::unseen("Keys", "inbox"))?;
+    half_an_exchange(rt.alloc(), phone, office)?;
+    tell_break(rt)?;
+    tell_shelf(rt, shelf, phone)
+}
+
+/// The start and one message go over, and a part of the next.
+fn half_an_exchange(alloc: Global, phone: &mut Device, office: &mut Device) -> Result<(), Fault> {
+    let exchange = Exchange::begin(alloc, phone, office)?;
+    exchange.break_off_after(2, phone, office)
+}
+
+/// The user of the phone reads the message, offline.
+fn read_on_phone<R: Print + AllocGlobal>(
+    rt: &R,
+    phone: &mut Device,
+    shelf: &mut Shelf,
+    lunch: Version,
+) -> Result<(), Fault> {
+    let read = phone.edit(lunch, &Draft::unseen("Lunch on Friday?", "inbox").seen())?;
+    tell_edit(rt, lunch, read)?;
+    tell_shelf(rt, shelf, phone)
+}
+
+/// The office is brought up to date.
+fn bring_to_office<R: Print + AllocGlobal>(
+    rt: &R,
+    office: &mut Device,
+    phone: &mut Device,
+) -> Result<(), Fault> {
+    let exchange = Exchange::begin(rt.alloc(), office, phone)?;
+    let records = exchange.finish(office, phone)?;
+    tell_exchange(rt, "office", records)?;
+    tell_heads(rt, "office", office)
+}

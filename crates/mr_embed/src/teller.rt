@@ -1,0 +1,72 @@
+//! What the program prints.
+use crate::device::Device;
+use crate::fault::Fault;
+use crate::mail::Draft;
+use crate::shelf::Shelf;
+use mr_replica::Revision;
+use mr_version::Version;
+use std::alloc::Global;
+
+/// Has the office write the message, and tells it.
+pub fn write<R: Print>(rt: &R, office: &mut Device, draft: &Draft<'_>) -> Result<Version, Fault> {
+    let version = office.write(draft)?;
+    tell_written(rt, version, draft)?;
+    Ok(version)
+}
+
+fn tell_written<R: Print>(rt: &R, version: Version, draft: &Draft<'_>) -> Result<(), Fault> {
+    let Draft { subject, label, .. } = *draft;
+    println!(rt; "office: {version} is {subject} in {label}").map_err(|_| Fault::Print)
+}
+
+/// Tells how many records an exchange took.
+pub fn tell_exchange<R: Print>(rt: &R, who: &str, records: u32) -> Result<(), Fault> {
+    println!(rt; "{who}: up to date after {records} records").map_err(|_| Fault::Print)
+}
+
+/// Tells that the connection broke.
+pub fn tell_break<R: Print>(rt: &R) -> Result<(), Fault> {
+    println!(rt; "phone: the connection broke").map_err(|_| Fault::Print)
+}
+
+/// Tells which version took the place of which.
+pub fn tell_edit<R: Print>(rt: &R, base: Version, version: Version) -> Result<(), Fault> {
+    println!(rt; "phone: {version} replaces {base}").map_err(|_| Fault::Print)
+}
+
+/// Lets the shelf take what is new on the device, and tells what it shows.
+pub fn tell_shelf<R: Print + AllocGlobal>(
+    rt: &R,
+    shelf: &mut Shelf,
+    device: &Device,
+) -> Result<(), Fault> {
+    shelf.follow(device.feed())?;
+    let inbox = version_list(rt.alloc(), &shelf.inbox()?)?;
+    let unseen = shelf.unseen();
+    println!(rt; "phone: its inbox shows{inbox}, {unseen} unseen").map_err(|_| Fault::Print)
+}
+
+/// Tells what the device holds.
+pub fn tell_heads<R: Print + AllocGlobal>(rt: &R, who: &str, device: &Device) -> Result<(), Fault> {
+    let heads = head_list(rt.alloc(), device.heads())?;
+    println!(rt; "{who}: holds{heads}").map_err(|_| Fault::Print)
+}
+
+/// Each version behind a space.
+fn version_list(alloc: Global, versions: &[Version]) -> Result<String, Fault> {
+    let mut list = String::new(alloc);
+    for version in versions {
+        write!(list, " {version}").map_err(|_| Fault::OutOfMemory)?;
+    }
+    Ok(list)
+}
+
+/// The version of each revision behind a space.
+fn head_list(alloc: Global, heads: &[Revision]) -> Result<String, Fault> {
+    let mut list = String::new(alloc);
+    for head in heads {
+        let version = head.version();
+        write!(list, " {version}").map_err(|_| Fault::OutOfMemory)?;
+    }
+    Ok(list)
+}

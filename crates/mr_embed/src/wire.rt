@@ -1,0 +1,66 @@
+//! The way of bytes from one device to the other.
+use crate::fault::Fault;
+use mr_frames::FrameReader;
+use mr_wire::Frame;
+use std::alloc::Global;
+
+/// How many bytes the network hands over at a time. Frames are longer, so that none comes in one piece.
+const PIECE_BYTES: usize = 16;
+
+/// One direction of a connection: here a buffer, in your program a socket.
+///
+/// Bytes come in pieces that know nothing of frames. The reader keeps the pieces and gives each frame once
+/// its last byte is there. A new connection needs a new reader, since the old one may have half a frame.
+#[derive(Drop)]
+pub struct Wire {
+    /// The bytes that were sent and haven't come yet.
+    sent: Vec<u8>,
+    reader: FrameReader,
+}
+
+impl Wire {
+    /// A new connection.
+    pub fn new(alloc: Global) -> Wire {
+        Wire {
+            sent: Vec::new(alloc),
+            reader: FrameReader::new(alloc),
+        }
+    }
+
+    /// Sends the bytes of a frame. `OutOfMemory` where the buffer can't grow.
+    pub fn send(&mut self, bytes: &[u8]) -> Result<(), Fault> {
+        Ok(self.sent.extend_from_slice(bytes)?)
+    }
+
+    /// Lets all that was sent come, piece by piece.
+    ///
+    /// `BadFrame` where the reader has failed before; `OutOfMemory` where it can't keep a piece. Some pieces may
+    /// have come then, so that the connection is of no more use.
+    pub fn deliver(&mut self) -> Result<(), Fault> {
+        for piece in self.sent.chunks(PIECE_BYTES) {
+            self.reader.feed(piece)?;
+        }
+        self.sent.clear();
+        Ok(())
+    }
+
+    /// Lets the first piece come, and loses the rest, as where a connection breaks. Faults are those of `deliver`.
+    pub fn lose_all_but_a_piece(&mut self) -> Result<(), Fault> {
+        for piece in self.sent.chunks(PIECE_BYTES).take(1) {
+            self.reader.feed(piece)?;
+        }
+        self.sent.clear();
+        Ok(())
+    }
+
+    /// The next frame of what has come.
+    ///
+    /// `NoFrame` where its last byte is still to come, `BadFrame` where the bytes spell none; `OutOfMemory`.
+    pub fn next_frame(&mut self) -> Result<Frame, Fault> {
+        match self.reader.next_frame() {
+            Ok(Some(frame)) => Ok(frame),
+            Ok(None) => Err(Fault::NoFrame),
+            Err(fault) => Err(Fault::from(fault)),
+        }
+    }
+}
