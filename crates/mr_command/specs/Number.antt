@@ -4,6 +4,7 @@ use Rattle.std.specs.Fmt.{decimal}
 use Rattle.mr_command.specs.declared.fault.LineFault.{LineFault}
 use Rattle.mr_command.specs.declared.fault.LineFault.TheVariants.{BadNumber}
 use Rattle.mr_command.specs.Reading.{Reading, names, gives_if, ◌andthen◌}
+use Rattle.mr_version.specs.declared.author.TheConstants.{AUTHORS}
 
 -- the word is this number's decimal text
 pub record SpellsNumber (word : List ℕ) (n : ℕ) : Type 0 where
@@ -13,7 +14,7 @@ pub record SpellsNumber (word : List ℕ) (n : ℕ) : Type 0 where
 -- the word is the decimal text of this replica's id
 pub record SpellsId (word : List ℕ) (id : ℕ) : Type 0 where
   pub spelled : word ≡ decimal id
-  pub in_range : id < 64
+  pub in_range : id < AUTHORS
 
 -- a number of 1 to most
 abbrev pub reads_up_to : ℕ → LineFault → List ℕ → Reading ℕ

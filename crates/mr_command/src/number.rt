@@ -4,6 +4,7 @@ ghost use Rattle.std.specs.Fmt.{decimal};
 ghost use Rattle.mr_version.specs.Number.{IsPlain};
 ghost use Rattle.mr_command.specs.Number.{SpellsNumber, SpellsId, reads_up_to};
 ghost use Rattle.mr_command.specs.Reading.{names};
+ghost use Rattle.mr_version.specs.declared.author.TheConstants.{AUTHORS};
 
 use crate::LineFault;
 use mr_version::Author;
@@ -41,7 +42,7 @@ pub(crate) fn read_number(word: &str) -> Result<u64, LineFault>
 /// The author whose id has this decimal text.
 fn author_of(text: &str) -> Option<Author>
     ensures spelled { IfSome result (λ id. SpellsId text.now id) }
-    ensures whole { (id : ℕ) → id < 64 → text.now ≡ decimal id → result ≡ Some id }
+    ensures whole { (id : ℕ) → id < AUTHORS → text.now ≡ decimal id → result ≡ Some id }
 {
     let id = u16::try_from(number_of(text)?).ok()?;
     Author::try_new(id).ok()

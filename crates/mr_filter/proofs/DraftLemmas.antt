@@ -11,6 +11,7 @@ use Rattle.mr_filter.specs.Filter.{ClauseParts, IsClause}
 use Rattle.mr_filter.specs.Condition.{HasLabel, LacksLabel, HasFlag, LacksFlag, Since}
 use Rattle.mr_filter.specs.Draft.{IsWithCondition, label_count_with}
 use Rattle.mr_filter.proofs.PlaceLemmas.{different_labels-rising}
+use Rattle.mr_filter.specs.declared.clause.TheConstants.{MAX_CLAUSE_LABELS}
 
 -- labels to which none comes
 AreLabelsOf-same : (labels : List (List ℕ)) → IsStrictlySortedBy text_cmp labels → AreLabelsOf (labels ++ []) labels
@@ -36,12 +37,12 @@ module _ (old : ClauseParts) (kept : IsClause old) where
   with_day day latest is = record { wanted = AreLabelsOf-same old.all_labels kept.wanted.rising; barred = AreLabelsOf-same old.no_labels kept.barred.rising; on = same_bits old.flags_on; off = same_bits old.flags_off; since = is }
 
   -- one more label than there is room for
-  pub wanted_too_many : (label : List ℕ) → 8 - length old.no_labels < different_labels (old.all_labels ++ label ∷ []) → 8 < label_count_with old (HasLabel label)
+  pub wanted_too_many : (label : List ℕ) → MAX_CLAUSE_LABELS - length old.no_labels < different_labels (old.all_labels ++ label ∷ []) → MAX_CLAUSE_LABELS < label_count_with old (HasLabel label)
   wanted_too_many label more =
       let others : different_labels (old.no_labels ++ []) ≡ length old.no_labels = rw (append-nil old.no_labels) (different_labels-rising old.no_labels kept.barred.rising) in
       omega (arith, others, more)
 
-  pub barred_too_many : (label : List ℕ) → 8 - length old.all_labels < different_labels (old.no_labels ++ label ∷ []) → 8 < label_count_with old (LacksLabel label)
+  pub barred_too_many : (label : List ℕ) → MAX_CLAUSE_LABELS - length old.all_labels < different_labels (old.no_labels ++ label ∷ []) → MAX_CLAUSE_LABELS < label_count_with old (LacksLabel label)
   barred_too_many label more =
       let others : different_labels (old.all_labels ++ []) ≡ length old.all_labels = rw (append-nil old.all_labels) (different_labels-rising old.all_labels kept.wanted.rising) in
       omega (arith, others, more)

@@ -16,6 +16,7 @@ use Rattle.mr_filter.specs.Grammar.{pieces_of, clauses_of, IsCondition, IsClause
 use Rattle.mr_filter.proofs.CombineLemmas.{all_bits-append, latest_day-append}
 use Rattle.mr_filter.proofs.CountLemmas.{different_labels-le}
 use Rattle.mr_filter.proofs.ZipLemmas.{AllZip-append, length_zip}
+use Rattle.mr_filter.specs.declared.clause.TheConstants.{MAX_CLAUSE_LABELS}
 
 -- labels so far, with those of one more condition
 AreLabelsOf-more : (given labels added new : List (List ℕ)) → AreLabelsOf given labels → AreLabelsOf (labels ++ added) new → AreLabelsOf (given ++ added) new
@@ -139,7 +140,7 @@ behind_place P [] x after each = each.1
 behind_place P (y ∷ before) x after each = behind_place P before x after each.1
 
 -- a clause names too many labels if the conditions so far do with the next one, whatever follows
-pub NamesTooMany-so_far : (text rest piece : List ℕ) (after : List (List ℕ)) (draft : ClauseParts) (condition : Condition) → IsClauseInGrammar text → (text ≡ codes "all" → ⊥) → HasReadConditions text rest draft → pieces_of rest ≡ piece ∷ after → SpellsCondition piece condition → 8 < label_count_with draft condition → NamesTooMany text
+pub NamesTooMany-so_far : (text rest piece : List ℕ) (after : List (List ℕ)) (draft : ClauseParts) (condition : Condition) → IsClauseInGrammar text → (text ≡ codes "all" → ⊥) → HasReadConditions text rest draft → pieces_of rest ≡ piece ∷ after → SpellsCondition piece condition → MAX_CLAUSE_LABELS < label_count_with draft condition → NamesTooMany text
 NamesTooMany-so_far text rest piece after draft condition fine other so_far cut spelled many =
     let pieces : pieces_of text ≡ so_far.before ++ piece ∷ after = so_far.pieces ∙ ap (λ ps. so_far.before ++ ps) cut in
     let each : AllByRecursion IsCondition (pieces_of text) = elim fine [ inl all ↦ absurd (other all) | inr each ↦ each ] in

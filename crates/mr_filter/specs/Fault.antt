@@ -3,6 +3,7 @@ use Rattle.std.specs.Prelude.{ℕ, ◌≤◌, List, length}
 use Rattle.mr_filter.specs.declared.fault.FilterFault.{FilterFault}
 use Rattle.mr_filter.specs.declared.fault.FilterFault.TheVariants.{OutOfMemory, BadFilter, TooManyClauses, TooManyLabels}
 use Rattle.mr_filter.specs.Grammar.{clauses_of, IsInGrammar, IsFirstBad, HasTooManyClauses, HasCrowdedClause, HasTooManyLabels}
+use Rattle.mr_filter.specs.declared.filter.TheConstants.{MAX_CLAUSES}
 
 -- the number by which a host knows a fault
 abbrev pub fault_number : FilterFault → ℕ
@@ -14,7 +15,7 @@ fault_number TooManyLabels = 3
 -- the text is in the grammar, with at most sixteen clauses, and none of them names more than eight labels
 pub record IsWithinLimits (text : List ℕ) : Type 0 where
   pub in_grammar : IsInGrammar text
-  pub few : length (clauses_of text) ≤ 16
+  pub few : length (clauses_of text) ≤ MAX_CLAUSES
   pub uncrowded : HasCrowdedClause text → ⊥
 
 -- the case of each fault; memory is wanting only where there is no other

@@ -3,6 +3,8 @@ use Rattle.std.specs.Prelude.{ℕ, ◌+◌, ◌≤◌, ◌<◌, List, length, Al
 use Rattle.std.specs.Coded.{Coded, code_by, coded×, coded_ℕ, coded_list}
 use Rattle.mr_mail.specs.Label.{IsLabelSet}
 use Rattle.mr_mail.specs.Mail.{coded_text}
+use Rattle.mr_filter.specs.declared.clause.TheConstants.{MAX_CLAUSE_LABELS}
+use Rattle.mr_filter.specs.declared.filter.TheConstants.{MAX_CLAUSES}
 
 -- a clause: the labels that it wants and bars, the flags that it wants on and off, and its first day
 pub record ClauseParts : Type 0 where
@@ -21,7 +23,7 @@ clause_with wanted barred on off since =
 pub record IsClause (clause : ClauseParts) : Type 0 where
   pub wanted : IsLabelSet clause.all_labels
   pub barred : IsLabelSet clause.no_labels
-  pub few : length clause.all_labels + length clause.no_labels ≤ 8
+  pub few : length clause.all_labels + length clause.no_labels ≤ MAX_CLAUSE_LABELS
   pub on_in : clause.flags_on ≤ 31
   pub off_in : clause.flags_off ≤ 31
   pub since_in : clause.since < 65536
@@ -29,7 +31,7 @@ pub record IsClause (clause : ClauseParts) : Type 0 where
 -- what each filter keeps: at most sixteen clauses
 pub record IsFilter (clauses : List ClauseParts) : Type 0 where
   pub each : All IsClause clauses
-  pub few : length clauses ≤ 16
+  pub few : length clauses ≤ MAX_CLAUSES
 
 -- a clause is stored as the tuple of its fields, and a filter as the list of its clauses
 abbrev pub clause_code : Coded ClauseParts

@@ -5,6 +5,8 @@ use Rattle.mr_mail.specs.Mail.{MailCard}
 use Rattle.mr_filter.specs.Filter.{ClauseParts}
 use Rattle.mr_filter.specs.Meaning.{is_true_of}
 use Rattle.mr_filter.specs.Condition.{Condition, SpellsCondition, Combines, label_count}
+use Rattle.mr_filter.specs.declared.filter.TheConstants.{MAX_CLAUSES}
+use Rattle.mr_filter.specs.declared.clause.TheConstants.{MAX_CLAUSE_LABELS}
 
 -- the mark between two spaces
 abbrev pub is_separator : ℕ → ℕ → ℕ → ℕ → Bool
@@ -91,13 +93,13 @@ pub record IsFirstBad (text : List ℕ) (place : ℕ) : Type 0 where
 -- the text is in the grammar, with more than sixteen clauses
 pub record HasTooManyClauses (text : List ℕ) : Type 0 where
   pub in_grammar : IsInGrammar text
-  pub many : 16 < length (clauses_of text)
+  pub many : MAX_CLAUSES < length (clauses_of text)
 
 -- the clause names more than eight labels, those that it wants and those that it bars each once
 pub record NamesTooMany (clause : List ℕ) : Type 0 where
   pub given : List Condition
   pub spelled : SpellsConditions clause given
-  pub many : 8 < label_count given
+  pub many : MAX_CLAUSE_LABELS < label_count given
 
 -- some clause of the text names more than eight labels
 pub record HasCrowdedClause (text : List ℕ) : Type 0 where
@@ -110,5 +112,5 @@ pub record HasCrowdedClause (text : List ℕ) : Type 0 where
 -- the text is in the grammar, with at most sixteen clauses, of which one names more than eight labels
 pub record HasTooManyLabels (text : List ℕ) : Type 0 where
   pub in_grammar : IsInGrammar text
-  pub few : length (clauses_of text) ≤ 16
+  pub few : length (clauses_of text) ≤ MAX_CLAUSES
   pub crowded : HasCrowdedClause text

@@ -5,10 +5,14 @@ ghost use Rattle.std.specs.List.Sorted.{IsStrictlySortedBy};
 ghost use Rattle.mr_mail.specs.Label.{IsLabelSet, has_label, text_cmp};
 ghost use Rattle.mr_filter.specs.Filter.{IsClause, clause_with};
 ghost use Rattle.mr_filter.specs.Meaning.{meets, is_as_wide};
+ghost use Rattle.mr_filter.specs.declared.clause.TheConstants.{MAX_CLAUSE_LABELS};
 
 use mr_mail::{Card, Day, Flags, Label};
 use std::alloc::AllocError;
 use std::marker::Model;
+
+/// The most labels of a clause, wanted and barred together.
+pub const MAX_CLAUSE_LABELS: usize = 8;
 
 /// Conditions that a message is to meet together: labels that it has, labels that it lacks, flags
 /// that are on, flags that are off, and the first day of which it may be.
@@ -48,7 +52,7 @@ impl Clause {
     ) -> Clause
         requires wanted { IsLabelSet all_labels.items }
         requires barred { IsLabelSet no_labels.items }
-        requires few { length all_labels.items + length no_labels.items ≤ 8 }
+        requires few { length all_labels.items + length no_labels.items ≤ MAX_CLAUSE_LABELS }
         ensures { result ≡ clause_with all_labels.items no_labels.items flags_on flags_off since }
     {
         let _on = flags_on.bits();

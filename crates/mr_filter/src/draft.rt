@@ -6,8 +6,9 @@ ghost use Rattle.mr_filter.specs.Condition.{SpellsCondition};
 ghost use Rattle.mr_filter.specs.Draft.{IsWithCondition, label_count_with, no_condition};
 ghost use Rattle.mr_filter.specs.Filter.{IsClause};
 ghost use Rattle.mr_filter.specs.Written.{meaning_of, lent_texts};
+ghost use Rattle.mr_filter.specs.declared.clause.TheConstants.{MAX_CLAUSE_LABELS};
 
-use crate::clause::Clause;
+use crate::clause::{Clause, MAX_CLAUSE_LABELS};
 use crate::condition::Condition;
 use crate::fault::FilterFault;
 use arrayvec::ArrayVec;
@@ -15,12 +16,9 @@ use mr_mail::{Day, Flags, Label};
 use std::alloc::{AllocError, Global};
 use std::marker::Model;
 
-/// The most labels of a clause, wanted and barred together.
-const MAX_LABELS: usize = 8;
-
 /// Labels in rising order, each once. They are lent from the filter's text, so that reading needs
 /// no memory.
-type LentLabels<'a> = ArrayVec<&'a str, MAX_LABELS>;
+type LentLabels<'a> = ArrayVec<&'a str, MAX_CLAUSE_LABELS>;
 
 /// What the conditions of a clause so far ask together.
 #[derive(Drop)]
@@ -66,16 +64,24 @@ impl<'a> Draft<'a> {
         requires { (text : List ℕ) × SpellsCondition text (meaning_of condition) }
         ensures added { OnOk result (IsWithCondition self.old (meaning_of condition.entry) self.new) }
         ensures kept { OnOk result (IsClause self.new) }
-        ensures many { IfErr result (λ _. 8 < label_count_with self.old (meaning_of condition.entry)) }
+        ensures many { IfErr result (λ _. MAX_CLAUSE_LABELS < label_count_with self.old (meaning_of condition.entry)) }
         ensures fault { IfErr result (λ fault. fault ≡ FilterFault.TooManyLabels) }
         ensures err { OnErr result (self.new ≡ self.old) }
     {
         match condition {
             Condition::HasLabel(label) => {
-                put_label(&mut self.wanted, label, MAX_LABELS - self.barred.len())?
+                put_label(
+                    &mut self.wanted,
+                    label,
+                    MAX_CLAUSE_LABELS - self.barred.len(),
+                )?
             }
             Condition::LacksLabel(label) => {
-                put_label(&mut self.barred, label, MAX_LABELS - self.wanted.len())?
+                put_label(
+                    &mut self.barred,
+                    label,
+                    MAX_CLAUSE_LABELS - self.wanted.len(),
+                )?
             }
             Condition::HasFlag(flag) => self.on = self.on.with(flag),
             Condition::LacksFlag(flag) => self.off = self.off.with(flag),
@@ -108,7 +114,7 @@ fn put_label<'a>(
     requires set { IsLabelSet (lent_texts labels.old.items) }
     requires label { IsTrue (is_label label.now) }
     requires few { length labels.old.items ≤ most }
-    requires room { most ≤ 8 }
+    requires room { most ≤ MAX_CLAUSE_LABELS }
     ensures put { OnOk result
         (AreLabelsOf (lent_texts labels.old.items ++ label.now ∷ []) (lent_texts labels.new.items)) }
     ensures kept { OnOk result (IsLabelSet (lent_texts labels.new.items)) }

@@ -18,7 +18,7 @@ use std::alloc::{AllocError, Global};
 use std::marker::Model;
 
 /// The most clauses of a filter.
-const MAX_CLAUSES: usize = 16;
+pub const MAX_CLAUSES: usize = 16;
 
 /// At most sixteen clauses. A message is selected if it meets one of them; a filter with no clause
 /// selects nothing, and a clause with no condition everything.

@@ -21,6 +21,6 @@ mod pieces;
 mod read;
 mod text;
 
-pub use clause::Clause;
+pub use clause::{Clause, MAX_CLAUSE_LABELS};
 pub use fault::FilterFault;
-pub use filter::Filter;
+pub use filter::{Filter, MAX_CLAUSES};

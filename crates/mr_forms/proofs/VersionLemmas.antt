@@ -5,7 +5,7 @@ use Rattle.std.proofs.lemmas.Bool.Decides.{nat_tests}
 use Rattle.mr_version.specs.Name.{Name, IsVersion, name_cmp, name_eq}
 use Rattle.mr_forms.specs.Sets.{Versions, IsSame, both}
 use Rattle.mr_forms.specs.Runs.{HasVersionsAlone, HasNoAuthorFrom, IsNextAuthor, HasNoRunFrom, IsFirstFrom}
-use Rattle.mr_forms.specs.declared.run.TheConstants.{MAX_COUNTER}
+use Rattle.mr_version.specs.declared.version.TheConstants.{MAX_COUNTER}
 
 -- two sets of versions together
 pub versions_alone-both : (s t u : Versions) → IsSame u (both s t) → HasVersionsAlone s → HasVersionsAlone t → HasVersionsAlone u

@@ -3,6 +3,7 @@ use Rattle.std.specs.List.{list_any}
 use Rattle.mr_version.specs.Name.{Name, IsVersion}
 use Rattle.mr_forms.specs.Sets.{Versions, IsSame}
 use Rattle.mr_forms.specs.declared.run.Run.{Run}
+use Rattle.mr_version.specs.declared.author.TheConstants.{AUTHORS}
 
 -- whether v is one of the run's versions
 abbrev pub in_run : Run → Versions
@@ -44,7 +45,7 @@ HasNoAuthorFrom set id = (q : ℕ) → id ≤ q → HasNoneOf set q
 -- an author from this id on, and the set has nothing of those that are passed over
 pub record IsNextAuthor (set : Versions) (id author : ℕ) : Type 0 where
   pub above : id ≤ author
-  pub author_in : author < 64
+  pub author_in : author < AUTHORS
   pub between : (q : ℕ) → id ≤ q → q < author → HasNoneOf set q
 
 -- the set has no version of the author from the counter on

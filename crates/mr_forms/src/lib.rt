@@ -34,5 +34,5 @@ pub use fragment::{Fragment, ItemSet, MAX_ITEMS};
 pub use knowledge::Knowledge;
 pub use plain_knowledge::PlainKnowledge;
 pub use plain_versions::PlainVersions;
-pub use run::{MAX_COUNTER, Run};
+pub use run::Run;
 pub use version_set::VersionSet;

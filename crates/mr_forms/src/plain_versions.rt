@@ -4,10 +4,9 @@ ghost use Rattle.mr_forms.specs.Runs.{HasVersionsAlone, HasNoAuthorFrom, IsNextA
 ghost use Rattle.mr_forms.specs.Columns.{EndsBelow, GainsVersion};
 
 use crate::additions::add_all;
-use crate::run::MAX_COUNTER;
 use crate::versions::push_run;
 use crate::{FormFault, Run, VersionSet};
-use mr_version::{Author, Version};
+use mr_version::{Author, MAX_COUNTER, Version};
 use std::alloc::Global;
 use std::collections::BTreeSet;
 use std::marker::Model;

@@ -1,10 +1,7 @@
 ghost use Rattle.std.specs.Prelude.{◌≡◌, ◌≤◌, ◌+◌, ◌↔◌, IsTrue};
-ghost use Rattle.mr_forms.specs.declared.run.TheConstants.{MAX_COUNTER};
+ghost use Rattle.mr_version.specs.declared.version.TheConstants.{MAX_COUNTER};
 
-use mr_version::{Author, Version};
-
-/// The highest counter of a version; the lowest is 1.
-pub const MAX_COUNTER: u32 = 1_000_000;
+use mr_version::{Author, MAX_COUNTER, Version};
 
 /// An unbroken run of one author's versions, from the first counter to the last, both included.
 ///

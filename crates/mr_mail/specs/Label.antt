@@ -8,6 +8,7 @@ use Rattle.std.specs.Cmp.Lexicographic.{pointwise, slice_cmp}
 use Rattle.std.specs.declared.string.String.{String}
 use Rattle.std.specs.declared.alloc.Global.{Global}
 use Rattle.std.specs.Set.{is_member, distinct_count}
+use Rattle.mr_mail.specs.declared.label.TheConstants.{MAX_LABEL_BYTES, MAX_LABELS}
 
 -- texts are compared by their bytes
 abbrev pub text_cmp : List ℕ → List ℕ → Ordering
@@ -22,7 +23,7 @@ is_label_byte b = (nat_le 97 b && nat_le b 122) || (nat_le 48 b && nat_le b 57) 
 
 -- one to 32 bytes of a-z, 0-9 and -
 abbrev pub is_label : List ℕ → Bool
-is_label text = nat_le 1 (length text) && nat_le (length text) 32 && list_all is_label_byte text
+is_label text = nat_le 1 (length text) && nat_le (length text) MAX_LABEL_BYTES && list_all is_label_byte text
 
 -- the bytes of each text
 abbrev pub texts_of : List (String Global) → List (List ℕ)
@@ -40,7 +41,7 @@ different_labels labels = distinct_count text_eq labels
 pub record IsLabelSet (labels : List (List ℕ)) : Type 0 where
   pub rising : IsStrictlySortedBy text_cmp labels
   pub each : AllPass is_label labels
-  pub few : length labels ≤ 16
+  pub few : length labels ≤ MAX_LABELS
 
 -- the labels that were given, in rising order and each once
 pub record AreLabelsOf (given labels : List (List ℕ)) : Type 0 where

@@ -2,6 +2,7 @@
 use Rattle.std.specs.Prelude.{ℕ, ◌≤◌, ◌<◌, List, length, refl}
 use Rattle.std.specs.Coded.{Coded, code_by, coded×, coded_ℕ, coded_list}
 use Rattle.mr_mail.specs.Label.{IsLabelSet}
+use Rattle.mr_mail.specs.declared.message.TheConstants.{MAX_FROM_BYTES, MAX_SUBJECT_BYTES, MAX_BODY_BYTES}
 
 -- a message: sender, subject and body as bytes, its labels, its flag byte and its day
 pub record Mail : Type 0 where
@@ -33,9 +34,9 @@ pub record IsCard (card : MailCard) : Type 0 where
 
 -- what each message keeps
 pub record IsMail (mail : Mail) : Type 0 where
-  pub from_in : length mail.from ≤ 254
-  pub subject_in : length mail.subject ≤ 998
-  pub body_in : length mail.body ≤ 65536
+  pub from_in : length mail.from ≤ MAX_FROM_BYTES
+  pub subject_in : length mail.subject ≤ MAX_SUBJECT_BYTES
+  pub body_in : length mail.body ≤ MAX_BODY_BYTES
   pub card_in : IsCard (card_of mail)
 
 abbrev pub coded_text : Coded (List ℕ)

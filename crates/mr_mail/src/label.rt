@@ -11,7 +11,10 @@ use std::cmp::Ordering;
 use std::marker::Model;
 
 /// The most bytes of a label.
-const MAX_LABEL_BYTES: usize = 32;
+pub const MAX_LABEL_BYTES: usize = 32;
+
+/// The most labels of a message.
+pub const MAX_LABELS: usize = 16;
 
 /// A label: one to 32 bytes of a-z, 0-9 and `-`. Labels are compared by their bytes.
 #[derive(Debug, Drop)]

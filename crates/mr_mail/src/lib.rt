@@ -24,5 +24,5 @@ pub use card::Card;
 pub use day::{Day, DayFault};
 pub use fault::MessageFault;
 pub use flags::{Flag, Flags};
-pub use label::Label;
-pub use message::Message;
+pub use label::{Label, MAX_LABEL_BYTES, MAX_LABELS};
+pub use message::{MAX_BODY_BYTES, MAX_FROM_BYTES, MAX_SUBJECT_BYTES, Message};

@@ -3,12 +3,13 @@ ghost use Rattle.std.specs.Prelude.{◌≡◌, ◌<◌, ◌≤◌, IfOk, IfSome,
 ghost use Rattle.mr_mail.specs.Admits.{first_fault};
 ghost use Rattle.mr_mail.specs.Label.{texts_of, AreLabelsOf};
 ghost use Rattle.mr_mail.specs.Mail.{card_of, IsMail};
+ghost use Rattle.mr_mail.specs.declared.message.TheConstants.{MAX_FROM_BYTES, MAX_SUBJECT_BYTES, MAX_BODY_BYTES};
 
 use crate::card::Card;
 use crate::day::Day;
 use crate::fault::MessageFault;
 use crate::flags::Flags;
-use crate::label::{Label, are_texts_of_labels, into_labels, sort_once};
+use crate::label::{Label, MAX_LABELS, are_texts_of_labels, into_labels, sort_once};
 use std::alloc::{AllocError, Global};
 use std::marker::Model;
 use std::sync::Arc;
@@ -58,16 +59,13 @@ impl Model for Message {
 }
 
 /// The most bytes of a sender.
-const MAX_FROM_BYTES: usize = 254;
+pub const MAX_FROM_BYTES: usize = 254;
 
 /// The most bytes of a subject.
-const MAX_SUBJECT_BYTES: usize = 998;
+pub const MAX_SUBJECT_BYTES: usize = 998;
 
 /// The most bytes of a body.
-const MAX_BODY_BYTES: usize = 65_536;
-
-/// The most labels of a message.
-const MAX_LABELS: usize = 16;
+pub const MAX_BODY_BYTES: usize = 65_536;
 
 impl Message {
     /// The message of these parts. The labels may come in any order and more than once; the message
@@ -137,7 +135,7 @@ impl Message {
     /// Who sent it, at most 254 bytes.
     pub fn from(&self) -> &str
         ensures value { result.now ≡ self.now.from }
-        ensures kept { length self.now.from ≤ 254 }
+        ensures kept { length self.now.from ≤ MAX_FROM_BYTES }
     {
         self.parts.from.as_str()
     }
@@ -145,7 +143,7 @@ impl Message {
     /// The subject, at most 998 bytes.
     pub fn subject(&self) -> &str
         ensures value { result.now ≡ self.now.subject }
-        ensures kept { length self.now.subject ≤ 998 }
+        ensures kept { length self.now.subject ≤ MAX_SUBJECT_BYTES }
     {
         self.parts.subject.as_str()
     }
@@ -153,7 +151,7 @@ impl Message {
     /// The body, at most 65,536 bytes.
     pub fn body(&self) -> &[u8]
         ensures value { result.now ≡ self.now.body }
-        ensures kept { length self.now.body ≤ 65536 }
+        ensures kept { length self.now.body ≤ MAX_BODY_BYTES }
     {
         self.parts.body.as_slice()
     }

@@ -14,6 +14,7 @@ use Rattle.mr_script.specs.Script.{lines_of, looked_at}
 use Rattle.mr_script.specs.Stage.{Stage}
 use Rattle.mr_script.specs.Writing.{Settles}
 use Rattle.mr_script.proofs.Written.{Appends-both, Appends-nothing}
+use Rattle.mr_script.specs.declared.source.TheConstants.{MAX_SCRIPT_BYTES}
 
 module _ {K : Type 0} (form : Form K) where
   -- what was written and what waits are what the lines so far print, and the rest is left
@@ -22,7 +23,7 @@ module _ {K : Type 0} (form : Form K) where
     pub is_left : left ≡ Some rest
     pub written : List ℕ
     pub are : Appends old new written
-    pub leads : LeadsTo form bare 1 16777216 (looked_at script) (written ++ waits) s number (16777216 - taken) rest
+    pub leads : LeadsTo form bare 1 MAX_SCRIPT_BYTES (looked_at script) (written ++ waits) s number (MAX_SCRIPT_BYTES - taken) rest
 
   -- before the first line
   pub so_far-start : (script : Option (List ℕ)) (left old : Option (List ℕ)) (taken : ℕ) (waits : List ℕ) → left ≡ option_map looked_at script → taken ≡ 0 → waits ≡ [] → IfSome script (λ bytes. SoFar bytes bare 1 taken left old old waits)
@@ -52,7 +53,7 @@ module _ {K : Type 0} (form : Form K) where
     are = Appends-nothing old;
     reached = bare;
     number = 1;
-    room = 16777216;
+    room = MAX_SCRIPT_BYTES;
     rest = looked_at bytes;
     leads = λ end output runs. rw empty runs;
   }
@@ -93,7 +94,7 @@ module _ {K : Type 0} (form : Form K) where
 
     -- after one more line
     pub so_far-more : (after : Stage K) (text : String Global) (taken_then : ℕ) (left_then : Option (List ℕ)) (waits_then : List ℕ)
-        → IfSome left (λ bytes. NextAnswer form s number (16777216 - taken) bytes (Ok (Some text)) after left_then (16777216 - taken_then)) → waits_then ≡ waits ++ string_bytes text
+        → IfSome left (λ bytes. NextAnswer form s number (MAX_SCRIPT_BYTES - taken) bytes (Ok (Some text)) after left_then (MAX_SCRIPT_BYTES - taken_then)) → waits_then ≡ waits ++ string_bytes text
         → SoFar script after (number + 1) taken_then left_then old new waits_then
     so_far-more after text taken_then left_then waits_then answer pushed =
         let next = rw so_far.is_left at answer in
@@ -108,7 +109,7 @@ module _ {K : Type 0} (form : Form K) where
         }
 
     -- where the script ends here
-    so_far-ends : (end : Option ScriptFault) → Runs form s number (16777216 - taken) (lines_of so_far.rest) end [] → Prints form script end old new waits
+    so_far-ends : (end : Option ScriptFault) → Runs form s number (MAX_SCRIPT_BYTES - taken) (lines_of so_far.rest) end [] → Prints form script end old new waits
     so_far-ends end runs = record {
       written = so_far.written;
       are = so_far.are;
@@ -116,7 +117,7 @@ module _ {K : Type 0} (form : Form K) where
     }
 
     -- at a fault of the next line, or at the end
-    pub so_far-stops : (end : Option ScriptFault) → IfSome left (λ bytes. Runs form s number (16777216 - taken) (lines_of bytes) end []) → Prints form script end old new waits
+    pub so_far-stops : (end : Option ScriptFault) → IfSome left (λ bytes. Runs form s number (MAX_SCRIPT_BYTES - taken) (lines_of bytes) end []) → Prints form script end old new waits
     so_far-stops end runs = so_far-ends end (rw so_far.is_left at runs)
 
     -- where there is no memory
@@ -130,7 +131,7 @@ module _ {K : Type 0} (form : Form K) where
       are = so_far.are;
       reached = s;
       number = number;
-      room = 16777216 - taken;
+      room = MAX_SCRIPT_BYTES - taken;
       rest = so_far.rest;
       leads = so_far.leads;
     }

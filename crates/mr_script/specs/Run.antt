@@ -13,6 +13,7 @@ use Rattle.mr_command.specs.Command.{reads_command}
 use Rattle.mr_command.specs.declared.command.Command.{Command}
 use Rattle.mr_script.specs.Script.{lines_of, line_text, looked_at}
 use Rattle.mr_script.specs.Stage.{Stage, Stage.opening, scene_of, Does}
+use Rattle.mr_script.specs.declared.source.TheConstants.{MAX_SCRIPT_BYTES}
 
 -- an empty line and one that begins with `#` are skipped
 abbrev pub is_skipped : List ℕ → Bool
@@ -61,7 +62,7 @@ module _ {K : Type 0} (form : Form K) where
 
   -- what the script prints, and how it ends
   abbrev pub RunsScript : List ℕ → Option ScriptFault → List ℕ → Type 0
-  RunsScript script end output = Runs bare 1 16777216 (lines_of (looked_at script)) end output
+  RunsScript script end output = Runs bare 1 MAX_SCRIPT_BYTES (lines_of (looked_at script)) end output
 
   -- Whatever the lines at the new place print, those at the old one print the text and then that.
   abbrev pub LeadsTo : Stage K → (number room : ℕ) → List ℕ → (text : List ℕ) → Stage K → (number_then room_then : ℕ) → List ℕ → Type 0
@@ -89,7 +90,7 @@ pub record PrintsSoFar {K : Type 0} (form : Form K) (script : List ℕ) (old new
   pub number : ℕ
   pub room : ℕ
   pub rest : List ℕ
-  pub leads : LeadsTo form bare 1 16777216 (looked_at script) (written ++ waits) reached number room rest
+  pub leads : LeadsTo form bare 1 MAX_SCRIPT_BYTES (looked_at script) (written ++ waits) reached number room rest
 
 -- of a script whose bytes are known, a beginning was written of what it prints
 abbrev pub BeginsToPrint : {K : Type 0} → Form K → List ℕ → (old new : Option (List ℕ)) → Type 0

@@ -8,6 +8,7 @@ use Rattle.mr_script.specs.declared.metered.Metered.{Metered}
 use Rattle.mr_script.specs.declared.source.Source.{Source}
 use Rattle.mr_script.specs.declared.source.SourceFault.{SourceFault}
 use Rattle.mr_script.specs.declared.source.SourceFault.TheVariants.{OutOfMemory, Read, TooLong}
+use Rattle.mr_script.specs.declared.source.TheConstants.{MAX_SCRIPT_BYTES}
 
 -- the lines, each with its line feed, which the last may lack
 abbrev pub lines_of : List ℕ → List (List ℕ)
@@ -47,6 +48,6 @@ pub record IsNextLine (bytes : List ℕ) (taken : ℕ) (line : List ℕ) (left :
 abbrev pub TakesLine : List ℕ → ℕ → Result Bool SourceFault → List ℕ → Option (List ℕ) → ℕ → Type 0
 TakesLine bytes taken (Ok true) line left taken_then = IsNextLine bytes taken line left taken_then
 TakesLine bytes taken (Ok false) line left taken_then = bytes ≡ []
-TakesLine bytes taken (Err TooLong) line left taken_then = (bytes ≢ []) × (16777216 < taken + length (take_through 10 bytes))
+TakesLine bytes taken (Err TooLong) line left taken_then = (bytes ≢ []) × (MAX_SCRIPT_BYTES < taken + length (take_through 10 bytes))
 TakesLine bytes taken (Err Read) line left taken_then = ⊤
 TakesLine bytes taken (Err OutOfMemory) line left taken_then = ⊤

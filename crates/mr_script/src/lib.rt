@@ -46,3 +46,4 @@ pub use frame::{FrameText, frame_text};
 pub use interpreter::Interpreter;
 pub use mr_command::LineFault;
 pub use script::run_script;
+pub use source::MAX_SCRIPT_BYTES;

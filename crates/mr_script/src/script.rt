@@ -6,6 +6,7 @@ ghost use Rattle.mr_script.specs.Fault.{fault_of_source, NumbersItsLine};
 ghost use Rattle.mr_script.specs.Run.{BeginsToPrint, Breaks, NextAnswer, Prints, PrintsSoFar, end_of};
 ghost use Rattle.mr_script.specs.Script.{Accounts, looked_at, source_remaining};
 ghost use Rattle.mr_script.specs.Writing.{Settles};
+ghost use Rattle.mr_script.specs.declared.source.TheConstants.{MAX_SCRIPT_BYTES};
 
 use crate::interpreter::Interpreter;
 use crate::output::Output;
@@ -33,7 +34,7 @@ pub fn run_script<R: Read + Drop, W: Write>(
     writer: &mut W,
 ) -> Result<(), ScriptFault>
     ensures too_long { result ≡ Err ScriptFault.TooLong
-        → IfSome (R.remaining reader) (λ script. 16777216 < length script) }
+        → IfSome (R.remaining reader) (λ script. MAX_SCRIPT_BYTES < length script) }
     ensures line { IfErr result NumbersItsLine }
     ensures prints { result ≢ Err ScriptFault.Write → IfSome (R.remaining reader)
         (λ script. Prints item_form script (end_of result) (W.contents writer.old) (W.contents writer.new) []) }
@@ -71,7 +72,7 @@ fn run_lines<R: Read + Drop, W: Write>(
 ) -> Result<(), ScriptFault>
     requires { output.old ≡ [] }
     ensures too_long { result ≡ Err ScriptFault.TooLong
-        → IfSome (R.remaining reader) (λ script. 16777216 < length script) }
+        → IfSome (R.remaining reader) (λ script. MAX_SCRIPT_BYTES < length script) }
     ensures line { IfErr result NumbersItsLine }
     ensures prints { result ≢ Err ScriptFault.Write → IfSome (R.remaining reader)
         (λ script. Prints item_form script (end_of result) (W.contents writer.old) (W.contents writer.new) output.new) }
@@ -156,20 +157,20 @@ fn next_answer<R: Read + Drop>(
     line: &mut Vec<u8>,
     number: u64,
 ) -> Result<Option<String>, ScriptFault>
-    requires { source.old.taken ≤ 16777216 }
-    ensures few { OnOk result (source.new.taken ≤ 16777216) }
+    requires { source.old.taken ≤ MAX_SCRIPT_BYTES }
+    ensures few { OnOk result (source.new.taken ≤ MAX_SCRIPT_BYTES) }
     ensures more { IfOk result (λ answer. IsSome answer → source.old.taken < source.new.taken) }
     ensures counted { (script : Option (List ℕ))
         → Accounts script (source_remaining R.remaining source.old) source.old.taken
         → OnOk result (Accounts script (source_remaining R.remaining source.new) source.new.taken) }
     ensures too_long { (script : Option (List ℕ))
         → Accounts script (source_remaining R.remaining source.old) source.old.taken
-        → result ≡ Err ScriptFault.TooLong → IfSome script (λ bytes. 16777216 < length bytes) }
+        → result ≡ Err ScriptFault.TooLong → IfSome script (λ bytes. MAX_SCRIPT_BYTES < length bytes) }
     ensures line { 1 ≤ number → number ≤ 16777217 → IfErr result NumbersItsLine }
     ensures no_write { result ≢ Err ScriptFault.Write }
     ensures answer { IfSome (source_remaining R.remaining source.old) (λ bytes.
-        NextAnswer item_form interpreter.old number (16777216 - source.old.taken) bytes result interpreter.new
-        (source_remaining R.remaining source.new) (16777216 - source.new.taken)) }
+        NextAnswer item_form interpreter.old number (MAX_SCRIPT_BYTES - source.old.taken) bytes result interpreter.new
+        (source_remaining R.remaining source.new) (MAX_SCRIPT_BYTES - source.new.taken)) }
 {
     match source.next_line(line) {
         Ok(true) => match interpreter.line(line.as_slice()) {

@@ -6,13 +6,14 @@ ghost use Rattle.std.specs.Io.Take.{take_remaining};
 ghost use Rattle.std.specs.IoError.{error_kind};
 ghost use Rattle.mr_script.specs.Fault.{fault_of_kind};
 ghost use Rattle.mr_script.specs.Script.{Accounts, TakesLine, looked_at, metered_remaining, source_remaining};
+ghost use Rattle.mr_script.specs.declared.source.TheConstants.{MAX_SCRIPT_BYTES};
 
 use crate::metered::Metered;
 use std::alloc::Global;
 use std::io::{BufRead, BufReader, Error, ErrorKind, Read, Take};
 
 /// The most bytes of a script.
-pub(crate) const MAX_SCRIPT_BYTES: u64 = 16_777_216;
+pub const MAX_SCRIPT_BYTES: u64 = 16_777_216;
 
 /// How often the reader is called at most. The longest script may come byte by byte; a read that gives
 /// nothing then ends a last line without a line feed, and another shows that no line follows. Reads that
@@ -74,15 +75,15 @@ impl<R: Read + Drop> Source<R> {
 
     /// Puts the next line into `line`, without its line feed, and answers whether there was one.
     pub(crate) fn next_line(&mut self, line: &mut Vec<u8>) -> Result<bool, SourceFault>
-        requires { self.old.taken ≤ 16777216 }
-        ensures few { OnOk result (self.new.taken ≤ 16777216) }
+        requires { self.old.taken ≤ MAX_SCRIPT_BYTES }
+        ensures few { OnOk result (self.new.taken ≤ MAX_SCRIPT_BYTES) }
         ensures more { IfOk result (λ is_line. IsTrue is_line → self.old.taken < self.new.taken) }
         ensures counted { (script : Option (List ℕ))
             → Accounts script (source_remaining R.remaining self.old) self.old.taken
             → OnOk result (Accounts script (source_remaining R.remaining self.new) self.new.taken) }
         ensures too_long { (script : Option (List ℕ))
             → Accounts script (source_remaining R.remaining self.old) self.old.taken
-            → result ≡ Err SourceFault.TooLong → IfSome script (λ bytes. 16777216 < length bytes) }
+            → result ≡ Err SourceFault.TooLong → IfSome script (λ bytes. MAX_SCRIPT_BYTES < length bytes) }
         ensures line { IfSome (source_remaining R.remaining self.old) (λ bytes.
             TakesLine bytes self.old.taken result line.new.items
             (source_remaining R.remaining self.new) self.new.taken) }

@@ -3,6 +3,8 @@ use Rattle.std.specs.declared.cmp.Ordering.{Ordering}
 use Rattle.std.specs.Ordering.{nat_cmp, ordering_then, eq_by_cmp}
 use Rattle.std.specs.Coded.{Coded, code_by, coded×, coded_ℕ}
 use Rattle.std.specs.Fmt.{decimal}
+use Rattle.mr_version.specs.declared.author.TheConstants.{AUTHORS}
+use Rattle.mr_version.specs.declared.version.TheConstants.{MAX_COUNTER}
 
 -- a version as contracts see it: who issued it, and its number among those
 pub record Name : Type 0 where
@@ -16,9 +18,9 @@ name_code =
 
 -- what is a version: an author of 0 to 63, a counter of 1 to 1,000,000
 pub record IsVersion (author counter : ℕ) : Type 0 where
-  pub author_in : author < 64
+  pub author_in : author < AUTHORS
   pub counter_from : 1 ≤ counter
-  pub counter_to : counter ≤ 1000000
+  pub counter_to : counter ≤ MAX_COUNTER
 
 -- by author, then by counter
 abbrev pub name_cmp : Name → Name → Ordering

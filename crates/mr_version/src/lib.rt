@@ -18,7 +18,7 @@ mod item;
 mod number;
 mod version;
 
-pub use author::Author;
+pub use author::{AUTHORS, Author};
 pub use fault::VersionFault;
 pub use item::ItemId;
-pub use version::Version;
+pub use version::{MAX_COUNTER, Version};

@@ -4,6 +4,8 @@ ghost use Rattle.std.specs.Cmp;
 ghost use Rattle.std.proofs.Common.{rules};
 ghost use Rattle.std.specs.Cmp.Rules.{comparing};
 ghost use Rattle.mr_version.specs.Name.{Name, IsVersion, name_text, name_cmp};
+ghost use Rattle.mr_version.specs.declared.version.TheConstants.{MAX_COUNTER};
+ghost use Rattle.mr_version.specs.declared.author.TheConstants.{AUTHORS};
 ghost use Rattle.mr_version.specs.Order.{names_total};
 
 use crate::number::read_decimal;
@@ -12,6 +14,9 @@ use std::alloc::{AllocError, Global};
 use std::cmp::Ordering;
 use std::fmt;
 use std::marker::Model;
+
+/// The highest counter of a version; the lowest is 1.
+pub const MAX_COUNTER: u32 = 1_000_000;
 
 /// A version: its author, and its number among that author's, 1 to 1,000,000.
 #[derive(Clone, Copy, Debug, PartialEq, Eq)]
@@ -39,10 +44,10 @@ impl Version {
     /// The author's version with this counter. `BadVersion` where the counter is 0 or above 1,000,000.
     pub fn try_new(author: Author, counter: u32) -> Result<Version, VersionFault>
         ensures ok { IfOk result (λ v. (v.author ≡ author) × (v.counter ≡ counter)) }
-        ensures exact { IsOk result ↔ ((1 ≤ counter) × (counter ≤ 1000000)) }
+        ensures exact { IsOk result ↔ ((1 ≤ counter) × (counter ≤ MAX_COUNTER)) }
         ensures fault { IfErr result (λ fault. fault ≡ VersionFault.BadVersion) }
     {
-        if 1 <= counter && counter <= 1_000_000 {
+        if 1 <= counter && counter <= MAX_COUNTER {
             Ok(Version { author, counter })
         } else {
             Err(VersionFault::BadVersion)
@@ -85,7 +90,7 @@ impl Version {
 
 fn read_author(text: &str) -> Option<Author>
     ensures spelled { IfSome result (λ author. text.now ≡ decimal author) }
-    ensures whole { (author : ℕ) → author < 64 → text.now ≡ decimal author → result ≡ Some author }
+    ensures whole { (author : ℕ) → author < AUTHORS → text.now ≡ decimal author → result ≡ Some author }
 {
     let id = u16::try_from(read_decimal(text)?).ok()?;
     Author::try_new(id).ok()

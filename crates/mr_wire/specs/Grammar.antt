@@ -16,6 +16,7 @@ use Rattle.mr_wire.specs.Values.{DescentParts, Piece, AreItems}
 use Rattle.mr_wire.specs.Frames.{Question, IsIndexOf, FragmentsRise}
 use Rattle.mr_wire.specs.Kinds.{kind_byte, kind_of_byte}
 use Rattle.mr_wire.specs.FrameSpelling.{descent_of, kind_of, rest_bytes, frame_bytes}
+use Rattle.mr_version.specs.declared.author.TheConstants.{AUTHORS}
 
 -- the item and the version are such, what it supersedes is a vector, and together they are as those of a revision
 pub record IsDescent (descent : DescentParts) : Type 0 where
@@ -46,9 +47,9 @@ pub record IsFramed (piece : Piece) : Type 0 where
 
 -- what a header is
 pub record IsHeader (header : Header) : Type 0 where
-  pub source_in : header.source < 64
+  pub source_in : header.source < AUTHORS
   pub stream_in : (header.stream < 2 ^ 64) × (1 ≤ header.stream)
-  pub target_in : header.target < 64
+  pub target_in : header.target < AUTHORS
   pub session_in : (header.session < 2 ^ 64) × (1 ≤ header.session)
   pub index_in : header.index < 2 ^ 32
 
@@ -63,7 +64,7 @@ IsSaid body.End = Unit {0}
 
 -- so is a request
 pub record IsAsked (q : Question) : Type 0 where
-  pub target_in : q.target < 64
+  pub target_in : q.target < AUTHORS
   pub session_in : (q.session < 2 ^ 64) × (1 ≤ q.session)
   pub filter_in : IsFilter q.filter
   pub few : length q.fragments < 2 ^ 32
@@ -74,7 +75,7 @@ pub record IsAsked (q : Question) : Type 0 where
 abbrev pub IsFrame : Frame → Type 0
 IsFrame (frame.Ask q) = IsAsked q
 IsFrame (frame.Record r) = IsHeader r.header × IsIndexOf r.body r.header.index × IsSaid r.body
-IsFrame (frame.Receipt r) = (r.giver < 64) × IsDescent r.descent
+IsFrame (frame.Receipt r) = (r.giver < AUTHORS) × IsDescent r.descent
 
 -- the text is the frame in the format: 2, or 1 for what is no receipt
 pub record Spells (format : ℕ) (f : Frame) (text : List ℕ) : Type 0 where

@@ -12,14 +12,22 @@ use Rattle.mr_wire.specs.Values.{DescentParts, Piece, item_follows}
 use Rattle.mr_concise.specs.declared.column.Hole.{Hole}
 use Rattle.mr_concise.specs.declared.vector.AuthorColumn.{AuthorColumn}
 use Rattle.mr_wire.specs.Reading.{Reader, ◌>>=◌, number_at, bytes_at, only_at, as_at, then_at, counted_at, run_at}
+use Rattle.mr_version.specs.declared.author.TheConstants.{AUTHORS}
+use Rattle.mr_version.specs.declared.version.TheConstants.{MAX_COUNTER}
+use Rattle.mr_mail.specs.declared.message.TheConstants.{MAX_FROM_BYTES, MAX_SUBJECT_BYTES, MAX_BODY_BYTES}
+use Rattle.mr_mail.specs.declared.label.TheConstants.{MAX_LABELS}
+use Rattle.mr_filter.specs.declared.clause.TheConstants.{MAX_CLAUSE_LABELS}
+use Rattle.mr_filter.specs.declared.filter.TheConstants.{MAX_CLAUSES}
+use Rattle.mr_concise.specs.declared.column.TheConstants.{MAX_HOLES}
+use Rattle.mr_forms.specs.declared.fragment.TheConstants.{MAX_ITEMS}
 
 -- an author: 0 to 63
 abbrev pub author_at : Reader ℕ
-author_at = only_at (λ n. nat_lt n 64) (number_at w16)
+author_at = only_at (λ n. nat_lt n AUTHORS) (number_at w16)
 
 -- a counter: 1 to 1,000,000
 abbrev pub counter_at : Reader ℕ
-counter_at = only_at (λ n. nat_le 1 n && nat_le n 1000000) (number_at w32)
+counter_at = only_at (λ n. nat_le 1 n && nat_le n MAX_COUNTER) (number_at w32)
 
 -- a version or an item
 abbrev pub name_at : Reader Name
@@ -37,7 +45,7 @@ holes_at upto = run_at (hole_at upto) (λ _ hole. hole.last + 1)
 
 -- the holes below the bound, behind their count: at most 4,096
 abbrev pub column_holes_at : ℕ → Reader (List Hole)
-column_holes_at upto = counted_at (only_at (λ n. nat_le n 4096) (number_at w16)) (holes_at upto 0)
+column_holes_at upto = counted_at (only_at (λ n. nat_le n MAX_HOLES) (number_at w16)) (holes_at upto 0)
 
 -- a column of this author or a higher one
 abbrev pub column_at : ℕ → Reader AuthorColumn
@@ -72,7 +80,7 @@ label_at before = only_at (λ label. is_label label && label_follows before labe
 
 -- at most sixteen labels, which rise
 abbrev pub labels_at : Reader (List (List ℕ))
-labels_at = counted_at (only_at (λ n. nat_le n 16) (number_at w8)) (run_at label_at (λ _ label. Some label) None)
+labels_at = counted_at (only_at (λ n. nat_le n MAX_LABELS) (number_at w8)) (run_at label_at (λ _ label. Some label) None)
 
 -- a set of flags: at most 31
 abbrev pub flags_at : Reader ℕ
@@ -81,7 +89,7 @@ flags_at = only_at (λ n. nat_le n 31) (number_at w8)
 -- a clause, which names at most eight labels
 abbrev pub clause_at : Reader ClauseParts
 clause_at =
-    only_at (λ clause. nat_le (length clause.all_labels + length clause.no_labels) 8)
+    only_at (λ clause. nat_le (length clause.all_labels + length clause.no_labels) MAX_CLAUSE_LABELS)
     (as_at (λ p. clause_with p.0 p.1.0 p.1.1.0 p.1.1.1.0 p.1.1.1.1)
     (then_at labels_at (λ _. then_at labels_at (λ _. then_at flags_at (λ _. then_at flags_at (λ _. number_at w16))))))
 
@@ -91,7 +99,7 @@ clauses_at = run_at (λ (_ : ℕ). clause_at) (λ _ _. 0) 0
 
 -- a filter: at most sixteen clauses
 abbrev pub filter_at : Reader (List ClauseParts)
-filter_at = counted_at (only_at (λ n. nat_le n 16) (number_at w8)) clauses_at
+filter_at = counted_at (only_at (λ n. nat_le n MAX_CLAUSES) (number_at w8)) clauses_at
 
 -- a text of at most so many bytes
 abbrev pub text_at : ℕ → Reader (List ℕ)
@@ -99,12 +107,12 @@ text_at most = only_at is_utf8 (counted_at (only_at (λ n. nat_le n most) (numbe
 
 -- a body: at most 65,536 bytes
 abbrev pub message_body_at : Reader (List ℕ)
-message_body_at = counted_at (only_at (λ n. nat_le n 65536) (number_at w32)) bytes_at
+message_body_at = counted_at (only_at (λ n. nat_le n MAX_BODY_BYTES) (number_at w32)) bytes_at
 
 abbrev pub message_at : Reader Mail
 message_at =
     as_at (λ p. record { from = p.0; subject = p.1.0; body = p.1.1.0; labels = p.1.1.1.0; flags = p.1.1.1.1.0; day = p.1.1.1.1.1 })
-    (then_at (text_at 254) (λ _. then_at (text_at 998) (λ _. then_at message_body_at (λ _. then_at labels_at (λ _. then_at flags_at (λ _. number_at w16))))))
+    (then_at (text_at MAX_FROM_BYTES) (λ _. then_at (text_at MAX_SUBJECT_BYTES) (λ _. then_at message_body_at (λ _. then_at labels_at (λ _. then_at flags_at (λ _. number_at w16))))))
 
 -- an item of a fragment, which may follow the one before it
 abbrev pub item_at : Option Name → Reader Name
@@ -112,7 +120,7 @@ item_at before = only_at (item_follows before) name_at
 
 -- 1 to 65,536 items, which rise
 abbrev pub listed_items_at : Reader (List Name)
-listed_items_at = counted_at (only_at (λ n. nat_le 1 n && nat_le n 65536) (number_at w32)) (run_at item_at (λ _ item. Some item) None)
+listed_items_at = counted_at (only_at (λ n. nat_le 1 n && nat_le n MAX_ITEMS) (number_at w32)) (run_at item_at (λ _ item. Some item) None)
 
 -- 0 for all items, or 1 and the listed ones
 abbrev pub items_at : Reader (Option (List Name))

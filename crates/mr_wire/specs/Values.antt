@@ -7,6 +7,7 @@ use Rattle.mr_forms.specs.declared.fragment.Fragment.{Fragment}
 pub use Rattle.mr_forms.specs.Covered.{listed_items}
 use Rattle.mr_concise.specs.declared.vector.AuthorColumn.{AuthorColumn}
 use Rattle.mr_concise.specs.Vector.{author_column_code}
+use Rattle.mr_forms.specs.declared.fragment.TheConstants.{MAX_ITEMS}
 
 -- a version of an item, with the versions that it supersedes
 pub record DescentParts : Type 0 where
@@ -48,7 +49,7 @@ ItemsRise before (item ∷ items) = (item_follows before item ≡ true) × Items
 -- what items a fragment may list: 1 to 65,536, rising
 abbrev pub AreItems : Option (List Name) → Type 0
 AreItems None = Unit {0}
-AreItems (Some items) = (1 ≤ length items) × (length items ≤ 65536) × ItemsRise None items
+AreItems (Some items) = (1 ≤ length items) × (length items ≤ MAX_ITEMS) × ItemsRise None items
 
 -- the least item of a fragment, or none where it is of all items
 abbrev pub least_item : Option (List Name) → Option Name

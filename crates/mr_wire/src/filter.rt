@@ -4,19 +4,14 @@ ghost use Rattle.mr_mail.specs.Label.{IsLabelSet};
 ghost use Rattle.mr_filter.specs.Filter.{IsFilter, clause_with};
 ghost use Rattle.mr_wire.specs.Parts.{clause_at, clauses_at, filter_at};
 ghost use Rattle.mr_wire.specs.Reading.{Finds};
+ghost use Rattle.mr_filter.specs.declared.clause.TheConstants.{MAX_CLAUSE_LABELS};
 
 use crate::input::Input;
 use crate::keep::{keep, room};
 use crate::label::{flags, labels};
-use mr_filter::{Clause, Filter};
+use mr_filter::{Clause, Filter, MAX_CLAUSE_LABELS, MAX_CLAUSES};
 use mr_mail::{Day, Flags, Label};
 use std::alloc::Global;
-
-/// The most clauses of a filter.
-const MAX_CLAUSES: u8 = 16;
-
-/// The most labels of a clause, wanted and barred together.
-const MAX_CLAUSE_LABELS: u8 = 8;
 
 /// The clause of these parts, where its labels are kept.
 fn clause_of(
@@ -28,7 +23,7 @@ fn clause_of(
 ) -> Option<Clause>
     requires wanted { IfSome wanted (λ v. IsLabelSet v.items) }
     requires barred { IfSome barred (λ v. IsLabelSet v.items) }
-    requires few { IfSome wanted (λ a. IfSome barred (λ b. length a.items + length b.items ≤ 8)) }
+    requires few { IfSome wanted (λ a. IfSome barred (λ b. length a.items + length b.items ≤ MAX_CLAUSE_LABELS)) }
     ensures { IfSome result (λ c. IsSomeAnd wanted (λ a. IsSomeAnd barred (λ b. c ≡ clause_with a.items b.items on off since))) }
 {
     Some(Clause::new(wanted?, barred?, on, off, since))
@@ -42,7 +37,7 @@ fn clause(input: &mut Input<'_>, memory: Option<Global>) -> Option<Option<Clause
     let on = flags(input)?;
     let off = flags(input)?;
     let since = Day::new(input.u16()?);
-    if wanted_count + barred_count > MAX_CLAUSE_LABELS {
+    if usize::from(wanted_count + barred_count) > MAX_CLAUSE_LABELS {
         return None;
     }
     Some(clause_of(wanted, barred, on, off, since))
@@ -71,7 +66,7 @@ pub(crate) fn filter(input: &mut Input<'_>, memory: Option<Global>) -> Option<Op
     ensures { Finds (λ f. f) filter_at input.old result input.new }
 {
     let count = input.u8()?;
-    if count > MAX_CLAUSES {
+    if usize::from(count) > MAX_CLAUSES {
         return None;
     }
     let clauses = clauses(input, memory, count)?;

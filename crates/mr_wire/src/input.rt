@@ -5,7 +5,7 @@ ghost use Rattle.std.specs.Int.{w8, w16, w32, w64};
 ghost use Rattle.mr_wire.specs.Parts.{author_at, counter_at, name_at};
 ghost use Rattle.mr_wire.specs.Reading.{Gives, number_at, bytes_at};
 
-use mr_version::{Author, Version};
+use mr_version::{Author, MAX_COUNTER, Version};
 use std::marker::Model;
 
 /// Bytes that are read from the front.
@@ -97,7 +97,7 @@ impl<'a> Input<'a> {
         ensures { Gives counter_at self.old result self.new }
     {
         let counter = self.u32()?;
-        if counter < 1 || counter > 1_000_000 {
+        if counter < 1 || counter > MAX_COUNTER {
             return None;
         }
         Some(counter)

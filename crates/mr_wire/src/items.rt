@@ -11,12 +11,9 @@ use crate::input::Input;
 use crate::keep::{keep, room};
 use crate::vector::vector;
 use mr_concise::ConciseVector;
-use mr_forms::{Fragment, ItemSet};
+use mr_forms::{Fragment, ItemSet, MAX_ITEMS};
 use mr_version::{ItemId, Version};
 use std::alloc::Global;
-
-/// The most items that a fragment lists.
-const MAX_ITEMS: u32 = 65_536;
 
 /// The tag of a fragment of all items.
 pub(crate) const ALL_ITEMS: u8 = 0;
@@ -84,7 +81,7 @@ fn listed(
     ensures { FindsListed input.old result input.new }
 {
     let count = input.u32()?;
-    if count < 1 || count > MAX_ITEMS {
+    if count < 1 || count as usize > MAX_ITEMS {
         return None;
     }
     items(input, memory, count)

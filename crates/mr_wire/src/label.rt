@@ -9,14 +9,8 @@ ghost use Rattle.mr_wire.specs.Labels.{FindsLabels, next_label};
 
 use crate::input::Input;
 use crate::keep::{keep, room};
-use mr_mail::{Flags, Label};
+use mr_mail::{Flags, Label, MAX_LABEL_BYTES, MAX_LABELS};
 use std::alloc::Global;
-
-/// The most bytes of a label.
-const MAX_LABEL_BYTES: usize = 32;
-
-/// The most labels of a list.
-const MAX_LABELS: u8 = 16;
 
 /// Whether a label may have each of these bytes.
 fn are_label_bytes(bytes: &[u8]) -> bool
@@ -87,7 +81,7 @@ pub(crate) fn labels(
     ensures { FindsLabels input.old result input.new }
 {
     let count = input.u8()?;
-    if count > MAX_LABELS {
+    if usize::from(count) > MAX_LABELS {
         return None;
     }
     let labels = label_run(input, memory, count)?;

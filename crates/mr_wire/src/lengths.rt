@@ -8,6 +8,8 @@ ghost use Rattle.mr_wire.specs.Values.{AreItems, listed_items};
 ghost use Rattle.mr_wire.specs.Spelling.{column_bytes, vector_bytes, items_bytes, label_bytes, labels_bytes, clause_bytes, filter_bytes, texts_bytes, message_bytes, descent_bytes};
 ghost use Rattle.mr_wire.specs.FrameSpelling.{ask_bytes, body_bytes, descent_of, part_bytes};
 ghost use Rattle.mr_wire.specs.Encoding.{HasShortFragments, total_len};
+ghost use Rattle.mr_mail.specs.declared.label.TheConstants.{MAX_LABELS};
+ghost use Rattle.mr_filter.specs.declared.filter.TheConstants.{MAX_CLAUSES};
 
 use crate::frame::{Ask, Body, Frame, Receipt, Record};
 use mr_concise::{AuthorColumn, ConciseVector};
@@ -112,7 +114,7 @@ fn label_len(label: &Label) -> usize
 }
 
 fn label_run_len(labels: &[Label]) -> usize
-    requires { length labels.now ≤ 16 }
+    requires { length labels.now ≤ MAX_LABELS }
     ensures exact { result ≡ length (flat_map label_bytes labels.now) }
     ensures most { result ≤ 528 }
 {
@@ -140,7 +142,7 @@ fn clause_len(clause: &Clause) -> usize
 }
 
 fn clauses_len(clauses: &[Clause]) -> usize
-    requires { length clauses.now ≤ 16 }
+    requires { length clauses.now ≤ MAX_CLAUSES }
     ensures exact { result ≡ length (flat_map clause_bytes clauses.now) }
     ensures most { result ≤ 16992 }
 {

@@ -10,17 +10,10 @@ ghost use Rattle.mr_wire.specs.Labels.{message_with};
 
 use crate::input::Input;
 use crate::label::{flags, labels};
-use mr_mail::{Day, Flags, Label, Message, MessageFault};
+use mr_mail::{
+    Day, Flags, Label, MAX_BODY_BYTES, MAX_FROM_BYTES, MAX_SUBJECT_BYTES, Message, MessageFault,
+};
 use std::alloc::{AllocError, Global};
-
-/// The most bytes of a sender.
-const MAX_FROM_BYTES: u16 = 254;
-
-/// The most bytes of a subject.
-const MAX_SUBJECT_BYTES: u16 = 998;
-
-/// The most bytes of a body.
-const MAX_BODY_BYTES: u32 = 65_536;
 
 /// The text of these bytes, if they are UTF-8.
 #[tactic(auto, using(crate::proofs::MessageLemmas::no_text, crate::proofs::MessageLemmas::is_text))]
@@ -34,14 +27,14 @@ fn text_of(bytes: &[u8]) -> Option<&str>
 }
 
 /// A text of at most so many bytes.
-fn text<'a>(input: &mut Input<'a>, most: u16) -> Option<&'a str>
+fn text<'a>(input: &mut Input<'a>, most: usize) -> Option<&'a str>
     ensures { Gives (text_at most) input.old (option_copied result) input.new }
 {
-    let len = input.u16()?;
+    let len = usize::from(input.u16()?);
     if len > most {
         return None;
     }
-    let bytes = input.bytes(usize::from(len))?;
+    let bytes = input.bytes(len)?;
     text_of(bytes)
 }
 
@@ -49,11 +42,11 @@ fn text<'a>(input: &mut Input<'a>, most: u16) -> Option<&'a str>
 fn message_body<'a>(input: &mut Input<'a>) -> Option<&'a [u8]>
     ensures { Gives message_body_at input.old (option_copied result) input.new }
 {
-    let len = input.u32()?;
+    let len = input.u32()? as usize;
     if len > MAX_BODY_BYTES {
         return None;
     }
-    input.bytes(len as usize)
+    input.bytes(len)
 }
 
 /// The texts of the labels.

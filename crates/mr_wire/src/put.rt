@@ -13,6 +13,7 @@ ghost use Rattle.mr_wire.specs.FrameParts.{descent_with};
 ghost use Rattle.mr_wire.specs.Grammar.{AreFramed, IsDescent, IsFramed, IsItem, IsLetter};
 ghost use Rattle.mr_wire.specs.Values.{AreItems, listed_items};
 ghost use Rattle.mr_wire.specs.Spelling.{u16, u32, name_bytes, hole_bytes, column_bytes, vector_bytes, label_bytes, labels_bytes, clause_bytes, filter_bytes, texts_bytes, card_bytes, message_bytes, items_bytes, fragment_bytes, descent_bytes};
+ghost use Rattle.mr_mail.specs.declared.message.TheConstants.{MAX_BODY_BYTES};
 
 use crate::fragment::FrameFragment;
 use crate::items::{ALL_ITEMS, LISTED_ITEMS};
@@ -151,7 +152,7 @@ fn put_text(out: &mut Vec<u8>, text: &str) -> Result<(), AllocError>
 }
 
 fn put_message_body(out: &mut Vec<u8>, body: &[u8]) -> Result<(), AllocError>
-    requires { length body.now ≤ 65536 }
+    requires { length body.now ≤ MAX_BODY_BYTES }
     ensures { OnOk result (out.new.items ≡ out.old.items ++ (u32 (length body.now) ++ body.now)) }
 {
     put_u32(out, body.len() as u32)?;

@@ -3,10 +3,11 @@ use Rattle.mr_itemset.specs.ItemForm.{item_form}
 use Rattle.mr_script.specs.Script.{Accounts, source_remaining}
 use Rattle.mr_script.proofs.SoFar.{SoFar}
 use Rattle.mr_script.proofs.script.run_lines.Given as goal
+use Rattle.mr_script.specs.declared.source.TheConstants.{MAX_SCRIPT_BYTES}
 
 -- what was taken is accounted for, and each line before this one took a byte
 pub record IsReadSoFar (script left : Option (List ℕ)) (taken number : ℕ) : Type 0 where
-  pub within : taken ≤ 16777216
+  pub within : taken ≤ MAX_SCRIPT_BYTES
   pub counted : Accounts script left taken
   pub lines : number ≤ taken + 1
 
