@@ -9,7 +9,7 @@ pub mod RunLemmas
 pub mod EqualLemmas
 pub mod LastLemmas
 pub mod SweepLemmas
-pub mod AllOfLemmas
+pub mod AnyOfLemmas
 pub mod MeetLemmas
 pub mod VersionLemmas
 pub mod HoleLemmas

@@ -12,7 +12,7 @@ use Rattle.mr_concise.specs.declared.vector.AuthorColumn.{AuthorColumn}
 use Rattle.mr_concise.specs.Column.{Extent, hole_edges, edges, column_has, empty_column, IsColumn}
 use Rattle.mr_concise.specs.Next.{IsNextOut, IsNextIn, HasNoneFrom}
 use Rattle.mr_forms.specs.Runs.{of_author}
-use Rattle.mr_concise.specs.Source.{IsColumnOf, HasFewHoles, HasManyHoles}
+use Rattle.mr_concise.specs.Source.{IsColumnOf, HasHoles, HasAtMostHoles, ColumnsHaveAtMost, HasFewHoles, HasManyHoles}
 use Rattle.mr_forms.specs.Runs.{HasNoAuthorFrom, IsNextAuthor}
 use Rattle.mr_concise.specs.Vector.{column_of, vector_has, IsVectorFrom, with_column, HasTooManyHoles}
 use Rattle.mr_concise.proofs.EdgeLemmas.{is_on-turn, is_on-stay, IsRising-end}
@@ -113,15 +113,21 @@ swept-end has holes at zero_out w none =
 pub IsColumnOf-unique : (has : ℕ → Bool) (a b : Extent) → IsColumnOf has a → IsColumnOf has b → a ≡ b
 IsColumnOf-unique has a b x y = column_unique a b x.apart y.apart (λ c. x.means c ∙ sym (y.means c))
 
+pub at_most-from_holes : (has : ℕ → Bool) (count most : ℕ) → HasHoles has count → count ≤ most → HasAtMostHoles has most
+at_most-from_holes has count most holes le other w = let e = ap (λ (x : Extent). length x.holes) (IsColumnOf-unique has other holes.column w holes.is) in let c = holes.count_is in omega arith
+
 pub few-from_column : (has : ℕ → Bool) (column : Extent) → IsColumnOf has column → length column.holes ≤ 4096 → HasFewHoles has
-few-from_column has column is few other w = let e = ap (λ (x : Extent). length x.holes) (IsColumnOf-unique has other column w is) in omega arith
+few-from_column has column is few = at_most-from_holes has (length column.holes) 4096 (record { column = column; is = is; count_is = refl }) few
+
+pub many-from_holes : (has : ℕ → Bool) (count : ℕ) → HasHoles has count → 4096 < count → HasManyHoles has
+many-from_holes has count holes l = record { column = holes.column; is = holes.is; many = let c = holes.count_is in omega arith }
 
 pub IsColumn-from_few : (has : ℕ → Bool) (column : Extent) → IsColumnOf has column → HasFewHoles has → IsColumn column
 IsColumn-from_few has column is few = record { apart = is.apart; in_range = is.in_range; few = few column is }
 
 -- the empty column has no holes
-pub few-from_none : (has : ℕ → Bool) → ((c : ℕ) → has c ≡ false) → HasFewHoles has
-few-from_none has none = few-from_column has empty_column (record { apart = IsColumn-empty.apart; in_range = IsColumn-empty.in_range; means = λ c. column_has-empty c ∙ sym (none c) }) (omega arith)
+pub at_most-from_none : (has : ℕ → Bool) (most : ℕ) → ((c : ℕ) → has c ≡ false) → HasAtMostHoles has most
+at_most-from_none has most none = at_most-from_holes has 0 most (record { column = empty_column; is = record { apart = IsColumn-empty.apart; in_range = IsColumn-empty.in_range; means = λ c. column_has-empty c ∙ sym (none c) }; count_is = refl }) (omega arith)
 
 pub too_many-from_author : (set : Versions) (q : ℕ) → q < 64 → HasManyHoles (of_author set q) → HasTooManyHoles set
 too_many-from_author set q in_range many = record { author = q; author_in = in_range; column = many.column; apart = many.is.apart; in_range = many.is.in_range; means = many.is.means; many = many.many }
@@ -161,27 +167,28 @@ swept-onward has at t e is_out n o =
       | inr q ↦ omega arith
     ]
 
-pub SweptCount-many : (has : ℕ → Bool) (count at : ℕ) → has 0 ≡ false → SweptCount has count at → HasNoneFrom has at → 4096 < count → HasManyHoles has
-SweptCount-many has count at zero_out w none l = record { column = record { upto = at - 1; holes = w.holes }; is = swept-end has w.holes at zero_out w.swept none; many = let c = w.count_is in omega arith }
-
-pub SweptCount-few : (has : ℕ → Bool) (count at : ℕ) → has 0 ≡ false → SweptCount has count at → HasNoneFrom has at → count ≤ 4096 → HasFewHoles has
-SweptCount-few has count at zero_out w none l = few-from_column has (record { upto = at - 1; holes = w.holes }) (swept-end has w.holes at zero_out w.swept none) (let c = w.count_is in omega arith)
+pub SweptCount-end : (has : ℕ → Bool) (count at : ℕ) → has 0 ≡ false → SweptCount has count at → HasNoneFrom has at → HasHoles has count
+SweptCount-end has count at zero_out w none = record { column = record { upto = at - 1; holes = w.holes }; is = swept-end has w.holes at zero_out w.swept none; count_is = w.count_is }
 
 -- the authors below id are gone through
-pub few-next : (set : Versions) (id author : ℕ) → ((q : ℕ) → q < id → HasFewHoles (of_author set q)) → IsNextAuthor set id author → HasFewHoles (of_author set author) → (q : ℕ) → q < author + 1 → HasFewHoles (of_author set q)
-few-next set id author below n few q l = elim (cases_lt q id) [
-  | inl b ↦ below q b
+pub at_most-next : (set : Versions) (most more id author : ℕ) → most ≤ more → ((q : ℕ) → q < id → HasAtMostHoles (of_author set q) most) → IsNextAuthor set id author → HasAtMostHoles (of_author set author) more → (q : ℕ) → q < author + 1 → HasAtMostHoles (of_author set q) more
+at_most-next set most more id author le below n few q l = elim (cases_lt q id) [
+  | inl b ↦ λ column is. let h = below q b column is in omega arith
   | inr f ↦ elim (cases_eq q author) [
     | inl e ↦ rw e few
-    | inr e ↦ few-from_none (of_author set q) (n.between q f (omega arith))
+    | inr e ↦ at_most-from_none (of_author set q) more (n.between q f (omega arith))
   ]
 ]
 
-pub few-all : (set : Versions) (id : ℕ) → ((q : ℕ) → q < id → HasFewHoles (of_author set q)) → HasNoAuthorFrom set id → (q : ℕ) → HasFewHoles (of_author set q)
-few-all set id below none q = elim (cases_lt q id) [
+pub at_most-all : (set : Versions) (most id : ℕ) → ((q : ℕ) → q < id → HasAtMostHoles (of_author set q) most) → HasNoAuthorFrom set id → ColumnsHaveAtMost set most
+at_most-all set most id below none q = elim (cases_lt q id) [
   | inl b ↦ below q b
-  | inr f ↦ few-from_none (of_author set q) (none q f)
+  | inr f ↦ at_most-from_none (of_author set q) most (none q f)
 ]
+
+-- where each author has no more holes than a bound, the next one hasn't either
+pub holes-within : (set : Versions) (author count n : ℕ) → HasHoles (of_author set author) count → ColumnsHaveAtMost set n → count ≤ n
+holes-within set author count n holes most = let h = most author holes.column holes.is in let c = holes.count_is in omega arith
 
 -- the columns of the authors below id
 pub record GatheredTo (set : Versions) (columns : List AuthorColumn) (id : ℕ) : Type 0 where

@@ -5,7 +5,7 @@ use Rattle.mr_forms.specs.declared.fault.FormFault.TheVariants.{TooManyHoles}
 use Rattle.std.proofs.lemmas.Bool.{cases_eq, cases_lt, lt-ltb, le-ltb, eq-eqb, ne_eqb, lt-leb, le-leb}
 use Rattle.mr_version.specs.Name.{Name, name_eq}
 use Rattle.mr_forms.specs.Sets.{with_version}
-use Rattle.mr_forms.specs.declared.run.TheConstants.{MAX_COUNTER}
+use Rattle.mr_version.specs.declared.version.TheConstants.{MAX_COUNTER}
 use Rattle.mr_concise.proofs.NameLemmas.{name_eq_parts}
 use Rattle.mr_concise.specs.Column.{Extent, column_has, with_counter, empty_column, gap}
 use Rattle.mr_concise.specs.declared.vector.AuthorColumn.{AuthorColumn}

@@ -4,7 +4,7 @@ use Rattle.std.proofs.lemmas.List.Folds.{list_any-append}
 use Rattle.mr_version.specs.Name.{Name, name_eq}
 use Rattle.mr_forms.specs.Sets.{Versions, IsSame, is_listed, with_version}
 use Rattle.std.specs.List.{list_any}
-use Rattle.mr_concise.specs.AllOf.{in_all}
+use Rattle.mr_concise.specs.AnyOf.{in_any}
 use Rattle.mr_concise.proofs.NameLemmas.{name_eq_parts}
 use Rattle.mr_concise.specs.declared.vector.AuthorColumn.{AuthorColumn}
 use Rattle.mr_concise.specs.Column.{Extent}
@@ -23,8 +23,8 @@ name_eq-sym : (a b : Name) → name_eq a b ≡ name_eq b a
 name_eq-sym a b = name_eq_parts a b ∙ ap (λ x. x && (a.counter == b.counter)) (eq-sym a.author b.author) ∙ ap (λ x. (b.author == a.author) && x) (eq-sym a.counter b.counter) ∙ sym (name_eq_parts b a)
 
 -- the versions of a list, either way round
-pub in_all-names : (versions : List Name) → in_all name_eq versions ≡ is_listed versions
-in_all-names versions = let h : (v w : Name) → name_eq w v ≡ name_eq v w = λ v w. name_eq-sym w v in λ i v. list_any (λ w. h v w i) versions
+pub in_any-names : (versions : List Name) → in_any name_eq versions ≡ is_listed versions
+in_any-names versions = let h : (v w : Name) → name_eq w v ≡ name_eq v w = λ v w. name_eq-sym w v in λ i v. list_any (λ w. h v w i) versions
 
 or_none : (b : Bool) → (b || false) ≡ b
 or_none true = refl

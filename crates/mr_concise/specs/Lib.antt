@@ -6,7 +6,7 @@ pub mod Runs
 pub mod Equal
 pub mod Last
 pub mod Source
-pub mod AllOf
+pub mod AnyOf
 pub mod Meet
 pub mod Text
 pub mod Fragments

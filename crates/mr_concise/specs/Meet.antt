@@ -1,6 +1,6 @@
 use Rattle.std.specs.Prelude.{◌&&◌}
 use Rattle.mr_forms.specs.Sets.{Versions}
-use Rattle.mr_concise.specs.declared.meet.Meet.{Meet}
+use Rattle.mr_concise.specs.declared.sweep.Meet.{Meet}
 use Rattle.mr_concise.specs.Vector.{vector_has}
 
 -- what is in both sets

@@ -1,6 +1,7 @@
 use Rattle.std.specs.Prelude.{◌≡◌, ◌<◌, ◌≤◌, ℕ, Bool, false, length, Option, Some, None}
 use Rattle.mr_forms.specs.Sets.{Versions}
-use Rattle.mr_forms.specs.declared.run.TheConstants.{MAX_COUNTER}
+use Rattle.mr_forms.specs.Runs.{of_author}
+use Rattle.mr_version.specs.declared.version.TheConstants.{MAX_COUNTER}
 use Rattle.mr_concise.specs.declared.column.TheConstants.{MAX_HOLES}
 use Rattle.mr_concise.specs.Edges.{IsRising}
 use Rattle.mr_concise.specs.Column.{Extent, edges, column_has}
@@ -11,9 +12,23 @@ pub record IsColumnOf (has : ℕ → Bool) (column : Extent) : Type 0 where
   pub in_range : column.upto ≤ MAX_COUNTER
   pub means : (c : ℕ) → column_has column c ≡ has c
 
+-- the column of these counters has just so many holes
+pub record HasHoles (has : ℕ → Bool) (count : ℕ) : Type 0 where
+  pub column : Extent
+  pub is : IsColumnOf has column
+  pub count_is : count ≡ length column.holes
+
+-- the column of these counters has no more holes than that
+abbrev pub HasAtMostHoles : (ℕ → Bool) → ℕ → Type 0
+HasAtMostHoles has most = (column : Extent) → IsColumnOf has column → length column.holes ≤ most
+
+-- no author's column of the set has more holes than that
+abbrev pub ColumnsHaveAtMost : Versions → ℕ → Type 0
+ColumnsHaveAtMost set most = (q : ℕ) → HasAtMostHoles (of_author set q) most
+
 -- the column of these counters has no more holes than a column may have
 abbrev pub HasFewHoles : (ℕ → Bool) → Type 0
-HasFewHoles has = (column : Extent) → IsColumnOf has column → length column.holes ≤ MAX_HOLES
+HasFewHoles has = HasAtMostHoles has MAX_HOLES
 
 -- the column of these counters has more
 pub record HasManyHoles (has : ℕ → Bool) : Type 0 where

@@ -1,11 +1,12 @@
 use Rattle.std.specs.Prelude.{◌≡◌, ◌<◌, ◌≤◌, ◌+◌, ℕ, ◌==◌, ◌&&◌, nat_lt, if◌then◌else◌, List, [], ◌∷◌, length, refl, All}
 use Rattle.std.specs.Coded.{Coded, code_by, coded×, coded_ℕ}
 use Rattle.mr_forms.specs.Sets.{Versions, IsSame}
-use Rattle.mr_forms.specs.declared.run.TheConstants.{MAX_COUNTER}
+use Rattle.mr_version.specs.declared.version.TheConstants.{MAX_COUNTER}
 use Rattle.mr_concise.specs.declared.vector.AuthorColumn.{AuthorColumn}
 use Rattle.mr_concise.specs.declared.column.TheConstants.{MAX_HOLES}
 use Rattle.mr_concise.specs.Edges.{IsRising}
 use Rattle.mr_concise.specs.Column.{Extent, extent_code, edges, column_has, empty_column, IsColumn, with_counter}
+use Rattle.mr_version.specs.declared.author.TheConstants.{AUTHORS}
 
 abbrev pub author_column_code : Coded AuthorColumn
 author_column_code = code_by (ℕ × Extent) (coded× coded_ℕ extent_code) (λ x. (x.author, x.column)) (λ p. record { author = p.0; column = p.1 }) (λ _. refl)
@@ -22,7 +23,7 @@ vector_has columns v = column_has (column_of columns v.author) v.counter
 -- columns by strictly rising author, from low on, none empty
 abbrev pub IsVectorFrom : ℕ → List AuthorColumn → Type 0
 IsVectorFrom low [] = Unit {0}
-IsVectorFrom low (x ∷ xs) = (low ≤ x.author) × (1 ≤ x.column.upto) × IsColumn x.column × IsVectorFrom (x.author + 1) xs × (x.author < 64)
+IsVectorFrom low (x ∷ xs) = (low ≤ x.author) × (1 ≤ x.column.upto) × IsColumn x.column × IsVectorFrom (x.author + 1) xs × (x.author < AUTHORS)
 
 -- The vector of a set: columns as they have to be, with just the set's versions. A set has one at most.
 pub record IsVectorOf (set : Versions) (columns : List AuthorColumn) : Type 0 where
@@ -37,7 +38,7 @@ with_column new (x ∷ xs) = if nat_lt x.author new.author then x ∷ with_colum
 -- a column of the set has more holes than it may
 pub record HasTooManyHoles (set : Versions) : Type 0 where
   pub author : ℕ
-  pub author_in : author < 64
+  pub author_in : author < AUTHORS
   pub column : Extent
   pub apart : IsRising 0 (edges column)
   pub in_range : column.upto ≤ MAX_COUNTER
@@ -58,7 +59,7 @@ single author column = (record { author = author; column = column }) ∷ []
 
 -- none is empty, and each is a column of an author
 abbrev pub AreColumns : List AuthorColumn → Type 0
-AreColumns xs = All (λ x. (1 ≤ x.column.upto) × IsColumn x.column × (x.author < 64)) xs
+AreColumns xs = All (λ x. (1 ≤ x.column.upto) × IsColumn x.column × (x.author < AUTHORS)) xs
 
 -- the columns with each of these in its author's place, one after the other
 abbrev pub with_columns : List AuthorColumn → List AuthorColumn → List AuthorColumn

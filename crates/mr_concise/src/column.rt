@@ -4,7 +4,8 @@ ghost use Rattle.mr_concise.specs.Column.{Extent, hole_has, IsColumn, column_has
 
 use crate::column_ref::ColumnRef;
 use crate::holes::{fill, filled_count};
-use mr_forms::{FormFault, MAX_COUNTER};
+use mr_forms::FormFault;
+use mr_version::MAX_COUNTER;
 use std::alloc::{AllocError, Global};
 use std::marker::Model;
 

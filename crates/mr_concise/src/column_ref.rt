@@ -4,7 +4,7 @@ ghost use Rattle.mr_concise.specs.Next.{IsNextOut, IsNextIn, HasNoneFrom, HasNoH
 
 use crate::column::{COUNTERS_END, Hole};
 use crate::holes::hole_place_near;
-use mr_forms::MAX_COUNTER;
+use mr_version::MAX_COUNTER;
 use std::cell::Cell;
 use std::marker::Model;
 

@@ -4,7 +4,7 @@ ghost use Rattle.mr_forms.specs.Sets.{IsSame};
 ghost use Rattle.mr_concise.specs.Vector.{vector_has, IsVectorOf, HasTooManyHoles};
 ghost use Rattle.mr_concise.specs.Fragments.{IsConciseOf, IsTooHoley, items_text, fragment_text, knowledge_text};
 
-use crate::of_set::OfSet;
+use crate::source::OfSet;
 use crate::vector::ConciseVector;
 use mr_forms::{FormFault, Fragment, ItemSet, VersionSet};
 use std::alloc::{AllocError, Global};

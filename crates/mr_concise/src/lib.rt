@@ -21,30 +21,19 @@
 //! ```
 #![tactic(auto)]
 
-mod all_of;
 mod column;
 mod column_ref;
-mod equal;
 mod fragments;
 mod holes;
-mod insert;
-mod meet;
-mod of_set;
 mod order;
-mod runs;
 mod set;
 mod source;
-mod sources;
 mod sweep;
-mod text;
 mod union;
 mod vector;
-mod versions;
 
-pub use all_of::AllOf;
 pub use column::{COUNTERS_END, Column, Hole, MAX_HOLES};
 pub use fragments::{concise_fragments, knowledge_text};
-pub use of_set::OfSet;
-pub use source::Source;
-pub use sweep::would_have_too_many;
+pub use source::{AnyOf, OfSet, Source};
+pub use sweep::{most_holes, would_have_too_many};
 pub use vector::{AuthorColumn, ConciseVector};

@@ -1,16 +1,17 @@
-ghost use Rattle.std.specs.Prelude.{◌≡◌, ◌≤◌, ◌<◌, ◌-◌, ◌↔◌, ◌≢◌, false, IsTrue, IfOk, OnOk, OnErr, IsErrOf, Err, [], ◌∷◌};
+//! What every set of versions does.
+ghost use Rattle.std.specs.Prelude.{◌≡◌, ◌≤◌, ◌<◌, ◌-◌, ◌↔◌, ◌≢◌, false, IsTrue, IfOk, OnOk, OnErr, IsErrOf, Err, [], ◌∷◌, ◌+◌, ℕ, length};
 ghost use Rattle.mr_forms.specs.Sets.{Versions, IsSame, both, with_version, Covers};
 ghost use Rattle.mr_forms.specs.Runs.{with_run, AreRunsOf, HasVersionsAlone, HasNoAuthorFrom, IsNextAuthor, HasNoRunFrom, IsRunFrom};
-ghost use Rattle.mr_concise.specs.Column.{Extent};
-ghost use Rattle.mr_concise.specs.Vector.{vector_has, IsVectorFrom, HasTooManyHoles};
+ghost use Rattle.mr_concise.specs.Column.{Extent, empty_column, with_counter, IsColumn};
+ghost use Rattle.mr_concise.specs.Vector.{vector_has, IsVectorFrom, HasTooManyHoles, column_of, with_column, with_one};
+ghost use Rattle.mr_concise.specs.Runs.{EndBefore, AddsRuns};
 
-use crate::insert::insert_in;
-use crate::runs::push_runs;
+use crate::column::{Column, MAX_HOLES};
 use crate::union::{covers_columns, unite_columns, unite_run};
-use crate::vector::{AuthorColumn, ConciseVector, column_at, next_author};
+use crate::vector::{AuthorColumn, ConciseVector, column_at, next_author, place, put};
 use mr_forms::{FormFault, Run, VersionSet};
-use mr_version::{Author, Version};
-use std::alloc::Global;
+use mr_version::{Author, MAX_COUNTER, Version};
+use std::alloc::{AllocError, Global};
 
 impl VersionSet for ConciseVector {
     ghost has = { vector_has };
@@ -88,4 +89,59 @@ impl VersionSet for ConciseVector {
         }
         Ok(runs)
     }
+}
+
+/// One version more, in its author's column.
+pub(crate) fn insert_in(
+    columns: &mut Vec<AuthorColumn>,
+    alloc: Global,
+    author: Author,
+    counter: u32,
+) -> Result<(), FormFault>
+    requires columns { IsVectorFrom 0 columns.old.items }
+    requires counter { (1 ≤ counter) × (counter ≤ MAX_COUNTER) }
+    ensures ok { OnOk result (columns.new.items ≡ with_column (with_one columns.old.items author counter) columns.old.items) }
+    ensures many { IsErrOf result FormFault.TooManyHoles ↔ (MAX_HOLES < length (with_one columns.old.items author counter).column.holes) }
+    ensures items { result ≢ Err FormFault.TooManyItems }
+    ensures err { OnErr result (columns.new.items ≡ columns.old.items) }
+{
+    let at = place(columns, author);
+    if at < columns.len() && columns[at].author.id() == author.id() {
+        let found = &mut columns[at];
+        return found.column.insert(counter);
+    }
+    let mut column = Column::empty(alloc);
+    let Ok(()) = column.insert(counter) else {
+        return Err(FormFault::OutOfMemory);
+    };
+    let Ok(()) = put(columns, AuthorColumn { author, column }) else {
+        return Err(FormFault::OutOfMemory);
+    };
+    Ok(())
+}
+
+/// The runs of a column, put behind those of lower authors.
+pub(crate) fn push_runs(x: &AuthorColumn, runs: &mut Vec<Run>) -> Result<(), AllocError>
+    requires column { IsColumn x.now.column }
+    requires some { 1 ≤ x.now.column.upto }
+    requires before { EndBefore x.now.author 1 runs.old.items }
+    ensures { OnOk result (AddsRuns x.now.author x.now.column runs.old.items runs.new.items) }
+{
+    let mut start = 1;
+    for hole in x.column.holes() {
+        if start < hole.first {
+            runs.push(Run {
+                author: x.author,
+                first: start,
+                last: hole.first - 1,
+            })?;
+        }
+        start = hole.last + 1;
+    }
+    runs.push(Run {
+        author: x.author,
+        first: start,
+        last: x.column.upto(),
+    })?;
+    Ok(())
 }

@@ -1,21 +1,22 @@
-ghost use Rattle.std.specs.Prelude.{◌≡◌, ◌≤◌, ◌<◌, ◌↔◌, ◌≢◌, ℕ, true, false, IsTrue, IfOk, IsErrOf, Err, length};
-ghost use Rattle.mr_forms.specs.Sets.{IsSame};
+//! Vectors gathered of sources.
+ghost use Rattle.std.specs.Prelude.{◌≡◌, ◌≤◌, ◌<◌, ◌↔◌, ◌≢◌, ℕ, true, false, IsTrue, IfOk, IsErrOf, Err, length, OnOk};
+ghost use Rattle.mr_forms.specs.Sets.{IsSame, is_listed};
 ghost use Rattle.mr_concise.specs.Column.{Extent, column_has, IsColumn};
 ghost use Rattle.mr_forms.specs.Runs.{of_author};
-ghost use Rattle.mr_concise.specs.Source.{IsColumnOf, HasFewHoles, HasManyHoles};
+ghost use Rattle.mr_concise.specs.Source.{IsColumnOf, HasHoles, HasFewHoles, HasManyHoles, ColumnsHaveAtMost};
 ghost use Rattle.mr_concise.specs.Vector.{vector_has, column_of, IsVectorFrom, IsVectorOf, HasTooManyHoles};
+ghost use Rattle.mr_concise.specs.Meet.{in_both, meet_has};
 
 use crate::column::{Column, Hole, MAX_HOLES};
-use crate::source::Source;
-use crate::vector::{AuthorColumn, ConciseVector, put};
-use mr_forms::FormFault;
-use mr_version::Author;
+use crate::source::{AnyOf, Source};
+use crate::vector::{AuthorColumn, ConciseVector, column_at, next_author, put};
+use mr_forms::{FormFault, PlainVersions, VersionSet};
+use mr_version::{Author, Version};
 use std::alloc::{AllocError, Global};
 
-/// Whether an author's column would have too many holes.
-pub(crate) fn has_many_holes<S: Source>(source: &S, author: Author) -> bool
-    ensures many { result ≡ true → HasManyHoles (of_author (S.has source.now) author) }
-    ensures few { result ≡ false → HasFewHoles (of_author (S.has source.now) author) }
+/// How many holes an author's column would have.
+fn hole_count<S: Source>(source: &S, author: Author) -> usize
+    ensures { HasHoles (of_author (S.has source.now) author) result }
 {
     let mut count = 0;
     let mut at = source.next_out(author, 1);
@@ -23,7 +24,15 @@ pub(crate) fn has_many_holes<S: Source>(source: &S, author: Author) -> bool
         count += 1;
         at = source.next_out(author, start);
     }
-    count > MAX_HOLES
+    count
+}
+
+/// Whether an author's column would have too many holes.
+pub(crate) fn has_many_holes<S: Source>(source: &S, author: Author) -> bool
+    ensures many { result ≡ true → HasManyHoles (of_author (S.has source.now) author) }
+    ensures few { result ≡ false → HasFewHoles (of_author (S.has source.now) author) }
+{
+    hole_count(source, author) > MAX_HOLES
 }
 
 /// An author's column.
@@ -62,6 +71,20 @@ pub fn would_have_too_many<S: Source>(source: &S) -> bool
     false
 }
 
+/// The most holes that a column of a vector of the source would have. It allocates nothing.
+pub fn most_holes<S: Source>(source: &S) -> usize
+    ensures most { ColumnsHaveAtMost (S.has source.now) result }
+    ensures least { (n : ℕ) → ColumnsHaveAtMost (S.has source.now) n → result ≤ n }
+{
+    let mut most = 0;
+    let mut id = 0;
+    while let Some(author) = source.next_author(id) {
+        most = hole_count(source, author).max(most);
+        id = author.id() + 1;
+    }
+    most
+}
+
 /// The columns of all authors.
 fn gathered_columns<S: Source>(alloc: Global, source: &S) -> Result<Vec<AuthorColumn>, AllocError>
     requires { HasTooManyHoles (S.has source.now) → ⊥ }
@@ -81,7 +104,7 @@ fn gathered_columns<S: Source>(alloc: Global, source: &S) -> Result<Vec<AuthorCo
 }
 
 impl ConciseVector {
-    /// All versions of a source in one vector: of a set, of several of them ([`AllOf`](crate::AllOf), a
+    /// All versions of a source in one vector: of a set, of several of them ([`AnyOf`](crate::AnyOf), a
     /// pair), or of none. `TooManyHoles` exactly where a column of them all has more than 4,096 holes,
     /// whatever some of them alone would have; `OutOfMemory` only after it. Nothing is allocated before
     /// the holes are counted.
@@ -98,5 +121,95 @@ impl ConciseVector {
             return Err(FormFault::OutOfMemory);
         };
         Ok(ConciseVector { alloc, columns })
+    }
+}
+
+/// Two vectors of which the versions in both are wanted.
+#[derive(Drop)]
+pub(crate) struct Meet<'a> {
+    a: &'a ConciseVector,
+    b: &'a ConciseVector,
+}
+
+impl<'a> Source for Meet<'a> {
+    ghost has = { meet_has };
+
+    fn next_author(&self, id: u16) -> Option<Author> {
+        next_author(self.a.author_columns(), id)
+    }
+
+    fn next_out(&self, author: Author, from: u32) -> u32 {
+        let a = column_at(self.a.author_columns(), author).next_out(from);
+        let b = column_at(self.b.author_columns(), author).next_out(from);
+        a.min(b)
+    }
+
+    fn next_in(&self, author: Author, from: u32) -> Option<u32> {
+        let a = column_at(self.a.author_columns(), author);
+        let b = column_at(self.b.author_columns(), author);
+        let mut at = from;
+        loop {
+            let there = a.next_in(at)?;
+            let next = b.next_in(there)?;
+            if next == there {
+                return Some(next);
+            }
+            at = next;
+        }
+    }
+}
+
+impl ConciseVector {
+    /// The versions that both have. `TooManyHoles` exactly where one of its columns would have more
+    /// than 4,096 holes; `OutOfMemory` only after it.
+    pub fn meet(&self, other: &ConciseVector) -> Result<ConciseVector, FormFault>
+        ensures ok { IfOk result (λ meet. IsSame (vector_has meet) (in_both (vector_has self.now) (vector_has other.now))) }
+        ensures canonical { IfOk result (λ meet. IsVectorOf (in_both (vector_has self.now) (vector_has other.now)) meet) }
+        ensures holes { IsErrOf result FormFault.TooManyHoles ↔ HasTooManyHoles (in_both (vector_has self.now) (vector_has other.now)) }
+        ensures items { result ≢ Err FormFault.TooManyItems }
+    {
+        ConciseVector::gather(self.alloc, &Meet { a: self, b: other })
+    }
+}
+
+/// The vector of the versions, by way of their set, which brings them in order. It may run out of
+/// memory before the holes are counted.
+fn by_set(alloc: Global, versions: &[Version]) -> Result<ConciseVector, FormFault>
+    ensures ok { IfOk result (λ vector. IsSame (vector_has vector) (is_listed versions.now)) }
+    ensures canonical { IfOk result (λ vector. IsVectorOf (is_listed versions.now) vector) }
+    ensures few { OnOk result (¬ HasTooManyHoles (is_listed versions.now)) }
+    ensures holes { IsErrOf result FormFault.TooManyHoles → HasTooManyHoles (is_listed versions.now) }
+    ensures items { result ≢ Err FormFault.TooManyItems }
+{
+    let mut set = PlainVersions::new(alloc);
+    for version in versions {
+        set.insert(*version)?;
+    }
+    ConciseVector::from_set(alloc, &set)
+}
+
+impl ConciseVector {
+    /// The vector of these versions, in any order. `TooManyHoles` exactly where one of its columns
+    /// would have more than 4,096 holes, whatever some of the versions alone would have;
+    /// `OutOfMemory` only after it.
+    ///
+    /// It takes time for the versions times the logarithm of their number. Only where memory ends the
+    /// holes are counted without any, which goes over the versions again and again.
+    pub fn from_versions(alloc: Global, versions: &[Version]) -> Result<ConciseVector, FormFault>
+        ensures ok { IfOk result (λ vector. IsSame (vector_has vector) (is_listed versions.now)) }
+        ensures canonical { IfOk result (λ vector. IsVectorOf (is_listed versions.now) vector) }
+        ensures holes { IsErrOf result FormFault.TooManyHoles ↔ HasTooManyHoles (is_listed versions.now) }
+        ensures items { result ≢ Err FormFault.TooManyItems }
+    {
+        match by_set(alloc, versions) {
+            Err(FormFault::OutOfMemory) => {
+                if would_have_too_many(&AnyOf { sources: versions }) {
+                    Err(FormFault::TooManyHoles)
+                } else {
+                    Err(FormFault::OutOfMemory)
+                }
+            }
+            answer => answer,
+        }
     }
 }

@@ -4,7 +4,7 @@ ghost use Rattle.mr_forms.specs.Sets.{both, Covers, IsSame};
 ghost use Rattle.mr_forms.specs.Runs.{with_run};
 ghost use Rattle.mr_concise.specs.Vector.{column_of, vector_has, IsVectorFrom, HasTooManyHoles, AreColumns, with_columns, with_column};
 
-use crate::sources::OneColumn;
+use crate::source::OneColumn;
 use crate::sweep::{gathered_column, has_many_holes};
 use crate::vector::{AuthorColumn, column_at, place, put};
 use mr_forms::{FormFault, Run};

@@ -1,0 +1,12 @@
+use Rattle.std.proofs.Common.{◌-◌}
+use Rattle.mr_forms.specs.Runs.{of_author}
+use Rattle.mr_concise.specs.Meet.{meet_has}
+use Rattle.mr_concise.proofs.MeetLemmas.{NoneTo}
+use Rattle.mr_concise.proofs.sweep.MeetSource.next_in.Given as goal
+use Rattle.mr_concise.specs.declared.column.TheConstants.{COUNTERS_END}
+
+abbrev pub invariant-loop-there : goal.invariant-loop-there
+invariant-loop-there l = NoneTo (of_author (meet_has l.self) l.fn.author) l.from l.at
+
+abbrev pub decreases-loop-there : goal.decreases-loop-there
+decreases-loop-there l = COUNTERS_END - l.at
