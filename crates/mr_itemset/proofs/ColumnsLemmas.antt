@@ -3,7 +3,7 @@ use Rattle.std.proofs.lemmas.Bool.Decides.{nat_tests}
 use Rattle.std.specs.List.{list_any}
 use Rattle.std.specs.Prelude.{not}
 use Rattle.std.proofs.lemmas.Bool.{cases_Bool, cases_lt, cases_eq, le-leb, lt-leb, lt-ltb, le-ltb, eq-eqb, ne_eqb}
-use Rattle.mr_forms.specs.declared.run.TheConstants.{MAX_COUNTER}
+use Rattle.mr_version.specs.declared.version.TheConstants.{MAX_COUNTER}
 use Rattle.mr_forms.specs.Sets.{IsSame, both}
 use Rattle.mr_concise.specs.declared.column.TheConstants.{MAX_HOLES}
 use Rattle.mr_concise.specs.declared.vector.AuthorColumn.{AuthorColumn}
@@ -18,7 +18,7 @@ use Rattle.mr_itemset.specs.Folded.{column_upto, both_columns, united, Fits}
 
 -- ---- the counters of a set, one after the other
 
-upto_low : (has : ℕ → Bool) (n : ℕ) → (column_upto has n).upto ≤ n
+pub upto_low : (has : ℕ → Bool) (n : ℕ) → (column_upto has n).upto ≤ n
 upto_low has zero = omega arith
 upto_low has (suc n) = go (cases_Bool (has (suc n))) (upto_low has n)
   where
@@ -75,7 +75,7 @@ within_swap : (a b c : Extent) → IsWithin a b c → IsWithin b a c
 within_swap a b c w = (w.1, w.0, let l = w.2 in omega arith)
 
 -- THE HOLES OF BOTH are no more than those of the one and of the other
-both_within : (f g : ℕ → Bool) (n : ℕ) → IsWithin (column_upto f n) (column_upto g n) (column_upto (λ c. f c || g c) n)
+pub both_within : (f g : ℕ → Bool) (n : ℕ) → IsWithin (column_upto f n) (column_upto g n) (column_upto (λ c. f c || g c) n)
 both_within f g zero = (omega arith, omega arith, omega arith)
 both_within f g (suc n) =
     go (cases_Bool (f (suc n))) (cases_Bool (g (suc n))) (both_within f g n)
@@ -94,7 +94,7 @@ bool_out : (c n : ℕ) (x : Bool) → (c ≡ suc n → x ≡ false) → ((nat_le
 bool_out c n x h = grind (arith, nat_tests)
 
 -- THE COLUMN has just these counters
-upto_means : (has : ℕ → Bool) (n : ℕ) → IsRising 0 (edges (column_upto has n)) × ((c : ℕ) → column_has (column_upto has n) c ≡ ((nat_le 1 c && nat_le c n) && has c))
+pub upto_means : (has : ℕ → Bool) (n : ℕ) → IsRising 0 (edges (column_upto has n)) × ((c : ℕ) → column_has (column_upto has n) c ≡ ((nat_le 1 c && nat_le c n) && has c))
 upto_means has zero = (
   (omega arith, tt),
   λ c. elim (cases_lt c 1) [

@@ -1,6 +1,6 @@
-use Rattle.std.proofs.Common.{◌≡◌, ◌<◌, ◌+◌, ◌⊎◌, ◌||◌, ◌++◌, ℕ, Bool, true, false, List, [], ◌∷◌, length, take, get_or, All, Contains, refl, ap, sym, ◌∙◌, arith, inl, inr}
+use Rattle.std.proofs.Common.{◌≡◌, ◌≤◌, ◌+◌, ◌⊎◌, ◌||◌, not, Bool, true, false, List, [], ◌∷◌, length, All, Contains, refl, sym, ◌∙◌, arith, inl, inr}
+use Rattle.std.specs.List.{filter}
 use Rattle.std.proofs.lemmas.Bool.{false≢true, cases_Bool}
-use Rattle.std.proofs.lemmas.List.{take_more}
 use Rattle.std.proofs.lemmas.List.Elements.{All-contains}
 use Rattle.mr_forms.specs.Sets.{Covers, both}
 use Rattle.mr_concise.specs.declared.vector.AuthorColumn.{AuthorColumn}
@@ -11,39 +11,51 @@ use Rattle.mr_itemset.specs.declared.knowledge.Listed.{Listed}
 use Rattle.mr_itemset.specs.Normal.{Normal, HasMore, IsNormal}
 use Rattle.mr_itemset.specs.Lacking.{Lacks}
 use Rattle.mr_itemset.specs.Folded.{Fits, united, gained, folded}
-use Rattle.mr_itemset.proofs.NormalLemmas.{contains_at}
+use Rattle.mr_itemset.specs.Entries.{vectors_of}
 use Rattle.mr_itemset.proofs.ColumnsLemmas.{united-vector, united-has}
 
 pub folded_listed : (k : Normal) (added : List AuthorColumn) → length (gained added (united k.all added) k.listed) ≡ length (folded k added).listed
 unfolding folded
 folded_listed k added = refl
 
--- one listed item more
-pub gained_push : (added all : List AuthorColumn) (xs : List Listed) (x : Listed) → length (gained added all (xs ++ x ∷ [])) ≡ length (gained added all xs) + length (gained added all (x ∷ []))
-gained_push added all [] x = omega arith
-gained_push added all (y ∷ ys) x = go (cases_Bool (vector_eq (united y.vector added) all)) (gained_push added all ys x)
+-- whether something is known still beyond what all then have
+abbrev pub stays : List AuthorColumn → List AuthorColumn → List AuthorColumn → Bool
+stays added all vector = not (vector_eq (united vector added) all)
+
+-- the listed items of which that is so
+pub gained_count : (added all : List AuthorColumn) (xs : List Listed) → length (filter (stays added all) (vectors_of xs)) ≡ length (gained added all xs)
+gained_count added all [] = refl
+gained_count added all (x ∷ xs) = go (cases_Bool (vector_eq (united x.vector added) all)) (gained_count added all xs)
   where
-    go : (vector_eq (united y.vector added) all ≡ true) ⊎ (vector_eq (united y.vector added) all ≡ false) → length (gained added all (ys ++ x ∷ [])) ≡ length (gained added all ys) + length (gained added all (x ∷ [])) → length (gained added all ((y ∷ ys) ++ x ∷ [])) ≡ length (gained added all (y ∷ ys)) + length (gained added all (x ∷ []))
-    go (inl e) rest = rw e rest
+    go : (vector_eq (united x.vector added) all ≡ true) ⊎ (vector_eq (united x.vector added) all ≡ false) → length (filter (stays added all) (vectors_of xs)) ≡ length (gained added all xs) → length (filter (stays added all) (vectors_of (x ∷ xs))) ≡ length (gained added all (x ∷ xs))
+    go (inl e) rest = rw e (omega arith)
     go (inr n) rest = rw n (omega arith)
 
--- it is listed still where it has something that all then lack
-pub gained_one : (added before : List AuthorColumn) (x : Listed) → IsVectorFrom 0 added → IsVectorFrom 0 before → Fits before added → Fits x.vector added → HasMore before x → Lacks (both (vector_has added) (vector_has before)) (vector_has x.vector) → length (gained added (united before added) (x ∷ [])) ≡ 1
-gained_one added before x va vb fb fx more lacks = go (cases_Bool (vector_eq (united x.vector added) (united before added)))
+pub gained_few : (added all : List AuthorColumn) (xs : List Listed) → length (gained added all xs) ≤ length xs
+gained_few added all [] = omega arith
+gained_few added all (x ∷ xs) = go (cases_Bool (vector_eq (united x.vector added) all)) (gained_few added all xs)
+  where
+    go : (vector_eq (united x.vector added) all ≡ true) ⊎ (vector_eq (united x.vector added) all ≡ false) → length (gained added all xs) ≤ length xs → length (gained added all (x ∷ xs)) ≤ length (x ∷ xs)
+    go (inl e) rest = rw e (omega arith)
+    go (inr n) rest = rw n (omega arith)
+
+-- it is so where the vector has something that all then lack
+stays_yes : (added before vector : List AuthorColumn) → IsVectorFrom 0 added → IsVectorFrom 0 before → IsVectorFrom 0 vector → Fits before added → Fits vector added → Lacks (both (vector_has added) (vector_has before)) (vector_has vector) → stays added (united before added) vector ≡ true
+stays_yes added before vector va vb vx fb fx lacks = go (cases_Bool (vector_eq (united vector added) (united before added)))
   where
     or_second : (a b : Bool) → b ≡ true → (a || b) ≡ true
     or_second true b e = refl
     or_second false b e = e
 
-    go : (vector_eq (united x.vector added) (united before added) ≡ true) ⊎ (vector_eq (united x.vector added) (united before added) ≡ false) → length (gained added (united before added) (x ∷ [])) ≡ 1
+    go : (vector_eq (united vector added) (united before added) ≡ true) ⊎ (vector_eq (united vector added) (united before added) ≡ false) → stays added (united before added) vector ≡ true
     go (inr n) = rw n refl
     go (inl e) =
-        let same = (vector_eq-same (united x.vector added) (united before added) (united-vector x.vector added more.vector_ok va fx) (united-vector before added vb va fb)).0 e in
-        absurd (false≢true (sym lacks.is_out ∙ sym (united-has before added vb va fb lacks.version) ∙ sym (same lacks.version) ∙ united-has x.vector added more.vector_ok va fx lacks.version ∙ or_second (vector_has added lacks.version) (vector_has x.vector lacks.version) lacks.is_in))
+        let same = (vector_eq-same (united vector added) (united before added) (united-vector vector added vx va fx) (united-vector before added vb va fb)).0 e in
+        absurd (false≢true (sym lacks.is_out ∙ sym (united-has before added vb va fb lacks.version) ∙ sym (same lacks.version) ∙ united-has vector added vx va fx lacks.version ∙ or_second (vector_has added lacks.version) (vector_has vector lacks.version) lacks.is_in))
 
 -- and no longer where all then have all of it
-pub gained_none : (added before : List AuthorColumn) (x : Listed) → IsVectorFrom 0 added → IsVectorFrom 0 before → Fits before added → Fits x.vector added → HasMore before x → Covers (both (vector_has added) (vector_has before)) (vector_has x.vector) → length (gained added (united before added) (x ∷ [])) ≡ 0
-gained_none added before x va vb fb fx more covers = rw alike refl
+stays_no : (added before vector : List AuthorColumn) → IsVectorFrom 0 added → IsVectorFrom 0 before → IsVectorFrom 0 vector → Fits before added → Fits vector added → Covers (vector_has vector) (vector_has before) → Covers (both (vector_has added) (vector_has before)) (vector_has vector) → stays added (united before added) vector ≡ false
+stays_no added before vector va vb vx fb fx more covers = rw alike refl
   where
     within : (a p y : Bool) → (y ≡ true → (p || a) ≡ true) → (a ≡ true → y ≡ true) → (p || y) ≡ (p || a)
     within a true y up down = refl
@@ -51,21 +63,23 @@ gained_none added before x va vb fb fx more covers = rw alike refl
     within true false false up down = down refl
     within false false false up down = refl
 
-    alike : vector_eq (united x.vector added) (united before added) ≡ true
-    alike = (vector_eq-same (united x.vector added) (united before added) (united-vector x.vector added more.vector_ok va fx) (united-vector before added vb va fb)).1
-        (λ v. united-has x.vector added more.vector_ok va fx v ∙ within (vector_has before v) (vector_has added v) (vector_has x.vector v) (covers v) (more.covers v) ∙ sym (united-has before added vb va fb v))
+    alike : vector_eq (united vector added) (united before added) ≡ true
+    alike = (vector_eq-same (united vector added) (united before added) (united-vector vector added vx va fx) (united-vector before added vb va fb)).1
+        (λ v. united-has vector added vx va fx v ∙ within (vector_has before v) (vector_has added v) (vector_has vector v) (covers v) (more v) ∙ sym (united-has before added vb va fb v))
 
--- one more of the listed items
-pub gained_more-one : (k : Normal) (added : List AuthorColumn) (xs : List Listed) (i : ℕ) (x : Listed) → xs ≡ k.listed → IsNormal k → IsVectorFrom 0 added → Fits k.all added → All (λ y. Fits y.vector added) k.listed → i < length xs → x ≡ get_or xs i x → Lacks (both (vector_has added) (vector_has k.all)) (vector_has x.vector) → length (gained added (united k.all added) (take (i + 1) xs)) ≡ length (gained added (united k.all added) (take i xs)) + 1
-gained_more-one k added xs i x same normal va fits fits_all within is lacks =
-    let has : Contains k.listed x = rw same at (contains_at xs i x within is) in
-    let push = gained_push added (united k.all added) (take i xs) x in
-    let one = gained_one added k.all x va normal.all_ok fits (All-contains (λ y. Fits y.vector added) k.listed x fits_all has) (All-contains (HasMore k.all) k.listed x normal.more has) lacks in
-    rw (take_more xs i x within ∙ ap (λ (y : Listed). take i xs ++ y ∷ []) (sym is)) (omega arith)
+-- the vector of a listed item
+abbrev IsListed : Normal → List AuthorColumn → Type 0
+IsListed k vector = (x : Listed) × (Contains k.listed x × (x.vector ≡ vector))
 
-pub gained_more-none : (k : Normal) (added : List AuthorColumn) (xs : List Listed) (i : ℕ) (x : Listed) → xs ≡ k.listed → IsNormal k → IsVectorFrom 0 added → Fits k.all added → All (λ y. Fits y.vector added) k.listed → i < length xs → x ≡ get_or xs i x → Covers (both (vector_has added) (vector_has k.all)) (vector_has x.vector) → length (gained added (united k.all added) (take (i + 1) xs)) ≡ length (gained added (united k.all added) (take i xs))
-gained_more-none k added xs i x same normal va fits fits_all within is covers =
-    let has : Contains k.listed x = rw same at (contains_at xs i x within is) in
-    let push = gained_push added (united k.all added) (take i xs) x in
-    let none = gained_none added k.all x va normal.all_ok fits (All-contains (λ y. Fits y.vector added) k.listed x fits_all has) (All-contains (HasMore k.all) k.listed x normal.more has) covers in
-    rw (take_more xs i x within ∙ ap (λ (y : Listed). take i xs ++ y ∷ []) (sym is)) (omega arith)
+-- one more of the vectors that are left
+pub counted_one : (k : Normal) (added vector : List AuthorColumn) (vectors rest : List (List AuthorColumn)) → IsNormal k → IsVectorFrom 0 added → Fits k.all added → All (λ x. Fits x.vector added) k.listed → IsListed k vector → vectors ≡ vector ∷ rest → Lacks (both (vector_has added) (vector_has k.all)) (vector_has vector) → length (filter (stays added (united k.all added)) vectors) ≡ length (filter (stays added (united k.all added)) rest) + 1
+counted_one k added vector vectors rest normal va fits each listed next lacks =
+    let more : HasMore k.all listed.0 = All-contains (HasMore k.all) k.listed listed.0 normal.more listed.1.0 in
+    let fit : Fits listed.0.vector added = All-contains (λ x. Fits x.vector added) k.listed listed.0 each listed.1.0 in
+    rw (next, stays_yes added k.all vector va normal.all_ok (rw listed.1.1 at more.vector_ok) fits (rw listed.1.1 at fit) lacks) (omega arith)
+
+pub counted_none : (k : Normal) (added vector : List AuthorColumn) (vectors rest : List (List AuthorColumn)) → IsNormal k → IsVectorFrom 0 added → Fits k.all added → All (λ x. Fits x.vector added) k.listed → IsListed k vector → vectors ≡ vector ∷ rest → Covers (both (vector_has added) (vector_has k.all)) (vector_has vector) → length (filter (stays added (united k.all added)) vectors) ≡ length (filter (stays added (united k.all added)) rest)
+counted_none k added vector vectors rest normal va fits each listed next covers =
+    let more : HasMore k.all listed.0 = All-contains (HasMore k.all) k.listed listed.0 normal.more listed.1.0 in
+    let fit : Fits listed.0.vector added = All-contains (λ x. Fits x.vector added) k.listed listed.0 each listed.1.0 in
+    rw (next, stays_no added k.all vector va normal.all_ok (rw listed.1.1 at more.vector_ok) fits (rw listed.1.1 at fit) (rw listed.1.1 at more.covers) covers) (omega arith)

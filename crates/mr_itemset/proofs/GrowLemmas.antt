@@ -1,11 +1,10 @@
-use Rattle.std.proofs.Common.{◌≡◌, ◌<◌, ◌⊎◌, ℕ, zero, suc, Bool, true, ◌||◌, List, [], ◌∷◌, ◌++◌, length, get_or, take, All, AllPairs, Contains, refl, ap, sym, ◌∙◌, arith, inl, inr}
+use Rattle.std.proofs.Common.{◌≡◌, ◌<◌, ◌⊎◌, ℕ, zero, suc, Bool, true, false, ◌||◌, List, [], ◌∷◌, ◌++◌, length, get_or, All, Contains, refl, ap, sym, ◌∙◌, arith, inl, inr}
 use Rattle.std.proofs.Math.ListN.{length-append}
-use Rattle.std.proofs.lemmas.List.Elements.{All-nil, All-cons, All-get_or, All-push, All-contains, Contains-push, Contains-push_cases, Contains-append_left}
+use Rattle.std.proofs.lemmas.List.Elements.{All-push, All-contains, Contains-push, Contains-push_cases, Contains-append_left}
 use Rattle.std.proofs.lemmas.List.Quantifiers.{all_pairs_push}
 use Rattle.mr_version.specs.Name.{Name}
 use Rattle.mr_forms.specs.Sets.{Versions, IsSame, both}
 use Rattle.mr_forms.specs.Known.{AreSame}
-use Rattle.mr_forms.proofs.PartLemmas.{AllPairs-head, AllPairs-tail}
 use Rattle.mr_concise.specs.declared.vector.AuthorColumn.{AuthorColumn}
 use Rattle.mr_concise.specs.Vector.{vector_has, IsVectorFrom}
 use Rattle.mr_itemset.specs.declared.knowledge.Listed.{Listed}
@@ -94,10 +93,10 @@ grown_known set k new normal grown all i v = go (vector_in-cases new.all new.lis
     go (inl e) = none e (vector_in-cases k.all k.listed i)
     go (inr y) = ap (λ (c : List AuthorColumn). vector_has c v) y.1.1.1 ∙ kept y.0 y.1.0 y.1.1.0
 
--- the items so far stand before the one that is read
-pub before_here : (xs : List Listed) (k : ℕ) (x : Listed) → AllPairs IsBefore xs → k < length xs → x ≡ get_or xs k x → All (λ y. IsBefore y x) (take k xs)
-before_here [] k x rising within is = absurd (omega arith)
-before_here (y ∷ ys) zero x rising within is = All-nil (λ z. IsBefore z x)
-before_here (y ∷ ys) (suc k) x rising within is =
-    All-cons (λ z. IsBefore z x) y (take k ys) (rw is (All-get_or (IsBefore y) ys k x (omega arith) (AllPairs-head IsBefore y ys rising)))
-    (before_here ys k x (AllPairs-tail IsBefore y ys rising) (omega arith) is)
+-- what all have then, the item has with what is added
+pub covers_grown : (set : Versions) (all before : List AuthorColumn) (x : Listed) → IsSame (vector_has all) (both set (vector_has before)) → HasMore before x → (v : Name) → vector_has all v ≡ true → both set (vector_has x.vector) v ≡ true
+covers_grown set all before x has more v there = within (set v) (vector_has before v) (vector_has x.vector v) (more.covers v) (sym (has v) ∙ there)
+  where
+    within : (s b y : Bool) → (b ≡ true → y ≡ true) → (s || b) ≡ true → (s || y) ≡ true
+    within true b y covers is_in = refl
+    within false b y covers is_in = covers is_in

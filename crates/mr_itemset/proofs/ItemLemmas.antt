@@ -76,12 +76,12 @@ item_placed k set item vector grown i v = ap (λ (c : List AuthorColumn). vector
 
 -- ---- how many are listed
 
-pub free_below : (n : Name) (xs : List Listed) → All (λ y. name_cmp n y.item ≡ Less) xs → list_any (name_eq n) (items_of xs) ≡ false
+free_below : (n : Name) (xs : List Listed) → All (λ y. name_cmp n y.item ≡ Less) xs → list_any (name_eq n) (items_of xs) ≡ false
 free_below n [] above = refl
 free_below n (x ∷ xs) above =
     rw (ap is_eq (All-head (λ y. name_cmp n y.item ≡ Less) x xs above)) (free_below n xs (All-tail (λ y. name_cmp n y.item ≡ Less) x xs above))
 
-pub lt_not_eq : (o : Ordering) → is_lt o ≡ true → is_eq o ≡ false
+lt_not_eq : (o : Ordering) → is_lt o ≡ true → is_eq o ≡ false
 lt_not_eq Less less = refl
 lt_not_eq Equal less = absurd (false≢true less)
 lt_not_eq Greater less = refl

@@ -2,7 +2,7 @@ use Rattle.std.proofs.Common.{◌≡◌, ◌<◌, ◌≤◌, ◌+◌, ◌-◌, �
 use Rattle.std.proofs.lemmas.List.Elements.{All-contains, All-head, All-tail, All-weaker}
 use Rattle.std.proofs.lemmas.Bool.{cases_Bool, cases_lt, cases_eq, lt-ltb, le-leb, lt-leb, eq-eqb, ne_eqb}
 use Rattle.mr_version.specs.Name.{Name, name_eq, IsVersion}
-use Rattle.mr_forms.specs.declared.run.TheConstants.{MAX_COUNTER}
+use Rattle.mr_version.specs.declared.version.TheConstants.{MAX_COUNTER}
 use Rattle.mr_forms.specs.Sets.{Versions, IsSame, Covers, both, with_version}
 use Rattle.mr_forms.specs.Known.{AreSame, with_below, with_learned_below}
 use Rattle.mr_forms.proofs.SetLemmas.{name_eq-parts}
@@ -35,7 +35,7 @@ InRange v = (1 ≤ v.counter) × (v.counter ≤ MAX_COUNTER) × (v.author < 64)
 pub in_range : (v : Name) → IsVersion v.author v.counter → InRange v
 in_range v is = (is.counter_from, is.counter_to, is.author_in)
 
-one_hole : (k : ℕ) → 1 ≤ k → length (with_counter empty_column k).holes ≤ 1
+pub one_hole : (k : ℕ) → 1 ≤ k → length (with_counter empty_column k).holes ≤ 1
 one_hole k from = elim (cases_lt (k - 1) 1) [
   | inl none ↦ rw (lt-ltb 0 k from, lt-leb 1 (k - 1) none) (omega arith)
   | inr some ↦ rw (lt-ltb 0 k from, le-leb 1 (k - 1) some) (omega arith)

@@ -10,8 +10,11 @@ pub mod SplitLemmas
 pub mod CountLemmas
 pub mod SplitLimitLemmas
 pub mod PlaceLemmas
+pub mod EntryLemmas
+pub mod WalkLemmas
 pub mod ItemLemmas
 pub mod RoomLemmas
+pub mod AtMostLemmas
 pub mod WithLemmas
 pub mod RisingLemmas
 pub mod EachLemmas

@@ -1,17 +1,16 @@
-use Rattle.std.proofs.Common.{◌≡◌, ◌<◌, ◌≤◌, ◌+◌, ◌⊎◌, ℕ, zero, suc, Bool, true, false, ◌&&◌, ◌==◌, List, [], ◌∷◌, length, get_or, All, AllPairs, Contains, refl, ap, sym, ◌∙◌, arith, inl, inr}
+use Rattle.std.proofs.Common.{◌≡◌, ◌<◌, ◌+◌, ◌⊎◌, ℕ, suc, Bool, true, false, List, [], ◌∷◌, AllPairs, Contains, refl, ap, sym, ◌∙◌, arith, inl, inr}
 use Rattle.std.specs.declared.cmp.Ordering.{Ordering}
 use Rattle.std.specs.declared.cmp.Ordering.TheVariants.{Less, Equal, Greater}
-use Rattle.std.specs.Ordering.{is_eq, is_lt, ordering_reverse}
+use Rattle.std.specs.Ordering.{is_eq}
 use Rattle.std.specs.List.{list_any}
-use Rattle.std.specs.List.Sorted.{IsPartitionedBy}
-use Rattle.std.proofs.lemmas.Bool.{false≢true, cases_Bool, cases_lt, or_parts}
+use Rattle.std.proofs.lemmas.Bool.{false≢true, cases_Bool, or_parts}
 use Rattle.std.proofs.lemmas.Cmp.{tied_itself}
-use Rattle.std.proofs.lemmas.List.Elements.{All-contains, All-head, All-tail, All-weaker}
+use Rattle.std.proofs.lemmas.List.Elements.{All-contains}
 use Rattle.mr_version.specs.Name.{Name, name_cmp, name_eq}
 use Rattle.mr_version.specs.Order.{names_total, exact_names}
 use Rattle.mr_forms.specs.Sets.{IsSame}
 use Rattle.mr_forms.specs.Known.{AreSame}
-use Rattle.mr_forms.proofs.SetLemmas.{name_eq-symmetric, name_eq-parts}
+use Rattle.mr_forms.proofs.SetLemmas.{name_eq-symmetric}
 use Rattle.mr_forms.proofs.PairLemmas.{name_eq-itself}
 use Rattle.mr_forms.proofs.PartLemmas.{AllPairs-head, AllPairs-tail, Contains-cases, Contains-here, Contains-there}
 use Rattle.mr_concise.specs.declared.vector.AuthorColumn.{AuthorColumn}
@@ -25,9 +24,6 @@ use Rattle.mr_itemset.specs.Normal.{Normal, items_of, IsBefore, vector_in, norma
 name_eq-less : (a b : Name) → name_cmp a b ≡ Less → name_eq a b ≡ false
 name_eq-less a b less = ap is_eq less
 
-name_eq-more : (a b : Name) → name_cmp a b ≡ Less → name_eq b a ≡ false
-name_eq-more a b less = name_eq-symmetric b a ∙ ap is_eq less
-
 equal_from_test : (o : Ordering) → is_eq o ≡ true → o ≡ Equal
 equal_from_test Less e = absurd (false≢true e)
 equal_from_test Equal e = refl
@@ -39,22 +35,7 @@ same_name a b e = exact_names a b (equal_from_test (name_cmp a b) e)
 less_not_more : (a b : Name) → name_cmp a b ≡ Less → name_cmp b a ≡ Less → ⊥
 less_not_more a b ab ba = let round = names_total.trans a b a ab ba in let same = tied_itself names_total a in cc
 
-pub more_from_not_less : (a b : Name) (o : Ordering) → name_cmp a b ≡ o → is_lt o ≡ false → (a ≡ b → ⊥) → name_cmp b a ≡ Less
-more_from_not_less a b Less e low other = absurd (false≢true (sym low))
-more_from_not_less a b Equal e low other = absurd (other (exact_names a b e))
-more_from_not_less a b Greater e low other = names_total.antisymm b a ∙ ap ordering_reverse e
-
-less_from_test : (o : Ordering) → is_lt o ≡ true → o ≡ Less
-less_from_test Less e = refl
-less_from_test Equal e = absurd (false≢true e)
-less_from_test Greater e = absurd (false≢true e)
-
 -- ---- what is known of an item
-
--- below all listed items there is what is known for all
-vector_in-past : (all : List AuthorColumn) (xs : List Listed) (i : Name) → All (λ x. name_cmp i x.item ≡ Less) xs → vector_in all xs i ≡ all
-vector_in-past all [] i above = refl
-vector_in-past all (x ∷ xs) i above = rw (name_eq-more i x.item (All-head (λ y. name_cmp i y.item ≡ Less) x xs above)) (vector_in-past all xs i (All-tail (λ y. name_cmp i y.item ≡ Less) x xs above))
 
 -- a listed item has its own vector
 pub vector_in-has : (all : List AuthorColumn) (xs : List Listed) (x : Listed) → AllPairs IsBefore xs → Contains xs x → vector_in all xs x.item ≡ x.vector
@@ -66,17 +47,6 @@ vector_in-has all (y ∷ ys) x sorted has = go (Contains-cases y x ys has) (λ t
     go (inr there) rest =
         let less : name_cmp y.item x.item ≡ Less = All-contains (IsBefore y) ys x (AllPairs-head IsBefore y ys sorted) there in
         rw (name_eq-less y.item x.item less) (rest there)
-
--- at the place where an item would stand it is not listed
-pub vector_in-missed : (all : List AuthorColumn) (xs : List Listed) (i : Name) (k : ℕ) → AllPairs IsBefore xs → ((j : ℕ) (d : Listed) → j < k → j < length xs → is_lt (name_cmp (get_or xs j d).item i) ≡ true) → ((d : Listed) → k < length xs → is_lt (name_cmp (get_or xs k d).item i) ≡ false) → ((d : Listed) → k < length xs → (get_or xs k d).item ≡ i → ⊥) → vector_in all xs i ≡ all
-vector_in-missed all [] i k sorted low high other = refl
-vector_in-missed all (y ∷ ys) i zero sorted low high other =
-    let more = more_from_not_less y.item i (name_cmp y.item i) refl (high y (omega arith)) (other y (omega arith)) in
-    rw (name_eq-more i y.item more) (vector_in-past all ys i (All-weaker (IsBefore y) (λ x. name_cmp i x.item ≡ Less) (λ x after. names_total.trans i y.item x.item more after) ys (AllPairs-head IsBefore y ys sorted)))
-vector_in-missed all (y ∷ ys) i (suc k) sorted low high other =
-    let less = less_from_test (name_cmp y.item i) (low 0 y (omega arith) (omega arith)) in
-    rw (name_eq-less y.item i less)
-    (vector_in-missed all ys i k (AllPairs-tail IsBefore y ys sorted) (λ j d before within. low (suc j) d (omega arith) (omega arith)) (λ d within. high d (omega arith)) (λ d within. other d (omega arith)))
 
 -- an item that is not listed has what is known for all
 pub vector_in-unlisted : (all : List AuthorColumn) (xs : List Listed) (i : Name) → list_any (name_eq i) (items_of xs) ≡ false → vector_in all xs i ≡ all
@@ -165,27 +135,3 @@ normal_unique a b na nb same =
     let all : a.all ≡ b.all = vectors_same a.all b.all na.all_ok nb.all_ok (λ v. ap (λ (c : List AuthorColumn). vector_has c v) (sym ea) ∙ same (record { author = 0; counter = suc (top (items_of a.listed) + top (items_of b.listed)) }) v ∙ ap (λ (c : List AuthorColumn). vector_has c v) eb) in
     let listed : a.listed ≡ b.listed = listed_unique a.listed b.listed na.rising nb.rising (lists_too a b na nb all same) (lists_too b a nb na (sym all) (λ i v. sym (same i v))) in
     ap (λ (c : List AuthorColumn). record { all = c; listed = a.listed }) all ∙ ap (λ (xs : List Listed). record { all = b.all; listed = xs }) listed
-
--- ---- a place among rising items
-
-pub partitioned : (xs : List Listed) (i : Name) → AllPairs IsBefore xs → IsPartitionedBy (λ x. is_lt (name_cmp x.item i)) xs
-partitioned xs i rising j k d le within low = go (cases_lt j k)
-  where
-    go : (j < k) ⊎ (k ≤ j) → is_lt (name_cmp (get_or xs j d).item i) ≡ true
-    go (inl less) = ap is_lt (names_total.trans (get_or xs j d).item (get_or xs k d).item i (rising j k d less within) (less_from_test (name_cmp (get_or xs k d).item i) low))
-    go (inr same) = let is : j ≡ k = omega arith in rw is low
-
--- what the test of two items says
-pub item_from_test : (a b : Name) → ((a.author == b.author) && (a.counter == b.counter)) ≡ true → a ≡ b
-item_from_test a b t = same_name a b (name_eq-parts a b ∙ t)
-
-pub item_not_from_test : (a b : Name) → ((a.author == b.author) && (a.counter == b.counter)) ≡ false → a ≡ b → ⊥
-item_not_from_test a b t e = false≢true (sym t ∙ sym (name_eq-parts a b) ∙ ap (λ (z : Name). name_eq a z) (sym e) ∙ name_eq-itself a)
-
-pub get_or-any : (xs : List Listed) (k : ℕ) (d e : Listed) → k < length xs → get_or xs k d ≡ get_or xs k e
-get_or-any [] k d e within = absurd (omega arith)
-get_or-any (x ∷ xs) zero d e within = refl
-get_or-any (x ∷ xs) (suc k) d e within = get_or-any xs k d e (omega arith)
-
-pub contains_at : (xs : List Listed) (k : ℕ) (x : Listed) → k < length xs → x ≡ get_or xs k x → Contains xs x
-contains_at xs k x within is = (k, within, sym is)

@@ -1,4 +1,4 @@
-use Rattle.std.proofs.Common.{◌≡◌, ◌<◌, ◌≤◌, ◌+◌, ◌⊎◌, ℕ, zero, suc, Bool, true, false, cond, List, [], ◌∷◌, ◌++◌, length, get_or, take, drop, set, All, AllPairs, refl, ap, sym, ◌∙◌, arith, inl, inr}
+use Rattle.std.proofs.Common.{◌≡◌, ◌≤◌, ◌+◌, ◌⊎◌, zero, suc, Bool, true, false, cond, List, [], ◌∷◌, length, All, AllPairs, refl, ap, sym, ◌∙◌, arith, inl, inr}
 use Rattle.std.specs.declared.cmp.Ordering.{Ordering}
 use Rattle.std.specs.declared.cmp.Ordering.TheVariants.{Less, Equal, Greater}
 use Rattle.std.specs.Ordering.{is_eq, is_lt, ordering_reverse}
@@ -22,10 +22,10 @@ name_cases a b Less e = inl e
 name_cases a b Equal e = inr (inl (exact_names a b e))
 name_cases a b Greater e = inr (inr (names_total.antisymm b a ∙ ap ordering_reverse e))
 
-not_lt-more : (a b : Name) → name_cmp b a ≡ Less → is_lt (name_cmp a b) ≡ false
+pub not_lt-more : (a b : Name) → name_cmp b a ≡ Less → is_lt (name_cmp a b) ≡ false
 not_lt-more a b more = ap is_lt (names_total.antisymm a b ∙ ap ordering_reverse more)
 
-not_lt-same : (a b : Name) → a ≡ b → is_lt (name_cmp a b) ≡ false
+pub not_lt-same : (a b : Name) → a ≡ b → is_lt (name_cmp a b) ≡ false
 not_lt-same a b e = ap (λ (z : Name). is_lt (name_cmp a z)) (sym e) ∙ not_lt-itself a
   where
     not_lt-itself : (a : Name) → is_lt (name_cmp a a) ≡ false
@@ -40,30 +40,11 @@ not_lt-same a b e = ap (λ (z : Name). is_lt (name_cmp a z)) (sym e) ∙ not_lt-
             impossible Greater e t = false≢true t
         go (inr not_less) = not_less
 
-same_test : (a b : Name) → a ≡ b → name_eq a b ≡ true
+pub same_test : (a b : Name) → a ≡ b → name_eq a b ≡ true
 same_test a b e = ap (λ (z : Name). name_eq a z) (sym e) ∙ name_eq-itself a
 
-other_test : (a b : Name) → name_cmp b a ≡ Less → name_eq a b ≡ false
+pub other_test : (a b : Name) → name_cmp b a ≡ Less → name_eq a b ≡ false
 other_test a b more = name_eq-symmetric a b ∙ ap is_eq more
-
--- ---- a place
-
-pub placed-insert : (new : Listed) (xs : List Listed) (i : ℕ) → ((k : ℕ) (d : Listed) → k < i → k < length xs → is_lt (name_cmp (get_or xs k d).item new.item) ≡ true) → ((d : Listed) → i < length xs → name_cmp new.item (get_or xs i d).item ≡ Less) → i ≤ length xs → placed new xs ≡ take i xs ++ new ∷ drop i xs
-placed-insert new [] zero before from fits = refl
-placed-insert new [] (suc i) before from fits = absurd (omega arith)
-placed-insert new (x ∷ xs) zero before from fits =
-    let more = from x (omega arith) in
-    rw (not_lt-more x.item new.item more, other_test x.item new.item more) refl
-placed-insert new (x ∷ xs) (suc i) before from fits =
-    rw (before 0 x (omega arith) (omega arith)) (ap (λ (ys : List Listed). x ∷ ys) (placed-insert new xs i (λ k d less within. before (suc k) d (omega arith) (omega arith)) (λ d within. from d (omega arith)) (omega arith)))
-
-pub placed-set : (new : Listed) (xs : List Listed) (i : ℕ) → ((k : ℕ) (d : Listed) → k < i → k < length xs → is_lt (name_cmp (get_or xs k d).item new.item) ≡ true) → ((d : Listed) → i < length xs → (get_or xs i d).item ≡ new.item) → i < length xs → placed new xs ≡ set xs i new
-placed-set new [] i before at fits = absurd (omega arith)
-placed-set new (x ∷ xs) zero before at fits =
-    let same = at x (omega arith) in
-    rw (not_lt-same x.item new.item same, same_test x.item new.item same) refl
-placed-set new (x ∷ xs) (suc i) before at fits =
-    rw (before 0 x (omega arith) (omega arith)) (ap (λ (ys : List Listed). x ∷ ys) (placed-set new xs i (λ k d less within. before (suc k) d (omega arith) (omega arith)) (λ d within. at d (omega arith)) (omega arith)))
 
 -- ---- what holds of the placed ones
 

@@ -5,6 +5,7 @@ pub mod ListingLaws
 pub mod Folded
 pub mod Growth
 pub mod Lacking
+pub mod Entries
 pub mod Placed
 pub mod Room
 pub mod Each

@@ -8,7 +8,7 @@ ghost use Rattle.mr_itemset.specs.ItemForm.{item_form, HasHoleyItem, ListsTooMan
 ghost use Rattle.mr_itemset.specs.Placed.{HasRoom};
 
 use crate::limits::lacks;
-use crate::settled::{Settled, place};
+use crate::settled::Settled;
 use mr_concise::{OfSet, Source, would_have_too_many};
 use mr_forms::{FormFault, MAX_ITEMS, VersionSet};
 use mr_version::ItemId;
@@ -18,12 +18,7 @@ impl Settled {
     pub(crate) fn lists(&self, item: ItemId) -> bool
         ensures { result ≡ list_any (name_eq item) (items_of self.now.listed) }
     {
-        let listed = self.listed();
-        let at = place(listed, item);
-        if at < listed.len() {
-            return listed[at].item == item;
-        }
-        false
+        self.listed().contains_key(&item)
     }
 
     /// Whether the item's vector would have too many holes with these versions. It allocates nothing.

@@ -39,7 +39,9 @@ impl ItemKnowledge {
         ensures normal { IsNormal self.now }
     {
         let parts = self.parts();
-        parts.settled.would_be_holey_with(item, parts.pending, set)
+        parts
+            .settled
+            .would_be_holey_with(item, None, parts.pending, set)
     }
 
     /// Whether the item's vector would have too many holes with the version and these.
@@ -53,8 +55,9 @@ impl ItemKnowledge {
         ensures no { result ≡ false → HasHoleyItem (with_learned_below true (normal_known self.now) item version (S.has below.now)) → HasHoleyItem (with_learned true (normal_known self.now) item version) }
     {
         let parts = self.parts();
-        let learned = (version, parts.pending);
-        parts.settled.would_be_holey_with(item, &learned, below)
+        parts
+            .settled
+            .would_be_holey_with(item, Some(version), parts.pending, below)
     }
 
     /// Whether the versions may be listed for the item.

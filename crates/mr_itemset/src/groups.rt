@@ -1,8 +1,9 @@
 ghost use Rattle.std.specs.Prelude.{◌≡◌, [], Err, IfOk, OnOk, OnErr};
+ghost use Rattle.mr_itemset.specs.Entries.{listed_as, listed_of};
 ghost use Rattle.mr_itemset.specs.Groups.{alone, with_item, grouped, all_grouped, ArePlaces};
 ghost use Rattle.mr_itemset.specs.Shown.{shown, shown_group};
 
-use crate::knowledge::Listed;
+use crate::settled::Vectors;
 use mr_concise::ConciseVector;
 use mr_forms::{FormFault, Fragment, ItemSet, VersionSet};
 use mr_version::ItemId;
@@ -29,15 +30,12 @@ impl<'a> Model for Group<'a> {
 
 impl<'a> Group<'a> {
     /// The group of one item.
-    fn of(x: &'a Listed, alloc: Global) -> Result<Group<'a>, AllocError>
-        ensures { IfOk result (λ group. group ≡ alone x.now) }
+    fn of(item: ItemId, vector: &'a ConciseVector, alloc: Global) -> Result<Group<'a>, AllocError>
+        ensures { IfOk result (λ group. group ≡ alone (listed_as item vector.now)) }
     {
         let mut items = Vec::new(alloc);
-        items.push(x.item)?;
-        Ok(Group {
-            vector: &x.vector,
-            items,
-        })
+        items.push(item)?;
+        Ok(Group { vector, items })
     }
 
     /// Its items, with a copy of their vector.
@@ -66,32 +64,32 @@ impl<'a> Group<'a> {
 fn add<'a>(
     groups: &mut Vec<Group<'a>>,
     places: &mut BTreeMap<&'a ConciseVector, usize>,
-    x: &'a Listed,
+    item: ItemId,
+    vector: &'a ConciseVector,
     alloc: Global,
 ) -> Result<(), AllocError>
     requires { ArePlaces (λ vector. vector.now) groups.old.items places.old }
-    ensures added { OnOk result (groups.new.items ≡ grouped groups.old.items x.now) }
+    ensures added { OnOk result (groups.new.items ≡ grouped groups.old.items (listed_as item vector.now)) }
     ensures places { OnOk result (ArePlaces (λ vector. vector.now) groups.new.items places.new) }
 {
-    let vector = &x.vector;
     match places.get(&vector) {
-        Some(at) => groups[*at].push(x.item)?,
+        Some(at) => groups[*at].push(item)?,
         None => {
             places.insert(vector, groups.len())?;
-            groups.push(Group::of(x, alloc)?)?;
+            groups.push(Group::of(item, vector, alloc)?)?;
         }
     }
     Ok(())
 }
 
 /// The listed items, grouped by their vectors: the groups stand by their first items.
-pub(crate) fn groups_of(listed: &[Listed], alloc: Global) -> Result<Vec<Group<'_>>, AllocError>
-    ensures { IfOk result (λ groups. groups.items ≡ all_grouped [] listed.now) }
+pub(crate) fn groups_of(listed: &Vectors, alloc: Global) -> Result<Vec<Group<'_>>, AllocError>
+    ensures { IfOk result (λ groups. groups.items ≡ all_grouped [] (listed_of listed.now.entries)) }
 {
     let mut groups = Vec::new(alloc);
     let mut places = BTreeMap::new(alloc);
-    for x in listed {
-        add(&mut groups, &mut places, x, alloc)?;
+    for (item, vector) in listed {
+        add(&mut groups, &mut places, *item, vector, alloc)?;
     }
     Ok(groups)
 }

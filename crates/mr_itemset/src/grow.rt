@@ -5,54 +5,52 @@ ghost use Rattle.mr_forms.specs.Known.{AreSame};
 ghost use Rattle.mr_concise.specs.Vector.{vector_has, IsVectorFrom};
 ghost use Rattle.mr_itemset.specs.Normal.{normal_known, IsNormal, IsBefore, HasMore};
 ghost use Rattle.mr_itemset.specs.ItemForm.{with_all};
+ghost use Rattle.mr_itemset.specs.Entries.{listed_as, listed_of};
 ghost use Rattle.mr_itemset.specs.Growth.{IsGrown, GainsListed};
 
+use crate::item::put_in;
 use crate::knowledge::Listed;
-use crate::settled::Settled;
+use crate::settled::{Settled, Vectors};
 use mr_concise::{ConciseVector, Source};
+use mr_version::ItemId;
 use std::alloc::{AllocError, Global};
+use std::collections::BTreeMap;
 
 /// Lists the item with all that is known of it and the added versions, unless all items have just that.
 fn push_grown<A: Source>(
-    listed: &mut Vec<Listed>,
+    listed: &mut Vectors,
     alloc: Global,
     all: &ConciseVector,
-    x: &Listed,
+    item: ItemId,
+    vector: &ConciseVector,
     added: &A,
 ) -> Result<(), AllocError>
     requires all { IsVectorFrom 0 all.now }
-    requires before { All (λ y. IsBefore y x.now) listed.old.items }
-    requires covers { (v : Name) → vector_has all.now v ≡ true → both (A.has added.now) (vector_has x.now.vector) v ≡ true }
-    ensures { OnOk result (GainsListed (A.has added.now) all.now x.now listed.old.items listed.new.items) }
+    requires before { All (λ y. IsBefore y (listed_as item vector.now)) (listed_of listed.old.entries) }
+    requires covers { (v : Name) → vector_has all.now v ≡ true → both (A.has added.now) (vector_has vector.now) v ≡ true }
+    ensures { OnOk result (GainsListed (A.has added.now) all.now (listed_as item vector.now) (listed_of listed.old.entries) (listed_of listed.new.entries)) }
 {
-    let Ok(vector) = ConciseVector::gather(alloc, &(added, &x.vector)) else {
+    let Ok(vector) = ConciseVector::gather(alloc, &(added, vector)) else {
         return Err(AllocError);
     };
     if vector == *all {
         return Ok(());
     }
-    listed.push(Listed {
-        item: x.item,
-        vector,
-    })?;
+    put_in(listed, Listed { item, vector })?;
     Ok(())
 }
 
 impl Settled {
     /// The listed items, with the added versions, of which more is known than of all.
-    fn grown_listed<A: Source>(
-        &self,
-        all: &ConciseVector,
-        added: &A,
-    ) -> Result<Vec<Listed>, AllocError>
+    fn grown_listed<A: Source>(&self, all: &ConciseVector, added: &A) -> Result<Vectors, AllocError>
         requires vector { IsVectorFrom 0 all.now }
         requires has { IsSame (vector_has all.now) (both (A.has added.now) (vector_has self.now.all)) }
-        ensures { IfOk result (λ listed. IsGrown (A.has added.now) all.now self.now.listed listed.items) }
+        ensures { IfOk result (λ listed. IsGrown (A.has added.now) all.now self.now.listed (listed_of listed.entries)) }
     {
         let alloc = self.allocator();
-        let mut listed = Vec::new(alloc);
-        for x in self.listed() {
-            push_grown(&mut listed, alloc, all, x, added)?;
+        let mut listed = BTreeMap::new(alloc);
+        for (item, vector) in self.listed() {
+            push_grown(&mut listed, alloc, all, *item, vector, added)?;
         }
         Ok(listed)
     }

@@ -1,51 +1,65 @@
-ghost use Rattle.std.specs.Prelude.{◌≡◌, ◌<◌, AllPairs, IsOk, OnOk, OnErr};
-ghost use Rattle.std.specs.Vec.{vec_len, vec_capacity};
+ghost use Rattle.std.specs.Prelude.{◌≡◌, IsSome, OnOk, OnErr};
+ghost use Rattle.std.specs.BTreeMap.{get, Updates, IsOrdered};
+ghost use Rattle.mr_version.specs.Name.{name_cmp};
 ghost use Rattle.mr_forms.specs.Sets.{IsSame, with_version};
 ghost use Rattle.mr_forms.specs.Known.{AreSame, with_below};
 ghost use Rattle.mr_concise.specs.Vector.{vector_has};
-ghost use Rattle.mr_itemset.specs.Normal.{normal_known, IsBefore};
+ghost use Rattle.mr_itemset.specs.Normal.{normal_known};
+ghost use Rattle.mr_itemset.specs.Entries.{listed_of};
 ghost use Rattle.mr_itemset.specs.Placed.{placed, HasRoom};
 
 use crate::knowledge::Listed;
-use crate::settled::{Settled, place};
+use crate::settled::{Settled, Vectors};
 use mr_concise::{ConciseVector, Source};
 use mr_forms::VersionSet;
 use mr_version::{ItemId, Version};
 use std::alloc::AllocError;
 
 /// Puts an item in its place.
-pub(crate) fn put_in(listed: &mut Vec<Listed>, new: Listed) -> Result<(), AllocError>
-    requires { AllPairs IsBefore listed.old.items }
-    ensures ok { OnOk result (listed.new.items ≡ placed new listed.old.items) }
-    ensures err { OnErr result (listed.new.items ≡ listed.old.items) }
-    ensures succeeds { vec_len listed.old < vec_capacity listed.old → IsOk result }
+pub(crate) fn put_in(listed: &mut Vectors, new: Listed) -> Result<(), AllocError>
+    ensures ok { OnOk result (listed_of listed.new.entries ≡ placed new (listed_of listed.old.entries)) }
+    ensures err { OnErr result (listed.new.entries ≡ listed.old.entries) }
 {
-    let at = place(listed, new.item);
-    if at < listed.len() && listed[at].item == new.item {
-        listed[at] = new;
-    } else {
-        listed.insert(at, new)?;
-    }
+    listed.insert(new.item, new.vector)?;
     Ok(())
+}
+
+/// Gives an item that is listed the vector that it had before, or lists it no longer. It allocates nothing.
+fn put_back(listed: &mut Vectors, item: ItemId, before: Option<ConciseVector>)
+    requires { IsSome (get name_cmp listed.old item) }
+    ensures updates { Updates name_cmp listed.old listed.new item before }
+    ensures ordered { IsOrdered name_cmp listed.new }
+{
+    match before {
+        Some(vector) => {
+            if let Some(place) = listed.get_mut(&item) {
+                *place = vector;
+            }
+        }
+        None => {
+            listed.remove(&item);
+        }
+    }
 }
 
 /// Puts an item in its place, and adds the version to those that are pending: both or neither.
 pub(crate) fn put_in_with(
-    listed: &mut Vec<Listed>,
+    listed: &mut Vectors,
     new: Listed,
     pending: &mut ConciseVector,
     version: Version,
 ) -> Result<(), AllocError>
-    requires { AllPairs IsBefore listed.old.items }
-    ensures ok { OnOk result (listed.new.items ≡ placed new listed.old.items) }
+    ensures ok { OnOk result (listed_of listed.new.entries ≡ placed new (listed_of listed.old.entries)) }
     ensures pending { OnOk result (IsSame (vector_has pending.new) (with_version (vector_has pending.old) version)) }
-    ensures err { OnErr result ((listed.new.items ≡ listed.old.items) × (pending.new ≡ pending.old)) }
+    ensures err { OnErr result ((listed.new.entries ≡ listed.old.entries) × (pending.new ≡ pending.old)) }
 {
-    listed.reserve(1)?;
+    let item = new.item;
+    let before = listed.insert(item, new.vector)?;
     let Ok(()) = pending.insert(version) else {
+        put_back(listed, item, before);
         return Err(AllocError);
     };
-    put_in(listed, new)
+    Ok(())
 }
 
 impl Settled {

@@ -1,35 +1,32 @@
-ghost use Rattle.std.specs.Prelude.{◌≡◌, false, [], IfOk, OnErr, Err};
+ghost use Rattle.std.specs.Prelude.{◌≡◌, false, [], AllPairs, IfOk, OnErr, Err};
 ghost use Rattle.mr_forms.specs.Known.{AreSame};
-ghost use Rattle.mr_itemset.specs.Normal.{normal_known};
+ghost use Rattle.mr_itemset.specs.Normal.{normal_known, IsBefore};
+ghost use Rattle.mr_itemset.specs.Entries.{listed_of};
 
+use crate::item::put_in;
 use crate::knowledge::Listed;
-use crate::settled::Settled;
+use crate::settled::{Settled, Vectors};
 use mr_concise::ConciseVector;
 use mr_forms::{FormFault, VersionSet};
 use mr_version::{ItemId, Version};
 use std::alloc::{AllocError, Global};
+use std::collections::BTreeMap;
 
-impl Listed {
-    fn copy(&self) -> Result<Listed, AllocError>
-        ensures { IfOk result (λ x. x ≡ self.now) }
-    {
-        let Ok(vector) = self.vector.copy() else {
+/// Equal vectors of the same items.
+fn copies(listed: &Vectors, alloc: Global) -> Result<Vectors, AllocError>
+    requires { AllPairs IsBefore (listed_of listed.now.entries) }
+    ensures { IfOk result (λ copies. listed_of copies.entries ≡ listed_of listed.now.entries) }
+{
+    let mut copies = BTreeMap::new(alloc);
+    for (item, vector) in listed {
+        let Ok(vector) = vector.copy() else {
             return Err(AllocError);
         };
-        Ok(Listed {
-            item: self.item,
+        let copy = Listed {
+            item: *item,
             vector,
-        })
-    }
-}
-
-/// Equal ones.
-pub(crate) fn copies(listed: &[Listed], alloc: Global) -> Result<Vec<Listed>, AllocError>
-    ensures { IfOk result (λ copies. copies.items ≡ listed.now) }
-{
-    let mut copies = Vec::new(alloc);
-    for x in listed {
-        copies.push(x.copy()?)?;
+        };
+        put_in(&mut copies, copy)?;
     }
     Ok(copies)
 }
@@ -40,7 +37,7 @@ impl Settled {
         ensures is { result ≡ record { all = []; listed = [] } }
         ensures nothing { AreSame (normal_known result) (λ _ _. false) }
     {
-        Settled::from_parts(alloc, ConciseVector::new(alloc), Vec::new(alloc))
+        Settled::from_parts(alloc, ConciseVector::new(alloc), BTreeMap::new(alloc))
     }
 
     /// An equal knowledge. `OutOfMemory` is its only fault.

@@ -60,8 +60,8 @@ impl Settled {
         if would_have_too_many(&(added, self.for_all())) {
             return true;
         }
-        for x in self.listed() {
-            if would_have_too_many(&(added, &x.vector)) {
+        for vector in self.vectors() {
+            if would_have_too_many(&(added, vector)) {
                 return true;
             }
         }

@@ -27,8 +27,8 @@ pub(crate) fn count_beyond(settled: &Settled, pending: &ConciseVector) -> usize
 {
     let all = (pending, settled.for_all());
     let mut count = 0;
-    for x in settled.listed() {
-        if lacks(&all, &x.vector) {
+    for vector in settled.vectors() {
+        if lacks(&all, vector) {
             count += 1;
         }
     }
@@ -83,8 +83,8 @@ impl ItemKnowledge {
         ensures yes { result ≡ true → All (λ x. Covers (normal_known self.now x.item) (vector_has x.vector)) settled.now.listed }
         ensures no { result ≡ false → ¬ All (λ x. Covers (normal_known self.now x.item) (vector_has x.vector)) settled.now.listed }
     {
-        for x in settled.listed() {
-            if self.item_lacks(x.item, &x.vector) {
+        for (item, vector) in settled.listed() {
+            if self.item_lacks(*item, vector) {
                 return false;
             }
         }

@@ -56,8 +56,8 @@ impl Settled {
         ensures bound { result ≤ MAX_HOLES }
     {
         let mut most = most_holes(self.for_all());
-        for x in self.listed() {
-            most = higher(most, most_holes(&x.vector));
+        for vector in self.vectors() {
+            most = higher(most, most_holes(vector));
         }
         most
     }

@@ -1,10 +1,8 @@
-ghost use Rattle.std.specs.Prelude.{◌≡◌, ◌≤◌, true, false, AllPairs, OnOk, OnErr, length};
-ghost use Rattle.std.specs.Ordering.{is_lt};
-ghost use Rattle.std.specs.List.Sorted.{IsPartitionPoint};
-ghost use Rattle.mr_version.specs.Name.{name_cmp};
+ghost use Rattle.std.specs.Prelude.{◌≡◌, OnOk, OnErr};
 ghost use Rattle.mr_forms.specs.Sets.{IsSame, with_version};
 ghost use Rattle.mr_concise.specs.Vector.{vector_has};
-ghost use Rattle.mr_itemset.specs.Normal.{Normal, IsBefore, IsNormal, vector_of};
+ghost use Rattle.mr_itemset.specs.Normal.{Normal, IsNormal, vector_of};
+ghost use Rattle.mr_itemset.specs.Entries.{listed_of, vectors_of};
 ghost use Rattle.mr_itemset.specs.Placed.{placed};
 
 use crate::item::{put_in, put_in_with};
@@ -12,42 +10,39 @@ use crate::knowledge::Listed;
 use mr_concise::ConciseVector;
 use mr_version::{ItemId, Version};
 use std::alloc::{AllocError, Global};
+use std::collections::BTreeMap;
+use std::collections::btree_map::Values;
 use std::marker::Model;
 
-/// Knowledge in its normal form: a vector for all items, and one for each listed item, by rising item.
+/// Vectors of items, by rising item.
+pub(crate) type Vectors = BTreeMap<ItemId, ConciseVector>;
+
+/// Knowledge in its normal form: a vector for all items, and one for each listed item.
 #[derive(Debug, Drop)]
 pub(crate) struct Settled {
     alloc: Global,
     all: ConciseVector,
-    listed: Vec<Listed>,
+    listed: Vectors,
 }
 
 impl Model for Settled {
     ghost use Rattle.mr_itemset.specs.Normal.{Normal, normal_code, IsNormal};
+    ghost use Rattle.mr_itemset.specs.Entries.{listed_of};
 
     ghost Value = { Normal };
 
     ghost coded = { normal_code };
 
-    ghost view = { λ k. record { all = k.all; listed = k.listed.items } };
+    ghost view = { λ k. record { all = k.all; listed = listed_of k.listed.entries } };
 
-    ghost invariant = { λ k. IsNormal (record { all = k.all; listed = k.listed.items }) };
-}
-
-/// How many listed items are lower than this one.
-pub(crate) fn place(listed: &[Listed], item: ItemId) -> usize
-    requires { AllPairs IsBefore listed.now }
-    ensures bound { result ≤ length listed.now }
-    ensures place { IsPartitionPoint (λ x. is_lt (name_cmp x.item item) ≡ true) (λ x. is_lt (name_cmp x.item item) ≡ false) listed.now result }
-{
-    listed.partition_point(|x| x.item < item)
+    ghost invariant = { λ k. IsNormal (record { all = k.all; listed = listed_of k.listed.entries }) };
 }
 
 impl Settled {
     /// The knowledge with these parts, which are in normal form.
-    pub(crate) fn from_parts(alloc: Global, all: ConciseVector, listed: Vec<Listed>) -> Settled
-        requires { IsNormal (record { all = all; listed = listed.items }) }
-        ensures { result ≡ record { all = all; listed = listed.items } }
+    pub(crate) fn from_parts(alloc: Global, all: ConciseVector, listed: Vectors) -> Settled
+        requires { IsNormal (record { all = all; listed = listed_of listed.entries }) }
+        ensures { result ≡ record { all = all; listed = listed_of listed.entries } }
     {
         Settled { alloc, all, listed }
     }
@@ -65,11 +60,19 @@ impl Settled {
     }
 
     /// The items of which more is known, by rising item.
-    pub(crate) fn listed(&self) -> &[Listed]
-        ensures is { result.now ≡ self.now.listed }
+    pub(crate) fn listed(&self) -> &Vectors
+        ensures is { listed_of result.now.entries ≡ self.now.listed }
         ensures normal { IsNormal self.now }
     {
-        self.listed.as_slice()
+        &self.listed
+    }
+
+    /// What is known of each listed item, by rising item.
+    pub(crate) fn vectors(&self) -> Values<'_, ItemId, ConciseVector>
+        ensures is { result ≡ vectors_of self.now.listed }
+        ensures normal { IsNormal self.now }
+    {
+        self.listed.values()
     }
 
     /// Lists the item with all that is known of it, in place of what was.
@@ -102,13 +105,9 @@ impl Settled {
         ensures is { result.now ≡ vector_of self.now item }
         ensures normal { IsNormal self.now }
     {
-        let at = place(&self.listed, item);
-        if at < self.listed.len() {
-            let found = &self.listed[at];
-            if found.item == item {
-                return &found.vector;
-            }
+        match self.listed.get(&item) {
+            Some(vector) => vector,
+            None => &self.all,
         }
-        &self.all
     }
 }

@@ -72,8 +72,10 @@ impl ItemKnowledge {
         Ok(())
     }
 
-    /// The fault that `learn_with` would answer where memory is there. It allocates nothing. Where the set
-    /// has something new it walks through what waits.
+    /// The fault that `learn_with` would answer where memory is there. It allocates nothing. It costs a
+    /// search in what waits for each run of the set and, where the set has something new, the runs of the
+    /// item's own vector and a number for each author of what waits; a walk through what waits only where a
+    /// limit may be near.
     pub fn may_learn_with<S: VersionSet>(
         &self,
         item: ItemId,

@@ -1,5 +1,8 @@
-use Rattle.std.proofs.Common.{◌≡◌, take}
+use Rattle.std.proofs.Common.{◌≡◌, map}
+use Rattle.mr_itemset.specs.Entries.{listed_of}
+use Rattle.mr_itemset.proofs.WalkLemmas.{lent}
 use Rattle.mr_itemset.proofs.learn.copies.Given as goal
 
-abbrev pub invariant-loop-x : goal.invariant-loop-x
-invariant-loop-x l = l.copies.items ≡ take l.x-index l.listed
+-- the items so far are copied
+abbrev pub invariant-loop-item : goal.invariant-loop-item
+invariant-loop-item l = listed_of l.copies.entries ≡ map lent l.yielded

@@ -1,31 +1,44 @@
-use Rattle.std.proofs.Common.{◌≡◌, length, take, ap, ◌∙◌, arith}
-use Rattle.std.proofs.Math.Seq.{take-length}
-use Rattle.mr_itemset.proofs.CountLemmas.{gained_more-one, gained_more-none}
+use Rattle.std.proofs.Common.{◌∙◌, arith}
+use Rattle.std.specs.Map.Iter.{deref}
+use Rattle.std.proofs.lemmas.Map.Iter.{rest_more, rest_all}
+use Rattle.mr_itemset.specs.Folded.{united}
+use Rattle.mr_itemset.proofs.CountLemmas.{gained_count, gained_few, counted_one, counted_none}
+use Rattle.mr_itemset.proofs.WalkLemmas.{read_vector}
 use Rattle.mr_itemset.proofs.listing.count_beyond.Goals as goal
-use Rattle.mr_itemset.proofs.listing.count_beyond.Goals.{then-lacks, else-lacks}
 
-pub loop-x-preserved : goal.loop-x-preserved
-loop-x-preserved c =
-    let counted = c.loop-x.invariant.counted in
-    let few = c.loop-x.invariant.few in
-    elim c.if-lacks.branch [
-      | then-lacks w ↦
-          let one = gained_more-one c.args.settled.now c.args.pending.now c.listed-x-items.result.now c.loop-x.x-index c.x-item.result c.listed-x-items.ensures.is c.listed-x-items.ensures.normal c.requires.vector c.requires.all c.requires.listed (omega arith) c.x-item.is (rw c.for_all.ensures.is at (c.lacks.ensures.yes w.if-lacks.true)) in
-          record { counted = rw w.count-is (omega arith); few = rw w.count-is (omega arith) }
-      | else-lacks w ↦
-          let none = gained_more-none c.args.settled.now c.args.pending.now c.listed-x-items.result.now c.loop-x.x-index c.x-item.result c.listed-x-items.ensures.is c.listed-x-items.ensures.normal c.requires.vector c.requires.all c.requires.listed (omega arith) c.x-item.is (rw c.for_all.ensures.is at (c.lacks.ensures.no w.if-lacks.false)) in
-          record { counted = rw w.count-is (omega arith); few = rw w.count-is (omega arith) }
-    ]
+pub loop-vector-init : goal.loop-vector-init
+loop-vector-init c =
+    let count = gained_count c.args.pending.now (united c.args.settled.now.all c.args.pending.now) c.args.settled.now.listed in
+    rw (c.into_iter-vector-iterator.ensures.into_iter_gives ∙ c.vectors-vector-items.ensures.is) (omega arith)
+
+pub overflow_add-count : goal.overflow_add-count
+overflow_add-count c =
+    let few = gained_few c.args.pending.now (united c.args.settled.now.all c.args.pending.now) c.args.settled.now.listed in
+    let most = c.vectors-vector-items.ensures.normal.few in
+    omega arith
+
+pub loop-vector-preserved-then-lacks : goal.loop-vector-preserved-then-lacks
+loop-vector-preserved-then-lacks c =
+    let next = rest_more deref _ _ _ _ c.in-Some.is c.next.ensures.steps in
+    let read = read_vector _ _ _ _ _ _ _ (c.into_iter-vector-iterator.ensures.into_iter_gives ∙ c.vectors-vector-items.ensures.is) c.loop-vector.yielded_by c.in-Some.is c.next.ensures.steps in
+    let one = counted_one c.args.settled.now c.args.pending.now c.in-Some.vector.now c.loop-vector.vector-iterator c.next.new.self c.vectors-vector-items.ensures.normal c.requires.vector c.requires.all c.requires.listed read next (rw c.for_all.ensures.is at (c.lacks.ensures.yes c.if-lacks.true)) in
+    omega arith
+
+pub loop-vector-preserved : goal.loop-vector-preserved
+loop-vector-preserved c =
+    let next = rest_more deref _ _ _ _ c.in-Some.is c.next.ensures.steps in
+    let read = read_vector _ _ _ _ _ _ _ (c.into_iter-vector-iterator.ensures.into_iter_gives ∙ c.vectors-vector-items.ensures.is) c.loop-vector.yielded_by c.in-Some.is c.next.ensures.steps in
+    let none = counted_none c.args.settled.now c.args.pending.now c.in-Some.vector.now c.loop-vector.vector-iterator c.next.new.self c.vectors-vector-items.ensures.normal c.requires.vector c.requires.all c.requires.listed read next (rw c.for_all.ensures.is at (c.lacks.ensures.no c.if-lacks.false)) in
+    omega arith
 
 pub returns-clause-count : goal.returns-clause-count
 returns-clause-count c =
-    let at_end : c.loop-x.x-index ≡ length c.listed-x-items.result.now = omega arith in
-    let whole : take c.loop-x.x-index c.listed-x-items.result.now ≡ c.listed-x-items.result.now = ap (λ k. take k c.listed-x-items.result.now) at_end ∙ take-length c.listed-x-items.result.now in
-    rw (whole ∙ c.listed-x-items.ensures.is) at c.loop-x.invariant.counted
+    let none = rest_all deref _ _ _ c.in-None.is c.next.ensures.steps in
+    let whole = rw none at c.loop-vector.invariant in
+    omega arith
 
 pub returns-clause-bound : goal.returns-clause-bound
 returns-clause-bound c =
-    let items = ap length c.listed-x-items.ensures.is in
-    let most = c.listed-x-items.ensures.normal.few in
-    let few = c.loop-x.invariant.few in
+    let few = gained_few c.args.pending.now (united c.args.settled.now.all c.args.pending.now) c.args.settled.now.listed in
+    let most = c.vectors-vector-items.ensures.normal.few in
     omega arith

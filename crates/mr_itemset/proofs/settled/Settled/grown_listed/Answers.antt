@@ -1,16 +1,28 @@
-use Rattle.std.proofs.Common.{◌<◌, ◌++◌, ◌∷◌, [], take, length, sym, ◌∙◌, ap, arith}
-use Rattle.std.proofs.lemmas.List.{take_more}
-use Rattle.mr_itemset.specs.declared.knowledge.Listed.{Listed}
-use Rattle.mr_itemset.proofs.GrowLemmas.{before_here, before_next, grown_more}
+use Rattle.std.proofs.Common.{map, ap, ◌∙◌}
+use Rattle.std.proofs.lemmas.List.Elements.{All-contains}
+use Rattle.mr_itemset.specs.Entries.{listed_of}
+use Rattle.mr_itemset.specs.Normal.{HasMore}
+use Rattle.mr_itemset.proofs.WalkLemmas.{lent, items_next, items_more, items_all, lower_before, Contains-middle}
+use Rattle.mr_itemset.proofs.GrowLemmas.{before_next, grown_more, covers_grown}
 use Rattle.mr_itemset.proofs.settled.Settled.grown_listed.Goals as goal
 
 pub push_grown-requires-clause-before : goal.push_grown-requires-clause-before
 push_grown-requires-clause-before g c =
-    before_next (g.A.Source.has c.args.added.now) c.args.all.now (take c.loop-x.x-index c.listed-x-items.result.now) c.loop-x.listed.items c.x-item.result c.loop-x.invariant
-    (before_here c.listed-x-items.result.now c.loop-x.x-index c.x-item.result (rw (← c.listed-x-items.ensures.is) at c.listed-x-items.ensures.normal.rising) (omega arith) c.x-item.is)
+    let whole = items_next _ _ _ _ _ _ _ (ap listed_of c.into_iter-item-iterator.ensures.into_iter_gives.0 ∙ c.listed-item-items.ensures.is) c.loop-item.yielded_by c.in-Some.is c.next.ensures.steps in
+    before_next (g.A.Source.has c.args.added.now) c.args.all.now (map lent c.loop-item.yielded) (listed_of c.loop-item.listed.entries) (lent (c.in-Some.item, c.in-Some.vector)) c.loop-item.invariant
+    (lower_before (map lent c.loop-item.yielded) (listed_of c.next.new.self) (lent (c.in-Some.item, c.in-Some.vector)) (rw whole at c.listed-item-items.ensures.normal.rising))
 
-pub loop-x-preserved : goal.loop-x-preserved
-loop-x-preserved g c =
-    let within : c.loop-x.x-index < length c.listed-x-items.result.now = omega arith in
-    rw (take_more c.listed-x-items.result.now c.loop-x.x-index c.x-item.result within ∙ ap (λ (y : Listed). take c.loop-x.x-index c.listed-x-items.result.now ++ y ∷ []) (sym c.x-item.is))
-    (grown_more (g.A.Source.has c.args.added.now) c.args.all.now (take c.loop-x.x-index c.listed-x-items.result.now) c.loop-x.listed.items c.push_grown.new.listed.items c.x-item.result c.loop-x.invariant c.in_ok-push_grown.ensures)
+pub push_grown-requires-clause-covers : goal.push_grown-requires-clause-covers
+push_grown-requires-clause-covers g c =
+    let whole = items_next _ _ _ _ _ _ _ (ap listed_of c.into_iter-item-iterator.ensures.into_iter_gives.0 ∙ c.listed-item-items.ensures.is) c.loop-item.yielded_by c.in-Some.is c.next.ensures.steps in
+    covers_grown (g.A.Source.has c.args.added.now) c.args.all.now c.args.self.now.all (lent (c.in-Some.item, c.in-Some.vector)) c.requires.has
+    (All-contains (HasMore c.args.self.now.all) c.args.self.now.listed (lent (c.in-Some.item, c.in-Some.vector)) c.listed-item-items.ensures.normal.more (Contains-middle c.args.self.now.listed (map lent c.loop-item.yielded) (listed_of c.next.new.self) (lent (c.in-Some.item, c.in-Some.vector)) whole))
+
+pub loop-item-preserved : goal.loop-item-preserved
+loop-item-preserved g c =
+    rw (items_more c.loop-item.yielded (c.in-Some.item, c.in-Some.vector))
+    (grown_more (g.A.Source.has c.args.added.now) c.args.all.now (map lent c.loop-item.yielded) (listed_of c.loop-item.listed.entries) (listed_of c.push_grown.new.listed.entries) (lent (c.in-Some.item, c.in-Some.vector)) c.loop-item.invariant c.in_ok-push_grown.ensures)
+
+pub returns : goal.returns
+returns g c =
+    rw (items_all _ _ _ _ _ _ (ap listed_of c.into_iter-item-iterator.ensures.into_iter_gives.0 ∙ c.listed-item-items.ensures.is) c.loop-item.yielded_by c.in-None.is c.next.ensures.steps) at c.loop-item.invariant

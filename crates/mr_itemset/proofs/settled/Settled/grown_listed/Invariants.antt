@@ -1,7 +1,9 @@
-use Rattle.std.proofs.Common.{take}
+use Rattle.std.proofs.Common.{map}
+use Rattle.mr_itemset.specs.Entries.{listed_of}
 use Rattle.mr_itemset.specs.Growth.{IsGrown}
+use Rattle.mr_itemset.proofs.WalkLemmas.{lent}
 use Rattle.mr_itemset.proofs.settled.Settled.grown_listed.Given as goal
 
 -- the items so far have grown
-abbrev pub invariant-loop-x : goal.invariant-loop-x
-invariant-loop-x g l = IsGrown (g.A.Source.has l.added) l.all (take l.x-index l.x-items) l.listed.items
+abbrev pub invariant-loop-item : goal.invariant-loop-item
+invariant-loop-item g l = IsGrown (g.A.Source.has l.added) l.all (map lent l.yielded) (listed_of l.listed.entries)

@@ -4,12 +4,13 @@ use Rattle.mr_version.specs.Name.{name_eq}
 use Rattle.mr_forms.specs.declared.fragment.TheConstants.{MAX_ITEMS}
 use Rattle.mr_itemset.specs.Normal.{items_of}
 use Rattle.mr_itemset.proofs.RoomLemmas.{not_false}
+use Rattle.mr_itemset.proofs.EntryLemmas.{listed_of-length}
 use Rattle.mr_itemset.proofs.WithLemmas.{lists_too_many}
 use Rattle.mr_itemset.proofs.settled.Settled.has_room.Goals as goal
 
 pub returns-clause-no : goal.returns-clause-no
 returns-clause-no g c full =
     let free : list_any (name_eq c.args.item) (items_of c.args.self.now.listed) ≡ false = sym c.lists.ensures ∙ c.if-lists.false in
-    let many : MAX_ITEMS ≤ length c.args.self.now.listed = rw c.listed.ensures.is at c.if-listed-lt-MAX_ITEMS.false in
+    let many : MAX_ITEMS ≤ length c.args.self.now.listed = rw (← c.listed.ensures.is, listed_of-length c.listed.result.now.entries, ← c.len.ensures.len) c.if-len-lt-MAX_ITEMS.false in
     lists_too_many c.args.self.now (g.S.VersionSet.has c.args.set.now) c.args.item c.listed.ensures.normal many free
     (rw c.for_all.ensures.is at (c.lacks.ensures.yes (not_false c.lacks.result full)))

@@ -1,10 +1,10 @@
-use Rattle.std.proofs.Common.{◌≡◌, length, take, ap, ◌∙◌, arith}
-use Rattle.std.proofs.Math.Seq.{take-length}
+use Rattle.std.proofs.Common.{◌∙◌}
+use Rattle.mr_itemset.specs.Folded.{HasAtMost}
+use Rattle.mr_itemset.proofs.WalkLemmas.{All-read}
 use Rattle.mr_itemset.proofs.KeptLemmas.{sparse_all}
 use Rattle.mr_itemset.proofs.settled.Settled.most_holes.Goals as goal
 
 pub returns-clause-most : goal.returns-clause-most
 returns-clause-most c =
-    let at_end : c.loop-x.x-index ≡ length c.listed-x-items.result.now = omega arith in
-    let whole : take c.loop-x.x-index c.listed-x-items.result.now ≡ c.listed-x-items.result.now = ap (λ k. take k c.listed-x-items.result.now) at_end ∙ take-length c.listed-x-items.result.now in
-    sparse_all c.args.self.now c.loop-x.most c.loop-x.invariant.all (rw (whole ∙ c.listed-x-items.ensures.is) at c.loop-x.invariant.listed)
+    sparse_all c.args.self.now c.loop-vector.most c.loop-vector.invariant.all
+    (All-read (HasAtMost c.loop-vector.most) _ _ _ _ _ _ (c.into_iter-vector-iterator.ensures.into_iter_gives ∙ c.vectors-vector-items.ensures.is) c.loop-vector.yielded_by c.in-None.is c.next.ensures.steps c.loop-vector.invariant.listed)

@@ -1,0 +1,115 @@
+use Rattle.std.proofs.Common.{◌≡◌, ◌≤◌, ◌+◌, ◌⊎◌, ◌==◌, ◌||◌, ◌&&◌, ℕ, zero, suc, Bool, true, false, nat_le, List, length, refl, ap, sym, ◌∙◌, arith, inl, inr}
+use Rattle.std.specs.Prelude.{Option, Some, None}
+use Rattle.std.proofs.lemmas.Bool.{true≢false, cases_Bool, cases_lt, cases_eq, le-leb, eq-eqb, ne_eqb}
+use Rattle.mr_version.specs.Name.{Name, name_eq}
+use Rattle.mr_version.specs.declared.version.TheConstants.{MAX_COUNTER}
+use Rattle.mr_forms.specs.Sets.{Versions, both}
+use Rattle.mr_forms.specs.Runs.{of_author}
+use Rattle.mr_forms.proofs.SetLemmas.{name_eq-parts}
+use Rattle.mr_forms.proofs.PairLemmas.{name_eq-itself}
+use Rattle.mr_concise.specs.declared.column.TheConstants.{MAX_HOLES}
+use Rattle.mr_concise.specs.declared.vector.AuthorColumn.{AuthorColumn}
+use Rattle.mr_concise.specs.Column.{Extent, column_has, empty_column, with_counter}
+use Rattle.mr_concise.specs.Source.{IsColumnOf, HasAtMostHoles, ColumnsHaveAtMost, in_some}
+use Rattle.mr_concise.specs.Vector.{column_of, vector_has, IsVectorFrom, HasTooManyHoles}
+use Rattle.mr_concise.proofs.ColumnLemmas.{column_unique}
+use Rattle.mr_concise.proofs.InsertLemmas.{with_counter-means}
+use Rattle.mr_concise.proofs.LastLemmas.{column_has-above}
+use Rattle.mr_concise.proofs.SweepLemmas.{IsColumnOf-unique, at_most-from_holes, at_most-from_none, few-of_authors}
+use Rattle.mr_concise.proofs.UnionLemmas.{column_of-IsColumn, column_has-empty, IsColumn-empty}
+use Rattle.mr_concise.proofs.VectorInsertLemmas.{eq-sym}
+use Rattle.mr_itemset.specs.Folded.{column_upto, HasLeeway}
+use Rattle.mr_itemset.proofs.ColumnsLemmas.{upto_low, both_within, upto_means}
+use Rattle.mr_itemset.proofs.KeptLemmas.{one_hole}
+
+-- what a column has is from 1 to its bound
+column_in : (column : Extent) (c : ℕ) → column_has column c ≡ true → (1 ≤ c) × (c ≤ column.upto)
+column_in column zero is_in = absurd (true≢false (sym is_in))
+column_in column (suc c) is_in = elim (cases_lt column.upto (suc c)) [
+  | inl past ↦ absurd (true≢false (sym is_in ∙ column_has-above column (suc c) past))
+  | inr within ↦ (omega arith, within)
+]
+
+-- a set of counters from 1 to a bound has a column
+upto_is : (has : ℕ → Bool) (n : ℕ) → n ≤ MAX_COUNTER → ((c : ℕ) → has c ≡ true → (1 ≤ c) × (c ≤ n)) → IsColumnOf has (column_upto has n)
+upto_is has n bound within = record {
+  apart = (upto_means has n).0;
+  in_range = let low = upto_low has n in omega arith;
+  means = λ c. (upto_means has n).1 c ∙ go c (cases_Bool (has c));
+}
+  where
+    and_false : (b : Bool) → (b && false) ≡ false
+    and_false true = refl
+    and_false false = refl
+
+    go : (c : ℕ) → (has c ≡ true) ⊎ (has c ≡ false) → ((nat_le 1 c && nat_le c n) && has c) ≡ has c
+    go c (inl is_in) = let range = within c is_in in rw (le-leb 1 c range.0, le-leb c n range.1) refl
+    go c (inr is_out) = rw is_out (and_false (nat_le 1 c && nat_le c n))
+
+or_first : (a b : Bool) → a ≡ true → (a || b) ≡ true
+or_first true b e = refl
+or_first false b e = absurd (true≢false (sym e))
+
+or_second : (a b : Bool) → b ≡ true → (a || b) ≡ true
+or_second true b e = refl
+or_second false b e = e
+
+-- THE HOLES OF BOTH are no more than those of the one and of the other
+at_most-both : (f g : ℕ → Bool) (m n : ℕ) → HasAtMostHoles f m → HasAtMostHoles g n → HasAtMostHoles (λ c. f c || g c) (m + n)
+at_most-both f g m n few_f few_g column is =
+    let first = few_f (column_upto f column.upto) (upto_is f column.upto is.in_range (λ c e. column_in column c (is.means c ∙ or_first (f c) (g c) e))) in
+    let second = few_g (column_upto g column.upto) (upto_is g column.upto is.in_range (λ c e. column_in column c (is.means c ∙ or_second (f c) (g c) e))) in
+    let same = ap (λ (x : Extent). length x.holes) (IsColumnOf-unique (λ c. f c || g c) column (column_upto (λ c. f c || g c) column.upto) is (upto_is (λ c. f c || g c) column.upto is.in_range (λ c e. column_in column c (is.means c ∙ e)))) in
+    let together = (both_within f g column.upto).2 in
+    omega arith
+
+at_most-same : (f g : ℕ → Bool) (most more : ℕ) → ((c : ℕ) → f c ≡ g c) → most ≤ more → HasAtMostHoles f most → HasAtMostHoles g more
+at_most-same f g most more same le few column is = let h = few column (record { apart = is.apart; in_range = is.in_range; means = λ c. is.means c ∙ sym (same c) }) in omega arith
+
+-- the column of a vector's author
+at_most-vector : (columns : List AuthorColumn) (q : ℕ) → IsVectorFrom 0 columns → HasAtMostHoles (of_author (vector_has columns) q) (length (column_of columns q).holes)
+at_most-vector columns q ok =
+    let own = column_of-IsColumn 0 columns q ok in
+    at_most-from_holes (of_author (vector_has columns) q) (length (column_of columns q).holes) (length (column_of columns q).holes)
+    (record { column = column_of columns q; is = record { apart = own.apart; in_range = own.in_range; means = λ c. refl }; count_is = refl }) (omega arith)
+
+-- one version has one hole at most
+at_most-version : (v : Name) (q : ℕ) → HasAtMostHoles (of_author (name_eq v) q) 1
+at_most-version v q column is = go (cases_eq v.author q)
+  where
+    or_none : (b : Bool) → b ≡ (b || false)
+    or_none true = refl
+    or_none false = refl
+
+    go : (v.author ≡ q) ⊎ (v.author ≡ q → ⊥) → length column.holes ≤ 1
+    go (inl e) =
+        let from = (column_in column v.counter (is.means v.counter ∙ ap (λ (a : ℕ). name_eq v (record { author = a; counter = v.counter })) (sym e) ∙ name_eq-itself v)).0 in
+        let alone = with_counter-means empty_column v.counter IsColumn-empty.apart from in
+        let same = ap (λ (x : Extent). length x.holes) (column_unique column (with_counter empty_column v.counter) is.apart alone.0
+        (λ c. is.means c ∙ name_eq-parts v (record { author = q; counter = c }) ∙ ap (λ (b : Bool). b && (v.counter == c)) (eq-eqb v.author q e)
+        ∙ eq-sym v.counter c ∙ or_none (c == v.counter) ∙ sym (alone.1 c ∙ ap (λ (b : Bool). (c == v.counter) || b) (column_has-empty c)))) in
+        let one = one_hole v.counter from in
+        omega arith
+    go (inr n) = at_most-from_none (of_author (name_eq v) q) 1 (λ c. name_eq-parts v (record { author = q; counter = c }) ∙ ap (λ (b : Bool). b && (v.counter == c)) (ne_eqb v.author q n)) column is
+
+at_most-some : (version : Option Name) (q : ℕ) → HasAtMostHoles (of_author (in_some name_eq version) q) 1
+at_most-some None q = at_most-from_none (of_author (in_some name_eq None) q) 1 (λ c. refl)
+at_most-some (Some v) q = at_most-version v q
+
+regroup : (s o v p : Bool) → ((s || o) || (v || p)) ≡ (s || ((v || p) || o))
+regroup true o v p = refl
+regroup false true true p = refl
+regroup false true false true = refl
+regroup false true false false = refl
+regroup false false true p = refl
+regroup false false false true = refl
+regroup false false false false = refl
+
+-- WITH LEEWAY for an item's versions no column has too many holes with a version more and those that are pending
+pub leeway_few-with : (pending : List AuthorColumn) (version : Option Name) (set own : Versions) (most : ℕ) → IsVectorFrom 0 pending → ColumnsHaveAtMost (both set own) most → HasLeeway pending most → HasTooManyHoles (both set (both (both (in_some name_eq version) (vector_has pending)) own)) → ⊥
+leeway_few-with pending version set own most ok few leeway =
+    few-of_authors (both set (both (both (in_some name_eq version) (vector_has pending)) own))
+    (λ q. at_most-same (of_author (both (both set own) (both (in_some name_eq version) (vector_has pending))) q) (of_author (both set (both (both (in_some name_eq version) (vector_has pending)) own)) q) (most + (1 + length (column_of pending q).holes)) MAX_HOLES
+    (λ c. regroup (of_author set q c) (of_author own q c) (of_author (in_some name_eq version) q c) (of_author (vector_has pending) q c)) (let room = leeway q in omega arith)
+    (at_most-both (of_author (both set own) q) (of_author (both (in_some name_eq version) (vector_has pending)) q) most (1 + length (column_of pending q).holes) (few q)
+    (at_most-both (of_author (in_some name_eq version) q) (of_author (vector_has pending) q) 1 (length (column_of pending q).holes) (at_most-some version q) (at_most-vector pending q ok))))
