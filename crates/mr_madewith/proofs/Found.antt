@@ -7,7 +7,7 @@ use Rattle.std.specs.List.Sorted.{IsBinarySearchResult, IsSearchInRange}
 use Rattle.std.proofs.lemmas.List.Sorted.{searchable_from_sorted}
 use Rattle.mr_version.specs.Name.{Name, name_cmp, name_eq}
 use Rattle.mr_version.specs.Order.{exact_names, names_total}
-use Rattle.mr_madewith.specs.Keyed.{AreRising, named, without, placed}
+use Rattle.mr_madewith.specs.Keyed.{AreRising, named, without, inserted}
 use Rattle.mr_madewith.specs.Search.{IsFoundAt, IsGapFor}
 use Rattle.mr_madewith.proofs.Rising.{not_after, head_before, tail_rises, sorted_by_name, at_place}
 
@@ -23,7 +23,7 @@ module _ {X : Type 0} (name : X → Name) where
   unlike_after v (u ∷ us) h = (ap is_eq (names_total.antisymm u v) ∙ rw h.0 refl, unlike_after v us h.1)
 
   -- what goes before those after it goes first
-  pub first_place : (x : X) (xs : List X) → AllByRecursion (λ u. name_cmp (name x) u ≡ Less) (map name xs) → placed name x xs ≡ x ∷ xs
+  pub first_place : (x : X) (xs : List X) → AllByRecursion (λ u. name_cmp (name x) u ≡ Less) (map name xs) → inserted name x xs ≡ x ∷ xs
   first_place x [] h = refl
   first_place x (y ∷ ys) h = rw (not_after (name x) (name y) h.0) refl
 
@@ -44,7 +44,7 @@ module _ {X : Type 0} (name : X → Name) where
         let before : name_cmp (name x) v ≡ Less = subst (λ w. name_cmp (name x) w ≡ Less) (exact_names (name (get_or xs i x)) v (equal x)) (at_place name (λ u. name_cmp (name x) u ≡ Less) xs i x (omega arith) (head_before name x xs rising)) in
         rw before (ap (λ ys. x ∷ ys) (found_out xs i (tail_rises name x xs rising) (omega arith) equal))
 
-    found_over : (y : X) → name y ≡ v → (xs : List X) (i : ℕ) → AreRising name xs → i < length xs → HoldsAt (λ x. name_cmp (name x) v ≡ Equal) xs i → set xs i y ≡ placed name y (without name v xs)
+    found_over : (y : X) → name y ≡ v → (xs : List X) (i : ℕ) → AreRising name xs → i < length xs → HoldsAt (λ x. name_cmp (name x) v ≡ Equal) xs i → set xs i y ≡ inserted name y (without name v xs)
     found_over y is [] i rising within equal = absurd (omega arith)
     found_over y is (x ∷ xs) zero rising within equal =
         let same : name x ≡ v = exact_names (name x) v (equal x) in
@@ -59,7 +59,7 @@ module _ {X : Type 0} (name : X → Name) where
     gap_none (x ∷ xs) zero within low high = (rw (high 0 x (omega arith) (omega arith)) refl, gap_none xs 0 (omega arith) (λ k d a b. absurd (omega arith)) (λ k d a b. high (suc k) d (omega arith) (omega arith)))
     gap_none (x ∷ xs) (suc i) within low high = (rw (low 0 x (omega arith) (omega arith)) refl, gap_none xs i (omega arith) (λ k d a b. low (suc k) d (omega arith) (omega arith)) (λ k d a b. high (suc k) d (omega arith) (omega arith)))
 
-    gap_put : (y : X) → name y ≡ v → (xs : List X) (i : ℕ) → i ≤ length xs → AllWithin (λ x. name_cmp (name x) v ≡ Less) xs 0 i → AllWithin (λ x. name_cmp (name x) v ≡ Greater) xs i (length xs) → insert xs i y ≡ placed name y xs
+    gap_put : (y : X) → name y ≡ v → (xs : List X) (i : ℕ) → i ≤ length xs → AllWithin (λ x. name_cmp (name x) v ≡ Less) xs 0 i → AllWithin (λ x. name_cmp (name x) v ≡ Greater) xs i (length xs) → insert xs i y ≡ inserted name y xs
     gap_put y is [] zero within low high = refl
     gap_put y is [] (suc i) within low high = absurd (omega arith)
     gap_put y is (x ∷ xs) zero within low high = rw (is, high 0 x (omega arith) (omega arith)) refl

@@ -1,4 +1,4 @@
 pub mod Rising
 pub mod Found
-pub mod Placed
+pub mod Inserted
 pub mod MadeWithLemmas

@@ -8,7 +8,7 @@ use Rattle.std.specs.List.Sorted.{IsStrictlySortedBy, IsSortedBy}
 use Rattle.std.proofs.lemmas.Cmp.{tied_itself}
 use Rattle.mr_version.specs.Name.{Name, name_cmp, name_eq}
 use Rattle.mr_version.specs.Order.{exact_names, names_total}
-use Rattle.mr_madewith.specs.Keyed.{AreRising, named, without, placed, is_before}
+use Rattle.mr_madewith.specs.Keyed.{AreRising, named, without, inserted, is_before}
 
 -- a name is itself
 pub name_eq_self : (v : Name) → name_eq v v ≡ true
@@ -92,12 +92,12 @@ module _ {X : Type 0} (name : X → Name) where
         | false ↦ rises-filter p xs (tail_rises x xs h)
       ]
 
-  -- what holds of all names and of a new one holds once that one is placed
-  pub all_placed : (P : Name → Type 0) (r : X) (xs : List X) → P (name r) → AllByRecursion P (map name xs) → AllByRecursion P (map name (placed name r xs))
-  all_placed P r [] p h = (p, tt)
-  all_placed P r (x ∷ xs) p h =
-      elim (is_before (name x) (name r)) as (λ b. AllByRecursion P (map name (cond b (x ∷ placed name r xs) (r ∷ x ∷ xs)))) [
-        | true ↦ (h.0, all_placed P r xs p h.1)
+  -- what holds of all names and of a new one holds once that one is inserted
+  pub all_inserted : (P : Name → Type 0) (r : X) (xs : List X) → P (name r) → AllByRecursion P (map name xs) → AllByRecursion P (map name (inserted name r xs))
+  all_inserted P r [] p h = (p, tt)
+  all_inserted P r (x ∷ xs) p h =
+      elim (is_before (name x) (name r)) as (λ b. AllByRecursion P (map name (cond b (x ∷ inserted name r xs) (r ∷ x ∷ xs)))) [
+        | true ↦ (h.0, all_inserted P r xs p h.1)
         | false ↦ (p, h)
       ]
 
@@ -113,12 +113,12 @@ module _ {X : Type 0} (name : X → Name) where
   sides Greater h = inr refl
 
   -- rising names rise with a new one at its place
-  pub rises-placed : (r : X) (xs : List X) → named name (name r) xs ≡ None → AreRising name xs → AreRising name (placed name r xs)
-  rises-placed r [] none h = rises_from r [] tt h
-  rises-placed r (x ∷ xs) none h =
+  pub rises-inserted : (r : X) (xs : List X) → named name (name r) xs ≡ None → AreRising name xs → AreRising name (inserted name r xs)
+  rises-inserted r [] none h = rises_from r [] tt h
+  rises-inserted r (x ∷ xs) none h =
       let new : name_eq (name x) (name r) ≡ false = unnamed (name_eq (name x) (name r)) x (named name (name r) xs) none in
       elim (sides (name_cmp (name x) (name r)) new) [
-        | inl less ↦ rw less (rises_from x (placed name r xs) (all_placed (λ v. name_cmp (name x) v ≡ Less) r xs less (head_before x xs h)) (rises-placed r xs (rw new at none) (tail_rises x xs h)))
+        | inl less ↦ rw less (rises_from x (inserted name r xs) (all_inserted (λ v. name_cmp (name x) v ≡ Less) r xs less (head_before x xs h)) (rises-inserted r xs (rw new at none) (tail_rises x xs h)))
         | inr greater ↦ rw greater (rises_from r (x ∷ xs) (greater_is_after (name x) (name r) greater, all_after (name r) (name x) (map name xs) (greater_is_after (name x) (name r) greater) (head_before x xs h)) h)
       ]
 
@@ -136,8 +136,8 @@ module _ {X : Type 0} (name : X → Name) where
       ]
 
   -- rising names rise when the one of a name is replaced
-  pub rises-replaced : (r : X) (xs : List X) → AreRising name xs → AreRising name (placed name r (without name (name r) xs))
-  rises-replaced r xs h = rises-placed r (without name (name r) xs) (named-without (name r) xs) (rises-filter (λ x. not (name_eq (name x) (name r))) xs h)
+  pub rises-replaced : (r : X) (xs : List X) → AreRising name xs → AreRising name (inserted name r (without name (name r) xs))
+  rises-replaced r xs h = rises-inserted r (without name (name r) xs) (named-without (name r) xs) (rises-filter (λ x. not (name_eq (name x) (name r))) xs h)
 
   -- some of those among which there is none of a name have none of it
   pub named-filter : (p : X → Bool) (v : Name) (xs : List X) → named name v xs ≡ None → named name v (filter p xs) ≡ None

@@ -18,6 +18,6 @@ module _ {X : Type 0} (name : X → Name) where
   without v xs = filter (λ x. not (name_eq (name x) v)) xs
 
   -- the list with x at its place
-  abbrev pub placed : X → List X → List X
-  placed x [] = x ∷ []
-  placed x (y ∷ ys) = if is_before (name y) (name x) then y ∷ placed x ys else x ∷ y ∷ ys
+  abbrev pub inserted : X → List X → List X
+  inserted x [] = x ∷ []
+  inserted x (y ∷ ys) = if is_before (name y) (name x) then y ∷ inserted x ys else x ∷ y ∷ ys

@@ -2,7 +2,7 @@
 use Rattle.std.specs.Prelude.{ℕ, Option, List}
 use Rattle.mr_version.specs.Name.{Name}
 use Rattle.mr_madewith.specs.Revision.{Rev}
-use Rattle.mr_madewith.specs.Keyed.{named, without, placed}
+use Rattle.mr_madewith.specs.Keyed.{named, without, inserted}
 
 -- the item of a last version
 abbrev pub item_of_last : Rev → Name
@@ -19,4 +19,4 @@ last_of lasts item = named item_of_last item lasts
 
 -- the trail with a version that is now its item's last
 abbrev pub noted : Rev → List Rev → List Rev
-noted r lasts = placed item_of_last r (without item_of_last r.item lasts)
+noted r lasts = inserted item_of_last r (without item_of_last r.item lasts)

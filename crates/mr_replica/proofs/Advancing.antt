@@ -8,7 +8,7 @@ use Rattle.mr_session.proofs.DrawnLemmas.{same_gives}
 use Rattle.mr_store.specs.Holdings.{Holdings}
 use Rattle.mr_replica.specs.State.{State}
 use Rattle.mr_replica.specs.Next.{held_now, GivesNext}
-use Rattle.mr_replica.specs.Methods.{going_on}
+use Rattle.mr_replica.specs.Next.{going_on}
 use Rattle.mr_session.specs.declared.outgoing.onward.Onward.{Onward}
 use Rattle.mr_session.specs.Onward.{after_given, is_last, gone_on, advanced}
 use Rattle.mr_replica.specs.Sound.{AreWithin}

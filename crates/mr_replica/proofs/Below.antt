@@ -15,7 +15,7 @@ use Rattle.mr_madewith.specs.MadeWith.{own_before, by_bases, filled_below, AreCo
 use Rattle.mr_madewith.proofs.Rising.{same_names, name_eq_self, unnamed}
 use Rattle.std.specs.List.{All}
 use Rattle.std.proofs.lemmas.List.Elements.{All-append}
-use Rattle.mr_concise.specs.AllOf.{in_all}
+use Rattle.mr_concise.specs.AnyOf.{in_any}
 use Rattle.mr_store.specs.Revisions.{revision_of}
 use Rattle.mr_store.specs.Holdings.{Holdings}
 use Rattle.mr_store.specs.HeldVersions.{by_held}
@@ -53,13 +53,13 @@ needs_bases s admitted = later_none (retired s) (Some NoBase) admitted
 module _ {K : Type 0} (s : State K) where
   -- the held bases, the last version and the own column are what an admitted edit supersedes
   pub below_for-sources : (h : Holdings) (item : Name) (bases : List Name) (last : Option Rev) (new : Name) → h.heads ≡ s.heads → h.push_outs ≡ s.push_outs → last ≡ last_of s.trail item → new ≡ next_version s
-      → edit_refusal s bases ≡ None → filled_below (in_all (by_held h) bases) last new ≡ below_for s item bases
+      → edit_refusal s bases ≡ None → filled_below (in_any (by_held h) bases) last new ≡ below_for s item bases
   below_for-sources h item [] last new heads push_outs last_is new_is admitted = cc (needs_bases s admitted)
   below_for-sources h item (b ∷ bs) last new heads push_outs last_is new_is admitted =
       let lists : h.heads ++ h.push_outs ≡ s.heads ++ s.push_outs = ap (λ (rs : List Rev). rs ++ h.push_outs) heads ∙ ap (λ (rs : List Rev). s.heads ++ rs) push_outs in
-      let of_bases : (v : Name) → in_all (by_held h) (b ∷ bs) v ≡ by_bases (revisions_of s (b ∷ bs)) v =
+      let of_bases : (v : Name) → in_any (by_held h) (b ∷ bs) v ≡ by_bases (revisions_of s (b ∷ bs)) v =
       λ v. found_bases (λ u. revision_of (h.heads ++ h.push_outs) u) (b ∷ bs) v ∙ ap (λ (rs : List Rev). by_bases (filter_map (λ u. revision_of rs u) (b ∷ bs)) v) lists in
-      let same : (v : Name) → filled_below (in_all (by_held h) (b ∷ bs)) last new v ≡ below_for s item (b ∷ bs) v =
+      let same : (v : Name) → filled_below (in_any (by_held h) (b ∷ bs)) last new v ≡ below_for s item (b ∷ bs) v =
       λ v. ap (λ c. (c || in_some by_base last v) || own_before new v) (of_bases v)
       ∙ ap (λ (o : Option Rev). (by_bases (revisions_of s (b ∷ bs)) v || in_some by_base o v) || own_before new v) last_is
       ∙ ap (λ (n : Name). (by_bases (revisions_of s (b ∷ bs)) v || in_some by_base (last_of s.trail item) v) || own_before n v) new_is in

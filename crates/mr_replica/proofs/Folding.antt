@@ -16,7 +16,7 @@ use Rattle.mr_feed.specs.declared.entry.Entry.TheVariants.{Added, Dropped}
 use Rattle.mr_feed.specs.Entry.{told_entry}
 use Rattle.mr_madewith.specs.Revision.{Rev}
 use Rattle.mr_madewith.specs.Keyed.{is_before}
-use Rattle.mr_madewith.proofs.Rising.{name_eq_self, same_names, name_eq-swap, sides_of, unnamed, head_before, tail_rises, rises-filter, rises-placed, named-filter}
+use Rattle.mr_madewith.proofs.Rising.{name_eq_self, same_names, name_eq-swap, sides_of, unnamed, head_before, tail_rises, rises-filter, rises-inserted, named-filter}
 use Rattle.mr_store.specs.Revisions.{version_of, revision_of, holds, entered, AreInVersionOrder}
 use Rattle.mr_replica.specs.Issue.{dropped, added, if_so, entered_if, told_more}
 use Rattle.mr_replica.specs.Receive.{arrived, arrival_alone}
@@ -212,7 +212,7 @@ pub in_order_on : (p : Rev → Bool) (comer : Option Rev) (heads : List Rev) →
 in_order_on p None heads order new = rises-filter version_of (λ r. not (p r)) heads order
 in_order_on p (Some r) heads order new =
     let stays : Rev → Bool = λ r. not (p r) in
-    rises-placed version_of r (filter stays heads) (named-filter version_of stays r.version heads new) (rises-filter version_of stays heads order)
+    rises-inserted version_of r (filter stays heads) (named-filter version_of stays r.version heads new) (rises-filter version_of stays heads order)
 
 -- the same of one that comes if so
 pub folds_issued : (p : Rev → Bool) (b : Bool) (r : Rev) (feed : List Entry) (heads : List Rev) → AreInVersionOrder heads → revision_of heads r.version ≡ None → FoldsTo feed heads

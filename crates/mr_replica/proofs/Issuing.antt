@@ -8,7 +8,7 @@ use Rattle.mr_version.specs.Name.{Name, name_eq}
 use Rattle.mr_forms.specs.Known.{Form, AreSame}
 use Rattle.mr_concise.specs.declared.vector.AuthorColumn.{AuthorColumn}
 use Rattle.mr_madewith.specs.Revision.{Rev, IsRevision, has_below}
-use Rattle.mr_madewith.specs.Keyed.{without, placed, is_before}
+use Rattle.mr_madewith.specs.Keyed.{without, inserted, is_before}
 use Rattle.mr_madewith.specs.Trail.{item_of_last}
 use Rattle.mr_madewith.proofs.Rising.{same_names, name_eq_self}
 use Rattle.mr_store.specs.Revisions.{version_of, revision_of, supersedes, left_by}
@@ -22,16 +22,16 @@ use Rattle.mr_replica.proofs.Folding.{folds_issued, in_order_issued}
 use Rattle.mr_replica.proofs.Keeping.{within_later}
 
 -- what holds of all and of one more holds with that one at its place
-pub All-placed : {X : Type 0} (name : X → Name) (P : X → Type 0) (r : X) (xs : List X) → P r → All P xs → All P (placed name r xs)
-All-placed name P r [] p h = All-cons P r [] p h
-All-placed name P r (x ∷ xs) p h =
-    elim (is_before (name x) (name r)) as (λ b. All P (cond b (x ∷ placed name r xs) (r ∷ x ∷ xs))) [
-      | true ↦ All-cons P x (placed name r xs) (All-head P x xs h) (All-placed name P r xs p (All-tail P x xs h))
+pub All-inserted : {X : Type 0} (name : X → Name) (P : X → Type 0) (r : X) (xs : List X) → P r → All P xs → All P (inserted name r xs)
+All-inserted name P r [] p h = All-cons P r [] p h
+All-inserted name P r (x ∷ xs) p h =
+    elim (is_before (name x) (name r)) as (λ b. All P (cond b (x ∷ inserted name r xs) (r ∷ x ∷ xs))) [
+      | true ↦ All-cons P x (inserted name r xs) (All-head P x xs h) (All-inserted name P r xs p (All-tail P x xs h))
       | false ↦ All-cons P r (x ∷ xs) p h
     ]
 
 All-entered_if : (b : Bool) (P : Rev → Type 0) (r : Rev) (rs : List Rev) → P r → All P rs → All P (entered_if b r rs)
-All-entered_if true P r rs p h = All-placed version_of P r rs p h
+All-entered_if true P r rs p h = All-inserted version_of P r rs p h
 All-entered_if false P r rs p h = h
 
 -- a version that was not issued yet is none of these
@@ -91,7 +91,7 @@ module _ {K : Type 0} (form : Form K) (s : State K) (k : K) (r : Rev) (event : E
         no_later = All-entered_if b NoLater r left next_no_later (All-filter stays NoLater rs (All-weaker WasNoLater NoLater (λ q n. later_still q.version q.below n) rs h.no_later));
       }
 
-  issued_noted : AreIssued s.id (s.issued + 1) (placed item_of_last r (without item_of_last r.item s.trail))
+  issued_noted : AreIssued s.id (s.issued + 1) (inserted item_of_last r (without item_of_last r.item s.trail))
   issued_noted =
       let One : Rev → Type 0 = λ q. IsRevision q.item q.version q.below in
       let WasNoLater : Rev → Type 0 = λ q. AreNoLater s.id s.issued q.version q.below in
@@ -99,8 +99,8 @@ module _ {K : Type 0} (form : Form K) (s : State K) (k : K) (r : Rev) (event : E
       let of_others : Rev → Bool = λ l. not (name_eq l.item r.item) in
       let others = without item_of_last r.item s.trail in
       record {
-        are = All-placed item_of_last One r others next.is (All-filter of_others One s.trail sound.trail_issued.are);
-        no_later = All-placed item_of_last NoLater r others next_no_later (All-filter of_others NoLater s.trail (All-weaker WasNoLater NoLater (λ l n. later_still l.version l.below n) s.trail sound.trail_issued.no_later));
+        are = All-inserted item_of_last One r others next.is (All-filter of_others One s.trail sound.trail_issued.are);
+        no_later = All-inserted item_of_last NoLater r others next_no_later (All-filter of_others NoLater s.trail (All-weaker WasNoLater NoLater (λ l n. later_still l.version l.below n) s.trail sound.trail_issued.no_later));
       }
 
   -- its version is no head's yet

@@ -12,7 +12,7 @@ use Rattle.mr_forms.specs.declared.fault.FormFault.TheVariants as fault
 use Rattle.mr_concise.specs.Fragments.{ConciseFragment}
 use Rattle.mr_concise.specs.Vector.{vector_has}
 use Rattle.mr_wire.specs.Values.{Piece, piece_of, listed_items}
-use Rattle.mr_concise.specs.AllOf.{in_all}
+use Rattle.mr_concise.specs.AnyOf.{in_any}
 use Rattle.mr_madewith.specs.Revision.{Rev}
 use Rattle.mr_store.specs.Unheld.{is_unheld as covers_unheld}
 use Rattle.mr_session.specs.Session.{Session}
@@ -128,4 +128,4 @@ pieces_split (x ∷ xs) (suc k) f within at =
 
 -- what the fragments cover and no vector has is what the session says is unheld
 pub unheld_same : (fs : List ConciseFragment) (session : Session) → map piece_of fs ≡ session.know → (λ (r : Rev). covers_unheld fs session.held r.item r.version) ≡ is_unheld session
-unheld_same fs session is = λ i r. (ap (λ b. b && not (in_all vector_has session.held r.version)) (all_claimed fs r.item r.version ∙ ap (λ (ps : List Piece). claimed ps r.item r.version) is)) i
+unheld_same fs session is = λ i r. (ap (λ b. b && not (in_any vector_has session.held r.version)) (all_claimed fs r.item r.version ∙ ap (λ (ps : List Piece). claimed ps r.item r.version) is)) i

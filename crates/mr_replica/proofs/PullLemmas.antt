@@ -28,6 +28,7 @@ use Rattle.mr_replica.specs.declared.refusal.Refusal.TheVariants.{TooManySession
 use Rattle.mr_replica.proofs.Choice.{first_none, later_none, not_refused}
 use Rattle.mr_replica.proofs.Keeping.{within_later}
 use Rattle.mr_replica.proofs.Kept.{may_list, pieces_unique}
+use Rattle.mr_replica.specs.declared.replica.TheConstants.{MAX_EVENTS}
 
 -- ---- a frame carries the fragments of parts
 
@@ -195,7 +196,7 @@ module _ {K : Type 0} (s : State K) (admitted : pull_refusal s ≡ None) where
   session_room = leb-false most_open (length s.sessions.open_ones) (not_refused (nat_le most_open (length s.sessions.open_ones)) TooManySessions (first_none (refused_if (nat_le most_open (length s.sessions.open_ones)) TooManySessions) (log_full s) (later_none (retired s) (refused_if (nat_le most_open (length s.sessions.open_ones)) TooManySessions orelse log_full s) admitted)))
 
   -- there is a number for it
-  pub session_number : (form : Form K) → IsSound form s → s.sessions.opened < 1000000
+  pub session_number : (form : Form K) → IsSound form s → s.sessions.opened < MAX_EVENTS
   session_number form sound =
       let room : length s.log < s.event_limit = leb-false s.event_limit (length s.log) (not_refused (nat_le s.event_limit (length s.log)) LogFull (later_none (refused_if (nat_le most_open (length s.sessions.open_ones)) TooManySessions) (log_full s) (later_none (retired s) (refused_if (nat_le most_open (length s.sessions.open_ones)) TooManySessions orelse log_full s) admitted))) in
       omega (arith, room, sound.limit_to, sound.sessions_within.opened)

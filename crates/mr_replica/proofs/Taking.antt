@@ -36,7 +36,7 @@ use Rattle.mr_replica.specs.declared.refusal.Refusal.TheVariants.{NotForMe, LogF
 use Rattle.mr_wire.specs.declared.frame.Frame.TheVariants.{Record}
 use Rattle.mr_replica.proofs.Choice.{first_none, later_none, not_refused, map_none, some_same, found_has}
 use Rattle.mr_replica.proofs.Folding.{folds_on, in_order_on}
-use Rattle.mr_replica.proofs.Issuing.{All-placed}
+use Rattle.mr_replica.proofs.Issuing.{All-inserted}
 use Rattle.mr_replica.proofs.Keeping.{within_later, within_closed, issued_left, sound_with}
 
 -- ---- the next index
@@ -57,7 +57,7 @@ own_late false late is h = cc
 -- what holds of all, and of the one that comes, holds with that one at its place
 arrived_all : (P : Rev → Type 0) (comer : Option Rev) (rs : List Rev) → ((r : Rev) → comer ≡ Some r → P r) → All P rs → All P (arrived comer rs)
 arrived_all P None rs p h = h
-arrived_all P (Some r) rs p h = All-placed version_of P r rs (p r refl) h
+arrived_all P (Some r) rs p h = All-inserted version_of P r rs (p r refl) h
 
 -- of three tests, none comes first
 third_fails : {A : Type 0} (a b c : Bool) (x y z : A) → (if a then Some x else (if b then Some y else (if c then Some z else None))) ≡ None → c ≡ false

@@ -1,10 +1,4 @@
 -- What the methods of single events give, as replies.
-use Rattle.std.specs.Prelude.{ℕ}
-use Rattle.mr_session.specs.declared.outgoing.onward.Onward.{Onward}
-use Rattle.mr_session.specs.Onward.{advanced}
-use Rattle.mr_replica.specs.State.{State}
-use Rattle.mr_replica.specs.Issue.{logged}
-use Rattle.mr_replica.specs.declared.event.Event.TheVariants.{Next}
 use Rattle.mr_replica.specs.declared.replica.receive.Received.{Received}
 use Rattle.mr_replica.specs.declared.replica.receive.Received.TheVariants as received
 use Rattle.mr_replica.specs.declared.event.Reply.{Reply}
@@ -20,8 +14,3 @@ received_reply received.Finished = Finished
 abbrev pub IsIssued : Reply → Type 0
 IsIssued (Issued version) = Unit {0}
 IsIssued reply = ⊥
-
-module _ {K : Type 0} where
-  -- the stream goes on behind a record that it gave
-  abbrev pub going_on : State K → (stream : ℕ) → Onward → State K
-  going_on s stream way = logged (record s { streams = advanced stream way s.streams }) (Next stream)

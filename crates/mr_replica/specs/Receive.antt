@@ -2,7 +2,7 @@
 use Rattle.std.specs.Prelude.{◌≡◌, ◌==◌, Bool, true, false, not, ◌&&◌, if◌then◌else◌, Option, Some, None, List, [], ◌∷◌, filter}
 use Rattle.std.specs.Option.{option_map}
 use Rattle.mr_forms.specs.Known.{Pairs, Form, AreSame, with_learned, with_learned_below, with_pairs}
-use Rattle.mr_concise.specs.AllOf.{in_all}
+use Rattle.mr_concise.specs.AnyOf.{in_any}
 use Rattle.mr_concise.specs.Vector.{vector_has}
 use Rattle.mr_madewith.specs.Revision.{Rev}
 use Rattle.mr_store.specs.Revisions.{entered, supersedes, left_by}
@@ -46,7 +46,7 @@ arrival_alone (Some r) = r ∷ []
 
 -- the fragments cover it, and the source did not hold it
 abbrev pub is_unheld : Session → Rev → Bool
-is_unheld session r = claimed session.know r.item r.version && not (in_all vector_has session.held r.version)
+is_unheld session r = claimed session.know r.item r.version && not (in_any vector_has session.held r.version)
 
 -- the knowledge after each of the fragments is merged
 abbrev pub merged_by : Pairs → List Piece → List Wanted

@@ -9,6 +9,7 @@ use Rattle.mr_store.specs.Revisions.{AreInVersionOrder}
 use Rattle.mr_session.specs.Table.{Table, Numbered}
 use Rattle.mr_replica.specs.State.{State}
 use Rattle.mr_replica.specs.Folded.{FoldsToStore}
+use Rattle.mr_replica.specs.declared.replica.TheConstants.{MAX_EVENTS}
 
 -- the version is no own one, or one of those issued
 abbrev pub IsNoLater : ℕ → ℕ → Name → Type 0
@@ -35,7 +36,7 @@ AreKnown known rs = All (λ r. known r.item r.version ≡ true) rs
 
 pub record IsSound {K : Type 0} (form : Form K) (s : State K) : Type 0 where
   pub limit_from : 1 ≤ s.event_limit
-  pub limit_to : s.event_limit ≤ 1000000
+  pub limit_to : s.event_limit ≤ MAX_EVENTS
   pub issued_few : s.issued ≤ length s.log
   pub heads_in_order : AreInVersionOrder s.heads
   pub heads_issued : AreIssued s.id s.issued s.heads

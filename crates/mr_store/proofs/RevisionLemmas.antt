@@ -12,7 +12,7 @@ use Rattle.mr_forms.specs.Known.{Pairs}
 use Rattle.mr_madewith.specs.Revision.{Rev}
 use Rattle.mr_madewith.specs.Keyed.{without, is_before}
 use Rattle.mr_store.specs.Revisions.{AreInVersionOrder, version_of, revision_of, entered, is_of, versions_of, supersedes, left_by}
-use Rattle.mr_store.specs.Index.{version_placed}
+use Rattle.mr_store.specs.Index.{version_inserted}
 use Rattle.mr_madewith.proofs.Rising.{name_eq_self, same_names, name_eq-swap, head_before, tail_rises, all_filtered}
 use Rattle.mr_madewith.proofs.Found.{first_place}
 
@@ -76,21 +76,21 @@ map-itself P [] h = tt
 map-itself P (v ∷ vs) h = (h.0, map-itself P vs h.1)
 
 -- a revision that enters adds its version to its item's
-pub versions_of-entered : (i : Name) (r : Rev) (heads : List Rev) → AreInVersionOrder (entered r heads) → versions_of i (entered r heads) ≡ (if name_eq r.item i then version_placed r.version (versions_of i heads) else versions_of i heads)
+pub versions_of-entered : (i : Name) (r : Rev) (heads : List Rev) → AreInVersionOrder (entered r heads) → versions_of i (entered r heads) ≡ (if name_eq r.item i then version_inserted r.version (versions_of i heads) else versions_of i heads)
 versions_of-entered i r [] rising = elim (name_eq r.item i) as (λ b. map version_of (cond b (r ∷ []) []) ≡ (if b then r.version ∷ [] else [])) [ true ↦ refl | false ↦ refl ]
 versions_of-entered i r (x ∷ xs) rising =
     elim (either (is_before x.version r.version)) [
       | inl before ↦
-          let rest : versions_of i (entered r xs) ≡ (if name_eq r.item i then version_placed r.version (versions_of i xs) else versions_of i xs) =
+          let rest : versions_of i (entered r xs) ≡ (if name_eq r.item i then version_inserted r.version (versions_of i xs) else versions_of i xs) =
           versions_of-entered i r xs (tail_rises version_of x (entered r xs) (rw before at rising)) in
           elim (either (is_of i x)) [
-            | inl here ↦ rw (before, here) (ap (λ vs. x.version ∷ vs) rest ∙ (elim (name_eq r.item i) as (λ b. x.version ∷ (if b then version_placed r.version (versions_of i xs) else versions_of i xs) ≡ (if b then version_placed r.version (x.version ∷ versions_of i xs) else x.version ∷ versions_of i xs)) [ true ↦ rw before refl | false ↦ refl ]))
+            | inl here ↦ rw (before, here) (ap (λ vs. x.version ∷ vs) rest ∙ (elim (name_eq r.item i) as (λ b. x.version ∷ (if b then version_inserted r.version (versions_of i xs) else versions_of i xs) ≡ (if b then version_inserted r.version (x.version ∷ versions_of i xs) else x.version ∷ versions_of i xs)) [ true ↦ rw before refl | false ↦ refl ]))
             | inr other ↦ rw (before, other) rest
           ]
       | inr after ↦
           let later : AllByRecursion (λ v. name_cmp r.version v ≡ Less) (versions_of i (x ∷ xs)) =
           all_filtered version_of (λ v. name_cmp r.version v ≡ Less) (is_of i) (x ∷ xs) (head_before version_of r (x ∷ xs) (rw after at rising)) in
-          rw after (elim (name_eq r.item i) as (λ b. map version_of (cond b (r ∷ filter (is_of i) (x ∷ xs)) (filter (is_of i) (x ∷ xs))) ≡ (if b then version_placed r.version (versions_of i (x ∷ xs)) else versions_of i (x ∷ xs))) [
+          rw after (elim (name_eq r.item i) as (λ b. map version_of (cond b (r ∷ filter (is_of i) (x ∷ xs)) (filter (is_of i) (x ∷ xs))) ≡ (if b then version_inserted r.version (versions_of i (x ∷ xs)) else versions_of i (x ∷ xs))) [
             | true ↦ sym (first_place (λ v. v) r.version (versions_of i (x ∷ xs)) (map-itself (λ v. name_cmp r.version v ≡ Less) (versions_of i (x ∷ xs)) later))
             | false ↦ refl
           ])

@@ -6,7 +6,7 @@ use Rattle.std.specs.List.Sorted.{IsStrictlySortedBy}
 use Rattle.mr_forms.specs.Covered.{covered, all_covered}
 use Rattle.mr_concise.specs.Vector.{vector_has}
 use Rattle.mr_concise.specs.Fragments.{ConciseFragment}
-use Rattle.mr_concise.proofs.AllOfLemmas.{in_all-more}
+use Rattle.mr_concise.proofs.AnyOfLemmas.{in_any-more}
 use Rattle.mr_madewith.specs.Keyed.{AreRising, named}
 use Rattle.mr_madewith.specs.Search.{IsFoundAt, IsGapFor}
 
@@ -42,4 +42,4 @@ found_among v vs (Err i) found absent = sym (ap is_some absent.none) ∙ is_some
 -- a fragment more
 pub covered_more : (fs : List ConciseFragment) (k : ℕ) (f : ConciseFragment) (i v : Name) → k < length fs → f ≡ get_or fs k f
     → all_covered vector_has (take (k + 1) fs) i v ≡ (all_covered vector_has (take k fs) i v || covered vector_has f i v)
-covered_more fs k f i v within at = in_all-more (λ f. covered vector_has f i) fs k f within at v
+covered_more fs k f i v within at = in_any-more (λ f. covered vector_has f i) fs k f within at v

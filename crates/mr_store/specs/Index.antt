@@ -5,12 +5,12 @@ use Rattle.std.specs.Option.{option_map_or}
 use Rattle.std.specs.BTreeMap.{BTreeMap, get}
 use Rattle.mr_version.specs.Name.{Name, name_cmp}
 use Rattle.mr_madewith.specs.Revision.{Rev}
-use Rattle.mr_madewith.specs.Keyed.{placed}
+use Rattle.mr_madewith.specs.Keyed.{inserted}
 use Rattle.mr_store.specs.Revisions.{versions_of}
 
 -- the versions with one more at its place
-abbrev pub version_placed : Name → List Name → List Name
-version_placed v vs = placed (λ w. w) v vs
+abbrev pub version_inserted : Name → List Name → List Name
+version_inserted v vs = inserted (λ w. w) v vs
 
 -- whether there are two or more
 abbrev pub are_several : List Name → Bool

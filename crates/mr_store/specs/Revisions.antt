@@ -4,7 +4,7 @@ use Rattle.std.specs.List.Sorted.{IsStrictlySortedBy}
 use Rattle.mr_version.specs.Name.{Name, name_cmp, name_eq}
 use Rattle.mr_forms.specs.Sets.{Versions, is_listed}
 use Rattle.mr_madewith.specs.Revision.{Rev}
-use Rattle.mr_madewith.specs.Keyed.{AreRising, named, placed}
+use Rattle.mr_madewith.specs.Keyed.{AreRising, named, inserted}
 
 abbrev pub version_of : Rev → Name
 version_of r = r.version
@@ -27,7 +27,7 @@ AreApart rs ss = (v : Name) → (holds rs v && holds ss v) ≡ false
 
 -- the revisions with one more at its place
 abbrev pub entered : Rev → List Rev → List Rev
-entered r rs = placed version_of r rs
+entered r rs = inserted version_of r rs
 
 abbrev pub is_of : Name → Rev → Bool
 is_of item r = name_eq r.item item

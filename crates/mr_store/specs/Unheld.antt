@@ -6,7 +6,7 @@ use Rattle.mr_forms.specs.declared.fragment.ItemSet.{ItemSet}
 use Rattle.mr_forms.specs.declared.fragment.ItemSet.TheVariants.{All, Listed}
 use Rattle.mr_forms.specs.Known.{Pairs}
 use Rattle.mr_forms.specs.Covered.{all_covered}
-use Rattle.mr_concise.specs.AllOf.{in_all}
+use Rattle.mr_concise.specs.AnyOf.{in_any}
 use Rattle.mr_concise.specs.Fragments.{ConciseFragment}
 use Rattle.mr_concise.specs.declared.vector.AuthorColumn.{AuthorColumn}
 use Rattle.mr_concise.specs.Vector.{vector_has}
@@ -18,4 +18,4 @@ ListsInOrder (Listed items) = IsStrictlySortedBy name_cmp items.items
 
 -- the versions of items that the fragments cover and that no vector has
 abbrev pub is_unheld : (learned : List ConciseFragment) → (held : List (List AuthorColumn)) → Pairs
-is_unheld learned held i v = all_covered vector_has learned i v && not (in_all vector_has held v)
+is_unheld learned held i v = all_covered vector_has learned i v && not (in_any vector_has held v)

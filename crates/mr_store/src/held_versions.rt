@@ -1,6 +1,6 @@
 //! The held ones of some versions, as a source of a made-with set.
 ghost use Rattle.std.specs.Prelude.{◌≡◌, ◌≤◌};
-ghost use Rattle.mr_concise.specs.AllOf.{in_all, lower_of, IsPassed};
+ghost use Rattle.mr_concise.specs.AnyOf.{in_any, lower_of, IsPassed};
 ghost use Rattle.mr_forms.specs.Runs.{of_author};
 ghost use Rattle.mr_store.specs.HeldVersions.{by_held};
 
@@ -19,7 +19,7 @@ pub struct HeldVersions<'a> {
 }
 
 impl<'a> Source for HeldVersions<'a> {
-    ghost has = { λ held. in_all (by_held held.store.now) held.versions.now };
+    ghost has = { λ held. in_any (by_held held.store.now) held.versions.now };
 
     fn next_author(&self, id: u16) -> Option<Author> {
         let mut next: Option<Author> = None;
@@ -74,7 +74,7 @@ fn lower(a: Option<u32>, b: Option<u32>) -> Option<u32>
 // Goes on from here past what each held version has, one by one.
 fn passed(store: &Store, versions: &[Version], author: Author, from: u32) -> u32
     requires { (1 ≤ from) × (from ≤ 1000001) }
-    ensures { IsPassed (of_author (in_all (by_held store.now) versions.now) author) from result }
+    ensures { IsPassed (of_author (in_any (by_held store.now) versions.now) author) from result }
 {
     let mut at = from;
     for version in versions {

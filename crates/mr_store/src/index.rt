@@ -7,7 +7,7 @@ ghost use Rattle.mr_forms.specs.Sets.{is_listed};
 ghost use Rattle.mr_madewith.specs.Keyed.{is_before};
 ghost use Rattle.mr_store.specs.Leaving.{leaves};
 ghost use Rattle.mr_store.specs.Unheld.{ListsInOrder, is_unheld};
-ghost use Rattle.mr_store.specs.Index.{IsIndexOf, listed_for, HasRoomFor, version_placed, are_several};
+ghost use Rattle.mr_store.specs.Index.{IsIndexOf, listed_for, HasRoomFor, version_inserted, are_several};
 
 use crate::leaving::leaves;
 use crate::unheld::is_unheld;
@@ -96,7 +96,7 @@ fn grow(index: &mut BTreeMap<ItemId, Vec<Version>>, item: ItemId) -> Result<(), 
 /// Lists a version of the item, for which there is room.
 pub fn list(index: &mut BTreeMap<ItemId, Vec<Version>>, item: ItemId, version: Version)
     requires { HasRoomFor (Some item) index.old }
-    ensures { (i : Name) → listed_for index.new i ≡ (if name_eq item i then version_placed version (listed_for index.old i) else listed_for index.old i) }
+    ensures { (i : Name) → listed_for index.new i ≡ (if name_eq item i then version_inserted version (listed_for index.old i) else listed_for index.old i) }
 {
     if let Some(versions) = index.get_mut(&item) {
         put_version(versions, version);
@@ -169,7 +169,7 @@ fn retain_held(
 // Puts a version at its place, where there is room.
 fn put_version(versions: &mut Vec<Version>, version: Version)
     requires { vec_len versions.old < vec_capacity versions.old }
-    ensures { versions.new.items ≡ version_placed version versions.old.items }
+    ensures { versions.new.items ≡ version_inserted version versions.old.items }
 {
     let place = place_of(versions, version);
     versions.insert(place, version).unwrap();

@@ -4,7 +4,7 @@ ghost use Rattle.std.specs.List.{list_any};
 ghost use Rattle.std.specs.List.Sorted.{IsStrictlySortedBy};
 ghost use Rattle.mr_version.specs.Name.{name_cmp, name_eq};
 ghost use Rattle.mr_forms.specs.Covered.{has_item, covered, all_covered};
-ghost use Rattle.mr_concise.specs.AllOf.{in_all};
+ghost use Rattle.mr_concise.specs.AnyOf.{in_any};
 ghost use Rattle.mr_concise.specs.Vector.{vector_has};
 ghost use Rattle.mr_store.specs.Unheld.{ListsInOrder, is_unheld};
 
@@ -39,7 +39,7 @@ fn is_covered(learned: &[Fragment<ConciseVector>], item: ItemId, version: Versio
 }
 
 fn is_in_some(held: &[ConciseVector], version: Version) -> bool
-    ensures { result ≡ in_all vector_has held.now version }
+    ensures { result ≡ in_any vector_has held.now version }
 {
     held.iter().any(|vector| vector.contains(version))
 }

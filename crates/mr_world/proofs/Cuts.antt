@@ -2,7 +2,7 @@
 use Rattle.std.proofs.Common.{◌≡◌, refl, sym, ap, ◌∙◌, Bool, ◌||◌, List, [], ◌∷◌, map, inl, inr}
 use Rattle.mr_version.specs.Name.{Name, name_eq}
 use Rattle.mr_version.specs.Sets.{is_listed}
-use Rattle.mr_concise.specs.AllOf.{in_all}
+use Rattle.mr_concise.specs.AnyOf.{in_any}
 use Rattle.mr_concise.specs.Vector.{vector_has}
 use Rattle.mr_concise.specs.declared.vector.AuthorColumn.{AuthorColumn}
 use Rattle.mr_madewith.specs.Revision.{Rev}
@@ -11,7 +11,7 @@ use Rattle.mr_session.specs.Held.{AreCut}
 use Rattle.mr_store.specs.Revisions.{holds, version_of}
 use Rattle.mr_world.proofs.Tools.{any_append, or_none}
 
-pub cut_has : (versions : List Name) (vs : List (List AuthorColumn)) → AreCut versions vs → (w : Name) → in_all vector_has vs w ≡ is_listed versions w
+pub cut_has : (versions : List Name) (vs : List (List AuthorColumn)) → AreCut versions vs → (w : Name) → in_any vector_has vs w ≡ is_listed versions w
 cut_has versions [] cut w = absurd cut
 cut_has versions (v ∷ []) cut w = or_none (vector_has v w) ∙ cut.vector_of.has w
 cut_has versions (v ∷ x ∷ vs) cut w =
@@ -30,5 +30,5 @@ listed_heads (r ∷ rs) w =
     ]
 
 -- heads cut into vectors
-pub cut_heads : (rs : List Rev) (vs : List (List AuthorColumn)) → AreCut (map version_of rs) vs → (w : Name) → in_all vector_has vs w ≡ holds rs w
+pub cut_heads : (rs : List Rev) (vs : List (List AuthorColumn)) → AreCut (map version_of rs) vs → (w : Name) → in_any vector_has vs w ≡ holds rs w
 cut_heads rs vs cut w = cut_has (map version_of rs) vs cut w ∙ listed_heads rs w

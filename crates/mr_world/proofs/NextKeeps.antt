@@ -4,7 +4,7 @@ use Rattle.std.specs.List.{list_any}
 use Rattle.std.proofs.lemmas.Bool.{and_from, and_parts, both_ways}
 use Rattle.mr_version.specs.Name.{Name, name_eq}
 use Rattle.mr_forms.specs.Known.{Form}
-use Rattle.mr_concise.specs.AllOf.{in_all}
+use Rattle.mr_concise.specs.AnyOf.{in_any}
 use Rattle.mr_concise.specs.declared.vector.AuthorColumn.{AuthorColumn}
 use Rattle.mr_concise.specs.Vector.{vector_has}
 use Rattle.mr_filter.specs.Filter.{ClauseParts}
@@ -264,13 +264,13 @@ module _ {K : Type 0} (form : Form K) (filters : ℕ → List ClauseParts) (m : 
     went = λ p e. inl e;
     walking = λ q. absurd (cc);
     showing = λ q. inr (ap (λ (z : Body). is_held_seen (seen_body z)) eb);
-    held = λ q w. ap (λ (z : Bool). (shown_by b w || z) || in_all vector_has vs w) (a.stream.none_shown h w)
-        ∙ (ap (λ (z : Bool). z || in_all vector_has vs w) (or_none (shown_by b w)) ∙ (ap (λ (z : Body). shown_by z w || in_all vector_has vs w) eb ∙ (cut_heads s.heads (v ∷ vs) cut w ∙ (a.holdings.heads.same w
+    held = λ q w. ap (λ (z : Bool). (shown_by b w || z) || in_any vector_has vs w) (a.stream.none_shown h w)
+        ∙ (ap (λ (z : Bool). z || in_any vector_has vs w) (or_none (shown_by b w)) ∙ (ap (λ (z : Body). shown_by z w || in_any vector_has vs w) eb ∙ (cut_heads s.heads (v ∷ vs) cut w ∙ (a.holdings.heads.same w
         ∙ ap (λ (f : Versions). f w) (sym (hd_first m (seen_record x) (ap (λ (z : Body). is_held_seen (seen_body z)) eb) (a.stream.walking h)))))));
     none_shown = λ q. absurd (cc);
     tells = λ q i w. ap (λ (z : Body). (told_by z i w || told_pairs records r number k.next i w) || claimed k.know i w) eb;
     fewer = λ i w j. j;
-    held_issued = λ w j. (let t = held_in s.heads w (sym (cut_heads s.heads (v ∷ vs) cut w) ∙ or_right (vector_has v w) (in_all vector_has vs w) j) in
+    held_issued = λ w j. (let t = held_in s.heads w (sym (cut_heads s.heads (v ∷ vs) cut w) ∙ or_right (vector_has v w) (in_any vector_has vs w) j) in
         subst (λ (z : Name). IsTrue (is_issued m.issues z)) t.2 (a.holdings.heads.each t.0 t.1).below.is_one);
     listed = λ f i. i;
   })
@@ -284,13 +284,13 @@ module _ {K : Type 0} (form : Form K) (filters : ℕ → List ClauseParts) (m : 
     went = λ p e. inl e;
     walking = λ q. absurd (cc);
     showing = λ q. inr (ap (λ (z : Body). is_held_seen (seen_body z)) eb);
-    held = λ q w. ap (λ (z : Body). (shown_by z w || shown records r number k.next w) || in_all vector_has vs w) eb
-        ∙ (swap (vector_has v w) (shown records r number k.next w) (in_all vector_has vs w) ∙ (ap (λ (z : Option (List (List AuthorColumn))). shown records r number k.next w || left_to_show z w) (sym h)
+    held = λ q w. ap (λ (z : Body). (shown_by z w || shown records r number k.next w) || in_any vector_has vs w) eb
+        ∙ (swap (vector_has v w) (shown records r number k.next w) (in_any vector_has vs w) ∙ (ap (λ (z : Option (List (List AuthorColumn))). shown records r number k.next w || left_to_show z w) (sym h)
         ∙ (a.stream.held begun w ∙ sym (hd_is_later (a.stream.showing begun) w))));
     none_shown = λ q. absurd (cc);
     tells = λ q i w. ap (λ (z : Body). (told_by z i w || told_pairs records r number k.next i w) || claimed k.know i w) eb;
     fewer = λ i w j. j;
-    held_issued = λ w j. a.stream.held_issued w (subst (λ (z : Option (List (List AuthorColumn))). IsTrue (left_to_show z w)) (sym h) (or_right (vector_has v w) (in_all vector_has vs w) j));
+    held_issued = λ w j. a.stream.held_issued w (subst (λ (z : Option (List (List AuthorColumn))). IsTrue (left_to_show z w)) (sym h) (or_right (vector_has v w) (in_any vector_has vs w) j));
     listed = λ f i. i;
   })
     where
@@ -349,10 +349,10 @@ module _ {K : Type 0} (form : Form K) (filters : ℕ → List ClauseParts) (m : 
     where
       tr : IsTrueRevision m.issues y
       tr = (revision_held form filters m records r opened number s k a y (lower_first (is_due k.asked k.past) s.heads s.push_outs a.holdings.heads.in_order a.holdings.push_outs.in_order y found).among).1
-  body_true left (Shows_first n h none full v vs cut eb e) = subst (IsTrueBody m.issues) (sym eb) (λ w j. (let t = held_in s.heads w (sym (cut_heads s.heads (v ∷ vs) cut w) ∙ or_left (vector_has v w) (in_all vector_has vs w) j) in
+  body_true left (Shows_first n h none full v vs cut eb e) = subst (IsTrueBody m.issues) (sym eb) (λ w j. (let t = held_in s.heads w (sym (cut_heads s.heads (v ∷ vs) cut w) ∙ or_left (vector_has v w) (in_any vector_has vs w) j) in
       subst (λ (z : Name). IsTrue (is_issued m.issues z)) t.2 (a.holdings.heads.each t.0 t.1).below.is_one))
   body_true left (Ends_partly n h none part eb) = subst (IsTrueBody m.issues) (sym eb) tt
-  body_true left (Shows_more n v vs h eb e) = subst (IsTrueBody m.issues) (sym eb) (λ w j. a.stream.held_issued w (subst (λ (z : Option (List (List AuthorColumn))). IsTrue (left_to_show z w)) (sym h) (or_left (vector_has v w) (in_all vector_has vs w) j)))
+  body_true left (Shows_more n v vs h eb e) = subst (IsTrueBody m.issues) (sym eb) (λ w j. a.stream.held_issued w (subst (λ (z : Option (List (List AuthorColumn))). IsTrue (left_to_show z w)) (sym h) (or_left (vector_has v w) (in_any vector_has vs w) j)))
   body_true left (Tells n h f fs known eb e) = subst (IsTrueBody m.issues) (sym eb) (λ w j. (let i = some_item f.items (a.stream.listed f (subst (In f) (sym known) (inl refl))) in
       a.stream.know_issued i.0 w (subst (λ (z : List Piece). IsTrue (claimed z i.0 w)) (sym known) (or_left (lists f.items i.0 && vector_has f.vector w) (claimed fs i.0 w) (and_from (lists f.items i.0) (vector_has f.vector w) i.1 j)))))
   body_true left (Ends_fully n h none eb) = subst (IsTrueBody m.issues) (sym eb) tt

@@ -9,7 +9,7 @@ use Rattle.std.specs.Ordering.{is_lt}
 use Rattle.std.proofs.lemmas.Cmp.{tied_itself}
 use Rattle.mr_version.specs.Name.{Name, name_cmp}
 use Rattle.mr_version.specs.Order.{exact_names, names_total}
-use Rattle.mr_madewith.proofs.Rising.{greater_is_after, head_before, rises-filter, rises-placed, rises_from, rises_none, tail_rises}
+use Rattle.mr_madewith.proofs.Rising.{greater_is_after, head_before, rises-filter, rises-inserted, rises_from, rises_none, tail_rises}
 use Rattle.mr_madewith.specs.Revision.{Rev}
 use Rattle.mr_model.specs.Rules.{In}
 use Rattle.mr_model.specs.Versions.{is, is_before}
@@ -66,7 +66,7 @@ some_in_order p rs o = rises-filter version_of p rs o
 
 -- a new version at its place keeps the order
 pub entered_in_order : (r : Rev) (rs : List Rev) → AreInVersionOrder rs → ((x : Rev) → In x rs → x.version ≢ r.version) → AreInVersionOrder (entered r rs)
-entered_in_order r rs o new = rises-placed version_of r rs (go (revision_of rs r.version) refl) o
+entered_in_order r rs o new = rises-inserted version_of r rs (go (revision_of rs r.version) refl) o
   where
     go : (o : Option Rev) → revision_of rs r.version ≡ o → revision_of rs r.version ≡ None
     go None e = e

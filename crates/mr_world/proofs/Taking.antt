@@ -3,7 +3,7 @@ use Rattle.std.proofs.Common.{◌≡◌, ◌≢◌, refl, sym, ap, subst, ◌∙
 use Rattle.std.specs.List.{list_any}
 use Rattle.std.proofs.lemmas.Bool.{and_from, and_parts, ltb-false}
 use Rattle.mr_version.specs.Name.{Name}
-use Rattle.mr_concise.specs.AllOf.{in_all}
+use Rattle.mr_concise.specs.AnyOf.{in_any}
 use Rattle.mr_concise.specs.declared.vector.AuthorColumn.{AuthorColumn}
 use Rattle.mr_concise.specs.Vector.{vector_has}
 use Rattle.mr_model.specs.History.{Record}
@@ -73,7 +73,7 @@ pub record IsNextOf (given : List Sent) (before : List Record) (k : Session) (x 
   pub first : is_start x.body ≡ true → (before ≡ []) × (k ≡ new_session)
   pub bound : is_start x.body ≡ false → (mode : Mode) × (k.origin ≡ Some (record { source = x.header.source; stream = x.header.stream; mode = mode }))
   pub full : is_start x.body ≡ false → is_full k.origin ≡ list_any (λ y. starts_full y.body) before
-  pub held : is_full k.origin ≡ true → (v : Name) → in_all vector_has k.held v ≡ shown given x.header.source x.header.stream x.header.index v
+  pub held : is_full k.origin ≡ true → (v : Name) → in_any vector_has k.held v ≡ shown given x.header.source x.header.stream x.header.index v
   pub know : is_full k.origin ≡ true → (i v : Name) → claimed k.know i v ≡ told_pairs given x.header.source x.header.stream x.header.index i v
 
 pub next_of : (given : List Sent) (taken : List Record) (opened n : ℕ) (k : Session) (x : Sent) → is_start x.body ≡ (x.header.index == 0) → first_fault k.origin k.next x ≡ None →
@@ -165,7 +165,7 @@ module _ (given : List Sent) (taken : List Record) (opened n : ℕ) (k : Session
 
   -- it goes on by another record
   goes_on : is_start x.body ≡ false → (held : List (List AuthorColumn)) (know : List Piece) →
-      (is_full k.origin ≡ true → (v : Name) → in_all vector_has held v ≡ (in_all vector_has k.held v || shown_by x.body v)) →
+      (is_full k.origin ≡ true → (v : Name) → in_any vector_has held v ≡ (in_any vector_has k.held v || shown_by x.body v)) →
       (is_full k.origin ≡ true → (j v : Name) → claimed know j v ≡ (claimed k.know j v || told_by x.body j v)) →
       SessionAgrees given (seen_record x ∷ taken) opened n (record k { next = x.header.index + 1; held = held; know = know })
   goes_on differs held know hh hk = let bound = next.bound differs in record {
@@ -186,8 +186,8 @@ module _ (given : List Sent) (taken : List Record) (opened n : ℕ) (k : Session
   }
 
   -- by one that shows nothing, or tells nothing
-  shows_none : (b : Body) → x.body ≡ b → ((v : Name) → shown_by b v ≡ false) → (v : Name) → in_all vector_has k.held v ≡ (in_all vector_has k.held v || shown_by x.body v)
-  shows_none b e none v = sym ((λ z. in_all vector_has k.held v || (ap (λ (c : Body). shown_by c v) e ∙ none v) z) ∙ or_none (in_all vector_has k.held v))
+  shows_none : (b : Body) → x.body ≡ b → ((v : Name) → shown_by b v ≡ false) → (v : Name) → in_any vector_has k.held v ≡ (in_any vector_has k.held v || shown_by x.body v)
+  shows_none b e none v = sym ((λ z. in_any vector_has k.held v || (ap (λ (c : Body). shown_by c v) e ∙ none v) z) ∙ or_none (in_any vector_has k.held v))
 
   tells_none : (b : Body) → x.body ≡ b → ((j v : Name) → told_by b j v ≡ false) → (j v : Name) → claimed k.know j v ≡ (claimed k.know j v || told_by x.body j v)
   tells_none b e none j v = sym ((λ z. claimed k.know j v || (ap (λ (c : Body). told_by c j v) e ∙ none j v) z) ∙ or_none (claimed k.know j v))
@@ -201,8 +201,8 @@ module _ (given : List Sent) (taken : List Record) (opened n : ℕ) (k : Session
   session_taken (Item r) e = goes_on (ap is_start e) k.held k.know (λ h. shows_none (Item r) e (λ v. refl)) (λ h. tells_none (Item r) e (λ j v. refl))
   session_taken (MoveOut line) e = goes_on (ap is_start e) k.held k.know (λ h. shows_none (MoveOut line) e (λ v. refl)) (λ h. tells_none (MoveOut line) e (λ j v. refl))
   session_taken (Held vector) e = goes_on (ap is_start e) (k.held ++ if_so (is_full k.origin) vector) k.know
-      (λ h v. ap (λ (vs : List (List AuthorColumn)). in_all vector_has vs v) (keeps_one k.held vector h)
-      ∙ (any_append (λ c. vector_has c v) k.held (vector ∷ []) ∙ (λ z. in_all vector_has k.held v || (or_none (vector_has vector v) ∙ ap (λ (b : Body). shown_by b v) (sym e)) z)))
+      (λ h v. ap (λ (vs : List (List AuthorColumn)). in_any vector_has vs v) (keeps_one k.held vector h)
+      ∙ (any_append (λ c. vector_has c v) k.held (vector ∷ []) ∙ (λ z. in_any vector_has k.held v || (or_none (vector_has vector v) ∙ ap (λ (b : Body). shown_by b v) (sym e)) z)))
       (λ h. tells_none (Held vector) e (λ j v. refl))
   session_taken (Know piece) e = goes_on (ap is_start e) k.held (k.know ++ if_so (is_full k.origin) piece)
       (λ h. shows_none (Know piece) e (λ v. refl))

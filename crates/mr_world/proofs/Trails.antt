@@ -2,7 +2,7 @@
 use Rattle.std.proofs.Common.{◌≡◌, refl, sym, subst, ◌∙◌, not, List, [], ◌∷◌, inl, inr, IsTrue, IsFalse, Some}
 use Rattle.std.proofs.lemmas.Bool.{both_ways}
 use Rattle.mr_version.specs.Name.{Name}
-use Rattle.mr_madewith.specs.Keyed.{named, placed, without as without_name}
+use Rattle.mr_madewith.specs.Keyed.{named, inserted, without as without_name}
 use Rattle.mr_madewith.specs.Revision.{Rev}
 use Rattle.mr_madewith.specs.Trail.{item_of_last, last_of, noted}
 use Rattle.mr_model.specs.Rules.{In}
@@ -19,21 +19,21 @@ module _ {X : Type 0} (name : X → Name) where
   named_back v x xs n = rw n refl
 
   -- one of another name changes nothing
-  placed_aside : (v : Name) (x : X) (xs : List X) → IsFalse (is (name x) v) → named name v (placed name x xs) ≡ named name v xs
-  placed_aside v x [] n = named_back v x [] n
-  placed_aside v x (y ∷ ys) n = elim (cases (is_before (name y) (name x))) [
+  inserted_aside : (v : Name) (x : X) (xs : List X) → IsFalse (is (name x) v) → named name v (inserted name x xs) ≡ named name v xs
+  inserted_aside v x [] n = named_back v x [] n
+  inserted_aside v x (y ∷ ys) n = elim (cases (is_before (name y) (name x))) [
     | inl t ↦ rw t (elim (cases (is (name y) v)) [
-      | inl h ↦ named_here v y (placed name x ys) h ∙ sym (named_here v y ys h)
-      | inr h ↦ named_back v y (placed name x ys) h ∙ (placed_aside v x ys n ∙ sym (named_back v y ys h))
+      | inl h ↦ named_here v y (inserted name x ys) h ∙ sym (named_here v y ys h)
+      | inr h ↦ named_back v y (inserted name x ys) h ∙ (inserted_aside v x ys n ∙ sym (named_back v y ys h))
     ])
     | inr f ↦ rw f (named_back v x (y ∷ ys) n)
   ]
 
   -- the first of the name is found
-  placed_found : (v : Name) (x : X) (xs : List X) → IsTrue (is (name x) v) → ((y : X) → In y xs → IsFalse (is (name y) v)) → named name v (placed name x xs) ≡ Some x
-  placed_found v x [] t none = named_here v x [] t
-  placed_found v x (y ∷ ys) t none = elim (cases (is_before (name y) (name x))) [
-    | inl b ↦ rw b (named_back v y (placed name x ys) (none y (inl refl)) ∙ placed_found v x ys t (λ z i. none z (inr i)))
+  inserted_found : (v : Name) (x : X) (xs : List X) → IsTrue (is (name x) v) → ((y : X) → In y xs → IsFalse (is (name y) v)) → named name v (inserted name x xs) ≡ Some x
+  inserted_found v x [] t none = named_here v x [] t
+  inserted_found v x (y ∷ ys) t none = elim (cases (is_before (name y) (name x))) [
+    | inl b ↦ rw b (named_back v y (inserted name x ys) (none y (inl refl)) ∙ inserted_found v x ys t (λ z i. none z (inr i)))
     | inr b ↦ rw b (named_here v x (y ∷ ys) t)
   ]
 
@@ -53,7 +53,7 @@ module _ {X : Type 0} (name : X → Name) where
 
 -- the last version of an item once l is noted
 pub noted_here : (l : Rev) (lasts : List Rev) (i : Name) → IsTrue (is l.item i) → last_of (noted l lasts) i ≡ Some l
-noted_here l lasts i t = placed_found item_of_last i l (without_name item_of_last l.item lasts) t (left_none item_of_last l.item i lasts (is_path l.item i t))
+noted_here l lasts i t = inserted_found item_of_last i l (without_name item_of_last l.item lasts) t (left_none item_of_last l.item i lasts (is_path l.item i t))
 
 pub noted_back : (l : Rev) (lasts : List Rev) (i : Name) → IsFalse (is l.item i) → last_of (noted l lasts) i ≡ last_of lasts i
-noted_back l lasts i n = placed_aside item_of_last i l (without_name item_of_last l.item lasts) n ∙ without_aside item_of_last l.item i lasts (λ e. both_ways (is l.item i) n (is_from l.item i e))
+noted_back l lasts i n = inserted_aside item_of_last i l (without_name item_of_last l.item lasts) n ∙ without_aside item_of_last l.item i lasts (λ e. both_ways (is l.item i) n (is_from l.item i e))

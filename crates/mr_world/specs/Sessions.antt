@@ -2,7 +2,7 @@
 use Rattle.std.specs.Prelude.{◌≡◌, ◌≤◌, ◌<◌, ◌+◌, ℕ, IsTrue, Some, List, [], ◌∷◌, filter}
 use Rattle.std.specs.List.{list_any}
 use Rattle.mr_version.specs.Name.{Name}
-use Rattle.mr_concise.specs.AllOf.{in_all}
+use Rattle.mr_concise.specs.AnyOf.{in_any}
 use Rattle.mr_concise.specs.Vector.{vector_has}
 use Rattle.mr_model.specs.History.{Record}
 use Rattle.mr_model.specs.Moment.{in_session, is_whole, starts_full}
@@ -30,7 +30,7 @@ Follows k (last ∷ before) = IsBoundTo k last before
 
 -- the session keeps what the records before its next one show and tell
 pub record KeepsTold (given : List Sent) (k : Session) (o : Origin) : Type 0 where
-  pub held : (v : Name) → in_all vector_has k.held v ≡ shown given o.source o.stream k.next v
+  pub held : (v : Name) → in_any vector_has k.held v ≡ shown given o.source o.stream k.next v
   pub know : (i v : Name) → claimed k.know i v ≡ told_pairs given o.source o.stream k.next i v
 
 -- the open session of this number has taken one stream so far, and keeps what that showed and told if it is full

@@ -2,7 +2,7 @@
 use Rattle.std.specs.Prelude.{◌≡◌, ◌≢◌, ◌≤◌, ◌<◌, ℕ, true, false, ◌||◌, IsTrue, Option, Some, None, List, []}
 use Rattle.mr_version.specs.Name.{Name}
 use Rattle.mr_forms.specs.Sets.{Versions}
-use Rattle.mr_concise.specs.AllOf.{in_all}
+use Rattle.mr_concise.specs.AnyOf.{in_any}
 use Rattle.mr_concise.specs.declared.vector.AuthorColumn.{AuthorColumn}
 use Rattle.mr_concise.specs.Vector.{vector_has}
 use Rattle.mr_filter.specs.Filter.{ClauseParts}
@@ -24,7 +24,7 @@ use Rattle.mr_world.specs.Told.{shown, told_pairs}
 -- what is still to be given of the Held records
 abbrev pub left_to_show : Option (List (List AuthorColumn)) → Versions
 left_to_show None v = false
-left_to_show (Some vectors) v = in_all vector_has vectors v
+left_to_show (Some vectors) v = in_any vector_has vectors v
 
 -- An open stream of r: its request, how far its walk is, what it gave, and what it still has to give. What was given is
 -- `records`, which a history sees as `given`.

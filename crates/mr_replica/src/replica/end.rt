@@ -54,12 +54,17 @@ impl<K: Knowledge> Replica<K> {
         let Some(session) = self.sessions.get(sent.header().session) else {
             unreachable!()
         };
-        if session.is_full() {
-            return self.end_full(sent, before);
-        }
+        let ended = if session.is_full() {
+            Some(self.ended(session)?)
+        } else {
+            None
+        };
         let reply = Reply::Finished;
         let made = before(&reply)?;
-        self.finish(sent)?;
+        match ended {
+            Some(ended) => self.finish_full(ended, sent)?,
+            None => self.finish(sent)?,
+        }
         Ok((reply, made))
     }
 
@@ -76,34 +81,6 @@ impl<K: Knowledge> Replica<K> {
         self.contents
             .note_event(Event::Receive(Frame::Record(sent)));
         Ok(())
-    }
-
-    // The End of a full session teaches what its fragments cover, and what these cover and no Held vector
-    // has leaves the heads.
-    fn end_full<T: Drop, F: FnOnce(&Reply) -> Result<T, AllocError>>(
-        &mut self,
-        sent: Record,
-        before: F,
-    ) -> Result<(Reply, T), Refusal>
-        requires taken { record_refusal self.old sent ≡ None }
-        requires kept { IsSent sent.header sent.body }
-        requires full { has_full (session_for self.old sent) ≡ true }
-        requires callable { F.IsAlwaysCallable before }
-        ensures fits { OnOk (answer_of result) (All (Fits K.form) (wanted_by_end K.form self.old (session_for self.old sent))) }
-        ensures reply { IfOk (answer_of result) (λ reply. reply ≡ Reply.Finished) }
-        ensures ok { OnOk (answer_of result) (EndsSession K.form self.old sent (session_for self.old sent) self.new) }
-        ensures err { OnErr (answer_of result) (self.new ≡ self.old) }
-        ensures refused { IfErr (answer_of result) (RefusesEnd K.form self.old (session_for self.old sent)) }
-        ensures made { IfOk result (λ p. FnOnceReturnsAt F.FnOnce before p.0 (Ok p.1)) }
-    {
-        let Some(session) = self.sessions.get(sent.header().session) else {
-            unreachable!()
-        };
-        let ended = self.ended(session)?;
-        let reply = Reply::Finished;
-        let made = before(&reply)?;
-        self.finish_full(ended, sent)?;
-        Ok((reply, made))
     }
 
     // What the End of a full session changes.

@@ -13,7 +13,7 @@ use std::alloc::AllocError;
 
 impl<K: Knowledge> Replica<K> {
     ghost use Rattle.mr_replica.specs.Next.{next_refusal, GivesNext};
-    ghost use Rattle.mr_replica.specs.Methods.{going_on};
+    ghost use Rattle.mr_replica.specs.Next.{going_on};
     ghost use Rattle.mr_replica.specs.Step.{Steps};
 
     /// The next record of the open stream of this number, of the heads and push-outs as they are now; the End

@@ -1,7 +1,7 @@
 use Rattle.std.proofs.Common.{◌≡◌, false, sym, subst, take}
 use Rattle.mr_concise.specs.Next.{IsNextOut}
-use Rattle.mr_concise.specs.AllOf.{in_all, IsPassed}
-use Rattle.mr_concise.proofs.AllOfLemmas.{in_all-more_is, IsPassed-more}
+use Rattle.mr_concise.specs.AnyOf.{in_any, IsPassed}
+use Rattle.mr_concise.proofs.AnyOfLemmas.{in_any-more_is, IsPassed-more}
 use Rattle.mr_forms.specs.Sets.{Versions}
 use Rattle.mr_forms.specs.Runs.{of_author}
 use Rattle.mr_store.specs.HeldVersions.{by_held}
@@ -18,5 +18,5 @@ loop-version-preserved c =
     let same = looked_up c.args.store.now v c.held.result c.held.ensures in
     let next : IsNextOut (of_author (held v) c.args.author) at c.next_out-at.result = subst (λ (t : Versions). IsNextOut (of_author t c.args.author) at c.next_out-at.result) same c.next_out-at.ensures.next in
     let zero : of_author (held v) c.args.author 0 ≡ false = subst (λ (t : Versions). of_author t c.args.author 0 ≡ false) same c.next_out-at.ensures.zero in
-    subst (λ (t : Versions). IsPassed (of_author t c.args.author) c.args.from c.next_out-at.result) (sym (in_all-more_is held vs k v c.loop-version-test.true c.version-item.is))
-    (IsPassed-more (of_author (in_all held (take k vs)) c.args.author) (of_author (held v) c.args.author) c.args.from at c.next_out-at.result c.loop-version.invariant next c.next_out-at.ensures.bound zero)
+    subst (λ (t : Versions). IsPassed (of_author t c.args.author) c.args.from c.next_out-at.result) (sym (in_any-more_is held vs k v c.loop-version-test.true c.version-item.is))
+    (IsPassed-more (of_author (in_any held (take k vs)) c.args.author) (of_author (held v) c.args.author) c.args.from at c.next_out-at.result c.loop-version.invariant next c.next_out-at.ensures.bound zero)

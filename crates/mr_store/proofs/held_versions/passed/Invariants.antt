@@ -1,8 +1,8 @@
 use Rattle.std.proofs.Common.{take}
 use Rattle.mr_forms.specs.Runs.{of_author}
-use Rattle.mr_concise.specs.AllOf.{in_all, IsPassed}
+use Rattle.mr_concise.specs.AnyOf.{in_any, IsPassed}
 use Rattle.mr_store.specs.HeldVersions.{by_held}
 use Rattle.mr_store.proofs.held_versions.passed.Given as goal
 
 abbrev pub invariant-loop-version : goal.invariant-loop-version
-invariant-loop-version l = IsPassed (of_author (in_all (by_held l.store) (take l.version-index l.versions)) l.author) l.from l.at
+invariant-loop-version l = IsPassed (of_author (in_any (by_held l.store) (take l.version-index l.versions)) l.author) l.from l.at

@@ -1,4 +1,4 @@
-use Rattle.mr_madewith.proofs.Placed.{insert-take_while}
+use Rattle.mr_madewith.proofs.Inserted.{insert-take_while}
 use Rattle.mr_store.proofs.index.put_version.Goals as goal
 
 pub returns : goal.returns

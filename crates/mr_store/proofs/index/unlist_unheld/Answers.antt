@@ -1,6 +1,6 @@
 use Rattle.std.proofs.Common.{◌≡◌, ◌+◌, ◌||◌, ◌&&◌, not, Bool, sym, ap, ◌∙◌, List, take, take_all}
 use Rattle.std.specs.List.{filter}
-use Rattle.mr_concise.proofs.AllOfLemmas.{in_all-more}
+use Rattle.mr_concise.proofs.AnyOfLemmas.{in_any-more}
 use Rattle.mr_version.specs.Name.{Name, name_eq}
 use Rattle.mr_madewith.specs.Revision.{Rev}
 use Rattle.mr_store.specs.Revisions.{versions_of}
@@ -23,7 +23,7 @@ loop-revision-preserved c =
     record {
       listed = λ i.
           let out : List Name → Bool → List Name = λ vs reached. filter (λ v. not (reached && unheld i v)) vs in
-          let more : is_reached (take (k + 1) rs) i ≡ (is_reached (take k rs) i || name_eq r.item i) = in_all-more (λ (r : Rev). name_eq r.item) rs k r c.loop-revision-test.true c.revision-item.is i in
+          let more : is_reached (take (k + 1) rs) i ≡ (is_reached (take k rs) i || name_eq r.item i) = in_any-more (λ (r : Rev). name_eq r.item) rs k r c.loop-revision-test.true c.revision-item.is i in
           (rw (c.item.ensures, c.loop-revision.invariant.listed i) at (c.unlist_unheld_of.ensures.others i))
           ∙ filter-reached_more unheld (versions_of i rs) (is_reached (take k rs) i) r.item i
           ∙ ap (out (versions_of i rs)) (sym more);

@@ -1,6 +1,6 @@
 use Rattle.std.proofs.Common.{subst, sym}
 use Rattle.mr_store.specs.Revisions.{AreInVersionOrder, version_of}
-use Rattle.mr_madewith.proofs.Rising.{rises-placed}
+use Rattle.mr_madewith.proofs.Rising.{rises-inserted}
 use Rattle.mr_store.proofs.shelf.insert.Goals as goal
 
 pub returns-clause-items : goal.returns-clause-items
@@ -8,4 +8,4 @@ returns-clause-items c = rw (c.insert.ensures.items, c.unwrap.ensures, ← c.der
 
 pub returns-clause-in_order : goal.returns-clause-in_order
 returns-clause-in_order c =
-    subst AreInVersionOrder (sym (returns-clause-items c)) (rises-placed version_of c.args.revision c.args.revisions.now.items c.requires.new c.requires.in_order)
+    subst AreInVersionOrder (sym (returns-clause-items c)) (rises-inserted version_of c.args.revision c.args.revisions.now.items c.requires.new c.requires.in_order)

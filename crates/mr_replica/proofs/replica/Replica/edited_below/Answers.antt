@@ -3,7 +3,7 @@ use Rattle.std.specs.Option.{option_copied}
 use Rattle.mr_forms.specs.Sets.{Versions}
 use Rattle.mr_forms.specs.declared.fault.FormFault.TheVariants.{TooManyHoles}
 use Rattle.mr_concise.specs.Vector.{HasTooManyHoles}
-use Rattle.mr_concise.specs.AllOf.{in_all}
+use Rattle.mr_concise.specs.AnyOf.{in_any}
 use Rattle.mr_madewith.specs.MadeWith.{filled_below, AreColumnsOf}
 use Rattle.mr_madewith.specs.Revision.{Rev}
 use Rattle.mr_madewith.specs.Trail.{Track, last_of}
@@ -24,7 +24,7 @@ returns-clause-ok g c =
     let heads = ap (λ (p : State g.row.K.Denot). p.heads) c.self.view_is in
     let push_outs = ap (λ (p : State g.row.K.Denot). p.push_outs) c.self.view_is in
     let trail = ap (λ (p : State g.row.K.Denot). p.trail) c.self.view_is in
-    let is : filled_below (in_all (by_held c.store.result.now) c.args.bases.now) (option_copied c.last.result) c.args.version ≡ below_for s c.args.item c.args.bases.now =
+    let is : filled_below (in_any (by_held c.store.result.now) c.args.bases.now) (option_copied c.last.result) c.args.version ≡ below_for s c.args.item c.args.bases.now =
     below_for-sources s c.store.result.now c.args.item c.args.bases.now (option_copied c.last.result) c.args.version
     (ap (λ (h : Holdings). h.heads) c.store.ensures ∙ heads) (ap (λ (h : Holdings). h.push_outs) c.store.ensures ∙ push_outs) (c.last.ensures ∙ ap (λ (t : List Rev). last_of t c.args.item) (ap (λ (t : Track). t.lasts) c.trail.ensures ∙ trail)) c.requires.version c.requires.admitted in
     subst (λ (t : Versions). IfOk c.below_of.result (AreColumnsOf t)) is c.below_of.ensures.ok
@@ -35,7 +35,7 @@ returns-clause-holes g c =
     let heads = ap (λ (p : State g.row.K.Denot). p.heads) c.self.view_is in
     let push_outs = ap (λ (p : State g.row.K.Denot). p.push_outs) c.self.view_is in
     let trail = ap (λ (p : State g.row.K.Denot). p.trail) c.self.view_is in
-    let is : filled_below (in_all (by_held c.store.result.now) c.args.bases.now) (option_copied c.last.result) c.args.version ≡ below_for s c.args.item c.args.bases.now =
+    let is : filled_below (in_any (by_held c.store.result.now) c.args.bases.now) (option_copied c.last.result) c.args.version ≡ below_for s c.args.item c.args.bases.now =
     below_for-sources s c.store.result.now c.args.item c.args.bases.now (option_copied c.last.result) c.args.version
     (ap (λ (h : Holdings). h.heads) c.store.ensures ∙ heads) (ap (λ (h : Holdings). h.push_outs) c.store.ensures ∙ push_outs) (c.last.ensures ∙ ap (λ (t : List Rev). last_of t c.args.item) (ap (λ (t : Track). t.lasts) c.trail.ensures ∙ trail)) c.requires.version c.requires.admitted in
     subst (λ (t : Versions). IsErrOf c.below_of.result TooManyHoles ↔ HasTooManyHoles t) is c.below_of.ensures.holes

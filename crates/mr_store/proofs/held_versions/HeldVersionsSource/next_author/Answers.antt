@@ -1,6 +1,6 @@
 use Rattle.std.proofs.Common.{sym, subst, take}
-use Rattle.mr_concise.specs.AllOf.{in_all}
-use Rattle.mr_concise.proofs.AllOfLemmas.{in_all-more_is, NextAuthor, NextAuthor-lower}
+use Rattle.mr_concise.specs.AnyOf.{in_any}
+use Rattle.mr_concise.proofs.AnyOfLemmas.{in_any-more_is, NextAuthor, NextAuthor-lower}
 use Rattle.mr_forms.specs.Sets.{Versions}
 use Rattle.mr_store.specs.HeldVersions.{by_held}
 use Rattle.mr_store.proofs.HeldVersionLemmas.{looked_up}
@@ -13,5 +13,5 @@ loop-version-preserved c =
     let k = c.loop-version.version-index in
     let v = c.version-item.result in
     let one : NextAuthor (held v) c.args.id c.next_author.result = subst (λ (t : Versions). NextAuthor t c.args.id c.next_author.result) (looked_up c.args.self.now.store.now v c.held.result c.held.ensures) c.next_author.ensures in
-    subst (λ (t : Versions). NextAuthor t c.args.id c.lower_author-next.result) (sym (in_all-more_is held vs k v c.loop-version-test.true c.version-item.is))
-    (rw c.lower_author-next.ensures (NextAuthor-lower (in_all held (take k vs)) (held v) c.args.id c.loop-version.next c.next_author.result c.loop-version.invariant one))
+    subst (λ (t : Versions). NextAuthor t c.args.id c.lower_author-next.result) (sym (in_any-more_is held vs k v c.loop-version-test.true c.version-item.is))
+    (rw c.lower_author-next.ensures (NextAuthor-lower (in_any held (take k vs)) (held v) c.args.id c.loop-version.next c.next_author.result c.loop-version.invariant one))

@@ -1,8 +1,8 @@
 use Rattle.std.proofs.Common.{take}
-use Rattle.mr_concise.specs.AllOf.{in_all}
-use Rattle.mr_concise.proofs.AllOfLemmas.{NextAuthor}
+use Rattle.mr_concise.specs.AnyOf.{in_any}
+use Rattle.mr_concise.proofs.AnyOfLemmas.{NextAuthor}
 use Rattle.mr_store.specs.HeldVersions.{by_held}
 use Rattle.mr_store.proofs.held_versions.HeldVersionsSource.next_author.Given as goal
 
 abbrev pub invariant-loop-version : goal.invariant-loop-version
-invariant-loop-version l = NextAuthor (in_all (by_held l.self.store.now) (take l.version-index l.self.versions.now)) l.id l.next
+invariant-loop-version l = NextAuthor (in_any (by_held l.self.store.now) (take l.version-index l.self.versions.now)) l.id l.next

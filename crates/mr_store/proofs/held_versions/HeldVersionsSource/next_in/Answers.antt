@@ -1,6 +1,6 @@
 use Rattle.std.proofs.Common.{sym, subst, take, take_all}
-use Rattle.mr_concise.specs.AllOf.{in_all}
-use Rattle.mr_concise.proofs.AllOfLemmas.{in_all-more_is, NextIn, NextIn-lower, bound-lower}
+use Rattle.mr_concise.specs.AnyOf.{in_any}
+use Rattle.mr_concise.proofs.AnyOfLemmas.{in_any-more_is, NextIn, NextIn-lower, bound-lower}
 use Rattle.mr_forms.specs.Sets.{Versions}
 use Rattle.mr_forms.specs.Runs.{of_author}
 use Rattle.mr_store.specs.HeldVersions.{by_held}
@@ -15,8 +15,8 @@ loop-version-preserved c =
     let v = c.version-item.result in
     let one : NextIn (of_author (held v) c.args.author) c.args.from c.next_in.result = subst (λ (t : Versions). NextIn (of_author t c.args.author) c.args.from c.next_in.result) (looked_up c.args.self.now.store.now v c.held.result c.held.ensures) c.next_in.ensures.next in
     record {
-      next = subst (λ (t : Versions). NextIn (of_author t c.args.author) c.args.from c.lower-next.result) (sym (in_all-more_is held vs k v c.loop-version-test.true c.version-item.is))
-          (rw c.lower-next.ensures (NextIn-lower (of_author (in_all held (take k vs)) c.args.author) (of_author (held v) c.args.author) c.args.from c.loop-version.next c.next_in.result c.loop-version.invariant.next one));
+      next = subst (λ (t : Versions). NextIn (of_author t c.args.author) c.args.from c.lower-next.result) (sym (in_any-more_is held vs k v c.loop-version-test.true c.version-item.is))
+          (rw c.lower-next.ensures (NextIn-lower (of_author (in_any held (take k vs)) c.args.author) (of_author (held v) c.args.author) c.args.from c.loop-version.next c.next_in.result c.loop-version.invariant.next one));
       bound = rw c.lower-next.ensures (bound-lower 1000000 c.loop-version.next c.next_in.result c.loop-version.invariant.bound c.next_in.ensures.bound);
     }
 
