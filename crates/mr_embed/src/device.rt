@@ -5,7 +5,7 @@ use crate::wire::Wire;
 use mr_feed::Entry;
 use mr_filter::Filter;
 use mr_itemset::ItemKnowledge;
-use mr_replica::{Bases, Received, Replica, Revision};
+use mr_replica::{Bases, Event, Received, Replica, Revision};
 use mr_version::{Author, Version};
 use mr_wire::{Ask, Frame, Record, encode_ask, encode_record};
 use std::alloc::Global;
@@ -29,6 +29,28 @@ impl Device {
         let filter = Filter::read(alloc, filter)?;
         let replica = Replica::try_new(alloc, id, filter, EVENT_LIMIT)?;
         Ok(Device { alloc, replica })
+    }
+
+    /// The device that this one was at its start, with all events of its log again: what a program does that keeps its
+    /// log on disk and is started anew. It ends with what this one has.
+    pub fn from_its_log(&self, id: u16, filter: &str) -> Result<Device, Fault> {
+        let alloc = self.alloc;
+        let id = Author::try_new(id)?;
+        let filter = Filter::read(alloc, filter)?;
+        let log = copies(alloc, self.replica.log())?;
+        match Replica::replay(alloc, id, filter, EVENT_LIMIT, log) {
+            Ok(replica) => Ok(Device { alloc, replica }),
+            Err(fault) => Err(Fault::Replay(fault.number())),
+        }
+    }
+
+    /// A device that has what this one has. It must not go on beside this one: both would give one version to two
+    /// messages.
+    pub fn copy(&self) -> Result<Device, Fault> {
+        Ok(Device {
+            alloc: self.alloc,
+            replica: self.replica.copy()?,
+        })
     }
 
     /// Writes a message. The version names it on all devices, for ever.
@@ -91,6 +113,15 @@ impl Device {
     pub fn feed(&self) -> &[Entry] {
         self.replica.feed()
     }
+}
+
+/// Copies of the events.
+fn copies(alloc: Global, events: &[Event]) -> Result<Vec<Event>, Fault> {
+    let mut copies = Vec::new(alloc);
+    for event in events {
+        copies.push(event.copy(alloc)?)?;
+    }
+    Ok(copies)
 }
 
 /// The request in the frame.

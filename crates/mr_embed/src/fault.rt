@@ -24,6 +24,9 @@ pub enum Fault {
     /// A replica refused an event, for the reason of this number, as `Refusal::number` gives it, and has not changed.
     #[error("a replica refused, for reason {0}")]
     Refused(u8),
+    /// A log can't be replayed, for the reason of this number, as `ReplayFault::number` gives it.
+    #[error("a log can't be replayed, for reason {0}")]
+    Replay(u8),
     /// The bytes of a wire spell no frame, or a frame is too long to be spelled.
     #[error("a frame can't be read or spelled")]
     BadFrame,

@@ -72,7 +72,9 @@ fn play<R: Print + AllocGlobal>(
     break_off(rt, phone, office, shelf)?;
     bring_to_phone(rt, phone, office, shelf)?;
     read_on_phone(rt, phone, shelf, lunch)?;
-    bring_to_office(rt, office, phone)
+    bring_to_office(rt, office, phone)?;
+    start_again(rt, office)?;
+    keep_aside(rt, office)
 }
 
 /// The first mail comes to the office. The phone will want two of the three, and this gives the first of them.
@@ -138,4 +140,16 @@ fn bring_to_office<R: Print + AllocGlobal>(
     let records = exchange.finish(office, phone)?;
     tell_exchange(rt, "office", records)?;
     tell_heads(rt, "office", office)
+}
+
+/// The office's program is started anew, from the log.
+fn start_again<R: Print + AllocGlobal>(rt: &R, office: &Device) -> Result<(), Fault> {
+    let again = office.from_its_log(0, "all")?;
+    tell_heads(rt, "office, from its log", &again)
+}
+
+/// A copy of the office is kept aside.
+fn keep_aside<R: Print + AllocGlobal>(rt: &R, office: &Device) -> Result<(), Fault> {
+    let copy = office.copy()?;
+    tell_heads(rt, "office, copied", &copy)
 }
