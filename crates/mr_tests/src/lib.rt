@@ -1,9 +1,9 @@
 //! Tests of values: versions, messages, filters, sets of versions, and frames.
 //!
 //! A contract can't say that memory is there: a body that always answers "out of memory" is proved
-//! too. So the tests named `ample_memory_..` make each call that allocates, let each thing that
-//! grows grow past the room that it had, and compare the stated answer. The others are of what no
-//! clause says: texts of faults, and definitions held against values that were computed elsewhere.
+//! too. So the tests named `ample_memory_..` make each call that allocates and that no program of the gate
+//! makes, and compare the stated answer. The others are of what no clause says: texts of faults, and
+//! definitions held against values that were computed elsewhere.
 //!
 //! A test is proved safe before it runs, and costs the more the longer it is. So each makes two or
 //! three calls, what several share is a function without clauses, and `mr_tests_samples` has what the test

@@ -1,17 +1,8 @@
-//! `mr_mail`: messages, labels and days find memory, up to their limits; what the definitions mean
-//! by a date and a flag, as computed elsewhere.
-use mr_mail::{Card, Day, Flag, Flags, Label, Message, MessageFault};
-use mr_tests_samples::{expect, letters, message, owned};
+//! `mr_mail`: copies find memory; what the definitions mean by a date, as computed elsewhere, and texts of faults.
+use mr_mail::{Card, Day, Label, Message, MessageFault};
+use mr_tests_samples::{expect, message};
 use std::alloc::Global;
 use std::test::Fail;
-
-/// Sixteen labels, one of them twice, not in order.
-const LABELS: [&str; 17] = [
-    "q", "b", "c", "d", "e", "f", "g", "h", "i", "j", "k", "l", "m", "n", "o", "p", "b",
-];
-
-/// The same labels in order, once each.
-const SORTED_LABELS: &str = "b c d e f g h i j k l m n o p q ";
 
 /// The labels, with a space after each.
 fn joined(alloc: Global, labels: &[Label]) -> Result<String, Fail> {
@@ -21,20 +12,6 @@ fn joined(alloc: Global, labels: &[Label]) -> Result<String, Fail> {
         text.push(' ')?;
     }
     Ok(text)
-}
-
-/// A message as long as a message can be.
-fn longest(alloc: Global) -> Result<Message, Fail> {
-    let from = letters(alloc, 254)?;
-    let subject = letters(alloc, 998)?;
-    let body = letters(alloc, 65_536)?.into_bytes();
-    let labels = owned(alloc, &LABELS)?;
-    Ok(Message::try_new(alloc, from, subject, body, labels, 31, Day::new(65_535))?)
-}
-
-/// The labels of the longest message.
-fn longest_labels(alloc: Global) -> Result<String, Fail> {
-    joined(alloc, longest(alloc)?.labels())
 }
 
 /// The sender and the subject of a message's copy.
@@ -65,16 +42,6 @@ fn copied_label(alloc: Global, text: &str) -> Result<String, Fail> {
     Ok(String::from_str(alloc, copy.as_str())?)
 }
 
-/// Copies of a message's labels.
-fn copied_labels(alloc: Global, message: &Message) -> Result<String, Fail> {
-    joined(alloc, &Label::copy_all(alloc, message.labels())?)
-}
-
-#[test]
-fn ample_memory_message(rt: HostRuntime) -> Result<(), Fail> {
-    expect(longest_labels(rt.alloc())?, SORTED_LABELS)
-}
-
 #[test]
 fn ample_memory_message_copy(rt: HostRuntime) -> Result<(), Fail> {
     expect(
@@ -93,26 +60,8 @@ fn ample_memory_card(rt: HostRuntime) -> Result<(), Fail> {
 }
 
 #[test]
-fn ample_memory_labels(rt: HostRuntime) -> Result<(), Fail> {
-    let message = message(rt.alloc(), &LABELS, 0)?;
-    expect(copied_labels(rt.alloc(), &message)?, SORTED_LABELS)
-}
-
-#[test]
 fn ample_memory_label_copy(rt: HostRuntime) -> Result<(), Fail> {
     expect(copied_label(rt.alloc(), "to-do")?, "to-do")
-}
-
-#[test]
-fn ample_memory_flags(rt: HostRuntime) -> Result<(), Fail> {
-    let flags = Flags::empty().with(Flag::Deleted).with(Flag::Flagged);
-    assert_eq!(rt; flags.list(rt.alloc())?.len(), 2);
-    Ok(())
-}
-
-#[test]
-fn ample_memory_day(rt: HostRuntime) -> Result<(), Fail> {
-    expect(Day::new(65_535).text(rt.alloc())?, "2149-06-06")
 }
 
 #[test]

@@ -16,5 +16,5 @@ mod texts;
 
 pub use entries::{added, all_shown, dropped, shown};
 pub use mail::message;
-pub use names::{item, listed, version, versions};
-pub use texts::{expect, letters, owned};
+pub use names::{listed, version};
+pub use texts::expect;

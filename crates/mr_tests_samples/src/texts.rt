@@ -3,21 +3,12 @@ use std::alloc::Global;
 use std::test::Fail;
 
 /// The texts as values of their own.
-pub fn owned(alloc: Global, texts: &[&str]) -> Result<Vec<String>, Fail> {
+pub(crate) fn owned(alloc: Global, texts: &[&str]) -> Result<Vec<String>, Fail> {
     let mut all = Vec::new(alloc);
     for text in texts {
         all.push(String::from_str(alloc, text)?)?;
     }
     Ok(all)
-}
-
-/// A text of so many letters `a`.
-pub fn letters(alloc: Global, count: usize) -> Result<String, Fail> {
-    let mut text = String::new(alloc);
-    for _ in 0..count {
-        text.push('a')?;
-    }
-    Ok(text)
 }
 
 /// Fails where the text is not the wanted one, and tells both.

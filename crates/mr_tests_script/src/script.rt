@@ -1,7 +1,6 @@
-//! `mr_script` and `mr_command`: lines and scripts find memory; readers and writers that fail, and the longest
-//! script. What scripts print is in the program `mr_rows`.
-use mr_command::Command;
-use mr_script::{Interpreter, ScriptFault, run_script};
+//! `mr_script`: readers and writers that fail, and the longest script. What scripts print is in the program
+//! `mr_rows`.
+use mr_script::{ScriptFault, run_script};
 use std::io;
 use std::io::{ErrorKind, Read, Write};
 use std::test::Fail;
@@ -190,26 +189,6 @@ fn writes_on_after_an_interrupted_write(rt: HostRuntime) -> Result<(), Fail> {
     assert_eq!(rt; ended, Ok(()));
     assert_eq!(rt; writer.calls, FIRST_SYNC_CALLS + 1);
     assert_eq!(rt; writer.written.as_slice(), FIRST_SYNC_ANSWERS);
-    Ok(())
-}
-
-/// A script's line, and the world that it makes.
-#[test]
-fn ample_memory_interpreter(rt: HostRuntime) -> Result<(), Fail> {
-    let mut interpreter = Interpreter::new(rt.alloc());
-    interpreter.line(b"replica 0 9 1 all")?;
-    let issued = interpreter.line(b"create 0 . . 2026-01-05 a")?;
-    assert_eq!(rt; issued.as_str(), "issued 0.1\n");
-    assert!(rt; interpreter.world().is_some());
-    Ok(())
-}
-
-/// A line that makes a replica, with a filter.
-#[test]
-fn ample_memory_command(rt: HostRuntime) -> Result<(), Fail> {
-    let roster = Interpreter::new(rt.alloc());
-    let command = Command::read(rt.alloc(), "replica 0 9 1 label:inbox", &roster)?;
-    assert!(rt; matches!(&command, Command::AddReplica(_)));
     Ok(())
 }
 

@@ -1,0 +1,6 @@
+//! Tests of streams: that a stream which is drawn as a whole finds memory, up to more held versions than one
+//! vector can have the holes of. What a test costs and where it goes is said in `mr_tests`.
+#![tactic(auto)]
+
+#[cfg(test)]
+mod streams;
