@@ -11,3 +11,4 @@ pub mod Meet
 pub mod Text
 pub mod Fragments
 pub mod Order
+pub mod Limits

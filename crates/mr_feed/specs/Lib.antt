@@ -4,3 +4,4 @@ pub mod Fold
 pub mod Port
 pub mod PortFault
 pub mod PlainPort
+pub mod Limits

@@ -6,3 +6,4 @@ pub mod Grammar
 pub mod Meaning
 pub mod Text
 pub mod Written
+pub mod Limits

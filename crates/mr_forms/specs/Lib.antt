@@ -12,3 +12,4 @@ pub mod Plain
 pub mod PlainSteps
 pub mod Fresh
 pub mod PlainLaws
+pub mod Limits

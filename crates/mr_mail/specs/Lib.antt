@@ -4,3 +4,4 @@ pub mod Fault
 pub mod Flag
 pub mod Label
 pub mod Mail
+pub mod Limits

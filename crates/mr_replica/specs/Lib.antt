@@ -25,3 +25,4 @@ pub mod StepThen
 pub mod Methods
 pub mod Step
 pub mod Replay
+pub mod Limits

@@ -11,3 +11,4 @@ pub mod Stage
 pub mod Sync
 pub mod Taken
 pub mod Writing
+pub mod Limits

@@ -7,3 +7,4 @@ pub mod Stream
 pub mod Merge
 pub mod Claims
 pub mod Onward
+pub mod Limits

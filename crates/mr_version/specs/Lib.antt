@@ -3,3 +3,4 @@ pub mod Order
 pub mod Sets
 pub mod Fault
 pub mod Number
+pub mod Limits
