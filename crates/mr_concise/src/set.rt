@@ -92,7 +92,7 @@ impl VersionSet for ConciseVector {
 }
 
 /// One version more, in its author's column.
-pub(crate) fn insert_in(
+fn insert_in(
     columns: &mut Vec<AuthorColumn>,
     alloc: Global,
     author: Author,
@@ -121,7 +121,7 @@ pub(crate) fn insert_in(
 }
 
 /// The runs of a column, put behind those of lower authors.
-pub(crate) fn push_runs(x: &AuthorColumn, runs: &mut Vec<Run>) -> Result<(), AllocError>
+fn push_runs(x: &AuthorColumn, runs: &mut Vec<Run>) -> Result<(), AllocError>
     requires column { IsColumn x.now.column }
     requires some { 1 ≤ x.now.column.upto }
     requires before { EndBefore x.now.author 1 runs.old.items }

@@ -82,7 +82,7 @@ impl<'a, S: Source> Source for AnyOf<'a, S> {
 }
 
 /// The lower of two authors, where there are any.
-pub(crate) fn lower_author(a: Option<Author>, b: Option<Author>) -> Option<Author>
+fn lower_author(a: Option<Author>, b: Option<Author>) -> Option<Author>
     ensures { result ≡ lower_of a b }
 {
     match (a, b) {
@@ -93,7 +93,7 @@ pub(crate) fn lower_author(a: Option<Author>, b: Option<Author>) -> Option<Autho
 }
 
 /// The lower of two counters, where there are any.
-pub(crate) fn lower(a: Option<u32>, b: Option<u32>) -> Option<u32>
+fn lower(a: Option<u32>, b: Option<u32>) -> Option<u32>
     ensures { result ≡ lower_of a b }
 {
     match (a, b) {

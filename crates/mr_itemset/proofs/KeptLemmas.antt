@@ -135,9 +135,6 @@ more_holes xs few most le all = All-weaker (λ x. length x.column.holes ≤ few)
 pub at_most_more : (columns : List AuthorColumn) (few most : ℕ) → few ≤ most → HasAtMost few columns → HasAtMost most columns
 at_most_more columns few most le has q = let h = has q in omega arith
 
-pub listed_more : (xs : List Listed) (few most : ℕ) → few ≤ most → All (λ x. HasAtMost few x.vector) xs → All (λ x. HasAtMost most x.vector) xs
-listed_more xs few most le all = All-weaker (λ x. HasAtMost few x.vector) (λ x. HasAtMost most x.vector) (λ x h. at_most_more x.vector few most le h) xs all
-
 pub sparse_all : (k : Normal) (most : ℕ) → HasAtMost most k.all → All (λ x. HasAtMost most x.vector) k.listed → IsSparse k most
 sparse_all k most all listed i = go (vector_in-cases k.all k.listed i)
   where

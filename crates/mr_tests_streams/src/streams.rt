@@ -143,6 +143,17 @@ fn ample_memory_draw_full(rt: HostRuntime) -> Result<(), Fail> {
     Ok(())
 }
 
+#[test]
+fn ample_memory_copy_streams(rt: HostRuntime) -> Result<(), Fail> {
+    let store = two_heads(&rt, rt.alloc())?;
+    let mut streams = begun_stream(rt.alloc(), Mode::Full, "all", &["0.2"])?;
+    draws(rt.alloc(), &mut streams, &store, 3)?;
+    let mut copy = streams.copy()?;
+    let kinds = draws(rt.alloc(), &mut copy, &store, 4)?;
+    assert_eq!(rt; kinds.as_str(), "KKE.");
+    Ok(())
+}
+
 /// Heads 0.1, 0.3, and so on, so many of them.
 fn odd_heads(alloc: Global, count: u16) -> Result<Store, Fail> {
     let mut store = Store::new(alloc);
