@@ -18,7 +18,9 @@ pub const COUNTERS_END: u32 = MAX_COUNTER + 1;
 /// Counters that a column does not cover, from the first to the last.
 #[derive(Clone, Copy, Debug, PartialEq, Eq)]
 pub struct Hole {
+    /// The lowest counter that is not covered.
     pub first: u32,
+    /// The highest of them.
     pub last: u32,
 }
 

@@ -8,7 +8,11 @@
 //! Each set of versions has one vector: no column is empty, each bound is covered, and holes are in order,
 //! with covered counters between them. So two vectors are equal exactly where they have the same versions.
 //! A column has at most 4,096 holes. A call whose result would have a column with more answers
-//! `TooManyHoles` and changes nothing, and it does so before it asks for memory.
+//! `TooManyHoles` and changes nothing, also where memory is wanting; `from_versions` and `concise_fragments`
+//! alone may answer `OutOfMemory` in its place.
+//!
+//! The idea of one vector with exceptions is that of D. Malkhi and D. Terry, *Concise Version Vectors in WinFS*
+//! (DISC 2005); holes within an author's column are our own form of it.
 //!
 //! A set in any other form becomes a vector by `from_set`, and the fragments of a knowledge get concise
 //! vectors by `concise_fragments`. `knowledge_text` shows them, as `all 0:1; 0.3,0.5 0:9!2!5..7`.

@@ -1,8 +1,9 @@
 //! `mailrep`: mail replicas on the command line.
 //!
 //! `mailrep run` hands standard input to `run_script`, which runs it line by line and prints the
-//! answers; `mailrep frame HEX` prints what `frame_text` says of HEX. Here stand the command line with its help, and the exit status: 0; 1 for a script, read
-//! or write fault, or where memory runs out; 2 for a wrong command line. A fault's text goes to standard
+//! answers; `mailrep frame HEX` prints what `frame_text` says of HEX. Here stand the
+//! command line with its help, and the exit status: 0; 1 for a script, read or write fault, for a HEX that spells
+//! no frame, or where memory runs out; 2 for a wrong command line. A fault's text goes to standard
 //! error.
 #![tactic(auto)]
 

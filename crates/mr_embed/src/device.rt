@@ -13,7 +13,7 @@ use std::alloc::Global;
 /// How many events a device's log takes.
 const EVENT_LIMIT: u32 = 1_000;
 
-/// One device with its replica. Each method is one event of the replica, with the bytes that it takes or gives.
+/// One device with its replica. Each method that changes it is one event of the replica, with the bytes that it takes or gives.
 #[derive(Drop)]
 pub struct Device {
     alloc: Global,

@@ -56,6 +56,9 @@ pub trait PortIn {
         ensures offers { Offers gave is_ended was_full self.old entry result self.new };
 
     /// Ends the offers. A closed port stays closed.
+    ///
+    /// `Full` where the port has no place for the mark of its end, and then nothing has changed; never of a port
+    /// whose mark takes no place.
     fn close(&mut self) -> Result<(), CloseFault>
         ensures closes { Closes gave is_ended was_full self.old result self.new };
 

@@ -10,7 +10,9 @@ pub const MAX_ITEMS: usize = 65_536;
 /// Some items, or all that there are.
 #[derive(Debug, Drop)]
 pub enum ItemSet {
+    /// All items, also those that nobody has created yet.
     All,
+    /// These items.
     Listed(Vec<ItemId>),
 }
 

@@ -8,8 +8,11 @@ use mr_version::{Author, MAX_COUNTER, Version};
 /// Counters are those of versions: 1 to 1,000,000.
 #[derive(Clone, Copy, Debug, PartialEq, Eq)]
 pub struct Run {
+    /// Whose versions they are.
     pub author: Author,
+    /// The lowest counter.
     pub first: u32,
+    /// The highest counter.
     pub last: u32,
     ghost from_one: { 1 ≤ first },
     ghost ordered: { first ≤ last },

@@ -2,7 +2,8 @@
 //!
 //! A replica of many items knows the same versions of most of them. So what is known for all items is kept
 //! once, and beside it a vector for each item of which more is known. A version that is learned for one
-//! item is known for all: it belongs to one item, and says nothing of the others.
+//! item is known for all: it belongs to one item, and says nothing of the others. Knowledge by sets of items is an
+//! idea of V. Ramasubramanian and others, *Cimbiosys* (NSDI 2009).
 //!
 //! Each knowledge has one value, its normal form: no listed vector has only what is known for all items. So
 //! two values are equal exactly where they know the same. `fragments` gives the normal form as it travels,

@@ -1,7 +1,8 @@
 //! What a version supersedes: its made-with set, and the trail that such sets are built from.
 //!
-//! A [`Revision`] is a version of an item, with its message and its made-with set: the versions that
-//! it supersedes. An item's first version supersedes none. A later one supersedes, exactly:
+//! A [`Revision`] is a version of an item, with its message and its made-with set: the versions of
+//! its item that it supersedes, and earlier ones of its author. An item's first version has an empty set. That of
+//! a later one has, exactly:
 //!
 //! - its bases, the versions that it was made from, with all that they supersede;
 //! - its author's last version of the item, with all that this one supersedes, also where that version

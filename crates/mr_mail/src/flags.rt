@@ -9,10 +9,15 @@ use std::marker::Model;
 /// One flag of a message.
 #[derive(Clone, Copy, Debug, PartialEq, Eq)]
 pub enum Flag {
+    /// It has been read.
     Seen,
+    /// It has been answered.
     Answered,
+    /// It is marked for attention.
     Flagged,
+    /// It is not finished.
     Draft,
+    /// It counts as deleted; it is still there.
     Deleted,
 }
 

@@ -6,9 +6,9 @@
 //! its caller before anything changes, so that a frame can be made of it, or a place be found. A create issues
 //! the first version of a new item; an edit issues a version that supersedes held versions of one item,
 //! its bases, with all that these supersede, and the replica's own last version of the item likewise. An
-//! edit's version also supersedes each lower counter of the replica's own, so that its own column has no
-//! holes, and there versions of other items are among them: what leaves the replica is what the new
-//! version supersedes **of its item**.
+//! edit's version also supersedes each lower counter of the replica's own, so its own column has no
+//! holes, and has versions of other items too. What leaves the replica is what the new version supersedes
+//! **of its item**.
 //!
 //! An own version that the replica's filter selects enters its heads, another one its push-outs, which
 //! it holds until another replica has them. Each change of the heads is an entry of the feed, each
@@ -28,7 +28,7 @@
 //! A replica is its log replayed: [`Replica::replay`] makes it again of the events that it admitted.
 //!
 //! What is known is kept in a form that the caller chooses, by the type `K`. A version that is issued
-//! is learned for its item, alone: what it supersedes of its item was learned before it, and the rest are
+//! alone is learned, for its item or, in some forms, for all items: what it supersedes of its item was learned before it, and the rest are
 //! versions of other items. [`Replica::fragments`] tells what is known, with concise vectors.
 //!
 //! ```text

@@ -56,7 +56,8 @@ impl ReplicaFault {
     }
 }
 
-/// The most events that a replica's log may take.
+/// The highest event limit of a replica. A Retire is admitted past the limit, so a log has at most one event
+/// more.
 pub const MAX_EVENTS: u32 = 1_000_000;
 
 /// A replica over a form of knowledge.
@@ -96,8 +97,8 @@ impl<K: Knowledge> Replica<K> {
     ghost use Rattle.mr_store.specs.Revisions.{AreInVersionOrder, AreApart, AreConflicts};
     ghost use Rattle.mr_replica.specs.Fragments.{HaveKnown, AreFragmentsOf, HasHoleyPart};
 
-    /// A replica of this id, with nothing in it. Its log takes up to `event_limit` events, 1 to
-    /// 1,000,000; any other limit is a `BadLimit`. Nothing is allocated; what grows later takes its
+    /// A replica of this id, with nothing in it. It admits up to `event_limit` events, 1 to
+    /// 1,000,000, and a Retire past them; any other limit is a `BadLimit`. Nothing is allocated; what grows later takes its
     /// memory from `alloc`.
     pub fn try_new(
         alloc: Global,
@@ -141,7 +142,7 @@ impl<K: Knowledge> Replica<K> {
         &self.filter
     }
 
-    /// How many events its log takes.
+    /// How many events it admits; a Retire is admitted past them, once.
     pub fn event_limit(&self) -> u32
         ensures is { result ≡ self.now.event_limit }
         ensures low { 1 ≤ result }
@@ -205,8 +206,8 @@ impl<K: Knowledge> Replica<K> {
     }
 
     /// What is known, as fragments with concise vectors, as they leave the replica: one for each part
-    /// that the form has of this knowledge, in their order, so that they have one text. None of them
-    /// lists no item.
+    /// that the form has of this knowledge, in their order, so that they have one text. Each one that
+    /// lists items lists at least one.
     ///
     /// `TooManyHoles` only where one of these parts has a column with more than 4,096 holes; where there
     /// is such a part it answers that or `OutOfMemory`. It costs the form's fragments and their vectors.

@@ -29,7 +29,7 @@ pub trait Fold: Drop {
     fn new(alloc: Global) -> Self
         ensures { shows result no_cards };
 
-    /// Applies one entry.
+    /// Applies one entry. Where memory runs out nothing has changed.
     fn fold_in(&mut self, entry: &Entry) -> Result<(), AllocError>
         ensures ok { OnOk result (Applies shows self.old (entry.now ∷ []) self.new) }
         ensures err { OnErr result (self.new ≡ self.old) };

@@ -5,8 +5,8 @@
 //! makes, and compare the stated answer. The others are of what no clause says: texts of faults, and
 //! definitions held against values that were computed elsewhere.
 //!
-//! A test is proved safe before it runs, and costs the more the longer it is. So each makes two or
-//! three calls, what several share is a function without clauses, and `mr_tests_samples` has what the test
+//! A test is proved safe before it runs, and costs the more the longer it is. So each is one
+//! call of a helper without clauses, and a comparison, and `mr_tests_samples` has what the test
 //! crates share. A table of cases is no test: it goes through the program `mr_rows`, and two forms
 //! of one thing are compared by the program `mr_tests_twins`, which calls all that both forms have.
 //! `mr_console` is a program, whose functions no other crate can call: `tools/try-command-lines`

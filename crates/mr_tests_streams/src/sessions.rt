@@ -80,19 +80,25 @@ fn begun(alloc: Global, mode: Mode) -> Result<Sessions, Fail> {
     Ok(sessions)
 }
 
-/// How many vectors and fragments the first session has kept.
-fn kept(sessions: &Sessions) -> (usize, usize) {
-    match sessions.get(1) {
+/// Sessions of which the first has taken a Start, a Held and a Know.
+fn three_taken(alloc: Global) -> Result<Sessions, Fail> {
+    let mut sessions = begun(alloc, Mode::Full)?;
+    give(&mut sessions, &held(alloc, 0)?)?;
+    give(&mut sessions, &know(alloc, 1)?)?;
+    Ok(sessions)
+}
+
+/// How many vectors and fragments the first session has kept, in a copy.
+fn kept_in_copy(sessions: &Sessions) -> Result<(usize, usize), Fail> {
+    Ok(match sessions.copy()?.get(1) {
         Some(session) => (session.held().len(), session.know().len()),
         None => (0, 0),
-    }
+    })
 }
 
 #[test]
-fn ample_memory_copy(rt: HostRuntime) -> Result<(), Fail> {
-    let mut sessions = begun(rt.alloc(), Mode::Full)?;
-    give(&mut sessions, &held(rt.alloc(), 0)?)?;
-    give(&mut sessions, &know(rt.alloc(), 1)?)?;
-    assert_eq!(rt; kept(&sessions.copy()?), (1, 1));
+fn ample_memory_copy_sessions(rt: HostRuntime) -> Result<(), Fail> {
+    let sessions = three_taken(rt.alloc())?;
+    assert_eq!(rt; kept_in_copy(&sessions)?, (1, 1));
     Ok(())
 }

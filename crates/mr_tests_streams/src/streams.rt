@@ -7,7 +7,7 @@ use mr_forms::{Fragment, ItemSet, VersionSet};
 use mr_madewith::Revision;
 use mr_session::{AskedOf, Streams};
 use mr_store::{Part, Store};
-use mr_tests_samples::{message, version};
+use mr_tests_samples::{expect, message, version};
 use mr_version::{Author, ItemId, Version};
 use mr_wire::{Body, FrameFragment, Mode};
 use std::alloc::Global;
@@ -134,24 +134,35 @@ fn begun_stream(alloc: Global, mode: Mode, filter: &str, claims: &[&str]) -> Res
     Ok(streams)
 }
 
+/// The kinds of so many records of a full stream that answers this filter.
+fn full_stream(alloc: Global, store: &Store, filter: &str, count: u8) -> Result<String, Fail> {
+    let mut streams = begun_stream(alloc, Mode::Full, filter, &[])?;
+    draws(alloc, &mut streams, store, count)
+}
+
 #[test]
 fn ample_memory_draw_full(rt: HostRuntime) -> Result<(), Fail> {
     let store = two_heads(&rt, rt.alloc())?;
-    let mut streams = begun_stream(rt.alloc(), Mode::Full, "all", &[])?;
-    let kinds = draws(rt.alloc(), &mut streams, &store, 8)?;
-    assert_eq!(rt; kinds.as_str(), "SIIHKKE.");
-    Ok(())
+    expect(full_stream(rt.alloc(), &store, "all", 8)?, "SIIHKKE.")
+}
+
+/// The kinds of four records of a copy of the streams.
+fn copy_draws(alloc: Global, streams: &Streams, store: &Store) -> Result<String, Fail> {
+    let mut copy = streams.copy()?;
+    draws(alloc, &mut copy, store, 4)
+}
+
+/// What a copy draws of a stream that has given three records.
+fn copied_stream(alloc: Global, store: &Store) -> Result<String, Fail> {
+    let mut streams = begun_stream(alloc, Mode::Full, "all", &["0.2"])?;
+    draws(alloc, &mut streams, store, 3)?;
+    copy_draws(alloc, &streams, store)
 }
 
 #[test]
 fn ample_memory_copy_streams(rt: HostRuntime) -> Result<(), Fail> {
     let store = two_heads(&rt, rt.alloc())?;
-    let mut streams = begun_stream(rt.alloc(), Mode::Full, "all", &["0.2"])?;
-    draws(rt.alloc(), &mut streams, &store, 3)?;
-    let mut copy = streams.copy()?;
-    let kinds = draws(rt.alloc(), &mut copy, &store, 4)?;
-    assert_eq!(rt; kinds.as_str(), "KKE.");
-    Ok(())
+    expect(copied_stream(rt.alloc(), &store)?, "KKE.")
 }
 
 /// Heads 0.1, 0.3, and so on, so many of them.
@@ -168,8 +179,5 @@ fn odd_heads(alloc: Global, count: u16) -> Result<Store, Fail> {
 #[test]
 fn ample_memory_two_held_vectors(rt: HostRuntime) -> Result<(), Fail> {
     let store = odd_heads(rt.alloc(), 4098)?;
-    let mut streams = begun_stream(rt.alloc(), Mode::Full, "none", &[])?;
-    let kinds = draws(rt.alloc(), &mut streams, &store, 7)?;
-    assert_eq!(rt; kinds.as_str(), "SHHKKE.");
-    Ok(())
+    expect(full_stream(rt.alloc(), &store, "none", 7)?, "SHHKKE.")
 }

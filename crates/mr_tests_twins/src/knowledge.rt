@@ -200,14 +200,24 @@ fn make(twin: &mut Twin, other: &mut Twin, alloc: Global, call: &Call) -> Result
     }
 }
 
+/// Makes one random call, and gives whether both forms answer alike and then know the same.
+fn call_agrees(
+    twin: &mut Twin,
+    other: &mut Twin,
+    numbers: &mut Numbers,
+    alloc: Global,
+) -> Result<bool> {
+    let call = Call::random(numbers, alloc)?;
+    Ok(make(twin, other, alloc, &call)? && twin.agrees()?)
+}
+
 /// Makes random calls on two knowledges, and compares both forms after each.
 pub fn compare(alloc: Global) -> Result<Outcome> {
     let mut numbers = Numbers::from_seed(SEED);
     let mut twin = Twin::new(alloc);
     let mut other = Twin::new(alloc);
     for number in 1..CALLS + 1 {
-        let call = Call::random(&mut numbers, alloc)?;
-        if !make(&mut twin, &mut other, alloc, &call)? || !twin.agrees()? {
+        if !call_agrees(&mut twin, &mut other, &mut numbers, alloc)? {
             return Ok(Outcome::DifferAt(number));
         }
     }

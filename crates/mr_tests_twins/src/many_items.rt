@@ -42,18 +42,20 @@ fn has_one_fragment(knowledge: &ItemKnowledge, set: &ConciseVector) -> Result<bo
     })
 }
 
+/// Whether one item more is refused, and changes nothing.
+fn refuses_one_more(knowledge: &mut ItemKnowledge, set: &ConciseVector) -> Result<bool> {
+    let last = ItemId::new(Version::try_new(Author::try_new(0)?, ITEMS)?);
+    let before = knowledge.copy()?;
+    let answer = knowledge.learn_below(last, set);
+    Ok(answer == Err(FormFault::TooManyItems) && *knowledge == before)
+}
+
 /// Learns the same of one item after the other, up to the first that is one too many, which has to
 /// be refused and change nothing.
 pub fn compare(alloc: Global) -> Result<Outcome> {
     let set = one_version(alloc)?;
     let mut knowledge = learned(alloc, &set)?;
-    let before = knowledge.copy()?;
-    let last = ItemId::new(Version::try_new(Author::try_new(0)?, ITEMS)?);
-    let answer = knowledge.learn_below(last, &set);
-    if answer != Err(FormFault::TooManyItems)
-        || knowledge != before
-        || !has_one_fragment(&knowledge, &set)?
-    {
+    if !refuses_one_more(&mut knowledge, &set)? || !has_one_fragment(&knowledge, &set)? {
         return Ok(Outcome::DifferAt(ITEMS));
     }
     let calls = ITEMS;

@@ -91,19 +91,23 @@ impl Twin {
         )
     }
 
-    /// Whether both have the same versions with another set, and the same together with it.
-    fn combines(&self, alloc: Global, other: &Twin) -> Result<bool> {
+    /// Whether both have the same versions with another set.
+    fn meets(&self, alloc: Global, other: &Twin) -> Result<bool> {
         let meet = Twin {
             concise: self.concise.meet(&other.concise)?,
             plain: plain_meet(alloc, &self.plain, &other.plain)?,
         };
-        let mut both = self.plain.copy()?;
-        both.union(&other.plain)?;
-        let gathered = Twin {
+        meet.is_one()
+    }
+
+    /// Whether both are the same together with another set.
+    fn gathers(&self, alloc: Global, other: &Twin) -> Result<bool> {
+        let mut gathered = Twin {
             concise: ConciseVector::gather(alloc, &(&self.concise, &other.concise))?,
-            plain: both,
+            plain: self.plain.copy()?,
         };
-        Ok(meet.is_one()? && gathered.is_one()?)
+        gathered.plain.union(&other.plain)?;
+        gathered.is_one()
     }
 
     /// Whether the vector is the one that is made of the plain set, and an equal copy.
@@ -131,10 +135,23 @@ fn call(twin: &mut Twin, other: &mut Twin, alloc: Global, kind: u32, run: Run) -
         }
         3 | 4 => Ok(twin.insert_range(&run)),
         5 => Ok(twin.union(other)),
-        6 => twin.combines(alloc, other),
+        6 => Ok(twin.meets(alloc, other)? && twin.gathers(alloc, other)?),
         7 => twin.is_made(alloc),
         _ => Ok(twin.insert(Version::try_new(run.author, run.first)?)),
     }
+}
+
+/// Makes one random call, and gives whether both forms answer alike to it, and then to everything.
+fn call_agrees(
+    twin: &mut Twin,
+    other: &mut Twin,
+    numbers: &mut Numbers,
+    alloc: Global,
+) -> Result<bool> {
+    let run = numbers.run()?;
+    let kind = numbers.below(16);
+    let asked = Version::try_new(run.author, run.last)?;
+    Ok(call(twin, other, alloc, kind, run)? && twin.agrees(other, asked)?)
 }
 
 /// Makes random calls on two sets, and asks both forms everything after each.
@@ -143,10 +160,7 @@ pub fn compare(alloc: Global) -> Result<Outcome> {
     let mut twin = Twin::new(alloc);
     let mut other = Twin::new(alloc);
     for number in 1..CALLS + 1 {
-        let run = numbers.run()?;
-        let kind = numbers.below(16);
-        let asked = Version::try_new(run.author, run.last)?;
-        if !call(&mut twin, &mut other, alloc, kind, run)? || !twin.agrees(&other, asked)? {
+        if !call_agrees(&mut twin, &mut other, &mut numbers, alloc)? {
             return Ok(Outcome::DifferAt(number));
         }
     }

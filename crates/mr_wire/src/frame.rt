@@ -11,10 +11,14 @@ use mr_madewith::Revision;
 use mr_version::Author;
 use std::marker::Model;
 
-/// Whether a stream tells all that its source knows, or what the target's filter selects.
+/// Which of the two a stream is.
 #[derive(Clone, Copy, Debug, PartialEq, Eq)]
 pub enum Mode {
+    /// The source's filter is not seen to cover the target's: versions alone are told, and the End teaches
+    /// nothing.
     Partial,
+    /// The source's filter covers the target's: behind the versions it tells what it holds and knows, and the
+    /// End teaches that.
     Full,
 }
 
@@ -36,11 +40,17 @@ pub struct Header {
 /// What a record says.
 #[derive(Debug, Drop)]
 pub enum Body {
+    /// The first record, with the stream's mode.
     Start(Mode),
+    /// A revision that the target's filter selects.
     Item(Revision),
+    /// A version that it does not select, of an item that the target knows.
     MoveOut(Descent),
+    /// Versions of the source's heads.
     Held(ConciseVector),
+    /// A part of what the source knows.
     Know(FrameFragment),
+    /// The last record.
     End,
 }
 
@@ -169,7 +179,7 @@ impl Ask {
     }
 }
 
-/// A replica's word that it holds a version, or one that supersedes it.
+/// A replica's word that it holds the version of `descent` as a head.
 #[derive(Debug, Drop)]
 pub struct Receipt {
     /// Who gives it.
@@ -181,7 +191,10 @@ pub struct Receipt {
 /// What a replica sends to another.
 #[derive(Debug, Drop)]
 pub enum Frame {
+    /// A request for what the one who asks lacks.
     Ask(Ask),
+    /// One piece of the answer.
     Record(Record),
+    /// What lets the target let go of push-outs.
     Receipt(Receipt),
 }

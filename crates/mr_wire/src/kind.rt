@@ -8,7 +8,7 @@ pub(crate) const FORMAT: u8 = 2;
 /// The format before it, without receipts, which is still read.
 pub(crate) const FORMAT_WITHOUT_RECEIPTS: u8 = 1;
 
-/// What a frame is.
+/// What a frame is: a request, a record by its body, or a receipt.
 #[derive(Clone, Copy, Debug, PartialEq, Eq)]
 pub enum Kind {
     Ask,

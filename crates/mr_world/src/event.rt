@@ -6,7 +6,9 @@ use mr_version::{Author, Version};
 /// One of the two that follow a replica's feed.
 #[derive(Clone, Copy, Debug, PartialEq, Eq)]
 pub enum Subscriber {
+    /// Which versions have a label.
     Indexer,
+    /// How many heads are unseen.
     Notifier,
 }
 

@@ -16,7 +16,7 @@ pub struct Spec {
     pub id: Author,
     /// Which messages it selects.
     pub filter: Filter,
-    /// How many events its log takes, 1 to 1,000,000.
+    /// How many events it admits, 1 to 1,000,000; a Retire is admitted past them, once.
     pub event_limit: u32,
     /// How many entries may wait in the port to each of its subscribers, 1 to 4,096.
     pub port_capacity: usize,

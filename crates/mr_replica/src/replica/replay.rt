@@ -50,8 +50,8 @@ impl<K: Knowledge> Replica<K> {
     /// admits in its turn. Its log is then just these events.
     ///
     /// So a replica is its log replayed: from the log of a replica, and its id, filter and limit, comes an
-    /// equal replica, where the form of knowledge has one value for each knowledge; and no event is refused but
-    /// for want of memory.
+    /// equal replica, where the values of the form's model are their meanings, which is shown of no form here; and
+    /// then no event is refused but for want of memory.
     ///
     /// `BadLimit` where a log takes no such number of events. Else `Refused` tells the first event that is
     /// refused, for want of memory too, by its place from 0 and the refusal. It costs the step of each event;
