@@ -95,22 +95,6 @@ pub record IsAllTo (has : ℕ → Bool) (from at : ℕ) : Type 0 where
   pub bound : at ≤ COUNTERS_END
   pub between : (c : ℕ) → from ≤ c → c < at → has c ≡ true
 
-pub IsAllTo-more : (has : ℕ → Bool) (from at next : ℕ) → IsAllTo has from at → IsPassed has at next → IsAllTo has from next
-IsAllTo-more has from at next w p =
-    let up = w.above in
-    let further = p.above in
-    record {
-      above = omega arith;
-      bound = p.bound;
-      between = λ c f l. elim (cases_lt c at) [
-        | inl b ↦ w.between c f b
-        | inr g ↦ p.between c g l
-      ];
-    }
-
-pub IsAllTo-end : (has : ℕ → Bool) (from at next : ℕ) → IsAllTo has from at → IsPassed has at next → next ≡ at → IsNextOut has from at
-IsAllTo-end has from at next w p e = record { above = w.above; is_out = p.stays e; between = w.between }
-
 -- all from here up to the place are in one of two sets, and the place is not in the first
 pub record IsPastFirst (s t : ℕ → Bool) (from at : ℕ) : Type 0 where
   pub all : IsAllTo (either s t) from at

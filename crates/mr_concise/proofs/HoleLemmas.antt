@@ -47,9 +47,6 @@ set-both hs i f k l h a b = rw (le-leb f (k - 1) a, le-leb (k + 1) l b, add-one 
     go (h ∷ hs) zero r x l = refl
     go (h ∷ hs) (suc i) r x l = ap (λ ys. h ∷ ys) (go hs i r x (omega arith))
 
-pub remove-both : (hs : List Hole) (i f k l : ℕ) → k - 1 < f → l < k + 1 → take i hs ++ drop (suc i) hs ≡ take i hs ++ (gap f (k - 1) ++ (gap (k + 1) l ++ drop (i + 1) hs))
-remove-both hs i f k l a b = rw (lt-leb f (k - 1) a, lt-leb (k + 1) l b, add-one i) refl
-
 -- the hole at the place is the one that has k, or none has it
 pub filled-at : (k : ℕ) (hs : List Hole) (i : ℕ) (x : Hole) → ((j : ℕ) (d : Hole) → 0 ≤ j → j < i → nat_lt (get_or hs j d).last k ≡ true) → i < length hs → x ≡ get_or hs i x → k ≤ x.last → x.first ≤ k → ((j : ℕ) (d : Hole) → j < i → (get_or hs j d).first ≤ (get_or hs j d).last) → filled k hs ≡ take i hs ++ (gap x.first (k - 1) ++ (gap (k + 1) x.last ++ drop (i + 1) hs))
 filled-at k [] i x before l at ge le ordered = absurd (omega arith)

@@ -6,7 +6,7 @@ use Rattle.mr_version.specs.declared.version.TheConstants.{MAX_COUNTER}
 use Rattle.mr_concise.specs.Edges.{is_on, IsRising}
 use Rattle.mr_concise.specs.declared.column.Hole.{Hole}
 use Rattle.mr_concise.specs.Column.{Extent, hole_edges, edges, gap, filled, with_counter, column_has, IsColumn}
-use Rattle.mr_concise.proofs.EdgeLemmas.{is_on-before, is_on-turn, is_on-stay, IsRising-end, IsRising-lower}
+use Rattle.mr_concise.proofs.EdgeLemmas.{is_on-before, is_on-stay, IsRising-end, IsRising-lower}
 use Rattle.mr_concise.proofs.ColumnLemmas.{column_has-edges, column_has-zero}
 
 -- the edges of holes and of a bound's end
@@ -23,10 +23,6 @@ has_it old k h c = elim (cases_eq c k) [
   | inr n ↦ rw (ne_eqb c k n) refl
 ]
 
-or-true : (b : Bool) → (b || true) ≡ true
-or-true true = refl
-or-true false = refl
-
 bool-1 : (c first last k : ℕ) (x : Bool) → first ≡ k → k ≡ last → (c ≤ last → x ≡ true) → x ≡ ((c == k) || (if nat_lt c first then true else (if nat_lt c (last + 1) then false else x)))
 bool-1 c first last k x e q h = grind (arith, nat_tests)
 
@@ -38,16 +34,6 @@ bool-3 c first last k x e q h = grind (arith, nat_tests)
 
 bool-4 : (c first last k : ℕ) (x : Bool) → first < k → k < last → (if nat_lt c first then true else (if nat_lt c (k - 1 + 1) then false else (if nat_lt c (k + 1) then true else (if nat_lt c (last + 1) then false else x)))) ≡ ((c == k) || (if nat_lt c first then true else (if nat_lt c (last + 1) then false else x)))
 bool-4 c first last k x e q = grind (arith, nat_tests)
-
--- three places in a row, of a hole and what follows it
-at_hole : (first last : ℕ) (ts : List ℕ) (c : ℕ) (P : Bool → Type 0) → (c < first → P true) → (first ≤ c → c ≤ last → P false) → (first ≤ c → last < c → P (is_on true ts c)) → P (is_on true (first ∷ (last + 1) ∷ ts) c)
-at_hole first last ts c P before inside past = elim (cases_lt c first) [
-  | inl l ↦ rw (is_on-stay true first ((last + 1) ∷ ts) c l) (before l)
-  | inr g ↦ elim (cases_lt c (last + 1)) [
-    | inl l ↦ rw (is_on-turn true first ((last + 1) ∷ ts) c g, is_on-stay false (last + 1) ts c l) (inside g (omega arith))
-    | inr q ↦ rw (is_on-turn true first ((last + 1) ∷ ts) c g, is_on-turn false (last + 1) ts c q) (past g (omega arith))
-  ]
-]
 
 -- A hole is split at k. What follows it is rising, from its end on.
 split : (first last k : ℕ) (holes : List Hole) (end low : ℕ) → first ≤ k → k ≤ last → low < first → IsRising (last + 1) (to_end holes end) → IsRising low (to_end (gap first (k - 1) ++ (gap (k + 1) last ++ holes)) end) × HasOneMore (is_on true (to_end (gap first (k - 1) ++ (gap (k + 1) last ++ holes)) end)) (is_on true (first ∷ (last + 1) ∷ to_end holes end)) k

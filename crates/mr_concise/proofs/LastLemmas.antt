@@ -1,4 +1,4 @@
-use Rattle.std.proofs.Common.{◌≡◌, ◌≤◌, ◌<◌, ◌+◌, ◌⊎◌, ◌&&◌, inl, inr, nat_lt, ap, sym, get_or, length, ℕ, suc, zero, true, false, nat_le, refl, ◌∙◌, arith, List, [], ◌∷◌}
+use Rattle.std.proofs.Common.{◌≡◌, ◌≤◌, ◌<◌, ◌+◌, ◌⊎◌, ◌&&◌, inl, inr, nat_lt, ap, sym, get_or, length, ℕ, true, false, nat_le, refl, ◌∙◌, arith, List, [], ◌∷◌}
 use Rattle.std.proofs.lemmas.Bool.{lt-leb, and_parts, and_right, cases_lt, false≢true, leb-true, ltb-true, ltb-false, lt-ltb, le-ltb, ne_eqb}
 use Rattle.std.specs.List.Sorted.{IsPartitionPoint}
 use Rattle.mr_forms.specs.Runs.{IsNextAuthor, HasNoAuthorFrom}
@@ -9,7 +9,6 @@ use Rattle.mr_forms.specs.Runs.{HasVersionsAlone}
 use Rattle.mr_concise.specs.Column.{Extent, column_has, empty_column, IsColumn}
 use Rattle.mr_concise.specs.Vector.{column_of, vector_has, IsVectorFrom}
 use Rattle.mr_concise.specs.Last.{IsLast}
-use Rattle.mr_forms.specs.Runs.{HasNoneOf}
 use Rattle.mr_concise.proofs.ColumnLemmas.{column_has-edges}
 use Rattle.mr_concise.proofs.UnionLemmas.{column_of-IsColumn, bound-on, item-IsColumn, column_has-empty}
 
@@ -24,13 +23,6 @@ bound-is_last columns q v some =
       is_in = column_has-edges (column_of columns q) (column_of columns q).upto is.apart some ∙ bound-on 0 (column_of columns q).upto (column_of columns q).holes is.apart;
       above = λ c l. column_has-above (column_of columns q) c l;
     }
-
-pub no_bound-none : (columns : List AuthorColumn) (q : ℕ) → (column_of columns q).upto ≡ 0 → HasNoneOf (vector_has columns) q
-no_bound-none columns q none c = go c
-  where
-    go : (c : ℕ) → column_has (column_of columns q) c ≡ false
-    go zero = refl
-    go (suc c) = column_has-above (column_of columns q) (suc c) (omega arith)
 
 -- authors below id are below q
 before-lower : (xs : List AuthorColumn) (id i q : ℕ) → IsPartitionPoint (λ x. nat_lt x.author id ≡ true) (λ x. nat_lt x.author id ≡ false) xs i → id ≤ q → (k : ℕ) (d : AuthorColumn) → 0 ≤ k → k < i → nat_lt (get_or xs k d).author q ≡ true

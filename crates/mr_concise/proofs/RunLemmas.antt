@@ -1,4 +1,4 @@
-use Rattle.std.proofs.Common.{inl, inr, ◌⊎◌, ◌≡◌, ◌<◌, ◌≤◌, ◌+◌, ◌-◌, ◌==◌, ◌&&◌, ◌||◌, ℕ, Bool, true, false, nat_le, nat_lt, refl, ap, sym, ◌∙◌, arith, List, [], ◌∷◌, ◌++◌, length, get_or, drop, All, suc, zero, length-append, take, take_all, add-one, cond}
+use Rattle.std.proofs.Common.{inl, inr, ◌⊎◌, ◌≡◌, ◌<◌, ◌≤◌, ◌+◌, ◌-◌, ◌==◌, ◌&&◌, ◌||◌, ℕ, Bool, true, false, nat_le, nat_lt, refl, ap, sym, ◌∙◌, arith, List, [], ◌∷◌, ◌++◌, length, get_or, drop, All, suc, zero, length-append, take, add-one, cond}
 use Rattle.std.specs.List.{AllPairs}
 use Rattle.std.proofs.lemmas.Bool.{cases_lt, cases_eq, eq-eqb, ne_eqb, lt-leb, le-leb}
 use Rattle.std.proofs.lemmas.Bool.Decides.{nat_tests}
@@ -8,7 +8,7 @@ use Rattle.std.proofs.lemmas.List.{get_or_append_left}
 use Rattle.std.proofs.Math.Seq.{get_or-append_seam}
 use Rattle.mr_version.specs.Name.{Name}
 use Rattle.mr_forms.specs.declared.run.Run.{Run}
-use Rattle.mr_forms.specs.Runs.{in_run, in_runs, StandsBefore, AreRunsOf}
+use Rattle.mr_forms.specs.Runs.{in_run, in_runs, StandsBefore}
 use Rattle.mr_concise.specs.Edges.{is_on, IsRising}
 use Rattle.mr_concise.specs.declared.column.Hole.{Hole}
 use Rattle.mr_concise.specs.Column.{Extent, hole_edges, column_has, IsColumn}
@@ -171,13 +171,6 @@ pub record RunsOfFirst (columns : List AuthorColumn) (k : ℕ) (runs : List Run)
   pub apart : AllPairs StandsBefore runs
   pub ended : (d : AuthorColumn) → k < length columns → EndBefore (get_or columns k d).author 1 runs
 
-pub RunsOfFirst-begin : (columns : List AuthorColumn) → RunsOfFirst columns 0 []
-RunsOfFirst-begin columns = record {
-  have = λ v. sym (column_has-empty v.counter);
-  apart = λ i j d l m. absurd (omega arith);
-  ended = λ d l k e m. absurd (omega arith);
-}
-
 pub RunsOfFirst-more : (columns : List AuthorColumn) (k : ℕ) (x : AuthorColumn) (old new : List Run) → IsVectorFrom 0 columns → k < length columns → x ≡ get_or columns k x → RunsOfFirst columns k old → AddsRuns x.author x.column old new → RunsOfFirst columns (k + 1) new
 RunsOfFirst-more columns k x old new v l at w adds = record {
   have = λ name. adds.have name ∙ ap (λ b. b || ((name.author == x.author) && column_has x.column name.counter)) (w.have name) ∙ rw (add-one k, column_of-take_more 0 columns k x name.author v l, ← at) (go name (cases_eq x.author name.author));
@@ -202,12 +195,3 @@ RunsOfFirst-more columns k x old new v l at w adds = record {
     go : (name : Name) → (x.author ≡ name.author) ⊎ (x.author ≡ name.author → ⊥) → (vector_has (take k columns) name || ((name.author == x.author) && column_has x.column name.counter)) ≡ column_has (cond (x.author == name.author) x.column (column_of (take k columns) name.author)) name.counter
     go name (inl e) = rw (none-before name e, eq-eqb name.author x.author (sym e), eq-eqb x.author name.author e) (or_right' (column_has x.column name.counter))
     go name (inr n) = rw (ne_eqb name.author x.author (λ h. n (sym h)), ne_eqb x.author name.author n) (or_left (vector_has (take k columns) name))
-
-pub RunsOfFirst-item : (columns : List AuthorColumn) (k : ℕ) (x : AuthorColumn) (runs : List Run) → k < length columns → x ≡ get_or columns k x → RunsOfFirst columns k runs → EndBefore x.author 1 runs
-RunsOfFirst-item columns k x runs l at w = rw (← at) at (w.ended x l)
-
-pub RunsOfFirst-all : (columns : List AuthorColumn) (k : ℕ) (runs : List Run) → length columns ≤ k → RunsOfFirst columns k runs → AreRunsOf (vector_has columns) runs
-RunsOfFirst-all columns k runs l w = record {
-  have = λ v. sym (rw (take_all k columns l) at (w.have v));
-  apart = w.apart;
-}

@@ -5,7 +5,7 @@ use Rattle.std.proofs.lemmas.Bool.Decides.{nat_tests}
 use Rattle.std.specs.Prelude.{Result, Ok, Err, OnOk, IsErrOf}
 use Rattle.mr_forms.specs.declared.fault.FormFault.{FormFault}
 use Rattle.mr_forms.specs.declared.fault.FormFault.TheVariants.{TooManyHoles}
-use Rattle.mr_forms.specs.Sets.{Versions, IsSame}
+use Rattle.mr_forms.specs.Sets.{Versions}
 use Rattle.mr_concise.specs.Edges.{is_on, IsRising}
 use Rattle.mr_concise.specs.declared.column.Hole.{Hole}
 use Rattle.mr_concise.specs.declared.vector.AuthorColumn.{AuthorColumn}
@@ -14,8 +14,8 @@ use Rattle.mr_concise.specs.Next.{IsNextOut, IsNextIn, HasNoneFrom}
 use Rattle.mr_forms.specs.Runs.{of_author}
 use Rattle.mr_concise.specs.Source.{IsColumnOf, HasHoles, HasAtMostHoles, ColumnsHaveAtMost, HasFewHoles, HasManyHoles}
 use Rattle.mr_forms.specs.Runs.{HasNoAuthorFrom, IsNextAuthor}
-use Rattle.mr_concise.specs.Vector.{column_of, vector_has, IsVectorFrom, with_column, HasTooManyHoles}
-use Rattle.mr_concise.proofs.EdgeLemmas.{is_on-turn, is_on-stay, IsRising-end}
+use Rattle.mr_concise.specs.Vector.{column_of, IsVectorFrom, with_column, HasTooManyHoles}
+use Rattle.mr_concise.proofs.EdgeLemmas.{IsRising-end}
 use Rattle.mr_concise.proofs.ColumnLemmas.{column_unique, column_has-edges}
 use Rattle.mr_concise.proofs.VectorLemmas.{column_of-with_column, IsVectorFrom-with_column}
 use Rattle.mr_concise.proofs.UnionLemmas.{column_has-empty, IsColumn-empty}
@@ -45,19 +45,6 @@ pub record Swept (has : ℕ → Bool) (holes : List Hole) (at : ℕ) : Type 0 wh
   pub means : (c : ℕ) → 1 ≤ c → c < at → is_on true (hole_edges holes ++ at ∷ []) c ≡ has c
   pub past : (c : ℕ) → at ≤ c → is_on true (hole_edges holes ++ at ∷ []) c ≡ false
   pub counted : length holes < at
-
-pub swept-begin : (has : ℕ → Bool) (at : ℕ) → IsNextOut has 1 at → at ≤ COUNTERS_END → Swept has [] at
-swept-begin has at n bound =
-    let above = n.above in
-    record {
-      rising = (omega arith, tt);
-      from_one = n.above;
-      bound = bound;
-      is_out = n.is_out;
-      means = λ c f l. is_on-stay true at [] c l ∙ sym (n.between c f l);
-      past = λ c g. is_on-turn true at [] c g;
-      counted = omega arith;
-    }
 
 pub swept-more : (has : ℕ → Bool) (holes : List Hole) (at t e : ℕ) → Swept has holes at → IsNextIn has at t → IsNextOut has t e → e ≤ COUNTERS_END → Swept has (holes ++ (record { first = at; last = t - 1 }) ∷ []) e
 swept-more has holes at t e w n o bound =
@@ -147,25 +134,12 @@ pub record SweptCount (has : ℕ → Bool) (count at : ℕ) : Type 0 where
   pub count_is : count ≡ length holes
   pub swept : Swept has holes at
 
-pub SweptCount-begin : (has : ℕ → Bool) (at : ℕ) → IsNextOut has 1 at → at ≤ COUNTERS_END → SweptCount has 0 at
-SweptCount-begin has at n bound = record { holes = []; count_is = refl; swept = swept-begin has at n bound }
-
 pub SweptCount-more : (has : ℕ → Bool) (count at t e : ℕ) → SweptCount has count at → IsNextIn has at t → IsNextOut has t e → e ≤ COUNTERS_END → SweptCount has (count + 1) e
 SweptCount-more has count at t e w n o bound = record {
   holes = w.holes ++ (record { first = at; last = t - 1 }) ∷ [];
   count_is = let c = w.count_is in let k = length-append w.holes ((record { first = at; last = t - 1 }) ∷ []) in omega arith;
   swept = swept-more has w.holes at t e w.swept n o bound;
 }
-
--- each step takes the walk on
-pub swept-onward : (has : ℕ → Bool) (at t e : ℕ) → has at ≡ false → IsNextIn has at t → IsNextOut has t e → at < e
-swept-onward has at t e is_out n o =
-    let up = n.above in
-    let further = o.above in
-    elim (cases_eq at t) [
-      | inl q ↦ absurd (true≢false (sym n.is_in ∙ ap has (sym q) ∙ is_out))
-      | inr q ↦ omega arith
-    ]
 
 pub SweptCount-end : (has : ℕ → Bool) (count at : ℕ) → has 0 ≡ false → SweptCount has count at → HasNoneFrom has at → HasHoles has count
 SweptCount-end has count at zero_out w none = record { column = record { upto = at - 1; holes = w.holes }; is = swept-end has w.holes at zero_out w.swept none; count_is = w.count_is }
@@ -194,9 +168,6 @@ holes-within set author count n holes most = let h = most author holes.column ho
 pub record GatheredTo (set : Versions) (columns : List AuthorColumn) (id : ℕ) : Type 0 where
   pub vector : IsVectorFrom 0 columns
   pub means : (q c : ℕ) → column_has (column_of columns q) c ≡ (nat_lt q id && of_author set q c)
-
-pub GatheredTo-begin : (set : Versions) → GatheredTo set [] 0
-GatheredTo-begin set = record { vector = tt; means = λ q c. column_has-empty c ∙ rw (le-ltb q 0 (omega arith)) refl }
 
 -- what the columns have once the author is gone through
 gathered-means : (set : Versions) (columns : List AuthorColumn) (id author : ℕ) (column : Extent) → GatheredTo set columns id → IsNextAuthor set id author → IsColumnOf (of_author set author) column → (q c : ℕ) → column_has (cond (author == q) column (column_of columns q)) c ≡ (nat_lt q (author + 1) && of_author set q c)
@@ -230,12 +201,6 @@ GatheredTo-skip set columns id author column w n is none = record {
     go : (q c : ℕ) → (author ≡ q) ⊎ (author ≡ q → ⊥) → column_has (column_of columns q) c ≡ column_has (cond (author == q) column (column_of columns q)) c
     go q c (inl e) = let ge : id ≤ q = let a = n.above in omega arith in w.means q c ∙ rw (le-ltb q id ge, eq-eqb author q e) (sym (nothing c))
     go q c (inr m) = rw (ne_eqb author q m) refl
-
-pub GatheredTo-end : (set : Versions) (columns : List AuthorColumn) (id : ℕ) → GatheredTo set columns id → HasNoAuthorFrom set id → IsSame (vector_has columns) set
-GatheredTo-end set columns id w none v = w.means v.author v.counter ∙ elim (cases_lt v.author id) [
-  | inl b ↦ rw (lt-ltb v.author id b) refl
-  | inr f ↦ rw (le-ltb v.author id f) (sym (none v.author f v.counter))
-]
 
 -- where a fault comes in each case of a fact, success comes in none
 pub few_from_holes : {T : Type 0} {P : Type 0} (result : Result T FormFault) → (P → IsErrOf result TooManyHoles) → OnOk result (¬ P)

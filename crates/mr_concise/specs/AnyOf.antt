@@ -13,7 +13,8 @@ lower_of None end = end
 lower_of (Some s) None = Some s
 lower_of (Some s) (Some t) = Some (if nat_le s t then s else t)
 
--- All from here up to the place are in the set. Where the place is here, the set has not what is here.
+-- All from here up to the place are in the set. Where the place is here, the set has not what is here. The place is at
+-- most COUNTERS_END, and 0 is not in the set.
 pub record IsPassed (has : ℕ → Bool) (from at : ℕ) : Type 0 where
   pub above : from ≤ at
   pub bound : at ≤ COUNTERS_END

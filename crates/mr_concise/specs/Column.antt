@@ -39,7 +39,7 @@ abbrev pub edges : Extent → List ℕ
 edges column = hole_edges column.holes ++ (column.upto + 1) ∷ []
 
 -- Holes rise, from 1 on; each has its first at most its last; a covered counter stands between two of them
--- and above the last one, and it is the bound.
+-- and above the last one, and it is the bound. The bound is at most MAX_COUNTER, and there are at most MAX_HOLES holes.
 pub record IsColumn (column : Extent) : Type 0 where
   pub apart : IsRising 0 (edges column)
   pub in_range : column.upto ≤ MAX_COUNTER

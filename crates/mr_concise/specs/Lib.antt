@@ -12,3 +12,4 @@ pub mod Text
 pub mod Fragments
 pub mod Order
 pub mod Limits
+pub mod Rows

@@ -4,7 +4,7 @@ use Rattle.mr_forms.specs.declared.run.Run.{Run}
 use Rattle.mr_forms.specs.Runs.{in_runs, StandsBefore}
 use Rattle.mr_concise.specs.Column.{Extent, column_has}
 
--- each run is of a lower author, or of this one and with a counter in between that is not in it
+-- each run is of a lower author, or of this one, and ends two or more counters before start
 abbrev pub EndBefore : ℕ → ℕ → List Run → Type 0
 EndBefore author start runs = All (λ run. (run.author < author) ⊎ ((run.author ≡ author) × (run.last + 1 < start))) runs
 

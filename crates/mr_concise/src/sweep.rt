@@ -126,7 +126,7 @@ impl ConciseVector {
 
 /// Two vectors of which the versions in both are wanted.
 #[derive(Drop)]
-pub(crate) struct Meet<'a> {
+struct Meet<'a> {
     a: &'a ConciseVector,
     b: &'a ConciseVector,
 }

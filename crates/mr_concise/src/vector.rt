@@ -56,7 +56,7 @@ impl Model for ConciseVector {
 }
 
 /// How many columns have an author with a lower id.
-pub(crate) fn place_of_id(columns: &[AuthorColumn], id: u16) -> usize
+fn place_of_id(columns: &[AuthorColumn], id: u16) -> usize
     requires { IsVectorFrom 0 columns.now }
     ensures bound { result ≤ length columns.now }
     ensures place { IsPartitionPoint (λ x. nat_lt x.author id ≡ true) (λ x. nat_lt x.author id ≡ false) columns.now result }

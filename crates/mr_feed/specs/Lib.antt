@@ -5,3 +5,4 @@ pub mod Port
 pub mod PortFault
 pub mod PlainPort
 pub mod Limits
+pub mod Rows

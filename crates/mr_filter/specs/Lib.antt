@@ -7,3 +7,4 @@ pub mod Meaning
 pub mod Text
 pub mod Written
 pub mod Limits
+pub mod Rows

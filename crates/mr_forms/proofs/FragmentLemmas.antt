@@ -15,7 +15,7 @@ use Rattle.mr_forms.specs.declared.fragment.ItemSet.TheVariants.{All as AllItems
 use Rattle.mr_forms.specs.declared.fragment.Fragment.{Fragment}
 use Rattle.mr_forms.specs.declared.plain_knowledge.Pair.{Pair}
 use Rattle.mr_forms.specs.Sets.{is_listed}
-use Rattle.mr_forms.specs.Covered.{HasItems, all_covered, has_item}
+use Rattle.mr_forms.specs.Covered.{all_covered, has_item}
 use Rattle.mr_forms.specs.PlainPair.{pair, pair_cmp}
 use Rattle.mr_forms.specs.Plain.{IsOnly, IsAllOrOne, ComesBefore, IsOneByOne, is_all, is_named, had_for_all, had_by_item}
 use Rattle.mr_forms.specs.PlainSteps.{EndsBy, GainsPair, IsFragmentOf, GainsVersionOf}
@@ -167,13 +167,6 @@ all_covered-parts (f ∷ fs) i v =
     ap (λ b. b || all_covered is_listed fs i v) (covered_cases f.items f.vector i v)
     ∙ ap (λ b. ((is_all f.items && is_listed f.vector v) || (is_named f.items i && is_listed f.vector v)) || b) (all_covered-parts fs i v)
     ∙ or_interchange (is_all f.items && is_listed f.vector v) (is_named f.items i && is_listed f.vector v) (had_for_all fs v) (had_by_item fs i v)
-
-has_items-single : (items : ItemSet) → IsAllOrOne items → HasItems items
-has_items-single AllItems single = tt
-has_items-single (Listed items) single = λ empty. let wrong : (single.0 ∷ []) ≡ [] = sym single.1 ∙ empty in cc
-
-pub all_have_items : (fs : List (Fragment (List Name))) → IsOneByOne fs → All (λ f. HasItems f.items) fs
-all_have_items fs shape = All-weaker (λ f. IsAllOrOne f.items) (λ f. HasItems f.items) (λ f single. has_items-single f.items single) fs shape.single
 
 -- ---- the pairs that are left
 

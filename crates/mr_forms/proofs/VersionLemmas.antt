@@ -1,11 +1,10 @@
-use Rattle.std.proofs.Common.{◌≡◌, ◌<◌, ◌≤◌, ◌⊎◌, ℕ, Bool, true, false, refl, ap, sym, ◌∙◌, arith, inl, inr}
+use Rattle.std.proofs.Common.{◌≡◌, ◌≤◌, ◌⊎◌, ℕ, Bool, true, false, refl, ap, sym, ◌∙◌, arith, inl, inr}
 use Rattle.std.specs.Ordering.{is_gt}
 use Rattle.std.proofs.lemmas.Bool.{or_cases, false≢true}
 use Rattle.std.proofs.lemmas.Bool.Decides.{nat_tests}
 use Rattle.mr_version.specs.Name.{Name, IsVersion, name_cmp, name_eq}
 use Rattle.mr_forms.specs.Sets.{Versions, IsSame, both}
 use Rattle.mr_forms.specs.Runs.{HasVersionsAlone, HasNoAuthorFrom, IsNextAuthor, HasNoRunFrom, IsFirstFrom}
-use Rattle.mr_version.specs.declared.version.TheConstants.{MAX_COUNTER}
 
 -- two sets of versions together
 pub versions_alone-both : (s t u : Versions) → IsSame u (both s t) → HasVersionsAlone s → HasVersionsAlone t → HasVersionsAlone u
@@ -90,12 +89,3 @@ no_author-none set start id is alone none q above k =
     not_in (set (record { author = q; counter = k })) (λ there.
     let real = alone (record { author = q; counter = k }) there in
     false≢true (sym (none (record { author = q; counter = k }) (after_start start id q k is above real.counter_from)) ∙ there))
-
-pub no_author-far : (set : Versions) (id : ℕ) → HasVersionsAlone set → 64 ≤ id → HasNoAuthorFrom set id
-no_author-far set id alone far q above k =
-    not_in (set (record { author = q; counter = k })) (λ there. let real = (alone (record { author = q; counter = k }) there).author_in in absurd (omega arith))
-
--- past the last counter there is no version
-pub no_run-past : (set : Versions) (author from : ℕ) → HasVersionsAlone set → MAX_COUNTER < from → HasNoRunFrom set author from
-no_run-past set author from alone past c above =
-    not_in (set (record { author = author; counter = c })) (λ is_in. let v = (alone (record { author = author; counter = c }) is_in).counter_to in absurd (omega arith))

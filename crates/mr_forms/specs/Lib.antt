@@ -13,3 +13,4 @@ pub mod PlainSteps
 pub mod Fresh
 pub mod PlainLaws
 pub mod Limits
+pub mod Rows

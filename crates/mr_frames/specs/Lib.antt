@@ -2,3 +2,4 @@ pub mod Fault
 pub mod Stream
 pub mod Reader
 pub mod Calls
+pub mod Rows

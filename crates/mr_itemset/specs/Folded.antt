@@ -44,7 +44,7 @@ HasAtMost most columns = (q : ℕ) → length (column_of columns q).holes ≤ mo
 abbrev pub IsSparse : Normal → ℕ → Type 0
 IsSparse k most = (i : Name) → HasAtMost most (vector_of k i)
 
--- with as many holes as that, and those of a column, there is room for one more
+-- each author's column, with so many holes more and one, has no more than MAX_HOLES
 abbrev pub HasLeeway : List AuthorColumn → ℕ → Type 0
 HasLeeway columns most = (q : ℕ) → most + length (column_of columns q).holes + 1 ≤ MAX_HOLES
 

@@ -12,3 +12,4 @@ pub mod Each
 pub mod NormalForm
 pub mod Groups
 pub mod Shown
+pub mod Rows

@@ -71,8 +71,8 @@ impl ItemKnowledge {
         count
     }
 
-    /// Whether all these items may be listed. It allocates nothing, and counts only where the
-    /// limit is near.
+    /// Whether all these items may be listed. It allocates nothing. It looks at all listed items, and
+    /// counts which of these are new only where the limit is near.
     fn has_room_for(&self, items: &[ItemId]) -> bool
         ensures yes { result ≡ true → (set : Versions) → ¬ ListsTooMany (with_each (normal_known self.now) items.now set) }
         ensures no { result ≡ false → (set : Versions) → Lacks (vector_has self.now.all) set → ListsTooMany (with_each (normal_known self.now) items.now set) }

@@ -74,10 +74,6 @@ module _ {T : Type 0} where
       let now : AllSights Now all = all_set Now sights pass both (λ _. ((λ _. mine.0 a), λ _. (refl, theirs.1))) (λ j y _ e apart. ((h.5 j y e).0, λ q. absurd (apart (((h.5 j y e).1 q).0 ∙ sym theirs.0)))) in
       (h.0, pass, h.2, h.3, h.4, all_set (KnowsItsSide h.0 pass h.2 h.3) all other (tap_sight false false [] []) ((λ q. absurd (true≢false (sym q))), λ q. absurd (true≢false (sym q))) (λ j y apart e. now j y e apart))
 
-  -- both ends together know that what was taken, and then what waits, is what was offered
-  pub tap_totals : (pass : ℕ) (s : TapSight T) → s.offers ≡ true → s.takes ≡ true → Learns FlowsInOrder pass s (λ waiting. s.offered ≡ s.taken ++ waiting)
-  tap_totals pass s a b waiting sights h at = let mine = h.5 pass s at in (mine.0 a).1 ∙ h.4 ∙ ap (λ l. l ++ waiting) (sym (mine.1 b).1)
-
   -- the end that offers knows that what waits is the last of what was offered
   pub tap_waiting : (pass : ℕ) (s : TapSight T) → s.offers ≡ true → Learns FlowsInOrder pass s (λ waiting. (gone : List (Piece T)) × (s.offered ≡ gone ++ waiting))
   tap_waiting pass s a waiting sights h at = (h.3, ((h.5 pass s at).0 a).1 ∙ h.4)

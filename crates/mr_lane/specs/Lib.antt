@@ -8,3 +8,4 @@ pub mod Post
 pub mod Tap
 pub mod TapPort
 pub mod TapRule
+pub mod Rows

@@ -3,3 +3,4 @@ pub mod Search
 pub mod Revision
 pub mod Trail
 pub mod MadeWith
+pub mod Rows

@@ -7,7 +7,7 @@ use Rattle.std.specs.Cmp.{first_so, second_so}
 use Rattle.std.specs.Cmp.Derive.{both_true}
 use Rattle.std.proofs.lemmas.Bool.{eqb-true, cases_lt}
 use Rattle.std.proofs.lemmas.Nat.{or_lt}
-use Rattle.mr_mail.specs.Flag.{bit_of, flag_eq, has_flag, has_flags, lacks_flags, all_flags}
+use Rattle.mr_mail.specs.Flag.{bit_of, has_flag, has_flags, lacks_flags, all_flags}
 use Rattle.mr_mail.specs.declared.flags.Flag.{Flag}
 use Rattle.mr_mail.specs.declared.flags.Flag.TheVariants.{Seen, Answered, Flagged, Draft, Deleted}
 
@@ -94,16 +94,6 @@ unfolding same
 lacks_flags_by_bits a b a_in b_in =
     same-true (bit_and a b == 0) (lacks_flags a b)
     (passes_both 32 (λ a b. same (bit_and a b == 0) (lacks_flags a b)) refl a b (omega arith) (omega arith))
-
--- a flag byte with one more flag
-pub has_flag-with : (bits : ℕ) (flag f : Flag) → bits ≤ 31 → has_flag (bit_or bits (bit_of flag)) f ≡ (flag_eq flag f || has_flag bits f)
-unfolding same
-has_flag-with bits flag f within =
-    let test : ℕ → Flag → Flag → Bool = λ n a b. same (has_flag (bit_or n (bit_of a)) b) (flag_eq a b || has_flag n b) in
-    let all : list_all (λ a. list_all (test bits a) all_flags) all_flags ≡ true =
-    passes-below 32 (λ n. list_all (λ a. list_all (test n a) all_flags) all_flags) refl bits (omega arith) in
-    same-true (has_flag (bit_or bits (bit_of flag)) f) (flag_eq flag f || has_flag bits f)
-    (each_flag (test bits flag) (each_flag (λ a. list_all (test bits a) all_flags) all flag) f)
 
 not_or : (a b : Bool) → (not a || b) ≡ true → a ≡ true → b ≡ true
 not_or true b h t = h

@@ -5,3 +5,4 @@ pub mod Flag
 pub mod Label
 pub mod Mail
 pub mod Limits
+pub mod Rows

@@ -13,7 +13,7 @@ pub record Mail : Type 0 where
   pub flags : ℕ
   pub day : ℕ
 
--- what is left of a message where only its place counts
+-- what a feed's entry tells of a message: labels, flag byte and day
 pub record MailCard : Type 0 where
   pub labels : List (List ℕ)
   pub flags : ℕ

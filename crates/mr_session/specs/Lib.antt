@@ -8,3 +8,4 @@ pub mod Merge
 pub mod Claims
 pub mod Onward
 pub mod Limits
+pub mod Rows

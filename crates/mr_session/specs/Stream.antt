@@ -26,7 +26,7 @@ use Rattle.mr_session.specs.Table.{Table, open_at, with_closed, with_changed}
 
 -- ---- what is asked for
 
--- whether a fragment of these items is of the item: those that are listed, or all where none are
+-- whether a fragment of these items is of the item: all items at None, else those that are listed
 abbrev pub lists : Option (List Name) → Name → Bool
 lists None i = true
 lists (Some items) i = list_any (λ item. name_eq item i) items

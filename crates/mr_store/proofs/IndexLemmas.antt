@@ -5,7 +5,7 @@ use Rattle.std.specs.Option.{option_map_or}
 use Rattle.std.specs.BTreeMap.{BTreeMap, get}
 use Rattle.mr_version.specs.Name.{Name, name_cmp, name_eq}
 use Rattle.mr_store.specs.Index.{listed_for, HasRoomFor}
-use Rattle.mr_madewith.proofs.Rising.{name_eq_self, same_names}
+use Rattle.mr_madewith.proofs.Rising.{same_names}
 use Rattle.mr_store.proofs.RevisionLemmas.{either}
 
 module _ {Z : Type 0} where
@@ -29,10 +29,6 @@ module _ {Z : Type 0} where
         | inl here ↦ rw here (sym (subst (λ j. listed_for m j ≡ w.items) (same_names item i here) same))
         | inr apart ↦ rw apart refl
       ]
-
-  -- the item has room where its new list has
-  pub has_room-written : (m n : BTreeMap Name (Vec Name Z)) (item : Name) (w : Vec Name Z) → Writes m n item w → vec_len w < vec_capacity w → HasRoomFor (Some item) n
-  has_room-written m n item w writes room = rw (writes item, name_eq_self item) room
 
   -- an item keeps its room where the new list has no less than the old
   pub has_room-kept : (m n : BTreeMap Name (Vec Name Z)) (item : Name) (v w : Vec Name Z) → Writes m n item w → get name_cmp m item ≡ Some v

@@ -2,8 +2,7 @@
 use Rattle.std.proofs.Common.{◌≡◌, Bool, true, false, not, ◌&&◌, ◌||◌, cond, if◌then◌else◌, refl, sym, ap, subst, ◌∙◌, List, [], ◌∷◌, ◌++◌, map, ◌⊎◌, inl, inr, Option, Some, None}
 use Rattle.std.specs.declared.cmp.Ordering.TheVariants.{Less}
 use Rattle.std.specs.Ordering.{is_eq}
-use Rattle.std.specs.List.{AllByRecursion, filter, filter_map, find, list_any, cons_option}
-use Rattle.std.specs.Option.{option_map}
+use Rattle.std.specs.List.{AllByRecursion, filter, filter_map, list_any, cons_option}
 use Rattle.std.proofs.lemmas.List.Elements.{filter_agree}
 use Rattle.std.proofs.lemmas.List.Folds.{list_any-append}
 use Rattle.mr_version.specs.Name.{Name, name_cmp, name_eq}
@@ -19,18 +18,6 @@ use Rattle.mr_madewith.proofs.Found.{first_place}
 pub either : (b : Bool) → (b ≡ true) ⊎ (b ≡ false)
 either true = inl refl
 either false = inr refl
-
--- those of the item that are below are what is superseded
-pub filter-versions_of : (item : Name) (below : Versions) (heads : List Rev) → filter below (versions_of item heads) ≡ map version_of (filter (supersedes item below) heads)
-filter-versions_of item below [] = refl
-filter-versions_of item below (r ∷ rs) =
-    elim (is_of item r) as (λ b. filter below (map version_of (cond b (r ∷ filter (is_of item) rs) (filter (is_of item) rs))) ≡ map version_of (cond (b && below r.version) (r ∷ filter (supersedes item below) rs) (filter (supersedes item below) rs))) [
-      | true ↦ elim (below r.version) as (λ b. cond b (r.version ∷ filter below (versions_of item rs)) (filter below (versions_of item rs)) ≡ map version_of (cond b (r ∷ filter (supersedes item below) rs) (filter (supersedes item below) rs))) [
-        | true ↦ ap (λ vs. r.version ∷ vs) (filter-versions_of item below rs)
-        | false ↦ filter-versions_of item below rs
-      ]
-      | false ↦ filter-versions_of item below rs
-    ]
 
 -- of the item itself the superseded versions leave
 versions_of-left_by_same : (item : Name) (below : Versions) (heads : List Rev) → versions_of item (left_by item below heads) ≡ filter (λ v. not (below v)) (versions_of item heads)
@@ -67,9 +54,6 @@ versions_of-left_by i item below heads =
       | inl same ↦ rw same (subst (λ j. versions_of j (left_by item below heads) ≡ filter (λ v. not (below v)) (versions_of j heads)) (same_names item i same) (versions_of-left_by_same item below heads))
       | inr apart ↦ rw apart (versions_of-left_by_other i item below heads apart)
     ]
-
-itself : Name → Name
-itself v = v
 
 map-itself : (P : Name → Type 0) (rs : List Name) → AllByRecursion P rs → AllByRecursion P (map (λ v. v) rs)
 map-itself P [] h = tt
@@ -184,18 +168,6 @@ left_by-listed item below heads rising =
 pub filter-all : {X : Type 0} (xs : List X) → xs ≡ filter (λ _. true) xs
 filter-all [] = refl
 filter-all (x ∷ xs) = ap (λ ys. x ∷ ys) (filter-all xs)
-
--- the first version of the item that passes is the first such revision's
-pub find-versions_of : (p : Name → Bool) (item : Name) (heads : List Rev) → find p (versions_of item heads) ≡ option_map version_of (find (λ r. is_of item r && p r.version) heads)
-find-versions_of p item [] = refl
-find-versions_of p item (r ∷ rs) =
-    elim (is_of item r) as (λ b. find p (map version_of (cond b (r ∷ filter (is_of item) rs) (filter (is_of item) rs))) ≡ option_map version_of (cond (b && p r.version) (Some r) (find (λ r. is_of item r && p r.version) rs))) [
-      | true ↦ elim (p r.version) as (λ b. cond b (Some r.version) (find p (versions_of item rs)) ≡ option_map version_of (cond b (Some r) (find (λ r. is_of item r && p r.version) rs))) [
-        | true ↦ refl
-        | false ↦ find-versions_of p item rs
-      ]
-      | false ↦ find-versions_of p item rs
-    ]
 
 -- whether some version of the item passes
 pub any-versions_of : (p : Name → Bool) (item : Name) (rs : List Rev) → list_any p (versions_of item rs) ≡ list_any (λ r. is_of item r && p r.version) rs

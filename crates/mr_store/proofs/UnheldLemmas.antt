@@ -1,12 +1,8 @@
 -- whether an item is among rising ones, and what a fragment more covers
-use Rattle.std.proofs.Common.{◌≡◌, ◌<◌, ◌+◌, ℕ, zero, suc, true, false, ◌||◌, cond, refl, sym, ap, subst, ◌∙◌, arith, List, [], ◌∷◌, length, map, get_or, take, Some, is_some, Result, Ok, Err, IfOk, IfErr, is_ok}
+use Rattle.std.proofs.Common.{◌≡◌, ◌<◌, ℕ, zero, suc, true, false, ◌||◌, cond, refl, sym, ap, subst, ◌∙◌, arith, List, [], ◌∷◌, length, map, Some, is_some, Result, Ok, Err, IfOk, IfErr, is_ok}
 use Rattle.std.specs.List.{list_any, slice_get}
 use Rattle.mr_version.specs.Name.{Name, name_eq, name_cmp}
 use Rattle.std.specs.List.Sorted.{IsStrictlySortedBy}
-use Rattle.mr_forms.specs.Covered.{covered, all_covered}
-use Rattle.mr_concise.specs.Vector.{vector_has}
-use Rattle.mr_concise.specs.Fragments.{ConciseFragment}
-use Rattle.mr_concise.proofs.AnyOfLemmas.{in_any-more}
 use Rattle.mr_madewith.specs.Keyed.{AreRising, named}
 use Rattle.mr_madewith.specs.Search.{IsFoundAt, IsGapFor}
 
@@ -38,8 +34,3 @@ is_some-slice_get (v ∷ vs) (suc i) within = is_some-slice_get vs i (omega arit
 pub found_among : (v : Name) (vs : List Name) (r : Result ℕ ℕ) → IfOk r (IsFoundAt itself v vs) → IfErr r (IsGapFor itself v vs) → is_ok r ≡ list_any (λ w. name_eq w v) vs
 found_among v vs (Ok i) found absent = sym (is_some-slice_get vs i found.within) ∙ sym (ap is_some found.is) ∙ is_some-named v vs
 found_among v vs (Err i) found absent = sym (ap is_some absent.none) ∙ is_some-named v vs
-
--- a fragment more
-pub covered_more : (fs : List ConciseFragment) (k : ℕ) (f : ConciseFragment) (i v : Name) → k < length fs → f ≡ get_or fs k f
-    → all_covered vector_has (take (k + 1) fs) i v ≡ (all_covered vector_has (take k fs) i v || covered vector_has f i v)
-covered_more fs k f i v within at = in_any-more (λ f. covered vector_has f i) fs k f within at v

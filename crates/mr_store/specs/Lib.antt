@@ -5,3 +5,4 @@ pub mod Index
 pub mod Shelf
 pub mod Holdings
 pub mod HeldVersions
+pub mod Rows

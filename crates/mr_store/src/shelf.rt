@@ -192,8 +192,8 @@ impl Shelf {
         unlist(&mut self.index, item, ones, below);
     }
 
-    /// The revisions leave that these fragments cover and that no vector has. It costs their test, and
-    /// one shift.
+    /// The revisions leave that these fragments cover and that no vector has. It costs the test of each
+    /// revision, and for each a look-up and the test of every one of its item; and one shift.
     pub fn remove_unheld(&mut self, learned: &[Fragment<ConciseVector>], held: &[ConciseVector])
         requires { All (λ fragment. ListsInOrder fragment.items) learned.now }
         ensures { self.new ≡ record { revisions = filter (λ r. not (is_unheld learned.now held.now r.item r.version)) self.old.revisions; room = self.old.room } }

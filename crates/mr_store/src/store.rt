@@ -193,7 +193,8 @@ impl Store {
     }
 
     /// The heads that these fragments cover and that no vector has leave; push-outs stay. It can't
-    /// fail. It costs the test of each head, and one shift.
+    /// fail. It costs the test of each head, and for each head a look-up and the test of every head of
+    /// its item; and one shift.
     pub fn remove_unheld(&mut self, learned: &[Fragment<ConciseVector>], held: &[ConciseVector])
         requires { All (λ fragment. ListsInOrder fragment.items) learned.now }
         ensures { self.new ≡ record self.old { heads = filter (λ r. not (is_unheld learned.now held.now r.item r.version)) self.old.heads } }

@@ -1,7 +1,6 @@
 -- the versions of a shelf whose card has the label
-use Rattle.std.proofs.Common.{◌≡◌, ℕ, Bool, true, false, cond, ◌&&◌, IsTrue, IsFalse, refl, ap, sym, subst, ◌∙◌, List, [], filter, Option, Some}
+use Rattle.std.proofs.Common.{◌≡◌, ℕ, Bool, true, false, cond, ◌&&◌, IsTrue, refl, ap, sym, subst, ◌∙◌, List, [], filter, Some}
 use Rattle.std.specs.BTreeSet.{BTreeSet}
-use Rattle.std.proofs.lemmas.Cmp.{tied_itself}
 use Rattle.std.specs.declared.cmp.Ordering.{Ordering}
 use Rattle.std.specs.declared.cmp.Ordering.TheVariants.{Less, Equal, Greater}
 use Rattle.std.specs.Ordering.{is_eq}
@@ -9,12 +8,12 @@ use Rattle.std.specs.List.Sorted.{IsStrictlySortedBy}
 use Rattle.std.proofs.lemmas.List.Kept.{IsStrictlySortedBy-filter}
 use Rattle.std.proofs.lemmas.Map.Views.{any-filter_same}
 use Rattle.mr_version.specs.Name.{Name, name_cmp, name_eq}
-use Rattle.mr_version.specs.Order.{exact_names, names_total}
+use Rattle.mr_version.specs.Order.{exact_names}
 use Rattle.mr_mail.specs.Label.{has_label}
 use Rattle.mr_mail.specs.Mail.{MailCard}
 use Rattle.mr_model.specs.Versions.{Versions}
 use Rattle.mr_feed.specs.Fold.{is_listed}
-use Rattle.mr_subs.specs.Index.{card_at, card_has_label, labelled, on_shelf, AreShelved}
+use Rattle.mr_subs.specs.Index.{card_at, card_has_label, on_shelf, AreShelved}
 
 equal_of : (o : Ordering) → is_eq o ≡ true → o ≡ Equal
 equal_of Less h = cc
@@ -56,19 +55,3 @@ AreShelved-put old new s t version card e well here kept label v p = cases (name
     cases : (b : Bool) → name_eq version v ≡ b → IsTrue (card_has_label (cond b (Some card) (card_at old v)) label) → IsTrue (on_shelf t label v)
     cases true same q = subst (λ u. IsTrue (on_shelf t label u)) (same_version version v same) (here label q)
     cases false other q = kept label v (well label v q)
-
--- where the version leaves shelves of labels that its card lacks
-pub AreShelved-unshelved : (table : List (Name × MailCard)) (s t : List (List ℕ × BTreeSet Name)) (version : Name) (others : List (List ℕ)) →
-    AreShelved table s → ((q : List ℕ) → IsTrue (labelled (card_at table) q version) → IsTrue (has_label others q)) →
-    ((q : List ℕ) → IsTrue (has_label others q) → (v : Name) → IsTrue (on_shelf s q v) → IsTrue (on_shelf t q v)) →
-    ((v : Name) → IsFalse (name_eq version v) → (q : List ℕ) → IsTrue (on_shelf s q v) → IsTrue (on_shelf t q v)) → AreShelved table t
-AreShelved-unshelved table s t version others well has labels versions label v p = cases (name_eq version v) refl
-  where
-    cases : (b : Bool) → name_eq version v ≡ b → IsTrue (on_shelf t label v)
-    cases true same = labels label (has label (subst (λ u. IsTrue (labelled (card_at table) label u)) (sym (same_version version v same)) p)) v (well label v p)
-    cases false other = versions v other label (well label v p)
-
--- a card that was given is there
-pub card_at-given : (old new : List (Name × MailCard)) (version : Name) (card : Option MailCard) →
-    ((v : Name) → card_at new v ≡ cond (name_eq version v) card (card_at old v)) → card_at new version ≡ card
-card_at-given old new version card e = e version ∙ ap (λ b. cond b card (card_at old version)) (ap is_eq (tied_itself names_total version))

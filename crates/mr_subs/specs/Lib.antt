@@ -1,3 +1,4 @@
 pub mod Subscriber
 pub mod Unseen
 pub mod Index
+pub mod Rows

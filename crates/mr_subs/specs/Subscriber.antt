@@ -64,10 +64,6 @@ module _ {F P : Type 0} (shows : F → Cards MailCard → Type 0) (took : P → 
 
 -- ---- laws of `Applies`
 
--- no entry changes nothing
-pub Applies-none : {F : Type 0} (shows : F → Cards MailCard → Type 0) (s : F) → Applies shows s [] s
-Applies-none shows s cards h = h
-
 -- entries after entries
 pub Applies-append : {F : Type 0} (shows : F → Cards MailCard → Type 0) (s t u : F) (xs ys : List Entry) → Applies shows s xs t → Applies shows t ys u → Applies shows s (xs ++ ys) u
 Applies-append shows s t u xs ys h k cards p =

@@ -12,7 +12,7 @@ use std::collections::{BTreeMap, BTreeSet};
 pub(crate) type Shelves = BTreeMap<Label, BTreeSet<Version>>;
 
 /// Puts the version on the label's shelf.
-pub(crate) fn shelve(
+fn shelve(
     alloc: Global,
     shelves: &mut Shelves,
     label: &Label,
@@ -32,7 +32,7 @@ pub(crate) fn shelve(
 }
 
 /// Takes the version from the label's shelf.
-pub(crate) fn unshelve(shelves: &mut Shelves, label: &Label, version: Version)
+fn unshelve(shelves: &mut Shelves, label: &Label, version: Version)
     ensures { (q : List ℕ) (v : Name) → on_shelf shelves.new.entries q v ≡ (if is_place label.now version q v then false else on_shelf shelves.old.entries q v) }
 {
     if let Some(versions) = shelves.get_mut(label) {

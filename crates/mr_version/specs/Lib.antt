@@ -4,3 +4,4 @@ pub mod Sets
 pub mod Fault
 pub mod Number
 pub mod Limits
+pub mod Rows

@@ -1,6 +1,6 @@
 use Rattle.std.specs.Prelude.{◌≡◌, ◌≢◌, ◌≤◌, ℕ, List, length, slice_index}
 
--- a text with no sign, and with no zero in front but for that digit alone
+-- a text with no plus sign in front, and with no zero in front but for that digit alone
 pub record IsPlain (text : List ℕ) : Type 0 where
   pub no_sign : slice_index text 0 ≢ 43
   pub no_zeros : slice_index text 0 ≡ 48 → length text ≤ 1

@@ -72,9 +72,6 @@ module _ (old r1 r2 new : List ℕ) (item version : Name) (e1 : name_at old ≡ 
   descent_test : descent_at old ≡ (if is_descent (descent_with item version s.part) then Some (descent_with item version s.part, new) else None)
   descent_test = rw (e1, e2, s.stands) refl
 
-  pub no_descent : (b : Bool) → b ≡ (not told.seen.version && (if name_eq version item then told.is_empty else told.seen.item)) → b ≡ false → descent_at old ≡ None
-  no_descent b is h = let no : is_descent (descent_with item version s.part) ≡ false = test_is ∙ sym is ∙ h in descent_test ∙ rw no refl
-
   if_below : (kept : Option (List AuthorColumn)) → IfSome kept (λ v. v ≡ s.part) → IfSome kept (λ v. descent_with item version v ≡ descent_with item version s.part)
   if_below None h = tt
   if_below (Some v) h = ap (descent_with item version) h

@@ -1,9 +1,9 @@
 -- Labels, clauses and filters are read from their parts.
-use Rattle.std.proofs.Common.{◌≡◌, ℕ, ◌≤◌, ◌<◌, ◌+◌, List, length, Option, Some, None, refl, ◌∙◌, arith}
+use Rattle.std.proofs.Common.{◌≡◌, ℕ, ◌≤◌, ◌+◌, List, length, Option, Some, None, refl, ◌∙◌, arith}
 use Rattle.std.specs.Prelude.{IfSome, IsSomeAnd, nat_le, if◌then◌else◌}
 use Rattle.std.specs.Global.{Vec}
 use Rattle.std.specs.Int.{w8, w16}
-use Rattle.std.proofs.lemmas.Bool.{le-leb, lt-leb}
+use Rattle.std.proofs.lemmas.Bool.{le-leb}
 use Rattle.mr_mail.specs.Label.{IsLabelSet}
 use Rattle.mr_filter.specs.Filter.{ClauseParts, IsFilter, clause_with}
 use Rattle.mr_wire.specs.Labels.{next_label}
@@ -53,9 +53,6 @@ module _ (old r1 r2 r3 r4 new : List ℕ) (wanted barred : Option (Vec (List ℕ
     (e3 : flags_at r2 ≡ Some (on, r3)) (e4 : flags_at r3 ≡ Some (off, r4)) (e5 : number_at w16 r4 ≡ Some (since, new)) where
   clause_test : clause_at old ≡ (if nat_le (n + m) 8 then Some (clause_with s1.part s2.part on off since, new) else None)
   clause_test = rw (s1.stands, s2.stands, e3, e4, e5, s1.told, s2.told) refl
-
-  pub no_clause : 8 < n + m → clause_at old ≡ None
-  no_clause lt = clause_test ∙ rw (lt-leb (n + m) 8 lt) refl
 
   pub is_clause : n + m ≤ 8 → clause_at old ≡ Some (clause_with s1.part s2.part on off since, new)
   is_clause le = clause_test ∙ rw (le-leb (n + m) 8 le) refl

@@ -15,3 +15,4 @@ pub mod Grammar
 pub mod Decoding
 pub mod Rests
 pub mod Encoding
+pub mod Rows

@@ -36,7 +36,7 @@ pub(crate) fn put_u32(out: &mut Vec<u8>, n: u32) -> Result<(), AllocError>
     out.extend_from_slice(&n.to_be_bytes())
 }
 
-pub(crate) fn put_version(out: &mut Vec<u8>, version: Version) -> Result<(), AllocError>
+fn put_version(out: &mut Vec<u8>, version: Version) -> Result<(), AllocError>
     ensures written { OnOk result (out.new.items ≡ out.old.items ++ name_bytes version) }
     ensures in_grammar { OnOk result (IsVersion version.author version.counter) }
 {

@@ -18,7 +18,7 @@ use std::alloc::Global;
 
 /// A version of an item, and what it supersedes, where that is kept.
 #[derive(Drop)]
-pub(crate) struct ReadDescent {
+struct ReadDescent {
     item: Version,
     version: Version,
     below: Option<ConciseVector>,

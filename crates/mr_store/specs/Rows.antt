@@ -1,0 +1,145 @@
+-- worked rows: what the definitions give for small values
+use Rattle.std.specs.Prelude.{◌≡◌, ℕ, Bool, true, false, List, [], ◌∷◌, map, filter, Some, None, refl}
+use Rattle.std.proofs.Common.{◌⊎◌, inl, inr, true≢false, sym}
+use Rattle.std.specs.List.Sorted.{IsStrictlySortedBy}
+use Rattle.mr_version.specs.Name.{Name, name_eq}
+use Rattle.mr_forms.specs.declared.fragment.ItemSet.TheVariants.{All}
+use Rattle.mr_concise.specs.declared.vector.AuthorColumn.{AuthorColumn}
+use Rattle.mr_concise.specs.Fragments.{ConciseFragment}
+use Rattle.mr_concise.specs.Vector.{vector_has}
+use Rattle.mr_madewith.specs.Revision.{Rev}
+use Rattle.mr_madewith.proofs.Rising.{name_eq-swap}
+use Rattle.mr_store.specs.declared.store.Part.TheVariants.{Heads, PushOuts}
+use Rattle.mr_store.specs.Revisions.{versions_of, supersedes, left_by, has_conflict, holds, AreConflicts}
+use Rattle.mr_store.specs.Leaving.{leaves}
+use Rattle.mr_store.specs.Unheld.{is_unheld}
+use Rattle.mr_store.specs.Index.{version_inserted, are_several}
+use Rattle.mr_store.specs.Holdings.{Holdings, room_in, with_room, put_in}
+use Rattle.mr_store.specs.HeldVersions.{by_held}
+
+abbrev name : ℕ → ℕ → Name
+name author counter = record { author = author; counter = counter }
+
+-- an author's versions from 1 to this one
+abbrev upto : (author last : ℕ) → AuthorColumn
+upto author last = record { author = author; column = record { upto = last; holes = [] } }
+
+-- a version of an item, with what it supersedes and no text
+abbrev rev : (item version : Name) → List AuthorColumn → Rev
+rev item version below = record { item = item; version = version; below = below; message = record { from = []; subject = []; body = []; labels = []; flags = 0; day = 0 } }
+
+-- two versions of the item 0.1, and between them the first version of the item 0.3
+abbrev three : List Rev
+three = rev (name 0 1) (name 0 2) (upto 0 1 ∷ []) ∷ rev (name 0 3) (name 0 3) [] ∷ rev (name 0 1) (name 1 1) (upto 0 1 ∷ []) ∷ []
+
+-- ---- items and their conflicts
+
+-- an item's versions are in version order, and those of other items are left out
+pub versions_of_one_item : versions_of (name 0 1) three ≡ name 0 2 ∷ name 1 1 ∷ []
+versions_of_one_item = refl
+
+-- an item that has no revision has no versions
+pub versions_of_no_item : versions_of (name 0 2) three ≡ []
+versions_of_no_item = refl
+
+yes_or_no : (b : Bool) → (b ≡ true) ⊎ (b ≡ false)
+yes_or_no true = inl refl
+yes_or_no false = inr refl
+
+-- two versions of one item are a conflict, one version of an item is none, and nor is an item's name that is a version of another item
+pub which_conflict : map (has_conflict three) (name 0 1 ∷ name 0 3 ∷ name 0 2 ∷ []) ≡ true ∷ false ∷ false ∷ []
+which_conflict = refl
+
+-- the conflicts of the three revisions are those of the item 0.1, whatever item is asked for
+pub conflicts_of_three : AreConflicts three (name 0 1 ∷ [])
+unfolding IsStrictlySortedBy
+conflicts_of_three = record {
+  rising = (tt, tt);
+  exact = λ item. rw (name_eq-swap item (name 0 1)) (elim (yes_or_no (name_eq (name 0 1) item)) [
+    | inl here ↦ rw here (elim (yes_or_no (name_eq (name 0 3) item)) [ inl also ↦ rw also refl | inr apart ↦ rw apart refl ])
+    | inr other ↦ rw other (elim (yes_or_no (name_eq (name 0 3) item)) [ inl also ↦ rw also refl | inr apart ↦ rw apart refl ])
+  ]);
+}
+
+-- a list of conflicts that leaves the item out is not theirs
+pub conflicts_left_out : ¬ AreConflicts three []
+conflicts_left_out given = true≢false (sym (given.exact (name 0 1)))
+
+-- ---- what a version of an item supersedes
+
+-- what is below and of the item is superseded, and what is below and of another item is not
+pub superseded_of_three : filter (supersedes (name 0 1) (vector_has (upto 0 3 ∷ []))) three ≡ rev (name 0 1) (name 0 2) (upto 0 1 ∷ []) ∷ []
+superseded_of_three = refl
+
+-- the others stay, in their order
+pub left_of_three : left_by (name 0 1) (vector_has (upto 0 3 ∷ [])) three ≡ rev (name 0 3) (name 0 3) [] ∷ rev (name 0 1) (name 1 1) (upto 0 1 ∷ []) ∷ []
+left_of_three = refl
+
+-- a version leaves where it is listed, or where it is below: 1.1 is listed, 0.2 is below, 0.3 is neither
+pub which_leave : map (leaves (name 1 1 ∷ []) (upto 0 2 ∷ [])) (name 1 1 ∷ name 0 2 ∷ name 0 3 ∷ []) ≡ true ∷ true ∷ false ∷ []
+which_leave = refl
+
+-- ---- what a source covers and did not hold
+
+-- the versions 0.1 and 0.2 of all items
+abbrev first_two : ConciseFragment
+first_two = record { items = All; vector = upto 0 2 ∷ [] }
+
+-- of the versions that are covered those leave that no vector has: here the second vector has 0.1
+pub which_are_unheld : map (is_unheld (first_two ∷ []) ((upto 1 1 ∷ []) ∷ (upto 0 1 ∷ []) ∷ []) (name 0 1)) (name 0 1 ∷ name 0 2 ∷ name 0 3 ∷ []) ≡ false ∷ true ∷ false ∷ []
+which_are_unheld = refl
+
+-- where nothing is covered nothing leaves, though no vector has it
+pub none_unheld : is_unheld [] [] (name 0 1) (name 0 1) ≡ false
+none_unheld = refl
+
+-- ---- a store
+
+-- the three revisions are heads, 2.1 was pushed out, and each part has room
+abbrev store : Holdings
+store = record { heads = three; push_outs = rev (name 2 1) (name 2 1) [] ∷ []; head_room = Some (name 0 3); push_out_room = Some (name 2 1) }
+
+-- a head goes to its place by author and then by counter, and uses up the room of the heads alone
+pub put_among_heads : put_in Heads (rev (name 0 3) (name 0 4) (upto 0 3 ∷ [])) store ≡ record store {
+  heads = rev (name 0 1) (name 0 2) (upto 0 1 ∷ []) ∷ rev (name 0 3) (name 0 3) [] ∷ rev (name 0 3) (name 0 4) (upto 0 3 ∷ []) ∷ rev (name 0 1) (name 1 1) (upto 0 1 ∷ []) ∷ [];
+  head_room = None;
+}
+put_among_heads = refl
+
+-- a push-out goes before those of higher authors, whatever their counters
+pub put_among_push_outs : put_in PushOuts (rev (name 1 7) (name 1 7) []) store ≡ record store { push_outs = rev (name 1 7) (name 1 7) [] ∷ rev (name 2 1) (name 2 1) [] ∷ []; push_out_room = None }
+put_among_push_outs = refl
+
+-- room for another item takes the place of the room that the part had
+pub room_for_another : room_in PushOuts (with_room PushOuts (name 0 1) store) ≡ Some (name 0 1)
+room_for_another = refl
+
+-- and the other part keeps its room
+pub other_room_stays : room_in Heads (with_room PushOuts (name 0 1) store) ≡ Some (name 0 3)
+other_room_stays = refl
+
+-- heads are held, and what they supersede is not
+pub which_are_held : map (holds three) (name 0 2 ∷ name 1 1 ∷ name 0 1 ∷ []) ≡ true ∷ true ∷ false ∷ []
+which_are_held = refl
+
+-- a held version has itself and what it supersedes
+pub by_a_head : map (by_held store (name 0 2)) (name 0 1 ∷ name 0 2 ∷ name 0 3 ∷ []) ≡ true ∷ true ∷ false ∷ []
+by_a_head = refl
+
+-- so has one that was pushed out
+pub by_a_push_out : by_held store (name 2 1) (name 2 1) ≡ true
+by_a_push_out = refl
+
+-- a version that is not held has not even itself
+pub by_none : by_held store (name 0 1) (name 0 1) ≡ false
+by_none = refl
+
+-- ---- the index
+
+-- a version goes behind the lower authors, and before a higher counter of its own author
+pub inserted_by_order : version_inserted (name 1 1) (name 0 5 ∷ name 1 2 ∷ []) ≡ name 0 5 ∷ name 1 1 ∷ name 1 2 ∷ []
+inserted_by_order = refl
+
+-- two are several, and one is not
+pub several_from_two : map are_several ([] ∷ (name 0 1 ∷ []) ∷ (name 0 1 ∷ name 0 2 ∷ []) ∷ []) ≡ false ∷ false ∷ true ∷ []
+several_from_two = refl
