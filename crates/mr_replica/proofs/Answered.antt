@@ -3,7 +3,7 @@ use Rattle.std.proofs.Common.{◌≡◌, ◌≢◌, ◌↔◌, IsErrOf, sym, sub
 use Rattle.std.specs.List.{All}
 use Rattle.std.proofs.lemmas.List.Elements.{All-nil, All-cons}
 use Rattle.mr_version.specs.Name.{Name}
-use Rattle.mr_forms.specs.Known.{Pairs, Form, IsOnlyOverItems}
+use Rattle.mr_forms.specs.Known.{Form}
 use Rattle.mr_forms.specs.declared.fault.FormFault.{FormFault}
 use Rattle.mr_forms.specs.declared.fault.FormFault.TheVariants as faults
 use Rattle.mr_concise.specs.declared.vector.AuthorColumn.{AuthorColumn}
@@ -11,7 +11,6 @@ use Rattle.mr_concise.specs.Vector.{HasTooManyHoles}
 use Rattle.mr_mail.specs.Mail.{Mail}
 use Rattle.mr_madewith.specs.MadeWith.{AreColumnsOf}
 use Rattle.mr_replica.specs.State.{State}
-use Rattle.mr_replica.specs.Refusal.{refusal_of}
 use Rattle.mr_replica.specs.Issue.{Issue, Wanted.Vector, Wanted.Knowledge, below_of_issue, version_learned, wanted_by_issue, Fits, FirstFault, revision_for, Issues}
 use Rattle.mr_replica.specs.Issued.{RefusesMade, IssuesRevision}
 use Rattle.mr_replica.specs.Create.{created}
@@ -23,13 +22,6 @@ use Rattle.mr_replica.specs.declared.event.Reply.{Reply}
 use Rattle.mr_replica.specs.declared.event.Reply.TheVariants.{Issued}
 use Rattle.mr_replica.specs.declared.refusal.Refusal.{Refusal}
 use Rattle.mr_replica.specs.declared.refusal.Refusal.TheVariants.{OutOfMemory, TooManyHoles, TooManyItems}
-
--- the fault of learning a version where memory is there, as a refusal
-pub refused_learning : {K V : Type 0} (form : Form K) (made : Result V FormFault) (pairs : Pairs) (f : FormFault) → made ≢ Err faults.TooManyHoles → f ≢ faults.OutOfMemory
-    → (f ≡ faults.TooManyHoles → form.has_too_many_holes pairs) → (f ≡ faults.TooManyItems → IsOnlyOverItems form pairs) → RefusesMade form made pairs (refusal_of f)
-refused_learning form made pairs faults.OutOfMemory few memory holes items = absurd (memory (λ i. faults.OutOfMemory))
-refused_learning form made pairs faults.TooManyHoles few memory holes items = inr (few, holes (λ i. faults.TooManyHoles))
-refused_learning form made pairs faults.TooManyItems few memory holes items = (few, items (λ i. faults.TooManyItems))
 
 module _ {K : Type 0} (form : Form K) (s : State K) (i : Issue) (event : Event) where
   -- what comes of an issue

@@ -170,16 +170,3 @@ module _ {K : Type 0} (form : Form K) (s : State K) (sound : IsSound form s) whe
 -- the columns of no version
 pub no_columns : (below : List AuthorColumn) → below ≡ [] → IsSame (vector_has below) (λ _. false) → AreColumnsOf (λ _. false) below
 no_columns below is none = record { vector = rw is tt; same = none }
-
--- an item's first version is a revision
-pub created_next : {K : Type 0} (s : State K) (message : Mail) (below : List AuthorColumn) → below ≡ [] → IsSame (vector_has below) (λ _. false)
-    → IsNext s (record { item = next_version s; version = next_version s; below = below; message = message })
-created_next s message below is none = record {
-  version = refl;
-  is = record {
-    lacks_itself = none (next_version s);
-    first = λ _. is;
-    later = λ apart. absurd (apart refl);
-  };
-  no_later = λ v in'. cc (sym (none v) ∙ in');
-}

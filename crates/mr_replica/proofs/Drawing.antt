@@ -1,14 +1,11 @@
 -- what a replica keeps as a stream gives a record, and how far a stream may come
-use Rattle.std.proofs.Common.{◌≡◌, ◌≤◌, ◌<◌, ◌+◌, ◌^◌, nat_le, not, is_some, IfSome, ℕ, Bool, true, false, if◌then◌else◌, arith, List, [], ◌∷◌, ◌++◌, length, map, Option, Some, None, refl, ap, sym, subst, inl, inr}
+use Rattle.std.proofs.Common.{◌≡◌, ◌≤◌, ◌<◌, ◌+◌, ◌^◌, nat_le, not, is_some, IfSome, ℕ, Bool, true, false, arith, List, [], ◌∷◌, length, map, Option, Some, None, refl, subst, inl, inr}
 use Rattle.std.proofs.lemmas.Bool.{leb-false}
 use Rattle.std.proofs.lemmas.Bool.Decides.{eqb_tells}
-use Rattle.std.proofs.lemmas.List.{length_push}
 use Rattle.std.specs.List.{All}
 use Rattle.std.proofs.lemmas.List.Elements.{All-nil, All-cons, All-head, All-tail}
-use Rattle.mr_store.specs.Holdings.{Holdings}
-use Rattle.mr_wire.specs.Frames.{Sent}
-use Rattle.mr_session.specs.Table.{Table, Numbered, at, open_at, changed, with_closed, with_changed}
-use Rattle.mr_session.specs.Stream.{Stream, is_end, GivesIn}
+use Rattle.mr_session.specs.Table.{Table, Numbered, at, open_at, changed, with_changed}
+use Rattle.mr_session.specs.Stream.{Stream}
 use Rattle.mr_replica.specs.State.{State}
 use Rattle.mr_replica.specs.Refusal.{◌orelse◌, refused_if}
 use Rattle.mr_replica.specs.Admission.{log_full}
@@ -17,8 +14,6 @@ use Rattle.mr_forms.specs.Known.{Form}
 use Rattle.mr_replica.specs.Sound.{AreWithin, IsSound}
 use Rattle.mr_replica.specs.declared.refusal.Refusal.{Refusal}
 use Rattle.mr_replica.specs.declared.refusal.Refusal.TheVariants.{NoStream, LogFull}
-use Rattle.mr_replica.specs.declared.event.Event.{Event}
-use Rattle.mr_replica.proofs.Keeping.{within_later, within_closed}
 
 module _ {T : Type 0} (next : T → ℕ) (events : ℕ) where
   abbrev IsFew : Numbered T → Type 0
@@ -55,19 +50,6 @@ module _ {T : Type 0} (next : T → ℕ) (events : ℕ) where
 
 abbrev pub next_of : Stream → ℕ
 next_of stream = stream.next
-
--- a table of which one stream gave a record
-pub within_drawn : (log : List Event) (event : Event) (source number : ℕ) (table : Table Stream) (h : Holdings) (sent : Sent) (new : Table Stream) → GivesIn source number table h sent new → AreWithin next_of (length log) table → AreWithin next_of (length (log ++ event ∷ [])) new
-within_drawn log event source number table h sent new (s, left, found, (core, draws, header, is_next), is) within =
-    let longer = within_later next_of log event table within in
-    let came : s.next ≤ length log = open_within next_of (length log) number table s within found in
-    let next : left.next ≡ s.next + 1 = ap next_of is_next in
-    let most = length (log ++ event ∷ []) in
-    subst (λ (t : Table Stream). AreWithin next_of most t) (sym is) (by_end (is_end sent.body) longer (omega (arith, came, next, length_push log event)))
-  where
-    by_end : (ends : Bool) → AreWithin next_of (length (log ++ event ∷ [])) table → left.next ≤ length (log ++ event ∷ []) → AreWithin next_of (length (log ++ event ∷ [])) (if ends then with_closed table number else with_changed number (λ _. left) table)
-    by_end true longer few = within_closed next_of (length (log ++ event ∷ [])) number table longer
-    by_end false longer few = within_changed next_of (length (log ++ event ∷ [])) number left table few longer
 
 -- ---- an index is below the last one that there is
 

@@ -223,8 +223,3 @@ folds_issued p false r feed heads order new h = folds_on p None feed heads order
 pub in_order_issued : (p : Rev → Bool) (b : Bool) (r : Rev) (heads : List Rev) → AreInVersionOrder heads → revision_of heads r.version ≡ None → AreInVersionOrder (entered_if b r (filter (λ r. not (p r)) heads))
 in_order_issued p true r heads order new = in_order_on p (Some r) heads order new
 in_order_issued p false r heads order new = in_order_on p None heads order tt
-
--- ---- at the beginning
-
-pub folds_none : FoldsTo [] []
-folds_none = record { cards = λ v. refl; items = λ v. refl; news = tt }

@@ -1,7 +1,6 @@
 -- how fragments are made pieces, one by one
-use Rattle.std.proofs.Common.{◌≡◌, refl, ap, sym, ◌∙◌, arith, List, [], ◌∷◌, ◌++◌, length, All, map, Option, length-append, append_assoc}
+use Rattle.std.proofs.Common.{◌≡◌, refl, ap, sym, ◌∙◌, arith, List, [], ◌∷◌, ◌++◌, length, map, Option, length-append, append_assoc}
 use Rattle.std.specs.List.{AllZip, Any}
-use Rattle.std.proofs.lemmas.List.{append-nil}
 use Rattle.std.proofs.Math.Seq.{get_or-append_seam}
 use Rattle.mr_forms.specs.declared.fragment.Fragment.{Fragment}
 use Rattle.mr_forms.specs.Sets.{Versions}
@@ -42,9 +41,6 @@ module _ {V : Type 0} (has : V → Versions) where
     pub whole : all ≡ yielded ++ left
     pub each : AreMade yielded pieces
 
-  pub pieces_begin : (all left : List (Fragment V)) → left ≡ all → PiecesSoFar all [] left []
-  pieces_begin all left e = record { whole = sym e; each = tt }
-
   pub pieces_more : (all yielded left next : List (Fragment V)) (pieces : List Piece) (f : Fragment V) (p : Piece) → PiecesSoFar all yielded left pieces → left ≡ f ∷ next → IsPieceOf (part_of has f) p → PiecesSoFar all (yielded ++ f ∷ []) next (pieces ++ p ∷ [])
   pieces_more all yielded left next pieces f p w taken is = record {
     whole = w.whole ∙ ap (λ rest. yielded ++ rest) taken ∙ sym (append_assoc yielded (f ∷ []) next);
@@ -54,13 +50,3 @@ module _ {V : Type 0} (has : V → Versions) where
   -- the next one left is at its place among them all
   pub among : (all yielded left next : List (Fragment V)) (pieces : List Piece) (f : Fragment V) → PiecesSoFar all yielded left pieces → left ≡ f ∷ next → IsTooHoley has f → Any (IsTooHoley has) all
   among all yielded left next pieces f w taken h = rw (w.whole, taken) (length yielded, f, let e = length-append yielded (f ∷ next) in omega arith, get_or-append_seam yielded f next f, h)
-
-  -- so what all have it has
-  pub next_has : (P : Fragment V → Type 0) (all yielded left next : List (Fragment V)) (pieces : List Piece) (f : Fragment V) → PiecesSoFar all yielded left pieces → left ≡ f ∷ next → All P all → P f
-  next_has P all yielded left next pieces f w taken h = All-in yielded (rw (w.whole, taken) at h)
-    where
-      All-in : (fs : List (Fragment V)) → All P (fs ++ f ∷ next) → P f
-      All-in fs each = rw (get_or-append_seam fs f next f) at (each (length fs) f (let e = length-append fs (f ∷ next) in omega arith))
-
-  pub pieces_end : (all yielded left : List (Fragment V)) (pieces : List Piece) → PiecesSoFar all yielded left pieces → left ≡ [] → AreMade all pieces
-  pieces_end all yielded left pieces w none = rw (w.whole, none, append-nil yielded) w.each

@@ -1,16 +1,15 @@
 -- what a request may carry, and that there is one request
-use Rattle.std.proofs.Common.{◌≡◌, ◌≤◌, ◌<◌, ◌+◌, ℕ, zero, suc, true, nat_le, refl, sym, ap, subst, ◌∙◌, arith, List, [], ◌∷◌, ◌++◌, take, map, length, Option, Some, None, IfSome}
+use Rattle.std.proofs.Common.{◌≡◌, ◌≤◌, ◌<◌, ◌+◌, ℕ, zero, suc, true, refl, sym, ap, subst, ◌∙◌, arith, List, [], ◌∷◌, ◌++◌, take, map, length, Option, Some, None, IfSome}
 use Rattle.std.specs.List.{All, AllZip, AllPairs}
-use Rattle.std.proofs.lemmas.List.{length_push, length-append, append-nil, append_assoc, take_all}
+use Rattle.std.proofs.lemmas.List.{length_push, length-append, append_assoc}
 use Rattle.std.proofs.lemmas.List.Sums.{sum_by_push, sum_by-cons}
 use Rattle.std.proofs.lemmas.List.Elements.{All-nil, All-cons, All-head, All-tail, All-push}
-use Rattle.std.proofs.lemmas.Bool.{leb-false}
 use Rattle.mr_version.specs.Name.{Name}
 use Rattle.mr_forms.specs.Known.{Pairs, Part, Form}
 use Rattle.mr_forms.specs.Parts.{AreListable, ComesFirst}
 use Rattle.mr_forms.proofs.PartLemmas.{AllPairs-head, AllPairs-tail}
 use Rattle.mr_concise.specs.Fragments.{ConciseFragment}
-use Rattle.mr_session.specs.Table.{most_open, Numbered}
+use Rattle.mr_session.specs.Table.{Numbered}
 use Rattle.mr_session.specs.Session.{Session, new_session}
 use Rattle.mr_wire.specs.Values.{Piece, piece_of, AreItems, least_item}
 use Rattle.mr_wire.specs.Frames.{FragmentsRise, IsQuestion, Question, least_follows}
@@ -20,15 +19,10 @@ use Rattle.mr_replica.specs.State.{State}
 use Rattle.mr_replica.specs.Sound.{IsSound}
 use Rattle.mr_replica.specs.Issue.{logged}
 use Rattle.mr_replica.specs.Pieces.{IsPieceOf}
-use Rattle.mr_replica.specs.Refusal.{◌orelse◌, refused_if}
-use Rattle.mr_replica.specs.Pull.{IsLongestWithin, AreAsked, IsAskOf, pull_refusal, pulling, most_asked}
-use Rattle.mr_replica.specs.Admission.{retired, log_full}
+use Rattle.mr_replica.specs.Pull.{IsLongestWithin, AreAsked, IsAskOf, pulling, most_asked}
 use Rattle.mr_replica.specs.declared.event.Event.{Event}
-use Rattle.mr_replica.specs.declared.refusal.Refusal.TheVariants.{TooManySessions, LogFull}
-use Rattle.mr_replica.proofs.Choice.{first_none, later_none, not_refused}
 use Rattle.mr_replica.proofs.Keeping.{within_later}
 use Rattle.mr_replica.proofs.Kept.{may_list, pieces_unique}
-use Rattle.mr_replica.specs.declared.replica.TheConstants.{MAX_EVENTS}
 
 -- ---- a frame carries the fragments of parts
 
@@ -147,22 +141,6 @@ fits_until most all asked left p room h less =
     } in
     subst (λ ps. IsLongestWithin most ps asked) (sym h.whole) longest
 
-take_short : (n : ℕ) (ps : List Piece) → length (take n ps) ≤ length ps
-take_short zero ps = omega arith
-take_short (suc n) [] = omega arith
-take_short (suc n) (p ∷ ps) = let shorter = take_short n ps in omega (arith, shorter)
-
--- where all fit
-pub fits_all : (most : ℕ) (all asked left : List Piece) (room : ℕ) → FitsSoFar most all asked left room → left ≡ [] → IsLongestWithin most all asked
-fits_all most all asked left room h none =
-    let whole : all ≡ asked = h.whole ∙ ap (λ ps. asked ++ ps) none ∙ append-nil asked in
-    let longest : IsLongestWithin most asked asked = record {
-      beginning = sym (take_all (length asked) asked (omega arith));
-      within = omega (arith, h.used);
-      longest = λ n within. take_short n asked;
-    } in
-    subst (λ ps. IsLongestWithin most ps asked) (sym whole) longest
-
 -- there is one
 one_longest : (most : ℕ) (all a b : List Piece) → IsLongestWithin most all a → IsLongestWithin most all b → a ≡ b
 one_longest most all a b h k =
@@ -189,17 +167,6 @@ same_ask form s a b h k =
     λ i. record { target = target i; session = session i; filter = filter i; fragments = fragments i }
 
 -- ---- the session
-
-module _ {K : Type 0} (s : State K) (admitted : pull_refusal s ≡ None) where
-  -- there is room for one session more
-  pub session_room : length s.sessions.open_ones < most_open
-  session_room = leb-false most_open (length s.sessions.open_ones) (not_refused (nat_le most_open (length s.sessions.open_ones)) TooManySessions (first_none (refused_if (nat_le most_open (length s.sessions.open_ones)) TooManySessions) (log_full s) (later_none (retired s) (refused_if (nat_le most_open (length s.sessions.open_ones)) TooManySessions orelse log_full s) admitted)))
-
-  -- there is a number for it
-  pub session_number : (form : Form K) → IsSound form s → s.sessions.opened < MAX_EVENTS
-  session_number form sound =
-      let room : length s.log < s.event_limit = leb-false s.event_limit (length s.log) (not_refused (nat_le s.event_limit (length s.log)) LogFull (later_none (refused_if (nat_le most_open (length s.sessions.open_ones)) TooManySessions) (log_full s) (later_none (retired s) (refused_if (nat_le most_open (length s.sessions.open_ones)) TooManySessions orelse log_full s) admitted))) in
-      omega (arith, room, sound.limit_to, sound.sessions_within.opened)
 
 -- the replica keeps what it keeps
 pub sound_pulled : {K : Type 0} (form : Form K) (s : State K) (event : Event) → IsSound form s → IsSound form (logged (pulling s) event)

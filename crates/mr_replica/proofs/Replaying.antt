@@ -1,7 +1,7 @@
 -- A replica is its log replayed.
 use Rattle.std.proofs.Common.{◌≡◌, ◌≢◌, ◌+◌, ℕ, Bool, true, false, List, [], ◌∷◌, ◌++◌, length, Option, Some, None, Result, Ok, Err, IfOk, IfErr, refl, sym, ap, subst, ◌∙◌, arith, append_assoc, append-nil, length-append}
 use Rattle.mr_filter.specs.Filter.{ClauseParts}
-use Rattle.mr_forms.specs.Known.{Form, AreSame}
+use Rattle.mr_forms.specs.Known.{Form}
 use Rattle.mr_madewith.specs.Revision.{Rev}
 use Rattle.mr_session.specs.Session.{Session, is_full}
 use Rattle.mr_wire.specs.Frames.{Sent}
@@ -163,12 +163,6 @@ module _ {K : Type 0} (form : Form K) where
       → Replays form id filter limit events s → Replays form jd gilter mimit fvents s
   replays_as id jd filter gilter limit mimit events fvents s id_is filter_is limit_is events_are h = rw (id_is, filter_is, limit_is, events_are) h
 
-  -- a fresh replica is its empty log replayed
-  pub fresh_is_its_log : (id : ℕ) (filter : List ClauseParts) (event_limit : ℕ) (s : State K) → AreSame (form.known s.knowledge) (λ _ _. false) → s ≡ new_state id filter event_limit s.knowledge → IsItsLog form s
-  fresh_is_its_log id filter event_limit s nothing is =
-      replays_as id s.id filter s.filter event_limit s.event_limit [] s.log s (ap (λ (z : State K). z.id) is) (ap (λ (z : State K). z.filter) is) (ap (λ (z : State K). z.event_limit) is) (ap (λ (z : State K). z.log) is)
-      (record { fresh = s; is_fresh = record { is_empty = is; knows_nothing = nothing }; admits = refl })
-
   -- what is its log replayed stays so
   step_keeps : (s : State K) (event : Event) (answer : Result Reply Refusal) (new : State K) → Steps form s event answer new → IsItsLog form s → IsItsLog form new
   step_keeps s event (Err e) new h is = subst (λ (z : State K). IsItsLog form z) (sym (refused_same s event e new h)) is
@@ -226,11 +220,6 @@ module _ {K : Type 0} (form : Form K) where
     replay_refuses (Ok s) h = tt
     replay_refuses (Err BadLimit) h = tt
     replay_refuses (Err (Refused place e)) h = record { fresh = fresh; is_fresh = is_fresh; stops = h }
-
-    pub replay_is_taken : (result : Result (State K) ReplayFault) → IfErr result (IsStop form fresh events) → result ≢ Err BadLimit
-    replay_is_taken (Ok s) h is = cc
-    replay_is_taken (Err BadLimit) h is = h
-    replay_is_taken (Err (Refused place e)) h is = cc
 
     pub replay_logs : (result : Result (State K) ReplayFault) → IfOk result (AdmitsAll form fresh events) → IfOk result (λ s. s.log ≡ events)
     replay_logs (Ok s) h = (all_log fresh s events h).3 ∙ ap (λ (z : State K). z.log ++ events) is_fresh.is_empty

@@ -12,12 +12,11 @@ use Rattle.mr_wire.specs.declared.frame.Body.TheVariants.{Start, Item, MoveOut, 
 use Rattle.mr_replica.specs.State.{State}
 use Rattle.mr_replica.specs.Forged.{line_of}
 use Rattle.mr_replica.specs.Issue.{Fits}
-use Rattle.mr_replica.specs.Receive.{session_for, entering, wanted_by_line, wanted_by_end, TakesLine, EndsSession}
-use Rattle.mr_replica.specs.Taking.{told_line, RefusesLine, RefusesEnd}
+use Rattle.mr_replica.specs.Receive.{entering, wanted_by_line, TakesLine}
+use Rattle.mr_replica.specs.Taking.{told_line, RefusesLine}
 use Rattle.mr_replica.specs.Step.{Answers}
 use Rattle.mr_replica.specs.declared.event.Event.TheVariants.{Receive}
 use Rattle.mr_replica.specs.declared.event.Reply.{Reply}
-use Rattle.mr_replica.specs.declared.event.Reply.TheVariants.{Finished}
 use Rattle.mr_replica.specs.declared.refusal.Refusal.{Refusal}
 use Rattle.mr_replica.specs.declared.refusal.Refusal.TheVariants.{OutOfMemory}
 use Rattle.mr_replica.proofs.Choice.{some_same}
@@ -55,11 +54,3 @@ module _ {K : Type 0} (form : Form K) (s : State K) (header : Header) where
   line_answers (Held vector) line told answer new fits takes same refuses = cc
   line_answers (Know piece) line told answer new fits takes same refuses = cc
   line_answers End line told answer new fits takes same refuses = cc
-
-  -- the end of a stream
-  pub end_answers : (answer : Result Reply Refusal) (new : State K) → OnOk answer (All (Fits form) (wanted_by_end form s (session_for s (sent_of End)))) → IfOk answer (λ reply. reply ≡ Finished) → OnOk answer (EndsSession form s (sent_of End) (session_for s (sent_of End)) new)
-      → OnErr answer (new ≡ s) → IfErr answer (RefusesEnd form s (session_for s (sent_of End))) → Answers form s (Receive (Record (sent_of End))) answer new
-  end_answers (Ok Finished) new fits reply ends same refuses = (fits, ends)
-  end_answers (Ok r) new fits reply ends same refuses = cc
-  end_answers (Err OutOfMemory) new fits reply ends same refuses = (refuses, same)
-  end_answers (Err e) new fits reply ends same refuses = (refuses, same)

@@ -1,5 +1,5 @@
 -- what comes of a version that a record tells of
-use Rattle.std.proofs.Common.{◌≡◌, ◌≢◌, ◌↔◌, IsErrOf, Bool, true, false, if◌then◌else◌, refl, sym, ap, subst, ◌∙◌, [], ◌∷◌, Option, Some, None, IfSome, Result, Ok, Err, inl, inr}
+use Rattle.std.proofs.Common.{◌≡◌, ◌↔◌, IsErrOf, Bool, true, false, if◌then◌else◌, refl, sym, ap, subst, ◌∙◌, [], ◌∷◌, Option, Some, None, IfSome, Result, Ok, Err, inl, inr}
 use Rattle.std.specs.List.{All}
 use Rattle.std.proofs.lemmas.Bool.{or_parts}
 use Rattle.std.proofs.lemmas.List.Elements.{All-nil, All-cons, All-head, All-tail}
@@ -13,9 +13,8 @@ use Rattle.mr_wire.specs.declared.frame.Body.{Body}
 use Rattle.mr_wire.specs.declared.frame.Body.TheVariants.{Start, Item, MoveOut, Held, Know, End}
 use Rattle.mr_replica.specs.State.{State, held}
 use Rattle.mr_replica.specs.Sound.{IsSound}
-use Rattle.mr_replica.specs.Refusal.{refusal_of}
 use Rattle.mr_replica.specs.Forged.{line_of, is_early_line, is_misfiled, is_forged}
-use Rattle.mr_replica.specs.Issue.{Wanted.Knowledge, Fits, FirstFault, is_selected}
+use Rattle.mr_replica.specs.Issue.{Wanted.Knowledge, Fits, is_selected}
 use Rattle.mr_replica.specs.Receive.{line_learned, wanted_by_line, entering}
 use Rattle.mr_replica.specs.Taking.{told_line, told_by}
 use Rattle.mr_replica.specs.declared.refusal.Refusal.TheVariants.{TooManyHoles, TooManyItems}
@@ -83,22 +82,6 @@ module _ {K : Type 0} (form : Form K) (s : State K) (line : DescentParts) (unkno
         let first_fits : Fits form (Knowledge first) = (λ many. no_holes (inl many), λ many. no_items (inl (many, λ h. no_holes (inl h)))) in
         let second_fits : Fits form (Knowledge second) = (λ many. no_holes (inr (first_fits, many)), λ many. no_items (inr (first_fits, (many, λ h. no_holes (inr (first_fits, h)))))) in
         subst (All (Fits form)) (sym wants) (All-cons (Fits form) (Knowledge first) (Knowledge second ∷ []) first_fits (All-cons (Fits form) (Knowledge second) [] second_fits (All-nil (Fits form))))
-
-    pub line_fault : (f : FormFault) → made ≡ Err f → f ≢ fault.OutOfMemory → FirstFault form (refusal_of f) (wanted_by_line form s line)
-    line_fault f is memory = subst (FirstFault form (refusal_of f)) (sym wants) (go f is memory)
-      where
-        go : (f : FormFault) → made ≡ Err f → f ≢ fault.OutOfMemory → FirstFault form (refusal_of f) (Knowledge first ∷ Knowledge second ∷ [])
-        go fault.OutOfMemory is memory = absurd (memory refl)
-        go fault.TooManyHoles is memory = over (holes.0 is)
-          where
-            over : IsOverHolesInTurn form first second → FirstFault form TooManyHoles (Knowledge first ∷ Knowledge second ∷ [])
-            over (inl h) = inl h
-            over (inr h) = inr (h.0, inl h.1)
-        go fault.TooManyItems is memory = over (items.0 is)
-          where
-            over : IsOverItemsInTurn form first second → FirstFault form TooManyItems (Knowledge first ∷ Knowledge second ∷ [])
-            over (inl h) = inl h
-            over (inr h) = inr (h.0, inl h.1)
 
   -- where both have a value there is no fault but of memory
   module _ (fits : All (Fits form) (wanted_by_line form s line)) where

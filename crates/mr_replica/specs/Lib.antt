@@ -26,3 +26,4 @@ pub mod Methods
 pub mod Step
 pub mod Replay
 pub mod Limits
+pub mod Rows

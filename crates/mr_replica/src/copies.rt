@@ -18,7 +18,7 @@ pub fn copied_vector(vector: &ConciseVector) -> Result<ConciseVector, AllocError
 }
 
 /// An equal descent.
-pub fn copied_descent(descent: &Descent) -> Result<Descent, AllocError>
+fn copied_descent(descent: &Descent) -> Result<Descent, AllocError>
     ensures { IfOk result (λ copy. copy ≡ descent.now) }
 {
     let below = copied_vector(descent.below())?;
@@ -36,7 +36,7 @@ pub fn copied_receipt(receipt: &Receipt) -> Result<Receipt, AllocError>
 }
 
 /// An equal body.
-pub fn copied_body(body: &Body) -> Result<Body, AllocError>
+fn copied_body(body: &Body) -> Result<Body, AllocError>
     ensures { IfOk result (λ copy. copy ≡ body.now) }
 {
     match body {

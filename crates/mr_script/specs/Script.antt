@@ -23,7 +23,7 @@ line_text line = strip_last 10 line
 unfoldable pub looked_at : List ℕ → List ℕ
 looked_at script = take 16777217 script
 
--- the bytes that are left, whatever number of calls is
+-- the bytes that are left, whatever number of calls is left
 abbrev pub metered_remaining : {R : Type 0} → (R → Option (List ℕ)) → Metered R → Option (List ℕ)
 metered_remaining remaining metered = remaining metered.reader
 

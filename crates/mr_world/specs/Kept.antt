@@ -1,6 +1,5 @@
 -- a world as contracts see it
-use Rattle.std.specs.Prelude.{ℕ, ◌==◌, if◌then◌else◌, Option, Some, None, List, find, slice_set}
-use Rattle.std.specs.List.{position_or_len}
+use Rattle.std.specs.Prelude.{ℕ, ◌==◌, if◌then◌else◌, Option, Some, None, List, find}
 use Rattle.std.specs.Option.{option_map}
 use Rattle.mr_replica.specs.State.{State}
 use Rattle.mr_wire.specs.Frames.{Question, Sent}
@@ -40,10 +39,6 @@ module _ {K : Type 0} where
   abbrev pub member_at : List (MemberView K) → ℕ → Option (MemberView K)
   member_at members r = find (λ m. m.replica.id == r) members
 
-  -- the members with another in its place
-  abbrev pub with_member : List (MemberView K) → ℕ → MemberView K → List (MemberView K)
-  with_member members r new = slice_set members (position_or_len (λ m. m.replica.id == r) members) new
-
   -- the replica of this id
   abbrev pub replica_at : List (MemberView K) → ℕ → Option (State K)
   replica_at members r = option_map (λ m. m.replica) (member_at members r)
@@ -69,7 +64,7 @@ module _ {K : Type 0} where
   abbrev pub port_numbered : MemberView K → Port → ℕ → Port
   port_numbered m third u = if u == 0 then m.indexer else (if u == 1 then m.notifier else third)
 
-  -- The world of these members and pools: an id of no member has an unused one, and so has a subscriber who is no one.
+  -- The world of these members and pools: an id of no member has an unused one; a number of no subscriber has the port `third`.
   abbrev pub world_of : (unused : ℕ → MemberView K) → (third : Port) → WorldView K → World K
   world_of unused third w = record {
     replicas = λ r. (found_or (unused r) (member_at w.members r)).replica;
