@@ -14,3 +14,4 @@ pub mod Shape
 pub mod Taking
 pub mod There
 pub mod Words
+pub mod Rows

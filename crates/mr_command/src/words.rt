@@ -120,7 +120,7 @@ impl<'a> Words<'a> {
     }
 
     /// `WrongWords` where a word is left.
-    pub(crate) fn end(self) -> Result<(), LineFault>
+    fn end(self) -> Result<(), LineFault>
         ensures exact { IsOk result ↔ (self.entry ≡ []) }
         ensures fault { IfErr result (λ fault. fault ≡ LineFault.WrongWords) }
     {
