@@ -37,7 +37,7 @@ impl Exchange {
     }
 
     /// One record goes from the source to the target.
-    pub fn pass(&mut self, target: &mut Device, source: &mut Device) -> Result<Received, Fault> {
+    fn pass(&mut self, target: &mut Device, source: &mut Device) -> Result<Received, Fault> {
         source.give(self.stream, &mut self.wire)?;
         target.take(&mut self.wire)
     }

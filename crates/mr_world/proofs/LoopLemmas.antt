@@ -1,13 +1,12 @@
 -- Loops that go on by one: members of specifications, and events that are answered.
-use Rattle.std.proofs.Common.{◌≡◌, ℕ, ◌+◌, List, [], ◌∷◌, ◌++◌, length, Err, refl, sym, ap, subst, ◌∙◌, arith, append_assoc, append-nil, length-append}
+use Rattle.std.proofs.Common.{◌≡◌, ℕ, ◌+◌, List, [], ◌∷◌, ◌++◌, length, refl, sym, ap, ◌∙◌, arith, append_assoc, append-nil, length-append}
 use Rattle.std.specs.List.{AllZip}
 use Rattle.mr_forms.specs.Known.{Form}
 use Rattle.mr_world.specs.Kept.{MemberView, WorldView}
 use Rattle.mr_world.specs.Made.{IsMadeOf}
-use Rattle.mr_world.specs.Run.{IsStopFault, Happens, Meets, Leads, StopsAt}
+use Rattle.mr_world.specs.Run.{Happens, Leads}
 use Rattle.mr_world.specs.declared.answer.Answer.{Answer}
 use Rattle.mr_world.specs.declared.event.Event.{Event}
-use Rattle.mr_world.specs.declared.fault.WorldFault.{WorldFault}
 use Rattle.mr_world.specs.declared.spec.Spec.{Spec}
 use Rattle.mr_world.proofs.Happening.{leads_more}
 
@@ -55,15 +54,3 @@ module _ {K : Type 0} (form : Form K) where
 
   pub events_end : (w : WorldView K) (all yielded left : List Event) (at : ℕ) (now : WorldView K) → EventsSoFar w all yielded left at now → left ≡ [] → Leads form w all now
   events_end w all yielded left at now so none = rw (so.whole, none, append-nil yielded) so.leads
-
-  pub events_stop : (w now new : WorldView K) (all yielded left next : List Event) (at : ℕ) (e : Event) (fault : WorldFault)
-      → EventsSoFar w all yielded left at now → left ≡ e ∷ next → Meets form now e (Err fault) new → StopsAt form w all at fault new
-  events_stop w now new all yielded left next at e fault so taken h = record {
-    before = yielded;
-    event = e;
-    left = next;
-    all = so.whole ∙ ap (λ rest. yielded ++ rest) taken;
-    place = sym so.count;
-    leads = subst (λ (v : WorldView K). Leads form w yielded v) (sym h.1) so.leads;
-    faulty = subst (λ (v : WorldView K). IsStopFault v e fault) (sym h.1) h.0;
-  }

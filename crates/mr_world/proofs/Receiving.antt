@@ -91,9 +91,6 @@ module _ {K : Type 0} (form : Form K) (filters : ℕ → List ClauseParts) (w : 
   abbrev s : State K
   s = w.replicas r
 
-  abbrev X : Record
-  X = seen_record x
-
   abbrev before : List Record
   before = filter (in_session x.header.session) (m.taken_in r)
 

@@ -47,14 +47,6 @@ starts_none (Held vector) h = refl
 starts_none (Know piece) h = refl
 starts_none End h = refl
 
-start_body : (b : Body) → is_start b ≡ true → (mode : Mode) × (b ≡ Start mode)
-start_body (Start mode) h = (mode, refl)
-start_body (Item r) h = absurd (cc)
-start_body (MoveOut line) h = absurd (cc)
-start_body (Held vector) h = absurd (cc)
-start_body (Know piece) h = absurd (cc)
-start_body End h = absurd (cc)
-
 pub full_is : (mode : Mode) → is_full_mode mode ≡ true → mode ≡ Full
 full_is Full h = refl
 full_is Partial h = absurd (cc)

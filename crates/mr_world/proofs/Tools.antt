@@ -43,16 +43,9 @@ pub map_in : {A B : Type 0} (f : A → B) (xs : List A) (x : A) → In x xs → 
 map_in f [] x i = elim i [ ]
 map_in f (y ∷ ys) x i = elim i [ inl e ↦ inl (ap f e) | inr j ↦ inr (map_in f ys x j) ]
 
-pub none_in : {A : Type 0} (xs : List A) → xs ≡ [] → (x : A) → ¬ In x xs
-none_in xs e x i = elim (subst (In x) e i) [ ]
-
 pub any_append : {A : Type 0} (p : A → Bool) (xs ys : List A) → list_any p (xs ++ ys) ≡ (list_any p xs || list_any p ys)
 any_append p [] ys = refl
 any_append p (x ∷ xs) ys = rw (any_append p xs ys) (sym (or_assoc (p x) (list_any p xs) (list_any p ys)))
-
-pub any_same : {A : Type 0} (p q : A → Bool) (xs : List A) → ((x : A) → In x xs → p x ≡ q x) → list_any p xs ≡ list_any q xs
-any_same p q [] h = refl
-any_same p q (x ∷ xs) h = let a = h x (inl refl) in let b = any_same p q xs (λ y i. h y (inr i)) in λ i. a i || b i
 
 pub all_elim : {A : Type 0} (p : A → Bool) (xs : List A) → IsTrue (list_all p xs) → (x : A) → In x xs → IsTrue (p x)
 all_elim p [] h x i = elim i [ ]

@@ -24,3 +24,4 @@ pub mod Promise
 pub mod Normal
 pub mod ListedItems
 pub mod Replies
+pub mod Rows

@@ -1,0 +1,152 @@
+-- worked rows: what the definitions give for small values
+use Rattle.std.specs.Prelude.{◌≡◌, ℕ, true, false, [], ◌∷◌, Some, None, Ok, Err, refl}
+use Rattle.mr_wire.specs.Frames.{Question}
+use Rattle.mr_replica.specs.State.{new_state}
+use Rattle.mr_replica.specs.declared.event.Reply.TheVariants.{Asked}
+use Rattle.mr_replica.specs.declared.refusal.Refusal.TheVariants.{LogFull}
+use Rattle.mr_world.specs.World.{World, new_port, with_given}
+use Rattle.mr_world.specs.Kept.{MemberView, WorldView, member_at, replica_at, with_outlet, port_of, world_of}
+use Rattle.mr_world.specs.Made.{has_same_id, spec_refusal}
+use Rattle.mr_world.specs.Pool.{PoolList, at_number}
+use Rattle.mr_world.specs.Task.{lacks_frame}
+use Rattle.mr_world.specs.declared.event.Event.TheVariants.{Pull, Receive, DeliverPart, Answer, Release}
+use Rattle.mr_world.specs.declared.event.Subscriber.TheVariants.{Indexer, Notifier}
+use Rattle.mr_world.specs.declared.fault.SpecFault.TheVariants.{SameReplica, BadLimit, NoCapacity}
+use Rattle.mr_world.specs.declared.spec.Spec.{Spec}
+
+-- ---- of what a world is made
+
+-- a replica of this id, event limit and capacity, that selects nothing
+abbrev spec : (id limit capacity : ℕ) → Spec
+spec id limit capacity = record { id = id; filter = []; event_limit = limit; port_capacity = capacity }
+
+-- no replicas have no id twice
+pub none_of_no_specs : has_same_id [] ≡ false
+none_of_no_specs = refl
+
+-- two with one id need not be next to each other
+pub far_apart : has_same_id (spec 1 1 1 ∷ spec 2 1 1 ∷ spec 1 2 2 ∷ []) ≡ true
+far_apart = refl
+
+pub all_apart : has_same_id (spec 1 1 1 ∷ spec 2 1 1 ∷ spec 3 1 1 ∷ []) ≡ false
+all_apart = refl
+
+-- a world may have no replica
+pub empty_world : spec_refusal [] ≡ None
+empty_world = refl
+
+-- a limit and a capacity of 1 are the least
+pub least_spec : spec_refusal (spec 0 1 1 ∷ []) ≡ None
+least_spec = refl
+
+pub no_events : spec_refusal (spec 0 0 1 ∷ []) ≡ Some BadLimit
+no_events = refl
+
+pub no_places : spec_refusal (spec 0 1 0 ∷ []) ≡ Some NoCapacity
+no_places = refl
+
+-- a capacity of 4,096 is the greatest
+pub most_places : spec_refusal (spec 0 1 4096 ∷ []) ≡ None
+most_places = refl
+
+pub too_many_places : spec_refusal (spec 0 1 4097 ∷ []) ≡ Some NoCapacity
+too_many_places = refl
+
+-- that two have one id is told before a bad limit, and that before a bad capacity, whichever replica has it
+pub same_id_first : spec_refusal (spec 1 0 0 ∷ spec 1 0 0 ∷ []) ≡ Some SameReplica
+same_id_first = refl
+
+pub limit_before_capacity : spec_refusal (spec 1 1 0 ∷ spec 2 0 1 ∷ []) ≡ Some BadLimit
+limit_before_capacity = refl
+
+-- ---- pools
+
+-- frames are numbered from 1, the oldest
+pub no_number_0 : at_number {A = ℕ} (8 ∷ 9 ∷ []) 0 ≡ None
+no_number_0 = refl
+
+pub oldest : at_number {A = ℕ} (8 ∷ 9 ∷ []) 1 ≡ Some 8
+oldest = refl
+
+pub newest : at_number {A = ℕ} (8 ∷ 9 ∷ []) 2 ≡ Some 9
+newest = refl
+
+pub past_the_newest : at_number {A = ℕ} (8 ∷ 9 ∷ []) 3 ≡ None
+past_the_newest = refl
+
+-- pools with one request and nothing else
+abbrev one_ask : PoolList
+one_ask = record { asks = record { frames = [] ∷ []; room = 0 }; records = record { frames = []; room = 0 }; receipts = record { frames = []; room = 0 } }
+
+-- an event finds its frame in the pool of its kind alone
+pub finds_ask : lacks_frame one_ask (Answer 0 1) ≡ false
+finds_ask = refl
+
+pub lacks_record : lacks_frame one_ask (Receive 0 1) ≡ true
+lacks_record = refl
+
+-- a part of no record is lacking too, even one of no bytes
+pub lacks_part : lacks_frame one_ask (DeliverPart 0 1 0) ≡ true
+lacks_part = refl
+
+pub lacks_receipt : lacks_frame one_ask (Release 0 1) ≡ true
+lacks_receipt = refl
+
+-- an event that takes no frame lacks none
+pub wants_no_frame : lacks_frame one_ask (Pull 0) ≡ false
+wants_no_frame = refl
+
+-- ---- members
+
+-- the member of this id, with ports of two places
+abbrev member : ℕ → MemberView ℕ
+member id = record { replica = new_state id [] 1 0; indexer = new_port 2; notifier = new_port 2 }
+
+-- a member is found by its replica's id, wherever it stands
+pub member_found : member_at (member 7 ∷ member 3 ∷ []) 3 ≡ Some (member 3)
+member_found = refl
+
+pub no_such_member : replica_at (member 7 ∷ member 3 ∷ []) 1 ≡ None
+no_such_member = refl
+
+-- a new port to one subscriber leaves the other's
+pub other_port_stays : port_of (with_outlet (member 7) Indexer (new_port 9)) Notifier ≡ new_port 2
+other_port_stays = refl
+
+-- ---- a world over all ids
+
+-- two members and empty pools
+abbrev kept : WorldView ℕ
+kept = record { members = member 7 ∷ member 3 ∷ []; asks = []; records = []; receipts = []; answers = [] }
+
+abbrev whole : World ℕ
+whole = world_of (λ id. record { replica = new_state id [] 0 0; indexer = new_port 4; notifier = new_port 5 }) (new_port 9) kept
+
+-- a member's replica is at its id
+pub replica_of_member : whole.replicas 3 ≡ new_state 3 [] 1 0
+replica_of_member = refl
+
+-- an id of no member has the unused one
+pub replica_of_no_member : whole.replicas 1 ≡ new_state 1 [] 0 0
+replica_of_no_member = refl
+
+-- a number of no subscriber has the third port, at a member's id and at any other
+pub third_of_member : whole.ports 3 2 ≡ new_port 9
+third_of_member = refl
+
+pub third_of_no_member : whole.ports 1 2 ≡ new_port 9
+third_of_no_member = refl
+
+pub notifier_of_no_member : whole.ports 1 1 ≡ new_port 5
+notifier_of_no_member = refl
+
+abbrev question : (session : ℕ) → Question
+question session = record { target = 3; session = session; filter = []; fragments = [] }
+
+-- what is given is the newest of its pool
+pub given_first : (with_given (with_given whole (Ok (Asked (question 1)))) (Ok (Asked (question 2)))).asks ≡ question 2 ∷ question 1 ∷ []
+given_first = refl
+
+-- a refusal gives nothing
+pub refusal_gives_nothing : with_given whole (Err LogFull) ≡ whole
+refusal_gives_nothing = refl
