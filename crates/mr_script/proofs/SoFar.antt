@@ -1,6 +1,5 @@
 -- what a script has printed up to some line
 use Rattle.std.proofs.Common.{◌≡◌, ◌+◌, ◌-◌, ℕ, List, [], ◌++◌, Option, Some, None, Ok, IfSome, inr, string_bytes, refl, append_assoc, append-nil}
-use Rattle.std.specs.Option.{option_map}
 use Rattle.std.specs.Io.KnownBytes.{Appends}
 use Rattle.std.specs.declared.string.String.{String}
 use Rattle.std.specs.declared.alloc.Global.{Global}
@@ -24,17 +23,6 @@ module _ {K : Type 0} (form : Form K) where
     pub written : List ℕ
     pub are : Appends old new written
     pub leads : LeadsTo form bare 1 MAX_SCRIPT_BYTES (looked_at script) (written ++ waits) s number (MAX_SCRIPT_BYTES - taken) rest
-
-  -- before the first line
-  pub so_far-start : (script : Option (List ℕ)) (left old : Option (List ℕ)) (taken : ℕ) (waits : List ℕ) → left ≡ option_map looked_at script → taken ≡ 0 → waits ≡ [] → IfSome script (λ bytes. SoFar bytes bare 1 taken left old old waits)
-  so_far-start None left old taken waits is none empty = tt
-  so_far-start (Some bytes) left old taken waits is none empty = record {
-    rest = looked_at bytes;
-    is_left = is;
-    written = [];
-    are = Appends-nothing old;
-    leads = λ end output runs. rw empty (rw none at runs);
-  }
 
   -- where not even the first line can be read
   pub never_began : (script : Option (List ℕ)) (fault : ScriptFault) (old : Option (List ℕ)) (waits : List ℕ) → Breaks 1 fault → waits ≡ [] → IfSome script (λ bytes. Prints form bytes (Some fault) old old waits)

@@ -12,3 +12,4 @@ pub mod Sync
 pub mod Taken
 pub mod Writing
 pub mod Limits
+pub mod Rows

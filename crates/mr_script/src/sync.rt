@@ -34,7 +34,7 @@ enum Round {
 
 /// How far a sync came.
 #[derive(Clone, Copy, Debug, PartialEq, Eq)]
-pub(crate) struct Outcome {
+struct Outcome {
     counts: SyncCounts,
     end: SyncEnd,
 }
