@@ -12,6 +12,19 @@ pub fn create(alloc: Global, id: Author, label: &str) -> Result<Event> {
     Ok(Event::Create(id, message(alloc, label)?))
 }
 
+/// The replica creates a message with each of these labels.
+pub fn push_created(
+    events: &mut Vec<Event>,
+    alloc: Global,
+    id: Author,
+    labels: &[&str],
+) -> Result<()> {
+    for label in labels {
+        events.push(create(alloc, id, label)?)?;
+    }
+    Ok(())
+}
+
 /// The replica edits the versions, and gives the message this label.
 pub fn edit(alloc: Global, id: Author, bases: &[&str], label: &str) -> Result<Event> {
     let mut versions = Vec::new(alloc);
@@ -41,14 +54,23 @@ pub struct Exchange {
     pub count: usize,
 }
 
+/// The events of an exchange alone.
+pub fn events_of(alloc: Global, records: &mut Records, exchange: Exchange) -> Result<Vec<Event>> {
+    let mut events = Vec::new(alloc);
+    push_exchange(&mut events, records, exchange)?;
+    Ok(events)
+}
+
 /// The target pulls, the source answers and gives the records, and the target takes them.
 pub fn push_exchange(
     events: &mut Vec<Event>,
     records: &mut Records,
     exchange: Exchange,
 ) -> Result<()> {
-    events.push(Event::Pull(exchange.target))?;
-    events.push(Event::Answer(exchange.source, exchange.ask))?;
+    events.extend([
+        Event::Pull(exchange.target),
+        Event::Answer(exchange.source, exchange.ask),
+    ])?;
     push_draws(events, exchange.source, exchange.stream, exchange.count)?;
     push_next_receives(events, records, exchange.target, exchange.count)
 }
@@ -70,14 +92,6 @@ pub fn push_next_receives(
 ) -> Result<()> {
     for _ in 0..count {
         events.push(Event::Receive(id, records.next()))?;
-    }
-    Ok(())
-}
-
-/// The replica receives the records of these numbers.
-pub fn push_receives(events: &mut Vec<Event>, id: Author, records: &[u64]) -> Result<()> {
-    for number in records {
-        events.push(Event::Receive(id, *number))?;
     }
     Ok(())
 }

@@ -24,6 +24,7 @@ mod teller;
 mod words;
 
 use anyhow::Result;
+use cast::Cast;
 use mr_forms::{Knowledge, PlainKnowledge};
 use mr_itemset::ItemKnowledge;
 use mr_world::{Stopped, World, WorldFault};
@@ -57,17 +58,37 @@ fn play_both<R: Print + AllocGlobal>(rt: &R) -> Result<bool> {
 /// Plays all scenes, and then tells how the world stands. Gives what doesn't depend on the form of knowledge.
 fn play_all<R: Print + AllocGlobal, K: Knowledge>(rt: &R, know: KnowCounts) -> Result<String> {
     let cast = cast::all()?;
-    let mut world: World<K> = cast::world(rt.alloc(), &cast)?;
     let mut teller = Teller::new(rt.alloc());
-    for scene in scenes::all(rt.alloc(), &cast, know)? {
-        world = play(rt, &mut teller, world, scene)?;
+    let world: World<K> = play_scenes(rt, &mut teller, &cast, know)?;
+    tell_world(rt, &mut teller.account, &world, &cast)?;
+    Ok(teller.account)
+}
+
+/// Plays all scenes, and gives the world behind them.
+fn play_scenes<R: Print + AllocGlobal, K: Knowledge>(
+    rt: &R,
+    teller: &mut Teller,
+    cast: &Cast,
+    know: KnowCounts,
+) -> Result<World<K>> {
+    let mut world: World<K> = cast::world(rt.alloc(), cast)?;
+    for scene in scenes::all(rt.alloc(), cast, know)? {
+        world = play(rt, teller, world, scene)?;
     }
-    let mut account = teller.account;
+    Ok(world)
+}
+
+/// Tells how the world stands.
+fn tell_world<R: Print + AllocGlobal, K: Knowledge>(
+    rt: &R,
+    account: &mut String,
+    world: &World<K>,
+    cast: &Cast,
+) -> Result<()> {
     for id in cast.ids() {
-        readers::tell_replica(rt, &mut account, &world, id)?;
+        readers::tell_replica(rt, account, world, id)?;
     }
-    readers::tell_pools(rt, &world)?;
-    Ok(account)
+    readers::tell_pools(rt, world)
 }
 
 /// Lets the events of a scene happen, and tells each with its answer, and where the world stopped.

@@ -33,14 +33,26 @@ fn tell_mail<R: Print + AllocGlobal, K: Knowledge>(
     account: &mut String,
     replica: &Replica<K>,
 ) -> Result<()> {
-    let heads = revision_list(rt.alloc(), replica.heads())?;
-    let push_outs = revision_list(rt.alloc(), replica.push_outs())?;
-    let conflicts = item_list(rt.alloc(), &replica.conflicts()?)?;
-    let feed = entry_list(rt.alloc(), replica.feed())?;
-    tell_list(rt, account, "heads", &heads)?;
-    tell_list(rt, account, "push-outs", &push_outs)?;
-    tell_list(rt, account, "conflicts", &conflicts)?;
-    tell_list(rt, account, "feed", &feed)
+    let alloc = rt.alloc();
+    tell_list(
+        rt,
+        account,
+        "heads",
+        &revision_list(alloc, replica.heads())?,
+    )?;
+    tell_list(
+        rt,
+        account,
+        "push-outs",
+        &revision_list(alloc, replica.push_outs())?,
+    )?;
+    tell_list(
+        rt,
+        account,
+        "conflicts",
+        &item_list(alloc, &replica.conflicts()?)?,
+    )?;
+    tell_list(rt, account, "feed", &entry_list(alloc, replica.feed())?)
 }
 
 fn tell_knowledge<R: Print + AllocGlobal, K: Knowledge>(
@@ -63,8 +75,8 @@ fn tell_taken<R: Print + AllocGlobal>(
     id: Author,
 ) -> Result<()> {
     let indexer = taken_list(rt.alloc(), answers, id, Subscriber::Indexer)?;
-    let notifier = taken_list(rt.alloc(), answers, id, Subscriber::Notifier)?;
     tell_list(rt, account, "its indexer took", &indexer)?;
+    let notifier = taken_list(rt.alloc(), answers, id, Subscriber::Notifier)?;
     tell_list(rt, account, "its notifier took", &notifier)
 }
 

@@ -1,8 +1,8 @@
 //! What happens, scene by scene.
 use crate::cast::Cast;
 use crate::events::{
-    Exchange, create, edit, push_answers, push_draws, push_exchange, push_next_receives,
-    push_pulls, push_receives,
+    Exchange, create, edit, events_of, push_answers, push_created, push_draws, push_exchange,
+    push_next_receives, push_pulls,
 };
 use crate::records::{KnowCounts, Records};
 use anyhow::Result;
@@ -148,68 +148,69 @@ fn push_stops(
 }
 
 fn refuses_when_fresh(alloc: Global, cast: &Cast) -> Result<Vec<Event>> {
-    let mut events = Vec::new(alloc);
-    events.push(edit(alloc, cast.office, &[], "inbox")?)?;
-    events.push(edit(alloc, cast.office, &["0.1"], "inbox")?)?;
-    events.push(Event::Vouch(cast.office, Version::read("0.1")?))?;
-    events.push(Event::CutIn(cast.office, 1))?;
-    events.push(Event::Next(cast.office, 1))?;
-    events.push(Event::CutOut(cast.office, 1))?;
-    events.push(Event::Offer(cast.office, Subscriber::Indexer))?;
-    events.push(Event::Take(cast.office, Subscriber::Notifier))?;
-    Ok(events)
+    let version = Version::read("0.1")?;
+    let of_none = edit(alloc, cast.office, &[], "inbox")?;
+    let of_missing = edit(alloc, cast.office, &["0.1"], "inbox")?;
+    Ok(vec![in alloc;
+        of_none,
+        of_missing,
+        Event::Vouch(cast.office, version),
+        Event::CutIn(cast.office, 1),
+        Event::Next(cast.office, 1),
+        Event::CutOut(cast.office, 1),
+        Event::Offer(cast.office, Subscriber::Indexer),
+        Event::Take(cast.office, Subscriber::Notifier),
+    ]?)
 }
 
 fn mail_comes(alloc: Global, cast: &Cast) -> Result<Vec<Event>> {
     let mut events = Vec::new(alloc);
-    events.push(create(alloc, cast.office, "inbox")?)?;
-    events.push(create(alloc, cast.office, "work")?)?;
-    events.push(create(alloc, cast.office, "inbox")?)?;
-    events.push(create(alloc, cast.old_phone, "inbox")?)?;
+    push_created(&mut events, alloc, cast.office, &["inbox", "work", "inbox"])?;
+    push_created(&mut events, alloc, cast.old_phone, &["inbox"])?;
     events.push(edit(alloc, cast.office, &["0.1", "0.2"], "inbox")?)?;
     Ok(events)
 }
 
 fn begins(alloc: Global, cast: &Cast) -> Result<Vec<Event>> {
-    let mut events = Vec::new(alloc);
-    events.push(Event::Pull(cast.phone))?;
-    events.push(Event::Answer(cast.office, 1))?;
+    let mut events = vec![in alloc; Event::Pull(cast.phone), Event::Answer(cast.office, 1)]?;
     push_draws(&mut events, cast.office, 1, 4)?;
     Ok(events)
 }
 
 fn cut_off(alloc: Global, cast: &Cast, records: &mut Records) -> Result<Vec<Event>> {
-    let mut events = Vec::new(alloc);
     let start = records.next();
     let first = records.next();
     let second = records.next();
     let held = records.next();
-    push_receives(&mut events, cast.phone, &[first, start, first, first, held])?;
-    events.push(Event::DeliverPart(cast.phone, second, 20))?;
-    events.push(Event::Receive(cast.laptop, second))?;
-    events.push(Event::Receive(cast.phone, second))?;
-    events.push(Event::CutIn(cast.phone, 1))?;
-    events.push(Event::Receive(cast.phone, held))?;
-    events.push(Event::CutOut(cast.office, 1))?;
-    events.push(Event::Next(cast.office, 1))?;
-    Ok(events)
+    Ok(vec![in alloc;
+        Event::Receive(cast.phone, first),
+        Event::Receive(cast.phone, start),
+        Event::Receive(cast.phone, first),
+        Event::Receive(cast.phone, first),
+        Event::Receive(cast.phone, held),
+        Event::DeliverPart(cast.phone, second, 20),
+        Event::Receive(cast.laptop, second),
+        Event::Receive(cast.phone, second),
+        Event::CutIn(cast.phone, 1),
+        Event::Receive(cast.phone, held),
+        Event::CutOut(cast.office, 1),
+        Event::Next(cast.office, 1),
+    ]?)
 }
 
 fn taken_up(alloc: Global, cast: &Cast, records: &mut Records) -> Result<Vec<Event>> {
-    let mut events = Vec::new(alloc);
+    let count = records.know.taken_up.saturating_add(3);
     let exchange = Exchange {
         target: cast.phone,
         source: cast.office,
         ask: 2,
         stream: 2,
-        count: records.know.taken_up.saturating_add(3),
+        count,
     };
-    push_exchange(&mut events, records, exchange)?;
-    Ok(events)
+    events_of(alloc, records, exchange)
 }
 
 fn laptop_takes(alloc: Global, cast: &Cast, records: &mut Records) -> Result<Vec<Event>> {
-    let mut events = Vec::new(alloc);
     let exchange = Exchange {
         target: cast.laptop,
         source: cast.old_phone,
@@ -217,13 +218,11 @@ fn laptop_takes(alloc: Global, cast: &Cast, records: &mut Records) -> Result<Vec
         stream: 1,
         count: 3,
     };
-    push_exchange(&mut events, records, exchange)?;
-    Ok(events)
+    events_of(alloc, records, exchange)
 }
 
 fn moved_out(alloc: Global, cast: &Cast, records: &mut Records) -> Result<Vec<Event>> {
-    let mut events = Vec::new(alloc);
-    events.push(edit(alloc, cast.old_phone, &["3.1"], "archive")?)?;
+    let mut events = vec![in alloc; edit(alloc, cast.old_phone, &["3.1"], "archive")?]?;
     let exchange = Exchange {
         target: cast.laptop,
         source: cast.old_phone,
@@ -236,8 +235,9 @@ fn moved_out(alloc: Global, cast: &Cast, records: &mut Records) -> Result<Vec<Ev
 }
 
 fn retires(alloc: Global, cast: &Cast, records: &mut Records) -> Result<Vec<Event>> {
-    let mut events = Vec::new(alloc);
-    events.push(Event::Retire(cast.old_phone))?;
+    let first = Version::read("3.1")?;
+    let second = Version::read("3.2")?;
+    let mut events = vec![in alloc; Event::Retire(cast.old_phone)]?;
     let exchange = Exchange {
         target: cast.office,
         source: cast.old_phone,
@@ -246,67 +246,79 @@ fn retires(alloc: Global, cast: &Cast, records: &mut Records) -> Result<Vec<Even
         count: 3,
     };
     push_exchange(&mut events, records, exchange)?;
-    events.push(Event::Vouch(cast.office, Version::read("3.1")?))?;
-    events.push(Event::Vouch(cast.office, Version::read("3.2")?))?;
-    events.push(Event::Release(cast.old_phone, 1))?;
-    events.push(Event::Release(cast.old_phone, 1))?;
-    events.push(Event::Retire(cast.old_phone))?;
-    events.push(Event::Pull(cast.old_phone))?;
+    events.extend([
+        Event::Vouch(cast.office, first),
+        Event::Vouch(cast.office, second),
+        Event::Release(cast.old_phone, 1),
+        Event::Release(cast.old_phone, 1),
+        Event::Retire(cast.old_phone),
+        Event::Pull(cast.old_phone),
+    ])?;
     Ok(events)
 }
 
 fn told_twice(alloc: Global, cast: &Cast, records: &mut Records) -> Result<Vec<Event>> {
-    let mut events = Vec::new(alloc);
-    events.push(edit(alloc, cast.office, &["0.1"], "inbox")?)?;
-    events.push(edit(alloc, cast.phone, &["0.1"], "inbox")?)?;
-    events.push(Event::Pull(cast.office))?;
-    events.push(Event::Pull(cast.office))?;
-    events.push(Event::Answer(cast.phone, 6))?;
-    events.push(Event::Answer(cast.phone, 7))?;
+    let of_office = edit(alloc, cast.office, &["0.1"], "inbox")?;
+    let of_phone = edit(alloc, cast.phone, &["0.1"], "inbox")?;
+    let mut events = vec![in alloc;
+        of_office,
+        of_phone,
+        Event::Pull(cast.office),
+        Event::Pull(cast.office),
+        Event::Answer(cast.phone, 6),
+        Event::Answer(cast.phone, 7),
+    ]?;
     push_draws(&mut events, cast.phone, 1, 3)?;
     push_draws(&mut events, cast.phone, 2, 2)?;
     push_next_receives(&mut events, records, cast.office, 5)?;
-    events.push(Event::CutIn(cast.office, 3))?;
-    events.push(Event::CutOut(cast.phone, 2))?;
+    events.extend([Event::CutIn(cast.office, 3), Event::CutOut(cast.phone, 2)])?;
     Ok(events)
 }
 
 fn phone_learns(alloc: Global, cast: &Cast, records: &mut Records) -> Result<Vec<Event>> {
-    let mut events = Vec::new(alloc);
+    let count = records.know.conflict.saturating_add(4);
     let exchange = Exchange {
         target: cast.phone,
         source: cast.office,
         ask: 8,
         stream: 3,
-        count: records.know.conflict.saturating_add(4),
+        count,
     };
-    push_exchange(&mut events, records, exchange)?;
-    Ok(events)
+    events_of(alloc, records, exchange)
 }
 
 fn two_streams(alloc: Global, cast: &Cast, records: &mut Records) -> Result<Vec<Event>> {
-    let mut events = Vec::new(alloc);
-    events.push(Event::Pull(cast.laptop))?;
-    push_answers(&mut events, cast.office, 9, 2)?;
-    push_draws(&mut events, cast.office, 4, 1)?;
-    push_draws(&mut events, cast.office, 5, 2)?;
+    let mut events = vec![in alloc;
+        Event::Pull(cast.laptop),
+        Event::Answer(cast.office, 9),
+        Event::Answer(cast.office, 9),
+        Event::Next(cast.office, 4),
+        Event::Next(cast.office, 5),
+        Event::Next(cast.office, 5),
+    ]?;
     push_next_receives(&mut events, records, cast.laptop, 3)?;
-    events.push(Event::CutIn(cast.laptop, 3))?;
-    events.push(Event::CutOut(cast.office, 4))?;
-    events.push(Event::CutOut(cast.office, 5))?;
+    events.extend([
+        Event::CutIn(cast.laptop, 3),
+        Event::CutOut(cast.office, 4),
+        Event::CutOut(cast.office, 5),
+    ])?;
     Ok(events)
 }
 
 fn open_tables(alloc: Global, cast: &Cast) -> Result<Vec<Event>> {
     let mut events = Vec::new(alloc);
     push_pulls(&mut events, cast.phone, 9)?;
-    events.push(Event::CutIn(cast.phone, 11))?;
-    events.push(Event::CutIn(cast.phone, 11))?;
-    events.push(Event::Pull(cast.phone))?;
-    events.push(Event::Answer(cast.phone, 10))?;
+    events.extend([
+        Event::CutIn(cast.phone, 11),
+        Event::CutIn(cast.phone, 11),
+        Event::Pull(cast.phone),
+        Event::Answer(cast.phone, 10),
+    ])?;
     push_answers(&mut events, cast.office, 10, 9)?;
-    events.push(Event::CutOut(cast.office, 13))?;
-    events.push(Event::Answer(cast.office, 10))?;
+    events.extend([
+        Event::CutOut(cast.office, 13),
+        Event::Answer(cast.office, 10),
+    ])?;
     Ok(events)
 }
 
@@ -314,8 +326,10 @@ fn subscribers(alloc: Global, cast: &Cast) -> Result<Vec<Event>> {
     let mut events = Vec::new(alloc);
     push_indexer(&mut events, cast.phone)?;
     push_notifier(&mut events, cast.phone)?;
-    events.push(Event::Offer(cast.laptop, Subscriber::Indexer))?;
-    events.push(Event::Take(cast.laptop, Subscriber::Indexer))?;
+    events.extend([
+        Event::Offer(cast.laptop, Subscriber::Indexer),
+        Event::Take(cast.laptop, Subscriber::Indexer),
+    ])?;
     Ok(events)
 }
 
@@ -362,17 +376,14 @@ fn push_takes(
 }
 
 fn names_no_record(alloc: Global, cast: &Cast, missing: u64) -> Result<Vec<Event>> {
-    let mut events = Vec::new(alloc);
-    events.push(create(alloc, cast.office, "inbox")?)?;
-    events.push(Event::Receive(cast.phone, missing))?;
-    events.push(create(alloc, cast.office, "inbox")?)?;
-    Ok(events)
+    let before = create(alloc, cast.office, "inbox")?;
+    let behind = create(alloc, cast.office, "inbox")?;
+    Ok(vec![in alloc; before, Event::Receive(cast.phone, missing), behind]?)
 }
 
 fn names_no_replica(alloc: Global, cast: &Cast, missing: u64) -> Result<Vec<Event>> {
-    let mut events = Vec::new(alloc);
-    events.push(create(alloc, cast.laptop, "archive")?)?;
-    events.push(Event::Receive(Author::try_new(4)?, missing))?;
-    events.push(create(alloc, cast.office, "inbox")?)?;
-    Ok(events)
+    let stranger = Author::try_new(4)?;
+    let before = create(alloc, cast.laptop, "archive")?;
+    let behind = create(alloc, cast.office, "inbox")?;
+    Ok(vec![in alloc; before, Event::Receive(stranger, missing), behind]?)
 }

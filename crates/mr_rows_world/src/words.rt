@@ -8,33 +8,59 @@ use mr_replica::{Bases, Reply};
 use mr_wire::{Body, FrameFragment, Mode, Record};
 use mr_world::{Answer, Event, Subscriber};
 use std::alloc::Global;
+use std::fmt::Display;
 use std::slice;
 
 /// What happens, as `phone receives record 3`.
 pub fn event_words(alloc: Global, event: &Event) -> Result<String> {
     let who = name(event.replica());
-    let words = match event {
-        Event::Create(_, message) => return created_words(alloc, who, message),
-        Event::Edit(_, bases, message) => return edited_words(alloc, who, bases, message),
-        Event::Retire(_) => format!(in alloc; "{who} retires")?,
-        Event::Pull(_) => format!(in alloc; "{who} pulls")?,
-        Event::Receive(_, number) => format!(in alloc; "{who} receives record {number}")?,
-        Event::DeliverPart(_, number, bytes) => {
-            format!(in alloc; "{who} receives {bytes} bytes of record {number}")?
-        }
-        Event::CutIn(_, session) => format!(in alloc; "{who} cuts session {session}")?,
-        Event::Answer(_, number) => format!(in alloc; "{who} answers request {number}")?,
-        Event::Next(_, stream) => format!(in alloc; "{who} draws from stream {stream}")?,
-        Event::CutOut(_, stream) => format!(in alloc; "{who} cuts stream {stream}")?,
-        Event::Vouch(_, version) => format!(in alloc; "{who} vouches for {version}")?,
-        Event::Release(_, number) => {
-            format!(in alloc; "{who} releases what receipt {number} frees")?
-        }
-        Event::Offer(_, _) | Event::Take(_, _) | Event::Close(_, _) => {
-            return port_words(alloc, who, event);
-        }
-    };
-    Ok(words)
+    match event {
+        Event::Create(_, message) => created_words(alloc, who, message),
+        Event::Edit(_, bases, message) => edited_words(alloc, who, bases, message),
+        Event::Retire(_) => deed(alloc, who, "retires"),
+        Event::Pull(_) => deed(alloc, who, "pulls"),
+        Event::Receive(_, number) => deed_to(alloc, who, "receives record", number),
+        Event::DeliverPart(_, number, bytes) => part_words(alloc, who, *number, *bytes),
+        Event::CutIn(_, session) => deed_to(alloc, who, "cuts session", session),
+        Event::Answer(_, number) => deed_to(alloc, who, "answers request", number),
+        Event::Next(_, stream) => deed_to(alloc, who, "draws from stream", stream),
+        Event::CutOut(_, stream) => deed_to(alloc, who, "cuts stream", stream),
+        Event::Vouch(_, version) => deed_to(alloc, who, "vouches for", version),
+        Event::Release(_, number) => released_words(alloc, who, *number),
+        Event::Offer(_, subscriber) => offer_words(alloc, who, subscriber_name(*subscriber)),
+        Event::Take(_, subscriber) => take_words(alloc, who, subscriber_name(*subscriber)),
+        Event::Close(_, subscriber) => close_words(alloc, who, subscriber_name(*subscriber)),
+    }
+}
+
+/// What somebody does.
+fn deed(alloc: Global, who: &str, what: &str) -> Result<String> {
+    Ok(format!(in alloc; "{who} {what}")?)
+}
+
+/// What somebody does, and to what.
+fn deed_to<T: Display>(alloc: Global, who: &str, what: &str, whom: &T) -> Result<String> {
+    Ok(format!(in alloc; "{who} {what} {whom}")?)
+}
+
+fn part_words(alloc: Global, who: &str, number: u64, bytes: u64) -> Result<String> {
+    Ok(format!(in alloc; "{who} receives {bytes} bytes of record {number}")?)
+}
+
+fn released_words(alloc: Global, who: &str, number: u64) -> Result<String> {
+    Ok(format!(in alloc; "{who} releases what receipt {number} frees")?)
+}
+
+fn offer_words(alloc: Global, who: &str, subscriber: &str) -> Result<String> {
+    Ok(format!(in alloc; "{who} offers its {subscriber} an entry")?)
+}
+
+fn take_words(alloc: Global, who: &str, subscriber: &str) -> Result<String> {
+    Ok(format!(in alloc; "{who}'s {subscriber} takes an entry")?)
+}
+
+fn close_words(alloc: Global, who: &str, subscriber: &str) -> Result<String> {
+    Ok(format!(in alloc; "{who} closes its {subscriber}'s port")?)
 }
 
 fn created_words(alloc: Global, who: &str, message: &Message) -> Result<String> {
@@ -62,26 +88,6 @@ fn label_words(alloc: Global, message: &Message) -> Result<String> {
     Ok(words)
 }
 
-/// What happens to a port; nothing of another event.
-fn port_words(alloc: Global, who: &str, event: &Event) -> Result<String> {
-    let words = match event {
-        Event::Offer(_, subscriber) => {
-            let subscriber = subscriber_name(*subscriber);
-            format!(in alloc; "{who} offers its {subscriber} an entry")?
-        }
-        Event::Take(_, subscriber) => {
-            let subscriber = subscriber_name(*subscriber);
-            format!(in alloc; "{who}'s {subscriber} takes an entry")?
-        }
-        Event::Close(_, subscriber) => {
-            let subscriber = subscriber_name(*subscriber);
-            format!(in alloc; "{who} closes its {subscriber}'s port")?
-        }
-        _ => String::new(alloc),
-    };
-    Ok(words)
-}
-
 fn subscriber_name(subscriber: Subscriber) -> &'static str {
     match subscriber {
         Subscriber::Indexer => "indexer",
@@ -91,25 +97,34 @@ fn subscriber_name(subscriber: Subscriber) -> &'static str {
 
 /// What was answered, as `gave item 0.1`.
 pub fn answer_words(alloc: Global, answer: &Answer) -> Result<String> {
-    let words = match answer {
-        Answer::Stepped(Ok(reply)) => return reply_words(alloc, reply),
-        Answer::Stepped(Err(refusal)) => format!(in alloc; "refused, {refusal}")?,
-        Answer::Truncated => String::from_str(alloc, "truncated")?,
-        Answer::Offered(entry) => {
-            let entry = entry_words(alloc, entry)?;
-            format!(in alloc; "offered{entry}")?
-        }
-        Answer::NothingNew => String::from_str(alloc, "nothing new")?,
-        Answer::Full => String::from_str(alloc, "full")?,
-        Answer::TookEntry(entry) => {
-            let entry = entry_words(alloc, entry)?;
-            format!(in alloc; "took{entry}")?
-        }
-        Answer::Empty => String::from_str(alloc, "empty")?,
-        Answer::Closed => String::from_str(alloc, "closed")?,
-        Answer::Done => String::from_str(alloc, "done")?,
-    };
-    Ok(words)
+    match answer {
+        Answer::Stepped(Ok(reply)) => reply_words(alloc, reply),
+        Answer::Stepped(Err(refusal)) => words_about(alloc, "refused,", refusal),
+        Answer::Truncated => word(alloc, "truncated"),
+        Answer::Offered(entry) => entry_answer(alloc, "offered", entry),
+        Answer::NothingNew => word(alloc, "nothing new"),
+        Answer::Full => word(alloc, "full"),
+        Answer::TookEntry(entry) => entry_answer(alloc, "took", entry),
+        Answer::Empty => word(alloc, "empty"),
+        Answer::Closed => word(alloc, "closed"),
+        Answer::Done => word(alloc, "done"),
+    }
+}
+
+/// What was answered, and of what.
+fn words_about<T: Display>(alloc: Global, what: &str, whom: &T) -> Result<String> {
+    Ok(format!(in alloc; "{what} {whom}")?)
+}
+
+/// These words alone.
+fn word(alloc: Global, text: &str) -> Result<String> {
+    Ok(String::from_str(alloc, text)?)
+}
+
+/// What became of an entry.
+fn entry_answer(alloc: Global, what: &str, entry: &Entry) -> Result<String> {
+    let entry = entry_words(alloc, entry)?;
+    Ok(format!(in alloc; "{what}{entry}")?)
 }
 
 /// An entry behind a space: `+V` for a version that entered, `-V` for one that left.
@@ -131,42 +146,29 @@ pub fn is_of_any_form(answer: &Answer) -> bool {
 }
 
 fn reply_words(alloc: Global, reply: &Reply) -> Result<String> {
-    let words = match reply {
-        Reply::Issued(version) => format!(in alloc; "issued {version}")?,
-        Reply::Done => String::from_str(alloc, "done")?,
-        Reply::Asked(ask) => {
-            let session = ask.session();
-            format!(in alloc; "asked in session {session}")?
-        }
-        Reply::Streaming(stream) => format!(in alloc; "opened stream {stream}")?,
-        Reply::Gave(sent) => return sent_words(alloc, sent),
-        Reply::Took => String::from_str(alloc, "took it")?,
-        Reply::Known => String::from_str(alloc, "knew it")?,
-        Reply::Finished => String::from_str(alloc, "finished")?,
-        Reply::Vouched(_) => String::from_str(alloc, "vouched")?,
-    };
-    Ok(words)
+    match reply {
+        Reply::Issued(version) => words_about(alloc, "issued", version),
+        Reply::Done => word(alloc, "done"),
+        Reply::Asked(ask) => words_about(alloc, "asked in session", &ask.session()),
+        Reply::Streaming(stream) => words_about(alloc, "opened stream", stream),
+        Reply::Gave(sent) => sent_words(alloc, sent),
+        Reply::Took => word(alloc, "took it"),
+        Reply::Known => word(alloc, "knew it"),
+        Reply::Finished => word(alloc, "finished"),
+        Reply::Vouched(_) => word(alloc, "vouched"),
+    }
 }
 
 fn sent_words(alloc: Global, sent: &Record) -> Result<String> {
-    let words = match sent.body() {
-        Body::Start(Mode::Full) => String::from_str(alloc, "gave the start of a full stream")?,
-        Body::Start(Mode::Partial) => {
-            String::from_str(alloc, "gave the start of a partial stream")?
-        }
-        Body::Item(revision) => {
-            let version = revision.version();
-            format!(in alloc; "gave item {version}")?
-        }
-        Body::MoveOut(descent) => {
-            let version = descent.version();
-            format!(in alloc; "gave move-out {version}")?
-        }
-        Body::Held(vector) => format!(in alloc; "gave held {vector}")?,
-        Body::Know(fragment) => return know_words(alloc, fragment),
-        Body::End => String::from_str(alloc, "gave the end")?,
-    };
-    Ok(words)
+    match sent.body() {
+        Body::Start(Mode::Full) => word(alloc, "gave the start of a full stream"),
+        Body::Start(Mode::Partial) => word(alloc, "gave the start of a partial stream"),
+        Body::Item(revision) => words_about(alloc, "gave item", &revision.version()),
+        Body::MoveOut(descent) => words_about(alloc, "gave move-out", &descent.version()),
+        Body::Held(vector) => words_about(alloc, "gave held", vector),
+        Body::Know(fragment) => know_words(alloc, fragment),
+        Body::End => word(alloc, "gave the end"),
+    }
 }
 
 fn know_words(alloc: Global, fragment: &FrameFragment) -> Result<String> {

@@ -4,14 +4,19 @@ use mr_tests_samples::{added, all_shown, dropped, expect, listed, shown};
 use std::alloc::Global;
 use std::test::Fail;
 
-/// A copy of a feed of five entries for which little room was made.
-fn feed_of_five(alloc: Global) -> Result<Feed, Fail> {
-    let mut feed = Feed::new(alloc);
+/// Puts five entries into a feed, for which little room is made.
+fn push_five(alloc: Global, feed: &mut Feed) -> Result<(), Fail> {
     feed.reserve(1)?;
     for text in ["0.2", "0.1", "0.4", "0.3"] {
         feed.push(added(alloc, text, "inbox", 0)?)?;
     }
-    feed.push(dropped("0.2")?)?;
+    Ok(feed.push(dropped("0.2")?)?)
+}
+
+/// A copy of a feed of these five entries.
+fn feed_of_five(alloc: Global) -> Result<Feed, Fail> {
+    let mut feed = Feed::new(alloc);
+    push_five(alloc, &mut feed)?;
     Ok(feed.copy()?)
 }
 
@@ -21,11 +26,16 @@ fn folded_text(alloc: Global) -> Result<String, Fail> {
     listed(alloc, &versions)
 }
 
+/// Offers a port two entries.
+fn offer_two(alloc: Global, port: &mut PlainPort) -> Result<(), Fail> {
+    port.offer(added(alloc, "0.1", "inbox", 0)?)?;
+    Ok(port.offer(dropped("0.1")?)?)
+}
+
 /// A copy of a port with four places and two entries in it.
 fn port_of_two(alloc: Global) -> Result<PlainPort, Fail> {
     let mut port = PlainPort::try_new(alloc, 4)?;
-    port.offer(added(alloc, "0.1", "inbox", 0)?)?;
-    port.offer(dropped("0.1")?)?;
+    offer_two(alloc, &mut port)?;
     Ok(port.copy()?)
 }
 

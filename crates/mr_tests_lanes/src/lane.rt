@@ -142,8 +142,12 @@ fn ample_memory_tap(rt: HostRuntime) -> Result<(), Fail> {
 }
 
 #[test]
-fn no_capacity(rt: HostRuntime) {
+fn inbox_of_no_capacity(rt: HostRuntime) {
     assert!(&rt; matches!(inbox::<char>(rt.alloc(), 0), Err(LaneFault::NoCapacity)));
+}
+
+#[test]
+fn tap_of_no_capacity(rt: HostRuntime) {
     assert!(&rt;
         matches!(
             tap::<char, _>(rt, rt.alloc(), 4097),
@@ -176,21 +180,30 @@ const CALLS_TO_ITS_END: [Call; 6] = [
     Call::Take,
 ];
 
+/// Compares what the calls to a full inbox answer, and then those to its end.
+fn expect_answers<R: Wait>(
+    rt: &R,
+    alloc: Global,
+    posts: &mut Posts<char>,
+    desk: &mut Desk<char>,
+) -> Result<(), Fail>
+    requires { ArePostsOf desk.old posts.old }
+    ensures { ArePostsOf desk.new posts.new }
+{
+    expect(
+        answers(rt, alloc, posts, desk, &CALLS_TO_A_FULL_INBOX)?,
+        "sent, sent, full c, a of 0, b of 1, empty, finished, finished, full, ended d, ",
+    )?;
+    expect(
+        answers(rt, alloc, posts, desk, &CALLS_TO_ITS_END)?,
+        "end of 0, end of 1, finished, finished, end of 2, empty, ",
+    )
+}
+
 #[test]
 fn small_inbox(rt: HostRuntime) -> Result<(), Fail> {
     let (mut posts, mut desk) = inbox(rt.alloc(), 2)?;
-    let text = answers(
-        &rt,
-        rt.alloc(),
-        &mut posts,
-        &mut desk,
-        &CALLS_TO_A_FULL_INBOX,
-    )?;
-    let wanted = "sent, sent, full c, a of 0, b of 1, empty, finished, finished, full, ended d, ";
-    expect(text, wanted)?;
-    let text = answers(&rt, rt.alloc(), &mut posts, &mut desk, &CALLS_TO_ITS_END)?;
-    let wanted = "end of 0, end of 1, finished, finished, end of 2, empty, ";
-    expect(text, wanted)?;
+    expect_answers(&rt, rt.alloc(), &mut posts, &mut desk)?;
     assert!(&rt; desk.settle(posts).is_ok());
     Ok(())
 }
@@ -232,8 +245,9 @@ fn small_tap_is_closed(rt: HostRuntime) -> Result<(), Fail> {
 
 /// Offers two entries, and closes.
 fn offer_two<P: PortIn>(alloc: Global, port: &mut P) -> Result<(), Fail> {
-    port.offer(added(alloc, "0.1", "inbox", 0)?)?;
-    port.offer(added(alloc, "0.2", "inbox", 0)?)?;
+    for text in ["0.1", "0.2"] {
+        port.offer(added(alloc, text, "inbox", 0)?)?;
+    }
     Ok(port.close()?)
 }
 
@@ -254,13 +268,24 @@ fn tap_as_a_port(rt: HostRuntime) -> Result<(), Fail> {
     expect(next(rt.alloc(), &mut tap)?, "+0.1 ")
 }
 
+/// How many entries a port gives to a notifier before it is closed; nothing where it isn't.
+fn unseen_at_close<R: Wait, P: PortOut>(
+    rt: &R,
+    alloc: Global,
+    port: &mut P,
+) -> Result<Option<usize>, Fail> {
+    let mut notifier = Notifier::new(alloc);
+    match notifier.drain(rt, port)? {
+        Drained::Closed => Ok(Some(notifier.unseen())),
+        Drained::Empty => Ok(None),
+    }
+}
+
 #[test]
 fn drain_of_a_tap(rt: HostRuntime) -> Result<(), Fail> {
     let (mut spout, mut tap) = tap(rt, rt.alloc(), 3)?;
     offer_two(rt.alloc(), &mut spout)?;
-    let mut notifier = Notifier::new(rt.alloc());
-    assert!(&rt; matches!(notifier.drain(&rt, &mut tap)?, Drained::Closed));
-    assert_eq!(&rt; notifier.unseen(), 2);
+    assert_eq!(&rt; unseen_at_close(&rt, rt.alloc(), &mut tap)?, Some(2));
     Ok(())
 }
 

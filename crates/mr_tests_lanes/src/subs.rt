@@ -29,12 +29,23 @@ fn under(alloc: Global, indexer: &Indexer, label: &str) -> Result<String, Fail> 
     listed(alloc, &indexer.versions(&label)?)
 }
 
+/// Tells an indexer of a version under a label.
+fn apply_added(alloc: Global, indexer: &mut Indexer, text: &str, label: &str) -> Result<(), Fail> {
+    Ok(indexer.apply(added(alloc, text, label, 0)?)?)
+}
+
+/// Tells an indexer of one version under each of several labels.
+fn apply_each(alloc: Global, indexer: &mut Indexer) -> Result<(), Fail> {
+    for (text, label) in TEXTS.iter().zip("a b c d e f g h i j k l m".split(' ')) {
+        apply_added(alloc, indexer, text, label)?;
+    }
+    Ok(())
+}
+
 /// An indexer that was told of one version under each of several labels, and that one left.
 fn shelved(alloc: Global) -> Result<Indexer, Fail> {
     let mut indexer = Indexer::new(alloc);
-    for (text, label) in TEXTS.iter().zip("a b c d e f g h i j k l m".split(' ')) {
-        indexer.apply(added(alloc, text, label, 0)?)?;
-    }
+    apply_each(alloc, &mut indexer)?;
     indexer.apply(dropped("0.5")?)?;
     Ok(indexer)
 }

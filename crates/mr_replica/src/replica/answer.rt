@@ -4,6 +4,7 @@ ghost use Rattle.std.specs.Fn.{FnOnceReturnsAt};
 ghost use Rattle.mr_replica.specs.StepThen.{answer_of, answer_by};
 
 use super::Replica;
+use super::step_then::answered;
 use crate::asks::asked_of;
 use crate::pieces::pieces_of;
 use crate::{Event, Refusal, Reply};
@@ -51,10 +52,10 @@ impl<K: Knowledge> Replica<K> {
         self.check_answer(&ask)?;
         let mode = self.mode_for(&ask);
         let know = self.kept_for(mode)?;
-        let reply = Reply::Streaming(self.streams.opened() + 1);
-        let made = before(&reply)?;
+        let stream = self.streams.opened() + 1;
+        let answer = answered(Reply::Streaming(stream), before)?;
         self.open_stream(ask, mode, know)?;
-        Ok((reply, made))
+        Ok(answer)
     }
 
     // Nothing, where a stream may be opened for the request.

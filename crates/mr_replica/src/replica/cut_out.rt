@@ -4,6 +4,7 @@ ghost use Rattle.std.specs.Fn.{FnOnceReturnsAt};
 ghost use Rattle.mr_replica.specs.StepThen.{answer_of, answer_by};
 
 use super::Replica;
+use super::step_then::answered;
 use crate::{Event, Refusal, Reply};
 use mr_forms::Knowledge;
 use std::alloc::AllocError;
@@ -35,10 +36,9 @@ impl<K: Knowledge> Replica<K> {
         ensures made { IfOk result (λ p. FnOnceReturnsAt F.FnOnce before p.0 (Ok p.1)) }
     {
         self.check_cut_out(stream)?;
-        let reply = Reply::Done;
-        let made = before(&reply)?;
+        let answer = answered(Reply::Done, before)?;
         self.close_stream(stream)?;
-        Ok((reply, made))
+        Ok(answer)
     }
 
     // Nothing, where the stream may be closed.

@@ -11,6 +11,7 @@ ghost use Rattle.mr_replica.specs.Issue.{dropped};
 
 use super::Replica;
 use super::contents::entries_of_left;
+use super::step_then::answered;
 use crate::{Event, Refusal, Reply};
 use mr_concise::ConciseVector;
 use mr_feed::Entry;
@@ -54,18 +55,55 @@ impl<K: Knowledge> Replica<K> {
         let Some(session) = self.sessions.get(sent.header().session) else {
             unreachable!()
         };
-        let ended = if session.is_full() {
-            Some(self.ended(session)?)
+        if session.is_full() {
+            let ended = self.ended(session)?;
+            self.take_full_end(ended, sent, before)
         } else {
-            None
-        };
-        let reply = Reply::Finished;
-        let made = before(&reply)?;
-        match ended {
-            Some(ended) => self.finish_full(ended, sent)?,
-            None => self.finish(sent)?,
+            self.take_partial_end(sent, before)
         }
-        Ok((reply, made))
+    }
+
+    // The session takes the End of its full stream, which changes this, and is closed.
+    fn take_full_end<T: Drop, F: FnOnce(&Reply) -> Result<T, AllocError>>(
+        &mut self,
+        ended: Ended<K>,
+        sent: Record,
+        before: F,
+    ) -> Result<(Reply, T), Refusal>
+        requires taken { record_refusal self.old sent ≡ None }
+        requires kept { IsSent sent.header sent.body }
+        requires knowledge { IfSome (session_for self.old sent) (λ session. AreSame (K.form.known ended.knowledge) (with_pairs (K.form.known self.old.knowledge) (claimed session.know))) }
+        requires entries { IfSome (session_for self.old sent) (λ session. ended.entries.items ≡ map dropped (filter (is_unheld session) self.old.heads)) }
+        requires callable { F.IsAlwaysCallable before }
+        ensures reply { IfOk (answer_of result) (λ reply. reply ≡ Reply.Finished) }
+        ensures ok { OnOk (answer_of result) (IfSome (session_for self.old sent) (λ session. Ends K.form self.old sent session true self.new)) }
+        ensures err { OnErr (answer_of result) (self.new ≡ self.old) }
+        ensures memory { IfErr (answer_of result) (λ e. e ≡ OutOfMemory) }
+        ensures made { IfOk result (λ p. FnOnceReturnsAt F.FnOnce before p.0 (Ok p.1)) }
+    {
+        let answer = answered(Reply::Finished, before)?;
+        self.finish_full(ended, sent)?;
+        Ok(answer)
+    }
+
+    // The session takes the End of its partial stream, and is closed.
+    fn take_partial_end<T: Drop, F: FnOnce(&Reply) -> Result<T, AllocError>>(
+        &mut self,
+        sent: Record,
+        before: F,
+    ) -> Result<(Reply, T), Refusal>
+        requires taken { record_refusal self.old sent ≡ None }
+        requires kept { IsSent sent.header sent.body }
+        requires callable { F.IsAlwaysCallable before }
+        ensures reply { IfOk (answer_of result) (λ reply. reply ≡ Reply.Finished) }
+        ensures ok { OnOk (answer_of result) (self.new ≡ finished self.old sent) }
+        ensures err { OnErr (answer_of result) (self.new ≡ self.old) }
+        ensures memory { IfErr (answer_of result) (λ e. e ≡ OutOfMemory) }
+        ensures made { IfOk result (λ p. FnOnceReturnsAt F.FnOnce before p.0 (Ok p.1)) }
+    {
+        let answer = answered(Reply::Finished, before)?;
+        self.finish(sent)?;
+        Ok(answer)
     }
 
     // The End of a session that is not full teaches nothing.

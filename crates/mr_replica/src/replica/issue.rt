@@ -6,6 +6,7 @@ ghost use Rattle.mr_replica.specs.Methods.{IsIssued};
 
 use super::Replica;
 use super::contents::Arrival;
+use super::step_then::answered;
 use crate::{Event, Refusal, Reply};
 use mr_concise::ConciseVector;
 use mr_forms::{FormFault, Knowledge};
@@ -67,11 +68,10 @@ impl<K: Knowledge> Replica<K> {
         ensures issues { IssuesRevision K.form self.old (record { item = item; version = version; below = below; message = message }) event (answer_of result) self.new }
         ensures made { IfOk result (λ p. FnOnceReturnsAt F.FnOnce before p.0 (Ok p.1)) }
     {
-        let reply = Reply::Issued(version);
-        let made = before(&reply)?;
         let revision = Revision::new(self.alloc, item, version, below, message)?;
+        let answer = answered(Reply::Issued(version), before)?;
         self.enter(revision, event)?;
-        Ok((reply, made))
+        Ok(answer)
     }
 
     // Lets the next own revision enter by the event.

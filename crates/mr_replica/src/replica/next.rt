@@ -5,6 +5,7 @@ ghost use Rattle.mr_session.specs.Onward.{advanced};
 ghost use Rattle.mr_replica.specs.StepThen.{answer_of, answer_by};
 
 use super::Replica;
+use super::step_then::answered;
 use crate::{Event, Refusal, Reply};
 use mr_forms::Knowledge;
 use mr_session::{Onward, Prepared};
@@ -42,10 +43,9 @@ impl<K: Knowledge> Replica<K> {
     {
         self.check_next(stream)?;
         let Prepared { record, onward } = self.prepared(stream)?;
-        let reply = Reply::Gave(record);
-        let made = before(&reply)?;
+        let answer = answered(Reply::Gave(record), before)?;
         self.go_on(stream, onward)?;
-        Ok((reply, made))
+        Ok(answer)
     }
 
     // Nothing, where the stream is open.

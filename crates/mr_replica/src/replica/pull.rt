@@ -6,6 +6,7 @@ ghost use Rattle.mr_replica.specs.StepThen.{answer_of, answer_by};
 ghost use Rattle.mr_replica.specs.Pull.{most_asked, IsLongestWithin};
 
 use super::Replica;
+use super::step_then::answered;
 use crate::{Event, Refusal, Reply};
 use mr_concise::ConciseVector;
 use mr_forms::{FormFault, Fragment, Knowledge};
@@ -46,10 +47,9 @@ impl<K: Knowledge> Replica<K> {
         ensures made { IfOk result (λ p. FnOnceReturnsAt F.FnOnce before p.0 (Ok p.1)) }
     {
         self.check_pull()?;
-        let reply = Reply::Asked(self.next_ask()?);
-        let made = before(&reply)?;
+        let answer = answered(Reply::Asked(self.next_ask()?), before)?;
         self.open_session()?;
-        Ok((reply, made))
+        Ok(answer)
     }
 
     // Nothing, where a session may be opened.

@@ -105,10 +105,7 @@ impl<K: Knowledge> Replica<K> {
             }
             Body::End => self.take_end(sent, before),
             Body::Start(_) | Body::Held(_) | Body::Know(_) => {
-                let reply = Reply::Took;
-                let made = before(&reply)?;
-                self.move_on(sent)?;
-                Ok((reply, made))
+                self.move_on_then(Reply::Took, sent, before)
             }
         }
     }

@@ -7,6 +7,7 @@ ghost use Rattle.mr_replica.specs.StepThen.{answer_of, answer_by};
 ghost use Rattle.mr_replica.specs.Release.{vouched};
 
 use super::Replica;
+use super::step_then::answered;
 use crate::{Event, Refusal, Reply};
 use mr_forms::{Knowledge, VersionSet};
 use mr_version::Version;
@@ -41,10 +42,9 @@ impl<K: Knowledge> Replica<K> {
         ensures made { IfOk result (λ p. FnOnceReturnsAt F.FnOnce before p.0 (Ok p.1)) }
     {
         self.check_release(&receipt)?;
-        let reply = Reply::Done;
-        let made = before(&reply)?;
+        let answer = answered(Reply::Done, before)?;
         self.let_go(receipt)?;
-        Ok((reply, made))
+        Ok(answer)
     }
 
     // Nothing, where the receipt is for a push-out.

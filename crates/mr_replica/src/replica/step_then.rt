@@ -8,6 +8,19 @@ use crate::{Event, Refusal, Reply};
 use mr_forms::Knowledge;
 use std::alloc::AllocError;
 
+// The reply, with what is made of it.
+pub(super) fn answered<T: Drop, F: FnOnce(&Reply) -> Result<T, AllocError>>(
+    reply: Reply,
+    before: F,
+) -> Result<(Reply, T), AllocError>
+    requires { F.IsAlwaysCallable before }
+    ensures reply { IfOk result (λ p. p.0 ≡ reply) }
+    ensures made { IfOk result (λ p. FnOnceReturnsAt F.FnOnce before p.0 (Ok p.1)) }
+{
+    let made = before(&reply)?;
+    Ok((reply, made))
+}
+
 impl<K: Knowledge> Replica<K> {
     ghost use Rattle.mr_replica.specs.Step.{Steps, IsExact, IsDecided};
 

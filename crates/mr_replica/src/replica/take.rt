@@ -8,6 +8,7 @@ ghost use Rattle.mr_replica.specs.Taking.{below_told, told_by, told_line, news_t
 
 use super::Replica;
 use super::contents::news;
+use super::step_then::answered;
 use crate::{Event, Refusal, Reply};
 use mr_concise::ConciseVector;
 use mr_feed::Entry;
@@ -33,7 +34,7 @@ impl<K: Knowledge> Replica<K> {
     ghost use Rattle.mr_replica.specs.Taking.{RefusesLine};
 
     // The session takes the record, which teaches nothing.
-    pub(crate) fn move_on(&mut self, sent: Record) -> Result<(), Refusal>
+    fn move_on(&mut self, sent: Record) -> Result<(), Refusal>
         requires taken { record_refusal self.old sent ≡ None }
         requires kept { IsSent sent.header sent.body }
         ensures ok { OnOk result (self.new ≡ moved_on self.old sent) }
@@ -45,6 +46,27 @@ impl<K: Knowledge> Replica<K> {
         self.contents
             .note_event(Event::Receive(Frame::Record(sent)));
         Ok(())
+    }
+
+    // The same, with what is made of this reply first.
+    pub(crate) fn move_on_then<T: Drop, F: FnOnce(&Reply) -> Result<T, AllocError>>(
+        &mut self,
+        reply: Reply,
+        sent: Record,
+        before: F,
+    ) -> Result<(Reply, T), Refusal>
+        requires taken { record_refusal self.old sent ≡ None }
+        requires kept { IsSent sent.header sent.body }
+        requires callable { F.IsAlwaysCallable before }
+        ensures reply { IfOk (answer_of result) (λ r. r ≡ reply) }
+        ensures ok { OnOk (answer_of result) (self.new ≡ moved_on self.old sent) }
+        ensures err { OnErr (answer_of result) (self.new ≡ self.old) }
+        ensures memory { IfErr (answer_of result) (λ e. e ≡ OutOfMemory) }
+        ensures made { IfOk result (λ p. FnOnceReturnsAt F.FnOnce before p.0 (Ok p.1)) }
+    {
+        let answer = answered(reply, before)?;
+        self.move_on(sent)?;
+        Ok(answer)
     }
 
     // The session takes the record, which tells of this version.
@@ -66,16 +88,35 @@ impl<K: Knowledge> Replica<K> {
         ensures made { IfOk result (λ p. FnOnceReturnsAt F.FnOnce before p.0 (Ok p.1)) }
     {
         if self.knowledge.knows(item, version) {
-            let reply = Reply::Known;
-            let made = before(&reply)?;
-            self.move_on(sent)?;
-            return Ok((reply, made));
+            self.move_on_then(Reply::Known, sent, before)
+        } else {
+            self.take_unknown(item, version, sent, before)
         }
+    }
+
+    // The session takes the record, which tells of this version, and it is not known.
+    fn take_unknown<T: Drop, F: FnOnce(&Reply) -> Result<T, AllocError>>(
+        &mut self,
+        item: ItemId,
+        version: Version,
+        sent: Record,
+        before: F,
+    ) -> Result<(Reply, T), Refusal>
+        requires taken { record_refusal self.old sent ≡ None }
+        requires kept { IsSent sent.header sent.body }
+        requires unknown { K.form.known self.old.knowledge item version ≡ false }
+        requires told { told_line sent.body ≡ Some (told_by item version sent.body) }
+        requires callable { F.IsAlwaysCallable before }
+        ensures fits { OnOk (answer_of result) (All (Fits K.form) (wanted_by_line K.form self.old (told_by item version sent.body))) }
+        ensures ok { IfOk (answer_of result) (λ reply. TakesLine K.form self.old sent (told_by item version sent.body) (entering self.old sent.body) reply self.new) }
+        ensures err { OnErr (answer_of result) (self.new ≡ self.old) }
+        ensures refused { IfErr (answer_of result) (RefusesLine K.form self.old (told_by item version sent.body)) }
+        ensures made { IfOk result (λ p. FnOnceReturnsAt F.FnOnce before p.0 (Ok p.1)) }
+    {
         let told = self.told(item, version, &sent)?;
-        let reply = Reply::Took;
-        let made = before(&reply)?;
+        let answer = answered(Reply::Took, before)?;
         self.take_told(item, version, told, sent)?;
-        Ok((reply, made))
+        Ok(answer)
     }
 
     // What the record, which tells of this version, changes of the heads.

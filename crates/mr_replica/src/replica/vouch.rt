@@ -5,6 +5,7 @@ ghost use Rattle.mr_replica.specs.StepThen.{answer_of, answer_by};
 ghost use Rattle.mr_replica.specs.Vouch.{receipt_for};
 
 use super::Replica;
+use super::step_then::answered;
 use crate::copies::copied_vector;
 use crate::{Event, Refusal, Reply};
 use mr_forms::Knowledge;
@@ -43,10 +44,9 @@ impl<K: Knowledge> Replica<K> {
         ensures made { IfOk result (λ p. FnOnceReturnsAt F.FnOnce before p.0 (Ok p.1)) }
     {
         self.check_vouch(version)?;
-        let reply = Reply::Vouched(self.receipt_of(version)?);
-        let made = before(&reply)?;
+        let answer = answered(Reply::Vouched(self.receipt_of(version)?), before)?;
         self.note_vouch(version)?;
-        Ok((reply, made))
+        Ok(answer)
     }
 
     // Nothing, where the version may be vouched for.
