@@ -17,3 +17,4 @@ pub mod VectorInsertLemmas
 pub mod FragmentLemmas
 pub mod CoverLemmas
 pub mod ChangeLemmas
+pub mod TextLemmas

@@ -171,6 +171,13 @@ pub record RunsOfFirst (columns : List AuthorColumn) (k : ℕ) (runs : List Run)
   pub apart : AllPairs StandsBefore runs
   pub ended : (d : AuthorColumn) → k < length columns → EndBefore (get_or columns k d).author 1 runs
 
+pub RunsOfFirst-none : (columns : List AuthorColumn) → RunsOfFirst columns 0 []
+RunsOfFirst-none columns = record {
+  have = λ v. sym (column_has-empty v.counter);
+  apart = λ i j d before within. absurd (omega arith);
+  ended = λ d m i e n. absurd (omega arith);
+}
+
 pub RunsOfFirst-more : (columns : List AuthorColumn) (k : ℕ) (x : AuthorColumn) (old new : List Run) → IsVectorFrom 0 columns → k < length columns → x ≡ get_or columns k x → RunsOfFirst columns k old → AddsRuns x.author x.column old new → RunsOfFirst columns (k + 1) new
 RunsOfFirst-more columns k x old new v l at w adds = record {
   have = λ name. adds.have name ∙ ap (λ b. b || ((name.author == x.author) && column_has x.column name.counter)) (w.have name) ∙ rw (add-one k, column_of-take_more 0 columns k x name.author v l, ← at) (go name (cases_eq x.author name.author));

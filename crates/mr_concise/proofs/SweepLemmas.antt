@@ -5,7 +5,7 @@ use Rattle.std.proofs.lemmas.Bool.Decides.{nat_tests}
 use Rattle.std.specs.Prelude.{Result, Ok, Err, OnOk, IsErrOf}
 use Rattle.mr_forms.specs.declared.fault.FormFault.{FormFault}
 use Rattle.mr_forms.specs.declared.fault.FormFault.TheVariants.{TooManyHoles}
-use Rattle.mr_forms.specs.Sets.{Versions}
+use Rattle.mr_forms.specs.Sets.{Versions, IsSame}
 use Rattle.mr_concise.specs.Edges.{is_on, IsRising}
 use Rattle.mr_concise.specs.declared.column.Hole.{Hole}
 use Rattle.mr_concise.specs.declared.vector.AuthorColumn.{AuthorColumn}
@@ -14,7 +14,7 @@ use Rattle.mr_concise.specs.Next.{IsNextOut, IsNextIn, HasNoneFrom}
 use Rattle.mr_forms.specs.Runs.{of_author}
 use Rattle.mr_concise.specs.Source.{IsColumnOf, HasHoles, HasAtMostHoles, ColumnsHaveAtMost, HasFewHoles, HasManyHoles}
 use Rattle.mr_forms.specs.Runs.{HasNoAuthorFrom, IsNextAuthor}
-use Rattle.mr_concise.specs.Vector.{column_of, IsVectorFrom, with_column, HasTooManyHoles}
+use Rattle.mr_concise.specs.Vector.{column_of, vector_has, IsVectorFrom, with_column, HasTooManyHoles}
 use Rattle.mr_concise.proofs.EdgeLemmas.{IsRising-end}
 use Rattle.mr_concise.proofs.ColumnLemmas.{column_unique, column_has-edges}
 use Rattle.mr_concise.proofs.VectorLemmas.{column_of-with_column, IsVectorFrom-with_column}
@@ -168,6 +168,20 @@ holes-within set author count n holes most = let h = most author holes.column ho
 pub record GatheredTo (set : Versions) (columns : List AuthorColumn) (id : ℕ) : Type 0 where
   pub vector : IsVectorFrom 0 columns
   pub means : (q c : ℕ) → column_has (column_of columns q) c ≡ (nat_lt q id && of_author set q c)
+
+-- no author is below the first
+pub GatheredTo-none : (set : Versions) → GatheredTo set [] 0
+GatheredTo-none set = record {
+  vector = tt;
+  means = λ q c. let none : 0 ≤ q = omega arith in rw (le-ltb q 0 none) (column_has-empty c);
+}
+
+-- once no author is left, the columns have the whole set
+pub GatheredTo-whole : (set : Versions) (columns : List AuthorColumn) (id : ℕ) → GatheredTo set columns id → HasNoAuthorFrom set id → IsSame (vector_has columns) set
+GatheredTo-whole set columns id w none v = w.means v.author v.counter ∙ elim (cases_lt v.author id) [
+  | inl b ↦ rw (lt-ltb v.author id b) refl
+  | inr f ↦ rw (le-ltb v.author id f, none v.author f v.counter) refl
+]
 
 -- what the columns have once the author is gone through
 gathered-means : (set : Versions) (columns : List AuthorColumn) (id author : ℕ) (column : Extent) → GatheredTo set columns id → IsNextAuthor set id author → IsColumnOf (of_author set author) column → (q c : ℕ) → column_has (cond (author == q) column (column_of columns q)) c ≡ (nat_lt q (author + 1) && of_author set q c)

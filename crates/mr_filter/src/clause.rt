@@ -1,10 +1,10 @@
 //! Clauses: conditions that hold together.
-ghost use Rattle.std.specs.Prelude.{◌≡◌, ◌≤◌, ◌<◌, ◌+◌, IfOk, map, length};
+ghost use Rattle.std.specs.Prelude.{◌≡◌, ◌≤◌, ◌<◌, ◌+◌, ◌&&◌, IfOk, map, length};
 ghost use Rattle.std.specs.List.{list_all, list_any};
 ghost use Rattle.std.specs.List.Sorted.{IsStrictlySortedBy};
 ghost use Rattle.mr_mail.specs.Label.{IsLabelSet, has_label, text_cmp};
 ghost use Rattle.mr_filter.specs.Filter.{IsClause, clause_with};
-ghost use Rattle.mr_filter.specs.Meaning.{meets, is_as_wide};
+ghost use Rattle.mr_filter.specs.Meaning.{has_labels, lacks_labels, meets, is_as_wide};
 ghost use Rattle.mr_filter.specs.declared.clause.TheConstants.{MAX_CLAUSE_LABELS};
 
 use mr_mail::{Card, Day, Flags, Label};
@@ -127,8 +127,15 @@ impl Clause {
         card.day() >= self.since
             && card.flags().is_superset(self.flags_on)
             && card.flags().is_disjoint(self.flags_off)
-            && has_each(card.labels(), self.all_labels())
-            && !has_any(card.labels(), self.no_labels())
+            && self.admits_labels(card.labels())
+    }
+
+    /// Whether these labels, which rise, have each label that is wanted and none that is barred.
+    fn admits_labels(&self, labels: &[Label]) -> bool
+        requires { IsStrictlySortedBy text_cmp labels.now }
+        ensures { result ≡ (has_labels labels.now self.now.all_labels && lacks_labels labels.now self.now.no_labels) }
+    {
+        has_each(labels, self.all_labels()) && !has_any(labels, self.no_labels())
     }
 
     /// Whether each condition of this clause is one of the other's.
@@ -138,7 +145,14 @@ impl Clause {
         other.since >= self.since
             && other.flags_on.is_superset(self.flags_on)
             && other.flags_off.is_superset(self.flags_off)
-            && has_each(other.all_labels(), self.all_labels())
+            && self.names_only_labels_of(other)
+    }
+
+    /// Whether the other clause wants each label that this one wants, and bars each that it bars.
+    fn names_only_labels_of(&self, other: &Clause) -> bool
+        ensures { result ≡ (has_labels other.now.all_labels self.now.all_labels && has_labels other.now.no_labels self.now.no_labels) }
+    {
+        has_each(other.all_labels(), self.all_labels())
             && has_each(other.no_labels(), self.no_labels())
     }
 }

@@ -92,6 +92,14 @@ one_more_listed true true before rest = refl
 one_more_listed true false before rest = refl
 one_more_listed false this before rest = refl
 
+-- an item more of those for which versions are listed
+pub one_more_item : (this before listed rest : Bool) → ((this && listed) || ((before && listed) || rest)) ≡ (((this || before) && listed) || rest)
+one_more_item true true true rest = refl
+one_more_item true false true rest = refl
+one_more_item true true false rest = refl
+one_more_item true false false rest = refl
+one_more_item false before listed rest = refl
+
 -- the versions below and the version itself, listed for one item
 pub listed_with : (for_item below this rest : Bool) → (((for_item || false) && (below || (this || false))) || rest) ≡ ((for_item && below) || ((for_item && this) || rest))
 listed_with true true this rest = refl

@@ -1,4 +1,4 @@
-use Rattle.std.proofs.Common.{◌≡◌, ◌<◌, ◌⊎◌, Bool, true, false, cond, ◌||◌, ◌&&◌, ◌==◌, refl, arith, inl, inr}
+use Rattle.std.proofs.Common.{◌≡◌, ◌<◌, ◌⊎◌, Bool, true, false, cond, ◌||◌, ◌&&◌, ◌==◌, refl, sym, ap, ◌∙◌, arith, inl, inr}
 use Rattle.std.specs.declared.cmp.Ordering.TheVariants.{Less}
 use Rattle.std.proofs.lemmas.Bool.{cases_order}
 use Rattle.std.proofs.lemmas.Bool.Decides.{nat_tests}
@@ -42,3 +42,8 @@ passes_on new true rest total true there gains same whole = rw gains whole
 passes_on new true rest total false there gains same whole = rw gains whole
 passes_on new false rest total true there gains same whole = rw gains (rw same at whole)
 passes_on new false rest total false there gains same whole = rw gains (rw same at whole)
+
+-- what passes by the last or by those before it or did before, passes by all of them or did before
+pub passes_more : (new rest here before old all : Bool) → new ≡ (here || rest) → rest ≡ (before || old) → all ≡ (here || before) → new ≡ (all || old)
+passes_more new rest true before old all by_here by_before joined = by_here ∙ ap (λ b. b || old) (sym joined)
+passes_more new rest false before old all by_here by_before joined = by_here ∙ by_before ∙ ap (λ b. b || old) (sym joined)

@@ -186,10 +186,11 @@ impl VersionSet for PlainVersions {
     }
 
     fn union(&mut self, other: &Self) -> Result<(), FormFault> {
-        let mut missing: Vec<Version> = Vec::new(self.alloc);
-        for version in other.versions.difference(&self.versions) {
-            missing.push(*version)?;
-        }
+        let missing: Vec<Version> = other
+            .versions
+            .difference(&self.versions)
+            .copied()
+            .collect(self.alloc)?;
         self.insert_all(&missing)
     }
 

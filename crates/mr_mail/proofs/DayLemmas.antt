@@ -1,9 +1,10 @@
 -- days, their dates and their texts
-use Rattle.std.proofs.Common.{◌≡◌, ℕ, ◌<◌, List, refl, sym, ◌∙◌, arith, ℤ, pos, negsuc, unsigned_abs, ◌≤ℤ◌}
+use Rattle.std.proofs.Common.{◌≡◌, ℕ, ◌<◌, List, Result, Ok, Err, None, IsOk, refl, sym, ◌∙◌, arith, ℤ, pos, negsuc, unsigned_abs, ◌≤ℤ◌}
 use Rattle.std.proofs.lemmas.Int.{by_lt_z}
 use Rattle.jiff_core.specs.declared.civil.date.Date.{Date}
 use Rattle.jiff_core.specs.Calendar.{days_from_civil}
-use Rattle.jiff.specs.Words.{epoch_day, IsYmd}
+use Rattle.std.specs.Result.{result_ok, OkIff}
+use Rattle.jiff.specs.Words.{epoch_day, IsYmd, IsDate}
 use Rattle.jiff_core.proofs.SignedLemmas.{signed_arith}
 use Rattle.jiff_core.proofs.CalendarLemmas.{days_in_month_bounds, days_from_civil-day_count, day_count-epoch, day_count-lt_year}
 use Rattle.jiff_core.proofs.DateLemmas.{civil, epoch_day_injective, epoch_day_same}
@@ -64,3 +65,28 @@ Spells_text s t day x y =
     let month : x.month ≡ y.month = omega (arith, signed_arith, same.1, x.is_day.parts.1, y.is_day.parts.1) in
     let day_of_month : x.day_of_month ≡ y.day_of_month = omega (arith, signed_arith, same.2, x.is_day.parts.2, y.is_day.parts.2) in
     x.written ∙ rw (year, month, day_of_month) (sym y.written)
+
+-- the calendar has the date of a day
+pub IsDate-IsDayOf : (year month day_of_month day : ℕ) → IsDayOf year month day_of_month day → IsDate (pos year) (pos month) (pos day_of_month)
+IsDate-IsDayOf year month day_of_month day h =
+    let date = civil h.date in
+    let same_month : h.date.month ≡ month = omega (arith, signed_arith, h.parts.1) in
+    let same_day : h.date.day ≡ day_of_month = omega (arith, signed_arith, h.parts.2) in
+    let in_month = rw (h.parts.0, same_month, same_day) at date in
+    (in_month.0, omega (arith, signed_arith, in_month.1), omega (arith, signed_arith, in_month.2))
+
+-- a date that has the parts of a day counts it
+pub epoch_day-IsDayOf : (year month day_of_month day : ℕ) (date : Date) → IsYmd (pos year) (pos month) (pos day_of_month) date → IsDayOf year month day_of_month day → epoch_day date ≡ pos day
+epoch_day-IsDayOf year month day_of_month day date parts h =
+    let same_month : date.month ≡ h.date.month = omega (arith, signed_arith, parts.1, h.parts.1) in
+    let same_day : date.day ≡ h.date.day = omega (arith, signed_arith, parts.2, h.parts.2) in
+    epoch_day_same date h.date (parts.0 ∙ sym h.parts.0) same_month same_day ∙ h.counted
+
+-- a result that gives nothing is no success
+pub not_ok : {T E : Type 0} (r : Result T E) → result_ok r ≡ None → IsOk r → ⊥
+not_ok (Ok x) none ok = cc
+not_ok (Err e) none ok = cc
+
+pub not_ok_iff : {T E : Type 0} (r : Result T E) (P : Type 0) (x : T) → OkIff r P x → result_ok r ≡ None → P → ⊥
+not_ok_iff (Ok y) P x told none holds = cc
+not_ok_iff (Err e) P x told none holds = told holds

@@ -1,8 +1,9 @@
 //! Messages.
-ghost use Rattle.std.specs.Prelude.{◌≡◌, ◌<◌, ◌≤◌, IfOk, IfSome, IfNone, IsOkUnless, length, string_bytes};
+ghost use Rattle.std.specs.Prelude.{◌≡◌, ◌<◌, ◌≤◌, IfOk, IfErr, IfSome, IfNone, IsOkUnless, OnOk, length, string_bytes};
+ghost use Rattle.std.specs.Result.{result_err};
 ghost use Rattle.mr_mail.specs.Admits.{first_fault};
-ghost use Rattle.mr_mail.specs.Label.{texts_of, AreLabelsOf};
-ghost use Rattle.mr_mail.specs.Mail.{card_of, IsMail};
+ghost use Rattle.mr_mail.specs.Label.{texts_of, AreLabelsOf, IsLabelSet};
+ghost use Rattle.mr_mail.specs.Mail.{card_of, mail_with, IsMail};
 ghost use Rattle.mr_mail.specs.declared.message.TheConstants.{MAX_FROM_BYTES, MAX_SUBJECT_BYTES, MAX_BODY_BYTES};
 
 use crate::card::Card;
@@ -76,7 +77,6 @@ impl Message {
     /// `BodyTooLong` over 65,536, `BadLabel` if a label is not one to 32 bytes of a-z, 0-9 and `-`,
     /// `TooManyLabels` over 16 different ones, `BadFlags` for a flag byte over 31, and
     /// `OutOfMemory` last.
-    #[tactic(auto, using(crate::proofs::LabelLemmas::list_all_of_texts))]
     pub fn try_new(
         alloc: Global,
         from: String,
@@ -101,35 +101,14 @@ impl Message {
         ensures day { IfOk result (λ message. message.day ≡ day) }
         ensures kept { IfOk result IsMail }
     {
-        if from.len() > MAX_FROM_BYTES {
-            return Err(MessageFault::FromTooLong);
-        }
-        if subject.len() > MAX_SUBJECT_BYTES {
-            return Err(MessageFault::SubjectTooLong);
-        }
-        if body.len() > MAX_BODY_BYTES {
-            return Err(MessageFault::BodyTooLong);
-        }
-        if !are_texts_of_labels(labels.as_slice()) {
-            return Err(MessageFault::BadLabel);
-        }
-        sort_once(&mut labels);
-        if labels.len() > MAX_LABELS {
-            return Err(MessageFault::TooManyLabels);
-        }
-        let Some(flags) = Flags::from_bits(flags) else {
-            return Err(MessageFault::BadFlags);
-        };
-        let labels = into_labels(alloc, labels)?;
-        let parts = Parts {
-            from,
-            subject,
-            body,
-            card: Card::new(labels, flags, day),
-        };
-        Ok(Message {
-            parts: Arc::new(alloc, parts)?,
-        })
+        let flags = admitted_flags(
+            from.as_str(),
+            subject.as_str(),
+            body.as_slice(),
+            &mut labels,
+            flags,
+        )?;
+        message_of(alloc, from, subject, body, labels, flags, day)
     }
 
     /// Who sent it, at most 254 bytes.
@@ -202,4 +181,76 @@ impl Message {
             parts: Arc::try_clone(&self.parts)?,
         })
     }
+}
+
+/// The flags of a message of these parts, or the first fault of the parts. Where there is none, the
+/// labels are left sorted, without repeats.
+fn admitted_flags(
+    from: &str,
+    subject: &str,
+    body: &[u8],
+    labels: &mut Vec<String>,
+    flags: u8,
+) -> Result<Flags, MessageFault>
+    ensures fault { first_fault from.now subject.now body.now (texts_of labels.old.items) flags ≡ result_err result }
+    ensures flags { IfOk result (λ admitted. admitted ≡ flags) }
+
+    ensures from_in { OnOk result (length from.now ≤ MAX_FROM_BYTES) }
+    ensures subject_in { OnOk result (length subject.now ≤ MAX_SUBJECT_BYTES) }
+    ensures body_in { OnOk result (length body.now ≤ MAX_BODY_BYTES) }
+    ensures labels { OnOk result (AreLabelsOf (texts_of labels.old.items) (texts_of labels.new.items)) }
+    ensures labels_in { OnOk result (IsLabelSet (texts_of labels.new.items)) }
+{
+    if from.len() > MAX_FROM_BYTES {
+        return Err(MessageFault::FromTooLong);
+    }
+    if subject.len() > MAX_SUBJECT_BYTES {
+        return Err(MessageFault::SubjectTooLong);
+    }
+    if body.len() > MAX_BODY_BYTES {
+        return Err(MessageFault::BodyTooLong);
+    }
+    if !are_texts_of_labels(labels.as_slice()) {
+        return Err(MessageFault::BadLabel);
+    }
+    sort_once(labels);
+    if labels.len() > MAX_LABELS {
+        return Err(MessageFault::TooManyLabels);
+    }
+    let Some(admitted) = Flags::from_bits(flags) else {
+        return Err(MessageFault::BadFlags);
+    };
+    Ok(admitted)
+}
+
+/// The message of parts that make one. The parts are moved.
+fn message_of(
+    alloc: Global,
+    from: String,
+    subject: String,
+    body: Vec<u8>,
+    labels: Vec<String>,
+    flags: Flags,
+    day: Day,
+) -> Result<Message, MessageFault>
+    requires from_in { length (string_bytes from) ≤ MAX_FROM_BYTES }
+    requires subject_in { length (string_bytes subject) ≤ MAX_SUBJECT_BYTES }
+    requires body_in { length body.items ≤ MAX_BODY_BYTES }
+    requires labels_in { IsLabelSet (texts_of labels.items) }
+
+    ensures value { IfOk result (λ message. message ≡ mail_with (string_bytes from) (string_bytes subject) body.items
+        (record { labels = texts_of labels.items; flags = flags; day = day })) }
+    ensures kept { IfOk result IsMail }
+    ensures fault { IfErr result (λ fault. fault ≡ MessageFault.OutOfMemory) }
+{
+    let labels = into_labels(alloc, labels)?;
+    let parts = Parts {
+        from,
+        subject,
+        body,
+        card: Card::new(labels, flags, day),
+    };
+    Ok(Message {
+        parts: Arc::new(alloc, parts)?,
+    })
 }

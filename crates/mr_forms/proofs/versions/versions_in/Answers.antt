@@ -1,5 +1,7 @@
-use Rattle.std.proofs.Common.{◌||◌, ◌∙◌, ap, sym}
-use Rattle.mr_forms.specs.Runs.{in_run}
+use Rattle.std.proofs.Common.{◌||◌, ◌∙◌, ap, sym, take_all}
+use Rattle.std.proofs.lemmas.Bool.{false≢true}
+use Rattle.mr_forms.specs.Sets.{is_listed}
+use Rattle.mr_forms.specs.Runs.{in_run, in_runs}
 use Rattle.mr_forms.proofs.ListLemmas.{list_any-here}
 use Rattle.mr_forms.proofs.versions.versions_in.Goals as goal
 
@@ -14,3 +16,15 @@ loop-run-preserved g c = record {
       ∙ sym (list_any-here (λ run. in_run run v) c.deref-run-items.result.now c.loop-run.run-index c.run-item.result c.loop-run-test.true c.run-item.is);
   alone = c.in_ok-push_run.ensures.versions c.loop-run.invariant.alone;
 }
+
+pub loop-run-init : goal.loop-run-init
+loop-run-init g c = record {
+  have = λ v. ap (λ xs. is_listed xs v) c.new-versions.ensures.items;
+  alone = λ v listed. absurd (false≢true (sym (ap (λ xs. is_listed xs v) c.new-versions.ensures.items) ∙ listed));
+}
+
+pub returns-clause-ok : goal.returns-clause-ok
+returns-clause-ok g c = λ v.
+    c.loop-run.invariant.have v
+    ∙ ap (λ runs. in_runs runs v) (take_all c.loop-run.run-index _ c.loop-run-test.false ∙ c.deref-run-items.ensures.value)
+    ∙ sym (c.in_ok-columns.ensures.ok.have v)

@@ -35,3 +35,44 @@ returns-in-LacksFlag-clause-added c =
 pub returns-in-Since-clause-added : goal.returns-in-Since-clause-added
 returns-in-Since-clause-added c =
     rw (c.in-Since.is, ← c.self.view_is) (with_day _ c.self.invariant c.in-Since.day c.max-self-inside.result (search rules))
+
+pub invariant_of-self : goal.invariant_of-self
+invariant_of-self c =
+    let long = length-map c.put_label.new.labels.items (λ text. text.now) in
+    let others = length-map c.self.inside.barred.items (λ text. text.now) in
+    let few = c.in_ok-put_label-in-HasLabel.ensures.few in
+    record { wanted = c.in_ok-put_label-in-HasLabel.ensures.kept; barred = c.self.invariant.barred; few = omega (arith, long, others, few, c.len.ensures.value); on_in = c.self.invariant.on_in; off_in = c.self.invariant.off_in; since_in = c.self.invariant.since_in }
+
+pub invariant_of-self-in_err-put_label-in-HasLabel : goal.invariant_of-self-in_err-put_label-in-HasLabel
+invariant_of-self-in_err-put_label-in-HasLabel c = rw c.in_err-put_label-in-HasLabel.ensures.err c.self.invariant
+
+pub invariant_of-self-in-HasFlag : goal.invariant_of-self-in-HasFlag
+invariant_of-self-in-HasFlag c =
+    record { wanted = c.self.invariant.wanted; barred = c.self.invariant.barred; few = c.self.invariant.few; on_in = omega arith; off_in = c.self.invariant.off_in; since_in = c.self.invariant.since_in }
+
+pub invariant_of-self-in-LacksFlag : goal.invariant_of-self-in-LacksFlag
+invariant_of-self-in-LacksFlag c =
+    record { wanted = c.self.invariant.wanted; barred = c.self.invariant.barred; few = c.self.invariant.few; on_in = c.self.invariant.on_in; off_in = omega arith; since_in = c.self.invariant.since_in }
+
+pub invariant_of-self-in-Since : goal.invariant_of-self-in-Since
+invariant_of-self-in-Since c =
+    record { wanted = c.self.invariant.wanted; barred = c.self.invariant.barred; few = c.self.invariant.few; on_in = c.self.invariant.on_in; off_in = c.self.invariant.off_in; since_in = omega arith }
+
+pub returns-in_ok-put_label-in-HasLabel-clause-kept : goal.returns-in_ok-put_label-in-HasLabel-clause-kept
+returns-in_ok-put_label-in-HasLabel-clause-kept c = invariant_of-self c
+
+pub returns-in_ok-put_label-in-LacksLabel-clause-kept : goal.returns-in_ok-put_label-in-LacksLabel-clause-kept
+returns-in_ok-put_label-in-LacksLabel-clause-kept c =
+    let long = length-map c.put_label-in-LacksLabel.new.labels.items (λ text. text.now) in
+    let others = length-map c.self.inside.wanted.items (λ text. text.now) in
+    let few = c.in_ok-put_label-in-LacksLabel.ensures.few in
+    record { wanted = c.self.invariant.wanted; barred = c.in_ok-put_label-in-LacksLabel.ensures.kept; few = omega (arith, long, others, few, c.len-in-LacksLabel.ensures.value); on_in = c.self.invariant.on_in; off_in = c.self.invariant.off_in; since_in = c.self.invariant.since_in }
+
+pub returns-in-HasFlag-clause-kept : goal.returns-in-HasFlag-clause-kept
+returns-in-HasFlag-clause-kept c = invariant_of-self-in-HasFlag c
+
+pub returns-in-LacksFlag-clause-kept : goal.returns-in-LacksFlag-clause-kept
+returns-in-LacksFlag-clause-kept c = invariant_of-self-in-LacksFlag c
+
+pub returns-in-Since-clause-kept : goal.returns-in-Since-clause-kept
+returns-in-Since-clause-kept c = invariant_of-self-in-Since c
