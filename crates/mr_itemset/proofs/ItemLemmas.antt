@@ -141,12 +141,6 @@ item_normal k set item vector normal room vector_ok grown more = record {
 pub same_tests : (s t : Versions) → ((v : Name) → s v ≡ t v) → s ≡ t
 same_tests s t h = λ i v. h v i
 
-pub holey_item : (k : Normal) (set : Versions) (item : Name) → HasTooManyHoles (both set (vector_has (vector_of k item))) → HasHoleyItem (with_below (normal_known k) item set)
-holey_item k set item many = record {
-  item = item;
-  holes = subst HasTooManyHoles (same_tests (both set (vector_has (vector_of k item))) (with_below (normal_known k) item set item) (λ v. ap (λ (b : Bool). (b && set v) || normal_known k item v) (sym (name_eq-itself item)))) many;
-}
-
 pub item_from_holey : (k : Normal) (set : Versions) (item : Name) → IsNormal k → HasHoleyItem (with_below (normal_known k) item set) → HasTooManyHoles (both set (vector_has (vector_of k item)))
 item_from_holey k set item normal holey = go (cases_Bool (name_eq item holey.item))
   where

@@ -6,6 +6,7 @@ pub mod GrowLemmas
 pub mod FoldedLemmas
 pub mod KeptLemmas
 pub mod ValueLemmas
+pub mod RefusalLemmas
 pub mod SplitLemmas
 pub mod CountLemmas
 pub mod SplitLimitLemmas

@@ -19,7 +19,7 @@ use Rattle.mr_itemset.specs.declared.knowledge.Listed.{Listed}
 use Rattle.mr_itemset.specs.Normal.{Normal, items_of, HasMore, IsNormal, normal_known, vector_of}
 use Rattle.mr_itemset.specs.ItemForm.{ListsTooMany, HasHoleyItem, with_all}
 use Rattle.mr_itemset.specs.Lacking.{Lacks}
-use Rattle.mr_itemset.specs.Placed.{Lists, HasRoom}
+use Rattle.mr_itemset.specs.Placed.{Lists}
 use Rattle.mr_itemset.specs.Room.{Drops, HasRoomWith}
 use Rattle.mr_itemset.proofs.NormalLemmas.{same_name, top, free-above, vector_in-has, vector_in-unlisted}
 use Rattle.mr_itemset.proofs.LimitLemmas.{any_all}
@@ -208,9 +208,3 @@ lists_too_many k set item normal full free lacks =
     same_both true a up down = sym (up refl)
     same_both false true up down = down refl
     same_both false false up down = refl
-
--- with room, no more
-pub lists_few-item : (k : Normal) (set : Versions) (item : Name) → IsNormal k → HasRoom k item set → ListsTooMany (with_below (normal_known k) item set) → ⊥
-lists_few-item k set item normal (inl room) many = lists_few-with k (λ _. false) set item normal (inl room) many
-lists_few-item k set item normal (inr (inl lists)) many = lists_few-with k (λ _. false) set item normal (inr (inl lists)) many
-lists_few-item k set item normal (inr (inr covers)) many = lists_few-with k (λ _. false) set item normal (inr (inr (inl covers))) many

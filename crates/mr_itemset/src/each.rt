@@ -91,9 +91,7 @@ impl ItemKnowledge {
     {
         let mut grown = self.folded()?;
         for item in items {
-            let Ok(()) = grown.learn_below(*item, set) else {
-                return Err(AllocError);
-            };
+            grown.learn_below(*item, set)?;
         }
         Ok(grown)
     }

@@ -81,9 +81,7 @@ impl ItemKnowledge {
     pub(crate) fn copy_parts(&self) -> Result<ItemKnowledge, AllocError>
         ensures { IfOk result (λ k. k ≡ self.now) }
     {
-        let Ok(settled) = self.settled.copy() else {
-            return Err(AllocError);
-        };
+        let settled = self.settled.copy()?;
         let Ok(pending) = self.pending.copy() else {
             return Err(AllocError);
         };

@@ -1,4 +1,4 @@
-ghost use Rattle.std.specs.Prelude.{◌≡◌, false, [], AllPairs, IfOk, OnErr, Err};
+ghost use Rattle.std.specs.Prelude.{◌≡◌, false, [], AllPairs, IfOk};
 ghost use Rattle.mr_forms.specs.Known.{AreSame};
 ghost use Rattle.mr_itemset.specs.Normal.{normal_known, IsBefore};
 ghost use Rattle.mr_itemset.specs.Entries.{listed_of};
@@ -7,7 +7,7 @@ use crate::item::put_in;
 use crate::knowledge::Listed;
 use crate::settled::{Settled, Vectors};
 use mr_concise::ConciseVector;
-use mr_forms::{FormFault, VersionSet};
+use mr_forms::VersionSet;
 use mr_version::{ItemId, Version};
 use std::alloc::{AllocError, Global};
 use std::collections::BTreeMap;
@@ -40,13 +40,14 @@ impl Settled {
         Settled::from_parts(alloc, ConciseVector::new(alloc), BTreeMap::new(alloc))
     }
 
-    /// An equal knowledge. `OutOfMemory` is its only fault.
-    pub(crate) fn copy(&self) -> Result<Settled, FormFault>
-        ensures ok { IfOk result (λ knowledge. knowledge ≡ self.now) }
-        ensures memory { OnErr result (result ≡ Err FormFault.OutOfMemory) }
+    /// An equal knowledge.
+    pub(crate) fn copy(&self) -> Result<Settled, AllocError>
+        ensures { IfOk result (λ knowledge. knowledge ≡ self.now) }
     {
         let alloc = self.allocator();
-        let all = self.for_all().copy()?;
+        let Ok(all) = self.for_all().copy() else {
+            return Err(AllocError);
+        };
         let listed = copies(self.listed(), alloc)?;
         Ok(Settled::from_parts(alloc, all, listed))
     }

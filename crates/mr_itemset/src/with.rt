@@ -91,9 +91,7 @@ impl Settled {
         ensures { IfOk result (λ k. AreSame (normal_known k) (with_below (with_all (normal_known self.now) (A.has learned.now)) item (S.has below.now))) }
     {
         let mut grown = self.with_all(learned)?;
-        let Ok(()) = grown.learn_below(item, below) else {
-            return Err(AllocError);
-        };
+        grown.learn_below(item, below)?;
         Ok(grown)
     }
 }

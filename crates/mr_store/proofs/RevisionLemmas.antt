@@ -1,8 +1,9 @@
 -- the versions of an item, after each edit of a list
-use Rattle.std.proofs.Common.{◌≡◌, Bool, true, false, not, ◌&&◌, ◌||◌, cond, if◌then◌else◌, refl, sym, ap, subst, ◌∙◌, List, [], ◌∷◌, ◌++◌, map, ◌⊎◌, inl, inr, Option, Some, None}
+use Rattle.std.proofs.Common.{◌≡◌, ℕ, Bool, true, false, not, ◌&&◌, ◌||◌, cond, if◌then◌else◌, refl, sym, ap, subst, ◌∙◌, List, [], ◌∷◌, ◌++◌, map, ◌⊎◌, inl, inr, Option, Some, None, arith}
 use Rattle.std.specs.declared.cmp.Ordering.TheVariants.{Less}
 use Rattle.std.specs.Ordering.{is_eq}
 use Rattle.std.specs.List.{AllByRecursion, filter, filter_map, list_any, cons_option}
+use Rattle.std.proofs.lemmas.Option.{slice_get-get_or}
 use Rattle.std.proofs.lemmas.List.Elements.{filter_agree}
 use Rattle.std.proofs.lemmas.List.Folds.{list_any-append}
 use Rattle.mr_version.specs.Name.{Name, name_cmp, name_eq}
@@ -10,6 +11,7 @@ use Rattle.mr_forms.specs.Sets.{Versions, is_listed}
 use Rattle.mr_forms.specs.Known.{Pairs}
 use Rattle.mr_madewith.specs.Revision.{Rev}
 use Rattle.mr_madewith.specs.Keyed.{without, is_before}
+use Rattle.mr_madewith.specs.Search.{IsFoundAt}
 use Rattle.mr_store.specs.Revisions.{AreInVersionOrder, version_of, revision_of, entered, is_of, versions_of, supersedes, left_by}
 use Rattle.mr_store.specs.Index.{version_inserted}
 use Rattle.mr_madewith.proofs.Rising.{name_eq_self, same_names, name_eq-swap, head_before, tail_rises, all_filtered}
@@ -268,3 +270,10 @@ filter-reached_more passes vs reached item i =
           ∙ filter_agree (λ v. not (reached && passes i v) && not (passes i v)) (λ v. not ((reached || true) && passes i v)) (λ v. out_twice reached (passes i v)) vs)
       | inr apart ↦ rw apart (filter_agree (λ v. not (reached && passes i v)) (λ v. not ((reached || false) && passes i v)) (λ v. out_once reached (passes i v)) vs)
     ]
+
+-- ---- a search by version
+
+-- a revision that was found is there
+pub found_is_there : (rs : List Rev) (v : Name) (place : ℕ) → IsFoundAt version_of v rs place → revision_of rs v ≡ None → ⊥
+found_is_there [] v place found none = let within = found.within in omega arith
+found_is_there (r ∷ rs) v place found none = let some = slice_get-get_or (r ∷ rs) place r found.within in cc (some, found.is, none)

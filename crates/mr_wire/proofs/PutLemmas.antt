@@ -1,5 +1,8 @@
 -- what is written of a frame's parts
-use Rattle.std.proofs.Common.{◌≡◌, ℕ, zero, suc, ◌+◌, ◌<◌, List, [], ◌∷◌, ◌++◌, length, get_or, Result, Ok, Err, ap, sym, ◌∙◌, append_assoc, arith}
+use Rattle.std.proofs.Common.{◌≡◌, ℕ, zero, suc, ◌+◌, ◌<◌, List, [], ◌∷◌, ◌++◌, length, get_or, take, Result, Ok, Err, ap, sym, ◌∙◌, append_assoc, arith}
+use Rattle.std.proofs.lemmas.List.{append-nil, take_more}
+use Rattle.std.proofs.lemmas.List.Concat.{flat_map-append}
+use Rattle.std.specs.List.{flat_map}
 use Rattle.std.specs.Prelude.{OnOk}
 use Rattle.mr_concise.specs.declared.vector.AuthorColumn.{AuthorColumn}
 use Rattle.mr_concise.specs.Column.{IsColumn}
@@ -15,6 +18,11 @@ pub column_of_vector : (xs : List AuthorColumn) (low i : ℕ) (d : AuthorColumn)
 column_of_vector [] low i d lt h = absurd (omega arith)
 column_of_vector (x ∷ xs) low zero d lt h = h.2
 column_of_vector (x ∷ xs) low (suc i) d lt h = column_of_vector xs (x.author + 1) i d (omega arith) h.3
+
+-- what follows, where a call succeeds
+pub on_ok : {E A B : Type 0} (r : Result (Unit {0}) E) → (A → B) → OnOk r A → OnOk r B
+on_ok (Ok x) f a = f a
+on_ok (Err fault) f a = tt
 
 -- two parts that are written one after the other
 pub two_parts : {E : Type 0} (r : Result (Unit {0}) E) (o a b o1 o2 : List ℕ) → o1 ≡ o ++ a → OnOk r (o2 ≡ o1 ++ b) → OnOk r (o2 ≡ o ++ (a ++ b))
@@ -32,3 +40,12 @@ frame_from_parts f kind parts start out k n s e =
     let len : parts + 2 ≡ length (rest_bytes 2 f) = omega (arith, n) in
     e ∙ ap (λ (z : List ℕ). z ++ part_bytes f) (s ∙ ap (λ (m : ℕ). u32 m ++ (2 ∷ kind_byte kind ∷ [])) len) ∙ append_assoc (u32 (length (rest_bytes 2 f))) (2 ∷ kind_byte kind ∷ []) (part_bytes f)
     ∙ ap (λ (c : Kind). u32 (length (rest_bytes 2 f)) ++ (2 ∷ kind_byte c ∷ part_bytes f)) (sym k)
+
+-- of a run one part more is written
+pub run_more : {X : Type 0} (bytes : X → List ℕ) (xs : List X) (i : ℕ) (x : X) (start before now : List ℕ) → before ≡ start ++ flat_map bytes (take i xs) → i < length xs → x ≡ get_or xs i x → now ≡ before ++ bytes x → now ≡ start ++ flat_map bytes (take (i + 1) xs)
+run_more bytes xs i x start before now so_far within is written =
+    let front = take i xs in
+    let last : flat_map bytes (x ∷ []) ≡ bytes x = append-nil (bytes x) in
+    let run : take (i + 1) xs ≡ front ++ x ∷ [] = take_more xs i x within ∙ ap (λ y. front ++ y ∷ []) (sym is) in
+    let more : flat_map bytes (take (i + 1) xs) ≡ flat_map bytes front ++ bytes x = ap (flat_map bytes) run ∙ flat_map-append bytes front (x ∷ []) ∙ ap (λ l. flat_map bytes front ++ l) last in
+    written ∙ ap (λ l. l ++ bytes x) so_far ∙ append_assoc start (flat_map bytes front) (bytes x) ∙ ap (λ l. start ++ l) (sym more)

@@ -1,6 +1,6 @@
 //! From bytes to a frame.
-ghost use Rattle.std.specs.Prelude.{◌≡◌, ◌++◌, ◌≤◌, ℕ, List, length, take, IfOk, Ok};
-ghost use Rattle.mr_wire.specs.Decoding.{Answers, FindsWhole, decoded};
+ghost use Rattle.std.specs.Prelude.{◌≡◌, ◌++◌, ◌≤◌, ℕ, List, is_some, length, take, IfOk, Ok};
+ghost use Rattle.mr_wire.specs.Decoding.{Answers, FindsWhole, decoded, whole_frame};
 ghost use Rattle.mr_wire.specs.declared.frame.Frame.{Frame};
 ghost use Rattle.mr_wire.specs.Grammar.{Spells};
 ghost use Rattle.mr_wire.specs.Rests.{AnswersRest, AnswersKind};
@@ -69,13 +69,20 @@ fn whole(memory: Option<Global>, kind: Kind, parts: &[u8]) -> Option<Option<Fram
     Some(kept)
 }
 
+/// Whether the bytes are a frame of this kind. It takes no memory.
+fn are_frame(kind: Kind, parts: &[u8]) -> bool
+    ensures { result ≡ is_some (whole_frame kind parts.now) }
+{
+    whole(None, kind, parts).is_some()
+}
+
 /// The first frame and how many bytes it takes, or the first fault.
 fn first_frame(alloc: Global, bytes: &[u8]) -> Result<(Frame, usize), WireFault>
     ensures { Answers (decoded bytes.now) result }
 {
     let rest = rest_after_length(bytes)?;
     let (kind, parts) = kind_of_rest(rest)?;
-    if whole(None, kind, parts).is_none() {
+    if !are_frame(kind, parts) {
         return Err(WireFault::BadBody);
     }
     match whole(Some(alloc), kind, parts) {

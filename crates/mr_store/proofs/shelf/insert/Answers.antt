@@ -1,7 +1,17 @@
 use Rattle.std.proofs.Common.{subst, sym}
 use Rattle.mr_store.specs.Revisions.{AreInVersionOrder, version_of}
 use Rattle.mr_madewith.proofs.Rising.{rises-inserted}
+use Rattle.mr_store.proofs.RevisionLemmas.{found_is_there}
 use Rattle.mr_store.proofs.shelf.insert.Goals as goal
+
+pub unreachable-requires : goal.unreachable-requires
+unreachable-requires c = found_is_there c.args.revisions.now.items c.args.revision.version c.in-Ok.field-0 (rw (c.deref.ensures.value, c.version.ensures) at c.in-Ok.ensures.found) c.requires.new
+
+pub insert-requires : goal.insert-requires
+insert-requires c = rw c.deref.ensures.len at c.in-Err.ensures.absent.within
+
+pub unwrap-requires : goal.unwrap-requires
+unwrap-requires c = c.insert.ensures.succeeds c.requires.room
 
 pub returns-clause-items : goal.returns-clause-items
 returns-clause-items c = rw (c.insert.ensures.items, c.unwrap.ensures, ← c.deref.ensures.value) (c.in-Err.ensures.absent.put c.args.revision (sym c.version.ensures))

@@ -1,11 +1,12 @@
-use Rattle.std.proofs.Common.{arith, subst, ◌∙◌}
-use Rattle.std.proofs.lemmas.Grind.{common_steps}
+use Rattle.std.proofs.Common.{subst, ◌∙◌}
 use Rattle.std.proofs.lemmas.List.Elements.{All-more}
 use Rattle.mr_wire.specs.Grammar.{IsItem}
+use Rattle.mr_wire.specs.Spelling.{name_bytes}
+use Rattle.mr_wire.proofs.PutLemmas.{run_more}
 use Rattle.mr_wire.proofs.put.put_items.Goals as goal
 
 pub loop-item-preserved : goal.loop-item-preserved
 loop-item-preserved c = record {
-  written = grind (arith, common_steps);
+  written = run_more name_bytes c.args.items.now c.loop-item.item-index c.item-item.result c.args.out.now.items _ _ c.loop-item.invariant.written c.loop-item-test.true c.item-item.is (rw c.creator.ensures at c.in_ok-put_version.ensures.written);
   in_grammar = All-more IsItem c.args.items.now c.loop-item.item-index c.item-item.result c.loop-item-test.true c.loop-item.invariant.in_grammar (subst IsItem (c.creator.ensures ∙ c.item-item.is) c.in_ok-put_version.ensures.in_grammar);
 }
