@@ -9,6 +9,7 @@ pub mod Rounds
 pub mod RunLemmas
 pub mod SoFar
 pub mod TakenLemmas
+pub mod Telling
 pub mod Written
 mod FrameLemmas
 mod FrameRows

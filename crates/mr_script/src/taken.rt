@@ -1,8 +1,9 @@
 //! What a replica's subscribers took, and the lines of it, each with its line feed.
-ghost use Rattle.std.specs.Prelude.{◌≡◌, IfOk, OnOk, None, string_bytes};
+ghost use Rattle.std.specs.Prelude.{◌≡◌, ◌++◌, IfOk, OnOk, None, codes, string_bytes};
 ghost use Rattle.std.specs.Option.{option_copied, option_to_list};
 ghost use Rattle.mr_subs.specs.Subscriber.{ShowsFold, Applies};
 ghost use Rattle.mr_world.specs.declared.event.Subscriber.TheVariants as subscriber;
+ghost use Rattle.mr_script.specs.Holding.{spaced_names};
 ghost use Rattle.mr_script.specs.Taken.{is_take, taken_at, taken_of, cards_of, indexed, index_text, Lists, IsIndexLine, IsUnseenLine};
 
 use mr_feed::Entry;
@@ -35,7 +36,13 @@ fn versions_line(
 ) -> Result<String, AllocError>
     ensures { IfOk result (λ line. string_bytes line ≡ index_text id label.now versions.now) }
 {
-    let mut line = format!(in alloc; "index {id} {label}:")?;
+    with_names(format!(in alloc; "index {id} {label}:")?, versions)
+}
+
+/// The line goes on with each version after a space, and ends.
+fn with_names(mut line: String, versions: &[Version]) -> Result<String, AllocError>
+    ensures { IfOk result (λ whole. string_bytes whole ≡ string_bytes line ++ spaced_names versions.now ++ codes "\n") }
+{
     for version in versions {
         write!(line, " {version}")?;
     }

@@ -1,12 +1,13 @@
 -- Loops that go on by one: members of specifications, and events that are answered.
-use Rattle.std.proofs.Common.{◌≡◌, ℕ, ◌+◌, List, [], ◌∷◌, ◌++◌, length, refl, sym, ap, ◌∙◌, arith, append_assoc, append-nil, length-append}
+use Rattle.std.proofs.Common.{◌≡◌, ℕ, ◌+◌, List, [], ◌∷◌, ◌++◌, length, Err, sym, ap, ◌∙◌, arith, append_assoc, append-nil, length-append}
 use Rattle.std.specs.List.{AllZip}
 use Rattle.mr_forms.specs.Known.{Form}
 use Rattle.mr_world.specs.Kept.{MemberView, WorldView}
 use Rattle.mr_world.specs.Made.{IsMadeOf}
-use Rattle.mr_world.specs.Run.{Happens, Leads}
+use Rattle.mr_world.specs.Run.{Happens, Leads, Meets, StopsAt}
 use Rattle.mr_world.specs.declared.answer.Answer.{Answer}
 use Rattle.mr_world.specs.declared.event.Event.{Event}
+use Rattle.mr_world.specs.declared.fault.WorldFault.{WorldFault}
 use Rattle.mr_world.specs.declared.spec.Spec.{Spec}
 use Rattle.mr_world.proofs.Happening.{leads_more}
 
@@ -40,9 +41,6 @@ module _ {K : Type 0} (form : Form K) where
     pub count : at ≡ length yielded
     pub leads : Leads form w yielded now
 
-  pub events_begin : (w : WorldView K) (all left : List Event) → left ≡ all → EventsSoFar w all [] left 0 w
-  events_begin w all left e = record { whole = sym e; count = refl; leads = refl }
-
   -- one event more was answered
   pub events_answered : (w now new : WorldView K) (all yielded left next : List Event) (at : ℕ) (e : Event) (answer : Answer)
       → EventsSoFar w all yielded left at now → left ≡ e ∷ next → Happens form now e answer new → EventsSoFar w all (yielded ++ e ∷ []) next (at + 1) new
@@ -52,5 +50,15 @@ module _ {K : Type 0} (form : Form K) where
     leads = leads_more form w now new yielded e answer so.leads h;
   }
 
-  pub events_end : (w : WorldView K) (all yielded left : List Event) (at : ℕ) (now : WorldView K) → EventsSoFar w all yielded left at now → left ≡ [] → Leads form w all now
-  events_end w all yielded left at now so none = rw (so.whole, none, append-nil yielded) so.leads
+  -- the event at hand was not answered
+  pub events_stopped : (w now new : WorldView K) (all yielded left next : List Event) (at : ℕ) (e : Event) (fault : WorldFault)
+      → EventsSoFar w all yielded left at now → left ≡ e ∷ next → Meets form now e (Err fault) new → StopsAt form w all at fault new
+  events_stopped w now new all yielded left next at e fault so taken h = rw h.1 (record {
+    before = yielded;
+    event = e;
+    left = next;
+    all = so.whole ∙ ap (λ rest. yielded ++ rest) taken;
+    place = sym so.count;
+    leads = so.leads;
+    faulty = h.0;
+  })

@@ -78,20 +78,22 @@ module _ {K : Type 0} where
       map-set (λ (n : MemberView K). n.replica.id) ms place new
       ∙ (ap (λ (i : ℕ). slice_set (ids_of ms) place i) h ∙ (sym (map-set (λ (n : MemberView K). n.replica.id) ms place m) ∙ ap (λ (ns : List (MemberView K)). ids_of ns) (goes_back ms r place m p)))
 
+  -- a place that was found is one of them
+  pub place_within : (ms : List (MemberView K)) (r place : ℕ) → position (λ m. m.replica.id == r) ms ≡ Some place → place < length ms
+  place_within ms r place at =
+      let parts = cond_some (nat_lt (position_or_len (has_id r) ms) (length ms)) (position_or_len (has_id r) ms) place at in
+      subst (λ (i : ℕ). i < length ms) parts.1 (ltb-true _ _ parts.0)
+
   -- there is a member at the place
   pub place_there : (ms : List (MemberView K)) (r place : ℕ) → position (λ m. m.replica.id == r) ms ≡ Some place → (m : MemberView K) × IsPlace ms r place m
   place_there ms r place at = cases (slice_get ms place) refl
     where
-      within : place < length ms
-      within = let parts = cond_some (nat_lt (position_or_len (has_id r) ms) (length ms)) (position_or_len (has_id r) ms) place at in
-          subst (λ (i : ℕ). i < length ms) parts.1 (ltb-true _ _ parts.0)
-
       cases : (o : Option (MemberView K)) → slice_get ms place ≡ o → (m : MemberView K) × IsPlace ms r place m
       cases (Some m) e = (m, place_found ms r place m at (sym (get_or_from_slice_get ms place m m e)))
       cases None e = absurd (past e)
         where
           past : slice_get ms place ≡ None → ⊥
-          past e = none_here ms place e within
+          past e = none_here ms place e (place_within ms r place at)
 
   -- the replica of an id, or none
   pub replica_none : (ms : List (MemberView K)) (r : ℕ) → None ≡ position (λ m. m.replica.id == r) ms → None ≡ replica_at ms r

@@ -44,7 +44,6 @@ impl<K: Knowledge> World<K> {
     ///
     /// It costs what the replicas' steps cost, the frames of what they give, and for each event a walk
     /// over the replicas and a copy of what it carries or names.
-    #[tactic(auto, using(crate::proofs::LoopLemmas::events_begin, crate::proofs::LoopLemmas::events_end))]
     pub fn run(mut self, events: Vec<Event>) -> Result<World<K>, Stopped<K>>
         ensures ran { IfOk result (Leads K.form self events.items) }
         ensures rules { IfOk result FollowsRules }

@@ -1,14 +1,16 @@
 use Rattle.std.proofs.Common.{◌≡◌, ◌∙◌, map, inr, sym, refl, arith}
-use Rattle.std.proofs.lemmas.Grind.{common_steps}
 use Rattle.std.proofs.lemmas.List.Elements.{All-push}
 use Rattle.mr_version.specs.Name.{name_text}
 use Rattle.mr_command.specs.List.{IsVersionName}
-use Rattle.mr_command.proofs.ListLemmas.{not_joined}
+use Rattle.mr_command.proofs.ListLemmas.{joined_more, not_joined}
 use Rattle.mr_command.proofs.lists.versions_named.Goals as goal
 
 pub loop-piece-preserved : goal.loop-piece-preserved
 loop-piece-preserved c =
-    (grind (arith, common_steps), rw c.in_ok-push.ensures.items (All-push IsVersionName _ _ c.loop-piece.invariant.1 c.in-Ok.ensures.range))
+    rw c.in_ok-push.ensures.items (
+      joined_more name_text c.loop-piece.versions.items c.in-Ok.version c.deref-piece-items.result.now c.loop-piece.piece-index _ c.loop-piece.invariant.0 (omega arith) (sym c.in-Ok.ensures.spelled),
+      All-push IsVersionName _ _ c.loop-piece.invariant.1 c.in-Ok.ensures.range,
+    )
 
 pub returns-in_default-clause-fault : goal.returns-in_default-clause-fault
 returns-in_default-clause-fault c =
