@@ -14,8 +14,8 @@ use mr_forms::{FormFault, PlainVersions, VersionSet};
 use mr_version::{Author, Version};
 use std::alloc::{AllocError, Global};
 
-/// How many holes an author's column would have.
-fn hole_count<S: Source>(source: &S, author: Author) -> usize
+/// How many holes an author's column of a vector of the source would have. It allocates nothing.
+pub fn hole_count<S: Source>(source: &S, author: Author) -> usize
     ensures { HasHoles (of_author (S.has source.now) author) result }
 {
     let mut count = 0;

@@ -7,3 +7,5 @@ pub mod FragmentLemmas
 pub mod VersionLemmas
 pub mod PartLemmas
 pub mod PlainPartLemmas
+pub mod LearnedLemmas
+pub mod MergedLemmas

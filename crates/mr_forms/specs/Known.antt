@@ -1,4 +1,4 @@
-use Rattle.std.specs.Prelude.{◌≡◌, ◌⊎◌, Bool, ◌||◌, ◌&&◌, List, Option}
+use Rattle.std.specs.Prelude.{◌≡◌, ◌⊎◌, Bool, false, ◌||◌, ◌&&◌, List, Option}
 use Rattle.mr_version.specs.Name.{Name, name_eq}
 use Rattle.mr_forms.specs.Sets.{Versions}
 
@@ -22,6 +22,10 @@ with_below old item set = λ i v. (name_eq item i && set v) || old i v
 abbrev pub with_learned_below : Bool → Pairs → Name → Name → Versions → Pairs
 with_learned_below for_all old item version set = with_below (with_learned for_all old item version) item set
 
+-- the pairs with an item's first version, which names it, for all items, or as they are
+abbrev pub with_first : Bool → Pairs → Name → Pairs
+with_first for_all old item = λ i v. (for_all && name_eq item v) || old i v
+
 -- the pairs of both
 abbrev pub with_pairs : Pairs → Pairs → Pairs
 with_pairs s t = λ i v. t i v || s i v
@@ -38,12 +42,27 @@ pub record Form (K : Type 0) : Type 1 where
   pub known : K → Pairs
   -- which parts its fragments are
   pub is_part : K → Part → Type 0
-  -- whether a version that is learned for an item is learned for all
-  pub learns_for_all : Bool
+  -- whether a version that is learned for an item, with a set below it, is learned for all
+  pub learns_for_all : K → Name → Name → Versions → Bool
+  -- whether the item's first version, where it is in that set, is then learned for all too
+  pub firsts_for_all : K → Name → Name → Versions → Bool
   -- the knowledge that this form has no value for, since a vector of it would have too many holes
   pub has_too_many_holes : Pairs → Type 0
   -- the same, since it would list too many items
   pub has_too_many_items : Pairs → Type 0
+
+-- What is known with a version more, that came with a set below it, but without this set yet. The item's first version may
+-- be learned for all items, where it is in the set: it is no version of another item, so of those it says nothing.
+abbrev pub learned_of : {K : Type 0} → Form K → K → Name → Name → Versions → Pairs
+learned_of form k item version set = with_first (form.firsts_for_all k item version set && set item) (with_learned (form.learns_for_all k item version set) (form.known k) item version) item
+
+-- what is known with a version more that came alone
+abbrev pub learned : {K : Type 0} → Form K → K → Name → Name → Pairs
+learned form k item version = with_learned (form.learns_for_all k item version (λ _. false)) (form.known k) item version
+
+-- what is known then with all of the set for its item
+abbrev pub learned_with : {K : Type 0} → Form K → K → Name → Name → Versions → Pairs
+learned_with form k item version set = with_below (learned_of form k item version set) item set
 
 -- the knowledge would list too many items, and have no vector with too many holes
 abbrev pub IsOnlyOverItems : {K : Type 0} → Form K → Pairs → Type 0

@@ -2,6 +2,7 @@ pub mod Sets
 pub mod Runs
 pub mod Known
 pub mod Covered
+pub mod Merged
 pub mod Parts
 pub mod Listing
 pub mod Fault

@@ -33,7 +33,8 @@ abbrev pub plain_form : Form PlainKnown
 plain_form = record {
   known = plain_known;
   is_part = IsPlainPart;
-  learns_for_all = false;
+  learns_for_all = λ _ _ _ _. false;
+  firsts_for_all = λ _ _ _ _. false;
   has_too_many_holes = λ _. ⊥;
   has_too_many_items = λ _. ⊥;
 }

@@ -262,6 +262,18 @@ impl Knowledge for PlainKnowledge {
         }
     }
 
+    fn may_merge<S: VersionSet>(&self, _fragment: &Fragment<S>) -> Result<(), FormFault> {
+        Ok(())
+    }
+
+    fn with_fragments<S: VersionSet>(&self, fragments: &[Fragment<S>]) -> Result<Self, FormFault> {
+        let mut knowledge = self.copy()?;
+        for fragment in fragments {
+            knowledge.merge(fragment)?;
+        }
+        Ok(knowledge)
+    }
+
     fn fragments(&self) -> Result<Vec<Fragment<PlainVersions>>, FormFault>
         ensures ok { IfOk result (λ fragments. AreSame (plain_known self.now) (all_covered is_listed fragments.items)) }
         ensures items { IfOk result (λ fragments. All (λ fragment. HasItems fragment.items) fragments.items) }

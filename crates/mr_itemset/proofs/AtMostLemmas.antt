@@ -18,7 +18,11 @@ use Rattle.mr_concise.proofs.LastLemmas.{column_has-above}
 use Rattle.mr_concise.proofs.SweepLemmas.{IsColumnOf-unique, at_most-from_holes, at_most-from_none, few-of_authors}
 use Rattle.mr_concise.proofs.UnionLemmas.{column_of-IsColumn, column_has-empty, IsColumn-empty}
 use Rattle.mr_concise.proofs.VectorInsertLemmas.{eq-sym}
-use Rattle.mr_itemset.specs.Folded.{column_upto, HasLeeway}
+use Rattle.mr_itemset.specs.Folded.{column_upto, folded, IsKept, HasAtMost, HasLeeway}
+use Rattle.mr_itemset.specs.Normal.{Normal, normal_known, vector_of}
+use Rattle.mr_itemset.specs.ItemForm.{with_all, HasHoleyItem}
+use Rattle.mr_itemset.proofs.FoldedLemmas.{folded_known}
+use Rattle.mr_itemset.proofs.ItemLemmas.{vector_of-IsVector}
 use Rattle.mr_itemset.proofs.ColumnsLemmas.{upto_low, both_within, upto_means}
 use Rattle.mr_itemset.proofs.KeptLemmas.{one_hole}
 
@@ -113,3 +117,17 @@ leeway_few-with pending version set own most ok few leeway =
     (λ c. regroup (of_author set q c) (of_author own q c) (of_author (in_some name_eq version) q c) (of_author (vector_has pending) q c)) (let room = leeway q in omega arith)
     (at_most-both (of_author (both set own) q) (of_author (both (in_some name_eq version) (vector_has pending)) q) most (1 + length (column_of pending q).holes) (few q)
     (at_most-both (of_author (in_some name_eq version) q) (of_author (vector_has pending) q) 1 (length (column_of pending q).holes) (at_most-some version q) (at_most-vector pending q ok))))
+
+-- WHERE THE HOLES FIT TOGETHER no item has too many with these versions for all items
+pub few_for_all : {limit : ℕ} (settled : Normal) (pending : List AuthorColumn) (most waiting added : ℕ) (learned : Versions) → IsKept limit settled pending most → HasAtMost waiting pending → ColumnsHaveAtMost learned added → (most + waiting) + added ≤ MAX_HOLES → HasHoleyItem (with_all (normal_known (folded settled pending)) learned) → ⊥
+few_for_all settled pending most waiting added learned kept few_pending few_learned room holey =
+    few-of_authors (with_all (normal_known (folded settled pending)) learned holey.item)
+    (λ q. at_most-same (of_author (both learned (both (vector_has pending) (normal_known settled holey.item))) q) (of_author (with_all (normal_known (folded settled pending)) learned holey.item) q) (added + (waiting + most)) MAX_HOLES
+    (λ c. ap (λ (b : Bool). of_author learned q c || b) (sym (folded_known settled pending most kept holey.item (record { author = q; counter = c })))) (omega arith)
+    (at_most-both (of_author learned q) (of_author (both (vector_has pending) (normal_known settled holey.item)) q) added (waiting + most) (few_learned q)
+    (at_most-both (of_author (vector_has pending) q) (of_author (normal_known settled holey.item) q) waiting most (columns_few pending waiting q kept.vector_ok few_pending)
+    (columns_few (vector_of settled holey.item) most q (vector_of-IsVector settled holey.item kept.normal) (kept.few holey.item)))))
+    holey.holes
+  where
+    columns_few : (columns : List AuthorColumn) (few q : ℕ) → IsVectorFrom 0 columns → HasAtMost few columns → HasAtMostHoles (of_author (vector_has columns) q) few
+    columns_few columns few q ok has = at_most-same (of_author (vector_has columns) q) (of_author (vector_has columns) q) (length (column_of columns q).holes) few (λ c. refl) (has q) (at_most-vector columns q ok)

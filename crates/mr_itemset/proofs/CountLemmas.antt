@@ -1,4 +1,4 @@
-use Rattle.std.proofs.Common.{◌≡◌, ◌≤◌, ◌+◌, ◌⊎◌, ◌||◌, not, Bool, true, false, List, [], ◌∷◌, length, All, Contains, refl, sym, ◌∙◌, arith, inl, inr}
+use Rattle.std.proofs.Common.{ℕ, ◌≡◌, ◌≤◌, ◌+◌, ◌⊎◌, ◌||◌, not, Bool, true, false, List, [], ◌∷◌, length, All, Contains, refl, sym, ◌∙◌, arith, inl, inr}
 use Rattle.std.specs.List.{filter}
 use Rattle.std.proofs.lemmas.Bool.{false≢true, cases_Bool}
 use Rattle.std.proofs.lemmas.List.Elements.{All-contains}
@@ -72,13 +72,13 @@ abbrev IsListed : Normal → List AuthorColumn → Type 0
 IsListed k vector = (x : Listed) × (Contains k.listed x × (x.vector ≡ vector))
 
 -- one more of the vectors that are left
-pub counted_one : (k : Normal) (added vector : List AuthorColumn) (vectors rest : List (List AuthorColumn)) → IsNormal k → IsVectorFrom 0 added → Fits k.all added → All (λ x. Fits x.vector added) k.listed → IsListed k vector → vectors ≡ vector ∷ rest → Lacks (both (vector_has added) (vector_has k.all)) (vector_has vector) → length (filter (stays added (united k.all added)) vectors) ≡ length (filter (stays added (united k.all added)) rest) + 1
+pub counted_one : {limit : ℕ} (k : Normal) (added vector : List AuthorColumn) (vectors rest : List (List AuthorColumn)) → IsNormal limit k → IsVectorFrom 0 added → Fits k.all added → All (λ x. Fits x.vector added) k.listed → IsListed k vector → vectors ≡ vector ∷ rest → Lacks (both (vector_has added) (vector_has k.all)) (vector_has vector) → length (filter (stays added (united k.all added)) vectors) ≡ length (filter (stays added (united k.all added)) rest) + 1
 counted_one k added vector vectors rest normal va fits each listed next lacks =
     let more : HasMore k.all listed.0 = All-contains (HasMore k.all) k.listed listed.0 normal.more listed.1.0 in
     let fit : Fits listed.0.vector added = All-contains (λ x. Fits x.vector added) k.listed listed.0 each listed.1.0 in
     rw (next, stays_yes added k.all vector va normal.all_ok (rw listed.1.1 at more.vector_ok) fits (rw listed.1.1 at fit) lacks) (omega arith)
 
-pub counted_none : (k : Normal) (added vector : List AuthorColumn) (vectors rest : List (List AuthorColumn)) → IsNormal k → IsVectorFrom 0 added → Fits k.all added → All (λ x. Fits x.vector added) k.listed → IsListed k vector → vectors ≡ vector ∷ rest → Covers (both (vector_has added) (vector_has k.all)) (vector_has vector) → length (filter (stays added (united k.all added)) vectors) ≡ length (filter (stays added (united k.all added)) rest)
+pub counted_none : {limit : ℕ} (k : Normal) (added vector : List AuthorColumn) (vectors rest : List (List AuthorColumn)) → IsNormal limit k → IsVectorFrom 0 added → Fits k.all added → All (λ x. Fits x.vector added) k.listed → IsListed k vector → vectors ≡ vector ∷ rest → Covers (both (vector_has added) (vector_has k.all)) (vector_has vector) → length (filter (stays added (united k.all added)) vectors) ≡ length (filter (stays added (united k.all added)) rest)
 counted_none k added vector vectors rest normal va fits each listed next covers =
     let more : HasMore k.all listed.0 = All-contains (HasMore k.all) k.listed listed.0 normal.more listed.1.0 in
     let fit : Fits listed.0.vector added = All-contains (λ x. Fits x.vector added) k.listed listed.0 each listed.1.0 in

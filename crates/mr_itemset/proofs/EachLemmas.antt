@@ -9,7 +9,6 @@ use Rattle.std.proofs.lemmas.Map.Keys.{IsDistinct-cons}
 use Rattle.std.proofs.lemmas.Map.Made.{length-le_from_is_member}
 use Rattle.mr_version.specs.Name.{Name, name_eq}
 use Rattle.mr_version.specs.Order.{names_total}
-use Rattle.mr_forms.specs.declared.fragment.TheConstants.{MAX_ITEMS}
 use Rattle.mr_forms.specs.Sets.{Versions, IsSame, Covers, both}
 use Rattle.mr_forms.specs.Known.{AreSame, with_below}
 use Rattle.mr_forms.proofs.SetLemmas.{name_eq-symmetric}
@@ -68,7 +67,7 @@ listed_item q (x ∷ xs) any = go (or_cases (name_eq q x.item) (list_any (name_e
 -- ---- holes
 
 -- an item whose vector would have too many is among these
-pub holey_each : (k : Normal) (items : List Name) (set : Versions) (item : Name) → IsNormal k → Contains items item → HasHoleyItem (with_below (normal_known k) item set) → HasHoleyItem (with_each (normal_known k) items set)
+pub holey_each : {limit : ℕ} (k : Normal) (items : List Name) (set : Versions) (item : Name) → IsNormal limit k → Contains items item → HasHoleyItem (with_below (normal_known k) item set) → HasHoleyItem (with_each (normal_known k) items set)
 holey_each k items set item normal has holey = record {
   item = item;
   holes = subst HasTooManyHoles (same_tests (both set (vector_has (vector_of k item))) (with_each (normal_known k) items set item)
@@ -84,7 +83,7 @@ none_holds f P (i ∷ is) any all holds = go (or_cases (f i) (list_any f is) any
     go (inl here) rest = All-head (λ j. ¬ P j) i is all (holds i here)
     go (inr there) rest = rest there
 
-pub not_holey_each : (k : Normal) (items : List Name) (set : Versions) → IsNormal k → All (λ item. ¬ HasHoleyItem (with_below (normal_known k) item set)) items → HasHoleyItem (with_each (normal_known k) items set) → ⊥
+pub not_holey_each : {limit : ℕ} (k : Normal) (items : List Name) (set : Versions) → IsNormal limit k → All (λ item. ¬ HasHoleyItem (with_below (normal_known k) item set)) items → HasHoleyItem (with_each (normal_known k) items set) → ⊥
 not_holey_each k items set normal none holey = go (cases_Bool (list_any (λ item. name_eq item holey.item) items))
   where
     go : (list_any (λ item. name_eq item holey.item) items ≡ true) ⊎ (list_any (λ item. name_eq item holey.item) items ≡ false) → ⊥
@@ -98,7 +97,7 @@ not_holey_each k items set normal none holey = go (cases_Bool (list_any (λ item
 
 -- ---- a count
 
-pub counts_none : (k : Normal) → IsNormal k → CountsNew k [] 0
+pub counts_none : {limit : ℕ} (k : Normal) → IsNormal limit k → CountsNew k [] 0
 counts_none k normal = record {
   together = items_of k.listed;
   distinct = items_distinct k.listed normal.rising;
@@ -157,7 +156,7 @@ same_both true a up down = sym (up refl)
 same_both false true up down = down refl
 same_both false false up down = refl
 
-pub many_each : (k : Normal) (items : List Name) (set : Versions) (n : ℕ) → IsNormal k → Lacks (vector_has k.all) set → CountsNew k items n → MAX_ITEMS < length k.listed + n → ListsTooMany (with_each (normal_known k) items set)
+pub many_each : {limit : ℕ} (k : Normal) (items : List Name) (set : Versions) (n : ℕ) → IsNormal limit k → Lacks (vector_has k.all) set → CountsNew k items n → limit < length k.listed + n → ListsTooMany limit (with_each (normal_known k) items set)
 many_each k items set n normal lacks c over = record {
   all = vector_has k.all;
   items = c.together;
@@ -184,7 +183,7 @@ many_each k items set n normal lacks c over = record {
         (more.covers v))
 
 -- all but some items have what all had
-all_each : (k : Normal) (items : List Name) (set : Versions) (many : ListsTooMany (with_each (normal_known k) items set)) (v : Name) → vector_has k.all v ≡ many.all v
+all_each : {limit : ℕ} (k : Normal) (items : List Name) (set : Versions) (many : ListsTooMany limit (with_each (normal_known k) items set)) (v : Name) → vector_has k.all v ≡ many.all v
 all_each k items set many v =
     sym (ap (λ (b : Bool). (b && set v) || normal_known k (record { author = 0; counter = suc (top many.items + (top items + top (items_of k.listed))) }) v)
     (any_flip items (record { author = 0; counter = suc (top many.items + (top items + top (items_of k.listed))) }) ∙ free-above (suc (top many.items + (top items + top (items_of k.listed)))) items (omega arith))
@@ -192,7 +191,7 @@ all_each k items set many v =
     ∙ many.rest (record { author = 0; counter = suc (top many.items + (top items + top (items_of k.listed))) }) (free-above (suc (top many.items + (top items + top (items_of k.listed)))) many.items (omega arith)) v
 
 -- few of which something else is known than of all
-few_of : (k : Normal) (items : List Name) (set : Versions) (others : List Name) → ((q : Name) → IsSame (with_each (normal_known k) items set q) (vector_has k.all) ⊎ (list_any (name_eq q) others ≡ true)) → length others ≤ MAX_ITEMS → ListsTooMany (with_each (normal_known k) items set) → ⊥
+few_of : {limit : ℕ} (k : Normal) (items : List Name) (set : Versions) (others : List Name) → ((q : Name) → IsSame (with_each (normal_known k) items set q) (vector_has k.all) ⊎ (list_any (name_eq q) others ≡ true)) → length others ≤ limit → ListsTooMany limit (with_each (normal_known k) items set) → ⊥
 few_of k items set others each few many =
     let fits = length-le_from_is_member (eq_by_cmp_equiv names_total) many.items others many.distinct (λ q any. pick q any (each q)) in
     let over = many.many in
@@ -212,21 +211,21 @@ same_or_among k items set q = go (cases_Bool (list_any (name_eq q) items || list
         let parts = or_parts (list_any (name_eq q) items) (list_any (name_eq q) (items_of k.listed)) apart in
         inl (λ v. ap (λ (b : Bool). (b && set v) || normal_known k q v) (any_flip items q ∙ parts.0) ∙ ap (λ (c : List AuthorColumn). vector_has c v) (vector_in-unlisted k.all k.listed q parts.1))
 
-pub few_counted : (k : Normal) (items : List Name) (set : Versions) (n : ℕ) → CountsNew k items n → length k.listed + n ≤ MAX_ITEMS → ListsTooMany (with_each (normal_known k) items set) → ⊥
+pub few_counted : {limit : ℕ} (k : Normal) (items : List Name) (set : Versions) (n : ℕ) → CountsNew k items n → length k.listed + n ≤ limit → ListsTooMany limit (with_each (normal_known k) items set) → ⊥
 few_counted k items set n c few = few_of k items set c.together (λ q. go q (same_or_among k items set q)) (let many = c.many in omega arith)
   where
     go : (q : Name) → IsSame (with_each (normal_known k) items set q) (vector_has k.all) ⊎ ((list_any (name_eq q) items || list_any (name_eq q) (items_of k.listed)) ≡ true) → IsSame (with_each (normal_known k) items set q) (vector_has k.all) ⊎ (list_any (name_eq q) c.together ≡ true)
     go q (inl same) = inl same
     go q (inr among) = inr (c.members q ∙ among)
 
-pub few_given : (k : Normal) (items : List Name) (set : Versions) → length k.listed + length items ≤ MAX_ITEMS → ListsTooMany (with_each (normal_known k) items set) → ⊥
+pub few_given : {limit : ℕ} (k : Normal) (items : List Name) (set : Versions) → length k.listed + length items ≤ limit → ListsTooMany limit (with_each (normal_known k) items set) → ⊥
 few_given k items set few = few_of k items set (items ++ items_of k.listed) (λ q. go q (same_or_among k items set q)) (let same : length (items_of k.listed) ≡ length k.listed = length-map k.listed (λ x. x.item) in simp length-append (omega arith))
   where
     go : (q : Name) → IsSame (with_each (normal_known k) items set q) (vector_has k.all) ⊎ ((list_any (name_eq q) items || list_any (name_eq q) (items_of k.listed)) ≡ true) → IsSame (with_each (normal_known k) items set q) (vector_has k.all) ⊎ (list_any (name_eq q) (items ++ items_of k.listed) ≡ true)
     go q (inl same) = inl same
     go q (inr among) = inr (list_any-append (name_eq q) items (items_of k.listed) ∙ among)
 
-pub few_covered : (k : Normal) (items : List Name) (set : Versions) → IsNormal k → Covers (vector_has k.all) set → ListsTooMany (with_each (normal_known k) items set) → ⊥
+pub few_covered : {limit : ℕ} (k : Normal) (items : List Name) (set : Versions) → IsNormal limit k → Covers (vector_has k.all) set → ListsTooMany limit (with_each (normal_known k) items set) → ⊥
 few_covered k items set normal covers = few_of k items set (items_of k.listed) (λ q. go q (cases_Bool (list_any (name_eq q) (items_of k.listed)))) (let same : length (items_of k.listed) ≡ length k.listed = length-map k.listed (λ x. x.item) in let few = normal.few in omega arith)
   where
     nothing_new : (b s a : Bool) → (s ≡ true → a ≡ true) → ((b && s) || a) ≡ a
@@ -264,9 +263,9 @@ nothing_each true true a false h up = up (h refl)
 nothing_each true false a false h up = refl
 nothing_each false s a false h up = refl
 
-pub covered_each : (k : Normal) (items : List Name) (set : Versions) → IsNormal k → Covers (vector_has k.all) set → AreSame (normal_known k) (with_each (normal_known k) items set)
+pub covered_each : {limit : ℕ} (k : Normal) (items : List Name) (set : Versions) → IsNormal limit k → Covers (vector_has k.all) set → AreSame (normal_known k) (with_each (normal_known k) items set)
 covered_each k items set normal covers i v = nothing_each (list_any (λ item. name_eq item i) items) (set v) (vector_has k.all v) (normal_known k i v) (covers v) (covers_all k i v normal)
 
-pub not_holey_covered : (k : Normal) (items : List Name) (set : Versions) → IsNormal k → Covers (vector_has k.all) set → HasHoleyItem (with_each (normal_known k) items set) → ⊥
+pub not_holey_covered : {limit : ℕ} (k : Normal) (items : List Name) (set : Versions) → IsNormal limit k → Covers (vector_has k.all) set → HasHoleyItem (with_each (normal_known k) items set) → ⊥
 not_holey_covered k items set normal covers holey =
     few-vector (vector_of k holey.item) (with_each (normal_known k) items set holey.item) (vector_of-IsVector k holey.item normal) (covered_each k items set normal covers holey.item) holey.holes

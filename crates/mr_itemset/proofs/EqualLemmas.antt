@@ -1,4 +1,4 @@
-use Rattle.std.proofs.Common.{◌≡◌, Bool, ap, sym, ◌∙◌, List}
+use Rattle.std.proofs.Common.{ℕ, ◌≡◌, Bool, ap, sym, ◌∙◌, List}
 use Rattle.std.specs.Bool.{Decides}
 use Rattle.std.specs.Cmp.Lexicographic.{pointwise, pointwise_decides}
 use Rattle.std.specs.Cmp.Derive.{both_true}
@@ -24,7 +24,8 @@ listed_Decides a b = (
   λ e. both_true (ap (λ (z : Listed). name_eq a.item z.item) (sym e) ∙ name_eq-itself a.item) ((vectors_Decides a.vector b.vector).1 (ap (λ (z : Listed). z.vector) e)),
 )
 
-normals_Decide : (a b : Normal) → IsNormal a → IsNormal b → Decides (normal_eq a b) (AreSame (normal_known a) (normal_known b))
+-- the test part by part decides whether the same is known
+pub normals_Decide : {limit : ℕ} (a b : Normal) → IsNormal limit a → IsNormal limit b → Decides (normal_eq a b) (AreSame (normal_known a) (normal_known b))
 normals_Decide a b na nb = (
   λ t i v.
       let p = and_parts (vector_eq a.all b.all) (pointwise listed_eq a.listed b.listed) t in
@@ -35,5 +36,5 @@ normals_Decide a b na nb = (
 )
 
 -- WHAT DECIDES that the same is known is the test part by part
-pub equal_from_same : (a b : Normal) (result : Bool) → IsNormal a → IsNormal b → IsTrue result ↔ AreSame (normal_known a) (normal_known b) → result ≡ normal_eq a b
+pub equal_from_same : {limit : ℕ} (a b : Normal) (result : Bool) → IsNormal limit a → IsNormal limit b → IsTrue result ↔ AreSame (normal_known a) (normal_known b) → result ≡ normal_eq a b
 equal_from_same a b result na nb both = same_from_decides result (normal_eq a b) both (normals_Decide a b na nb)

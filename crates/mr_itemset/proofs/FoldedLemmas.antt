@@ -111,23 +111,23 @@ gained_is added all before (x ∷ xs) va vall same rising more fits =
 
 -- ---- the whole
 
-pub kept_fits : (settled : Normal) (pending : List AuthorColumn) (most : ℕ) (i : Name) → IsKept settled pending most → Fits (vector_of settled i) pending
+pub kept_fits : {limit : ℕ} (settled : Normal) (pending : List AuthorColumn) (most : ℕ) (i : Name) → IsKept limit settled pending most → Fits (vector_of settled i) pending
 kept_fits settled pending most i kept q = let few = kept.few i q in let room = kept.room q in omega arith
 
-pub kept_fits-all : (settled : Normal) (pending : List AuthorColumn) (most : ℕ) → IsKept settled pending most → Fits settled.all pending
+pub kept_fits-all : {limit : ℕ} (settled : Normal) (pending : List AuthorColumn) (most : ℕ) → IsKept limit settled pending most → Fits settled.all pending
 kept_fits-all settled pending most kept = let free = free_item settled in subst (λ (c : List AuthorColumn). Fits c pending) free.1 (kept_fits settled pending most free.0 kept)
 
-pub kept_fits-listed : (settled : Normal) (pending : List AuthorColumn) (most : ℕ) → IsKept settled pending most → All (λ x. Fits x.vector pending) settled.listed
+pub kept_fits-listed : {limit : ℕ} (settled : Normal) (pending : List AuthorColumn) (most : ℕ) → IsKept limit settled pending most → All (λ x. Fits x.vector pending) settled.listed
 kept_fits-listed settled pending most kept =
     All-weaker (Contains settled.listed) (λ x. Fits x.vector pending)
     (λ x has. subst (λ (c : List AuthorColumn). Fits c pending) (vector_in-has settled.all settled.listed x kept.normal.rising has) (kept_fits settled pending most x.item kept)) settled.listed (All-contains_itself settled.listed)
 
-folded_grown : (settled : Normal) (pending : List AuthorColumn) (most : ℕ) → IsKept settled pending most → IsGrown (vector_has pending) (united settled.all pending) settled.listed (gained pending (united settled.all pending) settled.listed)
+folded_grown : {limit : ℕ} (settled : Normal) (pending : List AuthorColumn) (most : ℕ) → IsKept limit settled pending most → IsGrown (vector_has pending) (united settled.all pending) settled.listed (gained pending (united settled.all pending) settled.listed)
 folded_grown settled pending most kept =
     let fits = kept_fits-all settled pending most kept in
     gained_is pending (united settled.all pending) settled.all settled.listed kept.vector_ok (united-vector settled.all pending kept.normal.all_ok kept.vector_ok fits) (united-has settled.all pending kept.normal.all_ok kept.vector_ok fits) kept.normal.rising kept.normal.more (kept_fits-listed settled pending most kept)
 
-pub folded_normal : (settled : Normal) (pending : List AuthorColumn) (most : ℕ) → IsKept settled pending most → IsNormal (folded settled pending)
+pub folded_normal : {limit : ℕ} (settled : Normal) (pending : List AuthorColumn) (most : ℕ) → IsKept limit settled pending most → IsNormal limit (folded settled pending)
 unfolding folded
 folded_normal settled pending most kept =
     let grown = folded_grown settled pending most kept in
@@ -139,7 +139,7 @@ folded_normal settled pending most kept =
     }
 
 -- THE MEANING of what is kept
-pub folded_known : (settled : Normal) (pending : List AuthorColumn) (most : ℕ) → IsKept settled pending most → AreSame (normal_known (folded settled pending)) (with_all (normal_known settled) (vector_has pending))
+pub folded_known : {limit : ℕ} (settled : Normal) (pending : List AuthorColumn) (most : ℕ) → IsKept limit settled pending most → AreSame (normal_known (folded settled pending)) (with_all (normal_known settled) (vector_has pending))
 unfolding folded
 folded_known settled pending most kept =
     grown_known (vector_has pending) settled (folded settled pending) kept.normal (folded_grown settled pending most kept)
@@ -148,14 +148,14 @@ folded_known settled pending most kept =
 pub same_pairs : (s t : Pairs) → AreSame s t → s ≡ t
 same_pairs s t same = λ k i v. same i v k
 
-pub folded_pairs : (settled : Normal) (pending : List AuthorColumn) (most : ℕ) → IsKept settled pending most → normal_known (folded settled pending) ≡ with_all (normal_known settled) (vector_has pending)
+pub folded_pairs : {limit : ℕ} (settled : Normal) (pending : List AuthorColumn) (most : ℕ) → IsKept limit settled pending most → normal_known (folded settled pending) ≡ with_all (normal_known settled) (vector_has pending)
 folded_pairs settled pending most kept = same_pairs (normal_known (folded settled pending)) (with_all (normal_known settled) (vector_has pending)) (folded_known settled pending most kept)
 
 -- where nothing is pending it is what is settled
-pub folded_nothing : (settled : Normal) (most : ℕ) → IsKept settled [] most → folded settled [] ≡ settled
+pub folded_nothing : {limit : ℕ} (settled : Normal) (most : ℕ) → IsKept limit settled [] most → folded settled [] ≡ settled
 folded_nothing settled most kept = normal_unique (folded settled []) settled (folded_normal settled [] most kept) kept.normal
     (λ i v. folded_known settled [] most kept i v ∙ ap (λ (b : Bool). b || normal_known settled i v) (column_has-empty v.counter))
 
 -- no item of a value has too many holes
-pub normal_few : (k : Normal) → IsNormal k → HasHoleyItem (normal_known k) → ⊥
+pub normal_few : {limit : ℕ} (k : Normal) → IsNormal limit k → HasHoleyItem (normal_known k) → ⊥
 normal_few k normal holey = few-vector (vector_of k holey.item) (normal_known k holey.item) (vector_of-IsVector k holey.item normal) (λ v. refl) holey.holes

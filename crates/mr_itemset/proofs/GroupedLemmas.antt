@@ -11,6 +11,7 @@ use Rattle.std.proofs.lemmas.List.Kept.{AllPairs-cons}
 use Rattle.mr_version.specs.Name.{Name, name_cmp, name_eq}
 use Rattle.mr_version.specs.Order.{names_total}
 use Rattle.mr_forms.specs.Sets.{IsSame}
+use Rattle.mr_forms.specs.declared.fragment.TheConstants.{MAX_ITEMS}
 use Rattle.mr_forms.specs.Known.{Part}
 use Rattle.mr_forms.specs.Parts.{AreListable, ComesFirst, AreInOrder}
 use Rattle.mr_forms.proofs.SetLemmas.{name_eq-symmetric}
@@ -258,10 +259,10 @@ groups_in k = all_grouped [] k.listed
 abbrev pub parts_in : Normal → List Part
 parts_in k = (record { items = None; versions = vector_has k.all }) ∷ map part_of_group (groups_in k)
 
-are_groups : (k : Normal) → IsNormal k → AreGroups k.all (length k.listed + 0) (groups_in k)
+are_groups : (k : Normal) → IsNormal MAX_ITEMS k → AreGroups k.all (length k.listed + 0) (groups_in k)
 are_groups k normal = all_groups k.all 0 [] k.listed (no_groups k.all) normal.rising normal.more (λ j d within. All-nil (EndsBefore (get_or k.listed j d).item))
 
-in_order : (k : Normal) → IsNormal k → AreInOrder (parts_in k)
+in_order : (k : Normal) → IsNormal MAX_ITEMS k → AreInOrder (parts_in k)
 in_order k normal =
     let are = are_groups k normal in
     let few = normal.few in
@@ -273,7 +274,7 @@ in_order k normal =
           (AllPairs-map (λ p q. ComesFirst p.items q.items) part_of_group (groups_in k) are.by_first);
     }
 
-pub parts_are_normal : (k : Normal) → IsNormal k → AreNormalOf k (parts_in k)
+pub parts_are_normal : (k : Normal) → IsNormal MAX_ITEMS k → AreNormalOf k (parts_in k)
 parts_are_normal k normal =
     let are = are_groups k normal in
     record {
@@ -291,7 +292,7 @@ parts_are_normal k normal =
     }
 
 -- EACH KNOWLEDGE HAS ONE NORMAL FORM
-pub one_form : (k : Normal) → IsNormal k → HasOneNormalForm k
+pub one_form : (k : Normal) → IsNormal MAX_ITEMS k → HasOneNormalForm k
 one_form k normal = record {
   parts = parts_in k;
   are = parts_are_normal k normal;

@@ -66,7 +66,7 @@ before_next set all old new x grown before k d within =
         go (suc j) inside rest = rest j (omega arith)
 
 -- THE GROWN KNOWLEDGE knows what was known, and the set for all items
-pub grown_known : (set : Versions) (k new : Normal) → IsNormal k → IsGrown set new.all k.listed new.listed → IsSame (vector_has new.all) (both set (vector_has k.all)) → AreSame (normal_known new) (with_all (normal_known k) set)
+pub grown_known : {limit : ℕ} (set : Versions) (k new : Normal) → IsNormal limit k → IsGrown set new.all k.listed new.listed → IsSame (vector_has new.all) (both set (vector_has k.all)) → AreSame (normal_known new) (with_all (normal_known k) set)
 grown_known set k new normal grown all i v = go (vector_in-cases new.all new.listed i)
   where
     has : List AuthorColumn → Bool

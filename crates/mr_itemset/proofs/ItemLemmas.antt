@@ -1,4 +1,4 @@
-use Rattle.std.proofs.Common.{◌≡◌, ◌≤◌, ◌⊎◌, suc, Bool, true, false, cond, ◌||◌, ◌&&◌, List, [], ◌∷◌, length, All, AllPairs, Contains, refl, ap, sym, ◌∙◌, subst, arith, inl, inr}
+use Rattle.std.proofs.Common.{ℕ, ◌≡◌, ◌≤◌, ◌⊎◌, suc, Bool, true, false, cond, ◌||◌, ◌&&◌, List, [], ◌∷◌, length, All, AllPairs, Contains, refl, ap, sym, ◌∙◌, subst, arith, inl, inr}
 use Rattle.std.specs.declared.cmp.Ordering.{Ordering}
 use Rattle.std.specs.declared.cmp.Ordering.TheVariants.{Less, Equal, Greater}
 use Rattle.std.specs.Ordering.{is_eq, is_lt}
@@ -7,7 +7,6 @@ use Rattle.std.proofs.lemmas.Bool.{false≢true, cases_Bool, or_cases, or_parts}
 use Rattle.std.proofs.lemmas.List.Elements.{All-contains, All-head, All-tail, All-weaker}
 use Rattle.mr_version.specs.Name.{Name, name_cmp, name_eq}
 use Rattle.mr_version.specs.Order.{names_total}
-use Rattle.mr_forms.specs.declared.fragment.TheConstants.{MAX_ITEMS}
 use Rattle.mr_forms.specs.Sets.{Versions, IsSame, both}
 use Rattle.mr_forms.specs.Known.{AreSame, with_below}
 use Rattle.mr_forms.proofs.SetLemmas.{name_eq-symmetric}
@@ -27,14 +26,14 @@ use Rattle.mr_itemset.proofs.PlaceLemmas.{name_cases, All-placed, rising-placed,
 -- ---- what is known of an item
 
 -- each item's vector is one, and has all that all items have
-pub vector_of-IsVector : (k : Normal) (i : Name) → IsNormal k → IsVectorFrom 0 (vector_of k i)
+pub vector_of-IsVector : {limit : ℕ} (k : Normal) (i : Name) → IsNormal limit k → IsVectorFrom 0 (vector_of k i)
 vector_of-IsVector k i normal = go (vector_in-cases k.all k.listed i)
   where
     go : (vector_in k.all k.listed i ≡ k.all) ⊎ ((x : Listed) × (Contains k.listed x × ((x.item ≡ i) × (vector_in k.all k.listed i ≡ x.vector)))) → IsVectorFrom 0 (vector_of k i)
     go (inl e) = subst (IsVectorFrom 0) (sym e) normal.all_ok
     go (inr x) = subst (IsVectorFrom 0) (sym x.1.1.1) (All-contains (HasMore k.all) k.listed x.0 normal.more x.1.0).vector_ok
 
-pub covers_all : (k : Normal) (i v : Name) → IsNormal k → vector_has k.all v ≡ true → vector_has (vector_of k i) v ≡ true
+pub covers_all : {limit : ℕ} (k : Normal) (i v : Name) → IsNormal limit k → vector_has k.all v ≡ true → vector_has (vector_of k i) v ≡ true
 covers_all k i v normal has = go (vector_in-cases k.all k.listed i)
   where
     go : (vector_in k.all k.listed i ≡ k.all) ⊎ ((x : Listed) × (Contains k.listed x × ((x.item ≡ i) × (vector_in k.all k.listed i ≡ x.vector)))) → vector_has (vector_of k i) v ≡ true
@@ -52,7 +51,7 @@ absorbed true false grown false is same covers = let wrong : false ≡ true = sy
 absorbed false false grown all is same covers = refl
 
 -- where the item then has no more than all, nothing changes
-pub item_kept : (k : Normal) (set : Versions) (item : Name) (vector : List AuthorColumn) → IsNormal k → IsSame (vector_has vector) (both set (vector_has (vector_of k item))) → IsSame (vector_has vector) (vector_has k.all) → AreSame (normal_known k) (with_below (normal_known k) item set)
+pub item_kept : {limit : ℕ} (k : Normal) (set : Versions) (item : Name) (vector : List AuthorColumn) → IsNormal limit k → IsSame (vector_has vector) (both set (vector_has (vector_of k item))) → IsSame (vector_has vector) (vector_has k.all) → AreSame (normal_known k) (with_below (normal_known k) item set)
 item_kept k set item vector normal grown same i v = go (cases_Bool (name_eq item i))
   where
     go : (name_eq item i ≡ true) ⊎ (name_eq item i ≡ false) → normal_known k i v ≡ ((name_eq item i && set v) || normal_known k i v)
@@ -110,21 +109,21 @@ length-placed-listed new (x ∷ xs) rising any = go (cases_Bool (is_lt (name_cmp
             let none : (name_eq new.item x.item || list_any (name_eq new.item) (items_of xs)) ≡ false = rw (ap is_eq m, free) refl in
             false≢true (sym none ∙ any)
 
-few_placed : (k : Normal) (set : Versions) (item : Name) (vector : List AuthorColumn) → IsNormal k → HasRoom k item set → IsSame (vector_has vector) (both set (vector_has (vector_of k item))) → (IsSame (vector_has vector) (vector_has k.all) → ⊥) → length (placed (record { item = item; vector = vector }) k.listed) ≤ MAX_ITEMS
-few_placed k set item vector normal (inl room) grown more = let up = length-placed (record { item = item; vector = vector }) k.listed in omega arith
-few_placed k set item vector normal (inr (inl listed)) grown more = let up = length-placed-listed (record { item = item; vector = vector }) k.listed normal.rising listed in let few = normal.few in omega arith
-few_placed k set item vector normal (inr (inr covers)) grown more = go (cases_Bool (list_any (name_eq item) (items_of k.listed)))
+few_placed : {limit : ℕ} (k : Normal) (set : Versions) (item : Name) (vector : List AuthorColumn) → IsNormal limit k → HasRoom limit k item set → IsSame (vector_has vector) (both set (vector_has (vector_of k item))) → (IsSame (vector_has vector) (vector_has k.all) → ⊥) → length (placed (record { item = item; vector = vector }) k.listed) ≤ limit
+few_placed {limit = limit} k set item vector normal (inl room) grown more = let up = length-placed (record { item = item; vector = vector }) k.listed in omega arith
+few_placed {limit = limit} k set item vector normal (inr (inl listed)) grown more = let up = length-placed-listed (record { item = item; vector = vector }) k.listed normal.rising listed in let few = normal.few in omega arith
+few_placed {limit = limit} k set item vector normal (inr (inr covers)) grown more = go (cases_Bool (list_any (name_eq item) (items_of k.listed)))
   where
     nothing_new : (s a : Bool) → (s ≡ true → a ≡ true) → (s || a) ≡ a
     nothing_new true a h = sym (h refl)
     nothing_new false a h = refl
 
-    go : (list_any (name_eq item) (items_of k.listed) ≡ true) ⊎ (list_any (name_eq item) (items_of k.listed) ≡ false) → length (placed (record { item = item; vector = vector }) k.listed) ≤ MAX_ITEMS
+    go : (list_any (name_eq item) (items_of k.listed) ≡ true) ⊎ (list_any (name_eq item) (items_of k.listed) ≡ false) → length (placed (record { item = item; vector = vector }) k.listed) ≤ limit
     go (inl listed) = let up = length-placed-listed (record { item = item; vector = vector }) k.listed normal.rising listed in let few = normal.few in omega arith
     go (inr free) = absurd (more (λ v. grown v ∙ ap (λ (c : List AuthorColumn). set v || vector_has c v) (vector_in-unlisted k.all k.listed item free) ∙ nothing_new (set v) (vector_has k.all v) (covers v)))
 
 -- the placed item is in normal form
-pub item_normal : (k : Normal) (set : Versions) (item : Name) (vector : List AuthorColumn) → IsNormal k → HasRoom k item set → IsVectorFrom 0 vector → IsSame (vector_has vector) (both set (vector_has (vector_of k item))) → (IsSame (vector_has vector) (vector_has k.all) → ⊥) → IsNormal (with_item k item vector)
+pub item_normal : {limit : ℕ} (k : Normal) (set : Versions) (item : Name) (vector : List AuthorColumn) → IsNormal limit k → HasRoom limit k item set → IsVectorFrom 0 vector → IsSame (vector_has vector) (both set (vector_has (vector_of k item))) → (IsSame (vector_has vector) (vector_has k.all) → ⊥) → IsNormal limit (with_item k item vector)
 item_normal k set item vector normal room vector_ok grown more = record {
   all_ok = normal.all_ok;
   rising = rising-placed (record { item = item; vector = vector }) k.listed normal.rising;
@@ -141,7 +140,7 @@ item_normal k set item vector normal room vector_ok grown more = record {
 pub same_tests : (s t : Versions) → ((v : Name) → s v ≡ t v) → s ≡ t
 same_tests s t h = λ i v. h v i
 
-pub item_from_holey : (k : Normal) (set : Versions) (item : Name) → IsNormal k → HasHoleyItem (with_below (normal_known k) item set) → HasTooManyHoles (both set (vector_has (vector_of k item)))
+pub item_from_holey : {limit : ℕ} (k : Normal) (set : Versions) (item : Name) → IsNormal limit k → HasHoleyItem (with_below (normal_known k) item set) → HasTooManyHoles (both set (vector_has (vector_of k item)))
 item_from_holey k set item normal holey = go (cases_Bool (name_eq item holey.item))
   where
     go : (name_eq item holey.item ≡ true) ⊎ (name_eq item holey.item ≡ false) → HasTooManyHoles (both set (vector_has (vector_of k item)))
@@ -151,7 +150,7 @@ item_from_holey k set item normal holey = go (cases_Bool (name_eq item holey.ite
         (λ v. sym (ap (λ (b : Bool). (b && set v) || normal_known k holey.item v) other)) holey.holes)
 
 -- what the item lacks of a set, all items lack
-pub more_than_all : (k : Normal) (set : Versions) (item : Name) (vector : List AuthorColumn) → IsNormal k → Lacks (vector_has (vector_of k item)) set → IsSame (vector_has vector) (both set (vector_has (vector_of k item))) → IsSame (vector_has vector) (vector_has k.all) → ⊥
+pub more_than_all : {limit : ℕ} (k : Normal) (set : Versions) (item : Name) (vector : List AuthorColumn) → IsNormal limit k → Lacks (vector_has (vector_of k item)) set → IsSame (vector_has vector) (both set (vector_has (vector_of k item))) → IsSame (vector_has vector) (vector_has k.all) → ⊥
 more_than_all k set item vector normal lacks grown same =
     false≢true (sym lacks.is_out ∙ covers_all k item lacks.version normal (sym (same lacks.version) ∙ grown lacks.version ∙ ap (λ (b : Bool). b || vector_has (vector_of k item) lacks.version) lacks.is_in))
 

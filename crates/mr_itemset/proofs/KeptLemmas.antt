@@ -85,7 +85,7 @@ pending_room pending new v most range ok new_ok has leeway q =
     rw same (omega arith)
 
 -- WITH LEEWAY no item has too many holes with a version more
-pub leeway_few : (settled : Normal) (pending : List AuthorColumn) (most : ℕ) (v : Name) → IsKept settled pending most → InRange v → HasLeeway pending most → HasHoleyItem (with_all (normal_known (folded settled pending)) (name_eq v)) → ⊥
+pub leeway_few : {limit : ℕ} (settled : Normal) (pending : List AuthorColumn) (most : ℕ) (v : Name) → IsKept limit settled pending most → InRange v → HasLeeway pending most → HasHoleyItem (with_all (normal_known (folded settled pending)) (name_eq v)) → ⊥
 leeway_few settled pending most v kept range leeway holey =
     few-vector (united (united (vector_of settled holey.item) pending) (one v)) (with_all (normal_known (folded settled pending)) (name_eq v) holey.item)
     (united-vector (united (vector_of settled holey.item) pending) (one v) both_ok (one-vector v range) fits)
@@ -106,7 +106,7 @@ leeway_few settled pending most v kept range leeway holey =
 
 -- ---- an item's versions more
 
-pub sparse_item : (k new : Normal) (item : Name) (set : Versions) (most more : ℕ) → IsNormal k → IsNormal new → IsSparse k most → most ≤ more → ((columns : List AuthorColumn) → IsVectorOf (both set (vector_has (vector_of k item))) columns → HasAtMost more columns) → AreSame (normal_known new) (with_below (normal_known k) item set) → IsSparse new more
+pub sparse_item : {limit : ℕ} (k new : Normal) (item : Name) (set : Versions) (most more : ℕ) → IsNormal limit k → IsNormal limit new → IsSparse k most → most ≤ more → ((columns : List AuthorColumn) → IsVectorOf (both set (vector_has (vector_of k item))) columns → HasAtMost more columns) → AreSame (normal_known new) (with_below (normal_known k) item set) → IsSparse new more
 sparse_item k new item set most more nk nn sparse le few same i q = go (cases_Bool (name_eq item i))
   where
     go : (name_eq item i ≡ true) ⊎ (name_eq item i ≡ false) → length (column_of (vector_of new i) q).holes ≤ more
@@ -142,12 +142,12 @@ sparse_all k most all listed i = go (vector_in-cases k.all k.listed i)
     go (inl e) = subst (HasAtMost most) (sym e) all
     go (inr x) = subst (HasAtMost most) (sym x.1.1.1) (All-contains (λ y. HasAtMost most y.vector) k.listed x.0 listed x.1.0)
 
-pub kept_alone : (k : Normal) (most : ℕ) → IsNormal k → IsSparse k most → most ≤ MAX_HOLES → IsKept k [] most
+pub kept_alone : {limit : ℕ} (k : Normal) (most : ℕ) → IsNormal limit k → IsSparse k most → most ≤ MAX_HOLES → IsKept limit k [] most
 kept_alone k most normal sparse bound = record { normal = normal; vector_ok = tt; few = sparse; room = λ q. omega arith }
 
 -- ---- growth of what is kept
 
-pub learned_kept : (settled : Normal) (pending new : List AuthorColumn) (v : Name) (most : ℕ) → IsKept settled pending most → InRange v → HasLeeway pending most → IsVectorFrom 0 new → IsSame (vector_has new) (with_version (vector_has pending) v) → IsKept settled new most
+pub learned_kept : {limit : ℕ} (settled : Normal) (pending new : List AuthorColumn) (v : Name) (most : ℕ) → IsKept limit settled pending most → InRange v → HasLeeway pending most → IsVectorFrom 0 new → IsSame (vector_has new) (with_version (vector_has pending) v) → IsKept limit settled new most
 learned_kept settled pending new v most kept range leeway ok has = record {
   normal = kept.normal;
   vector_ok = ok;
@@ -159,12 +159,12 @@ assoc : (a b c : Bool) → ((a || b) || c) ≡ (a || (b || c))
 assoc true b c = refl
 assoc false b c = refl
 
-pub learned_known : (settled : Normal) (pending new : List AuthorColumn) (v : Name) (most : ℕ) → IsKept settled pending most → IsKept settled new most → IsSame (vector_has new) (with_version (vector_has pending) v) → AreSame (normal_known (folded settled new)) (with_all (normal_known (folded settled pending)) (name_eq v))
+pub learned_known : {limit : ℕ} (settled : Normal) (pending new : List AuthorColumn) (v : Name) (most : ℕ) → IsKept limit settled pending most → IsKept limit settled new most → IsSame (vector_has new) (with_version (vector_has pending) v) → AreSame (normal_known (folded settled new)) (with_all (normal_known (folded settled pending)) (name_eq v))
 learned_known settled pending new v most kept kept' has i w =
     folded_known settled new most kept' i w ∙ ap (λ (b : Bool). b || normal_known settled i w) (has w)
     ∙ assoc (name_eq v w) (vector_has pending w) (normal_known settled i w) ∙ ap (λ (b : Bool). name_eq v w || b) (sym (folded_known settled pending most kept i w))
 
-pub below_kept : (settled new : Normal) (pending : List AuthorColumn) (most : ℕ) → IsNormal new → IsSparse new most → IsVectorFrom 0 pending → ((q : ℕ) → most + length (column_of pending q).holes ≤ MAX_HOLES) → IsKept new pending most
+pub below_kept : {limit : ℕ} (settled new : Normal) (pending : List AuthorColumn) (most : ℕ) → IsNormal limit new → IsSparse new most → IsVectorFrom 0 pending → ((q : ℕ) → most + length (column_of pending q).holes ≤ MAX_HOLES) → IsKept limit new pending most
 below_kept settled new pending most normal sparse ok room = record { normal = normal; vector_ok = ok; few = sparse; room = room }
 
 exchange : (p b k : Bool) → (p || (b || k)) ≡ (b || (p || k))
@@ -189,11 +189,11 @@ covered_set k learned item set covers i w = go (cases_Bool (name_eq item i)) (ca
 pub covered_below : (settled : Normal) (pending : List AuthorColumn) (item : Name) (set : Versions) → Covers (both (vector_has pending) (vector_has (vector_of settled item))) set → AreSame (with_all (normal_known settled) (vector_has pending)) (with_below (with_all (normal_known settled) (vector_has pending)) item set)
 covered_below settled pending item set covers = covered_set settled (vector_has pending) item set covers
 
-pub below_known : (settled new : Normal) (pending : List AuthorColumn) (most more : ℕ) (item : Name) (set : Versions) → IsKept settled pending most → IsKept new pending more → AreSame (with_all (normal_known new) (vector_has pending)) (with_below (with_all (normal_known settled) (vector_has pending)) item set) → AreSame (normal_known (folded new pending)) (with_below (normal_known (folded settled pending)) item set)
+pub below_known : {limit : ℕ} (settled new : Normal) (pending : List AuthorColumn) (most more : ℕ) (item : Name) (set : Versions) → IsKept limit settled pending most → IsKept limit new pending more → AreSame (with_all (normal_known new) (vector_has pending)) (with_below (with_all (normal_known settled) (vector_has pending)) item set) → AreSame (normal_known (folded new pending)) (with_below (normal_known (folded settled pending)) item set)
 below_known settled new pending most more item set kept kept' same i w =
     folded_known new pending more kept' i w ∙ same i w ∙ ap (λ (b : Bool). (name_eq item i && set w) || b) (sym (folded_known settled pending most kept i w))
 
-pub with_known : (settled new : Normal) (pending more_pending : List AuthorColumn) (most more : ℕ) (item v : Name) (set : Versions) → IsKept settled pending most → IsKept new more_pending more → IsSame (vector_has more_pending) (with_version (vector_has pending) v) → AreSame (with_all (normal_known new) (vector_has more_pending)) (with_below (with_all (normal_known settled) (vector_has more_pending)) item set) → AreSame (normal_known (folded new more_pending)) (with_learned_below true (normal_known (folded settled pending)) item v set)
+pub with_known : {limit : ℕ} (settled new : Normal) (pending more_pending : List AuthorColumn) (most more : ℕ) (item v : Name) (set : Versions) → IsKept limit settled pending most → IsKept limit new more_pending more → IsSame (vector_has more_pending) (with_version (vector_has pending) v) → AreSame (with_all (normal_known new) (vector_has more_pending)) (with_below (with_all (normal_known settled) (vector_has more_pending)) item set) → AreSame (normal_known (folded new more_pending)) (with_learned_below true (normal_known (folded settled pending)) item v set)
 with_known settled new pending more_pending most more item v set kept kept' has same i w =
     folded_known new more_pending more kept' i w ∙ same i w ∙ ap (λ (b : Bool). (name_eq item i && set w) || (b || normal_known settled i w)) (has w)
     ∙ ap (λ (b : Bool). (name_eq item i && set w) || b) (assoc (name_eq v w) (vector_has pending w) (normal_known settled i w))
@@ -210,7 +210,7 @@ columns_at low (y ∷ ys) zero x ok within is = rw is ok.2
 columns_at low (y ∷ ys) (suc k) x ok within is = columns_at (y.author + 1) ys k x ok.3 (omega arith) is
 
 -- what is pending, or listed for the item, need not be listed once the version is learned
-pub covered_with : (settled : Normal) (pending : List AuthorColumn) (most : ℕ) (item v : Name) (set : Versions) → IsKept settled pending most → Covers (both (both (name_eq v) (vector_has pending)) (vector_has (vector_of settled item))) set → AreSame (with_all (normal_known (folded settled pending)) (name_eq v)) (with_learned_below true (normal_known (folded settled pending)) item v set)
+pub covered_with : {limit : ℕ} (settled : Normal) (pending : List AuthorColumn) (most : ℕ) (item v : Name) (set : Versions) → IsKept limit settled pending most → Covers (both (both (name_eq v) (vector_has pending)) (vector_has (vector_of settled item))) set → AreSame (with_all (normal_known (folded settled pending)) (name_eq v)) (with_learned_below true (normal_known (folded settled pending)) item v set)
 covered_with settled pending most item v set kept covers i w = go (cases_Bool (name_eq item i)) (cases_Bool (set w))
   where
     go : (name_eq item i ≡ true) ⊎ (name_eq item i ≡ false) → (set w ≡ true) ⊎ (set w ≡ false) → (name_eq v w || normal_known (folded settled pending) i w) ≡ ((name_eq item i && set w) || (name_eq v w || normal_known (folded settled pending) i w))
@@ -220,5 +220,5 @@ covered_with settled pending most item v set kept covers i w = go (cases_Bool (n
         (ap (λ (b : Bool). name_eq v w || b) (folded_known settled pending most kept i w) ∙ sym (assoc (name_eq v w) (vector_has pending w) (normal_known settled i w))
         ∙ ap (λ (j : Name). (name_eq v w || vector_has pending w) || normal_known settled j w) (sym (same_name item i here)) ∙ covers w has)
 
-pub with_covered : (settled new : Normal) (pending : List AuthorColumn) (most : ℕ) (item v : Name) (set : Versions) → IsKept settled pending most → Covers (both (both (name_eq v) (vector_has pending)) (vector_has (vector_of settled item))) set → AreSame (normal_known new) (with_all (normal_known (folded settled pending)) (name_eq v)) → AreSame (normal_known new) (with_learned_below true (normal_known (folded settled pending)) item v set)
+pub with_covered : {limit : ℕ} (settled new : Normal) (pending : List AuthorColumn) (most : ℕ) (item v : Name) (set : Versions) → IsKept limit settled pending most → Covers (both (both (name_eq v) (vector_has pending)) (vector_has (vector_of settled item))) set → AreSame (normal_known new) (with_all (normal_known (folded settled pending)) (name_eq v)) → AreSame (normal_known new) (with_learned_below true (normal_known (folded settled pending)) item v set)
 with_covered settled new pending most item v set kept covers same i w = same i w ∙ covered_with settled pending most item v set kept covers i w

@@ -19,8 +19,12 @@ pub mod AtMostLemmas
 pub mod WithLemmas
 pub mod RisingLemmas
 pub mod EachLemmas
+pub mod MergingLemmas
 pub mod GroupLemmas
 pub mod GroupedLemmas
 pub mod FormLemmas
 pub mod ShownLemmas
+pub mod AloneLemmas
+pub mod SparingLemmas
+pub mod MoreLemmas
 mod Rows

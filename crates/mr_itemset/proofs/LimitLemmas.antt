@@ -26,7 +26,7 @@ pub holey_all : (k : Normal) (set : Versions) → HasTooManyHoles (both set (vec
 unfolding with_set
 holey_all k set many = let f = free_item k in record { item = f.0; holes = subst (with_set set) (sym f.1) many }
 
-pub holey_listed : (k : Normal) (set : Versions) (x : Listed) → IsNormal k → Contains k.listed x → HasTooManyHoles (both set (vector_has x.vector)) → HasHoleyItem (with_all (normal_known k) set)
+pub holey_listed : {limit : ℕ} (k : Normal) (set : Versions) (x : Listed) → IsNormal limit k → Contains k.listed x → HasTooManyHoles (both set (vector_has x.vector)) → HasHoleyItem (with_all (normal_known k) set)
 unfolding with_set
 holey_listed k set x normal has many = record { item = x.item; holes = subst (with_set set) (sym (vector_in-has k.all k.listed x normal.rising has)) many }
 
@@ -49,7 +49,7 @@ any_all P (x ∷ xs) q all any = go (or_cases (name_eq q x) (list_any (name_eq q
     go (inr there) rest = rest there
 
 -- what is known of no listed item is known of all but some
-listed_only : (k : Normal) (set : Versions) (many : ListsTooMany (with_all (normal_known k) set)) (q : Name) → list_any (name_eq q) many.items ≡ true → list_any (name_eq q) (items_of k.listed) ≡ true
+listed_only : {limit : ℕ} (k : Normal) (set : Versions) (many : ListsTooMany limit (with_all (normal_known k) set)) (q : Name) → list_any (name_eq q) many.items ≡ true → list_any (name_eq q) (items_of k.listed) ≡ true
 listed_only k set many q any = go (cases_Bool (list_any (name_eq q) (items_of k.listed)))
   where
     n : ℕ
@@ -67,7 +67,7 @@ listed_only k set many q any = go (cases_Bool (list_any (name_eq q) (items_of k.
         (λ v. ap (λ (c : List AuthorColumn). set v || vector_has c v) (vector_in-unlisted k.all k.listed q free) ∙ all_is v))
 
 -- versions that all items learn list no item
-pub lists_few : (k : Normal) (set : Versions) → IsNormal k → ListsTooMany (with_all (normal_known k) set) → ⊥
+pub lists_few : {limit : ℕ} (k : Normal) (set : Versions) → IsNormal limit k → ListsTooMany limit (with_all (normal_known k) set) → ⊥
 lists_few k set normal many =
     let fits = length-le_from_is_member (eq_by_cmp_equiv names_total) many.items (items_of k.listed) many.distinct (listed_only k set many) in
     let same : length (items_of k.listed) ≡ length k.listed = length-map k.listed (λ x. x.item) in

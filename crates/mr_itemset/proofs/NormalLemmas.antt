@@ -108,7 +108,7 @@ listed_unique (x ∷ xs) (y ∷ ys) sx sy xy yx =
     drop_head a b bs z same less (inr has) = has
 
 -- what one lists, the other lists
-lists_too : (a b : Normal) → IsNormal a → IsNormal b → a.all ≡ b.all → AreSame (normal_known a) (normal_known b) → (x : Listed) → Contains a.listed x → Contains b.listed x
+lists_too : {limit : ℕ} (a b : Normal) → IsNormal limit a → IsNormal limit b → a.all ≡ b.all → AreSame (normal_known a) (normal_known b) → (x : Listed) → Contains a.listed x → Contains b.listed x
 lists_too a b na nb all same x has = go (vector_in-cases b.all b.listed x.item)
   where
     mine : HasMore a.all x
@@ -127,7 +127,7 @@ lists_too a b na nb all same x has = go (vector_in-cases b.all b.listed x.item)
 
 -- ONE FORM of a knowledge: some item is listed by neither, so the vectors of all items are one, and with them the
 -- listed items.
-pub normal_unique : (a b : Normal) → IsNormal a → IsNormal b → AreSame (normal_known a) (normal_known b) → a ≡ b
+pub normal_unique : {limit : ℕ} (a b : Normal) → IsNormal limit a → IsNormal limit b → AreSame (normal_known a) (normal_known b) → a ≡ b
 normal_unique a b na nb same =
     let n : ℕ = suc (top (items_of a.listed) + top (items_of b.listed)) in
     let ea = vector_in-unlisted a.all a.listed (record { author = 0; counter = suc (top (items_of a.listed) + top (items_of b.listed)) }) (free-above (suc (top (items_of a.listed) + top (items_of b.listed))) (items_of a.listed) (omega arith)) in

@@ -1,9 +1,9 @@
 -- What a call refuses, from what it found before.
-use Rattle.std.proofs.Common.{◌≡◌, ◌↔◌, Ok, Err, inl, inr}
+use Rattle.std.proofs.Common.{ℕ, ◌≡◌, ◌↔◌, Ok, Err, inl, inr}
 use Rattle.std.specs.Prelude.{IsErrOf}
 use Rattle.mr_forms.specs.declared.fault.FormFault.{FormFault}
 use Rattle.mr_forms.specs.Known.{Pairs, HasValue, IsOverHolesInTurn, IsOverItemsInTurn}
-use Rattle.mr_itemset.specs.ItemForm.{item_form}
+use Rattle.mr_itemset.specs.ItemForm.{items_form}
 
 module _ {T P : Type 0} where
   -- what passes a test is nothing to refuse
@@ -19,9 +19,9 @@ module _ {T P : Type 0} where
   refuses_otherwise fault other apart none = (λ wrong. absurd (apart (cc)), λ p. absurd (none p))
 
 -- of two values in turn none has too many holes
-pub no_holes_in_turn : (first second : Pairs) → HasValue item_form first → HasValue item_form second → ¬ IsOverHolesInTurn item_form first second
+pub no_holes_in_turn : {limit : ℕ} (first second : Pairs) → HasValue (items_form limit) first → HasValue (items_form limit) second → ¬ IsOverHolesInTurn (items_form limit) first second
 no_holes_in_turn first second a b over = elim over [ inl holes ↦ a.0 holes | inr both ↦ b.0 both.1 ]
 
 -- and none lists too many items
-pub no_items_in_turn : (first second : Pairs) → HasValue item_form first → HasValue item_form second → ¬ IsOverItemsInTurn item_form first second
+pub no_items_in_turn : {limit : ℕ} (first second : Pairs) → HasValue (items_form limit) first → HasValue (items_form limit) second → ¬ IsOverItemsInTurn (items_form limit) first second
 no_items_in_turn first second a b over = elim over [ inl items ↦ a.1 items.0 | inr both ↦ b.1 both.1.0 ]

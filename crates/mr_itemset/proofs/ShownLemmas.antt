@@ -6,6 +6,7 @@ use Rattle.std.proofs.lemmas.List.Folds.{flat_map-map}
 use Rattle.mr_version.specs.Name.{Name}
 use Rattle.mr_forms.specs.declared.fragment.ItemSet.{ItemSet}
 use Rattle.mr_forms.specs.declared.fragment.ItemSet.TheVariants.{All as AllItems, Listed}
+use Rattle.mr_forms.specs.declared.fragment.TheConstants.{MAX_ITEMS}
 use Rattle.mr_forms.specs.Known.{AreSame}
 use Rattle.mr_forms.specs.Covered.{has_item, listed_items, HasItems, all_covered}
 use Rattle.mr_forms.specs.Parts.{part_of, AreListable, ArePartsThat}
@@ -26,10 +27,10 @@ parts_shown k fs are =
     ∙ ap (λ ps. (record { items = None; versions = vector_has k.all }) ∷ ps) (map-map part_in shown_group (all_grouped [] k.listed))
 
 -- so they are in normal form
-pub shown_normal : (k : Normal) (fs : List ConciseFragment) → IsNormal k → map shown fs ≡ fragments_in k → AreNormalOf k (map (part_of vector_has) fs)
+pub shown_normal : (k : Normal) (fs : List ConciseFragment) → IsNormal MAX_ITEMS k → map shown fs ≡ fragments_in k → AreNormalOf k (map (part_of vector_has) fs)
 shown_normal k fs normal are = rw (parts_shown k fs are) (parts_are_normal k normal)
 
-pub shown_parts : (k : Normal) (fs : List ConciseFragment) → IsNormal k → map shown fs ≡ fragments_in k → ArePartsThat (IsNormalPart k) (map (part_of vector_has) fs)
+pub shown_parts : (k : Normal) (fs : List ConciseFragment) → IsNormal MAX_ITEMS k → map shown fs ≡ fragments_in k → ArePartsThat (IsNormalPart k) (map (part_of vector_has) fs)
 shown_parts k fs normal are = normal_parts_that k (map (part_of vector_has) fs) (shown_normal k fs normal are)
 
 has_item-is_of : (items : ItemSet) (i : Name) → is_of (listed_items items) i ≡ has_item items i
@@ -41,7 +42,7 @@ said_covered [] i v = refl
 said_covered (f ∷ fs) i v = rw (has_item-is_of f.items i, said_covered fs i v) refl
 
 -- and cover what is known
-pub shown_known : (k : Normal) (fs : List ConciseFragment) → IsNormal k → map shown fs ≡ fragments_in k → AreSame (normal_known k) (all_covered vector_has fs)
+pub shown_known : (k : Normal) (fs : List ConciseFragment) → IsNormal MAX_ITEMS k → map shown fs ≡ fragments_in k → AreSame (normal_known k) (all_covered vector_has fs)
 shown_known k fs normal are i v = (shown_normal k fs normal are).same i v ∙ said_covered fs i v
 
 has_items : (items : ItemSet) → IfSome (listed_items items) AreListable → HasItems items
@@ -55,7 +56,7 @@ each_has_items (f ∷ fs) listable =
     (each_has_items fs (All-tail (λ p. IfSome p.items AreListable) (part_of vector_has f) (map (part_of vector_has) fs) listable))
 
 -- each for some item
-pub shown_has_items : (k : Normal) (fs : List ConciseFragment) → IsNormal k → map shown fs ≡ fragments_in k → All (λ f. HasItems f.items) fs
+pub shown_has_items : (k : Normal) (fs : List ConciseFragment) → IsNormal MAX_ITEMS k → map shown fs ≡ fragments_in k → All (λ f. HasItems f.items) fs
 shown_has_items k fs normal are = each_has_items fs (shown_normal k fs normal are).normal.in_order.listable
 
 -- ---- the text

@@ -1,4 +1,4 @@
-use Rattle.std.proofs.Common.{◌≡◌, ◌+◌, ◌⊎◌, ◌||◌, suc, Bool, true, false, List, All, refl, ap, sym, ◌∙◌, arith, inl, inr, Contains}
+use Rattle.std.proofs.Common.{ℕ, ◌≡◌, ◌+◌, ◌⊎◌, ◌||◌, suc, Bool, true, false, List, All, refl, ap, sym, ◌∙◌, arith, inl, inr, Contains}
 use Rattle.std.specs.List.{list_any}
 use Rattle.std.specs.Prelude.{not}
 use Rattle.std.proofs.lemmas.Bool.{false≢true, cases_Bool}
@@ -18,7 +18,7 @@ use Rattle.mr_itemset.proofs.ItemLemmas.{covers_all}
 use Rattle.mr_itemset.proofs.EachLemmas.{listed_item}
 use Rattle.mr_itemset.proofs.FoldedLemmas.{same_pairs, folded_normal, folded_pairs}
 
-pub split_is : (settled : Normal) (pending : List AuthorColumn) (most : _) → IsKept settled pending most → IsSplit (folded settled pending) settled pending
+pub split_is : {limit : ℕ} (settled : Normal) (pending : List AuthorColumn) (most : _) → IsKept limit settled pending most → IsSplit limit (folded settled pending) settled pending
 split_is settled pending most kept = record { normal = folded_normal settled pending most kept; settled_ok = kept.normal; known = folded_pairs settled pending most kept }
 
 assoc : (a b c : Bool) → (a || (b || c)) ≡ ((a || b) || c)
@@ -36,11 +36,11 @@ pub with_twice : (known settled : Pairs) (pending set : Versions) (item version 
 with_twice known settled pending set item version e = ap (λ (k : Pairs). with_below k item set) (all_twice known settled pending (name_eq version) e)
 
 -- what is known of an item
-pub split_at : (k settled : Normal) (pending : List AuthorColumn) (i v : Name) → IsSplit k settled pending → normal_known k i v ≡ (vector_has pending v || normal_known settled i v)
+pub split_at : {limit : ℕ} (k settled : Normal) (pending : List AuthorColumn) (i v : Name) → IsSplit limit k settled pending → normal_known k i v ≡ (vector_has pending v || normal_known settled i v)
 split_at k settled pending i v split = ap (λ (s : Pairs). s i v) split.known
 
 -- what is known of all: some item is listed by neither
-pub split_all : (k settled : Normal) (pending : List AuthorColumn) → IsSplit k settled pending → IsSame (vector_has k.all) (both (vector_has pending) (vector_has settled.all))
+pub split_all : {limit : ℕ} (k settled : Normal) (pending : List AuthorColumn) → IsSplit limit k settled pending → IsSame (vector_has k.all) (both (vector_has pending) (vector_has settled.all))
 split_all k settled pending split v =
     ap (λ (c : List AuthorColumn). vector_has c v) (sym (vector_in-unlisted k.all k.listed (record { author = 0; counter = suc (top (items_of k.listed) + top (items_of settled.listed)) }) (free-above (suc (top (items_of k.listed) + top (items_of settled.listed))) (items_of k.listed) (omega arith))))
     ∙ split_at k settled pending (record { author = 0; counter = suc (top (items_of k.listed) + top (items_of settled.listed)) }) v split
@@ -65,7 +65,7 @@ or_second : (a b : Bool) → b ≡ true → (a || b) ≡ true
 or_second true b e = refl
 or_second false b e = e
 
-pub covers_yes : (k other settled : Normal) (pending : List AuthorColumn) → IsNormal k → IsSplit other settled pending → Covers (vector_has k.all) (vector_has other.all) → All (λ x. Covers (normal_known k x.item) (vector_has x.vector)) settled.listed → (i : Name) → Covers (normal_known k i) (normal_known other i)
+pub covers_yes : {limit : ℕ} (k other settled : Normal) (pending : List AuthorColumn) → IsNormal limit k → IsSplit limit other settled pending → Covers (vector_has k.all) (vector_has other.all) → All (λ x. Covers (normal_known k x.item) (vector_has x.vector)) settled.listed → (i : Name) → Covers (normal_known k i) (normal_known other i)
 covers_yes k other settled pending normal split all listed i v is_in = go (or_split (vector_has pending v) (normal_known settled i v) (sym (split_at other settled pending i v split) ∙ is_in))
   where
     from_all : vector_has settled.all v ≡ true → normal_known k i v ≡ true
@@ -87,7 +87,7 @@ covers_all-from k other covers v is_in =
     ∙ covers (record { author = 0; counter = suc (top (items_of k.listed) + top (items_of other.listed)) }) v
     (ap (λ (c : List AuthorColumn). vector_has c v) (vector_in-unlisted other.all other.listed (record { author = 0; counter = suc (top (items_of k.listed) + top (items_of other.listed)) }) (free-above (suc (top (items_of k.listed) + top (items_of other.listed))) (items_of other.listed) (omega arith))) ∙ is_in)
 
-pub covers_listed-from : (k other settled : Normal) (pending : List AuthorColumn) → IsSplit other settled pending → ((i : Name) → Covers (normal_known k i) (normal_known other i)) → All (λ x. Covers (normal_known k x.item) (vector_has x.vector)) settled.listed
+pub covers_listed-from : {limit : ℕ} (k other settled : Normal) (pending : List AuthorColumn) → IsSplit limit other settled pending → ((i : Name) → Covers (normal_known k i) (normal_known other i)) → All (λ x. Covers (normal_known k x.item) (vector_has x.vector)) settled.listed
 covers_listed-from k other settled pending split covers =
     All-weaker (Contains settled.listed) (λ x. Covers (normal_known k x.item) (vector_has x.vector))
     (λ x has v is_in. covers x.item v (split_at other settled pending x.item v split
@@ -108,7 +108,7 @@ covers_from_same k other same i v is_in = same i v ∙ is_in
 
 -- ---- which items are listed
 
-pub listed_yes : (k settled : Normal) (pending : List AuthorColumn) (item : Name) → IsSplit k settled pending → Lacks (both (vector_has pending) (vector_has settled.all)) (vector_has (vector_of settled item)) → list_any (name_eq item) (items_of k.listed) ≡ true
+pub listed_yes : {limit : ℕ} (k settled : Normal) (pending : List AuthorColumn) (item : Name) → IsSplit limit k settled pending → Lacks (both (vector_has pending) (vector_has settled.all)) (vector_has (vector_of settled item)) → list_any (name_eq item) (items_of k.listed) ≡ true
 listed_yes k settled pending item split lacks = go (cases_Bool (list_any (name_eq item) (items_of k.listed)))
   where
     go : (list_any (name_eq item) (items_of k.listed) ≡ true) ⊎ (list_any (name_eq item) (items_of k.listed) ≡ false) → list_any (name_eq item) (items_of k.listed) ≡ true
@@ -117,7 +117,7 @@ listed_yes k settled pending item split lacks = go (cases_Bool (list_any (name_e
         ∙ ap (λ (c : List AuthorColumn). vector_has c lacks.version) (sym (vector_in-unlisted k.all k.listed item free))
         ∙ split_at k settled pending item lacks.version split ∙ or_second (vector_has pending lacks.version) (normal_known settled item lacks.version) lacks.is_in))
 
-pub listed_no : (k settled : Normal) (pending : List AuthorColumn) (item : Name) → IsSplit k settled pending → Covers (both (vector_has pending) (vector_has settled.all)) (vector_has (vector_of settled item)) → list_any (name_eq item) (items_of k.listed) ≡ false
+pub listed_no : {limit : ℕ} (k settled : Normal) (pending : List AuthorColumn) (item : Name) → IsSplit limit k settled pending → Covers (both (vector_has pending) (vector_has settled.all)) (vector_has (vector_of settled item)) → list_any (name_eq item) (items_of k.listed) ≡ false
 listed_no k settled pending item split covers = go (cases_Bool (list_any (name_eq item) (items_of k.listed)))
   where
     within : (a p x : Bool) → (x ≡ true → (p || a) ≡ true) → (a ≡ true → x ≡ true) → (p || x) ≡ (p || a)
@@ -142,15 +142,15 @@ pub flipped : (a b : Bool) → not a ≡ b → a ≡ not b
 flipped true b e = ap not e
 flipped false b e = ap not e
 
-pub covers_split : (k other settled : Normal) (pending : List AuthorColumn) → IsSplit other settled pending → Covers (vector_has k.all) (vector_has pending) → Covers (vector_has k.all) (vector_has settled.all) → Covers (vector_has k.all) (vector_has other.all)
+pub covers_split : {limit : ℕ} (k other settled : Normal) (pending : List AuthorColumn) → IsSplit limit other settled pending → Covers (vector_has k.all) (vector_has pending) → Covers (vector_has k.all) (vector_has settled.all) → Covers (vector_has k.all) (vector_has other.all)
 covers_split k other settled pending split mine all v is_in = go (or_split (vector_has pending v) (vector_has settled.all v) (sym (split_all other settled pending split v) ∙ is_in))
   where
     go : (vector_has pending v ≡ true) ⊎ (vector_has settled.all v ≡ true) → vector_has k.all v ≡ true
     go (inl has) = mine v has
     go (inr has) = all v has
 
-pub lacks_split-pending : (k other settled : Normal) (pending : List AuthorColumn) → IsSplit other settled pending → Lacks (vector_has k.all) (vector_has pending) → Lacks (vector_has k.all) (vector_has other.all)
+pub lacks_split-pending : {limit : ℕ} (k other settled : Normal) (pending : List AuthorColumn) → IsSplit limit other settled pending → Lacks (vector_has k.all) (vector_has pending) → Lacks (vector_has k.all) (vector_has other.all)
 lacks_split-pending k other settled pending split lacks = record { version = lacks.version; is_out = lacks.is_out; is_in = split_all other settled pending split lacks.version ∙ or_first (vector_has pending lacks.version) (vector_has settled.all lacks.version) lacks.is_in }
 
-pub lacks_split-settled : (k other settled : Normal) (pending : List AuthorColumn) → IsSplit other settled pending → Lacks (vector_has k.all) (vector_has settled.all) → Lacks (vector_has k.all) (vector_has other.all)
+pub lacks_split-settled : {limit : ℕ} (k other settled : Normal) (pending : List AuthorColumn) → IsSplit limit other settled pending → Lacks (vector_has k.all) (vector_has settled.all) → Lacks (vector_has k.all) (vector_has other.all)
 lacks_split-settled k other settled pending split lacks = record { version = lacks.version; is_out = lacks.is_out; is_in = split_all other settled pending split lacks.version ∙ or_second (vector_has pending lacks.version) (vector_has settled.all lacks.version) lacks.is_in }

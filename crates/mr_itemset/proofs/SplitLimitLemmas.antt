@@ -1,4 +1,4 @@
-use Rattle.std.proofs.Common.{◌≡◌, ◌⊎◌, Bool, true, false, ap, sym, ◌∙◌, subst, inl, inr, List}
+use Rattle.std.proofs.Common.{ℕ, ◌≡◌, ◌⊎◌, Bool, true, false, ap, sym, ◌∙◌, subst, inl, inr, List}
 use Rattle.std.specs.Prelude.{◌↔◌, IsTrue}
 use Rattle.std.proofs.lemmas.Bool.{cases_Bool}
 use Rattle.mr_version.specs.Name.{Name, name_eq}
@@ -17,13 +17,13 @@ use Rattle.mr_itemset.proofs.SplitLemmas.{all_twice, below_twice, with_twice, sp
 
 -- ---- holes
 
-pub holey_split : (k settled : Normal) (pending : List AuthorColumn) (set : Versions) (result : Bool) → IsSplit k settled pending → IsTrue result ↔ HasHoleyItem (with_all (normal_known settled) (both set (vector_has pending))) → IsTrue result ↔ HasHoleyItem (with_all (normal_known k) set)
+pub holey_split : {limit : ℕ} (k settled : Normal) (pending : List AuthorColumn) (set : Versions) (result : Bool) → IsSplit limit k settled pending → IsTrue result ↔ HasHoleyItem (with_all (normal_known settled) (both set (vector_has pending))) → IsTrue result ↔ HasHoleyItem (with_all (normal_known k) set)
 holey_split k settled pending set result split both_ways = (
   λ t. subst HasHoleyItem (sym (all_twice (normal_known k) (normal_known settled) (vector_has pending) set split.known)) (both_ways.0 t),
   λ holey. both_ways.1 (subst HasHoleyItem (all_twice (normal_known k) (normal_known settled) (vector_has pending) set split.known) holey),
 )
 
-pub holey_at : (k settled : Normal) (pending : List AuthorColumn) (item : Name) (set : Versions) (result : Bool) → IsSplit k settled pending → (result ≡ true → HasHoleyItem (with_below (with_all (normal_known settled) (vector_has pending)) item set)) → (result ≡ false → HasHoleyItem (with_below (with_all (normal_known settled) (vector_has pending)) item set) → HasHoleyItem (with_all (normal_known settled) (vector_has pending))) → (result ≡ true) ↔ HasHoleyItem (with_below (normal_known k) item set)
+pub holey_at : {limit : ℕ} (k settled : Normal) (pending : List AuthorColumn) (item : Name) (set : Versions) (result : Bool) → IsSplit limit k settled pending → (result ≡ true → HasHoleyItem (with_below (with_all (normal_known settled) (vector_has pending)) item set)) → (result ≡ false → HasHoleyItem (with_below (with_all (normal_known settled) (vector_has pending)) item set) → HasHoleyItem (with_all (normal_known settled) (vector_has pending))) → (result ≡ true) ↔ HasHoleyItem (with_below (normal_known k) item set)
 holey_at k settled pending item set result split holey_if few_if = (
   λ t. subst HasHoleyItem (sym (below_twice (normal_known k) (normal_known settled) (vector_has pending) set item split.known)) (holey_if t),
   λ holey. decide (cases_Bool result) (subst HasHoleyItem (below_twice (normal_known k) (normal_known settled) (vector_has pending) set item split.known) holey),
@@ -33,40 +33,52 @@ holey_at k settled pending item set result split holey_if few_if = (
     decide (inl t) holey = t
     decide (inr f) holey = absurd (normal_few k split.normal (subst HasHoleyItem (sym split.known) (few_if f holey)))
 
-pub holey_with-yes : (k settled : Normal) (pending : List AuthorColumn) (item version : Name) (set : Versions) → IsSplit k settled pending → HasHoleyItem (with_below (with_all (normal_known settled) (both (name_eq version) (vector_has pending))) item set) → HasHoleyItem (with_learned_below true (normal_known k) item version set)
+pub holey_with-yes : {limit : ℕ} (k settled : Normal) (pending : List AuthorColumn) (item version : Name) (set : Versions) → IsSplit limit k settled pending → HasHoleyItem (with_below (with_all (normal_known settled) (both (name_eq version) (vector_has pending))) item set) → HasHoleyItem (with_learned_below true (normal_known k) item version set)
 holey_with-yes k settled pending item version set split holey = subst HasHoleyItem (sym (with_twice (normal_known k) (normal_known settled) (vector_has pending) set item version split.known)) holey
 
-pub holey_with-no : (k settled : Normal) (pending : List AuthorColumn) (item version : Name) (set : Versions) → IsSplit k settled pending → (HasHoleyItem (with_below (with_all (normal_known settled) (both (name_eq version) (vector_has pending))) item set) → HasHoleyItem (with_all (normal_known settled) (both (name_eq version) (vector_has pending)))) → HasHoleyItem (with_learned_below true (normal_known k) item version set) → HasHoleyItem (with_learned true (normal_known k) item version)
+pub holey_with-no : {limit : ℕ} (k settled : Normal) (pending : List AuthorColumn) (item version : Name) (set : Versions) → IsSplit limit k settled pending → (HasHoleyItem (with_below (with_all (normal_known settled) (both (name_eq version) (vector_has pending))) item set) → HasHoleyItem (with_all (normal_known settled) (both (name_eq version) (vector_has pending)))) → HasHoleyItem (with_learned_below true (normal_known k) item version set) → HasHoleyItem (with_learned true (normal_known k) item version)
 holey_with-no k settled pending item version set split few_if holey =
     subst HasHoleyItem (sym (all_twice (normal_known k) (normal_known settled) (vector_has pending) (name_eq version) split.known))
     (few_if (subst HasHoleyItem (with_twice (normal_known k) (normal_known settled) (vector_has pending) set item version split.known) holey))
 
 -- ---- listed items
 
-pub room_at-yes : (k settled : Normal) (pending : List AuthorColumn) (item : Name) (set : Versions) → IsSplit k settled pending → HasRoomWith settled (vector_has pending) item set → ListsTooMany (with_below (normal_known k) item set) → ⊥
-room_at-yes k settled pending item set split room many =
-    lists_few-with settled (vector_has pending) set item split.settled_ok room (subst ListsTooMany (below_twice (normal_known k) (normal_known settled) (vector_has pending) set item split.known) many)
+pub room_at-yes : {limit : ℕ} (k settled : Normal) (pending : List AuthorColumn) (item : Name) (set : Versions) → IsSplit limit k settled pending → HasRoomWith limit settled (vector_has pending) item set → ListsTooMany limit (with_below (normal_known k) item set) → ⊥
+room_at-yes {limit = limit} k settled pending item set split room many =
+    lists_few-with settled (vector_has pending) set item split.settled_ok room (subst (ListsTooMany limit) (below_twice (normal_known k) (normal_known settled) (vector_has pending) set item split.known) many)
 
-pub room_at-no : (k settled : Normal) (pending : List AuthorColumn) (item : Name) (set : Versions) → IsSplit k settled pending → ListsTooMany (with_below (with_all (normal_known settled) (vector_has pending)) item set) → ListsTooMany (with_below (normal_known k) item set)
-room_at-no k settled pending item set split many = subst ListsTooMany (sym (below_twice (normal_known k) (normal_known settled) (vector_has pending) set item split.known)) many
+pub room_at-no : {limit : ℕ} (k settled : Normal) (pending : List AuthorColumn) (item : Name) (set : Versions) → IsSplit limit k settled pending → ListsTooMany limit (with_below (with_all (normal_known settled) (vector_has pending)) item set) → ListsTooMany limit (with_below (normal_known k) item set)
+room_at-no {limit = limit} k settled pending item set split many = subst (ListsTooMany limit) (sym (below_twice (normal_known k) (normal_known settled) (vector_has pending) set item split.known)) many
 
-pub room_with-yes : (k settled : Normal) (pending : List AuthorColumn) (item version : Name) (set : Versions) → IsSplit k settled pending → HasRoomWith settled (both (name_eq version) (vector_has pending)) item set → ListsTooMany (with_learned_below true (normal_known k) item version set) → ⊥
-room_with-yes k settled pending item version set split room many =
-    lists_few-with settled (both (name_eq version) (vector_has pending)) set item split.settled_ok room (subst ListsTooMany (with_twice (normal_known k) (normal_known settled) (vector_has pending) set item version split.known) many)
+pub room_with-yes : {limit : ℕ} (k settled : Normal) (pending : List AuthorColumn) (item version : Name) (set : Versions) → IsSplit limit k settled pending → HasRoomWith limit settled (both (name_eq version) (vector_has pending)) item set → ListsTooMany limit (with_learned_below true (normal_known k) item version set) → ⊥
+room_with-yes {limit = limit} k settled pending item version set split room many =
+    lists_few-with settled (both (name_eq version) (vector_has pending)) set item split.settled_ok room (subst (ListsTooMany limit) (with_twice (normal_known k) (normal_known settled) (vector_has pending) set item version split.known) many)
 
-pub room_with-no : (k settled : Normal) (pending : List AuthorColumn) (item version : Name) (set : Versions) → IsSplit k settled pending → ListsTooMany (with_below (with_all (normal_known settled) (both (name_eq version) (vector_has pending))) item set) → ListsTooMany (with_learned_below true (normal_known k) item version set)
-room_with-no k settled pending item version set split many = subst ListsTooMany (sym (with_twice (normal_known k) (normal_known settled) (vector_has pending) set item version split.known)) many
+pub room_with-no : {limit : ℕ} (k settled : Normal) (pending : List AuthorColumn) (item version : Name) (set : Versions) → IsSplit limit k settled pending → ListsTooMany limit (with_below (with_all (normal_known settled) (both (name_eq version) (vector_has pending))) item set) → ListsTooMany limit (with_learned_below true (normal_known k) item version set)
+room_with-no {limit = limit} k settled pending item version set split many = subst (ListsTooMany limit) (sym (with_twice (normal_known k) (normal_known settled) (vector_has pending) set item version split.known)) many
 
 -- ---- growth
 
-pub folded_is : (k settled : Normal) (pending : List AuthorColumn) (new : Normal) → IsSplit k settled pending → IsNormal new → AreSame (normal_known new) (with_all (normal_known settled) (vector_has pending)) → new ≡ k
+pub folded_is : {limit : ℕ} (k settled : Normal) (pending : List AuthorColumn) (new : Normal) → IsSplit limit k settled pending → IsNormal limit new → AreSame (normal_known new) (with_all (normal_known settled) (vector_has pending)) → new ≡ k
 folded_is k settled pending new split normal same = normal_unique new k normal split.normal (λ i v. same i v ∙ sym (split_at k settled pending i v split))
 
-pub settled_all : (k settled : Normal) (pending : List AuthorColumn) (new : Normal) (set : Versions) → IsSplit k settled pending → AreSame (normal_known new) (with_all (normal_known settled) (both set (vector_has pending))) → AreSame (normal_known new) (with_all (normal_known k) set)
+pub settled_all : {limit : ℕ} (k settled : Normal) (pending : List AuthorColumn) (new : Normal) (set : Versions) → IsSplit limit k settled pending → AreSame (normal_known new) (with_all (normal_known settled) (both set (vector_has pending))) → AreSame (normal_known new) (with_all (normal_known k) set)
 settled_all k settled pending new set split same i v = same i v ∙ ap (λ (s : Pairs). s i v) (sym (all_twice (normal_known k) (normal_known settled) (vector_has pending) set split.known))
 
-pub settled_below : (k settled : Normal) (pending : List AuthorColumn) (new : Normal) (item : Name) (set : Versions) → IsSplit k settled pending → AreSame (normal_known new) (with_below (with_all (normal_known settled) (vector_has pending)) item set) → AreSame (normal_known new) (with_below (normal_known k) item set)
+pub settled_below : {limit : ℕ} (k settled : Normal) (pending : List AuthorColumn) (new : Normal) (item : Name) (set : Versions) → IsSplit limit k settled pending → AreSame (normal_known new) (with_below (with_all (normal_known settled) (vector_has pending)) item set) → AreSame (normal_known new) (with_below (normal_known k) item set)
 settled_below k settled pending new item set split same i v = same i v ∙ ap (λ (s : Pairs). s i v) (sym (below_twice (normal_known k) (normal_known settled) (vector_has pending) set item split.known))
 
-pub settled_with : (k settled : Normal) (pending : List AuthorColumn) (new : Normal) (item version : Name) (set : Versions) → IsSplit k settled pending → AreSame (normal_known new) (with_below (with_all (normal_known settled) (both (name_eq version) (vector_has pending))) item set) → AreSame (normal_known new) (with_learned_below true (normal_known k) item version set)
+pub settled_with : {limit : ℕ} (k settled : Normal) (pending : List AuthorColumn) (new : Normal) (item version : Name) (set : Versions) → IsSplit limit k settled pending → AreSame (normal_known new) (with_below (with_all (normal_known settled) (both (name_eq version) (vector_has pending))) item set) → AreSame (normal_known new) (with_learned_below true (normal_known k) item version set)
 settled_with k settled pending new item version set split same i v = same i v ∙ ap (λ (s : Pairs). s i v) (sym (with_twice (normal_known k) (normal_known settled) (vector_has pending) set item version split.known))
+
+-- ---- several versions of all items
+
+pub more_twice : {limit : ℕ} (k settled : Normal) (pending : List AuthorColumn) (item : Name) (learned set : Versions) → IsSplit limit k settled pending → with_below (with_all (normal_known k) learned) item set ≡ with_below (with_all (normal_known settled) (both learned (vector_has pending))) item set
+more_twice k settled pending item learned set split = ap (λ (known : Pairs). with_below known item set) (all_twice (normal_known k) (normal_known settled) (vector_has pending) learned split.known)
+
+pub holey_more-no : {limit : ℕ} (k settled : Normal) (pending : List AuthorColumn) (item : Name) (learned set : Versions) → IsSplit limit k settled pending → (HasHoleyItem (with_below (with_all (normal_known settled) (both learned (vector_has pending))) item set) → HasHoleyItem (with_all (normal_known settled) (both learned (vector_has pending)))) → HasHoleyItem (with_below (with_all (normal_known k) learned) item set) → HasHoleyItem (with_all (normal_known k) learned)
+holey_more-no k settled pending item learned set split few_if holey =
+    subst HasHoleyItem (sym (all_twice (normal_known k) (normal_known settled) (vector_has pending) learned split.known)) (few_if (subst HasHoleyItem (more_twice k settled pending item learned set split) holey))
+
+pub room_more-yes : {limit : ℕ} (k settled : Normal) (pending : List AuthorColumn) (item : Name) (learned set : Versions) → IsSplit limit k settled pending → HasRoomWith limit settled (both learned (vector_has pending)) item set → ListsTooMany limit (with_below (with_all (normal_known k) learned) item set) → ⊥
+room_more-yes {limit = limit} k settled pending item learned set split room many = lists_few-with settled (both learned (vector_has pending)) set item split.settled_ok room (subst (ListsTooMany limit) (more_twice k settled pending item learned set split) many)

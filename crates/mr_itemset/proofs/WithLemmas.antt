@@ -1,4 +1,4 @@
-use Rattle.std.proofs.Common.{◌≡◌, ◌≤◌, ◌+◌, ◌⊎◌, suc, Bool, true, false, ◌||◌, ◌&&◌, List, ◌∷◌, length, All, Contains, refl, ap, sym, ◌∙◌, subst, arith, inl, inr}
+use Rattle.std.proofs.Common.{ℕ, ◌≡◌, ◌≤◌, ◌+◌, ◌⊎◌, suc, Bool, true, false, ◌||◌, ◌&&◌, List, ◌∷◌, length, All, Contains, refl, ap, sym, ◌∙◌, subst, arith, inl, inr}
 use Rattle.std.specs.List.{list_any}
 use Rattle.std.proofs.Math.ListN.{length-map}
 use Rattle.std.proofs.lemmas.Bool.{false≢true, cases_Bool, or_parts, or_cases}
@@ -8,7 +8,6 @@ use Rattle.std.proofs.lemmas.Map.Keys.{IsDistinct-cons}
 use Rattle.std.proofs.lemmas.Map.Made.{length-le_from_is_member}
 use Rattle.mr_version.specs.Name.{Name, name_eq}
 use Rattle.mr_version.specs.Order.{names_total}
-use Rattle.mr_forms.specs.declared.fragment.TheConstants.{MAX_ITEMS}
 use Rattle.mr_forms.specs.Sets.{Versions, IsSame, Covers, both}
 use Rattle.mr_forms.specs.Known.{Pairs, with_below}
 use Rattle.mr_forms.proofs.SetLemmas.{name_eq-symmetric}
@@ -57,7 +56,7 @@ holey_learned k learned set item few holey = go (cases_Bool (name_eq item holey.
 
 -- ---- too many items
 
-pub lists_too_many-with : (k : Normal) (learned set : Versions) (item : Name) → IsNormal k → MAX_ITEMS ≤ length k.listed → list_any (name_eq item) (items_of k.listed) ≡ false → Lacks (both learned (vector_has k.all)) set → All (λ x. ¬ Covers (both learned (vector_has k.all)) (vector_has x.vector)) k.listed → ListsTooMany (grown_with k learned item set)
+pub lists_too_many-with : {limit : ℕ} (k : Normal) (learned set : Versions) (item : Name) → IsNormal limit k → limit ≤ length k.listed → list_any (name_eq item) (items_of k.listed) ≡ false → Lacks (both learned (vector_has k.all)) set → All (λ x. ¬ Covers (both learned (vector_has k.all)) (vector_has x.vector)) k.listed → ListsTooMany limit (grown_with k learned item set)
 lists_too_many-with k learned set item normal full free lacks each = record {
   all = both learned (vector_has k.all);
   items = item ∷ items_of k.listed;
@@ -85,7 +84,7 @@ lists_too_many-with k learned set item normal full free lacks each = record {
 -- ---- with room, no more than may be listed
 
 -- all but some items have what all had, with the learned versions
-all_with : (k : Normal) (learned set : Versions) (item : Name) (many : ListsTooMany (grown_with k learned item set)) (v : Name) → both learned (vector_has k.all) v ≡ many.all v
+all_with : {limit : ℕ} (k : Normal) (learned set : Versions) (item : Name) (many : ListsTooMany limit (grown_with k learned item set)) (v : Name) → both learned (vector_has k.all) v ≡ many.all v
 all_with k learned set item many v =
     sym (ap (λ (b : Bool). (b && set v) || (learned v || normal_known k (record { author = 0; counter = suc (top many.items + (item.counter + top (items_of k.listed))) }) v)) other
     ∙ ap (λ (c : List AuthorColumn). learned v || vector_has c v) (vector_in-unlisted k.all k.listed (record { author = 0; counter = suc (top many.items + (item.counter + top (items_of k.listed))) }) (free-above (suc (top many.items + (item.counter + top (items_of k.listed)))) (items_of k.listed) (omega arith))))
@@ -99,7 +98,7 @@ all_with k learned set item many v =
         decide (inr apart) = apart
 
 -- what has just that is none of the many
-not_many : (k : Normal) (learned set : Versions) (item : Name) (many : ListsTooMany (grown_with k learned item set)) (q : Name) → IsSame (grown_with k learned item set q) (both learned (vector_has k.all)) → list_any (name_eq q) many.items ≡ false
+not_many : {limit : ℕ} (k : Normal) (learned set : Versions) (item : Name) (many : ListsTooMany limit (grown_with k learned item set)) (q : Name) → IsSame (grown_with k learned item set q) (both learned (vector_has k.all)) → list_any (name_eq q) many.items ≡ false
 not_many k learned set item many q same = go (cases_Bool (list_any (name_eq q) many.items))
   where
     go : (list_any (name_eq q) many.items ≡ true) ⊎ (list_any (name_eq q) many.items ≡ false) → list_any (name_eq q) many.items ≡ false
@@ -112,7 +111,7 @@ unlisted_same k learned set item q other free v =
     ap (λ (b : Bool). (b && set v) || (learned v || normal_known k q v)) other ∙ ap (λ (c : List AuthorColumn). learned v || vector_has c v) (vector_in-unlisted k.all k.listed q free)
 
 -- the many are listed, or the item
-listed_or_item : (k : Normal) (learned set : Versions) (item : Name) (many : ListsTooMany (grown_with k learned item set)) (q : Name) → list_any (name_eq q) many.items ≡ true → list_any (name_eq q) (item ∷ items_of k.listed) ≡ true
+listed_or_item : {limit : ℕ} (k : Normal) (learned set : Versions) (item : Name) (many : ListsTooMany limit (grown_with k learned item set)) (q : Name) → list_any (name_eq q) many.items ≡ true → list_any (name_eq q) (item ∷ items_of k.listed) ≡ true
 listed_or_item k learned set item many q any = go (cases_Bool (name_eq q item)) (cases_Bool (list_any (name_eq q) (items_of k.listed)))
   where
     go : (name_eq q item ≡ true) ⊎ (name_eq q item ≡ false) → (list_any (name_eq q) (items_of k.listed) ≡ true) ⊎ (list_any (name_eq q) (items_of k.listed) ≡ false) → list_any (name_eq q) (item ∷ items_of k.listed) ≡ true
@@ -121,7 +120,7 @@ listed_or_item k learned set item many q any = go (cases_Bool (name_eq q item)) 
     go (inr other) (inr free) = absurd (false≢true (sym (not_many k learned set item many q (unlisted_same k learned set item q (name_eq-symmetric item q ∙ other) free)) ∙ any))
 
 -- where the item is listed or has just that, the many are listed
-listed_alone : (k : Normal) (learned set : Versions) (item : Name) (many : ListsTooMany (grown_with k learned item set)) → Lists k item ⊎ (list_any (name_eq item) many.items ≡ false) → (q : Name) → list_any (name_eq q) many.items ≡ true → list_any (name_eq q) (items_of k.listed) ≡ true
+listed_alone : {limit : ℕ} (k : Normal) (learned set : Versions) (item : Name) (many : ListsTooMany limit (grown_with k learned item set)) → Lists k item ⊎ (list_any (name_eq item) many.items ≡ false) → (q : Name) → list_any (name_eq q) many.items ≡ true → list_any (name_eq q) (items_of k.listed) ≡ true
 listed_alone k learned set item many known q any = go (or_cases (name_eq q item) (list_any (name_eq q) (items_of k.listed)) (listed_or_item k learned set item many q any)) known
   where
     go : (name_eq q item ≡ true) ⊎ (list_any (name_eq q) (items_of k.listed) ≡ true) → Lists k item ⊎ (list_any (name_eq item) many.items ≡ false) → list_any (name_eq q) (items_of k.listed) ≡ true
@@ -140,7 +139,7 @@ nothing_new true a h = sym (h refl)
 nothing_new false a h = refl
 
 -- WITH ROOM for the item there are not too many
-pub lists_few-with : (k : Normal) (learned set : Versions) (item : Name) → IsNormal k → HasRoomWith k learned item set → ListsTooMany (grown_with k learned item set) → ⊥
+pub lists_few-with : {limit : ℕ} (k : Normal) (learned set : Versions) (item : Name) → IsNormal limit k → HasRoomWith limit k learned item set → ListsTooMany limit (grown_with k learned item set) → ⊥
 lists_few-with k learned set item normal (inl room) many =
     let fits = length-le_from_is_member (eq_by_cmp_equiv names_total) many.items (item ∷ items_of k.listed) many.distinct (listed_or_item k learned set item many) in
     let same : length (items_of k.listed) ≡ length k.listed = length-map k.listed (λ x. x.item) in
@@ -199,7 +198,7 @@ lacks-not_covers s t lacks covers = false≢true (sym lacks.is_out ∙ covers la
 -- ---- with nothing learned
 
 -- one more than may be listed
-pub lists_too_many : (k : Normal) (set : Versions) (item : Name) → IsNormal k → MAX_ITEMS ≤ length k.listed → list_any (name_eq item) (items_of k.listed) ≡ false → Lacks (vector_has k.all) set → ListsTooMany (with_below (normal_known k) item set)
+pub lists_too_many : {limit : ℕ} (k : Normal) (set : Versions) (item : Name) → IsNormal limit k → limit ≤ length k.listed → list_any (name_eq item) (items_of k.listed) ≡ false → Lacks (vector_has k.all) set → ListsTooMany limit (with_below (normal_known k) item set)
 lists_too_many k set item normal full free lacks =
     lists_too_many-with k (λ _. false) set item normal full free lacks
     (All-weaker (HasMore k.all) (λ x. ¬ Covers (vector_has k.all) (vector_has x.vector)) (λ x more covers. more.more (λ v. same_both (vector_has x.vector v) (vector_has k.all v) (covers v) (more.covers v))) k.listed normal.more)

@@ -48,17 +48,17 @@ IsSparse k most = (i : Name) → HasAtMost most (vector_of k i)
 abbrev pub HasLeeway : List AuthorColumn → ℕ → Type 0
 HasLeeway columns most = (q : ℕ) → most + length (column_of columns q).holes + 1 ≤ MAX_HOLES
 
--- What is kept of a knowledge: a part that is settled, and versions of all items that are still to be added to it. No
--- item's settled vector has a column of more than so many holes, and with those of the others they are no more than a
--- column may have.
-pub record IsKept (settled : Normal) (pending : List AuthorColumn) (most : ℕ) : Type 0 where
-  pub normal : IsNormal settled
+-- What is kept of a knowledge: a part that is settled, and versions of all items that are still to be added to it. The
+-- settled part lists no more items than the limit. No item's settled vector has a column of more than so many holes, and
+-- with those of the others they are no more than a column may have.
+pub record IsKept (limit : ℕ) (settled : Normal) (pending : List AuthorColumn) (most : ℕ) : Type 0 where
+  pub normal : IsNormal limit settled
   pub vector_ok : IsVectorFrom 0 pending
   pub few : IsSparse settled most
   pub room : (q : ℕ) → most + length (column_of pending q).holes ≤ MAX_HOLES
 
 -- the knowledge is what is settled, with the pending versions for all items
-pub record IsSplit (k settled : Normal) (pending : List AuthorColumn) : Type 0 where
-  pub normal : IsNormal k
-  pub settled_ok : IsNormal settled
+pub record IsSplit (limit : ℕ) (k settled : Normal) (pending : List AuthorColumn) : Type 0 where
+  pub normal : IsNormal limit k
+  pub settled_ok : IsNormal limit settled
   pub known : normal_known k ≡ with_all (normal_known settled) (vector_has pending)

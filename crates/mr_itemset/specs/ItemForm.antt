@@ -1,4 +1,4 @@
-use Rattle.std.specs.Prelude.{◌≡◌, ◌≢◌, ◌<◌, ◌↔◌, true, false, ◌||◌, List, [], Option, Some, None, All, length}
+use Rattle.std.specs.Prelude.{◌≡◌, ◌≢◌, ◌<◌, ◌↔◌, ℕ, true, false, ◌||◌, List, [], Option, Some, None, All, length}
 use Rattle.std.specs.List.{list_any, IsDistinct}
 use Rattle.std.specs.List.Sorted.{IsStrictlySortedBy}
 use Rattle.mr_version.specs.Name.{Name, name_cmp, name_eq}
@@ -17,14 +17,14 @@ pub record HasHoleyItem (pairs : Pairs) : Type 0 where
   pub item : Name
   pub holes : HasTooManyHoles (pairs item)
 
--- Of these items, and of no others, something else is known than of all the others; and they are more than a fragment lists.
-pub record ListsTooMany (pairs : Pairs) : Type 0 where
+-- Of these items, and of no others, something else is known than of all the others; and they are more than so many.
+pub record ListsTooMany (limit : ℕ) (pairs : Pairs) : Type 0 where
   pub all : Versions
   pub items : List Name
   pub distinct : IsDistinct name_eq items
   pub more : All (λ i. ¬ IsSame (pairs i) all) items
   pub rest : (i : Name) → list_any (name_eq i) items ≡ false → IsSame (pairs i) all
-  pub many : MAX_ITEMS < length items
+  pub many : limit < length items
 
 -- The versions are those of all items; or the items, in rising order, are all those of which just these are known, and
 -- that is something else than of all items.
@@ -36,13 +36,18 @@ HasNormalVersions k (Some items) versions = (items ≢ []) × IsStrictlySortedBy
 abbrev pub IsNormalPart : Normal → Part → Type 0
 IsNormalPart k p = HasNormalVersions k p.items p.versions
 
--- A version is learned for all items. There is no value where a vector would have too many holes, nor where too many
--- items would be listed.
-abbrev pub item_form : Form Normal
-item_form = record {
+-- A version is learned for all items. There is no value where a vector would have too many holes, nor where more than so
+-- many items would be listed.
+abbrev pub items_form : ℕ → Form Normal
+items_form limit = record {
   known = normal_known;
   is_part = IsNormalPart;
-  learns_for_all = true;
+  learns_for_all = λ _ _ _ _. true;
+  firsts_for_all = λ _ _ _ _. false;
   has_too_many_holes = HasHoleyItem;
-  has_too_many_items = ListsTooMany;
+  has_too_many_items = ListsTooMany limit;
 }
+
+-- the same, where no more items may be listed than a fragment lists
+abbrev pub item_form : Form Normal
+item_form = items_form MAX_ITEMS

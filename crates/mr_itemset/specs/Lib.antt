@@ -13,3 +13,5 @@ pub mod NormalForm
 pub mod Groups
 pub mod Shown
 pub mod Rows
+pub mod Sparing
+pub mod SparingRows

@@ -1,8 +1,7 @@
-use Rattle.std.specs.Prelude.{◌≡◌, ◌≤◌, if◌then◌else◌, List, [], ◌∷◌, All, AllPairs, length, map, refl}
+use Rattle.std.specs.Prelude.{◌≡◌, ◌≤◌, ℕ, if◌then◌else◌, List, [], ◌∷◌, All, AllPairs, length, map, refl}
 use Rattle.std.specs.Coded.{Coded, code_by, coded×, coded_list}
 use Rattle.std.specs.declared.cmp.Ordering.TheVariants.{Less}
 use Rattle.mr_version.specs.Name.{Name, name_code, name_cmp, name_eq}
-use Rattle.mr_forms.specs.declared.fragment.TheConstants.{MAX_ITEMS}
 use Rattle.mr_forms.specs.Sets.{IsSame, Covers}
 use Rattle.mr_forms.specs.Known.{Pairs}
 use Rattle.mr_concise.specs.declared.vector.AuthorColumn.{AuthorColumn}
@@ -46,9 +45,9 @@ pub record HasMore (all : List AuthorColumn) (x : Listed) : Type 0 where
   pub covers : Covers (vector_has x.vector) (vector_has all)
   pub more : ¬ IsSame (vector_has x.vector) (vector_has all)
 
--- the normal form: listed items rise, there are no more than a fragment lists, and of each more is known
-pub record IsNormal (k : Normal) : Type 0 where
+-- the normal form: listed items rise, there are no more than so many, and of each more is known
+pub record IsNormal (limit : ℕ) (k : Normal) : Type 0 where
   pub all_ok : IsVectorFrom 0 k.all
   pub rising : AllPairs IsBefore k.listed
   pub more : All (HasMore k.all) k.listed
-  pub few : length k.listed ≤ MAX_ITEMS
+  pub few : length k.listed ≤ limit

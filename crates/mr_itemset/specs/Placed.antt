@@ -1,8 +1,7 @@
-use Rattle.std.specs.Prelude.{◌≡◌, ◌<◌, ◌⊎◌, true, if◌then◌else◌, List, [], ◌∷◌, length}
+use Rattle.std.specs.Prelude.{◌≡◌, ◌<◌, ◌⊎◌, ℕ, true, if◌then◌else◌, List, [], ◌∷◌, length}
 use Rattle.std.specs.List.{list_any}
 use Rattle.std.specs.Ordering.{is_lt}
 use Rattle.mr_version.specs.Name.{Name, name_cmp, name_eq}
-use Rattle.mr_forms.specs.declared.fragment.TheConstants.{MAX_ITEMS}
 use Rattle.mr_forms.specs.Sets.{Versions, Covers}
 use Rattle.mr_concise.specs.Vector.{vector_has}
 use Rattle.mr_itemset.specs.declared.knowledge.Listed.{Listed}
@@ -18,6 +17,7 @@ placed new (x ∷ xs) =
 abbrev pub Lists : Normal → Name → Type 0
 Lists k item = list_any (name_eq item) (items_of k.listed) ≡ true
 
--- One more item may be listed, or the item is listed already, or all items have the versions.
-abbrev pub HasRoom : Normal → Name → Versions → Type 0
-HasRoom k item set = (length k.listed < MAX_ITEMS) ⊎ (Lists k item ⊎ Covers (vector_has k.all) set)
+-- One more item may be listed, where no more than so many may be; or the item is listed already, or all items have the
+-- versions.
+abbrev pub HasRoom : ℕ → Normal → Name → Versions → Type 0
+HasRoom limit k item set = (length k.listed < limit) ⊎ (Lists k item ⊎ Covers (vector_has k.all) set)

@@ -1,6 +1,5 @@
-use Rattle.std.specs.Prelude.{◌<◌, ◌⊎◌, Contains, length}
+use Rattle.std.specs.Prelude.{◌<◌, ◌⊎◌, ℕ, Contains, length}
 use Rattle.mr_version.specs.Name.{Name}
-use Rattle.mr_forms.specs.declared.fragment.TheConstants.{MAX_ITEMS}
 use Rattle.mr_forms.specs.Sets.{Versions, Covers, both}
 use Rattle.mr_concise.specs.Vector.{vector_has}
 use Rattle.mr_itemset.specs.declared.knowledge.Listed.{Listed}
@@ -13,7 +12,8 @@ pub record Drops (learned : Versions) (k : Normal) : Type 0 where
   pub is_in : Contains k.listed dropped
   pub covers : Covers (both learned (vector_has k.all)) (vector_has dropped.vector)
 
--- Once all items have the learned versions, there is room for the item's: one more item may be listed, or the item is
+-- Once all items have the learned versions, there is room for the item's: one more item may be listed, where no more than
+-- so many may be; or the item is
 -- listed already, or all items have its versions, or an item is listed no longer.
-abbrev pub HasRoomWith : Normal → Versions → Name → Versions → Type 0
-HasRoomWith k learned item set = (length k.listed < MAX_ITEMS) ⊎ (Lists k item ⊎ (Covers (both learned (vector_has k.all)) set ⊎ Drops learned k))
+abbrev pub HasRoomWith : ℕ → Normal → Versions → Name → Versions → Type 0
+HasRoomWith limit k learned item set = (length k.listed < limit) ⊎ (Lists k item ⊎ (Covers (both learned (vector_has k.all)) set ⊎ Drops learned k))

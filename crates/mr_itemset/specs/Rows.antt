@@ -62,7 +62,7 @@ pub known_for_unlisted : normal_known known (name 1 4) (name 0 3) ≡ true
 known_for_unlisted = refl
 
 -- an item of which no more is known than of all is not listed
-pub listed_without_more : ¬ IsNormal (normal (first 3) (listed_as (name 1 1) (first 3) ∷ []))
+pub listed_without_more : ¬ IsNormal 2 (normal (first 3) (listed_as (name 1 1) (first 3) ∷ []))
 listed_without_more is = (is.more 0 (listed_as (name 1 1) (first 3)) (omega arith)).more (λ v. refl)
 
 -- a knowledge is equal to another only where each listed item is

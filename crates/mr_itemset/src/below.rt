@@ -8,12 +8,11 @@ ghost use Rattle.mr_itemset.specs.Placed.{HasRoom};
 
 use crate::limits::lacks;
 use crate::settled::Settled;
-use mr_concise::OfSet;
-use mr_forms::{MAX_ITEMS, VersionSet};
+use mr_concise::Source;
 use mr_version::ItemId;
 use std::alloc::AllocError;
 
-impl Settled {
+impl<const LIMIT: usize> Settled<LIMIT> {
     /// Whether the item is listed. It costs a search.
     pub(crate) fn lists(&self, item: ItemId) -> bool
         ensures { result ≡ list_any (name_eq item) (items_of self.now.listed) }
@@ -22,12 +21,12 @@ impl Settled {
     }
 
     /// Whether the versions may be listed for the item. It allocates nothing.
-    pub(crate) fn has_room<S: VersionSet>(&self, item: ItemId, set: &S) -> bool
-        ensures yes { result ≡ true → HasRoom self.now item (S.has set.now) }
-        ensures no { result ≡ false → ListsTooMany (with_below (normal_known self.now) item (S.has set.now)) }
-        ensures normal { IsNormal self.now }
+    pub(crate) fn has_room<S: Source>(&self, item: ItemId, set: &S) -> bool
+        ensures yes { result ≡ true → HasRoom LIMIT self.now item (S.has set.now) }
+        ensures no { result ≡ false → ListsTooMany LIMIT (with_below (normal_known self.now) item (S.has set.now)) }
+        ensures normal { IsNormal LIMIT self.now }
     {
-        if self.listed().len() < MAX_ITEMS {
+        if self.listed().len() < LIMIT {
             return true;
         }
         if self.lists(item) {
@@ -38,17 +37,13 @@ impl Settled {
 
     /// Adds all versions of a set, of any form, for the item, and nothing else. Those that a limit forbids it
     /// refuses as it does where memory is gone.
-    pub(crate) fn learn_below<S: VersionSet>(
-        &mut self,
-        item: ItemId,
-        set: &S,
-    ) -> Result<(), AllocError>
+    pub(crate) fn learn_below<S: Source>(&mut self, item: ItemId, set: &S) -> Result<(), AllocError>
         ensures ok { OnOk result (AreSame (normal_known self.new) (with_below (normal_known self.old) item (S.has set.now))) }
         ensures err { OnErr result (self.new ≡ self.old) }
     {
         if !self.has_room(item, set) {
             return Err(AllocError);
         }
-        self.add_to_item(item, &OfSet { set })
+        self.add_to_item(item, set)
     }
 }

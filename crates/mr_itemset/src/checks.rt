@@ -5,17 +5,16 @@ ghost use Rattle.mr_forms.specs.Known.{with_below, with_learned, with_learned_be
 ghost use Rattle.mr_itemset.specs.Normal.{normal_known, IsNormal};
 ghost use Rattle.mr_itemset.specs.ItemForm.{HasHoleyItem, ListsTooMany, with_all};
 
-use crate::knowledge::ItemKnowledge;
+use crate::knowledge::ItemsUpTo;
 use mr_concise::Source;
-use mr_forms::VersionSet;
 use mr_version::{ItemId, Version};
 
-impl ItemKnowledge {
+impl<const LIMIT: usize> ItemsUpTo<LIMIT> {
     /// Whether some vector would have too many holes, once these versions are known for all items. It
     /// looks at all listed items.
     pub(crate) fn would_be_holey<A: Source>(&self, added: &A) -> bool
         ensures holey { IsTrue result ↔ HasHoleyItem (with_all (normal_known self.now) (A.has added.now)) }
-        ensures normal { IsNormal self.now }
+        ensures normal { IsNormal LIMIT self.now }
     {
         let parts = self.parts();
         parts.settled.would_be_holey(&(added, parts.pending))
@@ -24,7 +23,7 @@ impl ItemKnowledge {
     /// The same of one version. It looks at the listed items only where a limit may be near.
     pub(crate) fn would_be_holey_for_all(&self, version: Version) -> bool
         ensures holey { IsTrue result ↔ HasHoleyItem (with_all (normal_known self.now) (name_eq version)) }
-        ensures normal { IsNormal self.now }
+        ensures normal { IsNormal LIMIT self.now }
     {
         let _parts = self.parts();
         if self.has_leeway(version) {
@@ -34,9 +33,9 @@ impl ItemKnowledge {
     }
 
     /// Whether the item's vector would have too many holes with these versions.
-    pub(crate) fn would_be_holey_at<S: VersionSet>(&self, item: ItemId, set: &S) -> bool
+    pub(crate) fn would_be_holey_at<S: Source>(&self, item: ItemId, set: &S) -> bool
         ensures holey { (result ≡ true) ↔ HasHoleyItem (with_below (normal_known self.now) item (S.has set.now)) }
-        ensures normal { IsNormal self.now }
+        ensures normal { IsNormal LIMIT self.now }
     {
         let parts = self.parts();
         parts
@@ -45,7 +44,7 @@ impl ItemKnowledge {
     }
 
     /// Whether the item's vector would have too many holes with the version and these.
-    pub(crate) fn would_be_holey_with<S: VersionSet>(
+    pub(crate) fn would_be_holey_with<S: Source>(
         &self,
         item: ItemId,
         version: Version,
@@ -61,23 +60,18 @@ impl ItemKnowledge {
     }
 
     /// Whether the versions may be listed for the item.
-    pub(crate) fn has_room_at<S: VersionSet>(&self, item: ItemId, set: &S) -> bool
-        ensures yes { result ≡ true → ¬ ListsTooMany (with_below (normal_known self.now) item (S.has set.now)) }
-        ensures no { result ≡ false → ListsTooMany (with_below (normal_known self.now) item (S.has set.now)) }
+    pub(crate) fn has_room_at<S: Source>(&self, item: ItemId, set: &S) -> bool
+        ensures yes { result ≡ true → ¬ ListsTooMany LIMIT (with_below (normal_known self.now) item (S.has set.now)) }
+        ensures no { result ≡ false → ListsTooMany LIMIT (with_below (normal_known self.now) item (S.has set.now)) }
     {
         let parts = self.parts();
         parts.settled.has_room_with(item, parts.pending, set)
     }
 
     /// Whether the versions may be listed for the item, once all items have the version.
-    pub(crate) fn has_room_with<S: VersionSet>(
-        &self,
-        item: ItemId,
-        version: Version,
-        below: &S,
-    ) -> bool
-        ensures yes { result ≡ true → ¬ ListsTooMany (with_learned_below true (normal_known self.now) item version (S.has below.now)) }
-        ensures no { result ≡ false → ListsTooMany (with_learned_below true (normal_known self.now) item version (S.has below.now)) }
+    pub(crate) fn has_room_with<S: Source>(&self, item: ItemId, version: Version, below: &S) -> bool
+        ensures yes { result ≡ true → ¬ ListsTooMany LIMIT (with_learned_below true (normal_known self.now) item version (S.has below.now)) }
+        ensures no { result ≡ false → ListsTooMany LIMIT (with_learned_below true (normal_known self.now) item version (S.has below.now)) }
     {
         let parts = self.parts();
         let learned = (version, parts.pending);

@@ -1,4 +1,4 @@
-ghost use Rattle.std.specs.Prelude.{◌≡◌, ◌≤◌, ◌↔◌, true, false, All, AllPairs, IfOk, OnOk, OnErr, IsErrOf, Err};
+ghost use Rattle.std.specs.Prelude.{◌≡◌, ◌≤◌, ◌↔◌, ◌≢◌, true, false, All, AllPairs, IfOk, OnOk, OnErr, IsErrOf, Err};
 ghost use Rattle.std.specs.List.{list_any};
 ghost use Rattle.std.specs.declared.cmp.Ordering.TheVariants.{Less};
 ghost use Rattle.mr_version.specs.Name.{name_cmp, name_eq};
@@ -7,12 +7,13 @@ ghost use Rattle.mr_forms.specs.Known.{AreSame, HasValue, IsOnlyOverItems};
 ghost use Rattle.mr_concise.specs.Vector.{vector_has};
 ghost use Rattle.mr_itemset.specs.Lacking.{Lacks};
 ghost use Rattle.mr_itemset.specs.Normal.{normal_known, items_of, IsNormal};
-ghost use Rattle.mr_itemset.specs.ItemForm.{item_form, HasHoleyItem, ListsTooMany};
+ghost use Rattle.mr_itemset.specs.ItemForm.{items_form, HasHoleyItem, ListsTooMany};
 ghost use Rattle.mr_itemset.specs.Each.{with_each, CountsNew};
 
-use crate::knowledge::ItemKnowledge;
+use crate::knowledge::ItemsUpTo;
 use crate::settled::Settled;
-use mr_forms::{FormFault, MAX_ITEMS, VersionSet};
+use mr_concise::Source;
+use mr_forms::FormFault;
 use mr_version::ItemId;
 use std::alloc::AllocError;
 
@@ -39,11 +40,28 @@ fn is_among(before: &[ItemId], item: ItemId, are_lower: bool) -> bool
     before.contains(&item)
 }
 
-impl ItemKnowledge {
+impl<const LIMIT: usize> ItemsUpTo<LIMIT> {
+    /// Whether some of the items lacks a version of the set. It allocates nothing.
+    fn some_lack<S: Source>(&self, items: &[ItemId], set: &S) -> bool
+        ensures yes { result ≡ true → Lacks (vector_has self.now.all) (S.has set.now) }
+        ensures no { result ≡ false → AreSame (normal_known self.now) (with_each (normal_known self.now) items.now (S.has set.now)) }
+        ensures normal { IsNormal LIMIT self.now }
+    {
+        if !self.all_lack(set) {
+            return false;
+        }
+        for item in items {
+            if self.item_lacks(*item, set) {
+                return true;
+            }
+        }
+        false
+    }
+
     /// Whether some item's vector would have too many holes with these versions. It allocates
     /// nothing.
-    fn would_be_holey_in<S: VersionSet>(&self, items: &[ItemId], set: &S) -> bool
-        requires { IsNormal self.now }
+    fn would_be_holey_in<S: Source>(&self, items: &[ItemId], set: &S) -> bool
+        requires { IsNormal LIMIT self.now }
         ensures { (result ≡ true) ↔ HasHoleyItem (with_each (normal_known self.now) items.now (S.has set.now)) }
     {
         for item in items {
@@ -57,7 +75,7 @@ impl ItemKnowledge {
     /// How many of the items are not listed, each counted once. It allocates nothing. Items that don't
     /// rise cost a search each among those before them.
     fn count_new(&self, items: &[ItemId]) -> usize
-        requires { IsNormal self.now }
+        requires { IsNormal LIMIT self.now }
         ensures { CountsNew self.now items.now result }
     {
         let are_rising = rises(items);
@@ -74,10 +92,10 @@ impl ItemKnowledge {
     /// Whether all these items may be listed. It allocates nothing. It looks at all listed items, and
     /// counts which of these are new only where the limit is near.
     fn has_room_for(&self, items: &[ItemId]) -> bool
-        ensures yes { result ≡ true → (set : Versions) → ¬ ListsTooMany (with_each (normal_known self.now) items.now set) }
-        ensures no { result ≡ false → (set : Versions) → Lacks (vector_has self.now.all) set → ListsTooMany (with_each (normal_known self.now) items.now set) }
+        ensures yes { result ≡ true → (set : Versions) → ¬ ListsTooMany LIMIT (with_each (normal_known self.now) items.now set) }
+        ensures no { result ≡ false → (set : Versions) → Lacks (vector_has self.now.all) set → ListsTooMany LIMIT (with_each (normal_known self.now) items.now set) }
     {
-        let room = MAX_ITEMS - self.listed_count();
+        let room = LIMIT - self.listed_count();
         if items.len() <= room {
             return true;
         }
@@ -85,8 +103,8 @@ impl ItemKnowledge {
     }
 
     /// The knowledge with the versions for each of the items.
-    fn with_each<S: VersionSet>(&self, items: &[ItemId], set: &S) -> Result<Settled, AllocError>
-        requires { HasValue item_form (with_each (normal_known self.now) items.now (S.has set.now)) }
+    fn with_each<S: Source>(&self, items: &[ItemId], set: &S) -> Result<Settled<LIMIT>, AllocError>
+        requires { HasValue (items_form LIMIT) (with_each (normal_known self.now) items.now (S.has set.now)) }
         ensures { IfOk result (λ k. AreSame (normal_known k) (with_each (normal_known self.now) items.now (S.has set.now))) }
     {
         let mut grown = self.folded()?;
@@ -96,19 +114,17 @@ impl ItemKnowledge {
         Ok(grown)
     }
 
-    /// Adds all versions of a set for each of the items. Where all items have them nothing is
-    /// copied.
-    pub(crate) fn learn_for_each<S: VersionSet>(
-        &mut self,
+    /// The fault that `learn_for_each` would answer where memory is there. It allocates nothing.
+    pub(crate) fn may_learn_for_each<S: Source>(
+        &self,
         items: &[ItemId],
         set: &S,
     ) -> Result<(), FormFault>
-        ensures ok { OnOk result (AreSame (normal_known self.new) (with_each (normal_known self.old) items.now (S.has set.now))) }
-        ensures holes { IsErrOf result FormFault.TooManyHoles ↔ HasHoleyItem (with_each (normal_known self.old) items.now (S.has set.now)) }
-        ensures items { IsErrOf result FormFault.TooManyItems ↔ IsOnlyOverItems item_form (with_each (normal_known self.old) items.now (S.has set.now)) }
-        ensures err { OnErr result (self.new ≡ self.old) }
+        ensures holes { IsErrOf result FormFault.TooManyHoles ↔ HasHoleyItem (with_each (normal_known self.now) items.now (S.has set.now)) }
+        ensures items { IsErrOf result FormFault.TooManyItems ↔ IsOnlyOverItems (items_form LIMIT) (with_each (normal_known self.now) items.now (S.has set.now)) }
+        ensures memory { result ≢ Err FormFault.OutOfMemory }
     {
-        if !self.all_lack(set) {
+        if !self.some_lack(items, set) {
             return Ok(());
         }
         if self.would_be_holey_in(items, set) {
@@ -117,10 +133,29 @@ impl ItemKnowledge {
         if !self.has_room_for(items) {
             return Err(FormFault::TooManyItems);
         }
+        Ok(())
+    }
+
+    /// Adds all versions of a set for each of the items. Where each of them has the set already nothing is
+    /// copied.
+    pub(crate) fn learn_for_each<S: Source>(
+        &mut self,
+        items: &[ItemId],
+        set: &S,
+    ) -> Result<(), FormFault>
+        ensures ok { OnOk result (AreSame (normal_known self.new) (with_each (normal_known self.old) items.now (S.has set.now))) }
+        ensures holes { IsErrOf result FormFault.TooManyHoles ↔ HasHoleyItem (with_each (normal_known self.old) items.now (S.has set.now)) }
+        ensures items { IsErrOf result FormFault.TooManyItems ↔ IsOnlyOverItems (items_form LIMIT) (with_each (normal_known self.old) items.now (S.has set.now)) }
+        ensures err { OnErr result (self.new ≡ self.old) }
+    {
+        self.may_learn_for_each(items, set)?;
+        if !self.some_lack(items, set) {
+            return Ok(());
+        }
         let Ok(grown) = self.with_each(items, set) else {
             return Err(FormFault::OutOfMemory);
         };
-        *self = ItemKnowledge::of(grown);
+        *self = ItemsUpTo::of(grown);
         Ok(())
     }
 }

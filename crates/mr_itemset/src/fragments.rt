@@ -11,7 +11,7 @@ ghost use Rattle.mr_itemset.specs.Shown.{shown, shown_group, fragments_in, norma
 use crate::groups::{Group, groups_of};
 use crate::settled::Settled;
 use mr_concise::{ConciseVector, knowledge_text};
-use mr_forms::{FormFault, Fragment, ItemSet, VersionSet};
+use mr_forms::{FormFault, Fragment, ItemSet, MAX_ITEMS, VersionSet};
 
 /// Puts a fragment of each group behind the others.
 fn push_groups(
@@ -27,7 +27,7 @@ fn push_groups(
     Ok(())
 }
 
-impl Settled {
+impl Settled<MAX_ITEMS> {
     /// The knowledge as fragments, in normal form. That of all items comes first, and its vector may be
     /// empty. Each listed item is in one of the others, with a vector that has all that all items have,
     /// and more; no two of these have the same vector. They come by their first items, and the items of

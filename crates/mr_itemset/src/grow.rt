@@ -40,7 +40,7 @@ fn push_grown<A: Source>(
     Ok(())
 }
 
-impl Settled {
+impl<const LIMIT: usize> Settled<LIMIT> {
     /// The listed items, with the added versions, of which more is known than of all.
     fn grown_listed<A: Source>(&self, all: &ConciseVector, added: &A) -> Result<Vectors, AllocError>
         requires vector { IsVectorFrom 0 all.now }
@@ -56,9 +56,9 @@ impl Settled {
     }
 
     /// The knowledge with the added versions for all items.
-    pub(crate) fn with_all<A: Source>(&self, added: &A) -> Result<Settled, AllocError>
+    pub(crate) fn with_all<A: Source>(&self, added: &A) -> Result<Settled<LIMIT>, AllocError>
         ensures same { IfOk result (λ k. AreSame (normal_known k) (with_all (normal_known self.now) (A.has added.now))) }
-        ensures normal { IfOk result IsNormal }
+        ensures normal { IfOk result (IsNormal LIMIT) }
     {
         let alloc = self.allocator();
         let Ok(all) = ConciseVector::gather(alloc, &(added, self.for_all())) else {

@@ -62,14 +62,14 @@ pub(crate) fn put_in_with(
     Ok(())
 }
 
-impl Settled {
+impl<const LIMIT: usize> Settled<LIMIT> {
     /// Adds the versions for the item. Where they are no more than all items have nothing changes.
     pub(crate) fn add_to_item<A: Source>(
         &mut self,
         item: ItemId,
         added: &A,
     ) -> Result<(), AllocError>
-        requires { HasRoom self.old item (A.has added.now) }
+        requires { HasRoom LIMIT self.old item (A.has added.now) }
         ensures ok { OnOk result (AreSame (normal_known self.new) (with_below (normal_known self.old) item (A.has added.now))) }
         ensures err { OnErr result (self.new ≡ self.old) }
     {

@@ -2,16 +2,15 @@ ghost use Rattle.std.specs.Prelude.{◌≡◌, ◌≤◌, true, false, length, I
 ghost use Rattle.mr_version.specs.Name.{name_eq};
 ghost use Rattle.mr_forms.specs.Known.{AreSame, HasValue, with_below, with_learned, with_learned_below};
 ghost use Rattle.mr_itemset.specs.Normal.{normal_known, IsNormal};
-ghost use Rattle.mr_forms.specs.declared.fragment.TheConstants.{MAX_ITEMS};
-ghost use Rattle.mr_itemset.specs.ItemForm.{item_form, with_all, HasHoleyItem};
+ghost use Rattle.mr_itemset.specs.ItemForm.{items_form, with_all, HasHoleyItem};
 ghost use Rattle.mr_itemset.specs.Folded.{IsSplit};
 
 use crate::limits::lacks;
 use crate::listing::count_beyond;
-use crate::pending::{leaves_room, try_below, try_list_with};
+use crate::pending::{gathered, leaves_room, most_holes, try_below, try_list_with};
 use crate::settled::Settled;
-use mr_concise::ConciseVector;
-use mr_forms::VersionSet;
+use mr_concise::{ConciseVector, MAX_HOLES, Source};
+use mr_forms::{MAX_ITEMS, VersionSet};
 use mr_version::{ItemId, Version};
 use std::alloc::AllocError;
 use std::marker::Model;
@@ -23,17 +22,17 @@ pub struct Listed {
     pub vector: ConciseVector,
 }
 
-/// Which versions are known for which items. A version that is learned for all items waits beside what is
-/// settled, so that learning it looks at no listed item. No column of what is settled has more than
-/// `most_holes` holes, so that this number tells where a limit may be near.
+/// Which versions are known for which items, of which no more than `LIMIT` are listed. A version that is
+/// learned for all items waits beside what is settled, so that learning it looks at no listed item. No column
+/// of what is settled has more than `most_holes` holes, so that this number tells where a limit may be near.
 #[derive(Debug, Drop)]
-pub struct ItemKnowledge {
-    settled: Settled,
+pub struct ItemsUpTo<const LIMIT: usize> {
+    settled: Settled<LIMIT>,
     pending: ConciseVector,
     most_holes: usize,
 }
 
-impl Model for ItemKnowledge {
+impl<const LIMIT: usize> Model for ItemsUpTo<LIMIT> {
     ghost use Rattle.mr_itemset.specs.Normal.{Normal, normal_code};
     ghost use Rattle.mr_itemset.specs.Folded.{folded, IsKept};
 
@@ -43,24 +42,27 @@ impl Model for ItemKnowledge {
 
     ghost view = { λ k. folded k.settled k.pending };
 
-    ghost invariant = { λ k. IsKept k.settled k.pending k.most_holes };
+    ghost invariant = { λ k. IsKept LIMIT k.settled k.pending k.most_holes };
 }
+
+/// Which versions are known for which items, of which it lists no more than one fragment may.
+pub type ItemKnowledge = ItemsUpTo<MAX_ITEMS>;
 
 /// What a knowledge is made of: what is settled, and the versions of all items that are not yet in it.
 #[derive(Drop)]
-pub(crate) struct Parts<'a> {
-    pub(crate) settled: &'a Settled,
+pub(crate) struct Parts<'a, const LIMIT: usize> {
+    pub(crate) settled: &'a Settled<LIMIT>,
     pub(crate) pending: &'a ConciseVector,
 }
 
-impl ItemKnowledge {
+impl<const LIMIT: usize> ItemsUpTo<LIMIT> {
     /// The same knowledge, with nothing pending. It looks at all listed items.
-    pub(crate) fn of(settled: Settled) -> ItemKnowledge
-        ensures { result ≡ settled }
+    pub(crate) fn of(settled: Settled<LIMIT>) -> ItemsUpTo<LIMIT>
+        ensures { result ≡ settled.entry }
     {
         let most_holes = settled.most_holes();
         let pending = ConciseVector::new(settled.allocator());
-        ItemKnowledge {
+        ItemsUpTo {
             settled,
             pending,
             most_holes,
@@ -68,8 +70,8 @@ impl ItemKnowledge {
     }
 
     /// Its parts, lent.
-    pub(crate) fn parts(&self) -> Parts<'_>
-        ensures { IsSplit self.now result.settled.now result.pending.now }
+    pub(crate) fn parts(&self) -> Parts<'_, LIMIT>
+        ensures { IsSplit LIMIT self.now result.settled.now result.pending.now }
     {
         Parts {
             settled: &self.settled,
@@ -78,14 +80,14 @@ impl ItemKnowledge {
     }
 
     /// An equal knowledge.
-    pub(crate) fn copy_parts(&self) -> Result<ItemKnowledge, AllocError>
+    pub(crate) fn copy_parts(&self) -> Result<ItemsUpTo<LIMIT>, AllocError>
         ensures { IfOk result (λ k. k ≡ self.now) }
     {
         let settled = self.settled.copy()?;
         let Ok(pending) = self.pending.copy() else {
             return Err(AllocError);
         };
-        Ok(ItemKnowledge {
+        Ok(ItemsUpTo {
             settled,
             pending,
             most_holes: self.most_holes,
@@ -95,8 +97,8 @@ impl ItemKnowledge {
     /// Of how many items more is known than of all. It looks at all listed items.
     pub(crate) fn listed_count(&self) -> usize
         ensures count { result ≡ length self.now.listed }
-        ensures bound { result ≤ MAX_ITEMS }
-        ensures normal { IsNormal self.now }
+        ensures bound { result ≤ LIMIT }
+        ensures normal { IsNormal LIMIT self.now }
     {
         count_beyond(&self.settled, &self.pending)
     }
@@ -109,10 +111,21 @@ impl ItemKnowledge {
         leaves_room(&self.pending, self.most_holes)
     }
 
+    /// Whether the holes leave room for these versions of all items, without a look at the listed ones. It
+    /// costs a walk through the versions, and a number for each author of what waits.
+    pub(crate) fn has_leeway_for<A: Source>(&self, learned: &A) -> bool
+        ensures { result ≡ true → ¬ HasHoleyItem (with_all (normal_known self.now) (A.has learned.now)) }
+    {
+        let kept = self.most_holes + most_holes(&self.pending);
+        let added = mr_concise::most_holes(learned);
+        let _columns = self.pending.author_columns();
+        added <= MAX_HOLES && kept + added <= MAX_HOLES
+    }
+
     /// Adds the version for all items, where the holes leave room for it. `false` where they don't.
     pub(crate) fn try_learn(&mut self, version: Version) -> Result<bool, AllocError>
         ensures done { IfOk result (λ done. done ≡ true → AreSame (normal_known self.new) (with_all (normal_known self.old) (name_eq version))) }
-        ensures value { IfOk result (λ done. done ≡ true → HasValue item_form (with_all (normal_known self.old) (name_eq version))) }
+        ensures value { IfOk result (λ done. done ≡ true → HasValue (items_form LIMIT) (with_all (normal_known self.old) (name_eq version))) }
         ensures not { IfOk result (λ done. done ≡ false → self.new ≡ self.old) }
         ensures err { OnErr result (self.new ≡ self.old) }
     {
@@ -129,13 +142,13 @@ impl ItemKnowledge {
 
     /// Adds the versions for the item, where neither holes nor listed items are near their limit. `false`
     /// where one may be.
-    pub(crate) fn try_learn_below<S: VersionSet>(
+    pub(crate) fn try_learn_below<S: Source>(
         &mut self,
         item: ItemId,
         set: &S,
     ) -> Result<bool, AllocError>
         ensures done { IfOk result (λ done. done ≡ true → AreSame (normal_known self.new) (with_below (normal_known self.old) item (S.has set.now))) }
-        ensures value { IfOk result (λ done. done ≡ true → HasValue item_form (with_below (normal_known self.old) item (S.has set.now))) }
+        ensures value { IfOk result (λ done. done ≡ true → HasValue (items_form LIMIT) (with_below (normal_known self.old) item (S.has set.now))) }
         ensures not { IfOk result (λ done. done ≡ false → self.new ≡ self.old) }
         ensures err { OnErr result (self.new ≡ self.old) }
     {
@@ -151,15 +164,15 @@ impl ItemKnowledge {
 
     /// Adds the version for all items and the set for its own, where neither holes nor listed items are near
     /// their limit. `false` where one may be.
-    pub(crate) fn try_learn_with<S: VersionSet>(
+    pub(crate) fn try_learn_with<S: Source>(
         &mut self,
         item: ItemId,
         version: Version,
         below: &S,
     ) -> Result<bool, AllocError>
         ensures done { IfOk result (λ done. done ≡ true → AreSame (normal_known self.new) (with_learned_below true (normal_known self.old) item version (S.has below.now))) }
-        ensures first { IfOk result (λ done. done ≡ true → HasValue item_form (with_learned true (normal_known self.old) item version)) }
-        ensures second { IfOk result (λ done. done ≡ true → HasValue item_form (with_learned_below true (normal_known self.old) item version (S.has below.now))) }
+        ensures first { IfOk result (λ done. done ≡ true → HasValue (items_form LIMIT) (with_learned true (normal_known self.old) item version)) }
+        ensures second { IfOk result (λ done. done ≡ true → HasValue (items_form LIMIT) (with_learned_below true (normal_known self.old) item version (S.has below.now))) }
         ensures not { IfOk result (λ done. done ≡ false → self.new ≡ self.old) }
         ensures err { OnErr result (self.new ≡ self.old) }
     {
@@ -178,5 +191,39 @@ impl ItemKnowledge {
         )?;
         let _columns = self.pending.author_columns();
         Ok(done)
+    }
+
+    /// Adds the learned versions for all items and the set for this one, where neither holes nor listed
+    /// items are near their limit. `false` where one may be. It copies what waits.
+    pub(crate) fn try_learn_more<A: Source, S: Source>(
+        &mut self,
+        item: ItemId,
+        learned: &A,
+        below: &S,
+    ) -> Result<bool, AllocError>
+        ensures done { IfOk result (λ done. done ≡ true → AreSame (normal_known self.new) (with_below (with_all (normal_known self.old) (A.has learned.now)) item (S.has below.now))) }
+        ensures first { IfOk result (λ done. done ≡ true → HasValue (items_form LIMIT) (with_all (normal_known self.old) (A.has learned.now))) }
+        ensures second { IfOk result (λ done. done ≡ true → HasValue (items_form LIMIT) (with_below (with_all (normal_known self.old) (A.has learned.now)) item (S.has below.now))) }
+        ensures not { IfOk result (λ done. done ≡ false → self.new ≡ self.old) }
+        ensures err { OnErr result (self.new ≡ self.old) }
+    {
+        let Some(pending) = gathered(self.settled.allocator(), &(learned, &self.pending))? else {
+            return Ok(false);
+        };
+        if !leaves_room(&pending, self.most_holes) {
+            return Ok(false);
+        }
+        let done = try_below(
+            &mut self.settled,
+            &mut self.most_holes,
+            &pending,
+            item,
+            below,
+        )?;
+        if !done {
+            return Ok(false);
+        }
+        self.pending = pending;
+        Ok(true)
     }
 }

@@ -1,5 +1,6 @@
 use crate::knowledge::ItemKnowledge;
-use mr_concise::ConciseVector;
+use crate::sparing::SparingKnowledge;
+use mr_concise::{ConciseVector, OfSet};
 use mr_forms::{FormFault, Fragment, Knowledge, VersionSet};
 use mr_version::{ItemId, Version};
 use std::alloc::Global;
@@ -35,7 +36,7 @@ impl Knowledge for ItemKnowledge {
     }
 
     fn learn_below<S: VersionSet>(&mut self, item: ItemId, set: &S) -> Result<(), FormFault> {
-        ItemKnowledge::learn_below(self, item, set)
+        ItemKnowledge::learn_below(self, item, &OfSet { set })
     }
 
     fn learn_with<S: VersionSet>(
@@ -44,7 +45,7 @@ impl Knowledge for ItemKnowledge {
         version: Version,
         below: &S,
     ) -> Result<(), FormFault> {
-        ItemKnowledge::learn_with(self, item, version, below)
+        ItemKnowledge::learn_with(self, item, version, &OfSet { set: below })
     }
 
     fn may_learn_with<S: VersionSet>(
@@ -53,14 +54,97 @@ impl Knowledge for ItemKnowledge {
         version: Version,
         below: &S,
     ) -> Result<(), FormFault> {
-        ItemKnowledge::may_learn_with(self, item, version, below)
+        ItemKnowledge::may_learn_with(self, item, version, &OfSet { set: below })
     }
 
     fn merge<S: VersionSet>(&mut self, fragment: &Fragment<S>) -> Result<(), FormFault> {
         ItemKnowledge::merge(self, fragment)
     }
 
+    fn may_merge<S: VersionSet>(&self, fragment: &Fragment<S>) -> Result<(), FormFault> {
+        ItemKnowledge::may_merge(self, fragment)
+    }
+
+    fn with_fragments<S: VersionSet>(
+        &self,
+        fragments: &[Fragment<S>],
+    ) -> Result<ItemKnowledge, FormFault> {
+        ItemKnowledge::with_fragments(self, fragments)
+    }
+
     fn fragments(&self) -> Result<Vec<Fragment<ConciseVector>>, FormFault> {
         ItemKnowledge::fragments(self)
+    }
+}
+
+impl Knowledge for SparingKnowledge {
+    ghost use Rattle.mr_itemset.specs.Sparing.{sparing_form};
+    ghost use Rattle.mr_itemset.specs.ListingLaws.{item_lists_more};
+
+    type Vector = ConciseVector;
+
+    ghost form = { sparing_form };
+
+    ghost lists_more = { item_lists_more };
+
+    fn new(alloc: Global) -> SparingKnowledge {
+        SparingKnowledge::new(alloc)
+    }
+
+    fn copy(&self) -> Result<SparingKnowledge, FormFault> {
+        SparingKnowledge::copy(self)
+    }
+
+    fn knows(&self, item: ItemId, version: Version) -> bool {
+        SparingKnowledge::knows(self, item, version)
+    }
+
+    fn learn(&mut self, item: ItemId, version: Version) -> Result<(), FormFault> {
+        SparingKnowledge::learn(self, item, version)
+    }
+
+    fn may_learn(&self, item: ItemId, version: Version) -> Result<(), FormFault> {
+        SparingKnowledge::may_learn(self, item, version)
+    }
+
+    fn learn_below<S: VersionSet>(&mut self, item: ItemId, set: &S) -> Result<(), FormFault> {
+        SparingKnowledge::learn_below(self, item, set)
+    }
+
+    fn learn_with<S: VersionSet>(
+        &mut self,
+        item: ItemId,
+        version: Version,
+        below: &S,
+    ) -> Result<(), FormFault> {
+        SparingKnowledge::learn_with(self, item, version, below)
+    }
+
+    fn may_learn_with<S: VersionSet>(
+        &self,
+        item: ItemId,
+        version: Version,
+        below: &S,
+    ) -> Result<(), FormFault> {
+        SparingKnowledge::may_learn_with(self, item, version, below)
+    }
+
+    fn merge<S: VersionSet>(&mut self, fragment: &Fragment<S>) -> Result<(), FormFault> {
+        SparingKnowledge::merge(self, fragment)
+    }
+
+    fn may_merge<S: VersionSet>(&self, fragment: &Fragment<S>) -> Result<(), FormFault> {
+        SparingKnowledge::may_merge(self, fragment)
+    }
+
+    fn with_fragments<S: VersionSet>(
+        &self,
+        fragments: &[Fragment<S>],
+    ) -> Result<SparingKnowledge, FormFault> {
+        SparingKnowledge::with_fragments(self, fragments)
+    }
+
+    fn fragments(&self) -> Result<Vec<Fragment<ConciseVector>>, FormFault> {
+        SparingKnowledge::fragments(self)
     }
 }

@@ -31,9 +31,9 @@ fn copies(listed: &Vectors, alloc: Global) -> Result<Vectors, AllocError>
     Ok(copies)
 }
 
-impl Settled {
+impl<const LIMIT: usize> Settled<LIMIT> {
     /// The knowledge of nothing. It allocates nothing; what grows later takes its memory from `alloc`.
-    pub(crate) fn new(alloc: Global) -> Settled
+    pub(crate) fn new(alloc: Global) -> Settled<LIMIT>
         ensures is { result ≡ record { all = []; listed = [] } }
         ensures nothing { AreSame (normal_known result) (λ _ _. false) }
     {
@@ -41,7 +41,7 @@ impl Settled {
     }
 
     /// An equal knowledge.
-    pub(crate) fn copy(&self) -> Result<Settled, AllocError>
+    pub(crate) fn copy(&self) -> Result<Settled<LIMIT>, AllocError>
         ensures { IfOk result (λ knowledge. knowledge ≡ self.now) }
     {
         let alloc = self.allocator();

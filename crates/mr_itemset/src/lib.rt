@@ -9,6 +9,14 @@
 //! two values are equal exactly where they know the same. `fragments` gives the normal form as it travels,
 //! with the items of one vector together, and `text` shows it, as `all 0:4; 0.1,0.5 0:4,1:1`.
 //!
+//! A version that comes before earlier ones of its author leaves these as holes. The holes of messages that
+//! were edited since, or that are not picked, stay, and a column has no more than so many. So
+//! [`SparingKnowledge`] learns a version for all items only where that costs no hole too many: where it is its
+//! author's first, or all items have the one before it, or its author's column for all items has fewer than
+//! [`SPARED_HOLES`] holes. Any other version is learned for its item alone, which is then listed. An item's
+//! first version goes along with one that follows it, so a message that was edited right after it was made
+//! leaves no hole.
+//!
 //! A version that is learned would grow the vector of each listed item. So it waits instead, with others,
 //! beside what is settled: an item's versions are those of its settled vector and those that wait. While the
 //! holes of any settled column and of any waiting one stay within a column's limit together, learning looks
@@ -31,12 +39,18 @@ mod learn;
 mod limits;
 mod listing;
 mod merge;
+mod merging;
+mod more;
 mod pending;
+mod rule;
 mod settle;
 mod settled;
+mod sparing;
 mod steps;
 mod views;
 mod with;
 
-pub use form::one_normal_form;
-pub use knowledge::{ItemKnowledge, Listed};
+pub use form::{one_choice, one_normal_form, one_value};
+pub use knowledge::{ItemKnowledge, ItemsUpTo, Listed};
+pub use rule::SPARED_HOLES;
+pub use sparing::{MAX_LISTED_ITEMS, SparingKnowledge};

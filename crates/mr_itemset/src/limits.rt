@@ -1,42 +1,33 @@
 ghost use Rattle.std.specs.Prelude.{◌≡◌, ◌↔◌, true, false, IsTrue};
 ghost use Rattle.mr_forms.specs.Sets.{Covers};
 ghost use Rattle.mr_forms.specs.Runs.{HasVersionsAlone};
-ghost use Rattle.mr_itemset.specs.Lacking.{HasCounters, LacksCounter, CoversAuthor, Lacks};
+ghost use Rattle.mr_itemset.specs.Lacking.{CoversAuthor, Lacks};
 ghost use Rattle.mr_itemset.specs.Normal.{normal_known, IsNormal};
 ghost use Rattle.mr_itemset.specs.ItemForm.{HasHoleyItem, with_all};
 
 use crate::settled::Settled;
 use mr_concise::{Source, would_have_too_many};
-use mr_forms::{Run, VersionSet};
 use mr_version::Author;
 
-/// Whether a source has all of a run.
-fn has_run<A: Source>(source: &A, run: &Run) -> bool
-    ensures yes { result ≡ true → HasCounters (A.has source.now) run.now.author run.now.first run.now.last }
-    ensures no { result ≡ false → LacksCounter (A.has source.now) run.now.author run.now.first run.now.last }
-{
-    run.last < source.next_out(run.author, run.first)
-}
-
 /// Whether a source lacks some version of the author that the set has.
-fn lacks_of<A: Source, S: VersionSet>(source: &A, set: &S, author: Author) -> bool
+fn lacks_of<A: Source, S: Source>(source: &A, set: &S, author: Author) -> bool
     ensures yes { result ≡ true → Lacks (A.has source.now) (S.has set.now) }
     ensures no { result ≡ false → CoversAuthor (A.has source.now) (S.has set.now) author }
-    ensures versions { HasVersionsAlone (S.has set.now) }
 {
+    let _none = set.next_out(author, 1);
     let mut from = 1;
-    while let Some(run) = set.run_from(author, from) {
-        let last = run.last;
-        if !has_run(source, &run) {
+    while let Some(first) = set.next_in(author, from) {
+        let end = set.next_out(author, first);
+        if source.next_out(author, first) < end {
             return true;
         }
-        from = last + 1;
+        from = end;
     }
     false
 }
 
 /// Whether a source lacks some version that the set has. It allocates nothing.
-pub(crate) fn lacks<A: Source, S: VersionSet>(source: &A, set: &S) -> bool
+pub(crate) fn lacks<A: Source, S: Source>(source: &A, set: &S) -> bool
     ensures yes { result ≡ true → Lacks (A.has source.now) (S.has set.now) }
     ensures no { result ≡ false → Covers (A.has source.now) (S.has set.now) }
 {
@@ -50,12 +41,12 @@ pub(crate) fn lacks<A: Source, S: VersionSet>(source: &A, set: &S) -> bool
     false
 }
 
-impl Settled {
+impl<const LIMIT: usize> Settled<LIMIT> {
     /// Whether some vector would have too many holes, once these versions are known for all items. It
     /// allocates nothing.
     pub(crate) fn would_be_holey<A: Source>(&self, added: &A) -> bool
         ensures holey { IsTrue result ↔ HasHoleyItem (with_all (normal_known self.now) (A.has added.now)) }
-        ensures normal { IsNormal self.now }
+        ensures normal { IsNormal LIMIT self.now }
     {
         if would_have_too_many(&(added, self.for_all())) {
             return true;

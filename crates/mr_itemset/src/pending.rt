@@ -14,10 +14,10 @@ ghost use Rattle.mr_itemset.specs.Placed.{HasRoom};
 use crate::knowledge::Listed;
 use crate::limits::lacks;
 use crate::settled::Settled;
-use mr_concise::{ConciseVector, MAX_HOLES, OfSet};
-use mr_forms::{FormFault, VersionSet};
+use mr_concise::{ConciseVector, MAX_HOLES, Source};
+use mr_forms::FormFault;
 use mr_version::{ItemId, Version};
-use std::alloc::AllocError;
+use std::alloc::{AllocError, Global};
 
 /// The higher of two numbers.
 fn higher(a: usize, b: usize) -> usize
@@ -48,11 +48,33 @@ pub(crate) fn leaves_room(vector: &ConciseVector, most: usize) -> bool
     most + most_holes(vector) < MAX_HOLES
 }
 
-impl Settled {
+/// Whether a column may have these holes and those of the vector's.
+fn has_room_beside(vector: &ConciseVector, most: usize) -> bool
+    requires { most ≤ MAX_HOLES }
+    ensures { result ≡ true → (q : ℕ) → most + length (column_of vector.now q).holes ≤ MAX_HOLES }
+{
+    most + most_holes(vector) <= MAX_HOLES
+}
+
+/// The vector of a source. `None` where it would have too many holes.
+pub(crate) fn gathered<S: Source>(
+    alloc: Global,
+    source: &S,
+) -> Result<Option<ConciseVector>, AllocError>
+    ensures { IfOk result (λ vector. IfSome vector (IsVectorOf (S.has source.now))) }
+{
+    match ConciseVector::gather(alloc, source) {
+        Ok(vector) => Ok(Some(vector)),
+        Err(FormFault::OutOfMemory) => Err(AllocError),
+        Err(_) => Ok(None),
+    }
+}
+
+impl<const LIMIT: usize> Settled<LIMIT> {
     /// The most holes of a column of any item.
     pub(crate) fn most_holes(&self) -> usize
         ensures most { IsSparse self.now result }
-        ensures normal { IsNormal self.now }
+        ensures normal { IsNormal LIMIT self.now }
         ensures bound { result ≤ MAX_HOLES }
     {
         let mut most = most_holes(self.for_all());
@@ -63,19 +85,19 @@ impl Settled {
     }
 
     /// The item's vector with these versions. `None` where it would have too many holes, or may not be listed.
-    fn grown_vector<S: VersionSet>(
+    fn grown_vector<S: Source>(
         &self,
         item: ItemId,
         set: &S,
     ) -> Result<Option<ConciseVector>, AllocError>
-        ensures room { IfOk result (λ grown. IfSome grown (λ _. HasRoom self.now item (S.has set.now))) }
+        ensures room { IfOk result (λ grown. IfSome grown (λ _. HasRoom LIMIT self.now item (S.has set.now))) }
         ensures vector { IfOk result (λ grown. IfSome grown (IsVectorOf (both (S.has set.now) (vector_has (vector_of self.now item))))) }
-        ensures normal { IsNormal self.now }
+        ensures normal { IsNormal LIMIT self.now }
     {
         if !self.has_room(item, set) {
             return Ok(None);
         }
-        let sources = (OfSet { set }, self.vector_of(item));
+        let sources = (set, self.vector_of(item));
         match ConciseVector::gather(self.allocator(), &sources) {
             Ok(vector) => Ok(Some(vector)),
             Err(FormFault::OutOfMemory) => Err(AllocError),
@@ -86,8 +108,8 @@ impl Settled {
 
 /// Lists the versions for the item, where it may be listed and the holes of its columns leave room for those
 /// that are pending. `false` where they don't.
-fn try_list<S: VersionSet>(
-    settled: &mut Settled,
+fn try_list<S: Source, const LIMIT: usize>(
+    settled: &mut Settled<LIMIT>,
     most: &mut usize,
     pending: &ConciseVector,
     item: ItemId,
@@ -98,7 +120,7 @@ fn try_list<S: VersionSet>(
     requires lacks { Lacks (vector_has (vector_of settled.old item)) (S.has set.now) }
     ensures done { IfOk result (λ done. done ≡ true → AreSame (normal_known settled.new) (with_below (normal_known settled.old) item (S.has set.now))) }
     ensures sparse { IsSparse settled.new most.new }
-    ensures normal { IsNormal settled.new }
+    ensures normal { IsNormal LIMIT settled.new }
     ensures room { ((q : ℕ) → most.old + length (column_of pending.now q).holes ≤ MAX_HOLES) → (q : ℕ) → most.new + length (column_of pending.now q).holes ≤ MAX_HOLES }
     ensures not { IfOk result (λ done. done ≡ false → (settled.new ≡ settled.old) × (most.new ≡ most.old)) }
     ensures err { OnErr result ((settled.new ≡ settled.old) × (most.new ≡ most.old)) }
@@ -107,7 +129,7 @@ fn try_list<S: VersionSet>(
         return Ok(false);
     };
     let holes = higher(most_holes(&vector), *most);
-    if !leaves_room(pending, holes) {
+    if !has_room_beside(pending, holes) {
         return Ok(false);
     }
     settled.list(Listed { item, vector })?;
@@ -118,8 +140,8 @@ fn try_list<S: VersionSet>(
 
 /// Lists the versions for the item and adds the version to those that are pending, where the item may be
 /// listed and the holes of its columns leave room. `false` where they don't.
-pub(crate) fn try_list_with<S: VersionSet>(
-    settled: &mut Settled,
+pub(crate) fn try_list_with<S: Source, const LIMIT: usize>(
+    settled: &mut Settled<LIMIT>,
     most: &mut usize,
     pending: &mut ConciseVector,
     item: ItemId,
@@ -134,7 +156,7 @@ pub(crate) fn try_list_with<S: VersionSet>(
     ensures leeway { IfOk result (λ done. done ≡ true → HasLeeway pending.old most.new) }
     ensures more { most.old ≤ most.new }
     ensures sparse { IsSparse settled.new most.new }
-    ensures normal { IsNormal settled.new }
+    ensures normal { IsNormal LIMIT settled.new }
     ensures not { IfOk result (λ done. done ≡ false → (settled.new ≡ settled.old) × (pending.new ≡ pending.old) × (most.new ≡ most.old)) }
     ensures err { OnErr result ((settled.new ≡ settled.old) × (pending.new ≡ pending.old) × (most.new ≡ most.old)) }
 {
@@ -153,8 +175,8 @@ pub(crate) fn try_list_with<S: VersionSet>(
 
 /// Adds the versions for the item, of which those that are pending need not be listed. `false` where a limit
 /// may be near.
-pub(crate) fn try_below<S: VersionSet>(
-    settled: &mut Settled,
+pub(crate) fn try_below<S: Source, const LIMIT: usize>(
+    settled: &mut Settled<LIMIT>,
     most: &mut usize,
     pending: &ConciseVector,
     item: ItemId,
@@ -164,7 +186,7 @@ pub(crate) fn try_below<S: VersionSet>(
     requires bound { most.old ≤ MAX_HOLES }
     ensures done { IfOk result (λ done. done ≡ true → AreSame (with_all (normal_known settled.new) (vector_has pending.now)) (with_below (with_all (normal_known settled.old) (vector_has pending.now)) item (S.has set.now))) }
     ensures sparse { IsSparse settled.new most.new }
-    ensures normal { IsNormal settled.new }
+    ensures normal { IsNormal LIMIT settled.new }
     ensures room { ((q : ℕ) → most.old + length (column_of pending.now q).holes ≤ MAX_HOLES) → (q : ℕ) → most.new + length (column_of pending.now q).holes ≤ MAX_HOLES }
     ensures not { IfOk result (λ done. done ≡ false → (settled.new ≡ settled.old) × (most.new ≡ most.old)) }
     ensures err { OnErr result ((settled.new ≡ settled.old) × (most.new ≡ most.old)) }

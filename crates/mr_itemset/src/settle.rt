@@ -4,16 +4,15 @@ ghost use Rattle.mr_forms.specs.Known.{AreSame, with_below, with_learned_below};
 ghost use Rattle.mr_itemset.specs.Normal.{normal_known};
 ghost use Rattle.mr_itemset.specs.ItemForm.{with_all};
 
-use crate::knowledge::ItemKnowledge;
+use crate::knowledge::ItemsUpTo;
 use crate::settled::Settled;
 use mr_concise::Source;
-use mr_forms::VersionSet;
 use mr_version::{ItemId, Version};
 use std::alloc::AllocError;
 
-impl ItemKnowledge {
+impl<const LIMIT: usize> ItemsUpTo<LIMIT> {
     /// The knowledge in its normal form.
-    pub(crate) fn folded(&self) -> Result<Settled, AllocError>
+    pub(crate) fn folded(&self) -> Result<Settled<LIMIT>, AllocError>
         ensures { IfOk result (λ settled. settled ≡ self.now) }
     {
         let parts = self.parts();
@@ -28,12 +27,12 @@ impl ItemKnowledge {
     {
         let parts = self.parts();
         let grown = parts.settled.with_all(&(added, parts.pending))?;
-        *self = ItemKnowledge::of(grown);
+        *self = ItemsUpTo::of(grown);
         Ok(())
     }
 
     /// Adds the versions for the item.
-    pub(crate) fn settle_below<S: VersionSet>(
+    pub(crate) fn settle_below<S: Source>(
         &mut self,
         item: ItemId,
         set: &S,
@@ -43,12 +42,12 @@ impl ItemKnowledge {
     {
         let parts = self.parts();
         let grown = parts.settled.with_learned_below(item, parts.pending, set)?;
-        *self = ItemKnowledge::of(grown);
+        *self = ItemsUpTo::of(grown);
         Ok(())
     }
 
     /// Adds the version for all items, and the versions for this one.
-    pub(crate) fn settle_with<S: VersionSet>(
+    pub(crate) fn settle_with<S: Source>(
         &mut self,
         item: ItemId,
         version: Version,
@@ -60,7 +59,7 @@ impl ItemKnowledge {
         let parts = self.parts();
         let learned = (version, parts.pending);
         let grown = parts.settled.with_learned_below(item, &learned, below)?;
-        *self = ItemKnowledge::of(grown);
+        *self = ItemsUpTo::of(grown);
         Ok(())
     }
 }

@@ -17,15 +17,16 @@ use std::marker::Model;
 /// Vectors of items, by rising item.
 pub(crate) type Vectors = BTreeMap<ItemId, ConciseVector>;
 
-/// Knowledge in its normal form: a vector for all items, and one for each listed item.
+/// Knowledge in its normal form: a vector for all items, and one for each listed item. It lists no more than
+/// `LIMIT` items.
 #[derive(Debug, Drop)]
-pub(crate) struct Settled {
+pub(crate) struct Settled<const LIMIT: usize> {
     alloc: Global,
     all: ConciseVector,
     listed: Vectors,
 }
 
-impl Model for Settled {
+impl<const LIMIT: usize> Model for Settled<LIMIT> {
     ghost use Rattle.mr_itemset.specs.Normal.{Normal, normal_code, IsNormal};
     ghost use Rattle.mr_itemset.specs.Entries.{listed_of};
 
@@ -35,13 +36,13 @@ impl Model for Settled {
 
     ghost view = { λ k. record { all = k.all; listed = listed_of k.listed.entries } };
 
-    ghost invariant = { λ k. IsNormal (record { all = k.all; listed = listed_of k.listed.entries }) };
+    ghost invariant = { λ k. IsNormal LIMIT (record { all = k.all; listed = listed_of k.listed.entries }) };
 }
 
-impl Settled {
+impl<const LIMIT: usize> Settled<LIMIT> {
     /// The knowledge with these parts, which are in normal form.
-    pub(crate) fn from_parts(alloc: Global, all: ConciseVector, listed: Vectors) -> Settled
-        requires { IsNormal (record { all = all; listed = listed_of listed.entries }) }
+    pub(crate) fn from_parts(alloc: Global, all: ConciseVector, listed: Vectors) -> Settled<LIMIT>
+        requires { IsNormal LIMIT (record { all = all; listed = listed_of listed.entries }) }
         ensures { result ≡ record { all = all; listed = listed_of listed.entries } }
     {
         Settled { alloc, all, listed }
@@ -54,7 +55,7 @@ impl Settled {
     /// What is known for all items.
     pub(crate) fn for_all(&self) -> &ConciseVector
         ensures is { result.now ≡ self.now.all }
-        ensures normal { IsNormal self.now }
+        ensures normal { IsNormal LIMIT self.now }
     {
         &self.all
     }
@@ -62,7 +63,7 @@ impl Settled {
     /// The items of which more is known, by rising item.
     pub(crate) fn listed(&self) -> &Vectors
         ensures is { listed_of result.now.entries ≡ self.now.listed }
-        ensures normal { IsNormal self.now }
+        ensures normal { IsNormal LIMIT self.now }
     {
         &self.listed
     }
@@ -70,14 +71,14 @@ impl Settled {
     /// What is known of each listed item, by rising item.
     pub(crate) fn vectors(&self) -> Values<'_, ItemId, ConciseVector>
         ensures is { result ≡ vectors_of self.now.listed }
-        ensures normal { IsNormal self.now }
+        ensures normal { IsNormal LIMIT self.now }
     {
         self.listed.values()
     }
 
     /// Lists the item with all that is known of it, in place of what was.
     pub(crate) fn list(&mut self, new: Listed) -> Result<(), AllocError>
-        requires { IsNormal (record { all = self.old.all; listed = placed new self.old.listed }) }
+        requires { IsNormal LIMIT (record { all = self.old.all; listed = placed new self.old.listed }) }
         ensures ok { OnOk result (self.new ≡ record { all = self.old.all; listed = placed new self.old.listed }) }
         ensures err { OnErr result (self.new ≡ self.old) }
     {
@@ -92,7 +93,7 @@ impl Settled {
         pending: &mut ConciseVector,
         version: Version,
     ) -> Result<(), AllocError>
-        requires { IsNormal (record { all = self.old.all; listed = placed new self.old.listed }) }
+        requires { IsNormal LIMIT (record { all = self.old.all; listed = placed new self.old.listed }) }
         ensures ok { OnOk result (self.new ≡ record { all = self.old.all; listed = placed new self.old.listed }) }
         ensures pending { OnOk result (IsSame (vector_has pending.new) (with_version (vector_has pending.old) version)) }
         ensures err { OnErr result ((self.new ≡ self.old) × (pending.new ≡ pending.old)) }
@@ -103,7 +104,7 @@ impl Settled {
     /// What is known of the item.
     pub(crate) fn vector_of(&self, item: ItemId) -> &ConciseVector
         ensures is { result.now ≡ vector_of self.now item }
-        ensures normal { IsNormal self.now }
+        ensures normal { IsNormal LIMIT self.now }
     {
         match self.listed.get(&item) {
             Some(vector) => vector,

@@ -9,24 +9,24 @@ ghost use Rattle.mr_itemset.specs.ItemForm.{IsNormalPart};
 ghost use Rattle.mr_itemset.specs.NormalForm.{AreNormal};
 ghost use Rattle.mr_itemset.specs.Shown.{shown, fragments_in, normal_text};
 
-use crate::knowledge::ItemKnowledge;
+use crate::knowledge::ItemsUpTo;
 use crate::settled::Settled;
 use mr_concise::ConciseVector;
-use mr_forms::{FormFault, Fragment, VersionSet};
+use mr_forms::{FormFault, Fragment, MAX_ITEMS, VersionSet};
 use mr_version::{ItemId, Version};
 use std::alloc::Global;
 
-impl ItemKnowledge {
+impl<const LIMIT: usize> ItemsUpTo<LIMIT> {
     /// The knowledge of nothing. It allocates nothing; what grows later takes its memory from `alloc`.
-    pub fn new(alloc: Global) -> ItemKnowledge
+    pub fn new(alloc: Global) -> ItemsUpTo<LIMIT>
         ensures is { result ≡ record { all = []; listed = [] } }
         ensures nothing { AreSame (normal_known result) (λ _ _. false) }
     {
-        ItemKnowledge::of(Settled::new(alloc))
+        ItemsUpTo::of(Settled::new(alloc))
     }
 
     /// An equal knowledge. `OutOfMemory` is its only fault.
-    pub fn copy(&self) -> Result<ItemKnowledge, FormFault>
+    pub fn copy(&self) -> Result<ItemsUpTo<LIMIT>, FormFault>
         ensures ok { IfOk result (λ knowledge. knowledge ≡ self.now) }
         ensures memory { OnErr result (result ≡ Err FormFault.OutOfMemory) }
     {
@@ -40,7 +40,9 @@ impl ItemKnowledge {
         let parts = self.parts();
         parts.pending.contains(version) || parts.settled.knows(item, version)
     }
+}
 
+impl ItemsUpTo<MAX_ITEMS> {
     /// The knowledge as fragments, in normal form. That of all items comes first, and its vector may be
     /// empty. Each listed item is in one of the others, with a vector that has all that all items have,
     /// and more; no two of these have the same vector. They come by their first items, and the items of

@@ -11,16 +11,15 @@ ghost use Rattle.mr_itemset.specs.Room.{Drops, HasRoomWith};
 use crate::limits::lacks;
 use crate::pending::leaves_room;
 use crate::settled::Settled;
-use mr_concise::{ConciseVector, MAX_HOLES, OfSet, Source, most_holes, would_have_too_many};
-use mr_forms::{MAX_ITEMS, VersionSet};
+use mr_concise::{ConciseVector, MAX_HOLES, Source, most_holes, would_have_too_many};
 use mr_version::{ItemId, Version};
 use std::alloc::AllocError;
 
-impl Settled {
+impl<const LIMIT: usize> Settled<LIMIT> {
     /// Whether the item's vector would have too many holes with the version, those that are pending and
     /// these, where they are something new. It allocates nothing, and walks through those that are pending
     /// only where a limit may be near.
-    pub(crate) fn would_be_holey_with<S: VersionSet>(
+    pub(crate) fn would_be_holey_with<S: Source>(
         &self,
         item: ItemId,
         version: Option<Version>,
@@ -35,12 +34,12 @@ impl Settled {
         if !lacks(&known, below) {
             return false;
         }
-        let most = most_holes(&(OfSet { set: below }, vector));
+        let most = most_holes(&(below, vector));
         let _columns = pending.author_columns();
         if most <= MAX_HOLES && leaves_room(pending, most) {
             return false;
         }
-        would_have_too_many(&(OfSet { set: below }, known))
+        would_have_too_many(&(below, known))
     }
 
     /// Whether some item would be listed no longer, once all items have what they learn. It allocates
@@ -59,17 +58,17 @@ impl Settled {
 
     /// Whether the versions may be listed for the item, once all items have what they learn. It
     /// allocates nothing.
-    pub(crate) fn has_room_with<A: Source, S: VersionSet>(
+    pub(crate) fn has_room_with<A: Source, S: Source>(
         &self,
         item: ItemId,
         learned: &A,
         below: &S,
     ) -> bool
-        ensures yes { result ≡ true → HasRoomWith self.now (A.has learned.now) item (S.has below.now) }
-        ensures no { result ≡ false → ListsTooMany (with_below (with_all (normal_known self.now) (A.has learned.now)) item (S.has below.now)) }
-        ensures normal { IsNormal self.now }
+        ensures yes { result ≡ true → HasRoomWith LIMIT self.now (A.has learned.now) item (S.has below.now) }
+        ensures no { result ≡ false → ListsTooMany LIMIT (with_below (with_all (normal_known self.now) (A.has learned.now)) item (S.has below.now)) }
+        ensures normal { IsNormal LIMIT self.now }
     {
-        if self.listed().len() < MAX_ITEMS {
+        if self.listed().len() < LIMIT {
             return true;
         }
         if self.lists(item) {
@@ -82,12 +81,12 @@ impl Settled {
     }
 
     /// The knowledge with what all items learn, and the set for this one.
-    pub(crate) fn with_learned_below<A: Source, S: VersionSet>(
+    pub(crate) fn with_learned_below<A: Source, S: Source>(
         &self,
         item: ItemId,
         learned: &A,
         below: &S,
-    ) -> Result<Settled, AllocError>
+    ) -> Result<Settled<LIMIT>, AllocError>
         ensures { IfOk result (λ k. AreSame (normal_known k) (with_below (with_all (normal_known self.now) (A.has learned.now)) item (S.has below.now))) }
     {
         let mut grown = self.with_all(learned)?;

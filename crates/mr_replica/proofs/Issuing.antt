@@ -5,7 +5,8 @@ use Rattle.std.proofs.lemmas.Bool.{cases_Bool, or_left, or_right}
 use Rattle.std.proofs.lemmas.List.{length_push}
 use Rattle.std.proofs.lemmas.List.Elements.{All-cons, All-head, All-tail, All-filter, All-weaker, All-append}
 use Rattle.mr_version.specs.Name.{Name, name_eq}
-use Rattle.mr_forms.specs.Known.{Form, AreSame}
+use Rattle.mr_forms.specs.Known.{Form, AreSame, learned}
+use Rattle.mr_forms.proofs.LearnedLemmas.{learned_keeps, learned_itself}
 use Rattle.mr_concise.specs.declared.vector.AuthorColumn.{AuthorColumn}
 use Rattle.mr_madewith.specs.Revision.{Rev, IsRevision, has_below}
 use Rattle.mr_madewith.specs.Keyed.{without, inserted, is_before}
@@ -55,14 +56,10 @@ next_not_held form s v sound author counter =
 module _ {K : Type 0} (form : Form K) (s : State K) (k : K) (r : Rev) (event : Event) (sound : IsSound form s) (next : IsNext s r) (known : AreSame (form.known k) (version_learned form s r.item)) where
   -- what was known is known still, and the new version too
   still_known : (i v : Name) → form.known s.knowledge i v ≡ true → form.known k i v ≡ true
-  still_known i v h = known i v ∙ or_right ((form.learns_for_all || name_eq r.item i) && name_eq (next_version s) v) (form.known s.knowledge i v) h
+  still_known i v h = known i v ∙ learned_keeps form s.knowledge r.item (next_version s) i v h
 
   new_known : form.known k r.item r.version ≡ true
-  new_known =
-      let of_item : (form.learns_for_all || name_eq r.item r.item) ≡ true = or_right form.learns_for_all (name_eq r.item r.item) (name_eq_self r.item) in
-      let is_next : name_eq (next_version s) r.version ≡ true = ap (λ (v : Name). name_eq (next_version s) v) next.version ∙ name_eq_self (next_version s) in
-      let both : ((form.learns_for_all || name_eq r.item r.item) && name_eq (next_version s) r.version) ≡ true = ap (λ b. b && name_eq (next_version s) r.version) of_item ∙ is_next in
-      known r.item r.version ∙ or_left ((form.learns_for_all || name_eq r.item r.item) && name_eq (next_version s) r.version) (form.known s.knowledge r.item r.version) both
+  new_known = known r.item r.version ∙ ap (learned form s.knowledge r.item (next_version s) r.item) next.version ∙ learned_itself form s.knowledge r.item (next_version s)
 
   known_entered : (b : Bool) (rs : List Rev) → AreKnown (form.known s.knowledge) rs → AreKnown (form.known k) (entered_if b r (left_by r.item (has_below r) rs))
   known_entered b rs h =

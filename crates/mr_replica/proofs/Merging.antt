@@ -1,12 +1,13 @@
 -- fragments that are merged one after the other
-use Rattle.std.proofs.Common.{◌≡◌, ◌↔◌, ◌&&◌, ◌||◌, ◌+◌, ◌<◌, IsErrOf, Bool, true, false, not, refl, sym, ap, subst, ◌∙◌, arith, ℕ, zero, suc, List, [], ◌∷◌, ◌++◌, map, length, take, get_or, Result, Ok, Err, inl, inr}
+use Rattle.std.proofs.Common.{◌≡◌, ◌&&◌, ◌||◌, IsErrOf, IfErr, Bool, true, false, not, refl, sym, ap, subst, ◌∙◌, List, [], ◌∷◌, map, Result, Ok, Err, inl, inr}
 use Rattle.std.specs.List.{All}
-use Rattle.std.proofs.lemmas.List.Elements.{All-nil, All-cons, All-head, All-tail, All-append}
+use Rattle.std.proofs.lemmas.List.Elements.{All-nil, All-cons, All-head, All-tail}
 use Rattle.mr_version.specs.Name.{Name}
 use Rattle.mr_forms.specs.declared.fragment.ItemSet.{ItemSet}
 use Rattle.mr_forms.specs.declared.fragment.ItemSet.TheVariants.{All as AllItems, Listed}
 use Rattle.mr_forms.specs.Covered.{has_item, covered, all_covered}
-use Rattle.mr_forms.specs.Known.{Pairs, Form, AreSame, IsOnlyOverItems, with_pairs}
+use Rattle.mr_forms.specs.Known.{Pairs, Form, AreSame, HasValue, with_pairs}
+use Rattle.mr_forms.specs.Merged.{after_each, AreOverHolesInTurn, AreOverItemsInTurn}
 use Rattle.mr_forms.specs.declared.fault.FormFault.{FormFault}
 use Rattle.mr_forms.specs.declared.fault.FormFault.TheVariants as fault
 use Rattle.mr_concise.specs.Fragments.{ConciseFragment}
@@ -18,10 +19,9 @@ use Rattle.mr_store.specs.Unheld.{is_unheld as covers_unheld}
 use Rattle.mr_session.specs.Session.{Session}
 use Rattle.mr_session.specs.Stream.{lists, claimed}
 use Rattle.mr_replica.specs.Refusal.{refusal_of}
-use Rattle.mr_replica.specs.Issue.{Wanted, Wanted.Knowledge, Fits, HasFault, FirstFault}
+use Rattle.mr_replica.specs.Issue.{Wanted, Wanted.Knowledge, Fits, FirstFault}
 use Rattle.mr_replica.specs.Receive.{merged_by, is_unheld}
 use Rattle.mr_replica.specs.Taking.{RefusesMerged}
-use Rattle.mr_replica.specs.declared.refusal.Refusal.{Refusal}
 
 -- pairs that are the same are one
 pub one_pairs : (s t : Pairs) → AreSame s t → s ≡ t
@@ -43,86 +43,44 @@ pub all_claimed : (fs : List ConciseFragment) (i v : Name) → all_covered vecto
 all_claimed [] i v = refl
 all_claimed (f ∷ fs) i v = ap (λ b. (b && vector_has f.vector v) || all_covered vector_has fs i v) (lists_same f.items i) ∙ ap (λ b. (lists (listed_items f.items) i && vector_has f.vector v) || b) (all_claimed fs i v)
 
--- what is known after these are merged
-abbrev pub after_merged : Pairs → List Piece → Pairs
-after_merged known [] = known
-after_merged known (piece ∷ pieces) = after_merged (with_pairs known (claimed (piece ∷ []))) pieces
+-- what the fragments claim, one after the other, is what is known after each of them
+claimed_is : (f : ConciseFragment) → claimed (piece_of f ∷ []) ≡ covered vector_has f
+claimed_is f = one_pairs (claimed (piece_of f ∷ [])) (covered vector_has f) (λ i v. sym (covers_claimed f i v))
 
-pub after_merged-more : (known : Pairs) (pieces : List Piece) (piece : Piece) → after_merged known (pieces ++ piece ∷ []) ≡ with_pairs (after_merged known pieces) (claimed (piece ∷ []))
-after_merged-more known [] piece = refl
-after_merged-more known (p ∷ ps) piece = after_merged-more (with_pairs known (claimed (p ∷ []))) ps piece
-
-pub merged_by-more : (known : Pairs) (xs ys : List Piece) → merged_by known (xs ++ ys) ≡ merged_by known xs ++ merged_by (after_merged known xs) ys
-merged_by-more known [] ys = refl
-merged_by-more known (x ∷ xs) ys =
-    ap (λ (ws : List Wanted). Knowledge (with_pairs known (claimed (x ∷ []))) ∷ ws) (merged_by-more (with_pairs known (claimed (x ∷ []))) xs ys)
-
--- all of them together
-three : (a b c : Bool) → (b || ((a || false) || c)) ≡ ((a || b) || c)
-three true true c = refl
-three true false c = refl
-three false true c = refl
-three false false c = refl
-
-pub after_merged-all : (known : Pairs) (pieces : List Piece) (i v : Name) → after_merged known pieces i v ≡ with_pairs known (claimed pieces) i v
-after_merged-all known [] i v = refl
-after_merged-all known (p ∷ ps) i v =
-    after_merged-all (with_pairs known (claimed (p ∷ []))) ps i v
-    ∙ three (lists p.items i && vector_has p.vector v) (claimed ps i v) (known i v)
+pub merged_is : (known : Pairs) (fs : List ConciseFragment) → merged_by known (map piece_of fs) ≡ map Knowledge (after_each vector_has known fs)
+merged_is known [] = refl
+merged_is known (f ∷ fs) =
+    ap (λ (claims : Pairs). Knowledge (with_pairs known claims) ∷ merged_by (with_pairs known claims) (map piece_of fs)) (claimed_is f)
+    ∙ ap (λ (ws : List Wanted). Knowledge (with_pairs known (covered vector_has f)) ∷ ws) (merged_is (with_pairs known (covered vector_has f)) fs)
 
 module _ {K : Type 0} (form : Form K) where
-  -- the first fault is behind all that fit
-  pub fault_behind : (e : Refusal) (ws us : List Wanted) (w : Wanted) → All (Fits form) ws → HasFault form e w → FirstFault form e (ws ++ w ∷ us)
-  fault_behind e [] us w fits h = inl h
-  fault_behind e (x ∷ ws) us w fits h = inr (All-head (Fits form) x ws fits, fault_behind e ws us w (All-tail (Fits form) x ws fits) h)
+  -- all of them fit
+  all_fit : (ps : List Pairs) → All (HasValue form) ps → All (Fits form) (map Knowledge ps)
+  all_fit [] values = All-nil (Fits form)
+  all_fit (p ∷ ps) values = All-cons (Fits form) (Knowledge p) (map Knowledge ps) (All-head (HasValue form) p ps values) (all_fit ps (All-tail (HasValue form) p ps values))
 
-  module _ (known : Pairs) (old : K) (xs : List Piece) (f : ConciseFragment) (is : AreSame (form.known old) (after_merged known xs)) where
-    -- the next knowledge that is wanted
-    pub next_is : with_pairs (form.known old) (covered vector_has f) ≡ with_pairs (after_merged known xs) (claimed (piece_of f ∷ []))
-    next_is = one_pairs (with_pairs (form.known old) (covered vector_has f)) (with_pairs (after_merged known xs) (claimed (piece_of f ∷ [])))
-        (λ i v. ap (λ b. b || form.known old i v) (covers_claimed f i v) ∙ ap (λ b. claimed (piece_of f ∷ []) i v || b) (is i v))
+  pub merged_fits : (known : Pairs) (fs : List ConciseFragment) → All (HasValue form) (after_each vector_has known fs) → All (Fits form) (merged_by known (map piece_of fs))
+  merged_fits known fs values = subst (All (Fits form)) (sym (merged_is known fs)) (all_fit (after_each vector_has known fs) values)
 
-    module _ (made : Result (Unit {0}) FormFault) (holes : IsErrOf made fault.TooManyHoles ↔ form.has_too_many_holes (with_pairs (form.known old) (covered vector_has f)))
-        (items : IsErrOf made fault.TooManyItems ↔ IsOnlyOverItems form (with_pairs (form.known old) (covered vector_has f))) where
-      pub next_fits : made ≡ Ok tt → Fits form (Knowledge (with_pairs (after_merged known xs) (claimed (piece_of f ∷ []))))
-      next_fits ok = subst (λ (p : Pairs). Fits form (Knowledge p)) next_is
-          (let no_holes : ¬ form.has_too_many_holes (with_pairs (form.known old) (covered vector_has f)) = λ many. cc (sym ok ∙ holes.1 many) in
-          (no_holes, λ many. cc (sym ok ∙ items.1 (many, no_holes))))
+  -- or the first of them has a fault
+  first_holey : (ps : List Pairs) → AreOverHolesInTurn form ps → FirstFault form (refusal_of fault.TooManyHoles) (map Knowledge ps)
+  first_holey [] over = over
+  first_holey (p ∷ ps) (inl over) = inl over
+  first_holey (p ∷ ps) (inr rest) = inr (rest.0, first_holey ps rest.1)
 
-      pub next_fault : (e : FormFault) → made ≡ Err e → (us : List Wanted) → All (Fits form) (merged_by known xs) → RefusesMerged form (merged_by known xs ++ Knowledge (with_pairs (after_merged known xs) (claimed (piece_of f ∷ []))) ∷ us) e
-      next_fault fault.OutOfMemory err us fits = tt
-      next_fault fault.TooManyHoles err us fits =
-          fault_behind (refusal_of fault.TooManyHoles) (merged_by known xs) us (Knowledge (with_pairs (after_merged known xs) (claimed (piece_of f ∷ [])))) fits (subst form.has_too_many_holes next_is (holes.0 err))
-      next_fault fault.TooManyItems err us fits =
-          fault_behind (refusal_of fault.TooManyItems) (merged_by known xs) us (Knowledge (with_pairs (after_merged known xs) (claimed (piece_of f ∷ [])))) fits (subst (IsOnlyOverItems form) next_is (items.0 err))
+  first_long : (ps : List Pairs) → AreOverItemsInTurn form ps → FirstFault form (refusal_of fault.TooManyItems) (map Knowledge ps)
+  first_long [] over = over
+  first_long (p ∷ ps) (inl over) = inl over
+  first_long (p ∷ ps) (inr rest) = inr (rest.0, first_long ps rest.1)
 
-      -- so do all up to it
-      pub fits_more : made ≡ Ok tt → All (Fits form) (merged_by known xs) → All (Fits form) (merged_by known (xs ++ piece_of f ∷ []))
-      fits_more ok fits =
-          let next : Wanted = Knowledge (with_pairs (after_merged known xs) (claimed (piece_of f ∷ []))) in
-          subst (All (Fits form)) (sym (merged_by-more known xs (piece_of f ∷ []))) (All-append (Fits form) (merged_by known xs) (next ∷ []) fits (All-cons (Fits form) next [] (next_fits ok) (All-nil (Fits form))))
-
-      -- or the first fault of all is there
-      pub fault_there : (e : FormFault) → made ≡ Err e → (us : List Piece) → All (Fits form) (merged_by known xs) → RefusesMerged form (merged_by known (xs ++ piece_of f ∷ us)) e
-      fault_there e err us fits =
-          subst (λ (ws : List Wanted). RefusesMerged form ws e) (sym (merged_by-more known xs (piece_of f ∷ us)))
-          (next_fault e err (merged_by (with_pairs (after_merged known xs) (claimed (piece_of f ∷ []))) us) fits)
-
--- ---- fragments up to a place
-
-pub pieces_more : (fs : List ConciseFragment) (k : ℕ) (f : ConciseFragment) → k < length fs → f ≡ get_or fs k f → map piece_of (take (k + 1) fs) ≡ map piece_of (take k fs) ++ piece_of f ∷ []
-pieces_more [] k f within at = absurd (omega arith)
-pieces_more (x ∷ xs) zero f within at = ap (λ y. piece_of y ∷ []) (sym at)
-pieces_more (x ∷ xs) (suc k) f within at =
-    let one : suc k + 1 ≡ suc (k + 1) = omega arith in
-    ap (λ n. map piece_of (take n (x ∷ xs))) one ∙ ap (λ ys. piece_of x ∷ ys) (pieces_more xs k f (omega arith) at)
-
-pub pieces_split : (fs : List ConciseFragment) (k : ℕ) (f : ConciseFragment) → k < length fs → f ≡ get_or fs k f → (us : List Piece) × (map piece_of fs ≡ map piece_of (take k fs) ++ piece_of f ∷ us)
-pieces_split [] k f within at = absurd (omega arith)
-pieces_split (x ∷ xs) zero f within at = (map piece_of xs, ap (λ y. piece_of y ∷ map piece_of xs) (sym at))
-pieces_split (x ∷ xs) (suc k) f within at =
-    let rest = pieces_split xs k f (omega arith) at in
-    (rest.0, ap (λ ys. piece_of x ∷ ys) rest.1)
+  pub merged_refused : (known : Pairs) (fs : List ConciseFragment) (made : Result K FormFault) → (IsErrOf made fault.TooManyHoles → AreOverHolesInTurn form (after_each vector_has known fs)) →
+      (IsErrOf made fault.TooManyItems → AreOverItemsInTurn form (after_each vector_has known fs)) → IfErr made (RefusesMerged form (merged_by known (map piece_of fs)))
+  merged_refused known fs (Ok k) holes items = tt
+  merged_refused known fs (Err fault.OutOfMemory) holes items = tt
+  merged_refused known fs (Err fault.TooManyHoles) holes items =
+      subst (FirstFault form (refusal_of fault.TooManyHoles)) (sym (merged_is known fs)) (first_holey (after_each vector_has known fs) (holes refl))
+  merged_refused known fs (Err fault.TooManyItems) holes items =
+      subst (FirstFault form (refusal_of fault.TooManyItems)) (sym (merged_is known fs)) (first_long (after_each vector_has known fs) (items refl))
 
 -- ---- what leaves at the End
 

@@ -30,7 +30,7 @@ use Rattle.mr_replica.proofs.Rows.{name, mail, column, rev, of_item, all_message
 
 -- knowledge that is its own test of an item and a version; what is learned for an item is learned for it alone
 abbrev by_pairs : Form Pairs
-by_pairs = record { known = λ pairs. pairs; is_part = λ _ _. ⊥; learns_for_all = false; has_too_many_holes = λ _. ⊥; has_too_many_items = λ _. ⊥ }
+by_pairs = record { known = λ pairs. pairs; is_part = λ _ _. ⊥; learns_for_all = λ _ _ _ _. false; firsts_for_all = λ _ _ _ _. false; has_too_many_holes = λ _. ⊥; has_too_many_items = λ _. ⊥ }
 
 -- these versions, for each item
 abbrev knowing : List Name → Pairs

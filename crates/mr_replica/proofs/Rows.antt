@@ -156,7 +156,7 @@ other_items_stay = refl
 -- ---- a version is learned alone
 
 abbrev knows_nothing : Form (Unit {0})
-knows_nothing = record { known = λ _ _ _. false; is_part = λ _ _. ⊥; learns_for_all = false; has_too_many_holes = λ _. ⊥; has_too_many_items = λ _. ⊥ }
+knows_nothing = record { known = λ _ _ _. false; is_part = λ _ _. ⊥; learns_for_all = λ _ _ _ _. false; firsts_for_all = λ _ _ _ _. false; has_too_many_holes = λ _. ⊥; has_too_many_items = λ _. ⊥ }
 
 learned_alone : map (version_learned knows_nothing creates_between (name 0 1) (name 0 1)) (name 0 2 ∷ name 0 3 ∷ name 0 4 ∷ name 0 5 ∷ name 0 6 ∷ []) ≡ false ∷ false ∷ false ∷ true ∷ false ∷ []
 learned_alone = refl

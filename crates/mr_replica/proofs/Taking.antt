@@ -8,6 +8,7 @@ use Rattle.std.proofs.lemmas.List.{length_push}
 use Rattle.std.proofs.lemmas.List.Elements.{All-head, All-tail, All-map, All-filter, All-weaker, All-append}
 use Rattle.mr_version.specs.Name.{Name, name_eq}
 use Rattle.mr_forms.specs.Known.{Form, AreSame}
+use Rattle.mr_forms.proofs.LearnedLemmas.{learned_with_keeps, learned_with_itself}
 use Rattle.mr_concise.specs.declared.vector.AuthorColumn.{AuthorColumn}
 use Rattle.mr_concise.specs.Column.{column_has}
 use Rattle.mr_concise.specs.Vector.{vector_has, column_of}
@@ -185,17 +186,10 @@ module _ {K : Type 0} (form : Form K) (s : State K) (sent : Sent) (sound : IsSou
 
     -- what was known is known still, and the told version too
     told_still : (i v : Name) → form.known s.knowledge i v ≡ true → form.known k i v ≡ true
-    told_still i v h =
-        known i v ∙ or_right (name_eq line.item i && vector_has line.below v) (((form.learns_for_all || name_eq line.item i) && name_eq line.version v) || form.known s.knowledge i v)
-        (or_right ((form.learns_for_all || name_eq line.item i) && name_eq line.version v) (form.known s.knowledge i v) h)
+    told_still i v h = known i v ∙ learned_with_keeps form s.knowledge line.item line.version (vector_has line.below) i v h
 
     told_known : form.known k line.item line.version ≡ true
-    told_known =
-        let of_item : (form.learns_for_all || name_eq line.item line.item) ≡ true = or_right form.learns_for_all (name_eq line.item line.item) (name_eq_self line.item) in
-        let both : ((form.learns_for_all || name_eq line.item line.item) && name_eq line.version line.version) ≡ true = ap (λ b. b && name_eq line.version line.version) of_item ∙ name_eq_self line.version in
-        known line.item line.version
-        ∙ or_right (name_eq line.item line.item && vector_has line.below line.version) (((form.learns_for_all || name_eq line.item line.item) && name_eq line.version line.version) || form.known s.knowledge line.item line.version)
-        (or_left ((form.learns_for_all || name_eq line.item line.item) && name_eq line.version line.version) (form.known s.knowledge line.item line.version) both)
+    told_known = known line.item line.version ∙ learned_with_itself form s.knowledge line.item line.version (vector_has line.below)
 
     -- the one that comes has no head's version
     new_heads : IfSome comer (λ r. revision_of s.heads r.version ≡ None)

@@ -4,9 +4,10 @@ use Rattle.std.specs.List.{All}
 use Rattle.std.proofs.lemmas.Bool.{or_parts}
 use Rattle.std.proofs.lemmas.List.Elements.{All-nil, All-cons, All-head, All-tail}
 use Rattle.mr_version.specs.Name.{Name}
-use Rattle.mr_forms.specs.Known.{Pairs, Form, IsOverHolesInTurn, IsOverItemsInTurn, with_learned}
+use Rattle.mr_forms.specs.Known.{Pairs, Form, IsOverHolesInTurn, IsOverItemsInTurn, learned_of}
 use Rattle.mr_forms.specs.declared.fault.FormFault.{FormFault}
 use Rattle.mr_forms.specs.declared.fault.FormFault.TheVariants as fault
+use Rattle.mr_concise.specs.Vector.{vector_has}
 use Rattle.mr_madewith.specs.Revision.{Rev}
 use Rattle.mr_wire.specs.Values.{DescentParts}
 use Rattle.mr_wire.specs.declared.frame.Body.{Body}
@@ -65,7 +66,7 @@ comer_new form s sound item version body told unknown sure (Some r) is =
 
 module _ {K : Type 0} (form : Form K) (s : State K) (line : DescentParts) (unknown : form.known s.knowledge line.item line.version ≡ false) where
   abbrev first : Pairs
-  first = with_learned form.learns_for_all (form.known s.knowledge) line.item line.version
+  first = learned_of form s.knowledge line.item line.version (vector_has line.below)
 
   abbrev second : Pairs
   second = line_learned form s line

@@ -4,7 +4,7 @@ use Rattle.std.specs.List.{filter_map}
 use Rattle.mr_version.specs.Name.{Name}
 pub use Rattle.mr_version.specs.Sets.{nothing}
 use Rattle.mr_forms.specs.Sets.{Versions}
-use Rattle.mr_forms.specs.Known.{Pairs, Form, AreSame, IsOnlyOverItems, with_learned}
+use Rattle.mr_forms.specs.Known.{Pairs, Form, AreSame, IsOnlyOverItems, learned}
 use Rattle.mr_concise.specs.declared.vector.AuthorColumn.{AuthorColumn}
 use Rattle.mr_concise.specs.Vector.{HasTooManyHoles}
 use Rattle.mr_mail.specs.Mail.{Mail, card_of}
@@ -63,7 +63,7 @@ module _ {K : Type 0} where
 
   -- what is known once the replica has learned its next version for the item
   abbrev pub version_learned : Form K → State K → (item : Name) → Pairs
-  version_learned form s item = with_learned form.learns_for_all (form.known s.knowledge) item (next_version s)
+  version_learned form s item = learned form s.knowledge item (next_version s)
 
   -- what the issue wants, in the order of the tries: a vector of what its version supersedes, and the knowledge with that version
   abbrev pub wanted_by_issue : Form K → State K → Issue → List Wanted

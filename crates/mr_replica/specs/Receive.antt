@@ -1,7 +1,7 @@
 -- Receive: a session takes a record of the stream that it asked for.
 use Rattle.std.specs.Prelude.{◌≡◌, ◌==◌, Bool, true, false, not, ◌&&◌, if◌then◌else◌, Option, Some, None, List, [], ◌∷◌, filter}
 use Rattle.std.specs.Option.{option_map}
-use Rattle.mr_forms.specs.Known.{Pairs, Form, AreSame, with_learned, with_learned_below, with_pairs}
+use Rattle.mr_forms.specs.Known.{Pairs, Form, AreSame, learned_of, learned_with, with_pairs}
 use Rattle.mr_concise.specs.AnyOf.{in_any}
 use Rattle.mr_concise.specs.Vector.{vector_has}
 use Rattle.mr_madewith.specs.Revision.{Rev}
@@ -88,7 +88,7 @@ module _ {K : Type 0} where
 
   -- the pairs with the version and what it supersedes
   abbrev pub line_learned : Form K → State K → DescentParts → Pairs
-  line_learned form s line = with_learned_below form.learns_for_all (form.known s.knowledge) line.item line.version (vector_has line.below)
+  line_learned form s line = learned_with form s.knowledge line.item line.version (vector_has line.below)
 
   -- What the version supersedes leaves the heads and the push-outs, the revision enters the heads where there is one, and
   -- the feed tells what left and entered the heads.
@@ -152,7 +152,7 @@ module _ {K : Type 0} where
   abbrev pub wanted_by_line : Form K → State K → DescentParts → List Wanted
   wanted_by_line form s line =
       if form.known s.knowledge line.item line.version then []
-      else (Knowledge (with_learned form.learns_for_all (form.known s.knowledge) line.item line.version) ∷ Knowledge (line_learned form s line) ∷ [])
+      else (Knowledge (learned_of form s.knowledge line.item line.version (vector_has line.below)) ∷ Knowledge (line_learned form s line) ∷ [])
 
   abbrev pub wanted_by_end : Form K → State K → Option Session → List Wanted
   wanted_by_end form s None = []

@@ -13,7 +13,7 @@ use mr_forms::{Fragment, ItemSet, VersionSet};
 use mr_version::{ItemId, Version};
 
 /// Whether these fragments cover the version for the item, and no vector has it. It costs two binary
-/// searches for each vector, and one among the items of each fragment.
+/// searches for each vector; and only where none has it, one among the items of each fragment.
 pub fn is_unheld(
     learned: &[Fragment<ConciseVector>],
     held: &[ConciseVector],
@@ -23,7 +23,7 @@ pub fn is_unheld(
     requires { All (λ fragment. ListsInOrder fragment.items) learned.now }
     ensures { result ≡ is_unheld learned.now held.now item version }
 {
-    is_covered(learned, item, version) && !is_in_some(held, version)
+    !is_in_some(held, version) && is_covered(learned, item, version)
 }
 
 fn is_covered(learned: &[Fragment<ConciseVector>], item: ItemId, version: Version) -> bool

@@ -2,7 +2,7 @@
 use Rattle.std.proofs.Common.{◌≡◌, ◌≢◌, refl, sym, ap, subst, ◌∙◌, ℕ, ◌+◌, ◌==◌, Bool, true, false, not, ◌&&◌, if◌then◌else◌, List, ◌∷◌, filter, inl, inr, IsTrue, eqb-true, eq-eqb, Option, Some, None}
 use Rattle.std.proofs.lemmas.Bool.{and_from, and_parts, both_ways, eqb-false}
 use Rattle.mr_version.specs.Name.{Name}
-use Rattle.mr_forms.specs.Known.{AreSame, Form, with_learned}
+use Rattle.mr_forms.specs.Known.{AreSame, Form, learned}
 use Rattle.mr_concise.specs.declared.vector.AuthorColumn.{AuthorColumn}
 use Rattle.mr_filter.specs.Filter.{ClauseParts}
 use Rattle.mr_filter.specs.Meaning.{selects}
@@ -115,13 +115,13 @@ module _ {K : Type 0} (form : Form K) (filters : ℕ → List ClauseParts) (w : 
       (holds_more x m.issues ok inv.core.sets.list (w.replicas r).heads (stored m r) hold.heads) (comes b) (unheld (stored m r) (inv.core.sets.each r).stored) (made_irrefl (x ∷ m.issues) list x.version)
       ∙ ap (λ (come : List Rev). told (told_more (w.replicas r).feed (filter (supersedes x.item (vector_has columns)) (w.replicas r).heads) come)) (alone_if b revision))
 
-  issuer_holds : (knowledge : K) (event : Event) → AreSame (form.known knowledge) (with_learned form.learns_for_all (form.known (w.replicas r).knowledge) x.item x.version) →
+  issuer_holds : (knowledge : K) (event : Event) → AreSame (form.known knowledge) (learned form (w.replicas r).knowledge x.item x.version) →
       HoldingsAgree form (x ∷ m.issues) filters r (issued_sets wanted) (feed_of (stored m r without lower with only_if wanted x.version)) (m.is_retired r) (after knowledge event)
   issuer_holds knowledge event l = record {
     id = hold.id;
     filter = hold.filter;
     is_retired = hold.is_retired;
-    knows = shows_version (x ∷ m.issues) list x.item x.version columns isb form.learns_for_all (form.known (w.replicas r).knowledge) (form.known knowledge) (known m r)
+    knows = shows_version (x ∷ m.issues) list x.item x.version columns isb (form.learns_for_all (w.replicas r).knowledge x.item x.version (λ _. false)) (form.known (w.replicas r).knowledge) (form.known knowledge) (known m r)
         (shows_more x m.issues ok inv.core.sets.list (form.known (w.replicas r).knowledge) (known m r) (inv.core.sets.each r).issued hold.knows) l;
     heads = held_after (w.replicas r).heads (stored m r) wanted hold.heads (inv.core.sets.each r).stored;
     push_outs = held_after (w.replicas r).push_outs (pushed_out m r) (not wanted) hold.push_outs (inv.core.sets.each r).outed;
@@ -160,7 +160,7 @@ module _ {K : Type 0} (form : Form K) (filters : ℕ → List ClauseParts) (w : 
     fresh = (a.streams q).fresh;
   }
 
-  pub issue_agrees : (knowledge : K) (event : Event) → AreSame (form.known knowledge) (with_learned form.learns_for_all (form.known (w.replicas r).knowledge) x.item x.version) →
+  pub issue_agrees : (knowledge : K) (event : Event) → AreSame (form.known knowledge) (learned form (w.replicas r).knowledge x.item x.version) →
       Agrees form filters (with_replica w r (after knowledge event)) (after_issue (setting_of filters) m r x)
   issue_agrees knowledge event l = subst (λ (b : Bool). Agrees form filters (with_replica w r (after knowledge event)) (with_holding (setting_of filters) (with_issue m x) r (issued_sets b))) (sym wanted_is) (record {
     asks = asks_more x m.issues ok inv.core.sets.list filters m.asks w.asks (λ b i v h. (inv.core.sets.each b.target).issued v (inv.core.streams.asks_known b i v h)) a.asks;

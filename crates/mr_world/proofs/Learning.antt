@@ -2,7 +2,7 @@
 use Rattle.std.proofs.Common.{◌≡◌, ap, ℕ, refl, sym, subst, ◌∙◌, Bool, true, false, not, ◌||◌, ◌&&◌, List, [], ◌∷◌, filter, inl, inr, IsTrue, Option, Some, None}
 use Rattle.std.proofs.lemmas.Bool.{and_from, and_parts, both_ways}
 use Rattle.mr_version.specs.Name.{Name}
-use Rattle.mr_forms.specs.Known.{AreSame, Pairs, with_below, with_learned, with_learned_below}
+use Rattle.mr_forms.specs.Known.{AreSame, Pairs, with_below, with_first, with_learned}
 use Rattle.mr_concise.specs.declared.vector.AuthorColumn.{AuthorColumn}
 use Rattle.mr_concise.specs.Vector.{vector_has}
 use Rattle.mr_feed.specs.Entry.{told}
@@ -14,7 +14,7 @@ use Rattle.mr_model.specs.Changes.{feed_after}
 use Rattle.mr_model.specs.Moment.{only, only_if, ◌with◌, ◌without◌}
 use Rattle.mr_model.specs.Versions.{Issue, Versions, is, is_issued, item_of, made_with}
 use Rattle.mr_model.proofs.Basics.{cases, false_from, is_from, is_path, not_true, one_test, or_left, or_parts, or_right}
-use Rattle.mr_model.proofs.Issues.{IsIssueList, made_item}
+use Rattle.mr_model.proofs.Issues.{IsIssueList, item_is_issued, made_item}
 use Rattle.mr_model.proofs.Lists.{filter_in, in_filter}
 use Rattle.mr_model.proofs.Sets.{remains_cases, remains_new, remains_old, without_from, without_parts}
 use Rattle.mr_replica.specs.Issue.{told_more}
@@ -26,6 +26,11 @@ use Rattle.mr_world.specs.Seen.{setting_of}
 use Rattle.mr_world.proofs.FeedKeeps.{feed_is}
 use Rattle.mr_world.proofs.Orders.{entered_in, entered_in_order, held_in, in_entered, in_held, none_in_order, one_in_order, some_in_order}
 use Rattle.mr_world.proofs.Tools.{from_not, or_none}
+
+swapped : (a b c : Bool) → (a || (b || c)) ≡ (b || (a || c))
+swapped true true c = refl
+swapped true false c = refl
+swapped false b c = refl
 
 module _ (issues : List (Issue Mail)) (ok : IsIssueList issues) (item w : Name) (b : List AuthorColumn) (isb : IsBelow issues item w b) where
   -- v is superseded by w
@@ -75,10 +80,42 @@ module _ (issues : List (Issue Mail)) (ok : IsIssueList issues) (item w : Name) 
         ]);
   }
 
-  -- both
-  pub shows_revision : (for_all : Bool) (old new : Pairs) (known : Versions) → Shows issues old known → AreSame new (with_learned_below for_all old item w (vector_has b)) →
-      Shows issues new (known with only w with made_with issues w)
-  shows_revision for_all old new known sh l = shows_below (with_learned for_all old item w) new (known with only w) (shows_version for_all old (with_learned for_all old item w) known sh (λ i v. refl)) l
+  -- the item's own version is one of the item
+  item_is_its : IsTrue (is_issued issues item) × (item_of issues item ≡ item)
+  item_is_its = subst (λ (i : Name). IsTrue (is_issued issues i) × (item_of issues i ≡ i)) isb.of_item (item_is_issued issues ok w isb.is_one)
+
+  -- it may be learned for all items, where it is known for its own
+  shows_first : (for_all : Bool) (old new : Pairs) (known : Versions) → Shows issues old known → (IsTrue for_all → IsTrue (known item)) → ((i v : Name) → new i v ≡ ((for_all && is item v) || old i v)) → Shows issues new known
+  shows_first for_all old new known sh had l = record {
+    issued = λ i v h. elim (or_parts (for_all && is item v) (old i v) (sym (l i v) ∙ h)) [
+      | inl a ↦ subst (λ (z : Name). IsTrue (is_issued issues z)) (is_path item v (and_parts for_all (is item v) a).1) item_is_its.0
+      | inr o ↦ sh.issued i v o
+    ];
+    same = λ v iss. one_test (new (item_of issues v) v) (known v)
+        (λ h. elim (or_parts (for_all && is item v) (old (item_of issues v) v) (sym (l (item_of issues v) v) ∙ h)) [
+          | inl a ↦ (let both = and_parts for_all (is item v) a in subst (λ (z : Name). IsTrue (known z)) (is_path item v both.1) (had both.0))
+          | inr o ↦ sym (sh.same v iss) ∙ o
+        ])
+        (λ h. l (item_of issues v) v ∙ or_right (for_all && is item v) (old (item_of issues v) v) (sh.same v iss ∙ h));
+  }
+
+  -- all of it
+  pub shows_revision : (for_all first_too : Bool) (old new : Pairs) (known : Versions) → Shows issues old known →
+      AreSame new (with_below (with_first (first_too && vector_has b item) (with_learned for_all old item w) item) item (vector_has b)) → Shows issues new (known with only w with made_with issues w)
+  shows_revision for_all first_too old new known sh l =
+      shows_first first above new (known with only w with made_with issues w) below had (λ i v. l i v ∙ swapped (is item i && vector_has b v) (first && is item v) (with_learned for_all old item w i v))
+    where
+      first : Bool
+      first = first_too && vector_has b item
+
+      above : Pairs
+      above = with_below (with_learned for_all old item w) item (vector_has b)
+
+      below : Shows issues above (known with only w with made_with issues w)
+      below = shows_below (with_learned for_all old item w) above (known with only w) (shows_version for_all old (with_learned for_all old item w) known sh (λ i v. refl)) (λ i v. refl)
+
+      had : IsTrue first → IsTrue ((known with only w with made_with issues w) item)
+      had h = or_right ((known with only w) item) (made_with issues w item) (sym (isb.same item item_is_its.0 item_is_its.1) ∙ (and_parts first_too (vector_has b item) h).1)
 
   -- ---- what is held
 

@@ -2,7 +2,7 @@
 use Rattle.std.proofs.Common.{◌≡◌, refl, sym, ap, subst, ◌∙◌, ℕ, Bool, true, false, ◌||◌, ◌&&◌, List, ◌++◌, ◌⊎◌, inl, inr, IsTrue, IsFalse, Option, Some, None}
 use Rattle.std.proofs.lemmas.Bool.{and_from, and_parts, both_ways}
 use Rattle.mr_version.specs.Name.{Name, name_eq}
-use Rattle.mr_forms.specs.Known.{AreSame, Form, Pairs, with_below, with_learned, with_pairs}
+use Rattle.mr_forms.specs.Known.{AreSame, Form, Pairs, with_below, with_first, with_learned, with_pairs, learned, learned_of}
 use Rattle.mr_forms.specs.Listing.{ListsMore}
 use Rattle.mr_forms.specs.Sets.{Versions}
 use Rattle.mr_concise.specs.Vector.{vector_has}
@@ -62,6 +62,12 @@ module _ (issues : List (Issue Mail)) where
   filed_below old item set issued filed i v h = elim (or_parts (name_eq item i && set v) (old i v) h) [
     | inl new ↦ inr (subst (λ (z : Name). IsTrue (is_issued issues z)) (is_path item i (and_parts (name_eq item i) (set v) new).0) issued)
     | inr known ↦ elim (filed i v known) [ inl all ↦ inl (λ j. or_right (name_eq item j && set v) (old j v) (all j)) | inr old_one ↦ inr old_one ]
+  ]
+
+  filed_first : (for_all : Bool) (old : Pairs) (item : Name) → IsFiled issues old → IsFiled issues (with_first for_all old item)
+  filed_first for_all old item filed i v h = elim (or_parts (for_all && name_eq item v) (old i v) h) [
+    | inl new ↦ inl (λ j. or_left (for_all && name_eq item v) (old j v) new)
+    | inr known ↦ elim (filed i v known) [ inl all ↦ inl (λ j. or_right (for_all && name_eq item v) (old j v) (all j)) | inr old_one ↦ inr old_one ]
   ]
 
   filed_pairs : (old more : Pairs) → IsFiled issues old → IsFiled issues more → IsFiled issues (with_pairs old more)
@@ -140,8 +146,8 @@ module _ {K : Type 0} (form : Form K) (form_lists : ListsMore form) (issues : Li
 
   issues_listed : (i : ToIssue) (v : Name) (there : ReplicaEvent) (new : State K) → ((r : Rev) → In r new.heads ⊎ In r new.push_outs → IsTrue (is_issued issues r.item)) → Issues form s i v there new → IsListedReplica form issues new
   issues_listed i v there new held step =
-      with_parts new (filed_same issues (form.known new.knowledge) (with_learned form.learns_for_all (form.known s.knowledge) i.item (next_version s)) step.3
-      (filed_learned issues form.learns_for_all (form.known s.knowledge) i.item (next_version s) issued listed.filed))
+      with_parts new (filed_same issues (form.known new.knowledge) (learned form s.knowledge i.item (next_version s)) step.3
+      (filed_learned issues (form.learns_for_all s.knowledge i.item (next_version s) (λ _. false)) (form.known s.knowledge) i.item (next_version s) issued listed.filed))
       (λ n k e. listed.streams n k (ap (λ (z : State K). open_at z.streams n) (sym step.4) ∙ e)) (λ n k e. listed.sessions n k (ap (λ (z : State K). open_at z.sessions n) (sym step.4) ∙ e))
     where
       r : Rev
@@ -166,13 +172,15 @@ module _ {K : Type 0} (form : Form K) (form_lists : ListsMore form) (issues : Li
 
   line_listed : (sent : Sent) (line : DescentParts) (comer : Option Rev) (reply : Reply) (new : State K) → ListsIssued issues sent.body → IsTrue (is_issued issues line.item) → TakesLine form s sent line comer reply new → IsListedReplica form issues new × IsIssuedReply issues reply
   line_listed sent line comer Known new one issued step = (subst (IsListedReplica form issues) (sym step.1) (record { filed = listed.filed; streams = listed.streams; sessions = took_sessions sent one }), tt)
-  line_listed sent line comer Took new one issued step = (
-    with_parts new (filed_same issues (form.known new.knowledge) (line_learned form s line) step.1
-        (filed_below issues (with_learned form.learns_for_all (form.known s.knowledge) line.item line.version) line.item (vector_has line.below) issued
-        (filed_learned issues form.learns_for_all (form.known s.knowledge) line.item line.version issued listed.filed)))
-        (λ n k e. listed.streams n k (ap (λ (z : State K). open_at z.streams n) (sym step.2) ∙ e)) (λ n k e. took_sessions sent one n k (ap (λ (z : State K). open_at z.sessions n) (sym step.2) ∙ e)),
-    tt,
-  )
+  line_listed sent line comer Took new one issued step =
+      let above : Pairs = with_learned (form.learns_for_all s.knowledge line.item line.version (vector_has line.below)) (form.known s.knowledge) line.item line.version in
+      let first_too : Bool = form.firsts_for_all s.knowledge line.item line.version (vector_has line.below) && vector_has line.below line.item in (
+        with_parts new (filed_same issues (form.known new.knowledge) (line_learned form s line) step.1
+            (filed_below issues (learned_of form s.knowledge line.item line.version (vector_has line.below)) line.item (vector_has line.below) issued (filed_first issues first_too above line.item
+            (filed_learned issues (form.learns_for_all s.knowledge line.item line.version (vector_has line.below)) (form.known s.knowledge) line.item line.version issued listed.filed))))
+            (λ n k e. listed.streams n k (ap (λ (z : State K). open_at z.streams n) (sym step.2) ∙ e)) (λ n k e. took_sessions sent one n k (ap (λ (z : State K). open_at z.sessions n) (sym step.2) ∙ e)),
+        tt,
+      )
   line_listed sent line comer reply new one issued step = absurd step
 
   ends_listed : (sent : Sent) (session : Session) → ListIssued issues session.know → (full : Bool) (new : State K) → Ends form s sent session full new → IsListedReplica form issues new

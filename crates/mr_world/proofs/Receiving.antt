@@ -4,6 +4,7 @@ use Rattle.std.specs.List.{list_any}
 use Rattle.std.proofs.lemmas.Bool.{and_from, and_parts, both_ways}
 use Rattle.mr_version.specs.Name.{Name}
 use Rattle.mr_forms.specs.Known.{AreSame, Form, with_pairs}
+use Rattle.mr_concise.specs.Vector.{vector_has}
 use Rattle.mr_feed.specs.declared.entry.Entry.{Entry}
 use Rattle.mr_filter.specs.Filter.{ClauseParts}
 use Rattle.mr_filter.specs.Meaning.{selects}
@@ -182,7 +183,8 @@ module _ {K : Type 0} (form : Form K) (filters : ℕ → List ClauseParts) (w : 
       id = hold.id;
       filter = hold.filter;
       is_retired = hold.is_retired;
-      knows = shows_revision m.issues inv.core.sets.list line.item line.version line.below isb form.learns_for_all (form.known (w.replicas r).knowledge) (form.known knowledge) (known m r) hold.knows l;
+      knows = shows_revision m.issues inv.core.sets.list line.item line.version line.below isb
+          (form.learns_for_all (w.replicas r).knowledge line.item line.version (vector_has line.below)) (form.firsts_for_all (w.replicas r).knowledge line.item line.version (vector_has line.below)) (form.known (w.replicas r).knowledge) (form.known knowledge) (known m r) hold.knows l;
       heads = held_learned m.issues inv.core.sets.list line.item line.version line.below isb (w.replicas r).heads comer (stored m r) enters hold.heads comes unstored;
       push_outs = out_learned m.issues inv.core.sets.list line.item line.version line.below isb (w.replicas r).push_outs (pushed_out m r) hold.push_outs;
       entries = ap (λ (fe : List (SeenEntry MailCard)). feed_after (setting_of filters) m.issues (stored m r) (stored m r without made_with m.issues line.version with only_if enters line.version) fe) hold.entries

@@ -112,7 +112,8 @@ abbrev pub row_form : Form (List AuthorColumn)
 row_form = record {
   known = λ k i v. vector_has k v;
   is_part = λ k p. record { items = None; versions = vector_has k } ≡ p;
-  learns_for_all = true;
+  learns_for_all = λ _ _ _ _. true;
+  firsts_for_all = λ _ _ _ _. false;
   has_too_many_holes = λ pairs. (i : Name) × HasTooManyHoles (pairs i);
   has_too_many_items = λ pairs. ¬ ((i j : Name) → IsSame (pairs i) (pairs j));
 }

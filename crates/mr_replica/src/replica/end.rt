@@ -163,10 +163,6 @@ impl<K: Knowledge> Replica<K> {
         ensures fits { OnOk result (All (Fits K.form) (merged_by (K.form.known self.now.knowledge) (map piece_of know.now))) }
         ensures refused { IfErr result (RefusesMerged K.form (merged_by (K.form.known self.now.knowledge) (map piece_of know.now))) }
     {
-        let mut knowledge = self.knowledge.copy()?;
-        for fragment in know {
-            knowledge.merge(fragment)?;
-        }
-        Ok(knowledge)
+        self.knowledge.with_fragments(know)
     }
 }

@@ -6,7 +6,7 @@ use Rattle.mr_itemset.proofs.limits.lacks.Given as goal
 abbrev pub invariant-loop-author : goal.invariant-loop-author
 invariant-loop-author g l = record {
   in_range : l.id ≤ 64;
-  covered : (q : ℕ) → q < l.id → CoversAuthor (g.A.Source.has l.source) (g.S.VersionSet.has l.set) q;
+  covered : (q : ℕ) → q < l.id → CoversAuthor (g.A.Source.has l.source) (g.S.Source.has l.set) q;
 }
 
 abbrev pub decreases-loop-author : goal.decreases-loop-author

@@ -1,4 +1,4 @@
-use Rattle.std.proofs.Common.{sym, ◌∙◌}
+use Rattle.std.proofs.Common.{sym, ◌∙◌, lit<}
 use Rattle.std.proofs.lemmas.Bool.{false≢true}
 use Rattle.mr_forms.specs.Sets.{IsSame, both}
 use Rattle.mr_concise.specs.Vector.{vector_has}
@@ -14,9 +14,11 @@ returns-then-eq-clause-ok g c =
 
 pub list-requires : goal.list-requires
 list-requires g c =
-    let grown : IsSame (vector_has c.in-Ok.vector) (both (g.A.Source.has c.args.added.now) (vector_has (vector_of c.args.self.now c.args.item))) = rw c.vector_of.ensures.is at c.in-Ok.ensures.ok in
-    item_normal c.args.self.now (g.A.Source.has c.args.added.now) c.args.item c.in-Ok.vector c.for_all.ensures.normal c.requires c.in-Ok.ensures.canonical.columns_ok grown
-    (λ same. false≢true (sym c.if-eq.false ∙ c.eq.ensures.same.1 (rw (← c.for_all.ensures.is) at same)))
+    let grown : IsSame (vector_has c.in-Ok.vector) (both (g.A.Source.has c.args.added.now) (vector_has (vector_of c.args.self.now c.args.item))) = rw c.vector_of.ensures.is at c.in-Ok.ensures.ok in (
+      lit< tt,
+      item_normal c.args.self.now (g.A.Source.has c.args.added.now) c.args.item c.in-Ok.vector c.for_all.ensures.normal c.requires c.in-Ok.ensures.canonical.columns_ok grown
+          (λ same. false≢true (sym c.if-eq.false ∙ c.eq.ensures.same.1 (rw (← c.for_all.ensures.is) at same))),
+    )
 
 pub returns-clause-ok : goal.returns-clause-ok
 returns-clause-ok g c i v =

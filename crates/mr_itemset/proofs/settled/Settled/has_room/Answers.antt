@@ -1,7 +1,6 @@
 use Rattle.std.proofs.Common.{◌≡◌, ◌≤◌, length, false, true≢false, sym, ◌∙◌, inl, inr}
 use Rattle.std.specs.List.{list_any}
 use Rattle.mr_version.specs.Name.{name_eq}
-use Rattle.mr_forms.specs.declared.fragment.TheConstants.{MAX_ITEMS}
 use Rattle.mr_itemset.specs.Normal.{items_of}
 use Rattle.mr_itemset.proofs.RoomLemmas.{not_false}
 use Rattle.mr_itemset.proofs.EntryLemmas.{listed_of-length}
@@ -11,15 +10,15 @@ use Rattle.mr_itemset.proofs.settled.Settled.has_room.Goals as goal
 pub returns-clause-no : goal.returns-clause-no
 returns-clause-no g c full =
     let free : list_any (name_eq c.args.item) (items_of c.args.self.now.listed) ≡ false = sym c.lists.ensures ∙ c.if-lists.false in
-    let many : MAX_ITEMS ≤ length c.args.self.now.listed = rw (← c.listed.ensures.is, listed_of-length c.listed.result.now.entries, ← c.len.ensures.len) c.if-len-lt-MAX_ITEMS.false in
-    lists_too_many c.args.self.now (g.S.VersionSet.has c.args.set.now) c.args.item c.listed.ensures.normal many free
+    let many : g.row.LIMIT ≤ length c.args.self.now.listed = rw (← c.listed.ensures.is, listed_of-length c.listed.result.now.entries, ← c.len.ensures.len) c.if-len.false in
+    lists_too_many c.args.self.now (g.S.Source.has c.args.set.now) c.args.item c.listed.ensures.normal many free
     (rw c.for_all.ensures.is at (c.lacks.ensures.yes (not_false c.lacks.result full)))
 
-pub returns-then-len-lt-MAX_ITEMS-clause-yes : goal.returns-then-len-lt-MAX_ITEMS-clause-yes
-returns-then-len-lt-MAX_ITEMS-clause-yes g c _ = inl (rw (← c.listed.ensures.is, listed_of-length c.listed.result.now.entries, ← c.len.ensures.len) c.if-len-lt-MAX_ITEMS.true)
+pub returns-then-len-clause-yes : goal.returns-then-len-clause-yes
+returns-then-len-clause-yes g c _ = inl (rw (← c.listed.ensures.is, listed_of-length c.listed.result.now.entries, ← c.len.ensures.len) c.if-len.true)
 
-pub returns-then-len-lt-MAX_ITEMS-clause-no : goal.returns-then-len-lt-MAX_ITEMS-clause-no
-returns-then-len-lt-MAX_ITEMS-clause-no g c wrong = absurd (true≢false wrong)
+pub returns-then-len-clause-no : goal.returns-then-len-clause-no
+returns-then-len-clause-no g c wrong = absurd (true≢false wrong)
 
 pub returns-then-lists-clause-yes : goal.returns-then-lists-clause-yes
 returns-then-lists-clause-yes g c _ = inr (inl (sym c.lists.ensures ∙ c.if-lists.true))

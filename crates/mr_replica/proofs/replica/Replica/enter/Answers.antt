@@ -1,6 +1,6 @@
 use Rattle.std.proofs.Common.{◌≡◌, sym, subst, ap, ◌∙◌}
 use Rattle.mr_version.specs.Name.{Name}
-use Rattle.mr_forms.specs.Known.{AreSame, with_learned}
+use Rattle.mr_forms.specs.Known.{AreSame, learned}
 use Rattle.mr_mail.specs.Mail.{Mail, card_of}
 use Rattle.mr_filter.specs.Meaning.{selects}
 use Rattle.mr_store.specs.Holdings.{Holdings}
@@ -29,7 +29,7 @@ invariant_of-self-2 g c =
     let s : State g.row.K.Denot = record { id = i.id; filter = i.filter; event_limit = i.event_limit; issued = i.issued; knowledge = i.knowledge; heads = i.contents.store.heads; push_outs = i.contents.store.push_outs; trail = i.contents.trail.lasts; feed = i.contents.feed.entries; log = i.contents.log; is_retired = i.is_retired; sessions = i.sessions; streams = i.streams } in
     let next : IsNext s c.args.revision = subst (λ (s : State g.row.K.Denot). IsNext s c.args.revision) (sym c.self.view_is) c.requires.next in
     let selected : c.select-selected.result ≡ is_selected s c.args.revision = c.select-selected.ensures ∙ ap (λ (m : Mail). selects i.filter (card_of m)) c.message.ensures in
-    let knows = λ (item version a b : Name). with_learned form.learns_for_all (form.known i.knowledge) item version a b in
+    let knows = λ (item version a b : Name). learned form i.knowledge item version a b in
     let learned : AreSame (form.known c.learn.new.self) (version_learned form s c.args.revision.item) =
     λ a b. c.in_ok-learn.ensures.ok a b ∙ ap (λ (n : Name). knows n c.version-version.result a b) c.item-item.ensures ∙ ap (λ (n : Name). knows c.args.revision.item n a b) (c.version-version.ensures ∙ next.version) in
     rw (

@@ -76,3 +76,19 @@ invariant_of-self-2 g c =
     let learned = c.learn.ensures in
     rw (is.heads, is.push_outs, is.trail, is.feed, is.log, learned.heads, learned.push_outs, learned.trail, learned.feed, learned.log, same.heads, same.push_outs, same.trail, same.feed, same.log, below, entries, c.in-Ok.ensures.ok)
     (sound_learned form s c.args.sent sound c.requires.kept taken c.learn_with.new.self line comer (told_not_early s body line c.requires.told sure) known brings new)
+
+-- the version is learned with what is below it
+pub returns-clause-ok : goal.returns-clause-ok
+returns-clause-ok g c =
+    let form = g.K.Knowledge.form in
+    let below = c.told_below-below.ensures.is ∙ ap below_told c.body.ensures in
+    let knowledge = ap (λ (t : State g.row.K.Denot). t.knowledge) c.self.view_is in
+    let line = told_by c.args.item c.args.version c.args.sent.body in
+    let known : AreSame (form.known c.learn_with.new.self) (line_learned form c.args.self.now line) = rw (below, knowledge) at c.in_ok-learn_with.ensures.ok in
+    let same = c.in_ok-reserve_taken.ensures.same in
+    let is = c.note_event.ensures in
+    let learned = c.learn.ensures in (
+      c.requires.unknown,
+      known,
+      rw (is.heads, is.push_outs, is.trail, is.feed, is.log, learned.heads, learned.push_outs, learned.trail, learned.feed, learned.log, same.heads, same.push_outs, same.trail, same.feed, same.log, below, c.in-Ok.ensures.ok, c.requires.entries, c.requires.comer, ← c.self.view_is) refl,
+    )

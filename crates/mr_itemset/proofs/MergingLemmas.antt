@@ -1,0 +1,67 @@
+-- what items and all items have already, and counts where nothing waits
+use Rattle.std.proofs.Common.{◌≡◌, ◌≤◌, ◌↔◌, ◌⊎◌, OnOk, IsErrOf, Result, Ok, Err, get_or, ◌||◌, ℕ, Bool, true, false, List, [], ◌∷◌, length, All, refl, ap, sym, ◌∙◌, subst, arith, inl, inr}
+use Rattle.std.proofs.lemmas.Bool.{cases_Bool}
+use Rattle.std.proofs.lemmas.List.Elements.{All-head, All-tail}
+use Rattle.mr_version.specs.Name.{Name, name_eq}
+use Rattle.mr_forms.specs.Sets.{Versions, Covers}
+use Rattle.mr_forms.specs.declared.fragment.Fragment.{Fragment}
+use Rattle.mr_forms.specs.declared.fault.FormFault.{FormFault}
+use Rattle.mr_forms.specs.declared.fault.FormFault.TheVariants as fault
+use Rattle.mr_forms.specs.Known.{Pairs, AreSame, HasValue, IsOnlyOverItems, with_below, with_pairs}
+use Rattle.mr_forms.specs.Covered.{covered}
+use Rattle.mr_forms.specs.Merged.{after_each, FirstHasValue}
+use Rattle.mr_concise.specs.declared.vector.AuthorColumn.{AuthorColumn}
+use Rattle.mr_concise.specs.Vector.{vector_has, IsVectorFrom}
+use Rattle.mr_concise.specs.Equal.{vector_eq}
+use Rattle.mr_concise.proofs.EqualLemmas.{vector_eq-same}
+use Rattle.mr_itemset.specs.declared.knowledge.Listed.{Listed}
+use Rattle.mr_itemset.specs.Normal.{Normal, HasMore, IsNormal, normal_known}
+use Rattle.mr_itemset.specs.ItemForm.{items_form, HasHoleyItem, with_all}
+use Rattle.mr_itemset.specs.Folded.{united, gained}
+use Rattle.mr_itemset.proofs.NormalLemmas.{same_name}
+use Rattle.mr_itemset.proofs.ItemLemmas.{covers_all}
+
+nothing_new : (s o : Bool) → (s ≡ true → o ≡ true) → o ≡ (s || o)
+nothing_new true o h = h refl
+nothing_new false o h = refl
+
+-- an item that has the set learns nothing of it
+pub item_has : (k : Pairs) (item : Name) (set : Versions) → Covers (k item) set → AreSame k (with_below k item set)
+item_has k item set covers i v = go (cases_Bool (name_eq item i))
+  where
+    go : (name_eq item i ≡ true) ⊎ (name_eq item i ≡ false) → k i v ≡ with_below k item set i v
+    go (inl here) = rw here (nothing_new (set v) (k i v) (λ is_in. ap (λ (j : Name). k j v) (sym (same_name item i here)) ∙ covers v is_in))
+    go (inr other) = rw other refl
+
+-- and all items learn nothing where what is known for all has the set
+pub all_have : {limit : ℕ} (k : Normal) (set : Versions) → IsNormal limit k → Covers (vector_has k.all) set → AreSame (normal_known k) (with_all (normal_known k) set)
+all_have k set normal covers i v = nothing_new (set v) (normal_known k i v) (λ is_in. covers_all k i v normal (covers v is_in))
+
+same_listed : (all : List AuthorColumn) (xs : List Listed) → IsVectorFrom 0 all → All (HasMore all) xs → length (gained [] all xs) ≡ length xs
+same_listed all [] all_ok more = refl
+same_listed all (x ∷ xs) all_ok more = go (cases_Bool (vector_eq x.vector all)) (same_listed all xs all_ok (All-tail (HasMore all) x xs more))
+  where
+    head : HasMore all x
+    head = All-head (HasMore all) x xs more
+
+    go : (vector_eq x.vector all ≡ true) ⊎ (vector_eq x.vector all ≡ false) → length (gained [] all xs) ≡ length xs → length (gained [] all (x ∷ xs)) ≡ length (x ∷ xs)
+    go (inl e) rest = absurd (head.more ((vector_eq-same x.vector all head.vector_ok all_ok).0 e))
+    go (inr n) rest = rw n (omega arith)
+
+-- where nothing waits each listed item stays listed
+pub all_listed : {limit : ℕ} (k : Normal) (added : List AuthorColumn) → length added ≡ 0 → IsNormal limit k → length (gained added (united k.all added) k.listed) ≡ length k.listed
+all_listed k [] none normal = same_listed k.all k.listed normal.all_ok normal.more
+all_listed k (x ∷ xs) none normal = absurd (omega arith)
+
+-- one fault makes one answer
+pub one_fault : {T : Type 0} (made : Result T FormFault) (e f : FormFault) → Err e ≡ made → made ≡ Err f → e ≡ f
+one_fault made e f is same = cc
+
+-- where the first fragment may be merged there is a value for it
+pub first_value : {V : Type 0} (limit : ℕ) (has : V → Versions) (known : Pairs) (fs : List (Fragment V)) (f : Fragment V) (made : Result (Unit {0}) FormFault) → 1 ≤ length fs → f ≡ get_or fs 0 f → (IsErrOf made fault.TooManyHoles ↔ HasHoleyItem (with_pairs known (covered has f))) → (IsErrOf made fault.TooManyItems ↔ IsOnlyOverItems (items_form limit) (with_pairs known (covered has f))) → OnOk made (FirstHasValue (items_form limit) (after_each has known fs))
+first_value limit has known [] f made some first holes items = absurd (omega arith)
+first_value limit has known (g ∷ gs) f (Err e) some first holes items = tt
+first_value limit has known (g ∷ gs) f (Ok t) some first holes items =
+    subst (λ (x : Fragment _). HasValue (items_form limit) (with_pairs known (covered has x))) first
+    (let no_holes : ¬ HasHoleyItem (with_pairs known (covered has f)) = λ many. let wrong = holes.1 many in cc in
+    (no_holes, λ many. let wrong = items.1 (many, no_holes) in cc))

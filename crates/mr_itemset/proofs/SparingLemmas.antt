@@ -1,0 +1,39 @@
+-- What all items know, and how many holes an author's column of it has, told by what is settled and what is pending.
+use Rattle.std.proofs.Common.{◌≡◌, ◌||◌, ◌&&◌, true, false, ℕ, List, length, refl, ap, sym, ◌∙◌}
+use Rattle.mr_version.specs.Name.{Name, name_eq}
+use Rattle.mr_forms.specs.Sets.{Versions, both}
+use Rattle.mr_forms.specs.Known.{learned_of, with_learned}
+use Rattle.mr_forms.specs.Runs.{of_author}
+use Rattle.mr_concise.specs.declared.vector.AuthorColumn.{AuthorColumn}
+use Rattle.mr_concise.specs.Column.{Extent}
+use Rattle.mr_concise.specs.Source.{HasHoles, IsColumnOf}
+use Rattle.mr_concise.specs.Vector.{column_of, vector_has}
+use Rattle.mr_concise.proofs.SweepLemmas.{IsColumnOf-unique}
+use Rattle.mr_concise.proofs.UnionLemmas.{column_of-IsColumn}
+use Rattle.mr_itemset.specs.Normal.{Normal, normal_known}
+use Rattle.mr_itemset.specs.ItemForm.{with_all}
+use Rattle.mr_itemset.specs.Sparing.{goes_to_all, spreads, sparing_form}
+use Rattle.mr_itemset.proofs.AloneLemmas.{both_twice}
+use Rattle.mr_itemset.specs.Folded.{IsSplit}
+use Rattle.mr_itemset.proofs.SplitLemmas.{split_all}
+
+pub all_know_by : {limit : ℕ} (k settled : Normal) (pending : List AuthorColumn) (v : Name) → IsSplit limit k settled pending → (vector_has pending v || vector_has settled.all v) ≡ vector_has k.all v
+all_know_by k settled pending v split = sym (split_all k settled pending split v)
+
+pub holes_counted : {limit : ℕ} (k settled : Normal) (pending : List AuthorColumn) (author count : ℕ) → IsSplit limit k settled pending → HasHoles (of_author (both (vector_has pending) (vector_has settled.all)) author) count → count ≡ length (column_of k.all author).holes
+holes_counted k settled pending author count split holes =
+    let ok = column_of-IsColumn 0 k.all author split.normal.all_ok in
+    let is : IsColumnOf (of_author (both (vector_has pending) (vector_has settled.all)) author) (column_of k.all author) = record { apart = ok.apart; in_range = ok.in_range; means = λ c. split_all k settled pending split (record { author = author; counter = c }) } in
+    holes.count_is ∙ ap (λ (x : Extent). length x.holes) (IsColumnOf-unique (of_author (both (vector_has pending) (vector_has settled.all)) author) holes.column (column_of k.all author) holes.is is)
+
+-- ---- what is learned, by what goes to all
+
+module _ (k : Normal) (item version : Name) (set : Versions) where
+  pub spread_alone : spreads k item version set ≡ false → learned_of sparing_form k item version set ≡ with_learned false (normal_known k) item version
+  spread_alone none = rw none refl
+
+  pub spread_plain : spreads k item version set ≡ true → (goes_to_all k item && set item) ≡ false → learned_of sparing_form k item version set ≡ with_learned true (normal_known k) item version
+  spread_plain goes none = rw (goes, none) refl
+
+  pub spread_first : spreads k item version set ≡ true → (goes_to_all k item && set item) ≡ true → learned_of sparing_form k item version set ≡ with_all (normal_known k) (both (name_eq version) (name_eq item))
+  spread_first goes first = rw (goes, first) (sym (both_twice (normal_known k) version item))

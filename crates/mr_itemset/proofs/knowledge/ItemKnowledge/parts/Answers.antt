@@ -1,5 +1,0 @@
-use Rattle.mr_itemset.proofs.SplitLemmas.{split_is}
-use Rattle.mr_itemset.proofs.knowledge.ItemKnowledge.parts.Goals as goal
-
-pub returns : goal.returns
-returns c = rw (← c.self.view_is) (split_is c.self.inside.settled c.self.inside.pending c.self.inside.most_holes c.self.invariant)

@@ -1,9 +1,0 @@
-use Rattle.std.proofs.Common.{take}
-use Rattle.mr_forms.specs.Known.{AreSame}
-use Rattle.mr_itemset.specs.Normal.{normal_known}
-use Rattle.mr_itemset.specs.Each.{with_each}
-use Rattle.mr_itemset.proofs.knowledge.ItemKnowledge.with_each.Given as goal
-
--- the items so far have the set
-abbrev pub invariant-loop-item : goal.invariant-loop-item
-invariant-loop-item g l = AreSame (normal_known l.grown) (with_each (normal_known l.self) (take l.item-index l.items) (g.S.VersionSet.has l.set))

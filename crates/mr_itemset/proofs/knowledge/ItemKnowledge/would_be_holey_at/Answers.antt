@@ -1,5 +1,0 @@
-use Rattle.mr_itemset.proofs.SplitLimitLemmas.{holey_at}
-use Rattle.mr_itemset.proofs.knowledge.ItemKnowledge.would_be_holey_at.Goals as goal
-
-pub returns-clause-holey : goal.returns-clause-holey
-returns-clause-holey g c = holey_at c.args.self.now c.parts-parts.result.settled.now c.parts-parts.result.pending.now c.args.item (g.S.VersionSet.has c.args.set.now) c.would_be_holey_with.result c.parts-parts.ensures c.would_be_holey_with.ensures.yes c.would_be_holey_with.ensures.no

@@ -1,0 +1,65 @@
+use Rattle.std.proofs.Common.{true, refl, sym, ◌∙◌, inl, inr}
+use Rattle.std.proofs.lemmas.Bool.{false≢true}
+use Rattle.mr_version.specs.Name.{name_eq}
+use Rattle.mr_forms.specs.Known.{with_learned}
+use Rattle.mr_itemset.specs.Normal.{normal_known}
+use Rattle.mr_itemset.specs.ItemForm.{HasHoleyItem}
+use Rattle.mr_itemset.proofs.LimitLemmas.{lists_few}
+use Rattle.mr_itemset.proofs.RefusalLemmas.{succeeds, refuses_otherwise}
+use Rattle.mr_itemset.proofs.knowledge.ItemsUpTo.may_learn_with.Goals as goal
+
+pub returns-then-would_be_holey_with-clause-holes :
+    goal.returns-then-would_be_holey_with-clause-holes
+returns-then-would_be_holey_with-clause-holes g c = (
+  λ _. inr ((λ holey. false≢true (sym c.if-would_be_holey_for_all.false ∙ c.would_be_holey_for_all.ensures.holey.1 holey), lists_few c.args.self.now (name_eq c.args.version) c.would_be_holey_for_all.ensures.normal), c.would_be_holey_with.ensures.yes c.if-would_be_holey_with.true),
+  λ _. refl,
+)
+
+pub returns-then-would_be_holey_with-clause-items :
+    goal.returns-then-would_be_holey_with-clause-items
+returns-then-would_be_holey_with-clause-items g c = refuses_otherwise _ _ (λ same. cc) (λ over. elim over [
+  | inl only ↦ lists_few c.args.self.now (name_eq c.args.version) c.would_be_holey_for_all.ensures.normal only.0
+  | inr both ↦ both.1.1 (c.would_be_holey_with.ensures.yes c.if-would_be_holey_with.true)
+])
+
+pub returns-then-not-has_room_with-clause-items : goal.returns-then-not-has_room_with-clause-items
+returns-then-not-has_room_with-clause-items g c =
+    let first : ¬ HasHoleyItem (with_learned true (normal_known c.args.self.now) c.args.item c.args.version) = λ holey. false≢true (sym c.if-would_be_holey_for_all.false ∙ c.would_be_holey_for_all.ensures.holey.1 holey) in (
+      λ _. inr (
+        (first, lists_few c.args.self.now (name_eq c.args.version) c.would_be_holey_for_all.ensures.normal),
+        (c.has_room_with.ensures.no c.if-not-has_room_with.true, λ holey. first (c.would_be_holey_with.ensures.no c.if-would_be_holey_with.false holey)),
+      ),
+      λ _. refl,
+    )
+
+pub returns-clause-ok : goal.returns-clause-ok
+returns-clause-ok g c = (
+  λ holey. false≢true (sym c.if-would_be_holey_for_all.false ∙ c.would_be_holey_for_all.ensures.holey.1 (c.would_be_holey_with.ensures.no c.if-would_be_holey_with.false holey)),
+  c.has_room_with.ensures.yes c.if-not-has_room_with.false,
+)
+
+pub returns-clause-items : goal.returns-clause-items
+returns-clause-items g c = succeeds _ _ (λ over. elim over [
+  | inl only ↦ lists_few c.args.self.now (name_eq c.args.version) c.would_be_holey_for_all.ensures.normal only.0
+  | inr both ↦ c.has_room_with.ensures.yes c.if-not-has_room_with.false both.1.0
+])
+
+pub returns-then-would_be_holey_for_all-clause-holes :
+    goal.returns-then-would_be_holey_for_all-clause-holes
+returns-then-would_be_holey_for_all-clause-holes g c = (λ _. inl (c.would_be_holey_for_all.ensures.holey.0 c.if-would_be_holey_for_all.true), λ _. refl)
+
+pub returns-then-would_be_holey_for_all-clause-items :
+    goal.returns-then-would_be_holey_for_all-clause-items
+returns-then-would_be_holey_for_all-clause-items g c =
+    let holey = c.would_be_holey_for_all.ensures.holey.0 c.if-would_be_holey_for_all.true in
+    refuses_otherwise _ _ (λ same. cc) (λ over. elim over [ inl only ↦ only.1 holey | inr both ↦ both.0.0 holey ])
+
+pub returns-then-not-has_room_with-clause-holes : goal.returns-then-not-has_room_with-clause-holes
+returns-then-not-has_room_with-clause-holes g c =
+    let first : ¬ HasHoleyItem (with_learned true (normal_known c.args.self.now) c.args.item c.args.version) = λ holey. false≢true (sym c.if-would_be_holey_for_all.false ∙ c.would_be_holey_for_all.ensures.holey.1 holey) in
+    refuses_otherwise _ _ (λ same. cc) (λ over. elim over [ inl holey ↦ first holey | inr both ↦ first (c.would_be_holey_with.ensures.no c.if-would_be_holey_with.false both.1) ])
+
+pub returns-clause-holes : goal.returns-clause-holes
+returns-clause-holes g c =
+    let first : ¬ HasHoleyItem (with_learned true (normal_known c.args.self.now) c.args.item c.args.version) = λ holey. false≢true (sym c.if-would_be_holey_for_all.false ∙ c.would_be_holey_for_all.ensures.holey.1 holey) in
+    succeeds _ _ (λ over. elim over [ inl holey ↦ first holey | inr both ↦ first (c.would_be_holey_with.ensures.no c.if-would_be_holey_with.false both.1) ])

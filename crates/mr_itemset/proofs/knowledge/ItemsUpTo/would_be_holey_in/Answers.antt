@@ -1,0 +1,28 @@
+use Rattle.std.proofs.Common.{◌≡◌, length, take, refl, ap, sym, ◌∙◌, arith}
+use Rattle.std.proofs.Math.Seq.{take-length}
+use Rattle.std.proofs.lemmas.Bool.{false≢true}
+use Rattle.std.proofs.lemmas.List.Elements.{All-more}
+use Rattle.mr_forms.specs.Known.{with_below}
+use Rattle.mr_itemset.specs.Normal.{normal_known}
+use Rattle.mr_itemset.specs.ItemForm.{HasHoleyItem}
+use Rattle.mr_itemset.proofs.EachLemmas.{holey_each, not_holey_each}
+use Rattle.mr_itemset.proofs.knowledge.ItemsUpTo.would_be_holey_in.Goals as goal
+
+pub returns-then-would_be_holey_at : goal.returns-then-would_be_holey_at
+returns-then-would_be_holey_at g c = (
+  λ _. holey_each c.args.self.now c.args.items.now (g.S.Source.has c.args.set.now) c.item-item.result c.requires (c.loop-item.item-index, omega arith, sym c.item-item.is) (c.would_be_holey_at.ensures.holey.0 c.if-would_be_holey_at.true),
+  λ _. refl,
+)
+
+pub loop-item-preserved : goal.loop-item-preserved
+loop-item-preserved g c =
+    All-more (λ item. ¬ HasHoleyItem (with_below (normal_known c.args.self.now) item (g.S.Source.has c.args.set.now))) c.args.items.now c.loop-item.item-index c.item-item.result (omega arith) c.loop-item.invariant
+    (λ holey. false≢true (sym c.if-would_be_holey_at.false ∙ c.would_be_holey_at.ensures.holey.1 (rw (← c.item-item.is) at holey)))
+
+pub returns : goal.returns
+returns g c =
+    let at_end : c.loop-item.item-index ≡ length c.args.items.now = omega arith in
+    let whole : take c.loop-item.item-index c.args.items.now ≡ c.args.items.now = ap (λ k. take k c.args.items.now) at_end ∙ take-length c.args.items.now in (
+      λ wrong. absurd (false≢true wrong),
+      λ holey. absurd (not_holey_each c.args.self.now c.args.items.now (g.S.Source.has c.args.set.now) c.requires (rw whole at c.loop-item.invariant) holey),
+    )

@@ -1,0 +1,141 @@
+//! Growth by several versions of all items, and some of one.
+ghost use Rattle.std.specs.Prelude.{◌≡◌, ◌↔◌, ◌≢◌, true, false, IsTrue, IsErrOf, OnOk, OnErr, Err};
+ghost use Rattle.mr_forms.specs.Known.{AreSame, HasValue, IsOverHolesInTurn, IsOverItemsInTurn, with_below};
+ghost use Rattle.mr_itemset.specs.Normal.{normal_known, IsNormal};
+ghost use Rattle.mr_itemset.specs.ItemForm.{items_form, HasHoleyItem, ListsTooMany, with_all};
+
+use crate::knowledge::ItemsUpTo;
+use crate::settled::Settled;
+use mr_concise::{Source, would_have_too_many};
+use mr_forms::FormFault;
+use mr_version::ItemId;
+use std::alloc::AllocError;
+
+impl<const LIMIT: usize> Settled<LIMIT> {
+    /// Whether the item's vector would have too many holes with these versions, once all items have what
+    /// they learn. It allocates nothing.
+    fn would_be_holey_more<A: Source, S: Source>(
+        &self,
+        item: ItemId,
+        learned: &A,
+        below: &S,
+    ) -> bool
+        ensures yes { result ≡ true → HasHoleyItem (with_below (with_all (normal_known self.now) (A.has learned.now)) item (S.has below.now)) }
+        ensures no { result ≡ false → HasHoleyItem (with_below (with_all (normal_known self.now) (A.has learned.now)) item (S.has below.now)) → HasHoleyItem (with_all (normal_known self.now) (A.has learned.now)) }
+    {
+        let vector = self.vector_of(item);
+        would_have_too_many(&(below, (learned, vector)))
+    }
+}
+
+impl<const LIMIT: usize> ItemsUpTo<LIMIT> {
+    /// Whether the item's vector would have too many holes with these versions, once all items have what
+    /// they learn.
+    fn would_be_holey_more<A: Source, S: Source>(
+        &self,
+        item: ItemId,
+        learned: &A,
+        below: &S,
+    ) -> bool
+        ensures yes { result ≡ true → HasHoleyItem (with_below (with_all (normal_known self.now) (A.has learned.now)) item (S.has below.now)) }
+        ensures no { result ≡ false → HasHoleyItem (with_below (with_all (normal_known self.now) (A.has learned.now)) item (S.has below.now)) → HasHoleyItem (with_all (normal_known self.now) (A.has learned.now)) }
+    {
+        let parts = self.parts();
+        parts
+            .settled
+            .would_be_holey_more(item, &(learned, parts.pending), below)
+    }
+
+    /// Whether the versions may be listed for the item, once all items have what they learn.
+    fn has_room_more<A: Source, S: Source>(&self, item: ItemId, learned: &A, below: &S) -> bool
+        ensures yes { result ≡ true → ¬ ListsTooMany LIMIT (with_below (with_all (normal_known self.now) (A.has learned.now)) item (S.has below.now)) }
+        ensures no { result ≡ false → ListsTooMany LIMIT (with_below (with_all (normal_known self.now) (A.has learned.now)) item (S.has below.now)) }
+    {
+        let parts = self.parts();
+        parts
+            .settled
+            .has_room_with(item, &(learned, parts.pending), below)
+    }
+
+    /// Whether some vector would have too many holes, once all items have what they learn. It looks at the
+    /// listed items only where a limit may be near.
+    fn would_be_holey_for_more<A: Source>(&self, learned: &A) -> bool
+        ensures holey { IsTrue result ↔ HasHoleyItem (with_all (normal_known self.now) (A.has learned.now)) }
+        ensures normal { IsNormal LIMIT self.now }
+    {
+        let _parts = self.parts();
+        if self.has_leeway_for(learned) {
+            return false;
+        }
+        self.would_be_holey(learned)
+    }
+
+    /// The fault that `learn_more` would answer where memory is there. It allocates nothing. It costs a search
+    /// for the item, and a walk through its vector and what waits; where a limit may be near, a walk through
+    /// each listed vector.
+    pub(crate) fn may_learn_more<A: Source, S: Source>(
+        &self,
+        item: ItemId,
+        learned: &A,
+        below: &S,
+    ) -> Result<(), FormFault>
+        ensures ok { OnOk result (HasValue (items_form LIMIT) (with_below (with_all (normal_known self.now) (A.has learned.now)) item (S.has below.now))) }
+        ensures holes { IsErrOf result FormFault.TooManyHoles ↔ IsOverHolesInTurn (items_form LIMIT) (with_all (normal_known self.now) (A.has learned.now)) (with_below (with_all (normal_known self.now) (A.has learned.now)) item (S.has below.now)) }
+        ensures items { IsErrOf result FormFault.TooManyItems ↔ IsOverItemsInTurn (items_form LIMIT) (with_all (normal_known self.now) (A.has learned.now)) (with_below (with_all (normal_known self.now) (A.has learned.now)) item (S.has below.now)) }
+        ensures memory { result ≢ Err FormFault.OutOfMemory }
+    {
+        if self.would_be_holey_for_more(learned) {
+            return Err(FormFault::TooManyHoles);
+        }
+        if self.would_be_holey_more(item, learned, below) {
+            return Err(FormFault::TooManyHoles);
+        }
+        if !self.has_room_more(item, learned, below) {
+            return Err(FormFault::TooManyItems);
+        }
+        Ok(())
+    }
+
+    /// Adds versions for all items, and the set for this one.
+    fn settle_more<A: Source, S: Source>(
+        &mut self,
+        item: ItemId,
+        learned: &A,
+        below: &S,
+    ) -> Result<(), AllocError>
+        ensures ok { OnOk result (AreSame (normal_known self.new) (with_below (with_all (normal_known self.old) (A.has learned.now)) item (S.has below.now))) }
+        ensures err { OnErr result (self.new ≡ self.old) }
+    {
+        let parts = self.parts();
+        let learned = (learned, parts.pending);
+        let grown = parts.settled.with_learned_below(item, &learned, below)?;
+        *self = ItemsUpTo::of(grown);
+        Ok(())
+    }
+
+    /// Learns versions for all items, and the set for this one. It costs a search for the item, and a copy of
+    /// its vector and of what waits, which is small where few versions are missing among those that all items
+    /// have learned; where a limit may be near, a copy of each listed vector.
+    pub(crate) fn learn_more<A: Source, S: Source>(
+        &mut self,
+        item: ItemId,
+        learned: &A,
+        below: &S,
+    ) -> Result<(), FormFault>
+        ensures ok { OnOk result (AreSame (normal_known self.new) (with_below (with_all (normal_known self.old) (A.has learned.now)) item (S.has below.now))) }
+        ensures holes { IsErrOf result FormFault.TooManyHoles ↔ IsOverHolesInTurn (items_form LIMIT) (with_all (normal_known self.old) (A.has learned.now)) (with_below (with_all (normal_known self.old) (A.has learned.now)) item (S.has below.now)) }
+        ensures items { IsErrOf result FormFault.TooManyItems ↔ IsOverItemsInTurn (items_form LIMIT) (with_all (normal_known self.old) (A.has learned.now)) (with_below (with_all (normal_known self.old) (A.has learned.now)) item (S.has below.now)) }
+        ensures err { OnErr result (self.new ≡ self.old) }
+    {
+        let Ok(done) = self.try_learn_more(item, learned, below) else {
+            self.may_learn_more(item, learned, below)?;
+            return Err(FormFault::OutOfMemory);
+        };
+        if done {
+            return Ok(());
+        }
+        self.may_learn_more(item, learned, below)?;
+        self.settle_more(item, learned, below)?;
+        Ok(())
+    }
+}

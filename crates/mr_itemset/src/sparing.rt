@@ -1,0 +1,248 @@
+//! Knowledge that spreads a version to all items only where that costs no hole too many.
+ghost use Rattle.std.specs.Prelude.{◌≡◌, ◌↔◌, ◌≢◌, ◌&&◌, [], false, All, IfOk, OnOk, OnErr, IsErrOf, Err, map, string_bytes};
+ghost use Rattle.mr_forms.specs.Known.{AreSame, HasValue, IsOnlyOverItems, IsOverHolesInTurn, IsOverItemsInTurn, learned, learned_of, learned_with, with_below, with_pairs};
+ghost use Rattle.mr_forms.specs.Covered.{covered, all_covered, HasItems};
+ghost use Rattle.mr_forms.specs.Merged.{after_each, FirstHasValue, AreOverHolesInTurn, AreOverItemsInTurn};
+ghost use Rattle.mr_forms.specs.Parts.{part_of, ArePartsThat};
+ghost use Rattle.mr_concise.specs.Vector.{vector_has};
+ghost use Rattle.mr_itemset.specs.Normal.{normal_known, IsNormal};
+ghost use Rattle.mr_itemset.specs.ItemForm.{HasHoleyItem, IsNormalPart};
+ghost use Rattle.mr_itemset.specs.NormalForm.{AreNormal};
+ghost use Rattle.mr_itemset.specs.Shown.{shown, fragments_in, normal_text};
+ghost use Rattle.mr_itemset.specs.Sparing.{goes_to_all, spreads, sparing_form};
+
+use crate::knowledge::ItemsUpTo;
+use crate::rule::comes_next;
+use mr_concise::{ConciseVector, OfSet};
+use mr_forms::{FormFault, Fragment, VersionSet};
+use mr_version::{ItemId, Version};
+use std::alloc::Global;
+use std::marker::Model;
+
+/// How many items a sparing knowledge lists at most: no more than one fragment lists.
+pub const MAX_LISTED_ITEMS: usize = 65_536;
+
+/// Which versions are known for which items, as [`ItemKnowledge`](crate::ItemKnowledge) keeps it, but sparing
+/// with holes: a version that would leave one too many for all items is learned for its own item alone. So
+/// more items are listed, up to [`MAX_LISTED_ITEMS`].
+#[derive(Debug, Drop)]
+pub struct SparingKnowledge {
+    items: ItemsUpTo<MAX_LISTED_ITEMS>,
+}
+
+impl Model for SparingKnowledge {
+    ghost use Rattle.mr_itemset.specs.Normal.{Normal, normal_code};
+
+    ghost Value = { Normal };
+
+    ghost coded = { normal_code };
+
+    ghost view = { λ k. k.items };
+}
+
+impl SparingKnowledge {
+    /// The knowledge of nothing. It allocates nothing; what grows later takes its memory from `alloc`.
+    pub fn new(alloc: Global) -> SparingKnowledge
+        ensures is { result ≡ record { all = []; listed = [] } }
+        ensures nothing { AreSame (normal_known result) (λ _ _. false) }
+    {
+        SparingKnowledge {
+            items: ItemsUpTo::new(alloc),
+        }
+    }
+
+    /// An equal knowledge. `OutOfMemory` is its only fault.
+    pub fn copy(&self) -> Result<SparingKnowledge, FormFault>
+        ensures ok { IfOk result (λ knowledge. knowledge ≡ self.now) }
+        ensures memory { OnErr result (result ≡ Err FormFault.OutOfMemory) }
+    {
+        Ok(SparingKnowledge {
+            items: self.items.copy()?,
+        })
+    }
+
+    /// What it knows, whatever it learns next.
+    pub(crate) fn items(&self) -> &ItemsUpTo<MAX_LISTED_ITEMS>
+        ensures is { result.now ≡ self.now }
+        ensures normal { IsNormal MAX_LISTED_ITEMS self.now }
+    {
+        let _parts = self.items.parts();
+        &self.items
+    }
+
+    /// Whether the version is known for the item. It costs a few searches.
+    pub fn knows(&self, item: ItemId, version: Version) -> bool
+        ensures { result ≡ normal_known self.now item version }
+    {
+        self.items.knows(item, version)
+    }
+
+    /// The knowledge as fragments, in normal form, as a knowledge by items gives them. `OutOfMemory` is the
+    /// only fault. For n listed items it takes about n log n comparisons of vectors.
+    pub fn fragments(&self) -> Result<Vec<Fragment<ConciseVector>>, FormFault>
+        ensures are { IfOk result (λ fragments. map shown fragments.items ≡ fragments_in self.now) }
+        ensures normal { IfOk result (λ fragments. AreNormal (map (part_of vector_has) fragments.items)) }
+        ensures ok { IfOk result (λ fragments. AreSame (normal_known self.now) (all_covered vector_has fragments.items)) }
+        ensures items { IfOk result (λ fragments. All (λ fragment. HasItems fragment.items) fragments.items) }
+        ensures parts { IfOk result (λ fragments. ArePartsThat (IsNormalPart self.now) (map (part_of vector_has) fragments.items)) }
+        ensures memory { OnErr result (result ≡ Err FormFault.OutOfMemory) }
+    {
+        self.items.fragments()
+    }
+
+    /// The text of the knowledge: `all` or items with commas between them, a space and the vector's text,
+    /// for each fragment, and `; ` between the fragments, as `all 0:4; 0.3,0.5 0:9!2!5..7`.
+    pub fn text(&self) -> Result<String, FormFault>
+        ensures ok { IfOk result (λ text. string_bytes text ≡ normal_text self.now) }
+        ensures memory { OnErr result (result ≡ Err FormFault.OutOfMemory) }
+    {
+        self.items.text()
+    }
+
+    /// The fault that `learn` would answer where memory is there. It allocates nothing.
+    pub fn may_learn(&self, item: ItemId, version: Version) -> Result<(), FormFault>
+        ensures holes { IsErrOf result FormFault.TooManyHoles ↔ HasHoleyItem (learned sparing_form self.now item version) }
+        ensures items { IsErrOf result FormFault.TooManyItems ↔ IsOnlyOverItems sparing_form (learned sparing_form self.now item version) }
+        ensures memory { result ≢ Err FormFault.OutOfMemory }
+    {
+        if self.items.goes_to_all(version) {
+            self.items.may_learn(item, version)
+        } else {
+            self.items.may_learn_below(item, &version)
+        }
+    }
+
+    /// Adds the version for all items where it goes to all, else for its own.
+    pub fn learn(&mut self, item: ItemId, version: Version) -> Result<(), FormFault>
+        ensures ok { OnOk result (AreSame (normal_known self.new) (learned sparing_form self.old item version)) }
+        ensures holes { IsErrOf result FormFault.TooManyHoles ↔ HasHoleyItem (learned sparing_form self.old item version) }
+        ensures items { IsErrOf result FormFault.TooManyItems ↔ IsOnlyOverItems sparing_form (learned sparing_form self.old item version) }
+        ensures err { OnErr result (self.new ≡ self.old) }
+    {
+        if self.items.goes_to_all(version) {
+            self.items.learn(item, version)
+        } else {
+            self.items.learn_below(item, &version)
+        }
+    }
+
+    /// Adds all versions of a set, of any form, for the item, and nothing else.
+    pub fn learn_below<S: VersionSet>(&mut self, item: ItemId, set: &S) -> Result<(), FormFault>
+        ensures ok { OnOk result (AreSame (normal_known self.new) (with_below (normal_known self.old) item (S.has set.now))) }
+        ensures holes { IsErrOf result FormFault.TooManyHoles ↔ HasHoleyItem (with_below (normal_known self.old) item (S.has set.now)) }
+        ensures items { IsErrOf result FormFault.TooManyItems ↔ IsOnlyOverItems sparing_form (with_below (normal_known self.old) item (S.has set.now)) }
+        ensures err { OnErr result (self.new ≡ self.old) }
+    {
+        self.items.learn_below(item, &OfSet { set })
+    }
+
+    /// Whether the version goes to all items, with this set below it.
+    fn spreads<S: VersionSet>(&self, item: ItemId, version: Version, below: &S) -> bool
+        ensures { result ≡ spreads self.now item version (S.has below.now) }
+    {
+        let first = item.creator();
+        if below.contains(first) && self.items.goes_to_all(first) && comes_next(first, version) {
+            return true;
+        }
+        self.items.goes_to_all(version)
+    }
+
+    /// Whether the item's first version goes to all items with a version that has this set below it.
+    fn takes_first<S: VersionSet>(&self, item: ItemId, below: &S) -> bool
+        ensures { result ≡ (goes_to_all self.now item && S.has below.now item) }
+    {
+        let first = item.creator();
+        self.items.goes_to_all(first) && below.contains(first)
+    }
+
+    /// The fault that `learn_with` would answer where memory is there. It allocates nothing. It costs a
+    /// search for the item, a walk through its vector, through what waits and through the holes of two
+    /// columns of all items; where a limit may be near, a walk through each listed vector.
+    pub fn may_learn_with<S: VersionSet>(
+        &self,
+        item: ItemId,
+        version: Version,
+        below: &S,
+    ) -> Result<(), FormFault>
+        ensures holes { IsErrOf result FormFault.TooManyHoles ↔ IsOverHolesInTurn sparing_form (learned_of sparing_form self.now item version (S.has below.now)) (learned_with sparing_form self.now item version (S.has below.now)) }
+        ensures items { IsErrOf result FormFault.TooManyItems ↔ IsOverItemsInTurn sparing_form (learned_of sparing_form self.now item version (S.has below.now)) (learned_with sparing_form self.now item version (S.has below.now)) }
+        ensures memory { result ≢ Err FormFault.OutOfMemory }
+    {
+        let set = OfSet { set: below };
+        if !self.spreads(item, version, below) {
+            return self.items.may_learn_alone_with(item, version, &set);
+        }
+        if self.takes_first(item, below) {
+            return self
+                .items
+                .may_learn_more(item, &(version, item.creator()), &set);
+        }
+        self.items.may_learn_with(item, version, &set)
+    }
+
+    /// Learns a version that came with the set of versions below it: the version for all items where it
+    /// goes to all, else for its own, and the set for its own; and where it goes to all, the item's first
+    /// version too, where the set has it and it goes to all by itself. It costs a search for the item, a
+    /// copy of its vector and of what waits, and a walk through the holes of two columns of all items; where
+    /// a limit may be near, a copy of each listed vector.
+    pub fn learn_with<S: VersionSet>(
+        &mut self,
+        item: ItemId,
+        version: Version,
+        below: &S,
+    ) -> Result<(), FormFault>
+        ensures ok { OnOk result (AreSame (normal_known self.new) (learned_with sparing_form self.old item version (S.has below.now))) }
+        ensures holes { IsErrOf result FormFault.TooManyHoles ↔ IsOverHolesInTurn sparing_form (learned_of sparing_form self.old item version (S.has below.now)) (learned_with sparing_form self.old item version (S.has below.now)) }
+        ensures items { IsErrOf result FormFault.TooManyItems ↔ IsOverItemsInTurn sparing_form (learned_of sparing_form self.old item version (S.has below.now)) (learned_with sparing_form self.old item version (S.has below.now)) }
+        ensures err { OnErr result (self.new ≡ self.old) }
+    {
+        let set = OfSet { set: below };
+        if !self.spreads(item, version, below) {
+            return self.items.learn_alone_with(item, version, &set);
+        }
+        if self.takes_first(item, below) {
+            return self
+                .items
+                .learn_more(item, &(version, item.creator()), &set);
+        }
+        self.items.learn_with(item, version, &set)
+    }
+
+    /// Adds all versions of a fragment, whose vector is of any form, for each of its items, and nothing
+    /// else.
+    pub fn merge<S: VersionSet>(&mut self, fragment: &Fragment<S>) -> Result<(), FormFault>
+        ensures ok { OnOk result (AreSame (normal_known self.new) (with_pairs (normal_known self.old) (covered S.has fragment.now))) }
+        ensures holes { IsErrOf result FormFault.TooManyHoles ↔ HasHoleyItem (with_pairs (normal_known self.old) (covered S.has fragment.now)) }
+        ensures items { IsErrOf result FormFault.TooManyItems ↔ IsOnlyOverItems sparing_form (with_pairs (normal_known self.old) (covered S.has fragment.now)) }
+        ensures err { OnErr result (self.new ≡ self.old) }
+    {
+        self.items.merge(fragment)
+    }
+
+    /// The fault that `merge` would answer where memory is there. It allocates nothing.
+    pub fn may_merge<S: VersionSet>(&self, fragment: &Fragment<S>) -> Result<(), FormFault>
+        ensures holes { IsErrOf result FormFault.TooManyHoles ↔ HasHoleyItem (with_pairs (normal_known self.now) (covered S.has fragment.now)) }
+        ensures items { IsErrOf result FormFault.TooManyItems ↔ IsOnlyOverItems sparing_form (with_pairs (normal_known self.now) (covered S.has fragment.now)) }
+        ensures memory { result ≢ Err FormFault.OutOfMemory }
+    {
+        self.items.may_merge(fragment)
+    }
+
+    /// A knowledge that knows what this one does and what the fragments cover, which are merged one after
+    /// the other; this one stays as it is. It answers and costs as that of an
+    /// [`ItemKnowledge`](crate::ItemKnowledge).
+    pub fn with_fragments<S: VersionSet>(
+        &self,
+        fragments: &[Fragment<S>],
+    ) -> Result<SparingKnowledge, FormFault>
+        ensures ok { IfOk result (λ knowledge. AreSame (normal_known knowledge) (with_pairs (normal_known self.now) (all_covered S.has fragments.now))) }
+        ensures value { OnOk result (All (HasValue sparing_form) (after_each S.has (normal_known self.now) fragments.now)) }
+        ensures holes { IsErrOf result FormFault.TooManyHoles → AreOverHolesInTurn sparing_form (after_each S.has (normal_known self.now) fragments.now) }
+        ensures items { IsErrOf result FormFault.TooManyItems → AreOverItemsInTurn sparing_form (after_each S.has (normal_known self.now) fragments.now) }
+        ensures memory { IsErrOf result FormFault.OutOfMemory → FirstHasValue sparing_form (after_each S.has (normal_known self.now) fragments.now) }
+    {
+        Ok(SparingKnowledge {
+            items: self.items.with_fragments(fragments)?,
+        })
+    }
+}
