@@ -1,5 +1,5 @@
 //! The words of the command line, and the help.
-use clap::{Arg, Command, Error};
+use clap::{Arg, ArgAction, Command, Error};
 use std::alloc::{AllocError, Global};
 
 const ABOUT: &str = "Replicas of a mail collection, driven by scripts.
@@ -125,11 +125,23 @@ Exit status:
 /// The name of the word of digits in the help.
 const HEX: &str = "HEX";
 
+/// The id of the option that picks the sparing form.
+const SPARING: &str = "sparing";
+
+/// The form in which a script's replicas keep what they know.
+#[derive(Clone, Copy, Debug, PartialEq, Eq)]
+pub enum Form {
+    /// Item sets, which learn each version for all items.
+    Items,
+    /// Item sets that are sparing with holes.
+    Sparing,
+}
+
 /// What a command line asks for.
 #[derive(Clone, Copy, Debug, PartialEq, Eq)]
 pub enum Request<'a> {
-    /// To run the script on standard input.
-    Run,
+    /// To run the script on standard input, over this form of knowledge.
+    Run(Form),
     /// To tell what the frame says that this word spells.
     Frame(&'a str),
 }
@@ -138,18 +150,26 @@ pub enum Request<'a> {
 /// `Err` too, whose text they are.
 pub fn read_command_line<'a>(alloc: Global, words: &'a [String]) -> Result<Request<'a>, Error> {
     let matches = mailrep(alloc)?.try_get_matches_from(words)?;
-    match matches.subcommand_matches("frame") {
-        Some(frame) => Ok(Request::Frame(frame.get_str(HEX).unwrap_or(""))),
-        None => Ok(Request::Run),
+    if let Some(frame) = matches.subcommand_matches("frame") {
+        return Ok(Request::Frame(frame.get_str(HEX).unwrap_or("")));
+    }
+    match matches.subcommand_matches("run") {
+        Some(run) if run.get_flag(SPARING) => Ok(Request::Run(Form::Sparing)),
+        _ => Ok(Request::Run(Form::Items)),
     }
 }
 
 /// The program's subcommands, their words and their help.
 fn mailrep<'a>(alloc: Global) -> Result<Command<'a>, AllocError> {
+    let sparing = Arg::new(alloc, SPARING)
+        .long(SPARING)
+        .help("For real mail at any size: it keeps holes few, so `know` may print another text")
+        .action(ArgAction::SetTrue);
     let run = Command::new(alloc, "run")
         .about("Runs the script on standard input, and prints its answers")
         .long_about(RUN_ABOUT)
-        .after_long_help(RUN_AFTER);
+        .after_long_help(RUN_AFTER)
+        .arg(sparing)?;
     let hex = Arg::new(alloc, HEX)
         .help("The frame's bytes, by two hexadecimal digits each")
         .required(true);

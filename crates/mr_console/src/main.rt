@@ -1,18 +1,19 @@
 //! `mailrep`: mail replicas on the command line.
 //!
 //! `mailrep run` hands standard input to `run_script`, which runs it line by line and prints the
-//! answers; `mailrep frame HEX` prints what `frame_text` says of HEX. Here stand the
-//! command line with its help, and the exit status: 0; 1 for a script, read or write fault, for a HEX that spells
-//! no frame, or where memory runs out; 2 for a wrong command line. A fault's text goes to standard
-//! error.
+//! answers, over item sets or, with `--sparing`, over sparing knowledge; `mailrep frame HEX` prints what
+//! `frame_text` says of HEX. Here stand the command line with its help, and the exit status: 0; 1 for a
+//! script, read or write fault, for a HEX that spells no frame, or where memory runs out; 2 for a wrong
+//! command line. A fault's text goes to standard error.
 #![tactic(auto)]
 
 mod command_line;
 mod ending;
 
 use clap::error::ErrorKind;
-use command_line::{Request, read_command_line};
+use command_line::{Form, Request, read_command_line};
 use ending::{Ending, Fault, exit_of};
+use mr_itemset::{ItemKnowledge, SparingKnowledge};
 use mr_script::{frame_text, run_script};
 use std::io::Write;
 use std::process::ExitCode;
@@ -35,11 +36,21 @@ fn run<R: Env + Input + Print + Eprint + AllocGlobal>(rt: &R) -> Result<Ending, 
     let words = words(rt)?;
     match read_command_line(rt.alloc(), words.as_slice()) {
         Ok(Request::Frame(hex)) => tell_frame(rt, hex),
-        Ok(Request::Run) => match run_script(rt.alloc(), rt.reader(), &mut io::writer(rt)) {
-            Ok(()) => Ok(Ending::Done),
-            Err(fault) => Err(Fault::Script(fault)),
-        },
+        Ok(Request::Run(form)) => run_over(rt, form),
         Err(error) => say(rt, &error),
+    }
+}
+
+/// Runs the script on standard input over the form of knowledge, and prints its answers.
+fn run_over<R: Input + Print + AllocGlobal>(rt: &R, form: Form) -> Result<Ending, Fault> {
+    let (alloc, reader, mut writer) = (rt.alloc(), rt.reader(), io::writer(rt));
+    let ended = match form {
+        Form::Items => run_script::<ItemKnowledge, _, _>(alloc, reader, &mut writer),
+        Form::Sparing => run_script::<SparingKnowledge, _, _>(alloc, reader, &mut writer),
+    };
+    match ended {
+        Ok(()) => Ok(Ending::Done),
+        Err(fault) => Err(Fault::Script(fault)),
     }
 }
 

@@ -4,7 +4,7 @@ use crate::mail::Draft;
 use crate::wire::Wire;
 use mr_feed::Entry;
 use mr_filter::Filter;
-use mr_itemset::ItemKnowledge;
+use mr_itemset::SparingKnowledge;
 use mr_replica::{Bases, Event, Received, Replica, Revision};
 use mr_version::{Author, Version};
 use mr_wire::{Ask, Frame, Record, encode_ask, encode_record};
@@ -17,7 +17,7 @@ const EVENT_LIMIT: u32 = 1_000;
 #[derive(Drop)]
 pub struct Device {
     alloc: Global,
-    replica: Replica<ItemKnowledge>,
+    replica: Replica<SparingKnowledge>,
 }
 
 impl Device {

@@ -4,17 +4,20 @@
 //! `rt try -- "$PWD/data"`.
 //!
 //! `NAME.script` is a whole script, and `NAME.expected` what it must answer: what it prints and,
-//! where a fault ends it, the line `fault: TEXT` behind that. `NAME.cases` is a table of short
-//! scripts: its first line is the opening, and each further line `LINE => ANSWER` says what the
-//! opening and that line answer. `NAME.frames` is a table of frames: each line `HEX => STATUS LINES` says
-//! how `mailrep frame HEX` ends and what it prints, with ` / ` between two lines. A reader is fed
-//! each frame too: in every cut into two pieces, byte by byte, and each of its parts alone.
+//! where a fault ends it, the line `fault: TEXT` behind that. It is run over item sets and over sparing
+//! knowledge; where it must answer something else over the latter, `NAME.sparing.expected` says what.
+//! `NAME.cases` is a table of short scripts: its first line is the opening, and each further line
+//! `LINE => ANSWER` says what the opening and that line answer, over either form. `NAME.frames` is a
+//! table of frames: each line `HEX => STATUS LINES` says how `mailrep frame HEX` ends and what it
+//! prints, with ` / ` between two lines. A reader is fed each frame too: in every cut into two pieces,
+//! byte by byte, and each of its parts alone.
 //!
 //! The program runs them in the order of their names and prints a line for each: `ok`, or what
 //! differs. It ends with status 1 where one differs or can't be read.
 #![tactic(auto)]
 
 mod cases;
+mod form;
 mod frames;
 mod pieces;
 mod script;

@@ -8,9 +8,10 @@
 //! end it prints what each replica holds, tells and knows, what each subscriber took, and how many frames were
 //! given.
 //!
-//! It is played twice: over item sets, and over plain knowledge, which learns each version for its item alone.
-//! So what is known has other fragments there, a full stream has more records for it, and the records behind
-//! them have higher numbers. All else has to be the same, which the program compares.
+//! It is played three times: over item sets; over plain knowledge, which learns each version for its item alone;
+//! and over sparing knowledge, which learns an item's first two versions for all items where it took the one
+//! with the other. So what is known has other fragments there, a full stream has more or fewer records for it,
+//! and the records behind them have other numbers. All else has to be the same, which the program compares.
 //!
 //! What it has to print, the file `stdout`, was worked out by hand from the rules.
 #![tactic(auto)]
@@ -26,7 +27,7 @@ mod words;
 use anyhow::Result;
 use cast::Cast;
 use mr_forms::{Knowledge, PlainKnowledge};
-use mr_itemset::ItemKnowledge;
+use mr_itemset::{ItemKnowledge, SparingKnowledge};
 use mr_world::{Stopped, World, WorldFault};
 use records::KnowCounts;
 use scenes::Scene;
@@ -34,7 +35,7 @@ use std::process::ExitCode;
 use teller::Teller;
 
 fn main(rt: HostRuntime) -> ExitCode {
-    match play_both(&rt) {
+    match play_each(&rt) {
         Ok(true) => ExitCode::SUCCESS,
         Ok(false) => ExitCode::FAILURE,
         Err(error) => {
@@ -44,14 +45,16 @@ fn main(rt: HostRuntime) -> ExitCode {
     }
 }
 
-/// Plays over both forms of knowledge, and gives whether both tell the same.
-fn play_both<R: Print + AllocGlobal>(rt: &R) -> Result<bool> {
+/// Plays over each form of knowledge, and gives whether all tell the same.
+fn play_each<R: Print + AllocGlobal>(rt: &R) -> Result<bool> {
     let over_item_sets = play_all::<R, ItemKnowledge>(rt, KnowCounts::of_item_sets())?;
     println!(rt; "The same over plain knowledge")?;
     let over_plain = play_all::<R, PlainKnowledge>(rt, KnowCounts::of_plain())?;
-    let is_same = over_item_sets == over_plain;
+    println!(rt; "The same over sparing knowledge")?;
+    let over_sparing = play_all::<R, SparingKnowledge>(rt, KnowCounts::of_sparing())?;
+    let is_same = over_item_sets == over_plain && over_item_sets == over_sparing;
     let told = if is_same { "the same" } else { "not the same" };
-    println!(rt; "But for what is known and its records, both told {told}")?;
+    println!(rt; "But for what is known and its records, all three told {told}")?;
     Ok(is_same)
 }
 

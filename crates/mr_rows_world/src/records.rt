@@ -27,6 +27,15 @@ impl KnowCounts {
             conflict: 4,
         }
     }
+
+    /// Over sparing knowledge the office has one fragment at both moments: with the old phone's edit it learns
+    /// for all items the message's first version too, which the edit tells of.
+    pub fn of_sparing() -> KnowCounts {
+        KnowCounts {
+            taken_up: 1,
+            conflict: 1,
+        }
+    }
 }
 
 /// How many records were given so far, and how many those for what is known will be.

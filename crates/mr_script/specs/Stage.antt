@@ -17,7 +17,6 @@ use Rattle.mr_command.specs.declared.fault.LineFault.{LineFault}
 use Rattle.mr_command.specs.declared.fault.LineFault.TheVariants.{LateReplica, OutOfMemory}
 use Rattle.mr_command.specs.Reading.{Reading}
 use Rattle.mr_command.specs.Scene.{Scene}
-use Rattle.mr_itemset.specs.Normal.{Normal}
 use Rattle.mr_script.specs.declared.interpreter.Stage.{Stage as CodeStage}
 use Rattle.mr_script.specs.declared.interpreter.Stage.TheVariants as code
 use Rattle.mr_script.specs.declared.answer.PoolSizes.{PoolSizes}
@@ -33,7 +32,7 @@ pub data Stage (K : Type 0) : Type 0 where
   running : (world : WorldView K) → Stage K
 
 -- the same, of what the code keeps
-abbrev pub stage_of : CodeStage → Stage Normal
+abbrev pub stage_of : {K V : Type 0} → CodeStage K V → Stage K
 stage_of (code.Opening specs) = opening specs.items
 stage_of (code.Running w) = running w
 

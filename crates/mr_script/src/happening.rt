@@ -1,6 +1,5 @@
 //! Events of a script's world, one at a time.
 ghost use Rattle.std.specs.Prelude.{◌≡◌, IsSome, Some};
-ghost use Rattle.mr_itemset.specs.ItemForm.{item_form};
 ghost use Rattle.mr_script.specs.Doing.{happens_noted, newest};
 ghost use Rattle.mr_script.specs.Fault.{fault_of_stop};
 ghost use Rattle.mr_script.specs.Question.{text_of};
@@ -8,19 +7,19 @@ ghost use Rattle.mr_script.specs.Stage.{happens_told, sizes_of};
 
 use crate::answer::{PoolSizes, answer_line};
 use mr_command::LineFault;
-use mr_itemset::ItemKnowledge;
+use mr_forms::Knowledge;
 use mr_world::{Answer, Event, Stopped, World, WorldFault};
 use std::alloc::Global;
 use std::mem;
 
 /// Lets the event happen. `NoSuchReplica` and `NoSuchFrame` where it names what isn't there, and
 /// `OutOfMemory`: then nothing has changed.
-pub(crate) fn happen(
+pub(crate) fn happen<K: Knowledge>(
     alloc: Global,
-    world: &mut World<ItemKnowledge>,
+    world: &mut World<K>,
     event: Event,
 ) -> Result<(), LineFault>
-    ensures { happens_noted item_form event world.old result world.new }
+    ensures { happens_noted K.form event world.old result world.new }
 {
     let events = vec![in alloc; event]?;
     let Ok(empty) = World::try_new(alloc, Vec::new(alloc)) else {
@@ -46,19 +45,19 @@ pub(crate) fn happen(
 
 /// Lets the event happen, and gives its answer's line. The event stands also where there is no memory
 /// for the line.
-pub(crate) fn happen_and_tell(
+pub(crate) fn happen_and_tell<K: Knowledge>(
     alloc: Global,
-    world: &mut World<ItemKnowledge>,
+    world: &mut World<K>,
     event: Event,
 ) -> Result<String, LineFault>
-    ensures { happens_told item_form event world.old (text_of result) world.new }
+    ensures { happens_told K.form event world.old (text_of result) world.new }
 {
     happen(alloc, world, event)?;
     Ok(answer_line(alloc, pool_sizes(world), newest(world))?)
 }
 
 /// The answer to the newest event, where there is one.
-pub(crate) fn newest(world: &World<ItemKnowledge>) -> &Answer
+pub(crate) fn newest<K: Knowledge>(world: &World<K>) -> &Answer
     requires { IsSome (newest world.now) }
     ensures { newest world.now ≡ Some result.now }
 {
@@ -69,7 +68,7 @@ pub(crate) fn newest(world: &World<ItemKnowledge>) -> &Answer
 }
 
 /// How many frames there are.
-fn pool_sizes(world: &World<ItemKnowledge>) -> PoolSizes
+fn pool_sizes<K: Knowledge>(world: &World<K>) -> PoolSizes
     ensures { result ≡ sizes_of world.now }
 {
     PoolSizes {

@@ -2,7 +2,6 @@
 ghost use Rattle.std.specs.Prelude.{◌≡◌, ◌==◌, [], IfOk, OnErr};
 ghost use Rattle.std.specs.List.{list_any};
 ghost use Rattle.std.specs.Option.{option_copied};
-ghost use Rattle.mr_itemset.specs.ItemForm.{item_form};
 ghost use Rattle.mr_script.specs.Fault.{fault_of_spec};
 ghost use Rattle.mr_script.specs.Question.{text_of};
 ghost use Rattle.mr_script.specs.Run.{LineDoes, TextDoes, is_skipped};
@@ -12,42 +11,41 @@ use crate::happening::happen_and_tell;
 use crate::question::reply;
 use crate::sync::sync_and_tell;
 use mr_command::{Command, LineFault, Pool, Question, Roster, Sync};
-use mr_itemset::ItemKnowledge;
+use mr_forms::Knowledge;
 use mr_version::Author;
 use mr_world::{Event, Spec, SpecFault, World};
 use std::alloc::{AllocError, Global};
 use std::marker::Model;
 use std::mem;
 
-/// What a script has come to.
+/// What a script has come to, over a form of knowledge.
 #[derive(Drop)]
-enum Stage {
+enum Stage<K: Knowledge> {
     /// Replicas that are to be, in their order.
     Opening(Vec<Spec>),
     /// A world of them.
-    Running(World<ItemKnowledge>),
+    Running(World<K>),
 }
 
-/// A script that is run line by line.
+/// A script that is run line by line, over a form of knowledge.
 ///
 /// Lines that make replicas come first. The first other command makes a world of them, in which it is then
 /// done.
 #[derive(Drop)]
-pub struct Interpreter {
+pub struct Interpreter<K: Knowledge> {
     alloc: Global,
-    stage: Stage,
+    stage: Stage<K>,
 }
 
-impl Model for Interpreter {
-    ghost use Rattle.mr_itemset.specs.Normal.{Normal};
+impl<K: Knowledge> Model for Interpreter<K> {
     ghost use Rattle.mr_script.specs.Stage.{Stage, stage_of};
 
-    ghost Value = { Stage Normal };
+    ghost Value = { Stage K };
 
     ghost view = { λ i. stage_of i.stage };
 }
 
-impl Roster for Interpreter {
+impl<K: Knowledge> Roster for Interpreter<K> {
     ghost use Rattle.mr_script.specs.Stage.{scene_of};
 
     ghost scene = { scene_of };
@@ -71,9 +69,9 @@ impl Roster for Interpreter {
     }
 }
 
-impl Interpreter {
+impl<K: Knowledge> Interpreter<K> {
     /// Before the first line. It allocates nothing.
-    pub fn new(alloc: Global) -> Interpreter
+    pub fn new(alloc: Global) -> Interpreter<K>
         ensures { result ≡ opening [] }
     {
         Interpreter {
@@ -89,7 +87,7 @@ impl Interpreter {
     /// A world's refusal is no fault. `OutOfMemory` wherever memory is wanting: what the line had already
     /// done then stands. It costs what its command costs.
     pub fn line(&mut self, line: &[u8]) -> Result<String, LineFault>
-        ensures { LineDoes item_form self.old line.now (text_of result) self.new }
+        ensures { LineDoes K.form self.old line.now (text_of result) self.new }
     {
         match str::from_utf8(line) {
             Ok(text) => self.text(text),
@@ -99,7 +97,7 @@ impl Interpreter {
 
     /// The world that the lines so far made, in which their events happened. There is none as long as lines
     /// may still make replicas.
-    pub fn world(&self) -> Option<&World<ItemKnowledge>>
+    pub fn world(&self) -> Option<&World<K>>
         ensures { option_copied result ≡ world_of self.now }
     {
         match &self.stage {
@@ -110,7 +108,7 @@ impl Interpreter {
 
     /// Runs a line of text.
     fn text(&mut self, text: &str) -> Result<String, LineFault>
-        ensures { TextDoes item_form self.old text.now (text_of result) self.new }
+        ensures { TextDoes K.form self.old text.now (text_of result) self.new }
     {
         if is_skipped(text) {
             return Ok(String::new(self.alloc));
@@ -121,7 +119,7 @@ impl Interpreter {
 
     /// Does what a command says, and gives what it prints.
     fn obey(&mut self, command: Command) -> Result<String, LineFault>
-        ensures { Does item_form self.old command (text_of result) self.new }
+        ensures { Does K.form self.old command (text_of result) self.new }
     {
         match command {
             Command::AddReplica(spec) => self.add_replica(spec),
@@ -145,7 +143,7 @@ impl Interpreter {
     }
 
     fn happen(&mut self, event: Event) -> Result<String, LineFault>
-        ensures { InWorld item_form (happens_told item_form event) self.old (text_of result) self.new }
+        ensures { InWorld K.form (happens_told K.form event) self.old (text_of result) self.new }
     {
         let mut world = self.take_world()?;
         let told = happen_and_tell(self.alloc, &mut world, event);
@@ -154,7 +152,7 @@ impl Interpreter {
     }
 
     fn sync(&mut self, sync: Sync) -> Result<String, LineFault>
-        ensures { InWorld item_form (syncs_told item_form sync) self.old (text_of result) self.new }
+        ensures { InWorld K.form (syncs_told K.form sync) self.old (text_of result) self.new }
     {
         let mut world = self.take_world()?;
         let told = sync_and_tell(self.alloc, &mut world, sync);
@@ -163,7 +161,7 @@ impl Interpreter {
     }
 
     fn reply(&mut self, question: Question) -> Result<String, LineFault>
-        ensures { InWorld item_form (replies_told item_form question) self.old (text_of result) self.new }
+        ensures { InWorld K.form (replies_told K.form question) self.old (text_of result) self.new }
     {
         let world = self.take_world()?;
         let told = reply(self.alloc, &world, question);
@@ -173,8 +171,8 @@ impl Interpreter {
 
     /// Takes out the world that there is, or one that is made of the replicas that are to be: the caller
     /// puts it back. Nothing changes at a fault.
-    fn take_world(&mut self) -> Result<World<ItemKnowledge>, LineFault>
-        ensures world { Begins item_form self.old result }
+    fn take_world(&mut self) -> Result<World<K>, LineFault>
+        ensures world { Begins K.form self.old result }
         ensures unchanged { OnErr result (self.new ≡ self.old) }
     {
         match mem::replace(&mut self.stage, Stage::Opening(Vec::new(self.alloc))) {
@@ -190,8 +188,8 @@ impl Interpreter {
 
 /// A world of these replicas, in which nothing has happened. `SameReplica`, `BadLimit` or `BadCapacity`
 /// where there can be none, and `OutOfMemory`.
-fn made_world(alloc: Global, specs: &[Spec]) -> Result<World<ItemKnowledge>, LineFault>
-    ensures { made_of item_form specs.now result }
+fn made_world<K: Knowledge>(alloc: Global, specs: &[Spec]) -> Result<World<K>, LineFault>
+    ensures { made_of K.form specs.now result }
 {
     let specs = copied(alloc, specs)?;
     match World::try_new(alloc, specs) {
@@ -231,7 +229,7 @@ fn name(specs: &[Spec], id: Author) -> bool
 }
 
 /// How many frames the pool has.
-fn frame_count(world: &World<ItemKnowledge>, pool: Pool) -> u64
+fn frame_count<K: Knowledge>(world: &World<K>, pool: Pool) -> u64
     ensures { result ≡ frame_count world.now pool }
 {
     match pool {

@@ -19,8 +19,9 @@
 //! `World::run`, so what a world promises holds after every line.
 //!
 //! [`Interpreter`] does the lines of a script that come from anywhere, and shows the world that they made;
-//! [`run_script`] takes them out of a reader and writes their answers. [`frame_text`] is no part of a script: it tells in a line what the
-//! bytes of a frame say.
+//! [`run_script`] takes them out of a reader and writes their answers. Both are over any form of knowledge,
+//! which their caller names. [`frame_text`] is no part of a script: it tells in a line what the bytes of a
+//! frame say.
 #![tactic(auto)]
 
 mod answer;

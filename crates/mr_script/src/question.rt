@@ -1,8 +1,6 @@
 //! What a script's world is asked.
 ghost use Rattle.std.specs.Prelude.{◌≡◌, MatchResult, Some, None};
 ghost use Rattle.std.specs.Option.{option_copied};
-ghost use Rattle.mr_itemset.specs.ItemForm.{item_form, IsNormalPart};
-ghost use Rattle.mr_itemset.specs.Normal.{normal_known};
 ghost use Rattle.mr_replica.specs.State.{held};
 ghost use Rattle.mr_world.specs.Kept.{replica_at};
 ghost use Rattle.mr_script.specs.Question.{replies, tells_conflicts, tells_held, tells_known, text_of, IsFrameAt};
@@ -13,8 +11,7 @@ use crate::holding::{conflicts_line, feed_line, heads_line, know_line, log_line,
 use crate::show::{not_held_line, show_line};
 use crate::taken::{index_line, unseen_line};
 use mr_command::{LineFault, Pool, Question};
-use mr_forms::FormFault;
-use mr_itemset::ItemKnowledge;
+use mr_forms::{FormFault, Knowledge};
 use mr_replica::{Refusal, Replica};
 use mr_version::{Author, Version};
 use mr_world::World;
@@ -22,12 +19,12 @@ use std::alloc::Global;
 
 /// The line that answers the question. `NoSuchReplica`, `NoSuchFrame`, `OutOfMemory`. It costs a walk over
 /// what is printed, and for `index` and `unseen` over the answers of the world.
-pub(crate) fn reply(
+pub(crate) fn reply<K: Knowledge>(
     alloc: Global,
-    world: &World<ItemKnowledge>,
+    world: &World<K>,
     question: Question,
 ) -> Result<String, LineFault>
-    ensures { replies item_form world.now question (text_of result) }
+    ensures { replies K.form world.now question (text_of result) }
 {
     match question {
         Question::Heads(id) => heads(alloc, world, id),
@@ -44,7 +41,7 @@ pub(crate) fn reply(
 }
 
 /// The replica of this id.
-fn replica(world: &World<ItemKnowledge>, id: Author) -> Result<&Replica<ItemKnowledge>, LineFault>
+fn replica<K: Knowledge>(world: &World<K>, id: Author) -> Result<&Replica<K>, LineFault>
     ensures { MatchResult result (λ replica. replica_at world.now.members id ≡ Some replica.now)
         (λ fault. (replica_at world.now.members id ≡ None) × (fault ≡ LineFault.NoSuchReplica)) }
 {
@@ -54,60 +51,60 @@ fn replica(world: &World<ItemKnowledge>, id: Author) -> Result<&Replica<ItemKnow
     }
 }
 
-fn heads(alloc: Global, world: &World<ItemKnowledge>, id: Author) -> Result<String, LineFault>
-    ensures { replies item_form world.now (Question.Heads id) (text_of result) }
+fn heads<K: Knowledge>(alloc: Global, world: &World<K>, id: Author) -> Result<String, LineFault>
+    ensures { replies K.form world.now (Question.Heads id) (text_of result) }
 {
     Ok(heads_line(alloc, id, replica(world, id)?.heads())?)
 }
 
-fn push_outs(alloc: Global, world: &World<ItemKnowledge>, id: Author) -> Result<String, LineFault>
-    ensures { replies item_form world.now (Question.PushOuts id) (text_of result) }
+fn push_outs<K: Knowledge>(alloc: Global, world: &World<K>, id: Author) -> Result<String, LineFault>
+    ensures { replies K.form world.now (Question.PushOuts id) (text_of result) }
 {
     Ok(push_outs_line(alloc, id, replica(world, id)?.push_outs())?)
 }
 
-fn conflicts(alloc: Global, world: &World<ItemKnowledge>, id: Author) -> Result<String, LineFault>
-    ensures { replies item_form world.now (Question.Conflicts id) (text_of result) }
+fn conflicts<K: Knowledge>(alloc: Global, world: &World<K>, id: Author) -> Result<String, LineFault>
+    ensures { replies K.form world.now (Question.Conflicts id) (text_of result) }
 {
     several_line(alloc, id, replica(world, id)?)
 }
 
-fn know(alloc: Global, world: &World<ItemKnowledge>, id: Author) -> Result<String, LineFault>
-    ensures { replies item_form world.now (Question.Know id) (text_of result) }
+fn know<K: Knowledge>(alloc: Global, world: &World<K>, id: Author) -> Result<String, LineFault>
+    ensures { replies K.form world.now (Question.Know id) (text_of result) }
 {
     known_line(alloc, id, replica(world, id)?)
 }
 
-fn feed(alloc: Global, world: &World<ItemKnowledge>, id: Author) -> Result<String, LineFault>
-    ensures { replies item_form world.now (Question.Feed id) (text_of result) }
+fn feed<K: Knowledge>(alloc: Global, world: &World<K>, id: Author) -> Result<String, LineFault>
+    ensures { replies K.form world.now (Question.Feed id) (text_of result) }
 {
     Ok(feed_line(alloc, id, replica(world, id)?.feed())?)
 }
 
-fn log(alloc: Global, world: &World<ItemKnowledge>, id: Author) -> Result<String, LineFault>
-    ensures { replies item_form world.now (Question.Log id) (text_of result) }
+fn log<K: Knowledge>(alloc: Global, world: &World<K>, id: Author) -> Result<String, LineFault>
+    ensures { replies K.form world.now (Question.Log id) (text_of result) }
 {
     Ok(log_line(alloc, id, replica(world, id)?.log().len())?)
 }
 
-fn show(
+fn show<K: Knowledge>(
     alloc: Global,
-    world: &World<ItemKnowledge>,
+    world: &World<K>,
     id: Author,
     version: Version,
 ) -> Result<String, LineFault>
-    ensures { replies item_form world.now (Question.Show id version) (text_of result) }
+    ensures { replies K.form world.now (Question.Show id version) (text_of result) }
 {
     held_line(alloc, replica(world, id)?, version)
 }
 
-fn bytes(
+fn bytes<K: Knowledge>(
     alloc: Global,
-    world: &World<ItemKnowledge>,
+    world: &World<K>,
     pool: Pool,
     number: u64,
 ) -> Result<String, LineFault>
-    ensures { replies item_form world.now (Question.Bytes pool number) (text_of result) }
+    ensures { replies K.form world.now (Question.Bytes pool number) (text_of result) }
 {
     match frame(world, pool, number) {
         Some(frame) => Ok(bytes_line(alloc, pool, number, frame)?),
@@ -116,7 +113,7 @@ fn bytes(
 }
 
 /// The frame of this number, where there is one.
-fn frame(world: &World<ItemKnowledge>, pool: Pool, number: u64) -> Option<&[u8]>
+fn frame<K: Knowledge>(world: &World<K>, pool: Pool, number: u64) -> Option<&[u8]>
     ensures { IsFrameAt world.now pool number (option_copied result) }
 {
     match pool {
@@ -127,10 +124,10 @@ fn frame(world: &World<ItemKnowledge>, pool: Pool, number: u64) -> Option<&[u8]>
 }
 
 /// The items of which the replica has several heads.
-fn several_line(
+fn several_line<K: Knowledge>(
     alloc: Global,
     id: Author,
-    replica: &Replica<ItemKnowledge>,
+    replica: &Replica<K>,
 ) -> Result<String, LineFault>
     ensures { tells_conflicts id replica.now.heads (text_of result) }
 {
@@ -139,12 +136,12 @@ fn several_line(
 }
 
 /// What the replica tells of what it knows. A fragment that has no concise vector is a refusal.
-fn known_line(
+fn known_line<K: Knowledge>(
     alloc: Global,
     id: Author,
-    replica: &Replica<ItemKnowledge>,
+    replica: &Replica<K>,
 ) -> Result<String, LineFault>
-    ensures { tells_known id (normal_known replica.now.knowledge) (IsNormalPart replica.now.knowledge) (text_of result) }
+    ensures { tells_known id (K.form.known replica.now.knowledge) (K.form.is_part replica.now.knowledge) (text_of result) }
 {
     match replica.fragments() {
         Ok(fragments) => Ok(know_line(alloc, id, fragments.as_slice())?),
@@ -154,9 +151,9 @@ fn known_line(
 }
 
 /// What the replica shows of a version.
-fn held_line(
+fn held_line<K: Knowledge>(
     alloc: Global,
-    replica: &Replica<ItemKnowledge>,
+    replica: &Replica<K>,
     version: Version,
 ) -> Result<String, LineFault>
     ensures { tells_held (held replica.now version) (text_of result) }

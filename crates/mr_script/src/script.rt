@@ -1,7 +1,6 @@
 //! Scripts, run as they are read.
 ghost use Rattle.std.specs.Prelude.{◌≡◌, ◌≢◌, ◌-◌, ◌<◌, ◌≤◌, ◌++◌, ℕ, List, Option, [], Err, IfOk, IfErr, IfSome, OnOk, OnErr, IsSome, length};
 ghost use Rattle.std.specs.Option.{option_map};
-ghost use Rattle.mr_itemset.specs.ItemForm.{item_form};
 ghost use Rattle.mr_script.specs.Fault.{fault_of_source, NumbersItsLine};
 ghost use Rattle.mr_script.specs.Run.{BeginsToPrint, Breaks, NextAnswer, Prints, PrintsSoFar, end_of};
 ghost use Rattle.mr_script.specs.Script.{Accounts, looked_at, source_remaining};
@@ -12,10 +11,11 @@ use crate::interpreter::Interpreter;
 use crate::output::Output;
 use crate::source::{MAX_SCRIPT_BYTES, Source, SourceFault};
 use crate::{LineFault, ScriptFault};
+use mr_forms::Knowledge;
 use std::alloc::Global;
 use std::io::{Read, Write};
 
-/// Runs the script that the reader gives, and writes its answers.
+/// Runs the script that the reader gives, over a form of knowledge, and writes its answers.
 ///
 /// Each line is run before a later one is read, and what it prints is written, and the writer flushed,
 /// before a read that might wait, and at the end. So a person or a program can wait for an answer
@@ -28,7 +28,7 @@ use std::io::{Read, Write};
 /// reader and the writer fail. A read or a write that was interrupted is no failure, and is tried again; a
 /// write that takes nothing is one. The reader is called at most 16,777,218 times, interrupted reads
 /// included: past them comes `Read`. A line costs what its command costs, and the memory of its text.
-pub fn run_script<R: Read + Drop, W: Write>(
+pub fn run_script<K: Knowledge, R: Read + Drop, W: Write>(
     alloc: Global,
     reader: R,
     writer: &mut W,
@@ -37,12 +37,12 @@ pub fn run_script<R: Read + Drop, W: Write>(
         → IfSome (R.remaining reader) (λ script. MAX_SCRIPT_BYTES < length script) }
     ensures line { IfErr result NumbersItsLine }
     ensures prints { result ≢ Err ScriptFault.Write → IfSome (R.remaining reader)
-        (λ script. Prints item_form script (end_of result) (W.contents writer.old) (W.contents writer.new) []) }
+        (λ script. Prints K.form script (end_of result) (W.contents writer.old) (W.contents writer.new) []) }
     ensures begins { IfSome (R.remaining reader)
-        (λ script. BeginsToPrint item_form script (W.contents writer.old) (W.contents writer.new)) }
+        (λ script. BeginsToPrint K.form script (W.contents writer.old) (W.contents writer.new)) }
 {
     let mut output = Output::new(alloc);
-    let ran = run_lines(alloc, reader, &mut output, writer);
+    let ran = run_lines::<K, R, W>(alloc, reader, &mut output, writer);
     finish(ran, &mut output, writer)
 }
 
@@ -64,7 +64,7 @@ fn finish<W: Write>(
 }
 
 /// Runs each line up to the end or the first fault. What it printed last may still wait.
-fn run_lines<R: Read + Drop, W: Write>(
+fn run_lines<K: Knowledge, R: Read + Drop, W: Write>(
     alloc: Global,
     reader: R,
     output: &mut Output,
@@ -75,12 +75,12 @@ fn run_lines<R: Read + Drop, W: Write>(
         → IfSome (R.remaining reader) (λ script. MAX_SCRIPT_BYTES < length script) }
     ensures line { IfErr result NumbersItsLine }
     ensures prints { result ≢ Err ScriptFault.Write → IfSome (R.remaining reader)
-        (λ script. Prints item_form script (end_of result) (W.contents writer.old) (W.contents writer.new) output.new) }
+        (λ script. Prints K.form script (end_of result) (W.contents writer.old) (W.contents writer.new) output.new) }
     ensures so_far { IfSome (R.remaining reader)
-        (λ script. PrintsSoFar item_form script (W.contents writer.old) (W.contents writer.new) output.new) }
+        (λ script. PrintsSoFar K.form script (W.contents writer.old) (W.contents writer.new) output.new) }
 {
     let mut source = first_source(alloc, reader)?;
-    let mut interpreter = Interpreter::new(alloc);
+    let mut interpreter = Interpreter::<K>::new(alloc);
     let mut line = Vec::new(alloc);
     for number in 1..MAX_SCRIPT_BYTES + 2 {
         settle(&source, output, writer)?;
@@ -151,9 +151,9 @@ fn write_all<W: Write>(output: &mut Output, writer: &mut W) -> Result<(), Script
 }
 
 /// Takes the next line and runs it, and gives what it prints. There is none at the end.
-fn next_answer<R: Read + Drop>(
+fn next_answer<K: Knowledge, R: Read + Drop>(
     source: &mut Source<R>,
-    interpreter: &mut Interpreter,
+    interpreter: &mut Interpreter<K>,
     line: &mut Vec<u8>,
     number: u64,
 ) -> Result<Option<String>, ScriptFault>
@@ -169,7 +169,7 @@ fn next_answer<R: Read + Drop>(
     ensures line { 1 ≤ number → number ≤ 16777217 → IfErr result NumbersItsLine }
     ensures no_write { result ≢ Err ScriptFault.Write }
     ensures answer { IfSome (source_remaining R.remaining source.old) (λ bytes.
-        NextAnswer item_form interpreter.old number (MAX_SCRIPT_BYTES - source.old.taken) bytes result interpreter.new
+        NextAnswer K.form interpreter.old number (MAX_SCRIPT_BYTES - source.old.taken) bytes result interpreter.new
         (source_remaining R.remaining source.new) (MAX_SCRIPT_BYTES - source.new.taken)) }
 {
     match source.next_line(line) {

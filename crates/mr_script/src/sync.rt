@@ -1,6 +1,5 @@
 //! A sync: a session that is run to its end, to a number of records, or to a refusal.
 ghost use Rattle.std.specs.Prelude.{◌≡◌, ◌<◌, [], Ok};
-ghost use Rattle.mr_itemset.specs.ItemForm.{item_form};
 ghost use Rattle.mr_script.specs.Question.{text_of};
 ghost use Rattle.mr_script.specs.Stage.{syncs_told};
 ghost use Rattle.mr_script.specs.Sync.{Draws, OpensSession, OpensStream, Takes, Rounds, answers, closes, draws, goes_through, most_of, outcome, pulls, receives, round, streams, syncs, told_by};
@@ -9,7 +8,7 @@ ghost use Rattle.mr_script.specs.Sync.{MayOpenSession, MayOpenStream, MayDraw, M
 use crate::happening::{happen, newest};
 use crate::sync_line::{SyncCounts, SyncEnd, sync_line};
 use mr_command::{LineFault, Sync};
-use mr_itemset::ItemKnowledge;
+use mr_forms::Knowledge;
 use mr_replica::{Refusal, Reply};
 use mr_wire::Body;
 use mr_world::{Answer, Event, World};
@@ -40,12 +39,12 @@ struct Outcome {
 }
 
 /// Runs a sync and gives its line. At a fault the events before it stand.
-pub(crate) fn sync_and_tell(
+pub(crate) fn sync_and_tell<K: Knowledge>(
     alloc: Global,
-    world: &mut World<ItemKnowledge>,
+    world: &mut World<K>,
     sync: Sync,
 ) -> Result<String, LineFault>
-    ensures { syncs_told item_form sync world.old (text_of result) world.new }
+    ensures { syncs_told K.form sync world.old (text_of result) world.new }
 {
     match run_sync(alloc, world, &sync) {
         Ok(Outcome { counts, end }) => Ok(sync_line(alloc, sync, counts, end)?),
@@ -54,12 +53,12 @@ pub(crate) fn sync_and_tell(
 }
 
 /// Opens a session, and goes on with it where it was opened.
-fn run_sync(
+fn run_sync<K: Knowledge>(
     alloc: Global,
-    world: &mut World<ItemKnowledge>,
+    world: &mut World<K>,
     sync: &Sync,
 ) -> Result<Outcome, LineFault>
-    ensures { syncs item_form sync.now world.old result world.new }
+    ensures { syncs K.form sync.now world.old result world.new }
 {
     match pull(alloc, world, sync)? {
         Ok(session) => run_session(alloc, world, sync, session),
@@ -69,13 +68,13 @@ fn run_sync(
 
 /// Opens a stream for the session, and goes on with it where it was opened. Where it wasn't, the session
 /// is cut.
-fn run_session(
+fn run_session<K: Knowledge>(
     alloc: Global,
-    world: &mut World<ItemKnowledge>,
+    world: &mut World<K>,
     sync: &Sync,
     session: u64,
 ) -> Result<Outcome, LineFault>
-    ensures { goes_through item_form sync.now (Ok session) world.old result world.new }
+    ensures { goes_through K.form sync.now (Ok session) world.old result world.new }
 {
     match answer(alloc, world, sync)? {
         Ok(stream) => run_stream(alloc, world, sync, session, stream),
@@ -87,14 +86,14 @@ fn run_session(
 }
 
 /// Draws records and has them taken. Both ends are cut unless End was taken.
-fn run_stream(
+fn run_stream<K: Knowledge>(
     alloc: Global,
-    world: &mut World<ItemKnowledge>,
+    world: &mut World<K>,
     sync: &Sync,
     session: u64,
     stream: u64,
 ) -> Result<Outcome, LineFault>
-    ensures { streams item_form sync.now session (Ok stream) world.old result world.new }
+    ensures { streams K.form sync.now session (Ok stream) world.old result world.new }
 {
     match take_records(alloc, world, sync, stream) {
         Ok(Outcome { counts, end }) => close(alloc, world, sync, session, stream, counts, end),
@@ -103,16 +102,16 @@ fn run_stream(
 }
 
 /// Cuts the session and the stream, unless End was taken.
-fn close(
+fn close<K: Knowledge>(
     alloc: Global,
-    world: &mut World<ItemKnowledge>,
+    world: &mut World<K>,
     sync: &Sync,
     session: u64,
     stream: u64,
     counts: SyncCounts,
     end: SyncEnd,
 ) -> Result<Outcome, LineFault>
-    ensures { closes item_form sync.now session stream counts end world.old result world.new }
+    ensures { closes K.form sync.now session stream counts end world.old result world.new }
 {
     if !matches!(&end, SyncEnd::Finished) {
         happen(alloc, world, Event::CutIn(sync.target, session))?;
@@ -122,13 +121,13 @@ fn close(
 }
 
 /// Draws records and has them taken, up to a round that ends the sync, or to as many as may be taken.
-fn take_records(
+fn take_records<K: Knowledge>(
     alloc: Global,
-    world: &mut World<ItemKnowledge>,
+    world: &mut World<K>,
     sync: &Sync,
     stream: u64,
 ) -> Result<Outcome, LineFault>
-    ensures { Rounds item_form sync.now stream world.old result world.new }
+    ensures { Rounds K.form sync.now stream world.old result world.new }
 {
     let mut counts = SyncCounts {
         items: 0,
@@ -147,13 +146,13 @@ fn take_records(
 }
 
 /// One round: a record is drawn, and comes to the target.
-fn take_record(
+fn take_record<K: Knowledge>(
     alloc: Global,
-    world: &mut World<ItemKnowledge>,
+    world: &mut World<K>,
     sync: &Sync,
     stream: u64,
 ) -> Result<Round, LineFault>
-    ensures { round item_form sync.now stream world.old result world.new }
+    ensures { round K.form sync.now stream world.old result world.new }
 {
     match draw(alloc, world, sync, stream)? {
         Ok(told) => receive(alloc, world, sync, told),
@@ -198,24 +197,24 @@ impl Outcome {
 // ---- single events
 
 /// The target asks; the session that it opened, or its refusal.
-fn pull(
+fn pull<K: Knowledge>(
     alloc: Global,
-    world: &mut World<ItemKnowledge>,
+    world: &mut World<K>,
     sync: &Sync,
 ) -> Result<Result<u64, Refusal>, LineFault>
-    ensures { pulls item_form sync.now world.old result world.new }
+    ensures { pulls K.form sync.now world.old result world.new }
 {
     happen(alloc, world, Event::Pull(sync.target))?;
     Ok(session_in(newest(world)))
 }
 
 /// The source answers the newest request; the stream that it opened, or its refusal.
-fn answer(
+fn answer<K: Knowledge>(
     alloc: Global,
-    world: &mut World<ItemKnowledge>,
+    world: &mut World<K>,
     sync: &Sync,
 ) -> Result<Result<u64, Refusal>, LineFault>
-    ensures { answers item_form sync.now world.old result world.new }
+    ensures { answers K.form sync.now world.old result world.new }
 {
     let newest_ask = world.ask_count();
     happen(alloc, world, Event::Answer(sync.source, newest_ask))?;
@@ -223,26 +222,26 @@ fn answer(
 }
 
 /// The source gives the stream's next record; what it tells, or the refusal.
-fn draw(
+fn draw<K: Knowledge>(
     alloc: Global,
-    world: &mut World<ItemKnowledge>,
+    world: &mut World<K>,
     sync: &Sync,
     stream: u64,
 ) -> Result<Result<Told, Refusal>, LineFault>
-    ensures { draws item_form sync.now stream world.old result world.new }
+    ensures { draws K.form sync.now stream world.old result world.new }
 {
     happen(alloc, world, Event::Next(sync.source, stream))?;
     Ok(drawn_in(newest(world)))
 }
 
 /// The newest record, which tells this, comes to the target.
-fn receive(
+fn receive<K: Knowledge>(
     alloc: Global,
-    world: &mut World<ItemKnowledge>,
+    world: &mut World<K>,
     sync: &Sync,
     told: Told,
 ) -> Result<Round, LineFault>
-    ensures { receives item_form sync.now told world.old result world.new }
+    ensures { receives K.form sync.now told world.old result world.new }
 {
     let newest_record = world.record_count();
     happen(alloc, world, Event::Receive(sync.target, newest_record))?;

@@ -1,5 +1,6 @@
 //! `mr_script`: readers and writers that fail, and the longest script. What scripts print is in the program
 //! `mr_rows`.
+use mr_itemset::ItemKnowledge;
 use mr_script::{ScriptFault, run_script};
 use std::io;
 use std::io::{ErrorKind, Read, Write};
@@ -126,7 +127,7 @@ fn read_first_sync(
         kind,
     };
     let mut printed = Vec::new(rt.alloc());
-    let ended = run_script(rt.alloc(), reader, &mut printed);
+    let ended = run_script::<ItemKnowledge, _, _>(rt.alloc(), reader, &mut printed);
     (ended, printed)
 }
 
@@ -165,7 +166,7 @@ fn write_first_sync(
         failing,
         kind,
     };
-    let ended = run_script(rt.alloc(), FIRST_SYNC, &mut writer);
+    let ended = run_script::<ItemKnowledge, _, _>(rt.alloc(), FIRST_SYNC, &mut writer);
     (ended, writer)
 }
 
@@ -199,7 +200,7 @@ fn ample_memory_longest_script(rt: HostRuntime) -> Result<(), Fail> {
     script.push(b'\n')?;
     script.resize(16_777_216, b'#')?;
     let mut printed = Vec::new(rt.alloc());
-    run_script(rt.alloc(), script.as_slice(), &mut printed)?;
+    run_script::<ItemKnowledge, _, _>(rt.alloc(), script.as_slice(), &mut printed)?;
     assert_eq!(rt; printed.as_slice(), ANSWERS);
     Ok(())
 }
@@ -208,7 +209,7 @@ fn ample_memory_longest_script(rt: HostRuntime) -> Result<(), Fail> {
 fn a_script_that_is_too_long(rt: HostRuntime) -> Result<(), Fail> {
     let script = vec![in rt.alloc(); b'#'; 16_777_217]?;
     let mut printed = Vec::new(rt.alloc());
-    let ended = run_script(rt.alloc(), script.as_slice(), &mut printed);
+    let ended = run_script::<ItemKnowledge, _, _>(rt.alloc(), script.as_slice(), &mut printed);
     assert_eq!(rt; ended, Err(ScriptFault::TooLong));
     Ok(())
 }

@@ -1,5 +1,4 @@
 use Rattle.std.proofs.Common.{ℕ, ◌+◌, ◌≤◌, List, Option, IfSome}
-use Rattle.mr_itemset.specs.ItemForm.{item_form}
 use Rattle.mr_script.specs.Script.{Accounts, source_remaining}
 use Rattle.mr_script.proofs.SoFar.{SoFar}
 use Rattle.mr_script.proofs.script.run_lines.Given as goal
@@ -15,5 +14,5 @@ abbrev pub invariant-loop-number : goal.invariant-loop-number
 invariant-loop-number g l =
     IsReadSoFar (g.R.Read.remaining l.fn.reader) (source_remaining g.R.Read.remaining l.source) l.source.taken l.number
     × IfSome (g.R.Read.remaining l.fn.reader) (λ script.
-    SoFar item_form script l.interpreter l.number l.source.taken (source_remaining g.R.Read.remaining l.source)
+    SoFar g.K.Knowledge.form script l.interpreter l.number l.source.taken (source_remaining g.R.Read.remaining l.source)
     (g.W.Write.contents l.fn.writer) (g.W.Write.contents l.writer) l.output)

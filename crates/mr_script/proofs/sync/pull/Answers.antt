@@ -1,17 +1,16 @@
 use Rattle.std.proofs.lemmas.Result.{err_from_is_err_and}
-use Rattle.mr_itemset.specs.ItemForm.{item_form}
 use Rattle.mr_script.proofs.Answering.{pull_answers}
 use Rattle.mr_script.proofs.OneEvent.{noted_there, noted_at}
 use Rattle.mr_script.proofs.sync.pull.Goals as goal
 
 pub returns-in_err-happen : goal.returns-in_err-happen
-returns-in_err-happen c = let p = err_from_is_err_and c.from_residual.result c.from_residual.ensures.1 in rw (p.1, p.2) c.in_err-happen.ensures
+returns-in_err-happen g c = let p = err_from_is_err_and c.from_residual.result c.from_residual.ensures.1 in rw (p.1, p.2) c.in_err-happen.ensures
 
 pub newest-requires : goal.newest-requires
-newest-requires c = noted_there _ _ c.in_ok-happen.ensures
+newest-requires g c = noted_there _ _ c.in_ok-happen.ensures
 
 pub session_in-requires : goal.session_in-requires
-session_in-requires c = pull_answers item_form _ _ _ _ (noted_at _ _ _ c.newest.ensures c.in_ok-happen.ensures)
+session_in-requires g c = pull_answers g.K.Knowledge.form _ _ _ _ (noted_at _ _ _ c.newest.ensures c.in_ok-happen.ensures)
 
 pub returns : goal.returns
-returns c = (c.newest.result.now, noted_at _ _ _ c.newest.ensures c.in_ok-happen.ensures, c.session_in.ensures)
+returns g c = (c.newest.result.now, noted_at _ _ _ c.newest.ensures c.in_ok-happen.ensures, c.session_in.ensures)

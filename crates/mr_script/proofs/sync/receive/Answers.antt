@@ -1,21 +1,20 @@
 use Rattle.std.proofs.lemmas.Result.{err_from_is_err_and}
-use Rattle.mr_itemset.specs.ItemForm.{item_form}
 use Rattle.mr_script.proofs.Answering.{receive_answers}
 use Rattle.mr_script.proofs.OneEvent.{noted_there, noted_at}
 use Rattle.mr_script.proofs.sync.receive.Goals as goal
 
 pub returns-in_err-happen : goal.returns-in_err-happen
-returns-in_err-happen c =
+returns-in_err-happen g c =
     let p = err_from_is_err_and c.from_residual.result c.from_residual.ensures.1 in
     rw (p.1, p.2) (rw c.record_count-newest_record.ensures at c.in_err-happen.ensures)
 
 pub newest-requires : goal.newest-requires
-newest-requires c = noted_there _ _ c.in_ok-happen.ensures
+newest-requires g c = noted_there _ _ c.in_ok-happen.ensures
 
 pub round_in-requires : goal.round_in-requires
-round_in-requires c = receive_answers item_form _ _ _ _ _ (noted_at _ _ _ c.newest.ensures c.in_ok-happen.ensures)
+round_in-requires g c = receive_answers g.K.Knowledge.form _ _ _ _ _ (noted_at _ _ _ c.newest.ensures c.in_ok-happen.ensures)
 
 pub returns : goal.returns
-returns c =
+returns g c =
     let happened = rw c.record_count-newest_record.ensures at c.in_ok-happen.ensures in
     (c.newest.result.now, noted_at _ _ _ c.newest.ensures happened, c.round_in.ensures)

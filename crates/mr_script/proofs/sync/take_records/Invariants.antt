@@ -1,6 +1,5 @@
-use Rattle.mr_itemset.specs.ItemForm.{item_form}
 use Rattle.mr_script.proofs.Rounds.{RoundsSoFar}
 use Rattle.mr_script.proofs.sync.take_records.Given as goal
 
 abbrev pub invariant-loop-taken : goal.invariant-loop-taken
-invariant-loop-taken l = RoundsSoFar item_form l.sync l.stream l.fn.world l.world l._taken l.counts
+invariant-loop-taken g l = RoundsSoFar g.K.Knowledge.form l.sync l.stream l.fn.world l.world l._taken l.counts
