@@ -1,9 +1,9 @@
 //! Mailboxes of a given size: each is made, a device syncs with the office that has it, and the program tells what
 //! came of that.
 //!
-//!     mr_sizes                              each scenario, small
-//!     mr_sizes SCENARIO MESSAGES            one scenario, of that size
-//!     mr_sizes SCENARIO MESSAGES unsynced   the same without its sync, to time what stands before it
+//!     mr_rows_sizes                              each scenario, small
+//!     mr_rows_sizes SCENARIO MESSAGES            one scenario, of that size
+//!     mr_rows_sizes SCENARIO MESSAGES unsynced   the same without its sync, to time what stands before it
 //!
 //! It prints no times, so that its output is the same in each run. `scenario` has the names. The office's log
 //! admits 1,000,000 events: creates, edits and records together.
