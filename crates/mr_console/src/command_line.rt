@@ -87,6 +87,8 @@ Limits:
   ids 0 to 63; LIMIT 1 to 1000000 events; CAP 1 to 4096; a script 16777216 bytes; a sender 254 bytes,
   a subject 998, a body 65536; 16 labels a message, each 1 to 32 bytes of a-z, 0-9 and -
 
+The page docs/SCRIPTS.md has an example of each command, and of each fault with what to do about it.
+
 Exit status:
   0  the script ran to its end (a replica's refusal is an answer, no fault)
   1  a fault, told on standard error as `line N: TEXT`, `read fault`, `write fault` or

@@ -4,10 +4,10 @@ use crate::mail::Draft;
 use crate::wire::Wire;
 use mr_feed::Entry;
 use mr_filter::Filter;
-use mr_itemset::SparingKnowledge;
-use mr_replica::{Bases, Event, Received, Replica, Revision};
+use mr_itemset::{SparingKnowledge, one_choice};
+use mr_replica::{Bases, Event, Received, Refusal, Replica, Revision};
 use mr_version::{Author, Version};
-use mr_wire::{Ask, Frame, Record, encode_ask, encode_record};
+use mr_wire::{Ask, Frame, Receipt, encode_ask, encode_receipt, encode_record};
 use std::alloc::Global;
 
 /// How many events a device's log takes.
@@ -23,7 +23,7 @@ pub struct Device {
 impl Device {
     /// A device with no mail. No other device may ever have its id, 0 to 63; it keeps what the filter selects.
     ///
-    /// `BadText` where there is no such id or filter; `OutOfMemory` for the filter.
+    /// `Version` where there is no such id, `Filter` where the text is none or there is no memory for it.
     pub fn new(alloc: Global, id: u16, filter: &str) -> Result<Device, Fault> {
         let id = Author::try_new(id)?;
         let filter = Filter::read(alloc, filter)?;
@@ -31,17 +31,20 @@ impl Device {
         Ok(Device { alloc, replica })
     }
 
-    /// The device that this one was at its start, with all events of its log again: what a program does that keeps its
-    /// log on disk and is started anew. It ends with what this one has.
+    /// A device of this id and filter that takes all events of this one's log, one after the other: what a program
+    /// does that keeps its log on disk and is started anew.
+    ///
+    /// `Replay` at the first event that it refuses, or for which there is no memory. Where it comes to the end its log
+    /// is just these events. That it then has what this one has is compared here, and not proved: `stdout` has both.
     pub fn from_its_log(&self, id: u16, filter: &str) -> Result<Device, Fault> {
         let alloc = self.alloc;
         let id = Author::try_new(id)?;
         let filter = Filter::read(alloc, filter)?;
         let log = copies(alloc, self.replica.log())?;
-        match Replica::replay(alloc, id, filter, EVENT_LIMIT, log) {
-            Ok(replica) => Ok(Device { alloc, replica }),
-            Err(fault) => Err(Fault::Replay(fault.number())),
-        }
+        let replica = Replica::replay(alloc, id, filter, EVENT_LIMIT, log)?;
+        // If both know the same, they will also keep what they learn in the same form.
+        one_choice(self.replica.knowledge(), replica.knowledge());
+        Ok(Device { alloc, replica })
     }
 
     /// A device that has what this one has. It must not go on beside this one: both would give one version to two
@@ -104,6 +107,35 @@ impl Device {
         Ok(self.replica.cut_out(stream)?)
     }
 
+    /// Gives its word for a message that it holds, so that the one who wrote it may let go of it.
+    pub fn vouch(&mut self, version: Version, wire: &mut Wire) -> Result<(), Fault> {
+        let receipt = self.replica.vouch(version)?;
+        wire.send(&encode_receipt(self.alloc, &receipt)?)
+    }
+
+    /// Lets go of what another device has given its word for.
+    pub fn release(&mut self, wire: &mut Wire) -> Result<(), Fault> {
+        wire.deliver()?;
+        let receipt = vouched(wire.next_frame()?)?;
+        Ok(self.replica.release(receipt)?)
+    }
+
+    /// Writes, asks and takes nothing more. It is refused while the device keeps messages for others only, and it
+    /// is **not** refused while the device is the only one that has a message of its own: see `lacks_any_of`.
+    pub fn retire(&mut self) -> Result<(), Refusal> {
+        self.replica.retire()
+    }
+
+    /// Whether the other device has a message that this one doesn't know. What this one knows and its filter selects it
+    /// holds, unless it knows of a newer version in its place; so a device whose filter is `all` and that lacks nothing
+    /// of another has all mail of that one.
+    pub fn lacks_any_of(&self, other: &Device) -> bool {
+        other
+            .heads()
+            .iter()
+            .any(|head| !self.replica.knows(head.item(), head.version()))
+    }
+
     /// The messages of this device, in version order.
     pub fn heads(&self) -> &[Revision] {
         self.replica.heads()
@@ -128,6 +160,14 @@ fn copies(alloc: Global, events: &[Event]) -> Result<Vec<Event>, Fault> {
 fn asked(frame: Frame) -> Result<Ask, Fault> {
     match frame {
         Frame::Ask(ask) => Ok(ask),
-        _ => Err(Fault::NotAnAsk),
+        _ => Err(Fault::OtherFrame),
+    }
+}
+
+/// The receipt in the frame.
+fn vouched(frame: Frame) -> Result<Receipt, Fault> {
+    match frame {
+        Frame::Receipt(receipt) => Ok(receipt),
+        _ => Err(Fault::OtherFrame),
     }
 }

@@ -29,9 +29,14 @@ impl<'a> Draft<'a> {
         }
     }
 
+    /// The same message, under another label.
+    pub fn filed(self, label: &'a str) -> Draft<'a> {
+        Draft { label, ..self }
+    }
+
     /// The message, with a sender, a body and a day.
     ///
-    /// `BadText` where the label is none or the subject is too long; `OutOfMemory`.
+    /// `Message` where the label is none or the subject is too long; `OutOfMemory`.
     pub fn message(&self, alloc: Global) -> Result<Message, Fault> {
         let from = String::from_str(alloc, "ann@example.org")?;
         let subject = String::from_str(alloc, self.subject)?;

@@ -2,17 +2,30 @@
 //!
 //! An office store keeps all mail, a phone the inbox. The office writes, the phone asks and is told, a
 //! connection breaks and its exchange is taken up again, an edit of the phone goes back, and the phone's inbox
-//! follows its feed. All that passes between the two is bytes.
+//! follows its feed. At last the phone files its mail away, hands it over and retires. All that passes between the two
+//! is bytes.
 //!
 //! `device` has what a replica is asked to do, `wire` how frames come out of bytes, `exchange` the order of the
-//! calls of a sync, and `shelf` what the user sees. What the program prints, the file `stdout`, was worked
-//! out by hand from the rules.
+//! calls of a sync, `retirement` those of a retirement, `shelf` what the user sees, and `bell` when a device rings.
+//! What the program prints, the file `stdout`, was worked out by hand from the rules.
+//!
+//! ```text
+//! cd crates/mr_embed
+//! rt try      # runs it, and proves nothing
+//! rt run      # proves and builds it, and then runs it
+//! ```
+//!
+//! For a program of your own copy the folder to `crates/NAME`, write a line for it in `crates.txt`, as that of
+//! `mr_embed`, and change `src/`; `rt new crates/NAME start_io` makes an empty one. `stdout` is what it has to print.
 #![tactic(auto)]
 
+mod bell;
 mod device;
 mod exchange;
 mod fault;
+mod laws;
 mod mail;
+mod retirement;
 mod shelf;
 mod teller;
 mod wire;
@@ -20,8 +33,10 @@ mod wire;
 use device::Device;
 use exchange::Exchange;
 use fault::Fault;
+use laws::cite_laws;
 use mail::Draft;
 use mr_version::Version;
+use retirement::{hand_over, tell_whether_it_retires};
 use shelf::Shelf;
 use std::alloc::Global;
 use std::process::ExitCode;
@@ -67,14 +82,16 @@ fn play<R: Print + AllocGlobal>(
     phone: &mut Device,
     shelf: &mut Shelf,
 ) -> Result<(), Fault> {
+    cite_laws();
     let lunch = first_mail(rt, office)?;
     bring_to_phone(rt, phone, office, shelf)?;
     break_off(rt, phone, office, shelf)?;
     bring_to_phone(rt, phone, office, shelf)?;
-    read_on_phone(rt, phone, shelf, lunch)?;
+    let read = read_on_phone(rt, phone, shelf, lunch)?;
     bring_to_office(rt, office, phone)?;
     start_again(rt, office)?;
-    keep_aside(rt, office)
+    keep_aside(rt, office)?;
+    retire_phone(rt, office, phone, shelf, read)
 }
 
 /// The first mail comes to the office. The phone will want two of the three, and this gives the first of them.
@@ -124,10 +141,11 @@ fn read_on_phone<R: Print + AllocGlobal>(
     phone: &mut Device,
     shelf: &mut Shelf,
     lunch: Version,
-) -> Result<(), Fault> {
+) -> Result<Version, Fault> {
     let read = phone.edit(lunch, &Draft::unseen("Lunch on Friday?", "inbox").seen())?;
     tell_edit(rt, lunch, read)?;
-    tell_shelf(rt, shelf, phone)
+    tell_shelf(rt, shelf, phone)?;
+    Ok(read)
 }
 
 /// The office is brought up to date.
@@ -152,4 +170,23 @@ fn start_again<R: Print + AllocGlobal>(rt: &R, office: &Device) -> Result<(), Fa
 fn keep_aside<R: Print + AllocGlobal>(rt: &R, office: &Device) -> Result<(), Fault> {
     let copy = office.copy()?;
     tell_heads(rt, "office, copied", &copy)
+}
+
+/// The user files the message away, and the phone is given back. Its filter no longer selects the message, so it
+/// keeps it for the office, and can't retire until the office has it.
+fn retire_phone<R: Print + AllocGlobal>(
+    rt: &R,
+    office: &mut Device,
+    phone: &mut Device,
+    shelf: &mut Shelf,
+    read: Version,
+) -> Result<(), Fault> {
+    let draft = Draft::unseen("Lunch on Friday?", "inbox").seen();
+    let filed = phone.edit(read, &draft.filed("archive"))?;
+    tell_edit(rt, read, filed)?;
+    tell_shelf(rt, shelf, phone)?;
+    tell_whether_it_retires(rt, phone)?;
+    bring_to_office(rt, office, phone)?;
+    hand_over(rt.alloc(), office, phone, filed)?;
+    tell_whether_it_retires(rt, phone)
 }

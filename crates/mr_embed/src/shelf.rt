@@ -1,4 +1,5 @@
-//! What the user sees: the inbox, and how many messages are unseen.
+//! What the user sees and hears: the inbox, how many messages are unseen, and a ring for each new one.
+use crate::bell::Bell;
 use crate::fault::Fault;
 use mr_feed::Entry;
 use mr_mail::Label;
@@ -12,6 +13,7 @@ pub struct Shelf {
     inbox: Label,
     indexer: Indexer,
     notifier: Notifier,
+    bell: Bell,
     /// How many entries of the feed it has taken.
     taken: usize,
 }
@@ -23,21 +25,26 @@ impl Shelf {
             inbox: inbox(alloc)?,
             indexer: Indexer::new(alloc),
             notifier: Notifier::new(alloc),
+            bell: Bell::new(alloc),
             taken: 0,
         })
     }
 
-    /// Takes what is new in the feed. Each entry is taken once: a feed only grows, so the number of
-    /// entries taken is all that has to be kept.
+    /// Takes what is new in the feed, and says how many messages are new. Each entry is taken once: a feed only grows,
+    /// so the number of entries taken is all that has to be kept.
     ///
     /// `OutOfMemory` where an entry can't be shown. A part of what is new may be shown then, so that the shelf
-    /// is of no more use: a new one takes the feed from its first entry on.
-    pub fn follow(&mut self, feed: &[Entry]) -> Result<(), Fault> {
+    /// is of no more use: a new one takes the feed from its first entry on, and its user hears nothing of that.
+    pub fn follow(&mut self, feed: &[Entry]) -> Result<u32, Fault> {
+        let mut rings: u32 = 0;
         for entry in feed.iter().skip(self.taken) {
             show(&mut self.indexer, &mut self.notifier, entry)?;
+            if self.bell.rings_for(entry)? {
+                rings = rings.saturating_add(1);
+            }
         }
         self.taken = feed.len();
-        Ok(())
+        Ok(rings)
     }
 
     /// The messages of the inbox, in version order.

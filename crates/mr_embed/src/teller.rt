@@ -3,9 +3,9 @@ use crate::device::Device;
 use crate::fault::Fault;
 use crate::mail::Draft;
 use crate::shelf::Shelf;
-use mr_replica::Revision;
+use mr_replica::{Refusal, Revision};
 use mr_version::Version;
-use std::alloc::Global;
+use std::alloc::{AllocError, Global};
 
 /// Has the office write the message, and tells it.
 pub fn write<R: Print>(rt: &R, office: &mut Device, draft: &Draft<'_>) -> Result<Version, Fault> {
@@ -40,10 +40,22 @@ pub fn tell_shelf<R: Print + AllocGlobal>(
     shelf: &mut Shelf,
     device: &Device,
 ) -> Result<(), Fault> {
-    shelf.follow(device.feed())?;
+    let new = shelf.follow(device.feed())?;
     let inbox = version_list(rt.alloc(), &shelf.inbox()?)?;
     let unseen = shelf.unseen();
-    println!(rt; "phone: its inbox shows{inbox}, {unseen} unseen").map_err(|_| Fault::Print)
+    println!(rt; "phone: its inbox shows{inbox}, {unseen} unseen, {new} new").map_err(
+        |_| Fault::Print,
+    )
+}
+
+/// Tells why the phone can't retire yet.
+pub fn tell_refusal<R: Print>(rt: &R, refusal: Refusal) -> Result<(), Fault> {
+    println!(rt; "phone: can't retire, since {refusal}").map_err(|_| Fault::Print)
+}
+
+/// Tells that the phone has retired.
+pub fn tell_retired<R: Print>(rt: &R) -> Result<(), Fault> {
+    println!(rt; "phone: retired").map_err(|_| Fault::Print)
 }
 
 /// Tells what the device holds.
@@ -56,7 +68,7 @@ pub fn tell_heads<R: Print + AllocGlobal>(rt: &R, who: &str, device: &Device) ->
 fn version_list(alloc: Global, versions: &[Version]) -> Result<String, Fault> {
     let mut list = String::new(alloc);
     for version in versions {
-        write!(list, " {version}").map_err(|_| Fault::OutOfMemory)?;
+        write!(list, " {version}").map_err(|_| AllocError)?;
     }
     Ok(list)
 }
@@ -66,7 +78,7 @@ fn head_list(alloc: Global, heads: &[Revision]) -> Result<String, Fault> {
     let mut list = String::new(alloc);
     for head in heads {
         let version = head.version();
-        write!(list, " {version}").map_err(|_| Fault::OutOfMemory)?;
+        write!(list, " {version}").map_err(|_| AllocError)?;
     }
     Ok(list)
 }

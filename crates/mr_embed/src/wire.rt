@@ -34,7 +34,7 @@ impl Wire {
 
     /// Lets all that was sent come, piece by piece.
     ///
-    /// `BadFrame` where the reader has failed before; `OutOfMemory` where it can't keep a piece. Some pieces may
+    /// `Frame` where the reader has failed before, or can't keep a piece for want of memory. Some pieces may
     /// have come then, so that the connection is of no more use.
     pub fn deliver(&mut self) -> Result<(), Fault> {
         for piece in self.sent.chunks(PIECE_BYTES) {
@@ -55,12 +55,11 @@ impl Wire {
 
     /// The next frame of what has come.
     ///
-    /// `NoFrame` where its last byte is still to come, `BadFrame` where the bytes spell none; `OutOfMemory`.
+    /// `NoFrame` where its last byte is still to come, `Frame` where the bytes spell none or there is no memory for it.
     pub fn next_frame(&mut self) -> Result<Frame, Fault> {
-        match self.reader.next_frame() {
-            Ok(Some(frame)) => Ok(frame),
-            Ok(None) => Err(Fault::NoFrame),
-            Err(fault) => Err(Fault::from(fault)),
+        match self.reader.next_frame()? {
+            Some(frame) => Ok(frame),
+            None => Err(Fault::NoFrame),
         }
     }
 }
