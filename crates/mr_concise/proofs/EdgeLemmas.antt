@@ -1,4 +1,4 @@
-use Rattle.std.proofs.Common.{inl, inr, ◌⊎◌, ◌≡◌, ◌<◌, ◌≤◌, ℕ, Bool, true, false, not, refl, sym, ◌∙◌, arith, List, [], ◌∷◌, ◌++◌}
+use Rattle.std.proofs.Common.{inl, inr, ◌⊎◌, ◌≡◌, ◌<◌, ◌≤◌, ℕ, Bool, true, false, not, refl, sym, ◌∙◌, arith, List, [], ◌∷◌, ◌++◌, length}
 use Rattle.std.proofs.lemmas.Bool.{true≢false, false≢true, cases_order, lt-ltb, le-ltb, cases_lt}
 use Rattle.mr_concise.specs.Edges.{is_on, IsRising}
 
@@ -48,3 +48,28 @@ edges_unique on low high (s ∷ a) (t ∷ b) ra rb h = heads (cases_order s t) (
 pub IsRising-end : (low : ℕ) (xs : List ℕ) (u : ℕ) → IsRising low (xs ++ u ∷ []) → low < u
 IsRising-end low [] u r = r.0
 IsRising-end low (x ∷ xs) u r = let h = IsRising-end x xs u r.1 in omega arith
+
+-- edges up to one that is the last of them are fewer than those that mean the same up to there
+pub edges_fewer : (on : Bool) (low high end : ℕ) (a b : List ℕ) → IsRising low (a ++ end ∷ []) → IsRising high b → ((c : ℕ) → c ≤ end → is_on on (a ++ end ∷ []) c ≡ is_on on b c) → length a < length b
+edges_fewer on low high end [] [] ra rb h = absurd (not≢self on (sym (h end (omega arith)) ∙ is_on-at_first on end [] tt))
+edges_fewer on low high end [] (t ∷ b) ra rb h = omega arith
+edges_fewer on low high end (s ∷ a) [] ra rb h =
+    let l : s < end = IsRising-end s a end ra.1 in
+    absurd (not≢self on (sym (h s (omega arith)) ∙ is_on-at_first on s (a ++ end ∷ []) ra.1))
+edges_fewer on low high end (s ∷ a) (t ∷ b) ra rb h =
+    let rest = edges_fewer (not on) s t end a b ra.1 rb.1 (tails (heads (cases_order s t))) in
+    omega arith
+  where
+    before : s < end
+    before = IsRising-end s a end ra.1
+
+    heads : (s ≡ t) ⊎ ((s < t) ⊎ (t < s)) → s ≡ t
+    heads (inl e) = e
+    heads (inr (inl l)) = absurd (not≢self on (sym (sym (is_on-at_first on s (a ++ end ∷ []) ra.1) ∙ h s (let e = before in omega arith) ∙ is_on-stay on t b s l)))
+    heads (inr (inr g)) = absurd (not≢self on (sym (is_on-stay on s (a ++ end ∷ []) t g) ∙ h t (let e = before in omega arith) ∙ is_on-at_first on t b rb.1))
+
+    tails : s ≡ t → (c : ℕ) → c ≤ end → is_on (not on) (a ++ end ∷ []) c ≡ is_on (not on) b c
+    tails e c m = elim (cases_lt c s) [
+      | inl l ↦ is_on-before (not on) (a ++ end ∷ []) s c ra.1 (omega arith) ∙ sym (is_on-before (not on) b t c rb.1 (omega arith))
+      | inr g ↦ sym (is_on-turn on s (a ++ end ∷ []) c g) ∙ h c m ∙ is_on-turn on t b c (omega arith)
+    ]

@@ -12,10 +12,10 @@ use Rattle.mr_concise.specs.declared.vector.AuthorColumn.{AuthorColumn}
 use Rattle.mr_concise.specs.Column.{Extent, hole_edges, edges, column_has, empty_column, IsColumn}
 use Rattle.mr_concise.specs.Next.{IsNextOut, IsNextIn, HasNoneFrom}
 use Rattle.mr_forms.specs.Runs.{of_author}
-use Rattle.mr_concise.specs.Source.{IsColumnOf, HasHoles, HasAtMostHoles, ColumnsHaveAtMost, HasFewHoles, HasManyHoles}
+use Rattle.mr_concise.specs.Source.{IsColumnOf, HasHoles, HasAtMostHoles, ColumnsHaveAtMost, HasFewHoles, HasManyHoles, HasFewerHoles, HasAtLeastHoles}
 use Rattle.mr_forms.specs.Runs.{HasNoAuthorFrom, IsNextAuthor}
 use Rattle.mr_concise.specs.Vector.{column_of, vector_has, IsVectorFrom, with_column, HasTooManyHoles}
-use Rattle.mr_concise.proofs.EdgeLemmas.{IsRising-end}
+use Rattle.mr_concise.proofs.EdgeLemmas.{IsRising-end, is_on-before, edges_fewer}
 use Rattle.mr_concise.proofs.ColumnLemmas.{column_unique, column_has-edges}
 use Rattle.mr_concise.proofs.VectorLemmas.{column_of-with_column, IsVectorFrom-with_column}
 use Rattle.mr_concise.proofs.UnionLemmas.{column_has-empty, IsColumn-empty}
@@ -143,6 +143,39 @@ SweptCount-more has count at t e w n o bound = record {
 
 pub SweptCount-end : (has : ℕ → Bool) (count at : ℕ) → has 0 ≡ false → SweptCount has count at → HasNoneFrom has at → HasHoles has count
 SweptCount-end has count at zero_out w none = record { column = record { upto = at - 1; holes = w.holes }; is = swept-end has w.holes at zero_out w.swept none; count_is = w.count_is }
+
+-- where nothing is left before so many are found, there are fewer
+pub fewer-from_end : (has : ℕ → Bool) (count at limit : ℕ) → has 0 ≡ false → SweptCount has count at → HasNoneFrom has at → count < limit → HasFewerHoles has limit
+fewer-from_end has count at limit zero_out w none l = record {
+  column = record { upto = at - 1; holes = w.holes };
+  is = swept-end has w.holes at zero_out w.swept none;
+  fewer = let c = w.count_is in omega arith;
+}
+
+length-hole_edges : (holes : List Hole) → length (hole_edges holes) ≡ length holes + length holes
+length-hole_edges [] = refl
+length-hole_edges (h ∷ hs) = let rest = length-hole_edges hs in omega arith
+
+-- a walk finds no more holes than the column has
+swept-found : (has : ℕ → Bool) (holes : List Hole) (at : ℕ) → Swept has holes at → HasAtLeastHoles has (length holes)
+swept-found has holes at w column is =
+    let fewer = edges_fewer true 0 0 at (hole_edges holes) (edges column) w.rising is.apart (λ c m. elim (cases_lt c 1) [
+      | inl z ↦ is_on-before true (hole_edges holes ++ at ∷ []) 0 c w.rising (omega arith) ∙ sym (is_on-before true (edges column) 0 c is.apart (omega arith))
+      | inr g ↦ found c m g ∙ sym (is.means c) ∙ column_has-edges column c is.apart g
+    ]) in
+    let own = length-hole_edges holes in
+    let others = length-hole_edges column.holes in
+    let whole = length-append (hole_edges column.holes) ((column.upto + 1) ∷ []) in
+    omega arith
+  where
+    found : (c : ℕ) → c ≤ at → 1 ≤ c → is_on true (hole_edges holes ++ at ∷ []) c ≡ has c
+    found c m g = elim (cases_lt c at) [
+      | inl b ↦ w.means c g b
+      | inr a ↦ let e : at ≡ c = omega arith in w.past c a ∙ sym w.is_out ∙ ap has e
+    ]
+
+pub at_least-from_found : (has : ℕ → Bool) (count at limit : ℕ) → SweptCount has count at → limit ≤ count → HasAtLeastHoles has limit
+at_least-from_found has count at limit w l column is = let found = swept-found has w.holes at w.swept column is in let c = w.count_is in omega arith
 
 -- the authors below id are gone through
 pub at_most-next : (set : Versions) (most more id author : ℕ) → most ≤ more → ((q : ℕ) → q < id → HasAtMostHoles (of_author set q) most) → IsNextAuthor set id author → HasAtMostHoles (of_author set author) more → (q : ℕ) → q < author + 1 → HasAtMostHoles (of_author set q) more

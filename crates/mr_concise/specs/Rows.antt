@@ -1,6 +1,6 @@
 -- worked rows: what the definitions give for small values
 use Rattle.std.proofs.Common.{arith}
-use Rattle.std.specs.Prelude.{◌≡◌, ◌<◌, ◌≤◌, ℕ, true, false, List, [], ◌∷◌, codes, Some, None, refl}
+use Rattle.std.specs.Prelude.{◌≡◌, ◌<◌, ◌≤◌, ℕ, Bool, true, false, List, [], ◌∷◌, codes, Some, None, refl}
 use Rattle.std.specs.Fmt.{digits}
 use Rattle.std.specs.declared.cmp.Ordering.TheVariants.{Less, Greater}
 use Rattle.mr_forms.specs.declared.fragment.ItemSet.TheVariants.{All}
@@ -12,6 +12,7 @@ use Rattle.mr_concise.specs.Column.{Extent, column_has, edges, gap, empty_column
 use Rattle.mr_concise.specs.Equal.{vector_eq}
 use Rattle.mr_concise.specs.Fragments.{ConciseFragment, knowledge_text}
 use Rattle.mr_concise.specs.Order.{vector_cmp}
+use Rattle.mr_concise.specs.Source.{HasFewerHoles, HasAtLeastHoles}
 use Rattle.mr_concise.specs.Text.{column_text, vector_text}
 use Rattle.mr_concise.specs.Vector.{column_of, vector_has, with_column, with_one, IsVectorFrom}
 
@@ -80,6 +81,20 @@ touching_holes is = let wrong : 5 < 5 = is.apart.1.1.0 in absurd (omega arith)
 -- the bound is in no hole
 pub bound_in_hole : ¬ IsColumn (column 7 (hole 5 7 ∷ []))
 bound_in_hole is = let wrong : 8 < 8 = is.apart.1.1.0 in absurd (omega arith)
+
+-- ---- how many holes a column has
+
+-- with two holes it has fewer than three
+pub fewer_than_three : HasFewerHoles (column_has holey) 3
+fewer_than_three = record { column = holey; is = record { apart = holey_is_column.apart; in_range = holey_is_column.in_range; means = λ c. refl }; fewer = omega arith }
+
+-- but not three, and so not fewer than two
+pub not_at_least_three : ¬ HasAtLeastHoles (column_has holey) 3
+not_at_least_three least = let wrong : 3 ≤ 2 = least holey (record { apart = holey_is_column.apart; in_range = holey_is_column.in_range; means = λ c. refl }) in absurd (omega arith)
+
+-- nothing has fewer holes than none
+pub none_is_fewest : (has : ℕ → Bool) → ¬ HasFewerHoles has 0
+none_is_fewest has fewer = let wrong = fewer.fewer in absurd (omega arith)
 
 -- ---- one counter more
 

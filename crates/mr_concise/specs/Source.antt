@@ -36,6 +36,16 @@ pub record HasManyHoles (has : ℕ → Bool) : Type 0 where
   pub is : IsColumnOf has column
   pub many : MAX_HOLES < length column.holes
 
+-- the column of these counters has fewer holes than that
+pub record HasFewerHoles (has : ℕ → Bool) (limit : ℕ) : Type 0 where
+  pub column : Extent
+  pub is : IsColumnOf has column
+  pub fewer : length column.holes < limit
+
+-- the column of these counters has so many holes or more
+abbrev pub HasAtLeastHoles : (ℕ → Bool) → ℕ → Type 0
+HasAtLeastHoles has least = (column : Extent) → IsColumnOf has column → least ≤ length column.holes
+
 -- what it has, where there is one
 abbrev pub in_some : {X : Type 0} → (X → Versions) → Option X → Versions
 in_some has None v = false

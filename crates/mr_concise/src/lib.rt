@@ -39,5 +39,5 @@ mod vector;
 pub use column::{COUNTERS_END, Column, Hole, MAX_HOLES};
 pub use fragments::{concise_fragments, knowledge_text};
 pub use source::{AnyOf, OfSet, Source};
-pub use sweep::{hole_count, most_holes, would_have_too_many};
+pub use sweep::{has_fewer_holes, hole_count, most_holes, would_have_too_many};
 pub use vector::{AuthorColumn, ConciseVector};

@@ -3,7 +3,7 @@ ghost use Rattle.std.specs.Prelude.{◌≡◌, ◌≤◌, ◌<◌, ◌↔◌, �
 ghost use Rattle.mr_forms.specs.Sets.{IsSame, is_listed};
 ghost use Rattle.mr_concise.specs.Column.{Extent, column_has, IsColumn};
 ghost use Rattle.mr_forms.specs.Runs.{of_author};
-ghost use Rattle.mr_concise.specs.Source.{IsColumnOf, HasHoles, HasFewHoles, HasManyHoles, ColumnsHaveAtMost};
+ghost use Rattle.mr_concise.specs.Source.{IsColumnOf, HasHoles, HasFewHoles, HasManyHoles, HasFewerHoles, HasAtLeastHoles, ColumnsHaveAtMost};
 ghost use Rattle.mr_concise.specs.Vector.{vector_has, column_of, IsVectorFrom, IsVectorOf, HasTooManyHoles};
 ghost use Rattle.mr_concise.specs.Meet.{in_both, meet_has};
 
@@ -25,6 +25,24 @@ pub fn hole_count<S: Source>(source: &S, author: Author) -> usize
         at = source.next_out(author, start);
     }
     count
+}
+
+/// Whether an author's column of a vector of the source would have fewer holes than so many. It allocates
+/// nothing, and walks no further along the column than to the last of so many holes.
+pub fn has_fewer_holes<S: Source>(source: &S, author: Author, limit: usize) -> bool
+    ensures fewer { result ≡ true → HasFewerHoles (of_author (S.has source.now) author) limit }
+    ensures no { result ≡ false → HasAtLeastHoles (of_author (S.has source.now) author) limit }
+{
+    let mut count = 0;
+    let mut at = source.next_out(author, 1);
+    while count < limit {
+        let Some(start) = source.next_in(author, at) else {
+            return true;
+        };
+        count += 1;
+        at = source.next_out(author, start);
+    }
+    false
 }
 
 /// Whether an author's column would have too many holes.

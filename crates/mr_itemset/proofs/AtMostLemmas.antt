@@ -3,7 +3,7 @@ use Rattle.std.specs.Prelude.{Option, Some, None}
 use Rattle.std.proofs.lemmas.Bool.{true≢false, cases_Bool, cases_lt, cases_eq, le-leb, eq-eqb, ne_eqb}
 use Rattle.mr_version.specs.Name.{Name, name_eq}
 use Rattle.mr_version.specs.declared.version.TheConstants.{MAX_COUNTER}
-use Rattle.mr_forms.specs.Sets.{Versions, both}
+use Rattle.mr_forms.specs.Sets.{Versions, IsSame, both}
 use Rattle.mr_forms.specs.Runs.{of_author}
 use Rattle.mr_forms.proofs.SetLemmas.{name_eq-parts}
 use Rattle.mr_forms.proofs.PairLemmas.{name_eq-itself}
@@ -118,6 +118,42 @@ leeway_few-with pending version set own most ok few leeway =
     (at_most-both (of_author (both set own) q) (of_author (both (in_some name_eq version) (vector_has pending)) q) most (1 + length (column_of pending q).holes) (few q)
     (at_most-both (of_author (in_some name_eq version) q) (of_author (vector_has pending) q) 1 (length (column_of pending q).holes) (at_most-some version q) (at_most-vector pending q ok))))
 
+at_most-columns : (columns : List AuthorColumn) (few q : ℕ) → IsVectorFrom 0 columns → HasAtMost few columns → HasAtMostHoles (of_author (vector_has columns) q) few
+at_most-columns columns few q ok has = at_most-same (of_author (vector_has columns) q) (of_author (vector_has columns) q) (length (column_of columns q).holes) few (λ c. refl) (has q) (at_most-vector columns q ok)
+
+-- WHERE THE HOLES FIT TOGETHER no column of an item has too many with its versions, those of all items and those that are pending
+pub few_with : (pending : List AuthorColumn) (learned set own : Versions) (most waiting added : ℕ) → IsVectorFrom 0 pending → ColumnsHaveAtMost (both set own) most → HasAtMost waiting pending → ColumnsHaveAtMost learned added → (most + waiting) + added ≤ MAX_HOLES → HasTooManyHoles (both set (both (both learned (vector_has pending)) own)) → ⊥
+few_with pending learned set own most waiting added ok few few_pending few_learned room =
+    few-of_authors (both set (both (both learned (vector_has pending)) own))
+    (λ q. at_most-same (of_author (both (both set own) (both learned (vector_has pending))) q) (of_author (both set (both (both learned (vector_has pending)) own)) q) (most + (added + waiting)) MAX_HOLES
+    (λ c. regroup (of_author set q c) (of_author own q c) (of_author learned q c) (of_author (vector_has pending) q c)) (omega arith)
+    (at_most-both (of_author (both set own) q) (of_author (both learned (vector_has pending)) q) most (added + waiting) (few q)
+    (at_most-both (of_author learned q) (of_author (vector_has pending) q) added waiting (few_learned q) (at_most-columns pending waiting q ok few_pending))))
+
+or_swapped : (a b : Bool) → (a || b) ≡ (b || a)
+or_swapped true true = refl
+or_swapped true false = refl
+or_swapped false true = refl
+or_swapped false false = refl
+
+-- what is united of what waits and of versions, as of versions and what waits
+pub united_same : (new pending vector : List AuthorColumn) (learned : Versions) → IsSame (vector_has new) (both (vector_has pending) (vector_has vector)) → IsSame (vector_has vector) learned → IsSame (vector_has new) (both learned (vector_has pending))
+united_same new pending vector learned united has v = united v ∙ ap (λ (b : Bool). vector_has pending v || b) (has v) ∙ or_swapped (vector_has pending v) (learned v)
+
+-- WHERE THE HOLES FIT TOGETHER these versions may wait with the others
+pub united_kept : {limit : ℕ} (settled : Normal) (pending new : List AuthorColumn) (most waiting added : ℕ) (learned : Versions) → IsKept limit settled pending most → IsVectorFrom 0 new → IsSame (vector_has new) (both learned (vector_has pending)) → HasAtMost waiting pending → ColumnsHaveAtMost learned added → (most + waiting) + added ≤ MAX_HOLES → IsKept limit settled new most
+united_kept settled pending new most waiting added learned kept ok has few_pending few_learned room = record {
+  normal = kept.normal;
+  vector_ok = ok;
+  few = kept.few;
+  room = λ q.
+      let own = column_of-IsColumn 0 new q ok in
+      let few : length (column_of new q).holes ≤ added + waiting =
+      at_most-both (of_author learned q) (of_author (vector_has pending) q) added waiting (few_learned q) (at_most-columns pending waiting q kept.vector_ok few_pending) (column_of new q)
+      (record { apart = own.apart; in_range = own.in_range; means = λ c. has (record { author = q; counter = c }) }) in
+      omega arith;
+}
+
 -- WHERE THE HOLES FIT TOGETHER no item has too many with these versions for all items
 pub few_for_all : {limit : ℕ} (settled : Normal) (pending : List AuthorColumn) (most waiting added : ℕ) (learned : Versions) → IsKept limit settled pending most → HasAtMost waiting pending → ColumnsHaveAtMost learned added → (most + waiting) + added ≤ MAX_HOLES → HasHoleyItem (with_all (normal_known (folded settled pending)) learned) → ⊥
 few_for_all settled pending most waiting added learned kept few_pending few_learned room holey =
@@ -125,9 +161,6 @@ few_for_all settled pending most waiting added learned kept few_pending few_lear
     (λ q. at_most-same (of_author (both learned (both (vector_has pending) (normal_known settled holey.item))) q) (of_author (with_all (normal_known (folded settled pending)) learned holey.item) q) (added + (waiting + most)) MAX_HOLES
     (λ c. ap (λ (b : Bool). of_author learned q c || b) (sym (folded_known settled pending most kept holey.item (record { author = q; counter = c })))) (omega arith)
     (at_most-both (of_author learned q) (of_author (both (vector_has pending) (normal_known settled holey.item)) q) added (waiting + most) (few_learned q)
-    (at_most-both (of_author (vector_has pending) q) (of_author (normal_known settled holey.item) q) waiting most (columns_few pending waiting q kept.vector_ok few_pending)
-    (columns_few (vector_of settled holey.item) most q (vector_of-IsVector settled holey.item kept.normal) (kept.few holey.item)))))
+    (at_most-both (of_author (vector_has pending) q) (of_author (normal_known settled holey.item) q) waiting most (at_most-columns pending waiting q kept.vector_ok few_pending)
+    (at_most-columns (vector_of settled holey.item) most q (vector_of-IsVector settled holey.item kept.normal) (kept.few holey.item)))))
     holey.holes
-  where
-    columns_few : (columns : List AuthorColumn) (few q : ℕ) → IsVectorFrom 0 columns → HasAtMost few columns → HasAtMostHoles (of_author (vector_has columns) q) few
-    columns_few columns few q ok has = at_most-same (of_author (vector_has columns) q) (of_author (vector_has columns) q) (length (column_of columns q).holes) few (λ c. refl) (has q) (at_most-vector columns q ok)

@@ -1,25 +1,32 @@
-use Rattle.std.proofs.Common.{◌≡◌, ◌<◌, ◌+◌, ◌⊎◌, ◌↔◌, ℕ, suc, Bool, true, false, ◌||◌, List, [], ◌∷◌, Option, Some, None, All, AllPairs, Contains, IfSome, refl, ap, sym, ◌∙◌, subst, arith, inl, inr}
+use Rattle.std.proofs.Common.{◌≡◌, ◌≢◌, ◌<◌, ◌≤◌, ◌+◌, ◌*◌, ◌⊎◌, ℕ, suc, Bool, true, false, ◌||◌, List, [], ◌∷◌, length, get_or, take, drop, Option, Some, None, All, AllPairs, Contains, IfSome, refl, ap, sym, ◌∙◌, subst, arith, inl, inr}
 use Rattle.std.specs.declared.cmp.Ordering.TheVariants.{Less}
 use Rattle.std.specs.List.{list_any, AllByRecursion}
 use Rattle.std.specs.List.Sorted.{IsStrictlySortedBy}
 use Rattle.std.proofs.lemmas.Bool.{false≢true, cases_Bool, or_cases, or_parts, or_right}
 use Rattle.std.proofs.lemmas.Cmp.{tied_itself}
+use Rattle.std.proofs.lemmas.List.{get_or_default}
 use Rattle.std.proofs.lemmas.List.Elements.{All-cons, All-head, All-tail, All-weaker, All-contains, All-contains_itself}
 use Rattle.mr_version.specs.Name.{Name, name_cmp, name_eq}
 use Rattle.mr_version.specs.Order.{names_total}
+use Rattle.mr_forms.specs.declared.fragment.TheConstants.{MAX_ITEMS}
 use Rattle.mr_forms.specs.Sets.{Versions, IsSame}
-use Rattle.mr_forms.specs.Known.{AreSame, Part}
+use Rattle.mr_forms.specs.Known.{Pairs, AreSame, Part}
 use Rattle.mr_forms.specs.Parts.{AreListable, ComesFirst, AreInOrder, ArePartsThat}
 use Rattle.mr_forms.proofs.SetLemmas.{name_eq-symmetric}
 use Rattle.mr_forms.proofs.PairLemmas.{name_eq-itself}
 use Rattle.mr_forms.proofs.PartLemmas.{AllPairs-head, AllPairs-tail, Contains-cases, Contains-here, Contains-there, parts_that-unique}
 use Rattle.mr_concise.specs.declared.vector.AuthorColumn.{AuthorColumn}
-use Rattle.mr_concise.specs.Vector.{vector_has}
-use Rattle.mr_itemset.specs.Normal.{Normal, items_of, normal_known}
+use Rattle.mr_concise.specs.Vector.{vector_has, IsVectorFrom}
+use Rattle.mr_concise.specs.Equal.{vector_eq}
+use Rattle.mr_concise.proofs.EqualLemmas.{vectors_Decides, vectors_same}
+use Rattle.mr_itemset.specs.Normal.{Normal, IsNormal, items_of, vector_of, normal_known}
 use Rattle.mr_itemset.specs.ItemForm.{HasNormalVersions, IsNormalPart}
+use Rattle.mr_itemset.specs.ListingLaws.{known_of}
+use Rattle.mr_itemset.specs.Pieces.{AreAllWith, FillsBefore, HasPiece, IsFullBefore}
 use Rattle.mr_itemset.specs.NormalForm.{is_of, said, IsGreater, AreApart, AreNormalOf}
 use Rattle.mr_itemset.proofs.NormalLemmas.{same_name, vector_in-unlisted, free-above, top}
-use Rattle.mr_itemset.proofs.ItemLemmas.{same_tests}
+use Rattle.mr_itemset.proofs.ItemLemmas.{same_tests, vector_of-IsVector}
+use Rattle.mr_itemset.proofs.PieceLemmas.{items_in, joined, joined_has, has_joined, Turn, joined_rising, piece_of, of_piece}
 
 -- ---- rising items with the same members are one list
 
@@ -86,8 +93,8 @@ others_lack p (q ∷ qs) i apart among =
 abbrev Apart : Part → Part → Type 0
 Apart p q = AreApart p.items q.items
 
-abbrev Unlike : Part → Part → Type 0
-Unlike p q = ¬ IsSame p.versions q.versions
+abbrev Filling : Part → Part → Type 0
+Filling p q = IsSame p.versions q.versions → IsFullBefore MAX_ITEMS p.items q.items
 
 covered : (a p r : Bool) → (a ≡ true → p ≡ true) → r ≡ false → (a || (p || r)) ≡ p
 covered true p r covers none = rw (covers refl) refl
@@ -120,17 +127,6 @@ with_item-cases (p ∷ ps) i = go (cases_Bool (is_of p.items i)) (with_item-case
     go (inl mine) rest = inl (p, (Contains-here p ps, mine))
     go (inr lack) (inl q) = inl (q.0, (Contains-there p q.0 ps q.1.0, q.1.1))
     go (inr lack) (inr none) = inr (rw lack none)
-
--- parts of the same versions are one
-one_part : (ps : List Part) (p q : Part) → AllPairs Unlike ps → Contains ps p → Contains ps q → IsSame p.versions q.versions → p ≡ q
-one_part [] p q unlike hp hq same = let within = hp.1 in absurd (omega arith)
-one_part (r ∷ rs) p q unlike hp hq same = go (Contains-cases r p rs hp) (Contains-cases r q rs hq) (λ tp tq. one_part rs p q (AllPairs-tail Unlike r rs unlike) tp tq same)
-  where
-    go : (r ≡ p) ⊎ Contains rs p → (r ≡ q) ⊎ Contains rs q → (Contains rs p → Contains rs q → p ≡ q) → p ≡ q
-    go (inl a) (inl b) rest = sym a ∙ b
-    go (inl a) (inr b) rest = absurd (All-contains (Unlike r) rs q (AllPairs-head Unlike r rs unlike) b (λ v. ap (λ (s : Part). s.versions v) a ∙ same v))
-    go (inr a) (inl b) rest = absurd (All-contains (Unlike r) rs p (AllPairs-head Unlike r rs unlike) a (λ v. ap (λ (s : Part). s.versions v) b ∙ sym (same v)))
-    go (inr a) (inr b) rest = rest a b
 
 -- ---- some item is in no part
 
@@ -174,86 +170,180 @@ all_known k all ps listed same =
 record Facts (k : Normal) (all : Versions) (ps : List Part) : Type 0 where
   same : AreSame (normal_known k) (said (first_part all ∷ ps))
   is_all : all ≡ vector_has k.all
+  vectors : (i : Name) → IsVectorFrom 0 (vector_of k i)
   listable : All (λ p. IfSome p.items AreListable) ps
   listed : All (λ p. ComesFirst None p.items) ps
   greater : All (λ p. IsGreater p.versions all) ps
-  unlike : AllPairs Unlike ps
+  filling : AllPairs Filling ps
   apart : AllPairs Apart ps
 
--- an item is of a part exactly where the part's versions are known of it
-of_part : (k : Normal) (all : Versions) (ps : List Part) → Facts k all ps → (q : Part) → Contains ps q → (i : Name) → (is_of q.items i ≡ true) ↔ (normal_known k i ≡ q.versions)
-of_part k all ps facts q has i = (
-  λ among. same_tests (normal_known k i) q.versions (λ v. facts.same i v ∙ said_by all ps q i v facts.greater facts.apart has among),
-  λ known. go known (with_item-cases ps i),
-)
+-- of a part's items its versions are known
+known_of_part : (k : Normal) (all : Versions) (ps : List Part) → Facts k all ps → (q : Part) → Contains ps q → (i : Name) → is_of q.items i ≡ true → normal_known k i ≡ q.versions
+known_of_part k all ps facts q has i among = same_tests (normal_known k i) q.versions (λ v. facts.same i v ∙ said_by all ps q i v facts.greater facts.apart has among)
+
+-- and an item of which something else is known than of all is in a part
+in_some_part : (k : Normal) (all : Versions) (ps : List Part) → Facts k all ps → (i : Name) → normal_known k i ≢ vector_has k.all → (q : Part) × (Contains ps q × (is_of q.items i ≡ true))
+in_some_part k all ps facts i other = go (with_item-cases ps i)
   where
-    go : normal_known k i ≡ q.versions → ((r : Part) × (Contains ps r × (is_of r.items i ≡ true))) ⊎ (list_any (λ p. is_of p.items i) ps ≡ false) → is_of q.items i ≡ true
-    go known (inl r) =
-        let one = one_part ps r.0 q facts.unlike r.1.0 has (λ v. sym (said_by all ps r.0 i v facts.greater facts.apart r.1.0 r.1.1) ∙ sym (facts.same i v) ∙ ap (λ (s : Versions). s v) known) in
-        ap (λ (p : Part). is_of p.items i) (sym one) ∙ r.1.1
-    go known (inr none) =
-        absurd ((All-contains (λ p. IsGreater p.versions all) ps q facts.greater has).more
-        (λ v. ap (λ (s : Versions). s v) (sym known) ∙ facts.same i v ∙ ap (λ b. all v || b) (said_none ps i v none) ∙ or_no (all v)))
+    go : ((q : Part) × (Contains ps q × (is_of q.items i ≡ true))) ⊎ (list_any (λ p. is_of p.items i) ps ≡ false) → (q : Part) × (Contains ps q × (is_of q.items i ≡ true))
+    go (inl q) = q
+    go (inr none) =
+        let known : normal_known k i ≡ all = same_tests (normal_known k i) all (λ v. facts.same i v ∙ ap (λ b. all v || b) (said_none ps i v none) ∙ or_no (all v)) in
+        absurd (other (known ∙ facts.is_all))
+
+-- ---- the parts with the same versions
+
+abbrev first_of : Option (List Name) → Name
+first_of None = nth 0
+first_of (Some []) = nth 0
+first_of (Some (i ∷ is)) = i
+
+-- whether the part's versions are those of the vector: what is known of its first item tells
+abbrev has_vector : Normal → List AuthorColumn → Part → Bool
+has_vector k vector p = vector_eq (vector_of k (first_of p.items)) vector
+
+first_is_of : (items : Option (List Name)) → IfSome items AreListable → ComesFirst None items → is_of items (first_of items) ≡ true
+first_is_of None listable first = absurd first
+first_is_of (Some []) listable first = absurd (listable.some refl)
+first_is_of (Some (i ∷ is)) listable first = rw (name_eq-itself i) refl
+
+first_known : (k : Normal) (all : Versions) (ps : List Part) → Facts k all ps → (q : Part) → Contains ps q → vector_has (vector_of k (first_of q.items)) ≡ q.versions
+first_known k all ps facts q has =
+    known_of_part k all ps facts q has (first_of q.items) (first_is_of q.items (All-contains (λ p. IfSome p.items AreListable) ps q facts.listable has) (All-contains (λ p. ComesFirst None p.items) ps q facts.listed has))
+
+vector_says : (k : Normal) (all : Versions) (ps : List Part) → Facts k all ps → (vector : List AuthorColumn) (q : Part) → Contains ps q → has_vector k vector q ≡ true → q.versions ≡ vector_has vector
+vector_says k all ps facts vector q has ours =
+    sym (first_known k all ps facts q has) ∙ ap (λ (c : List AuthorColumn). vector_has c) ((vectors_Decides (vector_of k (first_of q.items)) vector).0 ours)
+
+says_vector : (k : Normal) (all : Versions) (ps : List Part) → Facts k all ps → (vector : List AuthorColumn) (q : Part) → Contains ps q → IsVectorFrom 0 vector → q.versions ≡ vector_has vector → has_vector k vector q ≡ true
+says_vector k all ps facts vector q has ok e =
+    (vectors_Decides (vector_of k (first_of q.items)) vector).1 (vectors_same (vector_of k (first_of q.items)) vector (facts.vectors (first_of q.items)) ok (λ v. ap (λ (s : Versions). s v) (first_known k all ps facts q has ∙ e)))
+
+filled : (a b : Option (List Name)) → IsFullBefore MAX_ITEMS a b → FillsBefore MAX_ITEMS (items_in a) (items_in b)
+filled None b full = absurd full
+filled (Some a) None full = absurd full
+filled (Some a) (Some b) full = full
+
+in_turn : (k : Normal) (all : Versions) (ps : List Part) → Facts k all ps → (vector : List AuthorColumn) → AllPairs (Turn MAX_ITEMS (has_vector k vector)) ps
+in_turn k all ps facts vector i j d less within mine yours =
+    let first : i < length ps = omega arith in
+    filled (get_or ps i d).items (get_or ps j d).items
+    (facts.filling i j d less within (λ v. ap (λ (s : Versions). s v) (vector_says k all ps facts vector (get_or ps i d) (Contains-at ps i d first) mine ∙ sym (vector_says k all ps facts vector (get_or ps j d) (Contains-at ps j d within) yours))))
+  where
+    Contains-at : (qs : List Part) (n : ℕ) (d : Part) → n < length qs → Contains qs (get_or qs n d)
+    Contains-at qs n d within = (n, within, get_or_default qs n (get_or qs n d) d within)
+
+few_in : (k : Normal) (all : Versions) (ps : List Part) → Facts k all ps → All (λ p. length (items_in p.items) ≤ MAX_ITEMS) ps
+few_in k all ps facts n d within = go (get_or ps n d).items (facts.listable n d within)
+  where
+    go : (items : Option (List Name)) → IfSome items AreListable → length (items_in items) ≤ MAX_ITEMS
+    go None listable = omega arith
+    go (Some items) listable = listable.few
+
+rising_in : (k : Normal) (all : Versions) (ps : List Part) → Facts k all ps → All (λ p. IsStrictlySortedBy name_cmp (items_in p.items)) ps
+unfolding IsStrictlySortedBy
+rising_in k all ps facts n d within = go (get_or ps n d).items (facts.listable n d within)
+  where
+    go : (items : Option (List Name)) → IfSome items AreListable → IsStrictlySortedBy name_cmp (items_in items)
+    go None listable = tt
+    go (Some items) listable = listable.rising
+
+among_items : (items : Option (List Name)) (i : Name) → ComesFirst None items → is_of items i ≡ list_any (name_eq i) (items_in items)
+among_items None i first = absurd first
+among_items (Some items) i first = any_both items i
+
+-- together they have all items of which just these versions are known
+all_with : (k : Normal) (all : Versions) (ps : List Part) → Facts k all ps → (vector : List AuthorColumn) → IsVectorFrom 0 vector → vector_has vector ≢ vector_has k.all → AreAllWith (normal_known k) (vector_has vector) (joined (has_vector k vector) ps)
+all_with k all ps facts vector ok other = record {
+  rising = joined_rising MAX_ITEMS (has_vector k vector) ps (rising_in k all ps facts) (in_turn k all ps facts vector);
+  all = λ i. (λ any. there i any, λ known. back i known);
+}
+  where
+    listed : (q : Part) → Contains ps q → ComesFirst None q.items
+    listed q has = All-contains (λ p. ComesFirst None p.items) ps q facts.listed has
+
+    there : (i : Name) → list_any (name_eq i) (joined (has_vector k vector) ps) ≡ true → normal_known k i ≡ vector_has vector
+    there i any =
+        let q = joined_has (has_vector k vector) ps i any in
+        known_of_part k all ps facts q.0 q.1.0 i (among_items q.0.items i (listed q.0 q.1.0) ∙ q.1.1.1) ∙ vector_says k all ps facts vector q.0 q.1.0 q.1.1.0
+
+    back : (i : Name) → normal_known k i ≡ vector_has vector → list_any (name_eq i) (joined (has_vector k vector) ps) ≡ true
+    back i known =
+        let q = in_some_part k all ps facts i (λ e. other (sym known ∙ e)) in
+        let says : q.0.versions ≡ vector_has vector = sym (known_of_part k all ps facts q.0 q.1.0 i q.1.1) ∙ known in
+        has_joined (has_vector k vector) ps q.0 i q.1.0 (says_vector k all ps facts vector q.0 q.1.0 ok says) (sym (among_items q.0.items i (listed q.0 q.1.0)) ∙ q.1.1)
+
+-- so each part is a piece of these
+piece_in : (k : Normal) (all : Versions) (ps : List Part) → Facts k all ps → (q : Part) → Contains ps q → q.versions ≢ vector_has k.all → HasPiece MAX_ITEMS (normal_known k) q.versions (items_in q.items)
+piece_in k all ps facts q has other =
+    let is : vector_has (vector_of k (first_of q.items)) ≡ q.versions = first_known k all ps facts q has in
+    record {
+      whole = joined (has_vector k (vector_of k (first_of q.items))) ps;
+      are = subst (λ (s : Versions). AreAllWith (normal_known k) s (joined (has_vector k (vector_of k (first_of q.items))) ps)) is (all_with k all ps facts (vector_of k (first_of q.items)) (facts.vectors (first_of q.items)) (λ e. other (sym is ∙ e)));
+      piece = piece_of MAX_ITEMS (has_vector k (vector_of k (first_of q.items))) ps q (few_in k all ps facts) (in_turn k all ps facts (vector_of k (first_of q.items))) has (says_vector k all ps facts (vector_of k (first_of q.items)) q has (facts.vectors (first_of q.items)) (sym is));
+    }
 
 listed_is_part : (k : Normal) (all : Versions) (ps : List Part) → Facts k all ps → (q : Part) → Contains ps q → IsNormalPart k q
-listed_is_part k all ps facts q has = go q.items (All-contains (λ p. IfSome p.items AreListable) ps q facts.listable has) (All-contains (λ p. ComesFirst None p.items) ps q facts.listed has) (of_part k all ps facts q has)
+listed_is_part k all ps facts q has = go q.items (All-contains (λ p. IfSome p.items AreListable) ps q facts.listable has) (All-contains (λ p. ComesFirst None p.items) ps q facts.listed has) (piece_in k all ps facts q has other)
   where
-    go : (items : Option (List Name)) → IfSome items AreListable → ComesFirst None items → ((i : Name) → (is_of items i ≡ true) ↔ (normal_known k i ≡ q.versions)) → HasNormalVersions k items q.versions
-    go None listable first of = absurd first
-    go (Some items) listable first of = (
-      listable.some,
-      listable.rising,
-      λ e. (All-contains (λ p. IsGreater p.versions all) ps q facts.greater has).more (λ v. ap (λ (s : Versions). s v) (e ∙ sym facts.is_all)),
-      λ i. (λ any. (of i).0 (any_both items i ∙ any), λ known. sym (any_both items i) ∙ (of i).1 known),
-    )
+    other : q.versions ≢ vector_has k.all
+    other e = (All-contains (λ p. IsGreater p.versions all) ps q facts.greater has).more (λ v. ap (λ (s : Versions). s v) (e ∙ sym facts.is_all))
+
+    go : (items : Option (List Name)) → IfSome items AreListable → ComesFirst None items → HasPiece MAX_ITEMS (normal_known k) q.versions (items_in items) → HasNormalVersions k items q.versions
+    go None listable first piece = absurd first
+    go (Some items) listable first piece = (listable.some, other, piece)
+
+-- all items with the versions, in rising order, are one list
+all_with-unique : (pairs : Pairs) (versions : Versions) (a b : List Name) → AreAllWith pairs versions a → AreAllWith pairs versions b → a ≡ b
+all_with-unique pairs versions a b of_a of_b =
+    names_unique a b of_a.rising of_b.rising (λ i any. (of_b.all i).1 ((of_a.all i).0 any)) (λ i any. (of_a.all i).1 ((of_b.all i).0 any))
 
 -- a part that the form has for the knowledge is one of these
 part_is_listed : (k : Normal) (all : Versions) (ps : List Part) → Facts k all ps → (p : Part) → IsNormalPart k p → Contains (first_part all ∷ ps) p
 part_is_listed k all ps facts p is = go p.items is
   where
-    same_items : (q : Part) → Contains ps q → (items : List Name) → HasNormalVersions k (Some items) p.versions → q.versions ≡ p.versions → q.items ≡ Some items
-    same_items q has items is e = by_cases q.items (listed_is_part k all ps facts q has) (All-contains (λ r. ComesFirst None r.items) ps q facts.listed has)
-      where
-        by_cases : (others : Option (List Name)) → HasNormalVersions k others q.versions → ComesFirst None others → others ≡ Some items
-        by_cases None theirs first = absurd first
-        by_cases (Some others) theirs first = ap Some (names_unique others items theirs.1 is.1 (λ i any. (is.3 i).1 ((theirs.3 i).0 any ∙ e)) (λ i any. (theirs.3 i).1 ((is.3 i).0 any ∙ sym e)))
+    just : (others : Option (List Name)) (items : List Name) → ComesFirst None others → items_in others ≡ items → others ≡ Some items
+    just None items first e = absurd first
+    just (Some others) items first e = ap Some e
 
-    found : (j : Name) (js : List Name) → HasNormalVersions k (Some (j ∷ js)) p.versions → ((q : Part) × (Contains ps q × (is_of q.items j ≡ true))) ⊎ (list_any (λ r. is_of r.items j) ps ≡ false) → (q : Part) × (Contains ps q × ((q.items ≡ Some (j ∷ js)) × (q.versions ≡ p.versions)))
-    found j js is (inl q) =
-        let e : q.0.versions ≡ p.versions = sym ((of_part k all ps facts q.0 q.1.0 j).0 q.1.1) ∙ (is.3 j).0 (among_head j js) in
-        (q.0, (q.1.0, (same_items q.0 q.1.0 (j ∷ js) is e, e)))
-    found j js is (inr none) =
-        let known : normal_known k j ≡ all = same_tests (normal_known k j) all (λ v. facts.same j v ∙ ap (λ b. all v || b) (said_none ps j v none) ∙ or_no (all v)) in
-        absurd (is.2 (sym ((is.3 j).0 (among_head j js)) ∙ known ∙ facts.is_all))
+    found : (j : Name) (js : List Name) → HasNormalVersions k (Some (j ∷ js)) p.versions → (q : Part) × (Contains ps q × ((q.items ≡ Some (j ∷ js)) × (q.versions ≡ p.versions)))
+    found j js is =
+        let known : vector_has (vector_of k j) ≡ p.versions = known_of MAX_ITEMS (normal_known k) p.versions (j ∷ js) is.2 j (among_head j js) in
+        let mine : AreAllWith (normal_known k) (vector_has (vector_of k j)) (joined (has_vector k (vector_of k j)) ps) = all_with k all ps facts (vector_of k j) (facts.vectors j) (λ e. is.1 (sym known ∙ e)) in
+        let whole : is.2.whole ≡ joined (has_vector k (vector_of k j)) ps = all_with-unique (normal_known k) p.versions is.2.whole (joined (has_vector k (vector_of k j)) ps) is.2.are (subst (λ (s : Versions). AreAllWith (normal_known k) s (joined (has_vector k (vector_of k j)) ps)) known mine) in
+        let piece : j ∷ js ≡ take MAX_ITEMS (drop (is.2.piece.0 * MAX_ITEMS) (joined (has_vector k (vector_of k j)) ps)) = is.2.piece.1 ∙ ap (λ (items : List Name). take MAX_ITEMS (drop (is.2.piece.0 * MAX_ITEMS) items)) whole in
+        let q = of_piece MAX_ITEMS (has_vector k (vector_of k j)) ps is.2.piece.0 (few_in k all ps facts) (in_turn k all ps facts (vector_of k j)) (λ none. is.0 (piece ∙ none)) in
+        (q.0, (q.1.0, (just q.0.items (j ∷ js) (All-contains (λ r. ComesFirst None r.items) ps q.0 facts.listed q.1.0) (q.1.1.1 ∙ sym piece), vector_says k all ps facts (vector_of k j) q.0 q.1.0 q.1.1.0 ∙ known)))
 
     go : (items : Option (List Name)) → HasNormalVersions k items p.versions → Contains (first_part all ∷ ps) (record { items = items; versions = p.versions })
     go None versions = (0, omega arith, ap (λ (s : Versions). record { items = None; versions = s }) (facts.is_all ∙ sym versions))
     go (Some []) is = absurd (is.0 refl)
     go (Some (j ∷ js)) is =
-        let q = found j js is (with_item-cases ps j) in
+        let q = found j js is in
         let one : q.0 ≡ record { items = Some (j ∷ js); versions = p.versions } = ap (λ (o : Option (List Name)). record { items = o; versions = q.0.versions }) q.1.1.0 ∙ ap (λ (s : Versions). record { items = Some (j ∷ js); versions = s }) q.1.1.1 in
         subst (Contains (first_part all ∷ ps)) one (Contains-there (first_part all) q.0 ps q.1.0)
 
-facts_of : (k : Normal) (all : Versions) (ps : List Part) → AreSame (normal_known k) (said (first_part all ∷ ps)) → AreInOrder (first_part all ∷ ps) → All (λ p. IsGreater p.versions all) ps → AllPairs Unlike ps → AllPairs Apart ps → Facts k all ps
-facts_of k all ps same in_order greater unlike apart =
+facts_of : (k : Normal) (all : Versions) (ps : List Part) → ((i : Name) → IsVectorFrom 0 (vector_of k i)) → AreSame (normal_known k) (said (first_part all ∷ ps)) → AreInOrder (first_part all ∷ ps) → All (λ p. IsGreater p.versions all) ps → AllPairs Filling ps → AllPairs Apart ps → Facts k all ps
+facts_of k all ps vectors same in_order greater filling apart =
     let listed : All (λ p. ComesFirst None p.items) ps = AllPairs-head (λ p q. ComesFirst p.items q.items) (first_part all) ps in_order.in_order in
     record {
       same = same;
       is_all = all_known k all ps listed same;
+      vectors = vectors;
       listable = All-tail (λ p. IfSome p.items AreListable) (first_part all) ps in_order.listable;
       listed = listed;
       greater = greater;
-      unlike = unlike;
+      filling = filling;
       apart = apart;
     }
 
 -- THE PARTS of a normal form are those that the form has for the knowledge
-pub normal_parts_that : (k : Normal) (parts : List Part) → AreNormalOf k parts → ArePartsThat (IsNormalPart k) parts
-normal_parts_that k parts of =
+pub normal_parts_that : {limit : ℕ} (k : Normal) (parts : List Part) → IsNormal limit k → AreNormalOf k parts → ArePartsThat (IsNormalPart k) parts
+normal_parts_that k parts is_normal of =
     let normal = of.normal in
     let same : AreSame (normal_known k) (said (first_part normal.all ∷ normal.listed)) = subst (λ ps. AreSame (normal_known k) (said ps)) normal.first of.same in
     let in_order : AreInOrder (first_part normal.all ∷ normal.listed) = subst AreInOrder normal.first normal.in_order in
-    let facts = facts_of k normal.all normal.listed same in_order normal.greater normal.unlike normal.apart in
+    let facts = facts_of k normal.all normal.listed (λ i. vector_of-IsVector k i is_normal) same in_order normal.greater normal.pieces normal.apart in
     subst (ArePartsThat (IsNormalPart k)) (sym normal.first) (record {
       in_order = in_order;
       are = All-cons (IsNormalPart k) (first_part normal.all) normal.listed facts.is_all (All-weaker (Contains normal.listed) (IsNormalPart k) (λ q has. listed_is_part k normal.all normal.listed facts q has) normal.listed (All-contains_itself normal.listed));
@@ -261,5 +351,5 @@ normal_parts_that k parts of =
     })
 
 -- so two normal forms of a knowledge are one
-pub normal_form_unique : (k : Normal) (a b : List Part) → AreNormalOf k a → AreNormalOf k b → a ≡ b
-normal_form_unique k a b oa ob = parts_that-unique (IsNormalPart k) a b (normal_parts_that k a oa) (normal_parts_that k b ob)
+pub normal_form_unique : {limit : ℕ} (k : Normal) (a b : List Part) → IsNormal limit k → AreNormalOf k a → AreNormalOf k b → a ≡ b
+normal_form_unique k a b normal oa ob = parts_that-unique (IsNormalPart k) a b (normal_parts_that k a normal oa) (normal_parts_that k b normal ob)

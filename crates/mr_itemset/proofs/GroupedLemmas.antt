@@ -1,10 +1,10 @@
-use Rattle.std.proofs.Common.{◌≡◌, ◌≢◌, ◌≤◌, ◌+◌, ◌⊎◌, ℕ, suc, Bool, true, false, ◌||◌, ◌&&◌, List, [], ◌∷◌, ◌++◌, length, get_or, Some, None, IfSome, All, AllPairs, map, refl, ap, sym, ◌∙◌, arith, inl, inr}
+use Rattle.std.proofs.Common.{◌≡◌, ◌≢◌, ◌<◌, ◌≤◌, ◌⊎◌, ℕ, Bool, true, false, ◌||◌, ◌&&◌, List, [], ◌∷◌, ◌++◌, length, get_or, Some, None, IfSome, All, AllPairs, map, refl, ap, sym, ◌∙◌, subst, arith, inl, inr}
 use Rattle.std.specs.declared.cmp.Ordering.TheVariants.{Less}
 use Rattle.std.specs.Ordering.{is_eq}
 use Rattle.std.specs.List.{list_any, AllByRecursion}
 use Rattle.std.specs.List.Sorted.{IsStrictlySortedBy}
-use Rattle.std.proofs.Math.ListN.{length-append}
-use Rattle.std.proofs.lemmas.Bool.{false≢true, cases_Bool, or_cases}
+use Rattle.std.proofs.lemmas.Bool.{false≢true, cases_Bool, cases_lt, or_cases}
+use Rattle.std.proofs.lemmas.List.{length_push}
 use Rattle.std.proofs.lemmas.List.Elements.{All-nil, All-cons, All-head, All-tail, All-weaker, All-push, All-map}
 use Rattle.std.proofs.lemmas.List.Folds.{list_any-append}
 use Rattle.std.proofs.lemmas.List.Kept.{AllPairs-cons}
@@ -18,35 +18,15 @@ use Rattle.mr_forms.proofs.SetLemmas.{name_eq-symmetric}
 use Rattle.mr_forms.proofs.PartLemmas.{AllPairs-head, AllPairs-tail}
 use Rattle.mr_concise.specs.declared.vector.AuthorColumn.{AuthorColumn}
 use Rattle.mr_concise.specs.Vector.{vector_has}
-use Rattle.mr_concise.specs.Equal.{vector_eq}
-use Rattle.mr_concise.proofs.EqualLemmas.{vectors_Decides, vectors_same}
+use Rattle.mr_concise.proofs.EqualLemmas.{vectors_same}
 use Rattle.mr_itemset.specs.declared.knowledge.Listed.{Listed}
 use Rattle.mr_itemset.specs.Normal.{Normal, IsBefore, HasMore, IsNormal, vector_in}
 use Rattle.mr_itemset.specs.NormalForm.{is_of, said, IsGreater, AreApart, AreNormalOf, HasOneNormalForm}
-use Rattle.mr_itemset.specs.Groups.{Alike, alone, with_item, grouped, all_grouped, part_of_group}
+use Rattle.mr_itemset.specs.Groups.{Alike, takes, grouped, all_grouped, part_of_group}
+use Rattle.mr_itemset.specs.Pieces.{FillsBefore, IsFullBefore}
 use Rattle.mr_itemset.proofs.NormalLemmas.{same_name}
 use Rattle.mr_itemset.proofs.FormLemmas.{normal_form_unique}
-
--- ---- what holds of each group, and of each two, as an item is put in
-
-all_grouped_by : (S P : Alike → Type 0) (gs : List Alike) (x : Listed) → All S gs → All P gs → P (alone x) → ((g : Alike) → S g → P g → P (with_item g x.item)) → All P (grouped gs x)
-all_grouped_by S P [] x side all one more = All-cons P (alone x) [] one (All-nil P)
-all_grouped_by S P (g ∷ gs) x side all one more = go (cases_Bool (vector_eq g.vector x.vector)) (all_grouped_by S P gs x (All-tail S g gs side) (All-tail P g gs all) one more)
-  where
-    go : (vector_eq g.vector x.vector ≡ true) ⊎ (vector_eq g.vector x.vector ≡ false) → All P (grouped gs x) → All P (grouped (g ∷ gs) x)
-    go (inl same) rest = rw same (All-cons P (with_item g x.item) gs (more g (All-head S g gs side) (All-head P g gs all)) (All-tail P g gs all))
-    go (inr other) rest = rw other (All-cons P g (grouped gs x) (All-head P g gs all) rest)
-
-pairs_grouped_by : (S : Alike → Type 0) (R : Alike → Alike → Type 0) (gs : List Alike) (x : Listed) → All S gs → AllPairs R gs → ((g : Alike) → S g → vector_eq g.vector x.vector ≡ false → R g (alone x)) → ((g h : Alike) → S g → S h → R g h → R g (with_item h x.item)) → ((g h : Alike) → S g → S h → R g h → R (with_item g x.item) h) → AllPairs R (grouped gs x)
-pairs_grouped_by S R [] x side all last right left = AllPairs-cons R (alone x) [] (All-nil (R (alone x))) all
-pairs_grouped_by S R (g ∷ gs) x side all last right left = go (cases_Bool (vector_eq g.vector x.vector)) (pairs_grouped_by S R gs x (All-tail S g gs side) (AllPairs-tail R g gs all) last right left)
-  where
-    mine : S g
-    mine = All-head S g gs side
-
-    go : (vector_eq g.vector x.vector ≡ true) ⊎ (vector_eq g.vector x.vector ≡ false) → AllPairs R (grouped gs x) → AllPairs R (grouped (g ∷ gs) x)
-    go (inl same) rest = rw same (AllPairs-cons R (with_item g x.item) gs (λ k d within. left g _ mine (All-tail S g gs side k d within) (AllPairs-head R g gs all k d within)) (AllPairs-tail R g gs all))
-    go (inr other) rest = rw other (AllPairs-cons R g (grouped gs x) (all_grouped_by S (R g) gs x (All-tail S g gs side) (AllPairs-head R g gs all) (last g mine other) (λ h yours r. right g h mine yours r)) rest)
+use Rattle.mr_itemset.proofs.GroupLemmas.{all_grouped_by, pairs_grouped_by, taken, untaken}
 
 -- ---- the groups so far
 
@@ -54,14 +34,14 @@ pairs_grouped_by S R (g ∷ gs) x side all last right left = go (cases_Bool (vec
 abbrev pub EndsBefore : Name → Alike → Type 0
 EndsBefore item g = All (λ i. name_cmp i item ≡ Less) g.items
 
--- groups of n items at most, each of one vector beyond that of all items
-pub record AreGroups (all : List AuthorColumn) (n : ℕ) (gs : List Alike) : Type 0 where
+-- groups of so many items at most, each of one vector beyond that of all items
+pub record AreGroups (all : List AuthorColumn) (most : ℕ) (gs : List Alike) : Type 0 where
   pub some : All (λ g. g.items ≢ []) gs
-  pub few : All (λ g. length g.items ≤ n) gs
+  pub few : All (λ g. length g.items ≤ most) gs
   pub rising : All (λ g. IsStrictlySortedBy name_cmp g.items) gs
   pub greater : All (λ g. (item : Name) → HasMore all (record { item = item; vector = g.vector })) gs
   pub by_first : AllPairs (λ g h. ComesFirst (Some g.items) (Some h.items)) gs
-  pub unlike : AllPairs (λ g h. g.vector ≡ h.vector → ⊥) gs
+  pub pieces : AllPairs (λ g h. g.vector ≡ h.vector → FillsBefore most g.items h.items) gs
   pub apart : AllPairs (λ g h. AreApart (Some g.items) (Some h.items)) gs
 
 not_empty : (xs : List Name) (x : Name) → xs ++ x ∷ [] ≢ []
@@ -127,48 +107,87 @@ apart_alone g x below i among = go (cases_Bool (name_eq x i))
     go (inl same) = absurd (false≢true (sym (not_among g x below) ∙ ap (λ (j : Name). is_of (Some g) j) (same_name x i same) ∙ among))
     go (inr other) = rw other refl
 
-both_hold : (S T : Alike → Type 0) (gs : List Alike) → All S gs → All T gs → All (λ g. S g × T g) gs
-both_hold S T gs a b k d within = (a k d within, b k d within)
+-- what holds of each item holds of one that is among them
+among : (P : Name → Type 0) (items : List Name) (i : Name) → All P items → list_any (name_eq i) items ≡ true → P i
+among P [] i each any = absurd (false≢true any)
+among P (x ∷ xs) i each any = go (or_cases (name_eq i x) (list_any (name_eq i) xs) any) (λ there. among P xs i (All-tail P x xs each) there)
+  where
+    go : (name_eq i x ≡ true) ⊎ (list_any (name_eq i) xs ≡ true) → (list_any (name_eq i) xs ≡ true → P i) → P i
+    go (inl same) rest = subst P (sym (same_name i x same)) (All-head P x xs each)
+    go (inr there) rest = rest there
 
-groups_more : (all : List AuthorColumn) (n : ℕ) (gs : List Alike) (x : Listed) → AreGroups all n gs → HasMore all x → All (EndsBefore x.item) gs → AreGroups all (suc n) (grouped gs x)
+-- a full group is still full as the next one gets a higher item
+fills_push : (most : ℕ) (g h : List Name) (x : Name) → All (λ i. name_cmp i x ≡ Less) g → FillsBefore most g h → FillsBefore most g (h ++ x ∷ [])
+fills_push most g h x low fills = record {
+  full = fills.full;
+  below = λ i j a b. go i j a (or_cases (list_any (name_eq j) h) (name_eq j x || false) (sym (list_any-append (name_eq j) h (x ∷ [])) ∙ b));
+}
+  where
+    go : (i j : Name) → list_any (name_eq i) g ≡ true → (list_any (name_eq j) h ≡ true) ⊎ ((name_eq j x || false) ≡ true) → name_cmp i j ≡ Less
+    go i j a (inl old) = fills.below i j a old
+    go i j a (inr new) = elim (or_cases (name_eq j x) false new) [
+      | inl same ↦ rw (same_name j x same) (among (λ i. name_cmp i x ≡ Less) g i low a)
+      | inr never ↦ absurd (false≢true never)
+    ]
+
+-- and so it is before a new group
+fills_alone : (most : ℕ) (g : List Name) (x : Name) → All (λ i. name_cmp i x ≡ Less) g → length g ≤ most → ¬ (length g < most) → FillsBefore most g (x ∷ [])
+fills_alone most g x low few full = record {
+  full = full_is (cases_lt (length g) most);
+  below = λ i j a b. go i j a (or_cases (name_eq j x) false b);
+}
+  where
+    full_is : (length g < most) ⊎ (most ≤ length g) → length g ≡ most
+    full_is (inl less) = absurd (full less)
+    full_is (inr le) = omega arith
+
+    go : (i j : Name) → list_any (name_eq i) g ≡ true → (name_eq j x ≡ true) ⊎ (false ≡ true) → name_cmp i j ≡ Less
+    go i j a (inl same) = rw (same_name j x same) (among (λ i. name_cmp i x ≡ Less) g i low a)
+    go i j a (inr never) = absurd (false≢true never)
+
+groups_more : (all : List AuthorColumn) (most : ℕ) (gs : List Alike) (x : Listed) → 1 ≤ most → AreGroups all most gs → HasMore all x → All (EndsBefore x.item) gs → AreGroups all most (grouped most gs x)
 unfolding IsStrictlySortedBy
-groups_more all n gs x are more below = record {
-  some = all_grouped_by (EndsBefore x.item) (λ g. g.items ≢ []) gs x below are.some (λ e. cc) (λ g low old. not_empty g.items x.item);
-  few = all_grouped_by (λ g. length g.items ≤ n) (λ g. length g.items ≤ suc n) gs x are.few (All-weaker (λ g. length g.items ≤ n) (λ g. length g.items ≤ suc n) (λ g few. omega arith) gs are.few) (omega arith) (λ g few more. simp length-append (omega arith));
-  rising = all_grouped_by (EndsBefore x.item) (λ g. IsStrictlySortedBy name_cmp g.items) gs x below are.rising (tt, tt) (λ g low sorted. sorted_more g.items x.item sorted low);
-  greater = all_grouped_by (EndsBefore x.item) (λ g. (item : Name) → HasMore all (record { item = item; vector = g.vector })) gs x below are.greater (λ item. record { vector_ok = more.vector_ok; covers = more.covers; more = more.more }) (λ g low old. old);
-  by_first = pairs_grouped_by (λ g. EndsBefore x.item g × (g.items ≢ [])) (λ g h. ComesFirst (Some g.items) (Some h.items)) gs x sides are.by_first (λ g s other. first_before g.items x.item s.1 s.0) (λ g h s t before. first_last g.items h.items x.item before) (λ g h s t before. first_stays g.items h.items x.item before);
-  unlike = pairs_grouped_by (EndsBefore x.item) (λ g h. g.vector ≡ h.vector → ⊥) gs x below are.unlike (λ g s other e. false≢true (sym other ∙ (vectors_Decides g.vector x.vector).1 e)) (λ g h s t r. r) (λ g h s t r. r);
-  apart = pairs_grouped_by (EndsBefore x.item) (λ g h. AreApart (Some g.items) (Some h.items)) gs x below are.apart (λ g s other. apart_alone g.items x.item s) (λ g h s t r. apart_last g.items h.items x.item s r) (λ g h s t r. apart_first g.items h.items x.item t r);
+groups_more all most gs x room are more below = record {
+  some = all_grouped_by most (EndsBefore x.item) (λ g. g.items ≢ []) gs x below are.some (λ e. cc) (λ g low same old. not_empty g.items x.item);
+  few = all_grouped_by most (EndsBefore x.item) (λ g. length g.items ≤ most) gs x below are.few (omega arith) (λ g low same few. let less = (taken most g x.vector same).1 in let grown = length_push g.items x.item in omega arith);
+  rising = all_grouped_by most (EndsBefore x.item) (λ g. IsStrictlySortedBy name_cmp g.items) gs x below are.rising (tt, tt) (λ g low same sorted. sorted_more g.items x.item sorted low);
+  greater = all_grouped_by most (EndsBefore x.item) (λ g. (item : Name) → HasMore all (record { item = item; vector = g.vector })) gs x below are.greater (λ item. record { vector_ok = more.vector_ok; covers = more.covers; more = more.more }) (λ g low same old. old);
+  by_first = pairs_grouped_by most (λ g. EndsBefore x.item g × (g.items ≢ [])) (λ g h. ComesFirst (Some g.items) (Some h.items)) gs x sides are.by_first (λ g s other. first_before g.items x.item s.1 s.0) (λ g h s t before. first_last g.items h.items x.item before) (λ g h s t same before. first_stays g.items h.items x.item before);
+  pieces = pairs_grouped_by most (λ g. EndsBefore x.item g × (length g.items ≤ most)) (λ g h. g.vector ≡ h.vector → FillsBefore most g.items h.items) gs x small are.pieces
+      (λ g s other e. fills_alone most g.items x.item s.0 s.1 (untaken most g x.vector other e))
+      (λ g h s t fills e. fills_push most g.items h.items x.item s.0 (fills e))
+      (λ g h s t same fills e. let less = (taken most g x.vector same).1 in let full = (fills e).full in absurd (omega arith));
+  apart = pairs_grouped_by most (EndsBefore x.item) (λ g h. AreApart (Some g.items) (Some h.items)) gs x below are.apart (λ g s other. apart_alone g.items x.item s) (λ g h s t r. apart_last g.items h.items x.item s r) (λ g h s t same r. apart_first g.items h.items x.item t r);
 }
   where
     sides : All (λ g. EndsBefore x.item g × (g.items ≢ [])) gs
-    sides = both_hold (EndsBefore x.item) (λ g. g.items ≢ []) gs below are.some
+    sides j d within = (below j d within, are.some j d within)
+
+    small : All (λ g. EndsBefore x.item g × (length g.items ≤ most)) gs
+    small j d within = (below j d within, are.few j d within)
 
 -- the next item is above those of the groups, and above this one
-next_below : (gs : List Alike) (x y : Listed) → IsBefore x y → All (EndsBefore x.item) gs → All (EndsBefore y.item) (grouped gs x)
-next_below gs x y before below = all_grouped_by (EndsBefore x.item) (EndsBefore y.item) gs x below
+next_below : (most : ℕ) (gs : List Alike) (x y : Listed) → IsBefore x y → All (EndsBefore x.item) gs → All (EndsBefore y.item) (grouped most gs x)
+next_below most gs x y before below = all_grouped_by most (EndsBefore x.item) (EndsBefore y.item) gs x below
     (All-weaker (EndsBefore x.item) (EndsBefore y.item) (λ g low k d within. names_total.trans _ x.item y.item (low k d within) before) gs below)
     (All-cons (λ i. name_cmp i y.item ≡ Less) x.item [] before (All-nil (λ i. name_cmp i y.item ≡ Less)))
-    (λ g low new. All-push (λ i. name_cmp i y.item ≡ Less) g.items x.item new before)
+    (λ g low same new. All-push (λ i. name_cmp i y.item ≡ Less) g.items x.item new before)
 
 -- rising items that are listed with more than all make groups
-pub all_groups : (all : List AuthorColumn) (n : ℕ) (gs : List Alike) (xs : List Listed) → AreGroups all n gs → AllPairs IsBefore xs → All (HasMore all) xs → All (λ y. All (EndsBefore y.item) gs) xs → AreGroups all (length xs + n) (all_grouped gs xs)
-all_groups all n gs [] are rising more below = let same : n ≡ 0 + n = omega arith in rw (← same) are
-all_groups all n gs (x ∷ xs) are rising more below =
-    let rest = all_groups all (suc n) (grouped gs x) xs (groups_more all n gs x are (All-head (HasMore all) x xs more) (All-head (λ y. All (EndsBefore y.item) gs) x xs below)) (AllPairs-tail IsBefore x xs rising) (All-tail (HasMore all) x xs more)
-    (λ k d within. next_below gs x (get_or xs k d) (AllPairs-head IsBefore x xs rising k d within) (All-head (λ y. All (EndsBefore y.item) gs) x xs below)) in
-    let same : length xs + suc n ≡ suc (length xs) + n = omega arith in
-    rw (← same) rest
+pub all_groups : (all : List AuthorColumn) (most : ℕ) (gs : List Alike) (xs : List Listed) → 1 ≤ most → AreGroups all most gs → AllPairs IsBefore xs → All (HasMore all) xs → All (λ y. All (EndsBefore y.item) gs) xs → AreGroups all most (all_grouped most gs xs)
+all_groups all most gs [] room are rising more below = are
+all_groups all most gs (x ∷ xs) room are rising more below =
+    all_groups all most (grouped most gs x) xs room (groups_more all most gs x room are (All-head (HasMore all) x xs more) (All-head (λ y. All (EndsBefore y.item) gs) x xs below)) (AllPairs-tail IsBefore x xs rising) (All-tail (HasMore all) x xs more)
+    (λ k d within. next_below most gs x (get_or xs k d) (AllPairs-head IsBefore x xs rising k d within) (All-head (λ y. All (EndsBefore y.item) gs) x xs below))
 
-pub no_groups : (all : List AuthorColumn) → AreGroups all 0 []
-no_groups all = record {
+pub no_groups : (all : List AuthorColumn) (most : ℕ) → AreGroups all most []
+no_groups all most = record {
   some = All-nil (λ g. g.items ≢ []);
-  few = All-nil (λ g. length g.items ≤ 0);
+  few = All-nil (λ g. length g.items ≤ most);
   rising = All-nil (λ g. IsStrictlySortedBy name_cmp g.items);
   greater = All-nil (λ g. (item : Name) → HasMore all (record { item = item; vector = g.vector }));
   by_first = λ i j d less within. absurd (omega arith);
-  unlike = λ i j d less within. absurd (omega arith);
+  pieces = λ i j d less within. absurd (omega arith);
   apart = λ i j d less within. absurd (omega arith);
 }
 
@@ -198,15 +217,15 @@ one_says : (a b : Bool) → (((a || false) && b) || false) ≡ ((a && b) || fals
 one_says true b = refl
 one_says false b = refl
 
-said_grouped : (gs : List Alike) (x : Listed) (i v : Name) → said (map part_of_group (grouped gs x)) i v ≡ ((name_eq x.item i && vector_has x.vector v) || said (map part_of_group gs) i v)
-said_grouped [] x i v = one_says (name_eq x.item i) (vector_has x.vector v)
-said_grouped (g ∷ gs) x i v = go (cases_Bool (vector_eq g.vector x.vector)) (said_grouped gs x i v)
+said_grouped : (most : ℕ) (gs : List Alike) (x : Listed) (i v : Name) → said (map part_of_group (grouped most gs x)) i v ≡ ((name_eq x.item i && vector_has x.vector v) || said (map part_of_group gs) i v)
+said_grouped most [] x i v = one_says (name_eq x.item i) (vector_has x.vector v)
+said_grouped most (g ∷ gs) x i v = go (cases_Bool (takes most g x.vector)) (said_grouped most gs x i v)
   where
-    go : (vector_eq g.vector x.vector ≡ true) ⊎ (vector_eq g.vector x.vector ≡ false) → said (map part_of_group (grouped gs x)) i v ≡ ((name_eq x.item i && vector_has x.vector v) || said (map part_of_group gs) i v) → said (map part_of_group (grouped (g ∷ gs) x)) i v ≡ ((name_eq x.item i && vector_has x.vector v) || said (map part_of_group (g ∷ gs)) i v)
+    go : (takes most g x.vector ≡ true) ⊎ (takes most g x.vector ≡ false) → said (map part_of_group (grouped most gs x)) i v ≡ ((name_eq x.item i && vector_has x.vector v) || said (map part_of_group gs) i v) → said (map part_of_group (grouped most (g ∷ gs) x)) i v ≡ ((name_eq x.item i && vector_has x.vector v) || said (map part_of_group (g ∷ gs)) i v)
     go (inl same) rest =
         rw (same, is_of-push g.items x.item i)
         (with_or (is_of (Some g.items) i) (name_eq x.item i) (vector_has g.vector v) (said (map part_of_group gs) i v)
-        ∙ ap (λ (c : List AuthorColumn). (name_eq x.item i && vector_has c v) || ((is_of (Some g.items) i && vector_has g.vector v) || said (map part_of_group gs) i v)) ((vectors_Decides g.vector x.vector).0 same))
+        ∙ ap (λ (c : List AuthorColumn). (name_eq x.item i && vector_has c v) || ((is_of (Some g.items) i && vector_has g.vector v) || said (map part_of_group gs) i v)) (taken most g x.vector same).0)
     go (inr other) rest =
         rw (other, rest) (or_turn (is_of (Some g.items) i && vector_has g.vector v) (name_eq x.item i && vector_has x.vector v) (said (map part_of_group gs) i v))
 
@@ -214,10 +233,10 @@ said_grouped (g ∷ gs) x i v = go (cases_Bool (vector_eq g.vector x.vector)) (s
 abbrev says : List Listed → Name → Name → Bool
 says xs i v = list_any (λ x. name_eq x.item i && vector_has x.vector v) xs
 
-said_all : (gs : List Alike) (xs : List Listed) (i v : Name) → said (map part_of_group (all_grouped gs xs)) i v ≡ (says xs i v || said (map part_of_group gs) i v)
-said_all gs [] i v = refl
-said_all gs (x ∷ xs) i v =
-    said_all (grouped gs x) xs i v ∙ ap (λ b. says xs i v || b) (said_grouped gs x i v)
+said_all : (most : ℕ) (gs : List Alike) (xs : List Listed) (i v : Name) → said (map part_of_group (all_grouped most gs xs)) i v ≡ (says xs i v || said (map part_of_group gs) i v)
+said_all most gs [] i v = refl
+said_all most gs (x ∷ xs) i v =
+    said_all most (grouped most gs x) xs i v ∙ ap (λ b. says xs i v || b) (said_grouped most gs x i v)
     ∙ or_join (says xs i v) (name_eq x.item i && vector_has x.vector v) (said (map part_of_group gs) i v)
 
 says_none : (xs : List Listed) (i v : Name) → All (λ y. name_cmp i y.item ≡ Less) xs → says xs i v ≡ false
@@ -253,28 +272,27 @@ AllPairs-map R f (x ∷ xs) all =
     AllPairs-cons R (f x) (map f xs) (All-map (R (f x)) f xs (AllPairs-head (λ a b. R (f a) (f b)) x xs all)) (AllPairs-map R f xs (AllPairs-tail (λ a b. R (f a) (f b)) x xs all))
 
 abbrev groups_in : Normal → List Alike
-groups_in k = all_grouped [] k.listed
+groups_in k = all_grouped MAX_ITEMS [] k.listed
 
 -- what all items have, and then the groups
 abbrev pub parts_in : Normal → List Part
 parts_in k = (record { items = None; versions = vector_has k.all }) ∷ map part_of_group (groups_in k)
 
-are_groups : (k : Normal) → IsNormal MAX_ITEMS k → AreGroups k.all (length k.listed + 0) (groups_in k)
-are_groups k normal = all_groups k.all 0 [] k.listed (no_groups k.all) normal.rising normal.more (λ j d within. All-nil (EndsBefore (get_or k.listed j d).item))
+are_groups : {limit : ℕ} (k : Normal) → IsNormal limit k → AreGroups k.all MAX_ITEMS (groups_in k)
+are_groups k normal = all_groups k.all MAX_ITEMS [] k.listed (omega arith) (no_groups k.all MAX_ITEMS) normal.rising normal.more (λ j d within. All-nil (EndsBefore (get_or k.listed j d).item))
 
-in_order : (k : Normal) → IsNormal MAX_ITEMS k → AreInOrder (parts_in k)
+in_order : {limit : ℕ} (k : Normal) → IsNormal limit k → AreInOrder (parts_in k)
 in_order k normal =
     let are = are_groups k normal in
-    let few = normal.few in
     record {
       listable = All-cons (λ p. IfSome p.items AreListable) (record { items = None; versions = vector_has k.all }) (map part_of_group (groups_in k)) tt
-          (All-map (λ p. IfSome p.items AreListable) part_of_group (groups_in k) (λ j d within. let small = are.few j d within in record { some = are.some j d within; few = omega arith; rising = are.rising j d within }));
+          (All-map (λ p. IfSome p.items AreListable) part_of_group (groups_in k) (λ j d within. record { some = are.some j d within; few = are.few j d within; rising = are.rising j d within }));
       in_order = AllPairs-cons (λ p q. ComesFirst p.items q.items) (record { items = None; versions = vector_has k.all }) (map part_of_group (groups_in k))
           (All-map (λ q. ComesFirst None q.items) part_of_group (groups_in k) (λ j d within. tt))
           (AllPairs-map (λ p q. ComesFirst p.items q.items) part_of_group (groups_in k) are.by_first);
     }
 
-pub parts_are_normal : (k : Normal) → IsNormal MAX_ITEMS k → AreNormalOf k (parts_in k)
+pub parts_are_normal : {limit : ℕ} (k : Normal) → IsNormal limit k → AreNormalOf k (parts_in k)
 parts_are_normal k normal =
     let are = are_groups k normal in
     record {
@@ -284,17 +302,17 @@ parts_are_normal k normal =
         first = refl;
         in_order = in_order k normal;
         greater = All-map (λ p. IsGreater p.versions (vector_has k.all)) part_of_group (groups_in k) (λ j d within. let more = are.greater j d within (record { author = 0; counter = 0 }) in record { covers = more.covers; more = more.more });
-        unlike = AllPairs-map (λ p q. ¬ IsSame p.versions q.versions) part_of_group (groups_in k)
-            (λ i j d less within same. are.unlike i j d less within (vectors_same (get_or (groups_in k) i d).vector (get_or (groups_in k) j d).vector (are.greater i d (omega arith) (record { author = 0; counter = 0 })).vector_ok (are.greater j d within (record { author = 0; counter = 0 })).vector_ok same));
+        pieces = AllPairs-map (λ p q. IsSame p.versions q.versions → IsFullBefore MAX_ITEMS p.items q.items) part_of_group (groups_in k)
+            (λ i j d less within same. are.pieces i j d less within (vectors_same (get_or (groups_in k) i d).vector (get_or (groups_in k) j d).vector (are.greater i d (omega arith) (record { author = 0; counter = 0 })).vector_ok (are.greater j d within (record { author = 0; counter = 0 })).vector_ok same));
         apart = AllPairs-map (λ p q. AreApart p.items q.items) part_of_group (groups_in k) are.apart;
       };
-      same = λ i v. sym (ap (λ b. vector_has k.all v || b) (said_all [] k.listed i v) ∙ says_known k.all k.listed i v normal.rising normal.more);
+      same = λ i v. sym (ap (λ b. vector_has k.all v || b) (said_all MAX_ITEMS [] k.listed i v) ∙ says_known k.all k.listed i v normal.rising normal.more);
     }
 
 -- EACH KNOWLEDGE HAS ONE NORMAL FORM
-pub one_form : (k : Normal) → IsNormal MAX_ITEMS k → HasOneNormalForm k
+pub one_form : {limit : ℕ} (k : Normal) → IsNormal limit k → HasOneNormalForm k
 one_form k normal = record {
   parts = parts_in k;
   are = parts_are_normal k normal;
-  one = λ others are. normal_form_unique k others (parts_in k) are (parts_are_normal k normal);
+  one = λ others are. normal_form_unique k others (parts_in k) normal are (parts_are_normal k normal);
 }

@@ -22,9 +22,11 @@ pub mod EachLemmas
 pub mod MergingLemmas
 pub mod GroupLemmas
 pub mod GroupedLemmas
+pub mod PieceLemmas
 pub mod FormLemmas
 pub mod ShownLemmas
 pub mod AloneLemmas
 pub mod SparingLemmas
 pub mod MoreLemmas
+pub mod OnlyLemmas
 mod Rows

@@ -1,7 +1,7 @@
 -- Several versions more of all items, and some of one.
 use Rattle.std.proofs.Common.{◌≡◌, ◌||◌, ◌&&◌, ℕ, Bool, true, false, List, refl, ap, sym, ◌∙◌, arith}
 use Rattle.mr_version.specs.Name.{Name, name_eq}
-use Rattle.mr_forms.specs.Sets.{Versions, IsSame, both}
+use Rattle.mr_forms.specs.Sets.{Versions, IsSame, both, with_version}
 use Rattle.mr_forms.specs.Known.{AreSame, HasValue, with_below}
 use Rattle.mr_concise.specs.declared.vector.AuthorColumn.{AuthorColumn}
 use Rattle.mr_concise.specs.Vector.{vector_has, IsVectorFrom}
@@ -34,3 +34,14 @@ module _ {limit : ℕ} (settled new : Normal) (pending more : List AuthorColumn)
       folded_known new more most kept' i w ∙ same i w ∙ ap (λ (b : Bool). (name_eq item i && set w) || (b || normal_known settled i w)) (has w)
       ∙ ap (λ (b : Bool). (name_eq item i && set w) || b) (assoc (learned w) (vector_has pending w) (normal_known settled i w))
       ∙ ap (λ (b : Bool). (name_eq item i && set w) || (learned w || b)) (sym (folded_known settled pending few kept i w))
+
+swapped : (f s v : Bool) → (s || (f || v)) ≡ ((f || s) || v)
+swapped true true v = refl
+swapped true false v = refl
+swapped false true v = refl
+swapped false false v = refl
+
+-- an equal vector with two versions more
+pub two_more : (vector copy once twice : List AuthorColumn) (first second : Name) → copy ≡ vector → IsSame (vector_has once) (with_version (vector_has copy) first) → IsSame (vector_has twice) (with_version (vector_has once) second) → IsSame (vector_has twice) (both (both (name_eq first) (name_eq second)) (vector_has vector))
+two_more vector copy once twice first second same has has' w =
+    has' w ∙ ap (λ (b : Bool). name_eq second w || b) (has w ∙ ap (λ (x : List AuthorColumn). name_eq first w || vector_has x w) same) ∙ swapped (name_eq first w) (name_eq second w) (vector_has vector w)

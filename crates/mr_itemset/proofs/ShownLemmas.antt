@@ -1,4 +1,4 @@
-use Rattle.std.proofs.Common.{◌≡◌, ◌≢◌, List, [], ◌∷◌, None, All, IfSome, map, refl, ap, sym, ◌∙◌}
+use Rattle.std.proofs.Common.{◌≡◌, ◌≢◌, ℕ, List, [], ◌∷◌, None, All, IfSome, map, refl, ap, sym, ◌∙◌}
 use Rattle.std.specs.List.{flat_map, join_by}
 use Rattle.std.proofs.lemmas.Simd.{map-map}
 use Rattle.std.proofs.lemmas.List.Elements.{All-nil, All-cons, All-head, All-tail}
@@ -24,14 +24,14 @@ use Rattle.mr_itemset.proofs.GroupedLemmas.{parts_in, parts_are_normal}
 pub parts_shown : (k : Normal) (fs : List ConciseFragment) → map shown fs ≡ fragments_in k → map (part_of vector_has) fs ≡ parts_in k
 parts_shown k fs are =
     sym (map-map part_in shown fs) ∙ ap (map part_in) are
-    ∙ ap (λ ps. (record { items = None; versions = vector_has k.all }) ∷ ps) (map-map part_in shown_group (all_grouped [] k.listed))
+    ∙ ap (λ ps. (record { items = None; versions = vector_has k.all }) ∷ ps) (map-map part_in shown_group (all_grouped MAX_ITEMS [] k.listed))
 
 -- so they are in normal form
-pub shown_normal : (k : Normal) (fs : List ConciseFragment) → IsNormal MAX_ITEMS k → map shown fs ≡ fragments_in k → AreNormalOf k (map (part_of vector_has) fs)
+pub shown_normal : {limit : ℕ} (k : Normal) (fs : List ConciseFragment) → IsNormal limit k → map shown fs ≡ fragments_in k → AreNormalOf k (map (part_of vector_has) fs)
 shown_normal k fs normal are = rw (parts_shown k fs are) (parts_are_normal k normal)
 
-pub shown_parts : (k : Normal) (fs : List ConciseFragment) → IsNormal MAX_ITEMS k → map shown fs ≡ fragments_in k → ArePartsThat (IsNormalPart k) (map (part_of vector_has) fs)
-shown_parts k fs normal are = normal_parts_that k (map (part_of vector_has) fs) (shown_normal k fs normal are)
+pub shown_parts : {limit : ℕ} (k : Normal) (fs : List ConciseFragment) → IsNormal limit k → map shown fs ≡ fragments_in k → ArePartsThat (IsNormalPart k) (map (part_of vector_has) fs)
+shown_parts k fs normal are = normal_parts_that k (map (part_of vector_has) fs) normal (shown_normal k fs normal are)
 
 has_item-is_of : (items : ItemSet) (i : Name) → is_of (listed_items items) i ≡ has_item items i
 has_item-is_of AllItems i = refl
@@ -42,7 +42,7 @@ said_covered [] i v = refl
 said_covered (f ∷ fs) i v = rw (has_item-is_of f.items i, said_covered fs i v) refl
 
 -- and cover what is known
-pub shown_known : (k : Normal) (fs : List ConciseFragment) → IsNormal MAX_ITEMS k → map shown fs ≡ fragments_in k → AreSame (normal_known k) (all_covered vector_has fs)
+pub shown_known : {limit : ℕ} (k : Normal) (fs : List ConciseFragment) → IsNormal limit k → map shown fs ≡ fragments_in k → AreSame (normal_known k) (all_covered vector_has fs)
 shown_known k fs normal are i v = (shown_normal k fs normal are).same i v ∙ said_covered fs i v
 
 has_items : (items : ItemSet) → IfSome (listed_items items) AreListable → HasItems items
@@ -56,7 +56,7 @@ each_has_items (f ∷ fs) listable =
     (each_has_items fs (All-tail (λ p. IfSome p.items AreListable) (part_of vector_has f) (map (part_of vector_has) fs) listable))
 
 -- each for some item
-pub shown_has_items : (k : Normal) (fs : List ConciseFragment) → IsNormal MAX_ITEMS k → map shown fs ≡ fragments_in k → All (λ f. HasItems f.items) fs
+pub shown_has_items : {limit : ℕ} (k : Normal) (fs : List ConciseFragment) → IsNormal limit k → map shown fs ≡ fragments_in k → All (λ f. HasItems f.items) fs
 shown_has_items k fs normal are = each_has_items fs (shown_normal k fs normal are).normal.in_order.listable
 
 -- ---- the text

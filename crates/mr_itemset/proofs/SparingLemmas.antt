@@ -1,12 +1,13 @@
--- What all items know, and how many holes an author's column of it has, told by what is settled and what is pending.
-use Rattle.std.proofs.Common.{◌≡◌, ◌||◌, ◌&&◌, true, false, ℕ, List, length, refl, ap, sym, ◌∙◌}
+-- What all items know, and whether an author's column of it has holes to spare, told by what is settled and what is pending.
+use Rattle.std.proofs.Common.{◌≡◌, ◌<◌, ◌≤◌, ◌⊎◌, ◌||◌, ◌&&◌, Bool, true, false, ℕ, nat_lt, List, length, refl, ap, sym, ◌∙◌, arith, inl, inr}
+use Rattle.std.proofs.lemmas.Bool.{cases_Bool, lt-ltb, le-ltb}
 use Rattle.mr_version.specs.Name.{Name, name_eq}
 use Rattle.mr_forms.specs.Sets.{Versions, both}
 use Rattle.mr_forms.specs.Known.{learned_of, with_learned}
 use Rattle.mr_forms.specs.Runs.{of_author}
 use Rattle.mr_concise.specs.declared.vector.AuthorColumn.{AuthorColumn}
 use Rattle.mr_concise.specs.Column.{Extent}
-use Rattle.mr_concise.specs.Source.{HasHoles, IsColumnOf}
+use Rattle.mr_concise.specs.Source.{IsColumnOf, HasFewerHoles, HasAtLeastHoles}
 use Rattle.mr_concise.specs.Vector.{column_of, vector_has}
 use Rattle.mr_concise.proofs.SweepLemmas.{IsColumnOf-unique}
 use Rattle.mr_concise.proofs.UnionLemmas.{column_of-IsColumn}
@@ -20,11 +21,24 @@ use Rattle.mr_itemset.proofs.SplitLemmas.{split_all}
 pub all_know_by : {limit : ℕ} (k settled : Normal) (pending : List AuthorColumn) (v : Name) → IsSplit limit k settled pending → (vector_has pending v || vector_has settled.all v) ≡ vector_has k.all v
 all_know_by k settled pending v split = sym (split_all k settled pending split v)
 
-pub holes_counted : {limit : ℕ} (k settled : Normal) (pending : List AuthorColumn) (author count : ℕ) → IsSplit limit k settled pending → HasHoles (of_author (both (vector_has pending) (vector_has settled.all)) author) count → count ≡ length (column_of k.all author).holes
-holes_counted k settled pending author count split holes =
-    let ok = column_of-IsColumn 0 k.all author split.normal.all_ok in
-    let is : IsColumnOf (of_author (both (vector_has pending) (vector_has settled.all)) author) (column_of k.all author) = record { apart = ok.apart; in_range = ok.in_range; means = λ c. split_all k settled pending split (record { author = author; counter = c }) } in
-    holes.count_is ∙ ap (λ (x : Extent). length x.holes) (IsColumnOf-unique (of_author (both (vector_has pending) (vector_has settled.all)) author) holes.column (column_of k.all author) holes.is is)
+-- the answer whether an author's column has holes to spare
+pub spare_told : {limit : ℕ} (k settled : Normal) (pending : List AuthorColumn) (author spared : ℕ) (answer : Bool) → IsSplit limit k settled pending → (answer ≡ true → HasFewerHoles (of_author (both (vector_has pending) (vector_has settled.all)) author) spared) → (answer ≡ false → HasAtLeastHoles (of_author (both (vector_has pending) (vector_has settled.all)) author) spared) → answer ≡ nat_lt (length (column_of k.all author).holes) spared
+spare_told k settled pending author spared answer split fewer least = go (cases_Bool answer)
+  where
+    is : IsColumnOf (of_author (both (vector_has pending) (vector_has settled.all)) author) (column_of k.all author)
+    is =
+        let ok = column_of-IsColumn 0 k.all author split.normal.all_ok in
+        record { apart = ok.apart; in_range = ok.in_range; means = λ c. split_all k settled pending split (record { author = author; counter = c }) }
+
+    go : (answer ≡ true) ⊎ (answer ≡ false) → answer ≡ nat_lt (length (column_of k.all author).holes) spared
+    go (inl t) =
+        let few = fewer t in
+        let same = ap (λ (x : Extent). length x.holes) (IsColumnOf-unique (of_author (both (vector_has pending) (vector_has settled.all)) author) few.column (column_of k.all author) few.is is) in
+        let less : length (column_of k.all author).holes < spared = let l = few.fewer in omega arith in
+        t ∙ sym (lt-ltb (length (column_of k.all author).holes) spared less)
+    go (inr f) =
+        let holes : spared ≤ length (column_of k.all author).holes = least f (column_of k.all author) is in
+        f ∙ sym (le-ltb (length (column_of k.all author).holes) spared holes)
 
 -- ---- what is learned, by what goes to all
 

@@ -1,4 +1,4 @@
-use Rattle.std.specs.Prelude.{◌≡◌, ℕ, suc, if◌then◌else◌, List, [], ◌∷◌, ◌++◌, Option, Some, None, refl}
+use Rattle.std.specs.Prelude.{◌≡◌, ◌<◌, ℕ, suc, Bool, ◌&&◌, nat_lt, if◌then◌else◌, List, [], ◌∷◌, ◌++◌, Option, Some, None, AllPairs, length, refl}
 use Rattle.std.specs.Option.{option_map}
 use Rattle.std.specs.BTreeMap.{BTreeMap, get}
 use Rattle.std.specs.Coded.{Coded, code_by, coded×, coded_list}
@@ -26,24 +26,33 @@ alone x = record { vector = x.vector; items = x.item ∷ [] }
 abbrev pub with_item : Alike → Name → Alike
 with_item g item = record { vector = g.vector; items = g.items ++ item ∷ [] }
 
--- The groups with a listed item more: in the group of its vector, or else in one of its own behind the others.
-abbrev pub grouped : List Alike → Listed → List Alike
-grouped [] x = alone x ∷ []
-grouped (g ∷ gs) x = if vector_eq g.vector x.vector then with_item g x.item ∷ gs else g ∷ grouped gs x
+-- the group takes an item of this vector: it is its own, and the group has fewer items than so many
+abbrev pub takes : ℕ → Alike → List AuthorColumn → Bool
+takes most g vector = vector_eq g.vector vector && nat_lt (length g.items) most
+
+-- The groups of at most so many items with a listed item more: in the first that takes it, or else in one of its own
+-- behind the others.
+abbrev pub grouped : ℕ → List Alike → Listed → List Alike
+grouped most [] x = alone x ∷ []
+grouped most (g ∷ gs) x = if takes most g x.vector then with_item g x.item ∷ gs else g ∷ grouped most gs x
 
 -- the groups with these items more, one after the other
-abbrev pub all_grouped : List Alike → List Listed → List Alike
-all_grouped gs [] = gs
-all_grouped gs (x ∷ xs) = all_grouped (grouped gs x) xs
+abbrev pub all_grouped : ℕ → List Alike → List Listed → List Alike
+all_grouped most gs [] = gs
+all_grouped most gs (x ∷ xs) = all_grouped most (grouped most gs x) xs
 
--- which of the groups has the vector
-abbrev pub place_of : List Alike → List AuthorColumn → Option ℕ
-place_of [] vector = None
-place_of (g ∷ gs) vector = if vector_eq g.vector vector then Some 0 else option_map suc (place_of gs vector)
+-- which of the groups takes an item of the vector
+abbrev pub place_of : ℕ → List Alike → List AuthorColumn → Option ℕ
+place_of most [] vector = None
+place_of most (g ∷ gs) vector = if takes most g vector then Some 0 else option_map suc (place_of most gs vector)
 
--- the map has the place of each vector that a group has
-abbrev pub ArePlaces : {K : Type 0} → (K → List AuthorColumn) → List Alike → BTreeMap K ℕ → Type 0
-ArePlaces {K} vector gs places = (key : K) → get (λ a b. vector_cmp (vector a) (vector b)) places key ≡ place_of gs (vector key)
+-- the map has the place of the group that takes an item of the vector, for each vector that one takes
+abbrev pub ArePlaces : {K : Type 0} → ℕ → (K → List AuthorColumn) → List Alike → BTreeMap K ℕ → Type 0
+ArePlaces {K} most vector gs places = (key : K) → get (λ a b. vector_cmp (vector a) (vector b)) places key ≡ place_of most gs (vector key)
+
+-- of two groups with one vector the first takes no item
+abbrev pub FillInTurn : ℕ → List Alike → Type 0
+FillInTurn most gs = AllPairs (λ g h. g.vector ≡ h.vector → ¬ (length g.items < most)) gs
 
 -- a group's items, with their versions
 abbrev pub part_of_group : Alike → Part

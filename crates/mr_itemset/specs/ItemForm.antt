@@ -1,12 +1,12 @@
-use Rattle.std.specs.Prelude.{◌≡◌, ◌≢◌, ◌<◌, ◌↔◌, ℕ, true, false, ◌||◌, List, [], Option, Some, None, All, length}
+use Rattle.std.specs.Prelude.{◌≡◌, ◌≢◌, ◌<◌, ℕ, true, false, ◌||◌, List, [], Option, Some, None, All, length}
 use Rattle.std.specs.List.{list_any, IsDistinct}
-use Rattle.std.specs.List.Sorted.{IsStrictlySortedBy}
-use Rattle.mr_version.specs.Name.{Name, name_cmp, name_eq}
+use Rattle.mr_version.specs.Name.{Name, name_eq}
 use Rattle.mr_forms.specs.declared.fragment.TheConstants.{MAX_ITEMS}
 use Rattle.mr_forms.specs.Sets.{Versions, IsSame}
 use Rattle.mr_forms.specs.Known.{Pairs, Part, Form}
 use Rattle.mr_concise.specs.Vector.{vector_has, HasTooManyHoles}
 use Rattle.mr_itemset.specs.Normal.{Normal, normal_known}
+use Rattle.mr_itemset.specs.Pieces.{HasPiece}
 
 -- the pairs with all of a set for all items
 abbrev pub with_all : Pairs → Versions → Pairs
@@ -26,13 +26,14 @@ pub record ListsTooMany (limit : ℕ) (pairs : Pairs) : Type 0 where
   pub rest : (i : Name) → list_any (name_eq i) items ≡ false → IsSame (pairs i) all
   pub many : limit < length items
 
--- The versions are those of all items; or the items, in rising order, are all those of which just these are known, and
--- that is something else than of all items.
+-- The versions are those of all items; or they are something else, and the items are a piece of all those of which just
+-- these are known.
 abbrev pub HasNormalVersions : Normal → Option (List Name) → Versions → Type 0
 HasNormalVersions k None versions = versions ≡ vector_has k.all
-HasNormalVersions k (Some items) versions = (items ≢ []) × IsStrictlySortedBy name_cmp items × (versions ≢ vector_has k.all) × ((i : Name) → (list_any (name_eq i) items ≡ true) ↔ (normal_known k i ≡ versions))
+HasNormalVersions k (Some items) versions = (items ≢ []) × (versions ≢ vector_has k.all) × HasPiece MAX_ITEMS (normal_known k) versions items
 
--- one part of all items, and for each set of versions that some items have beyond it, one part of all of these
+-- one part of all items, and for each set of versions that some items have beyond it, all of these in parts of as many as
+-- a fragment lists, and the rest in the last
 abbrev pub IsNormalPart : Normal → Part → Type 0
 IsNormalPart k p = HasNormalVersions k p.items p.versions
 

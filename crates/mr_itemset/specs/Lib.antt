@@ -9,6 +9,7 @@ pub mod Entries
 pub mod Placed
 pub mod Room
 pub mod Each
+pub mod Pieces
 pub mod NormalForm
 pub mod Groups
 pub mod Shown

@@ -1,21 +1,24 @@
 -- worked rows: what the definitions give for small values
-use Rattle.std.proofs.Common.{arith}
+use Rattle.std.proofs.Common.{ap, arith}
 use Rattle.std.specs.Prelude.{◌≡◌, ℕ, true, false, List, [], ◌∷◌, codes, Some, None, refl}
 use Rattle.std.specs.Fmt.{digits}
 use Rattle.mr_version.specs.Name.{Name}
-use Rattle.mr_forms.specs.Sets.{is_listed}
+use Rattle.mr_forms.specs.declared.fragment.TheConstants.{MAX_ITEMS}
+use Rattle.mr_forms.specs.Sets.{Versions, is_listed}
 use Rattle.mr_concise.specs.declared.column.Hole.{Hole}
 use Rattle.mr_concise.specs.declared.vector.AuthorColumn.{AuthorColumn}
 use Rattle.mr_concise.specs.Column.{Extent}
+use Rattle.mr_concise.specs.Vector.{vector_has}
 use Rattle.mr_itemset.specs.declared.knowledge.Listed.{Listed}
 use Rattle.mr_itemset.specs.Each.{with_each}
 use Rattle.mr_itemset.specs.Entries.{listed_as}
 use Rattle.mr_itemset.specs.Equal.{normal_eq}
 use Rattle.mr_itemset.specs.Folded.{both_columns, united, gained, folded}
-use Rattle.mr_itemset.specs.Groups.{Alike, all_grouped, place_of}
+use Rattle.mr_itemset.specs.Groups.{Alike, takes, all_grouped, place_of, FillInTurn}
 use Rattle.mr_itemset.specs.ItemForm.{with_all}
 use Rattle.mr_itemset.specs.Normal.{Normal, vector_of, normal_known, IsNormal}
 use Rattle.mr_itemset.specs.NormalForm.{is_of}
+use Rattle.mr_itemset.specs.Pieces.{AreAllWith, FillsBefore, IsFullBefore, IsPieceOf}
 use Rattle.mr_itemset.specs.Placed.{placed}
 use Rattle.mr_itemset.specs.Shown.{normal_text}
 
@@ -128,15 +131,74 @@ folded_other = refl
 -- ---- groups and texts
 
 -- items with one vector are one group, which stands where the first of them does
-pub groups : all_grouped [] known.listed ≡ alike (first 5) (name 1 1 ∷ name 1 3 ∷ []) ∷ alike (first 6) (name 1 2 ∷ []) ∷ []
+pub groups : all_grouped MAX_ITEMS [] known.listed ≡ alike (first 5) (name 1 1 ∷ name 1 3 ∷ []) ∷ alike (first 6) (name 1 2 ∷ []) ∷ []
 groups = refl
 
 -- groups are counted from 0
-pub second_group : place_of (all_grouped [] known.listed) (first 6) ≡ Some 1
+pub second_group : place_of MAX_ITEMS (all_grouped MAX_ITEMS [] known.listed) (first 6) ≡ Some 1
 second_group = refl
 
-pub no_group : place_of (all_grouped [] known.listed) (first 3) ≡ None
+pub no_group : place_of MAX_ITEMS (all_grouped MAX_ITEMS [] known.listed) (first 3) ≡ None
 no_group = refl
+
+-- of two items at most a group with one takes another of its vector, but of no other
+pub takes_second : takes 2 (alike (first 5) (name 1 1 ∷ [])) (first 5) ≡ true
+takes_second = refl
+
+pub takes_no_other : takes 2 (alike (first 5) (name 1 1 ∷ [])) (first 6) ≡ false
+takes_no_other = refl
+
+pub takes_no_third : takes 2 (alike (first 5) (name 1 1 ∷ name 1 3 ∷ [])) (first 5) ≡ false
+takes_no_third = refl
+
+-- so a third item begins a new group, behind all others
+abbrev in_twos : List Alike
+in_twos = all_grouped 2 [] (listed_as (name 1 1) (first 5) ∷ listed_as (name 1 2) (first 6) ∷ listed_as (name 1 3) (first 5) ∷ listed_as (name 1 4) (first 5) ∷ [])
+
+pub begins_anew : in_twos ≡ alike (first 5) (name 1 1 ∷ name 1 3 ∷ []) ∷ alike (first 6) (name 1 2 ∷ []) ∷ alike (first 5) (name 1 4 ∷ []) ∷ []
+begins_anew = refl
+
+-- which takes the fourth; none takes one where each is full
+pub place_behind_full : place_of 2 in_twos (first 5) ≡ Some 2
+place_behind_full = refl
+
+pub no_place_in_full : place_of 2 (all_grouped 2 [] known.listed) (first 5) ≡ None
+no_place_in_full = refl
+
+-- no group comes before one with its vector that still takes items
+pub half_full_before : ¬ FillInTurn 2 (alike (first 5) (name 1 1 ∷ []) ∷ alike (first 5) (name 1 3 ∷ []) ∷ [])
+half_full_before turn = turn 0 1 (alike [] []) (omega arith) (omega arith) refl (omega arith)
+
+-- ---- pieces of two items
+
+abbrev three : List Name
+three = name 1 1 ∷ name 1 3 ∷ name 1 4 ∷ []
+
+pub first_two : IsPieceOf 2 three (name 1 1 ∷ name 1 3 ∷ [])
+first_two = (0, refl)
+
+pub what_is_left : IsPieceOf 2 three (name 1 4 ∷ [])
+what_is_left = (1, refl)
+
+pub nothing_behind : IsPieceOf 2 three []
+nothing_behind = (2, refl)
+
+-- of two parts with the same versions the first has two items, and they are the lower ones
+pub too_few : ¬ FillsBefore 2 (name 1 1 ∷ []) (name 1 3 ∷ [])
+too_few fills = let full = fills.full in omega arith
+
+pub not_lower : ¬ FillsBefore 2 (name 1 1 ∷ name 1 4 ∷ []) (name 1 3 ∷ [])
+not_lower fills = let lower = fills.below (name 1 4) (name 1 3) refl refl in cc
+
+pub all_items_fill_none : ¬ IsFullBefore 2 None (Some (name 1 1 ∷ []))
+all_items_fill_none fills = fills
+
+-- items of which just these versions are known are all of them, and no others
+pub one_is_missing : ¬ AreAllWith (normal_known known) (vector_has (first 5)) (name 1 1 ∷ [])
+one_is_missing are = let among = (are.all (name 1 3)).1 refl in cc
+
+pub other_versions : ¬ AreAllWith (normal_known known) (vector_has (first 5)) (name 1 1 ∷ name 1 2 ∷ name 1 3 ∷ [])
+other_versions are = let same = ap (λ (s : Versions). s (name 0 6)) ((are.all (name 1 2)).0 refl) in cc
 
 -- all items come first, and then each group of items with its vector
 pub text : normal_text known ≡ codes "all 0:3; 1.1,1.3 0:5; 1.2 0:6"

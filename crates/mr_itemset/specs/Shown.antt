@@ -1,6 +1,7 @@
 use Rattle.std.specs.Prelude.{ℕ, List, [], ◌∷◌, ◌++◌, Option, Some, None, codes, map}
 use Rattle.std.specs.List.{join_by}
 use Rattle.mr_version.specs.Name.{Name, name_text}
+use Rattle.mr_forms.specs.declared.fragment.TheConstants.{MAX_ITEMS}
 use Rattle.mr_forms.specs.Known.{Part}
 use Rattle.mr_forms.specs.Covered.{listed_items}
 use Rattle.mr_concise.specs.declared.vector.AuthorColumn.{AuthorColumn}
@@ -21,9 +22,10 @@ shown f = record { items = listed_items f.items; vector = f.vector }
 abbrev pub shown_group : Alike → Shown
 shown_group g = record { items = Some g.items; vector = g.vector }
 
--- the fragments of a knowledge: that of all items, and then one for each vector that listed items have
+-- the fragments of a knowledge: that of all items, and then those of each vector that listed items have, with as many
+-- items in each as a fragment lists, and the rest in the last
 abbrev pub fragments_in : Normal → List Shown
-fragments_in k = (record { items = None; vector = k.all }) ∷ map shown_group (all_grouped [] k.listed)
+fragments_in k = (record { items = None; vector = k.all }) ∷ map shown_group (all_grouped MAX_ITEMS [] k.listed)
 
 -- what it says
 abbrev pub part_in : Shown → Part

@@ -26,7 +26,7 @@ with_holes n = record { all = (record { author = 0; column = record { upto = 40;
 pub spared_holes : SPARED_HOLES ≡ 16
 spared_holes = refl
 
-pub max_listed_items : MAX_LISTED_ITEMS ≡ 65536
+pub max_listed_items : MAX_LISTED_ITEMS ≡ 1048576
 max_listed_items = refl
 
 -- ---- versions by themselves

@@ -89,12 +89,15 @@ impl<const LIMIT: usize> ItemsUpTo<LIMIT> {
         count
     }
 
-    /// Whether all these items may be listed. It allocates nothing. It looks at all listed items, and
-    /// counts which of these are new only where the limit is near.
+    /// Whether all these items may be listed. It allocates nothing. Only where the limit is near it looks at
+    /// all listed items, and counts which of these are new.
     fn has_room_for(&self, items: &[ItemId]) -> bool
         ensures yes { result ≡ true → (set : Versions) → ¬ ListsTooMany LIMIT (with_each (normal_known self.now) items.now set) }
         ensures no { result ≡ false → (set : Versions) → Lacks (vector_has self.now.all) set → ListsTooMany LIMIT (with_each (normal_known self.now) items.now set) }
     {
+        if items.len() <= LIMIT - self.most_listed() {
+            return true;
+        }
         let room = LIMIT - self.listed_count();
         if items.len() <= room {
             return true;

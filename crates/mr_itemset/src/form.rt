@@ -1,6 +1,5 @@
-ghost use Rattle.std.specs.Prelude.{◌≡◌};
+ghost use Rattle.std.specs.Prelude.{◌≡◌, ℕ};
 ghost use Rattle.mr_version.specs.Name.{Name};
-ghost use Rattle.mr_forms.specs.declared.fragment.TheConstants.{MAX_ITEMS};
 ghost use Rattle.mr_forms.specs.Sets.{Versions};
 ghost use Rattle.mr_forms.specs.Known.{AreSame};
 ghost use Rattle.mr_itemset.specs.Normal.{Normal, IsNormal, normal_known};
@@ -10,9 +9,9 @@ ghost use Rattle.mr_itemset.specs.Sparing.{sparing_form};
 use crate::knowledge::ItemsUpTo;
 use crate::sparing::SparingKnowledge;
 
-/// Each knowledge has one normal form: there is one, and it is the only one.
+/// Each knowledge has one normal form, however many items it lists: there is one, and it is the only one.
 pub fn one_normal_form()
-    ensures { (k : Normal) → IsNormal MAX_ITEMS k → HasOneNormalForm k }
+    ensures { (limit : ℕ) (k : Normal) → IsNormal limit k → HasOneNormalForm k }
 {}
 
 /// Each knowledge has one value: two that know the same are one.

@@ -11,7 +11,7 @@ ghost use Rattle.mr_itemset.specs.Shown.{shown, shown_group, fragments_in, norma
 use crate::groups::{Group, groups_of};
 use crate::settled::Settled;
 use mr_concise::{ConciseVector, knowledge_text};
-use mr_forms::{FormFault, Fragment, ItemSet, MAX_ITEMS, VersionSet};
+use mr_forms::{FormFault, Fragment, ItemSet, VersionSet};
 
 /// Puts a fragment of each group behind the others.
 fn push_groups(
@@ -27,12 +27,13 @@ fn push_groups(
     Ok(())
 }
 
-impl Settled<MAX_ITEMS> {
+impl<const LIMIT: usize> Settled<LIMIT> {
     /// The knowledge as fragments, in normal form. That of all items comes first, and its vector may be
     /// empty. Each listed item is in one of the others, with a vector that has all that all items have,
-    /// and more; no two of these have the same vector. They come by their first items, and the items of
-    /// each rise. `OutOfMemory` is the only fault. For n listed items it takes about n log n comparisons
-    /// of vectors.
+    /// and more. Items of one vector are in one fragment, or, where they are more than `MAX_ITEMS`, in
+    /// several: the lowest `MAX_ITEMS` in the first, and so on. Fragments come by their first items, and
+    /// the items of each rise. `OutOfMemory` is the only fault. For n listed items it takes about n log n
+    /// comparisons of vectors.
     pub(crate) fn fragments(&self) -> Result<Vec<Fragment<ConciseVector>>, FormFault>
         ensures are { IfOk result (λ fragments. map shown fragments.items ≡ fragments_in self.now) }
         ensures normal { IfOk result (λ fragments. AreNormal (map (part_of vector_has) fragments.items)) }

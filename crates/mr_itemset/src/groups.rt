@@ -1,11 +1,12 @@
-ghost use Rattle.std.specs.Prelude.{◌≡◌, [], Err, IfOk, OnOk, OnErr};
+ghost use Rattle.std.specs.Prelude.{◌≡◌, ◌≤◌, ◌↔◌, [], true, Some, Err, IfOk, OnOk, OnErr, IsTrue, length};
+ghost use Rattle.mr_forms.specs.declared.fragment.TheConstants.{MAX_ITEMS};
 ghost use Rattle.mr_itemset.specs.Entries.{listed_as, listed_of};
-ghost use Rattle.mr_itemset.specs.Groups.{alone, with_item, grouped, all_grouped, ArePlaces};
+ghost use Rattle.mr_itemset.specs.Groups.{alone, with_item, grouped, all_grouped, place_of, ArePlaces, FillInTurn};
 ghost use Rattle.mr_itemset.specs.Shown.{shown, shown_group};
 
 use crate::settled::Vectors;
 use mr_concise::ConciseVector;
-use mr_forms::{FormFault, Fragment, ItemSet, VersionSet};
+use mr_forms::{FormFault, Fragment, ItemSet, MAX_ITEMS, VersionSet};
 use mr_version::ItemId;
 use std::alloc::{AllocError, Global};
 use std::collections::BTreeMap;
@@ -50,17 +51,39 @@ impl<'a> Group<'a> {
         })
     }
 
-    /// Puts an item behind the others.
-    fn push(&mut self, item: ItemId) -> Result<(), AllocError>
-        ensures { OnOk result (self.new ≡ with_item self.old item) }
+    /// Puts an item behind the others, and tells whether there are then as many as a fragment lists.
+    fn push(&mut self, item: ItemId) -> Result<bool, AllocError>
+        ensures pushed { OnOk result (self.new ≡ with_item self.old item) }
+        ensures full { IfOk result (λ full. IsTrue full ↔ MAX_ITEMS ≤ length self.new.items) }
     {
         self.items.push(item)?;
-        Ok(())
+        Ok(self.items.len() >= MAX_ITEMS)
     }
 }
 
-/// Puts a listed item into the group of its vector, or else into one of its own behind the others. The
-/// map says which group has a vector.
+/// Puts a listed item into the group that takes it. Where the group is then full, its vector leaves the
+/// map, so that the next item of this vector begins a new group.
+fn join<'a>(
+    groups: &mut Vec<Group<'a>>,
+    places: &mut BTreeMap<&'a ConciseVector, usize>,
+    at: usize,
+    item: ItemId,
+    vector: &'a ConciseVector,
+) -> Result<(), AllocError>
+    requires in_turn { FillInTurn MAX_ITEMS groups.old.items }
+    requires places { ArePlaces MAX_ITEMS (λ vector. vector.now) groups.old.items places.old }
+    requires at { place_of MAX_ITEMS groups.old.items vector.now ≡ Some at }
+    ensures added { OnOk result (groups.new.items ≡ grouped MAX_ITEMS groups.old.items (listed_as item vector.now)) }
+    ensures places { OnOk result (ArePlaces MAX_ITEMS (λ vector. vector.now) groups.new.items places.new) }
+{
+    if groups[at].push(item)? {
+        places.remove(&vector);
+    }
+    Ok(())
+}
+
+/// Puts a listed item into the group that takes it, or else into one of its own behind the others. The
+/// map says which group takes an item of a vector.
 fn add<'a>(
     groups: &mut Vec<Group<'a>>,
     places: &mut BTreeMap<&'a ConciseVector, usize>,
@@ -68,12 +91,14 @@ fn add<'a>(
     vector: &'a ConciseVector,
     alloc: Global,
 ) -> Result<(), AllocError>
-    requires { ArePlaces (λ vector. vector.now) groups.old.items places.old }
-    ensures added { OnOk result (groups.new.items ≡ grouped groups.old.items (listed_as item vector.now)) }
-    ensures places { OnOk result (ArePlaces (λ vector. vector.now) groups.new.items places.new) }
+    requires in_turn { FillInTurn MAX_ITEMS groups.old.items }
+    requires places { ArePlaces MAX_ITEMS (λ vector. vector.now) groups.old.items places.old }
+    ensures added { OnOk result (groups.new.items ≡ grouped MAX_ITEMS groups.old.items (listed_as item vector.now)) }
+    ensures in_turn { OnOk result (FillInTurn MAX_ITEMS groups.new.items) }
+    ensures places { OnOk result (ArePlaces MAX_ITEMS (λ vector. vector.now) groups.new.items places.new) }
 {
     match places.get(&vector) {
-        Some(at) => groups[*at].push(item)?,
+        Some(&at) => join(groups, places, at, item, vector)?,
         None => {
             places.insert(vector, groups.len())?;
             groups.push(Group::of(item, vector, alloc)?)?;
@@ -82,9 +107,10 @@ fn add<'a>(
     Ok(())
 }
 
-/// The listed items, grouped by their vectors: the groups stand by their first items.
+/// The listed items, grouped by their vectors, with as many in a group as a fragment lists: the groups
+/// stand by their first items.
 pub(crate) fn groups_of(listed: &Vectors, alloc: Global) -> Result<Vec<Group<'_>>, AllocError>
-    ensures { IfOk result (λ groups. groups.items ≡ all_grouped [] (listed_of listed.now.entries)) }
+    ensures { IfOk result (λ groups. groups.items ≡ all_grouped MAX_ITEMS [] (listed_of listed.now.entries)) }
 {
     let mut groups = Vec::new(alloc);
     let mut places = BTreeMap::new(alloc);

@@ -1,5 +1,6 @@
 ghost use Rattle.std.specs.Prelude.{◌≡◌, ◌≤◌, true, false, length, IfOk, OnErr};
 ghost use Rattle.mr_version.specs.Name.{name_eq};
+ghost use Rattle.mr_forms.specs.Sets.{both};
 ghost use Rattle.mr_forms.specs.Known.{AreSame, HasValue, with_below, with_learned, with_learned_below};
 ghost use Rattle.mr_itemset.specs.Normal.{normal_known, IsNormal};
 ghost use Rattle.mr_itemset.specs.ItemForm.{items_form, with_all, HasHoleyItem};
@@ -7,9 +8,12 @@ ghost use Rattle.mr_itemset.specs.Folded.{IsSplit};
 
 use crate::limits::lacks;
 use crate::listing::count_beyond;
-use crate::pending::{gathered, leaves_room, most_holes, try_below, try_list_with};
+use crate::pending::{
+    fit_together, gathered, leaves_room, most_holes, only_version, try_below, try_list_with,
+    with_two,
+};
 use crate::settled::Settled;
-use mr_concise::{ConciseVector, MAX_HOLES, Source};
+use mr_concise::{ConciseVector, Source};
 use mr_forms::{MAX_ITEMS, VersionSet};
 use mr_version::{ItemId, Version};
 use std::alloc::AllocError;
@@ -44,6 +48,9 @@ impl<const LIMIT: usize> Model for ItemsUpTo<LIMIT> {
 
     ghost invariant = { λ k. IsKept LIMIT k.settled k.pending k.most_holes };
 }
+
+/// Two versions more of a column make no more holes than this.
+const TWO_HOLES: usize = 2;
 
 /// Which versions are known for which items, of which it lists no more than one fragment may.
 pub type ItemKnowledge = ItemsUpTo<MAX_ITEMS>;
@@ -103,6 +110,14 @@ impl<const LIMIT: usize> ItemsUpTo<LIMIT> {
         count_beyond(&self.settled, &self.pending)
     }
 
+    /// No fewer than there are items of which more is known than of all, without a look at them.
+    pub(crate) fn most_listed(&self) -> usize
+        ensures most { length self.now.listed ≤ result }
+        ensures bound { result ≤ LIMIT }
+    {
+        self.settled.listed().len()
+    }
+
     /// Whether the holes leave room for a version of all items, without a look at the listed ones.
     pub(crate) fn has_leeway(&self, version: Version) -> bool
         ensures { result ≡ true → ¬ HasHoleyItem (with_all (normal_known self.now) (name_eq version)) }
@@ -116,10 +131,9 @@ impl<const LIMIT: usize> ItemsUpTo<LIMIT> {
     pub(crate) fn has_leeway_for<A: Source>(&self, learned: &A) -> bool
         ensures { result ≡ true → ¬ HasHoleyItem (with_all (normal_known self.now) (A.has learned.now)) }
     {
-        let kept = self.most_holes + most_holes(&self.pending);
         let added = mr_concise::most_holes(learned);
         let _columns = self.pending.author_columns();
-        added <= MAX_HOLES && kept + added <= MAX_HOLES
+        fit_together(self.most_holes, most_holes(&self.pending), added)
     }
 
     /// Adds the version for all items, where the holes leave room for it. `false` where they don't.
@@ -137,6 +151,41 @@ impl<const LIMIT: usize> ItemsUpTo<LIMIT> {
             return Err(AllocError);
         };
         let _columns = self.pending.author_columns();
+        Ok(true)
+    }
+
+    /// Adds the versions for all items, where the holes leave room for them. `false` where they may not. It
+    /// costs a search for one version; for more, a walk through them and through what waits of their authors.
+    pub(crate) fn try_learn_for_all<A: Source>(&mut self, learned: &A) -> Result<bool, AllocError>
+        ensures done { IfOk result (λ done. done ≡ true → AreSame (normal_known self.new) (with_all (normal_known self.old) (A.has learned.now))) }
+        ensures not { IfOk result (λ done. done ≡ false → self.new ≡ self.old) }
+        ensures err { OnErr result (self.new ≡ self.old) }
+    {
+        match only_version(learned) {
+            Some(version) => self.try_learn(version),
+            None => self.try_unite(learned),
+        }
+    }
+
+    /// Adds the versions for all items, where the holes leave room for all of them together. `false` where they
+    /// may not.
+    fn try_unite<A: Source>(&mut self, learned: &A) -> Result<bool, AllocError>
+        ensures done { IfOk result (λ done. done ≡ true → AreSame (normal_known self.new) (with_all (normal_known self.old) (A.has learned.now))) }
+        ensures not { IfOk result (λ done. done ≡ false → self.new ≡ self.old) }
+        ensures err { OnErr result (self.new ≡ self.old) }
+    {
+        let added = mr_concise::most_holes(learned);
+        let _columns = self.pending.author_columns();
+        if !fit_together(self.most_holes, most_holes(&self.pending), added) {
+            return Ok(false);
+        }
+        let Some(vector) = gathered(self.settled.allocator(), learned)? else {
+            return Ok(false);
+        };
+        let Ok(()) = self.pending.union(&vector) else {
+            return Err(AllocError);
+        };
+        let _united = self.pending.author_columns();
         Ok(true)
     }
 
@@ -193,23 +242,25 @@ impl<const LIMIT: usize> ItemsUpTo<LIMIT> {
         Ok(done)
     }
 
-    /// Adds the learned versions for all items and the set for this one, where neither holes nor listed
-    /// items are near their limit. `false` where one may be. It copies what waits.
-    pub(crate) fn try_learn_more<A: Source, S: Source>(
+    /// Adds two versions for all items and the set for this one, where neither holes nor listed items are
+    /// near their limit. `false` where one may be. It costs a copy of what waits, a search for the item and,
+    /// where the set has something new, a copy of its vector.
+    pub(crate) fn try_learn_two<S: Source>(
         &mut self,
         item: ItemId,
-        learned: &A,
+        two: &(Version, Version),
         below: &S,
     ) -> Result<bool, AllocError>
-        ensures done { IfOk result (λ done. done ≡ true → AreSame (normal_known self.new) (with_below (with_all (normal_known self.old) (A.has learned.now)) item (S.has below.now))) }
-        ensures first { IfOk result (λ done. done ≡ true → HasValue (items_form LIMIT) (with_all (normal_known self.old) (A.has learned.now))) }
-        ensures second { IfOk result (λ done. done ≡ true → HasValue (items_form LIMIT) (with_below (with_all (normal_known self.old) (A.has learned.now)) item (S.has below.now))) }
+        ensures done { IfOk result (λ done. done ≡ true → AreSame (normal_known self.new) (with_below (with_all (normal_known self.old) (both (name_eq two.now.0) (name_eq two.now.1))) item (S.has below.now))) }
+        ensures first { IfOk result (λ done. done ≡ true → HasValue (items_form LIMIT) (with_all (normal_known self.old) (both (name_eq two.now.0) (name_eq two.now.1)))) }
+        ensures second { IfOk result (λ done. done ≡ true → HasValue (items_form LIMIT) (with_below (with_all (normal_known self.old) (both (name_eq two.now.0) (name_eq two.now.1))) item (S.has below.now))) }
         ensures not { IfOk result (λ done. done ≡ false → self.new ≡ self.old) }
         ensures err { OnErr result (self.new ≡ self.old) }
     {
-        let Some(pending) = gathered(self.settled.allocator(), &(learned, &self.pending))? else {
+        if !fit_together(self.most_holes, most_holes(&self.pending), TWO_HOLES) {
             return Ok(false);
-        };
+        }
+        let pending = with_two(&self.pending, two)?;
         if !leaves_room(&pending, self.most_holes) {
             return Ok(false);
         }

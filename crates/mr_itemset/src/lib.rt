@@ -7,7 +7,8 @@
 //!
 //! Each knowledge has one value, its normal form: no listed vector has only what is known for all items. So
 //! two values are equal exactly where they know the same. `fragments` gives the normal form as it travels,
-//! with the items of one vector together, and `text` shows it, as `all 0:4; 0.1,0.5 0:4,1:1`.
+//! with the items of one vector together, as many as a fragment lists, and the rest in further fragments;
+//! and `text` shows it, as `all 0:4; 0.1,0.5 0:4,1:1`.
 //!
 //! A version that comes before earlier ones of its author leaves these as holes. The holes of messages that
 //! were edited since, or that are not picked, stay, and a column has no more than so many. So
@@ -20,8 +21,8 @@
 //! A version that is learned would grow the vector of each listed item. So it waits instead, with others,
 //! beside what is settled: an item's versions are those of its settled vector and those that wait. While the
 //! holes of any settled column and of any waiting one stay within a column's limit together, learning looks
-//! at no listed item but its own. Where they may not, what waits is put into the settled vectors first. No
-//! caller sees which versions wait: each value is its normal form.
+//! at no listed item but its own. Where they may not, what waits is put into the settled vectors first. What
+//! a fragment tells of all items waits too. No caller sees which versions wait: each value is its normal form.
 #![tactic(auto)]
 
 mod below;

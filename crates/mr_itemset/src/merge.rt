@@ -19,14 +19,15 @@ impl<const LIMIT: usize> ItemsUpTo<LIMIT> {
         if !self.all_lack(&OfSet { set }) {
             return Ok(());
         }
-        if self.would_be_holey(&OfSet { set }) {
+        if self.would_be_holey_for_more(&OfSet { set }) {
             return Err(FormFault::TooManyHoles);
         }
         Ok(())
     }
 
     /// Adds all versions of a set for all items. It lists no item, so `TooManyItems` never comes. It costs
-    /// a copy of each listed vector; where all items have the set already nothing is copied.
+    /// a walk through the set, and through what waits of its authors; where holes may come near their limit,
+    /// a copy of each listed vector. Where all items have the set already nothing is copied.
     pub fn learn_for_all<S: VersionSet>(&mut self, set: &S) -> Result<(), FormFault>
         ensures ok { OnOk result (AreSame (normal_known self.new) (with_all (normal_known self.old) (S.has set.now))) }
         ensures holes { IsErrOf result FormFault.TooManyHoles ↔ HasHoleyItem (with_all (normal_known self.old) (S.has set.now)) }
@@ -36,6 +37,9 @@ impl<const LIMIT: usize> ItemsUpTo<LIMIT> {
     {
         self.may_learn_for_all(set)?;
         if !self.all_lack(&OfSet { set }) {
+            return Ok(());
+        }
+        if self.try_learn_for_all(&OfSet { set })? {
             return Ok(());
         }
         self.settle_all(&OfSet { set })?;
@@ -60,8 +64,8 @@ impl<const LIMIT: usize> ItemsUpTo<LIMIT> {
     }
 
     /// Adds all versions of a fragment, whose vector is of any form, for each of its items, and
-    /// nothing else. It costs a copy of each listed vector; where its items have them already nothing is
-    /// copied.
+    /// nothing else. Where it lists items it costs a copy of each listed vector; where it is of all items,
+    /// what `learn_for_all` does. Where its items have them already nothing is copied.
     pub fn merge<S: VersionSet>(&mut self, fragment: &Fragment<S>) -> Result<(), FormFault>
         ensures ok { OnOk result (AreSame (normal_known self.new) (with_pairs (normal_known self.old) (covered S.has fragment.now))) }
         ensures holes { IsErrOf result FormFault.TooManyHoles ↔ HasHoleyItem (with_pairs (normal_known self.old) (covered S.has fragment.now)) }

@@ -28,7 +28,7 @@ impl<const LIMIT: usize> ItemsUpTo<LIMIT> {
     }
 
     /// Adds all versions of a fragment for each of its items, in place: some have them where memory is
-    /// gone. Where nothing is pending it looks at no listed items but the fragment's own, if it lists them.
+    /// gone. Where no limit is near it looks at no listed items but the fragment's own, if it lists them.
     fn take_in<S: VersionSet>(&mut self, fragment: &Fragment<S>) -> Result<(), FormFault>
         ensures ok { OnOk result (AreSame (normal_known self.new) (with_pairs (normal_known self.old) (covered S.has fragment.now))) }
         ensures holes { IsErrOf result FormFault.TooManyHoles ↔ HasHoleyItem (with_pairs (normal_known self.old) (covered S.has fragment.now)) }
@@ -64,9 +64,10 @@ impl<const LIMIT: usize> ItemsUpTo<LIMIT> {
     /// the other; this one stays as it is. A fault is that of the first fragment whose merging has one.
     /// `OutOfMemory` may come before the fault of a later fragment, but not before that of the first.
     ///
-    /// It costs a copy of each listed vector, and for each item that a fragment lists a search and a copy
-    /// of its vector; for each fragment of all items that all items lack something of, a copy of each listed
-    /// vector once more.
+    /// It costs a copy of each listed vector, for each item that a fragment lists a search and a copy of its
+    /// vector, and for each fragment of all items a walk through its vector and, where all items lack something
+    /// of it, through what waits of its authors. So the listed vectors are copied once, however many fragments
+    /// are of all items; once more for a fragment only where a limit may be near.
     pub fn with_fragments<S: VersionSet>(
         &self,
         fragments: &[Fragment<S>],

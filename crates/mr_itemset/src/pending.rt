@@ -1,5 +1,6 @@
 //! What tells without a look at the listed items that no limit is near.
 ghost use Rattle.std.specs.Prelude.{◌≡◌, ◌≤◌, ◌+◌, ℕ, true, false, List, length, IfOk, IfSome, OnErr};
+ghost use Rattle.mr_version.specs.Name.{name_eq};
 ghost use Rattle.mr_forms.specs.Sets.{IsSame, both, with_version};
 ghost use Rattle.mr_forms.specs.Known.{AreSame, with_below};
 ghost use Rattle.mr_concise.specs.declared.column.TheConstants.{MAX_HOLES};
@@ -15,7 +16,7 @@ use crate::knowledge::Listed;
 use crate::limits::lacks;
 use crate::settled::Settled;
 use mr_concise::{ConciseVector, MAX_HOLES, Source};
-use mr_forms::FormFault;
+use mr_forms::{FormFault, VersionSet};
 use mr_version::{ItemId, Version};
 use std::alloc::{AllocError, Global};
 
@@ -56,6 +57,35 @@ fn has_room_beside(vector: &ConciseVector, most: usize) -> bool
     most + most_holes(vector) <= MAX_HOLES
 }
 
+/// Whether a column may have all these holes together.
+pub(crate) fn fit_together(kept: usize, waiting: usize, added: usize) -> bool
+    ensures { result ≡ true → (kept + waiting) + added ≤ MAX_HOLES }
+{
+    if kept > MAX_HOLES || waiting > MAX_HOLES - kept {
+        return false;
+    }
+    added <= MAX_HOLES - kept - waiting
+}
+
+/// The version that a source has, where it has that one alone.
+pub(crate) fn only_version<S: Source>(source: &S) -> Option<Version>
+    ensures { IfSome result (λ version. IsSame (S.has source.now) (name_eq version)) }
+{
+    let author = source.next_author(0)?;
+    let counter = source.next_in(author, 1)?;
+    let _end = source.next_out(author, counter);
+    if let Some(_next) = source.next_in(author, counter + 1) {
+        return None;
+    }
+    if let Some(_other) = source.next_author(author.id() + 1) {
+        return None;
+    }
+    match Version::try_new(author, counter) {
+        Ok(version) => Some(version),
+        Err(_) => None,
+    }
+}
+
 /// The vector of a source. `None` where it would have too many holes.
 pub(crate) fn gathered<S: Source>(
     alloc: Global,
@@ -68,6 +98,26 @@ pub(crate) fn gathered<S: Source>(
         Err(FormFault::OutOfMemory) => Err(AllocError),
         Err(_) => Ok(None),
     }
+}
+
+/// A vector with two versions more. It costs a copy of it, and two searches.
+pub(crate) fn with_two(
+    vector: &ConciseVector,
+    two: &(Version, Version),
+) -> Result<ConciseVector, AllocError>
+    ensures { IfOk result (IsVectorOf (both (both (name_eq two.now.0) (name_eq two.now.1)) (vector_has vector.now))) }
+{
+    let Ok(mut more) = vector.copy() else {
+        return Err(AllocError);
+    };
+    let Ok(()) = more.insert(two.0) else {
+        return Err(AllocError);
+    };
+    let Ok(()) = more.insert(two.1) else {
+        return Err(AllocError);
+    };
+    let _columns = more.author_columns();
+    Ok(more)
 }
 
 impl<const LIMIT: usize> Settled<LIMIT> {

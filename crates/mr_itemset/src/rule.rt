@@ -1,5 +1,5 @@
 //! Which versions a sparing knowledge learns for all items.
-ghost use Rattle.std.specs.Prelude.{◌≡◌, ◌↔◌, ◌≢◌, false, length, OnOk, OnErr, IsErrOf, Err};
+ghost use Rattle.std.specs.Prelude.{◌≡◌, ◌↔◌, ◌≢◌, false, nat_lt, length, OnOk, OnErr, IsErrOf, Err};
 ghost use Rattle.mr_forms.specs.Known.{AreSame, IsOverHolesInTurn, IsOverItemsInTurn, with_learned, with_learned_below};
 ghost use Rattle.mr_concise.specs.Vector.{column_of, vector_has};
 ghost use Rattle.mr_itemset.specs.Normal.{normal_known};
@@ -7,7 +7,7 @@ ghost use Rattle.mr_itemset.specs.ItemForm.{items_form};
 ghost use Rattle.mr_itemset.specs.Sparing.{goes_to_all, comes_next};
 
 use crate::knowledge::ItemsUpTo;
-use mr_concise::{Source, hole_count};
+use mr_concise::{Source, has_fewer_holes};
 use mr_forms::{FormFault, VersionSet};
 use mr_version::{Author, ItemId, Version};
 
@@ -35,13 +35,14 @@ impl<const LIMIT: usize> ItemsUpTo<LIMIT> {
         waits || settled
     }
 
-    /// How many holes the author's column for all items has. It allocates nothing, and walks through
-    /// these holes.
-    pub fn holes_for_all(&self, author: Author) -> usize
-        ensures { result ≡ length (column_of self.now.all author).holes }
+    /// Whether the author's column for all items has fewer than [`SPARED_HOLES`] holes. It allocates nothing,
+    /// and walks no further along the column than to the last of so many.
+    pub fn has_holes_to_spare(&self, author: Author) -> bool
+        ensures { result ≡ nat_lt (length (column_of self.now.all author).holes) SPARED_HOLES }
     {
         let parts = self.parts();
-        hole_count(&(parts.pending, parts.settled.for_all()), author)
+        let all = (parts.pending, parts.settled.for_all());
+        has_fewer_holes(&all, author, SPARED_HOLES)
     }
 
     /// Whether a sparing knowledge learns the version for all items: it is its author's first, or all
@@ -59,7 +60,7 @@ impl<const LIMIT: usize> ItemsUpTo<LIMIT> {
         if self.all_know(before) {
             return true;
         }
-        self.holes_for_all(version.author()) < SPARED_HOLES
+        self.has_holes_to_spare(version.author())
     }
 
     /// The fault that `learn_alone_with` would answer where memory is there. It allocates nothing.

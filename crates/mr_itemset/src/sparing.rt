@@ -19,8 +19,9 @@ use mr_version::{ItemId, Version};
 use std::alloc::Global;
 use std::marker::Model;
 
-/// How many items a sparing knowledge lists at most: no more than one fragment lists.
-pub const MAX_LISTED_ITEMS: usize = 65_536;
+/// How many items a sparing knowledge lists at most. They are more than one fragment lists, so items of one
+/// vector may be told in several.
+pub const MAX_LISTED_ITEMS: usize = 1_048_576;
 
 /// Which versions are known for which items, as [`ItemKnowledge`](crate::ItemKnowledge) keeps it, but sparing
 /// with holes: a version that would leave one too many for all items is learned for its own item alone. So
@@ -156,8 +157,9 @@ impl SparingKnowledge {
     }
 
     /// The fault that `learn_with` would answer where memory is there. It allocates nothing. It costs a
-    /// search for the item, a walk through its vector, through what waits and through the holes of two
-    /// columns of all items; where a limit may be near, a walk through each listed vector.
+    /// search for the item, a walk along two columns of all items to no more than [`SPARED_HOLES`](crate::SPARED_HOLES)
+    /// holes of each and, where the set has something new, a walk through the item's own vector; where a limit
+    /// may be near, a walk through what waits and through each listed vector.
     pub fn may_learn_with<S: VersionSet>(
         &self,
         item: ItemId,
@@ -183,8 +185,9 @@ impl SparingKnowledge {
     /// Learns a version that came with the set of versions below it: the version for all items where it
     /// goes to all, else for its own, and the set for its own; and where it goes to all, the item's first
     /// version too, where the set has it and it goes to all by itself. It costs a search for the item, a
-    /// copy of its vector and of what waits, and a walk through the holes of two columns of all items; where
-    /// a limit may be near, a copy of each listed vector.
+    /// walk along two columns of all items to no more than [`SPARED_HOLES`](crate::SPARED_HOLES) holes of each, a
+    /// copy of what waits where the item's first version goes along and, where the set has something new, a copy
+    /// of the item's vector; where a limit may be near, a copy of each listed vector.
     pub fn learn_with<S: VersionSet>(
         &mut self,
         item: ItemId,
@@ -201,9 +204,7 @@ impl SparingKnowledge {
             return self.items.learn_alone_with(item, version, &set);
         }
         if self.takes_first(item, below) {
-            return self
-                .items
-                .learn_more(item, &(version, item.creator()), &set);
+            return self.items.learn_two(item, &(version, item.creator()), &set);
         }
         self.items.learn_with(item, version, &set)
     }

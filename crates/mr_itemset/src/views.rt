@@ -12,7 +12,7 @@ ghost use Rattle.mr_itemset.specs.Shown.{shown, fragments_in, normal_text};
 use crate::knowledge::ItemsUpTo;
 use crate::settled::Settled;
 use mr_concise::ConciseVector;
-use mr_forms::{FormFault, Fragment, MAX_ITEMS, VersionSet};
+use mr_forms::{FormFault, Fragment, VersionSet};
 use mr_version::{ItemId, Version};
 use std::alloc::Global;
 
@@ -40,14 +40,13 @@ impl<const LIMIT: usize> ItemsUpTo<LIMIT> {
         let parts = self.parts();
         parts.pending.contains(version) || parts.settled.knows(item, version)
     }
-}
 
-impl ItemsUpTo<MAX_ITEMS> {
     /// The knowledge as fragments, in normal form. That of all items comes first, and its vector may be
     /// empty. Each listed item is in one of the others, with a vector that has all that all items have,
-    /// and more; no two of these have the same vector. They come by their first items, and the items of
-    /// each rise. `OutOfMemory` is the only fault. For n listed items it takes about n log n comparisons
-    /// of vectors.
+    /// and more. Items of one vector are in one fragment, or, where they are more than `MAX_ITEMS`, in
+    /// several: the lowest `MAX_ITEMS` in the first, and so on. Fragments come by their first items, and
+    /// the items of each rise. `OutOfMemory` is the only fault. For n listed items it takes about n log n
+    /// comparisons of vectors.
     pub fn fragments(&self) -> Result<Vec<Fragment<ConciseVector>>, FormFault>
         ensures are { IfOk result (λ fragments. map shown fragments.items ≡ fragments_in self.now) }
         ensures normal { IfOk result (λ fragments. AreNormal (map (part_of vector_has) fragments.items)) }

@@ -3,6 +3,13 @@ use Rattle.std.proofs.lemmas.Bool.{leb-true, leb-false}
 use Rattle.mr_itemset.proofs.EachLemmas.{few_given, few_counted, many_each}
 use Rattle.mr_itemset.proofs.knowledge.ItemsUpTo.has_room_for.Goals as goal
 
+pub returns-then-items-most_listed-clause-yes : goal.returns-then-items-most_listed-clause-yes
+returns-then-items-most_listed-clause-yes g c _ set =
+    let most = c.most_listed.ensures.most in
+    let bound = c.most_listed.ensures.bound in
+    let room = c.if-items-most_listed.true in
+    few_given c.args.self.now c.args.items.now set (omega arith)
+
 pub returns-then-items-room-clause-yes : goal.returns-then-items-room-clause-yes
 returns-then-items-room-clause-yes g c _ set =
     let few = c.listed_count-room.ensures.normal.few in

@@ -40,7 +40,7 @@ returns-then-takes_first-clause-ok g c =
     let goes : spreads k c.args.item c.args.version set ≡ true = subst (λ (q : Normal). spreads q c.args.item c.args.version set ≡ true) (sym c.self.view_is) (sym c.spreads.ensures ∙ c.if-not-spreads.false) in
     let first : (goes_to_all k c.args.item && set c.args.item) ≡ true = subst (λ (q : Normal). (goes_to_all q c.args.item && set c.args.item) ≡ true) (sym c.self.view_is) (sym c.takes_first.ensures ∙ c.if-takes_first.true) in
     let path = spread_first k c.args.item c.args.version set goes first in
-    rw (← c.self.view_is) (on_ok_weaker c.learn_more.result (λ same i v. same i v ∙ ap (λ (p : Pairs). with_below p c.args.item set i v) (sym path)) (rw c.creator.ensures at c.learn_more.ensures.ok))
+    rw (← c.self.view_is) (on_ok_weaker c.learn_two.result (λ same i v. same i v ∙ ap (λ (p : Pairs). with_below p c.args.item set i v) (sym path)) (rw c.creator.ensures at c.learn_two.ensures.ok))
 
 pub returns-then-takes_first-clause-holes : goal.returns-then-takes_first-clause-holes
 returns-then-takes_first-clause-holes g c =
@@ -49,7 +49,7 @@ returns-then-takes_first-clause-holes g c =
     let goes : spreads k c.args.item c.args.version set ≡ true = subst (λ (q : Normal). spreads q c.args.item c.args.version set ≡ true) (sym c.self.view_is) (sym c.spreads.ensures ∙ c.if-not-spreads.false) in
     let first : (goes_to_all k c.args.item && set c.args.item) ≡ true = subst (λ (q : Normal). (goes_to_all q c.args.item && set c.args.item) ≡ true) (sym c.self.view_is) (sym c.takes_first.ensures ∙ c.if-takes_first.true) in
     let path = spread_first k c.args.item c.args.version set goes first in
-    rw (← c.self.view_is) (subst (λ (p : Pairs). IsErrOf c.learn_more.result fault.TooManyHoles ↔ IsOverHolesInTurn (items_form MAX_LISTED_ITEMS) p (with_below p c.args.item set)) (sym path) (rw c.creator.ensures at c.learn_more.ensures.holes))
+    rw (← c.self.view_is) (subst (λ (p : Pairs). IsErrOf c.learn_two.result fault.TooManyHoles ↔ IsOverHolesInTurn (items_form MAX_LISTED_ITEMS) p (with_below p c.args.item set)) (sym path) (rw c.creator.ensures at c.learn_two.ensures.holes))
 
 pub returns-then-takes_first-clause-items : goal.returns-then-takes_first-clause-items
 returns-then-takes_first-clause-items g c =
@@ -58,7 +58,7 @@ returns-then-takes_first-clause-items g c =
     let goes : spreads k c.args.item c.args.version set ≡ true = subst (λ (q : Normal). spreads q c.args.item c.args.version set ≡ true) (sym c.self.view_is) (sym c.spreads.ensures ∙ c.if-not-spreads.false) in
     let first : (goes_to_all k c.args.item && set c.args.item) ≡ true = subst (λ (q : Normal). (goes_to_all q c.args.item && set c.args.item) ≡ true) (sym c.self.view_is) (sym c.takes_first.ensures ∙ c.if-takes_first.true) in
     let path = spread_first k c.args.item c.args.version set goes first in
-    rw (← c.self.view_is) (subst (λ (p : Pairs). IsErrOf c.learn_more.result fault.TooManyItems ↔ IsOverItemsInTurn (items_form MAX_LISTED_ITEMS) p (with_below p c.args.item set)) (sym path) (rw c.creator.ensures at c.learn_more.ensures.items))
+    rw (← c.self.view_is) (subst (λ (p : Pairs). IsErrOf c.learn_two.result fault.TooManyItems ↔ IsOverItemsInTurn (items_form MAX_LISTED_ITEMS) p (with_below p c.args.item set)) (sym path) (rw c.creator.ensures at c.learn_two.ensures.items))
 
 pub returns-clause-ok : goal.returns-clause-ok
 returns-clause-ok g c =
