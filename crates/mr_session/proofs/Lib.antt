@@ -1,4 +1,3 @@
-pub mod OrderLemmas
 pub mod SlotLemmas
 pub mod PieceLemmas
 pub mod TableLemmas
@@ -8,6 +7,5 @@ pub mod CutLemmas
 pub mod DrawnLemmas
 pub mod WalkLemmas
 pub mod DrawLemmas
-pub mod ClaimLemmas
 pub mod OnwardLemmas
 mod Rows

@@ -1,54 +1,30 @@
--- What a frame may list stands in order.
-use Rattle.std.proofs.Common.{◌≡◌, true, List, [], ◌∷◌, ◌++◌, Some, None, refl}
-use Rattle.std.specs.List.{All, AllByRecursion}
-use Rattle.std.specs.List.Sorted.{IsStrictlySortedBy}
-use Rattle.std.specs.Ordering.{is_lt}
-use Rattle.std.specs.declared.cmp.Ordering.{Ordering}
-use Rattle.std.specs.declared.cmp.Ordering.TheVariants.{Less, Equal, Greater}
-use Rattle.std.proofs.lemmas.List.Elements.{All-push}
-use Rattle.mr_version.specs.Name.{Name, name_cmp}
-use Rattle.mr_version.specs.Order.{names_total}
+-- fragments, and what a frame carries of them
+use Rattle.std.proofs.Common.{◌≡◌, ◌&&◌, ◌||◌, List, [], ◌∷◌, map, Option, refl, sym, ap, subst, ◌∙◌}
+use Rattle.mr_version.specs.Name.{Name}
 use Rattle.mr_forms.specs.declared.fragment.ItemSet.{ItemSet}
-use Rattle.mr_forms.specs.declared.fragment.ItemSet.TheVariants.{All as AllItems, Listed}
-use Rattle.mr_forms.specs.Covered.{listed_items}
+use Rattle.mr_forms.specs.declared.fragment.ItemSet.TheVariants.{All, Listed}
+use Rattle.mr_forms.specs.Covered.{has_item, listed_items, all_covered}
 use Rattle.mr_concise.specs.Fragments.{ConciseFragment}
-use Rattle.mr_store.specs.Unheld.{ListsInOrder}
-use Rattle.mr_wire.specs.Values.{ItemsRise, AreItems, piece_of, listed_items as listed_in}
+use Rattle.mr_concise.specs.Vector.{vector_has}
+use Rattle.mr_store.specs.FragmentIndex.{items_of, Places, Finds}
+use Rattle.mr_wire.specs.Values.{Piece, piece_of}
+use Rattle.mr_session.specs.Stream.{lists, claimed}
 
-less_of : (o : Ordering) → is_lt o ≡ true → o ≡ Less
-less_of Less h = refl
-less_of Equal h = absurd (cc)
-less_of Greater h = absurd (cc)
+-- what fragments cover is what they claim
+lists_same : (items : ItemSet) (i : Name) → has_item items i ≡ lists (listed_items items) i
+lists_same All i = refl
+lists_same (Listed items) i = refl
 
--- what is above the first of rising items is above what stands before it
-all_above : (x y : Name) (items : List Name) → name_cmp x y ≡ Less → AllByRecursion (λ z. name_cmp y z ≡ Less) items → AllByRecursion (λ z. name_cmp x z ≡ Less) items
-all_above x y [] less above = tt
-all_above x y (z ∷ items) less above = (names_total.trans x y z less above.0, all_above x y items less above.1)
+pub all_claimed : (fs : List ConciseFragment) (i v : Name) → all_covered vector_has fs i v ≡ claimed (map piece_of fs) i v
+all_claimed [] i v = refl
+all_claimed (f ∷ fs) i v = ap (λ b. (b && vector_has f.vector v) || all_covered vector_has fs i v) (lists_same f.items i) ∙ ap (λ b. (lists (listed_items f.items) i && vector_has f.vector v) || b) (all_claimed fs i v)
 
--- items that rise from one on stand in order, above it
-rise_above : (x : Name) (items : List Name) → ItemsRise (Some x) items → AllByRecursion (λ z. name_cmp x z ≡ Less) items × IsStrictlySortedBy name_cmp items
-unfolding IsStrictlySortedBy
-rise_above x [] rise = (tt, tt)
-rise_above x (y ∷ items) rise =
-    let less = less_of (name_cmp x y) rise.0 in
-    let rest = rise_above y items rise.1 in
-    ((less, all_above x y items less rest.0), (rest.0, rest.1))
+-- the items of what frames carry are those of the fragments
+items_in : (fs : List ConciseFragment) → map (λ (p : Piece). p.items) (map piece_of fs) ≡ map items_of fs
+items_in [] = refl
+items_in (f ∷ fs) = ap (λ (is : List (Option (List Name))). items_of f ∷ is) (items_in fs)
 
--- items that rise stand in order
-pub rise_in_order : (items : List Name) → ItemsRise None items → IsStrictlySortedBy name_cmp items
-unfolding IsStrictlySortedBy
-rise_in_order [] rise = tt
-rise_in_order (x ∷ items) rise = let rest = rise_above x items rise.1 in (rest.0, rest.1)
-
--- a copy of items that a frame may list has them in order
-copied_in_order : (copy items : ItemSet) → AreItems (listed_in items) → listed_items copy ≡ listed_items items → ListsInOrder copy
-copied_in_order AllItems items are same = tt
-copied_in_order (Listed list) AllItems are same = absurd (cc)
-copied_in_order (Listed list) (Listed items) are same =
-    let e : list.items ≡ items.items = cc in
-    rw e (rise_in_order items.items are.2)
-
--- fragments in order stay so with the copy of one that a frame may have
-pub kept_in_order : (fragments : List ConciseFragment) (copy fragment : ConciseFragment) → All (λ f. ListsInOrder f.items) fragments → AreItems (piece_of fragment).items → listed_items copy.items ≡ listed_items fragment.items → All (λ f. ListsInOrder f.items) (fragments ++ copy ∷ [])
-kept_in_order fragments copy fragment kept are same =
-    All-push (λ (f : ConciseFragment). ListsInOrder f.items) fragments copy kept (copied_in_order copy.items fragment.items are same)
+-- an index finds fragments that a frame would carry alike
+pub finds_alike : (fs gs : List ConciseFragment) (places : Places) → map piece_of gs ≡ map piece_of fs → Finds (map items_of fs) places → Finds (map items_of gs) places
+finds_alike fs gs places alike finds =
+    subst (λ (is : List (Option (List Name))). Finds is places) (sym (items_in fs) ∙ (ap (map (λ (p : Piece). p.items)) (sym alike) ∙ items_in gs)) finds

@@ -13,7 +13,6 @@ use Rattle.mr_wire.specs.declared.frame.Mode.{Mode}
 use Rattle.mr_wire.specs.declared.frame.Mode.TheVariants.{Full, Partial}
 use Rattle.mr_concise.proofs.UnionLemmas.{column_has-empty}
 use Rattle.mr_session.specs.Held.{AreCut}
-use Rattle.mr_session.specs.Claims.{listing_at, listings_from, general_from}
 use Rattle.mr_session.specs.Session.{Session, new_session, first_fault, after_record}
 use Rattle.mr_session.specs.Stream.{Asked, Stream, claimed, due, told, is_wanted, new_stream, needs_memory, Draws}
 use Rattle.mr_session.specs.Table.{Table, empty_table, with_opened, with_closed, with_changed, open_at}
@@ -26,18 +25,6 @@ one = record { author = 0; counter = 1 }
 
 abbrev two : Name
 two = record { author = 1; counter = 1 }
-
--- ---- how claims are found
-
--- of all items, of two items, and of one of these
-abbrev pieces : List Piece
-pieces = record { items = None; vector = [] } ∷ (record { items = Some (one ∷ two ∷ []); vector = [] }) ∷ (record { items = Some (one ∷ []); vector = [] }) ∷ []
-
-general_row : general_from 0 pieces ≡ 0 ∷ []
-general_row = refl
-
-listings_row : listings_from 0 pieces ≡ listing_at 1 one ∷ listing_at 1 two ∷ listing_at 2 one ∷ []
-listings_row = refl
 
 -- ---- how heads are cut into vectors
 

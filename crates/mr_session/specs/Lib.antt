@@ -5,7 +5,6 @@ pub mod Session
 pub mod Held
 pub mod Stream
 pub mod Merge
-pub mod Claims
 pub mod Onward
 pub mod Limits
 pub mod Rows

@@ -15,7 +15,6 @@ use Rattle.mr_session.specs.declared.outgoing.onward.Onward.TheVariants as onwar
 use Rattle.mr_session.specs.Table.{Table, Numbered, empty_table, with_opened, with_closed, open_at}
 use Rattle.mr_session.specs.Slots.{value_in, by_number}
 use Rattle.mr_session.specs.Session.{Session, new_session, first_fault, with_taken}
-use Rattle.mr_session.specs.Claims.{has_at}
 use Rattle.mr_session.specs.Merge.{is_left_first}
 use Rattle.mr_session.specs.Stream.{Asked, Stream, lists, claimed, lower, new_stream, Draws, Gives, GivesIn}
 use Rattle.mr_session.specs.Onward.{advanced}
@@ -70,10 +69,6 @@ claimed_of_its_item = refl
 -- no fragments claim nothing
 pub nothing_claimed : claimed [] (name 0 1) (name 0 1) ≡ false
 nothing_claimed = refl
-
--- the fragment at a place is asked for its vector alone, and behind the last one there is none
-pub which_have_it : map (has_at claims (name 1 2)) (0 ∷ 1 ∷ 2 ∷ []) ≡ false ∷ true ∷ false ∷ []
-which_have_it = refl
 
 -- ---- two lists walked as one
 

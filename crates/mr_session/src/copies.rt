@@ -1,7 +1,6 @@
 //! Copies of what sessions keep.
-ghost use Rattle.std.specs.Prelude.{◌≡◌, ◌++◌, map, All, IfOk, OnOk};
+ghost use Rattle.std.specs.Prelude.{◌≡◌, ◌++◌, map, IfOk, OnOk};
 ghost use Rattle.std.specs.Option.{option_map};
-ghost use Rattle.mr_store.specs.Unheld.{ListsInOrder};
 ghost use Rattle.mr_wire.specs.Values.{piece_of};
 
 use mr_concise::ConciseVector;
@@ -76,9 +75,7 @@ pub fn copied_queue(
 fn copied_fragment(
     fragment: &Fragment<ConciseVector>,
 ) -> Result<Fragment<ConciseVector>, AllocError>
-    requires { ListsInOrder fragment.now.items }
-    ensures equal { IfOk result (λ copy. piece_of copy ≡ piece_of fragment.now) }
-    ensures in_order { IfOk result (λ copy. ListsInOrder copy.items) }
+    ensures { IfOk result (λ copy. piece_of copy ≡ piece_of fragment.now) }
 {
     fragment.copy()
 }
@@ -88,9 +85,7 @@ pub fn copied_fragments(
     alloc: Global,
     fragments: &[Fragment<ConciseVector>],
 ) -> Result<Vec<Fragment<ConciseVector>>, AllocError>
-    requires { All (λ fragment. ListsInOrder fragment.items) fragments.now }
-    ensures equal { IfOk result (λ copied. map piece_of copied.items ≡ map piece_of fragments.now) }
-    ensures in_order { IfOk result (λ copied. All (λ fragment. ListsInOrder fragment.items) copied.items) }
+    ensures { IfOk result (λ copied. map piece_of copied.items ≡ map piece_of fragments.now) }
 {
     let mut copied = Vec::with_capacity(alloc, fragments.len())?;
     for fragment in fragments {
@@ -120,19 +115,7 @@ fn push_pieces(
     Ok(())
 }
 
-/// Equal fragments, in the same order, as frames carry them.
-pub fn copied_pieces(
-    alloc: Global,
-    fragments: &[FrameFragment],
-) -> Result<Vec<FrameFragment>, AllocError>
-    ensures { IfOk result (λ copied. copied.items ≡ fragments.now) }
-{
-    let mut copied = Vec::with_capacity(alloc, fragments.len())?;
-    push_pieces(&mut copied, fragments)?;
-    Ok(copied)
-}
-
-/// The same for a queue of them.
+/// Equal fragments, in the same order, in a queue, as frames carry them.
 pub fn copied_know(
     alloc: Global,
     fragments: &VecDeque<FrameFragment>,

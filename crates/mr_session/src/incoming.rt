@@ -1,9 +1,8 @@
 //! Sessions: what a replica has taken of a stream.
-ghost use Rattle.std.specs.Prelude.{◌≡◌, ◌+◌, ◌<◌, ◌^◌, ◌++◌, [], map, All, IsOk, IsFalse, IfOk, OnOk, OnErr};
+ghost use Rattle.std.specs.Prelude.{◌≡◌, ◌+◌, ◌<◌, ◌^◌, ◌++◌, [], map, IsOk, IsFalse, IfOk, OnOk, OnErr};
 ghost use Rattle.std.specs.Result.{result_err};
 ghost use Rattle.mr_concise.specs.Vector.{vector_has};
-ghost use Rattle.mr_store.specs.Unheld.{ListsInOrder};
-ghost use Rattle.mr_wire.specs.Values.{AreItems, piece_of};
+ghost use Rattle.mr_wire.specs.Values.{piece_of};
 ghost use Rattle.mr_session.specs.Session.{new_session, first_fault, is_start, is_full, if_so, with_body, after_record, is_to_keep};
 
 use crate::copies::{copied_fragments, copied_vectors, copy_of};
@@ -29,16 +28,13 @@ pub struct Incoming {
 }
 
 impl Model for Incoming {
-    ghost use Rattle.std.specs.Prelude.{All, map};
-    ghost use Rattle.mr_store.specs.Unheld.{ListsInOrder};
+    ghost use Rattle.std.specs.Prelude.{map};
     ghost use Rattle.mr_wire.specs.Values.{piece_of};
     ghost use Rattle.mr_session.specs.Session.{Session};
 
     ghost Value = { Session };
 
     ghost view = { λ s. record { origin = s.origin; next = s.next; held = s.held.items; know = map piece_of s.know.items } };
-
-    ghost invariant = { λ s. All (λ fragment. ListsInOrder fragment.items) s.know.items };
 }
 
 // Whether it is a stream's first record.
@@ -96,8 +92,7 @@ impl Incoming {
 
     /// The fragments of the Know records, in the order in which they were taken.
     pub fn know(&self) -> &[Fragment<ConciseVector>]
-        ensures all { map piece_of result.now ≡ self.now.know }
-        ensures in_order { All (λ fragment. ListsInOrder fragment.items) result.now }
+        ensures { map piece_of result.now ≡ self.now.know }
     {
         &self.know
     }
@@ -158,7 +153,6 @@ impl Incoming {
     }
 
     fn keep_know(&mut self, fragment: &Fragment<ConciseVector>) -> Result<(), AllocError>
-        requires { AreItems (piece_of fragment.now).items }
         ensures ok { OnOk result (self.new ≡ record self.old { know = self.old.know ++ if_so (is_full self.old.origin) (piece_of fragment.now) }) }
         ensures err { OnErr result (self.new ≡ self.old) }
     {

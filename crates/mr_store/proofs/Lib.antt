@@ -1,7 +1,9 @@
 pub mod RevisionLemmas
 pub mod HoldingLemmas
-pub mod UnheldLemmas
+pub mod OrderLemmas
+pub mod FragmentIndexLemmas
 pub mod IndexLemmas
 pub mod Several
 pub mod HeldVersionLemmas
 pub mod CopyLemmas
+pub mod RetainLemmas

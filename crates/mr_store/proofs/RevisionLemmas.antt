@@ -1,18 +1,17 @@
 -- the versions of an item, after each edit of a list
-use Rattle.std.proofs.Common.{◌≡◌, ℕ, Bool, true, false, not, ◌&&◌, ◌||◌, cond, if◌then◌else◌, refl, sym, ap, subst, ◌∙◌, List, [], ◌∷◌, ◌++◌, map, ◌⊎◌, inl, inr, Option, Some, None, arith}
+use Rattle.std.proofs.Common.{◌≡◌, ◌<◌, ℕ, zero, suc, length, Result, Ok, Err, IfOk, IfErr, is_ok, is_some, Bool, true, false, not, ◌&&◌, ◌||◌, cond, if◌then◌else◌, refl, sym, ap, subst, ◌∙◌, List, [], ◌∷◌, ◌++◌, map, ◌⊎◌, inl, inr, Option, Some, None, arith}
 use Rattle.std.specs.declared.cmp.Ordering.TheVariants.{Less}
 use Rattle.std.specs.Ordering.{is_eq}
-use Rattle.std.specs.List.{AllByRecursion, filter, filter_map, list_any, cons_option}
+use Rattle.std.specs.List.{AllByRecursion, filter, filter_map, list_any, slice_get, cons_option}
 use Rattle.std.proofs.lemmas.Option.{slice_get-get_or}
 use Rattle.std.proofs.lemmas.List.Elements.{filter_agree}
 use Rattle.std.proofs.lemmas.List.Folds.{list_any-append}
 use Rattle.mr_version.specs.Name.{Name, name_cmp, name_eq}
 use Rattle.mr_forms.specs.Sets.{Versions, is_listed}
-use Rattle.mr_forms.specs.Known.{Pairs}
 use Rattle.mr_madewith.specs.Revision.{Rev}
 use Rattle.mr_madewith.specs.Keyed.{without, is_before}
-use Rattle.mr_madewith.specs.Search.{IsFoundAt}
-use Rattle.mr_store.specs.Revisions.{AreInVersionOrder, version_of, revision_of, entered, is_of, versions_of, supersedes, left_by}
+use Rattle.mr_madewith.specs.Search.{IsFoundAt, IsGapFor}
+use Rattle.mr_store.specs.Revisions.{AreInVersionOrder, version_of, revision_of, holds, entered, is_of, versions_of, supersedes, left_by}
 use Rattle.mr_store.specs.Index.{version_inserted}
 use Rattle.mr_madewith.proofs.Rising.{name_eq_self, same_names, name_eq-swap, head_before, tail_rises, all_filtered}
 use Rattle.mr_madewith.proofs.Found.{first_place}
@@ -209,67 +208,54 @@ found-versions_of item below (x ∷ xs) rising =
       | false ↦ rest
     ]
 
--- ---- what is left by a test of pairs
+-- ---- what is left by a test of versions
 
--- the versions of the item that pass
-pub versions_of-filter : (passes : Pairs) (i : Name) (rs : List Rev) → versions_of i (filter (λ r. not (passes r.item r.version)) rs) ≡ filter (λ v. not (passes i v)) (versions_of i rs)
+-- the versions of the item that don't pass
+pub versions_of-filter : (passes : Versions) (i : Name) (rs : List Rev) → versions_of i (filter (λ r. not (passes r.version)) rs) ≡ filter (λ v. not (passes v)) (versions_of i rs)
 versions_of-filter passes i [] = refl
 versions_of-filter passes i (r ∷ rs) =
     elim (either (is_of i r)) [
-      | inl of ↦
-          let same : passes r.item r.version ≡ passes i r.version = ap (λ j. passes j r.version) (same_names r.item i of) in
-          elim (either (passes i r.version)) [
-            | inl pass ↦ rw (same, of, pass) (versions_of-filter passes i rs)
-            | inr fail ↦ rw (same, of, fail, of) (ap (λ vs. r.version ∷ vs) (versions_of-filter passes i rs))
-          ]
-      | inr other ↦ rw other (elim (passes r.item r.version) as (λ b. versions_of i (cond (not b) (r ∷ filter (λ r. not (passes r.item r.version)) rs) (filter (λ r. not (passes r.item r.version)) rs)) ≡ filter (λ v. not (passes i v)) (versions_of i rs)) [
+      | inl of ↦ elim (either (passes r.version)) [
+        | inl pass ↦ rw (of, pass) (versions_of-filter passes i rs)
+        | inr fail ↦ rw (of, fail, of) (ap (λ vs. r.version ∷ vs) (versions_of-filter passes i rs))
+      ]
+      | inr other ↦ rw other (elim (passes r.version) as (λ b. versions_of i (cond (not b) (r ∷ filter (λ r. not (passes r.version)) rs) (filter (λ r. not (passes r.version)) rs)) ≡ filter (λ v. not (passes v)) (versions_of i rs)) [
         | true ↦ versions_of-filter passes i rs
         | false ↦ rw other (versions_of-filter passes i rs)
       ])
     ]
 
--- one of the revisions is of the item
-abbrev pub is_reached : List Rev → Name → Bool
-is_reached rs i = list_any (λ r. name_eq r.item i) rs
+-- ---- what is left without those that pass
 
-versions_of-unreached : (rs : List Rev) (i : Name) → is_reached rs i ≡ false → versions_of i rs ≡ []
-versions_of-unreached [] i h = refl
-versions_of-unreached (r ∷ rs) i h =
-    elim (either (is_of i r)) [
-      | inl of ↦ absurd (cc (sym (ap (λ b. b || is_reached rs i) of) ∙ h))
-      | inr other ↦ rw other (versions_of-unreached rs i (rw other at h))
-    ]
+-- a version that stands before all of these is none of theirs
+holds_before : (v : Name) (rs : List Rev) → AllByRecursion (λ u. name_cmp v u ≡ Less) (map version_of rs) → holds rs v ≡ false
+holds_before v [] later = refl
+holds_before v (r ∷ rs) later =
+    let apart : name_eq r.version v ≡ false = name_eq-swap r.version v ∙ ap is_eq later.0 in
+    rw apart (holds_before v rs later.1)
 
--- all that pass are out once each revision's item was looked at
-pub filter-reached : (passes : Pairs) (rs : List Rev) (i : Name) → filter (λ v. not (is_reached rs i && passes i v)) (versions_of i rs) ≡ versions_of i (filter (λ r. not (passes r.item r.version)) rs)
-filter-reached passes rs i =
-    elim (either (is_reached rs i)) [
-      | inl reached ↦ rw reached (sym (versions_of-filter passes i rs))
-      | inr unreached ↦ rw (versions_of-filter passes i rs, versions_of-unreached rs i unreached) refl
-    ]
+passing_later : (p : Rev → Bool) (x : Rev) (xs ys : List Rev) → AllByRecursion (λ v. name_cmp x.version v ≡ Less) (map version_of ys)
+    → AllByRecursion (λ r. not (holds (filter p xs) r.version) ≡ not (p r)) ys → AllByRecursion (λ r. not (holds (filter p (x ∷ xs)) r.version) ≡ not (p r)) ys
+passing_later p x xs [] later h = tt
+passing_later p x xs (y ∷ ys) later h =
+    let apart : name_eq x.version y.version ≡ false = ap is_eq later.0 in
+    (elim (p x) as (λ b. not (holds (cond b (x ∷ filter p xs) (filter p xs)) y.version) ≡ not (p y)) [ true ↦ rw apart h.0 | false ↦ h.0 ], passing_later p x xs ys later.1 h.1)
 
-out_twice : (reached passes : Bool) → (not (reached && passes) && not passes) ≡ not ((reached || true) && passes)
-out_twice true true = refl
-out_twice true false = refl
-out_twice false true = refl
-out_twice false false = refl
+-- among rising revisions, those that pass have the versions of no others
+passing : (p : Rev → Bool) (rs : List Rev) → AreInVersionOrder rs → AllByRecursion (λ r. not (holds (filter p rs) r.version) ≡ not (p r)) rs
+passing p [] rising = tt
+passing p (x ∷ xs) rising =
+    let later = head_before version_of x xs rising in (
+      elim (either (p x)) [
+        | inl passes ↦ rw (passes, name_eq_self x.version) refl
+        | inr fails ↦ rw fails (ap not (holds_before x.version (filter p xs) (all_filtered version_of (λ v. name_cmp x.version v ≡ Less) p xs later)))
+      ],
+      passing_later p x xs xs later (passing p xs (tail_rises version_of x xs rising)),
+    )
 
-out_once : (reached passes : Bool) → not (reached && passes) ≡ not ((reached || false) && passes)
-out_once true passes = refl
-out_once false passes = refl
-
--- one item more is looked at
-pub filter-reached_more : (passes : Pairs) (vs : List Name) (reached : Bool) (item i : Name)
-    → (if name_eq item i then filter (λ v. not (passes item v)) (filter (λ v. not (reached && passes i v)) vs) else filter (λ v. not (reached && passes i v)) vs)
-    ≡ filter (λ v. not ((reached || name_eq item i) && passes i v)) vs
-filter-reached_more passes vs reached item i =
-    elim (either (name_eq item i)) [
-      | inl same ↦ rw same (
-          ap (λ j. filter (λ v. not (passes j v)) (filter (λ v. not (reached && passes i v)) vs)) (same_names item i same)
-          ∙ filter-filter (λ v. not (reached && passes i v)) (λ v. not (passes i v)) vs
-          ∙ filter_agree (λ v. not (reached && passes i v) && not (passes i v)) (λ v. not ((reached || true) && passes i v)) (λ v. out_twice reached (passes i v)) vs)
-      | inr apart ↦ rw apart (filter_agree (λ v. not (reached && passes i v)) (λ v. not ((reached || false) && passes i v)) (λ v. out_once reached (passes i v)) vs)
-    ]
+-- without the versions of those that pass, those are left that don't
+pub filter-passing : (p : Rev → Bool) (rs : List Rev) → AreInVersionOrder rs → filter (λ r. not (holds (filter p rs) r.version)) rs ≡ filter (λ r. not (p r)) rs
+filter-passing p rs rising = filter-along (λ r. not (holds (filter p rs) r.version)) (λ r. not (p r)) rs (passing p rs rising)
 
 -- ---- a search by version
 
@@ -277,3 +263,13 @@ filter-reached_more passes vs reached item i =
 pub found_is_there : (rs : List Rev) (v : Name) (place : ℕ) → IsFoundAt version_of v rs place → revision_of rs v ≡ None → ⊥
 found_is_there [] v place found none = let within = found.within in omega arith
 found_is_there (r ∷ rs) v place found none = let some = slice_get-get_or (r ∷ rs) place r found.within in cc (some, found.is, none)
+
+is_some-slice_get : (rs : List Rev) (i : ℕ) → i < length rs → is_some (slice_get rs i) ≡ true
+is_some-slice_get [] i within = absurd (omega arith)
+is_some-slice_get (r ∷ rs) zero within = refl
+is_some-slice_get (r ∷ rs) (suc i) within = is_some-slice_get rs i (omega arith)
+
+-- a search by version finds what is there
+pub found_holds : (rs : List Rev) (v : Name) (found : Result ℕ ℕ) → IfOk found (IsFoundAt version_of v rs) → IfErr found (IsGapFor version_of v rs) → is_ok found ≡ holds rs v
+found_holds rs v (Ok i) there absent = sym (is_some-slice_get rs i there.within) ∙ sym (ap is_some there.is)
+found_holds rs v (Err i) there absent = sym (ap is_some absent.none)

@@ -1,6 +1,7 @@
 pub mod Revisions
 pub mod Leaving
 pub mod Unheld
+pub mod FragmentIndex
 pub mod Index
 pub mod Shelf
 pub mod Holdings

@@ -1,5 +1,5 @@
 -- worked rows: what the definitions give for small values
-use Rattle.std.specs.Prelude.{◌≡◌, ℕ, Bool, true, false, List, [], ◌∷◌, map, filter, Some, None, refl}
+use Rattle.std.specs.Prelude.{◌≡◌, ℕ, Bool, true, false, List, [], ◌∷◌, not, map, filter, Option, Some, None, refl}
 use Rattle.std.proofs.Common.{◌⊎◌, inl, inr, true≢false, sym}
 use Rattle.std.specs.List.Sorted.{IsStrictlySortedBy}
 use Rattle.mr_version.specs.Name.{Name, name_eq}
@@ -13,6 +13,7 @@ use Rattle.mr_store.specs.declared.store.Part.TheVariants.{Heads, PushOuts}
 use Rattle.mr_store.specs.Revisions.{versions_of, supersedes, left_by, has_conflict, holds, AreConflicts}
 use Rattle.mr_store.specs.Leaving.{leaves}
 use Rattle.mr_store.specs.Unheld.{is_unheld}
+use Rattle.mr_store.specs.FragmentIndex.{listing_at, listings_from, general_from, has_at}
 use Rattle.mr_store.specs.Index.{version_inserted, are_several}
 use Rattle.mr_store.specs.Holdings.{Holdings, room_in, with_room, put_in}
 use Rattle.mr_store.specs.HeldVersions.{by_held}
@@ -89,6 +90,10 @@ first_two = record { items = All; vector = upto 0 2 ∷ [] }
 pub which_are_unheld : map (is_unheld (first_two ∷ []) ((upto 1 1 ∷ []) ∷ (upto 0 1 ∷ []) ∷ []) (name 0 1)) (name 0 1 ∷ name 0 2 ∷ name 0 3 ∷ []) ≡ false ∷ true ∷ false ∷ []
 which_are_unheld = refl
 
+-- heads leave by their versions, whatever else the list has: 2.1 is no head
+pub left_by_versions : filter (λ r. not (holds (rev (name 0 3) (name 0 3) [] ∷ rev (name 2 1) (name 2 1) [] ∷ []) r.version)) three ≡ rev (name 0 1) (name 0 2) (upto 0 1 ∷ []) ∷ rev (name 0 1) (name 1 1) (upto 0 1 ∷ []) ∷ []
+left_by_versions = refl
+
 -- where nothing is covered nothing leaves, though no vector has it
 pub none_unheld : is_unheld [] [] (name 0 1) (name 0 1) ≡ false
 none_unheld = refl
@@ -133,6 +138,24 @@ by_a_push_out = refl
 -- a version that is not held has not even itself
 pub by_none : by_held store (name 0 1) (name 0 1) ≡ false
 by_none = refl
+
+-- ---- fragments found by item
+
+-- the fragments' items: of all items, of two items, and of one of these
+abbrev told : List (Option (List Name))
+told = None ∷ Some (name 0 1 ∷ name 0 2 ∷ []) ∷ Some (name 0 1 ∷ []) ∷ []
+
+-- a fragment of all items has a place, and no listing
+pub places_of_general : general_from 0 told ≡ 0 ∷ []
+places_of_general = refl
+
+-- each item that is listed has a listing, at the fragment's place
+pub listings_of_told : listings_from 0 told ≡ listing_at 1 (name 0 1) ∷ listing_at 1 (name 0 2) ∷ listing_at 2 (name 0 1) ∷ []
+listings_of_told = refl
+
+-- the fragment at a place is asked for its vector alone, and behind the last one there is none
+pub which_have_it : map (has_at (first_two ∷ record { items = All; vector = upto 1 3 ∷ [] } ∷ []) (name 1 2)) (0 ∷ 1 ∷ 2 ∷ []) ≡ false ∷ true ∷ false ∷ []
+which_have_it = refl
 
 -- ---- the index
 

@@ -1,20 +1,11 @@
 -- what a full source covers and did not hold
 use Rattle.std.specs.Prelude.{not, ◌&&◌, List}
-use Rattle.std.specs.List.Sorted.{IsStrictlySortedBy}
-use Rattle.mr_version.specs.Name.{name_cmp}
-use Rattle.mr_forms.specs.declared.fragment.ItemSet.{ItemSet}
-use Rattle.mr_forms.specs.declared.fragment.ItemSet.TheVariants.{All, Listed}
 use Rattle.mr_forms.specs.Known.{Pairs}
 use Rattle.mr_forms.specs.Covered.{all_covered}
 use Rattle.mr_concise.specs.AnyOf.{in_any}
 use Rattle.mr_concise.specs.Fragments.{ConciseFragment}
 use Rattle.mr_concise.specs.declared.vector.AuthorColumn.{AuthorColumn}
 use Rattle.mr_concise.specs.Vector.{vector_has}
-
--- where items are listed, each stands before the next
-abbrev pub ListsInOrder : ItemSet → Type 0
-ListsInOrder All = Unit {0}
-ListsInOrder (Listed items) = IsStrictlySortedBy name_cmp items.items
 
 -- the versions of items that the fragments cover and that no vector has
 abbrev pub is_unheld : (learned : List ConciseFragment) → (held : List (List AuthorColumn)) → Pairs

@@ -1,18 +1,17 @@
 //! The index of a list of revisions: the versions of each item.
-ghost use Rattle.std.specs.Prelude.{◌≡◌, ◌<◌, ◌≤◌, IsSome, if◌then◌else◌, Some, IfOk, OnOk, All, not, filter, length, take_while, vec_len, vec_capacity};
+ghost use Rattle.std.specs.Prelude.{◌≡◌, ◌<◌, ◌≤◌, IsSome, if◌then◌else◌, Some, IfOk, OnOk, not, filter, length, take_while, vec_len, vec_capacity};
 ghost use Rattle.std.specs.BTreeMap.{get};
 ghost use Rattle.std.specs.List.Sorted.{IsStrictlySortedBy};
 ghost use Rattle.mr_version.specs.Name.{Name, name_cmp, name_eq};
 ghost use Rattle.mr_forms.specs.Sets.{is_listed};
 ghost use Rattle.mr_madewith.specs.Keyed.{is_before};
 ghost use Rattle.mr_store.specs.Leaving.{leaves};
-ghost use Rattle.mr_store.specs.Unheld.{ListsInOrder, is_unheld};
-ghost use Rattle.mr_store.specs.Index.{IsIndexOf, listed_for, HasRoomFor, version_inserted, are_several};
+ghost use Rattle.mr_store.specs.Revisions.{AreInVersionOrder, holds};
+ghost use Rattle.mr_store.specs.Index.{listed_for, HasRoomFor, version_inserted, are_several};
 
+use crate::by_version::has_version;
 use crate::leaving::leaves;
-use crate::unheld::is_unheld;
 use mr_concise::ConciseVector;
-use mr_forms::Fragment;
 use mr_madewith::Revision;
 use mr_version::{ItemId, Version};
 use std::alloc::{AllocError, Global};
@@ -118,52 +117,27 @@ pub fn unlist(
     }
 }
 
-/// Lists no version of the revisions' items that the fragments cover and that no vector has.
-pub fn unlist_unheld(
-    index: &mut BTreeMap<ItemId, Vec<Version>>,
-    revisions: &[Revision],
-    learned: &[Fragment<ConciseVector>],
-    held: &[ConciseVector],
-)
-    requires in_order { All (λ fragment. ListsInOrder fragment.items) learned.now }
-    requires indexed { IsIndexOf revisions.now index.old }
-    ensures indexed { IsIndexOf (filter (λ r. not (is_unheld learned.now held.now r.item r.version)) revisions.now) index.new }
+/// Lists no version that one of these revisions is of, which stand in version order. It costs a binary
+/// search among these for each listed version.
+pub fn unlist_versions(index: &mut BTreeMap<ItemId, Vec<Version>>, left: &[Revision])
+    requires { AreInVersionOrder left.now }
+    ensures others { (i : Name) → listed_for index.new i ≡ filter (λ v. not (holds left.now v)) (listed_for index.old i) }
     ensures room { (i : Name) → HasRoomFor (Some i) index.old → HasRoomFor (Some i) index.new }
 {
-    for revision in revisions {
-        unlist_unheld_of(index, revision.item(), learned, held);
-    }
+    index.retain(|_, versions| {
+        retain_absent(versions, left);
+        true
+    });
 }
 
-// Lists no version of the item that the fragments cover and that no vector has.
-fn unlist_unheld_of(
-    index: &mut BTreeMap<ItemId, Vec<Version>>,
-    item: ItemId,
-    learned: &[Fragment<ConciseVector>],
-    held: &[ConciseVector],
-)
-    requires { All (λ fragment. ListsInOrder fragment.items) learned.now }
-    ensures others { (i : Name) → listed_for index.new i ≡ (if name_eq item i then filter (λ v. not (is_unheld learned.now held.now item v)) (listed_for index.old i) else listed_for index.old i) }
-    ensures room { (i : Name) → HasRoomFor (Some i) index.old → HasRoomFor (Some i) index.new }
-{
-    if let Some(versions) = index.get_mut(&item) {
-        retain_held(versions, item, learned, held);
-    }
-}
-
-// Keeps the versions that the fragments do not cover for the item, or that a vector has.
-fn retain_held(
-    versions: &mut Vec<Version>,
-    item: ItemId,
-    learned: &[Fragment<ConciseVector>],
-    held: &[ConciseVector],
-)
-    requires { All (λ fragment. ListsInOrder fragment.items) learned.now }
-    ensures others { versions.new.items ≡ filter (λ v. not (is_unheld learned.now held.now item v)) versions.old.items }
+// Keeps the versions that none of these revisions is of, which stand in version order.
+fn retain_absent(versions: &mut Vec<Version>, left: &[Revision])
+    requires { AreInVersionOrder left.now }
+    ensures others { versions.new.items ≡ filter (λ v. not (holds left.now v)) versions.old.items }
     ensures fewer { vec_len versions.new ≤ vec_len versions.old }
     ensures capacity { vec_capacity versions.new ≡ vec_capacity versions.old }
 {
-    versions.retain(|version| !is_unheld(learned, held, item, *version));
+    versions.retain(|version| !has_version(left, *version));
 }
 
 // Puts a version at its place, where there is room.

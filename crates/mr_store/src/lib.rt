@@ -10,6 +10,9 @@
 //! them moves 400,000 bytes. Two versions of an item may be held beside one another, also where one
 //! supersedes the other: a stranger's late version may enter after what superseded it.
 //!
+//! What fragments of knowledge cover for an item is looked up in a [`FragmentIndex`], which does not look
+//! at the fragments of other items.
+//!
 //! ```
 //! store.reserve(Part::Heads, revision.item())?;
 //! store.put(Part::Heads, revision);
@@ -17,6 +20,8 @@
 //! ```
 #![tactic(auto)]
 
+mod by_version;
+mod fragment_index;
 mod held_versions;
 mod index;
 mod leaving;
@@ -24,5 +29,6 @@ mod shelf;
 mod store;
 mod unheld;
 
+pub use fragment_index::FragmentIndex;
 pub use held_versions::HeldVersions;
 pub use store::{Part, Store};

@@ -1,17 +1,18 @@
 //! One list of a store: revisions in version order, and an index of them by item.
-ghost use Rattle.std.specs.Prelude.{◌≡◌, ◌<◌, ◌≤◌, ◌&&◌, if◌then◌else◌, not, [], Some, None, IfOk, IfErr, OnOk, OnErr, All, filter, vec_len, vec_capacity};
+ghost use Rattle.std.specs.Prelude.{◌≡◌, ◌<◌, ◌≤◌, ◌&&◌, if◌then◌else◌, not, [], Some, None, IfOk, OnOk, OnErr, filter, vec_len, vec_capacity};
 ghost use Rattle.std.specs.List.{list_any};
 ghost use Rattle.std.specs.Option.{option_copied};
 ghost use Rattle.mr_forms.specs.Sets.{is_listed};
 ghost use Rattle.mr_concise.specs.Vector.{vector_has};
 ghost use Rattle.mr_madewith.specs.Keyed.{without};
-ghost use Rattle.mr_madewith.specs.Search.{IsFoundAt, IsGapFor};
 ghost use Rattle.mr_store.specs.Leaving.{leaves};
-ghost use Rattle.mr_store.specs.Revisions.{AreInVersionOrder, version_of, revision_of, entered, versions_of, supersedes, left_by, AreConflicts};
-ghost use Rattle.mr_store.specs.Unheld.{ListsInOrder, is_unheld};
+ghost use Rattle.mr_store.specs.Revisions.{AreInVersionOrder, version_of, revision_of, holds, entered, versions_of, supersedes, left_by, AreConflicts};
+ghost use Rattle.mr_store.specs.Unheld.{is_unheld};
 
+use crate::FragmentIndex;
+use crate::by_version::{has_version, search};
 use crate::index::{
-    copied, items_with_several, list, listed_for, make_room, unlist, unlist_unheld,
+    copied, items_with_several, list, listed_for, make_room, unlist, unlist_versions,
 };
 use crate::leaving::{leaves, some_leave};
 use crate::unheld::is_unheld;
@@ -44,15 +45,6 @@ impl Model for Shelf {
     ghost view = { λ s. record { revisions = s.revisions.items; room = s.room } };
 
     ghost invariant = { λ s. IsShelf s.revisions s.index s.room };
-}
-
-// Where the revision of the version is, or where it would go.
-fn search(revisions: &[Revision], version: Version) -> Result<usize, usize>
-    requires { AreInVersionOrder revisions.now }
-    ensures found { IfOk result (IsFoundAt version_of version revisions.now) }
-    ensures absent { IfErr result (IsGapFor version_of version revisions.now) }
-{
-    revisions.binary_search_by_key(&version, |revision| revision.version())
 }
 
 impl Shelf {
@@ -137,18 +129,18 @@ impl Shelf {
     }
 
     /// The revisions that these fragments cover and that no vector has, in version order. It costs
-    /// the test of each revision.
+    /// a sort of the items that the fragments list, and the test of each revision.
     pub fn unheld(
         &self,
         learned: &[Fragment<ConciseVector>],
         held: &[ConciseVector],
     ) -> Result<Vec<Revision>, AllocError>
-        requires { All (λ fragment. ListsInOrder fragment.items) learned.now }
         ensures { IfOk result (λ left. left.items ≡ filter (λ r. is_unheld learned.now held.now r.item r.version) self.now.revisions) }
     {
+        let index = FragmentIndex::new(self.alloc, learned)?;
         let mut left = Vec::new(self.alloc);
         for revision in &self.revisions {
-            if is_unheld(learned, held, revision.item(), revision.version()) {
+            if is_unheld(&index, learned, held, revision.item(), revision.version()) {
                 left.push(revision.copy()?)?;
             }
         }
@@ -192,14 +184,14 @@ impl Shelf {
         unlist(&mut self.index, item, ones, below);
     }
 
-    /// The revisions leave that these fragments cover and that no vector has. It costs the test of each
-    /// revision, and for each a look-up and the test of every one of its item; and one shift.
-    pub fn remove_unheld(&mut self, learned: &[Fragment<ConciseVector>], held: &[ConciseVector])
-        requires { All (λ fragment. ListsInOrder fragment.items) learned.now }
-        ensures { self.new ≡ record { revisions = filter (λ r. not (is_unheld learned.now held.now r.item r.version)) self.old.revisions; room = self.old.room } }
+    /// The revisions leave that are of the version of one of these, which stand in version order. It costs a
+    /// binary search among these for each revision, and one shift.
+    pub fn remove_versions(&mut self, left: &[Revision])
+        requires { AreInVersionOrder left.now }
+        ensures { self.new ≡ record { revisions = filter (λ r. not (holds left.now r.version)) self.old.revisions; room = self.old.room } }
     {
-        unlist_unheld(&mut self.index, &self.revisions, learned, held);
-        retain_held(&mut self.revisions, learned, held);
+        unlist_versions(&mut self.index, left);
+        retain_others(&mut self.revisions, left);
     }
 
     /// An equal list, which shares the revisions' parts. It costs a handle for each, and the index. It has
@@ -249,18 +241,14 @@ fn remove_listed(
     }
 }
 
-// Takes out those that the fragments cover and that no vector has.
-fn retain_held(
-    revisions: &mut Vec<Revision>,
-    learned: &[Fragment<ConciseVector>],
-    held: &[ConciseVector],
-)
-    requires { All (λ fragment. ListsInOrder fragment.items) learned.now }
-    ensures items { revisions.new.items ≡ filter (λ r. not (is_unheld learned.now held.now r.item r.version)) revisions.old.items }
+// Keeps those that are of the version of none of these, which stand in version order.
+fn retain_others(revisions: &mut Vec<Revision>, left: &[Revision])
+    requires { AreInVersionOrder left.now }
+    ensures items { revisions.new.items ≡ filter (λ r. not (holds left.now r.version)) revisions.old.items }
     ensures fewer { vec_len revisions.new ≤ vec_len revisions.old }
     ensures capacity { vec_capacity revisions.new ≡ vec_capacity revisions.old }
 {
-    revisions.retain(|revision| !is_unheld(learned, held, revision.item(), revision.version()));
+    revisions.retain(|revision| !has_version(left, revision.version()));
 }
 
 // Puts a revision at its place, where there is room.

@@ -1,11 +1,11 @@
 //! The store: heads and push-outs.
-ghost use Rattle.std.specs.Prelude.{◌≡◌, ◌++◌, not, [], ◌∷◌, None, IfOk, OnOk, OnErr, All, filter};
+ghost use Rattle.std.specs.Prelude.{◌≡◌, ◌++◌, not, [], ◌∷◌, None, IfOk, OnOk, OnErr, filter};
 ghost use Rattle.std.specs.List.{list_any};
 ghost use Rattle.std.specs.Option.{option_copied};
 ghost use Rattle.mr_concise.specs.Vector.{vector_has};
 ghost use Rattle.mr_store.specs.Leaving.{leaves};
-ghost use Rattle.mr_store.specs.Revisions.{AreInVersionOrder, AreApart, revision_of, versions_of, supersedes, left_by, AreConflicts};
-ghost use Rattle.mr_store.specs.Unheld.{ListsInOrder, is_unheld};
+ghost use Rattle.mr_store.specs.Revisions.{AreInVersionOrder, AreApart, revision_of, holds, versions_of, supersedes, left_by, AreConflicts};
+ghost use Rattle.mr_store.specs.Unheld.{is_unheld};
 
 use crate::shelf::Shelf;
 use mr_concise::ConciseVector;
@@ -127,14 +127,15 @@ impl Store {
         self.heads.superseded(item, below)
     }
 
-    /// The heads that these fragments cover and that no vector has, in version order. It costs the
-    /// test of each head: a binary search among the items of each fragment and in each vector.
+    /// The heads that these fragments cover and that no vector has, in version order. It costs a sort of
+    /// the items that the fragments list, and the test of each head: two binary searches in each vector; and
+    /// where none has it, two among all those items, and two in the vector of each fragment that is of the
+    /// head's item.
     pub fn unheld(
         &self,
         learned: &[Fragment<ConciseVector>],
         held: &[ConciseVector],
     ) -> Result<Vec<Revision>, AllocError>
-        requires { All (λ fragment. ListsInOrder fragment.items) learned.now }
         ensures { IfOk result (λ left. left.items ≡ filter (λ r. is_unheld learned.now held.now r.item r.version) self.now.heads) }
     {
         self.heads.unheld(learned, held)
@@ -192,14 +193,13 @@ impl Store {
         Ok(left)
     }
 
-    /// The heads that these fragments cover and that no vector has leave; push-outs stay. It can't
-    /// fail. It costs the test of each head, and for each head a look-up and the test of every head of
-    /// its item; and one shift.
-    pub fn remove_unheld(&mut self, learned: &[Fragment<ConciseVector>], held: &[ConciseVector])
-        requires { All (λ fragment. ListsInOrder fragment.items) learned.now }
-        ensures { self.new ≡ record self.old { heads = filter (λ r. not (is_unheld learned.now held.now r.item r.version)) self.old.heads } }
+    /// The heads leave that are of the version of one of these revisions, which stand in version order;
+    /// push-outs stay. It can't fail. It costs a binary search among these for each head, and one shift.
+    pub fn remove_heads(&mut self, left: &[Revision])
+        requires { AreInVersionOrder left.now }
+        ensures { self.new ≡ record self.old { heads = filter (λ r. not (holds left.now r.version)) self.old.heads } }
     {
-        self.heads.remove_unheld(learned, held);
+        self.heads.remove_versions(left);
     }
 
     /// The heads that these fragments cover and that no vector has leave; push-outs stay. Those that
@@ -209,13 +209,14 @@ impl Store {
         learned: &[Fragment<ConciseVector>],
         held: &[ConciseVector],
     ) -> Result<Vec<Revision>, AllocError>
-        requires { All (λ fragment. ListsInOrder fragment.items) learned.now }
         ensures left { IfOk result (λ left. left.items ≡ filter (λ r. is_unheld learned.now held.now r.item r.version) self.old.heads) }
         ensures ok { OnOk result (self.new ≡ record self.old { heads = filter (λ r. not (is_unheld learned.now held.now r.item r.version)) self.old.heads }) }
         ensures err { OnErr result (self.new ≡ self.old) }
     {
         let left = self.unheld(learned, held)?;
-        self.remove_unheld(learned, held);
+        // the heads stand in version order
+        let _heads = self.heads();
+        self.remove_heads(&left);
         Ok(left)
     }
 

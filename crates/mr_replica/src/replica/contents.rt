@@ -1,10 +1,9 @@
 //! What a replica holds and tells.
-ghost use Rattle.std.specs.Prelude.{◌≡◌, ◌<◌, ◌≤◌, ◌+◌, ◌++◌, ◌∷◌, [], not, filter, None, All, IfOk, IfSome, OnOk, length, map, vec_len};
+ghost use Rattle.std.specs.Prelude.{◌≡◌, ◌<◌, ◌≤◌, ◌+◌, ◌++◌, ◌∷◌, [], not, filter, None, IfOk, IfSome, OnOk, length, map, vec_len};
 ghost use Rattle.mr_madewith.specs.Revision.{Rev, has_below};
 ghost use Rattle.mr_madewith.specs.Trail.{noted};
 ghost use Rattle.mr_concise.specs.Vector.{vector_has};
-ghost use Rattle.mr_store.specs.Revisions.{revision_of, left_by, supersedes};
-ghost use Rattle.mr_store.specs.Unheld.{ListsInOrder, is_unheld};
+ghost use Rattle.mr_store.specs.Revisions.{AreInVersionOrder, revision_of, holds, left_by, supersedes};
 ghost use Rattle.mr_replica.specs.Issue.{dropped, added, entered_if};
 ghost use Rattle.mr_replica.specs.Contents.{part_for, HasPlace};
 ghost use Rattle.mr_replica.specs.Receive.{arrived, arrival_alone};
@@ -13,7 +12,6 @@ ghost use Rattle.mr_replica.specs.Release.{vouched};
 use crate::Event;
 use mr_concise::ConciseVector;
 use mr_feed::{Entry, Feed};
-use mr_forms::Fragment;
 use mr_madewith::{Revision, Trail};
 use mr_store::{Part, Store};
 use mr_version::ItemId;
@@ -263,23 +261,18 @@ impl Contents {
         tell(&mut self.feed, entries);
     }
 
-    /// What these fragments cover and no vector has leaves the heads.
-    pub fn drop_unheld(
-        &mut self,
-        learned: &[Fragment<ConciseVector>],
-        held: &[ConciseVector],
-        entries: Vec<Entry>,
-    )
-        requires in_order { All (λ fragment. ListsInOrder fragment.items) learned.now }
+    /// The heads leave that are of the version of one of these revisions, which stand in version order.
+    pub fn drop_heads(&mut self, left: Vec<Revision>, entries: Vec<Entry>)
+        requires in_order { AreInVersionOrder left.items }
         requires room { vec_len entries ≤ self.old.feed.room }
-        ensures heads { self.new.store.heads ≡ filter (λ r. not (is_unheld learned.now held.now r.item r.version)) self.old.store.heads }
+        ensures heads { self.new.store.heads ≡ filter (λ r. not (holds left.items r.version)) self.old.store.heads }
         ensures push_outs { self.new.store.push_outs ≡ self.old.store.push_outs }
         ensures trail { self.new.trail.lasts ≡ self.old.trail.lasts }
         ensures feed { self.new.feed.entries ≡ self.old.feed.entries ++ entries.items }
         ensures log { self.new.log ≡ self.old.log }
         ensures log_room { self.new.log_room ≡ self.old.log_room }
     {
-        self.store.remove_unheld(learned, held);
+        self.store.remove_heads(&left);
         tell(&mut self.feed, entries);
     }
 

@@ -1,7 +1,6 @@
 //! Taking the End of a stream.
 ghost use Rattle.std.specs.Prelude.{◌≡◌, None, true, map, filter, All, IfSome, OnOk, OnErr, IfOk, IfErr, Ok};
 ghost use Rattle.std.specs.Fn.{FnOnceReturnsAt};
-ghost use Rattle.mr_store.specs.Unheld.{ListsInOrder};
 ghost use Rattle.mr_wire.specs.Values.{piece_of};
 ghost use Rattle.mr_wire.specs.Frames.{IsSent};
 ghost use Rattle.mr_session.specs.Stream.{is_end, claimed};
@@ -16,15 +15,17 @@ use crate::{Event, Refusal, Reply};
 use mr_concise::ConciseVector;
 use mr_feed::Entry;
 use mr_forms::{FormFault, Fragment, Knowledge};
+use mr_madewith::Revision;
 use mr_session::Incoming;
 use mr_wire::{Frame, Record};
 use std::alloc::AllocError;
 
-// What the End of a full session changes: what is known with its fragments, and the entries of what leaves the
-// heads.
+// What the End of a full session changes: what is known with its fragments, what leaves the heads, and the
+// entries of that.
 #[derive(Drop)]
 struct Ended<K: Knowledge> {
     knowledge: K,
+    left: Vec<Revision>,
     entries: Vec<Entry>,
 }
 
@@ -73,6 +74,7 @@ impl<K: Knowledge> Replica<K> {
         requires taken { record_refusal self.old sent ≡ None }
         requires kept { IsSent sent.header sent.body }
         requires knowledge { IfSome (session_for self.old sent) (λ session. AreSame (K.form.known ended.knowledge) (with_pairs (K.form.known self.old.knowledge) (claimed session.know))) }
+        requires left { IfSome (session_for self.old sent) (λ session. ended.left.items ≡ filter (is_unheld session) self.old.heads) }
         requires entries { IfSome (session_for self.old sent) (λ session. ended.entries.items ≡ map dropped (filter (is_unheld session) self.old.heads)) }
         requires callable { F.IsAlwaysCallable before }
         ensures reply { IfOk (answer_of result) (λ reply. reply ≡ Reply.Finished) }
@@ -125,6 +127,7 @@ impl<K: Knowledge> Replica<K> {
     fn ended(&self, session: &Incoming) -> Result<Ended<K>, Refusal>
         ensures fits { OnOk result (All (Fits K.form) (merged_by (K.form.known self.now.knowledge) session.now.know)) }
         ensures knowledge { IfOk result (λ ended. AreSame (K.form.known ended.knowledge) (with_pairs (K.form.known self.now.knowledge) (claimed session.now.know))) }
+        ensures left { IfOk result (λ ended. ended.left.items ≡ filter (is_unheld session.now) self.now.heads) }
         ensures entries { IfOk result (λ ended. ended.entries.items ≡ map dropped (filter (is_unheld session.now) self.now.heads)) }
         ensures refused { IfErr result (RefusesEnding K.form (merged_by (K.form.known self.now.knowledge) session.now.know)) }
     {
@@ -134,7 +137,11 @@ impl<K: Knowledge> Replica<K> {
             .store()
             .unheld(session.know(), session.held())?;
         let entries = entries_of_left(self.alloc, &left)?;
-        Ok(Ended { knowledge, entries })
+        Ok(Ended {
+            knowledge,
+            left,
+            entries,
+        })
     }
 
     // The session takes the End, which changes this.
@@ -142,16 +149,16 @@ impl<K: Knowledge> Replica<K> {
         requires taken { record_refusal self.old sent ≡ None }
         requires kept { IsSent sent.header sent.body }
         requires knowledge { IfSome (session_for self.old sent) (λ session. AreSame (K.form.known ended.knowledge) (with_pairs (K.form.known self.old.knowledge) (claimed session.know))) }
+        requires left { IfSome (session_for self.old sent) (λ session. ended.left.items ≡ filter (is_unheld session) self.old.heads) }
         requires entries { IfSome (session_for self.old sent) (λ session. ended.entries.items ≡ map dropped (filter (is_unheld session) self.old.heads)) }
         ensures ok { OnOk result (IfSome (session_for self.old sent) (λ session. Ends K.form self.old sent session true self.new)) }
         ensures err { OnErr result (self.new ≡ self.old) }
         ensures memory { IfErr result (λ e. e ≡ OutOfMemory) }
     {
         self.contents.reserve_taken(&None, ended.entries.len())?;
-        let session = self.sessions.close(sent.header().session);
+        self.sessions.close(sent.header().session);
         self.knowledge = ended.knowledge;
-        self.contents
-            .drop_unheld(session.know(), session.held(), ended.entries);
+        self.contents.drop_heads(ended.left, ended.entries);
         self.contents
             .note_event(Event::Receive(Frame::Record(sent)));
         Ok(())

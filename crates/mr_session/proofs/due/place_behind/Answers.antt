@@ -4,7 +4,7 @@ use Rattle.std.proofs.lemmas.List.Sorted.{IsPartitionPoint-from_clause}
 use Rattle.mr_version.specs.Name.{name_cmp}
 use Rattle.mr_madewith.proofs.Rising.{sorted_by_name}
 use Rattle.mr_store.specs.Revisions.{version_of}
-use Rattle.mr_session.proofs.OrderLemmas.{parted_up_to}
+use Rattle.mr_store.proofs.OrderLemmas.{parted_up_to}
 use Rattle.mr_session.proofs.due.place_behind.Goals as goal
 
 pub returns-clause-place : goal.returns-clause-place

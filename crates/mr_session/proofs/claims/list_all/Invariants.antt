@@ -1,6 +1,0 @@
-use Rattle.std.proofs.Common.{◌≡◌, ◌++◌, map, take}
-use Rattle.mr_session.specs.Claims.{listing_at}
-use Rattle.mr_session.proofs.claims.list_all.Given as goal
-
-abbrev pub invariant-loop-item : goal.invariant-loop-item
-invariant-loop-item l = l.listings.items ≡ l.initial.listings.items ++ map (listing_at l.place) (take l.item-index l.items)

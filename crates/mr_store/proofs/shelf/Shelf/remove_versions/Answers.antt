@@ -1,0 +1,22 @@
+use Rattle.std.proofs.Common.{not, sym, ◌∙◌, ap, List, arith}
+use Rattle.std.specs.List.{filter}
+use Rattle.mr_version.specs.Name.{Name}
+use Rattle.mr_madewith.proofs.Rising.{rises-filter}
+use Rattle.mr_store.specs.Revisions.{version_of, holds}
+use Rattle.mr_store.proofs.RevisionLemmas.{versions_of-filter}
+use Rattle.mr_store.proofs.IndexLemmas.{room-kept}
+use Rattle.mr_store.proofs.shelf.Shelf.remove_versions.Goals as goal
+
+pub invariant_of-self : goal.invariant_of-self
+invariant_of-self c =
+    let left = c.args.left.now in
+    let old = c.self.inside.revisions.items in
+    record {
+      in_order = rw c.retain_others.ensures.items (rises-filter version_of (λ r. not (holds left r.version)) old c.self.invariant.in_order);
+      indexed = λ i. rw c.retain_others.ensures.items
+          (c.unlist_versions.ensures.others i
+          ∙ (ap (λ (vs : List Name). filter (λ v. not (holds left v)) vs) (c.self.invariant.indexed i)
+          ∙ sym (versions_of-filter (holds left) i old)));
+      has_place = λ h. omega (arith, c.retain_others.ensures.fewer, c.retain_others.ensures.capacity, c.self.invariant.has_place h);
+      has_room = room-kept c.self.inside.index c.unlist_versions.new.index c.self.inside.room c.unlist_versions.ensures.room c.self.invariant.has_room;
+    }
