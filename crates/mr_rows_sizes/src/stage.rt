@@ -3,9 +3,8 @@ use anyhow::Result;
 use mr_filter::Filter;
 use mr_forms::Knowledge;
 use mr_version::Author;
-use mr_world::{Answer, Event, Spec, Stopped, World};
+use mr_world::{Answer, Event, Spec, World};
 use std::alloc::Global;
-use std::mem;
 
 /// The most events that a replica admits.
 const EVENT_LIMIT: u32 = 1_000_000;
@@ -59,7 +58,7 @@ impl<K: Knowledge> Stage<K> {
 
     /// The answer to the newest event, where there is one.
     pub fn newest(&self) -> Option<&Answer> {
-        match self.world.answers().last() {
+        match self.world.newest() {
             Some(answered) => Some(&answered.answer),
             None => None,
         }
@@ -67,18 +66,7 @@ impl<K: Knowledge> Stage<K> {
 
     /// Lets the event happen. It fails where there is no memory, or no such frame.
     pub fn happen(&mut self, event: Event) -> Result<()> {
-        let events = vec![in self.alloc; event]?;
-        let empty = World::try_new(self.alloc, Vec::new(self.alloc))?;
-        match mem::replace(&mut self.world, empty).run(events) {
-            Ok(after) => {
-                self.world = after;
-                Ok(())
-            }
-            Err(Stopped { world, fault, .. }) => {
-                self.world = world;
-                Err(fault.into())
-            }
-        }
+        Ok(self.world.happen(event)?)
     }
 }
 

@@ -1,11 +1,11 @@
--- one event of a world, by a run of one, and its answer
+-- one event of a world and its answer
 use Rattle.std.proofs.Common.{◌≡◌, ◌+◌, ◌-◌, ℕ, List, [], ◌∷◌, ◌++◌, length, Option, Some, None, IsSome, IsSomeAnd, Result, inl, inr, refl, ap, sym, subst, arith, length-append}
 use Rattle.std.specs.Prelude.{slice_get}
 use Rattle.std.proofs.Math.Seq.{get_or-append_seam}
 use Rattle.std.proofs.lemmas.Option.{slice_get_read}
 use Rattle.mr_forms.specs.Known.{Form}
 use Rattle.mr_world.specs.Kept.{WorldView}
-use Rattle.mr_world.specs.Run.{Happens, Leads, StopsAt, IsStopFault, answered}
+use Rattle.mr_world.specs.Run.{Happens, IsStopFault, answered}
 use Rattle.mr_world.specs.declared.answer.Answer.{Answer}
 use Rattle.mr_world.specs.declared.event.Event.{Event}
 use Rattle.mr_world.specs.declared.fault.WorldFault.{WorldFault}
@@ -29,24 +29,9 @@ module _ {K : Type 0} (form : Form K) where
   pub newest_is : (w w' : WorldView K) (e : Event) (answer : Answer) → Happens form w e answer w' → newest w' ≡ Some answer
   newest_is w w' e answer h = rw (h.answers, last_of_more w.answers (answered e answer)) refl
 
-  -- a run of one event is that event
-  pub led_noted : (w w' : WorldView K) (e : Event) → Leads form w (e ∷ []) w' → IsSomeAnd (newest w') (λ answer. Happens form w e answer w')
-  led_noted w w' e h =
-      let one : Happens form w e h.1 w' = subst (λ (v : WorldView K). Happens form w e h.1 v) (sym h.3) h.2 in
-      rw (newest_is w w' e h.1 one) one
-
-  at_first : (w w' : WorldView K) (e event : Event) (before left : List Event) (fault : WorldFault) → e ∷ [] ≡ before ++ event ∷ left → Leads form w before w' → IsStopFault w' event fault → IsStopFault w e fault × (w' ≡ w)
-  at_first w w' e event [] left fault all leads faulty =
-      let same : event ≡ e = cc in
-      (subst (λ (v : WorldView K). IsStopFault v e fault) leads (subst (λ (x : Event). IsStopFault w' x fault) same faulty), leads)
-  at_first w w' e event (b ∷ before) left fault all leads faulty =
-      let none : length (e ∷ []) ≡ length ((b ∷ before) ++ event ∷ left) = ap (λ (xs : List Event). length xs) all in
-      let count : length ((b ∷ before) ++ event ∷ left) ≡ length (b ∷ before) + length (event ∷ left) = length-append (b ∷ before) (event ∷ left) in
-      absurd (omega (arith, none, count))
-
-  -- a run of one event that stopped did nothing
-  pub stopped_first : (w w' : WorldView K) (e : Event) (at : ℕ) (fault : WorldFault) → StopsAt form w (e ∷ []) at fault w' → IsStopFault w e fault × (w' ≡ w)
-  stopped_first w w' e at fault s = at_first w w' e s.event s.before s.left fault s.all s.leads s.faulty
+  -- an event that was answered is noted
+  pub met_noted : (w w' : WorldView K) (e : Event) → (answer : Answer) × Happens form w e answer w' → IsSomeAnd (newest w') (λ answer. Happens form w e answer w')
+  met_noted w w' e h = rw (newest_is w w' e h.0 h.1) h.1
 
   -- and so says the line's fault
   pub prevented : (w : WorldView K) (e : Event) (fault : WorldFault) → IsStopFault w e fault → Prevents w e (fault_of_stop fault)

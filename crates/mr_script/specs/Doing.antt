@@ -1,8 +1,8 @@
 -- what comes of a command in a world: what it gives or why it can't be done, and the world after it
-use Rattle.std.specs.Prelude.{◌≡◌, ◌-◌, ◌⊎◌, Option, Result, Ok, Err, IsSomeAnd, length, slice_get}
+use Rattle.std.specs.Prelude.{◌≡◌, ◌⊎◌, Option, Result, Ok, Err, IsSomeAnd}
 use Rattle.std.specs.Option.{option_map}
 use Rattle.mr_forms.specs.Known.{Form}
-use Rattle.mr_world.specs.Kept.{WorldView}
+use Rattle.mr_world.specs.Kept.{WorldView, newest_answered}
 use Rattle.mr_world.specs.Run.{Happens, stop_fault}
 use Rattle.mr_world.specs.declared.answer.Answer.{Answer}
 use Rattle.mr_world.specs.declared.event.Event.{Event}
@@ -32,7 +32,7 @@ module _ {K : Type 0} where
 
   -- the newest answer
   abbrev pub newest : WorldView K → Option Answer
-  newest w = option_map (λ x. x.answer) (slice_get w.answers (length w.answers - 1))
+  newest w = option_map (λ x. x.answer) (newest_answered w)
 
   -- why the event can't happen: memory is wanting, or it names what isn't there
   abbrev pub Prevents : WorldView K → Event → LineFault → Type 0

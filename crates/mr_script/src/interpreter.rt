@@ -7,8 +7,8 @@ ghost use Rattle.mr_script.specs.Question.{text_of};
 ghost use Rattle.mr_script.specs.Run.{LineDoes, TextDoes, is_skipped};
 ghost use Rattle.mr_script.specs.Stage.{Adds, Begins, Does, InWorld, Stage.opening, frame_count, happens_told, made_of, replies_told, syncs_told, world_of};
 
-use crate::happening::happen_and_tell;
 use crate::question::reply;
+use crate::single_event::answer_of_event;
 use crate::sync::sync_and_tell;
 use mr_command::{Command, LineFault, Pool, Question, Roster, Sync};
 use mr_forms::Knowledge;
@@ -123,7 +123,7 @@ impl<K: Knowledge> Interpreter<K> {
     {
         match command {
             Command::AddReplica(spec) => self.add_replica(spec),
-            Command::Happen(event) => self.happen(event),
+            Command::Happen(event) => self.answer(event),
             Command::Sync(sync) => self.sync(sync),
             Command::Ask(question) => self.reply(question),
         }
@@ -142,11 +142,11 @@ impl<K: Knowledge> Interpreter<K> {
         }
     }
 
-    fn happen(&mut self, event: Event) -> Result<String, LineFault>
+    fn answer(&mut self, event: Event) -> Result<String, LineFault>
         ensures { InWorld K.form (happens_told K.form event) self.old (text_of result) self.new }
     {
         let mut world = self.take_world()?;
-        let told = happen_and_tell(self.alloc, &mut world, event);
+        let told = answer_of_event(self.alloc, &mut world, event);
         self.stage = Stage::Running(world);
         told
     }

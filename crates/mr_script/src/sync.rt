@@ -5,7 +5,7 @@ ghost use Rattle.mr_script.specs.Stage.{syncs_told};
 ghost use Rattle.mr_script.specs.Sync.{Draws, OpensSession, OpensStream, Takes, Rounds, answers, closes, draws, goes_through, most_of, outcome, pulls, receives, round, streams, syncs, told_by};
 ghost use Rattle.mr_script.specs.Sync.{MayOpenSession, MayOpenStream, MayDraw, MayTake, counts_with};
 
-use crate::happening::{happen, newest};
+use crate::single_event::{let_happen, newest};
 use crate::sync_line::{SyncCounts, SyncEnd, sync_line};
 use mr_command::{LineFault, Sync};
 use mr_forms::Knowledge;
@@ -46,22 +46,18 @@ pub(crate) fn sync_and_tell<K: Knowledge>(
 ) -> Result<String, LineFault>
     ensures { syncs_told K.form sync world.old (text_of result) world.new }
 {
-    match run_sync(alloc, world, &sync) {
+    match run_sync(world, &sync) {
         Ok(Outcome { counts, end }) => Ok(sync_line(alloc, sync, counts, end)?),
         Err(fault) => Err(fault),
     }
 }
 
 /// Opens a session, and goes on with it where it was opened.
-fn run_sync<K: Knowledge>(
-    alloc: Global,
-    world: &mut World<K>,
-    sync: &Sync,
-) -> Result<Outcome, LineFault>
+fn run_sync<K: Knowledge>(world: &mut World<K>, sync: &Sync) -> Result<Outcome, LineFault>
     ensures { syncs K.form sync.now world.old result world.new }
 {
-    match pull(alloc, world, sync)? {
-        Ok(session) => run_session(alloc, world, sync, session),
+    match pull(world, sync)? {
+        Ok(session) => run_session(world, sync, session),
         Err(refusal) => Ok(Outcome::refused(refusal)),
     }
 }
@@ -69,17 +65,16 @@ fn run_sync<K: Knowledge>(
 /// Opens a stream for the session, and goes on with it where it was opened. Where it wasn't, the session
 /// is cut.
 fn run_session<K: Knowledge>(
-    alloc: Global,
     world: &mut World<K>,
     sync: &Sync,
     session: u64,
 ) -> Result<Outcome, LineFault>
     ensures { goes_through K.form sync.now (Ok session) world.old result world.new }
 {
-    match answer(alloc, world, sync)? {
-        Ok(stream) => run_stream(alloc, world, sync, session, stream),
+    match answer(world, sync)? {
+        Ok(stream) => run_stream(world, sync, session, stream),
         Err(refusal) => {
-            happen(alloc, world, Event::CutIn(sync.target, session))?;
+            let_happen(world, Event::CutIn(sync.target, session))?;
             Ok(Outcome::refused(refusal))
         }
     }
@@ -87,7 +82,6 @@ fn run_session<K: Knowledge>(
 
 /// Draws records and has them taken. Both ends are cut unless End was taken.
 fn run_stream<K: Knowledge>(
-    alloc: Global,
     world: &mut World<K>,
     sync: &Sync,
     session: u64,
@@ -95,15 +89,14 @@ fn run_stream<K: Knowledge>(
 ) -> Result<Outcome, LineFault>
     ensures { streams K.form sync.now session (Ok stream) world.old result world.new }
 {
-    match take_records(alloc, world, sync, stream) {
-        Ok(Outcome { counts, end }) => close(alloc, world, sync, session, stream, counts, end),
+    match take_records(world, sync, stream) {
+        Ok(Outcome { counts, end }) => close(world, sync, session, stream, counts, end),
         Err(fault) => Err(fault),
     }
 }
 
 /// Cuts the session and the stream, unless End was taken.
 fn close<K: Knowledge>(
-    alloc: Global,
     world: &mut World<K>,
     sync: &Sync,
     session: u64,
@@ -114,15 +107,14 @@ fn close<K: Knowledge>(
     ensures { closes K.form sync.now session stream counts end world.old result world.new }
 {
     if !matches!(&end, SyncEnd::Finished) {
-        happen(alloc, world, Event::CutIn(sync.target, session))?;
-        happen(alloc, world, Event::CutOut(sync.source, stream))?;
+        let_happen(world, Event::CutIn(sync.target, session))?;
+        let_happen(world, Event::CutOut(sync.source, stream))?;
     }
     Ok(Outcome { counts, end })
 }
 
 /// Draws records and has them taken, up to a round that ends the sync, or to as many as may be taken.
 fn take_records<K: Knowledge>(
-    alloc: Global,
     world: &mut World<K>,
     sync: &Sync,
     stream: u64,
@@ -134,7 +126,7 @@ fn take_records<K: Knowledge>(
         move_outs: 0,
     };
     for _taken in 0..sync.most.unwrap_or(u64::MAX) {
-        match take_record(alloc, world, sync, stream)? {
+        match take_record(world, sync, stream)? {
             Round::Taken(told) => counts = with_counted(counts, told),
             Round::Ended(end) => return Ok(Outcome { counts, end }),
         }
@@ -147,15 +139,14 @@ fn take_records<K: Knowledge>(
 
 /// One round: a record is drawn, and comes to the target.
 fn take_record<K: Knowledge>(
-    alloc: Global,
     world: &mut World<K>,
     sync: &Sync,
     stream: u64,
 ) -> Result<Round, LineFault>
     ensures { round K.form sync.now stream world.old result world.new }
 {
-    match draw(alloc, world, sync, stream)? {
-        Ok(told) => receive(alloc, world, sync, told),
+    match draw(world, sync, stream)? {
+        Ok(told) => receive(world, sync, told),
         Err(refusal) => Ok(Round::Ended(SyncEnd::Refused(refusal))),
     }
 }
@@ -197,54 +188,43 @@ impl Outcome {
 // ---- single events
 
 /// The target asks; the session that it opened, or its refusal.
-fn pull<K: Knowledge>(
-    alloc: Global,
-    world: &mut World<K>,
-    sync: &Sync,
-) -> Result<Result<u64, Refusal>, LineFault>
+fn pull<K: Knowledge>(world: &mut World<K>, sync: &Sync) -> Result<Result<u64, Refusal>, LineFault>
     ensures { pulls K.form sync.now world.old result world.new }
 {
-    happen(alloc, world, Event::Pull(sync.target))?;
+    let_happen(world, Event::Pull(sync.target))?;
     Ok(session_in(newest(world)))
 }
 
 /// The source answers the newest request; the stream that it opened, or its refusal.
 fn answer<K: Knowledge>(
-    alloc: Global,
     world: &mut World<K>,
     sync: &Sync,
 ) -> Result<Result<u64, Refusal>, LineFault>
     ensures { answers K.form sync.now world.old result world.new }
 {
     let newest_ask = world.ask_count();
-    happen(alloc, world, Event::Answer(sync.source, newest_ask))?;
+    let_happen(world, Event::Answer(sync.source, newest_ask))?;
     Ok(stream_in(newest(world)))
 }
 
 /// The source gives the stream's next record; what it tells, or the refusal.
 fn draw<K: Knowledge>(
-    alloc: Global,
     world: &mut World<K>,
     sync: &Sync,
     stream: u64,
 ) -> Result<Result<Told, Refusal>, LineFault>
     ensures { draws K.form sync.now stream world.old result world.new }
 {
-    happen(alloc, world, Event::Next(sync.source, stream))?;
+    let_happen(world, Event::Next(sync.source, stream))?;
     Ok(drawn_in(newest(world)))
 }
 
 /// The newest record, which tells this, comes to the target.
-fn receive<K: Knowledge>(
-    alloc: Global,
-    world: &mut World<K>,
-    sync: &Sync,
-    told: Told,
-) -> Result<Round, LineFault>
+fn receive<K: Knowledge>(world: &mut World<K>, sync: &Sync, told: Told) -> Result<Round, LineFault>
     ensures { receives K.form sync.now told world.old result world.new }
 {
     let newest_record = world.record_count();
-    happen(alloc, world, Event::Receive(sync.target, newest_record))?;
+    let_happen(world, Event::Receive(sync.target, newest_record))?;
     Ok(round_in(told, newest(world)))
 }
 

@@ -1,5 +1,5 @@
 -- a world as contracts see it
-use Rattle.std.specs.Prelude.{ℕ, ◌==◌, if◌then◌else◌, Option, Some, None, List, find}
+use Rattle.std.specs.Prelude.{ℕ, ◌==◌, ◌-◌, if◌then◌else◌, Option, Some, None, List, find, length, slice_get}
 use Rattle.std.specs.Option.{option_map}
 use Rattle.mr_replica.specs.State.{State}
 use Rattle.mr_wire.specs.Frames.{Question, Sent}
@@ -34,6 +34,10 @@ module _ {K : Type 0} where
     receipts = receipts_in pools.receipts.frames;
     answers = answers;
   }
+
+  -- the newest event with its answer, where there is one
+  abbrev pub newest_answered : WorldView K → Option Answered
+  newest_answered w = slice_get w.answers (length w.answers - 1)
 
   -- the member whose replica has this id
   abbrev pub member_at : List (MemberView K) → ℕ → Option (MemberView K)

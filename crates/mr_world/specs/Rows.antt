@@ -5,10 +5,12 @@ use Rattle.mr_replica.specs.State.{new_state}
 use Rattle.mr_replica.specs.declared.event.Reply.TheVariants.{Asked}
 use Rattle.mr_replica.specs.declared.refusal.Refusal.TheVariants.{LogFull}
 use Rattle.mr_world.specs.World.{World, new_port, with_given}
-use Rattle.mr_world.specs.Kept.{MemberView, WorldView, member_at, replica_at, with_outlet, port_of, world_of}
+use Rattle.mr_world.specs.Kept.{MemberView, WorldView, newest_answered, member_at, replica_at, with_outlet, port_of, world_of}
 use Rattle.mr_world.specs.Made.{has_same_id, spec_refusal}
 use Rattle.mr_world.specs.Pool.{PoolList, at_number}
+use Rattle.mr_world.specs.Run.{answered}
 use Rattle.mr_world.specs.Task.{lacks_frame}
+use Rattle.mr_world.specs.declared.answer.Answer.TheVariants.{Stepped, Truncated}
 use Rattle.mr_world.specs.declared.event.Event.TheVariants.{Pull, Receive, DeliverPart, Answer, Release}
 use Rattle.mr_world.specs.declared.event.Subscriber.TheVariants.{Indexer, Notifier}
 use Rattle.mr_world.specs.declared.fault.SpecFault.TheVariants.{SameReplica, BadLimit, NoCapacity}
@@ -112,6 +114,19 @@ no_such_member = refl
 -- a new port to one subscriber leaves the other's
 pub other_port_stays : port_of (with_outlet (member 7) Indexer (new_port 9)) Notifier ≡ new_port 2
 other_port_stays = refl
+
+-- ---- answers
+
+-- replica 3 refused a pull, and then a record came to it in part
+abbrev answered_twice : WorldView ℕ
+answered_twice = record { members = []; asks = []; records = []; receipts = []; answers = answered (Pull 3) (Stepped (Err LogFull)) ∷ answered (DeliverPart 3 1 0) Truncated ∷ [] }
+
+-- the newest is the last that was noted
+pub newest_of_two : newest_answered answered_twice ≡ Some (answered (DeliverPart 3 1 0) Truncated)
+newest_of_two = refl
+
+pub newest_of_none : newest_answered (record answered_twice { answers = [] }) ≡ None
+newest_of_none = refl
 
 -- ---- a world over all ids
 

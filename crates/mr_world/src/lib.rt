@@ -6,10 +6,11 @@
 //! and in whatever order, or only a part of it. A replica's feed is told to two subscribers, an indexer
 //! and a notifier, by a port each.
 //!
-//! [`World::run`] lets a list of events happen. A replica's refusal is an answer like others; the run
-//! stops only where an event names a replica or a frame that isn't there, or where memory is wanting. What
-//! had happened before stands, and the event at which it stopped has changed nothing: all that an event
-//! may need is at hand before its replica changes.
+//! [`World::happen`] lets one event happen, and [`World::run`] a list of them. A replica's refusal is an
+//! answer like others; a run stops where an event names a replica or a frame that isn't there, or is
+//! answered out of memory, as it may be wherever neither is the case. What had happened before stands, and
+//! the event at which it stopped has changed nothing: all that an event may need is at hand before its
+//! replica changes.
 //!
 //! The definitions in `specs/` say what one event of a world does (`Moves`), and what a run of the code
 //! is (`Run`).
@@ -24,6 +25,7 @@
 
 mod answer;
 mod answered;
+mod answering;
 mod event;
 mod fault;
 pub mod laws;

@@ -1,5 +1,6 @@
 //! A replica of a world, with the ports to its two subscribers.
-ghost use Rattle.std.specs.Prelude.{◌≡◌, OnErr, IfOk, Ok};
+ghost use Rattle.std.specs.Prelude.{◌≡◌, ◌==◌, OnErr, IfOk, Ok};
+ghost use Rattle.std.specs.List.{position};
 ghost use Rattle.mr_world.specs.Given.{HasPlaces};
 ghost use Rattle.mr_world.specs.Stepped.{StepsIn, IsRefusedBy};
 ghost use Rattle.mr_world.specs.Ports.{Offers, Takes, Closes};
@@ -13,6 +14,7 @@ use crate::task::Task;
 use mr_feed::PlainPort;
 use mr_forms::Knowledge;
 use mr_replica::{Event as ReplicaEvent, Refusal, Replica};
+use mr_version::Author;
 use std::alloc::{AllocError, Global};
 use std::marker::Model;
 
@@ -147,4 +149,13 @@ fn refused(refusal: Refusal) -> Result<Answer, WorldFault>
         Refusal::OutOfMemory => Err(WorldFault::OutOfMemory),
         _ => Ok(Answer::Stepped(Err(refusal))),
     }
+}
+
+/// The place of the member whose replica has the id.
+pub(crate) fn place_of<K: Knowledge>(members: &[Member<K>], id: Author) -> Option<usize>
+    ensures { result ≡ position (λ m. m.replica.id == id) members.now }
+{
+    members
+        .iter()
+        .position(|member| member.replica().id() == id)
 }

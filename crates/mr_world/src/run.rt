@@ -1,21 +1,10 @@
 //! Runs of a world.
-ghost use Rattle.std.specs.Prelude.{◌≡◌, ◌==◌, ◌<◌, IfOk, IfErr, OnOk, Some, vec_len, vec_capacity};
-ghost use Rattle.std.specs.List.{position};
-ghost use Rattle.mr_world.specs.Event.{replica_of};
-ghost use Rattle.mr_world.specs.Given.{HasPlaces, KeepsFrames};
-ghost use Rattle.mr_world.specs.Task.{AreFrames, IsTask};
-ghost use Rattle.mr_world.specs.Kept.{world_view};
-ghost use Rattle.mr_world.specs.Run.{Meets};
+ghost use Rattle.std.specs.Prelude.{IfOk, IfErr};
 
-use crate::answered::Answered;
 use crate::event::Event;
 use crate::fault::WorldFault;
-use crate::member::Member;
-use crate::pools::Pools;
-use crate::task::{Task, task_of};
-use crate::world::{World, place_of};
+use crate::world::World;
 use mr_forms::Knowledge;
-use std::alloc::{AllocError, Global};
 
 /// A world that stopped at one of the events that it was given.
 #[derive(Drop)]
@@ -29,7 +18,7 @@ pub struct Stopped<K: Knowledge> {
 }
 
 impl<K: Knowledge> World<K> {
-    ghost use Rattle.mr_world.specs.Run.{Meets, Leads, StopsAt};
+    ghost use Rattle.mr_world.specs.Run.{Leads, StopsAt};
     ghost use Rattle.mr_world.specs.Promise.{FollowsRules, HasHeadline, HoldsSoundly, KeepsAll, HasCleanRetired, HoldsAsSeen};
     ghost use Rattle.mr_world.specs.Promise.{GivesTrueRecords, GivesTrueReceipts, AnswersBySets, TellsWhole, FindsNoneForged};
 
@@ -42,8 +31,7 @@ impl<K: Knowledge> World<K> {
     ///
     /// Of a world that was run to its end, and of one that stopped, all holds that [`World::promise`] says.
     ///
-    /// It costs what the replicas' steps cost, the frames of what they give, and for each event a walk
-    /// over the replicas and a copy of what it carries or names.
+    /// It is [`World::happen`] for each event, and costs the same.
     pub fn run(mut self, events: Vec<Event>) -> Result<World<K>, Stopped<K>>
         ensures ran { IfOk result (Leads K.form self events.items) }
         ensures rules { IfOk result FollowsRules }
@@ -88,82 +76,4 @@ impl<K: Knowledge> World<K> {
         self.promise();
         Ok(self)
     }
-}
-
-/// One event: it is answered, or nothing changes.
-pub(crate) fn happen<K: Knowledge>(
-    alloc: Global,
-    members: &mut Vec<Member<K>>,
-    pools: &mut Pools,
-    answers: &mut Vec<Answered>,
-    event: Event,
-) -> Result<(), WorldFault>
-    requires { AreFrames pools.old }
-    ensures meets { Meets K.form (world_view members.old.items pools.old answers.old.items) event result (world_view members.new.items pools.new answers.new.items) }
-    ensures frames { AreFrames pools.new }
-{
-    match place_of(members, event.replica()) {
-        Some(place) => happen_at(alloc, members, place, pools, answers, event),
-        None => Err(WorldFault::NoSuchReplica),
-    }
-}
-
-// One event of the member at this place.
-fn happen_at<K: Knowledge>(
-    alloc: Global,
-    members: &mut Vec<Member<K>>,
-    place: usize,
-    pools: &mut Pools,
-    answers: &mut Vec<Answered>,
-    event: Event,
-) -> Result<(), WorldFault>
-    requires place { position (λ m. m.replica.id == replica_of event) members.old.items ≡ Some place }
-    requires frames { AreFrames pools.old }
-    ensures meets { Meets K.form (world_view members.old.items pools.old answers.old.items) event result (world_view members.new.items pools.new answers.new.items) }
-    ensures frames { AreFrames pools.new }
-{
-    match task_of(alloc, pools, &event) {
-        Ok(task) => do_task(alloc, members, place, pools, answers, event, task),
-        Err(fault) => Err(fault),
-    }
-}
-
-// The event's task. All that may fail comes before the member changes.
-fn do_task<K: Knowledge>(
-    alloc: Global,
-    members: &mut Vec<Member<K>>,
-    place: usize,
-    pools: &mut Pools,
-    answers: &mut Vec<Answered>,
-    event: Event,
-    task: Task,
-) -> Result<(), WorldFault>
-    requires place { position (λ m. m.replica.id == replica_of event) members.old.items ≡ Some place }
-    requires frames { AreFrames pools.old }
-    requires task { IsTask pools.old event task }
-    ensures meets { Meets K.form (world_view members.old.items pools.old answers.old.items) event result (world_view members.new.items pools.new answers.new.items) }
-    ensures frames { AreFrames pools.new }
-{
-    let Ok(()) = reserve_places(pools, answers) else {
-        return Err(WorldFault::OutOfMemory);
-    };
-    let member = &mut members[place];
-    match member.fulfil(alloc, pools, task) {
-        Ok(answer) => {
-            answers.push_reserved(Answered { event, answer });
-            Ok(())
-        }
-        Err(fault) => Err(fault),
-    }
-}
-
-// Makes room for one frame more in each pool, and for one answer more.
-fn reserve_places(pools: &mut Pools, answers: &mut Vec<Answered>) -> Result<(), AllocError>
-    ensures places { OnOk result (HasPlaces pools.new) }
-    ensures room { OnOk result (vec_len answers.new < vec_capacity answers.new) }
-    ensures frames { KeepsFrames pools.old pools.new }
-    ensures answers { answers.new.items ≡ answers.old.items }
-{
-    answers.reserve(1)?;
-    pools.reserve()
 }

@@ -6,12 +6,12 @@ ghost use Rattle.mr_world.specs.Made.{IsMadeOf, spec_refusal};
 ghost use Rattle.mr_world.specs.World.{new_port};
 
 use crate::answered::Answered;
+use crate::answering::answer_event;
 use crate::event::Event;
 use crate::fault::{SpecFault, WorldFault};
-use crate::member::Member;
+use crate::member::{Member, place_of};
 use crate::pools::Pools;
 use crate::promises::promise;
-use crate::run::happen;
 use crate::spec::{Spec, check_specs};
 use mr_feed::{MAX_CAPACITY, PlainPort, PortFault};
 use mr_forms::Knowledge;
@@ -44,7 +44,7 @@ impl<K: Knowledge> Model for World<K> {
 impl<K: Knowledge> World<K> {
     ghost use Rattle.mr_model.specs.Moment.{numbered};
     ghost use Rattle.mr_wire.specs.declared.frame.Frame.TheVariants as frame;
-    ghost use Rattle.mr_world.specs.Kept.{replica_at};
+    ghost use Rattle.mr_world.specs.Kept.{newest_answered, replica_at};
     ghost use Rattle.mr_world.specs.Made.{IsMadeWorld, IsRefusedBy};
     ghost use Rattle.mr_world.specs.Pool.{GivesFrame};
     ghost use Rattle.mr_world.specs.Run.{Meets};
@@ -80,6 +80,14 @@ impl<K: Knowledge> World<K> {
         ensures { result.now ≡ self.now.answers }
     {
         &self.answers
+    }
+
+    /// The newest event with its answer; none where nothing has happened. It is the last of
+    /// [`World::answers`].
+    pub fn newest(&self) -> Option<&Answered>
+        ensures { option_copied result ≡ newest_answered self.now }
+    {
+        self.answers.last()
     }
 
     /// The replica of this id, where there is one. It costs a walk over the replicas.
@@ -157,27 +165,40 @@ impl<K: Knowledge> World<K> {
         let _answers = &self.answers;
     }
 
-    /// One event: it is answered, or nothing changes.
-    pub(crate) fn happen(&mut self, event: Event) -> Result<(), WorldFault>
-        ensures { Meets K.form self.old event result self.new }
+    /// Lets one event happen, and notes its answer, which [`World::newest`] gives.
+    ///
+    /// A refusal of its replica, other than for want of memory, is an answer like others.
+    /// `NoSuchReplica` where the world has no replica of its id; else `NoSuchFrame` where it names a
+    /// number that its pool hasn't got; `OutOfMemory` otherwise: then nothing has changed.
+    ///
+    /// Afterwards, whatever came of it, all holds that [`World::promise`] says.
+    ///
+    /// It costs what the replica's step costs, the frame of what it gives, a walk over the replicas, and a
+    /// copy of what the event carries or names.
+    pub fn happen(&mut self, event: Event) -> Result<(), WorldFault>
+        ensures meets { Meets K.form self.old event result self.new }
+        ensures rules { FollowsRules self.new }
+        ensures headline { HasHeadline self.new }
+        ensures sound { HoldsSoundly self.new }
+        ensures no_loss { KeepsAll self.new }
+        ensures clean { HasCleanRetired self.new }
+        ensures as_seen { HoldsAsSeen K.form self.new }
+        ensures true_records { GivesTrueRecords self.new }
+        ensures true_receipts { GivesTrueReceipts self.new }
+        ensures by_sets { AnswersBySets K.form self.new }
+        ensures whole { TellsWhole self.new }
+        ensures none_forged { FindsNoneForged self.new }
     {
-        happen(
+        let answered = answer_event(
             self.alloc,
             &mut self.members,
             &mut self.pools,
             &mut self.answers,
             event,
-        )
+        );
+        self.promise();
+        answered
     }
-}
-
-/// The place of the member whose replica has the id.
-pub(crate) fn place_of<K: Knowledge>(members: &[Member<K>], id: Author) -> Option<usize>
-    ensures { result ≡ position (λ m. m.replica.id == id) members.now }
-{
-    members
-        .iter()
-        .position(|member| member.replica().id() == id)
 }
 
 // Members of these specifications, in their order.

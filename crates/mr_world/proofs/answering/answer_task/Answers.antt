@@ -1,7 +1,7 @@
 use Rattle.mr_world.specs.Event.{replica_of}
 use Rattle.mr_world.proofs.MemberPlaces.{place_found, place_there}
 use Rattle.mr_world.proofs.Happening.{no_places, not_done, happens, kept_frames, fulfilled_frames}
-use Rattle.mr_world.proofs.run.do_task.Goals as goal
+use Rattle.mr_world.proofs.answering.answer_task.Goals as goal
 
 pub returns-in_default-clause-meets : goal.returns-in_default-clause-meets
 returns-in_default-clause-meets g c =

@@ -1,6 +1,6 @@
 use Rattle.std.proofs.lemmas.Result.{err_from_is_err_and}
 use Rattle.mr_script.specs.Stage.InWorld.{done, not_begun}
-use Rattle.mr_script.proofs.interpreter.Interpreter.happen.Goals as goal
+use Rattle.mr_script.proofs.interpreter.Interpreter.answer.Goals as goal
 
 pub returns-in_err-world : goal.returns-in_err-world
 returns-in_err-world g c =
@@ -8,4 +8,4 @@ returns-in_err-world g c =
     rw (p.1, p.2, c.in_err-world.ensures.unchanged) (not_begun c.in_err-world.ensures.world)
 
 pub returns : goal.returns
-returns g c = done c.in_ok-world.ensures.world c.happen_and_tell-told.ensures
+returns g c = done c.in_ok-world.ensures.world c.answer_of_event-told.ensures

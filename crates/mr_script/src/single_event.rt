@@ -8,51 +8,30 @@ ghost use Rattle.mr_script.specs.Stage.{happens_told, sizes_of};
 use crate::answer::{PoolSizes, answer_line};
 use mr_command::LineFault;
 use mr_forms::Knowledge;
-use mr_world::{Answer, Event, Stopped, World, WorldFault};
+use mr_world::{Answer, Event, World, WorldFault};
 use std::alloc::Global;
-use std::mem;
 
 /// Lets the event happen. `NoSuchReplica` and `NoSuchFrame` where it names what isn't there, and
 /// `OutOfMemory`: then nothing has changed.
-pub(crate) fn happen<K: Knowledge>(
-    alloc: Global,
-    world: &mut World<K>,
-    event: Event,
-) -> Result<(), LineFault>
+pub(crate) fn let_happen<K: Knowledge>(world: &mut World<K>, event: Event) -> Result<(), LineFault>
     ensures { happens_noted K.form event world.old result world.new }
 {
-    let events = vec![in alloc; event]?;
-    let Ok(empty) = World::try_new(alloc, Vec::new(alloc)) else {
-        return Err(LineFault::OutOfMemory);
-    };
-    match mem::replace(world, empty).run(events) {
-        Ok(after) => {
-            *world = after;
-            Ok(())
-        }
-        Err(
-            Stopped {
-                world: as_before,
-                fault,
-                ..
-            },
-        ) => {
-            *world = as_before;
-            Err(stop_fault(fault))
-        }
+    match world.happen(event) {
+        Ok(()) => Ok(()),
+        Err(fault) => Err(stop_fault(fault)),
     }
 }
 
 /// Lets the event happen, and gives its answer's line. The event stands also where there is no memory
 /// for the line.
-pub(crate) fn happen_and_tell<K: Knowledge>(
+pub(crate) fn answer_of_event<K: Knowledge>(
     alloc: Global,
     world: &mut World<K>,
     event: Event,
 ) -> Result<String, LineFault>
     ensures { happens_told K.form event world.old (text_of result) world.new }
 {
-    happen(alloc, world, event)?;
+    let_happen(world, event)?;
     Ok(answer_line(alloc, pool_sizes(world), newest(world))?)
 }
 
@@ -61,7 +40,7 @@ pub(crate) fn newest<K: Knowledge>(world: &World<K>) -> &Answer
     requires { IsSome (newest world.now) }
     ensures { newest world.now ≡ Some result.now }
 {
-    match world.answers().last() {
+    match world.newest() {
         Some(answered) => &answered.answer,
         None => unreachable!(),
     }
