@@ -1,0 +1,5 @@
+pub mod Serving
+pub mod Saying
+pub mod Speaking
+pub mod SettlingLaws
+pub mod WholeRun

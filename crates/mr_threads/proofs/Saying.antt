@@ -1,0 +1,47 @@
+-- One letter more of a sender, and one entry more of a subscriber.
+use Rattle.std.proofs.Common.{◌≡◌, List, [], ◌∷◌, ◌++◌, None, sym, ap, subst, ◌∙◌, append_assoc}
+use Rattle.std.proofs.lemmas.List.{append-nil, map-append}
+use Rattle.std.specs.Option.{option_to_list}
+use Rattle.mr_mail.specs.Mail.{MailCard}
+use Rattle.mr_model.specs.Headline.{Cards}
+use Rattle.mr_feed.specs.declared.entry.Entry.{Entry}
+use Rattle.mr_subs.specs.Subscriber.{Keeping, ShowsFold, Applies, pending, ShowsFold-append}
+use Rattle.mr_lane.specs.Post.{PostView}
+use Rattle.mr_threads.specs.declared.talk.Talk.{Talk}
+use Rattle.mr_threads.specs.Exchange.{Said, letters_said, answers_heard}
+use Rattle.mr_threads.specs.Talk.{with_letters, Says, HearsOut}
+use Rattle.mr_threads.proofs.Serving.{with_items-append, with_items-nil}
+
+with_letters-append : {E : Type 0} (p q r : PostView E) (xs ys : List E) → q ≡ with_letters p xs → r ≡ with_letters q ys → r ≡ with_letters p (xs ++ ys)
+with_letters-append p q r xs ys h k = k ∙ (ap (λ x. with_letters x ys) h ∙ ap (λ l. record p { sent = l }) (append_assoc p.sent xs ys))
+
+with_letters-nil : {E : Type 0} (p : PostView E) → p ≡ with_letters p []
+with_letters-nil p = ap (λ l. record p { sent = l }) (sym (append-nil p.sent))
+
+-- an entry is applied after others, where none was kept
+pub hears_one : {F : Type 0} (shows : F → Cards MailCard → Type 0) (s : Keeping F) (t : F) (entry : Entry) → s.kept ≡ None → Applies shows s.fold (pending s ++ entry ∷ []) t → (entries : List Entry) → ShowsFold shows s.fold entries → ShowsFold shows t (entries ++ entry ∷ [])
+hears_one shows s t entry none h entries shown = ShowsFold-append shows s.fold t entries (entry ∷ []) shown (subst (λ k. Applies shows s.fold (option_to_list k ++ entry ∷ []) t) none h)
+
+module _ {E A R : Type 0} where
+  pub says_none : (t : Talk E A R) → Says t [] t
+  says_none t = record { post = with_letters-nil t.post; tap = with_items-nil t.tap; replies = sym (append-nil t.replies.items) }
+
+  -- letters after letters
+  pub says-append : (t u v : Talk E A R) (xs ys : List (Said E A)) → Says t xs u → Says u ys v → Says t (xs ++ ys) v
+  says-append t u v xs ys h k = record {
+    post = with_letters-append t.post u.post v.post (letters_said xs) (letters_said ys) h.post k.post ∙ ap (with_letters t.post) (sym (map-append (λ (x : Said E A). x.letter) xs ys));
+    tap = with_items-append _ _ _ _ _ h.tap k.tap ∙ ap (λ l. record t.tap { passed = t.tap.passed ++ l }) (sym (map-append (λ (x : Said E A). x.answer) xs ys));
+    replies = k.replies ∙ (ap (λ l. l ++ answers_heard ys) h.replies ∙ (append_assoc t.replies.items (answers_heard xs) (answers_heard ys) ∙ ap (λ l. t.replies.items ++ l) (sym (map-append (λ (x : Said E A). x.answer) xs ys))));
+  }
+
+  -- nothing was heard behind what was
+  pub hears_none : (t : Talk E A R) → HearsOut t t
+  hears_none t = record { rest = []; passed = sym (append-nil t.tap.passed); replies = sym (append-nil t.replies.items) }
+
+  -- one reply more
+  pub hears_more : (t u v : Talk E A R) (answer : A) → HearsOut t u → v.tap.passed ≡ u.tap.passed ++ answer ∷ [] → v.replies.items ≡ u.replies.items ++ answer ∷ [] → HearsOut t v
+  hears_more t u v answer h passed replies = record {
+    rest = h.rest ++ answer ∷ [];
+    passed = passed ∙ (ap (λ l. l ++ answer ∷ []) h.passed ∙ append_assoc t.tap.passed h.rest (answer ∷ []));
+    replies = replies ∙ (ap (λ l. l ++ answer ∷ []) h.replies ∙ append_assoc t.replies.items h.rest (answer ∷ []));
+  }

@@ -1,0 +1,138 @@
+-- One letter more, or one end mark.
+use Rattle.std.proofs.Common.{◌≡◌, ◌==◌, Bool, true, false, cond, List, [], ◌∷◌, ◌++◌, sym, refl, ap, ◌∙◌, subst, append_assoc}
+use Rattle.std.proofs.lemmas.List.{append-nil, map-append}
+use Rattle.mr_feed.specs.declared.entry.Entry.{Entry}
+use Rattle.mr_lane.specs.declared.piece.Piece.TheVariants.{Item, End}
+use Rattle.mr_lane.specs.declared.note.Sender.{Sender}
+use Rattle.mr_lane.specs.declared.note.Sender.TheVariants.{User, FirstLink, SecondLink}
+use Rattle.mr_lane.specs.declared.note.Note.{Note}
+use Rattle.mr_lane.specs.Note.{sender_number}
+use Rattle.mr_lane.specs.Tap.{TapEnd}
+use Rattle.mr_threads.specs.Exchange.{Said, Exchange, exchange, said, said_by, answers_heard, answers_to, Replays}
+use Rattle.mr_threads.specs.Lanes.{with_items, letter_in, letters_in}
+use Rattle.mr_threads.specs.declared.core_parts.Replies.{Replies}
+use Rattle.mr_threads.specs.declared.core_parts.Feeds.{Feeds}
+use Rattle.mr_threads.specs.declared.core_parts.Core.{Core}
+use Rattle.mr_threads.specs.Core.{GivesAnswers, GivesAnswer, TellsBoth, Serves, Serving}
+
+-- ---- lanes
+
+-- items after items
+pub with_items-append : {T : Type 0} (e f g : TapEnd T) (xs ys : List T) → f ≡ with_items e xs → g ≡ with_items f ys → g ≡ with_items e (xs ++ ys)
+with_items-append e f g xs ys h k = k ∙ (ap (λ x. with_items x ys) h ∙ ap (λ l. record e { passed = l }) (append_assoc e.passed xs ys))
+
+pub with_items-nil : {T : Type 0} (e : TapEnd T) → e ≡ with_items e []
+with_items-nil e = ap (λ l. record e { passed = l }) (sym (append-nil e.passed))
+
+-- the letters among notes, and one note more
+pub letters_in-append : {T : Type 0} (xs ys : List (Note T)) → letters_in (xs ++ ys) ≡ letters_in xs ++ letters_in ys
+letters_in-append [] ys = refl
+letters_in-append (x ∷ xs) ys = ap (λ l. letter_in x.sender x.piece ++ l) (letters_in-append xs ys) ∙ sym (append_assoc (letter_in x.sender x.piece) (letters_in xs) (letters_in ys))
+
+module _ {E A : Type 0} where
+  -- the conversation of one sender, and exchanges after exchanges
+  pub said_by-append : (sender : Sender) (xs ys : List (Exchange E A)) → said_by sender (xs ++ ys) ≡ said_by sender xs ++ said_by sender ys
+  said_by-append sender [] ys = refl
+  said_by-append sender (x ∷ xs) ys =
+      let rest = said_by-append sender xs ys in
+      elim (sender_number sender == sender_number x.sender) as (λ (b : Bool). cond b (said x.letter x.answer ∷ said_by sender (xs ++ ys)) (said_by sender (xs ++ ys)) ≡ cond b (said x.letter x.answer ∷ said_by sender xs) (said_by sender xs) ++ said_by sender ys) [
+        | true ↦ ap (λ l. said x.letter x.answer ∷ l) rest
+        | false ↦ rest
+      ]
+
+  pub answers_to-append : (sender : Sender) (xs ys : List (Exchange E A)) → answers_to sender (xs ++ ys) ≡ answers_to sender xs ++ answers_to sender ys
+  answers_to-append sender xs ys = ap answers_heard (said_by-append sender xs ys) ∙ map-append (λ (x : Said E A). x.answer) (said_by sender xs) (said_by sender ys)
+
+  -- exchanges after exchanges
+  pub Replays-append : {M : Type 0} (steps : M → E → A → M → Type 0) (s t u : M) (xs ys : List (Exchange E A)) → Replays steps s xs t → Replays steps t ys u → Replays steps s (xs ++ ys) u
+  Replays-append steps s t u [] ys h k = subst (λ z. Replays steps z ys u) h k
+  Replays-append steps s t u (x ∷ xs) ys h k = (h.0, h.1, Replays-append steps h.0 t u xs ys h.2 k)
+
+  gives-append : {R : Type 0} (old mid new : Replies A R) (xs ys : List (Exchange E A)) → GivesAnswers old xs mid → GivesAnswers mid ys new → GivesAnswers old (xs ++ ys) new
+  gives-append old mid new xs ys h k = record {
+    user = with_items-append _ _ _ _ _ h.user k.user ∙ ap (with_items old.user) (sym (answers_to-append User xs ys));
+    first_link = with_items-append _ _ _ _ _ h.first_link k.first_link ∙ ap (with_items old.first_link) (sym (answers_to-append FirstLink xs ys));
+    second_link = with_items-append _ _ _ _ _ h.second_link k.second_link ∙ ap (with_items old.second_link) (sym (answers_to-append SecondLink xs ys));
+  }
+
+  -- one answer is the answer of one exchange
+  pub gives_one : {R : Type 0} (old new : Replies A R) (sender : Sender) (letter : E) (answer : A) → GivesAnswer old sender answer new → GivesAnswers old (exchange sender letter answer ∷ []) new
+  gives_one old new sender letter answer h = record {
+    user = h.user ∙ ap (with_items old.user) (one_to User);
+    first_link = h.first_link ∙ ap (with_items old.first_link) (one_to FirstLink);
+    second_link = h.second_link ∙ ap (with_items old.second_link) (one_to SecondLink);
+  }
+    where
+      one_to : (to : Sender) → cond (sender_number to == sender_number sender) (answer ∷ []) [] ≡ answers_to to (exchange sender letter answer ∷ [])
+      one_to to = elim (sender_number to == sender_number sender) as (λ (b : Bool). cond b (answer ∷ []) [] ≡ answers_heard (cond b (said letter answer ∷ []) [])) [
+        | true ↦ refl
+        | false ↦ refl
+      ]
+
+-- entries after entries
+tells-append : {R : Type 0} (old mid new : Feeds R) (xs ys : List Entry) → TellsBoth old xs mid → TellsBoth mid ys new → TellsBoth old (xs ++ ys) new
+tells-append old mid new xs ys h k = record {
+  indexer = with_items-append _ _ _ _ _ h.indexer k.indexer;
+  notifier = with_items-append _ _ _ _ _ h.notifier k.notifier;
+}
+
+module _ {M E A R : Type 0} (steps : M → E → A → M → Type 0) (feed_of : M → List Entry) where
+  serves-append : (old mid new : Core M E A R) (xs ys : List (Exchange E A)) → Serves steps feed_of old xs mid → Serves steps feed_of mid ys new → Serves steps feed_of old (xs ++ ys) new
+  serves-append old mid new xs ys h k = record {
+    replays = Replays-append steps old.machine mid.machine new.machine xs ys h.replays k.replays;
+    answers = gives-append old.replies mid.replies new.replies xs ys h.answers k.answers;
+    entries = h.entries ++ k.entries;
+    grows = k.grows ∙ (ap (λ l. l ++ k.entries) h.grows ∙ append_assoc (feed_of old.machine) h.entries k.entries);
+    tells = tells-append old.feeds mid.feeds new.feeds h.entries k.entries h.tells k.tells;
+  }
+
+  -- nothing is served as the desk has taken nothing
+  pub serving_none : (core : Core M E A R) → core.desk.taken ≡ [] → Serving steps feed_of core core
+  serving_none core none = record {
+    exchanges = [];
+    letters = ap letters_in none;
+    serves = record {
+      replays = refl;
+      answers = record { user = with_items-nil core.replies.user; first_link = with_items-nil core.replies.first_link; second_link = with_items-nil core.replies.second_link };
+      entries = [];
+      grows = sym (append-nil (feed_of core.machine));
+      tells = record { indexer = with_items-nil core.feeds.indexer; notifier = with_items-nil core.feeds.notifier };
+    };
+  }
+
+  -- the desk took one letter more, and it was served
+  pub serving_more : (old core mid new : Core M E A R) (sender : Sender) (letter : E) (answer : A) → Serving steps feed_of old core
+      → mid.machine ≡ core.machine → mid.replies ≡ core.replies → mid.feeds ≡ core.feeds
+      → mid.desk.taken ≡ core.desk.taken ++ record { sender = sender; piece = Item letter } ∷ [] → new.desk ≡ mid.desk
+      → Serves steps feed_of mid (exchange sender letter answer ∷ []) new → Serving steps feed_of old new
+  serving_more old core mid new sender letter answer h same_machine same_replies same_feeds taken same_desk one = record {
+    exchanges = h.exchanges ++ exchange sender letter answer ∷ [];
+    letters =
+        ap (λ d. letters_in d.taken) same_desk ∙ (ap letters_in taken ∙ (letters_in-append core.desk.taken (record { sender = sender; piece = Item letter } ∷ [])
+        ∙ (ap (λ l. l ++ (sender, letter) ∷ []) h.letters ∙ sym (map-append (λ (x : Exchange E A). (x.sender, x.letter)) h.exchanges (exchange sender letter answer ∷ [])))));
+    serves = serves-append old mid new h.exchanges (exchange sender letter answer ∷ [])
+        (record {
+          replays = subst (Replays steps old.machine h.exchanges) (sym same_machine) h.serves.replays;
+          answers = subst (GivesAnswers old.replies h.exchanges) (sym same_replies) h.serves.answers;
+          entries = h.serves.entries;
+          grows = ap feed_of same_machine ∙ h.serves.grows;
+          tells = subst (TellsBoth old.feeds h.serves.entries) (sym same_feeds) h.serves.tells;
+        })
+        one;
+  }
+
+  -- the desk took an end mark more
+  pub serving_mark : (old core new : Core M E A R) (sender : Sender) → Serving steps feed_of old core
+      → new.machine ≡ core.machine → new.replies ≡ core.replies → new.feeds ≡ core.feeds
+      → new.desk.taken ≡ core.desk.taken ++ record { sender = sender; piece = End } ∷ [] → Serving steps feed_of old new
+  serving_mark old core new sender h same_machine same_replies same_feeds taken = record {
+    exchanges = h.exchanges;
+    letters = ap letters_in taken ∙ (letters_in-append core.desk.taken (record { sender = sender; piece = End } ∷ []) ∙ (append-nil (letters_in core.desk.taken) ∙ h.letters));
+    serves = record {
+      replays = subst (Replays steps old.machine h.exchanges) (sym same_machine) h.serves.replays;
+      answers = subst (GivesAnswers old.replies h.exchanges) (sym same_replies) h.serves.answers;
+      entries = h.serves.entries;
+      grows = ap feed_of same_machine ∙ h.serves.grows;
+      tells = subst (TellsBoth old.feeds h.serves.entries) (sym same_feeds) h.serves.tells;
+    };
+  }

@@ -1,0 +1,12 @@
+pub mod Exchange
+pub mod Lanes
+pub mod Core
+pub mod Talk
+pub mod Letters
+pub mod Listening
+pub mod Ends
+pub mod Settled
+pub mod Running
+pub mod Outfit
+pub mod Roles
+pub mod Rows

@@ -1,0 +1,36 @@
+-- what one sender says, and hears
+use Rattle.std.specs.Prelude.{◌≡◌, ◌++◌, false, List, []}
+use Rattle.mr_lane.specs.Post.{PostView}
+use Rattle.mr_threads.specs.Exchange.{Said, letters_said, answers_heard}
+use Rattle.mr_threads.specs.Lanes.{with_items}
+use Rattle.mr_threads.specs.declared.talk.Talk.{Talk}
+
+-- these letters more were sent
+abbrev pub with_letters : {E : Type 0} → PostView E → List E → PostView E
+with_letters p letters = record p { sent = p.sent ++ letters }
+
+module _ {E A R : Type 0} where
+  -- these letters were sent, each once the one before it was answered, and the answers were kept
+  pub record Says (old : Talk E A R) (xs : List (Said E A)) (new : Talk E A R) : Type 0 where
+    pub post : new.post ≡ with_letters old.post (letters_said xs)
+    pub tap : new.tap ≡ with_items old.tap (answers_heard xs)
+    pub replies : new.replies.items ≡ old.replies.items ++ answers_heard xs
+
+  -- the rest of the replies was taken, and kept
+  pub record HearsOut (old new : Talk E A R) : Type 0 where
+    pub rest : List A
+    pub passed : new.tap.passed ≡ old.tap.passed ++ rest
+    pub replies : new.replies.items ≡ old.replies.items ++ rest
+
+  -- nothing was said yet
+  pub record IsNew (t : Talk E A R) : Type 0 where
+    pub sent : t.post.sent ≡ []
+    pub unfinished : t.post.finished ≡ false
+    pub passed : t.tap.passed ≡ []
+    pub replies : t.replies.items ≡ []
+
+  -- it is of the lanes of which it was
+  pub record SameLanes (old new : Talk E A R) : Type 0 where
+    pub post : new.post.id ≡ old.post.id
+    pub sender : new.post.sender ≡ old.post.sender
+    pub tap : new.tap.id ≡ old.tap.id

@@ -1,0 +1,57 @@
+//! A sender's thread: it speaks, ends its talk, and hears the rest.
+ghost use Rattle.mr_threads.specs.Ends.{VoiceRan};
+ghost use Rattle.mr_threads.specs.Talk.{IsNew, SameLanes};
+
+use crate::lanes::finish;
+use crate::speaker::Speaker;
+use crate::talk::{Talk, hear_out};
+use std::sync::Wait;
+
+/// A speaker, and the talk over which it speaks.
+#[derive(Drop)]
+pub struct Voice<S, E, A, R> {
+    pub speaker: S,
+    pub talk: Talk<E, A, R>,
+}
+
+/// A voice that has run, and whether all was said and heard. It was not where a growth was refused,
+/// where its replies were closed too soon, or where an answer came that no machine gives.
+#[derive(Drop)]
+pub struct VoiceEnd<S, E, A, R> {
+    pub voice: Voice<S, E, A, R>,
+    pub whole: bool,
+}
+
+/// Speaks, finishes its post, hangs up, and takes replies until they are closed.
+pub fn run_voice<E: Drop, A: Drop, S: Speaker<E, A>, R: Wait>(
+    rt: &R,
+    mut voice: Voice<S, E, A, R>,
+) -> VoiceEnd<S, E, A, R>
+    requires ready { S.is_ready voice.speaker }
+    requires new { IsNew voice.talk }
+    ensures { VoiceRan S.speaks voice result }
+{
+    let said = voice.speaker.speak(rt, &mut voice.talk);
+    finish(rt, &mut voice.talk.post);
+    voice.speaker.hang_up();
+    let heard = hear_out(rt, &mut voice.talk);
+    VoiceEnd {
+        voice,
+        whole: said.is_ok() && heard,
+    }
+}
+
+/// Says nothing: finishes its post, and hangs up. It doesn't wait for its replies to be closed.
+pub(crate) fn give_up<E: Drop, A: Drop, S: Speaker<E, A>, R: Wait>(
+    rt: &R,
+    mut voice: Voice<S, E, A, R>,
+) -> VoiceEnd<S, E, A, R>
+    ensures { VoiceRan S.speaks voice result }
+{
+    finish(rt, &mut voice.talk.post);
+    voice.speaker.hang_up();
+    VoiceEnd {
+        voice,
+        whole: false,
+    }
+}
