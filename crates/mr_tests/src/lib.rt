@@ -9,8 +9,8 @@
 //! call of a helper without clauses, and a comparison, and `mr_tests_samples` has what the test
 //! crates share. A table of cases is no test: it goes through the program `mr_rows`, and two forms
 //! of one thing are compared by the program `mr_tests_twins`, which calls all that both forms have.
-//! `mr_console` is a program, whose functions no other crate can call: `tools/try-command-lines`
-//! tries it.
+//! `mr_program` and `mr_hints` are called by the program `mr_rows_program`, and `mr_console`, whose
+//! functions no other crate can call, is tried by `tools/try-command-lines`.
 #![tactic(auto)]
 
 #[cfg(test)]

@@ -13,10 +13,12 @@ const AFTER: &str = "Exit status:
   1  a line that can't be run, no frame, a failed read or write, or no memory left
   2  a wrong command line";
 
-const RUN_ABOUT: &str = "Runs the script on standard input, line by line, and prints its answers.
+const RUN_ABOUT: &str =
+    "Runs the script in FILE, or on standard input, line by line, and prints its answers.
 
 Each line is one command; its words are separated by one space. Empty lines and lines that begin
-with # are skipped. A line is run before the next one is waited for, and its answer is written then.";
+with # are skipped. A line is run before the next one is waited for, and its answer is written then.
+With --hints the text of the script is kept in memory while it runs.";
 
 const RUN_AFTER: &str = "Replicas, before any other command:
   replica ID LIMIT CAP FILTER   a replica that admits LIMIT events, with ports of CAP places
@@ -92,7 +94,8 @@ The page docs/SCRIPTS.md has an example of each command, and of each fault with 
 Exit status:
   0  the script ran to its end (a replica's refusal is an answer, no fault)
   1  a fault, told on standard error as `line N: TEXT`, `read fault`, `write fault` or
-     `script too long`; the answers of the lines before it stand
+     `script too long`; the answers of the lines before it stand. With --hints a second line
+     `hint: TEXT` follows the fault of a line. A FILE that can't be opened is a `read fault`
   2  a wrong command line";
 
 const FRAME_ABOUT: &str = "Tells what the bytes of a frame say.
@@ -127,11 +130,20 @@ Exit status:
 /// The name of the word of digits in the help.
 const HEX: &str = "HEX";
 
+/// The name of a script's file in the help.
+const FILE: &str = "FILE";
+
+/// The file's name that stands for standard input.
+const STANDARD_INPUT: &str = "-";
+
 /// The id of the option that picks the sparing form.
 const SPARING: &str = "sparing";
 
+/// The id of the option that asks for hints.
+const HINTS: &str = "hints";
+
 /// The form in which a script's replicas keep what they know.
-#[derive(Clone, Copy, Debug, PartialEq, Eq)]
+#[derive(Clone, Copy)]
 pub enum Form {
     /// Item sets, which learn each version for all items.
     Items,
@@ -139,11 +151,29 @@ pub enum Form {
     Sparing,
 }
 
+/// How a script is run.
+#[derive(Clone, Copy)]
+pub struct Run<'a> {
+    /// The form of knowledge.
+    pub form: Form,
+    /// The name of the script's file; none is standard input.
+    pub file: Option<&'a str>,
+    /// Whether a hint follows a line's fault.
+    pub has_hints: bool,
+}
+
+/// A run without options.
+const PLAIN_RUN: Run<'static> = Run {
+    form: Form::Items,
+    file: None,
+    has_hints: false,
+};
+
 /// What a command line asks for.
-#[derive(Clone, Copy, Debug, PartialEq, Eq)]
+#[derive(Clone, Copy)]
 pub enum Request<'a> {
-    /// To run the script on standard input, over this form of knowledge.
-    Run(Form),
+    /// To run a script.
+    Run(Run<'a>),
     /// To tell what the frame says that this word spells.
     Frame(&'a str),
 }
@@ -155,31 +185,54 @@ pub fn read_command_line<'a>(alloc: Global, words: &'a [String]) -> Result<Reque
     if let Some(frame) = matches.subcommand_matches("frame") {
         return Ok(Request::Frame(frame.get_str(HEX).unwrap_or("")));
     }
-    match matches.subcommand_matches("run") {
-        Some(run) if run.get_flag(SPARING) => Ok(Request::Run(Form::Sparing)),
-        _ => Ok(Request::Run(Form::Items)),
-    }
+    let Some(run) = matches.subcommand_matches("run") else {
+        return Ok(Request::Run(PLAIN_RUN));
+    };
+    Ok(Request::Run(Run {
+        form: if run.get_flag(SPARING) {
+            Form::Sparing
+        } else {
+            Form::Items
+        },
+        file: run.get_str(FILE).filter(|name| *name != STANDARD_INPUT),
+        has_hints: run.get_flag(HINTS),
+    }))
 }
 
-/// The program's subcommands, their words and their help.
-fn mailrep<'a>(alloc: Global) -> Result<Command<'a>, AllocError> {
+/// The subcommand `run`.
+fn run_command<'a>(alloc: Global) -> Result<Command<'a>, AllocError> {
     let sparing = Arg::new(alloc, SPARING)
         .long(SPARING)
         .help("For real mail at any size: it keeps holes few, so `know` may print another text")
         .action(ArgAction::SetTrue);
-    let run = Command::new(alloc, "run")
-        .about("Runs the script on standard input, and prints its answers")
+    let hints = Arg::new(alloc, HINTS)
+        .long(HINTS)
+        .help("Behind the fault of a line, a second line says what was wrong and what is right")
+        .action(ArgAction::SetTrue);
+    let file = Arg::new(alloc, FILE).help("The script; `-` or none is standard input");
+    Command::new(alloc, "run")
+        .about("Runs a script, and prints its answers")
         .long_about(RUN_ABOUT)
         .after_long_help(RUN_AFTER)
-        .arg(sparing)?;
+        .arg(file)?
+        .arg(sparing)?
+        .arg(hints)
+}
+
+/// The subcommand `frame`.
+fn frame_command<'a>(alloc: Global) -> Result<Command<'a>, AllocError> {
     let hex = Arg::new(alloc, HEX)
         .help("The frame's bytes, by two hexadecimal digits each")
         .required(true);
-    let frame = Command::new(alloc, "frame")
+    Command::new(alloc, "frame")
         .about("Tells what the bytes of a frame say")
         .long_about(FRAME_ABOUT)
         .after_long_help(FRAME_AFTER)
-        .arg(hex)?;
+        .arg(hex)
+}
+
+/// The program's subcommands, their words and their help.
+fn mailrep<'a>(alloc: Global) -> Result<Command<'a>, AllocError> {
     Command::new(alloc, "mailrep")
         .bin_name("mailrep")?
         .version("0.1.0")
@@ -188,6 +241,6 @@ fn mailrep<'a>(alloc: Global) -> Result<Command<'a>, AllocError> {
         .after_long_help(AFTER)
         .subcommand_required(true)
         .arg_required_else_help(true)
-        .subcommand(run)?
-        .subcommand(frame)
+        .subcommand(run_command(alloc)?)?
+        .subcommand(frame_command(alloc)?)
 }

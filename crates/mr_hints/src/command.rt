@@ -1,0 +1,130 @@
+//! Commands: their names and how each is written.
+use crate::shown::shown;
+use std::alloc::{AllocError, Global};
+use strsim::levenshtein;
+
+/// How each command is written. Brackets are round what may be missing, bars between what may stand there.
+const USAGES: [&str; 27] = [
+    "replica ID LIMIT CAP FILTER",
+    "create R LABELS FLAGS DATE FROM [SUBJECT]",
+    "edit R BASES LABELS FLAGS DATE FROM [SUBJECT]",
+    "retire R",
+    "pull R",
+    "answer R Qn",
+    "next R N",
+    "receive R Pn",
+    "part R Pn BYTES",
+    "cutin R N",
+    "cutout R N",
+    "sync T S [N]",
+    "vouch R V",
+    "release R Rn",
+    "offer R indexer|notifier",
+    "take R indexer|notifier",
+    "close R indexer|notifier",
+    "heads R",
+    "pushouts R",
+    "conflicts R",
+    "show R V",
+    "know R",
+    "feed R",
+    "log R",
+    "bytes Qn|Pn|Rn",
+    "index R LABEL",
+    "unseen R",
+];
+
+/// How many letters a name may be away from a command's to be taken for a slip.
+const MOST_SLIPS: usize = 2;
+
+/// The longest name that is compared with those of commands, in bytes.
+const LONGEST_NAME: usize = 16;
+
+/// The first word of a text: all before its first space.
+pub(crate) fn first_word(text: &str) -> &str {
+    match text.split_once(' ') {
+        Some((word, _)) => word,
+        None => text,
+    }
+}
+
+/// How the line's command is written, if its name is one's.
+pub(crate) fn usage_of(line: &str) -> Option<&'static str> {
+    let name = first_word(line);
+    for usage in USAGES {
+        if first_word(usage) == name {
+            return Some(usage);
+        }
+    }
+    None
+}
+
+/// What is wrong with a name that is no command's.
+pub(crate) fn unknown_command(alloc: Global, line: &str) -> Result<String, AllocError> {
+    let name = first_word(line);
+    if name.is_empty() {
+        return String::from_str(
+            alloc,
+            "a command stands at the line's start, with no space before it",
+        );
+    }
+    if name.ends_with('\r') {
+        return carriage_return(alloc);
+    }
+    if let Some(command) = in_small_letters(name) {
+        return format!(in alloc; "commands are in small letters: write {command}");
+    }
+    let name_shown = shown(alloc, name)?;
+    match nearest(alloc, name)? {
+        Some(command) => {
+            format!(in alloc; "{name_shown} is no command; the nearest one is {command}")
+        }
+        None => { format!(in alloc; "{name_shown} is no command; mailrep run --help lists them") }
+    }
+}
+
+/// What is wrong with a line that ends with a carriage return.
+pub(crate) fn carriage_return(alloc: Global) -> Result<String, AllocError> {
+    String::from_str(
+        alloc,
+        "the line ends with a carriage return: end each line with a line feed alone",
+    )
+}
+
+/// The command of this name, if it is one's but for capitals.
+fn in_small_letters(name: &str) -> Option<&'static str> {
+    for usage in USAGES {
+        let command = first_word(usage);
+        if command.eq_ignore_ascii_case(name) {
+            return Some(command);
+        }
+    }
+    None
+}
+
+/// The command that is the fewest letters away, if two lead to it at most. Of several the first.
+fn nearest(alloc: Global, name: &str) -> Result<Option<&'static str>, AllocError> {
+    let mut found = None;
+    let mut fewest = MOST_SLIPS + 1;
+    if name.len() > LONGEST_NAME {
+        return Ok(None);
+    }
+    for usage in USAGES {
+        let command = first_word(usage);
+        let slips = levenshtein(alloc, name, command)?;
+        if slips < fewest {
+            found = Some(command);
+            fewest = slips;
+        }
+    }
+    Ok(found)
+}
+
+/// What is wrong with a line of too few or too many words.
+pub(crate) fn wrong_words(alloc: Global, line: &str) -> Result<String, AllocError> {
+    let usage = usage_of(line).unwrap_or("");
+    if line.contains("  ") || line.ends_with(' ') {
+        return format!(in alloc; "write one space between words, and none at the end: {usage}");
+    }
+    format!(in alloc; "the command is {usage}")
+}

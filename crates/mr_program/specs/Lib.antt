@@ -1,0 +1,5 @@
+pub mod Ending
+pub mod Printing
+pub mod Remembering
+pub mod Rows
+pub mod Text

@@ -1,0 +1,48 @@
+-- worked rows: texts and statuses at which they must come out
+use Rattle.std.specs.Prelude.{◌≡◌, codes, refl, None, Some}
+use Rattle.std.specs.Fmt.{digits}
+use Rattle.mr_command.specs.declared.fault.LineFault.TheVariants.{BadFilter, BadNumber, MessageRefused}
+use Rattle.mr_script.specs.declared.fault.ScriptFault.TheVariants.{Line, Read, TooLong}
+use Rattle.mr_script.specs.declared.fault.ScriptFault.TheVariants as script
+use Rattle.mr_program.specs.declared.ending.Fault.TheVariants.{CommandLine, OutOfMemory, Script}
+use Rattle.mr_program.specs.declared.ending.Ending.TheVariants.{Stopped}
+use Rattle.mr_program.specs.Ending.{ending_of, status_of}
+use Rattle.mr_program.specs.Text.{fault_text}
+
+-- a faulty line is told with its number
+pub bad_number_text : fault_text (Script (Line 2 BadNumber)) ≡ codes "line 2: bad number"
+unfolding digits
+bad_number_text = refl
+
+-- and so is the place in a filter
+pub bad_filter_text : fault_text (Script (Line 10 (BadFilter 0))) ≡ codes "line 10: bad filter at 0"
+unfolding digits
+bad_filter_text = refl
+
+-- and the limit that a message breaks
+pub message_refused_text : fault_text (Script (Line 3 (MessageRefused 4))) ≡ codes "line 3: message refused 4"
+unfolding digits
+message_refused_text = refl
+
+-- a reader's fault has no line
+pub read_fault_text : fault_text (Script Read) ≡ codes "read fault"
+read_fault_text = refl
+
+-- a script that ran to its end is status 0
+pub done_status : status_of (ending_of None) ≡ 0
+done_status = refl
+
+-- a faulty line is status 1
+pub line_status : status_of (ending_of (Some (Line 1 BadNumber))) ≡ 1
+line_status = refl
+
+-- and so are a script that is too long and a write that failed
+pub too_long_status : status_of (ending_of (Some TooLong)) ≡ 1
+too_long_status = refl
+
+pub write_status : status_of (ending_of (Some script.Write)) ≡ 1
+write_status = refl
+
+-- a command line that is no text is wrong
+pub no_text_status : status_of (Stopped CommandLine) ≡ 2
+no_text_status = refl

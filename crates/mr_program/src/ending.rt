@@ -1,0 +1,151 @@
+//! How the program ends: its exit status, and what it tells standard error.
+ghost use Rattle.std.specs.Prelude.{◌≡◌, ◌≤◌, Some, OnOk};
+ghost use Rattle.mr_script.specs.Run.{end_of};
+ghost use Rattle.mr_program.specs.Ending.{IsTold, ending_of, status_of};
+ghost use Rattle.mr_program.specs.Text.{fault_text, line_fault_text, script_fault_text};
+
+use mr_script::{LineFault, ScriptFault};
+use std::io::Write;
+use std::{fmt, io};
+
+/// Why the program ends before its end.
+#[derive(Clone, Copy, Debug, PartialEq, Eq)]
+pub enum Fault {
+    /// A word of the command line is not UTF-8.
+    CommandLine,
+    /// A frame's text, help or the version can't be printed.
+    Write,
+    OutOfMemory,
+    /// The script, its reader or its writer.
+    Script(ScriptFault),
+}
+
+/// How the program ends.
+#[derive(Clone, Copy, Debug, PartialEq, Eq)]
+pub enum Ending {
+    /// The script ran to its end, or a frame was told, or help or the version was printed.
+    Done,
+    /// The word of the command line spells no frame, and standard output says how.
+    NoFrame,
+    /// The command line is wrong, and standard error says how.
+    WrongCommandLine,
+    /// A fault ended it.
+    Stopped(Fault),
+}
+
+/// How the program ends where the run of a script ended so.
+pub fn ending_of_run(ended: Result<(), ScriptFault>) -> Ending
+    ensures { result ≡ ending_of (end_of ended) }
+{
+    match ended {
+        Ok(()) => Ending::Done,
+        Err(fault) => Ending::Stopped(Fault::Script(fault)),
+    }
+}
+
+/// The exit status of an ending: 0 where all was done, 2 for a wrong command line, and else 1.
+pub fn exit_of(ending: Ending) -> u8
+    ensures status { result ≡ status_of ending }
+    ensures within { result ≤ 2 }
+{
+    match ending {
+        Ending::Done => 0,
+        Ending::WrongCommandLine | Ending::Stopped(Fault::CommandLine) => 2,
+        Ending::NoFrame | Ending::Stopped(Fault::Write | Fault::OutOfMemory | Fault::Script(_)) =>
+            1,
+    }
+}
+
+/// Tells standard error why the program ends before its end, in one line. Of another ending it is told nothing.
+/// It takes no memory. After an error a beginning of the line may have been written.
+pub fn tell<E: Write>(ending: Ending, errors: &mut E) -> io::Result<()>
+    ensures { OnOk result (IsTold ending E.contents errors.old errors.new) }
+{
+    match ending {
+        Ending::Stopped(fault) => {
+            let text = FaultText(fault);
+            writeln!(errors, "{text}")
+        }
+        Ending::Done | Ending::NoFrame | Ending::WrongCommandLine => Ok(()),
+    }
+}
+
+/// Tells why the program ends, and gives its exit status, which is the same where that can't be told.
+pub fn leave<E: Write>(ending: Ending, errors: &mut E) -> u8
+    ensures status { result ≡ status_of ending }
+    ensures within { result ≤ 2 }
+{
+    let _ = tell(ending, errors);
+    exit_of(ending)
+}
+
+/// What standard error is told of a fault.
+#[derive(Clone, Copy)]
+struct FaultText(Fault);
+
+impl fmt::Display for FaultText {
+    ghost output = { λ text. Some (fault_text text.0) };
+
+    fn fmt<W: fmt::Write>(&self, f: &mut fmt::Formatter<W>) -> fmt::Result {
+        match self.0 {
+            Fault::CommandLine => write!(f, "error: the command line is not text"),
+            Fault::Write => write!(f, "write fault"),
+            Fault::OutOfMemory => write!(f, "out of memory"),
+            Fault::Script(fault) => {
+                let text = ScriptText(fault);
+                write!(f, "{text}")
+            }
+        }
+    }
+}
+
+/// What is told of a script's fault.
+#[derive(Clone, Copy)]
+struct ScriptText(ScriptFault);
+
+impl fmt::Display for ScriptText {
+    ghost output = { λ text. Some (script_fault_text text.0) };
+
+    fn fmt<W: fmt::Write>(&self, f: &mut fmt::Formatter<W>) -> fmt::Result {
+        match self.0 {
+            ScriptFault::Line { line, fault } => {
+                let text = LineText(fault);
+                write!(f, "line {line}: {text}")
+            }
+            ScriptFault::Read => write!(f, "read fault"),
+            ScriptFault::Write => write!(f, "write fault"),
+            ScriptFault::TooLong => write!(f, "script too long"),
+        }
+    }
+}
+
+/// What is told of a line's fault, behind the line's number.
+#[derive(Clone, Copy)]
+struct LineText(LineFault);
+
+impl fmt::Display for LineText {
+    ghost output = { λ text. Some (line_fault_text text.0) };
+
+    fn fmt<W: fmt::Write>(&self, f: &mut fmt::Formatter<W>) -> fmt::Result {
+        match self.0 {
+            LineFault::NotText => write!(f, "not text"),
+            LineFault::UnknownCommand => write!(f, "unknown command"),
+            LineFault::WrongWords => write!(f, "wrong words"),
+            LineFault::BadNumber => write!(f, "bad number"),
+            LineFault::BadVersion => write!(f, "bad version"),
+            LineFault::BadDate => write!(f, "bad date"),
+            LineFault::BadFlags => write!(f, "bad flags"),
+            LineFault::BadFilter { place } => write!(f, "bad filter at {place}"),
+            LineFault::TooManyClauses => write!(f, "too many clauses"),
+            LineFault::TooManyLabels => write!(f, "too many labels"),
+            LineFault::MessageRefused { number } => write!(f, "message refused {number}"),
+            LineFault::LateReplica => write!(f, "replica after the first event"),
+            LineFault::SameReplica => write!(f, "same replica"),
+            LineFault::BadLimit => write!(f, "bad limit"),
+            LineFault::BadCapacity => write!(f, "bad capacity"),
+            LineFault::NoSuchReplica => write!(f, "no such replica"),
+            LineFault::NoSuchFrame => write!(f, "no such frame"),
+            LineFault::OutOfMemory => write!(f, "out of memory"),
+        }
+    }
+}

@@ -1,0 +1,96 @@
+//! The program `mailrep`, over its words and streams.
+//!
+//! `mailrep run` hands a script to `run_script`, which runs it line by line and prints the answers, over item sets or,
+//! with `--sparing`, over sparing knowledge; `mailrep frame HEX` prints what `frame_text` says of HEX. Here stand the
+//! command line with its help, how the program ends, and its exit status: 0; 1 for a script, read or write fault, for a
+//! HEX that spells no frame, or where memory runs out; 2 for a wrong command line. A fault's text goes to standard
+//! error, and with `--hints` a hint behind it.
+//!
+//! [`run_mailrep`] is all of `main`. What it reads and writes are parameters, so that a program can call it with many
+//! command lines, and with readers and writers that fail.
+#![tactic(auto)]
+
+ghost use Rattle.std.specs.Prelude.{◌≤◌};
+
+mod command_line;
+mod ending;
+mod remembering;
+mod run;
+
+use command_line::{Request, Run, read_command_line};
+pub use ending::{Ending, Fault, ending_of_run, exit_of, leave, tell};
+use mr_script::ScriptFault;
+pub use run::{end_frame, end_script};
+use run::{answer_command_line, run_reader};
+use std::alloc::Global;
+use std::io::{Read, Write};
+use std::rt::Env;
+use std::{env, io};
+
+/// Where the script of a name is found.
+pub trait Scripts {
+    /// A script that was opened.
+    type Script: Read + Drop;
+
+    /// Opens the script of this name.
+    fn open_script(&self, name: &str) -> io::Result<Self::Script>;
+}
+
+/// Does what the command line of the runtime asks for, and gives the exit status: 0, 1 or 2.
+///
+/// A script is read from the input, or from the file that the command line names. Answers, frames, help and the version
+/// go to the output; faults, hints and what is wrong with a command line go to the errors.
+pub fn run_mailrep<R, S, I, W, E>(
+    rt: &R,
+    scripts: &S,
+    input: I,
+    output: &mut W,
+    errors: &mut E,
+) -> u8
+where
+    R: Env + AllocGlobal,
+    S: Scripts,
+    I: Read + Drop,
+    W: Write,
+    E: Write,
+    ensures { result ≤ 2 }
+{
+    let words = match words(rt) {
+        Ok(words) => words,
+        Err(fault) => return leave(Ending::Stopped(fault), errors),
+    };
+    match read_command_line(rt.alloc(), words.as_slice()) {
+        Ok(Request::Frame(hex)) => leave(end_frame(rt.alloc(), hex, output), errors),
+        Ok(Request::Run(how)) => run_named(rt.alloc(), how, scripts, input, output, errors),
+        Err(error) => answer_command_line(&error, output, errors),
+    }
+}
+
+/// The words of the command line, the program's name first.
+fn words<R: Env + AllocGlobal>(rt: &R) -> Result<Vec<String>, Fault> {
+    let words = env::args(rt).map_err(|error| match error.kind() {
+        io::ErrorKind::OutOfMemory => Fault::OutOfMemory,
+        _ => Fault::CommandLine,
+    })?;
+    words.collect(rt.alloc()).map_err(|_| Fault::OutOfMemory)
+}
+
+/// Runs the script of the file that is named, or of the input, and gives the exit status.
+fn run_named<S: Scripts, I: Read + Drop, W: Write, E: Write>(
+    alloc: Global,
+    how: Run,
+    scripts: &S,
+    input: I,
+    output: &mut W,
+    errors: &mut E,
+) -> u8
+    ensures { result ≤ 2 }
+{
+    let Some(name) = how.file else {
+        return run_reader(alloc, how, input, output, errors);
+    };
+    match scripts.open_script(name) {
+        Ok(script) => run_reader(alloc, how, script, output, errors),
+        Err(_) => leave(Ending::Stopped(Fault::Script(ScriptFault::Read)), errors),
+    }
+}

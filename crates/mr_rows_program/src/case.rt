@@ -1,0 +1,99 @@
+//! One command line with what it is given, and what comes of it.
+use crate::process::{Folder, Input, Output, Words};
+use anyhow::Result;
+use mr_program::run_mailrep;
+use std::alloc::Global;
+
+/// What fails, or is not as it should be.
+#[derive(Clone, Copy, PartialEq, Eq)]
+pub enum Failing {
+    Nothing,
+    Words,
+    Input,
+    EndlessInput,
+    File,
+    Output,
+    Errors,
+}
+
+impl Failing {
+    /// What a table calls so.
+    pub fn from_name(name: &str) -> Failing {
+        match name {
+            "words no text" => Failing::Words,
+            "input fails" => Failing::Input,
+            "input endless" => Failing::EndlessInput,
+            "file fails" => Failing::File,
+            "output fails" => Failing::Output,
+            "errors fail" => Failing::Errors,
+            _ => Failing::Nothing,
+        }
+    }
+}
+
+/// A command line with what it is given.
+#[derive(Drop)]
+pub struct Case {
+    /// What the table says of it, line by line.
+    pub told: String,
+    /// The words, the program's name first.
+    pub words: Vec<Vec<u8>>,
+    /// Standard input.
+    pub input: Vec<u8>,
+    /// The file `script`.
+    pub file: Vec<u8>,
+    pub failing: Failing,
+}
+
+/// What comes of a command line.
+#[derive(Drop)]
+pub struct Said {
+    pub status: u8,
+    pub output: Vec<u8>,
+    pub errors: Vec<u8>,
+}
+
+impl Case {
+    /// A command line of these words, with bars between them, and nothing else.
+    pub fn new(alloc: Global, words: &str) -> Result<Case> {
+        let mut all = Vec::new(alloc);
+        all.push(Vec::from_slice(alloc, b"mailrep")?)?;
+        if !words.trim().is_empty() {
+            for word in words.split('|') {
+                all.push(Vec::from_slice(alloc, word.trim().as_bytes())?)?;
+            }
+        }
+        Ok(Case {
+            told: String::new(alloc),
+            words: all,
+            input: Vec::new(alloc),
+            file: Vec::new(alloc),
+            failing: Failing::Nothing,
+        })
+    }
+
+    /// Runs the program with it.
+    pub fn run(&self, alloc: Global) -> Result<Said> {
+        let words = Words {
+            words: self.words.as_slice(),
+            are_text: self.failing != Failing::Words,
+        };
+        let folder = Folder {
+            script: self.file.as_slice(),
+            fails: self.failing == Failing::File,
+        };
+        let input = Input {
+            rest: self.input.as_slice(),
+            fails: self.failing == Failing::Input,
+            is_endless: self.failing == Failing::EndlessInput,
+        };
+        let mut output = Output::new(alloc, self.failing == Failing::Output);
+        let mut errors = Output::new(alloc, self.failing == Failing::Errors);
+        let status = run_mailrep(&(words, alloc), &folder, input, &mut output, &mut errors);
+        Ok(Said {
+            status,
+            output: output.written,
+            errors: errors.written,
+        })
+    }
+}

@@ -1,0 +1,85 @@
+//! Tables of command lines.
+use crate::case::{Case, Failing};
+use anyhow::Result;
+use std::alloc::{AllocError, Global};
+
+/// How many letters the escape `\k` stands for.
+const MANY: usize = 1000;
+
+/// The cases of a table.
+pub fn read_table(alloc: Global, text: &str) -> Result<Vec<Case>> {
+    let mut cases = Vec::new(alloc);
+    for line in text.lines() {
+        read_line(alloc, line, &mut cases)?;
+    }
+    Ok(cases)
+}
+
+/// Begins a case, or adds the line to the last.
+fn read_line(alloc: Global, line: &str, cases: &mut Vec<Case>) -> Result<()> {
+    let (mark, text) = line.split_once(' ').unwrap_or((line, ""));
+    if mark == "$" {
+        cases.push(Case::new(alloc, text)?)?;
+    }
+    if let Some(case) = cases.last_mut() {
+        if add_line(case, mark, text)? {
+            tell_line(&mut case.told, line)?;
+        }
+    }
+    Ok(())
+}
+
+/// Adds what a line says to a case. Says whether it is a line of one.
+fn add_line(case: &mut Case, mark: &str, text: &str) -> Result<bool> {
+    match mark {
+        "$" => {}
+        "<" => push_line(&mut case.input, text)?,
+        "@" => push_line(&mut case.file, text)?,
+        "%" => case.failing = Failing::from_name(text),
+        _ => return Ok(false),
+    }
+    Ok(true)
+}
+
+/// Adds the line to what is printed of its case, a long one cut.
+fn tell_line(told: &mut String, line: &str) -> Result<(), AllocError> {
+    match line.get(..100) {
+        Some(beginning) => {
+            told.push_str(beginning)?;
+            told.push_str("..\n")
+        }
+        None => {
+            told.push_str(line)?;
+            told.push_str("\n")
+        }
+    }
+}
+
+/// Adds a line of a script, with what its escapes stand for.
+fn push_line(bytes: &mut Vec<u8>, text: &str) -> Result<(), AllocError> {
+    let mut is_escaped = false;
+    for byte in text.as_bytes() {
+        match (is_escaped, *byte) {
+            (false, b'\\') => is_escaped = true,
+            (true, escape) => {
+                is_escaped = false;
+                push_escape(bytes, escape)?;
+            }
+            (false, byte) => bytes.push(byte)?,
+        }
+    }
+    bytes.push(b'\n')?;
+    Ok(())
+}
+
+/// Adds what an escape stands for.
+fn push_escape(bytes: &mut Vec<u8>, escape: u8) -> Result<(), AllocError> {
+    match escape {
+        b'r' => bytes.push(b'\r')?,
+        b's' => bytes.push(b' ')?,
+        b'x' => bytes.push(0xff)?,
+        b'k' => bytes.extend_from_slice(&[b'k'; MANY])?,
+        other => bytes.push(other)?,
+    }
+    Ok(())
+}
