@@ -1,7 +1,7 @@
-//! Knowledge by sets of items beside plain knowledge: calls on few items and low versions.
+//! A form of knowledge by sets of items beside plain knowledge: calls on few items and low versions.
 //!
-//! What the one learns for an item the other learns for all, so they are compared by the pairs of a
-//! version with the item that it is of.
+//! What the one learns for an item the other learns for all, and the sparing form chooses by what it knows,
+//! so they are compared by the pairs of a version with the item that it is of.
 use crate::Outcome;
 use crate::numbers::Numbers;
 use anyhow::Result;
@@ -9,18 +9,13 @@ use mr_concise::ConciseVector;
 use mr_forms::{
     FormFault, Fragment, ItemSet, Knowledge, PlainKnowledge, PlainVersions, VersionSet,
 };
-use mr_itemset::ItemKnowledge;
 use mr_version::{Author, ItemId, Version};
 use std::alloc::Global;
 
 const SEED: u64 = 15_009;
 
-const CALLS: u32 = 3_000;
-
-/// The versions that are compared: so many authors, and so many counters of each.
-const AUTHORS: u32 = 3;
-
-const COUNTERS: u32 = 16;
+/// How many authors the versions have that are compared.
+const AUTHORS: u16 = 3;
 
 /// An author creates an item, edits it so often, and then creates another.
 const VERSIONS_OF_ITEM: u32 = 4;
@@ -32,16 +27,28 @@ fn item_of(version: Version) -> Result<ItemId> {
     Ok(ItemId::new(creator))
 }
 
+/// How long a comparison is.
+#[derive(Clone, Copy, Debug)]
+pub struct Course {
+    /// How many calls are made.
+    pub calls: u32,
+    /// How many counters of each author are learned. Every second of 40 leaves more holes than the
+    /// sparing form spares in a column.
+    pub counters: u16,
+}
+
 /// One knowledge, in both forms.
 #[derive(Drop)]
-struct Twin {
-    items: ItemKnowledge,
+struct Twin<K: Knowledge> {
+    counters: u16,
+    items: K,
     plain: PlainKnowledge,
 }
 
 /// A random call's parts: a version with its item, a set of versions, and the kind of the call.
 #[derive(Drop)]
 struct Call {
+    counters: u16,
     kind: u32,
     version: Version,
     item: ItemId,
@@ -49,13 +56,14 @@ struct Call {
 }
 
 impl Call {
-    fn random(numbers: &mut Numbers, alloc: Global) -> Result<Call> {
+    fn random(numbers: &mut Numbers, alloc: Global, counters: u16) -> Result<Call> {
         let run = numbers.run()?;
-        let version = Version::try_new(run.author, numbers.below(COUNTERS) + 1)?;
+        let version = Version::try_new(run.author, numbers.below(u32::from(counters).max(1)) + 1)?;
         let mut set = ConciseVector::new(alloc);
         set.insert_range(run)?;
         set.insert_range(numbers.run()?)?;
         Ok(Call {
+            counters,
             kind: numbers.below(16),
             version,
             item: item_of(version)?,
@@ -70,7 +78,7 @@ impl Call {
             let items = ItemSet::All;
             return Ok(Fragment { items, vector });
         }
-        let next = Version::try_new(self.version.author(), COUNTERS + 1)?;
+        let next = Version::try_new(self.version.author(), u32::from(self.counters) + 1)?;
         let items = ItemSet::Listed(vec![in alloc; item_of(next)?, self.item]?);
         Ok(Fragment { items, vector })
     }
@@ -78,8 +86,8 @@ impl Call {
 
 /// The fragments of one knowledge, in both forms.
 #[derive(Drop)]
-struct Fragments {
-    of_items: Vec<Fragment<ConciseVector>>,
+struct Fragments<V: VersionSet> {
+    of_items: Vec<Fragment<V>>,
     of_plain: Vec<Fragment<PlainVersions>>,
 }
 
@@ -102,13 +110,34 @@ fn cover<V: VersionSet>(fragments: &[Fragment<V>], item: ItemId, version: Versio
     })
 }
 
-impl Twin {
+impl<K: Knowledge + PartialEq> Twin<K> {
     /// The knowledge of nothing.
-    fn new(alloc: Global) -> Twin {
+    fn new(alloc: Global, counters: u16) -> Twin<K> {
         Twin {
-            items: ItemKnowledge::new(alloc),
+            counters,
+            items: K::new(alloc),
             plain: PlainKnowledge::new(alloc),
         }
+    }
+
+    /// The knowledge of every second version of an author.
+    fn with_gaps(alloc: Global, counters: u16, author: Author) -> Result<Twin<K>> {
+        let mut twin: Twin<K> = Twin::new(alloc, counters);
+        for place in 0..u32::from(counters / 2) {
+            let version = Version::try_new(author, 2 * place + 2)?;
+            let item = item_of(version)?;
+            twin.items.learn(item, version)?;
+            twin.plain.learn(item, version)?;
+        }
+        Ok(twin)
+    }
+
+    /// The knowledge with which the call begins anew.
+    fn anew(alloc: Global, call: &Call) -> Result<Twin<K>> {
+        if call.version.counter() % 4 == 1 {
+            return Ok(Twin::new(alloc, call.counters));
+        }
+        Twin::with_gaps(alloc, call.counters, call.version.author())
     }
 
     /// Makes a call that teaches on both forms. With so few items and versions neither may refuse.
@@ -139,7 +168,7 @@ impl Twin {
     }
 
     /// Each form takes what the other form of another knowledge has.
-    fn take(&mut self, other: &Twin) -> Result<bool> {
+    fn take(&mut self, other: &Twin<K>) -> Result<bool> {
         merge_all(&other.plain, &mut self.items)?;
         merge_all(&other.items, &mut self.plain)?;
         Ok(true)
@@ -148,13 +177,13 @@ impl Twin {
     /// Whether a copy is equal, and what is made anew of the fragments. The plain form goes on as a copy.
     fn is_made(&mut self, alloc: Global) -> Result<bool> {
         self.plain = self.plain.copy()?;
-        let mut made = ItemKnowledge::new(alloc);
+        let mut made = K::new(alloc);
         merge_all(&self.items, &mut made)?;
         Ok(self.items == made && self.items == self.items.copy()?)
     }
 
     /// Whether both forms know this version of its item alike, and their fragments cover it so.
-    fn agrees_about(&self, fragments: &Fragments, version: Version) -> Result<bool> {
+    fn agrees_about(&self, fragments: &Fragments<K::Vector>, version: Version) -> Result<bool> {
         let item = item_of(version)?;
         let knows = self.plain.knows(item, version);
         Ok(
@@ -164,16 +193,24 @@ impl Twin {
         )
     }
 
-    /// Whether both forms know the same, version by version.
+    /// Whether both forms know the same of an author, version by version.
+    fn agrees_of(&self, fragments: &Fragments<K::Vector>, author: Author) -> Result<bool> {
+        for counter in 1..u32::from(self.counters) + 1 {
+            if !self.agrees_about(fragments, Version::try_new(author, counter)?)? {
+                return Ok(false);
+            }
+        }
+        Ok(true)
+    }
+
+    /// Whether both forms know the same.
     fn agrees(&self) -> Result<bool> {
         let fragments = Fragments {
             of_items: self.items.fragments()?,
             of_plain: self.plain.fragments()?,
         };
-        for place in 0..AUTHORS * COUNTERS {
-            let author = Author::try_new((place / COUNTERS) as u16)?;
-            let version = Version::try_new(author, place % COUNTERS + 1)?;
-            if !self.agrees_about(&fragments, version)? {
+        for id in 0..AUTHORS {
+            if !self.agrees_of(&fragments, Author::try_new(id)?)? {
                 return Ok(false);
             }
         }
@@ -183,10 +220,15 @@ impl Twin {
 
 /// Makes one call on both forms of the first knowledge, and gives whether they answer alike. Some
 /// calls begin anew, or change the places of the two.
-fn make(twin: &mut Twin, other: &mut Twin, alloc: Global, call: &Call) -> Result<bool> {
+fn make<K: Knowledge + PartialEq>(
+    twin: &mut Twin<K>,
+    other: &mut Twin<K>,
+    alloc: Global,
+    call: &Call,
+) -> Result<bool> {
     match call.kind {
         0 => {
-            *twin = Twin::new(alloc);
+            *twin = Twin::anew(alloc, call)?;
             Ok(true)
         }
         1 => {
@@ -201,26 +243,26 @@ fn make(twin: &mut Twin, other: &mut Twin, alloc: Global, call: &Call) -> Result
 }
 
 /// Makes one random call, and gives whether both forms answer alike and then know the same.
-fn call_agrees(
-    twin: &mut Twin,
-    other: &mut Twin,
+fn call_agrees<K: Knowledge + PartialEq>(
+    twin: &mut Twin<K>,
+    other: &mut Twin<K>,
     numbers: &mut Numbers,
     alloc: Global,
 ) -> Result<bool> {
-    let call = Call::random(numbers, alloc)?;
+    let call = Call::random(numbers, alloc, twin.counters)?;
     Ok(make(twin, other, alloc, &call)? && twin.agrees()?)
 }
 
 /// Makes random calls on two knowledges, and compares both forms after each.
-pub fn compare(alloc: Global) -> Result<Outcome> {
+pub fn compare<K: Knowledge + PartialEq>(alloc: Global, course: Course) -> Result<Outcome> {
+    let Course { calls, counters } = course;
     let mut numbers = Numbers::from_seed(SEED);
-    let mut twin = Twin::new(alloc);
-    let mut other = Twin::new(alloc);
-    for number in 1..CALLS + 1 {
+    let mut twin: Twin<K> = Twin::new(alloc, counters);
+    let mut other: Twin<K> = Twin::new(alloc, counters);
+    for before in 0..calls {
         if !call_agrees(&mut twin, &mut other, &mut numbers, alloc)? {
-            return Ok(Outcome::DifferAt(number));
+            return Ok(Outcome::DifferAt(before + 1));
         }
     }
-    let calls = CALLS;
     Ok(Outcome::Agree { calls, refused: 0 })
 }

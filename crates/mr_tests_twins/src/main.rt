@@ -3,8 +3,8 @@
 //! against each other, in runs that are longer than a test's.
 //!
 //! A module compares one pair and gives its calls back, or the number of the call that differs:
-//! here concise vectors beside plain sets, and knowledge by sets of items beside plain knowledge, each
-//! with its limit. A further pair is a module of its own and a line in
+//! here concise vectors beside plain sets with their limit, knowledge by sets of items and its sparing form
+//! beside plain knowledge, and their limits of items. A further pair is a module of its own and a line in
 //! `run_all`. The numbers come from fixed seeds, so that each run of the program is the same.
 #![tactic(auto)]
 
@@ -15,7 +15,21 @@ mod numbers;
 mod sets;
 
 use anyhow::Result;
+use knowledge::Course;
+use mr_itemset::{ItemKnowledge, SparingKnowledge};
 use std::process::ExitCode;
+
+/// Knowledge by sets of items is compared over few counters.
+const FEW_COUNTERS: Course = Course {
+    calls: 3_000,
+    counters: 16,
+};
+
+/// Sparing knowledge lists items only where a column has many holes.
+const MANY_COUNTERS: Course = Course {
+    calls: 200,
+    counters: 40,
+};
 
 fn main(rt: HostRuntime) -> ExitCode {
     match run_all(&rt) {
@@ -39,10 +53,19 @@ fn run_all(rt: &(impl Print + AllocGlobal)) -> Result<bool> {
     let knowledge = say(
         rt,
         "knowledge by sets of items and plain knowledge",
-        knowledge::compare(rt.alloc())?,
+        knowledge::compare::<ItemKnowledge>(rt.alloc(), FEW_COUNTERS)?,
     )?;
-    let items = say(rt, "their limit of items", many_items::compare(rt.alloc())?)?;
-    Ok(sets && limits && knowledge && items)
+    let sparing = say(
+        rt,
+        "sparing knowledge and plain knowledge",
+        knowledge::compare::<SparingKnowledge>(rt.alloc(), MANY_COUNTERS)?,
+    )?;
+    let items = say(
+        rt,
+        "their limits of items",
+        many_items::compare(rt.alloc())?,
+    )?;
+    Ok(sets && limits && knowledge && sparing && items)
 }
 
 /// How a comparison ended.
