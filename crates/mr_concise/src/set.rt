@@ -29,14 +29,7 @@ impl VersionSet for ConciseVector {
     }
 
     fn copy(&self) -> Result<ConciseVector, FormFault> {
-        let mut columns = Vec::new(self.alloc);
-        for x in &self.columns {
-            columns.push(x.copy()?)?;
-        }
-        Ok(ConciseVector {
-            alloc: self.alloc,
-            columns,
-        })
+        Ok(ConciseVector::copy(self)?)
     }
 
     fn contains(&self, version: Version) -> bool {

@@ -133,6 +133,20 @@ impl ConciseVector {
         self.columns.as_slice()
     }
 
+    /// An equal vector. It costs a copy of the columns.
+    pub fn copy(&self) -> Result<ConciseVector, AllocError>
+        ensures { IfOk result (λ vector. vector ≡ self.now) }
+    {
+        let mut columns = Vec::with_capacity(self.alloc, self.columns.len())?;
+        for x in &self.columns {
+            columns.push(x.copy()?)?;
+        }
+        Ok(ConciseVector {
+            alloc: self.alloc,
+            columns,
+        })
+    }
+
     /// The author's highest counter that the set has.
     pub fn last(&self, author: Author) -> Option<u32>
         ensures { MatchOption result (HasNoneOf (vector_has self.now) author) (λ counter. IsLast (vector_has self.now) author counter) }

@@ -1,11 +1,13 @@
 //! A device: a replica, and what it sends and takes.
 use crate::fault::Fault;
+use crate::log::{events_of, log_bytes};
 use crate::mail::Draft;
 use crate::wire::Wire;
+use mr_alike::alike_are_one;
 use mr_feed::Entry;
 use mr_filter::Filter;
-use mr_itemset::{SparingKnowledge, one_choice};
-use mr_replica::{Bases, Event, Received, Refusal, Replica, Revision};
+use mr_itemset::SparingKnowledge;
+use mr_replica::{Bases, Received, Refusal, Replica, Revision};
 use mr_version::{Author, Version};
 use mr_wire::{Ask, Frame, Receipt, encode_ask, encode_receipt, encode_record};
 use std::alloc::Global;
@@ -32,18 +34,20 @@ impl Device {
     }
 
     /// A device of this id and filter that takes all events of this one's log, one after the other: what a program
-    /// does that keeps its log on disk and is started anew.
+    /// does that keeps its log on disk and is started anew. The log goes over bytes, of which the events are read again.
     ///
-    /// `Replay` at the first event that it refuses, or for which there is no memory. Where it comes to the end its log
-    /// is just these events. That it then has what this one has is compared here, and not proved: `stdout` has both.
+    /// `Event` where the bytes go wrong; `Replay` at the first event that it refuses, or for which there is no memory.
+    /// Where it comes to the end its log is just these events. With the id and the filter that were given here, the new
+    /// device is equal to this one, by a law; `stdout` compares the two all the same.
     pub fn from_its_log(&self, id: u16, filter: &str) -> Result<Device, Fault> {
         let alloc = self.alloc;
         let id = Author::try_new(id)?;
         let filter = Filter::read(alloc, filter)?;
-        let log = copies(alloc, self.replica.log())?;
+        let bytes = log_bytes(alloc, self.replica.log())?;
+        let log = events_of(alloc, &bytes)?;
         let replica = Replica::replay(alloc, id, filter, EVENT_LIMIT, log)?;
-        // If both know the same, they will also keep what they learn in the same form.
-        one_choice(self.replica.knowledge(), replica.knowledge());
+        // One log, with its id, filter and limit, has one replica; and these two answer alike from here on.
+        alike_are_one(&self.replica, &replica);
         Ok(Device { alloc, replica })
     }
 
@@ -145,15 +149,6 @@ impl Device {
     pub fn feed(&self) -> &[Entry] {
         self.replica.feed()
     }
-}
-
-/// Copies of the events.
-fn copies(alloc: Global, events: &[Event]) -> Result<Vec<Event>, Fault> {
-    let mut copies = Vec::new(alloc);
-    for event in events {
-        copies.push(event.copy(alloc)?)?;
-    }
-    Ok(copies)
 }
 
 /// The request in the frame.

@@ -1,4 +1,5 @@
 //! What can go wrong in this program.
+use mr_event::EventFault;
 use mr_filter::FilterFault;
 use mr_frames::FrameFault;
 use mr_mail::{DayFault, MessageFault};
@@ -45,6 +46,9 @@ pub enum Fault {
     /// The bytes of a wire spell no frame.
     #[error(transparent)]
     Frame(#[from] FrameFault),
+    /// An event of a log is too long to be spelled, or the bytes of a log spell no event.
+    #[error(transparent)]
+    Event(#[from] EventFault),
     /// A whole frame was waited for, and its last byte didn't come.
     #[error("a wire ended before a frame")]
     NoFrame,

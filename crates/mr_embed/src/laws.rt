@@ -18,6 +18,9 @@ pub fn cite_laws() {
     // No frame can be taken for another.
     no_spelling_begins_another();
     one_spelling();
+    // No event of a log can be taken for another.
+    mr_event::no_spelling_begins_another();
+    mr_event::one_spelling();
     // Of each knowledge there is one text, so that it can be compared.
     one_normal_form();
     // What a port gave, and what waits in it, is what was offered.

@@ -6,7 +6,8 @@
 //! is bytes.
 //!
 //! `device` has what a replica is asked to do, `wire` how frames come out of bytes, `exchange` the order of the
-//! calls of a sync, `retirement` those of a retirement, `shelf` what the user sees, and `bell` when a device rings.
+//! calls of a sync, `retirement` those of a retirement, `log` how a log is kept as bytes, `shelf` what the user sees,
+//! and `bell` when a device rings.
 //! What the program prints, the file `stdout`, was worked out by hand from the rules.
 //!
 //! ```text
@@ -24,6 +25,7 @@ mod device;
 mod exchange;
 mod fault;
 mod laws;
+mod log;
 mod mail;
 mod retirement;
 mod shelf;
@@ -160,7 +162,7 @@ fn bring_to_office<R: Print + AllocGlobal>(
     tell_heads(rt, "office", office)
 }
 
-/// The office's program is started anew, from the log.
+/// The office's program is started anew, from the bytes of the log.
 fn start_again<R: Print + AllocGlobal>(rt: &R, office: &Device) -> Result<(), Fault> {
     let again = office.from_its_log(0, "all")?;
     tell_heads(rt, "office, from its log", &again)

@@ -5,6 +5,7 @@ pub mod Covered
 pub mod Merged
 pub mod Parts
 pub mod Listing
+pub mod ByMeaning
 pub mod Fault
 pub mod Additions
 pub mod Columns

@@ -16,6 +16,7 @@ pub trait Knowledge: Drop {
     ghost use Rattle.mr_forms.specs.Covered.{covered, all_covered, HasItems};
     ghost use Rattle.mr_forms.specs.Parts.{part_of, ArePartsThat};
     ghost use Rattle.mr_forms.specs.Listing.{ListsMore};
+    ghost use Rattle.mr_forms.specs.ByMeaning.{IsByMeaning};
     ghost use Rattle.mr_forms.specs.Merged.{after_each, FirstHasValue, AreOverHolesInTurn, AreOverItemsInTurn};
 
     /// The form of the vectors of its fragments.
@@ -124,4 +125,9 @@ pub trait Knowledge: Drop {
     /// items for which some call was given something beyond what is known for all. The law is over the
     /// parts of `form`, which the fragments are.
     ghost lists_more: { ListsMore form };
+
+    /// What is known decides all that a caller sees: two values that know the same have the same parts, and
+    /// learn a version for all items in the same cases, however each came to know it. The law is over all
+    /// values of the model, those that no call makes among them.
+    ghost by_meaning: { IsByMeaning form };
 }

@@ -194,13 +194,15 @@ impl PlainKnowledge {
 }
 
 impl Knowledge for PlainKnowledge {
-    ghost use Rattle.mr_forms.specs.PlainLaws.{plain_lists_more};
+    ghost use Rattle.mr_forms.specs.PlainLaws.{plain_lists_more, plain_by_meaning};
 
     type Vector = PlainVersions;
 
     ghost form = { plain_form };
 
     ghost lists_more = { plain_lists_more };
+
+    ghost by_meaning = { plain_by_meaning };
 
     fn new(alloc: Global) -> Self {
         PlainKnowledge {

@@ -22,6 +22,20 @@ pub begins_more : (bytes : List ℕ) (f : Frame) (left more : List ℕ) → Begi
 begins_more bytes f left more b =
     record { format = b.format; text = b.text; spelled = b.spelled; whole = ap (λ (z : List ℕ). z ++ more) b.whole ∙ append_assoc b.text left more }
 
+-- with more bytes they are the same frames, and the rest with these bytes
+pub frames_more : (bytes : List ℕ) (frames : List Frame) (rest more : List ℕ) → AreFrames bytes frames rest → AreFrames (bytes ++ more) frames (rest ++ more)
+frames_more bytes [] rest more h = ap (λ (z : List ℕ). z ++ more) h
+frames_more bytes (f ∷ frames) rest more h = (h.0 ++ more, begins_more bytes f h.0 more h.1, frames_more h.0 frames rest more h.2)
+
+-- frames behind frames
+pub frames_on : (bytes : List ℕ) (frames others : List Frame) (rest end : List ℕ) → AreFrames bytes frames rest → AreFrames rest others end → AreFrames bytes (frames ++ others) end
+frames_on bytes [] others rest end h k = subst (λ (z : List ℕ). AreFrames z others end) (sym h) k
+frames_on bytes (f ∷ frames) others rest end h k = (h.0, h.1, frames_on h.0 frames others rest end h.2 k)
+
+-- frames of a rest with more bytes, behind those before it
+pub frames_whole : (bytes more : List ℕ) (frames others : List Frame) (rest end : List ℕ) → AreFrames bytes frames rest → AreFrames (rest ++ more) others end → AreFrames (bytes ++ more) (frames ++ others) end
+frames_whole bytes more frames others rest end h k = frames_on (bytes ++ more) frames others (rest ++ more) end (frames_more bytes frames rest more h) k
+
 -- bytes begin with one frame
 pub begins_once : (bytes : List ℕ) (f g : Frame) (left other : List ℕ) → Begins bytes f left → Begins bytes g other → (f ≡ g) × (left ≡ other)
 begins_once bytes f g left other a b =

@@ -35,3 +35,16 @@ pub fn part_of_a_frame_is_truncated()
     ensures { (format : ℕ) (f : Frame) (part more : List ℕ) → Spells format f (part ++ more) → more ≢ []
         → decoded part ≡ Err Truncated }
 {}
+
+/// Bytes behind a stream, by what they are put behind.
+///
+/// Where bytes are frames and then a rest, with more bytes they are the same frames and then the rest with
+/// these bytes. Where that again is frames and then a rest, all of it is the frames of both, and the last rest.
+pub fn frames_behind_frames()
+    ensures more { (bytes : List ℕ) (frames : List Frame) (rest more : List ℕ) → AreFrames bytes frames rest
+        → AreFrames (bytes ++ more) frames (rest ++ more) }
+    ensures on { (bytes : List ℕ) (frames others : List Frame) (rest end : List ℕ) → AreFrames bytes frames rest
+        → AreFrames rest others end → AreFrames bytes (frames ++ others) end }
+    ensures whole { (bytes more : List ℕ) (frames others : List Frame) (rest end : List ℕ) → AreFrames bytes frames rest
+        → AreFrames (rest ++ more) others end → AreFrames (bytes ++ more) (frames ++ others) end }
+{}

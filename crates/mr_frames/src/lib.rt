@@ -25,7 +25,7 @@ mod reader;
 
 pub use fault::FrameFault;
 pub use laws::{
-    cuts_have_no_effect, fed_bytes_are_frames_and_rest, part_of_a_frame_is_truncated,
-    whole_frames_are_given,
+    cuts_have_no_effect, fed_bytes_are_frames_and_rest, frames_behind_frames,
+    part_of_a_frame_is_truncated, whole_frames_are_given,
 };
 pub use reader::FrameReader;

@@ -8,7 +8,7 @@ use crate::fault::FrameFault;
 use byteorder::{BigEndian, ByteOrder};
 use bytes::BytesMut;
 use mr_wire::{Frame, MAX_REST_BYTES, WireFault, decode};
-use std::alloc::Global;
+use std::alloc::{AllocError, Global};
 use std::marker::Model;
 
 /// The bytes of a frame's length.
@@ -87,6 +87,18 @@ impl FrameReader {
         }
     }
 
+    /// An equal reader, which gives the same frames where it is fed the same. It costs a copy of what was fed and
+    /// not yet given.
+    pub fn copy(&self) -> Result<FrameReader, AllocError>
+        ensures { IfOk result (λ reader. reader ≡ self.now) }
+    {
+        let rest = match &self.rest {
+            Some(rest) => Some(copied(rest)?),
+            None => None,
+        };
+        Ok(FrameReader { rest })
+    }
+
     /// Ends the stream: there are no more bytes to be fed.
     ///
     /// `Truncated` where bytes are left behind the frames that were given, `Failed` where the stream has
@@ -100,6 +112,15 @@ impl FrameReader {
             Some(_) => Err(FrameFault::Wire(WireFault::Truncated)),
         }
     }
+}
+
+/// The same bytes, in a buffer of their own.
+fn copied(bytes: &BytesMut) -> Result<BytesMut, AllocError>
+    ensures { IfOk result (λ copy. copy.items ≡ bytes.now.items) }
+{
+    let mut copy = BytesMut::with_capacity(*bytes.allocator(), bytes.len())?;
+    copy.extend_from_slice(bytes.as_slice())?;
+    Ok(copy)
 }
 
 /// Whether the first frame lacks its end, as far as its length tells.

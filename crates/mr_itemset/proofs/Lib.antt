@@ -26,6 +26,7 @@ pub mod PieceLemmas
 pub mod FormLemmas
 pub mod ShownLemmas
 pub mod AloneLemmas
+pub mod HolesLemmas
 pub mod SparingLemmas
 pub mod MoreLemmas
 pub mod OnlyLemmas

@@ -11,10 +11,11 @@ use Rattle.mr_concise.specs.Source.{IsColumnOf, HasFewerHoles, HasAtLeastHoles}
 use Rattle.mr_concise.specs.Vector.{column_of, vector_has}
 use Rattle.mr_concise.proofs.SweepLemmas.{IsColumnOf-unique}
 use Rattle.mr_concise.proofs.UnionLemmas.{column_of-IsColumn}
-use Rattle.mr_itemset.specs.Normal.{Normal, normal_known}
+use Rattle.mr_itemset.specs.Normal.{Normal, IsNormal, normal_known}
 use Rattle.mr_itemset.specs.ItemForm.{with_all}
-use Rattle.mr_itemset.specs.Sparing.{goes_to_all, spreads, sparing_form}
+use Rattle.mr_itemset.specs.Sparing.{holes_for_all, goes_to_all, spreads, sparing_form}
 use Rattle.mr_itemset.proofs.AloneLemmas.{both_twice}
+use Rattle.mr_itemset.proofs.HolesLemmas.{holes_counted}
 use Rattle.mr_itemset.specs.Folded.{IsSplit}
 use Rattle.mr_itemset.proofs.SplitLemmas.{split_all}
 
@@ -39,6 +40,10 @@ spare_told k settled pending author spared answer split fewer least = go (cases_
     go (inr f) =
         let holes : spared ≤ length (column_of k.all author).holes = least f (column_of k.all author) is in
         f ∙ sym (le-ltb (length (column_of k.all author).holes) spared holes)
+
+-- the column's holes are those that its versions leave
+pub holes_as_known : {limit : ℕ} (k : Normal) (author : ℕ) → IsNormal limit k → holes_for_all k author ≡ length (column_of k.all author).holes
+holes_as_known k author normal = holes_counted (column_of k.all author) (column_of-IsColumn 0 k.all author normal.all_ok).apart
 
 -- ---- what is learned, by what goes to all
 

@@ -15,4 +15,5 @@ pub mod Groups
 pub mod Shown
 pub mod Rows
 pub mod Sparing
+pub mod MeaningLaws
 pub mod SparingRows

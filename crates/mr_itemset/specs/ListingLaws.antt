@@ -20,7 +20,7 @@ use Rattle.mr_itemset.specs.ItemForm.{HasNormalVersions, item_form}
 use Rattle.mr_itemset.specs.Pieces.{HasPiece}
 
 -- an item that is not listed has what is known for all
-vector_in-free : (all : List AuthorColumn) (xs : List Listed) (i : Name) → is_listed (items_of xs) i ≡ false → vector_in all xs i ≡ all
+pub vector_in-free : (all : List AuthorColumn) (xs : List Listed) (i : Name) → is_listed (items_of xs) i ≡ false → vector_in all xs i ≡ all
 vector_in-free all [] i free = refl
 vector_in-free all (x ∷ xs) i free =
     let parts = or_parts (name_eq i x.item) (is_listed (items_of xs) i) free in

@@ -1,7 +1,8 @@
-use Rattle.std.specs.Prelude.{◌-◌, ◌+◌, ◌==◌, Bool, ◌||◌, ◌&&◌, nat_lt, length}
+use Rattle.std.specs.Prelude.{◌-◌, ◌+◌, ◌==◌, ℕ, zero, suc, Bool, ◌||◌, ◌&&◌, not, if◌then◌else◌, nat_le, nat_lt}
 use Rattle.mr_version.specs.Name.{Name}
 use Rattle.mr_forms.specs.Sets.{Versions}
 use Rattle.mr_forms.specs.Known.{Form}
+use Rattle.mr_concise.specs.Column.{column_has}
 use Rattle.mr_concise.specs.Vector.{column_of, vector_has}
 use Rattle.mr_itemset.specs.declared.rule.TheConstants.{SPARED_HOLES}
 use Rattle.mr_itemset.specs.declared.sparing.TheConstants.{MAX_LISTED_ITEMS}
@@ -12,10 +13,20 @@ use Rattle.mr_itemset.specs.ItemForm.{IsNormalPart, HasHoleyItem, ListsTooMany}
 abbrev pub before : Name → Name
 before v = record { author = v.author; counter = v.counter - 1 }
 
+-- How many holes a set of counters from 1 on has among the first so many. A hole ends right before a counter that the set
+-- has, where the counter before that is missing.
+abbrev pub holes_among : (ℕ → Bool) → ℕ → ℕ
+holes_among has zero = 0
+holes_among has (suc c) = if has (suc c) && (nat_le 1 c && not (has c)) then suc (holes_among has c) else holes_among has c
+
+-- how many holes the author's versions that all items have leave
+abbrev pub holes_for_all : Normal → ℕ → ℕ
+holes_for_all k author = holes_among (column_has (column_of k.all author)) (column_of k.all author).upto
+
 -- A version goes to all items where it is its author's first, or all items have the one before it, or its author's column
 -- for all items has holes to spare.
 abbrev pub goes_to_all : Normal → Name → Bool
-goes_to_all k v = (v.counter == 1) || (vector_has k.all (before v) || nat_lt (length (column_of k.all v.author).holes) SPARED_HOLES)
+goes_to_all k v = (v.counter == 1) || (vector_has k.all (before v) || nat_lt (holes_for_all k v.author) SPARED_HOLES)
 
 -- the one version comes right behind the other
 abbrev pub comes_next : Name → Name → Bool

@@ -1,12 +1,12 @@
 -- worked rows: which versions go to all items
-use Rattle.std.specs.Prelude.{◌≡◌, ◌+◌, ℕ, zero, suc, true, false, List, [], ◌∷◌, refl}
+use Rattle.std.specs.Prelude.{◌≡◌, ◌+◌, ◌==◌, ◌||◌, ℕ, zero, suc, true, false, List, [], ◌∷◌, refl}
 use Rattle.mr_version.specs.Name.{Name}
 use Rattle.mr_forms.specs.Sets.{is_listed}
 use Rattle.mr_concise.specs.declared.column.Hole.{Hole}
 use Rattle.mr_itemset.specs.declared.rule.TheConstants.{SPARED_HOLES}
 use Rattle.mr_itemset.specs.declared.sparing.TheConstants.{MAX_LISTED_ITEMS}
 use Rattle.mr_itemset.specs.Normal.{Normal}
-use Rattle.mr_itemset.specs.Sparing.{before, goes_to_all, comes_next, spreads, sparing_form}
+use Rattle.mr_itemset.specs.Sparing.{before, holes_among, holes_for_all, goes_to_all, comes_next, spreads, sparing_form}
 
 -- the author's version, or an item by its first version
 abbrev name : ℕ → ℕ → Name
@@ -28,6 +28,29 @@ spared_holes = refl
 
 pub max_listed_items : MAX_LISTED_ITEMS ≡ 1048576
 max_listed_items = refl
+
+-- ---- holes
+
+-- what is missing before the first counter is a hole, and so is what is missing between two, however long
+pub two_holes : holes_among (λ c. (c == 3) || (c == 9)) 9 ≡ 2
+two_holes = refl
+
+-- counters in a row have none between them
+pub no_hole : holes_among (λ c. (c == 1) || ((c == 2) || (c == 3))) 3 ≡ 0
+no_hole = refl
+
+-- nor is what is missing behind the last one a hole
+pub none_behind : holes_among (λ c. (c == 1) || (c == 4)) 9 ≡ 1
+none_behind = refl
+
+-- a column has the holes that it lists
+pub as_listed : holes_for_all (with_holes 19) 0 ≡ 19
+as_listed = refl
+
+-- A value that no call makes: it lists one hole twice, and another behind its last counter. Only the one that its versions
+-- leave counts.
+pub as_known : holes_for_all (record { all = (record { author = 0; column = record { upto = 5; holes = (record { first = 2; last = 3 }) ∷ (record { first = 2; last = 3 }) ∷ (record { first = 5; last = 7 }) ∷ [] } }) ∷ []; listed = [] }) 0 ≡ 1
+as_known = refl
 
 -- ---- versions by themselves
 

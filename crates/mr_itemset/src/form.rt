@@ -22,8 +22,9 @@ pub fn one_value<const LIMIT: usize>(first: &ItemsUpTo<LIMIT>, second: &ItemsUpT
     let _second = second.parts();
 }
 
-/// Each sparing knowledge has one value too. So two that know the same learn a version for the same items,
-/// however they came to know it.
+/// Each sparing knowledge has one value too. That two which know the same learn a version for the same items,
+/// however they came to know it, holds of all values of the model, by the law `by_meaning` of `Knowledge`; here it is
+/// said of two that calls made.
 pub fn one_choice(first: &SparingKnowledge, second: &SparingKnowledge)
     ensures one { AreSame (normal_known first.now) (normal_known second.now) → first.now ≡ second.now }
     ensures spreads { AreSame (normal_known first.now) (normal_known second.now) → (item version : Name) (set : Versions) → sparing_form.learns_for_all first.now item version set ≡ sparing_form.learns_for_all second.now item version set }

@@ -1,19 +1,24 @@
+use crate::form::{one_choice, one_value};
 use crate::knowledge::ItemKnowledge;
 use crate::sparing::SparingKnowledge;
 use mr_concise::{ConciseVector, OfSet};
-use mr_forms::{FormFault, Fragment, Knowledge, VersionSet};
+use mr_forms::{FormFault, Fragment, Knowledge, OneValue, VersionSet};
 use mr_version::{ItemId, Version};
 use std::alloc::Global;
 
 impl Knowledge for ItemKnowledge {
     ghost use Rattle.mr_itemset.specs.ItemForm.{item_form};
     ghost use Rattle.mr_itemset.specs.ListingLaws.{item_lists_more};
+    ghost use Rattle.mr_itemset.specs.MeaningLaws.{items_by_meaning};
+    ghost use Rattle.mr_forms.specs.declared.fragment.TheConstants.{MAX_ITEMS};
 
     type Vector = ConciseVector;
 
     ghost form = { item_form };
 
     ghost lists_more = { item_lists_more };
+
+    ghost by_meaning = { items_by_meaning MAX_ITEMS };
 
     fn new(alloc: Global) -> ItemKnowledge {
         ItemKnowledge::new(alloc)
@@ -80,12 +85,15 @@ impl Knowledge for ItemKnowledge {
 impl Knowledge for SparingKnowledge {
     ghost use Rattle.mr_itemset.specs.Sparing.{sparing_form};
     ghost use Rattle.mr_itemset.specs.ListingLaws.{item_lists_more};
+    ghost use Rattle.mr_itemset.specs.MeaningLaws.{sparing_by_meaning};
 
     type Vector = ConciseVector;
 
     ghost form = { sparing_form };
 
     ghost lists_more = { item_lists_more };
+
+    ghost by_meaning = { sparing_by_meaning };
 
     fn new(alloc: Global) -> SparingKnowledge {
         SparingKnowledge::new(alloc)
@@ -146,5 +154,17 @@ impl Knowledge for SparingKnowledge {
 
     fn fragments(&self) -> Result<Vec<Fragment<ConciseVector>>, FormFault> {
         SparingKnowledge::fragments(self)
+    }
+}
+
+impl OneValue for ItemKnowledge {
+    fn one_value(first: &ItemKnowledge, second: &ItemKnowledge) {
+        one_value(first, second);
+    }
+}
+
+impl OneValue for SparingKnowledge {
+    fn one_value(first: &SparingKnowledge, second: &SparingKnowledge) {
+        one_choice(first, second);
     }
 }

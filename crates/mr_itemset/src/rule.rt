@@ -4,7 +4,7 @@ ghost use Rattle.mr_forms.specs.Known.{AreSame, IsOverHolesInTurn, IsOverItemsIn
 ghost use Rattle.mr_concise.specs.Vector.{column_of, vector_has};
 ghost use Rattle.mr_itemset.specs.Normal.{normal_known};
 ghost use Rattle.mr_itemset.specs.ItemForm.{items_form};
-ghost use Rattle.mr_itemset.specs.Sparing.{goes_to_all, comes_next};
+ghost use Rattle.mr_itemset.specs.Sparing.{holes_for_all, goes_to_all, comes_next};
 
 use crate::knowledge::ItemsUpTo;
 use mr_concise::{Source, has_fewer_holes};
@@ -38,7 +38,8 @@ impl<const LIMIT: usize> ItemsUpTo<LIMIT> {
     /// Whether the author's column for all items has fewer than [`SPARED_HOLES`] holes. It allocates nothing,
     /// and walks no further along the column than to the last of so many.
     pub fn has_holes_to_spare(&self, author: Author) -> bool
-        ensures { result ≡ nat_lt (length (column_of self.now.all author).holes) SPARED_HOLES }
+        ensures spare { result ≡ nat_lt (holes_for_all self.now author) SPARED_HOLES }
+        ensures column { result ≡ nat_lt (length (column_of self.now.all author).holes) SPARED_HOLES }
     {
         let parts = self.parts();
         let all = (parts.pending, parts.settled.for_all());

@@ -1,4 +1,5 @@
 pub mod InboxLemmas
+pub mod LetterLemmas
 pub mod NoteLemmas
 pub mod PieceLemmas
 pub mod SettleLemmas

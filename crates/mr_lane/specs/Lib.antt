@@ -2,6 +2,7 @@ pub mod Desk
 pub mod Fault
 pub mod Inbox
 pub mod InboxRule
+pub mod Letters
 pub mod Note
 pub mod Piece
 pub mod Post

@@ -12,6 +12,7 @@ use Rattle.mr_lane.specs.declared.fault.SendFault.TheVariants as send
 use Rattle.mr_lane.specs.declared.tap_ends.Drawn.TheVariants as drawn
 use Rattle.mr_lane.specs.Piece.{pieces, items_of, has_end}
 use Rattle.mr_lane.specs.Note.{pieces_by}
+use Rattle.mr_lane.specs.Letters.{letters_in, letters_by}
 use Rattle.mr_lane.specs.Desk.{new_desk, with_note, Arrives, has_finished, have_all_finished, with_mark}
 use Rattle.mr_lane.specs.Post.{PostView, with_letter, with_end_mark, ReturnsLetter}
 use Rattle.mr_lane.specs.Inbox.{IsAllOf}
@@ -56,6 +57,14 @@ pieces_of_each = refl
 -- a number that no sender has sent nothing
 pub pieces_of_nobody : pieces_by 3 notes ≡ []
 pieces_of_nobody = refl
+
+-- the letters are those that were sent, each with its sender; end marks are none
+pub letters_alone : letters_in notes ≡ (User, 5) ∷ (FirstLink, 6) ∷ []
+letters_alone = refl
+
+-- a sender's letters are in its order, without those of the others
+pub letters_of_each : map (λ sender. letters_by {T = ℕ} sender ((User, 5) ∷ (FirstLink, 6) ∷ (User, 7) ∷ [])) (User ∷ FirstLink ∷ SecondLink ∷ []) ≡ (5 ∷ 7 ∷ []) ∷ (6 ∷ []) ∷ [] ∷ []
+letters_of_each = refl
 
 -- an end mark finishes its own sender alone
 pub who_has_finished : map (has_finished notes) (User ∷ FirstLink ∷ SecondLink ∷ []) ≡ true ∷ false ∷ false ∷ []

@@ -1,9 +1,9 @@
--- a step is a function: its answer and the new replica are decided, memory aside
+-- over a form with one value for each knowledge a step is a function: its answer and the new replica are decided, memory aside
 use Rattle.std.proofs.Common.{◌≡◌, ◌≢◌, refl, sym, ap, ◌∙◌, Bool, true, false, ℕ, List, [], ◌∷◌, Option, Some, None, Result, Ok, Err, inl, inr}
 use Rattle.std.specs.List.{All}
 use Rattle.std.proofs.lemmas.List.Elements.{All-head, All-tail}
 use Rattle.mr_version.specs.Name.{Name}
-use Rattle.mr_forms.specs.Known.{Form}
+use Rattle.mr_forms.specs.Known.{Form, AreSame}
 use Rattle.mr_concise.specs.declared.vector.AuthorColumn.{AuthorColumn}
 use Rattle.mr_madewith.specs.Revision.{Rev}
 use Rattle.mr_madewith.proofs.MadeWithLemmas.{columns_unique}
@@ -34,7 +34,7 @@ use Rattle.mr_replica.specs.Next.{held_now}
 use Rattle.mr_replica.specs.Vouch.{receipt_for, IsReceiptFor}
 use Rattle.mr_replica.proofs.Choice.{some_same}
 use Rattle.mr_replica.proofs.PullLemmas.{same_ask}
-use Rattle.mr_replica.specs.Step.{first_refusal, wanted_by, RefusesLate, Changes, Answers, Steps, IsExact, IsDecided}
+use Rattle.mr_replica.specs.Step.{first_refusal, wanted_by, RefusesLate, Changes, Answers, Steps}
 use Rattle.mr_replica.specs.declared.event.Event.{Event}
 use Rattle.mr_replica.specs.declared.event.Event.TheVariants.{Create, Edit, Retire, Pull, Receive, CutIn, Answer, Next, CutOut, Vouch, Release}
 use Rattle.mr_replica.specs.declared.event.Reply.{Reply}
@@ -43,6 +43,10 @@ use Rattle.mr_replica.specs.declared.refusal.Refusal.{Refusal}
 use Rattle.mr_replica.specs.declared.refusal.Refusal.TheVariants.{OutOfMemory, TooManyHoles, TooManyItems}
 
 module _ {K : Type 0} (form : Form K) where
+  -- the form has one value for each knowledge: so it is of the form over meanings, and of no form that keeps values
+  abbrev pub IsExact : Type 0
+  IsExact = (a b : K) → AreSame (form.known a) (form.known b) → a ≡ b
+
   -- what fits has no fault
   no_fault : (e : Refusal) (w : Wanted) → Fits form w → HasFault form e w → ⊥
   no_fault TooManyHoles (Vector set) fits fault = fits fault
@@ -87,7 +91,7 @@ module _ {K : Type 0} (form : Form K) where
 
   module _ (s : State K) (event : Event) where
     -- an issue has one version and leads to one replica
-    same_issue : (i : Issue) (v w : Name) (new other : State K) → IsExact form → Issues form s i v event new → Issues form s i w event other → (w ≡ v) × (other ≡ new)
+    same_issue : (i : Issue) (v w : Name) (new other : State K) → IsExact → Issues form s i v event new → Issues form s i w event other → (w ≡ v) × (other ≡ new)
     same_issue i v w new other exact h k =
         let columns : k.1 ≡ h.1 = columns_unique (below_of_issue s i) k.1 h.1 k.2 h.2 in
         let knowledge : other.knowledge ≡ new.knowledge = exact other.knowledge new.knowledge (λ a b. k.3 a b ∙ sym (h.3 a b)) in (
@@ -140,7 +144,7 @@ module _ {K : Type 0} (form : Form K) where
 
   -- ---- a record
 
-  module _ (s : State K) (sent : Sent) (exact : IsExact form) where
+  module _ (s : State K) (sent : Sent) (exact : IsExact) where
     -- a version that is told has one reply, and leads to one replica
     same_line : (line : DescentParts) (comer : Option Rev) (r q : Reply) (new other : State K) → TakesLine form s sent line comer r new → TakesLine form s sent line comer q other → (q ≡ r) × (other ≡ new)
     same_line line comer Known Known new other h k = (refl, k.1 ∙ sym h.1)
@@ -174,12 +178,12 @@ module _ {K : Type 0} (form : Form K) where
     same_body body Took q new other h k = absurd k
     same_body body r q new other h k = absurd h
 
-  same_taken : (s : State K) (frame : Frame) (r q : Reply) (new other : State K) → IsExact form → TakesFrame form s frame r new → TakesFrame form s frame q other → (q ≡ r) × (other ≡ new)
+  same_taken : (s : State K) (frame : Frame) (r q : Reply) (new other : State K) → IsExact → TakesFrame form s frame r new → TakesFrame form s frame q other → (q ≡ r) × (other ≡ new)
   same_taken s (Record sent) r q new other exact h k = same_body s sent exact sent.body r q new other h k
   same_taken s frame r q new other exact h k = absurd h
 
   -- a reply stands for one change
-  same_change : (s : State K) (event : Event) (r q : Reply) (new other : State K) → IsExact form → Changes form s event r new → Changes form s event q other → (q ≡ r) × (other ≡ new)
+  same_change : (s : State K) (event : Event) (r q : Reply) (new other : State K) → IsExact → Changes form s event r new → Changes form s event q other → (q ≡ r) × (other ≡ new)
   same_change s (Create message) (Issued v) (Issued w) new other exact h k =
       let same = same_issue s (Create message) (created s message) v w new other exact h k in
       (issued_same v w same.0, same.1)
@@ -221,7 +225,7 @@ module _ {K : Type 0} (form : Form K) where
   same_change s (Release receipt) Done q new other exact h k = absurd k
   same_change s (Release receipt) r q new other exact h k = absurd h
 
-  answered : (s : State K) (event : Event) (a b : Result Reply Refusal) (new other : State K) → IsExact form → Answers form s event a new → Answers form s event b other → a ≢ Err OutOfMemory → b ≢ Err OutOfMemory → (b ≡ a) × (other ≡ new)
+  answered : (s : State K) (event : Event) (a b : Result Reply Refusal) (new other : State K) → IsExact → Answers form s event a new → Answers form s event b other → a ≢ Err OutOfMemory → b ≢ Err OutOfMemory → (b ≡ a) × (other ≡ new)
   answered s event (Ok r) (Ok q) new other exact h k na nb =
       let same = same_change s event r q new other exact h.1 k.1 in
       (ap (λ (x : Reply). Ok x) same.0, same.1)
@@ -238,10 +242,11 @@ module _ {K : Type 0} (form : Form K) where
     | None ↦ Answers form s event answer new
   ]
 
-  stepped : (s : State K) (event : Event) (first : Option Refusal) (a b : Result Reply Refusal) (new other : State K) → IsExact form → GoesOn s event first a new → GoesOn s event first b other → a ≢ Err OutOfMemory → b ≢ Err OutOfMemory → (b ≡ a) × (other ≡ new)
+  stepped : (s : State K) (event : Event) (first : Option Refusal) (a b : Result Reply Refusal) (new other : State K) → IsExact → GoesOn s event first a new → GoesOn s event first b other → a ≢ Err OutOfMemory → b ≢ Err OutOfMemory → (b ≡ a) × (other ≡ new)
   stepped s event (Some e) a b new other exact h k na nb = (k.0 ∙ sym h.0, k.1 ∙ sym h.1)
   stepped s event None a b new other exact h k na nb = answered s event a b new other exact h k na nb
 
   -- two steps of one replica by one event are one
-  pub decided : (s : State K) (event : Event) (a : Result Reply Refusal) (new : State K) → IsExact form → Steps form s event a new → IsDecided form s event a new
+  pub decided : (s : State K) (event : Event) (a : Result Reply Refusal) (new : State K) → IsExact → Steps form s event a new → a ≢ Err OutOfMemory
+      → (b : Result Reply Refusal) (other : State K) → b ≢ Err OutOfMemory → Steps form s event b other → (b ≡ a) × (other ≡ new)
   decided s event a new exact h na b other nb k = stepped s event (first_refusal s event) a b new other exact h k na nb

@@ -19,6 +19,8 @@ pub mod Opening
 pub mod Drawing
 pub mod Advancing
 pub mod Decided
+pub mod Seen
+pub mod Alike
 pub mod Replies
 pub mod Replaying
 mod Rows

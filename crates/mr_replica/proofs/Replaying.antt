@@ -1,7 +1,9 @@
 -- A replica is its log replayed.
 use Rattle.std.proofs.Common.{◌≡◌, ◌≢◌, ◌+◌, ℕ, Bool, true, false, List, [], ◌∷◌, ◌++◌, length, Option, Some, None, Result, Ok, Err, IfOk, IfErr, refl, sym, ap, subst, ◌∙◌, arith, append_assoc, append-nil, length-append}
 use Rattle.mr_filter.specs.Filter.{ClauseParts}
-use Rattle.mr_forms.specs.Known.{Form}
+use Rattle.mr_forms.specs.ByMeaning.{IsByMeaning}
+use Rattle.mr_forms.specs.Known.{Form, AreSame}
+use Rattle.mr_feed.specs.declared.entry.Entry.{Entry}
 use Rattle.mr_madewith.specs.Revision.{Rev}
 use Rattle.mr_session.specs.Session.{Session, is_full}
 use Rattle.mr_wire.specs.Frames.{Sent}
@@ -11,9 +13,11 @@ use Rattle.mr_wire.specs.declared.frame.Body.TheVariants as body
 use Rattle.mr_wire.specs.declared.frame.Frame.{Frame}
 use Rattle.mr_wire.specs.declared.frame.Frame.TheVariants as frame
 use Rattle.mr_replica.specs.State.{State, new_state}
+use Rattle.mr_replica.specs.Alike.{AreAlike}
 use Rattle.mr_replica.specs.Forged.{line_of}
 use Rattle.mr_replica.specs.Receive.{TakesLine, TakesBody, TakesFrame, Ends, EndsSession, entering, session_for}
-use Rattle.mr_replica.specs.Step.{first_refusal, Changes, Answers, Steps, IsExact}
+use Rattle.mr_replica.specs.Step.{first_refusal, Changes, Answers, Steps}
+use Rattle.mr_replica.specs.Growing.{FeedGrows, IsOfSameSetting, admitted}
 use Rattle.mr_replica.specs.Replay.{IsForMemory, Admits, AdmitsAll, StopsAt, IsStop, IsFresh, Replays, IsReplayFault, IsItsLog}
 use Rattle.mr_replica.specs.declared.event.Event.{Event}
 use Rattle.mr_replica.specs.declared.event.Event.TheVariants.{Create, Edit, Retire, Pull, Receive, CutIn, Answer, Next, CutOut, Vouch, Release}
@@ -23,34 +27,36 @@ use Rattle.mr_replica.specs.declared.refusal.Refusal.{Refusal}
 use Rattle.mr_replica.specs.declared.refusal.Refusal.TheVariants.{OutOfMemory}
 use Rattle.mr_replica.specs.declared.replica.replay.ReplayFault.{ReplayFault}
 use Rattle.mr_replica.specs.declared.replica.replay.ReplayFault.TheVariants.{BadLimit, Refused}
-use Rattle.mr_replica.proofs.Decided.{decided}
+use Rattle.mr_replica.proofs.Alike.{alike_all, alike_stop, alike_fresh}
 
--- what an admitted event leaves, and notes
+-- what an admitted event leaves, notes and tells
 record Logs {K : Type 0} (s : State K) (event : Event) (new : State K) : Type 0 where
   id : new.id ≡ s.id
   filter : new.filter ≡ s.filter
   event_limit : new.event_limit ≡ s.event_limit
   log : new.log ≡ s.log ++ event ∷ []
+  feed : FeedGrows s new
 
 module _ {K : Type 0} (form : Form K) where
   -- ---- an admitted event is noted, and id, filter and limit stay
 
-  logs_as : (s : State K) (event : Event) (new made : State K) → new ≡ made → made.id ≡ s.id → made.filter ≡ s.filter → made.event_limit ≡ s.event_limit → made.log ≡ s.log ++ event ∷ [] → Logs s event new
-  logs_as s event new made is id filter event_limit log = record {
+  logs_as : (s : State K) (event : Event) (new made : State K) → new ≡ made → made.id ≡ s.id → made.filter ≡ s.filter → made.event_limit ≡ s.event_limit → made.log ≡ s.log ++ event ∷ [] → (more : List Entry) → made.feed ≡ s.feed ++ more → Logs s event new
+  logs_as s event new made is id filter event_limit log more feed = record {
     id = ap (λ (z : State K). z.id) is ∙ id;
     filter = ap (λ (z : State K). z.filter) is ∙ filter;
     event_limit = ap (λ (z : State K). z.event_limit) is ∙ event_limit;
     log = ap (λ (z : State K). z.log) is ∙ log;
+    feed = (more, ap (λ (z : State K). z.feed) is ∙ feed);
   }
 
   line_logs : (s : State K) (sent : Sent) (line : DescentParts) (comer : Option Rev) (told : Reply) (new : State K) → TakesLine form s sent line comer told new → Logs s (Receive (frame.Record sent)) new
-  line_logs s sent line comer reply.Known new h = logs_as s (Receive (frame.Record sent)) new _ h.1 refl refl refl refl
-  line_logs s sent line comer reply.Took new h = logs_as s (Receive (frame.Record sent)) new _ h.2 refl refl refl refl
+  line_logs s sent line comer reply.Known new h = logs_as s (Receive (frame.Record sent)) new _ h.1 refl refl refl refl [] (sym (append-nil s.feed))
+  line_logs s sent line comer reply.Took new h = logs_as s (Receive (frame.Record sent)) new _ h.2 refl refl refl refl _ refl
   line_logs s sent line comer told new h = absurd h
 
   end_logs : (s : State K) (sent : Sent) (session : Session) (full : Bool) (new : State K) → Ends form s sent session full new → Logs s (Receive (frame.Record sent)) new
-  end_logs s sent session true new h = logs_as s (Receive (frame.Record sent)) new _ h.1 refl refl refl refl
-  end_logs s sent session false new h = logs_as s (Receive (frame.Record sent)) new _ h refl refl refl refl
+  end_logs s sent session true new h = logs_as s (Receive (frame.Record sent)) new _ h.1 refl refl refl refl _ refl
+  end_logs s sent session false new h = logs_as s (Receive (frame.Record sent)) new _ h refl refl refl refl [] (sym (append-nil s.feed))
 
   session_logs : (s : State K) (sent : Sent) (session : Option Session) (new : State K) → EndsSession form s sent session new → Logs s (Receive (frame.Record sent)) new
   session_logs s sent None new h = absurd h
@@ -60,9 +66,9 @@ module _ {K : Type 0} (form : Form K) where
   body_logs s sent (body.Item r) told new h = line_logs s sent (line_of r) (entering s (body.Item r)) told new h
   body_logs s sent (body.MoveOut line) told new h = line_logs s sent line None told new h
   body_logs s sent body.End reply.Finished new h = session_logs s sent (session_for s sent) new h
-  body_logs s sent (body.Start mode) reply.Took new h = logs_as s (Receive (frame.Record sent)) new _ h refl refl refl refl
-  body_logs s sent (body.Held vector) reply.Took new h = logs_as s (Receive (frame.Record sent)) new _ h refl refl refl refl
-  body_logs s sent (body.Know piece) reply.Took new h = logs_as s (Receive (frame.Record sent)) new _ h refl refl refl refl
+  body_logs s sent (body.Start mode) reply.Took new h = logs_as s (Receive (frame.Record sent)) new _ h refl refl refl refl [] (sym (append-nil s.feed))
+  body_logs s sent (body.Held vector) reply.Took new h = logs_as s (Receive (frame.Record sent)) new _ h refl refl refl refl [] (sym (append-nil s.feed))
+  body_logs s sent (body.Know piece) reply.Took new h = logs_as s (Receive (frame.Record sent)) new _ h refl refl refl refl [] (sym (append-nil s.feed))
   body_logs s sent b told new h = absurd h
 
   frame_logs : (s : State K) (f : Frame) (told : Reply) (new : State K) → TakesFrame form s f told new → Logs s (Receive f) new
@@ -70,17 +76,17 @@ module _ {K : Type 0} (form : Form K) where
   frame_logs s f told new h = absurd h
 
   change_logs : (s : State K) (event : Event) (told : Reply) (new : State K) → Changes form s event told new → Logs s event new
-  change_logs s (Create message) (reply.Issued v) new h = logs_as s (Create message) new _ h.4 refl refl refl refl
-  change_logs s (Edit bases message) (reply.Issued v) new h = logs_as s (Edit bases message) new _ h.4 refl refl refl refl
-  change_logs s Retire reply.Done new h = logs_as s Retire new _ h refl refl refl refl
-  change_logs s Pull (reply.Asked question) new h = logs_as s Pull new _ h.1 refl refl refl refl
+  change_logs s (Create message) (reply.Issued v) new h = logs_as s (Create message) new _ h.4 refl refl refl refl _ refl
+  change_logs s (Edit bases message) (reply.Issued v) new h = logs_as s (Edit bases message) new _ h.4 refl refl refl refl _ refl
+  change_logs s Retire reply.Done new h = logs_as s Retire new _ h refl refl refl refl [] (sym (append-nil s.feed))
+  change_logs s Pull (reply.Asked question) new h = logs_as s Pull new _ h.1 refl refl refl refl [] (sym (append-nil s.feed))
   change_logs s (Receive f) told new h = frame_logs s f told new h
-  change_logs s (CutIn session) reply.Done new h = logs_as s (CutIn session) new _ h refl refl refl refl
-  change_logs s (Answer question) (reply.Streaming stream) new h = logs_as s (Answer question) new _ h.3 refl refl refl refl
-  change_logs s (Next stream) (reply.Gave sent) new h = logs_as s (Next stream) new _ h.2 refl refl refl refl
-  change_logs s (CutOut stream) reply.Done new h = logs_as s (CutOut stream) new _ h refl refl refl refl
-  change_logs s (Vouch version) (reply.Vouched receipt) new h = logs_as s (Vouch version) new _ h.1 refl refl refl refl
-  change_logs s (Release receipt) reply.Done new h = logs_as s (Release receipt) new _ h refl refl refl refl
+  change_logs s (CutIn session) reply.Done new h = logs_as s (CutIn session) new _ h refl refl refl refl [] (sym (append-nil s.feed))
+  change_logs s (Answer question) (reply.Streaming stream) new h = logs_as s (Answer question) new _ h.3 refl refl refl refl [] (sym (append-nil s.feed))
+  change_logs s (Next stream) (reply.Gave sent) new h = logs_as s (Next stream) new _ h.2 refl refl refl refl [] (sym (append-nil s.feed))
+  change_logs s (CutOut stream) reply.Done new h = logs_as s (CutOut stream) new _ h refl refl refl refl [] (sym (append-nil s.feed))
+  change_logs s (Vouch version) (reply.Vouched receipt) new h = logs_as s (Vouch version) new _ h.1 refl refl refl refl [] (sym (append-nil s.feed))
+  change_logs s (Release receipt) reply.Done new h = logs_as s (Release receipt) new _ h refl refl refl refl [] (sym (append-nil s.feed))
   change_logs s event told new h = absurd h
 
   abbrev GoesOn : State K → Event → Option Refusal → Result Reply Refusal → State K → Type 0
@@ -104,6 +110,22 @@ module _ {K : Type 0} (form : Form K) where
   pub refused_same : (s : State K) (event : Event) (e : Refusal) (new : State K) → Steps form s event (Err e) new → new ≡ s
   refused_same s event e new h = refused_as s event (first_refusal s event) e new h
 
+  -- ---- what a step adds
+
+  pub step_feed : (s new : State K) (event : Event) (answer : Result Reply Refusal) → Steps form s event answer new → FeedGrows s new
+  step_feed s new event (Ok told) h = (admits_log s event new (told, h)).feed
+  step_feed s new event (Err e) h = ([], ap (λ (z : State K). z.feed) (refused_same s event e new h) ∙ sym (append-nil s.feed))
+
+  pub step_log : (s new : State K) (event : Event) (answer : Result Reply Refusal) → Steps form s event answer new → new.log ≡ s.log ++ admitted event answer
+  step_log s new event (Ok told) h = (admits_log s event new (told, h)).log
+  step_log s new event (Err e) h = ap (λ (z : State K). z.log) (refused_same s event e new h) ∙ sym (append-nil s.log)
+
+  pub step_setting : (s new : State K) (event : Event) (answer : Result Reply Refusal) → Steps form s event answer new → IsOfSameSetting s new
+  step_setting s new event (Ok told) h = let logs = admits_log s event new (told, h) in record { id = logs.id; filter = logs.filter; event_limit = logs.event_limit }
+  step_setting s new event (Err e) h =
+      let same = refused_same s event e new h in
+      record { id = ap (λ (z : State K). z.id) same; filter = ap (λ (z : State K). z.filter) same; event_limit = ap (λ (z : State K). z.event_limit) same }
+
   -- ---- lists of events
 
   -- one event more
@@ -119,45 +141,6 @@ module _ {K : Type 0} (form : Form K) where
       let rest = all_log h.0 new events h.2 in
       (rest.0 ∙ one.id, rest.1 ∙ one.filter, rest.2 ∙ one.event_limit, rest.3 ∙ (ap (λ (log : List Event). log ++ events) one.log ∙ append_assoc s.log (event ∷ []) events))
 
-  no_refusal : (r : Reply) (e : Refusal) → (let answer : Result Reply Refusal = Ok r in answer ≡ Err e) → ⊥
-  no_refusal r e is = cc
-
-  -- one replica that admits an event goes on to one replica
-  one_admitted : (s : State K) (event : Event) (a b : State K) → IsExact form → Admits form s event a → Admits form s event b → b ≡ a
-  one_admitted s event a b exact h k = (decided form s event (Ok h.0) a exact h.1 (no_refusal h.0 OutOfMemory) (Ok k.0) b (no_refusal k.0 OutOfMemory) k.1).1
-
-  all_one : (s a b : State K) (events : List Event) → IsExact form → AdmitsAll form s events a → AdmitsAll form s events b → b ≡ a
-  all_one s a b [] exact h k = k ∙ sym h
-  all_one s a b (event ∷ events) exact h k =
-      let one = one_admitted s event h.0 k.0 exact h.1 k.1 in
-      all_one h.0 a b events exact h.2 (subst (λ (z : State K). AdmitsAll form z events b) one k.2)
-
-  only_memory : (e : Refusal) → ((e ≢ OutOfMemory) → ⊥) → e ≡ OutOfMemory
-  only_memory OutOfMemory h = refl
-  only_memory e h = absurd (h (λ is. cc))
-
-  same_refusal : (e f : Refusal) → (let answer : Result Reply Refusal = Err e in answer ≡ Err f) → e ≡ f
-  same_refusal e f is = cc
-
-  -- an event that is admitted is refused for want of memory alone
-  one_refused : (s : State K) (event : Event) (a b : State K) (e : Refusal) → IsExact form → Admits form s event a → Steps form s event (Err e) b → e ≡ OutOfMemory
-  one_refused s event a b e exact h refuses =
-      only_memory e (λ ne. no_refusal h.0 e (sym (decided form s event (Ok h.0) a exact h.1 (no_refusal h.0 OutOfMemory) (Err e) b (λ is. ne (same_refusal e OutOfMemory is)) refuses).0))
-
-  one_stop : (s a b : State K) (before left : List Event) (event : Event) (e : Refusal) → IsExact form → AdmitsAll form s (before ++ event ∷ left) a → AdmitsAll form s before b → Steps form b event (Err e) b → e ≡ OutOfMemory
-  one_stop s a b [] left event e exact h k refuses = one_refused s event h.0 b e exact h.1 (subst (λ (z : State K). Steps form z event (Err e) b) k refuses)
-  one_stop s a b (first ∷ before) left event e exact h k refuses =
-      let one = one_admitted s first h.0 k.0 exact h.1 k.1 in
-      one_stop h.0 a b before left event e exact h.2 (subst (λ (z : State K). AdmitsAll form z before b) one k.2) refuses
-
-  -- ---- fresh replicas
-
-  -- where a form has one value for each knowledge, there is one
-  one_fresh : (id : ℕ) (filter : List ClauseParts) (event_limit : ℕ) (a b : State K) → IsExact form → IsFresh form id filter event_limit a → IsFresh form id filter event_limit b → b ≡ a
-  one_fresh id filter event_limit a b exact h k =
-      let knowledge : b.knowledge ≡ a.knowledge = exact b.knowledge a.knowledge (λ i v. k.knows_nothing i v ∙ sym (h.knows_nothing i v)) in
-      k.is_empty ∙ ap (λ (t : K). new_state id filter event_limit t) knowledge ∙ sym h.is_empty
-
   -- a replay of these is one of those
   replays_as : (id jd : ℕ) (filter gilter : List ClauseParts) (limit mimit : ℕ) (events fvents : List Event) (s : State K) → jd ≡ id → gilter ≡ filter → mimit ≡ limit → fvents ≡ events
       → Replays form id filter limit events s → Replays form jd gilter mimit fvents s
@@ -170,6 +153,12 @@ module _ {K : Type 0} (form : Form K) where
       let logs = admits_log s event new (told, h) in
       replays_as s.id new.id s.filter new.filter s.event_limit new.event_limit (s.log ++ event ∷ []) new.log new logs.id logs.filter logs.event_limit logs.log
       (record { fresh = is.fresh; is_fresh = is.is_fresh; admits = admits_more is.fresh s new s.log event is.admits (told, h) })
+
+  -- a fresh replica is its log, of no events
+  pub fresh_is_its_log : (s : State K) (id : ℕ) (filter : List ClauseParts) (event_limit : ℕ) → s ≡ new_state id filter event_limit s.knowledge → AreSame (form.known s.knowledge) (λ _ _. false) → IsItsLog form s
+  fresh_is_its_log s id filter event_limit empty nothing =
+      replays_as id s.id filter s.filter event_limit s.event_limit [] s.log s (ap (λ (z : State K). z.id) empty) (ap (λ (z : State K). z.filter) empty) (ap (λ (z : State K). z.event_limit) empty) (ap (λ (z : State K). z.log) empty)
+      (record { fresh = s; is_fresh = record { is_empty = empty; knows_nothing = nothing }; admits = refl })
 
   pub kept : (s new : State K) (event : Event) (answer : Result Reply Refusal) → IsItsLog form s → Steps form s event answer new → IsItsLog form new
   kept s new event answer is h = step_keeps s event answer new h is
@@ -233,14 +222,13 @@ module _ {K : Type 0} (form : Form K) where
         (all.3 ∙ ap (λ (z : State K). z.log ++ events) empty) (record { fresh = fresh; is_fresh = is_fresh; admits = h })
     replay_is_its_log (Err f) h = tt
 
-    pub replay_same : (result : Result (State K) ReplayFault) → IfOk result (AdmitsAll form fresh events) → IsExact form → (s : State K) → Replays form id filter event_limit events s → IfOk result (λ r. r ≡ s)
-    replay_same (Ok r) h exact s whole =
-        all_one fresh s r events exact (subst (λ (z : State K). AdmitsAll form z events s) (one_fresh id filter event_limit fresh whole.fresh exact is_fresh whole.is_fresh) whole.admits) h
-    replay_same (Err f) h exact s whole = tt
+    pub replay_same : (result : Result (State K) ReplayFault) → IfOk result (AdmitsAll form fresh events) → IsByMeaning form → (s : State K) → Replays form id filter event_limit events s → IfOk result (AreAlike form s)
+    replay_same (Ok r) h told s whole = alike_all form told whole.fresh fresh events s r (alike_fresh form told id filter event_limit whole.fresh fresh whole.is_fresh is_fresh) whole.admits h
+    replay_same (Err f) h told s whole = tt
 
-    pub replay_for_memory : (result : Result (State K) ReplayFault) → IfErr result (IsStop form fresh events) → IsExact form → (s : State K) → Replays form id filter event_limit events s → IfErr result IsForMemory
-    replay_for_memory (Ok r) h exact s whole = tt
-    replay_for_memory (Err BadLimit) h exact s whole = tt
-    replay_for_memory (Err (Refused place e)) h exact s whole =
-        let admits = subst (λ (z : State K). AdmitsAll form z events s) (one_fresh id filter event_limit fresh whole.fresh exact is_fresh whole.is_fresh) whole.admits in
-        one_stop fresh s h.reached h.before h.left h.event e exact (subst (λ (all : List Event). AdmitsAll form fresh all s) h.all admits) h.admits h.refuses
+    pub replay_for_memory : (result : Result (State K) ReplayFault) → IfErr result (IsStop form fresh events) → IsByMeaning form → (s : State K) → Replays form id filter event_limit events s → IfErr result IsForMemory
+    replay_for_memory (Ok r) h told s whole = tt
+    replay_for_memory (Err BadLimit) h told s whole = tt
+    replay_for_memory (Err (Refused place e)) h told s whole =
+        alike_stop form told whole.fresh fresh s h.reached h.before h.left h.event e (alike_fresh form told id filter event_limit whole.fresh fresh whole.is_fresh is_fresh)
+        (subst (λ (all : List Event). AdmitsAll form whole.fresh all s) h.all whole.admits) h.admits h.refuses

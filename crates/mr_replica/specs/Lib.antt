@@ -1,4 +1,5 @@
 pub mod State
+pub mod Alike
 pub mod Refusal
 pub mod Admission
 pub mod Folded
@@ -24,6 +25,7 @@ pub mod Issued
 pub mod StepThen
 pub mod Methods
 pub mod Step
+pub mod Growing
 pub mod Replay
 pub mod Limits
 pub mod Rows

@@ -1,5 +1,5 @@
 -- worked rows: what the definitions give for small values
-use Rattle.std.specs.Prelude.{◌≡◌, ℕ, true, false, List, [], ◌∷◌, Some, None, refl}
+use Rattle.std.specs.Prelude.{◌≡◌, ℕ, true, false, List, [], ◌∷◌, Some, None, Ok, Err, refl}
 use Rattle.mr_version.specs.Name.{Name}
 use Rattle.mr_concise.specs.declared.vector.AuthorColumn.{AuthorColumn}
 use Rattle.mr_mail.specs.Mail.{Mail, card_of}
@@ -16,6 +16,7 @@ use Rattle.mr_wire.specs.declared.frame.Receipt.{Receipt}
 use Rattle.mr_replica.specs.State.{State, new_state, next_version, item_of_held}
 use Rattle.mr_replica.specs.Issue.{issuing, revision_for, told_more}
 use Rattle.mr_replica.specs.Create.{create_refusal, created}
+use Rattle.mr_replica.specs.Growing.{FeedGrows, admitted}
 use Rattle.mr_replica.specs.Edit.{lower_of, edit_refusal, edited}
 use Rattle.mr_replica.specs.Retire.{retire_refusal, retiring}
 use Rattle.mr_replica.specs.Pull.{pull_refusal, pulling}
@@ -29,6 +30,7 @@ use Rattle.mr_replica.specs.Receive.{receive_refusal, learning}
 use Rattle.mr_replica.specs.Forged.{is_forged, line_of}
 use Rattle.mr_replica.specs.declared.refusal.Refusal.TheVariants.{Retired, NoBase, NotHeld, MixedItems, OwnHeadLeft, LogFull, NotForMe, NoSession, NotStart, NotARecord, NoStream, OwnAsk, NotPushedOut, PushOutsLeft}
 use Rattle.mr_replica.specs.declared.event.Event.TheVariants.{Pull}
+use Rattle.mr_replica.specs.declared.event.Reply.TheVariants.{Done}
 
 -- ---- values
 
@@ -256,6 +258,19 @@ edited_trail = refl
 -- what leaves is told in the order of the heads, before what enters
 pub left_first : told_more [] (first ∷ other ∷ []) (rev (name 3 1) (name 3 2) [] 0 ∷ []) ≡ Dropped (name 3 1) (name 3 1) ∷ Dropped (name 3 1) (name 5 1) ∷ added (rev (name 3 1) (name 3 2) [] 0) ∷ []
 left_first = refl
+
+-- ---- what an event adds
+
+-- a create adds an entry behind those of the feed, which are none here
+pub create_tells : FeedGrows fresh (behind_create 0)
+create_tells = (added first ∷ [], refl)
+
+-- an admitted event is one more of the log, and a refused one is none
+pub admitted_event : admitted Pull (Ok Done) ≡ Pull ∷ []
+admitted_event = refl
+
+pub refused_event : admitted Pull (Err LogFull) ≡ []
+refused_event = refl
 
 -- ---- what an edit refuses
 

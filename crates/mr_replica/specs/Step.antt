@@ -1,7 +1,8 @@
 -- One event of a replica: its refusals, in their order, and the change that each answer stands for.
 use Rattle.std.specs.Prelude.{◌≡◌, ◌≢◌, Option, Some, None, Result, Ok, Err, false, List, [], All}
-use Rattle.mr_forms.specs.Known.{Form, AreSame}
+use Rattle.mr_forms.specs.Known.{Form}
 use Rattle.mr_replica.specs.State.{State}
+use Rattle.mr_replica.specs.Alike.{AreAlike}
 use Rattle.mr_replica.specs.Issue.{Wanted, wanted_by_issue, Fits, FirstFault, Issues, logged}
 use Rattle.mr_replica.specs.Create.{create_refusal, created}
 use Rattle.mr_replica.specs.Edit.{edit_refusal, edited}
@@ -80,11 +81,8 @@ module _ {K : Type 0} where
 
   -- ---- a step is a function
 
-  -- the form has one value for each knowledge
-  abbrev pub IsExact : Form K → Type 0
-  IsExact form = (a b : K) → AreSame (form.known a) (form.known b) → a ≡ b
-
-  -- Memory aside, no other answer and no other new replica than these two is a step of s.
+  -- Memory aside, a replica that is alike has no other answer to the event than this one, and no new replica but one that is
+  -- alike to this one.
   abbrev pub IsDecided : Form K → State K → Event → Result Reply Refusal → State K → Type 0
   IsDecided form s event answer new =
-      answer ≢ Err OutOfMemory → (other : Result Reply Refusal) (after : State K) → other ≢ Err OutOfMemory → Steps form s event other after → (other ≡ answer) × (after ≡ new)
+      answer ≢ Err OutOfMemory → (t : State K) (other : Result Reply Refusal) (after : State K) → AreAlike form s t → other ≢ Err OutOfMemory → Steps form t event other after → (other ≡ answer) × AreAlike form new after

@@ -1,8 +1,6 @@
 //! Events and replies.
 ghost use Rattle.std.specs.Prelude.{◌≡◌, IfOk};
 
-use crate::asks::copied_ask;
-use crate::copies::{copied_frame, copied_receipt};
 use mr_mail::Message;
 use mr_version::Version;
 use mr_wire::{Ask, Frame, Receipt, Record};
@@ -90,13 +88,13 @@ impl Event {
             Event::Edit(bases, message) => Ok(Event::Edit(bases.copy()?, message.copy()?)),
             Event::Retire => Ok(Event::Retire),
             Event::Pull => Ok(Event::Pull),
-            Event::Receive(frame) => Ok(Event::Receive(copied_frame(alloc, frame)?)),
+            Event::Receive(frame) => Ok(Event::Receive(frame.copy(alloc)?)),
             Event::CutIn(session) => Ok(Event::CutIn(*session)),
-            Event::Answer(ask) => Ok(Event::Answer(copied_ask(alloc, ask)?)),
+            Event::Answer(ask) => Ok(Event::Answer(ask.copy(alloc)?)),
             Event::Next(stream) => Ok(Event::Next(*stream)),
             Event::CutOut(stream) => Ok(Event::CutOut(*stream)),
             Event::Vouch(version) => Ok(Event::Vouch(*version)),
-            Event::Release(receipt) => Ok(Event::Release(copied_receipt(receipt)?)),
+            Event::Release(receipt) => Ok(Event::Release(receipt.copy()?)),
         }
     }
 }
@@ -122,4 +120,23 @@ pub enum Reply {
     Finished,
     /// The receipt that was asked for by a Vouch.
     Vouched(Receipt),
+}
+
+impl Reply {
+    /// An equal reply. It costs a copy of what the reply carries.
+    pub fn copy(&self, alloc: Global) -> Result<Reply, AllocError>
+        ensures { IfOk result (λ reply. reply ≡ self.now) }
+    {
+        match self {
+            Reply::Issued(version) => Ok(Reply::Issued(*version)),
+            Reply::Done => Ok(Reply::Done),
+            Reply::Asked(ask) => Ok(Reply::Asked(ask.copy(alloc)?)),
+            Reply::Streaming(stream) => Ok(Reply::Streaming(*stream)),
+            Reply::Gave(record) => Ok(Reply::Gave(record.copy()?)),
+            Reply::Took => Ok(Reply::Took),
+            Reply::Known => Ok(Reply::Known),
+            Reply::Finished => Ok(Reply::Finished),
+            Reply::Vouched(receipt) => Ok(Reply::Vouched(receipt.copy()?)),
+        }
+    }
 }

@@ -25,7 +25,8 @@
 //! learned at once with what it supersedes; what a full stream tells behind its versions is kept until its end,
 //! and then tells which heads the source no longer holds.
 //!
-//! A replica is its log replayed: [`Replica::replay`] makes it again of the events that it admitted.
+//! A replica is its log replayed, at any time and by its type: [`Replica::replay`] makes it again of the events that it
+//! admitted.
 //!
 //! What is known is kept in a form that the caller chooses, by the type `K`. A version that is issued
 //! alone is learned, for its item or, in some forms, for all items: what it supersedes of its item was learned before it, and the rest are
@@ -45,13 +46,14 @@
 #![tactic(auto)]
 
 mod asks;
-mod copies;
 mod event;
+mod laws;
 mod pieces;
 mod refusal;
 mod replica;
 
 pub use event::{Bases, Event, Reply};
+pub use laws::steps_only_add;
 pub use mr_filter::Filter;
 pub use mr_madewith::Revision;
 pub use refusal::Refusal;

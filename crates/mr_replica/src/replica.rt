@@ -60,9 +60,9 @@ impl ReplicaFault {
 /// more.
 pub const MAX_EVENTS: u32 = 1_000_000;
 
-/// A replica over a form of knowledge.
+// What a replica has. Its methods change it in part, and what each event makes of it is one step.
 #[derive(Drop)]
-pub struct Replica<K: Knowledge> {
+struct Core<K: Knowledge> {
     alloc: Global,
     id: Author,
     filter: Filter,
@@ -75,7 +75,7 @@ pub struct Replica<K: Knowledge> {
     streams: Streams,
 }
 
-impl<K: Knowledge> Model for Replica<K> {
+impl<K: Knowledge> Model for Core<K> {
     ghost use Rattle.std.specs.Prelude.{◌≤◌, length};
     ghost use Rattle.mr_replica.specs.State.{State};
     ghost use Rattle.mr_replica.specs.Sound.{IsSound};
@@ -87,6 +87,24 @@ impl<K: Knowledge> Model for Replica<K> {
     ghost invariant = { λ r. IsSound K.form (record { id = r.id; filter = r.filter; event_limit = r.event_limit; issued = r.issued; knowledge = r.knowledge; heads = r.contents.store.heads; push_outs = r.contents.store.push_outs; trail = r.contents.trail.lasts; feed = r.contents.feed.entries; log = r.contents.log; is_retired = r.is_retired; sessions = r.sessions; streams = r.streams }) };
 }
 
+/// A replica over a form of knowledge. It is its log replayed: a fresh one of its id, filter and limit that admits
+/// the events of its log is the same.
+#[derive(Drop)]
+pub struct Replica<K: Knowledge> {
+    core: Core<K>,
+}
+
+impl<K: Knowledge> Model for Replica<K> {
+    ghost use Rattle.mr_replica.specs.State.{State};
+    ghost use Rattle.mr_replica.specs.Replay.{IsItsLog};
+
+    ghost Value = { State K };
+
+    ghost view = { λ r. r.core };
+
+    ghost invariant = { λ r. IsItsLog K.form r.core };
+}
+
 impl<K: Knowledge> Replica<K> {
     ghost use Rattle.std.specs.Prelude.{false, List, OnOk};
     ghost use Rattle.mr_forms.specs.Known.{AreSame};
@@ -96,6 +114,8 @@ impl<K: Knowledge> Replica<K> {
     ghost use Rattle.mr_replica.specs.Folded.{FoldsToStore};
     ghost use Rattle.mr_store.specs.Revisions.{AreInVersionOrder, AreApart, AreConflicts};
     ghost use Rattle.mr_replica.specs.Fragments.{HaveKnown, AreFragmentsOf, HasHoleyPart};
+    ghost use Rattle.mr_replica.specs.Replay.{IsItsLog};
+    ghost use Rattle.mr_session.specs.Table.{IsTable, open_numbers};
 
     /// A replica of this id, with nothing in it. It admits up to `event_limit` events, 1 to
     /// 1,000,000, and a Retire past them; any other limit is a `BadLimit`. Nothing is allocated; what grows later takes its
@@ -111,35 +131,22 @@ impl<K: Knowledge> Replica<K> {
         ensures knows_nothing { IfOk result (λ replica. AreSame (K.form.known replica.knowledge) (λ _ _. false)) }
         ensures is_empty { IfOk result (λ replica. replica ≡ new_state id filter event_limit replica.knowledge) }
     {
-        if event_limit == 0 || event_limit > MAX_EVENTS {
-            return Err(ReplicaFault::BadLimit);
-        }
-        Ok(Replica {
-            alloc,
-            id,
-            filter,
-            event_limit,
-            issued: 0,
-            knowledge: K::new(alloc),
-            contents: Contents::new(alloc),
-            is_retired: false,
-            sessions: Sessions::new(alloc),
-            streams: Streams::new(alloc),
-        })
+        let core = Core::try_new(alloc, id, filter, event_limit)?;
+        Ok(Replica { core })
     }
 
     /// The replica's id, which is the author of the versions that it issues.
     pub fn id(&self) -> Author
         ensures { result ≡ self.now.id }
     {
-        self.id
+        self.core.id
     }
 
     /// Which messages it selects.
     pub fn filter(&self) -> &Filter
         ensures { result.now ≡ self.now.filter }
     {
-        &self.filter
+        &self.core.filter
     }
 
     /// How many events it admits; a Retire is admitted past them, once.
@@ -148,14 +155,14 @@ impl<K: Knowledge> Replica<K> {
         ensures low { 1 ≤ result }
         ensures high { result ≤ MAX_EVENTS }
     {
-        self.event_limit
+        self.core.event_limit
     }
 
     /// Whether it has retired: it admits nothing more but to tell others.
     pub fn is_retired(&self) -> bool
         ensures { result ≡ self.now.is_retired }
     {
-        self.is_retired
+        self.core.is_retired
     }
 
     /// The held revisions that the filter selects, in version order.
@@ -163,7 +170,7 @@ impl<K: Knowledge> Replica<K> {
         ensures all { result.now ≡ self.now.heads }
         ensures in_order { AreInVersionOrder self.now.heads }
     {
-        self.contents.store().heads()
+        self.core.contents.store().heads()
     }
 
     /// The held own revisions that the filter does not select, in version order. None of them has the
@@ -173,14 +180,14 @@ impl<K: Knowledge> Replica<K> {
         ensures in_order { AreInVersionOrder self.now.push_outs }
         ensures apart { AreApart self.now.heads self.now.push_outs }
     {
-        self.contents.store().push_outs()
+        self.core.contents.store().push_outs()
     }
 
     /// The revision of a version that is held, as a head or a push-out. It costs two binary searches.
     pub fn held(&self, version: Version) -> Option<&Revision>
         ensures { option_copied result ≡ held self.now version }
     {
-        self.contents.store().held(version)
+        self.core.held(version)
     }
 
     /// The items with two or more heads, in rising order. It costs a walk over the items that were
@@ -188,21 +195,21 @@ impl<K: Knowledge> Replica<K> {
     pub fn conflicts(&self) -> Result<Vec<ItemId>, AllocError>
         ensures { IfOk result (λ items. AreConflicts self.now.heads items.items) }
     {
-        self.contents.store().conflicts()
+        self.core.contents.store().conflicts()
     }
 
     /// Whether the version is known for the item. Its cost is that of the form of knowledge.
     pub fn knows(&self, item: ItemId, version: Version) -> bool
         ensures { result ≡ K.form.known self.now.knowledge item version }
     {
-        self.knowledge.knows(item, version)
+        self.core.knowledge.knows(item, version)
     }
 
     /// What is known.
     pub fn knowledge(&self) -> &K
         ensures { result.now ≡ self.now.knowledge }
     {
-        &self.knowledge
+        &self.core.knowledge
     }
 
     /// What is known, as fragments with concise vectors, as they leave the replica: one for each part
@@ -219,10 +226,7 @@ impl<K: Knowledge> Replica<K> {
         ensures holes { IsErrOf result FormFault.TooManyHoles → HasHoleyPart (K.form.is_part self.now.knowledge) }
         ensures items { result ≢ Err FormFault.TooManyItems }
     {
-        let Ok(fragments) = self.knowledge.fragments() else {
-            return Err(FormFault::OutOfMemory);
-        };
-        concise_fragments(self.alloc, fragments)
+        self.core.fragments()
     }
 
     /// The changes of the heads, in order of time. Somebody who goes through all of them has each head's version
@@ -231,14 +235,89 @@ impl<K: Knowledge> Replica<K> {
         ensures all { result.now ≡ self.now.feed }
         ensures folds { FoldsToStore self.now }
     {
-        self.contents.feed()
+        self.core.contents.feed()
     }
 
-    /// The admitted events, in order of time.
+    /// The admitted events, in order of time. The replica is its log replayed.
     pub fn log(&self) -> &[Event]
         ensures all { result.now ≡ self.now.log }
         ensures issued_few { self.now.issued ≤ length self.now.log }
+        ensures is_its_log { IsItsLog K.form self.now }
     {
-        self.contents.log()
+        self.core.contents.log()
+    }
+
+    /// The numbers of the open sessions, rising: at most eight. It costs a list of them.
+    pub fn open_sessions(&self) -> Result<Vec<u64>, AllocError>
+        ensures all { IfOk result (λ numbers. numbers.items ≡ open_numbers self.now.sessions) }
+        ensures kept { IsTable self.now.sessions }
+    {
+        self.core.sessions.numbers()
+    }
+
+    /// The numbers of the open streams, rising: at most eight. It costs a list of them.
+    pub fn open_streams(&self) -> Result<Vec<u64>, AllocError>
+        ensures all { IfOk result (λ numbers. numbers.items ≡ open_numbers self.now.streams) }
+        ensures kept { IsTable self.now.streams }
+    {
+        self.core.streams.numbers()
+    }
+}
+
+impl<K: Knowledge> Core<K> {
+    ghost use Rattle.std.specs.Prelude.{false, List, OnOk};
+    ghost use Rattle.mr_forms.specs.Known.{AreSame};
+    ghost use Rattle.mr_concise.specs.Vector.{vector_has};
+    ghost use Rattle.mr_concise.specs.Fragments.{ConciseFragment, knowledge_text};
+    ghost use Rattle.mr_replica.specs.State.{new_state, held};
+    ghost use Rattle.mr_replica.specs.Fragments.{HaveKnown, AreFragmentsOf, HasHoleyPart};
+
+    // As the replica's methods of these names.
+    fn try_new(
+        alloc: Global,
+        id: Author,
+        filter: Filter,
+        event_limit: u32,
+    ) -> Result<Core<K>, ReplicaFault>
+        ensures exact { IsOk result ↔ ((1 ≤ event_limit) × (event_limit ≤ MAX_EVENTS)) }
+        ensures fault { IfErr result (λ fault. fault ≡ ReplicaFault.BadLimit) }
+        ensures knows_nothing { IfOk result (λ core. AreSame (K.form.known core.knowledge) (λ _ _. false)) }
+        ensures is_empty { IfOk result (λ core. core ≡ new_state id filter event_limit core.knowledge) }
+    {
+        if event_limit == 0 || event_limit > MAX_EVENTS {
+            return Err(ReplicaFault::BadLimit);
+        }
+        Ok(Core {
+            alloc,
+            id,
+            filter,
+            event_limit,
+            issued: 0,
+            knowledge: K::new(alloc),
+            contents: Contents::new(alloc),
+            is_retired: false,
+            sessions: Sessions::new(alloc),
+            streams: Streams::new(alloc),
+        })
+    }
+
+    fn held(&self, version: Version) -> Option<&Revision>
+        ensures { option_copied result ≡ held self.now version }
+    {
+        self.contents.store().held(version)
+    }
+
+    fn fragments(&self) -> Result<Vec<Fragment<ConciseVector>>, FormFault>
+        ensures ok { IfOk result (λ fragments. HaveKnown vector_has (K.form.known self.now.knowledge) fragments.items) }
+        ensures parts { IfOk result (λ fragments. AreFragmentsOf (K.form.is_part self.now.knowledge) fragments.items) }
+        ensures one_text { IfOk result (λ fragments. (others : List ConciseFragment) → AreFragmentsOf (K.form.is_part self.now.knowledge) others → knowledge_text others ≡ knowledge_text fragments.items) }
+        ensures few { OnOk result (¬ HasHoleyPart (K.form.is_part self.now.knowledge)) }
+        ensures holes { IsErrOf result FormFault.TooManyHoles → HasHoleyPart (K.form.is_part self.now.knowledge) }
+        ensures items { result ≢ Err FormFault.TooManyItems }
+    {
+        let Ok(fragments) = self.knowledge.fragments() else {
+            return Err(FormFault::OutOfMemory);
+        };
+        concise_fragments(self.alloc, fragments)
     }
 }

@@ -204,21 +204,9 @@ fn copied(alloc: Global, specs: &[Spec]) -> Result<Vec<Spec>, AllocError>
 {
     let mut copies = Vec::with_capacity(alloc, specs.len())?;
     for spec in specs {
-        copies.push(copy(spec)?)?;
+        copies.push(spec.copy()?)?;
     }
     Ok(copies)
-}
-
-/// An equal specification.
-fn copy(spec: &Spec) -> Result<Spec, AllocError>
-    ensures { IfOk result (λ copy. copy ≡ spec.now) }
-{
-    Ok(Spec {
-        id: spec.id,
-        filter: spec.filter.copy()?,
-        event_limit: spec.event_limit,
-        port_capacity: spec.port_capacity,
-    })
 }
 
 /// Whether one of them has the id.

@@ -15,8 +15,8 @@
 //! ```
 //!
 //! A replica's refusal is an answer like any other. A line that can't be done ends the script with a
-//! fault that names the line; what the lines before it printed stands. Each event is one of
-//! `World::run`, so what a world promises holds after every line.
+//! fault that names the line; what the lines before it printed stands. Each event is one call of
+//! `World::happen`, so what a world promises holds after every line.
 //!
 //! [`Interpreter`] does the lines of a script that come from anywhere, and shows the world that they made;
 //! [`run_script`] takes them out of a reader and writes their answers. Both are over any form of knowledge,

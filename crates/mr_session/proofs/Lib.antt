@@ -2,6 +2,7 @@ pub mod SlotLemmas
 pub mod PieceLemmas
 pub mod TableLemmas
 pub mod ViewLemmas
+pub mod NumberLemmas
 pub mod HeldLemmas
 pub mod CutLemmas
 pub mod DrawnLemmas

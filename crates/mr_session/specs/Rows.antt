@@ -12,7 +12,7 @@ use Rattle.mr_wire.specs.declared.frame.Mode.{Mode}
 use Rattle.mr_wire.specs.declared.frame.Mode.TheVariants.{Full, Partial}
 use Rattle.mr_session.specs.declared.fault.SessionFault.TheVariants.{NotStart, OtherStream, Repeated, Gap}
 use Rattle.mr_session.specs.declared.outgoing.onward.Onward.TheVariants as onward
-use Rattle.mr_session.specs.Table.{Table, Numbered, empty_table, with_opened, with_closed, open_at}
+use Rattle.mr_session.specs.Table.{Table, Numbered, empty_table, with_opened, with_closed, open_at, open_numbers}
 use Rattle.mr_session.specs.Slots.{value_in, by_number}
 use Rattle.mr_session.specs.Session.{Session, new_session, first_fault, with_taken}
 use Rattle.mr_session.specs.Merge.{is_left_first}
@@ -43,6 +43,10 @@ opened_and_closed = refl
 -- a closed number has nothing, and nor has one that was never opened
 pub what_is_open : map (open_at table) (0 ∷ 1 ∷ 2 ∷ 3 ∷ 4 ∷ []) ≡ None ∷ None ∷ Some (name 0 2) ∷ Some (name 0 3) ∷ None ∷ []
 what_is_open = refl
+
+-- by their numbers, which rise
+pub which_are_open : open_numbers table ≡ 2 ∷ 3 ∷ []
+which_are_open = refl
 
 -- to close what is not open changes nothing
 pub closed_again : with_closed table 1 ≡ table

@@ -25,6 +25,10 @@ module _ {T : Type 0} where
   abbrev pub open_at : Table T → ℕ → Option T
   open_at table n = at table.open_ones n
 
+  -- the numbers that are open
+  abbrev pub open_numbers : Table T → List ℕ
+  open_numbers table = map (λ x. x.number) table.open_ones
+
   -- nothing was ever opened
   abbrev pub empty_table : Table T
   empty_table = record { opened = 0; open_ones = [] }

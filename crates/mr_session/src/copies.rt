@@ -4,20 +4,10 @@ ghost use Rattle.std.specs.Option.{option_map};
 ghost use Rattle.mr_wire.specs.Values.{piece_of};
 
 use mr_concise::ConciseVector;
-use mr_forms::{Fragment, VersionSet};
+use mr_forms::Fragment;
 use mr_wire::FrameFragment;
 use std::alloc::{AllocError, Global};
 use std::collections::VecDeque;
-
-/// An equal vector.
-pub fn copy_of(vector: &ConciseVector) -> Result<ConciseVector, AllocError>
-    ensures { IfOk result (λ copy. copy ≡ vector.now) }
-{
-    match vector.copy() {
-        Ok(copy) => Ok(copy),
-        Err(_) => Err(AllocError),
-    }
-}
 
 // Puts equal vectors behind these, in the same order.
 fn push_vectors(
@@ -27,7 +17,7 @@ fn push_vectors(
     ensures { OnOk result (copied.new.items ≡ copied.old.items ++ vectors.now) }
 {
     for vector in vectors {
-        copied.push(copy_of(vector)?)?;
+        copied.push(vector.copy()?)?;
     }
     Ok(())
 }
@@ -94,14 +84,6 @@ pub fn copied_fragments(
     Ok(copied)
 }
 
-// An equal fragment, as a frame carries it.
-fn copied_piece(fragment: &FrameFragment) -> Result<FrameFragment, AllocError>
-    ensures { IfOk result (λ copy. copy ≡ fragment.now) }
-{
-    let copy = fragment.as_fragment().copy()?;
-    Ok(FrameFragment::new(copy))
-}
-
 // Puts equal fragments behind these, in the same order.
 fn push_pieces(
     copied: &mut Vec<FrameFragment>,
@@ -110,7 +92,7 @@ fn push_pieces(
     ensures { OnOk result (copied.new.items ≡ copied.old.items ++ fragments.now) }
 {
     for fragment in fragments {
-        copied.push(copied_piece(fragment)?)?;
+        copied.push(fragment.copy()?)?;
     }
     Ok(())
 }

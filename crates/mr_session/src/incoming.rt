@@ -5,7 +5,7 @@ ghost use Rattle.mr_concise.specs.Vector.{vector_has};
 ghost use Rattle.mr_wire.specs.Values.{piece_of};
 ghost use Rattle.mr_session.specs.Session.{new_session, first_fault, is_start, is_full, if_so, with_body, after_record, is_to_keep};
 
-use crate::copies::{copied_fragments, copied_vectors, copy_of};
+use crate::copies::{copied_fragments, copied_vectors};
 use crate::fault::SessionFault;
 use crate::origin::Origin;
 use mr_concise::ConciseVector;
@@ -147,7 +147,7 @@ impl Incoming {
         ensures err { OnErr result (self.new ≡ self.old) }
     {
         if self.is_full() {
-            self.held.push(copy_of(vector)?)?;
+            self.held.push(vector.copy()?)?;
         }
         Ok(())
     }

@@ -1,10 +1,10 @@
 //! Tables of what is open, each under a number of its own.
 ghost use Rattle.std.specs.Prelude.{◌≡◌, ◌<◌, ◌≤◌, ◌+◌, ◌^◌, nat_le, length, is_some, IsSome, Some, IfOk, OnOk, OnErr};
 ghost use Rattle.std.specs.Option.{option_copied, ForSome};
-ghost use Rattle.mr_session.specs.Table.{most_open, open_at, empty_table, with_opened, with_closed, Changes, IsTable};
+ghost use Rattle.mr_session.specs.Table.{most_open, open_at, open_numbers, empty_table, with_opened, with_closed, Changes, IsTable};
 
 use crate::limits::MAX_OPEN;
-use crate::slots::{Entry, lift, place, value};
+use crate::slots::{Entry, lift, numbers_in, place, value};
 use slab::Slab;
 use std::alloc::{AllocError, Global};
 use std::marker::Model;
@@ -70,6 +70,16 @@ impl<T> OpenTable<T> {
         ensures { option_copied result ≡ open_at self.now number }
     {
         value(&self.slots, number)
+    }
+
+    /// The numbers that are open, rising: at most eight. It costs a list of them.
+    pub fn numbers(&self) -> Result<Vec<u64>, AllocError>
+        ensures value { IfOk result (λ numbers. numbers.items ≡ open_numbers self.now) }
+        ensures kept { IsTable self.now }
+    {
+        let mut numbers = numbers_in(self.alloc, &self.slots)?;
+        numbers.sort_unstable();
+        Ok(numbers)
     }
 
     // Where the table's memory is from.

@@ -6,7 +6,7 @@ ghost use Rattle.mr_session.specs.Stream.{new_stream, told, due, Draws, DrawsFir
 mod onward;
 
 use crate::asked::AskedOf;
-use crate::copies::{copied_know, copied_queue, copy_of};
+use crate::copies::{copied_know, copied_queue};
 use crate::due::due;
 use crate::held::held_vectors;
 use mr_concise::ConciseVector;
@@ -51,7 +51,7 @@ fn tell(asked: &AskedOf, revision: &Revision) -> Result<Body, AllocError>
     if asked.selects(revision) {
         return Ok(Body::Item(revision.copy()?));
     }
-    let below = copy_of(revision.below())?;
+    let below = revision.below().copy()?;
     let descent = Descent::new(revision.item(), revision.version(), below);
     Ok(Body::MoveOut(descent))
 }

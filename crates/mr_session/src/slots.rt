@@ -1,12 +1,12 @@
 //! Values under numbers, in the slots of a slab.
-ghost use Rattle.std.specs.Prelude.{◌≡◌, ◌≤◌, ◌+◌, ℕ, Some, None, IfSome, IfNone, IsSome};
+ghost use Rattle.std.specs.Prelude.{◌≡◌, ◌≤◌, ◌+◌, ℕ, map, Some, None, IfSome, IfNone, IsSome, IfOk};
 ghost use Rattle.std.specs.Option.{option_copied};
-ghost use Rattle.slab.specs.Slab.{slab_len, HasRoomFor, get};
+ghost use Rattle.slab.specs.Slab.{slab_len, HasRoomFor, entries, get};
 ghost use Rattle.mr_session.specs.Slots.{with_at};
 ghost use Rattle.mr_session.specs.Slots.{value_at, HasNumber, AreOnce, AreUpTo};
 
 use slab::Slab;
-use std::alloc::AllocError;
+use std::alloc::{AllocError, Global};
 
 /// A value under its number.
 #[derive(Drop)]
@@ -48,6 +48,17 @@ pub fn value<T>(slots: &Slab<Entry<T>>, number: u64) -> Option<&T>
         Some(key) => Some(&slots[key].value),
         None => None,
     }
+}
+
+/// The numbers of all slots, in the order of the slots.
+pub fn numbers_in<T>(alloc: Global, slots: &Slab<Entry<T>>) -> Result<Vec<u64>, AllocError>
+    ensures { IfOk result (λ numbers. numbers.items ≡ map (λ e. e.1.number) (entries slots.now)) }
+{
+    let mut numbers = Vec::with_capacity(alloc, slots.len())?;
+    for (_, entry) in slots.iter() {
+        numbers.push(entry.number)?;
+    }
+    Ok(numbers)
 }
 
 /// Takes out what is under the number, which leaves room for it.

@@ -1,65 +1,37 @@
 -- What follows once all lanes are settled.
 use Rattle.std.proofs.Common.{◌≡◌, ◌==◌, Bool, true, false, cond, List, [], ◌∷◌, ◌++◌, sym, refl, ap, ◌∙◌}
 use Rattle.mr_feed.specs.declared.entry.Entry.{Entry}
-use Rattle.mr_lane.specs.declared.piece.Piece.{Piece}
-use Rattle.mr_lane.specs.declared.piece.Piece.TheVariants.{Item, End}
 use Rattle.mr_lane.specs.declared.note.Sender.{Sender}
 use Rattle.mr_lane.specs.declared.note.Sender.TheVariants.{User, FirstLink, SecondLink}
 use Rattle.mr_lane.specs.declared.note.Note.{Note}
 use Rattle.mr_lane.specs.declared.post.Posts.{Posts}
-use Rattle.mr_lane.specs.Piece.{pieces, items_of}
+use Rattle.mr_lane.specs.Piece.{pieces}
 use Rattle.mr_lane.specs.Note.{sender_number, pieces_by}
 use Rattle.mr_lane.specs.Inbox.{IsSettled}
+use Rattle.mr_lane.specs.Letters.{letters_in, letters_by}
 use Rattle.mr_lane.specs.Tap.{TapEnd, with_end}
+use Rattle.mr_lane.proofs.LetterLemmas.{letters-all}
 use Rattle.mr_threads.specs.Exchange.{Exchange, said, letters_said, said_by, answers_to}
-use Rattle.mr_threads.specs.Lanes.{with_items, letter_in, letters_in}
+use Rattle.mr_threads.specs.Lanes.{with_items}
 use Rattle.mr_threads.specs.Core.{letters_with_senders, Ran, IsNewCore}
 use Rattle.mr_threads.specs.Settled.{TookAll, TookAllEntries, IsInterleaving}
 use Rattle.mr_threads.specs.declared.core_parts.Core.{Core}
 use Rattle.mr_threads.specs.declared.settling.Taps.{Taps}
 use Rattle.mr_threads.specs.declared.settling.FeedTaps.{FeedTaps}
 
-module _ {T : Type 0} where
-  -- those of one sender
-  abbrev by : Sender → List (Sender × T) → List T
-  by sender [] = []
-  by sender (x ∷ xs) = cond (sender_number sender == sender_number x.0) (x.1 ∷ by sender xs) (by sender xs)
-
-  items_of-pieces : (xs : List T) → items_of (pieces xs true) ≡ xs
-  items_of-pieces [] = refl
-  items_of-pieces (x ∷ xs) = ap (λ l. x ∷ l) (items_of-pieces xs)
-
-  -- the items of one sender's pieces are its letters
-  by-letters : (sender : Sender) (notes : List (Note T)) → items_of (pieces_by (sender_number sender) notes) ≡ by sender (letters_in notes)
-  by-letters sender [] = refl
-  by-letters sender (note ∷ notes) = by-letter sender note.sender note.piece notes (by-letters sender notes)
-    where
-      by-letter : (sender from : Sender) (piece : Piece T) (notes : List (Note T)) → items_of (pieces_by (sender_number sender) notes) ≡ by sender (letters_in notes)
-          → items_of (cond (sender_number sender == sender_number from) (piece ∷ pieces_by (sender_number sender) notes) (pieces_by (sender_number sender) notes)) ≡ by sender (letter_in from piece ++ letters_in notes)
-      by-letter sender from (Item x) notes rest =
-          elim (sender_number sender == sender_number from) as (λ (b : Bool). items_of (cond b (Item x ∷ pieces_by (sender_number sender) notes) (pieces_by (sender_number sender) notes)) ≡ cond b (x ∷ by sender (letters_in notes)) (by sender (letters_in notes))) [
-            | true ↦ ap (λ l. x ∷ l) rest
-            | false ↦ rest
-          ]
-      by-letter sender from End notes rest =
-          elim (sender_number sender == sender_number from) as (λ (b : Bool). items_of (cond b (End ∷ pieces_by (sender_number sender) notes) (pieces_by (sender_number sender) notes)) ≡ by sender (letters_in notes)) [
-            | true ↦ rest
-            | false ↦ rest
-          ]
-
 module _ {E A : Type 0} where
-  by-exchanges : (sender : Sender) (xs : List (Exchange E A)) → by sender (letters_with_senders xs) ≡ letters_said (said_by sender xs)
+  by-exchanges : (sender : Sender) (xs : List (Exchange E A)) → letters_by sender (letters_with_senders xs) ≡ letters_said (said_by sender xs)
   by-exchanges sender [] = refl
   by-exchanges sender (x ∷ xs) =
       let rest = by-exchanges sender xs in
-      elim (sender_number sender == sender_number x.sender) as (λ (b : Bool). cond b (x.letter ∷ by sender (letters_with_senders xs)) (by sender (letters_with_senders xs)) ≡ letters_said (cond b (said x.letter x.answer ∷ said_by sender xs) (said_by sender xs))) [
+      elim (sender_number sender == sender_number x.sender) as (λ (b : Bool). cond b (x.letter ∷ letters_by sender (letters_with_senders xs)) (letters_by sender (letters_with_senders xs)) ≡ letters_said (cond b (said x.letter x.answer ∷ said_by sender xs) (said_by sender xs))) [
         | true ↦ ap (λ l. x.letter ∷ l) rest
         | false ↦ rest
       ]
 
   -- the letters of one sender are what its post sent
   said_all : (sender : Sender) (xs : List (Exchange E A)) (taken : List (Note E)) (sent : List E) → letters_in taken ≡ letters_with_senders xs → pieces_by (sender_number sender) taken ≡ pieces sent true → letters_said (said_by sender xs) ≡ sent
-  said_all sender xs taken sent h k = sym (by-exchanges sender xs) ∙ (ap (by sender) (sym h) ∙ (sym (by-letters sender taken) ∙ (ap items_of k ∙ items_of-pieces sent)))
+  said_all sender xs taken sent h k = sym (by-exchanges sender xs) ∙ (ap (letters_by sender) (sym h) ∙ letters-all sender taken sent k)
 
 -- what passed a new end
 passed_new : {T : Type 0} (old mid new : TapEnd T) (xs : List T) → old.passed ≡ [] → mid ≡ with_items old xs → new ≡ with_end mid → new.passed ≡ xs

@@ -3,7 +3,6 @@ use Rattle.std.specs.Prelude.{◌≡◌, ℕ, ◌+◌, Bool, true, false, List, 
 use Rattle.std.proofs.Common.{◌∙◌}
 use Rattle.atomic_table.specs.Seated.{TableId}
 use Rattle.mr_feed.specs.declared.entry.Entry.{Entry}
-use Rattle.mr_lane.specs.declared.piece.Piece.TheVariants.{Item, End}
 use Rattle.mr_lane.specs.declared.note.Sender.{Sender}
 use Rattle.mr_lane.specs.declared.note.Sender.TheVariants.{User, FirstLink, SecondLink}
 use Rattle.mr_lane.specs.declared.note.Note.{Note}
@@ -11,7 +10,7 @@ use Rattle.mr_lane.specs.Tap.{TapEnd, new_end}
 use Rattle.mr_threads.specs.declared.settling.Taps.{Taps}
 use Rattle.mr_threads.specs.declared.settling.FeedTaps.{FeedTaps}
 use Rattle.mr_threads.specs.Exchange.{Exchange, Said, said, exchange, letters_said, answers_heard, said_by, answers_to, Replays}
-use Rattle.mr_threads.specs.Lanes.{with_items, letters_in}
+use Rattle.mr_threads.specs.Lanes.{with_items}
 use Rattle.mr_threads.specs.Core.{letters_with_senders}
 use Rattle.mr_threads.specs.Settled.{are_taps_closed, are_feed_taps_closed, IsInterleaving}
 
@@ -67,10 +66,6 @@ not_as_it_began t replays = replays.2 ∙ replays.1.1
 -- items pass behind others
 pub pass_behind : (id : TableId) → with_items (with_items (new_end {T = ℕ} id 4) (5 ∷ [])) (6 ∷ 7 ∷ []) ≡ record { id = id; capacity = 4; passed = 5 ∷ 6 ∷ 7 ∷ []; closed = false }
 pass_behind id = refl
-
--- end marks are no letters
-pub letters_alone : letters_in {T = ℕ} (record { sender = User; piece = Item 5 } ∷ record { sender = FirstLink; piece = End } ∷ record { sender = SecondLink; piece = Item 6 } ∷ []) ≡ (User, 5) ∷ (SecondLink, 6) ∷ []
-letters_alone = refl
 
 -- an end that nothing has passed, or its end mark alone
 abbrev tap_end : {T : Type 0} → TableId → Bool → TapEnd T

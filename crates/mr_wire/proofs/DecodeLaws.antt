@@ -86,7 +86,7 @@ last_step format byte k e = at_test (eqb byte 7) refl e
     at_test true h e' = let t = test_some (not (eqb format 1)) kind.Receipt k e' in eqb-true byte 7 h ∙ ap kind_byte t.1
     at_test false h e' = absurd cc
 
-byte_is : (format byte : ℕ) (k : Kind) → kind_of_byte format byte ≡ Some k → byte ≡ kind_byte k
+pub byte_is : (format byte : ℕ) (k : Kind) → kind_of_byte format byte ≡ Some k → byte ≡ kind_byte k
 byte_is format byte k =
     kind_step byte 0 kind.Ask k _ refl (kind_step byte 1 kind.Start k _ refl (kind_step byte 2 kind.Item k _ refl (kind_step byte 3 kind.MoveOut k _ refl
     (kind_step byte 4 kind.Held k _ refl (kind_step byte 5 kind.Know k _ refl (kind_step byte 6 kind.End k _ refl (last_step format byte k)))))))

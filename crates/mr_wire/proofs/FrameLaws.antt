@@ -35,7 +35,7 @@ use Rattle.mr_wire.proofs.BodyLemmas.{reads_serial, reads_header, reads_asked, f
 
 -- ---- one part seen as another value
 
-as_takes : {X Y : Type 0} {f : X → Type 0} {s : X → List ℕ} {at : Reader X} (to : X → Y) → Reads f s at → (bytes : List ℕ) (y : Y) (rest : List ℕ) → as_at to at bytes ≡ Some (y, rest) → (x : X) × (y ≡ to x) × (bytes ≡ s x ++ rest) × f x
+pub as_takes : {X Y : Type 0} {f : X → Type 0} {s : X → List ℕ} {at : Reader X} (to : X → Y) → Reads f s at → (bytes : List ℕ) (y : Y) (rest : List ℕ) → as_at to at bytes ≡ Some (y, rest) → (x : X) × (y ≡ to x) × (bytes ≡ s x ++ rest) × f x
 as_takes {X} {Y} {f} {s} {at} to reads bytes y rest e =
     let a = bind_some (at bytes) (λ x. Some (to x.0, x.1)) (y, rest) e in
     let is : (to a.0.0, a.0.1) ≡ (y, rest) = some_is (to a.0.0, a.0.1) (y, rest) a.2 in
@@ -43,7 +43,7 @@ as_takes {X} {Y} {f} {s} {at} to reads bytes y rest e =
     let rest_is : a.0.1 ≡ rest = ap (λ (p : Y × List ℕ). p.1) is in
     (a.0.0, sym (ap (λ (p : Y × List ℕ). p.0) is), t.0 ∙ ap (λ (z : List ℕ). s a.0.0 ++ z) rest_is, t.1)
 
-as_again : {X Y : Type 0} {f : X → Type 0} {s : X → List ℕ} {at : Reader X} (to : X → Y) → Reads f s at → (x : X) (rest : List ℕ) → f x → as_at to at (s x ++ rest) ≡ Some (to x, rest)
+pub as_again : {X Y : Type 0} {f : X → Type 0} {s : X → List ℕ} {at : Reader X} (to : X → Y) → Reads f s at → (x : X) (rest : List ℕ) → f x → as_at to at (s x ++ rest) ≡ Some (to x, rest)
 as_again to reads x rest h = rw (reads.again x rest h) refl
 
 -- ---- modes and revisions
@@ -158,7 +158,7 @@ asked_fit : (xs : List Piece) (before : Option (Option Name)) → AllByRecursion
 asked_fit [] before each rise = tt
 asked_fit (x ∷ xs) before each rise = ((each.0, rise.0), asked_fit xs (Some (least_item x.items)) each.1 rise.1)
 
-reads_ask : Reads IsAsked ask_bytes ask_at
+pub reads_ask : Reads IsAsked ask_bytes ask_at
 reads_ask = reads_like IsAsked ask_bytes
     (reads_as (λ (p : ℕ × (ℕ × (List ClauseParts × List Piece))). record { target = p.0; session = p.1.0; filter = p.1.1.0; fragments = p.1.1.1 }) (λ (q : Question). (q.target, (q.session, (q.filter, q.fragments)))) (λ q. refl) (λ p. refl)
     (reads_then reads_author (λ _. reads_then reads_serial (λ _. reads_then reads_filter (λ _. reads_counted length reads_u32 (λ n. reads_run next_asked reads_asked None n))))))
@@ -166,7 +166,7 @@ reads_ask = reads_like IsAsked ask_bytes
     (λ q h. (h.target_in, (h.session_in, (h.filter_in, (h.few, asked_fit q.fragments None h.each h.rise)))))
     (λ q. refl)
 
-reads_receipt : Reads (λ (r : Receipt). (r.giver < 64) × IsDescent r.descent) (λ r. u16 r.giver ++ descent_bytes r.descent) receipt_at
+pub reads_receipt : Reads (λ (r : Receipt). (r.giver < 64) × IsDescent r.descent) (λ r. u16 r.giver ++ descent_bytes r.descent) receipt_at
 reads_receipt = reads_as (λ (p : ℕ × DescentParts). record { giver = p.0; descent = p.1 }) (λ (r : Receipt). (r.giver, r.descent)) (λ r. refl) (λ p. refl) (reads_then reads_author (λ _. reads_descent))
 
 -- ---- frames

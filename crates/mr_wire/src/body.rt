@@ -116,7 +116,10 @@ fn ask_of(
     Some(Ask::new(target, session, filter?, fragments?))
 }
 
-fn ask(input: &mut Input<'_>, memory: Option<Global>) -> Option<Option<Ask>>
+/// A request: target, session, filter, a count of fragments, and those.
+///
+/// `None` where none stands at the front. It is kept where there is memory for it.
+pub fn ask(input: &mut Input<'_>, memory: Option<Global>) -> Option<Option<Ask>>
     ensures { Finds (λ a. a) ask_at input.old result input.new }
 {
     let target = input.author()?;
@@ -197,7 +200,10 @@ fn receipt_of(giver: Author, descent: Option<Descent>) -> Option<Receipt>
     })
 }
 
-fn receipt(input: &mut Input<'_>, memory: Option<Global>) -> Option<Option<Receipt>>
+/// A receipt: giver, item, version, and what that supersedes.
+///
+/// `None` where none stands at the front. It is kept where there is memory for it.
+pub fn receipt(input: &mut Input<'_>, memory: Option<Global>) -> Option<Option<Receipt>>
     ensures { Finds (λ r. r) receipt_at input.old result input.new }
 {
     let giver = input.author()?;
@@ -205,12 +211,10 @@ fn receipt(input: &mut Input<'_>, memory: Option<Global>) -> Option<Option<Recei
     Some(receipt_of(giver, descent))
 }
 
-/// What stands behind the kind.
-pub(crate) fn frame(
-    input: &mut Input<'_>,
-    memory: Option<Global>,
-    kind: Kind,
-) -> Option<Option<Frame>>
+/// A frame of this kind, of which the bytes behind its kind byte are read.
+///
+/// `None` where none stands at the front. It is kept where there is memory for it.
+pub fn frame(input: &mut Input<'_>, memory: Option<Global>, kind: Kind) -> Option<Option<Frame>>
     ensures { Finds (λ f. f) (frame_at kind) input.old result input.new }
 {
     match kind {

@@ -1,9 +1,10 @@
 //! A version of an item, with the versions that it supersedes.
-ghost use Rattle.std.specs.Prelude.{◌≡◌};
+ghost use Rattle.std.specs.Prelude.{◌≡◌, IfOk};
 ghost use Rattle.mr_madewith.specs.Revision.{IsRevision};
 
 use mr_concise::ConciseVector;
 use mr_version::{ItemId, Version};
+use std::alloc::AllocError;
 use std::marker::Model;
 
 /// A version of an item, with the versions that it supersedes, and without its message.
@@ -63,5 +64,13 @@ impl Descent {
         ensures kept { IsRevision self.now.item self.now.version self.now.below }
     {
         &self.below
+    }
+
+    /// An equal descent. It costs a copy of what the version supersedes.
+    pub fn copy(&self) -> Result<Descent, AllocError>
+        ensures { IfOk result (λ descent. descent ≡ self.now) }
+    {
+        let below = self.below.copy()?;
+        Ok(Descent::new(self.item, self.version, below))
     }
 }

@@ -62,7 +62,8 @@ impl Frame {
     }
 }
 
-fn put_u64(out: &mut Vec<u8>, n: u64) -> Result<(), AllocError>
+/// Writes a number of eight bytes.
+pub fn put_u64(out: &mut Vec<u8>, n: u64) -> Result<(), AllocError>
     ensures written { OnOk result (out.new.items ≡ out.old.items ++ u64 n) }
     ensures in_range { OnOk result (n < 2 ^ 64) }
 {
@@ -131,7 +132,8 @@ fn put_fragments(out: &mut Vec<u8>, fragments: &[FrameFragment]) -> Result<(), A
     Ok(())
 }
 
-fn put_ask(out: &mut Vec<u8>, ask: &Ask) -> Result<(), AllocError>
+/// Writes a request: target, session, filter, a count of fragments, and those.
+pub fn put_ask(out: &mut Vec<u8>, ask: &Ask) -> Result<(), AllocError>
     ensures written { OnOk result (out.new.items ≡ out.old.items ++ ask_bytes ask.now) }
     ensures in_grammar { OnOk result (IsAsked ask.now) }
 {
@@ -143,13 +145,26 @@ fn put_ask(out: &mut Vec<u8>, ask: &Ask) -> Result<(), AllocError>
     put_fragments(out, fragments)
 }
 
-fn put_receipt(out: &mut Vec<u8>, receipt: &Receipt) -> Result<(), AllocError>
+/// Writes a receipt: giver, item, version, and what that supersedes.
+pub fn put_receipt(out: &mut Vec<u8>, receipt: &Receipt) -> Result<(), AllocError>
     ensures written { OnOk result (out.new.items ≡ out.old.items ++ part_bytes (Frame.Receipt receipt.now)) }
     ensures in_grammar { OnOk result (IsFrame (Frame.Receipt receipt.now)) }
 {
     put_u16(out, receipt.giver.id())?;
     let descent = &receipt.descent;
     put_descent(out, descent.item(), descent.version(), descent.below())
+}
+
+/// Writes what stands behind the kind of a frame.
+pub fn put_frame(out: &mut Vec<u8>, frame: &Frame) -> Result<(), AllocError>
+    ensures written { OnOk result (out.new.items ≡ out.old.items ++ part_bytes frame.now) }
+    ensures in_grammar { OnOk result (IsFrame frame.now) }
+{
+    match frame {
+        Frame::Ask(ask) => put_ask(out, ask),
+        Frame::Record(record) => put_record(out, record),
+        Frame::Receipt(receipt) => put_receipt(out, receipt),
+    }
 }
 
 /// The start of a frame of this kind, with so many bytes behind the kind: the length of what follows

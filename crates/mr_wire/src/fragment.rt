@@ -1,11 +1,12 @@
 //! Fragments of knowledge, as frames carry them.
-ghost use Rattle.std.specs.Prelude.{◌≡◌, ◌≤◌, length};
+ghost use Rattle.std.specs.Prelude.{◌≡◌, ◌≤◌, IfOk, length};
 ghost use Rattle.mr_wire.specs.Values.{AreItems, piece_of};
 ghost use Rattle.mr_wire.specs.Spelling.{fragment_bytes};
 
 use crate::lengths::{item_set_len, vector_len};
 use mr_concise::ConciseVector;
 use mr_forms::Fragment;
+use std::alloc::{AllocError, Global};
 use std::marker::Model;
 
 /// A fragment of all items, or of 1 to 65,536 items in rising order.
@@ -48,6 +49,28 @@ impl FrameFragment {
         ensures { piece_of result ≡ self }
     {
         self.fragment
+    }
+
+    /// An equal fragment. It costs a copy of the items and of the vector.
+    pub fn copy(&self) -> Result<FrameFragment, AllocError>
+        ensures { IfOk result (λ fragment. fragment ≡ self.now) }
+    {
+        let fragment = self.fragment.copy()?;
+        Ok(FrameFragment::new(fragment))
+    }
+
+    /// Equal fragments, in the same order.
+    pub fn copy_all(
+        alloc: Global,
+        fragments: &[FrameFragment],
+    ) -> Result<Vec<FrameFragment>, AllocError>
+        ensures { IfOk result (λ copied. copied.items ≡ fragments.now) }
+    {
+        let mut copied = Vec::with_capacity(alloc, fragments.len())?;
+        for fragment in fragments {
+            copied.push(fragment.copy()?)?;
+        }
+        Ok(copied)
     }
 
     /// How many bytes the fragment takes in a frame: 3 to 2,490,887.

@@ -1,5 +1,5 @@
 //! Frames: what replicas send to one another.
-ghost use Rattle.std.specs.Prelude.{◌≡◌, ◌<◌, ◌^◌};
+ghost use Rattle.std.specs.Prelude.{◌≡◌, ◌<◌, ◌^◌, IfOk};
 ghost use Rattle.mr_wire.specs.Encoding.{total_len};
 ghost use Rattle.mr_wire.specs.Frames.{IsSent, IsQuestion};
 
@@ -9,6 +9,7 @@ use mr_concise::ConciseVector;
 use mr_filter::Filter;
 use mr_madewith::Revision;
 use mr_version::Author;
+use std::alloc::{AllocError, Global};
 use std::marker::Model;
 
 /// Which of the two a stream is.
@@ -54,6 +55,22 @@ pub enum Body {
     End,
 }
 
+impl Body {
+    /// An equal body. It costs a copy of what the body carries, but that a revision shares its parts.
+    pub fn copy(&self) -> Result<Body, AllocError>
+        ensures { IfOk result (λ body. body ≡ self.now) }
+    {
+        match self {
+            Body::Start(mode) => Ok(Body::Start(*mode)),
+            Body::Item(revision) => Ok(Body::Item(revision.copy()?)),
+            Body::MoveOut(descent) => Ok(Body::MoveOut(descent.copy()?)),
+            Body::Held(vector) => Ok(Body::Held(vector.copy()?)),
+            Body::Know(fragment) => Ok(Body::Know(fragment.copy()?)),
+            Body::End => Ok(Body::End),
+        }
+    }
+}
+
 /// A record of a stream. Its stream and session have numbers from 1; its index is 0 exactly for a Start.
 #[derive(Debug, Drop)]
 pub struct Record {
@@ -93,6 +110,14 @@ impl Record {
         ensures { result.now ≡ self.now.body }
     {
         &self.body
+    }
+
+    /// An equal record, at the cost of a copy of its body.
+    pub fn copy(&self) -> Result<Record, AllocError>
+        ensures { IfOk result (λ sent. sent ≡ self.now) }
+    {
+        let body = self.body.copy()?;
+        Ok(Record::new(self.header, body))
     }
 }
 
@@ -163,6 +188,15 @@ impl Ask {
         self.fragments.as_slice()
     }
 
+    /// An equal request. It costs a copy of the filter and of the fragments.
+    pub fn copy(&self, alloc: Global) -> Result<Ask, AllocError>
+        ensures { IfOk result (λ ask. ask ≡ self.now) }
+    {
+        let filter = self.filter.copy()?;
+        let fragments = FrameFragment::copy_all(alloc, &self.fragments)?;
+        Ok(Ask::new(self.target, self.session, filter, fragments))
+    }
+
     /// How many bytes the fragments take together. Where they take at most 8,000,000, the request is
     /// never too long for a frame.
     ///
@@ -188,6 +222,18 @@ pub struct Receipt {
     pub descent: Descent,
 }
 
+impl Receipt {
+    /// An equal receipt. It costs a copy of what its version supersedes.
+    pub fn copy(&self) -> Result<Receipt, AllocError>
+        ensures { IfOk result (λ receipt. receipt ≡ self.now) }
+    {
+        Ok(Receipt {
+            giver: self.giver,
+            descent: self.descent.copy()?,
+        })
+    }
+}
+
 /// What a replica sends to another.
 #[derive(Debug, Drop)]
 pub enum Frame {
@@ -197,4 +243,17 @@ pub enum Frame {
     Record(Record),
     /// What lets the target let go of push-outs.
     Receipt(Receipt),
+}
+
+impl Frame {
+    /// An equal frame. It costs a copy of what the frame carries.
+    pub fn copy(&self, alloc: Global) -> Result<Frame, AllocError>
+        ensures { IfOk result (λ frame. frame ≡ self.now) }
+    {
+        match self {
+            Frame::Ask(ask) => Ok(Frame::Ask(ask.copy(alloc)?)),
+            Frame::Record(sent) => Ok(Frame::Record(sent.copy()?)),
+            Frame::Receipt(receipt) => Ok(Frame::Receipt(receipt.copy()?)),
+        }
+    }
 }

@@ -9,8 +9,11 @@ use mr_version::{Author, MAX_COUNTER, Version};
 use std::marker::Model;
 
 /// Bytes that are read from the front.
+///
+/// Each reader answers `None` where what it reads doesn't stand at the front. What is left then may begin
+/// anywhere in what it tried.
 #[derive(Drop)]
-pub(crate) struct Input<'a> {
+pub struct Input<'a> {
     rest: &'a [u8],
 }
 
@@ -24,21 +27,21 @@ impl<'a> Model for Input<'a> {
 
 impl<'a> Input<'a> {
     /// The bytes, none of which is read yet.
-    pub(crate) fn new(bytes: &'a [u8]) -> Input<'a>
+    pub fn new(bytes: &'a [u8]) -> Input<'a>
         ensures { result ≡ bytes.now }
     {
         Input { rest: bytes }
     }
 
     /// How many bytes are left.
-    pub(crate) fn len(&self) -> usize
+    pub fn len(&self) -> usize
         ensures { result ≡ length self.now }
     {
         self.rest.len()
     }
 
     /// So many bytes.
-    pub(crate) fn bytes(&mut self, count: usize) -> Option<&'a [u8]>
+    pub fn bytes(&mut self, count: usize) -> Option<&'a [u8]>
         ensures none { Gives (bytes_at count) self.old (option_copied result) self.new }
     {
         if self.rest.len() < count {
@@ -50,7 +53,7 @@ impl<'a> Input<'a> {
     }
 
     /// A number of one byte.
-    pub(crate) fn u8(&mut self) -> Option<u8>
+    pub fn u8(&mut self) -> Option<u8>
         ensures { Gives (number_at w8) self.old result self.new }
     {
         let (number, rest) = self.rest.split_first()?;
@@ -67,7 +70,7 @@ impl<'a> Input<'a> {
     }
 
     /// A number of four bytes.
-    pub(crate) fn u32(&mut self) -> Option<u32>
+    pub fn u32(&mut self) -> Option<u32>
         ensures { Gives (number_at w32) self.old result self.new }
     {
         let front = self.bytes(4)?;
@@ -75,7 +78,7 @@ impl<'a> Input<'a> {
     }
 
     /// A number of eight bytes.
-    pub(crate) fn u64(&mut self) -> Option<u64>
+    pub fn u64(&mut self) -> Option<u64>
         ensures { Gives (number_at w64) self.old result self.new }
     {
         let front = self.bytes(8)?;
@@ -104,7 +107,7 @@ impl<'a> Input<'a> {
     }
 
     /// A version, or the version that created an item.
-    pub(crate) fn version(&mut self) -> Option<Version>
+    pub fn version(&mut self) -> Option<Version>
         ensures { Gives name_at self.old result self.new }
     {
         let author = self.author()?;

@@ -8,15 +8,15 @@ ghost use Rattle.mr_wire.specs.Reading.{KeepsMore};
 
 use std::alloc::Global;
 
-/// An empty list with room for so many items.
-pub(crate) fn room<T>(memory: Option<Global>, count: usize) -> Option<Vec<T>>
+/// An empty list with room for so many items, where there is memory for it.
+pub fn room<T>(memory: Option<Global>, count: usize) -> Option<Vec<T>>
     ensures { IfSome result (λ list. list.items ≡ []) }
 {
     Vec::with_capacity(memory?, count).ok()
 }
 
 /// Puts the item at the end of the list, where both are kept.
-pub(crate) fn keep<T: Drop>(list: &mut Option<Vec<T>>, item: Option<T>)
+pub fn keep<T: Drop>(list: &mut Option<Vec<T>>, item: Option<T>)
     ensures { KeepsMore list.old item list.new }
 {
     let kept = with_item(list.take(), item);

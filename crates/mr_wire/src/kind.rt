@@ -3,7 +3,7 @@ ghost use Rattle.std.specs.Prelude.{◌≡◌};
 ghost use Rattle.mr_wire.specs.Kinds.{kind_byte, kind_of_byte};
 
 /// The format that is written, with all kinds.
-pub(crate) const FORMAT: u8 = 2;
+pub const FORMAT: u8 = 2;
 
 /// The format before it, without receipts, which is still read.
 pub(crate) const FORMAT_WITHOUT_RECEIPTS: u8 = 1;
@@ -38,8 +38,8 @@ impl Kind {
         }
     }
 
-    /// The kind of this byte in a format.
-    pub(crate) fn from_byte(format: u8, byte: u8) -> Option<Kind>
+    /// The kind of this byte in a format, 1 or 2, if there is one: 0 to 7 in format 2, and 0 to 6 in format 1.
+    pub fn from_byte(format: u8, byte: u8) -> Option<Kind>
         ensures { result ≡ kind_of_byte format byte }
     {
         match byte {

@@ -170,7 +170,7 @@ fn texts_len(message: &Message) -> usize
 }
 
 /// The bytes of a message: a body of at most 65,536 bytes, and what stands around it.
-fn message_len(message: &Message) -> usize
+pub fn message_len(message: &Message) -> usize
     ensures exact { result ≡ length (message_bytes message.now) }
     ensures most { result ≤ 67328 }
 {
@@ -210,7 +210,7 @@ fn body_len(body: &Body) -> usize
 
 /// The bytes of a request: what stands before its fragments is at most 17,007 bytes.
 #[tactic(auto, using(crate::proofs::LengthLemmas::length_of_ask))]
-pub(crate) fn ask_len(ask: &Ask) -> usize
+pub fn ask_len(ask: &Ask) -> usize
     ensures exact { result ≡ length (ask_bytes ask.now) }
     ensures most { result < 2 ^ 55 }
     ensures head { result ≤ 17007 + total_len ask.now.fragments }
@@ -227,15 +227,15 @@ pub(crate) fn record_len(sent: &Record) -> usize
 }
 
 /// The bytes of a receipt.
-pub(crate) fn receipt_len(receipt: &Receipt) -> usize
+pub fn receipt_len(receipt: &Receipt) -> usize
     ensures exact { result ≡ length (part_bytes (Frame.Receipt receipt.now)) }
     ensures most { result ≤ 8017007 }
 {
     AUTHOR_BYTES + descent_len(receipt.descent.below())
 }
 
-/// The bytes of what stands behind the kind.
-pub(crate) fn parts_len(frame: &Frame) -> usize
+/// The bytes of what stands behind the kind of a frame.
+pub fn parts_len(frame: &Frame) -> usize
     ensures exact { result ≡ length (part_bytes frame.now) }
     ensures most { result < 2 ^ 55 }
     ensures short { HasShortFragments frame.now → result ≤ 8017007 }

@@ -16,6 +16,8 @@
 //! assert_eq!(used, bytes.len());
 //! assert_eq!(frame.kind(), Kind::Held);
 //! ```
+//!
+//! [`parts`] offers the parts of frames to layers that spell values of their own.
 #![tactic(auto)]
 
 mod body;
@@ -33,6 +35,7 @@ mod kind;
 mod label;
 mod lengths;
 mod message;
+pub mod parts;
 mod put;
 mod revision;
 mod spellings;
@@ -44,5 +47,5 @@ pub use encoding::{encode, encode_ask, encode_receipt, encode_record};
 pub use fault::WireFault;
 pub use fragment::FrameFragment;
 pub use frame::{Ask, Body, Frame, Header, Mode, Receipt, Record};
-pub use kind::Kind;
+pub use kind::{FORMAT, Kind};
 pub use spellings::{no_spelling_begins_another, one_spelling};

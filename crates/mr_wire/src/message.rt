@@ -98,8 +98,10 @@ fn message_of(
     built(alloc, from, subject, body, &labels, flags, day).ok()
 }
 
-/// A message.
-pub(crate) fn message(input: &mut Input<'_>, memory: Option<Global>) -> Option<Option<Message>>
+/// A message: sender, subject and body behind their lengths, labels, flags and day.
+///
+/// `None` where none stands at the front. It is kept where there is memory for it.
+pub fn message(input: &mut Input<'_>, memory: Option<Global>) -> Option<Option<Message>>
     ensures { Finds (λ m. m) message_at input.old result input.new }
 {
     let from = text(input, MAX_FROM_BYTES)?;

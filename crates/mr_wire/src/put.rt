@@ -30,13 +30,15 @@ pub(crate) fn put_u16(out: &mut Vec<u8>, n: u16) -> Result<(), AllocError>
     out.extend_from_slice(&n.to_be_bytes())
 }
 
-pub(crate) fn put_u32(out: &mut Vec<u8>, n: u32) -> Result<(), AllocError>
+/// Writes a number of four bytes.
+pub fn put_u32(out: &mut Vec<u8>, n: u32) -> Result<(), AllocError>
     ensures { OnOk result (out.new.items ≡ out.old.items ++ u32 n) }
 {
     out.extend_from_slice(&n.to_be_bytes())
 }
 
-fn put_version(out: &mut Vec<u8>, version: Version) -> Result<(), AllocError>
+/// Writes a version, or the version that created an item: author and counter.
+pub fn put_version(out: &mut Vec<u8>, version: Version) -> Result<(), AllocError>
     ensures written { OnOk result (out.new.items ≡ out.old.items ++ name_bytes version) }
     ensures in_grammar { OnOk result (IsVersion version.author version.counter) }
 {
@@ -180,7 +182,8 @@ fn put_card(out: &mut Vec<u8>, message: &Message) -> Result<(), AllocError>
     put_u16(out, message.day().days())
 }
 
-pub(crate) fn put_message(out: &mut Vec<u8>, message: &Message) -> Result<(), AllocError>
+/// Writes a message: sender, subject and body behind their lengths, labels, flags and day.
+pub fn put_message(out: &mut Vec<u8>, message: &Message) -> Result<(), AllocError>
     ensures written { OnOk result (out.new.items ≡ out.old.items ++ message_bytes message.now) }
     ensures in_grammar { OnOk result (IsLetter message.now) }
 {

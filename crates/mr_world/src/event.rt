@@ -1,7 +1,10 @@
 //! What a world is asked to do.
+ghost use Rattle.std.specs.Prelude.{◌≡◌, IfOk};
+
 use mr_mail::Message;
 use mr_replica::Bases;
 use mr_version::{Author, Version};
+use std::alloc::AllocError;
 
 /// One of the two that follow a replica's feed.
 #[derive(Clone, Copy, Debug, PartialEq, Eq)]
@@ -47,4 +50,31 @@ pub enum Event {
     Vouch(Author, Version),
     /// Let go of the push-outs that the receipt of this number frees.
     Release(Author, u64),
+}
+
+impl Event {
+    /// An equal event. It costs a copy of what the event carries.
+    pub fn copy(&self) -> Result<Event, AllocError>
+        ensures { IfOk result (λ event. event ≡ self.now) }
+    {
+        match self {
+            Event::Create(id, message) => Ok(Event::Create(*id, message.copy()?)),
+            Event::Edit(id, bases, message) => {
+                Ok(Event::Edit(*id, bases.copy()?, message.copy()?))
+            }
+            Event::Retire(id) => Ok(Event::Retire(*id)),
+            Event::Pull(id) => Ok(Event::Pull(*id)),
+            Event::Receive(id, record) => Ok(Event::Receive(*id, *record)),
+            Event::DeliverPart(id, record, len) => Ok(Event::DeliverPart(*id, *record, *len)),
+            Event::CutIn(id, session) => Ok(Event::CutIn(*id, *session)),
+            Event::Answer(id, ask) => Ok(Event::Answer(*id, *ask)),
+            Event::Next(id, stream) => Ok(Event::Next(*id, *stream)),
+            Event::CutOut(id, stream) => Ok(Event::CutOut(*id, *stream)),
+            Event::Offer(id, subscriber) => Ok(Event::Offer(*id, *subscriber)),
+            Event::Take(id, subscriber) => Ok(Event::Take(*id, *subscriber)),
+            Event::Close(id, subscriber) => Ok(Event::Close(*id, *subscriber)),
+            Event::Vouch(id, version) => Ok(Event::Vouch(*id, *version)),
+            Event::Release(id, receipt) => Ok(Event::Release(*id, *receipt)),
+        }
+    }
 }

@@ -1,5 +1,5 @@
 //! What a world is made of.
-ghost use Rattle.std.specs.Prelude.{◌≡◌, ◌==◌, None, Some, MatchResult};
+ghost use Rattle.std.specs.Prelude.{◌≡◌, ◌==◌, None, Some, IfOk, MatchResult};
 ghost use Rattle.std.specs.List.{list_any};
 ghost use Rattle.mr_world.specs.Made.{has_same_id, has_bad_limit, has_bad_capacity, spec_refusal};
 
@@ -8,6 +8,7 @@ use mr_feed::MAX_CAPACITY;
 use mr_filter::Filter;
 use mr_replica::MAX_EVENTS;
 use mr_version::Author;
+use std::alloc::AllocError;
 
 /// One replica of a world that is to be made.
 #[derive(Debug, Drop)]
@@ -20,6 +21,20 @@ pub struct Spec {
     pub event_limit: u32,
     /// How many entries may wait in the port to each of its subscribers, 1 to 4,096.
     pub port_capacity: usize,
+}
+
+impl Spec {
+    /// An equal specification. It costs a copy of the filter.
+    pub fn copy(&self) -> Result<Spec, AllocError>
+        ensures { IfOk result (λ spec. spec ≡ self.now) }
+    {
+        Ok(Spec {
+            id: self.id,
+            filter: self.filter.copy()?,
+            event_limit: self.event_limit,
+            port_capacity: self.port_capacity,
+        })
+    }
 }
 
 /// Nothing, where a world can be made of these specifications.

@@ -142,7 +142,7 @@ impl<K: Knowledge> World<K> {
         self.pools.receipts().get(number)
     }
 
-    /// What holds of each world at each moment: no mail is lost and none is announced twice; each replica
+    /// What holds of each world at each moment: no mail is lost and no version is announced twice; each replica
     /// holds and tells what the history of the world says, what was answered is what sets say, the frames
     /// tell what was issued, and no record was ever taken for forged.
     ///

@@ -1,11 +1,11 @@
 //! What keeps a replica from admitting an event, whatever the event asks for.
 ghost use Rattle.std.specs.Prelude.{◌≡◌, None, Some, Err, MatchResult};
 
-use super::Replica;
+use super::Core;
 use crate::Refusal;
 use mr_forms::Knowledge;
 
-impl<K: Knowledge> Replica<K> {
+impl<K: Knowledge> Core<K> {
     ghost use Rattle.mr_replica.specs.Admission.{retired, log_full};
 
     // Nothing, where the replica has not retired.

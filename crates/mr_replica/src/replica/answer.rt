@@ -3,8 +3,8 @@ ghost use Rattle.std.specs.Prelude.{◌≡◌, ◌≢◌, ◌+◌, None, Some, O
 ghost use Rattle.std.specs.Fn.{FnOnceReturnsAt};
 ghost use Rattle.mr_replica.specs.StepThen.{answer_of, answer_by};
 
-use super::Replica;
 use super::step_then::answered;
+use super::{Core, Replica};
 use crate::asks::asked_of;
 use crate::pieces::pieces_of;
 use crate::{Event, Refusal, Reply};
@@ -14,11 +14,6 @@ use std::alloc::AllocError;
 use std::collections::VecDeque;
 
 impl<K: Knowledge> Replica<K> {
-    ghost use Rattle.mr_forms.specs.Known.{AreSame};
-    ghost use Rattle.mr_session.specs.Stream.{claimed};
-    ghost use Rattle.mr_replica.specs.Fragments.{HasHoleyPart};
-    ghost use Rattle.mr_replica.specs.Pieces.{ArePiecesOf};
-    ghost use Rattle.mr_replica.specs.Answer.{answer_refusal, mode_for, Keeps, KeepsHoley, Opens};
     ghost use Rattle.mr_replica.specs.Step.{Steps};
 
     /// Opens the next stream for one who asks, and gives its number. It is full where the replica's filter
@@ -29,6 +24,22 @@ impl<K: Knowledge> Replica<K> {
     /// full and a part of the knowledge has no vector; and `OutOfMemory` last, or in place of a part that has no
     /// vector. A refused event changes nothing.
     pub fn answer(&mut self, ask: Ask) -> Result<u64, Refusal>
+        ensures { Steps K.form self.old (Event.Answer ask) (answer_by (λ stream. Reply.Streaming stream) result) self.new }
+    {
+        self.core.answer(ask)
+    }
+}
+
+impl<K: Knowledge> Core<K> {
+    ghost use Rattle.mr_forms.specs.Known.{AreSame};
+    ghost use Rattle.mr_session.specs.Stream.{claimed};
+    ghost use Rattle.mr_replica.specs.Fragments.{HasHoleyPart};
+    ghost use Rattle.mr_replica.specs.Pieces.{ArePiecesOf};
+    ghost use Rattle.mr_replica.specs.Answer.{answer_refusal, mode_for, Keeps, KeepsHoley, Opens};
+    ghost use Rattle.mr_replica.specs.Step.{Steps};
+
+    // As the replica's method of this name.
+    fn answer(&mut self, ask: Ask) -> Result<u64, Refusal>
         ensures { Steps K.form self.old (Event.Answer ask) (answer_by (λ stream. Reply.Streaming stream) result) self.new }
     {
         self.check_answer(&ask)?;

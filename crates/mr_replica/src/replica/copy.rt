@@ -1,7 +1,7 @@
 //! Copies of a replica.
 ghost use Rattle.std.specs.Prelude.{◌≡◌, IfOk};
 
-use super::Replica;
+use super::{Core, Replica};
 use mr_forms::Knowledge;
 use std::alloc::AllocError;
 
@@ -13,12 +13,22 @@ impl<K: Knowledge> Replica<K> {
     pub fn copy(&self) -> Result<Replica<K>, AllocError>
         ensures { IfOk result (λ replica. replica ≡ self.now) }
     {
+        let core = self.core.copy()?;
+        Ok(Replica { core })
+    }
+}
+
+impl<K: Knowledge> Core<K> {
+    // As the replica's method of this name.
+    fn copy(&self) -> Result<Core<K>, AllocError>
+        ensures { IfOk result (λ core. core ≡ self.now) }
+    {
         let filter = self.filter.copy()?;
         let knowledge = copied_knowledge(&self.knowledge)?;
         let contents = self.contents.copy()?;
         let sessions = self.sessions.copy()?;
         let streams = self.streams.copy()?;
-        Ok(Replica {
+        Ok(Core {
             alloc: self.alloc,
             id: self.id,
             filter,

@@ -3,8 +3,8 @@ ghost use Rattle.std.specs.Prelude.{◌≡◌, None, Some, Ok, MatchResult, IfOk
 ghost use Rattle.std.specs.Fn.{FnOnceReturnsAt};
 ghost use Rattle.mr_replica.specs.StepThen.{answer_of, answer_by};
 
-use super::Replica;
 use super::issue::issued_version;
+use super::{Core, Replica};
 use crate::{Event, Refusal, Reply};
 use mr_concise::ConciseVector;
 use mr_forms::{FormFault, Knowledge, VersionSet};
@@ -13,8 +13,7 @@ use mr_version::{ItemId, Version};
 use std::alloc::AllocError;
 
 impl<K: Knowledge> Replica<K> {
-    ghost use Rattle.mr_replica.specs.Create.{create_refusal};
-    ghost use Rattle.mr_replica.specs.Step.{Steps, Answers};
+    ghost use Rattle.mr_replica.specs.Step.{Steps};
 
     /// Issues the first version of a new item, which is given. It enters the heads if the replica's filter
     /// selects it, and else the push-outs.
@@ -22,6 +21,18 @@ impl<K: Knowledge> Replica<K> {
     /// `Retired`, then `LogFull`; then `TooManyHoles` or `TooManyItems` where the form of knowledge has no value
     /// for what would be known; and `OutOfMemory` last. A refused event changes nothing.
     pub fn create(&mut self, message: Message) -> Result<Version, Refusal>
+        ensures { Steps K.form self.old (Event.Create message) (answer_by (λ version. Reply.Issued version) result) self.new }
+    {
+        self.core.create(message)
+    }
+}
+
+impl<K: Knowledge> Core<K> {
+    ghost use Rattle.mr_replica.specs.Create.{create_refusal};
+    ghost use Rattle.mr_replica.specs.Step.{Steps, Answers};
+
+    // As the replica's method of this name.
+    fn create(&mut self, message: Message) -> Result<Version, Refusal>
         ensures { Steps K.form self.old (Event.Create message) (answer_by (λ version. Reply.Issued version) result) self.new }
     {
         let (reply, ()) = self.create_then(message, |_| Ok(()))?;

@@ -3,21 +3,32 @@ ghost use Rattle.std.specs.Prelude.{◌≡◌, None, Some, Ok, MatchResult, IfOk
 ghost use Rattle.std.specs.Fn.{FnOnceReturnsAt};
 ghost use Rattle.mr_replica.specs.StepThen.{answer_of, answer_by};
 
-use super::Replica;
 use super::step_then::answered;
+use super::{Core, Replica};
 use crate::{Event, Refusal, Reply};
 use mr_forms::Knowledge;
 use std::alloc::AllocError;
 
 impl<K: Knowledge> Replica<K> {
-    ghost use Rattle.mr_replica.specs.Issue.{logged};
-    ghost use Rattle.mr_replica.specs.CutIn.{cut_in_refusal, cutting_in};
     ghost use Rattle.mr_replica.specs.Step.{Steps};
 
     /// Closes the open session of this number; what was taken in it stays.
     ///
     /// `Retired`, then `NoSession`, then `LogFull`, and `OutOfMemory` last; a refused event changes nothing.
     pub fn cut_in(&mut self, session: u64) -> Result<(), Refusal>
+        ensures { Steps K.form self.old (Event.CutIn session) (answer_by (λ _. Reply.Done) result) self.new }
+    {
+        self.core.cut_in(session)
+    }
+}
+
+impl<K: Knowledge> Core<K> {
+    ghost use Rattle.mr_replica.specs.Issue.{logged};
+    ghost use Rattle.mr_replica.specs.CutIn.{cut_in_refusal, cutting_in};
+    ghost use Rattle.mr_replica.specs.Step.{Steps};
+
+    // As the replica's method of this name.
+    fn cut_in(&mut self, session: u64) -> Result<(), Refusal>
         ensures { Steps K.form self.old (Event.CutIn session) (answer_by (λ _. Reply.Done) result) self.new }
     {
         self.check_cut_in(session)?;

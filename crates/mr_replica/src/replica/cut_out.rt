@@ -3,21 +3,32 @@ ghost use Rattle.std.specs.Prelude.{◌≡◌, None, Some, Ok, MatchResult, IfOk
 ghost use Rattle.std.specs.Fn.{FnOnceReturnsAt};
 ghost use Rattle.mr_replica.specs.StepThen.{answer_of, answer_by};
 
-use super::Replica;
 use super::step_then::answered;
+use super::{Core, Replica};
 use crate::{Event, Refusal, Reply};
 use mr_forms::Knowledge;
 use std::alloc::AllocError;
 
 impl<K: Knowledge> Replica<K> {
-    ghost use Rattle.mr_replica.specs.Issue.{logged};
-    ghost use Rattle.mr_replica.specs.CutOut.{cut_out_refusal, cutting_out};
     ghost use Rattle.mr_replica.specs.Step.{Steps};
 
     /// Closes the open stream of this number, whatever is left of it. A retired replica may do so too.
     ///
     /// `NoStream`, then `LogFull`, and `OutOfMemory` last; a refused event changes nothing.
     pub fn cut_out(&mut self, stream: u64) -> Result<(), Refusal>
+        ensures { Steps K.form self.old (Event.CutOut stream) (answer_by (λ _. Reply.Done) result) self.new }
+    {
+        self.core.cut_out(stream)
+    }
+}
+
+impl<K: Knowledge> Core<K> {
+    ghost use Rattle.mr_replica.specs.Issue.{logged};
+    ghost use Rattle.mr_replica.specs.CutOut.{cut_out_refusal, cutting_out};
+    ghost use Rattle.mr_replica.specs.Step.{Steps};
+
+    // As the replica's method of this name.
+    fn cut_out(&mut self, stream: u64) -> Result<(), Refusal>
         ensures { Steps K.form self.old (Event.CutOut stream) (answer_by (λ _. Reply.Done) result) self.new }
     {
         self.check_cut_out(stream)?;

@@ -5,8 +5,8 @@ ghost use Rattle.mr_replica.specs.StepThen.{answer_of, answer_by};
 ghost use Rattle.mr_forms.specs.Sets.{is_listed};
 ghost use Rattle.mr_replica.specs.Edit.{lower_of};
 
-use super::Replica;
 use super::issue::issued_version;
+use super::{Core, Replica};
 use crate::{Bases, Event, Refusal, Reply};
 use mr_concise::ConciseVector;
 use mr_forms::{FormFault, Knowledge};
@@ -17,16 +17,7 @@ use mr_version::{Author, ItemId, Version};
 use std::alloc::AllocError;
 
 impl<K: Knowledge> Replica<K> {
-    ghost use Rattle.mr_concise.specs.Vector.{HasTooManyHoles};
-    ghost use Rattle.mr_madewith.specs.MadeWith.{AreColumnsOf};
-    ghost use Rattle.mr_replica.specs.State.{next_version};
-    ghost use Rattle.mr_mail.specs.Mail.{Mail};
-    ghost use Rattle.mr_replica.specs.Issue.{below_for};
-    ghost use Rattle.mr_replica.specs.Issued.{IsNext};
-    ghost use Rattle.mr_replica.specs.Edit.{edit_refusal, edited_item, item_refusal, not_held, are_all_of, own_left};
-    ghost use Rattle.std.specs.Option.{option_map};
-    ghost use Rattle.mr_replica.specs.declared.refusal.Refusal.TheVariants.{NotHeld};
-    ghost use Rattle.mr_replica.specs.Step.{Steps, Answers};
+    ghost use Rattle.mr_replica.specs.Step.{Steps};
 
     /// Issues a version that supersedes the bases, which are held versions of one item, with all that they
     /// supersede, and gives it. It also supersedes the replica's last own version of the item likewise, and
@@ -38,6 +29,26 @@ impl<K: Knowledge> Replica<K> {
     /// where there is no vector of what the version supersedes, and that or `TooManyItems` where the form of
     /// knowledge has no value for what would be known; and `OutOfMemory` last. A refused event changes nothing.
     pub fn edit(&mut self, bases: Bases, message: Message) -> Result<Version, Refusal>
+        ensures { Steps K.form self.old (Event.Edit bases message) (answer_by (λ version. Reply.Issued version) result) self.new }
+    {
+        self.core.edit(bases, message)
+    }
+}
+
+impl<K: Knowledge> Core<K> {
+    ghost use Rattle.mr_concise.specs.Vector.{HasTooManyHoles};
+    ghost use Rattle.mr_madewith.specs.MadeWith.{AreColumnsOf};
+    ghost use Rattle.mr_replica.specs.State.{next_version};
+    ghost use Rattle.mr_mail.specs.Mail.{Mail};
+    ghost use Rattle.mr_replica.specs.Issue.{below_for};
+    ghost use Rattle.mr_replica.specs.Issued.{IsNext};
+    ghost use Rattle.mr_replica.specs.Edit.{edit_refusal, edited_item, item_refusal, not_held, are_all_of, own_left};
+    ghost use Rattle.std.specs.Option.{option_map};
+    ghost use Rattle.mr_replica.specs.declared.refusal.Refusal.TheVariants.{NotHeld};
+    ghost use Rattle.mr_replica.specs.Step.{Steps, Answers};
+
+    // As the replica's method of this name.
+    fn edit(&mut self, bases: Bases, message: Message) -> Result<Version, Refusal>
         ensures { Steps K.form self.old (Event.Edit bases message) (answer_by (λ version. Reply.Issued version) result) self.new }
     {
         let (reply, ()) = self.edit_then(bases, message, |_| Ok(()))?;

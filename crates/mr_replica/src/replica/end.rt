@@ -8,7 +8,7 @@ ghost use Rattle.mr_replica.specs.StepThen.{answer_of};
 ghost use Rattle.mr_replica.specs.Receive.{merged_by, has_full, is_unheld};
 ghost use Rattle.mr_replica.specs.Issue.{dropped};
 
-use super::Replica;
+use super::Core;
 use super::contents::entries_of_left;
 use super::step_then::answered;
 use crate::{Event, Refusal, Reply};
@@ -29,7 +29,7 @@ struct Ended<K: Knowledge> {
     entries: Vec<Entry>,
 }
 
-impl<K: Knowledge> Replica<K> {
+impl<K: Knowledge> Core<K> {
     ghost use Rattle.mr_forms.specs.Known.{AreSame, with_pairs};
     ghost use Rattle.mr_replica.specs.declared.refusal.Refusal.TheVariants.{OutOfMemory};
     ghost use Rattle.mr_replica.specs.Issue.{Fits};

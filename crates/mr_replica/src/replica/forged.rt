@@ -5,13 +5,13 @@ ghost use Rattle.std.specs.Option.{option_map_or};
 ghost use Rattle.mr_concise.specs.Vector.{column_of};
 ghost use Rattle.mr_wire.specs.Values.{piece_of, listed_items};
 
-use super::Replica;
+use super::Core;
 use mr_concise::ConciseVector;
 use mr_forms::{Fragment, ItemSet, Knowledge};
 use mr_version::{Author, ItemId, Version};
 use mr_wire::Body;
 
-impl<K: Knowledge> Replica<K> {
+impl<K: Knowledge> Core<K> {
     ghost use Rattle.mr_replica.specs.Forged.{is_forged, is_early, has_early, is_early_line, is_early_piece, is_misfiled};
 
     // Whether the record tells of an own version that was not issued, or of a held one as of another

@@ -4,7 +4,7 @@ ghost use Rattle.std.specs.Fn.{FnOnceReturnsAt};
 ghost use Rattle.mr_replica.specs.StepThen.{answer_of, answer_by};
 ghost use Rattle.mr_replica.specs.Methods.{IsIssued};
 
-use super::Replica;
+use super::Core;
 use super::contents::Arrival;
 use super::step_then::answered;
 use crate::{Event, Refusal, Reply};
@@ -15,7 +15,7 @@ use mr_mail::Message;
 use mr_version::{ItemId, Version};
 use std::alloc::AllocError;
 
-impl<K: Knowledge> Replica<K> {
+impl<K: Knowledge> Core<K> {
     ghost use Rattle.mr_forms.specs.Known.{AreSame};
     ghost use Rattle.mr_madewith.specs.Revision.{IsRevision};
     ghost use Rattle.mr_replica.specs.State.{next_version};

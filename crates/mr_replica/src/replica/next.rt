@@ -4,8 +4,8 @@ ghost use Rattle.std.specs.Fn.{FnOnceReturnsAt};
 ghost use Rattle.mr_session.specs.Onward.{advanced};
 ghost use Rattle.mr_replica.specs.StepThen.{answer_of, answer_by};
 
-use super::Replica;
 use super::step_then::answered;
+use super::{Core, Replica};
 use crate::{Event, Refusal, Reply};
 use mr_forms::Knowledge;
 use mr_session::{Onward, Prepared};
@@ -13,8 +13,6 @@ use mr_wire::Record;
 use std::alloc::AllocError;
 
 impl<K: Knowledge> Replica<K> {
-    ghost use Rattle.mr_replica.specs.Next.{next_refusal, GivesNext};
-    ghost use Rattle.mr_replica.specs.Next.{going_on};
     ghost use Rattle.mr_replica.specs.Step.{Steps};
 
     /// The next record of the open stream of this number, of the heads and push-outs as they are now; the End
@@ -23,6 +21,19 @@ impl<K: Knowledge> Replica<K> {
     ///
     /// `NoStream`, then `LogFull`, and `OutOfMemory` last; a refused event changes nothing.
     pub fn next(&mut self, stream: u64) -> Result<Record, Refusal>
+        ensures { Steps K.form self.old (Event.Next stream) (answer_by (λ sent. Reply.Gave sent) result) self.new }
+    {
+        self.core.next(stream)
+    }
+}
+
+impl<K: Knowledge> Core<K> {
+    ghost use Rattle.mr_replica.specs.Next.{next_refusal, GivesNext};
+    ghost use Rattle.mr_replica.specs.Next.{going_on};
+    ghost use Rattle.mr_replica.specs.Step.{Steps};
+
+    // As the replica's method of this name.
+    fn next(&mut self, stream: u64) -> Result<Record, Refusal>
         ensures { Steps K.form self.old (Event.Next stream) (answer_by (λ sent. Reply.Gave sent) result) self.new }
     {
         self.check_next(stream)?;

@@ -5,8 +5,8 @@ ghost use Rattle.mr_wire.specs.Values.{AreItems, piece_of};
 ghost use Rattle.mr_replica.specs.StepThen.{answer_of, answer_by};
 ghost use Rattle.mr_replica.specs.Pull.{most_asked, IsLongestWithin};
 
-use super::Replica;
 use super::step_then::answered;
+use super::{Core, Replica};
 use crate::{Event, Refusal, Reply};
 use mr_concise::ConciseVector;
 use mr_forms::{FormFault, Fragment, Knowledge};
@@ -17,10 +17,7 @@ use std::alloc::{AllocError, Global};
 const MAX_ASKED_BYTES: usize = 8_000_000;
 
 impl<K: Knowledge> Replica<K> {
-    ghost use Rattle.mr_replica.specs.Fragments.{HasHoleyPart};
-    ghost use Rattle.mr_replica.specs.Issue.{logged};
-    ghost use Rattle.mr_replica.specs.Pull.{pull_refusal, AreAsked, IsAskOf, pulling};
-    ghost use Rattle.mr_replica.specs.Step.{Steps, RefusesLate};
+    ghost use Rattle.mr_replica.specs.Step.{Steps};
 
     /// Opens the next session, and gives the request for it: what the replica selects, and the longest
     /// beginning of its fragments that takes at most 8,000,000 bytes. It costs the fragments of what is known.
@@ -29,6 +26,20 @@ impl<K: Knowledge> Replica<K> {
     /// knowledge has no vector; and `OutOfMemory` last, or in place of a part that has no vector. A refused
     /// event changes nothing.
     pub fn pull(&mut self) -> Result<Ask, Refusal>
+        ensures { Steps K.form self.old Event.Pull (answer_by (λ ask. Reply.Asked ask) result) self.new }
+    {
+        self.core.pull()
+    }
+}
+
+impl<K: Knowledge> Core<K> {
+    ghost use Rattle.mr_replica.specs.Fragments.{HasHoleyPart};
+    ghost use Rattle.mr_replica.specs.Issue.{logged};
+    ghost use Rattle.mr_replica.specs.Pull.{pull_refusal, AreAsked, IsAskOf, pulling};
+    ghost use Rattle.mr_replica.specs.Step.{Steps, RefusesLate};
+
+    // As the replica's method of this name.
+    fn pull(&mut self) -> Result<Ask, Refusal>
         ensures { Steps K.form self.old Event.Pull (answer_by (λ ask. Reply.Asked ask) result) self.new }
     {
         self.check_pull()?;

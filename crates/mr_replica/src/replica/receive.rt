@@ -4,7 +4,7 @@ ghost use Rattle.std.specs.Fn.{FnOnceReturnsAt};
 ghost use Rattle.mr_replica.specs.StepThen.{answer_of, answer_by};
 ghost use Rattle.mr_wire.specs.Frames.{IsSent};
 
-use super::Replica;
+use super::{Core, Replica};
 use crate::{Event, Refusal, Reply};
 use mr_forms::Knowledge;
 use mr_wire::{Body, Frame, Record};
@@ -22,10 +22,8 @@ pub enum Received {
 }
 
 impl<K: Knowledge> Replica<K> {
-    ghost use Rattle.mr_replica.specs.Admission.{retired};
+    ghost use Rattle.mr_replica.specs.Step.{Steps};
     ghost use Rattle.mr_replica.specs.Methods.{received_reply};
-    ghost use Rattle.mr_replica.specs.Receive.{session_for, session_refusal, record_refusal, receive_refusal, moved_on};
-    ghost use Rattle.mr_replica.specs.Step.{Steps, Answers};
 
     /// Lets the open session that a record is for take it, if it is the next of the stream to which the session
     /// is bound, and says what came of it. A known version changes nothing else. An unknown one is learned with
@@ -38,6 +36,20 @@ impl<K: Knowledge> Replica<K> {
     /// the first knowledge that has no value; and `OutOfMemory` last, or in place of a later fragment's fault at
     /// the end of a full stream. A refused event changes nothing.
     pub fn receive(&mut self, frame: Frame) -> Result<Received, Refusal>
+        ensures { Steps K.form self.old (Event.Receive frame) (answer_by received_reply result) self.new }
+    {
+        self.core.receive(frame)
+    }
+}
+
+impl<K: Knowledge> Core<K> {
+    ghost use Rattle.mr_replica.specs.Admission.{retired};
+    ghost use Rattle.mr_replica.specs.Methods.{received_reply};
+    ghost use Rattle.mr_replica.specs.Receive.{session_for, session_refusal, record_refusal, receive_refusal, moved_on};
+    ghost use Rattle.mr_replica.specs.Step.{Steps, Answers};
+
+    // As the replica's method of this name.
+    fn receive(&mut self, frame: Frame) -> Result<Received, Refusal>
         ensures { Steps K.form self.old (Event.Receive frame) (answer_by received_reply result) self.new }
     {
         match self.receive_then(frame, |_| Ok(())) {

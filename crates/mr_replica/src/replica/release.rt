@@ -6,8 +6,8 @@ ghost use Rattle.mr_store.specs.Revisions.{versions_of};
 ghost use Rattle.mr_replica.specs.StepThen.{answer_of, answer_by};
 ghost use Rattle.mr_replica.specs.Release.{vouched};
 
-use super::Replica;
 use super::step_then::answered;
+use super::{Core, Replica};
 use crate::{Event, Refusal, Reply};
 use mr_forms::{Knowledge, VersionSet};
 use mr_version::Version;
@@ -15,8 +15,6 @@ use mr_wire::{Descent, Receipt};
 use std::alloc::AllocError;
 
 impl<K: Knowledge> Replica<K> {
-    ghost use Rattle.mr_replica.specs.Issue.{logged};
-    ghost use Rattle.mr_replica.specs.Release.{release_refusal, releasing};
     ghost use Rattle.mr_replica.specs.Step.{Steps};
 
     /// Lets go of the push-outs of the receipt's item that are its version, or superseded by it: another
@@ -24,6 +22,19 @@ impl<K: Knowledge> Replica<K> {
     ///
     /// `Retired`, then `NotPushedOut`, then `LogFull`, and `OutOfMemory` last; a refused event changes nothing.
     pub fn release(&mut self, receipt: Receipt) -> Result<(), Refusal>
+        ensures { Steps K.form self.old (Event.Release receipt) (answer_by (λ _. Reply.Done) result) self.new }
+    {
+        self.core.release(receipt)
+    }
+}
+
+impl<K: Knowledge> Core<K> {
+    ghost use Rattle.mr_replica.specs.Issue.{logged};
+    ghost use Rattle.mr_replica.specs.Release.{release_refusal, releasing};
+    ghost use Rattle.mr_replica.specs.Step.{Steps};
+
+    // As the replica's method of this name.
+    fn release(&mut self, receipt: Receipt) -> Result<(), Refusal>
         ensures { Steps K.form self.old (Event.Release receipt) (answer_by (λ _. Reply.Done) result) self.new }
     {
         self.check_release(&receipt)?;

@@ -43,15 +43,17 @@ impl ReplayFault {
 
 impl<K: Knowledge> Replica<K> {
     ghost use Rattle.mr_replica.specs.State.{State};
-    ghost use Rattle.mr_replica.specs.Step.{Steps, IsExact};
+    ghost use Rattle.mr_replica.specs.Step.{Steps};
+    ghost use Rattle.mr_replica.specs.Alike.{AreAlike};
     ghost use Rattle.mr_replica.specs.Replay.{Admits, AdmitsAll, IsStop, Replays, IsReplayFault, IsItsLog, IsForMemory};
 
     /// The replica that a fresh one of this id, filter and limit becomes by these events, each of which it
     /// admits in its turn. Its log is then just these events.
     ///
-    /// So a replica is its log replayed: from the log of a replica, and its id, filter and limit, comes an
-    /// equal replica, where the values of the form's model are their meanings, which is shown of no form here; and
-    /// then no event is refused but for want of memory.
+    /// So a replica is its log replayed: from the log of a replica, and its id, filter and limit, comes a
+    /// replica that is alike, and no event is refused but for want of memory. Alike are replicas that are the
+    /// same in all, but that the value of the one's knowledge may be another one than that of the other's, which
+    /// knows the same.
     ///
     /// `BadLimit` where a log takes no such number of events. Else `Refused` tells the first event that is
     /// refused, for want of memory too, by its place from 0 and the refusal. It costs the step of each event;
@@ -68,9 +70,9 @@ impl<K: Knowledge> Replica<K> {
         ensures log { IfOk result (λ replica. replica.log ≡ events.items) }
         ensures refused { IfErr result (IsReplayFault K.form id filter event_limit events.items) }
 
-        // Where the events are the log of a replica, the result is equal to it, and only memory can be wanting.
-        ensures same { IsExact K.form → (s : State K) → Replays K.form id filter event_limit events.items s → IfOk result (λ replica. replica ≡ s) }
-        ensures for_memory { IsExact K.form → (s : State K) → Replays K.form id filter event_limit events.items s → IfErr result IsForMemory }
+        // Where the events are the log of a replica, the result is alike to it, and only memory can be wanting.
+        ensures same { (s : State K) → Replays K.form id filter event_limit events.items s → IfOk result (AreAlike K.form s) }
+        ensures for_memory { (s : State K) → Replays K.form id filter event_limit events.items s → IfErr result IsForMemory }
         // The result is its log replayed, and what is stays so, whatever it is asked to do.
         ensures is_its_log { IfOk result (IsItsLog K.form) }
         ensures stays_its_log { (s new : State K) (event : Event) (answer : Result Reply Refusal) → IsItsLog K.form s → Steps K.form s event answer new → IsItsLog K.form new }

@@ -3,21 +3,32 @@ ghost use Rattle.std.specs.Prelude.{◌≡◌, None, Some, Ok, MatchResult, IfOk
 ghost use Rattle.std.specs.Fn.{FnOnceReturnsAt};
 ghost use Rattle.mr_replica.specs.StepThen.{answer_of, answer_by};
 
-use super::Replica;
 use super::step_then::answered;
+use super::{Core, Replica};
 use crate::{Event, Refusal, Reply};
 use mr_forms::Knowledge;
 use std::alloc::AllocError;
 
 impl<K: Knowledge> Replica<K> {
-    ghost use Rattle.mr_replica.specs.Issue.{logged};
-    ghost use Rattle.mr_replica.specs.Retire.{retire_refusal, retiring};
     ghost use Rattle.mr_replica.specs.Step.{Steps};
 
     /// Admits nothing more from now on but what tells others. It is admitted past a full log, once.
     ///
     /// `Retired`, then `PushOutsLeft`, and `OutOfMemory` last; a refused event changes nothing.
     pub fn retire(&mut self) -> Result<(), Refusal>
+        ensures { Steps K.form self.old Event.Retire (answer_by (λ _. Reply.Done) result) self.new }
+    {
+        self.core.retire()
+    }
+}
+
+impl<K: Knowledge> Core<K> {
+    ghost use Rattle.mr_replica.specs.Issue.{logged};
+    ghost use Rattle.mr_replica.specs.Retire.{retire_refusal, retiring};
+    ghost use Rattle.mr_replica.specs.Step.{Steps};
+
+    // As the replica's method of this name.
+    fn retire(&mut self) -> Result<(), Refusal>
         ensures { Steps K.form self.old Event.Retire (answer_by (λ _. Reply.Done) result) self.new }
     {
         self.check_retire()?;

@@ -6,7 +6,7 @@ use crate::{Event, Refusal, Reply};
 use mr_forms::Knowledge;
 
 impl<K: Knowledge> Replica<K> {
-    ghost use Rattle.mr_replica.specs.Step.{Steps, IsExact, IsDecided};
+    ghost use Rattle.mr_replica.specs.Step.{Steps, IsDecided};
 
     /// One event: it is answered and changes the replica, or it is refused and changes nothing.
     ///
@@ -56,9 +56,9 @@ impl<K: Knowledge> Replica<K> {
     /// full stream the merge of its fragments and one walk over the heads.
     pub fn step(&mut self, event: Event) -> Result<Reply, Refusal>
         ensures steps { Steps K.form self.old event result self.new }
-        // Over a form whose values are their meanings, answer and new replica are one function of
-        // replica and event, memory aside.
-        ensures decided { IsExact K.form → IsDecided K.form self.old event result self.new }
+        // Memory aside, answer and new replica are one function of replica and event: a replica that is
+        // alike, whatever value its knowledge is, has this answer too, and stays alike.
+        ensures decided { IsDecided K.form self.old event result self.new }
     {
         match self.step_then(event, |_| Ok(())) {
             Ok((reply, ())) => Ok(reply),

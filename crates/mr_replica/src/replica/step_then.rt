@@ -3,7 +3,7 @@ ghost use Rattle.std.specs.Prelude.{◌≡◌, Ok, IfOk};
 ghost use Rattle.std.specs.Fn.{FnOnceReturnsAt};
 ghost use Rattle.mr_replica.specs.StepThen.{answer_of};
 
-use super::Replica;
+use super::{Core, Replica};
 use crate::{Event, Refusal, Reply};
 use mr_forms::Knowledge;
 use std::alloc::AllocError;
@@ -22,14 +22,14 @@ pub(super) fn answered<T: Drop, F: FnOnce(&Reply) -> Result<T, AllocError>>(
 }
 
 impl<K: Knowledge> Replica<K> {
-    ghost use Rattle.mr_replica.specs.Step.{Steps, IsExact, IsDecided};
+    ghost use Rattle.mr_replica.specs.Step.{Steps, IsDecided};
 
     /// One event, as [`Replica::step`] does it, with something made of its reply first.
     ///
-    /// `before` is lent the reply once every other refusal has been decided, and before anything has changed:
-    /// a host can put the reply into a frame, or reserve a place for it. What `before` gives comes back with
-    /// the reply. Where it finds no memory the event is refused by `OutOfMemory`, with all as it was. It may
-    /// also be called, and what it gave dropped, where the replica then finds no memory itself.
+    /// `before` is lent a reply before anything has changed: a host can put it into a frame, or reserve a place
+    /// for it. What `before` gives comes back with the reply. Where it finds no memory the event is refused by
+    /// `OutOfMemory`, with all as it was. It is no test of the event: it may be called, and what it gave dropped,
+    /// where the event is refused after all. So what it keeps for itself may be of a reply that isn't given.
     pub fn step_then<T: Drop, F: FnOnce(&Reply) -> Result<T, AllocError>>(
         &mut self,
         event: Event,
@@ -37,14 +37,18 @@ impl<K: Knowledge> Replica<K> {
     ) -> Result<(Reply, T), Refusal>
         requires { F.IsAlwaysCallable before }
         ensures steps { Steps K.form self.old event (answer_of result) self.new }
-        // Over a form whose values are their meanings, answer and new replica are one function of
-        // replica and event, memory aside.
-        ensures decided { IsExact K.form → IsDecided K.form self.old event (answer_of result) self.new }
+        // Memory aside, answer and new replica are one function of replica and event: a replica that is
+        // alike, whatever value its knowledge is, has this answer too, and stays alike.
+        ensures decided { IsDecided K.form self.old event (answer_of result) self.new }
         // What came back is what the closure gave for the reply.
         ensures made { IfOk result (λ p. FnOnceReturnsAt F.FnOnce before p.0 (Ok p.1)) }
     {
-        self.answer_event(event, before)
+        self.core.answer_event(event, before)
     }
+}
+
+impl<K: Knowledge> Core<K> {
+    ghost use Rattle.mr_replica.specs.Step.{Steps};
 
     // The event's own function answers it.
     fn answer_event<T: Drop, F: FnOnce(&Reply) -> Result<T, AllocError>>(

@@ -6,7 +6,7 @@ ghost use Rattle.mr_wire.specs.Frames.{IsSent};
 ghost use Rattle.mr_replica.specs.StepThen.{answer_of};
 ghost use Rattle.mr_replica.specs.Taking.{below_told, told_by, told_line, news_told};
 
-use super::Replica;
+use super::Core;
 use super::contents::news;
 use super::step_then::answered;
 use crate::{Event, Refusal, Reply};
@@ -26,7 +26,7 @@ struct Told {
     entries: Vec<Entry>,
 }
 
-impl<K: Knowledge> Replica<K> {
+impl<K: Knowledge> Core<K> {
     ghost use Rattle.std.specs.Prelude.{false};
     ghost use Rattle.mr_replica.specs.declared.refusal.Refusal.TheVariants.{OutOfMemory};
     ghost use Rattle.mr_replica.specs.Issue.{Fits};

@@ -4,9 +4,8 @@ ghost use Rattle.std.specs.Fn.{FnOnceReturnsAt};
 ghost use Rattle.mr_replica.specs.StepThen.{answer_of, answer_by};
 ghost use Rattle.mr_replica.specs.Vouch.{receipt_for};
 
-use super::Replica;
 use super::step_then::answered;
-use crate::copies::copied_vector;
+use super::{Core, Replica};
 use crate::{Event, Refusal, Reply};
 use mr_forms::Knowledge;
 use mr_madewith::Revision;
@@ -15,8 +14,6 @@ use mr_wire::{Descent, Receipt};
 use std::alloc::AllocError;
 
 impl<K: Knowledge> Replica<K> {
-    ghost use Rattle.mr_replica.specs.Issue.{logged};
-    ghost use Rattle.mr_replica.specs.Vouch.{vouch_refusal, IsReceiptFor};
     ghost use Rattle.mr_replica.specs.Step.{Steps};
 
     /// The receipt for a version, which is a head: the replica's word that it holds it. It changes nothing but
@@ -25,6 +22,19 @@ impl<K: Knowledge> Replica<K> {
     /// `Retired`, then `NotHeld` with the version, then `LogFull`, and `OutOfMemory` last; a refused event
     /// changes nothing.
     pub fn vouch(&mut self, version: Version) -> Result<Receipt, Refusal>
+        ensures { Steps K.form self.old (Event.Vouch version) (answer_by (λ receipt. Reply.Vouched receipt) result) self.new }
+    {
+        self.core.vouch(version)
+    }
+}
+
+impl<K: Knowledge> Core<K> {
+    ghost use Rattle.mr_replica.specs.Issue.{logged};
+    ghost use Rattle.mr_replica.specs.Vouch.{vouch_refusal, IsReceiptFor};
+    ghost use Rattle.mr_replica.specs.Step.{Steps};
+
+    // As the replica's method of this name.
+    fn vouch(&mut self, version: Version) -> Result<Receipt, Refusal>
         ensures { Steps K.form self.old (Event.Vouch version) (answer_by (λ receipt. Reply.Vouched receipt) result) self.new }
     {
         self.check_vouch(version)?;
@@ -86,7 +96,7 @@ impl<K: Knowledge> Replica<K> {
 fn receipt_for(giver: Author, revision: &Revision) -> Result<Receipt, AllocError>
     ensures { IfOk result (λ receipt. receipt ≡ receipt_for giver revision.now) }
 {
-    let below = copied_vector(revision.below())?;
+    let below = revision.below().copy()?;
     let descent = Descent::new(revision.item(), revision.version(), below);
     Ok(Receipt { giver, descent })
 }

@@ -5,7 +5,6 @@ ghost use Rattle.mr_session.specs.Stream.{is_end, due, DrawsKnow, DrawsFirstHeld
 ghost use Rattle.mr_session.specs.Onward.{moved, after_given, is_last, behind_first};
 
 use super::{Outgoing, tell};
-use crate::copies::copy_of;
 use crate::due::due;
 use crate::held::held_vectors;
 use mr_concise::ConciseVector;
@@ -97,7 +96,7 @@ impl Outgoing {
     {
         match self.know.front() {
             Some(fragment) => Ok(Saying {
-                body: Body::Know(FrameFragment::new(fragment.as_fragment().copy()?)),
+                body: Body::Know(fragment.copy()?),
                 onward: Onward::BehindKnow,
             }),
             None => Ok(Saying {
@@ -123,7 +122,7 @@ impl Outgoing {
         };
         match vectors.front() {
             Some(vector) => Ok(Saying {
-                body: Body::Held(copy_of(vector)?),
+                body: Body::Held(vector.copy()?),
                 onward: Onward::BehindHeld,
             }),
             None => self.next_known(),

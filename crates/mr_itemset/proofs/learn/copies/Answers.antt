@@ -14,7 +14,7 @@ loop-item-preserved c =
     c.in_ok-put_in.ensures.ok
     ∙ ap (λ (xs : List Listed). placed (listed_as c.in-Some.item.now c.in-Ok.vector) xs) c.loop-item.invariant
     ∙ placed-last (listed_as c.in-Some.item.now c.in-Ok.vector) (map lent c.loop-item.yielded) lower
-    ∙ ap (λ (vector : List AuthorColumn). map lent c.loop-item.yielded ++ listed_as c.in-Some.item.now vector ∷ []) c.in-Ok.ensures.ok
+    ∙ ap (λ (vector : List AuthorColumn). map lent c.loop-item.yielded ++ listed_as c.in-Some.item.now vector ∷ []) c.in-Ok.ensures
     ∙ sym (items_more c.loop-item.yielded (c.in-Some.item, c.in-Some.vector))
 
 pub returns : goal.returns

@@ -1,5 +1,3 @@
-use Rattle.std.proofs.Common.{sym, ◌∙◌}
-use Rattle.std.proofs.lemmas.Bool.{false≢true}
 use Rattle.mr_itemset.specs.Normal.{normal_known}
 use Rattle.mr_itemset.specs.Each.{with_each}
 use Rattle.mr_itemset.proofs.RefusalLemmas.{succeeds}

@@ -1,5 +1,4 @@
 use Rattle.std.proofs.Common.{◌≡◌, ◌≤◌, length, sym, ap, ◌∙◌, arith}
-use Rattle.mr_itemset.specs.Normal.{Normal}
 use Rattle.mr_itemset.specs.Folded.{united, folded}
 use Rattle.mr_itemset.proofs.CountLemmas.{folded_listed, gained_few}
 use Rattle.mr_itemset.proofs.EntryLemmas.{listed_of-length}

@@ -1,4 +1,3 @@
-use Rattle.std.proofs.Common.{All}
 use Rattle.std.proofs.lemmas.List.Elements.{All-weaker}
 use Rattle.mr_forms.specs.Known.{HasValue}
 use Rattle.mr_forms.specs.Merged.{after_each}

@@ -15,11 +15,11 @@ returns-in-Ok-clause-log g c =
 
 pub returns-in-Ok-clause-same : goal.returns-in-Ok-clause-same
 returns-in-Ok-clause-same g c =
-    replay_same g.K.Knowledge.form c.args.id c.args.filter c.args.event_limit c.in-Ok.replica (record { is_empty = c.in-Ok.ensures.is_empty; knows_nothing = c.in-Ok.ensures.knows_nothing }) c.args.events.items c.take_all.result c.take_all.ensures.ok
+    replay_same g.K.Knowledge.form c.args.id c.args.filter c.args.event_limit c.in-Ok.replica (record { is_empty = c.in-Ok.ensures.is_empty; knows_nothing = c.in-Ok.ensures.knows_nothing }) c.args.events.items c.take_all.result c.take_all.ensures.ok g.met.K.Knowledge.by_meaning
 
 pub returns-in-Ok-clause-for_memory : goal.returns-in-Ok-clause-for_memory
 returns-in-Ok-clause-for_memory g c =
-    replay_for_memory g.K.Knowledge.form c.args.id c.args.filter c.args.event_limit c.in-Ok.replica (record { is_empty = c.in-Ok.ensures.is_empty; knows_nothing = c.in-Ok.ensures.knows_nothing }) c.args.events.items c.take_all.result c.take_all.ensures.err
+    replay_for_memory g.K.Knowledge.form c.args.id c.args.filter c.args.event_limit c.in-Ok.replica (record { is_empty = c.in-Ok.ensures.is_empty; knows_nothing = c.in-Ok.ensures.knows_nothing }) c.args.events.items c.take_all.result c.take_all.ensures.err g.met.K.Knowledge.by_meaning
 
 pub returns-in-Ok-clause-is_its_log : goal.returns-in-Ok-clause-is_its_log
 returns-in-Ok-clause-is_its_log g c =

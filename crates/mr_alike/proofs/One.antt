@@ -1,0 +1,44 @@
+-- Replicas that are alike, and whose knowledge is one value, are equal.
+use Rattle.std.proofs.Common.{◌≡◌, ap, ℕ, List}
+use Rattle.mr_filter.specs.Filter.{ClauseParts}
+use Rattle.mr_forms.specs.ByMeaning.{IsByMeaning, AreOneValue}
+use Rattle.mr_forms.specs.Known.{Form, Pairs}
+use Rattle.mr_replica.specs.State.{State}
+use Rattle.mr_replica.specs.Replay.{Replays, IsItsLog}
+use Rattle.mr_replica.specs.declared.event.Event.{Event}
+use Rattle.mr_replica.proofs.Alike.{alike_step, alike_replays}
+use Rattle.mr_alike.specs.One.{AreOneIfAlike, AreOneByLog, AreOneByEvent}
+
+module _ {K : Type 0} (form : Form K) (s t : State K) (one : AreOneValue form s.knowledge t.knowledge) where
+  pub equal_if_alike : AreOneIfAlike form s t
+  equal_if_alike alike =
+      let knowledge : s.knowledge ≡ t.knowledge = one (λ item version. ap (λ (z : State Pairs). z.knowledge item version) alike) in
+      λ i. record {
+        id = (alike i).id;
+        filter = (alike i).filter;
+        event_limit = (alike i).event_limit;
+        issued = (alike i).issued;
+        knowledge = knowledge i;
+        heads = (alike i).heads;
+        push_outs = (alike i).push_outs;
+        trail = (alike i).trail;
+        feed = (alike i).feed;
+        log = (alike i).log;
+        is_retired = (alike i).is_retired;
+        sessions = (alike i).sessions;
+        streams = (alike i).streams;
+      }
+
+  -- what an id, a filter, a limit and a log come to, the like of them come to
+  replays_like : (id jd : ℕ) (filter gilter : List ClauseParts) (limit mimit : ℕ) (events fvents : List Event) (r : State K) → jd ≡ id → gilter ≡ filter → mimit ≡ limit → fvents ≡ events
+      → Replays form id filter limit events r → Replays form jd gilter mimit fvents r
+  replays_like id jd filter gilter limit mimit events fvents r id_is filter_is limit_is events_are h = rw (id_is, filter_is, limit_is, events_are) h
+
+  pub equal_by_log : IsByMeaning form → IsItsLog form s → IsItsLog form t → AreOneByLog form s t
+  equal_by_log told h k id filter event_limit log =
+      equal_if_alike (alike_replays form told s.id s.filter s.event_limit s.log s t h (replays_like t.id s.id t.filter s.filter t.event_limit s.event_limit t.log s.log t id filter event_limit log k))
+
+  pub equal_by_event : IsByMeaning form → AreOneByEvent form s t
+  equal_by_event told before others event answer other alike na nb h k =
+      let both = alike_step form told before others event answer other s t alike na nb h k in
+      (both.0, equal_if_alike both.1)

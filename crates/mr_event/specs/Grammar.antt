@@ -1,0 +1,28 @@
+-- what is in the grammar of events
+use Rattle.std.specs.Prelude.{◌≡◌, ◌≤◌, ◌<◌, ◌^◌, ℕ, List, length}
+use Rattle.std.specs.List.{AllByRecursion}
+use Rattle.mr_wire.specs.declared.frame.Frame.TheVariants as frame
+use Rattle.mr_wire.specs.Grammar.{IsItem, IsLetter, IsFrame}
+use Rattle.mr_replica.specs.declared.event.Event.{Event}
+use Rattle.mr_replica.specs.declared.event.Event.TheVariants.{Create, Edit, Retire, Pull, Receive, CutIn, Answer, Next, CutOut, Vouch, Release}
+use Rattle.mr_event.specs.Spelling.{rest_bytes, event_bytes}
+
+-- the event is in the grammar: its parts are
+abbrev pub IsEvent : Event → Type 0
+IsEvent (Create message) = IsLetter message
+IsEvent (Edit bases message) = (length bases < 2 ^ 32) × AllByRecursion IsItem bases × IsLetter message
+IsEvent Retire = Unit {0}
+IsEvent Pull = Unit {0}
+IsEvent (Receive f) = IsFrame f
+IsEvent (CutIn session) = session < 2 ^ 64
+IsEvent (Answer q) = IsFrame (frame.Ask q)
+IsEvent (Next stream) = stream < 2 ^ 64
+IsEvent (CutOut stream) = stream < 2 ^ 64
+IsEvent (Vouch version) = IsItem version
+IsEvent (Release r) = IsFrame (frame.Receipt r)
+
+-- the text is the event
+pub record Spells (e : Event) (text : List ℕ) : Type 0 where
+  pub in_grammar : IsEvent e
+  pub few : length (rest_bytes e) ≤ 8388608
+  pub written : text ≡ event_bytes e

@@ -1,0 +1,147 @@
+-- A column as it has to be has as many holes as its counters say.
+use Rattle.std.proofs.Common.{◌≡◌, ◌<◌, ◌≤◌, ◌+◌, ◌&&◌, ◌⊎◌, Bool, true, false, not, if◌then◌else◌, ℕ, zero, suc, nat_le, nat_lt, List, [], ◌∷◌, ◌++◌, length, refl, ap, sym, ◌∙◌, arith, inl, inr}
+use Rattle.std.specs.List.{list_any}
+use Rattle.std.proofs.lemmas.Bool.{cases_lt, le-leb, lt-leb, lt-ltb, le-ltb}
+use Rattle.mr_concise.specs.declared.column.Hole.{Hole}
+use Rattle.mr_concise.specs.Column.{Extent, hole_has, column_has, hole_edges, edges}
+use Rattle.mr_concise.specs.Edges.{IsRising}
+use Rattle.mr_concise.proofs.EdgeLemmas.{IsRising-end}
+use Rattle.mr_itemset.specs.Sparing.{holes_among}
+
+abbrev in_holes : List Hole → ℕ → Bool
+in_holes holes c = list_any (λ hole. hole_has hole c) holes
+
+-- how many of the holes end below n
+abbrev ended : ℕ → List Hole → ℕ
+ended n [] = 0
+ended n (h ∷ hs) = if nat_lt h.last n then suc (ended n hs) else ended n hs
+
+-- up to low there is no hole
+none_before : (low e c : ℕ) (hs : List Hole) → IsRising low (hole_edges hs ++ e ∷ []) → c ≤ low → in_holes hs c ≡ false
+none_before low e c [] r le = refl
+none_before low e c (h ∷ hs) r le =
+    let first = r.0 in
+    let last = r.1.0 in
+    let out : c < h.first = omega arith in
+    rw (lt-leb h.first c out) (none_before (h.last + 1) e c hs r.1.1 (omega arith))
+
+none_ended : (low e n : ℕ) (hs : List Hole) → IsRising low (hole_edges hs ++ e ∷ []) → n ≤ low → ended n hs ≡ 0
+none_ended low e n [] r le = refl
+none_ended low e n (h ∷ hs) r le =
+    let first = r.0 in
+    let last = r.1.0 in
+    let later : n ≤ h.last = omega arith in
+    rw (le-ltb h.last n later) (none_ended (h.last + 1) e n hs r.1.1 (omega arith))
+
+-- all end below the last edge
+all_ended : (low upto : ℕ) (hs : List Hole) → IsRising low (hole_edges hs ++ (upto + 1) ∷ []) → ended upto hs ≡ length hs
+all_ended low upto [] r = refl
+all_ended low upto (h ∷ hs) r =
+    let end = IsRising-end (h.last + 1) (hole_edges hs) (upto + 1) r.1.1 in
+    let before : h.last < upto = omega arith in
+    rw (lt-ltb h.last upto before) (ap (λ (n : ℕ). suc n) (all_ended (h.last + 1) upto hs r.1.1))
+
+if-none : (b : Bool) (n : ℕ) → (if b && false then suc n else n) ≡ n
+if-none true n = refl
+if-none false n = refl
+
+if-suc : (b : Bool) (n : ℕ) → (if b then suc (suc n) else suc n) ≡ suc (if b then suc n else n)
+if-suc true n = refl
+if-suc false n = refl
+
+-- Whether one counter more ends a hole: it is in none, and the one before it is in one.
+abbrev OneMore : ℕ → List Hole → Type 0
+OneMore n hs = (if not (in_holes hs (suc n)) && in_holes hs n then suc (ended n hs) else ended n hs) ≡ ended (suc n) hs
+
+-- where the counter stands to the first hole
+module _ (e n : ℕ) (h : Hole) (hs : List Hole) (ordered : h.first < h.last + 1) (rest : IsRising (h.last + 1) (hole_edges hs ++ e ∷ [])) where
+  one_before : n < h.first → OneMore n (h ∷ hs)
+  one_before below =
+      let late : n ≤ h.last = omega arith in
+      let later : suc n ≤ h.last = omega arith in
+      rw (
+        lt-leb h.first n below,
+        none_before (h.last + 1) e n hs rest (omega arith),
+        le-ltb h.last n late,
+        le-ltb h.last (suc n) later,
+        none_ended (h.last + 1) e n hs rest (omega arith),
+        none_ended (h.last + 1) e (suc n) hs rest (omega arith),
+      ) (if-none (not (in_holes (h ∷ hs) (suc n))) 0)
+
+  one_inside : h.first ≤ n → n < h.last → OneMore n (h ∷ hs)
+  one_inside from inside =
+      let late : n ≤ h.last = omega arith in
+      let later : suc n ≤ h.last = omega arith in
+      let behind : h.first ≤ suc n = omega arith in
+      rw (
+        le-leb h.first (suc n) behind,
+        le-leb (suc n) h.last later,
+        le-ltb h.last n late,
+        le-ltb h.last (suc n) later,
+        none_ended (h.last + 1) e n hs rest (omega arith),
+        none_ended (h.last + 1) e (suc n) hs rest (omega arith),
+      ) refl
+
+  one_at : h.first ≤ n → h.last ≤ n → n ≤ h.last → OneMore n (h ∷ hs)
+  one_at from to at =
+      let behind : h.first ≤ suc n = omega arith in
+      let over : h.last < suc n = omega arith in
+      rw (
+        le-leb h.first n from,
+        le-leb n h.last at,
+        le-leb h.first (suc n) behind,
+        lt-leb (suc n) h.last over,
+        le-ltb h.last n at,
+        lt-ltb h.last (suc n) over,
+        none_before (h.last + 1) e (suc n) hs rest (omega arith),
+        none_ended (h.last + 1) e n hs rest (omega arith),
+        none_ended (h.last + 1) e (suc n) hs rest (omega arith),
+      ) refl
+
+  one_past : h.last < n → OneMore n hs → OneMore n (h ∷ hs)
+  one_past past more =
+      let from : h.first ≤ n = omega arith in
+      let behind : h.first ≤ suc n = omega arith in
+      let over : h.last < suc n = omega arith in
+      rw (
+        le-leb h.first n from,
+        lt-leb n h.last past,
+        le-leb h.first (suc n) behind,
+        lt-leb (suc n) h.last over,
+        lt-ltb h.last n past,
+        lt-ltb h.last (suc n) over,
+      ) (if-suc (not (in_holes hs (suc n)) && in_holes hs n) (ended n hs) ∙ ap (λ (m : ℕ). suc m) more)
+
+one_more : (low e n : ℕ) (hs : List Hole) → IsRising low (hole_edges hs ++ e ∷ []) → OneMore n hs
+one_more low e n [] r = refl
+one_more low e n (h ∷ hs) r = go (cases_lt n h.first) (cases_lt n h.last) (cases_lt h.last n) (one_more (h.last + 1) e n hs r.1.1)
+  where
+    go : (n < h.first) ⊎ (h.first ≤ n) → (n < h.last) ⊎ (h.last ≤ n) → (h.last < n) ⊎ (n ≤ h.last) → OneMore n hs → OneMore n (h ∷ hs)
+    go (inl below) b c more = one_before e n h hs r.1.0 r.1.1 below
+    go (inr from) (inl inside) c more = one_inside e n h hs r.1.0 r.1.1 from inside
+    go (inr from) (inr to) (inl past) more = one_past e n h hs r.1.0 r.1.1 past more
+    go (inr from) (inr to) (inr at) more = one_at e n h hs r.1.0 r.1.1 from to at
+
+module _ (column : Extent) (apart : IsRising 0 (edges column)) where
+  -- a counter that is missing is in a hole
+  missing : (c : ℕ) → c ≤ column.upto → (nat_le 1 c && not (column_has column c)) ≡ in_holes column.holes c
+  missing zero le = sym (none_before 0 (column.upto + 1) 0 column.holes apart (omega arith))
+  missing (suc c) le =
+      let from : 1 ≤ suc c = omega arith in
+      rw (le-leb (suc c) column.upto le, le-leb 1 (suc c) from) (double (in_holes column.holes (suc c)))
+    where
+      double : (b : Bool) → not (not b) ≡ b
+      double true = refl
+      double false = refl
+
+  counted : (n : ℕ) → n ≤ column.upto → holes_among (column_has column) n ≡ ended n column.holes
+  counted zero le = sym (none_ended 0 (column.upto + 1) 0 column.holes apart (omega arith))
+  counted (suc n) le =
+      let from : 1 ≤ suc n = omega arith in
+      let had : column_has column (suc n) ≡ not (in_holes column.holes (suc n)) = rw (le-leb (suc n) column.upto le, le-leb 1 (suc n) from) refl in
+      let before = missing n (omega arith) in
+      rw (had, before, counted n (omega arith)) (one_more 0 (column.upto + 1) n column.holes apart)
+
+  -- THE HOLES of a column are those that its counters say
+  pub holes_counted : holes_among (column_has column) column.upto ≡ length column.holes
+  holes_counted = counted column.upto (omega arith) ∙ all_ended 0 column.upto column.holes apart

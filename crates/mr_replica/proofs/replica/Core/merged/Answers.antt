@@ -1,0 +1,28 @@
+use Rattle.std.proofs.Common.{ap, ◌∙◌, ◌||◌, map}
+use Rattle.std.proofs.lemmas.Result.{IfOk-weaker, on_ok_weaker}
+use Rattle.mr_forms.specs.Known.{AreSame, with_pairs}
+use Rattle.mr_forms.specs.Covered.{all_covered}
+use Rattle.mr_concise.specs.Vector.{vector_has}
+use Rattle.mr_wire.specs.Values.{piece_of}
+use Rattle.mr_session.specs.Stream.{claimed}
+use Rattle.mr_replica.proofs.Merging.{all_claimed, merged_fits, merged_refused}
+use Rattle.mr_replica.proofs.replica.Core.merged.Goals as goal
+
+-- what the fragments cover is what they claim
+pub returns-clause-ok : goal.returns-clause-ok
+returns-clause-ok g c =
+    let form = g.K.Knowledge.form in
+    let known = form.known c.self.inside.knowledge in
+    let know = c.args.know.now in
+    rw (← c.self.view_is)
+    (IfOk-weaker c.with_fragments.result (λ k. AreSame (form.known k) (with_pairs known (all_covered vector_has know))) (λ k. AreSame (form.known k) (with_pairs known (claimed (map piece_of know))))
+    (λ k same i v. same i v ∙ ap (λ b. b || known i v) (all_claimed know i v)) c.with_fragments.ensures.ok)
+
+pub returns-clause-fits : goal.returns-clause-fits
+returns-clause-fits g c =
+    rw (← c.self.view_is) (on_ok_weaker c.with_fragments.result (merged_fits g.K.Knowledge.form (g.K.Knowledge.form.known c.self.inside.knowledge) c.args.know.now) c.with_fragments.ensures.value)
+
+pub returns-clause-refused : goal.returns-clause-refused
+returns-clause-refused g c =
+    rw (← c.self.view_is)
+    (merged_refused g.K.Knowledge.form (g.K.Knowledge.form.known c.self.inside.knowledge) c.args.know.now c.with_fragments.result c.with_fragments.ensures.holes c.with_fragments.ensures.items)
