@@ -1,7 +1,7 @@
 pub mod Cut
 pub mod Decimal
-pub mod ListLemmas
-pub mod Making
+pub mod LabelLemmas
+pub mod PieceLemmas
 pub mod Readings
 pub mod Shapes
 pub mod There

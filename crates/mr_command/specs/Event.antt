@@ -8,7 +8,7 @@ use Rattle.mr_command.specs.List.{JoinsVersions}
 use Rattle.mr_command.specs.Message.{takes_parts, reads_message}
 use Rattle.mr_command.specs.Named.{reads_replica, reads_frame}
 use Rattle.mr_command.specs.Number.{SpellsNumber}
-use Rattle.mr_command.specs.Reading.{Reading, gives, fails, names, if_memory, ◌andthen◌}
+use Rattle.mr_command.specs.Reading.{Reading, gives, fails, names, names_in_memory, ◌andthen◌}
 use Rattle.mr_command.specs.Scene.{Scene}
 use Rattle.mr_command.specs.Taking.{takes_three}
 
@@ -27,7 +27,7 @@ module _ (scene : Scene) where
   reads_edit (replica ∷ bases ∷ args) =
       takes_parts args andthen λ parts.
       reads_replica scene replica andthen λ id.
-      if_memory (names JoinsVersions BadVersion bases) andthen λ bases.
+      names_in_memory JoinsVersions BadVersion bases andthen λ bases.
       reads_message parts andthen λ message.
       gives (Edit id bases message)
   reads_edit args = fails WrongWords

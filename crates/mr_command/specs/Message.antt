@@ -1,5 +1,5 @@
 -- the words of a message
-use Rattle.std.specs.Prelude.{◌≡◌, ℕ, nat_eq, if◌then◌else◌, List, [], ◌∷◌, drop, Option, None, Ok, Err, ◌⊎◌, IsSomeAnd, codes}
+use Rattle.std.specs.Prelude.{◌≡◌, ℕ, nat_eq, if◌then◌else◌, List, [], ◌∷◌, drop, Option, None, Ok, Err, IsSomeAnd, codes}
 use Rattle.std.specs.List.{starts_with}
 use Rattle.mr_mail.specs.Admits.{first_fault}
 use Rattle.mr_mail.specs.Day.{Spells}
@@ -9,7 +9,7 @@ use Rattle.mr_mail.specs.declared.fault.MessageFault.{MessageFault}
 use Rattle.mr_command.specs.declared.fault.LineFault.TheVariants.{WrongWords, BadDate, BadFlags, OutOfMemory}
 use Rattle.mr_command.specs.Fault.{fault_of_message}
 use Rattle.mr_command.specs.List.{pieces_of, NamesFlags}
-use Rattle.mr_command.specs.Reading.{Reading, gives, fails, names, if_memory, ◌andthen◌}
+use Rattle.mr_command.specs.Reading.{Reading, gives, fails, names, ◌andthen◌}
 use Rattle.mr_command.specs.Words.{unwords}
 
 -- the words of a message as they stand
@@ -54,14 +54,15 @@ pub record IsMade (p : Parts) (flags day : ℕ) (mail : Mail) : Type 0 where
   pub flags_are : mail.flags ≡ flags
   pub day_is : mail.day ≡ day
 
--- the message that the parts make, or why they make none
+-- the message that the parts make, or why they make none; memory is wanted only for parts that make one
 abbrev pub makes : Parts → ℕ → ℕ → Reading Mail
 makes p flags day (Ok mail) = IsMade p flags day mail
-makes p flags day (Err fault) = (fault ≡ OutOfMemory) ⊎ IsSomeAnd (parts_fault p flags) (λ f. fault ≡ fault_of_message f)
+makes p flags day (Err OutOfMemory) = parts_fault p flags ≡ None
+makes p flags day (Err fault) = IsSomeAnd (parts_fault p flags) (λ f. fault ≡ fault_of_message f)
 
 -- the flags, the date, and then the message as a whole
 abbrev pub reads_message : Parts → Reading Mail
 reads_message p =
-    if_memory (names NamesFlags BadFlags p.flags) andthen λ flags.
+    names NamesFlags BadFlags p.flags andthen λ flags.
     names Spells BadDate p.date andthen λ day.
     makes p flags day

@@ -1,5 +1,5 @@
 -- how a line is read, word by word, up to the first fault
-use Rattle.std.specs.Prelude.{◌≡◌, ℕ, Bool, true, false, List, Result, Ok, Err, ◌⊎◌}
+use Rattle.std.specs.Prelude.{◌≡◌, ℕ, Bool, true, false, List, Result, Ok, Err}
 use Rattle.mr_command.specs.declared.fault.LineFault.{LineFault}
 use Rattle.mr_command.specs.declared.fault.LineFault.TheVariants.{OutOfMemory}
 
@@ -33,14 +33,19 @@ gives_if holds fault x = choose holds (gives x) (fails fault)
 abbrev pub NamesNone : {X : Type 0} → (List ℕ → X → Type 0) → List ℕ → Type 0
 NamesNone {X} Names word = (x : X) → ¬ Names word x
 
+-- it names something
+abbrev pub NamesSome : {X : Type 0} → (List ℕ → X → Type 0) → List ℕ → Type 0
+NamesSome {X} Names word = (x : X) × Names word x
+
 -- what the word names, and the fault where it names nothing
 abbrev pub names : {X : Type 0} → (List ℕ → X → Type 0) → LineFault → List ℕ → Reading X
 names Names fault word (Ok x) = Names word x
 names Names fault word (Err e) = (e ≡ fault) × NamesNone Names word
 
--- a reading that takes memory, and may be out of it
-abbrev pub if_memory : {X : Type 0} → Reading X → Reading X
-if_memory reads result = (result ≡ Err OutOfMemory) ⊎ reads result
+-- the same of what takes memory, which is wanted only where the word names something
+abbrev pub names_in_memory : {X : Type 0} → (List ℕ → X → Type 0) → LineFault → List ℕ → Reading X
+names_in_memory Names fault word (Err OutOfMemory) = NamesSome Names word
+names_in_memory Names fault word result = names Names fault word result
 
 -- First the one reading, and then the one that goes on with what it gave. A fault of the first ends both.
 pub data Both {X Y : Type 0} (First : Result X LineFault → Type 0) (Next : X → Result Y LineFault → Type 0) : Result Y LineFault → Type 0 where

@@ -3,6 +3,7 @@ use Rattle.std.proofs.Common.{arith}
 use Rattle.std.specs.Prelude.{◌≡◌, ◌==◌, ℕ, true, false, List, [], ◌∷◌, codes, Some, None, Ok, Err, refl}
 use Rattle.std.specs.Fmt.{digits}
 use Rattle.mr_mail.specs.declared.fault.MessageFault.TheVariants.{BadLabel, BadFlags as BadFlagByte, OutOfMemory as NoMemory}
+use Rattle.mr_mail.specs.Label.{different_labels}
 use Rattle.mr_mail.specs.declared.flags.Flag.TheVariants.{Seen, Flagged, Deleted}
 use Rattle.mr_world.specs.declared.event.Event.TheVariants.{Pull}
 use Rattle.mr_command.specs.declared.command.Command.TheVariants.{Ask, Happen}
@@ -13,7 +14,7 @@ use Rattle.mr_command.specs.Command.{reads_command, reads_words, reads_most}
 use Rattle.mr_command.specs.Event.{reads_create}
 use Rattle.mr_command.specs.Fault.{fault_of_message}
 use Rattle.mr_command.specs.List.{pieces_of, united, NamesFlags}
-use Rattle.mr_command.specs.Message.{Parts, takes_parts, subject_of, body_of, parts_fault}
+use Rattle.mr_command.specs.Message.{Parts, takes_parts, subject_of, body_of, parts_fault, makes}
 use Rattle.mr_command.specs.Named.{SpellsFrame}
 use Rattle.mr_command.specs.Number.{SpellsNumber}
 use Rattle.mr_command.specs.Opening.{takes_spec, reads_opening}
@@ -167,6 +168,17 @@ label_before_flags = refl
 
 pub bad_flags : parts_fault (parts (codes "a") (codes ".") (codes "d")) 32 ≡ Some BadFlagByte
 bad_flags = refl
+
+-- memory is wanted for parts that make a message, and for no others
+pub wants_memory : makes (parts (codes "a") (codes ".") (codes "d")) 0 0 (Err OutOfMemory)
+wants_memory = refl
+
+pub wants_none : makes (parts (codes "A") (codes ".") (codes "d")) 0 0 (Err (MessageRefused 4))
+wants_none = refl
+
+-- labels that are repeated count once
+pub repeated_labels : different_labels (pieces_of 44 (codes "a,b,a")) ≡ 2
+repeated_labels = refl
 
 -- a message's fault is told by its number, but for the want of memory
 pub bad_label_told : fault_of_message BadLabel ≡ MessageRefused 4

@@ -23,6 +23,7 @@ mod message;
 mod named;
 mod number;
 mod opening;
+mod pieces;
 mod pool;
 mod question;
 mod read;

@@ -1,34 +1,73 @@
 //! Words that are lists: labels, flags and versions. A word of one dot is the empty list.
-ghost use Rattle.std.specs.Prelude.{◌≡◌, ◌<◌, ◌⊎◌, map, IfOk, IfErr};
-ghost use Rattle.mr_mail.specs.Label.{texts_of};
-ghost use Rattle.mr_command.specs.List.{pieces_of, NamesFlags, JoinsFlags, SpellsVersion, JoinsVersions, united};
-ghost use Rattle.mr_command.specs.Reading.{names, NamesNone, if_memory};
+ghost use Rattle.std.specs.Prelude.{◌≡◌, ◌<◌, ◌↔◌, ◌⊎◌, true, false, IfOk, IfErr, IsTrue, length};
+ghost use Rattle.std.specs.List.{list_all};
+ghost use Rattle.mr_mail.specs.Label.{is_label, texts_of, different_labels};
+ghost use Rattle.mr_mail.specs.declared.label.TheConstants.{MAX_LABELS};
+ghost use Rattle.mr_command.specs.List.{pieces_of, NamesFlags, SpellsVersion, JoinsVersions};
+ghost use Rattle.mr_command.specs.Reading.{names, names_in_memory, NamesSome, NamesNone};
 
 use crate::LineFault;
-use mr_mail::{Flag, Flags};
+use crate::pieces::Pieces;
+use arrayvec::ArrayVec;
+use mr_mail::{Flag, Flags, Label, MAX_LABELS};
 use mr_replica::Bases;
 use mr_version::Version;
 use std::alloc::{AllocError, Global};
 
-/// The word for a list of nothing.
-const NONE: &str = ".";
-
 /// The flags whose names the word joins by `+`, in any order and more than once each. `BadFlags`
 /// where a name is no flag's.
-pub(crate) fn read_flags(alloc: Global, word: &str) -> Result<Flags, LineFault>
-    ensures { if_memory (names NamesFlags LineFault.BadFlags word.now) result }
+pub(crate) fn read_flags(word: &str) -> Result<Flags, LineFault>
+    ensures { names NamesFlags LineFault.BadFlags word.now result }
 {
-    let flags = flags_named(alloc, word)?;
-    Ok(unite(flags.as_slice()))
+    let mut set = Flags::empty();
+    let mut pieces = Pieces::of(word, '+');
+    while let Some(piece) = pieces.next_piece() {
+        let Some(flag) = Flag::from_name(piece) else {
+            return Err(LineFault::BadFlags);
+        };
+        set = set.with(flag);
+    }
+    Ok(set)
+}
+
+/// Whether each text that the word joins by `,` is a label's.
+pub(crate) fn are_labels(word: &str) -> bool
+    ensures { result ≡ list_all is_label (pieces_of 44 word.now) }
+{
+    let mut pieces = Pieces::of(word, ',');
+    while let Some(piece) = pieces.next_piece() {
+        if !Label::admits(piece) {
+            return false;
+        }
+    }
+    true
+}
+
+/// Whether the word joins more different texts by `,` than a message may have labels. Each text is
+/// compared with 16 at most.
+pub(crate) fn are_too_many_labels(word: &str) -> bool
+    ensures { IsTrue result ↔ (MAX_LABELS < different_labels (pieces_of 44 word.now)) }
+{
+    let mut seen: ArrayVec<&str, MAX_LABELS> = ArrayVec::new();
+    let mut pieces = Pieces::of(word, ',');
+    while let Some(piece) = pieces.next_piece() {
+        if !seen.as_slice().contains(&piece) {
+            if seen.len() == MAX_LABELS {
+                return true;
+            }
+            seen.push(piece);
+        }
+    }
+    false
 }
 
 /// The texts that the word joins by `,`. They need not be labels.
 pub(crate) fn read_labels(alloc: Global, word: &str) -> Result<Vec<String>, AllocError>
     ensures { IfOk result (λ labels. texts_of labels.items ≡ pieces_of 44 word.now) }
 {
-    let pieces = pieces(alloc, word, ',')?;
-    let mut labels = Vec::with_capacity(alloc, pieces.len())?;
-    for piece in &pieces {
+    let mut labels = Vec::new(alloc);
+    let mut pieces = Pieces::of(word, ',');
+    while let Some(piece) = pieces.next_piece() {
         labels.push(String::from_str(alloc, piece)?)?;
     }
     Ok(labels)
@@ -44,12 +83,30 @@ pub(crate) fn read_version(word: &str) -> Result<Version, LineFault>
     }
 }
 
-/// The versions whose texts the word joins by `,`. `BadVersion` where a text is no version's.
+/// The versions whose texts the word joins by `,`. `BadVersion` where a text is no version's, and
+/// `OutOfMemory` last.
 pub(crate) fn read_bases(alloc: Global, word: &str) -> Result<Bases, LineFault>
-    ensures { if_memory (names JoinsVersions LineFault.BadVersion word.now) result }
+    ensures { names_in_memory JoinsVersions LineFault.BadVersion word.now result }
 {
+    if !are_versions(word) {
+        return Err(LineFault::BadVersion);
+    }
     let versions = versions_named(alloc, word)?;
     Ok(Bases::new(versions))
+}
+
+/// Whether each text that the word joins by `,` is a version's.
+fn are_versions(word: &str) -> bool
+    ensures all { result ≡ true → NamesSome JoinsVersions word.now }
+    ensures none { result ≡ false → NamesNone JoinsVersions word.now }
+{
+    let mut pieces = Pieces::of(word, ',');
+    while let Some(piece) = pieces.next_piece() {
+        if Version::read(piece).is_err() {
+            return false;
+        }
+    }
+    true
 }
 
 /// The versions whose texts the word joins by `,`, as they stand there.
@@ -58,53 +115,13 @@ fn versions_named(alloc: Global, word: &str) -> Result<Vec<Version>, LineFault>
     ensures fault { IfErr result (λ fault. (fault ≡ LineFault.OutOfMemory)
         ⊎ ((fault ≡ LineFault.BadVersion) × NamesNone JoinsVersions word.now)) }
 {
-    let pieces = pieces(alloc, word, ',')?;
-    let mut versions = Vec::with_capacity(alloc, pieces.len())?;
-    for piece in &pieces {
+    let mut versions = Vec::new(alloc);
+    let mut pieces = Pieces::of(word, ',');
+    while let Some(piece) = pieces.next_piece() {
         let Ok(version) = Version::read(piece) else {
             return Err(LineFault::BadVersion);
         };
         versions.push(version)?;
     }
     Ok(versions)
-}
-
-/// The flags whose names the word joins by `+`, as they stand there.
-fn flags_named(alloc: Global, word: &str) -> Result<Vec<Flag>, LineFault>
-    ensures joined { IfOk result (λ flags. JoinsFlags word.now flags.items) }
-    ensures fault { IfErr result (λ fault. (fault ≡ LineFault.OutOfMemory)
-        ⊎ ((fault ≡ LineFault.BadFlags) × NamesNone JoinsFlags word.now)) }
-{
-    let pieces = pieces(alloc, word, '+')?;
-    let mut flags = Vec::with_capacity(alloc, pieces.len())?;
-    for piece in &pieces {
-        let Some(flag) = Flag::from_name(piece) else {
-            return Err(LineFault::BadFlags);
-        };
-        flags.push(flag)?;
-    }
-    Ok(flags)
-}
-
-/// The set of these flags.
-fn unite(flags: &[Flag]) -> Flags
-    ensures { result ≡ united flags.now }
-{
-    let mut set = Flags::empty();
-    for flag in flags {
-        set = set.with(*flag);
-    }
-    set
-}
-
-/// The parts of the word between its separators.
-fn pieces(alloc: Global, word: &str, separator: char) -> Result<Vec<&str>, AllocError>
-    requires { separator < 128 }
-    ensures { IfOk result
-        (λ pieces. map (λ piece. piece.now) pieces.items ≡ pieces_of separator word.now) }
-{
-    if word == NONE {
-        return Ok(Vec::new(alloc));
-    }
-    word.split(separator).collect(alloc)
 }

@@ -1,13 +1,17 @@
 //! The words of a message.
-ghost use Rattle.std.specs.Prelude.{◌≡◌};
+ghost use Rattle.std.specs.Prelude.{◌≡◌, ◌≤◌, ℕ};
+ghost use Rattle.mr_mail.specs.Admits.{first_fault};
 ghost use Rattle.mr_mail.specs.Day.{Spells};
+ghost use Rattle.mr_command.specs.List.{pieces_of};
 ghost use Rattle.mr_command.specs.Message.{subject_of, body_of, takes_parts, reads_message, makes};
 ghost use Rattle.mr_command.specs.Reading.{names};
 
 use crate::LineFault;
-use crate::lists::{read_flags, read_labels};
+use crate::lists::{are_labels, are_too_many_labels, read_flags, read_labels};
 use crate::words::Words;
-use mr_mail::{Day, Flags, Message};
+use mr_mail::{
+    Day, Flags, MAX_BODY_BYTES, MAX_FROM_BYTES, MAX_SUBJECT_BYTES, Message, MessageFault,
+};
 use std::alloc::Global;
 use std::marker::Model;
 
@@ -50,23 +54,28 @@ impl<'a> MessageWords<'a> {
     pub(crate) fn read(self, alloc: Global) -> Result<Message, LineFault>
         ensures { reads_message self.entry result }
     {
-        let flags = read_flags(alloc, self.flags)?;
+        let flags = read_flags(self.flags)?;
         let day = read_day(self.date)?;
         self.make(alloc, flags, day)
     }
 
-    /// The message of these words, with these flags and this day. `MessageRefused`, `OutOfMemory`.
+    /// The message of these words, with these flags and this day. `MessageRefused`, and `OutOfMemory`
+    /// last.
     fn make(self, alloc: Global, flags: Flags, day: Day) -> Result<Message, LineFault>
         ensures { makes self.entry flags day result }
     {
         let (subject, body) = cut_body(self.subject_and_body);
+        let bits = flags.bits();
+        if let Some(fault) = parts_fault(self.from, subject, body, self.labels) {
+            return Err(LineFault::from(fault));
+        }
         let message = Message::try_new(
             alloc,
             String::from_str(alloc, self.from)?,
             String::from_str(alloc, subject)?,
             Vec::from_slice(alloc, body.as_bytes())?,
             read_labels(alloc, self.labels)?,
-            flags.bits(),
+            bits,
             day,
         )?;
         Ok(message)
@@ -82,6 +91,30 @@ fn cut_body(text: &str) -> (&str, &str)
         Some((subject, body)) => (subject, body),
         None => (text, ""),
     }
+}
+
+/// Why a sender, a subject, a body and a word of labels make no message, whatever its flags. It
+/// takes no memory.
+fn parts_fault(from: &str, subject: &str, body: &str, labels: &str) -> Option<MessageFault>
+    ensures { (flags : ℕ) → flags ≤ 31
+        → first_fault from.now subject.now body.now (pieces_of 44 labels.now) flags ≡ result }
+{
+    if from.len() > MAX_FROM_BYTES {
+        return Some(MessageFault::FromTooLong);
+    }
+    if subject.len() > MAX_SUBJECT_BYTES {
+        return Some(MessageFault::SubjectTooLong);
+    }
+    if body.len() > MAX_BODY_BYTES {
+        return Some(MessageFault::BodyTooLong);
+    }
+    if !are_labels(labels) {
+        return Some(MessageFault::BadLabel);
+    }
+    if are_too_many_labels(labels) {
+        return Some(MessageFault::TooManyLabels);
+    }
+    None
 }
 
 /// The day that the word is. `BadDate` where it is none.

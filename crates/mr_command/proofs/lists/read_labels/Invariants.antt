@@ -1,5 +1,10 @@
-use Rattle.std.proofs.Common.{◌≡◌, take, map, string_bytes}
+use Rattle.std.proofs.Common.{◌≡◌, ◌++◌, length}
+use Rattle.mr_mail.specs.Label.{texts_of}
+use Rattle.mr_command.specs.List.{pieces_of}
 use Rattle.mr_command.proofs.lists.read_labels.Given as goal
 
 abbrev pub invariant-loop-piece : goal.invariant-loop-piece
-invariant-loop-piece l = map (λ text. string_bytes text) l.labels.items ≡ map (λ piece. piece.now) (take l.piece-index l.piece-items)
+invariant-loop-piece l = pieces_of 44 l.fn.word ≡ texts_of l.labels.items ++ l.pieces
+
+abbrev pub decreases-loop-piece : goal.decreases-loop-piece
+decreases-loop-piece l = length l.pieces

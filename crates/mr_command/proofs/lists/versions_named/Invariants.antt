@@ -1,7 +1,11 @@
-use Rattle.std.proofs.Common.{◌≡◌, take, map, All}
+use Rattle.std.proofs.Common.{length}
 use Rattle.mr_version.specs.Name.{name_text}
-use Rattle.mr_command.specs.List.{IsVersionName}
+use Rattle.mr_command.specs.List.{pieces_of, IsVersionName}
+use Rattle.mr_command.proofs.PieceLemmas.{NamedSoFar}
 use Rattle.mr_command.proofs.lists.versions_named.Given as goal
 
 abbrev pub invariant-loop-piece : goal.invariant-loop-piece
-invariant-loop-piece l = (map name_text l.versions.items ≡ map (λ piece. piece.now) (take l.piece-index l.piece-items)) × All IsVersionName l.versions.items
+invariant-loop-piece l = NamedSoFar name_text IsVersionName (pieces_of 44 l.fn.word) l.pieces l.versions.items
+
+abbrev pub decreases-loop-piece : goal.decreases-loop-piece
+decreases-loop-piece l = length l.pieces

@@ -1,0 +1,11 @@
+use Rattle.std.proofs.Common.{◌≡◌, length}
+use Rattle.std.specs.List.{list_all}
+use Rattle.mr_mail.specs.Label.{is_label}
+use Rattle.mr_command.specs.List.{pieces_of}
+use Rattle.mr_command.proofs.lists.are_labels.Given as goal
+
+abbrev pub invariant-loop-piece : goal.invariant-loop-piece
+invariant-loop-piece l = list_all is_label (pieces_of 44 l.fn.word) ≡ list_all is_label l.pieces
+
+abbrev pub decreases-loop-piece : goal.decreases-loop-piece
+decreases-loop-piece l = length l.pieces
