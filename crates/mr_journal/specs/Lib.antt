@@ -1,0 +1,9 @@
+pub mod Device
+pub mod Past
+pub mod Memory
+pub mod Fault
+pub mod File
+pub mod Format
+pub mod Journal
+pub mod Reading
+pub mod Rows
