@@ -6,7 +6,7 @@ const ABOUT: &str = "Replicas of a mail collection, driven by scripts.
 
 A replica holds messages, each one revision of an item. A script makes replicas, lets them edit and
 tell one another what they have, cut off wherever you like, and asks what they hold. The code that runs
-is proved: no mail is lost, and none is announced twice.";
+is proved: no mail is lost, and no version is announced twice.";
 
 const AFTER: &str = "Exit status:
   0  the script ran to its end (a replica's refusal is an answer, no fault), or the frame was told

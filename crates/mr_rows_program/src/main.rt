@@ -13,7 +13,8 @@
 //! % output fails      a stream that fails: `input`, `file`, `output` or `errors`; also `input endless`, `words no text`
 //! ```
 //!
-//! In lines of scripts `\r` is a carriage return, `\s` a space, `\x` a byte that is no text, and `\k` a thousand letters.
+//! In lines of scripts `\r` is a carriage return, `\s` a space, `\x` a byte that is no text, `\k` a thousand letters, and
+//! `\e` at the end says that the line has no line feed.
 //! Lines that begin otherwise are skipped. Each command line is printed as the table has it, with `status N`, and then with `out: `
 //! and `err: ` before each line of standard output and standard error.
 #![tactic(auto)]

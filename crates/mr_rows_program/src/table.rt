@@ -55,8 +55,18 @@ fn tell_line(told: &mut String, line: &str) -> Result<(), AllocError> {
     }
 }
 
-/// Adds a line of a script, with what its escapes stand for.
+/// Adds a line of a script, with what its escapes stand for, and its line feed unless it ends with `\e`.
 fn push_line(bytes: &mut Vec<u8>, text: &str) -> Result<(), AllocError> {
+    if let Some(text) = text.strip_suffix("\\e") {
+        return push_text(bytes, text);
+    }
+    push_text(bytes, text)?;
+    bytes.push(b'\n')?;
+    Ok(())
+}
+
+/// Adds a text with what its escapes stand for.
+fn push_text(bytes: &mut Vec<u8>, text: &str) -> Result<(), AllocError> {
     let mut is_escaped = false;
     for byte in text.as_bytes() {
         match (is_escaped, *byte) {
@@ -68,7 +78,6 @@ fn push_line(bytes: &mut Vec<u8>, text: &str) -> Result<(), AllocError> {
             (false, byte) => bytes.push(byte)?,
         }
     }
-    bytes.push(b'\n')?;
     Ok(())
 }
 

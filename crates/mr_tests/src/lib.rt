@@ -2,8 +2,8 @@
 //!
 //! A contract can't say that memory is there: a body that always answers "out of memory" is proved
 //! too. So the tests named `ample_memory_..` make each call that allocates and that no program of the gate
-//! makes, and compare the stated answer. The others are of what no clause says: texts of faults, and
-//! definitions held against values that were computed elsewhere.
+//! makes, and compare the stated answer. The others are of what no clause says: definitions held against values
+//! that were computed elsewhere. The texts of all faults are printed by the program `mr_rows_output`.
 //!
 //! A test is proved safe before it runs, and costs the more the longer it is. So each is one
 //! call of a helper without clauses, and a comparison, and `mr_tests_samples` has what the test
@@ -15,8 +15,6 @@
 
 #[cfg(test)]
 mod filter;
-#[cfg(test)]
-mod frames;
 #[cfg(test)]
 mod mail;
 #[cfg(test)]

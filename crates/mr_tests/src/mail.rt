@@ -1,5 +1,5 @@
-//! `mr_mail`: copies find memory; what the definitions mean by a date, as computed elsewhere, and texts of faults.
-use mr_mail::{Card, Day, Label, Message, MessageFault};
+//! `mr_mail`: copies find memory; what the definitions mean by a date, as computed elsewhere.
+use mr_mail::{Card, Day, Label, Message};
 use mr_tests_samples::{expect, message};
 use std::alloc::Global;
 use std::test::Fail;
@@ -75,16 +75,4 @@ fn days_are_those_of_the_calendar(rt: HostRuntime) -> Result<(), Fail> {
         assert_eq!(rt; Day::read(text)?.days(), days);
     }
     Ok(())
-}
-
-#[test]
-fn text_of_bad_label(rt: HostRuntime) -> Result<(), Fail> {
-    let text = format!(in rt.alloc(); "{}", MessageFault::BadLabel)?;
-    expect(text, "a label is 1 to 32 bytes of a-z, 0-9 and -")
-}
-
-#[test]
-fn text_of_bad_flags(rt: HostRuntime) -> Result<(), Fail> {
-    let text = format!(in rt.alloc(); "{}", MessageFault::BadFlags)?;
-    expect(text, "a flag byte is at most 31")
 }

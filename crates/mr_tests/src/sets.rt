@@ -1,27 +1,13 @@
-//! `mr_forms`, `mr_concise` and `mr_itemset`: the texts of faults, and of a vector and a knowledge. The calls that two
+//! `mr_forms`, `mr_concise` and `mr_itemset`: the texts of a vector and a knowledge. The calls that two
 //! forms have are compared by `mr_tests_twins`, which fails where one finds no memory, and worlds and scripts make the
 //! others.
 use mr_concise::ConciseVector;
-use mr_forms::{FormFault, Knowledge};
+use mr_forms::Knowledge;
 use mr_itemset::ItemKnowledge;
 use mr_tests_samples::{expect, version};
 use mr_version::{ItemId, Version};
 use std::alloc::Global;
 use std::test::Fail;
-
-#[test]
-fn faults_say_what_is_wrong(rt: HostRuntime) -> Result<(), Fail> {
-    let holes = "too many holes: a vector's column would have more holes than its form keeps";
-    let items = "too many items: the knowledge would list more items than its form keeps";
-    for (fault, text) in [
-        (FormFault::OutOfMemory, "out of memory"),
-        (FormFault::TooManyHoles, holes),
-        (FormFault::TooManyItems, items),
-    ] {
-        expect(format!(in rt.alloc(); "{fault}")?, text)?;
-    }
-    Ok(())
-}
 
 /// The text of the vector of these two versions.
 fn vector_text(alloc: Global, versions: &[Version]) -> Result<String, Fail> {

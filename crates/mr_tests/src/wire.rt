@@ -1,6 +1,5 @@
-//! `mr_wire`: a frame's memory, and the text of a fault.
-use mr_tests_samples::expect;
-use mr_wire::{WireFault, decode, encode};
+//! `mr_wire`: a frame's memory.
+use mr_wire::{decode, encode};
 use std::alloc::Global;
 use std::test::Fail;
 
@@ -21,10 +20,4 @@ fn written_room(alloc: Global, bytes: &[u8]) -> Result<usize, Fail> {
 fn memory_is_taken_for_just_the_frame(rt: HostRuntime) -> Result<(), Fail> {
     assert_eq!(rt; written_room(rt.alloc(), &ITEM)?, ITEM.len());
     Ok(())
-}
-
-#[test]
-fn text_of_bad_kind(rt: HostRuntime) -> Result<(), Fail> {
-    let text = format!(in rt.alloc(); "{}", WireFault::BadKind)?;
-    expect(text, "bad kind: the format has no frame of that kind")
 }

@@ -1,5 +1,5 @@
 //! `mr_feed`: feeds, folds and ports find memory, and how a port runs.
-use mr_feed::{Entry, Feed, OfferFault, PlainPort, PortFault, PortIn, PortOut, Taken, fold};
+use mr_feed::{Entry, Feed, OfferFault, PlainPort, PortIn, PortOut, Taken, fold};
 use mr_tests_samples::{added, all_shown, dropped, expect, listed, shown};
 use std::alloc::Global;
 use std::test::Fail;
@@ -103,10 +103,4 @@ fn ample_memory_fault_copy(rt: HostRuntime) -> Result<(), Fail> {
         format!(in rt.alloc(); "{}", fault.copy()?)?,
         "the port is full",
     )
-}
-
-#[test]
-fn text_of_no_capacity(rt: HostRuntime) -> Result<(), Fail> {
-    let text = format!(in rt.alloc(); "{}", PortFault::NoCapacity)?;
-    expect(text, "a port has 1 to 4,096 places")
 }

@@ -1,7 +1,7 @@
 //! `mr_lane`: lanes find memory, and run as their worked examples tell.
 //!
-//! No clause can say that an inbox was full, or a lane empty, where it answers so: those answers
-//! are compared here.
+//! No clause can say that a lane was full, or empty, where it answers so, but that a tap isn't full before
+//! its places were filled once: such answers are compared here.
 ghost use Rattle.std.specs.Prelude.{◌≡◌};
 ghost use Rattle.mr_lane.specs.Inbox.{ArePostsOf};
 
@@ -96,18 +96,37 @@ fn answers<R: Wait>(
     Ok(text)
 }
 
+/// What a take of a tap answers.
+fn drawn(alloc: Global, drawn: Drawn<char>) -> Result<String, Fail> {
+    match drawn {
+        Drawn::Item(item) => Ok(format!(in alloc; "{item}, ")?),
+        Drawn::Empty => Ok(String::from_str(alloc, "empty, ")?),
+        Drawn::Closed => Ok(String::from_str(alloc, "closed, ")?),
+    }
+}
+
 /// What three takes of a tap answer.
 fn three_drawn<R: Wait>(alloc: Global, tap: &mut Tap<char, R>) -> Result<String, Fail>
     ensures { tap.new.id ≡ tap.old.id }
 {
     let mut text = String::new(alloc);
     for _ in 0..3 {
-        match tap.take() {
-            Drawn::Item(item) => text.push(item)?,
-            Drawn::Empty => text.push_str("empty")?,
-            Drawn::Closed => text.push_str("closed")?,
-        }
-        text.push_str(", ")?;
+        text.push_str(drawn(alloc, tap.take())?.as_str())?;
+    }
+    Ok(text)
+}
+
+/// What the offer of each of these items answers, and a take behind it.
+fn offered_and_drawn<R: Wait>(
+    alloc: Global,
+    spout: &mut Spout<char, R>,
+    tap: &mut Tap<char, R>,
+    items: &str,
+) -> Result<String, Fail> {
+    let mut text = String::new(alloc);
+    for item in items.chars() {
+        text.push_str(sent(alloc, spout.offer(item))?.as_str())?;
+        text.push_str(drawn(alloc, tap.take())?.as_str())?;
     }
     Ok(text)
 }
@@ -208,6 +227,48 @@ fn small_inbox(rt: HostRuntime) -> Result<(), Fail> {
     Ok(())
 }
 
+/// One place, and calls that end the senders one after the other, with letters before and behind.
+const CALLS_BEHIND_AN_END: [Call; 15] = [
+    Call::Finish(Sender::SecondLink),
+    Call::Take,
+    Call::Send(Sender::User, 'a'),
+    Call::Take,
+    Call::Send(Sender::User, 'b'),
+    Call::Take,
+    Call::Finish(Sender::User),
+    Call::Take,
+    Call::Send(Sender::FirstLink, 'c'),
+    Call::Take,
+    Call::Send(Sender::FirstLink, 'd'),
+    Call::Take,
+    Call::Finish(Sender::FirstLink),
+    Call::Take,
+    Call::Take,
+];
+
+/// A desk goes on behind the end of a sender, and a post once its letters were taken, however many it has sent.
+#[test]
+fn inbox_goes_on_behind_an_end(rt: HostRuntime) -> Result<(), Fail> {
+    let (mut posts, mut desk) = inbox(rt.alloc(), 1)?;
+    let text = answers(&rt, rt.alloc(), &mut posts, &mut desk, &CALLS_BEHIND_AN_END)?;
+    expect(
+        text,
+        "finished, end of 2, sent, a of 0, sent, b of 0, finished, end of 0, \
+         sent, c of 1, sent, d of 1, finished, end of 1, empty, ",
+    )
+}
+
+/// A tap has room again for each item that was taken, and gives it, however many have passed.
+#[test]
+fn tap_goes_on_behind_its_places(rt: HostRuntime) -> Result<(), Fail> {
+    let (mut spout, mut tap) = tap(rt, rt.alloc(), 2)?;
+    let text = offered_and_drawn(rt.alloc(), &mut spout, &mut tap, "abcd")?;
+    expect(text, "sent, a, sent, b, sent, c, sent, d, ")?;
+    assert!(&rt; spout.close().is_ok());
+    assert!(&rt; matches!(tap.take(), Drawn::Closed));
+    Ok(())
+}
+
 /// What two offers and a close of the spout answer once one item was offered, and what three takes do.
 fn tap_text<R: Wait>(
     alloc: Global,
@@ -287,41 +348,4 @@ fn drain_of_a_tap(rt: HostRuntime) -> Result<(), Fail> {
     offer_two(rt.alloc(), &mut spout)?;
     assert_eq!(&rt; unseen_at_close(&rt, rt.alloc(), &mut tap)?, Some(2));
     Ok(())
-}
-
-#[test]
-fn text_of_full(rt: HostRuntime) -> Result<(), Fail> {
-    let fault = SendFault::Full('a');
-    expect(format!(in rt.alloc(); "{fault}")?, "the lane is full")
-}
-
-#[test]
-fn text_of_ended(rt: HostRuntime) -> Result<(), Fail> {
-    let fault = SendFault::Ended('a');
-    expect(
-        format!(in rt.alloc(); "{fault}")?,
-        "the lane's end is closed",
-    )
-}
-
-#[test]
-fn text_of_no_place_for_the_end(rt: HostRuntime) -> Result<(), Fail> {
-    let text = format!(in rt.alloc(); "{}", FinishFault::Full)?;
-    expect(text, "the lane has no place for the end mark")
-}
-
-#[test]
-fn text_of_no_capacity(rt: HostRuntime) -> Result<(), Fail> {
-    let text = format!(in rt.alloc(); "{}", LaneFault::NoCapacity)?;
-    expect(text, "a lane has 1 to 4,096 places")
-}
-
-#[test]
-fn text_of_not_finished(rt: HostRuntime) -> Result<(), Fail> {
-    let (posts, desk) = inbox::<char>(rt.alloc(), 1)?;
-    let Err(fault) = desk.settle(posts) else {
-        return Err("settled before all had finished".into());
-    };
-    let text = format!(in rt.alloc(); "{fault}")?;
-    expect(text, "the end marks of all three posts were not taken yet")
 }

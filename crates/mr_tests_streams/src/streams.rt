@@ -1,18 +1,17 @@
 //! `mr_session`: streams find memory, and draw their records as worked examples tell. The calls that a replica
 //! makes of `mr_madewith`, `mr_store` and `mr_session` are made by the programs that play worlds.
 
+use crate::samples::{created, put_head, two_heads};
 use mr_concise::ConciseVector;
 use mr_filter::Filter;
-use mr_forms::{Fragment, ItemSet, VersionSet};
-use mr_madewith::Revision;
+use mr_forms::{Fragment, ItemSet};
 use mr_session::{AskedOf, Streams};
-use mr_store::{Part, Store};
-use mr_tests_samples::{expect, message, version};
-use mr_version::{Author, ItemId, Version};
+use mr_store::Store;
+use mr_tests_samples::{expect, version};
+use mr_version::{Author, Version};
 use mr_wire::{Body, FrameFragment, Mode};
 use std::alloc::Global;
 use std::collections::VecDeque;
-use std::process::Abort;
 use std::test::Fail;
 
 /// A fragment of all items that has this version.
@@ -40,41 +39,6 @@ fn asked(alloc: Global, filter: &str, claims: &[&str]) -> Result<AskedOf, Fail> 
         claimed.push(known_for_all(alloc, text)?)?;
     }
     Ok(AskedOf::new(alloc, target, 1, filter, claimed)?)
-}
-
-/// Puts a head where its version isn't held.
-fn put_head(store: &mut Store, revision: Revision) -> Result<(), Fail> {
-    store.reserve(Part::Heads, revision.item())?;
-    if store.held(revision.version()).is_none() {
-        store.put(Part::Heads, revision);
-    }
-    Ok(())
-}
-
-/// The first version of its item, with the label `inbox`.
-fn created(alloc: Global, version: Version) -> Result<Revision, Fail> {
-    let below = ConciseVector::new(alloc);
-    let message = message(alloc, &["inbox"], 0)?;
-    Ok(Revision::new(alloc, ItemId::new(version), version, below, message)?)
-}
-
-/// A version of the item 0.1 that supersedes the item's first, with the label `work`.
-fn edited(rt: &impl Abort, alloc: Global, text: &str) -> Result<Revision, Fail> {
-    let of = ItemId::new(version("0.1")?);
-    let version = version(text)?;
-    let below = ConciseVector::from_versions(alloc, &[of.creator()])?;
-    assert!(rt; below.contains(of.creator()));
-    assert!(rt; !below.contains(version));
-    let message = message(alloc, &["work"], 0)?;
-    Ok(Revision::new(alloc, of, version, below, message)?)
-}
-
-/// A store whose heads are the created 0.2 and the edited 1.1.
-fn two_heads(rt: &impl Abort, alloc: Global) -> Result<Store, Fail> {
-    let mut store = Store::new(alloc);
-    put_head(&mut store, created(alloc, version("0.2")?)?)?;
-    put_head(&mut store, edited(rt, alloc, "1.1")?)?;
-    Ok(store)
 }
 
 /// Opens a stream where there may be one more, and answers its number, or else 0.
