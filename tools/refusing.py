@@ -1,0 +1,94 @@
+"""Runs a program of which one call is refused: what tools/each-growth, tools/each-cut and tools/bytes-asked share.
+
+It compiles tools/refusing.c with `cc`, which stands before the program by LD_PRELOAD. The program has to be linked to the
+C library at run time, as `rt run` links it.
+"""
+
+import atexit
+import os
+import pathlib
+import shutil
+import subprocess
+import sys
+import tempfile
+
+TOP = pathlib.Path(__file__).resolve().parent.parent
+ROWS = TOP / "crates/mr_rows/data"
+MAILREP = TOP / "crates/mr_console/out/mailrep"
+
+room = pathlib.Path(tempfile.mkdtemp(prefix="refusing-"))
+atexit.register(shutil.rmtree, room, ignore_errors=True)
+differing = 0
+
+
+def differs(what):
+    """Says what is not as it has to be."""
+    global differing
+    differing += 1
+    print(what, flush=True)
+
+
+def finish(text):
+    """Ends the tool: with what was tried where all was as it has to be, else with status 1."""
+    if differing:
+        print(f"{differing} differ")
+        sys.exit(1)
+    print(text)
+
+
+def program(words, default=MAILREP):
+    """The program to run: the one that is named, or the built one."""
+    path = pathlib.Path(words[0]).resolve() if words else default
+    if not os.access(path, os.X_OK):
+        sys.exit(f"{path} is not there: build it first, or name the program")
+    return path
+
+
+def library():
+    """The library that stands before the program."""
+    built = room / "refusing.so"
+    if not built.exists():
+        source = TOP / "tools/refusing.c"
+        words = [os.environ.get("CC", "cc"), "-O2", "-shared", "-fPIC", "-o", built, source]
+        subprocess.run(words, check=True)
+    return built
+
+
+class Run:
+    """What a run came to."""
+
+    def __init__(self, words, given=b"", refuse=None, asked=None, read_bytes=None):
+        refused, reads = room / "refused", room / "reads"
+        refused.unlink(missing_ok=True)
+        reads.unlink(missing_ok=True)
+        env = dict(os.environ, LD_PRELOAD=str(library()), REFUSED=str(refused), READS=str(reads))
+        if refuse:
+            env["REFUSE"] = refuse
+        if asked:
+            env["ASKED"] = str(asked)
+        if read_bytes:
+            env["READ_BYTES"] = str(read_bytes)
+        ran = subprocess.run([str(word) for word in words], input=given, capture_output=True, env=env)
+        self.out, self.err, self.status = ran.stdout, ran.stderr, ran.returncode
+        self.is_refused = refused.exists()
+        self.is_asked_again = self.is_refused and refused.read_text() == "again"
+        self.reads = int(reads.read_text()) if reads.exists() else None
+
+    def told(self):
+        return f"status {self.status}, {self.err.decode(errors='replace').strip()!r}, prints {self.out!r}"
+
+
+def outputs(mailrep, lines, *options):
+    """What the script prints up to each of its lines: the first is of none of them."""
+    begun = [b"".join(lines[:count]) for count in range(len(lines) + 1)]
+    return [subprocess.run([mailrep, "run", *options], input=it, capture_output=True).stdout for it in begun]
+
+
+def row(name, *options):
+    """The lines of a row's script, and what it has to print."""
+    lines = (ROWS / f"{name}.script").read_bytes().splitlines(keepends=True)
+    expected = ROWS / f"{name}.expected"
+    sparing = ROWS / f"{name}.sparing.expected"
+    if "--sparing" in options and sparing.exists():
+        expected = sparing
+    return lines, expected.read_bytes()
