@@ -7,7 +7,7 @@ use Rattle.mr_forms.specs.declared.fragment.ItemSet.{ItemSet}
 use Rattle.mr_forms.specs.declared.fragment.ItemSet.TheVariants.{All as AllItems, Listed}
 use Rattle.mr_forms.specs.Covered.{has_item, covered, all_covered}
 use Rattle.mr_forms.specs.Known.{Pairs, Form, AreSame, HasValue, with_pairs}
-use Rattle.mr_forms.specs.Merged.{after_each, AreOverHolesInTurn, AreOverItemsInTurn}
+use Rattle.mr_forms.specs.Merged.{after_each, FirstHasValue, AreOverHolesInTurn, AreOverItemsInTurn}
 use Rattle.mr_forms.specs.declared.fault.FormFault.{FormFault}
 use Rattle.mr_forms.specs.declared.fault.FormFault.TheVariants as fault
 use Rattle.mr_concise.specs.Fragments.{ConciseFragment}
@@ -20,6 +20,7 @@ use Rattle.mr_session.specs.Session.{Session}
 use Rattle.mr_session.specs.Stream.{lists, claimed}
 use Rattle.mr_replica.specs.Refusal.{refusal_of}
 use Rattle.mr_replica.specs.Issue.{Wanted, Wanted.Knowledge, Fits, FirstFault}
+use Rattle.mr_replica.specs.Wanting.{FirstFits}
 use Rattle.mr_replica.specs.Receive.{merged_by, is_unheld}
 use Rattle.mr_replica.specs.Taking.{RefusesMerged}
 
@@ -73,14 +74,24 @@ module _ {K : Type 0} (form : Form K) where
   first_long (p ∷ ps) (inl over) = inl over
   first_long (p ∷ ps) (inr rest) = inr (rest.0, first_long ps rest.1)
 
+  -- or no memory is there, and the first fits
+  first_fits : (known : Pairs) (fs : List ConciseFragment) → FirstHasValue form (after_each vector_has known fs) → FirstFits form (merged_by known (map piece_of fs))
+  first_fits known [] value = tt
+  first_fits known (f ∷ fs) value = subst (λ (pairs : Pairs). Fits form (Knowledge (with_pairs known pairs))) (sym (claimed_is f)) value
+
   pub merged_refused : (known : Pairs) (fs : List ConciseFragment) (made : Result K FormFault) → (IsErrOf made fault.TooManyHoles → AreOverHolesInTurn form (after_each vector_has known fs)) →
-      (IsErrOf made fault.TooManyItems → AreOverItemsInTurn form (after_each vector_has known fs)) → IfErr made (RefusesMerged form (merged_by known (map piece_of fs)))
-  merged_refused known fs (Ok k) holes items = tt
-  merged_refused known fs (Err fault.OutOfMemory) holes items = tt
-  merged_refused known fs (Err fault.TooManyHoles) holes items =
+      (IsErrOf made fault.TooManyItems → AreOverItemsInTurn form (after_each vector_has known fs)) → (IsErrOf made fault.OutOfMemory → FirstHasValue form (after_each vector_has known fs)) → IfErr made (RefusesMerged form (merged_by known (map piece_of fs)))
+  merged_refused known fs (Ok k) holes items memory = tt
+  merged_refused known fs (Err fault.OutOfMemory) holes items memory = first_fits known fs (memory refl)
+  merged_refused known fs (Err fault.TooManyHoles) holes items memory =
       subst (FirstFault form (refusal_of fault.TooManyHoles)) (sym (merged_is known fs)) (first_holey (after_each vector_has known fs) (holes refl))
-  merged_refused known fs (Err fault.TooManyItems) holes items =
+  merged_refused known fs (Err fault.TooManyItems) holes items memory =
       subst (FirstFault form (refusal_of fault.TooManyItems)) (sym (merged_is known fs)) (first_long (after_each vector_has known fs) (items refl))
+
+  -- where all fit, the first does
+  pub first_of_all : (ws : List Wanted) → All (Fits form) ws → FirstFits form ws
+  first_of_all [] fits = tt
+  first_of_all (w ∷ ws) fits = All-head (Fits form) w ws fits
 
 -- ---- what leaves at the End
 

@@ -1,5 +1,7 @@
 -- Worked rows: what the definitions of taking a record say of states that were computed by hand.
 use Rattle.std.proofs.Common.{◌≡◌, ℕ, Bool, true, false, refl, List, [], ◌∷◌, map, Some, None}
+use Rattle.std.proofs.lemmas.Bool.{false≢true}
+use Rattle.std.proofs.lemmas.List.Elements.{All-head, All-tail}
 use Rattle.mr_version.specs.Name.{Name}
 use Rattle.mr_forms.specs.Sets.{is_listed}
 use Rattle.mr_forms.specs.Known.{Pairs, Form}
@@ -18,7 +20,8 @@ use Rattle.mr_wire.specs.declared.frame.Body.TheVariants.{Start, Item, MoveOut, 
 use Rattle.mr_session.specs.Table.{empty_table}
 use Rattle.mr_session.specs.Session.{Session, new_session}
 use Rattle.mr_replica.specs.State.{State}
-use Rattle.mr_replica.specs.Issue.{Wanted, Wanted.Vector, Wanted.Knowledge}
+use Rattle.mr_replica.specs.Issue.{Wanted, Wanted.Vector, Wanted.Knowledge, Fits}
+use Rattle.mr_replica.specs.Wanting.{FitBeforeMemory}
 use Rattle.mr_replica.specs.Retire.{retiring}
 use Rattle.mr_replica.specs.Vouch.{receipt_for}
 use Rattle.mr_replica.specs.Forged.{line_of, is_forged}
@@ -351,3 +354,23 @@ merging_ends = refl
 
 other_records_merge_nothing : merges late (Record (sent 1 4 (Know all_of_two))) ≡ false
 other_records_merge_nothing = refl
+
+-- ---- for what there has to be a value before memory may be wanted
+
+-- a form that has no value for knowledge of the version 3.1
+abbrev short : Form Pairs
+short = record by_pairs { has_too_many_items = λ pairs. pairs (name 0 1) (name 3 1) ≡ true }
+
+abbrev third : Wanted
+third = Knowledge (knowing (name 3 1 ∷ []))
+
+-- where fragments are merged in turn, for the first of them
+later_needs_none : FitBeforeMemory short true (Knowledge (knowing []) ∷ third ∷ [])
+later_needs_none = (λ h. h, false≢true)
+
+first_needs_one : ¬ FitBeforeMemory short true (third ∷ [])
+first_needs_one fits = fits.1 refl
+
+-- else for each
+each_needs_one : ¬ FitBeforeMemory short false (Knowledge (knowing []) ∷ third ∷ [])
+each_needs_one fits = (All-head (Fits short) third [] (All-tail (Fits short) (Knowledge (knowing [])) (third ∷ []) fits)).1 refl

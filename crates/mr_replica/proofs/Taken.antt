@@ -29,14 +29,14 @@ module _ {K : Type 0} (form : Form K) (s : State K) (header : Header) where
   item_answers : (r : Rev) (answer : Result Reply Refusal) (new : State K) → OnOk answer (All (Fits form) (wanted_by_line form s (line_of r))) → IfOk answer (λ reply. TakesLine form s (sent_of (Item r)) (line_of r) (entering s (Item r)) reply new)
       → OnErr answer (new ≡ s) → IfErr answer (RefusesLine form s (line_of r)) → Answers form s (Receive (Record (sent_of (Item r)))) answer new
   item_answers r (Ok reply) new fits takes same refuses = (fits, takes)
-  item_answers r (Err OutOfMemory) new fits takes same refuses = (λ _. refuses, same)
+  item_answers r (Err OutOfMemory) new fits takes same refuses = (refuses, same)
   item_answers r (Err e) new fits takes same refuses = (refuses, same)
 
   -- a MoveOut
   move_out_answers : (line : DescentParts) (answer : Result Reply Refusal) (new : State K) → OnOk answer (All (Fits form) (wanted_by_line form s line)) → IfOk answer (λ reply. TakesLine form s (sent_of (MoveOut line)) line (entering s (MoveOut line)) reply new)
       → OnErr answer (new ≡ s) → IfErr answer (RefusesLine form s line) → Answers form s (Receive (Record (sent_of (MoveOut line)))) answer new
   move_out_answers line (Ok reply) new fits takes same refuses = (fits, takes)
-  move_out_answers line (Err OutOfMemory) new fits takes same refuses = (λ _. refuses, same)
+  move_out_answers line (Err OutOfMemory) new fits takes same refuses = (refuses, same)
   move_out_answers line (Err e) new fits takes same refuses = (refuses, same)
 
   -- a version is told

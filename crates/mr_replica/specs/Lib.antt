@@ -13,6 +13,7 @@ pub mod Pull
 pub mod CutIn
 pub mod CutOut
 pub mod Vouch
+pub mod Wanting
 pub mod Release
 pub mod Pieces
 pub mod Answer

@@ -1,9 +1,10 @@
 -- One event of a replica: its refusals, in their order, and the change that each answer stands for.
-use Rattle.std.specs.Prelude.{◌≡◌, ◌≢◌, Option, Some, None, Result, Ok, Err, false, List, [], All}
+use Rattle.std.specs.Prelude.{◌≡◌, ◌≢◌, Option, Some, None, Result, Ok, Err, List, [], All}
 use Rattle.mr_forms.specs.Known.{Form}
 use Rattle.mr_replica.specs.State.{State}
 use Rattle.mr_replica.specs.Alike.{AreAlike}
 use Rattle.mr_replica.specs.Issue.{Wanted, wanted_by_issue, Fits, FirstFault, Issues, logged}
+use Rattle.mr_replica.specs.Wanting.{FitBeforeMemory}
 use Rattle.mr_replica.specs.Create.{create_refusal, created}
 use Rattle.mr_replica.specs.Edit.{edit_refusal, edited}
 use Rattle.mr_replica.specs.Retire.{retire_refusal, retiring}
@@ -60,9 +61,9 @@ module _ {K : Type 0} where
   Changes form s (Release receipt) Done new = new ≡ logged (releasing s receipt) (Release receipt)
   Changes form s event reply new = ⊥
 
-  -- A refusal of the forms, or last of all memory. But where a knowledge is put into vectors, memory may come in place of a part that has none; and where fragments are merged one after the other, before a later one's fault.
+  -- A refusal of the forms, or last of all memory. But where a knowledge is put into vectors, memory may come in place of a part that has none; and where fragments are merged one after the other, before the fault of one behind the first.
   abbrev pub RefusesLate : Form K → State K → Event → Refusal → Type 0
-  RefusesLate form s (Receive frame) OutOfMemory = merges s frame ≡ false → All (Fits form) (wanted_by_frame form s frame)
+  RefusesLate form s (Receive frame) OutOfMemory = FitBeforeMemory form (merges s frame) (wanted_by_frame form s frame)
   RefusesLate form s event OutOfMemory = All (Fits form) (wanted_by form s event)
   RefusesLate form s Pull TooManyHoles = HasHoleyPart (form.is_part s.knowledge)
   RefusesLate form s (Answer ask) TooManyHoles = KeepsHoley form (mode_for s ask) s.knowledge

@@ -1,5 +1,5 @@
 -- what comes of taking a record, by parts of the step
-use Rattle.std.specs.Prelude.{◌≡◌, false, Option, Some, None, List, [], ◌++◌, map, filter, All}
+use Rattle.std.specs.Prelude.{Option, Some, None, List, [], ◌++◌, map, filter, All}
 use Rattle.mr_version.specs.Name.{Name}
 use Rattle.mr_feed.specs.declared.entry.Entry.{Entry}
 use Rattle.mr_concise.specs.Vector.{vector_has}
@@ -15,6 +15,7 @@ use Rattle.mr_wire.specs.declared.frame.Body.TheVariants.{Item, MoveOut}
 use Rattle.mr_replica.specs.State.{State}
 use Rattle.mr_replica.specs.Forged.{line_of}
 use Rattle.mr_replica.specs.Issue.{Wanted, Fits, FirstFault, dropped, added}
+use Rattle.mr_replica.specs.Wanting.{FirstFits, FitBeforeMemory}
 use Rattle.mr_session.specs.Session.{Session}
 use Rattle.mr_replica.specs.Refusal.{refusal_of}
 use Rattle.mr_replica.specs.Receive.{arrival_alone, wanted_by_line, wanted_by_end, has_full}
@@ -46,17 +47,17 @@ abbrev pub RefusesLine : {K : Type 0} → Form K → State K → DescentParts �
 RefusesLine form s line OutOfMemory = All (Fits form) (wanted_by_line form s line)
 RefusesLine form s line e = FirstFault form e (wanted_by_line form s line)
 
--- no memory, or the first of these has no value
+-- the first of these that has no value, or no memory, though the very first has one
 abbrev pub RefusesMerged : {K : Type 0} → Form K → List Wanted → FormFault → Type 0
-RefusesMerged form wanted fault.OutOfMemory = Unit {0}
+RefusesMerged form wanted fault.OutOfMemory = FirstFits form wanted
 RefusesMerged form wanted f = FirstFault form (refusal_of f) wanted
 
 -- the same of the whole event
 abbrev pub RefusesEnding : {K : Type 0} → Form K → List Wanted → Refusal → Type 0
-RefusesEnding form wanted OutOfMemory = Unit {0}
+RefusesEnding form wanted OutOfMemory = FirstFits form wanted
 RefusesEnding form wanted e = FirstFault form e wanted
 
--- why the end of this session is not taken: where fragments are merged, memory may come before a later one's fault
+-- why the end of this session is not taken: where fragments are merged, memory may come before the fault of one behind the first
 abbrev pub RefusesEnd : {K : Type 0} → Form K → State K → Option Session → Refusal → Type 0
-RefusesEnd form s session OutOfMemory = has_full session ≡ false → All (Fits form) (wanted_by_end form s session)
+RefusesEnd form s session OutOfMemory = FitBeforeMemory form (has_full session) (wanted_by_end form s session)
 RefusesEnd form s session e = FirstFault form e (wanted_by_end form s session)

@@ -4,6 +4,7 @@ ghost use Rattle.std.specs.Option.{option_map};
 ghost use Rattle.mr_script.specs.Fault.{fault_of_source, NumbersItsLine};
 ghost use Rattle.mr_script.specs.Run.{BeginsToPrint, Breaks, NextAnswer, Prints, PrintsSoFar, end_of};
 ghost use Rattle.mr_script.specs.Script.{Accounts, looked_at, source_remaining};
+ghost use Rattle.mr_script.specs.Waiting.{MayAsk};
 ghost use Rattle.mr_script.specs.Writing.{Settles};
 ghost use Rattle.mr_script.specs.declared.source.TheConstants.{MAX_SCRIPT_BYTES};
 
@@ -84,7 +85,7 @@ fn run_lines<K: Knowledge, R: Read + Drop, W: Write>(
     let mut line = Vec::new(alloc);
     for number in 1..MAX_SCRIPT_BYTES + 2 {
         settle(&source, output, writer)?;
-        let answer = next_answer(&mut source, &mut interpreter, &mut line, number)?;
+        let answer = next_answer(output, &mut source, &mut interpreter, &mut line, number)?;
         let Some(answer) = answer else {
             return Ok(());
         };
@@ -130,6 +131,7 @@ fn settle<R: Read + Drop, W: Write>(
     writer: &mut W,
 ) -> Result<(), ScriptFault>
     ensures settles { Settles (W.contents writer.old) (W.contents writer.new) output.old output.new }
+    ensures may_ask { OnOk result (MayAsk source.now output.new) }
     ensures fault { IfErr result (λ fault. fault ≡ ScriptFault.Write) }
 {
     if !source.has_line() || output.is_full() {
@@ -150,14 +152,17 @@ fn write_all<W: Write>(output: &mut Output, writer: &mut W) -> Result<(), Script
     }
 }
 
-/// Takes the next line and runs it, and gives what it prints. There is none at the end.
+/// Takes the next line and runs it, and gives what it prints. There is none at the end. Where that may wait for
+/// the reader, no answer waits to be written.
 fn next_answer<K: Knowledge, R: Read + Drop>(
+    _waiting: &Output,
     source: &mut Source<R>,
     interpreter: &mut Interpreter<K>,
     line: &mut Vec<u8>,
     number: u64,
 ) -> Result<Option<String>, ScriptFault>
-    requires { source.old.taken ≤ MAX_SCRIPT_BYTES }
+    requires may_ask { MayAsk source.old _waiting.now }
+    requires within { source.old.taken ≤ MAX_SCRIPT_BYTES }
     ensures few { OnOk result (source.new.taken ≤ MAX_SCRIPT_BYTES) }
     ensures more { IfOk result (λ answer. IsSome answer → source.old.taken < source.new.taken) }
     ensures counted { (script : Option (List ℕ))

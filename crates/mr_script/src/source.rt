@@ -6,6 +6,7 @@ ghost use Rattle.std.specs.Io.Take.{take_remaining};
 ghost use Rattle.std.specs.IoError.{error_kind};
 ghost use Rattle.mr_script.specs.Fault.{fault_of_kind};
 ghost use Rattle.mr_script.specs.Script.{Accounts, TakesLine, looked_at, metered_remaining, source_remaining};
+ghost use Rattle.mr_script.specs.Waiting.{has_line};
 ghost use Rattle.mr_script.specs.declared.source.TheConstants.{MAX_SCRIPT_BYTES};
 
 use crate::metered::Metered;
@@ -69,7 +70,9 @@ impl<R: Read + Drop> Source<R> {
     }
 
     /// Whether the next line has been read already, so that taking it waits for nobody.
-    pub(crate) fn has_line(&self) -> bool {
+    pub(crate) fn has_line(&self) -> bool
+        ensures { result ≡ has_line self.now }
+    {
         self.reader.buffer().contains(&b'\n')
     }
 

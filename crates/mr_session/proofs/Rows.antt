@@ -13,6 +13,7 @@ use Rattle.mr_wire.specs.declared.frame.Mode.{Mode}
 use Rattle.mr_wire.specs.declared.frame.Mode.TheVariants.{Full, Partial}
 use Rattle.mr_concise.proofs.UnionLemmas.{column_has-empty}
 use Rattle.mr_session.specs.Held.{AreCut}
+use Rattle.mr_session.specs.Preparing.{is_copied}
 use Rattle.mr_session.specs.Session.{Session, new_session, first_fault, after_record}
 use Rattle.mr_session.specs.Stream.{Asked, Stream, claimed, due, told, is_wanted, new_stream, needs_memory, Draws}
 use Rattle.mr_session.specs.Table.{Table, empty_table, with_opened, with_closed, with_changed, open_at}
@@ -56,6 +57,25 @@ later_held_row = refl
 
 partial_end_row : needs_memory (begun Partial) nothing_held ≡ false
 partial_end_row = refl
+
+-- what is prepared is copied, but for a Start and an End
+prepared_start : is_copied (new_stream asked Full []) nothing_held ≡ false
+prepared_start = refl
+
+prepared_first_held : is_copied (begun Full) nothing_held ≡ true
+prepared_first_held = refl
+
+prepared_later_held : is_copied (record (begun Full) { held = Some ([] ∷ []) }) nothing_held ≡ true
+prepared_later_held = refl
+
+prepared_know : is_copied (record (begun Full) { held = Some []; know = (record { items = None; vector = [] }) ∷ [] }) nothing_held ≡ true
+prepared_know = refl
+
+prepared_full_end : is_copied (record (begun Full) { held = Some [] }) nothing_held ≡ false
+prepared_full_end = refl
+
+prepared_partial_end : is_copied (begun Partial) nothing_held ≡ false
+prepared_partial_end = refl
 
 -- ---- tables
 

@@ -6,5 +6,6 @@ pub mod Held
 pub mod Stream
 pub mod Merge
 pub mod Onward
+pub mod Preparing
 pub mod Limits
 pub mod Rows

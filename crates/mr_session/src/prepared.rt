@@ -1,8 +1,9 @@
 //! Draws in two steps: the record first, and then, without memory, what is left of its stream.
-ghost use Rattle.std.specs.Prelude.{◌≡◌, ◌<◌, ◌+◌, ◌^◌, IsSome, IfSome, IfOk};
+ghost use Rattle.std.specs.Prelude.{◌≡◌, ◌<◌, ◌+◌, ◌^◌, IsSome, IfSome, IsOk, IsFalse, IfOk};
 ghost use Rattle.mr_session.specs.Stream.{GivesIn};
 ghost use Rattle.mr_session.specs.Table.{open_at};
 ghost use Rattle.mr_session.specs.Onward.{advanced};
+ghost use Rattle.mr_session.specs.Preparing.{is_copied};
 
 use crate::open_table::OpenTable;
 use crate::outgoing::{Onward, Outgoing, Prepared};
@@ -16,7 +17,7 @@ impl OpenTable<Outgoing> {
     /// the stream is made to go on, by [`OpenTable::advance`].
     ///
     /// It is the record that a draw would give. It costs what that costs, and a copy of the vector or the
-    /// fragment of a Held or Know.
+    /// fragment of a Held or Know. A Start and an End need no memory.
     pub fn prepare(
         &self,
         number: u64,
@@ -25,7 +26,8 @@ impl OpenTable<Outgoing> {
     ) -> Result<Prepared, AllocError>
         requires open { IsSome (open_at self.now number) }
         requires goes_on { IfSome (open_at self.now number) (λ stream. stream.next + 1 < 2 ^ 32) }
-        ensures { IfOk result (λ prepared. GivesIn source number self.now store.now prepared.record (advanced number prepared.onward self.now)) }
+        ensures gives { IfOk result (λ prepared. GivesIn source number self.now store.now prepared.record (advanced number prepared.onward self.now)) }
+        ensures sure { IfSome (open_at self.now number) (λ stream. IsFalse (is_copied stream store.now) → IsOk result) }
     {
         // numbers are given from 1
         let _given = self.opened();

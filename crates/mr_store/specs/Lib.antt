@@ -6,4 +6,5 @@ pub mod Index
 pub mod Shelf
 pub mod Holdings
 pub mod HeldVersions
+pub mod Parts
 pub mod Rows

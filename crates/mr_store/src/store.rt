@@ -47,6 +47,7 @@ impl Model for Store {
 
 impl Store {
     ghost use Rattle.mr_store.specs.Holdings.{room_in, with_room, put_in};
+    ghost use Rattle.mr_store.specs.Parts.{other_part};
 
     /// An empty store. It allocates nothing.
     pub fn new(alloc: Global) -> Store
@@ -143,11 +144,13 @@ impl Store {
 
     // ---- changes
 
-    /// Makes room for one more revision of the item in the part.
+    /// Makes room for one more revision of the item in the part. The other part keeps the room that it has,
+    /// also where memory is wanting; what room this part has then is not said.
     pub fn reserve(&mut self, part: Part, item: ItemId) -> Result<(), AllocError>
         ensures ok { OnOk result (self.new ≡ with_room part item self.old) }
         ensures heads { self.new.heads ≡ self.old.heads }
         ensures push_outs { self.new.push_outs ≡ self.old.push_outs }
+        ensures other { room_in (other_part part) self.new ≡ room_in (other_part part) self.old }
     {
         match part {
             Part::Heads => self.heads.reserve(item),

@@ -35,6 +35,7 @@ impl<K: Knowledge> Core<K> {
     ghost use Rattle.mr_replica.specs.Issue.{Fits};
     ghost use Rattle.mr_replica.specs.Receive.{record_refusal, session_for, finished, wanted_by_end, Ends, EndsSession};
     ghost use Rattle.mr_replica.specs.Taking.{RefusesEnd, RefusesEnding, RefusesMerged};
+    ghost use Rattle.mr_replica.specs.Wanting.{FirstFits};
 
     // The session takes the End of its stream, and is closed.
     pub(crate) fn take_end<T: Drop, F: FnOnce(&Reply) -> Result<T, AllocError>>(
@@ -126,6 +127,7 @@ impl<K: Knowledge> Core<K> {
     // What the End of a full session changes.
     fn ended(&self, session: &Incoming) -> Result<Ended<K>, Refusal>
         ensures fits { OnOk result (All (Fits K.form) (merged_by (K.form.known self.now.knowledge) session.now.know)) }
+        ensures first { OnOk result (FirstFits K.form (merged_by (K.form.known self.now.knowledge) session.now.know)) }
         ensures knowledge { IfOk result (λ ended. AreSame (K.form.known ended.knowledge) (with_pairs (K.form.known self.now.knowledge) (claimed session.now.know))) }
         ensures left { IfOk result (λ ended. ended.left.items ≡ filter (is_unheld session.now) self.now.heads) }
         ensures entries { IfOk result (λ ended. ended.entries.items ≡ map dropped (filter (is_unheld session.now) self.now.heads)) }
@@ -168,6 +170,7 @@ impl<K: Knowledge> Core<K> {
     fn merged(&self, know: &[Fragment<ConciseVector>]) -> Result<K, FormFault>
         ensures ok { IfOk result (λ knowledge. AreSame (K.form.known knowledge) (with_pairs (K.form.known self.now.knowledge) (claimed (map piece_of know.now)))) }
         ensures fits { OnOk result (All (Fits K.form) (merged_by (K.form.known self.now.knowledge) (map piece_of know.now))) }
+        ensures first { OnOk result (FirstFits K.form (merged_by (K.form.known self.now.knowledge) (map piece_of know.now))) }
         ensures refused { IfErr result (RefusesMerged K.form (merged_by (K.form.known self.now.knowledge) (map piece_of know.now))) }
     {
         self.knowledge.with_fragments(know)

@@ -33,8 +33,8 @@ impl<K: Knowledge> Replica<K> {
     ///
     /// `Retired`; then `NotARecord` of another frame, and of a record `NotForMe`, `NoSession`, `NotStart`,
     /// `OtherStream`, `Repeated` or `Gap`, and `Forged`; then `LogFull`. Then `TooManyHoles` or `TooManyItems` by
-    /// the first knowledge that has no value; and `OutOfMemory` last, or in place of a later fragment's fault at
-    /// the end of a full stream. A refused event changes nothing.
+    /// the first knowledge that has no value; and `OutOfMemory` last, or, at the end of a full stream, in place of
+    /// the fault of a fragment behind the first. A refused event changes nothing.
     pub fn receive(&mut self, frame: Frame) -> Result<Received, Refusal>
         ensures { Steps K.form self.old (Event.Receive frame) (answer_by received_reply result) self.new }
     {

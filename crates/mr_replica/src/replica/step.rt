@@ -47,7 +47,7 @@ impl<K: Knowledge> Replica<K> {
     /// another frame by `NotARecord`; then by the first knowledge that has no value: a version is learned, and
     /// then with what it supersedes, and at the end of a full stream its fragments are merged one by one.
     /// `OutOfMemory` comes only where no other refusal's case holds, or in place of a part that has no vector, or
-    /// of a later fragment's fault.
+    /// of the fault of a fragment behind the first.
     ///
     /// It costs searches, a shift of handles in the store, and the vector of what the new version
     /// supersedes; an edit looks at the held revisions of its item alone, and no message is copied. A pull

@@ -1,8 +1,10 @@
 //! Records that are prepared before the stream goes on.
-ghost use Rattle.std.specs.Prelude.{◌≡◌, ◌≤◌, ◌<◌, ◌+◌, ◌^◌, IfOk};
+ghost use Rattle.std.specs.Prelude.{◌≡◌, ◌≤◌, ◌<◌, ◌+◌, ◌^◌, ◌||◌, [], is_some, IfOk, IsOk, IsFalse};
 ghost use Rattle.std.specs.Option.{option_map};
 ghost use Rattle.mr_session.specs.Stream.{is_end, due, DrawsKnow, DrawsFirstHeld, DrawsAfterWalk, DrawsWalk, Draws, Gives};
 ghost use Rattle.mr_session.specs.Onward.{moved, after_given, is_last, behind_first};
+ghost use Rattle.mr_session.specs.Preparing.{is_copied};
+ghost use Rattle.mr_session.specs.Session.{is_full_mode};
 
 use super::{Outgoing, tell};
 use crate::due::due;
@@ -65,6 +67,7 @@ impl Outgoing {
     fn behind_walk(&self, store: &Store) -> Result<Saying, AllocError>
         ensures said { IfOk result (λ saying. DrawsAfterWalk self.now.mode self.now store.now saying.body (moved saying.onward self.now)) }
         ensures last { IfOk result (λ saying. is_end saying.body ≡ is_last saying.onward) }
+        ensures sure { IsFalse (is_full_mode self.now.mode) → IsOk result }
     {
         match self.mode {
             Mode::Full => self.first_held(store),
@@ -79,6 +82,7 @@ impl Outgoing {
     fn next_due(&self, store: &Store) -> Result<Saying, AllocError>
         ensures said { IfOk result (λ saying. DrawsWalk (due self.now.asked self.now.past store.now.heads store.now.push_outs) self.now store.now saying.body (moved saying.onward self.now)) }
         ensures last { IfOk result (λ saying. is_end saying.body ≡ is_last saying.onward) }
+        ensures sure { IsFalse (is_some (due self.now.asked self.now.past store.now.heads store.now.push_outs) || is_full_mode self.now.mode) → IsOk result }
     {
         match due(&self.asked, &self.past, store) {
             Some(revision) => Ok(Saying {
@@ -93,6 +97,7 @@ impl Outgoing {
     fn next_known(&self) -> Result<Saying, AllocError>
         ensures said { IfOk result (λ saying. DrawsKnow self.now.know self.now saying.body (moved saying.onward self.now)) }
         ensures last { IfOk result (λ saying. is_end saying.body ≡ is_last saying.onward) }
+        ensures sure { self.now.know ≡ [] → IsOk result }
     {
         match self.know.front() {
             Some(fragment) => Ok(Saying {
@@ -110,6 +115,7 @@ impl Outgoing {
     fn next_body(&self, store: &Store) -> Result<Saying, AllocError>
         ensures said { IfOk result (λ saying. Draws self.now store.now saying.body (moved saying.onward self.now)) }
         ensures last { IfOk result (λ saying. is_end saying.body ≡ is_last saying.onward) }
+        ensures sure { IsFalse (is_copied self.now store.now) → IsOk result }
     {
         if self.next == 0 {
             return Ok(Saying {
@@ -133,7 +139,7 @@ impl Outgoing {
     /// behind it. The stream stays as it is.
     ///
     /// It is the record that a draw would give. It costs what that costs, and a copy of the vector or the
-    /// fragment of a Held or Know.
+    /// fragment of a Held or Know. A Start and an End need no memory.
     pub(crate) fn prepare(
         &self,
         source: Author,
@@ -144,6 +150,7 @@ impl Outgoing {
         requires goes_on { self.now.next + 1 < 2 ^ 32 }
         ensures gives { IfOk result (λ prepared. Gives source number self.now store.now prepared.record (after_given prepared.onward self.now)) }
         ensures last { IfOk result (λ prepared. is_end prepared.record.body ≡ is_last prepared.onward) }
+        ensures sure { IsFalse (is_copied self.now store.now) → IsOk result }
     {
         let header = Header {
             source,

@@ -26,4 +26,4 @@ returns-in-Ok-false-clause-answer g c =
 pub returns-in-Err-clause-answer : goal.returns-in-Err-clause-answer
 returns-in-Err-clause-answer g c =
     rw c.source_fault.ensures (IfSome_then _ c.in-Err.ensures.line (λ bytes taken.
-    next_fault g.K.Knowledge.form c.args.interpreter.now c.args.number c.args.source.now.taken bytes c.next_line.new.line.items (source_remaining g.R.Read.remaining c.next_line.new.self) c.next_line.new.self.taken c.in-Err.fault c.requires taken))
+    next_fault g.K.Knowledge.form c.args.interpreter.now c.args.number c.args.source.now.taken bytes c.next_line.new.line.items (source_remaining g.R.Read.remaining c.next_line.new.self) c.next_line.new.self.taken c.in-Err.fault c.requires.within taken))

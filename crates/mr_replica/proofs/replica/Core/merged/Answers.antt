@@ -5,7 +5,8 @@ use Rattle.mr_forms.specs.Covered.{all_covered}
 use Rattle.mr_concise.specs.Vector.{vector_has}
 use Rattle.mr_wire.specs.Values.{piece_of}
 use Rattle.mr_session.specs.Stream.{claimed}
-use Rattle.mr_replica.proofs.Merging.{all_claimed, merged_fits, merged_refused}
+use Rattle.mr_replica.specs.Receive.{merged_by}
+use Rattle.mr_replica.proofs.Merging.{all_claimed, merged_fits, first_of_all, merged_refused}
 use Rattle.mr_replica.proofs.replica.Core.merged.Goals as goal
 
 -- what the fragments cover is what they claim
@@ -22,7 +23,13 @@ pub returns-clause-fits : goal.returns-clause-fits
 returns-clause-fits g c =
     rw (← c.self.view_is) (on_ok_weaker c.with_fragments.result (merged_fits g.K.Knowledge.form (g.K.Knowledge.form.known c.self.inside.knowledge) c.args.know.now) c.with_fragments.ensures.value)
 
+pub returns-clause-first : goal.returns-clause-first
+returns-clause-first g c =
+    let form = g.K.Knowledge.form in
+    let known = form.known c.self.inside.knowledge in
+    rw (← c.self.view_is) (on_ok_weaker c.with_fragments.result (λ values. first_of_all form (merged_by known (map piece_of c.args.know.now)) (merged_fits form known c.args.know.now values)) c.with_fragments.ensures.value)
+
 pub returns-clause-refused : goal.returns-clause-refused
 returns-clause-refused g c =
     rw (← c.self.view_is)
-    (merged_refused g.K.Knowledge.form (g.K.Knowledge.form.known c.self.inside.knowledge) c.args.know.now c.with_fragments.result c.with_fragments.ensures.holes c.with_fragments.ensures.items)
+    (merged_refused g.K.Knowledge.form (g.K.Knowledge.form.known c.self.inside.knowledge) c.args.know.now c.with_fragments.result c.with_fragments.ensures.holes c.with_fragments.ensures.items c.with_fragments.ensures.memory)

@@ -22,4 +22,4 @@ returns g c =
     let heads = ap (λ (h : Holdings). h.heads) c.store.ensures in
     let push_outs = ap (λ (h : Holdings). h.push_outs) c.store.ensures in
     subst (λ (t : State g.row.K.Denot). IfOk c.prepare.result (λ p. GivesNext t c.args.stream p.record (going_on t c.args.stream p.onward))) c.self.view_is
-    (prepared_next s c.args.stream c.store.result.now c.prepare.result heads push_outs c.prepare.ensures)
+    (prepared_next s c.args.stream c.store.result.now c.prepare.result heads push_outs c.prepare.ensures.gives)

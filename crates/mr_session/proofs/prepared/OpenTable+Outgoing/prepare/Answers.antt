@@ -10,7 +10,7 @@ prepare-requires-clause-number c =
     let found : open_at c.args.self.now c.args.number ≡ Some c.in-Some.stream.now = sym c.get.ensures ∙ ap option_copied c.in-Some.is in
     number_from c.args.number c.args.self.now c.in-Some.stream.now c.opened-given.ensures.kept found
 
-pub returns : goal.returns
-returns c =
+pub returns-clause-gives : goal.returns-clause-gives
+returns-clause-gives c =
     let found : open_at c.args.self.now c.args.number ≡ Some c.in-Some.stream.now = sym c.get.ensures ∙ ap option_copied c.in-Some.is in
     prepared_in c.args.source c.args.number c.args.self.now c.args.store.now c.prepare.result c.in-Some.stream.now found c.prepare.ensures.gives c.prepare.ensures.last
