@@ -1,0 +1,3 @@
+-- lemmas
+pub mod ReadLemmas
+pub mod EntryLaws

@@ -1,0 +1,5 @@
+use Rattle.mr_entry.proofs.EntryLaws.{begins_no_other}
+use Rattle.mr_entry.proofs.spellings.no_spelling_begins_another.Goals as goal
+
+pub returns : goal.returns
+returns c = begins_no_other

@@ -1,0 +1,11 @@
+pub mod Head
+pub mod Note
+pub mod Fault
+pub mod Spelling
+pub mod Grammar
+pub mod Parts
+pub mod Seen
+pub mod Decoding
+pub mod Encoding
+pub mod Events
+pub mod Rows

@@ -1,0 +1,139 @@
+//! The parts of entries, as they stand at the front of bytes. They take no memory.
+ghost use Rattle.std.specs.Prelude.{◌≡◌, true, false, MatchOption};
+ghost use Rattle.std.specs.Option.{option_copied};
+ghost use Rattle.std.specs.Int.{w16};
+ghost use Rattle.std.specs.Str.{is_utf8};
+ghost use Rattle.mr_wire.specs.Parts.{author_at};
+ghost use Rattle.mr_wire.specs.Reading.{Gives, bytes_at, number_at};
+ghost use Rattle.mr_entry.specs.Parts.{filter_text_at, head_at, nexts_at, note_at};
+ghost use Rattle.mr_entry.specs.Seen.{head_seen, nexts_seen, note_seen};
+
+use crate::head::{Birth, Mark};
+use mr_version::Author;
+use mr_wire::parts::Input;
+
+/// A head whose text lies in the bytes that are read.
+#[derive(Drop)]
+pub(crate) struct HeadRead<'a> {
+    pub(crate) id: Author,
+    pub(crate) event_limit: u32,
+    pub(crate) birth: Birth,
+    pub(crate) mark: Mark,
+    pub(crate) filter: &'a str,
+}
+
+/// A run of Nexts.
+#[derive(Clone, Copy)]
+pub(crate) struct NextsRead {
+    pub(crate) stream: u64,
+    pub(crate) count: u32,
+}
+
+/// A note whose bytes lie in those that are read.
+#[derive(Drop)]
+pub(crate) struct NoteRead<'a> {
+    pub(crate) kind: u8,
+    pub(crate) bytes: &'a [u8],
+}
+
+/// A number of two bytes.
+pub(crate) fn u16_in(input: &mut Input<'_>) -> Option<u16>
+    ensures { Gives (number_at w16) input.old result input.new }
+{
+    let front = input.bytes(2)?;
+    Some(u16::from_be_bytes([front[0], front[1]]))
+}
+
+/// An id.
+fn author(input: &mut Input<'_>) -> Option<Author>
+    ensures { Gives author_at input.old result input.new }
+{
+    let id = u16_in(input)?;
+    Author::try_new(id).ok()
+}
+
+fn birth(input: &mut Input<'_>) -> Option<Birth>
+    ensures { Gives (bytes_at 16) input.old result input.new }
+{
+    let front = input.bytes(16)?;
+    let mut birth = [0u8; 16];
+    birth.copy_from_slice(front);
+    Some(birth)
+}
+
+fn mark(input: &mut Input<'_>) -> Option<Mark>
+    ensures { Gives (bytes_at 32) input.old result input.new }
+{
+    let front = input.bytes(32)?;
+    let mut mark = [0u8; 32];
+    mark.copy_from_slice(front);
+    Some(mark)
+}
+
+/// The text of these bytes, if they are UTF-8.
+#[tactic(auto, using(mr_wire::proofs::MessageLemmas::no_text, mr_wire::proofs::MessageLemmas::is_text))]
+fn text_of(bytes: &[u8]) -> Option<&str>
+    ensures { MatchOption result (is_utf8 bytes.now ≡ false) (λ text. (text.now ≡ bytes.now) × (is_utf8 bytes.now ≡ true)) }
+{
+    match str::from_utf8(bytes) {
+        Ok(text) => Some(text),
+        Err(_) => None,
+    }
+}
+
+fn filter_text<'a>(input: &mut Input<'a>) -> Option<&'a str>
+    ensures { Gives filter_text_at input.old (option_copied result) input.new }
+{
+    let len = input.u32()? as usize;
+    let bytes = input.bytes(len)?;
+    text_of(bytes)
+}
+
+/// A head behind the number of its format.
+pub(crate) fn head_in<'a>(input: &mut Input<'a>) -> Option<HeadRead<'a>>
+    ensures { Gives head_at input.old (head_seen result) input.new }
+{
+    let id = author(input)?;
+    let event_limit = input.u32()?;
+    let birth = birth(input)?;
+    let mark = mark(input)?;
+    let filter = filter_text(input)?;
+    Some(HeadRead {
+        id,
+        event_limit,
+        birth,
+        mark,
+        filter,
+    })
+}
+
+/// A run of Nexts.
+pub(crate) fn nexts_in(input: &mut Input<'_>) -> Option<NextsRead>
+    ensures { Gives nexts_at input.old (nexts_seen result) input.new }
+{
+    let stream = input.u64()?;
+    let count = input.u32()?;
+    Some(NextsRead { stream, count })
+}
+
+/// A note.
+pub(crate) fn note_in<'a>(input: &mut Input<'a>) -> Option<NoteRead<'a>>
+    ensures { Gives note_at input.old (note_seen result) input.new }
+{
+    let kind = input.u8()?;
+    let len = input.u32()? as usize;
+    let bytes = input.bytes(len)?;
+    Some(NoteRead { kind, bytes })
+}
+
+/// All bytes that are left.
+#[tactic(auto, using(crate::proofs::ReadLemmas::all_taken))]
+pub(crate) fn rest_of<'a>(input: &mut Input<'a>) -> &'a [u8]
+    ensures { result.now ≡ input.old }
+{
+    let count = input.len();
+    match input.bytes(count) {
+        Some(rest) => rest,
+        None => unreachable!(),
+    }
+}
