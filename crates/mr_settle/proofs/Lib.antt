@@ -1,0 +1,14 @@
+pub mod ListLemmas
+pub mod PoolLemmas
+pub mod PutLemmas
+pub mod ProgressLemmas
+pub mod StartLemmas
+pub mod AdmitLemmas
+pub mod NamedLemmas
+pub mod MoveLemmas
+pub mod LogLemmas
+pub mod WayLemmas
+pub mod ArriveLemmas
+pub mod RetireLemmas
+pub mod MomentLemmas
+pub mod KeptLemmas

@@ -1,0 +1,168 @@
+-- The numbers of a pool that grows.
+use Rattle.std.proofs.Common.{◌≡◌, ◌≢◌, ◌≤◌, ◌<◌, refl, sym, ap, subst, ◌∙◌, ◌+◌, ◌==◌, cond, arith, ℕ, suc, Bool, true, false, List, [], ◌∷◌, length, Option, Some, None, inl, inr, ◌⊎◌, eqb-true, eq-eqb}
+use Rattle.std.specs.Prelude.{is_none}
+use Rattle.mr_model.specs.Moment.{numbered}
+use Rattle.mr_model.specs.Rules.{In}
+use Rattle.mr_wire.specs.Grammar.{Spells}
+use Rattle.mr_wire.specs.declared.frame.Frame.{Frame}
+use Rattle.mr_wire.proofs.DecodeLaws.{begins_no_other, spelled_once}
+use Rattle.std.specs.Str.{bytes_eq}
+use Rattle.std.proofs.lemmas.Slice.Eq.{bytes_eq-Decides}
+use Rattle.mr_world.specs.Pool.{GivesFrame}
+use Rattle.mr_settle.specs.Numbers.{Numbering, Puts, Tells, KeepsUp, Grew, no_numbers}
+
+not_none : {A : Type 0} (x : A) → (let o : Option A = Some x in o ≡ None) → ⊥
+not_none x e = cc
+
+some_is : {A : Type 0} (o : Option A) → o ≢ None → (x : A) × (o ≡ Some x)
+some_is None h = absurd (h refl)
+some_is (Some x) h = (x, refl)
+
+some_same : (n m : ℕ) → (let o : Option ℕ = Some n in o ≡ Some m) → n ≡ m
+some_same n m e = cc
+
+same_bytes : (a b : List ℕ) → (a ≡ b) ⊎ (a ≢ b)
+same_bytes a b = by (bytes_eq a b) refl
+  where
+    by : (t : Bool) → bytes_eq a b ≡ t → (a ≡ b) ⊎ (a ≢ b)
+    by true e = inl ((bytes_eq-Decides a b).0 e)
+    by false e = inr (λ is. absurd (differ e ((bytes_eq-Decides a b).1 is)))
+      where
+        differ : bytes_eq a b ≡ false → bytes_eq a b ≡ true → ⊥
+        differ x y = cc
+
+module _ {A : Type 0} where
+  -- ---- numbers
+
+  pub numbered_within : (xs : List A) (n : ℕ) (x : A) → numbered xs n ≡ Some x → n ≤ length xs
+  numbered_within [] n x e = absurd (not_none x (sym e))
+  numbered_within (y ∷ older) n x e = by (n == length older + 1) refl e (numbered_within older n x)
+    where
+      by : (b : Bool) → (n == length older + 1) ≡ b → cond b (Some y) (numbered older n) ≡ Some x → (numbered older n ≡ Some x → n ≤ length older) → n ≤ length (y ∷ older)
+      by true is h below = let at = eqb-true n (length older + 1) is in omega (arith, at)
+      by false is h below = let low = below h in omega (arith, low)
+
+  -- an older number stays
+  pub numbered_front : (y : A) (xs : List A) (n : ℕ) (x : A) → numbered xs n ≡ Some x → numbered (y ∷ xs) n ≡ Some x
+  numbered_front y xs n x e =
+      let within = numbered_within xs n x e in
+      let other : (n == length xs + 1) ≡ false = by (n == length xs + 1) refl within in
+      rw other e
+    where
+      by : (b : Bool) → (n == length xs + 1) ≡ b → n ≤ length xs → b ≡ false
+      by true is within = let at = eqb-true n (length xs + 1) is in absurd (omega (arith, at, within))
+      by false is within = refl
+
+  pub numbered_in : (xs : List A) (n : ℕ) (x : A) → numbered xs n ≡ Some x → In x xs
+  numbered_in [] n x e = absurd (not_none x (sym e))
+  numbered_in (y ∷ older) n x e = by (n == length older + 1) e (numbered_in older n x)
+    where
+      by : (b : Bool) → cond b (Some y) (numbered older n) ≡ Some x → (numbered older n ≡ Some x → In x older) → In x (y ∷ older)
+      by true h later = inl cc
+      by false h later = inr (later h)
+
+  pub numbered_newest : (x : A) (xs : List A) → numbered (x ∷ xs) (length (x ∷ xs)) ≡ Some x
+  numbered_newest x xs = let is : (length (x ∷ xs) == length xs + 1) ≡ true = eq-eqb (length (x ∷ xs)) (length xs + 1) (omega arith) in rw is refl
+
+  pub numbered_grew : (xs ys : List A) (n : ℕ) (x : A) → Grew xs ys → numbered xs n ≡ Some x → numbered ys n ≡ Some x
+  numbered_grew xs ys n x (inl same) e = rw same e
+  numbered_grew xs ys n x (inr more) e = rw more.1 (numbered_front more.0 xs n x e)
+
+  pub number_stays : (xs ys : List A) (n : ℕ) → Grew xs ys → is_none (numbered xs n) ≡ false → numbered ys n ≡ numbered xs n
+  number_stays xs ys n grew there = by (numbered xs n) refl there
+    where
+      by : (o : Option A) → numbered xs n ≡ o → is_none o ≡ false → numbered ys n ≡ numbered xs n
+      by None e h = cc (h)
+      by (Some x) e h = numbered_grew xs ys n x grew e ∙ sym e
+
+  -- ---- spellings
+
+  module _ (frame_of : A → Frame) (value_of : (x y : A) → frame_of x ≡ frame_of y → x ≡ y) where
+    -- some bytes spell one thing
+    pub one_spelled : (x y : A) (bytes : List ℕ) → Spells 2 (frame_of x) bytes → Spells 2 (frame_of y) bytes → x ≡ y
+    one_spelled x y bytes h k = value_of x y (begins_no_other 2 2 (frame_of x) (frame_of y) bytes bytes [] [] h k refl).1
+
+    pub nothing_told : Tells frame_of [] no_numbers
+    nothing_told = record { found = λ bytes n e. absurd (not_none n (sym e)); all = λ x i. absurd i }
+
+    -- where the newest is one more, the numbers tell of it too
+    tells_more : (pool : List A) (x : A) (bytes : List ℕ) (old new : Numbering) → Tells frame_of pool old → Spells 2 (frame_of x) bytes
+        → ((old bytes ≢ None) × (new ≡ old)) ⊎ Puts old bytes (length (x ∷ pool)) new → Tells frame_of (x ∷ pool) new
+    tells_more pool x bytes old new tells spells (inl had) = record {
+      found = λ other n e.
+          let was = tells.found other n (sym (ap (λ (f : Numbering). f other) had.1) ∙ e) in
+          (was.0, numbered_front x pool n was.0 was.1, was.2);
+      all = all;
+    }
+      where
+        all : (y : A) → In y (x ∷ pool) → (other : List ℕ) × Spells 2 (frame_of y) other × (new other ≢ None)
+        all y (inl is) = (bytes, subst (λ (z : A). Spells 2 (frame_of z) bytes) is spells, λ none. had.0 (sym (ap (λ (f : Numbering). f bytes) had.1) ∙ none))
+        all y (inr i) = let was = tells.all y i in (was.0, was.1, λ none. was.2 (sym (ap (λ (f : Numbering). f was.0) had.1) ∙ none))
+    tells_more pool x bytes old new tells spells (inr puts) = record { found = found; all = all }
+      where
+        found : (other : List ℕ) (n : ℕ) → new other ≡ Some n → (y : A) × (numbered (x ∷ pool) n ≡ Some y) × Spells 2 (frame_of y) other
+        found other n e = elim (same_bytes other bytes) [
+          | inl is ↦ (
+              let number : n ≡ length (x ∷ pool) = some_same n (length (x ∷ pool)) (sym e ∙ ap new is ∙ puts.is) in
+              (x, ap (numbered (x ∷ pool)) number ∙ numbered_newest x pool, subst (Spells 2 (frame_of x)) (sym is) spells))
+          | inr ne ↦ (
+              let was = tells.found other n (sym (puts.others other ne) ∙ e) in
+              (was.0, numbered_front x pool n was.0 was.1, was.2))
+        ]
+
+        all : (y : A) → In y (x ∷ pool) → (other : List ℕ) × Spells 2 (frame_of y) other × (new other ≢ None)
+        all y (inl is) = (bytes, subst (λ (z : A). Spells 2 (frame_of z) bytes) is spells, λ none. not_none (length (x ∷ pool)) (sym puts.is ∙ none))
+        all y (inr i) =
+            let was = tells.all y i in (
+              was.0,
+              was.1,
+              λ none. elim (same_bytes was.0 bytes) [
+                | inl is ↦ not_none (length (x ∷ pool)) (sym puts.is ∙ ap new (sym is) ∙ none)
+                | inr ne ↦ was.2 (sym (puts.others was.0 ne) ∙ none)
+              ],
+            )
+
+    -- where the newest was told already, nothing changes what is told
+    tells_again : (pool : List A) (x : A) (bytes : List ℕ) (old new : Numbering) → Tells frame_of pool old → numbered pool (length pool) ≡ Some x → Spells 2 (frame_of x) bytes
+        → ((old bytes ≢ None) × (new ≡ old)) ⊎ Puts old bytes (length pool) new → Tells frame_of pool new
+    tells_again pool x bytes old new tells is spells (inl had) = subst (Tells frame_of pool) (sym had.1) tells
+    tells_again pool x bytes old new tells newest spells (inr puts) = record { found = found; all = all }
+      where
+        found : (other : List ℕ) (n : ℕ) → new other ≡ Some n → (y : A) × (numbered pool n ≡ Some y) × Spells 2 (frame_of y) other
+        found other n e = elim (same_bytes other bytes) [
+          | inl is ↦ (
+              let number : n ≡ length pool = some_same n (length pool) (sym e ∙ ap new is ∙ puts.is) in
+              (x, ap (numbered pool) number ∙ newest, subst (Spells 2 (frame_of x)) (sym is) spells))
+          | inr ne ↦ tells.found other n (sym (puts.others other ne) ∙ e)
+        ]
+
+        all : (y : A) → In y pool → (other : List ℕ) × Spells 2 (frame_of y) other × (new other ≢ None)
+        all y i =
+            let was = tells.all y i in (
+              was.0,
+              was.1,
+              λ none. elim (same_bytes was.0 bytes) [
+                | inl is ↦ not_none (length pool) (sym puts.is ∙ ap new (sym is) ∙ none)
+                | inr ne ↦ was.2 (sym (puts.others was.0 ne) ∙ none)
+              ],
+            )
+
+    -- the numbers tell of a pool that grew, once they have kept up with its newest
+    pub tells_on : (pool grown : List A) (newest : Option (List ℕ)) (old new : Numbering) → Tells frame_of pool old → Grew pool grown
+        → GivesFrame frame_of (numbered grown (length grown)) newest → KeepsUp old newest (length grown) new → Tells frame_of grown new
+    tells_on pool grown newest old new tells (inr more) gives keeps = on_more newest gives keeps
+      where
+        on_more : (newest : Option (List ℕ)) → GivesFrame frame_of (numbered grown (length grown)) newest → KeepsUp old newest (length grown) new → Tells frame_of grown new
+        on_more None gives keeps = absurd (subst (λ (o : Option A). GivesFrame frame_of o None) (ap (λ (xs : List A). numbered xs (length xs)) more.1 ∙ numbered_newest more.0 pool) gives)
+        on_more (Some bytes) gives keeps =
+            let spells = subst (λ (o : Option A). GivesFrame frame_of o (Some bytes)) (ap (λ (xs : List A). numbered xs (length xs)) more.1 ∙ numbered_newest more.0 pool) gives in
+            subst (λ (xs : List A). Tells frame_of xs new) (sym more.1) (tells_more pool more.0 bytes old new tells spells (subst (λ (xs : List A). ((old bytes ≢ None) × (new ≡ old)) ⊎ Puts old bytes (length xs) new) more.1 keeps))
+    tells_on pool grown newest old new tells (inl same) gives keeps = subst (λ (xs : List A). Tells frame_of xs new) (sym same) (on_same newest (subst (λ (xs : List A). GivesFrame frame_of (numbered xs (length xs)) newest) same gives) (subst (λ (xs : List A). KeepsUp old newest (length xs) new) same keeps))
+      where
+        on_same : (newest : Option (List ℕ)) → GivesFrame frame_of (numbered pool (length pool)) newest → KeepsUp old newest (length pool) new → Tells frame_of pool new
+        on_same None gives keeps = subst (Tells frame_of pool) (sym keeps) tells
+        on_same (Some bytes) gives keeps = by (numbered pool (length pool)) refl gives
+          where
+            by : (o : Option A) → numbered pool (length pool) ≡ o → GivesFrame frame_of o (Some bytes) → Tells frame_of pool new
+            by None is gives = absurd gives
+            by (Some x) is gives = tells_again pool x bytes old new tells is gives keeps

@@ -1,0 +1,104 @@
+-- Specifications of replicas that have ids of their own are not refused.
+use Rattle.std.proofs.Common.{◌≡◌, ◌≢◌, ◌≤◌, ◌<◌, refl, sym, ap, ◌∙◌, ◌==◌, ◌||◌, ◌↔◌, arith, ℕ, nat_lt, Bool, true, false, if◌then◌else◌, List, [], ◌∷◌, Option, Some, None, IsTrue, not, eqb-true, eq-eqb}
+use Rattle.std.specs.Prelude.{All, AllPairs}
+use Rattle.std.specs.List.{list_any, AllZip}
+use Rattle.std.proofs.lemmas.Bool.{le-ltb}
+use Rattle.std.proofs.lemmas.List.Elements.{All-nil, All-cons, All-head, All-tail}
+use Rattle.std.proofs.lemmas.List.Kept.{AllPairs-cons}
+use Rattle.mr_forms.proofs.PartLemmas.{AllPairs-head, AllPairs-tail}
+use Rattle.mr_feed.specs.declared.port.TheConstants.{MAX_CAPACITY}
+use Rattle.mr_replica.specs.State.{State}
+use Rattle.mr_replica.specs.declared.replica.TheConstants.{MAX_EVENTS}
+use Rattle.mr_world.specs.Made.{has_same_id, has_bad_limit, has_bad_capacity, spec_refusal}
+use Rattle.mr_world.specs.declared.spec.Spec.{Spec}
+use Rattle.mr_settle.specs.History.{IsSpecOf}
+use Rattle.mr_settle.specs.Explains.{AreDistinct, share_id}
+use Rattle.mr_settle.specs.Way.{HasGoodLimit}
+
+pub eqb-false_of : (a b : ℕ) → a ≢ b → (a == b) ≡ false
+eqb-false_of a b ne = by (a == b) refl
+  where
+    by : (t : Bool) → (a == b) ≡ t → t ≡ false
+    by true h = absurd (ne (eqb-true a b h))
+    by false h = refl
+
+limit_good : (spec : Spec) → HasGoodLimit spec → has_bad_limit spec ≡ false
+limit_good spec h =
+    let some : (spec.event_limit == 0) ≡ false = eqb-false_of spec.event_limit 0 (λ e. absurd (omega (arith, e, h.0))) in
+    let few : nat_lt MAX_EVENTS spec.event_limit ≡ false = le-ltb MAX_EVENTS spec.event_limit h.1 in
+    rw (some, few) refl
+
+none_bad : (ps : List Spec) → All HasGoodLimit ps → list_any has_bad_limit ps ≡ false
+none_bad [] all = refl
+none_bad (p ∷ ps) all = let first = limit_good p (All-head HasGoodLimit p ps all) in ap (λ (b : Bool). b || list_any has_bad_limit ps) first ∙ none_bad ps (All-tail HasGoodLimit p ps all)
+
+module _ {K : Type 0} where
+  no_other : (id : ℕ) (xs : List (State K)) (ps : List Spec) → AllZip IsSpecOf xs ps → All (λ z. id ≢ z.id) xs → list_any (λ other. other.id == id) ps ≡ false
+  no_other id [] [] are all = refl
+  no_other id [] (p ∷ ps) are all = absurd are
+  no_other id (x ∷ xs) [] are all = absurd are
+  no_other id (x ∷ xs) (p ∷ ps) are all =
+      let ne = All-head (λ (z : State K). id ≢ z.id) x xs all in
+      let first : (p.id == id) ≡ false = eqb-false_of p.id id (λ e. ne (sym e ∙ are.0.id)) in
+      rw first (no_other id xs ps are.1 (All-tail (λ (z : State K). id ≢ z.id) x xs all))
+
+  none_same : (xs : List (State K)) (ps : List Spec) → AreDistinct xs → AllZip IsSpecOf xs ps → has_same_id ps ≡ false
+  none_same [] [] distinct are = refl
+  none_same [] (p ∷ ps) distinct are = absurd are
+  none_same (x ∷ xs) [] distinct are = absurd are
+  none_same (x ∷ xs) (p ∷ ps) distinct are =
+      let none : list_any (λ other. other.id == x.id) ps ≡ false = no_other x.id xs ps are.1 (AllPairs-head (λ (a b : State K). a.id ≢ b.id) x xs distinct) in
+      let rest = none_same xs ps (AllPairs-tail (λ (a b : State K). a.id ≢ b.id) x xs distinct) are.1 in
+      ap (λ (i : ℕ). list_any (λ other. other.id == i) ps || has_same_id ps) are.0.id ∙ ap (λ (b : Bool). b || has_same_id ps) none ∙ rest
+
+  none_small : (xs : List (State K)) (ps : List Spec) → AllZip IsSpecOf xs ps → list_any has_bad_capacity ps ≡ false
+  none_small [] [] are = refl
+  none_small [] (p ∷ ps) are = absurd are
+  none_small (x ∷ xs) [] are = absurd are
+  none_small (x ∷ xs) (p ∷ ps) are =
+      let first : has_bad_capacity p ≡ false = ap (λ (n : ℕ). (n == 0) || nat_lt MAX_CAPACITY n) are.0.port_capacity in
+      ap (λ (b : Bool). b || list_any has_bad_capacity ps) first ∙ none_small xs ps are.1
+
+  pub none_refused : (xs : List (State K)) (ps : List Spec) → AreDistinct xs → AllZip IsSpecOf xs ps → All HasGoodLimit ps → spec_refusal ps ≡ None
+  none_refused xs ps distinct are limits = rw (none_same xs ps distinct are, none_bad ps limits, none_small xs ps are) refl
+
+  -- ---- ids by a test
+
+  none_has : (id : ℕ) (xs : List (State K)) → list_any (λ z. z.id == id) xs ≡ false → All (λ z. id ≢ z.id) xs
+  none_has id [] h = All-nil (λ (z : State K). id ≢ z.id)
+  none_has id (x ∷ xs) h = by (x.id == id) refl h (none_has id xs)
+    where
+      differ : x.id ≡ id → (x.id == id) ≡ false → ⊥
+      differ same apart = cc (apart, eq-eqb x.id id same)
+
+      by : (b : Bool) → (x.id == id) ≡ b → (b || list_any (λ z. z.id == id) xs) ≡ false → (list_any (λ z. z.id == id) xs ≡ false → All (λ z. id ≢ z.id) xs) → All (λ (z : State K). id ≢ z.id) (x ∷ xs)
+      by true is e rest = cc (e)
+      by false is e rest = All-cons (λ (z : State K). id ≢ z.id) x xs (λ same. differ (sym same) is) (rest e)
+
+  some_has : (id : ℕ) (xs : List (State K)) → list_any (λ z. z.id == id) xs ≡ true → All (λ z. id ≢ z.id) xs → ⊥
+  some_has id [] h all = cc (h)
+  some_has id (x ∷ xs) h all = by (x.id == id) refl h (λ e. some_has id xs e (All-tail (λ (z : State K). id ≢ z.id) x xs all))
+    where
+      by : (b : Bool) → (x.id == id) ≡ b → (b || list_any (λ z. z.id == id) xs) ≡ true → (list_any (λ z. z.id == id) xs ≡ true → ⊥) → ⊥
+      by true is e rest = All-head (λ (z : State K). id ≢ z.id) x xs all (sym (eqb-true x.id id is))
+      by false is e rest = rest e
+
+  share_none : (xs : List (State K)) → share_id xs ≡ false → AreDistinct xs
+  share_none [] h = λ i j d less within. absurd (omega (arith, within))
+  share_none (x ∷ xs) h = by (list_any (λ z. z.id == x.id) xs) refl h (share_none xs)
+    where
+      by : (b : Bool) → list_any (λ z. z.id == x.id) xs ≡ b → (b || share_id xs) ≡ false → (share_id xs ≡ false → AreDistinct xs) → AreDistinct (x ∷ xs)
+      by true is e rest = cc (e)
+      by false is e rest = AllPairs-cons (λ (a b : State K). a.id ≢ b.id) x xs (none_has x.id xs is) (rest e)
+
+  share_some : (xs : List (State K)) → share_id xs ≡ true → AreDistinct xs → ⊥
+  share_some [] h distinct = cc (h)
+  share_some (x ∷ xs) h distinct = by (list_any (λ z. z.id == x.id) xs) refl h (λ e. share_some xs e (AllPairs-tail (λ (a b : State K). a.id ≢ b.id) x xs distinct))
+    where
+      by : (b : Bool) → list_any (λ z. z.id == x.id) xs ≡ b → (b || share_id xs) ≡ true → (share_id xs ≡ true → ⊥) → ⊥
+      by true is e rest = some_has x.id xs is (AllPairs-head (λ (a b : State K). a.id ≢ b.id) x xs distinct)
+      by false is e rest = rest e
+
+  pub distinct_by : (xs : List (State K)) (b : Bool) → b ≡ share_id xs → IsTrue (not b) ↔ AreDistinct xs
+  distinct_by xs true is = (λ h. cc (h), λ distinct. absurd (share_some xs (sym is) distinct))
+  distinct_by xs false is = (λ h. share_none xs (sym is), λ distinct. refl)

@@ -1,0 +1,116 @@
+//! What the replicas of a world gave so far: the numbers of all frames.
+ghost use Rattle.std.specs.Prelude.{◌≡◌, IfOk, OnOk};
+ghost use Rattle.std.specs.Option.{option_copied};
+ghost use Rattle.mr_settle.specs.Carried.{carried, HasBytes};
+ghost use Rattle.mr_settle.specs.Numbers.{numbering, found_in, KeepsUp};
+ghost use Rattle.mr_settle.specs.Named.{Names, given_by, nothing_given};
+ghost use Rattle.mr_settle.specs.Way.{NotesNewest};
+
+use crate::numbers::Numbers;
+use mr_forms::Knowledge;
+use mr_replica::Event as ReplicaEvent;
+use mr_version::Author;
+use mr_world::{Event, World};
+use std::alloc::{AllocError, Global};
+
+/// The numbers of the frames of each pool.
+#[derive(Drop)]
+pub struct Given {
+    pub asks: Numbers,
+    pub records: Numbers,
+    pub receipts: Numbers,
+}
+
+impl Given {
+    /// Nothing was given.
+    pub fn new(alloc: Global) -> Given
+        ensures { given_by result ≡ nothing_given }
+    {
+        Given {
+            asks: Numbers::new(alloc),
+            records: Numbers::new(alloc),
+            receipts: Numbers::new(alloc),
+        }
+    }
+
+    /// Gives the newest frame of each pool its number.
+    pub fn note_newest<K: Knowledge>(
+        &mut self,
+        alloc: Global,
+        world: &World<K>,
+    ) -> Result<(), AllocError>
+        ensures { OnOk result (NotesNewest (given_by self.old) world.now (given_by self.new)) }
+    {
+        let asks = world.ask_count();
+        keep_up(alloc, &mut self.asks, world.ask(asks), asks)?;
+        let records = world.record_count();
+        keep_up(alloc, &mut self.records, world.record(records), records)?;
+        let receipts = world.receipt_count();
+        keep_up(alloc, &mut self.receipts, world.receipt(receipts), receipts)
+    }
+
+    /// The world's event by which the replica does this, if the frame that it carries, of these bytes, was given.
+    pub fn named(
+        &self,
+        id: Author,
+        event: &ReplicaEvent,
+        frame: Option<&[u8]>,
+    ) -> Result<Option<Event>, AllocError>
+        requires { HasBytes (carried event.now) (option_copied frame) }
+        ensures { IfOk result (Names (given_by self.now) id event.now) }
+    {
+        match event {
+            ReplicaEvent::Create(message) => Ok(Some(Event::Create(id, message.copy()?))),
+            ReplicaEvent::Edit(bases, message) => {
+                Ok(Some(Event::Edit(id, bases.copy()?, message.copy()?)))
+            }
+            ReplicaEvent::Retire => Ok(Some(Event::Retire(id))),
+            ReplicaEvent::Pull => Ok(Some(Event::Pull(id))),
+            ReplicaEvent::Receive(_) => {
+                let number = number_of(&self.records, frame);
+                Ok(number.map(|number| Event::Receive(id, number)))
+            }
+            ReplicaEvent::CutIn(session) => Ok(Some(Event::CutIn(id, *session))),
+            ReplicaEvent::Answer(_) => {
+                let number = number_of(&self.asks, frame);
+                Ok(number.map(|number| Event::Answer(id, number)))
+            }
+            ReplicaEvent::Next(stream) => Ok(Some(Event::Next(id, *stream))),
+            ReplicaEvent::CutOut(stream) => Ok(Some(Event::CutOut(id, *stream))),
+            ReplicaEvent::Vouch(version) => Ok(Some(Event::Vouch(id, *version))),
+            ReplicaEvent::Release(_) => {
+                let number = number_of(&self.receipts, frame);
+                Ok(number.map(|number| Event::Release(id, number)))
+            }
+        }
+    }
+}
+
+// The number of the frame of these bytes, if it was given.
+fn number_of(numbers: &Numbers, frame: Option<&[u8]>) -> Option<u64>
+    ensures { result ≡ found_in (numbering numbers.now) (option_copied frame.entry) }
+{
+    match frame {
+        Some(frame) => numbers.find(frame),
+        None => None,
+    }
+}
+
+// Gives the newest frame of a pool its number, where it has none.
+fn keep_up(
+    alloc: Global,
+    numbers: &mut Numbers,
+    newest: Option<&[u8]>,
+    count: u64,
+) -> Result<(), AllocError>
+    ensures { OnOk result (KeepsUp (numbering numbers.old) (option_copied newest.entry) count (numbering numbers.new)) }
+{
+    let Some(frame) = newest else {
+        return Ok(());
+    };
+    if numbers.find(frame).is_some() {
+        return Ok(());
+    }
+    let frame = Vec::from_slice(alloc, frame)?;
+    numbers.put(frame, count)
+}
