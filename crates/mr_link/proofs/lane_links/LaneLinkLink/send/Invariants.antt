@@ -1,0 +1,5 @@
+use Rattle.std.proofs.Common.{◌≡◌}
+use Rattle.mr_link.proofs.lane_links.LaneLinkLink.send.Given as goal
+
+abbrev pub invariant-loop : goal.invariant-loop
+invariant-loop g l = (l.self ≡ l.fn.self) × (l.piece.items ≡ l.fn.bytes)

@@ -1,0 +1,16 @@
+use Rattle.std.proofs.Common.{Err, subst, sym}
+use Rattle.mr_wire.specs.Grammar.{Spells}
+use Rattle.mr_wire.specs.declared.frame.Frame.TheVariants as frame
+use Rattle.mr_link.specs.Wire.{wire_of, WritesFrame}
+use Rattle.mr_link.proofs.Reading.{frame_unsent}
+use Rattle.mr_link.proofs.wire.Wire.send_ask.Goals as goal
+
+pub returns-in-Ok : goal.returns-in-Ok
+returns-in-Ok g c =
+    c.send_bytes.ensures.written 2 (frame.Ask c.args.ask.now) (subst (λ bytes. Spells 2 (frame.Ask c.args.ask.now) bytes) (sym c.deref.ensures.value) c.in-Ok.ensures.spelled)
+
+pub returns-in-Err : goal.returns-in-Err
+returns-in-Err g c =
+    let w = wire_of g.L.Link.tells c.args.self.now in
+    subst (λ s. WritesFrame w (frame.Ask c.args.ask.now) (Err s) w) (sym c.snag_of_encoding.ensures)
+    (frame_unsent w (frame.Ask c.args.ask.now) c.in-Err.fault c.in-Err.ensures.exact)

@@ -1,0 +1,45 @@
+-- ends of a link over lanes
+use Rattle.std.specs.Prelude.{◌≡◌, ℕ, List, [], Some}
+use Rattle.std.specs.List.{flat_map}
+use Rattle.std.specs.Global.{Vec}
+use Rattle.atomic_table.specs.Seated.{TableId}
+use Rattle.mr_lane.specs.Tap.{TapEnd}
+use Rattle.mr_link.specs.Link.{LinkView, with_down}
+
+-- the bytes of these pieces
+abbrev pub bytes_in : List (Vec ℕ) → List ℕ
+bytes_in pieces = flat_map (λ (piece : Vec ℕ). piece.items) pieces
+
+-- an end: the lane to which it sends, the one from which it receives, how many pieces may wait for its other end, and what it tells
+pub record LaneEnd : Type 0 where
+  pub sends_to : TableId
+  pub receives_from : TableId
+  pub capacity : ℕ
+  pub tells : LinkView
+
+abbrev pub lane_tells : LaneEnd → LinkView
+lane_tells end = end.tells
+
+-- the end was down once more
+abbrev pub is_down : LaneEnd → LaneEnd
+is_down end = record end { tells = with_down end.tells }
+
+-- nothing was sent or received yet, and the link was never down
+abbrev pub new_link : LinkView
+new_link = record { received = Some []; sent = Some []; downs = 0 }
+
+-- a new end over these lanes
+pub record IsEndOf (spout tap : TapEnd (Vec ℕ)) (end : LaneEnd) : Type 0 where
+  pub sends_to : end.sends_to ≡ spout.id
+  pub receives_from : end.receives_from ≡ tap.id
+  pub capacity : end.capacity ≡ spout.capacity
+  pub tells : end.tells ≡ new_link
+
+-- two new ends of one link: each sends to the lane from which the other receives
+pub record AreJoined (capacity : ℕ) (here there : LaneEnd) : Type 0 where
+  pub here_to_there : here.sends_to ≡ there.receives_from
+  pub there_to_here : there.sends_to ≡ here.receives_from
+  pub here_capacity : here.capacity ≡ capacity
+  pub there_capacity : there.capacity ≡ capacity
+  pub here_new : here.tells ≡ new_link
+  pub there_new : there.tells ≡ new_link

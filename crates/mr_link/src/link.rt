@@ -1,0 +1,53 @@
+//! What a node's link has to do.
+ghost use Rattle.std.specs.Prelude.{◌≡◌, ◌<◌, ◌+◌, ◌^◌};
+ghost use Rattle.mr_link.specs.Link.{LinkView, Sends, Receives};
+ghost use Rattle.mr_link.specs.Fault.{link_number};
+
+use std::alloc::Global;
+use thiserror::Error;
+
+/// Why a link sent or received nothing.
+#[derive(Clone, Copy, Debug, PartialEq, Eq, Drop, Error)]
+pub enum LinkFault {
+    /// Memory ran out. Nothing was sent or received, and the call may be made again.
+    #[error("out of memory")]
+    OutOfMemory,
+    /// The link is down.
+    #[error("the link is down")]
+    LinkDown,
+}
+
+impl LinkFault {
+    /// The fault's number: 0 where memory ran out, 1 where the link is down.
+    pub fn number(self) -> u8
+        ensures { result ≡ link_number self }
+    {
+        match self {
+            LinkFault::OutOfMemory => 0,
+            LinkFault::LinkDown => 1,
+        }
+    }
+}
+
+/// One end of a stream of bytes in each direction.
+///
+/// It counts how often a call found it down, and may tell what it sent and received: where it tells that, it tells all
+/// of it, in order.
+pub trait Link: Drop {
+    /// What it tells.
+    ghost tells: { Self → LinkView };
+
+    /// Sends all the bytes, or none.
+    fn send(&mut self, alloc: Global, bytes: &[u8]) -> Result<(), LinkFault>
+        requires count { (tells self.old).downs + 1 < 2 ^ 64 }
+        ensures sends { Sends (tells self.old) bytes.now result (tells self.new) };
+
+    /// Some bytes of the stream, as many as it likes.
+    fn receive(&mut self, alloc: Global) -> Result<Vec<u8>, LinkFault>
+        requires count { (tells self.old).downs + 1 < 2 ^ 64 }
+        ensures receives { Receives (tells self.old) result (tells self.new) };
+
+    /// Ends the link, so that nobody waits at its other end. What it tells stays the same.
+    fn hang_up(&mut self)
+        ensures still { tells self.new ≡ tells self.old };
+}
