@@ -1,0 +1,11 @@
+use Rattle.mr_node.proofs.Hosting.{log_grows}
+use Rattle.mr_node.proofs.replica_core.run_core.Goals as goal
+
+pub returns : goal.returns
+returns g c = record {
+  ran = λ whole.
+      let h = c.run_machine.ensures.ran whole in
+      record { ran = h; log = log_grows g.K.Knowledge.form c.args.core.machine c.run_machine.result.core.machine h.exchanges h.replays };
+  lanes = c.run_machine.ensures.lanes;
+  finished = c.run_machine.ensures.finished;
+}
