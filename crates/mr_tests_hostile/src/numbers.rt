@@ -1,0 +1,44 @@
+//! Numbers, as a seed gives them.
+ghost use Rattle.std.specs.Prelude.{◌≤◌, ◌<◌};
+
+use rand::RngExt;
+use rand_core::SeedableRng;
+use rand_pcg::Pcg32;
+
+/// A generator of numbers.
+#[derive(Drop)]
+pub struct Numbers {
+    generator: Pcg32,
+}
+
+impl Numbers {
+    /// The generator with this seed.
+    pub fn from_seed(seed: u64) -> Numbers {
+        Numbers {
+            generator: Pcg32::seed_from_u64(seed),
+        }
+    }
+
+    /// The next number, which is below the limit.
+    pub fn below(&mut self, limit: u32) -> u32
+        requires { 1 ≤ limit }
+        ensures { result < limit }
+    {
+        self.generator.random_range(0..limit)
+    }
+
+    /// The next place, which is below the limit.
+    pub fn place_below(&mut self, limit: usize) -> usize
+        requires { 1 ≤ limit }
+        ensures { result < limit }
+    {
+        self.generator.random_range(0..limit)
+    }
+
+    /// Whether a thing that happens once in so many times happens now.
+    pub fn is_once_in(&mut self, times: u32) -> bool
+        requires { 1 ≤ times }
+    {
+        self.below(times) == 0
+    }
+}
