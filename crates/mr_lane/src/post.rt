@@ -57,6 +57,13 @@ pub struct Posts<T> {
 }
 
 impl<T: Drop> Post<T> {
+    /// Whose post it is.
+    pub fn sender(&self) -> Sender
+        ensures { result ≡ self.now.sender }
+    {
+        self.sender
+    }
+
     /// Sends a letter.
     ///
     /// A finished post hands it back as `Ended`. Where the inbox is full at one moment of the

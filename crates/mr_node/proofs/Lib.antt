@@ -1,1 +1,6 @@
 pub mod Hosting
+pub mod Moving
+pub mod Sending
+pub mod Talking
+pub mod Stepping
+pub mod Linking

@@ -1,3 +1,9 @@
 pub mod Machine
 pub mod CoreRun
+pub mod Saying
+pub mod Turn
+pub mod Stop
+pub mod Step
+pub mod Voice
+pub mod Thread
 pub mod Rows

@@ -1,0 +1,24 @@
+use Rattle.std.proofs.Common.{◌≡◌, ◌∙◌, Result, ap, subst}
+use Rattle.std.proofs.lemmas.Result.{IfOk-weaker}
+use Rattle.mr_link.specs.Wire.{wire_of}
+use Rattle.mr_replica.specs.declared.event.Reply.{Reply}
+use Rattle.mr_replica.specs.declared.refusal.Refusal.{Refusal}
+use Rattle.mr_node.specs.Turn.{advanced}
+use Rattle.mr_node.specs.Step.{ComesOf}
+use Rattle.mr_node.proofs.exchange.exchange.Goals as goal
+
+pub returns-clause-so : goal.returns-clause-so
+returns-clause-so g c =
+    let one = c.in_ok-say.ensures.ok in
+    let last = c.in-Some.ensures c.args.talk.now.replies.items one.0 one.1.replies in
+    let same : c.in-Some.answer.now ≡ one.0 = cc in
+    let old = wire_of g.L.Link.tells c.args.wire.now in
+    let new = wire_of g.L.Link.tells c.send_answer.new.wire in
+    IfOk-weaker c.send_answer.result _ _
+    (λ stop k. (
+      one.0,
+      one.1,
+      c.in_ok-advance.ensures ∙ ap (λ (a : Result Reply Refusal). advanced c.args.progress.now a) same,
+      subst (λ (a : Result Reply Refusal). ComesOf old a stop new) same k,
+    ))
+    c.send_answer.ensures

@@ -1,0 +1,10 @@
+use Rattle.std.proofs.Common.{[], ◌∷◌, refl, subst}
+use Rattle.mr_wire.specs.declared.frame.Frame.{Frame}
+use Rattle.mr_link.specs.Wire.{wire_of, PassesWell}
+use Rattle.mr_node.proofs.next_move.fetch_receipt.Goals as goal
+
+pub returns-in-Receipt : goal.returns-in-Receipt
+returns-in-Receipt g c = λ may. (
+  (c.in-Receipt.receipt, refl),
+  subst (λ (f : Frame). PassesWell (wire_of g.L.Link.tells c.args.wire.now) (f ∷ []) [] (wire_of g.L.Link.tells c.read_frame.new.self)) c.in-Receipt.is c.in-Ok.ensures,
+)
