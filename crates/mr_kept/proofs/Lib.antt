@@ -1,0 +1,6 @@
+-- lemmas
+pub mod EntryLemmas
+pub mod KeptLemmas
+pub mod CloseLemmas
+pub mod IssuedLemmas
+pub mod OpenLemmas

@@ -1,0 +1,218 @@
+-- journals that are begun, opened and closed
+use Rattle.std.proofs.Common.{Ok, ◌≡◌, ◌⊎◌, inl, inr, ⊎_elim, ℕ, ◌==◌, Bool, true, List, [], ◌∷◌, ◌++◌, length, take, drop, refl, sym, ap, subst, ◌∙◌, arith, append-nil}
+use Rattle.std.specs.Prelude.{MatchBool, map, Vec}
+use Rattle.std.specs.declared.alloc.Global.{Global}
+use Rattle.std.specs.List.{AllByRecursion}
+use Rattle.std.proofs.Math.Seq.{take-length, drop-append_seam}
+use Rattle.std.proofs.lemmas.Bool.{eqb-true, le-leb, leb-true}
+use Rattle.mr_forms.specs.Known.{Form}
+use Rattle.mr_filter.specs.Filter.{ClauseParts}
+use Rattle.mr_filter.specs.Grammar.{Reads}
+use Rattle.mr_journal.specs.Device.{LeavesOnly}
+use Rattle.mr_journal.specs.Format.{StandAlike, Stands, contents}
+use Rattle.mr_journal.specs.Journal.{Keeps, device_of}
+use Rattle.mr_journal.proofs.Moments.{widened}
+use Rattle.mr_entry.specs.Head.{HeadParts}
+use Rattle.mr_entry.specs.Events.{events_of}
+use Rattle.mr_entry.specs.Grammar.{IsEntry, Spells}
+use Rattle.mr_entry.specs.Spelling.{entry_bytes}
+use Rattle.mr_entry.specs.declared.entry.Entry.{Entry}
+use Rattle.mr_entry.specs.declared.entry.Entry.TheVariants as entry
+use Rattle.mr_replica.specs.State.{State}
+use Rattle.mr_replica.specs.Growing.{IsOfSameSetting}
+use Rattle.mr_replica.specs.Replay.{AdmitsAll, Replays}
+use Rattle.mr_replica.specs.declared.event.Event.{Event}
+use Rattle.mr_replica.proofs.Replaying.{step_setting}
+use Rattle.mr_kept.specs.declared.journaled.Journaled.{Journaled}
+use Rattle.mr_kept.specs.Closing.{AreClosed, IsCut, IsFull, Takes, closers}
+use Rattle.mr_kept.specs.Entries.{AreCounted, AreSpelled, entries_of, issued_after}
+use Rattle.mr_kept.specs.Kept.{IsKept, Tells, head_of, issued_of, journal_of, kept_of, nothing_waits, replica_of, waiting}
+use Rattle.mr_kept.specs.Opening.{Begins, GoesOn, HasCut, IsClosedIn, IsReplayed, Reopens}
+use Rattle.mr_kept.proofs.CloseLemmas.{same_setting, setting_on, taken_cuts}
+use Rattle.mr_kept.proofs.EntryLemmas.{bytes_append, events_head}
+use Rattle.mr_kept.proofs.IssuedLemmas.{replayed_issued}
+use Rattle.mr_kept.proofs.KeptLemmas.{kept_on, stands_now}
+
+-- ---- replayed
+
+module _ {K : Type 0} (form : Form K) where
+  all_setting : (s new : State K) (events : List Event) → AdmitsAll form s events new → IsOfSameSetting s new
+  all_setting s new [] h = subst (λ (z : State K). IsOfSameSetting s z) (sym h) (same_setting s)
+  all_setting s new (event ∷ events) h = setting_on s h.0 new (step_setting form s h.0 event (Ok h.1.0) h.1.1) (all_setting h.0 new events h.2)
+
+  -- a replica that was replayed is of the id, the filter and the limit that it was replayed with
+  replayed_setting : (id : ℕ) (filter : List ClauseParts) (event_limit : ℕ) (events : List Event) (s : State K) → Replays form id filter event_limit events s → (s.id ≡ id) × (s.event_limit ≡ event_limit)
+  replayed_setting id filter event_limit events s h =
+      let same = all_setting h.fresh s events h.admits in
+      let fresh = h.is_fresh.is_empty in
+      (same.id ∙ ap (λ (z : State K). z.id) fresh, same.event_limit ∙ ap (λ (z : State K). z.event_limit) fresh)
+
+  replayed_filter : (id : ℕ) (filter : List ClauseParts) (event_limit : ℕ) (events : List Event) (s : State K) → Replays form id filter event_limit events s → s.filter ≡ filter
+  replayed_filter id filter event_limit events s h =
+      let same = all_setting h.fresh s events h.admits in
+      same.filter ∙ ap (λ (z : State K). z.filter) h.is_fresh.is_empty
+
+  -- a head and what was gathered behind it
+  pub is_replayed : (entries rest : List (Vec ℕ Global)) (first : Vec ℕ Global) (head : HeadParts) (list : List Entry) (filter : List ClauseParts) (events : List Event) (kept issued : ℕ) (s : State K)
+      → contents entries ≡ first.items ∷ contents rest → Spells (entry.Head head) first.items → AreSpelled list (contents rest) → AreCounted 0 list → events_of list ≡ events → issued ≡ issued_after 0 events
+      → Reads head.filter filter → kept ≡ length events → Replays form head.id filter head.event_limit events s → s.log ≡ events → IsReplayed form (contents entries) head s kept issued
+  is_replayed entries rest first head list filter events kept issued s texts spells spelled counted told issued_is reads kept_is replays log =
+      let same : s.filter ≡ filter = replayed_filter head.id filter head.event_limit events s replays in
+      record {
+        entries = list;
+        spelled = record { in_grammar = (spells.in_grammar, spelled.in_grammar); written = texts ∙ ap (λ (t : List ℕ). t ∷ contents rest) spells.written ∙ ap (λ (l : List (List ℕ)). entry_bytes (entry.Head head) ∷ l) spelled.written };
+        counted = counted;
+        filter = subst (λ (f : List ClauseParts). Reads head.filter f) (sym same) reads;
+        replays = subst (λ (f : List ClauseParts). Replays form head.id f head.event_limit (events_of list) s) (sym same) (subst (λ (l : List Event). Replays form head.id filter head.event_limit l s) (sym told) replays);
+        log_is = log ∙ sym told;
+        kept_is = kept_is ∙ ap length (sym told);
+        issued_is = issued_is ∙ ap (issued_after 0) (sym told);
+      }
+
+-- ---- what is kept
+
+pub closed_on : {K : Type 0} (s new : State K) → new ≡ s → AreClosed s → AreClosed new
+closed_on {K} s new same closed = subst (λ (z : State K). AreClosed z) (sym same) closed
+
+module _ {K D V : Type 0} where
+  -- all is kept
+  pub none_waits : (j : Journaled K D V) → length (replica_of j).log ≡ kept_of j → nothing_waits j ≡ true
+  none_waits j is = le-leb (length (replica_of j).log) (kept_of j) (omega (arith, is))
+
+  -- what waits once all was kept
+  waits_more : (old mid : Journaled K D V) (more : List Event) → kept_of old ≡ length (replica_of old).log → kept_of mid ≡ kept_of old → (replica_of mid).log ≡ (replica_of old).log ++ more → waiting mid ≡ more
+  waits_more old mid more whole kept log =
+      ap (λ (n : ℕ). drop n (replica_of mid).log) (kept ∙ whole) ∙ ap (drop (length (replica_of old).log)) log ∙ drop-append_seam (replica_of old).log more
+
+module _ {K D V : Type 0} {seen : D → List ℕ} {may_leave : D → List ℕ → Type 0} where
+  all_kept : (entries : List Entry) (j : Journaled K D V) → IsKept seen may_leave entries j → nothing_waits j ≡ true → kept_of j ≡ length (replica_of j).log
+  all_kept entries j h none = omega (arith, leb-true (kept_of j) (length (replica_of j).log) h.within, leb-true (length (replica_of j).log) (kept_of j) none)
+
+  -- what was replayed of a journal's entries
+  pub kept_read : (form : Form K) (texts : List (List ℕ)) (j : Journaled K D V) (is : IsReplayed form texts (head_of j) (replica_of j) (kept_of j) (issued_of j)) → Keeps seen may_leave texts (journal_of j)
+      → IsKept seen may_leave (entry.Head (head_of j) ∷ is.entries) j
+  kept_read form texts j is keeps =
+      let log : List Event = (replica_of j).log in
+      let told : events_of (entry.Head (head_of j) ∷ is.entries) ≡ log = events_head (head_of j) is.entries ∙ sym is.log_is in
+      let len : kept_of j ≡ length log = is.kept_is ∙ ap length (sym is.log_is) in
+      record {
+        in_grammar = is.spelled.in_grammar;
+        device = subst (λ (l : List (List ℕ)). Keeps seen may_leave l (journal_of j)) is.spelled.written keeps;
+        within = le-leb (kept_of j) (length log) (omega (arith, len));
+        events = told ∙ sym (ap (λ (n : ℕ). take n log) len ∙ take-length log);
+        counted = is.issued_is ∙ ap (issued_after 0) (sym (events_head (head_of j) is.entries));
+      }
+
+  -- a journal that is begun has its head
+  pub kept_begun : (head : HeadParts) (j : Journaled K D V) (texts batch : List (List ℕ)) → texts ≡ [] → IsEntry (entry.Head head) → batch ≡ entry_bytes (entry.Head head) ∷ [] → Keeps seen may_leave (texts ++ batch) (journal_of j)
+      → (replica_of j).log ≡ [] → kept_of j ≡ 0 → issued_of j ≡ 0 → head_of j ≡ head → IsKept seen may_leave (entry.Head (head_of j) ∷ []) j
+  kept_begun head j texts batch none is batch_is keeps log kept issued same =
+      let bytes : texts ++ batch ≡ entry_bytes (entry.Head head) ∷ [] = ap (λ (l : List (List ℕ)). l ++ batch) none ∙ batch_is in
+      subst (λ (h : HeadParts). IsKept seen may_leave (entry.Head h ∷ []) j) (sym same)
+      (record {
+        in_grammar = (is, tt);
+        device = subst (λ (l : List (List ℕ)). Keeps seen may_leave l (journal_of j)) bytes keeps;
+        within = le-leb (kept_of j) (length (replica_of j).log) (omega (arith, kept));
+        events = sym (ap (λ (n : ℕ). take n (replica_of j).log) kept);
+        counted = issued;
+      })
+
+  -- ---- what closes
+
+  -- before what closes is kept
+  pub kept_mid : (entries : List Entry) (old mid : Journaled K D V) (all : Bool) → IsKept seen may_leave entries old → journal_of mid ≡ journal_of old → kept_of mid ≡ kept_of old → issued_of mid ≡ issued_of old
+      → Takes (closers (replica_of old)) all (replica_of old) (replica_of mid) → IsKept seen may_leave entries mid
+  kept_mid entries old mid all h journal kept issued takes = kept_on entries old mid takes.more h journal kept issued takes.log_is
+
+  -- and once it is
+  pub closed_in : (entries : List Entry) (old mid new : Journaled K D V) (all : Bool) → IsKept seen may_leave entries old → nothing_waits old ≡ true → kept_of mid ≡ kept_of old → issued_of mid ≡ issued_of old
+      → Takes (closers (replica_of old)) all (replica_of old) (replica_of mid) → replica_of new ≡ replica_of mid → IsKept seen may_leave (entries ++ entries_of (issued_of mid) (waiting mid)) new → IsClosedIn seen may_leave entries all old new
+  closed_in entries old mid new all h none kept issued takes replica after =
+      let waits : waiting mid ≡ takes.more = waits_more old mid takes.more (all_kept entries old h none) kept takes.log_is in
+      let same : entries_of (issued_of mid) (waiting mid) ≡ entries_of (issued_of old) takes.more = ap (entries_of (issued_of mid)) waits ∙ ap (λ (n : ℕ). entries_of n takes.more) issued in
+      let on = subst (λ (s : State K). IsOfSameSetting (replica_of old) s) (sym replica) takes.setting in
+      record {
+        closed = record {
+          more = takes.more;
+          left = takes.left;
+          first = takes.first;
+          log_is = ap (λ (s : State K). s.log) replica ∙ takes.log_is;
+          setting = on;
+          rest = subst (λ (s : State K). MatchBool all (takes.left ≡ []) (IsFull s)) (sym replica) takes.rest;
+        };
+        kept = subst (λ (l : List Entry). IsKept seen may_leave (entries ++ l) new) same after;
+      }
+
+  -- ---- what a crash leaves
+
+  pub cut_now : (entries : List Entry) (j : Journaled K D V) → IsKept seen may_leave entries j → (c : List ℕ) → may_leave (device_of (journal_of j)) c → HasCut (map entry_bytes entries) c
+  cut_now entries j kept c left = record { issued = 0; events = []; cuts = tt; stands = subst (λ (l : List (List ℕ)). Stands l c) (sym (append-nil (map entry_bytes entries))) (stands_now entries j kept c left) }
+
+-- these entries, or those and what closes behind them
+pub cut_left : (entries : List Entry) (issued : ℕ) (events : List Event) (c : List ℕ) → AllByRecursion IsCut events → Stands (map entry_bytes entries) c ⊎ Stands (map entry_bytes (entries ++ entries_of issued events)) c → HasCut (map entry_bytes entries) c
+cut_left entries issued events c cuts here = ⊎_elim
+    (λ now. record { issued = 0; events = []; cuts = tt; stands = subst (λ (l : List (List ℕ)). Stands l c) (sym (append-nil (map entry_bytes entries))) now })
+    (λ all. record { issued = issued; events = events; cuts = cuts; stands = subst (λ (l : List (List ℕ)). Stands l c) (bytes_append entries (entries_of issued events)) all }) here
+
+pub goes_on : (file c : List ℕ) → StandAlike file c → GoesOn file c
+goes_on file c same = (same.0, same.1, record { issued = 0; events = []; cuts = tt; stands = subst (λ (l : List (List ℕ)). Stands l c) (sym (append-nil same.0)) same.2 })
+
+module _ {K D V : Type 0} {seen : D → List ℕ} {may_leave : D → List ℕ → Type 0} {moment : D → ℕ} {left_since : D → ℕ → List ℕ → Type 0} where
+  -- over the commit of what closes
+  pub moments_close : (entries : List Entry) (old mid : Journaled K D V) (all : Bool) (before after : D) → IsKept seen may_leave entries old → nothing_waits old ≡ true → kept_of mid ≡ kept_of old
+      → Takes (closers (replica_of old)) all (replica_of old) (replica_of mid)
+      → LeavesOnly moment left_since before after (λ c. Stands (map entry_bytes entries) c ⊎ Stands (map entry_bytes (entries ++ entries_of (issued_of mid) (waiting mid))) c)
+      → LeavesOnly moment left_since before after (HasCut (map entry_bytes entries))
+  moments_close entries old mid all before after h none kept takes leaves =
+      let waits : waiting mid ≡ takes.more = waits_more old mid takes.more (all_kept entries old h none) kept takes.log_is in
+      let cuts : AllByRecursion IsCut (waiting mid) = subst (λ (l : List Event). AllByRecursion IsCut l) (sym waits) (taken_cuts (replica_of old) (replica_of old) (replica_of mid) all takes) in
+      widened {P = λ c. Stands (map entry_bytes entries) c ⊎ Stands (map entry_bytes (entries ++ entries_of (issued_of mid) (waiting mid))) c} (HasCut (map entry_bytes entries)) leaves (λ c here. cut_left entries (issued_of mid) (waiting mid) c cuts here)
+
+-- ---- opened
+
+module _ {K D V : Type 0} {seen : D → List ℕ} {may_leave : D → List ℕ → Type 0} (form : Form K) where
+  pub reopens : (file : List ℕ) (texts : List (List ℕ)) (all : Bool) (mid new : Journaled K D V) → Stands texts file → (is : IsReplayed form texts (head_of mid) (replica_of mid) (kept_of mid) (issued_of mid))
+      → head_of new ≡ head_of mid → IsClosedIn seen may_leave (entry.Head (head_of mid) ∷ is.entries) all mid new → Reopens form seen may_leave file all new
+  reopens file texts all mid new stood is same closed =
+      let s : State K = replica_of mid in
+      let head : HeadParts = head_of mid in
+      let setting = replayed_setting form head.id s.filter head.event_limit (events_of is.entries) s is.replays in
+      let text : Stands (map entry_bytes (entry.Head head ∷ is.entries)) file = subst (λ (l : List (List ℕ)). Stands l file) is.spelled.written stood in
+      let tells : Tells head s = record { id = setting.0; filter = is.filter; event_limit = setting.1 } in
+      record {
+        entries = is.entries;
+        stood = subst (λ (h : HeadParts). Stands (map entry_bytes (entry.Head h ∷ is.entries)) file) (sym same) text;
+        counted = is.counted;
+        replica = s;
+        tells = subst (λ (h : HeadParts). Tells h s) (sym same) tells;
+        replays = subst (λ (n : ℕ). Replays form n s.filter s.event_limit (events_of is.entries) s) (sym setting.0) (subst (λ (n : ℕ). Replays form head.id s.filter n (events_of is.entries) s) (sym setting.1) is.replays);
+        issued_is = replayed_issued form head.id s.filter head.event_limit (events_of is.entries) s is.replays;
+        closed = closed.closed;
+        kept = subst (λ (h : HeadParts). IsKept seen may_leave ((entry.Head h ∷ is.entries) ++ entries_of (issued_after 0 (events_of is.entries)) closed.closed.more) new) (sym same)
+            (subst (λ (n : ℕ). IsKept seen may_leave ((entry.Head head ∷ is.entries) ++ entries_of n closed.closed.more) new) is.issued_is closed.kept);
+      }
+
+-- ---- begun
+
+pub begins : (file c : List ℕ) (texts batch : List (List ℕ)) (head : HeadParts) → texts ≡ [] → batch ≡ entry_bytes (entry.Head head) ∷ [] → Stands texts file → Stands texts c ⊎ Stands (texts ++ batch) c → StandAlike file c ⊎ Begins file c
+begins file c texts batch head none batch_is stood left = ⊎_elim
+    (λ now. inl (texts, stood, now))
+    (λ all. inr (head, subst (λ (l : List (List ℕ)). Stands l file) none stood, subst (λ (l : List (List ℕ)). Stands l c) (ap (λ (l : List (List ℕ)). l ++ batch) none ∙ batch_is) all)) left
+
+-- no entries have no texts
+no_texts : (l : List (Vec ℕ Global)) → length l ≡ 0 → contents l ≡ []
+no_texts [] none = refl
+no_texts (x ∷ xs) none = absurd (omega (arith, none))
+
+pub empty_texts : (l : List (Vec ℕ Global)) (b : Bool) → b ≡ (length l == 0) → b ≡ true → contents l ≡ []
+empty_texts l b is so = no_texts l (eqb-true (length l) 0 (sym is ∙ so))
+
+pub as_begun : {A B C : Type 0} → A ⊎ B → A ⊎ (B ⊎ C)
+as_begun here = ⊎_elim (λ a. inl a) (λ b. inr (inl b)) here
+
+pub as_going : {A B C : Type 0} → (B → C) → A ⊎ B → A ⊎ C
+as_going from here = ⊎_elim (λ a. inl a) (λ b. inr (from b)) here
+
+-- the entries from before, and behind them what closes
+pub goes_cut : (file c : List ℕ) (texts : List (List ℕ)) (entries : List Entry) → texts ≡ map entry_bytes entries → Stands texts file → HasCut (map entry_bytes entries) c → GoesOn file c
+goes_cut file c texts entries is stood cut = (map entry_bytes entries, subst (λ (l : List (List ℕ)). Stands l file) is stood, cut)

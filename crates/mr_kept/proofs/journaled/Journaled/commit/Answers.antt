@@ -1,0 +1,26 @@
+use Rattle.std.proofs.Common.{ap, refl, ◌∙◌, length}
+use Rattle.std.specs.Prelude.{map}
+use Rattle.mr_journal.specs.Format.{contents}
+use Rattle.mr_journal.specs.Journal.{device_of}
+use Rattle.mr_entry.specs.Spelling.{entry_bytes}
+use Rattle.mr_kept.specs.Entries.{issued_after}
+use Rattle.mr_kept.specs.Kept.{issued_of, journal_of}
+use Rattle.mr_kept.proofs.KeptLemmas.{kept_after, moments_all, spelled_waits, waiting_is}
+use Rattle.mr_kept.proofs.journaled.Journaled.commit.Goals as goal
+
+pub returns-in_err-commit-clause-any_moment : goal.returns-in_err-commit-clause-any_moment
+returns-in_err-commit-clause-any_moment g c = λ told entries kept.
+    let spelled = spelled_waits c.args.self.now c.log-log.result.now c.min.result c.in_ok-batch.batch.entries.items c.deref.result.now c.log-log.ensures.all c.min.ensures c.deref.ensures.value c.in_ok-batch.ensures.spelled in
+    moments_all entries c.args.self.now (contents c.deref.result.now) (device_of (journal_of c.args.self.now)) (device_of c.commit.new.self) spelled (c.commit.ensures.any_moment told (map entry_bytes entries) kept.device)
+
+pub returns-clause-any_moment : goal.returns-clause-any_moment
+returns-clause-any_moment g c = λ told entries kept.
+    let spelled = spelled_waits c.args.self.now c.log-log.result.now c.min.result c.in_ok-batch.batch.entries.items c.deref.result.now c.log-log.ensures.all c.min.ensures c.deref.ensures.value c.in_ok-batch.ensures.spelled in
+    moments_all entries c.args.self.now (contents c.deref.result.now) (device_of (journal_of c.args.self.now)) (device_of c.commit.new.self) spelled (c.commit.ensures.any_moment told (map entry_bytes entries) kept.device)
+
+pub returns-clause-kept : goal.returns-clause-kept
+returns-clause-kept g c = λ told entries kept.
+    let spelled = spelled_waits c.args.self.now c.log-log.result.now c.min.result c.in_ok-batch.batch.entries.items c.deref.result.now c.log-log.ensures.all c.min.ensures c.deref.ensures.value c.in_ok-batch.ensures.spelled in
+    let waits = waiting_is c.args.self.now c.log-log.result.now c.min.result c.log-log.ensures.all c.min.ensures in
+    kept_after entries c.args.self.now _ (contents c.deref.result.now) kept spelled (c.in_ok-commit.ensures.kept told (map entry_bytes entries) kept.device) refl (ap length c.log-log.ensures.all)
+    (c.in_ok-batch.ensures.counted ∙ ap (issued_after (issued_of c.args.self.now)) waits)

@@ -1,0 +1,90 @@
+use Rattle.std.proofs.Common.{◌≡◌, ◌⊎◌, ◌∙◌, ◌∷◌, inr, ℕ, List, ap, length, subst, sym}
+use Rattle.mr_journal.specs.Device.{LeavesOnly}
+use Rattle.mr_journal.specs.Format.{Stands, contents}
+use Rattle.mr_journal.specs.Journal.{Keeps}
+use Rattle.mr_journal.proofs.Moments.{joined, widened}
+use Rattle.mr_entry.specs.Head.{HeadParts}
+use Rattle.mr_entry.specs.declared.entry.Entry.TheVariants as entry
+use Rattle.mr_kept.specs.declared.journaled.Journaled.{Journaled}
+use Rattle.mr_kept.specs.Opening.{GoesOn, IsOfPlace}
+use Rattle.mr_kept.proofs.OpenLemmas.{as_going, goes_cut, goes_on, kept_read, none_waits, reopens}
+use Rattle.mr_kept.proofs.journaled.Journaled.open.Goals as goal
+
+pub returns-in-Err-clause-any_moment : goal.returns-in-Err-clause-any_moment
+returns-in-Err-clause-any_moment g c = λ told.
+    let file = g.D.Device.seen c.args.device in
+    let P : List ℕ → Type 0 = λ f. g.D.Device.may_leave c.args.device f ⊎ GoesOn file f in
+    widened P (c.in-Err.ensures.any_moment told) (λ f here. as_going (goes_on file f) here)
+
+pub returns-in-Err-replay_of-clause-any_moment : goal.returns-in-Err-replay_of-clause-any_moment
+returns-in-Err-replay_of-clause-any_moment g c = λ told.
+    let file = g.D.Device.seen c.args.device in
+    let P : List ℕ → Type 0 = λ f. g.D.Device.may_leave c.args.device f ⊎ GoesOn file f in
+    subst (λ d. LeavesOnly g.D.Device.moment g.D.Device.left_since c.args.device d P) (sym c.into_device.ensures) (widened P (c.in-Ok.ensures.any_moment told) (λ f here. as_going (goes_on file f) here))
+
+pub close-requires : goal.close-requires
+close-requires g c =
+    let found = c.in-Ok-replay_of.found in
+    let mid : Journaled g.row.K.Denot g.row.D.Denot g.row.K-Vector.Denot = record { alloc = c.args.alloc; replica = found.replica; journal = c.in-Ok.opened.0; head = found.head; kept = found.kept; issued = found.issued; leaving = c.new.result } in
+    let is = c.in-Ok-replay_of.ensures.replayed in
+    record { waits = none_waits mid (ap length is.log_is ∙ sym is.kept_is) }
+
+pub returns-in-Ok-close-clause-reopens : goal.returns-in-Ok-close-clause-reopens
+returns-in-Ok-close-clause-reopens g c = λ told.
+    let found = c.in-Ok-replay_of.found in
+    let mid : Journaled g.row.K.Denot g.row.D.Denot g.row.K-Vector.Denot = record { alloc = c.args.alloc; replica = found.replica; journal = c.in-Ok.opened.0; head = found.head; kept = found.kept; issued = found.issued; leaving = c.new.result } in
+    let is = c.in-Ok-replay_of.ensures.replayed in
+    let file = g.D.Device.seen c.args.device in
+    let texts : List (List ℕ) = contents c.deref.result.now in
+    let opened = c.in-Ok.ensures.opened told in
+    let same : texts ≡ contents c.in-Ok.opened.1.items = ap contents c.deref.ensures.value in
+    let keeps : Keeps g.D.Device.seen g.D.Device.may_leave texts c.in-Ok.opened.0 = subst (λ (l : List (List ℕ)). Keeps g.D.Device.seen g.D.Device.may_leave l c.in-Ok.opened.0) (sym same) opened.0 in
+    let stood : Stands texts file = subst (λ (l : List (List ℕ)). Stands l file) (sym same) opened.1 in
+    let kept = kept_read g.K.Knowledge.form texts mid is keeps in
+    let entries = entry.Head found.head ∷ is.entries in
+    reopens g.K.Knowledge.form file texts c.in-Ok-close.are_closed mid c.close.new.self stood is c.close.ensures.head (c.in-Ok-close.ensures.kept told entries kept)
+
+pub returns-in-Ok-close-clause-closed : goal.returns-in-Ok-close-clause-closed
+returns-in-Ok-close-clause-closed g c = c.in-Ok-close.ensures.closed
+
+pub returns-in-Ok-close-clause-place : goal.returns-in-Ok-close-clause-place
+returns-in-Ok-close-clause-place g c = subst (λ (h : HeadParts). IsOfPlace h c.args.mark.now c.args.birth) (sym c.close.ensures.head) c.in-Ok-replay_of.ensures.place
+
+pub returns-in-Ok-close-clause-none_waits : goal.returns-in-Ok-close-clause-none_waits
+returns-in-Ok-close-clause-none_waits g c = (c.in-Ok-close.ensures.none_waits, c.in-Ok-close.ensures.leaving)
+
+pub returns-in-Ok-close-clause-any_moment : goal.returns-in-Ok-close-clause-any_moment
+returns-in-Ok-close-clause-any_moment g c = λ told.
+    let found = c.in-Ok-replay_of.found in
+    let mid : Journaled g.row.K.Denot g.row.D.Denot g.row.K-Vector.Denot = record { alloc = c.args.alloc; replica = found.replica; journal = c.in-Ok.opened.0; head = found.head; kept = found.kept; issued = found.issued; leaving = c.new.result } in
+    let is = c.in-Ok-replay_of.ensures.replayed in
+    let file = g.D.Device.seen c.args.device in
+    let texts : List (List ℕ) = contents c.deref.result.now in
+    let opened = c.in-Ok.ensures.opened told in
+    let same : texts ≡ contents c.in-Ok.opened.1.items = ap contents c.deref.ensures.value in
+    let keeps : Keeps g.D.Device.seen g.D.Device.may_leave texts c.in-Ok.opened.0 = subst (λ (l : List (List ℕ)). Keeps g.D.Device.seen g.D.Device.may_leave l c.in-Ok.opened.0) (sym same) opened.0 in
+    let stood : Stands texts file = subst (λ (l : List (List ℕ)). Stands l file) (sym same) opened.1 in
+    let kept = kept_read g.K.Knowledge.form texts mid is keeps in
+    let entries = entry.Head found.head ∷ is.entries in
+    let P : List ℕ → Type 0 = λ f. g.D.Device.may_leave c.args.device f ⊎ GoesOn file f in
+    let first = widened P (c.in-Ok.ensures.any_moment told) (λ f here. as_going (goes_on file f) here) in
+    let second = widened P (c.close.ensures.any_moment told entries kept) (λ f cut. inr (goes_cut file f texts entries is.spelled.written stood cut)) in
+    joined first second
+
+pub returns-clause-any_moment : goal.returns-clause-any_moment
+returns-clause-any_moment g c = λ told.
+    let found = c.in-Ok-replay_of.found in
+    let mid : Journaled g.row.K.Denot g.row.D.Denot g.row.K-Vector.Denot = record { alloc = c.args.alloc; replica = found.replica; journal = c.in-Ok.opened.0; head = found.head; kept = found.kept; issued = found.issued; leaving = c.new.result } in
+    let is = c.in-Ok-replay_of.ensures.replayed in
+    let file = g.D.Device.seen c.args.device in
+    let texts : List (List ℕ) = contents c.deref.result.now in
+    let opened = c.in-Ok.ensures.opened told in
+    let same : texts ≡ contents c.in-Ok.opened.1.items = ap contents c.deref.ensures.value in
+    let keeps : Keeps g.D.Device.seen g.D.Device.may_leave texts c.in-Ok.opened.0 = subst (λ (l : List (List ℕ)). Keeps g.D.Device.seen g.D.Device.may_leave l c.in-Ok.opened.0) (sym same) opened.0 in
+    let stood : Stands texts file = subst (λ (l : List (List ℕ)). Stands l file) (sym same) opened.1 in
+    let kept = kept_read g.K.Knowledge.form texts mid is keeps in
+    let entries = entry.Head found.head ∷ is.entries in
+    let P : List ℕ → Type 0 = λ f. g.D.Device.may_leave c.args.device f ⊎ GoesOn file f in
+    let first = widened P (c.in-Ok.ensures.any_moment told) (λ f here. as_going (goes_on file f) here) in
+    let second = widened P (c.close.ensures.any_moment told entries kept) (λ f cut. inr (goes_cut file f texts entries is.spelled.written stood cut)) in
+    subst (λ d. LeavesOnly g.D.Device.moment g.D.Device.left_since c.args.device d P) (sym c.into_device-in-Err-close.ensures) (joined first second)

@@ -1,0 +1,21 @@
+use Rattle.std.proofs.Common.{◌-◌, ◌∙◌, ℕ, List, ap, length, drop, take, subst}
+use Rattle.mr_filter.specs.Grammar.{Reads}
+use Rattle.mr_entry.specs.Grammar.{Spells}
+use Rattle.mr_entry.specs.declared.entry.Entry.TheVariants as entry
+use Rattle.mr_replica.specs.Replay.{Replays}
+use Rattle.mr_kept.proofs.EntryLemmas.{contents_first}
+use Rattle.mr_kept.proofs.OpenLemmas.{is_replayed}
+use Rattle.mr_kept.proofs.opening.replay_of.Goals as goal
+
+pub returns-in-Ok-clause-replayed : goal.returns-in-Ok-clause-replayed
+returns-in-Ok-clause-replayed g c =
+    let entries = c.args.entries.now in
+    let head = c.in_ok-head.head in
+    let filter = c.in_ok-filter.filter in
+    let found = c.in_ok-events.ensures in
+    let spells = subst (λ (t : List ℕ). Spells (entry.Head head) t) c.deref.ensures.value c.in_ok-head.ensures in
+    let reads = subst (λ (t : List ℕ). Reads t filter) c.filter.ensures c.in_ok-filter.ensures in
+    let replays = subst (λ (n : ℕ). Replays g.K.Knowledge.form n filter head.event_limit c.in_ok-events.field-0.events.items c.in-Ok.replica) c.id.ensures.is
+    (subst (λ (n : ℕ). Replays g.K.Knowledge.form c.id.result filter n c.in_ok-events.field-0.events.items c.in-Ok.replica) c.event_limit.ensures c.in-Ok.ensures.replayed) in
+    is_replayed g.K.Knowledge.form entries (take (length entries - 1) (drop 1 entries)) c.first-item.result head found.0 filter c.in_ok-events.field-0.events.items (length c.log-log.result.now) c.in_ok-events.field-0.issued c.in-Ok.replica
+    (contents_first entries c.first-item.result c.in-len1-up.len_at_least c.first-item.is) spells found.1 found.2 found.3 found.4 reads (ap length (c.log-log.ensures.all ∙ c.in-Ok.ensures.log)) replays c.in-Ok.ensures.log

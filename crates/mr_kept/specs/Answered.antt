@@ -1,0 +1,34 @@
+-- what comes of an event where there is a journal
+use Rattle.std.specs.Prelude.{◌≡◌, ◌<◌, IsTrue, length, Result, Ok, Err}
+use Rattle.mr_forms.specs.Known.{Form}
+use Rattle.mr_journal.specs.Journal.{has_failed}
+use Rattle.mr_journal.specs.declared.journal.Journal.{Journal}
+use Rattle.mr_event.specs.Spelling.{rest_bytes}
+use Rattle.mr_replica.specs.State.{State}
+use Rattle.mr_replica.specs.Step.{Steps}
+use Rattle.mr_replica.specs.declared.event.Event.{Event}
+use Rattle.mr_replica.specs.declared.event.Reply.{Reply}
+use Rattle.mr_kept.specs.declared.fault.KeptFault.{KeptFault}
+use Rattle.mr_kept.specs.declared.fault.KeptFault.TheVariants.{OutOfMemory, Refused, Failed, TooLarge}
+
+-- why the journal can't keep the event: the device has failed, or the event has more bytes than one may have
+abbrev pub MayNotKeep : {D : Type 0} → Journal D → Event → KeptFault → Type 0
+MayNotKeep journal event Failed = IsTrue (has_failed journal)
+MayNotKeep journal event TooLarge = 8388608 < length (rest_bytes event)
+MayNotKeep journal event OutOfMemory = ⊥
+MayNotKeep journal event (Refused e) = ⊥
+
+module _ {K D : Type 0} where
+  -- The replica answers the event, or refuses it; or it is not asked, and stays, where the journal can't keep the event or memory
+  -- ran out.
+  abbrev pub Answered : Form K → Journal D → State K → Event → Result Reply KeptFault → State K → Type 0
+  Answered form journal s event (Ok reply) new = Steps form s event (Ok reply) new
+  Answered form journal s event (Err (Refused e)) new = Steps form s event (Err e) new
+  Answered form journal s event (Err Failed) new = MayNotKeep journal event Failed × (new ≡ s)
+  Answered form journal s event (Err TooLarge) new = MayNotKeep journal event TooLarge × (new ≡ s)
+  Answered form journal s event (Err OutOfMemory) new = new ≡ s
+
+-- the answer, whose reply carries the value
+abbrev pub reply_by : {V : Type 0} → (V → Reply) → Result V KeptFault → Result Reply KeptFault
+reply_by reply (Ok v) = Ok (reply v)
+reply_by reply (Err e) = Err e

@@ -1,0 +1,63 @@
+//! Commits, and what is sent behind them.
+ghost use Rattle.std.specs.Prelude.{◌≡◌, ◌≢◌, ◌⊎◌, ◌++◌, [], IfErr, IfOk, IsTrue, List, OnErr, OnOk, Err, true, map};
+ghost use Rattle.mr_journal.specs.Device.{LeavesOnly};
+ghost use Rattle.mr_journal.specs.Format.{Stands};
+ghost use Rattle.mr_journal.specs.Journal.{device_of, has_failed};
+ghost use Rattle.mr_entry.specs.Spelling.{entry_bytes};
+ghost use Rattle.mr_entry.specs.declared.entry.Entry.{Entry};
+ghost use Rattle.mr_kept.specs.declared.fault.KeptFault.TheVariants.{Failed};
+ghost use Rattle.mr_kept.specs.Entries.{entries_of};
+
+use crate::batch::batch_of;
+use crate::fault::KeptFault;
+use crate::journaled::Journaled;
+use mr_forms::Knowledge;
+use mr_journal::Device;
+use mr_replica::Reply;
+use std::io::Write;
+use std::{io, mem};
+
+impl<K: Knowledge, D: Device + Drop> Journaled<K, D> {
+    ghost use Rattle.mr_kept.specs.Kept.{IsKept, StaysBack, head_of, issued_of, journal_of, leaving, nothing_waits, replica_of, waiting};
+
+    /// Keeps all events that wait, as one batch, and hands out what was held back for it, in the order of the events.
+    ///
+    /// `Failed` where the device failed, now or before; then what was held back is never handed out, and whether these
+    /// events are kept is known once the journal is open again. `TooLarge` where the journal would get longer than it may
+    /// be, and `OutOfMemory`; then nothing has changed, and it may be tried again. It costs the bytes of the events and two
+    /// syncs; where no event waits it writes nothing.
+    pub fn commit(&mut self) -> Result<Vec<Reply>, KeptFault>
+        ensures handed_out { IfOk result (λ out. out.items ≡ leaving self.old) }
+        ensures none_waits { OnOk result ((nothing_waits self.new ≡ true) × (waiting self.new ≡ []) × (leaving self.new ≡ [])) }
+        ensures refused { OnErr result (StaysBack self.old self.new) }
+        ensures unchanged { IfErr result (λ fault. fault ≢ Failed → self.new ≡ self.old) }
+        ensures replica { replica_of self.new ≡ replica_of self.old }
+        ensures head { head_of self.new ≡ head_of self.old }
+        ensures failed_before { IsTrue (has_failed (journal_of self.old)) → result ≡ Err Failed }
+        // At `Ok` the journal has the entries from before and those of all events that waited, and a crash leaves that.
+        ensures kept { IsTrue D.is_told → (entries : List Entry) → IsKept D.seen D.may_leave entries self.old
+            → OnOk result (IsKept D.seen D.may_leave (entries ++ entries_of (issued_of self.old) (waiting self.old)) self.new) }
+        // A crash at any moment of the call leaves the entries from before it, or those and all of the events that waited.
+        ensures any_moment { IsTrue D.is_told → (entries : List Entry) → IsKept D.seen D.may_leave entries self.old
+            → LeavesOnly D.moment D.left_since (device_of (journal_of self.old)) (device_of (journal_of self.new))
+            (λ c. Stands (map entry_bytes entries) c ⊎ Stands (map entry_bytes (entries ++ entries_of (issued_of self.old) (waiting self.old))) c) }
+    {
+        if self.journal.has_failed() {
+            return Err(KeptFault::Failed);
+        }
+        let log = self.replica.log();
+        let len = log.len();
+        let batch = batch_of(self.alloc, self.issued, &log[self.kept.min(len)..])?;
+        self.journal.commit(self.alloc, &batch.entries)?;
+        self.kept = len;
+        self.issued = batch.issued;
+        Ok(mem::replace(&mut self.leaving, Vec::new(self.alloc)))
+    }
+
+    /// Writes bytes to the way to another replica, as all bytes that leave are to be written. No event may wait.
+    pub fn send<W: Write>(&self, out: &mut W, bytes: &[u8]) -> io::Result<()>
+        requires { nothing_waits self.now ≡ true }
+    {
+        out.write_all(bytes)
+    }
+}

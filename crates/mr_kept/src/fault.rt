@@ -1,0 +1,140 @@
+//! Why a replica isn't opened, or doesn't do what it is asked to.
+ghost use Rattle.std.specs.Prelude.{◌≡◌};
+ghost use Rattle.mr_kept.specs.Fault.{kept_fault_number, kept_fault_of, kept_fault_of_entry};
+ghost use Rattle.mr_kept.specs.declared.fault.KeptFault.TheVariants as kept;
+ghost use Rattle.mr_kept.specs.declared.fault.OpenFault.TheVariants as opens;
+
+use mr_entry::EntryFault;
+use mr_filter::FilterFault;
+use mr_journal::JournalFault;
+use mr_replica::{Refusal, ReplayFault};
+use std::alloc::{AllocError, AllocFailed};
+use thiserror::Error;
+
+/// Why a replica doesn't do what it is asked to, or doesn't keep what it did.
+#[derive(Clone, Copy, Debug, PartialEq, Eq, Drop, Error)]
+pub enum KeptFault {
+    #[error("out of memory")]
+    OutOfMemory,
+    /// The replica refused the event, and nothing changed.
+    #[error("refused: {0}")]
+    Refused(Refusal),
+    /// The device failed, now or before. Nothing is handed out any more: open the journal again.
+    #[error("failed: the device failed, open the journal again")]
+    Failed,
+    /// The event has more bytes than one may have, or the journal would get more than it may have.
+    #[error("too large: an event has at most 8388608 bytes behind its length, a journal 4611686018427387904")]
+    TooLarge,
+}
+
+impl KeptFault {
+    /// The fault's number: 0 where memory ran out, and from 1 in the order of the variants.
+    pub fn number(self) -> u8
+        ensures { result ≡ kept_fault_number self }
+    {
+        match self {
+            KeptFault::OutOfMemory => 0,
+            KeptFault::Refused(_) => 1,
+            KeptFault::Failed => 2,
+            KeptFault::TooLarge => 3,
+        }
+    }
+}
+
+impl From<AllocError> for KeptFault {
+    ghost from_gives = { λ _ fault. fault ≡ kept.OutOfMemory };
+
+    fn from(_error: AllocError) -> KeptFault {
+        KeptFault::OutOfMemory
+    }
+}
+
+impl<T: Drop> From<AllocFailed<T>> for KeptFault {
+    ghost from_gives = { λ _ fault. fault ≡ kept.OutOfMemory };
+
+    fn from(_error: AllocFailed<T>) -> KeptFault {
+        KeptFault::OutOfMemory
+    }
+}
+
+impl From<JournalFault> for KeptFault {
+    ghost from_gives = { λ e fault. fault ≡ kept_fault_of e };
+
+    fn from(error: JournalFault) -> KeptFault {
+        match error {
+            JournalFault::OutOfMemory => KeptFault::OutOfMemory,
+            JournalFault::Failed => KeptFault::Failed,
+            _ => KeptFault::TooLarge,
+        }
+    }
+}
+
+impl From<EntryFault> for KeptFault {
+    ghost from_gives = { λ e fault. fault ≡ kept_fault_of_entry e };
+
+    fn from(error: EntryFault) -> KeptFault {
+        match error {
+            EntryFault::OutOfMemory => KeptFault::OutOfMemory,
+            _ => KeptFault::TooLarge,
+        }
+    }
+}
+
+/// Why a replica isn't begun or opened. But for `Kept` with a failed device nothing was written.
+#[derive(Clone, Copy, Debug, PartialEq, Eq, Drop, Error)]
+pub enum OpenFault {
+    #[error("out of memory")]
+    OutOfMemory,
+    /// The journal isn't opened.
+    #[error("{0}")]
+    Journal(JournalFault),
+    /// What was done to the replica that was opened isn't kept.
+    #[error("{0}")]
+    Kept(KeptFault),
+    /// The journal has no entry, so no replica was begun in it.
+    #[error("no replica: the journal has no entry")]
+    NoReplica,
+    /// The journal has entries, so no replica is begun in it.
+    #[error("not empty: the journal has entries already")]
+    NotEmpty,
+    /// The entry at this place, from 0, isn't read.
+    #[error("entry {place}: {fault}")]
+    BadEntry { place: usize, fault: EntryFault },
+    /// The entry at this place has bytes behind it, or is a head that isn't the first entry, or the first entry is no head.
+    #[error("entry {0}: it doesn't belong there")]
+    Misplaced(usize),
+    /// The entry at this place tells of another count of versions than the entries up to it issued.
+    #[error("entry {0}: its counter is another's")]
+    OtherCounter(usize),
+    /// The entries tell more events than a replica has.
+    #[error("too many events: a replica has at most 1000001")]
+    TooManyEvents,
+    /// The journal was begun at another place: it was copied or restored.
+    #[error("copied or restored: the journal was begun at another place")]
+    Copied,
+    /// The journal was begun at another time than the one that was asked for.
+    #[error("another journal: it was begun at another time")]
+    OtherBirth,
+    /// The text of the filter means none.
+    #[error("bad filter: {0}")]
+    BadFilter(FilterFault),
+    /// The events aren't those of a replica.
+    #[error("{0}")]
+    Replay(ReplayFault),
+}
+
+impl From<AllocError> for OpenFault {
+    ghost from_gives = { λ _ fault. fault ≡ opens.OutOfMemory };
+
+    fn from(_error: AllocError) -> OpenFault {
+        OpenFault::OutOfMemory
+    }
+}
+
+impl<T: Drop> From<AllocFailed<T>> for OpenFault {
+    ghost from_gives = { λ _ fault. fault ≡ opens.OutOfMemory };
+
+    fn from(_error: AllocFailed<T>) -> OpenFault {
+        OpenFault::OutOfMemory
+    }
+}

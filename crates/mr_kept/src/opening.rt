@@ -1,0 +1,170 @@
+//! How a replica comes back from its journal.
+ghost use Rattle.std.specs.Prelude.{◌≡◌, ◌⊎◌, [], IfErr, IfOk, IsTrue, MatchResult, OnOk, true};
+ghost use Rattle.mr_filter.specs.Grammar.{Reads};
+ghost use Rattle.mr_journal.specs.Device.{LeavesOnly};
+ghost use Rattle.mr_journal.specs.Format.{contents};
+ghost use Rattle.mr_journal.specs.Journal.{device_of};
+ghost use Rattle.mr_entry.specs.Grammar.{Spells};
+ghost use Rattle.mr_entry.specs.declared.entry.Entry.TheVariants as entry;
+ghost use Rattle.mr_kept.specs.Closing.{AreClosed};
+ghost use Rattle.mr_kept.specs.Opening.{GoesOn, IsOfOther, IsOfPlace, IsReplayed, Reopens};
+
+use crate::fault::OpenFault;
+use crate::gather::{Gathered, entry_at, gather};
+use crate::journaled::Journaled;
+use mr_entry::{Birth, Entry, Head, Mark, Note};
+use mr_filter::{Filter, FilterFault};
+use mr_forms::Knowledge;
+use mr_journal::{Device, Journal};
+use mr_replica::Replica;
+use std::alloc::Global;
+
+/// What was found beside the replica.
+#[derive(Drop)]
+pub struct Opened {
+    /// The notes of the program above, in their order.
+    pub notes: Vec<Note>,
+    /// Whether all sessions and streams are closed. Else the log is full: only a Retire is still admitted.
+    pub are_closed: bool,
+}
+
+/// What entries make: a replica of a head, how many events they tell, how many versions these issued, and notes.
+#[derive(Drop)]
+struct Replayed<K: Knowledge> {
+    head: Head,
+    replica: Replica<K>,
+    kept: usize,
+    issued: u32,
+    notes: Vec<Note>,
+}
+
+/// The head that the first entry is.
+fn head_of(alloc: Global, bytes: &[u8]) -> Result<Head, OpenFault>
+    ensures { IfOk result (λ head. Spells (entry.Head head) bytes.now) }
+{
+    match entry_at(alloc, 0, bytes)? {
+        Entry::Head(head) => Ok(head),
+        _ => Err(OpenFault::Misplaced(0)),
+    }
+}
+
+/// The filter of this text.
+fn filter_of(alloc: Global, text: &str) -> Result<Filter, OpenFault>
+    ensures { IfOk result (Reads text.now) }
+{
+    match Filter::read(alloc, text) {
+        Ok(filter) => Ok(filter),
+        Err(FilterFault::OutOfMemory) => Err(OpenFault::OutOfMemory),
+        Err(fault) => Err(OpenFault::BadFilter(fault)),
+    }
+}
+
+/// Whether the journal was begun where and when it was to be.
+fn check_head(head: &Head, mark: &Mark, birth: Option<Birth>) -> Result<(), OpenFault>
+    ensures ok { OnOk result (IsOfPlace head.now mark.now birth) }
+    ensures err { IfErr result (IsOfOther head.now mark.now birth) }
+{
+    if head.mark() != *mark {
+        return Err(OpenFault::Copied);
+    }
+    match birth {
+        Some(birth) if head.birth() != birth => Err(OpenFault::OtherBirth),
+        _ => Ok(()),
+    }
+}
+
+/// The replica of the events that the entries tell.
+fn replay_of<K: Knowledge>(
+    alloc: Global,
+    entries: &[Vec<u8>],
+    mark: &Mark,
+    birth: Option<Birth>,
+) -> Result<Replayed<K>, OpenFault>
+    ensures replayed { IfOk result (λ r. IsReplayed K.form (contents entries.now) r.head r.replica r.kept r.issued) }
+    ensures place { IfOk result (λ r. IsOfPlace r.head mark.now birth) }
+{
+    let [first, rest @ ..] = entries else {
+        return Err(OpenFault::NoReplica);
+    };
+    let head = head_of(alloc, first)?;
+    check_head(&head, mark, birth)?;
+    let filter = filter_of(alloc, head.filter())?;
+    let Gathered {
+        events,
+        issued,
+        notes,
+    } = gather(alloc, rest)?;
+    match Replica::replay(alloc, head.id(), filter, head.event_limit(), events) {
+        Ok(replica) => {
+            let log = replica.log();
+            let kept = log.len();
+            Ok(Replayed {
+                head,
+                replica,
+                kept,
+                issued,
+                notes,
+            })
+        }
+        Err(fault) => Err(OpenFault::Replay(fault)),
+    }
+}
+
+impl<K: Knowledge, D: Device + Drop> Journaled<K, D> {
+    ghost use Rattle.mr_kept.specs.Kept.{head_of, journal_of, leaving, nothing_waits, replica_of};
+
+    /// Brings the replica of a journal back: a fresh one of the id, the filter and the limit that the journal's head tells
+    /// takes the events again. What was open is closed, a session by a CutIn and a stream by a CutOut, and that is kept before
+    /// anything else; of a retired replica streams alone. Where the log is full `are_closed` is false.
+    ///
+    /// `Journal` where the device's bytes are refused or the device fails; `NoReplica` where there is no entry; `Copied` where the
+    /// head's mark is another one, and `OtherBirth` where a birth is given and the head's is another. Then the first entry that
+    /// isn't read, doesn't belong where it stands or has another's counter, a filter that means nothing, or the event that the
+    /// replica refuses. Up to here no entry was written, though what a crash left was cut off. `Kept` where what closes isn't
+    /// kept. Each gives the device back. It costs the step of each event, and the entries and the events are in memory at once.
+    pub fn open(
+        alloc: Global,
+        device: D,
+        mark: &Mark,
+        birth: Option<Birth>,
+    ) -> Result<(Journaled<K, D>, Opened), (OpenFault, D)>
+        // The entries that the device had are those of a replica, and what was open in that is closed.
+        ensures reopens { IsTrue D.is_told → IfOk result (λ r. Reopens K.form D.seen D.may_leave (D.seen device) r.1.are_closed r.0) }
+        ensures closed { IfOk result (λ r. IsTrue r.1.are_closed → AreClosed (replica_of r.0)) }
+        ensures place { IfOk result (λ r. IsOfPlace (head_of r.0) mark.now birth) }
+        ensures none_waits { IfOk result (λ r. (nothing_waits r.0 ≡ true) × (leaving r.0 ≡ [])) }
+        // A crash at any moment of the call leaves what one before it might have left, or a journal of the same entries, with
+        // those that close what was open behind them or without.
+        ensures any_moment { IsTrue D.is_told → MatchResult result
+            (λ r. LeavesOnly D.moment D.left_since device (device_of (journal_of r.0)) (λ c. D.may_leave device c ⊎ GoesOn (D.seen device) c))
+            (λ e. LeavesOnly D.moment D.left_since device e.1 (λ c. D.may_leave device c ⊎ GoesOn (D.seen device) c)) }
+    {
+        let (journal, entries) = match Journal::open(alloc, device) {
+            Ok(opened) => opened,
+            Err((fault, device)) => return Err((OpenFault::Journal(fault), device)),
+        };
+        let Replayed {
+            head,
+            replica,
+            kept,
+            issued,
+            notes,
+        } = match replay_of(alloc, &entries, mark, birth) {
+            Ok(found) => found,
+            Err(fault) => return Err((fault, journal.into_device())),
+        };
+        let mut opened = Journaled {
+            alloc,
+            replica,
+            journal,
+            head,
+            kept,
+            issued,
+            leaving: Vec::new(alloc),
+        };
+        match opened.close() {
+            Ok(are_closed) => Ok((opened, Opened { notes, are_closed })),
+            Err(fault) => Err((OpenFault::Kept(fault), opened.into_device())),
+        }
+    }
+}
