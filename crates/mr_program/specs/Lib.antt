@@ -1,3 +1,4 @@
+pub mod Drawing
 pub mod Ending
 pub mod Printing
 pub mod Remembering

@@ -1,11 +1,12 @@
 -- worked rows: texts and statuses at which they must come out
-use Rattle.std.specs.Prelude.{◌≡◌, codes, refl, None, Some}
+use Rattle.std.specs.Prelude.{◌≡◌, [], codes, refl, None, Some}
 use Rattle.std.specs.Fmt.{digits}
 use Rattle.mr_command.specs.declared.fault.LineFault.TheVariants.{BadFilter, BadNumber, MessageRefused}
 use Rattle.mr_script.specs.declared.fault.ScriptFault.TheVariants.{Line, Read, TooLong}
 use Rattle.mr_script.specs.declared.fault.ScriptFault.TheVariants as script
 use Rattle.mr_program.specs.declared.ending.Fault.TheVariants.{CommandLine, OutOfMemory, Script}
-use Rattle.mr_program.specs.declared.ending.Ending.TheVariants.{Stopped}
+use Rattle.mr_program.specs.declared.ending.Ending.TheVariants.{Done, Stopped}
+use Rattle.mr_program.specs.Drawing.{text_under}
 use Rattle.mr_program.specs.Ending.{ending_of, status_of}
 use Rattle.mr_program.specs.Text.{fault_text}
 
@@ -46,3 +47,12 @@ write_status = refl
 -- a command line that is no text is wrong
 pub no_text_status : status_of (Stopped CommandLine) ≡ 2
 no_text_status = refl
+
+-- nothing stands under the picture of a script that ran to its end
+pub nothing_under : text_under Done ≡ []
+nothing_under = refl
+
+-- and what standard error is told, without a line feed, under that of one that did not
+pub fault_under : text_under (Stopped (Script (Line 2 BadNumber))) ≡ codes "line 2: bad number"
+unfolding digits
+fault_under = refl

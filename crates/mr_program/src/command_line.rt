@@ -1,5 +1,5 @@
 //! The words of the command line, and the help.
-use clap::{Arg, ArgAction, Command, Error};
+use clap::{Arg, ArgAction, ArgMatches, Command, Error};
 use std::alloc::{AllocError, Global};
 
 const ABOUT: &str = "Replicas of a mail collection, driven by scripts.
@@ -98,6 +98,28 @@ Exit status:
      `hint: TEXT` follows the fault of a line. A FILE that can't be opened is a `read fault`
   2  a wrong command line";
 
+const DRAW_ABOUT: &str =
+    "Runs the script in FILE, or on standard input, and prints an SVG picture of what happened in it.
+
+Time goes downwards, and each replica has a lane. A version is a dot with its name, a sync a band
+with what it took, and a record that was taken an arrow. Pointing at a mark tells the rest. The page
+has all that it needs, and is light or dark as its reader's is.";
+
+const DRAW_AFTER: &str =
+    "Each event that is shown has a row of its own. The first 400 have one, and the picture says how many
+later ones are left out. Questions and refusals are not shown.
+
+Example:
+  $ mailrep draw < examples/first.script > history.svg
+
+The lines of a script are those of `mailrep run`, whose help has them all.
+
+Exit status:
+  0  the script ran to its end
+  1  a fault as of `mailrep run`: the picture is of what was done before it, and has its text under
+     it, and standard error tells it too. Nothing is printed where there is no memory for the picture
+  2  a wrong command line";
+
 const FRAME_ABOUT: &str = "Tells what the bytes of a frame say.
 
 HEX is one word: two digits of either case for each byte, with spaces wherever they help.";
@@ -151,9 +173,20 @@ pub enum Form {
     Sparing,
 }
 
+/// What is printed of a script.
+#[derive(Clone, Copy)]
+pub enum Wanted {
+    /// The answers of its lines.
+    Answers,
+    /// The picture of its world.
+    Picture,
+}
+
 /// How a script is run.
 #[derive(Clone, Copy)]
 pub struct Run<'a> {
+    /// What is printed.
+    pub wanted: Wanted,
     /// The form of knowledge.
     pub form: Form,
     /// The name of the script's file; none is standard input.
@@ -164,6 +197,7 @@ pub struct Run<'a> {
 
 /// A run without options.
 const PLAIN_RUN: Run<'static> = Run {
+    wanted: Wanted::Answers,
     form: Form::Items,
     file: None,
     has_hints: false,
@@ -185,22 +219,49 @@ pub fn read_command_line<'a>(alloc: Global, words: &'a [String]) -> Result<Reque
     if let Some(frame) = matches.subcommand_matches("frame") {
         return Ok(Request::Frame(frame.get_str(HEX).unwrap_or("")));
     }
-    let Some(run) = matches.subcommand_matches("run") else {
-        return Ok(Request::Run(PLAIN_RUN));
-    };
-    Ok(Request::Run(Run {
-        form: if run.get_flag(SPARING) {
+    if let Some(run) = matches.subcommand_matches("run") {
+        return Ok(Request::Run(run_of(run, Wanted::Answers)));
+    }
+    if let Some(draw) = matches.subcommand_matches("draw") {
+        return Ok(Request::Run(run_of(draw, Wanted::Picture)));
+    }
+    Ok(Request::Run(PLAIN_RUN))
+}
+
+/// The run that the words of a subcommand ask for.
+fn run_of<'a>(matches: &ArgMatches<'a>, wanted: Wanted) -> Run<'a> {
+    Run {
+        wanted,
+        form: if matches.get_flag(SPARING) {
             Form::Sparing
         } else {
             Form::Items
         },
-        file: run.get_str(FILE).filter(|name| *name != STANDARD_INPUT),
-        has_hints: run.get_flag(HINTS),
-    }))
+        file: matches.get_str(FILE).filter(|name| *name != STANDARD_INPUT),
+        has_hints: matches.get_flag(HINTS),
+    }
 }
 
 /// The subcommand `run`.
 fn run_command<'a>(alloc: Global) -> Result<Command<'a>, AllocError> {
+    let command = Command::new(alloc, "run")
+        .about("Runs a script, and prints its answers")
+        .long_about(RUN_ABOUT)
+        .after_long_help(RUN_AFTER);
+    with_script_words(alloc, command)
+}
+
+/// The subcommand `draw`.
+fn draw_command<'a>(alloc: Global) -> Result<Command<'a>, AllocError> {
+    let command = Command::new(alloc, "draw")
+        .about("Runs a script, and prints a picture of what happened")
+        .long_about(DRAW_ABOUT)
+        .after_long_help(DRAW_AFTER);
+    with_script_words(alloc, command)
+}
+
+/// The subcommand, with the words that say how a script is run.
+fn with_script_words<'a>(alloc: Global, command: Command<'a>) -> Result<Command<'a>, AllocError> {
     let sparing = Arg::new(alloc, SPARING)
         .long(SPARING)
         .help("For real mail at any size: it keeps holes few, so `know` may print another text")
@@ -210,13 +271,7 @@ fn run_command<'a>(alloc: Global) -> Result<Command<'a>, AllocError> {
         .help("Behind the fault of a line, a second line says what was wrong and what is right")
         .action(ArgAction::SetTrue);
     let file = Arg::new(alloc, FILE).help("The script; `-` or none is standard input");
-    Command::new(alloc, "run")
-        .about("Runs a script, and prints its answers")
-        .long_about(RUN_ABOUT)
-        .after_long_help(RUN_AFTER)
-        .arg(file)?
-        .arg(sparing)?
-        .arg(hints)
+    command.arg(file)?.arg(sparing)?.arg(hints)
 }
 
 /// The subcommand `frame`.
@@ -242,5 +297,6 @@ fn mailrep<'a>(alloc: Global) -> Result<Command<'a>, AllocError> {
         .subcommand_required(true)
         .arg_required_else_help(true)
         .subcommand(run_command(alloc)?)?
+        .subcommand(draw_command(alloc)?)?
         .subcommand(frame_command(alloc)?)
 }

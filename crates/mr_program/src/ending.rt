@@ -1,10 +1,12 @@
 //! How the program ends: its exit status, and what it tells standard error.
-ghost use Rattle.std.specs.Prelude.{◌≡◌, ◌≤◌, Some, OnOk};
+ghost use Rattle.std.specs.Prelude.{◌≡◌, ◌≤◌, Some, IfOk, OnOk, string_bytes};
 ghost use Rattle.mr_script.specs.Run.{end_of};
+ghost use Rattle.mr_program.specs.Drawing.{text_under};
 ghost use Rattle.mr_program.specs.Ending.{IsTold, ending_of, status_of};
 ghost use Rattle.mr_program.specs.Text.{fault_text, line_fault_text, script_fault_text};
 
 use mr_script::{LineFault, ScriptFault};
+use std::alloc::{AllocError, Global};
 use std::io::Write;
 use std::{fmt, io};
 
@@ -13,7 +15,7 @@ use std::{fmt, io};
 pub enum Fault {
     /// A word of the command line is not UTF-8.
     CommandLine,
-    /// A frame's text, help or the version can't be printed.
+    /// A picture, a frame's text, help or the version can't be printed.
     Write,
     OutOfMemory,
     /// The script, its reader or its writer.
@@ -23,7 +25,7 @@ pub enum Fault {
 /// How the program ends.
 #[derive(Clone, Copy, Debug, PartialEq, Eq)]
 pub enum Ending {
-    /// The script ran to its end, or a frame was told, or help or the version was printed.
+    /// The script ran to its end and was answered or drawn, or a frame was told, or help or the version was printed.
     Done,
     /// The word of the command line spells no frame, and standard output says how.
     NoFrame,
@@ -77,6 +79,19 @@ pub fn leave<E: Write>(ending: Ending, errors: &mut E) -> u8
 {
     let _ = tell(ending, errors);
     exit_of(ending)
+}
+
+/// What stands under a picture: what standard error is told of a fault, and nothing at another ending.
+pub(crate) fn text_under(alloc: Global, ending: Ending) -> Result<String, AllocError>
+    ensures { IfOk result (λ text. string_bytes text ≡ text_under ending) }
+{
+    match ending {
+        Ending::Stopped(fault) => {
+            let text = FaultText(fault);
+            format!(in alloc; "{text}")
+        }
+        Ending::Done | Ending::NoFrame | Ending::WrongCommandLine => Ok(String::new(alloc)),
+    }
 }
 
 /// What standard error is told of a fault.

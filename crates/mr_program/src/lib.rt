@@ -1,10 +1,10 @@
 //! The program `mailrep`, over its words and streams.
 //!
 //! `mailrep run` hands a script to `run_script`, which runs it line by line and prints the answers, over item sets or,
-//! with `--sparing`, over sparing knowledge; `mailrep frame HEX` prints what `frame_text` says of HEX. Here stand the
-//! command line with its help, how the program ends, and its exit status: 0; 1 for a script, read or write fault, for a
-//! HEX that spells no frame, or where memory runs out; 2 for a wrong command line. A fault's text goes to standard
-//! error, and with `--hints` a hint behind it.
+//! with `--sparing`, over sparing knowledge; `mailrep draw` runs it so too, and prints the picture of its world that `mr_draw` makes;
+//! `mailrep frame HEX` prints what `frame_text` says of HEX. Here stand the command line with its help, how the program
+//! ends, and its exit status: 0; 1 for a script, read or write fault, for a HEX that spells no frame, or where memory runs
+//! out; 2 for a wrong command line. A fault's text goes to standard error, and with `--hints` a hint behind it.
 //!
 //! [`run_mailrep`] is all of `main`. What it reads and writes are parameters, so that a program can call it with many
 //! command lines, and with readers and writers that fail.
@@ -13,11 +13,13 @@
 ghost use Rattle.std.specs.Prelude.{◌≤◌};
 
 mod command_line;
+mod draw;
 mod ending;
 mod remembering;
 mod run;
 
 use command_line::{Request, Run, read_command_line};
+pub use draw::end_picture;
 pub use ending::{Ending, Fault, ending_of_run, exit_of, leave, tell};
 use mr_script::ScriptFault;
 pub use run::{end_frame, end_script};
@@ -38,8 +40,8 @@ pub trait Scripts {
 
 /// Does what the command line of the runtime asks for, and gives the exit status: 0, 1 or 2.
 ///
-/// A script is read from the input, or from the file that the command line names. Answers, frames, help and the version
-/// go to the output; faults, hints and what is wrong with a command line go to the errors.
+/// A script is read from the input, or from the file that the command line names. Answers, pictures, frames, help and the
+/// version go to the output; faults, hints and what is wrong with a command line go to the errors.
 pub fn run_mailrep<R, S, I, W, E>(
     rt: &R,
     scripts: &S,

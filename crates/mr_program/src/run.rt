@@ -1,10 +1,11 @@
-//! What the program does: runs a script, tells a frame, or says what its command line is.
+//! What the program does: runs or draws a script, tells a frame, or says what its command line is.
 ghost use Rattle.std.specs.Prelude.{◌≡◌, ◌≢◌, ◌≤◌, IfSome, OnOk};
 ghost use Rattle.std.specs.Io.KnownBytes.{Appends};
 ghost use Rattle.clap.specs.Values.{kind_of};
 ghost use Rattle.mr_program.specs.Printing.{EndsFrame, EndsScript};
 
-use crate::command_line::{Form, Run};
+use crate::command_line::{Form, Run, Wanted};
+use crate::draw::end_picture;
 use crate::ending::{Ending, Fault, ending_of_run, leave};
 use crate::remembering::Remembering;
 use clap::error::ErrorKind;
@@ -27,15 +28,15 @@ pub(crate) fn run_reader<R: Read + Drop, W: Write, E: Write>(
     ensures { result ≤ 2 }
 {
     if how.has_hints {
-        return run_with_hints(alloc, how.form, reader, output, errors);
+        return run_with_hints(alloc, how, reader, output, errors);
     }
-    leave(end_over(alloc, how.form, reader, output), errors)
+    leave(end_over(alloc, how, reader, output), errors)
 }
 
 /// Runs the script, and tells a hint behind the fault of a line.
 fn run_with_hints<R: Read + Drop, W: Write, E: Write>(
     alloc: Global,
-    form: Form,
+    how: Run,
     reader: R,
     output: &mut W,
     errors: &mut E,
@@ -43,7 +44,7 @@ fn run_with_hints<R: Read + Drop, W: Write, E: Write>(
     ensures { result ≤ 2 }
 {
     let mut reader = Remembering::new(alloc, reader);
-    let ending = end_over(alloc, form, &mut reader, output);
+    let ending = end_over(alloc, how, &mut reader, output);
     let status = leave(ending, errors);
     if let Ending::Stopped(Fault::Script(ScriptFault::Line { line, fault })) = ending {
         tell_hint(alloc, reader.line(line), fault, errors);
@@ -61,16 +62,22 @@ fn tell_hint<E: Write>(alloc: Global, line: Option<&str>, fault: LineFault, erro
     }
 }
 
-/// Runs the script over the form, and says how the program ends.
+/// Runs the script over its form, prints what is wanted of it, and says how the program ends.
 fn end_over<R: Read + Drop, W: Write>(
     alloc: Global,
-    form: Form,
+    how: Run,
     reader: R,
     output: &mut W,
 ) -> Ending {
-    match form {
-        Form::Items => end_script::<ItemKnowledge, R, W>(alloc, reader, output),
-        Form::Sparing => end_script::<SparingKnowledge, R, W>(alloc, reader, output),
+    match (how.wanted, how.form) {
+        (Wanted::Answers, Form::Items) => end_script::<ItemKnowledge, R, W>(alloc, reader, output),
+        (Wanted::Answers, Form::Sparing) => end_script::<SparingKnowledge, R, W>(
+            alloc, reader, output,
+        ),
+        (Wanted::Picture, Form::Items) => end_picture::<ItemKnowledge, R, W>(alloc, reader, output),
+        (Wanted::Picture, Form::Sparing) => end_picture::<SparingKnowledge, R, W>(
+            alloc, reader, output,
+        ),
     }
 }
 
@@ -104,7 +111,7 @@ pub fn end_frame<W: Write>(alloc: Global, word: &str, output: &mut W) -> Ending
 }
 
 /// Prints the text, and flushes the writer.
-fn print_all<W: Write>(text: &str, output: &mut W) -> io::Result<()>
+pub(crate) fn print_all<W: Write>(text: &str, output: &mut W) -> io::Result<()>
     ensures { OnOk result (Appends (W.contents output.old) (W.contents output.new) text.now) }
 {
     output.write_all(text.as_bytes())?;

@@ -43,6 +43,8 @@ pub struct Case {
     /// The file `script`.
     pub file: Vec<u8>,
     pub failing: Failing,
+    /// Whether each line of what it prints is shown.
+    pub is_whole: bool,
 }
 
 /// What comes of a command line.
@@ -69,6 +71,7 @@ impl Case {
             input: Vec::new(alloc),
             file: Vec::new(alloc),
             failing: Failing::Nothing,
+            is_whole: false,
         })
     }
 

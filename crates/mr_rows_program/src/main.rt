@@ -11,6 +11,7 @@
 //! < heads 0           a line of its standard input
 //! @ heads 0           a line of the file `script`, the only one that there is
 //! % output fails      a stream that fails: `input`, `file`, `output` or `errors`; also `input endless`, `words no text`
+//! ^ whole             all that it prints is shown, and not only the beginning of a long text
 //! ```
 //!
 //! In lines of scripts `\r` is a carriage return, `\s` a space, `\x` a byte that is no text, `\k` a thousand letters, and
@@ -85,15 +86,21 @@ fn show<R: Print + AllocGlobal>(rt: &R, case: &Case) -> Result<()> {
     let said = case.run(rt.alloc())?;
     let (told, status) = (case.told.as_str(), said.status);
     print!(rt; "\n{told}status {status}\n")?;
-    show_lines(rt, "out", said.output.as_slice())?;
-    show_lines(rt, "err", said.errors.as_slice())
+    show_lines(rt, "out", said.output.as_slice(), case.is_whole)?;
+    show_lines(rt, "err", said.errors.as_slice(), case.is_whole)
 }
 
-/// Prints each line of a stream behind its name: of more than twelve the first three, and how many there are.
-fn show_lines<R: Print + AllocGlobal>(rt: &R, stream: &str, bytes: &[u8]) -> Result<()> {
+/// Prints each line of a stream behind its name: of more than twelve only the first three, and how many there are, unless
+/// the whole text is to be shown.
+fn show_lines<R: Print + AllocGlobal>(
+    rt: &R,
+    stream: &str,
+    bytes: &[u8],
+    is_whole: bool,
+) -> Result<()> {
     let text = String::from_utf8_lossy(rt.alloc(), bytes)?;
     let count = text.lines().count();
-    let shown = if count > 12 { 3 } else { count };
+    let shown = if is_whole || count <= 12 { count } else { 3 };
     for line in text.lines().take(shown) {
         let space = if line.is_empty() { "" } else { " " };
         println!(rt; "{stream}:{space}{line}")?;

@@ -36,6 +36,7 @@ fn add_line(case: &mut Case, mark: &str, text: &str) -> Result<bool> {
         "<" => push_line(&mut case.input, text)?,
         "@" => push_line(&mut case.file, text)?,
         "%" => case.failing = Failing::from_name(text),
+        "^" => case.is_whole = true,
         _ => return Ok(false),
     }
     Ok(true)

@@ -3,6 +3,7 @@ pub mod Doing
 pub mod Fault
 pub mod Frame
 pub mod Holding
+pub mod Leaving
 pub mod Question
 pub mod Run
 pub mod Script

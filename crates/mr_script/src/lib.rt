@@ -19,8 +19,8 @@
 //! `World::happen`, so what a world promises holds after every line.
 //!
 //! [`Interpreter`] does the lines of a script that come from anywhere, and shows the world that they made;
-//! [`run_script`] takes them out of a reader and writes their answers. Both are over any form of knowledge,
-//! which their caller names. [`frame_text`] is no part of a script: it tells in a line what the bytes of a
+//! [`run_script`] takes them out of a reader and writes their answers, and [`run_script_in`] leaves them in an
+//! interpreter. All are over any form of knowledge, which their caller names. [`frame_text`] is no part of a script: it tells in a line what the bytes of a
 //! frame say.
 #![tactic(auto)]
 
@@ -46,5 +46,5 @@ pub use fault::ScriptFault;
 pub use frame::{FrameText, frame_text};
 pub use interpreter::Interpreter;
 pub use mr_command::LineFault;
-pub use script::run_script;
+pub use script::{run_script, run_script_in};
 pub use source::MAX_SCRIPT_BYTES;

@@ -2,6 +2,7 @@
 ghost use Rattle.std.specs.Prelude.{◌≡◌, ◌≢◌, ◌-◌, ◌<◌, ◌≤◌, ◌++◌, ℕ, List, Option, [], Err, IfOk, IfErr, IfSome, OnOk, OnErr, IsSome, length};
 ghost use Rattle.std.specs.Option.{option_map};
 ghost use Rattle.mr_script.specs.Fault.{fault_of_source, NumbersItsLine};
+ghost use Rattle.mr_script.specs.Leaving.{NextLeaves, ScriptLeaves};
 ghost use Rattle.mr_script.specs.Run.{BeginsToPrint, Breaks, NextAnswer, Prints, PrintsSoFar, end_of};
 ghost use Rattle.mr_script.specs.Script.{Accounts, looked_at, source_remaining};
 ghost use Rattle.mr_script.specs.Waiting.{MayAsk};
@@ -45,6 +46,29 @@ pub fn run_script<K: Knowledge, R: Read + Drop, W: Write>(
     let mut output = Output::new(alloc);
     let ran = run_lines::<K, R, W>(alloc, reader, &mut output, writer);
     finish(ran, &mut output, writer)
+}
+
+/// Runs the script that the reader gives in the interpreter, and drops its answers: for a caller who wants the world that
+/// it makes.
+///
+/// It reads and ends as [`run_script`] does, but that nothing is written. What the lines before a fault did stands.
+pub fn run_script_in<K: Knowledge, R: Read + Drop>(
+    alloc: Global,
+    reader: R,
+    interpreter: &mut Interpreter<K>,
+) -> Result<(), ScriptFault>
+    ensures { IfSome (R.remaining reader)
+        (λ script. ScriptLeaves K.form interpreter.old script (end_of result) interpreter.new) }
+{
+    let mut source = first_source(alloc, reader)?;
+    let (no_output, mut line) = (Output::new(alloc), Vec::new(alloc));
+    for number in 1..MAX_SCRIPT_BYTES + 2 {
+        let answer = next_answer(&no_output, &mut source, interpreter, &mut line, number)?;
+        let Some(_dropped) = answer else {
+            return Ok(());
+        };
+    }
+    Err(ScriptFault::TooLong)
 }
 
 /// Writes what waits when the lines have run. A writer that has failed is left alone.
@@ -175,6 +199,9 @@ fn next_answer<K: Knowledge, R: Read + Drop>(
     ensures no_write { result ≢ Err ScriptFault.Write }
     ensures answer { IfSome (source_remaining R.remaining source.old) (λ bytes.
         NextAnswer K.form interpreter.old number (MAX_SCRIPT_BYTES - source.old.taken) bytes result interpreter.new
+        (source_remaining R.remaining source.new) (MAX_SCRIPT_BYTES - source.new.taken)) }
+    ensures leaves { IfSome (source_remaining R.remaining source.old) (λ bytes.
+        NextLeaves K.form interpreter.old number (MAX_SCRIPT_BYTES - source.old.taken) bytes result interpreter.new
         (source_remaining R.remaining source.new) (MAX_SCRIPT_BYTES - source.new.taken)) }
 {
     match source.next_line(line) {

@@ -1,0 +1,4 @@
+pub mod ListLemmas
+pub mod HappeningLemmas
+pub mod DotLemmas
+pub mod PictureLemmas

@@ -1,0 +1,63 @@
+-- lists that grow by what one element more gives
+use Rattle.std.proofs.Common.{◌≡◌, ℕ, ◌+◌, ◌∙◌, ap, sym, List, [], ◌∷◌, ◌++◌, Option, Some, None, length, refl, take, arith, ◌≤◌, append-nil, append_assoc, flat_map}
+use Rattle.std.proofs.lemmas.List.Elements.{filter_map-append}
+use Rattle.std.specs.List.{cons_option, filter_map}
+use Rattle.std.specs.Option.{option_to_list}
+
+-- a list of one, or of none
+pub cons_option-nil : {A : Type 0} (x : Option A) → cons_option x [] ≡ option_to_list x
+cons_option-nil None = refl
+cons_option-nil (Some x) = refl
+
+-- what was put before stays before
+pub cons_option-append : {A : Type 0} (x : Option A) (xs ys : List A) → cons_option x (xs ++ ys) ≡ cons_option x xs ++ ys
+cons_option-append None xs ys = refl
+cons_option-append (Some x) xs ys = refl
+
+-- one more gives what it gives
+filter_map-more : {A B : Type 0} (f : A → Option B) (xs : List A) (x : A) → filter_map f (xs ++ x ∷ []) ≡ filter_map f xs ++ option_to_list (f x)
+filter_map-more f xs x = filter_map-append f xs (x ∷ []) ∙ ap (λ ys. filter_map f xs ++ ys) (cons_option-nil (f x))
+
+flat_map-more : {A : Type 0} (f : A → List ℕ) (xs : List A) (x : A) → flat_map f (xs ++ x ∷ []) ≡ flat_map f xs ++ f x
+flat_map-more f [] x = append-nil (f x)
+flat_map-more f (y ∷ ys) x = ap (λ zs. f y ++ zs) (flat_map-more f ys x) ∙ sym (append_assoc (f y) (flat_map f ys) (f x))
+
+-- a loop that puts behind the others what an element gives
+pub filter_map-pushed : {A B : Type 0} (f : A → Option B) (all : List A) (i : ℕ) (x : A) (before after : List B) → take (i + 1) all ≡ take i all ++ x ∷ [] →
+    before ≡ filter_map f (take i all) → after ≡ before ++ option_to_list (f x) → after ≡ filter_map f (take (i + 1) all)
+filter_map-pushed f all i x before after more invariant pushed =
+    pushed ∙ ap (λ ys. ys ++ option_to_list (f x)) invariant ∙ sym (filter_map-more f (take i all) x) ∙ ap (filter_map f) (sym more)
+
+-- the same for texts
+pub flat_map-pushed : {A : Type 0} (f : A → List ℕ) (start : List ℕ) (all : List A) (i : ℕ) (x : A) (before after : List ℕ) → take (i + 1) all ≡ take i all ++ x ∷ [] →
+    before ≡ start ++ flat_map f (take i all) → after ≡ before ++ f x → after ≡ start ++ flat_map f (take (i + 1) all)
+flat_map-pushed f start all i x before after more invariant pushed =
+    pushed ∙ ap (λ ys. ys ++ f x) invariant ∙ append_assoc start (flat_map f (take i all)) (f x)
+    ∙ ap (λ ys. start ++ ys) (sym (flat_map-more f (take i all) x) ∙ ap (flat_map f) (sym more))
+
+-- the same for a list that grew
+pub filter_map-grown : {A B : Type 0} (f : A → Option B) (xs longer : List A) (x : A) (before after : List B) → longer ≡ xs ++ x ∷ [] →
+    before ≡ filter_map f xs → after ≡ before ++ option_to_list (f x) → after ≡ filter_map f longer
+filter_map-grown f xs longer x before after more invariant pushed =
+    pushed ∙ ap (λ ys. ys ++ option_to_list (f x)) invariant ∙ sym (filter_map-more f xs x) ∙ ap (filter_map f) (sym more)
+
+-- at most one more
+length-cons_option : {A : Type 0} (o : Option A) (ys : List A) (n : ℕ) → length ys ≤ n → length (cons_option o ys) ≤ n + 1
+length-cons_option None ys n h = omega (arith, h)
+length-cons_option (Some y) ys n h = omega (arith, h)
+
+-- it gives no more than there were
+pub length-filter_map : {A B : Type 0} (f : A → Option B) (xs : List A) → length (filter_map f xs) ≤ length xs
+length-filter_map f [] = omega arith
+length-filter_map f (x ∷ xs) =
+    let most = length-cons_option (f x) (filter_map f xs) (length xs) (length-filter_map f xs) in omega (arith, most)
+
+-- ---- texts that are put behind one another
+
+pub joined3 : (s0 s1 s2 s3 a b c : List ℕ) → s1 ≡ s0 ++ a → s2 ≡ s1 ++ b → s3 ≡ s2 ++ c → s3 ≡ s0 ++ (a ++ b ++ c)
+joined3 s0 s1 s2 s3 a b c h1 h2 h3 =
+    h3 ∙ ap (λ s. s ++ c) (h2 ∙ ap (λ s. s ++ b) h1 ∙ append_assoc s0 a b) ∙ append_assoc s0 (a ++ b) c
+
+pub joined5 : (s0 s1 s2 s3 s4 s5 a b c d e : List ℕ) → s1 ≡ s0 ++ a → s2 ≡ s1 ++ b → s3 ≡ s2 ++ c → s4 ≡ s3 ++ d → s5 ≡ s4 ++ e → s5 ≡ s0 ++ (a ++ b ++ c ++ d ++ e)
+joined5 s0 s1 s2 s3 s4 s5 a b c d e h1 h2 h3 h4 h5 =
+    h5 ∙ ap (λ s. s ++ e) (h4 ∙ ap (λ s. s ++ d) (joined3 s0 s1 s2 s3 a b c h1 h2 h3) ∙ append_assoc s0 (a ++ b ++ c) d) ∙ append_assoc s0 (a ++ b ++ c ++ d) e

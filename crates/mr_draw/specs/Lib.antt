@@ -1,0 +1,13 @@
+pub mod Escape
+pub mod NoteLists
+pub mod Notes
+pub mod Happened
+pub mod Happening
+pub mod MarkView
+pub mod Mark
+pub mod Sign
+pub mod HeadingView
+pub mod SheetView
+pub mod Sheet
+pub mod Picture
+pub mod Rows

@@ -1,0 +1,155 @@
+-- worked rows: what the definitions give for small values
+use Rattle.std.specs.Prelude.{◌≡◌, ℕ, true, [], ◌∷◌, codes, Some, None, Ok, Err, refl}
+use Rattle.std.specs.Fmt.{digits}
+use Rattle.std.specs.List.{flat_map}
+use Rattle.mr_version.specs.Name.{Name}
+use Rattle.mr_replica.specs.declared.event.Reply.TheVariants.{Issued, Took}
+use Rattle.mr_replica.specs.declared.event.Reply.TheVariants as reply
+use Rattle.mr_replica.specs.declared.refusal.Refusal.TheVariants.{LogFull}
+use Rattle.mr_world.specs.declared.answer.Answer.{Answer}
+use Rattle.mr_world.specs.declared.answer.Answer.TheVariants.{Stepped, Full}
+use Rattle.mr_world.specs.declared.answered.Answered.{Answered}
+use Rattle.mr_world.specs.declared.event.Event.{Event}
+use Rattle.mr_world.specs.declared.event.Event.TheVariants as event
+use Rattle.mr_draw.specs.Escape.{entity}
+use Rattle.mr_draw.specs.NoteLists.{NoteLists}
+use Rattle.mr_draw.specs.Happening.{dot_at, dots, happening_at, issued_versions, kind_of}
+use Rattle.mr_draw.specs.Mark.{class_of, column_of, head_of, label_at, line_text, x_of, y_of}
+use Rattle.mr_draw.specs.Picture.{below}
+use Rattle.mr_draw.specs.Sheet.{fault_text, left_out_text, width_of}
+use Rattle.mr_draw.specs.Sign.{plain, shape_of, sign_at}
+use Rattle.mr_draw.specs.declared.happening.Kind.TheVariants.{Issue, TakeItem, Open, Cut, Retire, Release}
+use Rattle.mr_draw.specs.declared.mark.Shape.TheVariants as shape
+
+-- ---- texts that were given
+
+pub escapes_markup : flat_map entity (codes "<a & \"b\">") ≡ codes "&lt;a &amp; &quot;b&quot;&gt;"
+unfolding lib.Utf8.encode
+escapes_markup = refl
+
+pub escapes_quote : entity 39 ≡ codes "&#39;"
+escapes_quote = refl
+
+-- a tab becomes a space, and so does what no text of an SVG may have
+pub spaces_control : flat_map entity (97 ∷ 9 ∷ 0 ∷ []) ≡ codes "a  "
+unfolding lib.Utf8.encode
+spaces_control = refl
+
+-- other characters stay: here é, of two bytes
+pub keeps_others : entity 233 ≡ 195 ∷ 169 ∷ []
+unfolding lib.Utf8.encode
+keeps_others = refl
+
+-- ---- what happened
+
+abbrev name : ℕ → ℕ → Name
+name author counter = record { author = author; counter = counter }
+
+abbrev answered : Event → Answer → Answered
+answered e a = record { event = e; answer = a }
+
+-- one request by replica 4, one record of 0.1 out of stream 7 of replica 0, and one receipt for 1.3
+abbrev notes : NoteLists
+notes = record { asks = 4 ∷ []; records = TakeItem 0 7 (name 0 1) ∷ []; receipts = name 1 3 ∷ [] }
+
+-- a refusal shows nothing, and neither does a full port
+pub shows_no_refusal : kind_of notes (answered (event.Retire 2) (Stepped (Err LogFull))) ≡ None
+shows_no_refusal = refl
+
+pub shows_no_port : kind_of notes (answered (event.Retire 2) Full) ≡ None
+shows_no_port = refl
+
+pub shows_retirement : kind_of notes (answered (event.Retire 2) (Stepped (Ok reply.Done))) ≡ Some Retire
+shows_retirement = refl
+
+pub shows_cut : kind_of notes (answered (event.CutIn 2 1) (Stepped (Ok reply.Done))) ≡ Some Cut
+shows_cut = refl
+
+-- the first record was taken by replica 2
+pub shows_record : happening_at notes 9 (answered (event.Receive 2 1) (Stepped (Ok Took))) ≡ Some (record { lane = 2; kind = TakeItem 0 7 (name 0 1); place = 9 })
+shows_record = refl
+
+-- there is no second
+pub shows_no_record : kind_of notes (answered (event.Receive 2 2) (Stepped (Ok Took))) ≡ None
+shows_no_record = refl
+
+pub shows_stream : kind_of notes (answered (event.Answer 0 1) (Stepped (Ok (reply.Streaming 7)))) ≡ Some (Open 4 7)
+shows_stream = refl
+
+pub shows_release : kind_of notes (answered (event.Release 1 1) (Stepped (Ok reply.Done))) ≡ Some (Release (name 1 3))
+shows_release = refl
+
+-- a version is on its author's lane
+pub shows_version : happening_at notes 5 (answered (event.Retire 2) (Stepped (Ok (Issued (name 3 1))))) ≡ Some (record { lane = 3; kind = Issue (name 3 1); place = 5 })
+shows_version = refl
+
+-- dots come in order, and a refusal has none
+pub issues : issued_versions (answered (event.Retire 3) (Stepped (Ok (Issued (name 3 1)))) ∷ answered (event.Retire 3) Full ∷ answered (event.Retire 0) (Stepped (Ok (Issued (name 0 1)))) ∷ []) ≡ name 3 1 ∷ name 0 1 ∷ []
+issues = refl
+
+pub one_dot : dots (record { lane = 3; kind = Issue (name 3 1); place = 0 } ∷ record { lane = 3; kind = Retire; place = 1 } ∷ []) ≡ dot_at (name 3 1) ∷ []
+one_dot = refl
+
+-- ---- marks
+
+-- an arrow comes from its source
+pub signs_record : sign_at 6 (record { lane = 2; kind = TakeItem 0 7 (name 0 1); place = 9 }) ≡ record { row = 6; lane = 2; other_lane = 0; shape = shape.Item }
+signs_record = refl
+
+-- a merge is a version
+pub plain_merge : plain shape.Merge ≡ shape.Version
+plain_merge = refl
+
+pub signs_cut : shape_of Cut ≡ shape.Cut
+signs_cut = refl
+
+-- the lanes 0, 5 and 9 are in the columns 0, 1 and 2
+pub third_column : column_of (0 ∷ 5 ∷ 9 ∷ []) 9 ≡ 2
+third_column = refl
+
+pub first_x : x_of (0 ∷ 5 ∷ []) 0 ≡ 60
+first_x = refl
+
+pub second_x : x_of (0 ∷ 5 ∷ []) 5 ≡ 190
+second_x = refl
+
+pub second_y : y_of 1 ≡ 82
+second_y = refl
+
+pub merges_are_versions : class_of shape.Merge ≡ codes "version merge"
+merges_are_versions = refl
+
+-- an arrow from the right ends at its left
+pub head_to_left : head_of true ≡ codes "m9 -3l-7 3l7 3"
+head_to_left = refl
+
+pub a_line : line_text 60 82 190 98 ≡ codes "</title><path d='M60 82H190V98H60z"
+unfolding digits
+a_line = refl
+
+pub a_label : label_at 74 86 ≡ codes "'/><text x='74' y='86'>"
+unfolding digits
+a_label = refl
+
+-- ---- the rest of a picture
+
+pub three_ids : below 3 ≡ 0 ∷ 1 ∷ 2 ∷ []
+three_ids = refl
+
+-- two lanes have the least width, and three take more
+pub least_width : width_of 2 ≡ 360
+least_width = refl
+
+pub three_lanes : width_of 3 ≡ 460
+three_lanes = refl
+
+-- nothing is left out, and there is no fault
+pub none_left_out : left_out_text 90 0 ≡ []
+none_left_out = refl
+
+pub some_left_out : left_out_text 90 12 ≡ codes "<text class='note' x='12' y='90'>12 later events are left out</text>\n"
+unfolding digits
+some_left_out = refl
+
+pub no_fault : fault_text 90 [] ≡ []
+no_fault = refl

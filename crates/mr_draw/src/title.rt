@@ -1,0 +1,128 @@
+//! What marks tell on pointing.
+use crate::ends::counts_of;
+use crate::happening::{Happening, Kind};
+use mr_mail::Message;
+use mr_replica::Bases;
+use mr_version::{Author, Version};
+use mr_world::Event;
+use std::alloc::{AllocError, Global};
+
+/// What the happening tells, which comes of this event with its answer.
+pub(crate) fn title_of(
+    alloc: Global,
+    happening: &Happening,
+    event: &Event,
+) -> Result<String, AllocError> {
+    let lane = happening.lane;
+    match happening.kind {
+        Kind::Issue(version) => title_of_version(alloc, version, event),
+        Kind::TakeItem(source, stream, version) => format!(in alloc;
+            "replica {lane} takes {version} out of stream {stream} of replica {source}"
+        ),
+        Kind::TakeMoveOut(source, stream, version) => format!(in alloc;
+            "replica {lane} is told in stream {stream} of replica {source} that {version} is none of its own"
+        ),
+        Kind::TakeOther(source, stream) => format!(in alloc;
+            "replica {lane} takes a record out of stream {stream} of replica {source}"
+        ),
+        Kind::Open(target, stream) => {
+            format!(in alloc; "replica {target} asks replica {lane}, which opens stream {stream}")
+        }
+        Kind::Cut => title_of_cut(alloc, lane, event),
+        Kind::Retire => format!(in alloc;
+            "replica {lane} retires: it admits nothing more, but goes on telling"
+        ),
+        Kind::Vouch(version) => format!(in alloc;
+            "replica {lane} gives a receipt for {version}, which it holds"
+        ),
+        Kind::Release(version) => {
+            format!(in alloc; "replica {lane} lets go of push-outs, by a receipt for {version}")
+        }
+    }
+}
+
+/// What a version's dot tells: what it replaces, and its message.
+fn title_of_version(alloc: Global, version: Version, event: &Event) -> Result<String, AllocError> {
+    match event {
+        Event::Create(_, message) => {
+            let mut title = format!(in alloc; "{version}: a new message")?;
+            push_message(&mut title, message)?;
+            Ok(title)
+        }
+        Event::Edit(_, bases, message) => {
+            let mut title = format!(in alloc; "{version} replaces")?;
+            push_bases(&mut title, bases)?;
+            push_message(&mut title, message)?;
+            Ok(title)
+        }
+        _ => format!(in alloc; "{version}"),
+    }
+}
+
+/// Adds each version behind a space.
+fn push_bases(title: &mut String, bases: &Bases) -> Result<(), AllocError> {
+    for version in bases.as_slice() {
+        write!(title, " {version}")?;
+    }
+    Ok(())
+}
+
+/// Adds the message's labels, sender and subject.
+fn push_message(title: &mut String, message: &Message) -> Result<(), AllocError> {
+    title.push_str(";")?;
+    for label in message.labels() {
+        title.push(' ')?;
+        title.push_str(label.as_str())?;
+    }
+    title.push_str("; ")?;
+    title.push_str(message.from())?;
+    title.push_str(": ")?;
+    title.push_str(message.subject())
+}
+
+/// What a cut tells.
+fn title_of_cut(alloc: Global, lane: Author, event: &Event) -> Result<String, AllocError> {
+    match event {
+        Event::CutOut(_, stream) => format!(in alloc; "replica {lane} closes its stream {stream}"),
+        Event::CutIn(_, session) => format!(in alloc;
+            "replica {lane} closes its session {session}"
+        ),
+        _ => format!(in alloc; "replica {lane} closes a session"),
+    }
+}
+
+/// What is written at a happening.
+pub(crate) fn label_of(
+    alloc: Global,
+    happenings: &[Happening],
+    happening: &Happening,
+) -> Result<String, AllocError> {
+    match happening.kind {
+        Kind::Issue(version) => format!(in alloc; "{version}"),
+        Kind::TakeItem(_, _, version) => format!(in alloc; "+{version}"),
+        Kind::TakeMoveOut(_, _, version) => format!(in alloc; "-{version}"),
+        Kind::TakeOther(_, _) => Ok(String::new(alloc)),
+        Kind::Open(_, stream) => {
+            let (items, move_outs) = counts_of(happenings, happening.lane, stream);
+            label_of_sync(alloc, items, move_outs)
+        }
+        Kind::Cut => String::from_str(alloc, "cut"),
+        Kind::Retire => String::from_str(alloc, "retired"),
+        Kind::Vouch(version) => format!(in alloc; "vouches {version}"),
+        Kind::Release(version) => format!(in alloc; "lets go of {version}"),
+    }
+}
+
+/// What is written at a sync's band: how many items and move-outs were taken.
+fn label_of_sync(alloc: Global, items: usize, move_outs: usize) -> Result<String, AllocError> {
+    let mut label = match items {
+        1 => String::from_str(alloc, "1 item")?,
+        _ => format!(in alloc; "{items} items")?,
+    };
+    match move_outs {
+        0 => {}
+        1 => label.push_str(", 1 move-out")?,
+        _ => write!(label, ", {move_outs} move-outs")?,
+    }
+    Ok(label)
+}

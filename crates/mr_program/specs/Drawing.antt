@@ -1,0 +1,56 @@
+-- what standard output holds when a picture was drawn
+use Rattle.std.specs.Prelude.{◌≡◌, ◌⊎◌, ℕ, List, [], Option, Result, Ok, Err, ⊤, string_bytes}
+use Rattle.std.specs.declared.string.String.{String}
+use Rattle.std.specs.declared.alloc.AllocError.{AllocError}
+use Rattle.std.specs.declared.alloc.Global.{Global}
+use Rattle.std.specs.Io.KnownBytes.{Appends}
+use Rattle.mr_forms.specs.Known.{Form}
+use Rattle.mr_script.specs.declared.fault.ScriptFault.{ScriptFault}
+use Rattle.mr_script.specs.Leaving.{ScriptLeaves}
+use Rattle.mr_script.specs.Run.{bare}
+use Rattle.mr_script.specs.Stage.{Stage, Stage.opening, Stage.running}
+use Rattle.mr_draw.specs.Picture.{Draws}
+use Rattle.mr_draw.specs.Sheet.{blank_text}
+use Rattle.mr_program.specs.declared.ending.Fault.{Fault}
+use Rattle.mr_program.specs.declared.ending.Fault.TheVariants.{CommandLine, Write, OutOfMemory, Script}
+use Rattle.mr_program.specs.declared.ending.Ending.{Ending}
+use Rattle.mr_program.specs.declared.ending.Ending.TheVariants.{Done, NoFrame, WrongCommandLine, Stopped}
+use Rattle.mr_program.specs.Ending.{ending_of}
+use Rattle.mr_program.specs.Text.{fault_text}
+
+-- what stands under a picture: the fault that ended the script, or nothing
+abbrev pub text_under : Ending → List ℕ
+text_under (Stopped fault) = fault_text fault
+text_under Done = []
+text_under NoFrame = []
+text_under WrongCommandLine = []
+
+-- the picture of the world that a script left; of no replica where it came to no world
+abbrev pub DrawsStage : {K : Type 0} → Stage K → (under svg : List ℕ) → Type 0
+DrawsStage (opening specs) under svg = svg ≡ blank_text under
+DrawsStage (running w) under svg = Draws w under svg
+
+-- The picture was written and the program ends as the script did, or the write failed; or there was no memory for a picture.
+abbrev pub PrintsPicture : Result (String Global) AllocError → (ran result : Ending) → (old new : Option (List ℕ)) → Type 0
+PrintsPicture (Ok svg) ran result old new = ((result ≡ ran) × Appends old new (string_bytes svg)) ⊎ (result ≡ Stopped Write)
+PrintsPicture (Err error) ran result old new = result ≡ Stopped OutOfMemory
+
+-- It ends as the script does, and the picture was written of what the script left, with its fault under it.
+pub record DrawsScript {K : Type 0} (form : Form K) (script : List ℕ) (ending : Ending) (old new : Option (List ℕ)) : Type 0 where
+  pub end : Option ScriptFault
+  pub is : ending ≡ ending_of end
+  pub last : Stage K
+  pub leaves : ScriptLeaves form bare script end last
+  pub svg : List ℕ
+  pub draws : DrawsStage last (text_under ending) svg
+  pub are : Appends old new svg
+
+-- the picture was written; or there was no memory for it, or a write failed
+abbrev pub EndsPicture : {K : Type 0} → Form K → List ℕ → Ending → (old new : Option (List ℕ)) → Type 0
+EndsPicture form script (Stopped Write) old new = ⊤
+EndsPicture form script (Stopped OutOfMemory) old new = ⊤
+EndsPicture form script (Stopped CommandLine) old new = ⊥
+EndsPicture form script (Stopped (Script fault)) old new = DrawsScript form script (Stopped (Script fault)) old new
+EndsPicture form script Done old new = DrawsScript form script Done old new
+EndsPicture form script NoFrame old new = ⊥
+EndsPicture form script WrongCommandLine old new = ⊥
