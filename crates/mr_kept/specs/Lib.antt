@@ -6,3 +6,4 @@ pub mod Kept
 pub mod Beginning
 pub mod Opening
 pub mod Peer
+pub mod Rows
