@@ -4,3 +4,4 @@ pub mod Sending
 pub mod Talking
 pub mod Stepping
 pub mod Linking
+pub mod Noding

@@ -6,4 +6,7 @@ pub mod Stop
 pub mod Step
 pub mod Voice
 pub mod Thread
+pub mod Node
+pub mod Joining
 pub mod Rows
+pub mod NodeRows

@@ -14,6 +14,7 @@ mod guard;
 mod link_thread;
 mod link_voice;
 mod next_move;
+mod node;
 mod progress;
 mod replica_core;
 mod replica_machine;
@@ -22,6 +23,7 @@ mod turning;
 
 pub use link_thread::{LinkEnd, LinkParts, run_link};
 pub use link_voice::LinkVoice;
+pub use node::{LinkTurns, NodeEnd, NodeFault, NodeParts, NodeReplies, NodeTaken, run_node};
 pub use progress::Opened;
 pub use replica_core::{ReplicaCore, ReplicaCoreEnd, run_core};
 pub use replica_machine::{Answer, ReplicaMachine};
