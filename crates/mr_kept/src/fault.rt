@@ -1,6 +1,6 @@
 //! Why a replica isn't opened, or doesn't do what it is asked to.
 ghost use Rattle.std.specs.Prelude.{◌≡◌};
-ghost use Rattle.mr_kept.specs.Fault.{kept_fault_number, kept_fault_of, kept_fault_of_entry};
+ghost use Rattle.mr_kept.specs.Fault.{kept_fault_number, kept_fault_of, kept_fault_of_entry, open_fault_number};
 ghost use Rattle.mr_kept.specs.declared.fault.KeptFault.TheVariants as kept;
 ghost use Rattle.mr_kept.specs.declared.fault.OpenFault.TheVariants as opens;
 
@@ -121,6 +121,29 @@ pub enum OpenFault {
     /// The events aren't those of a replica.
     #[error("{0}")]
     Replay(ReplayFault),
+}
+
+impl OpenFault {
+    /// The fault's number: 0 where memory ran out, and from 1 in the order of the variants.
+    pub fn number(self) -> u8
+        ensures { result ≡ open_fault_number self }
+    {
+        match self {
+            OpenFault::OutOfMemory => 0,
+            OpenFault::Journal(_) => 1,
+            OpenFault::Kept(_) => 2,
+            OpenFault::NoReplica => 3,
+            OpenFault::NotEmpty => 4,
+            OpenFault::BadEntry { .. } => 5,
+            OpenFault::Misplaced(_) => 6,
+            OpenFault::OtherCounter(_) => 7,
+            OpenFault::TooManyEvents => 8,
+            OpenFault::Copied => 9,
+            OpenFault::OtherBirth => 10,
+            OpenFault::BadFilter(_) => 11,
+            OpenFault::Replay(_) => 12,
+        }
+    }
 }
 
 impl From<AllocError> for OpenFault {

@@ -1,5 +1,6 @@
 //! What other replicas know of this one.
-ghost use Rattle.std.specs.Prelude.{All, Any, IfErr, MatchBool, OnOk};
+ghost use Rattle.std.specs.Prelude.{◌≡◌, All, Any, IfErr, MatchBool, OnOk};
+ghost use Rattle.mr_kept.specs.Fault.{peer_fault_number};
 ghost use Rattle.mr_kept.specs.Peer.{IsAbove, IsOther, IsPeerFault};
 
 use crate::journaled::Journaled;
@@ -19,6 +20,18 @@ pub enum PeerFault {
     /// The other knows another journal of the same id.
     #[error("another journal of the same id: it was begun at another time")]
     OtherBirth,
+}
+
+impl PeerFault {
+    /// The fault's number, from 1 in the order of the variants.
+    pub fn number(self) -> u8
+        ensures { result ≡ peer_fault_number self }
+    {
+        match self {
+            PeerFault::OldCopy => 1,
+            PeerFault::OtherBirth => 2,
+        }
+    }
 }
 
 /// Whether one of these versions is of this id and above those that were issued.
