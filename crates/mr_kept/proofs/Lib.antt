@@ -4,3 +4,4 @@ pub mod KeptLemmas
 pub mod CloseLemmas
 pub mod IssuedLemmas
 pub mod OpenLemmas
+pub mod RefusingLemmas

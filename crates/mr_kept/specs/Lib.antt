@@ -6,4 +6,5 @@ pub mod Kept
 pub mod Beginning
 pub mod Opening
 pub mod Peer
+pub mod Refusing
 pub mod Rows

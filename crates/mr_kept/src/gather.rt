@@ -1,11 +1,12 @@
 //! What the entries of a journal tell.
-ghost use Rattle.std.specs.Prelude.{◌≡◌, ◌+◌, ◌++◌, ◌≤◌, [], ◌∷◌, List, IfOk, OnOk, length, replicate};
+ghost use Rattle.std.specs.Prelude.{◌≡◌, ◌+◌, ◌++◌, ◌≤◌, [], ◌∷◌, List, IfErr, IfOk, OnOk, length, replicate};
 ghost use Rattle.mr_journal.specs.Format.{contents};
 ghost use Rattle.mr_entry.specs.Events.{events_of, events_of_entry};
 ghost use Rattle.mr_entry.specs.Grammar.{Spells};
 ghost use Rattle.mr_entry.specs.declared.entry.Entry.{Entry};
 ghost use Rattle.mr_replica.specs.declared.event.Event.TheVariants as asked;
 ghost use Rattle.mr_kept.specs.Entries.{AreCounted, AreSpelled, HasCounter, issued_after};
+ghost use Rattle.mr_kept.specs.Refusing.{IsBehindHead, IsUnread};
 
 use crate::batch::counted_with;
 use crate::fault::OpenFault;
@@ -23,7 +24,8 @@ pub(crate) struct Gathered {
 
 /// The entry at this place, which is all of the bytes.
 pub(crate) fn entry_at(alloc: Global, place: usize, bytes: &[u8]) -> Result<Entry, OpenFault>
-    ensures { IfOk result (λ e. Spells e bytes.now) }
+    ensures spelled { IfOk result (λ e. Spells e bytes.now) }
+    ensures fault { IfErr result (IsUnread place bytes.now) }
 {
     match decode_entry(alloc, bytes) {
         Ok((entry, used)) => {
@@ -51,6 +53,7 @@ fn take_entry(gathered: &mut Gathered, place: usize, entry: Entry) -> Result<(),
     ensures events { OnOk result (gathered.new.events.items ≡ gathered.old.events.items ++ events_of_entry entry) }
     ensures issued { OnOk result (gathered.new.issued ≡ issued_after gathered.old.issued (events_of_entry entry)) }
     ensures counter { OnOk result (HasCounter gathered.old.issued entry) }
+    ensures fault { 1 ≤ place → IfErr result IsBehindHead }
 {
     match entry {
         Entry::Head(_) => Err(OpenFault::Misplaced(place)),
@@ -78,8 +81,9 @@ fn take_entry(gathered: &mut Gathered, place: usize, entry: Entry) -> Result<(),
 
 /// What the entries behind the head tell.
 pub(crate) fn gather(alloc: Global, entries: &[Vec<u8>]) -> Result<Gathered, OpenFault>
-    ensures { IfOk result (λ gathered. (list : List Entry) × AreSpelled list (contents entries.now) × AreCounted 0 list
+    ensures gathered { IfOk result (λ gathered. (list : List Entry) × AreSpelled list (contents entries.now) × AreCounted 0 list
         × (events_of list ≡ gathered.events.items) × (gathered.issued ≡ issued_after 0 gathered.events.items)) }
+    ensures fault { IfErr result IsBehindHead }
 {
     let mut gathered = Gathered {
         events: Vec::new(alloc),

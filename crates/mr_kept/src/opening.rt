@@ -8,6 +8,7 @@ ghost use Rattle.mr_entry.specs.Grammar.{Spells};
 ghost use Rattle.mr_entry.specs.declared.entry.Entry.TheVariants as entry;
 ghost use Rattle.mr_kept.specs.Closing.{AreClosed};
 ghost use Rattle.mr_kept.specs.Opening.{GoesOn, IsOfOther, IsOfPlace, IsReplayed, Reopens};
+ghost use Rattle.mr_kept.specs.Refusing.{IsBehindHead, IsNoHead, IsOpenFault, IsRefused};
 
 use crate::fault::OpenFault;
 use crate::gather::{Gathered, entry_at, gather};
@@ -40,7 +41,8 @@ struct Replayed<K: Knowledge> {
 
 /// The head that the first entry is.
 fn head_of(alloc: Global, bytes: &[u8]) -> Result<Head, OpenFault>
-    ensures { IfOk result (λ head. Spells (entry.Head head) bytes.now) }
+    ensures spelled { IfOk result (λ head. Spells (entry.Head head) bytes.now) }
+    ensures fault { IfErr result (IsNoHead bytes.now) }
 {
     match entry_at(alloc, 0, bytes)? {
         Entry::Head(head) => Ok(head),
@@ -50,7 +52,8 @@ fn head_of(alloc: Global, bytes: &[u8]) -> Result<Head, OpenFault>
 
 /// The filter of this text.
 fn filter_of(alloc: Global, text: &str) -> Result<Filter, OpenFault>
-    ensures { IfOk result (Reads text.now) }
+    ensures read { IfOk result (Reads text.now) }
+    ensures fault { IfErr result IsBehindHead }
 {
     match Filter::read(alloc, text) {
         Ok(filter) => Ok(filter),
@@ -82,6 +85,7 @@ fn replay_of<K: Knowledge>(
 ) -> Result<Replayed<K>, OpenFault>
     ensures replayed { IfOk result (λ r. IsReplayed K.form (contents entries.now) r.head r.replica r.kept r.issued) }
     ensures place { IfOk result (λ r. IsOfPlace r.head mark.now birth) }
+    ensures fault { IfErr result (IsRefused (contents entries.now) mark.now birth) }
 {
     let [first, rest @ ..] = entries else {
         return Err(OpenFault::NoReplica);
@@ -132,6 +136,7 @@ impl<K: Knowledge, D: Device + Drop> Journaled<K, D> {
         ensures reopens { IsTrue D.is_told → IfOk result (λ r. Reopens K.form D.seen D.may_leave (D.seen device) r.1.are_closed r.0) }
         ensures closed { IfOk result (λ r. IsTrue r.1.are_closed → AreClosed (replica_of r.0)) }
         ensures place { IfOk result (λ r. IsOfPlace (head_of r.0) mark.now birth) }
+        ensures fault { IsTrue D.is_told → IfErr result (λ e. IsOpenFault (D.seen device) mark.now birth e.0) }
         ensures none_waits { IfOk result (λ r. (nothing_waits r.0 ≡ true) × (leaving r.0 ≡ [])) }
         // A crash at any moment of the call leaves what one before it might have left, or a journal of the same entries, with
         // those that close what was open behind them or without.

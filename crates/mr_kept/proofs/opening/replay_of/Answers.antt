@@ -12,9 +12,9 @@ returns-in-Ok-clause-replayed g c =
     let entries = c.args.entries.now in
     let head = c.in_ok-head.head in
     let filter = c.in_ok-filter.filter in
-    let found = c.in_ok-events.ensures in
-    let spells = subst (λ (t : List ℕ). Spells (entry.Head head) t) c.deref.ensures.value c.in_ok-head.ensures in
-    let reads = subst (λ (t : List ℕ). Reads t filter) c.filter.ensures c.in_ok-filter.ensures in
+    let found = c.in_ok-events.ensures.gathered in
+    let spells = subst (λ (t : List ℕ). Spells (entry.Head head) t) c.deref.ensures.value c.in_ok-head.ensures.spelled in
+    let reads = subst (λ (t : List ℕ). Reads t filter) c.filter.ensures c.in_ok-filter.ensures.read in
     let replays = subst (λ (n : ℕ). Replays g.K.Knowledge.form n filter head.event_limit c.in_ok-events.field-0.events.items c.in-Ok.replica) c.id.ensures.is
     (subst (λ (n : ℕ). Replays g.K.Knowledge.form c.id.result filter n c.in_ok-events.field-0.events.items c.in-Ok.replica) c.event_limit.ensures c.in-Ok.ensures.replayed) in
     is_replayed g.K.Knowledge.form entries (take (length entries - 1) (drop 1 entries)) c.first-item.result head found.0 filter c.in_ok-events.field-0.events.items (length c.log-log.result.now) c.in_ok-events.field-0.issued c.in-Ok.replica
