@@ -1,5 +1,5 @@
 //! Messages.
-ghost use Rattle.std.specs.Prelude.{◌≡◌, ◌<◌, ◌≤◌, IfOk, IfErr, IfSome, IfNone, IsOkUnless, OnOk, length, string_bytes};
+ghost use Rattle.std.specs.Prelude.{◌≡◌, ◌<◌, ◌≤◌, ◌++◌, ℕ, List, [], Some, IfOk, IfErr, IfSome, IfNone, IsOkUnless, IsUtf8, OnOk, length, string_bytes};
 ghost use Rattle.std.specs.Result.{result_err};
 ghost use Rattle.mr_mail.specs.Admits.{first_fault};
 ghost use Rattle.mr_mail.specs.Label.{texts_of, AreLabelsOf, IsLabelSet};
@@ -16,31 +16,68 @@ use std::marker::Model;
 use std::sync::Arc;
 
 /// The parts of a message, once for all of its owners.
+///
+/// Its body, its sender and its subject stand in one piece of memory, in this order, which has no room for more.
 #[derive(Debug, Drop)]
 struct Parts {
-    from: String,
-    subject: String,
-    body: Vec<u8>,
+    text: Vec<u8>,
+    body_end: u32,
+    from_end: u32,
     card: Card,
 }
 
 impl Model for Parts {
-    ghost use Rattle.std.specs.Prelude.{string_bytes};
+    ghost use Rattle.std.specs.Prelude.{◌≤◌, length, slice_range, IsUtf8};
     ghost use Rattle.mr_mail.specs.Mail.{Mail, mail_code, mail_with, IsMail};
 
     ghost Value = { Mail };
 
     ghost coded = { mail_code };
 
-    ghost view = { λ m. mail_with (string_bytes m.from) (string_bytes m.subject) m.body.items m.card };
+    ghost view = { λ m. mail_with (slice_range m.text.items m.body_end m.from_end) (slice_range m.text.items m.from_end (length m.text.items)) (slice_range m.text.items 0 m.body_end) m.card };
 
-    ghost invariant = { λ m. IsMail (mail_with (string_bytes m.from) (string_bytes m.subject) m.body.items m.card) };
+    ghost invariant = { λ m. IsMail (mail_with (slice_range m.text.items m.body_end m.from_end) (slice_range m.text.items m.from_end (length m.text.items)) (slice_range m.text.items 0 m.body_end) m.card)
+        × (m.body_end ≤ m.from_end) × (m.from_end ≤ length m.text.items)
+        × IsUtf8 (slice_range m.text.items m.body_end m.from_end)
+        × IsUtf8 (slice_range m.text.items m.from_end (length m.text.items)) };
+}
+
+impl Parts {
+    fn from(&self) -> &str
+        ensures { result.now ≡ self.now.from }
+    {
+        text_of(&self.text[self.body_end as usize..self.from_end as usize])
+    }
+
+    fn subject(&self) -> &str
+        ensures { result.now ≡ self.now.subject }
+    {
+        text_of(&self.text[self.from_end as usize..])
+    }
+
+    fn body(&self) -> &[u8]
+        ensures { result.now ≡ self.now.body }
+    {
+        &self.text[..self.body_end as usize]
+    }
+}
+
+/// The text that the bytes are.
+fn text_of(bytes: &[u8]) -> &str
+    requires { IsUtf8 bytes.now }
+    ensures { result.now ≡ bytes.now }
+{
+    match str::from_utf8(bytes) {
+        Ok(text) => text,
+        Err(_) => unreachable!(),
+    }
 }
 
 /// A message: sender, subject, body, labels, flags and day.
 ///
-/// A message never changes, so its copies share one body: `copy` makes one more owner, and the
-/// memory is given back with the last of them.
+/// A message never changes, so its copies share its parts: `copy` makes one more owner, and the
+/// memory is given back with the last of them. The sender, the subject and the body take one piece of
+/// memory together, of as many bytes as they have.
 #[derive(Debug, Drop)]
 pub struct Message {
     parts: Arc<Parts, Global>,
@@ -70,8 +107,8 @@ pub const MAX_BODY_BYTES: usize = 65_536;
 
 impl Message {
     /// The message of these parts. The labels may come in any order and more than once; the message
-    /// has each of them once, in rising order of their bytes. The sender, the subject and the body
-    /// are moved.
+    /// has each of them once, in rising order of their bytes. The body is moved, and grows by the sender and
+    /// the subject, so that it is copied once unless it has room for them; the labels are moved.
     ///
     /// The faults are tried in this order: `FromTooLong` over 254 bytes, `SubjectTooLong` over 998,
     /// `BodyTooLong` over 65,536, `BadLabel` if a label is not one to 32 bytes of a-z, 0-9 and `-`,
@@ -108,7 +145,66 @@ impl Message {
             &mut labels,
             flags,
         )?;
-        message_of(alloc, from, subject, body, labels, flags, day)
+        message_of(
+            alloc,
+            from.as_str(),
+            subject.as_str(),
+            body,
+            labels,
+            flags,
+            day,
+        )
+    }
+
+    /// The message of these parts, which are lent but for the labels: as [`Message::try_new`], with the same faults
+    /// in the same order. The sender, the subject and the body are copied once, into one piece of memory.
+    pub fn try_copying(
+        alloc: Global,
+        from: &str,
+        subject: &str,
+        body: &[u8],
+        mut labels: Vec<String>,
+        flags: u8,
+        day: Day,
+    ) -> Result<Message, MessageFault>
+        ensures refused { IfSome (first_fault from.now subject.now body.now (texts_of labels.items) flags)
+            (λ fault. result ≡ Err fault) }
+        ensures admitted { IfNone (first_fault from.now subject.now body.now (texts_of labels.items) flags)
+            (IsOkUnless result MessageFault.OutOfMemory) }
+
+        ensures from { IfOk result (λ message. message.from ≡ from.now) }
+        ensures subject { IfOk result (λ message. message.subject ≡ subject.now) }
+        ensures body { IfOk result (λ message. message.body ≡ body.now) }
+        ensures labels { IfOk result (λ message. AreLabelsOf (texts_of labels.items) message.labels) }
+        ensures flags { IfOk result (λ message. message.flags ≡ flags) }
+        ensures day { IfOk result (λ message. message.day ≡ day) }
+        ensures kept { IfOk result IsMail }
+    {
+        let flags = admitted_flags(from, subject, body, &mut labels, flags)?;
+        let room = body_with_room(alloc, from, subject, body)?;
+        message_of(alloc, from, subject, room, labels, flags, day)
+    }
+
+    /// The message of these texts and this card. The card is moved, and the texts are copied once, into one piece of
+    /// memory.
+    ///
+    /// The faults are tried in this order: `FromTooLong` over 254 bytes, `SubjectTooLong` over 998,
+    /// `BodyTooLong` over 65,536, and `OutOfMemory` last.
+    pub fn try_of_card(
+        alloc: Global,
+        from: &str,
+        subject: &str,
+        body: &[u8],
+        card: Card,
+    ) -> Result<Message, MessageFault>
+        ensures refused { IfSome (first_fault from.now subject.now body.now [] 0) (λ fault. result ≡ Err fault) }
+        ensures admitted { IfNone (first_fault from.now subject.now body.now [] 0) (IsOkUnless result MessageFault.OutOfMemory) }
+        ensures value { IfOk result (λ message. message ≡ mail_with from.now subject.now body.now card) }
+        ensures kept { IfOk result IsMail }
+    {
+        check_lengths(from, subject, body)?;
+        let room = body_with_room(alloc, from, subject, body)?;
+        Ok(packed(alloc, from, subject, room, card)?)
     }
 
     /// Who sent it, at most 254 bytes.
@@ -116,7 +212,7 @@ impl Message {
         ensures value { result.now ≡ self.now.from }
         ensures kept { length self.now.from ≤ MAX_FROM_BYTES }
     {
-        self.parts.from.as_str()
+        self.parts.from()
     }
 
     /// The subject, at most 998 bytes.
@@ -124,7 +220,7 @@ impl Message {
         ensures value { result.now ≡ self.now.subject }
         ensures kept { length self.now.subject ≤ MAX_SUBJECT_BYTES }
     {
-        self.parts.subject.as_str()
+        self.parts.subject()
     }
 
     /// The body, at most 65,536 bytes.
@@ -132,7 +228,7 @@ impl Message {
         ensures value { result.now ≡ self.now.body }
         ensures kept { length self.now.body ≤ MAX_BODY_BYTES }
     {
-        self.parts.body.as_slice()
+        self.parts.body()
     }
 
     /// The labels, in rising order of their bytes, each once, and at most 16.
@@ -183,6 +279,26 @@ impl Message {
     }
 }
 
+/// Whether a sender, a subject and a body are of a message's lengths, or the first fault of them.
+fn check_lengths(from: &str, subject: &str, body: &[u8]) -> Result<(), MessageFault>
+    ensures fault { first_fault from.now subject.now body.now [] 0 ≡ result_err result }
+    ensures whole { (labels : List (List ℕ)) (flags : ℕ) → IfErr result (λ fault. first_fault from.now subject.now body.now labels flags ≡ Some fault) }
+    ensures from_in { OnOk result (length from.now ≤ MAX_FROM_BYTES) }
+    ensures subject_in { OnOk result (length subject.now ≤ MAX_SUBJECT_BYTES) }
+    ensures body_in { OnOk result (length body.now ≤ MAX_BODY_BYTES) }
+{
+    if from.len() > MAX_FROM_BYTES {
+        return Err(MessageFault::FromTooLong);
+    }
+    if subject.len() > MAX_SUBJECT_BYTES {
+        return Err(MessageFault::SubjectTooLong);
+    }
+    if body.len() > MAX_BODY_BYTES {
+        return Err(MessageFault::BodyTooLong);
+    }
+    Ok(())
+}
+
 /// The flags of a message of these parts, or the first fault of the parts. Where there is none, the
 /// labels are left sorted, without repeats.
 fn admitted_flags(
@@ -201,15 +317,7 @@ fn admitted_flags(
     ensures labels { OnOk result (AreLabelsOf (texts_of labels.old.items) (texts_of labels.new.items)) }
     ensures labels_in { OnOk result (IsLabelSet (texts_of labels.new.items)) }
 {
-    if from.len() > MAX_FROM_BYTES {
-        return Err(MessageFault::FromTooLong);
-    }
-    if subject.len() > MAX_SUBJECT_BYTES {
-        return Err(MessageFault::SubjectTooLong);
-    }
-    if body.len() > MAX_BODY_BYTES {
-        return Err(MessageFault::BodyTooLong);
-    }
+    check_lengths(from, subject, body)?;
     if !are_texts_of_labels(labels.as_slice()) {
         return Err(MessageFault::BadLabel);
     }
@@ -223,34 +331,94 @@ fn admitted_flags(
     Ok(admitted)
 }
 
-/// The message of parts that make one. The parts are moved.
+/// The message of parts that make one. The body and the labels are moved.
 fn message_of(
     alloc: Global,
-    from: String,
-    subject: String,
+    from: &str,
+    subject: &str,
     body: Vec<u8>,
     labels: Vec<String>,
     flags: Flags,
     day: Day,
 ) -> Result<Message, MessageFault>
-    requires from_in { length (string_bytes from) ≤ MAX_FROM_BYTES }
-    requires subject_in { length (string_bytes subject) ≤ MAX_SUBJECT_BYTES }
+    requires from_in { length from.now ≤ MAX_FROM_BYTES }
+    requires subject_in { length subject.now ≤ MAX_SUBJECT_BYTES }
     requires body_in { length body.items ≤ MAX_BODY_BYTES }
     requires labels_in { IsLabelSet (texts_of labels.items) }
 
-    ensures value { IfOk result (λ message. message ≡ mail_with (string_bytes from) (string_bytes subject) body.items
+    ensures value { IfOk result (λ message. message ≡ mail_with from.now subject.now body.items
         (record { labels = texts_of labels.items; flags = flags; day = day })) }
     ensures kept { IfOk result IsMail }
     ensures fault { IfErr result (λ fault. fault ≡ MessageFault.OutOfMemory) }
 {
     let labels = into_labels(alloc, labels)?;
-    let parts = Parts {
-        from,
-        subject,
-        body,
-        card: Card::new(labels, flags, day),
-    };
+    let card = Card::new(labels, flags, day);
+    Ok(packed(alloc, from, subject, body, card)?)
+}
+
+/// A copy of the body, with room behind it for the sender and the subject and for nothing else.
+fn body_with_room(
+    alloc: Global,
+    from: &str,
+    subject: &str,
+    body: &[u8],
+) -> Result<Vec<u8>, AllocError>
+    requires from_in { length from.now ≤ MAX_FROM_BYTES }
+    requires subject_in { length subject.now ≤ MAX_SUBJECT_BYTES }
+    requires body_in { length body.now ≤ MAX_BODY_BYTES }
+    ensures { IfOk result (λ room. room.items ≡ body.now) }
+{
+    let mut room = Vec::with_capacity(alloc, body.len() + from.len() + subject.len())?;
+    room.extend_from_slice(body)?;
+    Ok(room)
+}
+
+/// The message whose texts stand behind one another.
+fn packed(
+    alloc: Global,
+    from: &str,
+    subject: &str,
+    body: Vec<u8>,
+    card: Card,
+) -> Result<Message, AllocError>
+    requires from_in { length from.now ≤ MAX_FROM_BYTES }
+    requires subject_in { length subject.now ≤ MAX_SUBJECT_BYTES }
+    requires body_in { length body.items ≤ MAX_BODY_BYTES }
+    ensures { IfOk result (λ message. message ≡ mail_with from.now subject.now body.items card) }
+{
+    let parts = parts_of(from, subject, body, card)?;
     Ok(Message {
         parts: Arc::new(alloc, parts)?,
     })
+}
+
+/// The parts of these texts and this card.
+fn parts_of(from: &str, subject: &str, body: Vec<u8>, card: Card) -> Result<Parts, AllocError>
+    requires from_in { length from.now ≤ MAX_FROM_BYTES }
+    requires subject_in { length subject.now ≤ MAX_SUBJECT_BYTES }
+    requires body_in { length body.items ≤ MAX_BODY_BYTES }
+    ensures { IfOk result (λ parts. parts ≡ mail_with from.now subject.now body.items card) }
+{
+    let body_end = body.len() as u32;
+    let from_end = body_end + from.len() as u32;
+    let text = joined(from.as_bytes(), subject.as_bytes(), body)?;
+    Ok(Parts {
+        text,
+        body_end,
+        from_end,
+        card,
+    })
+}
+
+/// The sender and the subject behind the body. It takes no more memory than they need.
+fn joined(from: &[u8], subject: &[u8], body: Vec<u8>) -> Result<Vec<u8>, AllocError>
+    requires from_in { length from.now ≤ MAX_FROM_BYTES }
+    requires subject_in { length subject.now ≤ MAX_SUBJECT_BYTES }
+    ensures { IfOk result (λ text. text.items ≡ body.items ++ from.now ++ subject.now) }
+{
+    let mut text = body;
+    text.reserve_exact(from.len() + subject.len())?;
+    text.extend_from_slice(from)?;
+    text.extend_from_slice(subject)?;
+    Ok(text)
 }
