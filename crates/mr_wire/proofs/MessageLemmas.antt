@@ -1,15 +1,13 @@
 -- Messages are read from their parts.
-use Rattle.std.proofs.Common.{◌≡◌, ℕ, ◌≤◌, ◌<◌, ◌^◌, Bool, true, false, List, ◌++◌, length, Option, Some, None, Result, Ok, Err, refl, sym, ap, ◌∙◌, arith, lit<, append_assoc}
-use Rattle.std.specs.Prelude.{IfSome, IfOk, IsSomeAnd, nat_le}
+use Rattle.std.proofs.Common.{◌≡◌, ℕ, ◌≤◌, ◌<◌, ◌^◌, Bool, true, false, List, ◌++◌, length, Option, Some, None, refl, sym, ap, ◌∙◌, arith, lit<, append_assoc}
+use Rattle.std.specs.Prelude.{IfSome, IsSomeAnd, nat_le}
 use Rattle.std.specs.Global.{Vec}
 use Rattle.std.specs.Int.{w16, w32}
 use Rattle.std.specs.Str.{IsUtf8, is_utf8}
 use Rattle.std.proofs.lemmas.Bool.{le-leb, leb-true}
 use Rattle.std.proofs.lemmas.Str.{IsUtf8-from_is_utf8, is_utf8-from_IsUtf8}
-use Rattle.mr_mail.specs.Label.{IsLabelSet, AreLabelsOf}
+use Rattle.mr_mail.specs.Label.{IsLabelSet}
 use Rattle.mr_mail.specs.Mail.{Mail}
-use Rattle.mr_mail.specs.declared.fault.MessageFault.{MessageFault}
-use Rattle.mr_filter.proofs.UniqueLemmas.{AreLabelsOf-unique}
 use Rattle.mr_wire.specs.Labels.{message_with}
 use Rattle.mr_wire.specs.Grammar.{IsLetter}
 use Rattle.mr_wire.specs.Reading.{number_at, only_at, Stands}
@@ -28,27 +26,6 @@ no_text bs h = at_test (is_utf8 bs) refl
     at_test : (b : Bool) → is_utf8 bs ≡ b → is_utf8 bs ≡ false
     at_test true e = absurd (h (IsUtf8-from_is_utf8 bs e))
     at_test false e = e
-
--- what a message is that was made of parts
-pub record IsMadeOf (from subject body : List ℕ) (labels : List (List ℕ)) (flags day : ℕ) (mail : Mail) : Type 0 where
-  pub from_is : mail.from ≡ from
-  pub subject_is : mail.subject ≡ subject
-  pub body_is : mail.body ≡ body
-  pub labels_are : AreLabelsOf labels mail.labels
-  pub flags_are : mail.flags ≡ flags
-  pub day_is : mail.day ≡ day
-
-pub is_message : (from subject body : List ℕ) (labels : List (List ℕ)) (flags day : ℕ) (mail : Mail) → IsLabelSet labels → IsMadeOf from subject body labels flags day mail → mail ≡ message_with from subject body labels flags day
-is_message from subject body labels flags day mail set m =
-    let kept : AreLabelsOf labels labels = record { rising = set.rising; same = λ label. refl } in
-    let e : mail.labels ≡ labels = AreLabelsOf-unique labels mail.labels labels m.labels_are kept in
-    rw (← m.from_is, ← m.subject_is, ← m.body_is, ← e, ← m.flags_are, ← m.day_is) refl
-
-pub is_built : (r : Result Mail MessageFault) (from subject body : List ℕ) (labels : List (List ℕ)) (flags day : ℕ) → IsLabelSet labels →
-    IfOk r (λ m. m.from ≡ from) → IfOk r (λ m. m.subject ≡ subject) → IfOk r (λ m. m.body ≡ body) → IfOk r (λ m. AreLabelsOf labels m.labels) → IfOk r (λ m. m.flags ≡ flags) → IfOk r (λ m. m.day ≡ day) →
-    IfOk r (λ m. m ≡ message_with from subject body labels flags day)
-is_built (Ok m) from subject body labels flags day set a b c d e f = is_message from subject body labels flags day m set (record { from_is = a; subject_is = b; body_is = c; labels_are = d; flags_are = e; day_is = f })
-is_built (Err fault) from subject body labels flags day set a b c d e f = tt
 
 -- ---- the law
 

@@ -21,6 +21,9 @@ use mr_filter::Filter;
 use mr_version::{Author, Version};
 use std::alloc::Global;
 
+/// The fewest bytes of a fragment that lists items: a tag, a count, an item, and the count of no columns.
+const LISTED_FRAGMENT_BYTES: usize = 13;
+
 /// The number of a stream or a session, from 1.
 fn serial(input: &mut Input<'_>) -> Option<u64>
     ensures { Gives serial_at input.old result input.new }
@@ -92,7 +95,8 @@ fn fragments(
 ) -> Option<Option<Vec<FrameFragment>>>
     ensures { Finds (λ v. v.items) (asked_run count) input.old result input.new }
 {
-    let mut fragments = room(memory, count as usize);
+    let most = input.len() / LISTED_FRAGMENT_BYTES + 1;
+    let mut fragments = room(memory, most.min(count as usize));
     let mut before = None;
     for _ in 0..count {
         let (fragment, least) = asked(input, memory, before)?;

@@ -1,6 +1,6 @@
 //! From bytes to a frame.
-ghost use Rattle.std.specs.Prelude.{◌≡◌, ◌++◌, ◌≤◌, ℕ, List, is_some, length, take, IfOk, Ok};
-ghost use Rattle.mr_wire.specs.Decoding.{Answers, FindsWhole, decoded, whole_frame};
+ghost use Rattle.std.specs.Prelude.{◌≡◌, ◌++◌, ◌≤◌, ℕ, List, length, take, IfOk, Ok};
+ghost use Rattle.mr_wire.specs.Decoding.{Answers, FindsWhole, decoded};
 ghost use Rattle.mr_wire.specs.declared.frame.Frame.{Frame};
 ghost use Rattle.mr_wire.specs.Grammar.{Spells};
 ghost use Rattle.mr_wire.specs.Rests.{AnswersRest, AnswersKind};
@@ -57,23 +57,16 @@ fn kind_of_rest(rest: &[u8]) -> Result<(Kind, &[u8]), WireFault>
     }
 }
 
-/// The frame of this kind that the bytes are, all of them.
-fn whole(memory: Option<Global>, kind: Kind, parts: &[u8]) -> Option<Option<Frame>>
+/// The frame of this kind that the bytes are, all of them. It is kept where there is memory for it.
+fn whole(alloc: Global, kind: Kind, parts: &[u8]) -> Option<Option<Frame>>
     ensures { FindsWhole kind parts.now result }
 {
     let mut input = Input::new(parts);
-    let kept = frame(&mut input, memory, kind)?;
+    let kept = frame(&mut input, Some(alloc), kind)?;
     if input.len() != 0 {
         return None;
     }
     Some(kept)
-}
-
-/// Whether the bytes are a frame of this kind. It takes no memory.
-fn are_frame(kind: Kind, parts: &[u8]) -> bool
-    ensures { result ≡ is_some (whole_frame kind parts.now) }
-{
-    whole(None, kind, parts).is_some()
 }
 
 /// The first frame and how many bytes it takes, or the first fault.
@@ -82,12 +75,10 @@ fn first_frame(alloc: Global, bytes: &[u8]) -> Result<(Frame, usize), WireFault>
 {
     let rest = rest_after_length(bytes)?;
     let (kind, parts) = kind_of_rest(rest)?;
-    if !are_frame(kind, parts) {
-        return Err(WireFault::BadBody);
-    }
-    match whole(Some(alloc), kind, parts) {
+    match whole(alloc, kind, parts) {
         Some(Some(frame)) => Ok((frame, rest.len() + LENGTH_BYTES)),
-        _ => Err(WireFault::OutOfMemory),
+        Some(None) => Err(WireFault::OutOfMemory),
+        None => Err(WireFault::BadBody),
     }
 }
 
@@ -98,7 +89,8 @@ fn first_frame(alloc: Global, bytes: &[u8]) -> Result<(Frame, usize), WireFault>
 /// bytes; `TooLong` for a length over 8,388,608; `BadBody` for a length of 0 or 1; `Truncated` where fewer
 /// bytes follow than the length says; `BadFormat` for a format byte other than 1 and 2; `BadKind` for a
 /// kind byte over 7, or over 6 in format 1; `BadBody` for anything else that is not in the grammar; and
-/// `OutOfMemory` last. The bytes are walked once to check them, with no memory, and once to build.
+/// `OutOfMemory` last: where a growth is refused, the rest is walked without keeping it. The bytes are walked once, and no
+/// count reserves more than the bytes behind it can hold.
 pub fn decode(alloc: Global, bytes: &[u8]) -> Result<(Frame, usize), WireFault>
     ensures exact { Answers (decoded bytes.now) result }
     ensures spelled { IfOk result (λ found. (format : ℕ) × Spells format found.0 (take found.1 bytes.now)) }

@@ -13,6 +13,9 @@ use mr_filter::{Clause, Filter, MAX_CLAUSE_LABELS, MAX_CLAUSES};
 use mr_mail::{Day, Flags, Label};
 use std::alloc::Global;
 
+/// The fewest bytes of a clause: two counts of no labels, two bytes of flags, and a day.
+const CLAUSE_BYTES: usize = 6;
+
 /// The clause of these parts, where its labels are kept.
 fn clause_of(
     wanted: Option<Vec<Label>>,
@@ -46,7 +49,8 @@ fn clause(input: &mut Input<'_>, memory: Option<Global>) -> Option<Option<Clause
 fn clauses(input: &mut Input<'_>, memory: Option<Global>, count: u8) -> Option<Option<Vec<Clause>>>
     ensures { Finds (λ v. v.items) (clauses_at count) input.old result input.new }
 {
-    let mut clauses = room(memory, usize::from(count));
+    let most = input.len() / CLAUSE_BYTES;
+    let mut clauses = room(memory, most.min(usize::from(count)));
     for _ in 0..count {
         let clause = clause(input, memory)?;
         keep(&mut clauses, clause);

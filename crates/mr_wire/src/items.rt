@@ -21,6 +21,9 @@ pub(crate) const ALL_ITEMS: u8 = 0;
 /// The tag of a fragment of listed items.
 pub(crate) const LISTED_ITEMS: u8 = 1;
 
+/// The bytes of an item.
+const ITEM_BYTES: usize = 6;
+
 /// Whether the item may stand behind the one before it, if there is one.
 pub(crate) fn follows(before: Option<Version>, item: Version) -> bool
     ensures { result ≡ item_follows before item }
@@ -61,7 +64,8 @@ fn items(
 ) -> Option<(Option<Vec<ItemId>>, Option<Version>)>
     ensures { FindsItems count input.old result input.new }
 {
-    let mut items = room(memory, count as usize);
+    let most = input.len() / ITEM_BYTES;
+    let mut items = room(memory, most.min(count as usize));
     let mut before = None;
     let mut first = None;
     for _ in 0..count {

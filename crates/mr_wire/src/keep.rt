@@ -1,8 +1,8 @@
 //! Parts that take memory are kept only where there is some.
 //!
-//! A body is walked twice: once to check it, with no memory, and once to build what it spells. The
-//! same functions do both. What they build is an `Option`, which is `None` in the first walk, and where
-//! memory ran out in the second.
+//! A body is walked once. What its readers build is an `Option`, which is `None` once memory ran out, or where a caller
+//! gives none to look at the bytes alone: the walk goes on all the same, so that each fault of the bytes comes before the
+//! want of memory.
 ghost use Rattle.std.specs.Prelude.{◌≡◌, IfSome, []};
 ghost use Rattle.mr_wire.specs.Reading.{KeepsMore};
 

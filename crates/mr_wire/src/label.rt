@@ -12,6 +12,9 @@ use crate::keep::{keep, room};
 use mr_mail::{Flags, Label, MAX_LABEL_BYTES, MAX_LABELS};
 use std::alloc::Global;
 
+/// The fewest bytes of a label behind its length.
+const LABEL_BYTES: usize = 2;
+
 /// Whether a label may have each of these bytes.
 fn are_label_bytes(bytes: &[u8]) -> bool
     ensures { result ≡ list_all is_label_byte bytes.now }
@@ -63,7 +66,8 @@ fn label_of(memory: Option<Global>, bytes: &[u8]) -> Option<Label>
 fn label_run(input: &mut Input<'_>, memory: Option<Global>, count: u8) -> Option<Option<Vec<Label>>>
     ensures { Finds (λ v. v.items) (run_at label_at next_label None count) input.old result input.new }
 {
-    let mut labels = room(memory, usize::from(count));
+    let most = input.len() / LABEL_BYTES;
+    let mut labels = room(memory, most.min(usize::from(count)));
     let mut before = None;
     for _ in 0..count {
         let label = label_bytes(input, before)?;

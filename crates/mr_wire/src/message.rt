@@ -2,7 +2,7 @@
 ghost use Rattle.std.specs.Prelude.{◌≡◌, true, false, MatchOption, IfOk, IfSome, IsSomeAnd};
 ghost use Rattle.std.specs.Option.{option_copied};
 ghost use Rattle.std.specs.Str.{is_utf8};
-ghost use Rattle.mr_mail.specs.Label.{IsLabelSet, texts_of};
+ghost use Rattle.mr_mail.specs.Label.{IsLabelSet};
 ghost use Rattle.mr_mail.specs.Mail.{Mail};
 ghost use Rattle.mr_wire.specs.Parts.{message_at, text_at, message_body_at};
 ghost use Rattle.mr_wire.specs.Reading.{Gives, Finds};
@@ -11,9 +11,10 @@ ghost use Rattle.mr_wire.specs.Labels.{message_with};
 use crate::input::Input;
 use crate::label::{flags, labels};
 use mr_mail::{
-    Day, Flags, Label, MAX_BODY_BYTES, MAX_FROM_BYTES, MAX_SUBJECT_BYTES, Message, MessageFault,
+    Card, Day, Flags, Label, MAX_BODY_BYTES, MAX_FROM_BYTES, MAX_SUBJECT_BYTES, Message,
+    MessageFault,
 };
-use std::alloc::{AllocError, Global};
+use std::alloc::Global;
 
 /// The text of these bytes, if they are UTF-8.
 #[tactic(auto, using(crate::proofs::MessageLemmas::no_text, crate::proofs::MessageLemmas::is_text))]
@@ -49,35 +50,20 @@ fn message_body<'a>(input: &mut Input<'a>) -> Option<&'a [u8]>
     input.bytes(len)
 }
 
-/// The texts of the labels.
-fn label_texts(alloc: Global, labels: &[Label]) -> Result<Vec<String>, AllocError>
-    ensures { IfOk result (λ texts. texts_of texts.items ≡ labels.now) }
-{
-    let mut texts = Vec::with_capacity(alloc, labels.len())?;
-    for label in labels {
-        texts.push(String::from_str(alloc, label.as_str())?)?;
-    }
-    Ok(texts)
-}
-
-/// The message of these parts.
+/// The message of these parts. The labels are moved.
 fn built(
     alloc: Global,
     from: &str,
     subject: &str,
     body: &[u8],
-    labels: &[Label],
+    labels: Vec<Label>,
     flags: Flags,
     day: Day,
 ) -> Result<Message, MessageFault>
-    requires { IsLabelSet labels.now }
-    ensures { IfOk result (λ m. m ≡ message_with from.now subject.now body.now labels.now flags day) }
+    requires { IsLabelSet labels.items }
+    ensures { IfOk result (λ m. m ≡ message_with from.now subject.now body.now labels.items flags day) }
 {
-    let texts = label_texts(alloc, labels)?;
-    let from = String::from_str(alloc, from)?;
-    let subject = String::from_str(alloc, subject)?;
-    let body = Vec::from_slice(alloc, body)?;
-    Message::try_new(alloc, from, subject, body, texts, flags.bits(), day)
+    Message::try_of_card(alloc, from, subject, body, Card::new(labels, flags, day))
 }
 
 /// The message of these parts, where its labels are kept.
@@ -95,7 +81,7 @@ fn message_of(
 {
     let alloc = memory?;
     let labels = labels?;
-    built(alloc, from, subject, body, &labels, flags, day).ok()
+    built(alloc, from, subject, body, labels, flags, day).ok()
 }
 
 /// A message: sender, subject and body behind their lengths, labels, flags and day.

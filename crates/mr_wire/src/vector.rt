@@ -12,6 +12,12 @@ use mr_concise::{AuthorColumn, Column, ConciseVector, Hole, MAX_HOLES};
 use mr_version::{Author, Version};
 use std::alloc::Global;
 
+/// The bytes of a hole: its first and its last counter.
+const HOLE_BYTES: usize = 8;
+
+/// The fewest bytes of a column: an author, a counter, and the count of no holes.
+const COLUMN_BYTES: usize = 8;
+
 /// A version as two numbers, so that there are some that no vector has.
 #[derive(Clone, Copy)]
 pub(crate) struct Place {
@@ -125,7 +131,8 @@ fn holes(
 ) -> Option<(Option<Vec<Hole>>, Seen)>
     ensures { FindsHoles upto count watched input.old result input.new }
 {
-    let mut holes = room(memory, usize::from(count));
+    let most = input.len() / HOLE_BYTES;
+    let mut holes = room(memory, most.min(usize::from(count)));
     let mut above = 0;
     let mut seen = Seen::NEITHER;
     for _ in 0..count {
@@ -196,7 +203,8 @@ fn columns(
 ) -> Option<(Option<Vec<AuthorColumn>>, Seen)>
     ensures { FindsColumns count watch input.old result input.new }
 {
-    let mut columns = room(memory, usize::from(count));
+    let most = input.len() / COLUMN_BYTES;
+    let mut columns = room(memory, most.min(usize::from(count)));
     let mut low = 0;
     let mut seen = Seen::NEITHER;
     for _ in 0..count {
