@@ -16,3 +16,4 @@ mod FrameLemmas
 mod FrameRows
 mod AnswerRows
 mod TakenRows
+mod Shown

@@ -1,7 +1,10 @@
 //! The lines of a script, out of a reader.
-ghost use Rattle.std.specs.Prelude.{◌≡◌, ◌≢◌, ◌≤◌, ◌<◌, ℕ, List, Option, Err, IsTrue, IfOk, IfErr, OnOk, IfSome, length, take};
+ghost use Rattle.std.specs.Prelude.{◌≡◌, ◌≢◌, ◌≤◌, ◌<◌, ◌+◌, ◌++◌, ℕ, List, Option, Err, IsTrue, IfOk, IfErr, OnOk, IfSome, length, take, vec_len};
 ghost use Rattle.std.specs.Option.{option_map};
+ghost use Rattle.std.specs.Io.{appended_bytes};
+ghost use Rattle.std.specs.Io.BufRead.{DropsThrough, take_through};
 ghost use Rattle.std.specs.Io.Buffered.{reader_remaining};
+ghost use Rattle.std.specs.Io.KnownBytes.{Consumes, IsAtEnd};
 ghost use Rattle.std.specs.Io.Take.{take_remaining};
 ghost use Rattle.std.specs.IoError.{error_kind};
 ghost use Rattle.mr_script.specs.Fault.{fault_of_kind};
@@ -10,7 +13,9 @@ ghost use Rattle.mr_script.specs.Waiting.{has_line};
 ghost use Rattle.mr_script.specs.declared.source.TheConstants.{MAX_SCRIPT_BYTES};
 
 use crate::metered::Metered;
+use memchr::memchr;
 use std::alloc::Global;
+use std::io;
 use std::io::{BufRead, BufReader, Error, ErrorKind, Read, Take};
 
 /// The most bytes of a script.
@@ -92,9 +97,7 @@ impl<R: Read + Drop> Source<R> {
             (source_remaining R.remaining self.new) self.new.taken) }
     {
         line.clear();
-        self.reader
-            .read_until(b'\n', line)
-            .map_err(SourceFault::of)?;
+        append_line(&mut self.reader, line).map_err(SourceFault::of)?;
         let count = line.len();
         self.taken = self.taken.saturating_add(count as u64);
         if self.taken > MAX_SCRIPT_BYTES {
@@ -104,6 +107,29 @@ impl<R: Read + Drop> Source<R> {
             line.truncate(line.len() - 1);
         }
         Ok(count > 0)
+    }
+}
+
+/// Appends the reader's next line with its line feed, and answers how many bytes it has: what `read_until` does.
+/// A line that has been read already is found many bytes at a time.
+fn append_line<R: Read>(reader: &mut BufReader<R>, line: &mut Vec<u8>) -> io::Result<usize>
+    ensures count { IfOk result (λ n. vec_len line.new ≡ vec_len line.old + n) }
+    ensures bytes { OnOk result (IfSome (reader_remaining R.remaining reader.old)
+        (λ xs. line.new.items ≡ line.old.items ++ take_through 10 xs)) }
+    ensures rest { OnOk result (DropsThrough (reader_remaining R.remaining reader.old)
+        (reader_remaining R.remaining reader.new) 10) }
+    ensures end { IfOk result (λ n. n ≡ 0 → IsAtEnd (reader_remaining R.remaining reader.old)) }
+    ensures none_lost { Consumes (reader_remaining R.remaining reader.old) (reader_remaining R.remaining reader.new)
+        (appended_bytes line.old.items line.new.items) }
+{
+    match memchr(b'\n', reader.buffer()) {
+        Some(at) => {
+            let count = at + 1;
+            line.extend_from_slice(&reader.buffer()[..count])?;
+            reader.consume(count);
+            Ok(count)
+        }
+        None => reader.read_until(b'\n', line),
     }
 }
 

@@ -5,4 +5,4 @@ use Rattle.mr_script.proofs.source.Source.next_line.Goals as goal
 
 pub returns-clause-counted : goal.returns-clause-counted
 returns-clause-counted g c script was =
-    Accounts-Consumes script _ _ _ _ _ was c.read_until.ensures.none_lost (grind (arith, common_steps))
+    Accounts-Consumes script _ _ _ _ _ was c.append_line.ensures.none_lost (grind (arith, common_steps))
