@@ -9,13 +9,14 @@ use Rattle.mr_version.specs.Name.{Name, name_cmp}
 use Rattle.mr_madewith.specs.Revision.{Rev}
 use Rattle.mr_store.specs.Index.{listed_for}
 use Rattle.mr_store.specs.Revisions.{AreInVersionOrder, versions_of}
+use Rattle.mr_store.specs.GapVector.{GapParts}
 use Rattle.mr_store.specs.Shelf.{IsShelf}
 
 no_some : false ≡ true → ⊥
 no_some is = cc
 
 -- equal revisions, with an index that lists the same, are a list of a store that has no room
-pub shelf_of_copies : {Y Z : Type 0} (revisions copies : Vec Rev Y) (index copy : BTreeMap Name (Vec Name Z)) (room : Option Name) → copies.items ≡ revisions.items → ((i : Name) → listed_for copy i ≡ listed_for index i) → IsShelf revisions index room → IsShelf copies copy None
+pub shelf_of_copies : {Z : Type 0} (revisions copies : GapParts) (index copy : BTreeMap Name (Vec Name Z)) (room : Option Name) → copies.items ≡ revisions.items → ((i : Name) → listed_for copy i ≡ listed_for index i) → IsShelf revisions index room → IsShelf copies copy None
 shelf_of_copies revisions copies index copy room same lists h = record {
   in_order = subst AreInVersionOrder (sym same) h.in_order;
   indexed = λ i. lists i ∙ (h.indexed i ∙ ap (versions_of i) (sym same));

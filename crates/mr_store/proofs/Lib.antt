@@ -7,3 +7,4 @@ pub mod Several
 pub mod HeldVersionLemmas
 pub mod CopyLemmas
 pub mod RetainLemmas
+pub mod GapLemmas

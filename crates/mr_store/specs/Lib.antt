@@ -3,6 +3,7 @@ pub mod Leaving
 pub mod Unheld
 pub mod FragmentIndex
 pub mod Index
+pub mod GapVector
 pub mod Shelf
 pub mod Holdings
 pub mod HeldVersions

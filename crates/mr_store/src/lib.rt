@@ -7,8 +7,9 @@
 //! What a newer version supersedes leaves both parts ([`Store::drop_below`]). What a full source covers
 //! and did not hold leaves the heads ([`Store::drop_unheld`]). What another replica vouches for leaves the
 //! push-outs ([`Store::drop_push_outs`]). A revision is a handle of eight bytes, so a shift of 50,000 of
-//! them moves 400,000 bytes. Two versions of an item may be held beside one another, also where one
-//! supersedes the other: a stranger's late version may enter after what superseded it.
+//! them moves 400,000 bytes; what leaves at the front, or comes at the end, shifts few. Two versions of an
+//! item may be held beside one another, also where one supersedes the other: a stranger's late version may
+//! enter after what superseded it.
 //!
 //! What fragments of knowledge cover for an item is looked up in a [`FragmentIndex`], which does not look
 //! at the fragments of other items.
@@ -22,6 +23,7 @@
 
 mod by_version;
 mod fragment_index;
+mod gap_vector;
 mod held_versions;
 mod index;
 mod leaving;

@@ -1,5 +1,5 @@
 //! One list of a store: revisions in version order, and an index of them by item.
-ghost use Rattle.std.specs.Prelude.{◌≡◌, ◌<◌, ◌≤◌, ◌&&◌, if◌then◌else◌, not, [], Some, None, IfOk, OnOk, OnErr, filter, vec_len, vec_capacity};
+ghost use Rattle.std.specs.Prelude.{◌≡◌, ◌<◌, ◌≤◌, ◌&&◌, if◌then◌else◌, not, [], Some, None, IfOk, OnOk, OnErr, filter};
 ghost use Rattle.std.specs.List.{list_any};
 ghost use Rattle.std.specs.Option.{option_copied};
 ghost use Rattle.mr_forms.specs.Sets.{is_listed};
@@ -11,6 +11,7 @@ ghost use Rattle.mr_store.specs.Unheld.{is_unheld};
 
 use crate::FragmentIndex;
 use crate::by_version::{has_version, search};
+use crate::gap_vector::GapVector;
 use crate::index::{
     copied, items_with_several, list, listed_for, make_room, unlist, unlist_versions,
 };
@@ -31,7 +32,7 @@ use std::marker::Model;
 #[derive(Drop)]
 pub struct Shelf {
     alloc: Global,
-    revisions: Vec<Revision>,
+    revisions: GapVector,
     index: BTreeMap<ItemId, Vec<Version>>,
     // the item for one more revision of which there is room
     room: Option<ItemId>,
@@ -54,7 +55,7 @@ impl Shelf {
     {
         Shelf {
             alloc,
-            revisions: Vec::new(alloc),
+            revisions: GapVector::new(alloc),
             index: BTreeMap::new(alloc),
             room: None,
         }
@@ -65,15 +66,16 @@ impl Shelf {
         ensures all { result.now ≡ self.now.revisions }
         ensures in_order { AreInVersionOrder self.now.revisions }
     {
-        &self.revisions
+        self.revisions.as_slice()
     }
 
     /// The revision of a version. It costs a binary search.
     pub fn revision(&self, version: Version) -> Option<&Revision>
         ensures { option_copied result ≡ revision_of self.now.revisions version }
     {
-        match search(&self.revisions, version) {
-            Ok(place) => Some(&self.revisions[place]),
+        let revisions = self.revisions.as_slice();
+        match search(revisions, version) {
+            Ok(place) => Some(&revisions[place]),
             Err(_) => None,
         }
     }
@@ -139,7 +141,7 @@ impl Shelf {
     {
         let index = FragmentIndex::new(self.alloc, learned)?;
         let mut left = Vec::new(self.alloc);
-        for revision in &self.revisions {
+        for revision in self.revisions.as_slice() {
             if is_unheld(&index, learned, held, revision.item(), revision.version()) {
                 left.push(revision.copy()?)?;
             }
@@ -153,7 +155,7 @@ impl Shelf {
         ensures err { OnErr result (self.new.revisions ≡ self.old.revisions) }
     {
         self.room = None;
-        self.revisions.reserve(1)?;
+        self.revisions.reserve_one()?;
         make_room(&mut self.index, self.alloc, item)?;
         self.room = Some(item);
         Ok(())
@@ -191,7 +193,7 @@ impl Shelf {
         ensures { self.new ≡ record { revisions = filter (λ r. not (holds left.now r.version)) self.old.revisions; room = self.old.room } }
     {
         unlist_versions(&mut self.index, left);
-        retain_others(&mut self.revisions, left);
+        self.revisions.retain_others(left);
     }
 
     /// An equal list, which shares the revisions' parts. It costs a handle for each, and the index. It has
@@ -201,7 +203,7 @@ impl Shelf {
     {
         Ok(Shelf {
             alloc: self.alloc,
-            revisions: copies(self.alloc, &self.revisions)?,
+            revisions: GapVector::from_vec(copies(self.alloc, self.revisions.as_slice())?),
             index: copied(&self.index)?,
             room: None,
         })
@@ -209,21 +211,20 @@ impl Shelf {
 }
 
 // Takes the revision of the version out.
-fn remove(revisions: &mut Vec<Revision>, version: Version)
+fn remove(revisions: &mut GapVector, version: Version)
     requires { AreInVersionOrder revisions.old.items }
     ensures items { revisions.new.items ≡ without version_of version revisions.old.items }
     ensures in_order { AreInVersionOrder revisions.new.items }
-    ensures fewer { vec_len revisions.new ≤ vec_len revisions.old }
-    ensures capacity { vec_capacity revisions.new ≡ vec_capacity revisions.old }
+    ensures spare { revisions.old.spare ≤ revisions.new.spare }
 {
-    if let Ok(place) = search(revisions, version) {
+    if let Ok(place) = search(revisions.as_slice(), version) {
         revisions.remove(place);
     }
 }
 
 // Takes out those of these versions that leave.
 fn remove_listed(
-    revisions: &mut Vec<Revision>,
+    revisions: &mut GapVector,
     versions: &[Version],
     ones: &[Version],
     below: &ConciseVector,
@@ -231,8 +232,7 @@ fn remove_listed(
     requires { AreInVersionOrder revisions.old.items }
     ensures items { revisions.new.items ≡ filter (λ r. not (is_listed versions.now r.version && leaves ones.now below.now r.version)) revisions.old.items }
     ensures in_order { AreInVersionOrder revisions.new.items }
-    ensures fewer { vec_len revisions.new ≤ vec_len revisions.old }
-    ensures capacity { vec_capacity revisions.new ≡ vec_capacity revisions.old }
+    ensures spare { revisions.old.spare ≤ revisions.new.spare }
 {
     for version in versions {
         if leaves(ones, below, *version) {
@@ -241,27 +241,17 @@ fn remove_listed(
     }
 }
 
-// Keeps those that are of the version of none of these, which stand in version order.
-fn retain_others(revisions: &mut Vec<Revision>, left: &[Revision])
-    requires { AreInVersionOrder left.now }
-    ensures items { revisions.new.items ≡ filter (λ r. not (holds left.now r.version)) revisions.old.items }
-    ensures fewer { vec_len revisions.new ≤ vec_len revisions.old }
-    ensures capacity { vec_capacity revisions.new ≡ vec_capacity revisions.old }
-{
-    revisions.retain(|revision| !has_version(left, revision.version()));
-}
-
 // Puts a revision at its place, where there is room.
-fn insert(revisions: &mut Vec<Revision>, revision: Revision)
+fn insert(revisions: &mut GapVector, revision: Revision)
     requires in_order { AreInVersionOrder revisions.old.items }
     requires new { revision_of revisions.old.items revision.version ≡ None }
-    requires room { vec_len revisions.old < vec_capacity revisions.old }
+    requires room { 0 < revisions.old.spare }
     ensures items { revisions.new.items ≡ entered revision revisions.old.items }
     ensures in_order { AreInVersionOrder revisions.new.items }
 {
-    match search(revisions, revision.version()) {
+    match search(revisions.as_slice(), revision.version()) {
         Ok(_) => unreachable!(),
-        Err(place) => revisions.insert(place, revision).unwrap(),
+        Err(place) => revisions.insert(place, revision),
     }
 }
 

@@ -14,8 +14,7 @@ pub loop-version-init : goal.loop-version-init
 loop-version-init c = record {
   items = filter-all c.args.revisions.now.items;
   in_order = c.requires;
-  fewer = omega arith;
-  capacity = refl;
+  spare = omega arith;
 }
 
 pub loop-version-preserved : goal.loop-version-preserved
@@ -30,13 +29,11 @@ loop-version-preserved c =
       | then-leaves w ↦ record {
         items = ap (λ h. h.items) w.revisions-is ∙ w.remove.ensures.items ∙ ap (λ (hs : List Rev). without version_of v hs) c.loop-version.invariant.items ∙ without-more vs v below heads (sym c.leaves.ensures ∙ w.if-leaves.true) ∙ to_more;
         in_order = rw w.revisions-is w.remove.ensures.in_order;
-        fewer = rw w.revisions-is (omega (arith, w.remove.ensures.fewer, c.loop-version.invariant.fewer));
-        capacity = rw w.revisions-is (w.remove.ensures.capacity ∙ c.loop-version.invariant.capacity);
+        spare = rw w.revisions-is (omega (arith, w.remove.ensures.spare, c.loop-version.invariant.spare));
       }
       | else-leaves w ↦ record {
         items = ap (λ h. h.items) w.revisions-is ∙ c.loop-version.invariant.items ∙ is_none_of-more vs v below heads (sym c.leaves.ensures ∙ w.if-leaves.false) ∙ to_more;
         in_order = rw w.revisions-is c.loop-version.invariant.in_order;
-        fewer = rw w.revisions-is c.loop-version.invariant.fewer;
-        capacity = rw w.revisions-is c.loop-version.invariant.capacity;
+        spare = rw w.revisions-is c.loop-version.invariant.spare;
       }
     ]

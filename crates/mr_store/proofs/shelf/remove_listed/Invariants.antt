@@ -1,4 +1,4 @@
-use Rattle.std.proofs.Common.{◌≡◌, ◌≤◌, take, vec_len, vec_capacity}
+use Rattle.std.proofs.Common.{◌≡◌, ◌≤◌, take}
 use Rattle.std.specs.List.{filter}
 use Rattle.mr_store.specs.Leaving.{leaves}
 use Rattle.mr_store.specs.Revisions.{AreInVersionOrder}
@@ -10,6 +10,5 @@ abbrev pub invariant-loop-version : goal.invariant-loop-version
 invariant-loop-version l = record {
   items : l.revisions.items ≡ filter (is_none_of (take l.version-index l.versions) (leaves l.ones l.below)) l.initial.revisions.items;
   in_order : AreInVersionOrder l.revisions.items;
-  fewer : vec_len l.revisions ≤ vec_len l.initial.revisions;
-  capacity : vec_capacity l.revisions ≡ vec_capacity l.initial.revisions;
+  spare : l.initial.revisions.spare ≤ l.revisions.spare;
 }

@@ -15,7 +15,7 @@ invariant_of-self c =
     record {
       in_order = c.remove_listed.ensures.in_order;
       indexed = λ i. rw (left, versions_of-left_by i c.args.item (leaves c.args.ones.now c.args.below.now) heads) (rw (c.self.invariant.indexed i) at (c.unlist.ensures.others i));
-      has_place = λ h. omega (arith, c.remove_listed.ensures.fewer, c.remove_listed.ensures.capacity, c.self.invariant.has_place h);
+      has_place = λ h. omega (arith, c.remove_listed.ensures.spare, c.self.invariant.has_place h);
       has_room = room-kept c.self.inside.index c.unlist.new.index c.self.inside.room c.unlist.ensures.room c.self.invariant.has_room;
     }
 

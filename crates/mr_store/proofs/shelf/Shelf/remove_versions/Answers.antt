@@ -17,6 +17,6 @@ invariant_of-self c =
           (c.unlist_versions.ensures.others i
           ∙ (ap (λ (vs : List Name). filter (λ v. not (holds left v)) vs) (c.self.invariant.indexed i)
           ∙ sym (versions_of-filter (holds left) i old)));
-      has_place = λ h. omega (arith, c.retain_others.ensures.fewer, c.retain_others.ensures.capacity, c.self.invariant.has_place h);
+      has_place = λ h. omega (arith, c.retain_others.ensures.spare, c.self.invariant.has_place h);
       has_room = room-kept c.self.inside.index c.unlist_versions.new.index c.self.inside.room c.unlist_versions.ensures.room c.self.invariant.has_room;
     }
