@@ -8,3 +8,4 @@ pub mod HeldVersionLemmas
 pub mod CopyLemmas
 pub mod RetainLemmas
 pub mod GapLemmas
+pub mod PassLemmas

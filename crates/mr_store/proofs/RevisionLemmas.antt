@@ -1,9 +1,10 @@
 -- the versions of an item, after each edit of a list
-use Rattle.std.proofs.Common.{◌≡◌, ◌<◌, ℕ, zero, suc, length, Result, Ok, Err, IfOk, IfErr, is_ok, is_some, Bool, true, false, not, ◌&&◌, ◌||◌, cond, if◌then◌else◌, refl, sym, ap, subst, ◌∙◌, List, [], ◌∷◌, ◌++◌, map, ◌⊎◌, inl, inr, Option, Some, None, arith}
+use Rattle.std.proofs.Common.{◌≡◌, ◌<◌, ◌==◌, ℕ, zero, suc, length, Result, Ok, Err, IfOk, IfErr, is_ok, is_some, Bool, true, false, not, ◌&&◌, ◌||◌, cond, if◌then◌else◌, refl, sym, ap, subst, ◌∙◌, List, [], ◌∷◌, ◌++◌, map, ◌⊎◌, inl, inr, Option, Some, None, arith}
 use Rattle.std.specs.declared.cmp.Ordering.TheVariants.{Less}
 use Rattle.std.specs.Ordering.{is_eq}
 use Rattle.std.specs.List.{AllByRecursion, filter, filter_map, list_any, slice_get, cons_option}
 use Rattle.std.proofs.lemmas.Option.{slice_get-get_or}
+use Rattle.std.proofs.lemmas.Bool.{eqb-true}
 use Rattle.std.proofs.lemmas.List.Elements.{filter_agree}
 use Rattle.std.proofs.lemmas.List.Folds.{list_any-append}
 use Rattle.mr_version.specs.Name.{Name, name_cmp, name_eq}
@@ -256,6 +257,11 @@ passing p (x ∷ xs) rising =
 -- without the versions of those that pass, those are left that don't
 pub filter-passing : (p : Rev → Bool) (rs : List Rev) → AreInVersionOrder rs → filter (λ r. not (holds (filter p rs) r.version)) rs ≡ filter (λ r. not (p r)) rs
 filter-passing p rs rising = filter-along (λ r. not (holds (filter p rs) r.version)) (λ r. not (p r)) rs (passing p rs rising)
+
+-- where none are to leave, all stay
+pub none_left : (left rs : List Rev) → (length left == 0) ≡ true → rs ≡ filter (λ r. not (holds left r.version)) rs
+none_left [] rs empty = filter-all rs
+none_left (r ∷ left) rs empty = absurd (let none : length (r ∷ left) ≡ 0 = eqb-true (length (r ∷ left)) 0 empty in omega (arith, none))
 
 -- ---- a search by version
 

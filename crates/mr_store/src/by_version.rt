@@ -1,10 +1,12 @@
 //! Searches by version among revisions in version order.
-ghost use Rattle.std.specs.Prelude.{◌≡◌, IfOk, IfErr};
+ghost use Rattle.std.specs.Prelude.{◌≡◌, ◌≤◌, IfOk, IfErr, length, true, false};
+ghost use Rattle.std.specs.List.Sorted.{IsPartitionPoint};
+ghost use Rattle.mr_madewith.specs.Keyed.{is_before};
 ghost use Rattle.mr_madewith.specs.Search.{IsFoundAt, IsGapFor};
 ghost use Rattle.mr_store.specs.Revisions.{AreInVersionOrder, version_of, holds};
 
 use mr_madewith::Revision;
-use mr_version::Version;
+use mr_version::{Author, Version};
 
 /// Where the revision of the version is, or where it would go.
 pub fn search(revisions: &[Revision], version: Version) -> Result<usize, usize>
@@ -21,4 +23,20 @@ pub fn has_version(revisions: &[Revision], version: Version) -> bool
     ensures { result ≡ holds revisions.now version }
 {
     search(revisions, version).is_ok()
+}
+
+// Whether the version stands before the author's version of this counter.
+fn is_before(version: Version, author: Author, counter: u32) -> bool
+    ensures { result ≡ is_before version (record { author = author; counter = counter }) }
+{
+    version.author() < author || (version.author() == author && version.counter() < counter)
+}
+
+/// How many revisions stand before the author's version of this counter. It costs a binary search.
+pub fn place_before(revisions: &[Revision], author: Author, counter: u32) -> usize
+    requires { AreInVersionOrder revisions.now }
+    ensures bound { result ≤ length revisions.now }
+    ensures place { IsPartitionPoint (λ r. is_before r.version (record { author = author; counter = counter }) ≡ true) (λ r. is_before r.version (record { author = author; counter = counter }) ≡ false) revisions.now result }
+{
+    revisions.partition_point(|revision| is_before(revision.version(), author, counter))
 }

@@ -1,5 +1,5 @@
 //! Fragments of knowledge, found by item.
-ghost use Rattle.std.specs.Prelude.{◌≡◌, ◌≤◌, ◌++◌, map, length, filter, true, false, IfOk, OnOk};
+ghost use Rattle.std.specs.Prelude.{◌≡◌, ◌≤◌, ◌==◌, ◌++◌, not, map, length, filter, true, false, IfOk, OnOk};
 ghost use Rattle.std.specs.List.{list_any, slice_get};
 ghost use Rattle.std.specs.List.Sorted.{IsPermutation, IsPartitionPoint, IsSortedByKey};
 ghost use Rattle.std.specs.Option.{option_copied};
@@ -203,6 +203,13 @@ impl FragmentIndex {
         ensures { result ≡ slice_get self.now.general 0 }
     {
         self.general.first().copied()
+    }
+
+    /// Whether some fragment lists items, and is not of all items. It costs no search.
+    pub fn lists_items(&self) -> bool
+        ensures { result ≡ not (length self.now.listings == 0) }
+    {
+        !self.listings.is_empty()
     }
 
     /// Whether one of the fragments, of which this is the index, covers the version for the item. It costs

@@ -60,8 +60,8 @@ fn lower_author(a: Option<Author>, b: Option<Author>) -> Option<Author>
     }
 }
 
-// The lower of two counters, where there are any.
-fn lower(a: Option<u32>, b: Option<u32>) -> Option<u32>
+/// The lower of two counters, where there are any.
+pub fn lower(a: Option<u32>, b: Option<u32>) -> Option<u32>
     ensures { result ≡ lower_of a b }
 {
     match (a, b) {

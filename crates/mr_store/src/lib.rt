@@ -31,6 +31,7 @@ mod shelf;
 mod store;
 mod unheld;
 
+pub use by_version::place_before;
 pub use fragment_index::FragmentIndex;
 pub use held_versions::HeldVersions;
 pub use store::{Part, Store};

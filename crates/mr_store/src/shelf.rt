@@ -9,14 +9,13 @@ ghost use Rattle.mr_store.specs.Leaving.{leaves};
 ghost use Rattle.mr_store.specs.Revisions.{AreInVersionOrder, version_of, revision_of, holds, entered, versions_of, supersedes, left_by, AreConflicts};
 ghost use Rattle.mr_store.specs.Unheld.{is_unheld};
 
-use crate::FragmentIndex;
 use crate::by_version::{has_version, search};
 use crate::gap_vector::GapVector;
 use crate::index::{
     copied, items_with_several, list, listed_for, make_room, unlist, unlist_versions,
 };
 use crate::leaving::{leaves, some_leave};
-use crate::unheld::is_unheld;
+use crate::unheld::unheld_of;
 use mr_concise::ConciseVector;
 use mr_forms::{Fragment, VersionSet};
 use mr_madewith::Revision;
@@ -131,7 +130,8 @@ impl Shelf {
     }
 
     /// The revisions that these fragments cover and that no vector has, in version order. It costs
-    /// a sort of the items that the fragments list, and the test of each revision.
+    /// a sort of the items that the fragments list, some binary searches for each run of versions that some
+    /// vector has, and the test of each other revision.
     pub fn unheld(
         &self,
         learned: &[Fragment<ConciseVector>],
@@ -139,14 +139,7 @@ impl Shelf {
     ) -> Result<Vec<Revision>, AllocError>
         ensures { IfOk result (λ left. left.items ≡ filter (λ r. is_unheld learned.now held.now r.item r.version) self.now.revisions) }
     {
-        let index = FragmentIndex::new(self.alloc, learned)?;
-        let mut left = Vec::new(self.alloc);
-        for revision in self.revisions.as_slice() {
-            if is_unheld(&index, learned, held, revision.item(), revision.version()) {
-                left.push(revision.copy()?)?;
-            }
-        }
-        Ok(left)
+        unheld_of(self.alloc, learned, held, self.revisions.as_slice())
     }
 
     /// Makes room for one more revision of the item.
@@ -186,12 +179,15 @@ impl Shelf {
         unlist(&mut self.index, item, ones, below);
     }
 
-    /// The revisions leave that are of the version of one of these, which stand in version order. It costs a
-    /// binary search among these for each revision, and one shift.
+    /// The revisions leave that are of the version of one of these, which stand in version order. Where there are
+    /// any, it costs a binary search among these for each revision, and one shift.
     pub fn remove_versions(&mut self, left: &[Revision])
         requires { AreInVersionOrder left.now }
         ensures { self.new ≡ record { revisions = filter (λ r. not (holds left.now r.version)) self.old.revisions; room = self.old.room } }
     {
+        if left.is_empty() {
+            return;
+        }
         unlist_versions(&mut self.index, left);
         self.revisions.retain_others(left);
     }

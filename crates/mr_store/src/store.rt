@@ -129,9 +129,10 @@ impl Store {
     }
 
     /// The heads that these fragments cover and that no vector has, in version order. It costs a sort of
-    /// the items that the fragments list, and the test of each head: two binary searches in each vector; and
-    /// where none has it, two among all those items, and two in the vector of each fragment that is of the
-    /// head's item.
+    /// the items that the fragments list. A run of versions that some vector has is passed by three binary searches,
+    /// or more where it goes on from vector to vector; so is, where nothing is listed, a run that no fragment has. Each
+    /// other head costs two binary searches in each vector, two among all those items, and two in the vector of
+    /// each fragment that is of the head's item.
     pub fn unheld(
         &self,
         learned: &[Fragment<ConciseVector>],
@@ -197,7 +198,8 @@ impl Store {
     }
 
     /// The heads leave that are of the version of one of these revisions, which stand in version order;
-    /// push-outs stay. It can't fail. It costs a binary search among these for each head, and one shift.
+    /// push-outs stay. It can't fail. Where there are any, it costs a binary search among these for each
+    /// head, and one shift.
     pub fn remove_heads(&mut self, left: &[Revision])
         requires { AreInVersionOrder left.now }
         ensures { self.new ≡ record self.old { heads = filter (λ r. not (holds left.now r.version)) self.old.heads } }

@@ -3,9 +3,14 @@ use Rattle.std.specs.List.{filter}
 use Rattle.mr_version.specs.Name.{Name}
 use Rattle.mr_madewith.proofs.Rising.{rises-filter}
 use Rattle.mr_store.specs.Revisions.{version_of, holds}
-use Rattle.mr_store.proofs.RevisionLemmas.{versions_of-filter}
+use Rattle.mr_store.proofs.RevisionLemmas.{versions_of-filter, none_left}
 use Rattle.mr_store.proofs.IndexLemmas.{room-kept}
+use Rattle.mr_madewith.specs.Revision.{Rev}
+use Rattle.mr_store.specs.Shelf.{ShelfParts}
 use Rattle.mr_store.proofs.shelf.Shelf.remove_versions.Goals as goal
+
+pub returns-then-is_empty : goal.returns-then-is_empty
+returns-then-is_empty c = ap (λ (rs : List Rev). (let s : ShelfParts = record { revisions = rs; room = c.args.self.now.room } in s)) (none_left c.args.left.now c.args.self.now.revisions (sym c.is_empty.ensures ∙ c.if-is_empty.true))
 
 pub invariant_of-self : goal.invariant_of-self
 invariant_of-self c =

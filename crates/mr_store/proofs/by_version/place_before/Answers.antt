@@ -1,0 +1,12 @@
+use Rattle.std.proofs.Common.{rules}
+use Rattle.std.proofs.lemmas.List.Sorted.{IsPartitionPoint-from_clause}
+use Rattle.mr_madewith.specs.Keyed.{is_before}
+use Rattle.mr_madewith.proofs.Rising.{sorted_by_name}
+use Rattle.mr_store.specs.Revisions.{version_of}
+use Rattle.mr_store.proofs.OrderLemmas.{parted_below}
+use Rattle.mr_store.proofs.by_version.place_before.Goals as goal
+
+pub returns-clause-place : goal.returns-clause-place
+returns-clause-place c =
+    IsPartitionPoint-from_clause (λ r. is_before r.version (record { author = c.args.author; counter = c.args.counter })) c.args.revisions.now c.partition_point.result c.partition_point.ensures.partitioned
+    (parted_below version_of c.args.revisions.now (record { author = c.args.author; counter = c.args.counter }) (sorted_by_name version_of c.args.revisions.now c.requires)) (λ a r q k. search rules)
