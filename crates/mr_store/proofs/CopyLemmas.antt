@@ -6,7 +6,6 @@ use Rattle.std.specs.Map.{lookup}
 use Rattle.std.specs.Option.{option_map_or}
 use Rattle.std.specs.declared.vec.Vec.{Vec}
 use Rattle.mr_version.specs.Name.{Name, name_cmp}
-use Rattle.mr_madewith.specs.Revision.{Rev}
 use Rattle.mr_store.specs.Index.{listed_for}
 use Rattle.mr_store.specs.Revisions.{AreInVersionOrder, versions_of}
 use Rattle.mr_store.specs.GapVector.{GapParts}

@@ -1,5 +1,5 @@
 -- what leaves behind a gap
-use Rattle.std.proofs.Common.{◌≡◌, ◌<◌, ◌≤◌, ◌+◌, ◌∙◌, ℕ, suc, List, ◌++◌, length, take, drop, refl, ap, arith, insert, remove, ◌∷◌}
+use Rattle.std.proofs.Common.{◌≡◌, ◌<◌, ◌≤◌, ◌+◌, ◌∙◌, ℕ, suc, List, length, take, drop, refl, arith, insert, remove, ◌∷◌}
 use Rattle.std.proofs.lemmas.List.{drop-append-le, drop-drop, drop-take, length-take, length-drop}
 
 -- without one behind the gap

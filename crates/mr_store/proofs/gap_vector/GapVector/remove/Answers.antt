@@ -1,4 +1,4 @@
-use Rattle.std.proofs.Common.{◌≡◌, ◌∙◌, ap, sym, List, drop, remove}
+use Rattle.std.proofs.Common.{◌∙◌, ap, List, drop, remove}
 use Rattle.mr_madewith.specs.Revision.{Rev}
 use Rattle.mr_store.specs.GapVector.{GapParts}
 use Rattle.mr_store.proofs.GapLemmas.{drop-remove}

@@ -1,4 +1,4 @@
-use Rattle.std.proofs.Common.{◌≡◌, ◌∙◌, ap, sym, List, drop}
+use Rattle.std.proofs.Common.{◌∙◌, ap, sym, List, drop}
 use Rattle.std.proofs.lemmas.List.{drop-drop}
 use Rattle.mr_madewith.specs.Revision.{Rev}
 use Rattle.mr_store.specs.GapVector.{GapParts}
