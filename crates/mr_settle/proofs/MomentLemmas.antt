@@ -21,7 +21,7 @@ use Rattle.mr_world.specs.declared.answered.Answered.{Answered}
 use Rattle.mr_world.specs.declared.event.Event.{Event}
 use Rattle.mr_world.specs.declared.event.Event.TheVariants as event
 use Rattle.mr_world.specs.declared.fault.WorldFault.TheVariants.{NoSuchReplica, NoSuchFrame}
-use Rattle.mr_world.proofs.AtPlaces.{at_other}
+use Rattle.mr_world.proofs.Groundwork.AtPlaces.{at_other}
 use Rattle.mr_settle.specs.History.{IsWorldOf}
 use Rattle.mr_settle.proofs.MoveLemmas.{there_if}
 

@@ -21,7 +21,7 @@ use Rattle.mr_world.specs.World.{Port, World, with_given, with_replica}
 use Rattle.mr_world.specs.declared.answer.Answer.{Answer}
 use Rattle.mr_world.specs.declared.answer.Answer.TheVariants.{Stepped}
 use Rattle.mr_world.specs.declared.event.Event.{Event}
-use Rattle.mr_world.proofs.AtPlaces.{at_other}
+use Rattle.mr_world.proofs.Groundwork.AtPlaces.{at_other}
 use Rattle.mr_settle.specs.Numbers.{Grew}
 use Rattle.mr_settle.proofs.ListLemmas.{some_one}
 use Rattle.mr_settle.proofs.NamedLemmas.{IsNamed}

@@ -1,49 +1,8 @@
-pub mod Tools
-pub mod Tables
-pub mod AtPlaces
-pub mod Orders
-pub mod Trails
-pub mod Parts
-pub mod FeedKeeps
-pub mod Learning
-pub mod More
-pub mod Moves
-pub mod Issuing
-pub mod Editing
-pub mod Taking
-pub mod Receiving
-pub mod Due
-pub mod Cuts
-pub mod Drawn
-pub mod NextKeeps
-pub mod NextWhole
-pub mod Refines
-pub mod IssueMoves
-pub mod RecordMoves
-pub mod Opening
-pub mod Receipts
-pub mod PortMoves
-pub mod Refinement
-pub mod WholeRuns
-pub mod NormalKeeps
-pub mod PiecesListMore
-pub mod ListedKeeps
-pub mod NeverForged
-pub mod Genuine
-pub mod Replies
-pub mod BySets
-mod RunSteps
-mod RunRow
-mod Rows
-pub mod PoolLemmas
-pub mod KeepsId
-pub mod MemberPlaces
-pub mod Moved
-pub mod Happening
-pub mod OutletLemmas
-pub mod TaskLemmas
-pub mod SteppedLemmas
-pub mod LoopLemmas
-pub mod MadeLemmas
-pub mod SpecLemmas
-pub mod PromiseLemmas
+pub mod Groundwork
+pub mod Agreement
+pub mod Drawing
+pub mod Moving
+pub mod Keeping
+pub mod Histories
+pub mod Running
+mod Worked

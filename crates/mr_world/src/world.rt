@@ -202,7 +202,7 @@ impl<K: Knowledge> World<K> {
 }
 
 // Members of these specifications, in their order.
-#[tactic(auto, using(crate::proofs::LoopLemmas::members_begin, crate::proofs::LoopLemmas::members_end))]
+#[tactic(auto, using(crate::proofs::Running::Loops::members_begin, crate::proofs::Running::Loops::members_end))]
 fn members_of<K: Knowledge>(alloc: Global, specs: Vec<Spec>) -> Result<Vec<Member<K>>, AllocError>
     requires { spec_refusal specs.items ≡ None }
     ensures { IfOk result (λ members. AllZip (IsMadeOf K.form) specs.items members.items) }

@@ -1,6 +1,6 @@
 use Rattle.mr_world.specs.Event.{replica_of}
-use Rattle.mr_world.proofs.MemberPlaces.{place_there}
-use Rattle.mr_world.proofs.Happening.{no_task}
+use Rattle.mr_world.proofs.Running.MemberPlaces.{place_there}
+use Rattle.mr_world.proofs.Running.Happening.{no_task}
 use Rattle.mr_world.proofs.answering.answer_at.Goals as goal
 
 pub returns-in-Err-clause-meets : goal.returns-in-Err-clause-meets

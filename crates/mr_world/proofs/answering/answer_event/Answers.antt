@@ -1,5 +1,5 @@
 use Rattle.std.proofs.Common.{sym}
-use Rattle.mr_world.proofs.Happening.{no_such_replica}
+use Rattle.mr_world.proofs.Running.Happening.{no_such_replica}
 use Rattle.mr_world.proofs.answering.answer_event.Goals as goal
 
 pub returns-in-None-clause-meets : goal.returns-in-None-clause-meets

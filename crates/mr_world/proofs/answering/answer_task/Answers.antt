@@ -1,6 +1,6 @@
 use Rattle.mr_world.specs.Event.{replica_of}
-use Rattle.mr_world.proofs.MemberPlaces.{place_found, place_there}
-use Rattle.mr_world.proofs.Happening.{no_places, not_done, happens, kept_frames, fulfilled_frames}
+use Rattle.mr_world.proofs.Running.MemberPlaces.{place_found, place_there}
+use Rattle.mr_world.proofs.Running.Happening.{no_places, not_done, happens, kept_frames, fulfilled_frames}
 use Rattle.mr_world.proofs.answering.answer_task.Goals as goal
 
 pub returns-in_default-clause-meets : goal.returns-in_default-clause-meets

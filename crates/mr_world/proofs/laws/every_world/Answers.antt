@@ -1,4 +1,4 @@
-use Rattle.mr_world.proofs.WholeRuns.{world_runs, world_headline}
+use Rattle.mr_world.proofs.Histories.WholeRuns.{world_runs, world_headline}
 use Rattle.mr_world.proofs.laws.every_world.Goals as goal
 
 pub returns-clause-run : goal.returns-clause-run

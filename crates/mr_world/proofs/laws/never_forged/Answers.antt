@@ -1,4 +1,4 @@
-use Rattle.mr_world.proofs.Genuine.{fresh_genuine, one_more_genuine, world_answers}
+use Rattle.mr_world.proofs.Histories.Genuine.{fresh_genuine, one_more_genuine, world_answers}
 use Rattle.mr_world.proofs.laws.never_forged.Goals as goal
 
 pub returns-clause-fresh : goal.returns-clause-fresh

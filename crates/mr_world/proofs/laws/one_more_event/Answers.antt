@@ -1,4 +1,4 @@
-use Rattle.mr_world.proofs.WholeRuns.{fresh_agrees, one_more}
+use Rattle.mr_world.proofs.Histories.WholeRuns.{fresh_agrees, one_more}
 use Rattle.mr_world.proofs.laws.one_more_event.Goals as goal
 
 pub returns-clause-fresh : goal.returns-clause-fresh

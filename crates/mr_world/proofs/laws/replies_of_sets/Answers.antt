@@ -1,4 +1,4 @@
-use Rattle.mr_world.proofs.Replies.{asks_known, known_known, took_unknown}
+use Rattle.mr_world.proofs.Histories.Replies.{asks_known, known_known, took_unknown}
 use Rattle.mr_world.proofs.laws.replies_of_sets.Goals as goal
 
 pub returns-clause-asks : goal.returns-clause-asks

@@ -1,6 +1,6 @@
 use Rattle.std.proofs.Common.{rules}
 use Rattle.mr_world.specs.Given.{IsGivenBy}
-use Rattle.mr_world.proofs.SteppedLemmas.{replied_so, refused_so}
+use Rattle.mr_world.proofs.Running.Stepped.{replied_so, refused_so}
 use Rattle.mr_world.proofs.member.step_replica.Goals as goal
 
 pub returns-in-Ok : goal.returns-in-Ok

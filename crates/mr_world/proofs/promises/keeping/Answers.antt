@@ -1,4 +1,4 @@
-use Rattle.mr_world.proofs.PromiseLemmas.{made_keeps, happens_keeps, leads_keeps}
+use Rattle.mr_world.proofs.Histories.Promises.{made_keeps, happens_keeps, leads_keeps}
 use Rattle.mr_world.proofs.promises.keeping.Goals as goal
 
 pub returns-clause-made : goal.returns-clause-made

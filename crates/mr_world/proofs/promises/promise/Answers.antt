@@ -1,4 +1,4 @@
-use Rattle.mr_world.proofs.PromiseLemmas.{has_headline, holds_as_seen, holds_soundly, keeps_all, retired_clean, tells_whole, true_receipts, true_records}
+use Rattle.mr_world.proofs.Histories.Promises.{has_headline, holds_as_seen, holds_soundly, keeps_all, retired_clean, tells_whole, true_receipts, true_records}
 use Rattle.mr_world.proofs.promises.promise.Goals as goal
 
 pub returns-clause-headline : goal.returns-clause-headline

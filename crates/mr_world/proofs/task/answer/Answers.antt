@@ -1,6 +1,6 @@
 use Rattle.mr_wire.specs.declared.frame.Frame.TheVariants as frame
 use Rattle.mr_world.specs.Pool.{IsAskFrame}
-use Rattle.mr_world.proofs.TaskLemmas.{holds_of, is_ask}
+use Rattle.mr_world.proofs.Running.Tasks.{holds_of, is_ask}
 use Rattle.mr_world.proofs.task.answer.Goals as goal
 
 pub frame_of-requires : goal.frame_of-requires

@@ -1,7 +1,7 @@
 use Rattle.std.proofs.Common.{◌≤◌, length, arith, sym}
 use Rattle.mr_wire.specs.declared.frame.Frame.TheVariants as frame
 use Rattle.mr_world.specs.Pool.{IsRecordFrame}
-use Rattle.mr_world.proofs.TaskLemmas.{holds_of, received}
+use Rattle.mr_world.proofs.Running.Tasks.{holds_of, received}
 use Rattle.mr_world.proofs.task.deliver_part.Goals as goal
 
 pub frame_of-requires : goal.frame_of-requires

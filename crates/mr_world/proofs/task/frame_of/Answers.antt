@@ -1,6 +1,6 @@
 use Rattle.std.proofs.Common.{sym, []}
 use Rattle.std.proofs.lemmas.List.{append-nil}
-use Rattle.mr_world.proofs.TaskLemmas.{read_back}
+use Rattle.mr_world.proofs.Running.Tasks.{read_back}
 use Rattle.mr_world.proofs.task.frame_of.Goals as goal
 
 pub returns-in-Ok : goal.returns-in-Ok

@@ -1,7 +1,7 @@
 use Rattle.std.proofs.Common.{ap, ◌∙◌, ◌++◌}
 use Rattle.std.specs.Vec.Iter.{into_iter_items}
-use Rattle.mr_world.proofs.LoopLemmas.{members_more}
-use Rattle.mr_world.proofs.SpecLemmas.{capacity_fits, limit_fits}
+use Rattle.mr_world.proofs.Running.Loops.{members_more}
+use Rattle.mr_world.proofs.Running.Specs.{capacity_fits, limit_fits}
 use Rattle.mr_world.proofs.world.members_of.Goals as goal
 
 pub loop-spec-preserved : goal.loop-spec-preserved

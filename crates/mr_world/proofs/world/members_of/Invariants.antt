@@ -1,5 +1,5 @@
 use Rattle.std.specs.Vec.Iter.{into_iter_items}
-use Rattle.mr_world.proofs.LoopLemmas.{MembersSoFar}
+use Rattle.mr_world.proofs.Running.Loops.{MembersSoFar}
 use Rattle.mr_world.proofs.world.members_of.Given as goal
 
 abbrev pub invariant-loop-spec : goal.invariant-loop-spec

@@ -1,4 +1,4 @@
-use Rattle.mr_world.proofs.SteppedLemmas.{fulfils_step}
+use Rattle.mr_world.proofs.Running.Stepped.{fulfils_step}
 use Rattle.mr_world.proofs.member.Member.step.Goals as goal
 
 pub returns : goal.returns

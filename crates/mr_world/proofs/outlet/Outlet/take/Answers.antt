@@ -1,4 +1,4 @@
-use Rattle.mr_world.proofs.OutletLemmas.{taken_so}
+use Rattle.mr_world.proofs.Running.Ports.{taken_so}
 use Rattle.mr_world.proofs.outlet.Outlet.take.Goals as goal
 
 pub returns : goal.returns

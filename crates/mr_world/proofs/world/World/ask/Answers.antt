@@ -1,4 +1,4 @@
-use Rattle.mr_world.proofs.PoolLemmas.{gives_ask}
+use Rattle.mr_world.proofs.Running.Pools.{gives_ask}
 use Rattle.mr_world.proofs.world.World.ask.Goals as goal
 
 pub returns : goal.returns

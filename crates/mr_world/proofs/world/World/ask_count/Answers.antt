@@ -1,4 +1,4 @@
-use Rattle.mr_world.proofs.PoolLemmas.{count_asks}
+use Rattle.mr_world.proofs.Running.Pools.{count_asks}
 use Rattle.mr_world.proofs.world.World.ask_count.Goals as goal
 
 pub returns : goal.returns

@@ -1,5 +1,5 @@
 use Rattle.mr_world.specs.Kept.{world_view}
-use Rattle.mr_world.proofs.PromiseLemmas.{meets_keeps}
+use Rattle.mr_world.proofs.Histories.Promises.{meets_keeps}
 use Rattle.mr_world.proofs.world.World.happen.Goals as goal
 
 -- what comes of the event keeps the rules

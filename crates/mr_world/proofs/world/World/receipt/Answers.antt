@@ -1,4 +1,4 @@
-use Rattle.mr_world.proofs.PoolLemmas.{gives_receipt}
+use Rattle.mr_world.proofs.Running.Pools.{gives_receipt}
 use Rattle.mr_world.proofs.world.World.receipt.Goals as goal
 
 pub returns : goal.returns

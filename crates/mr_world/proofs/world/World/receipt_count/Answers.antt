@@ -1,4 +1,4 @@
-use Rattle.mr_world.proofs.PoolLemmas.{count_receipts}
+use Rattle.mr_world.proofs.Running.Pools.{count_receipts}
 use Rattle.mr_world.proofs.world.World.receipt_count.Goals as goal
 
 pub returns : goal.returns

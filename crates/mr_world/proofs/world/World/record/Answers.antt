@@ -1,4 +1,4 @@
-use Rattle.mr_world.proofs.PoolLemmas.{gives_record}
+use Rattle.mr_world.proofs.Running.Pools.{gives_record}
 use Rattle.mr_world.proofs.world.World.record.Goals as goal
 
 pub returns : goal.returns

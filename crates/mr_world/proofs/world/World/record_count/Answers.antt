@@ -1,4 +1,4 @@
-use Rattle.mr_world.proofs.PoolLemmas.{count_records}
+use Rattle.mr_world.proofs.Running.Pools.{count_records}
 use Rattle.mr_world.proofs.world.World.record_count.Goals as goal
 
 pub returns : goal.returns

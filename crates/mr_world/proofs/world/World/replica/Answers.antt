@@ -1,5 +1,5 @@
 use Rattle.std.proofs.Common.{sym}
-use Rattle.mr_world.proofs.MemberPlaces.{place_within, replica_none, replica_some}
+use Rattle.mr_world.proofs.Running.MemberPlaces.{place_within, replica_none, replica_some}
 use Rattle.mr_world.proofs.world.World.replica.Goals as goal
 
 pub returns-in-None : goal.returns-in-None

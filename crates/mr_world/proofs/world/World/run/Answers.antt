@@ -1,5 +1,5 @@
 use Rattle.std.specs.Vec.Iter.{into_iter_items}
-use Rattle.mr_world.proofs.LoopLemmas.{events_answered, events_stopped}
+use Rattle.mr_world.proofs.Running.Loops.{events_answered, events_stopped}
 use Rattle.mr_world.proofs.world.World.run.Goals as goal
 
 pub loop-event-preserved : goal.loop-event-preserved

@@ -1,5 +1,5 @@
 use Rattle.std.specs.Vec.Iter.{into_iter_items}
-use Rattle.mr_world.proofs.LoopLemmas.{EventsSoFar}
+use Rattle.mr_world.proofs.Running.Loops.{EventsSoFar}
 use Rattle.mr_world.proofs.world.World.run.Given as goal
 
 abbrev pub invariant-loop-event : goal.invariant-loop-event

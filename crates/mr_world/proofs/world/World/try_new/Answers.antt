@@ -2,8 +2,8 @@ use Rattle.std.proofs.Common.{[]}
 use Rattle.std.proofs.lemmas.List.Elements.{All-nil, All-same}
 use Rattle.mr_world.specs.Kept.{world_view}
 use Rattle.mr_world.specs.Pool.{IsAskFrame, IsReceiptFrame, IsRecordFrame}
-use Rattle.mr_world.proofs.MadeLemmas.{made_world}
-use Rattle.mr_world.proofs.PromiseLemmas.{made_keeps}
+use Rattle.mr_world.proofs.Running.Made.{made_world}
+use Rattle.mr_world.proofs.Histories.Promises.{made_keeps}
 use Rattle.mr_world.proofs.world.World.try_new.Goals as goal
 
 -- a world as it is made keeps the rules

@@ -1,0 +1,88 @@
+-- Each answer says of versions what the sets of its moment say.
+use Rattle.std.proofs.Common.{◌≡◌, refl, sym, ap, subst, ◌∙◌, ℕ, List, [], ◌∷◌, ◌++◌, ◌⊎◌, inl, inr, IsTrue, IsFalse, Option, Some}
+use Rattle.std.specs.Prelude.{Ok}
+use Rattle.mr_version.specs.Name.{Name}
+use Rattle.mr_forms.specs.Known.{Form}
+use Rattle.mr_filter.specs.Filter.{ClauseParts}
+use Rattle.mr_model.specs.Changes.{Reception, Reception.AsFinished, Reception.AsKnown, Reception.AsTaken, change_by_reply, change_of, now}
+use Rattle.mr_model.specs.History.{Body, Body.Item, Body.MoveOut, Record}
+use Rattle.mr_model.specs.Moment.{known, numbered}
+use Rattle.mr_model.specs.Rules.{IsAllowed, reception_of, version_in}
+use Rattle.mr_model.proofs.Basics.{cases}
+use Rattle.mr_replica.specs.declared.event.Reply.{Reply}
+use Rattle.mr_replica.specs.declared.event.Reply.TheVariants.{Asked, Known, Took}
+use Rattle.mr_world.specs.Agrees.{Agrees}
+use Rattle.mr_world.specs.Moves.{Moves}
+use Rattle.mr_world.specs.Replies.{AreBySets, IsBySets, TellsWhetherKnown}
+use Rattle.mr_world.specs.Runs.{history}
+use Rattle.mr_world.specs.Seen.{MailMoment, seen_answer, seen_event, seen_reply, setting_of}
+use Rattle.mr_world.specs.World.{World}
+use Rattle.mr_world.specs.declared.answer.Answer.{Answer}
+use Rattle.mr_world.specs.declared.answer.Answer.TheVariants.{Stepped}
+use Rattle.mr_world.specs.declared.answered.Answered.{Answered}
+use Rattle.mr_world.specs.declared.event.Event.{Event}
+use Rattle.mr_world.specs.declared.event.Event.TheVariants as event
+use Rattle.mr_world.proofs.Histories.Replies.{claims_known}
+
+-- ---- how a record is received
+
+module _ (m : MailMoment) (r : ℕ) where
+  -- it says of a version whether it is known
+  abbrev Says : Reception → Name → Type 0
+  Says AsKnown v = IsTrue (known m r v)
+  Says AsTaken v = IsFalse (known m r v)
+  Says AsFinished v = Unit {0}
+
+  by_version : (v : Name) (reception : Reception) → reception ≡ reception_of m r (Item v) → Says reception v
+  by_version v reception is = elim (cases (known m r v)) [
+    | inl t ↦ (let so : reception ≡ AsKnown = rw t at is in subst (λ (z : Reception). Says z v) (sym so) t)
+    | inr n ↦ (let so : reception ≡ AsTaken = rw n at is in subst (λ (z : Reception). Says z v) (sym so) n)
+  ]
+
+  by_body : (b : Body) (v : Name) (reception : Reception) → version_in b ≡ Some v → reception ≡ reception_of m r b → Says reception v
+  by_body (Item u) v reception e is = let same : u ≡ v = cc in subst (Says reception) same (by_version u reception is)
+  by_body (MoveOut u) v reception e is = let same : u ≡ v = cc in subst (Says reception) same (by_version u reception is)
+  by_body b v reception e is = absurd (cc)
+
+  module _ (filters : ℕ → List ClauseParts) where
+    by_reply : (reply : Reply) (n : ℕ) (o : Option Record) → numbered m.given n ≡ o → IsAllowed (setting_of filters) m (change_by_reply m r n (seen_reply m.issues reply)) → TellsWhetherKnown m r reply o
+    by_reply Known n (Some x) e allowed = λ v has. by_body x.body v AsKnown has (rw e at allowed).answer
+    by_reply Took n (Some x) e allowed = λ v has. by_body x.body v AsTaken has (rw e at allowed).answer
+    by_reply reply n o e allowed = tt
+
+-- ---- one answer
+
+module _ {K : Type 0} (form : Form K) (filters : ℕ → List ClauseParts) (w w' : World K) (m : MailMoment) (a : Agrees form filters w m) where
+  pub is_by_sets : (e : Event) (reply : Answer) → IsAllowed (setting_of filters) m (change_of m (seen_event e) (seen_answer m.issues reply)) → Moves form w e reply w' → IsBySets form m e reply
+  is_by_sets (event.Pull r) (Stepped (Ok (Asked ask))) allowed move = claims_known form filters w w' m a r ask move
+  is_by_sets (event.Receive r n) (Stepped (Ok reply)) allowed move = by_reply m r filters reply n (numbered m.given n) refl allowed
+  is_by_sets (event.DeliverPart r n bytes) (Stepped (Ok reply)) allowed move = by_reply m r filters reply n (numbered m.given n) refl allowed
+  is_by_sets e reply allowed move = tt
+
+-- ---- all answers
+
+-- one of a list with y behind it is y, or one of the others
+last_or_other : {A : Type 0} (xs : List A) (y : A) (before later : List A) (x : A) → xs ++ y ∷ [] ≡ before ++ x ∷ later → ((xs ≡ before) × (y ≡ x)) ⊎ ((rest : List A) × (xs ≡ before ++ x ∷ rest))
+last_or_other [] y [] later x e = inl (refl, cc)
+last_or_other [] y (b ∷ []) later x e = absurd (cc)
+last_or_other [] y (b ∷ (c ∷ bs)) later x e = absurd (cc)
+last_or_other {A} (z ∷ zs) y [] later x e = let first : z ≡ x = cc in inr (zs, ap (λ (k : A). k ∷ zs) first)
+last_or_other {A} (z ∷ zs) y (b ∷ bs) later x e =
+    let first : z ≡ b = cc in
+    let behind : zs ++ y ∷ [] ≡ bs ++ x ∷ later = cc in
+    elim (last_or_other zs y bs later x behind) [
+      | inl last ↦ inl (ap (λ (k : A). k ∷ zs) first ∙ ap (λ (ks : List A). b ∷ ks) last.0, last.1)
+      | inr other ↦ inr (other.0, ap (λ (k : A). k ∷ zs) first ∙ ap (λ (ks : List A). b ∷ ks) other.1)
+    ]
+
+module _ {K : Type 0} (form : Form K) (filters : ℕ → List ClauseParts) where
+  pub none_by_sets : (xs : List Answered) → xs ≡ [] → AreBySets form filters xs
+  none_by_sets xs none [] later x e = let c : (◌≡◌ {A = List Answered} [] (x ∷ later)) = sym none ∙ e in absurd (cc)
+  none_by_sets xs none (b ∷ before) later x e = let c : (◌≡◌ {A = List Answered} [] (b ∷ (before ++ x ∷ later))) = sym none ∙ e in absurd (cc)
+
+  pub more_by_sets : (xs : List Answered) (y : Answered) → AreBySets form filters xs → IsBySets form (now (setting_of filters) (history filters xs)) y.event y.answer → AreBySets form filters (xs ++ y ∷ [])
+  more_by_sets xs y others new before later x e = elim (last_or_other xs y before later x e) [
+    | inl last ↦ subst (λ (z : Answered). IsBySets form (now (setting_of filters) (history filters before)) z.event z.answer) last.1
+        (subst (λ (zs : List Answered). IsBySets form (now (setting_of filters) (history filters zs)) y.event y.answer) last.0 new)
+    | inr other ↦ others before other.0 x other.1
+  ]

@@ -1,0 +1,198 @@
+-- No run of a world answers Forged.
+use Rattle.std.proofs.Common.{◌≡◌, ◌≢◌, refl, sym, ap, subst, ◌∙◌, ℕ, List, [], ◌∷◌, ◌++◌, inl, inr, IsTrue, ◌⊎◌}
+use Rattle.std.specs.Prelude.{Result, Ok, Err}
+use Rattle.std.proofs.lemmas.Bool.{both_ways}
+use Rattle.mr_version.specs.Name.{Name}
+use Rattle.mr_forms.specs.Known.{Form}
+use Rattle.mr_forms.specs.Listing.{ListsMore}
+use Rattle.mr_filter.specs.Filter.{ClauseParts}
+use Rattle.mr_mail.specs.Mail.{Mail, MailCard}
+use Rattle.mr_madewith.specs.Revision.{Rev}
+use Rattle.mr_model.specs.Changes.{Change, Change.Asks, Change.Closes, Change.Gives, Change.Issues, Change.Misfits, Change.Offers, Change.Opens, Change.Releases, Change.Retires, Change.Stays, Change.Takes, Change.TakesEntry, Change.Vouches, change, happens, is_closed, now, with_mark}
+use Rattle.mr_model.specs.Moment.{Mark.CloseMark, start}
+use Rattle.mr_model.specs.Rules.{In}
+use Rattle.mr_model.specs.Versions.{is, is_issued}
+use Rattle.mr_model.proofs.Basics.{or_right}
+use Rattle.mr_model.proofs.Core.{Inv}
+use Rattle.mr_model.proofs.Issues.{item_is_issued}
+use Rattle.mr_model.specs.History.{History}
+use Rattle.mr_model.specs.Rules.{IsRun}
+use Rattle.mr_model.proofs.Runs.{change_keeps, start_holds}
+use Rattle.mr_model.proofs.Theorem.{after-append, run_inv}
+use Rattle.mr_model.proofs.Sets.{at_elim, at_same, choice, numbered_in}
+use Rattle.mr_replica.specs.State.{State}
+use Rattle.mr_replica.specs.declared.event.Event.{Event as ReplicaEvent}
+use Rattle.mr_replica.specs.declared.event.Event.TheVariants as replica
+use Rattle.mr_replica.specs.declared.event.Reply.{Reply}
+use Rattle.mr_replica.specs.declared.event.Reply.TheVariants.{Asked, Gave, Vouched}
+use Rattle.mr_replica.specs.declared.refusal.Refusal.{Refusal}
+use Rattle.mr_replica.specs.declared.refusal.Refusal.TheVariants as refusal
+use Rattle.mr_wire.specs.Frames.{Sent}
+use Rattle.mr_wire.specs.declared.frame.Body.TheVariants.{Item, MoveOut}
+use Rattle.mr_wire.specs.declared.frame.Frame.TheVariants as frame
+use Rattle.mr_world.specs.Agrees.{Agrees, HoldingsAgree}
+use Rattle.mr_world.specs.Issued.{IsTrueRevision}
+use Rattle.mr_world.specs.ListedItems.{IsGenuine, IsListedReplica, IsListedWorld, ListsIssued}
+use Rattle.mr_world.specs.Moves.{Moves, StepsAt}
+use Rattle.mr_world.specs.Normal.{IsNormalReplica}
+use Rattle.mr_world.specs.Runs.{IsFresh, IsFreshWorld, Runs, seen_step}
+use Rattle.mr_world.specs.Seen.{MailMoment, MailSetting, seen_answer, seen_event, setting_of}
+use Rattle.mr_world.specs.Told.{IsTrueBody}
+use Rattle.mr_world.specs.World.{World, with_given, with_replica}
+use Rattle.mr_world.specs.declared.answer.Answer.{Answer}
+use Rattle.mr_world.specs.declared.answer.Answer.TheVariants as answer
+use Rattle.mr_world.specs.declared.answered.Answered.{Answered}
+use Rattle.mr_world.specs.declared.event.Event.{Event}
+use Rattle.mr_world.specs.declared.event.Event.TheVariants as event
+use Rattle.mr_world.proofs.Keeping.ListedItems.{IsIssuedEvent, IsIssuedReply, lists_more, replica_more, step_listed}
+use Rattle.mr_world.proofs.Keeping.NeverForged.{never_forged}
+use Rattle.mr_world.proofs.Keeping.NormalForm.{moves_normal}
+use Rattle.mr_world.proofs.Moving.Refinement.{refines}
+use Rattle.mr_world.proofs.Moving.Refines.{steps_refused, steps_replied}
+use Rattle.mr_world.proofs.Histories.WholeRuns.{fresh_agrees}
+
+-- what was issued stays so
+issued_stays : (s : MailSetting) (m : MailMoment) (c : Change Mail MailCard) (v : Name) → IsTrue (is_issued m.issues v) → IsTrue (is_issued (happens s m c).issues v)
+issued_stays s m (Issues r x) v h = or_right (is x.version v) (is_issued m.issues v) h
+issued_stays s m (Asks r ask) v h = h
+issued_stays s m (Opens k t ask) v h = h
+issued_stays s m (Gives k t x) v h = h
+issued_stays s m (Takes r x reception) v h = h
+issued_stays s m (Retires r) v h = h
+issued_stays s m (Offers r u e) v h = h
+issued_stays s m (Closes r u) v h = choice (λ (z : MailMoment). IsTrue (is_issued z.issues v)) (is_closed (m.offered r u)) m (with_mark m r u CloseMark) (λ t. h) (λ n. h)
+issued_stays s m (TakesEntry r u e) v h = h
+issued_stays s m (Vouches r w x) v h = h
+issued_stays s m (Releases r x) v h = h
+issued_stays s m Stays v h = h
+issued_stays s m Misfits v h = h
+
+module _ {K : Type 0} where
+  given_replicas : (w : World K) (o : Result Reply Refusal) → (with_given w o).replicas ≡ w.replicas
+  given_replicas w (Ok (Asked question)) = refl
+  given_replicas w (Ok (Gave sent)) = refl
+  given_replicas w (Ok (Vouched receipt)) = refl
+  given_replicas w (Ok reply) = refl
+  given_replicas w (Err x) = refl
+
+module _ {K : Type 0} (form : Form K) (filters : ℕ → List ClauseParts) where
+  pub fresh_genuine : (w : World K) → IsFreshWorld form filters w → IsGenuine form [] w
+  fresh_genuine w f = record {
+    normal = record { replicas = λ r. normal r (f.replicas r); records = λ sent i. absurd (none sent i) };
+    listed = record { replicas = λ r. listed r (f.replicas r); records = λ sent i. absurd (none sent i) };
+  }
+    where
+      none : (sent : Sent) → ¬ In sent w.records
+      none sent i = elim (subst (In sent) f.records i) [ ]
+
+      normal : (r : ℕ) → IsFresh form filters r (w.replicas r) → IsNormalReplica (w.replicas r)
+      normal r h = subst IsNormalReplica (sym h.is_new) (record { heads = λ x i. elim i [ ]; push_outs = λ x i. elim i [ ]; streams = λ n k e. absurd (cc) })
+
+      listed : (r : ℕ) → IsFresh form filters r (w.replicas r) → IsListedReplica form [] (w.replicas r)
+      listed r h = subst (IsListedReplica form []) (sym h.is_new) (record { filed = λ i v k. absurd (both_ways (form.known h.knowledge i v) (h.knows_nothing i v) k); streams = λ n k e. absurd (cc); sessions = λ n k e. absurd (cc) })
+
+module _ {K : Type 0} (form : Form K) (filters : ℕ → List ClauseParts) (form_lists : ListsMore form) where
+  module _ (w w' : World K) (m m' : MailMoment) (inv : Inv (setting_of filters) m) (inv' : Inv (setting_of filters) m') (a : Agrees form filters w m) (a' : Agrees form filters w' m')
+      (more : (v : Name) → IsTrue (is_issued m.issues v) → IsTrue (is_issued m'.issues v)) (listed : IsListedWorld form m.issues w) where
+    -- a revision that r holds is of an issued item
+    held_issued : (r : ℕ) (s : State K) → (w'.replicas r) ≡ s → (x : Rev) → In x s.heads ⊎ In x s.push_outs → IsTrue (is_issued m'.issues x.item)
+    held_issued r s same x i =
+        let hold : HoldingsAgree form m'.issues filters r (m'.holding r) (m'.feed r) (m'.is_retired r) s = subst (HoldingsAgree form m'.issues filters r (m'.holding r) (m'.feed r) (m'.is_retired r)) same (a'.holdings r) in
+        let t : IsTrueRevision m'.issues x = elim i [ inl j ↦ hold.heads.each x j | inr j ↦ hold.push_outs.each x j ] in
+        subst (λ (z : Name). IsTrue (is_issued m'.issues z)) t.below.of_item (item_is_issued m'.issues inv'.core.sets.list x.version t.below.is_one).0
+
+    listed_later : IsListedWorld form m'.issues w
+    listed_later = record { replicas = λ r. replica_more m.issues m'.issues more form (w.replicas r) (listed.replicas r); records = λ sent i. lists_more m.issues m'.issues more sent.body (listed.records sent i) }
+
+    replaced_listed : (r : ℕ) (new : State K) → IsListedReplica form m'.issues new → IsListedWorld form m'.issues (with_replica w r new)
+    replaced_listed r new h = record { replicas = λ q. at_elim (λ (z : ℕ) (st : State K). IsListedReplica form m'.issues st) w.replicas r new q h (listed_later.replicas q); records = listed_later.records }
+
+    given_listed : (r : ℕ) (new : State K) (reply : Reply) → IsListedReplica form m'.issues new → IsIssuedReply m'.issues reply → IsListedWorld form m'.issues (with_given (with_replica w r new) (Ok reply))
+    given_listed r new (Gave sent) h body = let old = replaced_listed r new h in record { replicas = old.replicas; records = λ z i. elim i [ inl e ↦ subst (λ (y : Sent). ListsIssued m'.issues y.body) e body | inr j ↦ listed_later.records z j ] }
+    given_listed r new (Asked question) h body = let old = replaced_listed r new h in record { replicas = old.replicas; records = old.records }
+    given_listed r new (Vouched receipt) h body = let old = replaced_listed r new h in record { replicas = old.replicas; records = old.records }
+    given_listed r new reply h body = replaced_listed r new h
+
+    steps_listed : (r : ℕ) (there : ReplicaEvent) (reply : Answer) → IsIssuedEvent m'.issues there → StepsAt form w r there reply w' → IsListedWorld form m'.issues w'
+    steps_listed r there (answer.Stepped (Ok reply)) in_form move =
+        let h = steps_replied form (w.replicas r) there reply move.1 move.2 in
+        let same : w'.replicas r ≡ move.1 = ap (λ (z : World K). z.replicas r) move.3 ∙ (ap (λ (f : ℕ → State K). f r) (given_replicas (with_replica w r move.1) (Ok reply)) ∙ at_same w.replicas r move.1) in
+        let made = step_listed form form_lists m'.issues (w.replicas r) (listed_later.replicas r) there reply move.1 in_form (held_issued r move.1 same) h.1 in
+        subst (IsListedWorld form m'.issues) (sym move.3) (given_listed r move.1 reply made.0 made.1)
+    steps_listed r there (answer.Stepped (Err x)) in_form move =
+        subst (IsListedWorld form m'.issues) (sym move.3) (replaced_listed r move.1 (subst (IsListedReplica form m'.issues) (sym (steps_refused form (w.replicas r) there x move.1 move.2)) (listed_later.replicas r)))
+    steps_listed r there reply in_form move = absurd move
+
+    -- a record of the pool tells of issued items
+    pool_issued : (sent : Sent) → In sent w.records → IsIssuedEvent m'.issues (replica.Receive (frame.Record sent))
+    pool_issued sent i = (
+      listed_later.records sent i,
+      (λ x e. let t : IsTrueBody m.issues (Item x) = subst (IsTrueBody m.issues) e (a.records.each sent i) in
+          more x.item (subst (λ (z : Name). IsTrue (is_issued m.issues z)) t.below.of_item (item_is_issued m.issues inv.core.sets.list x.version t.below.is_one).0)),
+      (λ line e. let t : IsTrueBody m.issues (MoveOut line) = subst (IsTrueBody m.issues) e (a.records.each sent i) in
+          more line.item (subst (λ (z : Name). IsTrue (is_issued m.issues z)) t.of_item (item_is_issued m.issues inv.core.sets.list line.version t.is_one).0)),
+    )
+
+    part_listed : (r n bytes : ℕ) (reply : Answer) → Moves form w (event.DeliverPart r n bytes) reply w' → IsListedWorld form m'.issues w'
+    part_listed r n bytes answer.Truncated move = subst (IsListedWorld form m'.issues) (sym move.3) listed_later
+    part_listed r n bytes (answer.Stepped outcome) move = steps_listed r (replica.Receive (frame.Record move.0)) (answer.Stepped outcome) (pool_issued move.0 (numbered_in w.records n move.0 move.1)) move.3
+    part_listed r n bytes reply move = absurd move.3
+
+    moves_listed : (e : Event) (reply : Answer) → Moves form w e reply w' → IsListedWorld form m'.issues w'
+    moves_listed (event.Create r message) reply move = steps_listed r (replica.Create message) reply tt move
+    moves_listed (event.Edit r bases message) reply move = steps_listed r (replica.Edit bases message) reply tt move
+    moves_listed (event.Retire r) reply move = steps_listed r replica.Retire reply tt move
+    moves_listed (event.Pull r) reply move = steps_listed r replica.Pull reply tt move
+    moves_listed (event.Receive r n) reply move = steps_listed r (replica.Receive (frame.Record move.0)) reply (pool_issued move.0 (numbered_in w.records n move.0 move.1)) move.2
+    moves_listed (event.DeliverPart r n bytes) reply move = part_listed r n bytes reply move
+    moves_listed (event.CutIn r session) reply move = steps_listed r (replica.CutIn session) reply tt move
+    moves_listed (event.Answer r n) reply move = steps_listed r (replica.Answer move.0) reply tt move.2
+    moves_listed (event.Next r number) reply move = steps_listed r (replica.Next number) reply tt move
+    moves_listed (event.CutOut r number) reply move = steps_listed r (replica.CutOut number) reply tt move
+    moves_listed (event.Offer r u) reply move = subst (IsListedWorld form m'.issues) (sym move.2) (record { replicas = listed_later.replicas; records = listed_later.records })
+    moves_listed (event.Take r u) reply move = subst (IsListedWorld form m'.issues) (sym move.2) (record { replicas = listed_later.replicas; records = listed_later.records })
+    moves_listed (event.Close r u) reply move = subst (IsListedWorld form m'.issues) (sym move.2) (record { replicas = listed_later.replicas; records = listed_later.records })
+    moves_listed (event.Vouch r version) reply move = steps_listed r (replica.Vouch version) reply tt move
+    moves_listed (event.Release r n) reply move = steps_listed r (replica.Release move.0) reply tt move.2
+
+  -- ---- one event
+
+  -- a genuine world stays one
+  pub moves_genuine : (w w' : World K) (m : MailMoment) (e : Event) (reply : Answer) → Inv (setting_of filters) m → Agrees form filters w m → IsGenuine form m.issues w → Moves form w e reply w' →
+      IsGenuine form (happens (setting_of filters) m (change m (record { event = seen_event e; reply = seen_answer m.issues reply }))).issues w'
+  moves_genuine w w' m e reply inv a genuine move =
+      let c = change m (record { event = seen_event e; reply = seen_answer m.issues reply }) in
+      let step = refines form filters w m inv a e reply w' move in
+      record {
+        normal = moves_normal form w genuine.normal e reply w' move;
+        listed = moves_listed w w' m (happens (setting_of filters) m c) inv (change_keeps (setting_of filters) m c step.0 inv) a step.1 (issued_stays (setting_of filters) m c) genuine.listed e reply move;
+      }
+
+  -- and answers no event with Forged
+  pub genuine_answers : (w w' : World K) (m : MailMoment) (e : Event) (reply : Answer) → Inv (setting_of filters) m → Agrees form filters w m → IsGenuine form m.issues w → Moves form w e reply w' → reply ≢ answer.Stepped (Err refusal.Forged)
+  genuine_answers w w' m e reply inv a genuine move forged = never_forged form filters w m inv a genuine.normal genuine.listed.records e w' (subst (λ (z : Answer). Moves form w e z w') forged move)
+
+  -- ---- whole runs
+
+  run_answers : (w w' : World K) (m : MailMoment) (xs : List Answered) → Inv (setting_of filters) m → Agrees form filters w m → IsGenuine form m.issues w → Runs form w xs w' → (x : Answered) → In x xs → x.answer ≢ answer.Stepped (Err refusal.Forged)
+  run_answers w w' m [] inv a genuine run x i = elim i [ ]
+  run_answers w w' m (y ∷ later) inv a genuine run x i =
+      let step = refines form filters w m inv a y.event y.answer run.0 run.1 in
+      elim i [
+        | inl e ↦ subst (λ (z : Answered). z.answer ≢ answer.Stepped (Err refusal.Forged)) e (genuine_answers w run.0 m y.event y.answer inv a genuine run.1)
+        | inr j ↦ run_answers run.0 w' (happens (setting_of filters) m (change m (seen_step m y))) later (change_keeps (setting_of filters) m (change m (seen_step m y)) step.0 inv) step.1 (moves_genuine w run.0 m y.event y.answer inv a genuine run.1) run.2 x j
+      ]
+
+  -- no run of a fresh world answers Forged
+  pub world_answers : (w w' : World K) (xs : List Answered) → IsFreshWorld form filters w → Runs form w xs w' → (x : Answered) → In x xs → x.answer ≢ answer.Stepped (Err refusal.Forged)
+  world_answers w w' xs f run = run_answers w w' start xs (start_holds (setting_of filters)) (fresh_agrees form filters w f) (fresh_genuine form filters w f) run
+
+  -- one more event of a world that agrees with the moment after a run
+  pub one_more_genuine : (w w' : World K) (h : History Mail MailCard) (x : Answered) → IsRun (setting_of filters) start h → Agrees form filters w (now (setting_of filters) h) → IsGenuine form (now (setting_of filters) h).issues w → Moves form w x.event x.answer w' →
+      IsGenuine form (now (setting_of filters) (h ++ seen_step (now (setting_of filters) h) x ∷ [])).issues w' × (x.answer ≢ answer.Stepped (Err refusal.Forged))
+  one_more_genuine w w' h x run a genuine move =
+      let inv = run_inv (setting_of filters) h run in (
+        subst (λ (z : MailMoment). IsGenuine form z.issues w') (sym (after-append (setting_of filters) start h (seen_step (now (setting_of filters) h) x ∷ [])))
+            (moves_genuine w w' (now (setting_of filters) h) x.event x.answer inv a genuine move),
+        genuine_answers w w' (now (setting_of filters) h) x.event x.answer inv a genuine move,
+      )

@@ -1,0 +1,211 @@
+-- A world keeps the rules from its first event on, and what holds of it then.
+use Rattle.std.proofs.Common.{◌≡◌, ◌≢◌, refl, sym, ap, subst, ◌∙◌, ℕ, ◌==◌, false, List, [], ◌∷◌, ◌++◌, inl, inr, eqb-true, Option, Some, None}
+use Rattle.std.specs.Prelude.{Err, Ok, Result}
+use Rattle.std.specs.List.{AllZip}
+use Rattle.std.specs.Option.{option_map, option_map_or}
+use Rattle.mr_forms.specs.Known.{AreSame, Form}
+use Rattle.mr_forms.specs.Listing.{ListsMore}
+use Rattle.mr_filter.specs.Filter.{ClauseParts}
+use Rattle.mr_mail.specs.Mail.{Mail, MailCard}
+use Rattle.mr_model.specs.Changes.{after, change, happens, now}
+use Rattle.mr_model.specs.History.{History}
+use Rattle.mr_model.specs.Moment.{start}
+use Rattle.mr_model.specs.Rules.{In, IsRun}
+use Rattle.mr_model.proofs.Basics.{cases, in_append}
+use Rattle.mr_model.proofs.Theorem.{headline_holds, is_sound, loses_nothing, run_inv}
+use Rattle.mr_replica.specs.State.{State, new_state}
+use Rattle.mr_replica.specs.declared.refusal.Refusal.TheVariants as refusal
+use Rattle.mr_world.specs.Agrees.{Agrees, HoldingsAgree}
+use Rattle.mr_world.specs.Kept.{MemberView, WorldView, found_or, member_at, port_numbered}
+use Rattle.mr_world.specs.ListedItems.{IsGenuine}
+use Rattle.mr_world.specs.Moves.{Moves}
+use Rattle.mr_world.specs.Replies.{AreBySets, IsBySets}
+use Rattle.mr_world.specs.Made.{IsMadeOf, IsMadeWorld}
+use Rattle.mr_world.specs.Promise.{GivesTrueReceipts, GivesTrueRecords, FindsNoneForged, HasCleanRetired, HasHeadline, HoldsAsSeen, HoldsSoundly, KeepsAll, KeepsRules, TellsWhole, filters_of, history_of, moment_of, setting_in, unused_member, whole_world}
+use Rattle.mr_world.specs.Run.{Happens, Leads, Meets, answered}
+use Rattle.mr_world.specs.Runs.{IsFresh, IsFreshWorld, history, history_from, seen_step}
+use Rattle.mr_world.specs.Seen.{MailMoment, setting_of}
+use Rattle.mr_world.specs.World.{new_port}
+use Rattle.mr_world.specs.declared.answer.Answer.{Answer}
+use Rattle.mr_world.specs.declared.answer.Answer.TheVariants.{Stepped}
+use Rattle.mr_world.specs.declared.answered.Answered.{Answered}
+use Rattle.mr_world.specs.declared.event.Event.{Event}
+use Rattle.mr_world.specs.declared.fault.WorldFault.{WorldFault}
+use Rattle.mr_world.specs.declared.spec.Spec.{Spec}
+use Rattle.mr_world.proofs.Histories.BySets.{is_by_sets, more_by_sets, none_by_sets}
+use Rattle.mr_world.proofs.Histories.Genuine.{fresh_genuine, one_more_genuine}
+use Rattle.mr_world.proofs.Moving.Refinement.{refines}
+use Rattle.mr_world.proofs.Groundwork.Tools.{find_in, some_path}
+use Rattle.mr_world.proofs.Histories.WholeRuns.{fresh_agrees, one_more}
+
+-- ---- histories
+
+-- one more answer is one more step
+history_more : (filters : ℕ → List ClauseParts) (m : MailMoment) (xs : List Answered) (x : Answered) →
+    history_from filters m (xs ++ x ∷ []) ≡ history_from filters m xs ++ seen_step (after (setting_of filters) m (history_from filters m xs)) x ∷ []
+history_more filters m [] x = refl
+history_more filters m (y ∷ ys) x = ap (λ (h : History Mail MailCard). seen_step m y ∷ h) (history_more filters (happens (setting_of filters) m (change m (seen_step m y))) ys x)
+
+module _ {K : Type 0} (form : Form K) where
+  -- ---- filters stay
+
+  -- a world's filters are those of its replicas over all ids
+  filter_there : (nothing : K) (w : WorldView K) (r : ℕ) → ((whole_world form nothing w).replicas r).filter ≡ filters_of w r
+  filter_there nothing w r = go (member_at w.members r)
+    where
+      go : (o : Option (MemberView K)) → (found_or (unused_member form nothing r) o).replica.filter ≡ option_map_or (λ m. m.replica.filter) o []
+      go None = refl
+      go (Some m) = refl
+
+  -- ---- a world as it is made
+
+  module _ (nothing : K) (knows : AreSame (form.known nothing) (λ i v. false)) (specs : List Spec) (w : WorldView K) (made : IsMadeWorld form specs w) where
+    -- a member was made of some specification
+    made_member : (ss : List Spec) (ms : List (MemberView K)) → AllZip (IsMadeOf form) ss ms → (m : MemberView K) → In m ms → (spec : Spec) × IsMadeOf form spec m
+    made_member [] [] all m i = elim i [ ]
+    made_member (s ∷ ss) [] all m i = elim i [ ]
+    made_member [] (n ∷ ms) all m i = absurd all
+    made_member (s ∷ ss) (n ∷ ms) all m i = elim i [ inl e ↦ (s, subst (IsMadeOf form s) e all.0) | inr j ↦ made_member ss ms all.1 m j ]
+
+    fresh_member : (r : ℕ) (m : MemberView K) (spec : Spec) → IsMadeOf form spec m → m.replica.id ≡ r → m.replica.filter ≡ filters_of w r → IsFresh form (filters_of w) r m.replica
+    fresh_member r m spec of here same = record {
+      event_limit = spec.event_limit;
+      knowledge = m.replica.knowledge;
+      is_new = of.replica ∙ (λ i. new_state (id i) (filter i) spec.event_limit m.replica.knowledge);
+      knows_nothing = of.knows_nothing;
+    }
+      where
+        id : spec.id ≡ r
+        id = sym (ap (λ (s : State K). s.id) of.replica) ∙ here
+
+        filter : spec.filter ≡ filters_of w r
+        filter = sym (ap (λ (s : State K). s.filter) of.replica) ∙ same
+
+    fresh_there : (r : ℕ) → IsFresh form (filters_of w) r ((whole_world form nothing w).replicas r)
+    fresh_there r = go (member_at w.members r) refl
+      where
+        go : (o : Option (MemberView K)) → member_at w.members r ≡ o → IsFresh form (filters_of w) r (found_or (unused_member form nothing r) o).replica
+        go None e = record {
+          event_limit = 1;
+          knowledge = nothing;
+          is_new = ap (λ (f : List ClauseParts). new_state r f 1 nothing) (sym (ap (λ (o : Option (MemberView K)). option_map_or (λ m. m.replica.filter) o []) e));
+          knows_nothing = knows;
+        }
+        go (Some m) e = let f = find_in (λ (n : MemberView K). n.replica.id == r) w.members m e in let of = made_member specs w.members made.members m f.0 in
+            fresh_member r m of.0 of.1 (eqb-true m.replica.id r f.1) (sym (ap (λ (o : Option (MemberView K)). option_map_or (λ m. m.replica.filter) o []) e))
+
+    fresh_port : (r u : ℕ) → (capacity : ℕ) × ((whole_world form nothing w).ports r u ≡ new_port capacity)
+    fresh_port r u = go (member_at w.members r) refl
+      where
+        numbered_port : (m : MemberView K) (capacity : ℕ) → m.indexer ≡ new_port capacity → m.notifier ≡ new_port capacity → (places : ℕ) × (port_numbered m (new_port 1) u ≡ new_port places)
+        numbered_port m capacity indexer notifier = elim (cases (u == 0)) [
+          | inl first ↦ (capacity, rw first indexer)
+          | inr other ↦ elim (cases (u == 1)) [ inl second ↦ (capacity, rw (other, second) notifier) | inr none ↦ (1, rw (other, none) refl) ]
+        ]
+
+        go : (o : Option (MemberView K)) → member_at w.members r ≡ o → (capacity : ℕ) × (port_numbered (found_or (unused_member form nothing r) o) (new_port 1) u ≡ new_port capacity)
+        go None e = numbered_port (unused_member form nothing r) 1 refl refl
+        go (Some m) e = let f = find_in (λ (n : MemberView K). n.replica.id == r) w.members m e in let of = made_member specs w.members made.members m f.0 in
+            numbered_port m of.0.port_capacity of.1.indexer of.1.notifier
+
+    fresh_world : IsFreshWorld form (filters_of w) (whole_world form nothing w)
+    fresh_world = record { replicas = fresh_there; asks = made.asks; records = made.records; receipts = made.receipts; ports = fresh_port }
+
+    pub made_keeps : KeepsRules form w
+    made_keeps = record {
+      run = subst (λ (xs : List Answered). IsRun (setting_in w) start (history (filters_of w) xs)) (sym made.answers) tt;
+      nothing = nothing;
+      knows_nothing = knows;
+      agrees = subst (λ (xs : List Answered). Agrees form (filters_of w) (whole_world form nothing w) (now (setting_in w) (history (filters_of w) xs))) (sym made.answers) (fresh_agrees form (filters_of w) (whole_world form nothing w) fresh_world);
+      by_sets = none_by_sets form (filters_of w) w.answers made.answers;
+      genuine = subst (λ (xs : List Answered). IsGenuine form (now (setting_in w) (history (filters_of w) xs)).issues (whole_world form nothing w)) (sym made.answers) (fresh_genuine form (filters_of w) (whole_world form nothing w) fresh_world);
+      none_forged = λ x i. elim (subst (In x) made.answers i) [ ];
+    }
+
+  -- ---- an event happens
+
+  module _ (form_lists : ListsMore form) (w w' : WorldView K) (e : Event) (answer : Answer) (k : KeepsRules form w) (happens : Happens form w e answer w') where
+    abbrev x : Answered
+    x = answered e answer
+
+    moves : Moves form (whole_world form k.nothing w) e answer (whole_world form k.nothing w')
+    moves = happens.moves (unused_member form k.nothing) (new_port 1)
+
+    step : IsRun (setting_in w) start (history_of w ++ seen_step (moment_of w) x ∷ []) × Agrees form (filters_of w) (whole_world form k.nothing w') (now (setting_in w) (history_of w ++ seen_step (moment_of w) x ∷ []))
+    step = one_more form (filters_of w) (whole_world form k.nothing w) (whole_world form k.nothing w') (history_of w) x k.run k.agrees moves
+
+    by_sets : IsBySets form (moment_of w) e answer
+    by_sets =
+        let allowed = refines form (filters_of w) (whole_world form k.nothing w) (moment_of w) (run_inv (setting_in w) (history_of w) k.run) k.agrees e answer (whole_world form k.nothing w') moves in
+        is_by_sets form (filters_of w) (whole_world form k.nothing w) (whole_world form k.nothing w') (moment_of w) k.agrees e answer allowed.0 moves
+
+    genuine : IsGenuine form (now (setting_in w) (history_of w ++ seen_step (moment_of w) x ∷ [])).issues (whole_world form k.nothing w') × (answer ≢ Stepped (Err refusal.Forged))
+    genuine = one_more_genuine form (filters_of w) form_lists (whole_world form k.nothing w) (whole_world form k.nothing w') (history_of w) x k.run k.agrees k.genuine moves
+
+    none_forged : FindsNoneForged w'
+    none_forged z i = elim (in_append w.answers (x ∷ []) z (subst (In z) happens.answers i)) [
+      | inl old ↦ k.none_forged z old
+      | inr new ↦ elim new [ inl same ↦ subst (λ (y : Answered). y.answer ≢ Stepped (Err refusal.Forged)) same genuine.1 | inr none ↦ elim none [ ] ]
+    ]
+
+    -- a replica's filter never changes
+    same_filters : filters_of w ≡ filters_of w'
+    same_filters = λ i r. (sym (step.1.holdings r).filter ∙ filter_there k.nothing w' r) i
+
+    -- the history has one step more
+    same_history : history_of w ++ seen_step (moment_of w) x ∷ [] ≡ history (filters_of w) w'.answers
+    same_history = sym (ap (history (filters_of w)) happens.answers ∙ history_more (filters_of w) start w.answers x)
+
+    pub happens_keeps : KeepsRules form w'
+    happens_keeps = record {
+      run = subst (λ (f : ℕ → List ClauseParts). IsRun (setting_of f) start (history f w'.answers)) same_filters (subst (IsRun (setting_in w) start) same_history step.0);
+      nothing = k.nothing;
+      knows_nothing = k.knows_nothing;
+      agrees = subst (λ (f : ℕ → List ClauseParts). Agrees form f (whole_world form k.nothing w') (now (setting_of f) (history f w'.answers))) same_filters
+          (subst (λ (h : History Mail MailCard). Agrees form (filters_of w) (whole_world form k.nothing w') (now (setting_in w) h)) same_history step.1);
+      by_sets = subst (λ (f : ℕ → List ClauseParts). AreBySets form f w'.answers) same_filters
+          (subst (AreBySets form (filters_of w)) (sym happens.answers) (more_by_sets form (filters_of w) w.answers x k.by_sets by_sets));
+      genuine = subst (λ (f : ℕ → List ClauseParts). IsGenuine form (now (setting_of f) (history f w'.answers)).issues (whole_world form k.nothing w')) same_filters
+          (subst (λ (h : History Mail MailCard). IsGenuine form (now (setting_in w) h).issues (whole_world form k.nothing w')) same_history genuine.0);
+      none_forged = none_forged;
+    }
+
+  -- it is answered, or nothing changes
+  pub meets_keeps : ListsMore form → (w w' : WorldView K) (e : Event) (result : Result (Unit {0}) WorldFault) → KeepsRules form w → Meets form w e result w' → KeepsRules form w'
+  meets_keeps form_lists w w' e (Ok done) k meets = happens_keeps form_lists w w' e meets.0 k meets.1
+  meets_keeps form_lists w w' e (Err fault) k meets = subst (KeepsRules form) (sym meets.1) k
+
+  pub leads_keeps : ListsMore form → (w w' : WorldView K) (events : List Event) → KeepsRules form w → Leads form w events w' → KeepsRules form w'
+  leads_keeps form_lists w w' [] k leads = subst (KeepsRules form) (sym leads) k
+  leads_keeps form_lists w w' (e ∷ events) k leads = leads_keeps form_lists leads.0 w' events (happens_keeps form_lists w leads.0 e leads.1 k leads.2) leads.3
+
+  -- ---- what holds then
+
+  module _ (w : WorldView K) (k : KeepsRules form w) where
+    pub has_headline : HasHeadline w
+    has_headline = headline_holds (setting_in w) (history_of w) k.run
+
+    pub holds_soundly : HoldsSoundly w
+    holds_soundly r = is_sound (setting_in w) (moment_of w) (run_inv (setting_in w) (history_of w) k.run) r
+
+    pub keeps_all : KeepsAll w
+    keeps_all = loses_nothing (setting_in w) (moment_of w) (run_inv (setting_in w) (history_of w) k.run)
+
+    pub retired_clean : HasCleanRetired w
+    retired_clean = (run_inv (setting_in w) (history_of w) k.run).core.clean
+
+    pub holds_as_seen : HoldsAsSeen form w
+    holds_as_seen r s e = subst (HoldingsAgree form (moment_of w).issues (filters_of w) r ((moment_of w).holding r) ((moment_of w).feed r) ((moment_of w).is_retired r)) (there (member_at w.members r) e) (k.agrees.holdings r)
+      where
+        there : (o : Option (MemberView K)) → option_map (λ m. m.replica) o ≡ Some s → (found_or (unused_member form k.nothing r) o).replica ≡ s
+        there None e = absurd (cc)
+        there (Some m) e = some_path m.replica s e
+
+    pub tells_whole : TellsWhole w
+    tells_whole = k.agrees.records.whole
+
+    pub true_records : GivesTrueRecords w
+    true_records = k.agrees.records.each
+
+    pub true_receipts : GivesTrueReceipts w
+    true_receipts = k.agrees.receipts

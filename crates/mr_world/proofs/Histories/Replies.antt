@@ -1,0 +1,120 @@
+-- The replies of a world that agrees with a moment are those of sets.
+use Rattle.std.proofs.Common.{◌≡◌, sym, ap, subst, ◌∙◌, ℕ, ◌≤◌, nat_le, Bool, true, false, List, map, length, take, inl, inr, ◌⊎◌, IsTrue, IsFalse, arith, Option, Some, None}
+use Rattle.std.specs.Prelude.{Ok}
+use Rattle.std.proofs.lemmas.Bool.{leb-true, leb-false}
+use Rattle.std.proofs.lemmas.List.{take_all}
+use Rattle.mr_version.specs.Name.{Name}
+use Rattle.mr_forms.specs.Known.{Form}
+use Rattle.mr_filter.specs.Filter.{ClauseParts}
+use Rattle.mr_madewith.specs.Revision.{Rev}
+use Rattle.mr_model.specs.Moment.{known, numbered}
+use Rattle.mr_model.specs.Rules.{version_in}
+use Rattle.mr_model.specs.Versions.{is_issued, item_of}
+use Rattle.mr_model.proofs.Basics.{cases}
+use Rattle.mr_model.proofs.Sets.{numbered_in}
+use Rattle.mr_replica.specs.Forged.{line_of}
+use Rattle.mr_replica.specs.Pull.{IsAskOf, most_asked}
+use Rattle.mr_replica.specs.Receive.{TakesBody, TakesLine, entering}
+use Rattle.mr_replica.specs.State.{State}
+use Rattle.mr_replica.specs.declared.event.Event.TheVariants as replica
+use Rattle.mr_replica.specs.declared.event.Reply.{Reply}
+use Rattle.mr_replica.specs.declared.event.Reply.TheVariants.{Asked, Known, Took}
+use Rattle.mr_replica.proofs.Merging.{all_claimed}
+use Rattle.mr_session.specs.Stream.{claimed}
+use Rattle.mr_wire.specs.Encoding.{total_len}
+use Rattle.mr_wire.specs.Frames.{Question, Sent}
+use Rattle.mr_wire.specs.Values.{DescentParts, Piece, piece_of}
+use Rattle.mr_wire.specs.declared.frame.Body.{Body}
+use Rattle.mr_wire.specs.declared.frame.Body.TheVariants.{Start, Item, MoveOut, Held, Know, End}
+use Rattle.mr_wire.specs.declared.frame.Frame.TheVariants as frame
+use Rattle.mr_world.specs.Agrees.{Agrees}
+use Rattle.mr_world.specs.Issued.{IsTrueLine}
+use Rattle.mr_world.specs.Moves.{Moves}
+use Rattle.mr_world.specs.Replies.{ClaimsKnown, IsTooLong}
+use Rattle.mr_world.specs.Seen.{MailMoment, seen_body}
+use Rattle.mr_world.specs.Told.{IsTrueBody}
+use Rattle.mr_world.specs.World.{World}
+use Rattle.mr_world.specs.declared.answer.Answer.TheVariants.{Stepped}
+use Rattle.mr_world.specs.declared.event.Event.TheVariants as event
+use Rattle.mr_world.proofs.Moving.Opening.{asks_known as asks_no_more}
+use Rattle.mr_world.proofs.Moving.Refines.{steps_replied}
+use Rattle.mr_world.proofs.Groundwork.Tools.{some_path}
+
+-- ---- requests
+
+module _ {K : Type 0} (form : Form K) (s : State K) (q : Question) (ask : IsAskOf form s q) where
+  abbrev all : List Piece
+  all = map piece_of ask.fragments.fragments
+
+  all_told : q.fragments ≡ all → (i v : Name) → claimed q.fragments i v ≡ form.known s.knowledge i v
+  all_told same i v = ap (λ (ps : List Piece). claimed ps i v) same ∙ sym (ask.fragments.have.covered i v ∙ all_claimed ask.fragments.fragments i v)
+
+  -- a request tells all that is known, unless that takes too many bytes
+  pub asks_all : ((i v : Name) → claimed q.fragments i v ≡ form.known s.knowledge i v) ⊎ IsTooLong form s.knowledge
+  asks_all = elim (cases (nat_le (total_len all) most_asked)) [
+    | inl t ↦ (let whole : take (length all) all ≡ all = take_all (length all) all (omega arith) in
+        let few : total_len (take (length all) all) ≤ most_asked = subst (λ (ps : List Piece). total_len ps ≤ most_asked) (sym whole) (leb-true (total_len all) most_asked t) in
+        let long : length (take (length all) all) ≤ length q.fragments = ask.fragments.longest.longest (length all) few in
+        let enough : length all ≤ length q.fragments = subst (λ (ps : List Piece). length ps ≤ length q.fragments) whole long in
+        inl (all_told (ask.fragments.longest.beginning ∙ take_all (length q.fragments) all enough)))
+    | inr n ↦ inr (record { fragments = ask.fragments.fragments; are = ask.fragments.are; long = leb-false (total_len all) most_asked n })
+  ]
+
+module _ {K : Type 0} (form : Form K) (filters : ℕ → List ClauseParts) (w w' : World K) (m : MailMoment) (a : Agrees form filters w m) (r : ℕ) where
+  pub asks_known : (q : Question) → Moves form w (event.Pull r) (Stepped (Ok (Asked q))) w' → ((v : Name) → IsTrue (is_issued m.issues v) → claimed q.fragments (item_of m.issues v) v ≡ known m r v) ⊎ IsTooLong form (w.replicas r).knowledge
+  asks_known q move =
+      let step = steps_replied form (w.replicas r) replica.Pull (Asked q) move.1 move.2 in
+      elim (asks_all form (w.replicas r) q step.1.0) [
+        | inl same ↦ inl (λ v issued. same (item_of m.issues v) v ∙ (a.holdings r).knows.same v issued)
+        | inr long ↦ inr long
+      ]
+
+  pub claims_known : (q : Question) → Moves form w (event.Pull r) (Stepped (Ok (Asked q))) w' → ClaimsKnown form m r q
+  claims_known q move =
+      let step = steps_replied form (w.replicas r) replica.Pull (Asked q) move.1 move.2 in
+      let knows = (a.holdings r).knows in
+      record {
+        no_more = λ v issued h. sym (knows.same v issued) ∙ asks_no_more form (w.replicas r) q step.1.0 (item_of m.issues v) v h;
+        all = elim (asks_all form (w.replicas r) q step.1.0) [
+          | inl same ↦ inl (λ v issued h. same (item_of m.issues v) v ∙ (knows.same v issued ∙ h))
+          | inr long ↦ inr ((w.replicas r).knowledge, knows, long)
+        ];
+      }
+
+  -- ---- records
+
+  -- whether a version that is told is known, as the moment has it
+  line_known : (line : DescentParts) → IsTrueLine m.issues line → (b : Bool) → form.known (w.replicas r).knowledge line.item line.version ≡ b → known m r line.version ≡ b
+  line_known line t b h = sym ((a.holdings r).knows.same line.version t.is_one) ∙ (ap (λ (i : Name). form.known (w.replicas r).knowledge i line.version) t.of_item ∙ h)
+
+  -- a version is answered as known where it is
+  abbrev IsAnswer : Reply → Name → Type 0
+  IsAnswer Known v = IsTrue (known m r v)
+  IsAnswer Took v = IsFalse (known m r v)
+  IsAnswer reply v = ⊥
+
+  line_answer : (sent : Sent) (line : DescentParts) (comer : Option Rev) (reply : Reply) (new : State K) → IsTrueLine m.issues line → TakesLine form (w.replicas r) sent line comer reply new → IsAnswer reply line.version
+  line_answer sent line comer Known new t step = line_known line t true step.0
+  line_answer sent line comer Took new t step = line_known line t false step.0
+  line_answer sent line comer reply new t step = absurd step
+
+  body_answer : (sent : Sent) (b : Body) (reply : Reply) (new : State K) (v : Name) → IsTrueBody m.issues b → version_in (seen_body b) ≡ Some v → TakesBody form (w.replicas r) sent b reply new → IsAnswer reply v
+  body_answer sent (Item x) reply new v t e step = let same : x.version ≡ v = cc in subst (IsAnswer reply) same (line_answer sent (line_of x) (entering (w.replicas r) (Item x)) reply new t.below step)
+  body_answer sent (MoveOut line) reply new v t e step = let same : line.version ≡ v = cc in subst (IsAnswer reply) same (line_answer sent line None reply new t step)
+  body_answer sent (Start mode) reply new v t e step = absurd (cc)
+  body_answer sent (Held vector) reply new v t e step = absurd (cc)
+  body_answer sent (Know piece) reply new v t e step = absurd (cc)
+  body_answer sent End reply new v t e step = absurd (cc)
+
+  record_answer : (n : ℕ) (reply : Reply) → Moves form w (event.Receive r n) (Stepped (Ok reply)) w' → (sent : Sent) → numbered w.records n ≡ Some sent → (v : Name) → version_in (seen_body sent.body) ≡ Some v → IsAnswer reply v
+  record_answer n reply move sent pool v e =
+      let one : move.0 ≡ sent = some_path move.0 sent (sym move.1 ∙ pool) in
+      let step = steps_replied form (w.replicas r) (replica.Receive (frame.Record move.0)) reply move.2.1 move.2.2 in
+      body_answer move.0 move.0.body reply move.2.1 v (a.records.each move.0 (numbered_in w.records n move.0 move.1)) (ap (λ (z : Sent). version_in (seen_body z.body)) one ∙ e) step.1
+
+  -- Known is answered of a version that is known, and Took of one that is not
+  pub known_known : (n : ℕ) → Moves form w (event.Receive r n) (Stepped (Ok Known)) w' → (sent : Sent) → numbered w.records n ≡ Some sent → (v : Name) → version_in (seen_body sent.body) ≡ Some v → IsTrue (known m r v)
+  known_known n move sent pool v e = record_answer n Known move sent pool v e
+
+  pub took_unknown : (n : ℕ) → Moves form w (event.Receive r n) (Stepped (Ok Took)) w' → (sent : Sent) → numbered w.records n ≡ Some sent → (v : Name) → version_in (seen_body sent.body) ≡ Some v → IsFalse (known m r v)
+  took_unknown n move sent pool v e = record_answer n Took move sent pool v e

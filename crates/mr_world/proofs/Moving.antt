@@ -1,0 +1,8 @@
+-- Each event of a world is one that the rules allow, and what agreed agrees after it: Refinement is all of it.
+pub mod Refines
+pub mod IssueMoves
+pub mod RecordMoves
+pub mod Opening
+pub mod Receipts
+pub mod PortMoves
+pub mod Refinement

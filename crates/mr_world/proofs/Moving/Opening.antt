@@ -1,0 +1,448 @@
+-- Pull and Answer, the cuts, and Retire.
+use Rattle.std.proofs.Common.{◌≡◌, ◌≢◌, refl, sym, ap, subst, ◌∙◌, ℕ, zero, suc, ◌+◌, ◌≤◌, ◌==◌, nat_le, Bool, true, false, ◌||◌, ◌&&◌, List, [], ◌∷◌, filter, map, length, take, inl, inr, IsTrue, IsFalse, arith, eq-eqb, if◌then◌else◌, Option, Some, None}
+use Rattle.std.specs.Prelude.{Ok}
+use Rattle.std.specs.List.{All, AllZip, list_any}
+use Rattle.std.specs.Option.{IfSome}
+use Rattle.std.proofs.lemmas.Bool.{both_ways}
+use Rattle.std.proofs.lemmas.List.Elements.{All-head, All-tail}
+use Rattle.mr_version.specs.Name.{Name}
+use Rattle.mr_forms.specs.Known.{Form, Part}
+use Rattle.mr_forms.specs.Parts.{AreListable}
+use Rattle.mr_concise.specs.Vector.{vector_has}
+use Rattle.mr_filter.specs.Filter.{ClauseParts}
+use Rattle.mr_filter.specs.Meaning.{covers}
+use Rattle.mr_mail.specs.Mail.{Mail, MailCard}
+use Rattle.mr_model.specs.Changes.{Change, after_opening, change_if_found}
+use Rattle.mr_model.specs.History.{Ask, Record, claims}
+use Rattle.mr_model.specs.Moment.{at, known, numbered}
+use Rattle.mr_model.specs.Rules.{In, IsAsk, IsOf, IsOpened}
+use Rattle.mr_model.specs.Versions.{Issue, Versions, in_version_order, is, is_issued, item_of}
+use Rattle.mr_model.proofs.Basics.{any_elim, any_intro, cases, is_path, is_refl, one_test, or_left, or_parts, or_right}
+use Rattle.mr_model.proofs.Core.{Inv}
+use Rattle.mr_model.proofs.Issues.{issue_in}
+use Rattle.mr_model.proofs.Lists.{filter_in, in_filter, in_issued, in_map, in_ordered, ordered_in}
+use Rattle.mr_model.proofs.Sets.{at_elim, at_elim₂, at_same, numbered_in, two_same}
+use Rattle.mr_replica.specs.Admission.{log_full}
+use Rattle.mr_replica.specs.Answer.{Keeps, answering, asked_of, mode_for}
+use Rattle.mr_replica.specs.CutIn.{cutting_in}
+use Rattle.mr_replica.specs.CutOut.{cutting_out}
+use Rattle.mr_replica.specs.Issue.{logged}
+use Rattle.mr_replica.specs.Pieces.{IsPieceOf}
+use Rattle.mr_replica.specs.Pull.{IsAskOf, pulling}
+use Rattle.mr_replica.specs.Refusal.{refused_if, ◌orelse◌}
+use Rattle.mr_replica.specs.Retire.{has_any, retiring}
+use Rattle.mr_replica.specs.State.{State}
+use Rattle.mr_replica.specs.Step.{Changes, first_refusal}
+use Rattle.mr_replica.specs.declared.event.Event.TheVariants as replica
+use Rattle.mr_replica.specs.declared.event.Reply.{Reply}
+use Rattle.mr_replica.specs.declared.event.Reply.TheVariants.{Asked, Done, Streaming}
+use Rattle.mr_replica.specs.declared.refusal.Refusal.TheVariants.{OwnAsk, PushOutsLeft, TooManySessions, TooManyStreams}
+use Rattle.mr_replica.proofs.Merging.{all_claimed}
+use Rattle.mr_session.specs.Session.{Session, is_full_mode, new_session}
+use Rattle.mr_session.specs.Stream.{Stream, claimed, lists, new_stream}
+use Rattle.mr_session.specs.Table.{most_open, open_at}
+use Rattle.mr_store.specs.Revisions.{holds}
+use Rattle.mr_wire.specs.Frames.{Question, Sent}
+use Rattle.mr_wire.specs.Values.{Piece, piece_of}
+use Rattle.mr_wire.specs.declared.frame.Mode.{Mode}
+use Rattle.mr_wire.specs.declared.frame.Mode.TheVariants.{Full, Partial}
+use Rattle.mr_madewith.specs.Revision.{Rev}
+use Rattle.mr_world.specs.Agrees.{Agrees, HoldingsAgree}
+use Rattle.mr_world.specs.Issued.{Shows}
+use Rattle.mr_world.specs.Moves.{Moves}
+use Rattle.mr_world.specs.Seen.{MailMoment, seen_ask, seen_record, setting_of, versions_in_order}
+use Rattle.mr_world.specs.Sessions.{Follows, SessionAgrees, SessionsAgree}
+use Rattle.mr_world.specs.Shared.{SeesAsk, SeesAsks}
+use Rattle.mr_world.specs.Streams.{StreamAgrees, StreamsAgree}
+use Rattle.mr_world.specs.Told.{told_pairs}
+use Rattle.mr_world.specs.World.{World, with_given, with_replica}
+use Rattle.mr_world.specs.declared.answer.Answer.{Answer}
+use Rattle.mr_world.specs.declared.answer.Answer.TheVariants.{Stepped}
+use Rattle.mr_world.specs.declared.event.Event.TheVariants as event
+use Rattle.mr_world.proofs.Groundwork.AtPlaces.{at_other, same_place, two_other}
+use Rattle.mr_world.proofs.Agreement.OneMore.{stream_kept}
+use Rattle.mr_world.proofs.Agreement.Staying.{tables_hold}
+use Rattle.mr_world.proofs.Agreement.Parts.{parts_none}
+use Rattle.mr_world.proofs.Moving.Refines.{Refines, alive, by_change, by_steps}
+use Rattle.mr_world.proofs.Groundwork.Tables.{closed_found, opened_found}
+use Rattle.mr_world.proofs.Groundwork.Tools.{map_in, not_refused, orelse_none}
+
+-- ---- what was issued, in order
+
+pub ordered_issued : (issues : List (Issue Mail)) (v : Name) → In v (versions_in_order issues) → IsTrue (is_issued issues v)
+ordered_issued issues v i = let x = in_map (λ (x : Issue Mail). x.version) (in_version_order issues) v i in
+    subst (λ (z : Name). IsTrue (is_issued issues z)) x.2 (in_issued issues x.0 (ordered_in issues x.0 x.1))
+
+pub issued_ordered : (issues : List (Issue Mail)) (v : Name) → IsTrue (is_issued issues v) → In v (versions_in_order issues)
+issued_ordered issues v h = let x = issue_in issues v h in
+    subst (λ (z : Name). In z (versions_in_order issues)) x.2 (map_in (λ (x : Issue Mail). x.version) (in_version_order issues) x.0 (in_ordered issues x.0 x.1))
+
+-- ---- requests
+
+-- the requests of the pool, one by one
+pub sees_length : (issues : List (Issue Mail)) (filters : ℕ → List ClauseParts) (seen : List Ask) (qs : List Question) → SeesAsks issues filters seen qs → length seen ≡ length qs
+sees_length issues filters [] [] h = refl
+sees_length issues filters [] (q ∷ qs) h = absurd h
+sees_length issues filters (a ∷ seen) [] h = absurd h
+sees_length issues filters (a ∷ seen) (q ∷ qs) h = ap (λ n. suc n) (sees_length issues filters seen qs h.1)
+
+pub sees_numbered : (issues : List (Issue Mail)) (filters : ℕ → List ClauseParts) (seen : List Ask) (qs : List Question) → SeesAsks issues filters seen qs → (n : ℕ) (q : Question) → numbered qs n ≡ Some q →
+    (a : Ask) × (numbered seen n ≡ Some a) × SeesAsk issues filters a (asked_of q)
+sees_numbered issues filters [] [] h n q e = absurd (cc)
+sees_numbered issues filters [] (y ∷ qs) h n q e = absurd h
+sees_numbered issues filters (a ∷ seen) [] h n q e = absurd h
+sees_numbered issues filters (a ∷ seen) (y ∷ qs) h n q e = elim (cases (n == length qs + 1)) [
+  | inl t ↦ (let k : Some y ≡ Some q = rw t at e in let p : y ≡ q = cc in let t' : IsTrue (n == length seen + 1) = rw (sees_length issues filters seen qs h.1) t in (a, rw t' refl, subst (λ (z : Question). SeesAsk issues filters a (asked_of z)) p h.0))
+  | inr t ↦ (let k : numbered qs n ≡ Some q = rw t at e in let t' : IsFalse (n == length seen + 1) = rw (sees_length issues filters seen qs h.1) t in let r = sees_numbered issues filters seen qs h.1 n q k in (r.0, rw t' r.1, r.2))
+]
+
+pub claims_seen : (issues : List (Issue Mail)) (q : Question) (v : Name) → IsTrue (is_issued issues v) → claimed q.fragments (item_of issues v) v ≡ claims (seen_ask issues q) v
+claims_seen issues q v h = one_test (claimed q.fragments (item_of issues v) v) (claims (seen_ask issues q) v)
+    (λ k. any_intro (λ u. is u v) (filter (λ u. claimed q.fragments (item_of issues u) u) (versions_in_order issues)) v (filter_in (λ u. claimed q.fragments (item_of issues u) u) (versions_in_order issues) v (issued_ordered issues v h) k) (is_refl v))
+    (λ k. let r = any_elim (λ u. is u v) (filter (λ u. claimed q.fragments (item_of issues u) u) (versions_in_order issues)) k in
+    let d = in_filter (λ u. claimed q.fragments (item_of issues u) u) (versions_in_order issues) r.0 r.1 in subst (λ (z : Name). IsTrue (claimed q.fragments (item_of issues z) z)) (is_path r.0 v r.2) d.1)
+
+pub claims_issued : (issues : List (Issue Mail)) (q : Question) (v : Name) → IsTrue (claims (seen_ask issues q) v) → IsTrue (is_issued issues v)
+claims_issued issues q v h = let x = any_elim (λ u. is u v) (filter (λ u. claimed q.fragments (item_of issues u) u) (versions_in_order issues)) h in
+    subst (λ (z : Name). IsTrue (is_issued issues z)) (is_path x.0 v x.2) (ordered_issued issues x.0 (in_filter (λ u. claimed q.fragments (item_of issues u) u) (versions_in_order issues) x.0 x.1).0)
+
+any_take : {A : Type 0} (p : A → Bool) (n : ℕ) (xs : List A) → IsTrue (list_any p (take n xs)) → IsTrue (list_any p xs)
+any_take p zero xs h = absurd (cc)
+any_take p (suc n) [] h = absurd (cc)
+any_take p (suc n) (x ∷ xs) h = elim (or_parts (p x) (list_any p (take n xs)) h) [ inl here ↦ or_left (p x) (list_any p xs) here | inr later ↦ or_right (p x) (list_any p xs) (any_take p n xs later) ]
+
+-- a request claims what its replica knows, and no more
+pub asks_known : {K : Type 0} (form : Form K) (s : State K) (q : Question) → IsAskOf form s q → (i v : Name) → IsTrue (claimed q.fragments i v) → IsTrue (form.known s.knowledge i v)
+asks_known form s q ask i v h =
+    let fs = ask.fragments.fragments in
+    let some : IsTrue (claimed (take (length q.fragments) (map piece_of fs)) i v) = subst (λ (ps : List Piece). IsTrue (claimed ps i v)) ask.fragments.longest.beginning h in
+    ask.fragments.have.covered i v ∙ (all_claimed fs i v ∙ any_take (λ (piece : Piece). lists piece.items i && vector_has piece.vector v) (length q.fragments) (map piece_of fs) some)
+
+-- ---- what a stream keeps
+
+full_if : (b : Bool) → is_full_mode (if b then Full else Partial) ≡ b
+full_if true = refl
+full_if false = refl
+
+-- the pieces of parts list some item, if they list any
+pieces_listed : (parts : List Part) (pieces : List Piece) → AllZip IsPieceOf parts pieces → All (λ p. IfSome p.items AreListable) parts → (piece : Piece) → In piece pieces → piece.items ≢ Some []
+pieces_listed [] [] are listable piece i = elim i [ ]
+pieces_listed [] (y ∷ ys) are listable piece i = absurd are
+pieces_listed (p ∷ ps) [] are listable piece i = elim i [ ]
+pieces_listed (p ∷ ps) (y ∷ ys) are listable piece i = elim i [
+  | inl e ↦ (λ none. let lists_none : IfSome (Some []) AreListable = subst (λ (o : Option (List Name)). IfSome o AreListable) (sym are.0.items ∙ (ap (λ (z : Piece). z.items) e ∙ none)) (All-head (λ (p : Part). IfSome p.items AreListable) p ps listable) in lists_none.some refl)
+  | inr j ↦ pieces_listed ps ys are.1 (All-tail (λ (p : Part). IfSome p.items AreListable) p ps listable) piece j
+]
+
+module _ {K : Type 0} (form : Form K) (knowledge : K) (know : List Piece) where
+  kept_known : (mode : Mode) → Keeps form mode knowledge know → (i v : Name) → IsTrue (claimed know i v) → IsTrue (form.known knowledge i v)
+  kept_known Full keeps i v h = keeps.1 i v ∙ h
+  kept_known Partial keeps i v h = let none : IsTrue (claimed [] i v) = subst (λ (ps : List Piece). IsTrue (claimed ps i v)) keeps h in absurd (cc)
+
+  kept_listed : (mode : Mode) → Keeps form mode knowledge know → (piece : Piece) → In piece know → piece.items ≢ Some []
+  kept_listed Full keeps piece i = pieces_listed keeps.0.parts know keeps.0.by_part keeps.0.are_parts.in_order.listable piece i
+  kept_listed Partial keeps piece i = elim (subst (λ (ps : List Piece). In piece ps) keeps i) [ ]
+
+  kept_whole : (mode : Mode) → is_full_mode mode ≡ true → Keeps form mode knowledge know → (i v : Name) → claimed know i v ≡ form.known knowledge i v
+  kept_whole Full full keeps i v = sym (keeps.1 i v)
+  kept_whole Partial full keeps i v = absurd (cc)
+
+pub session_older : (records : List Sent) (taken : List Record) (opened opened' number : ℕ) (k : Session) → opened ≤ opened' → SessionAgrees records taken opened number k → SessionAgrees records taken opened' number k
+session_older records taken opened opened' number k le a = record { old = (let o = a.old in omega arith); follows = a.follows; keeps = a.keeps }
+
+pub stream_older : (issues : List (Issue Mail)) (filters : ℕ → List ClauseParts) (records : List Sent) (given : List Record) (r opened opened' number : ℕ) (ask ask' : Option Ask) (known known' held : Versions) (k : Stream) →
+    opened ≤ opened' → ask' ≡ ask → known' ≡ known →
+    StreamAgrees issues filters records given r opened number ask known held k → StreamAgrees issues filters records given r opened' number ask' known' held k
+stream_older issues filters records given r opened opened' number ask ask' known known' held k le ea ek a =
+    stream_kept issues issues filters records given r opened opened' number ask ask' known known' held k a (let o = a.old in omega arith) (ea ∙ a.asked) a.sees a.held_issued
+    (λ full. subst (Shows issues (λ i v. told_pairs records r number k.next i v || claimed k.know i v)) (sym ek) (a.knows full)) a.know_issued
+
+module _ {K : Type 0} (form : Form K) (filters : ℕ → List ClauseParts) (w : World K) (m : MailMoment) (inv : Inv (setting_of filters) m) (a : Agrees form filters w m) where
+  -- r's tables and log become others
+  tables_agree : (r : ℕ) (new : State K) → HoldingsAgree form m.issues filters r (m.holding r) (m.feed r) (m.is_retired r) new → SessionsAgree w.records (m.taken_in r) new.sessions →
+      StreamsAgree m.issues filters w.records m.given r (m.ask_of r) (m.known_at_answer r) (m.held_at_draw r) new.streams → Agrees form filters (with_replica w r new) m
+  tables_agree r new holdings sessions streams = record {
+    asks = a.asks;
+    given = a.given;
+    vouched = a.vouched;
+    receipts = a.receipts;
+    ports = a.ports;
+    records = a.records;
+    holdings = λ z. at_elim (λ (u : ℕ) (st : State K). HoldingsAgree form m.issues filters u (m.holding u) (m.feed u) (m.is_retired u) st) w.replicas r new z holdings (a.holdings z);
+    sessions = λ z. at_elim (λ (u : ℕ) (st : State K). SessionsAgree w.records (m.taken_in u) st.sessions) w.replicas r new z sessions (a.sessions z);
+    streams = λ z. at_elim (λ (u : ℕ) (st : State K). StreamsAgree m.issues filters w.records m.given u (m.ask_of u) (m.known_at_answer u) (m.held_at_draw u) st.streams) w.replicas r new z streams (a.streams z);
+  }
+
+  -- ---- Pull
+
+  module _ (r : ℕ) (q : Question) where
+    abbrev pulled : State K
+    pulled = logged (pulling (w.replicas r)) replica.Pull
+
+    pull_agrees : IsFalse (w.replicas r).is_retired → IsAskOf form (w.replicas r) q →
+        IsAsk m r (seen_ask m.issues q) × Agrees form filters (record (with_replica w r pulled) { asks = q ∷ w.asks }) (record m { asks = seen_ask m.issues q ∷ m.asks })
+    pull_agrees living ask = (
+      record {
+        alive = (a.holdings r).is_retired ∙ living;
+        target = target;
+        claims_known = λ v h. (let iss = claims_issued m.issues q v h in sym ((a.holdings r).knows.same v iss) ∙ asks_known form (w.replicas r) q ask (item_of m.issues v) v (claims_seen m.issues q v iss ∙ h));
+      },
+      record {
+        asks = (
+          record {
+            target = refl;
+            session = refl;
+            filter = ask.filter ∙ ((a.holdings r).filter ∙ ap filters (sym target));
+            shows = record { issued = λ i v h. (a.holdings r).knows.issued i v (asks_known form (w.replicas r) q ask i v h); same = λ v h. claims_seen m.issues q v h };
+          },
+          a.asks,
+        );
+        given = opened.given;
+        vouched = opened.vouched;
+        receipts = opened.receipts;
+        ports = opened.ports;
+        records = opened.records;
+        holdings = opened.holdings;
+        sessions = opened.sessions;
+        streams = opened.streams;
+      },
+    )
+      where
+        target : q.target ≡ r
+        target = ask.target ∙ (a.holdings r).id
+
+        before : ℕ
+        before = (w.replicas r).sessions.opened
+
+        new_one : SessionAgrees w.records (m.taken_in r) (before + 1) (before + 1) new_session
+        new_one = record {
+          old = omega arith;
+          follows = subst (Follows new_session) (sym ((a.sessions r).fresh (before + 1) (omega arith))) refl;
+          keeps = λ o e. absurd (cc);
+        }
+
+        each : (number : ℕ) (k : Session) → open_at pulled.sessions number ≡ Some k → SessionAgrees w.records (m.taken_in r) (before + 1) number k
+        each number k e = elim (opened_found (w.replicas r).sessions new_session number k e) [
+          | inl new ↦ subst (λ (n : ℕ). SessionAgrees w.records (m.taken_in r) (before + 1) n k) new.0 (subst (SessionAgrees w.records (m.taken_in r) (before + 1) (before + 1)) new.1 new_one)
+          | inr old ↦ session_older w.records (m.taken_in r) before (before + 1) number k (omega arith) ((a.sessions r).each number k old)
+        ]
+
+        opened : Agrees form filters (with_replica w r pulled) m
+        opened = tables_agree r pulled (tables_hold form m.issues filters r (m.holding r) (m.feed r) (m.is_retired r) (w.replicas r) pulled.log pulled.sessions pulled.streams (a.holdings r))
+            (record { each = each; fresh = λ n lt. (a.sessions r).fresh n (omega arith) }) (a.streams r)
+
+  pub pulls : (r : ℕ) (answer : Answer) (w' : World K) → Moves form w (event.Pull r) answer w' → Refines form filters w m (event.Pull r) answer w'
+  pulls r answer w' move = by_steps form filters w m a (event.Pull r) r replica.Pull answer w' move go
+    where
+      go : (reply : Reply) (new : State K) → first_refusal (w.replicas r) replica.Pull ≡ None → Changes form (w.replicas r) replica.Pull reply new → Refines form filters w m (event.Pull r) (Stepped (Ok reply)) (with_given (with_replica w r new) (Ok reply))
+      go (Asked q) new none step =
+          let living = alive form (w.replicas r) (refused_if (nat_le most_open (length (w.replicas r).sessions.open_ones)) TooManySessions orelse log_full (w.replicas r)) none in
+          subst (λ (s : State K). Refines form filters w m (event.Pull r) (Stepped (Ok (Asked q))) (with_given (with_replica w r s) (Ok (Asked q)))) (sym step.1) (pull_agrees r q living step.0)
+      go reply new none step = absurd step
+
+  -- ---- Answer
+
+  module _ (r n : ℕ) (q : Question) (pool : numbered w.asks n ≡ Some q) (know : List Piece) (keeps : Keeps form (mode_for (w.replicas r) q) (w.replicas r).knowledge know) where
+    abbrev mode : Mode
+    mode = mode_for (w.replicas r) q
+
+    -- the number of the stream
+    abbrev t : ℕ
+    t = (w.replicas r).streams.opened + 1
+
+    sees : (b : Ask) × (numbered m.asks n ≡ Some b) × SeesAsk m.issues filters b (asked_of q)
+    sees = sees_numbered m.issues filters m.asks w.asks a.asks n q pool
+
+    abbrev after : MailMoment
+    after = after_opening m r t sees.0
+
+    unopened : m.ask_of r t ≡ None
+    unopened = (a.streams r).fresh t (omega arith)
+
+    none_of : (x : Record) → ¬ IsOf m.given r t x
+    none_of x of = let h = inv.core.streams.asked r t x of in let c : Some h.0 ≡ None = sym h.1 ∙ unopened in cc
+
+    not_given : (x : Sent) → In x w.records → ¬ ((x.header.source ≡ r) × (x.header.stream ≡ t))
+    not_given x i e = none_of (seen_record x) (record { is_given = subst (In (seen_record x)) (sym a.given) (map_in seen_record w.records x i); source_is = e.0; stream_is = e.1 })
+
+    abbrev stream : Stream
+    stream = new_stream (asked_of q) mode know
+
+    abbrev opening : State K
+    opening = logged (answering (w.replicas r) q know) (replica.Answer q)
+
+    none_told : (i v : Name) → (told_pairs w.records r t 0 i v || claimed know i v) ≡ claimed know i v
+    none_told i v = ap (λ (z : Bool). z || claimed know i v) (parts_none (λ b. _) w.records r t)
+
+    new_one : StreamAgrees m.issues filters w.records m.given r t t (after.ask_of r t) (after.known_at_answer r t) (m.held_at_draw r t) stream
+    new_one = record {
+      old = omega arith;
+      ask = sees.0;
+      asked = two_same m.ask_of r t (Some sees.0);
+      sees = sees.2;
+      covers = full_if (covers (w.replicas r).filter q.filter) ∙ ap (λ (f : List ClauseParts). covers f q.filter) (a.holdings r).filter;
+      below_next = λ x of. absurd (none_of x of);
+      begun = λ n. absurd (n refl);
+      no_end = λ x of. absurd (none_of x of);
+      starts = λ x of. absurd (none_of x of);
+      past = λ p e. absurd (cc);
+      behind = λ x v of. absurd (none_of x of);
+      walking = λ e h. none_of h.0 h.1;
+      showing = λ e. absurd (e refl);
+      shows_full = λ e. absurd (e refl);
+      unbegun = λ e. refl;
+      held = λ e. absurd (e refl);
+      none_shown = λ e v. parts_none _ w.records r t;
+      held_issued = λ v h. absurd (cc);
+      knows = λ full. subst (Shows m.issues (λ i v. told_pairs w.records r t 0 i v || claimed know i v)) (sym (two_same m.known_at_answer r t (known m r))) (record {
+        issued = λ i v h. (a.holdings r).knows.issued i v (kept_known form (w.replicas r).knowledge know mode keeps i v (sym (none_told i v) ∙ h));
+        same = λ v h. none_told (item_of m.issues v) v ∙ (kept_whole form (w.replicas r).knowledge know mode full keeps (item_of m.issues v) v ∙ (a.holdings r).knows.same v h);
+      });
+      know_issued = λ i v h. (a.holdings r).knows.issued i v (kept_known form (w.replicas r).knowledge know mode keeps i v h);
+      listed = kept_listed form (w.replicas r).knowledge know mode keeps;
+    }
+
+    each : (number : ℕ) (k : Stream) → open_at opening.streams number ≡ Some k → StreamAgrees m.issues filters w.records m.given r t number (after.ask_of r number) (after.known_at_answer r number) (m.held_at_draw r number) k
+    each number k e = elim (opened_found (w.replicas r).streams stream number k e) [
+      | inl new ↦ subst (λ (z : ℕ). StreamAgrees m.issues filters w.records m.given r t z (after.ask_of r z) (after.known_at_answer r z) (m.held_at_draw r z) k) new.0
+          (subst (StreamAgrees m.issues filters w.records m.given r t t (after.ask_of r t) (after.known_at_answer r t) (m.held_at_draw r t)) new.1 new_one)
+      | inr found ↦ (let o = (a.streams r).each number k found in let le = o.old in let differ : number ≢ t = (λ e. absurd (omega arith)) in
+          stream_older m.issues filters w.records m.given r (w.replicas r).streams.opened t number (m.ask_of r number) (after.ask_of r number) (m.known_at_answer r number) (after.known_at_answer r number) (m.held_at_draw r number) k (omega arith)
+          (two_other m.ask_of r t (Some sees.0) r number (λ e. differ e.1)) (two_other m.known_at_answer r t (known m r) r number (λ e. differ e.1)) o)
+    ]
+
+    streams_here : StreamsAgree m.issues filters w.records m.given r (after.ask_of r) (after.known_at_answer r) (m.held_at_draw r) opening.streams
+    streams_here = record {
+      each = each;
+      fresh = λ u lt. two_other m.ask_of r t (Some sees.0) r u (λ e. let d = e.1 in absurd (omega arith)) ∙ (a.streams r).fresh u (omega arith);
+    }
+
+    streams_there : (z : ℕ) → z ≢ r → StreamsAgree m.issues filters w.records m.given z (after.ask_of z) (after.known_at_answer z) (m.held_at_draw z) (w.replicas z).streams
+    streams_there z other = record {
+      each = λ number k found. stream_older m.issues filters w.records m.given z (w.replicas z).streams.opened (w.replicas z).streams.opened number (m.ask_of z number) (after.ask_of z number) (m.known_at_answer z number) (after.known_at_answer z number) (m.held_at_draw z number) k (omega arith)
+          (two_other m.ask_of r t (Some sees.0) z number (λ e. other e.0)) (two_other m.known_at_answer r t (known m r) z number (λ e. other e.0)) ((a.streams z).each number k found);
+      fresh = λ u lt. two_other m.ask_of r t (Some sees.0) z u (λ e. other e.0) ∙ (a.streams z).fresh u lt;
+    }
+
+    answer_agrees : q.target ≢ (w.replicas r).id → IsOpened m r t sees.0 × Agrees form filters (with_replica w r opening) after
+    answer_agrees other_target = (
+      record { asked = numbered_in m.asks n sees.0 sees.1; other = λ e. other_target (sym sees.2.target ∙ (e ∙ sym (a.holdings r).id)); fresh = unopened },
+      record {
+        asks = a.asks;
+        given = a.given;
+        vouched = a.vouched;
+        receipts = a.receipts;
+        ports = a.ports;
+        records = record {
+          each = a.records.each;
+          starts = a.records.starts;
+          one_place = a.records.one_place;
+          whole = λ x y i j one ex ey. (let h = a.records.whole x y i j one ex ey in record {
+            held = h.held;
+            knows = subst (Shows m.issues (told_pairs w.records x.header.source x.header.stream x.header.index)) (sym (two_other m.known_at_answer r t (known m r) x.header.source x.header.stream (not_given x i))) h.knows;
+          });
+        };
+        holdings = λ z. at_elim (λ (u : ℕ) (st : State K). HoldingsAgree form m.issues filters u (m.holding u) (m.feed u) (m.is_retired u) st) w.replicas r opening z
+            (tables_hold form m.issues filters r (m.holding r) (m.feed r) (m.is_retired r) (w.replicas r) opening.log opening.sessions opening.streams (a.holdings r)) (a.holdings z);
+        sessions = λ z. at_elim (λ (u : ℕ) (st : State K). SessionsAgree w.records (m.taken_in u) st.sessions) w.replicas r opening z (a.sessions r) (a.sessions z);
+        streams = λ z. elim (same_place z r) [
+          | inl e ↦ subst (λ (u : ℕ). StreamsAgree m.issues filters w.records m.given u (after.ask_of u) (after.known_at_answer u) (m.held_at_draw u) (at w.replicas r opening u).streams) (sym e)
+              (subst (λ (st : State K). StreamsAgree m.issues filters w.records m.given r (after.ask_of r) (after.known_at_answer r) (m.held_at_draw r) st.streams) (sym (at_same w.replicas r opening)) streams_here)
+          | inr other ↦ subst (λ (st : State K). StreamsAgree m.issues filters w.records m.given z (after.ask_of z) (after.known_at_answer z) (m.held_at_draw z) st.streams) (sym (at_other w.replicas r opening z other)) (streams_there z other)
+        ];
+      },
+    )
+
+  pub answers : (r n : ℕ) (answer : Answer) (w' : World K) → Moves form w (event.Answer r n) answer w' → Refines form filters w m (event.Answer r n) answer w'
+  answers r n answer w' move = by_steps form filters w m a (event.Answer r n) r (replica.Answer q) answer w' move.2 go
+    where
+      q : Question
+      q = move.0
+
+      go : (reply : Reply) (new : State K) → first_refusal (w.replicas r) (replica.Answer q) ≡ None → Changes form (w.replicas r) (replica.Answer q) reply new → Refines form filters w m (event.Answer r n) (Stepped (Ok reply)) (with_given (with_replica w r new) (Ok reply))
+      go (Streaming t) new none step =
+          let own = not_refused (q.target == (w.replicas r).id) OwnAsk (orelse_none (refused_if (q.target == (w.replicas r).id) OwnAsk) (refused_if (nat_le most_open (length (w.replicas r).streams.open_ones)) TooManyStreams orelse log_full (w.replicas r)) none).0 in
+          let seen = sees r n q move.1 step.1 step.2 in
+          subst (λ (s : State K). Refines form filters w m (event.Answer r n) (Stepped (Ok (Streaming t))) (with_replica w r s)) (sym step.3)
+          (subst (λ (u : ℕ). Refines form filters w m (event.Answer r n) (Stepped (Ok (Streaming u))) (with_replica w r (logged (answering (w.replicas r) q step.1) (replica.Answer q)))) (sym step.0)
+          (by_change form filters w m (event.Answer r n) (Stepped (Ok (Streaming ((w.replicas r).streams.opened + 1)))) (with_replica w r (logged (answering (w.replicas r) q step.1) (replica.Answer q)))
+          (Change.Opens r ((w.replicas r).streams.opened + 1) seen.0) (ap (λ (o : Option Ask). change_if_found {C = MailCard} o (Change.Opens r ((w.replicas r).streams.opened + 1))) seen.1)
+          (answer_agrees r n q move.1 step.1 step.2 (λ e. both_ways (q.target == (w.replicas r).id) own (eq-eqb q.target (w.replicas r).id e)))))
+      go reply new none step = absurd step
+
+  -- ---- the cuts
+
+  pub cuts_in : (r session : ℕ) (answer : Answer) (w' : World K) → Moves form w (event.CutIn r session) answer w' → Refines form filters w m (event.CutIn r session) answer w'
+  cuts_in r session answer w' move = by_steps form filters w m a (event.CutIn r session) r (replica.CutIn session) answer w' move go
+    where
+      cut : State K
+      cut = logged (cutting_in (w.replicas r) session) (replica.CutIn session)
+
+      fewer : SessionsAgree w.records (m.taken_in r) cut.sessions
+      fewer = record { each = λ number k e. (a.sessions r).each number k (closed_found (w.replicas r).sessions session number k e).1; fresh = (a.sessions r).fresh }
+
+      go : (reply : Reply) (new : State K) → first_refusal (w.replicas r) (replica.CutIn session) ≡ None → Changes form (w.replicas r) (replica.CutIn session) reply new → Refines form filters w m (event.CutIn r session) (Stepped (Ok reply)) (with_given (with_replica w r new) (Ok reply))
+      go Done new none step = (
+        tt,
+        subst (λ (s : State K). Agrees form filters (with_replica w r s) m) (sym step)
+            (tables_agree r cut (tables_hold form m.issues filters r (m.holding r) (m.feed r) (m.is_retired r) (w.replicas r) cut.log cut.sessions cut.streams (a.holdings r)) fewer (a.streams r)),
+      )
+      go reply new none step = absurd step
+
+  pub cuts_out : (r stream : ℕ) (answer : Answer) (w' : World K) → Moves form w (event.CutOut r stream) answer w' → Refines form filters w m (event.CutOut r stream) answer w'
+  cuts_out r stream answer w' move = by_steps form filters w m a (event.CutOut r stream) r (replica.CutOut stream) answer w' move go
+    where
+      cut : State K
+      cut = logged (cutting_out (w.replicas r) stream) (replica.CutOut stream)
+
+      fewer : StreamsAgree m.issues filters w.records m.given r (m.ask_of r) (m.known_at_answer r) (m.held_at_draw r) cut.streams
+      fewer = record { each = λ number k e. (a.streams r).each number k (closed_found (w.replicas r).streams stream number k e).1; fresh = (a.streams r).fresh }
+
+      go : (reply : Reply) (new : State K) → first_refusal (w.replicas r) (replica.CutOut stream) ≡ None → Changes form (w.replicas r) (replica.CutOut stream) reply new → Refines form filters w m (event.CutOut r stream) (Stepped (Ok reply)) (with_given (with_replica w r new) (Ok reply))
+      go Done new none step = (
+        tt,
+        subst (λ (s : State K). Agrees form filters (with_replica w r s) m) (sym step)
+            (tables_agree r cut (tables_hold form m.issues filters r (m.holding r) (m.feed r) (m.is_retired r) (w.replicas r) cut.log cut.sessions cut.streams (a.holdings r)) (a.sessions r) fewer),
+      )
+      go reply new none step = absurd step
+
+  -- ---- Retire
+
+  retire_agrees : (r : ℕ) → Agrees form filters (with_replica w r (logged (retiring (w.replicas r)) replica.Retire)) (record m { is_retired = at m.is_retired r true })
+  retire_agrees r = record {
+    asks = a.asks;
+    given = a.given;
+    vouched = a.vouched;
+    receipts = a.receipts;
+    ports = a.ports;
+    records = a.records;
+    holdings = λ z. at_elim₂ (λ (u : ℕ) (b : Bool) (st : State K). HoldingsAgree form m.issues filters u (m.holding u) (m.feed u) b st) m.is_retired w.replicas r true retired z
+        (let h = a.holdings r in record { id = h.id; filter = h.filter; is_retired = refl; knows = h.knows; heads = h.heads; push_outs = h.push_outs; entries = h.entries; count = h.count; last = h.last; last_below = h.last_below }) (a.holdings z);
+    sessions = λ z. at_elim (λ (u : ℕ) (st : State K). SessionsAgree w.records (m.taken_in u) st.sessions) w.replicas r retired z (a.sessions r) (a.sessions z);
+    streams = λ z. at_elim (λ (u : ℕ) (st : State K). StreamsAgree m.issues filters w.records m.given u (m.ask_of u) (m.known_at_answer u) (m.held_at_draw u) st.streams) w.replicas r retired z (a.streams r) (a.streams z);
+  }
+    where
+      retired : State K
+      retired = logged (retiring (w.replicas r)) replica.Retire
+
+  -- without push-outs the model has none either
+  clean : (r : ℕ) → IsFalse (has_any (w.replicas r).push_outs) → (v : Name) → IsFalse ((m.holding r).pushed_out v)
+  clean r none v = go (w.replicas r).push_outs refl none
+    where
+      go : (rs : List Rev) → (w.replicas r).push_outs ≡ rs → IsFalse (has_any rs) → IsFalse ((m.holding r).pushed_out v)
+      go [] e h = sym ((a.holdings r).push_outs.same v) ∙ ap (λ (z : List Rev). holds z v) e
+      go (y ∷ ys) e h = absurd (cc)
+
+  pub retires : (r : ℕ) (answer : Answer) (w' : World K) → Moves form w (event.Retire r) answer w' → Refines form filters w m (event.Retire r) answer w'
+  retires r answer w' move = by_steps form filters w m a (event.Retire r) r replica.Retire answer w' move go
+    where
+      go : (reply : Reply) (new : State K) → first_refusal (w.replicas r) replica.Retire ≡ None → Changes form (w.replicas r) replica.Retire reply new → Refines form filters w m (event.Retire r) (Stepped (Ok reply)) (with_given (with_replica w r new) (Ok reply))
+      go Done new none step =
+          let left = refused_if (has_any (w.replicas r).push_outs) PushOutsLeft in (
+            record {
+              alive = (a.holdings r).is_retired ∙ alive form (w.replicas r) left none;
+              clean = clean r (not_refused (has_any (w.replicas r).push_outs) PushOutsLeft (orelse_none _ left none).1);
+            },
+            subst (λ (s : State K). Agrees form filters (with_replica w r s) (record m { is_retired = at m.is_retired r true })) (sym step) (retire_agrees r),
+          )
+      go reply new none step = absurd step
