@@ -41,6 +41,7 @@ use Rattle.mr_replica.specs.declared.event.Reply.{Reply}
 use Rattle.mr_replica.specs.declared.event.Reply.TheVariants.{Issued, Done, Asked, Streaming, Gave, Took, Known, Finished, Vouched}
 use Rattle.mr_replica.specs.declared.refusal.Refusal.{Refusal}
 use Rattle.mr_replica.specs.declared.refusal.Refusal.TheVariants.{OutOfMemory, TooManyHoles, TooManyItems}
+use Rattle.mr_replica.proofs.Replies.{GoesOn}
 
 module _ {K : Type 0} (form : Form K) where
   -- the form has one value for each knowledge: so it is of the form over meanings, and of no form that keeps values
@@ -236,13 +237,7 @@ module _ {K : Type 0} (form : Form K) where
       let late_f = late_fault s event f (λ is. nb (ap (λ (x : Refusal). Err x) is)) k.0 in
       (ap (λ (x : Refusal). Err x) (one_late_fault s event f e late_f late_e), k.1 ∙ sym h.1)
 
-  abbrev GoesOn : State K → Event → Option Refusal → Result Reply Refusal → State K → Type 0
-  GoesOn s event first answer new = elim first [
-    | Some e ↦ (answer ≡ Err e) × (new ≡ s)
-    | None ↦ Answers form s event answer new
-  ]
-
-  stepped : (s : State K) (event : Event) (first : Option Refusal) (a b : Result Reply Refusal) (new other : State K) → IsExact → GoesOn s event first a new → GoesOn s event first b other → a ≢ Err OutOfMemory → b ≢ Err OutOfMemory → (b ≡ a) × (other ≡ new)
+  stepped : (s : State K) (event : Event) (first : Option Refusal) (a b : Result Reply Refusal) (new other : State K) → IsExact → GoesOn form s event first a new → GoesOn form s event first b other → a ≢ Err OutOfMemory → b ≢ Err OutOfMemory → (b ≡ a) × (other ≡ new)
   stepped s event (Some e) a b new other exact h k na nb = (k.0 ∙ sym h.0, k.1 ∙ sym h.1)
   stepped s event None a b new other exact h k na nb = answered s event a b new other exact h k na nb
 

@@ -18,10 +18,11 @@ pub mod Kept
 pub mod Opening
 pub mod Drawing
 pub mod Advancing
+pub mod Replies
 pub mod Decided
 pub mod Seen
 pub mod Alike
-pub mod Replies
+pub mod FiveKinds
 pub mod Replaying
 mod Rows
 mod RecordRows

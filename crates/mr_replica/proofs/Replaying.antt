@@ -1,33 +1,21 @@
 -- A replica is its log replayed.
-use Rattle.std.proofs.Common.{◌≡◌, ◌≢◌, ◌+◌, ℕ, Bool, true, false, List, [], ◌∷◌, ◌++◌, length, Option, Some, None, Result, Ok, Err, IfOk, IfErr, refl, sym, ap, subst, ◌∙◌, arith, append_assoc, append-nil, length-append}
+use Rattle.std.proofs.Common.{◌≡◌, ◌+◌, ℕ, false, List, [], ◌∷◌, ◌++◌, length, Result, Ok, Err, IfOk, IfErr, refl, sym, ap, subst, ◌∙◌, arith, append_assoc, append-nil, length-append}
 use Rattle.mr_filter.specs.Filter.{ClauseParts}
 use Rattle.mr_forms.specs.ByMeaning.{IsByMeaning}
 use Rattle.mr_forms.specs.Known.{Form, AreSame}
-use Rattle.mr_feed.specs.declared.entry.Entry.{Entry}
-use Rattle.mr_madewith.specs.Revision.{Rev}
-use Rattle.mr_session.specs.Session.{Session, is_full}
-use Rattle.mr_wire.specs.Frames.{Sent}
-use Rattle.mr_wire.specs.Values.{DescentParts}
-use Rattle.mr_wire.specs.declared.frame.Body.{Body}
-use Rattle.mr_wire.specs.declared.frame.Body.TheVariants as body
-use Rattle.mr_wire.specs.declared.frame.Frame.{Frame}
-use Rattle.mr_wire.specs.declared.frame.Frame.TheVariants as frame
 use Rattle.mr_replica.specs.State.{State, new_state}
 use Rattle.mr_replica.specs.Alike.{AreAlike}
-use Rattle.mr_replica.specs.Forged.{line_of}
-use Rattle.mr_replica.specs.Receive.{TakesLine, TakesBody, TakesFrame, Ends, EndsSession, entering, session_for}
-use Rattle.mr_replica.specs.Step.{first_refusal, Changes, Answers, Steps}
+use Rattle.mr_replica.specs.Step.{Changes, Steps}
 use Rattle.mr_replica.specs.Growing.{FeedGrows, IsOfSameSetting, admitted}
 use Rattle.mr_replica.specs.Replay.{IsForMemory, Admits, AdmitsAll, StopsAt, IsStop, IsFresh, Replays, IsReplayFault, IsItsLog}
 use Rattle.mr_replica.specs.declared.event.Event.{Event}
-use Rattle.mr_replica.specs.declared.event.Event.TheVariants.{Create, Edit, Retire, Pull, Receive, CutIn, Answer, Next, CutOut, Vouch, Release}
 use Rattle.mr_replica.specs.declared.event.Reply.{Reply}
-use Rattle.mr_replica.specs.declared.event.Reply.TheVariants as reply
 use Rattle.mr_replica.specs.declared.refusal.Refusal.{Refusal}
-use Rattle.mr_replica.specs.declared.refusal.Refusal.TheVariants.{OutOfMemory}
 use Rattle.mr_replica.specs.declared.replica.replay.ReplayFault.{ReplayFault}
 use Rattle.mr_replica.specs.declared.replica.replay.ReplayFault.TheVariants.{BadLimit, Refused}
 use Rattle.mr_replica.proofs.Alike.{alike_all, alike_stop, alike_fresh}
+use Rattle.mr_replica.proofs.FiveKinds.{change_made, kind_leaves}
+use Rattle.mr_replica.proofs.Replies.{step_changes, step_refused}
 
 -- what an admitted event leaves, notes and tells
 record Logs {K : Type 0} (s : State K) (event : Event) (new : State K) : Type 0 where
@@ -40,90 +28,39 @@ record Logs {K : Type 0} (s : State K) (event : Event) (new : State K) : Type 0 
 module _ {K : Type 0} (form : Form K) where
   -- ---- an admitted event is noted, and id, filter and limit stay
 
-  logs_as : (s : State K) (event : Event) (new made : State K) → new ≡ made → made.id ≡ s.id → made.filter ≡ s.filter → made.event_limit ≡ s.event_limit → made.log ≡ s.log ++ event ∷ [] → (more : List Entry) → made.feed ≡ s.feed ++ more → Logs s event new
-  logs_as s event new made is id filter event_limit log more feed = record {
-    id = ap (λ (z : State K). z.id) is ∙ id;
-    filter = ap (λ (z : State K). z.filter) is ∙ filter;
-    event_limit = ap (λ (z : State K). z.event_limit) is ∙ event_limit;
-    log = ap (λ (z : State K). z.log) is ∙ log;
-    feed = (more, ap (λ (z : State K). z.feed) is ∙ feed);
-  }
-
-  line_logs : (s : State K) (sent : Sent) (line : DescentParts) (comer : Option Rev) (told : Reply) (new : State K) → TakesLine form s sent line comer told new → Logs s (Receive (frame.Record sent)) new
-  line_logs s sent line comer reply.Known new h = logs_as s (Receive (frame.Record sent)) new _ h.1 refl refl refl refl [] (sym (append-nil s.feed))
-  line_logs s sent line comer reply.Took new h = logs_as s (Receive (frame.Record sent)) new _ h.2 refl refl refl refl _ refl
-  line_logs s sent line comer told new h = absurd h
-
-  end_logs : (s : State K) (sent : Sent) (session : Session) (full : Bool) (new : State K) → Ends form s sent session full new → Logs s (Receive (frame.Record sent)) new
-  end_logs s sent session true new h = logs_as s (Receive (frame.Record sent)) new _ h.1 refl refl refl refl _ refl
-  end_logs s sent session false new h = logs_as s (Receive (frame.Record sent)) new _ h refl refl refl refl [] (sym (append-nil s.feed))
-
-  session_logs : (s : State K) (sent : Sent) (session : Option Session) (new : State K) → EndsSession form s sent session new → Logs s (Receive (frame.Record sent)) new
-  session_logs s sent None new h = absurd h
-  session_logs s sent (Some session) new h = end_logs s sent session (is_full session.origin) new h
-
-  body_logs : (s : State K) (sent : Sent) (b : Body) (told : Reply) (new : State K) → TakesBody form s sent b told new → Logs s (Receive (frame.Record sent)) new
-  body_logs s sent (body.Item r) told new h = line_logs s sent (line_of r) (entering s (body.Item r)) told new h
-  body_logs s sent (body.MoveOut line) told new h = line_logs s sent line None told new h
-  body_logs s sent body.End reply.Finished new h = session_logs s sent (session_for s sent) new h
-  body_logs s sent (body.Start mode) reply.Took new h = logs_as s (Receive (frame.Record sent)) new _ h refl refl refl refl [] (sym (append-nil s.feed))
-  body_logs s sent (body.Held vector) reply.Took new h = logs_as s (Receive (frame.Record sent)) new _ h refl refl refl refl [] (sym (append-nil s.feed))
-  body_logs s sent (body.Know piece) reply.Took new h = logs_as s (Receive (frame.Record sent)) new _ h refl refl refl refl [] (sym (append-nil s.feed))
-  body_logs s sent b told new h = absurd h
-
-  frame_logs : (s : State K) (f : Frame) (told : Reply) (new : State K) → TakesFrame form s f told new → Logs s (Receive f) new
-  frame_logs s (frame.Record sent) told new h = body_logs s sent sent.body told new h
-  frame_logs s f told new h = absurd h
-
   change_logs : (s : State K) (event : Event) (told : Reply) (new : State K) → Changes form s event told new → Logs s event new
-  change_logs s (Create message) (reply.Issued v) new h = logs_as s (Create message) new _ h.4 refl refl refl refl _ refl
-  change_logs s (Edit bases message) (reply.Issued v) new h = logs_as s (Edit bases message) new _ h.4 refl refl refl refl _ refl
-  change_logs s Retire reply.Done new h = logs_as s Retire new _ h refl refl refl refl [] (sym (append-nil s.feed))
-  change_logs s Pull (reply.Asked question) new h = logs_as s Pull new _ h.1 refl refl refl refl [] (sym (append-nil s.feed))
-  change_logs s (Receive f) told new h = frame_logs s f told new h
-  change_logs s (CutIn session) reply.Done new h = logs_as s (CutIn session) new _ h refl refl refl refl [] (sym (append-nil s.feed))
-  change_logs s (Answer question) (reply.Streaming stream) new h = logs_as s (Answer question) new _ h.3 refl refl refl refl [] (sym (append-nil s.feed))
-  change_logs s (Next stream) (reply.Gave sent) new h = logs_as s (Next stream) new _ h.2 refl refl refl refl [] (sym (append-nil s.feed))
-  change_logs s (CutOut stream) reply.Done new h = logs_as s (CutOut stream) new _ h refl refl refl refl [] (sym (append-nil s.feed))
-  change_logs s (Vouch version) (reply.Vouched receipt) new h = logs_as s (Vouch version) new _ h.1 refl refl refl refl [] (sym (append-nil s.feed))
-  change_logs s (Release receipt) reply.Done new h = logs_as s (Release receipt) new _ h refl refl refl refl [] (sym (append-nil s.feed))
-  change_logs s event told new h = absurd h
-
-  abbrev GoesOn : State K → Event → Option Refusal → Result Reply Refusal → State K → Type 0
-  GoesOn s event first answer new = elim first [
-    | Some e ↦ (answer ≡ Err e) × (new ≡ s)
-    | None ↦ Answers form s event answer new
-  ]
-
-  admitted_logs : (s : State K) (event : Event) (first : Option Refusal) (told : Reply) (new : State K) → GoesOn s event first (Ok told) new → Logs s event new
-  admitted_logs s event None told new h = change_logs s event told new h.1
-  admitted_logs s event (Some e) told new h = cc (h.0)
+  change_logs s event told new h =
+      let made = change_made form s event told new h in
+      let leaves = kind_leaves form s event made.to made.kind in
+      record {
+        id = ap (λ (z : State K). z.id) made.is ∙ leaves.id;
+        filter = ap (λ (z : State K). z.filter) made.is ∙ leaves.filter;
+        event_limit = ap (λ (z : State K). z.event_limit) made.is ∙ leaves.event_limit;
+        log = ap (λ (z : State K). z.log) made.is ∙ ap (λ (log : List Event). log ++ event ∷ []) leaves.log;
+        feed = (leaves.feed.0, ap (λ (z : State K). z.feed) made.is ∙ leaves.feed.1);
+      }
 
   admits_log : (s : State K) (event : Event) (new : State K) → Admits form s event new → Logs s event new
-  admits_log s event new h = admitted_logs s event (first_refusal s event) h.0 new h.1
-
-  refused_as : (s : State K) (event : Event) (first : Option Refusal) (e : Refusal) (new : State K) → GoesOn s event first (Err e) new → new ≡ s
-  refused_as s event None e new h = h.1
-  refused_as s event (Some f) e new h = h.1
+  admits_log s event new h = change_logs s event h.0 new (step_changes form s event h.0 new h.1)
 
   -- a refused event changes nothing
   pub refused_same : (s : State K) (event : Event) (e : Refusal) (new : State K) → Steps form s event (Err e) new → new ≡ s
-  refused_same s event e new h = refused_as s event (first_refusal s event) e new h
+  refused_same s event e new h = step_refused form s event e new h
 
   -- ---- what a step adds
 
   pub step_feed : (s new : State K) (event : Event) (answer : Result Reply Refusal) → Steps form s event answer new → FeedGrows s new
   step_feed s new event (Ok told) h = (admits_log s event new (told, h)).feed
-  step_feed s new event (Err e) h = ([], ap (λ (z : State K). z.feed) (refused_same s event e new h) ∙ sym (append-nil s.feed))
+  step_feed s new event (Err e) h = ([], ap (λ (z : State K). z.feed) (step_refused form s event e new h) ∙ sym (append-nil s.feed))
 
   pub step_log : (s new : State K) (event : Event) (answer : Result Reply Refusal) → Steps form s event answer new → new.log ≡ s.log ++ admitted event answer
   step_log s new event (Ok told) h = (admits_log s event new (told, h)).log
-  step_log s new event (Err e) h = ap (λ (z : State K). z.log) (refused_same s event e new h) ∙ sym (append-nil s.log)
+  step_log s new event (Err e) h = ap (λ (z : State K). z.log) (step_refused form s event e new h) ∙ sym (append-nil s.log)
 
   pub step_setting : (s new : State K) (event : Event) (answer : Result Reply Refusal) → Steps form s event answer new → IsOfSameSetting s new
   step_setting s new event (Ok told) h = let logs = admits_log s event new (told, h) in record { id = logs.id; filter = logs.filter; event_limit = logs.event_limit }
   step_setting s new event (Err e) h =
-      let same = refused_same s event e new h in
+      let same = step_refused form s event e new h in
       record { id = ap (λ (z : State K). z.id) same; filter = ap (λ (z : State K). z.filter) same; event_limit = ap (λ (z : State K). z.event_limit) same }
 
   -- ---- lists of events
@@ -148,7 +85,7 @@ module _ {K : Type 0} (form : Form K) where
 
   -- what is its log replayed stays so
   step_keeps : (s : State K) (event : Event) (answer : Result Reply Refusal) (new : State K) → Steps form s event answer new → IsItsLog form s → IsItsLog form new
-  step_keeps s event (Err e) new h is = subst (λ (z : State K). IsItsLog form z) (sym (refused_same s event e new h)) is
+  step_keeps s event (Err e) new h is = subst (λ (z : State K). IsItsLog form z) (sym (step_refused form s event e new h)) is
   step_keeps s event (Ok told) new h is =
       let logs = admits_log s event new (told, h) in
       replays_as s.id new.id s.filter new.filter s.event_limit new.event_limit (s.log ++ event ∷ []) new.log new logs.id logs.filter logs.event_limit logs.log
@@ -195,7 +132,7 @@ module _ {K : Type 0} (form : Form K) where
     is_place = sym so.count;
     reached = now;
     admits = so.admits;
-    refuses = subst (λ (z : State K). Steps form now event (Err e) z) (refused_same now event e new h) h;
+    refuses = subst (λ (z : State K). Steps form now event (Err e) z) (step_refused form now event e new h) h;
   }
 
   -- ---- the whole replay

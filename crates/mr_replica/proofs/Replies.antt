@@ -1,5 +1,5 @@
--- which reply an event has
-use Rattle.std.proofs.Common.{◌≡◌, Option, Some, None, Result, Ok, Err}
+-- What a step says of its answer: a reply stands for a change, with nothing that refuses the event, and a refusal changes nothing.
+use Rattle.std.proofs.Common.{◌≡◌, Option, Some, None, Result, Ok, Err, refl}
 use Rattle.mr_forms.specs.Known.{Form}
 use Rattle.mr_replica.specs.State.{State}
 use Rattle.mr_replica.specs.Step.{first_refusal, Changes, Answers, Steps}
@@ -8,16 +8,26 @@ use Rattle.mr_replica.specs.declared.event.Reply.{Reply}
 use Rattle.mr_replica.specs.declared.refusal.Refusal.{Refusal}
 
 module _ {K : Type 0} (form : Form K) where
-  abbrev GoesOn : State K → Event → Option Refusal → Result Reply Refusal → State K → Type 0
+  -- a step, by what refuses the event first
+  abbrev pub GoesOn : State K → Event → Option Refusal → Result Reply Refusal → State K → Type 0
   GoesOn s event first answer new = elim first [
     | Some e ↦ (answer ≡ Err e) × (new ≡ s)
     | None ↦ Answers form s event answer new
   ]
 
-  changes : (s : State K) (event : Event) (r : Reply) (new : State K) (first : Option Refusal) → GoesOn s event first (Ok r) new → Changes form s event r new
-  changes s event r new (Some e) h = cc h.0
-  changes s event r new None h = h.1
+  pub step_replied : (s : State K) (event : Event) (told : Reply) (new : State K) → Steps form s event (Ok told) new → (first_refusal s event ≡ None) × Changes form s event told new
+  step_replied s event told new h = go (first_refusal s event) refl h
+    where
+      go : (first : Option Refusal) → first_refusal s event ≡ first → GoesOn s event first (Ok told) new → (first_refusal s event ≡ None) × Changes form s event told new
+      go None is h = (is, h.1)
+      go (Some e) is h = cc h.0
 
-  -- what is answered is a change
-  pub step_changes : (s : State K) (event : Event) (r : Reply) (new : State K) → Steps form s event (Ok r) new → Changes form s event r new
-  step_changes s event r new h = changes s event r new (first_refusal s event) h
+  pub step_changes : (s : State K) (event : Event) (told : Reply) (new : State K) → Steps form s event (Ok told) new → Changes form s event told new
+  step_changes s event told new h = (step_replied s event told new h).1
+
+  pub step_refused : (s : State K) (event : Event) (e : Refusal) (new : State K) → Steps form s event (Err e) new → new ≡ s
+  step_refused s event e new h = go (first_refusal s event) h
+    where
+      go : (first : Option Refusal) → GoesOn s event first (Err e) new → new ≡ s
+      go None h = h.1
+      go (Some f) h = h.1

@@ -1,13 +1,11 @@
 -- A step of a replica is a step of what is seen of it. There the values of the form are their meanings, so one knowledge is
 -- one value; what the form says of a value beyond its meaning, one step asks of one value alone, and that is fixed.
-use Rattle.std.proofs.Common.{◌≡◌, ◌≢◌, refl, sym, ap, subst, ◌∙◌, Bool, true, false, ℕ, List, [], ◌∷◌, Option, Some, None, Result, Ok, Err, inl, inr, ◌⊎◌}
+use Rattle.std.proofs.Common.{◌≡◌, ◌≢◌, refl, sym, ap, subst, Bool, true, false, List, [], ◌∷◌, Option, Some, None, Result, Ok, Err, inl, inr}
 use Rattle.std.specs.List.{All}
 use Rattle.std.proofs.lemmas.List.Elements.{All-weaker}
-use Rattle.mr_version.specs.Name.{Name}
 use Rattle.mr_forms.specs.ByMeaning.{IsByMeaning}
 use Rattle.mr_forms.specs.Known.{Form, Pairs, Part, AreSame}
 use Rattle.mr_forms.specs.Parts.{ArePartsThat}
-use Rattle.mr_concise.specs.declared.vector.AuthorColumn.{AuthorColumn}
 use Rattle.mr_madewith.specs.Revision.{Rev}
 use Rattle.mr_session.specs.Session.{Session, is_full}
 use Rattle.mr_wire.specs.Values.{DescentParts, Piece}
@@ -26,7 +24,7 @@ use Rattle.mr_replica.specs.Forged.{line_of}
 use Rattle.mr_replica.specs.Pull.{IsAskOf}
 use Rattle.mr_replica.specs.Answer.{Keeps, KeepsHoley, mode_for}
 use Rattle.mr_replica.specs.Issue.{Wanted, Wanted.Vector, Wanted.Knowledge, Fits, HasFault, FirstFault}
-use Rattle.mr_replica.specs.Receive.{TakesLine, Ends, EndsSession, TakesBody, TakesFrame, entering, session_for, wanted_by_line, wanted_by_end, wanted_by_body, wanted_by_frame, merges, merged_by}
+use Rattle.mr_replica.specs.Receive.{TakesLine, Ends, EndsSession, TakesBody, TakesFrame, entering, session_for, wanted_by_line, wanted_by_end, wanted_by_body, wanted_by_frame}
 use Rattle.mr_replica.specs.Step.{first_refusal, wanted_by, Changes, RefusesLate, Answers, Steps}
 use Rattle.mr_replica.specs.declared.event.Event.{Event}
 use Rattle.mr_replica.specs.declared.event.Event.TheVariants.{Create, Edit, Retire, Pull, Receive, CutIn, Answer, Next, CutOut, Vouch, Release}
@@ -34,6 +32,7 @@ use Rattle.mr_replica.specs.declared.event.Reply.{Reply}
 use Rattle.mr_replica.specs.declared.event.Reply.TheVariants as reply
 use Rattle.mr_replica.specs.declared.refusal.Refusal.{Refusal}
 use Rattle.mr_replica.specs.declared.refusal.Refusal.TheVariants.{OutOfMemory, TooManyHoles, TooManyItems}
+use Rattle.mr_replica.proofs.Replies.{GoesOn}
 
 -- ---- predicates of parts
 
@@ -115,9 +114,8 @@ module _ {K : Type 0} (form : Form K) (told : IsByMeaning form) where
   body_seen s sent (body.Item r) told new h = line_seen s sent (line_of r) (entering s (body.Item r)) told new h
   body_seen s sent (body.MoveOut line) told new h = line_seen s sent line None told new h
   body_seen s sent body.End reply.Finished new h = session_seen s sent (session_for s sent) new h
-  body_seen s sent (body.Start mode) reply.Took new h = ap (seen form) h
-  body_seen s sent (body.Held vector) reply.Took new h = ap (seen form) h
-  body_seen s sent (body.Know piece) reply.Took new h = ap (seen form) h
+  body_seen s sent body.End told new h = absurd h
+  body_seen s sent b reply.Took new h = ap (seen form) h
   body_seen s sent b told new h = absurd h
 
   frame_seen : (s : State K) (f : Frame) (told : Reply) (new : State K) → TakesFrame form s f told new → TakesFrame (by_meaning form s.knowledge) (seen form s) f told (seen form new)
@@ -170,30 +168,16 @@ module _ {K : Type 0} (form : Form K) (told : IsByMeaning form) where
   wanted_end s (Some session) = refl
 
   wanted_body : (s : State K) (sent : Sent) (b : Body) → wanted_by_body (by_meaning form s.knowledge) (seen form s) sent b ≡ wanted_by_body form s sent b
-  wanted_body s sent (body.Item r) = refl
-  wanted_body s sent (body.MoveOut line) = refl
   wanted_body s sent body.End = wanted_end s (session_for s sent)
-  wanted_body s sent (body.Start mode) = refl
-  wanted_body s sent (body.Held vector) = refl
-  wanted_body s sent (body.Know piece) = refl
+  wanted_body s sent b = refl
 
   wanted_frame : (s : State K) (f : Frame) → wanted_by_frame (by_meaning form s.knowledge) (seen form s) f ≡ wanted_by_frame form s f
   wanted_frame s (frame.Record sent) = wanted_body s sent sent.body
-  wanted_frame s (frame.Ask question) = refl
-  wanted_frame s (frame.Receipt receipt) = refl
+  wanted_frame s f = refl
 
   wanted_seen : (s : State K) (event : Event) → wanted_by (by_meaning form s.knowledge) (seen form s) event ≡ wanted_by form s event
-  wanted_seen s (Create message) = refl
-  wanted_seen s (Edit bases message) = refl
   wanted_seen s (Receive f) = wanted_frame s f
-  wanted_seen s Retire = refl
-  wanted_seen s Pull = refl
-  wanted_seen s (CutIn session) = refl
-  wanted_seen s (Answer question) = refl
-  wanted_seen s (Next stream) = refl
-  wanted_seen s (CutOut stream) = refl
-  wanted_seen s (Vouch version) = refl
-  wanted_seen s (Release receipt) = refl
+  wanted_seen s event = refl
 
   fits_of : (s : State K) (event : Event) → All (Fits form) (wanted_by form s event) → All (Fits (by_meaning form s.knowledge)) (wanted_by (by_meaning form s.knowledge) (seen form s) event)
   fits_of s event h = subst (All (Fits (by_meaning form s.knowledge))) (sym (wanted_seen s event)) (all_fit s.knowledge (wanted_by form s event) h)
@@ -217,29 +201,13 @@ module _ {K : Type 0} (form : Form K) (told : IsByMeaning form) where
   answers_seen s event (Err e) new ne h = (late_seen s event e (λ is. ne (ap (λ (x : Refusal). Err x) is)) h.0, ap (seen form) h.1)
 
   refusal_seen : (s : State K) (event : Event) → first_refusal (seen form s) event ≡ first_refusal s event
-  refusal_seen s (Create message) = refl
   refusal_seen s (Edit [] message) = refl
   refusal_seen s (Edit (b ∷ bs) message) = refl
   refusal_seen s (Receive (frame.Record sent)) = by_body sent.body
     where
       by_body : (b : Body) → first_refusal (seen form s) (Receive (frame.Record (record sent { body = b }))) ≡ first_refusal s (Receive (frame.Record (record sent { body = b })))
       by_body b = refl
-  refusal_seen s (Receive (frame.Ask question)) = refl
-  refusal_seen s (Receive (frame.Receipt receipt)) = refl
-  refusal_seen s Retire = refl
-  refusal_seen s Pull = refl
-  refusal_seen s (CutIn session) = refl
-  refusal_seen s (Answer question) = refl
-  refusal_seen s (Next stream) = refl
-  refusal_seen s (CutOut stream) = refl
-  refusal_seen s (Vouch version) = refl
-  refusal_seen s (Release receipt) = refl
-
-  abbrev GoesOn : {L : Type 0} → Form L → State L → Event → Option Refusal → Result Reply Refusal → State L → Type 0
-  GoesOn f s event first answer new = elim first [
-    | Some e ↦ (answer ≡ Err e) × (new ≡ s)
-    | None ↦ Answers f s event answer new
-  ]
+  refusal_seen s event = refl
 
   goes_seen : (s : State K) (event : Event) (first : Option Refusal) (answer : Result Reply Refusal) (new : State K) → answer ≢ Err OutOfMemory → GoesOn form s event first answer new → GoesOn (by_meaning form s.knowledge) (seen form s) event first answer (seen form new)
   goes_seen s event (Some e) answer new ne h = (h.0, ap (seen form) h.1)
