@@ -1,7 +1,6 @@
 -- What the code finds and does is what the definitions say: pools, ports, members, tasks, one event, a list of them.
 pub mod Pools
 pub mod Ports
-pub mod KeepsId
 pub mod MemberPlaces
 pub mod Tasks
 pub mod Stepped

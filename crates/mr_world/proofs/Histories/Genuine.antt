@@ -1,5 +1,5 @@
 -- No run of a world answers Forged.
-use Rattle.std.proofs.Common.{◌≡◌, ◌≢◌, refl, sym, ap, subst, ◌∙◌, ℕ, List, [], ◌∷◌, ◌++◌, inl, inr, IsTrue, ◌⊎◌}
+use Rattle.std.proofs.Common.{◌≡◌, ◌≢◌, refl, sym, ap, subst, ◌∙◌, ℕ, List, [], ◌∷◌, ◌++◌, inl, inr, IsTrue, ◌⊎◌, Some}
 use Rattle.std.specs.Prelude.{Result, Ok, Err}
 use Rattle.std.proofs.lemmas.Bool.{both_ways}
 use Rattle.mr_version.specs.Name.{Name}
@@ -8,7 +8,7 @@ use Rattle.mr_forms.specs.Listing.{ListsMore}
 use Rattle.mr_filter.specs.Filter.{ClauseParts}
 use Rattle.mr_mail.specs.Mail.{Mail, MailCard}
 use Rattle.mr_madewith.specs.Revision.{Rev}
-use Rattle.mr_model.specs.Changes.{Change, Change.Asks, Change.Closes, Change.Gives, Change.Issues, Change.Misfits, Change.Offers, Change.Opens, Change.Releases, Change.Retires, Change.Stays, Change.Takes, Change.TakesEntry, Change.Vouches, change, happens, is_closed, now, with_mark}
+use Rattle.mr_model.specs.Changes.{Change, Change.Closes, Change.Issues, change, happens, is_closed, now, with_mark}
 use Rattle.mr_model.specs.Moment.{Mark.CloseMark, start}
 use Rattle.mr_model.specs.Rules.{In}
 use Rattle.mr_model.specs.Versions.{is, is_issued}
@@ -19,19 +19,21 @@ use Rattle.mr_model.specs.History.{History}
 use Rattle.mr_model.specs.Rules.{IsRun}
 use Rattle.mr_model.proofs.Runs.{change_keeps, start_holds}
 use Rattle.mr_model.proofs.Theorem.{after-append, run_inv}
-use Rattle.mr_model.proofs.Sets.{at_elim, at_same, choice, numbered_in}
+use Rattle.mr_model.proofs.Sets.{at_elim, at_same, choice}
+use Rattle.mr_replica.specs.Forged.{line_of}
 use Rattle.mr_replica.specs.State.{State}
+use Rattle.mr_replica.specs.Taking.{told_line}
 use Rattle.mr_replica.specs.declared.event.Event.{Event as ReplicaEvent}
-use Rattle.mr_replica.specs.declared.event.Event.TheVariants as replica
 use Rattle.mr_replica.specs.declared.event.Reply.{Reply}
 use Rattle.mr_replica.specs.declared.event.Reply.TheVariants.{Asked, Gave, Vouched}
 use Rattle.mr_replica.specs.declared.refusal.Refusal.{Refusal}
 use Rattle.mr_replica.specs.declared.refusal.Refusal.TheVariants as refusal
 use Rattle.mr_wire.specs.Frames.{Sent}
+use Rattle.mr_wire.specs.Values.{DescentParts}
+use Rattle.mr_wire.specs.declared.frame.Body.{Body}
 use Rattle.mr_wire.specs.declared.frame.Body.TheVariants.{Item, MoveOut}
-use Rattle.mr_wire.specs.declared.frame.Frame.TheVariants as frame
 use Rattle.mr_world.specs.Agrees.{Agrees, HoldingsAgree}
-use Rattle.mr_world.specs.Issued.{IsTrueRevision}
+use Rattle.mr_world.specs.Issued.{IsTrueLine, IsTrueRevision}
 use Rattle.mr_world.specs.ListedItems.{IsGenuine, IsListedReplica, IsListedWorld, ListsIssued}
 use Rattle.mr_world.specs.Moves.{Moves, StepsAt}
 use Rattle.mr_world.specs.Normal.{IsNormalReplica}
@@ -43,37 +45,25 @@ use Rattle.mr_world.specs.declared.answer.Answer.{Answer}
 use Rattle.mr_world.specs.declared.answer.Answer.TheVariants as answer
 use Rattle.mr_world.specs.declared.answered.Answered.{Answered}
 use Rattle.mr_world.specs.declared.event.Event.{Event}
-use Rattle.mr_world.specs.declared.event.Event.TheVariants as event
 use Rattle.mr_world.proofs.Keeping.ListedItems.{IsIssuedEvent, IsIssuedReply, lists_more, replica_more, step_listed}
 use Rattle.mr_world.proofs.Keeping.NeverForged.{never_forged}
 use Rattle.mr_world.proofs.Keeping.NormalForm.{moves_normal}
+use Rattle.mr_world.proofs.Moving.ByReplica.{Mover, Mover.A_port, Mover.A_replica, Mover.None_at_all, mover}
 use Rattle.mr_world.proofs.Moving.Refinement.{refines}
-use Rattle.mr_world.proofs.Moving.Refines.{steps_refused, steps_replied}
+use Rattle.mr_replica.proofs.Replies.{step_refused, step_replied}
 use Rattle.mr_world.proofs.Histories.WholeRuns.{fresh_agrees}
 
 -- what was issued stays so
 issued_stays : (s : MailSetting) (m : MailMoment) (c : Change Mail MailCard) (v : Name) → IsTrue (is_issued m.issues v) → IsTrue (is_issued (happens s m c).issues v)
 issued_stays s m (Issues r x) v h = or_right (is x.version v) (is_issued m.issues v) h
-issued_stays s m (Asks r ask) v h = h
-issued_stays s m (Opens k t ask) v h = h
-issued_stays s m (Gives k t x) v h = h
-issued_stays s m (Takes r x reception) v h = h
-issued_stays s m (Retires r) v h = h
-issued_stays s m (Offers r u e) v h = h
 issued_stays s m (Closes r u) v h = choice (λ (z : MailMoment). IsTrue (is_issued z.issues v)) (is_closed (m.offered r u)) m (with_mark m r u CloseMark) (λ t. h) (λ n. h)
-issued_stays s m (TakesEntry r u e) v h = h
-issued_stays s m (Vouches r w x) v h = h
-issued_stays s m (Releases r x) v h = h
-issued_stays s m Stays v h = h
-issued_stays s m Misfits v h = h
+issued_stays s m c v h = h
 
 module _ {K : Type 0} where
-  given_replicas : (w : World K) (o : Result Reply Refusal) → (with_given w o).replicas ≡ w.replicas
+  -- what is given comes into the pools alone
+  pub given_replicas : (w : World K) (o : Result Reply Refusal) → (with_given w o).replicas ≡ w.replicas
   given_replicas w (Ok (Asked question)) = refl
-  given_replicas w (Ok (Gave sent)) = refl
-  given_replicas w (Ok (Vouched receipt)) = refl
-  given_replicas w (Ok reply) = refl
-  given_replicas w (Err x) = refl
+  given_replicas w o = refl
 
 module _ {K : Type 0} (form : Form K) (filters : ℕ → List ClauseParts) where
   pub fresh_genuine : (w : World K) → IsFreshWorld form filters w → IsGenuine form [] w
@@ -108,52 +98,40 @@ module _ {K : Type 0} (form : Form K) (filters : ℕ → List ClauseParts) (form
     replaced_listed r new h = record { replicas = λ q. at_elim (λ (z : ℕ) (st : State K). IsListedReplica form m'.issues st) w.replicas r new q h (listed_later.replicas q); records = listed_later.records }
 
     given_listed : (r : ℕ) (new : State K) (reply : Reply) → IsListedReplica form m'.issues new → IsIssuedReply m'.issues reply → IsListedWorld form m'.issues (with_given (with_replica w r new) (Ok reply))
-    given_listed r new (Gave sent) h body = let old = replaced_listed r new h in record { replicas = old.replicas; records = λ z i. elim i [ inl e ↦ subst (λ (y : Sent). ListsIssued m'.issues y.body) e body | inr j ↦ listed_later.records z j ] }
+    given_listed r new (Gave sent) h body = let old = replaced_listed r new h in record { replicas = old.replicas; records = λ z i. elim i [ inl e ↦ subst (λ (y : Sent). ListsIssued m'.issues y.body) e (body sent refl) | inr j ↦ listed_later.records z j ] }
     given_listed r new (Asked question) h body = let old = replaced_listed r new h in record { replicas = old.replicas; records = old.records }
     given_listed r new (Vouched receipt) h body = let old = replaced_listed r new h in record { replicas = old.replicas; records = old.records }
     given_listed r new reply h body = replaced_listed r new h
 
     steps_listed : (r : ℕ) (there : ReplicaEvent) (reply : Answer) → IsIssuedEvent m'.issues there → StepsAt form w r there reply w' → IsListedWorld form m'.issues w'
     steps_listed r there (answer.Stepped (Ok reply)) in_form move =
-        let h = steps_replied form (w.replicas r) there reply move.1 move.2 in
+        let h = step_replied form (w.replicas r) there reply move.1 move.2 in
         let same : w'.replicas r ≡ move.1 = ap (λ (z : World K). z.replicas r) move.3 ∙ (ap (λ (f : ℕ → State K). f r) (given_replicas (with_replica w r move.1) (Ok reply)) ∙ at_same w.replicas r move.1) in
         let made = step_listed form form_lists m'.issues (w.replicas r) (listed_later.replicas r) there reply move.1 in_form (held_issued r move.1 same) h.1 in
         subst (IsListedWorld form m'.issues) (sym move.3) (given_listed r move.1 reply made.0 made.1)
     steps_listed r there (answer.Stepped (Err x)) in_form move =
-        subst (IsListedWorld form m'.issues) (sym move.3) (replaced_listed r move.1 (subst (IsListedReplica form m'.issues) (sym (steps_refused form (w.replicas r) there x move.1 move.2)) (listed_later.replicas r)))
+        subst (IsListedWorld form m'.issues) (sym move.3) (replaced_listed r move.1 (subst (IsListedReplica form m'.issues) (sym (step_refused form (w.replicas r) there x move.1 move.2)) (listed_later.replicas r)))
     steps_listed r there reply in_form move = absurd move
 
     -- a record of the pool tells of issued items
-    pool_issued : (sent : Sent) → In sent w.records → IsIssuedEvent m'.issues (replica.Receive (frame.Record sent))
-    pool_issued sent i = (
-      listed_later.records sent i,
-      (λ x e. let t : IsTrueBody m.issues (Item x) = subst (IsTrueBody m.issues) e (a.records.each sent i) in
-          more x.item (subst (λ (z : Name). IsTrue (is_issued m.issues z)) t.below.of_item (item_is_issued m.issues inv.core.sets.list x.version t.below.is_one).0)),
-      (λ line e. let t : IsTrueBody m.issues (MoveOut line) = subst (IsTrueBody m.issues) e (a.records.each sent i) in
-          more line.item (subst (λ (z : Name). IsTrue (is_issued m.issues z)) t.of_item (item_is_issued m.issues inv.core.sets.list line.version t.is_one).0)),
-    )
+    line_issued : (line : DescentParts) → IsTrueLine m.issues line → IsTrue (is_issued m'.issues line.item)
+    line_issued line t = more line.item (subst (λ (z : Name). IsTrue (is_issued m.issues z)) t.of_item (item_is_issued m.issues inv.core.sets.list line.version t.is_one).0)
 
-    part_listed : (r n bytes : ℕ) (reply : Answer) → Moves form w (event.DeliverPart r n bytes) reply w' → IsListedWorld form m'.issues w'
-    part_listed r n bytes answer.Truncated move = subst (IsListedWorld form m'.issues) (sym move.3) listed_later
-    part_listed r n bytes (answer.Stepped outcome) move = steps_listed r (replica.Receive (frame.Record move.0)) (answer.Stepped outcome) (pool_issued move.0 (numbered_in w.records n move.0 move.1)) move.3
-    part_listed r n bytes reply move = absurd move.3
+    body_issued : (b : Body) → IsTrueBody m.issues b → (line : DescentParts) → told_line b ≡ Some line → IsTrue (is_issued m'.issues line.item)
+    body_issued (Item x) t line e = line_issued line (subst (IsTrueLine m.issues) (let same : line_of x ≡ line = cc in same) t.below)
+    body_issued (MoveOut other) t line e = line_issued line (subst (IsTrueLine m.issues) (let same : other ≡ line = cc in same) t)
+    body_issued b t line e = absurd (cc)
+
+    pool_issued : (sent : Sent) → In sent w.records → ListsIssued m'.issues sent.body × ((line : DescentParts) → told_line sent.body ≡ Some line → IsTrue (is_issued m'.issues line.item))
+    pool_issued sent i = (listed_later.records sent i, body_issued sent.body (a.records.each sent i))
+
+    by_mover : (reply : Answer) → Mover form w reply w' → IsListedWorld form m'.issues w'
+    by_mover reply (A_replica r there pool step) = steps_listed r there reply (λ sent e. pool_issued sent (pool sent e)) step
+    by_mover reply (A_port r u port is none) = subst (IsListedWorld form m'.issues) (sym is) (record { replicas = listed_later.replicas; records = listed_later.records })
+    by_mover reply (None_at_all is none) = subst (IsListedWorld form m'.issues) (sym is) listed_later
 
     moves_listed : (e : Event) (reply : Answer) → Moves form w e reply w' → IsListedWorld form m'.issues w'
-    moves_listed (event.Create r message) reply move = steps_listed r (replica.Create message) reply tt move
-    moves_listed (event.Edit r bases message) reply move = steps_listed r (replica.Edit bases message) reply tt move
-    moves_listed (event.Retire r) reply move = steps_listed r replica.Retire reply tt move
-    moves_listed (event.Pull r) reply move = steps_listed r replica.Pull reply tt move
-    moves_listed (event.Receive r n) reply move = steps_listed r (replica.Receive (frame.Record move.0)) reply (pool_issued move.0 (numbered_in w.records n move.0 move.1)) move.2
-    moves_listed (event.DeliverPart r n bytes) reply move = part_listed r n bytes reply move
-    moves_listed (event.CutIn r session) reply move = steps_listed r (replica.CutIn session) reply tt move
-    moves_listed (event.Answer r n) reply move = steps_listed r (replica.Answer move.0) reply tt move.2
-    moves_listed (event.Next r number) reply move = steps_listed r (replica.Next number) reply tt move
-    moves_listed (event.CutOut r number) reply move = steps_listed r (replica.CutOut number) reply tt move
-    moves_listed (event.Offer r u) reply move = subst (IsListedWorld form m'.issues) (sym move.2) (record { replicas = listed_later.replicas; records = listed_later.records })
-    moves_listed (event.Take r u) reply move = subst (IsListedWorld form m'.issues) (sym move.2) (record { replicas = listed_later.replicas; records = listed_later.records })
-    moves_listed (event.Close r u) reply move = subst (IsListedWorld form m'.issues) (sym move.2) (record { replicas = listed_later.replicas; records = listed_later.records })
-    moves_listed (event.Vouch r version) reply move = steps_listed r (replica.Vouch version) reply tt move
-    moves_listed (event.Release r n) reply move = steps_listed r (replica.Release move.0) reply tt move.2
+    moves_listed e reply move = by_mover reply (mover form w e reply w' move)
 
   -- ---- one event
 

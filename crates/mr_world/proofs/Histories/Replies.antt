@@ -37,7 +37,7 @@ use Rattle.mr_world.specs.World.{World}
 use Rattle.mr_world.specs.declared.answer.Answer.TheVariants.{Stepped}
 use Rattle.mr_world.specs.declared.event.Event.TheVariants as event
 use Rattle.mr_world.proofs.Moving.Opening.{asks_known as asks_no_more}
-use Rattle.mr_world.proofs.Moving.Refines.{steps_replied}
+use Rattle.mr_replica.proofs.Replies.{step_replied}
 use Rattle.mr_world.proofs.Groundwork.Tools.{some_path}
 
 -- ---- requests
@@ -63,7 +63,7 @@ module _ {K : Type 0} (form : Form K) (s : State K) (q : Question) (ask : IsAskO
 module _ {K : Type 0} (form : Form K) (filters : ℕ → List ClauseParts) (w w' : World K) (m : MailMoment) (a : Agrees form filters w m) (r : ℕ) where
   pub asks_known : (q : Question) → Moves form w (event.Pull r) (Stepped (Ok (Asked q))) w' → ((v : Name) → IsTrue (is_issued m.issues v) → claimed q.fragments (item_of m.issues v) v ≡ known m r v) ⊎ IsTooLong form (w.replicas r).knowledge
   asks_known q move =
-      let step = steps_replied form (w.replicas r) replica.Pull (Asked q) move.1 move.2 in
+      let step = step_replied form (w.replicas r) replica.Pull (Asked q) move.1 move.2 in
       elim (asks_all form (w.replicas r) q step.1.0) [
         | inl same ↦ inl (λ v issued. same (item_of m.issues v) v ∙ (a.holdings r).knows.same v issued)
         | inr long ↦ inr long
@@ -71,7 +71,7 @@ module _ {K : Type 0} (form : Form K) (filters : ℕ → List ClauseParts) (w w'
 
   pub claims_known : (q : Question) → Moves form w (event.Pull r) (Stepped (Ok (Asked q))) w' → ClaimsKnown form m r q
   claims_known q move =
-      let step = steps_replied form (w.replicas r) replica.Pull (Asked q) move.1 move.2 in
+      let step = step_replied form (w.replicas r) replica.Pull (Asked q) move.1 move.2 in
       let knows = (a.holdings r).knows in
       record {
         no_more = λ v issued h. sym (knows.same v issued) ∙ asks_no_more form (w.replicas r) q step.1.0 (item_of m.issues v) v h;
@@ -109,7 +109,7 @@ module _ {K : Type 0} (form : Form K) (filters : ℕ → List ClauseParts) (w w'
   record_answer : (n : ℕ) (reply : Reply) → Moves form w (event.Receive r n) (Stepped (Ok reply)) w' → (sent : Sent) → numbered w.records n ≡ Some sent → (v : Name) → version_in (seen_body sent.body) ≡ Some v → IsAnswer reply v
   record_answer n reply move sent pool v e =
       let one : move.0 ≡ sent = some_path move.0 sent (sym move.1 ∙ pool) in
-      let step = steps_replied form (w.replicas r) (replica.Receive (frame.Record move.0)) reply move.2.1 move.2.2 in
+      let step = step_replied form (w.replicas r) (replica.Receive (frame.Record move.0)) reply move.2.1 move.2.2 in
       body_answer move.0 move.0.body reply move.2.1 v (a.records.each move.0 (numbered_in w.records n move.0 move.1)) (ap (λ (z : Sent). version_in (seen_body z.body)) one ∙ e) step.1
 
   -- Known is answered of a version that is known, and Took of one that is not

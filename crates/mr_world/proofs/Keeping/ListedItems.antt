@@ -12,27 +12,27 @@ use Rattle.mr_model.specs.Rules.{In}
 use Rattle.mr_model.specs.Versions.{Issue, is_issued}
 use Rattle.mr_model.proofs.Basics.{any_elim, any_intro, cases, in_append, is_path, or_left, or_parts, or_right}
 use Rattle.mr_model.proofs.Sets.{choice}
-use Rattle.mr_replica.specs.Answer.{Keeps, mode_for}
-use Rattle.mr_replica.specs.Create.{created}
-use Rattle.mr_replica.specs.Edit.{edited}
+use Rattle.mr_replica.specs.Answer.{Keeps, asked_of, mode_for}
 use Rattle.mr_replica.specs.Forged.{line_of}
-use Rattle.mr_replica.specs.Issue.{Issue as ToIssue, Issues, is_selected, logged, revision_for}
-use Rattle.mr_replica.specs.Next.{GivesNext}
-use Rattle.mr_replica.specs.Receive.{Ends, EndsSession, TakesBody, TakesLine, entering, line_learned, session_for}
+use Rattle.mr_replica.specs.Issue.{is_selected, issuing, revision_for}
+use Rattle.mr_replica.specs.Next.{held_now}
+use Rattle.mr_replica.specs.Receive.{line_learned}
 use Rattle.mr_replica.specs.State.{State, next_version}
+use Rattle.mr_replica.specs.Taking.{told_line}
 use Rattle.mr_replica.specs.Step.{Changes}
 use Rattle.mr_replica.specs.declared.event.Event.{Event as ReplicaEvent}
 use Rattle.mr_replica.specs.declared.event.Event.TheVariants as replica
 use Rattle.mr_replica.specs.declared.event.Reply.{Reply}
-use Rattle.mr_replica.specs.declared.event.Reply.TheVariants.{Asked, Done, Finished, Gave, Issued, Known, Streaming, Took, Vouched}
+use Rattle.mr_replica.specs.declared.event.Reply.TheVariants.{Gave}
+use Rattle.mr_replica.proofs.FiveKinds.{Kind, Kind.Ending, Kind.Issuing, Kind.Learning, Kind.Releasing, Kind.Staying, SessionsTurn, SessionsTurn.Closed_session, SessionsTurn.Opened_session, SessionsTurn.Same_sessions, SessionsTurn.Took_record, StreamsTurn, StreamsTurn.Closed_stream, StreamsTurn.Gave_record, StreamsTurn.Opened_stream, StreamsTurn.Same_streams, change_made}
 use Rattle.mr_session.specs.Session.{Session, after_record, if_so, is_full, new_session, with_body}
-use Rattle.mr_session.specs.Stream.{Asked as AskedOf, Stream, claimed, is_end, is_item, lists, new_stream, told}
+use Rattle.mr_session.specs.Stream.{Asked as AskedOf, GivesIn, Stream, claimed, is_end, is_item, lists, new_stream, told}
 use Rattle.mr_session.specs.Table.{Table, open_at, with_changed, with_closed}
 use Rattle.mr_store.specs.Revisions.{left_by}
 use Rattle.mr_wire.specs.Frames.{Sent}
 use Rattle.mr_wire.specs.Values.{DescentParts, Piece}
 use Rattle.mr_wire.specs.declared.frame.Body.{Body}
-use Rattle.mr_wire.specs.declared.frame.Body.TheVariants.{Start, Item, MoveOut, Held, Know, End}
+use Rattle.mr_wire.specs.declared.frame.Body.TheVariants.{Item, MoveOut, Know}
 use Rattle.mr_wire.specs.declared.frame.Frame.TheVariants as frame
 use Rattle.mr_wire.specs.declared.frame.Header.{Header}
 use Rattle.mr_wire.specs.declared.frame.Mode.{Mode}
@@ -97,12 +97,8 @@ module _ (issues : List (Issue Mail)) where
       go false i = elim i [ ]
 
   body_listed : (k : Session) (header : Header) (b : Body) → ListIssued issues k.know → ListsIssued issues b → ListIssued issues (with_body k header b).know
-  body_listed k header (Start mode) listed one = listed
-  body_listed k header (Item r) listed one = listed
-  body_listed k header (MoveOut line) listed one = listed
-  body_listed k header (Held vector) listed one = listed
   body_listed k header (Know piece) listed one = kept_listed k.know (is_full k.origin) piece listed one
-  body_listed k header End listed one = listed
+  body_listed k header b listed one = listed
 
 -- ---- more was issued
 
@@ -112,12 +108,8 @@ module _ (e e' : List (Issue Mail)) (more : (v : Name) → IsTrue (is_issued e v
   items_more (Some items) h = λ i j. more i (h i j)
 
   pub lists_more : (b : Body) → ListsIssued e b → ListsIssued e' b
-  lists_more (Start mode) h = tt
-  lists_more (Item r) h = tt
-  lists_more (MoveOut line) h = tt
-  lists_more (Held vector) h = tt
   lists_more (Know piece) h = items_more piece.items h
-  lists_more End h = tt
+  lists_more b h = tt
 
   pub replica_more : {K : Type 0} (form : Form K) (s : State K) → IsListedReplica form e s → IsListedReplica form e' s
   replica_more form s h = record {
@@ -130,81 +122,62 @@ module _ (e e' : List (Issue Mail)) (more : (v : Name) → IsTrue (is_issued e v
 
 -- what goes in: its items were issued
 abbrev pub IsIssuedEvent : List (Issue Mail) → ReplicaEvent → Type 0
-IsIssuedEvent issues (replica.Receive (frame.Record sent)) = ListsIssued issues sent.body × ((r : Rev) → sent.body ≡ Item r → IsTrue (is_issued issues r.item)) × ((line : DescentParts) → sent.body ≡ MoveOut line → IsTrue (is_issued issues line.item))
-IsIssuedEvent issues there = Unit {0}
+IsIssuedEvent issues there = (sent : Sent) → there ≡ replica.Receive (frame.Record sent) → ListsIssued issues sent.body × ((line : DescentParts) → told_line sent.body ≡ Some line → IsTrue (is_issued issues line.item))
 
 -- what comes out
 abbrev pub IsIssuedReply : List (Issue Mail) → Reply → Type 0
-IsIssuedReply issues (Gave sent) = ListsIssued issues sent.body
-IsIssuedReply issues reply = Unit {0}
+IsIssuedReply issues told = (sent : Sent) → told ≡ Gave sent → ListsIssued issues sent.body
+
+-- the streams and the sessions of a table
+abbrev AreListedStreams : List (Issue Mail) → Table Stream → Type 0
+AreListedStreams issues table = (n : ℕ) (c : Stream) → open_at table n ≡ Some c → ListIssued issues c.know
+
+abbrev AreListedSessions : List (Issue Mail) → Table Session → Type 0
+AreListedSessions issues table = (n : ℕ) (c : Session) → open_at table n ≡ Some c → ListIssued issues c.know
 
 module _ {K : Type 0} (form : Form K) (form_lists : ListsMore form) (issues : List (Issue Mail)) (s : State K) (listed : IsListedReplica form issues s) where
-  -- the tables become others
-  with_parts : (new : State K) → IsFiled issues (form.known new.knowledge) → ((number : ℕ) (k : Stream) → open_at new.streams number ≡ Some k → ListIssued issues k.know) →
-      ((number : ℕ) (k : Session) → open_at new.sessions number ≡ Some k → ListIssued issues k.know) → IsListedReplica form issues new
-  with_parts new filed streams sessions = record { filed = filed; streams = streams; sessions = sessions }
+  -- ---- what is known
 
-  issues_listed : (i : ToIssue) (v : Name) (there : ReplicaEvent) (new : State K) → ((r : Rev) → In r new.heads ⊎ In r new.push_outs → IsTrue (is_issued issues r.item)) → Issues form s i v there new → IsListedReplica form issues new
-  issues_listed i v there new held step =
-      with_parts new (filed_same issues (form.known new.knowledge) (learned form s.knowledge i.item (next_version s)) step.3
-      (filed_learned issues (form.learns_for_all s.knowledge i.item (next_version s) (λ _. false)) (form.known s.knowledge) i.item (next_version s) issued listed.filed))
-      (λ n k e. listed.streams n k (ap (λ (z : State K). open_at z.streams n) (sym step.4) ∙ e)) (λ n k e. listed.sessions n k (ap (λ (z : State K). open_at z.sessions n) (sym step.4) ∙ e))
-    where
-      r : Rev
-      r = revision_for s i step.1
+  abbrev IsFiledIn : State K → Type 0
+  IsFiledIn z = IsFiled issues (form.known z.knowledge)
 
-      enters : In r new.heads ⊎ In r new.push_outs
-      enters = subst (λ (z : State K). In r z.heads ⊎ In r z.push_outs) (sym step.4) (elim (cases (is_selected s r)) [
-        | inl t ↦ rw t (inl (entered_in r (left_by r.item (has_below r) s.heads) r (inl refl)))
-        | inr n ↦ rw n (inr (entered_in r (left_by r.item (has_below r) s.push_outs) r (inl refl)))
-      ])
+  -- a version that is issued enters the heads or the push-outs
+  issued_enters : (to : State K) (r : Rev) → to ≡ issuing s to.knowledge r → In r to.heads ⊎ In r to.push_outs
+  issued_enters to r is = subst (λ (z : State K). In r z.heads ⊎ In r z.push_outs) (sym is) (elim (cases (is_selected s r)) [
+    | inl t ↦ rw t (inl (entered_in r (left_by r.item (has_below r) s.heads) r (inl refl)))
+    | inr n ↦ rw n (inr (entered_in r (left_by r.item (has_below r) s.push_outs) r (inl refl)))
+  ])
 
-      issued : IsTrue (is_issued issues i.item)
-      issued = held r enters
-
-  -- ---- a record is taken
-
-  took_sessions : (sent : Sent) → ListsIssued issues sent.body → (number : ℕ) (k : Session) → open_at (with_changed sent.header.session (after_record sent) s.sessions) number ≡ Some k → ListIssued issues k.know
-  took_sessions sent one number k e = elim (changed_found s.sessions sent.header.session (after_record sent) number k e) [
-    | inl here ↦ subst (λ (z : Session). ListIssued issues z.know) here.3 (body_listed issues here.1 sent.header sent.body (listed.sessions sent.header.session here.1 here.2) one)
-    | inr there ↦ listed.sessions number k there.1
-  ]
-
-  line_listed : (sent : Sent) (line : DescentParts) (comer : Option Rev) (reply : Reply) (new : State K) → ListsIssued issues sent.body → IsTrue (is_issued issues line.item) → TakesLine form s sent line comer reply new → IsListedReplica form issues new × IsIssuedReply issues reply
-  line_listed sent line comer Known new one issued step = (subst (IsListedReplica form issues) (sym step.1) (record { filed = listed.filed; streams = listed.streams; sessions = took_sessions sent one }), tt)
-  line_listed sent line comer Took new one issued step =
+  kind_filed : (there : ReplicaEvent) (to : State K) → IsIssuedEvent issues there → ((r : Rev) → In r to.heads ⊎ In r to.push_outs → IsTrue (is_issued issues r.item)) → Kind form s there to → IsFiledIn to
+  kind_filed there to in_form held (Issuing i columns are known is) =
+      filed_same issues (form.known to.knowledge) (learned form s.knowledge i.item (next_version s)) known
+      (filed_learned issues (form.learns_for_all s.knowledge i.item (next_version s) (λ _. false)) (form.known s.knowledge) i.item (next_version s) (held (revision_for s i columns) (issued_enters to (revision_for s i columns) is)) listed.filed)
+  kind_filed there to in_form held (Learning sent e line tells known is) =
+      let issued : IsTrue (is_issued issues line.item) = (in_form sent e).1 line tells in
       let above : Pairs = with_learned (form.learns_for_all s.knowledge line.item line.version (vector_has line.below)) (form.known s.knowledge) line.item line.version in
-      let first_too : Bool = form.firsts_for_all s.knowledge line.item line.version (vector_has line.below) && vector_has line.below line.item in (
-        with_parts new (filed_same issues (form.known new.knowledge) (line_learned form s line) step.1
-            (filed_below issues (learned_of form s.knowledge line.item line.version (vector_has line.below)) line.item (vector_has line.below) issued (filed_first issues first_too above line.item
-            (filed_learned issues (form.learns_for_all s.knowledge line.item line.version (vector_has line.below)) (form.known s.knowledge) line.item line.version issued listed.filed))))
-            (λ n k e. listed.streams n k (ap (λ (z : State K). open_at z.streams n) (sym step.2) ∙ e)) (λ n k e. took_sessions sent one n k (ap (λ (z : State K). open_at z.sessions n) (sym step.2) ∙ e)),
-        tt,
-      )
-  line_listed sent line comer reply new one issued step = absurd step
+      let first_too : Bool = form.firsts_for_all s.knowledge line.item line.version (vector_has line.below) && vector_has line.below line.item in
+      filed_same issues (form.known to.knowledge) (line_learned form s line) known
+      (filed_below issues (learned_of form s.knowledge line.item line.version (vector_has line.below)) line.item (vector_has line.below) issued (filed_first issues first_too above line.item
+      (filed_learned issues (form.learns_for_all s.knowledge line.item line.version (vector_has line.below)) (form.known s.knowledge) line.item line.version issued listed.filed)))
+  kind_filed there to in_form held (Ending sent session found known is) =
+      filed_same issues (form.known to.knowledge) (with_pairs (form.known s.knowledge) (claimed session.know)) known
+      (filed_pairs issues (form.known s.knowledge) (claimed session.know) listed.filed (filed_claimed issues session.know (listed.sessions sent.header.session session found)))
+  kind_filed there to in_form held (Releasing receipt is) = subst IsFiledIn (sym is) listed.filed
+  kind_filed there to in_form held (Staying retired is) = subst IsFiledIn (sym is) listed.filed
 
-  ends_listed : (sent : Sent) (session : Session) → ListIssued issues session.know → (full : Bool) (new : State K) → Ends form s sent session full new → IsListedReplica form issues new
-  ends_listed sent session know true new step =
-      with_parts new (filed_same issues (form.known new.knowledge) (with_pairs (form.known s.knowledge) (claimed session.know)) step.0 (filed_pairs issues (form.known s.knowledge) (claimed session.know) listed.filed (filed_claimed issues session.know know)))
-      (λ n k e. listed.streams n k (ap (λ (z : State K). open_at z.streams n) (sym step.1) ∙ e)) (λ n k e. listed.sessions n k (closed_found s.sessions sent.header.session n k (ap (λ (z : State K). open_at z.sessions n) (sym step.1) ∙ e)).1)
-  ends_listed sent session know false new step = subst (IsListedReplica form issues) (sym step) (record { filed = listed.filed; streams = listed.streams; sessions = λ n k e. listed.sessions n k (closed_found s.sessions sent.header.session n k e).1 })
+  -- ---- the sessions
 
-  ends_session_listed : (sent : Sent) (session : Option Session) → session_for s sent ≡ session → (new : State K) → EndsSession form s sent session new → IsListedReplica form issues new
-  ends_session_listed sent None found new step = absurd step
-  ends_session_listed sent (Some session) found new step = ends_listed sent session (listed.sessions sent.header.session session found) (is_full session.origin) new step
-
-  moved_listed : (sent : Sent) (new : State K) → ListsIssued issues sent.body → TakesBody form s sent (Start Full) Took new → IsListedReplica form issues new
-  moved_listed sent new one step = subst (IsListedReplica form issues) (sym step) (record { filed = listed.filed; streams = listed.streams; sessions = took_sessions sent one })
-
-  body_takes : (sent : Sent) (b : Body) → sent.body ≡ b → (reply : Reply) (new : State K) → IsIssuedEvent issues (replica.Receive (frame.Record sent)) → TakesBody form s sent b reply new → IsListedReplica form issues new × IsIssuedReply issues reply
-  body_takes sent (Item r) e reply new in_form step = line_listed sent (line_of r) (entering s (Item r)) reply new in_form.0 (in_form.1 r e) step
-  body_takes sent (MoveOut line) e reply new in_form step = line_listed sent line None reply new in_form.0 (in_form.2 line e) step
-  body_takes sent End e Finished new in_form step = (ends_session_listed sent (session_for s sent) refl new step, tt)
-  body_takes sent End e reply new in_form step = absurd step
-  body_takes sent (Start mode) e Took new in_form step = (moved_listed sent new in_form.0 step, tt)
-  body_takes sent (Held vector) e Took new in_form step = (moved_listed sent new in_form.0 step, tt)
-  body_takes sent (Know piece) e Took new in_form step = (moved_listed sent new in_form.0 step, tt)
-  body_takes sent b e reply new in_form step = absurd step
+  sessions_listed : (there : ReplicaEvent) (sessions : Table Session) → IsIssuedEvent issues there → SessionsTurn form s there sessions → AreListedSessions issues sessions
+  sessions_listed there sessions in_form (Same_sessions is) = subst (AreListedSessions issues) (sym is) listed.sessions
+  sessions_listed there sessions in_form (Opened_session is) = subst (AreListedSessions issues) (sym is) (λ n k e. elim (opened_found s.sessions new_session n k e) [
+    | inl made ↦ subst (λ (z : Session). ListIssued issues z.know) made.1 (λ piece i. elim i [ ])
+    | inr found ↦ listed.sessions n k found
+  ])
+  sessions_listed there sessions in_form (Took_record sent event_is is) = subst (AreListedSessions issues) (sym is) (λ n k e. elim (changed_found s.sessions sent.header.session (after_record sent) n k e) [
+    | inl here ↦ subst (λ (z : Session). ListIssued issues z.know) here.3 (body_listed issues here.1 sent.header sent.body (listed.sessions sent.header.session here.1 here.2) (in_form sent event_is).0)
+    | inr there ↦ listed.sessions n k there.1
+  ])
+  sessions_listed there sessions in_form (Closed_session number is) = subst (AreListedSessions issues) (sym is) (λ n k e. listed.sessions n k (closed_found s.sessions number n k e).1)
 
   -- ---- a stream is opened, and gives
 
@@ -234,66 +207,45 @@ module _ {K : Type 0} (form : Form K) (form_lists : ListsMore form) (issues : Li
   )
   draw_listed k b left know (Ends_fully n h none eb) = (subst (ListsIssued issues) (sym eb) tt, λ goes_on. (let c : true ≡ false = sym (ap is_end eb) ∙ goes_on in absurd (cc)))
 
-  next_listed : (number : ℕ) (sent : Sent) (new : State K) → GivesNext s number sent new → IsListedReplica form issues new × ListsIssued issues sent.body
-  next_listed number sent new step = (subst (IsListedReplica form issues) (sym step.2) (record { filed = listed.filed; streams = streams; sessions = listed.sessions }), made.0)
+  gave_listed : (number : ℕ) (sent : Sent) (streams : Table Stream) → GivesIn s.id number s.streams (held_now s) sent streams → ListsIssued issues sent.body × AreListedStreams issues streams
+  gave_listed number sent streams h = (made.0, given)
     where
       k : Stream
-      k = step.1.0
+      k = h.0
 
       left : Stream
-      left = step.1.1
+      left = h.1
 
-      made : ListsIssued issues sent.body × (IsFalse (is_end sent.body) → ListIssued issues step.1.3.0.know)
-      made = draw_listed k sent.body step.1.3.0 (listed.streams number k step.1.2) (drawn s k sent.body step.1.3.0 step.1.3.1)
+      made : ListsIssued issues sent.body × (IsFalse (is_end sent.body) → ListIssued issues h.3.0.know)
+      made = draw_listed k sent.body h.3.0 (listed.streams number k h.2) (drawn s k sent.body h.3.0 h.3.1)
 
-      AreListed : Table Stream → Type 0
-      AreListed table = (n : ℕ) (c : Stream) → open_at table n ≡ Some c → ListIssued issues c.know
-
-      streams : AreListed step.0
-      streams = subst AreListed (sym step.1.4) (choice AreListed (is_end sent.body) (with_closed s.streams number) (with_changed number (λ _. left) s.streams)
+      given : AreListedStreams issues streams
+      given = subst (AreListedStreams issues) (sym h.4) (choice (AreListedStreams issues) (is_end sent.body) (with_closed s.streams number) (with_changed number (λ _. left) s.streams)
           (λ ended n c e. listed.streams n c (closed_found s.streams number n c e).1)
           (λ goes_on n c e. elim (changed_found s.streams number (λ _. left) n c e) [
-            | inl here ↦ subst (λ (z : Stream). ListIssued issues z.know) here.3 (subst (λ (z : Stream). ListIssued issues z.know) (sym step.1.3.3) (made.1 goes_on))
+            | inl here ↦ subst (λ (z : Stream). ListIssued issues z.know) here.3 (subst (λ (z : Stream). ListIssued issues z.know) (sym h.3.3) (made.1 goes_on))
             | inr there ↦ listed.streams n c there.1
           ]))
 
+  streams_listed : (streams : Table Stream) → StreamsTurn form s streams → AreListedStreams issues streams
+  streams_listed streams (Same_streams is) = subst (AreListedStreams issues) (sym is) listed.streams
+  streams_listed streams (Opened_stream ask know keeps is) = subst (AreListedStreams issues) (sym is) (λ n k e. elim (opened_found s.streams (new_stream (asked_of ask) (mode_for s ask) know) n k e) [
+    | inl made ↦ subst (λ (z : Stream). ListIssued issues z.know) made.1 (opened_listed (mode_for s ask) know keeps)
+    | inr found ↦ listed.streams n k found
+  ])
+  streams_listed streams (Gave_record number sent h) = (gave_listed number sent streams h).1
+  streams_listed streams (Closed_stream number is) = subst (AreListedStreams issues) (sym is) (λ n k e. listed.streams n k (closed_found s.streams number n k e).1)
+
   -- ---- any event
 
-  same_tables : (new : State K) → new.knowledge ≡ s.knowledge → new.streams ≡ s.streams → new.sessions ≡ s.sessions → IsListedReplica form issues new
-  same_tables new knowledge streams sessions = record {
-    filed = subst (λ (k : K). IsFiled issues (form.known k)) (sym knowledge) listed.filed;
-    streams = λ n k e. listed.streams n k (ap (λ (z : Table Stream). open_at z n) (sym streams) ∙ e);
-    sessions = λ n k e. listed.sessions n k (ap (λ (z : Table Session). open_at z n) (sym sessions) ∙ e);
-  }
-
-  pub step_listed : (there : ReplicaEvent) (reply : Reply) (new : State K) → IsIssuedEvent issues there → ((r : Rev) → In r new.heads ⊎ In r new.push_outs → IsTrue (is_issued issues r.item)) → Changes form s there reply new →
-      IsListedReplica form issues new × IsIssuedReply issues reply
-  step_listed (replica.Create message) (Issued v) new in_form held step = (issues_listed (created s message) v (replica.Create message) new held step, tt)
-  step_listed (replica.Edit bases message) (Issued v) new in_form held step = (issues_listed (edited s bases message) v (replica.Edit bases message) new held step, tt)
-  step_listed replica.Retire Done new in_form held step = (subst (IsListedReplica form issues) (sym step) (same_tables (logged (record s { is_retired = true }) replica.Retire) refl refl refl), tt)
-  step_listed replica.Pull (Asked question) new in_form held step = (
-    subst (IsListedReplica form issues) (sym step.1) (record {
-      filed = listed.filed;
-      streams = listed.streams;
-      sessions = λ n k e. elim (opened_found s.sessions new_session n k e) [ inl made ↦ subst (λ (z : Session). ListIssued issues z.know) made.1 (λ piece i. elim i [ ]) | inr found ↦ listed.sessions n k found ];
-    }),
-    tt,
-  )
-  step_listed (replica.Receive (frame.Record sent)) reply new in_form held step = body_takes sent sent.body refl reply new in_form step
-  step_listed (replica.CutIn session) Done new in_form held step = (subst (IsListedReplica form issues) (sym step) (record { filed = listed.filed; streams = listed.streams; sessions = λ n k e. listed.sessions n k (closed_found s.sessions session n k e).1 }), tt)
-  step_listed (replica.Answer question) (Streaming number) new in_form held step = (
-    subst (IsListedReplica form issues) (sym step.3) (record {
-      filed = listed.filed;
-      streams = λ n k e. elim (opened_found s.streams (new_stream _ (mode_for s question) step.1) n k e) [
-        | inl made ↦ subst (λ (z : Stream). ListIssued issues z.know) made.1 (opened_listed (mode_for s question) step.1 step.2)
-        | inr found ↦ listed.streams n k found
-      ];
-      sessions = listed.sessions;
-    }),
-    tt,
-  )
-  step_listed (replica.Next number) (Gave sent) new in_form held step = next_listed number sent new step
-  step_listed (replica.CutOut number) Done new in_form held step = (subst (IsListedReplica form issues) (sym step) (record { filed = listed.filed; streams = λ n k e. listed.streams n k (closed_found s.streams number n k e).1; sessions = listed.sessions }), tt)
-  step_listed (replica.Vouch version) (Vouched receipt) new in_form held step = (subst (IsListedReplica form issues) (sym step.1) (record { filed = listed.filed; streams = listed.streams; sessions = listed.sessions }), tt)
-  step_listed (replica.Release receipt) Done new in_form held step = (subst (IsListedReplica form issues) (sym step) (record { filed = listed.filed; streams = listed.streams; sessions = listed.sessions }), tt)
-  step_listed there reply new in_form held step = absurd step
+  pub step_listed : (there : ReplicaEvent) (told : Reply) (new : State K) → IsIssuedEvent issues there → ((r : Rev) → In r new.heads ⊎ In r new.push_outs → IsTrue (is_issued issues r.item)) → Changes form s there told new →
+      IsListedReplica form issues new × IsIssuedReply issues told
+  step_listed there told new in_form held step =
+      let made = change_made form s there told new step in (
+        record {
+          filed = subst IsFiledIn (sym made.is) (kind_filed there made.to in_form (λ r i. held r (subst (λ (z : State K). In r z.heads ⊎ In r z.push_outs) (sym made.is) i)) made.kind);
+          streams = streams_listed new.streams made.streams;
+          sessions = sessions_listed there new.sessions in_form made.sessions;
+        },
+        λ sent e. (let h = made.gives sent e in (gave_listed h.0 sent new.streams h.1).0),
+      )

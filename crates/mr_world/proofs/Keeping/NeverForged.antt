@@ -11,13 +11,11 @@ use Rattle.mr_concise.specs.Vector.{column_of, vector_has}
 use Rattle.mr_concise.proofs.LastLemmas.{bound-is_last}
 use Rattle.mr_filter.specs.Filter.{ClauseParts}
 use Rattle.mr_madewith.specs.Revision.{Rev}
-use Rattle.mr_model.specs.Moment.{numbered}
 use Rattle.mr_model.specs.Rules.{In}
 use Rattle.mr_model.specs.Versions.{is, is_issued, issue_count, item_of}
 use Rattle.mr_model.proofs.Basics.{any_elim, cases, in_append, is_from, is_path, not_both, or_parts}
 use Rattle.mr_model.proofs.Core.{Inv}
 use Rattle.mr_model.proofs.Issues.{counter_within, item_is_issued}
-use Rattle.mr_model.proofs.Sets.{numbered_in}
 use Rattle.mr_replica.specs.Admission.{log_full, retired}
 use Rattle.mr_replica.specs.Edit.{edited_item, item_refusal, own_left}
 use Rattle.mr_replica.specs.Forged.{has_early, is_early, is_early_line, is_forged, is_misfiled, line_of}
@@ -25,12 +23,13 @@ use Rattle.mr_replica.specs.Issue.{FirstFault, Wanted, Wanted.Knowledge, Wanted.
 use Rattle.mr_replica.specs.Receive.{session_for, session_refusal}
 use Rattle.mr_replica.specs.Refusal.{refusal_of_session, refused_if, ◌orelse◌}
 use Rattle.mr_replica.specs.State.{State, held}
-use Rattle.mr_replica.specs.Step.{Answers, RefusesLate, Steps, first_refusal, wanted_by}
+use Rattle.mr_replica.specs.Step.{RefusesLate, Steps, first_refusal, wanted_by}
 use Rattle.mr_replica.specs.declared.event.Event.{Event as ReplicaEvent}
 use Rattle.mr_replica.specs.declared.event.Event.TheVariants as replica
 use Rattle.mr_replica.specs.declared.event.Reply.{Reply}
 use Rattle.mr_replica.specs.declared.refusal.Refusal.{Refusal}
 use Rattle.mr_replica.specs.declared.refusal.Refusal.TheVariants as refusal
+use Rattle.mr_replica.proofs.Replies.{GoesOn}
 use Rattle.mr_session.specs.Session.{Session, first_fault}
 use Rattle.mr_session.specs.declared.fault.SessionFault.{SessionFault}
 use Rattle.mr_session.specs.declared.fault.SessionFault.TheVariants as faults
@@ -49,8 +48,8 @@ use Rattle.mr_world.specs.Told.{IsTrueBody}
 use Rattle.mr_world.specs.World.{World}
 use Rattle.mr_world.specs.declared.answer.Answer.TheVariants.{Stepped}
 use Rattle.mr_world.specs.declared.event.Event.{Event}
-use Rattle.mr_world.specs.declared.event.Event.TheVariants as event
 use Rattle.mr_world.proofs.Groundwork.Tools.{find_in}
+use Rattle.mr_world.proofs.Moving.ByReplica.{IsOfPool, Mover, Mover.A_port, Mover.A_replica, Mover.None_at_all, mover}
 
 -- ---- which refusal is Forged
 
@@ -123,23 +122,13 @@ module _ {K : Type 0} (form : Form K) (s : State K) where
   no_fault (Knowledge pairs ∷ ws) h = elim h [ inl x ↦ x | inr later ↦ no_fault ws later.1 ]
 
   not_late : (there : ReplicaEvent) → ¬ RefusesLate form s there refusal.Forged
-  not_late (replica.Create message) h = no_fault (wanted_by form s (replica.Create message)) h
-  not_late (replica.Edit bases message) h = no_fault (wanted_by form s (replica.Edit bases message)) h
-  not_late replica.Retire h = h
-  not_late replica.Pull h = h
   not_late (replica.Receive received) h = no_fault (wanted_by form s (replica.Receive received)) h
-  not_late (replica.CutIn session) h = h
-  not_late (replica.Answer question) h = h
-  not_late (replica.Next number) h = h
-  not_late (replica.CutOut number) h = h
-  not_late (replica.Vouch version) h = h
-  not_late (replica.Release receipt) h = h
+  not_late there h = no_fault (wanted_by form s there) h
 
   pub steps_forged : (there : ReplicaEvent) (new : State K) → Steps form s there (Err refusal.Forged) new → (sent : Sent) × (there ≡ replica.Receive (frame.Record sent)) × IsTrue (is_forged s sent.body)
   steps_forged there new step = go (first_refusal s there) refl step
     where
-      go : (o : Option Refusal) → first_refusal s there ≡ o → (elim o as (λ _. Type 0) [ Some e ↦ (◌≡◌ {A = Result Reply Refusal} (Err refusal.Forged) (Err e)) × (new ≡ s) | None ↦ Answers form s there (Err refusal.Forged) new ]) →
-          (sent : Sent) × (there ≡ replica.Receive (frame.Record sent)) × IsTrue (is_forged s sent.body)
+      go : (o : Option Refusal) → first_refusal s there ≡ o → GoesOn form s there o (Err refusal.Forged) new → (sent : Sent) × (there ≡ replica.Receive (frame.Record sent)) × IsTrue (is_forged s sent.body)
       go (Some e) first h = let c : (◌≡◌ {A = Result Reply Refusal} (Err refusal.Forged) (Err e)) = h.0 in let same : e ≡ refusal.Forged = cc in first_forged there (first ∙ ap Some same)
       go None first h = absurd (not_late there h.0)
 
@@ -207,28 +196,16 @@ module _ {K : Type 0} (form : Form K) (filters : ℕ → List ClauseParts) (w : 
 
 module _ {K : Type 0} (form : Form K) (filters : ℕ → List ClauseParts) (w : World K) (m : MailMoment) (inv : Inv (setting_of filters) m) (a : Agrees form filters w m) (normal : IsNormalWorld w)
     (lists : (sent : Sent) → In sent w.records → ListsIssued m.issues sent.body) where
-  at_forged : (r : ℕ) (there : ReplicaEvent) (w' : World K) → ((sent : Sent) → there ≡ replica.Receive (frame.Record sent) → In sent w.records) → ¬ StepsAt form w r there (Stepped (Err refusal.Forged)) w'
+  at_forged : (r : ℕ) (there : ReplicaEvent) (w' : World K) → IsOfPool form w there → ¬ StepsAt form w r there (Stepped (Err refusal.Forged)) w'
   at_forged r there w' pool move =
       let h = steps_forged form (w.replicas r) there move.1 move.2 in
       let i = pool h.0 h.1 in
       not_forged form filters w m inv a r h.0.body (a.records.each h.0 i) (normal.records h.0 i) (lists h.0 i) h.2
 
-  delivered : (n : ℕ) (sent : Sent) → numbered w.records n ≡ Some sent → (other : Sent) → (let there : ReplicaEvent = replica.Receive (frame.Record sent) in there ≡ replica.Receive (frame.Record other)) → In other w.records
-  delivered n sent pool other e = let same : sent ≡ other = cc in subst (λ (z : Sent). In z w.records) same (numbered_in w.records n sent pool)
+  by_mover : (w' : World K) → ¬ Mover form w (Stepped (Err refusal.Forged)) w'
+  by_mover w' (A_replica r there pool step) = at_forged r there w' pool step
+  by_mover w' (A_port r u port is none) = none (Err refusal.Forged) refl
+  by_mover w' (None_at_all is none) = none (Err refusal.Forged) refl
 
   pub never_forged : (e : Event) (w' : World K) → ¬ Moves form w e (Stepped (Err refusal.Forged)) w'
-  never_forged (event.Create r message) w' move = at_forged r (replica.Create message) w' (λ sent e. absurd (cc)) move
-  never_forged (event.Edit r bases message) w' move = at_forged r (replica.Edit bases message) w' (λ sent e. absurd (cc)) move
-  never_forged (event.Retire r) w' move = at_forged r replica.Retire w' (λ sent e. absurd (cc)) move
-  never_forged (event.Pull r) w' move = at_forged r replica.Pull w' (λ sent e. absurd (cc)) move
-  never_forged (event.Receive r n) w' move = at_forged r (replica.Receive (frame.Record move.0)) w' (delivered n move.0 move.1) move.2
-  never_forged (event.DeliverPart r n bytes) w' move = at_forged r (replica.Receive (frame.Record move.0)) w' (delivered n move.0 move.1) move.3
-  never_forged (event.CutIn r session) w' move = at_forged r (replica.CutIn session) w' (λ sent e. absurd (cc)) move
-  never_forged (event.Answer r n) w' move = at_forged r (replica.Answer move.0) w' (λ sent e. absurd (cc)) move.2
-  never_forged (event.Next r number) w' move = at_forged r (replica.Next number) w' (λ sent e. absurd (cc)) move
-  never_forged (event.CutOut r number) w' move = at_forged r (replica.CutOut number) w' (λ sent e. absurd (cc)) move
-  never_forged (event.Offer r u) w' move = move.1
-  never_forged (event.Take r u) w' move = move.1
-  never_forged (event.Close r u) w' move = move.1
-  never_forged (event.Vouch r version) w' move = at_forged r (replica.Vouch version) w' (λ sent e. absurd (cc)) move
-  never_forged (event.Release r n) w' move = at_forged r (replica.Release move.0) w' (λ sent e. absurd (cc)) move.2
+  never_forged e w' move = by_mover w' (mover form w e (Stepped (Err refusal.Forged)) w' move)

@@ -1,6 +1,6 @@
 -- What it is that a world's step is one of the model's, and the answers that change nothing.
-use Rattle.std.proofs.Common.{◌≡◌, refl, sym, subst, ℕ, List, IsFalse, Option, Some, None}
-use Rattle.std.specs.Prelude.{Result, Ok, Err}
+use Rattle.std.proofs.Common.{◌≡◌, sym, subst, ℕ, List, IsFalse, Option, None}
+use Rattle.std.specs.Prelude.{Ok, Err}
 use Rattle.mr_forms.specs.Known.{Form}
 use Rattle.mr_filter.specs.Filter.{ClauseParts}
 use Rattle.mr_mail.specs.Mail.{Mail, MailCard}
@@ -10,7 +10,8 @@ use Rattle.mr_model.specs.Rules.{IsAllowed}
 use Rattle.mr_replica.specs.Admission.{retired}
 use Rattle.mr_replica.specs.Refusal.{◌orelse◌}
 use Rattle.mr_replica.specs.State.{State}
-use Rattle.mr_replica.specs.Step.{Answers, Changes, Steps, first_refusal}
+use Rattle.mr_replica.specs.Step.{Changes, first_refusal}
+use Rattle.mr_replica.proofs.Replies.{step_refused, step_replied}
 use Rattle.mr_replica.specs.declared.event.Event.{Event as ReplicaEvent}
 use Rattle.mr_replica.specs.declared.event.Reply.{Reply}
 use Rattle.mr_replica.specs.declared.refusal.Refusal.{Refusal}
@@ -26,22 +27,6 @@ use Rattle.mr_world.specs.declared.event.Event.TheVariants as event
 use Rattle.mr_world.proofs.Groundwork.Tools.{at_self, not_refused, orelse_none}
 
 module _ {K : Type 0} (form : Form K) where
-  -- a reply stands for a change, with nothing that refuses the event
-  pub steps_replied : (s : State K) (there : ReplicaEvent) (reply : Reply) (new : State K) → Steps form s there (Ok reply) new → (first_refusal s there ≡ None) × Changes form s there reply new
-  steps_replied s there reply new step = go (first_refusal s there) refl step
-    where
-      go : (o : Option Refusal) → first_refusal s there ≡ o → (elim o as (λ _. Type 0) [ Some e ↦ (◌≡◌ {A = Result Reply Refusal} (Ok reply) (Err e)) × (new ≡ s) | None ↦ Answers form s there (Ok reply) new ]) → (first_refusal s there ≡ None) × Changes form s there reply new
-      go None e h = (e, h.1)
-      go (Some x) e h = let c : (◌≡◌ {A = Result Reply Refusal} (Ok reply) (Err x)) = h.0 in absurd (cc)
-
-  -- a refusal changes nothing
-  pub steps_refused : (s : State K) (there : ReplicaEvent) (x : Refusal) (new : State K) → Steps form s there (Err x) new → new ≡ s
-  steps_refused s there x new step = go (first_refusal s there) step
-    where
-      go : (o : Option Refusal) → (elim o as (λ _. Type 0) [ Some e ↦ (◌≡◌ {A = Result Reply Refusal} (Err x) (Err e)) × (new ≡ s) | None ↦ Answers form s there (Err x) new ]) → new ≡ s
-      go None h = h.1
-      go (Some y) h = h.1
-
   module _ (filters : ℕ → List ClauseParts) (w : World K) (m : MailMoment) where
     -- the rules allow the change, and the world agrees with the moment after it
     abbrev pub IsInStep : Change Mail MailCard → World K → Type 0
@@ -58,20 +43,7 @@ module _ {K : Type 0} (form : Form K) where
     -- what a history sees as a refusal changes nothing
     pub stays : (e : Event) (w' : World K) → Agrees form filters w' m → IsInStep (change_of m (seen_event e) model.Refused) w'
     stays (event.Create r message) w' h = (tt, h)
-    stays (event.Edit r bases message) w' h = (tt, h)
-    stays (event.Retire r) w' h = (tt, h)
-    stays (event.Pull r) w' h = (tt, h)
-    stays (event.Receive r n) w' h = (tt, h)
-    stays (event.DeliverPart r n bytes) w' h = (tt, h)
-    stays (event.CutIn r n) w' h = (tt, h)
-    stays (event.Answer r n) w' h = (tt, h)
-    stays (event.Next r n) w' h = (tt, h)
-    stays (event.CutOut r n) w' h = (tt, h)
-    stays (event.Offer r u) w' h = (tt, h)
-    stays (event.Take r u) w' h = (tt, h)
-    stays (event.Close r u) w' h = (tt, h)
-    stays (event.Vouch r v) w' h = (tt, h)
-    stays (event.Release r n) w' h = (tt, h)
+    stays e w' h = (tt, h)
 
     -- the replica that is put back as it was
     pub put_back : (a : Agrees form filters w m) (r : ℕ) (new : State K) → new ≡ w.replicas r → Agrees form filters (with_replica w r new) m
@@ -83,10 +55,10 @@ module _ {K : Type 0} (form : Form K) where
         ((reply : Reply) (new : State K) → first_refusal (w.replicas r) there ≡ None → Changes form (w.replicas r) there reply new → Refines e (Stepped (Ok reply)) (with_given (with_replica w r new) (Ok reply))) →
         Refines e answer w'
     by_steps a e r there (Stepped (Ok reply)) w' move replies =
-        let h = steps_replied (w.replicas r) there reply move.1 move.2 in
+        let h = step_replied form (w.replicas r) there reply move.1 move.2 in
         subst (Refines e (Stepped (Ok reply))) (sym move.3) (replies reply move.1 h.0 h.1)
     by_steps a e r there (Stepped (Err x)) w' move replies =
-        subst (Refines e (Stepped (Err x))) (sym move.3) (stays e (with_replica w r move.1) (put_back a r move.1 (steps_refused (w.replicas r) there x move.1 move.2)))
+        subst (Refines e (Stepped (Err x))) (sym move.3) (stays e (with_replica w r move.1) (put_back a r move.1 (step_refused form (w.replicas r) there x move.1 move.2)))
     by_steps a e r there answer w' move replies = absurd move
 
   -- the replica has not retired

@@ -18,6 +18,7 @@ use Rattle.mr_replica.specs.declared.event.Event.{Event as ReplicaEvent}
 use Rattle.mr_replica.specs.declared.event.Reply.{Reply}
 use Rattle.mr_replica.specs.declared.event.Reply.TheVariants as reply
 use Rattle.mr_replica.specs.declared.refusal.Refusal.{Refusal}
+use Rattle.mr_replica.proofs.Replaying.{step_setting}
 use Rattle.mr_world.specs.declared.answer.Answer.{Answer}
 use Rattle.mr_world.specs.declared.answer.Answer.TheVariants.{Stepped}
 use Rattle.mr_world.specs.declared.answered.Answered.{Answered}
@@ -31,7 +32,6 @@ use Rattle.mr_world.specs.declared.pools.Given.{Given}
 use Rattle.mr_world.specs.declared.pools.Given.TheVariants as given
 use Rattle.mr_world.specs.declared.task.Task.{Task}
 use Rattle.mr_world.specs.declared.task.Task.TheVariants as task
-use Rattle.mr_world.proofs.Running.KeepsId.{step_keeps_id}
 use Rattle.mr_world.proofs.Running.MemberPlaces.{IsPlace, not_found, ids_stay, goes_back}
 use Rattle.mr_world.proofs.Running.Moved.{moves, same_view, same_none}
 use Rattle.mr_world.proofs.Running.Pools.{gives_ask, gives_record, gives_receipt}
@@ -43,17 +43,7 @@ module _ {K : Type 0} where
   same_lack ms p xs (event.DeliverPart r n bytes) all = same_none (λ x. frame.Record x) (numbered (sents_in p.records.frames) n) (at_number p.records.frames n) (gives_record p.records.frames n all.records)
   same_lack ms p xs (event.Answer r n) all = same_none (λ x. frame.Ask x) (numbered (questions_in p.asks.frames) n) (at_number p.asks.frames n) (gives_ask p.asks.frames n all.asks)
   same_lack ms p xs (event.Release r n) all = same_none (λ x. frame.Receipt x) (numbered (receipts_in p.receipts.frames) n) (at_number p.receipts.frames n) (gives_receipt p.receipts.frames n all.receipts)
-  same_lack ms p xs (event.Create r message) all = refl
-  same_lack ms p xs (event.Edit r bases message) all = refl
-  same_lack ms p xs (event.Retire r) all = refl
-  same_lack ms p xs (event.Pull r) all = refl
-  same_lack ms p xs (event.CutIn r session) all = refl
-  same_lack ms p xs (event.Next r stream) all = refl
-  same_lack ms p xs (event.CutOut r stream) all = refl
-  same_lack ms p xs (event.Offer r u) all = refl
-  same_lack ms p xs (event.Take r u) all = refl
-  same_lack ms p xs (event.Close r u) all = refl
-  same_lack ms p xs (event.Vouch r version) all = refl
+  same_lack ms p xs e all = refl
 
   -- there is no such replica
   pub no_replica : (ms : List (MemberView K)) (p : PoolList) (xs : List Answered) (e : Event) → position (λ m. m.replica.id == replica_of e) ms ≡ None → stop_fault (world_view ms p xs) e ≡ Some NoSuchReplica
@@ -88,17 +78,7 @@ task_found p (event.Receive r n) t h = found_not_none _ h.1.0 h.1.1
 task_found p (event.DeliverPart r n bytes) t h = part_found p r n bytes t h
 task_found p (event.Answer r n) t h = found_not_none _ h.1.0 h.1.1
 task_found p (event.Release r n) t h = found_not_none _ h.1.0 h.1.1
-task_found p (event.Create r message) t h = refl
-task_found p (event.Edit r bases message) t h = refl
-task_found p (event.Retire r) t h = refl
-task_found p (event.Pull r) t h = refl
-task_found p (event.CutIn r session) t h = refl
-task_found p (event.Next r stream) t h = refl
-task_found p (event.CutOut r stream) t h = refl
-task_found p (event.Offer r u) t h = refl
-task_found p (event.Take r u) t h = refl
-task_found p (event.Close r u) t h = refl
-task_found p (event.Vouch r version) t h = refl
+task_found p e t h = refl
 
 -- ---- frames stay frames
 
@@ -123,12 +103,7 @@ given_frames p q (reply.Gave x) (given.Record bytes) is h all = more_frames p q 
 given_frames p q (reply.Gave x) g is h all = absurd is
 given_frames p q (reply.Vouched x) (given.Receipt bytes) is h all = more_frames p q [] [] (bytes.items ∷ []) h all (All-nil IsAskFrame) (All-nil IsRecordFrame) (All-cons IsReceiptFrame bytes.items [] (x, is) (All-nil IsReceiptFrame))
 given_frames p q (reply.Vouched x) g is h all = absurd is
-given_frames p q (reply.Issued v) g is h all = kept_frames p q (subst (λ (g : Given). Gains p g q) is h) all
-given_frames p q reply.Done g is h all = kept_frames p q (subst (λ (g : Given). Gains p g q) is h) all
-given_frames p q (reply.Streaming stream) g is h all = kept_frames p q (subst (λ (g : Given). Gains p g q) is h) all
-given_frames p q reply.Took g is h all = kept_frames p q (subst (λ (g : Given). Gains p g q) is h) all
-given_frames p q reply.Known g is h all = kept_frames p q (subst (λ (g : Given). Gains p g q) is h) all
-given_frames p q reply.Finished g is h all = kept_frames p q (subst (λ (g : Given). Gains p g q) is h) all
+given_frames p q told g is h all = kept_frames p q (subst (λ (g : Given). Gains p g q) is h) all
 
 gained_frames : (p q : PoolList) (answer : Result Reply Refusal) → GainsBy p answer q → AreFrames p → AreFrames q
 gained_frames p q (Ok told) h all = given_frames p q told h.0 h.1 h.2 all
@@ -160,7 +135,7 @@ module _ {K : Type 0} (form : Form K) where
   outlet_id m Notifier port = refl
 
   stepped_id : (m m' : MemberView K) (p q : PoolList) (e : ReplicaEvent) (answer : Answer) → StepsTo form m p e answer m' q → m'.replica.id ≡ m.replica.id
-  stepped_id m m' p q e (Stepped answer) h = ap (λ (n : MemberView K). n.replica.id) h.3 ∙ step_keeps_id form m.replica e answer h.1 h.2
+  stepped_id m m' p q e (Stepped answer) h = ap (λ (n : MemberView K). n.replica.id) h.3 ∙ (step_setting form m.replica h.1 e answer h.2).id
   stepped_id m m' p q e answer h = absurd h
 
   answer_id : (m m' : MemberView K) (p q : PoolList) (t : Task) (answer : Answer) → Answers form m p t answer m' q → m'.replica.id ≡ m.replica.id

@@ -11,6 +11,7 @@ use Rattle.mr_replica.specs.declared.event.Event.TheVariants as replica
 use Rattle.mr_replica.specs.declared.event.Reply.{Reply}
 use Rattle.mr_replica.specs.declared.event.Reply.TheVariants as reply
 use Rattle.mr_replica.specs.declared.refusal.Refusal.{Refusal}
+use Rattle.mr_replica.proofs.Replaying.{step_setting}
 use Rattle.mr_wire.specs.Frames.{Question, Sent}
 use Rattle.mr_wire.specs.Grammar.{Spells}
 use Rattle.mr_wire.specs.declared.frame.Frame.{Frame}
@@ -36,7 +37,6 @@ use Rattle.mr_world.specs.declared.pools.Given.{Given}
 use Rattle.mr_world.specs.declared.pools.Given.TheVariants as given
 use Rattle.mr_world.specs.declared.task.Task.{Task}
 use Rattle.mr_world.specs.declared.task.Task.TheVariants as task
-use Rattle.mr_world.proofs.Running.KeepsId.{step_keeps_id}
 use Rattle.mr_world.proofs.Running.MemberPlaces.{IsPlace, goes_back, same_world, replica_there, port_there, replicas_then, ports_then, replicas_with_port, ports_with_port}
 use Rattle.mr_world.proofs.Running.Pools.{frame_again, gives_ask, gives_record, gives_receipt, one_more_ask, one_more_record, one_more_receipt}
 
@@ -121,12 +121,7 @@ module _ {K : Type 0} where
   gained_reply w p p' (reply.Gave x) g is h = absurd is
   gained_reply w p p' (reply.Vouched x) (given.Receipt bytes) is h = more_receipts w p p' x bytes.items is h
   gained_reply w p p' (reply.Vouched x) g is h = absurd is
-  gained_reply w p p' (reply.Issued v) g is h = gained_nothing w p p' g is h
-  gained_reply w p p' reply.Done g is h = gained_nothing w p p' g is h
-  gained_reply w p p' (reply.Streaming stream) g is h = gained_nothing w p p' g is h
-  gained_reply w p p' reply.Took g is h = gained_nothing w p p' g is h
-  gained_reply w p p' reply.Known g is h = gained_nothing w p p' g is h
-  gained_reply w p p' reply.Finished g is h = gained_nothing w p p' g is h
+  gained_reply w p p' told g is h = gained_nothing w p p' g is h
 
   -- the pools gain what was given
   gained : (w : World K) (p p' : PoolList) (answer : Result Reply Refusal) → GainsBy p answer p' → with_pools w p' ≡ with_given (with_pools w p) answer
@@ -149,7 +144,7 @@ module _ {K : Type 0} where
       → IsPlace ms r place m → KeepsFrames p q → StepsTo form m q e answer m' p'
       → StepsAt form (world_at unused third ms p xs) r e answer (world_at unused third (slice_set ms place m') p' xs')
   steps_at form unused third ms r place m m' p q p' xs xs' e (Stepped answer) pl same h =
-      let id : h.1.id ≡ r = step_keeps_id form m.replica e answer h.1 h.2 ∙ pl.id in (
+      let id : h.1.id ≡ r = (step_setting form m.replica h.1 e answer h.2).id ∙ pl.id in (
         h.0,
         h.1,
         subst (λ (s : State K). Steps form s e answer h.1) (sym (replica_there unused ms r place m pl)) h.2,

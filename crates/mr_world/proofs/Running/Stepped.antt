@@ -1,12 +1,13 @@
 -- What a world makes of a replica's step.
-use Rattle.std.proofs.Common.{◌≡◌, Option, Some, None, Result, Ok, Err, refl, sym, ap, subst, ◌∙◌}
+use Rattle.std.proofs.Common.{◌≡◌, Result, Ok, Err, refl, sym, ap, subst, ◌∙◌}
 use Rattle.mr_forms.specs.Known.{Form}
 use Rattle.mr_replica.specs.State.{State}
-use Rattle.mr_replica.specs.Step.{first_refusal, Answers, Steps}
+use Rattle.mr_replica.specs.Step.{Steps}
 use Rattle.mr_replica.specs.declared.event.Event.{Event}
 use Rattle.mr_replica.specs.declared.event.Reply.{Reply}
 use Rattle.mr_replica.specs.declared.refusal.Refusal.{Refusal}
 use Rattle.mr_replica.specs.declared.refusal.Refusal.TheVariants as refusal
+use Rattle.mr_replica.proofs.Replies.{step_refused}
 use Rattle.mr_world.specs.Given.{IsGivenBy, KeepsFrames, Gains}
 use Rattle.mr_world.specs.Happens.{with_replica, Fulfils}
 use Rattle.mr_world.specs.Kept.{MemberView}
@@ -23,20 +24,6 @@ no_change : (p : PoolList) → KeepsFrames p p
 no_change p = record { asks = refl; records = refl; receipts = refl }
 
 module _ {K : Type 0} (form : Form K) where
-  abbrev GoesOn : State K → Event → Option Refusal → Result Reply Refusal → State K → Type 0
-  GoesOn s event first answer new = elim first [
-    | Some e ↦ (answer ≡ Err e) × (new ≡ s)
-    | None ↦ Answers form s event answer new
-  ]
-
-  same_state : (s : State K) (event : Event) (first : Option Refusal) (x : Refusal) (new : State K) → GoesOn s event first (Err x) new → new ≡ s
-  same_state s event None x new h = h.1
-  same_state s event (Some e) x new h = h.1
-
-  -- a refusal changes nothing
-  refused_same : (s : State K) (event : Event) (x : Refusal) (new : State K) → Steps form s event (Err x) new → new ≡ s
-  refused_same s event x new h = same_state s event (first_refusal s event) x new h
-
   -- a refusal, as the world has it
   pub refused_so : (s s' : State K) (p : PoolList) (event : Event) (x : Refusal) (result : Result Answer WorldFault) → Steps form s event (Err x) s' → IsRefusedBy x result → StepsIn form s p event result s' p
   refused_so s s' p event x (Ok (Stepped (Err e))) h is =
@@ -44,7 +31,7 @@ module _ {K : Type 0} (form : Form K) where
     where
       same_refusal : (a b : Refusal) → ◌≡◌ {A = Result Reply Refusal} (Err a) (Err b) → a ≡ b
       same_refusal a b k = cc
-  refused_so s s' p event x (Err OutOfMemory) h is = (refused_same s event x s' h, no_change p)
+  refused_so s s' p event x (Err OutOfMemory) h is = (step_refused form s event x s' h, no_change p)
   refused_so s s' p event x (Ok (Stepped (Ok told))) h is = absurd is
   refused_so s s' p event x (Ok answer) h is = absurd is
   refused_so s s' p event x (Err fault) h is = absurd is
