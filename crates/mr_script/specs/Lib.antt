@@ -7,6 +7,7 @@ pub mod Leaving
 pub mod Question
 pub mod Run
 pub mod Script
+pub mod ScriptLines
 pub mod Show
 pub mod Stage
 pub mod Sync

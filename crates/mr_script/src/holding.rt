@@ -11,18 +11,14 @@ use mr_version::{Author, ItemId};
 use std::alloc::{AllocError, Global};
 
 /// `heads R:` and each version after a space.
-pub(crate) fn heads_line(
-    alloc: Global,
-    replica: Author,
-    heads: &[Revision],
-) -> Result<String, AllocError>
+pub fn heads_line(alloc: Global, replica: Author, heads: &[Revision]) -> Result<String, AllocError>
     ensures { IfOk result (λ line. string_bytes line ≡ heads_text replica heads.now) }
 {
     with_versions(format!(in alloc; "heads {replica}:")?, heads)
 }
 
 /// `pushouts R:` and each version after a space.
-pub(crate) fn push_outs_line(
+pub fn push_outs_line(
     alloc: Global,
     replica: Author,
     push_outs: &[Revision],

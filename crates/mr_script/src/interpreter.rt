@@ -240,7 +240,7 @@ fn spec_fault(fault: SpecFault) -> LineFault
 }
 
 /// Whether a line is skipped.
-fn is_skipped(text: &str) -> bool
+pub fn is_skipped(text: &str) -> bool
     ensures { result ≡ is_skipped text.now }
 {
     match text.as_bytes().first() {

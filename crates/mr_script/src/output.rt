@@ -15,7 +15,7 @@ const WAITING_BYTES: usize = 65_536;
 ///
 /// They wait in memory until they are flushed, so that many short answers are one write.
 #[derive(Drop)]
-pub(crate) struct Output {
+pub struct Output {
     waiting: Vec<u8>,
 }
 
@@ -29,7 +29,7 @@ impl Model for Output {
 
 impl Output {
     /// Nothing printed yet.
-    pub(crate) fn new(alloc: Global) -> Output
+    pub fn new(alloc: Global) -> Output
         ensures { result ≡ [] }
     {
         Output {
@@ -38,7 +38,7 @@ impl Output {
     }
 
     /// Adds an answer behind those that wait. Where there is no memory, nothing of it is added.
-    pub(crate) fn push(&mut self, answer: &str) -> Result<(), AllocError>
+    pub fn push(&mut self, answer: &str) -> Result<(), AllocError>
         ensures ok { OnOk result (self.new ≡ self.old ++ answer.now) }
         ensures err { OnErr result (self.new ≡ self.old) }
     {
@@ -52,7 +52,7 @@ impl Output {
 
     /// Writes all that waits, and flushes the writer. The first failure ends it: the writer isn't called
     /// again, and what it had not taken still waits.
-    pub(crate) fn flush<W: Write>(&mut self, writer: &mut W) -> io::Result<()>
+    pub fn flush<W: Write>(&mut self, writer: &mut W) -> io::Result<()>
         ensures settles { Settles (W.contents writer.old) (W.contents writer.new) self.old self.new }
         ensures empty { OnOk result (self.new ≡ []) }
     {

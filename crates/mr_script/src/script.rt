@@ -119,7 +119,10 @@ fn run_lines<K: Knowledge, R: Read + Drop, W: Write>(
 }
 
 /// The script that the reader gives, before its first line.
-fn first_source<R: Read + Drop>(alloc: Global, reader: R) -> Result<Source<R>, ScriptFault>
+pub(crate) fn first_source<R: Read + Drop>(
+    alloc: Global,
+    reader: R,
+) -> Result<Source<R>, ScriptFault>
     ensures counted { IfOk result (λ source. Accounts (R.remaining reader)
         (source_remaining R.remaining source) source.taken) }
     ensures none_taken { IfOk result (λ source. source.taken ≡ 0) }
@@ -218,7 +221,7 @@ fn next_answer<K: Knowledge, R: Read + Drop>(
 }
 
 /// What ends a script whose line of this number can't be had.
-fn source_fault(number: u64, fault: SourceFault) -> ScriptFault
+pub fn source_fault(number: u64, fault: SourceFault) -> ScriptFault
     ensures { result ≡ fault_of_source number fault }
 {
     match fault {

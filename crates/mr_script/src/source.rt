@@ -31,7 +31,7 @@ const READ_BYTES: usize = 65_536;
 
 /// Why there is no next line.
 #[derive(Clone, Copy, Debug, PartialEq, Eq)]
-pub(crate) enum SourceFault {
+pub enum SourceFault {
     OutOfMemory,
     Read,
     TooLong,
