@@ -1,4 +1,5 @@
-/* Stands before a program by LD_PRELOAD, and refuses one of its calls or counts them. The environment says which:
+/* Stands before a program by LD_PRELOAD, and refuses one of its calls or counts them, in whichever thread they are made. The
+   environment says which:
 
      REFUSE=growth:N       the Nth call for memory finds none
      REFUSE=growths:N      neither does any behind it
@@ -6,8 +7,8 @@
      REFUSE=write:N        the Nth write to standard output fails
      REFUSE=interrupted:N  the Nth read of standard input and all behind it are interrupted
      READ_BYTES=N          a read of standard input gives at most so many bytes
-     REFUSED=FILE          this file is made as soon as a call is refused; it says `again` once the next call for
-                           memory is for no more than a refused one was
+     REFUSED=FILE          this file is made as soon as a call is refused; it says `again` once the next call of the same
+                           thread for memory is for no more than a refused one was
      READS=FILE            is told how often standard input was read, as the program ends
      ASKED=FILE            is told, before each write to standard output, how many bytes of memory were asked for
                            since the one before it, the most of them that were held at a time, and how many bytes are
@@ -32,7 +33,7 @@ void __libc_free(void *);
 static const char *refuse_kind = "";
 static unsigned long refuse_at, read_bytes;
 static unsigned long growths, reads, writes;
-static size_t refused_size;
+static __thread size_t refused_size __attribute__((tls_model("initial-exec")));
 static unsigned long asked, held, most_held;
 static int asked_file = -1;
 static int is_ready;
@@ -64,16 +65,19 @@ static int is_growth_refused(size_t size) {
             say_refused("again");
         refused_size = 0;
     }
-    growths++;
-    int is_none_left = growths > refuse_at && strcmp(refuse_kind, "growths") == 0;
-    if (!is_none_left && !is_refused("growth", growths) && !is_refused("growths", growths))
+    unsigned long count = __atomic_add_fetch(&growths, 1, __ATOMIC_SEQ_CST);
+    int is_none_left = count > refuse_at && strcmp(refuse_kind, "growths") == 0;
+    if (!is_none_left && !is_refused("growth", count) && !is_refused("growths", count))
         return 0;
     refused_size = size;
     errno = ENOMEM;
     return 1;
 }
 
+/* What is counted here is told of programs with one thread alone. */
 static void *noted(void *memory, size_t size) {
+    if (asked_file < 0)
+        return memory;
     asked += size;
     if (memory)
         held += malloc_usable_size(memory);
@@ -83,6 +87,8 @@ static void *noted(void *memory, size_t size) {
 }
 
 static void let_go(void *memory) {
+    if (asked_file < 0)
+        return;
     size_t size = memory ? malloc_usable_size(memory) : 0;
     held = size < held ? held - size : 0;
 }

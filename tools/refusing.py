@@ -57,7 +57,7 @@ def library():
 class Run:
     """What a run came to."""
 
-    def __init__(self, words, given=b"", refuse=None, asked=None, read_bytes=None):
+    def __init__(self, words, given=b"", refuse=None, asked=None, read_bytes=None, seconds=None):
         refused, reads = room / "refused", room / "reads"
         refused.unlink(missing_ok=True)
         reads.unlink(missing_ok=True)
@@ -68,8 +68,12 @@ class Run:
             env["ASKED"] = str(asked)
         if read_bytes:
             env["READ_BYTES"] = str(read_bytes)
-        ran = subprocess.run([str(word) for word in words], input=given, capture_output=True, env=env)
-        self.out, self.err, self.status = ran.stdout, ran.stderr, ran.returncode
+        words = [str(word) for word in words]
+        try:
+            ran = subprocess.run(words, input=given, capture_output=True, env=env, timeout=seconds)
+            self.out, self.err, self.status = ran.stdout, ran.stderr, ran.returncode
+        except subprocess.TimeoutExpired:
+            self.out, self.err, self.status = b"", b"no end in %d seconds" % seconds, None
         self.is_refused = refused.exists()
         self.is_asked_again = self.is_refused and refused.read_text() == "again"
         self.reads = int(reads.read_text()) if reads.exists() else None
