@@ -10,13 +10,14 @@ use Rattle.std.specs.Prelude.{map, replicate}
 use Rattle.std.proofs.lemmas.List.Concat.{flat_map-cons}
 use Rattle.mr_replica.specs.declared.event.Event.{Event}
 use Rattle.mr_replica.specs.declared.event.Event.TheVariants.{Next}
+use Rattle.mr_replica.specs.declared.replica.TheConstants.{MAX_EVENTS}
 use Rattle.mr_entry.specs.Head.{HeadParts}
 use Rattle.mr_entry.specs.Events.{events_of, events_of_entry}
 use Rattle.mr_entry.specs.Grammar.{IsEntry, Spells}
 use Rattle.mr_entry.specs.Spelling.{entry_bytes}
 use Rattle.mr_entry.specs.declared.entry.Entry.{Entry}
 use Rattle.mr_entry.specs.declared.entry.Entry.TheVariants as entry
-use Rattle.mr_kept.specs.Entries.{AreCounted, AreSpelled, HasCounter, counted, entries_of, issued_after}
+use Rattle.mr_kept.specs.Entries.{AllBelong, AreSpelled, Belongs, counted, entries_of, issued_after}
 
 -- ---- lists
 
@@ -64,7 +65,7 @@ issued_append n (x ∷ xs) ys = issued_append (counted n x) xs ys
 
 -- ---- what entries tell
 
-events_cons : (x : Entry) (xs : List Entry) → events_of (x ∷ xs) ≡ events_of_entry x ++ events_of xs
+pub events_cons : (x : Entry) (xs : List Entry) → events_of (x ∷ xs) ≡ events_of_entry x ++ events_of xs
 events_cons x xs = flat_map-cons events_of_entry x xs
 
 pub events_append : (xs ys : List Entry) → events_of (xs ++ ys) ≡ events_of xs ++ events_of ys
@@ -87,11 +88,22 @@ events_are n (x ∷ xs) = events_cons (entry.Event (counted n x) x) (entries_of 
 
 -- ---- counters
 
-pub counted_append : (n : ℕ) (xs : List Entry) (y : Entry) → AreCounted n xs → HasCounter (issued_after n (events_of xs)) y → AreCounted n (xs ++ y ∷ [])
-counted_append n [] y h k = (k, tt)
-counted_append n (x ∷ xs) y h k =
+pub belong_append : (n : ℕ) (xs : List Entry) (y : Entry) → AllBelong n xs → Belongs (issued_after n (events_of xs)) y → AllBelong n (xs ++ y ∷ [])
+belong_append n [] y h k = (k, tt)
+belong_append n (x ∷ xs) y h k =
     let same : issued_after n (events_of (x ∷ xs)) ≡ issued_after (issued_after n (events_of_entry x)) (events_of xs) = ap (issued_after n) (events_cons x xs) ∙ issued_append n (events_of_entry x) (events_of xs) in
-    (h.0, counted_append (issued_after n (events_of_entry x)) xs y h.1 (subst (λ (m : ℕ). HasCounter m y) same k))
+    (h.0, belong_append (issued_after n (events_of_entry x)) xs y h.1 (subst (λ (m : ℕ). Belongs m y) same k))
+
+pub all_belong : (n : ℕ) (xs ys : List Entry) → AllBelong n xs → AllBelong (issued_after n (events_of xs)) ys → AllBelong n (xs ++ ys)
+all_belong n [] ys h k = k
+all_belong n (x ∷ xs) ys h k =
+    let same : issued_after n (events_of (x ∷ xs)) ≡ issued_after (issued_after n (events_of_entry x)) (events_of xs) = ap (issued_after n) (events_cons x xs) ∙ issued_append n (events_of_entry x) (events_of xs) in
+    (h.0, all_belong (issued_after n (events_of_entry x)) xs ys h.1 (subst (λ (m : ℕ). AllBelong m ys) same k))
+
+-- the entries of events belong where they stand
+pub events_belong : (n : ℕ) (events : List Event) → AllBelong n (entries_of n events)
+events_belong n [] = tt
+events_belong n (event ∷ events) = (refl, events_belong (counted n event) events)
 
 -- ---- loops
 
@@ -119,34 +131,36 @@ batch_more n events i e texts text count now so_far within is now_is spells =
 pub record GatheredSoFar (texts : List (List ℕ)) (events : List Event) (issued : ℕ) : Type 0 where
   pub list : List Entry
   pub spelled : AreSpelled list texts
-  pub counted_are : AreCounted 0 list
+  pub belong : AllBelong 0 list
+  pub few : length events ≤ MAX_EVENTS + 1
   pub events_told : events_of list ≡ events
   pub issued_is : issued ≡ issued_after 0 events
 
 pub gathered_none : GatheredSoFar [] [] 0
-gathered_none = record { list = []; spelled = record { in_grammar = tt; written = refl }; counted_are = tt; events_told = refl; issued_is = refl }
+gathered_none = record { list = []; spelled = record { in_grammar = tt; written = refl }; belong = tt; few = omega arith; events_told = refl; issued_is = refl }
 
 gathered_more : (texts : List (List ℕ)) (events after : List Event) (issued now : ℕ) (e : Entry) (text : List ℕ) → GatheredSoFar texts events issued → Spells e text → after ≡ events ++ events_of_entry e
-    → now ≡ issued_after issued (events_of_entry e) → HasCounter issued e → GatheredSoFar (texts ++ text ∷ []) after now
-gathered_more texts events after issued now e text so_far spells after_is now_is counter =
+    → now ≡ issued_after issued (events_of_entry e) → Belongs issued e → length after ≤ MAX_EVENTS + 1 → GatheredSoFar (texts ++ text ∷ []) after now
+gathered_more texts events after issued now e text so_far spells after_is now_is belongs few =
     let told : events_of (so_far.list ++ e ∷ []) ≡ after =
     events_append so_far.list (e ∷ []) ∙ ap (λ (l : List Event). l ++ events_of (e ∷ [])) so_far.events_told ∙ ap (λ (l : List Event). events ++ l) (events_one e) ∙ sym after_is in
     record {
       list = so_far.list ++ e ∷ [];
       spelled = spelled_append so_far.list (e ∷ []) texts (text ∷ []) so_far.spelled (spelled_one e text spells.in_grammar spells.written);
-      counted_are = counted_append 0 so_far.list e so_far.counted_are (subst (λ (m : ℕ). HasCounter m e) (so_far.issued_is ∙ ap (issued_after 0) (sym so_far.events_told)) counter);
+      belong = belong_append 0 so_far.list e so_far.belong (subst (λ (m : ℕ). Belongs m e) (so_far.issued_is ∙ ap (issued_after 0) (sym so_far.events_told)) belongs);
+      few = few;
       events_told = told;
       issued_is = now_is ∙ ap (λ (m : ℕ). issued_after m (events_of_entry e)) so_far.issued_is ∙ sym (issued_append 0 events (events_of_entry e)) ∙ ap (issued_after 0) (sym after_is);
     }
 
 -- one entry more of those that are read
 pub gathered_next : (entries : List (Vec ℕ Global)) (i : ℕ) (bytes : Vec ℕ Global) (events after : List Event) (issued now : ℕ) (e : Entry) → GatheredSoFar (contents (take i entries)) events issued
-    → i < length entries → bytes ≡ get_or entries i bytes → Spells e bytes.items → after ≡ events ++ events_of_entry e → now ≡ issued_after issued (events_of_entry e) → HasCounter issued e
-    → GatheredSoFar (contents (take (i + 1) entries)) after now
-gathered_next entries i bytes events after issued now e so_far within is spells after_is now_is counter =
+    → i < length entries → bytes ≡ get_or entries i bytes → Spells e bytes.items → after ≡ events ++ events_of_entry e → now ≡ issued_after issued (events_of_entry e) → Belongs issued e
+    → length after ≤ MAX_EVENTS + 1 → GatheredSoFar (contents (take (i + 1) entries)) after now
+gathered_next entries i bytes events after issued now e so_far within is spells after_is now_is belongs few =
     let run : take (i + 1) entries ≡ take i entries ++ bytes ∷ [] = take_more entries i bytes within ∙ ap (λ (y : Vec ℕ Global). take i entries ++ y ∷ []) (sym is) in
     let texts : contents (take i entries) ++ bytes.items ∷ [] ≡ contents (take (i + 1) entries) = sym (contents_append (take i entries) (bytes ∷ [])) ∙ ap contents (sym run) in
-    subst (λ (l : List (List ℕ)). GatheredSoFar l after now) texts (gathered_more (contents (take i entries)) events after issued now e bytes.items so_far spells after_is now_is counter)
+    subst (λ (l : List (List ℕ)). GatheredSoFar l after now) texts (gathered_more (contents (take i entries)) events after issued now e bytes.items so_far spells after_is now_is belongs few)
 
 -- a run of Nexts issues no version
 pub run_issues : (n stream count : ℕ) → issued_after n (replicate count (Next stream)) ≡ n

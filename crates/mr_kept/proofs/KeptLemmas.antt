@@ -19,16 +19,26 @@ use Rattle.mr_replica.specs.State.{State}
 use Rattle.mr_replica.specs.declared.event.Event.{Event}
 use Rattle.mr_journal.specs.declared.journal.Journal.{Journal}
 use Rattle.mr_kept.specs.declared.journaled.Journaled.{Journaled}
-use Rattle.mr_kept.specs.Entries.{AreSpelled, entries_of, issued_after}
-use Rattle.mr_kept.specs.Kept.{IsKept, issued_of, journal_of, kept_of, replica_of, waiting}
-use Rattle.mr_kept.proofs.EntryLemmas.{all_spelled, bytes_append, events_append, events_are, events_head, issued_append}
+use Rattle.mr_kept.specs.Entries.{AllBelong, AreSpelled, entries_of, issued_after}
+use Rattle.mr_kept.specs.Kept.{AreHeaded, IsKept, head_of, issued_of, journal_of, kept_of, replica_of, waiting}
+use Rattle.mr_kept.proofs.EntryLemmas.{all_belong, all_spelled, bytes_append, events_append, events_are, events_belong, events_head, issued_append}
+
+-- entries of events behind those that are there
+pub headed_more : (head new : HeadParts) (entries : List Entry) (issued : ℕ) (events : List Event) → new ≡ head → issued ≡ issued_after 0 (events_of entries) → AreHeaded head entries → AreHeaded new (entries ++ entries_of issued events)
+headed_more head new entries issued events same is h =
+    let count : issued ≡ issued_after 0 (events_of h.behind) = is ∙ ap (λ (l : List Entry). issued_after 0 (events_of l)) h.first ∙ ap (issued_after 0) (events_head head h.behind) in
+    record {
+      behind = h.behind ++ entries_of issued events;
+      first = ap (λ (l : List Entry). l ++ entries_of issued events) h.first ∙ ap (λ (x : HeadParts). entry.Head x ∷ (h.behind ++ entries_of issued events)) (sym same);
+      belong = all_belong 0 h.behind (entries_of issued events) h.belong (subst (λ (n : ℕ). AllBelong n (entries_of issued events)) count (events_belong issued events));
+    }
 
 module _ {K D V : Type 0} {seen : D → List ℕ} {may_leave : D → List ℕ → Type 0} where
   -- the entries of the events that waited join those before
   pub kept_after : (entries : List Entry) (old new : Journaled K D V) (batch : List (List ℕ)) → IsKept seen may_leave entries old → AreSpelled (entries_of (issued_of old) (waiting old)) batch
-      → Keeps seen may_leave (map entry_bytes entries ++ batch) (journal_of new) → replica_of new ≡ replica_of old → kept_of new ≡ length (replica_of old).log → issued_of new ≡ issued_after (issued_of old) (waiting old)
+      → Keeps seen may_leave (map entry_bytes entries ++ batch) (journal_of new) → head_of new ≡ head_of old → replica_of new ≡ replica_of old → kept_of new ≡ length (replica_of old).log → issued_of new ≡ issued_after (issued_of old) (waiting old)
       → IsKept seen may_leave (entries ++ entries_of (issued_of old) (waiting old)) new
-  kept_after entries old new batch h spelled keeps replica kept issued =
+  kept_after entries old new batch h spelled keeps head replica kept issued =
       let log : List Event = (replica_of old).log in
       let more : List Entry = entries_of (issued_of old) (waiting old) in
       let log_is : (replica_of new).log ≡ log = ap (λ (s : State K). s.log) replica in
@@ -38,6 +48,7 @@ module _ {K D V : Type 0} {seen : D → List ℕ} {may_leave : D → List ℕ �
       let all : take (kept_of new) (replica_of new).log ≡ log = ap (λ (n : ℕ). take n (replica_of new).log) kept ∙ ap (take (length log)) log_is ∙ take-length log in
       record {
         in_grammar = all_spelled entries more h.in_grammar spelled.in_grammar;
+        order = headed_more (head_of old) (head_of new) entries (issued_of old) (waiting old) head h.counted h.order;
         device = subst (λ (l : List (List ℕ)). Keeps seen may_leave l (journal_of new)) bytes keeps;
         within = le-leb (kept_of new) (length (replica_of new).log) (omega (arith, kept, ap length log_is));
         events = told ∙ sym all;
@@ -45,33 +56,18 @@ module _ {K D V : Type 0} {seen : D → List ℕ} {may_leave : D → List ℕ �
             ∙ ap (issued_after 0) (ap (λ (l : List Event). l ++ waiting old) h.events ∙ take-append-drop (kept_of old) log ∙ sym told);
       }
 
-  -- a head, and the entries behind it
-  pub kept_replayed : (head : HeadParts) (list : List Entry) (j : Journaled K D V) (first : List ℕ) (texts : List (List ℕ)) (events : List Event) → IsEntry (entry.Head head) → first ≡ entry_bytes (entry.Head head)
-      → AreSpelled list texts → Keeps seen may_leave (first ∷ texts) (journal_of j) → events_of list ≡ events → (replica_of j).log ≡ events → kept_of j ≡ length events → issued_of j ≡ issued_after 0 events
-      → IsKept seen may_leave (entry.Head head ∷ list) j
-  kept_replayed head list j first texts events is first_is spelled keeps list_told log kept issued =
-      let bytes : first ∷ texts ≡ map entry_bytes (entry.Head head ∷ list) = ap (λ (t : List ℕ). t ∷ texts) first_is ∙ ap (λ (l : List (List ℕ)). entry_bytes (entry.Head head) ∷ l) spelled.written in
-      let told : events_of (entry.Head head ∷ list) ≡ events = events_head head list ∙ list_told in
-      let all : take (kept_of j) (replica_of j).log ≡ events = ap (λ (n : ℕ). take n (replica_of j).log) kept ∙ ap (take (length events)) log ∙ take-length events in
-      record {
-        in_grammar = (is, spelled.in_grammar);
-        device = subst (λ (l : List (List ℕ)). Keeps seen may_leave l (journal_of j)) bytes keeps;
-        within = le-leb (kept_of j) (length (replica_of j).log) (omega (arith, kept, ap length log));
-        events = told ∙ sym all;
-        counted = issued ∙ ap (issued_after 0) (sym told);
-      }
-
   -- a crash leaves the entries
   pub stands_now : (entries : List Entry) (j : Journaled K D V) → IsKept seen may_leave entries j → (c : List ℕ) → may_leave (device_of (journal_of j)) c → Stands (map entry_bytes entries) c
   stands_now entries j kept c left = inl (record { front = kept.device.front; left = []; batches = kept.device.batches; file_is = kept.device.rests.durable c left })
 
   -- the replica has gone on, and the journal is as it was
-  pub kept_on : (entries : List Entry) (old new : Journaled K D V) (more : List Event) → IsKept seen may_leave entries old → journal_of new ≡ journal_of old → kept_of new ≡ kept_of old → issued_of new ≡ issued_of old
+  pub kept_on : (entries : List Entry) (old new : Journaled K D V) (more : List Event) → IsKept seen may_leave entries old → journal_of new ≡ journal_of old → head_of new ≡ head_of old → kept_of new ≡ kept_of old → issued_of new ≡ issued_of old
       → (replica_of new).log ≡ (replica_of old).log ++ more → IsKept seen may_leave entries new
-  kept_on entries old new more h journal kept issued log =
+  kept_on entries old new more h journal head kept issued log =
       let within : kept_of old ≤ length (replica_of old).log = leb-true (kept_of old) (length (replica_of old).log) h.within in
       record {
         in_grammar = h.in_grammar;
+        order = subst (λ (x : HeadParts). AreHeaded x entries) (sym head) h.order;
         device = subst (λ (j : Journal D). Keeps seen may_leave (map entry_bytes entries) j) (sym journal) h.device;
         within = le-leb (kept_of new) (length (replica_of new).log) (omega (arith, within, kept, ap length log, length-append (replica_of old).log more));
         events = h.events ∙ sym (ap (λ (n : ℕ). take n (replica_of new).log) kept ∙ ap (take (kept_of old)) log ∙ take-append-le (kept_of old) (replica_of old).log more within);

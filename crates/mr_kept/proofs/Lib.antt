@@ -5,3 +5,6 @@ pub mod CloseLemmas
 pub mod IssuedLemmas
 pub mod OpenLemmas
 pub mod RefusingLemmas
+pub mod LogLemmas
+pub mod WholeLemmas
+pub mod LeftLemmas

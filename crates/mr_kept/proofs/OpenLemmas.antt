@@ -25,7 +25,7 @@ use Rattle.mr_replica.specs.declared.event.Event.{Event}
 use Rattle.mr_replica.proofs.Replaying.{step_setting}
 use Rattle.mr_kept.specs.declared.journaled.Journaled.{Journaled}
 use Rattle.mr_kept.specs.Closing.{AreClosed, IsCut, IsFull, Takes, closers}
-use Rattle.mr_kept.specs.Entries.{AreCounted, AreSpelled, entries_of, issued_after}
+use Rattle.mr_kept.specs.Entries.{AreInOrder, AreSpelled, entries_of, issued_after}
 use Rattle.mr_kept.specs.Kept.{IsKept, Tells, head_of, issued_of, journal_of, kept_of, nothing_waits, replica_of, waiting}
 use Rattle.mr_kept.specs.Opening.{Begins, GoesOn, HasCut, IsClosedIn, IsReplayed, Reopens}
 use Rattle.mr_kept.proofs.CloseLemmas.{same_setting, setting_on, taken_cuts}
@@ -41,7 +41,7 @@ module _ {K : Type 0} (form : Form K) where
   all_setting s new (event ∷ events) h = setting_on s h.0 new (step_setting form s h.0 event (Ok h.1.0) h.1.1) (all_setting h.0 new events h.2)
 
   -- a replica that was replayed is of the id, the filter and the limit that it was replayed with
-  replayed_setting : (id : ℕ) (filter : List ClauseParts) (event_limit : ℕ) (events : List Event) (s : State K) → Replays form id filter event_limit events s → (s.id ≡ id) × (s.event_limit ≡ event_limit)
+  pub replayed_setting : (id : ℕ) (filter : List ClauseParts) (event_limit : ℕ) (events : List Event) (s : State K) → Replays form id filter event_limit events s → (s.id ≡ id) × (s.event_limit ≡ event_limit)
   replayed_setting id filter event_limit events s h =
       let same = all_setting h.fresh s events h.admits in
       let fresh = h.is_fresh.is_empty in
@@ -54,14 +54,14 @@ module _ {K : Type 0} (form : Form K) where
 
   -- a head and what was gathered behind it
   pub is_replayed : (entries rest : List (Vec ℕ Global)) (first : Vec ℕ Global) (head : HeadParts) (list : List Entry) (filter : List ClauseParts) (events : List Event) (kept issued : ℕ) (s : State K)
-      → contents entries ≡ first.items ∷ contents rest → Spells (entry.Head head) first.items → AreSpelled list (contents rest) → AreCounted 0 list → events_of list ≡ events → issued ≡ issued_after 0 events
+      → contents entries ≡ first.items ∷ contents rest → Spells (entry.Head head) first.items → AreSpelled list (contents rest) → AreInOrder list → events_of list ≡ events → issued ≡ issued_after 0 events
       → Reads head.filter filter → kept ≡ length events → Replays form head.id filter head.event_limit events s → s.log ≡ events → IsReplayed form (contents entries) head s kept issued
-  is_replayed entries rest first head list filter events kept issued s texts spells spelled counted told issued_is reads kept_is replays log =
+  is_replayed entries rest first head list filter events kept issued s texts spells spelled order told issued_is reads kept_is replays log =
       let same : s.filter ≡ filter = replayed_filter head.id filter head.event_limit events s replays in
       record {
         entries = list;
         spelled = record { in_grammar = (spells.in_grammar, spelled.in_grammar); written = texts ∙ ap (λ (t : List ℕ). t ∷ contents rest) spells.written ∙ ap (λ (l : List (List ℕ)). entry_bytes (entry.Head head) ∷ l) spelled.written };
-        counted = counted;
+        order = order;
         filter = subst (λ (f : List ClauseParts). Reads head.filter f) (sym same) reads;
         replays = subst (λ (f : List ClauseParts). Replays form head.id f head.event_limit (events_of list) s) (sym same) (subst (λ (l : List Event). Replays form head.id filter head.event_limit l s) (sym told) replays);
         log_is = log ∙ sym told;
@@ -97,6 +97,7 @@ module _ {K D V : Type 0} {seen : D → List ℕ} {may_leave : D → List ℕ �
       let len : kept_of j ≡ length log = is.kept_is ∙ ap length (sym is.log_is) in
       record {
         in_grammar = is.spelled.in_grammar;
+        order = record { behind = is.entries; first = refl; belong = is.order.belong };
         device = subst (λ (l : List (List ℕ)). Keeps seen may_leave l (journal_of j)) is.spelled.written keeps;
         within = le-leb (kept_of j) (length log) (omega (arith, len));
         events = told ∙ sym (ap (λ (n : ℕ). take n log) len ∙ take-length log);
@@ -111,6 +112,7 @@ module _ {K D V : Type 0} {seen : D → List ℕ} {may_leave : D → List ℕ �
       subst (λ (h : HeadParts). IsKept seen may_leave (entry.Head h ∷ []) j) (sym same)
       (record {
         in_grammar = (is, tt);
+        order = record { behind = []; first = ap (λ (h : HeadParts). entry.Head h ∷ []) (sym same); belong = tt };
         device = subst (λ (l : List (List ℕ)). Keeps seen may_leave l (journal_of j)) bytes keeps;
         within = le-leb (kept_of j) (length (replica_of j).log) (omega (arith, kept));
         events = sym (ap (λ (n : ℕ). take n (replica_of j).log) kept);
@@ -120,9 +122,9 @@ module _ {K D V : Type 0} {seen : D → List ℕ} {may_leave : D → List ℕ �
   -- ---- what closes
 
   -- before what closes is kept
-  pub kept_mid : (entries : List Entry) (old mid : Journaled K D V) (all : Bool) → IsKept seen may_leave entries old → journal_of mid ≡ journal_of old → kept_of mid ≡ kept_of old → issued_of mid ≡ issued_of old
+  pub kept_mid : (entries : List Entry) (old mid : Journaled K D V) (all : Bool) → IsKept seen may_leave entries old → journal_of mid ≡ journal_of old → head_of mid ≡ head_of old → kept_of mid ≡ kept_of old → issued_of mid ≡ issued_of old
       → Takes (closers (replica_of old)) all (replica_of old) (replica_of mid) → IsKept seen may_leave entries mid
-  kept_mid entries old mid all h journal kept issued takes = kept_on entries old mid takes.more h journal kept issued takes.log_is
+  kept_mid entries old mid all h journal head kept issued takes = kept_on entries old mid takes.more h journal head kept issued takes.log_is
 
   -- and once it is
   pub closed_in : (entries : List Entry) (old mid new : Journaled K D V) (all : Bool) → IsKept seen may_leave entries old → nothing_waits old ≡ true → kept_of mid ≡ kept_of old → issued_of mid ≡ issued_of old
@@ -182,7 +184,7 @@ module _ {K D V : Type 0} {seen : D → List ℕ} {may_leave : D → List ℕ �
       record {
         entries = is.entries;
         stood = subst (λ (h : HeadParts). Stands (map entry_bytes (entry.Head h ∷ is.entries)) file) (sym same) text;
-        counted = is.counted;
+        order = is.order;
         replica = s;
         tells = subst (λ (h : HeadParts). Tells h s) (sym same) tells;
         replays = subst (λ (n : ℕ). Replays form n s.filter s.event_limit (events_of is.entries) s) (sym setting.0) (subst (λ (n : ℕ). Replays form head.id s.filter n (events_of is.entries) s) (sym setting.1) is.replays);

@@ -1,15 +1,76 @@
--- bytes that are no entry
-use Rattle.std.proofs.Common.{Ok, Err, ◌≡◌, ℕ, List, [], ◌++◌, length, sym, ap, append-nil}
-use Rattle.std.specs.Prelude.{◌≢◌}
-use Rattle.mr_entry.specs.Decoding.{Answers, Read}
+-- what is wrong with bytes that are no entry, or no entry that belongs where it stands
+use Rattle.std.proofs.Common.{◌≡◌, ◌⊎◌, Result, Err, refl, ℕ, ◌+◌, ◌<◌, ◌≤◌, List, [], ◌∷◌, ◌++◌, length, take, drop, get_or, arith, sym, ap, subst, ◌∙◌, length-drop}
+use Rattle.std.proofs.lemmas.List.{drop_more, length-map, length-take-le, take-append-drop}
+use Rattle.std.specs.Prelude.{◌≢◌, Option, Vec, map}
+use Rattle.std.specs.declared.alloc.Global.{Global}
+use Rattle.mr_filter.specs.Filter.{ClauseParts}
+use Rattle.mr_forms.specs.Known.{Form}
+use Rattle.mr_replica.specs.Replay.{IsReplayFault, RefusesReplay}
+use Rattle.mr_replica.specs.declared.replica.replay.ReplayFault.{ReplayFault}
+use Rattle.mr_replica.specs.declared.replica.replay.ReplayFault.TheVariants as replay
+use Rattle.mr_journal.specs.Format.{contents}
+use Rattle.mr_entry.specs.Events.{events_of}
 use Rattle.mr_entry.specs.Grammar.{Spells}
+use Rattle.mr_entry.specs.Head.{HeadParts}
+use Rattle.mr_entry.specs.Spelling.{entry_bytes}
 use Rattle.mr_entry.specs.declared.entry.Entry.{Entry}
+use Rattle.mr_entry.specs.declared.entry.Entry.TheVariants as entry
+use Rattle.mr_replica.specs.declared.event.Event.{Event}
+use Rattle.mr_replica.specs.declared.replica.TheConstants.{MAX_EVENTS}
+use Rattle.mr_kept.specs.declared.fault.OpenFault.{OpenFault}
+use Rattle.mr_kept.specs.declared.fault.OpenFault.TheVariants as fault
+use Rattle.mr_kept.specs.Entries.{issued_after}
+use Rattle.mr_kept.specs.Opening.{IsOfOther, IsOfPlace}
+use Rattle.mr_kept.specs.Refusing.{IsBehindHead, IsLonger, IsNoHead, IsNoReplay, IsRefused, IsWrong, StopsAt}
+use Rattle.mr_kept.proofs.EntryLemmas.{GatheredSoFar, contents_append}
 
-abbrev used_of : Read → ℕ
-used_of (Ok found) = found.1
-used_of (Err why) = 0
+-- what was read is only the front of the bytes
+pub is_longer : (bytes : List ℕ) (found : Entry) (used : ℕ) → Spells found (take used bytes) → used ≤ length bytes → used ≢ length bytes → IsLonger bytes
+is_longer bytes found used spells within other = record {
+  found = found;
+  front = take used bytes;
+  left = drop used bytes;
+  spells = spells;
+  text_is = sym (take-append-drop used bytes);
+  some = λ none. other (omega (arith, within, ap length none, length-drop used bytes));
+}
 
--- where what was read is only the front of the bytes, they are no entry
-pub no_entry : (bytes : List ℕ) (found : Entry) (used : ℕ) → ((e : Entry) (text more : List ℕ) → Spells e text → bytes ≡ text ++ more → Answers (Ok (e, length text)) (Ok (found, used)))
-    → used ≢ length bytes → (e : Entry) → Spells e bytes → ⊥
-no_entry bytes found used whole other e spells = other (sym (ap used_of (whole e bytes [] spells (sym (append-nil bytes)))))
+wrong_as : (place at issued n count m : ℕ) (text : List ℕ) (why : OpenFault) → place ≡ at → issued ≡ n → count ≡ m → IsWrong place issued count text why → IsWrong at n m text why
+wrong_as place at issued n count m text why at_is n_is m_is wrong =
+    subst (λ (k : ℕ). IsWrong at n k text why) m_is (subst (λ (k : ℕ). IsWrong at k count text why) n_is (subst (λ (k : ℕ). IsWrong k issued count text why) at_is wrong))
+
+-- the text that comes next is wrong
+pub stops_at : (entries : List (Vec ℕ Global)) (i place : ℕ) (bytes : Vec ℕ Global) (events : List Event) (issued : ℕ) (why : OpenFault) → GatheredSoFar (contents (take i entries)) events issued
+    → i < length entries → bytes ≡ get_or entries i bytes → place ≡ i + 1 → IsWrong place issued (length events) bytes.items why → StopsAt (contents entries) why
+stops_at entries i place bytes events issued why so_far within is place_is wrong =
+    let front : List (Vec ℕ Global) = take i entries in
+    let behind : List (Vec ℕ Global) = drop (i + 1) entries in
+    let list : List Entry = so_far.list in
+    let all : entries ≡ front ++ bytes ∷ behind =
+    sym (take-append-drop i entries) ∙ ap (λ (l : List (Vec ℕ Global)). front ++ l) (drop_more entries i bytes within ∙ ap (λ (y : Vec ℕ Global). y ∷ behind) (sym is)) in
+    let count : length list ≡ i =
+    sym (length-map list entry_bytes) ∙ ap length (sym so_far.spelled.written) ∙ length-map front (λ (v : Vec ℕ Global). v.items) ∙ length-take-le i entries (omega (arith, within)) in
+    record {
+      before = list;
+      text = bytes.items;
+      left = contents behind;
+      all = ap contents all ∙ contents_append front (bytes ∷ behind) ∙ ap (λ (l : List (List ℕ)). l ++ bytes.items ∷ contents behind) so_far.spelled.written;
+      in_grammar = so_far.spelled.in_grammar;
+      order = record { belong = so_far.belong; few = subst (λ (l : List Event). length l ≤ MAX_EVENTS + 1) (sym so_far.events_told) so_far.few };
+      wrong = wrong_as place (length list + 1) issued (issued_after 0 (events_of list)) (length events) (length (events_of list)) bytes.items why (omega (arith, place_is, count))
+          (so_far.issued_is ∙ ap (issued_after 0) (sym so_far.events_told)) (ap length (sym so_far.events_told)) wrong;
+    }
+
+-- what is refused is refused for the first text, or behind it
+pub refused_at : {K : Type 0} (form : Form K) (texts rest : List (List ℕ)) (text mark : List ℕ) (birth : Option (List ℕ)) (why : OpenFault) → texts ≡ text ∷ rest
+    → IsNoHead text why ⊎ ((head : HeadParts) × Spells (entry.Head head) text × (IsOfOther head mark birth why ⊎ (IsOfPlace head mark birth × IsBehindHead form head rest why))) → IsRefused form texts mark birth why
+refused_at form texts rest text mark birth why is h = subst (λ (l : List (List ℕ)). IsRefused form l mark birth why) (sym is) h
+
+-- why the events make no replica
+module _ {K : Type 0} (form : Form K) where
+  pub no_replay : {S : Type 0} (head : HeadParts) (filter : List ClauseParts) (events given : List Event) (id limit : ℕ) (why : ReplayFault) → id ≡ head.id → limit ≡ head.event_limit → events ≡ given
+      → (◌≡◌ {A = Result S ReplayFault} (Err why) (Err replay.BadLimit) → ¬ ((1 ≤ limit) × (limit ≤ MAX_EVENTS))) → IsReplayFault form id filter limit given why → IsNoReplay form head filter events (fault.Replay why)
+  no_replay head filter events given id limit replay.BadLimit id_is limit_is same bad h = subst (λ (n : ℕ). ¬ ((1 ≤ n) × (n ≤ MAX_EVENTS))) limit_is (bad refl)
+  no_replay head filter events given id limit (replay.Refused place refusal) id_is limit_is same bad h =
+      subst (λ (n : ℕ). RefusesReplay form n filter head.event_limit events place refusal) id_is
+      (subst (λ (n : ℕ). RefusesReplay form id filter n events place refusal) limit_is (subst (λ (l : List Event). RefusesReplay form id filter limit l place refusal) (sym same) h))

@@ -1,9 +1,10 @@
 -- the entries of events, and how many versions were issued by then
-use Rattle.std.specs.Prelude.{◌≡◌, ◌+◌, ℕ, List, [], ◌∷◌, map}
+use Rattle.std.specs.Prelude.{◌≡◌, ◌+◌, ◌≤◌, ℕ, List, [], ◌∷◌, length, map}
 use Rattle.std.specs.List.{AllByRecursion}
 use Rattle.mr_replica.specs.declared.event.Event.{Event}
 use Rattle.mr_replica.specs.declared.event.Event.TheVariants.{Create, Edit, Retire, Pull, Receive, CutIn, Answer, Next, CutOut, Vouch, Release}
-use Rattle.mr_entry.specs.Events.{events_of_entry}
+use Rattle.mr_replica.specs.declared.replica.TheConstants.{MAX_EVENTS}
+use Rattle.mr_entry.specs.Events.{events_of, events_of_entry}
 use Rattle.mr_entry.specs.Grammar.{IsEntry}
 use Rattle.mr_entry.specs.Spelling.{entry_bytes}
 use Rattle.mr_entry.specs.declared.entry.Entry.{Entry}
@@ -33,17 +34,22 @@ abbrev pub entries_of : ℕ → List Event → List Entry
 entries_of issued [] = []
 entries_of issued (event ∷ events) = entry.Event (counted issued event) event ∷ entries_of (counted issued event) events
 
--- Of an event the count is the one that the events up to it make.
-abbrev pub HasCounter : ℕ → Entry → Type 0
-HasCounter issued (entry.Head h) = Unit {0}
-HasCounter issued (entry.Event count event) = count ≡ counted issued event
-HasCounter issued (entry.Nexts stream count) = Unit {0}
-HasCounter issued (entry.Note n) = Unit {0}
+-- Behind so many issued versions the entry belongs: it is no head, and of an event the count is the one that the events up to it make.
+abbrev pub Belongs : ℕ → Entry → Type 0
+Belongs issued (entry.Head h) = ⊥
+Belongs issued (entry.Event count event) = count ≡ counted issued event
+Belongs issued (entry.Nexts stream count) = Unit {0}
+Belongs issued (entry.Note n) = Unit {0}
 
--- so it is of each of these
-abbrev pub AreCounted : ℕ → List Entry → Type 0
-AreCounted issued [] = Unit {0}
-AreCounted issued (x ∷ xs) = HasCounter issued x × AreCounted (issued_after issued (events_of_entry x)) xs
+-- so does each of these behind those before it
+abbrev pub AllBelong : ℕ → List Entry → Type 0
+AllBelong issued [] = Unit {0}
+AllBelong issued (x ∷ xs) = Belongs issued x × AllBelong (issued_after issued (events_of_entry x)) xs
+
+-- they stand behind a head: each belongs where it stands, and they tell no more events than a log may have
+pub record AreInOrder (entries : List Entry) : Type 0 where
+  pub belong : AllBelong 0 entries
+  pub few : length (events_of entries) ≤ MAX_EVENTS + 1
 
 -- the byte strings are these entries, one for each
 pub record AreSpelled (entries : List Entry) (texts : List (List ℕ)) : Type 0 where

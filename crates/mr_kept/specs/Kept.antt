@@ -10,19 +10,26 @@ use Rattle.mr_entry.specs.Events.{events_of}
 use Rattle.mr_entry.specs.Grammar.{IsEntry}
 use Rattle.mr_entry.specs.Spelling.{entry_bytes}
 use Rattle.mr_entry.specs.declared.entry.Entry.{Entry}
+use Rattle.mr_entry.specs.declared.entry.Entry.TheVariants as entry
 use Rattle.mr_replica.specs.State.{State}
 use Rattle.mr_replica.specs.declared.event.Event.{Event}
 use Rattle.mr_replica.specs.declared.event.Reply.{Reply}
 use Rattle.mr_kept.specs.declared.fault.KeptFault.{KeptFault}
 use Rattle.mr_kept.specs.declared.journaled.Journaled.{Journaled}
 use Rattle.mr_kept.specs.Answered.{Answered}
-use Rattle.mr_kept.specs.Entries.{issued_after}
+use Rattle.mr_kept.specs.Entries.{AllBelong, issued_after}
 
 -- the head tells what replica it is of: its id, its filter's text and its event limit
 pub record Tells {K : Type 0} (head : HeadParts) (s : State K) : Type 0 where
   pub id : s.id ≡ head.id
   pub filter : Reads head.filter s.filter
   pub event_limit : s.event_limit ≡ head.event_limit
+
+-- the entries are this head, and behind it such as belong where they stand
+pub record AreHeaded (head : HeadParts) (entries : List Entry) : Type 0 where
+  pub behind : List Entry
+  pub first : entries ≡ entry.Head head ∷ behind
+  pub belong : AllBelong 0 behind
 
 module _ {K D V : Type 0} where
   abbrev pub replica_of : Journaled K D V → State K
@@ -52,9 +59,11 @@ module _ {K D V : Type 0} where
   abbrev pub nothing_waits : Journaled K D V → Bool
   nothing_waits j = nat_le (length (replica_of j).log) (kept_of j)
 
-  -- The journal has these entries, which tell the events that it is said to have, and no other.
+  -- The journal has these entries: its head, and behind it entries that belong where they stand and tell the events that it is said to
+  -- have, and no other.
   pub record IsKept (seen : D → List ℕ) (may_leave : D → List ℕ → Type 0) (entries : List Entry) (j : Journaled K D V) : Type 0 where
     pub in_grammar : AllByRecursion IsEntry entries
+    pub order : AreHeaded (head_of j) entries
     pub device : Keeps seen may_leave (map entry_bytes entries) (journal_of j)
     pub within : IsTrue (nat_le (kept_of j) (length (replica_of j).log))
     pub events : events_of entries ≡ take (kept_of j) (replica_of j).log

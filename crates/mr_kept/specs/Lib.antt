@@ -7,4 +7,5 @@ pub mod Beginning
 pub mod Opening
 pub mod Peer
 pub mod Refusing
+pub mod Whole
 pub mod Rows

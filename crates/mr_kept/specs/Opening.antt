@@ -16,15 +16,15 @@ use Rattle.mr_kept.specs.declared.fault.OpenFault.{OpenFault}
 use Rattle.mr_kept.specs.declared.fault.OpenFault.TheVariants as fault
 use Rattle.mr_kept.specs.declared.journaled.Journaled.{Journaled}
 use Rattle.mr_kept.specs.Closing.{IsCut, Takes, closers}
-use Rattle.mr_kept.specs.Entries.{AreCounted, AreSpelled, entries_of, issued_after}
+use Rattle.mr_kept.specs.Entries.{AreInOrder, AreSpelled, entries_of, issued_after}
 use Rattle.mr_kept.specs.Kept.{IsKept, Tells, head_of, issued_of, replica_of}
 
--- The texts are a head and entries with the counts that belong there, and a fresh replica of that head that takes the
+-- The texts are a head and entries that belong where they stand, and a fresh replica of that head that takes the
 -- events of the entries is this one. They tell so many events, which issued so many versions.
 pub record IsReplayed {K : Type 0} (form : Form K) (texts : List (List ℕ)) (head : HeadParts) (s : State K) (kept issued : ℕ) : Type 0 where
   pub entries : List Entry
   pub spelled : AreSpelled (entry.Head head ∷ entries) texts
-  pub counted : AreCounted 0 entries
+  pub order : AreInOrder entries
   pub filter : Reads head.filter s.filter
   pub replays : Replays form head.id s.filter head.event_limit (events_of entries) s
   pub log_is : s.log ≡ events_of entries
@@ -36,7 +36,7 @@ pub record IsReplayed {K : Type 0} (form : Form K) (texts : List (List ℕ)) (he
 pub record Reopens {K D V : Type 0} (form : Form K) (seen : D → List ℕ) (may_leave : D → List ℕ → Type 0) (file : List ℕ) (are_closed : Bool) (j : Journaled K D V) : Type 0 where
   pub entries : List Entry
   pub stood : Stands (map entry_bytes (entry.Head (head_of j) ∷ entries)) file
-  pub counted : AreCounted 0 entries
+  pub order : AreInOrder entries
   pub replica : State K
   pub tells : Tells (head_of j) replica
   pub replays : Replays form replica.id replica.filter replica.event_limit (events_of entries) replica

@@ -1,12 +1,19 @@
 -- worked rows: what the definitions give for small values
-use Rattle.std.specs.Prelude.{◌≡◌, [], ◌∷◌, refl}
-use Rattle.std.proofs.Common.{lit<}
+use Rattle.std.specs.Prelude.{◌≡◌, [], ◌∷◌, ◌++◌, refl}
+use Rattle.std.proofs.Common.{inl, arith, lit<}
 use Rattle.mr_mail.specs.Mail.{Mail}
 use Rattle.mr_replica.specs.declared.event.Event.TheVariants.{Create, Edit, Pull, Next, CutIn, CutOut}
+use Rattle.mr_entry.specs.Grammar.{Spells}
+use Rattle.mr_entry.specs.Head.{HeadParts}
+use Rattle.mr_entry.specs.Spelling.{entry_bytes}
+use Rattle.mr_entry.specs.declared.entry.Entry.{Entry}
 use Rattle.mr_entry.specs.declared.entry.Entry.TheVariants as entry
+use Rattle.mr_entry.specs.declared.fault.EntryFault.TheVariants.{Truncated}
+use Rattle.mr_kept.specs.declared.fault.OpenFault.TheVariants as fault
 use Rattle.mr_kept.specs.Closing.{IsCut}
-use Rattle.mr_kept.specs.Entries.{AreCounted, HasCounter, entries_of, issued_after}
+use Rattle.mr_kept.specs.Entries.{AllBelong, Belongs, entries_of, issued_after}
 use Rattle.mr_kept.specs.Peer.{IsAbove}
+use Rattle.mr_kept.specs.Refusing.{IsOutOfOrder, IsUnread, StopsAt}
 
 -- a Create and an Edit issue a version each, a Pull none
 pub issued_row : (message : Mail) → issued_after 0 (Create message ∷ Pull ∷ Edit [] message ∷ []) ≡ 2
@@ -17,12 +24,48 @@ pub entries_row : (message : Mail) → entries_of 4 (Pull ∷ Create message ∷
 entries_row message = refl
 
 -- a run of Nexts changes no count
-pub counted_row : (message : Mail) → AreCounted 0 (entry.Event 1 (Create message) ∷ entry.Nexts 2 3 ∷ entry.Event 1 (CutOut 2) ∷ [])
+pub counted_row : (message : Mail) → AllBelong 0 (entry.Event 1 (Create message) ∷ entry.Nexts 2 3 ∷ entry.Event 1 (CutOut 2) ∷ [])
 counted_row message = (refl, (tt, (refl, tt)))
 
 -- a Create that issued the first version tells no other counter
-pub other_counter_row : (message : Mail) → HasCounter 0 (entry.Event 2 (Create message)) → ⊥
+pub other_counter_row : (message : Mail) → Belongs 0 (entry.Event 2 (Create message)) → ⊥
 other_counter_row message is = cc is
+
+-- a head belongs nowhere but first
+pub second_head_row : (head : HeadParts) → Belongs 0 (entry.Head head) → ⊥
+second_head_row head is = is
+
+-- ---- why a journal isn't opened
+
+abbrev run : Entry
+run = entry.Nexts 2 3
+
+is_run : Spells run (entry_bytes run)
+is_run = record { in_grammar = (omega arith, omega arith); written = refl }
+
+-- behind the head a run of Nexts and then a text without a byte: it is the second one behind the head that isn't read
+pub unread_row : StopsAt (entry_bytes run ∷ [] ∷ []) (fault.BadEntry 2 Truncated)
+unread_row = record {
+  before = run ∷ [];
+  text = [];
+  left = [];
+  all = refl;
+  in_grammar = (is_run.in_grammar, tt);
+  order = record { belong = (tt, tt); few = omega arith };
+  wrong = inl (refl, refl);
+}
+
+-- a run of Nexts with a byte behind it is no entry
+pub longer_row : IsUnread 1 (entry_bytes run ++ 7 ∷ []) (fault.Misplaced 1)
+longer_row = (refl, record { found = run; front = entry_bytes run; left = 7 ∷ []; spells = is_run; text_is = refl; some = λ none. cc })
+
+-- a head that stands second
+pub misplaced_row : (head : HeadParts) → IsOutOfOrder 1 0 0 (entry.Head head) (fault.Misplaced 1)
+misplaced_row head = (head, refl, refl)
+
+-- a Pull behind no version, with the count of one
+pub counter_row : IsOutOfOrder 1 0 0 (entry.Event 1 Pull) (fault.OtherCounter 1)
+counter_row = (1, Pull, refl, refl, λ is. omega (arith, is))
 
 pub cut_row : IsCut (CutIn 3)
 cut_row = tt

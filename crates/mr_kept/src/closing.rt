@@ -62,6 +62,7 @@ fn close_streams<K: Knowledge>(replica: &mut Replica<K>) -> Result<bool, KeptFau
 impl<K: Knowledge, D: Device + Drop> Journaled<K, D> {
     ghost use Rattle.mr_kept.specs.Kept.{IsKept, head_of, journal_of, leaving, nothing_waits, replica_of};
     ghost use Rattle.mr_kept.specs.Opening.{IsClosedIn};
+    ghost use Rattle.mr_kept.specs.Whole.{HasLog, IsOf};
 
     // Closes what is open, keeps that, and tells whether nothing is left open: else the log is full.
     pub(crate) fn close(&mut self) -> Result<bool, KeptFault>
@@ -75,7 +76,10 @@ impl<K: Knowledge, D: Device + Drop> Journaled<K, D> {
         // A crash leaves the entries from before, or those and behind them the ones that close.
         ensures any_moment { IsTrue D.is_told → (entries : List Entry) → IsKept D.seen D.may_leave entries self.old
             → LeavesOnly D.moment D.left_since (device_of (journal_of self.old)) (device_of (journal_of self.new)) (HasCut (map entry_bytes entries)) }
+        ensures left { IsTrue D.is_told → (entries : List Entry) → IsKept D.seen D.may_leave entries self.old → IsOf (head_of self.old) (replica_of self.old)
+            → LeavesOnly D.moment D.left_since (device_of (journal_of self.old)) (device_of (journal_of self.new)) (λ c. HasLog K.form c (head_of self.old)) }
     {
+        let _log = self.replica.log();
         let are_closed = close_all(&mut self.replica)?;
         let _ = self.commit()?;
         Ok(are_closed)

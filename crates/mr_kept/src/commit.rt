@@ -7,6 +7,7 @@ ghost use Rattle.mr_entry.specs.Spelling.{entry_bytes};
 ghost use Rattle.mr_entry.specs.declared.entry.Entry.{Entry};
 ghost use Rattle.mr_kept.specs.declared.fault.KeptFault.TheVariants.{Failed};
 ghost use Rattle.mr_kept.specs.Entries.{entries_of};
+ghost use Rattle.mr_kept.specs.Whole.{HasLog, IsOf};
 
 use crate::batch::batch_of;
 use crate::fault::KeptFault;
@@ -41,12 +42,15 @@ impl<K: Knowledge, D: Device + Drop> Journaled<K, D> {
         ensures any_moment { IsTrue D.is_told → (entries : List Entry) → IsKept D.seen D.may_leave entries self.old
             → LeavesOnly D.moment D.left_since (device_of (journal_of self.old)) (device_of (journal_of self.new))
             (λ c. Stands (map entry_bytes entries) c ⊎ Stands (map entry_bytes (entries ++ entries_of (issued_of self.old) (waiting self.old))) c) }
+        // So a crash at any moment of it leaves a journal that has the log of a replica, which `open` brings back.
+        ensures left { IsTrue D.is_told → (entries : List Entry) → IsKept D.seen D.may_leave entries self.old → IsOf (head_of self.old) (replica_of self.old)
+            → LeavesOnly D.moment D.left_since (device_of (journal_of self.old)) (device_of (journal_of self.new)) (λ c. HasLog K.form c (head_of self.old)) }
     {
+        let log = self.replica.log();
+        let len = log.len();
         if self.journal.has_failed() {
             return Err(KeptFault::Failed);
         }
-        let log = self.replica.log();
-        let len = log.len();
         let batch = batch_of(self.alloc, self.issued, &log[self.kept.min(len)..])?;
         self.journal.commit(self.alloc, &batch.entries)?;
         self.kept = len;

@@ -5,14 +5,18 @@ ghost use Rattle.mr_entry.specs.Events.{events_of, events_of_entry};
 ghost use Rattle.mr_entry.specs.Grammar.{Spells};
 ghost use Rattle.mr_entry.specs.declared.entry.Entry.{Entry};
 ghost use Rattle.mr_replica.specs.declared.event.Event.TheVariants as asked;
-ghost use Rattle.mr_kept.specs.Entries.{AreCounted, AreSpelled, HasCounter, issued_after};
-ghost use Rattle.mr_kept.specs.Refusing.{IsBehindHead, IsUnread};
+ghost use Rattle.mr_replica.specs.declared.replica.TheConstants.{MAX_EVENTS};
+ghost use Rattle.mr_kept.specs.Entries.{AreInOrder, AreSpelled, Belongs, issued_after};
+ghost use Rattle.mr_kept.specs.Refusing.{IsOutOfOrder, IsUnread, StopsAt};
 
 use crate::batch::counted_with;
 use crate::fault::OpenFault;
 use mr_entry::{Entry, EntryFault, Note, decode_entry};
 use mr_replica::{Event, MAX_EVENTS};
 use std::alloc::{AllocError, Global};
+
+/// The most events of a log: as many as a limit may be, and a Retire.
+const MAX_LOG: usize = MAX_EVENTS as usize + 1;
 
 /// What entries tell: events, how many versions they issued, and notes.
 #[derive(Drop)]
@@ -50,10 +54,12 @@ fn put_run(events: &mut Vec<Event>, stream: u64, count: u32) -> Result<(), Alloc
 
 /// Takes what the entry at this place tells.
 fn take_entry(gathered: &mut Gathered, place: usize, entry: Entry) -> Result<(), OpenFault>
+    requires few { length gathered.old.events.items ≤ MAX_EVENTS + 1 }
     ensures events { OnOk result (gathered.new.events.items ≡ gathered.old.events.items ++ events_of_entry entry) }
     ensures issued { OnOk result (gathered.new.issued ≡ issued_after gathered.old.issued (events_of_entry entry)) }
-    ensures counter { OnOk result (HasCounter gathered.old.issued entry) }
-    ensures fault { 1 ≤ place → IfErr result IsBehindHead }
+    ensures belongs { OnOk result (Belongs gathered.old.issued entry) }
+    ensures few { OnOk result (length gathered.new.events.items ≤ MAX_EVENTS + 1) }
+    ensures fault { IfErr result (IsOutOfOrder place gathered.old.issued (length gathered.old.events.items) entry) }
 {
     match entry {
         Entry::Head(_) => Err(OpenFault::Misplaced(place)),
@@ -61,12 +67,15 @@ fn take_entry(gathered: &mut Gathered, place: usize, entry: Entry) -> Result<(),
             if counted_with(gathered.issued, &event) != Some(issued) {
                 return Err(OpenFault::OtherCounter(place));
             }
+            if gathered.events.len() >= MAX_LOG {
+                return Err(OpenFault::TooManyEvents);
+            }
             gathered.issued = issued;
             gathered.events.push(event)?;
             Ok(())
         }
         Entry::Nexts(stream, count) => {
-            if count > MAX_EVENTS {
+            if count as usize > MAX_LOG - gathered.events.len() {
                 return Err(OpenFault::TooManyEvents);
             }
             put_run(&mut gathered.events, stream, count)?;
@@ -81,9 +90,9 @@ fn take_entry(gathered: &mut Gathered, place: usize, entry: Entry) -> Result<(),
 
 /// What the entries behind the head tell.
 pub(crate) fn gather(alloc: Global, entries: &[Vec<u8>]) -> Result<Gathered, OpenFault>
-    ensures gathered { IfOk result (λ gathered. (list : List Entry) × AreSpelled list (contents entries.now) × AreCounted 0 list
+    ensures gathered { IfOk result (λ gathered. (list : List Entry) × AreSpelled list (contents entries.now) × AreInOrder list
         × (events_of list ≡ gathered.events.items) × (gathered.issued ≡ issued_after 0 gathered.events.items)) }
-    ensures fault { IfErr result IsBehindHead }
+    ensures fault { IfErr result (StopsAt (contents entries.now)) }
 {
     let mut gathered = Gathered {
         events: Vec::new(alloc),
@@ -95,9 +104,6 @@ pub(crate) fn gather(alloc: Global, entries: &[Vec<u8>]) -> Result<Gathered, Ope
         place += 1;
         let entry = entry_at(alloc, place, bytes)?;
         take_entry(&mut gathered, place, entry)?;
-        if gathered.events.len() > MAX_EVENTS as usize + 1 {
-            return Err(OpenFault::TooManyEvents);
-        }
     }
     Ok(gathered)
 }

@@ -4,11 +4,14 @@ ghost use Rattle.mr_filter.specs.Grammar.{Reads};
 ghost use Rattle.mr_journal.specs.Device.{LeavesOnly};
 ghost use Rattle.mr_journal.specs.Format.{contents};
 ghost use Rattle.mr_journal.specs.Journal.{device_of};
+ghost use Rattle.mr_replica.specs.State.{State};
 ghost use Rattle.mr_entry.specs.Grammar.{Spells};
+ghost use Rattle.mr_entry.specs.Head.{HeadParts};
 ghost use Rattle.mr_entry.specs.declared.entry.Entry.TheVariants as entry;
 ghost use Rattle.mr_kept.specs.Closing.{AreClosed};
 ghost use Rattle.mr_kept.specs.Opening.{GoesOn, IsOfOther, IsOfPlace, IsReplayed, Reopens};
-ghost use Rattle.mr_kept.specs.Refusing.{IsBehindHead, IsNoHead, IsOpenFault, IsRefused};
+ghost use Rattle.mr_kept.specs.Refusing.{IsNoFilter, IsNoHead, IsOpenFault, IsRefused};
+ghost use Rattle.mr_kept.specs.Whole.{ComesBack, HasLog, HasLogOf, IsOfMachine};
 
 use crate::fault::OpenFault;
 use crate::gather::{Gathered, entry_at, gather};
@@ -53,7 +56,7 @@ fn head_of(alloc: Global, bytes: &[u8]) -> Result<Head, OpenFault>
 /// The filter of this text.
 fn filter_of(alloc: Global, text: &str) -> Result<Filter, OpenFault>
     ensures read { IfOk result (Reads text.now) }
-    ensures fault { IfErr result IsBehindHead }
+    ensures fault { IfErr result (IsNoFilter text.now) }
 {
     match Filter::read(alloc, text) {
         Ok(filter) => Ok(filter),
@@ -85,7 +88,7 @@ fn replay_of<K: Knowledge>(
 ) -> Result<Replayed<K>, OpenFault>
     ensures replayed { IfOk result (λ r. IsReplayed K.form (contents entries.now) r.head r.replica r.kept r.issued) }
     ensures place { IfOk result (λ r. IsOfPlace r.head mark.now birth) }
-    ensures fault { IfErr result (IsRefused (contents entries.now) mark.now birth) }
+    ensures fault { IfErr result (IsRefused K.form (contents entries.now) mark.now birth) }
 {
     let [first, rest @ ..] = entries else {
         return Err(OpenFault::NoReplica);
@@ -122,10 +125,12 @@ impl<K: Knowledge, D: Device + Drop> Journaled<K, D> {
     /// anything else; of a retired replica streams alone. Where the log is full `are_closed` is false.
     ///
     /// `Journal` where the device's bytes are refused or the device fails; `NoReplica` where there is no entry; `Copied` where the
-    /// head's mark is another one, and `OtherBirth` where a birth is given and the head's is another. Then the first entry that
-    /// isn't read, doesn't belong where it stands or has another's counter, a filter that means nothing, or the event that the
-    /// replica refuses. Up to here no entry was written, though what a crash left was cut off. `Kept` where what closes isn't
-    /// kept. Each gives the device back. It costs the step of each event, and the entries and the events are in memory at once.
+    /// head's mark is another one, and `OtherBirth` where a birth is given and the head's is another. Then `BadFilter` where the
+    /// head's text means no filter; the first entry that isn't read, doesn't belong where it stands, has another's counter or
+    /// is one event too many; and `Replay` with the first event that the replica refuses. Up to here no entry was written, though
+    /// what a crash left was cut off. `Kept` where what closes isn't kept. Each gives the device back. A journal that a replica
+    /// left is never refused, but for memory and the device. It costs the step of each event, and the entries and the events
+    /// are in memory at once.
     pub fn open(
         alloc: Global,
         device: D,
@@ -136,7 +141,14 @@ impl<K: Knowledge, D: Device + Drop> Journaled<K, D> {
         ensures reopens { IsTrue D.is_told → IfOk result (λ r. Reopens K.form D.seen D.may_leave (D.seen device) r.1.are_closed r.0) }
         ensures closed { IfOk result (λ r. IsTrue r.1.are_closed → AreClosed (replica_of r.0)) }
         ensures place { IfOk result (λ r. IsOfPlace (head_of r.0) mark.now birth) }
-        ensures fault { IsTrue D.is_told → IfErr result (λ e. IsOpenFault (D.seen device) mark.now birth e.0) }
+        ensures fault { IsTrue D.is_told → IfErr result (λ e. IsOpenFault K.form (D.seen device) mark.now birth e.0) }
+        // A journal that has the log of a replica is opened, memory and the device aside, and gives a replica that is alike.
+        ensures whole { IsTrue D.is_told → (head : HeadParts) (s : State K) → HasLogOf K.form (D.seen device) head s → IsOfPlace head mark.now birth
+            → MatchResult result (λ r. ComesBack K.form s r.1.are_closed (replica_of r.0)) (λ e. IsOfMachine e.0) }
+        // A crash at any moment of the call leaves what one before it might have left, or again a journal that has the log of a replica.
+        ensures left { IsTrue D.is_told → (head : HeadParts) (s : State K) → HasLogOf K.form (D.seen device) head s → MatchResult result
+            (λ r. LeavesOnly D.moment D.left_since device (device_of (journal_of r.0)) (λ c. D.may_leave device c ⊎ HasLog K.form c head))
+            (λ e. LeavesOnly D.moment D.left_since device e.1 (λ c. D.may_leave device c ⊎ HasLog K.form c head)) }
         ensures none_waits { IfOk result (λ r. (nothing_waits r.0 ≡ true) × (leaving r.0 ≡ [])) }
         // A crash at any moment of the call leaves what one before it might have left, or a journal of the same entries, with
         // those that close what was open behind them or without.

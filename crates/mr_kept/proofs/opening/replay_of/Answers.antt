@@ -1,4 +1,6 @@
-use Rattle.std.proofs.Common.{◌-◌, ◌∙◌, ℕ, List, ap, length, drop, take, subst}
+use Rattle.std.proofs.Common.{◌-◌, ◌∙◌, inr, ℕ, List, ap, length, drop, take, subst}
+use Rattle.mr_journal.specs.Format.{contents}
+use Rattle.mr_kept.proofs.RefusingLemmas.{no_replay, refused_at}
 use Rattle.mr_filter.specs.Grammar.{Reads}
 use Rattle.mr_entry.specs.Grammar.{Spells}
 use Rattle.mr_entry.specs.declared.entry.Entry.TheVariants as entry
@@ -19,3 +21,16 @@ returns-in-Ok-clause-replayed g c =
     (subst (λ (n : ℕ). Replays g.K.Knowledge.form c.id.result filter n c.in_ok-events.field-0.events.items c.in-Ok.replica) c.event_limit.ensures c.in-Ok.ensures.replayed) in
     is_replayed g.K.Knowledge.form entries (take (length entries - 1) (drop 1 entries)) c.first-item.result head found.0 filter c.in_ok-events.field-0.events.items (length c.log-log.result.now) c.in_ok-events.field-0.issued c.in-Ok.replica
     (contents_first entries c.first-item.result c.in-len1-up.len_at_least c.first-item.is) spells found.1 found.2 found.3 found.4 reads (ap length (c.log-log.ensures.all ∙ c.in-Ok.ensures.log)) replays c.in-Ok.ensures.log
+
+pub returns-in-Err-clause-fault : goal.returns-in-Err-clause-fault
+returns-in-Err-clause-fault g c =
+    let entries = c.args.entries.now in
+    let head = c.in_ok-head.head in
+    let filter = c.in_ok-filter.filter in
+    let found = c.in_ok-events.ensures.gathered in
+    let spells = subst (λ (t : List ℕ). Spells (entry.Head head) t) c.deref.ensures.value c.in_ok-head.ensures.spelled in
+    let reads = subst (λ (t : List ℕ). Reads t filter) c.filter.ensures c.in_ok-filter.ensures.read in
+    let no = no_replay g.K.Knowledge.form head filter _ c.in_ok-events.field-0.events.items c.id.result c.event_limit.result c.in-Err.fault c.id.ensures.is c.event_limit.ensures found.3 c.in-Err.ensures.bad_limit.0 c.in-Err.ensures.refused in
+    refused_at g.K.Knowledge.form (contents entries) (contents (take (length entries - 1) (drop 1 entries))) c.first-item.result.items c.args.mark.now c.args.birth _
+    (contents_first entries c.first-item.result c.in-len1-up.len_at_least c.first-item.is)
+    (inr (head, spells, inr (c.in_ok-check_head.ensures.ok, inr (filter, reads, inr (found.0, found.1, found.2, no)))))

@@ -1,7 +1,8 @@
 use Rattle.std.proofs.Common.{refl}
 use Rattle.mr_journal.specs.Journal.{device_of}
 use Rattle.mr_journal.proofs.Moments.{started}
-use Rattle.mr_kept.specs.Kept.{journal_of}
+use Rattle.mr_kept.specs.Kept.{head_of, journal_of}
+use Rattle.mr_kept.proofs.LeftLemmas.{head_on, left_now}
 use Rattle.mr_kept.proofs.OpenLemmas.{closed_in, closed_on, cut_now, kept_mid, moments_close}
 use Rattle.mr_kept.proofs.journaled.Journaled.close.Goals as goal
 
@@ -15,7 +16,7 @@ returns-in_err-commit-clause-any_moment g c = λ told entries kept.
     let mid = record c.args.self.now { replica = c.close_all.new.replica } in
     let takes = c.in_ok-are_closed.ensures.takes in
     moments_close entries c.args.self.now mid c.in_ok-are_closed.are_closed (device_of (journal_of c.args.self.now)) (device_of (journal_of c.commit.new.self)) kept c.requires.waits refl takes
-    (c.commit.ensures.any_moment told entries (kept_mid entries c.args.self.now mid c.in_ok-are_closed.are_closed kept refl refl refl takes))
+    (c.commit.ensures.any_moment told entries (kept_mid entries c.args.self.now mid c.in_ok-are_closed.are_closed kept refl refl refl refl takes))
 
 pub returns-clause-closed : goal.returns-clause-closed
 returns-clause-closed g c = λ all. closed_on c.close_all.new.replica _ c.commit.ensures.replica (c.in_ok-are_closed.ensures.closed all)
@@ -25,11 +26,26 @@ returns-clause-kept g c = λ told entries kept.
     let mid = record c.args.self.now { replica = c.close_all.new.replica } in
     let takes = c.in_ok-are_closed.ensures.takes in
     closed_in entries c.args.self.now mid c.commit.new.self c.in_ok-are_closed.are_closed kept c.requires.waits refl refl takes c.commit.ensures.replica
-    (c.in_ok-commit.ensures.kept told entries (kept_mid entries c.args.self.now mid c.in_ok-are_closed.are_closed kept refl refl refl takes))
+    (c.in_ok-commit.ensures.kept told entries (kept_mid entries c.args.self.now mid c.in_ok-are_closed.are_closed kept refl refl refl refl takes))
 
 pub returns-clause-any_moment : goal.returns-clause-any_moment
 returns-clause-any_moment g c = λ told entries kept.
     let mid = record c.args.self.now { replica = c.close_all.new.replica } in
     let takes = c.in_ok-are_closed.ensures.takes in
     moments_close entries c.args.self.now mid c.in_ok-are_closed.are_closed (device_of (journal_of c.args.self.now)) (device_of (journal_of c.commit.new.self)) kept c.requires.waits refl takes
-    (c.commit.ensures.any_moment told entries (kept_mid entries c.args.self.now mid c.in_ok-are_closed.are_closed kept refl refl refl takes))
+    (c.commit.ensures.any_moment told entries (kept_mid entries c.args.self.now mid c.in_ok-are_closed.are_closed kept refl refl refl refl takes))
+
+pub returns-in_err-are_closed-clause-left : goal.returns-in_err-are_closed-clause-left
+returns-in_err-are_closed-clause-left g c = λ told entries kept of.
+    let device = device_of (journal_of c.args.self.now) in
+    started {old = device} (λ file left. left_now g.K.Knowledge.form entries c.args.self.now file kept c.log-log.ensures.is_its_log of (g.met.D.Device.only_now device file left))
+
+pub returns-in_err-commit-clause-left : goal.returns-in_err-commit-clause-left
+returns-in_err-commit-clause-left g c = λ told entries kept of.
+    let takes = c.in_ok-are_closed.ensures.takes in
+    c.commit.ensures.left told entries (kept_mid entries c.args.self.now _ c.in_ok-are_closed.are_closed kept refl refl refl refl takes) (head_on g.K.Knowledge.form (head_of c.args.self.now) c.args.self.now.replica c.close_all.new.replica takes.setting of)
+
+pub returns-clause-left : goal.returns-clause-left
+returns-clause-left g c = λ told entries kept of.
+    let takes = c.in_ok-are_closed.ensures.takes in
+    c.commit.ensures.left told entries (kept_mid entries c.args.self.now _ c.in_ok-are_closed.are_closed kept refl refl refl refl takes) (head_on g.K.Knowledge.form (head_of c.args.self.now) c.args.self.now.replica c.close_all.new.replica takes.setting of)

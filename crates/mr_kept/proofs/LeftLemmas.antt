@@ -1,0 +1,127 @@
+-- what a commit leaves has the log of a replica
+use Rattle.std.proofs.Common.{◌≡◌, ◌⊎◌, ⊎_elim, Ok, ℕ, List, [], ◌∷◌, ◌++◌, take, drop, sym, ap, subst, ◌∙◌, append_assoc, append-nil, refl}
+use Rattle.std.proofs.lemmas.List.{take-append-drop}
+use Rattle.std.specs.Prelude.{map}
+use Rattle.std.specs.List.{AllByRecursion}
+use Rattle.mr_filter.specs.Filter.{ClauseParts, IsFilter}
+use Rattle.mr_filter.specs.Grammar.{Reads}
+use Rattle.mr_forms.specs.Known.{Form}
+use Rattle.mr_journal.specs.Format.{Stands}
+use Rattle.mr_journal.specs.Journal.{device_of}
+use Rattle.mr_entry.specs.Events.{events_of}
+use Rattle.mr_entry.specs.Grammar.{IsEntry}
+use Rattle.mr_entry.specs.Head.{HeadParts}
+use Rattle.mr_entry.specs.Spelling.{entry_bytes}
+use Rattle.mr_entry.specs.declared.entry.Entry.{Entry}
+use Rattle.mr_entry.specs.declared.entry.Entry.TheVariants as entry
+use Rattle.mr_replica.specs.Growing.{IsOfSameSetting}
+use Rattle.mr_replica.specs.Replay.{AdmitsAll, IsItsLog, Replays}
+use Rattle.mr_replica.specs.State.{State}
+use Rattle.mr_replica.specs.declared.event.Event.{Event}
+use Rattle.mr_replica.proofs.Replaying.{step_log, step_setting}
+use Rattle.mr_kept.specs.declared.journaled.Journaled.{Journaled}
+use Rattle.mr_kept.specs.Entries.{AreSpelled, entries_of}
+use Rattle.mr_kept.specs.Kept.{AreHeaded, IsKept, head_of, issued_of, journal_of, kept_of, replica_of, waiting}
+use Rattle.mr_kept.specs.Whole.{HasLog, HasLogOf, IsOf}
+use Rattle.mr_kept.proofs.CloseLemmas.{same_setting, setting_on}
+use Rattle.mr_kept.proofs.EntryLemmas.{all_spelled, events_append, events_are, events_head}
+use Rattle.mr_kept.proofs.KeptLemmas.{headed_more, stands_now}
+
+module _ {K : Type 0} (form : Form K) where
+  -- what a beginning of the events leads to
+  pub record Reaches (s : State K) (events : List Event) (mid : State K) : Type 0 where
+    pub admits : AdmitsAll form s events mid
+    pub log_is : mid.log ≡ s.log ++ events
+    pub setting : IsOfSameSetting s mid
+
+  reached : (s new : State K) (xs ys : List Event) → AdmitsAll form s (xs ++ ys) new → (mid : State K) × Reaches s xs mid × IsOfSameSetting mid new
+  reached s new [] ys h = (s, record { admits = refl; log_is = sym (append-nil s.log); setting = same_setting s }, all_same s new ys h)
+    where
+      all_same : (s new : State K) (events : List Event) → AdmitsAll form s events new → IsOfSameSetting s new
+      all_same s new [] h = subst (λ (z : State K). IsOfSameSetting s z) (sym h) (same_setting s)
+      all_same s new (event ∷ events) h = setting_on s h.0 new (step_setting form s h.0 event (Ok h.1.0) h.1.1) (all_same h.0 new events h.2)
+  reached s new (x ∷ xs) ys h =
+      let rest = reached h.0 new xs ys h.2 in
+      let log = step_log form s h.0 x (Ok h.1.0) h.1.1 in
+      (rest.0, record {
+        admits = (h.0, h.1, rest.1.admits);
+        log_is = rest.1.log_is ∙ ap (λ (l : List Event). l ++ xs) log ∙ append_assoc s.log (x ∷ []) xs;
+        setting = setting_on s h.0 rest.0 (step_setting form s h.0 x (Ok h.1.0) h.1.1) rest.1.setting;
+      }, rest.2)
+
+  -- a beginning of a replica's log is the log of a replica of the same setting
+  pub record Begins (s : State K) (events : List Event) : Type 0 where
+    pub replica : State K
+    pub is_its_log : IsItsLog form replica
+    pub log_is : replica.log ≡ events
+    pub setting : IsOfSameSetting replica s
+
+  begins : (s : State K) (xs ys : List Event) → IsItsLog form s → s.log ≡ xs ++ ys → Begins s xs
+  begins s xs ys is log =
+      let way = reached is.fresh s xs ys (subst (λ (l : List Event). AdmitsAll form is.fresh l s) log is.admits) in
+      let t : State K = way.0 in
+      let none : is.fresh.log ≡ [] = ap (λ (z : State K). z.log) is.is_fresh.is_empty in
+      let log_is : t.log ≡ xs = way.1.log_is ∙ ap (λ (l : List Event). l ++ xs) none in
+      let mine : Replays form s.id s.filter s.event_limit xs t = record { fresh = is.fresh; is_fresh = is.is_fresh; admits = way.1.admits } in
+      record {
+        replica = t;
+        is_its_log =
+            subst (λ (n : ℕ). Replays form n t.filter t.event_limit t.log t) way.2.id
+            (subst (λ (f : List ClauseParts). Replays form s.id f t.event_limit t.log t) way.2.filter
+            (subst (λ (n : ℕ). Replays form s.id s.filter n t.log t) way.2.event_limit
+            (subst (λ (l : List Event). Replays form s.id s.filter s.event_limit l t) (sym log_is) mine)));
+        log_is = log_is;
+        setting = way.2;
+      }
+
+  setting_back : (s t : State K) → IsOfSameSetting s t → IsOfSameSetting t s
+  setting_back s t same = record { id = sym same.id; filter = sym same.filter; event_limit = sym same.event_limit }
+
+  -- the head of a replica is that of each of its setting
+  same_head : (head : HeadParts) (s t : State K) → IsOfSameSetting t s → IsOf head s → IsOf head t
+  same_head head s t same is = record {
+    tells = record { id = sym same.id ∙ is.tells.id; filter = subst (λ (f : List ClauseParts). Reads head.filter f) same.filter is.tells.filter; event_limit = sym same.event_limit ∙ is.tells.event_limit };
+    is_filter = subst (λ (f : List ClauseParts). IsFilter f) same.filter is.is_filter;
+    limit_from = is.limit_from;
+    limit_to = is.limit_to;
+  }
+
+  pub head_on : (head : HeadParts) (s t : State K) → IsOfSameSetting s t → IsOf head s → IsOf head t
+  head_on head s t same is = same_head head s t (setting_back s t same) is
+
+  -- entries that tell a beginning of a replica's log
+  has_log : (head : HeadParts) (s : State K) (entries : List Entry) (left : List Event) (file : List ℕ) → IsOf head s → IsItsLog form s → s.log ≡ events_of entries ++ left → AllByRecursion IsEntry entries → AreHeaded head entries
+      → Stands (map entry_bytes entries) file → HasLog form file head
+  has_log head s entries left file of is log are order stands =
+      let told : events_of entries ≡ events_of order.behind = ap events_of order.first ∙ events_head head order.behind in
+      let from = begins s (events_of entries) left is log in
+      (from.replica, record {
+        entries = order.behind;
+        in_grammar = subst (λ (l : List Entry). AllByRecursion IsEntry l) order.first are;
+        stands = subst (λ (l : List Entry). Stands (map entry_bytes l) file) order.first stands;
+        belong = order.belong;
+        head_is = same_head head s from.replica from.setting of;
+        log_is = from.log_is ∙ told;
+        is_its_log = from.is_its_log;
+      })
+
+module _ {K D V : Type 0} {seen : D → List ℕ} {may_leave : D → List ℕ → Type 0} (form : Form K) where
+  before_waiting : (entries : List Entry) (j : Journaled K D V) → IsKept seen may_leave entries j → (replica_of j).log ≡ events_of entries ++ waiting j
+  before_waiting entries j kept = sym (ap (λ (l : List Event). l ++ waiting j) kept.events ∙ take-append-drop (kept_of j) (replica_of j).log)
+
+  -- what a crash leaves of a journal has the log of a replica
+  pub left_now : (entries : List Entry) (j : Journaled K D V) (c : List ℕ) → IsKept seen may_leave entries j → IsItsLog form (replica_of j) → IsOf (head_of j) (replica_of j) → may_leave (device_of (journal_of j)) c → HasLog form c (head_of j)
+  left_now entries j c kept is of left = has_log form (head_of j) (replica_of j) entries (waiting j) c of is (before_waiting entries j kept) kept.in_grammar kept.order (stands_now entries j kept c left)
+
+  -- and so has what it leaves of a commit
+  pub left_by : (entries : List Entry) (j : Journaled K D V) (batch : List (List ℕ)) (c : List ℕ) → IsKept seen may_leave entries j → IsItsLog form (replica_of j) → IsOf (head_of j) (replica_of j)
+      → AreSpelled (entries_of (issued_of j) (waiting j)) batch → Stands (map entry_bytes entries) c ⊎ Stands (map entry_bytes (entries ++ entries_of (issued_of j) (waiting j))) c → HasLog form c (head_of j)
+  left_by entries j batch c kept is of spelled left =
+      let more : List Entry = entries_of (issued_of j) (waiting j) in
+      let before = before_waiting entries j kept in
+      let after : (replica_of j).log ≡ events_of (entries ++ more) ++ [] =
+      before ∙ ap (λ (l : List Event). events_of entries ++ l) (sym (events_are (issued_of j) (waiting j))) ∙ sym (events_append entries more) ∙ sym (append-nil (events_of (entries ++ more))) in
+      let order : AreHeaded (head_of j) (entries ++ more) = headed_more (head_of j) (head_of j) entries (issued_of j) (waiting j) refl kept.counted kept.order in
+      ⊎_elim
+      (λ old. has_log form (head_of j) (replica_of j) entries (waiting j) c of is before kept.in_grammar kept.order old)
+      (λ all. has_log form (head_of j) (replica_of j) (entries ++ more) [] c of is after (all_spelled entries more kept.in_grammar spelled.in_grammar) order all) left

@@ -1,0 +1,276 @@
+-- a journal that a replica left is not refused, and gives a replica that is alike
+use Rattle.std.proofs.Common.{◌≡◌, ◌≢◌, ◌⊎◌, inl, inr, ⊎_elim, ℕ, ◌+◌, ◌≤◌, ◌<◌, Bool, List, [], ◌∷◌, ◌++◌, length, Option, Some, Result, Ok, Err, refl, sym, ap, subst, ◌∙◌, arith, append-nil, append_assoc}
+use Rattle.std.specs.Prelude.{map}
+use Rattle.std.specs.List.{AllByRecursion}
+use Rattle.std.proofs.lemmas.List.{length-append, append_cancel_left}
+use Rattle.mr_filter.specs.Filter.{ClauseParts, IsFilter}
+use Rattle.mr_filter.specs.Fault.{IsFaultOf}
+use Rattle.mr_filter.specs.Grammar.{Reads}
+use Rattle.mr_filter.specs.declared.fault.FilterFault.{FilterFault}
+use Rattle.mr_filter.proofs.UniqueLemmas.{Reads-fault, Reads-unique}
+use Rattle.mr_forms.specs.ByMeaning.{IsByMeaning}
+use Rattle.mr_forms.specs.Known.{Form}
+use Rattle.mr_journal.specs.Format.{StandAlike, Stands}
+use Rattle.mr_journal.proofs.Unique.{not_refused, one_list}
+use Rattle.mr_entry.specs.Decoding.{Read, and_kind, decoded, parts_read}
+use Rattle.mr_entry.specs.Events.{events_of, events_of_entry}
+use Rattle.mr_entry.specs.Grammar.{IsEntry, Spells}
+use Rattle.mr_entry.specs.Head.{HeadParts}
+use Rattle.mr_entry.specs.Spelling.{entry_bytes, kind_byte, part_bytes}
+use Rattle.mr_entry.specs.declared.entry.Entry.{Entry}
+use Rattle.mr_entry.specs.declared.entry.Entry.TheVariants as entry
+use Rattle.mr_entry.specs.declared.fault.EntryFault.{EntryFault}
+use Rattle.mr_entry.proofs.EntryLaws.{begins_no_other, parts_again}
+use Rattle.mr_replica.specs.Alike.{AreAlike}
+use Rattle.mr_replica.specs.Replay.{AdmitsAll, IsItsLog, Replays}
+use Rattle.mr_replica.specs.State.{State}
+use Rattle.mr_replica.specs.declared.event.Event.{Event}
+use Rattle.mr_replica.specs.declared.replica.TheConstants.{MAX_EVENTS}
+use Rattle.mr_replica.specs.declared.replica.replay.ReplayFault.TheVariants as replay
+use Rattle.mr_replica.proofs.Alike.{alike_fresh, alike_replays, alike_stop}
+use Rattle.mr_kept.specs.declared.fault.OpenFault.{OpenFault}
+use Rattle.mr_kept.specs.declared.fault.OpenFault.TheVariants as fault
+use Rattle.mr_kept.specs.declared.journaled.Journaled.{Journaled}
+use Rattle.mr_kept.specs.Entries.{AllBelong, Belongs, counted, issued_after}
+use Rattle.mr_kept.specs.Kept.{head_of, replica_of}
+use Rattle.mr_kept.specs.Opening.{IsOfOther, IsOfPlace, IsReplayed, Reopens}
+use Rattle.mr_kept.specs.Refusing.{IsBehindHead, IsLonger, IsNoFilter, IsNoHead, IsNoReplay, IsOpenFault, IsOutOfOrder, IsRefused, IsUnread, IsWrong, StopsAt}
+use Rattle.mr_kept.specs.Whole.{ComesBack, HasLog, HasLogOf, IsOf, IsOfMachine}
+use Rattle.mr_kept.proofs.EntryLemmas.{events_append, events_cons, issued_append}
+use Rattle.mr_kept.proofs.LogLemmas.{replayed_few}
+use Rattle.mr_kept.proofs.OpenLemmas.{replayed_setting}
+
+-- ---- one entry
+
+decoded_again : (e : Entry) (text : List ℕ) → Spells e text → decoded text ≡ Ok (e, length (part_bytes e) + 1)
+decoded_again e text s =
+    ap decoded s.written ∙ ap (λ (l : List ℕ). and_kind (parts_read (kind_byte e) l)) (sym (append-nil (part_bytes e))) ∙ ap and_kind (parts_again e [] s.in_grammar)
+
+no_fault : (e : Entry) (text : List ℕ) (why : EntryFault) → Spells e text → decoded text ≡ Err why → ⊥
+no_fault e text why s is = let both : ◌≡◌ {A = Read} (Ok (e, length (part_bytes e) + 1)) (Err why) = sym (decoded_again e text s) ∙ is in cc
+
+one_entry : (e f : Entry) (text : List ℕ) → Spells e text → Spells f text → e ≡ f
+one_entry e f text s t = (begins_no_other e f text text [] [] s t refl).1
+
+same_bytes : (e f : Entry) → IsEntry e → IsEntry f → entry_bytes e ≡ entry_bytes f → e ≡ f
+same_bytes e f s t is = one_entry e f (entry_bytes e) (record { in_grammar = s; written = refl }) (record { in_grammar = t; written = is })
+
+not_longer : (e : Entry) (text : List ℕ) → Spells e text → IsLonger text → ⊥
+not_longer e text s longer =
+    let same : text ≡ longer.front = (begins_no_other e longer.found text longer.front [] longer.left s longer.spells (append-nil text ∙ longer.text_is)).0 in
+    longer.some (append_cancel_left longer.front longer.left [] (sym longer.text_is ∙ same ∙ sym (append-nil longer.front)))
+
+unread_memory : (place : ℕ) (e : Entry) (text : List ℕ) (why : OpenFault) → Spells e text → IsUnread place text why → why ≡ fault.OutOfMemory
+unread_memory place e text fault.OutOfMemory s h = refl
+unread_memory place e text (fault.BadEntry at why) s h = absurd (no_fault e text why s h.1)
+unread_memory place e text (fault.Misplaced at) s h = absurd (not_longer e text s h.1)
+unread_memory place e text why s h = absurd h
+
+head_no_place : (issued : ℕ) (e : Entry) (head : HeadParts) → Belongs issued e → e ≡ entry.Head head → ⊥
+head_no_place issued e head h is = let no : Belongs issued (entry.Head head) = subst (λ (x : Entry). Belongs issued x) is h in no
+
+order_memory : (place issued count : ℕ) (e : Entry) (why : OpenFault) → Belongs issued e → count + length (events_of_entry e) ≤ MAX_EVENTS + 1 → IsOutOfOrder place issued count e why → why ≡ fault.OutOfMemory
+order_memory place issued count e fault.OutOfMemory b few h = refl
+order_memory place issued count e (fault.Misplaced at) b few h = absurd (head_no_place issued e h.0 b h.2)
+order_memory place issued count e (fault.OtherCounter at) b few h = absurd (h.4 (subst (λ (x : Entry). Belongs issued x) h.3 b))
+order_memory place issued count e fault.TooManyEvents b few h = absurd (omega (arith, few, h.1))
+order_memory place issued count e why b few h = absurd h
+
+wrong_memory : (place issued count : ℕ) (e : Entry) (text : List ℕ) (why : OpenFault) → Spells e text → Belongs issued e → count + length (events_of_entry e) ≤ MAX_EVENTS + 1 → IsWrong place issued count text why → why ≡ fault.OutOfMemory
+wrong_memory place issued count e text why s b few (inl unread) = unread_memory place e text why s unread
+wrong_memory place issued count e text why s b few (inr other) =
+    let same : e ≡ other.0 = one_entry e other.0 text s other.1 in
+    order_memory place issued count e why b few (subst (λ (x : Entry). IsOutOfOrder place issued count x why) (sym same) other.2)
+
+-- ---- entries
+
+all_front : {A : Type 0} (P : A → Type 0) (xs ys : List A) → AllByRecursion P (xs ++ ys) → AllByRecursion P xs
+all_front P [] ys h = tt
+all_front P (x ∷ xs) ys h = (h.0, all_front P xs ys h.1)
+
+same_entries : (xs ys : List Entry) → AllByRecursion IsEntry xs → AllByRecursion IsEntry ys → map entry_bytes xs ≡ map entry_bytes ys → xs ≡ ys
+same_entries [] [] a b is = refl
+same_entries [] (y ∷ ys) a b is = absurd cc
+same_entries (x ∷ xs) [] a b is = absurd cc
+same_entries (x ∷ xs) (y ∷ ys) a b is =
+    let one : entry_bytes x ≡ entry_bytes y = cc in
+    let others : map entry_bytes xs ≡ map entry_bytes ys = cc in
+    ap (λ (z : Entry). z ∷ xs) (same_bytes x y a.0 b.0 one) ∙ ap (λ (l : List Entry). y ∷ l) (same_entries xs ys a.1 b.1 others)
+
+-- the entry that stands where a text of theirs does
+record StandsAt (before entries : List Entry) (text : List ℕ) : Type 0 where
+  here : Entry
+  behind : List Entry
+  all : entries ≡ before ++ here ∷ behind
+  spells : Spells here text
+
+stands_at : (before entries : List Entry) (text : List ℕ) (left : List (List ℕ)) → AllByRecursion IsEntry before → AllByRecursion IsEntry entries → map entry_bytes entries ≡ map entry_bytes before ++ text ∷ left → StandsAt before entries text
+stands_at [] [] text left a b is = absurd cc
+stands_at [] (y ∷ ys) text left a b is = let one : text ≡ entry_bytes y = cc in record { here = y; behind = ys; all = refl; spells = record { in_grammar = b.0; written = one } }
+stands_at (x ∷ xs) [] text left a b is = absurd cc
+stands_at (x ∷ xs) (y ∷ ys) text left a b is =
+    let one : entry_bytes y ≡ entry_bytes x = cc in
+    let others : map entry_bytes ys ≡ map entry_bytes xs ++ text ∷ left = cc in
+    let so = stands_at xs ys text left a.1 b.1 others in
+    record {
+      here = so.here;
+      behind = so.behind;
+      all = ap (λ (z : Entry). z ∷ ys) (same_bytes y x b.0 a.0 one) ∙ ap (λ (l : List Entry). x ∷ l) so.all;
+      spells = so.spells;
+    }
+
+belongs_at : (n : ℕ) (before : List Entry) (e : Entry) (behind : List Entry) → AllBelong n (before ++ e ∷ behind) → Belongs (issued_after n (events_of before)) e
+belongs_at n [] e behind h = h.0
+belongs_at n (x ∷ xs) e behind h =
+    let same : issued_after n (events_of (x ∷ xs)) ≡ issued_after (issued_after n (events_of_entry x)) (events_of xs) = ap (issued_after n) (events_cons x xs) ∙ issued_append n (events_of_entry x) (events_of xs) in
+    subst (λ (m : ℕ). Belongs m e) (sym same) (belongs_at (issued_after n (events_of_entry x)) xs e behind h.1)
+
+few_at : (before : List Entry) (e : Entry) (behind : List Entry) → length (events_of before) + length (events_of_entry e) ≤ length (events_of (before ++ e ∷ behind))
+few_at before e behind =
+    let all = ap length (events_append before (e ∷ behind)) in
+    let both = length-append (events_of before) (events_of (e ∷ behind)) in
+    let one = ap length (events_cons e behind) in
+    let more = length-append (events_of_entry e) (events_of behind) in
+    omega (arith, all, both, one, more)
+
+-- none of them is wrong
+stop_memory : (entries : List Entry) (why : OpenFault) → AllByRecursion IsEntry entries → AllBelong 0 entries → length (events_of entries) ≤ MAX_EVENTS + 1 → StopsAt (map entry_bytes entries) why → why ≡ fault.OutOfMemory
+stop_memory entries why are belong few stop =
+    let found = stands_at stop.before entries stop.text stop.left stop.in_grammar are stop.all in
+    let belongs = belongs_at 0 stop.before found.here found.behind (subst (λ (l : List Entry). AllBelong 0 l) found.all belong) in
+    let most : length (events_of (stop.before ++ found.here ∷ found.behind)) ≤ MAX_EVENTS + 1 = subst (λ (l : List Entry). length (events_of l) ≤ MAX_EVENTS + 1) found.all few in
+    let less = few_at stop.before found.here found.behind in
+    wrong_memory (length stop.before + 1) (issued_after 0 (events_of stop.before)) (length (events_of stop.before)) found.here stop.text why found.spells belongs (omega (arith, most, less)) stop.wrong
+
+-- ---- what is told of a replica's journal
+
+machine : (why : OpenFault) → why ≡ fault.OutOfMemory → IsOfMachine why
+machine why is = subst (λ (f : OpenFault). IsOfMachine f) (sym is) tt
+
+filter_machine : (text : List ℕ) (filter : List ClauseParts) (why : OpenFault) → Reads text filter → IsFilter filter → IsNoFilter text why → IsOfMachine why
+filter_machine text filter fault.OutOfMemory reads is h = tt
+filter_machine text filter (fault.BadFilter why) reads is h = absurd (h.0 (Reads-fault text filter reads is why h.1))
+filter_machine text filter why reads is h = absurd h
+
+other_place : (head : HeadParts) (mark : List ℕ) (birth : Option (List ℕ)) (why : OpenFault) → IsOfPlace head mark birth → IsOfOther head mark birth why → ⊥
+other_place head mark birth fault.Copied place h = h place.mark_is
+other_place head mark birth fault.OtherBirth place h = h.3 (place.birth_is h.0 h.1)
+other_place head mark birth why place h = h
+
+same_head : (a b : HeadParts) → entry.Head a ≡ entry.Head b → a ≡ b
+same_head a b is = cc
+
+first_head : (a b : HeadParts) (xs ys : List Entry) → entry.Head a ∷ xs ≡ entry.Head b ∷ ys → a ≡ b
+first_head a b xs ys is = cc
+
+behind_first : (a b : HeadParts) (xs ys : List Entry) → entry.Head a ∷ xs ≡ entry.Head b ∷ ys → xs ≡ ys
+behind_first a b xs ys is = cc
+
+module _ {K : Type 0} (form : Form K) (meaning : IsByMeaning form) where
+  replay_machine : (head : HeadParts) (filter : List ClauseParts) (events : List Event) (s : State K) (why : OpenFault) → 1 ≤ head.event_limit → head.event_limit ≤ MAX_EVENTS → Replays form head.id filter head.event_limit events s
+      → IsNoReplay form head filter events why → IsOfMachine why
+  replay_machine head filter events s (fault.Replay replay.BadLimit) from to replays h = absurd (h (from, to))
+  replay_machine head filter events s (fault.Replay (replay.Refused place refusal)) from to replays h =
+      let stops = h.stops in
+      alike_stop form meaning replays.fresh h.fresh s stops.reached stops.before stops.left stops.event refusal (alike_fresh form meaning head.id filter head.event_limit replays.fresh h.fresh replays.is_fresh h.is_fresh)
+      (subst (λ (l : List Event). AdmitsAll form replays.fresh l s) stops.all replays.admits) stops.admits stops.refuses
+  replay_machine head filter events s why from to replays h = absurd h
+
+  -- a replay as its head has it
+  as_head : (head : HeadParts) (s : State K) (events : List Event) → s.id ≡ head.id → s.event_limit ≡ head.event_limit → s.log ≡ events → IsItsLog form s → Replays form head.id s.filter head.event_limit events s
+  as_head head s events id limit log is =
+      subst (λ (n : ℕ). Replays form n s.filter head.event_limit events s) id (subst (λ (n : ℕ). Replays form s.id s.filter n events s) limit (subst (λ (l : List Event). Replays form s.id s.filter s.event_limit l s) log is))
+
+  module _ (file : List ℕ) (head : HeadParts) (s : State K) (left : HasLogOf form file head s) where
+    few : length (events_of left.entries) ≤ MAX_EVENTS + 1
+    few =
+        let most = replayed_few form s.id s.filter s.event_limit s.log s left.is_its_log in
+        omega (arith, most, left.head_is.tells.event_limit, left.head_is.limit_to, ap length left.log_is)
+
+    replays : Replays form head.id s.filter head.event_limit (events_of left.entries) s
+    replays = as_head head s (events_of left.entries) left.head_is.tells.id left.head_is.tells.event_limit left.log_is left.is_its_log
+
+    behind_machine : (why : OpenFault) → IsBehindHead form head (map entry_bytes left.entries) why → IsOfMachine why
+    behind_machine why (inl none) = filter_machine head.filter s.filter why left.head_is.tells.filter left.head_is.is_filter none
+    behind_machine why (inr behind) =
+        let filters : behind.0 ≡ s.filter = Reads-unique head.filter behind.0 s.filter behind.1 left.head_is.tells.filter in
+        ⊎_elim
+        (λ stop. machine why (stop_memory left.entries why left.in_grammar.1 left.belong few stop))
+        (λ no.
+          let same : no.0 ≡ left.entries = same_entries no.0 left.entries no.1.in_grammar left.in_grammar.1 (sym no.1.written) in
+          replay_machine head s.filter (events_of left.entries) s why left.head_is.limit_from left.head_is.limit_to replays
+          (subst (λ (f : List ClauseParts). IsNoReplay form head f (events_of left.entries) why) filters (subst (λ (l : List Entry). IsNoReplay form head behind.0 (events_of l) why) same no.3)))
+        behind.2
+
+    head_spells : Spells (entry.Head head) (entry_bytes (entry.Head head))
+    head_spells = record { in_grammar = left.in_grammar.0; written = refl }
+
+    no_head_machine : (why : OpenFault) → IsNoHead (entry_bytes (entry.Head head)) why → IsOfMachine why
+    no_head_machine why (inl unread) = machine why (unread_memory 0 (entry.Head head) (entry_bytes (entry.Head head)) why head_spells unread)
+    no_head_machine why (inr other) = absurd (other.2 head (one_entry other.0 (entry.Head head) (entry_bytes (entry.Head head)) other.1 head_spells))
+
+    refused_machine : (texts : List (List ℕ)) (mark : List ℕ) (birth : Option (List ℕ)) (why : OpenFault) → IsOfPlace head mark birth → texts ≡ map entry_bytes (entry.Head head ∷ left.entries) → IsRefused form texts mark birth why → IsOfMachine why
+    refused_machine texts mark birth why place is h =
+        ⊎_elim (no_head_machine why)
+        (λ found.
+          let same : found.0 ≡ head = same_head found.0 head (one_entry (entry.Head found.0) (entry.Head head) (entry_bytes (entry.Head head)) found.1 head_spells) in
+          ⊎_elim (λ other. absurd (other_place head mark birth why place (subst (λ (x : HeadParts). IsOfOther x mark birth why) same other)))
+          (λ behind. behind_machine why (subst (λ (x : HeadParts). IsBehindHead form x (map entry_bytes left.entries) why) same behind.1)) found.2)
+        (subst (λ (l : List (List ℕ)). IsRefused form l mark birth why) is h)
+
+    -- what was replayed of it is of its head
+    pub of_replayed : (texts : List (List ℕ)) (h : HeadParts) (t : State K) (kept issued : ℕ) → Stands texts file → IsReplayed form texts h t kept issued → (h ≡ head) × IsOf h t
+    of_replayed texts h t kept issued stands is =
+        let same : entry.Head h ∷ is.entries ≡ entry.Head head ∷ left.entries =
+        same_entries (entry.Head h ∷ is.entries) (entry.Head head ∷ left.entries) is.spelled.in_grammar left.in_grammar (sym is.spelled.written ∙ one_list file texts (map entry_bytes (entry.Head head ∷ left.entries)) stands left.stands) in
+        let head_is : h ≡ head = first_head h head is.entries left.entries same in
+        let setting = replayed_setting form h.id t.filter h.event_limit (events_of is.entries) t is.replays in
+        let filters : t.filter ≡ s.filter = Reads-unique head.filter t.filter s.filter (subst (λ (x : HeadParts). Reads x.filter t.filter) head_is is.filter) left.head_is.tells.filter in
+        (head_is, record {
+          tells = record { id = setting.0; filter = is.filter; event_limit = setting.1 };
+          is_filter = subst (λ (f : List ClauseParts). IsFilter f) (sym filters) left.head_is.is_filter;
+          limit_from = subst (λ (x : HeadParts). 1 ≤ x.event_limit) (sym head_is) left.head_is.limit_from;
+          limit_to = subst (λ (x : HeadParts). x.event_limit ≤ MAX_EVENTS) (sym head_is) left.head_is.limit_to;
+        })
+
+    -- and so is a file that stands for the same entries
+    pub alike_has : (c : List ℕ) → StandAlike file c → HasLog form c head
+    alike_has c alike =
+        let same : alike.0 ≡ map entry_bytes (entry.Head head ∷ left.entries) = one_list file alike.0 (map entry_bytes (entry.Head head ∷ left.entries)) alike.1 left.stands in
+        (s, record {
+          entries = left.entries;
+          in_grammar = left.in_grammar;
+          stands = subst (λ (l : List (List ℕ)). Stands l c) same alike.2;
+          belong = left.belong;
+          head_is = left.head_is;
+          log_is = left.log_is;
+          is_its_log = left.is_its_log;
+        })
+
+    -- memory and the device aside, it is opened
+    pub opens : (mark : List ℕ) (birth : Option (List ℕ)) (why : OpenFault) → IsOfPlace head mark birth → IsOpenFault form file mark birth why → IsOfMachine why
+    opens mark birth why place (inl of_file) =
+        subst (λ (f : OpenFault). IsOfMachine f) (sym of_file.1) (not_refused file (map entry_bytes (entry.Head head ∷ left.entries)) of_file.0 left.stands of_file.2)
+    opens mark birth why place (inr of_texts) =
+        ⊎_elim
+        (λ refused. refused_machine of_texts.0 mark birth why place (one_list file of_texts.0 (map entry_bytes (entry.Head head ∷ left.entries)) of_texts.1 left.stands) refused)
+        (λ unkept. subst (λ (f : OpenFault). IsOfMachine f) (sym unkept.7) tt)
+        of_texts.2
+
+    -- and gives a replica that is alike
+    pub comes_back : {D V : Type 0} (seen : D → List ℕ) (may_leave : D → List ℕ → Type 0) (all : Bool) (j : Journaled K D V) → Reopens form seen may_leave file all j → ComesBack form s all (replica_of j)
+    comes_back seen may_leave all j again =
+        let entries : List Entry = entry.Head (head_of j) ∷ again.entries in
+        let same : entries ≡ entry.Head head ∷ left.entries = same_entries entries (entry.Head head ∷ left.entries) (all_front IsEntry entries _ again.kept.in_grammar) left.in_grammar (one_list file (map entry_bytes entries) (map entry_bytes (entry.Head head ∷ left.entries)) again.stood left.stands) in
+        let head_is : head_of j ≡ head = first_head (head_of j) head again.entries left.entries same in
+        let list : again.entries ≡ left.entries = behind_first (head_of j) head again.entries left.entries same in
+        let t : State K = again.replica in
+        let filters : t.filter ≡ s.filter = Reads-unique head.filter t.filter s.filter (subst (λ (h : HeadParts). Reads h.filter t.filter) head_is again.tells.filter) left.head_is.tells.filter in
+        let id : t.id ≡ head.id = again.tells.id ∙ ap (λ (h : HeadParts). h.id) head_is in
+        let limit : t.event_limit ≡ head.event_limit = again.tells.event_limit ∙ ap (λ (h : HeadParts). h.event_limit) head_is in
+        let theirs : Replays form head.id s.filter head.event_limit (events_of left.entries) t =
+        subst (λ (n : ℕ). Replays form n s.filter head.event_limit (events_of left.entries) t) id
+        (subst (λ (f : List ClauseParts). Replays form t.id f head.event_limit (events_of left.entries) t) filters
+        (subst (λ (n : ℕ). Replays form t.id t.filter n (events_of left.entries) t) limit
+        (subst (λ (l : List Entry). Replays form t.id t.filter t.event_limit (events_of l) t) list again.replays))) in
+        record { replica = t; alike = alike_replays form meaning head.id s.filter head.event_limit (events_of left.entries) s t replays theirs; closed = again.closed }
