@@ -42,12 +42,15 @@ module _ {K : Type 0} (form : Form K) where
       all_same s new (event ∷ events) h = setting_on s h.0 new (step_setting form s h.0 event (Ok h.1.0) h.1.1) (all_same h.0 new events h.2)
   reached s new (x ∷ xs) ys h =
       let rest = reached h.0 new xs ys h.2 in
-      let log = step_log form s h.0 x (Ok h.1.0) h.1.1 in
-      (rest.0, record {
-        admits = (h.0, h.1, rest.1.admits);
-        log_is = rest.1.log_is ∙ ap (λ (l : List Event). l ++ xs) log ∙ append_assoc s.log (x ∷ []) xs;
-        setting = setting_on s h.0 rest.0 (step_setting form s h.0 x (Ok h.1.0) h.1.1) rest.1.setting;
-      }, rest.2)
+      let log = step_log form s h.0 x (Ok h.1.0) h.1.1 in (
+        rest.0,
+        record {
+          admits = (h.0, h.1, rest.1.admits);
+          log_is = rest.1.log_is ∙ ap (λ (l : List Event). l ++ xs) log ∙ append_assoc s.log (x ∷ []) xs;
+          setting = setting_on s h.0 rest.0 (step_setting form s h.0 x (Ok h.1.0) h.1.1) rest.1.setting;
+        },
+        rest.2,
+      )
 
   -- a beginning of a replica's log is the log of a replica of the same setting
   pub record Begins (s : State K) (events : List Event) : Type 0 where
@@ -94,16 +97,18 @@ module _ {K : Type 0} (form : Form K) where
       → Stands (map entry_bytes entries) file → HasLog form file head
   has_log head s entries left file of is log are order stands =
       let told : events_of entries ≡ events_of order.behind = ap events_of order.first ∙ events_head head order.behind in
-      let from = begins s (events_of entries) left is log in
-      (from.replica, record {
-        entries = order.behind;
-        in_grammar = subst (λ (l : List Entry). AllByRecursion IsEntry l) order.first are;
-        stands = subst (λ (l : List Entry). Stands (map entry_bytes l) file) order.first stands;
-        belong = order.belong;
-        head_is = same_head head s from.replica from.setting of;
-        log_is = from.log_is ∙ told;
-        is_its_log = from.is_its_log;
-      })
+      let from = begins s (events_of entries) left is log in (
+        from.replica,
+        record {
+          entries = order.behind;
+          in_grammar = subst (λ (l : List Entry). AllByRecursion IsEntry l) order.first are;
+          stands = subst (λ (l : List Entry). Stands (map entry_bytes l) file) order.first stands;
+          belong = order.belong;
+          head_is = same_head head s from.replica from.setting of;
+          log_is = from.log_is ∙ told;
+          is_its_log = from.is_its_log;
+        },
+      )
 
 module _ {K D V : Type 0} {seen : D → List ℕ} {may_leave : D → List ℕ → Type 0} (form : Form K) where
   before_waiting : (entries : List Entry) (j : Journaled K D V) → IsKept seen may_leave entries j → (replica_of j).log ≡ events_of entries ++ waiting j

@@ -197,9 +197,9 @@ module _ {K : Type 0} (form : Form K) (meaning : IsByMeaning form) where
         ⊎_elim
         (λ stop. machine why (stop_memory left.entries why left.in_grammar.1 left.belong few stop))
         (λ no.
-          let same : no.0 ≡ left.entries = same_entries no.0 left.entries no.1.in_grammar left.in_grammar.1 (sym no.1.written) in
-          replay_machine head s.filter (events_of left.entries) s why left.head_is.limit_from left.head_is.limit_to replays
-          (subst (λ (f : List ClauseParts). IsNoReplay form head f (events_of left.entries) why) filters (subst (λ (l : List Entry). IsNoReplay form head behind.0 (events_of l) why) same no.3)))
+        let same : no.0 ≡ left.entries = same_entries no.0 left.entries no.1.in_grammar left.in_grammar.1 (sym no.1.written) in
+        replay_machine head s.filter (events_of left.entries) s why left.head_is.limit_from left.head_is.limit_to replays
+        (subst (λ (f : List ClauseParts). IsNoReplay form head f (events_of left.entries) why) filters (subst (λ (l : List Entry). IsNoReplay form head behind.0 (events_of l) why) same no.3)))
         behind.2
 
     head_spells : Spells (entry.Head head) (entry_bytes (entry.Head head))
@@ -213,9 +213,9 @@ module _ {K : Type 0} (form : Form K) (meaning : IsByMeaning form) where
     refused_machine texts mark birth why place is h =
         ⊎_elim (no_head_machine why)
         (λ found.
-          let same : found.0 ≡ head = same_head found.0 head (one_entry (entry.Head found.0) (entry.Head head) (entry_bytes (entry.Head head)) found.1 head_spells) in
-          ⊎_elim (λ other. absurd (other_place head mark birth why place (subst (λ (x : HeadParts). IsOfOther x mark birth why) same other)))
-          (λ behind. behind_machine why (subst (λ (x : HeadParts). IsBehindHead form x (map entry_bytes left.entries) why) same behind.1)) found.2)
+        let same : found.0 ≡ head = same_head found.0 head (one_entry (entry.Head found.0) (entry.Head head) (entry_bytes (entry.Head head)) found.1 head_spells) in
+        ⊎_elim (λ other. absurd (other_place head mark birth why place (subst (λ (x : HeadParts). IsOfOther x mark birth why) same other)))
+        (λ behind. behind_machine why (subst (λ (x : HeadParts). IsBehindHead form x (map entry_bytes left.entries) why) same behind.1)) found.2)
         (subst (λ (l : List (List ℕ)). IsRefused form l mark birth why) is h)
 
     -- what was replayed of it is of its head
@@ -225,27 +225,31 @@ module _ {K : Type 0} (form : Form K) (meaning : IsByMeaning form) where
         same_entries (entry.Head h ∷ is.entries) (entry.Head head ∷ left.entries) is.spelled.in_grammar left.in_grammar (sym is.spelled.written ∙ one_list file texts (map entry_bytes (entry.Head head ∷ left.entries)) stands left.stands) in
         let head_is : h ≡ head = first_head h head is.entries left.entries same in
         let setting = replayed_setting form h.id t.filter h.event_limit (events_of is.entries) t is.replays in
-        let filters : t.filter ≡ s.filter = Reads-unique head.filter t.filter s.filter (subst (λ (x : HeadParts). Reads x.filter t.filter) head_is is.filter) left.head_is.tells.filter in
-        (head_is, record {
-          tells = record { id = setting.0; filter = is.filter; event_limit = setting.1 };
-          is_filter = subst (λ (f : List ClauseParts). IsFilter f) (sym filters) left.head_is.is_filter;
-          limit_from = subst (λ (x : HeadParts). 1 ≤ x.event_limit) (sym head_is) left.head_is.limit_from;
-          limit_to = subst (λ (x : HeadParts). x.event_limit ≤ MAX_EVENTS) (sym head_is) left.head_is.limit_to;
-        })
+        let filters : t.filter ≡ s.filter = Reads-unique head.filter t.filter s.filter (subst (λ (x : HeadParts). Reads x.filter t.filter) head_is is.filter) left.head_is.tells.filter in (
+          head_is,
+          record {
+            tells = record { id = setting.0; filter = is.filter; event_limit = setting.1 };
+            is_filter = subst (λ (f : List ClauseParts). IsFilter f) (sym filters) left.head_is.is_filter;
+            limit_from = subst (λ (x : HeadParts). 1 ≤ x.event_limit) (sym head_is) left.head_is.limit_from;
+            limit_to = subst (λ (x : HeadParts). x.event_limit ≤ MAX_EVENTS) (sym head_is) left.head_is.limit_to;
+          },
+        )
 
     -- and so is a file that stands for the same entries
     pub alike_has : (c : List ℕ) → StandAlike file c → HasLog form c head
     alike_has c alike =
-        let same : alike.0 ≡ map entry_bytes (entry.Head head ∷ left.entries) = one_list file alike.0 (map entry_bytes (entry.Head head ∷ left.entries)) alike.1 left.stands in
-        (s, record {
-          entries = left.entries;
-          in_grammar = left.in_grammar;
-          stands = subst (λ (l : List (List ℕ)). Stands l c) same alike.2;
-          belong = left.belong;
-          head_is = left.head_is;
-          log_is = left.log_is;
-          is_its_log = left.is_its_log;
-        })
+        let same : alike.0 ≡ map entry_bytes (entry.Head head ∷ left.entries) = one_list file alike.0 (map entry_bytes (entry.Head head ∷ left.entries)) alike.1 left.stands in (
+          s,
+          record {
+            entries = left.entries;
+            in_grammar = left.in_grammar;
+            stands = subst (λ (l : List (List ℕ)). Stands l c) same alike.2;
+            belong = left.belong;
+            head_is = left.head_is;
+            log_is = left.log_is;
+            is_its_log = left.is_its_log;
+          },
+        )
 
     -- memory and the device aside, it is opened
     pub opens : (mark : List ℕ) (birth : Option (List ℕ)) (why : OpenFault) → IsOfPlace head mark birth → IsOpenFault form file mark birth why → IsOfMachine why
