@@ -14,7 +14,7 @@ use Rattle.mr_store.specs.Revisions.{version_of}
 use Rattle.mr_session.specs.Held.{FitOneByOne, HasJust, IsAsLongAsCanBe, AreCut}
 
 -- a version more of a list is one more of its set
-listed_more : (front : List Name) (v w : Name) → is_listed (front ++ v ∷ []) w ≡ (name_eq v w || is_listed front w)
+pub listed_more : (front : List Name) (v w : Name) → is_listed (front ++ v ∷ []) w ≡ (name_eq v w || is_listed front w)
 listed_more front v w =
     list_any-append (name_eq w) front (v ∷ [])
     ∙ (ap (λ (b : Bool). is_listed front w || b) (sym (or_nothing (name_eq w v)) ∙ name_eq-symmetric w v)

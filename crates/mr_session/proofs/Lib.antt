@@ -5,6 +5,10 @@ pub mod ViewLemmas
 pub mod NumberLemmas
 pub mod HeldLemmas
 pub mod CutLemmas
+pub mod RowLemmas
+pub mod GrowLemmas
+pub mod GrowingLemmas
+pub mod SoFarLemmas
 pub mod DrawnLemmas
 pub mod WalkLemmas
 pub mod DrawLemmas

@@ -8,7 +8,7 @@ use Rattle.mr_store.specs.Holdings.{Holdings}
 use Rattle.mr_wire.specs.Values.{Piece}
 use Rattle.mr_wire.specs.Frames.{Sent}
 use Rattle.mr_wire.specs.declared.frame.Body.{Body}
-use Rattle.mr_wire.specs.declared.frame.Body.TheVariants.{Start, Item, MoveOut, Held, Know, End}
+use Rattle.mr_wire.specs.declared.frame.Body.TheVariants.{Start, MoveOut, Held, Know, End}
 use Rattle.mr_wire.specs.declared.frame.Mode.{Mode}
 use Rattle.mr_wire.specs.declared.frame.Mode.TheVariants.{Full, Partial}
 use Rattle.mr_concise.proofs.UnionLemmas.{column_has-empty}

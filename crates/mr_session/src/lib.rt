@@ -37,6 +37,7 @@ mod copies;
 mod due;
 mod fault;
 mod held;
+mod held_runs;
 mod incoming;
 mod limits;
 mod open_table;

@@ -191,7 +191,8 @@ impl Outgoing {
     /// A Start comes first. Then come the revisions that are due, by version, from behind the last one that a
     /// draw looked at, as an Item or a MoveOut. Once nothing more is due a full stream gives its heads, and
     /// then what its source knows; an End comes last. It costs a copy of a revision's handle, or of the
-    /// vector that is told; the first Held costs a walk over the heads.
+    /// vector that is told; the first Held costs a short search for each run of versions of the
+    /// heads, or a walk over them where one vector has no room for all.
     pub(crate) fn draw(
         &mut self,
         source: Author,

@@ -57,7 +57,8 @@ impl OpenTable<Outgoing> {
     /// A Start comes first. Then come the revisions that are due, by version, from behind the last one that a
     /// draw looked at, each as an Item or a MoveOut. Once nothing more is due a full stream gives its heads,
     /// and then what its source knows; an End comes last. It costs a copy of a revision's handle, or of the
-    /// vector that is told; the first Held costs a walk over the heads. The others need no memory.
+    /// vector that is told; the first Held costs a short search for each run of versions of the
+    /// heads, or a walk over them where one vector has no room for all. The others need no memory.
     pub fn draw(&mut self, number: u64, source: Author, store: &Store) -> Result<Record, AllocError>
         requires open { IsSome (open_at self.old number) }
         requires goes_on { IfSome (open_at self.old number) (λ stream. stream.next + 1 < 2 ^ 32) }

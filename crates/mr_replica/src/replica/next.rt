@@ -17,7 +17,8 @@ impl<K: Knowledge> Replica<K> {
 
     /// The next record of the open stream of this number, of the heads and push-outs as they are now; the End
     /// closes the stream. A retired replica gives records too. It costs what its record copies; the first record
-    /// of the heads costs a walk over them.
+    /// of the heads costs a short search for each run of their versions, or a walk over them where one vector has no
+    /// room for all.
     ///
     /// `NoStream`, then `LogFull`, and `OutOfMemory` last; a refused event changes nothing.
     pub fn next(&mut self, stream: u64) -> Result<Record, Refusal>

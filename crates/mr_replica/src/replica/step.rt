@@ -52,8 +52,10 @@ impl<K: Knowledge> Replica<K> {
     /// It costs searches, a shift of handles in the store, and the vector of what the new version
     /// supersedes; an edit looks at the held revisions of its item alone, and no message is copied. A pull
     /// costs the fragments of what is known, and a next what its record copies; the first record of the heads costs
-    /// a walk over them. A record that is received costs what the form takes to learn the version, and the end of a
-    /// full stream the merge of its fragments and one walk over the heads.
+    /// a short search for each run of their versions where one vector has room for them, else a walk over them. A
+    /// record that is received costs what the form takes to learn the version, and the end of a full stream the merge
+    /// of its fragments, some searches for each run of versions that the source held, and the test of each other
+    /// head.
     pub fn step(&mut self, event: Event) -> Result<Reply, Refusal>
         ensures steps { Steps K.form self.old event result self.new }
         // Memory aside, answer and new replica are one function of replica and event: a replica that is
