@@ -23,7 +23,7 @@ pub(crate) fn setup(alloc: Global, filter: &str, mark: Mark) -> Result<Setup> {
     Ok(Setup {
         id: Author::try_new(0)?,
         filter: Filter::read(alloc, filter)?,
-        event_limit: 1000,
+        event_limit: 1_000_000,
         birth: [3; 16],
         mark,
     })

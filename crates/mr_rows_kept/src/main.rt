@@ -1,6 +1,9 @@
 //! A replica that is kept in a file, closed, and opened again, and what a replica that isn't kept takes from it.
+//!
+//! With words on its command line the program writes and reads a replica in a file, for `tools/try-kept`.
 #![tactic(auto)]
 
+mod driver;
 mod mail;
 mod sync;
 
@@ -13,6 +16,7 @@ use mr_kept::Journaled;
 use mr_replica::Replica;
 use mr_version::Author;
 use std::alloc::Global;
+use std::env;
 use std::fs::{self, File};
 use std::rt::Files;
 use sync::{Office, Phone, sync};
@@ -27,6 +31,10 @@ const HERE: Mark = [7; 32];
 const SUBJECTS: [&str; 2] = ["Minutes", "Lunch"];
 
 fn main(rt: HostRuntime) -> Result<()> {
+    let words: Vec<String> = env::args(&rt)?.collect(rt.alloc())?;
+    if words.len() > 1 {
+        return driver::drive(&rt, &HERE, &words);
+    }
     run(&rt)
 }
 

@@ -1,7 +1,7 @@
 //! How a replica that is kept tells one that isn't.
 
 use anyhow::{Result, bail};
-use mr_forms::PlainKnowledge;
+use mr_itemset::SparingKnowledge;
 use mr_journal::DiskFile;
 use mr_kept::Journaled;
 use mr_replica::{Received, Replica, Reply};
@@ -9,10 +9,10 @@ use mr_wire::{decode, encode_record};
 use std::alloc::Global;
 
 /// A replica with its journal in a file.
-pub(crate) type Office = Journaled<PlainKnowledge, DiskFile>;
+pub(crate) type Office = Journaled<SparingKnowledge, DiskFile>;
 
 /// A replica that isn't kept.
-pub(crate) type Phone = Replica<PlainKnowledge>;
+pub(crate) type Phone = Replica<SparingKnowledge>;
 
 /// More records than any of the syncs has.
 const MANY_RECORDS: u32 = 100;

@@ -1,0 +1,115 @@
+//! A replica in a file that is named on the command line, for tools that stop the program, cut its file and change it.
+
+use crate::begin;
+use crate::mail::message;
+use crate::sync::Office;
+use anyhow::{Error, Result, anyhow, bail};
+use mr_entry::Mark;
+use mr_journal::DiskFile;
+use mr_kept::{Journaled, KeptFault};
+use std::alloc::Global;
+use std::fs::File;
+use std::rt::Files;
+
+/// `begin FILE` begins a replica there. `write FILE COUNT SIZE` has it issue so many times so many messages, a commit each time,
+/// and prints after each how many it holds; `read FILE` prints how many it holds, once each is the one that belongs there.
+pub(crate) fn drive<R: Files<File = File> + Print + AllocGlobal>(
+    rt: &R,
+    here: &Mark,
+    words: &[String],
+) -> Result<()> {
+    match words {
+        [_, what, path] if what.as_str() == "begin" => {
+            begin(rt.alloc(), DiskFile::open(rt, path.as_str())?)
+        }
+        [_, what, path] if what.as_str() == "read" => open(rt, here, path.as_str(), 0, 0),
+        [_, what, path, count, size] if what.as_str() == "write" => {
+            open(rt, here, path.as_str(), number(count)?, number(size)?)
+        }
+        _ => bail!("usage: begin FILE, write FILE COUNT SIZE, read FILE, or nothing"),
+    }
+}
+
+fn number(word: &String) -> Result<u64> {
+    match word.as_str().parse::<u64>() {
+        Ok(number) => Ok(number),
+        Err(_) => bail!("not a number: {word}"),
+    }
+}
+
+/// Opens the replica, and has it write.
+fn open<R: Files<File = File> + Print + AllocGlobal>(
+    rt: &R,
+    here: &Mark,
+    path: &str,
+    count: u64,
+    size: u64,
+) -> Result<()> {
+    let file = DiskFile::open(rt, path)?;
+    match Journaled::open(rt.alloc(), file, here, None) {
+        Ok((mut office, _)) => {
+            let told = fill(rt, &mut office, count, size);
+            let _ = office.into_device();
+            told
+        }
+        Err((fault, _file)) => bail!("{fault}"),
+    }
+}
+
+fn fill<R: Print + AllocGlobal>(rt: &R, office: &mut Office, count: u64, size: u64) -> Result<()> {
+    let mut held = held_by(rt.alloc(), office)?;
+    rt.println(held)?;
+    for _ in 0..count {
+        write(rt.alloc(), office, held, size)?;
+        held = held.saturating_add(size);
+        rt.println(held)?;
+    }
+    Ok(())
+}
+
+/// How many messages the replica holds, each of which is the one that belongs there.
+fn held_by(alloc: Global, office: &Office) -> Result<u64> {
+    let mut number = 0u64;
+    for head in office.replica().heads() {
+        if head.message().subject() != subject(alloc, number)?.as_str() {
+            bail!("message {number} is another");
+        }
+        number = number.saturating_add(1);
+    }
+    Ok(number)
+}
+
+/// The replica issues so many messages from this number on, and keeps them.
+fn write(alloc: Global, office: &mut Office, first: u64, size: u64) -> Result<()> {
+    for i in 0..size {
+        let subject = subject(alloc, first.saturating_add(i))?;
+        office.create(message(alloc, subject.as_str())?)?;
+    }
+    let handed_out = match office.commit() {
+        Ok(replies) => replies.len(),
+        Err(fault) => return Err(told(office, fault)),
+    };
+    if handed_out as u64 != size {
+        bail!("{handed_out} of {size} messages were handed out");
+    }
+    Ok(())
+}
+
+/// The fault, and the system's words for it.
+fn told(office: &Office, fault: KeptFault) -> Error {
+    match office.journal().device().error() {
+        Some(error) => anyhow!("{fault}: {error}"),
+        None => anyhow!("{fault}"),
+    }
+}
+
+/// The subject of the message of this number.
+fn subject(alloc: Global, number: u64) -> Result<String> {
+    Ok(format!(in alloc; "{number} {FILLER}")?)
+}
+
+/// What stands behind the number of a message. With the rest its event has about 400 bytes.
+const FILLER: &str =
+    "is the number of this message, which is one of those that the driver writes. It has so many words that its event \
+has about as many bytes as the one of a small message, since a journal of many such events is to be opened, and the time that this takes \
+is to be told. Nothing else is said here, and nobody has to read it to its end.";
