@@ -1,7 +1,7 @@
 //! A node that pulls over both links at once, and capacities.
 use crate::gates::Crossing;
 use crate::parts::{Fault, Outfit, Parts, Side, idle, outfit_for, run, run_over};
-use crate::samples::{Device, count_open, events, held_text, with_mail};
+use crate::samples::{Plain, count_open, creates, held_text, with_mail};
 use crate::strange::Strange;
 use mr_link::{OpenGate, lane_link};
 use mr_node::NodeFault;
@@ -23,7 +23,7 @@ fn side(turns: &str) -> Side<'_> {
 }
 
 /// The parts of a node that serves over this link.
-fn server<R: Wait + Copy>(alloc: Global, replica: Device, outfit: Outfit<R>) -> Parts<R> {
+fn server<R: Wait + Copy>(alloc: Global, replica: Plain, outfit: Outfit<R>) -> Parts<R> {
     Parts {
         replica,
         events: outfit.events,
@@ -33,7 +33,7 @@ fn server<R: Wait + Copy>(alloc: Global, replica: Device, outfit: Outfit<R>) -> 
 }
 
 /// The parts of a node that pulls over these.
-fn puller<R: Wait + Copy>(replica: Device, first: Outfit<R>, second: Outfit<R>) -> Parts<R> {
+fn puller<R: Wait + Copy>(replica: Plain, first: Outfit<R>, second: Outfit<R>) -> Parts<R> {
     Parts {
         replica,
         events: first.events,
@@ -49,7 +49,7 @@ fn run_three<R: Threads + Wait + Sync + Send + Copy>(
     puller: Parts<R>,
     first: Parts<R>,
     second: Parts<R>,
-) -> Option<Device> {
+) -> Option<Plain> {
     let crossing = Crossing {
         first: AtomicU64::new(0),
         second: AtomicU64::new(0),
@@ -82,7 +82,7 @@ fn served<R: Wait + Copy>(rt: &R, alloc: Global, id: u16) -> Result<(Parts<R>, O
 fn pulled<R: Threads + Wait + Sync + Send + Copy>(
     rt: &R,
     alloc: Global,
-) -> Result<Option<Device>, Fail> {
+) -> Result<Option<Plain>, Fail> {
     let (first_server, first) = served(rt, alloc, 1)?;
     let (second_server, second) = served(rt, alloc, 2)?;
     let puller = puller(with_mail(alloc, 0, "")?, first, second);
@@ -90,7 +90,7 @@ fn pulled<R: Threads + Wait + Sync + Send + Copy>(
 }
 
 /// How much of a replica is open, how long its log is, and what it holds.
-fn shown(alloc: Global, replica: &Device) -> Result<String, Fail> {
+fn shown(alloc: Global, replica: &Plain) -> Result<String, Fail> {
     let open = count_open(replica)?;
     let count = replica.log().len();
     let held = held_text(alloc, replica)?;
@@ -98,11 +98,11 @@ fn shown(alloc: Global, replica: &Device) -> Result<String, Fail> {
 }
 
 /// Fails unless the node came to an end with nothing open, and has all that both others have.
-fn expect_crossed(alloc: Global, end: &Option<Device>) -> Result<(), Fail> {
+fn expect_crossed(alloc: Global, end: &Option<Plain>) -> Result<(), Fail> {
     match end {
         Some(replica) => {
             let shown = shown(alloc, replica)?;
-            expect(shown, "open 0 log 14 heads 1.1 1.2 2.1 2.2 push-outs ")
+            expect(shown, "open 0 log 16 heads 1.1 1.2 2.1 2.2 push-outs ")
         }
         None => Err(Fail::new(format_args!("no end"))),
     }
@@ -119,7 +119,7 @@ fn some_parts<R: Wait + Copy>(rt: &R, alloc: Global) -> Result<Parts<R>, Fail> {
     let (here, there) = lane_link(*rt, alloc, 1)?;
     let first = outfit_for(alloc, side("PS"), here)?;
     let second = outfit_for(alloc, side("S"), there)?;
-    let events = events(alloc, "i")?;
+    let events = creates(alloc, "i")?;
     Ok(Parts {
         replica: with_mail(alloc, 0, "i")?,
         events,

@@ -1,6 +1,6 @@
 //! Two nodes that are joined by a link, and meet several times.
 use crate::parts::{Outfit, Parts, Side, idle, outfit_for, run};
-use crate::samples::{Device, count_open, held_text, log_text, replica};
+use crate::samples::{Plain, count_open, held_text, log_text, replica};
 use mr_link::{Gate, lane_link};
 use std::alloc::Global;
 use std::sync::Wait;
@@ -11,8 +11,8 @@ use std::thread::Threads;
 /// The replicas of two nodes between their runs. One whose run came to nothing is gone.
 #[derive(Drop)]
 pub(crate) struct Pair {
-    pub first: Option<Device>,
-    pub second: Option<Device>,
+    pub first: Option<Plain>,
+    pub second: Option<Plain>,
 }
 
 impl Pair {
@@ -26,7 +26,7 @@ impl Pair {
 }
 
 /// The parts of a node over one link.
-fn parts<R: Wait + Copy>(alloc: Global, replica: Device, outfit: Outfit<R>) -> Parts<R> {
+fn parts<R: Wait + Copy>(alloc: Global, replica: Plain, outfit: Outfit<R>) -> Parts<R> {
     Parts {
         replica,
         events: outfit.events,
@@ -39,10 +39,10 @@ fn parts<R: Wait + Copy>(alloc: Global, replica: Device, outfit: Outfit<R>) -> P
 fn run_one<G: Gate + Sync, R: Threads + Wait + Sync + Send + Copy>(
     rt: &R,
     alloc: Global,
-    replica: Option<Device>,
+    replica: Option<Plain>,
     outfit: Outfit<R>,
     gate: &G,
-) -> Option<Device> {
+) -> Option<Plain> {
     match replica {
         Some(replica) => run(rt, alloc, parts(alloc, replica, outfit), gate),
         None => None,
@@ -86,7 +86,7 @@ pub(crate) fn meet<G: Gate + Sync, R: Threads + Wait + Sync + Send + Copy>(
 }
 
 /// The replica of a node that came to an end.
-fn came(replica: &Option<Device>) -> Result<&Device, Fail> {
+fn came(replica: &Option<Plain>) -> Result<&Plain, Fail> {
     match replica {
         Some(replica) => Ok(replica),
         None => Err(Fail::new(format_args!("a node came to nothing"))),
@@ -101,7 +101,7 @@ pub(crate) fn held(alloc: Global, pair: &Pair) -> Result<String, Fail> {
 }
 
 /// The log of one of them.
-pub(crate) fn log_of(alloc: Global, replica: &Option<Device>) -> Result<String, Fail> {
+pub(crate) fn log_of(alloc: Global, replica: &Option<Plain>) -> Result<String, Fail> {
     log_text(alloc, came(replica)?.log())
 }
 

@@ -1,7 +1,7 @@
 //! The parts of nodes, and a run of one.
 ghost use Rattle.std.specs.Prelude.{◌≡◌};
 
-use crate::samples::{Device, events};
+use crate::samples::{Plain, creates};
 use crate::strange::{Strange, StrangeLink};
 use mr_link::{Gate, LaneLink};
 use mr_node::{LinkTurns, NodeEnd, NodeFault, NodeParts, Turn, run_node};
@@ -23,13 +23,13 @@ pub(crate) struct Plan<R> {
 /// The parts of a node over two such links.
 #[derive(Drop)]
 pub(crate) struct Parts<R> {
-    pub replica: Device,
+    pub replica: Plain,
     pub events: Vec<Event>,
     pub first: Plan<R>,
     pub second: Plan<R>,
 }
 
-/// What a node does: a character for each event of its user, as `events` reads them, a character for each turn of its
+/// What a node does: a character for each Create of its user, as `creates` reads them, a character for each turn of its
 /// link, and what the link does strangely.
 #[derive(Clone, Copy, Debug)]
 pub(crate) struct Side<'a> {
@@ -74,7 +74,7 @@ pub(crate) fn outfit_for<R: Wait + Copy>(
     side: Side<'_>,
     lane: LaneLink<R>,
 ) -> Result<Outfit<R>, Fail> {
-    let events = events(alloc, side.events)?;
+    let events = creates(alloc, side.events)?;
     let turns = turns(alloc, side.turns)?;
     let plan = Plan {
         lane: Some(lane),
@@ -104,10 +104,10 @@ fn link_turns<R: Wait + Copy>(plan: Plan<R>) -> LinkTurns<StrangeLink<R>>
 }
 
 /// What a node comes to, with its links.
-pub(crate) type Ran<R> = (NodeEnd<Device>, StrangeLink<R>, StrangeLink<R>);
+pub(crate) type Ran<R> = (NodeEnd<Plain>, StrangeLink<R>, StrangeLink<R>);
 
 /// Why it comes to nothing.
-pub(crate) type Fault<R> = NodeFault<Device, StrangeLink<R>, StrangeLink<R>>;
+pub(crate) type Fault<R> = NodeFault<Plain, StrangeLink<R>, StrangeLink<R>>;
 
 /// Runs a node over lanes of so many places.
 pub(crate) fn run_over<G: Gate + Sync, R: Threads + Wait + Sync + Send + Copy>(
@@ -132,7 +132,7 @@ pub(crate) fn run<G: Gate + Sync, R: Threads + Wait + Sync + Send + Copy>(
     alloc: Global,
     parts: Parts<R>,
     gate: &G,
-) -> Option<Device> {
+) -> Option<Plain> {
     match run_over(rt, alloc, parts, gate, 4) {
         Ok((end, _, _)) => Some(end.replica),
         Err(_) => None,
