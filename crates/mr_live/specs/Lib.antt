@@ -1,0 +1,6 @@
+pub mod Fault
+pub mod Plan
+pub mod Telling
+pub mod Rounds
+pub mod Live
+pub mod Rows

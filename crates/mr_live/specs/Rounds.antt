@@ -1,0 +1,94 @@
+-- two nodes in two rounds
+use Rattle.std.specs.Prelude.{◌≡◌, ℕ, Bool, false, List, [], ◌∷◌}
+use Rattle.mr_forms.specs.Known.{Form, AreSame}
+use Rattle.mr_lane.specs.declared.note.Sender.{Sender}
+use Rattle.mr_link.specs.LaneLink.{LaneEnd, lane_tells, new_link, AreJoined}
+use Rattle.mr_node.specs.Node.{ReplicaNodeRan}
+use Rattle.mr_node.specs.declared.node.LinkTurns.{LinkTurns}
+use Rattle.mr_node.specs.declared.node.NodeEnd.{NodeEnd}
+use Rattle.mr_node.specs.declared.node.NodeParts.{NodeParts}
+use Rattle.mr_node.specs.declared.turn.Turn.{Turn}
+use Rattle.mr_node.specs.declared.turn.Turn.TheVariants.{Pull, Serve}
+use Rattle.mr_replica.specs.State.{State, new_state}
+use Rattle.mr_replica.specs.declared.event.Event.{Event}
+use Rattle.mr_world.specs.declared.spec.Spec.{Spec}
+use Rattle.mr_live.specs.declared.plan.NodePlan.{NodePlan}
+use Rattle.mr_live.specs.declared.rounds.TheConstants.{LINK_PIECES}
+
+-- no gate closes
+abbrev pub never : Sender → ℕ → Bool
+never = λ link number. false
+
+-- the first and the second link of a node
+abbrev pub Links : Type 0
+Links = LinkTurns LaneEnd × LinkTurns LaneEnd
+
+-- nothing passed over them yet
+pub record AreNew (links : Links) : Type 0 where
+  pub first : links.0.link.tells ≡ new_link
+  pub second : links.1.link.tells ≡ new_link
+
+-- they have these turns
+pub record HaveTurns (on_first on_second : List Turn) (links : Links) : Type 0 where
+  pub first : links.0.turns.items ≡ on_first
+  pub second : links.1.turns.items ≡ on_second
+
+-- the two ends of a new link, with no turn on either
+pub record AreIdle (links : Links) : Type 0 where
+  pub turns : HaveTurns [] [] links
+  pub joined : AreJoined LINK_PIECES links.0.link links.1.link
+
+-- a node's links: it pulls over the one and serves over the other
+pub record PullAndServe (pulls serves : LaneEnd) (links : Links) : Type 0 where
+  pub first : links.0.link ≡ pulls
+  pub second : links.1.link ≡ serves
+  pub turns : HaveTurns (Pull ∷ []) (Serve ∷ []) links
+
+-- Each node pulls over its first link, which is new, and whose other end is the second link of the other, over which that one serves.
+pub record Cross (these those : Links) : Type 0 where
+  pub first_turns : HaveTurns (Pull ∷ []) (Serve ∷ []) these
+  pub second_turns : HaveTurns (Pull ∷ []) (Serve ∷ []) those
+  pub first_pulls : AreJoined LINK_PIECES these.0.link those.1.link
+  pub second_pulls : AreJoined LINK_PIECES those.0.link these.1.link
+
+module _ {K : Type 0} (form : Form K) where
+  -- A node without a gate ran from this replica to that one, with these links; its user asked these.
+  pub record RanFrom (old : State K) (events : List Event) (links : Links) (new : State K) : Type 0 where
+    pub parts : NodeParts (State K) LaneEnd LaneEnd
+    pub replica : parts.replica ≡ old
+    pub asked : parts.events.items ≡ events
+    pub first_link : parts.first_link ≡ links.0
+    pub second_link : parts.second_link ≡ links.1
+    pub end : NodeEnd (State K)
+    pub first_after : LaneEnd
+    pub second_after : LaneEnd
+    pub ran : ReplicaNodeRan form lane_tells lane_tells never parts end first_after second_after
+    pub is : new ≡ end.replica
+
+  -- a replica that was just made of this, and knows nothing
+  pub record IsNew (spec : Spec) (s : State K) : Type 0 where
+    pub is : s ≡ new_state spec.id spec.filter spec.event_limit s.knowledge
+    pub knows_nothing : AreSame (form.known s.knowledge) (λ _ _. false)
+
+  -- in a round of its own, a new replica was asked all that the plan says
+  pub record RanAlone (plan : NodePlan) (new : State K) : Type 0 where
+    pub start : State K
+    pub is_new : IsNew plan.spec start
+    pub links : Links
+    pub idle : AreIdle links
+    pub ran : RanFrom start plan.events.items links new
+
+  -- Both were asked nothing more, and each pulled what the other served.
+  pub record RanBoth (old new : State K × State K) : Type 0 where
+    pub first_links : Links
+    pub second_links : Links
+    pub cross : Cross first_links second_links
+    pub first : RanFrom old.0 [] first_links new.0
+    pub second : RanFrom old.1 [] second_links new.1
+
+  -- each alone, and then both at once
+  pub record TwoRounds (plans : NodePlan × NodePlan) (ended : State K × State K) : Type 0 where
+    pub between : State K × State K
+    pub first : RanAlone plans.0 between.0
+    pub second : RanAlone plans.1 between.1
+    pub both : RanBoth between ended

@@ -1,0 +1,82 @@
+-- worked rows: what the definitions give for small values
+use Rattle.std.specs.Prelude.{◌≡◌, ◌<◌, ℕ, Bool, true, false, List, [], ◌∷◌, map, Some, None, Ok, Err, codes, refl}
+use Rattle.std.specs.Fmt.{digits}
+use Rattle.std.proofs.Common.{inl, inr, arith}
+use Rattle.mr_mail.specs.Mail.{Mail}
+use Rattle.mr_replica.specs.State.{State, new_state}
+use Rattle.mr_replica.specs.declared.event.Event.TheVariants as replica
+use Rattle.mr_version.specs.Name.{Name}
+use Rattle.mr_world.specs.declared.event.Event.TheVariants as world
+use Rattle.mr_script.specs.declared.fault.ScriptFault.TheVariants.{Read, Write}
+use Rattle.mr_live.specs.Fault.{live_fault_number}
+use Rattle.mr_live.specs.Live.{AreById, Writes}
+use Rattle.mr_live.specs.Plan.{PlanView, no_plan, asked_by, events_for, is_live_line, scene_of}
+use Rattle.mr_live.specs.Telling.{told_text, unexplained_text}
+use Rattle.mr_live.specs.declared.fault.LiveFault.TheVariants.{OutOfMemory, Script, NotTwo}
+use Rattle.mr_live.specs.declared.plan.Asked.{Asked}
+
+-- ---- lines
+
+-- a line is looked at by its first word alone
+pub lines_of_a_live_script : map is_live_line (codes "replica 0 9 1 all" ∷ codes "create" ∷ codes "edit 0 0.1" ∷ codes "sync 1 0" ∷ codes "sync" ∷ codes "creates 0" ∷ codes " create 0" ∷ []) ≡ true ∷ true ∷ true ∷ false ∷ false ∷ false ∷ false ∷ []
+lines_of_a_live_script = refl
+
+-- ---- what users ask
+
+abbrev mail : Mail
+mail = record { from = []; subject = []; body = []; labels = []; flags = 0; day = 0 }
+
+abbrev first : Name
+first = record { author = 0; counter = 1 }
+
+abbrev create : ℕ → Asked
+create id = record { id = id; event = replica.Create mail }
+
+abbrev edit : ℕ → Asked
+edit id = record { id = id; event = replica.Edit (first ∷ []) mail }
+
+pub only_creates_and_edits : map asked_by (world.Create 1 mail ∷ world.Edit 0 (first ∷ []) mail ∷ world.Retire 0 ∷ world.Pull 1 ∷ []) ≡ Some (create 1) ∷ Some (edit 0) ∷ None ∷ None ∷ []
+only_creates_and_edits = refl
+
+-- each node has its own, in order
+pub each_its_own : map (λ id. events_for id (create 0 ∷ create 1 ∷ edit 0 ∷ [])) (0 ∷ 1 ∷ 2 ∷ [])
+    ≡ (replica.Create mail ∷ replica.Edit (first ∷ []) mail ∷ []) ∷ (replica.Create mail ∷ []) ∷ [] ∷ []
+each_its_own = refl
+
+-- behind an event no replica comes any more
+pub opening_ends : map (λ (p : PlanView). (scene_of p).is_opening) (no_plan ∷ record { specs = []; asked = create 0 ∷ [] } ∷ []) ≡ true ∷ false ∷ []
+opening_ends = refl
+
+-- ---- what is told
+
+module _ {K : Type 0} (knowledge : K) where
+  abbrev empty : ℕ → State K
+  empty id = new_state id [] 9 knowledge
+
+  pub both_empty : told_text (empty 0 ∷ empty 63 ∷ []) ≡ codes "joined\nheads 0:\npushouts 0:\nheads 63:\npushouts 63:\n"
+  unfolding digits
+  both_empty = refl
+
+  pub one_holds : told_text (record (empty 1) { heads = record { item = first; version = first; below = []; message = mail } ∷ [] } ∷ []) ≡ codes "joined\nheads 1: 0.1\npushouts 1:\n"
+  unfolding digits
+  one_holds = refl
+
+  -- whichever comes first in the script, the lower id comes first
+  pub by_lower_id : AreById (empty 3) (empty 1) (empty 1 ∷ empty 3 ∷ [])
+  by_lower_id = inr (omega arith, refl)
+
+pub stuck : unexplained_text 1 20 ≡ codes "unexplained 1 20\n"
+unfolding digits
+stuck = refl
+
+-- ---- what is written
+
+pub whole : Writes true (codes "joined\n") (Ok true) (Some (codes "> ")) (Some (codes "> joined\n"))
+whole = (refl, refl)
+
+pub a_beginning : Writes true (codes "joined\n") (Err (Script Write)) (Some []) (Some (codes "join"))
+a_beginning = (refl, (codes "join", codes "ed\n", refl, refl))
+
+-- no memory is 0, a script at fault is 1, and another number of replicas is 2
+pub numbers_of_faults : map live_fault_number (OutOfMemory ∷ Script Read ∷ NotTwo ∷ []) ≡ 0 ∷ 1 ∷ 2 ∷ []
+numbers_of_faults = refl

@@ -1,0 +1,180 @@
+//! Two nodes in two rounds.
+ghost use Rattle.std.specs.Prelude.{◌≡◌, ◌∷◌, [], IfOk, IfSome};
+ghost use Rattle.std.specs.Thread.{IsSend, IsSync};
+ghost use Rattle.mr_link.specs.LaneLink.{new_link};
+ghost use Rattle.mr_node.specs.declared.turn.Turn.TheVariants.{Pull, Serve};
+ghost use Rattle.mr_live.specs.Rounds.{AreIdle, AreNew, Cross, HaveTurns, PullAndServe, RanAlone, RanBoth, RanFrom, TwoRounds};
+
+use crate::plan::NodePlan;
+use mr_forms::Knowledge;
+use mr_lane::LaneFault;
+use mr_link::{LaneLink, OpenGate, lane_link};
+use mr_node::{LinkTurns, NodeParts, Turn, run_node};
+use mr_replica::{Event, Replica};
+use std::alloc::{AllocError, Global};
+use std::sync::Wait;
+use std::thread;
+use std::thread::Threads;
+
+/// How many pieces may wait in each direction of a link.
+const LINK_PIECES: usize = 16;
+
+/// The first and the second link of a node, each with its turns.
+type Links<R> = (LinkTurns<LaneLink<R>>, LinkTurns<LaneLink<R>>);
+
+/// Runs both nodes in two rounds, each with links of its own: each alone with what its user asks, and then both at once,
+/// where each pulls over its first link what the other serves over its second. Their replicas in the order of the nodes.
+/// `None` where memory was wanting, or a thread.
+pub(crate) fn run_rounds<K: Knowledge<Vector: Send> + Send, R: Threads + Wait + Sync + Send + Copy>(
+    rt: &R,
+    alloc: Global,
+    first: NodePlan,
+    second: NodePlan,
+) -> Option<(Replica<K>, Replica<K>)>
+    ensures { IfSome result (λ ended. TwoRounds K.form (first, second) ended) }
+{
+    let (first_places, second_places) = (first.spec.port_capacity, second.spec.port_capacity);
+    let first = run_alone(rt, alloc, first)?;
+    let second = run_alone(rt, alloc, second)?;
+    run_both(rt, alloc, (first, first_places), (second, second_places))
+}
+
+/// Runs a new replica as a node with what its user asks. Its links have no turn.
+fn run_alone<K: Knowledge<Vector: Send> + Send, R: Threads + Wait + Sync + Send + Copy>(
+    rt: &R,
+    alloc: Global,
+    plan: NodePlan,
+) -> Option<Replica<K>>
+    ensures { IfSome result (λ new. RanAlone K.form plan new) }
+{
+    let links = idle_links(rt, alloc)?;
+    let NodePlan { spec, events } = plan;
+    match Replica::try_new(alloc, spec.id, spec.filter, spec.event_limit) {
+        Ok(replica) => run(rt, alloc, replica, events, links, spec.port_capacity),
+        Err(_) => None,
+    }
+}
+
+/// Runs both nodes at once, joined by two links. Each replica comes with the places of its node's lanes.
+fn run_both<K: Knowledge<Vector: Send> + Send, R: Threads + Wait + Sync + Send + Copy>(
+    rt: &R,
+    alloc: Global,
+    first: (Replica<K>, usize),
+    second: (Replica<K>, usize),
+) -> Option<(Replica<K>, Replica<K>)>
+    ensures { IfSome result (λ ended. RanBoth K.form (first.0, second.0) ended) }
+{
+    let Ok((first_links, second_links)) = crossing_links(rt, alloc) else {
+        return None;
+    };
+    let (first, first_places) = first;
+    let (second, second_places) = second;
+    let (first, second) = thread::join(
+        rt,
+        move || -> Option<Replica<K>>
+            requires threads { IsSend K.row × IsSend R.row × IsSync R.row }
+            requires links { AreNew first_links }
+            ensures { IfSome result (λ new. RanFrom K.form first [] first_links new) }
+        { run(rt, alloc, first, Vec::new(alloc), first_links, first_places) },
+        move || -> Option<Replica<K>>
+            requires threads { IsSend K.row × IsSend R.row × IsSync R.row }
+            requires links { AreNew second_links }
+            ensures { IfSome result (λ new. RanFrom K.form second [] second_links new) }
+        {
+            run(
+                rt,
+                alloc,
+                second,
+                Vec::new(alloc),
+                second_links,
+                second_places,
+            )
+        },
+    );
+    both(first, second)
+}
+
+/// Both, where both are there.
+fn both<T: Drop>(first: Option<T>, second: Option<T>) -> Option<(T, T)>
+    ensures { IfSome result (λ two. (first ≡ Some two.0) × (second ≡ Some two.1)) }
+{
+    match (first, second) {
+        (Some(first), Some(second)) => Some((first, second)),
+        _ => None,
+    }
+}
+
+/// The links of a node without turns: the two ends of one.
+fn idle_links<R: Wait + Copy>(rt: &R, alloc: Global) -> Option<Links<R>>
+    ensures { IfSome result AreIdle }
+{
+    let (here, there) = lane_link(*rt, alloc, LINK_PIECES).ok()?;
+    Some((without_turns(alloc, here), without_turns(alloc, there)))
+}
+
+/// The links of two nodes, each of which pulls over its first link what the other serves over its second.
+fn crossing_links<R: Wait + Copy>(rt: &R, alloc: Global) -> Result<(Links<R>, Links<R>), LaneFault>
+    ensures { IfOk result (λ two. Cross two.0 two.1) }
+{
+    let (first_pulls, second_serves) = lane_link(*rt, alloc, LINK_PIECES)?;
+    let (second_pulls, first_serves) = lane_link(*rt, alloc, LINK_PIECES)?;
+    let first = pull_and_serve(alloc, first_pulls, first_serves)?;
+    let second = pull_and_serve(alloc, second_pulls, second_serves)?;
+    Ok((first, second))
+}
+
+/// The links of a node that pulls over the one and serves over the other.
+fn pull_and_serve<R: Wait + Copy>(
+    alloc: Global,
+    pulls: LaneLink<R>,
+    serves: LaneLink<R>,
+) -> Result<Links<R>, AllocError>
+    ensures { IfOk result (λ links. PullAndServe pulls serves links) }
+{
+    let first = with_turn(alloc, pulls, Turn::Pull)?;
+    let second = with_turn(alloc, serves, Turn::Serve)?;
+    Ok((first, second))
+}
+
+/// A link with one turn.
+fn with_turn<L: Drop>(alloc: Global, link: L, turn: Turn) -> Result<LinkTurns<L>, AllocError>
+    ensures { IfOk result (λ l. (l.link ≡ link) × (l.turns.items ≡ turn ∷ [])) }
+{
+    let turns = vec![in alloc; turn]?;
+    Ok(LinkTurns { link, turns })
+}
+
+/// A link with no turn.
+fn without_turns<L>(alloc: Global, link: L) -> LinkTurns<L>
+    ensures { (result.link ≡ link) × (result.turns.items ≡ []) }
+{
+    LinkTurns {
+        link,
+        turns: Vec::new(alloc),
+    }
+}
+
+/// Runs a node before which no gate stands: its replica, where it came to an end.
+fn run<K: Knowledge<Vector: Send> + Send, R: Threads + Wait + Sync + Send + Copy>(
+    rt: &R,
+    alloc: Global,
+    replica: Replica<K>,
+    events: Vec<Event>,
+    links: Links<R>,
+    capacity: usize,
+) -> Option<Replica<K>>
+    requires { AreNew links }
+    ensures { IfSome result (λ new. RanFrom K.form replica events.items links new) }
+{
+    let (first_link, second_link) = links;
+    let parts = NodeParts {
+        replica,
+        events,
+        first_link,
+        second_link,
+    };
+    match run_node(rt, alloc, parts, &OpenGate, capacity) {
+        Ok((end, _, _)) => Some(end.replica),
+        Err(_) => None,
+    }
+}
