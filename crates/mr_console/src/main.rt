@@ -13,7 +13,7 @@ use std::{fs, io};
 
 fn main(rt: HostRuntime) -> ExitCode {
     let (input, mut output, mut errors) = (rt.reader(), io::writer(&rt), rt.stderr());
-    exit_with(run_mailrep(&rt, &Disk(&rt), input, &mut output, &mut errors))
+    exit_with(run_mailrep(&rt, &rt, &Disk(&rt), input, &mut output, &mut errors))
 }
 
 /// The process ends with this status.

@@ -12,9 +12,9 @@ use Rattle.mr_script.specs.Stage.{Stage, Stage.opening, Stage.running}
 use Rattle.mr_draw.specs.Picture.{Draws}
 use Rattle.mr_draw.specs.Sheet.{blank_text}
 use Rattle.mr_program.specs.declared.ending.Fault.{Fault}
-use Rattle.mr_program.specs.declared.ending.Fault.TheVariants.{CommandLine, Write, OutOfMemory, Script}
+use Rattle.mr_program.specs.declared.ending.Fault.TheVariants.{CommandLine, Write, OutOfMemory, NotTwo, Script}
 use Rattle.mr_program.specs.declared.ending.Ending.{Ending}
-use Rattle.mr_program.specs.declared.ending.Ending.TheVariants.{Done, NoFrame, WrongCommandLine, Stopped}
+use Rattle.mr_program.specs.declared.ending.Ending.TheVariants.{Done, NoFrame, Unexplained, WrongCommandLine, Stopped}
 use Rattle.mr_program.specs.Ending.{ending_of}
 use Rattle.mr_program.specs.Text.{fault_text}
 
@@ -23,6 +23,7 @@ abbrev pub text_under : Ending → List ℕ
 text_under (Stopped fault) = fault_text fault
 text_under Done = []
 text_under NoFrame = []
+text_under Unexplained = []
 text_under WrongCommandLine = []
 
 -- the picture of the world that a script left; of no replica where it came to no world
@@ -50,7 +51,9 @@ abbrev pub EndsPicture : {K : Type 0} → Form K → List ℕ → Ending → (ol
 EndsPicture form script (Stopped Write) old new = ⊤
 EndsPicture form script (Stopped OutOfMemory) old new = ⊤
 EndsPicture form script (Stopped CommandLine) old new = ⊥
+EndsPicture form script (Stopped NotTwo) old new = ⊥
 EndsPicture form script (Stopped (Script fault)) old new = DrawsScript form script (Stopped (Script fault)) old new
 EndsPicture form script Done old new = DrawsScript form script Done old new
 EndsPicture form script NoFrame old new = ⊥
+EndsPicture form script Unexplained old new = ⊥
 EndsPicture form script WrongCommandLine old new = ⊥

@@ -1,17 +1,20 @@
 -- how the program ends: the exit status, and what standard error is told
-use Rattle.std.specs.Prelude.{◌≡◌, ℕ, List, ◌++◌, codes, Option, Some, None}
+use Rattle.std.specs.Prelude.{◌≡◌, ℕ, List, ◌++◌, codes, Bool, true, false, Option, Some, None, Result, Ok, Err}
 use Rattle.std.specs.Io.KnownBytes.{Appends}
 use Rattle.mr_script.specs.declared.fault.ScriptFault.{ScriptFault}
+use Rattle.mr_live.specs.declared.fault.LiveFault.{LiveFault}
+use Rattle.mr_live.specs.declared.fault.LiveFault.TheVariants as live
 use Rattle.mr_program.specs.declared.ending.Fault.{Fault}
-use Rattle.mr_program.specs.declared.ending.Fault.TheVariants.{CommandLine, Script}
+use Rattle.mr_program.specs.declared.ending.Fault.TheVariants.{CommandLine, NotTwo, OutOfMemory, Script}
 use Rattle.mr_program.specs.declared.ending.Ending.{Ending}
-use Rattle.mr_program.specs.declared.ending.Ending.TheVariants.{Done, NoFrame, WrongCommandLine, Stopped}
+use Rattle.mr_program.specs.declared.ending.Ending.TheVariants.{Done, NoFrame, Unexplained, WrongCommandLine, Stopped}
 use Rattle.mr_program.specs.Text.{fault_text}
 
 -- 0 where all was done, 2 for a wrong command line, 1 for all else
 abbrev pub status_of : Ending → ℕ
 status_of Done = 0
 status_of NoFrame = 1
+status_of Unexplained = 1
 status_of WrongCommandLine = 2
 status_of (Stopped CommandLine) = 2
 status_of (Stopped _) = 1
@@ -21,9 +24,18 @@ abbrev pub ending_of : Option ScriptFault → Ending
 ending_of None = Done
 ending_of (Some fault) = Stopped (Script fault)
 
+-- how the program ends where a live script's logs joined or did not, or this ended it
+abbrev pub ending_of_live : Result Bool LiveFault → Ending
+ending_of_live (Ok true) = Done
+ending_of_live (Ok false) = Unexplained
+ending_of_live (Err live.OutOfMemory) = Stopped OutOfMemory
+ending_of_live (Err live.NotTwo) = Stopped NotTwo
+ending_of_live (Err (live.Script fault)) = Stopped (Script fault)
+
 -- a fault is told in one line; of another ending nothing is told
 abbrev pub IsTold : {E : Type 0} → Ending → (contents : E → Option (List ℕ)) → (old new : E) → Type 0
 IsTold (Stopped fault) contents old new = Appends (contents old) (contents new) (fault_text fault ++ codes "\n")
 IsTold Done contents old new = new ≡ old
 IsTold NoFrame contents old new = new ≡ old
+IsTold Unexplained contents old new = new ≡ old
 IsTold WrongCommandLine contents old new = new ≡ old

@@ -1,22 +1,33 @@
 -- what standard output holds when the program ends
-use Rattle.std.specs.Prelude.{◌≡◌, ◌≢◌, ℕ, List, [], Bool, true, false, Option, Some, ⊤}
+use Rattle.std.specs.Prelude.{◌≡◌, ◌≢◌, ℕ, List, [], Bool, true, false, Option, Some, Result, ⊤}
 use Rattle.std.specs.Io.KnownBytes.{Appends}
 use Rattle.mr_forms.specs.Known.{Form}
 use Rattle.mr_script.specs.declared.fault.ScriptFault.{ScriptFault}
 use Rattle.mr_script.specs.declared.fault.ScriptFault.TheVariants as stops
 use Rattle.mr_script.specs.Run.{Prints}
 use Rattle.mr_script.specs.Frame.{Tells, bytes_of}
+use Rattle.mr_live.specs.Live.{LiveEnds}
+use Rattle.mr_live.specs.Plan.{PlanView, ScriptAsks}
+use Rattle.mr_live.specs.declared.fault.LiveFault.{LiveFault}
 use Rattle.mr_program.specs.declared.ending.Fault.{Fault}
-use Rattle.mr_program.specs.declared.ending.Fault.TheVariants.{CommandLine, Write, OutOfMemory, Script}
+use Rattle.mr_program.specs.declared.ending.Fault.TheVariants.{CommandLine, Write, OutOfMemory, NotTwo, Script}
 use Rattle.mr_program.specs.declared.ending.Ending.{Ending}
-use Rattle.mr_program.specs.declared.ending.Ending.TheVariants.{Done, NoFrame, WrongCommandLine, Stopped}
-use Rattle.mr_program.specs.Ending.{ending_of}
+use Rattle.mr_program.specs.declared.ending.Ending.TheVariants.{Done, NoFrame, Unexplained, WrongCommandLine, Stopped}
+use Rattle.mr_program.specs.Ending.{ending_of, ending_of_live}
 
 -- it ends as the script does, and unless a write failed it was written what the script prints
 pub record EndsScript {K : Type 0} (form : Form K) (script : List ℕ) (ending : Ending) (old new : Option (List ℕ)) : Type 0 where
   pub end : Option ScriptFault
   pub is : ending ≡ ending_of end
   pub prints : end ≢ Some stops.Write → Prints form script end old new []
+
+-- it ends as the live script does, of whose lines this comes
+pub record EndsLive {K : Type 0} (form : Form K) (script : List ℕ) (ending : Ending) (old new : Option (List ℕ)) : Type 0 where
+  pub asks : Result PlanView ScriptFault
+  pub are : ScriptAsks script asks
+  pub joined : Result Bool LiveFault
+  pub comes : LiveEnds form asks joined old new
+  pub is : ending ≡ ending_of_live joined
 
 -- the lines were written that tell the word, which spells no frame or spells one
 pub record WritesFrame (word : List ℕ) (is_fault : Bool) (old new : Option (List ℕ)) : Type 0 where
@@ -31,5 +42,7 @@ EndsFrame word NoFrame old new = WritesFrame word true old new
 EndsFrame word (Stopped Write) old new = ⊤
 EndsFrame word (Stopped OutOfMemory) old new = ⊤
 EndsFrame word (Stopped CommandLine) old new = ⊥
+EndsFrame word (Stopped NotTwo) old new = ⊥
+EndsFrame word Unexplained old new = ⊥
 EndsFrame word (Stopped (Script fault)) old new = ⊥
 EndsFrame word WrongCommandLine old new = ⊥

@@ -1,13 +1,14 @@
 -- worked rows: texts and statuses at which they must come out
-use Rattle.std.specs.Prelude.{◌≡◌, [], codes, refl, None, Some}
+use Rattle.std.specs.Prelude.{◌≡◌, [], codes, refl, true, false, None, Some, Ok, Err}
 use Rattle.std.specs.Fmt.{digits}
 use Rattle.mr_command.specs.declared.fault.LineFault.TheVariants.{BadFilter, BadNumber, MessageRefused}
 use Rattle.mr_script.specs.declared.fault.ScriptFault.TheVariants.{Line, Read, TooLong}
 use Rattle.mr_script.specs.declared.fault.ScriptFault.TheVariants as script
+use Rattle.mr_live.specs.declared.fault.LiveFault.TheVariants as live
 use Rattle.mr_program.specs.declared.ending.Fault.TheVariants.{CommandLine, OutOfMemory, Script}
 use Rattle.mr_program.specs.declared.ending.Ending.TheVariants.{Done, Stopped}
 use Rattle.mr_program.specs.Drawing.{text_under}
-use Rattle.mr_program.specs.Ending.{ending_of, status_of}
+use Rattle.mr_program.specs.Ending.{ending_of, ending_of_live, status_of}
 use Rattle.mr_program.specs.Text.{fault_text}
 
 -- a faulty line is told with its number
@@ -47,6 +48,22 @@ write_status = refl
 -- a command line that is no text is wrong
 pub no_text_status : status_of (Stopped CommandLine) ≡ 2
 no_text_status = refl
+
+-- two nodes whose logs join are status 0
+pub joined_status : status_of (ending_of_live (Ok true)) ≡ 0
+joined_status = refl
+
+-- and such whose logs do not are status 1, as another number of replicas is
+pub unexplained_status : status_of (ending_of_live (Ok false)) ≡ 1
+unexplained_status = refl
+
+pub not_two_status : status_of (ending_of_live (Err live.NotTwo)) ≡ 1
+not_two_status = refl
+
+-- a fault of a live script's line is told as that of any script
+pub live_line_text : text_under (ending_of_live (Err (live.Script (Line 2 BadNumber)))) ≡ codes "line 2: bad number"
+unfolding digits
+live_line_text = refl
 
 -- nothing stands under the picture of a script that ran to its end
 pub nothing_under : text_under Done ≡ []

@@ -8,7 +8,7 @@ use Rattle.mr_script.specs.declared.fault.ScriptFault.{ScriptFault}
 use Rattle.mr_script.specs.declared.fault.ScriptFault.TheVariants.{Line, Read, TooLong}
 use Rattle.mr_script.specs.declared.fault.ScriptFault.TheVariants as script
 use Rattle.mr_program.specs.declared.ending.Fault.{Fault}
-use Rattle.mr_program.specs.declared.ending.Fault.TheVariants.{CommandLine, Write, OutOfMemory, Script}
+use Rattle.mr_program.specs.declared.ending.Fault.TheVariants.{CommandLine, Write, OutOfMemory, NotTwo, Script}
 
 -- the fault of a line, behind its number
 abbrev pub line_fault_text : LineFault → List ℕ
@@ -43,4 +43,5 @@ abbrev pub fault_text : Fault → List ℕ
 fault_text CommandLine = codes "error: the command line is not text"
 fault_text Write = codes "write fault"
 fault_text OutOfMemory = codes "out of memory"
+fault_text NotTwo = codes "live needs two replicas"
 fault_text (Script fault) = script_fault_text fault

@@ -10,7 +10,8 @@ is proved: no mail is lost, and no version is announced twice.";
 
 const AFTER: &str = "Exit status:
   0  the script ran to its end (a replica's refusal is an answer, no fault), or the frame was told
-  1  a line that can't be run, no frame, a failed read or write, or no memory left
+  1  a line that can't be run, no frame, nodes whose logs don't join, a failed read or write, or no
+     memory left
   2  a wrong command line";
 
 const RUN_ABOUT: &str =
@@ -120,6 +121,38 @@ Exit status:
      it, and standard error tells it too. Nothing is printed where there is no memory for the picture
   2  a wrong command line";
 
+const LIVE_ABOUT: &str =
+    "Runs the two replicas of the script in FILE, or on standard input, as nodes in threads of their own.
+
+First each does what the lines ask of it; then both meet, and each pulls what the other serves, at
+once. What they hold is printed once one history of events is found that explains both.";
+
+const LIVE_AFTER: &str =
+    "The lines of the script are `replica`, twice, and then `create` and `edit`, as of `mailrep run`, whose help
+has them. All of them are read before a node runs, and a replica's refusal prints nothing.
+
+Example:
+  $ mailrep live <<'END'
+  replica 0 1000000 4096 all
+  replica 1 1000000 4096 label:inbox
+  create 0 inbox . 2026-01-05 ann Hi
+  create 1 work . 2026-01-05 ann Hi
+  END
+  joined
+  heads 0: 0.1 1.1
+  pushouts 0:
+  heads 1: 0.1
+  pushouts 1: 1.1
+
+`unexplained R E` in place of all this says that no such history is found: R is the lowest replica whose
+log can't go on, and its event E carries what nobody gave.
+
+Exit status:
+  0  the logs joined
+  1  they did not join; or a fault, told on standard error as of `mailrep run`, as `live needs two
+     replicas`, or as `out of memory`
+  2  a wrong command line";
+
 const FRAME_ABOUT: &str = "Tells what the bytes of a frame say.
 
 HEX is one word: two digits of either case for each byte, with spaces wherever they help.";
@@ -208,6 +241,8 @@ const PLAIN_RUN: Run<'static> = Run {
 pub enum Request<'a> {
     /// To run a script.
     Run(Run<'a>),
+    /// To run the two replicas of the script in this file as nodes; none is standard input.
+    Live(Option<&'a str>),
     /// To tell what the frame says that this word spells.
     Frame(&'a str),
 }
@@ -225,6 +260,9 @@ pub fn read_command_line<'a>(alloc: Global, words: &'a [String]) -> Result<Reque
     if let Some(draw) = matches.subcommand_matches("draw") {
         return Ok(Request::Run(run_of(draw, Wanted::Picture)));
     }
+    if let Some(live) = matches.subcommand_matches("live") {
+        return Ok(Request::Live(file_of(live)));
+    }
     Ok(Request::Run(PLAIN_RUN))
 }
 
@@ -237,9 +275,14 @@ fn run_of<'a>(matches: &ArgMatches<'a>, wanted: Wanted) -> Run<'a> {
         } else {
             Form::Items
         },
-        file: matches.get_str(FILE).filter(|name| *name != STANDARD_INPUT),
+        file: file_of(matches),
         has_hints: matches.get_flag(HINTS),
     }
+}
+
+/// The name of the script's file; none is standard input.
+fn file_of<'a>(matches: &ArgMatches<'a>) -> Option<&'a str> {
+    matches.get_str(FILE).filter(|name| *name != STANDARD_INPUT)
 }
 
 /// The subcommand `run`.
@@ -270,8 +313,21 @@ fn with_script_words<'a>(alloc: Global, command: Command<'a>) -> Result<Command<
         .long(HINTS)
         .help("Behind the fault of a line, a second line says what was wrong and what is right")
         .action(ArgAction::SetTrue);
-    let file = Arg::new(alloc, FILE).help("The script; `-` or none is standard input");
-    command.arg(file)?.arg(sparing)?.arg(hints)
+    command.arg(file_word(alloc))?.arg(sparing)?.arg(hints)
+}
+
+/// The word that names a script's file.
+fn file_word<'a>(alloc: Global) -> Arg<'a> {
+    Arg::new(alloc, FILE).help("The script; `-` or none is standard input")
+}
+
+/// The subcommand `live`.
+fn live_command<'a>(alloc: Global) -> Result<Command<'a>, AllocError> {
+    Command::new(alloc, "live")
+        .about("Runs the two replicas of a script as nodes, and prints what they hold")
+        .long_about(LIVE_ABOUT)
+        .after_long_help(LIVE_AFTER)
+        .arg(file_word(alloc))
 }
 
 /// The subcommand `frame`.
@@ -298,5 +354,6 @@ fn mailrep<'a>(alloc: Global) -> Result<Command<'a>, AllocError> {
         .arg_required_else_help(true)
         .subcommand(run_command(alloc)?)?
         .subcommand(draw_command(alloc)?)?
+        .subcommand(live_command(alloc)?)?
         .subcommand(frame_command(alloc)?)
 }

@@ -2,9 +2,10 @@
 ghost use Rattle.std.specs.Prelude.{◌≡◌, ◌≤◌, Some, IfOk, OnOk, string_bytes};
 ghost use Rattle.mr_script.specs.Run.{end_of};
 ghost use Rattle.mr_program.specs.Drawing.{text_under};
-ghost use Rattle.mr_program.specs.Ending.{IsTold, ending_of, status_of};
+ghost use Rattle.mr_program.specs.Ending.{IsTold, ending_of, ending_of_live, status_of};
 ghost use Rattle.mr_program.specs.Text.{fault_text, line_fault_text, script_fault_text};
 
+use mr_live::LiveFault;
 use mr_script::{LineFault, ScriptFault};
 use std::alloc::{AllocError, Global};
 use std::io::Write;
@@ -18,6 +19,8 @@ pub enum Fault {
     /// A picture, a frame's text, help or the version can't be printed.
     Write,
     OutOfMemory,
+    /// A live script makes another number of replicas than two.
+    NotTwo,
     /// The script, its reader or its writer.
     Script(ScriptFault),
 }
@@ -29,6 +32,8 @@ pub enum Ending {
     Done,
     /// The word of the command line spells no frame, and standard output says how.
     NoFrame,
+    /// The logs of two nodes do not join, and standard output says where.
+    Unexplained,
     /// The command line is wrong, and standard error says how.
     WrongCommandLine,
     /// A fault ended it.
@@ -45,6 +50,19 @@ pub fn ending_of_run(ended: Result<(), ScriptFault>) -> Ending
     }
 }
 
+/// How the program ends where the run of a live script ended so.
+pub fn ending_of_live(ended: Result<bool, LiveFault>) -> Ending
+    ensures { result ≡ ending_of_live ended }
+{
+    match ended {
+        Ok(true) => Ending::Done,
+        Ok(false) => Ending::Unexplained,
+        Err(LiveFault::OutOfMemory) => Ending::Stopped(Fault::OutOfMemory),
+        Err(LiveFault::NotTwo) => Ending::Stopped(Fault::NotTwo),
+        Err(LiveFault::Script(fault)) => Ending::Stopped(Fault::Script(fault)),
+    }
+}
+
 /// The exit status of an ending: 0 where all was done, 2 for a wrong command line, and else 1.
 pub fn exit_of(ending: Ending) -> u8
     ensures status { result ≡ status_of ending }
@@ -53,8 +71,9 @@ pub fn exit_of(ending: Ending) -> u8
     match ending {
         Ending::Done => 0,
         Ending::WrongCommandLine | Ending::Stopped(Fault::CommandLine) => 2,
-        Ending::NoFrame | Ending::Stopped(Fault::Write | Fault::OutOfMemory | Fault::Script(_)) =>
-            1,
+        Ending::NoFrame => 1,
+        Ending::Unexplained => 1,
+        Ending::Stopped(Fault::Write | Fault::OutOfMemory | Fault::NotTwo | Fault::Script(_)) => 1,
     }
 }
 
@@ -68,7 +87,7 @@ pub fn tell<E: Write>(ending: Ending, errors: &mut E) -> io::Result<()>
             let text = FaultText(fault);
             writeln!(errors, "{text}")
         }
-        Ending::Done | Ending::NoFrame | Ending::WrongCommandLine => Ok(()),
+        Ending::Done | Ending::NoFrame | Ending::Unexplained | Ending::WrongCommandLine => Ok(()),
     }
 }
 
@@ -90,7 +109,9 @@ pub(crate) fn text_under(alloc: Global, ending: Ending) -> Result<String, AllocE
             let text = FaultText(fault);
             format!(in alloc; "{text}")
         }
-        Ending::Done | Ending::NoFrame | Ending::WrongCommandLine => Ok(String::new(alloc)),
+        Ending::Done | Ending::NoFrame | Ending::Unexplained | Ending::WrongCommandLine => Ok(
+            String::new(alloc),
+        ),
     }
 }
 
@@ -106,6 +127,7 @@ impl fmt::Display for FaultText {
             Fault::CommandLine => write!(f, "error: the command line is not text"),
             Fault::Write => write!(f, "write fault"),
             Fault::OutOfMemory => write!(f, "out of memory"),
+            Fault::NotTwo => write!(f, "live needs two replicas"),
             Fault::Script(fault) => {
                 let text = ScriptText(fault);
                 write!(f, "{text}")

@@ -2,9 +2,10 @@
 //!
 //! `mailrep run` hands a script to `run_script`, which runs it line by line and prints the answers, over item sets or,
 //! with `--sparing`, over sparing knowledge; `mailrep draw` runs it so too, and prints the picture of its world that `mr_draw` makes;
+//! `mailrep live` hands one of two replicas to `run_live`, which runs them as nodes in threads of their own;
 //! `mailrep frame HEX` prints what `frame_text` says of HEX. Here stand the command line with its help, how the program
 //! ends, and its exit status: 0; 1 for a script, read or write fault, for a HEX that spells no frame, or where memory runs
-//! out; 2 for a wrong command line. A fault's text goes to standard error, and with `--hints` a hint behind it.
+//! out, or where the logs of two nodes do not join; 2 for a wrong command line. A fault's text goes to standard error, and with `--hints` a hint behind it.
 //!
 //! [`run_mailrep`] is all of `main`. What it reads and writes are parameters, so that a program can call it with many
 //! command lines, and with readers and writers that fail.
@@ -15,18 +16,23 @@ ghost use Rattle.std.specs.Prelude.{◌≤◌};
 mod command_line;
 mod draw;
 mod ending;
+mod live;
 mod remembering;
 mod run;
 
 use command_line::{Request, Run, read_command_line};
 pub use draw::end_picture;
-pub use ending::{Ending, Fault, ending_of_run, exit_of, leave, tell};
+pub use ending::{Ending, Fault, ending_of_live, ending_of_run, exit_of, leave, tell};
+pub use live::end_live;
+use live::live_named;
 use mr_script::ScriptFault;
 pub use run::{end_frame, end_script};
 use run::{answer_command_line, run_reader};
 use std::alloc::Global;
 use std::io::{Read, Write};
 use std::rt::Env;
+use std::sync::Wait;
+use std::thread::Threads;
 use std::{env, io};
 
 /// Where the script of a name is found.
@@ -41,9 +47,11 @@ pub trait Scripts {
 /// Does what the command line of the runtime asks for, and gives the exit status: 0, 1 or 2.
 ///
 /// A script is read from the input, or from the file that the command line names. Answers, pictures, frames, help and the
-/// version go to the output; faults, hints and what is wrong with a command line go to the errors.
-pub fn run_mailrep<R, S, I, W, E>(
+/// version go to the output; faults, hints and what is wrong with a command line go to the errors. The threads are for `live`
+/// alone.
+pub fn run_mailrep<R, T, S, I, W, E>(
     rt: &R,
+    threads: &T,
     scripts: &S,
     input: I,
     output: &mut W,
@@ -51,6 +59,7 @@ pub fn run_mailrep<R, S, I, W, E>(
 ) -> u8
 where
     R: Env + AllocGlobal,
+    T: Threads + Wait + Sync + Send + Copy,
     S: Scripts,
     I: Read + Drop,
     W: Write,
@@ -64,6 +73,15 @@ where
     match read_command_line(rt.alloc(), words.as_slice()) {
         Ok(Request::Frame(hex)) => leave(end_frame(rt.alloc(), hex, output), errors),
         Ok(Request::Run(how)) => run_named(rt.alloc(), how, scripts, input, output, errors),
+        Ok(Request::Live(file)) => live_named(
+            threads,
+            rt.alloc(),
+            file,
+            scripts,
+            input,
+            output,
+            errors,
+        ),
         Err(error) => answer_command_line(&error, output, errors),
     }
 }

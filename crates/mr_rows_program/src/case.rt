@@ -3,6 +3,8 @@ use crate::process::{Folder, Input, Output, Words};
 use anyhow::Result;
 use mr_program::run_mailrep;
 use std::alloc::Global;
+use std::sync::Wait;
+use std::thread::Threads;
 
 /// What fails, or is not as it should be.
 #[derive(Clone, Copy, PartialEq, Eq)]
@@ -75,8 +77,12 @@ impl Case {
         })
     }
 
-    /// Runs the program with it.
-    pub fn run(&self, alloc: Global) -> Result<Said> {
+    /// Runs the program with it, with these threads.
+    pub fn run<T: Threads + Wait + Sync + Send + Copy>(
+        &self,
+        threads: &T,
+        alloc: Global,
+    ) -> Result<Said> {
         let words = Words {
             words: self.words.as_slice(),
             are_text: self.failing != Failing::Words,
@@ -92,7 +98,14 @@ impl Case {
         };
         let mut output = Output::new(alloc, self.failing == Failing::Output);
         let mut errors = Output::new(alloc, self.failing == Failing::Errors);
-        let status = run_mailrep(&(words, alloc), &folder, input, &mut output, &mut errors);
+        let status = run_mailrep(
+            &(words, alloc),
+            threads,
+            &folder,
+            input,
+            &mut output,
+            &mut errors,
+        );
         Ok(Said {
             status,
             output: output.written,

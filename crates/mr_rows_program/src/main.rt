@@ -28,6 +28,8 @@ use anyhow::Result;
 use case::Case;
 use std::process::ExitCode;
 use std::rt::{Env, Files};
+use std::sync::Wait;
+use std::thread::Threads;
 use std::{env, fs};
 use table::read_table;
 
@@ -42,7 +44,9 @@ fn main(rt: HostRuntime) -> ExitCode {
 }
 
 /// Runs each table in the order of their names.
-fn run_all<R: Env + Files + Print + AllocGlobal + Clone + Drop>(rt: &R) -> Result<()> {
+fn run_all<R: Env + Files + Print + AllocGlobal + Threads + Wait + Sync + Send + Copy>(
+    rt: &R,
+) -> Result<()> {
     let folder = folder(rt)?;
     for file in &file_names(rt, folder.as_str())? {
         if file.ends_with(".runs") {
@@ -71,7 +75,11 @@ fn file_names<R: Files + AllocGlobal + Clone + Drop>(rt: &R, folder: &str) -> Re
 }
 
 /// Runs each command line of a table, and prints what comes of it.
-fn run_table<R: Files + Print + AllocGlobal>(rt: &R, folder: &str, file: &str) -> Result<()> {
+fn run_table<R: Files + Print + AllocGlobal + Threads + Wait + Sync + Send + Copy>(
+    rt: &R,
+    folder: &str,
+    file: &str,
+) -> Result<()> {
     let path = format!(in rt.alloc(); "{folder}/{file}")?;
     let text = fs::read_to_string(rt, path.as_str())?;
     println!(rt; "== {file}")?;
@@ -82,8 +90,11 @@ fn run_table<R: Files + Print + AllocGlobal>(rt: &R, folder: &str, file: &str) -
 }
 
 /// Runs a command line, and prints it, its status, and each line that it printed.
-fn show<R: Print + AllocGlobal>(rt: &R, case: &Case) -> Result<()> {
-    let said = case.run(rt.alloc())?;
+fn show<R: Print + AllocGlobal + Threads + Wait + Sync + Send + Copy>(
+    rt: &R,
+    case: &Case,
+) -> Result<()> {
+    let said = case.run(rt, rt.alloc())?;
     let (told, status) = (case.told.as_str(), said.status);
     print!(rt; "\n{told}status {status}\n")?;
     show_lines(rt, "out", said.output.as_slice(), case.is_whole)?;
