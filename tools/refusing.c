@@ -3,6 +3,7 @@
 
      REFUSE=growth:N       the Nth call for memory finds none
      REFUSE=growths:N      neither does any behind it
+     REFUSE=thread:N       the Nth thread is not made
      REFUSE=read:N         the Nth read of standard input fails
      REFUSE=write:N        the Nth write to standard output fails
      REFUSE=interrupted:N  the Nth read of standard input and all behind it are interrupted
@@ -15,9 +16,11 @@
                            written */
 
 #define _GNU_SOURCE
+#include <dlfcn.h>
 #include <errno.h>
 #include <fcntl.h>
 #include <malloc.h>
+#include <pthread.h>
 #include <stdio.h>
 #include <stdlib.h>
 #include <string.h>
@@ -32,7 +35,8 @@ void __libc_free(void *);
 
 static const char *refuse_kind = "";
 static unsigned long refuse_at, read_bytes;
-static unsigned long growths, reads, writes;
+static unsigned long growths, reads, writes, threads;
+static int (*make_thread)(pthread_t *, const pthread_attr_t *, void *(*)(void *), void *);
 static __thread size_t refused_size __attribute__((tls_model("initial-exec")));
 static unsigned long asked, held, most_held;
 static int asked_file = -1;
@@ -129,6 +133,12 @@ void free(void *memory) {
     __libc_free(memory);
 }
 
+int pthread_create(pthread_t *thread, const pthread_attr_t *how, void *(*work)(void *), void *given) {
+    if (is_refused("thread", __atomic_add_fetch(&threads, 1, __ATOMIC_SEQ_CST)))
+        return EAGAIN;
+    return make_thread(thread, how, work, given);
+}
+
 ssize_t read(int file, void *bytes, size_t count) {
     if (file == 0) {
         reads++;
@@ -182,6 +192,7 @@ __attribute__((constructor)) static void begin(void) {
         read_bytes = strtoul(getenv("READ_BYTES"), NULL, 10);
     if (getenv("ASKED"))
         asked_file = open(getenv("ASKED"), O_CREAT | O_TRUNC | O_WRONLY, 0600);
+    *(void **)&make_thread = dlsym(RTLD_NEXT, "pthread_create");
     is_ready = 1;
 }
 

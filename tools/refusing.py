@@ -15,6 +15,21 @@ import tempfile
 TOP = pathlib.Path(__file__).resolve().parent.parent
 ROWS = TOP / "crates/mr_rows/data"
 MAILREP = TOP / "crates/mr_console/out/mailrep"
+# A script of two nodes, and what `mailrep live` prints of it.
+LIVE_SCRIPT = b"""\
+replica 0 1000000 4096 all
+replica 1 1000000 4096 label:inbox
+create 0 inbox . 2026-01-05 ann Hi
+create 0 work . 2026-01-05 ann Hi
+create 1 work . 2026-01-05 ann Hi
+"""
+LIVE_PRINTS = b"""\
+joined
+heads 0: 0.1 0.2 1.1
+pushouts 0:
+heads 1: 0.1
+pushouts 1: 1.1
+"""
 
 room = pathlib.Path(tempfile.mkdtemp(prefix="refusing-"))
 atexit.register(shutil.rmtree, room, ignore_errors=True)
@@ -49,7 +64,7 @@ def library():
     built = room / "refusing.so"
     if not built.exists():
         source = TOP / "tools/refusing.c"
-        words = [os.environ.get("CC", "cc"), "-O2", "-shared", "-fPIC", "-o", built, source]
+        words = [os.environ.get("CC", "cc"), "-O2", "-shared", "-fPIC", "-o", built, source, "-ldl"]
         subprocess.run(words, check=True)
     return built
 
@@ -80,6 +95,11 @@ class Run:
 
     def told(self):
         return f"status {self.status}, {self.err.decode(errors='replace').strip()!r}, prints {self.out!r}"
+
+
+def has_live(mailrep):
+    """Whether the program has the command `live`."""
+    return subprocess.run([mailrep, "live", "--help"], capture_output=True).returncode == 0
 
 
 def outputs(mailrep, lines, *options):

@@ -5,7 +5,7 @@ use anyhow::Result;
 use mr_command::{Command, LineFault, Pool, Roster};
 use mr_version::Author;
 use mr_world::{Event, Spec};
-use std::alloc::Global;
+use std::alloc::{AllocError, Global};
 
 /// A roster in which all frames are, and all replicas once there are events: what isn't there stops the run of the world.
 #[derive(Clone, Copy)]
@@ -41,11 +41,17 @@ fn read(alloc: Global, line: &str) -> Result<Command, LineFault> {
 pub(crate) fn specs(alloc: Global, text: &str) -> Result<Vec<Spec>> {
     let mut specs = Vec::new(alloc);
     for line in text.lines() {
-        if let Command::AddReplica(spec) = read(alloc, line)? {
-            specs.push(spec)?;
-        }
+        push_spec(&mut specs, read(alloc, line)?)?;
     }
     Ok(specs)
+}
+
+/// Adds the replica that a line makes, if it makes one.
+fn push_spec(specs: &mut Vec<Spec>, command: Command) -> Result<(), AllocError> {
+    match command {
+        Command::AddReplica(spec) => Ok(specs.push(spec)?),
+        _ => Ok(()),
+    }
 }
 
 /// The events of the script from the one at `from` on, up to the one at `to`. What it asks is left out.
@@ -53,12 +59,27 @@ pub(crate) fn events(alloc: Global, text: &str, from: usize, to: usize) -> Resul
     let mut events = Vec::new(alloc);
     let mut place = 0usize;
     for line in text.lines() {
-        if let Command::Happen(event) = read(alloc, line)? {
-            if from <= place && place < to {
-                events.push(event)?;
-            }
+        let is_wanted = from <= place && place < to;
+        if push_event(&mut events, read(alloc, line)?, is_wanted)? {
             place = place.saturating_add(1);
         }
     }
     Ok(events)
+}
+
+/// Adds the event that a line asks for, if it is wanted. Gives whether the line asks for one.
+fn push_event(
+    events: &mut Vec<Event>,
+    command: Command,
+    is_wanted: bool,
+) -> Result<bool, AllocError> {
+    match command {
+        Command::Happen(event) => {
+            if is_wanted {
+                events.push(event)?;
+            }
+            Ok(true)
+        }
+        _ => Ok(false),
+    }
 }
