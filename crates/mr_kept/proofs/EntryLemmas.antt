@@ -1,6 +1,6 @@
 -- entries of events, one after the other
 use Rattle.std.proofs.Common.{zero, suc, ◌≡◌, ℕ, ◌+◌, ◌-◌, ◌<◌, ◌≤◌, List, [], ◌∷◌, ◌++◌, length, take, drop, get_or, arith, refl, sym, ap, subst, ◌∙◌, append_assoc, append-nil}
-use Rattle.std.proofs.lemmas.List.{take_more}
+use Rattle.std.proofs.lemmas.List.{map-append, take_more}
 use Rattle.std.proofs.Math.Seq.{take-length}
 use Rattle.std.specs.Prelude.{Vec}
 use Rattle.std.specs.declared.alloc.Global.{Global}
@@ -14,10 +14,11 @@ use Rattle.mr_replica.specs.declared.replica.TheConstants.{MAX_EVENTS}
 use Rattle.mr_entry.specs.Head.{HeadParts}
 use Rattle.mr_entry.specs.Events.{events_of, events_of_entry}
 use Rattle.mr_entry.specs.Grammar.{IsEntry, Spells}
+use Rattle.mr_entry.specs.Note.{NoteParts}
 use Rattle.mr_entry.specs.Spelling.{entry_bytes}
 use Rattle.mr_entry.specs.declared.entry.Entry.{Entry}
 use Rattle.mr_entry.specs.declared.entry.Entry.TheVariants as entry
-use Rattle.mr_kept.specs.Entries.{AllBelong, AreSpelled, Belongs, counted, entries_of, issued_after}
+use Rattle.mr_kept.specs.Entries.{AllBelong, AreSpelled, Belongs, counted, issued_after, notes_of, notes_of_entry}
 
 -- ---- lists
 
@@ -53,11 +54,7 @@ spelled_one x text is e = record { in_grammar = (is, tt); written = ap (λ (t : 
 pub all_spelled : (xs ys : List Entry) → AllByRecursion IsEntry xs → AllByRecursion IsEntry ys → AllByRecursion IsEntry (xs ++ ys)
 all_spelled xs ys h k = all_append IsEntry xs ys h k
 
--- ---- one event more
-
-pub entries_more : (n : ℕ) (xs : List Event) (e : Event) → entries_of n (xs ++ e ∷ []) ≡ entries_of n xs ++ entry.Event (counted (issued_after n xs) e) e ∷ []
-entries_more n [] e = refl
-entries_more n (x ∷ xs) e = ap (λ (l : List Entry). entry.Event (counted n x) x ∷ l) (entries_more (counted n x) xs e)
+-- ---- counts
 
 pub issued_append : (n : ℕ) (xs ys : List Event) → issued_after n (xs ++ ys) ≡ issued_after (issued_after n xs) ys
 issued_append n [] ys = refl
@@ -81,10 +78,48 @@ events_one x = events_cons x [] ∙ append-nil (events_of_entry x)
 pub events_head : (h : HeadParts) (xs : List Entry) → events_of (entry.Head h ∷ xs) ≡ events_of xs
 events_head h xs = events_cons (entry.Head h) xs
 
--- the entries of events tell these
-pub events_are : (n : ℕ) (xs : List Event) → events_of (entries_of n xs) ≡ xs
-events_are n [] = refl
-events_are n (x ∷ xs) = events_cons (entry.Event (counted n x) x) (entries_of (counted n x) xs) ∙ ap (λ (l : List Event). x ∷ l) (events_are (counted n x) xs)
+pub notes_cons : (x : Entry) (xs : List Entry) → notes_of (x ∷ xs) ≡ notes_of_entry x ++ notes_of xs
+notes_cons x xs = flat_map-cons notes_of_entry x xs
+
+pub notes_append : (xs ys : List Entry) → notes_of (xs ++ ys) ≡ notes_of xs ++ notes_of ys
+notes_append [] ys = refl
+notes_append (x ∷ xs) ys =
+    notes_cons x (xs ++ ys) ∙ ap (λ (l : List NoteParts). notes_of_entry x ++ l) (notes_append xs ys) ∙ sym (append_assoc (notes_of_entry x) (notes_of xs) (notes_of ys))
+    ∙ ap (λ (l : List NoteParts). l ++ notes_of ys) (sym (notes_cons x xs))
+
+notes_one : (x : Entry) → notes_of (x ∷ []) ≡ notes_of_entry x
+notes_one x = notes_cons x [] ∙ append-nil (notes_of_entry x)
+
+-- nor has a head a note
+pub notes_head : (h : HeadParts) (xs : List Entry) → notes_of (entry.Head h ∷ xs) ≡ notes_of xs
+notes_head h xs = notes_cons (entry.Head h) xs
+
+-- ---- the entries of notes
+
+-- they tell these
+pub notes_are : (ns : List NoteParts) → notes_of (map entry.Note ns) ≡ ns
+notes_are [] = refl
+notes_are (n ∷ ns) = notes_cons (entry.Note n) (map entry.Note ns) ∙ ap (λ (l : List NoteParts). n ∷ l) (notes_are ns)
+
+-- no event among them
+pub notes_tell : (ns : List NoteParts) → events_of (map entry.Note ns) ≡ []
+notes_tell [] = refl
+notes_tell (n ∷ ns) = events_cons (entry.Note n) (map entry.Note ns) ∙ notes_tell ns
+
+pub notes_belong : (issued : ℕ) (ns : List NoteParts) → AllBelong issued (map entry.Note ns)
+notes_belong issued [] = tt
+notes_belong issued (n ∷ ns) = (tt, notes_belong issued ns)
+
+-- one note more
+pub note_more : (list : List Entry) (ns : List NoteParts) (i : ℕ) (n : NoteParts) (texts after : List (List ℕ)) (text : List ℕ) → AreSpelled (list ++ map entry.Note (take i ns)) texts → i < length ns → n ≡ get_or ns i n
+    → Spells (entry.Note n) text → after ≡ texts ++ text ∷ [] → AreSpelled (list ++ map entry.Note (take (i + 1) ns)) after
+note_more list ns i n texts after text so_far within is spells after_is =
+    let front : List Entry = map entry.Note (take i ns) in
+    let run : take (i + 1) ns ≡ take i ns ++ n ∷ [] = take_more ns i n within ∙ ap (λ (y : NoteParts). take i ns ++ y ∷ []) (sym is) in
+    let whole : (list ++ front) ++ entry.Note n ∷ [] ≡ list ++ map entry.Note (take (i + 1) ns) =
+    append_assoc list front (entry.Note n ∷ []) ∙ ap (λ (l : List Entry). list ++ l) (sym (map-append entry.Note (take i ns) (n ∷ [])) ∙ ap (map entry.Note) (sym run)) in
+    subst (λ (l : List (List ℕ)). AreSpelled (list ++ map entry.Note (take (i + 1) ns)) l) (sym after_is)
+    (subst (λ (l : List Entry). AreSpelled l (texts ++ text ∷ [])) whole (spelled_append (list ++ front) (entry.Note n ∷ []) texts (text ∷ []) so_far (spelled_one (entry.Note n) text spells.in_grammar spells.written)))
 
 -- ---- counters
 
@@ -100,48 +135,25 @@ all_belong n (x ∷ xs) ys h k =
     let same : issued_after n (events_of (x ∷ xs)) ≡ issued_after (issued_after n (events_of_entry x)) (events_of xs) = ap (issued_after n) (events_cons x xs) ∙ issued_append n (events_of_entry x) (events_of xs) in
     (h.0, all_belong (issued_after n (events_of_entry x)) xs ys h.1 (subst (λ (m : ℕ). AllBelong m ys) same k))
 
--- the entries of events belong where they stand
-pub events_belong : (n : ℕ) (events : List Event) → AllBelong n (entries_of n events)
-events_belong n [] = tt
-events_belong n (event ∷ events) = (refl, events_belong (counted n event) events)
-
 -- ---- loops
 
--- the entries of the events so far
-pub record BatchSoFar (n : ℕ) (events : List Event) (i : ℕ) (texts : List (List ℕ)) (count : ℕ) : Type 0 where
-  pub spelled : AreSpelled (entries_of n (take i events)) texts
-  pub counted_is : count ≡ issued_after n (take i events)
-
-pub batch_more : (n : ℕ) (events : List Event) (i : ℕ) (e : Event) (texts : List (List ℕ)) (text : List ℕ) (count now : ℕ) → BatchSoFar n events i texts count → i < length events → e ≡ get_or events i e
-    → now ≡ counted count e → Spells (entry.Event now e) text → BatchSoFar n events (i + 1) (texts ++ text ∷ []) now
-batch_more n events i e texts text count now so_far within is now_is spells =
-    let front : List Event = take i events in
-    let run : take (i + 1) events ≡ front ++ e ∷ [] = take_more events i e within ∙ ap (λ (y : Event). front ++ y ∷ []) (sym is) in
-    let number : now ≡ counted (issued_after n front) e = now_is ∙ ap (λ (m : ℕ). counted m e) so_far.counted_is in
-    let one : AreSpelled (entry.Event now e ∷ []) (text ∷ []) = spelled_one (entry.Event now e) text spells.in_grammar spells.written in
-    let both : AreSpelled (entries_of n front ++ entry.Event now e ∷ []) (texts ++ text ∷ []) = spelled_append (entries_of n front) (entry.Event now e ∷ []) texts (text ∷ []) so_far.spelled one in
-    let list : entries_of n front ++ entry.Event now e ∷ [] ≡ entries_of n (take (i + 1) events) =
-    ap (λ (m : ℕ). entries_of n front ++ entry.Event m e ∷ []) number ∙ sym (entries_more n front e) ∙ ap (entries_of n) (sym run) in
-    record {
-      spelled = subst (λ (l : List Entry). AreSpelled l (texts ++ text ∷ [])) list both;
-      counted_is = number ∙ sym (issued_append n front (e ∷ [])) ∙ ap (issued_after n) (sym run);
-    }
-
 -- what the entries so far tell
-pub record GatheredSoFar (texts : List (List ℕ)) (events : List Event) (issued : ℕ) : Type 0 where
+pub record GatheredSoFar (texts : List (List ℕ)) (events : List Event) (issued : ℕ) (notes : List NoteParts) : Type 0 where
   pub list : List Entry
   pub spelled : AreSpelled list texts
   pub belong : AllBelong 0 list
   pub few : length events ≤ MAX_EVENTS + 1
   pub events_told : events_of list ≡ events
   pub issued_is : issued ≡ issued_after 0 events
+  pub notes_told : notes ≡ notes_of list
 
-pub gathered_none : GatheredSoFar [] [] 0
-gathered_none = record { list = []; spelled = record { in_grammar = tt; written = refl }; belong = tt; few = omega arith; events_told = refl; issued_is = refl }
+pub gathered_none : GatheredSoFar [] [] 0 []
+gathered_none = record { list = []; spelled = record { in_grammar = tt; written = refl }; belong = tt; few = omega arith; events_told = refl; issued_is = refl; notes_told = refl }
 
-gathered_more : (texts : List (List ℕ)) (events after : List Event) (issued now : ℕ) (e : Entry) (text : List ℕ) → GatheredSoFar texts events issued → Spells e text → after ≡ events ++ events_of_entry e
-    → now ≡ issued_after issued (events_of_entry e) → Belongs issued e → length after ≤ MAX_EVENTS + 1 → GatheredSoFar (texts ++ text ∷ []) after now
-gathered_more texts events after issued now e text so_far spells after_is now_is belongs few =
+gathered_more : (texts : List (List ℕ)) (events after : List Event) (issued now : ℕ) (notes notes_after : List NoteParts) (e : Entry) (text : List ℕ) → GatheredSoFar texts events issued notes → Spells e text
+    → after ≡ events ++ events_of_entry e → now ≡ issued_after issued (events_of_entry e) → notes_after ≡ notes ++ notes_of_entry e → Belongs issued e → length after ≤ MAX_EVENTS + 1
+    → GatheredSoFar (texts ++ text ∷ []) after now notes_after
+gathered_more texts events after issued now notes notes_after e text so_far spells after_is now_is notes_is belongs few =
     let told : events_of (so_far.list ++ e ∷ []) ≡ after =
     events_append so_far.list (e ∷ []) ∙ ap (λ (l : List Event). l ++ events_of (e ∷ [])) so_far.events_told ∙ ap (λ (l : List Event). events ++ l) (events_one e) ∙ sym after_is in
     record {
@@ -151,16 +163,18 @@ gathered_more texts events after issued now e text so_far spells after_is now_is
       few = few;
       events_told = told;
       issued_is = now_is ∙ ap (λ (m : ℕ). issued_after m (events_of_entry e)) so_far.issued_is ∙ sym (issued_append 0 events (events_of_entry e)) ∙ ap (issued_after 0) (sym after_is);
+      notes_told = notes_is ∙ ap (λ (l : List NoteParts). l ++ notes_of_entry e) so_far.notes_told ∙ ap (λ (l : List NoteParts). notes_of so_far.list ++ l) (sym (notes_one e)) ∙ sym (notes_append so_far.list (e ∷ []));
     }
 
 -- one entry more of those that are read
-pub gathered_next : (entries : List (Vec ℕ Global)) (i : ℕ) (bytes : Vec ℕ Global) (events after : List Event) (issued now : ℕ) (e : Entry) → GatheredSoFar (contents (take i entries)) events issued
-    → i < length entries → bytes ≡ get_or entries i bytes → Spells e bytes.items → after ≡ events ++ events_of_entry e → now ≡ issued_after issued (events_of_entry e) → Belongs issued e
-    → length after ≤ MAX_EVENTS + 1 → GatheredSoFar (contents (take (i + 1) entries)) after now
-gathered_next entries i bytes events after issued now e so_far within is spells after_is now_is belongs few =
+pub gathered_next : (entries : List (Vec ℕ Global)) (i : ℕ) (bytes : Vec ℕ Global) (events after : List Event) (issued now : ℕ) (notes notes_after : List NoteParts) (e : Entry)
+    → GatheredSoFar (contents (take i entries)) events issued notes → i < length entries → bytes ≡ get_or entries i bytes → Spells e bytes.items → after ≡ events ++ events_of_entry e
+    → now ≡ issued_after issued (events_of_entry e) → notes_after ≡ notes ++ notes_of_entry e → Belongs issued e → length after ≤ MAX_EVENTS + 1 → GatheredSoFar (contents (take (i + 1) entries)) after now notes_after
+gathered_next entries i bytes events after issued now notes notes_after e so_far within is spells after_is now_is notes_is belongs few =
     let run : take (i + 1) entries ≡ take i entries ++ bytes ∷ [] = take_more entries i bytes within ∙ ap (λ (y : Vec ℕ Global). take i entries ++ y ∷ []) (sym is) in
     let texts : contents (take i entries) ++ bytes.items ∷ [] ≡ contents (take (i + 1) entries) = sym (contents_append (take i entries) (bytes ∷ [])) ∙ ap contents (sym run) in
-    subst (λ (l : List (List ℕ)). GatheredSoFar l after now) texts (gathered_more (contents (take i entries)) events after issued now e bytes.items so_far spells after_is now_is belongs few)
+    subst (λ (l : List (List ℕ)). GatheredSoFar l after now notes_after) texts
+    (gathered_more (contents (take i entries)) events after issued now notes notes_after e bytes.items so_far spells after_is now_is notes_is belongs few)
 
 -- a run of Nexts issues no version
 pub run_issues : (n stream count : ℕ) → issued_after n (replicate count (Next stream)) ≡ n

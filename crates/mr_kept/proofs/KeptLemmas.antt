@@ -12,6 +12,7 @@ use Rattle.mr_journal.proofs.Moments.{widened}
 use Rattle.mr_entry.specs.Head.{HeadParts}
 use Rattle.mr_entry.specs.Grammar.{IsEntry}
 use Rattle.mr_entry.specs.Events.{events_of}
+use Rattle.mr_entry.specs.Note.{NoteParts}
 use Rattle.mr_entry.specs.Spelling.{entry_bytes}
 use Rattle.mr_entry.specs.declared.entry.Entry.{Entry}
 use Rattle.mr_entry.specs.declared.entry.Entry.TheVariants as entry
@@ -19,36 +20,39 @@ use Rattle.mr_replica.specs.State.{State}
 use Rattle.mr_replica.specs.declared.event.Event.{Event}
 use Rattle.mr_journal.specs.declared.journal.Journal.{Journal}
 use Rattle.mr_kept.specs.declared.journaled.Journaled.{Journaled}
-use Rattle.mr_kept.specs.Entries.{AllBelong, AreSpelled, entries_of, issued_after}
-use Rattle.mr_kept.specs.Kept.{AreHeaded, IsKept, head_of, issued_of, journal_of, kept_of, replica_of, waiting}
-use Rattle.mr_kept.proofs.EntryLemmas.{all_belong, all_spelled, bytes_append, events_append, events_are, events_belong, events_head, issued_append}
+use Rattle.mr_kept.specs.Entries.{AllBelong, AreSpelled, batch_entries, issued_after}
+use Rattle.mr_kept.specs.Kept.{AreHeaded, IsKept, entries_waiting, head_of, issued_of, journal_of, kept_of, notes_waiting, replica_of, waiting}
+use Rattle.mr_kept.proofs.EntryLemmas.{all_belong, all_spelled, bytes_append, events_append, events_head, issued_append}
+use Rattle.mr_kept.proofs.RunLemmas.{batch_belongs, batch_tells}
 
--- entries of events behind those that are there
-pub headed_more : (head new : HeadParts) (entries : List Entry) (issued : ℕ) (events : List Event) → new ≡ head → issued ≡ issued_after 0 (events_of entries) → AreHeaded head entries → AreHeaded new (entries ++ entries_of issued events)
-headed_more head new entries issued events same is h =
+-- entries of events and notes behind those that are there
+pub headed_more : (head new : HeadParts) (entries : List Entry) (issued : ℕ) (events : List Event) (notes : List NoteParts) → new ≡ head → issued ≡ issued_after 0 (events_of entries) → AreHeaded head entries
+    → AreHeaded new (entries ++ batch_entries issued events notes)
+headed_more head new entries issued events notes same is h =
+    let more : List Entry = batch_entries issued events notes in
     let count : issued ≡ issued_after 0 (events_of h.behind) = is ∙ ap (λ (l : List Entry). issued_after 0 (events_of l)) h.first ∙ ap (issued_after 0) (events_head head h.behind) in
     record {
-      behind = h.behind ++ entries_of issued events;
-      first = ap (λ (l : List Entry). l ++ entries_of issued events) h.first ∙ ap (λ (x : HeadParts). entry.Head x ∷ (h.behind ++ entries_of issued events)) (sym same);
-      belong = all_belong 0 h.behind (entries_of issued events) h.belong (subst (λ (n : ℕ). AllBelong n (entries_of issued events)) count (events_belong issued events));
+      behind = h.behind ++ more;
+      first = ap (λ (l : List Entry). l ++ more) h.first ∙ ap (λ (x : HeadParts). entry.Head x ∷ (h.behind ++ more)) (sym same);
+      belong = all_belong 0 h.behind more h.belong (subst (λ (n : ℕ). AllBelong n more) count (batch_belongs issued events notes));
     }
 
 module _ {K D V : Type 0} {seen : D → List ℕ} {may_leave : D → List ℕ → Type 0} where
-  -- the entries of the events that waited join those before
-  pub kept_after : (entries : List Entry) (old new : Journaled K D V) (batch : List (List ℕ)) → IsKept seen may_leave entries old → AreSpelled (entries_of (issued_of old) (waiting old)) batch
+  -- the entries of what waited join those before
+  pub kept_after : (entries : List Entry) (old new : Journaled K D V) (batch : List (List ℕ)) → IsKept seen may_leave entries old → AreSpelled (entries_waiting old) batch
       → Keeps seen may_leave (map entry_bytes entries ++ batch) (journal_of new) → head_of new ≡ head_of old → replica_of new ≡ replica_of old → kept_of new ≡ length (replica_of old).log → issued_of new ≡ issued_after (issued_of old) (waiting old)
-      → IsKept seen may_leave (entries ++ entries_of (issued_of old) (waiting old)) new
+      → IsKept seen may_leave (entries ++ entries_waiting old) new
   kept_after entries old new batch h spelled keeps head replica kept issued =
       let log : List Event = (replica_of old).log in
-      let more : List Entry = entries_of (issued_of old) (waiting old) in
+      let more : List Entry = entries_waiting old in
       let log_is : (replica_of new).log ≡ log = ap (λ (s : State K). s.log) replica in
       let bytes : map entry_bytes entries ++ batch ≡ map entry_bytes (entries ++ more) = ap (λ (l : List (List ℕ)). map entry_bytes entries ++ l) spelled.written ∙ sym (bytes_append entries more) in
       let told : events_of (entries ++ more) ≡ log =
-      events_append entries more ∙ ap (λ (l : List Event). l ++ events_of more) h.events ∙ ap (λ (l : List Event). take (kept_of old) log ++ l) (events_are (issued_of old) (waiting old)) ∙ take-append-drop (kept_of old) log in
+      events_append entries more ∙ ap (λ (l : List Event). l ++ events_of more) h.events ∙ ap (λ (l : List Event). take (kept_of old) log ++ l) (batch_tells (issued_of old) (waiting old) (notes_waiting old)) ∙ take-append-drop (kept_of old) log in
       let all : take (kept_of new) (replica_of new).log ≡ log = ap (λ (n : ℕ). take n (replica_of new).log) kept ∙ ap (take (length log)) log_is ∙ take-length log in
       record {
         in_grammar = all_spelled entries more h.in_grammar spelled.in_grammar;
-        order = headed_more (head_of old) (head_of new) entries (issued_of old) (waiting old) head h.counted h.order;
+        order = headed_more (head_of old) (head_of new) entries (issued_of old) (waiting old) (notes_waiting old) head h.counted h.order;
         device = subst (λ (l : List (List ℕ)). Keeps seen may_leave l (journal_of new)) bytes keeps;
         within = le-leb (kept_of new) (length (replica_of new).log) (omega (arith, kept, ap length log_is));
         events = told ∙ sym all;
@@ -80,20 +84,21 @@ module _ {K D V : Type 0} where
   waiting_is old log n is place =
       ap (λ (m : ℕ). take m (drop n log)) (sym (length-drop n log)) ∙ take-length (drop n log) ∙ ap (λ (m : ℕ). drop m log) place ∙ drop_min (kept_of old) log ∙ ap (drop (kept_of old)) is
 
-  -- the bytes of these
-  pub spelled_waits : (old : Journaled K D V) (log : List Event) (n : ℕ) (batch given : List (Vec ℕ Global)) → log ≡ (replica_of old).log → n ≡ min (kept_of old) (length log) → given ≡ batch
-      → AreSpelled (entries_of (issued_of old) (take (length log - n) (drop n log))) (contents batch) → AreSpelled (entries_of (issued_of old) (waiting old)) (contents given)
-  spelled_waits old log n batch given is place same spelled =
-      subst (λ (events : List Event). AreSpelled (entries_of (issued_of old) events) (contents given)) (waiting_is old log n is place)
-      (subst (λ (texts : List (Vec ℕ Global)). AreSpelled (entries_of (issued_of old) (take (length log - n) (drop n log))) (contents texts)) (sym same) spelled)
+  -- the bytes of these and of the notes
+  pub spelled_waits : (old : Journaled K D V) (log : List Event) (n : ℕ) (notes : List NoteParts) (batch given : List (Vec ℕ Global)) → log ≡ (replica_of old).log → n ≡ min (kept_of old) (length log)
+      → notes ≡ notes_waiting old → given ≡ batch → AreSpelled (batch_entries (issued_of old) (take (length log - n) (drop n log)) notes) (contents batch) → AreSpelled (entries_waiting old) (contents given)
+  spelled_waits old log n notes batch given is place same_notes same spelled =
+      subst (λ (events : List Event). AreSpelled (batch_entries (issued_of old) events (notes_waiting old)) (contents given)) (waiting_is old log n is place)
+      (subst (λ (ns : List NoteParts). AreSpelled (batch_entries (issued_of old) (take (length log - n) (drop n log)) ns) (contents given)) same_notes
+      (subst (λ (texts : List (Vec ℕ Global)). AreSpelled (batch_entries (issued_of old) (take (length log - n) (drop n log)) notes) (contents texts)) (sym same) spelled))
 
 module _ {K D V : Type 0} {moment : D → ℕ} {left_since : D → ℕ → List ℕ → Type 0} where
-  -- the batch is the entries of the events that waited
-  pub moments_all : (entries : List Entry) (old : Journaled K D V) (batch : List (List ℕ)) (before after : D) → AreSpelled (entries_of (issued_of old) (waiting old)) batch
+  -- the batch is the entries of what waited
+  pub moments_all : (entries : List Entry) (old : Journaled K D V) (batch : List (List ℕ)) (before after : D) → AreSpelled (entries_waiting old) batch
       → LeavesOnly moment left_since before after (λ c. Stands (map entry_bytes entries) c ⊎ Stands (map entry_bytes entries ++ batch) c)
-      → LeavesOnly moment left_since before after (λ c. Stands (map entry_bytes entries) c ⊎ Stands (map entry_bytes (entries ++ entries_of (issued_of old) (waiting old))) c)
+      → LeavesOnly moment left_since before after (λ c. Stands (map entry_bytes entries) c ⊎ Stands (map entry_bytes (entries ++ entries_waiting old)) c)
   moments_all entries old batch before after spelled leaves =
-      let more : List Entry = entries_of (issued_of old) (waiting old) in
+      let more : List Entry = entries_waiting old in
       let bytes : map entry_bytes entries ++ batch ≡ map entry_bytes (entries ++ more) = ap (λ (l : List (List ℕ)). map entry_bytes entries ++ l) spelled.written ∙ sym (bytes_append entries more) in
       widened {P = λ c. Stands (map entry_bytes entries) c ⊎ Stands (map entry_bytes entries ++ batch) c} (λ c. Stands (map entry_bytes entries) c ⊎ Stands (map entry_bytes (entries ++ more)) c) leaves
       (λ c here. ⊎_elim (λ now. inl now) (λ all. inr (subst (λ (l : List (List ℕ)). Stands l c) bytes all)) here)

@@ -1,5 +1,5 @@
 -- what a commit leaves has the log of a replica
-use Rattle.std.proofs.Common.{◌≡◌, ◌⊎◌, ⊎_elim, Ok, ℕ, List, [], ◌∷◌, ◌++◌, take, drop, sym, ap, subst, ◌∙◌, append_assoc, append-nil, refl}
+use Rattle.std.proofs.Common.{◌≡◌, ◌⊎◌, inl, inr, ⊎_elim, Ok, ℕ, List, [], ◌∷◌, ◌++◌, take, drop, sym, ap, subst, ◌∙◌, append_assoc, append-nil, refl}
 use Rattle.std.proofs.lemmas.List.{take-append-drop}
 use Rattle.std.specs.Prelude.{map}
 use Rattle.std.specs.List.{AllByRecursion}
@@ -11,6 +11,7 @@ use Rattle.mr_journal.specs.Journal.{device_of}
 use Rattle.mr_entry.specs.Events.{events_of}
 use Rattle.mr_entry.specs.Grammar.{IsEntry}
 use Rattle.mr_entry.specs.Head.{HeadParts}
+use Rattle.mr_entry.specs.Note.{NoteParts}
 use Rattle.mr_entry.specs.Spelling.{entry_bytes}
 use Rattle.mr_entry.specs.declared.entry.Entry.{Entry}
 use Rattle.mr_entry.specs.declared.entry.Entry.TheVariants as entry
@@ -20,11 +21,12 @@ use Rattle.mr_replica.specs.State.{State}
 use Rattle.mr_replica.specs.declared.event.Event.{Event}
 use Rattle.mr_replica.proofs.Replaying.{step_log, step_setting}
 use Rattle.mr_kept.specs.declared.journaled.Journaled.{Journaled}
-use Rattle.mr_kept.specs.Entries.{AreSpelled, entries_of}
-use Rattle.mr_kept.specs.Kept.{AreHeaded, IsKept, head_of, issued_of, journal_of, kept_of, replica_of, waiting}
+use Rattle.mr_kept.specs.Entries.{AreSpelled, notes_of}
+use Rattle.mr_kept.specs.Kept.{AreHeaded, IsKept, entries_waiting, head_of, issued_of, journal_of, kept_of, notes_waiting, replica_of, waiting}
 use Rattle.mr_kept.specs.Whole.{HasLog, HasLogOf, IsOf}
 use Rattle.mr_kept.proofs.CloseLemmas.{same_setting, setting_on}
-use Rattle.mr_kept.proofs.EntryLemmas.{all_spelled, events_append, events_are, events_head}
+use Rattle.mr_kept.proofs.EntryLemmas.{all_spelled, events_append, events_head, notes_append, notes_head}
+use Rattle.mr_kept.proofs.RunLemmas.{batch_notes, batch_tells}
 use Rattle.mr_kept.proofs.KeptLemmas.{headed_more, stands_now}
 
 module _ {K : Type 0} (form : Form K) where
@@ -94,7 +96,7 @@ module _ {K : Type 0} (form : Form K) where
 
   -- entries that tell a beginning of a replica's log
   has_log : (head : HeadParts) (s : State K) (entries : List Entry) (left : List Event) (file : List ℕ) → IsOf head s → IsItsLog form s → s.log ≡ events_of entries ++ left → AllByRecursion IsEntry entries → AreHeaded head entries
-      → Stands (map entry_bytes entries) file → HasLog form file head
+      → Stands (map entry_bytes entries) file → HasLog form file head (notes_of entries)
   has_log head s entries left file of is log are order stands =
       let told : events_of entries ≡ events_of order.behind = ap events_of order.first ∙ events_head head order.behind in
       let from = begins s (events_of entries) left is log in (
@@ -106,6 +108,7 @@ module _ {K : Type 0} (form : Form K) where
           belong = order.belong;
           head_is = same_head head s from.replica from.setting of;
           log_is = from.log_is ∙ told;
+          notes_are = sym (ap notes_of order.first ∙ notes_head head order.behind);
           is_its_log = from.is_its_log;
         },
       )
@@ -115,18 +118,28 @@ module _ {K D V : Type 0} {seen : D → List ℕ} {may_leave : D → List ℕ �
   before_waiting entries j kept = sym (ap (λ (l : List Event). l ++ waiting j) kept.events ∙ take-append-drop (kept_of j) (replica_of j).log)
 
   -- what a crash leaves of a journal has the log of a replica
-  pub left_now : (entries : List Entry) (j : Journaled K D V) (c : List ℕ) → IsKept seen may_leave entries j → IsItsLog form (replica_of j) → IsOf (head_of j) (replica_of j) → may_leave (device_of (journal_of j)) c → HasLog form c (head_of j)
+  pub left_now : (entries : List Entry) (j : Journaled K D V) (c : List ℕ) → IsKept seen may_leave entries j → IsItsLog form (replica_of j) → IsOf (head_of j) (replica_of j) → may_leave (device_of (journal_of j)) c → HasLog form c (head_of j) (notes_of entries)
   left_now entries j c kept is of left = has_log form (head_of j) (replica_of j) entries (waiting j) c of is (before_waiting entries j kept) kept.in_grammar kept.order (stands_now entries j kept c left)
 
   -- and so has what it leaves of a commit
   pub left_by : (entries : List Entry) (j : Journaled K D V) (batch : List (List ℕ)) (c : List ℕ) → IsKept seen may_leave entries j → IsItsLog form (replica_of j) → IsOf (head_of j) (replica_of j)
-      → AreSpelled (entries_of (issued_of j) (waiting j)) batch → Stands (map entry_bytes entries) c ⊎ Stands (map entry_bytes (entries ++ entries_of (issued_of j) (waiting j))) c → HasLog form c (head_of j)
+      → AreSpelled (entries_waiting j) batch → Stands (map entry_bytes entries) c ⊎ Stands (map entry_bytes (entries ++ entries_waiting j)) c
+      → HasLog form c (head_of j) (notes_of entries) ⊎ HasLog form c (head_of j) (notes_of entries ++ notes_waiting j)
   left_by entries j batch c kept is of spelled left =
-      let more : List Entry = entries_of (issued_of j) (waiting j) in
+      let more : List Entry = entries_waiting j in
       let before = before_waiting entries j kept in
       let after : (replica_of j).log ≡ events_of (entries ++ more) ++ [] =
-      before ∙ ap (λ (l : List Event). events_of entries ++ l) (sym (events_are (issued_of j) (waiting j))) ∙ sym (events_append entries more) ∙ sym (append-nil (events_of (entries ++ more))) in
-      let order : AreHeaded (head_of j) (entries ++ more) = headed_more (head_of j) (head_of j) entries (issued_of j) (waiting j) refl kept.counted kept.order in
+      before ∙ ap (λ (l : List Event). events_of entries ++ l) (sym (batch_tells (issued_of j) (waiting j) (notes_waiting j))) ∙ sym (events_append entries more) ∙ sym (append-nil (events_of (entries ++ more))) in
+      let order : AreHeaded (head_of j) (entries ++ more) = headed_more (head_of j) (head_of j) entries (issued_of j) (waiting j) (notes_waiting j) refl kept.counted kept.order in
+      let told : notes_of (entries ++ more) ≡ notes_of entries ++ notes_waiting j = notes_append entries more ∙ ap (λ (l : List NoteParts). notes_of entries ++ l) (batch_notes (issued_of j) (waiting j) (notes_waiting j)) in
       ⊎_elim
-      (λ old. has_log form (head_of j) (replica_of j) entries (waiting j) c of is before kept.in_grammar kept.order old)
-      (λ all. has_log form (head_of j) (replica_of j) (entries ++ more) [] c of is after (all_spelled entries more kept.in_grammar spelled.in_grammar) order all) left
+      (λ old. inl (has_log form (head_of j) (replica_of j) entries (waiting j) c of is before kept.in_grammar kept.order old))
+      (λ all. inr (subst (λ (ns : List NoteParts). HasLog form c (head_of j) ns) told
+      (has_log form (head_of j) (replica_of j) (entries ++ more) [] c of is after (all_spelled entries more kept.in_grammar spelled.in_grammar) order all))) left
+
+module _ {K D V : Type 0} (form : Form K) where
+  -- where no note waits, the notes are the same
+  pub same_notes : (entries : List Entry) (j : Journaled K D V) (c : List ℕ) → notes_waiting j ≡ [] → HasLog form c (head_of j) (notes_of entries) ⊎ HasLog form c (head_of j) (notes_of entries ++ notes_waiting j)
+      → HasLog form c (head_of j) (notes_of entries)
+  same_notes entries j c none left =
+      ⊎_elim (λ old. old) (λ all. subst (λ (ns : List NoteParts). HasLog form c (head_of j) ns) (ap (λ (l : List NoteParts). notes_of entries ++ l) none ∙ append-nil (notes_of entries)) all) left

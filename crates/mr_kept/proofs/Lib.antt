@@ -1,5 +1,6 @@
 -- lemmas
 pub mod EntryLemmas
+pub mod RunLemmas
 pub mod KeptLemmas
 pub mod CloseLemmas
 pub mod IssuedLemmas

@@ -1,10 +1,10 @@
 -- journals that are begun, opened and closed
-use Rattle.std.proofs.Common.{Ok, ◌≡◌, ◌⊎◌, inl, inr, ⊎_elim, ℕ, ◌==◌, Bool, true, List, [], ◌∷◌, ◌++◌, length, take, drop, refl, sym, ap, subst, ◌∙◌, arith, append-nil}
-use Rattle.std.specs.Prelude.{MatchBool, map, Vec}
+use Rattle.std.proofs.Common.{Ok, ◌≡◌, ◌⊎◌, inl, inr, ⊎_elim, ℕ, ◌==◌, Bool, true, false, List, [], ◌∷◌, ◌++◌, length, take, drop, refl, sym, ap, subst, ◌∙◌, arith, append-nil}
+use Rattle.std.specs.Prelude.{◌&&◌, MatchBool, nat_le, map, Vec}
 use Rattle.std.specs.declared.alloc.Global.{Global}
 use Rattle.std.specs.List.{AllByRecursion}
 use Rattle.std.proofs.Math.Seq.{take-length, drop-append_seam}
-use Rattle.std.proofs.lemmas.Bool.{eqb-true, le-leb, leb-true}
+use Rattle.std.proofs.lemmas.Bool.{eqb-true, false≢true, le-leb, leb-true}
 use Rattle.mr_forms.specs.Known.{Form}
 use Rattle.mr_filter.specs.Filter.{ClauseParts}
 use Rattle.mr_filter.specs.Grammar.{Reads}
@@ -13,6 +13,7 @@ use Rattle.mr_journal.specs.Format.{StandAlike, Stands, contents}
 use Rattle.mr_journal.specs.Journal.{Keeps, device_of}
 use Rattle.mr_journal.proofs.Moments.{widened}
 use Rattle.mr_entry.specs.Head.{HeadParts}
+use Rattle.mr_entry.specs.Note.{NoteParts}
 use Rattle.mr_entry.specs.Events.{events_of}
 use Rattle.mr_entry.specs.Grammar.{IsEntry, Spells}
 use Rattle.mr_entry.specs.Spelling.{entry_bytes}
@@ -25,8 +26,8 @@ use Rattle.mr_replica.specs.declared.event.Event.{Event}
 use Rattle.mr_replica.proofs.Replaying.{step_setting}
 use Rattle.mr_kept.specs.declared.journaled.Journaled.{Journaled}
 use Rattle.mr_kept.specs.Closing.{AreClosed, IsCut, IsFull, Takes, closers}
-use Rattle.mr_kept.specs.Entries.{AreInOrder, AreSpelled, entries_of, issued_after}
-use Rattle.mr_kept.specs.Kept.{IsKept, Tells, head_of, issued_of, journal_of, kept_of, nothing_waits, replica_of, waiting}
+use Rattle.mr_kept.specs.Entries.{AreInOrder, AreSpelled, batch_entries, entries_of, issued_after, notes_of}
+use Rattle.mr_kept.specs.Kept.{IsKept, Tells, entries_waiting, head_of, issued_of, journal_of, kept_of, nothing_waits, notes_waiting, replica_of, waiting}
 use Rattle.mr_kept.specs.Opening.{Begins, GoesOn, HasCut, IsClosedIn, IsReplayed, Reopens}
 use Rattle.mr_kept.proofs.CloseLemmas.{same_setting, setting_on, taken_cuts}
 use Rattle.mr_kept.proofs.EntryLemmas.{bytes_append, events_head}
@@ -53,10 +54,10 @@ module _ {K : Type 0} (form : Form K) where
       same.filter ∙ ap (λ (z : State K). z.filter) h.is_fresh.is_empty
 
   -- a head and what was gathered behind it
-  pub is_replayed : (entries rest : List (Vec ℕ Global)) (first : Vec ℕ Global) (head : HeadParts) (list : List Entry) (filter : List ClauseParts) (events : List Event) (kept issued : ℕ) (s : State K)
-      → contents entries ≡ first.items ∷ contents rest → Spells (entry.Head head) first.items → AreSpelled list (contents rest) → AreInOrder list → events_of list ≡ events → issued ≡ issued_after 0 events
-      → Reads head.filter filter → kept ≡ length events → Replays form head.id filter head.event_limit events s → s.log ≡ events → IsReplayed form (contents entries) head s kept issued
-  is_replayed entries rest first head list filter events kept issued s texts spells spelled order told issued_is reads kept_is replays log =
+  pub is_replayed : (entries rest : List (Vec ℕ Global)) (first : Vec ℕ Global) (head : HeadParts) (list : List Entry) (filter : List ClauseParts) (events : List Event) (kept issued : ℕ) (notes : List NoteParts) (s : State K)
+      → contents entries ≡ first.items ∷ contents rest → Spells (entry.Head head) first.items → AreSpelled list (contents rest) → AreInOrder list → events_of list ≡ events → issued ≡ issued_after 0 events → notes ≡ notes_of list
+      → Reads head.filter filter → kept ≡ length events → Replays form head.id filter head.event_limit events s → s.log ≡ events → IsReplayed form (contents entries) head s kept issued notes
+  is_replayed entries rest first head list filter events kept issued notes s texts spells spelled order told issued_is notes_is reads kept_is replays log =
       let same : s.filter ≡ filter = replayed_filter head.id filter head.event_limit events s replays in
       record {
         entries = list;
@@ -67,6 +68,7 @@ module _ {K : Type 0} (form : Form K) where
         log_is = log ∙ sym told;
         kept_is = kept_is ∙ ap length (sym told);
         issued_is = issued_is ∙ ap (issued_after 0) (sym told);
+        notes_are = notes_is;
       }
 
 -- ---- what is kept
@@ -74,10 +76,30 @@ module _ {K : Type 0} (form : Form K) where
 pub closed_on : {K : Type 0} (s new : State K) → new ≡ s → AreClosed s → AreClosed new
 closed_on {K} s new same closed = subst (λ (z : State K). AreClosed z) (sym same) closed
 
+both_hold : (a b : Bool) → a ≡ true → b ≡ true → (a && b) ≡ true
+both_hold true b h k = k
+both_hold false b h k = h
+
+both_held : (a b : Bool) → (a && b) ≡ true → (a ≡ true) × (b ≡ true)
+both_held true b h = (refl, h)
+both_held false b h = absurd (false≢true h)
+
+empty : {A : Type 0} (l : List A) → length l ≡ 0 → l ≡ []
+empty [] none = refl
+empty (x ∷ xs) none = absurd (omega (arith, none))
+
 module _ {K D V : Type 0} where
   -- all is kept
-  pub none_waits : (j : Journaled K D V) → length (replica_of j).log ≡ kept_of j → nothing_waits j ≡ true
-  none_waits j is = le-leb (length (replica_of j).log) (kept_of j) (omega (arith, is))
+  pub none_waits : (j : Journaled K D V) → length (replica_of j).log ≡ kept_of j → notes_waiting j ≡ [] → nothing_waits j ≡ true
+  none_waits j is none = both_hold (nat_le (length (replica_of j).log) (kept_of j)) _ (le-leb (length (replica_of j).log) (kept_of j) (omega (arith, is))) (ap (λ (l : List NoteParts). length l == 0) none)
+
+  -- no note waits
+  pub no_note_waits : (j : Journaled K D V) → nothing_waits j ≡ true → notes_waiting j ≡ []
+  no_note_waits j none = empty (notes_waiting j) (eqb-true (length (notes_waiting j)) 0 (both_held (nat_le (length (replica_of j).log) (kept_of j)) _ none).1)
+
+  -- then what waits are the events
+  no_note_more : (j : Journaled K D V) → notes_waiting j ≡ [] → entries_waiting j ≡ entries_of (issued_of j) (waiting j)
+  no_note_more j none = ap (batch_entries (issued_of j) (waiting j)) none ∙ append-nil (entries_of (issued_of j) (waiting j))
 
   -- what waits once all was kept
   waits_more : (old mid : Journaled K D V) (more : List Event) → kept_of old ≡ length (replica_of old).log → kept_of mid ≡ kept_of old → (replica_of mid).log ≡ (replica_of old).log ++ more → waiting mid ≡ more
@@ -86,12 +108,12 @@ module _ {K D V : Type 0} where
 
 module _ {K D V : Type 0} {seen : D → List ℕ} {may_leave : D → List ℕ → Type 0} where
   all_kept : (entries : List Entry) (j : Journaled K D V) → IsKept seen may_leave entries j → nothing_waits j ≡ true → kept_of j ≡ length (replica_of j).log
-  all_kept entries j h none = omega (arith, leb-true (kept_of j) (length (replica_of j).log) h.within, leb-true (length (replica_of j).log) (kept_of j) none)
+  all_kept entries j h none = omega (arith, leb-true (kept_of j) (length (replica_of j).log) h.within, leb-true (length (replica_of j).log) (kept_of j) (both_held (nat_le (length (replica_of j).log) (kept_of j)) _ none).0)
 
   -- what was replayed of a journal's entries
-  pub kept_read : (form : Form K) (texts : List (List ℕ)) (j : Journaled K D V) (is : IsReplayed form texts (head_of j) (replica_of j) (kept_of j) (issued_of j)) → Keeps seen may_leave texts (journal_of j)
+  pub kept_read : (form : Form K) (texts : List (List ℕ)) (notes : List NoteParts) (j : Journaled K D V) (is : IsReplayed form texts (head_of j) (replica_of j) (kept_of j) (issued_of j) notes) → Keeps seen may_leave texts (journal_of j)
       → IsKept seen may_leave (entry.Head (head_of j) ∷ is.entries) j
-  kept_read form texts j is keeps =
+  kept_read form texts notes j is keeps =
       let log : List Event = (replica_of j).log in
       let told : events_of (entry.Head (head_of j) ∷ is.entries) ≡ log = events_head (head_of j) is.entries ∙ sym is.log_is in
       let len : kept_of j ≡ length log = is.kept_is ∙ ap length (sym is.log_is) in
@@ -128,10 +150,11 @@ module _ {K D V : Type 0} {seen : D → List ℕ} {may_leave : D → List ℕ �
 
   -- and once it is
   pub closed_in : (entries : List Entry) (old mid new : Journaled K D V) (all : Bool) → IsKept seen may_leave entries old → nothing_waits old ≡ true → kept_of mid ≡ kept_of old → issued_of mid ≡ issued_of old
-      → Takes (closers (replica_of old)) all (replica_of old) (replica_of mid) → replica_of new ≡ replica_of mid → IsKept seen may_leave (entries ++ entries_of (issued_of mid) (waiting mid)) new → IsClosedIn seen may_leave entries all old new
-  closed_in entries old mid new all h none kept issued takes replica after =
+      → Takes (closers (replica_of old)) all (replica_of old) (replica_of mid) → notes_waiting mid ≡ notes_waiting old → replica_of new ≡ replica_of mid → IsKept seen may_leave (entries ++ entries_waiting mid) new → IsClosedIn seen may_leave entries all old new
+  closed_in entries old mid new all h none kept issued takes notes replica after =
       let waits : waiting mid ≡ takes.more = waits_more old mid takes.more (all_kept entries old h none) kept takes.log_is in
-      let same : entries_of (issued_of mid) (waiting mid) ≡ entries_of (issued_of old) takes.more = ap (entries_of (issued_of mid)) waits ∙ ap (λ (n : ℕ). entries_of n takes.more) issued in
+      let same : entries_waiting mid ≡ entries_of (issued_of old) takes.more =
+      no_note_more mid (notes ∙ no_note_waits old none) ∙ ap (entries_of (issued_of mid)) waits ∙ ap (λ (n : ℕ). entries_of n takes.more) issued in
       let on = subst (λ (s : State K). IsOfSameSetting (replica_of old) s) (sym replica) takes.setting in
       record {
         closed = record {
@@ -163,19 +186,21 @@ module _ {K D V : Type 0} {seen : D → List ℕ} {may_leave : D → List ℕ �
   -- over the commit of what closes
   pub moments_close : (entries : List Entry) (old mid : Journaled K D V) (all : Bool) (before after : D) → IsKept seen may_leave entries old → nothing_waits old ≡ true → kept_of mid ≡ kept_of old
       → Takes (closers (replica_of old)) all (replica_of old) (replica_of mid)
-      → LeavesOnly moment left_since before after (λ c. Stands (map entry_bytes entries) c ⊎ Stands (map entry_bytes (entries ++ entries_of (issued_of mid) (waiting mid))) c)
+      → notes_waiting mid ≡ notes_waiting old → LeavesOnly moment left_since before after (λ c. Stands (map entry_bytes entries) c ⊎ Stands (map entry_bytes (entries ++ entries_waiting mid)) c)
       → LeavesOnly moment left_since before after (HasCut (map entry_bytes entries))
-  moments_close entries old mid all before after h none kept takes leaves =
+  moments_close entries old mid all before after h none kept takes notes leaves =
       let waits : waiting mid ≡ takes.more = waits_more old mid takes.more (all_kept entries old h none) kept takes.log_is in
       let cuts : AllByRecursion IsCut (waiting mid) = subst (λ (l : List Event). AllByRecursion IsCut l) (sym waits) (taken_cuts (replica_of old) (replica_of old) (replica_of mid) all takes) in
-      widened {P = λ c. Stands (map entry_bytes entries) c ⊎ Stands (map entry_bytes (entries ++ entries_of (issued_of mid) (waiting mid))) c} (HasCut (map entry_bytes entries)) leaves (λ c here. cut_left entries (issued_of mid) (waiting mid) c cuts here)
+      let same : entries_waiting mid ≡ entries_of (issued_of mid) (waiting mid) = no_note_more mid (notes ∙ no_note_waits old none) in
+      widened {P = λ c. Stands (map entry_bytes entries) c ⊎ Stands (map entry_bytes (entries ++ entries_waiting mid)) c} (HasCut (map entry_bytes entries)) leaves
+      (λ c here. cut_left entries (issued_of mid) (waiting mid) c cuts (subst (λ (l : List Entry). Stands (map entry_bytes entries) c ⊎ Stands (map entry_bytes (entries ++ l)) c) same here))
 
 -- ---- opened
 
 module _ {K D V : Type 0} {seen : D → List ℕ} {may_leave : D → List ℕ → Type 0} (form : Form K) where
-  pub reopens : (file : List ℕ) (texts : List (List ℕ)) (all : Bool) (mid new : Journaled K D V) → Stands texts file → (is : IsReplayed form texts (head_of mid) (replica_of mid) (kept_of mid) (issued_of mid))
-      → head_of new ≡ head_of mid → IsClosedIn seen may_leave (entry.Head (head_of mid) ∷ is.entries) all mid new → Reopens form seen may_leave file all new
-  reopens file texts all mid new stood is same closed =
+  pub reopens : (file : List ℕ) (texts : List (List ℕ)) (all : Bool) (notes : List NoteParts) (mid new : Journaled K D V) → Stands texts file → (is : IsReplayed form texts (head_of mid) (replica_of mid) (kept_of mid) (issued_of mid) notes)
+      → head_of new ≡ head_of mid → IsClosedIn seen may_leave (entry.Head (head_of mid) ∷ is.entries) all mid new → Reopens form seen may_leave file all notes new
+  reopens file texts all notes mid new stood is same closed =
       let s : State K = replica_of mid in
       let head : HeadParts = head_of mid in
       let setting = replayed_setting form head.id s.filter head.event_limit (events_of is.entries) s is.replays in
@@ -189,6 +214,7 @@ module _ {K D V : Type 0} {seen : D → List ℕ} {may_leave : D → List ℕ �
         tells = subst (λ (h : HeadParts). Tells h s) (sym same) tells;
         replays = subst (λ (n : ℕ). Replays form n s.filter s.event_limit (events_of is.entries) s) (sym setting.0) (subst (λ (n : ℕ). Replays form head.id s.filter n (events_of is.entries) s) (sym setting.1) is.replays);
         issued_is = replayed_issued form head.id s.filter head.event_limit (events_of is.entries) s is.replays;
+        notes_are = is.notes_are;
         closed = closed.closed;
         kept = subst (λ (h : HeadParts). IsKept seen may_leave ((entry.Head h ∷ is.entries) ++ entries_of (issued_after 0 (events_of is.entries)) closed.closed.more) new) (sym same)
             (subst (λ (n : ℕ). IsKept seen may_leave ((entry.Head head ∷ is.entries) ++ entries_of n closed.closed.more) new) is.issued_is closed.kept);

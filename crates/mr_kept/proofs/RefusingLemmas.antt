@@ -12,6 +12,7 @@ use Rattle.mr_journal.specs.Format.{contents}
 use Rattle.mr_entry.specs.Events.{events_of}
 use Rattle.mr_entry.specs.Grammar.{Spells}
 use Rattle.mr_entry.specs.Head.{HeadParts}
+use Rattle.mr_entry.specs.Note.{NoteParts}
 use Rattle.mr_entry.specs.Spelling.{entry_bytes}
 use Rattle.mr_entry.specs.declared.entry.Entry.{Entry}
 use Rattle.mr_entry.specs.declared.entry.Entry.TheVariants as entry
@@ -40,9 +41,9 @@ wrong_as place at issued n count m text why at_is n_is m_is wrong =
     subst (λ (k : ℕ). IsWrong at n k text why) m_is (subst (λ (k : ℕ). IsWrong at k count text why) n_is (subst (λ (k : ℕ). IsWrong k issued count text why) at_is wrong))
 
 -- the text that comes next is wrong
-pub stops_at : (entries : List (Vec ℕ Global)) (i place : ℕ) (bytes : Vec ℕ Global) (events : List Event) (issued : ℕ) (why : OpenFault) → GatheredSoFar (contents (take i entries)) events issued
+pub stops_at : (entries : List (Vec ℕ Global)) (i place : ℕ) (bytes : Vec ℕ Global) (events : List Event) (issued : ℕ) (notes : List NoteParts) (why : OpenFault) → GatheredSoFar (contents (take i entries)) events issued notes
     → i < length entries → bytes ≡ get_or entries i bytes → place ≡ i + 1 → IsWrong place issued (length events) bytes.items why → StopsAt (contents entries) why
-stops_at entries i place bytes events issued why so_far within is place_is wrong =
+stops_at entries i place bytes events issued notes why so_far within is place_is wrong =
     let front : List (Vec ℕ Global) = take i entries in
     let behind : List (Vec ℕ Global) = drop (i + 1) entries in
     let list : List Entry = so_far.list in

@@ -16,6 +16,7 @@ use Rattle.mr_entry.specs.Decoding.{Read, and_kind, decoded, parts_read}
 use Rattle.mr_entry.specs.Events.{events_of, events_of_entry}
 use Rattle.mr_entry.specs.Grammar.{IsEntry, Spells}
 use Rattle.mr_entry.specs.Head.{HeadParts}
+use Rattle.mr_entry.specs.Note.{NoteParts}
 use Rattle.mr_entry.specs.Spelling.{entry_bytes, kind_byte, part_bytes}
 use Rattle.mr_entry.specs.declared.entry.Entry.{Entry}
 use Rattle.mr_entry.specs.declared.entry.Entry.TheVariants as entry
@@ -31,7 +32,7 @@ use Rattle.mr_replica.proofs.Alike.{alike_fresh, alike_replays, alike_stop}
 use Rattle.mr_kept.specs.declared.fault.OpenFault.{OpenFault}
 use Rattle.mr_kept.specs.declared.fault.OpenFault.TheVariants as fault
 use Rattle.mr_kept.specs.declared.journaled.Journaled.{Journaled}
-use Rattle.mr_kept.specs.Entries.{AllBelong, Belongs, counted, issued_after}
+use Rattle.mr_kept.specs.Entries.{AllBelong, Belongs, counted, issued_after, notes_of}
 use Rattle.mr_kept.specs.Kept.{head_of, replica_of}
 use Rattle.mr_kept.specs.Opening.{IsOfOther, IsOfPlace, IsReplayed, Reopens}
 use Rattle.mr_kept.specs.Refusing.{IsBehindHead, IsLonger, IsNoFilter, IsNoHead, IsNoReplay, IsOpenFault, IsOutOfOrder, IsRefused, IsUnread, IsWrong, StopsAt}
@@ -181,7 +182,7 @@ module _ {K : Type 0} (form : Form K) (meaning : IsByMeaning form) where
   as_head head s events id limit log is =
       subst (λ (n : ℕ). Replays form n s.filter head.event_limit events s) id (subst (λ (n : ℕ). Replays form s.id s.filter n events s) limit (subst (λ (l : List Event). Replays form s.id s.filter s.event_limit l s) log is))
 
-  module _ (file : List ℕ) (head : HeadParts) (s : State K) (left : HasLogOf form file head s) where
+  module _ (file : List ℕ) (head : HeadParts) (s : State K) (notes : List NoteParts) (left : HasLogOf form file head s notes) where
     few : length (events_of left.entries) ≤ MAX_EVENTS + 1
     few =
         let most = replayed_few form s.id s.filter s.event_limit s.log s left.is_its_log in
@@ -219,8 +220,8 @@ module _ {K : Type 0} (form : Form K) (meaning : IsByMeaning form) where
         (subst (λ (l : List (List ℕ)). IsRefused form l mark birth why) is h)
 
     -- what was replayed of it is of its head
-    pub of_replayed : (texts : List (List ℕ)) (h : HeadParts) (t : State K) (kept issued : ℕ) → Stands texts file → IsReplayed form texts h t kept issued → (h ≡ head) × IsOf h t
-    of_replayed texts h t kept issued stands is =
+    pub of_replayed : (texts : List (List ℕ)) (h : HeadParts) (t : State K) (kept issued : ℕ) (told : List NoteParts) → Stands texts file → (is : IsReplayed form texts h t kept issued told) → (h ≡ head) × IsOf h t × (notes_of is.entries ≡ notes)
+    of_replayed texts h t kept issued told stands is =
         let same : entry.Head h ∷ is.entries ≡ entry.Head head ∷ left.entries =
         same_entries (entry.Head h ∷ is.entries) (entry.Head head ∷ left.entries) is.spelled.in_grammar left.in_grammar (sym is.spelled.written ∙ one_list file texts (map entry_bytes (entry.Head head ∷ left.entries)) stands left.stands) in
         let head_is : h ≡ head = first_head h head is.entries left.entries same in
@@ -233,10 +234,11 @@ module _ {K : Type 0} (form : Form K) (meaning : IsByMeaning form) where
             limit_from = subst (λ (x : HeadParts). 1 ≤ x.event_limit) (sym head_is) left.head_is.limit_from;
             limit_to = subst (λ (x : HeadParts). x.event_limit ≤ MAX_EVENTS) (sym head_is) left.head_is.limit_to;
           },
+          ap notes_of (behind_first h head is.entries left.entries same) ∙ left.notes_are,
         )
 
     -- and so is a file that stands for the same entries
-    pub alike_has : (c : List ℕ) → StandAlike file c → HasLog form c head
+    pub alike_has : (c : List ℕ) → StandAlike file c → HasLog form c head notes
     alike_has c alike =
         let same : alike.0 ≡ map entry_bytes (entry.Head head ∷ left.entries) = one_list file alike.0 (map entry_bytes (entry.Head head ∷ left.entries)) alike.1 left.stands in (
           s,
@@ -247,6 +249,7 @@ module _ {K : Type 0} (form : Form K) (meaning : IsByMeaning form) where
             belong = left.belong;
             head_is = left.head_is;
             log_is = left.log_is;
+            notes_are = left.notes_are;
             is_its_log = left.is_its_log;
           },
         )
@@ -258,12 +261,12 @@ module _ {K : Type 0} (form : Form K) (meaning : IsByMeaning form) where
     opens mark birth why place (inr of_texts) =
         ⊎_elim
         (λ refused. refused_machine of_texts.0 mark birth why place (one_list file of_texts.0 (map entry_bytes (entry.Head head ∷ left.entries)) of_texts.1 left.stands) refused)
-        (λ unkept. subst (λ (f : OpenFault). IsOfMachine f) (sym unkept.7) tt)
+        (λ unkept. subst (λ (f : OpenFault). IsOfMachine f) (sym unkept.8) tt)
         of_texts.2
 
     -- and gives a replica that is alike
-    pub comes_back : {D V : Type 0} (seen : D → List ℕ) (may_leave : D → List ℕ → Type 0) (all : Bool) (j : Journaled K D V) → Reopens form seen may_leave file all j → ComesBack form s all (replica_of j)
-    comes_back seen may_leave all j again =
+    pub comes_back : {D V : Type 0} (seen : D → List ℕ) (may_leave : D → List ℕ → Type 0) (all : Bool) (told : List NoteParts) (j : Journaled K D V) → Reopens form seen may_leave file all told j → ComesBack form s all (replica_of j) × (told ≡ notes)
+    comes_back seen may_leave all told j again =
         let entries : List Entry = entry.Head (head_of j) ∷ again.entries in
         let same : entries ≡ entry.Head head ∷ left.entries = same_entries entries (entry.Head head ∷ left.entries) (all_front IsEntry entries _ again.kept.in_grammar) left.in_grammar (one_list file (map entry_bytes entries) (map entry_bytes (entry.Head head ∷ left.entries)) again.stood left.stands) in
         let head_is : head_of j ≡ head = first_head (head_of j) head again.entries left.entries same in
@@ -277,4 +280,4 @@ module _ {K : Type 0} (form : Form K) (meaning : IsByMeaning form) where
         (subst (λ (f : List ClauseParts). Replays form t.id f head.event_limit (events_of left.entries) t) filters
         (subst (λ (n : ℕ). Replays form t.id t.filter n (events_of left.entries) t) limit
         (subst (λ (l : List Entry). Replays form t.id t.filter t.event_limit (events_of l) t) list again.replays))) in
-        record { replica = t; alike = alike_replays form meaning head.id s.filter head.event_limit (events_of left.entries) s t replays theirs; closed = again.closed }
+        (record { replica = t; alike = alike_replays form meaning head.id s.filter head.event_limit (events_of left.entries) s t replays theirs; closed = again.closed }, again.notes_are ∙ ap notes_of list ∙ left.notes_are)

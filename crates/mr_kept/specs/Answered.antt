@@ -1,9 +1,10 @@
 -- what comes of an event where there is a journal
-use Rattle.std.specs.Prelude.{◌≡◌, ◌<◌, IsTrue, length, Result, Ok, Err}
+use Rattle.std.specs.Prelude.{◌≡◌, ◌<◌, ◌≤◌, ◌^◌, false, IsTrue, length, Result, Ok, Err}
 use Rattle.mr_forms.specs.Known.{Form}
 use Rattle.mr_journal.specs.Journal.{has_failed}
 use Rattle.mr_journal.specs.declared.journal.Journal.{Journal}
 use Rattle.mr_event.specs.Spelling.{rest_bytes}
+use Rattle.mr_entry.specs.Note.{NoteParts}
 use Rattle.mr_replica.specs.State.{State}
 use Rattle.mr_replica.specs.Step.{Steps}
 use Rattle.mr_replica.specs.declared.event.Event.{Event}
@@ -17,6 +18,13 @@ MayNotKeep journal event Failed = IsTrue (has_failed journal)
 MayNotKeep journal event TooLarge = 8388608 < length (rest_bytes event)
 MayNotKeep journal event OutOfMemory = ⊥
 MayNotKeep journal event (Refused e) = ⊥
+
+-- why the journal can't keep the note; memory is wanting only where it could
+abbrev pub IsUnnoted : {D : Type 0} → Journal D → NoteParts → KeptFault → Type 0
+IsUnnoted journal note Failed = IsTrue (has_failed journal)
+IsUnnoted journal note TooLarge = (has_failed journal ≡ false) × (2 ^ 32 ≤ length note.bytes)
+IsUnnoted journal note OutOfMemory = (has_failed journal ≡ false) × (length note.bytes < 2 ^ 32)
+IsUnnoted journal note (Refused e) = ⊥
 
 module _ {K D : Type 0} where
   -- The replica answers the event, or refuses it; or it is not asked, and stays, where the journal can't keep the event or memory

@@ -1,5 +1,5 @@
 -- what an open replica has, and what of it is kept
-use Rattle.std.specs.Prelude.{◌≡◌, ◌++◌, ◌∷◌, [], ℕ, Bool, nat_le, IsTrue, length, take, drop, map, List, Result, Ok, Err}
+use Rattle.std.specs.Prelude.{◌≡◌, ◌++◌, ◌==◌, ◌&&◌, ◌∷◌, [], ℕ, Bool, nat_le, IsTrue, length, take, drop, map, List, Result, Ok, Err}
 use Rattle.std.specs.List.{AllByRecursion}
 use Rattle.mr_forms.specs.Known.{Form}
 use Rattle.mr_journal.specs.Journal.{Keeps}
@@ -8,6 +8,7 @@ use Rattle.mr_filter.specs.Grammar.{Reads}
 use Rattle.mr_entry.specs.Head.{HeadParts}
 use Rattle.mr_entry.specs.Events.{events_of}
 use Rattle.mr_entry.specs.Grammar.{IsEntry}
+use Rattle.mr_entry.specs.Note.{NoteParts}
 use Rattle.mr_entry.specs.Spelling.{entry_bytes}
 use Rattle.mr_entry.specs.declared.entry.Entry.{Entry}
 use Rattle.mr_entry.specs.declared.entry.Entry.TheVariants as entry
@@ -17,7 +18,7 @@ use Rattle.mr_replica.specs.declared.event.Reply.{Reply}
 use Rattle.mr_kept.specs.declared.fault.KeptFault.{KeptFault}
 use Rattle.mr_kept.specs.declared.journaled.Journaled.{Journaled}
 use Rattle.mr_kept.specs.Answered.{Answered}
-use Rattle.mr_kept.specs.Entries.{AllBelong, issued_after}
+use Rattle.mr_kept.specs.Entries.{AllBelong, batch_entries, issued_after}
 
 -- the head tells what replica it is of: its id, its filter's text and its event limit
 pub record Tells {K : Type 0} (head : HeadParts) (s : State K) : Type 0 where
@@ -56,8 +57,17 @@ module _ {K D V : Type 0} where
   abbrev pub waiting : Journaled K D V → List Event
   waiting j = drop (kept_of j) (replica_of j).log
 
+  -- the notes that wait for one
+  abbrev pub notes_waiting : Journaled K D V → List NoteParts
+  notes_waiting j = j.notes.items
+
+  -- the entries of what waits: those of the events, and behind them those of the notes
+  abbrev pub entries_waiting : Journaled K D V → List Entry
+  entries_waiting j = batch_entries (issued_of j) (waiting j) (notes_waiting j)
+
+  -- neither an event waits nor a note
   abbrev pub nothing_waits : Journaled K D V → Bool
-  nothing_waits j = nat_le (length (replica_of j).log) (kept_of j)
+  nothing_waits j = nat_le (length (replica_of j).log) (kept_of j) && (length (notes_waiting j) == 0)
 
   -- The journal has these entries: its head, and behind it entries that belong where they stand and tell the events that it is said to
   -- have, and no other.
@@ -69,18 +79,30 @@ module _ {K D V : Type 0} where
     pub events : events_of entries ≡ take (kept_of j) (replica_of j).log
     pub counted : issued_of j ≡ issued_after 0 (events_of entries)
 
-  -- the journal is as it was, and so is what is said of it
+  -- the journal is as it was, and so are what is said of it and the notes that wait
   pub record SameJournal (old new : Journaled K D V) : Type 0 where
     pub journal : journal_of new ≡ journal_of old
     pub head : head_of new ≡ head_of old
     pub kept : kept_of new ≡ kept_of old
     pub issued : issued_of new ≡ issued_of old
+    pub notes : notes_waiting new ≡ notes_waiting old
+
+  -- the note waits behind those that do, and all else is as it was
+  pub record Noted (note : NoteParts) (old new : Journaled K D V) : Type 0 where
+    pub notes_are : notes_waiting new ≡ notes_waiting old ++ note ∷ []
+    pub replica : replica_of new ≡ replica_of old
+    pub journal : journal_of new ≡ journal_of old
+    pub head : head_of new ≡ head_of old
+    pub kept : kept_of new ≡ kept_of old
+    pub issued : issued_of new ≡ issued_of old
+    pub leaving_is : leaving new ≡ leaving old
 
   -- what waits and what is held back is as it was
   pub record StaysBack (old new : Journaled K D V) : Type 0 where
     pub kept : kept_of new ≡ kept_of old
     pub issued : issued_of new ≡ issued_of old
     pub leaving_is : leaving new ≡ leaving old
+    pub notes : notes_waiting new ≡ notes_waiting old
 
   -- The event is answered, and the reply is held back for the next commit. Where it isn't, nothing is.
   abbrev pub Later : Form K → Journaled K D V → Event → Result (Unit {0}) KeptFault → Journaled K D V → Type 0

@@ -6,6 +6,7 @@ use Rattle.mr_forms.specs.Known.{Form}
 use Rattle.mr_journal.specs.Format.{Stands}
 use Rattle.mr_entry.specs.Head.{HeadParts}
 use Rattle.mr_entry.specs.Events.{events_of}
+use Rattle.mr_entry.specs.Note.{NoteParts}
 use Rattle.mr_entry.specs.Spelling.{entry_bytes}
 use Rattle.mr_entry.specs.declared.entry.Entry.{Entry}
 use Rattle.mr_entry.specs.declared.entry.Entry.TheVariants as entry
@@ -16,12 +17,12 @@ use Rattle.mr_kept.specs.declared.fault.OpenFault.{OpenFault}
 use Rattle.mr_kept.specs.declared.fault.OpenFault.TheVariants as fault
 use Rattle.mr_kept.specs.declared.journaled.Journaled.{Journaled}
 use Rattle.mr_kept.specs.Closing.{IsCut, Takes, closers}
-use Rattle.mr_kept.specs.Entries.{AreInOrder, AreSpelled, entries_of, issued_after}
+use Rattle.mr_kept.specs.Entries.{AreInOrder, AreSpelled, entries_of, issued_after, notes_of}
 use Rattle.mr_kept.specs.Kept.{IsKept, Tells, head_of, issued_of, replica_of}
 
 -- The texts are a head and entries that belong where they stand, and a fresh replica of that head that takes the
--- events of the entries is this one. They tell so many events, which issued so many versions.
-pub record IsReplayed {K : Type 0} (form : Form K) (texts : List (List ℕ)) (head : HeadParts) (s : State K) (kept issued : ℕ) : Type 0 where
+-- events of the entries is this one. They tell so many events, which issued so many versions, and these notes.
+pub record IsReplayed {K : Type 0} (form : Form K) (texts : List (List ℕ)) (head : HeadParts) (s : State K) (kept issued : ℕ) (notes : List NoteParts) : Type 0 where
   pub entries : List Entry
   pub spelled : AreSpelled (entry.Head head ∷ entries) texts
   pub order : AreInOrder entries
@@ -30,10 +31,11 @@ pub record IsReplayed {K : Type 0} (form : Form K) (texts : List (List ℕ)) (he
   pub log_is : s.log ≡ events_of entries
   pub kept_is : kept ≡ length (events_of entries)
   pub issued_is : issued ≡ issued_after 0 (events_of entries)
+  pub notes_are : notes ≡ notes_of entries
 
 -- The file had entries whose replay is a replica, and what was open in that is closed: the journal has the same entries, and
--- behind them those of the events that closed it.
-pub record Reopens {K D V : Type 0} (form : Form K) (seen : D → List ℕ) (may_leave : D → List ℕ → Type 0) (file : List ℕ) (are_closed : Bool) (j : Journaled K D V) : Type 0 where
+-- behind them those of the events that closed it. They tell these notes.
+pub record Reopens {K D V : Type 0} (form : Form K) (seen : D → List ℕ) (may_leave : D → List ℕ → Type 0) (file : List ℕ) (are_closed : Bool) (notes : List NoteParts) (j : Journaled K D V) : Type 0 where
   pub entries : List Entry
   pub stood : Stands (map entry_bytes (entry.Head (head_of j) ∷ entries)) file
   pub order : AreInOrder entries
@@ -41,6 +43,7 @@ pub record Reopens {K D V : Type 0} (form : Form K) (seen : D → List ℕ) (may
   pub tells : Tells (head_of j) replica
   pub replays : Replays form replica.id replica.filter replica.event_limit (events_of entries) replica
   pub issued_is : replica.issued ≡ issued_after 0 (events_of entries)
+  pub notes_are : notes ≡ notes_of entries
   pub closed : Takes (closers replica) are_closed replica (replica_of j)
   pub kept : IsKept seen may_leave ((entry.Head (head_of j) ∷ entries) ++ entries_of (issued_after 0 (events_of entries)) closed.more) j
 

@@ -13,6 +13,7 @@ use Rattle.mr_entry.specs.Decoding.{decoded}
 use Rattle.mr_entry.specs.Events.{events_of, events_of_entry}
 use Rattle.mr_entry.specs.Grammar.{IsEntry, Spells}
 use Rattle.mr_entry.specs.Head.{HeadParts}
+use Rattle.mr_entry.specs.Note.{NoteParts}
 use Rattle.mr_entry.specs.Spelling.{entry_bytes}
 use Rattle.mr_entry.specs.declared.entry.Entry.{Entry}
 use Rattle.mr_entry.specs.declared.entry.Entry.TheVariants as entry
@@ -111,7 +112,7 @@ module _ {K : Type 0} (form : Form K) where
   -- the texts are those of a replica of this place, and what closes what was open in it isn't kept
   abbrev pub IsUnkept : (texts : List (List ℕ)) → (mark : List ℕ) → (birth : Option (List ℕ)) → OpenFault → Type 0
   IsUnkept texts mark birth why =
-      (head : HeadParts) × (s : State K) × (kept : ℕ) × (issued : ℕ) × (k : KeptFault) × IsReplayed form texts head s kept issued × IsOfPlace head mark birth × (why ≡ fault.Kept k)
+      (head : HeadParts) × (s : State K) × (kept : ℕ) × (issued : ℕ) × (notes : List NoteParts) × (k : KeptFault) × IsReplayed form texts head s kept issued notes × IsOfPlace head mark birth × (why ≡ fault.Kept k)
 
   -- Why the journal in this file isn't opened: the file is refused as a journal; or its entries are, as those of a replica; or what closes
   -- what was open isn't kept.

@@ -5,13 +5,14 @@ use Rattle.mr_mail.specs.Mail.{Mail}
 use Rattle.mr_replica.specs.declared.event.Event.TheVariants.{Create, Edit, Pull, Next, CutIn, CutOut}
 use Rattle.mr_entry.specs.Grammar.{Spells}
 use Rattle.mr_entry.specs.Head.{HeadParts}
+use Rattle.mr_entry.specs.Note.{NoteParts}
 use Rattle.mr_entry.specs.Spelling.{entry_bytes}
 use Rattle.mr_entry.specs.declared.entry.Entry.{Entry}
 use Rattle.mr_entry.specs.declared.entry.Entry.TheVariants as entry
 use Rattle.mr_entry.specs.declared.fault.EntryFault.TheVariants.{Truncated}
 use Rattle.mr_kept.specs.declared.fault.OpenFault.TheVariants as fault
 use Rattle.mr_kept.specs.Closing.{IsCut}
-use Rattle.mr_kept.specs.Entries.{AllBelong, Belongs, entries_of, issued_after}
+use Rattle.mr_kept.specs.Entries.{AllBelong, Belongs, batch_entries, entries_of, issued_after, notes_of}
 use Rattle.mr_kept.specs.Peer.{IsAbove}
 use Rattle.mr_kept.specs.Refusing.{IsOutOfOrder, IsUnread, StopsAt}
 
@@ -22,6 +23,18 @@ issued_row message = refl
 -- each entry has the count that its event leaves
 pub entries_row : (message : Mail) → entries_of 4 (Pull ∷ Create message ∷ CutIn 3 ∷ []) ≡ entry.Event 4 Pull ∷ entry.Event 5 (Create message) ∷ entry.Event 5 (CutIn 3) ∷ []
 entries_row message = refl
+
+-- the Nexts of one stream that stand in a row are one entry; those of another stream, and those behind another event, are another
+pub runs_row : entries_of 4 (Next 2 ∷ Next 2 ∷ Next 3 ∷ Pull ∷ Next 3 ∷ []) ≡ entry.Nexts 2 2 ∷ entry.Nexts 3 1 ∷ entry.Event 4 Pull ∷ entry.Nexts 3 1 ∷ []
+runs_row = refl
+
+-- the notes stand behind the events, in their order
+pub batch_row : (n m : NoteParts) → batch_entries 4 (Next 2 ∷ Next 2 ∷ []) (n ∷ m ∷ []) ≡ entry.Nexts 2 2 ∷ entry.Note n ∷ entry.Note m ∷ []
+batch_row n m = refl
+
+-- the notes among entries
+pub notes_row : (n m : NoteParts) → notes_of (entry.Note n ∷ entry.Event 4 Pull ∷ entry.Nexts 2 3 ∷ entry.Note m ∷ []) ≡ n ∷ m ∷ []
+notes_row n m = refl
 
 -- a run of Nexts changes no count
 pub counted_row : (message : Mail) → AllBelong 0 (entry.Event 1 (Create message) ∷ entry.Nexts 2 3 ∷ entry.Event 1 (CutOut 2) ∷ [])

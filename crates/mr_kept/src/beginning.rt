@@ -59,7 +59,7 @@ fn first_batch(alloc: Global, setup: &Setup) -> Result<(Head, Vec<Vec<u8>>), Ope
 }
 
 impl<K: Knowledge, D: Device + Drop> Journaled<K, D> {
-    ghost use Rattle.mr_kept.specs.Kept.{IsKept, head_of, issued_of, journal_of, kept_of, leaving, nothing_waits, replica_of};
+    ghost use Rattle.mr_kept.specs.Kept.{IsKept, head_of, issued_of, journal_of, kept_of, leaving, nothing_waits, notes_waiting, replica_of};
 
     /// Begins a replica in a journal that has no entry yet, and keeps there what replica it is.
     ///
@@ -103,7 +103,7 @@ impl<K: Knowledge, D: Device + Drop> Journaled<K, D> {
         ensures head { head_of result ≡ head }
         ensures replica { replica_of result ≡ new_state setup.id setup.filter setup.event_limit (replica_of result).knowledge }
         ensures counts { (kept_of result ≡ 0) × (issued_of result ≡ 0) }
-        ensures leaving { leaving result ≡ [] }
+        ensures leaving { (leaving result ≡ []) × (notes_waiting result ≡ []) }
     {
         let Setup {
             id,
@@ -122,6 +122,7 @@ impl<K: Knowledge, D: Device + Drop> Journaled<K, D> {
             kept: 0,
             issued: 0,
             leaving: Vec::new(alloc),
+            notes: Vec::new(alloc),
         }
     }
 }

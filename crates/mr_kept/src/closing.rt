@@ -6,6 +6,7 @@ ghost use Rattle.mr_journal.specs.Journal.{device_of};
 ghost use Rattle.mr_entry.specs.Spelling.{entry_bytes};
 ghost use Rattle.mr_entry.specs.declared.entry.Entry.{Entry};
 ghost use Rattle.mr_kept.specs.Closing.{AreClosed, Closes, Takes, closers, sessions_of, streams_of};
+ghost use Rattle.mr_kept.specs.Entries.{notes_of};
 ghost use Rattle.mr_kept.specs.Opening.{HasCut};
 
 use crate::fault::KeptFault;
@@ -77,7 +78,7 @@ impl<K: Knowledge, D: Device + Drop> Journaled<K, D> {
         ensures any_moment { IsTrue D.is_told → (entries : List Entry) → IsKept D.seen D.may_leave entries self.old
             → LeavesOnly D.moment D.left_since (device_of (journal_of self.old)) (device_of (journal_of self.new)) (HasCut (map entry_bytes entries)) }
         ensures left { IsTrue D.is_told → (entries : List Entry) → IsKept D.seen D.may_leave entries self.old → IsOf (head_of self.old) (replica_of self.old)
-            → LeavesOnly D.moment D.left_since (device_of (journal_of self.old)) (device_of (journal_of self.new)) (λ c. HasLog K.form c (head_of self.old)) }
+            → LeavesOnly D.moment D.left_since (device_of (journal_of self.old)) (device_of (journal_of self.new)) (λ c. HasLog K.form c (head_of self.old) (notes_of entries)) }
     {
         let _log = self.replica.log();
         let are_closed = close_all(&mut self.replica)?;

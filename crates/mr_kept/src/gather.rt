@@ -6,7 +6,7 @@ ghost use Rattle.mr_entry.specs.Grammar.{Spells};
 ghost use Rattle.mr_entry.specs.declared.entry.Entry.{Entry};
 ghost use Rattle.mr_replica.specs.declared.event.Event.TheVariants as asked;
 ghost use Rattle.mr_replica.specs.declared.replica.TheConstants.{MAX_EVENTS};
-ghost use Rattle.mr_kept.specs.Entries.{AreInOrder, AreSpelled, Belongs, issued_after};
+ghost use Rattle.mr_kept.specs.Entries.{AreInOrder, AreSpelled, Belongs, issued_after, notes_of, notes_of_entry};
 ghost use Rattle.mr_kept.specs.Refusing.{IsOutOfOrder, IsUnread, StopsAt};
 
 use crate::batch::counted_with;
@@ -57,6 +57,7 @@ fn take_entry(gathered: &mut Gathered, place: usize, entry: Entry) -> Result<(),
     requires few { length gathered.old.events.items ≤ MAX_EVENTS + 1 }
     ensures events { OnOk result (gathered.new.events.items ≡ gathered.old.events.items ++ events_of_entry entry) }
     ensures issued { OnOk result (gathered.new.issued ≡ issued_after gathered.old.issued (events_of_entry entry)) }
+    ensures notes { OnOk result (gathered.new.notes.items ≡ gathered.old.notes.items ++ notes_of_entry entry) }
     ensures belongs { OnOk result (Belongs gathered.old.issued entry) }
     ensures few { OnOk result (length gathered.new.events.items ≤ MAX_EVENTS + 1) }
     ensures fault { IfErr result (IsOutOfOrder place gathered.old.issued (length gathered.old.events.items) entry) }
@@ -91,7 +92,7 @@ fn take_entry(gathered: &mut Gathered, place: usize, entry: Entry) -> Result<(),
 /// What the entries behind the head tell.
 pub(crate) fn gather(alloc: Global, entries: &[Vec<u8>]) -> Result<Gathered, OpenFault>
     ensures gathered { IfOk result (λ gathered. (list : List Entry) × AreSpelled list (contents entries.now) × AreInOrder list
-        × (events_of list ≡ gathered.events.items) × (gathered.issued ≡ issued_after 0 gathered.events.items)) }
+        × (events_of list ≡ gathered.events.items) × (gathered.issued ≡ issued_after 0 gathered.events.items) × (gathered.notes.items ≡ notes_of list)) }
     ensures fault { IfErr result (StopsAt (contents entries.now)) }
 {
     let mut gathered = Gathered {

@@ -3,7 +3,7 @@ ghost use Rattle.std.specs.Prelude.{◌≡◌};
 ghost use Rattle.mr_journal.specs.Journal.{device_of};
 ghost use Rattle.mr_replica.specs.Replay.{IsItsLog};
 
-use mr_entry::{Birth, Head};
+use mr_entry::{Birth, Head, Note};
 use mr_forms::Knowledge;
 use mr_journal::{Device, Journal};
 use mr_replica::{Replica, Reply};
@@ -11,7 +11,8 @@ use std::alloc::Global;
 
 /// A replica with the journal of its events.
 ///
-/// The events of its log are those that the journal has, and behind them those that wait for the next commit.
+/// The events of its log are those that the journal has, and behind them those that wait for the next commit. Notes of the program
+/// above wait for it too.
 #[derive(Drop)]
 pub struct Journaled<K: Knowledge, D: Device + Drop> {
     pub(crate) alloc: Global,
@@ -24,6 +25,8 @@ pub struct Journaled<K: Knowledge, D: Device + Drop> {
     pub(crate) issued: u32,
     /// What may leave once the events that wait are kept.
     pub(crate) leaving: Vec<Reply>,
+    /// The notes that wait.
+    pub(crate) notes: Vec<Note>,
 }
 
 impl<K: Knowledge, D: Device + Drop> Journaled<K, D> {
@@ -59,11 +62,11 @@ impl<K: Knowledge, D: Device + Drop> Journaled<K, D> {
         self.head.birth()
     }
 
-    /// Whether all events of the replica are kept.
+    /// Whether all events of the replica are kept, and all notes.
     pub fn is_kept(&self) -> bool
         ensures { result ≡ nothing_waits self.now }
     {
-        self.replica.log().len() <= self.kept
+        self.replica.log().len() <= self.kept && self.notes.is_empty()
     }
 
     /// Ends it, and gives the journal's device back. What waits for a commit is lost.

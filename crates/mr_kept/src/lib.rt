@@ -5,6 +5,8 @@
 //! version, it holds back. [`Journaled::commit`] keeps all events that wait, as one batch, and only then hands out
 //! what was held back. So what others may have seen comes of events that are still there after a crash.
 //!
+//! A program may keep notes of its own beside the events, which mean nothing here, by [`Journaled::note`].
+//!
 //! [`Journaled::begin`] makes a replica in an empty journal, [`Journaled::open`] brings one back from its journal. Sessions and
 //! streams that were open when its program ended are closed then, since nobody goes on with them.
 //!
@@ -28,6 +30,7 @@ mod events;
 mod fault;
 mod gather;
 mod journaled;
+mod notes;
 mod opening;
 mod peer;
 

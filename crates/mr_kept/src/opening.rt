@@ -1,5 +1,5 @@
 //! How a replica comes back from its journal.
-ghost use Rattle.std.specs.Prelude.{◌≡◌, ◌⊎◌, [], IfErr, IfOk, IsTrue, MatchResult, OnOk, true};
+ghost use Rattle.std.specs.Prelude.{◌≡◌, ◌⊎◌, [], IfErr, IfOk, IsTrue, List, MatchResult, OnOk, true};
 ghost use Rattle.mr_filter.specs.Grammar.{Reads};
 ghost use Rattle.mr_journal.specs.Device.{LeavesOnly};
 ghost use Rattle.mr_journal.specs.Format.{contents};
@@ -7,6 +7,7 @@ ghost use Rattle.mr_journal.specs.Journal.{device_of};
 ghost use Rattle.mr_replica.specs.State.{State};
 ghost use Rattle.mr_entry.specs.Grammar.{Spells};
 ghost use Rattle.mr_entry.specs.Head.{HeadParts};
+ghost use Rattle.mr_entry.specs.Note.{NoteParts};
 ghost use Rattle.mr_entry.specs.declared.entry.Entry.TheVariants as entry;
 ghost use Rattle.mr_kept.specs.Closing.{AreClosed};
 ghost use Rattle.mr_kept.specs.Opening.{GoesOn, IsOfOther, IsOfPlace, IsReplayed, Reopens};
@@ -86,7 +87,7 @@ fn replay_of<K: Knowledge>(
     mark: &Mark,
     birth: Option<Birth>,
 ) -> Result<Replayed<K>, OpenFault>
-    ensures replayed { IfOk result (λ r. IsReplayed K.form (contents entries.now) r.head r.replica r.kept r.issued) }
+    ensures replayed { IfOk result (λ r. IsReplayed K.form (contents entries.now) r.head r.replica r.kept r.issued r.notes.items) }
     ensures place { IfOk result (λ r. IsOfPlace r.head mark.now birth) }
     ensures fault { IfErr result (IsRefused K.form (contents entries.now) mark.now birth) }
 {
@@ -137,18 +138,19 @@ impl<K: Knowledge, D: Device + Drop> Journaled<K, D> {
         mark: &Mark,
         birth: Option<Birth>,
     ) -> Result<(Journaled<K, D>, Opened), (OpenFault, D)>
-        // The entries that the device had are those of a replica, and what was open in that is closed.
-        ensures reopens { IsTrue D.is_told → IfOk result (λ r. Reopens K.form D.seen D.may_leave (D.seen device) r.1.are_closed r.0) }
+        // The entries that the device had are those of a replica and of notes, and what was open in that replica is closed.
+        ensures reopens { IsTrue D.is_told → IfOk result (λ r. Reopens K.form D.seen D.may_leave (D.seen device) r.1.are_closed r.1.notes.items r.0) }
         ensures closed { IfOk result (λ r. IsTrue r.1.are_closed → AreClosed (replica_of r.0)) }
         ensures place { IfOk result (λ r. IsOfPlace (head_of r.0) mark.now birth) }
         ensures fault { IsTrue D.is_told → IfErr result (λ e. IsOpenFault K.form (D.seen device) mark.now birth e.0) }
-        // A journal that has the log of a replica is opened, memory and the device aside, and gives a replica that is alike.
-        ensures whole { IsTrue D.is_told → (head : HeadParts) (s : State K) → HasLogOf K.form (D.seen device) head s → IsOfPlace head mark.now birth
-            → MatchResult result (λ r. ComesBack K.form s r.1.are_closed (replica_of r.0)) (λ e. IsOfMachine e.0) }
-        // A crash at any moment of the call leaves what one before it might have left, or again a journal that has the log of a replica.
-        ensures left { IsTrue D.is_told → (head : HeadParts) (s : State K) → HasLogOf K.form (D.seen device) head s → MatchResult result
-            (λ r. LeavesOnly D.moment D.left_since device (device_of (journal_of r.0)) (λ c. D.may_leave device c ⊎ HasLog K.form c head))
-            (λ e. LeavesOnly D.moment D.left_since device e.1 (λ c. D.may_leave device c ⊎ HasLog K.form c head)) }
+        // A journal that has the log of a replica is opened, memory and the device aside, and gives a replica that is alike, and its notes.
+        ensures whole { IsTrue D.is_told → (head : HeadParts) (s : State K) (notes : List NoteParts) → HasLogOf K.form (D.seen device) head s notes → IsOfPlace head mark.now birth
+            → MatchResult result (λ r. ComesBack K.form s r.1.are_closed (replica_of r.0) × (r.1.notes.items ≡ notes)) (λ e. IsOfMachine e.0) }
+        // A crash at any moment of the call leaves what one before it might have left, or again a journal that has the log of a replica,
+        // and the same notes.
+        ensures left { IsTrue D.is_told → (head : HeadParts) (s : State K) (notes : List NoteParts) → HasLogOf K.form (D.seen device) head s notes → MatchResult result
+            (λ r. LeavesOnly D.moment D.left_since device (device_of (journal_of r.0)) (λ c. D.may_leave device c ⊎ HasLog K.form c head notes))
+            (λ e. LeavesOnly D.moment D.left_since device e.1 (λ c. D.may_leave device c ⊎ HasLog K.form c head notes)) }
         ensures none_waits { IfOk result (λ r. (nothing_waits r.0 ≡ true) × (leaving r.0 ≡ [])) }
         // A crash at any moment of the call leaves what one before it might have left, or a journal of the same entries, with
         // those that close what was open behind them or without.
@@ -178,6 +180,7 @@ impl<K: Knowledge, D: Device + Drop> Journaled<K, D> {
             kept,
             issued,
             leaving: Vec::new(alloc),
+            notes: Vec::new(alloc),
         };
         match opened.close() {
             Ok(are_closed) => Ok((opened, Opened { notes, are_closed })),

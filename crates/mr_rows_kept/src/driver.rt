@@ -4,15 +4,16 @@ use crate::begin;
 use crate::mail::message;
 use crate::sync::Office;
 use anyhow::{Error, Result, anyhow, bail};
-use mr_entry::Mark;
+use mr_entry::{Mark, Note};
 use mr_journal::DiskFile;
 use mr_kept::{Journaled, KeptFault};
 use std::alloc::Global;
 use std::fs::File;
 use std::rt::Files;
 
-/// `begin FILE` begins a replica there. `write FILE COUNT SIZE` has it issue so many times so many messages, a commit each time,
-/// and prints after each how many it holds; `read FILE` prints how many it holds, once each is the one that belongs there.
+/// `begin FILE` begins a replica there. `write FILE COUNT SIZE` has it issue so many times so many messages, a commit each time
+/// with a note of how many it holds then, and prints after each how many; `read FILE` prints how many it holds, once each is the one
+/// that belongs there and the last note tells just so many.
 pub(crate) fn drive<R: Files<File = File> + Print + AllocGlobal>(
     rt: &R,
     here: &Mark,
@@ -47,8 +48,8 @@ fn open<R: Files<File = File> + Print + AllocGlobal>(
 ) -> Result<()> {
     let file = DiskFile::open(rt, path)?;
     match Journaled::open(rt.alloc(), file, here, None) {
-        Ok((mut office, _)) => {
-            let told = fill(rt, &mut office, count, size);
+        Ok((mut office, opened)) => {
+            let told = fill(rt, &mut office, &opened.notes, count, size);
             let _ = office.into_device();
             told
         }
@@ -56,8 +57,17 @@ fn open<R: Files<File = File> + Print + AllocGlobal>(
     }
 }
 
-fn fill<R: Print + AllocGlobal>(rt: &R, office: &mut Office, count: u64, size: u64) -> Result<()> {
+fn fill<R: Print + AllocGlobal>(
+    rt: &R,
+    office: &mut Office,
+    notes: &[Note],
+    count: u64,
+    size: u64,
+) -> Result<()> {
     let mut held = held_by(rt.alloc(), office)?;
+    if !is_told(rt.alloc(), notes, held)? {
+        bail!("{held} messages, and the last note tells of another number");
+    }
     rt.println(held)?;
     for _ in 0..count {
         write(rt.alloc(), office, held, size)?;
@@ -79,12 +89,27 @@ fn held_by(alloc: Global, office: &Office) -> Result<u64> {
     Ok(number)
 }
 
-/// The replica issues so many messages from this number on, and keeps them.
+/// The note that tells so many messages.
+fn note_of(alloc: Global, held: u64) -> Result<Note> {
+    let text = format!(in alloc; "{held}")?;
+    Ok(Note::new(1, text.into_bytes()))
+}
+
+/// Whether the last note tells just so many messages, or there is neither a note nor a message.
+fn is_told(alloc: Global, notes: &[Note], held: u64) -> Result<bool> {
+    match notes.last() {
+        Some(note) => Ok(note.bytes() == note_of(alloc, held)?.bytes()),
+        None => Ok(held == 0),
+    }
+}
+
+/// The replica issues so many messages from this number on, and keeps them with a note of how many there are.
 fn write(alloc: Global, office: &mut Office, first: u64, size: u64) -> Result<()> {
     for i in 0..size {
         let subject = subject(alloc, first.saturating_add(i))?;
         office.create(message(alloc, subject.as_str())?)?;
     }
+    office.note(note_of(alloc, first.saturating_add(size))?)?;
     let handed_out = match office.commit() {
         Ok(replies) => replies.len(),
         Err(fault) => return Err(told(office, fault)),

@@ -9,7 +9,7 @@ mod sync;
 
 use anyhow::{Result, bail};
 use mail::{message, setup};
-use mr_entry::Mark;
+use mr_entry::{Mark, Note};
 use mr_filter::Filter;
 use mr_journal::DiskFile;
 use mr_kept::Journaled;
@@ -75,8 +75,8 @@ fn days<R: Files<File = File> + Print + AllocGlobal>(rt: &R, phone: &mut Phone) 
 /// Opens the office's journal for one day.
 fn day(alloc: Global, file: DiskFile, phone: &mut Phone, subject: &str) -> Result<String> {
     match Journaled::open(alloc, file, &HERE, None) {
-        Ok((mut office, _)) => {
-            let told = work(alloc, &mut office, phone, subject);
+        Ok((mut office, opened)) => {
+            let told = work(alloc, &mut office, phone, subject, opened.notes.len());
             let _ = office.into_device();
             told
         }
@@ -84,14 +84,21 @@ fn day(alloc: Global, file: DiskFile, phone: &mut Phone, subject: &str) -> Resul
     }
 }
 
-/// The office writes a message, keeps it, and tells the phone.
-fn work(alloc: Global, office: &mut Office, phone: &mut Phone, subject: &str) -> Result<String> {
+/// The office writes a message and a note of it, keeps both, and tells the phone.
+fn work(
+    alloc: Global,
+    office: &mut Office,
+    phone: &mut Phone,
+    subject: &str,
+    notes: usize,
+) -> Result<String> {
     let found = office.replica().heads().len();
     office.create(message(alloc, subject)?)?;
+    office.note(Note::new(1, subject.as_bytes().to_vec(alloc)?))?;
     let issued = office.commit()?.len();
     let taken = sync(alloc, office, phone)?;
     let held = phone.heads().len();
     Ok(format!(in alloc;
-        "found {found}, issued {issued}; the phone took {taken}, and holds {held}"
+        "found {found} and {notes} notes, issued {issued}; the phone took {taken}, and holds {held}"
     )?)
 }

@@ -1,6 +1,10 @@
+use Rattle.std.proofs.Common.{◌≡◌, take}
 use Rattle.mr_journal.specs.Format.{contents}
-use Rattle.mr_kept.proofs.EntryLemmas.{BatchSoFar}
+use Rattle.mr_kept.specs.Entries.{AreSpelled, batch_entries, issued_after}
 use Rattle.mr_kept.proofs.batch.batch_of.Given as goal
 
-abbrev pub invariant-loop-event : goal.invariant-loop-event
-invariant-loop-event l = BatchSoFar l.issued l.events l.event-index (contents l.entries.items) l.count
+abbrev pub invariant-loop-note : goal.invariant-loop-note
+invariant-loop-note l = record {
+  spelled : AreSpelled (batch_entries l.issued l.events (take l.note-index l.notes)) (contents l.batch.entries.items);
+  counted_is : l.batch.issued ≡ issued_after l.issued l.events;
+}

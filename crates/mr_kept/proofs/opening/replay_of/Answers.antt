@@ -19,8 +19,8 @@ returns-in-Ok-clause-replayed g c =
     let reads = subst (λ (t : List ℕ). Reads t filter) c.filter.ensures c.in_ok-filter.ensures.read in
     let replays = subst (λ (n : ℕ). Replays g.K.Knowledge.form n filter head.event_limit c.in_ok-events.field-0.events.items c.in-Ok.replica) c.id.ensures.is
     (subst (λ (n : ℕ). Replays g.K.Knowledge.form c.id.result filter n c.in_ok-events.field-0.events.items c.in-Ok.replica) c.event_limit.ensures c.in-Ok.ensures.replayed) in
-    is_replayed g.K.Knowledge.form entries (take (length entries - 1) (drop 1 entries)) c.first-item.result head found.0 filter c.in_ok-events.field-0.events.items (length c.log-log.result.now) c.in_ok-events.field-0.issued c.in-Ok.replica
-    (contents_first entries c.first-item.result c.in-len1-up.len_at_least c.first-item.is) spells found.1 found.2 found.3 found.4 reads (ap length (c.log-log.ensures.all ∙ c.in-Ok.ensures.log)) replays c.in-Ok.ensures.log
+    is_replayed g.K.Knowledge.form entries (take (length entries - 1) (drop 1 entries)) c.first-item.result head found.0 filter c.in_ok-events.field-0.events.items (length c.log-log.result.now) c.in_ok-events.field-0.issued c.in_ok-events.field-0.notes.items c.in-Ok.replica
+    (contents_first entries c.first-item.result c.in-len1-up.len_at_least c.first-item.is) spells found.1 found.2 found.3 found.4 found.5 reads (ap length (c.log-log.ensures.all ∙ c.in-Ok.ensures.log)) replays c.in-Ok.ensures.log
 
 pub returns-in-Err-clause-fault : goal.returns-in-Err-clause-fault
 returns-in-Err-clause-fault g c =

@@ -65,4 +65,4 @@ returns-clause-head g c =
     subst (λ (h : HeadParts). HasParts c.args.setup.id c.args.setup.filter c.args.setup.event_limit c.args.setup.birth c.args.setup.mark h) (sym c.fresh.ensures.head) c.in-Ok.ensures.head
 
 pub returns-clause-none_waits : goal.returns-clause-none_waits
-returns-clause-none_waits g c = (none_waits c.fresh.result (ap (λ s. length s.log) c.fresh.ensures.replica ∙ sym c.fresh.ensures.counts.0), c.fresh.ensures.leaving)
+returns-clause-none_waits g c = (none_waits c.fresh.result (ap (λ s. length s.log) c.fresh.ensures.replica ∙ sym c.fresh.ensures.counts.0) c.fresh.ensures.leaving.1, c.fresh.ensures.leaving.0)

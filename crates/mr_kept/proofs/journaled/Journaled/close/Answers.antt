@@ -1,9 +1,11 @@
 use Rattle.std.proofs.Common.{refl}
 use Rattle.mr_journal.specs.Journal.{device_of}
-use Rattle.mr_journal.proofs.Moments.{started}
+use Rattle.mr_journal.proofs.Moments.{started, widened}
 use Rattle.mr_kept.specs.Kept.{head_of, journal_of}
-use Rattle.mr_kept.proofs.LeftLemmas.{head_on, left_now}
-use Rattle.mr_kept.proofs.OpenLemmas.{closed_in, closed_on, cut_now, kept_mid, moments_close}
+use Rattle.mr_kept.specs.Entries.{notes_of}
+use Rattle.mr_kept.specs.Whole.{HasLog}
+use Rattle.mr_kept.proofs.LeftLemmas.{head_on, left_now, same_notes}
+use Rattle.mr_kept.proofs.OpenLemmas.{closed_in, closed_on, cut_now, kept_mid, moments_close, no_note_waits}
 use Rattle.mr_kept.proofs.journaled.Journaled.close.Goals as goal
 
 pub returns-in_err-are_closed-clause-any_moment : goal.returns-in_err-are_closed-clause-any_moment
@@ -15,7 +17,7 @@ pub returns-in_err-commit-clause-any_moment : goal.returns-in_err-commit-clause-
 returns-in_err-commit-clause-any_moment g c = λ told entries kept.
     let mid = record c.args.self.now { replica = c.close_all.new.replica } in
     let takes = c.in_ok-are_closed.ensures.takes in
-    moments_close entries c.args.self.now mid c.in_ok-are_closed.are_closed (device_of (journal_of c.args.self.now)) (device_of (journal_of c.commit.new.self)) kept c.requires.waits refl takes
+    moments_close entries c.args.self.now mid c.in_ok-are_closed.are_closed (device_of (journal_of c.args.self.now)) (device_of (journal_of c.commit.new.self)) kept c.requires.waits refl takes refl
     (c.commit.ensures.any_moment told entries (kept_mid entries c.args.self.now mid c.in_ok-are_closed.are_closed kept refl refl refl refl takes))
 
 pub returns-clause-closed : goal.returns-clause-closed
@@ -25,14 +27,14 @@ pub returns-clause-kept : goal.returns-clause-kept
 returns-clause-kept g c = λ told entries kept.
     let mid = record c.args.self.now { replica = c.close_all.new.replica } in
     let takes = c.in_ok-are_closed.ensures.takes in
-    closed_in entries c.args.self.now mid c.commit.new.self c.in_ok-are_closed.are_closed kept c.requires.waits refl refl takes c.commit.ensures.replica
+    closed_in entries c.args.self.now mid c.commit.new.self c.in_ok-are_closed.are_closed kept c.requires.waits refl refl takes refl c.commit.ensures.replica
     (c.in_ok-commit.ensures.kept told entries (kept_mid entries c.args.self.now mid c.in_ok-are_closed.are_closed kept refl refl refl refl takes))
 
 pub returns-clause-any_moment : goal.returns-clause-any_moment
 returns-clause-any_moment g c = λ told entries kept.
     let mid = record c.args.self.now { replica = c.close_all.new.replica } in
     let takes = c.in_ok-are_closed.ensures.takes in
-    moments_close entries c.args.self.now mid c.in_ok-are_closed.are_closed (device_of (journal_of c.args.self.now)) (device_of (journal_of c.commit.new.self)) kept c.requires.waits refl takes
+    moments_close entries c.args.self.now mid c.in_ok-are_closed.are_closed (device_of (journal_of c.args.self.now)) (device_of (journal_of c.commit.new.self)) kept c.requires.waits refl takes refl
     (c.commit.ensures.any_moment told entries (kept_mid entries c.args.self.now mid c.in_ok-are_closed.are_closed kept refl refl refl refl takes))
 
 pub returns-in_err-are_closed-clause-left : goal.returns-in_err-are_closed-clause-left
@@ -43,9 +45,15 @@ returns-in_err-are_closed-clause-left g c = λ told entries kept of.
 pub returns-in_err-commit-clause-left : goal.returns-in_err-commit-clause-left
 returns-in_err-commit-clause-left g c = λ told entries kept of.
     let takes = c.in_ok-are_closed.ensures.takes in
-    c.commit.ensures.left told entries (kept_mid entries c.args.self.now _ c.in_ok-are_closed.are_closed kept refl refl refl refl takes) (head_on g.K.Knowledge.form (head_of c.args.self.now) c.args.self.now.replica c.close_all.new.replica takes.setting of)
+    let mid = record c.args.self.now { replica = c.close_all.new.replica } in
+    widened (λ file. HasLog g.K.Knowledge.form file (head_of c.args.self.now) (notes_of entries))
+    (c.commit.ensures.left told entries (kept_mid entries c.args.self.now mid c.in_ok-are_closed.are_closed kept refl refl refl refl takes) (head_on g.K.Knowledge.form (head_of c.args.self.now) c.args.self.now.replica c.close_all.new.replica takes.setting of))
+    (λ file here. same_notes g.K.Knowledge.form entries mid file (no_note_waits c.args.self.now c.requires.waits) here)
 
 pub returns-clause-left : goal.returns-clause-left
 returns-clause-left g c = λ told entries kept of.
     let takes = c.in_ok-are_closed.ensures.takes in
-    c.commit.ensures.left told entries (kept_mid entries c.args.self.now _ c.in_ok-are_closed.are_closed kept refl refl refl refl takes) (head_on g.K.Knowledge.form (head_of c.args.self.now) c.args.self.now.replica c.close_all.new.replica takes.setting of)
+    let mid = record c.args.self.now { replica = c.close_all.new.replica } in
+    widened (λ file. HasLog g.K.Knowledge.form file (head_of c.args.self.now) (notes_of entries))
+    (c.commit.ensures.left told entries (kept_mid entries c.args.self.now mid c.in_ok-are_closed.are_closed kept refl refl refl refl takes) (head_on g.K.Knowledge.form (head_of c.args.self.now) c.args.self.now.replica c.close_all.new.replica takes.setting of))
+    (λ file here. same_notes g.K.Knowledge.form entries mid file (no_note_waits c.args.self.now c.requires.waits) here)

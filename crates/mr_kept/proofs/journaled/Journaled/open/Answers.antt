@@ -4,6 +4,7 @@ use Rattle.mr_journal.specs.Format.{Stands, contents}
 use Rattle.mr_journal.specs.Journal.{Keeps}
 use Rattle.mr_journal.proofs.Moments.{joined, widened}
 use Rattle.mr_entry.specs.Head.{HeadParts}
+use Rattle.mr_entry.specs.Note.{NoteParts}
 use Rattle.mr_entry.specs.declared.entry.Entry.TheVariants as entry
 use Rattle.mr_kept.specs.declared.journaled.Journaled.{Journaled}
 use Rattle.mr_kept.specs.Opening.{GoesOn, IsOfPlace}
@@ -27,14 +28,14 @@ returns-in-Err-replay_of-clause-any_moment g c = λ told.
 pub close-requires : goal.close-requires
 close-requires g c =
     let found = c.in-Ok-replay_of.found in
-    let mid : Journaled g.row.K.Denot g.row.D.Denot g.row.K-Vector.Denot = record { alloc = c.args.alloc; replica = found.replica; journal = c.in-Ok.opened.0; head = found.head; kept = found.kept; issued = found.issued; leaving = c.new.result } in
+    let mid : Journaled g.row.K.Denot g.row.D.Denot g.row.K-Vector.Denot = record { alloc = c.args.alloc; replica = found.replica; journal = c.in-Ok.opened.0; head = found.head; kept = found.kept; issued = found.issued; leaving = c.new.result; notes = c.new-2.result } in
     let is = c.in-Ok-replay_of.ensures.replayed in
-    record { waits = none_waits mid (ap length is.log_is ∙ sym is.kept_is) }
+    record { waits = none_waits mid (ap length is.log_is ∙ sym is.kept_is) c.new-2.ensures.items }
 
 pub returns-in-Ok-close-clause-reopens : goal.returns-in-Ok-close-clause-reopens
 returns-in-Ok-close-clause-reopens g c = λ told.
     let found = c.in-Ok-replay_of.found in
-    let mid : Journaled g.row.K.Denot g.row.D.Denot g.row.K-Vector.Denot = record { alloc = c.args.alloc; replica = found.replica; journal = c.in-Ok.opened.0; head = found.head; kept = found.kept; issued = found.issued; leaving = c.new.result } in
+    let mid : Journaled g.row.K.Denot g.row.D.Denot g.row.K-Vector.Denot = record { alloc = c.args.alloc; replica = found.replica; journal = c.in-Ok.opened.0; head = found.head; kept = found.kept; issued = found.issued; leaving = c.new.result; notes = c.new-2.result } in
     let is = c.in-Ok-replay_of.ensures.replayed in
     let file = g.D.Device.seen c.args.device in
     let texts : List (List ℕ) = contents c.deref.result.now in
@@ -42,9 +43,9 @@ returns-in-Ok-close-clause-reopens g c = λ told.
     let same : texts ≡ contents c.in-Ok.opened.1.items = ap contents c.deref.ensures.value in
     let keeps : Keeps g.D.Device.seen g.D.Device.may_leave texts c.in-Ok.opened.0 = subst (λ (l : List (List ℕ)). Keeps g.D.Device.seen g.D.Device.may_leave l c.in-Ok.opened.0) (sym same) opened.0 in
     let stood : Stands texts file = subst (λ (l : List (List ℕ)). Stands l file) (sym same) opened.1 in
-    let kept = kept_read g.K.Knowledge.form texts mid is keeps in
+    let kept = kept_read g.K.Knowledge.form texts found.notes.items mid is keeps in
     let entries = entry.Head found.head ∷ is.entries in
-    reopens g.K.Knowledge.form file texts c.in-Ok-close.are_closed mid c.close.new.self stood is c.close.ensures.head (c.in-Ok-close.ensures.kept told entries kept)
+    reopens g.K.Knowledge.form file texts c.in-Ok-close.are_closed found.notes.items mid c.close.new.self stood is c.close.ensures.head (c.in-Ok-close.ensures.kept told entries kept)
 
 pub returns-in-Ok-close-clause-closed : goal.returns-in-Ok-close-clause-closed
 returns-in-Ok-close-clause-closed g c = c.in-Ok-close.ensures.closed
@@ -58,7 +59,7 @@ returns-in-Ok-close-clause-none_waits g c = (c.in-Ok-close.ensures.none_waits, c
 pub returns-in-Ok-close-clause-any_moment : goal.returns-in-Ok-close-clause-any_moment
 returns-in-Ok-close-clause-any_moment g c = λ told.
     let found = c.in-Ok-replay_of.found in
-    let mid : Journaled g.row.K.Denot g.row.D.Denot g.row.K-Vector.Denot = record { alloc = c.args.alloc; replica = found.replica; journal = c.in-Ok.opened.0; head = found.head; kept = found.kept; issued = found.issued; leaving = c.new.result } in
+    let mid : Journaled g.row.K.Denot g.row.D.Denot g.row.K-Vector.Denot = record { alloc = c.args.alloc; replica = found.replica; journal = c.in-Ok.opened.0; head = found.head; kept = found.kept; issued = found.issued; leaving = c.new.result; notes = c.new-2.result } in
     let is = c.in-Ok-replay_of.ensures.replayed in
     let file = g.D.Device.seen c.args.device in
     let texts : List (List ℕ) = contents c.deref.result.now in
@@ -66,7 +67,7 @@ returns-in-Ok-close-clause-any_moment g c = λ told.
     let same : texts ≡ contents c.in-Ok.opened.1.items = ap contents c.deref.ensures.value in
     let keeps : Keeps g.D.Device.seen g.D.Device.may_leave texts c.in-Ok.opened.0 = subst (λ (l : List (List ℕ)). Keeps g.D.Device.seen g.D.Device.may_leave l c.in-Ok.opened.0) (sym same) opened.0 in
     let stood : Stands texts file = subst (λ (l : List (List ℕ)). Stands l file) (sym same) opened.1 in
-    let kept = kept_read g.K.Knowledge.form texts mid is keeps in
+    let kept = kept_read g.K.Knowledge.form texts found.notes.items mid is keeps in
     let entries = entry.Head found.head ∷ is.entries in
     let P : List ℕ → Type 0 = λ f. g.D.Device.may_leave c.args.device f ⊎ GoesOn file f in
     let first = widened P (c.in-Ok.ensures.any_moment told) (λ f here. as_going (goes_on file f) here) in
@@ -76,7 +77,7 @@ returns-in-Ok-close-clause-any_moment g c = λ told.
 pub returns-clause-any_moment : goal.returns-clause-any_moment
 returns-clause-any_moment g c = λ told.
     let found = c.in-Ok-replay_of.found in
-    let mid : Journaled g.row.K.Denot g.row.D.Denot g.row.K-Vector.Denot = record { alloc = c.args.alloc; replica = found.replica; journal = c.in-Ok.opened.0; head = found.head; kept = found.kept; issued = found.issued; leaving = c.new.result } in
+    let mid : Journaled g.row.K.Denot g.row.D.Denot g.row.K-Vector.Denot = record { alloc = c.args.alloc; replica = found.replica; journal = c.in-Ok.opened.0; head = found.head; kept = found.kept; issued = found.issued; leaving = c.new.result; notes = c.new-2.result } in
     let is = c.in-Ok-replay_of.ensures.replayed in
     let file = g.D.Device.seen c.args.device in
     let texts : List (List ℕ) = contents c.deref.result.now in
@@ -84,7 +85,7 @@ returns-clause-any_moment g c = λ told.
     let same : texts ≡ contents c.in-Ok.opened.1.items = ap contents c.deref.ensures.value in
     let keeps : Keeps g.D.Device.seen g.D.Device.may_leave texts c.in-Ok.opened.0 = subst (λ (l : List (List ℕ)). Keeps g.D.Device.seen g.D.Device.may_leave l c.in-Ok.opened.0) (sym same) opened.0 in
     let stood : Stands texts file = subst (λ (l : List (List ℕ)). Stands l file) (sym same) opened.1 in
-    let kept = kept_read g.K.Knowledge.form texts mid is keeps in
+    let kept = kept_read g.K.Knowledge.form texts found.notes.items mid is keeps in
     let entries = entry.Head found.head ∷ is.entries in
     let P : List ℕ → Type 0 = λ f. g.D.Device.may_leave c.args.device f ⊎ GoesOn file f in
     let first = widened P (c.in-Ok.ensures.any_moment told) (λ f here. as_going (goes_on file f) here) in
@@ -97,8 +98,8 @@ pub returns-in-Err-clause-fault : goal.returns-in-Err-clause-fault
 returns-in-Err-clause-fault g c = λ told. inl (c.in-Err.fault, refl, c.in-Err.ensures.reason told)
 
 pub returns-in-Err-clause-whole : goal.returns-in-Err-clause-whole
-returns-in-Err-clause-whole g c = λ told head s left place.
-    opens g.K.Knowledge.form g.met.K.Knowledge.by_meaning (g.D.Device.seen c.args.device) head s left c.args.mark.now c.args.birth _ place (inl (c.in-Err.fault, refl, c.in-Err.ensures.reason told))
+returns-in-Err-clause-whole g c = λ told head s notes left place.
+    opens g.K.Knowledge.form g.met.K.Knowledge.by_meaning (g.D.Device.seen c.args.device) head s notes left c.args.mark.now c.args.birth _ place (inl (c.in-Err.fault, refl, c.in-Err.ensures.reason told))
 
 pub returns-in-Err-replay_of-clause-fault : goal.returns-in-Err-replay_of-clause-fault
 returns-in-Err-replay_of-clause-fault g c = λ told.
@@ -107,45 +108,45 @@ returns-in-Err-replay_of-clause-fault g c = λ told.
     inr (texts, stood, inl c.in-Err-replay_of.ensures.fault)
 
 pub returns-in-Err-replay_of-clause-whole : goal.returns-in-Err-replay_of-clause-whole
-returns-in-Err-replay_of-clause-whole g c = λ told head s left place.
+returns-in-Err-replay_of-clause-whole g c = λ told head s notes left place.
     let texts : List (List ℕ) = contents c.deref.result.now in
     let stood : Stands texts (g.D.Device.seen c.args.device) = subst (λ (l : List (List ℕ)). Stands l (g.D.Device.seen c.args.device)) (sym (ap contents c.deref.ensures.value)) (c.in-Ok.ensures.opened told).1 in
-    opens g.K.Knowledge.form g.met.K.Knowledge.by_meaning (g.D.Device.seen c.args.device) head s left c.args.mark.now c.args.birth _ place (inr (texts, stood, inl c.in-Err-replay_of.ensures.fault))
+    opens g.K.Knowledge.form g.met.K.Knowledge.by_meaning (g.D.Device.seen c.args.device) head s notes left c.args.mark.now c.args.birth _ place (inr (texts, stood, inl c.in-Err-replay_of.ensures.fault))
 
 pub returns-clause-fault : goal.returns-clause-fault
 returns-clause-fault g c = λ told.
     let found = c.in-Ok-replay_of.found in
     let texts : List (List ℕ) = contents c.deref.result.now in
     let stood : Stands texts (g.D.Device.seen c.args.device) = subst (λ (l : List (List ℕ)). Stands l (g.D.Device.seen c.args.device)) (sym (ap contents c.deref.ensures.value)) (c.in-Ok.ensures.opened told).1 in
-    inr (texts, stood, inr (found.head, found.replica, found.kept, found.issued, c.in-Err-close.fault, c.in-Ok-replay_of.ensures.replayed, c.in-Ok-replay_of.ensures.place, refl))
+    inr (texts, stood, inr (found.head, found.replica, found.kept, found.issued, found.notes.items, c.in-Err-close.fault, c.in-Ok-replay_of.ensures.replayed, c.in-Ok-replay_of.ensures.place, refl))
 
 pub returns-clause-whole : goal.returns-clause-whole
-returns-clause-whole g c = λ told head s left place. tt
+returns-clause-whole g c = λ told head s notes left place. tt
 
 pub returns-in-Ok-close-clause-whole : goal.returns-in-Ok-close-clause-whole
-returns-in-Ok-close-clause-whole g c = λ told head s left place.
-    comes_back g.K.Knowledge.form g.met.K.Knowledge.by_meaning (g.D.Device.seen c.args.device) head s left g.D.Device.seen g.D.Device.may_leave c.in-Ok-close.are_closed c.close.new.self
+returns-in-Ok-close-clause-whole g c = λ told head s notes left place.
+    comes_back g.K.Knowledge.form g.met.K.Knowledge.by_meaning (g.D.Device.seen c.args.device) head s notes left g.D.Device.seen g.D.Device.may_leave c.in-Ok-close.are_closed c.in-Ok-replay_of.found.notes.items c.close.new.self
     (returns-in-Ok-close-clause-reopens g c told)
 
 -- ---- what a crash leaves has the log of a replica
 
 pub returns-in-Err-clause-left : goal.returns-in-Err-clause-left
-returns-in-Err-clause-left g c = λ told head s left.
+returns-in-Err-clause-left g c = λ told head s notes left.
     let file = g.D.Device.seen c.args.device in
-    let P : List ℕ → Type 0 = λ f. g.D.Device.may_leave c.args.device f ⊎ HasLog g.K.Knowledge.form f head in
-    widened P (c.in-Err.ensures.any_moment told) (λ f here. as_going (alike_has g.K.Knowledge.form g.met.K.Knowledge.by_meaning file head s left f) here)
+    let P : List ℕ → Type 0 = λ f. g.D.Device.may_leave c.args.device f ⊎ HasLog g.K.Knowledge.form f head notes in
+    widened P (c.in-Err.ensures.any_moment told) (λ f here. as_going (alike_has g.K.Knowledge.form g.met.K.Knowledge.by_meaning file head s notes left f) here)
 
 pub returns-in-Err-replay_of-clause-left : goal.returns-in-Err-replay_of-clause-left
-returns-in-Err-replay_of-clause-left g c = λ told head s left.
+returns-in-Err-replay_of-clause-left g c = λ told head s notes left.
     let file = g.D.Device.seen c.args.device in
-    let P : List ℕ → Type 0 = λ f. g.D.Device.may_leave c.args.device f ⊎ HasLog g.K.Knowledge.form f head in
+    let P : List ℕ → Type 0 = λ f. g.D.Device.may_leave c.args.device f ⊎ HasLog g.K.Knowledge.form f head notes in
     subst (λ d. LeavesOnly g.D.Device.moment g.D.Device.left_since c.args.device d P) (sym c.into_device.ensures)
-    (widened P (c.in-Ok.ensures.any_moment told) (λ f here. as_going (alike_has g.K.Knowledge.form g.met.K.Knowledge.by_meaning file head s left f) here))
+    (widened P (c.in-Ok.ensures.any_moment told) (λ f here. as_going (alike_has g.K.Knowledge.form g.met.K.Knowledge.by_meaning file head s notes left f) here))
 
 pub returns-in-Ok-close-clause-left : goal.returns-in-Ok-close-clause-left
-returns-in-Ok-close-clause-left g c = λ told head s left.
+returns-in-Ok-close-clause-left g c = λ told head s notes left.
     let found = c.in-Ok-replay_of.found in
-    let mid : Journaled g.row.K.Denot g.row.D.Denot g.row.K-Vector.Denot = record { alloc = c.args.alloc; replica = found.replica; journal = c.in-Ok.opened.0; head = found.head; kept = found.kept; issued = found.issued; leaving = c.new.result } in
+    let mid : Journaled g.row.K.Denot g.row.D.Denot g.row.K-Vector.Denot = record { alloc = c.args.alloc; replica = found.replica; journal = c.in-Ok.opened.0; head = found.head; kept = found.kept; issued = found.issued; leaving = c.new.result; notes = c.new-2.result } in
     let is = c.in-Ok-replay_of.ensures.replayed in
     let file = g.D.Device.seen c.args.device in
     let texts : List (List ℕ) = contents c.deref.result.now in
@@ -153,18 +154,18 @@ returns-in-Ok-close-clause-left g c = λ told head s left.
     let same : texts ≡ contents c.in-Ok.opened.1.items = ap contents c.deref.ensures.value in
     let keeps : Keeps g.D.Device.seen g.D.Device.may_leave texts c.in-Ok.opened.0 = subst (λ (l : List (List ℕ)). Keeps g.D.Device.seen g.D.Device.may_leave l c.in-Ok.opened.0) (sym same) opened.0 in
     let stood : Stands texts file = subst (λ (l : List (List ℕ)). Stands l file) (sym same) opened.1 in
-    let kept = kept_read g.K.Knowledge.form texts mid is keeps in
+    let kept = kept_read g.K.Knowledge.form texts found.notes.items mid is keeps in
     let entries = entry.Head found.head ∷ is.entries in
-    let of = of_replayed g.K.Knowledge.form g.met.K.Knowledge.by_meaning file head s left texts found.head found.replica found.kept found.issued stood is in
-    let P : List ℕ → Type 0 = λ f. g.D.Device.may_leave c.args.device f ⊎ HasLog g.K.Knowledge.form f head in
-    let first = widened P (c.in-Ok.ensures.any_moment told) (λ f here. as_going (alike_has g.K.Knowledge.form g.met.K.Knowledge.by_meaning file head s left f) here) in
-    let second = widened P (c.close.ensures.left told entries kept of.1) (λ f has. inr (subst (λ (h : HeadParts). HasLog g.K.Knowledge.form f h) of.0 has)) in
+    let of = of_replayed g.K.Knowledge.form g.met.K.Knowledge.by_meaning file head s notes left texts found.head found.replica found.kept found.issued found.notes.items stood is in
+    let P : List ℕ → Type 0 = λ f. g.D.Device.may_leave c.args.device f ⊎ HasLog g.K.Knowledge.form f head notes in
+    let first = widened P (c.in-Ok.ensures.any_moment told) (λ f here. as_going (alike_has g.K.Knowledge.form g.met.K.Knowledge.by_meaning file head s notes left f) here) in
+    let second = widened P (c.close.ensures.left told entries kept of.1) (λ f has. inr (subst (λ (h : HeadParts). HasLog g.K.Knowledge.form f h notes) of.0 (subst (λ (ns : List NoteParts). HasLog g.K.Knowledge.form f found.head ns) of.2 has))) in
     joined first second
 
 pub returns-clause-left : goal.returns-clause-left
-returns-clause-left g c = λ told head s left.
+returns-clause-left g c = λ told head s notes left.
     let found = c.in-Ok-replay_of.found in
-    let mid : Journaled g.row.K.Denot g.row.D.Denot g.row.K-Vector.Denot = record { alloc = c.args.alloc; replica = found.replica; journal = c.in-Ok.opened.0; head = found.head; kept = found.kept; issued = found.issued; leaving = c.new.result } in
+    let mid : Journaled g.row.K.Denot g.row.D.Denot g.row.K-Vector.Denot = record { alloc = c.args.alloc; replica = found.replica; journal = c.in-Ok.opened.0; head = found.head; kept = found.kept; issued = found.issued; leaving = c.new.result; notes = c.new-2.result } in
     let is = c.in-Ok-replay_of.ensures.replayed in
     let file = g.D.Device.seen c.args.device in
     let texts : List (List ℕ) = contents c.deref.result.now in
@@ -172,10 +173,10 @@ returns-clause-left g c = λ told head s left.
     let same : texts ≡ contents c.in-Ok.opened.1.items = ap contents c.deref.ensures.value in
     let keeps : Keeps g.D.Device.seen g.D.Device.may_leave texts c.in-Ok.opened.0 = subst (λ (l : List (List ℕ)). Keeps g.D.Device.seen g.D.Device.may_leave l c.in-Ok.opened.0) (sym same) opened.0 in
     let stood : Stands texts file = subst (λ (l : List (List ℕ)). Stands l file) (sym same) opened.1 in
-    let kept = kept_read g.K.Knowledge.form texts mid is keeps in
+    let kept = kept_read g.K.Knowledge.form texts found.notes.items mid is keeps in
     let entries = entry.Head found.head ∷ is.entries in
-    let of = of_replayed g.K.Knowledge.form g.met.K.Knowledge.by_meaning file head s left texts found.head found.replica found.kept found.issued stood is in
-    let P : List ℕ → Type 0 = λ f. g.D.Device.may_leave c.args.device f ⊎ HasLog g.K.Knowledge.form f head in
-    let first = widened P (c.in-Ok.ensures.any_moment told) (λ f here. as_going (alike_has g.K.Knowledge.form g.met.K.Knowledge.by_meaning file head s left f) here) in
-    let second = widened P (c.close.ensures.left told entries kept of.1) (λ f has. inr (subst (λ (h : HeadParts). HasLog g.K.Knowledge.form f h) of.0 has)) in
+    let of = of_replayed g.K.Knowledge.form g.met.K.Knowledge.by_meaning file head s notes left texts found.head found.replica found.kept found.issued found.notes.items stood is in
+    let P : List ℕ → Type 0 = λ f. g.D.Device.may_leave c.args.device f ⊎ HasLog g.K.Knowledge.form f head notes in
+    let first = widened P (c.in-Ok.ensures.any_moment told) (λ f here. as_going (alike_has g.K.Knowledge.form g.met.K.Knowledge.by_meaning file head s notes left f) here) in
+    let second = widened P (c.close.ensures.left told entries kept of.1) (λ f has. inr (subst (λ (h : HeadParts). HasLog g.K.Knowledge.form f h notes) of.0 (subst (λ (ns : List NoteParts). HasLog g.K.Knowledge.form f found.head ns) of.2 has))) in
     subst (λ d. LeavesOnly g.D.Device.moment g.D.Device.left_since c.args.device d P) (sym c.into_device-in-Err-close.ensures) (joined first second)

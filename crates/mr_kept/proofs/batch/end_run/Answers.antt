@@ -1,0 +1,14 @@
+use Rattle.std.proofs.Common.{◌∷◌, ◌∙◌, [], ap}
+use Rattle.mr_journal.specs.Format.{contents}
+use Rattle.mr_kept.proofs.EntryLemmas.{contents_append}
+use Rattle.mr_kept.proofs.RunLemmas.{none_put, run_put}
+use Rattle.mr_kept.proofs.batch.end_run.Goals as goal
+
+pub returns-then-batch-eq0-clause-put : goal.returns-then-batch-eq0-clause-put
+returns-then-batch-eq0-clause-put c = none_put c.args.batch.now.stream c.args.batch.now.nexts (contents c.args.batch.now.entries.items) c.if-batch-eq0.true
+
+pub returns-clause-put : goal.returns-clause-put
+returns-clause-put c =
+    let old = c.args.batch.now in
+    let bytes = c.in_ok-entry.entry in
+    run_put old.stream old.nexts (contents old.entries.items) (contents c.push.new.self.items) bytes.items c.if-batch-eq0.false c.in_ok-entry.ensures (ap contents c.in_ok-push.ensures.items ∙ contents_append old.entries.items (bytes ∷ []))

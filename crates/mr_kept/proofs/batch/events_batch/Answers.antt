@@ -1,0 +1,17 @@
+use Rattle.std.proofs.Common.{◌+◌, take, take_all}
+use Rattle.mr_journal.specs.Format.{contents}
+use Rattle.mr_kept.proofs.RunLemmas.{next_so_far, whole_so_far}
+use Rattle.mr_kept.proofs.batch.events_batch.Goals as goal
+
+pub loop-event-preserved : goal.loop-event-preserved
+loop-event-preserved c =
+    let now = c.loop-event.batch in
+    let next = c.put_event.new.batch in
+    next_so_far c.args.issued c.args.events.now c.loop-event.event-index c.event-item.result (contents now.entries.items) (contents next.entries.items) now.issued next.issued now.stream next.stream now.nexts next.nexts
+    c.loop-event-test.true c.event-item.is c.loop-event.invariant c.in_ok-put_event.ensures
+
+pub returns-clause-spelled : goal.returns-clause-spelled
+returns-clause-spelled c =
+    let now = c.loop-event.batch in
+    whole_so_far c.args.issued c.args.events.now c.loop-event.event-index (contents now.entries.items) (contents c.end_run.new.batch.entries.items) now.issued now.stream now.nexts
+    c.loop-event-test.false c.loop-event.invariant c.in_ok-end_run.ensures.put
