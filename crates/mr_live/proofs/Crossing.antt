@@ -1,5 +1,4 @@
 -- two nodes that pull over each other's links
-use Rattle.std.proofs.Common.{◌≡◌}
 use Rattle.mr_link.specs.LaneLink.{LaneEnd, AreJoined}
 use Rattle.mr_live.specs.Rounds.{Links, PullAndServe, Cross, AreNew}
 use Rattle.mr_live.specs.declared.rounds.TheConstants.{LINK_PIECES}

@@ -1,8 +1,8 @@
 -- what comes of a plan is no fault of its reading
-use Rattle.std.proofs.Common.{◌≡◌, ℕ, Bool, List, Option, Result, Err, inl, inr, sym, subst, ◌∙◌}
+use Rattle.std.proofs.Common.{◌≡◌, ℕ, Bool, List, Option, Result, Err, inl, inr, subst}
 use Rattle.mr_forms.specs.Known.{Form}
-use Rattle.mr_script.specs.declared.fault.ScriptFault.TheVariants.{TooLong, Write}
-use Rattle.mr_live.specs.Live.{Writes, NodesEnd, PlanEnds, CannotMeet}
+use Rattle.mr_script.specs.declared.fault.ScriptFault.TheVariants.{TooLong}
+use Rattle.mr_live.specs.Live.{Writes, PlanEnds, CannotMeet}
 use Rattle.mr_live.specs.Plan.{PlanView}
 use Rattle.mr_live.specs.declared.fault.LiveFault.{LiveFault}
 use Rattle.mr_live.specs.declared.fault.LiveFault.TheVariants.{OutOfMemory, Script, NotTwo}

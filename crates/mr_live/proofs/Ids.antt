@@ -1,32 +1,24 @@
 -- two replicas that ended have the ids that the plan gave them
-use Rattle.std.proofs.Common.{◌≡◌, ◌≢◌, ◌<◌, ◌∷◌, ℕ, List, [], length, Some, Result, All, inl, inr, refl, sym, ap, subst, ◌∙◌, arith}
+use Rattle.std.proofs.Common.{◌≡◌, ◌≢◌, ◌<◌, ◌∷◌, List, [], Result, inl, inr, sym, ap, ◌∙◌, arith}
 use Rattle.std.proofs.lemmas.List.Elements.{All-push}
 use Rattle.std.proofs.lemmas.List.Kept.{AllPairs-cons}
 use Rattle.mr_forms.specs.Known.{Form}
 use Rattle.mr_replica.specs.State.{State}
 use Rattle.mr_replica.specs.Step.{Steps}
 use Rattle.mr_replica.specs.declared.event.Event.{Event}
+use Rattle.mr_replica.proofs.Replaying.{step_setting}
 use Rattle.mr_replica.specs.declared.event.Reply.{Reply}
 use Rattle.mr_replica.specs.declared.refusal.Refusal.{Refusal}
 use Rattle.mr_settle.specs.Explains.{AreDistinct}
 use Rattle.mr_threads.specs.Exchange.{Exchange, Replays}
-use Rattle.mr_world.specs.declared.spec.Spec.{Spec}
-use Rattle.mr_world.proofs.KeepsId.{step_keeps_id}
 use Rattle.mr_live.specs.Live.{AreById}
-use Rattle.mr_live.specs.Plan.{PlanView, AreApart, Halves}
-use Rattle.mr_live.specs.Rounds.{Links, RanFrom, RanAlone, RanBoth, TwoRounds}
+use Rattle.mr_live.specs.Rounds.{Links, RanFrom, RanAlone, TwoRounds}
 use Rattle.mr_live.specs.declared.plan.NodePlan.{NodePlan}
-
--- the nodes of a plan have other ids
-pub nodes_apart : (p : PlanView) (nodes : NodePlan × NodePlan) → AreApart p.specs → Halves p (Some nodes) → nodes.0.spec.id ≢ nodes.1.spec.id
-nodes_apart p nodes apart are same =
-    let two : AreApart (are.0 ∷ are.1 ∷ []) = subst AreApart are.2 apart in
-    two 0 1 are.0 (omega arith) (omega arith) (ap (λ (s : Spec). s.id) (sym are.3.replica) ∙ (same ∙ ap (λ (s : Spec). s.id) are.4.replica))
 
 module _ {K : Type 0} (form : Form K) where
   replays_keep_id : (s t : State K) (xs : List (Exchange Event (Result Reply Refusal))) → Replays (Steps form) s xs t → t.id ≡ s.id
   replays_keep_id s t [] h = ap (λ (z : State K). z.id) h
-  replays_keep_id s t (x ∷ xs) h = replays_keep_id h.0 t xs h.2 ∙ step_keeps_id form s x.letter x.answer h.0 h.1
+  replays_keep_id s t (x ∷ xs) h = replays_keep_id h.0 t xs h.2 ∙ (step_setting form s h.0 x.letter x.answer h.1).id
 
   ran_keeps_id : (old : State K) (events : List Event) (links : Links) (new : State K) → RanFrom form old events links new → new.id ≡ old.id
   ran_keeps_id old events links new h =

@@ -1,11 +1,36 @@
 -- what two nodes ran in each round
-use Rattle.std.proofs.Common.{◌≡◌, List, [], Option, Some, None, IfSome}
+use Rattle.std.proofs.Common.{◌≡◌, Bool, true, false, [], Option, Some, None, IfSome, refl, sym}
+use Rattle.std.specs.Bool.{then_some}
 use Rattle.mr_forms.specs.Known.{Form}
+use Rattle.mr_link.specs.LaneLink.{LaneEnd, lane_tells}
+use Rattle.mr_node.specs.Node.{ReplicaNodeRan}
+use Rattle.mr_node.specs.declared.node.NodeEnd.{NodeEnd}
+use Rattle.mr_node.specs.declared.node.NodeParts.{NodeParts}
 use Rattle.mr_replica.specs.State.{State}
-use Rattle.mr_live.specs.Rounds.{Links, AreIdle, Cross, IsNew, RanFrom, RanAlone, RanBoth, TwoRounds}
+use Rattle.mr_live.specs.Rounds.{Links, had_memory, never, AreIdle, Cross, IsNew, RanFrom, RanAlone, RanBoth, TwoRounds}
 use Rattle.mr_live.specs.declared.plan.NodePlan.{NodePlan}
 
 module _ {K : Type 0} (form : Form K) where
+  -- a node that ran, and answered no letter out of memory
+  pub ran_from : (parts : NodeParts (State K) LaneEnd LaneEnd) (links : Links) (end : NodeEnd (State K)) (first second : LaneEnd) (is_whole : Bool) (ended : Option (State K))
+      → parts.first_link ≡ links.0 → parts.second_link ≡ links.1 → ReplicaNodeRan form lane_tells lane_tells never parts end first second
+      → is_whole ≡ had_memory end.replies → ended ≡ then_some is_whole end.replica → IfSome ended (λ new. RanFrom form parts.replica parts.events.items links new)
+  ran_from parts links end first second true ended one other ran whole is =
+      rw is (record {
+        parts = parts;
+        replica = refl;
+        asked = refl;
+        first_link = one;
+        second_link = other;
+        end = end;
+        first_after = first;
+        second_after = second;
+        ran = ran;
+        memory = sym whole;
+        is = refl;
+      })
+  ran_from parts links end first second false ended one other ran whole is = rw is tt
+
   -- a new replica that ran over idle links ran alone
   pub ran_alone : (plan : NodePlan) (start : State K) (links : Links) (ended : Option (State K)) → IsNew form plan.spec start → AreIdle links
       → IfSome ended (λ new. RanFrom form start plan.events.items links new) → IfSome ended (λ new. RanAlone form plan new)

@@ -1,11 +1,11 @@
 -- what comes of a live script
-use Rattle.std.specs.Prelude.{◌≡◌, ◌≢◌, ◌<◌, ◌⊎◌, ◌++◌, ℕ, Bool, List, [], ◌∷◌, length, Option, Some, None, Result, Ok, Err}
+use Rattle.std.specs.Prelude.{◌≡◌, ◌≢◌, ◌<◌, ◌⊎◌, ◌++◌, ℕ, Bool, List, [], ◌∷◌, length, Option, Some, Result, Ok, Err}
 use Rattle.std.specs.Io.KnownBytes.{Appends}
 use Rattle.mr_forms.specs.Known.{Form}
 use Rattle.mr_replica.specs.State.{State}
 use Rattle.mr_script.specs.declared.fault.ScriptFault.{ScriptFault}
 use Rattle.mr_script.specs.declared.fault.ScriptFault.TheVariants as stops
-use Rattle.mr_live.specs.Plan.{PlanView, Halves}
+use Rattle.mr_live.specs.Plan.{PlanView, CanAllRun, Halves}
 use Rattle.mr_live.specs.Rounds.{TwoRounds}
 use Rattle.mr_live.specs.Telling.{Tells}
 use Rattle.mr_live.specs.declared.plan.NodePlan.{NodePlan}
@@ -54,7 +54,7 @@ module _ {K : Type 0} (form : Form K) where
       ((nodes : NodePlan × NodePlan) × Halves p (Some nodes) × NodesEnd nodes result old new)
       ⊎ ((fault : LiveFault) × (result ≡ Err fault) × CannotMeet p fault × (new ≡ old))
 
-  -- what comes of a script: the fault that ended its reading, and nothing is written; or what comes of its plan
+  -- what comes of a script: the fault that ended its reading, and nothing is written; or what comes of its plan, whose replicas can all run
   abbrev pub LiveEnds : Result PlanView ScriptFault → Result Bool LiveFault → (old new : Option (List ℕ)) → Type 0
   LiveEnds (Err fault) result old new = (result ≡ Err (Script fault)) × (new ≡ old)
-  LiveEnds (Ok p) result old new = PlanEnds p result old new
+  LiveEnds (Ok p) result old new = CanAllRun p.specs × PlanEnds p result old new

@@ -1,10 +1,12 @@
 -- what the lines of a live script ask for
-use Rattle.std.specs.Prelude.{◌≡◌, ◌≢◌, ◌==◌, ◌++◌, ◌||◌, ◌⊎◌, ◌+◌, ◌-◌, ◌<◌, ◌≤◌, ℕ, Bool, true, false, if◌then◌else◌, List, [], ◌∷◌, length, Option, Some, None, Result, Ok, Err, codes}
+use Rattle.std.specs.Prelude.{◌≡◌, ◌≢◌, ◌==◌, ◌++◌, ◌||◌, ◌⊎◌, ◌+◌, ◌-◌, ◌<◌, ◌≤◌, ℕ, Bool, true, false, if◌then◌else◌, All, List, [], ◌∷◌, length, Option, Some, None, Result, Ok, Err, codes}
 use Rattle.std.specs.List.{AllPairs, list_any, flat_map}
 use Rattle.std.specs.Str.{IsUtf8}
+use Rattle.mr_feed.specs.declared.port.TheConstants.{MAX_CAPACITY}
 use Rattle.mr_mail.specs.Label.{text_eq}
 use Rattle.mr_replica.specs.declared.event.Event.{Event}
 use Rattle.mr_replica.specs.declared.event.Event.TheVariants.{Create, Edit}
+use Rattle.mr_replica.specs.declared.replica.TheConstants.{MAX_EVENTS}
 use Rattle.mr_world.specs.declared.event.Event.{Event as WorldEvent}
 use Rattle.mr_world.specs.declared.event.Event.TheVariants as world
 use Rattle.mr_world.specs.declared.spec.Spec.{Spec}
@@ -31,6 +33,22 @@ pub record PlanView : Type 0 where
 -- no two replicas have one id
 abbrev pub AreApart : List Spec → Type 0
 AreApart specs = AllPairs (λ s t. s.id ≢ t.id) specs
+
+-- a lane may have so many places
+pub record ArePlaces (places : ℕ) : Type 0 where
+  pub some : 1 ≤ places
+  pub few : places ≤ MAX_CAPACITY
+
+-- a replica may have this limit, and the lanes of its node so many places
+pub record CanRun (spec : Spec) : Type 0 where
+  pub some_events : 1 ≤ spec.event_limit
+  pub few_events : spec.event_limit ≤ MAX_EVENTS
+  pub places : ArePlaces spec.port_capacity
+
+-- nothing but memory keeps these replicas from running as nodes, each beside the others
+pub record CanAllRun (specs : List Spec) : Type 0 where
+  pub apart : AreApart specs
+  pub each : All CanRun specs
 
 -- nothing
 abbrev pub no_plan : PlanView
@@ -130,6 +148,12 @@ NextAsks p number room bytes (Err fault) q left room_then = LinesAsk p number ro
 pub record IsNodePlan (asked : List Asked) (spec : Spec) (n : NodePlan) : Type 0 where
   pub replica : n.spec ≡ spec
   pub events : n.events.items ≡ events_for spec.id asked
+
+-- nothing but memory keeps both from running
+pub record CanBothRun (nodes : NodePlan × NodePlan) : Type 0 where
+  pub apart : nodes.0.spec.id ≢ nodes.1.spec.id
+  pub first : CanRun nodes.0.spec
+  pub second : CanRun nodes.1.spec
 
 -- there are just two replicas, whose nodes these are; or another number
 abbrev pub Halves : PlanView → Option (NodePlan × NodePlan) → Type 0

@@ -1,5 +1,6 @@
 -- two nodes in two rounds
-use Rattle.std.specs.Prelude.{◌≡◌, ℕ, Bool, false, List, [], ◌∷◌}
+use Rattle.std.specs.Prelude.{◌≡◌, ◌==◌, ◌&&◌, not, ℕ, Bool, true, false, IsTrue, List, [], ◌∷◌, Result, Ok, Err}
+use Rattle.std.specs.List.{list_all}
 use Rattle.mr_forms.specs.Known.{Form, AreSame}
 use Rattle.mr_lane.specs.declared.note.Sender.{Sender}
 use Rattle.mr_link.specs.LaneLink.{LaneEnd, lane_tells, new_link, AreJoined}
@@ -7,10 +8,14 @@ use Rattle.mr_node.specs.Node.{ReplicaNodeRan}
 use Rattle.mr_node.specs.declared.node.LinkTurns.{LinkTurns}
 use Rattle.mr_node.specs.declared.node.NodeEnd.{NodeEnd}
 use Rattle.mr_node.specs.declared.node.NodeParts.{NodeParts}
+use Rattle.mr_node.specs.declared.node.NodeReplies.{NodeReplies}
 use Rattle.mr_node.specs.declared.turn.Turn.{Turn}
 use Rattle.mr_node.specs.declared.turn.Turn.TheVariants.{Pull, Serve}
+use Rattle.mr_replica.specs.Refusal.{refusal_number}
 use Rattle.mr_replica.specs.State.{State, new_state}
 use Rattle.mr_replica.specs.declared.event.Event.{Event}
+use Rattle.mr_replica.specs.declared.event.Reply.{Reply}
+use Rattle.mr_replica.specs.declared.refusal.Refusal.{Refusal}
 use Rattle.mr_world.specs.declared.spec.Spec.{Spec}
 use Rattle.mr_live.specs.declared.plan.NodePlan.{NodePlan}
 use Rattle.mr_live.specs.declared.rounds.TheConstants.{LINK_PIECES}
@@ -51,8 +56,17 @@ pub record Cross (these those : Links) : Type 0 where
   pub first_pulls : AreJoined LINK_PIECES these.0.link those.1.link
   pub second_pulls : AreJoined LINK_PIECES those.0.link these.1.link
 
+-- the answer is not out of memory, which is refusal 0
+abbrev pub has_memory : Result Reply Refusal → Bool
+has_memory (Ok reply) = true
+has_memory (Err refusal) = not (refusal_number refusal == 0)
+
+-- no letter of a node was answered out of memory
+abbrev pub had_memory : NodeReplies → Bool
+had_memory replies = list_all has_memory replies.user.items && (list_all has_memory replies.first_link.items && list_all has_memory replies.second_link.items)
+
 module _ {K : Type 0} (form : Form K) where
-  -- A node without a gate ran from this replica to that one, with these links; its user asked these.
+  -- A node without a gate ran from this replica to that one, with these links; its user asked these, and no letter was answered out of memory.
   pub record RanFrom (old : State K) (events : List Event) (links : Links) (new : State K) : Type 0 where
     pub parts : NodeParts (State K) LaneEnd LaneEnd
     pub replica : parts.replica ≡ old
@@ -63,6 +77,7 @@ module _ {K : Type 0} (form : Form K) where
     pub first_after : LaneEnd
     pub second_after : LaneEnd
     pub ran : ReplicaNodeRan form lane_tells lane_tells never parts end first_after second_after
+    pub memory : IsTrue (had_memory end.replies)
     pub is : new ≡ end.replica
 
   -- a replica that was just made of this, and knows nothing

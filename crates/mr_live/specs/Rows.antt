@@ -1,16 +1,24 @@
 -- worked rows: what the definitions give for small values
-use Rattle.std.specs.Prelude.{◌≡◌, ◌<◌, ℕ, Bool, true, false, List, [], ◌∷◌, map, Some, None, Ok, Err, codes, refl}
+use Rattle.std.specs.Prelude.{◌≡◌, ℕ, true, false, [], ◌∷◌, map, Some, None, Ok, Err, codes, refl}
 use Rattle.std.specs.Fmt.{digits}
 use Rattle.std.proofs.Common.{inl, inr, arith}
+use Rattle.mr_command.specs.declared.fault.LineFault.TheVariants.{UnknownCommand}
 use Rattle.mr_mail.specs.Mail.{Mail}
 use Rattle.mr_replica.specs.State.{State, new_state}
 use Rattle.mr_replica.specs.declared.event.Event.TheVariants as replica
+use Rattle.mr_replica.specs.declared.event.Reply.TheVariants.{Done}
+use Rattle.mr_replica.specs.declared.refusal.Refusal.TheVariants as refusal
 use Rattle.mr_version.specs.Name.{Name}
 use Rattle.mr_world.specs.declared.event.Event.TheVariants as world
-use Rattle.mr_script.specs.declared.fault.ScriptFault.TheVariants.{Read, Write}
+use Rattle.mr_world.specs.declared.spec.Spec.{Spec}
+use Rattle.mr_script.specs.Script.{looked_at}
+use Rattle.mr_script.specs.declared.fault.ScriptFault.TheVariants.{Line, Read, Write}
 use Rattle.mr_live.specs.Fault.{live_fault_number}
 use Rattle.mr_live.specs.Live.{AreById, Writes}
-use Rattle.mr_live.specs.Plan.{PlanView, no_plan, asked_by, events_for, is_live_line, scene_of}
+use Rattle.mr_live.specs.Plan.{PlanView, CanAllRun, CanRun, Halves, ScriptAsks, TextAsks, no_plan, asked_by, events_for, is_live_line, scene_of}
+use Rattle.mr_live.specs.Plan.TextAsks.{skipped, unknown}
+use Rattle.mr_live.specs.Plan.LinesAsk.{all_read, at_fault, goes_on}
+use Rattle.mr_live.specs.Rounds.{has_memory}
 use Rattle.mr_live.specs.Telling.{told_text, unexplained_text}
 use Rattle.mr_live.specs.declared.fault.LiveFault.TheVariants.{OutOfMemory, Script, NotTwo}
 use Rattle.mr_live.specs.declared.plan.Asked.{Asked}
@@ -20,6 +28,48 @@ use Rattle.mr_live.specs.declared.plan.Asked.{Asked}
 -- a line is looked at by its first word alone
 pub lines_of_a_live_script : map is_live_line (codes "replica 0 9 1 all" ∷ codes "create" ∷ codes "edit 0 0.1" ∷ codes "sync 1 0" ∷ codes "sync" ∷ codes "creates 0" ∷ codes " create 0" ∷ []) ≡ true ∷ true ∷ true ∷ false ∷ false ∷ false ∷ false ∷ []
 lines_of_a_live_script = refl
+
+-- a command that is none of a live script's is unknown, whatever its other words are
+pub sync_is_unknown : TextAsks no_plan (codes "sync") (Err UnknownCommand) no_plan
+sync_is_unknown = unknown refl refl
+
+-- the fault has the number of its line, and ends the script
+pub second_line : ScriptAsks (codes "# two\nsync 1 0\nheads 0\n") (Err (Line 2 UnknownCommand))
+unfolding looked_at lib.Utf8.encode
+second_line =
+    goes_on no_plan (omega arith) (inl ((codes "# two", (refl, refl)), skipped refl))
+    (at_fault no_plan (omega arith) (inl ((codes "sync 1 0", (refl, refl)), unknown refl refl)))
+
+-- an empty script asks for nothing
+pub empty_script : ScriptAsks [] (Ok no_plan)
+unfolding looked_at
+empty_script = all_read
+
+-- ---- what can run
+
+-- a replica of this id, event limit and number of places, that selects nothing
+abbrev spec : (id limit places : ℕ) → Spec
+spec id limit places = record { id = id; filter = []; event_limit = limit; port_capacity = places }
+
+pub least_can_run : CanRun (spec 0 1 1)
+least_can_run = record { some_events = omega arith; few_events = omega arith; places = record { some = omega arith; few = omega arith } }
+
+pub most_can_run : CanRun (spec 0 1000000 4096)
+most_can_run = record { some_events = omega arith; few_events = omega arith; places = record { some = omega arith; few = omega arith } }
+
+pub too_many_events : ¬ CanRun (spec 0 1000001 1)
+too_many_events can = omega (arith, can.few_events)
+
+pub too_many_places : ¬ CanRun (spec 0 1 4097)
+too_many_places can = omega (arith, can.places.few)
+
+-- two of one id can't run beside one another
+pub one_id : ¬ CanAllRun (spec 3 1 1 ∷ spec 3 1 1 ∷ [])
+one_id can = can.apart 0 1 (spec 3 1 1) (omega arith) (omega arith) refl
+
+-- three replicas are not two
+pub three_are_not_two : Halves (record { specs = spec 0 1 1 ∷ spec 1 1 1 ∷ spec 2 1 1 ∷ []; asked = [] }) None
+three_are_not_two is = cc is
 
 -- ---- what users ask
 
@@ -46,6 +96,12 @@ each_its_own = refl
 -- behind an event no replica comes any more
 pub opening_ends : map (λ (p : PlanView). (scene_of p).is_opening) (no_plan ∷ record { specs = []; asked = create 0 ∷ [] } ∷ []) ≡ true ∷ false ∷ []
 opening_ends = refl
+
+-- ---- what is answered
+
+-- a letter may be refused, but not for want of memory
+pub only_memory : map has_memory (Ok Done ∷ Err refusal.LogFull ∷ Err (refusal.NotHeld first) ∷ Err refusal.OutOfMemory ∷ []) ≡ true ∷ true ∷ true ∷ false ∷ []
+only_memory = refl
 
 -- ---- what is told
 

@@ -3,7 +3,7 @@ ghost use Rattle.std.specs.Prelude.{◌≡◌, ◌≢◌, ◌∷◌, [], ◌<◌
 ghost use Rattle.mr_script.specs.declared.fault.ScriptFault.{ScriptFault};
 ghost use Rattle.mr_script.specs.declared.source.TheConstants.{MAX_SCRIPT_BYTES};
 ghost use Rattle.mr_live.specs.Live.{AreById, CannotMeet, LiveEnds, NodesEnd, NodesMeet, PlanEnds, TellsBoth, Writes};
-ghost use Rattle.mr_live.specs.Plan.{AreApart, Halves, PlanView, ScriptAsks};
+ghost use Rattle.mr_live.specs.Plan.{CanAllRun, CanBothRun, Halves, PlanView, ScriptAsks};
 
 use crate::fault::LiveFault;
 use crate::plan::{NodePlan, Plan};
@@ -22,7 +22,7 @@ use std::thread::Threads;
 ///
 /// The whole script is read before a node runs. `Script` is the first fault of a line, or that of the reader, as of
 /// `run_script`; `NotTwo` comes behind it, where the script makes another number of replicas; then `OutOfMemory` wherever memory is
-/// wanting, and `Script` again where the writer fails, which is then not called again. Nothing is written at another
+/// wanting or a thread can't be made, for an event that a replica answers so too, and `Script` again where the writer fails, which is then not called again. Nothing is written at another
 /// fault. That the call returns is not promised: see [`mr_node::run_node`].
 pub fn run_live<
     K: OneValue<Vector: Send> + Send,
@@ -48,7 +48,7 @@ fn run_plan<K: OneValue<Vector: Send> + Send, R: Threads + Wait + Sync + Send + 
     plan: Plan,
     writer: &mut W,
 ) -> Result<bool, LiveFault>
-    requires apart { AreApart plan.specs }
+    requires can_run { CanAllRun plan.specs }
     ensures { PlanEnds K.form plan result (W.contents writer.old) (W.contents writer.new) }
 {
     match nodes_of(alloc, plan) {
@@ -64,7 +64,7 @@ fn meet<K: OneValue<Vector: Send> + Send, R: Threads + Wait + Sync + Send + Copy
     nodes: (NodePlan, NodePlan),
     writer: &mut W,
 ) -> Result<bool, LiveFault>
-    requires apart { nodes.0.spec.id ≢ nodes.1.spec.id }
+    requires can_run { CanBothRun nodes }
     ensures { NodesEnd K.form nodes result (W.contents writer.old) (W.contents writer.new) }
 {
     match run_nodes::<K, R>(rt, alloc, nodes) {
@@ -91,7 +91,7 @@ fn run_nodes<K: OneValue<Vector: Send> + Send, R: Threads + Wait + Sync + Send +
     alloc: Global,
     nodes: (NodePlan, NodePlan),
 ) -> Result<Told, AllocError>
-    requires apart { nodes.0.spec.id ≢ nodes.1.spec.id }
+    requires can_run { CanBothRun nodes }
     ensures { IfOk result (λ told. NodesMeet K.form nodes told.joined (string_bytes told.text)) }
 {
     match run_rounds::<K, R>(rt, alloc, nodes.0, nodes.1) {

@@ -1,15 +1,17 @@
 //! Two nodes in two rounds.
 ghost use Rattle.std.specs.Prelude.{◌≡◌, ◌∷◌, [], IfOk, IfSome};
+ghost use Rattle.std.specs.List.{list_all};
 ghost use Rattle.std.specs.Thread.{IsSend, IsSync};
 ghost use Rattle.mr_link.specs.LaneLink.{new_link};
 ghost use Rattle.mr_node.specs.declared.turn.Turn.TheVariants.{Pull, Serve};
-ghost use Rattle.mr_live.specs.Rounds.{AreIdle, AreNew, Cross, HaveTurns, PullAndServe, RanAlone, RanBoth, RanFrom, TwoRounds};
+ghost use Rattle.mr_live.specs.Plan.{ArePlaces, CanBothRun, CanRun};
+ghost use Rattle.mr_live.specs.Rounds.{AreIdle, AreNew, Cross, HaveTurns, PullAndServe, RanAlone, RanBoth, RanFrom, TwoRounds, had_memory, has_memory};
 
 use crate::plan::NodePlan;
 use mr_forms::Knowledge;
 use mr_lane::LaneFault;
 use mr_link::{LaneLink, OpenGate, lane_link};
-use mr_node::{LinkTurns, NodeParts, Turn, run_node};
+use mr_node::{Answer, LinkTurns, NodeFault, NodeParts, NodeReplies, Turn, run_node};
 use mr_replica::{Event, Replica};
 use std::alloc::{AllocError, Global};
 use std::sync::Wait;
@@ -24,13 +26,14 @@ type Links<R> = (LinkTurns<LaneLink<R>>, LinkTurns<LaneLink<R>>);
 
 /// Runs both nodes in two rounds, each with links of its own: each alone with what its user asks, and then both at once,
 /// where each pulls over its first link what the other serves over its second. Their replicas in the order of the nodes.
-/// `None` where memory was wanting, or a thread.
+/// `None` where memory was wanting, to an event of a replica too, or a thread.
 pub(crate) fn run_rounds<K: Knowledge<Vector: Send> + Send, R: Threads + Wait + Sync + Send + Copy>(
     rt: &R,
     alloc: Global,
     first: NodePlan,
     second: NodePlan,
 ) -> Option<(Replica<K>, Replica<K>)>
+    requires { CanBothRun (first, second) }
     ensures { IfSome result (λ ended. TwoRounds K.form (first, second) ended) }
 {
     let (first_places, second_places) = (first.spec.port_capacity, second.spec.port_capacity);
@@ -45,13 +48,14 @@ fn run_alone<K: Knowledge<Vector: Send> + Send, R: Threads + Wait + Sync + Send 
     alloc: Global,
     plan: NodePlan,
 ) -> Option<Replica<K>>
+    requires { CanRun plan.spec }
     ensures { IfSome result (λ new. RanAlone K.form plan new) }
 {
     let links = idle_links(rt, alloc)?;
     let NodePlan { spec, events } = plan;
     match Replica::try_new(alloc, spec.id, spec.filter, spec.event_limit) {
         Ok(replica) => run(rt, alloc, replica, events, links, spec.port_capacity),
-        Err(_) => None,
+        Err(_) => unreachable!(),
     }
 }
 
@@ -62,6 +66,7 @@ fn run_both<K: Knowledge<Vector: Send> + Send, R: Threads + Wait + Sync + Send +
     first: (Replica<K>, usize),
     second: (Replica<K>, usize),
 ) -> Option<(Replica<K>, Replica<K>)>
+    requires { ArePlaces first.1 × ArePlaces second.1 }
     ensures { IfSome result (λ ended. RanBoth K.form (first.0, second.0) ended) }
 {
     let Ok((first_links, second_links)) = crossing_links(rt, alloc) else {
@@ -74,11 +79,13 @@ fn run_both<K: Knowledge<Vector: Send> + Send, R: Threads + Wait + Sync + Send +
         move || -> Option<Replica<K>>
             requires threads { IsSend K.row × IsSend R.row × IsSync R.row }
             requires links { AreNew first_links }
+            requires places { ArePlaces first_places }
             ensures { IfSome result (λ new. RanFrom K.form first [] first_links new) }
         { run(rt, alloc, first, Vec::new(alloc), first_links, first_places) },
         move || -> Option<Replica<K>>
             requires threads { IsSend K.row × IsSend R.row × IsSync R.row }
             requires links { AreNew second_links }
+            requires places { ArePlaces second_places }
             ensures { IfSome result (λ new. RanFrom K.form second [] second_links new) }
         {
             run(
@@ -154,7 +161,33 @@ fn without_turns<L>(alloc: Global, link: L) -> LinkTurns<L>
     }
 }
 
-/// Runs a node before which no gate stands: its replica, where it came to an end.
+/// Whether no letter of a node was answered out of memory.
+fn had_memory(replies: &NodeReplies) -> bool
+    ensures { result ≡ had_memory replies.now }
+{
+    all_have_memory(&replies.user)
+        && all_have_memory(&replies.first_link)
+        && all_have_memory(&replies.second_link)
+}
+
+/// Whether none of the answers is out of memory.
+fn all_have_memory(answers: &[Answer]) -> bool
+    ensures { result ≡ list_all has_memory answers.now }
+{
+    answers.iter().all(|answer| has_memory(answer))
+}
+
+/// Whether the answer is not out of memory.
+fn has_memory(answer: &Answer) -> bool
+    ensures { result ≡ has_memory answer.now }
+{
+    match answer {
+        Ok(_) => true,
+        Err(refusal) => refusal.number() != 0,
+    }
+}
+
+/// Runs a node before which no gate stands: its replica, where it came to an end and answered no letter out of memory.
 fn run<K: Knowledge<Vector: Send> + Send, R: Threads + Wait + Sync + Send + Copy>(
     rt: &R,
     alloc: Global,
@@ -163,7 +196,8 @@ fn run<K: Knowledge<Vector: Send> + Send, R: Threads + Wait + Sync + Send + Copy
     links: Links<R>,
     capacity: usize,
 ) -> Option<Replica<K>>
-    requires { AreNew links }
+    requires links { AreNew links }
+    requires places { ArePlaces capacity }
     ensures { IfSome result (λ new. RanFrom K.form replica events.items links new) }
 {
     let (first_link, second_link) = links;
@@ -174,7 +208,11 @@ fn run<K: Knowledge<Vector: Send> + Send, R: Threads + Wait + Sync + Send + Copy
         second_link,
     };
     match run_node(rt, alloc, parts, &OpenGate, capacity) {
-        Ok((end, _, _)) => Some(end.replica),
-        Err(_) => None,
+        Ok((end, _, _)) => {
+            let is_whole = had_memory(&end.replies);
+            is_whole.then_some(end.replica)
+        }
+        Err(NodeFault::OutOfMemory) => None,
+        Err(NodeFault::NoCapacity(_)) => unreachable!(),
     }
 }

@@ -1,6 +1,6 @@
 //! The lines of a live script, out of a reader.
 ghost use Rattle.std.specs.Prelude.{◌≡◌, ◌≢◌, ◌-◌, ◌<◌, ◌≤◌, ℕ, List, Option, Err, IsTrue, IfOk, IfErr, IfSome, OnOk, length};
-ghost use Rattle.mr_live.specs.Plan.{AreApart, NextAsks, ScriptAsks};
+ghost use Rattle.mr_live.specs.Plan.{CanAllRun, NextAsks, ScriptAsks};
 ghost use Rattle.mr_script.specs.Fault.{NumbersItsLine};
 ghost use Rattle.mr_script.specs.Script.{Accounts};
 ghost use Rattle.mr_script.specs.declared.source.TheConstants.{MAX_SCRIPT_BYTES};
@@ -15,14 +15,14 @@ use std::io::Read;
 ///
 /// It reads and ends as `run_script` does: the first fault of a line ends it, `TooLong` comes at the line that ends past
 /// 16,777,216 bytes, and `Read` where the reader fails.
-#[tactic(auto, using(crate::proofs::Apart::none_apart))]
+#[tactic(auto, using(crate::proofs::Runnable::none_run))]
 pub(crate) fn read_plan<R: Read + Drop>(alloc: Global, reader: R) -> Result<Plan, ScriptFault>
     ensures asks { IfSome (R.remaining reader) (λ script. ScriptAsks script result) }
     ensures too_long { result ≡ Err ScriptFault.TooLong
         → IfSome (R.remaining reader) (λ script. MAX_SCRIPT_BYTES < length script) }
     ensures line { IfErr result NumbersItsLine }
     ensures no_write { result ≢ Err ScriptFault.Write }
-    ensures apart { IfOk result (λ plan. AreApart plan.specs) }
+    ensures can_run { IfOk result (λ plan. CanAllRun plan.specs) }
 {
     let mut source = ScriptLines::try_new(alloc, reader)?;
     let (mut plan, mut line) = (Plan::new(alloc), Vec::new(alloc));
@@ -54,7 +54,7 @@ fn take_line<R: Read + Drop>(
         → result ≡ Err ScriptFault.TooLong → IfSome script (λ bytes. MAX_SCRIPT_BYTES < length bytes) }
     ensures line { 1 ≤ number → number ≤ 16777217 → IfErr result NumbersItsLine }
     ensures no_write { result ≢ Err ScriptFault.Write }
-    ensures apart { AreApart plan.old.specs → AreApart plan.new.specs }
+    ensures can_run { CanAllRun plan.old.specs → CanAllRun plan.new.specs }
     ensures asks { IfSome source.old.left (λ bytes.
         NextAsks plan.old number (MAX_SCRIPT_BYTES - source.old.taken) bytes result plan.new
         source.new.left (MAX_SCRIPT_BYTES - source.new.taken)) }

@@ -7,7 +7,7 @@ use mr_mail::{Day, Message};
 use mr_replica::Replica;
 use mr_version::Author;
 use mr_world::{Spec, World};
-use std::alloc::Global;
+use std::alloc::{AllocError, Global};
 
 /// How many events each replica admits.
 pub const EVENT_LIMIT: u32 = 1_000;
@@ -33,7 +33,24 @@ fn spec(alloc: Global, id: Author, filter: &str) -> Result<Spec> {
 
 /// The two replicas of the world as they are now, the phone first.
 pub fn ends<K: Knowledge>(alloc: Global, world: &World<K>, cast: &Cast) -> Result<Vec<Replica<K>>> {
-    Ok(vec![in alloc; end(world, cast.phone)?, end(world, cast.office)?]?)
+    let phone = end(world, cast.phone)?;
+    let office = end(world, cast.office)?;
+    Ok(both(alloc, phone, office)?)
+}
+
+/// Both, in this order.
+fn both<T: Drop>(alloc: Global, first: T, second: T) -> Result<Vec<T>, AllocError> {
+    let mut both = Vec::with_capacity(alloc, 2)?;
+    both.push(first)?;
+    both.push(second)?;
+    Ok(both)
+}
+
+/// This one, and no other.
+pub fn only<T: Drop>(alloc: Global, value: T) -> Result<Vec<T>, AllocError> {
+    let mut only = Vec::with_capacity(alloc, 1)?;
+    only.push(value)?;
+    Ok(only)
 }
 
 /// The world's replica of this id as it is now.

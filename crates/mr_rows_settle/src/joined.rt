@@ -19,18 +19,40 @@ pub fn tell_joined<R: Print + AllocGlobal, K: OneValue>(
 ) -> Result<()> {
     println!(rt; "{title}")?;
     let ends = ends(rt.alloc(), world, cast)?;
-    match join(rt, &ends)? {
-        Some(joined) => tell_world(rt, &joined, &ends, cast),
+    tell_ends(rt, &ends, cast)
+}
+
+/// Joins the logs of these, and prints what came of it.
+fn tell_ends<R: Print + AllocGlobal, K: OneValue>(
+    rt: &R,
+    ends: &[Replica<K>],
+    cast: &Cast,
+) -> Result<()> {
+    let joined = join(rt, ends)?;
+    tell_if_joined(rt, &joined, ends, cast)
+}
+
+/// Prints how the replicas of the joined world stand, if there is one, and then joins their logs again.
+fn tell_if_joined<R: Print + AllocGlobal, K: OneValue>(
+    rt: &R,
+    joined: &Option<World<K>>,
+    ends: &[Replica<K>],
+    cast: &Cast,
+) -> Result<()> {
+    match joined {
+        Some(joined) => {
+            tell_world(rt, joined, ends)?;
+            tell_again(rt, joined, cast)
+        }
         None => Ok(()),
     }
 }
 
-/// Prints how the replicas of the joined world stand, and then joins their logs again.
-fn tell_world<R: Print + AllocGlobal, K: OneValue>(
+/// Prints how the replicas of the joined world stand.
+fn tell_world<R: Print + AllocGlobal, K: Knowledge>(
     rt: &R,
     joined: &World<K>,
     ends: &[Replica<K>],
-    cast: &Cast,
 ) -> Result<()> {
     for end in ends {
         let replica = joined
@@ -38,7 +60,7 @@ fn tell_world<R: Print + AllocGlobal, K: OneValue>(
             .context("an end has no replica in the joined world")?;
         tell_replica(rt, replica, end)?;
     }
-    tell_again(rt, joined, cast)
+    Ok(())
 }
 
 /// Joins the logs of the replicas of a joined world, and prints what came of it.
@@ -48,7 +70,17 @@ fn tell_again<R: Print + AllocGlobal, K: OneValue>(
     cast: &Cast,
 ) -> Result<()> {
     let ends = crate::ends::ends(rt.alloc(), joined, cast)?;
-    if let Some(again) = join(rt, &ends)? {
+    let again = join(rt, &ends)?;
+    tell_same(rt, joined, &again)
+}
+
+/// Prints whether as much happened in the world that was joined again, if there is one.
+fn tell_same<R: Print + AllocGlobal, K: Knowledge>(
+    rt: &R,
+    joined: &World<K>,
+    again: &Option<World<K>>,
+) -> Result<()> {
+    if let Some(again) = again {
         let same = again.answers().len() == joined.answers().len();
         let told = if same { "the same" } else { "not the same" };
         println!(rt; "  joined again: {told}")?;

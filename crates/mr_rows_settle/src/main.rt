@@ -56,15 +56,24 @@ fn join_all<R: Print + AllocGlobal, K: OneValue>(rt: &R) -> Result<()> {
         phone: Author::try_new(1)?,
     };
     let mut world: World<K> = ends::world(rt.alloc(), &cast)?;
-    scenes::first_sync(rt.alloc(), &mut world, &cast)?;
-    joined::tell_joined(rt, "a first sync", &world, &cast)?;
-    scenes::cut_and_resumed(rt.alloc(), &mut world, &cast)?;
-    joined::tell_joined(rt, "cut and resumed", &world, &cast)?;
-    scenes::push_out(rt.alloc(), &mut world, &cast)?;
-    joined::tell_joined(rt, "a push-out", &world, &cast)?;
-    scenes::vouch_and_release(&mut world, &cast)?;
-    joined::tell_joined(rt, "vouched and released", &world, &cast)?;
-    scenes::retirement(&mut world, &cast)?;
-    joined::tell_joined(rt, "retired", &world, &cast)?;
+    join_scenes(rt, &mut world, &cast)?;
     strays::tell_strays(rt, &world, &cast)
+}
+
+/// Joins the logs behind each scene.
+fn join_scenes<R: Print + AllocGlobal, K: OneValue>(
+    rt: &R,
+    world: &mut World<K>,
+    cast: &Cast,
+) -> Result<()> {
+    scenes::first_sync(rt.alloc(), world, cast)?;
+    joined::tell_joined(rt, "a first sync", world, cast)?;
+    scenes::cut_and_resumed(rt.alloc(), world, cast)?;
+    joined::tell_joined(rt, "cut and resumed", world, cast)?;
+    scenes::push_out(rt.alloc(), world, cast)?;
+    joined::tell_joined(rt, "a push-out", world, cast)?;
+    scenes::vouch_and_release(world, cast)?;
+    joined::tell_joined(rt, "vouched and released", world, cast)?;
+    scenes::retirement(world, cast)?;
+    joined::tell_joined(rt, "retired", world, cast)
 }

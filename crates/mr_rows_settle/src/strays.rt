@@ -1,8 +1,8 @@
 //! Logs that nobody explains, and no logs.
 use crate::Cast;
-use crate::ends::{EVENT_LIMIT, ends, message};
+use crate::ends::{EVENT_LIMIT, ends, message, only};
 use crate::joined::join;
-use anyhow::{Context, Result};
+use anyhow::{Context, Result, bail};
 use mr_filter::Filter;
 use mr_forms::{Knowledge, OneValue};
 use mr_replica::{Event, Replica};
@@ -19,66 +19,103 @@ pub fn tell_strays<R: Print + AllocGlobal, K: OneValue>(
     world: &World<K>,
     cast: &Cast,
 ) -> Result<()> {
-    let alloc = rt.alloc();
+    tell_start::<R, K>(rt, cast)?;
+    tell_release(rt, world, cast)?;
+    tell_twice(rt, world, cast)?;
+    tell_none::<R, K>(rt)
+}
+
+/// Prints what comes of a phone's log with a record that nobody gave.
+fn tell_start<R: Print + AllocGlobal, K: OneValue>(rt: &R, cast: &Cast) -> Result<()> {
     println!(rt; "a record that nobody gave")?;
-    tell_alone(rt, phone_with_start::<K>(alloc, cast)?)?;
+    let mut phone: Replica<K> = phone(rt.alloc(), cast)?;
+    take_start(rt.alloc(), &mut phone)?;
+    tell_alone(rt, phone)
+}
+
+/// Prints what comes of a phone's log with a receipt that nobody gave.
+fn tell_release<R: Print + AllocGlobal, K: OneValue>(
+    rt: &R,
+    world: &World<K>,
+    cast: &Cast,
+) -> Result<()> {
     println!(rt; "a receipt that nobody gave")?;
-    tell_alone(rt, phone_with_release(alloc, world, cast)?)?;
-    println!(rt; "one id twice")?;
-    let mut twice = ends(alloc, world, cast)?;
-    twice.extend(ends(alloc, world, cast)?)?;
-    join(rt, &twice)?;
-    println!(rt; "no ends")?;
-    let none: Vec<Replica<K>> = Vec::new(alloc);
-    tell_empty(rt, join(rt, &none)?)
+    let mut phone: Replica<K> = phone(rt.alloc(), cast)?;
+    release(rt.alloc(), &mut phone, world)?;
+    tell_alone(rt, phone)
 }
 
 /// Prints what comes of one end.
 fn tell_alone<R: Print + AllocGlobal, K: OneValue>(rt: &R, end: Replica<K>) -> Result<()> {
-    let ends = vec![in rt.alloc(); end]?;
-    if join(rt, &ends)?.is_some() {
+    let ends = only(rt.alloc(), end)?;
+    tell_whether_joined(rt, &ends)
+}
+
+/// Prints that these are joined, or why they aren't.
+fn tell_whether_joined<R: Print + AllocGlobal, K: OneValue>(
+    rt: &R,
+    ends: &[Replica<K>],
+) -> Result<()> {
+    let joined = join(rt, ends)?.is_some();
+    if joined {
         println!(rt; "  joined")?;
     }
     Ok(())
 }
 
+/// Prints what comes of the ends of the world, each twice.
+fn tell_twice<R: Print + AllocGlobal, K: OneValue>(
+    rt: &R,
+    world: &World<K>,
+    cast: &Cast,
+) -> Result<()> {
+    println!(rt; "one id twice")?;
+    let mut twice = ends(rt.alloc(), world, cast)?;
+    twice.extend(ends(rt.alloc(), world, cast)?)?;
+    tell_whether_joined(rt, &twice)
+}
+
+/// Prints what comes of no ends.
+fn tell_none<R: Print + AllocGlobal, K: OneValue>(rt: &R) -> Result<()> {
+    println!(rt; "no ends")?;
+    let none: Vec<Replica<K>> = Vec::new(rt.alloc());
+    let joined = join(rt, &none)?;
+    tell_empty(rt, &joined)
+}
+
 /// Prints whether the world is empty.
 fn tell_empty<R: Print + AllocGlobal, K: Knowledge>(
     rt: &R,
-    joined: Option<World<K>>,
+    joined: &Option<World<K>>,
 ) -> Result<()> {
-    let world = joined.context("no ends have no world")?;
-    let told = if world.answers().is_empty() {
-        "an empty world"
-    } else {
-        "a history"
+    let told = match joined {
+        Some(world) if world.answers().is_empty() => "an empty world",
+        Some(_) => "a history",
+        None => "no world",
     };
     println!(rt; "  {told}")?;
     Ok(())
 }
 
-/// The phone, after it asked and took that Start.
-fn phone_with_start<K: Knowledge>(alloc: Global, cast: &Cast) -> Result<Replica<K>> {
-    let mut phone = phone(alloc, cast)?;
+/// The phone asks, and takes that Start.
+fn take_start<K: Knowledge>(alloc: Global, phone: &mut Replica<K>) -> Result<()> {
+    let start = frame(alloc, &hex::decode(alloc, START)?)?;
     phone.step(Event::Pull)?;
-    phone.step(Event::Receive(frame(alloc, &hex::decode(alloc, START)?)?))?;
-    Ok(phone)
+    phone.step(Event::Receive(start))?;
+    Ok(())
 }
 
-/// The phone, after it issued a message that it doesn't keep, and released it by the office's receipt, the first of
-/// the world.
-fn phone_with_release<K: Knowledge>(
-    alloc: Global,
-    world: &World<K>,
-    cast: &Cast,
-) -> Result<Replica<K>> {
-    let mut phone = phone(alloc, cast)?;
+/// The phone issues a message that it doesn't keep, and releases it by the office's receipt, the first of the world.
+fn release<K: Knowledge>(alloc: Global, phone: &mut Replica<K>, world: &World<K>) -> Result<()> {
     phone.step(Event::Create(message(alloc, "work")?))?;
     let bytes = world.receipt(1).context("no receipt was given")?;
-    if let Frame::Receipt(receipt) = frame(alloc, bytes)? {
-        phone.step(Event::Release(receipt))?;
+    match frame(alloc, bytes)? {
+        Frame::Receipt(receipt) => {
+            phone.step(Event::Release(receipt))?;
+            Ok(())
+        }
+        _ => bail!("the receipt is none"),
     }
-    Ok(phone)
 }
 
 /// A phone to which nothing has happened.

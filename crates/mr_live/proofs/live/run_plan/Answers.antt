@@ -1,9 +1,9 @@
 use Rattle.std.proofs.Common.{rules, inl, inr, refl}
-use Rattle.mr_live.proofs.Ids.{nodes_apart}
+use Rattle.mr_live.proofs.Runnable.{both_run}
 use Rattle.mr_live.proofs.live.run_plan.Goals as goal
 
 pub meet-requires : goal.meet-requires
-meet-requires g c = (search rules, (search rules, (search rules, (search rules, nodes_apart c.args.plan c.in-Ok.nodes c.requires.apart c.in-Ok.ensures.nodes))))
+meet-requires g c = (search rules, (search rules, (search rules, (search rules, both_run c.args.plan c.in-Ok.nodes c.requires.can_run c.in-Ok.ensures.nodes))))
 
 pub returns-in-Ok : goal.returns-in-Ok
 returns-in-Ok g c = inl (c.in-Ok.nodes, c.in-Ok.ensures.nodes, c.meet.ensures)

@@ -20,5 +20,5 @@ loop-number-preserved g c =
       },
       IfSome_then _ c.loop-number.invariant.1 (λ script came.
           came_further script _ _ _ _ came c.take_line.new.plan c.take_line.new.source.taken c.take_line.new.source.left next),
-      c.in_ok-is_line.ensures.apart c.loop-number.invariant.2,
+      c.in_ok-is_line.ensures.can_run c.loop-number.invariant.2,
     )

@@ -1,7 +1,7 @@
 use Rattle.std.proofs.Common.{ℕ, ◌+◌, ◌≤◌, Option, List, IfSome}
 use Rattle.mr_script.specs.Script.{Accounts}
 use Rattle.mr_script.specs.declared.source.TheConstants.{MAX_SCRIPT_BYTES}
-use Rattle.mr_live.specs.Plan.{AreApart}
+use Rattle.mr_live.specs.Plan.{CanAllRun}
 use Rattle.mr_live.proofs.ReadLemmas.{CameTo}
 use Rattle.mr_live.proofs.source.read_plan.Given as goal
 
@@ -16,4 +16,4 @@ invariant-loop-number g l =
     IsReadSoFar (g.R.Read.remaining l.fn.reader) l.source.left l.source.taken l.number
     × IfSome (g.R.Read.remaining l.fn.reader) (λ script.
     CameTo script l.plan l.number l.source.taken l.source.left)
-    × AreApart l.plan.specs
+    × CanAllRun l.plan.specs

@@ -1,6 +1,6 @@
 use Rattle.std.proofs.lemmas.Option.{IfSome_then}
-use Rattle.mr_live.proofs.Apart.{line_apart}
 use Rattle.mr_live.proofs.ReadLemmas.{asks_fault, asks_none, asks_at_fault, asks_more}
+use Rattle.mr_live.proofs.Runnable.{line_run}
 use Rattle.mr_live.proofs.source.take_line.Goals as goal
 
 pub returns-in-Ok-clause-asks : goal.returns-in-Ok-clause-asks
@@ -28,8 +28,8 @@ returns-in-Err-clause-asks g c =
     rw c.source_fault.ensures (IfSome_then _ c.in-Err.ensures.line (λ bytes taken.
     asks_fault c.args.plan.now c.args.number c.args.source.now.taken bytes c.next_line.new.line.items c.next_line.new.self.left c.next_line.new.self.taken c.in-Err.fault c.requires.within taken))
 
-pub returns-in-Ok-clause-apart : goal.returns-in-Ok-clause-apart
-returns-in-Ok-clause-apart g c = λ apart. line_apart c.args.plan.now c.line.new.self _ _ apart c.in-Ok.ensures
+pub returns-in-Ok-clause-can_run : goal.returns-in-Ok-clause-can_run
+returns-in-Ok-clause-can_run g c = λ can. line_run c.args.plan.now c.line.new.self _ _ can c.in-Ok.ensures
 
-pub returns-in-Err-line-clause-apart : goal.returns-in-Err-line-clause-apart
-returns-in-Err-line-clause-apart g c = λ apart. line_apart c.args.plan.now c.line.new.self _ _ apart c.in-Err-line.ensures
+pub returns-in-Err-line-clause-can_run : goal.returns-in-Err-line-clause-can_run
+returns-in-Err-line-clause-can_run g c = λ can. line_run c.args.plan.now c.line.new.self _ _ can c.in-Err-line.ensures
