@@ -9,3 +9,4 @@ pub mod CopyLemmas
 pub mod RetainLemmas
 pub mod GapLemmas
 pub mod PassLemmas
+pub mod LeavingLemmas

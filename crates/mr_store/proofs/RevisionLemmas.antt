@@ -279,3 +279,22 @@ is_some-slice_get (r ∷ rs) (suc i) within = is_some-slice_get rs i (omega arit
 pub found_holds : (rs : List Rev) (v : Name) (found : Result ℕ ℕ) → IfOk found (IsFoundAt version_of v rs) → IfErr found (IsGapFor version_of v rs) → is_ok found ≡ holds rs v
 found_holds rs v (Ok i) there absent = sym (is_some-slice_get rs i there.within) ∙ sym (ap is_some there.is)
 found_holds rs v (Err i) there absent = sym (ap is_some absent.none)
+
+none_of_both : (b : Bool) → (b && false) ≡ false
+none_of_both true = refl
+none_of_both false = refl
+
+-- where no version is below, nothing leaves
+pub left_by_none : (item : Name) (below : Versions) (rs : List Rev) → ((v : Name) → below v ≡ false) → rs ≡ left_by item below rs
+left_by_none item below [] none = refl
+left_by_none item below (r ∷ rs) none = rw (none r.version, none_of_both (is_of item r)) (ap (λ ss. r ∷ ss) (left_by_none item below rs none))
+
+-- and nothing is superseded
+pub supersedes_none : (item : Name) (below : Versions) (rs : List Rev) → ((v : Name) → below v ≡ false) → [] ≡ filter (supersedes item below) rs
+supersedes_none item below [] none = refl
+supersedes_none item below (r ∷ rs) none = rw (none r.version, none_of_both (is_of item r)) (supersedes_none item below rs none)
+
+-- where no version is listed, all stay
+pub unlisted_stay : (vs : List Name) (p : Name → Bool) (rs : List Rev) → vs ≡ [] → rs ≡ filter (λ r. not (is_listed vs r.version && p r.version)) rs
+unlisted_stay [] p rs none = filter-all rs
+unlisted_stay (v ∷ vs) p rs none = cc

@@ -1,5 +1,5 @@
 //! The index of a list of revisions: the versions of each item.
-ghost use Rattle.std.specs.Prelude.{◌≡◌, ◌<◌, ◌≤◌, IsSome, if◌then◌else◌, Some, IfOk, OnOk, not, filter, length, take_while, vec_len, vec_capacity};
+ghost use Rattle.std.specs.Prelude.{◌≡◌, ◌<◌, ◌≤◌, if◌then◌else◌, Some, None, IfOk, OnOk, not, filter, length, take_while, vec_len, vec_capacity};
 ghost use Rattle.std.specs.BTreeMap.{get};
 ghost use Rattle.std.specs.List.Sorted.{IsStrictlySortedBy};
 ghost use Rattle.mr_version.specs.Name.{Name, name_cmp, name_eq};
@@ -62,33 +62,24 @@ pub fn make_room(
     ensures same { (i : Name) → listed_for index.new i ≡ listed_for index.old i }
     ensures ok { OnOk result (HasRoomFor (Some item) index.new) }
 {
-    enlist(index, alloc, item)?;
-    grow(index, item)
+    match index.get_mut(&item) {
+        Some(versions) => versions.reserve_exact(1),
+        None => enlist(index, alloc, item),
+    }
 }
 
-// Gives the item a list, which is empty if it is new.
+// Gives the item, which has no list, an empty one with room for one version.
 fn enlist(
     index: &mut BTreeMap<ItemId, Vec<Version>>,
     alloc: Global,
     item: ItemId,
 ) -> Result<(), AllocError>
+    requires { get name_cmp index.old item ≡ None }
     ensures same { (i : Name) → listed_for index.new i ≡ listed_for index.old i }
-    ensures ok { OnOk result (IsSome (get name_cmp index.new item)) }
+    ensures ok { OnOk result (HasRoomFor (Some item) index.new) }
 {
-    if !index.contains_key(&item) {
-        index.insert(item, Vec::new(alloc))?;
-    }
-    Ok(())
-}
-
-// Makes room in the item's list.
-fn grow(index: &mut BTreeMap<ItemId, Vec<Version>>, item: ItemId) -> Result<(), AllocError>
-    ensures same { (i : Name) → listed_for index.new i ≡ listed_for index.old i }
-    ensures ok { OnOk result (IsSome (get name_cmp index.old item) → HasRoomFor (Some item) index.new) }
-{
-    if let Some(versions) = index.get_mut(&item) {
-        versions.reserve(1)?;
-    }
+    let versions = Vec::with_capacity(alloc, 1)?;
+    index.insert(item, versions)?;
     Ok(())
 }
 
@@ -99,21 +90,6 @@ pub fn list(index: &mut BTreeMap<ItemId, Vec<Version>>, item: ItemId, version: V
 {
     if let Some(versions) = index.get_mut(&item) {
         put_version(versions, version);
-    }
-}
-
-/// Lists no version of the item that leaves.
-pub fn unlist(
-    index: &mut BTreeMap<ItemId, Vec<Version>>,
-    item: ItemId,
-    ones: &[Version],
-    below: &ConciseVector,
-)
-    ensures others { (i : Name) → listed_for index.new i ≡ (if name_eq item i then filter (λ v. not (leaves ones.now below.now v)) (listed_for index.old i) else listed_for index.old i) }
-    ensures room { (i : Name) → HasRoomFor (Some i) index.old → HasRoomFor (Some i) index.new }
-{
-    if let Some(versions) = index.get_mut(&item) {
-        retain_others(versions, ones, below);
     }
 }
 
@@ -157,8 +133,8 @@ fn place_of(versions: &[Version], version: Version) -> usize
     versions.iter().take_while(|v| **v < version).count()
 }
 
-// Keeps the versions that stay.
-fn retain_others(versions: &mut Vec<Version>, ones: &[Version], below: &ConciseVector)
+/// Keeps the versions that stay.
+pub fn retain_others(versions: &mut Vec<Version>, ones: &[Version], below: &ConciseVector)
     ensures others { versions.new.items ≡ filter (λ v. not (leaves ones.now below.now v)) versions.old.items }
     ensures fewer { vec_len versions.new ≤ vec_len versions.old }
     ensures capacity { vec_capacity versions.new ≡ vec_capacity versions.old }

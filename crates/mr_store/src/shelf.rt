@@ -2,9 +2,11 @@
 ghost use Rattle.std.specs.Prelude.{◌≡◌, ◌<◌, ◌≤◌, ◌&&◌, if◌then◌else◌, not, [], Some, None, IfOk, OnOk, OnErr, filter};
 ghost use Rattle.std.specs.List.{list_any};
 ghost use Rattle.std.specs.Option.{option_copied};
+ghost use Rattle.mr_version.specs.Name.{Name, name_eq};
 ghost use Rattle.mr_forms.specs.Sets.{is_listed};
 ghost use Rattle.mr_concise.specs.Vector.{vector_has};
 ghost use Rattle.mr_madewith.specs.Keyed.{without};
+ghost use Rattle.mr_store.specs.Index.{listed_for, HasRoomFor};
 ghost use Rattle.mr_store.specs.Leaving.{leaves};
 ghost use Rattle.mr_store.specs.Revisions.{AreInVersionOrder, version_of, revision_of, holds, entered, versions_of, supersedes, left_by, AreConflicts};
 ghost use Rattle.mr_store.specs.Unheld.{is_unheld};
@@ -12,9 +14,9 @@ ghost use Rattle.mr_store.specs.Unheld.{is_unheld};
 use crate::by_version::{has_version, search};
 use crate::gap_vector::GapVector;
 use crate::index::{
-    copied, items_with_several, list, listed_for, make_room, unlist, unlist_versions,
+    copied, items_with_several, list, listed_for, make_room, retain_others, unlist_versions,
 };
-use crate::leaving::{leaves, some_leave};
+use crate::leaving::{leaves, none_leave, some_leave};
 use crate::unheld::unheld_of;
 use mr_concise::ConciseVector;
 use mr_forms::{Fragment, VersionSet};
@@ -94,7 +96,8 @@ impl Shelf {
     }
 
     /// The revisions that a version of the item with this `below` supersedes, in version order. It
-    /// costs a search for each version of the item.
+    /// costs a search for each version of the item, and nothing where nothing is below.
+    #[tactic(auto, using(crate::proofs::RevisionLemmas::supersedes_none))]
     pub fn superseded(
         &self,
         item: ItemId,
@@ -103,6 +106,9 @@ impl Shelf {
         ensures { IfOk result (λ left. left.items ≡ filter (supersedes item (vector_has below.now)) self.now.revisions) }
     {
         let mut left = Vec::new(self.alloc);
+        if none_leave(&[], below) {
+            return Ok(left);
+        }
         for version in self.versions_of(item) {
             if let Some(revision) = self.revision_below(below, *version) {
                 left.push(revision.copy()?)?;
@@ -166,17 +172,15 @@ impl Shelf {
     }
 
     /// The revisions of the item leave whose version is one of these, or below. It costs a look-up for each
-    /// version of the item, and a shift for each revision that leaves.
+    /// version of the item, and a shift for each revision that leaves; nothing where nothing can leave.
+    #[tactic(auto, using(crate::proofs::RevisionLemmas::left_by_none))]
     pub fn remove_leaving(&mut self, item: ItemId, ones: &[Version], below: &ConciseVector)
         ensures { self.new ≡ record { revisions = left_by item (leaves ones.now below.now) self.old.revisions; room = self.old.room } }
     {
-        remove_listed(
-            &mut self.revisions,
-            listed_for(&self.index, item),
-            ones,
-            below,
-        );
-        unlist(&mut self.index, item, ones, below);
+        if none_leave(ones, below) {
+            return;
+        }
+        let_leave(&mut self.revisions, &mut self.index, item, ones, below);
     }
 
     /// The revisions leave that are of the version of one of these, which stand in version order. Where there are
@@ -215,6 +219,30 @@ fn remove(revisions: &mut GapVector, version: Version)
 {
     if let Ok(place) = search(revisions.as_slice(), version) {
         revisions.remove(place);
+    }
+}
+
+// Takes out those versions of the item that leave. It costs one look-up.
+fn let_leave(
+    revisions: &mut GapVector,
+    index: &mut BTreeMap<ItemId, Vec<Version>>,
+    item: ItemId,
+    ones: &[Version],
+    below: &ConciseVector,
+)
+    requires { AreInVersionOrder revisions.old.items }
+    ensures items { revisions.new.items ≡ filter (λ r. not (is_listed (listed_for index.old item) r.version && leaves ones.now below.now r.version)) revisions.old.items }
+    ensures in_order { AreInVersionOrder revisions.new.items }
+    ensures spare { revisions.old.spare ≤ revisions.new.spare }
+    ensures others { (i : Name) → listed_for index.new i ≡ (if name_eq item i then filter (λ v. not (leaves ones.now below.now v)) (listed_for index.old i) else listed_for index.old i) }
+    ensures room { (i : Name) → HasRoomFor (Some i) index.old → HasRoomFor (Some i) index.new }
+{
+    match index.get_mut(&item) {
+        Some(versions) => {
+            remove_listed(revisions, versions, ones, below);
+            retain_others(versions, ones, below);
+        }
+        None => {}
     }
 }
 

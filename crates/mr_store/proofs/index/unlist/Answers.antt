@@ -1,9 +1,0 @@
-use Rattle.std.proofs.Common.{arith, sym, ap, is_some}
-use Rattle.mr_store.proofs.IndexLemmas.{has_room-kept}
-use Rattle.mr_store.proofs.index.unlist.Goals as goal
-
-pub returns-in-Some-clause-room : goal.returns-in-Some-clause-room
-returns-in-Some-clause-room c =
-    has_room-kept c.args.index.now (c.get_mut.follows.lender c.retain_others.new.versions) c.args.item c.in-Some.versions.now c.retain_others.new.versions
-    ((c.get_mut.follows.holds c.retain_others.new.versions).3 (ap is_some (sym c.in-Some.ensures.value))).0 (sym c.in-Some.ensures.value)
-    (λ room. omega (arith, c.retain_others.ensures.fewer, c.retain_others.ensures.capacity))
