@@ -12,13 +12,14 @@ use crate::fault::MessageFault;
 use crate::flags::Flags;
 use crate::label::{Label, MAX_LABELS, are_texts_of_labels, into_labels, sort_once};
 use std::alloc::{AllocError, Global};
+use std::fmt::{self, Debug, Formatter, Write};
 use std::marker::Model;
 use std::sync::Arc;
 
 /// The parts of a message, once for all of its owners.
 ///
 /// Its body, its sender and its subject stand in one piece of memory, in this order, which has no room for more.
-#[derive(Debug, Drop)]
+#[derive(Drop)]
 struct Parts {
     text: Vec<u8>,
     body_end: u32,
@@ -59,6 +60,18 @@ impl Parts {
         ensures { result.now ≡ self.now.body }
     {
         &self.text[..self.body_end as usize]
+    }
+}
+
+/// A message prints its sender and its subject as texts.
+impl Debug for Parts {
+    fn fmt<W: Write>(&self, f: &mut Formatter<W>) -> fmt::Result {
+        f.debug_struct("Parts")
+            .field("from", &self.from())
+            .field("subject", &self.subject())
+            .field("body", &self.body())
+            .field("card", &self.card)
+            .finish()
     }
 }
 
