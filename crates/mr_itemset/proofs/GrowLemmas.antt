@@ -1,9 +1,10 @@
 use Rattle.std.proofs.Common.{◌≡◌, ◌<◌, ◌⊎◌, ℕ, zero, suc, Bool, true, false, ◌||◌, List, [], ◌∷◌, ◌++◌, length, get_or, All, Contains, refl, ap, sym, ◌∙◌, arith, inl, inr}
 use Rattle.std.proofs.Math.ListN.{length-append}
+use Rattle.std.proofs.lemmas.Bool.{false≢true, or_right}
 use Rattle.std.proofs.lemmas.List.Elements.{All-push, All-contains, Contains-push, Contains-push_cases, Contains-append_left}
 use Rattle.std.proofs.lemmas.List.Quantifiers.{all_pairs_push}
 use Rattle.mr_version.specs.Name.{Name}
-use Rattle.mr_forms.specs.Sets.{Versions, IsSame, both}
+use Rattle.mr_forms.specs.Sets.{Versions, IsSame, Covers, both}
 use Rattle.mr_forms.specs.Known.{AreSame}
 use Rattle.mr_concise.specs.declared.vector.AuthorColumn.{AuthorColumn}
 use Rattle.mr_concise.specs.Vector.{vector_has, IsVectorFrom}
@@ -11,6 +12,7 @@ use Rattle.mr_itemset.specs.declared.knowledge.Listed.{Listed}
 use Rattle.mr_itemset.specs.Normal.{Normal, IsBefore, HasMore, IsNormal, vector_in, normal_known}
 use Rattle.mr_itemset.specs.ItemForm.{with_all}
 use Rattle.mr_itemset.specs.Growth.{HasGained, GainsListed, IsGrown}
+use Rattle.mr_itemset.specs.Lacking.{Lacks}
 use Rattle.mr_itemset.proofs.NormalLemmas.{vector_in-has, vector_in-cases}
 
 -- an item is put at the end with its grown vector
@@ -27,6 +29,28 @@ gains_pushed set all x old vector before vector_ok has covers more = record {
     cases : (y : Listed) → Contains old y ⊎ (record { item = x.item; vector = vector } ≡ y) → Contains old y ⊎ HasGained set x y
     cases y (inl there) = inl there
     cases y (inr e) = inr (record { item = ap (λ (z : Listed). z.item) (sym e); vector = λ v. ap (λ (z : Listed). vector_has z.vector v) (sym e) ∙ has v })
+
+-- where all items have what is added and what the item has, it is not listed
+pub gains_nothing : (set : Versions) (all : List AuthorColumn) (x : Listed) (old : List Listed) → Covers (vector_has all) set → Covers (vector_has all) (vector_has x.vector) → ((v : Name) → vector_has all v ≡ true → both set (vector_has x.vector) v ≡ true) → GainsListed set all x old old
+gains_nothing set all x old added mine covers = record {
+  rising = λ rising. rising;
+  more = λ each. each;
+  few = omega arith;
+  items = λ y there. inl there;
+  stays = λ y there. there;
+  gains = inr (λ v. same (vector_has all v) (set v) (vector_has x.vector v) (covers v) (added v) (mine v));
+}
+  where
+    same : (a s y : Bool) → (a ≡ true → (s || y) ≡ true) → (s ≡ true → a ≡ true) → (y ≡ true → a ≡ true) → a ≡ (s || y)
+    same true s y has from_set from_mine = sym (has refl)
+    same false true y has from_set from_mine = from_set refl
+    same false false true has from_set from_mine = from_mine refl
+    same false false false has from_set from_mine = refl
+
+-- what all items lack of an item they lack of it with the set too
+pub lacks_grown : (set : Versions) (all vector : List AuthorColumn) (x : Listed) → Lacks (vector_has all) (vector_has x.vector) → IsSame (vector_has vector) (both set (vector_has x.vector)) → IsSame (vector_has vector) (vector_has all) → ⊥
+lacks_grown set all vector x lacks has same =
+    false≢true (sym lacks.is_out ∙ sym (same lacks.version) ∙ has lacks.version ∙ or_right (set lacks.version) (vector_has x.vector lacks.version) lacks.is_in)
 
 -- one item more has grown
 pub grown_more : (set : Versions) (all : List AuthorColumn) (old new next : List Listed) (x : Listed) → IsGrown set all old new → GainsListed set all x new next → IsGrown set all (old ++ x ∷ []) next

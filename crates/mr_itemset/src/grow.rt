@@ -1,6 +1,6 @@
 ghost use Rattle.std.specs.Prelude.{◌≡◌, ◌≤◌, ◌+◌, true, [], ◌∷◌, ◌++◌, All, AllPairs, OnOk, OnErr, IfOk, Err, take, length};
 ghost use Rattle.mr_version.specs.Name.{Name};
-ghost use Rattle.mr_forms.specs.Sets.{IsSame, both};
+ghost use Rattle.mr_forms.specs.Sets.{IsSame, Covers, both};
 ghost use Rattle.mr_forms.specs.Known.{AreSame};
 ghost use Rattle.mr_concise.specs.Vector.{vector_has, IsVectorFrom};
 ghost use Rattle.mr_itemset.specs.Normal.{normal_known, IsNormal, IsBefore, HasMore};
@@ -10,13 +10,15 @@ ghost use Rattle.mr_itemset.specs.Growth.{IsGrown, GainsListed};
 
 use crate::item::put_in;
 use crate::knowledge::Listed;
+use crate::limits::lacks;
 use crate::settled::{Settled, Vectors};
 use mr_concise::{ConciseVector, Source};
 use mr_version::ItemId;
 use std::alloc::{AllocError, Global};
 use std::collections::BTreeMap;
 
-/// Lists the item with all that is known of it and the added versions, unless all items have just that.
+/// Lists the item with all that is known of it and the added versions, unless all items have just that. Where they
+/// have, it costs a search in what all items have for each run of the item's vector, and nothing is copied.
 fn push_grown<A: Source>(
     listed: &mut Vectors,
     alloc: Global,
@@ -25,17 +27,17 @@ fn push_grown<A: Source>(
     vector: &ConciseVector,
     added: &A,
 ) -> Result<(), AllocError>
-    requires all { IsVectorFrom 0 all.now }
     requires before { All (λ y. IsBefore y (listed_as item vector.now)) (listed_of listed.old.entries) }
     requires covers { (v : Name) → vector_has all.now v ≡ true → both (A.has added.now) (vector_has vector.now) v ≡ true }
+    requires added { Covers (vector_has all.now) (A.has added.now) }
     ensures { OnOk result (GainsListed (A.has added.now) all.now (listed_as item vector.now) (listed_of listed.old.entries) (listed_of listed.new.entries)) }
 {
+    if !lacks(all, vector) {
+        return Ok(());
+    }
     let Ok(vector) = ConciseVector::gather(alloc, &(added, vector)) else {
         return Err(AllocError);
     };
-    if vector == *all {
-        return Ok(());
-    }
     put_in(listed, Listed { item, vector })?;
     Ok(())
 }
@@ -43,7 +45,6 @@ fn push_grown<A: Source>(
 impl<const LIMIT: usize> Settled<LIMIT> {
     /// The listed items, with the added versions, of which more is known than of all.
     fn grown_listed<A: Source>(&self, all: &ConciseVector, added: &A) -> Result<Vectors, AllocError>
-        requires vector { IsVectorFrom 0 all.now }
         requires has { IsSame (vector_has all.now) (both (A.has added.now) (vector_has self.now.all)) }
         ensures { IfOk result (λ listed. IsGrown (A.has added.now) all.now self.now.listed (listed_of listed.entries)) }
     {

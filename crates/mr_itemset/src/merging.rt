@@ -66,8 +66,10 @@ impl<const LIMIT: usize> ItemsUpTo<LIMIT> {
     ///
     /// It costs a copy of each listed vector, for each item that a fragment lists a search and a copy of its
     /// vector, and for each fragment of all items a walk through its vector and, where all items lack something
-    /// of it, through what waits of its authors. So the listed vectors are copied once, however many fragments
-    /// are of all items; once more for a fragment only where a limit may be near.
+    /// of it, through what waits of its authors. Then what waits is settled: a search for each run of each listed
+    /// vector and, of an item of which more stays known than of all, a walk along what all items have. So the
+    /// listed vectors are copied once and settled once, however many fragments are of all items; once more for a
+    /// fragment only where a limit may be near.
     pub fn with_fragments<S: VersionSet>(
         &self,
         fragments: &[Fragment<S>],
@@ -79,13 +81,15 @@ impl<const LIMIT: usize> ItemsUpTo<LIMIT> {
         ensures memory { IsErrOf result FormFault.OutOfMemory → FirstHasValue (items_form LIMIT) (after_each S.has (normal_known self.now) fragments.now) }
     {
         self.may_merge_first(fragments)?;
-        let Ok(folded) = self.folded() else {
+        let Ok(mut knowledge) = self.copy_parts() else {
             return Err(FormFault::OutOfMemory);
         };
-        let mut knowledge = ItemsUpTo::of(folded);
         for fragment in fragments {
             knowledge.take_in(fragment)?;
         }
-        Ok(knowledge)
+        let Ok(folded) = knowledge.folded() else {
+            return Err(FormFault::OutOfMemory);
+        };
+        Ok(ItemsUpTo::of(folded))
     }
 }

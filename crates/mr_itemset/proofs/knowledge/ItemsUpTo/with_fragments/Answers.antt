@@ -5,7 +5,7 @@ use Rattle.mr_forms.specs.declared.fragment.Fragment.{Fragment}
 use Rattle.mr_forms.specs.Known.{AreSame, HasValue}
 use Rattle.mr_forms.specs.Merged.{after_each, AreOverHolesInTurn, AreOverItemsInTurn}
 use Rattle.mr_forms.proofs.MergedLemmas.{after_all, after_all-same, merged_next, fits_next, holes_there, items_there, split_at, take_next}
-use Rattle.mr_itemset.specs.Normal.{normal_known}
+use Rattle.mr_itemset.specs.Normal.{Normal, normal_known}
 use Rattle.mr_itemset.specs.ItemForm.{items_form}
 use Rattle.mr_forms.specs.declared.fault.FormFault.TheVariants as fault
 use Rattle.mr_itemset.proofs.MergingLemmas.{one_fault}
@@ -50,13 +50,14 @@ loop-fragment-preserved g c =
           (fits_next (items_form g.row.LIMIT) has known c.loop-fragment.knowledge (take k fs) f c.loop-fragment.invariant.is c.take_in.result c.loop-fragment.invariant.fits c.take_in.ensures.holes c.take_in.ensures.items c.in_ok-take_in.was);
     }
 
--- all fragments are merged
+-- all fragments are merged, and what waits is settled
 pub returns-clause-ok : goal.returns-clause-ok
 returns-clause-ok g c i v =
     let has = g.S.VersionSet.has in
     let known = normal_known c.args.self.now in
     let all = take_all c.loop-fragment.fragment-index c.args.fragments.now (omega (arith, c.loop-fragment-test.false)) in
-    c.loop-fragment.invariant.is i v ∙ ap (λ (gs : List (Fragment g.row.S.Denot)). after_all has known gs i v) all ∙ after_all-same has known c.args.fragments.now i v
+    ap (λ (k : Normal). normal_known k i v) (c.of.ensures ∙ c.in-Ok-folded.ensures)
+    ∙ c.loop-fragment.invariant.is i v ∙ ap (λ (gs : List (Fragment g.row.S.Denot)). after_all has known gs i v) all ∙ after_all-same has known c.args.fragments.now i v
 
 pub returns-clause-value : goal.returns-clause-value
 returns-clause-value g c =
