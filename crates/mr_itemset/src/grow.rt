@@ -2,7 +2,7 @@ ghost use Rattle.std.specs.Prelude.{◌≡◌, ◌≤◌, ◌+◌, true, [], ◌
 ghost use Rattle.mr_version.specs.Name.{Name};
 ghost use Rattle.mr_forms.specs.Sets.{IsSame, Covers, both};
 ghost use Rattle.mr_forms.specs.Known.{AreSame};
-ghost use Rattle.mr_concise.specs.Vector.{vector_has, IsVectorFrom};
+ghost use Rattle.mr_concise.specs.Vector.{vector_has};
 ghost use Rattle.mr_itemset.specs.Normal.{normal_known, IsNormal, IsBefore, HasMore};
 ghost use Rattle.mr_itemset.specs.ItemForm.{with_all};
 ghost use Rattle.mr_itemset.specs.Entries.{listed_as, listed_of};

@@ -142,7 +142,7 @@ impl SparingKnowledge {
         ensures { result ≡ spreads self.now item version (S.has below.now) }
     {
         let first = item.creator();
-        if below.contains(first) && self.items.goes_to_all(first) && comes_next(first, version) {
+        if comes_next(first, version) && below.contains(first) && self.items.goes_to_all(first) {
             return true;
         }
         self.items.goes_to_all(version)
@@ -153,7 +153,7 @@ impl SparingKnowledge {
         ensures { result ≡ (goes_to_all self.now item && S.has below.now item) }
     {
         let first = item.creator();
-        self.items.goes_to_all(first) && below.contains(first)
+        below.contains(first) && self.items.goes_to_all(first)
     }
 
     /// The fault that `learn_with` would answer where memory is there. It allocates nothing. It costs a
