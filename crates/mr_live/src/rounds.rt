@@ -14,9 +14,10 @@ use mr_link::{LaneLink, OpenGate, lane_link};
 use mr_node::{Answer, LinkTurns, NodeFault, NodeParts, NodeReplies, Turn, run_node};
 use mr_replica::{Event, Replica};
 use std::alloc::{AllocError, Global};
+use std::snapshot::Snapshot;
 use std::sync::Wait;
 use std::thread;
-use std::thread::Threads;
+use std::thread::{Promise, PromisedHandle, Scope, Threads};
 
 /// How many pieces may wait in each direction of a link.
 const LINK_PIECES: usize = 16;
@@ -72,33 +73,119 @@ fn run_both<K: Knowledge<Vector: Send> + Send, R: Threads + Wait + Sync + Send +
     let Ok((first_links, second_links)) = crossing_links(rt, alloc) else {
         return None;
     };
-    let (first, first_places) = first;
-    let (second, second_places) = second;
-    let (first, second) = thread::join(
+    let first = ready_node(first, first_links);
+    let second = ready_node(second, second_links);
+    thread::scope(
+        thread::scope_env(),
         rt,
-        move || -> Option<Replica<K>>
+        |scope| -> Option<(Replica<K>, Replica<K>)>
             requires threads { IsSend K.row × IsSend R.row × IsSync R.row }
-            requires links { AreNew first_links }
-            requires places { ArePlaces first_places }
-            ensures { IfSome result (λ new. RanFrom K.form first [] first_links new) }
-        { run(rt, alloc, first, Vec::new(alloc), first_links, first_places) },
-        move || -> Option<Replica<K>>
-            requires threads { IsSend K.row × IsSend R.row × IsSync R.row }
-            requires links { AreNew second_links }
-            requires places { ArePlaces second_places }
-            ensures { IfSome result (λ new. RanFrom K.form second [] second_links new) }
-        {
-            run(
-                rt,
-                alloc,
-                second,
-                Vec::new(alloc),
-                second_links,
-                second_places,
-            )
-        },
-    );
-    both(first, second)
+            requires links { Cross first.links second.links }
+            requires places { ArePlaces first.places × ArePlaces second.places }
+            ensures { IfSome result (λ ended. RanBoth K.form (first.replica, second.replica) ended) }
+        { run_in_scope(rt, scope, alloc, first, second) },
+    )
+}
+
+/// A node that is ready for the second round: its replica, its links, and the places of its lanes.
+#[derive(Drop)]
+struct ReadyNode<K: Knowledge, R> {
+    replica: Replica<K>,
+    links: Links<R>,
+    places: usize,
+}
+
+/// A replica and the places of its node's lanes, with its links.
+fn ready_node<K: Knowledge, R>(node: (Replica<K>, usize), links: Links<R>) -> ReadyNode<K, R>
+    ensures { (result.replica ≡ node.0) × ((result.places ≡ node.1) × (result.links ≡ links)) }
+{
+    let (replica, places) = node;
+    ReadyNode {
+        replica,
+        links,
+        places,
+    }
+}
+
+/// What the thread of a node owes.
+#[derive(Drop)]
+struct OwesReplica<K: Knowledge, R> {
+    node: Snapshot<ReadyNode<K, R>>,
+}
+
+impl<K: Knowledge, R> Promise<Option<Replica<K>>> for OwesReplica<K, R> {
+    ghost kept_by = { λ p r. IfSome r (λ new. RanFrom K.form p.node.value.replica [] p.node.value.links new) };
+}
+
+/// The thread of a node.
+type NodeThread<K, R> = PromisedHandle<Option<Replica<K>>, OwesReplica<K, R>>;
+
+/// Runs the first node in a thread of this scope, and the second in the caller's. `None` also where the thread can't be
+/// made: then neither runs, since each would wait for the other.
+fn run_in_scope<
+    's,
+    Z,
+    K: Knowledge<Vector: Send> + Send + 's,
+    R: Threads + Wait + Sync + Send + Copy + 's,
+>(
+    rt: &'s R,
+    scope: &Scope<'s, Z>,
+    alloc: Global,
+    first: ReadyNode<K, R>,
+    second: ReadyNode<K, R>,
+) -> Option<(Replica<K>, Replica<K>)>
+    requires links { Cross first.links second.links }
+    requires places { ArePlaces first.places × ArePlaces second.places }
+    ensures { IfSome result (λ ended. RanBoth K.form (first.replica, second.replica) ended) }
+{
+    let first = start_node(rt, scope, alloc, first)?;
+    let second = run_ready(rt, alloc, second);
+    both(first.join(rt), second)
+}
+
+/// Starts the thread of a node. `None` where it can't be made, and then the node doesn't run.
+fn start_node<
+    's,
+    Z,
+    K: Knowledge<Vector: Send> + Send + 's,
+    R: Threads + Wait + Sync + Send + Copy + 's,
+>(rt: &'s R, scope: &Scope<'s, Z>, alloc: Global, node: ReadyNode<K, R>) -> Option<NodeThread<K, R>>
+    requires links { AreNew node.links }
+    requires places { ArePlaces node.places }
+    ensures { IfSome result (λ handle. handle.promise.node.value ≡ node) }
+{
+    let owes = OwesReplica {
+        node: Snapshot::of(&node),
+    };
+    scope
+        .spawn_with(
+            owes,
+            move || -> Option<Replica<K>>
+                requires threads { IsSend K.row × IsSend R.row × IsSync R.row }
+                requires links { AreNew node.links }
+                requires places { ArePlaces node.places }
+                ensures { IfSome result (λ new. RanFrom K.form node.replica [] node.links new) }
+            { run_ready(rt, alloc, node) },
+        )
+        .ok()
+}
+
+/// Runs a node whose user asks nothing more.
+fn run_ready<K: Knowledge<Vector: Send> + Send, R: Threads + Wait + Sync + Send + Copy>(
+    rt: &R,
+    alloc: Global,
+    node: ReadyNode<K, R>,
+) -> Option<Replica<K>>
+    requires links { AreNew node.links }
+    requires places { ArePlaces node.places }
+    ensures { IfSome result (λ new. RanFrom K.form node.replica [] node.links new) }
+{
+    let ReadyNode {
+        replica,
+        links,
+        places,
+    } = node;
+    run(rt, alloc, replica, Vec::new(alloc), links, places)
 }
 
 /// Both, where both are there.
