@@ -1,8 +1,8 @@
 //! Links that do something strange as two nodes pull from each other, and the log that comes of it.
 //!
 //! The first node has made two messages, and the second one. The first asks, and takes the three records of the second's
-//! stream: a start, `1.1`, and an end. Then it takes the second's request, and sends the five records of its own stream,
-//! which is full: a start, `0.1`, what it holds, what it knows of all items, and an end. That is ten calls.
+//! stream: a start, `1.1`, and an end. Then it takes the second's request, and sends the seven records of its own stream,
+//! which is full: a start, `0.1`, what it holds, what it knows of each of three items, and an end. That is twelve calls.
 use crate::strange::Strange;
 
 /// What the ends of a link do strangely, and a log: that of the second node where its end is strange, and else that of the
@@ -16,7 +16,7 @@ pub(crate) struct Case {
 }
 
 /// The first node's end is down, at each of its calls.
-pub(crate) const FIRST_FAILS: [Case; 10] = [
+pub(crate) const FIRST_FAILS: [Case; 12] = [
     Case {
         first: Strange::Down(0),
         second: Strange::Never,
@@ -65,12 +65,22 @@ pub(crate) const FIRST_FAILS: [Case; 10] = [
     Case {
         first: Strange::Down(9),
         second: Strange::Never,
-        log: "CCPRRRANNNNN",
+        log: "CCPRRRANNNNNO",
+    },
+    Case {
+        first: Strange::Down(10),
+        second: Strange::Never,
+        log: "CCPRRRANNNNNNO",
+    },
+    Case {
+        first: Strange::Down(11),
+        second: Strange::Never,
+        log: "CCPRRRANNNNNNN",
     },
 ];
 
 /// The second node's end is down, at each of its calls.
-pub(crate) const SECOND_FAILS: [Case; 10] = [
+pub(crate) const SECOND_FAILS: [Case; 12] = [
     Case {
         first: Strange::Never,
         second: Strange::Down(0),
@@ -120,6 +130,16 @@ pub(crate) const SECOND_FAILS: [Case; 10] = [
         first: Strange::Never,
         second: Strange::Down(9),
         log: "CANNNPRRRRI",
+    },
+    Case {
+        first: Strange::Never,
+        second: Strange::Down(10),
+        log: "CANNNPRRRRRI",
+    },
+    Case {
+        first: Strange::Never,
+        second: Strange::Down(11),
+        log: "CANNNPRRRRRRI",
     },
 ];
 

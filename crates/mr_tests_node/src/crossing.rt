@@ -1,9 +1,7 @@
 //! A node that pulls over both links at once, and capacities.
 use crate::gates::Crossing;
-use crate::parts::{
-    Fault, Outfit, Parts, Plan, Side, idle, orders_of, outfit_over, parts_of, run, run_over,
-};
-use crate::samples::{Device, count_open, held_text, with_mail};
+use crate::parts::{Fault, Outfit, Parts, Side, idle, outfit_for, run, run_over};
+use crate::samples::{Plain, count_open, creates, held_text, with_mail};
 use crate::strange::Strange;
 use mr_link::{OpenGate, lane_link};
 use mr_node::NodeFault;
@@ -15,41 +13,32 @@ use std::test::Fail;
 use std::thread;
 use std::thread::Threads;
 
-/// A side whose user asks for these events, and whose link takes these turns.
-fn side<'a>(events: &'a str, turns: &'a str) -> Side<'a> {
+/// A side that only takes this turn.
+fn side(turns: &str) -> Side<'_> {
     Side {
-        events,
+        events: "",
         turns,
         strange: Strange::Never,
     }
 }
 
-/// A node that serves, and what one needs that pulls from it.
-#[derive(Drop)]
-struct Served<C, P> {
-    server: Parts<C, P>,
-    pull: Outfit<P>,
+/// The parts of a node that serves over this link.
+fn server<R: Wait + Copy>(alloc: Global, replica: Plain, outfit: Outfit<R>) -> Parts<R> {
+    Parts {
+        replica,
+        events: outfit.events,
+        first: outfit.plan,
+        second: idle(alloc),
+    }
 }
 
-/// A node that pulls from two others.
-#[derive(Drop)]
-struct Three<C, P> {
-    puller: Parts<C, P>,
-    first: Parts<C, P>,
-    second: Parts<C, P>,
-}
-
-/// The parts of a node whose second link is that of the second outfit.
-fn puller<C, P: Drop>(replica: C, first: Outfit<P>, second: Outfit<P>) -> Parts<C, P> {
-    parts_of(replica, first, second.plan)
-}
-
-/// A node that pulls from these two.
-fn three_of<C, P: Drop>(replica: C, first: Served<C, P>, second: Served<C, P>) -> Three<C, P> {
-    Three {
-        puller: puller(replica, first.pull, second.pull),
-        first: first.server,
-        second: second.server,
+/// The parts of a node that pulls over these.
+fn puller<R: Wait + Copy>(replica: Plain, first: Outfit<R>, second: Outfit<R>) -> Parts<R> {
+    Parts {
+        replica,
+        events: first.events,
+        first: first.plan,
+        second: second.plan,
     }
 }
 
@@ -57,13 +46,10 @@ fn three_of<C, P: Drop>(replica: C, first: Served<C, P>, second: Served<C, P>) -
 fn run_three<R: Threads + Wait + Sync + Send + Copy>(
     rt: &R,
     alloc: Global,
-    three: Three<Device, Plan<R>>,
-) -> Option<Device> {
-    let Three {
-        puller,
-        first,
-        second,
-    } = three;
+    puller: Parts<R>,
+    first: Parts<R>,
+    second: Parts<R>,
+) -> Option<Plain> {
     let crossing = Crossing {
         first: AtomicU64::new(0),
         second: AtomicU64::new(0),
@@ -83,35 +69,28 @@ fn run_three<R: Threads + Wait + Sync + Send + Copy>(
     pulled
 }
 
-/// A node of this id that serves.
-fn serving<R: Wait + Copy>(
-    rt: &R,
-    alloc: Global,
-    id: u16,
-) -> Result<Served<Device, Plan<R>>, Fail> {
-    let pull = orders_of(alloc, side("", "P"))?;
-    let serve = orders_of(alloc, side("", "S"))?;
-    let replica = with_mail(alloc, id, "ii")?;
+/// Two nodes that serve, and the ends of their links for one that pulls.
+fn served<R: Wait + Copy>(rt: &R, alloc: Global, id: u16) -> Result<(Parts<R>, Outfit<R>), Fail> {
     let (here, there) = lane_link(*rt, alloc, 16)?;
-    Ok(Served {
-        server: parts_of(replica, outfit_over(serve, there), idle(alloc)),
-        pull: outfit_over(pull, here),
-    })
+    let pull = outfit_for(alloc, side("P"), here)?;
+    let serve = outfit_for(alloc, side("S"), there)?;
+    let parts = server(alloc, with_mail(alloc, id, "ii")?, serve);
+    Ok((parts, pull))
 }
 
 /// A node that pulls over both links.
 fn pulled<R: Threads + Wait + Sync + Send + Copy>(
     rt: &R,
     alloc: Global,
-) -> Result<Option<Device>, Fail> {
-    let replica = with_mail(alloc, 0, "")?;
-    let first = serving(rt, alloc, 1)?;
-    let second = serving(rt, alloc, 2)?;
-    Ok(run_three(rt, alloc, three_of(replica, first, second)))
+) -> Result<Option<Plain>, Fail> {
+    let (first_server, first) = served(rt, alloc, 1)?;
+    let (second_server, second) = served(rt, alloc, 2)?;
+    let puller = puller(with_mail(alloc, 0, "")?, first, second);
+    Ok(run_three(rt, alloc, puller, first_server, second_server))
 }
 
 /// How much of a replica is open, how long its log is, and what it holds.
-fn shown(alloc: Global, replica: &Device) -> Result<String, Fail> {
+fn shown(alloc: Global, replica: &Plain) -> Result<String, Fail> {
     let open = count_open(replica)?;
     let count = replica.log().len();
     let held = held_text(alloc, replica)?;
@@ -119,11 +98,11 @@ fn shown(alloc: Global, replica: &Device) -> Result<String, Fail> {
 }
 
 /// Fails unless the node came to an end with nothing open, and has all that both others have.
-fn expect_crossed(alloc: Global, end: &Option<Device>) -> Result<(), Fail> {
+fn expect_crossed(alloc: Global, end: &Option<Plain>) -> Result<(), Fail> {
     match end {
         Some(replica) => {
             let shown = shown(alloc, replica)?;
-            expect(shown, "open 0 log 14 heads 1.1 1.2 2.1 2.2 push-outs ")
+            expect(shown, "open 0 log 16 heads 1.1 1.2 2.1 2.2 push-outs ")
         }
         None => Err(Fail::new(format_args!("no end"))),
     }
@@ -136,16 +115,17 @@ fn two_links_cross(rt: HostRuntime) -> Result<(), Fail> {
 }
 
 /// The parts of a node with a message, one letter, and two turns and one.
-fn some_parts<R: Wait + Copy>(rt: &R, alloc: Global) -> Result<Parts<Device, Plan<R>>, Fail> {
-    let first = orders_of(alloc, side("i", "PS"))?;
-    let second = orders_of(alloc, side("", "S"))?;
-    let replica = with_mail(alloc, 0, "i")?;
+fn some_parts<R: Wait + Copy>(rt: &R, alloc: Global) -> Result<Parts<R>, Fail> {
     let (here, there) = lane_link(*rt, alloc, 1)?;
-    Ok(puller(
-        replica,
-        outfit_over(first, here),
-        outfit_over(second, there),
-    ))
+    let first = outfit_for(alloc, side("PS"), here)?;
+    let second = outfit_for(alloc, side("S"), there)?;
+    let events = creates(alloc, "i")?;
+    Ok(Parts {
+        replica: with_mail(alloc, 0, "i")?,
+        events,
+        first: first.plan,
+        second: second.plan,
+    })
 }
 
 /// The number of a fault, and how much it hands back: of the log, of the letters, and of the turns of both links.
@@ -170,15 +150,9 @@ fn refused<R: Threads + Wait + Sync + Send + Copy>(
     capacity: usize,
 ) -> Result<String, Fail> {
     let parts = some_parts(rt, alloc)?;
-    let fault = run_over(rt, alloc, parts, &OpenGate, capacity).err();
-    refusal_text(alloc, &fault)
-}
-
-/// The same of a fault, if there is one.
-fn refusal_text<R>(alloc: Global, fault: &Option<Fault<R>>) -> Result<String, Fail> {
-    match fault {
-        Some(fault) => fault_text(alloc, fault),
-        None => Err(Fail::new(format_args!("no fault"))),
+    match run_over(rt, alloc, parts, &OpenGate, capacity) {
+        Ok(_) => Err(Fail::new(format_args!("no fault"))),
+        Err(fault) => fault_text(alloc, &fault),
     }
 }
 

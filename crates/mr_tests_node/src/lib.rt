@@ -2,7 +2,7 @@
 //!
 //! They are of what no clause says: that the calls find memory and come to an end, that nodes which are joined by links
 //! come to the same in whatever order their threads get their turns, and that a link which fails anywhere leaves nothing
-//! open and can be made good by a second one; and that the logs of what they come to join.
+//! open and can be made good by a second one.
 #![tactic(auto)]
 
 #[cfg(test)]
@@ -11,8 +11,6 @@ mod cases;
 mod crossing;
 #[cfg(test)]
 mod gates;
-#[cfg(test)]
-mod joining;
 #[cfg(test)]
 mod links;
 #[cfg(test)]

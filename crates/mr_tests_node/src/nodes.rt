@@ -18,7 +18,7 @@ const ROW: &str = "heads 0.1 0.2 1.1 push-outs heads 0.1 push-outs 1.1 ";
 const RELEASED: &str = "heads 0.1 0.2 1.1 push-outs heads 0.1 push-outs ";
 
 /// Each node's user makes its messages.
-pub(crate) fn prepare<R: Threads + Wait + Sync + Send + Copy>(
+fn prepare<R: Threads + Wait + Sync + Send + Copy>(
     rt: &R,
     alloc: Global,
     pair: &mut Pair,
@@ -137,7 +137,7 @@ fn receipt<R: Threads + Wait + Sync + Send + Copy>(
 }
 
 /// Fails unless these nodes come to the row, and let a push-out go for a receipt.
-pub(crate) fn expect_row<R: Threads + Wait + Sync + Send + Copy>(
+fn expect_row<R: Threads + Wait + Sync + Send + Copy>(
     rt: &R,
     alloc: Global,
     pair: &mut Pair,
@@ -151,8 +151,14 @@ pub(crate) fn expect_row<R: Threads + Wait + Sync + Send + Copy>(
     expect(held(alloc, pair)?, ROW)?;
     receipt(rt, alloc, pair)?;
     expect(held(alloc, pair)?, RELEASED)?;
-    expect(log_of(alloc, &pair.first)?, "CCPRRRANNNNNV")?;
-    expect(log_of(alloc, &pair.second)?, "CANNNPRRRRRL")
+    expect(log_of(alloc, &pair.first)?, "CCPRRRANNNNNNNV")?;
+    expect(log_of(alloc, &pair.second)?, "CANNNPRRRRRRRL")
+}
+
+#[test]
+fn two_nodes_come_to_the_row(rt: HostRuntime) -> Result<(), Fail> {
+    let mut pair = Pair::new(rt.alloc())?;
+    expect_row(&rt, rt.alloc(), &mut pair)
 }
 
 #[test]

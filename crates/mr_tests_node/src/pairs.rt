@@ -1,6 +1,6 @@
 //! Two nodes that are joined by a link, and meet several times.
-use crate::parts::{Outfit, Plan, Side, idle, orders_of, outfit_over, parts_of, run};
-use crate::samples::{Device, count_open, held_text, log_text, replica};
+use crate::parts::{Outfit, Parts, Side, idle, outfit_for, run};
+use crate::samples::{Plain, count_open, held_text, log_text, replica};
 use mr_link::{Gate, lane_link};
 use std::alloc::Global;
 use std::sync::Wait;
@@ -11,8 +11,8 @@ use std::thread::Threads;
 /// The replicas of two nodes between their runs. One whose run came to nothing is gone.
 #[derive(Drop)]
 pub(crate) struct Pair {
-    pub first: Option<Device>,
-    pub second: Option<Device>,
+    pub first: Option<Plain>,
+    pub second: Option<Plain>,
 }
 
 impl Pair {
@@ -25,16 +25,26 @@ impl Pair {
     }
 }
 
+/// The parts of a node over one link.
+fn parts<R: Wait + Copy>(alloc: Global, replica: Plain, outfit: Outfit<R>) -> Parts<R> {
+    Parts {
+        replica,
+        events: outfit.events,
+        first: outfit.plan,
+        second: idle(alloc),
+    }
+}
+
 /// Runs one of them over its link.
 fn run_one<G: Gate + Sync, R: Threads + Wait + Sync + Send + Copy>(
     rt: &R,
     alloc: Global,
-    replica: Option<Device>,
-    outfit: Outfit<Plan<R>>,
+    replica: Option<Plain>,
+    outfit: Outfit<R>,
     gate: &G,
-) -> Option<Device> {
+) -> Option<Plain> {
     match replica {
-        Some(replica) => run(rt, alloc, parts_of(replica, outfit, idle(alloc)), gate),
+        Some(replica) => run(rt, alloc, parts(alloc, replica, outfit), gate),
         None => None,
     }
 }
@@ -44,8 +54,8 @@ fn run_both<G: Gate + Sync, R: Threads + Wait + Sync + Send + Copy>(
     rt: &R,
     alloc: Global,
     pair: &mut Pair,
-    first: Outfit<Plan<R>>,
-    second: Outfit<Plan<R>>,
+    first: Outfit<R>,
+    second: Outfit<R>,
     gate: &G,
 ) {
     let one = pair.first.take();
@@ -68,17 +78,15 @@ pub(crate) fn meet<G: Gate + Sync, R: Threads + Wait + Sync + Send + Copy>(
     second: Side<'_>,
     gate: &G,
 ) -> Result<(), Fail> {
-    let first = orders_of(alloc, first)?;
-    let second = orders_of(alloc, second)?;
     let (here, there) = lane_link(*rt, alloc, 16)?;
-    let first = outfit_over(first, here);
-    let second = outfit_over(second, there);
+    let first = outfit_for(alloc, first, here)?;
+    let second = outfit_for(alloc, second, there)?;
     run_both(rt, alloc, pair, first, second, gate);
     Ok(())
 }
 
 /// The replica of a node that came to an end.
-fn came(replica: &Option<Device>) -> Result<&Device, Fail> {
+fn came(replica: &Option<Plain>) -> Result<&Plain, Fail> {
     match replica {
         Some(replica) => Ok(replica),
         None => Err(Fail::new(format_args!("a node came to nothing"))),
@@ -93,7 +101,7 @@ pub(crate) fn held(alloc: Global, pair: &Pair) -> Result<String, Fail> {
 }
 
 /// The log of one of them.
-pub(crate) fn log_of(alloc: Global, replica: &Option<Device>) -> Result<String, Fail> {
+pub(crate) fn log_of(alloc: Global, replica: &Option<Plain>) -> Result<String, Fail> {
     log_text(alloc, came(replica)?.log())
 }
 

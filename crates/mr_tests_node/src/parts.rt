@@ -1,7 +1,7 @@
 //! The parts of nodes, and a run of one.
 ghost use Rattle.std.specs.Prelude.{◌≡◌};
 
-use crate::samples::{Device, events};
+use crate::samples::{Plain, creates};
 use crate::strange::{Strange, StrangeLink};
 use mr_link::{Gate, LaneLink};
 use mr_node::{LinkTurns, NodeEnd, NodeFault, NodeParts, Turn, run_node};
@@ -20,16 +20,16 @@ pub(crate) struct Plan<R> {
     pub turns: Vec<Turn>,
 }
 
-/// The parts of a node over two links to come.
+/// The parts of a node over two such links.
 #[derive(Drop)]
-pub(crate) struct Parts<C, P> {
-    pub replica: C,
+pub(crate) struct Parts<R> {
+    pub replica: Plain,
     pub events: Vec<Event>,
-    pub first: P,
-    pub second: P,
+    pub first: Plan<R>,
+    pub second: Plan<R>,
 }
 
-/// What a node does: a character for each event of its user, as `events` reads them, a character for each turn of its
+/// What a node does: a character for each Create of its user, as `creates` reads them, a character for each turn of its
 /// link, and what the link does strangely.
 #[derive(Clone, Copy, Debug)]
 pub(crate) struct Side<'a> {
@@ -38,19 +38,11 @@ pub(crate) struct Side<'a> {
     pub strange: Strange,
 }
 
-/// What a node's user asks, and what a link of its does.
+/// What a node's user asks, and one of its links.
 #[derive(Drop)]
-pub(crate) struct Orders {
+pub(crate) struct Outfit<R> {
     pub events: Vec<Event>,
-    pub turns: Vec<Turn>,
-    pub strange: Strange,
-}
-
-/// What a node's user asks, and one of its links to come.
-#[derive(Drop)]
-pub(crate) struct Outfit<P> {
-    pub events: Vec<Event>,
-    pub plan: P,
+    pub plan: Plan<R>,
 }
 
 /// The turn of this character: a Pull, a Serve, a Grant of a receipt for `1.1`, a Redeem of one receipt.
@@ -76,35 +68,20 @@ pub(crate) fn turns(alloc: Global, initials: &str) -> Result<Vec<Turn>, Fail> {
     Ok(turns)
 }
 
-/// What this side's user asks, and its link does.
-pub(crate) fn orders_of(alloc: Global, side: Side<'_>) -> Result<Orders, Fail> {
-    Ok(Orders {
-        events: events(alloc, side.events)?,
-        turns: turns(alloc, side.turns)?,
+/// What this side needs for a run over this lane.
+pub(crate) fn outfit_for<R: Wait + Copy>(
+    alloc: Global,
+    side: Side<'_>,
+    lane: LaneLink<R>,
+) -> Result<Outfit<R>, Fail> {
+    let events = creates(alloc, side.events)?;
+    let turns = turns(alloc, side.turns)?;
+    let plan = Plan {
+        lane: Some(lane),
         strange: side.strange,
-    })
-}
-
-/// What is needed to follow these over this lane.
-pub(crate) fn outfit_over<R>(orders: Orders, lane: LaneLink<R>) -> Outfit<Plan<R>> {
-    Outfit {
-        events: orders.events,
-        plan: Plan {
-            lane: Some(lane),
-            strange: orders.strange,
-            turns: orders.turns,
-        },
-    }
-}
-
-/// The parts of a node over that link and this one.
-pub(crate) fn parts_of<C, P>(replica: C, outfit: Outfit<P>, second: P) -> Parts<C, P> {
-    Parts {
-        replica,
-        events: outfit.events,
-        first: outfit.plan,
-        second,
-    }
+        turns,
+    };
+    Ok(Outfit { events, plan })
 }
 
 /// A link that has no turn, and is down.
@@ -127,51 +104,36 @@ fn link_turns<R: Wait + Copy>(plan: Plan<R>) -> LinkTurns<StrangeLink<R>>
 }
 
 /// What a node comes to, with its links.
-pub(crate) type Ran<R> = (NodeEnd<Device>, StrangeLink<R>, StrangeLink<R>);
+pub(crate) type Ran<R> = (NodeEnd<Plain>, StrangeLink<R>, StrangeLink<R>);
 
 /// Why it comes to nothing.
-pub(crate) type Fault<R> = NodeFault<Device, StrangeLink<R>, StrangeLink<R>>;
-
-/// The same parts with new links.
-fn node_parts<C, R: Wait + Copy>(
-    parts: Parts<C, Plan<R>>,
-) -> NodeParts<C, StrangeLink<R>, StrangeLink<R>>
-    ensures first { result.first_link.link.downs ≡ 0 }
-    ensures second { result.second_link.link.downs ≡ 0 }
-{
-    NodeParts {
-        replica: parts.replica,
-        events: parts.events,
-        first_link: link_turns(parts.first),
-        second_link: link_turns(parts.second),
-    }
-}
+pub(crate) type Fault<R> = NodeFault<Plain, StrangeLink<R>, StrangeLink<R>>;
 
 /// Runs a node over lanes of so many places.
 pub(crate) fn run_over<G: Gate + Sync, R: Threads + Wait + Sync + Send + Copy>(
     rt: &R,
     alloc: Global,
-    parts: Parts<Device, Plan<R>>,
+    parts: Parts<R>,
     gate: &G,
     capacity: usize,
 ) -> Result<Ran<R>, Fault<R>> {
-    run_node(rt, alloc, node_parts(parts), gate, capacity)
+    let parts = NodeParts {
+        replica: parts.replica,
+        events: parts.events,
+        first_link: link_turns(parts.first),
+        second_link: link_turns(parts.second),
+    };
+    run_node(rt, alloc, parts, gate, capacity)
 }
 
 /// Runs a node: its replica, where it came to an end.
 pub(crate) fn run<G: Gate + Sync, R: Threads + Wait + Sync + Send + Copy>(
     rt: &R,
     alloc: Global,
-    parts: Parts<Device, Plan<R>>,
+    parts: Parts<R>,
     gate: &G,
-) -> Option<Device> {
-    replica_of(run_over(rt, alloc, parts, gate, 4))
-}
-
-/// The replica of a node that came to an end. It is of any kind here: to take apart what owns all that a replica has is
-/// proved in a minute, and this in seconds.
-fn replica_of<C: Drop, L: Drop>(ran: Result<(NodeEnd<C>, L, L), NodeFault<C, L, L>>) -> Option<C> {
-    match ran {
+) -> Option<Plain> {
+    match run_over(rt, alloc, parts, gate, 4) {
         Ok((end, _, _)) => Some(end.replica),
         Err(_) => None,
     }

@@ -14,12 +14,8 @@ pub(crate) enum Strange {
     Down(usize),
     /// What this call receives is received once more.
     Twice(usize),
-    /// Each piece is received twice.
-    EachTwice,
     /// This call receives what should come behind the next piece, and that piece comes after it.
     Swapped(usize),
-    /// In what this call receives, a message has another subject: `Ji` in the place of `Hi`.
-    OtherSubject(usize),
 }
 
 /// A link over lanes of which one call does something strange; or a link that is always down.
@@ -68,16 +64,6 @@ fn send_over<R: Wait + Copy>(
     }
 }
 
-/// The piece, with another subject where it has one.
-fn with_other_subject(mut piece: Vec<u8>) -> Vec<u8> {
-    for byte in &mut piece {
-        if *byte == b'H' {
-            *byte = b'J';
-        }
-    }
-    piece
-}
-
 /// Receives a piece over the lane.
 fn receive_over<R: Wait + Copy>(
     lane: &mut Option<LaneLink<R>>,
@@ -102,10 +88,7 @@ impl<R: Wait + Copy> StrangeLink<R> {
             return Err(LinkFault::LinkDown);
         }
         let piece = receive_over(&mut self.lane, alloc)?;
-        if self.strange == Strange::OtherSubject(call) {
-            return Ok(with_other_subject(piece));
-        }
-        if self.strange == Strange::EachTwice || self.strange == Strange::Twice(call) {
+        if self.strange == Strange::Twice(call) {
             self.kept = Vec::from_slice(alloc, &piece).ok();
         }
         if self.strange == Strange::Swapped(call) {
