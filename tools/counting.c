@@ -7,6 +7,7 @@
 #include <malloc.h>
 #include <stdio.h>
 #include <stdlib.h>
+#include <sys/syscall.h>
 #include <unistd.h>
 
 void *__libc_malloc(size_t);
@@ -78,6 +79,14 @@ __attribute__((destructor)) static void tell(void) {
     int len = snprintf(line, sizeof line, "%lu %lu\n", most_held, calls);
     int file = open(name, O_CREAT | O_TRUNC | O_WRONLY, 0600);
     if (file < 0 || write(file, line, len) != len)
-        _exit(99);
+        syscall(SYS_exit_group, 99);
     close(file);
+}
+
+/* A program with threads ends by this call, which runs no destructors. */
+void _exit(int status) {
+    tell();
+    syscall(SYS_exit_group, status);
+    for (;;)
+        ;
 }

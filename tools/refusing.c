@@ -205,6 +205,14 @@ __attribute__((destructor)) static void end(void) {
     int len = snprintf(line, sizeof line, "%lu\n", reads);
     int file = open(name, O_CREAT | O_TRUNC | O_WRONLY, 0600);
     if (file < 0 || syscall(SYS_write, file, line, len) != len)
-        _exit(99);
+        syscall(SYS_exit_group, 99);
     close(file);
+}
+
+/* A program with threads ends by this call, which runs no destructors. */
+void _exit(int status) {
+    end();
+    syscall(SYS_exit_group, status);
+    for (;;)
+        ;
 }
