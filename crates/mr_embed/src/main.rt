@@ -6,7 +6,7 @@
 //! is bytes.
 //!
 //! `device` has what a replica is asked to do, `wire` how frames come out of bytes, `exchange` the order of the
-//! calls of a sync, `retirement` those of a retirement, `log` how a log is kept as bytes, `shelf` what the user sees,
+//! calls of a sync, `retirement` those of a retirement, `log` how a log is kept as bytes, `screen` what the user sees,
 //! and `bell` when a device rings.
 //! What the program prints, the file `stdout`, was worked out by hand from the rules.
 //!
@@ -28,7 +28,7 @@ mod laws;
 mod log;
 mod mail;
 mod retirement;
-mod shelf;
+mod screen;
 mod teller;
 mod wire;
 
@@ -39,10 +39,10 @@ use laws::cite_laws;
 use mail::Draft;
 use mr_version::Version;
 use retirement::{hand_over, tell_whether_it_retires};
-use shelf::Shelf;
+use screen::Screen;
 use std::alloc::Global;
 use std::process::ExitCode;
-use teller::{tell_break, tell_edit, tell_exchange, tell_heads, tell_shelf, write};
+use teller::{tell_break, tell_edit, tell_exchange, tell_heads, tell_screen, write};
 
 fn main(rt: HostRuntime) -> ExitCode {
     match story(&rt) {
@@ -64,17 +64,17 @@ fn story<R: Print + AllocGlobal>(rt: &R) -> Result<(), Fault> {
 /// The story from where the office is there.
 fn with_phone<R: Print + AllocGlobal>(rt: &R, office: &mut Device) -> Result<(), Fault> {
     let mut phone = Device::new(rt.alloc(), 1, "label:inbox")?;
-    with_shelf(rt, office, &mut phone)
+    with_screen(rt, office, &mut phone)
 }
 
 /// The story from where both devices are there.
-fn with_shelf<R: Print + AllocGlobal>(
+fn with_screen<R: Print + AllocGlobal>(
     rt: &R,
     office: &mut Device,
     phone: &mut Device,
 ) -> Result<(), Fault> {
-    let mut shelf = Shelf::new(rt.alloc())?;
-    play(rt, office, phone, &mut shelf)
+    let mut screen = Screen::new(rt.alloc())?;
+    play(rt, office, phone, &mut screen)
 }
 
 /// Scene by scene.
@@ -82,18 +82,18 @@ fn play<R: Print + AllocGlobal>(
     rt: &R,
     office: &mut Device,
     phone: &mut Device,
-    shelf: &mut Shelf,
+    screen: &mut Screen,
 ) -> Result<(), Fault> {
     cite_laws();
     let lunch = first_mail(rt, office)?;
-    bring_to_phone(rt, phone, office, shelf)?;
-    break_off(rt, phone, office, shelf)?;
-    bring_to_phone(rt, phone, office, shelf)?;
-    let read = read_on_phone(rt, phone, shelf, lunch)?;
+    bring_to_phone(rt, phone, office, screen)?;
+    break_off(rt, phone, office, screen)?;
+    bring_to_phone(rt, phone, office, screen)?;
+    let read = read_on_phone(rt, phone, screen, lunch)?;
     bring_to_office(rt, office, phone)?;
     start_again(rt, office)?;
     keep_aside(rt, office)?;
-    retire_phone(rt, office, phone, shelf, read)
+    retire_phone(rt, office, phone, screen, read)
 }
 
 /// The first mail comes to the office. The phone will want two of the three, and this gives the first of them.
@@ -109,12 +109,12 @@ fn bring_to_phone<R: Print + AllocGlobal>(
     rt: &R,
     phone: &mut Device,
     office: &mut Device,
-    shelf: &mut Shelf,
+    screen: &mut Screen,
 ) -> Result<(), Fault> {
     let exchange = Exchange::begin(rt.alloc(), phone, office)?;
     let records = exchange.finish(phone, office)?;
     tell_exchange(rt, "phone", records)?;
-    tell_shelf(rt, shelf, phone)
+    tell_screen(rt, screen, phone)
 }
 
 /// New mail comes, and the connection breaks while the phone is told of it.
@@ -122,13 +122,13 @@ fn break_off<R: Print + AllocGlobal>(
     rt: &R,
     phone: &mut Device,
     office: &mut Device,
-    shelf: &mut Shelf,
+    screen: &mut Screen,
 ) -> Result<(), Fault> {
     write(rt, office, &Draft::unseen("Train at 8:40", "inbox"))?;
     write(rt, office, &Draft::unseen("Keys", "inbox"))?;
     half_an_exchange(rt.alloc(), phone, office)?;
     tell_break(rt)?;
-    tell_shelf(rt, shelf, phone)
+    tell_screen(rt, screen, phone)
 }
 
 /// The start and one message go over, and a part of the next.
@@ -141,12 +141,12 @@ fn half_an_exchange(alloc: Global, phone: &mut Device, office: &mut Device) -> R
 fn read_on_phone<R: Print + AllocGlobal>(
     rt: &R,
     phone: &mut Device,
-    shelf: &mut Shelf,
+    screen: &mut Screen,
     lunch: Version,
 ) -> Result<Version, Fault> {
     let read = phone.edit(lunch, &Draft::unseen("Lunch on Friday?", "inbox").seen())?;
     tell_edit(rt, lunch, read)?;
-    tell_shelf(rt, shelf, phone)?;
+    tell_screen(rt, screen, phone)?;
     Ok(read)
 }
 
@@ -180,13 +180,13 @@ fn retire_phone<R: Print + AllocGlobal>(
     rt: &R,
     office: &mut Device,
     phone: &mut Device,
-    shelf: &mut Shelf,
+    screen: &mut Screen,
     read: Version,
 ) -> Result<(), Fault> {
     let draft = Draft::unseen("Lunch on Friday?", "inbox").seen();
     let filed = phone.edit(read, &draft.filed("archive"))?;
     tell_edit(rt, read, filed)?;
-    tell_shelf(rt, shelf, phone)?;
+    tell_screen(rt, screen, phone)?;
     tell_whether_it_retires(rt, phone)?;
     bring_to_office(rt, office, phone)?;
     hand_over(rt.alloc(), office, phone, filed)?;

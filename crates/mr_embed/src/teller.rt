@@ -2,7 +2,7 @@
 use crate::device::Device;
 use crate::fault::Fault;
 use crate::mail::Draft;
-use crate::shelf::Shelf;
+use crate::screen::Screen;
 use mr_replica::{Refusal, Revision};
 use mr_version::Version;
 use std::alloc::{AllocError, Global};
@@ -34,15 +34,15 @@ pub fn tell_edit<R: Print>(rt: &R, base: Version, version: Version) -> Result<()
     println!(rt; "phone: {version} replaces {base}").map_err(|_| Fault::Print)
 }
 
-/// Lets the shelf take what is new on the device, and tells what it shows.
-pub fn tell_shelf<R: Print + AllocGlobal>(
+/// Lets the screen take what is new on the device, and tells what it shows.
+pub fn tell_screen<R: Print + AllocGlobal>(
     rt: &R,
-    shelf: &mut Shelf,
+    screen: &mut Screen,
     device: &Device,
 ) -> Result<(), Fault> {
-    let new = shelf.follow(device.feed())?;
-    let inbox = version_list(rt.alloc(), &shelf.inbox()?)?;
-    let unseen = shelf.unseen();
+    let new = screen.follow(device.feed())?;
+    let inbox = version_list(rt.alloc(), &screen.inbox()?)?;
+    let unseen = screen.unseen();
     println!(rt; "phone: its inbox shows{inbox}, {unseen} unseen, {new} new").map_err(
         |_| Fault::Print,
     )

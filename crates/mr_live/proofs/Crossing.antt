@@ -1,6 +1,6 @@
 -- two nodes that pull over each other's links
 use Rattle.mr_link.specs.LaneLink.{LaneEnd, AreJoined}
-use Rattle.mr_live.specs.Rounds.{Links, PullAndServe, Cross, AreNew}
+use Rattle.mr_live.specs.Rounds.{Links, PullAndServe, Cross}
 use Rattle.mr_live.specs.declared.rounds.TheConstants.{LINK_PIECES}
 
 pub crosses : (first_pulls second_serves second_pulls first_serves : LaneEnd) (first second : Links) → AreJoined LINK_PIECES first_pulls second_serves → AreJoined LINK_PIECES second_pulls first_serves → PullAndServe first_pulls first_serves first → PullAndServe second_pulls second_serves second → Cross first second
@@ -10,10 +10,3 @@ crosses first_pulls second_serves second_pulls first_serves first second over ba
   first_pulls = rw (one.first, other.second) over;
   second_pulls = rw (other.first, one.second) back;
 }
-
--- nothing passed over the links of either
-pub first_new : (first second : Links) → Cross first second → AreNew first
-first_new first second h = record { first = h.first_pulls.here_new; second = h.second_pulls.there_new }
-
-pub second_new : (first second : Links) → Cross first second → AreNew second
-second_new first second h = record { first = h.second_pulls.here_new; second = h.first_pulls.there_new }

@@ -9,7 +9,7 @@ use std::alloc::Global;
 
 /// The inbox of a device. It hears of changes by the feed alone, and never looks at the replica.
 #[derive(Drop)]
-pub struct Shelf {
+pub struct Screen {
     inbox: Label,
     indexer: Indexer,
     notifier: Notifier,
@@ -18,10 +18,10 @@ pub struct Shelf {
     taken: usize,
 }
 
-impl Shelf {
-    /// The shelf of a device with no mail.
-    pub fn new(alloc: Global) -> Result<Shelf, Fault> {
-        Ok(Shelf {
+impl Screen {
+    /// The screen of a device with no mail.
+    pub fn new(alloc: Global) -> Result<Screen, Fault> {
+        Ok(Screen {
             inbox: inbox(alloc)?,
             indexer: Indexer::new(alloc),
             notifier: Notifier::new(alloc),
@@ -33,7 +33,7 @@ impl Shelf {
     /// Takes what is new in the feed, and says how many messages are new. Each entry is taken once: a feed only grows,
     /// so the number of entries taken is all that has to be kept.
     ///
-    /// `OutOfMemory` where an entry can't be shown. A part of what is new may be shown then, so that the shelf
+    /// `OutOfMemory` where an entry can't be shown. A part of what is new may be shown then, so that the screen
     /// is of no more use: a new one takes the feed from its first entry on, and its user hears nothing of that.
     pub fn follow(&mut self, feed: &[Entry]) -> Result<u32, Fault> {
         let mut rings: u32 = 0;
