@@ -44,7 +44,7 @@ impl Entry {
         }
     }
 
-    /// An equal entry.
+    /// An equal entry. Its card shares the message's parts, so that it asks for no memory.
     pub fn copy(&self) -> Result<Entry, AllocError>
         ensures { IfOk result (λ entry. entry ≡ self.now) }
     {

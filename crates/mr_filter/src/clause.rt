@@ -7,7 +7,7 @@ ghost use Rattle.mr_filter.specs.Filter.{IsClause, clause_with};
 ghost use Rattle.mr_filter.specs.Meaning.{has_labels, lacks_labels, meets, is_as_wide};
 ghost use Rattle.mr_filter.specs.declared.clause.TheConstants.{MAX_CLAUSE_LABELS};
 
-use mr_mail::{Card, Day, Flags, Label};
+use mr_mail::{Day, Flags, Label, Place};
 use std::alloc::AllocError;
 use std::marker::Model;
 
@@ -120,14 +120,14 @@ impl Clause {
         })
     }
 
-    /// Whether a message with this card meets every condition.
-    pub(crate) fn is_met_by(&self, card: &Card) -> bool
-        ensures { result ≡ meets card.now self.now }
+    /// Whether a message of this place meets every condition.
+    pub(crate) fn is_met_by(&self, place: &Place) -> bool
+        ensures { result ≡ meets place.now self.now }
     {
-        card.day() >= self.since
-            && card.flags().is_superset(self.flags_on)
-            && card.flags().is_disjoint(self.flags_off)
-            && self.admits_labels(card.labels())
+        place.day() >= self.since
+            && place.flags().is_superset(self.flags_on)
+            && place.flags().is_disjoint(self.flags_off)
+            && self.admits_labels(place.labels())
     }
 
     /// Whether these labels, which rise, have each label that is wanted and none that is barred.

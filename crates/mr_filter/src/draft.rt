@@ -141,16 +141,15 @@ fn owned_labels(alloc: Global, texts: &[&str]) -> Result<Vec<Label>, AllocError>
 {
     let mut labels = Vec::with_capacity(alloc, texts.len())?;
     for text in texts {
-        labels.push(label_of(alloc, text)?)?;
+        labels.push(label_of(text))?;
     }
     Ok(labels)
 }
 
 /// The label of this text.
-fn label_of(alloc: Global, text: &str) -> Result<Label, AllocError>
+fn label_of(text: &str) -> Label
     requires { IsTrue (is_label text.now) }
-    ensures { IfOk result (λ label. label ≡ text.now) }
+    ensures { result ≡ text.now }
 {
-    let text = String::from_str(alloc, text)?;
-    Ok(Label::try_new(text).unwrap())
+    Label::read(text).unwrap()
 }

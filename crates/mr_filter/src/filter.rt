@@ -13,7 +13,7 @@ use crate::fault::FilterFault;
 use crate::pieces::{NO_CLAUSE, count_clauses, first_bad};
 use crate::read::{is_crowded, read_clauses};
 use crate::text::filter_text;
-use mr_mail::{Card, Message};
+use mr_mail::{Card, Message, Place};
 use std::alloc::{AllocError, Global};
 use std::marker::Model;
 
@@ -121,14 +121,14 @@ impl Filter {
     pub fn select(&self, message: &Message) -> bool
         ensures { result ≡ selects self.now (card_of message.now) }
     {
-        self.select_card(message.as_card())
+        is_met(self.clauses.as_slice(), message.place())
     }
 
     /// Whether a message with this card meets every condition of some clause.
     pub fn select_card(&self, card: &Card) -> bool
         ensures { result ≡ selects self.now card.now }
     {
-        is_met(self.clauses.as_slice(), card)
+        is_met(self.clauses.as_slice(), card.place())
     }
 
     /// Whether each clause of the other filter has a clause here whose conditions are all among that
@@ -154,11 +154,11 @@ fn copies(alloc: Global, clauses: &[Clause]) -> Result<Vec<Clause>, AllocError>
     Ok(copied)
 }
 
-/// Whether a message with this card meets one of the clauses.
-fn is_met(clauses: &[Clause], card: &Card) -> bool
-    ensures { result ≡ selects clauses.now card.now }
+/// Whether a message of this place meets one of the clauses.
+fn is_met(clauses: &[Clause], place: &Place) -> bool
+    ensures { result ≡ selects clauses.now place.now }
 {
-    clauses.iter().any(|clause| clause.is_met_by(card))
+    clauses.iter().any(|clause| clause.is_met_by(place))
 }
 
 /// Whether one of the clauses is as wide as this one.

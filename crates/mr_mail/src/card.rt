@@ -1,42 +1,55 @@
-//! Cards: what is left of a message where only its place counts.
+//! Cards: what is told of a message where only its place counts.
 ghost use Rattle.std.specs.Prelude.{◌≡◌, ◌<◌, ◌≤◌, IfOk};
+ghost use Rattle.std.specs.Arc.{arc_value};
 ghost use Rattle.mr_mail.specs.Label.{IsLabelSet};
+ghost use Rattle.mr_mail.specs.Mail.{card_of, IsMail};
 
 use crate::day::Day;
 use crate::flags::Flags;
 use crate::label::Label;
-use std::alloc::AllocError;
+use crate::parts::Parts;
+use crate::place::Place;
+use std::alloc::{AllocError, Global};
+use std::fmt::{self, Debug, Formatter, Write};
 use std::marker::Model;
+use std::sync::Arc;
 
 /// A message's labels, flags and day. The labels are in rising order, each once, and at most 16.
-#[derive(Debug, Drop)]
+///
+/// A card takes no memory of its own: it is one more owner of its message's parts, which stay as long as the
+/// message, a copy of it or a card of it is there.
+#[derive(Drop)]
 pub struct Card {
-    labels: Vec<Label>,
-    flags: Flags,
-    day: Day,
+    parts: Arc<Parts, Global>,
 }
 
 impl Model for Card {
-    ghost use Rattle.mr_mail.specs.Mail.{MailCard, card_code, IsCard};
+    ghost use Rattle.std.specs.Arc.{arc_value};
+    ghost use Rattle.mr_mail.specs.Mail.{MailCard, card_code, card_of, IsMail};
 
     ghost Value = { MailCard };
 
     ghost coded = { card_code };
 
-    ghost view = { λ c. record { labels = c.labels.items; flags = c.flags; day = c.day } };
+    ghost view = { λ c. card_of (arc_value c.parts) };
 
-    ghost invariant = { λ c. IsCard (record { labels = c.labels.items; flags = c.flags; day = c.day }) };
+    ghost invariant = { λ c. IsMail (arc_value c.parts) };
 }
 
 impl Card {
-    /// The card with these parts.
-    pub fn new(labels: Vec<Label>, flags: Flags, day: Day) -> Card
-        requires { IsLabelSet labels.items }
-        ensures { result ≡ record { labels = labels.items; flags = flags; day = day } }
+    /// The card of a message of these parts.
+    pub(crate) fn of(parts: Arc<Parts, Global>) -> Card
+        requires { IsMail (arc_value parts) }
+        ensures { result ≡ card_of (arc_value parts) }
     {
-        let _bits = flags.bits();
-        let _days = day.days();
-        Card { labels, flags, day }
+        Card { parts }
+    }
+
+    /// Labels, flags and day together, lent.
+    pub fn place(&self) -> &Place
+        ensures { result.now ≡ self.now }
+    {
+        self.parts.place()
     }
 
     /// The labels, in rising order of their bytes.
@@ -44,7 +57,7 @@ impl Card {
         ensures value { result.now ≡ self.now.labels }
         ensures kept { IsLabelSet self.now.labels }
     {
-        self.labels.as_slice()
+        self.parts.place().labels()
     }
 
     /// The flags.
@@ -52,7 +65,7 @@ impl Card {
         ensures value { result ≡ self.now.flags }
         ensures kept { self.now.flags ≤ 31 }
     {
-        self.flags
+        self.parts.place().flags()
     }
 
     /// The day.
@@ -60,17 +73,26 @@ impl Card {
         ensures value { result ≡ self.now.day }
         ensures kept { self.now.day < 65536 }
     {
-        self.day
+        self.parts.place().day()
     }
 
-    /// An equal card.
+    /// An equal card, which shares the message's parts. It asks for no memory.
     pub fn copy(&self) -> Result<Card, AllocError>
         ensures { IfOk result (λ card. card ≡ self.now) }
     {
         Ok(Card {
-            labels: Label::copy_all(self.labels.allocator().clone()?, self.labels.as_slice())?,
-            flags: self.flags,
-            day: self.day,
+            parts: Arc::try_clone(&self.parts)?,
         })
+    }
+}
+
+/// A card prints its labels, flags and day.
+impl Debug for Card {
+    fn fmt<W: Write>(&self, f: &mut Formatter<W>) -> fmt::Result {
+        f.debug_struct("Card")
+            .field("labels", &self.labels())
+            .field("flags", &self.flags())
+            .field("day", &self.day())
+            .finish()
     }
 }

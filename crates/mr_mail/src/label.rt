@@ -6,6 +6,7 @@ ghost use Rattle.std.specs.Cmp.Lexicographic.{nat_list_eq_equiv, nat_list_cmp_to
 ghost use Rattle.mr_mail.specs.Label.{text_cmp, text_eq, is_label, is_label_byte, texts_of, different_labels, AreLabelsOf};
 
 use crate::fault::MessageFault;
+use arrayvec::ArrayString;
 use std::alloc::{AllocError, Global};
 use std::cmp::Ordering;
 use std::marker::Model;
@@ -17,20 +18,22 @@ pub const MAX_LABEL_BYTES: usize = 32;
 pub const MAX_LABELS: usize = 16;
 
 /// A label: one to 32 bytes of a-z, 0-9 and `-`. Labels are compared by their bytes.
+///
+/// The bytes lie in the value, which has 40 with their number: a label takes no memory of its own.
 #[derive(Debug, Drop)]
 pub struct Label {
-    text: String,
+    text: ArrayString<MAX_LABEL_BYTES>,
 }
 
 impl Model for Label {
-    ghost use Rattle.std.specs.Prelude.{ℕ, List, IsTrue, string_bytes};
+    ghost use Rattle.std.specs.Prelude.{ℕ, List, IsTrue};
     ghost use Rattle.mr_mail.specs.Label.{is_label};
 
     ghost Value = { List ℕ };
 
-    ghost view = { λ l. string_bytes l.text };
+    ghost view = { λ l. l.text.bytes };
 
-    ghost invariant = { λ l. IsTrue (is_label (string_bytes l.text)) };
+    ghost invariant = { λ l. IsTrue (is_label l.text.bytes) };
 }
 
 /// Whether a label may have the byte.
@@ -65,16 +68,26 @@ pub(crate) fn sort_once(texts: &mut Vec<String>)
     texts.dedup();
 }
 
-/// The labels of these texts, in the same order. The texts are moved, and not copied.
+/// The labels of these texts, in the same order. They take one piece of memory.
 pub(crate) fn into_labels(alloc: Global, texts: Vec<String>) -> Result<Vec<Label>, AllocError>
     requires { AllPass is_label (texts_of texts.items) }
     ensures { IfOk result (λ labels. labels.items ≡ texts_of texts.items) }
 {
     let mut labels = Vec::with_capacity(alloc, texts.len())?;
     for text in texts {
-        labels.push(Label { text })?;
+        labels.push(label_of(text.as_str()))?;
     }
     Ok(labels)
+}
+
+/// The label of this text.
+fn label_of(text: &str) -> Label
+    requires { IsTrue (is_label text.now) }
+    ensures { result ≡ text.now }
+{
+    let mut label = ArrayString::new();
+    label.push_str(text);
+    Label { text: label }
 }
 
 impl Label {
@@ -85,14 +98,24 @@ impl Label {
         1 <= text.len() && text.len() <= MAX_LABEL_BYTES && are_bytes_of_label(text.as_bytes())
     }
 
-    /// The label of this text. `BadLabel` if the text is none of a label.
+    /// The label of this text. `BadLabel` if the text is none of a label. It asks for no memory, and gives back that
+    /// of the text.
     pub fn try_new(text: String) -> Result<Label, MessageFault>
         ensures exact { IsOk result ↔ IsTrue (is_label (string_bytes text)) }
         ensures value { IfOk result (λ label. label ≡ string_bytes text) }
         ensures fault { IfErr result (λ fault. fault ≡ MessageFault.BadLabel) }
     {
-        if Label::admits(text.as_str()) {
-            Ok(Label { text })
+        Label::read(text.as_str())
+    }
+
+    /// The label of this text, which is lent. `BadLabel` if the text is none of a label. It asks for no memory.
+    pub fn read(text: &str) -> Result<Label, MessageFault>
+        ensures exact { IsOk result ↔ IsTrue (is_label text.now) }
+        ensures value { IfOk result (λ label. label ≡ text.now) }
+        ensures fault { IfErr result (λ fault. fault ≡ MessageFault.BadLabel) }
+    {
+        if Label::admits(text) {
+            Ok(label_of(text))
         } else {
             Err(MessageFault::BadLabel)
         }
@@ -106,16 +129,14 @@ impl Label {
         self.text.as_str()
     }
 
-    /// An equal label.
+    /// An equal label. It asks for no memory, and never fails.
     pub fn copy(&self) -> Result<Label, AllocError>
         ensures { IfOk result (λ label. label ≡ self.now) }
     {
-        Ok(Label {
-            text: self.text.clone()?,
-        })
+        Ok(Label { text: self.text })
     }
 
-    /// Equal labels, in the same order.
+    /// Equal labels, in the same order. They take one piece of memory.
     pub fn copy_all(alloc: Global, labels: &[Label]) -> Result<Vec<Label>, AllocError>
         ensures { IfOk result (λ copied. copied.items ≡ labels.now) }
     {

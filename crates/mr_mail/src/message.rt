@@ -1,5 +1,5 @@
 //! Messages.
-ghost use Rattle.std.specs.Prelude.{◌≡◌, ◌<◌, ◌≤◌, ◌++◌, ℕ, List, [], Some, IfOk, IfErr, IfSome, IfNone, IsOkUnless, IsUtf8, OnOk, length, string_bytes};
+ghost use Rattle.std.specs.Prelude.{◌≡◌, ◌<◌, ◌≤◌, ℕ, List, [], Some, IfOk, IfErr, IfSome, IfNone, IsOkUnless, OnOk, length, string_bytes};
 ghost use Rattle.std.specs.Result.{result_err};
 ghost use Rattle.mr_mail.specs.Admits.{first_fault};
 ghost use Rattle.mr_mail.specs.Label.{texts_of, AreLabelsOf, IsLabelSet};
@@ -11,86 +11,17 @@ use crate::day::Day;
 use crate::fault::MessageFault;
 use crate::flags::Flags;
 use crate::label::{Label, MAX_LABELS, are_texts_of_labels, into_labels, sort_once};
+use crate::parts::{Parts, parts_of};
+use crate::place::Place;
 use std::alloc::{AllocError, Global};
-use std::fmt::{self, Debug, Formatter, Write};
 use std::marker::Model;
 use std::sync::Arc;
 
-/// The parts of a message, once for all of its owners.
-///
-/// Its body, its sender and its subject stand in one piece of memory, in this order, which has no room for more.
-#[derive(Drop)]
-struct Parts {
-    text: Vec<u8>,
-    body_end: u32,
-    from_end: u32,
-    card: Card,
-}
-
-impl Model for Parts {
-    ghost use Rattle.std.specs.Prelude.{◌≤◌, length, slice_range, IsUtf8};
-    ghost use Rattle.mr_mail.specs.Mail.{Mail, mail_code, mail_with, IsMail};
-
-    ghost Value = { Mail };
-
-    ghost coded = { mail_code };
-
-    ghost view = { λ m. mail_with (slice_range m.text.items m.body_end m.from_end) (slice_range m.text.items m.from_end (length m.text.items)) (slice_range m.text.items 0 m.body_end) m.card };
-
-    ghost invariant = { λ m. IsMail (mail_with (slice_range m.text.items m.body_end m.from_end) (slice_range m.text.items m.from_end (length m.text.items)) (slice_range m.text.items 0 m.body_end) m.card)
-        × (m.body_end ≤ m.from_end) × (m.from_end ≤ length m.text.items)
-        × IsUtf8 (slice_range m.text.items m.body_end m.from_end)
-        × IsUtf8 (slice_range m.text.items m.from_end (length m.text.items)) };
-}
-
-impl Parts {
-    fn from(&self) -> &str
-        ensures { result.now ≡ self.now.from }
-    {
-        text_of(&self.text[self.body_end as usize..self.from_end as usize])
-    }
-
-    fn subject(&self) -> &str
-        ensures { result.now ≡ self.now.subject }
-    {
-        text_of(&self.text[self.from_end as usize..])
-    }
-
-    fn body(&self) -> &[u8]
-        ensures { result.now ≡ self.now.body }
-    {
-        &self.text[..self.body_end as usize]
-    }
-}
-
-/// A message prints its sender and its subject as texts.
-impl Debug for Parts {
-    fn fmt<W: Write>(&self, f: &mut Formatter<W>) -> fmt::Result {
-        f.debug_struct("Parts")
-            .field("from", &self.from())
-            .field("subject", &self.subject())
-            .field("body", &self.body())
-            .field("card", &self.card)
-            .finish()
-    }
-}
-
-/// The text that the bytes are.
-fn text_of(bytes: &[u8]) -> &str
-    requires { IsUtf8 bytes.now }
-    ensures { result.now ≡ bytes.now }
-{
-    match str::from_utf8(bytes) {
-        Ok(text) => text,
-        Err(_) => unreachable!(),
-    }
-}
-
 /// A message: sender, subject, body, labels, flags and day.
 ///
-/// A message never changes, so its copies share its parts: `copy` makes one more owner, and the
+/// A message never changes, so its copies and its cards share its parts: `copy` and `card` make one more owner, and the
 /// memory is given back with the last of them. The sender, the subject and the body take one piece of
-/// memory together, of as many bytes as they have.
+/// memory together, of as many bytes as they have, and the labels another.
 #[derive(Debug, Drop)]
 pub struct Message {
     parts: Arc<Parts, Global>,
@@ -121,7 +52,8 @@ pub const MAX_BODY_BYTES: usize = 65_536;
 impl Message {
     /// The message of these parts. The labels may come in any order and more than once; the message
     /// has each of them once, in rising order of their bytes. The body is moved, and grows by the sender and
-    /// the subject, so that it is copied once unless it has room for them; the labels are moved.
+    /// the subject, so that it is copied once unless it has room for them; the labels are copied
+    /// into one piece of memory, and their texts given back.
     ///
     /// The faults are tried in this order: `FromTooLong` over 254 bytes, `SubjectTooLong` over 998,
     /// `BodyTooLong` over 65,536, `BadLabel` if a label is not one to 32 bytes of a-z, 0-9 and `-`,
@@ -198,26 +130,26 @@ impl Message {
         message_of(alloc, from, subject, room, labels, flags, day)
     }
 
-    /// The message of these texts and this card. The card is moved, and the texts are copied once, into one piece of
+    /// The message of these texts and this place. The place is moved, and the texts are copied once, into one piece of
     /// memory.
     ///
     /// The faults are tried in this order: `FromTooLong` over 254 bytes, `SubjectTooLong` over 998,
     /// `BodyTooLong` over 65,536, and `OutOfMemory` last.
-    pub fn try_of_card(
+    pub fn try_of_place(
         alloc: Global,
         from: &str,
         subject: &str,
         body: &[u8],
-        card: Card,
+        place: Place,
     ) -> Result<Message, MessageFault>
         ensures refused { IfSome (first_fault from.now subject.now body.now [] 0) (λ fault. result ≡ Err fault) }
         ensures admitted { IfNone (first_fault from.now subject.now body.now [] 0) (IsOkUnless result MessageFault.OutOfMemory) }
-        ensures value { IfOk result (λ message. message ≡ mail_with from.now subject.now body.now card) }
+        ensures value { IfOk result (λ message. message ≡ mail_with from.now subject.now body.now place) }
         ensures kept { IfOk result IsMail }
     {
         check_lengths(from, subject, body)?;
         let room = body_with_room(alloc, from, subject, body)?;
-        Ok(packed(alloc, from, subject, room, card)?)
+        Ok(packed(alloc, from, subject, room, place)?)
     }
 
     /// Who sent it, at most 254 bytes.
@@ -249,7 +181,7 @@ impl Message {
         ensures value { result.now ≡ self.now.labels }
         ensures kept { IsMail self.now }
     {
-        self.parts.card.labels()
+        self.parts.place().labels()
     }
 
     /// The flags.
@@ -257,7 +189,7 @@ impl Message {
         ensures value { result ≡ self.now.flags }
         ensures kept { self.now.flags ≤ 31 }
     {
-        self.parts.card.flags()
+        self.parts.place().flags()
     }
 
     /// The day.
@@ -265,24 +197,24 @@ impl Message {
         ensures value { result ≡ self.now.day }
         ensures kept { self.now.day < 65536 }
     {
-        self.parts.card.day()
+        self.parts.place().day()
     }
 
-    /// The message's card, lent.
-    pub fn as_card(&self) -> &Card
+    /// The labels, the flags and the day together, lent.
+    pub fn place(&self) -> &Place
         ensures { result.now ≡ card_of self.now }
     {
-        &self.parts.card
+        self.parts.place()
     }
 
-    /// The message's card, as a value of its own.
+    /// The message's card, which shares the message's parts. It asks for no memory.
     pub fn card(&self) -> Result<Card, AllocError>
         ensures { IfOk result (λ card. card ≡ card_of self.now) }
     {
-        self.parts.card.copy()
+        Ok(Card::of(Arc::try_clone(&self.parts)?))
     }
 
-    /// An equal message, which shares the body: it costs the same for every message.
+    /// An equal message, which shares the parts: it costs the same for every message, and asks for no memory.
     pub fn copy(&self) -> Result<Message, AllocError>
         ensures { IfOk result (λ message. message ≡ self.now) }
     {
@@ -344,7 +276,7 @@ fn admitted_flags(
     Ok(admitted)
 }
 
-/// The message of parts that make one. The body and the labels are moved.
+/// The message of parts that make one. The body is moved.
 fn message_of(
     alloc: Global,
     from: &str,
@@ -365,8 +297,8 @@ fn message_of(
     ensures fault { IfErr result (λ fault. fault ≡ MessageFault.OutOfMemory) }
 {
     let labels = into_labels(alloc, labels)?;
-    let card = Card::new(labels, flags, day);
-    Ok(packed(alloc, from, subject, body, card)?)
+    let place = Place::new(labels, flags, day);
+    Ok(packed(alloc, from, subject, body, place)?)
 }
 
 /// A copy of the body, with room behind it for the sender and the subject and for nothing else.
@@ -392,46 +324,15 @@ fn packed(
     from: &str,
     subject: &str,
     body: Vec<u8>,
-    card: Card,
+    place: Place,
 ) -> Result<Message, AllocError>
     requires from_in { length from.now ≤ MAX_FROM_BYTES }
     requires subject_in { length subject.now ≤ MAX_SUBJECT_BYTES }
     requires body_in { length body.items ≤ MAX_BODY_BYTES }
-    ensures { IfOk result (λ message. message ≡ mail_with from.now subject.now body.items card) }
+    ensures { IfOk result (λ message. message ≡ mail_with from.now subject.now body.items place) }
 {
-    let parts = parts_of(from, subject, body, card)?;
+    let parts = parts_of(from, subject, body, place)?;
     Ok(Message {
         parts: Arc::new(alloc, parts)?,
     })
-}
-
-/// The parts of these texts and this card.
-fn parts_of(from: &str, subject: &str, body: Vec<u8>, card: Card) -> Result<Parts, AllocError>
-    requires from_in { length from.now ≤ MAX_FROM_BYTES }
-    requires subject_in { length subject.now ≤ MAX_SUBJECT_BYTES }
-    requires body_in { length body.items ≤ MAX_BODY_BYTES }
-    ensures { IfOk result (λ parts. parts ≡ mail_with from.now subject.now body.items card) }
-{
-    let body_end = body.len() as u32;
-    let from_end = body_end + from.len() as u32;
-    let text = joined(from.as_bytes(), subject.as_bytes(), body)?;
-    Ok(Parts {
-        text,
-        body_end,
-        from_end,
-        card,
-    })
-}
-
-/// The sender and the subject behind the body. It takes no more memory than they need.
-fn joined(from: &[u8], subject: &[u8], body: Vec<u8>) -> Result<Vec<u8>, AllocError>
-    requires from_in { length from.now ≤ MAX_FROM_BYTES }
-    requires subject_in { length subject.now ≤ MAX_SUBJECT_BYTES }
-    ensures { IfOk result (λ text. text.items ≡ body.items ++ from.now ++ subject.now) }
-{
-    let mut text = body;
-    text.reserve_exact(from.len() + subject.len())?;
-    text.extend_from_slice(from)?;
-    text.extend_from_slice(subject)?;
-    Ok(text)
 }

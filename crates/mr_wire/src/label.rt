@@ -55,11 +55,11 @@ fn label_bytes<'a>(input: &mut Input<'a>, before: Option<&'a [u8]>) -> Option<&'
 }
 
 /// The label of these bytes.
-fn label_of(memory: Option<Global>, bytes: &[u8]) -> Option<Label>
+fn label_of(bytes: &[u8]) -> Option<Label>
     ensures { IfSome result (λ label. label ≡ bytes.now) }
 {
     let text = str::from_utf8(bytes).ok()?;
-    Label::try_new(String::from_str(memory?, text).ok()?).ok()
+    Label::read(text).ok()
 }
 
 /// So many labels, which rise.
@@ -71,7 +71,7 @@ fn label_run(input: &mut Input<'_>, memory: Option<Global>, count: u8) -> Option
     let mut before = None;
     for _ in 0..count {
         let label = label_bytes(input, before)?;
-        keep(&mut labels, label_of(memory, label));
+        keep(&mut labels, label_of(label));
         before = Some(label);
     }
     Some(labels)

@@ -11,8 +11,8 @@ ghost use Rattle.mr_wire.specs.Labels.{message_with};
 use crate::input::Input;
 use crate::label::{flags, labels};
 use mr_mail::{
-    Card, Day, Flags, Label, MAX_BODY_BYTES, MAX_FROM_BYTES, MAX_SUBJECT_BYTES, Message,
-    MessageFault,
+    Day, Flags, Label, MAX_BODY_BYTES, MAX_FROM_BYTES, MAX_SUBJECT_BYTES, Message, MessageFault,
+    Place,
 };
 use std::alloc::Global;
 
@@ -63,7 +63,7 @@ fn built(
     requires { IsLabelSet labels.items }
     ensures { IfOk result (λ m. m ≡ message_with from.now subject.now body.now labels.items flags day) }
 {
-    Message::try_of_card(alloc, from, subject, body, Card::new(labels, flags, day))
+    Message::try_of_place(alloc, from, subject, body, Place::new(labels, flags, day))
 }
 
 /// The message of these parts, where its labels are kept.
