@@ -17,4 +17,5 @@ pub mod VectorInsertLemmas
 pub mod FragmentLemmas
 pub mod CoverLemmas
 pub mod ChangeLemmas
+pub mod LoneLemmas
 pub mod TextLemmas

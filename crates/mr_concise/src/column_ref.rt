@@ -61,6 +61,13 @@ impl<'a> ColumnRef<'a> {
         self.upto
     }
 
+    /// The holes.
+    pub(crate) fn holes(&self) -> &[Hole]
+        ensures { result.now ≡ self.now.holes }
+    {
+        self.holes
+    }
+
     /// The hole that has the counter, or else the first one after it.
     fn hole_from(&self, counter: u32) -> Option<Hole>
         requires { 1 ≤ counter }

@@ -1,27 +1,83 @@
-ghost use Rattle.std.specs.Prelude.{◌≡◌, ◌≢◌, ◌↔◌, Some, All, IfOk, OnOk, IsErrOf, Err, string_bytes};
+ghost use Rattle.std.specs.Prelude.{◌≡◌, ◌≢◌, ◌↔◌, Some, All, IfOk, IfSome, OnOk, IsErrOf, Err, string_bytes};
 ghost use Rattle.std.specs.List.{AllZip, Any};
 ghost use Rattle.mr_forms.specs.Sets.{IsSame};
-ghost use Rattle.mr_concise.specs.Vector.{vector_has, IsVectorOf, HasTooManyHoles};
+ghost use Rattle.mr_forms.specs.Runs.{of_author};
+ghost use Rattle.mr_concise.specs.Column.{IsColumn};
+ghost use Rattle.mr_concise.specs.Source.{IsColumnOf};
+ghost use Rattle.mr_concise.specs.Vector.{vector_has, IsVectorFrom, IsVectorOf, HasTooManyHoles};
 ghost use Rattle.mr_concise.specs.Fragments.{IsConciseOf, IsTooHoley, items_text, fragment_text, knowledge_text};
 
-use crate::source::OfSet;
-use crate::vector::ConciseVector;
+use crate::column::{Column, Hole, MAX_HOLES};
+use crate::source::{OfSet, Source};
+use crate::vector::{AuthorColumn, ConciseVector, put};
 use mr_forms::{FormFault, Fragment, ItemSet, VersionSet};
+use mr_version::Author;
 use std::alloc::{AllocError, Global};
 use std::fmt;
+
+/// An author's column of a set, run by run. `None` where it would have too many holes.
+fn column_of_runs<S: VersionSet>(
+    alloc: Global,
+    set: &S,
+    author: Author,
+) -> Result<Option<Column>, AllocError>
+    ensures column { IfOk result (λ column. IfSome column IsColumn) }
+    ensures means { IfOk result (λ column. IfSome column (IsColumnOf (of_author (S.has set.now) author))) }
+{
+    let source = OfSet { set };
+    let mut holes = Vec::new(alloc);
+    let mut at = source.next_out(author, 1);
+    while let Some(run) = set.run_from(author, at) {
+        if holes.len() >= MAX_HOLES {
+            return Ok(None);
+        }
+        holes.push(Hole {
+            first: at,
+            last: run.first - 1,
+        })?;
+        at = run.last + 1;
+    }
+    Ok(Some(Column::new(at - 1, holes)))
+}
+
+/// The columns of all authors of a set, run by run. `None` where one would have too many holes.
+fn columns_of_runs<S: VersionSet>(
+    alloc: Global,
+    set: &S,
+) -> Result<Option<Vec<AuthorColumn>>, AllocError>
+    ensures vector { IfOk result (λ columns. IfSome columns (λ v. IsVectorFrom 0 v.items)) }
+    ensures means { IfOk result (λ columns. IfSome columns (λ v. IsSame (vector_has v.items) (S.has set.now))) }
+{
+    let mut columns = Vec::new(alloc);
+    let mut id = 0;
+    while let Some(author) = set.next_author(id) {
+        let Some(column) = column_of_runs(alloc, set, author)? else {
+            return Ok(None);
+        };
+        if column.upto() > 0 {
+            put(&mut columns, AuthorColumn { author, column })?;
+        }
+        id = author.id() + 1;
+    }
+    Ok(Some(columns))
+}
 
 impl ConciseVector {
     /// The vector of the versions of a set in any form.
     ///
     /// `TooManyHoles` exactly where a column of the set has more than 4,096 holes; `OutOfMemory` only
-    /// after it. It takes the set's runs twice, and memory for the vector alone.
+    /// after it. It takes the set's runs once, and memory for the vector alone; where there are too many holes
+    /// or memory ends, it takes them again to tell which.
     pub fn from_set<S: VersionSet>(alloc: Global, set: &S) -> Result<ConciseVector, FormFault>
         ensures ok { IfOk result (λ vector. IsSame (vector_has vector) (S.has set.now)) }
         ensures canonical { IfOk result (λ vector. IsVectorOf (S.has set.now) vector) }
         ensures holes { IsErrOf result FormFault.TooManyHoles ↔ HasTooManyHoles (S.has set.now) }
         ensures items { result ≢ Err FormFault.TooManyItems }
     {
-        ConciseVector::gather(alloc, &OfSet { set })
+        match columns_of_runs(alloc, set) {
+            Ok(Some(columns)) => Ok(ConciseVector { alloc, columns }),
+            _ => ConciseVector::gather(alloc, &OfSet { set }),
+        }
     }
 }
 

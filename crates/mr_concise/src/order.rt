@@ -78,9 +78,10 @@ impl Ord for Hole {
     ghost matches_eq = { holes_tied };
 
     fn cmp(&self, other: &Hole) -> Ordering {
-        self.first
-            .cmp(&other.first)
-            .then(self.last.cmp(&other.last))
+        match self.first.cmp(&other.first) {
+            Ordering::Equal => self.last.cmp(&other.last),
+            decided => decided,
+        }
     }
 }
 
@@ -105,9 +106,10 @@ impl Ord for Column {
     ghost matches_eq = { extents_tied };
 
     fn cmp(&self, other: &Column) -> Ordering {
-        self.upto()
-            .cmp(&other.upto())
-            .then(self.holes().cmp(other.holes()))
+        match self.upto().cmp(&other.upto()) {
+            Ordering::Equal => self.holes().cmp(other.holes()),
+            decided => decided,
+        }
     }
 }
 
@@ -132,10 +134,10 @@ impl Ord for AuthorColumn {
     ghost matches_eq = { author_columns_tied };
 
     fn cmp(&self, other: &AuthorColumn) -> Ordering {
-        self.author
-            .id()
-            .cmp(&other.author.id())
-            .then(self.column.cmp(&other.column))
+        match self.author.id().cmp(&other.author.id()) {
+            Ordering::Equal => self.column.cmp(&other.column),
+            decided => decided,
+        }
     }
 }
 

@@ -1,13 +1,15 @@
 ghost use Rattle.std.specs.Prelude.{◌≡◌, ◌≤◌, ◌<◌, ◌+◌, ◌↔◌, ◌≢◌, ℕ, true, false, IsTrue, IfOk, OnOk, OnErr, IsErrOf, Err, length};
 ghost use Rattle.std.specs.Vec.{vec_len, vec_capacity};
 ghost use Rattle.mr_forms.specs.Sets.{both, Covers, IsSame};
-ghost use Rattle.mr_forms.specs.Runs.{with_run};
+ghost use Rattle.mr_forms.specs.Runs.{of_author, with_run};
+ghost use Rattle.mr_concise.specs.Source.{HasFewerHoles, HasAtLeastHoles};
 ghost use Rattle.mr_concise.specs.Vector.{column_of, vector_has, IsVectorFrom, HasTooManyHoles, AreColumns, with_columns, with_column};
 
 use crate::source::OneColumn;
-use crate::sweep::{gathered_column, has_many_holes};
-use crate::vector::{AuthorColumn, column_at, place, put};
+use crate::sweep::{gathered_column, has_fewer_holes, has_many_holes};
+use crate::vector::{AuthorColumn, ConciseVector, column_at, place, put};
 use mr_forms::{FormFault, Run};
+use mr_version::Author;
 use std::alloc::{AllocError, Global};
 
 /// The column that the author of another one has, and that other one.
@@ -25,6 +27,39 @@ fn both_columns<'a>(a: &'a [AuthorColumn], x: &'a AuthorColumn) -> (OneColumn<'a
         column: x.column.lent(),
     };
     (had, added)
+}
+
+/// Whether an author's column of what one of two vectors has would have fewer holes than so many. It allocates
+/// nothing. It costs two searches; where both vectors have something of the author also a walk along the two
+/// columns, no further than to the last of so many holes.
+pub fn both_have_fewer_holes(
+    a: &ConciseVector,
+    b: &ConciseVector,
+    author: Author,
+    limit: usize,
+) -> bool
+    ensures fewer { result ≡ true → HasFewerHoles (of_author (both (vector_has a.now) (vector_has b.now)) author) limit }
+    ensures no { result ≡ false → HasAtLeastHoles (of_author (both (vector_has a.now) (vector_has b.now)) author) limit }
+{
+    let had = column_at(a.author_columns(), author);
+    let added = column_at(b.author_columns(), author);
+    if added.upto() == 0 {
+        return had.holes().len() < limit;
+    }
+    if had.upto() == 0 {
+        return added.holes().len() < limit;
+    }
+    let columns = (
+        OneColumn {
+            author,
+            column: had,
+        },
+        OneColumn {
+            author,
+            column: added,
+        },
+    );
+    has_fewer_holes(&columns, author, limit)
 }
 
 /// Whether an author's columns put together have too many holes.

@@ -47,6 +47,15 @@ gains_nothing set all x old added mine covers = record {
     same false false true has from_set from_mine = from_mine refl
     same false false false has from_set from_mine = refl
 
+-- what all items have and the item has is what is added and the item has
+pub united_gained : (set : Versions) (all vector : List AuthorColumn) (x : Listed) → Covers (vector_has all) set → ((v : Name) → vector_has all v ≡ true → both set (vector_has x.vector) v ≡ true) → IsSame (vector_has vector) (both (vector_has all) (vector_has x.vector)) → IsSame (vector_has vector) (both set (vector_has x.vector))
+united_gained set all vector x added covers has v = has v ∙ same (vector_has all v) (set v) (vector_has x.vector v) (covers v) (added v)
+  where
+    same : (a s y : Bool) → (a ≡ true → (s || y) ≡ true) → (s ≡ true → a ≡ true) → (a || y) ≡ (s || y)
+    same true s y has from_set = sym (has refl)
+    same false true y has from_set = absurd (false≢true (from_set refl))
+    same false false y has from_set = refl
+
 -- what all items lack of an item they lack of it with the set too
 pub lacks_grown : (set : Versions) (all vector : List AuthorColumn) (x : Listed) → Lacks (vector_has all) (vector_has x.vector) → IsSame (vector_has vector) (both set (vector_has x.vector)) → IsSame (vector_has vector) (vector_has all) → ⊥
 lacks_grown set all vector x lacks has same =

@@ -2,7 +2,7 @@ ghost use Rattle.std.specs.Prelude.{◌≡◌, ◌≤◌, ◌+◌, true, [], ◌
 ghost use Rattle.mr_version.specs.Name.{Name};
 ghost use Rattle.mr_forms.specs.Sets.{IsSame, Covers, both};
 ghost use Rattle.mr_forms.specs.Known.{AreSame};
-ghost use Rattle.mr_concise.specs.Vector.{vector_has};
+ghost use Rattle.mr_concise.specs.Vector.{vector_has, IsVectorOf};
 ghost use Rattle.mr_itemset.specs.Normal.{normal_known, IsNormal, IsBefore, HasMore};
 ghost use Rattle.mr_itemset.specs.ItemForm.{with_all};
 ghost use Rattle.mr_itemset.specs.Entries.{listed_as, listed_of};
@@ -13,15 +13,25 @@ use crate::knowledge::Listed;
 use crate::limits::lacks;
 use crate::settled::{Settled, Vectors};
 use mr_concise::{ConciseVector, Source};
+use mr_forms::{FormFault, VersionSet};
 use mr_version::ItemId;
-use std::alloc::{AllocError, Global};
+use std::alloc::AllocError;
 use std::collections::BTreeMap;
+
+/// What all items have and what the item has. It costs a copy of the one, and a walk along the columns of the other.
+fn united(all: &ConciseVector, vector: &ConciseVector) -> Result<ConciseVector, FormFault>
+    ensures { IfOk result (IsVectorOf (both (vector_has all.now) (vector_has vector.now))) }
+{
+    let mut grown = all.copy()?;
+    grown.union(vector)?;
+    let _columns = grown.author_columns();
+    Ok(grown)
+}
 
 /// Lists the item with all that is known of it and the added versions, unless all items have just that. Where they
 /// have, it costs a search in what all items have for each run of the item's vector, and nothing is copied.
 fn push_grown<A: Source>(
     listed: &mut Vectors,
-    alloc: Global,
     all: &ConciseVector,
     item: ItemId,
     vector: &ConciseVector,
@@ -35,7 +45,7 @@ fn push_grown<A: Source>(
     if !lacks(all, vector) {
         return Ok(());
     }
-    let Ok(vector) = ConciseVector::gather(alloc, &(added, vector)) else {
+    let Ok(vector) = united(all, vector) else {
         return Err(AllocError);
     };
     put_in(listed, Listed { item, vector })?;
@@ -51,7 +61,7 @@ impl<const LIMIT: usize> Settled<LIMIT> {
         let alloc = self.allocator();
         let mut listed = BTreeMap::new(alloc);
         for (item, vector) in self.listed() {
-            push_grown(&mut listed, alloc, all, *item, vector, added)?;
+            push_grown(&mut listed, all, *item, vector, added)?;
         }
         Ok(listed)
     }

@@ -7,7 +7,7 @@ ghost use Rattle.mr_itemset.specs.ItemForm.{items_form};
 ghost use Rattle.mr_itemset.specs.Sparing.{holes_for_all, goes_to_all, comes_next};
 
 use crate::knowledge::ItemsUpTo;
-use mr_concise::{Source, has_fewer_holes};
+use mr_concise::{Source, both_have_fewer_holes};
 use mr_forms::{FormFault, VersionSet};
 use mr_version::{Author, ItemId, Version};
 
@@ -42,8 +42,7 @@ impl<const LIMIT: usize> ItemsUpTo<LIMIT> {
         ensures column { result ≡ nat_lt (length (column_of self.now.all author).holes) SPARED_HOLES }
     {
         let parts = self.parts();
-        let all = (parts.pending, parts.settled.for_all());
-        has_fewer_holes(&all, author, SPARED_HOLES)
+        both_have_fewer_holes(parts.pending, parts.settled.for_all(), author, SPARED_HOLES)
     }
 
     /// Whether a sparing knowledge learns the version for all items: it is its author's first, or all

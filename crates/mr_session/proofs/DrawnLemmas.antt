@@ -15,6 +15,8 @@ use Rattle.mr_wire.specs.declared.frame.Body.TheVariants.{Held}
 use Rattle.mr_session.specs.Held.{AreCut}
 use Rattle.mr_session.specs.Table.{Table, with_closed, with_changed}
 use Rattle.mr_session.specs.Stream.{Stream, due, DrawsFirstHeld, DrawsAfterWalk, DrawsWalk, DrawsKnow, DrawsRest, DrawsAt, Draws, is_end, GivesIn, IsOnlyDraw}
+use Rattle.mr_session.specs.Onward.{advanced}
+use Rattle.mr_session.specs.declared.outgoing.onward.Prepared.{Prepared}
 use Rattle.mr_session.proofs.CutLemmas.{cut_unique}
 
 abbrev first_of : List (List AuthorColumn) → List AuthorColumn
@@ -85,11 +87,12 @@ gives_unique source number table h a b x y (s, left, found, (core, draws, header
     let after : left_too ≡ left = next_too ∙ (λ i. record (one.1 i) { next = (stream i).next + 1 }) ∙ sym next in
     (sent, new_too ∙ (λ i. table_after table number (sent i) (after i)) ∙ sym new)
 
--- so what a call has drawn is the only draw
-pub only_draw : {E : Type 0} (source number : ℕ) (table : Table Stream) (h : Holdings) (new : Table Stream) (drawn : Result Sent E) → IfOk drawn (λ sent. GivesIn source number table h sent new) → IfOk drawn (λ sent. IsOnlyDraw source number table h sent new)
-only_draw source number table h new drawn gives =
-    IfOk-weaker drawn (λ sent. GivesIn source number table h sent new) (λ sent. IsOnlyDraw source number table h sent new)
-    (λ sent given other after given_too. gives_unique source number table h sent other new after given given_too) gives
+-- so what was prepared is the only draw
+pub only_draw : {E : Type 0} (source number : ℕ) (table : Table Stream) (h : Holdings) (prepared : Result Prepared E) → IfOk prepared (λ p. GivesIn source number table h p.record (advanced number p.onward table))
+    → IfOk prepared (λ p. IsOnlyDraw source number table h p.record (advanced number p.onward table))
+only_draw source number table h prepared gives =
+    IfOk-weaker prepared (λ p. GivesIn source number table h p.record (advanced number p.onward table)) (λ p. IsOnlyDraw source number table h p.record (advanced number p.onward table))
+    (λ p given other after given_too. gives_unique source number table h p.record other (advanced number p.onward table) after given given_too) gives
 
 -- ---- a draw looks at the held revisions alone
 

@@ -11,6 +11,5 @@ pub mod GrowingLemmas
 pub mod SoFarLemmas
 pub mod DrawnLemmas
 pub mod WalkLemmas
-pub mod DrawLemmas
 pub mod OnwardLemmas
 mod Rows

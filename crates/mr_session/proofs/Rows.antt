@@ -15,7 +15,7 @@ use Rattle.mr_concise.proofs.UnionLemmas.{column_has-empty}
 use Rattle.mr_session.specs.Held.{AreCut}
 use Rattle.mr_session.specs.Preparing.{is_copied}
 use Rattle.mr_session.specs.Session.{Session, new_session, first_fault, after_record}
-use Rattle.mr_session.specs.Stream.{Asked, Stream, claimed, due, told, is_wanted, new_stream, needs_memory, Draws}
+use Rattle.mr_session.specs.Stream.{Asked, Stream, claimed, due, told, is_wanted, new_stream, Draws}
 use Rattle.mr_session.specs.Table.{Table, empty_table, with_opened, with_closed, with_changed, open_at}
 use Rattle.mr_session.specs.declared.fault.SessionFault.TheVariants.{NotStart, OtherStream, Repeated, Gap}
 use Rattle.mr_session.proofs.HeldLemmas.{has_none}
@@ -35,7 +35,7 @@ no_heads_in_one = has_none [] (λ v. column_has-empty v.counter) tt
 no_heads_not_in_two : ¬ AreCut [] ([] ∷ [] ∷ [])
 no_heads_not_in_two cut = let same = cut_unique [] ([] ∷ [] ∷ []) ([] ∷ []) cut no_heads_in_one in absurd (cc)
 
--- ---- which draws need memory
+-- ---- which draws need memory: what is prepared is copied, but for a Start and an End
 
 abbrev asked : Asked
 asked = record { target = 9; session = 1; filter = []; claims = [] }
@@ -46,19 +46,6 @@ nothing_held = record { heads = []; push_outs = []; head_room = None; push_out_r
 abbrev begun : Mode → Stream
 begun mode = record (new_stream asked mode []) { next = 1 }
 
-start_row : needs_memory (new_stream asked Full []) nothing_held ≡ false
-start_row = refl
-
-first_held_row : needs_memory (begun Full) nothing_held ≡ true
-first_held_row = refl
-
-later_held_row : needs_memory (record (begun Full) { held = Some [] }) nothing_held ≡ false
-later_held_row = refl
-
-partial_end_row : needs_memory (begun Partial) nothing_held ≡ false
-partial_end_row = refl
-
--- what is prepared is copied, but for a Start and an End
 prepared_start : is_copied (new_stream asked Full []) nothing_held ≡ false
 prepared_start = refl
 

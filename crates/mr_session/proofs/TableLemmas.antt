@@ -4,7 +4,7 @@ use Rattle.std.proofs.Common.{◌≡◌, ◌≢◌, ◌⊎◌, ◌≤◌, ◌<�
 use Rattle.std.specs.Option.{option_map}
 use Rattle.std.proofs.lemmas.Bool.{cases_eq, ltb-true, ltb-false}
 use Rattle.std.proofs.lemmas.Bool.Decides.{eqb_tells}
-use Rattle.mr_session.specs.Table.{Numbered, Table, IsTable, at, open_at, changed, with_changed, with_closed, RisesFrom, AreNumberedTo}
+use Rattle.mr_session.specs.Table.{Numbered, Table, IsTable, at, open_at, changed, with_changed, RisesFrom, AreNumberedTo}
 use Rattle.mr_session.specs.Slots.{put, with_at}
 
 pub lt_tells : (a b : ℕ) → ((nat_lt a b ≡ true) × (a < b)) ⊎ ((nat_lt a b ≡ false) × (b ≤ a))
@@ -205,18 +205,6 @@ module _ {T : Type 0} where
         | inr differs ↦ rw differs.0 (ap (λ (l : List (Numbered T)). x ∷ l) (changed_itself n xs))
       ]
 
-  -- to change what is then taken away changes nothing
-  pub others-changed : (n : ℕ) (change : T → T) (xs : List (Numbered T)) → others n (map (changed n change) xs) ≡ others n xs
-  others-changed n change [] = refl
-  others-changed n change (x ∷ xs) =
-      elim (eqb_tells x.number n) [
-        | inl is ↦ rw is.0 (rw own (others-changed n change xs))
-        | inr differs ↦ rw differs.0 (rw differs.0 (ap (λ (l : List (Numbered T)). x ∷ l) (others-changed n change xs)))
-      ]
-    where
-      own : (n == n) ≡ true
-      own = elim (eqb_tells n n) [ inl is ↦ is.0 | inr differs ↦ absurd (differs.1 refl) ]
-
   -- a table in which what is open under a number has become another value
   module _ (table new : Table T) (n : ℕ) (before after : T) (is : IsTable table) (found : open_at table n ≡ Some before) (becomes : new ≡ with_changed n (λ _. after) table) where
     -- it is changed by a function that does that
@@ -230,12 +218,3 @@ module _ {T : Type 0} where
     unchanged same =
         let itself = changed_itself n table.open_ones in
         changed_by (λ x. x) same ∙ (λ i. record table { open_ones = itself i })
-
-    -- once it is closed, the value does not matter
-    pub closed_after : with_closed new n ≡ with_closed table n
-    closed_after =
-        let ones = others-changed n (λ _. after) table.open_ones in
-        ap (λ (t : Table T). with_closed t n) becomes ∙ (λ i. record table { open_ones = ones i })
-
-    pub open_after : open_at new n ≡ Some after
-    open_after = ap (λ (t : Table T). open_at t n) becomes ∙ (changed_same n (λ _. after) table.open_ones ∙ ap (option_map (λ _. after)) found)

@@ -1,5 +1,5 @@
 -- streams, and what they draw
-use Rattle.std.specs.Prelude.{◌≡◌, ◌+◌, ◌==◌, ℕ, Bool, true, false, not, ◌&&◌, ◌||◌, if◌then◌else◌, List, [], ◌∷◌, map, find, Option, Some, None, is_some, is_none, Result, Ok, Err}
+use Rattle.std.specs.Prelude.{◌≡◌, ◌+◌, ◌==◌, ℕ, Bool, true, false, not, ◌&&◌, ◌||◌, if◌then◌else◌, List, [], ◌∷◌, map, find, Option, Some, None}
 use Rattle.std.specs.List.{list_any}
 use Rattle.mr_version.specs.Name.{Name, name_eq}
 use Rattle.mr_forms.specs.Sets.{Versions}
@@ -21,7 +21,6 @@ use Rattle.mr_wire.specs.declared.frame.Mode.TheVariants.{Full, Partial}
 use Rattle.mr_wire.specs.declared.frame.Body.{Body}
 use Rattle.mr_wire.specs.declared.frame.Body.TheVariants.{Start, Item, MoveOut, Held, Know, End}
 use Rattle.mr_session.specs.Held.{AreCut}
-use Rattle.mr_session.specs.Session.{is_full_mode}
 use Rattle.mr_session.specs.Table.{Table, open_at, with_closed, with_changed}
 
 -- ---- what is asked for
@@ -131,10 +130,6 @@ DrawsAt false s h body new = DrawsRest s.held s h body new
 abbrev pub Draws : Stream → Holdings → Body → Stream → Type 0
 Draws s h body new = DrawsAt (s.next == 0) s h body new
 
--- whether the next draw copies a revision, or gathers the heads into vectors, for which it may need memory
-abbrev pub needs_memory : Stream → Holdings → Bool
-needs_memory s h = not (s.next == 0) && (is_none s.held && (is_some (due s.asked s.past h.heads h.push_outs) || is_full_mode s.mode))
-
 -- ---- the records
 
 -- whether it is a stream's last record
@@ -145,11 +140,6 @@ is_end (MoveOut descent) = false
 is_end (Held vector) = false
 is_end (Know fragment) = false
 is_end End = true
-
--- whether a draw gave a stream's last record
-abbrev pub ends : {E : Type 0} → Result Sent E → Bool
-ends (Ok sent) = is_end sent.body
-ends (Err e) = false
 
 -- the header of the next record
 abbrev pub header_of : (source number : ℕ) → Stream → Header

@@ -10,8 +10,9 @@
 //! is given once, from 1. It is an [`OpenTable`], whose numbers stand in a slab of eight slots, so a look-up
 //! passes over eight entries.
 //!
-//! [`Streams`] is the same table of what the replica tells others. [`Streams::draw`] gives a stream's next
-//! record, of what the store holds at that draw: a Start; then the heads and push-outs together, by rising
+//! [`Streams`] is the same table of what the replica tells others. [`Streams::prepare`] gives a stream's next
+//! record, of what the store holds at that draw, and changes nothing; [`Streams::advance`] moves the stream on
+//! behind it, and can't fail. A stream gives a Start; then the heads and push-outs together, by rising
 //! version, from behind the last one that a draw gave, each that the one who asked doesn't know as an Item
 //! if its filter selects it, and as a MoveOut if it knows the item's first version; then, in a full stream, the
 //! versions of the heads as they are at the first of those draws, in vectors, and the fragments that were
@@ -27,7 +28,8 @@
 //!
 //! let asked = AskedOf::new(alloc, target, session_number, filter, claims)?;
 //! let number = streams.open(asked, Mode::Full, fragments)?;
-//! let record = streams.draw(number, source, &store)?;
+//! let Prepared { record, onward } = streams.prepare(number, source, &store)?;
+//! streams.advance(number, onward);
 //! ```
 #![tactic(auto)]
 
@@ -43,7 +45,6 @@ mod limits;
 mod open_table;
 mod origin;
 mod outgoing;
-mod prepared;
 mod sessions;
 mod slots;
 mod streams;

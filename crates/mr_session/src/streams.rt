@@ -1,36 +1,21 @@
 //! The open streams of a replica.
 ghost use Rattle.std.specs.Prelude.{◌≡◌, ◌<◌, ◌+◌, ◌^◌, length, IsSome, IfSome, IsOk, IsFalse, IfOk, OnOk, OnErr};
-ghost use Rattle.mr_session.specs.Stream.{new_stream, is_end, ends, needs_memory, GivesIn, IsOnlyDraw};
+ghost use Rattle.mr_session.specs.Onward.{advanced};
+ghost use Rattle.mr_session.specs.Preparing.{is_copied};
+ghost use Rattle.mr_session.specs.Stream.{new_stream, GivesIn, IsOnlyDraw};
 ghost use Rattle.mr_session.specs.Table.{most_open, open_at, with_opened};
 
 use crate::asked::AskedOf;
 use crate::open_table::OpenTable;
-use crate::outgoing::Outgoing;
+use crate::outgoing::{Onward, Outgoing, Prepared};
 use mr_store::Store;
 use mr_version::Author;
-use mr_wire::{Body, FrameFragment, Mode, Record};
+use mr_wire::{FrameFragment, Mode};
 use std::alloc::AllocError;
 use std::collections::VecDeque;
 
 /// The open streams of a replica, at most eight, each under a number that is given once.
 pub type Streams = OpenTable<Outgoing>;
-
-// Whether it is a stream's last record.
-fn is_end(body: &Body) -> bool
-    ensures { result ≡ is_end body.now }
-{
-    matches!(body, Body::End)
-}
-
-// Whether a draw gave a stream's last record.
-fn ends(drawn: &Result<Record, AllocError>) -> bool
-    ensures { result ≡ ends drawn.now }
-{
-    match drawn {
-        Ok(sent) => is_end(sent.body()),
-        Err(_) => false,
-    }
-}
 
 impl OpenTable<Outgoing> {
     /// Opens a stream for one who asked, under the next number, which is given. Fewer than eight are open. A
@@ -51,29 +36,50 @@ impl OpenTable<Outgoing> {
         self.insert(stream)
     }
 
-    /// The next record of the number's stream, which is open, of what its source holds now; the index of that
-    /// record is below the last one that there is. A stream is closed with its End.
+    /// The next record of the number's stream, which is open, of what its source holds now, and how the stream
+    /// goes on behind it; the index of that record is below the last one that there is. Nothing changes until
+    /// the stream is made to go on, by [`OpenTable::advance`].
     ///
-    /// A Start comes first. Then come the revisions that are due, by version, from behind the last one that a
-    /// draw looked at, each as an Item or a MoveOut. Once nothing more is due a full stream gives its heads,
-    /// and then what its source knows; an End comes last. It costs a copy of a revision's handle, or of the
-    /// vector that is told; the first Held costs a short search for each run of versions of the
-    /// heads, or a walk over them where one vector has no room for all. The others need no memory.
-    pub fn draw(&mut self, number: u64, source: Author, store: &Store) -> Result<Record, AllocError>
+    /// A Start comes first. Then come the revisions that are due, by version, from behind the last one that the
+    /// stream looked at, each as an Item or a MoveOut. Once nothing more is due a full stream gives its heads,
+    /// and then what its source knows; an End comes last. It costs a copy of what the record says: of a
+    /// revision's handle, or of a vector or a fragment. The first Held costs a short search for each run of
+    /// versions of the heads, or a walk over them where one vector has no room for all. A Start and an End need
+    /// no memory.
+    pub fn prepare(
+        &self,
+        number: u64,
+        source: Author,
+        store: &Store,
+    ) -> Result<Prepared, AllocError>
+        requires open { IsSome (open_at self.now number) }
+        requires goes_on { IfSome (open_at self.now number) (λ stream. stream.next + 1 < 2 ^ 32) }
+        ensures gives { IfOk result (λ prepared. GivesIn source number self.now store.now prepared.record (advanced number prepared.onward self.now)) }
+        ensures one { IfOk result (λ prepared. IsOnlyDraw source number self.now store.now prepared.record (advanced number prepared.onward self.now)) }
+        ensures sure { IfSome (open_at self.now number) (λ stream. IsFalse (is_copied stream store.now) → IsOk result) }
+    {
+        // numbers are given from 1
+        let _given = self.opened();
+        match self.get(number) {
+            Some(stream) => stream.prepare(source, number, store),
+            None => unreachable!(),
+        }
+    }
+
+    /// The number's stream, which is open, goes on behind the record that it prepared, and is closed with its
+    /// End. It can't fail.
+    pub fn advance(&mut self, number: u64, onward: Onward)
         requires open { IsSome (open_at self.old number) }
         requires goes_on { IfSome (open_at self.old number) (λ stream. stream.next + 1 < 2 ^ 32) }
-        ensures ok { IfOk result (λ sent. GivesIn source number self.old store.now sent self.new) }
-        ensures one { IfOk result (λ sent. IsOnlyDraw source number self.old store.now sent self.new) }
-        ensures err { OnErr result (self.new ≡ self.old) }
-        ensures sure { IfSome (open_at self.old number) (λ stream. IsFalse (needs_memory stream store.now) → IsOk result) }
+        ensures { self.new ≡ advanced number onward self.old }
     {
-        let drawn = self.change(number, |mut stream| {
-            let drawn = stream.draw(source, number, store);
-            (stream, drawn)
-        });
-        if ends(&drawn) {
+        if let Onward::Closed = onward {
             let _ = self.close(number);
+            return;
         }
-        drawn
+        self.change(number, |mut stream| {
+            stream.advance(onward);
+            (stream, ())
+        })
     }
 }

@@ -14,7 +14,7 @@ use Rattle.mr_store.specs.Revisions.{versions_of, supersedes, left_by, has_confl
 use Rattle.mr_store.specs.Leaving.{leaves}
 use Rattle.mr_store.specs.Unheld.{is_unheld}
 use Rattle.mr_store.specs.FragmentIndex.{listing_at, listings_from, general_from, has_at}
-use Rattle.mr_store.specs.Index.{version_inserted, are_several}
+use Rattle.mr_store.specs.Index.{version_inserted, are_several, is_for}
 use Rattle.mr_store.specs.Holdings.{Holdings, room_in, with_room, put_in}
 use Rattle.mr_store.specs.HeldVersions.{by_held}
 
@@ -166,3 +166,7 @@ inserted_by_order = refl
 -- two are several, and one is not
 pub several_from_two : map are_several ([] ∷ (name 0 1 ∷ []) ∷ (name 0 1 ∷ name 0 2 ∷ []) ∷ []) ≡ false ∷ false ∷ true ∷ []
 several_from_two = refl
+
+-- room is for one item, or for none
+pub whose_room : is_for (Some (name 0 1)) (name 0 1) ∷ is_for (Some (name 0 1)) (name 0 2) ∷ is_for None (name 0 1) ∷ [] ≡ true ∷ false ∷ false ∷ []
+whose_room = refl

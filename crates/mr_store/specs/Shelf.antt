@@ -6,7 +6,7 @@ use Rattle.mr_version.specs.Name.{Name}
 use Rattle.mr_madewith.specs.Revision.{Rev}
 use Rattle.mr_store.specs.Revisions.{AreInVersionOrder}
 use Rattle.mr_store.specs.GapVector.{GapParts}
-use Rattle.mr_store.specs.Index.{IsIndexOf, HasRoomFor}
+use Rattle.mr_store.specs.Index.{IsIndexOf, HasRoomFor, HasNoIdle}
 
 -- the revisions in version order, and the item for one more revision of which there is room
 pub record ShelfParts : Type 0 where
@@ -19,3 +19,4 @@ pub record IsShelf {Z : Type 0} (revisions : GapParts) (index : BTreeMap Name (V
   pub indexed : IsIndexOf revisions.items index
   pub has_place : IsSome room → 0 < revisions.spare
   pub has_room : HasRoomFor room index
+  pub no_idle : HasNoIdle room index

@@ -1,5 +1,5 @@
 //! Revisions beside one another, with a gap at their front.
-ghost use Rattle.std.specs.Prelude.{◌≡◌, ◌<◌, ◌≤◌, [], OnOk, not, filter, length, drop, insert, remove, vec_len, vec_capacity};
+ghost use Rattle.std.specs.Prelude.{◌≡◌, ◌<◌, ◌≤◌, ◌+◌, [], OnOk, not, filter, length, drop, insert, remove, vec_len, vec_capacity};
 ghost use Rattle.mr_store.specs.Revisions.{AreInVersionOrder, holds};
 
 use crate::by_version::has_version;
@@ -9,9 +9,11 @@ use std::marker::Model;
 
 /// A vector of revisions, of which the first can leave without a shift of all others.
 ///
-/// What leaves at the front stays where it is, in a gap that no reader sees. Where the gap becomes wider than a
+/// What leaves from the first half is moved into a gap at the front, which no reader sees, and those before it move
+/// up; what leaves from the second half goes, and those behind it move down. Where the gap becomes wider than a
 /// 64th of all, it is let go, and the others are moved down once. So what leaves at the front costs a shift of
-/// some 64 handles, one time with another, and up to a 64th of the revisions is kept a while longer.
+/// some 64 handles, one time with another, what leaves elsewhere that of half of them at most beside, and up to a
+/// 64th of the revisions is kept a while longer.
 #[derive(Drop)]
 pub struct GapVector {
     // those before the end of the gap have left
@@ -72,15 +74,15 @@ impl GapVector {
         self.slots.insert(self.gap + place, revision).unwrap();
     }
 
-    /// Takes the revision at a place out. It costs a shift of those behind it; of the first it costs a shift of
-    /// some 64, one time with another.
+    /// Takes the revision at a place out. It costs a shift of those before it or of those behind it, whichever are
+    /// fewer, and of some 64 others, one time with another.
     pub fn remove(&mut self, place: usize)
         requires { place < length self.old.items }
         ensures items { self.new.items ≡ remove self.old.items place }
         ensures spare { self.old.spare ≤ self.new.spare }
     {
-        if place == 0 {
-            self.widen_gap();
+        if place < self.as_slice().len() / 2 {
+            self.let_into_gap(place);
             self.close_wide_gap();
         } else {
             self.slots.remove(self.gap + place);
@@ -100,12 +102,13 @@ impl GapVector {
             .retain(|revision| !has_version(left, revision.version()));
     }
 
-    // Lets the first revision stand in the gap.
-    fn widen_gap(&mut self)
-        requires { 0 < length self.old.items }
-        ensures items { self.new.items ≡ remove self.old.items 0 }
+    // Lets the revision at a place stand in the gap, and moves those before it up by one.
+    fn let_into_gap(&mut self, place: usize)
+        requires { place < length self.old.items }
+        ensures items { self.new.items ≡ remove self.old.items place }
         ensures spare { self.new.spare ≡ self.old.spare }
     {
+        move_to_front(&mut self.slots, self.gap, place);
         self.gap += 1;
     }
 
@@ -131,4 +134,13 @@ fn let_front_go(slots: &mut Vec<Revision>, place: usize)
     let left = slots.len() - place;
     slots.rotate_left(place);
     slots.truncate(left);
+}
+
+// Moves the revision at a place behind the gap to the front of those there.
+fn move_to_front(slots: &mut [Revision], gap: usize, place: usize)
+    requires { gap + place < length slots.old }
+    ensures others { drop (gap + 1) slots.new ≡ remove (drop gap slots.old) place }
+    ensures len { length slots.new ≡ length slots.old }
+{
+    slots[gap..gap + place + 1].rotate_right(1);
 }

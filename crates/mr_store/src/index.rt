@@ -1,5 +1,5 @@
 //! The index of a list of revisions: the versions of each item.
-ghost use Rattle.std.specs.Prelude.{◌≡◌, ◌<◌, ◌≤◌, if◌then◌else◌, Some, None, IfOk, OnOk, not, filter, length, take_while, vec_len, vec_capacity};
+ghost use Rattle.std.specs.Prelude.{◌≡◌, ◌<◌, ◌≤◌, ◌==◌, ◌&&◌, ◌||◌, if◌then◌else◌, Option, Some, None, IfOk, OnOk, OnErr, true, false, not, filter, length, take_while, vec_len, vec_capacity};
 ghost use Rattle.std.specs.BTreeMap.{get};
 ghost use Rattle.std.specs.List.Sorted.{IsStrictlySortedBy};
 ghost use Rattle.mr_version.specs.Name.{Name, name_cmp, name_eq};
@@ -7,7 +7,7 @@ ghost use Rattle.mr_forms.specs.Sets.{is_listed};
 ghost use Rattle.mr_madewith.specs.Keyed.{is_before};
 ghost use Rattle.mr_store.specs.Leaving.{leaves};
 ghost use Rattle.mr_store.specs.Revisions.{AreInVersionOrder, holds};
-ghost use Rattle.mr_store.specs.Index.{listed_for, HasRoomFor, version_inserted, are_several};
+ghost use Rattle.mr_store.specs.Index.{listed_for, HasRoomFor, HasNoIdle, has_empty_for, is_for, version_inserted, are_several};
 
 use crate::by_version::has_version;
 use crate::leaving::leaves;
@@ -44,13 +44,81 @@ pub fn items_with_several(
     Ok(items)
 }
 
-/// A copy, which lists the same versions.
+/// A copy, which lists the same versions and has no list for the sake of room.
 pub fn copied(
     index: &BTreeMap<ItemId, Vec<Version>>,
+    room: Option<ItemId>,
 ) -> Result<BTreeMap<ItemId, Vec<Version>>, AllocError>
-    ensures { IfOk result (λ copy. (i : Name) → listed_for copy i ≡ listed_for index.now i) }
+    requires { HasNoIdle room index.now }
+    ensures same { IfOk result (λ copy. (i : Name) → listed_for copy i ≡ listed_for index.now i) }
+    ensures no_idle { IfOk result (λ copy. HasNoIdle None copy) }
+{
+    let mut copy = cloned(index)?;
+    drop_room(&mut copy, room);
+    Ok(copy)
+}
+
+// A clone, with the same lists.
+fn cloned(
+    index: &BTreeMap<ItemId, Vec<Version>>,
+) -> Result<BTreeMap<ItemId, Vec<Version>>, AllocError>
+    ensures same { IfOk result (λ copy. (i : Name) → listed_for copy i ≡ listed_for index.now i) }
+    ensures empty { IfOk result (λ copy. (i : Name) → has_empty_for copy i ≡ has_empty_for index.now i) }
 {
     index.clone()
+}
+
+/// Whether the room is for one more revision of the item.
+pub fn is_for(room: Option<ItemId>, item: ItemId) -> bool
+    ensures { result ≡ is_for room item }
+{
+    match room {
+        Some(other) => other == item,
+        None => false,
+    }
+}
+
+/// Where the item for which there is room has no version, its list goes.
+pub fn drop_room(index: &mut BTreeMap<ItemId, Vec<Version>>, room: Option<ItemId>)
+    requires { HasNoIdle room index.old }
+    ensures same { (i : Name) → listed_for index.new i ≡ listed_for index.old i }
+    ensures no_idle { HasNoIdle None index.new }
+{
+    if let Some(item) = room {
+        drop_empty(index, item);
+    }
+}
+
+/// The item's list goes where it is empty, unless the room is for the item. It costs a look-up.
+pub fn drop_idle(index: &mut BTreeMap<ItemId, Vec<Version>>, item: ItemId, room: Option<ItemId>)
+    ensures same { (i : Name) → listed_for index.new i ≡ listed_for index.old i }
+    ensures room { HasRoomFor room index.old → HasRoomFor room index.new }
+    ensures no_idle { ((i : Name) → name_eq item i ≡ false → has_empty_for index.old i ≡ true → is_for room i ≡ true) → HasNoIdle room index.new }
+{
+    if !is_for(room, item) {
+        drop_empty(index, item);
+    }
+}
+
+// The item's list goes where it is empty. It costs a look-up.
+fn drop_empty(index: &mut BTreeMap<ItemId, Vec<Version>>, item: ItemId)
+    ensures same { (i : Name) → listed_for index.new i ≡ listed_for index.old i }
+    ensures empty { (i : Name) → has_empty_for index.new i ≡ (not (name_eq item i) && has_empty_for index.old i) }
+    ensures room { (i : Name) → name_eq item i ≡ false → HasRoomFor (Some i) index.old → HasRoomFor (Some i) index.new }
+{
+    if has_empty_for(index, item) {
+        index.remove(&item);
+    }
+}
+
+// Whether there is a list for the item, with no version.
+fn has_empty_for(index: &BTreeMap<ItemId, Vec<Version>>, item: ItemId) -> bool
+    ensures { result ≡ has_empty_for index.now item }
+{
+    match index.get(&item) {
+        Some(versions) => versions.is_empty(),
+        None => false,
+    }
 }
 
 /// Makes room for one version more of the item.
@@ -60,7 +128,9 @@ pub fn make_room(
     item: ItemId,
 ) -> Result<(), AllocError>
     ensures same { (i : Name) → listed_for index.new i ≡ listed_for index.old i }
+    ensures others { (i : Name) → name_eq item i ≡ false → has_empty_for index.new i ≡ has_empty_for index.old i }
     ensures ok { OnOk result (HasRoomFor (Some item) index.new) }
+    ensures err { OnErr result ((i : Name) → has_empty_for index.new i ≡ has_empty_for index.old i) }
 {
     match index.get_mut(&item) {
         Some(versions) => versions.reserve_exact(1),
@@ -76,7 +146,9 @@ fn enlist(
 ) -> Result<(), AllocError>
     requires { get name_cmp index.old item ≡ None }
     ensures same { (i : Name) → listed_for index.new i ≡ listed_for index.old i }
+    ensures others { (i : Name) → name_eq item i ≡ false → has_empty_for index.new i ≡ has_empty_for index.old i }
     ensures ok { OnOk result (HasRoomFor (Some item) index.new) }
+    ensures err { OnErr result ((i : Name) → has_empty_for index.new i ≡ has_empty_for index.old i) }
 {
     let versions = Vec::with_capacity(alloc, 1)?;
     index.insert(item, versions)?;
@@ -86,24 +158,37 @@ fn enlist(
 /// Lists a version of the item, for which there is room.
 pub fn list(index: &mut BTreeMap<ItemId, Vec<Version>>, item: ItemId, version: Version)
     requires { HasRoomFor (Some item) index.old }
-    ensures { (i : Name) → listed_for index.new i ≡ (if name_eq item i then version_inserted version (listed_for index.old i) else listed_for index.old i) }
+    ensures others { (i : Name) → listed_for index.new i ≡ (if name_eq item i then version_inserted version (listed_for index.old i) else listed_for index.old i) }
+    ensures empty { (i : Name) → has_empty_for index.new i ≡ (not (name_eq item i) && has_empty_for index.old i) }
 {
     if let Some(versions) = index.get_mut(&item) {
         put_version(versions, version);
     }
 }
 
-/// Lists no version that one of these revisions is of, which stand in version order. It costs a binary
-/// search among these for each listed version.
-pub fn unlist_versions(index: &mut BTreeMap<ItemId, Vec<Version>>, left: &[Revision])
+/// Lists no version that one of these revisions is of, which stand in version order. What list becomes empty goes,
+/// but for that of the item for which there is room. It costs a binary search among these for each listed version.
+pub fn unlist_versions(
+    index: &mut BTreeMap<ItemId, Vec<Version>>,
+    left: &[Revision],
+    room: Option<ItemId>,
+)
     requires { AreInVersionOrder left.now }
     ensures others { (i : Name) → listed_for index.new i ≡ filter (λ v. not (holds left.now v)) (listed_for index.old i) }
-    ensures room { (i : Name) → HasRoomFor (Some i) index.old → HasRoomFor (Some i) index.new }
+    ensures room { HasRoomFor room index.old → HasRoomFor room index.new }
+    ensures no_idle { HasNoIdle room index.new }
 {
-    index.retain(|_, versions| {
+    index.retain(|item, versions| {
         retain_absent(versions, left);
-        true
+        is_needed(versions, *item, room)
     });
+}
+
+// Whether a list of the item is needed: it has versions, or the room is for one more.
+fn is_needed(versions: &[Version], item: ItemId, room: Option<ItemId>) -> bool
+    ensures { result ≡ (not (length versions.now == 0) || is_for room item) }
+{
+    !versions.is_empty() || is_for(room, item)
 }
 
 // Keeps the versions that none of these revisions is of, which stand in version order.

@@ -1,12 +1,12 @@
 //! One list of a store: revisions in version order, and an index of them by item.
-ghost use Rattle.std.specs.Prelude.{◌≡◌, ◌<◌, ◌≤◌, ◌&&◌, if◌then◌else◌, not, [], Some, None, IfOk, OnOk, OnErr, filter};
+ghost use Rattle.std.specs.Prelude.{◌≡◌, ◌<◌, ◌≤◌, ◌&&◌, if◌then◌else◌, not, false, [], Some, None, IfOk, OnOk, OnErr, filter};
 ghost use Rattle.std.specs.List.{list_any};
 ghost use Rattle.std.specs.Option.{option_copied};
 ghost use Rattle.mr_version.specs.Name.{Name, name_eq};
 ghost use Rattle.mr_forms.specs.Sets.{is_listed};
 ghost use Rattle.mr_concise.specs.Vector.{vector_has};
 ghost use Rattle.mr_madewith.specs.Keyed.{without};
-ghost use Rattle.mr_store.specs.Index.{listed_for, HasRoomFor};
+ghost use Rattle.mr_store.specs.Index.{listed_for, HasRoomFor, has_empty_for};
 ghost use Rattle.mr_store.specs.Leaving.{leaves};
 ghost use Rattle.mr_store.specs.Revisions.{AreInVersionOrder, version_of, revision_of, holds, entered, versions_of, supersedes, left_by, AreConflicts};
 ghost use Rattle.mr_store.specs.Unheld.{is_unheld};
@@ -14,7 +14,8 @@ ghost use Rattle.mr_store.specs.Unheld.{is_unheld};
 use crate::by_version::{has_version, search};
 use crate::gap_vector::GapVector;
 use crate::index::{
-    copied, items_with_several, list, listed_for, make_room, retain_others, unlist_versions,
+    copied, drop_idle, drop_room, items_with_several, list, listed_for, make_room, retain_others,
+    unlist_versions,
 };
 use crate::leaving::{leaves, none_leave, some_leave};
 use crate::unheld::unheld_of;
@@ -153,6 +154,7 @@ impl Shelf {
         ensures ok { OnOk result (self.new ≡ record { revisions = self.old.revisions; room = Some item }) }
         ensures err { OnErr result (self.new.revisions ≡ self.old.revisions) }
     {
+        drop_room(&mut self.index, self.room);
         self.room = None;
         self.revisions.reserve_one()?;
         make_room(&mut self.index, self.alloc, item)?;
@@ -181,6 +183,7 @@ impl Shelf {
             return;
         }
         let_leave(&mut self.revisions, &mut self.index, item, ones, below);
+        drop_idle(&mut self.index, item, self.room);
     }
 
     /// The revisions leave that are of the version of one of these, which stand in version order. Where there are
@@ -192,7 +195,7 @@ impl Shelf {
         if left.is_empty() {
             return;
         }
-        unlist_versions(&mut self.index, left);
+        unlist_versions(&mut self.index, left, self.room);
         self.revisions.retain_others(left);
     }
 
@@ -204,7 +207,7 @@ impl Shelf {
         Ok(Shelf {
             alloc: self.alloc,
             revisions: GapVector::from_vec(copies(self.alloc, self.revisions.as_slice())?),
-            index: copied(&self.index)?,
+            index: copied(&self.index, self.room)?,
             room: None,
         })
     }
@@ -236,6 +239,7 @@ fn let_leave(
     ensures spare { revisions.old.spare ≤ revisions.new.spare }
     ensures others { (i : Name) → listed_for index.new i ≡ (if name_eq item i then filter (λ v. not (leaves ones.now below.now v)) (listed_for index.old i) else listed_for index.old i) }
     ensures room { (i : Name) → HasRoomFor (Some i) index.old → HasRoomFor (Some i) index.new }
+    ensures empty { (i : Name) → name_eq item i ≡ false → has_empty_for index.new i ≡ has_empty_for index.old i }
 {
     match index.get_mut(&item) {
         Some(versions) => {

@@ -1,18 +1,20 @@
 //! Records that are prepared before the stream goes on.
 ghost use Rattle.std.specs.Prelude.{◌≡◌, ◌≤◌, ◌<◌, ◌+◌, ◌^◌, ◌||◌, [], is_some, IfOk, IsOk, IsFalse};
 ghost use Rattle.std.specs.Option.{option_map};
-ghost use Rattle.mr_session.specs.Stream.{is_end, due, DrawsKnow, DrawsFirstHeld, DrawsAfterWalk, DrawsWalk, Draws, Gives};
+ghost use Rattle.mr_session.specs.Stream.{is_end, told, due, DrawsKnow, DrawsFirstHeld, DrawsAfterWalk, DrawsWalk, Draws, Gives};
 ghost use Rattle.mr_session.specs.Onward.{moved, after_given, is_last, behind_first};
 ghost use Rattle.mr_session.specs.Preparing.{is_copied};
 ghost use Rattle.mr_session.specs.Session.{is_full_mode};
 
-use super::{Outgoing, tell};
+use super::Outgoing;
+use crate::asked::AskedOf;
 use crate::due::due;
 use crate::held::held_vectors;
 use mr_concise::ConciseVector;
+use mr_madewith::Revision;
 use mr_store::Store;
 use mr_version::{Author, Version};
-use mr_wire::{Body, FrameFragment, Header, Mode, Record};
+use mr_wire::{Body, Descent, Header, Mode, Record};
 use std::alloc::AllocError;
 use std::collections::VecDeque;
 
@@ -45,6 +47,18 @@ pub struct Prepared {
 struct Saying {
     body: Body,
     onward: Onward,
+}
+
+// How the one who asks is told of the revision. It copies a handle, or the vector of what it supersedes.
+fn tell(asked: &AskedOf, revision: &Revision) -> Result<Body, AllocError>
+    ensures { IfOk result (λ body. body ≡ told asked.now revision.now) }
+{
+    if asked.selects(revision) {
+        return Ok(Body::Item(revision.copy()?));
+    }
+    let below = revision.below().copy()?;
+    let descent = Descent::new(revision.item(), revision.version(), below);
+    Ok(Body::MoveOut(descent))
 }
 
 impl Outgoing {
@@ -138,8 +152,9 @@ impl Outgoing {
     /// The next record of the stream of this number, of what its source holds now, and how the stream goes on
     /// behind it. The stream stays as it is.
     ///
-    /// It is the record that a draw would give. It costs what that costs, and a copy of the vector or the
-    /// fragment of a Held or Know. A Start and an End need no memory.
+    /// It costs a copy of what the record says: of a revision's handle, or of a vector or a fragment. The first
+    /// Held costs a short search for each run of versions of the heads, or a walk over them where one vector has
+    /// no room for all. A Start and an End need no memory.
     pub(crate) fn prepare(
         &self,
         source: Author,

@@ -1,7 +1,7 @@
 use Rattle.std.proofs.Common.{◌∙◌}
 use Rattle.mr_itemset.specs.Entries.{listed_as, listed_of}
 use Rattle.mr_itemset.proofs.EntryLemmas.{placed-last}
-use Rattle.mr_itemset.proofs.GrowLemmas.{gains_nothing, gains_pushed, lacks_grown}
+use Rattle.mr_itemset.proofs.GrowLemmas.{gains_nothing, gains_pushed, lacks_grown, united_gained}
 use Rattle.mr_itemset.proofs.grow.push_grown.Goals as goal
 
 pub returns-then-not-lacks : goal.returns-then-not-lacks
@@ -11,6 +11,7 @@ returns-then-not-lacks g c =
 pub returns : goal.returns
 returns g c =
     let x = listed_as c.args.item c.args.vector.now in
+    let has = united_gained (g.A.Source.has c.args.added.now) c.args.all.now c.in-Ok.vector x c.requires.added c.requires.covers c.in-Ok.ensures.has in
     rw (c.in_ok-put_in.ensures.ok ∙ placed-last (listed_as c.args.item c.in-Ok.vector) (listed_of c.args.listed.now.entries) c.requires.before)
-    (gains_pushed (g.A.Source.has c.args.added.now) c.args.all.now x (listed_of c.args.listed.now.entries) c.in-Ok.vector c.requires.before c.in-Ok.ensures.canonical.columns_ok c.in-Ok.ensures.ok c.requires.covers
-    (lacks_grown (g.A.Source.has c.args.added.now) c.args.all.now c.in-Ok.vector x (c.lacks.ensures.yes c.if-not-lacks.false) c.in-Ok.ensures.ok))
+    (gains_pushed (g.A.Source.has c.args.added.now) c.args.all.now x (listed_of c.args.listed.now.entries) c.in-Ok.vector c.requires.before c.in-Ok.ensures.columns_ok has c.requires.covers
+    (lacks_grown (g.A.Source.has c.args.added.now) c.args.all.now c.in-Ok.vector x (c.lacks.ensures.yes c.if-not-lacks.false) has))

@@ -4,8 +4,8 @@ use Rattle.mr_store.specs.GapVector.{GapParts}
 use Rattle.mr_store.proofs.GapLemmas.{drop-remove}
 use Rattle.mr_store.proofs.gap_vector.GapVector.remove.Goals as goal
 
-pub returns-else-place-eq0-clause-items : goal.returns-else-place-eq0-clause-items
-returns-else-place-eq0-clause-items c =
+pub returns-else-place-as_slice-clause-items : goal.returns-else-place-as_slice-clause-items
+returns-else-place-as_slice-clause-items c =
     let behind = ap (λ (v : GapParts). v.items) c.self.view_is in
     ap (λ (rs : List Rev). drop c.self.inside.gap rs) c.remove.ensures.items
     ∙ (drop-remove c.self.inside.gap c.args.place c.self.inside.slots.items (rw behind c.requires)

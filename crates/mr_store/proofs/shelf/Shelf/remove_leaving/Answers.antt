@@ -1,4 +1,4 @@
-use Rattle.std.proofs.Common.{◌≡◌, ap, ◌∙◌, List, arith}
+use Rattle.std.proofs.Common.{◌≡◌, ap, sym, ◌∙◌, List, arith}
 use Rattle.mr_store.specs.Leaving.{leaves}
 use Rattle.mr_madewith.specs.Revision.{Rev}
 use Rattle.mr_store.specs.Shelf.{ShelfParts}
@@ -14,9 +14,10 @@ invariant_of-self c =
     (rw (c.self.invariant.indexed c.args.item) at c.let_leave.ensures.items) ∙ left_by-listed c.args.item (leaves c.args.ones.now c.args.below.now) heads c.self.invariant.in_order in
     record {
       in_order = c.let_leave.ensures.in_order;
-      indexed = λ i. rw (left, versions_of-left_by i c.args.item (leaves c.args.ones.now c.args.below.now) heads) (rw (c.self.invariant.indexed i) at (c.let_leave.ensures.others i));
+      indexed = λ i. rw (left, versions_of-left_by i c.args.item (leaves c.args.ones.now c.args.below.now) heads) (c.drop_idle.ensures.same i ∙ (rw (c.self.invariant.indexed i) at (c.let_leave.ensures.others i)));
       has_place = λ h. omega (arith, c.let_leave.ensures.spare, c.self.invariant.has_place h);
-      has_room = room-kept c.self.inside.index c.let_leave.new.index c.self.inside.room c.let_leave.ensures.room c.self.invariant.has_room;
+      has_room = c.drop_idle.ensures.room (room-kept c.self.inside.index c.let_leave.new.index c.self.inside.room c.let_leave.ensures.room c.self.invariant.has_room);
+      no_idle = c.drop_idle.ensures.no_idle (λ i apart empty. c.self.invariant.no_idle i (sym (c.let_leave.ensures.empty i apart) ∙ empty));
     }
 
 pub returns : goal.returns

@@ -4,7 +4,6 @@ use Rattle.mr_version.specs.Name.{Name}
 use Rattle.mr_madewith.proofs.Rising.{rises-filter}
 use Rattle.mr_store.specs.Revisions.{version_of, holds}
 use Rattle.mr_store.proofs.RevisionLemmas.{versions_of-filter, none_left}
-use Rattle.mr_store.proofs.IndexLemmas.{room-kept}
 use Rattle.mr_madewith.specs.Revision.{Rev}
 use Rattle.mr_store.specs.Shelf.{ShelfParts}
 use Rattle.mr_store.proofs.shelf.Shelf.remove_versions.Goals as goal
@@ -23,5 +22,6 @@ invariant_of-self c =
           ∙ (ap (λ (vs : List Name). filter (λ v. not (holds left v)) vs) (c.self.invariant.indexed i)
           ∙ sym (versions_of-filter (holds left) i old)));
       has_place = λ h. omega (arith, c.retain_others.ensures.spare, c.self.invariant.has_place h);
-      has_room = room-kept c.self.inside.index c.unlist_versions.new.index c.self.inside.room c.unlist_versions.ensures.room c.self.invariant.has_room;
+      has_room = c.unlist_versions.ensures.room c.self.invariant.has_room;
+      no_idle = c.unlist_versions.ensures.no_idle;
     }

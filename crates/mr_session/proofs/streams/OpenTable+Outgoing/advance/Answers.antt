@@ -1,7 +1,7 @@
 use Rattle.std.proofs.Common.{rules, ◌≡◌}
 use Rattle.mr_session.specs.Onward.{after_given}
 use Rattle.mr_session.proofs.OnwardLemmas.{gone_open}
-use Rattle.mr_session.proofs.prepared.OpenTable+Outgoing.advance.Goals as goal
+use Rattle.mr_session.proofs.streams.OpenTable+Outgoing.advance.Goals as goal
 
 pub returns : goal.returns
 returns c =
