@@ -1,23 +1,25 @@
--- an author's column, as a search finds it, and what its bound tells
-use Rattle.std.proofs.Common.{◌≡◌, ◌==◌, ℕ, refl, ap, List, [], ◌∷◌, Some, None, inl, inr}
-use Rattle.std.specs.List.{find}
-use Rattle.std.proofs.lemmas.Bool.{cases_Bool}
+-- an author's last counter in a vector, or 0 where it has none, is its column's bound
+use Rattle.std.proofs.Common.{◌≡◌, ◌≤◌, ◌<◌, ℕ, List, Option, Some, None, sym, ◌∙◌, inl, inr, arith}
+use Rattle.std.specs.Option.{MatchOption, unwrap_or}
+use Rattle.std.proofs.lemmas.Bool.{cases_lt, false≢true}
+use Rattle.mr_forms.specs.Runs.{HasNoneOf}
 use Rattle.mr_concise.specs.declared.vector.AuthorColumn.{AuthorColumn}
-use Rattle.mr_concise.specs.Vector.{column_of}
-use Rattle.mr_replica.proofs.Choice.{some_same}
+use Rattle.mr_concise.specs.Last.{IsLast}
+use Rattle.mr_concise.specs.Vector.{column_of, vector_has, IsVectorFrom}
+use Rattle.mr_concise.proofs.LastLemmas.{bound-is_last, column_has-above}
 
-pub highest_found : (xs : List AuthorColumn) (author : ℕ) (x : AuthorColumn) → find (λ y. y.author == author) xs ≡ Some x → (column_of xs author).upto ≡ x.column.upto
-highest_found [] author x found = cc
-highest_found (y ∷ ys) author x found =
-    elim (cases_Bool (y.author == author)) [
-      | inl same ↦ rw same (ap (λ (c : AuthorColumn). c.column.upto) (some_same y x (rw same at found)))
-      | inr other ↦ rw other (highest_found ys author x (rw other at found))
+pub last_is_bound : (columns : List AuthorColumn) (q : ℕ) (last : Option ℕ) → IsVectorFrom 0 columns → MatchOption last (HasNoneOf (vector_has columns) q) (IsLast (vector_has columns) q) → unwrap_or last 0 ≡ (column_of columns q).upto
+last_is_bound columns q None vector none =
+    elim (cases_lt 0 (column_of columns q).upto) [
+      | inl some ↦ absurd (false≢true (sym (none (column_of columns q).upto) ∙ (bound-is_last columns q vector (omega arith)).is_in))
+      | inr empty ↦ omega arith
     ]
-
-pub highest_none : (xs : List AuthorColumn) (author : ℕ) → find (λ y. y.author == author) xs ≡ None → (column_of xs author).upto ≡ 0
-highest_none [] author found = refl
-highest_none (y ∷ ys) author found =
-    elim (cases_Bool (y.author == author)) [
-      | inl same ↦ cc (rw same at found)
-      | inr other ↦ rw other (highest_none ys author (rw other at found))
+last_is_bound columns q (Some c) vector is =
+    elim (cases_lt c (column_of columns q).upto) [
+      | inl below ↦ absurd (false≢true (sym (is.above (column_of columns q).upto below) ∙ (bound-is_last columns q vector (omega arith)).is_in))
+      | inr up ↦
+          elim (cases_lt (column_of columns q).upto c) [
+            | inl above ↦ absurd (false≢true (sym (column_has-above (column_of columns q) c above) ∙ is.is_in))
+            | inr low ↦ omega arith
+          ]
     ]

@@ -12,12 +12,13 @@ use Rattle.mr_replica.specs.State.{State}
 use Rattle.mr_replica.specs.Fragments.{HaveKnown, AreFragmentsOf, HasHoleyPart}
 use Rattle.mr_replica.specs.Refusal.{◌orelse◌, refused_if}
 use Rattle.mr_replica.specs.Admission.{retired, log_full}
+use Rattle.mr_replica.specs.declared.replica.pull.TheConstants.{MAX_ASKED_BYTES}
 use Rattle.mr_replica.specs.declared.refusal.Refusal.{Refusal}
 use Rattle.mr_replica.specs.declared.refusal.Refusal.TheVariants.{TooManySessions}
 
 -- how many bytes the fragments of a request take at most
 abbrev pub most_asked : ℕ
-most_asked = 8000000
+most_asked = MAX_ASKED_BYTES
 
 -- the longest beginning of the pieces that takes at most so many bytes: there is one
 pub record IsLongestWithin (most : ℕ) (all some : List Piece) : Type 0 where

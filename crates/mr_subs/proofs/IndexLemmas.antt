@@ -1,5 +1,5 @@
 -- the versions of a shelf whose card has the label
-use Rattle.std.proofs.Common.{◌≡◌, ℕ, Bool, true, false, cond, ◌&&◌, IsTrue, refl, ap, sym, subst, ◌∙◌, List, [], filter, Some}
+use Rattle.std.proofs.Common.{◌≡◌, ℕ, Bool, true, false, cond, ◌&&◌, IsTrue, IsFalse, refl, ap, sym, subst, ◌∙◌, List, [], filter, Some}
 use Rattle.std.specs.BTreeSet.{BTreeSet}
 use Rattle.std.specs.declared.cmp.Ordering.{Ordering}
 use Rattle.std.specs.declared.cmp.Ordering.TheVariants.{Less, Equal, Greater}
@@ -55,3 +55,14 @@ AreShelved-put old new s t version card e well here kept label v p = cases (name
     cases : (b : Bool) → name_eq version v ≡ b → IsTrue (card_has_label (cond b (Some card) (card_at old v)) label) → IsTrue (on_shelf t label v)
     cases true same q = subst (λ u. IsTrue (on_shelf t label u)) (same_version version v same) (here label q)
     cases false other q = kept label v (well label v q)
+
+-- where the version gets another card, and stands on the shelves of its labels; others stay where they stand
+pub AreShelved-changed : (old new : List (Name × MailCard)) (s t : List (List ℕ × BTreeSet Name)) (version : Name) (card : MailCard) →
+    ((v : Name) → card_at new v ≡ cond (name_eq version v) (Some card) (card_at old v)) → AreShelved old s →
+    ((q : List ℕ) → IsTrue (has_label card.labels q) → IsTrue (on_shelf t q version)) →
+    ((v : Name) → IsFalse (name_eq version v) → (q : List ℕ) → IsTrue (on_shelf s q v) → IsTrue (on_shelf t q v)) → AreShelved new t
+AreShelved-changed old new s t version card e well here kept label v p = cases (name_eq version v) refl (sym (ap (λ o. card_has_label o label) (e v)) ∙ p)
+  where
+    cases : (b : Bool) → name_eq version v ≡ b → IsTrue (card_has_label (cond b (Some card) (card_at old v)) label) → IsTrue (on_shelf t label v)
+    cases true same q = subst (λ u. IsTrue (on_shelf t label u)) (same_version version v same) (here label q)
+    cases false other q = kept v other label (well label v q)

@@ -42,11 +42,9 @@ impl<K: Knowledge> Core<K> {
     fn answer(&mut self, ask: Ask) -> Result<u64, Refusal>
         ensures { Steps K.form self.old (Event.Answer ask) (answer_by (λ stream. Reply.Streaming stream) result) self.new }
     {
-        self.check_answer(&ask)?;
-        let mode = self.mode_for(&ask);
-        let know = self.kept_for(mode)?;
-        let stream = self.streams.opened() + 1;
-        self.open_stream(ask, mode, know)?;
+        let (Reply::Streaming(stream), ()) = self.answer_then(ask, |_| Ok(()))? else {
+            unreachable!()
+        };
         Ok(stream)
     }
 

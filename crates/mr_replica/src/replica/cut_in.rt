@@ -31,8 +31,9 @@ impl<K: Knowledge> Core<K> {
     fn cut_in(&mut self, session: u64) -> Result<(), Refusal>
         ensures { Steps K.form self.old (Event.CutIn session) (answer_by (λ _. Reply.Done) result) self.new }
     {
-        self.check_cut_in(session)?;
-        self.close_session(session)?;
+        let (Reply::Done, ()) = self.cut_in_then(session, |_| Ok(()))? else {
+            unreachable!()
+        };
         Ok(())
     }
 

@@ -31,8 +31,9 @@ impl<K: Knowledge> Core<K> {
     fn cut_out(&mut self, stream: u64) -> Result<(), Refusal>
         ensures { Steps K.form self.old (Event.CutOut stream) (answer_by (λ _. Reply.Done) result) self.new }
     {
-        self.check_cut_out(stream)?;
-        self.close_stream(stream)?;
+        let (Reply::Done, ()) = self.cut_out_then(stream, |_| Ok(()))? else {
+            unreachable!()
+        };
         Ok(())
     }
 

@@ -91,10 +91,6 @@ impl<K: Knowledge> Core<K> {
 fn highest(vector: &ConciseVector, author: Author) -> u32
     ensures { result ≡ (column_of vector.now author).upto }
 {
-    for of_author in vector.author_columns() {
-        if of_author.author == author {
-            return of_author.column.upto();
-        }
-    }
-    0
+    let _columns = vector.author_columns();
+    vector.last(author).unwrap_or(0)
 }

@@ -37,9 +37,9 @@ impl<K: Knowledge> Core<K> {
     fn next(&mut self, stream: u64) -> Result<Record, Refusal>
         ensures { Steps K.form self.old (Event.Next stream) (answer_by (λ sent. Reply.Gave sent) result) self.new }
     {
-        self.check_next(stream)?;
-        let Prepared { record, onward } = self.prepared(stream)?;
-        self.go_on(stream, onward)?;
+        let (Reply::Gave(record), ()) = self.next_then(stream, |_| Ok(()))? else {
+            unreachable!()
+        };
         Ok(record)
     }
 

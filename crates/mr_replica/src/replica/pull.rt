@@ -42,9 +42,9 @@ impl<K: Knowledge> Core<K> {
     fn pull(&mut self) -> Result<Ask, Refusal>
         ensures { Steps K.form self.old Event.Pull (answer_by (λ ask. Reply.Asked ask) result) self.new }
     {
-        self.check_pull()?;
-        let ask = self.next_ask()?;
-        self.open_session()?;
+        let (Reply::Asked(ask), ()) = self.pull_then(|_| Ok(()))? else {
+            unreachable!()
+        };
         Ok(ask)
     }
 

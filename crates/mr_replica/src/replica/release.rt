@@ -37,8 +37,9 @@ impl<K: Knowledge> Core<K> {
     fn release(&mut self, receipt: Receipt) -> Result<(), Refusal>
         ensures { Steps K.form self.old (Event.Release receipt) (answer_by (λ _. Reply.Done) result) self.new }
     {
-        self.check_release(&receipt)?;
-        self.let_go(receipt)?;
+        let (Reply::Done, ()) = self.release_then(receipt, |_| Ok(()))? else {
+            unreachable!()
+        };
         Ok(())
     }
 

@@ -31,8 +31,9 @@ impl<K: Knowledge> Core<K> {
     fn retire(&mut self) -> Result<(), Refusal>
         ensures { Steps K.form self.old Event.Retire (answer_by (λ _. Reply.Done) result) self.new }
     {
-        self.check_retire()?;
-        self.note_retirement()?;
+        let (Reply::Done, ()) = self.retire_then(|_| Ok(()))? else {
+            unreachable!()
+        };
         Ok(())
     }
 

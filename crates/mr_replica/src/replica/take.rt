@@ -131,7 +131,8 @@ impl<K: Knowledge> Core<K> {
         let below = told_below(sent.body());
         self.knowledge.may_learn_with(item, version, below)?;
         let comer = self.comer(sent.body())?;
-        let entries = news(self.alloc, self.contents.store(), item, below, &comer)?;
+        let store = self.contents.store();
+        let entries = news(self.alloc, store, item, below, comer.as_ref())?;
         Ok(Told { comer, entries })
     }
 

@@ -37,9 +37,9 @@ impl<K: Knowledge> Core<K> {
     fn vouch(&mut self, version: Version) -> Result<Receipt, Refusal>
         ensures { Steps K.form self.old (Event.Vouch version) (answer_by (λ receipt. Reply.Vouched receipt) result) self.new }
     {
-        self.check_vouch(version)?;
-        let receipt = self.receipt_of(version)?;
-        self.note_vouch(version)?;
+        let (Reply::Vouched(receipt), ()) = self.vouch_then(version, |_| Ok(()))? else {
+            unreachable!()
+        };
         Ok(receipt)
     }
 

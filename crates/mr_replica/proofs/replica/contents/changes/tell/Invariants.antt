@@ -1,6 +1,6 @@
 use Rattle.std.proofs.Common.{◌≡◌, ◌≤◌, ◌++◌, length}
 use Rattle.std.specs.Vec.Iter.{into_iter_items}
-use Rattle.mr_replica.proofs.replica.contents.tell.Given as goal
+use Rattle.mr_replica.proofs.replica.contents.changes.tell.Given as goal
 
 -- the entries so far are told, and there is room for those that are left
 abbrev pub invariant-loop-entry : goal.invariant-loop-entry
