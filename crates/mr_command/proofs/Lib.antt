@@ -1,5 +1,4 @@
 pub mod Cut
-pub mod Decimal
 pub mod LabelLemmas
 pub mod PieceLemmas
 pub mod Readings

@@ -1,39 +1,18 @@
 //! Numbers: decimal, without leading zeros.
-ghost use Rattle.std.specs.Prelude.{◌≡◌, ◌<◌, ◌^◌, ◌↔◌, ℕ, Some, IsTrue, IfSome};
+ghost use Rattle.std.specs.Prelude.{◌≡◌, ◌<◌, ℕ, Some, IfSome};
 ghost use Rattle.std.specs.Fmt.{decimal};
-ghost use Rattle.mr_version.specs.Number.{IsPlain};
 ghost use Rattle.mr_command.specs.Number.{SpellsNumber, SpellsId, reads_up_to};
 ghost use Rattle.mr_command.specs.Reading.{names};
 ghost use Rattle.mr_version.specs.declared.author.TheConstants.{AUTHORS};
 
 use crate::LineFault;
-use mr_version::Author;
-
-/// Whether the text has no sign in front and no leading zero.
-fn is_plain(text: &str) -> bool
-    ensures { IsTrue result ↔ IsPlain text.now }
-{
-    let bytes = text.as_bytes();
-    bytes.is_empty() || (bytes[0] != b'+' && (bytes[0] != b'0' || bytes.len() == 1))
-}
-
-/// The number below 2^64 whose decimal text this is.
-fn number_of(text: &str) -> Option<u64>
-    ensures spelled { IfSome result (λ n. text.now ≡ decimal n) }
-    ensures whole { (n : ℕ) → n < 2 ^ 64 → text.now ≡ decimal n → result ≡ Some n }
-{
-    if is_plain(text) {
-        text.parse().ok()
-    } else {
-        None
-    }
-}
+use mr_version::{Author, read_decimal};
 
 /// The number that the word is. `BadNumber` where it is none below 2^64.
 pub(crate) fn read_number(word: &str) -> Result<u64, LineFault>
     ensures { names SpellsNumber LineFault.BadNumber word.now result }
 {
-    match number_of(word) {
+    match read_decimal(word) {
         Some(number) => Ok(number),
         None => Err(LineFault::BadNumber),
     }
@@ -44,7 +23,7 @@ fn author_of(text: &str) -> Option<Author>
     ensures spelled { IfSome result (λ id. SpellsId text.now id) }
     ensures whole { (id : ℕ) → id < AUTHORS → text.now ≡ decimal id → result ≡ Some id }
 {
-    let id = u16::try_from(number_of(text)?).ok()?;
+    let id = u16::try_from(read_decimal(text)?).ok()?;
     Author::try_new(id).ok()
 }
 

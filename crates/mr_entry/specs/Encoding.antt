@@ -1,6 +1,7 @@
 -- the bytes of an entry
 use Rattle.std.specs.Prelude.{◌≤◌, ◌<◌, ◌^◌, ℕ, length, Result, Ok, Err}
 use Rattle.std.specs.Global.{Vec}
+use Rattle.mr_wire.specs.declared.decoding.TheConstants.{MAX_REST_BYTES}
 use Rattle.mr_event.specs.Spelling.{rest_bytes}
 use Rattle.mr_entry.specs.Grammar.{Spells}
 use Rattle.mr_entry.specs.declared.entry.Entry.{Entry}
@@ -11,7 +12,7 @@ use Rattle.mr_entry.specs.declared.fault.EntryFault.TheVariants.{OutOfMemory, Tr
 -- it has no bytes: a text or a note is too long to have its length written, or the event is longer than one may be
 abbrev pub IsLong : Entry → Type 0
 IsLong (entry.Head h) = 2 ^ 32 ≤ length h.filter
-IsLong (entry.Event issued e) = 8388608 < length (rest_bytes e)
+IsLong (entry.Event issued e) = MAX_REST_BYTES < length (rest_bytes e)
 IsLong (entry.Nexts stream count) = ⊥
 IsLong (entry.Note n) = 2 ^ 32 ≤ length n.bytes
 

@@ -3,6 +3,7 @@ use Rattle.std.proofs.Common.{◌≡◌, ℕ, ◌+◌, ◌≤◌, ◌<◌, ◌^�
 use Rattle.std.specs.Prelude.{IfOk, nat_lt}
 use Rattle.std.proofs.lemmas.Bool.{ltb-false, le-ltb, eqb-true}
 use Rattle.std.proofs.lemmas.List.{append-nil, nil_from_length, length-append, take_at}
+use Rattle.mr_wire.specs.declared.decoding.TheConstants.{MAX_REST_BYTES}
 use Rattle.mr_wire.specs.Reading.{◌>>=◌, number_at, bytes_at}
 use Rattle.std.specs.Int.{w32}
 use Rattle.mr_wire.specs.Spelling.{u32}
@@ -43,13 +44,13 @@ test_ok false r fault x e = absurd cc
 record TakesRest (bytes rest : List ℕ) : Type 0 where
   pub more : List ℕ
   pub whole : bytes ≡ (u32 (length rest) ++ rest) ++ more
-  pub few : length rest ≤ 8388608
+  pub few : length rest ≤ MAX_REST_BYTES
 
 rest_takes : (bytes rest : List ℕ) → rest_of bytes ≡ Ok rest → TakesRest bytes rest
 rest_takes bytes rest e =
     let a = then_ok (or_fault Truncated (number_at w32 bytes)) rest_from rest e in
     let number = or_ok Truncated (number_at w32 bytes) a.0 a.1 in
-    let b = test_err (nat_lt 8388608 a.0.0) TooLong (cond (nat_lt a.0.0 2) (Err BadBody) (or_fault Truncated (bytes_at a.0.0 a.0.1 >>= λ found. Some found.0))) rest a.2 in
+    let b = test_err (nat_lt MAX_REST_BYTES a.0.0) TooLong (cond (nat_lt a.0.0 2) (Err BadBody) (or_fault Truncated (bytes_at a.0.0 a.0.1 >>= λ found. Some found.0))) rest a.2 in
     let c = test_err (nat_lt a.0.0 2) BadBody (or_fault Truncated (bytes_at a.0.0 a.0.1 >>= λ found. Some found.0)) rest b.1 in
     let d = bind_some (bytes_at a.0.0 a.0.1) (λ found. Some found.0) rest (or_ok Truncated (bytes_at a.0.0 a.0.1 >>= λ found. Some found.0) rest c.1) in
     let rest_is : d.0.0 ≡ rest = cc in
@@ -62,10 +63,10 @@ rest_takes bytes rest e =
       few = omega (arith, len, ltb-false _ _ b.0);
     }
 
-rest_again : (rest more : List ℕ) → 2 ≤ length rest → length rest ≤ 8388608 → rest_of ((u32 (length rest) ++ rest) ++ more) ≡ Ok rest
+rest_again : (rest more : List ℕ) → 2 ≤ length rest → length rest ≤ MAX_REST_BYTES → rest_of ((u32 (length rest) ++ rest) ++ more) ≡ Ok rest
 rest_again rest more low few =
     let fits : length rest < 2 ^ 32 = omega arith in
-    let not_long : nat_lt 8388608 (length rest) ≡ false = le-ltb _ _ few in
+    let not_long : nat_lt MAX_REST_BYTES (length rest) ≡ false = le-ltb _ _ few in
     let not_short : nat_lt (length rest) 2 ≡ false = le-ltb _ _ low in
     ap rest_of (append_assoc (u32 (length rest)) rest more)
     ∙ rw (reads_u32.again (length rest) (rest ++ more) fits, not_long, not_short, (reads_bytes (length rest)).again rest more (refl, tt)) refl
@@ -156,7 +157,7 @@ decoded_takes bytes e n h =
     let made : IsDecoded bytes c.0 (length rest + 4) = record {
       spelled = record {
         in_grammar = w.2;
-        few = subst (λ (z : List ℕ). length z ≤ 8388608) rest_is t.few;
+        few = subst (λ (z : List ℕ). length z ≤ MAX_REST_BYTES) rest_is t.few;
         written = front ∙ ap (λ (z : List ℕ). u32 (length z) ++ z) rest_is;
       };
       within = within;

@@ -1,6 +1,7 @@
 -- what stands at the front of some bytes, or the first thing that is wrong with them
 use Rattle.std.specs.Prelude.{◌≡◌, ◌+◌, ℕ, ◌==◌, nat_lt, if◌then◌else◌, List, [], ◌∷◌, length, Option, Some, None, Result, Ok, Err, IsOk, IfSome}
 use Rattle.std.specs.Int.{w32}
+use Rattle.mr_wire.specs.declared.decoding.TheConstants.{MAX_REST_BYTES}
 use Rattle.mr_wire.specs.Reading.{◌>>=◌, number_at, bytes_at}
 use Rattle.mr_replica.specs.declared.event.Event.{Event}
 use Rattle.mr_event.specs.declared.fault.EventFault.{EventFault}
@@ -21,7 +22,7 @@ and_then (Err fault) f = Err fault
 -- so many bytes behind a length
 abbrev pub rest_from : ℕ × List ℕ → Result (List ℕ) EventFault
 rest_from len =
-    if nat_lt 8388608 len.0 then Err TooLong
+    if nat_lt MAX_REST_BYTES len.0 then Err TooLong
     else (if nat_lt len.0 2 then Err BadBody
     else or_fault Truncated (bytes_at len.0 len.1 >>= λ found. Some found.0))
 

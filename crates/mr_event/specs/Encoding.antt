@@ -1,6 +1,7 @@
 -- the bytes of an event
 use Rattle.std.specs.Prelude.{◌≡◌, ◌≤◌, ◌<◌, ◌+◌, ◌++◌, ℕ, List, [], ◌∷◌, length, Result, Ok, Err}
 use Rattle.std.specs.Global.{Vec}
+use Rattle.mr_wire.specs.declared.decoding.TheConstants.{MAX_REST_BYTES}
 use Rattle.mr_wire.specs.declared.frame.Frame.TheVariants as frame
 use Rattle.mr_wire.specs.Encoding.{HasShortFragments}
 use Rattle.mr_wire.specs.Spelling.{u32}
@@ -28,16 +29,16 @@ IsShort (Release r) = Unit {0}
 
 -- The start of an event is its length, form and kind, where so many bytes come behind the kind; or they would be too many. Memory runs out only where they aren't.
 abbrev pub Begins : EventKind → ℕ → Result (Vec ℕ) EventFault → Type 0
-Begins kind parts (Ok v) = (v.items ≡ u32 (parts + 2) ++ (1 ∷ kind_byte kind ∷ [])) × (parts + 2 ≤ 8388608)
-Begins kind parts (Err TooLong) = 8388608 < parts + 2
-Begins kind parts (Err OutOfMemory) = parts + 2 ≤ 8388608
+Begins kind parts (Ok v) = (v.items ≡ u32 (parts + 2) ++ (1 ∷ kind_byte kind ∷ [])) × (parts + 2 ≤ MAX_REST_BYTES)
+Begins kind parts (Err TooLong) = MAX_REST_BYTES < parts + 2
+Begins kind parts (Err OutOfMemory) = parts + 2 ≤ MAX_REST_BYTES
 Begins kind parts (Err fault) = ⊥
 
 -- What is answered is the event's bytes, or that they would be too many. Memory runs out only where they aren't.
 abbrev pub Encodes : Event → Result (Vec ℕ) EventFault → Type 0
-Encodes e (Ok v) = (v.items ≡ event_bytes e) × (length (rest_bytes e) ≤ 8388608)
-Encodes e (Err TooLong) = 8388608 < length (rest_bytes e)
-Encodes e (Err OutOfMemory) = length (rest_bytes e) ≤ 8388608
+Encodes e (Ok v) = (v.items ≡ event_bytes e) × (length (rest_bytes e) ≤ MAX_REST_BYTES)
+Encodes e (Err TooLong) = MAX_REST_BYTES < length (rest_bytes e)
+Encodes e (Err OutOfMemory) = length (rest_bytes e) ≤ MAX_REST_BYTES
 Encodes e (Err Truncated) = ⊥
 Encodes e (Err BadForm) = ⊥
 Encodes e (Err BadKind) = ⊥

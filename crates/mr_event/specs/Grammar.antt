@@ -1,6 +1,7 @@
 -- what is in the grammar of events
 use Rattle.std.specs.Prelude.{◌≡◌, ◌≤◌, ◌<◌, ◌^◌, ℕ, List, length}
 use Rattle.std.specs.List.{AllByRecursion}
+use Rattle.mr_wire.specs.declared.decoding.TheConstants.{MAX_REST_BYTES}
 use Rattle.mr_wire.specs.declared.frame.Frame.TheVariants as frame
 use Rattle.mr_wire.specs.Grammar.{IsItem, IsLetter, IsFrame}
 use Rattle.mr_replica.specs.declared.event.Event.{Event}
@@ -24,5 +25,5 @@ IsEvent (Release r) = IsFrame (frame.Receipt r)
 -- the text is the event
 pub record Spells (e : Event) (text : List ℕ) : Type 0 where
   pub in_grammar : IsEvent e
-  pub few : length (rest_bytes e) ≤ 8388608
+  pub few : length (rest_bytes e) ≤ MAX_REST_BYTES
   pub written : text ≡ event_bytes e

@@ -3,6 +3,7 @@ ghost use Rattle.std.specs.Prelude.{◌≡◌, ◌≢◌, ◌≤◌, ◌<◌, �
 ghost use Rattle.mr_replica.specs.declared.event.Event.TheVariants.{Answer, Receive};
 ghost use Rattle.mr_wire.specs.Frames.{Question};
 ghost use Rattle.mr_wire.specs.Grammar.{IsFrame};
+ghost use Rattle.mr_wire.specs.declared.decoding.TheConstants.{MAX_REST_BYTES};
 ghost use Rattle.mr_wire.specs.declared.frame.Frame.TheVariants as frame;
 ghost use Rattle.mr_wire.specs.FrameSpelling as frames;
 ghost use Rattle.mr_event.specs.Encoding.{Begins, Encodes, IsShort};
@@ -74,7 +75,7 @@ pub fn encode_event(alloc: Global, event: &Event) -> Result<Vec<u8>, EventFault>
     ensures exact { Encodes event.now result }
     ensures spelled { IfOk result (λ v. Spells event.now v.items) }
     ensures short { IsShort event.now → result ≢ Err EventFault.TooLong }
-    ensures asked { (q : Question) → event.now ≡ Answer q → length (frames.rest_bytes 2 (frame.Ask q)) ≤ 8388608 → result ≢ Err EventFault.TooLong }
+    ensures asked { (q : Question) → event.now ≡ Answer q → length (frames.rest_bytes 2 (frame.Ask q)) ≤ MAX_REST_BYTES → result ≢ Err EventFault.TooLong }
 {
     let mut out = begin(alloc, kind_of(event), parts_len(event))?;
     put_parts(&mut out, event)?;

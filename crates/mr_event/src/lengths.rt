@@ -1,6 +1,7 @@
 //! How many bytes events take, told without memory.
 ghost use Rattle.std.specs.Prelude.{◌≡◌, ◌≤◌, ◌<◌, ◌+◌, ◌*◌, ◌^◌, length};
 ghost use Rattle.mr_replica.specs.declared.event.Event.TheVariants.{Edit};
+ghost use Rattle.mr_wire.specs.declared.decoding.TheConstants.{MAX_REST_BYTES};
 ghost use Rattle.mr_event.specs.Encoding.{IsShort};
 ghost use Rattle.mr_event.specs.Spelling.{event_bytes, part_bytes};
 
@@ -60,7 +61,7 @@ pub(crate) fn parts_len(event: &Event) -> usize
 /// It takes no memory, and looks at each column, clause and label once, and at no text, base, item or hole.
 pub fn encoded_len(event: &Event) -> usize
     ensures exact { result ≡ length (event_bytes event.now) }
-    ensures short { IsShort event.now → result ≤ 8388612 }
+    ensures short { IsShort event.now → result ≤ MAX_REST_BYTES + 4 }
 {
     LENGTH_BYTES + KIND_BYTES + parts_len(event)
 }

@@ -6,6 +6,7 @@ use Rattle.std.specs.List.{list_all}
 use Rattle.std.proofs.lemmas.List.{length-drop, length-append, take-append-drop, take-append-le}
 use Rattle.std.proofs.lemmas.Bool.{ltb-false, ltb-true, le-ltb, lt-ltb}
 use Rattle.byteorder.specs.Endian.{big_number}
+use Rattle.mr_wire.specs.declared.decoding.TheConstants.{MAX_REST_BYTES}
 use Rattle.mr_wire.specs.declared.fault.WireFault.{WireFault}
 use Rattle.mr_wire.specs.declared.frame.Frame.{Frame}
 use Rattle.mr_wire.specs.declared.kind.Kind.{Kind}
@@ -59,7 +60,7 @@ pub short_is_truncated : (bytes : List ℕ) → length bytes < 4 → decoded byt
 short_is_truncated bytes h = rw (lt-ltb (length bytes) 4 h) refl
 
 -- with a length that a frame may have
-module _ (bytes : List ℕ) (len : ℕ) (number : number_at w32 bytes ≡ Some (len, drop 4 bytes)) (low : 2 ≤ len) (high : len ≤ 8388608) where
+module _ (bytes : List ℕ) (len : ℕ) (number : number_at w32 bytes ≡ Some (len, drop 4 bytes)) (low : 2 ≤ len) (high : len ≤ MAX_REST_BYTES) where
   pub fewer_are_truncated : length (drop 4 bytes) < len → decoded bytes ≡ Err Truncated
   fewer_are_truncated h = rw (number, le-ltb _ _ high, le-ltb _ _ low, lt-ltb _ _ h) refl
 
@@ -69,7 +70,7 @@ module _ (bytes : List ℕ) (len : ℕ) (number : number_at w32 bytes ≡ Some (
       let is : decoded bytes ≡ behind (take len (drop 4 bytes)) = rw (number, le-ltb _ _ high, le-ltb _ _ low, le-ltb _ _ h) refl in
       not_behind (take len (drop 4 bytes)) (sym is ∙ e)
 
-pub cut_is_truncated : (bytes : List ℕ) (len : ℕ) → 4 ≤ length bytes → IsBytes bytes → len ≡ big_number 4 bytes → 2 ≤ len → len ≤ 8388608 → IsTrue (nat_lt (length bytes - 4) len) ↔ (decoded bytes ≡ Err Truncated)
+pub cut_is_truncated : (bytes : List ℕ) (len : ℕ) → 4 ≤ length bytes → IsBytes bytes → len ≡ big_number 4 bytes → 2 ≤ len → len ≤ MAX_REST_BYTES → IsTrue (nat_lt (length bytes - 4) len) ↔ (decoded bytes ≡ Err Truncated)
 cut_is_truncated bytes len long are is low high =
     let number : number_at w32 bytes ≡ Some (len, drop 4 bytes) = rw (le-ltb _ _ long, all_bytes 4 bytes are, ← four bytes long, ← is) refl in
     at_test number (nat_lt (length bytes - 4) len) refl

@@ -1,5 +1,6 @@
 -- a stream of bytes: the spellings of frames, one behind another, and then what is no whole frame
-use Rattle.std.specs.Prelude.{◌≡◌, ℕ, List, [], ◌∷◌, ◌++◌, length, ◌<◌, Option, Some, None, Result, Ok, Err, IsOk}
+use Rattle.std.specs.Prelude.{◌≡◌, ℕ, List, [], ◌∷◌, ◌++◌, length, ◌+◌, ◌<◌, Option, Some, None, Result, Ok, Err, IsOk}
+use Rattle.mr_wire.specs.declared.decoding.TheConstants.{MAX_REST_BYTES}
 use Rattle.mr_wire.specs.declared.fault.WireFault.{WireFault}
 use Rattle.mr_wire.specs.declared.fault.WireFault.TheVariants.{OutOfMemory, Truncated, TooLong, BadFormat, BadKind, BadBody}
 use Rattle.mr_wire.specs.declared.frame.Frame.{Frame}
@@ -18,9 +19,9 @@ abbrev pub AreFrames : List ℕ → List Frame → List ℕ → Type 0
 AreFrames bytes [] rest = bytes ≡ rest
 AreFrames bytes (f ∷ frames) rest = (left : List ℕ) × Begins bytes f left × AreFrames left frames rest
 
--- fewer bytes than the longest frame has: four of the length, and 8,388,608 behind it
+-- fewer bytes than the longest frame has: four of the length, and what stands behind it
 abbrev pub IsPart : List ℕ → Type 0
-IsPart rest = length rest < 8388612
+IsPart rest = length rest < 4 + MAX_REST_BYTES
 
 -- what comes of taking the first frame: it goes, and what follows it is left; or nothing changes, since it lacks its end, or the bytes spell no frame, or there is no memory
 abbrev pub Takes : List ℕ → Result (Option Frame) WireFault → List ℕ → Type 0

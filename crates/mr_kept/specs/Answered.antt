@@ -3,6 +3,7 @@ use Rattle.std.specs.Prelude.{◌≡◌, ◌<◌, ◌≤◌, ◌^◌, false, IsT
 use Rattle.mr_forms.specs.Known.{Form}
 use Rattle.mr_journal.specs.Journal.{has_failed}
 use Rattle.mr_journal.specs.declared.journal.Journal.{Journal}
+use Rattle.mr_wire.specs.declared.decoding.TheConstants.{MAX_REST_BYTES}
 use Rattle.mr_event.specs.Spelling.{rest_bytes}
 use Rattle.mr_entry.specs.Note.{NoteParts}
 use Rattle.mr_replica.specs.State.{State}
@@ -15,7 +16,7 @@ use Rattle.mr_kept.specs.declared.fault.KeptFault.TheVariants.{OutOfMemory, Refu
 -- why the journal can't keep the event: the device has failed, or the event has more bytes than one may have
 abbrev pub MayNotKeep : {D : Type 0} → Journal D → Event → KeptFault → Type 0
 MayNotKeep journal event Failed = IsTrue (has_failed journal)
-MayNotKeep journal event TooLarge = 8388608 < length (rest_bytes event)
+MayNotKeep journal event TooLarge = MAX_REST_BYTES < length (rest_bytes event)
 MayNotKeep journal event OutOfMemory = ⊥
 MayNotKeep journal event (Refused e) = ⊥
 

@@ -1,6 +1,7 @@
 -- what passes a link in frames
 use Rattle.std.specs.Prelude.{◌≡◌, ◌≢◌, ◌<◌, ◌+◌, ◌++◌, ℕ, List, [], ◌∷◌, length, Option, Some, None, option_map, Result, Ok, Err}
 use Rattle.std.specs.Global.{Vec}
+use Rattle.mr_wire.specs.declared.decoding.TheConstants.{MAX_REST_BYTES}
 use Rattle.mr_wire.specs.declared.fault.WireFault.{WireFault}
 use Rattle.mr_wire.specs.declared.fault.WireFault.TheVariants.{Truncated}
 use Rattle.mr_wire.specs.declared.frame.Frame.{Frame}
@@ -112,5 +113,5 @@ abbrev pub WritesFrame : WireView → Frame → Result (Unit {0}) Snag → WireV
 WritesFrame old frame (Ok _) new = PassesWell old [] (frame ∷ []) new
 WritesFrame old frame (Err LinkDown) new = GoesDown old [] [] new
 WritesFrame old frame (Err OutOfMemory) new = new ≡ old
-WritesFrame old frame (Err TooLong) new = (8388608 < length (rest_bytes 2 frame)) × (new ≡ old)
+WritesFrame old frame (Err TooLong) new = (MAX_REST_BYTES < length (rest_bytes 2 frame)) × (new ≡ old)
 WritesFrame old frame (Err BadFrame) new = ⊥

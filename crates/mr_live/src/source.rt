@@ -1,5 +1,5 @@
 //! The lines of a live script, out of a reader.
-ghost use Rattle.std.specs.Prelude.{◌≡◌, ◌≢◌, ◌-◌, ◌<◌, ◌≤◌, ℕ, List, Option, Err, IsTrue, IfOk, IfErr, IfSome, OnOk, length};
+ghost use Rattle.std.specs.Prelude.{◌≡◌, ◌≢◌, ◌+◌, ◌-◌, ◌<◌, ◌≤◌, ℕ, List, Option, Err, IsTrue, IfOk, IfErr, IfSome, OnOk, length};
 ghost use Rattle.mr_live.specs.Plan.{CanAllRun, NextAsks, ScriptAsks};
 ghost use Rattle.mr_script.specs.Fault.{NumbersItsLine};
 ghost use Rattle.mr_script.specs.Script.{Accounts};
@@ -52,7 +52,7 @@ fn take_line<R: Read + Drop>(
     ensures too_long { (script : Option (List ℕ))
         → Accounts script source.old.left source.old.taken
         → result ≡ Err ScriptFault.TooLong → IfSome script (λ bytes. MAX_SCRIPT_BYTES < length bytes) }
-    ensures line { 1 ≤ number → number ≤ 16777217 → IfErr result NumbersItsLine }
+    ensures line { 1 ≤ number → number ≤ MAX_SCRIPT_BYTES + 1 → IfErr result NumbersItsLine }
     ensures no_write { result ≢ Err ScriptFault.Write }
     ensures can_run { CanAllRun plan.old.specs → CanAllRun plan.new.specs }
     ensures asks { IfSome source.old.left (λ bytes.

@@ -19,7 +19,8 @@ use Rattle.mr_replica.specs.State.{State}
 use Rattle.mr_replica.specs.Sound.{IsSound}
 use Rattle.mr_replica.specs.Issue.{logged}
 use Rattle.mr_replica.specs.Pieces.{IsPieceOf}
-use Rattle.mr_replica.specs.Pull.{IsLongestWithin, AreAsked, IsAskOf, pulling, most_asked}
+use Rattle.mr_replica.specs.Pull.{IsLongestWithin, AreAsked, IsAskOf, pulling}
+use Rattle.mr_wire.specs.declared.frame.TheConstants.{MAX_ASKED_BYTES}
 use Rattle.mr_replica.specs.declared.event.Event.{Event}
 use Rattle.mr_replica.proofs.Keeping.{within_later}
 use Rattle.mr_replica.proofs.Kept.{may_list, pieces_unique}
@@ -155,7 +156,7 @@ one_longest most all a b h k =
 same_asked : (is_part : Part → Type 0) (known : Pairs) (a b : List Piece) → AreAsked is_part known a → AreAsked is_part known b → a ≡ b
 same_asked is_part known a b h k =
     let pieces : map piece_of k.fragments ≡ map piece_of h.fragments = pieces_unique is_part (map piece_of k.fragments) (map piece_of h.fragments) k.are h.are in
-    one_longest most_asked (map piece_of h.fragments) a b h.longest (subst (λ ps. IsLongestWithin most_asked ps b) pieces k.longest)
+    one_longest MAX_ASKED_BYTES (map piece_of h.fragments) a b h.longest (subst (λ ps. IsLongestWithin MAX_ASKED_BYTES ps b) pieces k.longest)
 
 -- a replica has one request to make
 pub same_ask : {K : Type 0} (form : Form K) (s : State K) (a b : Question) → IsAskOf form s a → IsAskOf form s b → b ≡ a

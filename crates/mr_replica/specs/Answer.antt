@@ -2,7 +2,8 @@
 use Rattle.std.specs.Prelude.{◌≡◌, ◌+◌, ◌==◌, nat_le, ℕ, if◌then◌else◌, Option, List, [], length}
 use Rattle.mr_forms.specs.Known.{Form, AreSame}
 use Rattle.mr_filter.specs.Meaning.{covers}
-use Rattle.mr_session.specs.Table.{most_open, with_opened}
+use Rattle.mr_session.specs.Table.{with_opened}
+use Rattle.mr_session.specs.declared.limits.TheConstants.{MAX_OPEN}
 use Rattle.mr_session.specs.Stream.{Asked, claimed, new_stream}
 use Rattle.mr_wire.specs.Values.{Piece}
 use Rattle.mr_wire.specs.Frames.{Question}
@@ -26,7 +27,7 @@ module _ {K : Type 0} where
   -- why it is refused. A retired replica goes on telling others.
   abbrev pub answer_refusal : State K → Question → Option Refusal
   answer_refusal s ask =
-      refused_if (ask.target == s.id) OwnAsk orelse refused_if (nat_le most_open (length s.streams.open_ones)) TooManyStreams orelse log_full s
+      refused_if (ask.target == s.id) OwnAsk orelse refused_if (nat_le MAX_OPEN (length s.streams.open_ones)) TooManyStreams orelse log_full s
 
   -- whether all that the one who asks selects is selected here too
   abbrev pub mode_for : State K → Question → Mode

@@ -1,5 +1,5 @@
 -- faults of a line and of a script
-use Rattle.std.specs.Prelude.{ℕ, ◌≤◌, ⊤}
+use Rattle.std.specs.Prelude.{ℕ, ◌+◌, ◌≤◌, ⊤}
 use Rattle.std.specs.declared.io.ErrorKind.{ErrorKind}
 use Rattle.std.specs.declared.io.ErrorKind.TheVariants as kinds
 use Rattle.mr_world.specs.declared.fault.SpecFault.{SpecFault}
@@ -12,6 +12,7 @@ use Rattle.mr_script.specs.declared.fault.ScriptFault.{ScriptFault}
 use Rattle.mr_script.specs.declared.fault.ScriptFault.TheVariants.{Line, Read, Write, TooLong}
 use Rattle.mr_script.specs.declared.source.SourceFault.{SourceFault}
 use Rattle.mr_script.specs.declared.source.SourceFault.TheVariants as source
+use Rattle.mr_script.specs.declared.source.TheConstants.{MAX_SCRIPT_BYTES}
 
 -- why a line ends where its world stopped
 abbrev pub fault_of_stop : WorldFault → LineFault
@@ -39,7 +40,7 @@ fault_of_source number source.TooLong = TooLong
 
 -- a fault of a line has its number, from 1 to one past the most lines that a script can have
 abbrev pub NumbersItsLine : ScriptFault → Type 0
-NumbersItsLine (Line number fault) = (1 ≤ number) × (number ≤ 16777217)
+NumbersItsLine (Line number fault) = (1 ≤ number) × (number ≤ MAX_SCRIPT_BYTES + 1)
 NumbersItsLine Read = ⊤
 NumbersItsLine Write = ⊤
 NumbersItsLine TooLong = ⊤

@@ -21,7 +21,7 @@ line_text line = strip_last 10 line
 
 -- the bytes of a script that are looked at: one more than it may have, so that it shows where there are too many
 unfoldable pub looked_at : List ℕ → List ℕ
-looked_at script = take 16777217 script
+looked_at script = take (MAX_SCRIPT_BYTES + 1) script
 
 -- the bytes that are left, whatever number of calls is left
 abbrev pub metered_remaining : {R : Type 0} → (R → Option (List ℕ)) → Metered R → Option (List ℕ)

@@ -1,5 +1,5 @@
 -- a sync: a session that is run to its end, to a number of records, or to a refusal
-use Rattle.std.specs.Prelude.{◌≡◌, ◌<◌, ◌+◌, ℕ, Bool, true, false, List, [], ◌∷◌, length, Result, Ok, Err, count_by, unwrap_or}
+use Rattle.std.specs.Prelude.{◌≡◌, ◌<◌, ◌+◌, ◌-◌, ◌^◌, ℕ, Bool, true, false, List, [], ◌∷◌, length, Result, Ok, Err, count_by, unwrap_or}
 use Rattle.mr_forms.specs.Known.{Form}
 use Rattle.mr_replica.specs.declared.event.Reply.TheVariants as reply
 use Rattle.mr_replica.specs.declared.refusal.Refusal.{Refusal}
@@ -112,7 +112,7 @@ outcome taken end = record { counts = counts_of taken; end = end }
 
 -- how many records are taken at most: without a number as many as a world may have
 abbrev pub most_of : Sync → ℕ
-most_of sync = unwrap_or sync.most 18446744073709551615
+most_of sync = unwrap_or sync.most (2 ^ 64 - 1)
 
 -- ---- its events
 

@@ -1,5 +1,5 @@
 //! Scripts, run as they are read.
-ghost use Rattle.std.specs.Prelude.{◌≡◌, ◌≢◌, ◌-◌, ◌<◌, ◌≤◌, ◌++◌, ℕ, List, Option, [], Err, IfOk, IfErr, IfSome, OnOk, OnErr, IsSome, length};
+ghost use Rattle.std.specs.Prelude.{◌≡◌, ◌≢◌, ◌+◌, ◌-◌, ◌<◌, ◌≤◌, ◌++◌, ℕ, List, Option, [], Err, IfOk, IfErr, IfSome, OnOk, OnErr, IsSome, length};
 ghost use Rattle.std.specs.Option.{option_map};
 ghost use Rattle.mr_script.specs.Fault.{fault_of_source, NumbersItsLine};
 ghost use Rattle.mr_script.specs.Leaving.{NextLeaves, ScriptLeaves};
@@ -198,7 +198,7 @@ fn next_answer<K: Knowledge, R: Read + Drop>(
     ensures too_long { (script : Option (List ℕ))
         → Accounts script (source_remaining R.remaining source.old) source.old.taken
         → result ≡ Err ScriptFault.TooLong → IfSome script (λ bytes. MAX_SCRIPT_BYTES < length bytes) }
-    ensures line { 1 ≤ number → number ≤ 16777217 → IfErr result NumbersItsLine }
+    ensures line { 1 ≤ number → number ≤ MAX_SCRIPT_BYTES + 1 → IfErr result NumbersItsLine }
     ensures no_write { result ≢ Err ScriptFault.Write }
     ensures answer { IfSome (source_remaining R.remaining source.old) (λ bytes.
         NextAnswer K.form interpreter.old number (MAX_SCRIPT_BYTES - source.old.taken) bytes result interpreter.new

@@ -1,5 +1,5 @@
 //! A sync: a session that is run to its end, to a number of records, or to a refusal.
-ghost use Rattle.std.specs.Prelude.{◌≡◌, ◌<◌, [], Ok};
+ghost use Rattle.std.specs.Prelude.{◌≡◌, ◌<◌, ◌+◌, ◌^◌, [], Ok};
 ghost use Rattle.mr_script.specs.Question.{text_of};
 ghost use Rattle.mr_script.specs.Stage.{syncs_told};
 ghost use Rattle.mr_script.specs.Sync.{Draws, OpensSession, OpensStream, Takes, Rounds, answers, closes, draws, goes_through, most_of, outcome, pulls, receives, round, streams, syncs, told_by};
@@ -153,8 +153,8 @@ fn take_record<K: Knowledge>(
 
 /// The counts with a record of this kind.
 fn with_counted(counts: SyncCounts, told: Told) -> SyncCounts
-    requires items { counts.items < 18446744073709551615 }
-    requires move_outs { counts.move_outs < 18446744073709551615 }
+    requires items { counts.items + 1 < 2 ^ 64 }
+    requires move_outs { counts.move_outs + 1 < 2 ^ 64 }
     ensures { result ≡ counts_with counts told }
 {
     match told {

@@ -6,7 +6,8 @@ use Rattle.std.proofs.lemmas.List.Sums.{sum_by-cons}
 use Rattle.std.specs.List.{AllZip}
 use Rattle.slab.specs.Slab.{Slab, slab_len, IsSlotClone}
 use Rattle.mr_session.specs.declared.slots.Entry.{Entry}
-use Rattle.mr_session.specs.Table.{most_open, Numbered, at, open_at, changed, RisesFrom, AreNumberedTo, Table, IsTable}
+use Rattle.mr_session.specs.Table.{Numbered, at, open_at, changed, RisesFrom, AreNumberedTo, Table, IsTable}
+use Rattle.mr_session.specs.declared.limits.TheConstants.{MAX_OPEN}
 use Rattle.mr_session.specs.Slots.{value_in, value_at, with_at, HasNumber, AreOnce, AreUpTo, AreSlots, by_number}
 use Rattle.mr_session.proofs.SlotLemmas.{has_found, none_at}
 use Rattle.mr_session.proofs.TableLemmas.{same_list, at_put, rises_put, length-put, numbered-put, others, at-others, rises-others, at-behind, rises-behind, at-changed, rises-changed}
@@ -169,9 +170,9 @@ module _ {T : Type 0} where
     opened_up : AreUpTo new (last + 1)
     opened_up = up (last + 1) (omega arith) (omega arith) (up_more reserved_slots last (reserved old reserved_slots last are same).up_to)
 
-    pub opened_slots : (table : Table T) → record { opened = last; open_ones = by_number old.slots } ≡ table → length table.open_ones < most_open → slab_len new ≡ slab_len reserved_slots + 1 → AreSlots new (last + 1)
+    pub opened_slots : (table : Table T) → record { opened = last; open_ones = by_number old.slots } ≡ table → length table.open_ones < MAX_OPEN → slab_len new ≡ slab_len reserved_slots + 1 → AreSlots new (last + 1)
     opened_slots table is room count =
-        let before : length (by_number old.slots) < most_open = rw (← is) at room in
+        let before : length (by_number old.slots) < MAX_OPEN = rw (← is) at room in
         let kept : slab_len reserved_slots ≡ slab_len old = ap (λ (s : Slab (Entry T)). slab_len s) same in
         record { once = once; up_to = opened_up; few = omega (arith, before, length-by_number old, kept, count) }
 

@@ -2,7 +2,8 @@
 use Rattle.std.specs.Prelude.{◌≡◌, ◌≤◌, ℕ, ◌==◌, nat_lt, if◌then◌else◌, List, [], ◌∷◌, Option, Some, None}
 use Rattle.slab.specs.Slab.{Slab, get, slab_len}
 use Rattle.mr_session.specs.declared.slots.Entry.{Entry}
-use Rattle.mr_session.specs.Table.{most_open, Numbered}
+use Rattle.mr_session.specs.Table.{Numbered}
+use Rattle.mr_session.specs.declared.limits.TheConstants.{MAX_OPEN}
 
 module _ {T : Type 0} where
   -- what is under a number, among these slots
@@ -35,7 +36,7 @@ module _ {T : Type 0} where
   pub record AreSlots (slab : Slab (Entry T)) (opened : ℕ) : Type 0 where
     pub once : AreOnce slab
     pub up_to : AreUpTo slab opened
-    pub few : slab_len slab ≤ most_open
+    pub few : slab_len slab ≤ MAX_OPEN
 
   -- the values with one more, at its number's place
   abbrev pub put : Numbered T → List (Numbered T) → List (Numbered T)

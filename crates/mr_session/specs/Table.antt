@@ -1,9 +1,6 @@
 -- tables of what is open, each under a number of its own
 use Rattle.std.specs.Prelude.{◌≡◌, ◌≤◌, ◌<◌, ℕ, not, ◌+◌, ◌==◌, if◌then◌else◌, List, [], ◌∷◌, ◌++◌, map, filter, length, Option, Some, None}
-
--- how many may be open at a time
-abbrev pub most_open : ℕ
-most_open = 8
+use Rattle.mr_session.specs.declared.limits.TheConstants.{MAX_OPEN}
 
 -- a value under its number
 pub record Numbered (T : Type 0) : Type 0 where
@@ -69,4 +66,4 @@ module _ {T : Type 0} where
 pub record IsTable {T : Type 0} (table : Table T) : Type 0 where
   pub rising : RisesFrom 0 table.open_ones
   pub given : AreNumberedTo table.opened table.open_ones
-  pub few : length table.open_ones ≤ most_open
+  pub few : length table.open_ones ≤ MAX_OPEN

@@ -1,7 +1,8 @@
 //! Tables of what is open, each under a number of its own.
 ghost use Rattle.std.specs.Prelude.{◌≡◌, ◌<◌, ◌≤◌, ◌+◌, ◌^◌, nat_le, length, is_some, IsSome, Some, IfOk, OnOk, OnErr};
 ghost use Rattle.std.specs.Option.{option_copied, ForSome};
-ghost use Rattle.mr_session.specs.Table.{most_open, open_at, open_numbers, empty_table, with_opened, with_closed, Changes, IsTable};
+ghost use Rattle.mr_session.specs.Table.{open_at, open_numbers, empty_table, with_opened, with_closed, Changes, IsTable};
+ghost use Rattle.mr_session.specs.declared.limits.TheConstants.{MAX_OPEN};
 
 use crate::limits::MAX_OPEN;
 use crate::slots::{Entry, lift, numbers_in, place, value};
@@ -53,7 +54,7 @@ impl<T> OpenTable<T> {
 
     /// Whether eight are open.
     pub fn is_full(&self) -> bool
-        ensures { result ≡ nat_le most_open (length self.now.open_ones) }
+        ensures { result ≡ nat_le MAX_OPEN (length self.now.open_ones) }
     {
         self.slots.len() >= MAX_OPEN
     }
@@ -93,7 +94,7 @@ impl<T> OpenTable<T> {
     pub(crate) fn insert(&mut self, value: T) -> Result<u64, AllocError>
     where
         T: Drop,
-        requires room { length self.old.open_ones < most_open }
+        requires room { length self.old.open_ones < MAX_OPEN }
         requires numbers { self.old.opened + 1 < 2 ^ 64 }
         ensures number { IfOk result (λ number. number ≡ self.old.opened + 1) }
         ensures ok { OnOk result (self.new ≡ with_opened self.old value) }

@@ -2,7 +2,8 @@
 ghost use Rattle.std.specs.Prelude.{◌≡◌, ◌<◌, ◌+◌, ◌^◌, length, None, IsSome, IfSome, IsOk, IsFalse, IfOk, OnOk, OnErr};
 ghost use Rattle.std.specs.Result.{result_err};
 ghost use Rattle.mr_session.specs.Session.{new_session, first_fault, after_record, with_taken, is_to_keep};
-ghost use Rattle.mr_session.specs.Table.{most_open, open_at, with_opened};
+ghost use Rattle.mr_session.specs.Table.{open_at, with_opened};
+ghost use Rattle.mr_session.specs.declared.limits.TheConstants.{MAX_OPEN};
 
 use crate::fault::SessionFault;
 use crate::incoming::Incoming;
@@ -17,7 +18,7 @@ impl OpenTable<Incoming> {
     /// Opens a session that has taken nothing, under the next number, which is given. Fewer than eight are
     /// open.
     pub fn open(&mut self) -> Result<u64, AllocError>
-        requires room { length self.old.open_ones < most_open }
+        requires room { length self.old.open_ones < MAX_OPEN }
         requires numbers { self.old.opened + 1 < 2 ^ 64 }
         ensures number { IfOk result (λ number. number ≡ self.old.opened + 1) }
         ensures ok { OnOk result (self.new ≡ with_opened self.old new_session) }

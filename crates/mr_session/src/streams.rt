@@ -3,7 +3,8 @@ ghost use Rattle.std.specs.Prelude.{◌≡◌, ◌<◌, ◌+◌, ◌^◌, length
 ghost use Rattle.mr_session.specs.Onward.{advanced};
 ghost use Rattle.mr_session.specs.Preparing.{is_copied};
 ghost use Rattle.mr_session.specs.Stream.{new_stream, GivesIn, IsOnlyDraw};
-ghost use Rattle.mr_session.specs.Table.{most_open, open_at, with_opened};
+ghost use Rattle.mr_session.specs.Table.{open_at, with_opened};
+ghost use Rattle.mr_session.specs.declared.limits.TheConstants.{MAX_OPEN};
 
 use crate::asked::AskedOf;
 use crate::open_table::OpenTable;
@@ -26,7 +27,7 @@ impl OpenTable<Outgoing> {
         mode: Mode,
         know: VecDeque<FrameFragment>,
     ) -> Result<u64, AllocError>
-        requires room { length self.old.open_ones < most_open }
+        requires room { length self.old.open_ones < MAX_OPEN }
         requires numbers { self.old.opened + 1 < 2 ^ 64 }
         ensures number { IfOk result (λ number. number ≡ self.old.opened + 1) }
         ensures ok { OnOk result (self.new ≡ with_opened self.old (new_stream asked mode know.items)) }

@@ -77,5 +77,5 @@ pub(crate) fn unshelve_others(
 pub(crate) fn is_among(labels: &[Label], label: &Label) -> bool
     ensures { result ≡ has_label labels.now label.now }
 {
-    labels.iter().any(|own| label == own)
+    labels.contains(label)
 }

@@ -21,10 +21,10 @@ IsPlain-decimal (suc n) small =
     record { no_sign = λ e. omega arith; no_zeros = λ e. omega arith }
 
 -- what is read of a plain text is the number that is so written
-pub decimal-parse : {E : Type 0} (text : List ℕ) (r : Result ℕ E) → ParsesUnsigned 32 10 text r → IsPlain text → IfSome (result_ok r) (λ n. text ≡ decimal n)
+pub decimal-parse : {E : Type 0} (text : List ℕ) (r : Result ℕ E) → ParsesUnsigned 64 10 text r → IsPlain text → IfSome (result_ok r) (λ n. text ≡ decimal n)
 decimal-parse text (Err e) h plain = tt
 decimal-parse {E} text (Ok n) h plain =
-    let (parts, value) = parse_plain numerals {E = E} 32 text (Ok n) h plain.no_sign in
+    let (parts, value) = parse_plain numerals {E = E} 64 text (Ok n) h plain.no_sign in
     rw value (sym (decimal-digits_value numerals text parts.0 parts.1 (λ zero_first. let short : length text ≤ 1 = plain.no_zeros zero_first in omega arith) (omega arith)))
 
 -- the first dot of a version's text is the one between its numbers

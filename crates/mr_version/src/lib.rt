@@ -21,4 +21,5 @@ mod version;
 pub use author::{AUTHORS, Author};
 pub use fault::VersionFault;
 pub use item::ItemId;
+pub use number::read_decimal;
 pub use version::{MAX_COUNTER, Version};

@@ -9,10 +9,10 @@ fn is_plain(text: &str) -> bool
     bytes.is_empty() || (bytes[0] != b'+' && (bytes[0] != b'0' || bytes.len() == 1))
 }
 
-/// The number that the text is in decimal, with no sign and no leading zeros.
-pub(crate) fn read_decimal(text: &str) -> Option<u32>
+/// The number below 2^64 that the text is in decimal, with no sign and no leading zeros, if it is one.
+pub fn read_decimal(text: &str) -> Option<u64>
     ensures spelled { IfSome result (λ n. text.now ≡ decimal n) }
-    ensures whole { (n : ℕ) → n < 2 ^ 32 → text.now ≡ decimal n → result ≡ Some n }
+    ensures whole { (n : ℕ) → n < 2 ^ 64 → text.now ≡ decimal n → result ≡ Some n }
 {
     if is_plain(text) {
         text.parse().ok()

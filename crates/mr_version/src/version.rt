@@ -1,4 +1,4 @@
-ghost use Rattle.std.specs.Prelude.{◌≡◌, ◌<◌, ◌≤◌, ◌↔◌, ℕ, Some, Ok, IsOk, IfOk, IfErr, IfSome, string_bytes, refl};
+ghost use Rattle.std.specs.Prelude.{◌≡◌, ◌<◌, ◌≤◌, ◌^◌, ◌↔◌, ℕ, Some, Ok, IsOk, IfOk, IfErr, IfSome, string_bytes, refl};
 ghost use Rattle.std.specs.Fmt.{decimal};
 ghost use Rattle.std.specs.Cmp;
 ghost use Rattle.std.proofs.Common.{rules};
@@ -96,13 +96,20 @@ fn read_author(text: &str) -> Option<Author>
     Author::try_new(id).ok()
 }
 
+fn read_counter(text: &str) -> Option<u32>
+    ensures spelled { IfSome result (λ counter. text.now ≡ decimal counter) }
+    ensures whole { (counter : ℕ) → counter < 2 ^ 32 → text.now ≡ decimal counter → result ≡ Some counter }
+{
+    u32::try_from(read_decimal(text)?).ok()
+}
+
 fn read_parts(text: &str) -> Option<Version>
     ensures spelled { IfSome result (λ v. text.now ≡ name_text v) }
     ensures range { IfSome result (λ v. IsVersion v.author v.counter) }
     ensures whole { (v : Name) → IsVersion v.author v.counter → text.now ≡ name_text v → result ≡ Some v }
 {
     let (author, counter) = text.split_once('.')?;
-    Version::try_new(read_author(author)?, read_decimal(counter)?).ok()
+    Version::try_new(read_author(author)?, read_counter(counter)?).ok()
 }
 
 /// Writes the version's text.

@@ -7,6 +7,7 @@ use Rattle.mr_mail.specs.Mail.{Mail, IsMail}
 use Rattle.mr_filter.specs.Filter.{IsFilter}
 use Rattle.mr_concise.specs.Vector.{IsVectorFrom}
 use Rattle.mr_madewith.specs.Revision.{IsRevision}
+use Rattle.mr_wire.specs.declared.decoding.TheConstants.{MAX_REST_BYTES}
 use Rattle.mr_wire.specs.declared.frame.Header.{Header}
 use Rattle.mr_wire.specs.declared.frame.Body.{Body}
 use Rattle.mr_wire.specs.declared.frame.Body.TheVariants as body
@@ -82,5 +83,5 @@ pub record Spells (format : ℕ) (f : Frame) (text : List ℕ) : Type 0 where
   pub format_in : (format ≡ 1) ⊎ (format ≡ 2)
   pub kind_in : kind_of_byte format (kind_byte (kind_of f)) ≡ Some (kind_of f)
   pub in_grammar : IsFrame f
-  pub few : length (rest_bytes format f) ≤ 8388608
+  pub few : length (rest_bytes format f) ≤ MAX_REST_BYTES
   pub written : text ≡ frame_bytes format f

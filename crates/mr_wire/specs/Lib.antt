@@ -15,4 +15,5 @@ pub mod Grammar
 pub mod Decoding
 pub mod Rests
 pub mod Encoding
+pub mod Limits
 pub mod Rows

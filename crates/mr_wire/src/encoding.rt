@@ -1,10 +1,12 @@
 //! From a frame to bytes.
-ghost use Rattle.std.specs.Prelude.{◌≡◌, ◌≢◌, ◌≤◌, ◌<◌, ◌^◌, ◌++◌, OnOk, IfOk, All, Err, length};
+ghost use Rattle.std.specs.Prelude.{◌≡◌, ◌≢◌, ◌≤◌, ◌<◌, ◌+◌, ◌^◌, ◌++◌, OnOk, IfOk, All, Err, length};
 ghost use Rattle.std.specs.List.{flat_map};
 ghost use Rattle.mr_wire.specs.Spelling.{u64, fragment_bytes, descent_bytes, message_bytes};
 ghost use Rattle.mr_wire.specs.FrameSpelling.{ask_bytes, body_bytes, header_bytes, kind_of, kind_of_body, descent_of, part_bytes, frame_bytes};
 ghost use Rattle.mr_wire.specs.Frames.{IsIndexOf};
 ghost use Rattle.mr_wire.specs.Encoding.{Begins, Encodes, HasShortFragments, total_len};
+ghost use Rattle.mr_wire.specs.declared.decoding.TheConstants.{MAX_REST_BYTES};
+ghost use Rattle.mr_wire.specs.declared.frame.TheConstants.{MAX_ASKED_BYTES};
 ghost use Rattle.mr_wire.specs.Grammar.{IsAsked, IsDescent, IsFrame, IsFramed, IsHeader, IsLetter, IsSaid, Spells};
 
 use crate::decoding::{LENGTH_BYTES, MAX_REST_BYTES};
@@ -56,7 +58,7 @@ impl Frame {
     /// It takes no memory, and looks at each column, clause and label once, and at no text, item or hole.
     pub fn encoded_len(&self) -> usize
         ensures exact { result ≡ length (frame_bytes 2 self.now) }
-        ensures short { HasShortFragments self.now → result ≤ 8388612 }
+        ensures short { HasShortFragments self.now → result ≤ MAX_REST_BYTES + 4 }
     {
         LENGTH_BYTES + KIND_BYTES + parts_len(self)
     }
@@ -192,7 +194,7 @@ fn begin(alloc: Global, kind: Kind, parts: usize) -> Result<Vec<u8>, WireFault>
 pub fn encode_ask(alloc: Global, ask: &Ask) -> Result<Vec<u8>, WireFault>
     ensures exact { Encodes (Frame.Ask ask.now) result }
     ensures spelled { IfOk result (λ v. Spells 2 (Frame.Ask ask.now) v.items) }
-    ensures short { total_len ask.now.fragments ≤ 8000000 → result ≢ Err WireFault.TooLong }
+    ensures short { total_len ask.now.fragments ≤ MAX_ASKED_BYTES → result ≢ Err WireFault.TooLong }
 {
     let mut out = begin(alloc, Kind::Ask, ask_len(ask))?;
     put_ask(&mut out, ask)?;

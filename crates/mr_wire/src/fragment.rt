@@ -2,6 +2,7 @@
 ghost use Rattle.std.specs.Prelude.{◌≡◌, ◌≤◌, IfOk, length};
 ghost use Rattle.mr_wire.specs.Values.{AreItems, piece_of};
 ghost use Rattle.mr_wire.specs.Spelling.{fragment_bytes};
+ghost use Rattle.mr_wire.specs.Encoding.{longest_fragment};
 
 use crate::lengths::{item_set_len, vector_len};
 use mr_concise::ConciseVector;
@@ -78,7 +79,7 @@ impl FrameFragment {
     /// It takes no memory, and looks at each column once, at no item and at no hole.
     pub fn encoded_len(&self) -> usize
         ensures exact { result ≡ length (fragment_bytes self.now) }
-        ensures most { result ≤ 2490887 }
+        ensures most { result ≤ longest_fragment }
     {
         item_set_len(&self.fragment.items) + vector_len(&self.fragment.vector)
     }

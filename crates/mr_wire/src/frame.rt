@@ -12,6 +12,9 @@ use mr_version::Author;
 use std::alloc::{AllocError, Global};
 use std::marker::Model;
 
+/// The most bytes that a request's fragments may take, so that it is never too long for a frame.
+pub const MAX_ASKED_BYTES: usize = 8_000_000;
+
 /// Which of the two a stream is.
 #[derive(Clone, Copy, Debug, PartialEq, Eq)]
 pub enum Mode {
@@ -197,8 +200,8 @@ impl Ask {
         Ok(Ask::new(self.target, self.session, filter, fragments))
     }
 
-    /// How many bytes the fragments take together. Where they take at most 8,000,000, the request is
-    /// never too long for a frame.
+    /// How many bytes the fragments take together. Where they take at most [`MAX_ASKED_BYTES`], the request
+    /// is never too long for a frame.
     ///
     /// It takes no memory, and looks at each column of each fragment once.
     pub fn fragments_len(&self) -> usize

@@ -7,7 +7,7 @@ ghost use Rattle.mr_mail.specs.Label.{IsLabelSet};
 ghost use Rattle.mr_wire.specs.Values.{AreItems, listed_items};
 ghost use Rattle.mr_wire.specs.Spelling.{column_bytes, vector_bytes, items_bytes, label_bytes, labels_bytes, clause_bytes, filter_bytes, texts_bytes, message_bytes, descent_bytes};
 ghost use Rattle.mr_wire.specs.FrameSpelling.{ask_bytes, body_bytes, descent_of, part_bytes};
-ghost use Rattle.mr_wire.specs.Encoding.{HasShortFragments, total_len};
+ghost use Rattle.mr_wire.specs.Encoding.{HasShortFragments, longest_fragment, total_len};
 ghost use Rattle.mr_mail.specs.declared.label.TheConstants.{MAX_LABELS};
 ghost use Rattle.mr_filter.specs.declared.filter.TheConstants.{MAX_CLAUSES};
 
@@ -196,7 +196,7 @@ fn revision_len(revision: &Revision) -> usize
 /// The bytes behind a record's header.
 fn body_len(body: &Body) -> usize
     ensures exact { result ≡ length (body_bytes body.now) }
-    ensures most { result ≤ 2490887 }
+    ensures most { result ≤ longest_fragment }
 {
     match body {
         Body::Start(_) => MODE_BYTES,

@@ -46,6 +46,6 @@ pub use descent::Descent;
 pub use encoding::{encode, encode_ask, encode_receipt, encode_record};
 pub use fault::WireFault;
 pub use fragment::FrameFragment;
-pub use frame::{Ask, Body, Frame, Header, Mode, Receipt, Record};
+pub use frame::{Ask, Body, Frame, Header, MAX_ASKED_BYTES, Mode, Receipt, Record};
 pub use kind::{FORMAT, Kind};
 pub use spellings::{no_spelling_begins_another, one_spelling};

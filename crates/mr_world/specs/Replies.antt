@@ -10,7 +10,7 @@ use Rattle.mr_model.specs.Moment.{known, numbered}
 use Rattle.mr_model.specs.Rules.{version_in}
 use Rattle.mr_model.specs.Versions.{is_issued, item_of}
 use Rattle.mr_replica.specs.Fragments.{AreFragmentsOf}
-use Rattle.mr_replica.specs.Pull.{most_asked}
+use Rattle.mr_wire.specs.declared.frame.TheConstants.{MAX_ASKED_BYTES}
 use Rattle.mr_replica.specs.declared.event.Reply.{Reply}
 use Rattle.mr_replica.specs.declared.event.Reply.TheVariants.{Asked, Known, Took}
 use Rattle.mr_session.specs.Stream.{claimed}
@@ -41,7 +41,7 @@ module _ {K : Type 0} (form : Form K) where
   pub record IsTooLong (knowledge : K) : Type 0 where
     pub fragments : List ConciseFragment
     pub are : AreFragmentsOf (form.is_part knowledge) fragments
-    pub long : most_asked < total_len (map piece_of fragments)
+    pub long : MAX_ASKED_BYTES < total_len (map piece_of fragments)
 
   -- Of the issued versions a request claims none but those that r knows; and all of these, unless the fragments of a
   -- knowledge of them are too long.

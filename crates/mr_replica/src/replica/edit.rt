@@ -178,7 +178,7 @@ fn lower(a: Option<Version>, b: Option<Version>) -> Option<Version>
     ensures { result ≡ lower_of a b }
 {
     match (a, b) {
-        (Some(s), Some(t)) => Some(if t < s { t } else { s }),
+        (Some(s), Some(t)) => Some(s.min(t)),
         (Some(s), None) => Some(s),
         (None, end) => end,
     }
@@ -195,5 +195,5 @@ fn first_left(versions: &[Version], author: Author, bases: &[Version]) -> Option
 fn is_among(versions: &[Version], version: Version) -> bool
     ensures { result ≡ is_listed versions.now version }
 {
-    versions.iter().any(|other| version == *other)
+    versions.contains(&version)
 }

@@ -3,18 +3,16 @@ ghost use Rattle.std.specs.Prelude.{◌≡◌, ◌≢◌, None, Some, Ok, Err, A
 ghost use Rattle.std.specs.Fn.{FnOnceReturnsAt};
 ghost use Rattle.mr_wire.specs.Values.{AreItems, piece_of};
 ghost use Rattle.mr_replica.specs.StepThen.{answer_of, answer_by};
-ghost use Rattle.mr_replica.specs.Pull.{most_asked, IsLongestWithin};
+ghost use Rattle.mr_replica.specs.Pull.{IsLongestWithin};
+ghost use Rattle.mr_wire.specs.declared.frame.TheConstants.{MAX_ASKED_BYTES};
 
 use super::step_then::answered;
 use super::{Core, Replica};
 use crate::{Event, Refusal, Reply};
 use mr_concise::ConciseVector;
 use mr_forms::{FormFault, Fragment, Knowledge};
-use mr_wire::{Ask, FrameFragment};
+use mr_wire::{Ask, FrameFragment, MAX_ASKED_BYTES};
 use std::alloc::{AllocError, Global};
-
-// The most bytes that the fragments of a request take.
-const MAX_ASKED_BYTES: usize = 8_000_000;
 
 impl<K: Knowledge> Replica<K> {
     ghost use Rattle.mr_replica.specs.Step.{Steps};
@@ -116,7 +114,7 @@ fn first_fitting(
     fragments: Vec<Fragment<ConciseVector>>,
 ) -> Result<Vec<FrameFragment>, AllocError>
     requires { All (λ fragment. AreItems (piece_of fragment).items) fragments.items }
-    ensures { IfOk result (λ asked. IsLongestWithin most_asked (map piece_of fragments.items) asked.items) }
+    ensures { IfOk result (λ asked. IsLongestWithin MAX_ASKED_BYTES (map piece_of fragments.items) asked.items) }
 {
     let mut asked = Vec::new(alloc);
     let mut room = MAX_ASKED_BYTES;

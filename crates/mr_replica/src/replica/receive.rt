@@ -144,9 +144,6 @@ impl<K: Knowledge> Core<K> {
         let Some(session) = self.sessions.get(sent.header().session) else {
             return Err(Refusal::NoSession);
         };
-        match session.check(sent) {
-            Ok(()) => Ok(()),
-            Err(fault) => Err(Refusal::from(fault)),
-        }
+        Ok(session.check(sent)?)
     }
 }

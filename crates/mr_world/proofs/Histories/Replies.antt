@@ -13,7 +13,8 @@ use Rattle.mr_model.specs.Versions.{is_issued, item_of}
 use Rattle.mr_model.proofs.Basics.{cases}
 use Rattle.mr_model.proofs.Sets.{numbered_in}
 use Rattle.mr_replica.specs.Forged.{line_of}
-use Rattle.mr_replica.specs.Pull.{IsAskOf, most_asked}
+use Rattle.mr_replica.specs.Pull.{IsAskOf}
+use Rattle.mr_wire.specs.declared.frame.TheConstants.{MAX_ASKED_BYTES}
 use Rattle.mr_replica.specs.Receive.{TakesBody, TakesLine, entering}
 use Rattle.mr_replica.specs.State.{State}
 use Rattle.mr_replica.specs.declared.event.Event.TheVariants as replica
@@ -51,13 +52,13 @@ module _ {K : Type 0} (form : Form K) (s : State K) (q : Question) (ask : IsAskO
 
   -- a request tells all that is known, unless that takes too many bytes
   pub asks_all : ((i v : Name) → claimed q.fragments i v ≡ form.known s.knowledge i v) ⊎ IsTooLong form s.knowledge
-  asks_all = elim (cases (nat_le (total_len all) most_asked)) [
+  asks_all = elim (cases (nat_le (total_len all) MAX_ASKED_BYTES)) [
     | inl t ↦ (let whole : take (length all) all ≡ all = take_all (length all) all (omega arith) in
-        let few : total_len (take (length all) all) ≤ most_asked = subst (λ (ps : List Piece). total_len ps ≤ most_asked) (sym whole) (leb-true (total_len all) most_asked t) in
+        let few : total_len (take (length all) all) ≤ MAX_ASKED_BYTES = subst (λ (ps : List Piece). total_len ps ≤ MAX_ASKED_BYTES) (sym whole) (leb-true (total_len all) MAX_ASKED_BYTES t) in
         let long : length (take (length all) all) ≤ length q.fragments = ask.fragments.longest.longest (length all) few in
         let enough : length all ≤ length q.fragments = subst (λ (ps : List Piece). length ps ≤ length q.fragments) whole long in
         inl (all_told (ask.fragments.longest.beginning ∙ take_all (length q.fragments) all enough)))
-    | inr n ↦ inr (record { fragments = ask.fragments.fragments; are = ask.fragments.are; long = leb-false (total_len all) most_asked n })
+    | inr n ↦ inr (record { fragments = ask.fragments.fragments; are = ask.fragments.are; long = leb-false (total_len all) MAX_ASKED_BYTES n })
   ]
 
 module _ {K : Type 0} (form : Form K) (filters : ℕ → List ClauseParts) (w w' : World K) (m : MailMoment) (a : Agrees form filters w m) (r : ℕ) where

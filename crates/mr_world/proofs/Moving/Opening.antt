@@ -40,7 +40,8 @@ use Rattle.mr_replica.specs.declared.refusal.Refusal.TheVariants.{OwnAsk, PushOu
 use Rattle.mr_replica.proofs.Merging.{all_claimed}
 use Rattle.mr_session.specs.Session.{Session, is_full_mode, new_session}
 use Rattle.mr_session.specs.Stream.{Stream, claimed, lists, new_stream}
-use Rattle.mr_session.specs.Table.{most_open, open_at}
+use Rattle.mr_session.specs.Table.{open_at}
+use Rattle.mr_session.specs.declared.limits.TheConstants.{MAX_OPEN}
 use Rattle.mr_store.specs.Revisions.{holds}
 use Rattle.mr_wire.specs.Frames.{Question, Sent}
 use Rattle.mr_wire.specs.Values.{Piece, piece_of}
@@ -236,7 +237,7 @@ module _ {K : Type 0} (form : Form K) (filters : ℕ → List ClauseParts) (w : 
     where
       go : (reply : Reply) (new : State K) → first_refusal (w.replicas r) replica.Pull ≡ None → Changes form (w.replicas r) replica.Pull reply new → Refines form filters w m (event.Pull r) (Stepped (Ok reply)) (with_given (with_replica w r new) (Ok reply))
       go (Asked q) new none step =
-          let living = alive form (w.replicas r) (refused_if (nat_le most_open (length (w.replicas r).sessions.open_ones)) TooManySessions orelse log_full (w.replicas r)) none in
+          let living = alive form (w.replicas r) (refused_if (nat_le MAX_OPEN (length (w.replicas r).sessions.open_ones)) TooManySessions orelse log_full (w.replicas r)) none in
           subst (λ (s : State K). Refines form filters w m (event.Pull r) (Stepped (Ok (Asked q))) (with_given (with_replica w r s) (Ok (Asked q)))) (sym step.1) (pull_agrees r q living step.0)
       go reply new none step = absurd step
 
@@ -361,7 +362,7 @@ module _ {K : Type 0} (form : Form K) (filters : ℕ → List ClauseParts) (w : 
 
       go : (reply : Reply) (new : State K) → first_refusal (w.replicas r) (replica.Answer q) ≡ None → Changes form (w.replicas r) (replica.Answer q) reply new → Refines form filters w m (event.Answer r n) (Stepped (Ok reply)) (with_given (with_replica w r new) (Ok reply))
       go (Streaming t) new none step =
-          let own = not_refused (q.target == (w.replicas r).id) OwnAsk (orelse_none (refused_if (q.target == (w.replicas r).id) OwnAsk) (refused_if (nat_le most_open (length (w.replicas r).streams.open_ones)) TooManyStreams orelse log_full (w.replicas r)) none).0 in
+          let own = not_refused (q.target == (w.replicas r).id) OwnAsk (orelse_none (refused_if (q.target == (w.replicas r).id) OwnAsk) (refused_if (nat_le MAX_OPEN (length (w.replicas r).streams.open_ones)) TooManyStreams orelse log_full (w.replicas r)) none).0 in
           let seen = sees r n q move.1 step.1 step.2 in
           subst (λ (s : State K). Refines form filters w m (event.Answer r n) (Stepped (Ok (Streaming t))) (with_replica w r s)) (sym step.3)
           (subst (λ (u : ℕ). Refines form filters w m (event.Answer r n) (Stepped (Ok (Streaming u))) (with_replica w r (logged (answering (w.replicas r) q step.1) (replica.Answer q)))) (sym step.0)

@@ -32,7 +32,8 @@ use Rattle.mr_replica.specs.Forged.{line_of}
 use Rattle.mr_replica.specs.Fragments.{HasHoleyPart}
 use Rattle.mr_replica.specs.Issue.{Fits, Wanted.Knowledge, Wanted.Vector, below_for, issuing, logged, nothing}
 use Rattle.mr_replica.specs.Pieces.{ArePiecesOf}
-use Rattle.mr_replica.specs.Pull.{AreAsked, most_asked, pulling}
+use Rattle.mr_replica.specs.Pull.{AreAsked, pulling}
+use Rattle.mr_wire.specs.declared.frame.TheConstants.{MAX_ASKED_BYTES}
 use Rattle.mr_wire.specs.Encoding.{total_len}
 use Rattle.mr_replica.specs.Receive.{ending, finished, learning, moved_on}
 use Rattle.mr_replica.specs.Release.{releasing}
@@ -156,7 +157,7 @@ module _ (k : List AuthorColumn) (normal : IsVectorFrom 0 k) where
   short (suc zero) = omega arith
   short (suc (suc n)) = omega arith
 
-  are_asked : total_len (the_piece ∷ []) ≤ most_asked → AreAsked (row_form.is_part k) (row_form.known k) (the_piece ∷ [])
+  are_asked : total_len (the_piece ∷ []) ≤ MAX_ASKED_BYTES → AreAsked (row_form.is_part k) (row_form.known k) (the_piece ∷ [])
   are_asked few = record {
     fragments = the_fragment ∷ [];
     are = record { parts = the_part ∷ []; are_parts = are_parts; by_part = (record { items = refl; versions = is_vector }, tt) };

@@ -4,7 +4,7 @@ use Rattle.std.proofs.lemmas.List.Elements.{All-tail}
 use Rattle.mr_concise.specs.Fragments.{ConciseFragment}
 use Rattle.mr_wire.specs.Values.{Piece, AreItems, piece_of}
 use Rattle.mr_wire.specs.Spelling.{fragment_bytes}
-use Rattle.mr_replica.specs.Pull.{most_asked}
+use Rattle.mr_wire.specs.declared.frame.TheConstants.{MAX_ASKED_BYTES}
 use Rattle.mr_replica.proofs.PullLemmas.{FitsSoFar, fits_more, fits_until}
 use Rattle.mr_replica.proofs.replica.pull.first_fitting.Goals as goal
 
@@ -14,11 +14,11 @@ returns-then-room-len c =
     let all = map piece_of c.args.fragments.items in
     let asked = c.loop-fragment.asked.items in
     let next = into_iter_items c.next.new.self in
-    let far : FitsSoFar most_asked all asked (piece_of c.in-Some.fragment ∷ map piece_of next) c.loop-fragment.room =
-    subst (λ (fs : List ConciseFragment). FitsSoFar most_asked all asked (map piece_of fs) c.loop-fragment.room) c.in-Some.ensures.steps.0 c.loop-fragment.invariant.far in
+    let far : FitsSoFar MAX_ASKED_BYTES all asked (piece_of c.in-Some.fragment ∷ map piece_of next) c.loop-fragment.room =
+    subst (λ (fs : List ConciseFragment). FitsSoFar MAX_ASKED_BYTES all asked (map piece_of fs) c.loop-fragment.room) c.in-Some.ensures.steps.0 c.loop-fragment.invariant.far in
     let len : c.encoded_len-len.result ≡ length (fragment_bytes (piece_of c.in-Some.fragment)) = c.encoded_len-len.ensures.exact ∙ ap (λ (p : Piece). length (fragment_bytes p)) c.new-fragment.ensures in
     let less : c.loop-fragment.room < length (fragment_bytes (piece_of c.in-Some.fragment)) = omega (arith, c.if-room-len.true, len) in
-    fits_until most_asked all asked (map piece_of next) (piece_of c.in-Some.fragment) c.loop-fragment.room far less
+    fits_until MAX_ASKED_BYTES all asked (map piece_of next) (piece_of c.in-Some.fragment) c.loop-fragment.room far less
 
 -- the next one fits
 pub loop-fragment-preserved : goal.loop-fragment-preserved
@@ -26,10 +26,10 @@ loop-fragment-preserved c =
     let all = map piece_of c.args.fragments.items in
     let asked = c.loop-fragment.asked.items in
     let next = into_iter_items c.next.new.self in
-    let far : FitsSoFar most_asked all asked (piece_of c.in-Some.fragment ∷ map piece_of next) c.loop-fragment.room =
-    subst (λ (fs : List ConciseFragment). FitsSoFar most_asked all asked (map piece_of fs) c.loop-fragment.room) c.in-Some.ensures.steps.0 c.loop-fragment.invariant.far in
+    let far : FitsSoFar MAX_ASKED_BYTES all asked (piece_of c.in-Some.fragment ∷ map piece_of next) c.loop-fragment.room =
+    subst (λ (fs : List ConciseFragment). FitsSoFar MAX_ASKED_BYTES all asked (map piece_of fs) c.loop-fragment.room) c.in-Some.ensures.steps.0 c.loop-fragment.invariant.far in
     let len : c.encoded_len-len.result ≡ length (fragment_bytes (piece_of c.in-Some.fragment)) = c.encoded_len-len.ensures.exact ∙ ap (λ (p : Piece). length (fragment_bytes p)) c.new-fragment.ensures in
-    let more = fits_more most_asked all asked (map piece_of next) (piece_of c.in-Some.fragment) c.loop-fragment.room c.encoded_len-len.result (c.loop-fragment.room - c.encoded_len-len.result) far len (omega (arith, c.if-room-len.false)) in
+    let more = fits_more MAX_ASKED_BYTES all asked (map piece_of next) (piece_of c.in-Some.fragment) c.loop-fragment.room c.encoded_len-len.result (c.loop-fragment.room - c.encoded_len-len.result) far len (omega (arith, c.if-room-len.false)) in
     record {
       far = rw (c.in_ok-push.ensures.items, c.new-fragment.ensures) more;
       carried = All-tail (λ (f : ConciseFragment). AreItems (piece_of f).items) c.in-Some.fragment next (subst (λ (fs : List ConciseFragment). All (λ f. AreItems (piece_of f).items) fs) c.in-Some.ensures.steps.0 c.loop-fragment.invariant.carried);
