@@ -93,6 +93,13 @@ impl Revision {
         self.parts.version
     }
 
+    /// Its version, lent: a slice of one version can be made of it.
+    pub fn version_ref(&self) -> &Version
+        ensures { result.now ≡ self.now.version }
+    {
+        &self.parts.version
+    }
+
     /// Its made-with set: the versions that it supersedes.
     pub fn below(&self) -> &ConciseVector
         ensures is { result.now ≡ self.now.below }

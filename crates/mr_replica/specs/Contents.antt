@@ -1,6 +1,5 @@
 -- what a replica holds and tells, and one revision more
 use Rattle.std.specs.Prelude.{◌≡◌, ◌≤◌, ◌<◌, ℕ, Bool, true, false, Option, Some, None, List, ◌++◌, map, filter}
-use Rattle.mr_version.specs.Name.{Name}
 use Rattle.mr_feed.specs.declared.entry.Entry.{Entry}
 use Rattle.mr_feed.specs.Feed.{FeedView}
 use Rattle.mr_madewith.specs.Revision.{Rev, has_below}
@@ -9,6 +8,7 @@ use Rattle.mr_store.specs.declared.store.Part.{Part}
 use Rattle.mr_store.specs.declared.store.Part.TheVariants.{Heads, PushOuts}
 use Rattle.mr_store.specs.Holdings.{Holdings, room_in}
 use Rattle.mr_store.specs.Revisions.{supersedes}
+use Rattle.mr_store.specs.Room.{room_of}
 use Rattle.mr_replica.specs.Issue.{dropped, added, if_so}
 use Rattle.mr_replica.specs.declared.event.Event.{Event}
 
@@ -29,9 +29,9 @@ part_for false = PushOuts
 abbrev pub news_of : Bool → Rev → List Rev → List Entry
 news_of selected r heads = map dropped (filter (supersedes r.item (has_below r)) heads) ++ map added (if_so selected r)
 
--- there is room for one more revision of the item, for so many entries, and for an event
-pub record HasRoom (selected : Bool) (item : Name) (entries : ℕ) (c : ContentParts) : Type 0 where
-  pub in_store : room_in (part_for selected) c.store ≡ Some item
+-- there is room for the revision, for so many entries, and for an event
+pub record HasRoom (selected : Bool) (r : Rev) (entries : ℕ) (c : ContentParts) : Type 0 where
+  pub in_store : room_in (part_for selected) c.store ≡ Some (room_of r)
   pub in_trail : 0 < c.trail.room
   pub in_feed : entries ≤ c.feed.room
   pub in_log : 0 < c.log_room
@@ -39,7 +39,7 @@ pub record HasRoom (selected : Bool) (item : Name) (entries : ℕ) (c : ContentP
 -- there is room for the revision in the heads, where there is one
 abbrev pub HasPlace : Option Rev → Holdings → Type 0
 HasPlace None store = Unit {0}
-HasPlace (Some r) store = room_in Heads store ≡ Some r.item
+HasPlace (Some r) store = room_in Heads store ≡ Some (room_of r)
 
 -- nothing but room has changed
 pub record HoldsSame (old new : ContentParts) : Type 0 where

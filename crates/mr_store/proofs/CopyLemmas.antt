@@ -1,24 +1,25 @@
 -- a clone of an index lists the same versions
-use Rattle.std.proofs.Common.{◌≡◌, Bool, true, false, cond, Option, Some, None, List, [], ◌∷◌, Result, Ok, Err, MatchResult, IfOk, refl, ap, sym, ◌∙◌, subst}
+use Rattle.std.proofs.Common.{◌≡◌, Bool, true, false, cond, Option, Some, None, List, [], ◌∷◌, Result, Ok, Err, MatchResult, IfOk, refl, sym, subst}
 use Rattle.std.specs.BTreeMap.{BTreeMap, IsClone, is_at, get}
 use Rattle.std.specs.List.{AllZip}
 use Rattle.std.specs.Map.{lookup}
 use Rattle.std.specs.declared.vec.Vec.{Vec}
 use Rattle.mr_version.specs.Name.{Name, name_cmp}
-use Rattle.mr_store.specs.Index.{listed_for, HasNoIdle}
-use Rattle.mr_store.specs.Revisions.{AreInVersionOrder, versions_of}
+use Rattle.mr_store.specs.Index.{IsIndexOf}
+use Rattle.mr_store.specs.Revisions.{AreInVersionOrder}
+use Rattle.mr_store.specs.declared.room.Room.{Room}
+use Rattle.mr_madewith.specs.Revision.{Rev}
 use Rattle.mr_store.specs.GapVector.{GapParts}
-use Rattle.mr_store.specs.Shelf.{IsShelf}
+use Rattle.mr_store.specs.RevisionList.{IsRevisionList}
 use Rattle.mr_store.proofs.IndexLemmas.{no_some}
 
--- equal revisions, with an index that lists the same, are a list of a store that has no room
-pub shelf_of_copies : {Z : Type 0} (revisions copies : GapParts) (index copy : BTreeMap Name (Vec Name Z)) (room : Option Name) → copies.items ≡ revisions.items → ((i : Name) → listed_for copy i ≡ listed_for index i) → HasNoIdle None copy → IsShelf revisions index room → IsShelf copies copy None
-shelf_of_copies revisions copies index copy room same lists no_idle h = record {
+-- equal revisions, with an index of them that has no room, are a list of a store that has none
+pub list_of_copies : {Z : Type 0} (revisions copies : GapParts) (index copy : BTreeMap Name (Vec Name Z)) (room : Option Room) → copies.items ≡ revisions.items → ((rs : List Rev) → IsIndexOf room rs index → IsIndexOf None rs copy) → IsRevisionList revisions index room → IsRevisionList copies copy None
+list_of_copies revisions copies index copy room same lists h = record {
   in_order = subst AreInVersionOrder (sym same) h.in_order;
-  indexed = λ i. lists i ∙ (h.indexed i ∙ ap (versions_of i) (sym same));
+  indexed = subst (λ (rs : List Rev). IsIndexOf None rs copy) (sym same) (lists revisions.items h.indexed);
   has_place = λ none. absurd (no_some none);
   has_room = tt;
-  no_idle = no_idle;
 }
 
 -- what is read of the item's list in the clone, where it reads the same of the clone of each list

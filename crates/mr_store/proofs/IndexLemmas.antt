@@ -1,132 +1,159 @@
--- what the index lists once an item's list was written
-use Rattle.std.proofs.Common.{◌≡◌, ◌<◌, ◌==◌, ◌&&◌, not, length, Bool, true, false, cond, if◌then◌else◌, refl, sym, ap, subst, ◌∙◌, List, [], Option, Some, None, IsSomeAnd, vec_len, vec_capacity, ◌∷◌, arith, inl, inr}
-use Rattle.std.proofs.lemmas.Bool.{eqb-true}
+-- what the index lists once an item's list was written, or has gone
+use Rattle.std.proofs.Common.{◌≡◌, ◌<◌, ◌&&◌, ◌||◌, not, Bool, true, false, cond, if◌then◌else◌, refl, sym, ap, subst, ◌∙◌, List, Option, Some, None, IfSome, MatchOption, Result, Ok, Err, OnOk, vec_len, vec_capacity, inl, inr}
 use Rattle.std.specs.declared.vec.Vec.{Vec}
-use Rattle.std.specs.Option.{option_map_or}
+use Rattle.std.specs.List.{filter}
+use Rattle.std.specs.Option.{option_map, option_map_or}
 use Rattle.std.specs.BTreeMap.{BTreeMap, get}
 use Rattle.mr_version.specs.Name.{Name, name_cmp, name_eq}
-use Rattle.mr_store.specs.Index.{listed_for, HasRoomFor, HasNoIdle, has_empty_for, is_for}
-use Rattle.mr_madewith.proofs.Rising.{same_names, name_eq-swap}
-use Rattle.mr_store.proofs.RevisionLemmas.{either}
+use Rattle.mr_madewith.specs.Revision.{Rev}
+use Rattle.mr_forms.specs.Sets.{Versions}
+use Rattle.mr_store.specs.Revisions.{AreInVersionOrder, entered, versions_of, left_by}
+use Rattle.mr_store.specs.Room.{room_of, is_for_later}
+use Rattle.mr_store.specs.Index.{listed_for, IsIndexOf, HasRoomFor, version_inserted, has_later, to_list, stays_listed}
+use Rattle.mr_store.specs.declared.room.Room.{Room}
+use Rattle.mr_madewith.proofs.Rising.{same_names}
+use Rattle.mr_store.proofs.RevisionLemmas.{either, versions_of-entered, versions_of-left_by}
+use Rattle.mr_store.proofs.ListedLemmas.{stays-some, to_list-inserted, to_list-elsewhere, to_list-for_later, unlisted_alone, firsts_are_all}
+
+-- what holds once it went well
+pub on_ok : {V E : Type 0} (r : Result V E) (P Q : Type 0) → (P → Q) → OnOk r P → OnOk r Q
+on_ok (Ok v) P Q f h = f h
+on_ok (Err e) P Q f h = tt
 
 pub no_some : false ≡ true → ⊥
 no_some is = cc
 
-pub no_items : (vs : List Name) → (length vs == 0) ≡ true → vs ≡ []
-no_items [] h = refl
-no_items (x ∷ xs) h = absurd (let none : length (x ∷ xs) ≡ 0 = eqb-true (length (x ∷ xs)) 0 h in omega (arith, none))
+-- whether a list of the item isn't needed
+abbrev pub is_idle : Option Room → Name → Option (List Name) → Bool
+is_idle room item listed = option_map_or (λ vs. not (has_later item vs || is_for_later room item)) listed false
+
+idle_goes : (room : Option Room) (item : Name) (listed : Option (List Name)) → is_idle room item listed ≡ true → None ≡ stays_listed room item listed
+idle_goes room item None idle = refl
+idle_goes room item (Some vs) idle =
+    elim (either (has_later item vs || is_for_later room item)) [
+      | inl needed ↦ absurd (no_some (rw needed at idle))
+      | inr not_needed ↦ rw not_needed refl
+    ]
+
+needed_stays : (room : Option Room) (item : Name) (listed : Option (List Name)) → is_idle room item listed ≡ false → listed ≡ stays_listed room item listed
+needed_stays room item None needed = refl
+needed_stays room item (Some vs) needed =
+    elim (either (has_later item vs || is_for_later room item)) [
+      | inl is ↦ rw is refl
+      | inr unneeded ↦ absurd (no_some (sym (rw unneeded at needed)))
+    ]
 
 module _ {Z : Type 0} where
   -- the index n has w at the item, and elsewhere what m has
   abbrev pub Writes : BTreeMap Name (Vec Name Z) → BTreeMap Name (Vec Name Z) → Name → Vec Name Z → Type 0
   Writes m n item w = (q : Name) → get name_cmp n q ≡ cond (name_eq item q) (Some w) (get name_cmp m q)
 
-  abbrev pub items_or_none : Option (Vec Name Z) → List Name
-  items_or_none o = option_map_or (λ versions. versions.items) o []
+  abbrev pub items_of_list : Option (Vec Name Z) → Option (List Name)
+  items_of_list o = option_map (λ versions. versions.items) o
 
-  pub listed_for-written : (m n : BTreeMap Name (Vec Name Z)) (item : Name) (w : Vec Name Z) → Writes m n item w
-      → (i : Name) → listed_for n i ≡ (if name_eq item i then w.items else listed_for m i)
-  listed_for-written m n item w writes i =
-      ap items_or_none (writes i) ∙ (elim (name_eq item i) as (λ b. items_or_none (cond b (Some w) (get name_cmp m i)) ≡ (if b then w.items else listed_for m i)) [ true ↦ refl | false ↦ refl ])
+  abbrev pub HasSpace : Option (Vec Name Z) → Type 0
+  HasSpace o = IfSome o (λ versions. vec_len versions < vec_capacity versions)
 
-  -- a list with the same items changes nothing
-  pub listed_for-same : (m n : BTreeMap Name (Vec Name Z)) (item : Name) (w : Vec Name Z) → Writes m n item w → listed_for m item ≡ w.items
-      → (i : Name) → listed_for n i ≡ listed_for m i
-  listed_for-same m n item w writes same i =
-      listed_for-written m n item w writes i ∙ elim (either (name_eq item i)) [
-        | inl here ↦ rw here (sym (subst (λ j. listed_for m j ≡ w.items) (same_names item i here) same))
+  -- the list that an item has, where what is listed matches its versions
+  pub listed_matches : (o : Option (Vec Name Z)) (v : Vec Name Z) (vs : List Name) (none : Type 0) → Some v ≡ o → MatchOption (items_of_list o) none (λ ws. ws ≡ vs) → v.items ≡ vs
+  listed_matches o v vs none was matches = subst (λ (p : Option (Vec Name Z)). MatchOption (items_of_list p) none (λ ws. ws ≡ vs)) (sym was) matches
+
+  pub listed-written : (m n : BTreeMap Name (Vec Name Z)) (item : Name) (w : Vec Name Z) → Writes m n item w
+      → (i : Name) → listed_for n i ≡ (if name_eq item i then Some w.items else listed_for m i)
+  listed-written m n item w writes i =
+      ap items_of_list (writes i) ∙ (elim (name_eq item i) as (λ b. items_of_list (cond b (Some w) (get name_cmp m i)) ≡ (if b then Some w.items else listed_for m i)) [ true ↦ refl | false ↦ refl ])
+
+  -- the item's list became what f makes of it
+  pub listed-mapped : (f : List Name → List Name) (m n : BTreeMap Name (Vec Name Z)) (item : Name) (v w : Vec Name Z) → Writes m n item w → get name_cmp m item ≡ Some v → w.items ≡ f v.items
+      → (i : Name) → listed_for n i ≡ (if name_eq item i then option_map f (listed_for m i) else listed_for m i)
+  listed-mapped f m n item v w writes was made i =
+      listed-written m n item w writes i ∙ elim (either (name_eq item i)) [
+        | inl here ↦
+            let at_item : option_map f (listed_for m item) ≡ Some w.items = ap (λ o. option_map f (items_of_list o)) was ∙ ap Some (sym made) in
+            rw here (sym (subst (λ (j : Name). option_map f (listed_for m j) ≡ Some w.items) (same_names item i here) at_item))
         | inr apart ↦ rw apart refl
       ]
 
-  -- an item keeps its room where the new list has no less than the old
-  pub has_room-kept : (m n : BTreeMap Name (Vec Name Z)) (item : Name) (v w : Vec Name Z) → Writes m n item w → get name_cmp m item ≡ Some v
-      → (vec_len v < vec_capacity v → vec_len w < vec_capacity w) → (i : Name) → HasRoomFor (Some i) m → HasRoomFor (Some i) n
-  has_room-kept m n item v w writes was keeps i room =
-      elim (either (name_eq item i)) [
+  -- the room stays where the new list has no less than the old
+  pub room-kept : (m n : BTreeMap Name (Vec Name Z)) (item : Name) (v w : Vec Name Z) → Writes m n item w → get name_cmp m item ≡ Some v
+      → (vec_len v < vec_capacity v → vec_len w < vec_capacity w) → (room : Option Room) → HasRoomFor room m → HasRoomFor room n
+  room-kept m n item v w writes was keeps None has = tt
+  room-kept m n item v w writes was keeps (Some room) has =
+      elim (either (name_eq item room.item)) [
         | inl here ↦
-            let at_item : IsSomeAnd (get name_cmp m item) (λ versions. vec_len versions < vec_capacity versions) = subst (λ j. HasRoomFor (Some j) m) (sym (same_names item i here)) room in
-            rw (writes i, here) (keeps (rw was at at_item))
-        | inr apart ↦ rw (writes i, apart) room
+            let at_item : HasSpace (get name_cmp m item) = subst (λ (j : Name). HasSpace (get name_cmp m j)) (sym (same_names item room.item here)) has in
+            rw (writes room.item, here) (keeps (rw was at at_item))
+        | inr apart ↦ rw (writes room.item, apart) has
       ]
-
-  -- the room that there is stays
-  pub room-kept : (m n : BTreeMap Name (Vec Name Z)) (room : Option Name) → ((i : Name) → HasRoomFor (Some i) m → HasRoomFor (Some i) n) → HasRoomFor room m → HasRoomFor room n
-  room-kept m n None keeps h = tt
-  room-kept m n (Some i) keeps h = keeps i h
-
-  abbrev pub is_empty_list : Option (Vec Name Z) → Bool
-  is_empty_list o = option_map_or (λ versions. length versions.items == 0) o false
-
-  -- elsewhere no list becomes empty or goes
-  pub has_empty_for-written : (m n : BTreeMap Name (Vec Name Z)) (item : Name) (w : Vec Name Z) → Writes m n item w
-      → (i : Name) → has_empty_for n i ≡ (if name_eq item i then (length w.items == 0) else has_empty_for m i)
-  has_empty_for-written m n item w writes i =
-      ap is_empty_list (writes i) ∙ (elim (name_eq item i) as (λ b. is_empty_list (cond b (Some w) (get name_cmp m i)) ≡ (if b then (length w.items == 0) else has_empty_for m i)) [ true ↦ refl | false ↦ refl ])
-
-  pub has_empty_for-others : (m n : BTreeMap Name (Vec Name Z)) (item : Name) (w : Vec Name Z) → Writes m n item w
-      → (i : Name) → name_eq item i ≡ false → has_empty_for n i ≡ has_empty_for m i
-  has_empty_for-others m n item w writes i apart = rw apart at (has_empty_for-written m n item w writes i)
 
   -- the index n has nothing at the item, and elsewhere what m has
   abbrev pub Removes : BTreeMap Name (Vec Name Z) → BTreeMap Name (Vec Name Z) → Name → Type 0
   Removes m n item = (q : Name) → get name_cmp n q ≡ cond (name_eq item q) None (get name_cmp m q)
 
-  pub empty_lists_nothing : (o : Option (Vec Name Z)) → is_empty_list o ≡ true → items_or_none o ≡ []
-  empty_lists_nothing None h = refl
-  empty_lists_nothing (Some v) h = no_items v.items h
-
-  -- without an empty list as much is listed
-  pub listed_for-removed : (m n : BTreeMap Name (Vec Name Z)) (item : Name) → Removes m n item → has_empty_for m item ≡ true
-      → (i : Name) → listed_for n i ≡ listed_for m i
-  listed_for-removed m n item removes empty i =
-      ap items_or_none (removes i) ∙ elim (either (name_eq item i)) [
-        | inl here ↦ rw here (sym (subst (λ j. listed_for m j ≡ []) (same_names item i here) (empty_lists_nothing (get name_cmp m item) empty)))
+  pub listed-removed : (m n : BTreeMap Name (Vec Name Z)) (item : Name) (room : Option Room) → Removes m n item → is_idle room item (listed_for m item) ≡ true
+      → (i : Name) → listed_for n i ≡ (if name_eq item i then stays_listed room i (listed_for m i) else listed_for m i)
+  listed-removed m n item room removes idle i =
+      ap items_of_list (removes i) ∙ elim (either (name_eq item i)) [
+        | inl here ↦ rw here (subst (λ (j : Name). None ≡ stays_listed room j (listed_for m j)) (same_names item i here) (idle_goes room item (listed_for m item) idle))
         | inr apart ↦ rw apart refl
       ]
 
-  pub has_empty_for-removed : (m n : BTreeMap Name (Vec Name Z)) (item : Name) → Removes m n item
-      → (i : Name) → has_empty_for n i ≡ (not (name_eq item i) && has_empty_for m i)
-  has_empty_for-removed m n item removes i =
-      ap is_empty_list (removes i) ∙ (elim (name_eq item i) as (λ b. is_empty_list (cond b None (get name_cmp m i)) ≡ (not b && has_empty_for m i)) [ true ↦ refl | false ↦ refl ])
-
-  pub has_room-removed : (m n : BTreeMap Name (Vec Name Z)) (item : Name) → Removes m n item
-      → (i : Name) → name_eq item i ≡ false → HasRoomFor (Some i) m → HasRoomFor (Some i) n
-  has_room-removed m n item removes i apart room = rw (removes i, apart) room
-
-  -- where the item has no empty list, none is to go
-  pub has_empty_for-kept : (m : BTreeMap Name (Vec Name Z)) (item : Name) → has_empty_for m item ≡ false
-      → (i : Name) → has_empty_for m i ≡ (not (name_eq item i) && has_empty_for m i)
-  has_empty_for-kept m item none i =
+  pub listed-needed : (m : BTreeMap Name (Vec Name Z)) (item : Name) (room : Option Room) → is_idle room item (listed_for m item) ≡ false
+      → (i : Name) → listed_for m i ≡ (if name_eq item i then stays_listed room i (listed_for m i) else listed_for m i)
+  listed-needed m item room needed i =
       elim (either (name_eq item i)) [
-        | inl here ↦ rw here (subst (λ j. has_empty_for m j ≡ false) (same_names item i here) none)
+        | inl here ↦ rw here (subst (λ (j : Name). listed_for m j ≡ stays_listed room j (listed_for m j)) (same_names item i here) (needed_stays room item (listed_for m item) needed))
         | inr apart ↦ rw apart refl
       ]
 
-  -- an empty list of the item is not idle where the room is for it
-  pub idle_for_room : (m : BTreeMap Name (Vec Name Z)) (item : Name) (room : Option Name) → is_for room item ≡ true
-      → ((i : Name) → name_eq item i ≡ false → has_empty_for m i ≡ true → is_for room i ≡ true) → HasNoIdle room m
-  idle_for_room m item room kept others i h =
-      elim (either (name_eq item i)) [
-        | inl here ↦ subst (λ j. is_for room j ≡ true) (same_names item i here) kept
-        | inr apart ↦ others i apart h
+  -- ---- the index of the revisions
+
+  -- an item that had no list has one of its first version, where that is held
+  pub index-enlisted : (m n : BTreeMap Name (Vec Name Z)) (room : Room) (revisions : List Rev) (firsts : List Name) → ((i : Name) → listed_for n i ≡ (if name_eq room.item i then Some firsts else listed_for m i)) → get name_cmp m room.item ≡ None
+      → name_eq room.version room.item ≡ false → firsts ≡ filter (λ v. name_eq v room.item) (versions_of room.item revisions) → IsIndexOf None revisions m → IsIndexOf (Some room) revisions n
+  index-enlisted m n room revisions firsts lists none later are indexed i =
+      lists i ∙ elim (either (name_eq room.item i)) [
+        | inl here ↦
+            let vs = versions_of room.item revisions in
+            let alone : has_later room.item vs ≡ false = unlisted_alone None room.item vs (sym (indexed room.item) ∙ ap items_of_list none) in
+            let all : firsts ≡ vs = are ∙ firsts_are_all room.item vs alone in
+            let same : vs ≡ versions_of i revisions = ap (λ (j : Name). versions_of j revisions) (same_names room.item i here) in
+            let for_later : is_for_later (Some room) i ≡ true = rw (here, later) refl in
+            ap (λ b. if b then Some firsts else listed_for m i) here ∙ (ap Some (all ∙ same) ∙ sym (to_list-for_later (Some room) i (versions_of i revisions) for_later))
+        | inr apart ↦
+            ap (λ b. if b then Some firsts else listed_for m i) apart
+            ∙ (indexed i ∙ sym (to_list-elsewhere (Some room) i (versions_of i revisions) (ap (λ b. b && not (name_eq room.version room.item)) apart)))
       ]
 
-  -- and where the item's list went, none is idle if no other one was
-  pub idle_gone : (m n : BTreeMap Name (Vec Name Z)) (item : Name) (room : Option Name) → ((i : Name) → has_empty_for n i ≡ (not (name_eq item i) && has_empty_for m i))
-      → ((i : Name) → name_eq item i ≡ false → has_empty_for m i ≡ true → is_for room i ≡ true) → HasNoIdle room n
-  idle_gone m n item room gone others i h =
-      elim (either (name_eq item i)) [
-        | inl here ↦ absurd (no_some (rw (gone i, here) at h))
-        | inr apart ↦ others i apart (rw (gone i, apart) at h)
+  -- a revision that comes in its room is listed where it is to be
+  pub index-put : (m n : BTreeMap Name (Vec Name Z)) (r : Rev) (revisions : List Rev) → AreInVersionOrder (entered r revisions)
+      → ((i : Name) → listed_for n i ≡ (if name_eq r.item i then option_map (version_inserted r.version) (listed_for m i) else listed_for m i)) → IsIndexOf (Some (room_of r)) revisions m → IsIndexOf None (entered r revisions) n
+  index-put m n r revisions rising lists indexed i =
+      lists i ∙ elim (either (name_eq r.item i)) [
+        | inl here ↦
+            let vs = versions_of i revisions in
+            let entered_here : versions_of i (entered r revisions) ≡ version_inserted r.version vs = rw here at (versions_of-entered i r revisions rising) in
+            let put : option_map (version_inserted r.version) (to_list (Some (room_of r)) i vs) ≡ to_list None i (version_inserted r.version vs) =
+            subst (λ (j : Name). option_map (version_inserted r.version) (to_list (Some (record { item = r.item; version = r.version })) j vs) ≡ to_list None j (version_inserted r.version vs)) (same_names r.item i here) (to_list-inserted r.item r.version vs) in
+            rw (here, entered_here) (ap (option_map (version_inserted r.version)) (indexed i) ∙ put)
+        | inr apart ↦
+            let entered_elsewhere : versions_of i (entered r revisions) ≡ versions_of i revisions = rw apart at (versions_of-entered i r revisions rising) in
+            rw (apart, entered_elsewhere) (indexed i ∙ to_list-elsewhere (Some (room_of r)) i (versions_of i revisions) (ap (λ b. b && not (name_eq r.version r.item)) apart))
       ]
 
-  -- where the room was the item's, no other list was empty
-  pub idle_gone_with_room : (m n : BTreeMap Name (Vec Name Z)) (item : Name) → ((i : Name) → has_empty_for n i ≡ (not (name_eq item i) && has_empty_for m i))
-      → HasNoIdle (Some item) m → HasNoIdle None n
-  idle_gone_with_room m n item gone was = idle_gone m n item None gone (λ i apart h. sym apart ∙ was i h)
-
-  -- where the room is not the item's, it stays if all others' room does
-  pub room_elsewhere : (m n : BTreeMap Name (Vec Name Z)) (item : Name) (room : Option Name) → is_for room item ≡ false
-      → ((i : Name) → name_eq item i ≡ false → HasRoomFor (Some i) m → HasRoomFor (Some i) n) → HasRoomFor room m → HasRoomFor room n
-  room_elsewhere m n item None apart keeps h = tt
-  room_elsewhere m n item (Some other) apart keeps h = keeps other (name_eq-swap item other ∙ apart) h
+  -- what leaves is no longer listed, and a list that isn't needed is gone
+  pub index-left : (m k n : BTreeMap Name (Vec Name Z)) (room : Option Room) (item : Name) (below : Versions) (revisions : List Rev)
+      → ((i : Name) → listed_for k i ≡ (if name_eq item i then option_map (filter (λ v. not (below v))) (listed_for m i) else listed_for m i))
+      → ((i : Name) → listed_for n i ≡ (if name_eq item i then stays_listed room i (listed_for k i) else listed_for k i)) → IsIndexOf room revisions m → IsIndexOf room (left_by item below revisions) n
+  index-left m k n room item below revisions leave drop indexed i =
+      drop i ∙ elim (either (name_eq item i)) [
+        | inl here ↦
+            let vs = versions_of i revisions in
+            let stay : versions_of i (left_by item below revisions) ≡ filter (λ v. not (below v)) vs = rw here at (versions_of-left_by i item below revisions) in
+            let left : listed_for k i ≡ option_map (filter (λ v. not (below v))) (listed_for m i) = rw here at (leave i) in
+            rw (here, stay) (ap (stays_listed room i) (left ∙ ap (option_map (filter (λ v. not (below v)))) (indexed i)) ∙ stays-some room i (λ v. not (below v)) vs)
+        | inr apart ↦
+            let stay : versions_of i (left_by item below revisions) ≡ versions_of i revisions = rw apart at (versions_of-left_by i item below revisions) in
+            let left : listed_for k i ≡ listed_for m i = rw apart at (leave i) in
+            rw (apart, stay) (left ∙ indexed i)
+      ]

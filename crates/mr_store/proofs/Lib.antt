@@ -2,6 +2,7 @@ pub mod RevisionLemmas
 pub mod HoldingLemmas
 pub mod OrderLemmas
 pub mod FragmentIndexLemmas
+pub mod ListedLemmas
 pub mod IndexLemmas
 pub mod Several
 pub mod HeldVersionLemmas

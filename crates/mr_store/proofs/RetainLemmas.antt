@@ -1,63 +1,55 @@
--- what an index lists once each item's list keeps those that pass, and the lists that become empty go
-use Rattle.std.proofs.Common.{◌≡◌, ◌<◌, ◌≤◌, ◌==◌, ◌||◌, not, length, Bool, true, false, cond, Option, Some, None, List, [], ◌∷◌, refl, sym, subst, ◌∙◌, ap, map, IsSomeAnd, vec_len, vec_capacity, arith, inl, inr}
+-- what an index lists once each item's list keeps those that pass, and the lists that aren't needed go
+use Rattle.std.proofs.Common.{◌≡◌, ◌≤◌, ◌||◌, Bool, true, false, cond, Option, Some, None, List, [], ◌∷◌, refl, sym, subst, map, vec_len, vec_capacity, arith, inl, inr}
 use Rattle.std.specs.BTreeMap.{BTreeMap, is_at}
 use Rattle.std.specs.declared.cmp.Ordering.TheVariants.{Less}
 use Rattle.std.specs.List.{AllByRecursion, filter}
 use Rattle.std.specs.Map.{lookup}
 use Rattle.std.specs.Map.Calls.{RetainsPairs}
+use Rattle.std.specs.Option.{option_map}
 use Rattle.std.specs.declared.vec.Vec.{Vec}
 use Rattle.mr_version.specs.Name.{Name, name_cmp, name_eq}
 use Rattle.mr_madewith.specs.Keyed.{AreRising}
-use Rattle.mr_madewith.proofs.Rising.{same_names, name_eq_self, head_before, tail_rises}
-use Rattle.mr_store.specs.Index.{listed_for, HasRoomFor, HasNoIdle, is_for}
-use Rattle.mr_store.proofs.IndexLemmas.{items_or_none, is_empty_list, empty_lists_nothing}
+use Rattle.mr_madewith.proofs.Rising.{same_names, head_before, tail_rises}
+use Rattle.mr_store.specs.Room.{is_for_later}
+use Rattle.mr_store.specs.Index.{listed_for, HasRoomFor, has_later, stays_listed}
+use Rattle.mr_store.specs.declared.room.Room.{Room}
+use Rattle.mr_store.proofs.IndexLemmas.{items_of_list, HasSpace}
 use Rattle.mr_store.proofs.RevisionLemmas.{either}
 use Rattle.mr_store.proofs.Several.{key_of}
 
-stays_for : (empty room : Bool) → (not empty || room) ≡ true → empty ≡ true → room ≡ true
-stays_for true room stays is = stays
-stays_for false room stays is = cc
+-- whether a list of these versions is needed
+abbrev pub is_needed : Option Room → Name → List Name → Bool
+is_needed room item vs = has_later item vs || is_for_later room item
 
-goes_empty : (empty room : Bool) → (not empty || room) ≡ false → (empty ≡ true) × (room ≡ false)
-goes_empty true room goes = (refl, goes)
-goes_empty false room goes = cc
-
-module _ {Z : Type 0} (passes : Name → Bool) (room : Option Name) where
+module _ {Z : Type 0} (passes : Name → Bool) (room : Option Room) where
   -- the list keeps those that pass, in the memory that it has
   pub record IsKept (v w : Vec Name Z) : Type 0 where
     pub items : w.items ≡ filter passes v.items
     pub fewer : vec_len w ≤ vec_len v
     pub capacity : vec_capacity w ≡ vec_capacity v
 
-  abbrev HasRoom : Option (Vec Name Z) → Type 0
-  HasRoom o = IsSomeAnd o (λ versions. vec_len versions < vec_capacity versions)
-
   -- what an item's list becomes
   record Becomes (i : Name) (old new : Option (Vec Name Z)) : Type 0 where
-    listed : items_or_none new ≡ filter passes (items_or_none old)
-    no_idle : is_empty_list new ≡ true → is_for room i ≡ true
-    has_room : is_for room i ≡ true → HasRoom old → HasRoom new
+    listed : items_of_list new ≡ stays_listed room i (option_map (filter passes) (items_of_list old))
+    has_room : HasSpace old → HasSpace new
 
   -- an item's list that stays, or goes
-  becomes_first : (i : Name) (b : Bool) (v w : Vec Name Z) (rest : Option (Vec Name Z)) → b ≡ (not (length w.items == 0) || is_for room i) → IsKept v w → rest ≡ None → Becomes i (Some v) (cond b (Some w) rest)
+  becomes_first : (i : Name) (b : Bool) (v w : Vec Name Z) (rest : Option (Vec Name Z)) → b ≡ is_needed room i w.items → IsKept v w → rest ≡ None → Becomes i (Some v) (cond b (Some w) rest)
   becomes_first i true v w rest stays kept none = record {
-    listed = kept.items;
-    no_idle = stays_for (length w.items == 0) (is_for room i) (sym stays);
-    has_room = λ _ has. omega (arith, kept.fewer, kept.capacity, has);
+    listed = rw (← kept.items, ← stays) refl;
+    has_room = λ has. omega (arith, kept.fewer, kept.capacity, has);
   }
   becomes_first i false v w rest goes kept none =
-      let gone = goes_empty (length w.items == 0) (is_for room i) (sym goes) in
       rw none (record {
-        listed = sym (empty_lists_nothing (Some w) gone.0) ∙ kept.items;
-        no_idle = λ h. cc;
-        has_room = λ for has. cc (gone.1, for);
+        listed = rw (← kept.items, ← goes) refl;
+        has_room = λ _. tt;
       })
 
   none_later : (i : Name) (es : List (Name × Vec Name Z)) → AllByRecursion (λ u. name_cmp i u ≡ Less) (map key_of es) → lookup (is_at (name_cmp i)) es ≡ None
   none_later i [] later = refl
   none_later i (e ∷ es) later = rw later.0 (none_later i es later.1)
 
-  module _ {F : Type 0} (T : F → Name → Vec Name Z → Bool → Vec Name Z → F → Type 0) (f : F) (each : (k : Name) (v : Vec Name Z) (b : Bool) (w : Vec Name Z) (f' : F) → T f k v b w f' → (b ≡ (not (length w.items == 0) || is_for room k)) × IsKept v w × (f' ≡ f)) where
+  module _ {F : Type 0} (T : F → Name → Vec Name Z → Bool → Vec Name Z → F → Type 0) (f : F) (each : (k : Name) (v : Vec Name Z) (b : Bool) (w : Vec Name Z) (f' : F) → T f k v b w f' → (b ≡ is_needed room k w.items) × IsKept v w × (f' ≡ f)) where
     -- no entry comes
     none_comes : (test : Name → Bool) (es kept : List (Name × Vec Name Z)) → RetainsPairs T f es kept → lookup test es ≡ None → lookup test kept ≡ None
     none_comes test [] kept h none = rw h refl
@@ -71,7 +63,7 @@ module _ {Z : Type 0} (passes : Name → Bool) (room : Option Name) where
         ]
 
     becomes : (i : Name) (es kept : List (Name × Vec Name Z)) → AreRising key_of es → RetainsPairs T f es kept → Becomes i (lookup (is_at (name_cmp i)) es) (lookup (is_at (name_cmp i)) kept)
-    becomes i [] kept rising h = rw h (record { listed = refl; no_idle = λ h. cc; has_room = λ _ has. has })
+    becomes i [] kept rising h = rw h (record { listed = refl; has_room = λ has. has })
     becomes i (e ∷ es) kept rising h =
         let one = each e.0 e.1 h.0 h.1 h.2 h.4 in
         let rest = subst (λ g. RetainsPairs T g es h.3) one.2 h.5 in
@@ -80,7 +72,7 @@ module _ {Z : Type 0} (passes : Name → Bool) (room : Option Name) where
               let is : e.0 ≡ i = sym (same_names i e.0 here) in
               let later : AllByRecursion (λ u. name_cmp i u ≡ Less) (map key_of es) = subst (λ j. AllByRecursion (λ u. name_cmp j u ≡ Less) (map key_of es)) is (head_before key_of e es rising) in
               let none : lookup (is_at (name_cmp i)) h.3 ≡ None = none_comes (is_at (name_cmp i)) es h.3 rest (none_later i es later) in
-              let stays : h.0 ≡ (not (length h.1.items == 0) || is_for room i) = subst (λ j. h.0 ≡ (not (length h.1.items == 0) || is_for room j)) is one.0 in
+              let stays : h.0 ≡ is_needed room i h.1.items = subst (λ j. h.0 ≡ is_needed room j h.1.items) is one.0 in
               rw (h.6, here) (subst (λ n. Becomes i (Some e.1) n) (shown i e.0 h.0 h.1 h.3 here) (becomes_first i h.0 e.1 h.1 (lookup (is_at (name_cmp i)) h.3) stays one.1 none))
           | inr apart ↦
               rw (h.6, apart) (subst (λ n. Becomes i (lookup (is_at (name_cmp i)) es) n) (passed i e.0 h.0 h.1 h.3 apart) (becomes i es h.3 (tail_rises key_of e es rising) rest))
@@ -96,16 +88,9 @@ module _ {Z : Type 0} (passes : Name → Bool) (room : Option Name) where
         passed i k true w rest apart = rw apart refl
         passed i k false w rest apart = refl
 
-    pub lists_kept : (old new : BTreeMap Name (Vec Name Z)) → AreRising key_of old.entries → RetainsPairs T f old.entries new.entries → (i : Name) → listed_for new i ≡ filter passes (listed_for old i)
+    pub lists_kept : (old new : BTreeMap Name (Vec Name Z)) → AreRising key_of old.entries → RetainsPairs T f old.entries new.entries → (i : Name) → listed_for new i ≡ stays_listed room i (option_map (filter passes) (listed_for old i))
     lists_kept old new rising h i = (becomes i old.entries new.entries rising h).listed
 
-    pub keeps_no_idle : (old new : BTreeMap Name (Vec Name Z)) → AreRising key_of old.entries → RetainsPairs T f old.entries new.entries → HasNoIdle room new
-    keeps_no_idle old new rising h i = (becomes i old.entries new.entries rising h).no_idle
-
-    pub keeps_room : (old new : BTreeMap Name (Vec Name Z)) → AreRising key_of old.entries → RetainsPairs T f old.entries new.entries → (i : Name) → is_for room i ≡ true → HasRoomFor (Some i) old → HasRoomFor (Some i) new
-    keeps_room old new rising h i = (becomes i old.entries new.entries rising h).has_room
-
--- the room that there is stays, where each item keeps the room that is for it
-pub room_of-kept : {Z : Type 0} (m n : BTreeMap Name (Vec Name Z)) (room : Option Name) → ((i : Name) → is_for room i ≡ true → HasRoomFor (Some i) m → HasRoomFor (Some i) n) → HasRoomFor room m → HasRoomFor room n
-room_of-kept m n None keeps h = tt
-room_of-kept m n (Some i) keeps h = keeps i (name_eq_self i) h
+    pub keeps_room : (old new : BTreeMap Name (Vec Name Z)) → AreRising key_of old.entries → RetainsPairs T f old.entries new.entries → (other : Option Room) → HasRoomFor other old → HasRoomFor other new
+    keeps_room old new rising h None has = tt
+    keeps_room old new rising h (Some other) has = (becomes other.item old.entries new.entries rising h).has_room has

@@ -1,11 +1,11 @@
 -- the items of which the index lists several versions
-use Rattle.std.proofs.Common.{◌≡◌, true, false, cond, refl, sym, subst, List, [], ◌∷◌, map, inl, inr}
+use Rattle.std.proofs.Common.{◌≡◌, Bool, true, false, cond, refl, sym, subst, List, [], ◌∷◌, map, inl, inr}
 use Rattle.std.specs.declared.vec.Vec.{Vec}
 use Rattle.std.specs.declared.cmp.Ordering.TheVariants.{Less}
 use Rattle.std.specs.List.{AllByRecursion, filter}
 use Rattle.std.specs.List.Sorted.{IsStrictlySortedBy}
 use Rattle.std.specs.Map.{lookup}
-use Rattle.std.specs.Option.{option_map_or}
+use Rattle.std.specs.Option.{option_map, option_map_or}
 use Rattle.mr_version.specs.Name.{Name, name_cmp, name_eq}
 use Rattle.mr_forms.specs.Sets.{is_listed}
 use Rattle.mr_madewith.specs.Keyed.{AreRising}
@@ -24,10 +24,11 @@ module _ {Z : Type 0} where
   pub several-rises : (es : List (Name × Vec Name Z)) → AreRising key_of es → IsStrictlySortedBy name_cmp (several es)
   several-rises es rising = rises-filter key_of (λ e. are_several e.1.items) es rising
 
-  abbrev pub listed_at : List (Name × Vec Name Z) → Name → List Name
-  listed_at es i = option_map_or (λ versions. versions.items) (lookup (λ k. name_eq i k) es) []
+  -- whether the item's entry lists several
+  abbrev pub several_at : List (Name × Vec Name Z) → Name → Bool
+  several_at es i = option_map_or are_several (option_map (λ versions. versions.items) (lookup (λ k. name_eq i k) es)) false
 
-  pub is_listed-several : (es : List (Name × Vec Name Z)) → AreRising key_of es → (i : Name) → is_listed (several es) i ≡ are_several (listed_at es i)
+  pub is_listed-several : (es : List (Name × Vec Name Z)) → AreRising key_of es → (i : Name) → is_listed (several es) i ≡ several_at es i
   is_listed-several [] rising i = refl
   is_listed-several (e ∷ es) rising i =
       elim (either (name_eq i e.0)) [
@@ -39,7 +40,7 @@ module _ {Z : Type 0} where
               | true ↦ rw same refl
               | false ↦ unlisted_before i (several es) later
             ])
-        | inr apart ↦ rw apart (elim (are_several e.1.items) as (λ b. is_listed (map key_of (cond b (e ∷ filter (λ e. are_several e.1.items) es) (filter (λ e. are_several e.1.items) es))) i ≡ are_several (listed_at es i)) [
+        | inr apart ↦ rw apart (elim (are_several e.1.items) as (λ b. is_listed (map key_of (cond b (e ∷ filter (λ e. are_several e.1.items) es) (filter (λ e. are_several e.1.items) es))) i ≡ several_at es i) [
           | true ↦ rw apart (is_listed-several es (tail_rises key_of e es rising) i)
           | false ↦ is_listed-several es (tail_rises key_of e es rising) i
         ])

@@ -1,27 +1,28 @@
 -- a store as contracts see it
 use Rattle.std.specs.Prelude.{Option, Some, None, List}
-use Rattle.mr_version.specs.Name.{Name}
 use Rattle.mr_madewith.specs.Revision.{Rev}
 use Rattle.mr_store.specs.Revisions.{entered}
+use Rattle.mr_store.specs.Room.{room_of}
+use Rattle.mr_store.specs.declared.room.Room.{Room}
 use Rattle.mr_store.specs.declared.store.Part.{Part}
 use Rattle.mr_store.specs.declared.store.Part.TheVariants.{Heads, PushOuts}
 
--- the two lists, and for each the item for one more revision of which it has room
+-- the two lists, and for each the version of an item for which it has room
 pub record Holdings : Type 0 where
   pub heads : List Rev
   pub push_outs : List Rev
-  pub head_room : Option Name
-  pub push_out_room : Option Name
+  pub head_room : Option Room
+  pub push_out_room : Option Room
 
--- the item for one more revision of which there is room in the part
-abbrev pub room_in : Part → Holdings → Option Name
+-- the version of an item for which there is room in the part
+abbrev pub room_in : Part → Holdings → Option Room
 room_in Heads h = h.head_room
 room_in PushOuts h = h.push_out_room
 
--- with room for one more revision of the item
-abbrev pub with_room : Part → Name → Holdings → Holdings
-with_room Heads item h = record h { head_room = Some item }
-with_room PushOuts item h = record h { push_out_room = Some item }
+-- with room for the revision
+abbrev pub with_room : Part → Rev → Holdings → Holdings
+with_room Heads r h = record h { head_room = Some (room_of r) }
+with_room PushOuts r h = record h { push_out_room = Some (room_of r) }
 
 -- with one more revision, in the room that there was
 abbrev pub put_in : Part → Rev → Holdings → Holdings

@@ -1,12 +1,15 @@
--- the index of a list of revisions: the versions of each item
-use Rattle.std.specs.Prelude.{◌≡◌, ◌<◌, ◌==◌, Bool, true, false, nat_le, length, List, [], Option, Some, None, vec_len, vec_capacity, IsSomeAnd, ⊤}
+-- the index of a list of revisions: the versions of each item that has more of them than its first
+use Rattle.std.specs.Prelude.{◌≡◌, ◌<◌, ◌||◌, if◌then◌else◌, Bool, not, nat_le, length, List, Option, Some, None, vec_len, vec_capacity, IfSome, ⊤}
 use Rattle.std.specs.declared.vec.Vec.{Vec}
-use Rattle.std.specs.Option.{option_map_or}
+use Rattle.std.specs.List.{list_any}
+use Rattle.std.specs.Option.{option_map, option_and_then}
 use Rattle.std.specs.BTreeMap.{BTreeMap, get}
 use Rattle.mr_version.specs.Name.{Name, name_cmp, name_eq}
 use Rattle.mr_madewith.specs.Revision.{Rev}
 use Rattle.mr_madewith.specs.Keyed.{inserted}
 use Rattle.mr_store.specs.Revisions.{versions_of}
+use Rattle.mr_store.specs.Room.{is_for_later}
+use Rattle.mr_store.specs.declared.room.Room.{Room}
 
 -- the versions with one more at its place
 abbrev pub version_inserted : Name → List Name → List Name
@@ -16,29 +19,28 @@ version_inserted v vs = inserted (λ w. w) v vs
 abbrev pub are_several : List Name → Bool
 are_several vs = nat_le 2 (length vs)
 
--- whether the room is for one more revision of the item
-abbrev pub is_for : (room : Option Name) → (item : Name) → Bool
-is_for None item = false
-is_for (Some other) item = name_eq other item
+-- whether one of the versions is not the item's first, which the item is named by
+abbrev pub has_later : (item : Name) → List Name → Bool
+has_later item vs = list_any (λ v. not (name_eq v item)) vs
+
+-- what is to be listed for an item of these versions: all of them, where one is not the first or there is room for such a one; else nothing
+abbrev pub to_list : (room : Option Room) → (item : Name) → List Name → Option (List Name)
+to_list room item vs = if has_later item vs || is_for_later room item then Some vs else None
+
+-- what stays of the list that an item has: it goes where nothing is to be listed
+abbrev pub stays_listed : (room : Option Room) → (item : Name) → Option (List Name) → Option (List Name)
+stays_listed room item listed = option_and_then (to_list room item) listed
 
 module _ {Z : Type 0} where
-  -- the versions that the index lists for an item
-  abbrev pub listed_for : BTreeMap Name (Vec Name Z) → Name → List Name
-  listed_for index item = option_map_or (λ versions. versions.items) (get name_cmp index item) []
+  -- the versions that the index lists for an item, where it has a list for it
+  abbrev pub listed_for : BTreeMap Name (Vec Name Z) → Name → Option (List Name)
+  listed_for index item = option_map (λ versions. versions.items) (get name_cmp index item)
 
-  -- the index lists the versions of each item
-  abbrev pub IsIndexOf : List Rev → BTreeMap Name (Vec Name Z) → Type 0
-  IsIndexOf revisions index = (item : Name) → listed_for index item ≡ versions_of item revisions
+  -- the index lists for each item what is to be listed
+  abbrev pub IsIndexOf : (room : Option Room) → List Rev → BTreeMap Name (Vec Name Z) → Type 0
+  IsIndexOf room revisions index = (item : Name) → listed_for index item ≡ to_list room item (versions_of item revisions)
 
-  -- the index has room for one version more of the item
-  abbrev pub HasRoomFor : Option Name → BTreeMap Name (Vec Name Z) → Type 0
+  -- a list of the room's item has room for one version more
+  abbrev pub HasRoomFor : (room : Option Room) → BTreeMap Name (Vec Name Z) → Type 0
   HasRoomFor None index = ⊤
-  HasRoomFor (Some item) index = IsSomeAnd (get name_cmp index item) (λ versions. vec_len versions < vec_capacity versions)
-
-  -- whether the index has a list for the item, with no version
-  abbrev pub has_empty_for : BTreeMap Name (Vec Name Z) → Name → Bool
-  has_empty_for index item = option_map_or (λ versions. length versions.items == 0) (get name_cmp index item) false
-
-  -- no list is empty but that of the item for which there is room
-  abbrev pub HasNoIdle : (room : Option Name) → BTreeMap Name (Vec Name Z) → Type 0
-  HasNoIdle room index = (item : Name) → has_empty_for index item ≡ true → is_for room item ≡ true
+  HasRoomFor (Some room) index = IfSome (get name_cmp index room.item) (λ versions. vec_len versions < vec_capacity versions)

@@ -2,9 +2,10 @@ pub mod Revisions
 pub mod Leaving
 pub mod Unheld
 pub mod FragmentIndex
+pub mod Room
 pub mod Index
 pub mod GapVector
-pub mod Shelf
+pub mod RevisionList
 pub mod Holdings
 pub mod HeldVersions
 pub mod Parts

@@ -14,7 +14,9 @@ use Rattle.mr_store.specs.Revisions.{versions_of, supersedes, left_by, has_confl
 use Rattle.mr_store.specs.Leaving.{leaves}
 use Rattle.mr_store.specs.Unheld.{is_unheld}
 use Rattle.mr_store.specs.FragmentIndex.{listing_at, listings_from, general_from, has_at}
-use Rattle.mr_store.specs.Index.{version_inserted, are_several, is_for}
+use Rattle.mr_store.specs.Index.{version_inserted, are_several, has_later, to_list, stays_listed}
+use Rattle.mr_store.specs.Room.{room_of, is_for_later}
+use Rattle.mr_store.specs.declared.room.Room.{Room}
 use Rattle.mr_store.specs.Holdings.{Holdings, room_in, with_room, put_in}
 use Rattle.mr_store.specs.HeldVersions.{by_held}
 
@@ -102,7 +104,7 @@ none_unheld = refl
 
 -- the three revisions are heads, 2.1 was pushed out, and each part has room
 abbrev store : Holdings
-store = record { heads = three; push_outs = rev (name 2 1) (name 2 1) [] ∷ []; head_room = Some (name 0 3); push_out_room = Some (name 2 1) }
+store = record { heads = three; push_outs = rev (name 2 1) (name 2 1) [] ∷ []; head_room = Some (room_of (rev (name 0 3) (name 0 4) [])); push_out_room = Some (room_of (rev (name 1 7) (name 1 7) [])) }
 
 -- a head goes to its place by author and then by counter, and uses up the room of the heads alone
 pub put_among_heads : put_in Heads (rev (name 0 3) (name 0 4) (upto 0 3 ∷ [])) store ≡ record store {
@@ -115,12 +117,16 @@ put_among_heads = refl
 pub put_among_push_outs : put_in PushOuts (rev (name 1 7) (name 1 7) []) store ≡ record store { push_outs = rev (name 1 7) (name 1 7) [] ∷ rev (name 2 1) (name 2 1) [] ∷ []; push_out_room = None }
 put_among_push_outs = refl
 
--- room for another item takes the place of the room that the part had
-pub room_for_another : room_in PushOuts (with_room PushOuts (name 0 1) store) ≡ Some (name 0 1)
+-- room is for a version of an item, here for the version 0.5 of the item 0.1
+abbrev another : Rev
+another = rev (name 0 1) (name 0 5) (upto 0 4 ∷ [])
+
+-- room for another revision takes the place of the room that the part had
+pub room_for_another : room_in PushOuts (with_room PushOuts another store) ≡ Some (record { item = name 0 1; version = name 0 5 })
 room_for_another = refl
 
 -- and the other part keeps its room
-pub other_room_stays : room_in Heads (with_room PushOuts (name 0 1) store) ≡ Some (name 0 3)
+pub other_room_stays : room_in Heads (with_room PushOuts another store) ≡ Some (record { item = name 0 3; version = name 0 4 })
 other_room_stays = refl
 
 -- heads are held, and what they supersede is not
@@ -167,6 +173,33 @@ inserted_by_order = refl
 pub several_from_two : map are_several ([] ∷ (name 0 1 ∷ []) ∷ (name 0 1 ∷ name 0 2 ∷ []) ∷ []) ≡ false ∷ false ∷ true ∷ []
 several_from_two = refl
 
--- room is for one item, or for none
-pub whose_room : is_for (Some (name 0 1)) (name 0 1) ∷ is_for (Some (name 0 1)) (name 0 2) ∷ is_for None (name 0 1) ∷ [] ≡ true ∷ false ∷ false ∷ []
+-- the item 0.1 has later versions in each of the last two lists: no version and the first alone are none
+pub which_have_later : map (has_later (name 0 1)) ([] ∷ (name 0 1 ∷ []) ∷ (name 0 2 ∷ []) ∷ (name 0 1 ∷ name 1 1 ∷ []) ∷ []) ≡ false ∷ false ∷ true ∷ true ∷ []
+which_have_later = refl
+
+-- room for the first version of an item, and for a later one
+abbrev for_first : Option Room
+for_first = Some (record { item = name 0 1; version = name 0 1 })
+
+abbrev for_later : Option Room
+for_later = Some (record { item = name 0 1; version = name 0 2 })
+
+-- room is for a later version of its own item alone
+pub whose_room : is_for_later for_later (name 0 1) ∷ is_for_later for_later (name 0 2) ∷ is_for_later for_first (name 0 1) ∷ is_for_later None (name 0 1) ∷ [] ≡ true ∷ false ∷ false ∷ false ∷ []
 whose_room = refl
+
+-- an item is not listed where its first version is all that is held of it
+pub first_alone_is_unlisted : to_list None (name 0 3) (versions_of (name 0 3) three) ≡ None
+first_alone_is_unlisted = refl
+
+-- and where another version is held it is, with all of its versions
+pub later_are_listed : to_list None (name 0 1) (name 0 1 ∷ name 0 2 ∷ []) ≡ Some (name 0 1 ∷ name 0 2 ∷ [])
+later_are_listed = refl
+
+-- room for a later version is a list, and room for the first is none
+pub listed_for_room : to_list for_later (name 0 1) (name 0 1 ∷ []) ∷ to_list for_first (name 0 1) [] ∷ [] ≡ Some (name 0 1 ∷ []) ∷ None ∷ []
+listed_for_room = refl
+
+-- a list goes where the first version is all that is left in it, and no list comes
+pub which_stay : stays_listed None (name 0 1) (Some (name 0 1 ∷ [])) ∷ stays_listed for_later (name 0 1) (Some []) ∷ stays_listed None (name 0 1) (Some (name 1 1 ∷ [])) ∷ stays_listed for_later (name 0 1) None ∷ [] ≡ None ∷ Some [] ∷ Some (name 1 1 ∷ []) ∷ None ∷ []
+which_stay = refl

@@ -1,31 +1,26 @@
-//! The index of a list of revisions: the versions of each item.
-ghost use Rattle.std.specs.Prelude.{◌≡◌, ◌<◌, ◌≤◌, ◌==◌, ◌&&◌, ◌||◌, if◌then◌else◌, Option, Some, None, IfOk, OnOk, OnErr, true, false, not, filter, length, take_while, vec_len, vec_capacity};
+//! The index of a list of revisions: the versions of each item that has more of them than its first.
+ghost use Rattle.std.specs.Prelude.{◌≡◌, ◌<◌, ◌≤◌, ◌||◌, if◌then◌else◌, Option, Some, None, List, IfOk, OnOk, OnErr, not, filter, length, take_while, vec_len, vec_capacity, false};
 ghost use Rattle.std.specs.BTreeMap.{get};
 ghost use Rattle.std.specs.List.Sorted.{IsStrictlySortedBy};
+ghost use Rattle.std.specs.Option.{option_map, option_map_or};
 ghost use Rattle.mr_version.specs.Name.{Name, name_cmp, name_eq};
 ghost use Rattle.mr_forms.specs.Sets.{is_listed};
 ghost use Rattle.mr_madewith.specs.Keyed.{is_before};
+ghost use Rattle.mr_madewith.specs.Revision.{Rev};
 ghost use Rattle.mr_store.specs.Leaving.{leaves};
 ghost use Rattle.mr_store.specs.Revisions.{AreInVersionOrder, holds};
-ghost use Rattle.mr_store.specs.Index.{listed_for, HasRoomFor, HasNoIdle, has_empty_for, is_for, version_inserted, are_several};
+ghost use Rattle.mr_store.specs.Room.{is_for_later};
+ghost use Rattle.mr_store.specs.Index.{listed_for, IsIndexOf, HasRoomFor, has_later, stays_listed, version_inserted, are_several};
+ghost use Rattle.mr_store.specs.declared.room.Room.{Room};
 
-use crate::by_version::has_version;
+use crate::by_version::{first_of, has_version};
 use crate::leaving::leaves;
+use crate::room::{Room, is_for_later};
 use mr_concise::ConciseVector;
 use mr_madewith::Revision;
 use mr_version::{ItemId, Version};
 use std::alloc::{AllocError, Global};
 use std::collections::BTreeMap;
-
-/// The versions that the index lists for an item.
-pub fn listed_for(index: &BTreeMap<ItemId, Vec<Version>>, item: ItemId) -> &[Version]
-    ensures { result.now ≡ listed_for index.now item }
-{
-    match index.get(&item) {
-        Some(versions) => versions,
-        None => &[],
-    }
-}
 
 /// The items with two or more listed versions, in rising order.
 pub fn items_with_several(
@@ -33,7 +28,7 @@ pub fn items_with_several(
     alloc: Global,
 ) -> Result<Vec<ItemId>, AllocError>
     ensures rising { IfOk result (λ items. IsStrictlySortedBy name_cmp items.items) }
-    ensures exact { IfOk result (λ items. (i : Name) → is_listed items.items i ≡ are_several (listed_for index.now i)) }
+    ensures exact { IfOk result (λ items. (i : Name) → is_listed items.items i ≡ option_map_or are_several (listed_for index.now i) false) }
 {
     let mut items = Vec::new(alloc);
     for (item, versions) in index.iter() {
@@ -44,14 +39,12 @@ pub fn items_with_several(
     Ok(items)
 }
 
-/// A copy, which lists the same versions and has no list for the sake of room.
+/// A copy, which is an index of the same revisions, with no room.
 pub fn copied(
     index: &BTreeMap<ItemId, Vec<Version>>,
-    room: Option<ItemId>,
+    room: Option<Room>,
 ) -> Result<BTreeMap<ItemId, Vec<Version>>, AllocError>
-    requires { HasNoIdle room index.now }
-    ensures same { IfOk result (λ copy. (i : Name) → listed_for copy i ≡ listed_for index.now i) }
-    ensures no_idle { IfOk result (λ copy. HasNoIdle None copy) }
+    ensures { IfOk result (λ copy. (revisions : List Rev) → IsIndexOf room revisions index.now → IsIndexOf None revisions copy) }
 {
     let mut copy = cloned(index)?;
     drop_room(&mut copy, room);
@@ -62,121 +55,119 @@ pub fn copied(
 fn cloned(
     index: &BTreeMap<ItemId, Vec<Version>>,
 ) -> Result<BTreeMap<ItemId, Vec<Version>>, AllocError>
-    ensures same { IfOk result (λ copy. (i : Name) → listed_for copy i ≡ listed_for index.now i) }
-    ensures empty { IfOk result (λ copy. (i : Name) → has_empty_for copy i ≡ has_empty_for index.now i) }
+    ensures { IfOk result (λ copy. (i : Name) → listed_for copy i ≡ listed_for index.now i) }
 {
     index.clone()
 }
 
-/// Whether the room is for one more revision of the item.
-pub fn is_for(room: Option<ItemId>, item: ItemId) -> bool
-    ensures { result ≡ is_for room item }
+/// A list that is there for the sake of the room alone goes. It costs a look-up, where there is room.
+pub fn drop_room(index: &mut BTreeMap<ItemId, Vec<Version>>, room: Option<Room>)
+    ensures { (revisions : List Rev) → IsIndexOf room revisions index.old → IsIndexOf None revisions index.new }
 {
-    match room {
-        Some(other) => other == item,
-        None => false,
+    if let Some(reserved) = room {
+        drop_idle(index, reserved.item, None);
     }
 }
 
-/// Where the item for which there is room has no version, its list goes.
-pub fn drop_room(index: &mut BTreeMap<ItemId, Vec<Version>>, room: Option<ItemId>)
-    requires { HasNoIdle room index.old }
-    ensures same { (i : Name) → listed_for index.new i ≡ listed_for index.old i }
-    ensures no_idle { HasNoIdle None index.new }
+/// The item's list goes where it has no version but the first, unless the room is for a later one. It costs a
+/// look-up.
+pub fn drop_idle(index: &mut BTreeMap<ItemId, Vec<Version>>, item: ItemId, room: Option<Room>)
+    ensures lists { (i : Name) → listed_for index.new i ≡ (if name_eq item i then stays_listed room i (listed_for index.old i) else listed_for index.old i) }
+    ensures room { (other : Option Room) → HasRoomFor other index.old → HasRoomFor other index.new }
 {
-    if let Some(item) = room {
-        drop_empty(index, item);
-    }
-}
-
-/// The item's list goes where it is empty, unless the room is for the item. It costs a look-up.
-pub fn drop_idle(index: &mut BTreeMap<ItemId, Vec<Version>>, item: ItemId, room: Option<ItemId>)
-    ensures same { (i : Name) → listed_for index.new i ≡ listed_for index.old i }
-    ensures room { HasRoomFor room index.old → HasRoomFor room index.new }
-    ensures no_idle { ((i : Name) → name_eq item i ≡ false → has_empty_for index.old i ≡ true → is_for room i ≡ true) → HasNoIdle room index.new }
-{
-    if !is_for(room, item) {
-        drop_empty(index, item);
-    }
-}
-
-// The item's list goes where it is empty. It costs a look-up.
-fn drop_empty(index: &mut BTreeMap<ItemId, Vec<Version>>, item: ItemId)
-    ensures same { (i : Name) → listed_for index.new i ≡ listed_for index.old i }
-    ensures empty { (i : Name) → has_empty_for index.new i ≡ (not (name_eq item i) && has_empty_for index.old i) }
-    ensures room { (i : Name) → name_eq item i ≡ false → HasRoomFor (Some i) index.old → HasRoomFor (Some i) index.new }
-{
-    if has_empty_for(index, item) {
+    if is_idle(index, item, room) {
         index.remove(&item);
     }
 }
 
-// Whether there is a list for the item, with no version.
-fn has_empty_for(index: &BTreeMap<ItemId, Vec<Version>>, item: ItemId) -> bool
-    ensures { result ≡ has_empty_for index.now item }
+// Whether there is a list for the item that isn't needed.
+fn is_idle(index: &BTreeMap<ItemId, Vec<Version>>, item: ItemId, room: Option<Room>) -> bool
+    ensures { result ≡ option_map_or (λ vs. not (has_later item vs || is_for_later room item)) (listed_for index.now item) false }
 {
     match index.get(&item) {
-        Some(versions) => versions.is_empty(),
+        Some(versions) => !is_needed(versions, item, room),
         None => false,
     }
 }
 
-/// Makes room for one version more of the item.
+/// Makes room for the version of an item that comes to these revisions, of which this is the index. It costs a
+/// look-up, and for a later version of an item with no list a binary search. For the first version of such an item it
+/// takes no memory.
 pub fn make_room(
     index: &mut BTreeMap<ItemId, Vec<Version>>,
     alloc: Global,
-    item: ItemId,
+    room: &Room,
+    revisions: &[Revision],
 ) -> Result<(), AllocError>
-    ensures same { (i : Name) → listed_for index.new i ≡ listed_for index.old i }
-    ensures others { (i : Name) → name_eq item i ≡ false → has_empty_for index.new i ≡ has_empty_for index.old i }
-    ensures ok { OnOk result (HasRoomFor (Some item) index.new) }
-    ensures err { OnErr result ((i : Name) → has_empty_for index.new i ≡ has_empty_for index.old i) }
+    requires in_order { AreInVersionOrder revisions.now }
+    requires indexed { IsIndexOf None revisions.now index.old }
+    ensures ok { OnOk result (IsIndexOf (Some room.now) revisions.now index.new) }
+    ensures room { OnOk result (HasRoomFor (Some room.now) index.new) }
+    ensures err { OnErr result (IsIndexOf None revisions.now index.new) }
 {
-    match index.get_mut(&item) {
+    match index.get_mut(&room.item) {
         Some(versions) => versions.reserve_exact(1),
-        None => enlist(index, alloc, item),
+        None => enlist_for(index, alloc, room, revisions),
     }
 }
 
-// Gives the item, which has no list, an empty one with room for one version.
+// Where the version is a later one, its item, which has no list, gets one.
+fn enlist_for(
+    index: &mut BTreeMap<ItemId, Vec<Version>>,
+    alloc: Global,
+    room: &Room,
+    revisions: &[Revision],
+) -> Result<(), AllocError>
+    requires in_order { AreInVersionOrder revisions.now }
+    requires indexed { IsIndexOf None revisions.now index.old }
+    requires absent { get name_cmp index.old room.now.item ≡ None }
+    ensures ok { OnOk result (IsIndexOf (Some room.now) revisions.now index.new) }
+    ensures room { OnOk result (HasRoomFor (Some room.now) index.new) }
+    ensures err { OnErr result (IsIndexOf None revisions.now index.new) }
+{
+    if room.is_for_first() {
+        return Ok(());
+    }
+    enlist(index, alloc, room.item, first_of(revisions, room.item))
+}
+
+// Gives the item, which has no list, one of these versions, with room for one more.
 fn enlist(
     index: &mut BTreeMap<ItemId, Vec<Version>>,
     alloc: Global,
     item: ItemId,
+    versions: &[Version],
 ) -> Result<(), AllocError>
-    requires { get name_cmp index.old item ≡ None }
-    ensures same { (i : Name) → listed_for index.new i ≡ listed_for index.old i }
-    ensures others { (i : Name) → name_eq item i ≡ false → has_empty_for index.new i ≡ has_empty_for index.old i }
-    ensures ok { OnOk result (HasRoomFor (Some item) index.new) }
-    ensures err { OnErr result ((i : Name) → has_empty_for index.new i ≡ has_empty_for index.old i) }
+    ensures ok { OnOk result ((i : Name) → listed_for index.new i ≡ (if name_eq item i then Some versions.now else listed_for index.old i)) }
+    ensures room { OnOk result ((version : Name) → HasRoomFor (Some (record { item = item; version = version })) index.new) }
+    ensures err { OnErr result ((i : Name) → listed_for index.new i ≡ listed_for index.old i) }
 {
-    let versions = Vec::with_capacity(alloc, 1)?;
-    index.insert(item, versions)?;
+    let mut listed = Vec::with_capacity(alloc, versions.len() + 1)?;
+    listed.extend_from_slice(versions)?;
+    index.insert(item, listed)?;
     Ok(())
 }
 
-/// Lists a version of the item, for which there is room.
+/// Lists a version of the item, where the item has a list, in the room that there is. It costs a look-up.
 pub fn list(index: &mut BTreeMap<ItemId, Vec<Version>>, item: ItemId, version: Version)
-    requires { HasRoomFor (Some item) index.old }
-    ensures others { (i : Name) → listed_for index.new i ≡ (if name_eq item i then version_inserted version (listed_for index.old i) else listed_for index.old i) }
-    ensures empty { (i : Name) → has_empty_for index.new i ≡ (not (name_eq item i) && has_empty_for index.old i) }
+    requires { HasRoomFor (Some (record { item = item; version = version })) index.old }
+    ensures { (i : Name) → listed_for index.new i ≡ (if name_eq item i then option_map (version_inserted version) (listed_for index.old i) else listed_for index.old i) }
 {
     if let Some(versions) = index.get_mut(&item) {
         put_version(versions, version);
     }
 }
 
-/// Lists no version that one of these revisions is of, which stand in version order. What list becomes empty goes,
-/// but for that of the item for which there is room. It costs a binary search among these for each listed version.
+/// Lists no version that one of these revisions is of, which stand in version order. A list that isn't needed any more
+/// goes. It costs a binary search among these for each listed version.
 pub fn unlist_versions(
     index: &mut BTreeMap<ItemId, Vec<Version>>,
     left: &[Revision],
-    room: Option<ItemId>,
+    room: Option<Room>,
 )
     requires { AreInVersionOrder left.now }
-    ensures others { (i : Name) → listed_for index.new i ≡ filter (λ v. not (holds left.now v)) (listed_for index.old i) }
-    ensures room { HasRoomFor room index.old → HasRoomFor room index.new }
-    ensures no_idle { HasNoIdle room index.new }
+    ensures lists { (i : Name) → listed_for index.new i ≡ stays_listed room i (option_map (filter (λ v. not (holds left.now v))) (listed_for index.old i)) }
+    ensures room { (other : Option Room) → HasRoomFor other index.old → HasRoomFor other index.new }
 {
     index.retain(|item, versions| {
         retain_absent(versions, left);
@@ -184,11 +175,19 @@ pub fn unlist_versions(
     });
 }
 
-// Whether a list of the item is needed: it has versions, or the room is for one more.
-fn is_needed(versions: &[Version], item: ItemId, room: Option<ItemId>) -> bool
-    ensures { result ≡ (not (length versions.now == 0) || is_for room item) }
+// Whether a list of the item is needed: it has a version that is not the first, or the room is for such a one.
+fn is_needed(versions: &[Version], item: ItemId, room: Option<Room>) -> bool
+    ensures { result ≡ (has_later item versions.now || is_for_later room item) }
 {
-    !versions.is_empty() || is_for(room, item)
+    has_later(versions, item) || is_for_later(room, item)
+}
+
+// Whether one of the versions is not the item's first.
+fn has_later(versions: &[Version], item: ItemId) -> bool
+    ensures { result ≡ has_later item versions.now }
+{
+    let first = item.creator();
+    versions.iter().any(|version| *version != first)
 }
 
 // Keeps the versions that none of these revisions is of, which stand in version order.

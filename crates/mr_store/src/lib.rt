@@ -2,7 +2,11 @@
 //!
 //! A replica holds the latest versions of mail items. Those that its filter selects are its **heads**;
 //! own revisions that it does not select are its **push-outs**, which it keeps until another replica
-//! has them. A [`Store`] has both, each in version order, and no version twice.
+//! has them. A [`Store`] has both, the heads and the push-outs, each in version order, and no version twice. (What the
+//! model calls the store is the heads alone.)
+//!
+//! Of most items a store has the first version alone, and that version has the item's name: a binary search by version
+//! finds it. An index lists the versions of each other item, so that an edit of one item looks at no other's revisions.
 //!
 //! What a newer version supersedes leaves both parts ([`Store::drop_below`]). What a full source covers
 //! and did not hold leaves the heads ([`Store::drop_unheld`]). What another replica vouches for leaves the
@@ -15,7 +19,7 @@
 //! at the fragments of other items.
 //!
 //! ```
-//! store.reserve(Part::Heads, revision.item())?;
+//! store.reserve(Part::Heads, &revision)?;
 //! store.put(Part::Heads, revision);
 //! let left = store.drop_below(item, newer.below())?;
 //! ```
@@ -27,7 +31,8 @@ mod gap_vector;
 mod held_versions;
 mod index;
 mod leaving;
-mod shelf;
+mod revision_list;
+mod room;
 mod store;
 mod unheld;
 

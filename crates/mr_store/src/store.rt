@@ -7,7 +7,7 @@ ghost use Rattle.mr_store.specs.Leaving.{leaves};
 ghost use Rattle.mr_store.specs.Revisions.{AreInVersionOrder, AreApart, revision_of, holds, versions_of, supersedes, left_by, AreConflicts};
 ghost use Rattle.mr_store.specs.Unheld.{is_unheld};
 
-use crate::shelf::Shelf;
+use crate::revision_list::RevisionList;
 use mr_concise::ConciseVector;
 use mr_forms::Fragment;
 use mr_madewith::Revision;
@@ -27,11 +27,12 @@ pub enum Part {
 /// The held revisions of a replica: its heads, and its push-outs.
 ///
 /// Both lists stand in version order, and no version is in both. An edit of one item looks at no
-/// other's revisions.
+/// other's revisions. What it needs beside a handle for each revision is an index of the items of which a list has
+/// more than the first version.
 #[derive(Drop)]
 pub struct Store {
-    heads: Shelf,
-    push_outs: Shelf,
+    heads: RevisionList,
+    push_outs: RevisionList,
 }
 
 impl Model for Store {
@@ -48,14 +49,15 @@ impl Model for Store {
 impl Store {
     ghost use Rattle.mr_store.specs.Holdings.{room_in, with_room, put_in};
     ghost use Rattle.mr_store.specs.Parts.{other_part};
+    ghost use Rattle.mr_store.specs.Room.{room_of};
 
     /// An empty store. It allocates nothing.
     pub fn new(alloc: Global) -> Store
         ensures { result ≡ record { heads = []; push_outs = []; head_room = None; push_out_room = None } }
     {
         Store {
-            heads: Shelf::new(alloc),
-            push_outs: Shelf::new(alloc),
+            heads: RevisionList::new(alloc),
+            push_outs: RevisionList::new(alloc),
         }
     }
 
@@ -95,21 +97,24 @@ impl Store {
         }
     }
 
-    /// The versions of an item's heads, in version order. It costs a look-up.
+    /// The versions of an item's heads, in version order. It costs a look-up, and where at most the item's first
+    /// version is a head, a binary search.
     pub fn heads_of(&self, item: ItemId) -> &[Version]
         ensures { result.now ≡ versions_of item self.now.heads }
     {
         self.heads.versions_of(item)
     }
 
-    /// The versions of an item's push-outs, in version order. It costs a look-up.
+    /// The versions of an item's push-outs, in version order. It costs a look-up, and where at most the item's
+    /// first version is a push-out, a binary search.
     pub fn push_outs_of(&self, item: ItemId) -> &[Version]
         ensures { result.now ≡ versions_of item self.now.push_outs }
     {
         self.push_outs.versions_of(item)
     }
 
-    /// The items with two or more heads, in rising order. It costs a walk over the items.
+    /// The items with two or more heads, in rising order. It costs a walk over the items that have
+    /// another head than their first version.
     pub fn conflicts(&self) -> Result<Vec<ItemId>, AllocError>
         ensures { IfOk result (λ items. AreConflicts self.now.heads items.items) }
     {
@@ -117,7 +122,7 @@ impl Store {
     }
 
     /// The heads that a version of the item with this `below` supersedes, in version order. It costs
-    /// a search for each head of the item.
+    /// a look-up, and at most two binary searches for each head of the item.
     pub fn superseded(
         &self,
         item: ItemId,
@@ -145,24 +150,26 @@ impl Store {
 
     // ---- changes
 
-    /// Makes room for one more revision of the item in the part. The other part keeps the room that it has,
-    /// also where memory is wanting; what room this part has then is not said.
-    pub fn reserve(&mut self, part: Part, item: ItemId) -> Result<(), AllocError>
-        ensures ok { OnOk result (self.new ≡ with_room part item self.old) }
+    /// Makes room for the revision in the part, in place of the room that the part had. The other part keeps
+    /// the room that it has, also where memory is wanting; what room this part has then is not said. It costs
+    /// a look-up, and where the revision is a later one of an item of which the part has at most the first, a
+    /// binary search.
+    pub fn reserve(&mut self, part: Part, revision: &Revision) -> Result<(), AllocError>
+        ensures ok { OnOk result (self.new ≡ with_room part revision.now self.old) }
         ensures heads { self.new.heads ≡ self.old.heads }
         ensures push_outs { self.new.push_outs ≡ self.old.push_outs }
         ensures other { room_in (other_part part) self.new ≡ room_in (other_part part) self.old }
     {
         match part {
-            Part::Heads => self.heads.reserve(item),
-            Part::PushOuts => self.push_outs.reserve(item),
+            Part::Heads => self.heads.reserve(revision),
+            Part::PushOuts => self.push_outs.reserve(revision),
         }
     }
 
-    /// Lets a revision enter a part, for which there is room: it can't fail. It costs a binary search
-    /// and a shift of handles.
+    /// Lets a revision enter a part, where there is room for it: it can't fail. It costs a look-up, a binary
+    /// search and a shift of handles.
     pub fn put(&mut self, part: Part, revision: Revision)
-        requires room { room_in part self.old ≡ Some revision.item }
+        requires room { room_in part self.old ≡ Some (room_of revision) }
         requires new { revision_of (self.old.heads ++ self.old.push_outs) revision.version ≡ None }
         ensures { self.new ≡ put_in part revision self.old }
     {
@@ -235,6 +242,7 @@ impl Store {
         self.push_outs.remove_leaving(item, &[version], below);
         any
     }
+
     /// An equal store, which shares the revisions' parts. It costs a handle for each, and the indexes. It
     /// has no room.
     pub fn copy(&self) -> Result<Store, AllocError>

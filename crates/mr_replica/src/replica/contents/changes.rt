@@ -25,10 +25,10 @@ impl Contents {
     /// Makes room for the arrival and one event.
     pub fn reserve(&mut self, arrival: &Arrival) -> Result<(), AllocError>
         ensures same { HoldsSame self.old self.new }
-        ensures room { OnOk result (HasRoom arrival.now.selected arrival.now.revision.item (vec_len arrival.now.entries) self.new) }
+        ensures room { OnOk result (HasRoom arrival.now.selected arrival.now.revision (vec_len arrival.now.entries) self.new) }
     {
         self.store
-            .reserve(part_for(arrival.selected), arrival.revision.item())?;
+            .reserve(part_for(arrival.selected), &arrival.revision)?;
         self.trail.reserve()?;
         self.feed.reserve(arrival.entries.len())?;
         self.log.reserve(1)
@@ -67,7 +67,7 @@ impl Contents {
         ensures log { OnOk result (0 < self.new.log_room) }
     {
         if let Some(revision) = comer {
-            self.store.reserve(Part::Heads, revision.item())?;
+            self.store.reserve(Part::Heads, revision)?;
         }
         self.feed.reserve(entries)?;
         self.log.reserve(1)
@@ -134,7 +134,7 @@ impl Contents {
     /// Lets a revision enter, by an event, where there is room: what it supersedes leaves.
     #[tactic(auto, using(crate::proofs::Staying::stays_new))]
     pub fn enter(&mut self, arrival: Arrival, event: Event)
-        requires room { HasRoom arrival.selected arrival.revision.item (vec_len arrival.entries) self.old }
+        requires room { HasRoom arrival.selected arrival.revision (vec_len arrival.entries) self.old }
         requires new { revision_of (self.old.store.heads ++ self.old.store.push_outs) arrival.revision.version ≡ None }
         ensures heads { self.new.store.heads ≡ entered_if arrival.selected arrival.revision (left_by arrival.revision.item (has_below arrival.revision) self.old.store.heads) }
         ensures push_outs { self.new.store.push_outs ≡ entered_if (not arrival.selected) arrival.revision (left_by arrival.revision.item (has_below arrival.revision) self.old.store.push_outs) }

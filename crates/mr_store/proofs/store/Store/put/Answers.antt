@@ -1,5 +1,5 @@
 use Rattle.std.proofs.Common.{ap}
-use Rattle.mr_store.specs.Shelf.{ShelfParts}
+use Rattle.mr_store.specs.RevisionList.{RevisionParts}
 use Rattle.mr_store.specs.Holdings.{Holdings}
 use Rattle.mr_store.proofs.HoldingLemmas.{revision_of-neither, apart_entered_first, apart_entered_second}
 use Rattle.mr_store.proofs.store.Store.put.Goals as goal
@@ -12,7 +12,7 @@ put-requires-clause-new c =
 pub invariant_of-self : goal.invariant_of-self
 invariant_of-self c =
     let push_outs = ap (λ (h : Holdings). h.push_outs) c.self.view_is in
-    rw (ap (λ (s : ShelfParts). s.revisions) c.put.ensures)
+    rw (ap (λ (s : RevisionParts). s.revisions) c.put.ensures)
     (apart_entered_first c.args.revision c.self.inside.heads.revisions c.self.inside.push_outs.revisions c.self.invariant
     (rw push_outs (revision_of-neither c.args.self.now.heads c.args.self.now.push_outs c.args.revision.version c.requires.new).second))
 
@@ -24,6 +24,6 @@ put-requires-in-PushOuts-clause-new c =
 pub invariant_of-self-in-PushOuts : goal.invariant_of-self-in-PushOuts
 invariant_of-self-in-PushOuts c =
     let heads = ap (λ (h : Holdings). h.heads) c.self.view_is in
-    rw (ap (λ (s : ShelfParts). s.revisions) c.put-in-PushOuts.ensures)
+    rw (ap (λ (s : RevisionParts). s.revisions) c.put-in-PushOuts.ensures)
     (apart_entered_second c.args.revision c.self.inside.heads.revisions c.self.inside.push_outs.revisions c.self.invariant
     (rw heads (revision_of-neither c.args.self.now.heads c.args.self.now.push_outs c.args.revision.version c.requires.new).first))

@@ -1,7 +1,7 @@
 use Rattle.std.proofs.Common.{ap, not}
 use Rattle.mr_madewith.specs.Revision.{Rev}
 use Rattle.mr_store.specs.Revisions.{holds}
-use Rattle.mr_store.specs.Shelf.{ShelfParts}
+use Rattle.mr_store.specs.RevisionList.{RevisionParts}
 use Rattle.mr_store.proofs.HoldingLemmas.{apart_kept, no_new_itself, no_new-filter}
 use Rattle.mr_store.proofs.store.Store.remove_heads.Goals as goal
 
@@ -10,5 +10,5 @@ invariant_of-self c =
     let stays = λ (r : Rev). not (holds c.args.left.now r.version) in
     let heads = c.self.inside.heads.revisions in
     let push_outs = c.self.inside.push_outs.revisions in
-    rw (ap (λ (s : ShelfParts). s.revisions) c.remove_versions.ensures)
+    rw (ap (λ (s : RevisionParts). s.revisions) c.remove_versions.ensures)
     (apart_kept heads push_outs _ _ c.self.invariant (no_new-filter stays heads) (no_new_itself push_outs))
