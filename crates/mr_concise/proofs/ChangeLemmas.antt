@@ -12,7 +12,8 @@ use Rattle.mr_concise.proofs.ColumnLemmas.{column_has-edges}
 use Rattle.mr_concise.proofs.VectorLemmas.{column_of-with_column, IsVectorFrom-with_column}
 use Rattle.mr_concise.proofs.UnionLemmas.{column_has-empty, column_of-IsColumn, column_of-item, column_of-take_before, column_of-take_more, item-IsColumn, bound-on, with_columns-push, AreColumns-push}
 use Rattle.mr_concise.proofs.LastLemmas.{column_has-above}
-use Rattle.mr_concise.proofs.SweepLemmas.{few-from_column, few-of_authors, few-from_not, too_many-from_author}
+use Rattle.mr_concise.proofs.MergeLemmas.{has_one}
+use Rattle.mr_concise.proofs.SweepLemmas.{few-from_column, few-of_authors, too_many-from_author}
 
 -- The set is what the columns have but for this author.
 abbrev pub IsSameElsewhere : List AuthorColumn → Versions → ℕ → Type 0
@@ -103,9 +104,6 @@ HaveFew-more a b k x vb l at few one q = elim (cases_eq x.author q) [
 pub many-both : (a b : List AuthorColumn) (k : ℕ) (x : AuthorColumn) → IsVectorFrom 0 b → k < length b → x ≡ get_or b k x → HasManyHoles (of_author (both (in_column x.author (column_of a x.author)) (in_column x.author x.column)) x.author) → HasTooManyHoles (both (vector_has a) (vector_has b))
 many-both a b k x vb l at many = too_many-from_author (both (vector_has a) (vector_has b)) x.author (item-IsColumn 0 b k x vb l at).2 (subst (λ (s : ℕ → Bool). HasManyHoles s) (both_columns-of a b k x vb l at) many)
 
-pub few-both : (a b : List AuthorColumn) (k : ℕ) (x : AuthorColumn) → IsVectorFrom 0 b → k < length b → x ≡ get_or b k x → (HasTooManyHoles (both (vector_has a) (vector_has b)) → ⊥) → HasFewHoles (of_author (both (in_column x.author (column_of a x.author)) (in_column x.author x.column)) x.author)
-few-both a b k x vb l at never = subst (λ (s : ℕ → Bool). HasFewHoles s) (sym (both_columns-of a b k x vb l at)) (few-from_not (both (vector_has a) (vector_has b)) x.author (item-IsColumn 0 b k x vb l at).2 never)
-
 -- How far the columns of b are put to those of a.
 pub record ChangedTo (a b : List AuthorColumn) (k : ℕ) (changed : List AuthorColumn) : Type 0 where
   pub columns : AreColumns changed
@@ -119,7 +117,7 @@ ChangedTo-begin a b changed v e = rw e (record { columns = λ k d l. absurd (ome
 united-step : (a b : List AuthorColumn) (k : ℕ) (x : AuthorColumn) (v : Name) → IsVectorFrom 0 b → k < length b → x ≡ get_or b k x → both (vector_has a) (vector_has (take (k + 1) b)) v ≡ (column_has (column_of a v.author) v.counter || column_has (cond (x.author == v.author) x.column (column_of (take k b) v.author)) v.counter)
 united-step a b k x v vb l at = rw (add-one k, column_of-take_more 0 b k x v.author vb l, ← at) refl
 
-pub ChangedTo-push : (a b changed : List AuthorColumn) (k : ℕ) (x : AuthorColumn) (column : Extent) → IsVectorFrom 0 b → k < length b → x ≡ get_or b k x → ChangedTo a b k changed → IsColumn column → IsColumnOf (of_author (both (in_column x.author (column_of a x.author)) (in_column x.author x.column)) x.author) column → ChangedTo a b (k + 1) (changed ++ (record { author = x.author; column = column }) ∷ [])
+pub ChangedTo-push : (a b changed : List AuthorColumn) (k : ℕ) (x : AuthorColumn) (column : Extent) → IsVectorFrom 0 b → k < length b → x ≡ get_or b k x → ChangedTo a b k changed → IsColumn column → IsColumnOf (has_one (column_of a x.author) x.column) column → ChangedTo a b (k + 1) (changed ++ (record { author = x.author; column = column }) ∷ [])
 ChangedTo-push a b changed k x column vb l at w is of = record {
   columns = AreColumns-push changed new w.columns some is item.2;
   vector = rw (with_columns-push changed new a) (IsVectorFrom-with_column 0 new (with_columns changed a) w.vector (omega arith) some is item.2);
@@ -133,12 +131,12 @@ ChangedTo-push a b changed k x column vb l at w is of = record {
     item = item-IsColumn 0 b k x vb l at
 
     means : (c : ℕ) → column_has column c ≡ (column_has (column_of a x.author) c || column_has x.column c)
-    means c = of.means c ∙ rw (eq-eqb x.author x.author refl) refl
+    means c = of.means c
 
     some : 1 ≤ column.upto
     some =
         let on : column_has x.column x.column.upto ≡ true = column_has-edges x.column x.column.upto item.0.apart item.1 ∙ bound-on 0 x.column.upto x.column.holes item.0.apart in
-        some-upto (of_author (both (in_column x.author (column_of a x.author)) (in_column x.author x.column)) x.author) column x.column.upto of item.1 (sym (of.means x.column.upto) ∙ means x.column.upto ∙ or_right (column_has (column_of a x.author) x.column.upto) (column_has x.column x.column.upto) on)
+        some-upto (has_one (column_of a x.author) x.column) column x.column.upto of item.1 (sym (of.means x.column.upto) ∙ means x.column.upto ∙ or_right (column_has (column_of a x.author) x.column.upto) (column_has x.column x.column.upto) on)
 
     go : (v : Name) → (x.author ≡ v.author) ⊎ (x.author ≡ v.author → ⊥) → column_has (cond (x.author == v.author) column (column_of (with_columns changed a) v.author)) v.counter ≡ (column_has (column_of a v.author) v.counter || column_has (cond (x.author == v.author) x.column (column_of (take k b) v.author)) v.counter)
     go v (inl e) = rw (eq-eqb x.author v.author e, ← e) (means v.counter)

@@ -19,3 +19,5 @@ pub mod CoverLemmas
 pub mod ChangeLemmas
 pub mod LoneLemmas
 pub mod TextLemmas
+pub mod MergeLemmas
+pub mod AppendLemmas

@@ -1,15 +1,13 @@
-use Rattle.std.proofs.Common.{◌≡◌, ◌<◌, ◌≤◌, ℕ, Bool, true, false, ◌||◌, refl, ap, ◌+◌, ◌-◌, arith, List, [], ◌∷◌, ◌++◌, length, suc, zero}
+use Rattle.std.proofs.Common.{◌≡◌, ◌<◌, ◌≤◌, ℕ, Bool, true, false, ◌||◌, refl, ap, arith, List, length, suc, zero}
 use Rattle.std.proofs.lemmas.Bool.{eq-eqb}
 use Rattle.mr_forms.specs.Sets.{Versions, IsSame, both}
-use Rattle.mr_forms.specs.Runs.{of_author, IsRunFrom, HasVersionsAlone}
-use Rattle.mr_forms.specs.declared.run.Run.{Run}
-use Rattle.mr_concise.specs.declared.column.Hole.{Hole}
+use Rattle.mr_forms.specs.Runs.{of_author}
 use Rattle.mr_concise.specs.declared.vector.AuthorColumn.{AuthorColumn}
 use Rattle.mr_concise.specs.Column.{Extent, column_has}
 use Rattle.mr_concise.specs.Source.{IsColumnOf, HasFewerHoles, HasAtLeastHoles}
 use Rattle.mr_concise.specs.Vector.{column_of, vector_has, in_column, IsVectorFrom, HasTooManyHoles}
 use Rattle.mr_concise.proofs.LastLemmas.{column_has-above}
-use Rattle.mr_concise.proofs.SweepLemmas.{Swept, swept-more, IsColumnOf-unique, few-from_column, few-of_authors}
+use Rattle.mr_concise.proofs.SweepLemmas.{IsColumnOf-unique, few-from_column, few-of_authors}
 use Rattle.mr_concise.proofs.UnionLemmas.{column_of-IsColumn}
 
 -- a column whose bound is 0 has nothing
@@ -42,14 +40,3 @@ columns-of_two a b q = let h : (c : ℕ) → of_author (both (in_column q (colum
 -- a set that has a vector has few holes
 pub few-from_vector : (columns : List AuthorColumn) (set : Versions) → IsVectorFrom 0 columns → IsSame (vector_has columns) set → HasTooManyHoles set → ⊥
 few-from_vector columns set v same = few-of_authors set (λ q. let is = column_of-IsColumn 0 columns q v in few-from_column (of_author set q) (column_of columns q) (record { apart = is.apart; in_range = is.in_range; means = λ c. same (record { author = q; counter = c }) }) is.few)
-
--- one run more of the author's, from where the last one ended
-pub swept-run : (set : Versions) (author at : ℕ) (holes : List Hole) (run : Run) → Swept (of_author set author) holes at → IsRunFrom set author at run → HasVersionsAlone set → Swept (of_author set author) (holes ++ (record { first = at; last = run.first - 1 }) ∷ []) (run.last + 1)
-swept-run set author at holes run w found alone =
-    let ordered = found.ends.ordered in
-    let version = alone (record { author = author; counter = run.last }) (found.ends.is_in run.last ordered (omega arith)) in
-    let most = version.counter_to in
-    swept-more (of_author set author) holes at run.first (run.last + 1) w
-    (record { above = found.begins.above; is_in = found.begins.is_in; between = found.begins.before })
-    (record { above = omega arith; is_out = found.ends.after; between = λ c f l. found.ends.is_in c f (omega arith) })
-    (omega arith)

@@ -29,7 +29,7 @@ bool-under : (c first last t : ℕ) (x y z : Bool) → first ≤ last + 1 → la
 bool-under c first last t x y z o l e = grind (arith, nat_tests)
 
 -- a hole more, from where the column ended, and a new end
-extend : (low at t e : ℕ) (holes : List Hole) → IsRising low (hole_edges holes ++ at ∷ []) → at < t → t < e → IsRising low (hole_edges (holes ++ (record { first = at; last = t - 1 }) ∷ []) ++ e ∷ []) × ((c : ℕ) → is_on true (hole_edges (holes ++ (record { first = at; last = t - 1 }) ∷ []) ++ e ∷ []) c ≡ (if nat_lt c t then is_on true (hole_edges holes ++ at ∷ []) c else nat_lt c e))
+pub extend : (low at t e : ℕ) (holes : List Hole) → IsRising low (hole_edges holes ++ at ∷ []) → at < t → t < e → IsRising low (hole_edges (holes ++ (record { first = at; last = t - 1 }) ∷ []) ++ e ∷ []) × ((c : ℕ) → is_on true (hole_edges (holes ++ (record { first = at; last = t - 1 }) ∷ []) ++ e ∷ []) c ≡ (if nat_lt c t then is_on true (hole_edges holes ++ at ∷ []) c else nat_lt c e))
 extend low at t e [] r l m = let back : t - 1 + 1 ≡ t = omega arith in rw back ((r.0, (l, (m, tt))), λ c. bool-extend c at t e l m)
 extend low at t e (h ∷ holes) r l m =
     let rest = extend (h.last + 1) at t e holes r.1.1 l m in
@@ -121,12 +121,6 @@ too_many-from_author set q in_range many = record { author = q; author_in = in_r
 
 pub few-of_authors : (set : Versions) → ((q : ℕ) → HasFewHoles (of_author set q)) → HasTooManyHoles set → ⊥
 few-of_authors set few many = let f = few many.author many.column (record { apart = many.apart; in_range = many.in_range; means = many.means }) in let m = many.many in absurd (omega arith)
-
-pub few-from_not : (set : Versions) (q : ℕ) → q < 64 → (HasTooManyHoles set → ⊥) → HasFewHoles (of_author set q)
-few-from_not set q in_range never column is = elim (cases_lt 4096 (length column.holes)) [
-  | inl l ↦ absurd (never (record { author = q; author_in = in_range; column = column; apart = is.apart; in_range = is.in_range; means = is.means; many = l }))
-  | inr g ↦ g
-]
 
 -- so many holes are found
 pub record SweptCount (has : ℕ → Bool) (count at : ℕ) : Type 0 where

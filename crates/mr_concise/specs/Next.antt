@@ -1,5 +1,6 @@
 use Rattle.std.specs.Prelude.{◌≡◌, ◌<◌, ◌≤◌, ◌+◌, ℕ, Bool, true, false, nat_le}
 use Rattle.mr_concise.specs.declared.column.Hole.{Hole}
+use Rattle.mr_concise.specs.declared.column.TheConstants.{COUNTERS_END}
 
 -- at is the first number from here on that the set has not
 pub record IsNextOut (has : ℕ → Bool) (from at : ℕ) : Type 0 where
@@ -30,3 +31,10 @@ pub record IsHoleFrom (has : ℕ → Bool) (upto from : ℕ) (hole : Hole) : Typ
   pub before : (c : ℕ) → from ≤ c → c < hole.first → has c ≡ true
   pub inside : (c : ℕ) → hole.first ≤ c → c ≤ hole.last → has c ≡ false
   pub after : has (hole.last + 1) ≡ true
+
+-- the gap has the first counters from here on that the set has not, up to one that the set has, or to where counters end
+pub record IsGapFrom (has : ℕ → Bool) (from : ℕ) (gap : Hole) : Type 0 where
+  pub begins : IsNextOut has from gap.first
+  pub ordered : gap.first ≤ gap.last
+  pub inside : (c : ℕ) → gap.first ≤ c → c ≤ gap.last → has c ≡ false
+  pub after : gap.last < COUNTERS_END → has (gap.last + 1) ≡ true

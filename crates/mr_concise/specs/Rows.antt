@@ -1,5 +1,6 @@
 -- worked rows: what the definitions give for small values
 use Rattle.std.proofs.Common.{arith}
+use Rattle.std.proofs.lemmas.Bool.{false≢true}
 use Rattle.std.specs.Prelude.{◌≡◌, ◌<◌, ◌≤◌, ℕ, Bool, true, false, List, [], ◌∷◌, codes, Some, None, refl}
 use Rattle.std.specs.Fmt.{digits}
 use Rattle.std.specs.declared.cmp.Ordering.TheVariants.{Less, Greater}
@@ -11,6 +12,7 @@ use Rattle.mr_concise.specs.Edges.{is_on}
 use Rattle.mr_concise.specs.Column.{Extent, column_has, edges, gap, empty_column, with_counter, IsColumn}
 use Rattle.mr_concise.specs.Equal.{vector_eq}
 use Rattle.mr_concise.specs.Fragments.{ConciseFragment, knowledge_text}
+use Rattle.mr_concise.specs.Next.{IsGapFrom}
 use Rattle.mr_concise.specs.Order.{vector_cmp}
 use Rattle.mr_concise.specs.Source.{HasFewerHoles, HasAtLeastHoles}
 use Rattle.mr_concise.specs.Text.{column_text, vector_text}
@@ -95,6 +97,25 @@ not_at_least_three least = let wrong : 3 ≤ 2 = least holey (record { apart = h
 -- nothing has fewer holes than none
 pub none_is_fewest : (has : ℕ → Bool) → ¬ HasFewerHoles has 0
 none_is_fewest has fewer = let wrong = fewer.fewer in absurd (omega arith)
+
+-- ---- the first gap from a counter on
+
+-- a hole of one counter, from that counter on
+pub gap_of_one : IsGapFrom (column_has (column 6 (hole 5 5 ∷ []))) 5 (hole 5 5)
+gap_of_one = record {
+  begins = record { above = omega arith; is_out = refl; between = λ c f l. absurd (omega arith) };
+  ordered = omega arith;
+  inside = λ c f l. let e : c ≡ 5 = omega arith in rw e refl;
+  after = λ _. refl;
+}
+
+-- it begins with the first counter that is not there
+pub gap_begins_late : ¬ IsGapFrom (column_has holey) 3 (hole 6 7)
+gap_begins_late gap = false≢true (gap.begins.between 5 (omega arith) (omega arith))
+
+-- and goes on to the last one
+pub gap_ends_early : ¬ IsGapFrom (column_has holey) 3 (hole 5 6)
+gap_ends_early gap = false≢true (gap.after (omega arith))
 
 -- ---- one counter more
 

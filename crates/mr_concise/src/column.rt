@@ -1,10 +1,10 @@
-ghost use Rattle.std.specs.Prelude.{◌≡◌, ◌≤◌, ◌<◌, ◌+◌, ◌↔◌, ℕ, Bool, true, false, not, nat_lt, if◌then◌else◌, List, [], ◌∷◌, length, IsTrue, IfOk, IfSome, IfNone, OnOk, OnErr, drop, slice_get, IsErrOf, Err, ◌≢◌};
+ghost use Rattle.std.specs.Prelude.{◌≡◌, ◌≤◌, ◌<◌, ◌+◌, ◌-◌, ◌++◌, ◌↔◌, ℕ, Bool, true, false, not, nat_lt, if◌then◌else◌, List, [], ◌∷◌, length, IsTrue, IfOk, IfSome, IfNone, OnOk, OnErr, drop, slice_get, IsErrOf, Err, ◌≢◌};
 ghost use Rattle.std.specs.List.{list_any};
-ghost use Rattle.mr_concise.specs.Column.{Extent, hole_has, IsColumn, column_has, edges, hole_edges, empty_column, with_counter};
+ghost use Rattle.mr_concise.specs.Column.{Extent, hole_has, IsColumn, column_has, edges, hole_edges, empty_column, gap, with_counter};
 
 use crate::column_ref::ColumnRef;
 use crate::holes::{fill, filled_count};
-use mr_forms::FormFault;
+use mr_forms::{FormFault, Run};
 use mr_version::MAX_COUNTER;
 use std::alloc::{AllocError, Global};
 use std::marker::Model;
@@ -142,6 +142,24 @@ impl Column {
             return Err(FormFault::OutOfMemory);
         }
         Ok(())
+    }
+
+    /// A run more, which begins above the bound. `false` where that would leave more than 4,096 holes.
+    pub(crate) fn append(&mut self, run: Run) -> Result<bool, AllocError>
+        requires { self.old.upto < run.first }
+        ensures { IfOk result (λ done. done ≡ true → (self.new ≡ record { upto = run.last; holes = self.old.holes ++ gap (self.old.upto + 1) (run.first - 1) }) × IsColumn self.new) }
+    {
+        if self.upto + 1 < run.first {
+            if self.holes.len() >= MAX_HOLES {
+                return Ok(false);
+            }
+            self.holes.push(Hole {
+                first: self.upto + 1,
+                last: run.first - 1,
+            })?;
+        }
+        self.upto = run.last;
+        Ok(true)
     }
 
     /// An equal column.

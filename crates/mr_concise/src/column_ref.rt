@@ -1,10 +1,12 @@
-ghost use Rattle.std.specs.Prelude.{◌≡◌, ◌≤◌, ◌<◌, ◌+◌, ◌↔◌, ℕ, true, false, length, MatchOption, IfSome, IsTrue};
+ghost use Rattle.std.specs.Prelude.{◌≡◌, ◌≤◌, ◌<◌, ◌+◌, ◌↔◌, ◌||◌, ℕ, true, false, length, MatchOption, IfOk, IfSome, IsTrue};
 ghost use Rattle.mr_concise.specs.Column.{Extent, IsColumn, column_has, empty_column, ColumnCovers};
-ghost use Rattle.mr_concise.specs.Next.{IsNextOut, IsNextIn, HasNoneFrom, HasNoHoleFrom, IsHoleFrom};
+ghost use Rattle.mr_concise.specs.Next.{IsNextOut, IsNextIn, HasNoneFrom, HasNoHoleFrom, IsHoleFrom, IsGapFrom};
+ghost use Rattle.mr_concise.specs.Source.{IsColumnOf};
 
-use crate::column::{COUNTERS_END, Hole};
+use crate::column::{COUNTERS_END, Column, Hole, MAX_HOLES};
 use crate::holes::hole_place_near;
 use mr_version::MAX_COUNTER;
+use std::alloc::{AllocError, Global};
 use std::cell::Cell;
 use std::marker::Model;
 
@@ -82,6 +84,24 @@ impl<'a> ColumnRef<'a> {
         }
     }
 
+    /// The first counters from here on that are not covered: those of a hole, or those above the bound. `from`
+    /// is 1 to 1,000,001.
+    fn gap_from(&self, from: u32) -> Hole
+        requires { (1 ≤ from) × (from ≤ COUNTERS_END) }
+        ensures { IsGapFrom (column_has self.now) from result }
+    {
+        match self.hole_from(from) {
+            Some(hole) => Hole {
+                first: from.max(hole.first),
+                last: hole.last,
+            },
+            None => Hole {
+                first: from.max(self.upto + 1),
+                last: COUNTERS_END,
+            },
+        }
+    }
+
     /// The first counter from here on that is not covered.
     pub(crate) fn next_out(&self, from: u32) -> u32
         requires { 1 ≤ from }
@@ -138,5 +158,51 @@ impl<'a> ColumnRef<'a> {
             }
         }
         true
+    }
+
+    /// What this column has or another one, which reaches no higher. `None` where there would be too many
+    /// holes. It costs a step for each hole of the two.
+    fn merged_with_lower(
+        &self,
+        low: &ColumnRef<'_>,
+        alloc: Global,
+    ) -> Result<Option<Column>, AllocError>
+        requires { low.now.upto ≤ self.now.upto }
+        ensures column { IfOk result (λ column. IfSome column IsColumn) }
+        ensures means { IfOk result (λ column. IfSome column (IsColumnOf (λ c. column_has self.now c || column_has low.now c))) }
+    {
+        let upto = self.upto;
+        let mut holes = Vec::with_capacity(alloc, self.holes.len())?;
+        let mut from = 1;
+        while let Some(hole) = self.hole_from(from) {
+            let gap = low.gap_from(from);
+            let first = gap.first.max(hole.first);
+            let last = gap.last.min(hole.last);
+            if first <= last {
+                if holes.len() >= MAX_HOLES {
+                    return Ok(None);
+                }
+                holes.push(Hole { first, last })?;
+            }
+            from = last + 1;
+        }
+        Ok(Some(Column::new(upto, holes)))
+    }
+
+    /// What one of two columns has. `None` where there would be too many holes. It costs a step for each hole
+    /// of the two.
+    pub(crate) fn merged(
+        &self,
+        other: &ColumnRef<'_>,
+        alloc: Global,
+    ) -> Result<Option<Column>, AllocError>
+        ensures column { IfOk result (λ column. IfSome column IsColumn) }
+        ensures means { IfOk result (λ column. IfSome column (IsColumnOf (λ c. column_has self.now c || column_has other.now c))) }
+    {
+        if other.upto <= self.upto {
+            self.merged_with_lower(other, alloc)
+        } else {
+            other.merged_with_lower(self, alloc)
+        }
     }
 }

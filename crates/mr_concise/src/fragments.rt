@@ -1,80 +1,86 @@
-ghost use Rattle.std.specs.Prelude.{◌≡◌, ◌≢◌, ◌↔◌, Some, All, IfOk, IfSome, OnOk, IsErrOf, Err, string_bytes};
+ghost use Rattle.std.specs.Prelude.{◌≡◌, ◌<◌, ◌≢◌, ◌↔◌, true, AllPairs, Some, All, IfOk, IfSome, OnOk, IsErrOf, Err, string_bytes};
 ghost use Rattle.std.specs.List.{AllZip, Any};
 ghost use Rattle.mr_forms.specs.Sets.{IsSame};
-ghost use Rattle.mr_forms.specs.Runs.{of_author};
-ghost use Rattle.mr_concise.specs.Column.{IsColumn};
-ghost use Rattle.mr_concise.specs.Source.{IsColumnOf};
-ghost use Rattle.mr_concise.specs.Vector.{vector_has, IsVectorFrom, IsVectorOf, HasTooManyHoles};
+ghost use Rattle.mr_forms.specs.Runs.{in_runs, with_run, StandsBefore};
+ghost use Rattle.mr_concise.specs.Vector.{column_of, vector_has, IsVectorFrom, IsVectorOf, HasTooManyHoles};
 ghost use Rattle.mr_concise.specs.Fragments.{IsConciseOf, IsTooHoley, items_text, fragment_text, knowledge_text};
 
-use crate::column::{Column, Hole, MAX_HOLES};
-use crate::source::{OfSet, Source};
-use crate::vector::{AuthorColumn, ConciseVector, put};
-use mr_forms::{FormFault, Fragment, ItemSet, VersionSet};
-use mr_version::Author;
+use crate::column::Column;
+use crate::source::OfSet;
+use crate::vector::{AuthorColumn, ConciseVector, place, put};
+use mr_forms::{FormFault, Fragment, ItemSet, Run, VersionSet};
 use std::alloc::{AllocError, Global};
 use std::fmt;
 
-/// An author's column of a set, run by run. `None` where it would have too many holes.
-fn column_of_runs<S: VersionSet>(
-    alloc: Global,
-    set: &S,
-    author: Author,
-) -> Result<Option<Column>, AllocError>
-    ensures column { IfOk result (λ column. IfSome column IsColumn) }
-    ensures means { IfOk result (λ column. IfSome column (IsColumnOf (of_author (S.has set.now) author))) }
+/// Puts a run into its author's column, which has nothing from there on. `false` where the column would have
+/// too many holes.
+fn append_run(columns: &mut Vec<AuthorColumn>, alloc: Global, run: Run) -> Result<bool, AllocError>
+    requires columns { IsVectorFrom 0 columns.old.items }
+    requires behind { (column_of columns.old.items run.author).upto < run.first }
+    ensures columns { IfOk result (λ done. done ≡ true → IsVectorFrom 0 columns.new.items) }
+    ensures united { IfOk result (λ done. done ≡ true → IsSame (vector_has columns.new.items) (with_run (vector_has columns.old.items) run)) }
 {
-    let source = OfSet { set };
-    let mut holes = Vec::new(alloc);
-    let mut at = source.next_out(author, 1);
-    while let Some(run) = set.run_from(author, at) {
-        if holes.len() >= MAX_HOLES {
-            return Ok(None);
-        }
-        holes.push(Hole {
-            first: at,
-            last: run.first - 1,
-        })?;
-        at = run.last + 1;
+    let at = place(columns, run.author);
+    if at < columns.len() && columns[at].author.id() == run.author.id() {
+        let found = &mut columns[at];
+        return found.column.append(run);
     }
-    Ok(Some(Column::new(at - 1, holes)))
+    let mut column = Column::empty(alloc);
+    if !column.append(run)? {
+        return Ok(false);
+    }
+    put(
+        columns,
+        AuthorColumn {
+            author: run.author,
+            column,
+        },
+    )?;
+    Ok(true)
 }
 
-/// The columns of all authors of a set, run by run. `None` where one would have too many holes.
-fn columns_of_runs<S: VersionSet>(
+/// The columns of runs. `None` where one would have too many holes.
+fn columns_of_runs(alloc: Global, runs: &[Run]) -> Result<Option<Vec<AuthorColumn>>, AllocError>
+    requires { AllPairs StandsBefore runs.now }
+    ensures vector { IfOk result (λ columns. IfSome columns (λ v. IsVectorFrom 0 v.items)) }
+    ensures means { IfOk result (λ columns. IfSome columns (λ v. IsSame (vector_has v.items) (in_runs runs.now))) }
+{
+    let mut columns = Vec::new(alloc);
+    for run in runs {
+        if !append_run(&mut columns, alloc, *run)? {
+            return Ok(None);
+        }
+    }
+    Ok(Some(columns))
+}
+
+/// The columns of all authors of a set. `None` where one would have too many holes.
+fn columns_of_set<S: VersionSet>(
     alloc: Global,
     set: &S,
 ) -> Result<Option<Vec<AuthorColumn>>, AllocError>
     ensures vector { IfOk result (λ columns. IfSome columns (λ v. IsVectorFrom 0 v.items)) }
     ensures means { IfOk result (λ columns. IfSome columns (λ v. IsSame (vector_has v.items) (S.has set.now))) }
 {
-    let mut columns = Vec::new(alloc);
-    let mut id = 0;
-    while let Some(author) = set.next_author(id) {
-        let Some(column) = column_of_runs(alloc, set, author)? else {
-            return Ok(None);
-        };
-        if column.upto() > 0 {
-            put(&mut columns, AuthorColumn { author, column })?;
-        }
-        id = author.id() + 1;
-    }
-    Ok(Some(columns))
+    let Ok(runs) = set.columns() else {
+        return Err(AllocError);
+    };
+    columns_of_runs(alloc, &runs)
 }
 
 impl ConciseVector {
     /// The vector of the versions of a set in any form.
     ///
     /// `TooManyHoles` exactly where a column of the set has more than 4,096 holes; `OutOfMemory` only
-    /// after it. It takes the set's runs once, and memory for the vector alone; where there are too many holes
-    /// or memory ends, it takes them again to tell which.
+    /// after it. It takes the set's runs once, as a list, and memory for these and for the vector; where there
+    /// are too many holes or memory ends, it takes them again, one by one, to tell which.
     pub fn from_set<S: VersionSet>(alloc: Global, set: &S) -> Result<ConciseVector, FormFault>
         ensures ok { IfOk result (λ vector. IsSame (vector_has vector) (S.has set.now)) }
         ensures canonical { IfOk result (λ vector. IsVectorOf (S.has set.now) vector) }
         ensures holes { IsErrOf result FormFault.TooManyHoles ↔ HasTooManyHoles (S.has set.now) }
         ensures items { result ≢ Err FormFault.TooManyItems }
     {
-        match columns_of_runs(alloc, set) {
+        match columns_of_set(alloc, set) {
             Ok(Some(columns)) => Ok(ConciseVector { alloc, columns }),
             _ => ConciseVector::gather(alloc, &OfSet { set }),
         }

@@ -38,7 +38,7 @@ mod vector;
 
 pub use column::{COUNTERS_END, Column, Hole, MAX_HOLES};
 pub use fragments::{concise_fragments, knowledge_text};
-pub use source::{AnyOf, OfSet, Source};
+pub use source::{AnyOf, OfSet, Source, lower_author, lower_counter};
 pub use sweep::{has_fewer_holes, hole_count, most_holes, would_have_too_many};
 pub use union::both_have_fewer_holes;
 pub use vector::{AuthorColumn, ConciseVector};

@@ -75,14 +75,14 @@ impl<'a, S: Source> Source for AnyOf<'a, S> {
     fn next_in(&self, author: Author, from: u32) -> Option<u32> {
         let mut next: Option<u32> = None;
         for source in self.sources {
-            next = lower(next, source.next_in(author, from));
+            next = lower_counter(next, source.next_in(author, from));
         }
         next
     }
 }
 
-/// The lower of two authors, where there are any.
-fn lower_author(a: Option<Author>, b: Option<Author>) -> Option<Author>
+/// The lower of two authors, where there are any: what a source of several sources tells of its next author.
+pub fn lower_author(a: Option<Author>, b: Option<Author>) -> Option<Author>
     ensures { result ≡ lower_of a b }
 {
     match (a, b) {
@@ -92,8 +92,8 @@ fn lower_author(a: Option<Author>, b: Option<Author>) -> Option<Author>
     }
 }
 
-/// The lower of two counters, where there are any.
-fn lower(a: Option<u32>, b: Option<u32>) -> Option<u32>
+/// The lower of two counters, where there are any: what a source of several sources tells of its next counter.
+pub fn lower_counter(a: Option<u32>, b: Option<u32>) -> Option<u32>
     ensures { result ≡ lower_of a b }
 {
     match (a, b) {
@@ -292,7 +292,7 @@ impl<A: Source, B: Source> Source for (A, B) {
     }
 
     fn next_in(&self, author: Author, from: u32) -> Option<u32> {
-        lower(self.0.next_in(author, from), self.1.next_in(author, from))
+        lower_counter(self.0.next_in(author, from), self.1.next_in(author, from))
     }
 }
 

@@ -1,4 +1,4 @@
-ghost use Rattle.std.specs.Prelude.{◌≡◌, ◌≤◌, ◌<◌, ◌+◌, ◌↔◌, ◌≢◌, ℕ, true, false, IsTrue, IfOk, OnOk, OnErr, IsErrOf, Err, length};
+ghost use Rattle.std.specs.Prelude.{◌≡◌, ◌≤◌, ◌<◌, ◌+◌, ◌↔◌, ◌≢◌, ℕ, true, false, IsTrue, IfOk, IfSome, OnOk, OnErr, IsErrOf, Err, length};
 ghost use Rattle.std.specs.Vec.{vec_len, vec_capacity};
 ghost use Rattle.mr_forms.specs.Sets.{both, Covers, IsSame};
 ghost use Rattle.mr_forms.specs.Runs.{of_author, with_run};
@@ -76,31 +76,33 @@ fn has_too_many(a: &[AuthorColumn], b: &[AuthorColumn]) -> bool
     false
 }
 
-/// The columns of a that change where those of b are put to them.
+/// The columns of a that change where those of b are put to them. `None` where one would have too many holes.
 fn changed_columns(
     alloc: Global,
     a: &[AuthorColumn],
     b: &[AuthorColumn],
-) -> Result<Vec<AuthorColumn>, AllocError>
+) -> Result<Option<Vec<AuthorColumn>>, AllocError>
     requires a { IsVectorFrom 0 a.now }
     requires b { IsVectorFrom 0 b.now }
-    requires few { HasTooManyHoles (both (vector_has a.now) (vector_has b.now)) → ⊥ }
-    ensures columns { IfOk result (λ changed. AreColumns changed.items) }
-    ensures vector { IfOk result (λ changed. IsVectorFrom 0 (with_columns changed.items a.now)) }
-    ensures united { IfOk result (λ changed. IsSame (vector_has (with_columns changed.items a.now)) (both (vector_has a.now) (vector_has b.now))) }
+    ensures columns { IfOk result (λ changed. IfSome changed (λ v. AreColumns v.items)) }
+    ensures vector { IfOk result (λ changed. IfSome changed (λ v. IsVectorFrom 0 (with_columns v.items a.now))) }
+    ensures united { IfOk result (λ changed. IfSome changed (λ v. IsSame (vector_has (with_columns v.items a.now)) (both (vector_has a.now) (vector_has b.now)))) }
 {
     let mut changed = Vec::new(alloc);
     for x in b {
-        let source = both_columns(a, x);
-        if !source.0.column.covers(&source.1.column) {
-            let column = gathered_column(alloc, &source, x.author)?;
+        let had = column_at(a, x.author);
+        let added = x.column.lent();
+        if !had.covers(&added) {
+            let Some(column) = had.merged(&added, alloc)? else {
+                return Ok(None);
+            };
             changed.push(AuthorColumn {
                 author: x.author,
                 column,
             })?;
         }
     }
-    Ok(changed)
+    Ok(Some(changed))
 }
 
 /// Puts a column in its author's place, where there is room for one.
@@ -135,7 +137,8 @@ fn put_all(columns: &mut Vec<AuthorColumn>, changed: Vec<AuthorColumn>) -> Resul
     Ok(())
 }
 
-/// Puts the columns of another vector to these. Those that do not change are not touched.
+/// Puts the columns of another vector to these. Those that do not change are not touched. Only where there are
+/// too many holes, or memory ends, the holes are counted, to tell which.
 pub(crate) fn unite_columns(
     columns: &mut Vec<AuthorColumn>,
     alloc: Global,
@@ -149,10 +152,10 @@ pub(crate) fn unite_columns(
     ensures items { result ≢ Err FormFault.TooManyItems }
     ensures err { OnErr result (columns.new.items ≡ columns.old.items) }
 {
-    if has_too_many(columns, other) {
-        return Err(FormFault::TooManyHoles);
-    }
-    let Ok(changed) = changed_columns(alloc, columns, other) else {
+    let Ok(Some(changed)) = changed_columns(alloc, columns, other) else {
+        if has_too_many(columns, other) {
+            return Err(FormFault::TooManyHoles);
+        }
         return Err(FormFault::OutOfMemory);
     };
     let Ok(()) = put_all(columns, changed) else {

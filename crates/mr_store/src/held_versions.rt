@@ -1,11 +1,11 @@
 //! The held ones of some versions, as a source of a made-with set.
 ghost use Rattle.std.specs.Prelude.{◌≡◌, ◌≤◌};
-ghost use Rattle.mr_concise.specs.AnyOf.{in_any, lower_of, IsPassed};
+ghost use Rattle.mr_concise.specs.AnyOf.{in_any, IsPassed};
 ghost use Rattle.mr_forms.specs.Runs.{of_author};
 ghost use Rattle.mr_store.specs.HeldVersions.{by_held};
 
 use crate::Store;
-use mr_concise::Source;
+use mr_concise::{COUNTERS_END, Source, lower_author, lower_counter};
 use mr_version::{Author, Version};
 
 /// Those of the versions that are held, each with all that it supersedes.
@@ -43,37 +43,15 @@ impl<'a> Source for HeldVersions<'a> {
     fn next_in(&self, author: Author, from: u32) -> Option<u32> {
         let mut next: Option<u32> = None;
         for version in self.versions {
-            next = lower(next, self.store.held(*version).next_in(author, from));
+            next = lower_counter(next, self.store.held(*version).next_in(author, from));
         }
         next
     }
 }
 
-// The lower of two authors, where there are any.
-fn lower_author(a: Option<Author>, b: Option<Author>) -> Option<Author>
-    ensures { result ≡ lower_of a b }
-{
-    match (a, b) {
-        (Some(s), Some(t)) => Some(if s.id() <= t.id() { s } else { t }),
-        (Some(s), None) => Some(s),
-        (None, end) => end,
-    }
-}
-
-/// The lower of two counters, where there are any.
-pub fn lower(a: Option<u32>, b: Option<u32>) -> Option<u32>
-    ensures { result ≡ lower_of a b }
-{
-    match (a, b) {
-        (Some(s), Some(t)) => Some(if s <= t { s } else { t }),
-        (Some(s), None) => Some(s),
-        (None, end) => end,
-    }
-}
-
 // Goes on from here past what each held version has, one by one.
 fn passed(store: &Store, versions: &[Version], author: Author, from: u32) -> u32
-    requires { (1 ≤ from) × (from ≤ 1000001) }
+    requires { (1 ≤ from) × (from ≤ COUNTERS_END) }
     ensures { IsPassed (of_author (in_any (by_held store.now) versions.now) author) from result }
 {
     let mut at = from;

@@ -13,8 +13,7 @@ ghost use Rattle.mr_store.specs.Unheld.{is_unheld, by_vector};
 
 use crate::FragmentIndex;
 use crate::by_version::place_before;
-use crate::held_versions::lower;
-use mr_concise::{AnyOf, COUNTERS_END, ConciseVector, Source};
+use mr_concise::{AnyOf, COUNTERS_END, ConciseVector, Source, lower_counter};
 use mr_forms::{Fragment, VersionSet};
 use mr_madewith::Revision;
 use mr_version::{Author, ItemId, Version};
@@ -118,7 +117,7 @@ fn next_in_some(learned: &[Fragment<ConciseVector>], author: Author, from: u32) 
 {
     let mut next: Option<u32> = None;
     for fragment in learned {
-        next = lower(next, fragment.vector.next_in(author, from));
+        next = lower_counter(next, fragment.vector.next_in(author, from));
     }
     next
 }

@@ -1,15 +1,8 @@
-use Rattle.std.proofs.Common.{arith}
-use Rattle.mr_concise.proofs.SweepLemmas.{GatheredTo-put, GatheredTo-skip}
+use Rattle.mr_concise.proofs.AppendLemmas.{next-behind, next-same}
 use Rattle.mr_concise.proofs.fragments.columns_of_runs.Goals as goal
-use Rattle.mr_concise.proofs.fragments.columns_of_runs.Goals.{then-upto-gt0+in_ok-put, else-upto-gt0}
 
-pub loop-author-preserved : goal.loop-author-preserved
-loop-author-preserved g c =
-    let set = g.S.VersionSet.has c.args.set.now in
-    let column = c.in-Some-2.column in
-    let normal = rw c.in-Some-2.is at c.in_ok-column.ensures.column in
-    let means = rw c.in-Some-2.is at c.in_ok-column.ensures.means in
-    rw c.id-id.ensures.is (elim c.if-upto-gt0.branch [
-      | then-upto-gt0+in_ok-put w ↦ rw (w.columns-is, w.in_ok-put.ensures.ok) (GatheredTo-put set c.loop-author.columns.items c.loop-author.id c.in-Some.author column c.loop-author.invariant c.in-Some.ensures normal means (let t = w.if-upto-gt0.true in let u = c.upto.ensures in omega arith))
-      | else-upto-gt0 w ↦ rw w.columns-is (GatheredTo-skip set c.loop-author.columns.items c.loop-author.id c.in-Some.author column c.loop-author.invariant c.in-Some.ensures means (let f = w.if-upto-gt0.false in let u = c.upto.ensures in omega arith))
-    ])
+pub append_run-requires-clause-behind : goal.append_run-requires-clause-behind
+append_run-requires-clause-behind c = next-behind c.args.runs.now c.loop-run.run-index c.run-item.result c.loop-run.columns.items c.requires c.loop-run-test.true c.run-item.is c.loop-run.invariant.0 c.loop-run.invariant.1
+
+pub loop-run-preserved : goal.loop-run-preserved
+loop-run-preserved c = (c.in_ok-append_run.ensures.columns c.if-not-branch.false, next-same c.args.runs.now c.loop-run.run-index c.run-item.result c.loop-run.columns.items c.append_run.new.columns.items c.loop-run-test.true c.run-item.is c.loop-run.invariant.1 (c.in_ok-append_run.ensures.united c.if-not-branch.false))

@@ -1,10 +1,9 @@
-use Rattle.std.proofs.Common.{◌-◌}
-use Rattle.mr_concise.proofs.SweepLemmas.{GatheredTo}
+use Rattle.std.proofs.Common.{take}
+use Rattle.mr_forms.specs.Sets.{IsSame}
+use Rattle.mr_forms.specs.Runs.{in_runs}
+use Rattle.mr_concise.specs.Vector.{vector_has, IsVectorFrom}
 use Rattle.mr_concise.proofs.fragments.columns_of_runs.Given as goal
 
--- the columns of the authors below the id
-abbrev pub invariant-loop-author : goal.invariant-loop-author
-invariant-loop-author g l = GatheredTo (g.S.VersionSet.has l.set) l.columns.items l.id
-
-abbrev pub decreases-loop-author : goal.decreases-loop-author
-decreases-loop-author g l = 64 - l.id
+-- the columns of the runs so far
+abbrev pub invariant-loop-run : goal.invariant-loop-run
+invariant-loop-run l = IsVectorFrom 0 l.columns.items × IsSame (vector_has l.columns.items) (in_runs (take l.run-index l.runs))

@@ -15,9 +15,9 @@ loop-version-preserved c =
     let v = c.version-item.result in
     let one : NextIn (of_author (held v) c.args.author) c.args.from c.next_in.result = subst (λ (t : Versions). NextIn (of_author t c.args.author) c.args.from c.next_in.result) (looked_up c.args.self.now.store.now v c.held.result c.held.ensures) c.next_in.ensures.next in
     record {
-      next = subst (λ (t : Versions). NextIn (of_author t c.args.author) c.args.from c.lower-next.result) (sym (in_any-more_is held vs k v c.loop-version-test.true c.version-item.is))
-          (rw c.lower-next.ensures (NextIn-lower (of_author (in_any held (take k vs)) c.args.author) (of_author (held v) c.args.author) c.args.from c.loop-version.next c.next_in.result c.loop-version.invariant.next one));
-      bound = rw c.lower-next.ensures (bound-lower 1000000 c.loop-version.next c.next_in.result c.loop-version.invariant.bound c.next_in.ensures.bound);
+      next = subst (λ (t : Versions). NextIn (of_author t c.args.author) c.args.from c.lower_counter-next.result) (sym (in_any-more_is held vs k v c.loop-version-test.true c.version-item.is))
+          (rw c.lower_counter-next.ensures (NextIn-lower (of_author (in_any held (take k vs)) c.args.author) (of_author (held v) c.args.author) c.args.from c.loop-version.next c.next_in.result c.loop-version.invariant.next one));
+      bound = rw c.lower_counter-next.ensures (bound-lower 1000000 c.loop-version.next c.next_in.result c.loop-version.invariant.bound c.next_in.ensures.bound);
     }
 
 pub returns-clause-next : goal.returns-clause-next
