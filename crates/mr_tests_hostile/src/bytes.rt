@@ -76,19 +76,27 @@ fn put_length(bytes: &mut [u8]) {
 fn spoil(samples: &[Vec<u8>], numbers: &mut Numbers, out: &mut Vec<u8>) -> Result<(), AllocError> {
     let place = numbers.place_below(out.len().max(1));
     match numbers.below(7) {
+        4 => out.truncate(place),
+        5 => splice(pick(samples, numbers), numbers, place, out)?,
+        6 => out.extend_from_slice(pick(samples, numbers))?,
+        way => overwrite(numbers, way, place, out),
+    }
+    Ok(())
+}
+
+/// Writes a random number over the bytes from a place on, in the first of the seven ways: one of one byte or of four, or an
+/// edge.
+fn overwrite(numbers: &mut Numbers, way: u32, place: usize, out: &mut [u8]) {
+    match way {
         0 => put(out, place, &[numbers.below(256) as u8]),
         1 => put(out, place, &numbers.below(u32::MAX).to_be_bytes()),
         2 => put(out, place, &EDGES[numbers.place_below(16)].to_be_bytes()),
-        3 => put(
+        _ => put(
             out,
             place,
             &SHORT_EDGES[numbers.place_below(8)].to_be_bytes(),
         ),
-        4 => out.truncate(place),
-        5 => splice(pick(samples, numbers), numbers, place, out)?,
-        _ => out.extend_from_slice(pick(samples, numbers))?,
     }
-    Ok(())
 }
 
 /// Puts the end of another sample behind a beginning of the bytes.

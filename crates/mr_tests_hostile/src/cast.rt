@@ -1,5 +1,5 @@
 //! Replicas, and what is asked of them.
-use anyhow::Result;
+use anyhow::{Context, Result};
 use mr_feed::Entry;
 use mr_filter::Filter;
 use mr_itemset::SparingKnowledge;
@@ -17,27 +17,52 @@ const EVENT_LIMIT: u32 = 1_000_000;
 /// The most records of a stream here.
 const MOST_RECORDS: u32 = 1_000;
 
-/// A replica with nothing in it joins the others.
-pub fn add(alloc: Global, devices: &mut Vec<Device>, id: u16, filter: &str) -> Result<()> {
-    let (id, filter) = (Author::try_new(id)?, Filter::read(alloc, filter)?);
-    Ok(devices.push(Replica::try_new(alloc, id, filter, EVENT_LIMIT)?)?)
+/// New replicas of these ids, which select these.
+pub fn new_devices(alloc: Global, all: &[(u16, &str)]) -> Result<Vec<Device>> {
+    let mut devices = Vec::new(alloc);
+    for (id, filter) in all {
+        push(&mut devices, new_device(alloc, *id, filter))?;
+    }
+    Ok(devices)
+}
+
+/// Adds what could be made.
+pub fn push<T: Drop>(list: &mut Vec<T>, made: Result<T>) -> Result<()> {
+    Ok(list.push(made?)?)
+}
+
+/// A new replica of this id, which selects this.
+fn new_device(alloc: Global, id: u16, filter: &str) -> Result<Device> {
+    let id = Author::try_new(id)?;
+    let filter = Filter::read(alloc, filter)?;
+    Replica::try_new(alloc, id, filter, EVENT_LIMIT).context("a replica")
 }
 
 /// A replica that is equal to this one takes the place of another.
 pub fn renew(device: &mut Device, model: &Device) -> Result<(), AllocError> {
-    *device = model.copy()?;
+    put(device, model.copy())
+}
+
+/// What could be made takes the place of another.
+fn put<T: Drop, E: Drop>(place: &mut T, made: Result<T, E>) -> Result<(), E> {
+    *place = made?;
     Ok(())
 }
 
 /// The target takes all that the source has for it.
 pub fn sync(target: &mut Device, source: &mut Device) -> Result<(), Refusal> {
-    let stream = source.answer(target.pull()?)?;
+    let stream = ask(target, source)?;
     for _ in 0..MOST_RECORDS {
         if pass(target, source, stream)? == Received::Finished {
             break;
         }
     }
     Ok(())
+}
+
+/// The source opens a stream for the target. Gives its number.
+pub fn ask(target: &mut Device, source: &mut Device) -> Result<u64, Refusal> {
+    source.answer(target.pull()?)
 }
 
 /// The target takes the stream's next record.
@@ -47,16 +72,17 @@ pub fn pass(target: &mut Device, source: &mut Device, stream: u64) -> Result<Rec
 
 /// Whether two replicas answer alike whatever is asked of them.
 pub fn are_alike(a: &Device, b: &Device) -> Result<bool> {
-    Ok(
-        a.knowledge() == b.knowledge()
-            && a.log().len() == b.log().len()
-            && a.is_retired() == b.is_retired()
-            && are_same(a.heads(), b.heads())
-            && are_same(a.push_outs(), b.push_outs())
-            && tell_alike(a.feed(), b.feed())
-            && are_open_alike(a, b)?
-            && a.conflicts()? == b.conflicts()?,
-    )
+    Ok(hold_alike(a, b) && are_open_alike(a, b)? && same(a.conflicts(), b.conflicts())?)
+}
+
+/// Whether they know, hold and tell the same, and have logs of one length.
+fn hold_alike(a: &Device, b: &Device) -> bool {
+    a.knowledge() == b.knowledge()
+        && a.log().len() == b.log().len()
+        && a.is_retired() == b.is_retired()
+        && are_same(a.heads(), b.heads())
+        && are_same(a.push_outs(), b.push_outs())
+        && tell_alike(a.feed(), b.feed())
 }
 
 /// Whether the revisions are the same.
@@ -80,6 +106,16 @@ fn tell_alike(a: &[Entry], b: &[Entry]) -> bool {
 }
 
 /// Whether the same sessions and streams are open.
-fn are_open_alike(a: &Device, b: &Device) -> Result<bool> {
-    Ok(a.open_sessions()? == b.open_sessions()? && a.open_streams()? == b.open_streams()?)
+fn are_open_alike(a: &Device, b: &Device) -> Result<bool, AllocError> {
+    Ok(same(a.open_sessions(), b.open_sessions())? && same(a.open_streams(), b.open_streams())?)
+}
+
+/// Whether two values that could be made are the same.
+pub fn same<T: PartialEq + Drop, E: Drop>(a: Result<T, E>, b: Result<T, E>) -> Result<bool, E> {
+    Ok(a? == b?)
+}
+
+/// Two values that could be made.
+pub fn both<A: Drop, B: Drop>(a: Result<A>, b: Result<B>) -> Result<(A, B)> {
+    Ok((a?, b?))
 }

@@ -1,10 +1,10 @@
 //! What hostile frames that are taken can do, which the page on threats tells: two facts.
-use crate::cast::{Device, sync};
-use crate::story::message;
+use crate::cast::{Device, ask, sync};
+use crate::frames::read;
+use crate::story::create;
 use anyhow::{Result, ensure};
 use mr_replica::Refusal;
 use mr_version::ItemId;
-use mr_wire::decode;
 use std::alloc::Global;
 
 /// Replica 2 says to replica 1, for its session 1: the start of a full stream.
@@ -37,24 +37,24 @@ pub fn show_all(
 /// Eight requests of a stranger fill the streams: a friend is refused then, until one of them is cut.
 fn fill_streams(office: &mut Device, friend: &mut Device, stranger: &mut Device) -> Result<()> {
     for _ in 0..8 {
-        office.answer(stranger.pull()?)?;
+        ask(stranger, office)?;
     }
-    let ninth = office.answer(friend.pull()?);
+    let ninth = ask(friend, office);
     ensure!(
         ninth == Err(Refusal::TooManyStreams),
         "a ninth stream is answered by {ninth:?}"
     );
     office.cut_out(3)?;
-    office.answer(friend.pull()?)?;
+    ask(friend, office)?;
     Ok(())
 }
 
 /// A Know can teach what nobody issued: once the version of that name is issued, it is never taken.
 fn teach(alloc: Global, friend: &mut Device, stranger: &mut Device) -> Result<()> {
-    for lie in [&START[..], &KNOW[..], &END[..]] {
-        lie_to(alloc, friend, lie)?;
-    }
-    let version = stranger.create(message(alloc, "inbox")?)?;
+    lie_to(alloc, friend, &START)?;
+    lie_to(alloc, friend, &KNOW)?;
+    lie_to(alloc, friend, &END)?;
+    let version = create(alloc, stranger, "inbox")?;
     ensure!(
         friend.knows(ItemId::new(version), version),
         "the lie was not believed"
@@ -69,7 +69,6 @@ fn teach(alloc: Global, friend: &mut Device, stranger: &mut Device) -> Result<()
 
 /// The replica takes the frame that the bytes spell.
 fn lie_to(alloc: Global, friend: &mut Device, bytes: &[u8]) -> Result<()> {
-    let (frame, _) = decode(alloc, bytes)?;
-    friend.receive(frame)?;
+    friend.receive(read(alloc, bytes)?)?;
     Ok(())
 }

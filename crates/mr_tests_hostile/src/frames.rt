@@ -78,15 +78,48 @@ fn low(numbers: &mut Numbers) -> u8 {
 
 /// Whether the frame at the front of the bytes is spelled as it was read, but for the number of its format.
 pub fn is_spelled_alike(alloc: Global, bytes: &[u8]) -> Result<bool, WireFault> {
-    let (frame, used) = decode(alloc, bytes)?;
-    is_spelling(alloc, &bytes[..used], &frame)
+    let mut again = Vec::new(alloc);
+    let used = add_first(alloc, bytes, &mut again)?;
+    let read = bytes.get(..used).unwrap_or(&[]);
+    let format = read.get(LENGTH_BYTES..KIND_PLACE).unwrap_or(&[]);
+    put(&mut again, LENGTH_BYTES, format);
+    Ok(again.as_slice() == read)
 }
 
-/// Whether the bytes are those of the frame, but for the number of the format.
-fn is_spelling(alloc: Global, bytes: &[u8], frame: &Frame) -> Result<bool, WireFault> {
-    let again = encode(alloc, frame)?;
-    Ok(
-        again.get(..LENGTH_BYTES) == bytes.get(..LENGTH_BYTES)
-            && again.get(KIND_PLACE..) == bytes.get(KIND_PLACE..),
-    )
+/// The frame at the front of the bytes.
+pub fn read(alloc: Global, bytes: &[u8]) -> Result<Frame, WireFault> {
+    first(decode(alloc, bytes))
+}
+
+/// The first of two that could be made.
+fn first<A: Drop, B: Drop, E: Drop>(made: Result<(A, B), E>) -> Result<A, E> {
+    let (first, _) = made?;
+    Ok(first)
+}
+
+/// Puts the spelling of the frame at the front of the bytes behind others. Gives how many bytes that was read from.
+pub fn add_first(alloc: Global, bytes: &[u8], out: &mut Vec<u8>) -> Result<usize, WireFault> {
+    add_read(alloc, &decode(alloc, bytes), out)
+}
+
+/// Puts the spelling of a frame that could be read behind others. Gives how many bytes it was read from.
+fn add_read(
+    alloc: Global,
+    read: &Result<(Frame, usize), WireFault>,
+    out: &mut Vec<u8>,
+) -> Result<usize, WireFault> {
+    match read {
+        Ok((frame, used)) => {
+            add(alloc, frame, out)?;
+            Ok(*used)
+        }
+        Err(fault) => Err(*fault),
+    }
+}
+
+/// Puts the spelling of a frame behind others.
+pub fn add(alloc: Global, frame: &Frame, out: &mut Vec<u8>) -> Result<(), WireFault> {
+    let bytes = encode(alloc, frame)?;
+    out.extend_from_slice(&bytes)?;
+    Ok(())
 }

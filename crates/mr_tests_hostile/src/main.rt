@@ -20,13 +20,14 @@ mod tally;
 mod tell;
 
 use anyhow::{Result, bail};
-use cast::add;
+use cast::{Device, new_devices};
+use mr_wire::WireFault;
 use numbers::Numbers;
 use std::process::ExitCode;
 use std::rt::Env;
 use std::{env, io};
 use steps::Trial;
-use story::{PHONE_FILTER, frames_of};
+use story::{PHONE_FILTER, add_frames};
 use tally::Tally;
 use tell::tell_all;
 
@@ -51,8 +52,14 @@ struct Course {
 
 /// Does what the command line says.
 fn run<R: Env + Print + AllocGlobal>(rt: &R) -> Result<()> {
+    let course = asked(rt)?;
+    play(rt, course)
+}
+
+/// What the command line says.
+fn asked<R: Env + AllocGlobal>(rt: &R) -> Result<Course> {
     let words: Vec<String> = env::args(rt)?.collect(rt.alloc())?;
-    play(rt, course_of(&words)?)
+    course_of(&words)
 }
 
 /// The course of these words.
@@ -84,11 +91,13 @@ const CAST: [(u16, &str); 8] = [
 
 /// Shows the facts, and tries what is made of the story.
 fn play<R: Print + AllocGlobal>(rt: &R, course: Course) -> Result<()> {
-    let mut devices = Vec::new(rt.alloc());
-    for (id, filter) in &CAST {
-        add(rt.alloc(), &mut devices, *id, filter)?;
-    }
-    match devices.as_mut_slice() {
+    let mut devices = new_devices(rt.alloc(), &CAST)?;
+    play_with(rt, &mut devices, course)
+}
+
+/// Does so with these replicas.
+fn play_with<R: Print + AllocGlobal>(rt: &R, devices: &mut [Device], course: Course) -> Result<()> {
+    match devices {
         [office, phone, probe, before, tried, host, friend, stranger] => {
             facts::show_all(rt.alloc(), host, friend, stranger)?;
             let mut trial = Trial {
@@ -108,10 +117,16 @@ fn play<R: Print + AllocGlobal>(rt: &R, course: Course) -> Result<()> {
 /// Plays the story of a trial, and takes the frames that are left of it.
 fn play_on<R: Print + AllocGlobal>(rt: &R, trial: &mut Trial<'_>, course: Course) -> Result<()> {
     story::play(trial.alloc, trial.office, trial.phone)?;
-    let mut samples = Vec::new(trial.alloc);
-    frames_of(trial.alloc, trial.office.log(), &mut samples)?;
-    frames_of(trial.alloc, trial.phone.log(), &mut samples)?;
+    let samples = samples_of(trial)?;
     try_all(rt, trial, &samples, course)
+}
+
+/// The right frames that the story left.
+fn samples_of(trial: &Trial<'_>) -> Result<Vec<Vec<u8>>, WireFault> {
+    let mut samples = Vec::new(trial.alloc);
+    add_frames(trial.alloc, trial.office.log(), &mut samples)?;
+    add_frames(trial.alloc, trial.phone.log(), &mut samples)?;
+    Ok(samples)
 }
 
 /// Tries, or tells, what is made of the right frames.

@@ -1,13 +1,13 @@
 //! Steps: a replica with content is given hostile frames. It refuses each for a named reason and then answers all as
 //! before, or takes it and notes it in its log.
-use crate::cast::{Device, are_alike, renew};
-use crate::frames::{KIND_PLACE, RECEIPT, REQUEST, is_spelled_alike, make_frame};
+use crate::cast::{Device, are_alike, renew, same};
+use crate::frames::{KIND_PLACE, RECEIPT, REQUEST, is_spelled_alike, make_frame, read};
 use crate::numbers::Numbers;
 use crate::story::{frames_of, sync_both};
 use crate::tally::Tally;
 use anyhow::{Context, Result, bail, ensure};
 use mr_replica::{Event, Refusal};
-use mr_wire::{Frame, WireFault, decode};
+use mr_wire::{Frame, WireFault};
 use std::alloc::{AllocError, Global};
 
 /// How many frames the probe is given, before it begins anew.
@@ -82,20 +82,31 @@ impl Trial<'_> {
         count: u64,
     ) -> Result<Met> {
         renew(self.tried, self.phone)?;
+        let mut bytes = Vec::new(self.alloc);
+        self.try_many(samples, numbers, count, &mut bytes)
+    }
+
+    /// Does so with this room for a frame.
+    fn try_many(
+        &mut self,
+        samples: &[Vec<u8>],
+        numbers: &mut Numbers,
+        count: u64,
+        bytes: &mut Vec<u8>,
+    ) -> Result<Met> {
         let mut met = Met {
             reads: Tally::new(),
             steps: Tally::new(),
             refused: 0,
             is_fresh: true,
         };
-        let mut bytes = Vec::new(self.alloc);
         for number in 0..count {
             if number % ROUND == 0 {
                 self.begin(&mut met)?;
             }
-            make_frame(samples, numbers, &mut bytes)?;
+            make_frame(samples, numbers, bytes)?;
             let hostile = Hostile {
-                bytes: &bytes,
+                bytes: bytes.as_slice(),
                 is_as_record: numbers.is_once_in(20),
             };
             self.try_one(&hostile, &mut met)
@@ -121,11 +132,8 @@ impl Trial<'_> {
             are_alike(self.phone, self.tried)? && are_alike(self.office, self.probe)?,
             "a sync behind refused frames comes to something else"
         );
-        let (mut said, mut other) = (Vec::new(self.alloc), Vec::new(self.alloc));
-        frames_of(self.alloc, self.phone.log(), &mut said)?;
-        frames_of(self.alloc, self.tried.log(), &mut other)?;
         ensure!(
-            said == other,
+            say_alike(self.alloc, self.phone, self.tried)?,
             "a sync behind refused frames says something else"
         );
         Ok(())
@@ -214,18 +222,25 @@ fn give(
     device: &mut Device,
     hostile: &Hostile<'_>,
 ) -> Result<Option<Refusal>, WireFault> {
-    let (frame, _) = decode(alloc, hostile.bytes)?;
-    Ok(device.step(event_of(frame, hostile.is_as_record)).err())
+    let frame = read(alloc, hostile.bytes)?;
+    Ok(step(device, event_of(frame, hostile.is_as_record)))
+}
+
+/// Asks a replica for this. Gives its refusal, if it refuses it.
+fn step(device: &mut Device, event: Event) -> Option<Refusal> {
+    device.step(event).err()
 }
 
 /// The event by which a host gives a frame to a replica.
 fn event_of(frame: Frame, is_as_record: bool) -> Event {
-    if is_as_record {
-        return Event::Receive(frame);
-    }
     match frame {
-        Frame::Ask(ask) => Event::Answer(ask),
-        Frame::Receipt(receipt) => Event::Release(receipt),
-        Frame::Record(record) => Event::Receive(Frame::Record(record)),
+        Frame::Ask(ask) if !is_as_record => Event::Answer(ask),
+        Frame::Receipt(receipt) if !is_as_record => Event::Release(receipt),
+        frame => Event::Receive(frame),
     }
+}
+
+/// Whether the same frames are in the logs of both.
+fn say_alike(alloc: Global, a: &Device, b: &Device) -> Result<bool, WireFault> {
+    same(frames_of(alloc, a.log()), frames_of(alloc, b.log()))
 }

@@ -1,5 +1,5 @@
 //! A story of two replicas, and the right frames that it leaves, of which hostile ones are made.
-use crate::cast::{Device, pass, sync};
+use crate::cast::{Device, ask, both, pass, sync};
 use anyhow::{Context, Result};
 use mr_mail::{Day, Message};
 use mr_replica::{Bases, Event, Refusal};
@@ -22,19 +22,38 @@ pub fn play(alloc: Global, office: &mut Device, phone: &mut Device) -> Result<()
 }
 
 /// A message under one label.
-pub fn message(alloc: Global, label: &str) -> Result<Message> {
+fn message(alloc: Global, label: &str) -> Result<Message> {
     let day = Day::read("2026-01-05")?;
-    let from = String::from_str(alloc, "ann")?;
-    let subject = String::from_str(alloc, "Hi")?;
-    let body = String::from_str(alloc, "See you there.")?.into_bytes();
-    let labels = vec![in alloc; String::from_str(alloc, label)?]?;
-    Ok(Message::try_new(alloc, from, subject, body, labels, 1, day)?)
+    let head = both(text(alloc, "ann"), text(alloc, "Hi"));
+    let rest = both(
+        text(alloc, "See you there."),
+        one(alloc, text(alloc, label)),
+    );
+    let ((from, subject), (body, labels)) = both(head, rest)?;
+    Message::try_new(alloc, from, subject, body.into_bytes(), labels, 1, day).context("a message")
+}
+
+/// A text.
+fn text(alloc: Global, text: &str) -> Result<String> {
+    Ok(String::from_str(alloc, text)?)
+}
+
+/// A list of this alone.
+fn one<T: Drop>(alloc: Global, item: Result<T>) -> Result<Vec<T>> {
+    let mut list = Vec::new(alloc);
+    list.push(item?)?;
+    Ok(list)
+}
+
+/// The replica makes a message under this label. Gives its version.
+pub fn create(alloc: Global, device: &mut Device, label: &str) -> Result<Version> {
+    Ok(device.create(message(alloc, label)?)?)
 }
 
 /// The replica puts a new version in the place of another.
 fn edit(alloc: Global, device: &mut Device, base: Version, label: &str) -> Result<()> {
-    let bases = Bases::new(vec![in alloc; base]?);
-    device.edit(bases, message(alloc, label)?)?;
+    let (bases, message) = both(one(alloc, Ok(base)), message(alloc, label))?;
+    device.edit(Bases::new(bases), message)?;
     Ok(())
 }
 
@@ -46,11 +65,11 @@ fn head(device: &Device, place: usize) -> Result<Version> {
 
 /// Some mail on both, of which the phone keeps a part for the office alone.
 fn write(alloc: Global, office: &mut Device, phone: &mut Device) -> Result<()> {
-    for label in ["inbox", "work", "archive", "inbox"] {
-        office.create(message(alloc, label)?)?;
+    for label in &["inbox", "work", "archive", "inbox"] {
+        create(alloc, office, label)?;
     }
-    phone.create(message(alloc, "inbox")?)?;
-    phone.create(message(alloc, "archive")?)?;
+    create(alloc, phone, "inbox")?;
+    create(alloc, phone, "archive")?;
     Ok(())
 }
 
@@ -73,35 +92,56 @@ pub fn sync_both(office: &mut Device, phone: &mut Device) -> Result<(), Refusal>
 fn let_go(alloc: Global, office: &mut Device, phone: &mut Device) -> Result<()> {
     let kept = phone.push_outs().first().context("the phone keeps none")?;
     let kept = kept.version();
-    phone.release(office.vouch(kept)?)?;
-    phone.create(message(alloc, "archive")?)?;
-    office.create(message(alloc, "inbox")?)?;
+    redeem(phone, office, kept)?;
+    create(alloc, phone, "archive")?;
+    create(alloc, office, "inbox")?;
     Ok(())
+}
+
+/// The phone lets go of what the office vouches for.
+fn redeem(phone: &mut Device, office: &mut Device, kept: Version) -> Result<(), Refusal> {
+    phone.release(office.vouch(kept)?)
 }
 
 /// Sessions and streams are opened, cut and left open.
 fn open(office: &mut Device, phone: &mut Device) -> Result<(), Refusal> {
-    let stream = office.answer(phone.pull()?)?;
+    let stream = ask(phone, office)?;
     pass(phone, office, stream)?;
     pass(phone, office, stream)?;
     for _ in 0..3 {
         phone.pull()?;
     }
     phone.cut_in(5)?;
-    phone.answer(office.pull()?)?;
-    let cut = phone.answer(office.pull()?)?;
+    ask(office, phone)?;
+    let cut = ask(office, phone)?;
     phone.cut_out(cut)
 }
 
 /// The frames that are in a log: those that a replica took, and the requests that it answered.
-pub fn frames_of(alloc: Global, log: &[Event], frames: &mut Vec<Vec<u8>>) -> Result<(), WireFault> {
+pub fn frames_of(alloc: Global, log: &[Event]) -> Result<Vec<Vec<u8>>, WireFault> {
+    let mut frames = Vec::new(alloc);
+    add_frames(alloc, log, &mut frames)?;
+    Ok(frames)
+}
+
+/// Puts the frames that are in a log behind others.
+pub fn add_frames(
+    alloc: Global,
+    log: &[Event],
+    frames: &mut Vec<Vec<u8>>,
+) -> Result<(), WireFault> {
     for event in log {
         match event {
-            Event::Receive(frame) => frames.push(encode(alloc, frame)?)?,
-            Event::Answer(ask) => frames.push(encode_ask(alloc, ask)?)?,
-            Event::Release(receipt) => frames.push(encode_receipt(alloc, receipt)?)?,
+            Event::Receive(frame) => push(frames, encode(alloc, frame))?,
+            Event::Answer(ask) => push(frames, encode_ask(alloc, ask))?,
+            Event::Release(receipt) => push(frames, encode_receipt(alloc, receipt))?,
             _ => {}
         }
     }
     Ok(())
+}
+
+/// Puts what could be made behind others.
+fn push<T: Drop>(list: &mut Vec<T>, made: Result<T, WireFault>) -> Result<(), WireFault> {
+    Ok(list.push(made?)?)
 }

@@ -1,11 +1,11 @@
 //! Streams: however one is cut, its reader gives the frames that its bytes spell, up to their first fault.
 use crate::bytes::pick;
-use crate::frames::make_frame;
+use crate::frames::{add, add_first, make_frame};
 use crate::numbers::Numbers;
 use crate::tally::Tally;
 use anyhow::{Context, Result, bail, ensure};
 use mr_frames::{FrameFault, FrameReader};
-use mr_wire::{Frame, WireFault, decode, encode};
+use mr_wire::{Frame, WireFault};
 use std::alloc::{AllocError, Global};
 
 /// The most frames of a stream.
@@ -71,14 +71,26 @@ impl Room {
 
 /// Reads one stream in both ways, and gives how it ended.
 fn try_one(alloc: Global, bytes: &[u8], numbers: &mut Numbers) -> Result<WireFault> {
-    let (mut whole, mut pieces) = (Vec::new(alloc), Vec::new(alloc));
+    let mut whole = Vec::new(alloc);
     let fault = read_whole(alloc, bytes, &mut whole);
-    let other = read_pieces(alloc, bytes, numbers, &mut pieces)?;
     ensure!(
-        fault == other && whole == pieces,
+        is_read_so(alloc, bytes, numbers, fault, &whole)?,
         "a stream in pieces gives something else than as a whole: {bytes:?}"
     );
     Ok(fault)
+}
+
+/// Whether a stream in pieces gives these frames, and ends with this fault.
+fn is_read_so(
+    alloc: Global,
+    bytes: &[u8],
+    numbers: &mut Numbers,
+    fault: WireFault,
+    frames: &[u8],
+) -> Result<bool> {
+    let mut pieces = Vec::new(alloc);
+    let other = read_pieces(alloc, bytes, numbers, &mut pieces)?;
+    Ok(fault == other && pieces.as_slice() == frames)
 }
 
 /// Puts the spellings of the frames that the bytes have behind one another, up to the fault that it gives.
@@ -91,20 +103,6 @@ fn read_whole(alloc: Global, bytes: &[u8], out: &mut Vec<u8>) -> WireFault {
         }
     }
     WireFault::Truncated
-}
-
-/// Puts the spelling of the frame at the front of the bytes behind others. Gives how many bytes that was read from.
-fn add_first(alloc: Global, bytes: &[u8], out: &mut Vec<u8>) -> Result<usize, WireFault> {
-    let (frame, used) = decode(alloc, bytes)?;
-    add(alloc, &frame, out)?;
-    Ok(used)
-}
-
-/// Puts the spelling of a frame behind others.
-fn add(alloc: Global, frame: &Frame, out: &mut Vec<u8>) -> Result<(), WireFault> {
-    let bytes = encode(alloc, frame)?;
-    out.extend_from_slice(&bytes)?;
-    Ok(())
 }
 
 /// As `read_whole`, by a reader to which the bytes come in random pieces. Fails where it goes on behind a fault, or tells
@@ -170,11 +168,21 @@ fn add_next(
     reader: &mut FrameReader,
     out: &mut Vec<u8>,
 ) -> Result<bool, FrameFault> {
-    match reader.next_frame()? {
-        Some(frame) => {
-            add(alloc, &frame, out)?;
+    add_given(alloc, &reader.next_frame(), out)
+}
+
+/// Puts the spelling of what a reader gave behind others. Gives whether that is a frame.
+fn add_given(
+    alloc: Global,
+    given: &Result<Option<Frame>, FrameFault>,
+    out: &mut Vec<u8>,
+) -> Result<bool, FrameFault> {
+    match given {
+        Ok(Some(frame)) => {
+            add(alloc, frame, out)?;
             Ok(true)
         }
-        None => Ok(false),
+        Ok(None) => Ok(false),
+        Err(fault) => Err(*fault),
     }
 }

@@ -34,13 +34,13 @@ fn tell<R: Print + AllocGlobal>(rt: &R, bytes: &[u8]) -> io::Result<()> {
 }
 
 fn decode_once(alloc: Global, bytes: &[u8]) {
-    let _ = decode(alloc, bytes);
+    drop(decode(alloc, bytes));
 }
 
 /// A reader is fed the bytes, and gives what it can.
 fn read_once(alloc: Global, bytes: &[u8]) {
     let mut reader = FrameReader::new(alloc);
     if reader.feed(bytes).is_ok() {
-        let _ = reader.next_frame();
+        drop(reader.next_frame());
     }
 }
