@@ -7,6 +7,7 @@ ghost use Rattle.mr_concise.specs.Fragments.{IsConciseOf, IsTooHoley, items_text
 
 use crate::column::Column;
 use crate::source::OfSet;
+use crate::sweep::would_have_too_many;
 use crate::vector::{AuthorColumn, ConciseVector, place, put};
 use mr_forms::{FormFault, Fragment, ItemSet, Run, VersionSet};
 use std::alloc::{AllocError, Global};
@@ -82,7 +83,9 @@ impl ConciseVector {
     {
         match columns_of_set(alloc, set) {
             Ok(Some(columns)) => Ok(ConciseVector { alloc, columns }),
-            _ => ConciseVector::gather(alloc, &OfSet { set }),
+            Ok(None) => ConciseVector::gather(alloc, &OfSet { set }),
+            Err(_) if would_have_too_many(&OfSet { set }) => Err(FormFault::TooManyHoles),
+            Err(_) => Err(FormFault::OutOfMemory),
         }
     }
 }
