@@ -2,6 +2,7 @@ use Rattle.std.proofs.Common.{inl, inr, ◌⊎◌, ◌≡◌, ◌<◌, ◌≤◌
 use Rattle.std.specs.Prelude.{if◌then◌else◌}
 use Rattle.std.proofs.lemmas.Bool.{cases_lt, cases_eq, true≢false, lt-ltb, le-ltb, le-leb, or_left, or_right}
 use Rattle.mr_version.specs.declared.version.TheConstants.{MAX_COUNTER}
+use Rattle.mr_forms.proofs.SetLemmas.{or_comm}
 use Rattle.mr_concise.specs.Edges.{is_on, IsRising}
 use Rattle.mr_concise.specs.declared.column.Hole.{Hole}
 use Rattle.mr_concise.specs.Column.{Extent, hole_edges, edges, column_has}
@@ -136,11 +137,5 @@ pub IsColumnOf-swap : (a b column : Extent) → IsColumnOf (has_one b a) column 
 IsColumnOf-swap a b column is = record {
   apart = is.apart;
   in_range = is.in_range;
-  means = λ c. is.means c ∙ swap (column_has b c) (column_has a c);
+  means = λ c. is.means c ∙ or_comm (column_has b c) (column_has a c);
 }
-  where
-    swap : (x y : Bool) → (x || y) ≡ (y || x)
-    swap true true = refl
-    swap true false = refl
-    swap false true = refl
-    swap false false = refl

@@ -18,8 +18,7 @@ use std::fmt;
 fn append_run(columns: &mut Vec<AuthorColumn>, alloc: Global, run: Run) -> Result<bool, AllocError>
     requires columns { IsVectorFrom 0 columns.old.items }
     requires behind { (column_of columns.old.items run.author).upto < run.first }
-    ensures columns { IfOk result (λ done. done ≡ true → IsVectorFrom 0 columns.new.items) }
-    ensures united { IfOk result (λ done. done ≡ true → IsSame (vector_has columns.new.items) (with_run (vector_has columns.old.items) run)) }
+    ensures { IfOk result (λ done. done ≡ true → IsVectorFrom 0 columns.new.items × IsSame (vector_has columns.new.items) (with_run (vector_has columns.old.items) run)) }
 {
     let at = place(columns, run.author);
     if at < columns.len() && columns[at].author.id() == run.author.id() {

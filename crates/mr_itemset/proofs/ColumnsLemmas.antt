@@ -3,6 +3,7 @@ use Rattle.std.proofs.lemmas.Bool.Decides.{nat_tests}
 use Rattle.std.specs.List.{list_any}
 use Rattle.std.specs.Prelude.{not}
 use Rattle.std.proofs.lemmas.Bool.{cases_Bool, cases_lt, cases_eq, le-leb, lt-leb, lt-ltb, le-ltb, eq-eqb, ne_eqb}
+use Rattle.mr_forms.proofs.SetLemmas.{or_comm}
 use Rattle.mr_version.specs.declared.version.TheConstants.{MAX_COUNTER}
 use Rattle.mr_forms.specs.Sets.{IsSame, both}
 use Rattle.mr_concise.specs.declared.column.TheConstants.{MAX_HOLES}
@@ -244,13 +245,7 @@ pub united-vector : (a b : List AuthorColumn) → IsVectorFrom 0 a → IsVectorF
 united-vector a b va vb fits = (united-is 0 a b va vb fits).0
 
 pub united-has : (a b : List AuthorColumn) → IsVectorFrom 0 a → IsVectorFrom 0 b → Fits a b → IsSame (vector_has (united a b)) (both (vector_has b) (vector_has a))
-united-has a b va vb fits v = ((united-is 0 a b va vb fits).1 v.author).0 v.counter ∙ swap (column_has (column_of a v.author) v.counter) (column_has (column_of b v.author) v.counter)
-  where
-    swap : (x y : Bool) → (x || y) ≡ (y || x)
-    swap true true = refl
-    swap true false = refl
-    swap false true = refl
-    swap false false = refl
+united-has a b va vb fits v = ((united-is 0 a b va vb fits).1 v.author).0 v.counter ∙ or_comm (column_has (column_of a v.author) v.counter) (column_has (column_of b v.author) v.counter)
 
 pub united-holes : (a b : List AuthorColumn) (q : ℕ) → IsVectorFrom 0 a → IsVectorFrom 0 b → Fits a b → length (column_of (united a b) q).holes ≤ length (column_of a q).holes + length (column_of b q).holes
 united-holes a b q va vb fits = ((united-is 0 a b va vb fits).1 q).1
