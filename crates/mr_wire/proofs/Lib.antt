@@ -10,6 +10,7 @@ pub mod ItemLemmas
 pub mod DescentLemmas
 pub mod BodyLemmas
 pub mod FrameLaws
+pub mod PrefixLaws
 pub mod DecodeLaws
 pub mod PutLemmas
 pub mod LengthLemmas

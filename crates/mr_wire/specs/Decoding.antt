@@ -1,34 +1,18 @@
 -- what stands at the front of some bytes, or the first thing that is wrong with them
-use Rattle.std.specs.Prelude.{◌≡◌, ◌+◌, ℕ, ◌==◌, ◌||◌, nat_lt, if◌then◌else◌, List, [], ◌∷◌, length, Option, Some, None, Result, Ok, Err, IsOk, IfSome}
-use Rattle.std.specs.Int.{w32}
-use Rattle.mr_wire.specs.declared.decoding.TheConstants.{MAX_REST_BYTES}
+use Rattle.std.specs.Prelude.{◌≡◌, ◌+◌, ℕ, ◌==◌, ◌||◌, if◌then◌else◌, List, [], ◌∷◌, length, Option, Some, None, Result, Ok, Err, IsOk, IfSome}
 use Rattle.mr_wire.specs.declared.fault.WireFault.{WireFault}
 use Rattle.mr_wire.specs.declared.fault.WireFault.TheVariants.{OutOfMemory, Truncated, TooLong, BadFormat, BadKind, BadBody}
 use Rattle.mr_wire.specs.declared.frame.Frame.{Frame}
 use Rattle.mr_wire.specs.declared.kind.Kind.{Kind}
 use Rattle.mr_wire.specs.Kinds.{kind_of_byte}
-use Rattle.mr_wire.specs.Reading.{◌>>=◌, number_at, bytes_at}
+use Rattle.mr_wire.specs.Reading.{◌>>=◌}
 use Rattle.mr_wire.specs.FrameParts.{frame_at}
+use Rattle.mr_wire.specs.Prefixed.{RestFaults, rest_of, whole_at}
+pub use Rattle.mr_wire.specs.Prefixed.{or_fault, and_then}
 
--- the value, or the fault where there is none
-abbrev pub or_fault : {X : Type 0} → WireFault → Option X → Result X WireFault
-or_fault fault None = Err fault
-or_fault fault (Some x) = Ok x
-
-abbrev pub and_then : {X Y : Type 0} → Result X WireFault → (X → Result Y WireFault) → Result Y WireFault
-and_then (Ok x) f = f x
-and_then (Err fault) f = Err fault
-
--- so many bytes behind a length
-abbrev pub rest_from : ℕ × List ℕ → Result (List ℕ) WireFault
-rest_from len =
-    if nat_lt MAX_REST_BYTES len.0 then Err TooLong
-    else (if nat_lt len.0 2 then Err BadBody
-    else or_fault Truncated (bytes_at len.0 len.1 >>= λ found. Some found.0))
-
--- what stands behind the length of the first frame
-abbrev pub rest_of : List ℕ → Result (List ℕ) WireFault
-rest_of bytes = and_then (or_fault Truncated (number_at w32 bytes)) rest_from
+-- the faults of what stands behind the length
+abbrev pub rest_faults : RestFaults WireFault
+rest_faults = record { truncated = Truncated; too_long = TooLong; bad_body = BadBody }
 
 -- the kind, and what stands behind it
 abbrev pub kind_and_parts : List ℕ → Result (Kind × List ℕ) WireFault
@@ -39,12 +23,12 @@ kind_and_parts (format ∷ byte ∷ parts) =
 
 -- the frame of this kind that the bytes are, all of them
 abbrev pub whole_frame : Kind → List ℕ → Option Frame
-whole_frame kind parts = frame_at kind parts >>= λ found. if length found.1 == 0 then Some found.0 else None
+whole_frame kind parts = whole_at (frame_at kind) parts
 
 -- the first frame, and how many bytes it takes
 abbrev pub decoded : List ℕ → Result (Frame × ℕ) WireFault
 decoded bytes =
-    and_then (rest_of bytes) (λ rest. and_then (kind_and_parts rest) (λ head. or_fault BadBody (whole_frame head.0 head.1 >>= λ f. Some (f, length rest + 4))))
+    and_then (rest_of rest_faults bytes) (λ rest. and_then (kind_and_parts rest) (λ head. or_fault BadBody (whole_frame head.0 head.1 >>= λ f. Some (f, length rest + 4))))
 
 -- What is answered is what was decoded. Memory is wanting only where there is a frame.
 abbrev pub Answers : {X : Type 0} → Result X WireFault → Result X WireFault → Type 0

@@ -12,6 +12,7 @@ pub mod FrameParts
 pub mod Bodies
 pub mod FrameSpelling
 pub mod Grammar
+pub mod Prefixed
 pub mod Decoding
 pub mod Rests
 pub mod Encoding
