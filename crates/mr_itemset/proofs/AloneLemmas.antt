@@ -1,42 +1,52 @@
--- A version that is learned for its item alone, with a set below it.
-use Rattle.std.proofs.Common.{ℕ, ◌≡◌, ◌≢◌, ◌||◌, ◌&&◌, Bool, true, false, IsErrOf, Result, Err, refl, inl, inr, ◌↔◌}
+-- A version that is learned for its item alone, with a set below it: the version first, and then both.
+use Rattle.std.proofs.Common.{ℕ, ◌≡◌, ◌≢◌, ◌||◌, ◌&&◌, Bool, true, false, IsErrOf, IsErrAnd, Result, Ok, Err, refl, subst, inl, inr, ◌↔◌, ◌∙◌}
+use Rattle.std.proofs.lemmas.Result.{err_from_is_err_and}
 use Rattle.mr_version.specs.Name.{Name, name_eq}
 use Rattle.mr_forms.specs.Sets.{Versions, both}
-use Rattle.mr_forms.specs.Known.{Pairs, IsOnlyOverItems, IsOverHolesInTurn, IsOverItemsInTurn, with_below, with_learned_below}
+use Rattle.mr_forms.specs.Known.{Pairs, AreSame, HasValue, IsOnlyOverItems, IsOverHolesInTurn, IsOverItemsInTurn, with_below, with_learned, with_learned_below}
 use Rattle.mr_forms.specs.declared.fault.FormFault.{FormFault}
 use Rattle.mr_forms.specs.declared.fault.FormFault.TheVariants as fault
-use Rattle.mr_itemset.specs.ItemForm.{items_form, HasHoleyItem, ListsTooMany, with_all}
+use Rattle.mr_itemset.specs.ItemForm.{items_form, HasHoleyItem}
 use Rattle.mr_itemset.proofs.FoldedLemmas.{same_pairs}
-use Rattle.mr_itemset.proofs.RefusalLemmas.{refuses_otherwise}
+use Rattle.mr_itemset.proofs.RefusalLemmas.{passed, refuses_otherwise}
 
 split_or : (a s n o : Bool) → ((a && (s || n)) || o) ≡ ((a && s) || ((a && n) || o))
 split_or true true n o = refl
 split_or true false n o = refl
 split_or false s n o = refl
 
-pub alone_twice : (old : Pairs) (item version : Name) (set : Versions) → with_below old item (both set (name_eq version)) ≡ with_learned_below false old item version set
-alone_twice old item version set = same_pairs (with_below old item (both set (name_eq version))) (with_learned_below false old item version set) (λ i v. split_or (name_eq item i) (set v) (name_eq version v) (old i v))
+-- a version and a set, for the item alone, as one set
+abbrev pub together : Pairs → Name → Name → Versions → Pairs
+together old item version set = with_below old item (both set (name_eq version))
 
-assoc_or : (a b c : Bool) → ((a || b) || c) ≡ (b || (a || c))
-assoc_or true true c = refl
-assoc_or true false c = refl
-assoc_or false b c = refl
+module _ (old : Pairs) (item version : Name) (set : Versions) where
+  alone_twice : together old item version set ≡ with_learned_below false old item version set
+  alone_twice = same_pairs (together old item version set) (with_learned_below false old item version set) (λ i v. split_or (name_eq item i) (set v) (name_eq version v) (old i v))
 
-pub both_twice : (old : Pairs) (version first : Name) → with_all old (both (name_eq version) (name_eq first)) ≡ (λ i v. name_eq first v || (name_eq version v || old i v))
-both_twice old version first = same_pairs (with_all old (both (name_eq version) (name_eq first))) (λ i v. name_eq first v || (name_eq version v || old i v)) (λ i v. assoc_or (name_eq version v) (name_eq first v) (old i v))
+  pub alone_known : {new : Pairs} → AreSame new (together old item version set) → AreSame new (with_learned_below false old item version set)
+  alone_known same i v = same i v ∙ split_or (name_eq item i) (set v) (name_eq version v) (old i v)
 
-module _ {limit : ℕ} (first second : Pairs) where
-  module _ (not_holey : ¬ HasHoleyItem first) (not_many : ¬ IsOnlyOverItems (items_form limit) first) where
-    few : ¬ ListsTooMany limit first
-    few many = not_many (many, not_holey)
+  -- where the version by itself is not refused, the faults are those of both
+  module _ {limit : ℕ} {t : Unit {0}} (holes : IsErrOf (Ok t) fault.TooManyHoles ↔ HasHoleyItem (with_learned false old item version)) (items : IsErrOf (Ok t) fault.TooManyItems ↔ IsOnlyOverItems (items_form limit) (with_learned false old item version)) where
+    fits : HasValue (items_form limit) (with_learned false old item version)
+    fits = (passed _ _ holes, λ many. passed _ _ items (many, passed _ _ holes))
 
-    pub holes_in_turn : {P : Type 0} → P ↔ HasHoleyItem second → P ↔ IsOverHolesInTurn (items_form limit) first second
-    holes_in_turn by = (λ p. inr ((not_holey, few), by.0 p), λ over. elim over [ inl holey ↦ absurd (not_holey holey) | inr both_of ↦ by.1 both_of.1 ])
+    pub alone_holes : {P : Type 0} → P ↔ HasHoleyItem (together old item version set) → P ↔ IsOverHolesInTurn (items_form limit) (with_learned false old item version) (with_learned_below false old item version set)
+    alone_holes {P = P} by =
+        let second : P ↔ HasHoleyItem (with_learned_below false old item version set) = subst (λ (p : Pairs). P ↔ HasHoleyItem p) alone_twice by in
+        (λ p. inr (fits, second.0 p), λ over. elim over [ inl holey ↦ absurd (fits.0 holey) | inr both_of ↦ second.1 both_of.1 ])
 
-    pub items_in_turn : {P : Type 0} → P ↔ IsOnlyOverItems (items_form limit) second → P ↔ IsOverItemsInTurn (items_form limit) first second
-    items_in_turn by = (λ p. inr ((not_holey, few), by.0 p), λ over. elim over [ inl only ↦ absurd (not_many only) | inr both_of ↦ by.1 both_of.1 ])
+    pub alone_items : {P : Type 0} → P ↔ IsOnlyOverItems (items_form limit) (together old item version set) → P ↔ IsOverItemsInTurn (items_form limit) (with_learned false old item version) (with_learned_below false old item version set)
+    alone_items {P = P} by =
+        let second : P ↔ IsOnlyOverItems (items_form limit) (with_learned_below false old item version set) = subst (λ (p : Pairs). P ↔ IsOnlyOverItems (items_form limit) p) alone_twice by in
+        (λ p. inr (fits, second.0 p), λ over. elim over [ inl only ↦ absurd (fits.1 only.0) | inr both_of ↦ second.1 both_of.1 ])
 
-  pub items_first : (e : FormFault) (r : Result (Unit {0}) FormFault) → r ≡ Err e → r ≢ Err fault.OutOfMemory → IsErrOf r fault.TooManyHoles ↔ HasHoleyItem first → IsErrOf r fault.TooManyItems ↔ IsOnlyOverItems (items_form limit) first → IsErrOf {T = Unit {0}} (Err e) fault.TooManyItems ↔ IsOverItemsInTurn (items_form limit) first second
-  items_first fault.TooManyItems r is memory holes items = (λ _. inl (items.0 is), λ _. refl)
-  items_first fault.TooManyHoles r is memory holes items = refuses_otherwise _ _ (λ same. cc) (λ over. elim over [ inl only ↦ only.1 (holes.0 is) | inr both_of ↦ both_of.0.0 (holes.0 is) ])
-  items_first fault.OutOfMemory r is memory holes items = absurd (memory is)
+module _ {limit : ℕ} {first second : Pairs} where
+  refused : (e : FormFault) (r : Result (Unit {0}) FormFault) → r ≡ Err e → r ≢ Err fault.OutOfMemory → IsErrOf r fault.TooManyHoles ↔ HasHoleyItem first → IsErrOf r fault.TooManyItems ↔ IsOnlyOverItems (items_form limit) first → IsErrOf {T = Unit {0}} (Err e) fault.TooManyItems ↔ IsOverItemsInTurn (items_form limit) first second
+  refused fault.TooManyItems r is memory holes items = (λ _. inl (items.0 is), λ _. refl)
+  refused fault.TooManyHoles r is memory holes items = refuses_otherwise _ _ (λ same. cc) (λ over. elim over [ inl only ↦ only.1 (holes.0 is) | inr both_of ↦ both_of.0.0 (holes.0 is) ])
+  refused fault.OutOfMemory r is memory holes items = absurd (memory is)
+
+  -- where it is refused, so are both
+  pub alone_refused : (e : FormFault) (r result : Result (Unit {0}) FormFault) → IsErrAnd result (λ y. y ≡ e) → r ≡ Err e → r ≢ Err fault.OutOfMemory → IsErrOf r fault.TooManyHoles ↔ HasHoleyItem first → IsErrOf r fault.TooManyItems ↔ IsOnlyOverItems (items_form limit) first → IsErrOf result fault.TooManyItems ↔ IsOverItemsInTurn (items_form limit) first second
+  alone_refused e r result passed_on is memory holes items = let p = err_from_is_err_and result passed_on in rw (p.1, p.2) (refused e r is memory holes items)

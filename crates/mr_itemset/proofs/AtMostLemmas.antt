@@ -1,30 +1,22 @@
-use Rattle.std.proofs.Common.{◌≡◌, ◌≤◌, ◌+◌, ◌⊎◌, ◌==◌, ◌||◌, ◌&&◌, ℕ, zero, suc, Bool, true, false, nat_le, List, length, refl, ap, sym, ◌∙◌, arith, inl, inr}
-use Rattle.std.specs.Prelude.{Option, Some, None}
-use Rattle.std.proofs.lemmas.Bool.{true≢false, cases_Bool, cases_lt, cases_eq, le-leb, eq-eqb, ne_eqb}
-use Rattle.mr_version.specs.Name.{Name, name_eq}
+use Rattle.std.proofs.Common.{◌≡◌, ◌≤◌, ◌+◌, ◌⊎◌, ◌||◌, ◌&&◌, ℕ, zero, suc, Bool, true, false, nat_le, List, length, refl, ap, sym, ◌∙◌, arith, inl, inr}
+use Rattle.std.proofs.lemmas.Bool.{true≢false, cases_Bool, cases_lt, le-leb}
 use Rattle.mr_version.specs.declared.version.TheConstants.{MAX_COUNTER}
 use Rattle.mr_forms.specs.Sets.{Versions, IsSame, both}
 use Rattle.mr_forms.specs.Runs.{of_author}
-use Rattle.mr_forms.proofs.SetLemmas.{name_eq-parts}
-use Rattle.mr_forms.proofs.PairLemmas.{name_eq-itself}
 use Rattle.mr_concise.specs.declared.column.TheConstants.{MAX_HOLES}
 use Rattle.mr_concise.specs.declared.vector.AuthorColumn.{AuthorColumn}
-use Rattle.mr_concise.specs.Column.{Extent, column_has, empty_column, with_counter}
-use Rattle.mr_concise.specs.Source.{IsColumnOf, HasAtMostHoles, ColumnsHaveAtMost, in_some}
+use Rattle.mr_concise.specs.Column.{Extent, column_has}
+use Rattle.mr_concise.specs.Source.{IsColumnOf, HasAtMostHoles, ColumnsHaveAtMost}
 use Rattle.mr_concise.specs.Vector.{column_of, vector_has, IsVectorFrom, HasTooManyHoles}
-use Rattle.mr_concise.proofs.ColumnLemmas.{column_unique}
-use Rattle.mr_concise.proofs.InsertLemmas.{with_counter-means}
 use Rattle.mr_concise.proofs.LastLemmas.{column_has-above}
-use Rattle.mr_concise.proofs.SweepLemmas.{IsColumnOf-unique, at_most-from_holes, at_most-from_none, few-of_authors}
-use Rattle.mr_concise.proofs.UnionLemmas.{column_of-IsColumn, column_has-empty, IsColumn-empty}
-use Rattle.mr_concise.proofs.VectorInsertLemmas.{eq-sym}
-use Rattle.mr_itemset.specs.Folded.{column_upto, folded, IsKept, HasAtMost, HasLeeway}
+use Rattle.mr_concise.proofs.SweepLemmas.{IsColumnOf-unique, at_most-from_holes, few-of_authors}
+use Rattle.mr_concise.proofs.UnionLemmas.{column_of-IsColumn}
+use Rattle.mr_itemset.specs.Folded.{column_upto, folded, IsKept, HasAtMost}
 use Rattle.mr_itemset.specs.Normal.{Normal, normal_known, vector_of}
 use Rattle.mr_itemset.specs.ItemForm.{with_all, HasHoleyItem}
 use Rattle.mr_itemset.proofs.FoldedLemmas.{folded_known}
 use Rattle.mr_itemset.proofs.ItemLemmas.{vector_of-IsVector}
 use Rattle.mr_itemset.proofs.ColumnsLemmas.{upto_low, both_within, upto_means}
-use Rattle.mr_itemset.proofs.KeptLemmas.{one_hole}
 
 -- what a column has is from 1 to its bound
 column_in : (column : Extent) (c : ℕ) → column_has column c ≡ true → (1 ≤ c) × (c ≤ column.upto)
@@ -77,29 +69,6 @@ at_most-vector columns q ok =
     at_most-from_holes (of_author (vector_has columns) q) (length (column_of columns q).holes) (length (column_of columns q).holes)
     (record { column = column_of columns q; is = record { apart = own.apart; in_range = own.in_range; means = λ c. refl }; count_is = refl }) (omega arith)
 
--- one version has one hole at most
-at_most-version : (v : Name) (q : ℕ) → HasAtMostHoles (of_author (name_eq v) q) 1
-at_most-version v q column is = go (cases_eq v.author q)
-  where
-    or_none : (b : Bool) → b ≡ (b || false)
-    or_none true = refl
-    or_none false = refl
-
-    go : (v.author ≡ q) ⊎ (v.author ≡ q → ⊥) → length column.holes ≤ 1
-    go (inl e) =
-        let from = (column_in column v.counter (is.means v.counter ∙ ap (λ (a : ℕ). name_eq v (record { author = a; counter = v.counter })) (sym e) ∙ name_eq-itself v)).0 in
-        let alone = with_counter-means empty_column v.counter IsColumn-empty.apart from in
-        let same = ap (λ (x : Extent). length x.holes) (column_unique column (with_counter empty_column v.counter) is.apart alone.0
-        (λ c. is.means c ∙ name_eq-parts v (record { author = q; counter = c }) ∙ ap (λ (b : Bool). b && (v.counter == c)) (eq-eqb v.author q e)
-        ∙ eq-sym v.counter c ∙ or_none (c == v.counter) ∙ sym (alone.1 c ∙ ap (λ (b : Bool). (c == v.counter) || b) (column_has-empty c)))) in
-        let one = one_hole v.counter from in
-        omega arith
-    go (inr n) = at_most-from_none (of_author (name_eq v) q) 1 (λ c. name_eq-parts v (record { author = q; counter = c }) ∙ ap (λ (b : Bool). b && (v.counter == c)) (ne_eqb v.author q n)) column is
-
-at_most-some : (version : Option Name) (q : ℕ) → HasAtMostHoles (of_author (in_some name_eq version) q) 1
-at_most-some None q = at_most-from_none (of_author (in_some name_eq None) q) 1 (λ c. refl)
-at_most-some (Some v) q = at_most-version v q
-
 regroup : (s o v p : Bool) → ((s || o) || (v || p)) ≡ (s || ((v || p) || o))
 regroup true o v p = refl
 regroup false true true p = refl
@@ -108,15 +77,6 @@ regroup false true false false = refl
 regroup false false true p = refl
 regroup false false false true = refl
 regroup false false false false = refl
-
--- WITH LEEWAY for an item's versions no column has too many holes with a version more and those that are pending
-pub leeway_few-with : (pending : List AuthorColumn) (version : Option Name) (set own : Versions) (most : ℕ) → IsVectorFrom 0 pending → ColumnsHaveAtMost (both set own) most → HasLeeway pending most → HasTooManyHoles (both set (both (both (in_some name_eq version) (vector_has pending)) own)) → ⊥
-leeway_few-with pending version set own most ok few leeway =
-    few-of_authors (both set (both (both (in_some name_eq version) (vector_has pending)) own))
-    (λ q. at_most-same (of_author (both (both set own) (both (in_some name_eq version) (vector_has pending))) q) (of_author (both set (both (both (in_some name_eq version) (vector_has pending)) own)) q) (most + (1 + length (column_of pending q).holes)) MAX_HOLES
-    (λ c. regroup (of_author set q c) (of_author own q c) (of_author (in_some name_eq version) q c) (of_author (vector_has pending) q c)) (let room = leeway q in omega arith)
-    (at_most-both (of_author (both set own) q) (of_author (both (in_some name_eq version) (vector_has pending)) q) most (1 + length (column_of pending q).holes) (few q)
-    (at_most-both (of_author (in_some name_eq version) q) (of_author (vector_has pending) q) 1 (length (column_of pending q).holes) (at_most-some version q) (at_most-vector pending q ok))))
 
 at_most-columns : (columns : List AuthorColumn) (few q : ℕ) → IsVectorFrom 0 columns → HasAtMost few columns → HasAtMostHoles (of_author (vector_has columns) q) few
 at_most-columns columns few q ok has = at_most-same (of_author (vector_has columns) q) (of_author (vector_has columns) q) (length (column_of columns q).holes) few (λ c. refl) (has q) (at_most-vector columns q ok)

@@ -82,35 +82,28 @@ module _ (e n : ℕ) (h : Hole) (hs : List Hole) (ordered : h.first < h.last + 1
         none_ended (h.last + 1) e (suc n) hs rest (omega arith),
       ) refl
 
-  one_at : h.first ≤ n → h.last ≤ n → n ≤ h.last → OneMore n (h ∷ hs)
-  one_at from to at =
+  -- from its last counter on, the next counter is past it
+  one_over : h.first ≤ n → h.last ≤ n → (if not (in_holes hs (suc n)) && in_holes (h ∷ hs) n then suc (ended n (h ∷ hs)) else ended n (h ∷ hs)) ≡ suc (ended (suc n) hs) → OneMore n (h ∷ hs)
+  one_over from to more =
       let behind : h.first ≤ suc n = omega arith in
       let over : h.last < suc n = omega arith in
-      rw (
-        le-leb h.first n from,
-        le-leb n h.last at,
-        le-leb h.first (suc n) behind,
-        lt-leb (suc n) h.last over,
-        le-ltb h.last n at,
-        lt-ltb h.last (suc n) over,
-        none_before (h.last + 1) e (suc n) hs rest (omega arith),
-        none_ended (h.last + 1) e n hs rest (omega arith),
-        none_ended (h.last + 1) e (suc n) hs rest (omega arith),
-      ) refl
+      rw (le-leb h.first (suc n) behind, lt-leb (suc n) h.last over, lt-ltb h.last (suc n) over) more
+
+  one_at : h.first ≤ n → h.last ≤ n → n ≤ h.last → OneMore n (h ∷ hs)
+  one_at from to at = one_over from to (rw (
+    le-leb h.first n from,
+    le-leb n h.last at,
+    le-ltb h.last n at,
+    none_before (h.last + 1) e (suc n) hs rest (omega arith),
+    none_ended (h.last + 1) e n hs rest (omega arith),
+    none_ended (h.last + 1) e (suc n) hs rest (omega arith),
+  ) refl)
 
   one_past : h.last < n → OneMore n hs → OneMore n (h ∷ hs)
   one_past past more =
       let from : h.first ≤ n = omega arith in
-      let behind : h.first ≤ suc n = omega arith in
-      let over : h.last < suc n = omega arith in
-      rw (
-        le-leb h.first n from,
-        lt-leb n h.last past,
-        le-leb h.first (suc n) behind,
-        lt-leb (suc n) h.last over,
-        lt-ltb h.last n past,
-        lt-ltb h.last (suc n) over,
-      ) (if-suc (not (in_holes hs (suc n)) && in_holes hs n) (ended n hs) ∙ ap (λ (m : ℕ). suc m) more)
+      one_over from (omega arith)
+      (rw (le-leb h.first n from, lt-leb n h.last past, lt-ltb h.last n past) (if-suc (not (in_holes hs (suc n)) && in_holes hs n) (ended n hs) ∙ ap (λ (m : ℕ). suc m) more))
 
 one_more : (low e n : ℕ) (hs : List Hole) → IsRising low (hole_edges hs ++ e ∷ []) → OneMore n hs
 one_more low e n [] r = refl

@@ -1,7 +1,8 @@
 -- what items and all items have already, and counts where nothing waits
-use Rattle.std.proofs.Common.{◌≡◌, ◌≤◌, ◌↔◌, ◌⊎◌, OnOk, IsErrOf, Result, Ok, Err, get_or, ◌||◌, ℕ, Bool, true, false, List, [], ◌∷◌, length, All, refl, ap, sym, ◌∙◌, subst, arith, inl, inr}
+use Rattle.std.proofs.Common.{◌≡◌, ◌<◌, ◌≤◌, ◌↔◌, ◌⊎◌, OnOk, IsErrOf, IsErrAnd, Result, Ok, Err, get_or, ◌||◌, ℕ, suc, Bool, true, false, List, [], ◌∷◌, length, take, drop, All, refl, ap, sym, ◌∙◌, subst, arith, inl, inr}
 use Rattle.std.proofs.lemmas.Bool.{cases_Bool}
 use Rattle.std.proofs.lemmas.List.Elements.{All-head, All-tail}
+use Rattle.std.proofs.lemmas.Result.{err_from_is_err_and}
 use Rattle.mr_version.specs.Name.{Name, name_eq}
 use Rattle.mr_forms.specs.Sets.{Versions, Covers}
 use Rattle.mr_forms.specs.declared.fragment.Fragment.{Fragment}
@@ -9,7 +10,8 @@ use Rattle.mr_forms.specs.declared.fault.FormFault.{FormFault}
 use Rattle.mr_forms.specs.declared.fault.FormFault.TheVariants as fault
 use Rattle.mr_forms.specs.Known.{Pairs, AreSame, HasValue, IsOnlyOverItems, with_below, with_pairs}
 use Rattle.mr_forms.specs.Covered.{covered}
-use Rattle.mr_forms.specs.Merged.{after_each, FirstHasValue}
+use Rattle.mr_forms.specs.Merged.{after_each, FirstHasValue, AreOverHolesInTurn, AreOverItemsInTurn}
+use Rattle.mr_forms.proofs.MergedLemmas.{after_all, holes_there, items_there, split_at}
 use Rattle.mr_concise.specs.declared.vector.AuthorColumn.{AuthorColumn}
 use Rattle.mr_concise.specs.Vector.{vector_has, IsVectorFrom}
 use Rattle.mr_concise.specs.Equal.{vector_eq}
@@ -53,9 +55,22 @@ pub all_listed : {limit : ℕ} (k : Normal) (added : List AuthorColumn) → leng
 all_listed k [] none normal = same_listed k.all k.listed normal.all_ok normal.more
 all_listed k (x ∷ xs) none normal = absurd (omega arith)
 
--- one fault makes one answer
-pub one_fault : {T : Type 0} (made : Result T FormFault) (e f : FormFault) → Err e ≡ made → made ≡ Err f → e ≡ f
-one_fault made e f is same = cc
+-- a fault that is passed on is the first one
+pub passed_on : {T : Type 0} (made : Result (Unit {0}) FormFault) (result : Result T FormFault) (e f : FormFault) → made ≡ Err e → IsErrAnd result (λ y. y ≡ e) → IsErrOf result f → made ≡ Err f
+passed_on made result e f was on is = let p = err_from_is_err_and result on in let same = p.1 in let told = p.2 in cc
+
+-- of fragments that are merged in turn the one at k is refused
+module _ {V : Type 0} (limit : ℕ) (has : V → Versions) (known : Pairs) (old : Normal) (fs : List (Fragment V)) (k : ℕ) (f : Fragment V) (within : k < length fs) (at : f ≡ get_or fs k f) (is : AreSame (normal_known old) (after_all has known (take k fs))) (made : Result (Unit {0}) FormFault) (fits : All (HasValue (items_form limit)) (after_each has known (take k fs)))
+    (holes : IsErrOf made fault.TooManyHoles ↔ HasHoleyItem (with_pairs (normal_known old) (covered has f))) (items : IsErrOf made fault.TooManyItems ↔ IsOnlyOverItems (items_form limit) (with_pairs (normal_known old) (covered has f))) where
+  pub holes_at : made ≡ Err fault.TooManyHoles → AreOverHolesInTurn (items_form limit) (after_each has known fs)
+  holes_at err =
+      subst (λ (gs : List (Fragment V)). AreOverHolesInTurn (items_form limit) (after_each has known gs)) (sym (split_at fs k f within at))
+      (holes_there (items_form limit) has known old (take k fs) f is made fits holes items err (drop (suc k) fs))
+
+  pub items_at : made ≡ Err fault.TooManyItems → AreOverItemsInTurn (items_form limit) (after_each has known fs)
+  items_at err =
+      subst (λ (gs : List (Fragment V)). AreOverItemsInTurn (items_form limit) (after_each has known gs)) (sym (split_at fs k f within at))
+      (items_there (items_form limit) has known old (take k fs) f is made fits holes items err (drop (suc k) fs))
 
 -- where the first fragment may be merged there is a value for it
 pub first_value : {V : Type 0} (limit : ℕ) (has : V → Versions) (known : Pairs) (fs : List (Fragment V)) (f : Fragment V) (made : Result (Unit {0}) FormFault) → 1 ≤ length fs → f ≡ get_or fs 0 f → (IsErrOf made fault.TooManyHoles ↔ HasHoleyItem (with_pairs known (covered has f))) → (IsErrOf made fault.TooManyItems ↔ IsOnlyOverItems (items_form limit) (with_pairs known (covered has f))) → OnOk made (FirstHasValue (items_form limit) (after_each has known fs))

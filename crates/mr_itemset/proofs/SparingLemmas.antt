@@ -1,9 +1,9 @@
 -- What all items know, and whether an author's column of it has holes to spare, told by what is settled and what is pending.
-use Rattle.std.proofs.Common.{◌≡◌, ◌<◌, ◌≤◌, ◌⊎◌, ◌||◌, ◌&&◌, Bool, true, false, ℕ, nat_lt, List, length, refl, ap, sym, ◌∙◌, arith, inl, inr}
+use Rattle.std.proofs.Common.{◌≡◌, ◌<◌, ◌≤◌, ◌⊎◌, ◌||◌, ◌&&◌, ◌↔◌, Bool, true, false, ℕ, nat_lt, List, length, refl, ap, sym, subst, ◌∙◌, arith, inl, inr}
 use Rattle.std.proofs.lemmas.Bool.{cases_Bool, lt-ltb, le-ltb}
 use Rattle.mr_version.specs.Name.{Name, name_eq}
-use Rattle.mr_forms.specs.Sets.{Versions, both}
-use Rattle.mr_forms.specs.Known.{learned_of, with_learned}
+use Rattle.mr_forms.specs.Sets.{Versions, IsSame, both}
+use Rattle.mr_forms.specs.Known.{Pairs, AreSame, IsOverHolesInTurn, IsOverItemsInTurn, learned_of, with_below}
 use Rattle.mr_forms.specs.Runs.{of_author}
 use Rattle.mr_concise.specs.declared.vector.AuthorColumn.{AuthorColumn}
 use Rattle.mr_concise.specs.Column.{Extent}
@@ -14,7 +14,7 @@ use Rattle.mr_concise.proofs.UnionLemmas.{column_of-IsColumn}
 use Rattle.mr_itemset.specs.Normal.{Normal, IsNormal, normal_known}
 use Rattle.mr_itemset.specs.ItemForm.{with_all}
 use Rattle.mr_itemset.specs.Sparing.{holes_for_all, goes_to_all, spreads, sparing_form}
-use Rattle.mr_itemset.proofs.AloneLemmas.{both_twice}
+use Rattle.mr_itemset.proofs.FoldedLemmas.{same_pairs}
 use Rattle.mr_itemset.proofs.HolesLemmas.{holes_counted}
 use Rattle.mr_itemset.specs.Folded.{IsSplit}
 use Rattle.mr_itemset.proofs.SplitLemmas.{split_all}
@@ -47,12 +47,23 @@ holes_as_known k author normal = holes_counted (column_of k.all author) (column_
 
 -- ---- what is learned, by what goes to all
 
-module _ (k : Normal) (item version : Name) (set : Versions) where
-  pub spread_alone : spreads k item version set ≡ false → learned_of sparing_form k item version set ≡ with_learned false (normal_known k) item version
-  spread_alone none = rw none refl
+after : (a b c : Bool) → (a || (b || c)) ≡ ((a || b) || c)
+after true b c = refl
+after false b c = refl
 
-  pub spread_plain : spreads k item version set ≡ true → (goes_to_all k item && set item) ≡ false → learned_of sparing_form k item version set ≡ with_learned true (normal_known k) item version
-  spread_plain goes none = rw (goes, none) refl
+pub spread_all : (k : Normal) (item version : Name) (set first : Versions) → spreads k item version set ≡ true → IsSame first (λ v. (goes_to_all k item && set item) && name_eq item v) → learned_of sparing_form k item version set ≡ with_all (normal_known k) (both first (name_eq version))
+spread_all k item version set first goes has =
+    rw goes
+    (same_pairs (λ i v. ((goes_to_all k item && set item) && name_eq item v) || (name_eq version v || normal_known k i v)) (with_all (normal_known k) (both first (name_eq version)))
+    (λ i v. ap (λ (b : Bool). b || (name_eq version v || normal_known k i v)) (sym (has v)) ∙ after (first v) (name_eq version v) (normal_known k i v)))
 
-  pub spread_first : spreads k item version set ≡ true → (goes_to_all k item && set item) ≡ true → learned_of sparing_form k item version set ≡ with_all (normal_known k) (both (name_eq version) (name_eq item))
-  spread_first goes first = rw (goes, first) (sym (both_twice (normal_known k) version item))
+-- what is told of the one is told of the other
+module _ (item : Name) (set : Versions) {told learned : Pairs} (same : told ≡ learned) where
+  pub known_told : {new : Pairs} → AreSame new (with_below learned item set) → AreSame new (with_below told item set)
+  known_told {new = new} known = subst (λ (p : Pairs). AreSame new (with_below p item set)) (sym same) known
+
+  pub holes_told : {P : Type 0} → P ↔ IsOverHolesInTurn sparing_form learned (with_below learned item set) → P ↔ IsOverHolesInTurn sparing_form told (with_below told item set)
+  holes_told {P = P} by = subst (λ (p : Pairs). P ↔ IsOverHolesInTurn sparing_form p (with_below p item set)) (sym same) by
+
+  pub items_told : {P : Type 0} → P ↔ IsOverItemsInTurn sparing_form learned (with_below learned item set) → P ↔ IsOverItemsInTurn sparing_form told (with_below told item set)
+  items_told {P = P} by = subst (λ (p : Pairs). P ↔ IsOverItemsInTurn sparing_form p (with_below p item set)) (sym same) by

@@ -5,7 +5,7 @@ use Rattle.std.proofs.lemmas.Bool.{false≢true, cases_Bool}
 use Rattle.std.proofs.lemmas.List.Elements.{All-contains, All-contains_itself, All-weaker}
 use Rattle.mr_version.specs.Name.{Name, name_eq}
 use Rattle.mr_forms.specs.Sets.{Versions, IsSame, Covers, both}
-use Rattle.mr_forms.specs.Known.{Pairs, AreSame, with_below, with_learned_below}
+use Rattle.mr_forms.specs.Known.{Pairs, AreSame, with_below}
 use Rattle.mr_concise.specs.declared.vector.AuthorColumn.{AuthorColumn}
 use Rattle.mr_concise.specs.Vector.{vector_has}
 use Rattle.mr_itemset.specs.declared.knowledge.Listed.{Listed}
@@ -31,9 +31,6 @@ all_twice known settled pending set e = same_pairs (with_all known set) (with_al
 
 pub below_twice : (known settled : Pairs) (pending set : Versions) (item : Name) → known ≡ with_all settled pending → with_below known item set ≡ with_below (with_all settled pending) item set
 below_twice known settled pending set item e = ap (λ (k : Pairs). with_below k item set) e
-
-pub with_twice : (known settled : Pairs) (pending set : Versions) (item version : Name) → known ≡ with_all settled pending → with_learned_below true known item version set ≡ with_below (with_all settled (both (name_eq version) pending)) item set
-with_twice known settled pending set item version e = ap (λ (k : Pairs). with_below k item set) (all_twice known settled pending (name_eq version) e)
 
 -- what is known of an item
 pub split_at : {limit : ℕ} (k settled : Normal) (pending : List AuthorColumn) (i v : Name) → IsSplit limit k settled pending → normal_known k i v ≡ (vector_has pending v || normal_known settled i v)

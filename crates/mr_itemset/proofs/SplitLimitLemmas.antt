@@ -1,9 +1,9 @@
 use Rattle.std.proofs.Common.{ℕ, ◌≡◌, ◌⊎◌, Bool, true, false, ap, sym, ◌∙◌, subst, inl, inr, List}
 use Rattle.std.specs.Prelude.{◌↔◌, IsTrue}
 use Rattle.std.proofs.lemmas.Bool.{cases_Bool}
-use Rattle.mr_version.specs.Name.{Name, name_eq}
+use Rattle.mr_version.specs.Name.{Name}
 use Rattle.mr_forms.specs.Sets.{Versions, both}
-use Rattle.mr_forms.specs.Known.{Pairs, AreSame, with_below, with_learned, with_learned_below}
+use Rattle.mr_forms.specs.Known.{Pairs, AreSame, with_below}
 use Rattle.mr_concise.specs.declared.vector.AuthorColumn.{AuthorColumn}
 use Rattle.mr_concise.specs.Vector.{vector_has}
 use Rattle.mr_itemset.specs.Normal.{Normal, IsNormal, normal_known}
@@ -13,7 +13,7 @@ use Rattle.mr_itemset.specs.Folded.{IsSplit}
 use Rattle.mr_itemset.proofs.NormalLemmas.{normal_unique}
 use Rattle.mr_itemset.proofs.WithLemmas.{lists_few-with}
 use Rattle.mr_itemset.proofs.FoldedLemmas.{normal_few}
-use Rattle.mr_itemset.proofs.SplitLemmas.{all_twice, below_twice, with_twice, split_at}
+use Rattle.mr_itemset.proofs.SplitLemmas.{all_twice, below_twice, split_at}
 
 -- ---- holes
 
@@ -33,14 +33,6 @@ holey_at k settled pending item set result split holey_if few_if = (
     decide (inl t) holey = t
     decide (inr f) holey = absurd (normal_few k split.normal (subst HasHoleyItem (sym split.known) (few_if f holey)))
 
-pub holey_with-yes : {limit : ℕ} (k settled : Normal) (pending : List AuthorColumn) (item version : Name) (set : Versions) → IsSplit limit k settled pending → HasHoleyItem (with_below (with_all (normal_known settled) (both (name_eq version) (vector_has pending))) item set) → HasHoleyItem (with_learned_below true (normal_known k) item version set)
-holey_with-yes k settled pending item version set split holey = subst HasHoleyItem (sym (with_twice (normal_known k) (normal_known settled) (vector_has pending) set item version split.known)) holey
-
-pub holey_with-no : {limit : ℕ} (k settled : Normal) (pending : List AuthorColumn) (item version : Name) (set : Versions) → IsSplit limit k settled pending → (HasHoleyItem (with_below (with_all (normal_known settled) (both (name_eq version) (vector_has pending))) item set) → HasHoleyItem (with_all (normal_known settled) (both (name_eq version) (vector_has pending)))) → HasHoleyItem (with_learned_below true (normal_known k) item version set) → HasHoleyItem (with_learned true (normal_known k) item version)
-holey_with-no k settled pending item version set split few_if holey =
-    subst HasHoleyItem (sym (all_twice (normal_known k) (normal_known settled) (vector_has pending) (name_eq version) split.known))
-    (few_if (subst HasHoleyItem (with_twice (normal_known k) (normal_known settled) (vector_has pending) set item version split.known) holey))
-
 -- ---- listed items
 
 pub room_at-yes : {limit : ℕ} (k settled : Normal) (pending : List AuthorColumn) (item : Name) (set : Versions) → IsSplit limit k settled pending → HasRoomWith limit settled (vector_has pending) item set → ListsTooMany limit (with_below (normal_known k) item set) → ⊥
@@ -49,13 +41,6 @@ room_at-yes {limit = limit} k settled pending item set split room many =
 
 pub room_at-no : {limit : ℕ} (k settled : Normal) (pending : List AuthorColumn) (item : Name) (set : Versions) → IsSplit limit k settled pending → ListsTooMany limit (with_below (with_all (normal_known settled) (vector_has pending)) item set) → ListsTooMany limit (with_below (normal_known k) item set)
 room_at-no {limit = limit} k settled pending item set split many = subst (ListsTooMany limit) (sym (below_twice (normal_known k) (normal_known settled) (vector_has pending) set item split.known)) many
-
-pub room_with-yes : {limit : ℕ} (k settled : Normal) (pending : List AuthorColumn) (item version : Name) (set : Versions) → IsSplit limit k settled pending → HasRoomWith limit settled (both (name_eq version) (vector_has pending)) item set → ListsTooMany limit (with_learned_below true (normal_known k) item version set) → ⊥
-room_with-yes {limit = limit} k settled pending item version set split room many =
-    lists_few-with settled (both (name_eq version) (vector_has pending)) set item split.settled_ok room (subst (ListsTooMany limit) (with_twice (normal_known k) (normal_known settled) (vector_has pending) set item version split.known) many)
-
-pub room_with-no : {limit : ℕ} (k settled : Normal) (pending : List AuthorColumn) (item version : Name) (set : Versions) → IsSplit limit k settled pending → ListsTooMany limit (with_below (with_all (normal_known settled) (both (name_eq version) (vector_has pending))) item set) → ListsTooMany limit (with_learned_below true (normal_known k) item version set)
-room_with-no {limit = limit} k settled pending item version set split many = subst (ListsTooMany limit) (sym (with_twice (normal_known k) (normal_known settled) (vector_has pending) set item version split.known)) many
 
 -- ---- growth
 
@@ -67,9 +52,6 @@ settled_all k settled pending new set split same i v = same i v ∙ ap (λ (s : 
 
 pub settled_below : {limit : ℕ} (k settled : Normal) (pending : List AuthorColumn) (new : Normal) (item : Name) (set : Versions) → IsSplit limit k settled pending → AreSame (normal_known new) (with_below (with_all (normal_known settled) (vector_has pending)) item set) → AreSame (normal_known new) (with_below (normal_known k) item set)
 settled_below k settled pending new item set split same i v = same i v ∙ ap (λ (s : Pairs). s i v) (sym (below_twice (normal_known k) (normal_known settled) (vector_has pending) set item split.known))
-
-pub settled_with : {limit : ℕ} (k settled : Normal) (pending : List AuthorColumn) (new : Normal) (item version : Name) (set : Versions) → IsSplit limit k settled pending → AreSame (normal_known new) (with_below (with_all (normal_known settled) (both (name_eq version) (vector_has pending))) item set) → AreSame (normal_known new) (with_learned_below true (normal_known k) item version set)
-settled_with k settled pending new item version set split same i v = same i v ∙ ap (λ (s : Pairs). s i v) (sym (with_twice (normal_known k) (normal_known settled) (vector_has pending) set item version split.known))
 
 -- ---- several versions of all items
 

@@ -1,7 +1,7 @@
 //! Which limits a call would pass.
 ghost use Rattle.std.specs.Prelude.{◌≡◌, ◌↔◌, true, false, IsTrue};
 ghost use Rattle.mr_version.specs.Name.{name_eq};
-ghost use Rattle.mr_forms.specs.Known.{with_below, with_learned, with_learned_below};
+ghost use Rattle.mr_forms.specs.Known.{with_below};
 ghost use Rattle.mr_itemset.specs.Normal.{normal_known, IsNormal};
 ghost use Rattle.mr_itemset.specs.ItemForm.{HasHoleyItem, ListsTooMany, with_all};
 
@@ -38,25 +38,10 @@ impl<const LIMIT: usize> ItemsUpTo<LIMIT> {
         ensures normal { IsNormal LIMIT self.now }
     {
         let parts = self.parts();
+        let learned: Option<Version> = None;
         parts
             .settled
-            .would_be_holey_with(item, None, parts.pending, set)
-    }
-
-    /// Whether the item's vector would have too many holes with the version and these.
-    pub(crate) fn would_be_holey_with<S: Source>(
-        &self,
-        item: ItemId,
-        version: Version,
-        below: &S,
-    ) -> bool
-        ensures yes { result ≡ true → HasHoleyItem (with_learned_below true (normal_known self.now) item version (S.has below.now)) }
-        ensures no { result ≡ false → HasHoleyItem (with_learned_below true (normal_known self.now) item version (S.has below.now)) → HasHoleyItem (with_learned true (normal_known self.now) item version) }
-    {
-        let parts = self.parts();
-        parts
-            .settled
-            .would_be_holey_with(item, Some(version), parts.pending, below)
+            .would_be_holey_more(item, &learned, parts.pending, set)
     }
 
     /// Whether the versions may be listed for the item.
@@ -66,15 +51,5 @@ impl<const LIMIT: usize> ItemsUpTo<LIMIT> {
     {
         let parts = self.parts();
         parts.settled.has_room_with(item, parts.pending, set)
-    }
-
-    /// Whether the versions may be listed for the item, once all items have the version.
-    pub(crate) fn has_room_with<S: Source>(&self, item: ItemId, version: Version, below: &S) -> bool
-        ensures yes { result ≡ true → ¬ ListsTooMany LIMIT (with_learned_below true (normal_known self.now) item version (S.has below.now)) }
-        ensures no { result ≡ false → ListsTooMany LIMIT (with_learned_below true (normal_known self.now) item version (S.has below.now)) }
-    {
-        let parts = self.parts();
-        let learned = (version, parts.pending);
-        parts.settled.has_room_with(item, &learned, below)
     }
 }

@@ -1,8 +1,9 @@
 //! Growth by several versions of all items, and some of one.
-ghost use Rattle.std.specs.Prelude.{◌≡◌, ◌↔◌, ◌≢◌, true, false, IsTrue, IsErrOf, OnOk, OnErr, Err};
+ghost use Rattle.std.specs.Prelude.{◌≡◌, ◌↔◌, ◌≢◌, true, false, IsTrue, IsErrOf, IfOk, OnOk, OnErr, Err};
 ghost use Rattle.mr_version.specs.Name.{name_eq};
 ghost use Rattle.mr_forms.specs.Sets.{both};
 ghost use Rattle.mr_forms.specs.Known.{AreSame, HasValue, IsOverHolesInTurn, IsOverItemsInTurn, with_below};
+ghost use Rattle.mr_concise.specs.Source.{in_some};
 ghost use Rattle.mr_concise.specs.Vector.{vector_has};
 ghost use Rattle.mr_itemset.specs.Normal.{normal_known, IsNormal};
 ghost use Rattle.mr_itemset.specs.ItemForm.{items_form, HasHoleyItem, ListsTooMany, with_all};
@@ -20,7 +21,7 @@ impl<const LIMIT: usize> Settled<LIMIT> {
     /// Whether the item's vector would have too many holes with these versions, where they are something new,
     /// once all items have what they learn and those that are pending. It allocates nothing, and walks
     /// through those that are pending only where a limit may be near.
-    fn would_be_holey_more<A: Source, S: Source>(
+    pub(crate) fn would_be_holey_more<A: Source, S: Source>(
         &self,
         item: ItemId,
         learned: &A,
@@ -130,30 +131,50 @@ impl<const LIMIT: usize> ItemsUpTo<LIMIT> {
         Ok(())
     }
 
-    /// Learns two versions for all items, and the set for this one. It costs a copy of what waits, which is
-    /// small where few versions are missing among those that all items have learned, a search for the item and,
-    /// where the set has something new, a copy of its vector; where a limit may be near, a copy of each listed
-    /// vector.
-    pub(crate) fn learn_two<S: Source>(
+    /// Adds a version for all items, maybe with another one, and the set for this one, where neither holes nor
+    /// listed items are near their limit. `false` where one may be.
+    fn try_learn_more<S: Source>(
         &mut self,
         item: ItemId,
-        two: &(Version, Version),
+        learned: &(Option<Version>, Version),
         below: &S,
-    ) -> Result<(), FormFault>
-        ensures ok { OnOk result (AreSame (normal_known self.new) (with_below (with_all (normal_known self.old) (both (name_eq two.now.0) (name_eq two.now.1))) item (S.has below.now))) }
-        ensures holes { IsErrOf result FormFault.TooManyHoles ↔ IsOverHolesInTurn (items_form LIMIT) (with_all (normal_known self.old) (both (name_eq two.now.0) (name_eq two.now.1))) (with_below (with_all (normal_known self.old) (both (name_eq two.now.0) (name_eq two.now.1))) item (S.has below.now)) }
-        ensures items { IsErrOf result FormFault.TooManyItems ↔ IsOverItemsInTurn (items_form LIMIT) (with_all (normal_known self.old) (both (name_eq two.now.0) (name_eq two.now.1))) (with_below (with_all (normal_known self.old) (both (name_eq two.now.0) (name_eq two.now.1))) item (S.has below.now)) }
+    ) -> Result<bool, AllocError>
+        ensures done { IfOk result (λ done. done ≡ true → AreSame (normal_known self.new) (with_below (with_all (normal_known self.old) (both (in_some name_eq learned.now.0) (name_eq learned.now.1))) item (S.has below.now))) }
+        ensures first { IfOk result (λ done. done ≡ true → HasValue (items_form LIMIT) (with_all (normal_known self.old) (both (in_some name_eq learned.now.0) (name_eq learned.now.1)))) }
+        ensures second { IfOk result (λ done. done ≡ true → HasValue (items_form LIMIT) (with_below (with_all (normal_known self.old) (both (in_some name_eq learned.now.0) (name_eq learned.now.1))) item (S.has below.now))) }
+        ensures not { IfOk result (λ done. done ≡ false → self.new ≡ self.old) }
         ensures err { OnErr result (self.new ≡ self.old) }
     {
-        let Ok(done) = self.try_learn_two(item, two, below) else {
-            self.may_learn_more(item, two, below)?;
+        match learned.0 {
+            None => self.try_learn_with(item, learned.1, below),
+            Some(first) => self.try_learn_two(item, &(first, learned.1), below),
+        }
+    }
+
+    /// Learns a version for all items, maybe with another one, and the set for this one. It costs a search for
+    /// the item and, where the set has something new, a copy of its vector; for two versions, a copy of what
+    /// waits, which is small where few versions are missing among those that all items have learned; where a
+    /// limit may be near, a copy of each listed vector.
+    pub(crate) fn learn_more<S: Source>(
+        &mut self,
+        item: ItemId,
+        learned: &(Option<Version>, Version),
+        below: &S,
+    ) -> Result<(), FormFault>
+        ensures ok { OnOk result (AreSame (normal_known self.new) (with_below (with_all (normal_known self.old) (both (in_some name_eq learned.now.0) (name_eq learned.now.1))) item (S.has below.now))) }
+        ensures holes { IsErrOf result FormFault.TooManyHoles ↔ IsOverHolesInTurn (items_form LIMIT) (with_all (normal_known self.old) (both (in_some name_eq learned.now.0) (name_eq learned.now.1))) (with_below (with_all (normal_known self.old) (both (in_some name_eq learned.now.0) (name_eq learned.now.1))) item (S.has below.now)) }
+        ensures items { IsErrOf result FormFault.TooManyItems ↔ IsOverItemsInTurn (items_form LIMIT) (with_all (normal_known self.old) (both (in_some name_eq learned.now.0) (name_eq learned.now.1))) (with_below (with_all (normal_known self.old) (both (in_some name_eq learned.now.0) (name_eq learned.now.1))) item (S.has below.now)) }
+        ensures err { OnErr result (self.new ≡ self.old) }
+    {
+        let Ok(done) = self.try_learn_more(item, learned, below) else {
+            self.may_learn_more(item, learned, below)?;
             return Err(FormFault::OutOfMemory);
         };
         if done {
             return Ok(());
         }
-        self.may_learn_more(item, two, below)?;
-        self.settle_more(item, two, below)?;
+        self.may_learn_more(item, learned, below)?;
+        self.settle_more(item, learned, below)?;
         Ok(())
     }
 }

@@ -10,7 +10,7 @@ ghost use Rattle.mr_itemset.specs.Normal.{normal_known, vector_of, IsNormal};
 ghost use Rattle.mr_itemset.specs.ItemForm.{with_all};
 ghost use Rattle.mr_itemset.specs.Folded.{HasAtMost, HasLeeway, IsSparse};
 ghost use Rattle.mr_itemset.specs.Lacking.{Lacks};
-ghost use Rattle.mr_itemset.specs.Placed.{HasRoom};
+ghost use Rattle.mr_itemset.specs.Placed.{placed, HasRoom};
 
 use crate::knowledge::Listed;
 use crate::limits::lacks;
@@ -154,6 +154,31 @@ impl<const LIMIT: usize> Settled<LIMIT> {
             Err(_) => Ok(None),
         }
     }
+
+    /// The item with these versions, to be listed, and the most holes of a column of any item then, where they
+    /// were so many before. `None` where its vector would have too many holes, or may not be listed.
+    fn grown_item<S: Source>(
+        &self,
+        most: usize,
+        item: ItemId,
+        set: &S,
+    ) -> Result<Option<(Listed, usize)>, AllocError>
+        requires sparse { IsSparse self.now most }
+        requires bound { most ≤ MAX_HOLES }
+        requires lacks { Lacks (vector_has (vector_of self.now item)) (S.has set.now) }
+        ensures fits { IfOk result (λ grown. IfSome grown (λ new. IsNormal LIMIT (record { all = self.now.all; listed = placed new.0 self.now.listed }))) }
+        ensures known { IfOk result (λ grown. IfSome grown (λ new. AreSame (normal_known (record { all = self.now.all; listed = placed new.0 self.now.listed })) (with_below (normal_known self.now) item (S.has set.now)))) }
+        ensures sparse { IfOk result (λ grown. IfSome grown (λ new. IsSparse (record { all = self.now.all; listed = placed new.0 self.now.listed }) new.1)) }
+        ensures more { IfOk result (λ grown. IfSome grown (λ new. most ≤ new.1)) }
+        ensures bound { IfOk result (λ grown. IfSome grown (λ new. new.1 ≤ MAX_HOLES)) }
+        ensures normal { IsNormal LIMIT self.now }
+    {
+        let Some(vector) = self.grown_vector(item, set)? else {
+            return Ok(None);
+        };
+        let holes = higher(most_holes(&vector), most);
+        Ok(Some((Listed { item, vector }, holes)))
+    }
 }
 
 /// Lists the versions for the item, where it may be listed and the holes of its columns leave room for those
@@ -175,14 +200,13 @@ fn try_list<S: Source, const LIMIT: usize>(
     ensures not { IfOk result (λ done. done ≡ false → (settled.new ≡ settled.old) × (most.new ≡ most.old)) }
     ensures err { OnErr result ((settled.new ≡ settled.old) × (most.new ≡ most.old)) }
 {
-    let Some(vector) = settled.grown_vector(item, set)? else {
+    let Some((new, holes)) = settled.grown_item(*most, item, set)? else {
         return Ok(false);
     };
-    let holes = higher(most_holes(&vector), *most);
     if !has_room_beside(pending, holes) {
         return Ok(false);
     }
-    settled.list(Listed { item, vector })?;
+    settled.list(new)?;
     let _listed = settled.listed();
     *most = holes;
     Ok(true)
@@ -210,14 +234,13 @@ pub(crate) fn try_list_with<S: Source, const LIMIT: usize>(
     ensures not { IfOk result (λ done. done ≡ false → (settled.new ≡ settled.old) × (pending.new ≡ pending.old) × (most.new ≡ most.old)) }
     ensures err { OnErr result ((settled.new ≡ settled.old) × (pending.new ≡ pending.old) × (most.new ≡ most.old)) }
 {
-    let Some(vector) = settled.grown_vector(item, set)? else {
+    let Some((new, holes)) = settled.grown_item(*most, item, set)? else {
         return Ok(false);
     };
-    let holes = higher(most_holes(&vector), *most);
     if !leaves_room(pending, holes) {
         return Ok(false);
     }
-    settled.list_with(Listed { item, vector }, pending, version)?;
+    settled.list_with(new, pending, version)?;
     let _listed = settled.listed();
     *most = holes;
     Ok(true)

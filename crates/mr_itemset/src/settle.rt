@@ -1,13 +1,13 @@
 //! Growth that looks at all listed items, and leaves nothing pending.
 ghost use Rattle.std.specs.Prelude.{◌≡◌, true, IfOk, OnOk, OnErr};
-ghost use Rattle.mr_forms.specs.Known.{AreSame, with_below, with_learned_below};
+ghost use Rattle.mr_forms.specs.Known.{AreSame, with_below};
 ghost use Rattle.mr_itemset.specs.Normal.{normal_known};
 ghost use Rattle.mr_itemset.specs.ItemForm.{with_all};
 
 use crate::knowledge::ItemsUpTo;
 use crate::settled::Settled;
 use mr_concise::Source;
-use mr_version::{ItemId, Version};
+use mr_version::ItemId;
 use std::alloc::AllocError;
 
 impl<const LIMIT: usize> ItemsUpTo<LIMIT> {
@@ -42,23 +42,6 @@ impl<const LIMIT: usize> ItemsUpTo<LIMIT> {
     {
         let parts = self.parts();
         let grown = parts.settled.with_learned_below(item, parts.pending, set)?;
-        *self = ItemsUpTo::of(grown);
-        Ok(())
-    }
-
-    /// Adds the version for all items, and the versions for this one.
-    pub(crate) fn settle_with<S: Source>(
-        &mut self,
-        item: ItemId,
-        version: Version,
-        below: &S,
-    ) -> Result<(), AllocError>
-        ensures ok { OnOk result (AreSame (normal_known self.new) (with_learned_below true (normal_known self.old) item version (S.has below.now))) }
-        ensures err { OnErr result (self.new ≡ self.old) }
-    {
-        let parts = self.parts();
-        let learned = (version, parts.pending);
-        let grown = parts.settled.with_learned_below(item, &learned, below)?;
         *self = ItemsUpTo::of(grown);
         Ok(())
     }

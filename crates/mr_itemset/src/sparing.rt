@@ -1,12 +1,15 @@
 //! Knowledge that spreads a version to all items only where that costs no hole too many.
-ghost use Rattle.std.specs.Prelude.{◌≡◌, ◌↔◌, ◌≢◌, ◌&&◌, [], false, All, IfOk, OnOk, OnErr, IsErrOf, Err, map, string_bytes};
+ghost use Rattle.std.specs.Prelude.{◌≡◌, ◌↔◌, ◌≢◌, ◌&&◌, [], false, None, All, IfOk, IfSome, OnOk, OnErr, IsErrOf, Err, map, string_bytes};
+ghost use Rattle.mr_version.specs.Name.{name_eq};
+ghost use Rattle.mr_forms.specs.Sets.{IsSame, both};
 ghost use Rattle.mr_forms.specs.Known.{AreSame, HasValue, IsOnlyOverItems, IsOverHolesInTurn, IsOverItemsInTurn, learned, learned_of, learned_with, with_below, with_pairs};
 ghost use Rattle.mr_forms.specs.Covered.{covered, all_covered, HasItems};
 ghost use Rattle.mr_forms.specs.Merged.{after_each, FirstHasValue, AreOverHolesInTurn, AreOverItemsInTurn};
 ghost use Rattle.mr_forms.specs.Parts.{part_of, ArePartsThat};
+ghost use Rattle.mr_concise.specs.Source.{in_some};
 ghost use Rattle.mr_concise.specs.Vector.{vector_has};
 ghost use Rattle.mr_itemset.specs.Normal.{normal_known, IsNormal};
-ghost use Rattle.mr_itemset.specs.ItemForm.{HasHoleyItem, IsNormalPart};
+ghost use Rattle.mr_itemset.specs.ItemForm.{HasHoleyItem, IsNormalPart, with_all};
 ghost use Rattle.mr_itemset.specs.NormalForm.{AreNormal};
 ghost use Rattle.mr_itemset.specs.Shown.{shown, fragments_in, normal_text};
 ghost use Rattle.mr_itemset.specs.Sparing.{goes_to_all, spreads, sparing_form};
@@ -148,12 +151,33 @@ impl SparingKnowledge {
         self.items.goes_to_all(version)
     }
 
-    /// Whether the item's first version goes to all items with a version that has this set below it.
-    fn takes_first<S: VersionSet>(&self, item: ItemId, below: &S) -> bool
-        ensures { result ≡ (goes_to_all self.now item && S.has below.now item) }
+    /// The item's first version, where it goes to all items with a version that has this set below it.
+    fn first_along<S: VersionSet>(&self, item: ItemId, below: &S) -> Option<Version>
+        ensures { IsSame (in_some name_eq result) (λ v. (goes_to_all self.now item && S.has below.now item) && name_eq item v) }
     {
         let first = item.creator();
-        below.contains(first) && self.items.goes_to_all(first)
+        if below.contains(first) && self.items.goes_to_all(first) {
+            Some(first)
+        } else {
+            None
+        }
+    }
+
+    /// What all items learn with a version that has this set below it: the version, and the item's first one
+    /// where it goes along. `None` where the version is learned for its own item alone.
+    fn spread<S: VersionSet>(
+        &self,
+        item: ItemId,
+        version: Version,
+        below: &S,
+    ) -> Option<(Option<Version>, Version)>
+        ensures all { IfSome result (λ learned. learned_of sparing_form self.now item version (S.has below.now) ≡ with_all (normal_known self.now) (both (in_some name_eq learned.0) (name_eq learned.1))) }
+        ensures alone { result ≡ None → spreads self.now item version (S.has below.now) ≡ false }
+    {
+        if !self.spreads(item, version, below) {
+            return None;
+        }
+        Some((self.first_along(item, below), version))
     }
 
     /// The fault that `learn_with` would answer where memory is there. It allocates nothing. It costs a
@@ -171,15 +195,10 @@ impl SparingKnowledge {
         ensures memory { result ≢ Err FormFault.OutOfMemory }
     {
         let set = OfSet { set: below };
-        if !self.spreads(item, version, below) {
-            return self.items.may_learn_alone_with(item, version, &set);
+        match self.spread(item, version, below) {
+            Some(learned) => self.items.may_learn_more(item, &learned, &set),
+            None => self.items.may_learn_alone_with(item, version, &set),
         }
-        if self.takes_first(item, below) {
-            return self
-                .items
-                .may_learn_more(item, &(version, item.creator()), &set);
-        }
-        self.items.may_learn_with(item, version, &set)
     }
 
     /// Learns a version that came with the set of versions below it: the version for all items where it
@@ -200,13 +219,10 @@ impl SparingKnowledge {
         ensures err { OnErr result (self.new ≡ self.old) }
     {
         let set = OfSet { set: below };
-        if !self.spreads(item, version, below) {
-            return self.items.learn_alone_with(item, version, &set);
+        match self.spread(item, version, below) {
+            Some(learned) => self.items.learn_more(item, &learned, &set),
+            None => self.items.learn_alone_with(item, version, &set),
         }
-        if self.takes_first(item, below) {
-            return self.items.learn_two(item, &(version, item.creator()), &set);
-        }
-        self.items.learn_with(item, version, &set)
     }
 
     /// Adds all versions of a fragment, whose vector is of any form, for each of its items, and nothing

@@ -88,16 +88,7 @@ impl<const LIMIT: usize> ItemsUpTo<LIMIT> {
         ensures items { IsErrOf result FormFault.TooManyItems ↔ IsOverItemsInTurn (items_form LIMIT) (with_learned true (normal_known self.now) item version) (with_learned_below true (normal_known self.now) item version (S.has below.now)) }
         ensures memory { result ≢ Err FormFault.OutOfMemory }
     {
-        if self.would_be_holey_for_all(version) {
-            return Err(FormFault::TooManyHoles);
-        }
-        if self.would_be_holey_with(item, version, below) {
-            return Err(FormFault::TooManyHoles);
-        }
-        if !self.has_room_with(item, version, below) {
-            return Err(FormFault::TooManyItems);
-        }
-        Ok(())
+        self.may_learn_more(item, &version, below)
     }
 
     /// Learns a version that came with the set of versions below it: the version for all items, and
@@ -114,15 +105,6 @@ impl<const LIMIT: usize> ItemsUpTo<LIMIT> {
         ensures items { IsErrOf result FormFault.TooManyItems ↔ IsOverItemsInTurn (items_form LIMIT) (with_learned true (normal_known self.old) item version) (with_learned_below true (normal_known self.old) item version (S.has below.now)) }
         ensures err { OnErr result (self.new ≡ self.old) }
     {
-        let Ok(done) = self.try_learn_with(item, version, below) else {
-            self.may_learn_with(item, version, below)?;
-            return Err(FormFault::OutOfMemory);
-        };
-        if done {
-            return Ok(());
-        }
-        self.may_learn_with(item, version, below)?;
-        self.settle_with(item, version, below)?;
-        Ok(())
+        self.learn_more(item, &(None, version), below)
     }
 }

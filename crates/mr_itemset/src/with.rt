@@ -1,47 +1,18 @@
 ghost use Rattle.std.specs.Prelude.{◌≡◌, true, false, All, IfOk};
-ghost use Rattle.mr_version.specs.Name.{name_eq};
 ghost use Rattle.mr_forms.specs.Sets.{Covers, both};
 ghost use Rattle.mr_forms.specs.Known.{AreSame, with_below};
-ghost use Rattle.mr_concise.specs.Source.{in_some};
 ghost use Rattle.mr_concise.specs.Vector.{vector_has};
 ghost use Rattle.mr_itemset.specs.Normal.{normal_known, IsNormal};
-ghost use Rattle.mr_itemset.specs.ItemForm.{HasHoleyItem, ListsTooMany, with_all};
+ghost use Rattle.mr_itemset.specs.ItemForm.{ListsTooMany, with_all};
 ghost use Rattle.mr_itemset.specs.Room.{Drops, HasRoomWith};
 
 use crate::limits::lacks;
-use crate::pending::leaves_room;
 use crate::settled::Settled;
-use mr_concise::{ConciseVector, MAX_HOLES, Source, most_holes, would_have_too_many};
-use mr_version::{ItemId, Version};
+use mr_concise::Source;
+use mr_version::ItemId;
 use std::alloc::AllocError;
 
 impl<const LIMIT: usize> Settled<LIMIT> {
-    /// Whether the item's vector would have too many holes with the version, those that are pending and
-    /// these, where they are something new. It allocates nothing, and walks through those that are pending
-    /// only where a limit may be near.
-    pub(crate) fn would_be_holey_with<S: Source>(
-        &self,
-        item: ItemId,
-        version: Option<Version>,
-        pending: &ConciseVector,
-        below: &S,
-    ) -> bool
-        ensures yes { result ≡ true → HasHoleyItem (with_below (with_all (normal_known self.now) (both (in_some name_eq version) (vector_has pending.now))) item (S.has below.now)) }
-        ensures no { result ≡ false → HasHoleyItem (with_below (with_all (normal_known self.now) (both (in_some name_eq version) (vector_has pending.now))) item (S.has below.now)) → HasHoleyItem (with_all (normal_known self.now) (both (in_some name_eq version) (vector_has pending.now))) }
-    {
-        let vector = self.vector_of(item);
-        let known = ((version, pending), vector);
-        if !lacks(&known, below) {
-            return false;
-        }
-        let most = most_holes(&(below, vector));
-        let _columns = pending.author_columns();
-        if most <= MAX_HOLES && leaves_room(pending, most) {
-            return false;
-        }
-        would_have_too_many(&(below, known))
-    }
-
     /// Whether some item would be listed no longer, once all items have what they learn. It allocates
     /// nothing.
     fn would_drop<A: Source>(&self, learned: &A) -> bool

@@ -30,34 +30,8 @@ returns-then-not-has_room_more-clause-items g c =
       λ _. refl,
     )
 
-pub returns-clause-ok : goal.returns-clause-ok
-returns-clause-ok g c = (
-  λ holey. false≢true (sym c.if-would_be_holey_for_more.false ∙ c.would_be_holey_for_more.ensures.holey.1 (c.would_be_holey_more.ensures.no c.if-would_be_holey_more.false holey)),
-  c.has_room_more.ensures.yes c.if-not-has_room_more.false,
-)
-
 pub returns-clause-items : goal.returns-clause-items
 returns-clause-items g c = succeeds _ _ (λ over. elim over [
   | inl only ↦ lists_few c.args.self.now (g.A.Source.has c.args.learned.now) c.would_be_holey_for_more.ensures.normal only.0
   | inr both ↦ c.has_room_more.ensures.yes c.if-not-has_room_more.false both.1.0
 ])
-
-pub returns-then-would_be_holey_for_more-clause-holes :
-    goal.returns-then-would_be_holey_for_more-clause-holes
-returns-then-would_be_holey_for_more-clause-holes g c = (λ _. inl (c.would_be_holey_for_more.ensures.holey.0 c.if-would_be_holey_for_more.true), λ _. refl)
-
-pub returns-then-would_be_holey_for_more-clause-items :
-    goal.returns-then-would_be_holey_for_more-clause-items
-returns-then-would_be_holey_for_more-clause-items g c =
-    let holey = c.would_be_holey_for_more.ensures.holey.0 c.if-would_be_holey_for_more.true in
-    refuses_otherwise _ _ (λ same. cc) (λ over. elim over [ inl only ↦ only.1 holey | inr both ↦ both.0.0 holey ])
-
-pub returns-then-not-has_room_more-clause-holes : goal.returns-then-not-has_room_more-clause-holes
-returns-then-not-has_room_more-clause-holes g c =
-    let first : ¬ HasHoleyItem (with_all (normal_known c.args.self.now) (g.A.Source.has c.args.learned.now)) = λ holey. false≢true (sym c.if-would_be_holey_for_more.false ∙ c.would_be_holey_for_more.ensures.holey.1 holey) in
-    refuses_otherwise _ _ (λ same. cc) (λ over. elim over [ inl holey ↦ first holey | inr both ↦ first (c.would_be_holey_more.ensures.no c.if-would_be_holey_more.false both.1) ])
-
-pub returns-clause-holes : goal.returns-clause-holes
-returns-clause-holes g c =
-    let first : ¬ HasHoleyItem (with_all (normal_known c.args.self.now) (g.A.Source.has c.args.learned.now)) = λ holey. false≢true (sym c.if-would_be_holey_for_more.false ∙ c.would_be_holey_for_more.ensures.holey.1 holey) in
-    succeeds _ _ (λ over. elim over [ inl holey ↦ first holey | inr both ↦ first (c.would_be_holey_more.ensures.no c.if-would_be_holey_more.false both.1) ])

@@ -1,38 +1,25 @@
-use Rattle.std.proofs.Common.{List, Err, All, sym, ap, subst, ◌∙◌, arith, suc, drop, take}
+use Rattle.std.proofs.Common.{List, All, sym, ap, subst, ◌∙◌, arith, take}
 use Rattle.std.proofs.lemmas.List.{take_all}
-use Rattle.std.proofs.lemmas.Result.{err_from_is_err_and}
 use Rattle.mr_forms.specs.declared.fragment.Fragment.{Fragment}
 use Rattle.mr_forms.specs.Known.{AreSame, HasValue}
-use Rattle.mr_forms.specs.Merged.{after_each, AreOverHolesInTurn, AreOverItemsInTurn}
-use Rattle.mr_forms.proofs.MergedLemmas.{after_all, after_all-same, merged_next, fits_next, holes_there, items_there, split_at, take_next}
+use Rattle.mr_forms.specs.Merged.{after_each}
+use Rattle.mr_forms.proofs.MergedLemmas.{after_all, after_all-same, merged_next, fits_next, take_next}
 use Rattle.mr_itemset.specs.Normal.{Normal, normal_known}
 use Rattle.mr_itemset.specs.ItemForm.{items_form}
 use Rattle.mr_forms.specs.declared.fault.FormFault.TheVariants as fault
-use Rattle.mr_itemset.proofs.MergingLemmas.{one_fault}
+use Rattle.mr_itemset.proofs.MergingLemmas.{holes_at, items_at, passed_on}
 use Rattle.mr_itemset.proofs.knowledge.ItemsUpTo.with_fragments.Goals as goal
 
 -- the next fragment is the first that has no value
 pub returns-in_err-take_in-clause-holes : goal.returns-in_err-take_in-clause-holes
 returns-in_err-take_in-clause-holes g c over =
-    let has = g.S.VersionSet.has in
-    let known = normal_known c.args.self.now in
-    let k = c.loop-fragment.fragment-index in
-    let f = c.fragment-item.result in
-    let fs = c.args.fragments.now in
-    let p = err_from_is_err_and c.from_residual-in_err-take_in.result c.from_residual-in_err-take_in.ensures.1 in
-    subst (λ (gs : List (Fragment g.row.S.Denot)). AreOverHolesInTurn (items_form g.row.LIMIT) (after_each has known gs)) (sym (split_at fs k f c.loop-fragment-test.true c.fragment-item.is))
-    (holes_there (items_form g.row.LIMIT) has known c.loop-fragment.knowledge (take k fs) f c.loop-fragment.invariant.is c.take_in.result c.loop-fragment.invariant.fits c.take_in.ensures.holes c.take_in.ensures.items (c.in_err-take_in.was ∙ ap Err (one_fault _ c.in_err-take_in.field-0.0 fault.TooManyHoles (sym (p.1 ∙ ap Err p.2)) over)) (drop (suc k) fs))
+    holes_at g.row.LIMIT g.S.VersionSet.has (normal_known c.args.self.now) c.loop-fragment.knowledge c.args.fragments.now c.loop-fragment.fragment-index c.fragment-item.result c.loop-fragment-test.true c.fragment-item.is c.loop-fragment.invariant.is c.take_in.result c.loop-fragment.invariant.fits c.take_in.ensures.holes c.take_in.ensures.items
+    (passed_on c.take_in.result c.from_residual-in_err-take_in.result c.in_err-take_in.field-0.0 fault.TooManyHoles c.in_err-take_in.was c.from_residual-in_err-take_in.ensures.1 over)
 
 pub returns-in_err-take_in-clause-items : goal.returns-in_err-take_in-clause-items
 returns-in_err-take_in-clause-items g c over =
-    let has = g.S.VersionSet.has in
-    let known = normal_known c.args.self.now in
-    let k = c.loop-fragment.fragment-index in
-    let f = c.fragment-item.result in
-    let fs = c.args.fragments.now in
-    let p = err_from_is_err_and c.from_residual-in_err-take_in.result c.from_residual-in_err-take_in.ensures.1 in
-    subst (λ (gs : List (Fragment g.row.S.Denot)). AreOverItemsInTurn (items_form g.row.LIMIT) (after_each has known gs)) (sym (split_at fs k f c.loop-fragment-test.true c.fragment-item.is))
-    (items_there (items_form g.row.LIMIT) has known c.loop-fragment.knowledge (take k fs) f c.loop-fragment.invariant.is c.take_in.result c.loop-fragment.invariant.fits c.take_in.ensures.holes c.take_in.ensures.items (c.in_err-take_in.was ∙ ap Err (one_fault _ c.in_err-take_in.field-0.0 fault.TooManyItems (sym (p.1 ∙ ap Err p.2)) over)) (drop (suc k) fs))
+    items_at g.row.LIMIT g.S.VersionSet.has (normal_known c.args.self.now) c.loop-fragment.knowledge c.args.fragments.now c.loop-fragment.fragment-index c.fragment-item.result c.loop-fragment-test.true c.fragment-item.is c.loop-fragment.invariant.is c.take_in.result c.loop-fragment.invariant.fits c.take_in.ensures.holes c.take_in.ensures.items
+    (passed_on c.take_in.result c.from_residual-in_err-take_in.result c.in_err-take_in.field-0.0 fault.TooManyItems c.in_err-take_in.was c.from_residual-in_err-take_in.ensures.1 over)
 
 -- the next fragment has a value and is merged
 pub loop-fragment-preserved : goal.loop-fragment-preserved

@@ -1,4 +1,4 @@
-use Rattle.std.proofs.Common.{◌≡◌, ◌≤◌, length, false, true≢false, sym, ◌∙◌, inl, inr}
+use Rattle.std.proofs.Common.{◌≡◌, ◌≤◌, length, false, sym, ◌∙◌}
 use Rattle.std.specs.List.{list_any}
 use Rattle.mr_version.specs.Name.{name_eq}
 use Rattle.mr_itemset.specs.Normal.{items_of}
@@ -13,15 +13,3 @@ returns-clause-no g c full =
     let many : g.row.LIMIT ≤ length c.args.self.now.listed = rw (← c.listed.ensures.is, listed_of-length c.listed.result.now.entries, ← c.len.ensures.len) c.if-len.false in
     lists_too_many c.args.self.now (g.S.Source.has c.args.set.now) c.args.item c.listed.ensures.normal many free
     (rw c.for_all.ensures.is at (c.lacks.ensures.yes (not_false c.lacks.result full)))
-
-pub returns-then-len-clause-yes : goal.returns-then-len-clause-yes
-returns-then-len-clause-yes g c _ = inl (rw (← c.listed.ensures.is, listed_of-length c.listed.result.now.entries, ← c.len.ensures.len) c.if-len.true)
-
-pub returns-then-len-clause-no : goal.returns-then-len-clause-no
-returns-then-len-clause-no g c wrong = absurd (true≢false wrong)
-
-pub returns-then-lists-clause-yes : goal.returns-then-lists-clause-yes
-returns-then-lists-clause-yes g c _ = inr (inl (sym c.lists.ensures ∙ c.if-lists.true))
-
-pub returns-then-lists-clause-no : goal.returns-then-lists-clause-no
-returns-then-lists-clause-no g c wrong = absurd (true≢false wrong)

@@ -1,31 +1,10 @@
-use Rattle.std.proofs.Common.{◌≡◌, ◌≤◌, length, false, true≢false, sym, ◌∙◌, inl, inr}
+use Rattle.std.proofs.Common.{◌≡◌, ◌≤◌, length, false, sym, ◌∙◌}
 use Rattle.std.specs.List.{list_any}
 use Rattle.mr_version.specs.Name.{name_eq}
 use Rattle.mr_itemset.specs.Normal.{items_of}
 use Rattle.mr_itemset.proofs.EntryLemmas.{listed_of-length}
 use Rattle.mr_itemset.proofs.WithLemmas.{lists_too_many-with}
 use Rattle.mr_itemset.proofs.settled.Settled.has_room_with.Goals as goal
-
-pub returns-then-len-clause-yes : goal.returns-then-len-clause-yes
-returns-then-len-clause-yes g c _ = inl (rw (← c.listed.ensures.is, listed_of-length c.listed.result.now.entries, ← c.len.ensures.len) c.if-len.true)
-
-pub returns-then-len-clause-no : goal.returns-then-len-clause-no
-returns-then-len-clause-no g c wrong = absurd (true≢false wrong)
-
-pub returns-then-lists-clause-yes : goal.returns-then-lists-clause-yes
-returns-then-lists-clause-yes g c _ = inr (inl (sym c.lists.ensures ∙ c.if-lists.true))
-
-pub returns-then-lists-clause-no : goal.returns-then-lists-clause-no
-returns-then-lists-clause-no g c wrong = absurd (true≢false wrong)
-
-pub returns-then-not-lacks-clause-yes : goal.returns-then-not-lacks-clause-yes
-returns-then-not-lacks-clause-yes g c _ = inr (inr (inl (rw c.for_all.ensures.is at (c.lacks.ensures.no c.if-not-lacks.true))))
-
-pub returns-then-not-lacks-clause-no : goal.returns-then-not-lacks-clause-no
-returns-then-not-lacks-clause-no g c wrong = absurd (true≢false wrong)
-
-pub returns-clause-yes : goal.returns-clause-yes
-returns-clause-yes g c drops = inr (inr (inr (c.would_drop.ensures.yes drops)))
 
 pub returns-clause-no : goal.returns-clause-no
 returns-clause-no g c full =

@@ -1,6 +1,6 @@
 use Rattle.std.proofs.lemmas.Result.{err_from_is_err_and}
 use Rattle.mr_itemset.proofs.RefusalLemmas.{passed, succeeds, refuses_otherwise, no_holes_in_turn, no_items_in_turn}
-use Rattle.mr_itemset.proofs.knowledge.ItemsUpTo.learn_two.Goals as goal
+use Rattle.mr_itemset.proofs.knowledge.ItemsUpTo.learn_more.Goals as goal
 
 pub returns-in_err-may_learn_more-clause-holes : goal.returns-in_err-may_learn_more-clause-holes
 returns-in_err-may_learn_more-clause-holes g c = let p = err_from_is_err_and c.from_residual.result c.from_residual.ensures.1 in rw (p.1, p.2, ← c.in_default.ensures.err) c.in_err-may_learn_more.ensures.holes
