@@ -2,6 +2,5 @@ pub mod Cut
 pub mod LabelLemmas
 pub mod PieceLemmas
 pub mod Readings
-pub mod Shapes
 pub mod There
 pub mod WordLemmas

@@ -11,7 +11,7 @@ use Rattle.std.specs.Result.{is_err}
 use Rattle.std.proofs.lemmas.Bool.{false≢true}
 use Rattle.mr_version.specs.Name.{Name, IsVersion, name_text}
 use Rattle.mr_version.specs.declared.fault.VersionFault.{VersionFault}
-use Rattle.mr_command.specs.List.{parts_of, parts_left, IsVersionName}
+use Rattle.mr_command.specs.List.{parts_of, IsVersionName}
 
 -- a text with no separator is its one part
 pub parts-whole : (separator : ℕ) (text : List ℕ) → position_or_len (λ b. b == separator) text ≡ length text → parts_of separator text ≡ text ∷ []

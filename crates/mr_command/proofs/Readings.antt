@@ -1,10 +1,12 @@
 -- readings, step by step
-use Rattle.std.proofs.Common.{◌≡◌, Bool, true, false, Result, Ok, Err, MatchResult}
+use Rattle.std.proofs.Common.{◌≡◌, ℕ, Bool, true, false, List, Result, Ok, Err, MatchResult, Bor}
 use Rattle.std.specs.Result.{IsErrAnd, IsOkAnd}
 use Rattle.std.proofs.lemmas.Result.{err_from_is_err_and}
 use Rattle.mr_command.specs.declared.fault.LineFault.{LineFault}
-use Rattle.mr_command.specs.Reading.{Reading, choose, gives_some, Both}
+use Rattle.mr_command.specs.Reading.{Reading, choose, Both}
 use Rattle.mr_command.specs.Reading.Both.{goes_on, ends}
+use Rattle.mr_command.specs.Scene.{Scene}
+use Rattle.mr_command.specs.Shape.{reads_two}
 
 -- what is chosen where the test holds, and where it does not
 pub choose-true : {X : Type 0} (b : Bool) (first second : Reading X) (result : Result X LineFault) → b ≡ true → first result → choose b first second result
@@ -23,11 +25,9 @@ mapped Made (Ok x) (Ok y) made gives reads = goes_on reads (gives x y made)
 mapped Made (Ok x) (Err e) made gives reads = absurd made
 mapped Made (Err e) s same gives reads = rw same (ends reads)
 
-pub gives_some-weaker : {X : Type 0} {P Q : X → Type 0} (r : Result X LineFault) → ((x : X) → P x → Q x) → gives_some P r → gives_some Q r
-gives_some-weaker (Ok x) f made = f x made
-gives_some-weaker (Err e) f made = made
-
--- a reading that goes on in a weaker way
-pub Both-weaker : {X Y : Type 0} {First : Reading X} {P Q : X → Reading Y} {r : Result Y LineFault} → ((x : X) (s : Result Y LineFault) → P x s → Q x s) → Both First P r → Both First Q r
-Both-weaker f (goes_on {x = x} {result = result} first next) = goes_on first (f x result next)
-Both-weaker f (ends first) = ends first
+-- two words, of which the second was read by a call: how it was read follows from what the call tells
+pub two_read : {X : Type 0} (scene : Scene) (Tells : Bor (List ℕ) → Reading X) (Reads : List ℕ → Reading X) (args : List (List ℕ)) (r : Result (ℕ × X) LineFault) → reads_two scene (λ word r. (w : Bor (List ℕ)) × Tells w r × (w.now ≡ word)) args r → ((word : Bor (List ℕ)) (r : Result X LineFault) → Tells word r → Reads word.now r) → reads_two scene Reads args r
+two_read scene Tells Reads args r (goes_on took (goes_on found (goes_on {x = x} (word, tells, same) gave))) read = goes_on took (goes_on found (goes_on (rw same at (read word (Ok x) tells)) gave))
+two_read scene Tells Reads args r (goes_on took (goes_on found (ends {fault = fault} (word, tells, same)))) read = goes_on took (goes_on found (ends (rw same at (read word (Err fault) tells))))
+two_read scene Tells Reads args r (goes_on took (ends found)) read = goes_on took (ends found)
+two_read scene Tells Reads args r (ends took) read = ends took

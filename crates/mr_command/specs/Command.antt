@@ -1,9 +1,11 @@
 -- Which command a line is, or which fault it has: first its name, then the number of its words, then each of
 -- them from left to right, with whether what it names is there, and then a message as a whole.
-use Rattle.std.specs.Prelude.{◌≡◌, ℕ, List, [], ◌∷◌, Option, Some, None, codes}
+use Rattle.std.specs.Prelude.{ℕ, List, [], ◌∷◌, Option, Some, None, codes}
 use Rattle.mr_mail.specs.Label.{text_eq}
-use Rattle.mr_world.specs.declared.event.Event.{Event}
-use Rattle.mr_world.specs.declared.event.Event.TheVariants.{Retire, Pull, Answer, Next, Receive, CutIn, CutOut, Offer, Take, Close, Vouch, Release}
+use Rattle.mr_mail.specs.Mail.{Mail}
+use Rattle.mr_model.specs.History.{◌does◌}
+use Rattle.mr_model.specs.declared.event.Event.{Event}
+use Rattle.mr_model.specs.declared.event.Act.TheVariants.{Retire, Pull, Answer, Next, Receive, CutIn, CutOut, Offer, Take, Close, Vouch, Release}
 use Rattle.mr_command.specs.declared.command.Command.{Command}
 use Rattle.mr_command.specs.declared.command.Command.TheVariants.{AddReplica, Happen, Sync, Ask}
 use Rattle.mr_command.specs.declared.command.Sync.{Sync as Session}
@@ -22,13 +24,13 @@ use Rattle.mr_command.specs.Shape.{reads_alone, reads_numbered, reads_framed, re
 use Rattle.mr_command.specs.Taking.{takes_two_or_three}
 use Rattle.mr_command.specs.Words.{words}
 
--- an event that is read is to happen
-abbrev pub happens : Reading Event → Reading Command
-happens reads = reads andthen λ e. gives (Happen e)
+-- the event is to happen
+abbrev pub happens : Event Mail → Reading Command
+happens e = gives (Happen e)
 
--- a question that is read is to be answered
-abbrev pub asks : Reading Question → Reading Command
-asks reads = reads andthen λ q. gives (Ask q)
+-- the question is to be answered
+abbrev pub asks : Question → Reading Command
+asks q = gives (Ask q)
 
 -- a number that may be missing
 abbrev pub reads_most : Option (List ℕ) → Reading (Option ℕ)
@@ -48,42 +50,42 @@ module _ (scene : Scene) where
   -- a question, by its name
   abbrev pub reads_question : (name : List ℕ) → (args : List (List ℕ)) → Reading Command
   reads_question name args =
-      choose (text_eq name (codes "heads")) (asks (reads_alone scene (λ id q. q ≡ Heads id) args)) (
-      choose (text_eq name (codes "pushouts")) (asks (reads_alone scene (λ id q. q ≡ PushOuts id) args)) (
-      choose (text_eq name (codes "conflicts")) (asks (reads_alone scene (λ id q. q ≡ Conflicts id) args)) (
-      choose (text_eq name (codes "know")) (asks (reads_alone scene (λ id q. q ≡ Know id) args)) (
-      choose (text_eq name (codes "feed")) (asks (reads_alone scene (λ id q. q ≡ Feed id) args)) (
-      choose (text_eq name (codes "log")) (asks (reads_alone scene (λ id q. q ≡ Log id) args)) (
-      choose (text_eq name (codes "show")) (asks (reads_versioned scene (λ id v q. q ≡ Show id v) args)) (
-      choose (text_eq name (codes "bytes")) (asks (reads_bytes scene args)) (
-      choose (text_eq name (codes "index")) (asks (reads_index scene args)) (
-      choose (text_eq name (codes "unseen")) (asks (reads_alone scene (λ id q. q ≡ Unseen id) args)) (
+      choose (text_eq name (codes "heads")) (reads_alone scene args andthen λ id. asks (Heads id)) (
+      choose (text_eq name (codes "pushouts")) (reads_alone scene args andthen λ id. asks (PushOuts id)) (
+      choose (text_eq name (codes "conflicts")) (reads_alone scene args andthen λ id. asks (Conflicts id)) (
+      choose (text_eq name (codes "know")) (reads_alone scene args andthen λ id. asks (Know id)) (
+      choose (text_eq name (codes "feed")) (reads_alone scene args andthen λ id. asks (Feed id)) (
+      choose (text_eq name (codes "log")) (reads_alone scene args andthen λ id. asks (Log id)) (
+      choose (text_eq name (codes "show")) (reads_versioned scene args andthen λ (id, v). asks (Show id v)) (
+      choose (text_eq name (codes "bytes")) (reads_bytes scene args andthen λ q. asks q) (
+      choose (text_eq name (codes "index")) (reads_index scene args andthen λ q. asks q) (
+      choose (text_eq name (codes "unseen")) (reads_alone scene args andthen λ id. asks (Unseen id)) (
       fails UnknownCommand))))))))))
 
   -- an event with no message, by its name, or else a question
   abbrev pub reads_event : (name : List ℕ) → (args : List (List ℕ)) → Reading Command
   reads_event name args =
-      choose (text_eq name (codes "retire")) (happens (reads_alone scene (λ id e. e ≡ Retire id) args)) (
-      choose (text_eq name (codes "pull")) (happens (reads_alone scene (λ id e. e ≡ Pull id) args)) (
-      choose (text_eq name (codes "answer")) (happens (reads_framed scene Asks (λ id n e. e ≡ Answer id n) args)) (
-      choose (text_eq name (codes "next")) (happens (reads_numbered scene (λ id n e. e ≡ Next id n) args)) (
-      choose (text_eq name (codes "receive")) (happens (reads_framed scene Records (λ id n e. e ≡ Receive id n) args)) (
-      choose (text_eq name (codes "part")) (happens (reads_part scene args)) (
-      choose (text_eq name (codes "cutin")) (happens (reads_numbered scene (λ id n e. e ≡ CutIn id n) args)) (
-      choose (text_eq name (codes "cutout")) (happens (reads_numbered scene (λ id n e. e ≡ CutOut id n) args)) (
-      choose (text_eq name (codes "offer")) (happens (reads_followed scene (λ id s e. e ≡ Offer id s) args)) (
-      choose (text_eq name (codes "take")) (happens (reads_followed scene (λ id s e. e ≡ Take id s) args)) (
-      choose (text_eq name (codes "close")) (happens (reads_followed scene (λ id s e. e ≡ Close id s) args)) (
-      choose (text_eq name (codes "vouch")) (happens (reads_versioned scene (λ id v e. e ≡ Vouch id v) args)) (
-      choose (text_eq name (codes "release")) (happens (reads_framed scene Receipts (λ id n e. e ≡ Release id n) args)) (
+      choose (text_eq name (codes "retire")) (reads_alone scene args andthen λ id. happens (id does Retire)) (
+      choose (text_eq name (codes "pull")) (reads_alone scene args andthen λ id. happens (id does Pull)) (
+      choose (text_eq name (codes "answer")) (reads_framed scene Asks args andthen λ (id, n). happens (id does Answer n)) (
+      choose (text_eq name (codes "next")) (reads_numbered scene args andthen λ (id, n). happens (id does Next n)) (
+      choose (text_eq name (codes "receive")) (reads_framed scene Records args andthen λ (id, n). happens (id does Receive n)) (
+      choose (text_eq name (codes "part")) (reads_part scene args andthen λ e. happens e) (
+      choose (text_eq name (codes "cutin")) (reads_numbered scene args andthen λ (id, n). happens (id does CutIn n)) (
+      choose (text_eq name (codes "cutout")) (reads_numbered scene args andthen λ (id, n). happens (id does CutOut n)) (
+      choose (text_eq name (codes "offer")) (reads_followed scene args andthen λ (id, s). happens (id does Offer s)) (
+      choose (text_eq name (codes "take")) (reads_followed scene args andthen λ (id, s). happens (id does Take s)) (
+      choose (text_eq name (codes "close")) (reads_followed scene args andthen λ (id, s). happens (id does Close s)) (
+      choose (text_eq name (codes "vouch")) (reads_versioned scene args andthen λ (id, v). happens (id does Vouch v)) (
+      choose (text_eq name (codes "release")) (reads_framed scene Receipts args andthen λ (id, n). happens (id does Release n)) (
       reads_question name args)))))))))))))
 
   -- a command, by its name
   abbrev pub reads_named : (name : List ℕ) → (args : List (List ℕ)) → Reading Command
   reads_named name args =
       choose (text_eq name (codes "replica")) (reads_opening scene args andthen λ spec. gives (AddReplica spec)) (
-      choose (text_eq name (codes "create")) (happens (reads_create scene args)) (
-      choose (text_eq name (codes "edit")) (happens (reads_edit scene args)) (
+      choose (text_eq name (codes "create")) (reads_create scene args andthen λ e. happens e) (
+      choose (text_eq name (codes "edit")) (reads_edit scene args andthen λ e. happens e) (
       choose (text_eq name (codes "sync")) (reads_sync args andthen λ session. gives (Sync session)) (
       reads_event name args))))
 

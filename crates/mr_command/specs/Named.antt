@@ -1,8 +1,8 @@
 -- what the words of a line name
 use Rattle.std.specs.Prelude.{◌≡◌, ◌<◌, ◌^◌, ◌∷◌, ℕ, not, List, codes}
 use Rattle.std.specs.Fmt.{decimal}
-use Rattle.mr_world.specs.declared.event.Subscriber.{Subscriber}
-use Rattle.mr_world.specs.declared.event.Subscriber.TheVariants.{Indexer, Notifier}
+use Rattle.mr_model.specs.declared.event.Subscriber.{Subscriber}
+use Rattle.mr_model.specs.declared.event.Subscriber.TheVariants.{Indexer, Notifier}
 use Rattle.mr_command.specs.declared.fault.LineFault.TheVariants.{BadNumber, SameReplica, NoSuchReplica, NoSuchFrame}
 use Rattle.mr_command.specs.declared.pool.Pool.{Pool}
 use Rattle.mr_command.specs.Number.{SpellsId}

@@ -5,10 +5,11 @@ use Rattle.std.specs.declared.alloc.Global.{Global}
 use Rattle.mr_command.specs.declared.command.Question.{Question}
 use Rattle.mr_command.specs.declared.command.Question.TheVariants.{Bytes, Index}
 use Rattle.mr_command.specs.declared.fault.LineFault.TheVariants.{BadNumber, OutOfMemory}
-use Rattle.mr_command.specs.Named.{BeginsWithLetter, reads_replica, reads_frame}
+use Rattle.mr_command.specs.Named.{BeginsWithLetter, reads_frame}
 use Rattle.mr_command.specs.Reading.{Reading, gives, names, ◌andthen◌}
 use Rattle.mr_command.specs.Scene.{Scene}
-use Rattle.mr_command.specs.Taking.{takes_one, takes_two}
+use Rattle.mr_command.specs.Shape.{reads_two}
+use Rattle.mr_command.specs.Taking.{takes_one}
 
 -- any word, as it stands
 abbrev pub reads_text : List ℕ → Reading (String Global)
@@ -26,8 +27,4 @@ module _ (scene : Scene) where
 
   -- `R LABEL`, of which LABEL may be any word
   abbrev pub reads_index : List (List ℕ) → Reading Question
-  reads_index args =
-      takes_two args andthen λ (replica, label).
-      reads_replica scene replica andthen λ id.
-      reads_text label andthen λ text.
-      gives (Index id text)
+  reads_index args = reads_two scene reads_text args andthen λ (id, text). gives (Index id text)

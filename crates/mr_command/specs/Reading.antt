@@ -11,11 +11,6 @@ Reading X = Result X LineFault → Type 0
 abbrev pub gives : {X : Type 0} → X → Reading X
 gives x result = result ≡ Ok x
 
--- what gives one of those that are such
-abbrev pub gives_some : {X : Type 0} → (X → Type 0) → Reading X
-gives_some Is (Ok x) = Is x
-gives_some Is (Err fault) = ⊥
-
 -- what is at fault
 abbrev pub fails : {X : Type 0} → LineFault → Reading X
 fails fault result = result ≡ Err fault

@@ -5,7 +5,9 @@ use Rattle.std.specs.Fmt.{digits}
 use Rattle.mr_mail.specs.declared.fault.MessageFault.TheVariants.{BadLabel, BadFlags as BadFlagByte, OutOfMemory as NoMemory}
 use Rattle.mr_mail.specs.Label.{different_labels}
 use Rattle.mr_mail.specs.declared.flags.Flag.TheVariants.{Seen, Flagged, Deleted}
-use Rattle.mr_world.specs.declared.event.Event.TheVariants.{Pull}
+use Rattle.mr_model.specs.History.{◌does◌}
+use Rattle.mr_model.specs.declared.event.Act.TheVariants.{Pull, Offer}
+use Rattle.mr_model.specs.declared.event.Subscriber.TheVariants.{Notifier}
 use Rattle.mr_command.specs.declared.command.Command.TheVariants.{Ask, Happen}
 use Rattle.mr_command.specs.declared.command.Question.TheVariants.{Heads}
 use Rattle.mr_command.specs.declared.fault.LineFault.TheVariants.{WrongWords, UnknownCommand, NoSuchReplica, LateReplica, SameReplica, MessageRefused, OutOfMemory}
@@ -214,12 +216,17 @@ opening = record { is_opening = true; has_replica = λ id. id == 3; has_frame = 
 -- a question about a replica
 pub asks_heads : reads_command begun (codes "heads 3") (Ok (Ask (Heads 3)))
 unfolding digits
-asks_heads = goes_on (goes_on refl (goes_on (goes_on {x = 3} (record { spelled = refl; in_range = omega arith }) refl) refl)) refl
+asks_heads = goes_on (goes_on refl (goes_on {x = 3} (record { spelled = refl; in_range = omega arith }) refl)) refl
 
 -- an event of a replica
-pub pulls : reads_command begun (codes "pull 3") (Ok (Happen (Pull 3)))
+pub pulls : reads_command begun (codes "pull 3") (Ok (Happen (3 does Pull)))
 unfolding digits
-pulls = goes_on (goes_on refl (goes_on (goes_on {x = 3} (record { spelled = refl; in_range = omega arith }) refl) refl)) refl
+pulls = goes_on (goes_on refl (goes_on {x = 3} (record { spelled = refl; in_range = omega arith }) refl)) refl
+
+-- two words, of which the second names a subscriber
+pub offers : reads_command begun (codes "offer 3 notifier") (Ok (Happen (3 does Offer Notifier)))
+unfolding digits
+offers = goes_on (goes_on refl (goes_on (goes_on {x = 3} (record { spelled = refl; in_range = omega arith }) refl) (goes_on {x = Notifier} refl refl))) refl
 
 -- names are in lower case
 pub upper_case : reads_command begun (codes "Heads 3") (Err UnknownCommand)
@@ -239,9 +246,14 @@ words_before_replica = ends (ends refl)
 
 pub no_such_replica : reads_command begun (codes "heads 4") (Err NoSuchReplica)
 unfolding digits
-no_such_replica = ends (goes_on refl (ends (goes_on {x = 4} (record { spelled = refl; in_range = omega arith }) refl)))
+no_such_replica = ends (goes_on refl (goes_on {x = 4} (record { spelled = refl; in_range = omega arith }) refl))
 
--- that the replica isn't there is told before what is wrong with its message
+-- that the replica isn't there is told before what is wrong with the word behind it
+pub replica_before_version : reads_command begun (codes "show 4 x") (Err NoSuchReplica)
+unfolding digits
+replica_before_version = ends (goes_on refl (ends (goes_on {x = 4} (record { spelled = refl; in_range = omega arith }) refl)))
+
+-- and before what is wrong with its message
 pub replica_before_message : reads_create begun (codes "4" ∷ codes "A" ∷ codes "!" ∷ codes "d" ∷ codes "x" ∷ []) (Err NoSuchReplica)
 unfolding digits
 replica_before_message = goes_on refl (ends (goes_on {x = 4} (record { spelled = refl; in_range = omega arith }) refl))

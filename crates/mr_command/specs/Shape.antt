@@ -1,52 +1,41 @@
 -- lines of a replica, and of one thing more at most
 use Rattle.std.specs.Prelude.{ℕ, List}
 use Rattle.mr_version.specs.Name.{Name}
-use Rattle.mr_world.specs.declared.event.Subscriber.{Subscriber}
+use Rattle.mr_model.specs.declared.event.Subscriber.{Subscriber}
 use Rattle.mr_command.specs.declared.fault.LineFault.TheVariants.{BadNumber, BadVersion}
 use Rattle.mr_command.specs.declared.pool.Pool.{Pool}
 use Rattle.mr_command.specs.List.{SpellsVersion}
 use Rattle.mr_command.specs.Named.{NamesSubscriber, reads_replica, reads_frame}
 use Rattle.mr_command.specs.Number.{SpellsNumber}
-use Rattle.mr_command.specs.Reading.{Reading, gives_some, names, ◌andthen◌}
+use Rattle.mr_command.specs.Reading.{Reading, gives, names, ◌andthen◌}
 use Rattle.mr_command.specs.Scene.{Scene}
 use Rattle.mr_command.specs.Taking.{takes_one, takes_two}
 
-module _ {X : Type 0} (scene : Scene) where
-  -- `R`, and what is made of it
-  abbrev pub reads_alone : (ℕ → X → Type 0) → List (List ℕ) → Reading X
-  reads_alone Makes args =
-      takes_one args andthen λ replica.
-      reads_replica scene replica andthen λ id.
-      gives_some (Makes id)
+module _ (scene : Scene) where
+  -- `R`
+  abbrev pub reads_alone : List (List ℕ) → Reading ℕ
+  reads_alone args = takes_one args andthen λ replica. reads_replica scene replica
 
-  -- `R N`, and what is made of them
-  abbrev pub reads_numbered : (ℕ → ℕ → X → Type 0) → List (List ℕ) → Reading X
-  reads_numbered Makes args =
-      takes_two args andthen λ (replica, number).
+  -- `R`, and a second word, which is read by `reads`
+  abbrev pub reads_two : {X : Type 0} → (List ℕ → Reading X) → List (List ℕ) → Reading (ℕ × X)
+  reads_two reads args =
+      takes_two args andthen λ (replica, word).
       reads_replica scene replica andthen λ id.
-      names SpellsNumber BadNumber number andthen λ n.
-      gives_some (Makes id n)
+      reads word andthen λ x.
+      gives (id, x)
 
-  -- `R` and a frame of the pool, and what is made of them
-  abbrev pub reads_framed : Pool → (ℕ → ℕ → X → Type 0) → List (List ℕ) → Reading X
-  reads_framed pool Makes args =
-      takes_two args andthen λ (replica, frame).
-      reads_replica scene replica andthen λ id.
-      reads_frame scene pool frame andthen λ n.
-      gives_some (Makes id n)
+  -- `R N`
+  abbrev pub reads_numbered : List (List ℕ) → Reading (ℕ × ℕ)
+  reads_numbered = reads_two (names SpellsNumber BadNumber)
 
-  -- `R S`, and what is made of them
-  abbrev pub reads_followed : (ℕ → Subscriber → X → Type 0) → List (List ℕ) → Reading X
-  reads_followed Makes args =
-      takes_two args andthen λ (replica, subscriber).
-      reads_replica scene replica andthen λ id.
-      names NamesSubscriber BadNumber subscriber andthen λ s.
-      gives_some (Makes id s)
+  -- `R` and a frame of the pool
+  abbrev pub reads_framed : Pool → List (List ℕ) → Reading (ℕ × ℕ)
+  reads_framed pool = reads_two (reads_frame scene pool)
 
-  -- `R V`, and what is made of them
-  abbrev pub reads_versioned : (ℕ → Name → X → Type 0) → List (List ℕ) → Reading X
-  reads_versioned Makes args =
-      takes_two args andthen λ (replica, version).
-      reads_replica scene replica andthen λ id.
-      names SpellsVersion BadVersion version andthen λ v.
-      gives_some (Makes id v)
+  -- `R S`
+  abbrev pub reads_followed : List (List ℕ) → Reading (ℕ × Subscriber)
+  reads_followed = reads_two (names NamesSubscriber BadNumber)
+
+  -- `R V`
+  abbrev pub reads_versioned : List (List ℕ) → Reading (ℕ × Name)
+  reads_versioned = reads_two (names SpellsVersion BadVersion)

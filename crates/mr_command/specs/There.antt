@@ -1,10 +1,11 @@
 -- what a command names is there
 use Rattle.std.specs.Prelude.{◌≤◌, Bool, true, IsTrue, IsFalse}
 use Rattle.mr_feed.specs.declared.port.TheConstants.{MAX_CAPACITY}
+use Rattle.mr_mail.specs.Mail.{Mail}
+use Rattle.mr_model.specs.declared.event.Act.{Act}
+use Rattle.mr_model.specs.declared.event.Act.TheVariants.{Answer, Receive, DeliverPart, Release}
+use Rattle.mr_model.specs.declared.event.Event.{Event}
 use Rattle.mr_replica.specs.declared.replica.TheConstants.{MAX_EVENTS}
-use Rattle.mr_world.specs.Event.{replica_of}
-use Rattle.mr_world.specs.declared.event.Event.{Event}
-use Rattle.mr_world.specs.declared.event.Event.TheVariants.{Answer, Receive, DeliverPart, Release}
 use Rattle.mr_world.specs.declared.spec.Spec.{Spec}
 use Rattle.mr_command.specs.declared.command.Command.{Command}
 use Rattle.mr_command.specs.declared.command.Command.TheVariants.{AddReplica, Happen, Sync, Ask}
@@ -24,17 +25,17 @@ module _ (scene : Scene) where
     pub few_places : spec.port_capacity ≤ MAX_CAPACITY
 
   -- the frame that comes to the replica is there, where one comes
-  abbrev pub has_frame_of : Event → Bool
-  has_frame_of (Answer r n) = scene.has_frame Asks n
-  has_frame_of (Receive r n) = scene.has_frame Records n
-  has_frame_of (DeliverPart r n bytes) = scene.has_frame Records n
-  has_frame_of (Release r n) = scene.has_frame Receipts n
-  has_frame_of event = true
+  abbrev pub has_frame_of : Act Mail → Bool
+  has_frame_of (Answer n) = scene.has_frame Asks n
+  has_frame_of (Receive n) = scene.has_frame Records n
+  has_frame_of (DeliverPart n bytes) = scene.has_frame Records n
+  has_frame_of (Release n) = scene.has_frame Receipts n
+  has_frame_of act = true
 
   -- the event may happen: its replica and its frame are there
-  pub record MayHappen (event : Event) : Type 0 where
-    pub replica : IsTrue (scene.has_replica (replica_of event))
-    pub frame : IsTrue (has_frame_of event)
+  pub record MayHappen (event : Event Mail) : Type 0 where
+    pub replica : IsTrue (scene.has_replica event.replica)
+    pub frame : IsTrue (has_frame_of event.act)
 
   -- what is asked about is there
   abbrev pub has_subject_of : Question → Bool

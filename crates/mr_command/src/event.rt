@@ -10,7 +10,7 @@ use crate::number::read_number;
 use crate::pool::Pool;
 use crate::roster::Roster;
 use crate::words::Words;
-use mr_world::Event;
+use mr_world::{Act, Event};
 use std::alloc::Global;
 
 /// `R LABELS FLAGS DATE FROM SUBJECT`
@@ -25,7 +25,7 @@ pub(crate) fn read_create<R: Roster>(
     let message = MessageWords::take(words)?;
     let id = read_replica(replica, roster)?;
     let message = message.read(alloc)?;
-    Ok(Event::Create(id, message))
+    Ok(Act::Create(message).by(id))
 }
 
 /// `R BASES LABELS FLAGS DATE FROM SUBJECT`
@@ -42,7 +42,7 @@ pub(crate) fn read_edit<R: Roster>(
     let id = read_replica(replica, roster)?;
     let bases = read_bases(alloc, bases)?;
     let message = message.read(alloc)?;
-    Ok(Event::Edit(id, bases, message))
+    Ok(Act::Edit(bases, message).by(id))
 }
 
 /// `R Pn BYTES`
@@ -53,5 +53,5 @@ pub(crate) fn read_part<R: Roster>(words: Words, roster: &R) -> Result<Event, Li
     let id = read_replica(replica, roster)?;
     let number = read_frame(Pool::Records, record, roster)?;
     let bytes = read_number(bytes)?;
-    Ok(Event::DeliverPart(id, number, bytes))
+    Ok(Act::DeliverPart(number, bytes).by(id))
 }

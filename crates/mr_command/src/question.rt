@@ -4,8 +4,9 @@ ghost use Rattle.mr_command.specs.Question.{reads_text, reads_bytes, reads_index
 
 use crate::LineFault;
 use crate::command::Question;
-use crate::named::{read_frame, read_pool, read_replica};
+use crate::named::{read_frame, read_pool};
 use crate::roster::Roster;
+use crate::shape::read_two;
 use crate::words::Words;
 use std::alloc::Global;
 
@@ -27,10 +28,8 @@ pub(crate) fn read_index<R: Roster>(
 ) -> Result<Question, LineFault>
     ensures { reads_index (R.scene roster.now) words.entry result }
 {
-    let (replica, label) = words.two()?;
-    let id = read_replica(replica, roster)?;
-    let label = read_text(alloc, label)?;
-    Ok(Question::Index(id, label))
+    let read = read_two(words, roster, |label| read_text(alloc, label));
+    read.map(|(id, label)| Question::Index(id, label))
 }
 
 /// Any word, as it stands.

@@ -1,6 +1,7 @@
 //! Commands by their names.
 ghost use Rattle.std.specs.Prelude.{◌≡◌};
 ghost use Rattle.std.specs.Option.{option_copied};
+ghost use Rattle.mr_model.specs.History.{◌does◌};
 ghost use Rattle.mr_command.specs.Command.{reads_most, reads_sync, reads_question, reads_event, reads_named};
 
 use crate::LineFault;
@@ -14,7 +15,8 @@ use crate::question::{read_bytes, read_index};
 use crate::roster::Roster;
 use crate::shape::{read_alone, read_followed, read_framed, read_numbered, read_versioned};
 use crate::words::Words;
-use mr_world::Event;
+use mr_version::Author;
+use mr_world::Act;
 use std::alloc::Global;
 
 /// The command of this name with the words after it.
@@ -45,25 +47,37 @@ fn read_event<R: Roster>(
     ensures { reads_event (R.scene roster.now) name.now words.entry result }
 {
     match name {
-        "retire" => read_alone(words, roster, Event::Retire).map(Command::Happen),
-        "pull" => read_alone(words, roster, Event::Pull).map(Command::Happen),
-        "answer" => read_framed(words, roster, Pool::Asks, Event::Answer).map(Command::Happen),
-        "next" => read_numbered(words, roster, Event::Next).map(Command::Happen),
+        "retire" => read_alone(words, roster).map(|id| does(id, Act::Retire)),
+        "pull" => read_alone(words, roster).map(|id| does(id, Act::Pull)),
+        "answer" => {
+            let read = read_framed(words, roster, Pool::Asks);
+            read.map(|(id, ask)| does(id, Act::Answer(ask)))
+        }
+        "next" => read_numbered(words, roster).map(|(id, stream)| does(id, Act::Next(stream))),
         "receive" => {
-            read_framed(words, roster, Pool::Records, Event::Receive).map(Command::Happen)
+            let read = read_framed(words, roster, Pool::Records);
+            read.map(|(id, record)| does(id, Act::Receive(record)))
         }
         "part" => read_part(words, roster).map(Command::Happen),
-        "cutin" => read_numbered(words, roster, Event::CutIn).map(Command::Happen),
-        "cutout" => read_numbered(words, roster, Event::CutOut).map(Command::Happen),
-        "offer" => read_followed(words, roster, Event::Offer).map(Command::Happen),
-        "take" => read_followed(words, roster, Event::Take).map(Command::Happen),
-        "close" => read_followed(words, roster, Event::Close).map(Command::Happen),
-        "vouch" => read_versioned(words, roster, Event::Vouch).map(Command::Happen),
+        "cutin" => read_numbered(words, roster).map(|(id, session)| does(id, Act::CutIn(session))),
+        "cutout" => read_numbered(words, roster).map(|(id, stream)| does(id, Act::CutOut(stream))),
+        "offer" => read_followed(words, roster).map(|(id, port)| does(id, Act::Offer(port))),
+        "take" => read_followed(words, roster).map(|(id, port)| does(id, Act::Take(port))),
+        "close" => read_followed(words, roster).map(|(id, port)| does(id, Act::Close(port))),
+        "vouch" => read_versioned(words, roster).map(|(id, head)| does(id, Act::Vouch(head))),
         "release" => {
-            read_framed(words, roster, Pool::Receipts, Event::Release).map(Command::Happen)
+            let read = read_framed(words, roster, Pool::Receipts);
+            read.map(|(id, receipt)| does(id, Act::Release(receipt)))
         }
         _ => read_question(alloc, name, words, roster),
     }
+}
+
+/// The command that the replica do this.
+fn does(replica: Author, act: Act) -> Command
+    ensures { result ≡ Command.Happen (replica does act) }
+{
+    Command::Happen(act.by(replica))
 }
 
 /// The question of this name. `UnknownCommand` where there is none.
@@ -76,16 +90,19 @@ fn read_question<R: Roster>(
     ensures { reads_question (R.scene roster.now) name.now words.entry result }
 {
     match name {
-        "heads" => read_alone(words, roster, Question::Heads).map(Command::Ask),
-        "pushouts" => read_alone(words, roster, Question::PushOuts).map(Command::Ask),
-        "conflicts" => read_alone(words, roster, Question::Conflicts).map(Command::Ask),
-        "know" => read_alone(words, roster, Question::Know).map(Command::Ask),
-        "feed" => read_alone(words, roster, Question::Feed).map(Command::Ask),
-        "log" => read_alone(words, roster, Question::Log).map(Command::Ask),
-        "show" => read_versioned(words, roster, Question::Show).map(Command::Ask),
+        "heads" => read_alone(words, roster).map(|id| Command::Ask(Question::Heads(id))),
+        "pushouts" => read_alone(words, roster).map(|id| Command::Ask(Question::PushOuts(id))),
+        "conflicts" => read_alone(words, roster).map(|id| Command::Ask(Question::Conflicts(id))),
+        "know" => read_alone(words, roster).map(|id| Command::Ask(Question::Know(id))),
+        "feed" => read_alone(words, roster).map(|id| Command::Ask(Question::Feed(id))),
+        "log" => read_alone(words, roster).map(|id| Command::Ask(Question::Log(id))),
+        "show" => {
+            let read = read_versioned(words, roster);
+            read.map(|(id, version)| Command::Ask(Question::Show(id, version)))
+        }
         "bytes" => read_bytes(words, roster).map(Command::Ask),
         "index" => read_index(alloc, words, roster).map(Command::Ask),
-        "unseen" => read_alone(words, roster, Question::Unseen).map(Command::Ask),
+        "unseen" => read_alone(words, roster).map(|id| Command::Ask(Question::Unseen(id))),
         _ => Err(LineFault::UnknownCommand),
     }
 }

@@ -1,6 +1,8 @@
-//! Lines of a replica, and of one thing more at most, with what is made of them.
+//! Lines of a replica, and of one thing more at most.
 ghost use Rattle.std.specs.Prelude.{◌≡◌};
-ghost use Rattle.mr_command.specs.Shape.{reads_alone, reads_numbered, reads_framed, reads_followed, reads_versioned};
+ghost use Rattle.std.specs.Fn.{FnOnceReturnsAt};
+ghost use Rattle.mr_command.specs.Named.{reads_frame};
+ghost use Rattle.mr_command.specs.Shape.{reads_alone, reads_two, reads_numbered, reads_framed, reads_followed, reads_versioned};
 
 use crate::LineFault;
 use crate::lists::read_version;
@@ -12,77 +14,66 @@ use crate::words::Words;
 use mr_version::{Author, Version};
 use mr_world::Subscriber;
 
-/// What is made of `R`.
-pub(crate) fn read_alone<R: Roster, X: Drop, F: FnOnce(Author) -> X>(
-    words: Words,
-    roster: &R,
-    make: F,
-) -> Result<X, LineFault>
-    requires { F.IsAlwaysCallable make }
-    ensures { reads_alone (R.scene roster.now) (F.post make) words.entry result }
+/// `R`
+pub(crate) fn read_alone<R: Roster>(words: Words, roster: &R) -> Result<Author, LineFault>
+    ensures { reads_alone (R.scene roster.now) words.entry result }
 {
     let replica = words.one()?;
-    let id = read_replica(replica, roster)?;
-    Ok(make(id))
+    read_replica(replica, roster)
 }
 
-/// What is made of `R N`.
-pub(crate) fn read_numbered<R: Roster, X: Drop, F: FnOnce(Author, u64) -> X>(
+/// `R`, and what `read` makes of a second word. The fault of the first comes before that of the second.
+pub(crate) fn read_two<R: Roster, X, F: FnOnce(&str) -> Result<X, LineFault>>(
     words: Words,
     roster: &R,
-    make: F,
-) -> Result<X, LineFault>
-    requires { F.IsAlwaysCallable make }
-    ensures { reads_numbered (R.scene roster.now) (F.post make) words.entry result }
+    read: F,
+) -> Result<(Author, X), LineFault>
+    requires { F.IsAlwaysCallable read }
+    ensures { reads_two (R.scene roster.now) (FnOnceReturnsAt F.FnOnce read) words.entry result }
 {
-    let (replica, number) = words.two()?;
+    let (replica, second) = words.two()?;
     let id = read_replica(replica, roster)?;
-    let number = read_number(number)?;
-    Ok(make(id, number))
+    let second = read(second)?;
+    Ok((id, second))
 }
 
-/// What is made of `R` and a frame of the pool.
-pub(crate) fn read_framed<R: Roster, X: Drop, F: FnOnce(Author, u64) -> X>(
+/// `R N`
+pub(crate) fn read_numbered<R: Roster>(words: Words, roster: &R) -> Result<(Author, u64), LineFault>
+    ensures { reads_numbered (R.scene roster.now) words.entry result }
+{
+    read_two(words, roster, read_number)
+}
+
+/// `R` and a frame of the pool.
+pub(crate) fn read_framed<R: Roster>(
     words: Words,
     roster: &R,
     pool: Pool,
-    make: F,
-) -> Result<X, LineFault>
-    requires { F.IsAlwaysCallable make }
-    ensures { reads_framed (R.scene roster.now) pool (F.post make) words.entry result }
+) -> Result<(Author, u64), LineFault>
+    ensures { reads_framed (R.scene roster.now) pool words.entry result }
 {
-    let (replica, frame) = words.two()?;
-    let id = read_replica(replica, roster)?;
-    let number = read_frame(pool, frame, roster)?;
-    Ok(make(id, number))
+    let read = |frame: &str| -> Result<u64, LineFault>
+        ensures { reads_frame (R.scene roster.entry.now) pool frame.now result }
+    { read_frame(pool, frame, roster) };
+    read_two(words, roster, read)
 }
 
-/// What is made of `R S`.
-pub(crate) fn read_followed<R: Roster, X: Drop, F: FnOnce(Author, Subscriber) -> X>(
+/// `R S`
+pub(crate) fn read_followed<R: Roster>(
     words: Words,
     roster: &R,
-    make: F,
-) -> Result<X, LineFault>
-    requires { F.IsAlwaysCallable make }
-    ensures { reads_followed (R.scene roster.now) (F.post make) words.entry result }
+) -> Result<(Author, Subscriber), LineFault>
+    ensures { reads_followed (R.scene roster.now) words.entry result }
 {
-    let (replica, subscriber) = words.two()?;
-    let id = read_replica(replica, roster)?;
-    let subscriber = read_subscriber(subscriber)?;
-    Ok(make(id, subscriber))
+    read_two(words, roster, read_subscriber)
 }
 
-/// What is made of `R V`.
-pub(crate) fn read_versioned<R: Roster, X: Drop, F: FnOnce(Author, Version) -> X>(
+/// `R V`
+pub(crate) fn read_versioned<R: Roster>(
     words: Words,
     roster: &R,
-    make: F,
-) -> Result<X, LineFault>
-    requires { F.IsAlwaysCallable make }
-    ensures { reads_versioned (R.scene roster.now) (F.post make) words.entry result }
+) -> Result<(Author, Version), LineFault>
+    ensures { reads_versioned (R.scene roster.now) words.entry result }
 {
-    let (replica, version) = words.two()?;
-    let id = read_replica(replica, roster)?;
-    let version = read_version(version)?;
-    Ok(make(id, version))
+    read_two(words, roster, read_version)
 }

@@ -5,6 +5,9 @@ use Rattle.std.specs.Prelude.{slice_get}
 use Rattle.std.specs.List.{cons_option, filter_map}
 use Rattle.std.specs.Option.{option_map}
 use Rattle.mr_version.specs.Name.{Name}
+use Rattle.mr_mail.specs.Mail.{Mail}
+use Rattle.mr_model.specs.declared.event.Act.{Act}
+use Rattle.mr_model.specs.declared.event.Act.TheVariants as act
 use Rattle.mr_replica.specs.declared.event.Reply.TheVariants as reply
 use Rattle.mr_wire.specs.declared.frame.Body.{Body}
 use Rattle.mr_wire.specs.declared.frame.Body.TheVariants as body
@@ -12,8 +15,6 @@ use Rattle.mr_world.specs.Pool.{at_number}
 use Rattle.mr_world.specs.declared.answer.Answer.{Answer}
 use Rattle.mr_world.specs.declared.answer.Answer.TheVariants.{Stepped, Truncated, Offered, NothingNew, Full, TookEntry, Empty, Closed, Done}
 use Rattle.mr_world.specs.declared.answered.Answered.{Answered}
-use Rattle.mr_world.specs.declared.event.Event.{Event}
-use Rattle.mr_world.specs.declared.event.Event.TheVariants as event
 use Rattle.mr_draw.specs.NoteLists.{NoteLists}
 use Rattle.mr_draw.specs.Notes.{gave_by, gave_in, notes_of, taking_as}
 use Rattle.mr_draw.specs.Happening.{Dot, dot_as, dot_at, dots, happenings_from, happenings_of, issued_in, issued_versions, kind_of_answer, kind_of_done, kind_of_opened, kind_of_taken, lane_of}
@@ -21,102 +22,102 @@ use Rattle.mr_draw.specs.Happened.{Happened}
 use Rattle.mr_draw.specs.declared.happening.Kind.{Kind}
 use Rattle.mr_draw.specs.declared.happening.Kind.TheVariants.{Open, Release}
 
--- the dot of what an event shows
-abbrev dotted : Event → Option Kind → Option Dot
-dotted e None = None
-dotted e (Some kind) = dot_as (lane_of e kind) kind
+-- the dot of what this replica's event shows
+abbrev dotted : ℕ → Option Kind → Option Dot
+dotted by None = None
+dotted by (Some kind) = dot_as (lane_of by kind) kind
 
 -- ---- what shows no dot
 
-body-dotless : (e : Event) (source stream : ℕ) (b : Body) → dotted e (Some (taking_as source stream b)) ≡ None
-body-dotless e source stream (body.Start mode) = refl
-body-dotless e source stream (body.Item r) = refl
-body-dotless e source stream (body.MoveOut line) = refl
-body-dotless e source stream (body.Held vector) = refl
-body-dotless e source stream (body.Know piece) = refl
-body-dotless e source stream body.End = refl
+body-dotless : (by : ℕ) (source stream : ℕ) (b : Body) → dotted by (Some (taking_as source stream b)) ≡ None
+body-dotless by source stream (body.Start mode) = refl
+body-dotless by source stream (body.Item r) = refl
+body-dotless by source stream (body.MoveOut line) = refl
+body-dotless by source stream (body.Held vector) = refl
+body-dotless by source stream (body.Know piece) = refl
+body-dotless by source stream body.End = refl
 
-gave-dotless : (e : Event) (a : Answer) → dotted e (gave_in a) ≡ None
-gave-dotless e (Stepped (Ok (reply.Gave sent))) = body-dotless e sent.header.source sent.header.stream sent.body
-gave-dotless e (Stepped (Ok (reply.Issued v))) = refl
-gave-dotless e (Stepped (Ok reply.Done)) = refl
-gave-dotless e (Stepped (Ok (reply.Asked ask))) = refl
-gave-dotless e (Stepped (Ok (reply.Streaming stream))) = refl
-gave-dotless e (Stepped (Ok reply.Took)) = refl
-gave-dotless e (Stepped (Ok reply.Known)) = refl
-gave-dotless e (Stepped (Ok reply.Finished)) = refl
-gave-dotless e (Stepped (Ok (reply.Vouched receipt))) = refl
-gave-dotless e (Stepped (Err refusal)) = refl
-gave-dotless e Truncated = refl
-gave-dotless e (Offered entry) = refl
-gave-dotless e NothingNew = refl
-gave-dotless e Full = refl
-gave-dotless e (TookEntry entry) = refl
-gave-dotless e Empty = refl
-gave-dotless e Closed = refl
-gave-dotless e Done = refl
+gave-dotless : (by : ℕ) (a : Answer) → dotted by (gave_in a) ≡ None
+gave-dotless by (Stepped (Ok (reply.Gave sent))) = body-dotless by sent.header.source sent.header.stream sent.body
+gave-dotless by (Stepped (Ok (reply.Issued v))) = refl
+gave-dotless by (Stepped (Ok reply.Done)) = refl
+gave-dotless by (Stepped (Ok (reply.Asked ask))) = refl
+gave-dotless by (Stepped (Ok (reply.Streaming stream))) = refl
+gave-dotless by (Stepped (Ok reply.Took)) = refl
+gave-dotless by (Stepped (Ok reply.Known)) = refl
+gave-dotless by (Stepped (Ok reply.Finished)) = refl
+gave-dotless by (Stepped (Ok (reply.Vouched receipt))) = refl
+gave-dotless by (Stepped (Err refusal)) = refl
+gave-dotless by Truncated = refl
+gave-dotless by (Offered entry) = refl
+gave-dotless by NothingNew = refl
+gave-dotless by Full = refl
+gave-dotless by (TookEntry entry) = refl
+gave-dotless by Empty = refl
+gave-dotless by Closed = refl
+gave-dotless by Done = refl
 
-one-dotless : (e : Event) (o : Option Kind) (kinds : List Kind) (i : ℕ) → dotted e o ≡ None → ((j : ℕ) → dotted e (slice_get kinds j) ≡ None) → dotted e (slice_get (cons_option o kinds) i) ≡ None
-one-dotless e None kinds i h others = others i
-one-dotless e (Some kind) kinds zero h others = h
-one-dotless e (Some kind) kinds (suc i) h others = others i
+one-dotless : (by : ℕ) (o : Option Kind) (kinds : List Kind) (i : ℕ) → dotted by o ≡ None → ((j : ℕ) → dotted by (slice_get kinds j) ≡ None) → dotted by (slice_get (cons_option o kinds) i) ≡ None
+one-dotless by None kinds i h others = others i
+one-dotless by (Some kind) kinds zero h others = h
+one-dotless by (Some kind) kinds (suc i) h others = others i
 
-records-dotless : (e : Event) (xs : List Answered) (i : ℕ) → dotted e (slice_get (filter_map gave_by xs) i) ≡ None
-records-dotless e [] i = refl
-records-dotless e (x ∷ xs) i = one-dotless e (gave_by x) (filter_map gave_by xs) i (gave-dotless e x.answer) (records-dotless e xs)
+records-dotless : (by : ℕ) (xs : List Answered) (i : ℕ) → dotted by (slice_get (filter_map gave_by xs) i) ≡ None
+records-dotless by [] i = refl
+records-dotless by (x ∷ xs) i = one-dotless by (gave_by x) (filter_map gave_by xs) i (gave-dotless by x.answer) (records-dotless by xs)
 
-record-dotless : (e : Event) (xs : List Answered) (n : ℕ) → dotted e (at_number (filter_map gave_by xs) n) ≡ None
-record-dotless e xs n =
-    let cases : (b : Bool) → dotted e (cond b None (slice_get (filter_map gave_by xs) (n - 1))) ≡ None = λ b.
-    elim b as (λ b. dotted e (cond b None (slice_get (filter_map gave_by xs) (n - 1))) ≡ None) [ true ↦ refl | false ↦ records-dotless e xs (n - 1) ] in
+record-dotless : (by : ℕ) (xs : List Answered) (n : ℕ) → dotted by (at_number (filter_map gave_by xs) n) ≡ None
+record-dotless by xs n =
+    let cases : (b : Bool) → dotted by (cond b None (slice_get (filter_map gave_by xs) (n - 1))) ≡ None = λ b.
+    elim b as (λ b. dotted by (cond b None (slice_get (filter_map gave_by xs) (n - 1))) ≡ None) [ true ↦ refl | false ↦ records-dotless by xs (n - 1) ] in
     cases (n == 0)
 
-taken-dotless : (xs : List Answered) (e : Event) → dotted e (kind_of_taken (notes_of xs) e) ≡ None
-taken-dotless xs (event.Receive r n) = record-dotless (event.Receive r n) xs n
-taken-dotless xs (event.DeliverPart r n bytes) = record-dotless (event.DeliverPart r n bytes) xs n
-taken-dotless xs e = refl
+taken-dotless : (xs : List Answered) (by : ℕ) (a : Act Mail) → dotted by (kind_of_taken (notes_of xs) a) ≡ None
+taken-dotless xs by (act.Receive n) = record-dotless by xs n
+taken-dotless xs by (act.DeliverPart n bytes) = record-dotless by xs n
+taken-dotless xs by a = refl
 
-release-dotless : (e : Event) (o : Option Name) → dotted e (option_map (λ v. Release v) o) ≡ None
-release-dotless e None = refl
-release-dotless e (Some v) = refl
+release-dotless : (by : ℕ) (o : Option Name) → dotted by (option_map (λ v. Release v) o) ≡ None
+release-dotless by None = refl
+release-dotless by (Some v) = refl
 
-done-dotless : (notes : NoteLists) (e : Event) → dotted e (kind_of_done notes e) ≡ None
-done-dotless notes (event.Release r n) = release-dotless (event.Release r n) (at_number notes.receipts n)
-done-dotless notes e = refl
+done-dotless : (notes : NoteLists) (by : ℕ) (a : Act Mail) → dotted by (kind_of_done notes a) ≡ None
+done-dotless notes by (act.Release n) = release-dotless by (at_number notes.receipts n)
+done-dotless notes by a = refl
 
-open-dotless : (e : Event) (stream : ℕ) (o : Option ℕ) → dotted e (option_map (λ target. Open target stream) o) ≡ None
-open-dotless e stream None = refl
-open-dotless e stream (Some target) = refl
+open-dotless : (by : ℕ) (stream : ℕ) (o : Option ℕ) → dotted by (option_map (λ target. Open target stream) o) ≡ None
+open-dotless by stream None = refl
+open-dotless by stream (Some target) = refl
 
-opened-dotless : (notes : NoteLists) (e : Event) (stream : ℕ) → dotted e (kind_of_opened notes e stream) ≡ None
-opened-dotless notes (event.Answer r n) stream = open-dotless (event.Answer r n) stream (at_number notes.asks n)
-opened-dotless notes e stream = refl
+opened-dotless : (notes : NoteLists) (by : ℕ) (a : Act Mail) (stream : ℕ) → dotted by (kind_of_opened notes a stream) ≡ None
+opened-dotless notes by (act.Answer n) stream = open-dotless by stream (at_number notes.asks n)
+opened-dotless notes by a stream = refl
 
 -- ---- all that shows one
 
-dotted-answer : (xs : List Answered) (e : Event) (a : Answer) → dotted e (kind_of_answer (notes_of xs) e a) ≡ option_map dot_at (issued_in a)
-dotted-answer xs e (Stepped (Ok (reply.Issued v))) = refl
-dotted-answer xs e (Stepped (Ok reply.Done)) = done-dotless (notes_of xs) e
-dotted-answer xs e (Stepped (Ok (reply.Asked ask))) = refl
-dotted-answer xs e (Stepped (Ok (reply.Streaming stream))) = opened-dotless (notes_of xs) e stream
-dotted-answer xs e (Stepped (Ok (reply.Gave sent))) = refl
-dotted-answer xs e (Stepped (Ok reply.Took)) = taken-dotless xs e
-dotted-answer xs e (Stepped (Ok reply.Known)) = taken-dotless xs e
-dotted-answer xs e (Stepped (Ok reply.Finished)) = taken-dotless xs e
-dotted-answer xs e (Stepped (Ok (reply.Vouched receipt))) = refl
-dotted-answer xs e (Stepped (Err refusal)) = refl
-dotted-answer xs e Truncated = refl
-dotted-answer xs e (Offered entry) = refl
-dotted-answer xs e NothingNew = refl
-dotted-answer xs e Full = refl
-dotted-answer xs e (TookEntry entry) = refl
-dotted-answer xs e Empty = refl
-dotted-answer xs e Closed = refl
-dotted-answer xs e Done = refl
+dotted-answer : (xs : List Answered) (by : ℕ) (a : Act Mail) (answer : Answer) → dotted by (kind_of_answer (notes_of xs) a answer) ≡ option_map dot_at (issued_in answer)
+dotted-answer xs by a (Stepped (Ok (reply.Issued v))) = refl
+dotted-answer xs by a (Stepped (Ok reply.Done)) = done-dotless (notes_of xs) by a
+dotted-answer xs by a (Stepped (Ok (reply.Asked ask))) = refl
+dotted-answer xs by a (Stepped (Ok (reply.Streaming stream))) = opened-dotless (notes_of xs) by a stream
+dotted-answer xs by a (Stepped (Ok (reply.Gave sent))) = refl
+dotted-answer xs by a (Stepped (Ok reply.Took)) = taken-dotless xs by a
+dotted-answer xs by a (Stepped (Ok reply.Known)) = taken-dotless xs by a
+dotted-answer xs by a (Stepped (Ok reply.Finished)) = taken-dotless xs by a
+dotted-answer xs by a (Stepped (Ok (reply.Vouched receipt))) = refl
+dotted-answer xs by a (Stepped (Err refusal)) = refl
+dotted-answer xs by a Truncated = refl
+dotted-answer xs by a (Offered entry) = refl
+dotted-answer xs by a NothingNew = refl
+dotted-answer xs by a Full = refl
+dotted-answer xs by a (TookEntry entry) = refl
+dotted-answer xs by a Empty = refl
+dotted-answer xs by a Closed = refl
+dotted-answer xs by a Done = refl
 
-dots-shown : (e : Event) (n : ℕ) (o : Option Kind) (hs : List Happened) → dots (cons_option (option_map (λ kind. record { lane = lane_of e kind; kind = kind; place = n }) o) hs) ≡ cons_option (dotted e o) (dots hs)
-dots-shown e n None hs = refl
-dots-shown e n (Some kind) hs = refl
+dots-shown : (by : ℕ) (n : ℕ) (o : Option Kind) (hs : List Happened) → dots (cons_option (option_map (λ kind. record { lane = lane_of by kind; kind = kind; place = n }) o) hs) ≡ cons_option (dotted by o) (dots hs)
+dots-shown by n None hs = refl
+dots-shown by n (Some kind) hs = refl
 
 map-shown : (o : Option Name) (vs : List Name) → cons_option (option_map dot_at o) (map dot_at vs) ≡ map dot_at (cons_option o vs)
 map-shown None vs = refl
@@ -125,8 +126,8 @@ map-shown (Some v) vs = refl
 dots-from : (all : List Answered) (n : ℕ) (xs : List Answered) → dots (happenings_from (notes_of all) n xs) ≡ map dot_at (issued_versions xs)
 dots-from all n [] = refl
 dots-from all n (x ∷ xs) =
-    dots-shown x.event n (kind_of_answer (notes_of all) x.event x.answer) (happenings_from (notes_of all) (n + 1) xs)
-    ∙ ap (λ o. cons_option o (dots (happenings_from (notes_of all) (n + 1) xs))) (dotted-answer all x.event x.answer)
+    dots-shown x.event.replica n (kind_of_answer (notes_of all) x.event.act x.answer) (happenings_from (notes_of all) (n + 1) xs)
+    ∙ ap (λ o. cons_option o (dots (happenings_from (notes_of all) (n + 1) xs))) (dotted-answer all x.event.replica x.event.act x.answer)
     ∙ ap (λ ds. cons_option (option_map dot_at (issued_in x.answer)) ds) (dots-from all (n + 1) xs)
     ∙ map-shown (issued_in x.answer) (issued_versions xs)
 

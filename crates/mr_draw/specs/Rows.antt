@@ -3,14 +3,16 @@ use Rattle.std.specs.Prelude.{◌≡◌, ℕ, true, [], ◌∷◌, codes, Some, 
 use Rattle.std.specs.Fmt.{digits}
 use Rattle.std.specs.List.{flat_map}
 use Rattle.mr_version.specs.Name.{Name}
+use Rattle.mr_mail.specs.Mail.{Mail}
+use Rattle.mr_model.specs.History.{◌does◌}
+use Rattle.mr_model.specs.declared.event.Act.TheVariants as act
+use Rattle.mr_model.specs.declared.event.Event.{Event}
 use Rattle.mr_replica.specs.declared.event.Reply.TheVariants.{Issued, Took}
 use Rattle.mr_replica.specs.declared.event.Reply.TheVariants as reply
 use Rattle.mr_replica.specs.declared.refusal.Refusal.TheVariants.{LogFull}
 use Rattle.mr_world.specs.declared.answer.Answer.{Answer}
 use Rattle.mr_world.specs.declared.answer.Answer.TheVariants.{Stepped, Full}
 use Rattle.mr_world.specs.declared.answered.Answered.{Answered}
-use Rattle.mr_world.specs.declared.event.Event.{Event}
-use Rattle.mr_world.specs.declared.event.Event.TheVariants as event
 use Rattle.mr_draw.specs.Escape.{entity}
 use Rattle.mr_draw.specs.NoteLists.{NoteLists}
 use Rattle.mr_draw.specs.Happening.{dot_at, dots, happening_at, issued_versions, kind_of}
@@ -45,7 +47,7 @@ keeps_others = refl
 abbrev name : ℕ → ℕ → Name
 name author counter = record { author = author; counter = counter }
 
-abbrev answered : Event → Answer → Answered
+abbrev answered : Event Mail → Answer → Answered
 answered e a = record { event = e; answer = a }
 
 -- one request by replica 4, one record of 0.1 out of stream 7 of replica 0, and one receipt for 1.3
@@ -53,38 +55,38 @@ abbrev notes : NoteLists
 notes = record { asks = 4 ∷ []; records = TakeItem 0 7 (name 0 1) ∷ []; receipts = name 1 3 ∷ [] }
 
 -- a refusal shows nothing, and neither does a full port
-pub shows_no_refusal : kind_of notes (answered (event.Retire 2) (Stepped (Err LogFull))) ≡ None
+pub shows_no_refusal : kind_of notes (answered (2 does act.Retire) (Stepped (Err LogFull))) ≡ None
 shows_no_refusal = refl
 
-pub shows_no_port : kind_of notes (answered (event.Retire 2) Full) ≡ None
+pub shows_no_port : kind_of notes (answered (2 does act.Retire) Full) ≡ None
 shows_no_port = refl
 
-pub shows_retirement : kind_of notes (answered (event.Retire 2) (Stepped (Ok reply.Done))) ≡ Some Retire
+pub shows_retirement : kind_of notes (answered (2 does act.Retire) (Stepped (Ok reply.Done))) ≡ Some Retire
 shows_retirement = refl
 
-pub shows_cut : kind_of notes (answered (event.CutIn 2 1) (Stepped (Ok reply.Done))) ≡ Some Cut
+pub shows_cut : kind_of notes (answered (2 does act.CutIn 1) (Stepped (Ok reply.Done))) ≡ Some Cut
 shows_cut = refl
 
 -- the first record was taken by replica 2
-pub shows_record : happening_at notes 9 (answered (event.Receive 2 1) (Stepped (Ok Took))) ≡ Some (record { lane = 2; kind = TakeItem 0 7 (name 0 1); place = 9 })
+pub shows_record : happening_at notes 9 (answered (2 does act.Receive 1) (Stepped (Ok Took))) ≡ Some (record { lane = 2; kind = TakeItem 0 7 (name 0 1); place = 9 })
 shows_record = refl
 
 -- there is no second
-pub shows_no_record : kind_of notes (answered (event.Receive 2 2) (Stepped (Ok Took))) ≡ None
+pub shows_no_record : kind_of notes (answered (2 does act.Receive 2) (Stepped (Ok Took))) ≡ None
 shows_no_record = refl
 
-pub shows_stream : kind_of notes (answered (event.Answer 0 1) (Stepped (Ok (reply.Streaming 7)))) ≡ Some (Open 4 7)
+pub shows_stream : kind_of notes (answered (0 does act.Answer 1) (Stepped (Ok (reply.Streaming 7)))) ≡ Some (Open 4 7)
 shows_stream = refl
 
-pub shows_release : kind_of notes (answered (event.Release 1 1) (Stepped (Ok reply.Done))) ≡ Some (Release (name 1 3))
+pub shows_release : kind_of notes (answered (1 does act.Release 1) (Stepped (Ok reply.Done))) ≡ Some (Release (name 1 3))
 shows_release = refl
 
 -- a version is on its author's lane
-pub shows_version : happening_at notes 5 (answered (event.Retire 2) (Stepped (Ok (Issued (name 3 1))))) ≡ Some (record { lane = 3; kind = Issue (name 3 1); place = 5 })
+pub shows_version : happening_at notes 5 (answered (2 does act.Retire) (Stepped (Ok (Issued (name 3 1))))) ≡ Some (record { lane = 3; kind = Issue (name 3 1); place = 5 })
 shows_version = refl
 
 -- dots come in order, and a refusal has none
-pub issues : issued_versions (answered (event.Retire 3) (Stepped (Ok (Issued (name 3 1)))) ∷ answered (event.Retire 3) Full ∷ answered (event.Retire 0) (Stepped (Ok (Issued (name 0 1)))) ∷ []) ≡ name 3 1 ∷ name 0 1 ∷ []
+pub issues : issued_versions (answered (3 does act.Retire) (Stepped (Ok (Issued (name 3 1)))) ∷ answered (3 does act.Retire) Full ∷ answered (0 does act.Retire) (Stepped (Ok (Issued (name 0 1)))) ∷ []) ≡ name 3 1 ∷ name 0 1 ∷ []
 issues = refl
 
 pub one_dot : dots (record { lane = 3; kind = Issue (name 3 1); place = 0 } ∷ record { lane = 3; kind = Retire; place = 1 } ∷ []) ≡ dot_at (name 3 1) ∷ []

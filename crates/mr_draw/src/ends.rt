@@ -1,7 +1,7 @@
 //! Where the longer marks end.
 use crate::happening::{Happening, Kind};
 use mr_version::{Author, Version};
-use mr_world::{Answered, Event};
+use mr_world::{Act, Answered};
 use std::alloc::{AllocError, Global};
 
 /// The row of the last record of the stream that was taken; this row where there is none.
@@ -79,8 +79,8 @@ fn heir(answers: &[Answered], happening: &Happening, line: &[Version]) -> Option
     let Kind::Issue(version) = happening.kind else {
         return None;
     };
-    match &answers.get(happening.place)?.event {
-        Event::Edit(_, bases, _) if bases.as_slice().iter().any(|base| line.contains(base)) => {
+    match &answers.get(happening.place)?.event.act {
+        Act::Edit(bases, _) if bases.as_slice().iter().any(|base| line.contains(base)) => {
             Some(version)
         }
         _ => None,

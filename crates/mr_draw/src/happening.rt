@@ -5,7 +5,7 @@ ghost use Rattle.mr_draw.specs.Happening.{dot_at, dots, issued_versions, kind_of
 use crate::notes::Notes;
 use mr_replica::Reply;
 use mr_version::{Author, Version};
-use mr_world::{Answer, Answered, Event};
+use mr_world::{Act, Answer, Answered};
 use std::alloc::{AllocError, Global};
 use std::marker::Model;
 
@@ -84,20 +84,20 @@ fn happening_at(notes: &Notes, place: usize, answered: &Answered) -> Option<Happ
 {
     match kind_of(notes, answered) {
         Some(kind) => {
-            let lane = lane_of(&answered.event, &kind);
+            let lane = lane_of(answered.event.replica, &kind);
             Some(Happening { lane, kind, place })
         }
         None => None,
     }
 }
 
-/// Whose lane it is on.
-fn lane_of(event: &Event, kind: &Kind) -> Author
-    ensures { result ≡ lane_of event.now kind.now }
+/// Whose lane it is on, where this replica did it.
+fn lane_of(replica: Author, kind: &Kind) -> Author
+    ensures { result ≡ lane_of replica kind.now }
 {
     match kind {
         Kind::Issue(version) => version.author(),
-        _ => event.replica(),
+        _ => replica,
     }
 }
 
@@ -106,36 +106,36 @@ fn kind_of(notes: &Notes, answered: &Answered) -> Option<Kind>
     ensures { result ≡ kind_of notes.now answered.now }
 {
     match &answered.answer {
-        Answer::Stepped(Ok(reply)) => kind_of_reply(notes, &answered.event, reply),
+        Answer::Stepped(Ok(reply)) => kind_of_reply(notes, &answered.event.act, reply),
         _ => None,
     }
 }
 
-fn kind_of_reply(notes: &Notes, event: &Event, reply: &Reply) -> Option<Kind>
-    ensures { result ≡ kind_of_reply notes.now event.now reply.now }
+fn kind_of_reply(notes: &Notes, act: &Act, reply: &Reply) -> Option<Kind>
+    ensures { result ≡ kind_of_reply notes.now act.now reply.now }
 {
     match reply {
         Reply::Issued(version) => Some(Kind::Issue(*version)),
-        Reply::Done => kind_of_done(notes, event),
+        Reply::Done => kind_of_done(notes, act),
         Reply::Asked(_) => None,
-        Reply::Streaming(stream) => kind_of_opened(notes, event, *stream),
+        Reply::Streaming(stream) => kind_of_opened(notes, act, *stream),
         Reply::Gave(_) => None,
-        Reply::Took => kind_of_taken(notes, event),
-        Reply::Known => kind_of_taken(notes, event),
-        Reply::Finished => kind_of_taken(notes, event),
+        Reply::Took => kind_of_taken(notes, act),
+        Reply::Known => kind_of_taken(notes, act),
+        Reply::Finished => kind_of_taken(notes, act),
         Reply::Vouched(receipt) => Some(Kind::Vouch(receipt.descent.version())),
     }
 }
 
-/// What an event shows that was answered by `Done`.
-fn kind_of_done(notes: &Notes, event: &Event) -> Option<Kind>
-    ensures { result ≡ kind_of_done notes.now event.now }
+/// What an act shows that was answered by `Done`.
+fn kind_of_done(notes: &Notes, act: &Act) -> Option<Kind>
+    ensures { result ≡ kind_of_done notes.now act.now }
 {
-    match event {
-        Event::CutIn(_, _) => Some(Kind::Cut),
-        Event::CutOut(_, _) => Some(Kind::Cut),
-        Event::Retire(_) => Some(Kind::Retire),
-        Event::Release(_, number) => match notes.receipt(*number) {
+    match act {
+        Act::CutIn(_) => Some(Kind::Cut),
+        Act::CutOut(_) => Some(Kind::Cut),
+        Act::Retire => Some(Kind::Retire),
+        Act::Release(number) => match notes.receipt(*number) {
             Some(version) => Some(Kind::Release(version)),
             None => None,
         },
@@ -144,22 +144,22 @@ fn kind_of_done(notes: &Notes, event: &Event) -> Option<Kind>
 }
 
 /// What the delivery of a record shows that was taken.
-fn kind_of_taken(notes: &Notes, event: &Event) -> Option<Kind>
-    ensures { result ≡ kind_of_taken notes.now event.now }
+fn kind_of_taken(notes: &Notes, act: &Act) -> Option<Kind>
+    ensures { result ≡ kind_of_taken notes.now act.now }
 {
-    match event {
-        Event::Receive(_, number) => notes.taking(*number),
-        Event::DeliverPart(_, number, _) => notes.taking(*number),
+    match act {
+        Act::Receive(number) => notes.taking(*number),
+        Act::DeliverPart(number, _) => notes.taking(*number),
         _ => None,
     }
 }
 
 /// What the opening of a stream shows.
-fn kind_of_opened(notes: &Notes, event: &Event, stream: u64) -> Option<Kind>
-    ensures { result ≡ kind_of_opened notes.now event.now stream }
+fn kind_of_opened(notes: &Notes, act: &Act, stream: u64) -> Option<Kind>
+    ensures { result ≡ kind_of_opened notes.now act.now stream }
 {
-    match event {
-        Event::Answer(_, number) => match notes.ask(*number) {
+    match act {
+        Act::Answer(number) => match notes.ask(*number) {
             Some(target) => Some(Kind::Open(target, stream)),
             None => None,
         },

@@ -9,7 +9,7 @@ use crate::title::{label_of, title_of};
 use mr_forms::Knowledge;
 use mr_replica::Replica;
 use mr_version::{Author, Version};
-use mr_world::{Event, World};
+use mr_world::{Act, Event, World};
 use std::alloc::{AllocError, Global};
 
 /// How many happenings a picture shows at most: the first ones.
@@ -69,7 +69,7 @@ fn mark_of<K: Knowledge>(
 /// What the happening's mark tells on pointing.
 fn title<K: Knowledge>(scene: &Scene<K>, happening: &Happening) -> Result<String, AllocError> {
     match scene.world.answers().get(happening.place) {
-        Some(answered) => title_of(scene.alloc, happening, &answered.event),
+        Some(answered) => title_of(scene.alloc, happening, &answered.event.act),
         None => Ok(String::new(scene.alloc)),
     }
 }
@@ -100,7 +100,7 @@ fn look_of<K: Knowledge>(scene: &Scene<K>, happening: &Happening) -> Look
         look.is_contested = scene.contested.contains(&version);
         if let Some(answered) = scene.world.answers().get(happening.place) {
             look.is_push_out = is_push_out(scene.world, &answered.event);
-            if is_merge(&answered.event) {
+            if is_merge(&answered.event.act) {
                 look.shape = Shape::Merge;
             }
         }
@@ -127,9 +127,9 @@ fn shape_of(kind: &Kind) -> Shape
 }
 
 /// Whether it is an edit of several versions.
-pub(crate) fn is_merge(event: &Event) -> bool {
-    match event {
-        Event::Edit(_, bases, _) => match bases.as_slice().split_first() {
+pub(crate) fn is_merge(act: &Act) -> bool {
+    match act {
+        Act::Edit(bases, _) => match bases.as_slice().split_first() {
             Some((first, others)) => others.iter().any(|version| *version != *first),
             None => false,
         },
@@ -139,9 +139,9 @@ pub(crate) fn is_merge(event: &Event) -> bool {
 
 /// Whether what the event issues is none that its replica's filter selects.
 fn is_push_out<K: Knowledge>(world: &World<K>, event: &Event) -> bool {
-    match (world.replica(event.replica()), event) {
-        (Some(replica), Event::Create(_, message)) => !replica.filter().select(message),
-        (Some(replica), Event::Edit(_, _, message)) => !replica.filter().select(message),
+    match (world.replica(event.replica), &event.act) {
+        (Some(replica), Act::Create(message)) => !replica.filter().select(message),
+        (Some(replica), Act::Edit(_, message)) => !replica.filter().select(message),
         _ => false,
     }
 }

@@ -10,7 +10,7 @@ use crate::sheet::{Heading, Sheet, text_of};
 use mr_forms::Knowledge;
 use mr_replica::{Replica, Reply};
 use mr_version::{AUTHORS, Author, Version};
-use mr_world::{Answer, Answered, Event, World};
+use mr_world::{Act, Answer, Answered, World};
 use std::alloc::{AllocError, Global};
 
 /// How many bytes of a filter are written above a lane.
@@ -200,13 +200,13 @@ fn contested<K: Knowledge>(alloc: Global, world: &World<K>) -> Result<Vec<Versio
 
 /// Adds the versions that a merge names.
 fn push_merged(contested: &mut Vec<Version>, answered: &Answered) -> Result<(), AllocError> {
-    let (Event::Edit(_, bases, _), Answer::Stepped(Ok(Reply::Issued(_)))) = (
-        &answered.event,
+    let (Act::Edit(bases, _), Answer::Stepped(Ok(Reply::Issued(_)))) = (
+        &answered.event.act,
         &answered.answer,
     ) else {
         return Ok(());
     };
-    if is_merge(&answered.event) {
+    if is_merge(&answered.event.act) {
         contested.extend_from_slice(bases.as_slice())?;
     }
     Ok(())

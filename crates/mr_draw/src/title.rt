@@ -4,18 +4,18 @@ use crate::happening::{Happening, Kind};
 use mr_mail::Message;
 use mr_replica::Bases;
 use mr_version::{Author, Version};
-use mr_world::Event;
+use mr_world::Act;
 use std::alloc::{AllocError, Global};
 
-/// What the happening tells, which comes of this event with its answer.
+/// What the happening tells, which comes of this act with its answer.
 pub(crate) fn title_of(
     alloc: Global,
     happening: &Happening,
-    event: &Event,
+    act: &Act,
 ) -> Result<String, AllocError> {
     let lane = happening.lane;
     match happening.kind {
-        Kind::Issue(version) => title_of_version(alloc, version, event),
+        Kind::Issue(version) => title_of_version(alloc, version, act),
         Kind::TakeItem(source, stream, version) => format!(in alloc;
             "replica {lane} takes {version} out of stream {stream} of replica {source}"
         ),
@@ -28,7 +28,7 @@ pub(crate) fn title_of(
         Kind::Open(target, stream) => {
             format!(in alloc; "replica {target} asks replica {lane}, which opens stream {stream}")
         }
-        Kind::Cut => title_of_cut(alloc, lane, event),
+        Kind::Cut => title_of_cut(alloc, lane, act),
         Kind::Retire => format!(in alloc;
             "replica {lane} retires: it admits nothing more, but goes on telling"
         ),
@@ -42,14 +42,14 @@ pub(crate) fn title_of(
 }
 
 /// What a version's dot tells: what it replaces, and its message.
-fn title_of_version(alloc: Global, version: Version, event: &Event) -> Result<String, AllocError> {
-    match event {
-        Event::Create(_, message) => {
+fn title_of_version(alloc: Global, version: Version, act: &Act) -> Result<String, AllocError> {
+    match act {
+        Act::Create(message) => {
             let mut title = format!(in alloc; "{version}: a new message")?;
             push_message(&mut title, message)?;
             Ok(title)
         }
-        Event::Edit(_, bases, message) => {
+        Act::Edit(bases, message) => {
             let mut title = format!(in alloc; "{version} replaces")?;
             push_bases(&mut title, bases)?;
             push_message(&mut title, message)?;
@@ -81,12 +81,10 @@ fn push_message(title: &mut String, message: &Message) -> Result<(), AllocError>
 }
 
 /// What a cut tells.
-fn title_of_cut(alloc: Global, lane: Author, event: &Event) -> Result<String, AllocError> {
-    match event {
-        Event::CutOut(_, stream) => format!(in alloc; "replica {lane} closes its stream {stream}"),
-        Event::CutIn(_, session) => format!(in alloc;
-            "replica {lane} closes its session {session}"
-        ),
+fn title_of_cut(alloc: Global, lane: Author, act: &Act) -> Result<String, AllocError> {
+    match act {
+        Act::CutOut(stream) => format!(in alloc; "replica {lane} closes its stream {stream}"),
+        Act::CutIn(session) => format!(in alloc; "replica {lane} closes its session {session}"),
         _ => format!(in alloc; "replica {lane} closes a session"),
     }
 }

@@ -42,7 +42,7 @@ adds_run : (p q : PlanView) (text : List ℕ) (c : Command) (result : Result (Un
 adds_run p q text (command.AddReplica spec) result can reads (inl h) =
     rw h.1 (run_and p spec can (command-there (scene_of p) text (Ok (command.AddReplica spec)) reads))
 adds_run p q text (command.AddReplica spec) result can reads (inr h) = rw h.1 can
-adds_run p q text (command.Happen event) result can reads h = asked_run p q (asked_by event) result can h
+adds_run p q text (command.Happen event) result can reads h = asked_run p q (asked_by event.replica event.act) result can h
 adds_run p q text (command.Sync sync) result can reads h = rw h.1 can
 adds_run p q text (command.Ask question) result can reads h = rw h.1 can
 

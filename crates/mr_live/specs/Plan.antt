@@ -4,11 +4,12 @@ use Rattle.std.specs.List.{AllPairs, list_any, flat_map}
 use Rattle.std.specs.Str.{IsUtf8}
 use Rattle.mr_feed.specs.declared.port.TheConstants.{MAX_CAPACITY}
 use Rattle.mr_mail.specs.Label.{text_eq}
+use Rattle.mr_mail.specs.Mail.{Mail}
+use Rattle.mr_model.specs.declared.event.Act.{Act}
+use Rattle.mr_model.specs.declared.event.Act.TheVariants as act
 use Rattle.mr_replica.specs.declared.event.Event.{Event}
 use Rattle.mr_replica.specs.declared.event.Event.TheVariants.{Create, Edit}
 use Rattle.mr_replica.specs.declared.replica.TheConstants.{MAX_EVENTS}
-use Rattle.mr_world.specs.declared.event.Event.{Event as WorldEvent}
-use Rattle.mr_world.specs.declared.event.Event.TheVariants as world
 use Rattle.mr_world.specs.declared.spec.Spec.{Spec}
 use Rattle.mr_command.specs.Command.{reads_command}
 use Rattle.mr_command.specs.Scene.{Scene}
@@ -70,11 +71,11 @@ begins_live (name ∷ args) = is_live_name name
 abbrev pub is_live_line : List ℕ → Bool
 is_live_line text = begins_live (words text)
 
--- what an event of a world asks of its replica, if it is one of its user's
-abbrev pub asked_by : WorldEvent → Option Asked
-asked_by (world.Create id message) = Some (record { id = id; event = Create message })
-asked_by (world.Edit id bases message) = Some (record { id = id; event = Edit bases message })
-asked_by event = None
+-- what an act asks of the replica of this id, if it is one of its user's
+abbrev pub asked_by : ℕ → Act Mail → Option Asked
+asked_by id (act.Create message) = Some (record { id = id; event = Create message })
+asked_by id (act.Edit bases message) = Some (record { id = id; event = Edit bases message })
+asked_by id other = None
 
 -- what is asked, if it is of the replica of this id
 abbrev pub event_for : ℕ → Asked → List Event
@@ -98,7 +99,7 @@ AddsAsked p None result q = (result ≡ Err UnknownCommand) × (q ≡ p)
 -- what a command adds
 abbrev pub Adds : PlanView → Command → Result (Unit {0}) LineFault → PlanView → Type 0
 Adds p (command.AddReplica spec) result q = AddsReplica p spec result q
-Adds p (command.Happen event) result q = AddsAsked p (asked_by event) result q
+Adds p (command.Happen event) result q = AddsAsked p (asked_by event.replica event.act) result q
 Adds p (command.Sync sync) result q = (result ≡ Err UnknownCommand) × (q ≡ p)
 Adds p (command.Ask question) result q = (result ≡ Err UnknownCommand) × (q ≡ p)
 

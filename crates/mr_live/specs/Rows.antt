@@ -4,12 +4,12 @@ use Rattle.std.specs.Fmt.{digits}
 use Rattle.std.proofs.Common.{inl, inr, arith}
 use Rattle.mr_command.specs.declared.fault.LineFault.TheVariants.{UnknownCommand}
 use Rattle.mr_mail.specs.Mail.{Mail}
+use Rattle.mr_model.specs.declared.event.Act.TheVariants as act
 use Rattle.mr_replica.specs.State.{State, new_state}
 use Rattle.mr_replica.specs.declared.event.Event.TheVariants as replica
 use Rattle.mr_replica.specs.declared.event.Reply.TheVariants.{Done}
 use Rattle.mr_replica.specs.declared.refusal.Refusal.TheVariants as refusal
 use Rattle.mr_version.specs.Name.{Name}
-use Rattle.mr_world.specs.declared.event.Event.TheVariants as world
 use Rattle.mr_world.specs.declared.spec.Spec.{Spec}
 use Rattle.mr_script.specs.Script.{looked_at}
 use Rattle.mr_script.specs.declared.fault.ScriptFault.TheVariants.{Line, Read, Write}
@@ -85,7 +85,7 @@ create id = record { id = id; event = replica.Create mail }
 abbrev edit : ℕ → Asked
 edit id = record { id = id; event = replica.Edit (first ∷ []) mail }
 
-pub only_creates_and_edits : map asked_by (world.Create 1 mail ∷ world.Edit 0 (first ∷ []) mail ∷ world.Retire 0 ∷ world.Pull 1 ∷ []) ≡ Some (create 1) ∷ Some (edit 0) ∷ None ∷ None ∷ []
+pub only_creates_and_edits : asked_by 1 (act.Create mail) ∷ asked_by 0 (act.Edit (first ∷ []) mail) ∷ asked_by 0 act.Retire ∷ asked_by 1 act.Pull ∷ [] ≡ Some (create 1) ∷ Some (edit 0) ∷ None ∷ None ∷ []
 only_creates_and_edits = refl
 
 -- each node has its own, in order

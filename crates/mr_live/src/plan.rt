@@ -7,7 +7,7 @@ use mr_command::{Command, LineFault, Pool, Roster};
 use mr_replica::Event;
 use mr_script::is_skipped;
 use mr_version::Author;
-use mr_world::{Event as WorldEvent, Spec};
+use mr_world::{Act, Event as WorldEvent, Spec};
 use std::alloc::{AllocError, Global};
 use std::marker::Model;
 
@@ -147,25 +147,25 @@ impl Plan {
 
     /// Puts what a user asks behind what was asked before.
     fn add_event(&mut self, event: WorldEvent) -> Result<(), LineFault>
-        ensures { AddsAsked self.old (asked_by event) result self.new }
+        ensures { AddsAsked self.old (asked_by event.replica event.act) result self.new }
     {
-        match asked_by(event) {
+        match asked_by(event.replica, event.act) {
             Some(asked) => Ok(self.asked.push(asked)?),
             None => Err(LineFault::UnknownCommand),
         }
     }
 }
 
-/// What an event of a world asks of its replica, if it is one of its user's.
-fn asked_by(event: WorldEvent) -> Option<Asked>
-    ensures { result ≡ asked_by event }
+/// What an act asks of the replica of this id, if it is one of its user's.
+fn asked_by(id: Author, act: Act) -> Option<Asked>
+    ensures { result ≡ asked_by id act }
 {
-    match event {
-        WorldEvent::Create(id, message) => Some(Asked {
+    match act {
+        Act::Create(message) => Some(Asked {
             id,
             event: Event::Create(message),
         }),
-        WorldEvent::Edit(id, bases, message) => Some(Asked {
+        Act::Edit(bases, message) => Some(Asked {
             id,
             event: Event::Edit(bases, message),
         }),

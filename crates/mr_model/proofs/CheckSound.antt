@@ -5,7 +5,9 @@ use Rattle.std.specs.List.{list_any, list_all}
 use Rattle.std.proofs.lemmas.Bool.{and_from, and_parts, eqb-false}
 use Rattle.mr_version.specs.Name.{Name}
 use Rattle.mr_model.specs.Versions.{is, is_before, Issue, is_issued, issue_count, item_of, made_with}
-use Rattle.mr_model.specs.History.{Setting, Body, Body.Start, Body.Item, Body.MoveOut, Body.Held, Body.Know, Body.End, Record, Receipt, Entry, Entry.Added, Entry.Dropped, Ask, claims, Event, Event.Create, Event.Edit, Event.Retire, Event.Pull, Event.Receive, Event.DeliverPart, Event.CutIn, Event.Answer, Event.Next, Event.CutOut, Event.Offer, Event.Take, Event.Close, Event.Vouch, Event.Release, Reply, Reply.Issued, Reply.Done, Reply.Asked, Reply.Streaming, Reply.Gave, Reply.Took, Reply.Known, Reply.Finished, Reply.Offered, Reply.TookEntry, Reply.Vouched, History}
+use Rattle.mr_model.specs.History.{Setting, Body, Body.Start, Body.Item, Body.MoveOut, Body.Held, Body.Know, Body.End, Record, Receipt, Entry, Entry.Added, Entry.Dropped, Ask, claims, Reply, Reply.Issued, Reply.Done, Reply.Asked, Reply.Streaming, Reply.Gave, Reply.Took, Reply.Known, Reply.Finished, Reply.Offered, Reply.TookEntry, Reply.Vouched, History}
+use Rattle.mr_model.specs.declared.event.Act.{Act}
+use Rattle.mr_model.specs.declared.event.Act.TheVariants.{Create, Edit, Retire, Pull, Receive, DeliverPart, CutIn, Answer, Next, CutOut, Offer, Take, Close, Vouch, Release}
 use Rattle.mr_model.specs.Moment.{Moment, known, stored, pushed_out, only, ◌with◌, Holds, Selects, start, selection, is_start, is_held, starts_full, numbered}
 use Rattle.mr_model.specs.Changes.{Reception, Reception.AsTaken, Reception.AsKnown, Reception.AsFinished, Change, Change.Issues, Change.Asks, Change.Opens, Change.Gives, Change.Takes, Change.Retires, Change.Offers, Change.Closes, Change.TakesEntry, Change.Vouches, Change.Releases, Change.Stays, Change.Misfits, change_if_found, change_of, entries_of, is_closed, happens, change}
 use Rattle.mr_model.specs.Rules.{IsOf, IsKnownEdit, IsDue, NoneDue, IsWalked, IsDraw, IsIssue, IsAsk, IsNext, IsReceived, IsVouched, IsReleased, IsRetirement, IsOffer, IsTake, IsAllowed, IsRun, reception_of, version_in}
@@ -322,27 +324,27 @@ found_pool {M} {C} {A} m xs n change h = go (numbered xs n) refl
 pub received_pool : {M C : Type 0} (m : Moment M C) (r n : ℕ) (reception : Reception) → IsFromPool m (change_if_found (numbered m.given n) (λ x. Takes r x reception))
 received_pool m r n reception = found_pool m m.given n (λ x. Takes r x reception) (λ x i. i)
 
-pub from_pool : {M C : Type 0} (m : Moment M C) (event : Event M) (reply : Reply C) → IsFromPool m (change_of m event reply)
-from_pool m (Receive r n) Took = received_pool m r n AsTaken
-from_pool m (Receive r n) Known = received_pool m r n AsKnown
-from_pool m (Receive r n) Finished = received_pool m r n AsFinished
-from_pool m (DeliverPart r n bytes) Took = received_pool m r n AsTaken
-from_pool m (DeliverPart r n bytes) Known = received_pool m r n AsKnown
-from_pool m (DeliverPart r n bytes) Finished = received_pool m r n AsFinished
-from_pool m (Answer r n) (Streaming t) = found_pool m m.asks n (Opens r t) (λ x i. i)
-from_pool m (Release r n) Done = found_pool m m.receipts n (Releases r) (λ x i. i)
-from_pool m (Create r message) (Issued v) = tt
-from_pool m (Edit r bases message) (Issued v) = tt
-from_pool m (Retire r) Done = tt
-from_pool m (Pull r) (Asked ask) = tt
-from_pool m (Next r t) (Gave x) = tt
-from_pool m (Offer r u) (Offered e) = tt
-from_pool m (Close r u) Done = tt
-from_pool m (Take r u) (TookEntry e) = tt
-from_pool m (Vouch r v) (Vouched x) = tt
-from_pool m (CutIn r n) Done = tt
-from_pool m (CutOut r t) Done = tt
-from_pool m _ _ = tt
+pub from_pool : {M C : Type 0} (m : Moment M C) (r : ℕ) (act : Act M) (reply : Reply C) → IsFromPool m (change_of m r act reply)
+from_pool m r (Receive n) Took = received_pool m r n AsTaken
+from_pool m r (Receive n) Known = received_pool m r n AsKnown
+from_pool m r (Receive n) Finished = received_pool m r n AsFinished
+from_pool m r (DeliverPart n bytes) Took = received_pool m r n AsTaken
+from_pool m r (DeliverPart n bytes) Known = received_pool m r n AsKnown
+from_pool m r (DeliverPart n bytes) Finished = received_pool m r n AsFinished
+from_pool m r (Answer n) (Streaming t) = found_pool m m.asks n (Opens r t) (λ x i. i)
+from_pool m r (Release n) Done = found_pool m m.receipts n (Releases r) (λ x i. i)
+from_pool m r (Create message) (Issued v) = tt
+from_pool m r (Edit bases message) (Issued v) = tt
+from_pool m r Retire Done = tt
+from_pool m r Pull (Asked ask) = tt
+from_pool m r (Next t) (Gave x) = tt
+from_pool m r (Offer u) (Offered e) = tt
+from_pool m r (Close u) Done = tt
+from_pool m r (Take u) (TookEntry e) = tt
+from_pool m r (Vouch v) (Vouched x) = tt
+from_pool m r (CutIn n) Done = tt
+from_pool m r (CutOut t) Done = tt
+from_pool m r _ _ = tt
 
 pub allowed_sound : {M C : Type 0} (s : Setting M C) (c : Tests C) → AreSoundTests s c → (m : Moment M C) → Inv s m → (change : Change M C) → IsFromPool m change → IsTrue (is_allowed s c m change) → IsAllowed s m change
 allowed_sound s c law m inv (Issues r x) pool h = issue_sound m r x h
@@ -364,7 +366,7 @@ pub run_sound : {M C : Type 0} (s : Setting M C) (c : Tests C) → AreSoundTests
 run_sound s c law m inv [] h = tt
 run_sound s c law m inv (x ∷ later) h =
     let a = and_parts (is_allowed s c m (change m x)) (is_run s c (happens s m (change m x)) later) h in
-    let ok = allowed_sound s c law m inv (change m x) (from_pool m x.event x.reply) a.0 in
+    let ok = allowed_sound s c law m inv (change m x) (from_pool m x.event.replica x.event.act x.reply) a.0 in
     (ok, run_sound s c law (happens s m (change m x)) (change_keeps s m (change m x) ok inv) later a.1)
 
 pub check_sound : {M C : Type 0} (s : Setting M C) (c : Tests C) → AreSoundTests s c → (h : History M C) → IsTrue (is_run s c start h) → IsRun s start h

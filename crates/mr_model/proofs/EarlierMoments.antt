@@ -3,7 +3,9 @@ use Rattle.std.proofs.Common.{◌≡◌, refl, sym, ap, subst, ◌∙◌, ℕ, �
 use Rattle.std.specs.List.{list_any}
 use Rattle.std.proofs.lemmas.Bool.{and_from, and_parts, both_ways}
 use Rattle.mr_model.specs.Versions.{Versions}
-use Rattle.mr_model.specs.History.{Setting, Ask, Record, Event, Event.Create, Event.Edit, Event.Retire, Event.Pull, Event.Receive, Event.DeliverPart, Event.CutIn, Event.Answer, Event.Next, Event.CutOut, Event.Offer, Event.Take, Event.Close, Event.Vouch, Event.Release, Reply, Reply.Issued, Reply.Done, Reply.Asked, Reply.Streaming, Reply.Gave, Reply.Took, Reply.Known, Reply.Finished, Reply.Offered, Reply.TookEntry, Reply.Vouched, Step, History}
+use Rattle.mr_model.specs.History.{◌does◌, Setting, Ask, Record, Reply, Reply.Issued, Reply.Done, Reply.Asked, Reply.Streaming, Reply.Gave, Reply.Took, Reply.Known, Reply.Finished, Reply.Offered, Reply.TookEntry, Reply.Vouched, Step, History}
+use Rattle.mr_model.specs.declared.event.Act.{Act}
+use Rattle.mr_model.specs.declared.event.Act.TheVariants.{Create, Edit, Retire, Pull, Receive, DeliverPart, CutIn, Answer, Next, CutOut, Offer, Take, Close, Vouch, Release}
 use Rattle.mr_model.specs.Moment.{Mark.CloseMark, Moment, known, stored, start, at_two, numbered, is_held, same_stream}
 use Rattle.mr_model.specs.Changes.{Reception.AsTaken, Reception.AsKnown, Reception.AsFinished, Change, Change.Issues, Change.Asks, Change.Opens, Change.Gives, Change.Takes, Change.Retires, Change.Offers, Change.Closes, Change.TakesEntry, Change.Vouches, Change.Releases, Change.Stays, Change.Misfits, change_if_found, change_of, is_first_held, after_opening, after_giving, with_mark, is_closed, happens, change, after, now}
 use Rattle.mr_model.specs.Laws.{ReadsAnswer, ReadsHeld, WasOpened, WasShown}
@@ -44,10 +46,10 @@ run_opened s m k t ask e (x ∷ later) run = let j = change_opened s m k t ask e
 
 -- the steps that answer a stream and that give a record
 abbrev pub answer_step : {M C : Type 0} → (k n t : ℕ) → Step M C
-answer_step k n t = record { event = Answer k n; reply = Streaming t }
+answer_step k n t = record { event = k does Answer n; reply = Streaming t }
 
 abbrev pub next_step : {M C : Type 0} → (k t : ℕ) → Record → Step M C
-next_step k t x = record { event = Next k t; reply = Gave x }
+next_step k t x = record { event = k does Next t; reply = Gave x }
 
 -- the stream that an allowed Answer opens teaches from then on what its source knew
 pub opening_lasts : {M C : Type 0} (s : Setting M C) (m : Moment M C) (k n t : ℕ) (later : History M C) → IsRun s m (answer_step k n t ∷ later) → (after s m (answer_step k n t ∷ later)).known_at_answer k t ≡ known m k
@@ -91,31 +93,31 @@ found_none P None f each none p = none p
 found_none P (Some x) f each none p = each x p
 
 -- only an Answer opens a stream
-pub opened_by : {M C : Type 0} (m : Moment M C) (event : Event M) (reply : Reply C) (k t : ℕ) → OpensIt k t (change_of m event reply) → (n : ℕ) × ((record { event = event; reply = reply }) ≡ answer_step {M = M} {C = C} k n t)
-opened_by {M} {C} m (Answer r n) (Streaming u) k t e = (n, go (numbered m.asks n) e)
+pub opened_by : {M C : Type 0} (m : Moment M C) (r : ℕ) (act : Act M) (reply : Reply C) (k t : ℕ) → OpensIt k t (change_of m r act reply) → (n : ℕ) × ((record { event = r does act; reply = reply }) ≡ answer_step {M = M} {C = C} k n t)
+opened_by {M} {C} m r (Answer n) (Streaming u) k t e = (n, go (numbered m.asks n) e)
   where
-    go : (o : Option Ask) → OpensIt k t (change_if_found {M = M} {C = C} o (Opens r u)) → record { event = Answer r n; reply = Streaming u } ≡ answer_step {M = M} {C = C} k n t
+    go : (o : Option Ask) → OpensIt k t (change_if_found {M = M} {C = C} o (Opens r u)) → record { event = r does Answer n; reply = Streaming u } ≡ answer_step {M = M} {C = C} k n t
     go None j = absurd j
-    go (Some a) j = λ i. record { event = Answer (j.0 i) n; reply = Streaming (j.1 i) }
-opened_by m (Receive r n) Took k t e = absurd (found_none (OpensIt k t) (numbered m.given n) (λ x. Takes r x AsTaken) (λ x j. j) (λ j. j) e)
-opened_by m (Receive r n) Known k t e = absurd (found_none (OpensIt k t) (numbered m.given n) (λ x. Takes r x AsKnown) (λ x j. j) (λ j. j) e)
-opened_by m (Receive r n) Finished k t e = absurd (found_none (OpensIt k t) (numbered m.given n) (λ x. Takes r x AsFinished) (λ x j. j) (λ j. j) e)
-opened_by m (DeliverPart r n bytes) Took k t e = absurd (found_none (OpensIt k t) (numbered m.given n) (λ x. Takes r x AsTaken) (λ x j. j) (λ j. j) e)
-opened_by m (DeliverPart r n bytes) Known k t e = absurd (found_none (OpensIt k t) (numbered m.given n) (λ x. Takes r x AsKnown) (λ x j. j) (λ j. j) e)
-opened_by m (DeliverPart r n bytes) Finished k t e = absurd (found_none (OpensIt k t) (numbered m.given n) (λ x. Takes r x AsFinished) (λ x j. j) (λ j. j) e)
-opened_by m (Release r n) Done k t e = absurd (found_none (OpensIt k t) (numbered m.receipts n) (Releases r) (λ x j. j) (λ j. j) e)
-opened_by m (Create r message) (Issued v) k t e = absurd e
-opened_by m (Edit r bases message) (Issued v) k t e = absurd e
-opened_by m (Retire r) Done k t e = absurd e
-opened_by m (Pull r) (Asked ask) k t e = absurd e
-opened_by m (Next r u) (Gave x) k t e = absurd e
-opened_by m (Offer r u) (Offered x) k t e = absurd e
-opened_by m (Close r u) Done k t e = absurd e
-opened_by m (Take r u) (TookEntry x) k t e = absurd e
-opened_by m (Vouch r v) (Vouched x) k t e = absurd e
-opened_by m (CutIn r n) Done k t e = absurd e
-opened_by m (CutOut r u) Done k t e = absurd e
-opened_by m _ _ k t e = absurd e
+    go (Some a) j = λ i. record { event = (j.0 i) does Answer n; reply = Streaming (j.1 i) }
+opened_by m r (Receive n) Took k t e = absurd (found_none (OpensIt k t) (numbered m.given n) (λ x. Takes r x AsTaken) (λ x j. j) (λ j. j) e)
+opened_by m r (Receive n) Known k t e = absurd (found_none (OpensIt k t) (numbered m.given n) (λ x. Takes r x AsKnown) (λ x j. j) (λ j. j) e)
+opened_by m r (Receive n) Finished k t e = absurd (found_none (OpensIt k t) (numbered m.given n) (λ x. Takes r x AsFinished) (λ x j. j) (λ j. j) e)
+opened_by m r (DeliverPart n bytes) Took k t e = absurd (found_none (OpensIt k t) (numbered m.given n) (λ x. Takes r x AsTaken) (λ x j. j) (λ j. j) e)
+opened_by m r (DeliverPart n bytes) Known k t e = absurd (found_none (OpensIt k t) (numbered m.given n) (λ x. Takes r x AsKnown) (λ x j. j) (λ j. j) e)
+opened_by m r (DeliverPart n bytes) Finished k t e = absurd (found_none (OpensIt k t) (numbered m.given n) (λ x. Takes r x AsFinished) (λ x j. j) (λ j. j) e)
+opened_by m r (Release n) Done k t e = absurd (found_none (OpensIt k t) (numbered m.receipts n) (Releases r) (λ x j. j) (λ j. j) e)
+opened_by m r (Create message) (Issued v) k t e = absurd e
+opened_by m r (Edit bases message) (Issued v) k t e = absurd e
+opened_by m r Retire Done k t e = absurd e
+opened_by m r Pull (Asked ask) k t e = absurd e
+opened_by m r (Next u) (Gave x) k t e = absurd e
+opened_by m r (Offer u) (Offered x) k t e = absurd e
+opened_by m r (Close u) Done k t e = absurd e
+opened_by m r (Take u) (TookEntry x) k t e = absurd e
+opened_by m r (Vouch v) (Vouched x) k t e = absurd e
+opened_by m r (CutIn n) Done k t e = absurd e
+opened_by m r (CutOut u) Done k t e = absurd e
+opened_by m r _ _ k t e = absurd e
 
 -- stream t of k was opened by an Answer of the history that begins at m
 pub record WasOpenedFrom {M C : Type 0} (s : Setting M C) (m : Moment M C) (h : History M C) (k t : ℕ) : Type 0 where
@@ -131,7 +133,7 @@ opened_from {M} {C} s m (x ∷ later) k t ask run e = elim (opened_from s (happe
   | inr w ↦ inr (record { before = x ∷ w.before; later = w.later; ask_number = w.ask_number; answered = ap (λ (g : History M C). x ∷ g) w.answered; knew = w.knew })
   | inl j ↦ elim (open_before s m k t ask (change m x) j) [
     | inl l ↦ inl l
-    | inr l ↦ (let o = opened_by m x.event x.reply k t l in inr (record {
+    | inr l ↦ (let o = opened_by m x.event.replica x.event.act x.reply k t l in inr (record {
       before = [];
       later = later;
       ask_number = o.0;
@@ -221,29 +223,29 @@ abbrev pub IsDrawn : {M C : Type 0} → Setting M C → Moment M C → (k t : �
 IsDrawn s m k t y = (x : Record) × (y ≡ next_step k t x) × IsNext s m k t x × IsTrue (is_held x.body)
 
 -- only a Next gives a record
-pub drawn_by : {M C : Type 0} (s : Setting M C) (m : Moment M C) (event : Event M) (reply : Reply C) (k t : ℕ) → IsAllowed s m (change_of m event reply) → ShowsIt k t (change_of m event reply) →
-    IsDrawn s m k t (record { event = event; reply = reply })
-drawn_by {M} {C} s m (Next q u) (Gave x) k t rule e = let a : q ≡ k = sym rule.source ∙ e.1.0 in let b : u ≡ t = sym rule.stream ∙ e.1.1 in
-    (x, λ i. record { event = Next (a i) (b i); reply = Gave x }, subst (λ (z : ℕ). IsNext s m k z x) b (subst (λ (z : ℕ). IsNext s m z u x) a rule), e.0)
-drawn_by s m (Receive r n) Took k t rule e = absurd (found_none (ShowsIt k t) (numbered m.given n) (λ x. Takes r x AsTaken) (λ x j. j) (λ j. j) e)
-drawn_by s m (Receive r n) Known k t rule e = absurd (found_none (ShowsIt k t) (numbered m.given n) (λ x. Takes r x AsKnown) (λ x j. j) (λ j. j) e)
-drawn_by s m (Receive r n) Finished k t rule e = absurd (found_none (ShowsIt k t) (numbered m.given n) (λ x. Takes r x AsFinished) (λ x j. j) (λ j. j) e)
-drawn_by s m (DeliverPart r n bytes) Took k t rule e = absurd (found_none (ShowsIt k t) (numbered m.given n) (λ x. Takes r x AsTaken) (λ x j. j) (λ j. j) e)
-drawn_by s m (DeliverPart r n bytes) Known k t rule e = absurd (found_none (ShowsIt k t) (numbered m.given n) (λ x. Takes r x AsKnown) (λ x j. j) (λ j. j) e)
-drawn_by s m (DeliverPart r n bytes) Finished k t rule e = absurd (found_none (ShowsIt k t) (numbered m.given n) (λ x. Takes r x AsFinished) (λ x j. j) (λ j. j) e)
-drawn_by s m (Answer r n) (Streaming u) k t rule e = absurd (found_none (ShowsIt k t) (numbered m.asks n) (Opens r u) (λ x j. j) (λ j. j) e)
-drawn_by s m (Release r n) Done k t rule e = absurd (found_none (ShowsIt k t) (numbered m.receipts n) (Releases r) (λ x j. j) (λ j. j) e)
-drawn_by s m (Create r message) (Issued v) k t rule e = absurd e
-drawn_by s m (Edit r bases message) (Issued v) k t rule e = absurd e
-drawn_by s m (Retire r) Done k t rule e = absurd e
-drawn_by s m (Pull r) (Asked ask) k t rule e = absurd e
-drawn_by s m (Offer r u) (Offered x) k t rule e = absurd e
-drawn_by s m (Close r u) Done k t rule e = absurd e
-drawn_by s m (Take r u) (TookEntry x) k t rule e = absurd e
-drawn_by s m (Vouch r v) (Vouched x) k t rule e = absurd e
-drawn_by s m (CutIn r n) Done k t rule e = absurd e
-drawn_by s m (CutOut r u) Done k t rule e = absurd e
-drawn_by s m _ _ k t rule e = absurd e
+pub drawn_by : {M C : Type 0} (s : Setting M C) (m : Moment M C) (r : ℕ) (act : Act M) (reply : Reply C) (k t : ℕ) → IsAllowed s m (change_of m r act reply) → ShowsIt k t (change_of m r act reply) →
+    IsDrawn s m k t (record { event = r does act; reply = reply })
+drawn_by {M} {C} s m q (Next u) (Gave x) k t rule e = let a : q ≡ k = sym rule.source ∙ e.1.0 in let b : u ≡ t = sym rule.stream ∙ e.1.1 in
+    (x, λ i. record { event = (a i) does Next (b i); reply = Gave x }, subst (λ (z : ℕ). IsNext s m k z x) b (subst (λ (z : ℕ). IsNext s m z u x) a rule), e.0)
+drawn_by s m r (Receive n) Took k t rule e = absurd (found_none (ShowsIt k t) (numbered m.given n) (λ x. Takes r x AsTaken) (λ x j. j) (λ j. j) e)
+drawn_by s m r (Receive n) Known k t rule e = absurd (found_none (ShowsIt k t) (numbered m.given n) (λ x. Takes r x AsKnown) (λ x j. j) (λ j. j) e)
+drawn_by s m r (Receive n) Finished k t rule e = absurd (found_none (ShowsIt k t) (numbered m.given n) (λ x. Takes r x AsFinished) (λ x j. j) (λ j. j) e)
+drawn_by s m r (DeliverPart n bytes) Took k t rule e = absurd (found_none (ShowsIt k t) (numbered m.given n) (λ x. Takes r x AsTaken) (λ x j. j) (λ j. j) e)
+drawn_by s m r (DeliverPart n bytes) Known k t rule e = absurd (found_none (ShowsIt k t) (numbered m.given n) (λ x. Takes r x AsKnown) (λ x j. j) (λ j. j) e)
+drawn_by s m r (DeliverPart n bytes) Finished k t rule e = absurd (found_none (ShowsIt k t) (numbered m.given n) (λ x. Takes r x AsFinished) (λ x j. j) (λ j. j) e)
+drawn_by s m r (Answer n) (Streaming u) k t rule e = absurd (found_none (ShowsIt k t) (numbered m.asks n) (Opens r u) (λ x j. j) (λ j. j) e)
+drawn_by s m r (Release n) Done k t rule e = absurd (found_none (ShowsIt k t) (numbered m.receipts n) (Releases r) (λ x j. j) (λ j. j) e)
+drawn_by s m r (Create message) (Issued v) k t rule e = absurd e
+drawn_by s m r (Edit bases message) (Issued v) k t rule e = absurd e
+drawn_by s m r Retire Done k t rule e = absurd e
+drawn_by s m r Pull (Asked ask) k t rule e = absurd e
+drawn_by s m r (Offer u) (Offered x) k t rule e = absurd e
+drawn_by s m r (Close u) Done k t rule e = absurd e
+drawn_by s m r (Take u) (TookEntry x) k t rule e = absurd e
+drawn_by s m r (Vouch v) (Vouched x) k t rule e = absurd e
+drawn_by s m r (CutIn n) Done k t rule e = absurd e
+drawn_by s m r (CutOut u) Done k t rule e = absurd e
+drawn_by s m r _ _ k t rule e = absurd e
 
 pub record WasShownFrom {M C : Type 0} (s : Setting M C) (m : Moment M C) (h : History M C) (k t : ℕ) : Type 0 where
   pub before : History M C
@@ -270,7 +272,7 @@ shown_from {M} {C} s m (x ∷ later) k t none run g = elim (held_yet (happens s 
       record { before = x ∷ w.before; later = w.later; record_given = w.record_given; drawn = ap (λ (h : History M C). x ∷ h) w.drawn; none_before = w.none_before; stored_then = w.stored_then })
   | inl j ↦ elim (shown_before s m k t (change m x) j) [
     | inl l ↦ absurd (none l)
-    | inr l ↦ (let d = drawn_by s m x.event x.reply k t run.0 l in record {
+    | inr l ↦ (let d = drawn_by s m x.event.replica x.event.act x.reply k t run.0 l in record {
       before = [];
       later = later;
       record_given = d.0;

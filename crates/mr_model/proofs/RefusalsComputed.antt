@@ -1,11 +1,13 @@
 -- The last step of each refused row breaks a rule.
 use Rattle.std.proofs.Common.{◌≡◌, refl, sym, ap, subst, ℕ, ◌<◌, ◌==◌, Bool, true, false, List, [], ◌∷◌, inl, inr, IsTrue, arith, Some, None}
 use Rattle.mr_version.specs.Name.{Name}
-use Rattle.mr_model.specs.History.{Ask, Record, Body, Body.Start, Body.Item, Body.MoveOut, Body.Held, Body.Know, Body.End, Entry, Entry.Added, Entry.Dropped, Event.Create, Event.Edit, Event.Retire, Event.Receive, Event.Answer, Event.Offer, Event.Release, Reply.Issued, Reply.Done, Reply.Streaming, Reply.Took, Reply.Offered, Step}
+use Rattle.mr_model.specs.History.{Ask, Record, Body, Body.Start, Body.Item, Body.MoveOut, Body.Held, Body.Know, Body.End, Entry, Entry.Added, Entry.Dropped, Reply.Issued, Reply.Done, Reply.Streaming, Reply.Took, Reply.Offered, Step}
+use Rattle.mr_model.specs.declared.event.Act.TheVariants.{Create, Edit, Retire, Receive, Answer, Offer, Release}
+use Rattle.mr_model.specs.declared.event.Subscriber.TheVariants.{Notifier}
 use Rattle.mr_model.specs.Moment.{is_held, Selects}
 use Rattle.mr_model.specs.Changes.{Reception.AsTaken, Reception.AsKnown, change, now}
 use Rattle.mr_model.specs.Rules.{In, HasHeld, IsAhead, IsDue, IsAllowed, version_in}
-use Rattle.mr_model.specs.Rows.{inbox, archive, row_setting, row_selects, Row, ◌•◌, ◌gives◌, pulls, vouches}
+use Rattle.mr_model.specs.Rows.{inbox, archive, row_setting, row_selects, Row, ◌•◌, ◌does◌gives◌, pulls, vouches}
 use Rattle.mr_model.specs.SyncRows.{first_sync, passed_on}
 use Rattle.mr_model.specs.PortRows.{adds}
 use Rattle.mr_model.specs.RefusedRows.{two_entries, closed_port, pushed_out_only, retired_early, two_to_tell, gives_next, inbox_asked, starts_full}
@@ -26,16 +28,16 @@ one_not_two v w p one two = let same : v.counter ≡ w.counter = ap (λ (z : Nam
 
 -- ---- issues and Asks
 
-pub skipped_counter : ¬ AllowsNext [] (Create 0 inbox gives Issued (0 • 2))
+pub skipped_counter : ¬ AllowsNext [] (0 does Create inbox gives Issued (0 • 2))
 skipped_counter rule = let e : 2 ≡ 1 = rule.counter in absurd (omega arith)
 
-pub other_answer : ¬ AllowsNext [] (Create 0 inbox gives Done)
+pub other_answer : ¬ AllowsNext [] (0 does Create inbox gives Done)
 other_answer rule = rule
 
-pub unheld_base : ¬ AllowsNext two_entries (Edit 1 ((0 • 1) ∷ []) inbox gives Issued (1 • 1))
+pub unheld_base : ¬ AllowsNext two_entries (1 does Edit ((0 • 1) ∷ []) inbox gives Issued (1 • 1))
 unheld_base rule = elim (rule.held (0 • 1) (inl refl)) [ inl stored ↦ untrue stored | inr pushed_out ↦ untrue pushed_out ]
 
-pub mixed_items : ¬ AllowsNext two_entries (Edit 0 ((0 • 1) ∷ (0 • 2) ∷ []) inbox gives Issued (0 • 3))
+pub mixed_items : ¬ AllowsNext two_entries (0 does Edit ((0 • 1) ∷ (0 • 2) ∷ []) inbox gives Issued (0 • 3))
 mixed_items rule = one_not_two (0 • 1) (0 • 2) (sym (rule.one_item (0 • 2) (inr (inl refl)))) refl refl
 
 pub later_claim : ¬ AllowsNext two_entries (pulls 1 1 ((0 • 1) ∷ []))
@@ -112,10 +114,10 @@ same_index rule = let less : 0 < 0 = rule.index its_start (record { is_given = i
 pub given_after_end : ¬ AllowsNext first_sync (gives_next 5 Know)
 given_after_end rule = rule.open_still (record { source = 0; stream = 1; target = 1; session = 1; index = 4; body = End }) (record { is_given = inl refl; source_is = refl; stream_is = refl }) refl
 
-pub own_ask : ¬ AllowsNext two_to_tell (Answer 1 1 gives Streaming 1)
+pub own_ask : ¬ AllowsNext two_to_tell (1 does Answer 1 gives Streaming 1)
 own_ask rule = rule.other refl
 
-pub old_stream_number : ¬ AllowsNext two_to_tell (Answer 0 1 gives Streaming 1)
+pub old_stream_number : ¬ AllowsNext two_to_tell (0 does Answer 1 gives Streaming 1)
 old_stream_number rule = opened rule.fresh
   where
     opened : Some ask_of_one ≡ None → ⊥
@@ -133,30 +135,30 @@ uncovered_full_start rule = untrue (subst (λ (q : ℕ). (message : ℕ) → IsT
 
 -- ---- taken records
 
-pub taken_for_another : ¬ AllowsNext two_to_tell (Receive 2 1 gives Took)
+pub taken_for_another : ¬ AllowsNext two_to_tell (2 does Receive 1 gives Took)
 taken_for_another rule = let e : 1 ≡ 2 = rule.target in absurd (omega arith)
 
-pub taken_unseen : ¬ AllowsNext two_entries (Receive 1 1 gives Took)
+pub taken_unseen : ¬ AllowsNext two_entries (1 does Receive 1 gives Took)
 taken_unseen rule = rule
 
-pub known_as_taken : ¬ AllowsNext first_sync (Receive 1 2 gives Took)
+pub known_as_taken : ¬ AllowsNext first_sync (1 does Receive 2 gives Took)
 known_as_taken rule = different rule.answer
   where
     different : AsTaken ≡ AsKnown → ⊥
     different e = absurd (cc)
 
-pub taken_when_retired : ¬ AllowsNext retired_early (Receive 1 1 gives Took)
+pub taken_when_retired : ¬ AllowsNext retired_early (1 does Receive 1 gives Took)
 taken_when_retired rule = unfalse rule.alive
 
 -- ---- receipts and retirement
 
-pub released_unseen : ¬ AllowsNext passed_on (Release 1 1 gives Done)
+pub released_unseen : ¬ AllowsNext passed_on (1 does Release 1 gives Done)
 released_unseen rule = rule
 
 pub vouched_push_out : ¬ AllowsNext passed_on (vouches 1 (1 • 1))
 vouched_push_out rule = untrue rule.stored
 
-pub unclean_retirement : ¬ AllowsNext pushed_out_only (Retire 1 gives Done)
+pub unclean_retirement : ¬ AllowsNext pushed_out_only (1 does Retire gives Done)
 unclean_retirement rule = unfalse (rule.clean (1 • 1))
 
 -- ---- subscribers
@@ -170,8 +172,8 @@ begins_at_first (Dropped item w ∷ entries) = false
 first_not_second : (rest : List (Entry ℕ)) → adds 1 ∷ adds 2 ∷ [] ≡ adds 2 ∷ rest → ⊥
 first_not_second rest e = unfalse (ap begins_at_first e)
 
-pub skipped_entry : ¬ AllowsNext two_entries (Offer 0 1 gives Offered (adds 2))
+pub skipped_entry : ¬ AllowsNext two_entries (0 does Offer Notifier gives Offered (adds 2))
 skipped_entry rule = first_not_second rule.rest rule.next
 
-pub offer_after_close : ¬ AllowsNext closed_port (Offer 0 1 gives Offered (adds 2))
+pub offer_after_close : ¬ AllowsNext closed_port (0 does Offer Notifier gives Offered (adds 2))
 offer_after_close rule = unfalse rule.not_closed

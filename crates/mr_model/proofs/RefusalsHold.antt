@@ -1,8 +1,10 @@
 -- The refused rows: each is a run up to its last step, and no run with that.
 use Rattle.std.proofs.Common.{refl, ℕ, [], ◌∷◌}
-use Rattle.mr_model.specs.History.{Body.Item, Body.MoveOut, Body.Held, Body.Know, Body.End, Event.Create, Event.Edit, Event.Retire, Event.Receive, Event.Answer, Event.Offer, Event.Release, Reply.Issued, Reply.Done, Reply.Streaming, Reply.Took, Reply.Offered, Step}
+use Rattle.mr_model.specs.History.{Body.Item, Body.MoveOut, Body.Held, Body.Know, Body.End, Reply.Issued, Reply.Done, Reply.Streaming, Reply.Took, Reply.Offered, Step}
+use Rattle.mr_model.specs.declared.event.Act.TheVariants.{Create, Edit, Retire, Receive, Answer, Offer, Release}
+use Rattle.mr_model.specs.declared.event.Subscriber.TheVariants.{Notifier}
 use Rattle.mr_model.specs.Moment.{start}
-use Rattle.mr_model.specs.Rows.{inbox, row_setting, Row, ◌•◌, ◌gives◌, pulls, vouches, Runs}
+use Rattle.mr_model.specs.Rows.{inbox, row_setting, Row, ◌•◌, ◌does◌gives◌, pulls, vouches, Runs}
 use Rattle.mr_model.specs.SyncRows.{first_sync, passed_on}
 use Rattle.mr_model.specs.PortRows.{adds}
 use Rattle.mr_model.specs.RefusedRows.{IsRefused, two_entries, closed_port, pushed_out_only, retired_early, two_to_tell, gives_next, inbox_asked, starts_full}
@@ -34,14 +36,14 @@ pushed_out_only_runs = is_run_by_test pushed_out_only refl
 closed_port_runs : Runs closed_port
 closed_port_runs = is_run_by_test closed_port refl
 
-pub skipped_counter_refused : IsRefused [] (Create 0 inbox gives Issued (0 • 2))
-skipped_counter_refused = refused_by [] (Create 0 inbox gives Issued (0 • 2)) tt skipped_counter
+pub skipped_counter_refused : IsRefused [] (0 does Create inbox gives Issued (0 • 2))
+skipped_counter_refused = refused_by [] (0 does Create inbox gives Issued (0 • 2)) tt skipped_counter
 
-pub other_answer_refused : IsRefused [] (Create 0 inbox gives Done)
-other_answer_refused = refused_by [] (Create 0 inbox gives Done) tt other_answer
+pub other_answer_refused : IsRefused [] (0 does Create inbox gives Done)
+other_answer_refused = refused_by [] (0 does Create inbox gives Done) tt other_answer
 
-pub unheld_base_refused : IsRefused two_entries (Edit 1 ((0 • 1) ∷ []) inbox gives Issued (1 • 1))
-unheld_base_refused = refused_by two_entries (Edit 1 ((0 • 1) ∷ []) inbox gives Issued (1 • 1)) two_entries_runs unheld_base
+pub unheld_base_refused : IsRefused two_entries (1 does Edit ((0 • 1) ∷ []) inbox gives Issued (1 • 1))
+unheld_base_refused = refused_by two_entries (1 does Edit ((0 • 1) ∷ []) inbox gives Issued (1 • 1)) two_entries_runs unheld_base
 
 pub later_claim_refused : IsRefused two_entries (pulls 1 1 ((0 • 1) ∷ []))
 later_claim_refused = refused_by two_entries (pulls 1 1 ((0 • 1) ∷ [])) two_entries_runs later_claim
@@ -58,29 +60,29 @@ early_know_refused = refused_by two_to_tell (gives_next 1 Know) two_to_tell_runs
 pub early_end_refused : IsRefused two_to_tell (gives_next 1 End)
 early_end_refused = refused_by two_to_tell (gives_next 1 End) two_to_tell_runs early_end
 
-pub known_as_taken_refused : IsRefused first_sync (Receive 1 2 gives Took)
-known_as_taken_refused = refused_by first_sync (Receive 1 2 gives Took) first_sync_runs known_as_taken
+pub known_as_taken_refused : IsRefused first_sync (1 does Receive 2 gives Took)
+known_as_taken_refused = refused_by first_sync (1 does Receive 2 gives Took) first_sync_runs known_as_taken
 
-pub taken_when_retired_refused : IsRefused retired_early (Receive 1 1 gives Took)
-taken_when_retired_refused = refused_by retired_early (Receive 1 1 gives Took) retired_early_runs taken_when_retired
+pub taken_when_retired_refused : IsRefused retired_early (1 does Receive 1 gives Took)
+taken_when_retired_refused = refused_by retired_early (1 does Receive 1 gives Took) retired_early_runs taken_when_retired
 
 pub vouched_push_out_refused : IsRefused passed_on (vouches 1 (1 • 1))
 vouched_push_out_refused = refused_by passed_on (vouches 1 (1 • 1)) passed_on_runs vouched_push_out
 
-pub unclean_retirement_refused : IsRefused pushed_out_only (Retire 1 gives Done)
-unclean_retirement_refused = refused_by pushed_out_only (Retire 1 gives Done) pushed_out_only_runs unclean_retirement
+pub unclean_retirement_refused : IsRefused pushed_out_only (1 does Retire gives Done)
+unclean_retirement_refused = refused_by pushed_out_only (1 does Retire gives Done) pushed_out_only_runs unclean_retirement
 
-pub skipped_entry_refused : IsRefused two_entries (Offer 0 1 gives Offered (adds 2))
-skipped_entry_refused = refused_by two_entries (Offer 0 1 gives Offered (adds 2)) two_entries_runs skipped_entry
+pub skipped_entry_refused : IsRefused two_entries (0 does Offer Notifier gives Offered (adds 2))
+skipped_entry_refused = refused_by two_entries (0 does Offer Notifier gives Offered (adds 2)) two_entries_runs skipped_entry
 
-pub offer_after_close_refused : IsRefused closed_port (Offer 0 1 gives Offered (adds 2))
-offer_after_close_refused = refused_by closed_port (Offer 0 1 gives Offered (adds 2)) closed_port_runs offer_after_close
+pub offer_after_close_refused : IsRefused closed_port (0 does Offer Notifier gives Offered (adds 2))
+offer_after_close_refused = refused_by closed_port (0 does Offer Notifier gives Offered (adds 2)) closed_port_runs offer_after_close
 
 inbox_asked_runs : Runs inbox_asked
 inbox_asked_runs = is_run_by_test inbox_asked refl
 
-pub mixed_items_refused : IsRefused two_entries (Edit 0 ((0 • 1) ∷ (0 • 2) ∷ []) inbox gives Issued (0 • 3))
-mixed_items_refused = refused_by two_entries (Edit 0 ((0 • 1) ∷ (0 • 2) ∷ []) inbox gives Issued (0 • 3)) two_entries_runs mixed_items
+pub mixed_items_refused : IsRefused two_entries (0 does Edit ((0 • 1) ∷ (0 • 2) ∷ []) inbox gives Issued (0 • 3))
+mixed_items_refused = refused_by two_entries (0 does Edit ((0 • 1) ∷ (0 • 2) ∷ []) inbox gives Issued (0 • 3)) two_entries_runs mixed_items
 
 pub selected_move_out_refused : IsRefused two_to_tell (gives_next 1 (MoveOut (0 • 1)))
 selected_move_out_refused = refused_by two_to_tell (gives_next 1 (MoveOut (0 • 1))) two_to_tell_runs selected_move_out
@@ -91,20 +93,20 @@ same_index_refused = refused_by two_to_tell (gives_next 0 (Item (0 • 1))) two_
 pub given_after_end_refused : IsRefused first_sync (gives_next 5 Know)
 given_after_end_refused = refused_by first_sync (gives_next 5 Know) first_sync_runs given_after_end
 
-pub own_ask_refused : IsRefused two_to_tell (Answer 1 1 gives Streaming 1)
-own_ask_refused = refused_by two_to_tell (Answer 1 1 gives Streaming 1) two_to_tell_runs own_ask
+pub own_ask_refused : IsRefused two_to_tell (1 does Answer 1 gives Streaming 1)
+own_ask_refused = refused_by two_to_tell (1 does Answer 1 gives Streaming 1) two_to_tell_runs own_ask
 
-pub old_stream_number_refused : IsRefused two_to_tell (Answer 0 1 gives Streaming 1)
-old_stream_number_refused = refused_by two_to_tell (Answer 0 1 gives Streaming 1) two_to_tell_runs old_stream_number
+pub old_stream_number_refused : IsRefused two_to_tell (0 does Answer 1 gives Streaming 1)
+old_stream_number_refused = refused_by two_to_tell (0 does Answer 1 gives Streaming 1) two_to_tell_runs old_stream_number
 
 pub uncovered_full_start_refused : IsRefused inbox_asked starts_full
 uncovered_full_start_refused = refused_by inbox_asked starts_full inbox_asked_runs uncovered_full_start
 
-pub taken_for_another_refused : IsRefused two_to_tell (Receive 2 1 gives Took)
-taken_for_another_refused = refused_by two_to_tell (Receive 2 1 gives Took) two_to_tell_runs taken_for_another
+pub taken_for_another_refused : IsRefused two_to_tell (2 does Receive 1 gives Took)
+taken_for_another_refused = refused_by two_to_tell (2 does Receive 1 gives Took) two_to_tell_runs taken_for_another
 
-pub taken_unseen_refused : IsRefused two_entries (Receive 1 1 gives Took)
-taken_unseen_refused = refused_by two_entries (Receive 1 1 gives Took) two_entries_runs taken_unseen
+pub taken_unseen_refused : IsRefused two_entries (1 does Receive 1 gives Took)
+taken_unseen_refused = refused_by two_entries (1 does Receive 1 gives Took) two_entries_runs taken_unseen
 
-pub released_unseen_refused : IsRefused passed_on (Release 1 1 gives Done)
-released_unseen_refused = refused_by passed_on (Release 1 1 gives Done) passed_on_runs released_unseen
+pub released_unseen_refused : IsRefused passed_on (1 does Release 1 gives Done)
+released_unseen_refused = refused_by passed_on (1 does Release 1 gives Done) passed_on_runs released_unseen

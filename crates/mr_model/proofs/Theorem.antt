@@ -3,7 +3,8 @@ use Rattle.std.proofs.Common.{◌≡◌, ◌≢◌, refl, sym, ap, subst, ◌∙
 use native.Mathlib.Decide.{dec_lt}
 use Rattle.mr_version.specs.Name.{Name}
 use Rattle.mr_model.specs.Versions.{Versions, is_issued, item_of}
-use Rattle.mr_model.specs.History.{Setting, Entry, Event.Retire, Reply.Done, Step, History}
+use Rattle.mr_model.specs.History.{◌does◌, Setting, Entry, Reply.Done, Step, History}
+use Rattle.mr_model.specs.declared.event.Act.TheVariants.{Retire}
 use Rattle.mr_model.specs.Moment.{Holding, Mark.CloseMark, Moment, stored, start}
 use Rattle.mr_model.specs.Changes.{Change, Change.Issues, Change.Asks, Change.Opens, Change.Gives, Change.Takes, Change.Retires, Change.Offers, Change.Closes, Change.TakesEntry, Change.Vouches, Change.Releases, Change.Stays, Change.Misfits, holding_after_issue, holding_after_record, holding_after_release, feed_after, with_holding, with_issue, with_mark, is_closed, happens, change, after, now}
 use Rattle.mr_model.specs.Headline.{IsSoundHolding, LosesNothing, KnowsItem, IsCurrent, InIssueOrder, RetiresBetween, Headline, added}
@@ -127,14 +128,14 @@ headline_holds {M} {C} s h run = record {
     inv = run_inv s h run
 
     none_after : (r : ℕ) (before later : History M C) → RetiresBetween h r before later → (now s h).feed r ≡ (now s before).feed r
-    none_after r before later e = ap (λ (g : History M C). (now s g).feed r) e ∙ (ap (λ (m : Moment M C). m.feed r) (after-append s start before (record { event = Retire r; reply = Done } ∷ later))
-        ∙ run_rests s (happens s (now s before) (Retires r)) r later rest.1 (change_keeps s (now s before) (Retires r) rest.0 (run_inv s before (run_before s start before (record { event = Retire r; reply = Done } ∷ later) run'))) retired)
+    none_after r before later e = ap (λ (g : History M C). (now s g).feed r) e ∙ (ap (λ (m : Moment M C). m.feed r) (after-append s start before (record { event = r does Retire; reply = Done } ∷ later))
+        ∙ run_rests s (happens s (now s before) (Retires r)) r later rest.1 (change_keeps s (now s before) (Retires r) rest.0 (run_inv s before (run_before s start before (record { event = r does Retire; reply = Done } ∷ later) run'))) retired)
       where
-        run' : IsRun s start (before ++ record { event = Retire r; reply = Done } ∷ later)
+        run' : IsRun s start (before ++ record { event = r does Retire; reply = Done } ∷ later)
         run' = subst (IsRun s start) e run
 
-        rest : IsRun s (now s before) (record { event = Retire r; reply = Done } ∷ later)
-        rest = run_later s start before (record { event = Retire r; reply = Done } ∷ later) run'
+        rest : IsRun s (now s before) (record { event = r does Retire; reply = Done } ∷ later)
+        rest = run_later s start before (record { event = r does Retire; reply = Done } ∷ later) run'
 
         retired : IsTrue ((happens s (now s before) (Retires r)).is_retired r)
         retired = rw (eq-eqb r r refl) refl

@@ -3,7 +3,9 @@ use Rattle.std.specs.Prelude.{ℕ, Bool, true, false, ◌&&◌, not, if◌then�
 use Rattle.std.specs.List.{list_any}
 use Rattle.mr_version.specs.Name.{Name}
 use Rattle.mr_model.specs.Versions.{Versions, Issue, item_of, made_with, in_version_order}
-use Rattle.mr_model.specs.History.{Setting, Ask, Body, Body.Item, Body.MoveOut, Body.End, Record, Receipt, Entry, Entry.Added, Entry.Dropped, Event, Event.Create, Event.Edit, Event.Retire, Event.Pull, Event.Receive, Event.DeliverPart, Event.CutIn, Event.Answer, Event.Next, Event.CutOut, Event.Offer, Event.Take, Event.Close, Event.Vouch, Event.Release, Reply, Reply.Issued, Reply.Done, Reply.Asked, Reply.Streaming, Reply.Gave, Reply.Took, Reply.Known, Reply.Finished, Reply.Offered, Reply.TookEntry, Reply.Vouched, Reply.Refused, Step, History}
+use Rattle.mr_model.specs.History.{subscriber_number, Setting, Ask, Body, Body.Item, Body.MoveOut, Body.End, Record, Receipt, Entry, Entry.Added, Entry.Dropped, Reply, Reply.Issued, Reply.Done, Reply.Asked, Reply.Streaming, Reply.Gave, Reply.Took, Reply.Known, Reply.Finished, Reply.Offered, Reply.TookEntry, Reply.Vouched, Reply.Refused, Step, History}
+use Rattle.mr_model.specs.declared.event.Act.{Act}
+use Rattle.mr_model.specs.declared.event.Act.TheVariants.{Create, Edit, Retire, Pull, Receive, DeliverPart, CutIn, Answer, Next, CutOut, Offer, Take, Close, Vouch, Release}
 use Rattle.mr_model.specs.Moment.{Holding, Mark, Mark.Moved, Mark.CloseMark, Moment, known, stored, pushed_out, start, at, at_two, ◌with◌, ◌without◌, only_if, only, numbered, selection, is_held, same_stream, completes}
 
 -- how a replica answers a record that it takes
@@ -54,25 +56,25 @@ change_by_reply m r n Finished = taken_if_found m r n AsFinished
 change_by_reply m r n Refused = Stays
 change_by_reply m r n _ = Misfits
 
--- what an event and its answer do
-abbrev pub change_of : {M C : Type 0} → Moment M C → Event M → Reply C → Change M C
-change_of m (Create r message) (Issued v) = Issues r (record { version = v; item = v; bases = []; message = message })
-change_of m (Edit r bases message) (Issued v) = Issues r (record { version = v; item = item_of_bases m.issues bases v; bases = bases; message = message })
-change_of m (Retire r) Done = Retires r
-change_of m (Pull r) (Asked ask) = Asks r ask
-change_of m (Receive r n) reply = change_by_reply m r n reply
-change_of m (DeliverPart r n bytes) reply = change_by_reply m r n reply
-change_of m (CutIn r n) Done = Stays
-change_of m (Answer r n) (Streaming t) = change_if_found (numbered m.asks n) (Opens r t)
-change_of m (Next r t) (Gave x) = Gives r t x
-change_of m (CutOut r t) Done = Stays
-change_of m (Offer r u) (Offered e) = Offers r u e
-change_of m (Close r u) Done = Closes r u
-change_of m (Take r u) (TookEntry e) = TakesEntry r u e
-change_of m (Vouch r v) (Vouched x) = Vouches r v x
-change_of m (Release r n) Done = change_if_found (numbered m.receipts n) (Releases r)
-change_of m _ Refused = Stays
-change_of m _ _ = Misfits
+-- what a replica does by its act and the answer to that
+abbrev pub change_of : {M C : Type 0} → Moment M C → ℕ → Act M → Reply C → Change M C
+change_of m r (Create message) (Issued v) = Issues r (record { version = v; item = v; bases = []; message = message })
+change_of m r (Edit bases message) (Issued v) = Issues r (record { version = v; item = item_of_bases m.issues bases v; bases = bases; message = message })
+change_of m r Retire Done = Retires r
+change_of m r Pull (Asked ask) = Asks r ask
+change_of m r (Receive n) reply = change_by_reply m r n reply
+change_of m r (DeliverPart n bytes) reply = change_by_reply m r n reply
+change_of m r (CutIn n) Done = Stays
+change_of m r (Answer n) (Streaming t) = change_if_found (numbered m.asks n) (Opens r t)
+change_of m r (Next t) (Gave x) = Gives r t x
+change_of m r (CutOut t) Done = Stays
+change_of m r (Offer u) (Offered e) = Offers r (subscriber_number u) e
+change_of m r (Close u) Done = Closes r (subscriber_number u)
+change_of m r (Take u) (TookEntry e) = TakesEntry r (subscriber_number u) e
+change_of m r (Vouch v) (Vouched x) = Vouches r v x
+change_of m r (Release n) Done = change_if_found (numbered m.receipts n) (Releases r)
+change_of m r _ Refused = Stays
+change_of m r _ _ = Misfits
 
 -- ---- the sets of a replica after a change
 
@@ -201,7 +203,7 @@ happens s m Misfits = m
 
 -- the change that this event with its answer makes at the moment
 abbrev pub change : {M C : Type 0} → Moment M C → Step M C → Change M C
-change m x = change_of m x.event x.reply
+change m x = change_of m x.event.replica x.event.act x.reply
 
 -- the moment after a history that begins at m
 abbrev pub after : {M C : Type 0} → Setting M C → Moment M C → History M C → Moment M C

@@ -2,7 +2,8 @@
 use Rattle.std.specs.Prelude.{◌≡◌, ◌≢◌, ℕ, ◌<◌, ◌⊎◌, ◌↔◌, IsTrue, IsFalse, if◌then◌else◌, List, [], ◌∷◌, ◌++◌, Option, Some, None, ⊤}
 use Rattle.mr_version.specs.Name.{Name}
 use Rattle.mr_model.specs.Versions.{is, Issue, IsIssued, item_of, Supersedes, IsSuperseded}
-use Rattle.mr_model.specs.History.{Setting, Entry, Entry.Added, Entry.Dropped, Event.Retire, Reply.Done, History}
+use Rattle.mr_model.specs.History.{◌does◌, Setting, Entry, Entry.Added, Entry.Dropped, Reply.Done, History}
+use Rattle.mr_model.specs.declared.event.Act.TheVariants.{Retire}
 use Rattle.mr_model.specs.Moment.{Moment, Mark, Mark.Moved, Mark.CloseMark, stored, pushed_out, Knows, Stores, Holds, Selects, card_of}
 use Rattle.mr_model.specs.Changes.{entries_of, now}
 
@@ -100,7 +101,7 @@ InIssueOrder issues v w = v.author ≡ w.author → item_of issues v ≡ item_of
 
 -- the history retires r between the two parts
 abbrev pub RetiresBetween : {M C : Type 0} → History M C → ℕ → (before later : History M C) → Type 0
-RetiresBetween h r before later = h ≡ before ++ record { event = Retire r; reply = Done } ∷ later
+RetiresBetween h r before later = h ≡ before ++ record { event = r does Retire; reply = Done } ∷ later
 
 -- what holds of every run
 pub record Headline {M C : Type 0} (s : Setting M C) (h : History M C) : Type 0 where

@@ -3,6 +3,10 @@ use Rattle.std.specs.Prelude.{ℕ, Bool, List}
 use Rattle.std.specs.List.{list_any}
 use Rattle.mr_version.specs.Name.{Name}
 use Rattle.mr_model.specs.Versions.{Versions, is}
+use Rattle.mr_model.specs.declared.event.Act.{Act}
+use Rattle.mr_model.specs.declared.event.Event.{Event}
+use Rattle.mr_model.specs.declared.event.Subscriber.{Subscriber}
+use Rattle.mr_model.specs.declared.event.Subscriber.TheVariants.{Indexer, Notifier}
 
 -- what a world is over: messages M, the card C that a feed shows of a message, and which messages each replica's filter selects
 pub record Setting (M C : Type 0) : Type 0 where
@@ -51,23 +55,15 @@ pub data Entry (C : Type 0) : Type 0 where
 
 -- ---- events and answers
 
--- The replica comes first. Receive, DeliverPart, Answer and Release name a number of a pool, from 1.
-pub data Event (M : Type 0) : Type 0 where
-  Create : ℕ → M → Event M
-  Edit : ℕ → (bases : List Name) → M → Event M
-  Retire : ℕ → Event M
-  Pull : ℕ → Event M
-  Receive : ℕ → (record_number : ℕ) → Event M
-  DeliverPart : ℕ → (record_number bytes : ℕ) → Event M
-  CutIn : ℕ → (session : ℕ) → Event M
-  Answer : ℕ → (ask_number : ℕ) → Event M
-  Next : ℕ → (stream : ℕ) → Event M
-  CutOut : ℕ → (stream : ℕ) → Event M
-  Offer : ℕ → (subscriber : ℕ) → Event M
-  Take : ℕ → (subscriber : ℕ) → Event M
-  Close : ℕ → (subscriber : ℕ) → Event M
-  Vouch : ℕ → Name → Event M
-  Release : ℕ → (receipt_number : ℕ) → Event M
+-- the event by which the replica does this
+abbrev pub ◌does◌ : {M : Type 0} → ℕ → Act M → Event M
+r does act = record { replica = r; act = act }
+
+infix 10 ◌does◌
+-- the number of a subscriber
+abbrev pub subscriber_number : Subscriber → ℕ
+subscriber_number Indexer = 0
+subscriber_number Notifier = 1
 
 -- what is answered
 pub data Reply (C : Type 0) : Type 0 where

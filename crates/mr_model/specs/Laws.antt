@@ -2,7 +2,8 @@
 use Rattle.std.specs.Prelude.{◌≡◌, ℕ, ◌<◌, ◌≤◌, ◌↔◌, IsTrue, List, ◌∷◌, ◌++◌, map}
 use Rattle.mr_version.specs.Name.{Name}
 use Rattle.mr_model.specs.Versions.{Versions, is_before, in_version_order, Issue, IsIssued, item_of, issue_count, replaces, made_with, Supersedes}
-use Rattle.mr_model.specs.History.{Setting, Record, Entry, Event.Answer, Event.Next, Reply.Streaming, Reply.Gave, History}
+use Rattle.mr_model.specs.History.{◌does◌, Setting, Record, Entry, Reply.Streaming, Reply.Gave, History}
+use Rattle.mr_model.specs.declared.event.Act.TheVariants.{Answer, Next}
 use Rattle.mr_model.specs.Moment.{Moment, known, stored, Knows, Holds}
 use Rattle.mr_model.specs.Changes.{added_entry, dropped_entry, is_first_held, now}
 use Rattle.mr_model.specs.Rules.{In, HasHeld}
@@ -82,19 +83,19 @@ pub record ChangesNothing {M C : Type 0} (m later : Moment M C) : Type 0 where
 -- `known_at_answer` is what the source knew at the Answer that opened the stream
 abbrev pub ReadsAnswer : {M C : Type 0} → Setting M C → (before later : History M C) → (k n t : ℕ) → Type 0
 ReadsAnswer s before later k n t =
-    (now s (before ++ record { event = Answer k n; reply = Streaming t } ∷ later)).known_at_answer k t ≡ known (now s before) k
+    (now s (before ++ record { event = k does Answer n; reply = Streaming t } ∷ later)).known_at_answer k t ≡ known (now s before) k
 
 -- `held_at_draw` is what the source stored as the stream's first Held record was drawn
 abbrev pub ReadsHeld : {M C : Type 0} → Setting M C → (before later : History M C) → (k t : ℕ) → Record → Type 0
 ReadsHeld s before later k t x = IsTrue (is_first_held (now s before).given x) →
-    (now s (before ++ record { event = Next k t; reply = Gave x } ∷ later)).held_at_draw k t ≡ stored (now s before) k
+    (now s (before ++ record { event = k does Next t; reply = Gave x } ∷ later)).held_at_draw k t ≡ stored (now s before) k
 
 -- the Answer of the history that opened stream t of k, and what the history held before and after it
 pub record WasOpened {M C : Type 0} (s : Setting M C) (h : History M C) (k t : ℕ) : Type 0 where
   pub before : History M C
   pub later : History M C
   pub ask_number : ℕ
-  pub answered : h ≡ before ++ record { event = Answer k ask_number; reply = Streaming t } ∷ later
+  pub answered : h ≡ before ++ record { event = k does Answer ask_number; reply = Streaming t } ∷ later
   pub knew : (now s h).known_at_answer k t ≡ known (now s before) k
 
 -- the draw of the history that gave the first Held record of stream t of k, and what the history held before and after it
@@ -102,6 +103,6 @@ pub record WasShown {M C : Type 0} (s : Setting M C) (h : History M C) (k t : �
   pub before : History M C
   pub later : History M C
   pub record_given : Record
-  pub drawn : h ≡ before ++ record { event = Next k t; reply = Gave record_given } ∷ later
+  pub drawn : h ≡ before ++ record { event = k does Next t; reply = Gave record_given } ∷ later
   pub none_before : ¬ HasHeld (now s before).given k t
   pub stored_then : (now s h).held_at_draw k t ≡ stored (now s before) k

@@ -1,9 +1,11 @@
 -- Rows of subscribers, and of a replica that is retired.
 use Rattle.std.specs.Prelude.{◌≡◌, ℕ, true, false, [], ◌∷◌, ◌++◌}
-use Rattle.mr_model.specs.History.{Body.Start, Entry, Entry.Added, Event.Create, Event.Retire, Event.Receive, Event.Answer, Event.Offer, Event.Take, Event.Close, Reply.Issued, Reply.Done, Reply.Streaming, Reply.Offered, Reply.TookEntry, Reply.Refused}
+use Rattle.mr_model.specs.History.{Body.Start, Entry, Entry.Added, Reply.Issued, Reply.Done, Reply.Streaming, Reply.Offered, Reply.TookEntry, Reply.Refused}
+use Rattle.mr_model.specs.declared.event.Act.TheVariants.{Create, Retire, Receive, Answer, Offer, Take, Close}
+use Rattle.mr_model.specs.declared.event.Subscriber.TheVariants.{Indexer, Notifier}
 use Rattle.mr_model.specs.Moment.{Mark.Moved, Mark.CloseMark}
 use Rattle.mr_model.specs.Changes.{now}
-use Rattle.mr_model.specs.Rows.{inbox, row_setting, Row, ◌•◌, ◌gives◌, records, draws, pulls, sync, Runs, heads_after, feed_after_row, offered_after, taken_after}
+use Rattle.mr_model.specs.Rows.{inbox, row_setting, Row, ◌•◌, ◌does◌gives◌, records, draws, pulls, sync, Runs, heads_after, feed_after_row, offered_after, taken_after}
 use Rattle.mr_model.specs.SyncRows.{one_item}
 
 -- the entry that adds version c of replica 0, which created its own item
@@ -13,13 +15,13 @@ adds c = Added (0 • c) (0 • c) inbox
 -- ---- retired and closed: what waits is still taken, nothing more is offered, and the replica still answers
 
 abbrev pub retired : Row
-retired = (Create 0 inbox gives Issued (0 • 1))
+retired = (0 does Create inbox gives Issued (0 • 1))
     ∷ sync 1 1 1 0 1 1 [] (one_item (0 • 1))
-    ++ pulls 1 2 ((0 • 1) ∷ []) ∷ (Answer 0 2 gives Streaming 2) ∷ draws (records 0 2 1 2 0 (Start true ∷ []))
-    ++ (Retire 1 gives Done) ∷ (Receive 1 6 gives Refused)
-    ∷ (Offer 1 1 gives Offered (adds 1)) ∷ (Close 1 1 gives Done)
-    ∷ (Take 1 1 gives TookEntry (adds 1)) ∷ (Take 1 1 gives Refused) ∷ (Offer 1 1 gives Refused)
-    ∷ pulls 0 1 ((0 • 1) ∷ []) ∷ (Answer 1 3 gives Streaming 1) ∷ draws (records 1 1 0 1 0 (Start false ∷ []))
+    ++ pulls 1 2 ((0 • 1) ∷ []) ∷ (0 does Answer 2 gives Streaming 2) ∷ draws (records 0 2 1 2 0 (Start true ∷ []))
+    ++ (1 does Retire gives Done) ∷ (1 does Receive 6 gives Refused)
+    ∷ (1 does Offer Notifier gives Offered (adds 1)) ∷ (1 does Close Notifier gives Done)
+    ∷ (1 does Take Notifier gives TookEntry (adds 1)) ∷ (1 does Take Notifier gives Refused) ∷ (1 does Offer Notifier gives Refused)
+    ∷ pulls 0 1 ((0 • 1) ∷ []) ∷ (1 does Answer 3 gives Streaming 1) ∷ draws (records 1 1 0 1 0 (Start false ∷ []))
 
 pub record RetiredAndClosed : Type 0 where
   pub runs : Runs retired
@@ -30,11 +32,11 @@ pub record RetiredAndClosed : Type 0 where
 -- ---- a small port: entries go through it in order, as it has room
 
 abbrev pub small_port : Row
-small_port = (Create 0 inbox gives Issued (0 • 1)) ∷ (Create 0 inbox gives Issued (0 • 2)) ∷ (Create 0 inbox gives Issued (0 • 3))
-    ∷ (Offer 0 0 gives Offered (adds 1)) ∷ (Offer 0 0 gives Offered (adds 2)) ∷ (Offer 0 0 gives Refused)
-    ∷ (Take 0 0 gives TookEntry (adds 1)) ∷ (Offer 0 0 gives Offered (adds 3))
-    ∷ (Take 0 0 gives TookEntry (adds 2)) ∷ (Take 0 0 gives TookEntry (adds 3)) ∷ (Take 0 0 gives Refused) ∷ (Offer 0 0 gives Refused)
-    ∷ (Offer 0 1 gives Offered (adds 1)) ∷ (Close 0 1 gives Done) ∷ (Offer 0 1 gives Refused) ∷ (Take 0 1 gives TookEntry (adds 1)) ∷ (Take 0 1 gives Refused) ∷ []
+small_port = (0 does Create inbox gives Issued (0 • 1)) ∷ (0 does Create inbox gives Issued (0 • 2)) ∷ (0 does Create inbox gives Issued (0 • 3))
+    ∷ (0 does Offer Indexer gives Offered (adds 1)) ∷ (0 does Offer Indexer gives Offered (adds 2)) ∷ (0 does Offer Indexer gives Refused)
+    ∷ (0 does Take Indexer gives TookEntry (adds 1)) ∷ (0 does Offer Indexer gives Offered (adds 3))
+    ∷ (0 does Take Indexer gives TookEntry (adds 2)) ∷ (0 does Take Indexer gives TookEntry (adds 3)) ∷ (0 does Take Indexer gives Refused) ∷ (0 does Offer Indexer gives Refused)
+    ∷ (0 does Offer Notifier gives Offered (adds 1)) ∷ (0 does Close Notifier gives Done) ∷ (0 does Offer Notifier gives Refused) ∷ (0 does Take Notifier gives TookEntry (adds 1)) ∷ (0 does Take Notifier gives Refused) ∷ []
 
 pub record SmallPort : Type 0 where
   pub runs : Runs small_port
@@ -45,7 +47,7 @@ pub record SmallPort : Type 0 where
 -- ---- a port closed twice has one close mark
 
 abbrev pub closed_twice : Row
-closed_twice = (Create 0 inbox gives Issued (0 • 1)) ∷ (Offer 0 1 gives Offered (adds 1)) ∷ (Close 0 1 gives Done) ∷ (Close 0 1 gives Done) ∷ []
+closed_twice = (0 does Create inbox gives Issued (0 • 1)) ∷ (0 does Offer Notifier gives Offered (adds 1)) ∷ (0 does Close Notifier gives Done) ∷ (0 does Close Notifier gives Done) ∷ []
 
 pub record ClosedTwice : Type 0 where
   pub runs : Runs closed_twice

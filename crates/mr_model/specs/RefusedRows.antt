@@ -1,7 +1,9 @@
 -- Rows with a last step that the rules refuse: each would break what the headline, sound holding or no loss says.
 use Rattle.std.specs.Prelude.{ℕ, true, [], ◌∷◌, ◌++◌}
-use Rattle.mr_model.specs.History.{Body, Body.Start, Body.Item, Event.Create, Event.Retire, Event.Answer, Event.Offer, Event.Close, Event.Next, Reply.Issued, Reply.Done, Reply.Streaming, Reply.Offered, Reply.Gave, Step}
-use Rattle.mr_model.specs.Rows.{inbox, work, Row, ◌•◌, ◌gives◌, records, draws, pulls, Runs}
+use Rattle.mr_model.specs.History.{Body, Body.Start, Body.Item, Reply.Issued, Reply.Done, Reply.Streaming, Reply.Offered, Reply.Gave, Step}
+use Rattle.mr_model.specs.declared.event.Act.TheVariants.{Create, Retire, Answer, Offer, Close, Next}
+use Rattle.mr_model.specs.declared.event.Subscriber.TheVariants.{Notifier}
+use Rattle.mr_model.specs.Rows.{inbox, work, Row, ◌•◌, ◌does◌gives◌, records, draws, pulls, Runs}
 use Rattle.mr_model.specs.StreamRows.{opened}
 use Rattle.mr_model.specs.PortRows.{adds}
 
@@ -12,32 +14,32 @@ pub record IsRefused (before : Row) (last : Step ℕ ℕ) : Type 0 where
 
 -- two entries are in the feed of 0, and none was offered
 abbrev pub two_entries : Row
-two_entries = (Create 0 inbox gives Issued (0 • 1)) ∷ (Create 0 inbox gives Issued (0 • 2)) ∷ []
+two_entries = (0 does Create inbox gives Issued (0 • 1)) ∷ (0 does Create inbox gives Issued (0 • 2)) ∷ []
 
 -- one of them was offered, and then the port was closed
 abbrev pub closed_port : Row
-closed_port = two_entries ++ (Offer 0 1 gives Offered (adds 1)) ∷ (Close 0 1 gives Done) ∷ []
+closed_port = two_entries ++ (0 does Offer Notifier gives Offered (adds 1)) ∷ (0 does Close Notifier gives Done) ∷ []
 
 -- 1 pushed out what it issued
 abbrev pub pushed_out_only : Row
-pushed_out_only = (Create 1 work gives Issued (1 • 1)) ∷ []
+pushed_out_only = (1 does Create work gives Issued (1 • 1)) ∷ []
 
 -- 1 retired, and a record for it is in the pool
 abbrev pub retired_early : Row
-retired_early = opened (Start true ∷ Item (0 • 1) ∷ []) ++ (Retire 1 gives Done) ∷ []
+retired_early = opened (Start true ∷ Item (0 • 1) ∷ []) ++ (1 does Retire gives Done) ∷ []
 
 -- 1 asked 0 for a stream of two versions, and has its Start
 abbrev pub two_to_tell : Row
-two_to_tell = two_entries ++ pulls 1 1 [] ∷ (Answer 0 1 gives Streaming 1) ∷ draws (records 0 1 1 1 0 (Start true ∷ []))
+two_to_tell = two_entries ++ pulls 1 1 [] ∷ (0 does Answer 1 gives Streaming 1) ∷ draws (records 0 1 1 1 0 (Start true ∷ []))
 
 -- 0, which selects all, asked 1, which selects the inbox
 abbrev pub inbox_asked : Row
-inbox_asked = pulls 0 1 [] ∷ (Answer 1 1 gives Streaming 1) ∷ []
+inbox_asked = pulls 0 1 [] ∷ (1 does Answer 1 gives Streaming 1) ∷ []
 
 -- stream 1 of 1 gives the Start of a full stream
 abbrev pub starts_full : Step ℕ ℕ
-starts_full = Next 1 1 gives Gave (record { source = 1; stream = 1; target = 0; session = 1; index = 0; body = Start true })
+starts_full = 1 does Next 1 gives Gave (record { source = 1; stream = 1; target = 0; session = 1; index = 0; body = Start true })
 
 -- stream 1 of 0 gives its next record, for session 1 of 1
 abbrev pub gives_next : (index : ℕ) → Body → Step ℕ ℕ
-gives_next index body = Next 0 1 gives Gave (record { source = 0; stream = 1; target = 1; session = 1; index = index; body = body })
+gives_next index body = 0 does Next 1 gives Gave (record { source = 0; stream = 1; target = 1; session = 1; index = index; body = body })

@@ -2,7 +2,9 @@
 use Rattle.std.specs.Prelude.{ℕ, ◌+◌, ◌==◌, Bool, true, ◌&&◌, ◌||◌, not, if◌then◌else◌, List, [], ◌∷◌, ◌++◌, map, filter}
 use Rattle.mr_version.specs.Name.{Name}
 use Rattle.mr_model.specs.Versions.{Versions, in_version_order}
-use Rattle.mr_model.specs.History.{Setting, Body, Body.End, Record, Entry, Event, Event.Pull, Event.Receive, Event.Answer, Event.Next, Event.Vouch, Reply, Reply.Asked, Reply.Streaming, Reply.Gave, Reply.Took, Reply.Finished, Reply.Vouched, Step, History}
+use Rattle.mr_model.specs.History.{Setting, ◌does◌, Body, Body.End, Record, Entry, Reply, Reply.Asked, Reply.Streaming, Reply.Gave, Reply.Took, Reply.Finished, Reply.Vouched, Step, History}
+use Rattle.mr_model.specs.declared.event.Act.{Act}
+use Rattle.mr_model.specs.declared.event.Act.TheVariants.{Pull, Receive, Answer, Next, Vouch}
 use Rattle.mr_model.specs.Moment.{Moment, known, stored, pushed_out, start}
 use Rattle.mr_model.specs.Changes.{entries_of, now}
 use Rattle.mr_model.specs.Rules.{IsRun}
@@ -49,11 +51,11 @@ abbrev pub ◌•◌ : ℕ → ℕ → Name
 a • c = record { author = a; counter = c }
 
 infix 90 ◌•◌
--- an event with its answer
-abbrev pub ◌gives◌ : Event ℕ → Reply ℕ → Step ℕ ℕ
-e gives a = record { event = e; reply = a }
+-- the replica does this, and this is answered
+abbrev pub ◌does◌gives◌ : ℕ → Act ℕ → Reply ℕ → Step ℕ ℕ
+r does act gives answer = record { event = r does act; reply = answer }
 
-infix 10 ◌gives◌
+infix 10 ◌does◌gives◌
 -- the records of stream t of k, for session n of r, from index i on
 abbrev pub records : (k t r n i : ℕ) → List Body → List Record
 records k t r n i [] = []
@@ -62,25 +64,25 @@ records k t r n i (b ∷ bs) = record { source = k; stream = t; target = r; sess
 -- the source gives them one after another
 abbrev pub draws : List Record → Row
 draws [] = []
-draws (x ∷ xs) = (Next x.source x.stream gives Gave x) ∷ draws xs
+draws (x ∷ xs) = (x.source does Next x.stream gives Gave x) ∷ draws xs
 
 -- r takes what has these numbers in the pool, from p on, and knew none of it
 abbrev pub takes : (r p : ℕ) → List Body → Row
 takes r p [] = []
-takes r p (End ∷ bs) = (Receive r p gives Finished) ∷ takes r (p + 1) bs
-takes r p (b ∷ bs) = (Receive r p gives Took) ∷ takes r (p + 1) bs
+takes r p (End ∷ bs) = (r does Receive p gives Finished) ∷ takes r (p + 1) bs
+takes r p (b ∷ bs) = (r does Receive p gives Took) ∷ takes r (p + 1) bs
 
 -- r opens session n and asks, claiming these versions
 abbrev pub pulls : (r n : ℕ) → List Name → Step ℕ ℕ
-pulls r n claimed = Pull r gives Asked (record { target = r; session = n; claimed = claimed })
+pulls r n claimed = r does Pull gives Asked (record { target = r; session = n; claimed = claimed })
 
 -- r pulls from k to the end, in session n, by Ask number q and stream t, whose first record is number p
 abbrev pub sync : (r n q k t p : ℕ) → List Name → List Body → Row
-sync r n q k t p claimed bodies = pulls r n claimed ∷ (Answer k q gives Streaming t) ∷ draws (records k t r n 0 bodies) ++ takes r p bodies
+sync r n q k t p claimed bodies = pulls r n claimed ∷ (k does Answer q gives Streaming t) ∷ draws (records k t r n 0 bodies) ++ takes r p bodies
 
 -- r vouches for w
 abbrev pub vouches : ℕ → Name → Step ℕ ℕ
-vouches r w = Vouch r w gives Vouched (record { giver = r; version = w })
+vouches r w = r does Vouch w gives Vouched (record { giver = r; version = w })
 
 -- ---- reading one
 

@@ -2,19 +2,20 @@
 use Rattle.std.specs.Prelude.{◌≡◌, true, false, List, [], ◌∷◌, ◌++◌}
 use Rattle.mr_version.specs.Name.{Name}
 use Rattle.mr_model.specs.Versions.{Issue, made_with}
-use Rattle.mr_model.specs.History.{Body, Body.Start, Body.Item, Body.Held, Body.Know, Body.End, Entry.Added, Entry.Dropped, Event.Create, Event.Edit, Event.Receive, Event.CutIn, Event.Answer, Reply.Issued, Reply.Done, Reply.Streaming, Reply.Took, Reply.Finished, Reply.Refused}
-use Rattle.mr_model.specs.Rows.{inbox, archive, Row, ◌•◌, ◌gives◌, records, draws, takes, pulls, sync, Runs, knowledge_after, heads_after, feed_after_row}
+use Rattle.mr_model.specs.History.{Body, Body.Start, Body.Item, Body.Held, Body.Know, Body.End, Entry.Added, Entry.Dropped, Reply.Issued, Reply.Done, Reply.Streaming, Reply.Took, Reply.Finished, Reply.Refused}
+use Rattle.mr_model.specs.declared.event.Act.TheVariants.{Create, Edit, Receive, CutIn, Answer}
+use Rattle.mr_model.specs.Rows.{inbox, archive, Row, ◌•◌, ◌does◌gives◌, records, draws, takes, pulls, sync, Runs, knowledge_after, heads_after, feed_after_row}
 use Rattle.mr_model.specs.SyncRows.{one_item}
 
 -- 0 creates 0.1, and 1 asks it for a stream, which gives its first records
 abbrev pub opened : List Body → Row
-opened bodies = (Create 0 inbox gives Issued (0 • 1)) ∷ pulls 1 1 [] ∷ (Answer 0 1 gives Streaming 1) ∷ draws (records 0 1 1 1 0 bodies)
+opened bodies = (0 does Create inbox gives Issued (0 • 1)) ∷ pulls 1 1 [] ∷ (0 does Answer 1 gives Streaming 1) ∷ draws (records 0 1 1 1 0 bodies)
 
 -- ---- a version is created while the stream is open, ahead of its walk: it is told, and Know records don't teach it
 
 abbrev pub created_ahead : Row
 created_ahead = opened (Start true ∷ [])
-    ++ (Create 0 inbox gives Issued (0 • 2))
+    ++ (0 does Create inbox gives Issued (0 • 2))
     ∷ draws (records 0 1 1 1 1 (Item (0 • 1) ∷ Item (0 • 2) ∷ Held ∷ Know ∷ End ∷ []))
     ++ takes 1 1 (Start true ∷ Item (0 • 1) ∷ Item (0 • 2) ∷ Held ∷ Know ∷ End ∷ [])
 
@@ -27,7 +28,7 @@ pub record CreatedAhead : Type 0 where
 
 abbrev pub edited : Row
 edited = opened (Start true ∷ Item (0 • 1) ∷ [])
-    ++ (Edit 0 ((0 • 1) ∷ []) archive gives Issued (0 • 2))
+    ++ (0 does Edit ((0 • 1) ∷ []) archive gives Issued (0 • 2))
     ∷ draws (records 0 1 1 1 2 (Held ∷ Know ∷ End ∷ []))
     ++ takes 1 1 (one_item (0 • 1))
 
@@ -40,11 +41,11 @@ pub record EditedWhileStreaming : Type 0 where
 -- ---- a version is created behind the walk: it is not told, nor taught, and the next sync brings it
 
 abbrev pub created_behind : Row
-created_behind = (Create 2 inbox gives Issued (2 • 1))
+created_behind = (2 does Create inbox gives Issued (2 • 1))
     ∷ sync 0 1 1 2 1 1 [] (Start false ∷ Item (2 • 1) ∷ End ∷ [])
-    ++ pulls 1 1 [] ∷ (Answer 0 2 gives Streaming 1)
+    ++ pulls 1 1 [] ∷ (0 does Answer 2 gives Streaming 1)
     ∷ draws (records 0 1 1 1 0 (Start true ∷ Item (2 • 1) ∷ []))
-    ++ (Create 0 inbox gives Issued (0 • 1))
+    ++ (0 does Create inbox gives Issued (0 • 1))
     ∷ draws (records 0 1 1 1 2 (Held ∷ Know ∷ End ∷ []))
     ++ takes 1 4 (one_item (2 • 1))
 
@@ -62,9 +63,9 @@ pub record CreatedBehind : Type 0 where
 
 abbrev pub learned_later : Row
 learned_later = opened (Start true ∷ Item (0 • 1) ∷ [])
-    ++ (Create 0 archive gives Issued (0 • 2))
+    ++ (0 does Create archive gives Issued (0 • 2))
     ∷ draws (records 0 1 1 1 2 (Held ∷ Know ∷ End ∷ []))
-    ++ (Create 0 inbox gives Issued (0 • 3))
+    ++ (0 does Create inbox gives Issued (0 • 3))
     ∷ takes 1 1 (one_item (0 • 1))
 
 pub record LearnedLater : Type 0 where
@@ -75,7 +76,7 @@ pub record LearnedLater : Type 0 where
 
 abbrev pub held_twice : Row
 held_twice = opened (Start true ∷ Item (0 • 1) ∷ Held ∷ [])
-    ++ (Edit 0 ((0 • 1) ∷ []) archive gives Issued (0 • 2))
+    ++ (0 does Edit ((0 • 1) ∷ []) archive gives Issued (0 • 2))
     ∷ draws (records 0 1 1 1 3 (Held ∷ Know ∷ End ∷ []))
     ++ takes 1 1 (Start true ∷ Item (0 • 1) ∷ Held ∷ Held ∷ Know ∷ End ∷ [])
 
@@ -86,7 +87,7 @@ pub record HeldTwice : Type 0 where
 -- ---- an Item teaches its version and what that supersedes
 
 abbrev pub taught_by_item : Row
-taught_by_item = (Create 0 archive gives Issued (0 • 1)) ∷ (Edit 0 ((0 • 1) ∷ []) inbox gives Issued (0 • 2)) ∷ pulls 1 1 [] ∷ (Answer 0 1 gives Streaming 1)
+taught_by_item = (0 does Create archive gives Issued (0 • 1)) ∷ (0 does Edit ((0 • 1) ∷ []) inbox gives Issued (0 • 2)) ∷ pulls 1 1 [] ∷ (0 does Answer 1 gives Streaming 1)
     ∷ draws (records 0 1 1 1 0 (Start true ∷ Item (0 • 2) ∷ [])) ++ takes 1 1 (Start true ∷ Item (0 • 2) ∷ [])
 
 pub record TaughtByItem : Type 0 where
@@ -111,7 +112,7 @@ pub record OwnIsSuperseded : Type 0 where
 -- ---- what teaches nothing: replica 1 does not come to know 0.2, which only Know records could teach it
 
 abbrev pub streamed : List Body → Row
-streamed bodies = (Create 0 inbox gives Issued (0 • 1)) ∷ (Create 0 archive gives Issued (0 • 2)) ∷ pulls 1 1 [] ∷ (Answer 0 1 gives Streaming 1) ∷ draws (records 0 1 1 1 0 bodies)
+streamed bodies = (0 does Create inbox gives Issued (0 • 1)) ∷ (0 does Create archive gives Issued (0 • 2)) ∷ pulls 1 1 [] ∷ (0 does Answer 1 gives Streaming 1) ∷ draws (records 0 1 1 1 0 bodies)
 
 -- the whole of it teaches 0.2
 abbrev pub whole : Row
@@ -119,11 +120,11 @@ whole = streamed (one_item (0 • 1)) ++ takes 1 1 (one_item (0 • 1))
 
 -- its Item left out
 abbrev pub gapped : Row
-gapped = streamed (one_item (0 • 1)) ++ (Receive 1 1 gives Took) ∷ (Receive 1 3 gives Took) ∷ (Receive 1 4 gives Took) ∷ (Receive 1 5 gives Finished) ∷ []
+gapped = streamed (one_item (0 • 1)) ++ (1 does Receive 1 gives Took) ∷ (1 does Receive 3 gives Took) ∷ (1 does Receive 4 gives Took) ∷ (1 does Receive 5 gives Finished) ∷ []
 
 -- cut before its End
 abbrev pub cut : Row
-cut = streamed (one_item (0 • 1)) ++ takes 1 1 (Start true ∷ Item (0 • 1) ∷ Held ∷ Know ∷ []) ++ (CutIn 1 1 gives Done) ∷ (Receive 1 5 gives Refused) ∷ []
+cut = streamed (one_item (0 • 1)) ++ takes 1 1 (Start true ∷ Item (0 • 1) ∷ Held ∷ Know ∷ []) ++ (1 does CutIn 1 gives Done) ∷ (1 does Receive 5 gives Refused) ∷ []
 
 -- partial
 abbrev pub partial : Row
@@ -131,8 +132,8 @@ partial = streamed (Start false ∷ Item (0 • 1) ∷ End ∷ []) ++ takes 1 1 
 
 -- a session that takes records of two streams
 abbrev pub mixed : Row
-mixed = streamed (one_item (0 • 1)) ++ (Answer 0 1 gives Streaming 2) ∷ draws (records 0 2 1 1 0 (one_item (0 • 1)))
-    ++ (Receive 1 1 gives Took) ∷ (Receive 1 7 gives Took) ∷ (Receive 1 3 gives Took) ∷ (Receive 1 4 gives Took) ∷ (Receive 1 5 gives Finished) ∷ []
+mixed = streamed (one_item (0 • 1)) ++ (0 does Answer 1 gives Streaming 2) ∷ draws (records 0 2 1 1 0 (one_item (0 • 1)))
+    ++ (1 does Receive 1 gives Took) ∷ (1 does Receive 7 gives Took) ∷ (1 does Receive 3 gives Took) ∷ (1 does Receive 4 gives Took) ∷ (1 does Receive 5 gives Finished) ∷ []
 
 pub record WhatTeachesNothing : Type 0 where
   pub whole_runs : Runs whole

@@ -2,9 +2,10 @@
 use Rattle.std.specs.Prelude.{◌≡◌, true, false, List, [], ◌∷◌, ◌++◌}
 use Rattle.mr_version.specs.Name.{Name}
 use Rattle.mr_model.specs.Versions.{Conflicts}
-use Rattle.mr_model.specs.History.{Body, Body.Start, Body.Item, Body.MoveOut, Body.Held, Body.Know, Body.End, Entry.Added, Entry.Dropped, Event.Create, Event.Edit, Event.Receive, Event.Answer, Event.CutIn, Event.CutOut, Reply.Issued, Reply.Done, Reply.Streaming, Reply.Took, Reply.Known, Reply.Finished, Reply.Refused}
+use Rattle.mr_model.specs.History.{Body, Body.Start, Body.Item, Body.MoveOut, Body.Held, Body.Know, Body.End, Entry.Added, Entry.Dropped, Reply.Issued, Reply.Done, Reply.Streaming, Reply.Took, Reply.Known, Reply.Finished, Reply.Refused}
+use Rattle.mr_model.specs.declared.event.Act.TheVariants.{Create, Edit, Receive, Answer, CutIn, CutOut}
 use Rattle.mr_model.specs.Changes.{now}
-use Rattle.mr_model.specs.Rows.{inbox, archive, work, row_setting, Row, ◌•◌, ◌gives◌, records, draws, pulls, sync, Runs, knowledge_after, heads_after, push_outs_after, feed_after_row}
+use Rattle.mr_model.specs.Rows.{inbox, archive, work, row_setting, Row, ◌•◌, ◌does◌gives◌, records, draws, pulls, sync, Runs, knowledge_after, heads_after, push_outs_after, feed_after_row}
 
 -- a full stream that tells one version
 abbrev pub one_item : Name → List Body
@@ -17,7 +18,7 @@ no_item = Start true ∷ Held ∷ Know ∷ End ∷ []
 -- ---- first sync
 
 abbrev pub first_sync : Row
-first_sync = (Create 0 inbox gives Issued (0 • 1)) ∷ sync 1 1 1 0 1 1 [] (one_item (0 • 1))
+first_sync = (0 does Create inbox gives Issued (0 • 1)) ∷ sync 1 1 1 0 1 1 [] (one_item (0 • 1))
 
 pub record FirstSync : Type 0 where
   pub runs : Runs first_sync
@@ -28,9 +29,9 @@ pub record FirstSync : Type 0 where
 -- ---- cut and resumed: a cut stream teaches its Items alone, and the next one goes on from there
 
 abbrev pub cut_short : Row
-cut_short = (Create 0 inbox gives Issued (0 • 1)) ∷ (Create 0 work gives Issued (0 • 2)) ∷ (Create 0 inbox gives Issued (0 • 3))
+cut_short = (0 does Create inbox gives Issued (0 • 1)) ∷ (0 does Create work gives Issued (0 • 2)) ∷ (0 does Create inbox gives Issued (0 • 3))
     ∷ sync 1 1 1 0 1 1 [] (Start true ∷ Item (0 • 1) ∷ Item (0 • 3) ∷ [])
-    ++ (CutIn 1 1 gives Done) ∷ (CutOut 0 1 gives Done) ∷ []
+    ++ (1 does CutIn 1 gives Done) ∷ (0 does CutOut 1 gives Done) ∷ []
 
 abbrev pub resumed : Row
 resumed = cut_short ++ sync 1 2 2 0 2 4 ((0 • 1) ∷ (0 • 3) ∷ []) no_item
@@ -44,11 +45,11 @@ pub record CutAndResumed : Type 0 where
 -- ---- moved out while a stream waits: what comes late is known, and is not added again
 
 abbrev pub moved_out : Row
-moved_out = (Create 0 inbox gives Issued (0 • 1)) ∷ pulls 1 1 [] ∷ (Answer 0 1 gives Streaming 1) ∷ draws (records 0 1 1 1 0 (Start true ∷ Item (0 • 1) ∷ []))
+moved_out = (0 does Create inbox gives Issued (0 • 1)) ∷ pulls 1 1 [] ∷ (0 does Answer 1 gives Streaming 1) ∷ draws (records 0 1 1 1 0 (Start true ∷ Item (0 • 1) ∷ []))
     ++ sync 1 2 2 0 2 3 [] (one_item (0 • 1))
-    ++ (Edit 0 ((0 • 1) ∷ []) archive gives Issued (0 • 2))
+    ++ (0 does Edit ((0 • 1) ∷ []) archive gives Issued (0 • 2))
     ∷ sync 1 3 3 0 3 8 ((0 • 1) ∷ []) (Start true ∷ MoveOut (0 • 2) ∷ Held ∷ Know ∷ End ∷ [])
-    ++ (Receive 1 1 gives Took) ∷ (Receive 1 2 gives Known) ∷ []
+    ++ (1 does Receive 1 gives Took) ∷ (1 does Receive 2 gives Known) ∷ []
 
 pub record MovedOut : Type 0 where
   pub runs : Runs moved_out
@@ -60,10 +61,10 @@ pub record MovedOut : Type 0 where
 -- ---- covered without a move-out: the End of a full session drops what its source knows and does not store
 
 abbrev pub covered : Row
-covered = (Create 0 inbox gives Issued (0 • 1))
+covered = (0 does Create inbox gives Issued (0 • 1))
     ∷ sync 1 1 1 0 1 1 [] (one_item (0 • 1))
     ++ sync 2 1 2 0 2 6 [] (one_item (0 • 1))
-    ++ (Edit 0 ((0 • 1) ∷ []) archive gives Issued (0 • 2))
+    ++ (0 does Edit ((0 • 1) ∷ []) archive gives Issued (0 • 2))
     ∷ sync 2 2 3 0 3 11 ((0 • 1) ∷ []) (Start true ∷ MoveOut (0 • 2) ∷ Held ∷ Know ∷ End ∷ [])
     ++ sync 1 2 4 2 1 16 ((0 • 1) ∷ []) no_item
 
@@ -76,17 +77,17 @@ pub record Covered : Type 0 where
 -- ---- an old full stream ends late: another source told a version meanwhile that it does not hold
 
 abbrev pub old_stream_waits : Row
-old_stream_waits = (Create 0 inbox gives Issued (0 • 1))
+old_stream_waits = (0 does Create inbox gives Issued (0 • 1))
     ∷ sync 3 1 1 0 1 1 [] (one_item (0 • 1))
-    ++ (Edit 0 ((0 • 1) ∷ []) archive gives Issued (0 • 2))
+    ++ (0 does Edit ((0 • 1) ∷ []) archive gives Issued (0 • 2))
     ∷ sync 2 1 2 0 2 6 [] no_item
-    ++ pulls 1 1 [] ∷ (Answer 2 3 gives Streaming 1)
+    ++ pulls 1 1 [] ∷ (2 does Answer 3 gives Streaming 1)
     ∷ draws (records 2 1 1 1 0 no_item)
-    ++ (Receive 1 10 gives Took)
+    ++ (1 does Receive 10 gives Took)
     ∷ sync 1 2 4 3 1 14 [] (one_item (0 • 1))
 
 abbrev pub old_stream : Row
-old_stream = old_stream_waits ++ (Receive 1 11 gives Took) ∷ (Receive 1 12 gives Took) ∷ (Receive 1 13 gives Finished) ∷ []
+old_stream = old_stream_waits ++ (1 does Receive 11 gives Took) ∷ (1 does Receive 12 gives Took) ∷ (1 does Receive 13 gives Finished) ∷ []
 
 pub record OldStreamEndsLate : Type 0 where
   pub runs : Runs old_stream
@@ -97,16 +98,16 @@ pub record OldStreamEndsLate : Type 0 where
 -- ---- conflict and merge
 
 abbrev pub conflict : Row
-conflict = (Create 0 inbox gives Issued (0 • 1))
+conflict = (0 does Create inbox gives Issued (0 • 1))
     ∷ sync 1 1 1 0 1 1 [] (one_item (0 • 1))
     ++ sync 2 1 2 0 2 6 [] (one_item (0 • 1))
-    ++ (Edit 1 ((0 • 1) ∷ []) inbox gives Issued (1 • 1)) ∷ (Edit 2 ((0 • 1) ∷ []) inbox gives Issued (2 • 1))
+    ++ (1 does Edit ((0 • 1) ∷ []) inbox gives Issued (1 • 1)) ∷ (2 does Edit ((0 • 1) ∷ []) inbox gives Issued (2 • 1))
     ∷ sync 0 1 3 1 1 11 ((0 • 1) ∷ []) (Start false ∷ Item (1 • 1) ∷ End ∷ [])
     ++ sync 0 2 4 2 1 14 ((0 • 1) ∷ (1 • 1) ∷ []) (Start false ∷ Item (2 • 1) ∷ End ∷ [])
 
 abbrev pub merge : Row
-merge = conflict ++ (Edit 0 ((2 • 1) ∷ []) inbox gives Issued (0 • 2)) ∷ (Edit 0 ((1 • 1) ∷ []) inbox gives Refused)
-    ∷ (Edit 0 ((0 • 2) ∷ (1 • 1) ∷ []) inbox gives Issued (0 • 3)) ∷ []
+merge = conflict ++ (0 does Edit ((2 • 1) ∷ []) inbox gives Issued (0 • 2)) ∷ (0 does Edit ((1 • 1) ∷ []) inbox gives Refused)
+    ∷ (0 does Edit ((0 • 2) ∷ (1 • 1) ∷ []) inbox gives Issued (0 • 3)) ∷ []
 
 pub record ConflictAndMerge : Type 0 where
   pub runs : Runs merge
@@ -120,13 +121,13 @@ pub record ConflictAndMerge : Type 0 where
 -- ---- the older version comes late: the newer one taught it already
 
 abbrev pub older_late : Row
-older_late = (Create 1 inbox gives Issued (1 • 1))
+older_late = (1 does Create inbox gives Issued (1 • 1))
     ∷ sync 3 1 1 1 1 1 [] (one_item (1 • 1))
-    ++ (Edit 1 ((1 • 1) ∷ []) inbox gives Issued (1 • 2))
-    ∷ pulls 0 1 [] ∷ (Answer 3 2 gives Streaming 1) ∷ draws (records 3 1 0 1 0 (Start false ∷ Item (1 • 1) ∷ []))
-    ++ (Receive 0 6 gives Took)
+    ++ (1 does Edit ((1 • 1) ∷ []) inbox gives Issued (1 • 2))
+    ∷ pulls 0 1 [] ∷ (3 does Answer 2 gives Streaming 1) ∷ draws (records 3 1 0 1 0 (Start false ∷ Item (1 • 1) ∷ []))
+    ++ (0 does Receive 6 gives Took)
     ∷ sync 0 2 3 1 2 8 [] (Start false ∷ Item (1 • 2) ∷ End ∷ [])
-    ++ (Receive 0 7 gives Known) ∷ []
+    ++ (0 does Receive 7 gives Known) ∷ []
 
 pub record OlderComesLate : Type 0 where
   pub runs : Runs older_late
@@ -137,7 +138,7 @@ pub record OlderComesLate : Type 0 where
 -- ---- push-out passed on: an End never drops a push-out, and a push-out is told to whoever selects it
 
 abbrev pub passed_on : Row
-passed_on = (Create 1 work gives Issued (1 • 1))
+passed_on = (1 does Create work gives Issued (1 • 1))
     ∷ sync 3 1 1 1 1 1 [] no_item
     ++ sync 1 1 2 3 1 5 ((1 • 1) ∷ []) no_item
     ++ sync 0 1 3 1 2 9 [] (Start false ∷ Item (1 • 1) ∷ End ∷ [])

@@ -6,7 +6,10 @@
 //! for others only (its push-outs), and what its feed tells. They speak of sets, relations and whole
 //! lists, and of no data structure of a program. `docs/MODEL.md` goes through them in prose.
 //!
-//! The functions of this crate compute nothing. Each is a law: its contract is a theorem, over any
+//! An [`Event`] is a replica and its [`Act`], which a program has too: it is the one enum of what can happen,
+//! over any type of messages.
+//!
+//! The other functions of this crate compute nothing. Each is a law: its contract is a theorem, over any
 //! type `M` of messages, any type `C` of cards and any filters. A crate above cites one by a call,
 //! which costs nothing:
 //!
@@ -19,12 +22,14 @@
 //! worked out by hand, with the sets that the definitions must give after each.
 #![tactic(auto)]
 
+mod event;
 pub mod worked_rows;
 
 ghost use Rattle.std.specs.Prelude.{◌≡◌, ℕ, [], ◌∷◌, ◌++◌, IsTrue, List, Some};
 ghost use Rattle.mr_version.specs.Name.{Name};
-ghost use Rattle.mr_model.specs.History.{Setting, History, Ask, Record, Step};
-ghost use Rattle.mr_model.specs.History.{Event.Answer, Event.Next, Reply.Streaming, Reply.Gave};
+ghost use Rattle.mr_model.specs.History.{◌does◌, Setting, History, Ask, Record, Step};
+ghost use Rattle.mr_model.specs.History.{Reply.Streaming, Reply.Gave};
+ghost use Rattle.mr_model.specs.declared.event.Act.TheVariants.{Answer, Next};
 ghost use Rattle.mr_model.specs.Moment.{start, Knows};
 ghost use Rattle.mr_model.specs.Changes.{Change, happens, change, after_taking, now};
 ghost use Rattle.mr_model.specs.Rules.{IsAllowed, IsRun, HasHeld, version_in};
@@ -33,6 +38,8 @@ ghost use Rattle.mr_model.specs.Headline.{RetiresClean, FoldsToStore};
 ghost use Rattle.mr_model.specs.Laws.{IsNumbered, IsClosure, IsSupersession, KnowsDownward, Grows};
 ghost use Rattle.mr_model.specs.Laws.{IsOrdered, Tells, ChangesNothing, ReadsAnswer, ReadsHeld, WasOpened, WasShown};
 ghost use Rattle.mr_model.specs.Check.{Tests, AreSoundTests, is_run};
+
+pub use event::{Act, Bases, Event, Subscriber};
 
 /// The headline, of every run. No version is added to a replica's feed twice; an author's versions of
 /// one item are added as they were issued; once the replica has retired its feed stays as it is. What
@@ -127,10 +134,10 @@ pub fn growth<M, C>()
 /// open stream, and each stream that has shown anything, comes of such an event of the history.
 pub fn snapshots<M, C>()
     ensures at_answer { (s : Setting M C) (before later : History M C) (k n t : ℕ) →
-        IsRun s start (before ++ record { event = Answer k n; reply = Streaming t } ∷ later) →
+        IsRun s start (before ++ record { event = k does Answer n; reply = Streaming t } ∷ later) →
         ReadsAnswer s before later k n t }
     ensures at_draw { (s : Setting M C) (before later : History M C) (k t : ℕ) (x : Record) →
-        IsRun s start (before ++ record { event = Next k t; reply = Gave x } ∷ later) →
+        IsRun s start (before ++ record { event = k does Next t; reply = Gave x } ∷ later) →
         ReadsHeld s before later k t x }
     ensures opened { (s : Setting M C) (h : History M C) (k t : ℕ) (ask : Ask) →
         IsRun s start h → (now s h).ask_of k t ≡ Some ask → WasOpened s h k t }

@@ -7,11 +7,11 @@
 
 ghost use Rattle.std.specs.Prelude.{[], ◌∷◌};
 ghost use Rattle.mr_model.specs.History.{Body.Item, Body.MoveOut, Body.Held, Body.Know, Body.End};
-ghost use Rattle.mr_model.specs.History.{Event.Create, Event.Edit, Event.Retire, Event.Receive};
-ghost use Rattle.mr_model.specs.History.{Event.Answer, Event.Offer, Event.Release};
 ghost use Rattle.mr_model.specs.History.{Reply.Issued, Reply.Done, Reply.Streaming};
 ghost use Rattle.mr_model.specs.History.{Reply.Took, Reply.Offered};
-ghost use Rattle.mr_model.specs.Rows.{inbox, ◌•◌, ◌gives◌, pulls, vouches};
+ghost use Rattle.mr_model.specs.declared.event.Act.TheVariants.{Create, Edit, Retire, Receive, Answer, Offer, Release};
+ghost use Rattle.mr_model.specs.declared.event.Subscriber.TheVariants.{Notifier};
+ghost use Rattle.mr_model.specs.Rows.{inbox, ◌•◌, ◌does◌gives◌, pulls, vouches};
 ghost use Rattle.mr_model.specs.SyncRows.{FirstSync, CutAndResumed, MovedOut, Covered};
 ghost use Rattle.mr_model.specs.SyncRows.{OldStreamEndsLate, ConflictAndMerge, OlderComesLate};
 ghost use Rattle.mr_model.specs.SyncRows.{PassedOn, first_sync, passed_on};
@@ -80,28 +80,28 @@ pub fn subscribers()
 
 /// Steps that the rules refuse, each behind a row that they allow.
 pub fn refusals()
-    ensures skips_a_counter { IsRefused [] (Create 0 inbox gives Issued (0 • 2)) }
-    ensures answers_another_event { IsRefused [] (Create 0 inbox gives Done) }
-    ensures edits_an_unheld_base { IsRefused two_entries (Edit 1 ((0 • 1) ∷ []) inbox gives Issued (1 • 1)) }
+    ensures skips_a_counter { IsRefused [] (0 does Create inbox gives Issued (0 • 2)) }
+    ensures answers_another_event { IsRefused [] (0 does Create inbox gives Done) }
+    ensures edits_an_unheld_base { IsRefused two_entries (1 does Edit ((0 • 1) ∷ []) inbox gives Issued (1 • 1)) }
     ensures claims_later_versions { IsRefused two_entries (pulls 1 1 ((0 • 1) ∷ [])) }
     ensures leaves_out_a_due_version { IsRefused two_to_tell (gives_next 1 (Item (0 • 2))) }
     ensures shows_before_the_walk_ends { IsRefused two_to_tell (gives_next 1 Held) }
     ensures teaches_before_it_shows { IsRefused two_to_tell (gives_next 1 Know) }
     ensures ends_before_it_shows { IsRefused two_to_tell (gives_next 1 End) }
-    ensures takes_what_it_knows { IsRefused first_sync (Receive 1 2 gives Took) }
-    ensures takes_after_retirement { IsRefused retired_early (Receive 1 1 gives Took) }
+    ensures takes_what_it_knows { IsRefused first_sync (1 does Receive 2 gives Took) }
+    ensures takes_after_retirement { IsRefused retired_early (1 does Receive 1 gives Took) }
     ensures vouches_for_a_push_out { IsRefused passed_on (vouches 1 (1 • 1)) }
-    ensures retires_with_push_outs { IsRefused pushed_out_only (Retire 1 gives Done) }
-    ensures skips_an_entry { IsRefused two_entries (Offer 0 1 gives Offered (adds 2)) }
-    ensures offers_after_close { IsRefused closed_port (Offer 0 1 gives Offered (adds 2)) }
-    ensures mixes_items { IsRefused two_entries (Edit 0 ((0 • 1) ∷ (0 • 2) ∷ []) inbox gives Issued (0 • 3)) }
+    ensures retires_with_push_outs { IsRefused pushed_out_only (1 does Retire gives Done) }
+    ensures skips_an_entry { IsRefused two_entries (0 does Offer Notifier gives Offered (adds 2)) }
+    ensures offers_after_close { IsRefused closed_port (0 does Offer Notifier gives Offered (adds 2)) }
+    ensures mixes_items { IsRefused two_entries (0 does Edit ((0 • 1) ∷ (0 • 2) ∷ []) inbox gives Issued (0 • 3)) }
     ensures moves_out_what_is_selected { IsRefused two_to_tell (gives_next 1 (MoveOut (0 • 1))) }
     ensures gives_an_index_again { IsRefused two_to_tell (gives_next 0 (Item (0 • 1))) }
     ensures gives_after_the_end { IsRefused first_sync (gives_next 5 Know) }
-    ensures answers_its_own_ask { IsRefused two_to_tell (Answer 1 1 gives Streaming 1) }
-    ensures uses_a_stream_number_again { IsRefused two_to_tell (Answer 0 1 gives Streaming 1) }
+    ensures answers_its_own_ask { IsRefused two_to_tell (1 does Answer 1 gives Streaming 1) }
+    ensures uses_a_stream_number_again { IsRefused two_to_tell (0 does Answer 1 gives Streaming 1) }
     ensures starts_full_without_cover { IsRefused inbox_asked starts_full }
-    ensures takes_for_another { IsRefused two_to_tell (Receive 2 1 gives Took) }
-    ensures takes_what_nobody_gave { IsRefused two_entries (Receive 1 1 gives Took) }
-    ensures releases_what_nobody_vouched_for { IsRefused passed_on (Release 1 1 gives Done) }
+    ensures takes_for_another { IsRefused two_to_tell (2 does Receive 1 gives Took) }
+    ensures takes_what_nobody_gave { IsRefused two_entries (1 does Receive 1 gives Took) }
+    ensures releases_what_nobody_vouched_for { IsRefused passed_on (1 does Release 1 gives Done) }
 {}

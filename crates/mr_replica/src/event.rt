@@ -2,53 +2,10 @@
 ghost use Rattle.std.specs.Prelude.{◌≡◌, IfOk};
 
 use mr_mail::Message;
+use mr_model::Bases;
 use mr_version::Version;
 use mr_wire::{Ask, Frame, Receipt, Record};
 use std::alloc::{AllocError, Global};
-use std::marker::Model;
-
-/// The versions that an edit names, in the order given. A repeated one counts once.
-#[derive(Debug, Drop)]
-pub struct Bases {
-    versions: Vec<Version>,
-}
-
-impl Model for Bases {
-    ghost use Rattle.std.specs.Prelude.{List};
-    ghost use Rattle.std.specs.Coded.{coded_list};
-    ghost use Rattle.mr_version.specs.Name.{Name, name_code};
-
-    ghost Value = { List Name };
-
-    ghost coded = { coded_list name_code };
-
-    ghost view = { λ b. b.versions.items };
-}
-
-impl Bases {
-    /// These versions, with no copy.
-    pub fn new(versions: Vec<Version>) -> Bases
-        ensures { result ≡ versions.items }
-    {
-        Bases { versions }
-    }
-
-    /// The versions, in the order given.
-    pub fn as_slice(&self) -> &[Version]
-        ensures { result.now ≡ self.now }
-    {
-        &self.versions
-    }
-
-    /// Equal bases. It costs a copy of the versions.
-    pub fn copy(&self) -> Result<Bases, AllocError>
-        ensures { IfOk result (λ bases. bases ≡ self.now) }
-    {
-        Ok(Bases {
-            versions: self.versions.clone()?,
-        })
-    }
-}
 
 /// What a replica is asked to do.
 #[derive(Debug, Drop)]

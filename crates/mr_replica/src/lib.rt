@@ -52,9 +52,10 @@ mod pieces;
 mod refusal;
 mod replica;
 
-pub use event::{Bases, Event, Reply};
+pub use event::{Event, Reply};
 pub use laws::steps_only_add;
 pub use mr_filter::Filter;
 pub use mr_madewith::Revision;
+pub use mr_model::Bases;
 pub use refusal::Refusal;
 pub use replica::{MAX_EVENTS, Received, ReplayFault, Replica, ReplicaFault};

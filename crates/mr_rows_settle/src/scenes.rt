@@ -5,7 +5,7 @@ use anyhow::{Context, Result, bail};
 use mr_forms::Knowledge;
 use mr_replica::Reply;
 use mr_version::{Author, Version};
-use mr_world::{Answer, Event, World};
+use mr_world::{Act, Answer, World};
 use std::alloc::Global;
 
 // More records than a stream here has.
@@ -13,8 +13,8 @@ const ALL: usize = 100;
 
 /// The office issues two messages, and brings the phone up to date.
 pub fn first_sync<K: Knowledge>(alloc: Global, world: &mut World<K>, cast: &Cast) -> Result<()> {
-    world.happen(Event::Create(cast.office, message(alloc, "inbox")?))?;
-    world.happen(Event::Create(cast.office, message(alloc, "work")?))?;
+    world.happen(Act::Create(message(alloc, "inbox")?).by(cast.office))?;
+    world.happen(Act::Create(message(alloc, "work")?).by(cast.office))?;
     exchange(world, cast.phone, cast.office, ALL)?;
     Ok(())
 }
@@ -25,34 +25,34 @@ pub fn cut_and_resumed<K: Knowledge>(
     world: &mut World<K>,
     cast: &Cast,
 ) -> Result<()> {
-    world.happen(Event::Create(cast.office, message(alloc, "inbox")?))?;
-    world.happen(Event::Create(cast.office, message(alloc, "inbox")?))?;
+    world.happen(Act::Create(message(alloc, "inbox")?).by(cast.office))?;
+    world.happen(Act::Create(message(alloc, "inbox")?).by(cast.office))?;
     let stream = exchange(world, cast.phone, cast.office, 2)?;
     // It was the phone's second session.
-    world.happen(Event::CutIn(cast.phone, 2))?;
-    world.happen(Event::CutOut(cast.office, stream))?;
+    world.happen(Act::CutIn(2).by(cast.phone))?;
+    world.happen(Act::CutOut(stream).by(cast.office))?;
     exchange(world, cast.phone, cast.office, ALL)?;
     Ok(())
 }
 
 /// The phone issues a message that it doesn't keep, and the office takes it.
 pub fn push_out<K: Knowledge>(alloc: Global, world: &mut World<K>, cast: &Cast) -> Result<()> {
-    world.happen(Event::Create(cast.phone, message(alloc, "work")?))?;
+    world.happen(Act::Create(message(alloc, "work")?).by(cast.phone))?;
     exchange(world, cast.office, cast.phone, ALL)?;
     Ok(())
 }
 
 /// The office vouches for that message, and the phone lets it go.
 pub fn vouch_and_release<K: Knowledge>(world: &mut World<K>, cast: &Cast) -> Result<()> {
-    world.happen(Event::Vouch(cast.office, Version::read("1.1")?))?;
+    world.happen(Act::Vouch(Version::read("1.1")?).by(cast.office))?;
     let receipt = world.receipt_count();
-    world.happen(Event::Release(cast.phone, receipt))?;
+    world.happen(Act::Release(receipt).by(cast.phone))?;
     Ok(())
 }
 
 /// The phone retires, and tells the office once more what it holds.
 pub fn retirement<K: Knowledge>(world: &mut World<K>, cast: &Cast) -> Result<()> {
-    world.happen(Event::Retire(cast.phone))?;
+    world.happen(Act::Retire.by(cast.phone))?;
     exchange(world, cast.office, cast.phone, ALL)?;
     Ok(())
 }
@@ -65,14 +65,14 @@ pub fn exchange<K: Knowledge>(
     source: Author,
     most: usize,
 ) -> Result<u64> {
-    world.happen(Event::Pull(target))?;
+    world.happen(Act::Pull.by(target))?;
     let ask = world.ask_count();
-    world.happen(Event::Answer(source, ask))?;
+    world.happen(Act::Answer(ask).by(source))?;
     let stream = newest_stream(world)?;
     for _ in 0..most {
-        world.happen(Event::Next(source, stream))?;
+        world.happen(Act::Next(stream).by(source))?;
         let record = world.record_count();
-        world.happen(Event::Receive(target, record))?;
+        world.happen(Act::Receive(record).by(target))?;
         if is_finished(world) {
             return Ok(stream);
         }

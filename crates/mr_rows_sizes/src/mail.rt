@@ -7,7 +7,7 @@ use mr_forms::Knowledge;
 use mr_mail::{Day, Message};
 use mr_replica::{Bases, Reply};
 use mr_version::{Author, Version};
-use mr_world::{Answer, Event};
+use mr_world::{Act, Answer, Event};
 use std::alloc::Global;
 
 /// A message by its newest version.
@@ -23,7 +23,7 @@ impl Mail {
     pub fn edit<K: Knowledge>(&mut self, stage: &mut Stage<K>, author: Author) -> Result<()> {
         let alloc = stage.alloc;
         let bases = Bases::new(vec![in alloc; self.head]?);
-        let event = Event::Edit(author, bases, message(alloc, self.is_in_inbox)?);
+        let event = Act::Edit(bases, message(alloc, self.is_in_inbox)?).by(author);
         self.head = issue(stage, event)?;
         Ok(())
     }
@@ -35,7 +35,7 @@ pub fn create<K: Knowledge>(
     author: Author,
     is_in_inbox: bool,
 ) -> Result<Mail> {
-    let event = Event::Create(author, message(stage.alloc, is_in_inbox)?);
+    let event = Act::Create(message(stage.alloc, is_in_inbox)?).by(author);
     let head = issue(stage, event)?;
     Ok(Mail { head, is_in_inbox })
 }

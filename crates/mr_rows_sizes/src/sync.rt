@@ -5,7 +5,7 @@ use mr_forms::Knowledge;
 use mr_replica::{Refusal, Reply};
 use mr_version::{Author, Version};
 use mr_wire::Body;
-use mr_world::{Answer, Event};
+use mr_world::{Act, Answer};
 use std::alloc::Global;
 
 /// Who syncs with whom, and how many records it takes at most.
@@ -101,8 +101,8 @@ fn run_session<K: Knowledge>(
     };
     let end = take_records(stage, sync, stream, told)?;
     if end != End::Finished {
-        stage.happen(Event::CutIn(sync.target, session))?;
-        stage.happen(Event::CutOut(sync.source, stream))?;
+        stage.happen(Act::CutIn(session).by(sync.target))?;
+        stage.happen(Act::CutOut(stream).by(sync.source))?;
     }
     Ok(end)
 }
@@ -146,7 +146,7 @@ fn pull<K: Knowledge>(
     sync: &Sync,
     told: &mut Told,
 ) -> Result<Result<u64, Refusal>> {
-    stage.happen(Event::Pull(sync.target))?;
+    stage.happen(Act::Pull.by(sync.target))?;
     told.ask_bytes = newest_ask_bytes(stage);
     match stage.newest() {
         Some(Answer::Stepped(Ok(Reply::Asked(ask)))) => Ok(Ok(ask.session())),
@@ -167,7 +167,7 @@ fn newest_ask_bytes<K: Knowledge>(stage: &Stage<K>) -> usize {
 /// The source answers the newest request; the stream that it opened, or its refusal.
 fn answer<K: Knowledge>(stage: &mut Stage<K>, sync: &Sync) -> Result<Result<u64, Refusal>> {
     let newest = stage.world().ask_count();
-    stage.happen(Event::Answer(sync.source, newest))?;
+    stage.happen(Act::Answer(newest).by(sync.source))?;
     match stage.newest() {
         Some(Answer::Stepped(Ok(Reply::Streaming(stream)))) => Ok(Ok(*stream)),
         Some(Answer::Stepped(Err(refusal))) => Ok(Err(*refusal)),
@@ -181,7 +181,7 @@ fn draw<K: Knowledge>(
     sync: &Sync,
     stream: u64,
 ) -> Result<Result<Telling, Refusal>> {
-    stage.happen(Event::Next(sync.source, stream))?;
+    stage.happen(Act::Next(stream).by(sync.source))?;
     match stage.newest() {
         Some(Answer::Stepped(Ok(Reply::Gave(record)))) => Ok(Ok(telling_of(record.body()))),
         Some(Answer::Stepped(Err(refusal))) => Ok(Err(*refusal)),
@@ -192,7 +192,7 @@ fn draw<K: Knowledge>(
 /// The newest record comes to the target. Gives how the sync ended, if it did.
 fn receive<K: Knowledge>(stage: &mut Stage<K>, sync: &Sync) -> Result<Option<End>> {
     let newest = stage.world().record_count();
-    stage.happen(Event::Receive(sync.target, newest))?;
+    stage.happen(Act::Receive(newest).by(sync.target))?;
     match stage.newest() {
         Some(Answer::Stepped(Ok(Reply::Finished))) => Ok(Some(End::Finished)),
         Some(Answer::Stepped(Err(refusal))) => Ok(Some(End::Refused(*refusal))),

@@ -4,12 +4,12 @@ use anyhow::Result;
 use mr_mail::{Day, Message};
 use mr_replica::Bases;
 use mr_version::{Author, Version};
-use mr_world::Event;
+use mr_world::{Act, Event};
 use std::alloc::Global;
 
 /// The replica creates a message with this label.
 pub fn create(alloc: Global, id: Author, label: &str) -> Result<Event> {
-    Ok(Event::Create(id, message(alloc, label)?))
+    Ok(Act::Create(message(alloc, label)?).by(id))
 }
 
 /// The replica creates a message with each of these labels.
@@ -31,7 +31,7 @@ pub fn edit(alloc: Global, id: Author, bases: &[&str], label: &str) -> Result<Ev
     for base in bases {
         versions.push(Version::read(base)?)?;
     }
-    Ok(Event::Edit(id, Bases::new(versions), message(alloc, label)?))
+    Ok(Act::Edit(Bases::new(versions), message(alloc, label)?).by(id))
 }
 
 /// A message with this label.
@@ -68,8 +68,8 @@ pub fn push_exchange(
     exchange: Exchange,
 ) -> Result<()> {
     events.extend([
-        Event::Pull(exchange.target),
-        Event::Answer(exchange.source, exchange.ask),
+        Act::Pull.by(exchange.target),
+        Act::Answer(exchange.ask).by(exchange.source),
     ])?;
     push_draws(events, exchange.source, exchange.stream, exchange.count)?;
     push_next_receives(events, records, exchange.target, exchange.count)
@@ -78,7 +78,7 @@ pub fn push_exchange(
 /// The replica draws so many records from its stream.
 pub fn push_draws(events: &mut Vec<Event>, id: Author, stream: u64, count: usize) -> Result<()> {
     for _ in 0..count {
-        events.push(Event::Next(id, stream))?;
+        events.push(Act::Next(stream).by(id))?;
     }
     Ok(())
 }
@@ -91,7 +91,7 @@ pub fn push_next_receives(
     count: usize,
 ) -> Result<()> {
     for _ in 0..count {
-        events.push(Event::Receive(id, records.next()))?;
+        events.push(Act::Receive(records.next()).by(id))?;
     }
     Ok(())
 }
@@ -99,7 +99,7 @@ pub fn push_next_receives(
 /// The replica pulls so many times.
 pub fn push_pulls(events: &mut Vec<Event>, id: Author, count: usize) -> Result<()> {
     for _ in 0..count {
-        events.push(Event::Pull(id))?;
+        events.push(Act::Pull.by(id))?;
     }
     Ok(())
 }
@@ -107,7 +107,7 @@ pub fn push_pulls(events: &mut Vec<Event>, id: Author, count: usize) -> Result<(
 /// The replica answers the request so many times.
 pub fn push_answers(events: &mut Vec<Event>, id: Author, ask: u64, count: usize) -> Result<()> {
     for _ in 0..count {
-        events.push(Event::Answer(id, ask))?;
+        events.push(Act::Answer(ask).by(id))?;
     }
     Ok(())
 }

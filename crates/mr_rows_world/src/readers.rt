@@ -7,7 +7,7 @@ use mr_feed::Entry;
 use mr_forms::Knowledge;
 use mr_replica::{Replica, Revision};
 use mr_version::{Author, ItemId};
-use mr_world::{Answer, Answered, Event, Subscriber, World};
+use mr_world::{Act, Answer, Answered, Subscriber, World};
 use std::alloc::Global;
 
 /// Prints all that is told of the replica of this id. What doesn't depend on the form of knowledge goes
@@ -154,8 +154,9 @@ fn taken_list(
 
 /// The entry that a subscriber of the replica took at this event, if it took one.
 fn taken_by(answered: &Answered, id: Author, subscriber: Subscriber) -> Option<&Entry> {
-    match (&answered.event, &answered.answer) {
-        (Event::Take(of, by), Answer::TookEntry(entry)) if *of == id && *by == subscriber => {
+    let event = &answered.event;
+    match (&event.act, &answered.answer) {
+        (Act::Take(by), Answer::TookEntry(entry)) if event.replica == id && *by == subscriber => {
             Some(entry)
         }
         _ => None,

@@ -7,7 +7,7 @@ use crate::events::{
 use crate::records::{KnowCounts, Records};
 use anyhow::Result;
 use mr_version::{Author, Version};
-use mr_world::{Event, Subscriber};
+use mr_world::{Act, Event, Subscriber};
 use std::alloc::Global;
 
 /// Events that happen in one run.
@@ -154,12 +154,12 @@ fn refuses_when_fresh(alloc: Global, cast: &Cast) -> Result<Vec<Event>> {
     Ok(vec![in alloc;
         of_none,
         of_missing,
-        Event::Vouch(cast.office, version),
-        Event::CutIn(cast.office, 1),
-        Event::Next(cast.office, 1),
-        Event::CutOut(cast.office, 1),
-        Event::Offer(cast.office, Subscriber::Indexer),
-        Event::Take(cast.office, Subscriber::Notifier),
+        Act::Vouch(version).by(cast.office),
+        Act::CutIn(1).by(cast.office),
+        Act::Next(1).by(cast.office),
+        Act::CutOut(1).by(cast.office),
+        Act::Offer(Subscriber::Indexer).by(cast.office),
+        Act::Take(Subscriber::Notifier).by(cast.office),
     ]?)
 }
 
@@ -172,7 +172,7 @@ fn mail_comes(alloc: Global, cast: &Cast) -> Result<Vec<Event>> {
 }
 
 fn begins(alloc: Global, cast: &Cast) -> Result<Vec<Event>> {
-    let mut events = vec![in alloc; Event::Pull(cast.phone), Event::Answer(cast.office, 1)]?;
+    let mut events = vec![in alloc; Act::Pull.by(cast.phone), Act::Answer(1).by(cast.office)]?;
     push_draws(&mut events, cast.office, 1, 4)?;
     Ok(events)
 }
@@ -183,18 +183,18 @@ fn cut_off(alloc: Global, cast: &Cast, records: &mut Records) -> Result<Vec<Even
     let second = records.next();
     let held = records.next();
     Ok(vec![in alloc;
-        Event::Receive(cast.phone, first),
-        Event::Receive(cast.phone, start),
-        Event::Receive(cast.phone, first),
-        Event::Receive(cast.phone, first),
-        Event::Receive(cast.phone, held),
-        Event::DeliverPart(cast.phone, second, 20),
-        Event::Receive(cast.laptop, second),
-        Event::Receive(cast.phone, second),
-        Event::CutIn(cast.phone, 1),
-        Event::Receive(cast.phone, held),
-        Event::CutOut(cast.office, 1),
-        Event::Next(cast.office, 1),
+        Act::Receive(first).by(cast.phone),
+        Act::Receive(start).by(cast.phone),
+        Act::Receive(first).by(cast.phone),
+        Act::Receive(first).by(cast.phone),
+        Act::Receive(held).by(cast.phone),
+        Act::DeliverPart(second, 20).by(cast.phone),
+        Act::Receive(second).by(cast.laptop),
+        Act::Receive(second).by(cast.phone),
+        Act::CutIn(1).by(cast.phone),
+        Act::Receive(held).by(cast.phone),
+        Act::CutOut(1).by(cast.office),
+        Act::Next(1).by(cast.office),
     ]?)
 }
 
@@ -237,7 +237,7 @@ fn moved_out(alloc: Global, cast: &Cast, records: &mut Records) -> Result<Vec<Ev
 fn retires(alloc: Global, cast: &Cast, records: &mut Records) -> Result<Vec<Event>> {
     let first = Version::read("3.1")?;
     let second = Version::read("3.2")?;
-    let mut events = vec![in alloc; Event::Retire(cast.old_phone)]?;
+    let mut events = vec![in alloc; Act::Retire.by(cast.old_phone)]?;
     let exchange = Exchange {
         target: cast.office,
         source: cast.old_phone,
@@ -247,12 +247,12 @@ fn retires(alloc: Global, cast: &Cast, records: &mut Records) -> Result<Vec<Even
     };
     push_exchange(&mut events, records, exchange)?;
     events.extend([
-        Event::Vouch(cast.office, first),
-        Event::Vouch(cast.office, second),
-        Event::Release(cast.old_phone, 1),
-        Event::Release(cast.old_phone, 1),
-        Event::Retire(cast.old_phone),
-        Event::Pull(cast.old_phone),
+        Act::Vouch(first).by(cast.office),
+        Act::Vouch(second).by(cast.office),
+        Act::Release(1).by(cast.old_phone),
+        Act::Release(1).by(cast.old_phone),
+        Act::Retire.by(cast.old_phone),
+        Act::Pull.by(cast.old_phone),
     ])?;
     Ok(events)
 }
@@ -263,15 +263,15 @@ fn told_twice(alloc: Global, cast: &Cast, records: &mut Records) -> Result<Vec<E
     let mut events = vec![in alloc;
         of_office,
         of_phone,
-        Event::Pull(cast.office),
-        Event::Pull(cast.office),
-        Event::Answer(cast.phone, 6),
-        Event::Answer(cast.phone, 7),
+        Act::Pull.by(cast.office),
+        Act::Pull.by(cast.office),
+        Act::Answer(6).by(cast.phone),
+        Act::Answer(7).by(cast.phone),
     ]?;
     push_draws(&mut events, cast.phone, 1, 3)?;
     push_draws(&mut events, cast.phone, 2, 2)?;
     push_next_receives(&mut events, records, cast.office, 5)?;
-    events.extend([Event::CutIn(cast.office, 3), Event::CutOut(cast.phone, 2)])?;
+    events.extend([Act::CutIn(3).by(cast.office), Act::CutOut(2).by(cast.phone)])?;
     Ok(events)
 }
 
@@ -289,18 +289,18 @@ fn phone_learns(alloc: Global, cast: &Cast, records: &mut Records) -> Result<Vec
 
 fn two_streams(alloc: Global, cast: &Cast, records: &mut Records) -> Result<Vec<Event>> {
     let mut events = vec![in alloc;
-        Event::Pull(cast.laptop),
-        Event::Answer(cast.office, 9),
-        Event::Answer(cast.office, 9),
-        Event::Next(cast.office, 4),
-        Event::Next(cast.office, 5),
-        Event::Next(cast.office, 5),
+        Act::Pull.by(cast.laptop),
+        Act::Answer(9).by(cast.office),
+        Act::Answer(9).by(cast.office),
+        Act::Next(4).by(cast.office),
+        Act::Next(5).by(cast.office),
+        Act::Next(5).by(cast.office),
     ]?;
     push_next_receives(&mut events, records, cast.laptop, 3)?;
     events.extend([
-        Event::CutIn(cast.laptop, 3),
-        Event::CutOut(cast.office, 4),
-        Event::CutOut(cast.office, 5),
+        Act::CutIn(3).by(cast.laptop),
+        Act::CutOut(4).by(cast.office),
+        Act::CutOut(5).by(cast.office),
     ])?;
     Ok(events)
 }
@@ -309,15 +309,15 @@ fn open_tables(alloc: Global, cast: &Cast) -> Result<Vec<Event>> {
     let mut events = Vec::new(alloc);
     push_pulls(&mut events, cast.phone, 9)?;
     events.extend([
-        Event::CutIn(cast.phone, 11),
-        Event::CutIn(cast.phone, 11),
-        Event::Pull(cast.phone),
-        Event::Answer(cast.phone, 10),
+        Act::CutIn(11).by(cast.phone),
+        Act::CutIn(11).by(cast.phone),
+        Act::Pull.by(cast.phone),
+        Act::Answer(10).by(cast.phone),
     ])?;
     push_answers(&mut events, cast.office, 10, 9)?;
     events.extend([
-        Event::CutOut(cast.office, 13),
-        Event::Answer(cast.office, 10),
+        Act::CutOut(13).by(cast.office),
+        Act::Answer(10).by(cast.office),
     ])?;
     Ok(events)
 }
@@ -327,8 +327,8 @@ fn subscribers(alloc: Global, cast: &Cast) -> Result<Vec<Event>> {
     push_indexer(&mut events, cast.phone)?;
     push_notifier(&mut events, cast.phone)?;
     events.extend([
-        Event::Offer(cast.laptop, Subscriber::Indexer),
-        Event::Take(cast.laptop, Subscriber::Indexer),
+        Act::Offer(Subscriber::Indexer).by(cast.laptop),
+        Act::Take(Subscriber::Indexer).by(cast.laptop),
     ])?;
     Ok(events)
 }
@@ -346,7 +346,7 @@ fn push_indexer(events: &mut Vec<Event>, id: Author) -> Result<()> {
 fn push_notifier(events: &mut Vec<Event>, id: Author) -> Result<()> {
     let subscriber = Subscriber::Notifier;
     push_offers(events, id, subscriber, 1)?;
-    events.push(Event::Close(id, subscriber))?;
+    events.push(Act::Close(subscriber).by(id))?;
     push_offers(events, id, subscriber, 1)?;
     push_takes(events, id, subscriber, 2)
 }
@@ -358,7 +358,7 @@ fn push_offers(
     count: usize,
 ) -> Result<()> {
     for _ in 0..count {
-        events.push(Event::Offer(id, subscriber))?;
+        events.push(Act::Offer(subscriber).by(id))?;
     }
     Ok(())
 }
@@ -370,7 +370,7 @@ fn push_takes(
     count: usize,
 ) -> Result<()> {
     for _ in 0..count {
-        events.push(Event::Take(id, subscriber))?;
+        events.push(Act::Take(subscriber).by(id))?;
     }
     Ok(())
 }
@@ -378,12 +378,12 @@ fn push_takes(
 fn names_no_record(alloc: Global, cast: &Cast, missing: u64) -> Result<Vec<Event>> {
     let before = create(alloc, cast.office, "inbox")?;
     let behind = create(alloc, cast.office, "inbox")?;
-    Ok(vec![in alloc; before, Event::Receive(cast.phone, missing), behind]?)
+    Ok(vec![in alloc; before, Act::Receive(missing).by(cast.phone), behind]?)
 }
 
 fn names_no_replica(alloc: Global, cast: &Cast, missing: u64) -> Result<Vec<Event>> {
     let stranger = Author::try_new(4)?;
     let before = create(alloc, cast.laptop, "archive")?;
     let behind = create(alloc, cast.office, "inbox")?;
-    Ok(vec![in alloc; before, Event::Receive(stranger, missing), behind]?)
+    Ok(vec![in alloc; before, Act::Receive(missing).by(stranger), behind]?)
 }

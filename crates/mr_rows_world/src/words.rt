@@ -6,30 +6,30 @@ use mr_feed::Entry;
 use mr_mail::Message;
 use mr_replica::{Bases, Reply};
 use mr_wire::{Body, FrameFragment, Mode, Record};
-use mr_world::{Answer, Event, Subscriber};
+use mr_world::{Act, Answer, Event, Subscriber};
 use std::alloc::Global;
 use std::fmt::Display;
 use std::slice;
 
 /// What happens, as `phone receives record 3`.
 pub fn event_words(alloc: Global, event: &Event) -> Result<String> {
-    let who = name(event.replica());
-    match event {
-        Event::Create(_, message) => created_words(alloc, who, message),
-        Event::Edit(_, bases, message) => edited_words(alloc, who, bases, message),
-        Event::Retire(_) => deed(alloc, who, "retires"),
-        Event::Pull(_) => deed(alloc, who, "pulls"),
-        Event::Receive(_, number) => deed_to(alloc, who, "receives record", number),
-        Event::DeliverPart(_, number, bytes) => part_words(alloc, who, *number, *bytes),
-        Event::CutIn(_, session) => deed_to(alloc, who, "cuts session", session),
-        Event::Answer(_, number) => deed_to(alloc, who, "answers request", number),
-        Event::Next(_, stream) => deed_to(alloc, who, "draws from stream", stream),
-        Event::CutOut(_, stream) => deed_to(alloc, who, "cuts stream", stream),
-        Event::Vouch(_, version) => deed_to(alloc, who, "vouches for", version),
-        Event::Release(_, number) => released_words(alloc, who, *number),
-        Event::Offer(_, subscriber) => offer_words(alloc, who, subscriber_name(*subscriber)),
-        Event::Take(_, subscriber) => take_words(alloc, who, subscriber_name(*subscriber)),
-        Event::Close(_, subscriber) => close_words(alloc, who, subscriber_name(*subscriber)),
+    let who = name(event.replica);
+    match &event.act {
+        Act::Create(message) => created_words(alloc, who, message),
+        Act::Edit(bases, message) => edited_words(alloc, who, bases, message),
+        Act::Retire => deed(alloc, who, "retires"),
+        Act::Pull => deed(alloc, who, "pulls"),
+        Act::Receive(number) => deed_to(alloc, who, "receives record", number),
+        Act::DeliverPart(number, bytes) => part_words(alloc, who, *number, *bytes),
+        Act::CutIn(session) => deed_to(alloc, who, "cuts session", session),
+        Act::Answer(number) => deed_to(alloc, who, "answers request", number),
+        Act::Next(stream) => deed_to(alloc, who, "draws from stream", stream),
+        Act::CutOut(stream) => deed_to(alloc, who, "cuts stream", stream),
+        Act::Vouch(version) => deed_to(alloc, who, "vouches for", version),
+        Act::Release(number) => released_words(alloc, who, *number),
+        Act::Offer(subscriber) => offer_words(alloc, who, subscriber_name(*subscriber)),
+        Act::Take(subscriber) => take_words(alloc, who, subscriber_name(*subscriber)),
+        Act::Close(subscriber) => close_words(alloc, who, subscriber_name(*subscriber)),
     }
 }
 

@@ -1,10 +1,11 @@
 -- an event whose answer nothing is read off, and a sync that is cut by such ones
 use Rattle.std.proofs.Common.{◌≢◌, ℕ, Option, Some, None, IsSomeAnd, Result, refl}
 use Rattle.mr_forms.specs.Known.{Form}
+use Rattle.mr_mail.specs.Mail.{Mail}
+use Rattle.mr_model.specs.declared.event.Event.{Event}
 use Rattle.mr_world.specs.Kept.{WorldView}
 use Rattle.mr_world.specs.Run.{Happens}
 use Rattle.mr_world.specs.declared.answer.Answer.{Answer}
-use Rattle.mr_world.specs.declared.event.Event.{Event}
 use Rattle.mr_command.specs.declared.command.Sync.{Sync}
 use Rattle.mr_command.specs.declared.fault.LineFault.{LineFault}
 use Rattle.mr_command.specs.Reading.{gives}
@@ -22,7 +23,7 @@ noted_answer (Some answer) Says h = (answer, h)
 
 module _ {K : Type 0} (form : Form K) where
   -- an event that happened, whatever was answered, and what goes on after it
-  pub event_then : {X : Type 0} {Next : Doing K X} {e : Event} {w w' : WorldView K} {result : Result X LineFault} →
+  pub event_then : {X : Type 0} {Next : Doing K X} {e : Event Mail} {w w' : WorldView K} {result : Result X LineFault} →
       (mid : WorldView K) → IsSomeAnd (newest mid) (λ answer. Happens form w e answer mid) → Next mid result w' → Follows (happens form e) (λ _. Next) w result w'
   event_then {e} {w} mid h next = let a = noted_answer (newest mid) (λ (answer : Answer). Happens form w e answer mid) h in goes_on {x = a.0} {mid = mid} a.1 next
 

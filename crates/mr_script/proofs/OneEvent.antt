@@ -4,10 +4,11 @@ use Rattle.std.specs.Prelude.{slice_get}
 use Rattle.std.proofs.Math.Seq.{get_or-append_seam}
 use Rattle.std.proofs.lemmas.Option.{slice_get_read}
 use Rattle.mr_forms.specs.Known.{Form}
+use Rattle.mr_mail.specs.Mail.{Mail}
+use Rattle.mr_model.specs.declared.event.Event.{Event}
 use Rattle.mr_world.specs.Kept.{WorldView}
 use Rattle.mr_world.specs.Run.{Happens, IsStopFault, answered}
 use Rattle.mr_world.specs.declared.answer.Answer.{Answer}
-use Rattle.mr_world.specs.declared.event.Event.{Event}
 use Rattle.mr_world.specs.declared.fault.WorldFault.{WorldFault}
 use Rattle.mr_world.specs.declared.fault.WorldFault.TheVariants as stops
 use Rattle.mr_command.specs.declared.fault.LineFault.{LineFault}
@@ -26,15 +27,15 @@ last_of_more xs x =
 
 module _ {K : Type 0} (form : Form K) where
   -- the newest answer is that of the event that happened
-  pub newest_is : (w w' : WorldView K) (e : Event) (answer : Answer) → Happens form w e answer w' → newest w' ≡ Some answer
+  pub newest_is : (w w' : WorldView K) (e : Event Mail) (answer : Answer) → Happens form w e answer w' → newest w' ≡ Some answer
   newest_is w w' e answer h = rw (h.answers, last_of_more w.answers (answered e answer)) refl
 
   -- an event that was answered is noted
-  pub met_noted : (w w' : WorldView K) (e : Event) → (answer : Answer) × Happens form w e answer w' → IsSomeAnd (newest w') (λ answer. Happens form w e answer w')
+  pub met_noted : (w w' : WorldView K) (e : Event Mail) → (answer : Answer) × Happens form w e answer w' → IsSomeAnd (newest w') (λ answer. Happens form w e answer w')
   met_noted w w' e h = rw (newest_is w w' e h.0 h.1) h.1
 
   -- and so says the line's fault
-  pub prevented : (w : WorldView K) (e : Event) (fault : WorldFault) → IsStopFault w e fault → Prevents w e (fault_of_stop fault)
+  pub prevented : (w : WorldView K) (e : Event Mail) (fault : WorldFault) → IsStopFault w e fault → Prevents w e (fault_of_stop fault)
   prevented w e stops.OutOfMemory h = inl refl
   prevented w e stops.NoSuchReplica h = inr (rw h refl)
   prevented w e stops.NoSuchFrame h = inr (rw h refl)
@@ -48,6 +49,6 @@ pub noted_at : (found : Option Answer) (answer : Answer) (Says : Answer → Type
 noted_at found answer Says is h = rw is at h
 
 -- the event happened, and the line of its answer is told, or there is no memory for it
-pub happened_told : {K : Type 0} (form : Form K) (w w' : WorldView K) (e : Event) (answer : Answer) (result : Result (List ℕ) LineFault) → newest w' ≡ Some answer → IsSomeAnd (newest w') (λ a. Happens form w e a w') → tells (answer_text (sizes_of w') answer) result → happens_told form e w result w'
+pub happened_told : {K : Type 0} (form : Form K) (w w' : WorldView K) (e : Event Mail) (answer : Answer) (result : Result (List ℕ) LineFault) → newest w' ≡ Some answer → IsSomeAnd (newest w') (λ a. Happens form w e a w') → tells (answer_text (sizes_of w') answer) result → happens_told form e w result w'
 happened_told form w w' e answer result is happened told =
     goes_on {x = answer} {mid = w'} (noted_at (newest w') answer (λ a. Happens form w e a w') is happened) (told, refl)

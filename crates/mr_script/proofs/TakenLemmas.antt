@@ -6,11 +6,11 @@ use Rattle.std.proofs.lemmas.List.Elements.{filter_map-append}
 use Rattle.mr_mail.specs.Label.{is_label}
 use Rattle.mr_mail.specs.Mail.{MailCard}
 use Rattle.mr_model.specs.Headline.{Cards}
+use Rattle.mr_model.specs.declared.event.Subscriber.{Subscriber}
 use Rattle.mr_feed.specs.declared.entry.Entry.{Entry}
 use Rattle.mr_subs.specs.Index.{labelled}
 use Rattle.mr_subs.proofs.IndexLemmas.{rising-none}
 use Rattle.mr_world.specs.declared.answered.Answered.{Answered}
-use Rattle.mr_world.specs.declared.event.Subscriber.{Subscriber}
 use Rattle.mr_script.specs.Taken.{taken_at, taken_of, indexed, Lists}
 
 cons_option-nil : (found : Option Entry) → cons_option found [] ≡ option_to_list found

@@ -5,10 +5,11 @@ use Rattle.std.specs.Fmt.{digits}
 use Rattle.mr_version.specs.Name.{Name}
 use Rattle.mr_feed.specs.declared.entry.Entry.{Entry}
 use Rattle.mr_feed.specs.declared.entry.Entry.TheVariants.{Dropped}
+use Rattle.mr_model.specs.History.{◌does◌}
+use Rattle.mr_model.specs.declared.event.Act.TheVariants.{Take, Offer}
+use Rattle.mr_model.specs.declared.event.Subscriber.TheVariants.{Indexer, Notifier}
 use Rattle.mr_world.specs.declared.answer.Answer.TheVariants.{TookEntry, Empty, Offered}
 use Rattle.mr_world.specs.declared.answered.Answered.{Answered}
-use Rattle.mr_world.specs.declared.event.Event.TheVariants.{Take, Offer}
-use Rattle.mr_world.specs.declared.event.Subscriber.TheVariants.{Indexer, Notifier}
 use Rattle.mr_script.specs.Taken.{taken_of, index_text, unseen_text}
 
 abbrev name : (counter : ℕ) → Name
@@ -20,12 +21,12 @@ gone counter = Dropped (name counter) (name counter)
 -- two replicas' subscribers take, one takes twice, and once nothing waits
 abbrev answers : List Answered
 answers =
-    record { event = Offer 0 Indexer; answer = Offered (gone 1) }
-    ∷ record { event = Take 0 Indexer; answer = TookEntry (gone 1) }
-    ∷ record { event = Take 0 Notifier; answer = TookEntry (gone 2) }
-    ∷ record { event = Take 1 Indexer; answer = TookEntry (gone 3) }
-    ∷ record { event = Take 0 Indexer; answer = TookEntry (gone 4) }
-    ∷ record { event = Take 0 Indexer; answer = Empty }
+    record { event = 0 does Offer Indexer; answer = Offered (gone 1) }
+    ∷ record { event = 0 does Take Indexer; answer = TookEntry (gone 1) }
+    ∷ record { event = 0 does Take Notifier; answer = TookEntry (gone 2) }
+    ∷ record { event = 1 does Take Indexer; answer = TookEntry (gone 3) }
+    ∷ record { event = 0 does Take Indexer; answer = TookEntry (gone 4) }
+    ∷ record { event = 0 does Take Indexer; answer = Empty }
     ∷ []
 
 by_indexer : taken_of answers 0 Indexer ≡ gone 1 ∷ gone 4 ∷ []

@@ -2,10 +2,11 @@
 use Rattle.std.specs.Prelude.{◌≡◌, ◌⊎◌, Option, Result, Ok, Err, IsSomeAnd}
 use Rattle.std.specs.Option.{option_map}
 use Rattle.mr_forms.specs.Known.{Form}
+use Rattle.mr_mail.specs.Mail.{Mail}
+use Rattle.mr_model.specs.declared.event.Event.{Event}
 use Rattle.mr_world.specs.Kept.{WorldView, newest_answered}
 use Rattle.mr_world.specs.Run.{Happens, stop_fault}
 use Rattle.mr_world.specs.declared.answer.Answer.{Answer}
-use Rattle.mr_world.specs.declared.event.Event.{Event}
 use Rattle.mr_command.specs.declared.fault.LineFault.{LineFault}
 use Rattle.mr_command.specs.declared.fault.LineFault.TheVariants.{OutOfMemory}
 use Rattle.mr_command.specs.Reading.{Reading}
@@ -35,21 +36,21 @@ module _ {K : Type 0} where
   newest w = option_map (λ x. x.answer) (newest_answered w)
 
   -- why the event can't happen: memory is wanting, or it names what isn't there
-  abbrev pub Prevents : WorldView K → Event → LineFault → Type 0
+  abbrev pub Prevents : WorldView K → Event Mail → LineFault → Type 0
   Prevents w e fault = (fault ≡ OutOfMemory) ⊎ IsSomeAnd (stop_fault w e) (λ f. fault ≡ fault_of_stop f)
 
 module _ {K : Type 0} (form : Form K) where
   -- the event happens, and is answered; or it can't happen, and nothing changes
-  abbrev pub happens : Event → Doing K Answer
+  abbrev pub happens : Event Mail → Doing K Answer
   happens e w (Ok answer) w' = Happens form w e answer w'
   happens e w (Err fault) w' = Prevents w e fault × (w' ≡ w)
 
   -- it happens, and the world has its answer
-  abbrev pub happens_noted : {X : Type 0} → Event → Doing K X
+  abbrev pub happens_noted : {X : Type 0} → Event Mail → Doing K X
   happens_noted e w (Ok _) w' = IsSomeAnd (newest w') (λ answer. Happens form w e answer w')
   happens_noted e w (Err fault) w' = Prevents w e fault × (w' ≡ w)
 
   -- it happens, and this is what its answer says
-  abbrev pub says : {X : Type 0} → Event → (Answer → X → Type 0) → Doing K X
+  abbrev pub says : {X : Type 0} → Event Mail → (Answer → X → Type 0) → Doing K X
   says e Says w (Ok x) w' = (answer : Answer) × Happens form w e answer w' × Says answer x
   says e Says w (Err fault) w' = Prevents w e fault × (w' ≡ w)

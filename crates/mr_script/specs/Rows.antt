@@ -7,13 +7,14 @@ use Rattle.mr_forms.specs.Known.{Form}
 use Rattle.mr_feed.specs.declared.entry.Entry.{Entry}
 use Rattle.mr_feed.specs.declared.entry.Entry.TheVariants.{Added, Dropped}
 use Rattle.mr_madewith.specs.Revision.{Rev}
+use Rattle.mr_model.specs.History.{◌does◌}
+use Rattle.mr_model.specs.declared.event.Act.TheVariants.{Take}
+use Rattle.mr_model.specs.declared.event.Subscriber.TheVariants.{Indexer, Notifier}
 use Rattle.mr_replica.specs.declared.event.Reply.TheVariants.{Issued, Streaming}
 use Rattle.mr_replica.specs.declared.refusal.Refusal.TheVariants.{NotHeld, OwnHeadLeft, LogFull}
 use Rattle.mr_world.specs.Kept.{WorldView}
 use Rattle.mr_world.specs.declared.answer.Answer.TheVariants.{NothingNew, Stepped, TookEntry, Empty}
 use Rattle.mr_world.specs.declared.answered.Answered.{Answered}
-use Rattle.mr_world.specs.declared.event.Event.TheVariants.{Take}
-use Rattle.mr_world.specs.declared.event.Subscriber.TheVariants.{Indexer, Notifier}
 use Rattle.mr_command.specs.declared.command.Question.TheVariants.{Heads, Log}
 use Rattle.mr_command.specs.declared.command.Sync.{Sync}
 use Rattle.mr_command.specs.declared.fault.LineFault.TheVariants.{NoSuchReplica}
@@ -213,8 +214,8 @@ entry counter = Dropped (name 3 1) (name 3 counter)
 -- the indexer of 1 took an entry and found nothing behind it, the notifier of 1 took one, and the indexer of 2
 abbrev answers : List Answered
 answers =
-    record { event = Take 1 Indexer; answer = TookEntry (entry 1) } ∷ record { event = Take 1 Indexer; answer = Empty }
-    ∷ record { event = Take 1 Notifier; answer = TookEntry (entry 2) } ∷ record { event = Take 2 Indexer; answer = TookEntry (entry 3) } ∷ []
+    record { event = 1 does Take Indexer; answer = TookEntry (entry 1) } ∷ record { event = 1 does Take Indexer; answer = Empty }
+    ∷ record { event = 1 does Take Notifier; answer = TookEntry (entry 2) } ∷ record { event = 2 does Take Indexer; answer = TookEntry (entry 3) } ∷ []
 
 pub taken_by_indexer : taken_of answers 1 Indexer ≡ entry 1 ∷ []
 taken_by_indexer = refl

@@ -2,9 +2,10 @@
 use Rattle.std.specs.Prelude.{◌≡◌, ◌==◌, ◌++◌, ◌⊎◌, ◌&&◌, nat_le, ℕ, true, false, is_some, List, [], ◌∷◌, Option, Some, None, Result, Ok, Err, length}
 use Rattle.std.specs.List.{list_any}
 use Rattle.mr_forms.specs.Known.{Form}
+use Rattle.mr_mail.specs.Mail.{Mail}
+use Rattle.mr_model.specs.declared.event.Event.{Event}
 use Rattle.mr_world.specs.Kept.{WorldView, replica_at}
 use Rattle.mr_world.specs.Made.{IsMadeWorld, IsRefusedBy, spec_refusal}
-use Rattle.mr_world.specs.declared.event.Event.{Event}
 use Rattle.mr_world.specs.declared.fault.SpecFault.{SpecFault}
 use Rattle.mr_world.specs.declared.spec.Spec.{Spec}
 use Rattle.mr_command.specs.declared.command.Command.{Command}
@@ -65,7 +66,7 @@ module _ {K : Type 0} where
 
 module _ {K : Type 0} (form : Form K) where
   -- the event happens, and its answer is printed
-  abbrev pub happens_told : Event → Doing K (List ℕ)
+  abbrev pub happens_told : Event Mail → Doing K (List ℕ)
   happens_told e = happens form e andthen λ answer. looking (λ w. tells (answer_text (sizes_of w) answer))
 
   -- a sync is run, and how far it came is printed

@@ -1,6 +1,8 @@
 -- a sync: a session that is run to its end, to a number of records, or to a refusal
 use Rattle.std.specs.Prelude.{◌≡◌, ◌<◌, ◌+◌, ◌-◌, ◌^◌, ℕ, Bool, true, false, List, [], ◌∷◌, length, Result, Ok, Err, count_by, unwrap_or}
 use Rattle.mr_forms.specs.Known.{Form}
+use Rattle.mr_model.specs.History.{◌does◌}
+use Rattle.mr_model.specs.declared.event.Act.TheVariants as act
 use Rattle.mr_replica.specs.declared.event.Reply.TheVariants as reply
 use Rattle.mr_replica.specs.declared.refusal.Refusal.{Refusal}
 use Rattle.mr_wire.specs.declared.frame.Body.{Body}
@@ -8,7 +10,6 @@ use Rattle.mr_wire.specs.declared.frame.Body.TheVariants as body
 use Rattle.mr_world.specs.Kept.{WorldView}
 use Rattle.mr_world.specs.declared.answer.Answer.{Answer}
 use Rattle.mr_world.specs.declared.answer.Answer.TheVariants.{Stepped}
-use Rattle.mr_world.specs.declared.event.Event.TheVariants as event
 use Rattle.mr_command.specs.declared.command.Sync.{Sync}
 use Rattle.mr_command.specs.declared.fault.LineFault.{LineFault}
 use Rattle.mr_command.specs.Reading.{gives}
@@ -119,27 +120,27 @@ most_of sync = unwrap_or sync.most (2 ^ 64 - 1)
 module _ {K : Type 0} (form : Form K) (sync : Sync) where
   -- the target asks
   abbrev pub pulls : Doing K (Result ℕ Refusal)
-  pulls = says form (event.Pull sync.target) OpensSession
+  pulls = says form (sync.target does act.Pull) OpensSession
 
   -- the source answers the newest request
   abbrev pub answers : Doing K (Result ℕ Refusal)
-  answers w = says form (event.Answer sync.source (length w.asks)) OpensStream w
+  answers w = says form (sync.source does act.Answer (length w.asks)) OpensStream w
 
   -- the source gives a record
   abbrev pub draws : (stream : ℕ) → Doing K (Result Told Refusal)
-  draws stream = says form (event.Next sync.source stream) Draws
+  draws stream = says form (sync.source does act.Next stream) Draws
 
   -- the newest record comes to the target
   abbrev pub receives : Told → Doing K Round
-  receives t w = says form (event.Receive sync.target (length w.records)) (Takes t) w
+  receives t w = says form (sync.target does act.Receive (length w.records)) (Takes t) w
 
   -- the session is closed, whatever is answered
   abbrev pub cuts_in : (session : ℕ) → Doing K Answer
-  cuts_in session = happens form (event.CutIn sync.target session)
+  cuts_in session = happens form (sync.target does act.CutIn session)
 
   -- so is the stream
   abbrev pub cuts_out : (stream : ℕ) → Doing K Answer
-  cuts_out stream = happens form (event.CutOut sync.source stream)
+  cuts_out stream = happens form (sync.source does act.CutOut stream)
 
   -- a record that was drawn comes to the target; none ends the rounds
   abbrev pub receives_drawn : Result Told Refusal → Doing K Round

@@ -5,28 +5,33 @@ use Rattle.std.specs.List.Sorted.{IsStrictlySortedBy}
 use Rattle.std.specs.Fmt.{decimal}
 use Rattle.mr_version.specs.Name.{Name, name_cmp}
 use Rattle.mr_mail.specs.Label.{is_label}
-use Rattle.mr_mail.specs.Mail.{MailCard}
+use Rattle.mr_mail.specs.Mail.{Mail, MailCard}
 use Rattle.mr_model.specs.Versions.{Versions}
 use Rattle.mr_model.specs.Headline.{Cards, fold}
+use Rattle.mr_model.specs.History.{subscriber_number}
+use Rattle.mr_model.specs.declared.event.Act.{Act}
+use Rattle.mr_model.specs.declared.event.Act.TheVariants.{Take}
+use Rattle.mr_model.specs.declared.event.Event.{Event}
+use Rattle.mr_model.specs.declared.event.Subscriber.{Subscriber}
+use Rattle.mr_model.specs.declared.event.Subscriber.TheVariants.{Indexer, Notifier}
 use Rattle.mr_feed.specs.declared.entry.Entry.{Entry}
 use Rattle.mr_feed.specs.Entry.{told}
 use Rattle.mr_feed.specs.Fold.{is_listed}
 use Rattle.mr_subs.specs.Index.{labelled}
 use Rattle.mr_subs.specs.Unseen.{unseen_in, HasCount}
-use Rattle.mr_world.specs.World.{subscriber_number}
 use Rattle.mr_world.specs.declared.answer.Answer.{Answer}
 use Rattle.mr_world.specs.declared.answer.Answer.TheVariants.{TookEntry}
 use Rattle.mr_world.specs.declared.answered.Answered.{Answered}
-use Rattle.mr_world.specs.declared.event.Event.{Event}
-use Rattle.mr_world.specs.declared.event.Event.TheVariants.{Take}
-use Rattle.mr_world.specs.declared.event.Subscriber.{Subscriber}
-use Rattle.mr_world.specs.declared.event.Subscriber.TheVariants.{Indexer, Notifier}
 use Rattle.mr_script.specs.Holding.{spaced_names}
 
+-- whether the act has this subscriber take an entry
+abbrev pub is_take_by : Subscriber → Act Mail → Bool
+is_take_by subscriber (Take u) = subscriber_number u == subscriber_number subscriber
+is_take_by subscriber act = false
+
 -- whether the event has this subscriber of the replica take an entry
-abbrev pub is_take : ℕ → Subscriber → Event → Bool
-is_take id subscriber (Take r u) = (r == id) && (subscriber_number u == subscriber_number subscriber)
-is_take id subscriber event = false
+abbrev pub is_take : ℕ → Subscriber → Event Mail → Bool
+is_take id subscriber e = (e.replica == id) && is_take_by subscriber e.act
 
 -- the entry that was taken, if the answer is that one was
 abbrev pub entry_taken : Answer → Option Entry

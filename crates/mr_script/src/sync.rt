@@ -11,7 +11,7 @@ use mr_command::{LineFault, Sync};
 use mr_forms::Knowledge;
 use mr_replica::{Refusal, Reply};
 use mr_wire::Body;
-use mr_world::{Answer, Event, World};
+use mr_world::{Act, Answer, World};
 use std::alloc::Global;
 
 /// What a record tells.
@@ -74,7 +74,7 @@ fn run_session<K: Knowledge>(
     match answer(world, sync)? {
         Ok(stream) => run_stream(world, sync, session, stream),
         Err(refusal) => {
-            let_happen(world, Event::CutIn(sync.target, session))?;
+            let_happen(world, Act::CutIn(session).by(sync.target))?;
             Ok(Outcome::refused(refusal))
         }
     }
@@ -107,8 +107,8 @@ fn close<K: Knowledge>(
     ensures { closes K.form sync.now session stream counts end world.old result world.new }
 {
     if !matches!(&end, SyncEnd::Finished) {
-        let_happen(world, Event::CutIn(sync.target, session))?;
-        let_happen(world, Event::CutOut(sync.source, stream))?;
+        let_happen(world, Act::CutIn(session).by(sync.target))?;
+        let_happen(world, Act::CutOut(stream).by(sync.source))?;
     }
     Ok(Outcome { counts, end })
 }
@@ -191,7 +191,7 @@ impl Outcome {
 fn pull<K: Knowledge>(world: &mut World<K>, sync: &Sync) -> Result<Result<u64, Refusal>, LineFault>
     ensures { pulls K.form sync.now world.old result world.new }
 {
-    let_happen(world, Event::Pull(sync.target))?;
+    let_happen(world, Act::Pull.by(sync.target))?;
     Ok(session_in(newest(world)))
 }
 
@@ -203,7 +203,7 @@ fn answer<K: Knowledge>(
     ensures { answers K.form sync.now world.old result world.new }
 {
     let newest_ask = world.ask_count();
-    let_happen(world, Event::Answer(sync.source, newest_ask))?;
+    let_happen(world, Act::Answer(newest_ask).by(sync.source))?;
     Ok(stream_in(newest(world)))
 }
 
@@ -215,7 +215,7 @@ fn draw<K: Knowledge>(
 ) -> Result<Result<Told, Refusal>, LineFault>
     ensures { draws K.form sync.now stream world.old result world.new }
 {
-    let_happen(world, Event::Next(sync.source, stream))?;
+    let_happen(world, Act::Next(stream).by(sync.source))?;
     Ok(drawn_in(newest(world)))
 }
 
@@ -224,7 +224,7 @@ fn receive<K: Knowledge>(world: &mut World<K>, sync: &Sync, told: Told) -> Resul
     ensures { receives K.form sync.now told world.old result world.new }
 {
     let newest_record = world.record_count();
-    let_happen(world, Event::Receive(sync.target, newest_record))?;
+    let_happen(world, Act::Receive(newest_record).by(sync.target))?;
     Ok(round_in(told, newest(world)))
 }
 

@@ -2,7 +2,7 @@
 ghost use Rattle.std.specs.Prelude.{◌≡◌, ◌++◌, IfOk, OnOk, None, codes, string_bytes};
 ghost use Rattle.std.specs.Option.{option_copied, option_to_list};
 ghost use Rattle.mr_subs.specs.Subscriber.{ShowsFold, Applies};
-ghost use Rattle.mr_world.specs.declared.event.Subscriber.TheVariants as subscriber;
+ghost use Rattle.mr_model.specs.declared.event.Subscriber.TheVariants as subscriber;
 ghost use Rattle.mr_script.specs.Holding.{spaced_names};
 ghost use Rattle.mr_script.specs.Taken.{is_take, taken_at, taken_of, cards_of, indexed, index_text, Lists, IsIndexLine, IsUnseenLine};
 
@@ -10,7 +10,7 @@ use mr_feed::Entry;
 use mr_mail::Label;
 use mr_subs::{Fold, Indexer, Notifier, Subscriber as Follower};
 use mr_version::{Author, Version};
-use mr_world::{Answer, Answered, Event, Subscriber};
+use mr_world::{Act, Answer, Answered, Event, Subscriber};
 use std::alloc::{AllocError, Global};
 
 /// `index R LABEL:` and each version after a space that the replica's indexer has under the label, in
@@ -134,8 +134,8 @@ fn entry_taken(answered: &Answered, id: Author, subscriber: Subscriber) -> Optio
 fn is_take(event: &Event, id: Author, subscriber: Subscriber) -> bool
     ensures { result ≡ is_take id subscriber event.now }
 {
-    match event {
-        Event::Take(replica, from) => *replica == id && *from == subscriber,
+    match &event.act {
+        Act::Take(from) => event.replica == id && *from == subscriber,
         _ => false,
     }
 }

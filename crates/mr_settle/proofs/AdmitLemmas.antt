@@ -4,7 +4,6 @@ use Rattle.mr_filter.specs.Filter.{ClauseParts}
 use Rattle.mr_forms.specs.ByMeaning.{IsByMeaning}
 use Rattle.mr_forms.specs.Known.{Form}
 use Rattle.mr_replica.specs.State.{State}
-use Rattle.mr_replica.specs.Alike.{AreAlike}
 use Rattle.mr_replica.specs.Step.{Steps}
 use Rattle.mr_replica.specs.Replay.{Admits, AdmitsAll, Replays}
 use Rattle.mr_replica.specs.declared.event.Event.{Event}

@@ -5,74 +5,35 @@ use Rattle.std.proofs.lemmas.Bool.{cases_lt, ltb-true, ltb-false}
 use Rattle.std.specs.List.{slice_get}
 use Rattle.std.specs.Option.{option_map}
 use Rattle.mr_forms.specs.Known.{Form}
+use Rattle.mr_mail.specs.Mail.{Mail}
+use Rattle.mr_model.specs.History.{◌does◌}
 use Rattle.mr_model.specs.Rules.{In}
+use Rattle.mr_model.specs.declared.event.Act.{Act}
+use Rattle.mr_model.specs.declared.event.Event.{Event}
 use Rattle.mr_replica.specs.State.{State}
 use Rattle.mr_replica.specs.Alike.{AreAlike}
 use Rattle.mr_replica.specs.Replay.{Replays, IsItsLog}
 use Rattle.mr_replica.specs.declared.event.Event.{Event as ReplicaEvent}
-use Rattle.mr_replica.specs.declared.event.Event.TheVariants as replica
-use Rattle.mr_wire.specs.Frames.{Question, Sent}
-use Rattle.mr_wire.specs.Grammar.{Spells}
-use Rattle.mr_wire.specs.declared.frame.Frame.{Frame}
-use Rattle.mr_wire.specs.declared.frame.Frame.TheVariants as frame
-use Rattle.mr_wire.specs.declared.frame.Receipt.{Receipt}
 use Rattle.mr_world.specs.Kept.{WorldView, replica_at}
-use Rattle.mr_world.specs.declared.event.Event.{Event}
 use Rattle.mr_alike.specs.One.{AreOneIfAlike}
 use Rattle.mr_forms.specs.ByMeaning.{IsByMeaning}
 use Rattle.mr_replica.proofs.Alike.{alike_replays}
-use Rattle.mr_settle.specs.Numbers.{Numbering, Tells}
 use Rattle.mr_settle.specs.History.{log_in}
-use Rattle.mr_settle.specs.Explains.{AreDistinct, Explains}
-use Rattle.mr_settle.specs.Stuck.{HasItsFrame, Waits, IsBehind, HasEventsLeft, IsFirstLeft, IsStuck}
-use Rattle.mr_settle.specs.Named.{GivenNumbers, IsNumberOf, NamesFrame, Names}
-use Rattle.mr_settle.specs.Ready.{IsNext, Rests, IsFirstReady, FindsReady}
+use Rattle.mr_settle.specs.Explains.{Explains}
+use Rattle.mr_settle.specs.Stuck.{Waits, IsBehind, HasEventsLeft, IsStuck}
+use Rattle.mr_settle.specs.Named.{GivenNumbers, Names}
+use Rattle.mr_settle.specs.Ready.{IsNext, IsReady, Rests, IsFirstReady, FindsReady}
 use Rattle.mr_settle.specs.declared.ready.Ready.{Ready}
 use Rattle.mr_settle.specs.Carried.{done_of}
 use Rattle.mr_settle.specs.declared.progress.Progress.{Progress}
 use Rattle.mr_settle.proofs.ProgressLemmas.{get_map}
-use Rattle.mr_settle.specs.Way.{TellAll, IsAt, IsUnderWay}
+use Rattle.mr_settle.specs.Way.{TellAll, IsUnderWay}
 use Rattle.mr_settle.specs.Arrived.{IsLeftAt, HasLeft, AreNoLower, FindsLeftTo, FindsLeftAt, FindsLeft, lower_of, IsOneInWorld}
-use Rattle.mr_settle.proofs.NamedLemmas.{one_record}
 use Rattle.mr_settle.proofs.ListLemmas.{some_one, all_places, get_within, get_there, take_all, get_all, first_of, take_drop, length_first}
 
-no_event : (e : Event) → (let o : Option Event = None in o ≡ Some e) → ⊥
-no_event e is = cc
-
--- ---- a frame that has no number was not given
-
-module _ {A : Type 0} (frame_of : A → Frame) where
-  pub not_given : (pool : List A) (numbers : Numbering) (x : A) → Tells frame_of pool numbers → IsNumberOf numbers (frame_of x) None → In x pool → ⊥
-  not_given pool numbers x tells none i = let spelled = tells.all x i in spelled.2 (none spelled.0 spelled.1)
+-- ---- what is left of a log
 
 module _ {K : Type 0} where
-  lacks_frame : (w : WorldView K) (g : GivenNumbers) (r : ℕ) (f : Frame) → TellAll w g → NamesFrame g r f None → HasItsFrame w (replica.Receive f) → ⊥
-  lacks_frame w g r (frame.Record sent) tells h has =
-      not_given (λ x. frame.Record x) w.records g.records sent tells.records h (subst (λ (x : Sent). In x w.records) (sym (one_record sent has.0 has.1)) has.2)
-  lacks_frame w g r (frame.Ask question) tells h has = no_ask question has.0 has.1
-    where
-      no_ask : (q : Question) (sent : Sent) → (let f : Frame = frame.Ask q in f ≡ frame.Record sent) → ⊥
-      no_ask q sent e = cc
-  lacks_frame w g r (frame.Receipt receipt) tells h has = no_receipt receipt has.0 has.1
-    where
-      no_receipt : (q : Receipt) (sent : Sent) → (let f : Frame = frame.Receipt q in f ≡ frame.Record sent) → ⊥
-      no_receipt q sent e = cc
-
-  lacks : (w : WorldView K) (g : GivenNumbers) (r : ℕ) (e : ReplicaEvent) → TellAll w g → Names g r e None → HasItsFrame w e → ⊥
-  lacks w g r (replica.Receive f) tells h has = lacks_frame w g r f tells h has
-  lacks w g r (replica.Answer question) tells h has = not_given (λ x. frame.Ask x) w.asks g.asks question tells.asks h has
-  lacks w g r (replica.Release receipt) tells h has = not_given (λ x. frame.Receipt x) w.receipts g.receipts receipt tells.receipts h has
-  lacks w g r (replica.Create message) tells h has = no_event _ h
-  lacks w g r (replica.Edit bases message) tells h has = no_event _ h
-  lacks w g r replica.Retire tells h has = no_event _ h
-  lacks w g r replica.Pull tells h has = no_event _ h
-  lacks w g r (replica.CutIn session) tells h has = no_event _ h
-  lacks w g r (replica.Next stream) tells h has = no_event _ h
-  lacks w g r (replica.CutOut stream) tells h has = no_event _ h
-  lacks w g r (replica.Vouch version) tells h has = no_event _ h
-
-  -- ---- what is left of a log
-
   at_place : (ends : List (State K)) (other : State K) → In other ends → (i : ℕ) × (slice_get ends i ≡ Some other)
   at_place [] other i = absurd i
   at_place (x ∷ xs) other (inl is) = (0, ap (λ (z : State K). Some z) is)
@@ -99,7 +60,7 @@ module _ {K : Type 0} (form : Form K) where
     where
       waits : (p : ℕ) → slice_get done i ≡ Some p → (left : List ReplicaEvent) → drop p s.log ≡ left → Waits w left
       waits p is_p [] e = tt
-      waits p is_p (x ∷ later) e = λ has. lacks w given s.id x tells (rest i s p x (record { end_is = is; done_is = is_p; event_is = first_of s.log p x later e })) has
+      waits p is_p (x ∷ later) e = λ has. rest i s p x (record { end_is = is; done_is = is_p; event_is = first_of s.log p x later e }) w.asks w.records w.receipts tells has.0 has.1
 
   -- a history that cannot go on is stuck
   pub stuck : (ends : List (State K)) (w : WorldView K) (given : GivenNumbers) (done : List ℕ) (found : ℕ × ℕ) → IsUnderWay form ends w done → TellAll w given → FindsReady form ends given done None → FindsLeft ends done (Some found) → IsStuck form ends found.0 found.1
@@ -218,16 +179,21 @@ module _ {K : Type 0} where
 
   -- ---- how an end is found ready
 
-  pub next_there : (ends : List (State K)) (progress : List Progress) (place : ℕ) (end : State K) (p : Progress) (e : ReplicaEvent) → slice_get ends place ≡ Some end → slice_get progress place ≡ Some p → slice_get end.log p.done ≡ Some e → IsNext ends (done_of progress) place end p.done e
+  next_there : (ends : List (State K)) (progress : List Progress) (place : ℕ) (end : State K) (p : Progress) (e : ReplicaEvent) → slice_get ends place ≡ Some end → slice_get progress place ≡ Some p → slice_get end.log p.done ≡ Some e → IsNext ends (done_of progress) place end p.done e
   next_there ends progress place end p e is_end is_p is_e = record { end_is = is_end; done_is = done_there progress place p is_p; event_is = is_e }
 
-  pub rests_at : (ends : List (State K)) (given : GivenNumbers) (progress : List Progress) (place : ℕ) (end : State K) (p : Progress) → slice_get ends place ≡ Some end → slice_get progress place ≡ Some p
-      → ((e : ReplicaEvent) → slice_get end.log p.done ≡ Some e → Names given end.id e None) → Rests ends given (done_of progress) place
+  rests_at : (ends : List (State K)) (given : GivenNumbers) (progress : List Progress) (place : ℕ) (end : State K) (p : Progress) → slice_get ends place ≡ Some end → slice_get progress place ≡ Some p
+      → ((e : ReplicaEvent) → slice_get end.log p.done ≡ Some e → Names given e None) → Rests ends given (done_of progress) place
   rests_at ends given progress place end p is_end is_p none other position e next =
       let same : end ≡ other = some_one end other (slice_get ends place) is_end next.end_is in
       let number : p.done ≡ position = some_one p.done position (slice_get (done_of progress) place) (done_there progress place p is_p) next.done_is in
-      subst (λ (s : State K). Names given s.id e None) same
-      (none e (ap (λ (s : State K). slice_get s.log p.done) same ∙ ap (slice_get other.log) number ∙ next.event_is))
+      none e (ap (λ (s : State K). slice_get s.log p.done) same ∙ ap (slice_get other.log) number ∙ next.event_is)
+
+  -- where its next event has no act, it rests
+  pub rests_unnamed : (ends : List (State K)) (given : GivenNumbers) (progress : List Progress) (place : ℕ) (end : State K) (p : Progress) (e : ReplicaEvent) → slice_get ends place ≡ Some end → slice_get progress place ≡ Some p
+      → slice_get end.log p.done ≡ Some e → Names given e None → Rests ends given (done_of progress) place
+  rests_unnamed ends given progress place end p e is_end is_p is_e none =
+      rests_at ends given progress place end p is_end is_p (λ other is. subst (λ (x : ReplicaEvent). Names given x None) (some_one e other (slice_get end.log p.done) is_e is) none)
 
   -- where its log is done, it rests
   pub rests_done : (ends : List (State K)) (given : GivenNumbers) (progress : List Progress) (place : ℕ) (end : State K) (p : Progress) → slice_get ends place ≡ Some end → slice_get progress place ≡ Some p
@@ -247,6 +213,22 @@ module _ {K : Type 0} where
     where
       none_done : (n : ℕ) → (let o : Option ℕ = None in o ≡ Some n) → ⊥
       none_done n is = cc
+
+module _ {K : Type 0} (form : Form K) where
+  -- where it has one, it goes on by that
+  pub ready_there : (ends : List (State K)) (given : GivenNumbers) (progress : List Progress) (place : ℕ) (end : State K) (p : Progress) (e : ReplicaEvent) (a : Act Mail) (r : ℕ) (we : Event Mail)
+      → slice_get ends place ≡ Some end → slice_get progress place ≡ Some p → slice_get end.log p.done ≡ Some e → IsItsLog form end → Names given e (Some a) → r ≡ end.id → we ≡ (r does a)
+      → IsReady form ends given (done_of progress) (record { place = place; after = p.done + 1; event = we })
+  ready_there ends given progress place end p e a r we is_end is_p is_e its names id is = record {
+    end = end;
+    position = p.done;
+    event = e;
+    next = next_there ends progress place end p e is_end is_p is_e;
+    after = refl;
+    of_end = ap (λ (x : Event Mail). x.replica) is ∙ id;
+    names = subst (λ (b : Act Mail). Names given e (Some b)) (sym (ap (λ (x : Event Mail). x.act) is)) names;
+    its_log = its;
+  }
 
 -- ---- the lowest end with events left
 

@@ -1,19 +1,17 @@
 -- What a world promises holds of replicas that are equal to its own.
 use Rattle.std.proofs.Common.{◌≡◌, ◌≢◌, ◌⊎◌, inl, inr, refl, sym, ap, subst, ◌∙◌, cond, ℕ, Bool, true, false, List, [], ◌∷◌, Option, Some, None, is_none, find, map, ◌==◌, eqb-true}
 use Rattle.std.specs.Prelude.{IsTrue, All}
-use Rattle.std.specs.Option.{option_map}
 use Rattle.std.proofs.lemmas.List.Elements.{All-head, All-tail, All-nil, All-cons}
 use Rattle.mr_version.specs.Name.{Name}
-use Rattle.mr_feed.specs.Entry.{told}
 use Rattle.mr_filter.specs.Filter.{ClauseParts}
 use Rattle.mr_filter.specs.Meaning.{selects}
 use Rattle.mr_forms.specs.Known.{Form}
 use Rattle.mr_mail.specs.Mail.{Mail, MailCard, card_of}
 use Rattle.mr_model.specs.Headline.{EachPair, InIssueOrder, IsCurrent, IsSoundHolding, added}
 use Rattle.mr_model.specs.History.{Entry}
-use Rattle.mr_model.specs.Moment.{selection, Holding, Holds}
+use Rattle.mr_model.specs.Moment.{selection, Holds}
 use Rattle.mr_model.specs.Rules.{In}
-use Rattle.mr_model.specs.Versions.{Issue, IsIssued, IsSuperseded, Supersedes, is, is_issued, item_of}
+use Rattle.mr_model.specs.Versions.{Issue, IsSuperseded, is, is_issued, item_of}
 use Rattle.mr_replica.specs.State.{State}
 use Rattle.mr_replica.specs.Replay.{IsItsLog}
 use Rattle.mr_store.specs.Revisions.{holds}
@@ -21,12 +19,10 @@ use Rattle.mr_world.specs.Agrees.{HoldingsAgree}
 use Rattle.mr_world.specs.Kept.{WorldView, MemberView, member_at, replica_at}
 use Rattle.mr_world.specs.Promise as promise
 use Rattle.mr_world.specs.Promise.{HasHeadline, HoldsAsSeen, KeepsAll, filters_of, setting_in, moment_of}
-use Rattle.mr_world.specs.Run.{ids_of}
 use Rattle.mr_world.specs.Seen.{setting_of}
-use Rattle.mr_settle.specs.Kept.{IsNewest, IsWanted, HasHead, KnowsIssued, KnowsAllOf, HoldsSoundly, IsHeldBySome, KeepTogether, Keeps}
+use Rattle.mr_settle.specs.Kept.{IsNewest, HasHead, KnowsAllOf, IsHeldBySome, KeepTogether, Keeps}
 use Rattle.mr_settle.specs.Explains.{Explains}
 use Rattle.mr_settle.specs.Arrived.{IsOneInWorld}
-use Rattle.mr_settle.proofs.ListLemmas.{some_one}
 use Rattle.mr_settle.proofs.MoveLemmas.{there_if}
 use Rattle.mr_settle.proofs.MomentLemmas.{nothing_held}
 use Rattle.mr_settle.proofs.RetireLemmas.{none_after}

@@ -1,25 +1,25 @@
 -- Of an id that no replica of a world has, nothing is held in its history.
-use Rattle.std.proofs.Common.{◌≡◌, ◌≢◌, ◌⊎◌, inl, inr, refl, sym, ap, subst, ◌∙◌, cond, ℕ, Bool, true, false, List, [], ◌∷◌, ◌++◌, Option, Some, None, is_none, find, ◌==◌}
-use Rattle.std.specs.Prelude.{IsTrue, All}
+use Rattle.std.proofs.Common.{◌≡◌, ◌≢◌, inl, inr, refl, sym, ap, subst, ◌∙◌, cond, ℕ, Bool, true, false, List, [], ◌∷◌, Option, Some, None, is_none, find, ◌==◌}
+use Rattle.std.specs.Prelude.{All}
 use Rattle.std.proofs.lemmas.List.Elements.{All-weaker, All-head, All-tail, All-nil, All-cons, All-append}
 use Rattle.mr_version.specs.Name.{Name}
 use Rattle.mr_filter.specs.Filter.{ClauseParts}
 use Rattle.mr_forms.specs.Known.{Form}
 use Rattle.mr_mail.specs.Mail.{Mail, MailCard}
-use Rattle.mr_model.specs.Changes.{Reception.AsTaken, Reception.AsKnown, Reception.AsFinished, Change, Change.Asks, Change.Closes, Change.Gives, Change.Issues, Change.Misfits, Change.Offers, Change.Opens, Change.Releases, Change.Retires, Change.Stays, Change.Takes, Change.TakesEntry, Change.Vouches, change, change_of, change_if_found, happens, is_closed, after, with_mark}
+use Rattle.mr_model.specs.Changes.{Reception.AsTaken, Reception.AsKnown, Reception.AsFinished, Change, Change.Asks, Change.Closes, Change.Gives, Change.Issues, Change.Misfits, Change.Offers, Change.Opens, Change.Releases, Change.Retires, Change.Stays, Change.Takes, Change.TakesEntry, Change.Vouches, change, change_by_reply, change_of, change_if_found, happens, is_closed, after, with_mark}
 use Rattle.mr_model.specs.History as model
 use Rattle.mr_model.specs.Moment.{Holding, Holds, Mark.CloseMark, numbered, start}
+use Rattle.mr_model.specs.declared.event.Act.{Act}
+use Rattle.mr_model.specs.declared.event.Act.TheVariants as act
+use Rattle.mr_model.specs.declared.event.Event.{Event}
 use Rattle.mr_replica.specs.State.{State}
-use Rattle.mr_world.specs.Event.{replica_of}
-use Rattle.mr_world.specs.Kept.{WorldView, MemberView, member_at}
+use Rattle.mr_world.specs.Kept.{WorldView, member_at}
 use Rattle.mr_world.specs.Promise.{filters_of, moment_of}
-use Rattle.mr_world.specs.Run.{Happens, Leads, ids_of, stop_fault, names_no_frame, answered}
+use Rattle.mr_world.specs.Run.{Happens, Leads, answered, asked_in, ids_of, stop_fault}
 use Rattle.mr_world.specs.Runs.{history_from, seen_step}
-use Rattle.mr_world.specs.Seen.{MailMoment, MailSetting, setting_of, seen_event}
+use Rattle.mr_world.specs.Seen.{MailMoment, MailSetting, setting_of}
 use Rattle.mr_world.specs.declared.answer.Answer.{Answer}
 use Rattle.mr_world.specs.declared.answered.Answered.{Answered}
-use Rattle.mr_world.specs.declared.event.Event.{Event}
-use Rattle.mr_world.specs.declared.event.Event.TheVariants as event
 use Rattle.mr_world.specs.declared.fault.WorldFault.TheVariants.{NoSuchReplica, NoSuchFrame}
 use Rattle.mr_world.proofs.Groundwork.AtPlaces.{at_other}
 use Rattle.mr_settle.specs.History.{IsWorldOf}
@@ -57,80 +57,61 @@ found_leaves : {A : Type 0} (o : Option A) (made : A → Change Mail MailCard) (
 found_leaves None made q h = tt
 found_leaves (Some x) made q h = h x
 
-change_leaves : (m : MailMoment) (e : Event) (reply : model.Reply MailCard) (q : ℕ) → q ≢ replica_of e → Leaves (change_of m (seen_event e) reply) q
-change_leaves m (event.Create r message) (model.Issued v) q ne = ne
-change_leaves m (event.Create r message) reply q ne = tt
-change_leaves m (event.Edit r bases message) (model.Issued v) q ne = ne
-change_leaves m (event.Edit r bases message) reply q ne = tt
-change_leaves m (event.Retire r) model.Done q ne = tt
-change_leaves m (event.Retire r) reply q ne = tt
-change_leaves m (event.Pull r) (model.Asked ask) q ne = tt
-change_leaves m (event.Pull r) reply q ne = tt
-change_leaves m (event.Receive r n) model.Took q ne = found_leaves (numbered m.given n) (λ x. Takes r x AsTaken) q (λ x. ne)
-change_leaves m (event.Receive r n) model.Known q ne = found_leaves (numbered m.given n) (λ x. Takes r x AsKnown) q (λ x. ne)
-change_leaves m (event.Receive r n) model.Finished q ne = found_leaves (numbered m.given n) (λ x. Takes r x AsFinished) q (λ x. ne)
-change_leaves m (event.Receive r n) reply q ne = tt
-change_leaves m (event.DeliverPart r n bytes) model.Took q ne = found_leaves (numbered m.given n) (λ x. Takes r x AsTaken) q (λ x. ne)
-change_leaves m (event.DeliverPart r n bytes) model.Known q ne = found_leaves (numbered m.given n) (λ x. Takes r x AsKnown) q (λ x. ne)
-change_leaves m (event.DeliverPart r n bytes) model.Finished q ne = found_leaves (numbered m.given n) (λ x. Takes r x AsFinished) q (λ x. ne)
-change_leaves m (event.DeliverPart r n bytes) reply q ne = tt
-change_leaves m (event.CutIn r n) model.Done q ne = tt
-change_leaves m (event.CutIn r n) reply q ne = tt
-change_leaves m (event.Answer r n) (model.Streaming t) q ne = found_leaves (numbered m.asks n) (Opens r t) q (λ x. tt)
-change_leaves m (event.Answer r n) reply q ne = tt
-change_leaves m (event.Next r t) (model.Gave x) q ne = tt
-change_leaves m (event.Next r t) reply q ne = tt
-change_leaves m (event.CutOut r t) model.Done q ne = tt
-change_leaves m (event.CutOut r t) reply q ne = tt
-change_leaves m (event.Offer r u) (model.Offered e) q ne = tt
-change_leaves m (event.Offer r u) reply q ne = tt
-change_leaves m (event.Take r u) (model.TookEntry e) q ne = tt
-change_leaves m (event.Take r u) reply q ne = tt
-change_leaves m (event.Close r u) model.Done q ne = tt
-change_leaves m (event.Close r u) reply q ne = tt
-change_leaves m (event.Vouch r v) (model.Vouched x) q ne = tt
-change_leaves m (event.Vouch r v) reply q ne = tt
-change_leaves m (event.Release r n) model.Done q ne = found_leaves (numbered m.receipts n) (Releases r) q (λ x. ne)
-change_leaves m (event.Release r n) reply q ne = tt
+-- an act changes what its own replica holds, and nothing that another does
+taken_leaves : (m : MailMoment) (r n : ℕ) (reply : model.Reply MailCard) (q : ℕ) → q ≢ r → Leaves (change_by_reply m r n reply) q
+taken_leaves m r n model.Took q ne = found_leaves (numbered m.given n) (λ x. Takes r x AsTaken) q (λ x. ne)
+taken_leaves m r n model.Known q ne = found_leaves (numbered m.given n) (λ x. Takes r x AsKnown) q (λ x. ne)
+taken_leaves m r n model.Finished q ne = found_leaves (numbered m.given n) (λ x. Takes r x AsFinished) q (λ x. ne)
+taken_leaves m r n reply q ne = tt
+
+change_leaves : (m : MailMoment) (r : ℕ) (a : Act Mail) (reply : model.Reply MailCard) (q : ℕ) → q ≢ r → Leaves (change_of m r a reply) q
+change_leaves m r (act.Create message) (model.Issued v) q ne = ne
+change_leaves m r (act.Edit bases message) (model.Issued v) q ne = ne
+change_leaves m r (act.Receive n) reply q ne = taken_leaves m r n reply q ne
+change_leaves m r (act.DeliverPart n bytes) reply q ne = taken_leaves m r n reply q ne
+change_leaves m r (act.Answer n) (model.Streaming t) q ne = found_leaves (numbered m.asks n) (Opens r t) q (λ x. tt)
+change_leaves m r (act.Release n) model.Done q ne = found_leaves (numbered m.receipts n) (Releases r) q (λ x. ne)
+change_leaves m r a model.Refused q ne = tt
+change_leaves m r a reply q ne = tt
 
 -- ---- a history without events of q
 
-held_still : (filters : ℕ → List ClauseParts) (m : MailMoment) (xs : List Answered) (q : ℕ) → All (λ x. q ≢ replica_of x.event) xs → (after (setting_of filters) m (history_from filters m xs)).holding q ≡ m.holding q
+held_still : (filters : ℕ → List ClauseParts) (m : MailMoment) (xs : List Answered) (q : ℕ) → All (λ x. q ≢ x.event.replica) xs → (after (setting_of filters) m (history_from filters m xs)).holding q ≡ m.holding q
 held_still filters m [] q all = refl
 held_still filters m (x ∷ xs) q all =
-    held_still filters (happens (setting_of filters) m (change m (seen_step m x))) xs q (All-tail (λ (x : Answered). q ≢ replica_of x.event) x xs all)
-    ∙ leaves_holding (setting_of filters) m (change m (seen_step m x)) q (change_leaves m x.event _ q (All-head (λ (x : Answered). q ≢ replica_of x.event) x xs all))
+    held_still filters (happens (setting_of filters) m (change m (seen_step m x))) xs q (All-tail (λ (x : Answered). q ≢ x.event.replica) x xs all)
+    ∙ leaves_holding (setting_of filters) m (change m (seen_step m x)) q (change_leaves m x.event.replica x.event.act _ q (All-head (λ (x : Answered). q ≢ x.event.replica) x xs all))
 
 -- ---- who was asked
 
 module _ {K : Type 0} where
   -- each event was for a replica that is there
   abbrev AskedMembers : WorldView K → Type 0
-  AskedMembers w = All (λ x. is_none (member_at w.members (replica_of x.event)) ≡ false) w.answers
+  AskedMembers w = All (λ x. is_none (member_at w.members x.event.replica) ≡ false) w.answers
 
   there_still : (w w' : WorldView K) (q : ℕ) → ids_of w'.members ≡ ids_of w.members → is_none (member_at w.members q) ≡ false → is_none (member_at w'.members q) ≡ false
   there_still w w' q ids h = there_if w'.members q ∙ ap (λ (xs : List ℕ). is_none (find (λ i. i == q) xs)) ids ∙ sym (there_if w.members q) ∙ h
 
-  asked_there : (w : WorldView K) (e : Event) → stop_fault w e ≡ None → is_none (member_at w.members (replica_of e)) ≡ false
-  asked_there w e h = by (is_none (member_at w.members (replica_of e))) h
+  asked_there : (w : WorldView K) (e : Event Mail) → stop_fault w e ≡ None → is_none (member_at w.members e.replica) ≡ false
+  asked_there w e h = by (is_none (member_at w.members e.replica)) h
     where
-      by : (a : Bool) → cond a (Some NoSuchReplica) (cond (names_no_frame w e) (Some NoSuchFrame) None) ≡ None → a ≡ false
+      by : (a : Bool) → cond a (Some NoSuchReplica) (cond (is_none (asked_in w e.act)) (Some NoSuchFrame) None) ≡ None → a ≡ false
       by true is = cc (is)
       by false is = refl
 
 module _ {K : Type 0} (form : Form K) where
-  asked_on : (w w' : WorldView K) (e : Event) (answer : Answer) → Happens form w e answer w' → AskedMembers w → AskedMembers w'
-  asked_on w w' e answer h all = subst (All (λ x. is_none (member_at w'.members (replica_of x.event)) ≡ false)) (sym h.answers)
-      (All-append (λ x. is_none (member_at w'.members (replica_of x.event)) ≡ false) w.answers (answered e answer ∷ [])
-      (All-weaker (λ x. is_none (member_at w.members (replica_of x.event)) ≡ false) (λ x. is_none (member_at w'.members (replica_of x.event)) ≡ false) (λ x there. there_still w w' (replica_of x.event) h.ids there) w.answers all)
-      (All-cons (λ x. is_none (member_at w'.members (replica_of x.event)) ≡ false) (answered e answer) [] (there_still w w' (replica_of e) h.ids (asked_there w e h.may)) (All-nil (λ x. is_none (member_at w'.members (replica_of x.event)) ≡ false))))
+  asked_on : (w w' : WorldView K) (e : Event Mail) (answer : Answer) → Happens form w e answer w' → AskedMembers w → AskedMembers w'
+  asked_on w w' e answer h all = subst (All (λ x. is_none (member_at w'.members x.event.replica) ≡ false)) (sym h.answers)
+      (All-append (λ x. is_none (member_at w'.members x.event.replica) ≡ false) w.answers (answered e answer ∷ [])
+      (All-weaker (λ x. is_none (member_at w.members x.event.replica) ≡ false) (λ x. is_none (member_at w'.members x.event.replica) ≡ false) (λ x there. there_still w w' x.event.replica h.ids there) w.answers all)
+      (All-cons (λ x. is_none (member_at w'.members x.event.replica) ≡ false) (answered e answer) [] (there_still w w' e.replica h.ids (asked_there w e h.may)) (All-nil (λ x. is_none (member_at w'.members x.event.replica) ≡ false))))
 
-  asked_all : (w w' : WorldView K) (events : List Event) → Leads form w events w' → AskedMembers w → AskedMembers w'
+  asked_all : (w w' : WorldView K) (events : List (Event Mail)) → Leads form w events w' → AskedMembers w → AskedMembers w'
   asked_all w w' [] h all = subst AskedMembers (sym h) all
   asked_all w w' (e ∷ events) h all = asked_all h.0 w' events h.3 (asked_on w h.0 e h.1 h.2 all)
 
   asked_since : (ends : List (State K)) (w : WorldView K) → IsWorldOf form ends w → AskedMembers w
-  asked_since ends w of = asked_all of.start w of.events of.leads (subst (All (λ x. is_none (member_at of.start.members (replica_of x.event)) ≡ false)) (sym of.is_start.made.answers) (All-nil (λ x. is_none (member_at of.start.members (replica_of x.event)) ≡ false)))
+  asked_since ends w of = asked_all of.start w of.events of.leads (subst (All (λ x. is_none (member_at of.start.members x.event.replica) ≡ false)) (sym of.is_start.made.answers) (All-nil (λ x. is_none (member_at of.start.members x.event.replica) ≡ false)))
 
   -- where no replica has the id, nothing is held by it
   pub nothing_held : (ends : List (State K)) (w : WorldView K) → IsWorldOf form ends w → (q : ℕ) → member_at w.members q ≡ None → (v : Name) → Holds (moment_of w) q v → ⊥
@@ -139,11 +120,11 @@ module _ {K : Type 0} (form : Form K) where
       differ : {b : Bool} → b ≡ true → b ≡ false → ⊥
       differ is_true is_false = cc (is_true, is_false)
 
-      other : (x : Answered) → is_none (member_at w.members (replica_of x.event)) ≡ false → q ≢ replica_of x.event
+      other : (x : Answered) → is_none (member_at w.members x.event.replica) ≡ false → q ≢ x.event.replica
       other x there is = differ (sym (ap (λ (r : ℕ). is_none (member_at w.members r)) is) ∙ ap is_none none) there
 
       still : (moment_of w).holding q ≡ (let s : MailMoment = start in s.holding q)
-      still = held_still (filters_of w) start w.answers q (All-weaker (λ x. is_none (member_at w.members (replica_of x.event)) ≡ false) (λ x. q ≢ replica_of x.event) other w.answers (asked_since ends w of))
+      still = held_still (filters_of w) start w.answers q (All-weaker (λ x. is_none (member_at w.members x.event.replica) ≡ false) (λ x. q ≢ x.event.replica) other w.answers (asked_since ends w of))
 
       by : ((moment_of w).holding q).stored v ≡ false → ((moment_of w).holding q).pushed_out v ≡ false → Holds (moment_of w) q v → ⊥
       by s p (inl h) = cc (s, h)

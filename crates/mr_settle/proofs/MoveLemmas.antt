@@ -1,10 +1,11 @@
 -- What becomes of a world by one event of one of its replicas.
-use Rattle.std.proofs.Common.{◌≡◌, ◌≢◌, ◌==◌, refl, sym, ap, subst, ◌∙◌, ℕ, Bool, true, false, cond, ◌||◌, List, [], ◌∷◌, ◌++◌, map, Option, Some, None, Result, Ok, Err, inl, inr, ◌⊎◌, eq-eqb}
+use Rattle.std.proofs.Common.{◌≡◌, ◌≢◌, ◌==◌, refl, sym, ap, subst, ◌∙◌, ℕ, Bool, true, false, cond, List, [], ◌∷◌, Option, Some, None, Result, Ok, Err, inl, inr, eq-eqb}
 use Rattle.std.specs.Prelude.{is_none, find}
-use Rattle.std.specs.List.{list_any}
 use Rattle.std.specs.Option.{option_map}
 use Rattle.mr_forms.specs.Known.{Form}
+use Rattle.mr_mail.specs.Mail.{Mail}
 use Rattle.mr_model.specs.Moment.{at}
+use Rattle.mr_model.specs.declared.event.Event.{Event}
 use Rattle.mr_replica.specs.State.{State}
 use Rattle.mr_replica.specs.Step.{Steps}
 use Rattle.mr_replica.specs.declared.event.Event.{Event as ReplicaEvent}
@@ -15,13 +16,13 @@ use Rattle.mr_replica.specs.declared.refusal.Refusal.TheVariants.{OutOfMemory}
 use Rattle.mr_wire.specs.Frames.{Question, Sent}
 use Rattle.mr_wire.specs.declared.frame.Receipt.{Receipt}
 use Rattle.mr_world.specs.Kept.{WorldView, MemberView, member_at, replica_at, found_or, world_of}
-use Rattle.mr_world.specs.Moves.{Moves, StepsAt}
-use Rattle.mr_world.specs.Run.{Happens, ids_of, answered}
+use Rattle.mr_world.specs.Moves.{StepsAt}
+use Rattle.mr_world.specs.Run.{Happens, ids_of}
 use Rattle.mr_world.specs.World.{Port, World, with_given, with_replica}
 use Rattle.mr_world.specs.declared.answer.Answer.{Answer}
 use Rattle.mr_world.specs.declared.answer.Answer.TheVariants.{Stepped}
-use Rattle.mr_world.specs.declared.event.Event.{Event}
 use Rattle.mr_world.proofs.Groundwork.AtPlaces.{at_other}
+use Rattle.mr_world.proofs.Moving.Asking.{step_of}
 use Rattle.mr_settle.specs.Numbers.{Grew}
 use Rattle.mr_settle.proofs.ListLemmas.{some_one}
 use Rattle.mr_settle.proofs.NamedLemmas.{IsNamed}
@@ -164,7 +165,8 @@ module _ {K : Type 0} (form : Form K) where
       at_itself = let same : (r == r) ≡ true = eq-eqb r r refl in rw same refl
   stepped_turns w w' r e answer m there ids h = absurd h
 
-  pub turns : (w w' : WorldView K) (r : ℕ) (e : ReplicaEvent) (we : Event) (answer : Answer) (s : State K) → IsNamed w r e we → replica_at w.members r ≡ Some s → Happens form w we answer w' → Turns form w r e answer w'
+  pub turns : (w w' : WorldView K) (r : ℕ) (e : ReplicaEvent) (we : Event Mail) (answer : Answer) (s : State K) → IsNamed w r e we → replica_at w.members r ≡ Some s → Happens form w we answer w' → Turns form w r e answer w'
   turns w w' r e we answer s named there h =
       let m = replica_from w.members r s there in
-      stepped_turns w w' r e answer m.0 m.1 h.ids (named.steps form (world_of (λ _. m.0) m.0.indexer w) (world_of (λ _. m.0) m.0.indexer w') answer refl refl refl (h.moves (λ _. m.0) m.0.indexer))
+      let steps = step_of form (world_of (λ _. m.0) m.0.indexer w) we e answer (world_of (λ _. m.0) m.0.indexer w') named.asks (h.moves (λ _. m.0) m.0.indexer) in
+      stepped_turns w w' r e answer m.0 m.1 h.ids (subst (λ (q : ℕ). StepsAt form (world_of (λ _. m.0) m.0.indexer w) q e answer (world_of (λ _. m.0) m.0.indexer w')) named.is_for steps)

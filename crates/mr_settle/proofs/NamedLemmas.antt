@@ -1,32 +1,33 @@
--- An event of a world that is named for a replica's event asks just for that.
-use Rattle.std.proofs.Common.{◌≡◌, ◌≢◌, refl, sym, ap, subst, ◌∙◌, ℕ, Bool, true, false, List, [], ◌∷◌, Option, Some, None, Result, Ok, Err}
-use Rattle.std.specs.Prelude.{is_none}
-use Rattle.std.specs.Option.{option_map}
-use Rattle.mr_forms.specs.Known.{Form}
+-- The act that is named for a log's event asks for just that, and where none is named no act does.
+use Rattle.std.proofs.Common.{◌≡◌, refl, sym, ap, subst, ◌∙◌, cond, ℕ, Bool, true, false, List, Option, Some, None}
+use Rattle.std.specs.Prelude.{nat_lt}
+use Rattle.std.specs.Option.{IsSomeAnd, MatchOption, option_map}
+use Rattle.mr_mail.specs.Mail.{Mail}
 use Rattle.mr_model.specs.Moment.{numbered}
 use Rattle.mr_model.specs.Rules.{In}
+use Rattle.mr_model.specs.declared.event.Act.{Act}
+use Rattle.mr_model.specs.declared.event.Act.TheVariants as act
+use Rattle.mr_model.specs.declared.event.Event.{Event}
+use Rattle.mr_model.proofs.Sets.{numbered_in}
 use Rattle.mr_replica.specs.declared.event.Event.{Event as ReplicaEvent}
 use Rattle.mr_replica.specs.declared.event.Event.TheVariants as replica
 use Rattle.mr_wire.specs.Frames.{Question, Sent}
-use Rattle.mr_wire.specs.Grammar.{Spells}
 use Rattle.mr_wire.specs.declared.frame.Frame.{Frame}
 use Rattle.mr_wire.specs.declared.frame.Frame.TheVariants as frame
 use Rattle.mr_wire.specs.declared.frame.Receipt.{Receipt}
-use Rattle.mr_world.specs.Event.{replica_of}
-use Rattle.mr_world.specs.Kept.{WorldView, MemberView, world_of}
-use Rattle.mr_world.specs.Moves.{Moves, StepsAt}
+use Rattle.mr_wire.proofs.DecodeLaws.{spelled_once}
+use Rattle.mr_world.specs.Asked.{asked, answering, delivering, receiving, record_len, releasing}
+use Rattle.mr_world.specs.Kept.{WorldView}
 use Rattle.mr_world.specs.Pool.{question_of, sent_of, receipt_of}
-use Rattle.mr_world.specs.World.{Port, World}
-use Rattle.mr_world.specs.declared.answer.Answer.{Answer}
-use Rattle.mr_world.specs.declared.event.Event.{Event}
-use Rattle.mr_world.specs.declared.event.Event.TheVariants as event
-use Rattle.mr_settle.specs.Numbers.{Numbering, Tells}
-use Rattle.mr_settle.proofs.PoolLemmas.{one_spelled, numbered_in}
-use Rattle.mr_settle.specs.History.{asked_by}
-use Rattle.mr_settle.specs.Named.{GivenNumbers, IsNumberOf, NamesBy, NamesFrame, Names}
-use Rattle.mr_settle.specs.Stuck.{HasItsFrame}
+use Rattle.mr_world.specs.Run.{asked_in}
+use Rattle.mr_world.specs.declared.task.Task.{Task}
+use Rattle.mr_world.specs.declared.task.Task.TheVariants as task
+use Rattle.mr_settle.specs.Carried.{HasBytes, carried}
+use Rattle.mr_settle.specs.Named.{AsksFor, GivenNumbers, Names}
+use Rattle.mr_settle.specs.Numbers.{Numbering, Tells, found_in}
 use Rattle.mr_settle.specs.Way.{TellAll}
 use Rattle.mr_settle.proofs.ListLemmas.{some_one}
+use Rattle.mr_settle.proofs.PoolLemmas.{one_spelled}
 
 -- ---- a frame is of one thing
 
@@ -41,74 +42,126 @@ one_receipt x y e = some_one x y (Some x) refl (ap (λ (f : Frame). receipt_of (
 
 -- ---- a number is of the frame
 
+-- it is the number of x in the pool; or x is not there
+abbrev IsNumberIn : {A : Type 0} → List A → A → Option ℕ → Type 0
+IsNumberIn pool x (Some n) = numbered pool n ≡ Some x
+IsNumberIn pool x None = In x pool → ⊥
+
 module _ {A : Type 0} (frame_of : A → Frame) (value_of : (x y : A) → frame_of x ≡ frame_of y → x ≡ y) where
-  pub number_of : (pool : List A) (numbers : Numbering) (x : A) (n : ℕ) → Tells frame_of pool numbers → IsNumberOf numbers (frame_of x) (Some n) → numbered pool n ≡ Some x
-  number_of pool numbers x n tells h =
-      let told = tells.found h.0 n h.2 in
-      told.1 ∙ ap (λ (z : A). Some z) (one_spelled frame_of value_of told.0 x h.0 told.2 h.1)
+  -- what is found by the bytes of a frame is its number
+  number_found : (pool : List A) (numbers : Numbering) (x : A) (bytes : Option (List ℕ)) → Tells frame_of pool numbers → HasBytes (Some (frame_of x)) bytes → IsNumberIn pool x (found_in numbers bytes)
+  number_found pool numbers x None tells unspelled = λ i. (let told = tells.all x i in unspelled told.0 told.1)
+  number_found pool numbers x (Some bytes) tells spells = by (numbers bytes) refl
+    where
+      by : (o : Option ℕ) → numbers bytes ≡ o → IsNumberIn pool x o
+      by (Some n) is = let told = tells.found bytes n is in told.1 ∙ ap (λ (z : A). Some z) (one_spelled frame_of value_of told.0 x bytes told.2 spells)
+      by None is = λ i. (let told = tells.all x i in told.2 (ap numbers (spelled_once 2 (frame_of x) told.0 bytes told.1 spells) ∙ is))
 
-no_some : {A : Type 0} (x : A) → (let o : Option A = None in o ≡ Some x) → ⊥
-no_some x e = cc
+-- ---- what an act asks for was given
 
--- The event asks the replica r for just this, and moves a world by the replica's step.
-pub record IsNamed {K : Type 0} (w : WorldView K) (r : ℕ) (e : ReplicaEvent) (we : Event) : Type 1 where
-  pub is_for : replica_of we ≡ r
-  pub asks : asked_by w we ≡ Some e
-  pub steps : (form : Form K) (W W' : World K) (answer : Answer) → W.asks ≡ w.asks → W.records ≡ w.records → W.receipts ≡ w.receipts → Moves form W we answer W' → StepsAt form W r e answer W'
+module _ (asks : List Question) (records : List Sent) (receipts : List Receipt) where
+  -- the frame that the event carries, if it carries one, is in its pool
+  abbrev IsGiven : ReplicaEvent → Type 0
+  IsGiven (replica.Receive f) = (sent : Sent) × (f ≡ frame.Record sent) × In sent records
+  IsGiven (replica.Answer question) = In question asks
+  IsGiven (replica.Release receipt) = In receipt receipts
+  IsGiven event = Unit {0}
 
-of_some : (x y : Event) → (let o : Option Event = Some x in o ≡ Some y) → x ≡ y
-of_some x y e = some_one x y (Some x) refl e
+  abbrev IsGivenFor : Option Task → Type 0
+  IsGivenFor (Some (task.Step event)) = IsGiven event
+  IsGivenFor o = Unit {0}
+
+  given_for_one : {A : Type 0} (asks_for : A → Task) (pool : List A) (n : ℕ) → ((x : A) → In x pool → IsGivenFor (Some (asks_for x))) → IsGivenFor (option_map asks_for (numbered pool n))
+  given_for_one {A} asks_for pool n each = by (numbered pool n) (numbered_in pool n)
+    where
+      by : (o : Option A) → ((x : A) → o ≡ Some x → In x pool) → IsGivenFor (option_map asks_for o)
+      by None there = tt
+      by (Some x) there = each x (there x refl)
+
+  given_for : (a : Act Mail) → IsGivenFor (asked asks records receipts a)
+  given_for (act.Receive n) = given_for_one receiving records n (λ sent i. (sent, refl, i))
+  given_for (act.DeliverPart n bytes) = given_for_one (delivering bytes) records n (λ sent i. part (nat_lt bytes (record_len sent)) sent i)
+    where
+      part : (b : Bool) (sent : Sent) → In sent records → IsGivenFor (Some (cond b task.Truncated (receiving sent)))
+      part true sent i = tt
+      part false sent i = (sent, refl, i)
+  given_for (act.Answer n) = given_for_one answering asks n (λ question i. i)
+  given_for (act.Release n) = given_for_one releasing receipts n (λ receipt i. i)
+  given_for a = tt
+
+  given_if_asked : (a : Act Mail) (event : ReplicaEvent) → asked asks records receipts a ≡ Some (task.Step event) → IsGiven event
+  given_if_asked a event is = subst IsGivenFor is (given_for a)
+
+  -- by the number of what the event carries an act asks for the event; where it has none, none does
+  asks_by : {A : Type 0} (pool : List A) (x : A) (event : ReplicaEvent) (by_number : ℕ → Act Mail) (o : Option ℕ) → IsNumberIn pool x o
+      → ((n : ℕ) → numbered pool n ≡ Some x → asked asks records receipts (by_number n) ≡ Some (task.Step event)) → (IsGiven event → In x pool)
+      → AsksFor (asked asks records receipts) event (option_map by_number o)
+  asks_by pool x event by_number (Some n) number there back = there n number
+  asks_by pool x event by_number None none there back = λ a is. none (back (given_if_asked a event is))
+
+-- ---- the act that is named
+
+module _ (g : GivenNumbers) (bytes : Option (List ℕ)) (o : Option ℕ) where
+  names_answer : (question : Question) → HasBytes (carried (replica.Answer question)) bytes → o ≡ found_in g.asks bytes → Names g (replica.Answer question) (option_map (λ n. act.Answer n) o)
+  names_answer question has is = λ asks records receipts tells.
+      asks_by asks records receipts asks question (replica.Answer question) (λ n. act.Answer n) o
+      (subst (IsNumberIn asks question) (sym is) (number_found (λ x. frame.Ask x) one_ask asks g.asks question bytes tells.of_asks has))
+      (λ n number. ap (option_map answering) number) (λ given. given)
+
+  names_release : (receipt : Receipt) → HasBytes (carried (replica.Release receipt)) bytes → o ≡ found_in g.receipts bytes → Names g (replica.Release receipt) (option_map (λ n. act.Release n) o)
+  names_release receipt has is = λ asks records receipts tells.
+      asks_by asks records receipts receipts receipt (replica.Release receipt) (λ n. act.Release n) o
+      (subst (IsNumberIn receipts receipt) (sym is) (number_found (λ x. frame.Receipt x) one_receipt receipts g.receipts receipt bytes tells.of_receipts has))
+      (λ n number. ap (option_map releasing) number) (λ given. given)
+
+  names_record : (sent : Sent) → HasBytes (Some (frame.Record sent)) bytes → o ≡ found_in g.records bytes → Names g (replica.Receive (frame.Record sent)) (option_map (λ n. act.Receive n) o)
+  names_record sent has is = λ asks records receipts tells.
+      asks_by asks records receipts records sent (replica.Receive (frame.Record sent)) (λ n. act.Receive n) o
+      (subst (IsNumberIn records sent) (sym is) (number_found (λ x. frame.Record x) one_record records g.records sent bytes tells.of_records has))
+      (λ n number. ap (option_map receiving) number) (λ given. subst (λ (x : Sent). In x records) (sym (one_record sent given.0 given.1)) given.2)
+
+  -- no act asks a replica to take what is no record
+  names_none : (f : Frame) → ((sent : Sent) → f ≡ frame.Record sent → ⊥) → bytes ≡ None → o ≡ found_in g.records bytes → Names g (replica.Receive f) (option_map (λ n. act.Receive n) o)
+  names_none f other none is = subst (λ (p : Option ℕ). Names g (replica.Receive f) (option_map (λ n. act.Receive n) p)) (sym (is ∙ ap (found_in g.records) none))
+      (λ asks records receipts tells a asked_for. (let given = given_if_asked asks records receipts a (replica.Receive f) asked_for in other given.0 given.1))
+
+  names_receive : (f : Frame) → HasBytes (carried (replica.Receive f)) bytes → o ≡ found_in g.records bytes → Names g (replica.Receive f) (option_map (λ n. act.Receive n) o)
+  names_receive (frame.Record sent) has is = names_record sent has is
+  names_receive (frame.Ask question) none is = names_none (frame.Ask question) (λ sent e. cc) none is
+  names_receive (frame.Receipt receipt) none is = names_none (frame.Receipt receipt) (λ sent e. cc) none is
+
+-- by `Option::map` the act is made of the number, where there is one
+abbrev IsMade : (ℕ → Act Mail) → Option ℕ → Option (Act Mail) → Type 0
+IsMade by_number o named = MatchOption o (named ≡ None) (λ n. IsSomeAnd named (λ a. a ≡ by_number n))
+
+is_mapped : (by_number : ℕ → Act Mail) (o : Option ℕ) (named : Option (Act Mail)) → IsMade by_number o named → named ≡ option_map by_number o
+is_mapped by_number None named made = made
+is_mapped by_number (Some n) (Some a) made = ap (λ (z : Act Mail). Some z) made
+is_mapped by_number (Some n) None made = absurd made
+
+module _ (g : GivenNumbers) (event : ReplicaEvent) (bytes : Option (List ℕ)) (has : HasBytes (carried event) bytes) (o : Option ℕ) (named : Option (Act Mail)) where
+  names_made : (same : ReplicaEvent) (by_number : ℕ → Act Mail) → event ≡ same → IsMade by_number o named → (HasBytes (carried same) bytes → Names g same (option_map by_number o)) → Names g event named
+  names_made same by_number is made names =
+      subst (λ (e : ReplicaEvent). Names g e named) (sym is)
+      (subst (λ (p : Option (Act Mail)). Names g same p) (sym (is_mapped by_number o named made))
+      (names (subst (λ (e : ReplicaEvent). HasBytes (carried e) bytes) is has)))
+
+  pub named_receive : (f : Frame) → event ≡ replica.Receive f → o ≡ found_in g.records bytes → IsMade (λ n. act.Receive n) o named → Names g event named
+  named_receive f is found made = names_made (replica.Receive f) (λ n. act.Receive n) is made (λ it_has. names_receive g bytes o f it_has found)
+
+  pub named_answer : (question : Question) → event ≡ replica.Answer question → o ≡ found_in g.asks bytes → IsMade (λ n. act.Answer n) o named → Names g event named
+  named_answer question is found made = names_made (replica.Answer question) (λ n. act.Answer n) is made (λ it_has. names_answer g bytes o question it_has found)
+
+  pub named_release : (receipt : Receipt) → event ≡ replica.Release receipt → o ≡ found_in g.receipts bytes → IsMade (λ n. act.Release n) o named → Names g event named
+  named_release receipt is found made = names_made (replica.Release receipt) (λ n. act.Release n) is made (λ it_has. names_release g bytes o receipt it_has found)
+
+-- ---- in a world
+
+-- The event is for the replica r, and asks it for just this.
+pub record IsNamed {K : Type 0} (w : WorldView K) (r : ℕ) (e : ReplicaEvent) (we : Event Mail) : Type 0 where
+  pub is_for : we.replica ≡ r
+  pub asks : asked_in w we.act ≡ Some (task.Step e)
 
 module _ {K : Type 0} where
-  plain : (w : WorldView K) (r : ℕ) (e : ReplicaEvent) (made we : Event) → replica_of made ≡ r → asked_by w made ≡ Some e
-      → ((form : Form K) (W W' : World K) (answer : Answer) → Moves form W made answer W' → StepsAt form W r e answer W') → (let o : Option Event = Some we in o ≡ Some made) → IsNamed w r e we
-  plain w r e made we is_for asks steps is = subst (λ (x : Event). IsNamed w r e x) (sym (of_some we made is)) (record { is_for = is_for; asks = asks; steps = λ form W W' answer a b c h. steps form W W' answer h })
-
-  received : (w : WorldView K) (r n : ℕ) (sent : Sent) → numbered w.records n ≡ Some sent → IsNamed w r (replica.Receive (frame.Record sent)) (event.Receive r n)
-  received w r n sent is = record {
-    is_for = refl;
-    asks = ap (option_map (λ (x : Sent). replica.Receive (frame.Record x))) is;
-    steps = λ form W W' answer a b c h.
-        let same : h.0 ≡ sent = some_one h.0 sent (numbered W.records n) h.1 (ap (λ (xs : List Sent). numbered xs n) b ∙ is) in
-        subst (λ (x : Sent). StepsAt form W r (replica.Receive (frame.Record x)) answer W') same h.2;
-  }
-
-  answered : (w : WorldView K) (r n : ℕ) (question : Question) → numbered w.asks n ≡ Some question → IsNamed w r (replica.Answer question) (event.Answer r n)
-  answered w r n question is = record {
-    is_for = refl;
-    asks = ap (option_map (λ (x : Question). replica.Answer x)) is;
-    steps = λ form W W' answer a b c h.
-        let same : h.0 ≡ question = some_one h.0 question (numbered W.asks n) h.1 (ap (λ (xs : List Question). numbered xs n) a ∙ is) in
-        subst (λ (x : Question). StepsAt form W r (replica.Answer x) answer W') same h.2;
-  }
-
-  released : (w : WorldView K) (r n : ℕ) (receipt : Receipt) → numbered w.receipts n ≡ Some receipt → IsNamed w r (replica.Release receipt) (event.Release r n)
-  released w r n receipt is = record {
-    is_for = refl;
-    asks = ap (option_map (λ (x : Receipt). replica.Release x)) is;
-    steps = λ form W W' answer a b c h.
-        let same : h.0 ≡ receipt = some_one h.0 receipt (numbered W.receipts n) h.1 (ap (λ (xs : List Receipt). numbered xs n) c ∙ is) in
-        subst (λ (x : Receipt). StepsAt form W r (replica.Release x) answer W') same h.2;
-  }
-
-  named_frame : (w : WorldView K) (g : GivenNumbers) (r : ℕ) (f : Frame) (we : Event) → TellAll w g → NamesFrame g r f (Some we) → IsNamed w r (replica.Receive f) we
-  named_frame w g r (frame.Record sent) we tells h =
-      subst (λ (x : Event). IsNamed w r (replica.Receive (frame.Record sent)) x) (sym h.2) (received w r h.0 sent (number_of (λ x. frame.Record x) one_record w.records g.records sent h.0 tells.records h.1))
-  named_frame w g r (frame.Ask question) we tells h = absurd (no_some we (sym h))
-  named_frame w g r (frame.Receipt receipt) we tells h = absurd (no_some we (sym h))
-
-  -- the event that is named is the replica's
-  pub named : (w : WorldView K) (g : GivenNumbers) (r : ℕ) (e : ReplicaEvent) (we : Event) → TellAll w g → Names g r e (Some we) → IsNamed w r e we
-  named w g r (replica.Create message) we tells h = plain w r (replica.Create message) (event.Create r message) we refl refl (λ form W W' answer m. m) h
-  named w g r (replica.Edit bases message) we tells h = plain w r (replica.Edit bases message) (event.Edit r bases message) we refl refl (λ form W W' answer m. m) h
-  named w g r replica.Retire we tells h = plain w r replica.Retire (event.Retire r) we refl refl (λ form W W' answer m. m) h
-  named w g r replica.Pull we tells h = plain w r replica.Pull (event.Pull r) we refl refl (λ form W W' answer m. m) h
-  named w g r (replica.Receive f) we tells h = named_frame w g r f we tells h
-  named w g r (replica.CutIn session) we tells h = plain w r (replica.CutIn session) (event.CutIn r session) we refl refl (λ form W W' answer m. m) h
-  named w g r (replica.Answer question) we tells h =
-      subst (λ (x : Event). IsNamed w r (replica.Answer question) x) (sym h.2) (answered w r h.0 question (number_of (λ x. frame.Ask x) one_ask w.asks g.asks question h.0 tells.asks h.1))
-  named w g r (replica.Next stream) we tells h = plain w r (replica.Next stream) (event.Next r stream) we refl refl (λ form W W' answer m. m) h
-  named w g r (replica.CutOut stream) we tells h = plain w r (replica.CutOut stream) (event.CutOut r stream) we refl refl (λ form W W' answer m. m) h
-  named w g r (replica.Vouch version) we tells h = plain w r (replica.Vouch version) (event.Vouch r version) we refl refl (λ form W W' answer m. m) h
-  named w g r (replica.Release receipt) we tells h =
-      subst (λ (x : Event). IsNamed w r (replica.Release receipt) x) (sym h.2) (released w r h.0 receipt (number_of (λ x. frame.Receipt x) one_receipt w.receipts g.receipts receipt h.0 tells.receipts h.1))
+  pub named : (w : WorldView K) (g : GivenNumbers) (r : ℕ) (e : ReplicaEvent) (we : Event Mail) → TellAll w g → we.replica ≡ r → Names g e (Some we.act) → IsNamed w r e we
+  named w g r e we tells is_for names = record { is_for = is_for; asks = names w.asks w.records w.receipts tells }

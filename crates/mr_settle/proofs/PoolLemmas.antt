@@ -1,11 +1,11 @@
 -- The numbers of a pool that grows.
-use Rattle.std.proofs.Common.{◌≡◌, ◌≢◌, ◌≤◌, ◌<◌, refl, sym, ap, subst, ◌∙◌, ◌+◌, ◌==◌, cond, arith, ℕ, suc, Bool, true, false, List, [], ◌∷◌, length, Option, Some, None, inl, inr, ◌⊎◌, eqb-true, eq-eqb}
+use Rattle.std.proofs.Common.{◌≡◌, ◌≢◌, ◌≤◌, refl, sym, ap, subst, ◌∙◌, ◌+◌, ◌==◌, cond, arith, ℕ, Bool, true, false, List, [], ◌∷◌, length, Option, Some, None, inl, inr, ◌⊎◌, eqb-true, eq-eqb}
 use Rattle.std.specs.Prelude.{is_none}
 use Rattle.mr_model.specs.Moment.{numbered}
 use Rattle.mr_model.specs.Rules.{In}
 use Rattle.mr_wire.specs.Grammar.{Spells}
 use Rattle.mr_wire.specs.declared.frame.Frame.{Frame}
-use Rattle.mr_wire.proofs.DecodeLaws.{begins_no_other, spelled_once}
+use Rattle.mr_wire.proofs.DecodeLaws.{begins_no_other}
 use Rattle.std.specs.Str.{bytes_eq}
 use Rattle.std.proofs.lemmas.Slice.Eq.{bytes_eq-Decides}
 use Rattle.mr_world.specs.Pool.{GivesFrame}
@@ -52,14 +52,6 @@ module _ {A : Type 0} where
       by : (b : Bool) → (n == length xs + 1) ≡ b → n ≤ length xs → b ≡ false
       by true is within = let at = eqb-true n (length xs + 1) is in absurd (omega (arith, at, within))
       by false is within = refl
-
-  pub numbered_in : (xs : List A) (n : ℕ) (x : A) → numbered xs n ≡ Some x → In x xs
-  numbered_in [] n x e = absurd (not_none x (sym e))
-  numbered_in (y ∷ older) n x e = by (n == length older + 1) e (numbered_in older n x)
-    where
-      by : (b : Bool) → cond b (Some y) (numbered older n) ≡ Some x → (numbered older n ≡ Some x → In x older) → In x (y ∷ older)
-      by true h later = inl cc
-      by false h later = inr (later h)
 
   pub numbered_newest : (x : A) (xs : List A) → numbered (x ∷ xs) (length (x ∷ xs)) ≡ Some x
   numbered_newest x xs = let is : (length (x ∷ xs) == length xs + 1) ≡ true = eq-eqb (length (x ∷ xs)) (length xs + 1) (omega arith) in rw is refl

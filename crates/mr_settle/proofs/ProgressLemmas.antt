@@ -1,11 +1,11 @@
 -- How far logs have come, place by place.
-use Rattle.std.proofs.Common.{◌≡◌, ◌<◌, refl, sym, ap, subst, ◌∙◌, arith, ℕ, zero, suc, List, [], ◌∷◌, length, map, Option, Some, None}
+use Rattle.std.proofs.Common.{◌≡◌, refl, sym, ap, subst, ◌∙◌, ℕ, zero, suc, List, [], ◌∷◌, length, map, Option, Some, None}
 use Rattle.std.specs.Prelude.{slice_set}
 use Rattle.std.specs.List.{slice_get, AllZip}
 use Rattle.std.specs.Option.{option_map}
 use Rattle.mr_replica.specs.State.{State}
 use Rattle.mr_settle.specs.declared.progress.Progress.{Progress}
-use Rattle.mr_settle.specs.Carried.{IsUpToDate, IsProgressAt, AreAtStart, done_of}
+use Rattle.mr_settle.specs.Carried.{IsUpToDate, AreAtStart, done_of}
 use Rattle.mr_settle.proofs.ListLemmas.{some_one}
 
 none_some : {A : Type 0} (x : A) → (let o : Option A = None in o ≡ Some x) → ⊥

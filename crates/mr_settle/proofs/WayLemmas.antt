@@ -1,6 +1,6 @@
 -- How a world comes along the logs, event by event.
-use Rattle.std.proofs.Common.{◌≡◌, ◌≢◌, ◌≤◌, ◌<◌, refl, sym, ap, subst, ◌∙◌, ◌+◌, ◌==◌, cond, arith, ℕ, zero, suc, Bool, true, false, List, [], ◌∷◌, ◌++◌, length, map, take, Option, Some, None, Result, Ok, Err, inl, inr, ◌⊎◌, eq-eqb, eqb-true}
-use Rattle.std.specs.Prelude.{slice_set, All, AllPairs, is_none}
+use Rattle.std.proofs.Common.{◌≡◌, ◌≢◌, ◌<◌, refl, sym, ap, subst, ◌∙◌, ◌+◌, ◌==◌, cond, arith, ℕ, zero, suc, Bool, true, false, List, [], ◌∷◌, ◌++◌, length, map, take, Option, Some, None, Result, inl, inr, ◌⊎◌, eq-eqb, eqb-true}
+use Rattle.std.specs.Prelude.{slice_set, All, is_none}
 use Rattle.std.specs.List.{slice_get, AllZip}
 use Rattle.std.specs.Option.{option_map}
 use Rattle.std.proofs.lemmas.List.Elements.{All-nil}
@@ -8,33 +8,29 @@ use Rattle.mr_filter.specs.Filter.{ClauseParts}
 use Rattle.mr_forms.specs.ByMeaning.{IsByMeaning}
 use Rattle.mr_forms.specs.Known.{Form}
 use Rattle.mr_forms.proofs.PartLemmas.{AllPairs-head, AllPairs-tail}
-use Rattle.mr_model.specs.Moment.{numbered}
+use Rattle.mr_mail.specs.Mail.{Mail}
+use Rattle.mr_model.specs.declared.event.Event.{Event}
 use Rattle.mr_replica.specs.State.{State, new_state}
 use Rattle.mr_replica.specs.Step.{Steps}
-use Rattle.mr_replica.specs.Replay.{Admits, AdmitsAll, IsFresh, Replays, IsItsLog}
+use Rattle.mr_replica.specs.Replay.{IsFresh, Replays, IsItsLog}
 use Rattle.mr_replica.specs.declared.event.Event.{Event as ReplicaEvent}
 use Rattle.mr_replica.specs.declared.event.Reply.{Reply}
 use Rattle.mr_replica.specs.declared.refusal.Refusal.{Refusal}
 use Rattle.mr_wire.specs.Frames.{Question, Sent}
-use Rattle.mr_wire.specs.declared.frame.Frame.{Frame}
 use Rattle.mr_wire.specs.declared.frame.Frame.TheVariants as frame
 use Rattle.mr_wire.specs.declared.frame.Receipt.{Receipt}
-use Rattle.mr_world.specs.Event.{replica_of}
 use Rattle.mr_world.specs.Kept.{WorldView, MemberView, member_at, replica_at}
-use Rattle.mr_world.specs.Made.{IsMadeOf, IsMadeWorld}
-use Rattle.mr_world.specs.Pool.{GivesFrame}
-use Rattle.mr_world.specs.Run.{Happens, Leads, ids_of, stop_fault, names_no_frame}
+use Rattle.mr_world.specs.Made.{IsMadeOf}
+use Rattle.mr_world.specs.Run.{Happens, Leads, asked_in, ids_of, stop_fault}
 use Rattle.mr_world.specs.declared.answer.Answer.{Answer}
 use Rattle.mr_world.specs.declared.answer.Answer.TheVariants.{Stepped}
-use Rattle.mr_world.specs.declared.event.Event.{Event}
-use Rattle.mr_world.specs.declared.event.Event.TheVariants as event
 use Rattle.mr_world.specs.declared.fault.WorldFault.{WorldFault}
 use Rattle.mr_world.specs.declared.fault.WorldFault.TheVariants.{NoSuchReplica, NoSuchFrame}
 use Rattle.mr_world.specs.declared.spec.Spec.{Spec}
 use Rattle.mr_settle.proofs.AdmitLemmas.{next_admitted, replays_more}
-use Rattle.mr_settle.specs.Numbers.{Tells, KeepsUp, Grew}
+use Rattle.mr_settle.specs.Numbers.{Tells, Grew}
 use Rattle.mr_settle.proofs.PoolLemmas.{nothing_told, tells_on}
-use Rattle.mr_settle.specs.History.{asked_by, log_in, IsSpecOf, IsStartOf, IsWorldOf}
+use Rattle.mr_settle.specs.History.{log_in, IsSpecOf, IsStartOf, IsWorldOf}
 use Rattle.mr_settle.specs.Explains.{AreDistinct}
 use Rattle.mr_settle.specs.Named.{GivenNumbers, nothing_given}
 use Rattle.mr_settle.specs.Ready.{IsNext, IsReady}
@@ -54,16 +50,16 @@ use Rattle.mr_settle.proofs.LogLemmas.{names_on, log_with, log_without}
 module _ {K : Type 0} where
   pub tell_on : (w w' : WorldView K) (old new : GivenNumbers) → Grew w.asks w'.asks → Grew w.records w'.records → Grew w.receipts w'.receipts → TellAll w old → NotesNewest old w' new → TellAll w' new
   tell_on w w' old new asks records receipts tells notes = record {
-    asks = tells_on (λ x. frame.Ask x) one_ask w.asks w'.asks notes.ask old.asks new.asks tells.asks asks notes.ask_is notes.asks;
-    records = tells_on (λ x. frame.Record x) one_record w.records w'.records notes.record_ old.records new.records tells.records records notes.record_is notes.records;
-    receipts = tells_on (λ x. frame.Receipt x) one_receipt w.receipts w'.receipts notes.receipt old.receipts new.receipts tells.receipts receipts notes.receipt_is notes.receipts;
+    of_asks = tells_on (λ x. frame.Ask x) one_ask w.asks w'.asks notes.ask old.asks new.asks tells.of_asks asks notes.ask_is notes.asks;
+    of_records = tells_on (λ x. frame.Record x) one_record w.records w'.records notes.record_ old.records new.records tells.of_records records notes.record_is notes.records;
+    of_receipts = tells_on (λ x. frame.Receipt x) one_receipt w.receipts w'.receipts notes.receipt old.receipts new.receipts tells.of_receipts receipts notes.receipt_is notes.receipts;
   }
 
   pub tell_nothing : (w : WorldView K) → w.asks ≡ [] → w.records ≡ [] → w.receipts ≡ [] → TellAll w nothing_given
   tell_nothing w asks records receipts = record {
-    asks = subst (λ (xs : List Question). Tells (λ x. frame.Ask x) xs (nothing_given).asks) (sym asks) (nothing_told (λ x. frame.Ask x) one_ask);
-    records = subst (λ (xs : List Sent). Tells (λ x. frame.Record x) xs (nothing_given).records) (sym records) (nothing_told (λ x. frame.Record x) one_record);
-    receipts = subst (λ (xs : List Receipt). Tells (λ x. frame.Receipt x) xs (nothing_given).receipts) (sym receipts) (nothing_told (λ x. frame.Receipt x) one_receipt);
+    of_asks = subst (λ (xs : List Question). Tells (λ x. frame.Ask x) xs (nothing_given).asks) (sym asks) (nothing_told (λ x. frame.Ask x) one_ask);
+    of_records = subst (λ (xs : List Sent). Tells (λ x. frame.Record x) xs (nothing_given).records) (sym records) (nothing_told (λ x. frame.Record x) one_record);
+    of_receipts = subst (λ (xs : List Receipt). Tells (λ x. frame.Receipt x) xs (nothing_given).receipts) (sym receipts) (nothing_told (λ x. frame.Receipt x) one_receipt);
   }
 
   -- ---- ids
@@ -86,13 +82,13 @@ module _ {K : Type 0} where
   other_id (x ∷ xs) (suc i) (suc j) s t distinct is jt ne =
       other_id xs i j s t (AllPairs-tail (λ (a b : State K). a.id ≢ b.id) x xs distinct) is jt (λ e. ne (ap suc e))
 
--- ---- the frame is there where the event happens
+-- ---- the act asks for something where the event happens
 
 some_none : (f : WorldFault) → (let o : Option WorldFault = Some f in o ≡ None) → ⊥
 some_none f e = cc
 
-happened_named : {K : Type 0} (w : WorldView K) (e : Event) → stop_fault w e ≡ None → names_no_frame w e ≡ false
-happened_named w e h = by (is_none (member_at w.members (replica_of e))) (names_no_frame w e) h
+happened_asks : {K : Type 0} (w : WorldView K) (e : Event Mail) → stop_fault w e ≡ None → is_none (asked_in w e.act) ≡ false
+happened_asks w e h = by (is_none (member_at w.members e.replica)) (is_none (asked_in w e.act)) h
   where
     by : (a b : Bool) → cond a (Some NoSuchReplica) (cond b (Some NoSuchFrame) None) ≡ None → b ≡ false
     by true b is = absurd (some_none NoSuchReplica is)
@@ -100,11 +96,11 @@ happened_named w e h = by (is_none (member_at w.members (replica_of e))) (names_
     by false false is = refl
 
 module _ {K : Type 0} (form : Form K) where
-  pub leads_on : (w now new : WorldView K) (events : List Event) (e : Event) (answer : Answer) → Leads form w events now → Happens form now e answer new → Leads form w (events ++ e ∷ []) new
+  pub leads_on : (w now new : WorldView K) (events : List (Event Mail)) (e : Event Mail) (answer : Answer) → Leads form w events now → Happens form now e answer new → Leads form w (events ++ e ∷ []) new
   leads_on w now new [] e answer h happens = (new, answer, subst (λ (v : WorldView K). Happens form v e answer new) h happens, refl)
   leads_on w now new (x ∷ events) e answer h happens = (h.0, h.1, h.2, leads_on h.0 now new events e answer h.3 happens)
 
-  is_of_on : (ends : List (State K)) (w w' : WorldView K) (e : Event) (answer : Answer) → IsWorldOf form ends w → Happens form w e answer w' → IsWorldOf form ends w'
+  is_of_on : (ends : List (State K)) (w w' : WorldView K) (e : Event Mail) (answer : Answer) → IsWorldOf form ends w → Happens form w e answer w' → IsWorldOf form ends w'
   is_of_on ends w w' e answer of happens = record {
     start = of.start;
     is_start = of.is_start;
@@ -114,7 +110,7 @@ module _ {K : Type 0} (form : Form K) where
 
 module _ {K : Type 0} (form : Form K) (stable : IsByMeaning form) where
   -- the end whose turn it is has one more event of its log
-  turned : (w w' : WorldView K) (end : State K) (position : ℕ) (e : ReplicaEvent) (we : Event) (answer : Answer)
+  turned : (w w' : WorldView K) (end : State K) (position : ℕ) (e : ReplicaEvent) (we : Event Mail) (answer : Answer)
       → IsItsLog form end → IsAt form w end position → slice_get end.log position ≡ Some e → IsNamed w end.id e we → NamesFrames w → Happens form w we answer w' → IsAt form w' end (position + 1)
   turned w w' end position e we answer its at is_e named frames happens =
       let t = turns form w w' end.id e we answer at.replica named at.there happens in
@@ -131,7 +127,7 @@ module _ {K : Type 0} (form : Form K) (stable : IsByMeaning form) where
         there = t.is;
         within = omega (arith, low);
         log =
-            log_with w w' t.asks t.records t.receipts we answer happens.answers frames (happened_named w we happens.may) end.id e admitted.0 named.is_for named.asks
+            log_with w w' t.asks t.records t.receipts we answer happens.answers frames (happened_asks w we happens.may) end.id e admitted.0 named.is_for named.asks
             (t.answer_is ∙ ap (λ (o : Result Reply Refusal). Stepped o) admitted.1)
             ∙ ap (λ (log : List ReplicaEvent). log ++ e ∷ []) at.log ∙ sym first;
         replays = subst (λ (log : List ReplicaEvent). Replays form end.id end.filter end.event_limit log t.after) (sym first)
@@ -140,7 +136,7 @@ module _ {K : Type 0} (form : Form K) (stable : IsByMeaning form) where
       }
 
   -- the others have what they had
-  rested : (w w' : WorldView K) (end other : State K) (position : ℕ) (e : ReplicaEvent) (we : Event) (answer : Answer) (s : State K)
+  rested : (w w' : WorldView K) (end other : State K) (position : ℕ) (e : ReplicaEvent) (we : Event Mail) (answer : Answer) (s : State K)
       → other.id ≢ end.id → IsAt form w other position → IsNamed w end.id e we → replica_at w.members end.id ≡ Some s → NamesFrames w → Happens form w we answer w' → IsAt form w' other position
   rested w w' end other position e we answer s ne at named there frames happens =
       let t = turns form w w' end.id e we answer s named there happens in
@@ -148,18 +144,18 @@ module _ {K : Type 0} (form : Form K) (stable : IsByMeaning form) where
         replica = at.replica;
         there = t.others other.id at.replica ne at.there;
         within = at.within;
-        log = log_without w w' t.asks t.records t.receipts we answer happens.answers frames (happened_named w we happens.may) other.id (λ is. ne (is ∙ named.is_for)) ∙ at.log;
+        log = log_without w w' t.asks t.records t.receipts we answer happens.answers frames (happened_asks w we happens.may) other.id (λ is. ne (is ∙ named.is_for)) ∙ at.log;
         replays = at.replays;
       }
 
   -- one event more is done
-  pub goes_on : (ends : List (State K)) (w w' : WorldView K) (given : GivenNumbers) (done : List ℕ) (place position : ℕ) (we : Event) (end : State K) (e : ReplicaEvent)
+  pub goes_on : (ends : List (State K)) (w w' : WorldView K) (given : GivenNumbers) (done : List ℕ) (place position : ℕ) (we : Event Mail) (end : State K) (e : ReplicaEvent)
       → AreDistinct ends → IsItsLog form end → IsUnderWay form ends w done → TellAll w given → IsNext ends done place end position e → IsNamed w end.id e we → HappensSo form w we w'
       → IsUnderWay form ends w' (slice_set done place (position + 1))
   goes_on ends w w' given done place position we end e distinct its way tells next named happens = record {
     is_of = is_of_on form ends w w' we happens.0 way.is_of happens.1;
     ids = happens.1.ids ∙ way.ids;
-    frames = names_on w w' t.asks t.records t.receipts we happens.0 happens.1.answers way.frames (happened_named w we happens.1.may);
+    frames = names_on w w' t.asks t.records t.receipts we happens.0 happens.1.answers way.frames (happened_asks w we happens.1.may);
     as_long = length_set done place (position + 1) ∙ way.as_long;
     each = each;
   }
@@ -189,7 +185,7 @@ module _ {K : Type 0} (form : Form K) (stable : IsByMeaning form) where
           same_or false h = inr (λ is. absurd (cc (h, eq-eqb j place is)))
 
   -- so do the numbers
-  pub tells_after : (ends : List (State K)) (w w' : WorldView K) (old new : GivenNumbers) (done : List ℕ) (place position : ℕ) (we : Event) (end : State K) (e : ReplicaEvent)
+  pub tells_after : (ends : List (State K)) (w w' : WorldView K) (old new : GivenNumbers) (done : List ℕ) (place position : ℕ) (we : Event Mail) (end : State K) (e : ReplicaEvent)
       → IsUnderWay form ends w done → TellAll w old → IsNext ends done place end position e → IsNamed w end.id e we → HappensSo form w we w' → NotesNewest old w' new → TellAll w' new
   tells_after ends w w' old new done place position we end e way tells next named happens notes =
       let at = way.each place end position next.end_is next.done_is in
@@ -201,12 +197,12 @@ module _ {K : Type 0} (form : Form K) (stable : IsByMeaning form) where
       → IsUnderWay form ends w' (slice_set done ready.place ready.after)
   ready_goes_on ends w w' given done ready distinct way tells is happens =
       subst (λ (n : ℕ). IsUnderWay form ends w' (slice_set done ready.place n)) (sym is.after)
-      (goes_on ends w w' given done ready.place is.position ready.event is.end is.event distinct is.its_log way tells is.next (named w given is.end.id is.event ready.event tells is.names) happens)
+      (goes_on ends w w' given done ready.place is.position ready.event is.end is.event distinct is.its_log way tells is.next (named w given is.end.id is.event ready.event tells is.of_end is.names) happens)
 
   pub ready_tells : (ends : List (State K)) (w w' : WorldView K) (old new : GivenNumbers) (done : List ℕ) (ready : Ready)
       → IsUnderWay form ends w done → TellAll w old → IsReady form ends old done ready → HappensSo form w ready.event w' → NotesNewest old w' new → TellAll w' new
   ready_tells ends w w' old new done ready way tells is happens notes =
-      tells_after ends w w' old new done ready.place is.position ready.event is.end is.event way tells is.next (named w old is.end.id is.event ready.event tells is.names) happens notes
+      tells_after ends w w' old new done ready.place is.position ready.event is.end is.event way tells is.next (named w old is.end.id is.event ready.event tells is.of_end is.names) happens notes
 
 -- ---- the next event can happen
 
@@ -214,24 +210,16 @@ named_there : {A B : Type 0} (f : A → B) (o : Option A) (y : B) → option_map
 named_there f None y e = cc (e)
 named_there f (Some x) y e = refl
 
-module _ {K : Type 0} where
-  asked_named : (w : WorldView K) (e : Event) (asked : ReplicaEvent) → asked_by w e ≡ Some asked → names_no_frame w e ≡ false
-  asked_named w (event.Receive r n) asked is = named_there _ (numbered w.records n) asked is
-  asked_named w (event.DeliverPart r n bytes) asked is = named_there _ (numbered w.records n) asked is
-  asked_named w (event.Answer r n) asked is = named_there _ (numbered w.asks n) asked is
-  asked_named w (event.Release r n) asked is = named_there _ (numbered w.receipts n) asked is
-  asked_named w e asked is = refl
-
-  goes : (w : WorldView K) (e : Event) → is_none (member_at w.members (replica_of e)) ≡ false → names_no_frame w e ≡ false → stop_fault w e ≡ None
-  goes w e there named = rw (there, named) refl
+goes : {K : Type 0} (w : WorldView K) (e : Event Mail) → is_none (member_at w.members e.replica) ≡ false → is_none (asked_in w e.act) ≡ false → stop_fault w e ≡ None
+goes w e there asks = rw (there, asks) refl
 
 module _ {K : Type 0} (form : Form K) where
   pub may_happen : (ends : List (State K)) (w : WorldView K) (given : GivenNumbers) (done : List ℕ) (ready : Ready) → IsUnderWay form ends w done → TellAll w given → IsReady form ends given done ready → stop_fault w ready.event ≡ None
   may_happen ends w given done ready way tells is =
-      let by = named w given is.end.id is.event ready.event tells is.names in
+      let by = named w given is.end.id is.event ready.event tells is.of_end is.names in
       let at = way.each ready.place is.end is.position is.next.end_is is.next.done_is in
       let there = named_there (λ (m : MemberView K). m.replica) (member_at w.members is.end.id) at.replica at.there in
-      goes w ready.event (ap (λ (r : ℕ). is_none (member_at w.members r)) by.is_for ∙ there) (asked_named w ready.event is.event by.asks)
+      goes w ready.event (ap (λ (r : ℕ). is_none (member_at w.members r)) by.is_for ∙ there) (ap is_none by.asks)
 
   -- the place is one of the ends, and of how far they have come
   pub ready_among : (ends : List (State K)) (given : GivenNumbers) (done : List ℕ) (ready : Ready) → IsReady form ends given done ready → ready.place < length ends
@@ -283,7 +271,7 @@ module _ {K : Type 0} (form : Form K) where
   begins ends w done distinct start as_long zeros = record {
     is_of = record { start = w; is_start = start; events = []; leads = refl };
     ids = made_ids ends start.specs w.members start.are start.made.members;
-    frames = subst (All (λ x. names_no_frame w x.event ≡ false)) (sym start.made.answers) (All-nil (λ x. names_no_frame w x.event ≡ false));
+    frames = subst (All (λ x. is_none (asked_in w x.event.act) ≡ false)) (sym start.made.answers) (All-nil (λ x. is_none (asked_in w x.event.act) ≡ false));
     as_long = as_long;
     each = λ i end p is is_p.
         let there = made_there ends start.specs w.members start.are start.made.members distinct i end is in

@@ -1,5 +1,5 @@
 -- A history that explains how replicas ended.
-use Rattle.std.specs.Prelude.{◌≡◌, ◌≢◌, ◌==◌, ◌||◌, ℕ, Bool, false, Some, List, [], ◌∷◌, map, All, AllPairs}
+use Rattle.std.specs.Prelude.{◌≡◌, ◌≢◌, ◌==◌, ◌||◌, Bool, false, Some, List, [], ◌∷◌, map, All, AllPairs}
 use Rattle.std.specs.List.{list_any}
 use Rattle.mr_forms.specs.Known.{Form}
 use Rattle.mr_replica.specs.State.{State}

@@ -1,5 +1,5 @@
 -- What the promise of a world says of replicas as they ended, by the versions that they issued.
-use Rattle.std.specs.Prelude.{◌≡◌, ◌≢◌, ◌↔◌, ◌⊎◌, ◌++◌, IsTrue, List, ◌∷◌, All}
+use Rattle.std.specs.Prelude.{◌≡◌, ◌≢◌, ◌↔◌, ◌⊎◌, ◌++◌, IsTrue, List, ◌∷◌}
 use Rattle.mr_version.specs.Name.{Name}
 use Rattle.mr_feed.specs.Entry.{told}
 use Rattle.mr_filter.specs.Filter.{ClauseParts}

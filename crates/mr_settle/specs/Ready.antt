@@ -17,7 +17,7 @@ module _ {K : Type 0} where
 
   -- the end at this place cannot go on
   abbrev pub Rests : List (State K) → GivenNumbers → List ℕ → (place : ℕ) → Type 0
-  Rests ends given done place = (end : State K) (position : ℕ) (event : ReplicaEvent) → IsNext ends done place end position event → Names given end.id event None
+  Rests ends given done place = (end : State K) (position : ℕ) (event : ReplicaEvent) → IsNext ends done place end position event → Names given event None
 
 module _ {K : Type 0} (form : Form K) where
   -- the end at that place, which is its log replayed, goes on by that event
@@ -27,7 +27,8 @@ module _ {K : Type 0} (form : Form K) where
     pub event : ReplicaEvent
     pub next : IsNext ends done ready.place end position event
     pub after : ready.after ≡ position + 1
-    pub names : Names given end.id event (Some ready.event)
+    pub of_end : ready.event.replica ≡ end.id
+    pub names : Names given event (Some ready.event.act)
     pub its_log : IsItsLog form end
 
   -- what is found at a place

@@ -1,8 +1,10 @@
 -- worked rows: what the definitions give for small values
-use Rattle.std.specs.Prelude.{◌≡◌, ℕ, true, false, List, [], ◌∷◌, Option, Some, None, Ok, Err, refl}
-use Rattle.std.proofs.Common.{inl}
+use Rattle.std.specs.Prelude.{◌≡◌, ℕ, true, false, List, [], ◌∷◌, Some, None, Ok, Err, refl}
 use Rattle.mr_version.specs.Name.{Name}
 use Rattle.mr_mail.specs.Mail.{Mail}
+use Rattle.mr_model.specs.History.{◌does◌}
+use Rattle.mr_model.specs.declared.event.Act.TheVariants as act
+use Rattle.mr_model.specs.declared.event.Subscriber.TheVariants.{Indexer}
 use Rattle.mr_replica.specs.State.{State, new_state}
 use Rattle.mr_replica.specs.declared.event.Event.TheVariants as replica
 use Rattle.mr_replica.specs.declared.event.Reply.TheVariants as reply
@@ -14,15 +16,15 @@ use Rattle.mr_wire.specs.declared.frame.Frame.TheVariants as frame
 use Rattle.mr_wire.specs.declared.frame.Mode.TheVariants.{Full}
 use Rattle.mr_wire.specs.declared.frame.Receipt.{Receipt}
 use Rattle.mr_world.specs.Kept.{WorldView}
-use Rattle.mr_world.specs.Run.{answered}
+use Rattle.mr_world.specs.Run.{answered, asked_in}
 use Rattle.mr_world.specs.declared.answer.Answer.TheVariants.{Stepped, Truncated, NothingNew}
 use Rattle.mr_world.specs.declared.answered.Answered.{Answered}
-use Rattle.mr_world.specs.declared.event.Event.TheVariants as event
-use Rattle.mr_world.specs.declared.event.Subscriber.TheVariants.{Indexer}
+use Rattle.mr_world.specs.declared.task.Task.TheVariants as task
 use Rattle.mr_settle.specs.Arrived.{lower_of}
 use Rattle.mr_settle.specs.Carried.{carried}
 use Rattle.mr_settle.specs.Explains.{share_id}
-use Rattle.mr_settle.specs.History.{log_in}
+use Rattle.mr_settle.specs.History.{admitted, log_in}
+use Rattle.mr_settle.specs.Named.{AsksFor}
 use Rattle.mr_settle.specs.Numbers.{found_in, no_numbers}
 use Rattle.mr_settle.specs.Stuck.{HasItsFrame, IsBehind, join_fault_number}
 use Rattle.mr_settle.specs.declared.fault.JoinFault.TheVariants.{OutOfMemory, Unexplained}
@@ -47,14 +49,14 @@ receipt = record { giver = 0; descent = descent_with first first [] }
 -- Replica 0 creates, replica 1 asks and takes the Start; a part of it is cut, a second delivery refused, and a port asked in vain.
 abbrev history : List Answered
 history =
-    answered (event.Create 0 mail) (Stepped (Ok (reply.Issued first)))
-    ∷ answered (event.Pull 1) (Stepped (Ok (reply.Asked ask)))
-    ∷ answered (event.Answer 0 1) (Stepped (Ok (reply.Streaming 1)))
-    ∷ answered (event.Next 0 1) (Stepped (Ok (reply.Gave start)))
-    ∷ answered (event.DeliverPart 1 1 3) Truncated
-    ∷ answered (event.Receive 1 1) (Stepped (Ok reply.Took))
-    ∷ answered (event.Receive 1 1) (Stepped (Err NoSession))
-    ∷ answered (event.Offer 1 Indexer) NothingNew
+    answered (0 does act.Create mail) (Stepped (Ok (reply.Issued first)))
+    ∷ answered (1 does act.Pull) (Stepped (Ok (reply.Asked ask)))
+    ∷ answered (0 does act.Answer 1) (Stepped (Ok (reply.Streaming 1)))
+    ∷ answered (0 does act.Next 1) (Stepped (Ok (reply.Gave start)))
+    ∷ answered (1 does act.DeliverPart 1 3) Truncated
+    ∷ answered (1 does act.Receive 1) (Stepped (Ok reply.Took))
+    ∷ answered (1 does act.Receive 1) (Stepped (Err NoSession))
+    ∷ answered (1 does act.Offer Indexer) NothingNew
     ∷ []
 
 abbrev world : WorldView ℕ
@@ -70,26 +72,48 @@ log_of_1 = refl
 pub log_of_2 : log_in world 2 ≡ []
 log_of_2 = refl
 
+-- an event is admitted where it was asked for, and nothing else was answered
+pub admits_pull : admitted (Stepped (Ok (reply.Asked ask))) (task.Step replica.Pull) ≡ Some replica.Pull
+admits_pull = refl
+
+pub refuses_pull : admitted (Stepped (Err NoSession)) (task.Step replica.Pull) ≡ None
+refuses_pull = refl
+
+pub admits_no_part : admitted Truncated task.Truncated ≡ None
+admits_no_part = refl
+
 -- ---- frames that were given, and one that was not
 
 pub start_was_given : HasItsFrame world (replica.Receive (frame.Record start))
-start_was_given = (start, refl, inl refl)
+start_was_given = (act.Receive 1, refl)
 
 pub ask_was_given : HasItsFrame world (replica.Answer ask)
-ask_was_given = inl refl
-
-pub receipt_was_not_given : ¬ HasItsFrame world (replica.Release receipt)
-receipt_was_not_given = λ given. given
+ask_was_given = (act.Answer 1, refl)
 
 pub pull_needs_none : HasItsFrame world replica.Pull
-pull_needs_none = tt
+pull_needs_none = (act.Pull, refl)
+
+-- by the number of its record
+pub start_is_asked : AsksFor (asked_in world) (replica.Receive (frame.Record start)) (Some (act.Receive 1))
+start_is_asked = refl
+
+-- the world before replica 1 asked: no frame was given in it
+abbrev begun : WorldView ℕ
+begun = record { members = []; asks = []; records = []; receipts = []; answers = answered (0 does act.Create mail) (Stepped (Ok (reply.Issued first))) ∷ [] }
+
+pub none_releases : AsksFor (asked_in begun) (replica.Release receipt) None
+none_releases (act.Release n) = λ is. cc
+none_releases a = λ is. cc
+
+pub receipt_was_not_given : ¬ HasItsFrame begun (replica.Release receipt)
+receipt_was_not_given = λ given. none_releases given.0 given.1
 
 -- so a log that goes on with the receipt is stuck there
 abbrev alone : State ℕ
-alone = record (new_state 1 [] 9 0) { log = replica.Pull ∷ replica.Receive (frame.Record start) ∷ replica.Release receipt ∷ replica.Retire ∷ [] }
+alone = record (new_state 0 [] 9 0) { log = replica.Create mail ∷ replica.Release receipt ∷ replica.Retire ∷ [] }
 
-pub is_behind : IsBehind world alone
-is_behind = record { left = replica.Release receipt ∷ replica.Retire ∷ []; log = refl; waits = λ given. given }
+pub is_behind : IsBehind begun alone
+is_behind = record { left = replica.Release receipt ∷ replica.Retire ∷ []; log = refl; waits = receipt_was_not_given }
 
 -- ---- the frame that an event carries
 

@@ -1,21 +1,22 @@
 -- A world that has come some way along the logs of some ends.
-use Rattle.std.specs.Prelude.{◌≡◌, ◌≤◌, ◌+◌, ◌-◌, ℕ, false, Option, Some, None, List, [], ◌∷◌, length, map, take, All}
+use Rattle.std.specs.Prelude.{◌≡◌, ◌≤◌, ◌+◌, ◌-◌, ℕ, false, is_none, Option, Some, List, [], ◌∷◌, length, map, take, All}
 use Rattle.std.specs.List.{slice_get}
 use Rattle.mr_forms.specs.Known.{Form}
+use Rattle.mr_mail.specs.Mail.{Mail}
 use Rattle.mr_model.specs.Moment.{numbered}
+use Rattle.mr_model.specs.declared.event.Event.{Event}
 use Rattle.mr_replica.specs.State.{State}
 use Rattle.mr_replica.specs.Replay.{Replays}
 use Rattle.mr_replica.specs.declared.replica.TheConstants.{MAX_EVENTS}
 use Rattle.mr_wire.specs.declared.frame.Frame.TheVariants as frame
 use Rattle.mr_world.specs.Kept.{WorldView, replica_at}
 use Rattle.mr_world.specs.Pool.{GivesFrame}
-use Rattle.mr_world.specs.Run.{Happens, ids_of, names_no_frame}
+use Rattle.mr_world.specs.Run.{Happens, asked_in, ids_of}
 use Rattle.mr_world.specs.declared.answer.Answer.{Answer}
-use Rattle.mr_world.specs.declared.event.Event.{Event}
 use Rattle.mr_world.specs.declared.spec.Spec.{Spec}
 use Rattle.mr_settle.specs.History.{log_in, IsWorldOf}
-use Rattle.mr_settle.specs.Named.{GivenNumbers}
-use Rattle.mr_settle.specs.Numbers.{KeepsUp, Tells}
+use Rattle.mr_settle.specs.Named.{AreNumbersOf, GivenNumbers}
+use Rattle.mr_settle.specs.Numbers.{KeepsUp}
 
 -- a replica can have the limit
 abbrev pub HasGoodLimit : Spec → Type 0
@@ -37,14 +38,12 @@ module _ {K : Type 0} where
     pub receipts : KeepsUp old.receipts receipt (length w.receipts) new.receipts
 
   -- the numbers are those of the world's frames
-  pub record TellAll (w : WorldView K) (given : GivenNumbers) : Type 0 where
-    pub asks : Tells (λ x. frame.Ask x) w.asks given.asks
-    pub records : Tells (λ x. frame.Record x) w.records given.records
-    pub receipts : Tells (λ x. frame.Receipt x) w.receipts given.receipts
+  abbrev pub TellAll : WorldView K → GivenNumbers → Type 0
+  TellAll w given = AreNumbersOf w.asks w.records w.receipts given
 
-  -- each event of the history that names a frame names one that was given
+  -- each act of the history asks for something: a frame that it names was given
   abbrev pub NamesFrames : WorldView K → Type 0
-  NamesFrames w = All (λ x. names_no_frame w x.event ≡ false) w.answers
+  NamesFrames w = All (λ x. is_none (asked_in w x.event.act) ≡ false) w.answers
 
   -- how many events of the logs are left
   abbrev pub left_over : List (State K) → List ℕ → ℕ
@@ -54,7 +53,7 @@ module _ {K : Type 0} where
 
 module _ {K : Type 0} (form : Form K) where
   -- the event happened, with some answer
-  abbrev pub HappensSo : WorldView K → Event → WorldView K → Type 0
+  abbrev pub HappensSo : WorldView K → Event Mail → WorldView K → Type 0
   HappensSo w event w' = (answer : Answer) × Happens form w event answer w'
 
   -- so many events of the end's log are its replica's in the world, and have made it

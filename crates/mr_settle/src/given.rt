@@ -9,8 +9,7 @@ ghost use Rattle.mr_settle.specs.Way.{NotesNewest};
 use crate::numbers::Numbers;
 use mr_forms::Knowledge;
 use mr_replica::Event as ReplicaEvent;
-use mr_version::Author;
-use mr_world::{Event, World};
+use mr_world::{Act, World};
 use std::alloc::{AllocError, Global};
 
 /// The numbers of the frames of each pool.
@@ -49,38 +48,37 @@ impl Given {
         keep_up(alloc, &mut self.receipts, world.receipt(receipts), receipts)
     }
 
-    /// The world's event by which the replica does this, if the frame that it carries, of these bytes, was given.
+    /// The act by which a replica does this, if the frame that it carries, of these bytes, was given.
     pub fn named(
         &self,
-        id: Author,
         event: &ReplicaEvent,
         frame: Option<&[u8]>,
-    ) -> Result<Option<Event>, AllocError>
+    ) -> Result<Option<Act>, AllocError>
         requires { HasBytes (carried event.now) (option_copied frame) }
-        ensures { IfOk result (Names (given_by self.now) id event.now) }
+        ensures { IfOk result (Names (given_by self.now) event.now) }
     {
         match event {
-            ReplicaEvent::Create(message) => Ok(Some(Event::Create(id, message.copy()?))),
+            ReplicaEvent::Create(message) => Ok(Some(Act::Create(message.copy()?))),
             ReplicaEvent::Edit(bases, message) => {
-                Ok(Some(Event::Edit(id, bases.copy()?, message.copy()?)))
+                Ok(Some(Act::Edit(bases.copy()?, message.copy()?)))
             }
-            ReplicaEvent::Retire => Ok(Some(Event::Retire(id))),
-            ReplicaEvent::Pull => Ok(Some(Event::Pull(id))),
+            ReplicaEvent::Retire => Ok(Some(Act::Retire)),
+            ReplicaEvent::Pull => Ok(Some(Act::Pull)),
             ReplicaEvent::Receive(_) => {
                 let number = number_of(&self.records, frame);
-                Ok(number.map(|number| Event::Receive(id, number)))
+                Ok(number.map(Act::Receive))
             }
-            ReplicaEvent::CutIn(session) => Ok(Some(Event::CutIn(id, *session))),
+            ReplicaEvent::CutIn(session) => Ok(Some(Act::CutIn(*session))),
             ReplicaEvent::Answer(_) => {
                 let number = number_of(&self.asks, frame);
-                Ok(number.map(|number| Event::Answer(id, number)))
+                Ok(number.map(Act::Answer))
             }
-            ReplicaEvent::Next(stream) => Ok(Some(Event::Next(id, *stream))),
-            ReplicaEvent::CutOut(stream) => Ok(Some(Event::CutOut(id, *stream))),
-            ReplicaEvent::Vouch(version) => Ok(Some(Event::Vouch(id, *version))),
+            ReplicaEvent::Next(stream) => Ok(Some(Act::Next(*stream))),
+            ReplicaEvent::CutOut(stream) => Ok(Some(Act::CutOut(*stream))),
+            ReplicaEvent::Vouch(version) => Ok(Some(Act::Vouch(*version))),
             ReplicaEvent::Release(_) => {
                 let number = number_of(&self.receipts, frame);
-                Ok(number.map(|number| Event::Release(id, number)))
+                Ok(number.map(Act::Release))
             }
         }
     }

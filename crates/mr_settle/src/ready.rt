@@ -75,11 +75,11 @@ fn ready_at<K: Knowledge>(
     let Some(event) = log.get(progress.done) else {
         return Ok(None);
     };
-    match given.named(end.id(), event, progress.frame())? {
-        Some(event) => Ok(Some(Ready {
+    match given.named(event, progress.frame())? {
+        Some(act) => Ok(Some(Ready {
             place,
             after: progress.done + 1,
-            event,
+            event: act.by(end.id()),
         })),
         None => Ok(None),
     }

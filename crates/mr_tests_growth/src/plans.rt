@@ -4,7 +4,7 @@ use anyhow::{Context, Result};
 use mr_itemset::ItemKnowledge;
 use mr_replica::{Event, Replica};
 use mr_version::Author;
-use mr_world::{Event as WorldEvent, Spec};
+use mr_world::{Act, Event as WorldEvent, Spec};
 use std::alloc::{AllocError, Global};
 
 /// The replicas of the nodes.
@@ -89,8 +89,8 @@ fn letters(alloc: Global, id: Author, events: &[WorldEvent]) -> Result<Vec<Event
 
 /// Adds the letter by which this is created, if it is created at the replica of this id.
 fn push_letter(letters: &mut Vec<Event>, id: Author, event: &WorldEvent) -> Result<(), AllocError> {
-    match event {
-        WorldEvent::Create(at, message) if *at == id => {
+    match &event.act {
+        Act::Create(message) if event.replica == id => {
             Ok(letters.push(Event::Create(message.copy()?))?)
         }
         _ => Ok(()),

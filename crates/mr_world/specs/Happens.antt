@@ -14,7 +14,7 @@ use Rattle.mr_world.specs.Given.{IsGivenBy, Gains, KeepsFrames}
 use Rattle.mr_world.specs.Kept.{MemberView, port_of, with_outlet}
 use Rattle.mr_world.specs.declared.answer.Answer.{Answer}
 use Rattle.mr_world.specs.declared.answer.Answer.TheVariants.{Stepped, Truncated}
-use Rattle.mr_world.specs.declared.event.Subscriber.{Subscriber}
+use Rattle.mr_model.specs.declared.event.Subscriber.{Subscriber}
 use Rattle.mr_world.specs.declared.fault.WorldFault.{WorldFault}
 use Rattle.mr_world.specs.declared.fault.WorldFault.TheVariants as fault
 use Rattle.mr_world.specs.declared.pools.Given.{Given}

@@ -6,8 +6,8 @@ use Rattle.mr_wire.specs.Frames.{Question, Sent}
 use Rattle.mr_wire.specs.declared.frame.Receipt.{Receipt}
 use Rattle.mr_world.specs.Pool.{PoolList, questions_in, sents_in, receipts_in}
 use Rattle.mr_world.specs.World.{Port, World}
-use Rattle.mr_world.specs.declared.event.Subscriber.{Subscriber}
-use Rattle.mr_world.specs.declared.event.Subscriber.TheVariants.{Indexer, Notifier}
+use Rattle.mr_model.specs.declared.event.Subscriber.{Subscriber}
+use Rattle.mr_model.specs.declared.event.Subscriber.TheVariants.{Indexer, Notifier}
 use Rattle.mr_world.specs.declared.answered.Answered.{Answered}
 
 -- a replica with the ports to its two subscribers

@@ -1,12 +1,11 @@
 pub mod World
 pub mod Ports
 pub mod Moves
-pub mod Event
 pub mod Fault
 pub mod Pool
+pub mod Asked
 pub mod Kept
 pub mod Given
-pub mod Task
 pub mod Happens
 pub mod Made
 pub mod Run

@@ -1,5 +1,5 @@
 -- the frames that replicas gave one another, as they are kept
-use Rattle.std.specs.Prelude.{◌-◌, ◌==◌, ℕ, if◌then◌else◌, Option, Some, None, List, slice_get, reverse, Result, Ok, Err}
+use Rattle.std.specs.Prelude.{◌-◌, ◌==◌, ℕ, if◌then◌else◌, All, Option, Some, None, List, slice_get, reverse, Result, Ok, Err}
 use Rattle.std.specs.List.{filter_map}
 use Rattle.mr_wire.specs.Frames.{Question, Sent}
 use Rattle.mr_wire.specs.Decoding.{decoded}
@@ -67,6 +67,12 @@ IsRecordFrame bytes = (sent : Sent) × Spells 2 (frame.Record sent) bytes
 
 abbrev pub IsReceiptFrame : List ℕ → Type 0
 IsReceiptFrame bytes = (receipt : Receipt) × Spells 2 (frame.Receipt receipt) bytes
+
+-- each pool has frames of its kind
+pub record AreFrames (p : PoolList) : Type 0 where
+  pub asks : All IsAskFrame p.asks.frames
+  pub records : All IsRecordFrame p.records.frames
+  pub receipts : All IsReceiptFrame p.receipts.frames
 
 -- the frame is there just where the pool's list has something of that number, and then it spells that
 abbrev pub GivesFrame : {A : Type 0} → (A → Frame) → Option A → Option (List ℕ) → Type 0

@@ -4,11 +4,14 @@ use Rattle.mr_version.specs.Name.{Name}
 use Rattle.mr_forms.specs.Known.{Form}
 use Rattle.mr_concise.specs.Fragments.{ConciseFragment}
 use Rattle.mr_filter.specs.Filter.{ClauseParts}
+use Rattle.mr_mail.specs.Mail.{Mail}
 use Rattle.mr_model.specs.Changes.{now}
 use Rattle.mr_model.specs.History.{Record}
 use Rattle.mr_model.specs.Moment.{known, numbered}
 use Rattle.mr_model.specs.Rules.{version_in}
 use Rattle.mr_model.specs.Versions.{is_issued, item_of}
+use Rattle.mr_model.specs.declared.event.Act.{Act}
+use Rattle.mr_model.specs.declared.event.Act.TheVariants.{Pull, Receive, DeliverPart}
 use Rattle.mr_replica.specs.Fragments.{AreFragmentsOf}
 use Rattle.mr_wire.specs.declared.frame.TheConstants.{MAX_ASKED_BYTES}
 use Rattle.mr_replica.specs.declared.event.Reply.{Reply}
@@ -23,8 +26,6 @@ use Rattle.mr_world.specs.Seen.{MailMoment, setting_of}
 use Rattle.mr_world.specs.declared.answer.Answer.{Answer}
 use Rattle.mr_world.specs.declared.answer.Answer.TheVariants.{Stepped}
 use Rattle.mr_world.specs.declared.answered.Answered.{Answered}
-use Rattle.mr_world.specs.declared.event.Event.{Event}
-use Rattle.mr_world.specs.declared.event.Event.TheVariants.{Pull, Receive, DeliverPart}
 
 -- ---- records
 
@@ -52,14 +53,14 @@ module _ {K : Type 0} (form : Form K) where
 
   -- ---- answers
 
-  -- what is answered to the event at the moment m
-  abbrev pub IsBySets : MailMoment → Event → Answer → Type 0
-  IsBySets m (Pull r) (Stepped (Ok (Asked ask))) = ClaimsKnown m r ask
-  IsBySets m (Receive r n) (Stepped (Ok reply)) = TellsWhetherKnown m r reply (numbered m.given n)
-  IsBySets m (DeliverPart r n bytes) (Stepped (Ok reply)) = TellsWhetherKnown m r reply (numbered m.given n)
-  IsBySets m event answer = Unit {0}
+  -- what is answered to an act of r at the moment m
+  abbrev pub IsBySets : MailMoment → ℕ → Act Mail → Answer → Type 0
+  IsBySets m r Pull (Stepped (Ok (Asked ask))) = ClaimsKnown m r ask
+  IsBySets m r (Receive n) (Stepped (Ok reply)) = TellsWhetherKnown m r reply (numbered m.given n)
+  IsBySets m r (DeliverPart n bytes) (Stepped (Ok reply)) = TellsWhetherKnown m r reply (numbered m.given n)
+  IsBySets m r act answer = Unit {0}
 
   -- so is each of the answers, at the moment after those before it
   abbrev pub AreBySets : (ℕ → List ClauseParts) → List Answered → Type 0
   AreBySets filters answers =
-      (before later : List Answered) (x : Answered) → answers ≡ before ++ x ∷ later → IsBySets (now (setting_of filters) (history filters before)) x.event x.answer
+      (before later : List Answered) (x : Answered) → answers ≡ before ++ x ∷ later → IsBySets (now (setting_of filters) (history filters before)) x.event.replica x.event.act x.answer

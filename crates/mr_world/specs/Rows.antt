@@ -1,20 +1,29 @@
 -- worked rows: what the definitions give for small values
-use Rattle.std.specs.Prelude.{◌≡◌, ℕ, true, false, [], ◌∷◌, Some, None, Ok, Err, refl}
-use Rattle.mr_wire.specs.Frames.{Question}
+use Rattle.std.specs.Prelude.{◌≡◌, ◌-◌, ℕ, true, false, [], ◌∷◌, Option, Some, None, Ok, Err, refl}
+use Rattle.mr_mail.specs.Mail.{Mail}
+use Rattle.mr_model.specs.History.{◌does◌}
+use Rattle.mr_model.specs.declared.event.Act.{Act}
+use Rattle.mr_model.specs.declared.event.Act.TheVariants.{Pull, Receive, DeliverPart, Answer as AnswerAsk, Release}
+use Rattle.mr_replica.specs.declared.event.Event.TheVariants as replica
+use Rattle.mr_wire.specs.Frames.{Question, Sent}
+use Rattle.mr_wire.specs.declared.frame.Body.TheVariants.{End}
+use Rattle.mr_wire.specs.declared.frame.Frame.TheVariants as frame
 use Rattle.mr_replica.specs.State.{new_state}
 use Rattle.mr_replica.specs.declared.event.Reply.TheVariants.{Asked}
 use Rattle.mr_replica.specs.declared.refusal.Refusal.TheVariants.{LogFull}
 use Rattle.mr_world.specs.World.{World, new_port, with_given}
 use Rattle.mr_world.specs.Kept.{MemberView, WorldView, newest_answered, member_at, replica_at, with_outlet, port_of, world_of}
 use Rattle.mr_world.specs.Made.{has_same_id, spec_refusal}
-use Rattle.mr_world.specs.Pool.{PoolList, at_number}
+use Rattle.mr_world.specs.Pool.{at_number}
 use Rattle.mr_world.specs.Run.{answered}
-use Rattle.mr_world.specs.Task.{lacks_frame}
-use Rattle.mr_world.specs.declared.answer.Answer.TheVariants.{Stepped, Truncated}
-use Rattle.mr_world.specs.declared.event.Event.TheVariants.{Pull, Receive, DeliverPart, Answer, Release}
-use Rattle.mr_world.specs.declared.event.Subscriber.TheVariants.{Indexer, Notifier}
+use Rattle.mr_world.specs.Asked.{asked, record_len}
+use Rattle.mr_world.specs.declared.answer.Answer.TheVariants.{Stepped}
+use Rattle.mr_world.specs.declared.answer.Answer.TheVariants as answer
+use Rattle.mr_model.specs.declared.event.Subscriber.TheVariants.{Indexer, Notifier}
 use Rattle.mr_world.specs.declared.fault.SpecFault.TheVariants.{SameReplica, BadLimit, NoCapacity}
 use Rattle.mr_world.specs.declared.spec.Spec.{Spec}
+use Rattle.mr_world.specs.declared.task.Task.{Task}
+use Rattle.mr_world.specs.declared.task.Task.TheVariants.{Step, Truncated}
 
 -- ---- of what a world is made
 
@@ -76,26 +85,43 @@ newest = refl
 pub past_the_newest : at_number {A = ℕ} (8 ∷ 9 ∷ []) 3 ≡ None
 past_the_newest = refl
 
--- pools with one request and nothing else
-abbrev one_ask : PoolList
-one_ask = record { asks = record { frames = [] ∷ []; room = 0 }; records = record { frames = []; room = 0 }; receipts = record { frames = []; room = 0 } }
+abbrev question : (session : ℕ) → Question
+question session = record { target = 3; session = session; filter = []; fragments = [] }
 
--- an event finds its frame in the pool of its kind alone
-pub finds_ask : lacks_frame one_ask (Answer 0 1) ≡ false
+-- the End of a stream
+abbrev end_of_stream : Sent
+end_of_stream = record { header = record { source = 1; stream = 1; target = 3; session = 1; index = 2 }; body = End }
+
+-- a world whose replicas gave a request, a record and no receipt
+abbrev some_asked : Act Mail → Option Task
+some_asked act = asked (question 1 ∷ []) (end_of_stream ∷ []) [] act
+
+-- a number finds the frame of its own pool alone
+pub finds_ask : some_asked (AnswerAsk 1) ≡ Some (Step (replica.Answer (question 1)))
 finds_ask = refl
 
-pub lacks_record : lacks_frame one_ask (Receive 0 1) ≡ true
-lacks_record = refl
+pub finds_record : some_asked (Receive 1) ≡ Some (Step (replica.Receive (frame.Record end_of_stream)))
+finds_record = refl
 
--- a part of no record is lacking too, even one of no bytes
-pub lacks_part : lacks_frame one_ask (DeliverPart 0 1 0) ≡ true
-lacks_part = refl
+pub lacks_ask : some_asked (AnswerAsk 2) ≡ None
+lacks_ask = refl
 
-pub lacks_receipt : lacks_frame one_ask (Release 0 1) ≡ true
+pub lacks_receipt : some_asked (Release 1) ≡ None
 lacks_receipt = refl
 
--- an event that takes no frame lacks none
-pub wants_no_frame : lacks_frame one_ask (Pull 0) ≡ false
+-- a part of no record is lacking too, even one of no bytes
+pub lacks_part : some_asked (DeliverPart 2 0) ≡ None
+lacks_part = refl
+
+-- of a record some bytes are a part, and all that it has are the record
+pub finds_part : some_asked (DeliverPart 1 (record_len end_of_stream - 1)) ≡ Some Truncated
+finds_part = refl
+
+pub finds_whole : some_asked (DeliverPart 1 (record_len end_of_stream)) ≡ some_asked (Receive 1)
+finds_whole = refl
+
+-- an act that takes no frame lacks none
+pub wants_no_frame : asked [] [] [] Pull ≡ Some (Step replica.Pull)
 wants_no_frame = refl
 
 -- ---- members
@@ -119,10 +145,10 @@ other_port_stays = refl
 
 -- replica 3 refused a pull, and then a record came to it in part
 abbrev answered_twice : WorldView ℕ
-answered_twice = record { members = []; asks = []; records = []; receipts = []; answers = answered (Pull 3) (Stepped (Err LogFull)) ∷ answered (DeliverPart 3 1 0) Truncated ∷ [] }
+answered_twice = record { members = []; asks = []; records = []; receipts = []; answers = answered (3 does Pull) (Stepped (Err LogFull)) ∷ answered (3 does DeliverPart 1 0) answer.Truncated ∷ [] }
 
 -- the newest is the last that was noted
-pub newest_of_two : newest_answered answered_twice ≡ Some (answered (DeliverPart 3 1 0) Truncated)
+pub newest_of_two : newest_answered answered_twice ≡ Some (answered (3 does DeliverPart 1 0) answer.Truncated)
 newest_of_two = refl
 
 pub newest_of_none : newest_answered (record answered_twice { answers = [] }) ≡ None
@@ -154,9 +180,6 @@ third_of_no_member = refl
 
 pub notifier_of_no_member : whole.ports 1 1 ≡ new_port 5
 notifier_of_no_member = refl
-
-abbrev question : (session : ℕ) → Question
-question session = record { target = 3; session = session; filter = []; fragments = [] }
 
 -- what is given is the newest of its pool
 pub given_first : (with_given (with_given whole (Ok (Asked (question 1)))) (Ok (Asked (question 2)))).asks ≡ question 2 ∷ question 1 ∷ []

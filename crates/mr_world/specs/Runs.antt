@@ -10,11 +10,11 @@ use Rattle.mr_replica.specs.State.{State, new_state}
 use Rattle.mr_world.specs.declared.answered.Answered.{Answered}
 use Rattle.mr_world.specs.World.{World, new_port}
 use Rattle.mr_world.specs.Moves.{Moves}
-use Rattle.mr_world.specs.Seen.{MailMoment, setting_of, seen_event, seen_answer}
+use Rattle.mr_world.specs.Seen.{MailMoment, setting_of, seen_answer}
 
 -- what a history sees of an event with its answer, at the moment m
 abbrev pub seen_step : MailMoment → Answered → Step Mail MailCard
-seen_step m x = record { event = seen_event x.event; reply = seen_answer m.issues x.answer }
+seen_step m x = record { event = x.event; reply = seen_answer m.issues x.answer }
 
 -- the history of a run from the moment m on, by the replicas' filters
 abbrev pub history_from : (ℕ → List ClauseParts) → MailMoment → List Answered → History Mail MailCard

@@ -1,4 +1,4 @@
--- What a history of the model sees of a world's events and answers.
+-- What a history of the model sees of a world: its events as they are, and of frames and answers what follows.
 use Rattle.std.specs.Prelude.{ℕ, List, Ok, Err, Result, filter, map}
 use Rattle.mr_version.specs.Name.{Name}
 use Rattle.mr_mail.specs.Mail.{Mail, MailCard, card_of}
@@ -17,9 +17,6 @@ use Rattle.mr_wire.specs.Frames.{Question, Sent}
 use Rattle.mr_wire.specs.declared.frame.Body.{Body}
 use Rattle.mr_wire.specs.declared.frame.Body.TheVariants as body
 use Rattle.mr_wire.specs.declared.frame.Receipt.{Receipt}
-use Rattle.mr_world.specs.World.{subscriber_number}
-use Rattle.mr_world.specs.declared.event.Event.{Event}
-use Rattle.mr_world.specs.declared.event.Event.TheVariants as event
 use Rattle.mr_world.specs.declared.answer.Answer.{Answer}
 use Rattle.mr_world.specs.declared.answer.Answer.TheVariants as answer
 
@@ -71,24 +68,7 @@ seen_ask issues question = record {
   claimed = filter (λ v. claimed question.fragments (item_of issues v) v) (versions_in_order issues);
 }
 
--- ---- events and answers
-
-abbrev pub seen_event : Event → model.Event Mail
-seen_event (event.Create r message) = model.Create r message
-seen_event (event.Edit r bases message) = model.Edit r bases message
-seen_event (event.Retire r) = model.Retire r
-seen_event (event.Pull r) = model.Pull r
-seen_event (event.Receive r n) = model.Receive r n
-seen_event (event.DeliverPart r n bytes) = model.DeliverPart r n bytes
-seen_event (event.CutIn r session) = model.CutIn r session
-seen_event (event.Answer r n) = model.Answer r n
-seen_event (event.Next r stream) = model.Next r stream
-seen_event (event.CutOut r stream) = model.CutOut r stream
-seen_event (event.Offer r u) = model.Offer r (subscriber_number u)
-seen_event (event.Take r u) = model.Take r (subscriber_number u)
-seen_event (event.Close r u) = model.Close r (subscriber_number u)
-seen_event (event.Vouch r version) = model.Vouch r version
-seen_event (event.Release r n) = model.Release r n
+-- ---- answers
 
 abbrev pub seen_reply : List (Issue Mail) → Reply → model.Reply MailCard
 seen_reply issues (reply.Issued v) = model.Issued v

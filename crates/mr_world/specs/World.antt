@@ -8,13 +8,6 @@ use Rattle.mr_replica.specs.declared.event.Reply.TheVariants.{Asked, Gave, Vouch
 use Rattle.mr_replica.specs.declared.refusal.Refusal.{Refusal}
 use Rattle.mr_wire.specs.Frames.{Question, Sent}
 use Rattle.mr_wire.specs.declared.frame.Receipt.{Receipt}
-use Rattle.mr_world.specs.declared.event.Subscriber.{Subscriber}
-use Rattle.mr_world.specs.declared.event.Subscriber.TheVariants.{Indexer, Notifier}
-
--- the number of a subscriber
-abbrev pub subscriber_number : Subscriber → ℕ
-subscriber_number Indexer = 0
-subscriber_number Notifier = 1
 
 -- a port to a subscriber, and how many entries of the feed were offered to it: the first ones
 pub record Port : Type 0 where

@@ -1,9 +1,7 @@
 //! What a world answers.
-ghost use Rattle.std.specs.Prelude.{◌≡◌, IfOk};
 
 use mr_feed::Entry;
 use mr_replica::{Refusal, Reply};
-use std::alloc::{AllocError, Global};
 
 /// The answer to one event of a world.
 #[derive(Debug, Drop)]
@@ -26,24 +24,4 @@ pub enum Answer {
     Closed,
     /// The port was closed.
     Done,
-}
-
-impl Answer {
-    /// An equal answer. It costs a copy of what the answer carries.
-    pub fn copy(&self, alloc: Global) -> Result<Answer, AllocError>
-        ensures { IfOk result (λ answer. answer ≡ self.now) }
-    {
-        match self {
-            Answer::Stepped(Ok(reply)) => Ok(Answer::Stepped(Ok(reply.copy(alloc)?))),
-            Answer::Stepped(Err(refusal)) => Ok(Answer::Stepped(Err(*refusal))),
-            Answer::Truncated => Ok(Answer::Truncated),
-            Answer::Offered(entry) => Ok(Answer::Offered(entry.copy()?)),
-            Answer::NothingNew => Ok(Answer::NothingNew),
-            Answer::Full => Ok(Answer::Full),
-            Answer::TookEntry(entry) => Ok(Answer::TookEntry(entry.copy()?)),
-            Answer::Empty => Ok(Answer::Empty),
-            Answer::Closed => Ok(Answer::Closed),
-            Answer::Done => Ok(Answer::Done),
-        }
-    }
 }

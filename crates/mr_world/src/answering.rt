@@ -1,9 +1,9 @@
 //! How an event is answered: its replica is found, its task made, done, and its answer noted.
 ghost use Rattle.std.specs.Prelude.{◌≡◌, ◌==◌, ◌<◌, OnOk, Some, vec_len, vec_capacity};
 ghost use Rattle.std.specs.List.{position};
-ghost use Rattle.mr_world.specs.Event.{replica_of};
 ghost use Rattle.mr_world.specs.Given.{HasPlaces, KeepsFrames};
-ghost use Rattle.mr_world.specs.Task.{AreFrames, IsTask};
+ghost use Rattle.mr_world.specs.Asked.{asked_of};
+ghost use Rattle.mr_world.specs.Pool.{AreFrames};
 ghost use Rattle.mr_world.specs.Kept.{world_view};
 ghost use Rattle.mr_world.specs.Run.{Meets};
 
@@ -28,7 +28,7 @@ pub(crate) fn answer_event<K: Knowledge>(
     ensures meets { Meets K.form (world_view members.old.items pools.old answers.old.items) event result (world_view members.new.items pools.new answers.new.items) }
     ensures frames { AreFrames pools.new }
 {
-    match place_of(members, event.replica()) {
+    match place_of(members, event.replica) {
         Some(place) => answer_at(alloc, members, place, pools, answers, event),
         None => Err(WorldFault::NoSuchReplica),
     }
@@ -43,12 +43,12 @@ fn answer_at<K: Knowledge>(
     answers: &mut Vec<Answered>,
     event: Event,
 ) -> Result<(), WorldFault>
-    requires place { position (λ m. m.replica.id == replica_of event) members.old.items ≡ Some place }
+    requires place { position (λ m. m.replica.id == event.replica) members.old.items ≡ Some place }
     requires frames { AreFrames pools.old }
     ensures meets { Meets K.form (world_view members.old.items pools.old answers.old.items) event result (world_view members.new.items pools.new answers.new.items) }
     ensures frames { AreFrames pools.new }
 {
-    match task_of(alloc, pools, &event) {
+    match task_of(alloc, pools, &event.act) {
         Ok(task) => answer_task(alloc, members, place, pools, answers, event, task),
         Err(fault) => Err(fault),
     }
@@ -64,9 +64,9 @@ fn answer_task<K: Knowledge>(
     event: Event,
     task: Task,
 ) -> Result<(), WorldFault>
-    requires place { position (λ m. m.replica.id == replica_of event) members.old.items ≡ Some place }
+    requires place { position (λ m. m.replica.id == event.replica) members.old.items ≡ Some place }
     requires frames { AreFrames pools.old }
-    requires task { IsTask pools.old event task }
+    requires task { asked_of pools.old event.act ≡ Some task }
     ensures meets { Meets K.form (world_view members.old.items pools.old answers.old.items) event result (world_view members.new.items pools.new answers.new.items) }
     ensures frames { AreFrames pools.new }
 {

@@ -4,7 +4,7 @@
 ghost use Rattle.std.specs.Prelude.{◌≡◌, ◌≢◌, ◌⊎◌, IsTrue, IsFalse, ℕ, List, [], ◌∷◌, ◌++◌, Some, Ok, Err};
 ghost use Rattle.mr_filter.specs.Filter.{ClauseParts};
 ghost use Rattle.mr_mail.specs.Mail.{Mail, MailCard};
-ghost use Rattle.mr_model.specs.History.{History};
+ghost use Rattle.mr_model.specs.History.{◌does◌, History};
 ghost use Rattle.mr_model.specs.Moment.{start, known, numbered};
 ghost use Rattle.mr_model.specs.Changes.{now};
 ghost use Rattle.mr_model.specs.Rules.{In, IsRun, version_in};
@@ -13,6 +13,7 @@ ghost use Rattle.mr_version.specs.Name.{Name};
 ghost use Rattle.mr_session.specs.Stream.{claimed};
 ghost use Rattle.mr_wire.specs.Frames.{Question, Sent};
 ghost use Rattle.mr_model.specs.Headline.{Headline};
+ghost use Rattle.mr_model.specs.declared.event.Act.TheVariants as act;
 ghost use Rattle.mr_world.specs.declared.answered.Answered.{Answered};
 ghost use Rattle.mr_world.specs.World.{World};
 ghost use Rattle.mr_world.specs.Moves.{Moves};
@@ -24,7 +25,6 @@ ghost use Rattle.mr_world.specs.Runs.{IsFreshWorld, Runs, history, seen_step};
 ghost use Rattle.mr_world.specs.ListedItems.{IsGenuine};
 
 use crate::answer::Answer;
-use crate::event::Event;
 use mr_forms::Knowledge;
 use mr_replica::{Refusal, Reply};
 use mr_wire::{Body, Mode};
@@ -83,13 +83,13 @@ pub fn never_forged<K: Knowledge>()
 /// as they were at its first Held record, and its source's knowledge as the stream was opened.
 pub fn replies_of_sets<K: Knowledge>()
     ensures asks { (filters : ℕ → List ClauseParts) (w w' : World K) (m : MailMoment) (r : ℕ) (ask : Question) →
-        Agrees K.form filters w m → Moves K.form w (Event.Pull r) (Answer.Stepped (Ok (Reply.Asked ask))) w' →
+        Agrees K.form filters w m → Moves K.form w (r does act.Pull) (Answer.Stepped (Ok (Reply.Asked ask))) w' →
         ((v : Name) → IsTrue (is_issued m.issues v) → claimed ask.fragments (item_of m.issues v) v ≡ known m r v) ⊎ IsTooLong K.form (w.replicas r).knowledge }
     ensures known { (filters : ℕ → List ClauseParts) (w w' : World K) (m : MailMoment) (r n : ℕ) (sent : Sent) (v : Name) →
-        Agrees K.form filters w m → Moves K.form w (Event.Receive r n) (Answer.Stepped (Ok Reply.Known)) w' → numbered w.records n ≡ Some sent →
+        Agrees K.form filters w m → Moves K.form w (r does act.Receive n) (Answer.Stepped (Ok Reply.Known)) w' → numbered w.records n ≡ Some sent →
         version_in (seen_body sent.body) ≡ Some v → IsTrue (known m r v) }
     ensures took { (filters : ℕ → List ClauseParts) (w w' : World K) (m : MailMoment) (r n : ℕ) (sent : Sent) (v : Name) →
-        Agrees K.form filters w m → Moves K.form w (Event.Receive r n) (Answer.Stepped (Ok Reply.Took)) w' → numbered w.records n ≡ Some sent →
+        Agrees K.form filters w m → Moves K.form w (r does act.Receive n) (Answer.Stepped (Ok Reply.Took)) w' → numbered w.records n ≡ Some sent →
         version_in (seen_body sent.body) ≡ Some v → IsFalse (known m r v) }
     ensures told { (filters : ℕ → List ClauseParts) (w : World K) (m : MailMoment) (end start : Sent) →
         Agrees K.form filters w m → In end w.records → In start w.records → AreOfOneStream end start → end.body ≡ Body.End → start.body ≡ Body.Start Mode.Full →

@@ -1,7 +1,7 @@
 //! A world of replicas: what each holds, all that they gave one another, and ports to their subscribers.
 //!
-//! A [`World`] is made of [`Spec`]s, one for each replica, and then events happen in it. Most are events
-//! of one replica. Where a replica gives a request, a record or a receipt, its frame comes into a pool of
+//! A [`World`] is made of [`Spec`]s, one for each replica, and then events happen in it: each is a replica's
+//! id with what the replica does, or one of its ports. Where a replica gives a request, a record or a receipt, its frame comes into a pool of
 //! the world, with a number from 1, and there it stays: other events deliver it to any replica, as often
 //! and in whatever order, or only a part of it. A replica's feed is told to two subscribers, an indexer
 //! and a notifier, by a port each.
@@ -18,7 +18,7 @@
 //! ```text
 //! let spec = Spec { id, filter, event_limit: 1_000_000, port_capacity: 4096 };
 //! let world: World<ItemKnowledge> = World::try_new(alloc, vec![in alloc; spec]?)?;
-//! let world = world.run(vec![in alloc; Event::Create(id, message), Event::Offer(id, Subscriber::Indexer)]?)?;
+//! let world = world.run(vec![in alloc; Act::Create(message).by(id), Act::Offer(Subscriber::Indexer).by(id)]?)?;
 //! assert_eq!(world.answers().len(), 2);
 //! ```
 #![tactic(auto)]
@@ -30,7 +30,6 @@ mod event;
 mod fault;
 pub mod laws;
 mod member;
-mod named;
 mod outlet;
 mod pool;
 mod pools;
@@ -42,8 +41,9 @@ mod world;
 
 pub use answer::Answer;
 pub use answered::Answered;
-pub use event::{Event, Subscriber};
+pub use event::{Act, Event};
 pub use fault::{SpecFault, WorldFault};
+pub use mr_model::Subscriber;
 pub use run::Stopped;
 pub use spec::Spec;
 pub use world::World;

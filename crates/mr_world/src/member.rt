@@ -6,13 +6,13 @@ ghost use Rattle.mr_world.specs.Stepped.{StepsIn, IsRefusedBy};
 ghost use Rattle.mr_world.specs.Ports.{Offers, Takes, Closes};
 
 use crate::answer::Answer;
-use crate::event::Subscriber;
 use crate::fault::WorldFault;
 use crate::outlet::Outlet;
 use crate::pools::{Pools, given_by};
 use crate::task::Task;
 use mr_feed::PlainPort;
 use mr_forms::Knowledge;
+use mr_model::Subscriber;
 use mr_replica::{Event as ReplicaEvent, Refusal, Replica};
 use mr_version::Author;
 use std::alloc::{AllocError, Global};

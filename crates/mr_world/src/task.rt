@@ -1,19 +1,22 @@
-//! What an event of a world asks of its replica, or of one of the replica's ports.
+//! What an act asks of its replica, or of one of the replica's ports.
 ghost use Rattle.std.specs.Prelude.{◌≡◌, IfOk, All};
+ghost use Rattle.std.specs.Option.{option_map};
+ghost use Rattle.mr_model.specs.Moment.{numbered};
 ghost use Rattle.mr_wire.specs.Grammar.{Spells};
 ghost use Rattle.mr_wire.specs.declared.frame.Frame.{Frame};
-ghost use Rattle.mr_world.specs.Pool.{IsAskFrame, IsRecordFrame, IsReceiptFrame};
-ghost use Rattle.mr_world.specs.Task.{AreFrames, Finds, IsTask, IsReceiving, IsDelivering, IsAnswering, IsReleasing, lacks, lacks_frame};
+ghost use Rattle.mr_world.specs.Asked.{asked_of, receiving, delivering, answering, releasing, Finds};
+ghost use Rattle.mr_world.specs.Pool.{AreFrames, IsAskFrame, IsRecordFrame, IsReceiptFrame, questions_in, sents_in, receipts_in};
 
-use crate::event::{Event, Subscriber};
+use crate::event::Act;
 use crate::fault::WorldFault;
 use crate::pool::Pool;
 use crate::pools::Pools;
+use mr_model::Subscriber;
 use mr_replica::Event as ReplicaEvent;
 use mr_wire::{Frame, decode};
 use std::alloc::{AllocError, Global};
 
-/// What an event asks for, with all that it needs of the pools.
+/// What an act asks for, with all that it needs of the pools.
 #[derive(Drop)]
 pub enum Task {
     /// An event of the replica.
@@ -25,40 +28,38 @@ pub enum Task {
     Close(Subscriber),
 }
 
-/// The event's task. `NoSuchFrame` where it names a number that its pool hasn't got, and `OutOfMemory`
-/// otherwise. It costs a copy of what the event carries, or of the frame that it names.
-pub fn task_of(alloc: Global, pools: &Pools, event: &Event) -> Result<Task, WorldFault>
+/// What the act asks. `NoSuchFrame` where it names a number that its pool hasn't got, and `OutOfMemory`
+/// otherwise. It costs a copy of what the act carries, or of the frame that it names.
+pub fn task_of(alloc: Global, pools: &Pools, act: &Act) -> Result<Task, WorldFault>
     requires { AreFrames pools.now }
-    ensures { Finds (IsTask pools.now event.now) (lacks_frame pools.now event.now) result }
+    ensures { Finds (asked_of pools.now act.now) result }
 {
-    match event {
-        Event::Create(_, message) => Ok(Task::Step(ReplicaEvent::Create(message.copy()?))),
-        Event::Edit(_, bases, message) => Ok(Task::Step(ReplicaEvent::Edit(
-            bases.copy()?,
-            message.copy()?,
-        ))),
-        Event::Retire(_) => Ok(Task::Step(ReplicaEvent::Retire)),
-        Event::Pull(_) => Ok(Task::Step(ReplicaEvent::Pull)),
-        Event::Receive(_, number) => receive(alloc, pools.records(), *number),
-        Event::DeliverPart(_, number, bytes) => {
-            deliver_part(alloc, pools.records(), *number, *bytes)
+    match act {
+        Act::Create(message) => Ok(Task::Step(ReplicaEvent::Create(message.copy()?))),
+        Act::Edit(bases, message) => {
+            let event = ReplicaEvent::Edit(bases.copy()?, message.copy()?);
+            Ok(Task::Step(event))
         }
-        Event::CutIn(_, session) => Ok(Task::Step(ReplicaEvent::CutIn(*session))),
-        Event::Answer(_, number) => answer(alloc, pools.asks(), *number),
-        Event::Next(_, stream) => Ok(Task::Step(ReplicaEvent::Next(*stream))),
-        Event::CutOut(_, stream) => Ok(Task::Step(ReplicaEvent::CutOut(*stream))),
-        Event::Offer(_, subscriber) => Ok(Task::Offer(*subscriber)),
-        Event::Take(_, subscriber) => Ok(Task::Take(*subscriber)),
-        Event::Close(_, subscriber) => Ok(Task::Close(*subscriber)),
-        Event::Vouch(_, version) => Ok(Task::Step(ReplicaEvent::Vouch(*version))),
-        Event::Release(_, number) => release(alloc, pools.receipts(), *number),
+        Act::Retire => Ok(Task::Step(ReplicaEvent::Retire)),
+        Act::Pull => Ok(Task::Step(ReplicaEvent::Pull)),
+        Act::Receive(number) => receive(alloc, pools.records(), *number),
+        Act::DeliverPart(number, bytes) => deliver_part(alloc, pools.records(), *number, *bytes),
+        Act::CutIn(session) => Ok(Task::Step(ReplicaEvent::CutIn(*session))),
+        Act::Answer(number) => answer(alloc, pools.asks(), *number),
+        Act::Next(stream) => Ok(Task::Step(ReplicaEvent::Next(*stream))),
+        Act::CutOut(stream) => Ok(Task::Step(ReplicaEvent::CutOut(*stream))),
+        Act::Offer(subscriber) => Ok(Task::Offer(*subscriber)),
+        Act::Take(subscriber) => Ok(Task::Take(*subscriber)),
+        Act::Close(subscriber) => Ok(Task::Close(*subscriber)),
+        Act::Vouch(version) => Ok(Task::Step(ReplicaEvent::Vouch(*version))),
+        Act::Release(number) => release(alloc, pools.receipts(), *number),
     }
 }
 
 // The record of this number comes to the replica.
 fn receive(alloc: Global, records: &Pool, number: u64) -> Result<Task, WorldFault>
     requires { All IsRecordFrame records.now.frames }
-    ensures { Finds (IsReceiving records.now.frames number) (lacks records.now.frames number) result }
+    ensures { Finds (option_map receiving (numbered (sents_in records.now.frames) number)) result }
 {
     match records.get(number) {
         Some(bytes) => Ok(Task::Step(ReplicaEvent::Receive(frame_of(alloc, bytes)?))),
@@ -69,7 +70,7 @@ fn receive(alloc: Global, records: &Pool, number: u64) -> Result<Task, WorldFaul
 // So many bytes of the record of this number come to the replica: it all, where it has no more.
 fn deliver_part(alloc: Global, records: &Pool, number: u64, bytes: u64) -> Result<Task, WorldFault>
     requires { All IsRecordFrame records.now.frames }
-    ensures { Finds (IsDelivering records.now.frames number bytes) (lacks records.now.frames number) result }
+    ensures { Finds (option_map (delivering bytes) (numbered (sents_in records.now.frames) number)) result }
 {
     match records.get(number) {
         Some(frame) if bytes < frame.len() as u64 => Ok(Task::Truncated),
@@ -81,30 +82,28 @@ fn deliver_part(alloc: Global, records: &Pool, number: u64, bytes: u64) -> Resul
 // The request of this number comes to the replica.
 fn answer(alloc: Global, asks: &Pool, number: u64) -> Result<Task, WorldFault>
     requires { All IsAskFrame asks.now.frames }
-    ensures { Finds (IsAnswering asks.now.frames number) (lacks asks.now.frames number) result }
+    ensures { Finds (option_map answering (numbered (questions_in asks.now.frames) number)) result }
 {
-    let Some(bytes) = asks.get(number) else {
-        return Err(WorldFault::NoSuchFrame);
-    };
-    let frame = frame_of(alloc, bytes)?;
-    match frame {
-        Frame::Ask(ask) => Ok(Task::Step(ReplicaEvent::Answer(ask))),
-        _ => unreachable!(),
+    match asks.get(number) {
+        Some(bytes) => match frame_of(alloc, bytes)? {
+            Frame::Ask(ask) => Ok(Task::Step(ReplicaEvent::Answer(ask))),
+            _ => unreachable!(),
+        },
+        None => Err(WorldFault::NoSuchFrame),
     }
 }
 
 // The receipt of this number comes to the replica.
 fn release(alloc: Global, receipts: &Pool, number: u64) -> Result<Task, WorldFault>
     requires { All IsReceiptFrame receipts.now.frames }
-    ensures { Finds (IsReleasing receipts.now.frames number) (lacks receipts.now.frames number) result }
+    ensures { Finds (option_map releasing (numbered (receipts_in receipts.now.frames) number)) result }
 {
-    let Some(bytes) = receipts.get(number) else {
-        return Err(WorldFault::NoSuchFrame);
-    };
-    let frame = frame_of(alloc, bytes)?;
-    match frame {
-        Frame::Receipt(receipt) => Ok(Task::Step(ReplicaEvent::Release(receipt))),
-        _ => unreachable!(),
+    match receipts.get(number) {
+        Some(bytes) => match frame_of(alloc, bytes)? {
+            Frame::Receipt(receipt) => Ok(Task::Step(ReplicaEvent::Release(receipt))),
+            _ => unreachable!(),
+        },
+        None => Err(WorldFault::NoSuchFrame),
     }
 }
 

@@ -31,7 +31,7 @@ pub struct World<K: Knowledge> {
 
 impl<K: Knowledge> Model for World<K> {
     ghost use Rattle.mr_world.specs.Kept.{WorldView, world_view};
-    ghost use Rattle.mr_world.specs.Task.{AreFrames};
+    ghost use Rattle.mr_world.specs.Pool.{AreFrames};
     ghost use Rattle.mr_world.specs.Promise.{KeepsRules};
 
     ghost Value = { WorldView K };

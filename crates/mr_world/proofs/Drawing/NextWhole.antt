@@ -25,14 +25,14 @@ use Rattle.mr_session.specs.declared.origin.Origin.{Origin}
 use Rattle.mr_wire.specs.Frames.{Sent}
 use Rattle.mr_wire.specs.declared.frame.Body.{Body}
 use Rattle.mr_world.specs.Agrees.{Agrees, HoldingsAgree}
-use Rattle.mr_world.specs.Moves.{Moves}
+use Rattle.mr_world.specs.Moves.{StepsAt}
 use Rattle.mr_world.specs.Seen.{MailMoment, seen_record, setting_of}
 use Rattle.mr_world.specs.Sessions.{Follows, SessionsAgree}
 use Rattle.mr_world.specs.Streams.{StreamAgrees, StreamsAgree}
 use Rattle.mr_world.specs.World.{World, with_given, with_replica}
 use Rattle.mr_world.specs.declared.answer.Answer.{Answer}
 use Rattle.mr_world.specs.declared.answer.Answer.TheVariants.{Stepped}
-use Rattle.mr_world.specs.declared.event.Event.TheVariants as event
+use Rattle.mr_model.specs.declared.event.Act.TheVariants as act
 use Rattle.mr_world.proofs.Groundwork.AtPlaces.{at_other, same_place}
 use Rattle.mr_world.proofs.Drawing.Drawn.{Drawn, Source, drawn, next_allowed, record_of}
 use Rattle.mr_world.proofs.Agreement.Staying.{session_given, stream_given, tables_hold}
@@ -145,9 +145,9 @@ module _ {K : Type 0} (form : Form K) (filters : ℕ → List ClauseParts) (w : 
       subst (λ (st : State K). IsNext (setting_of filters) m r number (seen_record sent) × Agrees form filters (record (with_replica w r st) { records = sent ∷ w.records }) (after_giving m (seen_record sent))) (sym is_new)
       (subst (λ (y : Sent). IsNext (setting_of filters) m r number (seen_record y) × Agrees form filters (record (with_replica w r (drawn_state r number k sent.body gives.0 in_table.2 (drawn (w.replicas r) k sent.body gives.0 gives.1))) { records = y ∷ w.records }) (after_giving m (seen_record y))) is_sent core)
 
-  pub nexts : (r number : ℕ) (answer : Answer) (w' : World K) → Moves form w (event.Next r number) answer w' → Refines form filters w m (event.Next r number) answer w'
-  nexts r number answer w' move = by_steps form filters w m a (event.Next r number) r (replica.Next number) answer w' move go
+  pub nexts : (r number : ℕ) (answer : Answer) (w' : World K) → StepsAt form w r (replica.Next number) answer w' → Refines form filters w m r (act.Next number) answer w'
+  nexts r number answer w' move = by_steps form filters w m a r (act.Next number) (replica.Next number) answer w' move go
     where
-      go : (reply : Reply) (new : State K) → first_refusal (w.replicas r) (replica.Next number) ≡ None → Changes form (w.replicas r) (replica.Next number) reply new → Refines form filters w m (event.Next r number) (Stepped (Ok reply)) (with_given (with_replica w r new) (Ok reply))
+      go : (reply : Reply) (new : State K) → first_refusal (w.replicas r) (replica.Next number) ≡ None → Changes form (w.replicas r) (replica.Next number) reply new → Refines form filters w m r (act.Next number) (Stepped (Ok reply)) (with_given (with_replica w r new) (Ok reply))
       go (Gave sent) new none step = next_agrees r number sent new step
       go reply new none step = absurd step

@@ -4,8 +4,9 @@ use Rattle.std.specs.Prelude.{Ok}
 use Rattle.mr_version.specs.Name.{Name}
 use Rattle.mr_forms.specs.Known.{Form}
 use Rattle.mr_filter.specs.Filter.{ClauseParts}
+use Rattle.mr_mail.specs.Mail.{Mail}
 use Rattle.mr_model.specs.Changes.{Reception, Reception.AsFinished, Reception.AsKnown, Reception.AsTaken, change_by_reply, change_of, now}
-use Rattle.mr_model.specs.History.{Body, Body.Item, Body.MoveOut, Record}
+use Rattle.mr_model.specs.History.{◌does◌, Body, Body.Item, Body.MoveOut, Record}
 use Rattle.mr_model.specs.Moment.{known, numbered}
 use Rattle.mr_model.specs.Rules.{IsAllowed, reception_of, version_in}
 use Rattle.mr_model.proofs.Basics.{cases}
@@ -15,13 +16,13 @@ use Rattle.mr_world.specs.Agrees.{Agrees}
 use Rattle.mr_world.specs.Moves.{Moves}
 use Rattle.mr_world.specs.Replies.{AreBySets, IsBySets, TellsWhetherKnown}
 use Rattle.mr_world.specs.Runs.{history}
-use Rattle.mr_world.specs.Seen.{MailMoment, seen_answer, seen_event, seen_reply, setting_of}
+use Rattle.mr_world.specs.Seen.{MailMoment, seen_answer, seen_reply, setting_of}
 use Rattle.mr_world.specs.World.{World}
 use Rattle.mr_world.specs.declared.answer.Answer.{Answer}
 use Rattle.mr_world.specs.declared.answer.Answer.TheVariants.{Stepped}
 use Rattle.mr_world.specs.declared.answered.Answered.{Answered}
-use Rattle.mr_world.specs.declared.event.Event.{Event}
-use Rattle.mr_world.specs.declared.event.Event.TheVariants as event
+use Rattle.mr_model.specs.declared.event.Act.{Act}
+use Rattle.mr_model.specs.declared.event.Act.TheVariants as act
 use Rattle.mr_world.proofs.Histories.Replies.{claims_known}
 
 -- ---- how a record is received
@@ -53,11 +54,11 @@ module _ (m : MailMoment) (r : ℕ) where
 -- ---- one answer
 
 module _ {K : Type 0} (form : Form K) (filters : ℕ → List ClauseParts) (w w' : World K) (m : MailMoment) (a : Agrees form filters w m) where
-  pub is_by_sets : (e : Event) (reply : Answer) → IsAllowed (setting_of filters) m (change_of m (seen_event e) (seen_answer m.issues reply)) → Moves form w e reply w' → IsBySets form m e reply
-  is_by_sets (event.Pull r) (Stepped (Ok (Asked ask))) allowed move = claims_known form filters w w' m a r ask move
-  is_by_sets (event.Receive r n) (Stepped (Ok reply)) allowed move = by_reply m r filters reply n (numbered m.given n) refl allowed
-  is_by_sets (event.DeliverPart r n bytes) (Stepped (Ok reply)) allowed move = by_reply m r filters reply n (numbered m.given n) refl allowed
-  is_by_sets e reply allowed move = tt
+  pub is_by_sets : (r : ℕ) (x : Act Mail) (reply : Answer) → IsAllowed (setting_of filters) m (change_of m r x (seen_answer m.issues reply)) → Moves form w (r does x) reply w' → IsBySets form m r x reply
+  is_by_sets r act.Pull (Stepped (Ok (Asked ask))) allowed move = claims_known form filters w w' m a r ask move
+  is_by_sets r (act.Receive n) (Stepped (Ok reply)) allowed move = by_reply m r filters reply n (numbered m.given n) refl allowed
+  is_by_sets r (act.DeliverPart n bytes) (Stepped (Ok reply)) allowed move = by_reply m r filters reply n (numbered m.given n) refl allowed
+  is_by_sets r x reply allowed move = tt
 
 -- ---- all answers
 
@@ -80,9 +81,9 @@ module _ {K : Type 0} (form : Form K) (filters : ℕ → List ClauseParts) where
   none_by_sets xs none [] later x e = let c : (◌≡◌ {A = List Answered} [] (x ∷ later)) = sym none ∙ e in absurd (cc)
   none_by_sets xs none (b ∷ before) later x e = let c : (◌≡◌ {A = List Answered} [] (b ∷ (before ++ x ∷ later))) = sym none ∙ e in absurd (cc)
 
-  pub more_by_sets : (xs : List Answered) (y : Answered) → AreBySets form filters xs → IsBySets form (now (setting_of filters) (history filters xs)) y.event y.answer → AreBySets form filters (xs ++ y ∷ [])
+  pub more_by_sets : (xs : List Answered) (y : Answered) → AreBySets form filters xs → IsBySets form (now (setting_of filters) (history filters xs)) y.event.replica y.event.act y.answer → AreBySets form filters (xs ++ y ∷ [])
   more_by_sets xs y others new before later x e = elim (last_or_other xs y before later x e) [
-    | inl last ↦ subst (λ (z : Answered). IsBySets form (now (setting_of filters) (history filters before)) z.event z.answer) last.1
-        (subst (λ (zs : List Answered). IsBySets form (now (setting_of filters) (history filters zs)) y.event y.answer) last.0 new)
+    | inl last ↦ subst (λ (z : Answered). IsBySets form (now (setting_of filters) (history filters before)) z.event.replica z.event.act z.answer) last.1
+        (subst (λ (zs : List Answered). IsBySets form (now (setting_of filters) (history filters zs)) y.event.replica y.event.act y.answer) last.0 new)
     | inr other ↦ others before other.0 x other.1
   ]

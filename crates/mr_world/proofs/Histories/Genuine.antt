@@ -38,13 +38,13 @@ use Rattle.mr_world.specs.ListedItems.{IsGenuine, IsListedReplica, IsListedWorld
 use Rattle.mr_world.specs.Moves.{Moves, StepsAt}
 use Rattle.mr_world.specs.Normal.{IsNormalReplica}
 use Rattle.mr_world.specs.Runs.{IsFresh, IsFreshWorld, Runs, seen_step}
-use Rattle.mr_world.specs.Seen.{MailMoment, MailSetting, seen_answer, seen_event, setting_of}
+use Rattle.mr_world.specs.Seen.{MailMoment, MailSetting, seen_answer, setting_of}
 use Rattle.mr_world.specs.Told.{IsTrueBody}
 use Rattle.mr_world.specs.World.{World, with_given, with_replica}
 use Rattle.mr_world.specs.declared.answer.Answer.{Answer}
 use Rattle.mr_world.specs.declared.answer.Answer.TheVariants as answer
 use Rattle.mr_world.specs.declared.answered.Answered.{Answered}
-use Rattle.mr_world.specs.declared.event.Event.{Event}
+use Rattle.mr_model.specs.declared.event.Event.{Event}
 use Rattle.mr_world.proofs.Keeping.ListedItems.{IsIssuedEvent, IsIssuedReply, lists_more, replica_more, step_listed}
 use Rattle.mr_world.proofs.Keeping.NeverForged.{never_forged}
 use Rattle.mr_world.proofs.Keeping.NormalForm.{moves_normal}
@@ -130,16 +130,16 @@ module _ {K : Type 0} (form : Form K) (filters : ℕ → List ClauseParts) (form
     by_mover reply (A_port r u port is none) = subst (IsListedWorld form m'.issues) (sym is) (record { replicas = listed_later.replicas; records = listed_later.records })
     by_mover reply (None_at_all is none) = subst (IsListedWorld form m'.issues) (sym is) listed_later
 
-    moves_listed : (e : Event) (reply : Answer) → Moves form w e reply w' → IsListedWorld form m'.issues w'
+    moves_listed : (e : Event Mail) (reply : Answer) → Moves form w e reply w' → IsListedWorld form m'.issues w'
     moves_listed e reply move = by_mover reply (mover form w e reply w' move)
 
   -- ---- one event
 
   -- a genuine world stays one
-  pub moves_genuine : (w w' : World K) (m : MailMoment) (e : Event) (reply : Answer) → Inv (setting_of filters) m → Agrees form filters w m → IsGenuine form m.issues w → Moves form w e reply w' →
-      IsGenuine form (happens (setting_of filters) m (change m (record { event = seen_event e; reply = seen_answer m.issues reply }))).issues w'
+  pub moves_genuine : (w w' : World K) (m : MailMoment) (e : Event Mail) (reply : Answer) → Inv (setting_of filters) m → Agrees form filters w m → IsGenuine form m.issues w → Moves form w e reply w' →
+      IsGenuine form (happens (setting_of filters) m (change m (record { event = e; reply = seen_answer m.issues reply }))).issues w'
   moves_genuine w w' m e reply inv a genuine move =
-      let c = change m (record { event = seen_event e; reply = seen_answer m.issues reply }) in
+      let c = change m (record { event = e; reply = seen_answer m.issues reply }) in
       let step = refines form filters w m inv a e reply w' move in
       record {
         normal = moves_normal form w genuine.normal e reply w' move;
@@ -147,7 +147,7 @@ module _ {K : Type 0} (form : Form K) (filters : ℕ → List ClauseParts) (form
       }
 
   -- and answers no event with Forged
-  pub genuine_answers : (w w' : World K) (m : MailMoment) (e : Event) (reply : Answer) → Inv (setting_of filters) m → Agrees form filters w m → IsGenuine form m.issues w → Moves form w e reply w' → reply ≢ answer.Stepped (Err refusal.Forged)
+  pub genuine_answers : (w w' : World K) (m : MailMoment) (e : Event Mail) (reply : Answer) → Inv (setting_of filters) m → Agrees form filters w m → IsGenuine form m.issues w → Moves form w e reply w' → reply ≢ answer.Stepped (Err refusal.Forged)
   genuine_answers w w' m e reply inv a genuine move forged = never_forged form filters w m inv a genuine.normal genuine.listed.records e w' (subst (λ (z : Answer). Moves form w e z w') forged move)
 
   -- ---- whole runs

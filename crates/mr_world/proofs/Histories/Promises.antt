@@ -29,7 +29,7 @@ use Rattle.mr_world.specs.World.{new_port}
 use Rattle.mr_world.specs.declared.answer.Answer.{Answer}
 use Rattle.mr_world.specs.declared.answer.Answer.TheVariants.{Stepped}
 use Rattle.mr_world.specs.declared.answered.Answered.{Answered}
-use Rattle.mr_world.specs.declared.event.Event.{Event}
+use Rattle.mr_model.specs.declared.event.Event.{Event}
 use Rattle.mr_world.specs.declared.fault.WorldFault.{WorldFault}
 use Rattle.mr_world.specs.declared.spec.Spec.{Spec}
 use Rattle.mr_world.proofs.Histories.BySets.{is_by_sets, more_by_sets, none_by_sets}
@@ -124,7 +124,7 @@ module _ {K : Type 0} (form : Form K) where
 
   -- ---- an event happens
 
-  module _ (form_lists : ListsMore form) (w w' : WorldView K) (e : Event) (answer : Answer) (k : KeepsRules form w) (happens : Happens form w e answer w') where
+  module _ (form_lists : ListsMore form) (w w' : WorldView K) (e : Event Mail) (answer : Answer) (k : KeepsRules form w) (happens : Happens form w e answer w') where
     abbrev x : Answered
     x = answered e answer
 
@@ -134,10 +134,10 @@ module _ {K : Type 0} (form : Form K) where
     step : IsRun (setting_in w) start (history_of w ++ seen_step (moment_of w) x ∷ []) × Agrees form (filters_of w) (whole_world form k.nothing w') (now (setting_in w) (history_of w ++ seen_step (moment_of w) x ∷ []))
     step = one_more form (filters_of w) (whole_world form k.nothing w) (whole_world form k.nothing w') (history_of w) x k.run k.agrees moves
 
-    by_sets : IsBySets form (moment_of w) e answer
+    by_sets : IsBySets form (moment_of w) e.replica e.act answer
     by_sets =
         let allowed = refines form (filters_of w) (whole_world form k.nothing w) (moment_of w) (run_inv (setting_in w) (history_of w) k.run) k.agrees e answer (whole_world form k.nothing w') moves in
-        is_by_sets form (filters_of w) (whole_world form k.nothing w) (whole_world form k.nothing w') (moment_of w) k.agrees e answer allowed.0 moves
+        is_by_sets form (filters_of w) (whole_world form k.nothing w) (whole_world form k.nothing w') (moment_of w) k.agrees e.replica e.act answer allowed.0 moves
 
     genuine : IsGenuine form (now (setting_in w) (history_of w ++ seen_step (moment_of w) x ∷ [])).issues (whole_world form k.nothing w') × (answer ≢ Stepped (Err refusal.Forged))
     genuine = one_more_genuine form (filters_of w) form_lists (whole_world form k.nothing w) (whole_world form k.nothing w') (history_of w) x k.run k.agrees k.genuine moves
@@ -171,11 +171,11 @@ module _ {K : Type 0} (form : Form K) where
     }
 
   -- it is answered, or nothing changes
-  pub meets_keeps : ListsMore form → (w w' : WorldView K) (e : Event) (result : Result (Unit {0}) WorldFault) → KeepsRules form w → Meets form w e result w' → KeepsRules form w'
+  pub meets_keeps : ListsMore form → (w w' : WorldView K) (e : Event Mail) (result : Result (Unit {0}) WorldFault) → KeepsRules form w → Meets form w e result w' → KeepsRules form w'
   meets_keeps form_lists w w' e (Ok done) k meets = happens_keeps form_lists w w' e meets.0 k meets.1
   meets_keeps form_lists w w' e (Err fault) k meets = subst (KeepsRules form) (sym meets.1) k
 
-  pub leads_keeps : ListsMore form → (w w' : WorldView K) (events : List Event) → KeepsRules form w → Leads form w events w' → KeepsRules form w'
+  pub leads_keeps : ListsMore form → (w w' : WorldView K) (events : List (Event Mail)) → KeepsRules form w → Leads form w events w' → KeepsRules form w'
   leads_keeps form_lists w w' [] k leads = subst (KeepsRules form) (sym leads) k
   leads_keeps form_lists w w' (e ∷ events) k leads = leads_keeps form_lists leads.0 w' events (happens_keeps form_lists w leads.0 e leads.1 k leads.2) leads.3
 

@@ -1,12 +1,14 @@
 -- The replies of a world that agrees with a moment are those of sets.
-use Rattle.std.proofs.Common.{◌≡◌, sym, ap, subst, ◌∙◌, ℕ, ◌≤◌, nat_le, Bool, true, false, List, map, length, take, inl, inr, ◌⊎◌, IsTrue, IsFalse, arith, Option, Some, None}
+use Rattle.std.proofs.Common.{◌≡◌, refl, sym, ap, subst, ◌∙◌, ℕ, ◌≤◌, nat_le, Bool, true, false, List, map, length, take, inl, inr, ◌⊎◌, IsTrue, IsFalse, arith, Option, Some, None}
 use Rattle.std.specs.Prelude.{Ok}
 use Rattle.std.proofs.lemmas.Bool.{leb-true, leb-false}
 use Rattle.std.proofs.lemmas.List.{take_all}
+use Rattle.std.specs.Option.{option_map}
 use Rattle.mr_version.specs.Name.{Name}
 use Rattle.mr_forms.specs.Known.{Form}
 use Rattle.mr_filter.specs.Filter.{ClauseParts}
 use Rattle.mr_madewith.specs.Revision.{Rev}
+use Rattle.mr_model.specs.History.{◌does◌}
 use Rattle.mr_model.specs.Moment.{known, numbered}
 use Rattle.mr_model.specs.Rules.{version_in}
 use Rattle.mr_model.specs.Versions.{is_issued, item_of}
@@ -30,16 +32,17 @@ use Rattle.mr_wire.specs.declared.frame.Body.TheVariants.{Start, Item, MoveOut, 
 use Rattle.mr_wire.specs.declared.frame.Frame.TheVariants as frame
 use Rattle.mr_world.specs.Agrees.{Agrees}
 use Rattle.mr_world.specs.Issued.{IsTrueLine}
+use Rattle.mr_world.specs.Asked.{receiving}
 use Rattle.mr_world.specs.Moves.{Moves}
 use Rattle.mr_world.specs.Replies.{ClaimsKnown, IsTooLong}
 use Rattle.mr_world.specs.Seen.{MailMoment, seen_body}
 use Rattle.mr_world.specs.Told.{IsTrueBody}
 use Rattle.mr_world.specs.World.{World}
 use Rattle.mr_world.specs.declared.answer.Answer.TheVariants.{Stepped}
-use Rattle.mr_world.specs.declared.event.Event.TheVariants as event
+use Rattle.mr_model.specs.declared.event.Act.TheVariants as act
 use Rattle.mr_world.proofs.Moving.Opening.{asks_known as asks_no_more}
 use Rattle.mr_replica.proofs.Replies.{step_replied}
-use Rattle.mr_world.proofs.Groundwork.Tools.{some_path}
+use Rattle.mr_world.proofs.Moving.Asking.{step_of}
 
 -- ---- requests
 
@@ -62,17 +65,19 @@ module _ {K : Type 0} (form : Form K) (s : State K) (q : Question) (ask : IsAskO
   ]
 
 module _ {K : Type 0} (form : Form K) (filters : ℕ → List ClauseParts) (w w' : World K) (m : MailMoment) (a : Agrees form filters w m) (r : ℕ) where
-  pub asks_known : (q : Question) → Moves form w (event.Pull r) (Stepped (Ok (Asked q))) w' → ((v : Name) → IsTrue (is_issued m.issues v) → claimed q.fragments (item_of m.issues v) v ≡ known m r v) ⊎ IsTooLong form (w.replicas r).knowledge
+  pub asks_known : (q : Question) → Moves form w (r does act.Pull) (Stepped (Ok (Asked q))) w' → ((v : Name) → IsTrue (is_issued m.issues v) → claimed q.fragments (item_of m.issues v) v ≡ known m r v) ⊎ IsTooLong form (w.replicas r).knowledge
   asks_known q move =
-      let step = step_replied form (w.replicas r) replica.Pull (Asked q) move.1 move.2 in
+      let there = step_of form w (r does act.Pull) replica.Pull (Stepped (Ok (Asked q))) w' refl move in
+      let step = step_replied form (w.replicas r) replica.Pull (Asked q) there.1 there.2 in
       elim (asks_all form (w.replicas r) q step.1.0) [
         | inl same ↦ inl (λ v issued. same (item_of m.issues v) v ∙ (a.holdings r).knows.same v issued)
         | inr long ↦ inr long
       ]
 
-  pub claims_known : (q : Question) → Moves form w (event.Pull r) (Stepped (Ok (Asked q))) w' → ClaimsKnown form m r q
+  pub claims_known : (q : Question) → Moves form w (r does act.Pull) (Stepped (Ok (Asked q))) w' → ClaimsKnown form m r q
   claims_known q move =
-      let step = step_replied form (w.replicas r) replica.Pull (Asked q) move.1 move.2 in
+      let there = step_of form w (r does act.Pull) replica.Pull (Stepped (Ok (Asked q))) w' refl move in
+      let step = step_replied form (w.replicas r) replica.Pull (Asked q) there.1 there.2 in
       let knows = (a.holdings r).knows in
       record {
         no_more = λ v issued h. sym (knows.same v issued) ∙ asks_no_more form (w.replicas r) q step.1.0 (item_of m.issues v) v h;
@@ -107,15 +112,15 @@ module _ {K : Type 0} (form : Form K) (filters : ℕ → List ClauseParts) (w w'
   body_answer sent (Know piece) reply new v t e step = absurd (cc)
   body_answer sent End reply new v t e step = absurd (cc)
 
-  record_answer : (n : ℕ) (reply : Reply) → Moves form w (event.Receive r n) (Stepped (Ok reply)) w' → (sent : Sent) → numbered w.records n ≡ Some sent → (v : Name) → version_in (seen_body sent.body) ≡ Some v → IsAnswer reply v
+  record_answer : (n : ℕ) (reply : Reply) → Moves form w (r does act.Receive n) (Stepped (Ok reply)) w' → (sent : Sent) → numbered w.records n ≡ Some sent → (v : Name) → version_in (seen_body sent.body) ≡ Some v → IsAnswer reply v
   record_answer n reply move sent pool v e =
-      let one : move.0 ≡ sent = some_path move.0 sent (sym move.1 ∙ pool) in
-      let step = step_replied form (w.replicas r) (replica.Receive (frame.Record move.0)) reply move.2.1 move.2.2 in
-      body_answer move.0 move.0.body reply move.2.1 v (a.records.each move.0 (numbered_in w.records n move.0 move.1)) (ap (λ (z : Sent). version_in (seen_body z.body)) one ∙ e) step.1
+      let there = step_of form w (r does act.Receive n) (replica.Receive (frame.Record sent)) (Stepped (Ok reply)) w' (ap (λ (o : Option Sent). option_map receiving o) pool) move in
+      let step = step_replied form (w.replicas r) (replica.Receive (frame.Record sent)) reply there.1 there.2 in
+      body_answer sent sent.body reply there.1 v (a.records.each sent (numbered_in w.records n sent pool)) e step.1
 
   -- Known is answered of a version that is known, and Took of one that is not
-  pub known_known : (n : ℕ) → Moves form w (event.Receive r n) (Stepped (Ok Known)) w' → (sent : Sent) → numbered w.records n ≡ Some sent → (v : Name) → version_in (seen_body sent.body) ≡ Some v → IsTrue (known m r v)
+  pub known_known : (n : ℕ) → Moves form w (r does act.Receive n) (Stepped (Ok Known)) w' → (sent : Sent) → numbered w.records n ≡ Some sent → (v : Name) → version_in (seen_body sent.body) ≡ Some v → IsTrue (known m r v)
   known_known n move sent pool v e = record_answer n Known move sent pool v e
 
-  pub took_unknown : (n : ℕ) → Moves form w (event.Receive r n) (Stepped (Ok Took)) w' → (sent : Sent) → numbered w.records n ≡ Some sent → (v : Name) → version_in (seen_body sent.body) ≡ Some v → IsFalse (known m r v)
+  pub took_unknown : (n : ℕ) → Moves form w (r does act.Receive n) (Stepped (Ok Took)) w' → (sent : Sent) → numbered w.records n ≡ Some sent → (v : Name) → version_in (seen_body sent.body) ≡ Some v → IsFalse (known m r v)
   took_unknown n move sent pool v e = record_answer n Took move sent pool v e

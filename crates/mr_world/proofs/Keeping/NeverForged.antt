@@ -6,6 +6,7 @@ use Rattle.std.specs.Option.{option_map, option_map_or}
 use Rattle.std.proofs.lemmas.Bool.{and_parts, ltb-true}
 use Rattle.mr_version.specs.Name.{Name, name_eq}
 use Rattle.mr_forms.specs.Known.{Form}
+use Rattle.mr_mail.specs.Mail.{Mail}
 use Rattle.mr_concise.specs.declared.vector.AuthorColumn.{AuthorColumn}
 use Rattle.mr_concise.specs.Vector.{column_of, vector_has}
 use Rattle.mr_concise.proofs.LastLemmas.{bound-is_last}
@@ -47,9 +48,10 @@ use Rattle.mr_world.specs.Seen.{MailMoment, setting_of}
 use Rattle.mr_world.specs.Told.{IsTrueBody}
 use Rattle.mr_world.specs.World.{World}
 use Rattle.mr_world.specs.declared.answer.Answer.TheVariants.{Stepped}
-use Rattle.mr_world.specs.declared.event.Event.{Event}
+use Rattle.mr_model.specs.declared.event.Event.{Event}
 use Rattle.mr_world.proofs.Groundwork.Tools.{find_in}
-use Rattle.mr_world.proofs.Moving.ByReplica.{IsOfPool, Mover, Mover.A_port, Mover.A_replica, Mover.None_at_all, mover}
+use Rattle.mr_world.proofs.Moving.Asking.{IsOfPool}
+use Rattle.mr_world.proofs.Moving.ByReplica.{Mover, Mover.A_port, Mover.A_replica, Mover.None_at_all, mover}
 
 -- ---- which refusal is Forged
 
@@ -196,7 +198,7 @@ module _ {K : Type 0} (form : Form K) (filters : ℕ → List ClauseParts) (w : 
 
 module _ {K : Type 0} (form : Form K) (filters : ℕ → List ClauseParts) (w : World K) (m : MailMoment) (inv : Inv (setting_of filters) m) (a : Agrees form filters w m) (normal : IsNormalWorld w)
     (lists : (sent : Sent) → In sent w.records → ListsIssued m.issues sent.body) where
-  at_forged : (r : ℕ) (there : ReplicaEvent) (w' : World K) → IsOfPool form w there → ¬ StepsAt form w r there (Stepped (Err refusal.Forged)) w'
+  at_forged : (r : ℕ) (there : ReplicaEvent) (w' : World K) → IsOfPool w there → ¬ StepsAt form w r there (Stepped (Err refusal.Forged)) w'
   at_forged r there w' pool move =
       let h = steps_forged form (w.replicas r) there move.1 move.2 in
       let i = pool h.0 h.1 in
@@ -207,5 +209,5 @@ module _ {K : Type 0} (form : Form K) (filters : ℕ → List ClauseParts) (w : 
   by_mover w' (A_port r u port is none) = none (Err refusal.Forged) refl
   by_mover w' (None_at_all is none) = none (Err refusal.Forged) refl
 
-  pub never_forged : (e : Event) (w' : World K) → ¬ Moves form w e (Stepped (Err refusal.Forged)) w'
+  pub never_forged : (e : Event Mail) (w' : World K) → ¬ Moves form w e (Stepped (Err refusal.Forged)) w'
   never_forged e w' move = by_mover w' (mover form w e (Stepped (Err refusal.Forged)) w' move)

@@ -7,6 +7,7 @@ use Rattle.mr_forms.specs.Known.{Form, Part}
 use Rattle.mr_concise.specs.declared.vector.AuthorColumn.{AuthorColumn}
 use Rattle.mr_concise.specs.Vector.{vector_has}
 use Rattle.mr_madewith.specs.Revision.{Rev, has_below}
+use Rattle.mr_mail.specs.Mail.{Mail}
 use Rattle.mr_model.specs.Rules.{In}
 use Rattle.mr_model.proofs.Lists.{in_filter}
 use Rattle.mr_model.proofs.Sets.{at_elim, choice}
@@ -40,7 +41,7 @@ use Rattle.mr_world.specs.Normal.{AreNormalRevisions, IsNormal, IsNormalBody, Is
 use Rattle.mr_world.specs.World.{World, with_given, with_replica}
 use Rattle.mr_world.specs.declared.answer.Answer.{Answer}
 use Rattle.mr_world.specs.declared.answer.Answer.TheVariants as answer
-use Rattle.mr_world.specs.declared.event.Event.{Event}
+use Rattle.mr_model.specs.declared.event.Event.{Event}
 use Rattle.mr_world.proofs.Drawing.Drawn.{Drawn, Drawn.Ends_fully, Drawn.Ends_partly, Drawn.Shows_first, Drawn.Shows_more, Drawn.Starts, Drawn.Tells, Drawn.Walks, drawn}
 use Rattle.mr_world.proofs.Drawing.Due.{lower_found}
 use Rattle.mr_world.proofs.Groundwork.Orders.{in_entered}
@@ -224,5 +225,5 @@ module _ {K : Type 0} (form : Form K) (w : World K) (normal : IsNormalWorld w) w
   by_mover given w' (None_at_all is none) = subst IsNormalWorld (sym is) normal
 
   -- no event takes a vector out of its form
-  pub moves_normal : (e : Event) (given : Answer) (w' : World K) → Moves form w e given w' → IsNormalWorld w'
+  pub moves_normal : (e : Event Mail) (given : Answer) (w' : World K) → Moves form w e given w' → IsNormalWorld w'
   moves_normal e given w' move = by_mover given w' (mover form w e given w' move)

@@ -50,7 +50,7 @@ use Rattle.mr_wire.specs.declared.frame.Mode.TheVariants.{Full, Partial}
 use Rattle.mr_madewith.specs.Revision.{Rev}
 use Rattle.mr_world.specs.Agrees.{Agrees, HoldingsAgree}
 use Rattle.mr_world.specs.Issued.{Shows}
-use Rattle.mr_world.specs.Moves.{Moves}
+use Rattle.mr_world.specs.Moves.{StepsAt}
 use Rattle.mr_world.specs.Seen.{MailMoment, seen_ask, seen_record, setting_of, versions_in_order}
 use Rattle.mr_world.specs.Sessions.{Follows, SessionAgrees, SessionsAgree}
 use Rattle.mr_world.specs.Shared.{SeesAsk, SeesAsks}
@@ -59,7 +59,7 @@ use Rattle.mr_world.specs.Told.{told_pairs}
 use Rattle.mr_world.specs.World.{World, with_given, with_replica}
 use Rattle.mr_world.specs.declared.answer.Answer.{Answer}
 use Rattle.mr_world.specs.declared.answer.Answer.TheVariants.{Stepped}
-use Rattle.mr_world.specs.declared.event.Event.TheVariants as event
+use Rattle.mr_model.specs.declared.event.Act.TheVariants as act
 use Rattle.mr_world.proofs.Groundwork.AtPlaces.{at_other, same_place, two_other}
 use Rattle.mr_world.proofs.Agreement.OneMore.{stream_kept}
 use Rattle.mr_world.proofs.Agreement.Staying.{tables_hold}
@@ -232,13 +232,13 @@ module _ {K : Type 0} (form : Form K) (filters : ℕ → List ClauseParts) (w : 
         opened = tables_agree r pulled (tables_hold form m.issues filters r (m.holding r) (m.feed r) (m.is_retired r) (w.replicas r) pulled.log pulled.sessions pulled.streams (a.holdings r))
             (record { each = each; fresh = λ n lt. (a.sessions r).fresh n (omega arith) }) (a.streams r)
 
-  pub pulls : (r : ℕ) (answer : Answer) (w' : World K) → Moves form w (event.Pull r) answer w' → Refines form filters w m (event.Pull r) answer w'
-  pulls r answer w' move = by_steps form filters w m a (event.Pull r) r replica.Pull answer w' move go
+  pub pulls : (r : ℕ) (answer : Answer) (w' : World K) → StepsAt form w r replica.Pull answer w' → Refines form filters w m r act.Pull answer w'
+  pulls r answer w' move = by_steps form filters w m a r act.Pull replica.Pull answer w' move go
     where
-      go : (reply : Reply) (new : State K) → first_refusal (w.replicas r) replica.Pull ≡ None → Changes form (w.replicas r) replica.Pull reply new → Refines form filters w m (event.Pull r) (Stepped (Ok reply)) (with_given (with_replica w r new) (Ok reply))
+      go : (reply : Reply) (new : State K) → first_refusal (w.replicas r) replica.Pull ≡ None → Changes form (w.replicas r) replica.Pull reply new → Refines form filters w m r act.Pull (Stepped (Ok reply)) (with_given (with_replica w r new) (Ok reply))
       go (Asked q) new none step =
           let living = alive form (w.replicas r) (refused_if (nat_le MAX_OPEN (length (w.replicas r).sessions.open_ones)) TooManySessions orelse log_full (w.replicas r)) none in
-          subst (λ (s : State K). Refines form filters w m (event.Pull r) (Stepped (Ok (Asked q))) (with_given (with_replica w r s) (Ok (Asked q)))) (sym step.1) (pull_agrees r q living step.0)
+          subst (λ (s : State K). Refines form filters w m r act.Pull (Stepped (Ok (Asked q))) (with_given (with_replica w r s) (Ok (Asked q)))) (sym step.1) (pull_agrees r q living step.0)
       go reply new none step = absurd step
 
   -- ---- Answer
@@ -354,27 +354,24 @@ module _ {K : Type 0} (form : Form K) (filters : ℕ → List ClauseParts) (w : 
       },
     )
 
-  pub answers : (r n : ℕ) (answer : Answer) (w' : World K) → Moves form w (event.Answer r n) answer w' → Refines form filters w m (event.Answer r n) answer w'
-  answers r n answer w' move = by_steps form filters w m a (event.Answer r n) r (replica.Answer q) answer w' move.2 go
+  pub answers : (r n : ℕ) (q : Question) → numbered w.asks n ≡ Some q → (answer : Answer) (w' : World K) → StepsAt form w r (replica.Answer q) answer w' → Refines form filters w m r (act.Answer n) answer w'
+  answers r n q pool answer w' move = by_steps form filters w m a r (act.Answer n) (replica.Answer q) answer w' move go
     where
-      q : Question
-      q = move.0
-
-      go : (reply : Reply) (new : State K) → first_refusal (w.replicas r) (replica.Answer q) ≡ None → Changes form (w.replicas r) (replica.Answer q) reply new → Refines form filters w m (event.Answer r n) (Stepped (Ok reply)) (with_given (with_replica w r new) (Ok reply))
+      go : (reply : Reply) (new : State K) → first_refusal (w.replicas r) (replica.Answer q) ≡ None → Changes form (w.replicas r) (replica.Answer q) reply new → Refines form filters w m r (act.Answer n) (Stepped (Ok reply)) (with_given (with_replica w r new) (Ok reply))
       go (Streaming t) new none step =
           let own = not_refused (q.target == (w.replicas r).id) OwnAsk (orelse_none (refused_if (q.target == (w.replicas r).id) OwnAsk) (refused_if (nat_le MAX_OPEN (length (w.replicas r).streams.open_ones)) TooManyStreams orelse log_full (w.replicas r)) none).0 in
-          let seen = sees r n q move.1 step.1 step.2 in
-          subst (λ (s : State K). Refines form filters w m (event.Answer r n) (Stepped (Ok (Streaming t))) (with_replica w r s)) (sym step.3)
-          (subst (λ (u : ℕ). Refines form filters w m (event.Answer r n) (Stepped (Ok (Streaming u))) (with_replica w r (logged (answering (w.replicas r) q step.1) (replica.Answer q)))) (sym step.0)
-          (by_change form filters w m (event.Answer r n) (Stepped (Ok (Streaming ((w.replicas r).streams.opened + 1)))) (with_replica w r (logged (answering (w.replicas r) q step.1) (replica.Answer q)))
+          let seen = sees r n q pool step.1 step.2 in
+          subst (λ (s : State K). Refines form filters w m r (act.Answer n) (Stepped (Ok (Streaming t))) (with_replica w r s)) (sym step.3)
+          (subst (λ (u : ℕ). Refines form filters w m r (act.Answer n) (Stepped (Ok (Streaming u))) (with_replica w r (logged (answering (w.replicas r) q step.1) (replica.Answer q)))) (sym step.0)
+          (by_change form filters w m r (act.Answer n) (Stepped (Ok (Streaming ((w.replicas r).streams.opened + 1)))) (with_replica w r (logged (answering (w.replicas r) q step.1) (replica.Answer q)))
           (Change.Opens r ((w.replicas r).streams.opened + 1) seen.0) (ap (λ (o : Option Ask). change_if_found {C = MailCard} o (Change.Opens r ((w.replicas r).streams.opened + 1))) seen.1)
-          (answer_agrees r n q move.1 step.1 step.2 (λ e. both_ways (q.target == (w.replicas r).id) own (eq-eqb q.target (w.replicas r).id e)))))
+          (answer_agrees r n q pool step.1 step.2 (λ e. both_ways (q.target == (w.replicas r).id) own (eq-eqb q.target (w.replicas r).id e)))))
       go reply new none step = absurd step
 
   -- ---- the cuts
 
-  pub cuts_in : (r session : ℕ) (answer : Answer) (w' : World K) → Moves form w (event.CutIn r session) answer w' → Refines form filters w m (event.CutIn r session) answer w'
-  cuts_in r session answer w' move = by_steps form filters w m a (event.CutIn r session) r (replica.CutIn session) answer w' move go
+  pub cuts_in : (r session : ℕ) (answer : Answer) (w' : World K) → StepsAt form w r (replica.CutIn session) answer w' → Refines form filters w m r (act.CutIn session) answer w'
+  cuts_in r session answer w' move = by_steps form filters w m a r (act.CutIn session) (replica.CutIn session) answer w' move go
     where
       cut : State K
       cut = logged (cutting_in (w.replicas r) session) (replica.CutIn session)
@@ -382,7 +379,7 @@ module _ {K : Type 0} (form : Form K) (filters : ℕ → List ClauseParts) (w : 
       fewer : SessionsAgree w.records (m.taken_in r) cut.sessions
       fewer = record { each = λ number k e. (a.sessions r).each number k (closed_found (w.replicas r).sessions session number k e).1; fresh = (a.sessions r).fresh }
 
-      go : (reply : Reply) (new : State K) → first_refusal (w.replicas r) (replica.CutIn session) ≡ None → Changes form (w.replicas r) (replica.CutIn session) reply new → Refines form filters w m (event.CutIn r session) (Stepped (Ok reply)) (with_given (with_replica w r new) (Ok reply))
+      go : (reply : Reply) (new : State K) → first_refusal (w.replicas r) (replica.CutIn session) ≡ None → Changes form (w.replicas r) (replica.CutIn session) reply new → Refines form filters w m r (act.CutIn session) (Stepped (Ok reply)) (with_given (with_replica w r new) (Ok reply))
       go Done new none step = (
         tt,
         subst (λ (s : State K). Agrees form filters (with_replica w r s) m) (sym step)
@@ -390,8 +387,8 @@ module _ {K : Type 0} (form : Form K) (filters : ℕ → List ClauseParts) (w : 
       )
       go reply new none step = absurd step
 
-  pub cuts_out : (r stream : ℕ) (answer : Answer) (w' : World K) → Moves form w (event.CutOut r stream) answer w' → Refines form filters w m (event.CutOut r stream) answer w'
-  cuts_out r stream answer w' move = by_steps form filters w m a (event.CutOut r stream) r (replica.CutOut stream) answer w' move go
+  pub cuts_out : (r stream : ℕ) (answer : Answer) (w' : World K) → StepsAt form w r (replica.CutOut stream) answer w' → Refines form filters w m r (act.CutOut stream) answer w'
+  cuts_out r stream answer w' move = by_steps form filters w m a r (act.CutOut stream) (replica.CutOut stream) answer w' move go
     where
       cut : State K
       cut = logged (cutting_out (w.replicas r) stream) (replica.CutOut stream)
@@ -399,7 +396,7 @@ module _ {K : Type 0} (form : Form K) (filters : ℕ → List ClauseParts) (w : 
       fewer : StreamsAgree m.issues filters w.records m.given r (m.ask_of r) (m.known_at_answer r) (m.held_at_draw r) cut.streams
       fewer = record { each = λ number k e. (a.streams r).each number k (closed_found (w.replicas r).streams stream number k e).1; fresh = (a.streams r).fresh }
 
-      go : (reply : Reply) (new : State K) → first_refusal (w.replicas r) (replica.CutOut stream) ≡ None → Changes form (w.replicas r) (replica.CutOut stream) reply new → Refines form filters w m (event.CutOut r stream) (Stepped (Ok reply)) (with_given (with_replica w r new) (Ok reply))
+      go : (reply : Reply) (new : State K) → first_refusal (w.replicas r) (replica.CutOut stream) ≡ None → Changes form (w.replicas r) (replica.CutOut stream) reply new → Refines form filters w m r (act.CutOut stream) (Stepped (Ok reply)) (with_given (with_replica w r new) (Ok reply))
       go Done new none step = (
         tt,
         subst (λ (s : State K). Agrees form filters (with_replica w r s) m) (sym step)
@@ -434,10 +431,10 @@ module _ {K : Type 0} (form : Form K) (filters : ℕ → List ClauseParts) (w : 
       go [] e h = sym ((a.holdings r).push_outs.same v) ∙ ap (λ (z : List Rev). holds z v) e
       go (y ∷ ys) e h = absurd (cc)
 
-  pub retires : (r : ℕ) (answer : Answer) (w' : World K) → Moves form w (event.Retire r) answer w' → Refines form filters w m (event.Retire r) answer w'
-  retires r answer w' move = by_steps form filters w m a (event.Retire r) r replica.Retire answer w' move go
+  pub retires : (r : ℕ) (answer : Answer) (w' : World K) → StepsAt form w r replica.Retire answer w' → Refines form filters w m r act.Retire answer w'
+  retires r answer w' move = by_steps form filters w m a r act.Retire replica.Retire answer w' move go
     where
-      go : (reply : Reply) (new : State K) → first_refusal (w.replicas r) replica.Retire ≡ None → Changes form (w.replicas r) replica.Retire reply new → Refines form filters w m (event.Retire r) (Stepped (Ok reply)) (with_given (with_replica w r new) (Ok reply))
+      go : (reply : Reply) (new : State K) → first_refusal (w.replicas r) replica.Retire ≡ None → Changes form (w.replicas r) replica.Retire reply new → Refines form filters w m r act.Retire (Stepped (Ok reply)) (with_given (with_replica w r new) (Ok reply))
       go Done new none step =
           let left = refused_if (has_any (w.replicas r).push_outs) PushOutsLeft in (
             record {

@@ -9,6 +9,7 @@ use Rattle.mr_filter.specs.Filter.{ClauseParts}
 use Rattle.mr_mail.specs.Mail.{MailCard}
 use Rattle.mr_model.specs.Changes.{entries_of, is_closed, with_mark}
 use Rattle.mr_model.specs.History as model
+use Rattle.mr_model.specs.History.{subscriber_number}
 use Rattle.mr_model.specs.Moment.{Mark, Mark.CloseMark, Mark.Moved, at_two}
 use Rattle.mr_model.specs.Rules.{IsOffer, IsTake}
 use Rattle.mr_model.proofs.Basics.{cases}
@@ -16,15 +17,16 @@ use Rattle.mr_model.proofs.Core.{Inv}
 use Rattle.mr_model.proofs.Ports.{entries-append}
 use Rattle.mr_model.proofs.Sets.{two_elim, two_elim₂}
 use Rattle.mr_world.specs.Agrees.{Agrees}
-use Rattle.mr_world.specs.Moves.{Moves}
+use Rattle.mr_world.specs.Moves.{Does}
 use Rattle.mr_world.specs.Ports.{with_close, with_offered, with_waiting}
 use Rattle.mr_world.specs.Seen.{MailMoment, setting_of}
 use Rattle.mr_world.specs.Shared.{PortAgrees}
-use Rattle.mr_world.specs.World.{Port, World, subscriber_number, with_port}
+use Rattle.mr_world.specs.World.{Port, World, with_port}
 use Rattle.mr_world.specs.declared.answer.Answer.{Answer}
 use Rattle.mr_world.specs.declared.answer.Answer.TheVariants as answer
-use Rattle.mr_world.specs.declared.event.Event.TheVariants as event
-use Rattle.mr_world.specs.declared.event.Subscriber.{Subscriber}
+use Rattle.mr_model.specs.declared.event.Act.TheVariants as act
+use Rattle.mr_model.specs.declared.event.Subscriber.{Subscriber}
+use Rattle.mr_world.specs.declared.task.Task.TheVariants as task
 use Rattle.mr_world.proofs.Groundwork.AtPlaces.{two_self}
 use Rattle.mr_world.proofs.Agreement.Feeds.{told_append}
 use Rattle.mr_world.proofs.Moving.Refines.{Refines, stays}
@@ -124,27 +126,27 @@ module _ {K : Type 0} (form : Form K) (filters : ℕ → List ClauseParts) (w : 
           }) (λ other. a.ports q t')))
     ]
 
-  pub offers : (r : ℕ) (u : Subscriber) (reply : Answer) (w' : World K) → Moves form w (event.Offer r u) reply w' → Refines form filters w m (event.Offer r u) reply w'
+  pub offers : (r : ℕ) (u : Subscriber) (reply : Answer) (w' : World K) → Does form w r (task.Offer u) reply w' → Refines form filters w m r (act.Offer u) reply w'
   offers r u (answer.Offered e) w' move =
       let n = subscriber_number u in
       let may = move.1 in
-      subst (Refines form filters w m (event.Offer r u) (answer.Offered e)) (sym (move.2 ∙ ap (λ (z : Port). with_port w r n z) may.3)) (offer_agrees r n e (a.ports r n).closes may.0 may.1)
-  offers r u answer.Closed w' move = stays form filters w m (event.Offer r u) w' (port_stays r (subscriber_number u) w' move.0 move.2 move.1.1)
-  offers r u answer.NothingNew w' move = stays form filters w m (event.Offer r u) w' (port_stays r (subscriber_number u) w' move.0 move.2 move.1.2)
-  offers r u answer.Full w' move = stays form filters w m (event.Offer r u) w' (port_stays r (subscriber_number u) w' move.0 move.2 move.1.3)
+      subst (Refines form filters w m r (act.Offer u) (answer.Offered e)) (sym (move.2 ∙ ap (λ (z : Port). with_port w r n z) may.3)) (offer_agrees r n e (a.ports r n).closes may.0 may.1)
+  offers r u answer.Closed w' move = stays form filters w m r (act.Offer u) w' (port_stays r (subscriber_number u) w' move.0 move.2 move.1.1)
+  offers r u answer.NothingNew w' move = stays form filters w m r (act.Offer u) w' (port_stays r (subscriber_number u) w' move.0 move.2 move.1.2)
+  offers r u answer.Full w' move = stays form filters w m r (act.Offer u) w' (port_stays r (subscriber_number u) w' move.0 move.2 move.1.3)
   offers r u reply w' move = absurd move.1
 
-  pub takes : (r : ℕ) (u : Subscriber) (reply : Answer) (w' : World K) → Moves form w (event.Take r u) reply w' → Refines form filters w m (event.Take r u) reply w'
+  pub takes : (r : ℕ) (u : Subscriber) (reply : Answer) (w' : World K) → Does form w r (task.Take u) reply w' → Refines form filters w m r (act.Take u) reply w'
   takes r u (answer.TookEntry e) w' move =
       let n = subscriber_number u in
       let may = move.1 in
-      subst (Refines form filters w m (event.Take r u) (answer.TookEntry e)) (sym (move.2 ∙ ap (λ (z : Port). with_port w r n z) may.2)) (take_agrees r n e may.0 may.1)
-  takes r u answer.Closed w' move = stays form filters w m (event.Take r u) w' (port_stays r (subscriber_number u) w' move.0 move.2 move.1.2)
-  takes r u answer.Empty w' move = stays form filters w m (event.Take r u) w' (port_stays r (subscriber_number u) w' move.0 move.2 move.1.2)
+      subst (Refines form filters w m r (act.Take u) (answer.TookEntry e)) (sym (move.2 ∙ ap (λ (z : Port). with_port w r n z) may.2)) (take_agrees r n e may.0 may.1)
+  takes r u answer.Closed w' move = stays form filters w m r (act.Take u) w' (port_stays r (subscriber_number u) w' move.0 move.2 move.1.2)
+  takes r u answer.Empty w' move = stays form filters w m r (act.Take u) w' (port_stays r (subscriber_number u) w' move.0 move.2 move.1.2)
   takes r u reply w' move = absurd move.1
 
-  pub closes : (r : ℕ) (u : Subscriber) (reply : Answer) (w' : World K) → Moves form w (event.Close r u) reply w' → Refines form filters w m (event.Close r u) reply w'
+  pub closes : (r : ℕ) (u : Subscriber) (reply : Answer) (w' : World K) → Does form w r (task.Close u) reply w' → Refines form filters w m r (act.Close u) reply w'
   closes r u answer.Done w' move =
       let n = subscriber_number u in
-      subst (Refines form filters w m (event.Close r u) answer.Done) (sym (move.2 ∙ ap (λ (z : Port). with_port w r n z) move.1)) (tt, close_agrees r n)
+      subst (Refines form filters w m r (act.Close u) answer.Done) (sym (move.2 ∙ ap (λ (z : Port). with_port w r n z) move.1)) (tt, close_agrees r n)
   closes r u reply w' move = absurd move.1

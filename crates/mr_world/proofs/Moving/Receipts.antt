@@ -37,14 +37,14 @@ use Rattle.mr_wire.specs.Values.{DescentParts}
 use Rattle.mr_wire.specs.declared.frame.Receipt.{Receipt}
 use Rattle.mr_world.specs.Agrees.{Agrees, HoldingsAgree, HoldsAs}
 use Rattle.mr_world.specs.Issued.{IsTrueLine, IsTrueRevision}
-use Rattle.mr_world.specs.Moves.{Moves}
+use Rattle.mr_world.specs.Moves.{StepsAt}
 use Rattle.mr_world.specs.Seen.{MailMoment, seen_receipt, setting_of}
 use Rattle.mr_world.specs.Sessions.{SessionsAgree}
 use Rattle.mr_world.specs.Streams.{StreamsAgree}
 use Rattle.mr_world.specs.World.{World, with_given, with_replica}
 use Rattle.mr_world.specs.declared.answer.Answer.{Answer}
 use Rattle.mr_world.specs.declared.answer.Answer.TheVariants.{Stepped}
-use Rattle.mr_world.specs.declared.event.Event.TheVariants as event
+use Rattle.mr_model.specs.declared.event.Act.TheVariants as act
 use Rattle.mr_world.proofs.Groundwork.Orders.{held_in, in_held, some_in_order}
 use Rattle.mr_world.proofs.Moving.Refines.{Refines, alive, by_change, by_steps}
 use Rattle.mr_world.proofs.Groundwork.Tools.{at_elim₃, find_in, from_not, map_in, not_refused, numbered_map, orelse_none, to_true}
@@ -121,13 +121,13 @@ module _ {K : Type 0} (form : Form K) (filters : ℕ → List ClauseParts) (w : 
       found : In y (w.replicas r).heads × IsTrue (is y.version v)
       found = find_in (λ (z : Rev). is z.version v) (w.replicas r).heads y step.1
 
-  pub vouches : (v : Name) (answer : Answer) (w' : World K) → Moves form w (event.Vouch r v) answer w' → Refines form filters w m (event.Vouch r v) answer w'
-  vouches v answer w' move = by_steps form filters w m a (event.Vouch r v) r (replica.Vouch v) answer w' move go
+  pub vouches : (v : Name) (answer : Answer) (w' : World K) → StepsAt form w r (replica.Vouch v) answer w' → Refines form filters w m r (act.Vouch v) answer w'
+  vouches v answer w' move = by_steps form filters w m a r (act.Vouch v) (replica.Vouch v) answer w' move go
     where
-      go : (reply : Reply) (new : State K) → first_refusal (w.replicas r) (replica.Vouch v) ≡ None → Changes form (w.replicas r) (replica.Vouch v) reply new → Refines form filters w m (event.Vouch r v) (Stepped (Ok reply)) (with_given (with_replica w r new) (Ok reply))
+      go : (reply : Reply) (new : State K) → first_refusal (w.replicas r) (replica.Vouch v) ≡ None → Changes form (w.replicas r) (replica.Vouch v) reply new → Refines form filters w m r (act.Vouch v) (Stepped (Ok reply)) (with_given (with_replica w r new) (Ok reply))
       go (Vouched x) new none step =
           let living = alive form (w.replicas r) (refused_if (not (holds (w.replicas r).heads v)) (NotHeld v) orelse log_full (w.replicas r)) none in
-          subst (λ (s : State K). Refines form filters w m (event.Vouch r v) (Stepped (Ok (Vouched x))) (with_given (with_replica w r s) (Ok (Vouched x)))) (sym step.1) (vouch_agrees v x living step.0)
+          subst (λ (s : State K). Refines form filters w m r (act.Vouch v) (Stepped (Ok (Vouched x))) (with_given (with_replica w r s) (Ok (Vouched x)))) (sym step.1) (vouch_agrees v x living step.0)
       go reply new none step = absurd step
 
   -- ---- Release
@@ -200,24 +200,21 @@ module _ {K : Type 0} (form : Form K) (filters : ℕ → List ClauseParts) (w : 
         last_below = hold.last_below;
       }
 
-  pub releases : (n : ℕ) (answer : Answer) (w' : World K) → Moves form w (event.Release r n) answer w' → Refines form filters w m (event.Release r n) answer w'
-  releases n answer w' move = by_steps form filters w m a (event.Release r n) r (replica.Release x) answer w' move.2 go
+  pub releases : (n : ℕ) (x : Receipt) → numbered w.receipts n ≡ Some x → (answer : Answer) (w' : World K) → StepsAt form w r (replica.Release x) answer w' → Refines form filters w m r (act.Release n) answer w'
+  releases n x pool answer w' move = by_steps form filters w m a r (act.Release n) (replica.Release x) answer w' move go
     where
-      x : Receipt
-      x = move.0
-
       given : numbered m.receipts n ≡ Some (seen_receipt x)
-      given = ap (λ (xs : List model.Receipt). numbered xs n) a.vouched ∙ numbered_map seen_receipt w.receipts n x move.1
+      given = ap (λ (xs : List model.Receipt). numbered xs n) a.vouched ∙ numbered_map seen_receipt w.receipts n x pool
 
       some : Bool
       some = list_any (supersedes x.descent.item (vouched x.descent)) (w.replicas r).push_outs
 
-      go : (reply : Reply) (new : State K) → first_refusal (w.replicas r) (replica.Release x) ≡ None → Changes form (w.replicas r) (replica.Release x) reply new → Refines form filters w m (event.Release r n) (Stepped (Ok reply)) (with_given (with_replica w r new) (Ok reply))
+      go : (reply : Reply) (new : State K) → first_refusal (w.replicas r) (replica.Release x) ≡ None → Changes form (w.replicas r) (replica.Release x) reply new → Refines form filters w m r (act.Release n) (Stepped (Ok reply)) (with_given (with_replica w r new) (Ok reply))
       go Done new none step =
           let living = alive form (w.replicas r) (refused_if (not some) NotPushedOut orelse log_full (w.replicas r)) none in
           let later = orelse_none (retired (w.replicas r)) (refused_if (not some) NotPushedOut orelse log_full (w.replicas r)) none in
           let rest = orelse_none (refused_if (not some) NotPushedOut) (log_full (w.replicas r)) later.1 in
-          subst (λ (s : State K). Refines form filters w m (event.Release r n) (Stepped (Ok Done)) (with_replica w r s)) (sym step)
-          (by_change form filters w m (event.Release r n) (Stepped (Ok Done)) (with_replica w r (logged (releasing (w.replicas r) x) (replica.Release x))) (Change.Releases r (seen_receipt x)) (ap (λ (o : Option model.Receipt). change_if_found {C = MailCard} o (Change.Releases r)) given)
-          (release_agrees x (numbered_in w.receipts n x move.1) living (to_true some (not_refused (not some) NotPushedOut rest.0))))
+          subst (λ (s : State K). Refines form filters w m r (act.Release n) (Stepped (Ok Done)) (with_replica w r s)) (sym step)
+          (by_change form filters w m r (act.Release n) (Stepped (Ok Done)) (with_replica w r (logged (releasing (w.replicas r) x) (replica.Release x))) (Change.Releases r (seen_receipt x)) (ap (λ (o : Option model.Receipt). change_if_found {C = MailCard} o (Change.Releases r)) given)
+          (release_agrees x (numbered_in w.receipts n x pool) living (to_true some (not_refused (not some) NotPushedOut rest.0))))
       go reply new none step = absurd step

@@ -6,6 +6,8 @@ use Rattle.mr_filter.specs.Filter.{ClauseParts}
 use Rattle.mr_mail.specs.Mail.{Mail, MailCard}
 use Rattle.mr_model.specs.Changes.{Change, change_of, happens}
 use Rattle.mr_model.specs.History as model
+use Rattle.mr_model.specs.declared.event.Act.{Act}
+use Rattle.mr_model.specs.declared.event.Act.TheVariants.{Create}
 use Rattle.mr_model.specs.Rules.{IsAllowed}
 use Rattle.mr_replica.specs.Admission.{retired}
 use Rattle.mr_replica.specs.Refusal.{◌orelse◌}
@@ -18,12 +20,10 @@ use Rattle.mr_replica.specs.declared.refusal.Refusal.{Refusal}
 use Rattle.mr_replica.specs.declared.refusal.Refusal.TheVariants as refusal
 use Rattle.mr_world.specs.Agrees.{Agrees}
 use Rattle.mr_world.specs.Moves.{StepsAt}
-use Rattle.mr_world.specs.Seen.{MailMoment, seen_answer, seen_event, setting_of}
+use Rattle.mr_world.specs.Seen.{MailMoment, seen_answer, setting_of}
 use Rattle.mr_world.specs.World.{World, with_given, with_replica}
 use Rattle.mr_world.specs.declared.answer.Answer.{Answer}
 use Rattle.mr_world.specs.declared.answer.Answer.TheVariants.{Stepped}
-use Rattle.mr_world.specs.declared.event.Event.{Event}
-use Rattle.mr_world.specs.declared.event.Event.TheVariants as event
 use Rattle.mr_world.proofs.Groundwork.Tools.{at_self, not_refused, orelse_none}
 
 module _ {K : Type 0} (form : Form K) where
@@ -32,18 +32,18 @@ module _ {K : Type 0} (form : Form K) where
     abbrev pub IsInStep : Change Mail MailCard → World K → Type 0
     IsInStep c w' = IsAllowed (setting_of filters) m c × Agrees form filters w' (happens (setting_of filters) m c)
 
-    -- so it is with the change that a history sees of the event and its answer
-    abbrev pub Refines : Event → Answer → World K → Type 0
-    Refines e answer w' = IsInStep (change_of m (seen_event e) (seen_answer m.issues answer)) w'
+    -- so it is with the change that a history sees of the act and its answer
+    abbrev pub Refines : ℕ → Act Mail → Answer → World K → Type 0
+    Refines r act answer w' = IsInStep (change_of m r act (seen_answer m.issues answer)) w'
 
     -- a change by another name
-    pub by_change : (e : Event) (answer : Answer) (w' : World K) (c : Change Mail MailCard) → change_of m (seen_event e) (seen_answer m.issues answer) ≡ c → IsInStep c w' → Refines e answer w'
-    by_change e answer w' c same h = subst (λ (z : Change Mail MailCard). IsInStep z w') (sym same) h
+    pub by_change : (r : ℕ) (act : Act Mail) (answer : Answer) (w' : World K) (c : Change Mail MailCard) → change_of m r act (seen_answer m.issues answer) ≡ c → IsInStep c w' → Refines r act answer w'
+    by_change r act answer w' c same h = subst (λ (z : Change Mail MailCard). IsInStep z w') (sym same) h
 
     -- what a history sees as a refusal changes nothing
-    pub stays : (e : Event) (w' : World K) → Agrees form filters w' m → IsInStep (change_of m (seen_event e) model.Refused) w'
-    stays (event.Create r message) w' h = (tt, h)
-    stays e w' h = (tt, h)
+    pub stays : (r : ℕ) (act : Act Mail) (w' : World K) → Agrees form filters w' m → IsInStep (change_of m r act model.Refused) w'
+    stays r (Create message) w' h = (tt, h)
+    stays r act w' h = (tt, h)
 
     -- the replica that is put back as it was
     pub put_back : (a : Agrees form filters w m) (r : ℕ) (new : State K) → new ≡ w.replicas r → Agrees form filters (with_replica w r new) m
@@ -51,15 +51,15 @@ module _ {K : Type 0} (form : Form K) where
         (subst (λ (f : ℕ → State K). Agrees form filters (record w { replicas = f }) m) (sym (at_self w.replicas r)) a)
 
     -- A replica's answer: a refusal changes nothing, so it is enough to look at the replies.
-    pub by_steps : (a : Agrees form filters w m) (e : Event) (r : ℕ) (there : ReplicaEvent) (answer : Answer) (w' : World K) → StepsAt form w r there answer w' →
-        ((reply : Reply) (new : State K) → first_refusal (w.replicas r) there ≡ None → Changes form (w.replicas r) there reply new → Refines e (Stepped (Ok reply)) (with_given (with_replica w r new) (Ok reply))) →
-        Refines e answer w'
-    by_steps a e r there (Stepped (Ok reply)) w' move replies =
+    pub by_steps : (a : Agrees form filters w m) (r : ℕ) (act : Act Mail) (there : ReplicaEvent) (answer : Answer) (w' : World K) → StepsAt form w r there answer w' →
+        ((reply : Reply) (new : State K) → first_refusal (w.replicas r) there ≡ None → Changes form (w.replicas r) there reply new → Refines r act (Stepped (Ok reply)) (with_given (with_replica w r new) (Ok reply))) →
+        Refines r act answer w'
+    by_steps a r act there (Stepped (Ok reply)) w' move replies =
         let h = step_replied form (w.replicas r) there reply move.1 move.2 in
-        subst (Refines e (Stepped (Ok reply))) (sym move.3) (replies reply move.1 h.0 h.1)
-    by_steps a e r there (Stepped (Err x)) w' move replies =
-        subst (Refines e (Stepped (Err x))) (sym move.3) (stays e (with_replica w r move.1) (put_back a r move.1 (step_refused form (w.replicas r) there x move.1 move.2)))
-    by_steps a e r there answer w' move replies = absurd move
+        subst (Refines r act (Stepped (Ok reply))) (sym move.3) (replies reply move.1 h.0 h.1)
+    by_steps a r act there (Stepped (Err x)) w' move replies =
+        subst (Refines r act (Stepped (Err x))) (sym move.3) (stays r act (with_replica w r move.1) (put_back a r move.1 (step_refused form (w.replicas r) there x move.1 move.2)))
+    by_steps a r act there answer w' move replies = absurd move
 
   -- the replica has not retired
   pub alive : (s : State K) (rest : Option Refusal) → (retired s orelse rest) ≡ None → IsFalse s.is_retired

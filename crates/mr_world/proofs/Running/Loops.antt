@@ -2,11 +2,12 @@
 use Rattle.std.proofs.Common.{◌≡◌, ℕ, ◌+◌, List, [], ◌∷◌, ◌++◌, length, Err, sym, ap, ◌∙◌, arith, append_assoc, append-nil, length-append}
 use Rattle.std.specs.List.{AllZip}
 use Rattle.mr_forms.specs.Known.{Form}
+use Rattle.mr_mail.specs.Mail.{Mail}
 use Rattle.mr_world.specs.Kept.{MemberView, WorldView}
 use Rattle.mr_world.specs.Made.{IsMadeOf}
 use Rattle.mr_world.specs.Run.{Happens, Leads, Meets, StopsAt}
 use Rattle.mr_world.specs.declared.answer.Answer.{Answer}
-use Rattle.mr_world.specs.declared.event.Event.{Event}
+use Rattle.mr_model.specs.declared.event.Event.{Event}
 use Rattle.mr_world.specs.declared.fault.WorldFault.{WorldFault}
 use Rattle.mr_world.specs.declared.spec.Spec.{Spec}
 use Rattle.mr_world.proofs.Running.Happening.{leads_more}
@@ -36,13 +37,13 @@ module _ {K : Type 0} (form : Form K) where
   members_end all yielded left members so none = rw (so.whole, none, append-nil yielded) so.each
 
   -- the events so far were answered
-  pub record EventsSoFar (w : WorldView K) (all yielded left : List Event) (at : ℕ) (now : WorldView K) : Type 0 where
+  pub record EventsSoFar (w : WorldView K) (all yielded left : List (Event Mail)) (at : ℕ) (now : WorldView K) : Type 0 where
     pub whole : all ≡ yielded ++ left
     pub count : at ≡ length yielded
     pub leads : Leads form w yielded now
 
   -- one event more was answered
-  pub events_answered : (w now new : WorldView K) (all yielded left next : List Event) (at : ℕ) (e : Event) (answer : Answer)
+  pub events_answered : (w now new : WorldView K) (all yielded left next : List (Event Mail)) (at : ℕ) (e : Event Mail) (answer : Answer)
       → EventsSoFar w all yielded left at now → left ≡ e ∷ next → Happens form now e answer new → EventsSoFar w all (yielded ++ e ∷ []) next (at + 1) new
   events_answered w now new all yielded left next at e answer so taken h = record {
     whole = so.whole ∙ (ap (λ rest. yielded ++ rest) taken ∙ sym (append_assoc yielded (e ∷ []) next));
@@ -51,7 +52,7 @@ module _ {K : Type 0} (form : Form K) where
   }
 
   -- the event at hand was not answered
-  pub events_stopped : (w now new : WorldView K) (all yielded left next : List Event) (at : ℕ) (e : Event) (fault : WorldFault)
+  pub events_stopped : (w now new : WorldView K) (all yielded left next : List (Event Mail)) (at : ℕ) (e : Event Mail) (fault : WorldFault)
       → EventsSoFar w all yielded left at now → left ≡ e ∷ next → Meets form now e (Err fault) new → StopsAt form w all at fault new
   events_stopped w now new all yielded left next at e fault so taken h = rw h.1 (record {
     before = yielded;

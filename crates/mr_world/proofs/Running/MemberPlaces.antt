@@ -10,11 +10,12 @@ use Rattle.std.proofs.lemmas.Option.{slice_get-get_or, get_or_from_slice_get, co
 use Rattle.std.specs.Option.{option_map}
 use Rattle.mr_model.specs.Moment.{at, at_two}
 use Rattle.mr_replica.specs.State.{State}
-use Rattle.mr_world.specs.World.{Port, World, subscriber_number}
+use Rattle.mr_model.specs.History.{subscriber_number}
+use Rattle.mr_world.specs.World.{Port, World}
 use Rattle.mr_world.specs.Kept.{MemberView, member_at, replica_at, port_of, with_outlet, found_or, port_numbered}
 use Rattle.mr_world.specs.Run.{ids_of}
-use Rattle.mr_world.specs.declared.event.Subscriber.{Subscriber}
-use Rattle.mr_world.specs.declared.event.Subscriber.TheVariants.{Indexer, Notifier}
+use Rattle.mr_model.specs.declared.event.Subscriber.{Subscriber}
+use Rattle.mr_model.specs.declared.event.Subscriber.TheVariants.{Indexer, Notifier}
 use Rattle.mr_world.proofs.Groundwork.Tools.{differs}
 
 none_here : {A : Type 0} (xs : List A) (i : ℕ) → slice_get xs i ≡ None → i < length xs → ⊥

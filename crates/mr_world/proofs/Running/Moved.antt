@@ -3,7 +3,9 @@ use Rattle.std.proofs.Common.{◌≡◌, ◌<◌, ◌≤◌, ℕ, List, [], ◌�
 use Rattle.std.specs.Prelude.{All, slice_set, is_none}
 use Rattle.std.proofs.lemmas.List.{append-nil}
 use Rattle.mr_forms.specs.Known.{Form}
-use Rattle.mr_model.specs.Moment.{numbered, at}
+use Rattle.mr_mail.specs.Mail.{Mail}
+use Rattle.mr_model.specs.History.{subscriber_number}
+use Rattle.mr_model.specs.Moment.{at}
 use Rattle.mr_replica.specs.State.{State}
 use Rattle.mr_replica.specs.Step.{Steps}
 use Rattle.mr_replica.specs.declared.event.Event.{Event as ReplicaEvent}
@@ -17,65 +19,26 @@ use Rattle.mr_wire.specs.Grammar.{Spells}
 use Rattle.mr_wire.specs.declared.frame.Frame.{Frame}
 use Rattle.mr_wire.specs.declared.frame.Frame.TheVariants as frame
 use Rattle.mr_wire.specs.declared.frame.Receipt.{Receipt}
-use Rattle.mr_world.specs.World.{Port, World, subscriber_number, with_given, with_replica as world_with_replica, with_port}
-use Rattle.mr_world.specs.Moves.{OnPort, StepsAt, Delivers, DeliversPart, AnswersAsk, Releases, Moves, record_len}
+use Rattle.mr_world.specs.World.{Port, World, with_given, with_replica as world_with_replica, with_port}
+use Rattle.mr_world.specs.Moves.{Does, Moves, OnPort, StepsAt}
 use Rattle.mr_world.specs.Ports.{Offers, Takes, Closes}
-use Rattle.mr_world.specs.Event.{replica_of}
 use Rattle.mr_world.specs.Pool.{PoolList, at_number, questions_in, sents_in, receipts_in, IsAskFrame, IsRecordFrame, IsReceiptFrame, GivesFrame}
 use Rattle.mr_world.specs.Given.{IsGivenBy, KeepsFrames, HasMore, Gains}
 use Rattle.mr_world.specs.Kept.{MemberView, world_view, port_of, with_outlet, world_of}
-use Rattle.mr_world.specs.Task.{AreFrames, HasNumber, IsReceiving, IsDelivering, IsAnswering, IsReleasing, IsTask}
+use Rattle.mr_world.specs.Asked.{asked_of}
 use Rattle.mr_world.specs.Happens.{GainsBy, OnOutlet, StepsTo, Answers}
 use Rattle.mr_world.specs.declared.answer.Answer.{Answer}
 use Rattle.mr_world.specs.declared.answer.Answer.TheVariants.{Stepped, Truncated}
 use Rattle.mr_world.specs.declared.answered.Answered.{Answered}
-use Rattle.mr_world.specs.declared.event.Event.{Event}
-use Rattle.mr_world.specs.declared.event.Event.TheVariants as event
-use Rattle.mr_world.specs.declared.event.Subscriber.{Subscriber}
-use Rattle.mr_world.specs.declared.event.Subscriber.TheVariants.{Indexer, Notifier}
+use Rattle.mr_model.specs.declared.event.Event.{Event}
+use Rattle.mr_model.specs.declared.event.Subscriber.{Subscriber}
+use Rattle.mr_model.specs.declared.event.Subscriber.TheVariants.{Indexer, Notifier}
 use Rattle.mr_world.specs.declared.pools.Given.{Given}
 use Rattle.mr_world.specs.declared.pools.Given.TheVariants as given
 use Rattle.mr_world.specs.declared.task.Task.{Task}
 use Rattle.mr_world.specs.declared.task.Task.TheVariants as task
 use Rattle.mr_world.proofs.Running.MemberPlaces.{IsPlace, goes_back, same_world, replica_there, port_there, replicas_then, ports_then, replicas_with_port, ports_with_port}
 use Rattle.mr_world.proofs.Running.Pools.{frame_again, gives_ask, gives_record, gives_receipt, one_more_ask, one_more_record, one_more_receipt}
-
--- ---- frames of pools
-
--- what stands in a pool under a number is what its frame there spells
-numbered_is : {A : Type 0} (wrap : A → Frame) → ((x y : A) → wrap x ≡ wrap y → x ≡ y) → (o : Option A) (bytes : List ℕ) (x : A) → GivesFrame wrap o (Some bytes) → Spells 2 (wrap x) bytes → o ≡ Some x
-numbered_is wrap one None bytes x h s = absurd h
-numbered_is wrap one (Some y) bytes x h s = ap (λ z. Some z) (one y x (some_is (wrap y) (wrap x) (sym (frame_again (wrap y) bytes h) ∙ frame_again (wrap x) bytes s)))
-  where
-    some_is : (f g : Frame) → Some f ≡ Some g → f ≡ g
-    some_is f g e = cc
-
-one_ask : (x y : Question) → frame.Ask x ≡ frame.Ask y → x ≡ y
-one_ask x y e = cc
-
-one_record : (x y : Sent) → frame.Record x ≡ frame.Record y → x ≡ y
-one_record x y e = cc
-
-one_receipt : (x y : Receipt) → frame.Receipt x ≡ frame.Receipt y → x ≡ y
-one_receipt x y e = cc
-
-pub same_none : {A : Type 0} (wrap : A → Frame) (o : Option A) (bytes : Option (List ℕ)) → GivesFrame wrap o bytes → is_none o ≡ is_none bytes
-same_none wrap None None h = refl
-same_none wrap None (Some bytes) h = absurd h
-same_none wrap (Some x) None h = absurd h
-same_none wrap (Some x) (Some bytes) h = refl
-
-pub record_there : (frames : List (List ℕ)) (n : ℕ) (sent : Sent) → All IsRecordFrame frames → HasNumber frames n (frame.Record sent) → numbered (sents_in frames) n ≡ Some sent
-record_there frames n sent all h =
-    numbered_is (λ x. frame.Record x) one_record (numbered (sents_in frames) n) h.0 sent (subst (λ (o : Option (List ℕ)). GivesFrame (λ x. frame.Record x) (numbered (sents_in frames) n) o) h.1 (gives_record frames n all)) h.2
-
-pub ask_there : (frames : List (List ℕ)) (n : ℕ) (question : Question) → All IsAskFrame frames → HasNumber frames n (frame.Ask question) → numbered (questions_in frames) n ≡ Some question
-ask_there frames n question all h =
-    numbered_is (λ x. frame.Ask x) one_ask (numbered (questions_in frames) n) h.0 question (subst (λ (o : Option (List ℕ)). GivesFrame (λ x. frame.Ask x) (numbered (questions_in frames) n) o) h.1 (gives_ask frames n all)) h.2
-
-pub receipt_there : (frames : List (List ℕ)) (n : ℕ) (receipt : Receipt) → All IsReceiptFrame frames → HasNumber frames n (frame.Receipt receipt) → numbered (receipts_in frames) n ≡ Some receipt
-receipt_there frames n receipt all h =
-    numbered_is (λ x. frame.Receipt x) one_receipt (numbered (receipts_in frames) n) h.0 receipt (subst (λ (o : Option (List ℕ)). GivesFrame (λ x. frame.Receipt x) (numbered (receipts_in frames) n) o) h.1 (gives_receipt frames n all)) h.2
 
 -- frames kept twice are kept
 keeps_on : (p q o : PoolList) → KeepsFrames p q → KeepsFrames q o → KeepsFrames p o
@@ -178,102 +141,22 @@ module _ {K : Type 0} where
     ap (λ (n : MemberView K). world_at unused third (slice_set ms place n) p' xs') h.1 ∙ port_changed unused third ms r place m u (port_of m' u) p p' xs xs' pl (keeps_on p q p' same h.2),
   )
 
--- how many bytes a record's frame has
-frame_len : (sent : Sent) (text : List ℕ) → Spells 2 (frame.Record sent) text → length text ≡ record_len sent
-frame_len sent text s = ap length s.written
-
-module _ {K : Type 0} (form : Form K) (unused : ℕ → MemberView K) (third : Port) (ms : List (MemberView K)) (place : ℕ) (m m' : MemberView K) (p q p' : PoolList) (xs xs' : List Answered) (answer : Answer) where
+module _ {K : Type 0} (form : Form K) (unused : ℕ → MemberView K) (third : Port) (ms : List (MemberView K)) (place : ℕ) (m m' : MemberView K) (p q p' : PoolList) (xs xs' : List Answered) where
   abbrev before : World K
   before = world_at unused third ms p xs
 
   abbrev afterwards : World K
   afterwards = world_at unused third (slice_set ms place m') p' xs'
 
-  -- the task of an event that is one of the replica's
-  steps_by : (r : ℕ) (e : ReplicaEvent) (t : Task) → IsPlace ms r place m → KeepsFrames p q → t ≡ task.Step e → Answers form m q t answer m' p' → StepsAt form before r e answer afterwards
-  steps_by r e t pl same is h = steps_at form unused third ms r place m m' p q p' xs xs' e answer pl same (subst (λ (t : Task). Answers form m q t answer m' p') is h)
+  does : (r : ℕ) (t : Task) (answer : Answer) → IsPlace ms r place m → KeepsFrames p q → Answers form m q t answer m' p' → Does form before r t answer afterwards
+  does r (task.Step e) answer pl same h = steps_at form unused third ms r place m m' p q p' xs xs' e answer pl same h
+  does r task.Truncated answer pl same h = (h.0, nothing_moved unused third ms r place m m' p p' xs xs' pl h.1 (keeps_on p q p' same h.2))
+  does r (task.Offer u) answer pl same h =
+      subst (λ (s : State K). OnPort before r (subscriber_number u) (Offers s.feed) answer afterwards) (sym (replica_there unused ms r place m pl))
+      (on_port unused third ms r place m m' p q p' xs xs' u (Offers m.replica.feed) answer pl same h)
+  does r (task.Take u) answer pl same h = on_port unused third ms r place m m' p q p' xs xs' u Takes answer pl same h
+  does r (task.Close u) answer pl same h = on_port unused third ms r place m m' p q p' xs xs' u Closes answer pl same h
 
-  delivers : (r n : ℕ) (t : Task) → IsPlace ms r place m → KeepsFrames p q → AreFrames p → IsReceiving p.records.frames n t → Answers form m q t answer m' p' → Delivers form before r n answer afterwards
-  delivers r n t pl same all is h = (is.0, record_there p.records.frames n is.0 all.records is.1, steps_by r (replica.Receive (frame.Record is.0)) t pl same is.2 h)
-
-  answers_ask : (r n : ℕ) (t : Task) → IsPlace ms r place m → KeepsFrames p q → AreFrames p → IsAnswering p.asks.frames n t → Answers form m q t answer m' p' → AnswersAsk form before r n answer afterwards
-  answers_ask r n t pl same all is h = (is.0, ask_there p.asks.frames n is.0 all.asks is.1, steps_by r (replica.Answer is.0) t pl same is.2 h)
-
-  releases : (r n : ℕ) (t : Task) → IsPlace ms r place m → KeepsFrames p q → AreFrames p → IsReleasing p.receipts.frames n t → Answers form m q t answer m' p' → Releases form before r n answer afterwards
-  releases r n t pl same all is h = (is.0, receipt_there p.receipts.frames n is.0 all.receipts is.1, steps_by r (replica.Release is.0) t pl same is.2 h)
-
--- the record that the bytes under a number are
-record_of : (frames : List (List ℕ)) (n : ℕ) (text : List ℕ) → All IsRecordFrame frames → at_number frames n ≡ Some text → (sent : Sent) × (numbered (sents_in frames) n ≡ Some sent) × Spells 2 (frame.Record sent) text
-record_of frames n text all e =
-    some_of (numbered (sents_in frames) n) (subst (λ (o : Option (List ℕ)). GivesFrame (λ x. frame.Record x) (numbered (sents_in frames) n) o) e (gives_record frames n all))
-  where
-    some_of : (o : Option Sent) → GivesFrame (λ x. frame.Record x) o (Some text) → (sent : Sent) × (o ≡ Some sent) × Spells 2 (frame.Record sent) text
-    some_of None h = absurd h
-    some_of (Some sent) h = (sent, refl, h)
-
--- a number has one text
-one_text : (frames : List (List ℕ)) (n : ℕ) (text other : List ℕ) → at_number frames n ≡ Some text → at_number frames n ≡ Some other → text ≡ other
-one_text frames n text other e k = some_is (sym e ∙ k)
-  where
-    some_is : Some text ≡ Some other → text ≡ other
-    some_is h = cc
-
-module _ {K : Type 0} (form : Form K) (unused : ℕ → MemberView K) (third : Port) (ms : List (MemberView K)) (place : ℕ) (m m' : MemberView K) (p q p' : PoolList) (xs xs' : List Answered) where
-  part_cut : (r n bytes : ℕ) → IsPlace ms r place m → KeepsFrames p q → AreFrames p → IsDelivering p.records.frames n bytes task.Truncated → (m' ≡ m) → KeepsFrames q p'
-      → DeliversPart form (world_at unused third ms p xs) r n bytes Truncated (world_at unused third (slice_set ms place m') p' xs')
-  part_cut r n bytes pl same all is e keeps =
-      let x = record_of p.records.frames n is.0 all.records is.1 in
-      (x.0, x.1, subst (λ (len : ℕ). bytes < len) (frame_len x.0 is.0 x.2) is.2, nothing_moved unused third ms r place m m' p p' xs xs' pl e (keeps_on p q p' same keeps))
-
-  part_whole : (r n bytes : ℕ) (text : List ℕ) (e : ReplicaEvent) (answer : Answer) → IsPlace ms r place m → KeepsFrames p q → AreFrames p
-      → at_number p.records.frames n ≡ Some text → length text ≤ bytes → IsReceiving p.records.frames n (task.Step e) → StepsTo form m q e answer m' p'
-      → DeliversPart form (world_at unused third ms p xs) r n bytes answer (world_at unused third (slice_set ms place m') p' xs')
-  part_whole r n bytes text e (Stepped answer) pl same all at few is h =
-      let len : length text ≡ record_len is.0 = ap length (one_text p.records.frames n text is.1.0 at is.1.1) ∙ frame_len is.0 is.1.0 is.1.2 in (
-        is.0,
-        record_there p.records.frames n is.0 all.records is.1,
-        subst (λ (len : ℕ). len ≤ bytes) len few,
-        steps_by form unused third ms place m m' p q p' xs xs' (Stepped answer) r (replica.Receive (frame.Record is.0)) (task.Step e) pl same is.2 h,
-      )
-  part_whole r n bytes text e answer pl same all at few is h = absurd h
-
-  delivers_part : (r n bytes : ℕ) (t : Task) (answer : Answer) → IsPlace ms r place m → KeepsFrames p q → AreFrames p → IsDelivering p.records.frames n bytes t → Answers form m q t answer m' p'
-      → DeliversPart form (world_at unused third ms p xs) r n bytes answer (world_at unused third (slice_set ms place m') p' xs')
-  delivers_part r n bytes task.Truncated answer pl same all is h =
-      subst (λ (a : Answer). DeliversPart form (world_at unused third ms p xs) r n bytes a (world_at unused third (slice_set ms place m') p' xs')) (sym h.0) (part_cut r n bytes pl same all is h.1 h.2)
-  delivers_part r n bytes (task.Step e) answer pl same all is h = part_whole r n bytes is.0 e answer pl same all is.1 is.2 is.3 h
-  delivers_part r n bytes (task.Offer u) answer pl same all is h = absurd (not_offer is.3.2)
-    where
-      not_offer : {e : ReplicaEvent} → task.Offer u ≡ task.Step e → ⊥
-      not_offer k = cc
-  delivers_part r n bytes (task.Take u) answer pl same all is h = absurd (not_take is.3.2)
-    where
-      not_take : {e : ReplicaEvent} → task.Take u ≡ task.Step e → ⊥
-      not_take k = cc
-  delivers_part r n bytes (task.Close u) answer pl same all is h = absurd (not_close is.3.2)
-    where
-      not_close : {e : ReplicaEvent} → task.Close u ≡ task.Step e → ⊥
-      not_close k = cc
-
-  -- the event's task, done, is a move
-  pub moves : (e : Event) (t : Task) (answer : Answer) → IsPlace ms (replica_of e) place m → KeepsFrames p q → AreFrames p → IsTask p e t → Answers form m q t answer m' p'
-      → Moves form (world_at unused third ms p xs) e answer (world_at unused third (slice_set ms place m') p' xs')
-  moves (event.Create r message) t answer pl same all is h = steps_by form unused third ms place m m' p q p' xs xs' answer r (replica.Create message) t pl same is h
-  moves (event.Edit r bases message) t answer pl same all is h = steps_by form unused third ms place m m' p q p' xs xs' answer r (replica.Edit bases message) t pl same is h
-  moves (event.Retire r) t answer pl same all is h = steps_by form unused third ms place m m' p q p' xs xs' answer r replica.Retire t pl same is h
-  moves (event.Pull r) t answer pl same all is h = steps_by form unused third ms place m m' p q p' xs xs' answer r replica.Pull t pl same is h
-  moves (event.Receive r n) t answer pl same all is h = delivers form unused third ms place m m' p q p' xs xs' answer r n t pl same all is h
-  moves (event.DeliverPart r n bytes) t answer pl same all is h = delivers_part r n bytes t answer pl same all is h
-  moves (event.CutIn r session) t answer pl same all is h = steps_by form unused third ms place m m' p q p' xs xs' answer r (replica.CutIn session) t pl same is h
-  moves (event.Answer r n) t answer pl same all is h = answers_ask form unused third ms place m m' p q p' xs xs' answer r n t pl same all is h
-  moves (event.Next r stream) t answer pl same all is h = steps_by form unused third ms place m m' p q p' xs xs' answer r (replica.Next stream) t pl same is h
-  moves (event.CutOut r stream) t answer pl same all is h = steps_by form unused third ms place m m' p q p' xs xs' answer r (replica.CutOut stream) t pl same is h
-  moves (event.Vouch r version) t answer pl same all is h = steps_by form unused third ms place m m' p q p' xs xs' answer r (replica.Vouch version) t pl same is h
-  moves (event.Release r n) t answer pl same all is h = releases form unused third ms place m m' p q p' xs xs' answer r n t pl same all is h
-  moves (event.Offer r u) t answer pl same all is h =
-      let k = subst (λ (t : Task). Answers form m q t answer m' p') is h in
-      subst (λ (s : State K). OnPort (world_at unused third ms p xs) r (subscriber_number u) (Offers s.feed) answer (world_at unused third (slice_set ms place m') p' xs'))
-      (sym (replica_there unused ms r place m pl))
-      (on_port unused third ms r place m m' p q p' xs xs' u (Offers m.replica.feed) answer pl same k)
-  moves (event.Take r u) t answer pl same all is h = on_port unused third ms r place m m' p q p' xs xs' u Takes answer pl same (subst (λ (t : Task). Answers form m q t answer m' p') is h)
-  moves (event.Close r u) t answer pl same all is h = on_port unused third ms r place m m' p q p' xs xs' u Closes answer pl same (subst (λ (t : Task). Answers form m q t answer m' p') is h)
+  -- what the event asks, done, is a move
+  pub moves : (e : Event Mail) (t : Task) (answer : Answer) → IsPlace ms e.replica place m → KeepsFrames p q → asked_of p e.act ≡ Some t → Answers form m q t answer m' p' → Moves form before e answer afterwards
+  moves e t answer pl same is h = (t, is, does e.replica t answer pl same h)

@@ -15,16 +15,19 @@ use Rattle.mr_replica.specs.declared.event.Event.TheVariants as replica
 use Rattle.mr_replica.specs.declared.event.Reply.{Reply}
 use Rattle.mr_replica.specs.declared.event.Reply.TheVariants.{Asked, Done, Finished, Gave, Issued, Known, Streaming, Took, Vouched}
 use Rattle.mr_wire.specs.Frames.{Sent}
-use Rattle.mr_model.specs.Moment.{numbered}
-use Rattle.mr_world.specs.Moves.{Delivers, StepsAt}
+use Rattle.mr_mail.specs.Mail.{Mail}
+use Rattle.mr_model.specs.History.{◌does◌}
+use Rattle.mr_model.specs.declared.event.Act.{Act}
+use Rattle.mr_model.specs.declared.event.Act.TheVariants as act
+use Rattle.mr_world.specs.Asked.{asked}
+use Rattle.mr_world.specs.Moves.{Moves}
 use Rattle.mr_world.specs.Ports.{with_close, with_offered, with_waiting}
 use Rattle.mr_world.specs.Runs.{IsFreshWorld, Runs}
 use Rattle.mr_world.specs.World.{Port, World, new_port, with_given, with_port, with_replica}
 use Rattle.mr_world.specs.declared.answer.Answer.TheVariants as answer
 use Rattle.mr_world.specs.declared.answered.Answered.{Answered}
-use Rattle.mr_world.specs.declared.event.Event.{Event}
-use Rattle.mr_world.specs.declared.event.Event.TheVariants as event
-use Rattle.mr_world.specs.declared.event.Subscriber.TheVariants.{Indexer}
+use Rattle.mr_model.specs.declared.event.Subscriber.TheVariants.{Indexer}
+use Rattle.mr_world.specs.declared.task.Task.TheVariants as task
 use Rattle.mr_world.proofs.Worked.RunSteps.{Goes, Replica, answered_0, answered_1, answered_again_0, answers_0, answers_1, answers_again_0, ask_1, ask_2, ask_3, asked_0, asked_1, asked_again_1, asks_0, asks_1, asks_again_1, created_0, creates_0, cut_0, cut_1, cuts_in_0, cuts_out_1, drawn_1, drawn_2, drawn_3, drawn_4, drawn_5, drawn_6, drawn_7, drawn_8, drawn_9, draws_1, draws_2, draws_3, draws_4, draws_5, draws_6, draws_7, draws_8, draws_9, edited_1, edits_1, filters, fresh, mail, none_has, one, receipt_1, receiving, record_1, record_2, record_3, record_4, record_5, record_6, record_7, record_8, record_9, released_1, releases_1, retired_1, retires_1, revision_1, revision_2, row_form, takes_1, takes_2, takes_3, takes_4, takes_5, takes_6, takes_7, takes_8, takes_9, took_1, took_2, took_3, took_4, took_5, took_6, took_7, took_8, took_9, two, vouched_0, vouches_0}
 
 -- ---- the world
@@ -32,12 +35,13 @@ use Rattle.mr_world.proofs.Worked.RunSteps.{Goes, Replica, answered_0, answered_
 abbrev went : World (List AuthorColumn) → ℕ → Replica → Reply → World (List AuthorColumn)
 went w r new reply = with_given (with_replica w r new) (Ok reply)
 
-abbrev stepped : Event → Reply → Answered
-stepped e reply = record { event = e; answer = answer.Stepped (Ok reply) }
+abbrev stepped : ℕ → Act Mail → Reply → Answered
+stepped r act reply = record { event = r does act; answer = answer.Stepped (Ok reply) }
 
--- a replica's step is the world's
-goes : (w : World (List AuthorColumn)) (r : ℕ) (there : ReplicaEvent) (reply : Reply) (new : Replica) → Goes (w.replicas r) there reply new → StepsAt row_form w r there (answer.Stepped (Ok reply)) (went w r new reply)
-goes w r there reply new step = ((λ h. absurd (cc)), new, step, refl)
+-- what a replica is asked and answers, the world does
+goes : (w : World (List AuthorColumn)) (r : ℕ) (act : Act Mail) (there : ReplicaEvent) (reply : Reply) (new : Replica) → asked w.asks w.records w.receipts act ≡ Some (task.Step there) → Goes (w.replicas r) there reply new →
+    Moves row_form w (r does act) (answer.Stepped (Ok reply)) (went w r new reply)
+goes w r act there reply new is step = (task.Step there, is, ((λ h. absurd (cc)), new, step, refl))
 
 abbrev world_0 : World (List AuthorColumn)
 world_0 = record { replicas = fresh; asks = []; records = []; receipts = []; ports = λ r u. new_port 2 }
@@ -108,61 +112,56 @@ abbrev world_17 : World (List AuthorColumn)
 world_17 = went world_16 1 took_5 Finished
 
 abbrev first_part : List Answered
-first_part = stepped (event.Pull 0) (Asked ask_1)
-    ∷ stepped (event.Create 0 (mail 1)) (Issued one)
-    ∷ record { event = event.Offer 0 Indexer; answer = answer.Offered (added revision_1) }
-    ∷ record { event = event.Take 0 Indexer; answer = answer.TookEntry (added revision_1) }
-    ∷ record { event = event.Close 0 Indexer; answer = answer.Done }
-    ∷ stepped (event.Pull 1) (Asked ask_2)
-    ∷ stepped (event.Answer 0 2) (Streaming 1)
-    ∷ stepped (event.Next 0 1) (Gave record_1)
-    ∷ stepped (event.Next 0 1) (Gave record_2)
-    ∷ stepped (event.Next 0 1) (Gave record_3)
-    ∷ stepped (event.Next 0 1) (Gave record_4)
-    ∷ stepped (event.Next 0 1) (Gave record_5)
-    ∷ stepped (event.Receive 1 1) Took
-    ∷ stepped (event.Receive 1 2) Took
-    ∷ stepped (event.Receive 1 3) Took
-    ∷ stepped (event.Receive 1 4) Took
-    ∷ stepped (event.Receive 1 5) Finished ∷ []
+first_part = stepped 0 act.Pull (Asked ask_1)
+    ∷ stepped 0 (act.Create (mail 1)) (Issued one)
+    ∷ record { event = 0 does act.Offer Indexer; answer = answer.Offered (added revision_1) }
+    ∷ record { event = 0 does act.Take Indexer; answer = answer.TookEntry (added revision_1) }
+    ∷ record { event = 0 does act.Close Indexer; answer = answer.Done }
+    ∷ stepped 1 act.Pull (Asked ask_2)
+    ∷ stepped 0 (act.Answer 2) (Streaming 1)
+    ∷ stepped 0 (act.Next 1) (Gave record_1)
+    ∷ stepped 0 (act.Next 1) (Gave record_2)
+    ∷ stepped 0 (act.Next 1) (Gave record_3)
+    ∷ stepped 0 (act.Next 1) (Gave record_4)
+    ∷ stepped 0 (act.Next 1) (Gave record_5)
+    ∷ stepped 1 (act.Receive 1) Took
+    ∷ stepped 1 (act.Receive 2) Took
+    ∷ stepped 1 (act.Receive 3) Took
+    ∷ stepped 1 (act.Receive 4) Took
+    ∷ stepped 1 (act.Receive 5) Finished ∷ []
 
--- a record of the pool is delivered
-delivers : (w : World (List AuthorColumn)) (r n : ℕ) (record_taken : Sent) (reply : Reply) (new : Replica) → numbered w.records n ≡ Some record_taken → Goes (w.replicas r) (receiving record_taken) reply new →
-    Delivers row_form w r n (answer.Stepped (Ok reply)) (went w r new reply)
-delivers w r n record_taken reply new pool step = (record_taken, pool, goes w r (receiving record_taken) reply new step)
-
-stream_runs : Runs row_form world_7 (stepped (event.Next 0 1) (Gave record_1) ∷ stepped (event.Next 0 1) (Gave record_2) ∷ stepped (event.Next 0 1) (Gave record_3) ∷ stepped (event.Next 0 1) (Gave record_4) ∷ stepped (event.Next 0 1) (Gave record_5)
-    ∷ stepped (event.Receive 1 1) Took ∷ stepped (event.Receive 1 2) Took ∷ stepped (event.Receive 1 3) Took ∷ stepped (event.Receive 1 4) Took ∷ stepped (event.Receive 1 5) Finished ∷ []) world_17
+stream_runs : Runs row_form world_7 (stepped 0 (act.Next 1) (Gave record_1) ∷ stepped 0 (act.Next 1) (Gave record_2) ∷ stepped 0 (act.Next 1) (Gave record_3) ∷ stepped 0 (act.Next 1) (Gave record_4) ∷ stepped 0 (act.Next 1) (Gave record_5)
+    ∷ stepped 1 (act.Receive 1) Took ∷ stepped 1 (act.Receive 2) Took ∷ stepped 1 (act.Receive 3) Took ∷ stepped 1 (act.Receive 4) Took ∷ stepped 1 (act.Receive 5) Finished ∷ []) world_17
 stream_runs = (
   world_8,
-  goes world_7 0 (replica.Next 1) (Gave record_1) drawn_1 draws_1,
+  goes world_7 0 (act.Next 1) (replica.Next 1) (Gave record_1) drawn_1 refl draws_1,
   (
     world_9,
-    goes world_8 0 (replica.Next 1) (Gave record_2) drawn_2 draws_2,
+    goes world_8 0 (act.Next 1) (replica.Next 1) (Gave record_2) drawn_2 refl draws_2,
     (
       world_10,
-      goes world_9 0 (replica.Next 1) (Gave record_3) drawn_3 draws_3,
+      goes world_9 0 (act.Next 1) (replica.Next 1) (Gave record_3) drawn_3 refl draws_3,
       (
         world_11,
-        goes world_10 0 (replica.Next 1) (Gave record_4) drawn_4 draws_4,
+        goes world_10 0 (act.Next 1) (replica.Next 1) (Gave record_4) drawn_4 refl draws_4,
         (
           world_12,
-          goes world_11 0 (replica.Next 1) (Gave record_5) drawn_5 draws_5,
+          goes world_11 0 (act.Next 1) (replica.Next 1) (Gave record_5) drawn_5 refl draws_5,
           (
             world_13,
-            delivers world_12 1 1 record_1 Took took_1 refl takes_1,
+            goes world_12 1 (act.Receive 1) (receiving record_1) Took took_1 refl takes_1,
             (
               world_14,
-              delivers world_13 1 2 record_2 Took took_2 refl takes_2,
+              goes world_13 1 (act.Receive 2) (receiving record_2) Took took_2 refl takes_2,
               (
                 world_15,
-                delivers world_14 1 3 record_3 Took took_3 refl takes_3,
+                goes world_14 1 (act.Receive 3) (receiving record_3) Took took_3 refl takes_3,
                 (
                   world_16,
-                  delivers world_15 1 4 record_4 Took took_4 refl takes_4,
+                  goes world_15 1 (act.Receive 4) (receiving record_4) Took took_4 refl takes_4,
                   (
                     world_17,
-                    delivers world_16 1 5 record_5 Finished took_5 refl takes_5,
+                    goes world_16 1 (act.Receive 5) (receiving record_5) Finished took_5 refl takes_5,
                     refl,
                   ),
                 ),
@@ -178,25 +177,25 @@ stream_runs = (
 first_runs : Runs row_form world_0 first_part world_17
 first_runs = (
   world_1,
-  goes world_0 0 replica.Pull (Asked ask_1) asked_0 asks_0,
+  goes world_0 0 act.Pull replica.Pull (Asked ask_1) asked_0 refl asks_0,
   (
     world_2,
-    goes world_1 0 (replica.Create (mail 1)) (Issued one) created_0 creates_0,
+    goes world_1 0 (act.Create (mail 1)) (replica.Create (mail 1)) (Issued one) created_0 refl creates_0,
     (
       world_3,
-      (port_1, (refl, refl, (λ full. absurd (omega arith)), refl), refl),
+      (task.Offer Indexer, refl, (port_1, (refl, refl, (λ full. absurd (omega arith)), refl), refl)),
       (
         world_4,
-        (with_waiting port_1 [], ([], refl, refl), refl),
+        (task.Take Indexer, refl, (with_waiting port_1 [], ([], refl, refl), refl)),
         (
           world_5,
-          (with_close (with_waiting port_1 []), refl, refl),
+          (task.Close Indexer, refl, (with_close (with_waiting port_1 []), refl, refl)),
           (
             world_6,
-            goes world_5 1 replica.Pull (Asked ask_2) asked_1 asks_1,
+            goes world_5 1 act.Pull replica.Pull (Asked ask_2) asked_1 refl asks_1,
             (
               world_7,
-              (ask_2, refl, goes world_6 0 (replica.Answer ask_2) (Streaming 1) answered_0 answers_0),
+              goes world_6 0 (act.Answer 2) (replica.Answer ask_2) (Streaming 1) answered_0 refl answers_0,
               stream_runs,
             ),
           ),
@@ -260,80 +259,80 @@ abbrev world_34 : World (List AuthorColumn)
 world_34 = went world_33 1 retired_1 Done
 
 abbrev second_part : List Answered
-second_part = stepped (event.Pull 1) (Asked ask_3)
-    ∷ stepped (event.Edit 1 (one ∷ []) (mail 0)) (Issued two)
-    ∷ stepped (event.Answer 1 1) (Streaming 1)
-    ∷ stepped (event.Next 1 1) (Gave record_6)
-    ∷ stepped (event.Next 1 1) (Gave record_7)
-    ∷ stepped (event.CutOut 1 1) Done
-    ∷ stepped (event.Receive 0 6) Took
-    ∷ stepped (event.DeliverPart 0 7 1000) Took
-    ∷ record { event = event.DeliverPart 0 7 20; answer = answer.Truncated }
-    ∷ stepped (event.CutIn 0 1) Done
-    ∷ stepped (event.Vouch 0 two) (Vouched receipt_1)
-    ∷ stepped (event.Release 1 1) Done
-    ∷ stepped (event.Answer 0 3) (Streaming 2)
-    ∷ stepped (event.Next 0 2) (Gave record_8)
-    ∷ stepped (event.Next 0 2) (Gave record_9)
-    ∷ stepped (event.Receive 1 8) Took
-    ∷ stepped (event.Receive 1 9) Known
-    ∷ stepped (event.Retire 1) Done ∷ []
+second_part = stepped 1 act.Pull (Asked ask_3)
+    ∷ stepped 1 (act.Edit (one ∷ []) (mail 0)) (Issued two)
+    ∷ stepped 1 (act.Answer 1) (Streaming 1)
+    ∷ stepped 1 (act.Next 1) (Gave record_6)
+    ∷ stepped 1 (act.Next 1) (Gave record_7)
+    ∷ stepped 1 (act.CutOut 1) Done
+    ∷ stepped 0 (act.Receive 6) Took
+    ∷ stepped 0 (act.DeliverPart 7 1000) Took
+    ∷ record { event = 0 does act.DeliverPart 7 20; answer = answer.Truncated }
+    ∷ stepped 0 (act.CutIn 1) Done
+    ∷ stepped 0 (act.Vouch two) (Vouched receipt_1)
+    ∷ stepped 1 (act.Release 1) Done
+    ∷ stepped 0 (act.Answer 3) (Streaming 2)
+    ∷ stepped 0 (act.Next 2) (Gave record_8)
+    ∷ stepped 0 (act.Next 2) (Gave record_9)
+    ∷ stepped 1 (act.Receive 8) Took
+    ∷ stepped 1 (act.Receive 9) Known
+    ∷ stepped 1 act.Retire Done ∷ []
 
 second_runs : Runs row_form world_17 second_part world_34
 second_runs = (
   world_18,
-  goes world_17 1 replica.Pull (Asked ask_3) asked_again_1 asks_again_1,
+  goes world_17 1 act.Pull replica.Pull (Asked ask_3) asked_again_1 refl asks_again_1,
   (
     world_19,
-    goes world_18 1 (replica.Edit (one ∷ []) (mail 0)) (Issued two) edited_1 edits_1,
+    goes world_18 1 (act.Edit (one ∷ []) (mail 0)) (replica.Edit (one ∷ []) (mail 0)) (Issued two) edited_1 refl edits_1,
     (
       world_20,
-      (ask_1, refl, goes world_19 1 (replica.Answer ask_1) (Streaming 1) answered_1 answers_1),
+      goes world_19 1 (act.Answer 1) (replica.Answer ask_1) (Streaming 1) answered_1 refl answers_1,
       (
         world_21,
-        goes world_20 1 (replica.Next 1) (Gave record_6) drawn_6 draws_6,
+        goes world_20 1 (act.Next 1) (replica.Next 1) (Gave record_6) drawn_6 refl draws_6,
         (
           world_22,
-          goes world_21 1 (replica.Next 1) (Gave record_7) drawn_7 draws_7,
+          goes world_21 1 (act.Next 1) (replica.Next 1) (Gave record_7) drawn_7 refl draws_7,
           (
             world_23,
-            goes world_22 1 (replica.CutOut 1) Done cut_1 cuts_out_1,
+            goes world_22 1 (act.CutOut 1) (replica.CutOut 1) Done cut_1 refl cuts_out_1,
             (
               world_24,
-              delivers world_23 0 6 record_6 Took took_6 refl takes_6,
+              goes world_23 0 (act.Receive 6) (receiving record_6) Took took_6 refl takes_6,
               (
                 world_25,
-                (record_7, refl, omega arith, goes world_24 0 (receiving record_7) Took took_7 takes_7),
+                goes world_24 0 (act.DeliverPart 7 1000) (receiving record_7) Took took_7 refl takes_7,
                 (
                   world_25,
-                  (record_7, refl, omega arith, refl),
+                  (task.Truncated, refl, (refl, refl)),
                   (
                     world_26,
-                    goes world_25 0 (replica.CutIn 1) Done cut_0 cuts_in_0,
+                    goes world_25 0 (act.CutIn 1) (replica.CutIn 1) Done cut_0 refl cuts_in_0,
                     (
                       world_27,
-                      goes world_26 0 (replica.Vouch two) (Vouched receipt_1) vouched_0 vouches_0,
+                      goes world_26 0 (act.Vouch two) (replica.Vouch two) (Vouched receipt_1) vouched_0 refl vouches_0,
                       (
                         world_28,
-                        (receipt_1, refl, goes world_27 1 (replica.Release receipt_1) Done released_1 releases_1),
+                        goes world_27 1 (act.Release 1) (replica.Release receipt_1) Done released_1 refl releases_1,
                         (
                           world_29,
-                          (ask_3, refl, goes world_28 0 (replica.Answer ask_3) (Streaming 2) answered_again_0 answers_again_0),
+                          goes world_28 0 (act.Answer 3) (replica.Answer ask_3) (Streaming 2) answered_again_0 refl answers_again_0,
                           (
                             world_30,
-                            goes world_29 0 (replica.Next 2) (Gave record_8) drawn_8 draws_8,
+                            goes world_29 0 (act.Next 2) (replica.Next 2) (Gave record_8) drawn_8 refl draws_8,
                             (
                               world_31,
-                              goes world_30 0 (replica.Next 2) (Gave record_9) drawn_9 draws_9,
+                              goes world_30 0 (act.Next 2) (replica.Next 2) (Gave record_9) drawn_9 refl draws_9,
                               (
                                 world_32,
-                                delivers world_31 1 8 record_8 Took took_8 refl takes_8,
+                                goes world_31 1 (act.Receive 8) (receiving record_8) Took took_8 refl takes_8,
                                 (
                                   world_33,
-                                  delivers world_32 1 9 record_9 Known took_9 refl takes_9,
+                                  goes world_32 1 (act.Receive 9) (receiving record_9) Known took_9 refl takes_9,
                                   (
                                     world_34,
-                                    goes world_33 1 replica.Retire Done retired_1 retires_1,
+                                    goes world_33 1 act.Retire replica.Retire Done retired_1 refl retires_1,
                                     refl,
                                   ),
                                 ),

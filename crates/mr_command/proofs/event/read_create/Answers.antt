@@ -1,4 +1,4 @@
-use Rattle.std.proofs.Common.{refl}
+use Rattle.std.proofs.Common.{Ok, ap}
 use Rattle.mr_command.specs.Reading.Both.{goes_on}
 use Rattle.mr_command.proofs.Readings.{ends_at}
 use Rattle.mr_command.proofs.event.read_create.Goals as goal
@@ -13,4 +13,4 @@ pub returns-in_err-message-2 : goal.returns-in_err-message-2
 returns-in_err-message-2 g c = rw c.in_ok-replica.ensures (goes_on c.in_ok-message.ensures (goes_on c.in_ok-id.ensures (ends_at _ c.from_residual-in_err-message-2.result c.from_residual-in_err-message-2.ensures.1 c.in_err-message-2.ensures)))
 
 pub returns : goal.returns
-returns g c = rw c.in_ok-replica.ensures (goes_on c.in_ok-message.ensures (goes_on c.in_ok-id.ensures (goes_on c.in_ok-message-2.ensures refl)))
+returns g c = rw c.in_ok-replica.ensures (goes_on c.in_ok-message.ensures (goes_on c.in_ok-id.ensures (goes_on c.in_ok-message-2.ensures (ap (λ e. Ok e) c.by.ensures))))

@@ -1,4 +1,4 @@
-use Rattle.std.proofs.Common.{◌≡◌, ◌∙◌, [], ◌∷◌, ◌++◌, refl, sym, ap}
+use Rattle.std.proofs.Common.{◌∙◌, [], ◌∷◌, ◌++◌, ap}
 use Rattle.mr_version.specs.Name.{name_text}
 use Rattle.mr_command.specs.List.{pieces_of, IsVersionName}
 use Rattle.mr_command.proofs.PieceLemmas.{named-more, named-none, read_some, read_none}

@@ -1,4 +1,4 @@
-use Rattle.std.proofs.Common.{◌≡◌, ℕ, List, length}
+use Rattle.std.proofs.Common.{◌≡◌, List, length}
 use Rattle.mr_mail.specs.declared.flags.Flag.{Flag}
 use Rattle.mr_mail.specs.Flag.{flag_name}
 use Rattle.mr_command.specs.List.{pieces_of, united}

@@ -1,16 +1,6 @@
-use Rattle.std.proofs.Common.{refl}
-use Rattle.mr_command.specs.Reading.Both.{goes_on}
-use Rattle.mr_command.proofs.Readings.{ends_at}
+use Rattle.std.proofs.Common.{rules}
+use Rattle.mr_command.proofs.Readings.{mapped, two_read}
 use Rattle.mr_command.proofs.question.read_index.Goals as goal
 
-pub returns-in_err-replica : goal.returns-in_err-replica
-returns-in_err-replica g c = ends_at _ c.from_residual.result c.from_residual.ensures.1 c.in_err-replica.ensures
-
-pub returns-in_err-id : goal.returns-in_err-id
-returns-in_err-id g c = goes_on {x = (c.in_ok-replica.replica.now, c.in_ok-replica.label.now)} c.in_ok-replica.ensures (ends_at _ c.from_residual-in_err-id.result c.from_residual-in_err-id.ensures.1 c.in_err-id.ensures)
-
-pub returns-in_err-label : goal.returns-in_err-label
-returns-in_err-label g c = goes_on {x = (c.in_ok-replica.replica.now, c.in_ok-replica.label.now)} c.in_ok-replica.ensures (goes_on c.in_ok-id.ensures (ends_at _ c.from_residual-in_err-label.result c.from_residual-in_err-label.ensures.1 c.in_err-label.ensures))
-
 pub returns : goal.returns
-returns g c = goes_on {x = (c.in_ok-replica.replica.now, c.in_ok-replica.label.now)} c.in_ok-replica.ensures (goes_on c.in_ok-id.ensures (goes_on c.in_ok-label.ensures refl))
+returns g c = mapped _ _ _ c.map.ensures.cases (λ x y made. search rules) (two_read (g.R.Roster.scene c.args.roster.now) _ _ _ _ c.read_two-read.ensures (λ word r tells. search rules))

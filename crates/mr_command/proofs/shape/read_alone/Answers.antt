@@ -5,8 +5,5 @@ use Rattle.mr_command.proofs.shape.read_alone.Goals as goal
 pub returns-in_err-replica : goal.returns-in_err-replica
 returns-in_err-replica g c = ends_at _ c.from_residual.result c.from_residual.ensures.1 c.in_err-replica.ensures
 
-pub returns-in_err-id : goal.returns-in_err-id
-returns-in_err-id g c = goes_on c.in_ok-replica.ensures (ends_at _ c.from_residual-in_err-id.result c.from_residual-in_err-id.ensures.1 c.in_err-id.ensures)
-
 pub returns : goal.returns
-returns g c = goes_on c.in_ok-replica.ensures (goes_on c.in_ok-id.ensures (c.make.ensures))
+returns g c = goes_on c.in_ok-replica.ensures c.read_replica.ensures

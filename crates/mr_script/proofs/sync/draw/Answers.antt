@@ -4,13 +4,13 @@ use Rattle.mr_script.proofs.OneEvent.{noted_there, noted_at}
 use Rattle.mr_script.proofs.sync.draw.Goals as goal
 
 pub returns-in_err-let_happen : goal.returns-in_err-let_happen
-returns-in_err-let_happen g c = let p = err_from_is_err_and c.from_residual.result c.from_residual.ensures.1 in rw (p.1, p.2) c.in_err-let_happen.ensures
+returns-in_err-let_happen g c = let p = err_from_is_err_and c.from_residual.result c.from_residual.ensures.1 in rw (p.1, p.2) (rw c.by.ensures at c.in_err-let_happen.ensures)
 
 pub newest-requires : goal.newest-requires
 newest-requires g c = noted_there _ _ c.in_ok-let_happen.ensures
 
 pub drawn_in-requires : goal.drawn_in-requires
-drawn_in-requires g c = next_answers g.K.Knowledge.form _ _ _ _ _ (noted_at _ _ _ c.newest.ensures c.in_ok-let_happen.ensures)
+drawn_in-requires g c = next_answers g.K.Knowledge.form _ _ _ _ _ (noted_at _ _ _ c.newest.ensures (rw c.by.ensures at c.in_ok-let_happen.ensures))
 
 pub returns : goal.returns
-returns g c = (c.newest.result.now, noted_at _ _ _ c.newest.ensures c.in_ok-let_happen.ensures, c.drawn_in.ensures)
+returns g c = (c.newest.result.now, noted_at _ _ _ c.newest.ensures (rw c.by.ensures at c.in_ok-let_happen.ensures), c.drawn_in.ensures)

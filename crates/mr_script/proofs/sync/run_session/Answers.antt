@@ -11,8 +11,8 @@ pub returns-in-Ok : goal.returns-in-Ok
 returns-in-Ok g c = goes_on (rw c.in-Ok.is at c.in_ok-stream.ensures) c.run_stream.ensures
 
 pub returns-in_ok-let_happen-in-Err : goal.returns-in_ok-let_happen-in-Err
-returns-in_ok-let_happen-in-Err g c = goes_on (rw c.in-Err.is at c.in_ok-stream.ensures) (event_then g.K.Knowledge.form _ c.in_ok-let_happen-in-Err.ensures (ap Ok c.refused.ensures, refl))
+returns-in_ok-let_happen-in-Err g c = goes_on (rw c.in-Err.is at c.in_ok-stream.ensures) (event_then g.K.Knowledge.form _ (rw c.by.ensures at c.in_ok-let_happen-in-Err.ensures) (ap Ok c.refused.ensures, refl))
 
 pub returns-in_err-let_happen-in-Err : goal.returns-in_err-let_happen-in-Err
 returns-in_err-let_happen-in-Err g c =
-    goes_on (rw c.in-Err.is at c.in_ok-stream.ensures) (ends_at _ _ _ c.from_residual-in_err-let_happen-in-Err.result c.from_residual-in_err-let_happen-in-Err.ensures.1 c.in_err-let_happen-in-Err.ensures)
+    goes_on (rw c.in-Err.is at c.in_ok-stream.ensures) (ends_at _ _ _ c.from_residual-in_err-let_happen-in-Err.result c.from_residual-in_err-let_happen-in-Err.ensures.1 (rw c.by.ensures at c.in_err-let_happen-in-Err.ensures))

@@ -1,4 +1,4 @@
-use Rattle.std.proofs.Common.{subst, ap, List, ℕ, None}
+use Rattle.std.proofs.Common.{subst, ap, List, None}
 use Rattle.mr_settle.specs.Arrived.{FindsLeft}
 use Rattle.mr_settle.specs.Carried.{done_of}
 use Rattle.mr_settle.specs.Named.{given_by}

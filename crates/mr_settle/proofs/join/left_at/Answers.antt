@@ -1,4 +1,4 @@
-use Rattle.std.proofs.Common.{refl, ap, subst, sym, ◌≤◌, ◌<◌, arith, length, ◌∙◌, List, ℕ}
+use Rattle.std.proofs.Common.{refl, subst, sym, ◌<◌, arith, length, List}
 use Rattle.std.proofs.lemmas.Option.{slice_get_read}
 use Rattle.mr_replica.specs.declared.event.Event.{Event}
 use Rattle.mr_settle.proofs.ArriveLemmas.{left_found, left_none}

@@ -1,4 +1,4 @@
-use Rattle.std.proofs.Common.{rules, subst, sym, refl, ◌≤◌, ◌<◌, ℕ, List, length, arith}
+use Rattle.std.proofs.Common.{rules, subst, sym, refl, ◌<◌, ℕ, List, length, arith}
 use Rattle.std.proofs.lemmas.Option.{slice_get_read}
 use Rattle.mr_settle.specs.Carried.{IsUpToDate, done_of}
 use Rattle.mr_settle.specs.Named.{given_by}
