@@ -13,7 +13,7 @@ import sys
 import tempfile
 
 TOP = pathlib.Path(__file__).resolve().parent.parent
-ROWS = TOP / "crates/mr_rows/data"
+ROWS = TOP / "crates/try_scripts/data"
 MAILREP = TOP / "crates/mr_console/out/mailrep"
 # A script of two nodes, and what `mailrep live` prints of it.
 LIVE_SCRIPT = b"""\

@@ -8,8 +8,8 @@
 //! Each set of versions has one vector: no column is empty, each bound is covered, and holes are in order,
 //! with covered counters between them. So two vectors are equal exactly where they have the same versions.
 //! A column has at most 4,096 holes. A call whose result would have a column with more answers
-//! `TooManyHoles` and changes nothing, also where memory is wanting; `from_versions` and `concise_fragments`
-//! alone may answer `OutOfMemory` in its place.
+//! `TooManyHoles` and changes nothing, also where memory is wanting; `concise_fragments` alone may answer
+//! `OutOfMemory` in its place.
 //!
 //! The idea of one vector with exceptions is that of D. Malkhi and D. Terry, *Concise Version Vectors in WinFS*
 //! (DISC 2005); holes within an author's column are our own form of it.

@@ -1,5 +1,5 @@
 //! What can go wrong in this program.
-use mr_event::EventFault;
+use mr_entry::event::EventFault;
 use mr_filter::FilterFault;
 use mr_frames::FrameFault;
 use mr_mail::{DayFault, MessageFault};

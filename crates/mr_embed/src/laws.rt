@@ -1,4 +1,5 @@
 //! What the story rests on besides its calls.
+use mr_entry::event;
 use mr_feed::{PlainPort, first_in_first_out};
 use mr_frames::{
     cuts_have_no_effect, fed_bytes_are_frames_and_rest, part_of_a_frame_is_truncated,
@@ -19,8 +20,8 @@ pub fn cite_laws() {
     no_spelling_begins_another();
     one_spelling();
     // No event of a log can be taken for another.
-    mr_event::no_spelling_begins_another();
-    mr_event::one_spelling();
+    event::no_spelling_begins_another();
+    event::one_spelling();
     // Of each knowledge there is one text, so that it can be compared.
     one_normal_form();
     // What a port gave, and what waits in it, is what was offered.

@@ -1,6 +1,6 @@
 //! A log as it is kept on disk: the bytes of its events, one behind the other.
 use crate::fault::Fault;
-use mr_event::{decode_event, encode_event};
+use mr_entry::event::{decode_event, encode_event};
 use mr_replica::Event;
 use std::alloc::Global;
 

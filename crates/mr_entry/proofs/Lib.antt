@@ -1,3 +1,5 @@
 -- lemmas
-pub mod ReadLemmas
+pub mod CodecLaws
+pub mod EventLemmas
+pub mod EventLaws
 pub mod EntryLaws

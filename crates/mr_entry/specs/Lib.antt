@@ -4,8 +4,9 @@ pub mod Fault
 pub mod Spelling
 pub mod Grammar
 pub mod Parts
-pub mod Seen
 pub mod Decoding
+pub mod Seen
 pub mod Encoding
 pub mod Events
+pub mod EventRows
 pub mod Rows

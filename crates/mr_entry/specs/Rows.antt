@@ -1,7 +1,7 @@
--- worked rows: what the definitions give for small values
+-- worked rows: what the definitions of entries give for small values
 use Rattle.std.specs.Prelude.{◌≡◌, ℕ, List, [], ◌∷◌, ◌++◌, Ok, Err, codes, refl, replicate}
 use Rattle.mr_replica.specs.declared.event.Event.TheVariants.{Pull, Next}
-use Rattle.mr_event.specs.declared.fault.EventFault.TheVariants as event
+use Rattle.mr_entry.specs.declared.event.fault.EventFault.TheVariants as event
 use Rattle.mr_entry.specs.Head.{HeadParts}
 use Rattle.mr_entry.specs.Events.{events_of_entry}
 use Rattle.mr_entry.specs.Spelling.{entry_bytes}

@@ -1,118 +1,115 @@
 //! From bytes to an entry.
 ghost use Rattle.std.specs.Prelude.{◌≡◌, ◌≤◌, ◌++◌, ℕ, List, IfOk, Ok, length, take};
 ghost use Rattle.mr_entry.specs.declared.entry.Entry.{Entry};
-ghost use Rattle.mr_entry.specs.Decoding.{Answers, decoded, event_read, head_read, nexts_read, note_read, parts_read};
+ghost use Rattle.mr_entry.specs.Decoding.{Answers, decoded, entry_read, event_read, head_read, nexts_read, note_read, parts_read};
 ghost use Rattle.mr_entry.specs.Grammar.{Spells};
+ghost use Rattle.mr_entry.specs.Seen.{leaving};
 
 use crate::entry::Entry;
+use crate::event::event_in;
 use crate::fault::{EntryFault, fault_of_event};
 use crate::head::{FORMAT, Head};
 use crate::note::Note;
-use crate::reading::{head_in, nexts_in, note_in, rest_of, u16_in};
-use mr_event::decode_event;
+use crate::reading::{counted_bytes, head_in, u16_in};
 use mr_wire::parts::Input;
 use std::alloc::Global;
 
-/// The bytes of a head's parts but for its text.
-const HEAD_BYTES: usize = 60;
-
-/// The bytes of a count of versions.
-const ISSUED_BYTES: usize = 4;
-
-/// The bytes of a run of Nexts.
-const NEXTS_BYTES: usize = 12;
-
-/// The bytes of a note's parts but for its bytes.
-const NOTE_BYTES: usize = 5;
-
-/// A head, and how many bytes it takes.
-fn head(alloc: Global, bytes: &[u8]) -> Result<(Entry, usize), EntryFault>
-    ensures { Answers (head_read bytes.now) result }
+/// A head.
+fn head(alloc: Global, input: &mut Input<'_>) -> Result<Entry, EntryFault>
+    ensures { Answers (head_read input.old) (leaving result input.new) }
 {
-    let mut input = Input::new(bytes);
-    let Some(format) = u16_in(&mut input) else {
+    let Some(format) = u16_in(input) else {
         return Err(EntryFault::BadBody);
     };
     if format != FORMAT {
         return Err(EntryFault::OtherFormat(format));
     }
-    let Some(read) = head_in(&mut input) else {
+    let Some(read) = head_in(input) else {
         return Err(EntryFault::BadBody);
     };
-    let used = HEAD_BYTES + read.filter.len();
     let filter = String::from_str(alloc, read.filter)?;
     let head = Head::new(read.id, read.event_limit, read.birth, read.mark, filter);
-    Ok((Entry::Head(head), used))
+    Ok(Entry::Head(head))
 }
 
-/// An event, and how many bytes it takes.
-fn event(alloc: Global, bytes: &[u8]) -> Result<(Entry, usize), EntryFault>
-    ensures { Answers (event_read bytes.now) result }
+/// An event behind a count of versions.
+fn event(alloc: Global, input: &mut Input<'_>) -> Result<Entry, EntryFault>
+    ensures { Answers (event_read input.old) (leaving result input.new) }
 {
-    let mut input = Input::new(bytes);
     let Some(issued) = input.u32() else {
         return Err(EntryFault::BadBody);
     };
-    match decode_event(alloc, rest_of(&mut input)) {
-        Ok((event, used)) => Ok((Entry::Event(issued, event), used + ISSUED_BYTES)),
+    match event_in(alloc, input) {
+        Ok((event, _)) => Ok(Entry::Event(issued, event)),
         Err(fault) => Err(fault_of_event(fault)),
     }
 }
 
-/// A run of Nexts, and how many bytes it takes.
-fn nexts(bytes: &[u8]) -> Result<(Entry, usize), EntryFault>
-    ensures { Answers (nexts_read bytes.now) result }
+/// A run of Nexts.
+fn nexts(input: &mut Input<'_>) -> Result<Entry, EntryFault>
+    ensures { Answers (nexts_read input.old) (leaving result input.new) }
 {
-    match nexts_in(&mut Input::new(bytes)) {
-        Some(read) => Ok((Entry::Nexts(read.stream, read.count), NEXTS_BYTES)),
-        None => Err(EntryFault::BadBody),
-    }
-}
-
-/// A note, and how many bytes it takes.
-fn note(alloc: Global, bytes: &[u8]) -> Result<(Entry, usize), EntryFault>
-    ensures { Answers (note_read bytes.now) result }
-{
-    let Some(read) = note_in(&mut Input::new(bytes)) else {
+    let Some(stream) = input.u64() else {
         return Err(EntryFault::BadBody);
     };
-    let used = NOTE_BYTES + read.bytes.len();
-    let copy = read.bytes.to_vec(alloc)?;
-    Ok((Entry::Note(Note::new(read.kind, copy)), used))
+    let Some(count) = input.u32() else {
+        return Err(EntryFault::BadBody);
+    };
+    Ok(Entry::Nexts(stream, count))
 }
 
-/// The entry of this kind byte, and how many bytes stand behind the kind.
-fn parts(alloc: Global, kind: u8, bytes: &[u8]) -> Result<(Entry, usize), EntryFault>
-    ensures { Answers (parts_read kind bytes.now) result }
+/// A note.
+fn note(alloc: Global, input: &mut Input<'_>) -> Result<Entry, EntryFault>
+    ensures { Answers (note_read input.old) (leaving result input.new) }
+{
+    let Some(kind) = input.u8() else {
+        return Err(EntryFault::BadBody);
+    };
+    let Some(bytes) = counted_bytes(input) else {
+        return Err(EntryFault::BadBody);
+    };
+    Ok(Entry::Note(Note::new(kind, bytes.to_vec(alloc)?)))
+}
+
+/// What stands behind this kind byte.
+fn parts(alloc: Global, input: &mut Input<'_>, kind: u8) -> Result<Entry, EntryFault>
+    ensures { Answers (parts_read kind input.old) (leaving result input.new) }
 {
     match kind {
-        0 => head(alloc, bytes),
-        1 => event(alloc, bytes),
-        2 => nexts(bytes),
-        3 => note(alloc, bytes),
+        0 => head(alloc, input),
+        1 => event(alloc, input),
+        2 => nexts(input),
+        3 => note(alloc, input),
         _ => Err(EntryFault::BadKind),
     }
 }
 
-#[tactic(auto, using(crate::proofs::EntryLaws::parts_within, crate::proofs::EntryLaws::answer_kind))]
+/// The entry at the front, or the first fault.
+fn entry_in(alloc: Global, input: &mut Input<'_>) -> Result<Entry, EntryFault>
+    ensures { Answers (entry_read input.old) (leaving result input.new) }
+{
+    let Some(kind) = input.u8() else {
+        return Err(EntryFault::Truncated);
+    };
+    parts(alloc, input, kind)
+}
+
+/// The entry at the front, and how many bytes it takes, or the first fault.
+#[tactic(auto, using(crate::proofs::EntryLaws::fault_stays))]
 fn first_entry(alloc: Global, bytes: &[u8]) -> Result<(Entry, usize), EntryFault>
     ensures { Answers (decoded bytes.now) result }
 {
-    let [kind, rest @ ..] = bytes else {
-        return Err(EntryFault::Truncated);
-    };
-    match parts(alloc, *kind, rest) {
-        Ok((entry, used)) => Ok((entry, used + 1)),
-        Err(fault) => Err(fault),
-    }
+    let mut input = Input::new(bytes);
+    let entry = entry_in(alloc, &mut input)?;
+    Ok((entry, bytes.len() - input.len()))
 }
 
 /// The entry at the front of the bytes, and how many bytes it takes.
 ///
 /// `Truncated` where there is no byte; `BadKind` for a kind byte over 3; of a head `OtherFormat` where the number of its
 /// format is another than 1; `BadBody` where what stands behind the kind is none of an entry of that kind; of an event
-/// `BadEvent` with the first fault of its bytes; and `OutOfMemory` last. The bytes of an event are walked twice, others
-/// once, and what is kept of them is copied.
+/// `BadEvent` with the first fault of its bytes; and `OutOfMemory` last. The bytes are walked once, and what is kept of
+/// them is copied.
 pub fn decode_entry(alloc: Global, bytes: &[u8]) -> Result<(Entry, usize), EntryFault>
     ensures exact { Answers (decoded bytes.now) result }
     ensures spelled { IfOk result (λ found. Spells found.0 (take found.1 bytes.now)) }

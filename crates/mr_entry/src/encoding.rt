@@ -1,15 +1,15 @@
 //! From an entry to bytes.
-ghost use Rattle.std.specs.Prelude.{◌≡◌, ◌<◌, ◌^◌, ◌++◌, ◌∷◌, OnOk, length};
+ghost use Rattle.std.specs.Prelude.{◌≡◌, ◌<◌, ◌^◌, ◌++◌, OnOk, length};
 ghost use Rattle.std.specs.Int.{w16, w32, to_be_bytes};
 ghost use Rattle.mr_entry.specs.declared.entry.Entry.TheVariants as entry;
 ghost use Rattle.mr_entry.specs.Encoding.{Encodes};
-ghost use Rattle.mr_entry.specs.Spelling.{entry_bytes, head_bytes, note_bytes};
+ghost use Rattle.mr_entry.specs.Spelling.{note_bytes, part_bytes};
 
 use crate::entry::Entry;
+use crate::event::{LENGTH_BYTES, put_event, rest_len};
 use crate::fault::EntryFault;
 use crate::head::{FORMAT, Head};
 use crate::note::Note;
-use mr_event::{EventFault, encode_event};
 use mr_replica::Event;
 use mr_wire::parts::{put_u32, put_u64};
 use std::alloc::{AllocError, Global};
@@ -25,6 +25,9 @@ const NEXTS: u8 = 2;
 
 /// The kind byte of a note.
 const NOTE: u8 = 3;
+
+/// The bytes of the kind and of a count of versions.
+const ISSUED_BYTES: usize = 5;
 
 fn put_u16(out: &mut Vec<u8>, n: u16) -> Result<(), AllocError>
     ensures { OnOk result (out.new.items ≡ out.old.items ++ to_be_bytes w16 n) }
@@ -43,7 +46,7 @@ fn put_counted(out: &mut Vec<u8>, bytes: &[u8]) -> Result<(), AllocError>
 
 fn put_head(out: &mut Vec<u8>, head: &Head) -> Result<(), AllocError>
     requires { length head.now.filter < 2 ^ 32 }
-    ensures { OnOk result (out.new.items ≡ out.old.items ++ head_bytes head.now) }
+    ensures { OnOk result (out.new.items ≡ out.old.items ++ part_bytes (entry.Head head.now)) }
 {
     put_u16(out, FORMAT)?;
     put_u16(out, head.id().id())?;
@@ -75,28 +78,20 @@ pub fn encode_head(alloc: Global, head: &Head) -> Result<Vec<u8>, EntryFault>
     Ok(out)
 }
 
-fn put_event(out: &mut Vec<u8>, issued: u32, event: &[u8]) -> Result<(), AllocError>
-    ensures { OnOk result (out.new.items ≡ out.old.items ++ (1 ∷ (to_be_bytes w32 issued ++ event.now))) }
-{
-    out.push(EVENT)?;
-    put_u32(out, issued)?;
-    out.extend_from_slice(event)
-}
-
 /// The bytes of an event, once whose replica has issued so many versions. `TooLong` where more than 8,388,608 bytes would
-/// follow the event's length, which is known before memory is asked for; else `OutOfMemory`.
+/// follow the event's length, which is known before memory is asked for; else `OutOfMemory`. One piece of memory is taken,
+/// of just the length.
 pub fn encode_event_entry(alloc: Global, issued: u32, event: &Event) -> Result<Vec<u8>, EntryFault>
     ensures { Encodes (entry.Event issued event.now) result }
 {
-    match encode_event(alloc, event) {
-        Ok(bytes) => {
-            let mut out = Vec::new(alloc);
-            put_event(&mut out, issued, &bytes)?;
-            Ok(out)
-        }
-        Err(EventFault::TooLong) => Err(EntryFault::TooLong),
-        Err(_) => Err(EntryFault::OutOfMemory),
-    }
+    let Some(rest) = rest_len(event) else {
+        return Err(EntryFault::TooLong);
+    };
+    let mut out = Vec::with_capacity(alloc, ISSUED_BYTES + LENGTH_BYTES + rest as usize)?;
+    out.push(EVENT)?;
+    put_u32(&mut out, issued)?;
+    put_event(&mut out, event, rest)?;
+    Ok(out)
 }
 
 /// The bytes of a run of so many Nexts of a stream. `OutOfMemory` alone.
@@ -125,7 +120,7 @@ pub fn encode_note(alloc: Global, note: &Note) -> Result<Vec<u8>, EntryFault>
 }
 
 /// The bytes of an entry. `TooLong` where the filter's text of a head or the bytes of a note are 2^32 or more, or the event
-/// has more bytes than one may have; else `OutOfMemory`. Each byte is copied once, of an event twice.
+/// has more bytes than one may have; else `OutOfMemory`. Each byte is copied once.
 pub fn encode_entry(alloc: Global, entry: &Entry) -> Result<Vec<u8>, EntryFault>
     ensures { Encodes entry.now result }
 {

@@ -3,7 +3,7 @@ ghost use Rattle.std.specs.Prelude.{◌≡◌};
 ghost use Rattle.mr_entry.specs.declared.fault.EntryFault.TheVariants.{OutOfMemory};
 ghost use Rattle.mr_entry.specs.Fault.{fault_number, fault_of_event};
 
-use mr_event::EventFault;
+use crate::event::EventFault;
 use std::alloc::{AllocError, AllocFailed};
 use thiserror::Error;
 

@@ -1,13 +1,14 @@
-//! Entries as bytes: what a journal keeps of a replica.
+//! Logs as bytes: events, and the entries that a journal keeps of a replica.
 //!
-//! A journal of a replica begins with a [`Head`], which tells what replica it is of; then come the events that the replica
-//! admitted, and notes of the program above, which mean nothing here. An entry is a kind byte and the parts that the kind
-//! has. Numbers have their highest byte first.
+//! [`event`] spells an event as a frame is spelled, so that a host keeps its log as the bytes of one event behind the
+//! other. A journal keeps more of a replica: it begins with a [`Head`], which tells what replica it is of; then come the
+//! events that the replica admitted, and notes of the program above, which mean nothing here. An entry is a kind byte and
+//! the parts that the kind has. Numbers have their highest byte first.
 //!
 //! | kind | parts |
 //! |---|---|
 //! | 0 Head | the number of the format, 1 (2 bytes), id (2), event limit (4), birth (16), mark (32), length of the filter's text (4), the text |
-//! | 1 Event | how many versions were issued once it was admitted (4), the event as `mr_event` spells it |
+//! | 1 Event | how many versions were issued once it was admitted (4), the event as [`event`] spells it |
 //! | 2 Nexts | the number of a stream (8), how many Nexts of it in a row (4) |
 //! | 3 Note | a kind byte of the program above (1), length (4), so many bytes |
 //!
@@ -26,6 +27,7 @@
 mod decoding;
 mod encoding;
 mod entry;
+pub mod event;
 mod fault;
 mod head;
 mod note;

@@ -5,8 +5,8 @@ ghost use Rattle.std.specs.Int.{w16};
 ghost use Rattle.std.specs.Str.{is_utf8};
 ghost use Rattle.mr_wire.specs.Parts.{author_at};
 ghost use Rattle.mr_wire.specs.Reading.{Gives, bytes_at, number_at};
-ghost use Rattle.mr_entry.specs.Parts.{filter_text_at, head_at, nexts_at, note_at};
-ghost use Rattle.mr_entry.specs.Seen.{head_seen, nexts_seen, note_seen};
+ghost use Rattle.mr_entry.specs.Parts.{counted_bytes_at, filter_text_at, head_at};
+ghost use Rattle.mr_entry.specs.Seen.{head_seen};
 
 use crate::head::{Birth, Mark};
 use mr_version::Author;
@@ -20,20 +20,6 @@ pub(crate) struct HeadRead<'a> {
     pub(crate) birth: Birth,
     pub(crate) mark: Mark,
     pub(crate) filter: &'a str,
-}
-
-/// A run of Nexts.
-#[derive(Clone, Copy)]
-pub(crate) struct NextsRead {
-    pub(crate) stream: u64,
-    pub(crate) count: u32,
-}
-
-/// A note whose bytes lie in those that are read.
-#[derive(Drop)]
-pub(crate) struct NoteRead<'a> {
-    pub(crate) kind: u8,
-    pub(crate) bytes: &'a [u8],
 }
 
 /// A number of two bytes.
@@ -81,11 +67,18 @@ fn text_of(bytes: &[u8]) -> Option<&str>
     }
 }
 
+/// Bytes behind their length.
+pub(crate) fn counted_bytes<'a>(input: &mut Input<'a>) -> Option<&'a [u8]>
+    ensures { Gives counted_bytes_at input.old (option_copied result) input.new }
+{
+    let len = input.u32()? as usize;
+    input.bytes(len)
+}
+
 fn filter_text<'a>(input: &mut Input<'a>) -> Option<&'a str>
     ensures { Gives filter_text_at input.old (option_copied result) input.new }
 {
-    let len = input.u32()? as usize;
-    let bytes = input.bytes(len)?;
+    let bytes = counted_bytes(input)?;
     text_of(bytes)
 }
 
@@ -105,35 +98,4 @@ pub(crate) fn head_in<'a>(input: &mut Input<'a>) -> Option<HeadRead<'a>>
         mark,
         filter,
     })
-}
-
-/// A run of Nexts.
-pub(crate) fn nexts_in(input: &mut Input<'_>) -> Option<NextsRead>
-    ensures { Gives nexts_at input.old (nexts_seen result) input.new }
-{
-    let stream = input.u64()?;
-    let count = input.u32()?;
-    Some(NextsRead { stream, count })
-}
-
-/// A note.
-pub(crate) fn note_in<'a>(input: &mut Input<'a>) -> Option<NoteRead<'a>>
-    ensures { Gives note_at input.old (note_seen result) input.new }
-{
-    let kind = input.u8()?;
-    let len = input.u32()? as usize;
-    let bytes = input.bytes(len)?;
-    Some(NoteRead { kind, bytes })
-}
-
-/// All bytes that are left.
-#[tactic(auto, using(crate::proofs::ReadLemmas::all_taken))]
-pub(crate) fn rest_of<'a>(input: &mut Input<'a>) -> &'a [u8]
-    ensures { result.now ≡ input.old }
-{
-    let count = input.len();
-    match input.bytes(count) {
-        Some(rest) => rest,
-        None => unreachable!(),
-    }
 }

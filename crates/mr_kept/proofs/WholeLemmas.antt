@@ -12,16 +12,17 @@ use Rattle.mr_forms.specs.ByMeaning.{IsByMeaning}
 use Rattle.mr_forms.specs.Known.{Form}
 use Rattle.mr_journal.specs.Format.{StandAlike, Stands}
 use Rattle.mr_journal.proofs.Unique.{not_refused, one_list}
-use Rattle.mr_entry.specs.Decoding.{Read, and_kind, decoded, parts_read}
+use Rattle.mr_entry.specs.Decoding.{decoded}
 use Rattle.mr_entry.specs.Events.{events_of, events_of_entry}
 use Rattle.mr_entry.specs.Grammar.{IsEntry, Spells}
 use Rattle.mr_entry.specs.Head.{HeadParts}
 use Rattle.mr_entry.specs.Note.{NoteParts}
-use Rattle.mr_entry.specs.Spelling.{entry_bytes, kind_byte, part_bytes}
+use Rattle.mr_entry.specs.Spelling.{entry_bytes}
 use Rattle.mr_entry.specs.declared.entry.Entry.{Entry}
 use Rattle.mr_entry.specs.declared.entry.Entry.TheVariants as entry
 use Rattle.mr_entry.specs.declared.fault.EntryFault.{EntryFault}
-use Rattle.mr_entry.proofs.EntryLaws.{begins_no_other, parts_again}
+use Rattle.mr_entry.proofs.CodecLaws.{begins_no_other, is_found}
+use Rattle.mr_entry.proofs.EntryLaws.{entry_codec}
 use Rattle.mr_replica.specs.Alike.{AreAlike}
 use Rattle.mr_replica.specs.Replay.{AdmitsAll, IsItsLog, Replays}
 use Rattle.mr_replica.specs.State.{State}
@@ -43,22 +44,18 @@ use Rattle.mr_kept.proofs.OpenLemmas.{replayed_setting}
 
 -- ---- one entry
 
-decoded_again : (e : Entry) (text : List ℕ) → Spells e text → decoded text ≡ Ok (e, length (part_bytes e) + 1)
-decoded_again e text s =
-    ap decoded s.written ∙ ap (λ (l : List ℕ). and_kind (parts_read (kind_byte e) l)) (sym (append-nil (part_bytes e))) ∙ ap and_kind (parts_again e [] s.in_grammar)
-
 no_fault : (e : Entry) (text : List ℕ) (why : EntryFault) → Spells e text → decoded text ≡ Err why → ⊥
-no_fault e text why s is = let both : ◌≡◌ {A = Read} (Ok (e, length (part_bytes e) + 1)) (Err why) = sym (decoded_again e text s) ∙ is in cc
+no_fault e text why s is = let both : ◌≡◌ {A = Result (Entry × ℕ) EntryFault} (Ok (e, length text)) (Err why) = sym (is_found entry_codec text text [] e s (sym (append-nil text))) ∙ is in cc
 
 one_entry : (e f : Entry) (text : List ℕ) → Spells e text → Spells f text → e ≡ f
-one_entry e f text s t = (begins_no_other e f text text [] [] s t refl).1
+one_entry e f text s t = (begins_no_other entry_codec e f text text [] [] s t refl).1
 
 same_bytes : (e f : Entry) → IsEntry e → IsEntry f → entry_bytes e ≡ entry_bytes f → e ≡ f
 same_bytes e f s t is = one_entry e f (entry_bytes e) (record { in_grammar = s; written = refl }) (record { in_grammar = t; written = is })
 
 not_longer : (e : Entry) (text : List ℕ) → Spells e text → IsLonger text → ⊥
 not_longer e text s longer =
-    let same : text ≡ longer.front = (begins_no_other e longer.found text longer.front [] longer.left s longer.spells (append-nil text ∙ longer.text_is)).0 in
+    let same : text ≡ longer.front = (begins_no_other entry_codec e longer.found text longer.front [] longer.left s longer.spells (append-nil text ∙ longer.text_is)).0 in
     longer.some (append_cancel_left longer.front longer.left [] (sym longer.text_is ∙ same ∙ sym (append-nil longer.front)))
 
 unread_memory : (place : ℕ) (e : Entry) (text : List ℕ) (why : OpenFault) → Spells e text → IsUnread place text why → why ≡ fault.OutOfMemory

@@ -4,8 +4,8 @@ use Rattle.mr_forms.specs.Known.{Form}
 use Rattle.mr_journal.specs.Journal.{has_failed}
 use Rattle.mr_journal.specs.declared.journal.Journal.{Journal}
 use Rattle.mr_wire.specs.declared.decoding.TheConstants.{MAX_REST_BYTES}
-use Rattle.mr_event.specs.Spelling.{rest_bytes}
 use Rattle.mr_entry.specs.Note.{NoteParts}
+use Rattle.mr_entry.specs.Spelling.{rest_bytes}
 use Rattle.mr_replica.specs.State.{State}
 use Rattle.mr_replica.specs.Step.{Steps}
 use Rattle.mr_replica.specs.declared.event.Event.{Event}

@@ -4,7 +4,7 @@ ghost use Rattle.mr_journal.specs.Journal.{has_failed};
 ghost use Rattle.mr_kept.specs.Answered.{Answered, MayNotKeep};
 
 use crate::fault::KeptFault;
-use mr_event::encoded_len;
+use mr_entry::event::encoded_len;
 use mr_forms::Knowledge;
 use mr_journal::{Device, Journal};
 use mr_replica::{Event, Replica, Reply};

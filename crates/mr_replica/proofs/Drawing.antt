@@ -54,7 +54,7 @@ next_of stream = stream.next
 -- ---- an index is below the last one that there is
 
 module _ {K : Type 0} where
-  short_log : (s : State K) (first : Option Refusal) → (first orelse log_full s) ≡ None → length s.log < s.event_limit
+  pub short_log : (s : State K) (first : Option Refusal) → (first orelse log_full s) ≡ None → length s.log < s.event_limit
   short_log s (Some e) none = absurd (cc)
   short_log s None none = by_test (nat_le s.event_limit (length s.log)) refl none
     where

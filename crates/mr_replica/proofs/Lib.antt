@@ -8,7 +8,6 @@ pub mod Issuing
 pub mod Highest
 pub mod Taking
 pub mod Told
-pub mod Taken
 pub mod Merging
 pub mod Releasing
 pub mod PullLemmas
@@ -18,6 +17,7 @@ pub mod Kept
 pub mod Opening
 pub mod Drawing
 pub mod Advancing
+pub mod Preparing
 pub mod Replies
 pub mod Decided
 pub mod Seen

@@ -2,7 +2,7 @@
 use Rattle.std.proofs.Common.{◌≡◌, ◌↔◌, IsErrOf, Bool, true, false, if◌then◌else◌, refl, sym, ap, subst, ◌∙◌, [], ◌∷◌, Option, Some, None, IfSome, Result, Ok, Err, inl, inr}
 use Rattle.std.specs.List.{All}
 use Rattle.std.proofs.lemmas.Bool.{or_parts}
-use Rattle.std.proofs.lemmas.List.Elements.{All-nil, All-cons, All-head, All-tail}
+use Rattle.std.proofs.lemmas.List.Elements.{All-nil, All-cons}
 use Rattle.mr_version.specs.Name.{Name}
 use Rattle.mr_forms.specs.Known.{Pairs, Form, IsOverHolesInTurn, IsOverItemsInTurn, learned_of}
 use Rattle.mr_forms.specs.declared.fault.FormFault.{FormFault}
@@ -83,27 +83,3 @@ module _ {K : Type 0} (form : Form K) (s : State K) (line : DescentParts) (unkno
         let first_fits : Fits form (Knowledge first) = (λ many. no_holes (inl many), λ many. no_items (inl (many, λ h. no_holes (inl h)))) in
         let second_fits : Fits form (Knowledge second) = (λ many. no_holes (inr (first_fits, many)), λ many. no_items (inr (first_fits, (many, λ h. no_holes (inr (first_fits, h)))))) in
         subst (All (Fits form)) (sym wants) (All-cons (Fits form) (Knowledge first) (Knowledge second ∷ []) first_fits (All-cons (Fits form) (Knowledge second) [] second_fits (All-nil (Fits form))))
-
-  -- where both have a value there is no fault but of memory
-  module _ (fits : All (Fits form) (wanted_by_line form s line)) where
-    both : All (Fits form) (Knowledge first ∷ Knowledge second ∷ [])
-    both = subst (All (Fits form)) wants fits
-
-    first_has : Fits form (Knowledge first)
-    first_has = All-head (Fits form) (Knowledge first) (Knowledge second ∷ []) both
-
-    second_has : Fits form (Knowledge second)
-    second_has = All-head (Fits form) (Knowledge second) [] (All-tail (Fits form) (Knowledge first) (Knowledge second ∷ []) both)
-
-    no_holes_in_turn : ¬ IsOverHolesInTurn form first second
-    no_holes_in_turn (inl h) = first_has.0 h
-    no_holes_in_turn (inr h) = second_has.0 h.1
-
-    no_items_in_turn : ¬ IsOverItemsInTurn form first second
-    no_items_in_turn (inl h) = first_has.1 h.0
-    no_items_in_turn (inr h) = second_has.1 h.1.0
-
-    pub line_memory : (made : Result (Unit {0}) FormFault) → (IsErrOf made fault.TooManyHoles ↔ IsOverHolesInTurn form first second) → (IsErrOf made fault.TooManyItems ↔ IsOverItemsInTurn form first second) → (f : FormFault) → made ≡ Err f → f ≡ fault.OutOfMemory
-    line_memory made holes items fault.OutOfMemory is = refl
-    line_memory made holes items fault.TooManyHoles is = absurd (no_holes_in_turn (holes.0 is))
-    line_memory made holes items fault.TooManyItems is = absurd (no_items_in_turn (items.0 is))

@@ -27,11 +27,3 @@ module _ {K V : Type 0} (form : Form K) (made : Result V FormFault) (pairs : Pai
   RefusesMade TooManyHoles = (made ≡ Err fault.TooManyHoles) ⊎ ((made ≢ Err fault.TooManyHoles) × form.has_too_many_holes pairs)
   RefusesMade TooManyItems = (made ≢ Err fault.TooManyHoles) × IsOnlyOverItems form pairs
   RefusesMade _ = ⊥
-
-module _ {K : Type 0} where
-  -- The revision is issued by the event and its version is learned; or there is no memory, and nothing changes.
-  abbrev pub IssuesRevision : Form K → State K → Rev → Event → Result Reply Refusal → State K → Type 0
-  IssuesRevision form s r event (Ok (Issued v)) new =
-      (v ≡ next_version s) × AreSame (form.known new.knowledge) (version_learned form s r.item) × (new ≡ logged (issuing s new.knowledge r) event)
-  IssuesRevision form s r event (Ok reply) new = ⊥
-  IssuesRevision form s r event (Err e) new = (e ≡ OutOfMemory) × (new ≡ s)

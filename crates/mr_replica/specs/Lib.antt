@@ -26,6 +26,8 @@ pub mod Issued
 pub mod StepThen
 pub mod Methods
 pub mod Step
+pub mod Parts
+pub mod Prepare
 pub mod Growing
 pub mod Replay
 pub mod Limits

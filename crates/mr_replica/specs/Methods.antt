@@ -2,15 +2,10 @@
 use Rattle.mr_replica.specs.declared.replica.receive.Received.{Received}
 use Rattle.mr_replica.specs.declared.replica.receive.Received.TheVariants as received
 use Rattle.mr_replica.specs.declared.event.Reply.{Reply}
-use Rattle.mr_replica.specs.declared.event.Reply.TheVariants.{Issued, Took, Known, Finished}
+use Rattle.mr_replica.specs.declared.event.Reply.TheVariants.{Took, Known, Finished}
 
 -- the reply to a record that was received
 abbrev pub received_reply : Received → Reply
 received_reply received.Took = Took
 received_reply received.Known = Known
 received_reply received.Finished = Finished
-
--- a version was issued
-abbrev pub IsIssued : Reply → Type 0
-IsIssued (Issued version) = Unit {0}
-IsIssued reply = ⊥

@@ -41,19 +41,26 @@ impl Event {
         ensures { IfOk result (λ event. event ≡ self.now) }
     {
         match self {
-            Event::Create(message) => Ok(Event::Create(message.copy()?)),
-            Event::Edit(bases, message) => Ok(Event::Edit(bases.copy()?, message.copy()?)),
+            Event::Create(message) => message.copy().map(Event::Create),
+            Event::Edit(bases, message) => copied_edit(bases, message),
             Event::Retire => Ok(Event::Retire),
             Event::Pull => Ok(Event::Pull),
-            Event::Receive(frame) => Ok(Event::Receive(frame.copy(alloc)?)),
+            Event::Receive(frame) => frame.copy(alloc).map(Event::Receive),
             Event::CutIn(session) => Ok(Event::CutIn(*session)),
-            Event::Answer(ask) => Ok(Event::Answer(ask.copy(alloc)?)),
+            Event::Answer(ask) => ask.copy(alloc).map(Event::Answer),
             Event::Next(stream) => Ok(Event::Next(*stream)),
             Event::CutOut(stream) => Ok(Event::CutOut(*stream)),
             Event::Vouch(version) => Ok(Event::Vouch(*version)),
-            Event::Release(receipt) => Ok(Event::Release(receipt.copy()?)),
+            Event::Release(receipt) => receipt.copy().map(Event::Release),
         }
     }
+}
+
+// An equal Edit.
+fn copied_edit(bases: &Bases, message: &Message) -> Result<Event, AllocError>
+    ensures { IfOk result (λ event. event ≡ Event.Edit bases.now message.now) }
+{
+    Ok(Event::Edit(bases.copy()?, message.copy()?))
 }
 
 /// What came of an admitted event.
@@ -87,13 +94,13 @@ impl Reply {
         match self {
             Reply::Issued(version) => Ok(Reply::Issued(*version)),
             Reply::Done => Ok(Reply::Done),
-            Reply::Asked(ask) => Ok(Reply::Asked(ask.copy(alloc)?)),
+            Reply::Asked(ask) => ask.copy(alloc).map(Reply::Asked),
             Reply::Streaming(stream) => Ok(Reply::Streaming(*stream)),
-            Reply::Gave(record) => Ok(Reply::Gave(record.copy()?)),
+            Reply::Gave(record) => record.copy().map(Reply::Gave),
             Reply::Took => Ok(Reply::Took),
             Reply::Known => Ok(Reply::Known),
             Reply::Finished => Ok(Reply::Finished),
-            Reply::Vouched(receipt) => Ok(Reply::Vouched(receipt.copy()?)),
+            Reply::Vouched(receipt) => receipt.copy().map(Reply::Vouched),
         }
     }
 }

@@ -14,6 +14,8 @@ mod end;
 mod forged;
 mod issue;
 mod next;
+mod parts;
+mod prepare;
 mod pull;
 mod receive;
 mod release;
@@ -25,13 +27,12 @@ mod take;
 mod vouch;
 
 use crate::{Event, Revision};
-use contents::Contents;
 use mr_concise::{ConciseVector, concise_fragments};
 use mr_feed::Entry;
 use mr_filter::Filter;
 use mr_forms::{FormFault, Fragment, Knowledge};
-use mr_session::{Sessions, Streams};
 use mr_version::{Author, ItemId, Version};
+use parts::Parts;
 pub use receive::Received;
 pub use replay::ReplayFault;
 use std::alloc::{AllocError, Global};
@@ -60,19 +61,14 @@ impl ReplicaFault {
 /// more.
 pub const MAX_EVENTS: u32 = 1_000_000;
 
-// What a replica has. Its methods change it in part, and what each event makes of it is one step.
+// What a replica has: its setting, and what events change.
 #[derive(Drop)]
 struct Core<K: Knowledge> {
     alloc: Global,
     id: Author,
     filter: Filter,
     event_limit: u32,
-    issued: u32,
-    knowledge: K,
-    contents: Contents,
-    is_retired: bool,
-    sessions: Sessions,
-    streams: Streams,
+    parts: Parts<K>,
 }
 
 impl<K: Knowledge> Model for Core<K> {
@@ -82,9 +78,9 @@ impl<K: Knowledge> Model for Core<K> {
 
     ghost Value = { State K };
 
-    ghost view = { λ r. record { id = r.id; filter = r.filter; event_limit = r.event_limit; issued = r.issued; knowledge = r.knowledge; heads = r.contents.store.heads; push_outs = r.contents.store.push_outs; trail = r.contents.trail.lasts; feed = r.contents.feed.entries; log = r.contents.log; is_retired = r.is_retired; sessions = r.sessions; streams = r.streams } };
+    ghost view = { λ r. record { id = r.id; filter = r.filter; event_limit = r.event_limit; issued = r.parts.issued; knowledge = r.parts.knowledge; heads = r.parts.contents.store.heads; push_outs = r.parts.contents.store.push_outs; trail = r.parts.contents.trail.lasts; feed = r.parts.contents.feed.entries; log = r.parts.contents.log; is_retired = r.parts.is_retired; sessions = r.parts.sessions; streams = r.parts.streams } };
 
-    ghost invariant = { λ r. IsSound K.form (record { id = r.id; filter = r.filter; event_limit = r.event_limit; issued = r.issued; knowledge = r.knowledge; heads = r.contents.store.heads; push_outs = r.contents.store.push_outs; trail = r.contents.trail.lasts; feed = r.contents.feed.entries; log = r.contents.log; is_retired = r.is_retired; sessions = r.sessions; streams = r.streams }) };
+    ghost invariant = { λ r. IsSound K.form (record { id = r.id; filter = r.filter; event_limit = r.event_limit; issued = r.parts.issued; knowledge = r.parts.knowledge; heads = r.parts.contents.store.heads; push_outs = r.parts.contents.store.push_outs; trail = r.parts.contents.trail.lasts; feed = r.parts.contents.feed.entries; log = r.parts.contents.log; is_retired = r.parts.is_retired; sessions = r.parts.sessions; streams = r.parts.streams }) };
 }
 
 /// A replica over a form of knowledge. It is its log replayed: a fresh one of its id, filter and limit that admits
@@ -162,7 +158,7 @@ impl<K: Knowledge> Replica<K> {
     pub fn is_retired(&self) -> bool
         ensures { result ≡ self.now.is_retired }
     {
-        self.core.is_retired
+        self.core.parts.is_retired
     }
 
     /// The held revisions that the filter selects, in version order.
@@ -170,7 +166,7 @@ impl<K: Knowledge> Replica<K> {
         ensures all { result.now ≡ self.now.heads }
         ensures in_order { AreInVersionOrder self.now.heads }
     {
-        self.core.contents.store().heads()
+        self.core.parts.contents.store().heads()
     }
 
     /// The held own revisions that the filter does not select, in version order. None of them has the
@@ -180,7 +176,7 @@ impl<K: Knowledge> Replica<K> {
         ensures in_order { AreInVersionOrder self.now.push_outs }
         ensures apart { AreApart self.now.heads self.now.push_outs }
     {
-        self.core.contents.store().push_outs()
+        self.core.parts.contents.store().push_outs()
     }
 
     /// The revision of a version that is held, as a head or a push-out. It costs two binary searches.
@@ -190,26 +186,26 @@ impl<K: Knowledge> Replica<K> {
         self.core.held(version)
     }
 
-    /// The items with two or more heads, in rising order. It costs a walk over the items that were
-    /// ever held.
+    /// The items with two or more heads, in rising order. It costs a walk over the items that have
+    /// another head than their first version.
     pub fn conflicts(&self) -> Result<Vec<ItemId>, AllocError>
         ensures { IfOk result (λ items. AreConflicts self.now.heads items.items) }
     {
-        self.core.contents.store().conflicts()
+        self.core.parts.contents.store().conflicts()
     }
 
     /// Whether the version is known for the item. Its cost is that of the form of knowledge.
     pub fn knows(&self, item: ItemId, version: Version) -> bool
         ensures { result ≡ K.form.known self.now.knowledge item version }
     {
-        self.core.knowledge.knows(item, version)
+        self.core.parts.knowledge.knows(item, version)
     }
 
     /// What is known.
     pub fn knowledge(&self) -> &K
         ensures { result.now ≡ self.now.knowledge }
     {
-        &self.core.knowledge
+        &self.core.parts.knowledge
     }
 
     /// What is known, as fragments with concise vectors, as they leave the replica: one for each part
@@ -235,7 +231,7 @@ impl<K: Knowledge> Replica<K> {
         ensures all { result.now ≡ self.now.feed }
         ensures folds { FoldsToStore self.now }
     {
-        self.core.contents.feed()
+        self.core.parts.contents.feed()
     }
 
     /// The admitted events, in order of time. The replica is its log replayed.
@@ -244,7 +240,7 @@ impl<K: Knowledge> Replica<K> {
         ensures issued_few { self.now.issued ≤ length self.now.log }
         ensures is_its_log { IsItsLog K.form self.now }
     {
-        self.core.contents.log()
+        self.core.parts.contents.log()
     }
 
     /// The numbers of the open sessions, rising: at most eight. It costs a list of them.
@@ -252,7 +248,7 @@ impl<K: Knowledge> Replica<K> {
         ensures all { IfOk result (λ numbers. numbers.items ≡ open_numbers self.now.sessions) }
         ensures kept { IsTable self.now.sessions }
     {
-        self.core.sessions.numbers()
+        self.core.parts.sessions.numbers()
     }
 
     /// The numbers of the open streams, rising: at most eight. It costs a list of them.
@@ -260,7 +256,7 @@ impl<K: Knowledge> Replica<K> {
         ensures all { IfOk result (λ numbers. numbers.items ≡ open_numbers self.now.streams) }
         ensures kept { IsTable self.now.streams }
     {
-        self.core.streams.numbers()
+        self.core.parts.streams.numbers()
     }
 }
 
@@ -292,19 +288,14 @@ impl<K: Knowledge> Core<K> {
             id,
             filter,
             event_limit,
-            issued: 0,
-            knowledge: K::new(alloc),
-            contents: Contents::new(alloc),
-            is_retired: false,
-            sessions: Sessions::new(alloc),
-            streams: Streams::new(alloc),
+            parts: Parts::new(alloc),
         })
     }
 
     fn held(&self, version: Version) -> Option<&Revision>
         ensures { option_copied result ≡ held self.now version }
     {
-        self.contents.store().held(version)
+        self.parts.contents.store().held(version)
     }
 
     fn fragments(&self) -> Result<Vec<Fragment<ConciseVector>>, FormFault>
@@ -315,7 +306,7 @@ impl<K: Knowledge> Core<K> {
         ensures holes { IsErrOf result FormFault.TooManyHoles → HasHoleyPart (K.form.is_part self.now.knowledge) }
         ensures items { result ≢ Err FormFault.TooManyItems }
     {
-        let Ok(fragments) = self.knowledge.fragments() else {
+        let Ok(fragments) = self.parts.knowledge.fragments() else {
             return Err(FormFault::OutOfMemory);
         };
         concise_fragments(self.alloc, fragments)

@@ -1,6 +1,6 @@
 -- What a world promises holds of replicas that are equal to its own.
 use Rattle.std.proofs.Common.{◌≡◌, ◌≢◌, ◌⊎◌, inl, inr, refl, sym, ap, subst, ◌∙◌, cond, ℕ, Bool, true, false, List, [], ◌∷◌, Option, Some, None, is_none, find, map, ◌==◌, eqb-true}
-use Rattle.std.specs.Prelude.{IsTrue, All}
+use Rattle.std.specs.Prelude.{IsTrue, All, is_some}
 use Rattle.std.proofs.lemmas.List.Elements.{All-head, All-tail, All-nil, All-cons}
 use Rattle.mr_version.specs.Name.{Name}
 use Rattle.mr_filter.specs.Filter.{ClauseParts}
@@ -8,17 +8,19 @@ use Rattle.mr_filter.specs.Meaning.{selects}
 use Rattle.mr_forms.specs.Known.{Form}
 use Rattle.mr_mail.specs.Mail.{Mail, MailCard, card_of}
 use Rattle.mr_model.specs.Headline.{EachPair, InIssueOrder, IsCurrent, IsSoundHolding, added}
+use Rattle.mr_model.specs.Laws.{KnowsDownward}
+use Rattle.mr_model.proofs.Basics.{is_refl}
 use Rattle.mr_model.specs.History.{Entry}
 use Rattle.mr_model.specs.Moment.{selection, Holds}
 use Rattle.mr_model.specs.Rules.{In}
 use Rattle.mr_model.specs.Versions.{Issue, IsSuperseded, is, is_issued, item_of}
 use Rattle.mr_replica.specs.State.{State}
 use Rattle.mr_replica.specs.Replay.{IsItsLog}
-use Rattle.mr_store.specs.Revisions.{holds}
+use Rattle.mr_madewith.specs.Revision.{Rev}
+use Rattle.mr_store.specs.Revisions.{holds, revision_of}
 use Rattle.mr_world.specs.Agrees.{HoldingsAgree}
 use Rattle.mr_world.specs.Kept.{WorldView, MemberView, member_at, replica_at}
-use Rattle.mr_world.specs.Promise as promise
-use Rattle.mr_world.specs.Promise.{HasHeadline, HoldsAsSeen, KeepsAll, filters_of, setting_in, moment_of}
+use Rattle.mr_world.specs.Promise.{HasHeadline, Promises, filters_of, setting_in, moment_of}
 use Rattle.mr_world.specs.Seen.{setting_of}
 use Rattle.mr_settle.specs.Kept.{IsNewest, HasHead, KnowsAllOf, IsHeldBySome, KeepTogether, Keeps}
 use Rattle.mr_settle.specs.Explains.{Explains}
@@ -40,13 +42,30 @@ module _ {A : Type 0} where
   all_in P (y ∷ ys) x all (inl e) = subst P e (All-head P y ys all)
   all_in P (y ∷ ys) x all (inr i) = all_in P ys x (All-tail P y ys all) i
 
-module _ {K : Type 0} (form : Form K) (w : WorldView K) (headline : HasHeadline w) (seen : HoldsAsSeen form w) (sound : promise.HoldsSoundly w) where
+-- revisions of which none is of any version are none
+none_held : (rs : List Rev) → ((v : Name) → holds rs v ≡ false) → rs ≡ []
+none_held [] none = refl
+none_held (r ∷ rs) none = let e : is r.version r.version ≡ true = is_refl r.version in
+    let h : is_some (cond (is r.version r.version) (Some r) (revision_of rs r.version)) ≡ false = none r.version in
+    absurd (true-false (sym (ap (λ (b : Bool). is_some (cond b (Some r) (revision_of rs r.version))) e) ∙ h))
+  where
+    true-false : true ≡ false → ⊥
+    true-false e = cc
+
+module _ {K : Type 0} (form : Form K) (w : WorldView K) (promised : Promises form w) where
+  abbrev headline : HasHeadline w
+  headline = promised.headline
+
   keeps : (end : State K) → replica_at w.members end.id ≡ Some end → IsItsLog form end → Keeps form (moment_of w).issues end
   keeps end there its = record {
     own = a.count;
     once = subst (λ (entries : List (Entry MailCard)). EachPair (λ v u. v ≢ u) (added entries)) a.entries (headline.once end.id);
     in_order = subst (λ (entries : List (Entry MailCard)). EachPair (InIssueOrder (moment_of w).issues) (added entries)) a.entries (headline.in_order end.id);
     none_after = none_after form end its;
+    clean = λ retired. none_held end.push_outs (λ v. a.push_outs.same v ∙ promised.clean end.id (a.is_retired ∙ retired) v);
+    made_with = λ u v known over.
+        (let issued = (down.issued v (down.downward u v (sym (a.knows.same u known.0) ∙ known.1) over)) in
+        (issued, a.knows.same v issued ∙ down.downward u v (sym (a.knows.same u known.0) ∙ known.1) over));
     heads = λ item v all. (
       λ held. newest item v ((headline.holds end.id item v (known item all)).0 (sym (a.heads.same v) ∙ held.0, held.1)),
       λ is_newest.
@@ -63,10 +82,13 @@ module _ {K : Type 0} (form : Form K) (w : WorldView K) (headline : HasHeadline 
   }
     where
       a : HoldingsAgree form (moment_of w).issues (filters_of w) end.id ((moment_of w).holding end.id) ((moment_of w).feed end.id) ((moment_of w).is_retired end.id) end
-      a = seen end.id end there
+      a = promised.as_seen end.id end there
 
       so : IsSoundHolding (setting_in w) (moment_of w) end.id
-      so = sound end.id
+      so = promised.sound end.id
+
+      down : KnowsDownward (moment_of w) end.id
+      down = promised.made_with end.id
 
       still : (v : Name) → IsTrue (((moment_of w).holding end.id).stored v) ⊎ IsSuperseded (moment_of w).issues v → HasHead end v ⊎ IsSuperseded (moment_of w).issues v
       still v (inl stored) = inl (a.heads.same v ∙ stored)
@@ -104,7 +126,7 @@ module _ {K : Type 0} where
       by true e h found = (x, inl refl, eqb-true x.id r e)
       by false e h found = let rest = found h in (rest.0, inr rest.1, rest.2)
 
-module _ {K : Type 0} (form : Form K) (w : WorldView K) (ends : List (State K)) (explains : Explains form ends w) (keeps_all : KeepsAll w) (seen : HoldsAsSeen form w) where
+module _ {K : Type 0} (form : Form K) (w : WorldView K) (ends : List (State K)) (explains : Explains form ends w) (promised : Promises form w) where
   held_by_end : (r : ℕ) (m : MemberView K) (v : Name) → member_at w.members r ≡ Some m → Holds (moment_of w) r v → IsHeldBySome ends v
   held_by_end r m v there held = record { end = end.0; among = end.1; holds_it = by held }
     where
@@ -112,14 +134,14 @@ module _ {K : Type 0} (form : Form K) (w : WorldView K) (ends : List (State K)) 
       end = found_end ends r (ap (λ (ids : List ℕ). is_none (find (λ i. i == r) ids)) (sym explains.ids) ∙ sym (there_if w.members r) ∙ ap is_none there)
 
       a : HoldingsAgree form (moment_of w).issues (filters_of w) r ((moment_of w).holding r) ((moment_of w).feed r) ((moment_of w).is_retired r) end.0
-      a = seen r end.0 (ap (replica_at w.members) (sym end.2) ∙ all_in (λ (end : State K). replica_at w.members end.id ≡ Some end) ends end.0 explains.same end.1)
+      a = promised.as_seen r end.0 (ap (replica_at w.members) (sym end.2) ∙ all_in (λ (end : State K). replica_at w.members end.id ≡ Some end) ends end.0 explains.same end.1)
 
       by : Holds (moment_of w) r v → HasHead end.0 v ⊎ IsTrue (holds end.0.push_outs v)
       by (inl stored) = inl (a.heads.same v ∙ stored)
       by (inr pushed_out) = inr (a.push_outs.same v ∙ pushed_out)
 
   pub ends_keep_together : KeepTogether (moment_of w).issues ends
-  ends_keep_together v issued newest = let held = keeps_all v issued newest in by held.0 (member_at w.members held.0) refl held.1
+  ends_keep_together v issued newest = let held = promised.no_loss v issued newest in by held.0 (member_at w.members held.0) refl held.1
     where
       by : (r : ℕ) (o : Option (MemberView K)) → member_at w.members r ≡ o → Holds (moment_of w) r v → IsHeldBySome ends v
       by r (Some m) is h = held_by_end r m v is h

@@ -1,5 +1,5 @@
 -- What the promise of a world says of replicas as they ended, by the versions that they issued.
-use Rattle.std.specs.Prelude.{◌≡◌, ◌≢◌, ◌↔◌, ◌⊎◌, ◌++◌, IsTrue, List, ◌∷◌}
+use Rattle.std.specs.Prelude.{◌≡◌, ◌≢◌, ◌↔◌, ◌⊎◌, ◌++◌, IsTrue, List, [], ◌∷◌}
 use Rattle.mr_version.specs.Name.{Name}
 use Rattle.mr_feed.specs.Entry.{told}
 use Rattle.mr_filter.specs.Filter.{ClauseParts}
@@ -65,12 +65,15 @@ module _ {K : Type 0} (form : Form K) where
     pub same : end.feed ≡ earlier.feed
 
   -- Its own versions are among the issued ones. It was told of no version twice, and of an author's versions of an item
-  -- in the order of issue; where its log has a Retire, it was told nothing behind it. Of an item of which it knows all
-  -- versions, its heads are the newest ones that it selects; and its holding is sound.
+  -- in the order of issue; where its log has a Retire, it was told nothing behind it, and where it has retired, it has no
+  -- push-outs. With each issued version that it knows it knows what that version was made with. Of an item of which it
+  -- knows all versions, its heads are the newest ones that it selects; and its holding is sound.
   pub record Keeps (issues : List (Issue Mail)) (end : State K) : Type 0 where
     pub own : issue_count issues end.id ≡ end.issued
     pub once : EachPair (λ v w. v ≢ w) (added (told end.feed))
     pub in_order : EachPair (InIssueOrder issues) (added (told end.feed))
     pub none_after : (before after : List Event) → end.log ≡ before ++ Retire ∷ after → HadTold end before
+    pub clean : IsTrue end.is_retired → end.push_outs ≡ []
+    pub made_with : (w v : Name) → KnowsIssued issues end w → Supersedes issues w v → KnowsIssued issues end v
     pub heads : (item v : Name) → KnowsAllOf issues end item → (HasHead end v × (item_of issues v ≡ item)) ↔ IsNewest issues end.filter item v
     pub soundly : HoldsSoundly issues end

@@ -7,8 +7,8 @@
 //! Each frame has one spelling in a format, and no spelling begins another one's. [`encode`] writes
 //! format 2, into memory of just the length that [`Frame::encoded_len`] tells. [`decode`] reads it, and
 //! format 1, which is the same without receipts. It takes what a stranger sent: bytes that are no frame
-//! are refused with the first fault, and nothing is built of them, since a body is first walked without
-//! memory and then built by the same functions.
+//! are refused with the first fault. A body is walked once: where a growth is refused, what was built so far is dropped
+//! and the walk goes on, so want of memory comes after every other fault.
 //!
 //! ```
 //! let bytes = encode(alloc, &Frame::Record(record))?;

@@ -9,6 +9,7 @@ use Rattle.mr_model.specs.Moment.{start}
 use Rattle.mr_model.specs.Changes.{now}
 use Rattle.mr_model.specs.Rules.{In, IsRun}
 use Rattle.mr_model.specs.Headline.{Headline, IsSoundHolding, LosesNothing, RetiresClean}
+use Rattle.mr_model.specs.Laws.{KnowsDownward}
 use Rattle.mr_replica.specs.State.{State, new_state}
 use Rattle.mr_replica.specs.declared.refusal.Refusal.TheVariants.{Forged}
 use Rattle.mr_wire.specs.Frames.{Sent}
@@ -52,6 +53,10 @@ module _ {K : Type 0} where
   abbrev pub HoldsSoundly : WorldView K → Type 0
   HoldsSoundly w = (r : ℕ) → IsSoundHolding (setting_in w) (moment_of w) r
 
+  -- what each replica knows was issued, and it knows with each version all that the version was made with
+  abbrev pub KnowsMadeWith : WorldView K → Type 0
+  KnowsMadeWith w = (r : ℕ) → KnowsDownward (moment_of w) r
+
   abbrev pub KeepsAll : WorldView K → Type 0
   KeepsAll w = LosesNothing (moment_of w)
 
@@ -89,6 +94,21 @@ module _ {K : Type 0} (form : Form K) where
   -- each answer says of versions what the sets of its moment say
   abbrev pub AnswersBySets : WorldView K → Type 0
   AnswersBySets w = AreBySets form (filters_of w) w.answers
+
+  -- all that a world promises
+  pub record Promises (w : WorldView K) : Type 0 where
+    pub rules : FollowsRules w
+    pub headline : HasHeadline w
+    pub sound : HoldsSoundly w
+    pub made_with : KnowsMadeWith w
+    pub no_loss : KeepsAll w
+    pub clean : HasCleanRetired w
+    pub as_seen : HoldsAsSeen w
+    pub true_records : GivesTrueRecords w
+    pub true_receipts : GivesTrueReceipts w
+    pub by_sets : AnswersBySets w
+    pub whole : TellsWhole w
+    pub none_forged : FindsNoneForged w
 
   -- ---- what a world keeps from its first event on
 

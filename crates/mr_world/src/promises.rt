@@ -10,9 +10,7 @@ ghost use Rattle.mr_world.specs.declared.spec.Spec.{Spec};
 ghost use Rattle.mr_world.specs.Kept.{WorldView};
 ghost use Rattle.mr_world.specs.Made.{IsMadeWorld};
 ghost use Rattle.mr_world.specs.Run.{Happens, Leads};
-ghost use Rattle.mr_world.specs.Promise.{HasHeadline, HoldsSoundly, KeepsAll, HasCleanRetired};
-ghost use Rattle.mr_world.specs.Promise.{HoldsAsSeen, GivesTrueRecords, GivesTrueReceipts, KeepsRules};
-ghost use Rattle.mr_world.specs.Promise.{FollowsRules, AnswersBySets, TellsWhole, FindsNoneForged};
+ghost use Rattle.mr_world.specs.Promise.{KeepsRules, Promises};
 
 use mr_forms::Knowledge;
 
@@ -25,15 +23,5 @@ pub fn keeping<K: Knowledge>()
 
 /// What holds of a world that keeps the rules.
 pub fn promise<K: Knowledge>()
-    ensures rules { (w : WorldView K) → KeepsRules K.form w → FollowsRules w }
-    ensures headline { (w : WorldView K) → KeepsRules K.form w → HasHeadline w }
-    ensures sound { (w : WorldView K) → KeepsRules K.form w → HoldsSoundly w }
-    ensures no_loss { (w : WorldView K) → KeepsRules K.form w → KeepsAll w }
-    ensures clean { (w : WorldView K) → KeepsRules K.form w → HasCleanRetired w }
-    ensures as_seen { (w : WorldView K) → KeepsRules K.form w → HoldsAsSeen K.form w }
-    ensures true_records { (w : WorldView K) → KeepsRules K.form w → GivesTrueRecords w }
-    ensures true_receipts { (w : WorldView K) → KeepsRules K.form w → GivesTrueReceipts w }
-    ensures by_sets { (w : WorldView K) → KeepsRules K.form w → AnswersBySets K.form w }
-    ensures whole { (w : WorldView K) → KeepsRules K.form w → TellsWhole w }
-    ensures none_forged { (w : WorldView K) → KeepsRules K.form w → FindsNoneForged w }
+    ensures { (w : WorldView K) → KeepsRules K.form w → Promises K.form w }
 {}

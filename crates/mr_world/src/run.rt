@@ -19,8 +19,7 @@ pub struct Stopped<K: Knowledge> {
 
 impl<K: Knowledge> World<K> {
     ghost use Rattle.mr_world.specs.Run.{Leads, StopsAt};
-    ghost use Rattle.mr_world.specs.Promise.{FollowsRules, HasHeadline, HoldsSoundly, KeepsAll, HasCleanRetired, HoldsAsSeen};
-    ghost use Rattle.mr_world.specs.Promise.{GivesTrueRecords, GivesTrueReceipts, AnswersBySets, TellsWhole, FindsNoneForged};
+    ghost use Rattle.mr_world.specs.Promise.{Promises};
 
     /// Lets these events happen, one after the other.
     ///
@@ -34,29 +33,9 @@ impl<K: Knowledge> World<K> {
     /// It is [`World::happen`] for each event, and costs the same.
     pub fn run(mut self, events: Vec<Event>) -> Result<World<K>, Stopped<K>>
         ensures ran { IfOk result (Leads K.form self events.items) }
-        ensures rules { IfOk result FollowsRules }
-        ensures headline { IfOk result HasHeadline }
-        ensures sound { IfOk result HoldsSoundly }
-        ensures no_loss { IfOk result KeepsAll }
-        ensures clean { IfOk result HasCleanRetired }
-        ensures as_seen { IfOk result (HoldsAsSeen K.form) }
-        ensures true_records { IfOk result GivesTrueRecords }
-        ensures true_receipts { IfOk result GivesTrueReceipts }
-        ensures by_sets { IfOk result (AnswersBySets K.form) }
-        ensures whole { IfOk result TellsWhole }
-        ensures none_forged { IfOk result FindsNoneForged }
+        ensures promises { IfOk result (Promises K.form) }
         ensures stopped { IfErr result (λ stopped. StopsAt K.form self events.items stopped.at stopped.fault stopped.world) }
-        ensures stopped_rules { IfErr result (λ stopped. FollowsRules stopped.world) }
-        ensures stopped_headline { IfErr result (λ stopped. HasHeadline stopped.world) }
-        ensures stopped_sound { IfErr result (λ stopped. HoldsSoundly stopped.world) }
-        ensures stopped_no_loss { IfErr result (λ stopped. KeepsAll stopped.world) }
-        ensures stopped_clean { IfErr result (λ stopped. HasCleanRetired stopped.world) }
-        ensures stopped_as_seen { IfErr result (λ stopped. HoldsAsSeen K.form stopped.world) }
-        ensures stopped_true_records { IfErr result (λ stopped. GivesTrueRecords stopped.world) }
-        ensures stopped_true_receipts { IfErr result (λ stopped. GivesTrueReceipts stopped.world) }
-        ensures stopped_by_sets { IfErr result (λ stopped. AnswersBySets K.form stopped.world) }
-        ensures stopped_whole { IfErr result (λ stopped. TellsWhole stopped.world) }
-        ensures stopped_none_forged { IfErr result (λ stopped. FindsNoneForged stopped.world) }
+        ensures stopped_promises { IfErr result (λ stopped. Promises K.form stopped.world) }
     {
         let mut at = 0;
         for event in events {

@@ -48,8 +48,7 @@ impl<K: Knowledge> World<K> {
     ghost use Rattle.mr_world.specs.Made.{IsMadeWorld, IsRefusedBy};
     ghost use Rattle.mr_world.specs.Pool.{GivesFrame};
     ghost use Rattle.mr_world.specs.Run.{Meets};
-    ghost use Rattle.mr_world.specs.Promise.{FollowsRules, HasHeadline, HoldsSoundly, KeepsAll, HasCleanRetired, HoldsAsSeen};
-    ghost use Rattle.mr_world.specs.Promise.{GivesTrueRecords, GivesTrueReceipts, AnswersBySets, TellsWhole, FindsNoneForged};
+    ghost use Rattle.mr_world.specs.Promise.{Promises};
 
     /// A world of these replicas, to which nothing has happened.
     ///
@@ -143,22 +142,12 @@ impl<K: Knowledge> World<K> {
     }
 
     /// What holds of each world at each moment: no mail is lost and no version is announced twice; each replica
-    /// holds and tells what the history of the world says, what was answered is what sets say, the frames
-    /// tell what was issued, and no record was ever taken for forged.
+    /// holds and tells what the history of the world says, and knows with each version what it was made with; what was
+    /// answered is what sets say, the frames tell what was issued, and no record was ever taken for forged.
     ///
     /// It computes nothing.
     pub fn promise(&self)
-        ensures rules { FollowsRules self.now }
-        ensures headline { HasHeadline self.now }
-        ensures sound { HoldsSoundly self.now }
-        ensures no_loss { KeepsAll self.now }
-        ensures clean { HasCleanRetired self.now }
-        ensures as_seen { HoldsAsSeen K.form self.now }
-        ensures true_records { GivesTrueRecords self.now }
-        ensures true_receipts { GivesTrueReceipts self.now }
-        ensures by_sets { AnswersBySets K.form self.now }
-        ensures whole { TellsWhole self.now }
-        ensures none_forged { FindsNoneForged self.now }
+        ensures { Promises K.form self.now }
     {
         promise::<K>();
         // To look at a world is to know what it keeps.
@@ -177,17 +166,7 @@ impl<K: Knowledge> World<K> {
     /// copy of what the event carries or names.
     pub fn happen(&mut self, event: Event) -> Result<(), WorldFault>
         ensures meets { Meets K.form self.old event result self.new }
-        ensures rules { FollowsRules self.new }
-        ensures headline { HasHeadline self.new }
-        ensures sound { HoldsSoundly self.new }
-        ensures no_loss { KeepsAll self.new }
-        ensures clean { HasCleanRetired self.new }
-        ensures as_seen { HoldsAsSeen K.form self.new }
-        ensures true_records { GivesTrueRecords self.new }
-        ensures true_receipts { GivesTrueReceipts self.new }
-        ensures by_sets { AnswersBySets K.form self.new }
-        ensures whole { TellsWhole self.new }
-        ensures none_forged { FindsNoneForged self.new }
+        ensures promises { Promises K.form self.new }
     {
         let answered = answer_event(
             self.alloc,

@@ -12,7 +12,7 @@ impl<K: Knowledge> Core<K> {
     pub(crate) fn check_retired(&self) -> Result<(), Refusal>
         ensures { MatchResult result (λ _. retired self.now ≡ None) (λ e. retired self.now ≡ Some e) }
     {
-        if self.is_retired {
+        if self.parts.is_retired {
             return Err(Refusal::Retired);
         }
         Ok(())
@@ -22,7 +22,7 @@ impl<K: Knowledge> Core<K> {
     pub(crate) fn check_log(&self) -> Result<(), Refusal>
         ensures { MatchResult result (λ _. log_full self.now ≡ None) (λ e. log_full self.now ≡ Some e) }
     {
-        if self.event_limit as usize <= self.contents.log().len() {
+        if self.event_limit as usize <= self.parts.contents.log().len() {
             return Err(Refusal::LogFull);
         }
         Ok(())

@@ -1,16 +1,16 @@
 //! Answer: a stream is opened for one who asks.
-ghost use Rattle.std.specs.Prelude.{◌≡◌, ◌≢◌, ◌+◌, None, Some, Ok, Err, IsErrOf, IfOk, OnOk, OnErr, MatchResult};
-ghost use Rattle.std.specs.Fn.{FnOnceReturnsAt};
-ghost use Rattle.mr_replica.specs.StepThen.{answer_of, answer_by};
+ghost use Rattle.std.specs.Prelude.{◌≡◌, ◌≢◌, None, Some, Err, IsErrOf, IfOk, MatchResult};
+ghost use Rattle.mr_replica.specs.StepThen.{answer_by};
 
-use super::step_then::answered;
+use super::parts::Change;
+use super::prepare::Prepared;
 use super::{Core, Replica};
 use crate::asks::asked_of;
 use crate::pieces::pieces_of;
 use crate::{Event, Refusal, Reply};
 use mr_forms::{FormFault, Knowledge};
+use mr_session::AskedOf;
 use mr_wire::{Ask, FrameFragment, Mode};
-use std::alloc::AllocError;
 use std::collections::VecDeque;
 
 impl<K: Knowledge> Replica<K> {
@@ -26,8 +26,19 @@ impl<K: Knowledge> Replica<K> {
     pub fn answer(&mut self, ask: Ask) -> Result<u64, Refusal>
         ensures { Steps K.form self.old (Event.Answer ask) (answer_by (λ stream. Reply.Streaming stream) result) self.new }
     {
-        self.core.answer(ask)
+        match self.step(Event::Answer(ask))? {
+            Reply::Streaming(stream) => Ok(stream),
+            _ => unreachable!(),
+        }
     }
+}
+
+/// A stream that is to be opened: the request that it answers, and what it keeps of what is known.
+#[derive(Drop)]
+pub struct Opening {
+    pub asked: AskedOf,
+    pub mode: Mode,
+    pub know: VecDeque<FrameFragment>,
 }
 
 impl<K: Knowledge> Core<K> {
@@ -35,36 +46,31 @@ impl<K: Knowledge> Core<K> {
     ghost use Rattle.mr_session.specs.Stream.{claimed};
     ghost use Rattle.mr_replica.specs.Fragments.{HasHoleyPart};
     ghost use Rattle.mr_replica.specs.Pieces.{ArePiecesOf};
-    ghost use Rattle.mr_replica.specs.Answer.{answer_refusal, mode_for, Keeps, KeepsHoley, Opens};
-    ghost use Rattle.mr_replica.specs.Step.{Steps};
+    ghost use Rattle.mr_replica.specs.Answer.{answer_refusal, mode_for, Keeps, KeepsHoley};
+    ghost use Rattle.mr_replica.specs.Prepare.{Prepares, IsOpeningFor};
 
-    // As the replica's method of this name.
-    fn answer(&mut self, ask: Ask) -> Result<u64, Refusal>
-        ensures { Steps K.form self.old (Event.Answer ask) (answer_by (λ stream. Reply.Streaming stream) result) self.new }
+    pub(crate) fn prepare_answer(&self, ask: &Ask) -> Result<Prepared<K>, Refusal>
+        ensures { Prepares K.form self.now (Event.Answer ask.now) result }
     {
-        let (Reply::Streaming(stream), ()) = self.answer_then(ask, |_| Ok(()))? else {
-            unreachable!()
-        };
-        Ok(stream)
+        self.check_answer(ask)?;
+        let opening = self.opening_for(ask)?;
+        let stream = self.parts.streams.opened() + 1;
+        Ok(Prepared {
+            reply: Reply::Streaming(stream),
+            change: Change::OpenStream(opening),
+        })
     }
 
-    // The same, with what is made of the reply first.
-    pub(crate) fn answer_then<T: Drop, F: FnOnce(&Reply) -> Result<T, AllocError>>(
-        &mut self,
-        ask: Ask,
-        before: F,
-    ) -> Result<(Reply, T), Refusal>
-        requires { F.IsAlwaysCallable before }
-        ensures steps { Steps K.form self.old (Event.Answer ask) (answer_of result) self.new }
-        ensures made { IfOk result (λ p. FnOnceReturnsAt F.FnOnce before p.0 (Ok p.1)) }
+    // The stream that is to be opened for the request.
+    fn opening_for(&self, ask: &Ask) -> Result<Opening, FormFault>
+        ensures ok { IfOk result (IsOpeningFor K.form self.now ask.now) }
+        ensures holes { IsErrOf result FormFault.TooManyHoles → KeepsHoley K.form (mode_for self.now ask.now) self.now.knowledge }
+        ensures items { result ≢ Err FormFault.TooManyItems }
     {
-        self.check_answer(&ask)?;
-        let mode = self.mode_for(&ask);
+        let mode = self.mode_for(ask);
         let know = self.kept_for(mode)?;
-        let stream = self.streams.opened() + 1;
-        let answer = answered(Reply::Streaming(stream), before)?;
-        self.open_stream(ask, mode, know)?;
-        Ok(answer)
+        let asked = asked_of(self.alloc, ask)?;
+        Ok(Opening { asked, mode, know })
     }
 
     // Nothing, where a stream may be opened for the request.
@@ -74,7 +80,7 @@ impl<K: Knowledge> Core<K> {
         if ask.target() == self.id {
             return Err(Refusal::OwnAsk);
         }
-        if self.streams.is_full() {
+        if self.parts.streams.is_full() {
             return Err(Refusal::TooManyStreams);
         }
         self.check_log()
@@ -110,29 +116,9 @@ impl<K: Knowledge> Core<K> {
         ensures holes { IsErrOf result FormFault.TooManyHoles → HasHoleyPart (K.form.is_part self.now.knowledge) }
         ensures items { result ≢ Err FormFault.TooManyItems }
     {
-        let Ok(fragments) = self.knowledge.fragments() else {
+        let Ok(fragments) = self.parts.knowledge.fragments() else {
             return Err(FormFault::OutOfMemory);
         };
         pieces_of(self.alloc, fragments)
-    }
-
-    // Opens a stream for the request.
-    fn open_stream(
-        &mut self,
-        ask: Ask,
-        mode: Mode,
-        know: VecDeque<FrameFragment>,
-    ) -> Result<(), AllocError>
-        requires admitted { answer_refusal self.old ask ≡ None }
-        requires mode { mode ≡ mode_for self.old ask }
-        requires know { Keeps K.form mode self.old.knowledge know.items }
-        ensures ok { OnOk result (Opens K.form self.old ask (self.old.streams.opened + 1) self.new) }
-        ensures err { OnErr result (self.new ≡ self.old) }
-    {
-        let asked = asked_of(self.alloc, &ask)?;
-        self.contents.reserve_event()?;
-        self.streams.open(asked, mode, know)?;
-        self.contents.note_event(Event::Answer(ask));
-        Ok(())
     }
 }

@@ -1,5 +1,5 @@
 //! What a replica holds and tells.
-ghost use Rattle.std.specs.Prelude.{◌≡◌, [], IfOk};
+ghost use Rattle.std.specs.Prelude.{◌≡◌, [], IfOk, OnOk};
 
 mod arrival;
 mod changes;
@@ -85,13 +85,20 @@ impl Contents {
     pub fn copy(&self) -> Result<Contents, AllocError>
         ensures { IfOk result (HoldsSame self.now) }
     {
-        Ok(Contents {
-            alloc: self.alloc,
-            store: self.store.copy()?,
-            trail: self.trail.copy()?,
-            feed: self.feed.copy()?,
-            log: copied_log(self.alloc, &self.log)?,
-        })
+        let mut copy = Contents::new(self.alloc);
+        copy.copy_from(self)?;
+        Ok(copy)
+    }
+
+    // Holds what the others hold, or memory is wanting.
+    fn copy_from(&mut self, others: &Contents) -> Result<(), AllocError>
+        ensures { OnOk result (HoldsSame others.now self.new) }
+    {
+        self.store = others.store.copy()?;
+        self.trail = others.trail.copy()?;
+        self.feed = others.feed.copy()?;
+        self.log = copied_log(self.alloc, &others.log)?;
+        Ok(())
     }
 }
 

@@ -1,9 +1,11 @@
 //! Copies of a replica.
-ghost use Rattle.std.specs.Prelude.{◌≡◌, IfOk};
+ghost use Rattle.std.specs.Prelude.{◌≡◌, IfOk, OnOk};
+ghost use Rattle.mr_replica.specs.Parts.{parts_seen};
 
+use super::parts::Parts;
 use super::{Core, Replica};
 use mr_forms::Knowledge;
-use std::alloc::AllocError;
+use std::alloc::{AllocError, Global};
 
 impl<K: Knowledge> Replica<K> {
     /// An equal replica, which goes its own way from then on. Memory alone can be wanting.
@@ -24,22 +26,38 @@ impl<K: Knowledge> Core<K> {
         ensures { IfOk result (λ core. core ≡ self.now) }
     {
         let filter = self.filter.copy()?;
-        let knowledge = copied_knowledge(&self.knowledge)?;
-        let contents = self.contents.copy()?;
-        let sessions = self.sessions.copy()?;
-        let streams = self.streams.copy()?;
+        let parts = self.parts.copy(self.alloc)?;
         Ok(Core {
             alloc: self.alloc,
             id: self.id,
             filter,
             event_limit: self.event_limit,
-            issued: self.issued,
-            knowledge,
-            contents,
-            is_retired: self.is_retired,
-            sessions,
-            streams,
+            parts,
         })
+    }
+}
+
+impl<K: Knowledge> Parts<K> {
+    // Equal parts, with no room.
+    fn copy(&self, alloc: Global) -> Result<Parts<K>, AllocError>
+        ensures { IfOk result (λ parts. parts_seen parts ≡ parts_seen self.now) }
+    {
+        let mut copy = Parts::new(alloc);
+        copy.copy_from(self)?;
+        Ok(copy)
+    }
+
+    // Holds what the others hold, or memory is wanting.
+    fn copy_from(&mut self, others: &Parts<K>) -> Result<(), AllocError>
+        ensures { OnOk result (parts_seen self.new ≡ parts_seen others.now) }
+    {
+        self.issued = others.issued;
+        self.is_retired = others.is_retired;
+        self.knowledge = copied_knowledge(&others.knowledge)?;
+        self.contents = others.contents.copy()?;
+        self.sessions = others.sessions.copy()?;
+        self.streams = others.streams.copy()?;
+        Ok(())
     }
 }
 

@@ -1,16 +1,15 @@
 //! Create: the first version of a new item.
-ghost use Rattle.std.specs.Prelude.{◌≡◌, None, Some, Ok, MatchResult, IfOk};
-ghost use Rattle.std.specs.Fn.{FnOnceReturnsAt};
-ghost use Rattle.mr_replica.specs.StepThen.{answer_of, answer_by};
+ghost use Rattle.std.specs.Prelude.{◌≡◌, None, Some, MatchResult};
+ghost use Rattle.mr_replica.specs.StepThen.{answer_by};
 
-use super::issue::issued_version;
+use super::parts::Change;
+use super::prepare::Prepared;
 use super::{Core, Replica};
 use crate::{Event, Refusal, Reply};
 use mr_concise::ConciseVector;
 use mr_forms::{FormFault, Knowledge, VersionSet};
 use mr_mail::Message;
 use mr_version::{ItemId, Version};
-use std::alloc::AllocError;
 
 impl<K: Knowledge> Replica<K> {
     ghost use Rattle.mr_replica.specs.Step.{Steps};
@@ -23,34 +22,22 @@ impl<K: Knowledge> Replica<K> {
     pub fn create(&mut self, message: Message) -> Result<Version, Refusal>
         ensures { Steps K.form self.old (Event.Create message) (answer_by (λ version. Reply.Issued version) result) self.new }
     {
-        self.core.create(message)
+        match self.step(Event::Create(message))? {
+            Reply::Issued(version) => Ok(version),
+            _ => unreachable!(),
+        }
     }
 }
 
 impl<K: Knowledge> Core<K> {
     ghost use Rattle.mr_replica.specs.Create.{create_refusal};
-    ghost use Rattle.mr_replica.specs.Step.{Steps, Answers};
+    ghost use Rattle.mr_replica.specs.Prepare.{Prepares, PreparesLate};
 
-    // As the replica's method of this name.
-    fn create(&mut self, message: Message) -> Result<Version, Refusal>
-        ensures { Steps K.form self.old (Event.Create message) (answer_by (λ version. Reply.Issued version) result) self.new }
-    {
-        let (reply, ()) = self.create_then(message, |_| Ok(()))?;
-        Ok(issued_version(&reply))
-    }
-
-    // The same, with what is made of the reply first.
-    pub(crate) fn create_then<T: Drop, F: FnOnce(&Reply) -> Result<T, AllocError>>(
-        &mut self,
-        message: Message,
-        before: F,
-    ) -> Result<(Reply, T), Refusal>
-        requires { F.IsAlwaysCallable before }
-        ensures steps { Steps K.form self.old (Event.Create message) (answer_of result) self.new }
-        ensures made { IfOk result (λ p. FnOnceReturnsAt F.FnOnce before p.0 (Ok p.1)) }
+    pub(crate) fn prepare_create(&self, message: &Message) -> Result<Prepared<K>, Refusal>
+        ensures { Prepares K.form self.now (Event.Create message.now) result }
     {
         self.check_create()?;
-        self.issue_created(message, before)
+        self.prepare_created(message)
     }
 
     // Nothing, where a create is admitted.
@@ -61,21 +48,18 @@ impl<K: Knowledge> Core<K> {
         self.check_log()
     }
 
-    fn issue_created<T: Drop, F: FnOnce(&Reply) -> Result<T, AllocError>>(
-        &mut self,
-        message: Message,
-        before: F,
-    ) -> Result<(Reply, T), Refusal>
-        requires admitted { create_refusal self.old ≡ None }
-        requires callable { F.IsAlwaysCallable before }
-        ensures answers { Answers K.form self.old (Event.Create message) (answer_of result) self.new }
-        ensures made { IfOk result (λ p. FnOnceReturnsAt F.FnOnce before p.0 (Ok p.1)) }
+    fn prepare_created(&self, message: &Message) -> Result<Prepared<K>, Refusal>
+        requires { create_refusal self.now ≡ None }
+        ensures { PreparesLate K.form self.now (Event.Create message.now) result }
     {
         let version = self.next_version();
         let item = ItemId::new(version);
         let nothing: Result<ConciseVector, FormFault> = Ok(ConciseVector::new(self.alloc));
         let below = self.admit(item, version, nothing)?;
-        let event = Event::Create(message.copy()?);
-        self.issue(item, version, below, message, event, before)
+        let arrival = self.arrival(item, version, below, message)?;
+        Ok(Prepared {
+            reply: Reply::Issued(version),
+            change: Change::Enter(arrival),
+        })
     }
 }

@@ -1,11 +1,11 @@
 //! Edit: a version that supersedes held versions of one item.
-ghost use Rattle.std.specs.Prelude.{◌≡◌, ◌≢◌, ◌==◌, ◌&&◌, ◌↔◌, not, find, None, Some, Ok, Err, IfOk, IfErr, OnOk, OnErr, IsErrOf, MatchResult, true, length};
-ghost use Rattle.std.specs.Fn.{FnOnceReturnsAt};
-ghost use Rattle.mr_replica.specs.StepThen.{answer_of, answer_by};
+ghost use Rattle.std.specs.Prelude.{◌≡◌, ◌≢◌, ◌==◌, ◌&&◌, ◌↔◌, not, find, None, Some, Err, IfOk, IsErrOf, MatchResult};
+ghost use Rattle.mr_replica.specs.StepThen.{answer_by};
 ghost use Rattle.mr_forms.specs.Sets.{is_listed};
 ghost use Rattle.mr_replica.specs.Edit.{lower_of};
 
-use super::issue::issued_version;
+use super::parts::Change;
+use super::prepare::Prepared;
 use super::{Core, Replica};
 use crate::{Bases, Event, Refusal, Reply};
 use mr_concise::ConciseVector;
@@ -14,7 +14,6 @@ use mr_madewith::below_of;
 use mr_mail::Message;
 use mr_store::HeldVersions;
 use mr_version::{Author, ItemId, Version};
-use std::alloc::AllocError;
 
 impl<K: Knowledge> Replica<K> {
     ghost use Rattle.mr_replica.specs.Step.{Steps};
@@ -31,7 +30,10 @@ impl<K: Knowledge> Replica<K> {
     pub fn edit(&mut self, bases: Bases, message: Message) -> Result<Version, Refusal>
         ensures { Steps K.form self.old (Event.Edit bases message) (answer_by (λ version. Reply.Issued version) result) self.new }
     {
-        self.core.edit(bases, message)
+        match self.step(Event::Edit(bases, message))? {
+            Reply::Issued(version) => Ok(version),
+            _ => unreachable!(),
+        }
     }
 }
 
@@ -45,29 +47,17 @@ impl<K: Knowledge> Core<K> {
     ghost use Rattle.mr_replica.specs.Edit.{edit_refusal, edited_item, item_refusal, not_held, are_all_of, own_left};
     ghost use Rattle.std.specs.Option.{option_map};
     ghost use Rattle.mr_replica.specs.declared.refusal.Refusal.TheVariants.{NotHeld};
-    ghost use Rattle.mr_replica.specs.Step.{Steps, Answers};
+    ghost use Rattle.mr_replica.specs.Prepare.{Prepares, PreparesLate};
 
-    // As the replica's method of this name.
-    fn edit(&mut self, bases: Bases, message: Message) -> Result<Version, Refusal>
-        ensures { Steps K.form self.old (Event.Edit bases message) (answer_by (λ version. Reply.Issued version) result) self.new }
-    {
-        let (reply, ()) = self.edit_then(bases, message, |_| Ok(()))?;
-        Ok(issued_version(&reply))
-    }
-
-    // The same, with what is made of the reply first.
-    pub(crate) fn edit_then<T: Drop, F: FnOnce(&Reply) -> Result<T, AllocError>>(
-        &mut self,
-        bases: Bases,
-        message: Message,
-        before: F,
-    ) -> Result<(Reply, T), Refusal>
-        requires { F.IsAlwaysCallable before }
-        ensures steps { Steps K.form self.old (Event.Edit bases message) (answer_of result) self.new }
-        ensures made { IfOk result (λ p. FnOnceReturnsAt F.FnOnce before p.0 (Ok p.1)) }
+    pub(crate) fn prepare_edit(
+        &self,
+        bases: &Bases,
+        message: &Message,
+    ) -> Result<Prepared<K>, Refusal>
+        ensures { Prepares K.form self.now (Event.Edit bases.now message.now) result }
     {
         let item = self.checked_item(bases.as_slice())?;
-        self.issue_edited(item, bases, message, before)
+        self.prepare_edited(item, bases, message)
     }
 
     // ---- refusals
@@ -121,7 +111,7 @@ impl<K: Knowledge> Core<K> {
     fn own_left(&self, item: ItemId, bases: &[Version]) -> Option<Version>
         ensures { result ≡ own_left self.now item bases.now }
     {
-        let store = self.contents.store();
+        let store = self.parts.contents.store();
         lower(
             first_left(store.heads_of(item), self.id, bases),
             first_left(store.push_outs_of(item), self.id, bases),
@@ -130,24 +120,24 @@ impl<K: Knowledge> Core<K> {
 
     // ---- what is issued
 
-    fn issue_edited<T: Drop, F: FnOnce(&Reply) -> Result<T, AllocError>>(
-        &mut self,
+    fn prepare_edited(
+        &self,
         item: ItemId,
-        bases: Bases,
-        message: Message,
-        before: F,
-    ) -> Result<(Reply, T), Refusal>
-        requires admitted { edit_refusal self.old bases ≡ None }
-        requires item { item ≡ edited_item self.old bases }
-        requires callable { F.IsAlwaysCallable before }
-        ensures answers { Answers K.form self.old (Event.Edit bases message) (answer_of result) self.new }
-        ensures made { IfOk result (λ p. FnOnceReturnsAt F.FnOnce before p.0 (Ok p.1)) }
+        bases: &Bases,
+        message: &Message,
+    ) -> Result<Prepared<K>, Refusal>
+        requires admitted { edit_refusal self.now bases.now ≡ None }
+        requires item { item ≡ edited_item self.now bases.now }
+        ensures { PreparesLate K.form self.now (Event.Edit bases.now message.now) result }
     {
         let version = self.next_version();
         let made = self.edited_below(bases.as_slice(), item, version);
         let below = self.admit(item, version, made)?;
-        let event = Event::Edit(bases, message.copy()?);
-        self.issue(item, version, below, message, event, before)
+        let arrival = self.arrival(item, version, below, message)?;
+        Ok(Prepared {
+            reply: Reply::Issued(version),
+            change: Change::Enter(arrival),
+        })
     }
 
     // What the next version of the item supersedes as an edit of these bases.
@@ -166,10 +156,15 @@ impl<K: Knowledge> Core<K> {
         ensures items { result ≢ Err FormFault.TooManyItems }
     {
         let held = HeldVersions {
-            store: self.contents.store(),
+            store: self.parts.contents.store(),
             versions: bases,
         };
-        below_of(self.alloc, &held, self.contents.trail().last(item), version)
+        below_of(
+            self.alloc,
+            &held,
+            self.parts.contents.trail().last(item),
+            version,
+        )
     }
 }
 

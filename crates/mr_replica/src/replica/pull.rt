@@ -1,12 +1,12 @@
 //! Pull: a session is opened, and a request made for what the replica lacks.
-ghost use Rattle.std.specs.Prelude.{◌≡◌, ◌≢◌, None, Some, Ok, Err, All, IfOk, IfErr, OnOk, OnErr, IsErrOf, MatchResult, map};
-ghost use Rattle.std.specs.Fn.{FnOnceReturnsAt};
+ghost use Rattle.std.specs.Prelude.{◌≡◌, ◌≢◌, None, Some, Err, All, IfOk, IfErr, OnOk, IsErrOf, MatchResult, map};
 ghost use Rattle.mr_wire.specs.Values.{AreItems, piece_of};
-ghost use Rattle.mr_replica.specs.StepThen.{answer_of, answer_by};
+ghost use Rattle.mr_replica.specs.StepThen.{answer_by};
 ghost use Rattle.mr_replica.specs.Pull.{IsLongestWithin};
 ghost use Rattle.mr_wire.specs.declared.frame.TheConstants.{MAX_ASKED_BYTES};
 
-use super::step_then::answered;
+use super::parts::Change;
+use super::prepare::Prepared;
 use super::{Core, Replica};
 use crate::{Event, Refusal, Reply};
 use mr_concise::ConciseVector;
@@ -26,39 +26,28 @@ impl<K: Knowledge> Replica<K> {
     pub fn pull(&mut self) -> Result<Ask, Refusal>
         ensures { Steps K.form self.old Event.Pull (answer_by (λ ask. Reply.Asked ask) result) self.new }
     {
-        self.core.pull()
+        match self.step(Event::Pull)? {
+            Reply::Asked(ask) => Ok(ask),
+            _ => unreachable!(),
+        }
     }
 }
 
 impl<K: Knowledge> Core<K> {
     ghost use Rattle.mr_replica.specs.Fragments.{HasHoleyPart};
-    ghost use Rattle.mr_replica.specs.Issue.{logged};
-    ghost use Rattle.mr_replica.specs.Pull.{pull_refusal, AreAsked, IsAskOf, pulling};
-    ghost use Rattle.mr_replica.specs.Step.{Steps, RefusesLate};
+    ghost use Rattle.mr_replica.specs.Pull.{pull_refusal, AreAsked, IsAskOf};
+    ghost use Rattle.mr_replica.specs.Step.{RefusesLate};
+    ghost use Rattle.mr_replica.specs.Prepare.{Prepares};
 
-    // As the replica's method of this name.
-    fn pull(&mut self) -> Result<Ask, Refusal>
-        ensures { Steps K.form self.old Event.Pull (answer_by (λ ask. Reply.Asked ask) result) self.new }
-    {
-        let (Reply::Asked(ask), ()) = self.pull_then(|_| Ok(()))? else {
-            unreachable!()
-        };
-        Ok(ask)
-    }
-
-    // The same, with what is made of the reply first.
-    pub(crate) fn pull_then<T: Drop, F: FnOnce(&Reply) -> Result<T, AllocError>>(
-        &mut self,
-        before: F,
-    ) -> Result<(Reply, T), Refusal>
-        requires { F.IsAlwaysCallable before }
-        ensures steps { Steps K.form self.old Event.Pull (answer_of result) self.new }
-        ensures made { IfOk result (λ p. FnOnceReturnsAt F.FnOnce before p.0 (Ok p.1)) }
+    pub(crate) fn prepare_pull(&self) -> Result<Prepared<K>, Refusal>
+        ensures { Prepares K.form self.now Event.Pull result }
     {
         self.check_pull()?;
-        let answer = answered(Reply::Asked(self.next_ask()?), before)?;
-        self.open_session()?;
-        Ok(answer)
+        let ask = self.next_ask()?;
+        Ok(Prepared {
+            reply: Reply::Asked(ask),
+            change: Change::OpenSession,
+        })
     }
 
     // Nothing, where a session may be opened.
@@ -66,7 +55,7 @@ impl<K: Knowledge> Core<K> {
         ensures { MatchResult result (λ _. pull_refusal self.now ≡ None) (λ e. pull_refusal self.now ≡ Some e) }
     {
         self.check_retired()?;
-        if self.sessions.is_full() {
+        if self.parts.sessions.is_full() {
             return Err(Refusal::TooManySessions);
         }
         self.check_log()
@@ -80,20 +69,8 @@ impl<K: Knowledge> Core<K> {
     {
         let asked = self.asked()?;
         let filter = self.filter.copy()?;
-        let session = self.sessions.opened() + 1;
+        let session = self.parts.sessions.opened() + 1;
         Ok(Ask::new(self.id, session, filter, asked))
-    }
-
-    // Opens the next session.
-    fn open_session(&mut self) -> Result<(), AllocError>
-        requires { pull_refusal self.old ≡ None }
-        ensures ok { OnOk result (self.new ≡ logged (pulling self.old) Event.Pull) }
-        ensures err { OnErr result (self.new ≡ self.old) }
-    {
-        self.contents.reserve_event()?;
-        self.sessions.open()?;
-        self.contents.note_event(Event::Pull);
-        Ok(())
     }
 
     // What a request tells of what is known.

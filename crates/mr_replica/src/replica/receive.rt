@@ -1,14 +1,14 @@
 //! Receive: a session takes a record of the stream that it asked for.
-ghost use Rattle.std.specs.Prelude.{◌≡◌, None, Some, Ok, Err, Result, MatchResult, IfOk, OnOk, OnErr, IsErrOf};
-ghost use Rattle.std.specs.Fn.{FnOnceReturnsAt};
-ghost use Rattle.mr_replica.specs.StepThen.{answer_of, answer_by};
+ghost use Rattle.std.specs.Prelude.{◌≡◌, None, Some, MatchResult};
+ghost use Rattle.mr_replica.specs.StepThen.{answer_by};
 ghost use Rattle.mr_wire.specs.Frames.{IsSent};
 
+use super::parts::Change;
+use super::prepare::Prepared;
 use super::{Core, Replica};
 use crate::{Event, Refusal, Reply};
 use mr_forms::Knowledge;
 use mr_wire::{Body, Frame, Record};
-use std::alloc::AllocError;
 
 /// What came of a record that was taken.
 #[derive(Clone, Copy, Debug, PartialEq, Eq)]
@@ -38,87 +38,53 @@ impl<K: Knowledge> Replica<K> {
     pub fn receive(&mut self, frame: Frame) -> Result<Received, Refusal>
         ensures { Steps K.form self.old (Event.Receive frame) (answer_by received_reply result) self.new }
     {
-        self.core.receive(frame)
+        match self.step(Event::Receive(frame))? {
+            Reply::Took => Ok(Received::Took),
+            Reply::Known => Ok(Received::Known),
+            Reply::Finished => Ok(Received::Finished),
+            _ => unreachable!(),
+        }
     }
 }
 
 impl<K: Knowledge> Core<K> {
     ghost use Rattle.mr_replica.specs.Admission.{retired};
-    ghost use Rattle.mr_replica.specs.Methods.{received_reply};
-    ghost use Rattle.mr_replica.specs.Receive.{session_for, session_refusal, record_refusal, receive_refusal, moved_on};
-    ghost use Rattle.mr_replica.specs.Step.{Steps, Answers};
+    ghost use Rattle.mr_replica.specs.Receive.{session_for, session_refusal, record_refusal};
+    ghost use Rattle.mr_replica.specs.Prepare.{Prepares, PreparesLate};
 
-    // As the replica's method of this name.
-    fn receive(&mut self, frame: Frame) -> Result<Received, Refusal>
-        ensures { Steps K.form self.old (Event.Receive frame) (answer_by received_reply result) self.new }
-    {
-        match self.receive_then(frame, |_| Ok(())) {
-            Ok((Reply::Took, _)) => Ok(Received::Took),
-            Ok((Reply::Known, _)) => Ok(Received::Known),
-            Ok((Reply::Finished, _)) => Ok(Received::Finished),
-            Ok(_) => unreachable!(),
-            Err(refusal) => Err(refusal),
-        }
-    }
-
-    // The same, with what is made of the reply first.
-    pub(crate) fn receive_then<T: Drop, F: FnOnce(&Reply) -> Result<T, AllocError>>(
-        &mut self,
-        frame: Frame,
-        before: F,
-    ) -> Result<(Reply, T), Refusal>
-        requires { F.IsAlwaysCallable before }
-        ensures steps { Steps K.form self.old (Event.Receive frame) (answer_of result) self.new }
-        ensures made { IfOk result (λ p. FnOnceReturnsAt F.FnOnce before p.0 (Ok p.1)) }
+    pub(crate) fn prepare_receive(&self, frame: &Frame) -> Result<Prepared<K>, Refusal>
+        ensures { Prepares K.form self.now (Event.Receive frame.now) result }
     {
         self.check_retired()?;
         match frame {
-            Frame::Record(sent) => self.receive_record(sent, before),
+            Frame::Record(sent) => self.prepare_record(sent),
             Frame::Ask(_) => Err(Refusal::NotARecord),
             Frame::Receipt(_) => Err(Refusal::NotARecord),
         }
     }
 
-    fn receive_record<T: Drop, F: FnOnce(&Reply) -> Result<T, AllocError>>(
-        &mut self,
-        sent: Record,
-        before: F,
-    ) -> Result<(Reply, T), Refusal>
-        requires admitted { retired self.old ≡ None }
-        requires callable { F.IsAlwaysCallable before }
-        ensures steps { Steps K.form self.old (Event.Receive (Frame.Record sent)) (answer_of result) self.new }
-        ensures made { IfOk result (λ p. FnOnceReturnsAt F.FnOnce before p.0 (Ok p.1)) }
+    fn prepare_record(&self, sent: &Record) -> Result<Prepared<K>, Refusal>
+        requires admitted { retired self.now ≡ None }
+        ensures { Prepares K.form self.now (Event.Receive (Frame.Record sent.now)) result }
     {
-        self.check_record(&sent)?;
-        self.take_record(sent, before)
+        self.check_record(sent)?;
+        self.prepare_taking(sent)
     }
 
-    // Takes the record, by what it says.
-    fn take_record<T: Drop, F: FnOnce(&Reply) -> Result<T, AllocError>>(
-        &mut self,
-        sent: Record,
-        before: F,
-    ) -> Result<(Reply, T), Refusal>
-        requires admitted { retired self.old ≡ None }
-        requires taken { record_refusal self.old sent ≡ None }
-        requires kept { IsSent sent.header sent.body }
-        requires callable { F.IsAlwaysCallable before }
-        ensures answers { Answers K.form self.old (Event.Receive (Frame.Record sent)) (answer_of result) self.new }
-        ensures made { IfOk result (λ p. FnOnceReturnsAt F.FnOnce before p.0 (Ok p.1)) }
+    // The record is to be taken, by what it says.
+    fn prepare_taking(&self, sent: &Record) -> Result<Prepared<K>, Refusal>
+        requires taken { record_refusal self.now sent.now ≡ None }
+        requires kept { IsSent sent.now.header sent.now.body }
+        ensures { PreparesLate K.form self.now (Event.Receive (Frame.Record sent.now)) result }
     {
         match sent.body() {
-            Body::Item(revision) => {
-                let (item, version) = (revision.item(), revision.version());
-                self.take_line(item, version, sent, before)
-            }
-            Body::MoveOut(descent) => {
-                let (item, version) = (descent.item(), descent.version());
-                self.take_line(item, version, sent, before)
-            }
-            Body::End => self.take_end(sent, before),
-            Body::Start(_) | Body::Held(_) | Body::Know(_) => {
-                self.move_on_then(Reply::Took, sent, before)
-            }
+            Body::Item(revision) => self.prepare_line(revision.item(), revision.version(), sent),
+            Body::MoveOut(descent) => self.prepare_line(descent.item(), descent.version(), sent),
+            Body::End => self.prepare_end(sent),
+            Body::Start(_) | Body::Held(_) | Body::Know(_) => Ok(Prepared {
+                reply: Reply::Took,
+                change: Change::Take,
+            }),
         }
     }
 
@@ -141,7 +107,7 @@ impl<K: Knowledge> Core<K> {
     fn check_session(&self, sent: &Record) -> Result<(), Refusal>
         ensures { MatchResult result (λ _. session_refusal (session_for self.now sent.now) sent.now ≡ None) (λ e. session_refusal (session_for self.now sent.now) sent.now ≡ Some e) }
     {
-        let Some(session) = self.sessions.get(sent.header().session) else {
+        let Some(session) = self.parts.sessions.get(sent.header().session) else {
             return Err(Refusal::NoSession);
         };
         Ok(session.check(sent)?)

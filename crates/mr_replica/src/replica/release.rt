@@ -1,18 +1,17 @@
 //! Release: push-outs for which another replica vouches are let go.
-ghost use Rattle.std.specs.Prelude.{◌≡◌, ◌||◌, None, Some, Ok, MatchResult, IfOk, OnOk, OnErr};
-ghost use Rattle.std.specs.Fn.{FnOnceReturnsAt};
+ghost use Rattle.std.specs.Prelude.{◌≡◌, ◌||◌, None, Some, MatchResult};
 ghost use Rattle.std.specs.List.{list_any};
 ghost use Rattle.mr_store.specs.Revisions.{versions_of};
-ghost use Rattle.mr_replica.specs.StepThen.{answer_of, answer_by};
+ghost use Rattle.mr_replica.specs.StepThen.{answer_by};
 ghost use Rattle.mr_replica.specs.Release.{vouched};
 
-use super::step_then::answered;
+use super::parts::Change;
+use super::prepare::Prepared;
 use super::{Core, Replica};
 use crate::{Event, Refusal, Reply};
 use mr_forms::{Knowledge, VersionSet};
 use mr_version::Version;
 use mr_wire::{Descent, Receipt};
-use std::alloc::AllocError;
 
 impl<K: Knowledge> Replica<K> {
     ghost use Rattle.mr_replica.specs.Step.{Steps};
@@ -24,39 +23,25 @@ impl<K: Knowledge> Replica<K> {
     pub fn release(&mut self, receipt: Receipt) -> Result<(), Refusal>
         ensures { Steps K.form self.old (Event.Release receipt) (answer_by (λ _. Reply.Done) result) self.new }
     {
-        self.core.release(receipt)
+        match self.step(Event::Release(receipt))? {
+            Reply::Done => Ok(()),
+            _ => unreachable!(),
+        }
     }
 }
 
 impl<K: Knowledge> Core<K> {
-    ghost use Rattle.mr_replica.specs.Issue.{logged};
-    ghost use Rattle.mr_replica.specs.Release.{release_refusal, releasing};
-    ghost use Rattle.mr_replica.specs.Step.{Steps};
+    ghost use Rattle.mr_replica.specs.Release.{release_refusal};
+    ghost use Rattle.mr_replica.specs.Prepare.{Prepares};
 
-    // As the replica's method of this name.
-    fn release(&mut self, receipt: Receipt) -> Result<(), Refusal>
-        ensures { Steps K.form self.old (Event.Release receipt) (answer_by (λ _. Reply.Done) result) self.new }
+    pub(crate) fn prepare_release(&self, receipt: &Receipt) -> Result<Prepared<K>, Refusal>
+        ensures { Prepares K.form self.now (Event.Release receipt.now) result }
     {
-        let (Reply::Done, ()) = self.release_then(receipt, |_| Ok(()))? else {
-            unreachable!()
-        };
-        Ok(())
-    }
-
-    // The same, with what is made of the reply first.
-    pub(crate) fn release_then<T: Drop, F: FnOnce(&Reply) -> Result<T, AllocError>>(
-        &mut self,
-        receipt: Receipt,
-        before: F,
-    ) -> Result<(Reply, T), Refusal>
-        requires { F.IsAlwaysCallable before }
-        ensures steps { Steps K.form self.old (Event.Release receipt) (answer_of result) self.new }
-        ensures made { IfOk result (λ p. FnOnceReturnsAt F.FnOnce before p.0 (Ok p.1)) }
-    {
-        self.check_release(&receipt)?;
-        let answer = answered(Reply::Done, before)?;
-        self.let_go(receipt)?;
-        Ok(answer)
+        self.check_release(receipt)?;
+        Ok(Prepared {
+            reply: Reply::Done,
+            change: Change::Release,
+        })
     }
 
     // Nothing, where the receipt is for a push-out.
@@ -65,20 +50,13 @@ impl<K: Knowledge> Core<K> {
     {
         self.check_retired()?;
         let descent = &receipt.descent;
-        if !vouches_for_any(descent, self.contents.store().push_outs_of(descent.item())) {
+        if !vouches_for_any(
+            descent,
+            self.parts.contents.store().push_outs_of(descent.item()),
+        ) {
             return Err(Refusal::NotPushedOut);
         }
         self.check_log()
-    }
-
-    // The push-outs for which the receipt vouches leave.
-    fn let_go(&mut self, receipt: Receipt) -> Result<(), AllocError>
-        ensures ok { OnOk result (self.new ≡ logged (releasing self.old receipt) (Event.Release receipt)) }
-        ensures err { OnErr result (self.new ≡ self.old) }
-    {
-        self.contents.reserve_event()?;
-        self.contents.release(receipt);
-        Ok(())
     }
 }
 

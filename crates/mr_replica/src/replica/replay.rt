@@ -84,10 +84,17 @@ impl<K: Knowledge> Replica<K> {
     }
 
     // Admits these events, one after the other.
-    #[tactic(auto, using(crate::proofs::Replaying::events_begin, crate::proofs::Replaying::events_end))]
     fn take_all(mut self, events: Vec<Event>) -> Result<Replica<K>, ReplayFault>
         ensures ok { IfOk result (AdmitsAll K.form self events.items) }
         ensures err { IfErr result (IsStop K.form self events.items) }
+    {
+        self.take_each(events)?;
+        Ok(self)
+    }
+
+    #[tactic(auto, using(crate::proofs::Replaying::events_begin, crate::proofs::Replaying::events_end))]
+    fn take_each(&mut self, events: Vec<Event>) -> Result<(), ReplayFault>
+        ensures { MatchResult result (λ _. AdmitsAll K.form self.old events.items self.new) (λ fault. IsStop K.form self.old events.items fault) }
     {
         let mut place = 0;
         for event in events {
@@ -96,7 +103,7 @@ impl<K: Knowledge> Replica<K> {
                 Err(refusal) => return Err(ReplayFault::Refused { place, refusal }),
             }
         }
-        Ok(self)
+        Ok(())
     }
 
     // One event, with no reply.

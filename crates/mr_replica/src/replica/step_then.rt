@@ -3,13 +3,14 @@ ghost use Rattle.std.specs.Prelude.{◌≡◌, Ok, IfOk};
 ghost use Rattle.std.specs.Fn.{FnOnceReturnsAt};
 ghost use Rattle.mr_replica.specs.StepThen.{answer_of};
 
+use super::prepare::Prepared;
 use super::{Core, Replica};
 use crate::{Event, Refusal, Reply};
 use mr_forms::Knowledge;
 use std::alloc::AllocError;
 
 // The reply, with what is made of it.
-pub(super) fn answered<T: Drop, F: FnOnce(&Reply) -> Result<T, AllocError>>(
+fn answered<T: Drop, F: FnOnce(&Reply) -> Result<T, AllocError>>(
     reply: Reply,
     before: F,
 ) -> Result<(Reply, T), AllocError>
@@ -50,7 +51,7 @@ impl<K: Knowledge> Replica<K> {
 impl<K: Knowledge> Core<K> {
     ghost use Rattle.mr_replica.specs.Step.{Steps};
 
-    // The event's own function answers it.
+    // What is prepared of the event is put in once something was made of its reply.
     fn answer_event<T: Drop, F: FnOnce(&Reply) -> Result<T, AllocError>>(
         &mut self,
         event: Event,
@@ -60,18 +61,9 @@ impl<K: Knowledge> Core<K> {
         ensures steps { Steps K.form self.old event (answer_of result) self.new }
         ensures made { IfOk result (λ p. FnOnceReturnsAt F.FnOnce before p.0 (Ok p.1)) }
     {
-        match event {
-            Event::Create(message) => self.create_then(message, before),
-            Event::Edit(bases, message) => self.edit_then(bases, message, before),
-            Event::Retire => self.retire_then(before),
-            Event::Pull => self.pull_then(before),
-            Event::Receive(frame) => self.receive_then(frame, before),
-            Event::CutIn(session) => self.cut_in_then(session, before),
-            Event::Answer(ask) => self.answer_then(ask, before),
-            Event::Next(stream) => self.next_then(stream, before),
-            Event::CutOut(stream) => self.cut_out_then(stream, before),
-            Event::Vouch(version) => self.vouch_then(version, before),
-            Event::Release(receipt) => self.release_then(receipt, before),
-        }
+        let Prepared { reply, change } = self.prepare(&event)?;
+        let answer = answered(reply, before)?;
+        self.apply(change, event)?;
+        Ok(answer)
     }
 }

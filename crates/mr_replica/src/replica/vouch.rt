@@ -1,10 +1,10 @@
 //! Vouch: the replica gives its word that it holds a version as a head.
-ghost use Rattle.std.specs.Prelude.{◌≡◌, None, Some, Ok, MatchResult, IfOk, OnOk, OnErr};
-ghost use Rattle.std.specs.Fn.{FnOnceReturnsAt};
-ghost use Rattle.mr_replica.specs.StepThen.{answer_of, answer_by};
+ghost use Rattle.std.specs.Prelude.{◌≡◌, None, Some, MatchResult, IfOk};
+ghost use Rattle.mr_replica.specs.StepThen.{answer_by};
 ghost use Rattle.mr_replica.specs.Vouch.{receipt_for};
 
-use super::step_then::answered;
+use super::parts::Change;
+use super::prepare::Prepared;
 use super::{Core, Replica};
 use crate::{Event, Refusal, Reply};
 use mr_forms::Knowledge;
@@ -24,39 +24,26 @@ impl<K: Knowledge> Replica<K> {
     pub fn vouch(&mut self, version: Version) -> Result<Receipt, Refusal>
         ensures { Steps K.form self.old (Event.Vouch version) (answer_by (λ receipt. Reply.Vouched receipt) result) self.new }
     {
-        self.core.vouch(version)
+        match self.step(Event::Vouch(version))? {
+            Reply::Vouched(receipt) => Ok(receipt),
+            _ => unreachable!(),
+        }
     }
 }
 
 impl<K: Knowledge> Core<K> {
-    ghost use Rattle.mr_replica.specs.Issue.{logged};
     ghost use Rattle.mr_replica.specs.Vouch.{vouch_refusal, IsReceiptFor};
-    ghost use Rattle.mr_replica.specs.Step.{Steps};
+    ghost use Rattle.mr_replica.specs.Prepare.{Prepares};
 
-    // As the replica's method of this name.
-    fn vouch(&mut self, version: Version) -> Result<Receipt, Refusal>
-        ensures { Steps K.form self.old (Event.Vouch version) (answer_by (λ receipt. Reply.Vouched receipt) result) self.new }
-    {
-        let (Reply::Vouched(receipt), ()) = self.vouch_then(version, |_| Ok(()))? else {
-            unreachable!()
-        };
-        Ok(receipt)
-    }
-
-    // The same, with what is made of the reply first.
-    pub(crate) fn vouch_then<T: Drop, F: FnOnce(&Reply) -> Result<T, AllocError>>(
-        &mut self,
-        version: Version,
-        before: F,
-    ) -> Result<(Reply, T), Refusal>
-        requires { F.IsAlwaysCallable before }
-        ensures steps { Steps K.form self.old (Event.Vouch version) (answer_of result) self.new }
-        ensures made { IfOk result (λ p. FnOnceReturnsAt F.FnOnce before p.0 (Ok p.1)) }
+    pub(crate) fn prepare_vouch(&self, version: Version) -> Result<Prepared<K>, Refusal>
+        ensures { Prepares K.form self.now (Event.Vouch version) result }
     {
         self.check_vouch(version)?;
-        let answer = answered(Reply::Vouched(self.receipt_of(version)?), before)?;
-        self.note_vouch(version)?;
-        Ok(answer)
+        let receipt = self.receipt_of(version)?;
+        Ok(Prepared {
+            reply: Reply::Vouched(receipt),
+            change: Change::Note,
+        })
     }
 
     // Nothing, where the version may be vouched for.
@@ -64,20 +51,10 @@ impl<K: Knowledge> Core<K> {
         ensures { MatchResult result (λ _. vouch_refusal self.now version ≡ None) (λ e. vouch_refusal self.now version ≡ Some e) }
     {
         self.check_retired()?;
-        if self.contents.store().head(version).is_none() {
+        if self.parts.contents.store().head(version).is_none() {
             return Err(Refusal::NotHeld(version));
         }
         self.check_log()
-    }
-
-    // Notes that the version was vouched for.
-    fn note_vouch(&mut self, version: Version) -> Result<(), AllocError>
-        ensures ok { OnOk result (self.new ≡ logged self.old (Event.Vouch version)) }
-        ensures err { OnErr result (self.new ≡ self.old) }
-    {
-        self.contents.reserve_event()?;
-        self.contents.note_event(Event::Vouch(version));
-        Ok(())
     }
 
     // The receipt for a version, which is a head.
@@ -85,7 +62,7 @@ impl<K: Knowledge> Core<K> {
         requires { vouch_refusal self.now version ≡ None }
         ensures { IfOk result (IsReceiptFor self.now version) }
     {
-        match self.contents.store().head(version) {
+        match self.parts.contents.store().head(version) {
             Some(revision) => receipt_for(self.id, revision),
             None => unreachable!(),
         }

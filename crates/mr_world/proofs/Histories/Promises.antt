@@ -12,6 +12,8 @@ use Rattle.mr_model.specs.History.{History}
 use Rattle.mr_model.specs.Moment.{start}
 use Rattle.mr_model.specs.Rules.{In, IsRun}
 use Rattle.mr_model.proofs.Basics.{cases, in_append}
+use Rattle.mr_model.proofs.Core.{Inv}
+use Rattle.mr_model.proofs.Readings.{knows_downward}
 use Rattle.mr_model.proofs.Theorem.{headline_holds, is_sound, loses_nothing, run_inv}
 use Rattle.mr_replica.specs.State.{State, new_state}
 use Rattle.mr_replica.specs.declared.refusal.Refusal.TheVariants as refusal
@@ -21,7 +23,7 @@ use Rattle.mr_world.specs.ListedItems.{IsGenuine}
 use Rattle.mr_world.specs.Moves.{Moves}
 use Rattle.mr_world.specs.Replies.{AreBySets, IsBySets}
 use Rattle.mr_world.specs.Made.{IsMadeOf, IsMadeWorld}
-use Rattle.mr_world.specs.Promise.{GivesTrueReceipts, GivesTrueRecords, FindsNoneForged, HasCleanRetired, HasHeadline, HoldsAsSeen, HoldsSoundly, KeepsAll, KeepsRules, TellsWhole, filters_of, history_of, moment_of, setting_in, unused_member, whole_world}
+use Rattle.mr_world.specs.Promise.{FindsNoneForged, HoldsAsSeen, KeepsRules, Promises, filters_of, history_of, moment_of, setting_in, unused_member, whole_world}
 use Rattle.mr_world.specs.Run.{Happens, Leads, Meets, answered}
 use Rattle.mr_world.specs.Runs.{IsFresh, IsFreshWorld, history, history_from, seen_step}
 use Rattle.mr_world.specs.Seen.{MailMoment, setting_of}
@@ -182,30 +184,29 @@ module _ {K : Type 0} (form : Form K) where
   -- ---- what holds then
 
   module _ (w : WorldView K) (k : KeepsRules form w) where
-    pub has_headline : HasHeadline w
-    has_headline = headline_holds (setting_in w) (history_of w) k.run
+    -- the moment after its history has all that the rules keep
+    inv : Inv (setting_in w) (moment_of w)
+    inv = run_inv (setting_in w) (history_of w) k.run
 
-    pub holds_soundly : HoldsSoundly w
-    holds_soundly r = is_sound (setting_in w) (moment_of w) (run_inv (setting_in w) (history_of w) k.run) r
-
-    pub keeps_all : KeepsAll w
-    keeps_all = loses_nothing (setting_in w) (moment_of w) (run_inv (setting_in w) (history_of w) k.run)
-
-    pub retired_clean : HasCleanRetired w
-    retired_clean = (run_inv (setting_in w) (history_of w) k.run).core.clean
-
-    pub holds_as_seen : HoldsAsSeen form w
+    holds_as_seen : HoldsAsSeen form w
     holds_as_seen r s e = subst (HoldingsAgree form (moment_of w).issues (filters_of w) r ((moment_of w).holding r) ((moment_of w).feed r) ((moment_of w).is_retired r)) (there (member_at w.members r) e) (k.agrees.holdings r)
       where
         there : (o : Option (MemberView K)) → option_map (λ m. m.replica) o ≡ Some s → (found_or (unused_member form k.nothing r) o).replica ≡ s
         there None e = absurd (cc)
         there (Some m) e = some_path m.replica s e
 
-    pub tells_whole : TellsWhole w
-    tells_whole = k.agrees.records.whole
-
-    pub true_records : GivesTrueRecords w
-    true_records = k.agrees.records.each
-
-    pub true_receipts : GivesTrueReceipts w
-    true_receipts = k.agrees.receipts
+    pub promises : Promises form w
+    promises = record {
+      rules = k.run;
+      headline = headline_holds (setting_in w) (history_of w) k.run;
+      sound = is_sound (setting_in w) (moment_of w) inv;
+      made_with = λ r. knows_downward (setting_in w) (history_of w) r k.run;
+      no_loss = loses_nothing (setting_in w) (moment_of w) inv;
+      clean = inv.core.clean;
+      as_seen = holds_as_seen;
+      true_records = k.agrees.records.each;
+      true_receipts = k.agrees.receipts;
+      by_sets = k.by_sets;
+      whole = k.agrees.records.whole;
+      none_forged = k.none_forged;
+    }

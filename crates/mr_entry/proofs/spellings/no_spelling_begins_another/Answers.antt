@@ -1,5 +1,6 @@
-use Rattle.mr_entry.proofs.EntryLaws.{begins_no_other}
+use Rattle.mr_entry.proofs.CodecLaws.{begins_no_other}
+use Rattle.mr_entry.proofs.EntryLaws.{entry_codec}
 use Rattle.mr_entry.proofs.spellings.no_spelling_begins_another.Goals as goal
 
 pub returns : goal.returns
-returns c = begins_no_other
+returns c = begins_no_other entry_codec

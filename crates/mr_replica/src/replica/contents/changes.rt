@@ -115,32 +115,31 @@ impl Contents {
         tell(&mut self.feed, entries);
     }
 
-    /// Lets go of the push-outs of the item that are the version, or below it, by an event for which
-    /// there is room.
-    pub fn release(&mut self, receipt: Receipt)
-        requires { 0 < self.old.log_room }
+    /// Lets go of the push-outs of the receipt's item that are its version, or below it.
+    pub fn release(&mut self, receipt: &Receipt)
         ensures heads { self.new.store.heads ≡ self.old.store.heads }
-        ensures push_outs { self.new.store.push_outs ≡ left_by receipt.descent.item (vouched receipt.descent) self.old.store.push_outs }
+        ensures push_outs { self.new.store.push_outs ≡ left_by receipt.now.descent.item (vouched receipt.now.descent) self.old.store.push_outs }
         ensures trail { self.new.trail.lasts ≡ self.old.trail.lasts }
         ensures feed { self.new.feed.entries ≡ self.old.feed.entries }
-        ensures log { self.new.log ≡ self.old.log ++ Event.Release receipt ∷ [] }
+        ensures log { self.new.log ≡ self.old.log }
+        ensures log_room { self.new.log_room ≡ self.old.log_room }
     {
         let descent = &receipt.descent;
         self.store
             .drop_push_outs(descent.item(), descent.version(), descent.below());
-        self.log.push_reserved(Event::Release(receipt));
     }
 
-    /// Lets a revision enter, by an event, where there is room: what it supersedes leaves.
+    /// Lets a revision enter where there is room: what it supersedes leaves.
     #[tactic(auto, using(crate::proofs::Staying::stays_new))]
-    pub fn enter(&mut self, arrival: Arrival, event: Event)
+    pub fn enter(&mut self, arrival: Arrival)
         requires room { HasRoom arrival.selected arrival.revision (vec_len arrival.entries) self.old }
         requires new { revision_of (self.old.store.heads ++ self.old.store.push_outs) arrival.revision.version ≡ None }
         ensures heads { self.new.store.heads ≡ entered_if arrival.selected arrival.revision (left_by arrival.revision.item (has_below arrival.revision) self.old.store.heads) }
         ensures push_outs { self.new.store.push_outs ≡ entered_if (not arrival.selected) arrival.revision (left_by arrival.revision.item (has_below arrival.revision) self.old.store.push_outs) }
         ensures trail { self.new.trail.lasts ≡ noted arrival.last self.old.trail.lasts }
         ensures feed { self.new.feed.entries ≡ self.old.feed.entries ++ arrival.entries.items }
-        ensures log { self.new.log ≡ self.old.log ++ event ∷ [] }
+        ensures log { self.new.log ≡ self.old.log }
+        ensures log_room { self.new.log_room ≡ self.old.log_room }
     {
         let Arrival {
             selected,
@@ -152,7 +151,6 @@ impl Contents {
         self.store.put(part_for(selected), revision);
         self.trail.note_reserved(last);
         tell(&mut self.feed, entries);
-        self.log.push_reserved(event);
     }
 }
 

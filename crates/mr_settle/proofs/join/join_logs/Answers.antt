@@ -20,10 +20,10 @@ pub returns-in-None-clause-kept : goal.returns-in-None-clause-kept
 returns-in-None-clause-kept g c =
     let explains = explained g.K.Knowledge.form g.met.K.Knowledge.by_meaning c.args.ends.now c.in_ok-way.way.world (done_of c.in_ok-way.way.progress.items) c.in_ok-way.ensures.under_way
     (subst (λ (ps : List Progress). FindsLeft c.args.ends.now (done_of ps) None) c.deref.ensures.value c.in-None.ensures) c.compare.ensures in
-    ends_keep g.K.Knowledge.form c.in_ok-way.way.world c.promise.ensures.headline c.promise.ensures.as_seen c.promise.ensures.sound c.args.ends.now explains.same c.compare.ensures
+    ends_keep g.K.Knowledge.form c.in_ok-way.way.world c.promise.ensures c.args.ends.now explains.same c.compare.ensures
 
 pub returns-in-None-clause-together : goal.returns-in-None-clause-together
 returns-in-None-clause-together g c =
     let explains = explained g.K.Knowledge.form g.met.K.Knowledge.by_meaning c.args.ends.now c.in_ok-way.way.world (done_of c.in_ok-way.way.progress.items) c.in_ok-way.ensures.under_way
     (subst (λ (ps : List Progress). FindsLeft c.args.ends.now (done_of ps) None) c.deref.ensures.value c.in-None.ensures) c.compare.ensures in
-    ends_keep_together g.K.Knowledge.form c.in_ok-way.way.world c.args.ends.now explains c.promise.ensures.no_loss c.promise.ensures.as_seen
+    ends_keep_together g.K.Knowledge.form c.in_ok-way.way.world c.args.ends.now explains c.promise.ensures

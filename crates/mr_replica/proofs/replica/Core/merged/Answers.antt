@@ -13,7 +13,7 @@ use Rattle.mr_replica.proofs.replica.Core.merged.Goals as goal
 pub returns-clause-ok : goal.returns-clause-ok
 returns-clause-ok g c =
     let form = g.K.Knowledge.form in
-    let known = form.known c.self.inside.knowledge in
+    let known = form.known c.self.inside.parts.knowledge in
     let know = c.args.know.now in
     rw (← c.self.view_is)
     (IfOk-weaker c.with_fragments.result (λ k. AreSame (form.known k) (with_pairs known (all_covered vector_has know))) (λ k. AreSame (form.known k) (with_pairs known (claimed (map piece_of know))))
@@ -21,15 +21,15 @@ returns-clause-ok g c =
 
 pub returns-clause-fits : goal.returns-clause-fits
 returns-clause-fits g c =
-    rw (← c.self.view_is) (on_ok_weaker c.with_fragments.result (merged_fits g.K.Knowledge.form (g.K.Knowledge.form.known c.self.inside.knowledge) c.args.know.now) c.with_fragments.ensures.value)
+    rw (← c.self.view_is) (on_ok_weaker c.with_fragments.result (merged_fits g.K.Knowledge.form (g.K.Knowledge.form.known c.self.inside.parts.knowledge) c.args.know.now) c.with_fragments.ensures.value)
 
 pub returns-clause-first : goal.returns-clause-first
 returns-clause-first g c =
     let form = g.K.Knowledge.form in
-    let known = form.known c.self.inside.knowledge in
+    let known = form.known c.self.inside.parts.knowledge in
     rw (← c.self.view_is) (on_ok_weaker c.with_fragments.result (λ values. first_of_all form (merged_by known (map piece_of c.args.know.now)) (merged_fits form known c.args.know.now values)) c.with_fragments.ensures.value)
 
 pub returns-clause-refused : goal.returns-clause-refused
 returns-clause-refused g c =
     rw (← c.self.view_is)
-    (merged_refused g.K.Knowledge.form (g.K.Knowledge.form.known c.self.inside.knowledge) c.args.know.now c.with_fragments.result c.with_fragments.ensures.holes c.with_fragments.ensures.items c.with_fragments.ensures.memory)
+    (merged_refused g.K.Knowledge.form (g.K.Knowledge.form.known c.self.inside.parts.knowledge) c.args.know.now c.with_fragments.result c.with_fragments.ensures.holes c.with_fragments.ensures.items c.with_fragments.ensures.memory)

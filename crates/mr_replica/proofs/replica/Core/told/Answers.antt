@@ -32,3 +32,8 @@ returns-in_err-entries-clause-refused g c =
     let fits = line_fits g.K.Knowledge.form c.args.self.now line c.requires.unknown c.may_learn_with.result holes items c.in_ok-may_learn_with.was in
     let p = err_from_is_err_and c.from_residual-in_err-entries.result c.from_residual-in_err-entries.ensures.1 in
     rw (p.1 ∙ ap Err p.2) fits
+
+pub returns-clause-is : goal.returns-clause-is
+returns-clause-is g c =
+    let kept = c.told_below-below.ensures.kept in
+    rw (c.body.ensures, c.requires.told) at kept

@@ -1,5 +1,0 @@
-pub mod EventLaws
-pub mod DecodeLaws
-pub mod BodyLemmas
-pub mod PutLemmas
-pub mod LengthLemmas

@@ -1,6 +1,0 @@
-use Rattle.mr_event.proofs.BodyLemmas.{stands_edit}
-use Rattle.mr_event.proofs.bases.edit.Goals as goal
-
-pub returns : goal.returns
-returns c =
-    stands_edit c.args.input.now c.versions.new.input c.message.new.input c.in_ok-versions.versions c.in_ok-message.message c.edit_of.result c.in_ok-versions.ensures c.in_ok-message.ensures c.edit_of.ensures

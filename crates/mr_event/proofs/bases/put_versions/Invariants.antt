@@ -1,9 +1,0 @@
-use Rattle.std.proofs.Common.{◌≡◌, ◌++◌, take}
-use Rattle.std.specs.Prelude.{All}
-use Rattle.std.specs.List.{flat_map}
-use Rattle.mr_wire.specs.Spelling.{name_bytes}
-use Rattle.mr_wire.specs.Grammar.{IsItem}
-use Rattle.mr_event.proofs.bases.put_versions.Given as goal
-
-abbrev pub invariant-loop-version : goal.invariant-loop-version
-invariant-loop-version l = record { written : l.out.items ≡ l.fn.out.items ++ flat_map name_bytes (take l.version-index l.versions); in_grammar : All IsItem (take l.version-index l.versions) }

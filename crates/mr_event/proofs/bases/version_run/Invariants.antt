@@ -1,8 +1,0 @@
-use Rattle.std.proofs.Common.{◌≡◌, ◌-◌, ℕ}
-use Rattle.mr_wire.specs.Parts.{name_at}
-use Rattle.mr_wire.proofs.RunLemmas.{Running}
-use Rattle.mr_event.proofs.EventLaws.{same_place}
-use Rattle.mr_event.proofs.bases.version_run.Given as goal
-
-abbrev pub invariant-loop : goal.invariant-loop
-invariant-loop l = Running (λ (_ : ℕ). name_at) same_place 0 l.count l.fn.input l.versions 0 (l.count - l.counter) l.input (λ _. Unit {0})

@@ -1,5 +1,0 @@
-use Rattle.mr_event.proofs.DecodeLaws.{begins_no_other}
-use Rattle.mr_event.proofs.spellings.no_spelling_begins_another.Goals as goal
-
-pub returns : goal.returns
-returns c = begins_no_other

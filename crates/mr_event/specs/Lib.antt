@@ -1,9 +1,0 @@
-pub mod Fault
-pub mod Kinds
-pub mod Spelling
-pub mod Parts
-pub mod Grammar
-pub mod Decoding
-pub mod Rests
-pub mod Encoding
-pub mod Rows

@@ -1,0 +1,31 @@
+//! A Maildir's mail as messages: names, folders, and what is done for a mail.
+//!
+//! A Maildir keeps each mail in a file: the folder that it lies in and the letters behind its name tell where it stands.
+//! Here are the parts of such names, the view of a mail (the folders and flags that it has), what several heads of one
+//! mail say together, and what is done for a mail that was left in one view, is seen in another, and is held by a replica in a third.
+//! It is all over values: nothing here touches a disk.
+//!
+//! ```text
+//! match next_act(alloc, left, seen, held)? {
+//!     Act::Edit(view) => tell(view),
+//!     Act::Delete => tell_that_it_is_gone(),
+//!     ..
+//! }
+//! ```
+#![tactic(auto)]
+
+mod act;
+mod heads;
+mod letters;
+mod merging;
+mod name;
+mod policy;
+mod view;
+
+pub use act::{Act, next_act};
+pub use heads::{is_merge_due, shown};
+pub use letters::{flags_of, letter_of};
+pub use merging::merged;
+pub use name::{FileName, is_safe_name, read_name, unique_for};
+pub use policy::{MergeFault, merged_place};
+pub use view::View;

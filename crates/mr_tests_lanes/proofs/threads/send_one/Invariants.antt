@@ -1,5 +1,0 @@
-use Rattle.std.proofs.Common.{◌≡◌}
-use Rattle.mr_tests_lanes.proofs.threads.send_one.Given as goal
-
-abbrev pub invariant-loop : goal.invariant-loop
-invariant-loop g l = (l.post.id ≡ l.fn.post.id) × (l.post.sender ≡ l.fn.post.sender)
