@@ -24,5 +24,6 @@ pub mod Seen
 pub mod Alike
 pub mod FiveKinds
 pub mod Replaying
+pub mod One
 mod Rows
 mod RecordRows

@@ -26,6 +26,7 @@ pub mod Issued
 pub mod StepThen
 pub mod Methods
 pub mod Step
+pub mod One
 pub mod Parts
 pub mod Prepare
 pub mod Growing

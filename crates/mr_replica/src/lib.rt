@@ -53,7 +53,7 @@ mod refusal;
 mod replica;
 
 pub use event::{Event, Reply};
-pub use laws::steps_only_add;
+pub use laws::{alike_are_one, steps_only_add};
 pub use mr_filter::Filter;
 pub use mr_madewith::Revision;
 pub use mr_model::Bases;

@@ -15,7 +15,7 @@ use Rattle.mr_replica.specs.Alike.{AreAlike}
 use Rattle.mr_replica.specs.Replay.{Replays, IsItsLog}
 use Rattle.mr_replica.specs.declared.event.Event.{Event as ReplicaEvent}
 use Rattle.mr_world.specs.Kept.{WorldView, replica_at}
-use Rattle.mr_alike.specs.One.{AreOneIfAlike}
+use Rattle.mr_replica.specs.One.{AreOneIfAlike}
 use Rattle.mr_forms.specs.ByMeaning.{IsByMeaning}
 use Rattle.mr_replica.proofs.Alike.{alike_replays}
 use Rattle.mr_settle.specs.History.{log_in}

@@ -5,7 +5,7 @@ use Rattle.mr_forms.specs.Known.{Form}
 use Rattle.mr_replica.specs.State.{State}
 use Rattle.mr_replica.specs.Replay.{IsItsLog}
 use Rattle.mr_world.specs.Kept.{WorldView, replica_at}
-use Rattle.mr_alike.specs.One.{AreOneIfAlike}
+use Rattle.mr_replica.specs.One.{AreOneIfAlike}
 
 module _ {K : Type 0} where
   -- of the end at this place, so many of the log are done, and not all

@@ -1,5 +1,5 @@
-use Rattle.mr_alike.proofs.One.{equal_if_alike, equal_by_log, equal_by_event}
-use Rattle.mr_alike.proofs.alike_are_one.Goals as goal
+use Rattle.mr_replica.proofs.One.{equal_if_alike, equal_by_log, equal_by_event}
+use Rattle.mr_replica.proofs.laws.alike_are_one.Goals as goal
 
 pub returns-clause-alike : goal.returns-clause-alike
 returns-clause-alike g c = equal_if_alike g.K.Knowledge.form c.args.first.now c.args.second.now (rw (c.knowledge.ensures, c.knowledge-2.ensures) at c.one_value.ensures)

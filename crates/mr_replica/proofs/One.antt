@@ -7,7 +7,7 @@ use Rattle.mr_replica.specs.State.{State}
 use Rattle.mr_replica.specs.Replay.{Replays, IsItsLog}
 use Rattle.mr_replica.specs.declared.event.Event.{Event}
 use Rattle.mr_replica.proofs.Alike.{alike_step, alike_replays}
-use Rattle.mr_alike.specs.One.{AreOneIfAlike, AreOneByLog, AreOneByEvent}
+use Rattle.mr_replica.specs.One.{AreOneIfAlike, AreOneByLog, AreOneByEvent}
 
 module _ {K : Type 0} (form : Form K) (s t : State K) (one : AreOneValue form s.knowledge t.knowledge) where
   pub equal_if_alike : AreOneIfAlike form s t
