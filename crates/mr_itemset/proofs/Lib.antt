@@ -28,6 +28,9 @@ pub mod ShownLemmas
 pub mod AloneLemmas
 pub mod HolesLemmas
 pub mod SparingLemmas
+pub mod ToldLemmas
+pub mod ToldWalk
+pub mod ToldParts
 pub mod MoreLemmas
 pub mod OnlyLemmas
 mod Rows

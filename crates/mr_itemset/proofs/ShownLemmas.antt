@@ -37,7 +37,7 @@ has_item-is_of : (items : ItemSet) (i : Name) → is_of (listed_items items) i �
 has_item-is_of AllItems i = refl
 has_item-is_of (Listed items) i = refl
 
-said_covered : (fs : List ConciseFragment) (i v : Name) → said (map (part_of vector_has) fs) i v ≡ all_covered vector_has fs i v
+pub said_covered : (fs : List ConciseFragment) (i v : Name) → said (map (part_of vector_has) fs) i v ≡ all_covered vector_has fs i v
 said_covered [] i v = refl
 said_covered (f ∷ fs) i v = rw (has_item-is_of f.items i, said_covered fs i v) refl
 
@@ -49,7 +49,7 @@ has_items : (items : ItemSet) → IfSome (listed_items items) AreListable → Ha
 has_items AllItems listable = tt
 has_items (Listed items) listable = listable.some
 
-each_has_items : (fs : List ConciseFragment) → All (λ p. IfSome p.items AreListable) (map (part_of vector_has) fs) → All (λ f. HasItems f.items) fs
+pub each_has_items : (fs : List ConciseFragment) → All (λ p. IfSome p.items AreListable) (map (part_of vector_has) fs) → All (λ f. HasItems f.items) fs
 each_has_items [] listable = All-nil (λ f. HasItems f.items)
 each_has_items (f ∷ fs) listable =
     All-cons (λ g. HasItems g.items) f fs (has_items f.items (All-head (λ p. IfSome p.items AreListable) (part_of vector_has f) (map (part_of vector_has) fs) listable))

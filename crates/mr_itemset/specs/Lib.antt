@@ -14,6 +14,8 @@ pub mod NormalForm
 pub mod Groups
 pub mod Shown
 pub mod Rows
+pub mod Told
 pub mod Sparing
 pub mod MeaningLaws
 pub mod SparingRows
+pub mod ToldRows

@@ -18,6 +18,7 @@ use Rattle.mr_itemset.specs.declared.knowledge.Listed.{Listed}
 use Rattle.mr_itemset.specs.Normal.{Normal, items_of, vector_in, normal_known}
 use Rattle.mr_itemset.specs.ItemForm.{HasNormalVersions, item_form}
 use Rattle.mr_itemset.specs.Pieces.{HasPiece}
+use Rattle.mr_itemset.specs.Sparing.{sparing_form}
 
 -- an item that is not listed has what is known for all
 pub vector_in-free : (all : List AuthorColumn) (xs : List Listed) (i : Name) → is_listed (items_of xs) i ≡ false → vector_in all xs i ≡ all
@@ -70,6 +71,10 @@ lists k said None versions is = tt
 lists k said (Some items) versions is =
     All-from_any (eq_by_cmp_equiv names_total) (HasMoreFor (normal_known k)) items (λ i listed. has_more k said versions is.1 i (known_of MAX_ITEMS (normal_known k) versions items is.2 i listed))
 
--- THE LAW
+-- THE LAWS
 pub item_lists_more : ListsMore item_form
 item_lists_more k said p is = lists k said p.items p.versions is
+
+-- what is told of items is what a part of the normal form says, less what all items have
+pub sparing_lists_more : ListsMore sparing_form
+sparing_lists_more k said p is = lists k (λ versions all. said versions (record { own = versions; normal = all; tells = refl })) p.items is.own is.normal

@@ -9,7 +9,7 @@ use Rattle.std.proofs.lemmas.Bool.{lt-leb}
 use Rattle.mr_version.specs.Name.{Name}
 use Rattle.mr_forms.specs.declared.fragment.TheConstants.{MAX_ITEMS}
 use Rattle.mr_forms.specs.Sets.{Versions}
-use Rattle.mr_forms.specs.Known.{Pairs, AreSame}
+use Rattle.mr_forms.specs.Known.{Pairs, AreSame, Part}
 use Rattle.mr_forms.specs.ByMeaning.{IsByMeaning}
 use Rattle.mr_forms.specs.Fresh.{unlisted_in_both}
 use Rattle.mr_concise.specs.declared.vector.AuthorColumn.{AuthorColumn}
@@ -20,6 +20,7 @@ use Rattle.mr_itemset.specs.Normal.{Normal, items_of, normal_known}
 use Rattle.mr_itemset.specs.ItemForm.{HasNormalVersions, items_form}
 use Rattle.mr_itemset.specs.ListingLaws.{vector_in-free}
 use Rattle.mr_itemset.specs.Pieces.{HasPiece}
+use Rattle.mr_itemset.specs.Told.{Tells, IsToldPart}
 use Rattle.mr_itemset.specs.Sparing.{before, holes_among, holes_for_all, goes_to_all, comes_next, spreads, sparing_form}
 
 -- ---- holes
@@ -66,6 +67,13 @@ module _ (a b : Normal) (same : AreSame (normal_known a) (normal_known b)) where
   same_versions None versions is = is ∙ same_sets
   same_versions (Some items) versions is = (is.0, λ all. is.1 (all ∙ sym same_sets), subst (λ (known : Pairs). HasPiece MAX_ITEMS known versions items) same_known is.2)
 
+  same_told : (p : Part) → IsToldPart a p → IsToldPart b p
+  same_told p is = record {
+    own = is.own;
+    normal = same_versions p.items is.own is.normal;
+    tells = subst (λ (all : Versions). Tells all p.items is.own p.versions) same_sets is.tells;
+  }
+
   same_goes : (v : Name) → goes_to_all a v ≡ goes_to_all b v
   same_goes v =
       ap (λ known. (v.counter == 1) || (known || nat_lt (holes_for_all a v.author) SPARED_HOLES)) (same_for_all (before v))
@@ -87,7 +95,7 @@ items_by_meaning limit = record {
 
 pub sparing_by_meaning : IsByMeaning sparing_form
 sparing_by_meaning = record {
-  parts = λ a b same p is. same_versions a b same p.items p.versions is;
+  parts = λ a b same p is. same_told a b same p is;
   learns = λ a b same item version set. same_spread a b same item version set;
   firsts = λ a b same item version set. ap (λ spread. spread && goes_to_all a item) (same_spread a b same item version set) ∙ ap (λ goes. spreads b item version set && goes) (same_goes a b same item);
 }

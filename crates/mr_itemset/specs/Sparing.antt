@@ -7,7 +7,8 @@ use Rattle.mr_concise.specs.Vector.{column_of, vector_has}
 use Rattle.mr_itemset.specs.declared.rule.TheConstants.{SPARED_HOLES}
 use Rattle.mr_itemset.specs.declared.sparing.TheConstants.{MAX_LISTED_ITEMS}
 use Rattle.mr_itemset.specs.Normal.{Normal, normal_known}
-use Rattle.mr_itemset.specs.ItemForm.{IsNormalPart, HasHoleyItem, ListsTooMany}
+use Rattle.mr_itemset.specs.ItemForm.{HasHoleyItem, ListsTooMany}
+use Rattle.mr_itemset.specs.Told.{IsToldPart}
 
 -- its author's version before it
 abbrev pub before : Name → Name
@@ -40,7 +41,7 @@ spreads k item v set = (set item && (goes_to_all k item && comes_next item v)) |
 abbrev pub sparing_form : Form Normal
 sparing_form = record {
   known = normal_known;
-  is_part = IsNormalPart;
+  is_part = IsToldPart;
   learns_for_all = spreads;
   firsts_for_all = λ k item v set. spreads k item v set && goes_to_all k item;
   has_too_many_holes = HasHoleyItem;

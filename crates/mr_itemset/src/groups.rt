@@ -51,6 +51,14 @@ impl<'a> Group<'a> {
         })
     }
 
+    /// Its items, and their vector.
+    pub(crate) fn into_parts(self) -> (Vec<ItemId>, &'a ConciseVector)
+        ensures items { result.0.items ≡ self.entry.items }
+        ensures vector { result.1.now ≡ self.entry.vector }
+    {
+        (self.items, self.vector)
+    }
+
     /// Puts an item behind the others, and tells whether there are then as many as a fragment lists.
     fn push(&mut self, item: ItemId) -> Result<bool, AllocError>
         ensures pushed { OnOk result (self.new ≡ with_item self.old item) }

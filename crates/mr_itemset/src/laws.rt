@@ -84,14 +84,14 @@ impl Knowledge for ItemKnowledge {
 
 impl Knowledge for SparingKnowledge {
     ghost use Rattle.mr_itemset.specs.Sparing.{sparing_form};
-    ghost use Rattle.mr_itemset.specs.ListingLaws.{item_lists_more};
+    ghost use Rattle.mr_itemset.specs.ListingLaws.{sparing_lists_more};
     ghost use Rattle.mr_itemset.specs.MeaningLaws.{sparing_by_meaning};
 
     type Vector = ConciseVector;
 
     ghost form = { sparing_form };
 
-    ghost lists_more = { item_lists_more };
+    ghost lists_more = { sparing_lists_more };
 
     ghost by_meaning = { sparing_by_meaning };
 

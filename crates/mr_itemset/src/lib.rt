@@ -18,6 +18,10 @@
 //! first version goes along with one that follows it, so a message that was edited right after it was made
 //! leaves no hole.
 //!
+//! The fragments of a sparing knowledge say each thing once: what all items have in the first, and of each
+//! listed item what all items lack, in the column with the fewest holes that leaves the meaning as it is, as
+//! `0.83 0:83!1..82` where all items have the versions up to 82 but for a few.
+//!
 //! A version that is learned would grow the vector of each listed item. So it waits instead, with others,
 //! beside what is settled: an item's versions are those of its settled vector and those that wait. While the
 //! holes of any settled column and of any waiting one stay within a column's limit together, learning looks
@@ -48,6 +52,7 @@ mod settle;
 mod settled;
 mod sparing;
 mod steps;
+mod told;
 mod views;
 mod with;
 

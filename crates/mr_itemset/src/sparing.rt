@@ -9,10 +9,11 @@ ghost use Rattle.mr_forms.specs.Parts.{part_of, ArePartsThat};
 ghost use Rattle.mr_concise.specs.Source.{in_some};
 ghost use Rattle.mr_concise.specs.Vector.{vector_has};
 ghost use Rattle.mr_itemset.specs.Normal.{normal_known, IsNormal};
-ghost use Rattle.mr_itemset.specs.ItemForm.{HasHoleyItem, IsNormalPart, with_all};
-ghost use Rattle.mr_itemset.specs.NormalForm.{AreNormal};
+ghost use Rattle.mr_itemset.specs.ItemForm.{HasHoleyItem, with_all};
 ghost use Rattle.mr_itemset.specs.Shown.{shown, fragments_in, normal_text};
 ghost use Rattle.mr_itemset.specs.Sparing.{goes_to_all, spreads, sparing_form};
+ghost use Rattle.mr_itemset.specs.Told.{IsToldOf, IsToldPart, IsSparest};
+ghost use Rattle.std.specs.List.{AllZip};
 
 use crate::knowledge::ItemsUpTo;
 use crate::rule::comes_next;
@@ -81,21 +82,26 @@ impl SparingKnowledge {
         self.items.knows(item, version)
     }
 
-    /// The knowledge as fragments, in normal form, as a knowledge by items gives them. `OutOfMemory` is the
-    /// only fault. For n listed items it takes about n log n comparisons of vectors.
+    /// The knowledge as fragments that say each thing once. That of all items comes first, and its vector may
+    /// be empty. The others list the items of which more is known, as those of a knowledge by items do, and
+    /// say of them the versions that all items lack. Of each author that is the column with the fewest holes
+    /// that leaves the meaning as it is: counters between two such versions, and before the first, are in it
+    /// where the items have them all. `OutOfMemory` is the only fault. For n listed items it takes about
+    /// n log n comparisons of vectors, and for each listed vector a search for each of its runs.
     pub fn fragments(&self) -> Result<Vec<Fragment<ConciseVector>>, FormFault>
-        ensures are { IfOk result (λ fragments. map shown fragments.items ≡ fragments_in self.now) }
-        ensures normal { IfOk result (λ fragments. AreNormal (map (part_of vector_has) fragments.items)) }
+        ensures are { IfOk result (λ fragments. AllZip (IsToldOf self.now.all) (fragments_in self.now) (map shown fragments.items)) }
+        ensures fewest { IfOk result (λ fragments. AllZip (IsSparest self.now.all) (fragments_in self.now) (map shown fragments.items)) }
         ensures ok { IfOk result (λ fragments. AreSame (normal_known self.now) (all_covered vector_has fragments.items)) }
         ensures items { IfOk result (λ fragments. All (λ fragment. HasItems fragment.items) fragments.items) }
-        ensures parts { IfOk result (λ fragments. ArePartsThat (IsNormalPart self.now) (map (part_of vector_has) fragments.items)) }
+        ensures parts { IfOk result (λ fragments. ArePartsThat (IsToldPart self.now) (map (part_of vector_has) fragments.items)) }
         ensures memory { OnErr result (result ≡ Err FormFault.OutOfMemory) }
     {
-        self.items.fragments()
+        let folded = self.items.folded()?;
+        Ok(folded.told()?)
     }
 
-    /// The text of the knowledge: `all` or items with commas between them, a space and the vector's text,
-    /// for each fragment, and `; ` between the fragments, as `all 0:4; 0.3,0.5 0:9!2!5..7`.
+    /// The text of the normal form: `all` or items with commas between them, a space and the text of all that
+    /// is known of them, with `; ` between, as `all 0:4; 0.3,0.5 0:9!2!5..7`.
     pub fn text(&self) -> Result<String, FormFault>
         ensures ok { IfOk result (λ text. string_bytes text ≡ normal_text self.now) }
         ensures memory { OnErr result (result ≡ Err FormFault.OutOfMemory) }

@@ -1,0 +1,330 @@
+-- How far a walk along what not all items have has come, and the column and the vector that it makes.
+use Rattle.std.proofs.Common.{◌≡◌, ◌<◌, ◌≤◌, ◌+◌, ◌-◌, ◌↔◌, ◌⊎◌, ◌==◌, ℕ, zero, suc, Bool, true, false, nat_lt, cond, List, [], ◌∷◌, ◌++◌, length, All, take, drop, refl, ap, sym, ◌∙◌, subst, arith, inl, inr}
+use Rattle.std.specs.Prelude.{if◌then◌else◌}
+use Rattle.std.proofs.lemmas.Bool.{false≢true, cases_lt, cases_eq, lt-ltb, le-ltb, eq-eqb, ne_eqb}
+use Rattle.std.proofs.lemmas.Bool.Decides.{nat_tests}
+use Rattle.std.proofs.lemmas.List.Elements.{All-nil, All-push}
+use Rattle.mr_forms.specs.Sets.{Versions}
+use Rattle.mr_forms.specs.Runs.{of_author, IsNextAuthor, HasNoAuthorFrom}
+use Rattle.mr_concise.specs.declared.column.Hole.{Hole}
+use Rattle.mr_concise.specs.declared.column.TheConstants.{COUNTERS_END}
+use Rattle.mr_concise.specs.declared.vector.AuthorColumn.{AuthorColumn}
+use Rattle.mr_concise.specs.Column.{Extent, hole_edges, column_has, IsColumn}
+use Rattle.mr_concise.specs.Edges.{is_on, IsRising}
+use Rattle.mr_concise.specs.Next.{IsNextOut, IsNextIn, HasNoneFrom}
+use Rattle.mr_concise.specs.Vector.{column_of, vector_has, IsVectorFrom, with_column}
+use Rattle.mr_concise.proofs.ColumnLemmas.{column_has-edges}
+use Rattle.mr_concise.proofs.EdgeLemmas.{IsRising-end}
+use Rattle.mr_concise.proofs.LastLemmas.{column_has-above}
+use Rattle.mr_concise.proofs.SweepLemmas.{extend}
+use Rattle.mr_concise.proofs.UnionLemmas.{column_of-IsColumn, column_has-empty}
+use Rattle.mr_concise.proofs.VectorLemmas.{IsVectorFrom-with_column, column_of-with_column, with_column-insert}
+use Rattle.mr_itemset.specs.Told.{is_beyond, IsTold, IsToldOfAuthor, AreTold, Skips}
+use Rattle.mr_itemset.proofs.ToldLemmas.{beyond_parts, told_beyond, told_within, told_few}
+
+-- ---- one author
+
+-- the column so far, up to a counter that not all items have, or up to none yet
+pub record Walked (all own : ℕ → Bool) (holes : List Hole) (upto : ℕ) : Type 0 where
+  pub rising : IsRising 0 (hole_edges holes ++ (upto + 1) ∷ [])
+  pub in_range : upto < COUNTERS_END
+  pub means : (c : ℕ) → 1 ≤ c → c ≤ upto → (is_on true (hole_edges holes ++ (upto + 1) ∷ []) c ≡ true) ↔ IsTold all own c
+  pub past : (c : ℕ) → upto < c → is_on true (hole_edges holes ++ (upto + 1) ∷ []) c ≡ false
+  pub begins : (upto ≡ 0) ⊎ (is_beyond all own upto ≡ true)
+
+pub walked_none : (all own : ℕ → Bool) → Walked all own [] 0
+walked_none all own = record {
+  rising = (omega arith, tt);
+  in_range = omega arith;
+  means = λ c from to. absurd (omega arith);
+  past = λ c above. let out : 1 ≤ c = omega arith in rw (le-ltb c 1 out) refl;
+  begins = inl refl;
+}
+
+bool-raise : (c at e : ℕ) → at ≤ e → (if nat_lt c e then true else false) ≡ (if nat_lt c at then (if nat_lt c at then true else false) else nat_lt c e)
+bool-raise c at e le = grind (arith, nat_tests)
+
+bool-under : (c first last t : ℕ) (x y z : Bool) → first ≤ last + 1 → last + 1 < t → y ≡ (if nat_lt c t then x else z) → (if nat_lt c first then true else (if nat_lt c (last + 1) then false else y)) ≡ (if nat_lt c t then (if nat_lt c first then true else (if nat_lt c (last + 1) then false else x)) else z)
+bool-under c first last t x y z o l e = grind (arith, nat_tests)
+
+-- a later end
+raise : (low at e : ℕ) (holes : List Hole) → IsRising low (hole_edges holes ++ at ∷ []) → at ≤ e → IsRising low (hole_edges holes ++ e ∷ []) × ((c : ℕ) → is_on true (hole_edges holes ++ e ∷ []) c ≡ (if nat_lt c at then is_on true (hole_edges holes ++ at ∷ []) c else nat_lt c e))
+raise low at e [] r le = ((let q = r.0 in omega arith, tt), λ c. bool-raise c at e le)
+raise low at e (h ∷ holes) r le =
+    let rest = raise (h.last + 1) at e holes r.1.1 le in
+    let end : h.last + 1 < at = IsRising-end (h.last + 1) (hole_edges holes) at r.1.1 in
+    ((r.0, (r.1.0, rest.0)), λ c. bool-under c h.first h.last at (is_on true (hole_edges holes ++ at ∷ []) c) (is_on true (hole_edges holes ++ e ∷ []) c) (nat_lt c e) (let o = r.1.0 in omega arith) end (rest.1 c))
+
+-- a test and a fact of which neither holds, or both
+out_iff : (b : Bool) (P : Type 0) → b ≡ false → (P → ⊥) → (b ≡ true) ↔ P
+out_iff b P out none = (λ is. absurd (false≢true (sym out ∙ is)), λ p. absurd (none p))
+
+in_iff : (b : Bool) (P : Type 0) → b ≡ true → P → (b ≡ true) ↔ P
+in_iff b P is p = (λ e. p, λ q. is)
+
+iff_from : (a b : Bool) (P : Type 0) → a ≡ b → (b ≡ true) ↔ P → (a ≡ true) ↔ P
+iff_from a b P e both = (λ is. both.0 (sym e ∙ is), λ p. e ∙ both.1 p)
+
+-- whether the column of these holes, which ends before the counter `end`, has the counter c
+abbrev on : List Hole → ℕ → ℕ → Bool
+on holes end c = is_on true (hole_edges holes ++ end ∷ []) c
+
+if_true : (b : Bool) (x y : Bool) → b ≡ true → (if b then x else y) ≡ x
+if_true b x y e = rw e refl
+
+if_false : (b : Bool) (x y : Bool) → b ≡ false → (if b then x else y) ≡ y
+if_false b x y e = rw e refl
+
+module _ (all own : ℕ → Bool) (holes : List Hole) (upto first end : ℕ) (w : Walked all own holes upto) (next : IsNextIn (is_beyond all own) (upto + 1) first) (out : IsNextOut (is_beyond all own) first end) (bound : end ≤ COUNTERS_END) where
+  further : first < end
+  further = let above = out.above in elim (cases_eq first end) [
+    | inl same ↦ absurd (false≢true (sym out.is_out ∙ ap (is_beyond all own) (sym same) ∙ next.is_in))
+    | inr other ↦ omega arith
+  ]
+
+  -- the last of them is one that not all items have
+  last_beyond : is_beyond all own (end - 1) ≡ true
+  last_beyond = let more = further in out.between (end - 1) (omega arith) (omega arith)
+
+  back : end - 1 + 1 ≡ end
+  back = let more = further in omega arith
+
+  from_here : (c : ℕ) → first ≤ c → c < end → IsTold all own c
+  from_here c from to = told_beyond all own c (out.between c from to)
+
+  -- the step, where the holes are then these
+  made : (new : List Hole) → IsRising 0 (hole_edges new ++ end ∷ []) → ((c : ℕ) → 1 ≤ c → c < end → (on new end c ≡ true) ↔ IsTold all own c) → ((c : ℕ) → end ≤ c → on new end c ≡ false) → Walked all own new (end - 1)
+  made new rising means past =
+      let more = further in
+      record {
+        rising = subst (λ (e : ℕ). IsRising 0 (hole_edges new ++ e ∷ [])) (sym back) rising;
+        in_range = omega arith;
+        means = λ c from to. subst (λ (e : ℕ). (on new e c ≡ true) ↔ IsTold all own c) (sym back) (means c from (omega arith));
+        past = λ c above. ap (λ (e : ℕ). on new e c) back ∙ past c (omega arith);
+        begins = inr last_beyond;
+      }
+
+  -- a hole is between
+  skipped : (at : ℕ) → upto + 1 ≤ at → at < first → own at ≡ false → (c : ℕ) → upto < c → c < first → IsTold all own c → ⊥
+  skipped at low high lacks c from to told =
+      let above = told.above in
+      let below = told.below in
+      let ends : first ≤ told.last = elim (cases_lt told.last first) [
+        | inl before ↦ absurd (false≢true (sym (next.between told.last (omega arith) before) ∙ told.ends))
+        | inr behind ↦ behind
+      ] in
+      let begins : told.first ≤ upto + 1 = elim told.begins [
+        | inl one ↦ omega arith
+        | inr beyond ↦ elim (cases_lt told.first (upto + 1)) [
+          | inl before ↦ omega arith
+          | inr behind ↦ absurd (false≢true (sym (next.between told.first behind (omega arith)) ∙ beyond))
+        ]
+      ] in
+      false≢true (sym lacks ∙ told.has at (omega arith) (omega arith))
+
+  abbrev hole : Hole
+  hole = record { first = upto + 1; last = first - 1 }
+
+  walked_hole : (at : ℕ) → upto + 1 ≤ at → at < first → own at ≡ false → Walked all own (holes ++ hole ∷ []) (end - 1)
+  walked_hole at low high lacks = made (holes ++ hole ∷ []) both.0 means past
+    where
+      both : IsRising 0 (hole_edges (holes ++ hole ∷ []) ++ end ∷ []) × ((c : ℕ) → on (holes ++ hole ∷ []) end c ≡ (if nat_lt c first then on holes (upto + 1) c else nat_lt c end))
+      both = extend 0 (upto + 1) first end holes w.rising (omega arith) further
+
+      before_on : (c : ℕ) → c < first → on (holes ++ hole ∷ []) end c ≡ on holes (upto + 1) c
+      before_on c before = both.1 c ∙ if_true (nat_lt c first) (on holes (upto + 1) c) (nat_lt c end) (lt-ltb c first before)
+
+      behind_on : (c : ℕ) → first ≤ c → on (holes ++ hole ∷ []) end c ≡ nat_lt c end
+      behind_on c behind = both.1 c ∙ if_false (nat_lt c first) (on holes (upto + 1) c) (nat_lt c end) (le-ltb c first behind)
+
+      means : (c : ℕ) → 1 ≤ c → c < end → (on (holes ++ hole ∷ []) end c ≡ true) ↔ IsTold all own c
+      means c from to = elim (cases_lt c first) [
+        | inl before ↦ iff_from (on (holes ++ hole ∷ []) end c) (on holes (upto + 1) c) (IsTold all own c) (before_on c before) (elim (cases_lt upto c) [
+          | inl behind ↦ out_iff (on holes (upto + 1) c) (IsTold all own c) (w.past c behind) (skipped at low high lacks c behind before)
+          | inr within ↦ w.means c from within
+        ])
+        | inr here ↦ in_iff (on (holes ++ hole ∷ []) end c) (IsTold all own c) (behind_on c here ∙ lt-ltb c end to) (from_here c here to)
+      ]
+
+      past : (c : ℕ) → end ≤ c → on (holes ++ hole ∷ []) end c ≡ false
+      past c above = let more = further in behind_on c (omega arith) ∙ le-ltb c end above
+
+  -- the item has all between
+  filled : ((c : ℕ) → upto + 1 ≤ c → c < first → own c ≡ true) → (c : ℕ) → upto < c → c < first → IsTold all own c
+  filled has c from to = elim w.begins [
+    | inl none ↦ record {
+      first = 1;
+      last = first;
+      above = omega arith;
+      below = omega arith;
+      begins = inl refl;
+      ends = next.is_in;
+      has = λ n low high. last_has n (omega arith) high;
+    }
+    | inr beyond ↦ record {
+      first = upto;
+      last = first;
+      above = omega arith;
+      below = omega arith;
+      begins = inr beyond;
+      ends = next.is_in;
+      has = λ n low high. elim (cases_eq n upto) [
+        | inl same ↦ ap own same ∙ (beyond_parts all own upto beyond).0
+        | inr later ↦ last_has n (omega arith) high
+      ];
+    }
+  ]
+    where
+      last_has : (n : ℕ) → upto + 1 ≤ n → n ≤ first → own n ≡ true
+      last_has n low high = elim (cases_eq n first) [
+        | inl same ↦ ap own same ∙ (beyond_parts all own first next.is_in).0
+        | inr other ↦ has n low (omega arith)
+      ]
+
+  walked_on : ((c : ℕ) → upto + 1 ≤ c → c < first → own c ≡ true) → Walked all own holes (end - 1)
+  walked_on has = made holes both.0 means past
+    where
+      later : upto + 1 ≤ end
+      later = let more = further in let above = next.above in omega arith
+
+      both : IsRising 0 (hole_edges holes ++ end ∷ []) × ((c : ℕ) → on holes end c ≡ (if nat_lt c (upto + 1) then on holes (upto + 1) c else nat_lt c end))
+      both = raise 0 (upto + 1) end holes w.rising later
+
+      before_on : (c : ℕ) → c < upto + 1 → on holes end c ≡ on holes (upto + 1) c
+      before_on c before = both.1 c ∙ if_true (nat_lt c (upto + 1)) (on holes (upto + 1) c) (nat_lt c end) (lt-ltb c (upto + 1) before)
+
+      behind_on : (c : ℕ) → upto + 1 ≤ c → on holes end c ≡ nat_lt c end
+      behind_on c behind = both.1 c ∙ if_false (nat_lt c (upto + 1)) (on holes (upto + 1) c) (nat_lt c end) (le-ltb c (upto + 1) behind)
+
+      told_behind : (c : ℕ) → upto + 1 ≤ c → c < end → IsTold all own c
+      told_behind c behind to = elim (cases_lt c first) [
+        | inl before ↦ filled has c (omega arith) before
+        | inr here ↦ from_here c here to
+      ]
+
+      means : (c : ℕ) → 1 ≤ c → c < end → (on holes end c ≡ true) ↔ IsTold all own c
+      means c from to = elim (cases_lt c (upto + 1)) [
+        | inl within ↦ iff_from (on holes end c) (on holes (upto + 1) c) (IsTold all own c) (before_on c within) (w.means c from (omega arith))
+        | inr behind ↦ in_iff (on holes end c) (IsTold all own c) (behind_on c behind ∙ lt-ltb c end to) (told_behind c behind to)
+      ]
+
+      past : (c : ℕ) → end ≤ c → on holes end c ≡ false
+      past c above = let up = later in behind_on c (omega arith) ∙ le-ltb c end above
+
+  -- one step of the walk
+  pub walked_more : (new : List Hole) → Skips own (upto + 1) first holes new → Walked all own new (end - 1)
+  walked_more new (inl has) = subst (λ (hs : List Hole). Walked all own hs (end - 1)) (sym has.0) (walked_on has.1)
+  walked_more new (inr left) = subst (λ (hs : List Hole). Walked all own hs (end - 1)) (sym left.0) (walked_hole left.1.0 left.1.1.0 left.1.1.1.0 left.1.1.1.1)
+
+-- where nothing is left, the column has what is told
+pub walked_end : (all own : ℕ → Bool) (holes : List Hole) (upto : ℕ) → Walked all own holes upto → own 0 ≡ false → HasNoneFrom (is_beyond all own) (upto + 1) → (c : ℕ) → (column_has (record { upto = upto; holes = holes }) c ≡ true) ↔ IsTold all own c
+walked_end all own holes upto w zero_out none c = go (cases_lt c 1) (cases_lt upto c)
+  where
+    go : (c < 1) ⊎ (1 ≤ c) → (upto < c) ⊎ (c ≤ upto) → (column_has (record { upto = upto; holes = holes }) c ≡ true) ↔ IsTold all own c
+    go (inl below) b =
+        let same : c ≡ 0 = omega arith in
+        out_iff (column_has (record { upto = upto; holes = holes }) c) (IsTold all own c) (ap (column_has (record { upto = upto; holes = holes })) same) (λ told. false≢true (sym zero_out ∙ ap own (sym same) ∙ told_within all own c told))
+    go (inr from) (inl behind) =
+        out_iff (column_has (record { upto = upto; holes = holes }) c) (IsTold all own c) (column_has-above (record { upto = upto; holes = holes }) c behind) (λ told. let below = told.below in false≢true (sym (none told.last (omega arith)) ∙ told.ends))
+    go (inr from) (inr within) =
+        iff_from (column_has (record { upto = upto; holes = holes }) c) (on holes (upto + 1) c) (IsTold all own c) (column_has-edges (record { upto = upto; holes = holes }) c w.rising from) (w.means c from within)
+
+-- and no more holes than what the item has
+pub walked_column : (all : Versions) (columns : List AuthorColumn) (author : ℕ) (holes : List Hole) (upto : ℕ) → IsVectorFrom 0 columns → Walked (of_author all author) (of_author (vector_has columns) author) holes upto → HasNoneFrom (is_beyond (of_author all author) (of_author (vector_has columns) author)) (upto + 1) → IsColumn (record { upto = upto; holes = holes })
+walked_column all columns author holes upto vector w none =
+    let mine = column_of-IsColumn 0 columns author vector in
+    let few : length holes ≤ length (column_of columns author).holes =
+    told_few (of_author all author) (of_author (vector_has columns) author) (record { upto = upto; holes = holes }) (column_of columns author) w.rising mine.apart
+    (walked_end (of_author all author) (of_author (vector_has columns) author) holes upto w refl none) (λ c. refl) in
+    let most = mine.few in
+    let range = w.in_range in
+    record { apart = w.rising; in_range = omega arith; few = omega arith }
+
+-- ---- all authors
+
+-- the columns of the authors below the id have what is told of them, and there are no others
+pub record ToldTo (all own : Versions) (columns : List AuthorColumn) (id : ℕ) : Type 0 where
+  pub vector : IsVectorFrom 0 columns
+  pub lower : All (λ x. x.author < id) columns
+  pub means : (q c : ℕ) → q < id → (column_has (column_of columns q) c ≡ true) ↔ IsToldOfAuthor all own q c
+  pub rest : (q c : ℕ) → id ≤ q → column_has (column_of columns q) c ≡ false
+
+pub told_none : (all own : Versions) → ToldTo all own [] 0
+told_none all own = record {
+  vector = tt;
+  lower = All-nil (λ x. x.author < 0);
+  means = λ q c below. absurd (omega arith);
+  rest = λ q c from. column_has-empty c;
+}
+
+-- nothing is told of an author of whom the item has nothing
+nothing_told : (all own : Versions) (q : ℕ) → ((c : ℕ) → of_author own q c ≡ false) → (c : ℕ) → IsToldOfAuthor all own q c → ⊥
+nothing_told all own q none c told = false≢true (sym (none c) ∙ told_within (of_author all q) (of_author own q) c told)
+
+none_in : (column : Extent) → column.upto ≤ 0 → (c : ℕ) → column_has column c ≡ false
+none_in column none zero = refl
+none_in column none (suc c) = column_has-above column (suc c) (omega arith)
+
+module _ (all own : Versions) (columns : List AuthorColumn) (id author : ℕ) (column : Extent) (w : ToldTo all own columns id) (next : IsNextAuthor own id author) (told : (c : ℕ) → (column_has column c ≡ true) ↔ IsToldOfAuthor all own author c) where
+  before : (q c : ℕ) → q < author + 1 → (author ≡ q → ⊥) → (column_has (column_of columns q) c ≡ true) ↔ IsToldOfAuthor all own q c
+  before q c below other = elim (cases_lt q id) [
+    | inl lower ↦ w.means q c lower
+    | inr from ↦ out_iff (column_has (column_of columns q) c) (IsToldOfAuthor all own q c) (w.rest q c from) (nothing_told all own q (next.between q from (omega arith)) c)
+  ]
+
+  lower_then : All (λ x. x.author < author + 1) columns
+  lower_then = λ k d within. let low = w.lower k d within in let above = next.above in omega arith
+
+  abbrev new : AuthorColumn
+  new = record { author = author; column = column }
+
+  -- behind all others
+  whole : (xs : List AuthorColumn) (n : ℕ) → n ≡ length xs → take n xs ++ new ∷ drop n xs ≡ xs ++ new ∷ []
+  whole [] zero e = refl
+  whole [] (suc n) e = absurd (omega arith)
+  whole (x ∷ xs) zero e = absurd (omega arith)
+  whole (x ∷ xs) (suc n) e = ap (λ (ys : List AuthorColumn). x ∷ ys) (whole xs n (omega arith))
+
+  pushed : with_column new columns ≡ columns ++ new ∷ []
+  pushed =
+      let above = next.above in
+      with_column-insert new columns (length columns) (λ k d within. let low = w.lower k d within in omega arith) (λ d within. absurd (omega arith)) (omega arith)
+      ∙ whole columns (length columns) refl
+
+  of_pushed : (q c : ℕ) → column_has (column_of (columns ++ new ∷ []) q) c ≡ column_has (cond (author == q) column (column_of columns q)) c
+  of_pushed q c = ap (λ (xs : List AuthorColumn). column_has (column_of xs q) c) (sym pushed) ∙ ap (λ (x : Extent). column_has x c) (column_of-with_column new columns q)
+
+  of_other : (q c : ℕ) → (author ≡ q → ⊥) → column_has (column_of (columns ++ new ∷ []) q) c ≡ column_has (column_of columns q) c
+  of_other q c other = of_pushed q c ∙ ap (λ (b : Bool). column_has (cond b column (column_of columns q)) c) (ne_eqb author q other)
+
+  of_this : (q c : ℕ) → author ≡ q → column_has (column_of (columns ++ new ∷ []) q) c ≡ column_has column c
+  of_this q c same = of_pushed q c ∙ ap (λ (b : Bool). column_has (cond b column (column_of columns q)) c) (eq-eqb author q same)
+
+  pub told_push : IsColumn column → 0 < column.upto → ToldTo all own (columns ++ new ∷ []) (author + 1)
+  told_push normal some = record {
+    vector = subst (IsVectorFrom 0) pushed (IsVectorFrom-with_column 0 new columns w.vector (omega arith) (omega arith) normal next.author_in);
+    lower = All-push (λ x. x.author < author + 1) columns new lower_then (omega arith);
+    means = λ q c below. elim (cases_eq author q) [
+      | inl same ↦ iff_from (column_has (column_of (columns ++ new ∷ []) q) c) (column_has column c) (IsToldOfAuthor all own q c) (of_this q c same) (subst (λ (a : ℕ). (column_has column c ≡ true) ↔ IsToldOfAuthor all own a c) same (told c))
+      | inr other ↦ iff_from (column_has (column_of (columns ++ new ∷ []) q) c) (column_has (column_of columns q) c) (IsToldOfAuthor all own q c) (of_other q c other) (before q c below other)
+    ];
+    rest = λ q c from. let above = next.above in of_other q c (λ same. omega arith) ∙ w.rest q c (omega arith);
+  }
+
+  pub told_skip : column.upto ≤ 0 → ToldTo all own columns (author + 1)
+  told_skip none = record {
+    vector = w.vector;
+    lower = lower_then;
+    means = λ q c below. elim (cases_eq author q) [
+      | inl same ↦ let above = next.above in out_iff (column_has (column_of columns q) c) (IsToldOfAuthor all own q c) (w.rest q c (omega arith)) (λ is. false≢true (sym (none_in column none c) ∙ (told c).1 (subst (λ (a : ℕ). IsToldOfAuthor all own a c) (sym same) is)))
+      | inr other ↦ before q c below other
+    ];
+    rest = λ q c from. let above = next.above in w.rest q c (omega arith);
+  }
+
+-- once no author is left, the columns have all that is told
+pub told_whole : (all own : Versions) (columns : List AuthorColumn) (id : ℕ) → ToldTo all own columns id → HasNoAuthorFrom own id → AreTold all own (vector_has columns)
+told_whole all own columns id w none v = elim (cases_lt v.author id) [
+  | inl below ↦ w.means v.author v.counter below
+  | inr from ↦ out_iff (vector_has columns v) (IsToldOfAuthor all own v.author v.counter) (w.rest v.author v.counter from) (nothing_told all own v.author (none v.author from) v.counter)
+]
