@@ -61,3 +61,10 @@ joined3 s0 s1 s2 s3 a b c h1 h2 h3 =
 pub joined5 : (s0 s1 s2 s3 s4 s5 a b c d e : List ℕ) → s1 ≡ s0 ++ a → s2 ≡ s1 ++ b → s3 ≡ s2 ++ c → s4 ≡ s3 ++ d → s5 ≡ s4 ++ e → s5 ≡ s0 ++ (a ++ b ++ c ++ d ++ e)
 joined5 s0 s1 s2 s3 s4 s5 a b c d e h1 h2 h3 h4 h5 =
     h5 ∙ ap (λ s. s ++ e) (h4 ∙ ap (λ s. s ++ d) (joined3 s0 s1 s2 s3 a b c h1 h2 h3) ∙ append_assoc s0 (a ++ b ++ c) d) ∙ append_assoc s0 (a ++ b ++ c ++ d) e
+
+pub joined4 : (s0 s1 s2 s3 s4 a b c d : List ℕ) → s1 ≡ s0 ++ a → s2 ≡ s1 ++ b → s3 ≡ s2 ++ c → s4 ≡ s3 ++ d → s4 ≡ s0 ++ (a ++ b ++ c ++ d)
+joined4 s0 s1 s2 s3 s4 a b c d h1 h2 h3 h4 =
+    h4 ∙ ap (λ s. s ++ d) (joined3 s0 s1 s2 s3 a b c h1 h2 h3) ∙ append_assoc s0 (a ++ b ++ c) d
+
+pub joined2 : (s0 s1 s2 a b : List ℕ) → s1 ≡ s0 ++ a → s2 ≡ s1 ++ b → s2 ≡ s0 ++ (a ++ b)
+joined2 s0 s1 s2 a b h1 h2 = h2 ∙ ap (λ s. s ++ b) h1 ∙ append_assoc s0 a b

@@ -2,7 +2,8 @@
 use Rattle.std.proofs.Common.{◌≡◌, ◌<◌, ◌≤◌, ℕ, zero, suc, ◌+◌, ◌∙◌, ap, sym, List, [], ◌∷◌, ◌++◌, length, map, take, refl, arith}
 use Rattle.std.proofs.lemmas.List.{length-map, length-take-le, map-append}
 use Rattle.mr_draw.specs.MarkView.{MarkView}
-use Rattle.mr_draw.specs.Picture.{below}
+use Rattle.mr_draw.specs.HeadingView.{HeadingView}
+use Rattle.mr_draw.specs.Picture.{below, named_at, named_by, named_from}
 use Rattle.mr_draw.specs.Sign.{sign_at, sign_of, signs_from}
 use Rattle.mr_draw.specs.Happened.{Happened}
 use Rattle.mr_draw.specs.declared.marks.TheConstants.{MAX_ROWS}
@@ -27,6 +28,23 @@ signs-pushed all i x before after m inside more invariant sign pushed =
     ap (map sign_of) pushed ∙ map-append sign_of before (m ∷ []) ∙ ap (λ ss. ss ++ sign_of m ∷ []) invariant
     ∙ ap (λ s. signs_from 0 (take i all) ++ s ∷ []) (sign ∙ ap (λ k. sign_at k x) (sym row))
     ∙ sym (signs_from-more 0 (take i all) x) ∙ ap (signs_from 0) (sym more)
+
+-- one lane more has its name in the next column
+named_from-more : (names : List (List ℕ)) (n : ℕ) (lanes : List ℕ) (lane : ℕ) → named_from names n (lanes ++ lane ∷ []) ≡ named_from names n lanes ++ named_at names (n + length lanes) lane ∷ []
+named_from-more names n [] lane = let n_is : n + 0 ≡ n = omega arith in ap (λ k. named_at names k lane ∷ []) (sym n_is)
+named_from-more names n (x ∷ xs) lane =
+    let later : (n + 1) + length xs ≡ n + length (x ∷ xs) = omega arith in
+    ap (λ ns. named_at names n x ∷ ns) (named_from-more names (n + 1) xs lane ∙ ap (λ k. named_from names (n + 1) xs ++ named_at names k lane ∷ []) later)
+
+-- a loop that puts behind the others what stands above the next lane
+pub names-pushed : (names : List (List ℕ)) (all : List ℕ) (i x : ℕ) (before after : List HeadingView) (h : HeadingView) → i < length all → take (i + 1) all ≡ take i all ++ x ∷ [] →
+    map named_by before ≡ named_from names 0 (take i all) → named_by h ≡ named_at names i x → after ≡ before ++ h ∷ [] → map named_by after ≡ named_from names 0 (take (i + 1) all)
+names-pushed names all i x before after h inside more invariant name pushed =
+    let long : length (take i all) ≡ i = length-take-le i all (omega (arith, inside)) in
+    let column : 0 + length (take i all) ≡ i = omega (arith, long) in
+    ap (map named_by) pushed ∙ map-append named_by before (h ∷ []) ∙ ap (λ ns. ns ++ named_by h ∷ []) invariant
+    ∙ ap (λ s. named_from names 0 (take i all) ++ s ∷ []) (name ∙ ap (λ k. named_at names k x) (sym column))
+    ∙ sym (named_from-more names 0 (take i all) x) ∙ ap (named_from names 0) (sym more)
 
 -- as many signs as happenings
 length-signs_from : (n : ℕ) (hs : List Happened) → length (signs_from n hs) ≡ length hs

@@ -1,5 +1,5 @@
 -- the text of a mark in an SVG
-use Rattle.std.specs.Prelude.{ℕ, ◌+◌, ◌*◌, ◌/◌, ◌==◌, Bool, nat_lt, if◌then◌else◌, unwrap_or, position, List, [], ◌∷◌, ◌++◌, codes}
+use Rattle.std.specs.Prelude.{ℕ, ◌+◌, ◌*◌, ◌/◌, ◌==◌, Bool, nat_lt, if◌then◌else◌, unwrap_or, position, length, List, [], ◌∷◌, ◌++◌, codes}
 use Rattle.std.specs.List.{concat}
 use Rattle.std.specs.Fmt.{decimal}
 use Rattle.mr_draw.specs.Escape.{escaped}
@@ -7,7 +7,7 @@ use Rattle.mr_draw.specs.MarkView.{MarkView}
 use Rattle.mr_draw.specs.declared.mark.Look.{Look}
 use Rattle.mr_draw.specs.declared.mark.Shape.{Shape}
 use Rattle.mr_draw.specs.declared.mark.Shape.TheVariants.{Lane, Thin, Band, Version, Merge, Item, MoveOut, Record, Cut, Retire, Vouch, Release}
-use Rattle.mr_draw.specs.declared.mark.TheConstants.{LEFT, GAP, TOP, ROW}
+use Rattle.mr_draw.specs.declared.mark.TheConstants.{LEFT, FEW_LANES, MANY_LANES, GAP, LESS_GAP, LEAST_GAP, TOP, ROW}
 
 -- the names by which a picture's style knows what looks so
 abbrev pub class_of : Shape → List ℕ
@@ -75,8 +75,15 @@ label_down_of other = 4
 abbrev pub column_of : List ℕ → ℕ → ℕ
 column_of lanes lane = unwrap_or (position (λ other. other == lane) lanes) 0
 
+-- how far a lane is from the one before it: the less, the more there are
+abbrev pub gap_of : ℕ → ℕ
+gap_of lanes = if nat_lt FEW_LANES lanes then (if nat_lt MANY_LANES lanes then LEAST_GAP else LESS_GAP) else GAP
+
+abbrev pub x_at : (lanes column : ℕ) → ℕ
+x_at lanes column = LEFT + gap_of lanes * column
+
 abbrev pub x_of : List ℕ → ℕ → ℕ
-x_of lanes lane = LEFT + GAP * column_of lanes lane
+x_of lanes lane = x_at (length lanes) (column_of lanes lane)
 
 abbrev pub y_of : ℕ → ℕ
 y_of row = TOP + ROW * row

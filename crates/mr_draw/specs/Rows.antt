@@ -16,9 +16,9 @@ use Rattle.mr_world.specs.declared.answered.Answered.{Answered}
 use Rattle.mr_draw.specs.Escape.{entity}
 use Rattle.mr_draw.specs.NoteLists.{NoteLists}
 use Rattle.mr_draw.specs.Happening.{dot_at, dots, happening_at, issued_versions, kind_of}
-use Rattle.mr_draw.specs.Mark.{class_of, column_of, head_of, label_at, line_text, x_of, y_of}
-use Rattle.mr_draw.specs.Picture.{below}
-use Rattle.mr_draw.specs.Sheet.{fault_text, left_out_text, width_of}
+use Rattle.mr_draw.specs.Mark.{class_of, column_of, head_of, label_at, line_text, x_at, x_of, y_of}
+use Rattle.mr_draw.specs.Picture.{below, named_from}
+use Rattle.mr_draw.specs.Sheet.{fault_text, left_out_text, name_y, width_of}
 use Rattle.mr_draw.specs.Sign.{plain, shape_of, sign_at}
 use Rattle.mr_draw.specs.declared.happening.Kind.TheVariants.{Issue, TakeItem, Open, Cut, Retire, Release}
 use Rattle.mr_draw.specs.declared.mark.Shape.TheVariants as shape
@@ -115,6 +115,16 @@ first_x = refl
 pub second_x : x_of (0 ∷ 5 ∷ []) 5 ≡ 190
 second_x = refl
 
+-- of 12 lanes each is as far from the one before it as of two; of 13 they are closer, and of 25 closer still
+pub twelfth_x : x_at 12 11 ≡ 1490
+twelfth_x = refl
+
+pub closer_x : x_at 13 1 ≡ 120
+closer_x = refl
+
+pub closest_x : x_at 25 1 ≡ 84
+closest_x = refl
+
 pub second_y : y_of 1 ≡ 82
 second_y = refl
 
@@ -144,6 +154,25 @@ least_width = refl
 
 pub three_lanes : width_of 3 ≡ 460
 three_lanes = refl
+
+-- and so wide is one of all lanes that there may be
+pub widest : width_of 64 ≡ 1712
+widest = refl
+
+-- of two lanes the first has the one name that was given, and the other is called by its id
+pub two_names : named_from (codes "phone" ∷ []) 0 (5 ∷ 9 ∷ []) ≡ record { lane = 5; name = codes "phone (5)" } ∷ record { lane = 9; name = codes "replica 9" } ∷ []
+unfolding digits
+two_names = refl
+
+-- names of few lanes are side by side, and of many the second is below the first, and the fourth beside it
+pub few_names : name_y 12 1 ≡ 22
+few_names = refl
+
+pub second_name : name_y 13 1 ≡ 34
+second_name = refl
+
+pub fourth_name : name_y 13 3 ≡ 18
+fourth_name = refl
 
 -- nothing is left out, and there is no fault
 pub none_left_out : left_out_text 90 0 ≡ []

@@ -1,19 +1,19 @@
 -- the text of a picture
-use Rattle.std.specs.Prelude.{ℕ, ◌+◌, ◌*◌, ◌-◌, ◌==◌, nat_lt, if◌then◌else◌, List, [], ◌∷◌, ◌++◌, codes, length}
+use Rattle.std.specs.Prelude.{ℕ, ◌+◌, ◌*◌, ◌-◌, ◌%◌, ◌==◌, nat_lt, if◌then◌else◌, List, [], ◌∷◌, ◌++◌, codes, length}
 use Rattle.std.specs.List.{concat, flat_map}
 use Rattle.std.specs.Fmt.{decimal}
 use Rattle.mr_draw.specs.Escape.{escaped}
-use Rattle.mr_draw.specs.Mark.{mark_text, x_of, y_of}
+use Rattle.mr_draw.specs.Mark.{column_of, mark_text, x_at, x_of, y_of}
 use Rattle.mr_draw.specs.HeadingView.{HeadingView}
 use Rattle.mr_draw.specs.MarkView.{MarkView}
 use Rattle.mr_draw.specs.SheetView.{SheetView}
-use Rattle.mr_draw.specs.declared.mark.TheConstants.{GAP, LEFT}
+use Rattle.mr_draw.specs.declared.mark.TheConstants.{FEW_LANES}
 use Rattle.mr_draw.specs.declared.sheet.TheConstants.{FOOT, LEAST_WIDTH, LEGEND, RIGHT, STYLE}
 
 -- how wide a picture of so many lanes is
 abbrev pub width_of : ℕ → ℕ
 width_of lanes =
-    let width = LEFT + GAP * (lanes - 1) + RIGHT in
+    let width = x_at lanes (lanes - 1) + RIGHT in
     if nat_lt width LEAST_WIDTH then LEAST_WIDTH else width
 
 abbrev pub size_text : (width height : ℕ) → List ℕ
@@ -24,18 +24,27 @@ size_text width height =
 abbrev pub opening_of : (lanes rows : ℕ) → List ℕ
 opening_of lanes rows = size_text (width_of lanes) (y_of rows + FOOT) ++ STYLE.now
 
-abbrev pub name_at : (x lane : ℕ) → List ℕ
-name_at x lane =
-    concat (codes "</title><text x='" ∷ decimal x ∷ codes "' y='22'>replica " ∷ decimal lane
-    ∷ codes "</text><text class='filter' x='" ∷ decimal x ∷ codes "' y='40'>" ∷ [])
+-- how far a name is from the upper edge: where there are many lanes, three that are side by side stand below one another
+abbrev pub name_y : (lanes column : ℕ) → ℕ
+name_y lanes column = if nat_lt FEW_LANES lanes then 18 + 16 * (column % 3) else 22
 
--- a lane's name, with its filter, escaped
-abbrev pub named_text : (x lane : ℕ) → (title label : List ℕ) → List ℕ
-named_text x lane title label =
-    codes "<g class='name'><title>" ++ escaped title ++ name_at x lane ++ escaped label ++ codes "</text></g>\n"
+abbrev pub name_at : (x y : ℕ) → List ℕ
+name_at x y = concat (codes "</title><text x='" ∷ decimal x ∷ codes "' y='" ∷ decimal y ∷ codes "'>" ∷ [])
 
+abbrev pub filter_at : ℕ → List ℕ
+filter_at x = concat (codes "</text><text class='filter' x='" ∷ decimal x ∷ codes "' y='40'>" ∷ [])
+
+-- what pointing at it tells: the whole name, and the whole filter
+abbrev pub title_text : (name filter : List ℕ) → List ℕ
+title_text name filter = codes "<g class='name'><title>" ++ escaped name ++ codes ": " ++ escaped filter
+
+-- a name and a filter as they are written so far from the edges, each escaped
+abbrev pub named_text : (x y : ℕ) → (caption label : List ℕ) → List ℕ
+named_text x y caption label = name_at x y ++ escaped caption ++ filter_at x ++ escaped label ++ codes "</text></g>\n"
+
+-- what stands above a lane
 abbrev pub heading_text : List ℕ → HeadingView → List ℕ
-heading_text lanes h = named_text (x_of lanes h.lane) h.lane h.title h.label
+heading_text lanes h = title_text h.name h.filter_text ++ named_text (x_of lanes h.lane) (name_y (length lanes) (column_of lanes h.lane)) h.caption h.label
 
 -- how many happenings have no mark, where some have none
 abbrev pub left_out_text : (y left_out : ℕ) → List ℕ

@@ -1,7 +1,7 @@
 //! Marks, and their text in an SVG.
 ghost use Rattle.std.specs.Prelude.{◌≡◌, ◌++◌, ◌<◌, ◌≤◌, ◌^◌, ◌==◌, IfSome, OnOk, length, position, string_bytes};
 ghost use Rattle.std.specs.List.{flat_map};
-ghost use Rattle.mr_draw.specs.Mark.{class_of, column_of, contested_class, drawn_text, head_of, label_at, label_down_of, label_right_of, line_text, mark_text, opening_text, path_text, pen_of, push_out_class, ring_of, shape_text, x_of, y_of};
+ghost use Rattle.mr_draw.specs.Mark.{class_of, column_of, contested_class, drawn_text, head_of, label_at, label_down_of, label_right_of, line_text, mark_text, opening_text, path_text, pen_of, push_out_class, ring_of, shape_text, x_at, x_of, y_of};
 
 use crate::escape::push_escaped;
 use mr_version::Author;
@@ -9,10 +9,22 @@ use std::alloc::AllocError;
 use std::marker::Model;
 
 /// How far the first lane is from the left edge.
-pub(crate) const LEFT: u64 = 60;
+const LEFT: u64 = 60;
 
-/// How far a lane is from the one before it.
-pub(crate) const GAP: u64 = 130;
+/// How many lanes are far apart, so that their filters are written above them.
+pub(crate) const FEW_LANES: u64 = 12;
+
+/// How many lanes are less far apart; more of them are close.
+const MANY_LANES: u64 = 24;
+
+/// How far a lane is from the one before it, where there are few.
+const GAP: u64 = 130;
+
+/// How far it is where there are many.
+const LESS_GAP: u64 = 60;
+
+/// How far it is where there are more.
+const LEAST_GAP: u64 = 24;
 
 /// How far the first row is from the upper edge.
 const TOP: u64 = 66;
@@ -171,7 +183,7 @@ fn head(is_from_right: bool) -> &'static str
 }
 
 /// The column of the lane, from 0: its place among the lanes.
-fn column_of(lanes: &[Author], lane: Author) -> u64
+pub(crate) fn column_of(lanes: &[Author], lane: Author) -> u64
     requires { length lanes.now ≤ 64 }
     ensures column { result ≡ column_of lanes.now lane }
     ensures few { result < 64 }
@@ -297,7 +309,22 @@ pub(crate) fn x_of(lanes: &[Author], lane: Author) -> u64
     ensures is { result ≡ x_of lanes.now lane }
     ensures small { result < 65536 }
 {
-    LEFT + GAP * column_of(lanes, lane)
+    x_at(lanes.len() as u64, column_of(lanes, lane))
+}
+
+/// How far the lane in this column is from the left edge, where there are so many lanes.
+pub(crate) fn x_at(lanes: u64, column: u64) -> u64
+    requires { column < 64 }
+    ensures is { result ≡ x_at lanes column }
+    ensures small { result < 65536 }
+{
+    if lanes <= FEW_LANES {
+        LEFT + GAP * column
+    } else if lanes <= MANY_LANES {
+        LEFT + LESS_GAP * column
+    } else {
+        LEFT + LEAST_GAP * column
+    }
 }
 
 /// How far a row is from the upper edge.

@@ -53,8 +53,7 @@ fn mark_of<K: Knowledge>(
 {
     let look = look_of(scene, happening);
     let last_row = last_row_of(scene, shown, row, happening, look.is_push_out)?;
-    let label = label_of(scene.alloc, scene.happenings, happening)?;
-    let title = title(scene, happening)?;
+    let (label, title) = words(scene, happening)?;
     Ok(Mark {
         lane: happening.lane,
         row: row as u32,
@@ -66,12 +65,17 @@ fn mark_of<K: Knowledge>(
     })
 }
 
-/// What the happening's mark tells on pointing.
-fn title<K: Knowledge>(scene: &Scene<K>, happening: &Happening) -> Result<String, AllocError> {
-    match scene.world.answers().get(happening.place) {
-        Some(answered) => title_of(scene.alloc, happening, &answered.event.act),
-        None => Ok(String::new(scene.alloc)),
-    }
+/// What is written at the happening's mark, and what it tells on pointing.
+fn words<K: Knowledge>(
+    scene: &Scene<K>,
+    happening: &Happening,
+) -> Result<(String, String), AllocError> {
+    let Some(answered) = scene.world.answers().get(happening.place) else {
+        return Ok((String::new(scene.alloc), String::new(scene.alloc)));
+    };
+    let act = &answered.event.act;
+    let label = label_of(scene.alloc, scene.happenings, happening, act)?;
+    Ok((label, title_of(scene.alloc, happening, act)?))
 }
 
 /// From or to whose lane the mark goes: an arrow comes from the source's, and a sync's band goes to the target's.

@@ -1,10 +1,11 @@
 //! The picture of a world.
-ghost use Rattle.std.specs.Prelude.{◌≡◌, ◌<◌, ◌≤◌, ◌-◌, IfOk, length, map, string_bytes, take};
+ghost use Rattle.std.specs.Prelude.{◌≡◌, ◌<◌, ◌≤◌, ◌-◌, All, IfOk, length, map, slice_get, string_bytes, take};
+ghost use Rattle.std.specs.Option.{option_map};
 ghost use Rattle.mr_draw.specs.Sign.{sign_of, signs_from};
-ghost use Rattle.mr_draw.specs.Picture.{Draws, lane_at, lanes_in};
+ghost use Rattle.mr_draw.specs.Picture.{Draws, HasFilter, IsFilterOf, lane_at, lanes_in, name_of, named_at, named_by, named_from};
 
 use crate::happening::{Happening, Kind, happenings};
-use crate::mark::{Look, Mark, Shape};
+use crate::mark::{FEW_LANES, Look, Mark, Shape};
 use crate::marks::{MAX_ROWS, Scene, is_merge, marks};
 use crate::sheet::{Heading, Sheet, text_of};
 use mr_forms::Knowledge;
@@ -13,21 +14,25 @@ use mr_version::{AUTHORS, Author, Version};
 use mr_world::{Act, Answer, Answered, World};
 use std::alloc::{AllocError, Global};
 
-/// How many bytes of a filter are written above a lane.
-const MAX_FILTER: usize = 18;
+/// How many characters of a name or a filter are written above a lane.
+const MOST_WRITTEN: usize = 18;
 
 /// A picture of all that happened in the world, as an SVG, with the text of a fault under it, if that is not empty.
 ///
-/// Time goes downwards, and each replica has a lane. Each event that is shown has a row of its own, of which there are
-/// at most 400: the first ones, and the picture says how many are left out.
+/// Time goes downwards, and each replica has a lane, from left to right by their ids. Above the lanes stand these names, in
+/// their order, each with the replica's id; a lane for which none is left is called by its id alone. Under a name stands the
+/// replica's filter, which is cut where it is long and left out where there are more than 12 lanes, and which is told whole on
+/// pointing. Each event that is shown has a row of its own, of which there are at most 400: the first ones, and the picture
+/// says how many are left out. Of more lanes each is closer to the next, so that 64 take 1,712 pixels.
 ///
 /// It costs a walk over the answers for each row, and for each replica its heads times its items that have several.
 pub fn draw<K: Knowledge>(
     alloc: Global,
     world: &World<K>,
+    names: &[&str],
     fault: &str,
 ) -> Result<String, AllocError>
-    ensures { IfOk result (λ svg. Draws world.now fault.now (string_bytes svg)) }
+    ensures { IfOk result (λ svg. Draws world.now (map (λ name. name.now) names.now) fault.now (string_bytes svg)) }
 {
     let lanes = lanes(alloc, world)?;
     let happenings = happenings(alloc, world.answers())?;
@@ -38,19 +43,25 @@ pub fn draw<K: Knowledge>(
         happenings: happenings.as_slice(),
         contested: contested.as_slice(),
     };
-    let sheet = sheet(&scene, lanes)?;
+    let sheet = sheet(&scene, names, lanes)?;
     text_of(alloc, &sheet, fault)
 }
 
 /// What the picture says.
-fn sheet<K: Knowledge>(scene: &Scene<K>, lanes: Vec<Author>) -> Result<Sheet, AllocError>
+fn sheet<K: Knowledge>(
+    scene: &Scene<K>,
+    names: &[&str],
+    lanes: Vec<Author>,
+) -> Result<Sheet, AllocError>
     ensures lanes { IfOk result (λ sheet. sheet.lanes ≡ lanes.items) }
+    ensures named { IfOk result (λ sheet. map named_by sheet.headings ≡ named_from (map (λ name. name.now) names.now) 0 lanes.items) }
+    ensures filters { IfOk result (λ sheet. All (HasFilter scene.now.world.now) sheet.headings) }
     ensures shown { IfOk result (λ sheet. map sign_of sheet.marks ≡ signs_from 0 (take MAX_ROWS scene.now.happenings.now)) }
     ensures left_out { IfOk result (λ sheet. sheet.left_out ≡ length scene.now.happenings.now - MAX_ROWS) }
 {
     let shown = first(scene.happenings);
     Ok(Sheet {
-        headings: headings(scene, lanes.as_slice())?,
+        headings: headings(scene, names, lanes.as_slice())?,
         lines: lines(scene, lanes.as_slice(), shown)?,
         marks: marks(scene, shown)?,
         left_out: (scene.happenings.len() - shown.len()) as u64,
@@ -101,23 +112,67 @@ fn lane_at<K: Knowledge>(world: &World<K>, id: u16) -> Option<Author>
     }
 }
 
-/// The lanes' names.
-fn headings<K: Knowledge>(scene: &Scene<K>, lanes: &[Author]) -> Result<Vec<Heading>, AllocError> {
+/// What stands above the lanes: for each in its order the next of the names.
+fn headings<K: Knowledge>(
+    scene: &Scene<K>,
+    names: &[&str],
+    lanes: &[Author],
+) -> Result<Vec<Heading>, AllocError>
+    ensures named { IfOk result (λ headings. map named_by headings.items ≡ named_from (map (λ name. name.now) names.now) 0 lanes.now) }
+    ensures filters { IfOk result (λ headings. All (HasFilter scene.now.world.now) headings.items) }
+{
+    let is_wide = lanes.len() as u64 > FEW_LANES;
     let mut headings = Vec::with_capacity(scene.alloc, lanes.len())?;
-    for lane in lanes {
-        let title = filter_text(scene, *lane)?;
-        let label = cut(scene.alloc, title.as_str())?;
-        headings.push(Heading {
-            lane: *lane,
-            label,
-            title,
-        })?;
+    for (column, lane) in lanes.iter().enumerate() {
+        headings.push(heading(scene, names, is_wide, column, *lane)?)?;
     }
     Ok(headings)
 }
 
+/// What stands above the lane in this column.
+fn heading<K: Knowledge>(
+    scene: &Scene<K>,
+    names: &[&str],
+    is_wide: bool,
+    column: usize,
+    lane: Author,
+) -> Result<Heading, AllocError>
+    ensures named { IfOk result (λ heading. named_by heading ≡ named_at (map (λ name. name.now) names.now) column lane) }
+    ensures filter { IfOk result (λ heading. HasFilter scene.now.world.now heading) }
+{
+    let name = name_of(scene.alloc, name_at(names, column), lane)?;
+    let filter_text = filter_text(scene, lane)?;
+    let shown = if is_wide { "" } else { filter_text.as_str() };
+    Ok(Heading {
+        lane,
+        caption: cut(scene.alloc, name.as_str())?,
+        label: cut(scene.alloc, shown)?,
+        name,
+        filter_text,
+    })
+}
+
+/// The name for this column, if there is one.
+fn name_at<'a>(names: &[&'a str], column: usize) -> Option<&'a str>
+    ensures { option_map (λ name. name.now) result ≡ slice_get (map (λ name. name.now) names.now) column }
+{
+    names.get(column).copied()
+}
+
+/// What a lane is called that was given this name, or none.
+fn name_of(alloc: Global, name: Option<&str>, lane: Author) -> Result<String, AllocError>
+    ensures { IfOk result (λ text. string_bytes text ≡ name_of (option_map (λ given. given.now) name.entry) lane) }
+{
+    match name {
+        Some(name) => format!(in alloc; "{name} ({lane})"),
+        None => format!(in alloc; "replica {lane}"),
+    }
+}
+
 /// The text of the replica's filter.
-fn filter_text<K: Knowledge>(scene: &Scene<K>, lane: Author) -> Result<String, AllocError> {
+fn filter_text<K: Knowledge>(scene: &Scene<K>, lane: Author) -> Result<String, AllocError>
+    ensures { IfOk result (λ text. IsFilterOf scene.now.world.now lane (string_bytes text)) }
+{
     match scene.world.replica(lane) {
         Some(replica) => replica.filter().text(),
         None => Ok(String::new(scene.alloc)),
@@ -126,11 +181,11 @@ fn filter_text<K: Knowledge>(scene: &Scene<K>, lane: Author) -> Result<String, A
 
 /// The text, or its beginning and two dots.
 fn cut(alloc: Global, text: &str) -> Result<String, AllocError> {
-    if text.len() <= MAX_FILTER {
-        return String::from_str(alloc, text);
+    let end = text.char_indices().nth(MOST_WRITTEN);
+    match end.and_then(|(end, _)| text.get(..end)) {
+        Some(beginning) => format!(in alloc; "{beginning}.."),
+        None => String::from_str(alloc, text),
     }
-    let beginning = text.get(..MAX_FILTER).unwrap_or("");
-    format!(in alloc; "{beginning}..")
 }
 
 /// The lanes themselves: thick as far as the replica admits events, and then thin.

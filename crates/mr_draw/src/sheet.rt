@@ -1,10 +1,10 @@
 //! The text of a picture.
 ghost use Rattle.std.specs.Prelude.{◌≡◌, ◌++◌, ◌≤◌, ◌<◌, ◌^◌, IfOk, OnOk, length, string_bytes};
 ghost use Rattle.std.specs.List.{flat_map};
-ghost use Rattle.mr_draw.specs.Sheet.{blank_text, fault_at, fault_text, foot_text, heading_text, left_out_text, legend_at, legend_text, name_at, named_text, opening_of, parts_text, sheet_text, size_text, width_of};
+ghost use Rattle.mr_draw.specs.Sheet.{blank_text, fault_at, fault_text, filter_at, foot_text, heading_text, left_out_text, legend_at, legend_text, name_at, name_y, named_text, opening_of, parts_text, sheet_text, size_text, title_text, width_of};
 
 use crate::escape::push_escaped;
-use crate::mark::{GAP, LEFT, Mark, push_marks, x_of, y_of};
+use crate::mark::{FEW_LANES, Mark, column_of, push_marks, x_at, x_of, y_of};
 use mr_version::Author;
 use std::alloc::{AllocError, Global};
 use std::marker::Model;
@@ -66,10 +66,14 @@ const LEGEND: &str =
 #[derive(Drop)]
 pub(crate) struct Heading {
     pub(crate) lane: Author,
-    /// The replica's filter, a long one cut.
+    /// What the lane is called, a long name cut.
+    pub(crate) caption: String,
+    /// The replica's filter, a long one cut; nothing where there are many lanes.
     pub(crate) label: String,
+    /// What the lane is called.
+    pub(crate) name: String,
     /// The replica's filter.
-    pub(crate) title: String,
+    pub(crate) filter_text: String,
 }
 
 impl Model for Heading {
@@ -78,7 +82,7 @@ impl Model for Heading {
 
     ghost Value = { HeadingView };
 
-    ghost view = { λ h. record { lane = h.lane; label = string_bytes h.label; title = string_bytes h.title } };
+    ghost view = { λ h. record { lane = h.lane; caption = string_bytes h.caption; label = string_bytes h.label; name = string_bytes h.name; filter_text = string_bytes h.filter_text } };
 }
 
 /// What a picture says.
@@ -180,7 +184,7 @@ fn width_of(lanes: u64) -> u64
     requires { lanes ≤ 64 }
     ensures { result ≡ width_of lanes }
 {
-    let width = LEFT + GAP * lanes.saturating_sub(1) + RIGHT;
+    let width = x_at(lanes, lanes.saturating_sub(1)) + RIGHT;
     if width < LEAST_WIDTH {
         LEAST_WIDTH
     } else {
@@ -204,36 +208,65 @@ fn push_heading(svg: &mut String, lanes: &[Author], heading: &Heading) -> Result
     requires { length lanes.now ≤ 64 }
     ensures { OnOk result (string_bytes svg.new ≡ string_bytes svg.old ++ heading_text lanes.now heading.now) }
 {
-    let (title, label) = (heading.title.as_str(), heading.label.as_str());
-    push_named(svg, x_of(lanes, heading.lane), heading.lane, title, label)
+    let x = x_of(lanes, heading.lane);
+    let y = name_y(lanes.len() as u64, column_of(lanes, heading.lane));
+    push_title(svg, heading.name.as_str(), heading.filter_text.as_str())?;
+    push_named(svg, x, y, heading.caption.as_str(), heading.label.as_str())?;
+    Ok(())
 }
 
-/// Adds the name of a lane that is so far from the left edge.
+/// How far a name is from the upper edge that stands above the lane in this column, where there are so many lanes.
+fn name_y(lanes: u64, column: u64) -> u64
+    ensures { result ≡ name_y lanes column }
+{
+    if lanes <= FEW_LANES {
+        22
+    } else {
+        18 + 16 * (column % 3)
+    }
+}
+
+/// Adds a name and a filter, as they are written so far from the left edge and from the upper one.
 fn push_named(
     svg: &mut String,
     x: u64,
-    lane: Author,
-    title: &str,
+    y: u64,
+    caption: &str,
     label: &str,
 ) -> Result<(), AllocError>
-    ensures { OnOk result (string_bytes svg.new ≡ string_bytes svg.old ++ named_text x lane title.now label.now) }
+    ensures { OnOk result (string_bytes svg.new ≡ string_bytes svg.old ++ named_text x y caption.now label.now) }
 {
-    svg.push_str("<g class='name'><title>")?;
-    push_escaped(svg, title)?;
-    push_name(svg, x, lane)?;
+    push_name_place(svg, x, y)?;
+    push_escaped(svg, caption)?;
+    push_filter_place(svg, x)?;
     push_escaped(svg, label)?;
     svg.push_str("</text></g>\n")?;
     Ok(())
 }
 
-/// Adds what follows the title of a lane's name, up to its filter.
-fn push_name(svg: &mut String, x: u64, lane: Author) -> Result<(), AllocError>
-    ensures { OnOk result (string_bytes svg.new ≡ string_bytes svg.old ++ name_at x lane) }
+/// Adds what pointing at a lane's name tells: all of it, and the whole filter.
+fn push_title(svg: &mut String, name: &str, filter: &str) -> Result<(), AllocError>
+    ensures { OnOk result (string_bytes svg.new ≡ string_bytes svg.old ++ title_text name.now filter.now) }
 {
-    write!(
-        svg,
-        "</title><text x='{x}' y='22'>replica {lane}</text><text class='filter' x='{x}' y='40'>"
-    )
+    svg.push_str("<g class='name'><title>")?;
+    push_escaped(svg, name)?;
+    svg.push_str(": ")?;
+    push_escaped(svg, filter)?;
+    Ok(())
+}
+
+/// Adds what stands between a lane's title and its name.
+fn push_name_place(svg: &mut String, x: u64, y: u64) -> Result<(), AllocError>
+    ensures { OnOk result (string_bytes svg.new ≡ string_bytes svg.old ++ name_at x y) }
+{
+    write!(svg, "</title><text x='{x}' y='{y}'>")
+}
+
+/// Adds what stands between a lane's name and its filter.
+fn push_filter_place(svg: &mut String, x: u64) -> Result<(), AllocError>
+    ensures { OnOk result (string_bytes svg.new ≡ string_bytes svg.old ++ filter_at x) }
+{
+    write!(svg, "</text><text class='filter' x='{x}' y='40'>")
 }
 
 /// Adds what stands below the last row, and the end.

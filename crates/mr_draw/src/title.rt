@@ -2,10 +2,12 @@
 use crate::ends::counts_of;
 use crate::happening::{Happening, Kind};
 use mr_mail::Message;
-use mr_replica::Bases;
 use mr_version::{Author, Version};
 use mr_world::Act;
 use std::alloc::{AllocError, Global};
+
+/// How many of the versions that an edit replaces are written at its dot.
+const MOST_BASES: usize = 2;
 
 /// What the happening tells, which comes of this act with its answer.
 pub(crate) fn title_of(
@@ -51,7 +53,7 @@ fn title_of_version(alloc: Global, version: Version, act: &Act) -> Result<String
         }
         Act::Edit(bases, message) => {
             let mut title = format!(in alloc; "{version} replaces")?;
-            push_bases(&mut title, bases)?;
+            push_bases(&mut title, bases.as_slice())?;
             push_message(&mut title, message)?;
             Ok(title)
         }
@@ -60,8 +62,8 @@ fn title_of_version(alloc: Global, version: Version, act: &Act) -> Result<String
 }
 
 /// Adds each version behind a space.
-fn push_bases(title: &mut String, bases: &Bases) -> Result<(), AllocError> {
-    for version in bases.as_slice() {
+fn push_bases(title: &mut String, bases: &[Version]) -> Result<(), AllocError> {
+    for version in bases {
         write!(title, " {version}")?;
     }
     Ok(())
@@ -89,14 +91,15 @@ fn title_of_cut(alloc: Global, lane: Author, act: &Act) -> Result<String, AllocE
     }
 }
 
-/// What is written at a happening.
+/// What is written at a happening, which comes of this act.
 pub(crate) fn label_of(
     alloc: Global,
     happenings: &[Happening],
     happening: &Happening,
+    act: &Act,
 ) -> Result<String, AllocError> {
     match happening.kind {
-        Kind::Issue(version) => format!(in alloc; "{version}"),
+        Kind::Issue(version) => label_of_version(alloc, version, act),
         Kind::TakeItem(_, _, version) => format!(in alloc; "+{version}"),
         Kind::TakeMoveOut(_, _, version) => format!(in alloc; "-{version}"),
         Kind::TakeOther(_, _) => Ok(String::new(alloc)),
@@ -109,6 +112,22 @@ pub(crate) fn label_of(
         Kind::Vouch(version) => format!(in alloc; "vouches {version}"),
         Kind::Release(version) => format!(in alloc; "lets go of {version}"),
     }
+}
+
+/// What is written at a version's dot: its name and, of an edit, what it replaces, of which the first two are named.
+fn label_of_version(alloc: Global, version: Version, act: &Act) -> Result<String, AllocError> {
+    let Act::Edit(bases, _) = act else {
+        return format!(in alloc; "{version}");
+    };
+    let mut label = format!(in alloc; "{version} for")?;
+    match bases.as_slice().get(..MOST_BASES) {
+        Some(first) if first.len() < bases.as_slice().len() => {
+            push_bases(&mut label, first)?;
+            label.push_str(" ..")?;
+        }
+        _ => push_bases(&mut label, bases.as_slice())?,
+    }
+    Ok(label)
 }
 
 /// What is written at a sync's band: how many items and move-outs were taken.

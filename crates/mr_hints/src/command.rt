@@ -40,6 +40,19 @@ const MOST_SLIPS: usize = 2;
 /// The longest name that is compared with those of commands, in bytes.
 const LONGEST_NAME: usize = 16;
 
+/// What some editors write before a text, to say how its characters are encoded.
+const BYTE_ORDER_MARK: char = '\u{feff}';
+
+/// The names by which other programs are ended.
+const ENDS: [&str; 4] = ["quit", "exit", "bye", "q"];
+
+/// The names by which other programs are asked for help.
+const HELPS: [&str; 3] = ["help", "h", "?"];
+
+/// What is wrong with a line that ends with a carriage return.
+const CARRIAGE_RETURN: &str =
+    "the line ends with a carriage return: end each line with a line feed alone";
+
 /// The first word of a text: all before its first space.
 pub(crate) fn first_word(text: &str) -> &str {
     match text.split_once(' ') {
@@ -62,14 +75,8 @@ pub(crate) fn usage_of(line: &str) -> Option<&'static str> {
 /// What is wrong with a name that is no command's.
 pub(crate) fn unknown_command(alloc: Global, line: &str) -> Result<String, AllocError> {
     let name = first_word(line);
-    if name.is_empty() {
-        return String::from_str(
-            alloc,
-            "a command stands at the line's start, with no space before it",
-        );
-    }
-    if name.ends_with('\r') {
-        return carriage_return(alloc);
+    if let Some(hint) = known_slip(name) {
+        return String::from_str(alloc, hint);
     }
     if let Some(command) = in_small_letters(name) {
         return format!(in alloc; "commands are in small letters: write {command}");
@@ -85,10 +92,31 @@ pub(crate) fn unknown_command(alloc: Global, line: &str) -> Result<String, Alloc
 
 /// What is wrong with a line that ends with a carriage return.
 pub(crate) fn carriage_return(alloc: Global) -> Result<String, AllocError> {
-    String::from_str(
-        alloc,
-        "the line ends with a carriage return: end each line with a line feed alone",
-    )
+    String::from_str(alloc, CARRIAGE_RETURN)
+}
+
+/// What is wrong with a name that shows by itself what was meant.
+fn known_slip(name: &str) -> Option<&'static str> {
+    if name.is_empty() {
+        Some("a command stands at the line's start, with no space before it")
+    } else if name.starts_with(BYTE_ORDER_MARK) {
+        Some("the line begins with a byte order mark: save the script as UTF-8 without one")
+    } else if name.ends_with('\r') {
+        Some(CARRIAGE_RETURN)
+    } else if is_one_of(name, &ENDS) {
+        Some(
+            "a script ends where its input does: at a terminal type Control-D at the start of a line",
+        )
+    } else if is_one_of(name, &HELPS) {
+        Some("mailrep run --help lists the commands")
+    } else {
+        None
+    }
+}
+
+/// Whether it is one of these names, but for capitals.
+fn is_one_of(name: &str, names: &[&str]) -> bool {
+    names.iter().any(|other| other.eq_ignore_ascii_case(name))
 }
 
 /// The command of this name, if it is one's but for capitals.

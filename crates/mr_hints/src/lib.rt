@@ -57,7 +57,7 @@ pub fn hint(alloc: Global, line: &str, fault: LineFault) -> Result<Option<String
 /// What is right where a fault alone tells that.
 fn rule_of(fault: LineFault) -> &'static str {
     match fault {
-        LineFault::NotText => "a script is UTF-8 text, and this line is none",
+        LineFault::NotText => "a script is UTF-8 text, and this line is none: save it as UTF-8",
         LineFault::LateReplica => "lines that make replicas come before all other commands",
         LineFault::SameReplica => {
             "a line before this one made a replica of this id: give this one another"

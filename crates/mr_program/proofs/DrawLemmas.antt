@@ -25,29 +25,29 @@ none_is_not_some : {A : Type 0} (x : A) → Some x ≡ None → ⊥
 none_is_not_some x e = cc
 
 -- the picture of what a script left: of its world
-pub draws_world : {K : Type 0} (s : Stage K) (w : WorldView K) → Some w ≡ world_of s → (under svg : List ℕ) → Draws w under svg → DrawsStage s under svg
-draws_world (opening specs) w is under svg draws = absurd (none_is_not_some w is)
-draws_world {K} (running v) w is under svg draws = subst (λ (x : WorldView K). Draws x under svg) (same_if_some w v is) draws
+pub draws_world : {K : Type 0} (s : Stage K) (w : WorldView K) → Some w ≡ world_of s → (names : List (List ℕ)) → (under svg : List ℕ) → Draws w names under svg → DrawsStage names s under svg
+draws_world (opening specs) w is names under svg draws = absurd (none_is_not_some w is)
+draws_world {K} (running v) w is names under svg draws = subst (λ (x : WorldView K). Draws x names under svg) (same_if_some w v is) draws
 
 -- or of none
-pub draws_none : {K : Type 0} (s : Stage K) → None ≡ world_of s → (under svg : List ℕ) → svg ≡ blank_text under → DrawsStage s under svg
-draws_none (opening specs) is under svg draws = draws
-draws_none (running v) is under svg draws = absurd (none_is_not_some v (sym is))
+pub draws_none : {K : Type 0} (s : Stage K) → None ≡ world_of s → (names : List (List ℕ)) → (under svg : List ℕ) → svg ≡ blank_text under → DrawsStage names s under svg
+draws_none (opening specs) is names under svg draws = draws
+draws_none (running v) is names under svg draws = absurd (none_is_not_some v (sym is))
 
-module _ {K : Type 0} (form : Form K) (script : List ℕ) (last : Stage K) (end : Option ScriptFault) (old new : Option (List ℕ)) where
+module _ {K : Type 0} (form : Form K) (names : List (List ℕ)) (script : List ℕ) (last : Stage K) (end : Option ScriptFault) (old new : Option (List ℕ)) where
   -- the picture was written
-  drawn : (stop : Option ScriptFault) → ScriptLeaves form bare script stop last → (svg : List ℕ) → DrawsStage last (text_under (ending_of stop)) svg → Appends old new svg → EndsPicture form script (ending_of stop) old new
+  drawn : (stop : Option ScriptFault) → ScriptLeaves form bare script stop last → (svg : List ℕ) → DrawsStage names last (text_under (ending_of stop)) svg → Appends old new svg → EndsPicture form names script (ending_of stop) old new
   drawn None leaves svg draws are = record { end = None; is = refl; last = last; leaves = leaves; svg = svg; draws = draws; are = are }
   drawn (Some fault) leaves svg draws are = record { end = Some fault; is = refl; last = last; leaves = leaves; svg = svg; draws = draws; are = are }
 
   -- or the write failed
-  written : (ran result : Ending) → ScriptLeaves form bare script end last → ran ≡ ending_of end → (svg : List ℕ) → DrawsStage last (text_under ran) svg
-      → ((result ≡ ran) × Appends old new svg) ⊎ (result ≡ Stopped Write) → EndsPicture form script result old new
+  written : (ran result : Ending) → ScriptLeaves form bare script end last → ran ≡ ending_of end → (svg : List ℕ) → DrawsStage names last (text_under ran) svg
+      → ((result ≡ ran) × Appends old new svg) ⊎ (result ≡ Stopped Write) → EndsPicture form names script result old new
   written ran result leaves is svg draws (inl p) = rw (p.0, is) (drawn end leaves svg (rw is at draws) p.1)
   written ran result leaves is svg draws (inr failed) = rw failed tt
 
   -- or there was no memory for it
   pub ends_picture : (ran result : Ending) → ScriptLeaves form bare script end last → ran ≡ ending_of end → (picture : Result (String Global) AllocError)
-      → IfOk picture (λ svg. DrawsStage last (text_under ran) (string_bytes svg)) → PrintsPicture picture ran result old new → EndsPicture form script result old new
+      → IfOk picture (λ svg. DrawsStage names last (text_under ran) (string_bytes svg)) → PrintsPicture picture ran result old new → EndsPicture form names script result old new
   ends_picture ran result leaves is (Ok svg) draws prints = written ran result leaves is (string_bytes svg) draws prints
   ends_picture ran result leaves is (Err error) draws prints = rw prints tt

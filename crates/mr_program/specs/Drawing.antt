@@ -14,7 +14,7 @@ use Rattle.mr_draw.specs.Sheet.{blank_text}
 use Rattle.mr_program.specs.declared.ending.Fault.{Fault}
 use Rattle.mr_program.specs.declared.ending.Fault.TheVariants.{CommandLine, Write, OutOfMemory, NotTwo, Script}
 use Rattle.mr_program.specs.declared.ending.Ending.{Ending}
-use Rattle.mr_program.specs.declared.ending.Ending.TheVariants.{Done, NoFrame, Unexplained, WrongCommandLine, Stopped}
+use Rattle.mr_program.specs.declared.ending.Ending.TheVariants.{Done, NoFrame, Unexplained, WrongCommandLine, Closed, Stopped}
 use Rattle.mr_program.specs.Ending.{ending_of}
 use Rattle.mr_program.specs.Text.{fault_text}
 
@@ -25,11 +25,12 @@ text_under Done = []
 text_under NoFrame = []
 text_under Unexplained = []
 text_under WrongCommandLine = []
+text_under Closed = []
 
--- the picture of the world that a script left; of no replica where it came to no world
-abbrev pub DrawsStage : {K : Type 0} → Stage K → (under svg : List ℕ) → Type 0
-DrawsStage (opening specs) under svg = svg ≡ blank_text under
-DrawsStage (running w) under svg = Draws w under svg
+-- the picture of the world that a script left, with these names above its lanes; of no replica where it came to no world
+abbrev pub DrawsStage : {K : Type 0} → (names : List (List ℕ)) → Stage K → (under svg : List ℕ) → Type 0
+DrawsStage names (opening specs) under svg = svg ≡ blank_text under
+DrawsStage names (running w) under svg = Draws w names under svg
 
 -- The picture was written and the program ends as the script did, or the write failed; or there was no memory for a picture.
 abbrev pub PrintsPicture : Result (String Global) AllocError → (ran result : Ending) → (old new : Option (List ℕ)) → Type 0
@@ -37,23 +38,24 @@ PrintsPicture (Ok svg) ran result old new = ((result ≡ ran) × Appends old new
 PrintsPicture (Err error) ran result old new = result ≡ Stopped OutOfMemory
 
 -- It ends as the script does, and the picture was written of what the script left, with its fault under it.
-pub record DrawsScript {K : Type 0} (form : Form K) (script : List ℕ) (ending : Ending) (old new : Option (List ℕ)) : Type 0 where
+pub record DrawsScript {K : Type 0} (form : Form K) (names : List (List ℕ)) (script : List ℕ) (ending : Ending) (old new : Option (List ℕ)) : Type 0 where
   pub end : Option ScriptFault
   pub is : ending ≡ ending_of end
   pub last : Stage K
   pub leaves : ScriptLeaves form bare script end last
   pub svg : List ℕ
-  pub draws : DrawsStage last (text_under ending) svg
+  pub draws : DrawsStage names last (text_under ending) svg
   pub are : Appends old new svg
 
 -- the picture was written; or there was no memory for it, or a write failed
-abbrev pub EndsPicture : {K : Type 0} → Form K → List ℕ → Ending → (old new : Option (List ℕ)) → Type 0
-EndsPicture form script (Stopped Write) old new = ⊤
-EndsPicture form script (Stopped OutOfMemory) old new = ⊤
-EndsPicture form script (Stopped CommandLine) old new = ⊥
-EndsPicture form script (Stopped NotTwo) old new = ⊥
-EndsPicture form script (Stopped (Script fault)) old new = DrawsScript form script (Stopped (Script fault)) old new
-EndsPicture form script Done old new = DrawsScript form script Done old new
-EndsPicture form script NoFrame old new = ⊥
-EndsPicture form script Unexplained old new = ⊥
-EndsPicture form script WrongCommandLine old new = ⊥
+abbrev pub EndsPicture : {K : Type 0} → Form K → (names : List (List ℕ)) → List ℕ → Ending → (old new : Option (List ℕ)) → Type 0
+EndsPicture form names script (Stopped Write) old new = ⊤
+EndsPicture form names script (Stopped OutOfMemory) old new = ⊤
+EndsPicture form names script (Stopped CommandLine) old new = ⊥
+EndsPicture form names script (Stopped NotTwo) old new = ⊥
+EndsPicture form names script (Stopped (Script fault)) old new = DrawsScript form names script (Stopped (Script fault)) old new
+EndsPicture form names script Done old new = DrawsScript form names script Done old new
+EndsPicture form names script NoFrame old new = ⊥
+EndsPicture form names script Unexplained old new = ⊥
+EndsPicture form names script WrongCommandLine old new = ⊥
+EndsPicture form names script Closed old new = ⊥

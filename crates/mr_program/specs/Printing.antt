@@ -12,7 +12,7 @@ use Rattle.mr_live.specs.declared.fault.LiveFault.{LiveFault}
 use Rattle.mr_program.specs.declared.ending.Fault.{Fault}
 use Rattle.mr_program.specs.declared.ending.Fault.TheVariants.{CommandLine, Write, OutOfMemory, NotTwo, Script}
 use Rattle.mr_program.specs.declared.ending.Ending.{Ending}
-use Rattle.mr_program.specs.declared.ending.Ending.TheVariants.{Done, NoFrame, Unexplained, WrongCommandLine, Stopped}
+use Rattle.mr_program.specs.declared.ending.Ending.TheVariants.{Done, NoFrame, Unexplained, WrongCommandLine, Closed, Stopped}
 use Rattle.mr_program.specs.Ending.{ending_of, ending_of_live}
 
 -- it ends as the script does, and unless a write failed it was written what the script prints
@@ -46,3 +46,4 @@ EndsFrame word (Stopped NotTwo) old new = ⊥
 EndsFrame word Unexplained old new = ⊥
 EndsFrame word (Stopped (Script fault)) old new = ⊥
 EndsFrame word WrongCommandLine old new = ⊥
+EndsFrame word Closed old new = ⊥

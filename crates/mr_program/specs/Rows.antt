@@ -5,10 +5,10 @@ use Rattle.mr_command.specs.declared.fault.LineFault.TheVariants.{BadFilter, Bad
 use Rattle.mr_script.specs.declared.fault.ScriptFault.TheVariants.{Line, Read, TooLong}
 use Rattle.mr_script.specs.declared.fault.ScriptFault.TheVariants as script
 use Rattle.mr_live.specs.declared.fault.LiveFault.TheVariants as live
-use Rattle.mr_program.specs.declared.ending.Fault.TheVariants.{CommandLine, OutOfMemory, Script}
-use Rattle.mr_program.specs.declared.ending.Ending.TheVariants.{Done, Stopped}
+use Rattle.mr_program.specs.declared.ending.Fault.TheVariants.{CommandLine, Write, OutOfMemory, Script}
+use Rattle.mr_program.specs.declared.ending.Ending.TheVariants.{Done, Closed, Stopped}
 use Rattle.mr_program.specs.Drawing.{text_under}
-use Rattle.mr_program.specs.Ending.{ending_of, ending_of_live, status_of}
+use Rattle.mr_program.specs.Ending.{ending_behind, ending_of, ending_of_live, status_of}
 use Rattle.mr_program.specs.Text.{fault_text}
 
 -- a faulty line is told with its number
@@ -48,6 +48,24 @@ write_status = refl
 -- a command line that is no text is wrong
 pub no_text_status : status_of (Stopped CommandLine) ≡ 2
 no_text_status = refl
+
+-- a write that failed is none to tell of where nobody reads on, of a script's answers or of any other text
+pub closed_script : ending_behind true (ending_of (Some script.Write)) ≡ Closed
+closed_script = refl
+
+pub closed_text : ending_behind true (Stopped Write) ≡ Closed
+closed_text = refl
+
+-- but it is told where the output failed otherwise
+pub failed_write : ending_behind false (Stopped Write) ≡ Stopped Write
+failed_write = refl
+
+-- and a faulty line is, also where nobody reads on
+pub faulty_line : ending_behind true (ending_of (Some (Line 1 BadNumber))) ≡ ending_of (Some (Line 1 BadNumber))
+faulty_line = refl
+
+pub closed_status : status_of Closed ≡ 1
+closed_status = refl
 
 -- two nodes whose logs join are status 0
 pub joined_status : status_of (ending_of_live (Ok true)) ≡ 0

@@ -1,4 +1,5 @@
 //! The words of the command line, and the help.
+use clap::builder::ValueParser;
 use clap::{Arg, ArgAction, ArgMatches, Command, Error};
 use std::alloc::{AllocError, Global};
 
@@ -95,23 +96,28 @@ The page docs/SCRIPTS.md has an example of each command, and of each fault with 
 Exit status:
   0  the script ran to its end (a replica's refusal is an answer, no fault)
   1  a fault, told on standard error as `line N: TEXT`, `read fault`, `write fault` or
-     `script too long`; the answers of the lines before it stand. With --hints a second line
-     `hint: TEXT` follows the fault of a line. A FILE that can't be opened is a `read fault`
+     `script too long`; the answers of the lines before it stand. A FILE that can't be opened is a
+     `read fault`. Nothing is told where the output's reader has closed it, as `head` does. With
+     --hints a second line `hint: TEXT` follows the fault of a line and a `read fault`
   2  a wrong command line";
 
 const DRAW_ABOUT: &str =
     "Runs the script in FILE, or on standard input, and prints an SVG picture of what happened in it.
 
-Time goes downwards, and each replica has a lane. A version is a dot with its name, a sync a band
-with what it took, and a record that was taken an arrow. Pointing at a mark tells the rest. The page
-has all that it needs, and is light or dark as its reader's is.";
+Time goes downwards, and each replica has a lane. A version is a dot with its name and those that it
+replaces, a sync a band with what it took, and a record that was taken an arrow. Pointing at a mark
+tells the rest. The page has all that it needs, and is light or dark as its reader's is.";
 
 const DRAW_AFTER: &str =
     "Each event that is shown has a row of its own. The first 400 have one, and the picture says how many
 later ones are left out. Questions and refusals are not shown.
 
+Lanes stand from left to right by their replicas' ids, and --names names them in this order: a lane for
+which no name is left is called by its id. With more than 12 lanes they are closer, and pointing at a
+name tells the filter.
+
 Example:
-  $ mailrep draw < examples/first.script > history.svg
+  $ mailrep draw --names office,phone examples/first.script > history.svg
 
 The lines of a script are those of `mailrep run`, whose help has them all.
 
@@ -197,6 +203,9 @@ const SPARING: &str = "sparing";
 /// The id of the option that asks for hints.
 const HINTS: &str = "hints";
 
+/// The id of the option that names the lanes of a picture.
+const NAMES: &str = "names";
+
 /// The form in which a script's replicas keep what they know.
 #[derive(Clone, Copy)]
 pub enum Form {
@@ -216,7 +225,7 @@ pub enum Wanted {
 }
 
 /// How a script is run.
-#[derive(Clone, Copy)]
+#[derive(Drop)]
 pub struct Run<'a> {
     /// What is printed.
     pub wanted: Wanted,
@@ -224,20 +233,14 @@ pub struct Run<'a> {
     pub form: Form,
     /// The name of the script's file; none is standard input.
     pub file: Option<&'a str>,
-    /// Whether a hint follows a line's fault.
+    /// Whether a hint follows a fault.
     pub has_hints: bool,
+    /// The names of a picture's lanes, from left to right.
+    pub names: Vec<&'a str>,
 }
 
-/// A run without options.
-const PLAIN_RUN: Run<'static> = Run {
-    wanted: Wanted::Answers,
-    form: Form::Items,
-    file: None,
-    has_hints: false,
-};
-
 /// What a command line asks for.
-#[derive(Clone, Copy)]
+#[derive(Drop)]
 pub enum Request<'a> {
     /// To run a script.
     Run(Run<'a>),
@@ -255,19 +258,31 @@ pub fn read_command_line<'a>(alloc: Global, words: &'a [String]) -> Result<Reque
         return Ok(Request::Frame(frame.get_str(HEX).unwrap_or("")));
     }
     if let Some(run) = matches.subcommand_matches("run") {
-        return Ok(Request::Run(run_of(run, Wanted::Answers)));
+        return Ok(Request::Run(run_of(run, Wanted::Answers, Vec::new(alloc))));
     }
     if let Some(draw) = matches.subcommand_matches("draw") {
-        return Ok(Request::Run(run_of(draw, Wanted::Picture)));
+        let names = draw.get_strs(NAMES).unwrap_or(&[]).to_vec(alloc)?;
+        return Ok(Request::Run(run_of(draw, Wanted::Picture, names)));
     }
     if let Some(live) = matches.subcommand_matches("live") {
         return Ok(Request::Live(file_of(live)));
     }
-    Ok(Request::Run(PLAIN_RUN))
+    Ok(Request::Run(plain_run(alloc)))
+}
+
+/// A run without options.
+fn plain_run<'a>(alloc: Global) -> Run<'a> {
+    Run {
+        wanted: Wanted::Answers,
+        form: Form::Items,
+        file: None,
+        has_hints: false,
+        names: Vec::new(alloc),
+    }
 }
 
 /// The run that the words of a subcommand ask for.
-fn run_of<'a>(matches: &ArgMatches<'a>, wanted: Wanted) -> Run<'a> {
+fn run_of<'a>(matches: &ArgMatches<'a>, wanted: Wanted, names: Vec<&'a str>) -> Run<'a> {
     Run {
         wanted,
         form: if matches.get_flag(SPARING) {
@@ -277,6 +292,7 @@ fn run_of<'a>(matches: &ArgMatches<'a>, wanted: Wanted) -> Run<'a> {
         },
         file: file_of(matches),
         has_hints: matches.get_flag(HINTS),
+        names,
     }
 }
 
@@ -300,7 +316,13 @@ fn draw_command<'a>(alloc: Global) -> Result<Command<'a>, AllocError> {
         .about("Runs a script, and prints a picture of what happened")
         .long_about(DRAW_ABOUT)
         .after_long_help(DRAW_AFTER);
-    with_script_words(alloc, command)
+    let names = Arg::new(alloc, NAMES)
+        .long(NAMES)
+        .value_name("NAMES")
+        .help("The names of the lanes from left to right, with commas between them")
+        .value_delimiter(',')
+        .value_parser(ValueParser::NonEmptyString);
+    with_script_words(alloc, command)?.arg(names)
 }
 
 /// The subcommand, with the words that say how a script is run.
@@ -311,7 +333,7 @@ fn with_script_words<'a>(alloc: Global, command: Command<'a>) -> Result<Command<
         .action(ArgAction::SetTrue);
     let hints = Arg::new(alloc, HINTS)
         .long(HINTS)
-        .help("Behind the fault of a line, a second line says what was wrong and what is right")
+        .help("Behind a fault, a second line says what was wrong and what is right")
         .action(ArgAction::SetTrue);
     command.arg(file_word(alloc))?.arg(sparing)?.arg(hints)
 }

@@ -1,5 +1,5 @@
 //! `mailrep draw`: a script is run, and the picture of its world is printed.
-ghost use Rattle.std.specs.Prelude.{IfOk, IfSome, string_bytes};
+ghost use Rattle.std.specs.Prelude.{IfOk, IfSome, map, string_bytes};
 ghost use Rattle.mr_program.specs.Drawing.{DrawsStage, EndsPicture, PrintsPicture, text_under};
 
 use crate::ending::{Ending, Fault, ending_of_run, text_under};
@@ -13,18 +13,19 @@ use std::io::{Read, Write};
 /// Runs the script that the reader gives over a form of knowledge, prints the picture of the world that it makes, and says
 /// how the program ends: as the script does, but where there is no memory for the picture, or it can't be written.
 ///
-/// A fault ends the script as in a run: the picture is of what was done before it, and has the fault's text under it.
+/// These names stand above the lanes from left to right. A fault ends the script as in a run: the picture is of what was done before it, and has the fault's text under it.
 pub fn end_picture<K: Knowledge, R: Read + Drop, W: Write>(
     alloc: Global,
+    names: &[&str],
     reader: R,
     output: &mut W,
 ) -> Ending
     ensures { IfSome (R.remaining reader)
-        (λ script. EndsPicture K.form script result (W.contents output.old) (W.contents output.new)) }
+        (λ script. EndsPicture K.form (map (λ name. name.now) names.now) script result (W.contents output.old) (W.contents output.new)) }
 {
     let mut interpreter = Interpreter::<K>::new(alloc);
     let ending = ending_of_run(run_script_in(alloc, reader, &mut interpreter));
-    let picture = picture(alloc, &interpreter, ending);
+    let picture = picture(alloc, names, &interpreter, ending);
     print_picture(picture, ending, output)
 }
 
@@ -48,14 +49,15 @@ fn print_picture<W: Write>(
 /// The picture of what the script came to, with what ended it under it.
 fn picture<K: Knowledge>(
     alloc: Global,
+    names: &[&str],
     interpreter: &Interpreter<K>,
     ending: Ending,
 ) -> Result<String, AllocError>
-    ensures { IfOk result (λ svg. DrawsStage interpreter.now (text_under ending) (string_bytes svg)) }
+    ensures { IfOk result (λ svg. DrawsStage (map (λ name. name.now) names.now) interpreter.now (text_under ending) (string_bytes svg)) }
 {
     let under = text_under(alloc, ending)?;
     match interpreter.world() {
-        Some(world) => draw(alloc, world, under.as_str()),
+        Some(world) => draw(alloc, world, names, under.as_str()),
         None => draw_nothing(alloc, under.as_str()),
     }
 }

@@ -2,9 +2,10 @@
 ghost use Rattle.std.specs.Prelude.{◌≡◌, ◌≤◌, Some, IfOk, OnOk, string_bytes};
 ghost use Rattle.mr_script.specs.Run.{end_of};
 ghost use Rattle.mr_program.specs.Drawing.{text_under};
-ghost use Rattle.mr_program.specs.Ending.{IsTold, ending_of, ending_of_live, status_of};
+ghost use Rattle.mr_program.specs.Ending.{IsTold, ending_behind, ending_of, ending_of_live, status_of};
 ghost use Rattle.mr_program.specs.Text.{fault_text, line_fault_text, script_fault_text};
 
+use crate::piped::Piped;
 use mr_live::LiveFault;
 use mr_script::{LineFault, ScriptFault};
 use std::alloc::{AllocError, Global};
@@ -36,6 +37,8 @@ pub enum Ending {
     Unexplained,
     /// The command line is wrong, and standard error says how.
     WrongCommandLine,
+    /// Whoever reads standard output closed it before all was written.
+    Closed,
     /// A fault ended it.
     Stopped(Fault),
 }
@@ -63,6 +66,20 @@ pub fn ending_of_live(ended: Result<bool, LiveFault>) -> Ending
     }
 }
 
+/// How the program ends whose output ended so, and whose reader has closed it or not: where it has, a write fault is
+/// `Closed`.
+pub fn ending_behind(is_closed: bool, ending: Ending) -> Ending
+    ensures { result ≡ ending_behind is_closed ending }
+{
+    if !is_closed {
+        return ending;
+    }
+    match ending {
+        Ending::Stopped(Fault::Write | Fault::Script(ScriptFault::Write)) => Ending::Closed,
+        other => other,
+    }
+}
+
 /// The exit status of an ending: 0 where all was done, 2 for a wrong command line, and else 1.
 pub fn exit_of(ending: Ending) -> u8
     ensures status { result ≡ status_of ending }
@@ -73,12 +90,13 @@ pub fn exit_of(ending: Ending) -> u8
         Ending::WrongCommandLine | Ending::Stopped(Fault::CommandLine) => 2,
         Ending::NoFrame => 1,
         Ending::Unexplained => 1,
+        Ending::Closed => 1,
         Ending::Stopped(Fault::Write | Fault::OutOfMemory | Fault::NotTwo | Fault::Script(_)) => 1,
     }
 }
 
-/// Tells standard error why the program ends before its end, in one line. Of another ending it is told nothing.
-/// It takes no memory. After an error a beginning of the line may have been written.
+/// Tells standard error why the program ends before its end, in one line. Of another ending it is told nothing, nor where
+/// nobody reads the output any more. It takes no memory. After an error a beginning of the line may have been written.
 pub fn tell<E: Write>(ending: Ending, errors: &mut E) -> io::Result<()>
     ensures { OnOk result (IsTold ending E.contents errors.old errors.new) }
 {
@@ -87,7 +105,11 @@ pub fn tell<E: Write>(ending: Ending, errors: &mut E) -> io::Result<()>
             let text = FaultText(fault);
             writeln!(errors, "{text}")
         }
-        Ending::Done | Ending::NoFrame | Ending::Unexplained | Ending::WrongCommandLine => Ok(()),
+        Ending::Done
+        | Ending::NoFrame
+        | Ending::Unexplained
+        | Ending::WrongCommandLine
+        | Ending::Closed => Ok(()),
     }
 }
 
@@ -100,6 +122,19 @@ pub fn leave<E: Write>(ending: Ending, errors: &mut E) -> u8
     exit_of(ending)
 }
 
+/// Tells why the program ends whose output went there, and gives its exit status: as `leave` does, but of a write that
+/// failed since nobody reads on nothing is told.
+pub(crate) fn leave_behind<W: Write, E: Write>(
+    ending: Ending,
+    output: &Piped<W>,
+    errors: &mut E,
+) -> u8
+    ensures status { result ≡ status_of (ending_behind output.now.is_closed ending) }
+    ensures within { result ≤ 2 }
+{
+    leave(ending_behind(output.is_closed(), ending), errors)
+}
+
 /// What stands under a picture: what standard error is told of a fault, and nothing at another ending.
 pub(crate) fn text_under(alloc: Global, ending: Ending) -> Result<String, AllocError>
     ensures { IfOk result (λ text. string_bytes text ≡ text_under ending) }
@@ -109,9 +144,11 @@ pub(crate) fn text_under(alloc: Global, ending: Ending) -> Result<String, AllocE
             let text = FaultText(fault);
             format!(in alloc; "{text}")
         }
-        Ending::Done | Ending::NoFrame | Ending::Unexplained | Ending::WrongCommandLine => Ok(
-            String::new(alloc),
-        ),
+        Ending::Done
+        | Ending::NoFrame
+        | Ending::Unexplained
+        | Ending::WrongCommandLine
+        | Ending::Closed => Ok(String::new(alloc)),
     }
 }
 

@@ -6,6 +6,7 @@
 //! `mailrep frame HEX` prints what `frame_text` says of HEX. Here stand the command line with its help, how the program
 //! ends, and its exit status: 0; 1 for a script, read or write fault, for a HEX that spells no frame, or where memory runs
 //! out, or where the logs of two nodes do not join; 2 for a wrong command line. A fault's text goes to standard error, and with `--hints` a hint behind it.
+//! Where the reader of standard output has closed it, that is no fault to tell of.
 //!
 //! [`run_mailrep`] is all of `main`. What it reads and writes are parameters, so that a program can call it with many
 //! command lines, and with readers and writers that fail.
@@ -16,16 +17,24 @@ ghost use Rattle.std.specs.Prelude.{◌≤◌};
 mod command_line;
 mod draw;
 mod ending;
+mod hints;
 mod live;
+mod noticing;
+mod piped;
 mod remembering;
 mod run;
 
 use command_line::{Request, Run, read_command_line};
 pub use draw::end_picture;
-pub use ending::{Ending, Fault, ending_of_live, ending_of_run, exit_of, leave, tell};
+use ending::leave_behind;
+pub use ending::{
+    Ending, Fault, ending_behind, ending_of_live, ending_of_run, exit_of, leave, tell,
+};
+use hints::tell_reason;
 pub use live::end_live;
 use live::live_named;
 use mr_script::ScriptFault;
+use piped::Piped;
 pub use run::{end_frame, end_script};
 use run::{answer_command_line, run_reader};
 use std::alloc::Global;
@@ -70,20 +79,34 @@ where
         Ok(words) => words,
         Err(fault) => return leave(Ending::Stopped(fault), errors),
     };
+    let mut output = Piped::new(output);
     match read_command_line(rt.alloc(), words.as_slice()) {
-        Ok(Request::Frame(hex)) => leave(end_frame(rt.alloc(), hex, output), errors),
-        Ok(Request::Run(how)) => run_named(rt.alloc(), how, scripts, input, output, errors),
+        Ok(Request::Frame(hex)) => tell_frame(rt.alloc(), hex, &mut output, errors),
+        Ok(Request::Run(how)) => run_named(rt.alloc(), &how, scripts, input, &mut output, errors),
         Ok(Request::Live(file)) => live_named(
             threads,
             rt.alloc(),
             file,
             scripts,
             input,
-            output,
+            &mut output,
             errors,
         ),
-        Err(error) => answer_command_line(&error, output, errors),
+        Err(error) => answer_command_line(&error, &mut output, errors),
     }
+}
+
+/// Prints what the frame says that the word spells, and gives the exit status.
+fn tell_frame<W: Write, E: Write>(
+    alloc: Global,
+    word: &str,
+    output: &mut Piped<W>,
+    errors: &mut E,
+) -> u8
+    ensures { result ≤ 2 }
+{
+    let ending = end_frame(alloc, word, output);
+    leave_behind(ending, output, errors)
 }
 
 /// The words of the command line, the program's name first.
@@ -98,10 +121,10 @@ fn words<R: Env + AllocGlobal>(rt: &R) -> Result<Vec<String>, Fault> {
 /// Runs the script of the file that is named, or of the input, and gives the exit status.
 fn run_named<S: Scripts, I: Read + Drop, W: Write, E: Write>(
     alloc: Global,
-    how: Run,
+    how: &Run,
     scripts: &S,
     input: I,
-    output: &mut W,
+    output: &mut Piped<W>,
     errors: &mut E,
 ) -> u8
     ensures { result ≤ 2 }
@@ -111,6 +134,17 @@ fn run_named<S: Scripts, I: Read + Drop, W: Write, E: Write>(
     };
     match scripts.open_script(name) {
         Ok(script) => run_reader(alloc, how, script, output, errors),
-        Err(_) => leave(Ending::Stopped(Fault::Script(ScriptFault::Read)), errors),
+        Err(error) => leave_unopened(how, error.kind(), errors),
     }
+}
+
+/// Tells that the script can't be opened, with why where hints are wanted, and gives the exit status.
+fn leave_unopened<E: Write>(how: &Run, kind: io::ErrorKind, errors: &mut E) -> u8
+    ensures { result ≤ 2 }
+{
+    let status = leave(Ending::Stopped(Fault::Script(ScriptFault::Read)), errors);
+    if how.has_hints {
+        tell_reason(how.file, kind, errors);
+    }
+    status
 }

@@ -3,7 +3,8 @@ ghost use Rattle.std.specs.Prelude.{◌≤◌, IfSome};
 ghost use Rattle.mr_program.specs.Printing.{EndsLive};
 
 use crate::Scripts;
-use crate::ending::{Ending, Fault, ending_of_live, leave};
+use crate::ending::{Ending, Fault, ending_of_live, leave, leave_behind};
+use crate::piped::Piped;
 use mr_forms::OneValue;
 use mr_itemset::ItemKnowledge;
 use mr_live::run_live;
@@ -20,7 +21,7 @@ pub(crate) fn live_named<T, S, I, W, E>(
     file: Option<&str>,
     scripts: &S,
     input: I,
-    output: &mut W,
+    output: &mut Piped<W>,
     errors: &mut E,
 ) -> u8
 where
@@ -32,18 +33,31 @@ where
     ensures { result ≤ 2 }
 {
     let Some(name) = file else {
-        return leave(
-            end_live::<ItemKnowledge, T, I, W>(threads, alloc, input, output),
-            errors,
-        );
+        return live_reader(threads, alloc, input, output, errors);
     };
     match scripts.open_script(name) {
-        Ok(script) => leave(
-            end_live::<ItemKnowledge, T, S::Script, W>(threads, alloc, script, output),
-            errors,
-        ),
+        Ok(script) => live_reader(threads, alloc, script, output, errors),
         Err(_) => leave(Ending::Stopped(Fault::Script(ScriptFault::Read)), errors),
     }
+}
+
+/// Runs the live script that the reader gives, and gives the exit status.
+fn live_reader<T, I, W, E>(
+    threads: &T,
+    alloc: Global,
+    reader: I,
+    output: &mut Piped<W>,
+    errors: &mut E,
+) -> u8
+where
+    T: Threads + Wait + Sync + Send + Copy,
+    I: Read + Drop,
+    W: Write,
+    E: Write,
+    ensures { result ≤ 2 }
+{
+    let ending = end_live::<ItemKnowledge, T, I, Piped<W>>(threads, alloc, reader, output);
+    leave_behind(ending, output, errors)
 }
 
 /// Runs the live script that the reader gives over a form of knowledge, prints what its replicas hold, and says how the program

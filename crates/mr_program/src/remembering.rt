@@ -5,15 +5,16 @@ ghost use Rattle.std.specs.Io.KnownBytes.{ReadConsumes};
 ghost use Rattle.mr_program.specs.Remembering.{remembering_remaining};
 
 use std::alloc::Global;
-use std::io::Read;
+use std::io::{ErrorKind, Read};
 use std::{io, str};
 
-/// A reader that remembers all that it gave, as far as there is memory for it.
+/// A reader that remembers all that it gave, as far as there is memory for it, and how it failed.
 #[derive(Drop)]
 pub(crate) struct Remembering<R> {
     reader: R,
     given: Vec<u8>,
     is_whole: bool,
+    failure: Option<ErrorKind>,
 }
 
 impl<R: Read> Remembering<R> {
@@ -25,7 +26,13 @@ impl<R: Read> Remembering<R> {
             reader,
             given: Vec::new(alloc),
             is_whole: true,
+            failure: None,
         }
+    }
+
+    /// How its last call failed that did.
+    pub(crate) fn failure(&self) -> Option<ErrorKind> {
+        self.failure
     }
 
     /// The line of this number, from 1, without its line feed; an empty text for one that is none. Nothing where there
@@ -60,8 +67,15 @@ impl<R: Read> Read for Remembering<R> {
         ensures bound { ReadsAtMost result buf.new }
         ensures bytes { ReadConsumes (remembering_remaining R.remaining self.old) (remembering_remaining R.remaining self.new) result buf.new }
     {
-        let count = self.reader.read(buf)?;
-        self.remember(&buf[..count]);
-        Ok(count)
+        match self.reader.read(buf) {
+            Ok(count) => {
+                self.remember(&buf[..count]);
+                Ok(count)
+            }
+            Err(error) => {
+                self.failure = Some(error.kind());
+                Err(error)
+            }
+        }
     }
 }

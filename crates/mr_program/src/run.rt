@@ -6,13 +6,15 @@ ghost use Rattle.mr_program.specs.Printing.{EndsFrame, EndsScript};
 
 use crate::command_line::{Form, Run, Wanted};
 use crate::draw::end_picture;
-use crate::ending::{Ending, Fault, ending_of_run, leave};
+use crate::ending::{Ending, Fault, ending_of_run, leave, leave_behind};
+use crate::hints::{tell_hint, tell_of_sparing};
+use crate::noticing::Noticing;
+use crate::piped::Piped;
 use crate::remembering::Remembering;
 use clap::error::ErrorKind;
 use mr_forms::Knowledge;
-use mr_hints::hint;
 use mr_itemset::{ItemKnowledge, SparingKnowledge};
-use mr_script::{LineFault, ScriptFault, frame_text, run_script};
+use mr_script::{frame_text, run_script};
 use std::alloc::Global;
 use std::io;
 use std::io::{Read, Write};
@@ -20,9 +22,9 @@ use std::io::{Read, Write};
 /// Runs the script that the reader gives over the form of knowledge, and gives the exit status.
 pub(crate) fn run_reader<R: Read + Drop, W: Write, E: Write>(
     alloc: Global,
-    how: Run,
+    how: &Run,
     reader: R,
-    output: &mut W,
+    output: &mut Piped<W>,
     errors: &mut E,
 ) -> u8
     ensures { result ≤ 2 }
@@ -30,53 +32,62 @@ pub(crate) fn run_reader<R: Read + Drop, W: Write, E: Write>(
     if how.has_hints {
         return run_with_hints(alloc, how, reader, output, errors);
     }
-    leave(end_over(alloc, how, reader, output), errors)
+    let ending = end_over(alloc, how, reader, output);
+    leave_behind(ending, output, errors)
 }
 
-/// Runs the script, and tells a hint behind the fault of a line.
+/// Runs the script, and tells a hint behind its fault; and one where it was refused for too many holes, of which the sparing
+/// form has fewer.
 fn run_with_hints<R: Read + Drop, W: Write, E: Write>(
     alloc: Global,
-    how: Run,
+    how: &Run,
     reader: R,
-    output: &mut W,
+    output: &mut Piped<W>,
     errors: &mut E,
 ) -> u8
     ensures { result ≤ 2 }
 {
     let mut reader = Remembering::new(alloc, reader);
-    let ending = end_over(alloc, how, &mut reader, output);
-    let status = leave(ending, errors);
-    if let Ending::Stopped(Fault::Script(ScriptFault::Line { line, fault })) = ending {
-        tell_hint(alloc, reader.line(line), fault, errors);
+    let (ending, has_holes) = end_noticing(alloc, how, &mut reader, output);
+    let status = leave_behind(ending, output, errors);
+    tell_hint(alloc, how.file, &reader, ending, errors);
+    if has_holes && matches!(how.form, Form::Items) {
+        tell_of_sparing(errors);
     }
     status
 }
 
-/// Tells what was wrong with a line and what is right, if there is such a hint and memory for it.
-fn tell_hint<E: Write>(alloc: Global, line: Option<&str>, fault: LineFault, errors: &mut E) {
-    let Some(line) = line else {
-        return;
-    };
-    if let Ok(Some(text)) = hint(alloc, line, fault) {
-        let _ = writeln!(errors, "hint: {text}");
-    }
+/// Runs the script over its form, prints what is wanted of it, and says how the program ends, and whether an answer told of
+/// too many holes.
+fn end_noticing<R: Read + Drop, W: Write>(
+    alloc: Global,
+    how: &Run,
+    reader: R,
+    output: &mut W,
+) -> (Ending, bool) {
+    let mut output = Noticing::new(output);
+    let ending = end_over(alloc, how, reader, &mut output);
+    (ending, output.has_holes())
 }
 
 /// Runs the script over its form, prints what is wanted of it, and says how the program ends.
 fn end_over<R: Read + Drop, W: Write>(
     alloc: Global,
-    how: Run,
+    how: &Run,
     reader: R,
     output: &mut W,
 ) -> Ending {
+    let names = how.names.as_slice();
     match (how.wanted, how.form) {
         (Wanted::Answers, Form::Items) => end_script::<ItemKnowledge, R, W>(alloc, reader, output),
         (Wanted::Answers, Form::Sparing) => end_script::<SparingKnowledge, R, W>(
             alloc, reader, output,
         ),
-        (Wanted::Picture, Form::Items) => end_picture::<ItemKnowledge, R, W>(alloc, reader, output),
+        (Wanted::Picture, Form::Items) => end_picture::<ItemKnowledge, R, W>(
+            alloc, names, reader, output,
+        ),
         (Wanted::Picture, Form::Sparing) => end_picture::<SparingKnowledge, R, W>(
-            alloc, reader, output,
+            alloc, names, reader, output,
         ),
     }
 }
@@ -122,7 +133,7 @@ pub(crate) fn print_all<W: Write>(text: &str, output: &mut W) -> io::Result<()>
 /// the exit status.
 pub(crate) fn answer_command_line<W: Write, E: Write>(
     error: &clap::Error,
-    output: &mut W,
+    output: &mut Piped<W>,
     errors: &mut E,
 ) -> u8
     ensures wrong { kind_of error.now ≢ ErrorKind.OutOfMemory → kind_of error.now ≢ ErrorKind.DisplayHelp
@@ -138,7 +149,7 @@ pub(crate) fn answer_command_line<W: Write, E: Write>(
     }
     match print_error(error, output) {
         Ok(()) => leave(Ending::Done, errors),
-        Err(_) => leave(Ending::Stopped(Fault::Write), errors),
+        Err(_) => leave_behind(Ending::Stopped(Fault::Write), output, errors),
     }
 }
 

@@ -3,6 +3,7 @@ use crate::process::{Folder, Input, Output, Words};
 use anyhow::Result;
 use mr_program::run_mailrep;
 use std::alloc::Global;
+use std::io::ErrorKind;
 use std::sync::Wait;
 use std::thread::Threads;
 
@@ -14,7 +15,10 @@ pub enum Failing {
     Input,
     EndlessInput,
     File,
+    FileHidden,
+    FileIsFolder,
     Output,
+    OutputClosed,
     Errors,
 }
 
@@ -26,10 +30,36 @@ impl Failing {
             "input fails" => Failing::Input,
             "input endless" => Failing::EndlessInput,
             "file fails" => Failing::File,
+            "file hidden" => Failing::FileHidden,
+            "file is a folder" => Failing::FileIsFolder,
             "output fails" => Failing::Output,
+            "output closed" => Failing::OutputClosed,
             "errors fail" => Failing::Errors,
             _ => Failing::Nothing,
         }
+    }
+
+    /// How the file can't be read, if it can't.
+    fn of_file(self) -> Option<ErrorKind> {
+        match self {
+            Failing::File => Some(ErrorKind::Other),
+            Failing::FileIsFolder => Some(ErrorKind::IsADirectory),
+            _ => None,
+        }
+    }
+
+    /// How the output can't be written, if it can't.
+    fn of_output(self) -> Option<ErrorKind> {
+        match self {
+            Failing::Output => Some(ErrorKind::Other),
+            Failing::OutputClosed => Some(ErrorKind::BrokenPipe),
+            _ => None,
+        }
+    }
+
+    /// This kind of failure, if it is what fails.
+    fn as_kind(self, failing: Failing, kind: ErrorKind) -> Option<ErrorKind> {
+        if self == failing { Some(kind) } else { None }
     }
 }
 
@@ -89,15 +119,19 @@ impl Case {
         };
         let folder = Folder {
             script: self.file.as_slice(),
-            fails: self.failing == Failing::File,
+            hides: self.failing == Failing::FileHidden,
+            failure: self.failing.of_file(),
         };
         let input = Input {
             rest: self.input.as_slice(),
-            fails: self.failing == Failing::Input,
+            failure: self.failing.as_kind(Failing::Input, ErrorKind::Other),
             is_endless: self.failing == Failing::EndlessInput,
         };
-        let mut output = Output::new(alloc, self.failing == Failing::Output);
-        let mut errors = Output::new(alloc, self.failing == Failing::Errors);
+        let mut output = Output::new(alloc, self.failing.of_output());
+        let mut errors = Output::new(
+            alloc,
+            self.failing.as_kind(Failing::Errors, ErrorKind::Other),
+        );
         let status = run_mailrep(
             &(words, alloc),
             threads,

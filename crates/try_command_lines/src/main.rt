@@ -10,12 +10,14 @@
 //! $ run | --hints     a command line, its words separated by bars
 //! < heads 0           a line of its standard input
 //! @ heads 0           a line of the file `script`, the only one that there is
-//! % output fails      a stream that fails: `input`, `file`, `output` or `errors`; also `input endless`, `words no text`
+//! % output fails      a stream that fails: `input`, `file`, `output` or `errors`; also `output closed`, `file hidden`,
+//!                     `file is a folder`, `input endless`, `words no text`
 //! ^ whole             all that it prints is shown, and not only the beginning of a long text
 //! ```
 //!
-//! In lines of scripts `\r` is a carriage return, `\s` a space, `\x` a byte that is no text, `\k` a thousand letters, and
-//! `\e` at the end says that the line has no line feed.
+//! In lines of scripts `\r` is a carriage return, `\s` a space, `\x` a byte that is no text, `\k` a thousand letters, `\m`
+//! a byte order mark, `\g` lines by which replica 0 makes messages in the inbox and at work in turn, 4,098 of each, and `\e`
+//! at the end says that the line has no line feed.
 //! Lines that begin otherwise are skipped. Each command line is printed as the table has it, with `status N`, and then with `out: `
 //! and `err: ` before each line of standard output and standard error.
 #![tactic(auto)]

@@ -52,8 +52,10 @@ fn fill(bytes: &[u8], buf: &mut [u8]) -> Result<usize, FillError>
 #[derive(Clone, Copy)]
 pub struct Folder<'a> {
     pub script: &'a [u8],
-    /// Whether the file can't be read to its end.
-    pub fails: bool,
+    /// Whether the file may not be read.
+    pub hides: bool,
+    /// How the file fails behind its bytes, if it does.
+    pub failure: Option<ErrorKind>,
 }
 
 impl<'a> Scripts for Folder<'a> {
@@ -63,9 +65,12 @@ impl<'a> Scripts for Folder<'a> {
         if name != "script" {
             return Err(io::Error::from(ErrorKind::NotFound));
         }
+        if self.hides {
+            return Err(io::Error::from(ErrorKind::PermissionDenied));
+        }
         Ok(Input {
             rest: self.script,
-            fails: self.fails,
+            failure: self.failure,
             is_endless: false,
         })
     }
@@ -75,22 +80,25 @@ impl<'a> Scripts for Folder<'a> {
 #[derive(Drop)]
 pub struct Input<'a> {
     pub rest: &'a [u8],
-    /// Whether it fails behind them.
-    pub fails: bool,
+    /// How it fails behind them, if it does.
+    pub failure: Option<ErrorKind>,
     /// Whether `#` follows them without end.
     pub is_endless: bool,
 }
 
 impl Read for Input<'_> {
     fn read(&mut self, buf: &mut [u8]) -> io::Result<usize> {
-        if self.rest.is_empty() && self.fails {
-            return Err(io::Error::from(ErrorKind::BrokenPipe));
+        if !self.rest.is_empty() {
+            return self.rest.read(buf);
         }
-        if self.rest.is_empty() && self.is_endless {
+        if let Some(kind) = self.failure {
+            return Err(io::Error::from(kind));
+        }
+        if self.is_endless {
             buf.fill(b'#');
             return Ok(buf.len());
         }
-        self.rest.read(buf)
+        Ok(0)
     }
 }
 
@@ -98,25 +106,25 @@ impl Read for Input<'_> {
 #[derive(Drop)]
 pub struct Output {
     pub written: Vec<u8>,
-    fails: bool,
+    failure: Option<ErrorKind>,
 }
 
 impl Output {
-    /// A stream that fails at each write, or at none.
-    pub fn new(alloc: Global, fails: bool) -> Output {
+    /// A stream that fails so at each write, or at none.
+    pub fn new(alloc: Global, failure: Option<ErrorKind>) -> Output {
         Output {
             written: Vec::new(alloc),
-            fails,
+            failure,
         }
     }
 }
 
 impl Write for Output {
     fn write(&mut self, buf: &[u8]) -> io::Result<usize> {
-        if self.fails {
-            return Err(io::Error::from(ErrorKind::BrokenPipe));
+        match self.failure {
+            Some(kind) => Err(io::Error::from(kind)),
+            None => self.written.write(buf),
         }
-        self.written.write(buf)
     }
 
     fn flush(&mut self) -> io::Result<()> {

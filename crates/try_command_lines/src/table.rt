@@ -6,6 +6,9 @@ use std::alloc::{AllocError, Global};
 /// How many letters the escape `\k` stands for.
 const MANY: usize = 1000;
 
+/// How many messages of each kind the escape `\g` makes.
+const MADE: usize = 4098;
+
 /// The cases of a table.
 pub fn read_table(alloc: Global, text: &str) -> Result<Vec<Case>> {
     let mut cases = Vec::new(alloc);
@@ -82,6 +85,16 @@ fn push_text(bytes: &mut Vec<u8>, text: &str) -> Result<(), AllocError> {
     Ok(())
 }
 
+/// Adds lines by which replica 0 makes messages in the inbox and at work, in turn.
+fn push_messages(bytes: &mut Vec<u8>) -> Result<(), AllocError> {
+    for _ in 0..MADE {
+        bytes.extend_from_slice(
+            b"create 0 inbox . 2026-01-05 ann\ncreate 0 work . 2026-01-05 ann\n",
+        )?;
+    }
+    Ok(())
+}
+
 /// Adds what an escape stands for.
 fn push_escape(bytes: &mut Vec<u8>, escape: u8) -> Result<(), AllocError> {
     match escape {
@@ -89,6 +102,8 @@ fn push_escape(bytes: &mut Vec<u8>, escape: u8) -> Result<(), AllocError> {
         b's' => bytes.push(b' ')?,
         b'x' => bytes.push(0xff)?,
         b'k' => bytes.extend_from_slice(&[b'k'; MANY])?,
+        b'm' => bytes.extend_from_slice("\u{feff}".as_bytes())?,
+        b'g' => push_messages(bytes)?,
         other => bytes.push(other)?,
     }
     Ok(())
