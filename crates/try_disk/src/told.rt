@@ -1,0 +1,25 @@
+//! Faults, as they are told.
+use crate::disk::Disk;
+use std::alloc::{AllocError, Global};
+use std::fmt::Display;
+
+/// A fault by its number.
+pub fn told_fault<F: Display>(alloc: Global, number: u8, fault: &F) -> Result<String, AllocError> {
+    format!(in alloc; "fault {number}: {fault}")
+}
+
+/// A fault, and whether the disk is as before.
+pub fn told_refused<F: Display>(
+    alloc: Global,
+    number: u8,
+    fault: &F,
+    before: &[u8],
+    disk: &Disk,
+) -> Result<String, AllocError> {
+    let end = if disk.bytes() == before {
+        "untouched"
+    } else {
+        "changed"
+    };
+    format!(in alloc; "fault {number}: {fault}; {end}")
+}
