@@ -5,7 +5,7 @@ ghost use Rattle.mr_journal.specs.File.{file_fault_number};
 use crate::{Device, DeviceFailed};
 use std::fs::{File, OpenOptions, TryLockError};
 use std::io;
-use std::os::unix::fs::FileExt;
+use std::os::unix::fs::{FileExt, MetadataExt};
 use std::path::Path;
 use std::rt::Files;
 use thiserror::Error;
@@ -16,7 +16,7 @@ pub enum FileFault {
     /// Another handle, mostly of another process, has the file open as a journal.
     #[error("in use")]
     InUse,
-    /// What stands at the name is a folder, a pipe or another thing that is no file.
+    /// What stands at the path is a pipe, a device or the like. A folder is told as `System`, since it isn't opened for writing.
     #[error("not a file")]
     NotAFile,
     /// The system's own words.
@@ -63,7 +63,8 @@ impl DiskFile {
     /// Opens the file at a path, and makes it where there is none. It is locked, so that a second opener is refused at once,
     /// and its folder is synced, so that a file that was made stays.
     ///
-    /// `InUse` where it is locked, `NotAFile` where it is no file, else `System`.
+    /// `System` where it isn't opened, as a folder or a path that leads nowhere; then `NotAFile` where it is no file, `InUse`
+    /// where it is locked, and `System` where its folder isn't synced.
     pub fn open<R: Files<File = File>>(rt: &R, path: &str) -> Result<DiskFile, FileFault> {
         let file = OpenOptions::new()
             .read(true)
@@ -76,6 +77,14 @@ impl DiskFile {
         file.try_lock()?;
         File::open(rt, folder_of(path))?.sync_all()?;
         Ok(DiskFile { file, error: None })
+    }
+
+    /// The number of the file's inode, `st_ino` of POSIX: no other file of its file system has it for as long as this one is open,
+    /// and it stays the same under each name that the file is given. A copy of the file has another.
+    ///
+    /// The system's error where it isn't told. It costs a call of the system. No contract says what a file tells.
+    pub fn inode(&self) -> io::Result<u64> {
+        Ok(self.file.metadata()?.ino())
     }
 
     /// What the system said of the last call that failed.

@@ -9,3 +9,4 @@ pub mod RefusingLemmas
 pub mod LogLemmas
 pub mod WholeLemmas
 pub mod LeftLemmas
+pub mod TellLemmas

@@ -1,8 +1,10 @@
 pub mod Closing
 pub mod Fault
+pub mod Explained
 pub mod Entries
 pub mod Answered
 pub mod Kept
+pub mod Telling
 pub mod Beginning
 pub mod Opening
 pub mod Peer

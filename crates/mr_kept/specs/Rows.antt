@@ -1,5 +1,6 @@
 -- worked rows: what the definitions give for small values
-use Rattle.std.specs.Prelude.{◌≡◌, [], ◌∷◌, ◌++◌, refl}
+use Rattle.std.specs.Prelude.{◌≡◌, [], ◌∷◌, ◌++◌, true, false, Some, None, refl}
+use Rattle.std.specs.declared.io.Error.{Error}
 use Rattle.std.proofs.Common.{inl, arith, lit<}
 use Rattle.mr_mail.specs.Mail.{Mail}
 use Rattle.mr_replica.specs.declared.event.Event.TheVariants.{Create, Edit, Pull, Next, CutIn, CutOut}
@@ -11,10 +12,17 @@ use Rattle.mr_entry.specs.declared.entry.Entry.{Entry}
 use Rattle.mr_entry.specs.declared.entry.Entry.TheVariants as entry
 use Rattle.mr_entry.specs.declared.fault.EntryFault.TheVariants.{Truncated}
 use Rattle.mr_kept.specs.declared.fault.OpenFault.TheVariants as fault
+use Rattle.mr_kept.specs.declared.fault.KeptFault.TheVariants as kept
+use Rattle.mr_kept.specs.declared.fault.ExplainedFault.TheVariants.{Kept, Device}
 use Rattle.mr_kept.specs.Closing.{IsCut}
 use Rattle.mr_kept.specs.Entries.{AllBelong, Belongs, batch_entries, entries_of, issued_after, notes_of}
+use Rattle.mr_kept.specs.Explained.{explained_kept, explained_open}
 use Rattle.mr_kept.specs.Peer.{IsAbove}
 use Rattle.mr_kept.specs.Refusing.{IsOutOfOrder, IsUnread, StopsAt}
+use Rattle.mr_kept.specs.Telling.{WantsMore, is_end, size_of}
+use Rattle.mr_wire.specs.Frames.{Sent}
+use Rattle.mr_wire.specs.declared.frame.Header.{Header}
+use Rattle.mr_wire.specs.declared.frame.Body.TheVariants.{End}
 
 -- a Create and an Edit issue a version each, a Pull none
 pub issued_row : (message : Mail) → issued_after 0 (Create message ∷ Pull ∷ Edit [] message ∷ []) ≡ 2
@@ -89,3 +97,36 @@ no_cut_row is = is
 -- where replica 3 has issued one version, somebody who knows its second knows more
 pub above_row : IsAbove 3 1 (record { author = 3; counter = 2 })
 above_row = (refl, lit< tt)
+
+-- ---- what is given of a stream at a time
+
+-- the End takes its length, format, kind and header, 4, 1, 1 and 24 bytes
+pub end_row : (header : Header) → (size_of (record { header = header; body = End }) ≡ 30) × (is_end (record { header = header; body = End }) ≡ true)
+end_row header = (refl, refl)
+
+-- before the first record one is wanted, but of no bytes none is
+pub first_row : WantsMore 3 100 []
+first_row = record { few = omega arith; short = omega arith; no_end = refl }
+
+pub no_bytes_row : WantsMore 3 0 [] → ⊥
+no_bytes_row more = omega (arith, more.short)
+
+-- nor behind as many as were asked for, nor behind an End
+pub enough_row : (sent : Sent) → WantsMore 1 100 (sent ∷ []) → ⊥
+enough_row sent more = omega (arith, more.few)
+
+pub ended_row : (header : Header) → WantsMore 3 100 (record { header = header; body = End } ∷ []) → ⊥
+ended_row header more = let is : true ≡ false = more.no_end in cc
+
+-- ---- faults with the words of the system
+
+-- where it said nothing of the device, the fault stays
+pub unsaid_row : explained_kept kept.Failed None ≡ Kept kept.Failed
+unsaid_row = refl
+
+-- and what it said before belongs to no other fault
+pub other_fault_row : (said : Error) → explained_kept kept.TooLarge (Some said) ≡ Kept kept.TooLarge
+other_fault_row said = refl
+
+pub device_row : (said : Error) → explained_open (fault.Kept kept.Failed) (Some said) ≡ Device said
+device_row said = refl

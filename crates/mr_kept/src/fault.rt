@@ -1,5 +1,6 @@
 //! Why a replica isn't opened, or doesn't do what it is asked to.
 ghost use Rattle.std.specs.Prelude.{◌≡◌};
+ghost use Rattle.mr_kept.specs.Explained.{explained_fault_number, explained_kept, explained_open};
 ghost use Rattle.mr_kept.specs.Fault.{kept_fault_number, kept_fault_of, kept_fault_of_entry, open_fault_number};
 ghost use Rattle.mr_kept.specs.declared.fault.KeptFault.TheVariants as kept;
 ghost use Rattle.mr_kept.specs.declared.fault.OpenFault.TheVariants as opens;
@@ -9,6 +10,7 @@ use mr_filter::FilterFault;
 use mr_journal::JournalFault;
 use mr_replica::{Refusal, ReplayFault};
 use std::alloc::{AllocError, AllocFailed};
+use std::io;
 use thiserror::Error;
 
 /// Why a replica doesn't do what it is asked to, or doesn't keep what it did.
@@ -37,6 +39,17 @@ impl KeptFault {
             KeptFault::Refused(_) => 1,
             KeptFault::Failed => 2,
             KeptFault::TooLarge => 3,
+        }
+    }
+
+    /// The fault with what the system said of the device, where that failed: as [`mr_journal::DiskFile::error`] of
+    /// `journal().device()`.
+    pub fn explained(self, said: Option<io::Error>) -> ExplainedFault
+        ensures { result ≡ explained_kept self said }
+    {
+        match (self, said) {
+            (KeptFault::Failed, Some(said)) => ExplainedFault::Device(said),
+            _ => ExplainedFault::Kept(self),
         }
     }
 }
@@ -80,7 +93,8 @@ impl From<EntryFault> for KeptFault {
     }
 }
 
-/// Why a replica isn't begun or opened. But for `Kept` with a failed device nothing was written.
+/// Why a replica isn't begun or opened. No entry was written, unless the device failed: then what the call was to keep may be kept.
+/// But where the device had no journal it may have an empty one now, and what a crash left behind a journal may be cut off.
 #[derive(Clone, Copy, Debug, PartialEq, Eq, Drop, Error)]
 pub enum OpenFault {
     #[error("out of memory")]
@@ -91,7 +105,7 @@ pub enum OpenFault {
     /// What was done to the replica that was opened isn't kept.
     #[error("{0}")]
     Kept(KeptFault),
-    /// The journal has no entry, so no replica was begun in it.
+    /// The journal has no entry, so no replica was begun in it. It is an empty one that the call made where there was none.
     #[error("no replica: the journal has no entry")]
     NoReplica,
     /// The journal has entries, so no replica is begun in it.
@@ -144,6 +158,18 @@ impl OpenFault {
             OpenFault::Replay(_) => 12,
         }
     }
+
+    /// The fault with what the system said of the device, where that failed: as [`mr_journal::DiskFile::error`] of the device that
+    /// came back.
+    pub fn explained(self, said: Option<io::Error>) -> ExplainedFault
+        ensures { result ≡ explained_open self said }
+    {
+        match (self, said) {
+            (OpenFault::Journal(JournalFault::Failed), Some(said)) => ExplainedFault::Device(said),
+            (OpenFault::Kept(KeptFault::Failed), Some(said)) => ExplainedFault::Device(said),
+            _ => ExplainedFault::Open(self),
+        }
+    }
 }
 
 impl From<AllocError> for OpenFault {
@@ -159,5 +185,34 @@ impl<T: Drop> From<AllocFailed<T>> for OpenFault {
 
     fn from(_error: AllocFailed<T>) -> OpenFault {
         OpenFault::OutOfMemory
+    }
+}
+
+/// A fault, with the system's own words where the device failed.
+#[derive(Clone, Copy, Debug, Drop, Error)]
+pub enum ExplainedFault {
+    /// A replica doesn't do what it is asked to.
+    #[error("{0}")]
+    Kept(KeptFault),
+    /// A replica isn't begun or opened.
+    #[error("{0}")]
+    Open(OpenFault),
+    /// The device failed, and this is what the system said of it.
+    #[error("failed: the device failed, open the journal again: {0}")]
+    Device(io::Error),
+}
+
+impl ExplainedFault {
+    /// The fault's number: 0 where memory ran out, and from 1 in the order of the variants.
+    pub fn number(self) -> u8
+        ensures { result ≡ explained_fault_number self }
+    {
+        match self {
+            ExplainedFault::Kept(KeptFault::OutOfMemory) => 0,
+            ExplainedFault::Open(OpenFault::OutOfMemory) => 0,
+            ExplainedFault::Kept(_) => 1,
+            ExplainedFault::Open(_) => 2,
+            ExplainedFault::Device(_) => 3,
+        }
     }
 }

@@ -33,9 +33,10 @@ mod journaled;
 mod notes;
 mod opening;
 mod peer;
+mod telling;
 
 pub use beginning::Setup;
-pub use fault::{KeptFault, OpenFault};
+pub use fault::{ExplainedFault, KeptFault, OpenFault};
 pub use journaled::Journaled;
 pub use opening::Opened;
 pub use peer::PeerFault;

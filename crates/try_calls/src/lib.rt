@@ -23,6 +23,8 @@ mod filter;
 #[cfg(test)]
 mod gates;
 #[cfg(test)]
+mod lookup;
+#[cfg(test)]
 mod mail;
 #[cfg(test)]
 mod revisions;

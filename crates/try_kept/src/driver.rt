@@ -53,7 +53,7 @@ fn open<R: Files<File = File> + Print + AllocGlobal>(
             let _ = office.into_device();
             told
         }
-        Err((fault, _file)) => bail!("{fault}"),
+        Err((fault, file)) => Err(fault.explained(file.error()).into()),
     }
 }
 

@@ -13,13 +13,14 @@ use mr_entry::{Mark, Note};
 use mr_filter::Filter;
 use mr_journal::DiskFile;
 use mr_kept::Journaled;
+use mr_lookup::{highest_counter, knowledge_digest};
 use mr_replica::Replica;
 use mr_version::Author;
 use std::alloc::Global;
 use std::env;
 use std::fs::{self, File};
 use std::rt::Files;
-use sync::{Office, Phone, sync};
+use sync::{Office, Phone, Synced, sync};
 
 /// The file's name in the folder that the program runs in.
 const NAME: &str = "office.journal";
@@ -96,9 +97,20 @@ fn work(
     office.create(message(alloc, subject)?)?;
     office.note(Note::new(1, subject.as_bytes().to_vec(alloc)?))?;
     let issued = office.commit()?.len();
-    let taken = sync(alloc, office, phone)?;
+    let Synced { lacked, taken } = sync(alloc, office, phone)?;
     let held = phone.heads().len();
+    let known = known_by(alloc, office, phone)?;
     Ok(format!(in alloc;
-        "found {found} and {notes} notes, issued {issued}; the phone took {taken}, and holds {held}"
+        "found {found} and {notes} notes, issued {issued}; the phone lacked {lacked}, took {taken}, and holds {held}; {known}"
     )?)
+}
+
+/// How many of the office's versions the phone knows, and whether it knows what the office does.
+fn known_by(alloc: Global, office: &Office, phone: &Phone) -> Result<String> {
+    let counter = highest_counter(phone, office.replica().id())?.unwrap_or(0);
+    if knowledge_digest(alloc, phone)? == knowledge_digest(alloc, office.replica())? {
+        Ok(format!(in alloc; "it knows all that the office does, up to 0.{counter}")?)
+    } else {
+        Ok(format!(in alloc; "it knows the office's versions up to 0.{counter}, and not all")?)
+    }
 }

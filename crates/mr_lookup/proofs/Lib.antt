@@ -1,0 +1,3 @@
+-- lemmas
+pub mod HighestLemmas
+pub mod DigestLemmas

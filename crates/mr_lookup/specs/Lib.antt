@@ -1,0 +1,4 @@
+pub mod Ancestors
+pub mod Highest
+pub mod Digest
+pub mod Rows

@@ -1,0 +1,26 @@
+//! What a host asks of a replica beside what the replica itself tells: all by what any replica lends, so that nothing here changes one.
+//!
+//! Two hosts that meet say how much they know: [`highest_counter`] of each author, and [`knowledge_digest`], which is the same for
+//! two replicas exactly where they know the same (but for two texts with one digest). One who answers a request may look
+//! up what the request claims, by [`asked_of`]. One who merges heads of an item may look for what they come of, by
+//! [`newest_common_ancestors`].
+//!
+//! ```
+//! let mine = knowledge_digest(alloc, &replica)?;
+//! if mine == theirs {
+//!     return Ok(());
+//! }
+//! let asked = asked_of(alloc, &ask)?;
+//! let has_file = asked.knows(item, item.creator());
+//! ```
+#![tactic(auto)]
+
+mod ancestors;
+mod asked;
+mod digest;
+mod highest;
+
+pub use ancestors::newest_common_ancestors;
+pub use asked::asked_of;
+pub use digest::knowledge_digest;
+pub use highest::highest_counter;
