@@ -1,0 +1,38 @@
+-- what a function that is an event does
+use Rattle.std.specs.Prelude.{◌≡◌, ℕ, Option, Some, None, Result, Ok, Err}
+use Rattle.mr_desk.specs.Desk.{DeskState}
+use Rattle.mr_desk.specs.Serves.{Answers}
+use Rattle.mr_desk.specs.Version.{numbers_of}
+use Rattle.mr_desk.specs.declared.call.Call.{Call}
+use Rattle.mr_desk.specs.declared.call.VersionNumbers.{VersionNumbers}
+use Rattle.mr_desk.specs.declared.reply.Told.{Told}
+use Rattle.mr_desk.specs.declared.reply.Told.TheVariants.{Issued, Asked, Streaming, Took, Known, Finished}
+use Rattle.mr_c.specs.declared.failure.Failure.{Failure}
+use Rattle.mr_c.specs.declared.failure.Failure.TheVariants.{Closed, Desk}
+
+-- A closed handle answers so, and stays closed. An open one stays open, and its desk answers the call.
+abbrev pub Called : Option DeskState → Call → Result Told Failure → Option DeskState → Type 0
+Called None call answer new = (answer ≡ Err Closed) × (new ≡ None)
+Called (Some s) call (Ok told) (Some n) = Answers s call (Ok told) n
+Called (Some s) call (Err (Desk fault)) (Some n) = Answers s call (Err fault) n
+Called (Some s) call answer new = ⊥
+
+-- The handle was called, and C sees of the answer what is said.
+abbrev pub Calls : Option DeskState → Call → Option DeskState → (Result Told Failure → Type 0) → Type 0
+Calls old call new IsSeen = (answer : Result Told Failure) × Called old call answer new × IsSeen answer
+
+-- what stands in the caller's variable then: what was told, and what stood there where nothing was
+abbrev pub version_told : Result Told Failure → VersionNumbers → VersionNumbers
+version_told (Ok (Issued version)) old = numbers_of version
+version_told answer old = old
+
+abbrev pub number_told : Result Told Failure → ℕ → ℕ
+number_told (Ok (Asked session)) old = session
+number_told (Ok (Streaming stream)) old = stream
+number_told answer old = old
+
+abbrev pub outcome_told : Result Told Failure → ℕ → ℕ
+outcome_told (Ok Took) old = 0
+outcome_told (Ok Known) old = 1
+outcome_told (Ok Finished) old = 2
+outcome_told answer old = old

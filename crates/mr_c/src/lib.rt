@@ -1,0 +1,21 @@
+//! The engine for C: functions over a handle, numbers and bytes. `include/mailrep.h` declares them, and says for each what it answers.
+//!
+//! A [`handle::Handle`] is two words that C owns. While it is open it owns a desk (`mr_desk`); each function takes the desk
+//! out of the handle, works on it, and puts it back. A function that is an event answers with just what the desk's call
+//! gives, as a number and through pointers; one that reads gives what its clauses say of the desk, and changes nothing. A
+//! closed handle is told by [`failure::Failure::Closed`], by each of them.
+//!
+//! Whatever C hands over is read with care: bytes that are no text, no frame, no version are refused, and nothing changes.
+#![tactic(auto)]
+
+mod bytes;
+mod calls;
+mod failure;
+mod frames;
+mod given;
+mod handle;
+mod loose;
+mod messages;
+mod open;
+mod opening;
+mod places;

@@ -1,0 +1,6 @@
+mod FrameLemmas
+mod LogLemmas
+mod OpeningLemmas
+mod PartLemmas
+mod ReadingLemmas
+mod VersionLemmas

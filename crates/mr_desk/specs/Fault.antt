@@ -1,0 +1,60 @@
+-- faults: their numbers, and what is read with one
+use Rattle.std.specs.Prelude.{◌≡◌, ◌+◌, ◌*◌, ◌==◌, ℕ, if◌then◌else◌, Option, Some, None, Result, Ok, Err}
+use Rattle.mr_version.specs.Fault.{fault_number as version_number}
+use Rattle.mr_mail.specs.Fault.{fault_number as message_number}
+use Rattle.mr_filter.specs.Fault.{fault_number as filter_number}
+use Rattle.mr_wire.specs.Fault.{fault_number as wire_number}
+use Rattle.mr_entry.specs.Fault.{event_fault_number as event_number}
+use Rattle.mr_replica.specs.Replay.{replay_fault_number}
+use Rattle.mr_replica.specs.Refusal.{refusal_number}
+use Rattle.mr_mail.specs.declared.fault.MessageFault.{MessageFault}
+use Rattle.mr_mail.specs.declared.fault.MessageFault.TheVariants as message
+use Rattle.mr_filter.specs.declared.fault.FilterFault.{FilterFault}
+use Rattle.mr_filter.specs.declared.fault.FilterFault.TheVariants as filter
+use Rattle.mr_wire.specs.declared.fault.WireFault.{WireFault}
+use Rattle.mr_wire.specs.declared.fault.WireFault.TheVariants as wire
+use Rattle.mr_entry.specs.declared.event.fault.EventFault.{EventFault}
+use Rattle.mr_entry.specs.declared.event.fault.EventFault.TheVariants as event
+use Rattle.mr_desk.specs.declared.fault.Fault.{Fault}
+use Rattle.mr_desk.specs.declared.fault.Fault.TheVariants.{OutOfMemory, NotText, BytesBehind, OtherFrame, Version, Message, Filter, Wire, Event, Replay, Refused}
+
+-- the number of a fault of a family, which numbers want of memory 0
+abbrev pub in_family : ℕ → ℕ → ℕ
+in_family family number = if number == 0 then 1 else family * 256 + number
+
+-- the number by which a host knows the fault
+abbrev pub fault_number : Fault → ℕ
+fault_number OutOfMemory = 1
+fault_number NotText = 4
+fault_number BytesBehind = 7
+fault_number OtherFrame = 8
+fault_number (Version fault) = in_family 1 (version_number fault)
+fault_number (Message fault) = in_family 2 (message_number fault)
+fault_number (Filter fault) = in_family 3 (filter_number fault)
+fault_number (Wire fault) = in_family 4 (wire_number fault)
+fault_number (Event fault) = in_family 5 (event_number fault)
+fault_number (Replay fault) = in_family 6 (replay_fault_number fault)
+fault_number (Refused refusal) = in_family 7 (refusal_number refusal)
+
+-- the faults of a message, a filter, a frame and an event as the desk's: where memory was wanting, that is all
+abbrev pub of_message : MessageFault → Fault
+of_message message.OutOfMemory = OutOfMemory
+of_message fault = Message fault
+
+abbrev pub of_filter : FilterFault → Fault
+of_filter filter.OutOfMemory = OutOfMemory
+of_filter fault = Filter fault
+
+abbrev pub of_wire : WireFault → Fault
+of_wire wire.OutOfMemory = OutOfMemory
+of_wire fault = Wire fault
+
+abbrev pub of_event : EventFault → Fault
+of_event event.OutOfMemory = OutOfMemory
+of_event fault = Event fault
+
+-- What is read of bytes: the fault that there is, or what is meant where there is none. Memory runs out only where some is needed.
+abbrev pub Reads : {X : Type 0} → (NeedsMemory : Type 0) → Option Fault → (X → Type 0) → Result X Fault → Type 0
+Reads NeedsMemory fault IsMeant (Ok x) = (fault ≡ None) × IsMeant x
+Reads NeedsMemory fault IsMeant (Err OutOfMemory) = NeedsMemory
+Reads NeedsMemory fault IsMeant (Err f) = fault ≡ Some f

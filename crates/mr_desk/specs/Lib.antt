@@ -1,0 +1,11 @@
+pub mod Asked
+pub mod Desk
+pub mod Draft
+pub mod Fault
+pub mod Frames
+pub mod Log
+pub mod Opening
+pub mod Rows
+pub mod Serves
+pub mod Told
+pub mod Version

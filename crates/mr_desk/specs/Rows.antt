@@ -1,0 +1,125 @@
+-- worked rows: what the definitions give for small values
+use Rattle.std.specs.Prelude.{◌≡◌, ◌++◌, ℕ, List, [], ◌∷◌, Some, None, Ok, Err, codes, refl}
+use Rattle.mr_wire.specs.FrameParts.{descent_with}
+use Rattle.mr_wire.specs.FrameSpelling.{frame_bytes}
+use Rattle.mr_wire.specs.Reading.{run_at}
+use Rattle.mr_wire.specs.declared.fault.WireFault.TheVariants as wire
+use Rattle.mr_wire.specs.declared.frame.Frame.{Frame}
+use Rattle.mr_wire.specs.declared.frame.Frame.TheVariants as frame
+use Rattle.mr_version.specs.Name.{Name}
+use Rattle.mr_version.specs.declared.fault.VersionFault.TheVariants.{NoSuchAuthor, BadVersion}
+use Rattle.mr_replica.specs.declared.event.Reply.TheVariants as reply
+use Rattle.mr_replica.specs.declared.refusal.Refusal.TheVariants.{NoSession, OutOfMemory as NoMemory}
+use Rattle.mr_desk.specs.Draft.{labels_of}
+use Rattle.mr_desk.specs.Fault.{fault_number}
+use Rattle.mr_desk.specs.Frames.{announced, any_frame, claim_by, frame_fault, only_ask, only_receipt}
+use Rattle.mr_desk.specs.Told.{frame_by, told_by}
+use Rattle.mr_desk.specs.Version.{first_version_fault, version_fault}
+use Rattle.mr_desk.specs.declared.call.VersionNumbers.{VersionNumbers}
+use Rattle.mr_desk.specs.declared.fault.Fault.TheVariants.{OutOfMemory, BytesBehind, OtherFrame, Wire, Refused}
+use Rattle.mr_desk.specs.declared.reply.Told.TheVariants as told
+
+-- ---- faults
+
+-- a family has its numbers behind its own: 4 for frames, 7 for refusals
+pub number_of_wire : fault_number (Wire wire.Truncated) ≡ 1025
+number_of_wire = refl
+
+pub number_of_refusal : fault_number (Refused NoSession) ≡ 1804
+number_of_refusal = refl
+
+-- want of memory has one number, wherever it came
+pub number_of_memory : fault_number (Refused NoMemory) ≡ fault_number OutOfMemory
+number_of_memory = refl
+
+-- ---- versions by their numbers
+
+abbrev numbers : ℕ → ℕ → VersionNumbers
+numbers author counter = record { author = author; counter = counter }
+
+pub last_version : version_fault (numbers 63 1000000) ≡ None
+last_version = refl
+
+pub counter_behind : version_fault (numbers 63 1000001) ≡ Some BadVersion
+counter_behind = refl
+
+-- the author comes first
+pub author_before_counter : version_fault (numbers 64 0) ≡ Some NoSuchAuthor
+author_before_counter = refl
+
+-- the first of several that is none tells
+pub first_of_several : first_version_fault (numbers 0 1 ∷ numbers 1 0 ∷ numbers 64 1 ∷ []) ≡ Some BadVersion
+first_of_several = refl
+
+-- ---- labels
+
+pub no_label : labels_of [] ≡ []
+no_label = refl
+
+pub two_labels : labels_of (codes "inbox,work") ≡ codes "inbox" ∷ codes "work" ∷ []
+two_labels = refl
+
+-- a comma alone has an empty part on either side
+pub empty_labels : labels_of (codes ",") ≡ [] ∷ [] ∷ []
+empty_labels = refl
+
+-- ---- frames
+
+-- a length of seven, and its own four bytes
+pub eleven_bytes : announced (0 ∷ 0 ∷ 0 ∷ 7 ∷ 2 ∷ []) ≡ Ok 11
+eleven_bytes = refl
+
+pub three_bytes : announced (0 ∷ 0 ∷ 0 ∷ []) ≡ Err wire.Truncated
+three_bytes = refl
+
+-- 8,388,608 bytes may follow a length, and no more
+pub longest_frame : announced (0 ∷ 128 ∷ 0 ∷ 0 ∷ []) ≡ Ok 8388612
+longest_frame = refl
+
+pub too_long_a_frame : announced (0 ∷ 128 ∷ 0 ∷ 1 ∷ []) ≡ Err wire.TooLong
+too_long_a_frame = refl
+
+abbrev name : ℕ → ℕ → Name
+name author counter = record { author = author; counter = counter }
+
+-- replica 5 has the version 1.1
+abbrev receipt : Frame
+receipt = frame.Receipt (record { giver = 5; descent = descent_with (name 1 1) (name 1 1) [] })
+
+abbrev receipt_row : List ℕ
+receipt_row = frame_bytes 2 receipt
+
+pub receipt_is_taken : frame_fault only_receipt receipt_row ≡ None
+unfolding run_at
+receipt_is_taken = refl
+
+pub receipt_is_no_ask : frame_fault only_ask receipt_row ≡ Some OtherFrame
+unfolding run_at
+receipt_is_no_ask = refl
+
+-- bytes behind it are told before its kind
+pub receipt_with_more : frame_fault only_ask (receipt_row ++ 0 ∷ []) ≡ Some BytesBehind
+unfolding run_at
+receipt_with_more = refl
+
+pub no_frame : frame_fault any_frame [] ≡ Some (Wire wire.Truncated)
+no_frame = refl
+
+pub receipt_claims : claim_by receipt ≡ record { kind = 2; author = 5 }
+receipt_claims = refl
+
+-- ---- replies
+
+-- an issued version is told, and gives no frame
+pub issued_is_told : told_by (reply.Issued (name 1 1)) ≡ told.Issued (name 1 1)
+issued_is_told = refl
+
+pub issued_gives_none : frame_by (reply.Issued (name 1 1)) ≡ []
+issued_gives_none = refl
+
+-- a receipt is the frame, and nothing else is told
+pub receipt_gives : frame_by (reply.Vouched (record { giver = 5; descent = descent_with (name 1 1) (name 1 1) [] })) ≡ receipt_row
+receipt_gives = refl
+
+pub receipt_tells_nothing : told_by (reply.Vouched (record { giver = 5; descent = descent_with (name 1 1) (name 1 1) [] })) ≡ told.Done
+receipt_tells_nothing = refl

@@ -1,0 +1,38 @@
+//! The device behind a handle: a replica, and the frame that it gave last, as bytes.
+//!
+//! A host that isn't written in this language has numbers and bytes and nothing else. So a [`Desk`] takes a [`Call`], whose
+//! texts and frames are lent bytes, and answers it as one event of its replica. What the event gives besides a frame is
+//! told at once, as [`Told`]. A frame is spelled before anything changes, and then lies on the desk: where it finds no
+//! memory the event is refused, so that no frame is lost. A call that is refused leaves the desk as it was, and the frame
+//! of an earlier call lies there still; after any other call there lies its own frame, or none.
+//!
+//! ```text
+//! let mut phone = Desk::replay(alloc, 0, b"label:inbox", 1_000_000, b"")?;
+//! let mut office = Desk::replay(alloc, 1, b"all", 1_000_000, b"")?;
+//! phone.serve(&Call::Create(draft))?;
+//! office.serve(&Call::Pull)?;
+//! let Told::Streaming(stream) = phone.serve(&Call::Answer(office.frame()))? else { .. };
+//! phone.serve(&Call::Next(stream))?;
+//! office.serve(&Call::Receive(phone.frame()))?;
+//! ```
+//!
+//! A desk is its log: [`Desk::replay`] makes it again of the bytes of the events that it admitted.
+#![tactic(auto)]
+
+mod call;
+mod desk;
+mod draft;
+mod event;
+mod fault;
+mod frames;
+mod labels;
+mod log;
+mod opening;
+mod reply;
+
+pub use call::{Call, Draft, VersionNumbers};
+pub use desk::Desk;
+pub use fault::Fault;
+pub use frames::{Claim, announced_len, claim_of};
+pub use log::event_bytes;
+pub use reply::Told;

@@ -1,0 +1,317 @@
+/* mailrep.h: devices that keep one mailbox in step, for C and C++.
+ *
+ * A device is an mr_device, two words that belong to you. mr_open makes one, mr_close gives back what it holds. Every other
+ * call that takes one is either an event or a reader. An event does all of what it says, or answers why not and leaves the
+ * device as it was. A reader changes nothing.
+ *
+ * What the calls ask of you, since C can't check it:
+ *   - A new mr_device is all zeros, which is a closed one: mr_device d = {0};
+ *   - An open one may be moved in memory, and must not be used as two: after a copy use one of them alone.
+ *   - One call at a time for each device, readers too. Any thread may make it, one after the other; two devices have nothing in
+ *     common. Order the calls of several threads by a lock, or by starting and joining them. No call is made by a signal handler,
+ *     or by the forked child of a process that has threads.
+ *   - No pointer is NULL, also where a length is 0, and each points to as many items as its length says. What a call reads and
+ *     what it writes must not overlap, nor must two things that it writes.
+ *   - Frames reach the other device as they are, or not at all. They may be lost, repeated, delayed or mixed.
+ *   - The id of a device is never given to another one, not even after the device is lost: two that share one would give one
+ *     version to two messages.
+ *   - malloc, realloc and free come from one allocator, and align as C asks.
+ *
+ * Who owns what: the library keeps no pointer of yours beyond a call, and hands out none of its own. Texts are UTF-8 with a length
+ * and no zero byte; a body is any bytes.
+ *
+ * A call that writes bytes or numbers takes a buffer, how many items it has room for, and a word for the length. Where there is
+ * something, the word gets its full length. If that is more than there is room for, the answer is MR_TOO_SMALL and the buffer is as
+ * it was: call again with more room. At any other error buffer and word are as they were, and so is each other variable of yours.
+ *
+ * Every answer is MR_OK, which is 0, or one of the other codes, which are never 0: mr_code_text says each in words. The comment of a
+ * call lists its codes; where several hold it answers the first of them. mr_open, mr_replay, each event, and mr_event, mr_sessions,
+ * mr_streams and mr_frame_claim may also answer MR_NO_MEMORY, and then nothing has changed; the other calls want no memory.
+ */
+#ifndef MAILREP_H
+#define MAILREP_H
+
+#include <stddef.h>
+#include <stdint.h>
+
+#ifdef __cplusplus
+extern "C" {
+#endif
+
+/* The interface that this header is of. Its upper half changes where programs have to be built anew: where a call, a struct or the
+ * meaning of a number changes or goes. Its lower half grows where calls or codes are added. A program runs with a library whose
+ * mr_abi() has the same upper half and a lower half that is not below the header's. */
+#define MR_ABI UINT32_C(0x00010000)
+
+/* What a call answers. Below 0x100 stand the codes of this interface; the others are a family, by its upper byte, and the number
+ * that docs/API.md has in that family's table. */
+#define MR_CODES(CODE) \
+  CODE(MR_OK, 0x000, "done") \
+  CODE(MR_NO_MEMORY, 0x001, "out of memory") \
+  CODE(MR_CLOSED, 0x002, "the device is closed") \
+  CODE(MR_IN_USE, 0x003, "the device is open already") \
+  CODE(MR_NOT_TEXT, 0x004, "a text is not UTF-8") \
+  CODE(MR_TOO_SMALL, 0x005, "the buffer is too small") \
+  CODE(MR_NOT_THERE, 0x006, "nothing is there") \
+  CODE(MR_BEHIND, 0x007, "bytes stand behind the frame") \
+  CODE(MR_OTHER_FRAME, 0x008, "the frame is of another kind") \
+  /* no such id or version: VersionFault */ \
+  CODE(MR_VERSION_NO_SUCH_AUTHOR, 0x101, "an id is 0 to 63") \
+  CODE(MR_VERSION_BAD_VERSION, 0x102, "a counter is 1 to 1,000,000") \
+  /* the parts make no message: MessageFault */ \
+  CODE(MR_MESSAGE_FROM_TOO_LONG, 0x201, "a sender has at most 254 bytes") \
+  CODE(MR_MESSAGE_SUBJECT_TOO_LONG, 0x202, "a subject has at most 998 bytes") \
+  CODE(MR_MESSAGE_BODY_TOO_LONG, 0x203, "a body has at most 65,536 bytes") \
+  CODE(MR_MESSAGE_BAD_LABEL, 0x204, "a label is 1 to 32 bytes of a-z, 0-9 and -") \
+  CODE(MR_MESSAGE_TOO_MANY_LABELS, 0x205, "a message has at most 16 labels") \
+  CODE(MR_MESSAGE_BAD_FLAGS, 0x206, "flags are 0 to 31") \
+  /* the text is no filter: FilterFault */ \
+  CODE(MR_FILTER_BAD_FILTER, 0x301, "the text is no filter") \
+  CODE(MR_FILTER_TOO_MANY_CLAUSES, 0x302, "a filter has at most 16 clauses") \
+  CODE(MR_FILTER_TOO_MANY_LABELS, 0x303, "a clause has at most 8 labels") \
+  /* the bytes are no frame: WireFault */ \
+  CODE(MR_WIRE_TRUNCATED, 0x401, "the frame continues beyond the bytes") \
+  CODE(MR_WIRE_TOO_LONG, 0x402, "the frame is too long") \
+  CODE(MR_WIRE_BAD_FORMAT, 0x403, "no such format of frames") \
+  CODE(MR_WIRE_BAD_KIND, 0x404, "no such kind of frame") \
+  CODE(MR_WIRE_BAD_BODY, 0x405, "the bytes are none of a frame of that kind") \
+  /* the bytes are no event: EventFault */ \
+  CODE(MR_EVENT_TRUNCATED, 0x501, "the event continues beyond the bytes") \
+  CODE(MR_EVENT_TOO_LONG, 0x502, "the event is too long") \
+  CODE(MR_EVENT_BAD_FORM, 0x503, "no such form of events") \
+  CODE(MR_EVENT_BAD_KIND, 0x504, "no such kind of event") \
+  CODE(MR_EVENT_BAD_BODY, 0x505, "the bytes are none of an event of that kind") \
+  /* no device comes of the log: ReplayFault */ \
+  CODE(MR_REPLAY_BAD_LIMIT, 0x601, "an event limit is 1 to 1,000,000") \
+  CODE(MR_REPLAY_REFUSED, 0x602, "an event of the log is refused") \
+  /* the device refuses the event: Refusal */ \
+  CODE(MR_REFUSED_RETIRED, 0x701, "the device has retired") \
+  CODE(MR_REFUSED_NO_BASE, 0x702, "the edit names no base") \
+  CODE(MR_REFUSED_NOT_HELD, 0x703, "a version is not held") \
+  CODE(MR_REFUSED_MIXED_ITEMS, 0x704, "the bases are versions of several items") \
+  CODE(MR_REFUSED_OWN_HEAD_LEFT, 0x705, "an own version of the item is held and not among the bases") \
+  CODE(MR_REFUSED_TOO_MANY_HOLES, 0x706, "a vector of the knowledge would have too many holes") \
+  CODE(MR_REFUSED_TOO_MANY_ITEMS, 0x707, "the knowledge would list too many items") \
+  CODE(MR_REFUSED_LOG_FULL, 0x708, "the log is full") \
+  CODE(MR_REFUSED_TOO_MANY_SESSIONS, 0x709, "eight sessions are open") \
+  CODE(MR_REFUSED_TOO_MANY_STREAMS, 0x70a, "eight streams are open") \
+  CODE(MR_REFUSED_NOT_FOR_ME, 0x70b, "the record is for another device") \
+  CODE(MR_REFUSED_NO_SESSION, 0x70c, "no session of that number is open") \
+  CODE(MR_REFUSED_NOT_START, 0x70d, "the session waits for a start") \
+  CODE(MR_REFUSED_OTHER_STREAM, 0x70e, "the session takes another stream") \
+  CODE(MR_REFUSED_REPEATED, 0x70f, "the session has taken the record") \
+  CODE(MR_REFUSED_GAP, 0x710, "the session has not taken the record before") \
+  CODE(MR_REFUSED_NOT_A_RECORD, 0x711, "the frame is no record") \
+  CODE(MR_REFUSED_NO_STREAM, 0x712, "no stream of that number is open") \
+  CODE(MR_REFUSED_OWN_ASK, 0x713, "the request is the device's own") \
+  CODE(MR_REFUSED_NOT_PUSHED_OUT, 0x714, "the receipt is for no push-out that is held") \
+  CODE(MR_REFUSED_PUSH_OUTS_LEFT, 0x715, "push-outs are left") \
+  CODE(MR_REFUSED_FORGED, 0x716, "no device gave the record")
+
+#define MR_CODE_NAME(name, number, text) name = number,
+enum { MR_CODES(MR_CODE_NAME) };
+#undef MR_CODE_NAME
+
+/* The families: code >> 8. */
+enum {
+  MR_FAMILY_VERSION = 1,
+  MR_FAMILY_MESSAGE = 2,
+  MR_FAMILY_FILTER = 3,
+  MR_FAMILY_WIRE = 4,
+  MR_FAMILY_EVENT = 5,
+  MR_FAMILY_REPLAY = 6,
+  MR_FAMILY_REFUSED = 7
+};
+
+/* What mr_receive tells: what the record tells was new, or known; or it was the last one, and the session is closed. */
+enum { MR_TOOK = 0, MR_KNOWN = 1, MR_FINISHED = 2 };
+
+/* The parts of a message. */
+enum { MR_FROM = 0, MR_SUBJECT = 1, MR_BODY = 2 };
+
+/* The kinds of frames: a request, a record of a stream, a receipt. */
+enum { MR_ASK = 0, MR_RECORD = 1, MR_RECEIPT = 2 };
+
+/* The flags of a message, to be joined by |. */
+enum { MR_SEEN = 1, MR_ANSWERED = 2, MR_FLAGGED = 4, MR_DRAFT = 8, MR_DELETED = 16 };
+
+/* The most sessions, and the most streams, that are open at a time. */
+enum { MR_MAX_OPEN = 8 };
+
+/* A device: all zeros is closed. Its words are the library's. */
+typedef struct mr_device {
+  void *inner;
+  uint64_t live;
+} mr_device;
+
+/* A version of a message: its author's id, 0 to 63, and its number among that author's, 1 to 1,000,000. It names it on all
+ * devices, for ever. A message through all its versions is an item, named by its first version. */
+typedef struct mr_version {
+  uint32_t author;
+  uint32_t counter;
+} mr_version;
+
+/* A version that is held. */
+typedef struct mr_held {
+  mr_version item;
+  mr_version version;
+} mr_held;
+
+/* A change: the version entered the device, 1, or left it, 0. */
+typedef struct mr_changed {
+  uint32_t entered;
+  mr_version item;
+  mr_version version;
+} mr_changed;
+
+/* How much there is. */
+typedef struct mr_count {
+  size_t heads;     /* messages that the filter selects */
+  size_t push_outs; /* messages written here that it doesn't, held until another device has them */
+  size_t changes;   /* of the heads, since the device was opened for the first time */
+  size_t events;    /* of the log */
+} mr_count;
+
+/* Where a message belongs. */
+typedef struct mr_placed {
+  size_t labels;  /* how many it has, at most 16 */
+  uint32_t flags; /* MR_SEEN and so on */
+  uint32_t day;   /* days since 1970-01-01 */
+} mr_placed;
+
+/* What a frame is, and the id of the device that it claims to come from. */
+typedef struct mr_claimed {
+  uint32_t kind; /* MR_ASK, MR_RECORD, MR_RECEIPT */
+  uint32_t author;
+} mr_claimed;
+
+/* ---- life */
+
+/* The interface of the library: compare it with MR_ABI, as is said there. */
+uint32_t mr_abi(void);
+
+/* Opens a device to which nothing has happened. id: 0 to 63, given to no other device. filter: what it keeps, as "all" or
+ * "label:inbox & !flag:deleted | flag:flagged". event_limit: 1 to 1,000,000 events, and one retire past them.
+ * MR_IN_USE, MR_VERSION_NO_SUCH_AUTHOR, MR_NOT_TEXT, MR_FILTER_.., MR_REPLAY_BAD_LIMIT. */
+int32_t mr_open(mr_device *device, uint16_t id, const uint8_t *filter, size_t filter_len, uint32_t event_limit);
+
+/* Opens a device that has taken all events of a log: the bytes of mr_event for each place, one behind the other. With the id, the
+ * filter and the limit of the device whose log it was it is that device again; its frame is empty. It costs each event's work.
+ * MR_IN_USE, MR_VERSION_NO_SUCH_AUTHOR, MR_NOT_TEXT, MR_FILTER_.., MR_EVENT_.., MR_REPLAY_BAD_LIMIT, MR_REPLAY_REFUSED. */
+int32_t mr_replay(mr_device *device, uint16_t id, const uint8_t *filter, size_t filter_len, uint32_t event_limit,
+                  const uint8_t *log, size_t log_len);
+
+/* Closes the device, and gives back all that it holds; a closed one stays so. What was not written down is gone. */
+void mr_close(mr_device *device);
+
+/* ---- events: each answers MR_CLOSED first; at an error nothing has changed */
+
+/* Writes a message, and gives its version. labels: at most 16, with commas between, or empty. MR_NOT_TEXT, MR_MESSAGE_..,
+ * MR_REFUSED_ RETIRED, LOG_FULL, TOO_MANY_HOLES, TOO_MANY_ITEMS. */
+int32_t mr_create(mr_device *device, const uint8_t *from, size_t from_len, const uint8_t *subject, size_t subject_len,
+                  const uint8_t *body, size_t body_len, const uint8_t *labels, size_t labels_len, uint8_t flags, uint16_t day,
+                  mr_version *version);
+
+/* Puts a message in the place of held versions of one item, of one or of all that conflict, and gives its version. MR_NOT_TEXT,
+ * MR_MESSAGE_.., MR_VERSION_.. of a base, MR_REFUSED_ RETIRED, NO_BASE, NOT_HELD, MIXED_ITEMS, OWN_HEAD_LEFT, LOG_FULL,
+ * TOO_MANY_HOLES, TOO_MANY_ITEMS. */
+int32_t mr_edit(mr_device *device, const mr_version *bases, size_t bases_len, const uint8_t *from, size_t from_len,
+                const uint8_t *subject, size_t subject_len, const uint8_t *body, size_t body_len, const uint8_t *labels,
+                size_t labels_len, uint8_t flags, uint16_t day, mr_version *version);
+
+/* Writes, asks and takes nothing more; it still answers. MR_REFUSED_ RETIRED, PUSH_OUTS_LEFT while it keeps messages for others. */
+int32_t mr_retire(mr_device *device);
+
+/* Asks for what the device lacks: gives the number of a session that waits for it, and the request, by mr_frame.
+ * MR_REFUSED_ RETIRED, TOO_MANY_SESSIONS, LOG_FULL, TOO_MANY_HOLES. */
+int32_t mr_pull(mr_device *device, uint64_t *session);
+
+/* Opens a stream for a request, and gives its number. MR_WIRE_.., MR_BEHIND, MR_OTHER_FRAME, MR_REFUSED_ OWN_ASK, TOO_MANY_STREAMS,
+ * LOG_FULL, TOO_MANY_HOLES. */
+int32_t mr_answer(mr_device *device, const uint8_t *frame, size_t frame_len, uint64_t *stream);
+
+/* Gives the stream's next record, by mr_frame; with the last one the stream is closed. MR_REFUSED_ NO_STREAM, LOG_FULL. */
+int32_t mr_next(mr_device *device, uint64_t stream);
+
+/* Takes a record: MR_TOOK, MR_KNOWN or MR_FINISHED, which closes the session. MR_WIRE_.., MR_BEHIND, MR_REFUSED_ RETIRED,
+ * NOT_A_RECORD, NOT_FOR_ME, NO_SESSION, NOT_START, OTHER_STREAM, REPEATED, GAP, FORGED, LOG_FULL, TOO_MANY_HOLES, TOO_MANY_ITEMS. */
+int32_t mr_receive(mr_device *device, const uint8_t *frame, size_t frame_len, uint32_t *outcome);
+
+/* Gives up a session; what it took stays. MR_REFUSED_ RETIRED, NO_SESSION, LOG_FULL. */
+int32_t mr_cut_in(mr_device *device, uint64_t session);
+
+/* Gives up a stream. MR_REFUSED_ NO_STREAM, LOG_FULL. */
+int32_t mr_cut_out(mr_device *device, uint64_t stream);
+
+/* Gives a receipt for a head, by mr_frame. MR_VERSION_.., MR_REFUSED_ RETIRED, NOT_HELD, LOG_FULL. */
+int32_t mr_vouch(mr_device *device, mr_version version);
+
+/* Lets go of the push-outs that a receipt frees. MR_WIRE_.., MR_BEHIND, MR_OTHER_FRAME, MR_REFUSED_ RETIRED, NOT_PUSHED_OUT,
+ * LOG_FULL. */
+int32_t mr_release(mr_device *device, const uint8_t *frame, size_t frame_len);
+
+/* ---- readers: each answers MR_CLOSED first; none changes the device */
+
+/* The frame that the last event gave that was not refused: of mr_pull, mr_next and mr_vouch, and else none (length 0). It has at
+ * most 8,388,612 bytes. MR_TOO_SMALL. */
+int32_t mr_frame(mr_device *device, uint8_t *to, size_t room, size_t *len);
+
+/* How much there is. */
+int32_t mr_counts(mr_device *device, mr_count *counts);
+
+/* A head or a push-out, by its place in version order, from 0. MR_NOT_THERE. */
+int32_t mr_head(mr_device *device, size_t place, mr_held *head);
+int32_t mr_push_out(mr_device *device, size_t place, mr_held *push_out);
+
+/* A change of the heads, by its place in order of time, from 0: keep how many you have seen, and read on from there. MR_NOT_THERE. */
+int32_t mr_change(mr_device *device, size_t place, mr_changed *change);
+
+/* An event of the log, by its place, as the bytes to be kept for mr_replay. MR_NOT_THERE, MR_EVENT_TOO_LONG, MR_TOO_SMALL. */
+int32_t mr_event(mr_device *device, size_t place, uint8_t *to, size_t room, size_t *len);
+
+/* A part of a held message: MR_FROM, MR_SUBJECT or MR_BODY. MR_VERSION_.., MR_NOT_THERE, MR_TOO_SMALL. */
+int32_t mr_part(mr_device *device, mr_version version, uint32_t part, uint8_t *to, size_t room, size_t *len);
+
+/* Where a held message belongs. MR_VERSION_.., MR_NOT_THERE. */
+int32_t mr_card(mr_device *device, mr_version version, mr_placed *card);
+
+/* A label of a held message, by its place in rising order, from 0. MR_VERSION_.., MR_NOT_THERE, MR_TOO_SMALL. */
+int32_t mr_label(mr_device *device, mr_version version, size_t place, uint8_t *to, size_t room, size_t *len);
+
+/* Whether a version of an item is known, held or not: 1 or 0. MR_VERSION_.. of the item, then of the version. */
+int32_t mr_knows(mr_device *device, mr_version item, mr_version version, uint32_t *is_known);
+
+/* Whether it has retired: 1 or 0. */
+int32_t mr_is_retired(mr_device *device, uint32_t *is_retired);
+
+/* The numbers of the open sessions and streams, rising: at most MR_MAX_OPEN each. MR_TOO_SMALL. */
+int32_t mr_sessions(mr_device *device, uint64_t *to, size_t room, size_t *len);
+int32_t mr_streams(mr_device *device, uint64_t *to, size_t room, size_t *len);
+
+/* ---- frames in a stream of bytes: these take no device */
+
+/* How many bytes the frame takes that these begin, its own length's four among them. MR_WIRE_TRUNCATED: fewer than four bytes are
+ * there. MR_WIRE_TOO_LONG: give up the connection. */
+int32_t mr_frame_len(const uint8_t *bytes, size_t bytes_len, size_t *len);
+
+/* What a frame is, and who it claims to come from: compare that with who is at the other end before a device takes it.
+ * MR_WIRE_.., MR_BEHIND. */
+int32_t mr_frame_claim(const uint8_t *frame, size_t frame_len, mr_claimed *claim);
+
+/* ---- codes in words */
+
+/* A code in words; never NULL. It is for people: a program compares codes. */
+static inline const char *mr_code_text(int32_t code) {
+#define MR_CODE_CASE(name, number, text) case name: return text;
+  switch (code) {
+    MR_CODES(MR_CODE_CASE)
+    default: return "no such code";
+  }
+#undef MR_CODE_CASE
+}
+
+#ifdef __cplusplus
+}
+#endif
+
+#endif

@@ -1,0 +1,428 @@
+//! A device.
+
+use crate::error::{Error, Result, answer};
+use crate::sys;
+use crate::values::{Change, Counts, Draft, Held, Message, Received, Version};
+
+/// How many bytes a buffer has at first.
+const ROOM: usize = 512;
+
+/// The most sessions and streams that are open.
+const MAX_OPEN: usize = 8;
+
+/// A device: one end of a mailbox that is kept in step. It may go to another thread, and two threads can't share it.
+///
+/// Each call that changes it is an event, which happens as a whole or not at all: at an `Err` it is as it was.
+#[derive(Debug)]
+pub struct Device {
+    device: sys::Device,
+}
+
+// Safety: the library proves that what an open device owns may go to another thread. It has no `Sync`, since its readers take the
+// device out of the handle while they read.
+unsafe impl Send for Device {}
+
+impl Drop for Device {
+    fn drop(&mut self) {
+        sys::mr_close(&mut self.device);
+    }
+}
+
+// The text that bytes of the library are, which gives none but UTF-8.
+fn text_of(bytes: Vec<u8>) -> Result<String> {
+    String::from_utf8(bytes).map_err(|_| Error::Unknown(sys::NOT_TEXT))
+}
+
+impl Device {
+    /// A device to which nothing has happened.
+    ///
+    /// `id`, 0 to 63, is given to no other device, ever. `filter` says what it keeps, as `all` or `label:inbox & !flag:deleted`.
+    /// `event_limit`, 1 to 1,000,000, says how many events it takes.
+    ///
+    /// # Errors
+    ///
+    /// `Version`, then `Filter`, then `Replay` for the limit.
+    ///
+    /// # Panics
+    ///
+    /// Where the library is of another interface than this crate.
+    pub fn open(id: u16, filter: &str, event_limit: u32) -> Result<Device> {
+        Device::replay(id, filter, event_limit, &[])
+    }
+
+    /// The device whose log has these bytes: those of [`log_since`](Device::log_since) from 0 on, one behind the other.
+    ///
+    /// # Errors
+    ///
+    /// As [`open`](Device::open), and behind `Filter`: `Event` where the bytes are none of events, `Replay` where one is refused.
+    ///
+    /// # Panics
+    ///
+    /// Where the library is of another interface than this crate.
+    pub fn replay(id: u16, filter: &str, event_limit: u32, log: &[u8]) -> Result<Device> {
+        let abi = sys::mr_abi();
+        assert!(
+            abi >> 16 == sys::ABI >> 16 && abi >= sys::ABI,
+            "libmailrep has interface 0x{abi:x}"
+        );
+        let mut opened = Device {
+            device: sys::Device::CLOSED,
+        };
+        // Safety: the pointers are those of slices of these lengths, and the device is closed.
+        answer(unsafe {
+            sys::mr_replay(
+                &mut opened.device,
+                id,
+                filter.as_ptr(),
+                filter.len(),
+                event_limit,
+                log.as_ptr(),
+                log.len(),
+            )
+        })?;
+        Ok(opened)
+    }
+
+    /// Writes a message.
+    ///
+    /// # Errors
+    ///
+    /// `Message`, then `Refused`.
+    pub fn create(&mut self, draft: &Draft<'_>) -> Result<Version> {
+        let Draft {
+            from,
+            subject,
+            body,
+            labels,
+            flags,
+            day,
+        } = *draft;
+        let mut version = Version::default();
+        // Safety: the pointers are those of slices of these lengths.
+        answer(unsafe {
+            sys::mr_create(
+                &mut self.device,
+                from.as_ptr(),
+                from.len(),
+                subject.as_ptr(),
+                subject.len(),
+                body.as_ptr(),
+                body.len(),
+                labels.as_ptr(),
+                labels.len(),
+                flags,
+                day,
+                &mut version,
+            )
+        })?;
+        Ok(version)
+    }
+
+    /// Puts a message in the place of held versions of one item: of one, or of all that conflict.
+    ///
+    /// # Errors
+    ///
+    /// `Message`, then `Version`, then `Refused`.
+    pub fn edit(&mut self, bases: &[Version], draft: &Draft<'_>) -> Result<Version> {
+        let Draft {
+            from,
+            subject,
+            body,
+            labels,
+            flags,
+            day,
+        } = *draft;
+        let mut version = Version::default();
+        // Safety: the pointers are those of slices of these lengths.
+        answer(unsafe {
+            sys::mr_edit(
+                &mut self.device,
+                bases.as_ptr(),
+                bases.len(),
+                from.as_ptr(),
+                from.len(),
+                subject.as_ptr(),
+                subject.len(),
+                body.as_ptr(),
+                body.len(),
+                labels.as_ptr(),
+                labels.len(),
+                flags,
+                day,
+                &mut version,
+            )
+        })?;
+        Ok(version)
+    }
+
+    /// Writes, asks and takes nothing more; it still answers.
+    ///
+    /// # Errors
+    ///
+    /// `Refused`, while it keeps messages for others.
+    pub fn retire(&mut self) -> Result<()> {
+        answer(sys::mr_retire(&mut self.device))
+    }
+
+    /// Asks for what the device lacks: the number of a session that waits for it, and the request's frame.
+    ///
+    /// # Errors
+    ///
+    /// `Refused`, as where eight sessions are open.
+    pub fn pull(&mut self) -> Result<(u64, Vec<u8>)> {
+        let mut session = 0;
+        answer(sys::mr_pull(&mut self.device, &mut session))?;
+        Ok((session, self.frame()?))
+    }
+
+    /// Opens a stream for a request, and gives its number.
+    ///
+    /// # Errors
+    ///
+    /// `Wire`, `BytesBehind`, `OtherFrame`, then `Refused`.
+    pub fn answer(&mut self, frame: &[u8]) -> Result<u64> {
+        let mut stream = 0;
+        // Safety: the pointer is that of a slice of this length.
+        answer(unsafe {
+            sys::mr_answer(&mut self.device, frame.as_ptr(), frame.len(), &mut stream)
+        })?;
+        Ok(stream)
+    }
+
+    /// The frame of the stream's next record.
+    ///
+    /// # Errors
+    ///
+    /// `Refused`, where no such stream is open.
+    pub fn next(&mut self, stream: u64) -> Result<Vec<u8>> {
+        answer(sys::mr_next(&mut self.device, stream))?;
+        self.frame()
+    }
+
+    /// Takes a record.
+    ///
+    /// # Errors
+    ///
+    /// `Wire`, `BytesBehind`, then `Refused`.
+    pub fn receive(&mut self, frame: &[u8]) -> Result<Received> {
+        let mut outcome = 0;
+        // Safety: the pointer is that of a slice of this length.
+        answer(unsafe {
+            sys::mr_receive(&mut self.device, frame.as_ptr(), frame.len(), &mut outcome)
+        })?;
+        Ok(match outcome {
+            0 => Received::Took,
+            1 => Received::Known,
+            _ => Received::Finished,
+        })
+    }
+
+    /// Gives up a session; what it took stays.
+    ///
+    /// # Errors
+    ///
+    /// `Refused`, where no such session is open.
+    pub fn cut_in(&mut self, session: u64) -> Result<()> {
+        answer(sys::mr_cut_in(&mut self.device, session))
+    }
+
+    /// Gives up a stream.
+    ///
+    /// # Errors
+    ///
+    /// `Refused`, where no such stream is open.
+    pub fn cut_out(&mut self, stream: u64) -> Result<()> {
+        answer(sys::mr_cut_out(&mut self.device, stream))
+    }
+
+    /// The frame of a receipt for a head.
+    ///
+    /// # Errors
+    ///
+    /// `Version`, then `Refused`.
+    pub fn vouch(&mut self, version: Version) -> Result<Vec<u8>> {
+        answer(sys::mr_vouch(&mut self.device, version))?;
+        self.frame()
+    }
+
+    /// Lets go of the push-outs that a receipt frees.
+    ///
+    /// # Errors
+    ///
+    /// `Wire`, `BytesBehind`, `OtherFrame`, then `Refused`.
+    pub fn release(&mut self, frame: &[u8]) -> Result<()> {
+        // Safety: the pointer is that of a slice of this length.
+        answer(unsafe { sys::mr_release(&mut self.device, frame.as_ptr(), frame.len()) })
+    }
+
+    // What a call writes to a buffer, which grows to the length that the call tells.
+    fn filled(
+        &mut self,
+        call: impl Fn(&mut sys::Device, *mut u8, usize, &mut usize) -> i32,
+    ) -> Result<Vec<u8>> {
+        let mut bytes = vec![0; ROOM];
+        let mut len = 0;
+        let mut code = call(&mut self.device, bytes.as_mut_ptr(), bytes.len(), &mut len);
+        if code == sys::TOO_SMALL {
+            bytes.resize(len, 0);
+            code = call(&mut self.device, bytes.as_mut_ptr(), bytes.len(), &mut len);
+        }
+        answer(code)?;
+        bytes.truncate(len);
+        Ok(bytes)
+    }
+
+    /// The frame that the last event gave that was not refused, and nothing where it gave none. `pull`, `next` and `vouch` give it
+    /// themselves; it is here for who found no memory to take it.
+    ///
+    /// # Errors
+    ///
+    /// None of an open device.
+    pub fn frame(&mut self) -> Result<Vec<u8>> {
+        // Safety: `filled` hands over a buffer of its own, and the room that it has.
+        self.filled(|device, to, room, len| unsafe { sys::mr_frame(device, to, room, len) })
+    }
+
+    /// How much there is.
+    pub fn counts(&mut self) -> Counts {
+        let mut counts = Counts::default();
+        let code = sys::mr_counts(&mut self.device, &mut counts);
+        debug_assert_eq!(code, 0);
+        counts
+    }
+
+    /// The messages that the filter selects, in version order.
+    pub fn heads(&mut self) -> impl Iterator<Item = Held> + '_ {
+        (0..self.counts().heads).map_while(|place| {
+            let mut head = Held::default();
+            (sys::mr_head(&mut self.device, place, &mut head) == 0).then_some(head)
+        })
+    }
+
+    /// The messages that wait for another device to have them, in version order.
+    pub fn push_outs(&mut self) -> impl Iterator<Item = Held> + '_ {
+        (0..self.counts().push_outs).map_while(|place| {
+            let mut push_out = Held::default();
+            (sys::mr_push_out(&mut self.device, place, &mut push_out) == 0).then_some(push_out)
+        })
+    }
+
+    /// The changes of the heads, in order of time, behind the first so many. Keep how many you have seen.
+    pub fn changes_since(&mut self, seen: usize) -> impl Iterator<Item = Change> + '_ {
+        (seen..self.counts().changes).map_while(|place| {
+            let mut change = Change::default();
+            (sys::mr_change(&mut self.device, place, &mut change) == 0).then_some(change)
+        })
+    }
+
+    /// The events of the log behind the first so many, each as the bytes to be kept for [`replay`](Device::replay).
+    pub fn log_since(&mut self, kept: usize) -> impl Iterator<Item = Result<Vec<u8>>> + '_ {
+        (kept..self.counts().events).map(|place| {
+            // Safety: `filled` hands over a buffer of its own, and the room that it has.
+            self.filled(|device, to, room, len| unsafe {
+                sys::mr_event(device, place, to, room, len)
+            })
+        })
+    }
+
+    // A part of a message, as text.
+    fn text(&mut self, version: Version, part: u32) -> Result<String> {
+        text_of(self.part(version, part)?)
+    }
+
+    fn part(&mut self, version: Version, part: u32) -> Result<Vec<u8>> {
+        // Safety: `filled` hands over a buffer of its own, and the room that it has.
+        self.filled(|device, to, room, len| unsafe {
+            sys::mr_part(device, version, part, to, room, len)
+        })
+    }
+
+    fn label(&mut self, version: Version, place: usize) -> Result<String> {
+        // Safety: `filled` hands over a buffer of its own, and the room that it has.
+        let bytes = self.filled(|device, to, room, len| unsafe {
+            sys::mr_label(device, version, place, to, room, len)
+        })?;
+        text_of(bytes)
+    }
+
+    /// The message of a held version.
+    ///
+    /// # Errors
+    ///
+    /// `Version` where there is no such version, then `NotThere`.
+    pub fn message(&mut self, version: Version) -> Result<Message> {
+        let mut card = sys::Placed::default();
+        answer(sys::mr_card(&mut self.device, version, &mut card))?;
+        let labels = (0..card.labels).map(|place| self.label(version, place));
+        Ok(Message {
+            labels: labels.collect::<Result<_>>()?,
+            from: self.text(version, 0)?,
+            subject: self.text(version, 1)?,
+            body: self.part(version, 2)?,
+            // At most 31, and at most 65,535.
+            flags: card.flags as u8,
+            day: card.day as u16,
+        })
+    }
+
+    /// Whether a version of an item is known, held or not.
+    ///
+    /// # Errors
+    ///
+    /// `Version`.
+    pub fn knows(&mut self, item: Version, version: Version) -> Result<bool> {
+        let mut is_known = 0;
+        answer(sys::mr_knows(
+            &mut self.device,
+            item,
+            version,
+            &mut is_known,
+        ))?;
+        Ok(is_known == 1)
+    }
+
+    /// Whether it has retired.
+    pub fn is_retired(&mut self) -> bool {
+        let mut is_retired = 0;
+        let code = sys::mr_is_retired(&mut self.device, &mut is_retired);
+        debug_assert_eq!(code, 0);
+        is_retired == 1
+    }
+
+    // The numbers that a call writes.
+    fn numbers(
+        &mut self,
+        call: unsafe extern "C" fn(&mut sys::Device, *mut u64, usize, &mut usize) -> i32,
+    ) -> Result<Vec<u64>> {
+        let mut numbers = [0; MAX_OPEN];
+        let mut len = 0;
+        // Safety: the buffer has this length.
+        answer(unsafe {
+            call(
+                &mut self.device,
+                numbers.as_mut_ptr(),
+                numbers.len(),
+                &mut len,
+            )
+        })?;
+        Ok(numbers[..len].to_vec())
+    }
+
+    /// The numbers of the open sessions, rising.
+    ///
+    /// # Errors
+    ///
+    /// `OutOfMemory` alone.
+    pub fn sessions(&mut self) -> Result<Vec<u64>> {
+        self.numbers(sys::mr_sessions)
+    }
+
+    /// The numbers of the open streams, rising.
+    ///
+    /// # Errors
+    ///
+    /// `OutOfMemory` alone.
+    pub fn streams(&mut self) -> Result<Vec<u64>> {
+        self.numbers(sys::mr_streams)
+    }
+}

@@ -1,0 +1,63 @@
+//! Devices that keep one mailbox in step.
+//!
+//! A [`Device`] holds messages, writes and edits them offline, and comes into step with others by frames, which are bytes that a
+//! program carries however it likes. The engine behind it is proved; this crate is a safe wrapper of its C library.
+//!
+//! ```
+//! use mailrep::{Device, Draft, Received};
+//!
+//! # fn main() -> mailrep::Result<()> {
+//! let mut phone = Device::open(0, "label:inbox", 1_000)?;
+//! let mut office = Device::open(1, "all", 1_000)?;
+//! let lunch = phone.create(&Draft {
+//!     from: "ann@example.org",
+//!     subject: "lunch",
+//!     body: b"See you there.",
+//!     labels: "inbox,work",
+//!     ..Draft::default()
+//! })?;
+//!
+//! // The office asks, and the phone gives it record by record.
+//! let (_session, request) = office.pull()?;
+//! let stream = phone.answer(&request)?;
+//! while office.receive(&phone.next(stream)?)? != Received::Finished {}
+//! assert_eq!(office.message(lunch)?.subject, "lunch");
+//!
+//! // A device is its log: kept, it is there again.
+//! let log: Vec<u8> = office.log_since(0).collect::<mailrep::Result<Vec<_>>>()?.concat();
+//! drop(office);
+//! let mut office = Device::replay(1, "all", 1_000, &log)?;
+//! assert_eq!(office.heads().next().map(|head| head.version), Some(lunch));
+//! # Ok(())
+//! # }
+//! ```
+//!
+//! A call that is refused changes nothing, and says why: an [`Error`].
+//!
+//! ```
+//! use mailrep::{Device, Error, Refusal};
+//!
+//! let mut phone = Device::open(0, "all", 1_000).unwrap();
+//! assert_eq!(phone.cut_in(7), Err(Error::Refused(Refusal::NoSession)));
+//! ```
+//!
+//! A device goes to another thread, and is not shared:
+//!
+//! ```compile_fail
+//! fn share<T: Sync>(_: &T) {}
+//! share(&mailrep::Device::open(0, "all", 1_000).unwrap());
+//! ```
+
+mod device;
+mod error;
+mod frames;
+mod sys;
+mod values;
+
+pub use device::Device;
+pub use error::{
+    Error, EventFault, FilterFault, MessageFault, Refusal, ReplayFault, Result, VersionFault,
+    WireFault,
+};
+pub use frames::{claim, frame_len};
+pub use values::{Change, Claim, Counts, Draft, FrameKind, Held, Message, Received, Version, flag};

@@ -1,0 +1,78 @@
+//! The declarations of `mailrep.h`.
+
+use crate::{Change, Counts, Held, Version};
+use std::ffi::c_void;
+
+/// `mr_device`: all zeros is closed.
+#[repr(C)]
+#[derive(Debug)]
+pub struct Device {
+    inner: *mut c_void,
+    live: u64,
+}
+
+impl Device {
+    pub const CLOSED: Device = Device {
+        inner: std::ptr::null_mut(),
+        live: 0,
+    };
+}
+
+/// `mr_placed`.
+#[repr(C)]
+#[derive(Clone, Copy, Debug, Default)]
+pub struct Placed {
+    pub labels: usize,
+    pub flags: u32,
+    pub day: u32,
+}
+
+/// `mr_claimed`.
+#[repr(C)]
+#[derive(Clone, Copy, Debug, Default)]
+pub struct Claimed {
+    pub kind: u32,
+    pub author: u32,
+}
+
+/// The code of a text that is none.
+pub const NOT_TEXT: i32 = 4;
+
+/// The code of a buffer that is too small.
+pub const TOO_SMALL: i32 = 5;
+
+/// The number of the interface that these declarations are of.
+pub const ABI: u32 = 0x0001_0000;
+
+#[rustfmt::skip]
+unsafe extern "C" {
+    pub safe fn mr_abi() -> u32;
+    pub fn mr_replay(device: &mut Device, id: u16, filter: *const u8, filter_len: usize, event_limit: u32, log: *const u8, log_len: usize) -> i32;
+    pub safe fn mr_close(device: &mut Device);
+    pub fn mr_create(device: &mut Device, from: *const u8, from_len: usize, subject: *const u8, subject_len: usize, body: *const u8, body_len: usize, labels: *const u8, labels_len: usize, flags: u8, day: u16, version: &mut Version) -> i32;
+    pub fn mr_edit(device: &mut Device, bases: *const Version, bases_len: usize, from: *const u8, from_len: usize, subject: *const u8, subject_len: usize, body: *const u8, body_len: usize, labels: *const u8, labels_len: usize, flags: u8, day: u16, version: &mut Version) -> i32;
+    pub safe fn mr_retire(device: &mut Device) -> i32;
+    pub safe fn mr_pull(device: &mut Device, session: &mut u64) -> i32;
+    pub fn mr_answer(device: &mut Device, frame: *const u8, frame_len: usize, stream: &mut u64) -> i32;
+    pub safe fn mr_next(device: &mut Device, stream: u64) -> i32;
+    pub fn mr_receive(device: &mut Device, frame: *const u8, frame_len: usize, outcome: &mut u32) -> i32;
+    pub safe fn mr_cut_in(device: &mut Device, session: u64) -> i32;
+    pub safe fn mr_cut_out(device: &mut Device, stream: u64) -> i32;
+    pub safe fn mr_vouch(device: &mut Device, version: Version) -> i32;
+    pub fn mr_release(device: &mut Device, frame: *const u8, frame_len: usize) -> i32;
+    pub fn mr_frame(device: &mut Device, to: *mut u8, room: usize, len: &mut usize) -> i32;
+    pub safe fn mr_counts(device: &mut Device, counts: &mut Counts) -> i32;
+    pub safe fn mr_head(device: &mut Device, place: usize, head: &mut Held) -> i32;
+    pub safe fn mr_push_out(device: &mut Device, place: usize, push_out: &mut Held) -> i32;
+    pub safe fn mr_change(device: &mut Device, place: usize, change: &mut Change) -> i32;
+    pub fn mr_event(device: &mut Device, place: usize, to: *mut u8, room: usize, len: &mut usize) -> i32;
+    pub fn mr_part(device: &mut Device, version: Version, part: u32, to: *mut u8, room: usize, len: &mut usize) -> i32;
+    pub safe fn mr_card(device: &mut Device, version: Version, card: &mut Placed) -> i32;
+    pub fn mr_label(device: &mut Device, version: Version, place: usize, to: *mut u8, room: usize, len: &mut usize) -> i32;
+    pub safe fn mr_knows(device: &mut Device, item: Version, version: Version, is_known: &mut u32) -> i32;
+    pub safe fn mr_is_retired(device: &mut Device, is_retired: &mut u32) -> i32;
+    pub fn mr_sessions(device: &mut Device, to: *mut u64, room: usize, len: &mut usize) -> i32;
+    pub fn mr_streams(device: &mut Device, to: *mut u64, room: usize, len: &mut usize) -> i32;
+    pub fn mr_frame_len(bytes: *const u8, bytes_len: usize, len: &mut usize) -> i32;
+    pub fn mr_frame_claim(frame: *const u8, frame_len: usize, claim: &mut Claimed) -> i32;
+}

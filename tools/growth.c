@@ -1,0 +1,127 @@
+/* Two devices in step, with each call for memory of a run refused in turn (tools/try-c links it with malloc and realloc wrapped).
+   The call then answers MR_NO_MEMORY and has changed nothing that C sees; made again it does what it is to do, and the run ends as
+   it does with all memory. */
+#include <mailrep.h>
+#include <stdio.h>
+#include <stdlib.h>
+#include <string.h>
+
+void *__real_malloc(size_t);
+void *__real_realloc(void *, size_t);
+
+/* How many calls for memory there were, and how many are left until one is refused: none where it is below 0. */
+static long asked, left = -1;
+static int refused, wrong;
+
+static int refuse(void) {
+  asked++;
+  return left >= 0 && left-- == 0;
+}
+
+void *__wrap_malloc(size_t n) { return refuse() ? NULL : __real_malloc(n); }
+void *__wrap_realloc(void *at, size_t n) { return refuse() ? NULL : __real_realloc(at, n); }
+
+#define TEXT(x) (const uint8_t *)(x), strlen(x)
+
+/* What C sees of a device: its counts, its frame, what is open. */
+typedef struct seen {
+  int32_t codes[2];
+  mr_count count;
+  size_t frame_len;
+  uint8_t frame[4096];
+} seen;
+
+static void look(mr_device *device, seen *s) {
+  memset(s, 0, sizeof *s);
+  s->codes[0] = mr_counts(device, &s->count);
+  s->codes[1] = mr_frame(device, s->frame, sizeof s->frame, &s->frame_len);
+}
+
+/* A call that may be refused once. */
+#define CALL(device, call)                                        \
+  do {                                                            \
+    static seen before, after;                                    \
+    look(device, &before);                                        \
+    int32_t code = (call);                                        \
+    if (code == MR_NO_MEMORY) {                                   \
+      refused++;                                                  \
+      look(device, &after);                                       \
+      if (memcmp(&before, &after, sizeof before)) wrong++, puts("changed: " #call); \
+      code = (call);                                              \
+    }                                                             \
+    if (code) wrong++, printf("0x%x: %s\n", (unsigned)code, #call); \
+  } while (0)
+
+static uint8_t bytes[1 << 16], log_bytes[1 << 16];
+static size_t len;
+
+/* A call that gives numbers that are open, and none of them is left at the end. */
+static void none_open(mr_device *device, int32_t (*call)(mr_device *, uint64_t *, size_t, size_t *)) {
+  uint64_t numbers[8];
+  size_t count = 9;
+  CALL(device, call(device, numbers, 8, &count));
+  if (count) wrong++, printf("%zu are open\n", count);
+}
+
+static size_t kept(mr_device *device) {
+  size_t all = 0;
+  mr_count count = {0, 0, 0, 0};
+  CALL(device, mr_counts(device, &count));
+  for (size_t i = 0; i < count.events; i++) {
+    CALL(device, mr_event(device, i, log_bytes + all, sizeof log_bytes - all, &len));
+    all += len;
+  }
+  return all;
+}
+
+static void run(void) {
+  mr_device phone = {0}, office = {0}, again = {0};
+  mr_version first, second, other;
+  mr_claimed claim;
+  mr_count count;
+  uint64_t session, stream;
+  uint32_t outcome = MR_TOOK;
+  CALL(&phone, mr_open(&phone, 0, TEXT("label:inbox"), 1000));
+  CALL(&office, mr_open(&office, 1, TEXT("all"), 1000));
+  CALL(&phone, mr_create(&phone, TEXT("ann@example.org"), TEXT("lunch"), TEXT("See you."), TEXT("inbox,work"), 0, 20000, &first));
+  CALL(&phone, mr_edit(&phone, &first, 1, TEXT("ann@example.org"), TEXT("lunch"), TEXT("Today."), TEXT("inbox"), 1, 20000, &second));
+  CALL(&phone, mr_create(&phone, TEXT("ann@example.org"), TEXT("note"), TEXT(""), TEXT("work"), 0, 20000, &other));
+  CALL(&office, mr_pull(&office, &session));
+  CALL(&office, mr_frame(&office, bytes, sizeof bytes, &len));
+  CALL(&phone, mr_answer(&phone, bytes, len, &stream));
+  for (int i = 0; i < 50 && outcome != MR_FINISHED; i++) {
+    CALL(&phone, mr_next(&phone, stream));
+    CALL(&phone, mr_frame(&phone, bytes, sizeof bytes, &len));
+    CALL(&phone, mr_frame_claim(bytes, len, &claim));
+    CALL(&office, mr_receive(&office, bytes, len, &outcome));
+  }
+  CALL(&office, mr_vouch(&office, other));
+  CALL(&office, mr_frame(&office, bytes, sizeof bytes, &len));
+  CALL(&phone, mr_release(&phone, bytes, len));
+  CALL(&office, mr_pull(&office, &session));
+  CALL(&office, mr_frame(&office, bytes, sizeof bytes, &len));
+  CALL(&phone, mr_answer(&phone, bytes, len, &stream));
+  CALL(&phone, mr_cut_out(&phone, stream));
+  CALL(&office, mr_cut_in(&office, session));
+  none_open(&phone, mr_streams);
+  none_open(&office, mr_sessions);
+  size_t all = kept(&office);
+  CALL(&again, mr_replay(&again, 1, TEXT("all"), 1000, log_bytes, all));
+  CALL(&again, mr_counts(&again, &count));
+  if (count.heads != 2 || outcome != MR_FINISHED) wrong++, printf("the office has %zu\n", count.heads);
+  CALL(&phone, mr_retire(&phone));
+  mr_close(&phone);
+  mr_close(&office);
+  mr_close(&again);
+}
+
+int main(void) {
+  run();
+  long all = asked;
+  for (long i = 0; i < all; i++) {
+    left = i;
+    run();
+  }
+  printf("%ld calls for memory, each refused once: %d calls answered so, %d are wrong\n", all, refused, wrong);
+  return wrong || refused < all;
+}
