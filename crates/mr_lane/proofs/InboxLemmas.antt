@@ -142,7 +142,3 @@ module _ {T : Type 0} where
   -- the pass that takes accounts for each sender that it heard out
   pub inbox_accounts : (pass : ℕ) (v : InboxSight T) → v.takes ≡ true → Learns DeliversInOrder pass v (AccountsForAll v)
   inbox_accounts pass v may waiting sights h at = let mine = (h.5 pass v at).1 may in λ k l known. ap (λ g. pieces_by k (g ++ waiting)) mine.1 ∙ (h.4 k ∙ sym (mine.3 k l known).2)
-
-  -- a pass that sends knows that what waits of its sender is the last of what it sent
-  pub inbox_waiting : (pass : ℕ) (v : InboxSight T) → v.sends ≡ true → Learns DeliversInOrder pass v (λ waiting. (gone : List (Piece T)) × (v.sent ≡ gone ++ pieces_by v.number waiting))
-  inbox_waiting pass v may waiting sights h at = (pieces_by v.number h.3, ((h.5 pass v at).0 may).1 ∙ (sym (h.4 v.number) ∙ pieces_by-append v.number h.3 waiting))

@@ -1,15 +1,14 @@
 -- a post as contracts see it, and what its calls do
-use Rattle.std.specs.Prelude.{◌≡◌, ℕ, Bool, true, false, List, [], ◌∷◌, ◌++◌, length}
+use Rattle.std.specs.Prelude.{◌≡◌, ℕ, Bool, true, false, List, [], ◌∷◌, ◌++◌}
 use Rattle.atomic_table.specs.Seated.{TableId}
 use Rattle.crossbeam_queue.specs.Passes.{Pass, view}
-use Rattle.mr_lane.specs.declared.piece.Piece.{Piece}
 use Rattle.mr_lane.specs.declared.note.Sender.{Sender}
 use Rattle.mr_lane.specs.declared.note.Note.{Note}
 use Rattle.mr_lane.specs.declared.inbox_rule.InboxSight.{InboxSight}
 use Rattle.mr_lane.specs.declared.fault.SendFault.{SendFault}
 use Rattle.mr_lane.specs.declared.fault.SendFault.TheVariants as send
 use Rattle.mr_lane.specs.Piece.{pieces, items_of}
-use Rattle.mr_lane.specs.Note.{pieces_by, sender_number}
+use Rattle.mr_lane.specs.Note.{sender_number}
 
 -- a post: which inbox it is of, how many places that has, whose post it is, the letters that were sent in order, and whether the end mark was
 pub record PostView (T : Type 0) : Type 0 where
@@ -32,18 +31,10 @@ module _ {T : Type 0} where
   abbrev pub with_end_mark : PostView T → PostView T
   with_end_mark p = record p { finished = true }
 
-  -- of all that waited at one moment, the part of this sender was the last of what it sent
-  abbrev pub EndsWithItsPart : ℕ → List (Piece T) → List (Note T) → Type 0
-  EndsWithItsPart number sent waiting = (gone : List (Piece T)) × (sent ≡ gone ++ pieces_by number waiting)
-
-  -- at one moment as many waited as there are places; of this sender the last of what it sent
-  abbrev pub InboxWasFull : PostView T → Type 0
-  InboxWasFull p = (waiting : List (Note T)) × (length waiting ≡ p.capacity) × EndsWithItsPart (sender_number p.sender) (pieces p.sent p.finished) waiting
-
-  -- a letter comes back as Ended where the post was finished, and else as Full where the inbox was full
+  -- A letter comes back as Ended where the post was finished, and else as Full. That the inbox was full then no view can say: a post sees nothing of what the others sent, nor of what the desk took.
   abbrev pub ReturnsLetter : PostView T → T → SendFault T → Type 0
   ReturnsLetter p letter (send.Ended y) = (y ≡ letter) × (p.finished ≡ true)
-  ReturnsLetter p letter (send.Full y) = (y ≡ letter) × (p.finished ≡ false) × InboxWasFull p
+  ReturnsLetter p letter (send.Full y) = (y ≡ letter) × (p.finished ≡ false)
 
   -- ---- below the posts
 
@@ -56,7 +47,3 @@ module _ {T : Type 0} where
   -- what a pass knows
   abbrev pub inbox_sight_of : Pass (Note T) (InboxSight T) → InboxSight T
   inbox_sight_of p = view p
-
-  -- at one moment this many waited
-  abbrev pub HeldSo : InboxSight T → ℕ → Type 0
-  HeldSo s count = (waiting : List (Note T)) × (length waiting ≡ count) × EndsWithItsPart s.number s.sent waiting

@@ -1,6 +1,6 @@
 -- worked rows: what the definitions give for small values
 use Rattle.std.specs.Prelude.{◌≡◌, ℕ, Bool, true, false, List, [], ◌∷◌, ◌++◌, length, map, refl}
-use Rattle.std.proofs.Common.{true≢false, sym}
+use Rattle.std.proofs.Common.{true≢false, sym, arith}
 use Rattle.atomic_table.specs.Seated.{TableId}
 use Rattle.mr_lane.specs.declared.piece.Piece.{Piece}
 use Rattle.mr_lane.specs.declared.piece.Piece.TheVariants.{Item, End}
@@ -106,9 +106,12 @@ sent_behind id = refl
 pub end_is_no_letter : (id : TableId) → with_end_mark (post id (5 ∷ []) false) ≡ post id (5 ∷ []) true
 end_is_no_letter id = refl
 
--- an inbox may be full of this sender's last letter and of a letter of another
+-- an unfinished post returns the very letter, and as full alone
 pub returned_as_full : (id : TableId) → ReturnsLetter (post id (5 ∷ 6 ∷ []) false) 7 (send.Full 7)
-returned_as_full id = (refl, refl, (note FirstLink (Item 9) ∷ note User (Item 6) ∷ [], refl, (Item 5 ∷ [], refl)))
+returned_as_full id = (refl, refl)
+
+pub returns_no_other_letter : (id : TableId) → ¬ ReturnsLetter (post id (5 ∷ 6 ∷ []) false) 7 (send.Full 6)
+returns_no_other_letter id given = absurd (omega (arith, given.0))
 
 -- a finished post returns each letter as ended
 pub returned_as_ended : (id : TableId) → ReturnsLetter (post id (5 ∷ []) true) 7 (send.Ended 7)

@@ -1,5 +1,5 @@
 -- ends of a link over lanes
-use Rattle.std.specs.Prelude.{◌≡◌, ℕ, List, [], Some}
+use Rattle.std.specs.Prelude.{◌≡◌, ◌++◌, ℕ, false, List, [], Option, Some}
 use Rattle.std.specs.List.{flat_map}
 use Rattle.std.specs.Global.{Vec}
 use Rattle.atomic_table.specs.Seated.{TableId}
@@ -24,9 +24,9 @@ lane_tells end = end.tells
 abbrev pub is_down : LaneEnd → LaneEnd
 is_down end = record end { tells = with_down end.tells }
 
--- nothing was sent or received yet, and the link was never down
+-- nothing was sent or received yet, the link was never down, and it was not hung up
 abbrev pub new_link : LinkView
-new_link = record { received = Some []; sent = Some []; downs = 0 }
+new_link = record { received = Some []; sent = Some []; downs = 0; hung_up = false }
 
 -- a new end over these lanes
 pub record IsEndOf (spout tap : TapEnd (Vec ℕ)) (end : LaneEnd) : Type 0 where
@@ -43,3 +43,25 @@ pub record AreJoined (capacity : ℕ) (here there : LaneEnd) : Type 0 where
   pub there_capacity : there.capacity ≡ capacity
   pub here_new : here.tells ≡ new_link
   pub there_new : there.tells ≡ new_link
+
+-- two ends of one link, whatever has passed it
+pub record AreEnds (here there : LaneEnd) : Type 0 where
+  pub here_to_there : here.sends_to ≡ there.receives_from
+  pub there_to_here : there.sends_to ≡ here.receives_from
+
+-- what was received is a beginning of what was sent
+pub record IsBeginning (received sent : Option (List ℕ)) : Type 0 where
+  pub bytes : List ℕ
+  pub more : List ℕ
+  pub came : received ≡ Some bytes
+  pub went : sent ≡ Some (bytes ++ more)
+
+-- each end received a beginning of what the other sent
+pub record AreSettled (here there : LaneEnd) : Type 0 where
+  pub to_there : IsBeginning there.tells.received here.tells.sent
+  pub to_here : IsBeginning here.tells.received there.tells.sent
+
+-- an end is of the lanes of which it was
+pub record SameEnd (old new : LaneEnd) : Type 0 where
+  pub sends_to : new.sends_to ≡ old.sends_to
+  pub receives_from : new.receives_from ≡ old.receives_from

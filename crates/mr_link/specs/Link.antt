@@ -1,14 +1,15 @@
 -- what a link tells, and what its calls do
-use Rattle.std.specs.Prelude.{◌≡◌, ◌+◌, ◌++◌, ℕ, List, Option, Result, Ok, Err, option_map}
+use Rattle.std.specs.Prelude.{◌≡◌, ◌+◌, ◌++◌, ℕ, Bool, true, List, Option, Result, Ok, Err, option_map}
 use Rattle.std.specs.Global.{Vec}
 use Rattle.mr_link.specs.declared.link.LinkFault.{LinkFault}
 use Rattle.mr_link.specs.declared.link.LinkFault.TheVariants.{OutOfMemory, LinkDown}
 
--- a link: the bytes that it received and those that it sent, each where it tells them, and how often a call found it down
+-- a link: the bytes that it received and those that it sent, each where it tells them, how often a call found it down, and whether it was hung up at this end
 pub record LinkView : Type 0 where
   pub received : Option (List ℕ)
   pub sent : Option (List ℕ)
   pub downs : ℕ
+  pub hung_up : Bool
 
 -- these bytes more, where they are told
 abbrev pub and_then : Option (List ℕ) → List ℕ → Option (List ℕ)
@@ -23,6 +24,10 @@ with_received l bytes = record l { received = and_then l.received bytes }
 -- it was down once more
 abbrev pub with_down : LinkView → LinkView
 with_down l = record l { downs = l.downs + 1 }
+
+-- it was hung up
+abbrev pub with_hang_up : LinkView → LinkView
+with_hang_up l = record l { hung_up = true }
 
 -- A send sends all its bytes. Or the link is down, and counts that; or there is no memory, and nothing has changed.
 abbrev pub Sends : LinkView → List ℕ → Result (Unit {0}) LinkFault → LinkView → Type 0

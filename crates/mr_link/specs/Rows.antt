@@ -1,5 +1,5 @@
 -- worked rows: what the definitions give for small values
-use Rattle.std.specs.Prelude.{◌≡◌, ℕ, List, [], ◌∷◌, ◌++◌, Option, Some, None, Ok, Err, map, refl}
+use Rattle.std.specs.Prelude.{◌≡◌, ℕ, true, false, List, [], ◌∷◌, ◌++◌, Option, Some, None, Ok, Err, map, refl}
 use Rattle.mr_wire.specs.declared.fault.WireFault.TheVariants as wire
 use Rattle.mr_wire.specs.declared.frame.Body.{Body}
 use Rattle.mr_wire.specs.declared.frame.Body.TheVariants.{Start, End}
@@ -10,16 +10,16 @@ use Rattle.mr_frames.specs.declared.fault.FrameFault.TheVariants as reading
 use Rattle.mr_frames.specs.Rows.{two_frames, first_frame}
 use Rattle.mr_link.specs.declared.link.LinkFault.TheVariants as link
 use Rattle.mr_link.specs.declared.snag.Snag.TheVariants as snag
-use Rattle.mr_link.specs.Link.{LinkView, and_then, with_down, Sends, Receives}
+use Rattle.mr_link.specs.Link.{LinkView, and_then, with_down, with_hang_up, Sends, Receives}
 use Rattle.mr_link.specs.Fault.{link_number, snag_number}
 use Rattle.mr_link.specs.Snag.{snag_of_reader, snag_of_link, snag_of_encoding}
-use Rattle.mr_link.specs.LaneLink.{new_link}
+use Rattle.mr_link.specs.LaneLink.{LaneEnd, IsBeginning, new_link}
 use Rattle.mr_link.specs.Wire.{WireView, unread_in, new_wire, IsBad, PassesWell, ReadsFrame, WritesFrame}
 
 -- ---- what a link tells
 
 abbrev telling : Option (List ℕ) → Option (List ℕ) → ℕ → LinkView
-telling received sent downs = record { received = received; sent = sent; downs = downs }
+telling received sent downs = record { received = received; sent = sent; downs = downs; hung_up = false }
 
 -- bytes come behind those before them
 pub behind : and_then (Some (1 ∷ 2 ∷ [])) (3 ∷ []) ≡ Some (1 ∷ 2 ∷ 3 ∷ [])
@@ -50,6 +50,14 @@ receives_none l = refl
 -- a new end of a link over lanes tells that nothing has passed
 pub new_end : new_link ≡ telling (Some []) (Some []) 0
 new_end = refl
+
+-- one that was hung up tells what it told, and that it was
+pub hangs_up : with_hang_up (telling (Some (1 ∷ [])) None 2) ≡ record { received = Some (1 ∷ []); sent = None; downs = 2; hung_up = true }
+hangs_up = refl
+
+-- of what was sent a part may be on its way
+pub part_came : IsBeginning (Some (1 ∷ [])) (Some (1 ∷ 2 ∷ []))
+part_came = record { bytes = 1 ∷ []; more = 2 ∷ []; came = refl; went = refl }
 
 -- ---- numbers, and what faults come to
 

@@ -1,11 +1,12 @@
 //! Two links of one process, joined by two lanes.
 ghost use Rattle.std.specs.Prelude.{◌≡◌, ◌<◌, ◌+◌, ◌^◌, ◌⊎◌, ◌↔◌, [], IfOk, Err};
 ghost use Rattle.mr_feed.specs.declared.port.TheConstants.{MAX_CAPACITY};
-ghost use Rattle.mr_link.specs.LaneLink.{AreJoined, IsEndOf, lane_tells, is_down};
+ghost use Rattle.mr_link.specs.Link.{Sends, Receives, with_hang_up};
+ghost use Rattle.mr_link.specs.LaneLink.{AreEnds, AreJoined, AreSettled, IsEndOf, SameEnd, lane_tells, is_down};
 
 use crate::link::{Link, LinkFault};
 use crossbeam_utils::CachePadded;
-use mr_lane::{Drawn, LaneFault, SendFault, Spout, Tap, tap};
+use mr_lane::{Drawn, LaneFault, SendFault, Spout, Tap, tap, tap_settle};
 use std::alloc::Global;
 use std::marker::Model;
 use std::sync::atomic::{AtomicBool, Ordering};
@@ -27,6 +28,7 @@ pub struct LaneLink<R> {
     tap: Tap<Vec<u8>, R>,
     hung_up: HungUp,
     downs: u64,
+    has_hung_up: bool,
 }
 
 impl<R> Model for LaneLink<R> {
@@ -43,6 +45,7 @@ impl<R> Model for LaneLink<R> {
         received = Some (bytes_in l.tap.passed);
         sent = Some (bytes_in l.spout.passed);
         downs = l.downs;
+        hung_up = l.has_hung_up;
       };
     } };
 }
@@ -77,7 +80,11 @@ impl<R: Wait> LaneLink<R> {
 impl<R: Wait + Copy> Link for LaneLink<R> {
     ghost tells = { lane_tells };
 
-    fn send(&mut self, alloc: Global, bytes: &[u8]) -> Result<(), LinkFault> {
+    fn send(&mut self, alloc: Global, bytes: &[u8]) -> Result<(), LinkFault>
+        requires count { (lane_tells self.old).downs + 1 < 2 ^ 64 }
+        ensures sends { Sends (lane_tells self.old) bytes.now result (lane_tells self.new) }
+        ensures same { SameEnd self.old self.new }
+    {
         let Ok(mut piece) = Vec::from_slice(alloc, bytes) else {
             return Err(LinkFault::OutOfMemory);
         };
@@ -98,7 +105,11 @@ impl<R: Wait + Copy> Link for LaneLink<R> {
         unreachable!()
     }
 
-    fn receive(&mut self, _alloc: Global) -> Result<Vec<u8>, LinkFault> {
+    fn receive(&mut self, _alloc: Global) -> Result<Vec<u8>, LinkFault>
+        requires count { (lane_tells self.old).downs + 1 < 2 ^ 64 }
+        ensures receives { Receives (lane_tells self.old) result (lane_tells self.new) }
+        ensures same { SameEnd self.old self.new }
+    {
         let rt = self.rt;
         for _ in rt.forever() {
             let hung_up = self.is_hung_up();
@@ -115,7 +126,11 @@ impl<R: Wait + Copy> Link for LaneLink<R> {
         unreachable!()
     }
 
-    fn hang_up(&mut self) {
+    fn hang_up(&mut self)
+        ensures hung_up { lane_tells self.new ≡ with_hang_up (lane_tells self.old) }
+        ensures same { SameEnd self.old self.new }
+    {
+        self.has_hung_up = true;
         let flag: &AtomicBool = &self.hung_up;
         flag.store(true, Ordering::SeqCst);
     }
@@ -140,6 +155,25 @@ pub fn lane_link<R: Wait + Copy>(
     Ok((here, there))
 }
 
+/// Puts both ends of a link together, which uses them up: what either received is a beginning of what the other sent.
+pub fn link_settle<R: Wait + Copy>(here: LaneLink<R>, there: LaneLink<R>)
+    requires { AreEnds here there }
+    ensures { AreSettled here there }
+{
+    let LaneLink {
+        spout: here_spout,
+        tap: here_tap,
+        ..
+    } = here;
+    let LaneLink {
+        spout: there_spout,
+        tap: there_tap,
+        ..
+    } = there;
+    tap_settle(here_spout, there_tap);
+    tap_settle(there_spout, here_tap);
+}
+
 /// An end over these lanes, over which nothing has passed.
 fn new_end<R>(rt: R, spout: Spout<Vec<u8>, R>, tap: Tap<Vec<u8>, R>, hung_up: HungUp) -> LaneLink<R>
     requires sent { spout.passed ≡ [] }
@@ -152,5 +186,6 @@ fn new_end<R>(rt: R, spout: Spout<Vec<u8>, R>, tap: Tap<Vec<u8>, R>, hung_up: Hu
         tap,
         hung_up,
         downs: 0,
+        has_hung_up: false,
     }
 }

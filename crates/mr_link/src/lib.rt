@@ -24,7 +24,7 @@ mod snag;
 mod wire;
 
 pub use gate::{Gate, OpenGate};
-pub use lane_links::{LaneLink, lane_link};
+pub use lane_links::{LaneLink, lane_link, link_settle};
 pub use link::{Link, LinkFault};
 pub use snag::Snag;
 pub use wire::Wire;

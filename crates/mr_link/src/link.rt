@@ -1,6 +1,6 @@
 //! What a node's link has to do.
 ghost use Rattle.std.specs.Prelude.{◌≡◌, ◌<◌, ◌+◌, ◌^◌};
-ghost use Rattle.mr_link.specs.Link.{LinkView, Sends, Receives};
+ghost use Rattle.mr_link.specs.Link.{LinkView, Sends, Receives, with_hang_up};
 ghost use Rattle.mr_link.specs.Fault.{link_number};
 
 use std::alloc::Global;
@@ -47,7 +47,7 @@ pub trait Link: Drop {
         requires count { (tells self.old).downs + 1 < 2 ^ 64 }
         ensures receives { Receives (tells self.old) result (tells self.new) };
 
-    /// Ends the link, so that nobody waits at its other end. What it tells stays the same.
+    /// Ends the link, so that nobody waits at its other end. What it sent and received stays the same.
     fn hang_up(&mut self)
-        ensures still { tells self.new ≡ tells self.old };
+        ensures hung_up { tells self.new ≡ with_hang_up (tells self.old) };
 }

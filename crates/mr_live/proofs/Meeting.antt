@@ -7,13 +7,13 @@ use Rattle.mr_node.specs.Node.{ReplicaNodeRan}
 use Rattle.mr_node.specs.declared.node.NodeEnd.{NodeEnd}
 use Rattle.mr_node.specs.declared.node.NodeParts.{NodeParts}
 use Rattle.mr_replica.specs.State.{State}
-use Rattle.mr_live.specs.Rounds.{Links, had_memory, never, AreIdle, Cross, IsNew, RanFrom, RanAlone, RanBoth, TwoRounds}
+use Rattle.mr_live.specs.Rounds.{Links, had_memory, never, always, AreIdle, Cross, IsNew, RanFrom, RanAlone, RanBoth, TwoRounds}
 use Rattle.mr_live.specs.declared.plan.NodePlan.{NodePlan}
 
 module _ {K : Type 0} (form : Form K) where
   -- a node that ran, and answered no letter out of memory
   pub ran_from : (parts : NodeParts (State K) LaneEnd LaneEnd) (links : Links) (end : NodeEnd (State K)) (first second : LaneEnd) (is_whole : Bool) (ended : Option (State K))
-      → parts.first_link ≡ links.0 → parts.second_link ≡ links.1 → ReplicaNodeRan form lane_tells lane_tells never parts end first second
+      → parts.first_link ≡ links.0 → parts.second_link ≡ links.1 → ReplicaNodeRan form lane_tells lane_tells never always parts end first second
       → is_whole ≡ had_memory end.replies → ended ≡ then_some is_whole end.replica → IfSome ended (λ new. RanFrom form parts.replica parts.events.items links new)
   ran_from parts links end first second true ended one other ran whole is =
       rw is (record {

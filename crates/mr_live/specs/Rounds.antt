@@ -24,6 +24,10 @@ use Rattle.mr_live.specs.declared.rounds.TheConstants.{LINK_PIECES}
 abbrev pub never : Sender → ℕ → Bool
 never = λ link number. false
 
+-- and each record was let pass
+abbrev pub always : Sender → ℕ → Type 0
+always = λ link number. Unit {0}
+
 -- the first and the second link of a node
 abbrev pub Links : Type 0
 Links = LinkTurns LaneEnd × LinkTurns LaneEnd
@@ -76,7 +80,7 @@ module _ {K : Type 0} (form : Form K) where
     pub end : NodeEnd (State K)
     pub first_after : LaneEnd
     pub second_after : LaneEnd
-    pub ran : ReplicaNodeRan form lane_tells lane_tells never parts end first_after second_after
+    pub ran : ReplicaNodeRan form lane_tells lane_tells never always parts end first_after second_after
     pub memory : IsTrue (had_memory end.replies)
     pub is : new ≡ end.replica
 

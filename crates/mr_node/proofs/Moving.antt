@@ -129,3 +129,10 @@ pub grant_so : (may : Bool) (t : Turn) (versions : Vec Name) (v : Name) (xs : Li
 grant_so may t versions v xs p old is at undone there has =
     subst (λ (u : Turn). Moves may u xs old (move.Say (Vouch v)) old) (sym is)
     (next_grant may versions v xs p old at (never_equal p.said (length versions.items) undone) there has)
+
+-- a frame that is read is none too long
+pub reads_none_too_long : (old : WireView) (s : Snag) (new : WireView) → ReadsFrame old (Err s) new → s ≢ snag.TooLong
+reads_none_too_long old snag.LinkDown new h = λ e. absurd (cc e)
+reads_none_too_long old snag.OutOfMemory new h = λ e. absurd (cc e)
+reads_none_too_long old snag.BadFrame new h = λ e. absurd (cc e)
+reads_none_too_long old snag.TooLong new h = λ e. absurd h

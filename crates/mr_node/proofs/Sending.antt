@@ -1,5 +1,5 @@
 -- What comes of sending what an answer gives.
-use Rattle.std.proofs.Common.{◌≡◌, List, [], ◌∷◌, Result, Ok, Err, IfOk, None, IsSome, refl, sym, subst}
+use Rattle.std.proofs.Common.{◌≡◌, ◌≢◌, List, [], ◌∷◌, Result, Ok, Err, IfOk, None, IsSome, refl, sym, subst}
 use Rattle.mr_wire.specs.declared.frame.Frame.{Frame}
 use Rattle.mr_link.specs.Wire.{WireView, PassesWell, WritesFrame}
 use Rattle.mr_link.specs.declared.snag.Snag.{Snag}
@@ -30,3 +30,10 @@ unsent_so old reply snag.LinkDown new h = (refl, h)
 unsent_so old reply snag.BadFrame new h = tt
 unsent_so old reply snag.OutOfMemory new h = tt
 unsent_so old reply snag.TooLong new h = tt
+
+-- a frame that is sent is no bad one
+pub sends_no_bad_frame : (old : WireView) (given : List Frame) (s : Snag) (new : WireView) → WritesAll old given (Err s) new → s ≢ snag.BadFrame
+sends_no_bad_frame old given snag.LinkDown new h = λ e. absurd (cc e)
+sends_no_bad_frame old given snag.OutOfMemory new h = λ e. absurd (cc e)
+sends_no_bad_frame old given snag.TooLong new h = λ e. absurd (cc e)
+sends_no_bad_frame old given snag.BadFrame new h = λ e. absurd h

@@ -1,5 +1,5 @@
 -- A turn, letter by letter.
-use Rattle.std.proofs.Common.{◌≡◌, ◌+◌, ◌++◌, ℕ, Bool, true, false, List, [], ◌∷◌, Result, Err, Some, None, IsSome, refl, sym, ap, subst, ◌∙◌, arith}
+use Rattle.std.proofs.Common.{◌≡◌, ◌+◌, ◌++◌, ℕ, Bool, true, false, List, [], ◌∷◌, Option, Result, Err, Some, None, IsSome, refl, sym, ap, subst, ◌∙◌, arith}
 use Rattle.std.proofs.lemmas.List.{append-nil}
 use Rattle.mr_wire.specs.declared.frame.Frame.{Frame}
 use Rattle.mr_link.specs.Wire.{WireView, PassesWell}
@@ -8,12 +8,12 @@ use Rattle.mr_replica.specs.declared.event.Event.{Event}
 use Rattle.mr_replica.specs.declared.event.Reply.{Reply}
 use Rattle.mr_replica.specs.declared.refusal.Refusal.{Refusal}
 use Rattle.mr_threads.specs.Exchange.{said, letters_said}
-use Rattle.mr_threads.specs.Talk.{Says}
+use Rattle.mr_threads.specs.Talk.{Says, SaysInPart}
 use Rattle.mr_threads.specs.declared.talk.Talk.{Talk}
-use Rattle.mr_threads.proofs.Saying.{says_none, says-append}
+use Rattle.mr_threads.proofs.Saying.{says_none, says-append, part_behind}
 use Rattle.mr_node.specs.Saying.{Saying, letter_frame, answer_frame, frames_read, frames_given, one_if_receive, receives}
 use Rattle.mr_node.specs.Turn.{is_done, is_reading, IsReading, IsCutShort, IsAt, progress_of, advanced, cut_by}
-use Rattle.mr_node.specs.Step.{IsUnposted, Moves, ComesOf, Steps, SaysSoFar, SaysWhole, SaysPart, SaysCut}
+use Rattle.mr_node.specs.Step.{IsUnposted, Moves, ComesOf, Steps, SaysSoFar, SaysWhole, SaysPart, SaysCut, TurnGoes}
 use Rattle.mr_node.specs.declared.turn.Turn.{Turn}
 use Rattle.mr_node.specs.declared.turn.Stop.{Stop}
 use Rattle.mr_node.specs.declared.turn.Stop.TheVariants.{Refused, NotSent, NotReceived, BadFrame, Shut}
@@ -140,3 +140,8 @@ module _ {R : Type 0} (closes : ℕ → Bool) (t : Turn) (why : Stop) (talk mid 
     why = h.why;
     counted = h.counted;
   }
+
+-- what a turn has said, and then a part of what is behind it
+pub goes_part : {R : Type 0} (closes : ℕ → Bool) (t : Turn) (o : Option Stop) (talk mid talk' : Talk Event (Result Reply Refusal) R) (wire wire' : WireView) (posted posted' : ℕ) (p : Progress) → TurnGoes closes t o talk wire posted mid wire' posted' p → SaysInPart mid talk' → SaysInPart talk talk'
+goes_part closes t None talk mid talk' wire wire' posted posted' p h k = part_behind talk mid talk' h.said h.says k
+goes_part closes t (Some why) talk mid talk' wire wire' posted posted' p h k = part_behind talk mid talk' h.said h.says k

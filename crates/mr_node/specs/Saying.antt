@@ -1,5 +1,5 @@
 -- what a link says to a replica and hears, and the frames that it is made of and gives
-use Rattle.std.specs.Prelude.{◌+◌, ℕ, Bool, true, false, List, [], ◌∷◌, Result, Ok, Err}
+use Rattle.std.specs.Prelude.{◌+◌, ◌<◌, ℕ, Bool, true, false, List, [], ◌∷◌, Result, Ok, Err}
 use Rattle.std.specs.List.{flat_map, list_any}
 use Rattle.mr_wire.specs.declared.frame.Body.{Body}
 use Rattle.mr_wire.specs.declared.frame.Body.TheVariants as body
@@ -51,6 +51,15 @@ one_if_receive event = 0
 abbrev pub receives : List Saying → ℕ
 receives [] = 0
 receives (x ∷ xs) = one_if_receive x.letter + receives xs
+
+-- the gate has let each of the first so many records pass
+abbrev pub HasLet : (has_let : ℕ → Type 0) → (count : ℕ) → Type 0
+HasLet has_let count = (n : ℕ) → n < count → has_let (n + 1)
+
+-- a letter that is a Receive was let pass
+abbrev pub IsLetPass : (has_let : Type 0) → Event → Type 0
+IsLetPass has_let (Receive f) = has_let
+IsLetPass has_let event = Unit {0}
 
 -- whether it is the body of a stream's last record
 abbrev pub is_end : Body → Bool

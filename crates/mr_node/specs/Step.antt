@@ -12,7 +12,7 @@ use Rattle.mr_threads.specs.Talk.{Says}
 use Rattle.mr_threads.specs.declared.talk.Talk.{Talk}
 use Rattle.mr_threads.specs.declared.talk.Halt.{Halt}
 use Rattle.mr_threads.specs.declared.talk.Halt.TheVariants as halt
-use Rattle.mr_node.specs.Saying.{Saying, letter_frame, answer_frame, frames_read, frames_given, one_if_receive, receives}
+use Rattle.mr_node.specs.Saying.{Saying, letter_frame, answer_frame, frames_read, frames_given, one_if_receive, receives, IsLetPass}
 use Rattle.mr_node.specs.Turn.{IsMadeOfFrame, SaysNext, is_done, is_reading, IsWhole, IsCutShort, IsAt, progress_of, cut_behind}
 use Rattle.mr_node.specs.Stop.{Stops}
 use Rattle.mr_node.specs.declared.turn.Turn.{Turn}
@@ -30,13 +30,18 @@ IsUnposted Refused = ⊥
 IsUnposted NotSent = ⊥
 IsUnposted why = Unit {0}
 
+-- a record that is to be posted was let pass
+abbrev pub LetsMove : (has_let : Type 0) → Move → Type 0
+LetsMove has_let (move.Say letter) = IsLetPass has_let letter
+LetsMove has_let m = Unit {0}
+
 -- a frame was read, and a letter made of it; or why there is none
 abbrev pub Fetches : (may_close : Bool) → Turn → WireView → Move → WireView → Type 0
 Fetches may_close t old (move.Say letter) new = IsMadeOfFrame t letter × PassesWell old (letter_frame letter) [] new
 Fetches may_close t old move.Done new = ⊥
 Fetches may_close t old (move.Stop why) new = IsUnposted why × Stops may_close t old [] [] why new
 
--- what it means that no frame came
+-- what it means that no frame came: of the snags that a read may have; it has no frame too long
 abbrev pub unread : Snag → Result Move Halt
 unread snag.OutOfMemory = Err halt.OutOfMemory
 unread snag.LinkDown = Ok (move.Stop NotReceived)
@@ -63,7 +68,7 @@ WritesAll old given (Err snag.BadFrame) new = ⊥
 WritesAll old given (Err snag.OutOfMemory) new = Unit {0}
 WritesAll old given (Err snag.TooLong) new = Unit {0}
 
--- what it means that no frame was sent
+-- what it means that no frame was sent: of the snags that a send may have; it has no bad frame
 abbrev pub unsent : Snag → Result (Option Stop) Halt
 unsent snag.LinkDown = Ok (Some NotSent)
 unsent snag.OutOfMemory = Err halt.OutOfMemory

@@ -3,7 +3,7 @@ use Rattle.std.specs.Prelude.{◌≡◌, ◌+◌, ◌++◌, ◌⊎◌, ℕ, Bool
 use Rattle.mr_wire.specs.declared.frame.Frame.{Frame}
 use Rattle.mr_link.specs.Wire.{WireView, PassesWell, GoesDown, IsSpoilt}
 use Rattle.mr_threads.specs.Exchange.{letters_said}
-use Rattle.mr_node.specs.Saying.{Saying, frames_read, frames_given, receives}
+use Rattle.mr_node.specs.Saying.{Saying, frames_read, frames_given, receives, HasLet}
 use Rattle.mr_node.specs.Turn.{reads, AreWhole, IsCutShort, cut_behind}
 use Rattle.mr_node.specs.declared.turn.Turn.{Turn}
 use Rattle.mr_node.specs.declared.turn.Turn.TheVariants as turn
@@ -38,6 +38,10 @@ pub record IsStopped (closes : ℕ → Bool) (turns : List Turn) (old : WireView
   pub cuts : letters_said cut ≡ cut_behind part
   pub all : xs ≡ (said_before ++ part) ++ cut
   pub why : Stops (closes (receives (said_before ++ part) + 1)) turn old (frames_read (said_before ++ part)) (frames_given (said_before ++ part)) stop new
+
+-- the gate has let each record pass that was posted, by its number
+abbrev pub AreLetPass : (has_let : ℕ → Type 0) → List Saying → Type 0
+AreLetPass has_let xs = HasLet has_let (receives xs)
 
 -- a link took its turns, or stopped
 abbrev pub LinkRan : (closes : ℕ → Bool) → List Turn → WireView → List Saying → WireView → Type 0

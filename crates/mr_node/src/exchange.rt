@@ -1,10 +1,10 @@
 //! One letter of a link, its answer, and the frame that it gives.
-ghost use Rattle.std.specs.Prelude.{◌≡◌, ◌∷◌, [], ◌<◌, ◌+◌, ◌^◌, false, IsSome, IfOk, Result};
+ghost use Rattle.std.specs.Prelude.{◌≡◌, ◌≢◌, ◌∷◌, [], ◌<◌, ◌+◌, ◌^◌, false, IsSome, IfOk, OnErr, Result};
 ghost use Rattle.mr_link.specs.Wire.{wire_of};
 ghost use Rattle.mr_replica.specs.declared.event.Reply.{Reply};
 ghost use Rattle.mr_replica.specs.declared.refusal.Refusal.{Refusal};
 ghost use Rattle.mr_threads.specs.Exchange.{said};
-ghost use Rattle.mr_threads.specs.Talk.{Says, SameLanes};
+ghost use Rattle.mr_threads.specs.Talk.{Says, SaysInPart, SameLanes};
 ghost use Rattle.mr_node.specs.Saying.{reply_frame};
 ghost use Rattle.mr_node.specs.Turn.{advanced};
 ghost use Rattle.mr_node.specs.Step.{WritesAll, ComesOf, unsent};
@@ -32,6 +32,7 @@ pub(crate) fn exchange<L: Link, R: Wait>(
     requires count { (L.tells wire.old.link).downs + 1 < 2 ^ 64 }
     requires unread { IsSome (wire_of L.tells wire.old).unread }
     ensures so { IfOk result (λ stop. (answer : Result Reply Refusal) × Says talk.old (said letter answer ∷ []) talk.new × (progress.new ≡ advanced progress.old answer) × ComesOf (wire_of L.tells wire.old) answer stop (wire_of L.tells wire.new)) }
+    ensures in_turn { OnErr result (SaysInPart talk.old talk.new) }
     ensures lanes { SameLanes talk.old talk.new }
 {
     talk.say(rt, letter)?;
@@ -80,14 +81,15 @@ fn send_reply<L: Link>(alloc: Global, wire: &mut Wire<L>, reply: &Reply) -> Resu
     }
 }
 
-/// What it means that no frame was sent.
+/// What it means that no frame was sent. A request too long for a frame counts as a refused growth; a bad frame is only read.
 fn unsent(snag: Snag) -> Result<Option<Stop>, Halt>
+    requires { snag ≢ Snag.BadFrame }
     ensures { result ≡ unsent snag }
 {
     match snag {
         Snag::LinkDown => Ok(Some(Stop::NotSent)),
         Snag::OutOfMemory => Err(Halt::OutOfMemory),
-        Snag::BadFrame => Err(Halt::OutOfMemory),
         Snag::TooLong => Err(Halt::OutOfMemory),
+        Snag::BadFrame => unreachable!(),
     }
 }

@@ -18,7 +18,8 @@ pub(crate) struct Guard<'g, G> {
 impl<'g, G: Gate> Guard<'g, G> {
     /// Whether the next record may pass. More records than a `u64` counts don't come.
     pub(crate) fn lets_pass(&self) -> Result<bool, Halt>
-        ensures { IfOk result (λ may. IsFalse may → IsTrue (G.closes self.now.gate.now self.now.link (self.now.posted + 1))) }
+        ensures may_close { IfOk result (λ may. IsFalse may → IsTrue (G.closes self.now.gate.now self.now.link (self.now.posted + 1))) }
+        ensures has_let { IfOk result (λ may. IsTrue may → G.has_let self.now.gate.now self.now.link (self.now.posted + 1)) }
     {
         match self.posted.checked_add(1) {
             Some(record) => Ok(self.gate.pass(self.link, record)),

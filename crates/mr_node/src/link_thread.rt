@@ -1,7 +1,7 @@
 //! A link's thread.
 ghost use Rattle.std.specs.Prelude.{◌≡◌, ◌<◌, ◌+◌, ◌^◌, [], true, IsTrue};
 ghost use Rattle.mr_threads.specs.Outfit.{IsNewPost};
-ghost use Rattle.mr_node.specs.Thread.{SaidTurns};
+ghost use Rattle.mr_node.specs.Thread.{SaidTurns, SaidInTurn};
 
 use crate::link_voice::LinkVoice;
 use crate::replica_machine::Answer;
@@ -22,7 +22,8 @@ pub struct LinkParts<L, R> {
 }
 
 /// A link that has run: its parts, the answers that it took, and whether it did all that it had to. It did not where a
-/// growth was refused, where its replies were closed too soon, or where an answer came that no replica gives.
+/// growth was refused, where its replies were closed too soon, or where an answer came that no replica gives. A request too
+/// long for a frame, which is one of more than 8,388,608 bytes, and a count of more letters than a `u64` has count as refused growths.
 #[derive(Drop)]
 pub struct LinkEnd<L, R> {
     pub post: Post<Event>,
@@ -47,7 +48,9 @@ pub fn run_link<L: Link, G: Gate, R: Wait>(
     requires post { IsNewPost parts.post }
     requires tap { parts.tap.passed ≡ [] }
     requires count { (L.tells parts.link).downs + 1 < 2 ^ 64 }
-    ensures said { IsTrue result.whole → SaidTurns L.tells (G.closes gate.now parts.post.sender) turns.items parts result }
+    ensures said { IsTrue result.whole → SaidTurns L.tells (G.closes gate.now parts.post.sender) (G.has_let gate.now parts.post.sender) turns.items parts result }
+    ensures in_turn { SaidInTurn result }
+    ensures hung_up { (L.tells result.link).hung_up ≡ true }
     ensures post { result.post.id ≡ parts.post.id }
     ensures sender { result.post.sender ≡ parts.post.sender }
     ensures tap { result.tap.id ≡ parts.tap.id }

@@ -1,10 +1,10 @@
 //! What a link's thread says.
-ghost use Rattle.std.specs.Prelude.{◌≡◌, ◌<◌, ◌+◌, ◌^◌, List, false, IsSome, IfOk};
+ghost use Rattle.std.specs.Prelude.{◌≡◌, ◌<◌, ◌+◌, ◌^◌, List, false, IsSome, IfOk, OnErr};
 ghost use Rattle.mr_link.specs.Wire.{wire_of};
-ghost use Rattle.mr_threads.specs.Talk.{Says, SameLanes};
+ghost use Rattle.mr_threads.specs.Talk.{Says, SaysInPart, SameLanes};
 ghost use Rattle.mr_node.specs.Saying.{Saying};
-ghost use Rattle.mr_node.specs.Stop.{LinkRan};
-ghost use Rattle.mr_node.specs.Voice.{IsReady, IsVoiceOf, Runs};
+ghost use Rattle.mr_node.specs.Stop.{LinkRan, AreLetPass};
+ghost use Rattle.mr_node.specs.Voice.{HasHungUp, IsReady, IsVoiceOf, Runs};
 
 use crate::guard::Guard;
 use crate::replica_machine::Answer;
@@ -63,7 +63,9 @@ impl<'g, L: Link, G: Gate> LinkVoice<'g, L, G> {
 impl<'g, L: Link, G: Gate> Speaker<Event, Answer> for LinkVoice<'g, L, G> {
     ghost is_ready = { IsReady L.tells };
 
-    ghost speaks = { Runs L.tells G.closes };
+    ghost speaks = { Runs L.tells G.closes G.has_let };
+
+    ghost has_hung_up = { HasHungUp L.tells };
 
     fn speak<R: Wait>(&mut self, rt: &R, talk: &mut Talk<Event, Answer, R>) -> Result<(), Halt> {
         take_turns(
@@ -95,7 +97,8 @@ fn take_turns<L: Link, G: Gate, R: Wait>(
     requires count { (L.tells wire.old.link).downs + 1 < 2 ^ 64 }
     requires unread { IsSome (wire_of L.tells wire.old).unread }
     requires posted { guard.old.posted ≡ 0 }
-    ensures so { IfOk result (λ _. (xs : List Saying) × LinkRan (G.closes guard.old.gate.now guard.old.link) turns.now (wire_of L.tells wire.old) xs (wire_of L.tells wire.new) × Says talk.old xs talk.new) }
+    ensures so { IfOk result (λ _. (xs : List Saying) × (LinkRan (G.closes guard.old.gate.now guard.old.link) turns.now (wire_of L.tells wire.old) xs (wire_of L.tells wire.new) × AreLetPass (G.has_let guard.old.gate.now guard.old.link) xs) × Says talk.old xs talk.new) }
+    ensures in_turn { OnErr result (SaysInPart talk.old talk.new) }
     ensures lanes { SameLanes talk.old talk.new }
     ensures gate { guard.new.gate ≡ guard.old.gate }
     ensures link { guard.new.link ≡ guard.old.link }

@@ -1,9 +1,9 @@
 //! What a turn does next.
-ghost use Rattle.std.specs.Prelude.{◌≡◌, ◌<◌, ◌+◌, ◌^◌, Bool, List, IsSome, IfOk};
+ghost use Rattle.std.specs.Prelude.{◌≡◌, ◌≢◌, ◌<◌, ◌+◌, ◌^◌, Bool, List, IsSome, IfOk};
 ghost use Rattle.mr_link.specs.Wire.{wire_of};
 ghost use Rattle.mr_node.specs.Saying.{Saying};
 ghost use Rattle.mr_node.specs.Turn.{progress_of};
-ghost use Rattle.mr_node.specs.Step.{Fetches, Moves, ReadsLetter, unread};
+ghost use Rattle.mr_node.specs.Step.{Fetches, LetsMove, Moves, ReadsLetter, unread};
 ghost use Rattle.mr_node.specs.declared.turn.Turn.TheVariants as turn;
 
 use crate::guard::Guard;
@@ -40,6 +40,7 @@ pub(crate) fn next_move<L: Link, G: Gate, R: Wait>(
     requires unread { IsSome (wire_of L.tells wire.old).unread }
     ensures moves { (xs : List Saying) → progress ≡ progress_of xs → IfOk result (λ m. Moves (G.closes guard.now.gate.now guard.now.link (guard.now.posted + 1)) turn.now xs (wire_of L.tells wire.old) m (wire_of L.tells wire.new)) }
     ensures reads { IfOk result (λ m. ReadsLetter (wire_of L.tells wire.old) m (wire_of L.tells wire.new)) }
+    ensures let_pass { IfOk result (λ m. LetsMove (G.has_let guard.now.gate.now guard.now.link (guard.now.posted + 1)) m) }
 {
     match turn {
         Turn::Pull => {
@@ -91,7 +92,8 @@ fn fetch_record<L: Link, G: Gate, R: Wait>(
 ) -> Result<Move, Halt>
     requires count { (L.tells wire.old.link).downs + 1 < 2 ^ 64 }
     requires unread { IsSome (wire_of L.tells wire.old).unread }
-    ensures { IfOk result (λ m. Fetches (G.closes guard.now.gate.now guard.now.link (guard.now.posted + 1)) turn.Pull (wire_of L.tells wire.old) m (wire_of L.tells wire.new)) }
+    ensures fetches { IfOk result (λ m. Fetches (G.closes guard.now.gate.now guard.now.link (guard.now.posted + 1)) turn.Pull (wire_of L.tells wire.old) m (wire_of L.tells wire.new)) }
+    ensures let_pass { IfOk result (λ m. LetsMove (G.has_let guard.now.gate.now guard.now.link (guard.now.posted + 1)) m) }
 {
     match wire.read_frame(rt, alloc) {
         Ok(frame) => {
@@ -142,14 +144,15 @@ fn fetch_receipt<L: Link, R: Wait>(
     }
 }
 
-/// What it means that no frame came.
+/// What it means that no frame came. A frame that is too long is only sent.
 fn unread(snag: Snag) -> Result<Move, Halt>
+    requires { snag ≢ Snag.TooLong }
     ensures { result ≡ unread snag }
 {
     match snag {
         Snag::OutOfMemory => Err(Halt::OutOfMemory),
         Snag::LinkDown => Ok(Move::Stop(Stop::NotReceived)),
         Snag::BadFrame => Ok(Move::Stop(Stop::BadFrame)),
-        Snag::TooLong => Err(Halt::OutOfMemory),
+        Snag::TooLong => unreachable!(),
     }
 }

@@ -1,12 +1,13 @@
 //! A running node.
-ghost use Rattle.std.specs.Prelude.{◌≡◌, ◌<◌, ◌+◌, ◌^◌, ◌⊎◌, ◌↔◌, IfOk, IfErr, IfSome, Err};
+ghost use Rattle.std.specs.Prelude.{◌≡◌, ◌<◌, ◌+◌, ◌^◌, ◌⊎◌, ◌↔◌, true, IfOk, IfErr, IfSome, Err};
 ghost use Rattle.std.specs.Thread.{IsSend, IsSync};
 ghost use Rattle.mr_feed.specs.declared.port.TheConstants.{MAX_CAPACITY};
 ghost use Rattle.mr_subs.specs.Index.{HasCards};
 ghost use Rattle.mr_subs.specs.Unseen.{ListsUnseen};
 ghost use Rattle.mr_threads.specs.Letters.{SaysLetters};
 ghost use Rattle.mr_threads.specs.Roles.{RolesRan};
-ghost use Rattle.mr_node.specs.Voice.{Runs};
+ghost use Rattle.mr_threads.specs.Running.{HaveHungUp};
+ghost use Rattle.mr_node.specs.Voice.{HasHungUp, Runs};
 ghost use Rattle.mr_node.specs.Node.{NodeRan, ReplicaNodeRan, node_number};
 ghost use Rattle.mr_node.specs.Joining.{AreReady, AreRolesOf, IsEndOf};
 
@@ -135,7 +136,8 @@ pub fn run_node<
 ) -> Result<(NodeEnd<Replica<K>>, L, M), NodeFault<Replica<K>, L, M>>
     requires first_count { (L.tells parts.first_link.link).downs + 1 < 2 ^ 64 }
     requires second_count { (M.tells parts.second_link.link).downs + 1 < 2 ^ 64 }
-    ensures ran { IfOk result (λ r. ReplicaNodeRan K.form L.tells M.tells (G.closes gate.now) parts r.0 r.1 r.2) }
+    ensures ran { IfOk result (λ r. ReplicaNodeRan K.form L.tells M.tells (G.closes gate.now) (G.has_let gate.now) parts r.0 r.1 r.2) }
+    ensures hung_up { IfOk result (λ r. ((L.tells r.1).hung_up ≡ true) × ((M.tells r.2).hung_up ≡ true)) }
     ensures no_capacity { (result ≡ Err (NodeFault.NoCapacity parts)) ↔ ((capacity ≡ 0) ⊎ (MAX_CAPACITY < capacity)) }
     ensures fault { IfErr result (λ fault. (fault ≡ NodeFault.OutOfMemory) ⊎ (fault ≡ NodeFault.NoCapacity parts)) }
 {
@@ -200,7 +202,8 @@ fn run_parts<
 ) -> Option<(NodeEnd<C>, L, M)>
     requires first_count { (L.tells parts.first_link.link).downs + 1 < 2 ^ 64 }
     requires second_count { (M.tells parts.second_link.link).downs + 1 < 2 ^ 64 }
-    ensures { IfSome result (λ r. NodeRan C.steps C.feed_of L.tells M.tells (G.closes gate.now) parts r.0 r.1 r.2) }
+    ensures hung_up { IfSome result (λ r. ((L.tells r.1).hung_up ≡ true) × ((M.tells r.2).hung_up ≡ true)) }
+    ensures ran { IfSome result (λ r. NodeRan C.steps C.feed_of L.tells M.tells (G.closes gate.now) (G.has_let gate.now) parts r.0 r.1 r.2) }
 {
     let roles = roles_of(alloc, parts, gate);
     match run_in_scope(rt, alloc, roles, capacity) {
@@ -258,7 +261,8 @@ fn run_in_scope<
     capacity: usize,
 ) -> Option<NodeRolesEnd<'g, C, L, M, G>>
     requires { AreReady L.tells M.tells roles }
-    ensures { IfSome result (λ end. RolesRan C.steps C.feed_of SaysLetters (Runs L.tells G.closes) (Runs M.tells G.closes) HasCards ListsUnseen roles.entry end) }
+    ensures ran { IfSome result (λ end. RolesRan C.steps C.feed_of SaysLetters (Runs L.tells G.closes G.has_let) (Runs M.tells G.closes G.has_let) HasCards ListsUnseen roles.entry end) }
+    ensures hung_up { IfSome result (λ end. HaveHungUp (λ _. Unit {0}) (HasHungUp L.tells) (HasHungUp M.tells) end.user.speaker end.first_link.speaker end.second_link.speaker) }
 {
     let given_up = AtomicBool::new(false);
     let flag = &given_up;
@@ -268,7 +272,8 @@ fn run_in_scope<
         |scope| -> Option<NodeRolesEnd<'_, C, L, M, G>>
             requires threads { IsSend C.row × IsSend L.row × IsSend M.row × IsSend R.row × IsSync G.row × IsSync R.row }
             requires ready { AreReady L.tells M.tells roles }
-            ensures { IfSome result (λ end. RolesRan C.steps C.feed_of SaysLetters (Runs L.tells G.closes) (Runs M.tells G.closes) HasCards ListsUnseen roles.entry end) }
+            ensures ran { IfSome result (λ end. RolesRan C.steps C.feed_of SaysLetters (Runs L.tells G.closes G.has_let) (Runs M.tells G.closes G.has_let) HasCards ListsUnseen roles.entry end) }
+            ensures hung_up { IfSome result (λ end. HaveHungUp (λ _. Unit {0}) (HasHungUp L.tells) (HasHungUp M.tells) end.user.speaker end.first_link.speaker end.second_link.speaker) }
         {
             match run_roles(rt, scope, flag, alloc, roles, capacity) {
                 Ok(end) => Some(end),

@@ -1,8 +1,8 @@
 //! The core's thread over a replica.
-ghost use Rattle.std.specs.Prelude.{◌≡◌, [], true, IsTrue};
+ghost use Rattle.std.specs.Prelude.{◌≡◌, [], true, IsTrue, IsFalse};
 ghost use Rattle.mr_lane.specs.Desk.{have_all_finished};
 ghost use Rattle.mr_threads.specs.Core.{AreRepliesOpen, AreFeedsOpen, KeepsLanes};
-ghost use Rattle.mr_node.specs.CoreRun.{ReplicaRan};
+ghost use Rattle.mr_node.specs.CoreRun.{ReplicaRan, ReplicaRanShort};
 
 use crate::replica_machine::{Answer, ReplicaMachine};
 use mr_forms::Knowledge;
@@ -27,6 +27,7 @@ pub fn run_core<K: Knowledge, R: Wait>(rt: &R, core: ReplicaCore<K, R>) -> Repli
     requires replies { AreRepliesOpen core.replies }
     requires feeds { AreFeedsOpen core.feeds }
     ensures ran { IsTrue result.whole → ReplicaRan K.form core result.core }
+    ensures short { IsFalse result.whole → ReplicaRanShort K.form core result.core }
     ensures lanes { KeepsLanes core result.core }
     ensures finished { have_all_finished result.core.desk.taken ≡ true }
 {

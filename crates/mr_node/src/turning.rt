@@ -1,9 +1,9 @@
 //! A turn, letter by letter.
-ghost use Rattle.std.specs.Prelude.{◌≡◌, ◌<◌, ◌+◌, ◌^◌, [], List, false, IsSome, IfOk, OnOk};
+ghost use Rattle.std.specs.Prelude.{◌≡◌, ◌<◌, ◌+◌, ◌^◌, [], List, false, IsSome, IfOk, OnOk, OnErr};
 ghost use Rattle.mr_link.specs.Wire.{wire_of};
 ghost use Rattle.mr_threads.specs.Exchange.{letters_said};
-ghost use Rattle.mr_threads.specs.Talk.{Says, SameLanes};
-ghost use Rattle.mr_node.specs.Saying.{Saying};
+ghost use Rattle.mr_threads.specs.Talk.{Says, SaysInPart, SameLanes};
+ghost use Rattle.mr_node.specs.Saying.{Saying, HasLet};
 ghost use Rattle.mr_node.specs.Turn.{IsAt, cut_by, progress_of};
 ghost use Rattle.mr_node.specs.Step.{Steps, TurnGoes, TurnRan};
 
@@ -44,6 +44,8 @@ fn say_next<L: Link, G: Gate, R: Wait>(
     requires count { (L.tells wire.old.link).downs + 1 < 2 ^ 64 }
     requires unread { IsSome (wire_of L.tells wire.old).unread }
     ensures so { (xs : List Saying) → IsAt turn.now xs progress.old → IfOk result (λ s. Steps (G.closes guard.old.gate.now guard.old.link) turn.now xs talk.old (wire_of L.tells wire.old) guard.old.posted s talk.new (wire_of L.tells wire.new) guard.new.posted progress.new) }
+    ensures let_pass { HasLet (G.has_let guard.old.gate.now guard.old.link) guard.old.posted → IfOk result (λ _. HasLet (G.has_let guard.old.gate.now guard.old.link) guard.new.posted) }
+    ensures in_turn { OnErr result (SaysInPart talk.old talk.new) }
     ensures gate { guard.new.gate ≡ guard.old.gate }
     ensures link { guard.new.link ≡ guard.old.link }
     ensures lanes { SameLanes talk.old talk.new }
@@ -78,6 +80,8 @@ fn go<L: Link, G: Gate, R: Wait>(
     requires count { (L.tells wire.old.link).downs + 1 < 2 ^ 64 }
     requires unread { IsSome (wire_of L.tells wire.old).unread }
     ensures so { IfOk result (λ stop. TurnGoes (G.closes guard.old.gate.now guard.old.link) turn.now stop talk.old (wire_of L.tells wire.old) guard.old.posted talk.new (wire_of L.tells wire.new) guard.new.posted progress.new) }
+    ensures let_pass { HasLet (G.has_let guard.old.gate.now guard.old.link) guard.old.posted → IfOk result (λ _. HasLet (G.has_let guard.old.gate.now guard.old.link) guard.new.posted) }
+    ensures in_turn { OnErr result (SaysInPart talk.old talk.new) }
     ensures gate { guard.new.gate ≡ guard.old.gate }
     ensures link { guard.new.link ≡ guard.old.link }
     ensures lanes { SameLanes talk.old talk.new }
@@ -105,6 +109,8 @@ pub(crate) fn take_turn<L: Link, G: Gate, R: Wait>(
     requires count { (L.tells wire.old.link).downs + 1 < 2 ^ 64 }
     requires unread { IsSome (wire_of L.tells wire.old).unread }
     ensures so { IfOk result (λ stop. TurnRan (G.closes guard.old.gate.now guard.old.link) turn.now stop talk.old (wire_of L.tells wire.old) guard.old.posted talk.new (wire_of L.tells wire.new) guard.new.posted) }
+    ensures let_pass { HasLet (G.has_let guard.old.gate.now guard.old.link) guard.old.posted → IfOk result (λ _. HasLet (G.has_let guard.old.gate.now guard.old.link) guard.new.posted) }
+    ensures in_turn { OnErr result (SaysInPart talk.old talk.new) }
     ensures gate { guard.new.gate ≡ guard.old.gate }
     ensures link { guard.new.link ≡ guard.old.link }
     ensures lanes { SameLanes talk.old talk.new }
@@ -123,6 +129,7 @@ pub(crate) fn take_turn<L: Link, G: Gate, R: Wait>(
 fn cut<R: Wait>(rt: &R, talk: &mut Talk<Event, Answer, R>, progress: Progress) -> Result<(), Halt>
     requires open { talk.old.post.finished ≡ false }
     ensures cut { OnOk result ((ys : List Saying) × (letters_said ys ≡ cut_by progress) × Says talk.old ys talk.new) }
+    ensures in_turn { OnErr result (SaysInPart talk.old talk.new) }
     ensures lanes { SameLanes talk.old talk.new }
 {
     if progress.over {

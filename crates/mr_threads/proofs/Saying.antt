@@ -1,16 +1,21 @@
 -- One letter more of a sender, and one entry more of a subscriber.
-use Rattle.std.proofs.Common.{◌≡◌, List, [], ◌∷◌, ◌++◌, None, sym, ap, subst, ◌∙◌, append_assoc}
+use Rattle.std.proofs.Common.{◌≡◌, List, [], ◌∷◌, ◌++◌, None, Result, Ok, Err, OnErr, sym, ap, subst, ◌∙◌, append_assoc, arith}
 use Rattle.std.proofs.lemmas.List.{append-nil, map-append}
 use Rattle.std.specs.Option.{option_to_list}
 use Rattle.mr_mail.specs.Mail.{MailCard}
 use Rattle.mr_model.specs.Headline.{Cards}
 use Rattle.mr_feed.specs.declared.entry.Entry.{Entry}
 use Rattle.mr_subs.specs.Subscriber.{Keeping, ShowsFold, Applies, pending, ShowsFold-append}
-use Rattle.mr_lane.specs.Post.{PostView}
+use Rattle.mr_lane.specs.Post.{PostView, with_letter}
 use Rattle.mr_threads.specs.declared.talk.Talk.{Talk}
 use Rattle.mr_threads.specs.Exchange.{Said, letters_said, answers_heard}
-use Rattle.mr_threads.specs.Talk.{with_letters, Says, HearsOut}
+use Rattle.mr_threads.specs.Talk.{with_letters, Says, SaysInPart, HearsOut}
 use Rattle.mr_threads.proofs.Serving.{with_items-append, with_items-nil}
+
+-- what holds in any case holds of an error
+pub holds_on_err : {T E : Type 0} (r : Result T E) (P : Type 0) → P → OnErr r P
+holds_on_err (Ok x) P h = tt
+holds_on_err (Err e) P h = h
 
 with_letters-append : {E : Type 0} (p q r : PostView E) (xs ys : List E) → q ≡ with_letters p xs → r ≡ with_letters q ys → r ≡ with_letters p (xs ++ ys)
 with_letters-append p q r xs ys h k = k ∙ (ap (λ x. with_letters x ys) h ∙ ap (λ l. record p { sent = l }) (append_assoc p.sent xs ys))
@@ -32,6 +37,48 @@ module _ {E A R : Type 0} where
     post = with_letters-append t.post u.post v.post (letters_said xs) (letters_said ys) h.post k.post ∙ ap (with_letters t.post) (sym (map-append (λ (x : Said E A). x.letter) xs ys));
     tap = with_items-append _ _ _ _ _ h.tap k.tap ∙ ap (λ l. record t.tap { passed = t.tap.passed ++ l }) (sym (map-append (λ (x : Said E A). x.answer) xs ys));
     replies = k.replies ∙ (ap (λ l. l ++ answers_heard ys) h.replies ∙ (append_assoc t.replies.items (answers_heard xs) (answers_heard ys) ∙ ap (λ l. t.replies.items ++ l) (sym (map-append (λ (x : Said E A). x.answer) xs ys))));
+  }
+
+  -- all that was posted was answered
+  pub says_in_part : (t u : Talk E A R) (xs : List (Said E A)) → Says t xs u → SaysInPart t u
+  says_in_part t u xs h = record {
+    answered = xs;
+    unanswered = [];
+    one_at_most = omega arith;
+    post = h.post ∙ ap (with_letters t.post) (sym (append-nil (letters_said xs)));
+    passed = ap (λ e. e.passed) h.tap;
+  }
+
+  -- nothing was posted
+  pub posts_none : (t u : Talk E A R) → u.post ≡ t.post → u.tap ≡ t.tap → SaysInPart t u
+  posts_none t u post tap = record {
+    answered = [];
+    unanswered = [];
+    one_at_most = omega arith;
+    post = post ∙ with_letters-nil t.post;
+    passed = ap (λ e. e.passed) tap ∙ sym (append-nil t.tap.passed);
+  }
+
+  -- one letter was posted, and no answer came
+  pub posts_one : (t u : Talk E A R) (letter : E) → u.post ≡ with_letter t.post letter → u.tap.passed ≡ t.tap.passed → SaysInPart t u
+  posts_one t u letter post passed = record {
+    answered = [];
+    unanswered = letter ∷ [];
+    one_at_most = omega arith;
+    post = post;
+    passed = passed ∙ sym (append-nil t.tap.passed);
+  }
+
+  -- behind letters that were answered
+  pub part_behind : (t u v : Talk E A R) (xs : List (Said E A)) → Says t xs u → SaysInPart u v → SaysInPart t v
+  part_behind t u v xs h k = record {
+    answered = xs ++ k.answered;
+    unanswered = k.unanswered;
+    one_at_most = k.one_at_most;
+    post = with_letters-append t.post u.post v.post (letters_said xs) (letters_said k.answered ++ k.unanswered) h.post k.post
+        ∙ ap (with_letters t.post) (sym (append_assoc (letters_said xs) (letters_said k.answered) k.unanswered) ∙ ap (λ l. l ++ k.unanswered) (sym (map-append (λ (x : Said E A). x.letter) xs k.answered)));
+    passed = k.passed ∙ (ap (λ l. l ++ answers_heard k.answered) (ap (λ e. e.passed) h.tap)
+        ∙ (append_assoc t.tap.passed (answers_heard xs) (answers_heard k.answered) ∙ ap (λ l. t.tap.passed ++ l) (sym (map-append (λ (x : Said E A). x.answer) xs k.answered))));
   }
 
   -- nothing was heard behind what was

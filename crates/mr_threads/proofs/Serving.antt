@@ -1,6 +1,7 @@
 -- One letter more, or one end mark.
-use Rattle.std.proofs.Common.{◌≡◌, ◌==◌, Bool, true, false, cond, List, [], ◌∷◌, ◌++◌, sym, refl, ap, ◌∙◌, subst, append_assoc}
-use Rattle.std.proofs.lemmas.List.{append-nil, map-append}
+use Rattle.std.proofs.Common.{◌≡◌, ◌==◌, ◌<◌, ◌+◌, ℕ, Bool, true, false, cond, List, [], ◌∷◌, ◌++◌, length, take, drop, get_or, sym, refl, ap, ◌∙◌, subst, append_assoc, add-one}
+use Rattle.std.proofs.Math.Seq.{take-suc}
+use Rattle.std.proofs.lemmas.List.{append-nil, map-append, take-append-drop}
 use Rattle.mr_feed.specs.declared.entry.Entry.{Entry}
 use Rattle.mr_lane.specs.declared.piece.Piece.TheVariants.{Item, End}
 use Rattle.mr_lane.specs.declared.note.Sender.{Sender}
@@ -14,7 +15,18 @@ use Rattle.mr_threads.specs.Lanes.{with_items}
 use Rattle.mr_threads.specs.declared.core_parts.Replies.{Replies}
 use Rattle.mr_threads.specs.declared.core_parts.Feeds.{Feeds}
 use Rattle.mr_threads.specs.declared.core_parts.Core.{Core}
-use Rattle.mr_threads.specs.Core.{GivesAnswers, GivesAnswer, TellsBoth, Serves, Serving}
+use Rattle.mr_threads.specs.Core.{GivesAnswers, GivesAnswer, TellsBoth, TellsPart, Serves, ServesPart, Serving, ServingPart, RanShort, closed_replies, closed_feeds, letters_with_senders}
+
+-- ---- lists
+
+-- the first of a list, and one more
+pub take-more : {T : Type 0} (all : List T) (n : ℕ) (t : T) → n < length all → t ≡ get_or all n t → take (n + 1) all ≡ take n all ++ t ∷ []
+take-more all n t within is = ap (λ k. take k all) (add-one n) ∙ (take-suc all n t within ∙ ap (λ u. take n all ++ u ∷ []) (sym is))
+
+-- what is before one, it, and what is behind it
+pub take-split : {T : Type 0} (all : List T) (n : ℕ) (t : T) → n < length all → t ≡ get_or all n t → all ≡ take n all ++ t ∷ drop (n + 1) all
+take-split all n t within is =
+    sym (take-append-drop (n + 1) all) ∙ (ap (λ l. l ++ drop (n + 1) all) (take-more all n t within is) ∙ append_assoc (take n all) (t ∷ []) (drop (n + 1) all))
 
 -- ---- lanes
 
@@ -77,6 +89,27 @@ tells-append old mid new xs ys h k = record {
   notifier = with_items-append _ _ _ _ _ h.notifier k.notifier;
 }
 
+-- some entries, and then a part of others
+tells-part : {R : Type 0} (old mid new : Feeds R) (xs ys : List Entry) → TellsBoth old xs mid → TellsPart mid ys new → TellsPart old (xs ++ ys) new
+tells-part old mid new xs ys h k = record {
+  told = xs ++ k.told;
+  untold = k.untold;
+  left = k.left;
+  in_order = ap (λ l. xs ++ l) k.in_order ∙ sym (append_assoc xs k.told (k.untold ∷ k.left));
+  tells = tells-append old mid new xs k.told h k.tells;
+}
+
+-- the entries before one were told
+pub told_before : {R : Type 0} (old new : Feeds R) (all : List Entry) (n : ℕ) (entry : Entry) → n < length all → entry ≡ get_or all n entry
+    → new.indexer ≡ with_items old.indexer (take n all) → new.notifier ≡ with_items old.notifier (take n all) → TellsPart old all new
+told_before old new all n entry within is indexer notifier = record {
+  told = take n all;
+  untold = entry;
+  left = drop (n + 1) all;
+  in_order = take-split all n entry within is;
+  tells = record { indexer = indexer; notifier = notifier };
+}
+
 module _ {M E A R : Type 0} (steps : M → E → A → M → Type 0) (feed_of : M → List Entry) where
   serves-append : (old mid new : Core M E A R) (xs ys : List (Exchange E A)) → Serves steps feed_of old xs mid → Serves steps feed_of mid ys new → Serves steps feed_of old (xs ++ ys) new
   serves-append old mid new xs ys h k = record {
@@ -85,6 +118,15 @@ module _ {M E A R : Type 0} (steps : M → E → A → M → Type 0) (feed_of : 
     entries = h.entries ++ k.entries;
     grows = k.grows ∙ (ap (λ l. l ++ k.entries) h.grows ∙ append_assoc (feed_of old.machine) h.entries k.entries);
     tells = tells-append old.feeds mid.feeds new.feeds h.entries k.entries h.tells k.tells;
+  }
+
+  serves-part : (old mid new : Core M E A R) (xs ys : List (Exchange E A)) → Serves steps feed_of old xs mid → ServesPart steps feed_of mid ys new → ServesPart steps feed_of old (xs ++ ys) new
+  serves-part old mid new xs ys h k = record {
+    replays = Replays-append steps old.machine mid.machine new.machine xs ys h.replays k.replays;
+    answers = gives-append old.replies mid.replies new.replies xs ys h.answers k.answers;
+    entries = h.entries ++ k.entries;
+    grows = k.grows ∙ (ap (λ l. l ++ k.entries) h.grows ∙ append_assoc (feed_of old.machine) h.entries k.entries);
+    tells = tells-part old.feeds mid.feeds new.feeds h.entries k.entries h.tells k.tells;
   }
 
   -- nothing is served as the desk has taken nothing
@@ -101,6 +143,25 @@ module _ {M E A R : Type 0} (steps : M → E → A → M → Type 0) (feed_of : 
     };
   }
 
+  -- what was served so far, at a core that differs in its desk alone
+  served_at : (old core mid : Core M E A R) (xs : List (Exchange E A)) → Serves steps feed_of old xs core
+      → mid.machine ≡ core.machine → mid.replies ≡ core.replies → mid.feeds ≡ core.feeds → Serves steps feed_of old xs mid
+  served_at old core mid xs h same_machine same_replies same_feeds = record {
+    replays = subst (Replays steps old.machine xs) (sym same_machine) h.replays;
+    answers = subst (GivesAnswers old.replies xs) (sym same_replies) h.answers;
+    entries = h.entries;
+    grows = ap feed_of same_machine ∙ h.grows;
+    tells = subst (TellsBoth old.feeds h.entries) (sym same_feeds) h.tells;
+  }
+
+  -- one letter more among those that were taken
+  letter_more : (core mid new : Core M E A R) (xs : List (Exchange E A)) (sender : Sender) (letter : E) (answer : A) → letters_in core.desk.taken ≡ letters_with_senders xs
+      → mid.desk.taken ≡ core.desk.taken ++ record { sender = sender; piece = Item letter } ∷ [] → new.desk ≡ mid.desk
+      → letters_in new.desk.taken ≡ letters_with_senders (xs ++ exchange sender letter answer ∷ [])
+  letter_more core mid new xs sender letter answer h taken same_desk =
+      ap (λ d. letters_in d.taken) same_desk ∙ (ap letters_in taken ∙ (letters_in-append core.desk.taken (record { sender = sender; piece = Item letter } ∷ [])
+      ∙ (ap (λ l. l ++ (sender, letter) ∷ []) h ∙ sym (map-append (λ (x : Exchange E A). (x.sender, x.letter)) xs (exchange sender letter answer ∷ [])))))
+
   -- the desk took one letter more, and it was served
   pub serving_more : (old core mid new : Core M E A R) (sender : Sender) (letter : E) (answer : A) → Serving steps feed_of old core
       → mid.machine ≡ core.machine → mid.replies ≡ core.replies → mid.feeds ≡ core.feeds
@@ -108,18 +169,33 @@ module _ {M E A R : Type 0} (steps : M → E → A → M → Type 0) (feed_of : 
       → Serves steps feed_of mid (exchange sender letter answer ∷ []) new → Serving steps feed_of old new
   serving_more old core mid new sender letter answer h same_machine same_replies same_feeds taken same_desk one = record {
     exchanges = h.exchanges ++ exchange sender letter answer ∷ [];
-    letters =
-        ap (λ d. letters_in d.taken) same_desk ∙ (ap letters_in taken ∙ (letters_in-append core.desk.taken (record { sender = sender; piece = Item letter } ∷ [])
-        ∙ (ap (λ l. l ++ (sender, letter) ∷ []) h.letters ∙ sym (map-append (λ (x : Exchange E A). (x.sender, x.letter)) h.exchanges (exchange sender letter answer ∷ [])))));
-    serves = serves-append old mid new h.exchanges (exchange sender letter answer ∷ [])
-        (record {
-          replays = subst (Replays steps old.machine h.exchanges) (sym same_machine) h.serves.replays;
-          answers = subst (GivesAnswers old.replies h.exchanges) (sym same_replies) h.serves.answers;
-          entries = h.serves.entries;
-          grows = ap feed_of same_machine ∙ h.serves.grows;
-          tells = subst (TellsBoth old.feeds h.serves.entries) (sym same_feeds) h.serves.tells;
-        })
-        one;
+    letters = letter_more core mid new h.exchanges sender letter answer h.letters taken same_desk;
+    serves = serves-append old mid new h.exchanges (exchange sender letter answer ∷ []) (served_at old core mid h.exchanges h.serves same_machine same_replies same_feeds) one;
+  }
+
+  -- the same, but of what came into the feed an entry was not told
+  pub serving_part : (old core mid new : Core M E A R) (sender : Sender) (letter : E) (answer : A) → Serving steps feed_of old core
+      → mid.machine ≡ core.machine → mid.replies ≡ core.replies → mid.feeds ≡ core.feeds
+      → mid.desk.taken ≡ core.desk.taken ++ record { sender = sender; piece = Item letter } ∷ [] → new.desk ≡ mid.desk
+      → ServesPart steps feed_of mid (exchange sender letter answer ∷ []) new → ServingPart steps feed_of old new
+  serving_part old core mid new sender letter answer h same_machine same_replies same_feeds taken same_desk one = record {
+    exchanges = h.exchanges ++ exchange sender letter answer ∷ [];
+    letters = letter_more core mid new h.exchanges sender letter answer h.letters taken same_desk;
+    serves = serves-part old mid new h.exchanges (exchange sender letter answer ∷ []) (served_at old core mid h.exchanges h.serves same_machine same_replies same_feeds) one;
+  }
+
+  -- all spouts were closed behind that, and the letters that came were dropped
+  pub ran_short : (old mid new : Core M E A R) (more : List (Note E)) → ServingPart steps feed_of old mid → new.machine ≡ mid.machine
+      → new.replies ≡ closed_replies mid.replies → new.feeds ≡ closed_feeds mid.feeds → new.desk.taken ≡ mid.desk.taken ++ more → RanShort steps feed_of old new
+  ran_short old mid new more h machine replies feeds taken = record {
+    exchanges = h.exchanges;
+    unanswered = letters_in more;
+    letters = ap letters_in taken ∙ (letters_in-append mid.desk.taken more ∙ ap (λ l. l ++ letters_in more) h.letters);
+    served = mid;
+    serves = h.serves;
+    machine = machine;
+    replies_closed = replies;
+    feeds_closed = feeds;
   }
 
   -- the desk took an end mark more
@@ -129,11 +205,5 @@ module _ {M E A R : Type 0} (steps : M → E → A → M → Type 0) (feed_of : 
   serving_mark old core new sender h same_machine same_replies same_feeds taken = record {
     exchanges = h.exchanges;
     letters = ap letters_in taken ∙ (letters_in-append core.desk.taken (record { sender = sender; piece = End } ∷ []) ∙ (append-nil (letters_in core.desk.taken) ∙ h.letters));
-    serves = record {
-      replays = subst (Replays steps old.machine h.exchanges) (sym same_machine) h.serves.replays;
-      answers = subst (GivesAnswers old.replies h.exchanges) (sym same_replies) h.serves.answers;
-      entries = h.serves.entries;
-      grows = ap feed_of same_machine ∙ h.serves.grows;
-      tells = subst (TellsBoth old.feeds h.serves.entries) (sym same_feeds) h.serves.tells;
-    };
+    serves = served_at old core new h.exchanges h.serves same_machine same_replies same_feeds;
   }

@@ -37,6 +37,12 @@ pub record AllRan {M E A S P Q F G R : Type 0} (steps : M → E → A → M → 
   pub indexer : ListenerRan index p.indexer ends.indexer
   pub notifier : ListenerRan notice p.notifier ends.notifier
 
+-- all three speakers have hung up
+pub record HaveHungUp {S P Q : Type 0} (user_has : S → Type 0) (first_has : P → Type 0) (second_has : Q → Type 0) (speaker : S) (first : P) (second : Q) : Type 0 where
+  pub user : user_has speaker
+  pub first_link : first_has first
+  pub second_link : second_has second
+
 -- whether each part has run whole
 abbrev pub are_all_whole : {M E A S P Q F G R : Type 0} → Ends M E A S P Q F G R → Bool
 are_all_whole ends = ends.core.whole && ends.user.whole && ends.first_link.whole && ends.second_link.whole && ends.indexer.whole && ends.notifier.whole

@@ -1,5 +1,5 @@
 -- what one sender says, and hears
-use Rattle.std.specs.Prelude.{◌≡◌, ◌++◌, false, List, []}
+use Rattle.std.specs.Prelude.{◌≡◌, ◌≤◌, ◌++◌, false, List, [], length}
 use Rattle.mr_lane.specs.Post.{PostView}
 use Rattle.mr_threads.specs.Exchange.{Said, letters_said, answers_heard}
 use Rattle.mr_threads.specs.Lanes.{with_items}
@@ -15,6 +15,23 @@ module _ {E A R : Type 0} where
     pub post : new.post ≡ with_letters old.post (letters_said xs)
     pub tap : new.tap ≡ with_items old.tap (answers_heard xs)
     pub replies : new.replies.items ≡ old.replies.items ++ answers_heard xs
+
+  -- Letters were posted in turn, and the last of them alone may lack an answer. That it holds wherever the replies may be closed is what it means that none is posted before the one before it was answered.
+  pub record SaysInPart (old new : Talk E A R) : Type 0 where
+    pub answered : List (Said E A)
+    pub unanswered : List E
+    pub one_at_most : length unanswered ≤ 1
+    pub post : new.post ≡ with_letters old.post (letters_said answered ++ unanswered)
+    pub passed : new.tap.passed ≡ old.tap.passed ++ answers_heard answered
+
+  -- a talk has ended: of what was posted in it the last letter alone may lack an answer, and answers may have come behind
+  pub record SpokeInTurn (t : Talk E A R) : Type 0 where
+    pub answered : List (Said E A)
+    pub unanswered : List E
+    pub one_at_most : length unanswered ≤ 1
+    pub sent : t.post.sent ≡ letters_said answered ++ unanswered
+    pub rest : List A
+    pub passed : t.tap.passed ≡ answers_heard answered ++ rest
 
   -- the rest of the replies was taken, and kept
   pub record HearsOut (old new : Talk E A R) : Type 0 where

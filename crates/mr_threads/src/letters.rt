@@ -29,6 +29,8 @@ impl<E: Drop, A: Drop> Speaker<E, A> for Letters<E> {
 
     ghost speaks = { SaysLetters };
 
+    ghost has_hung_up = { λ _. Unit {0} };
+
     fn speak<R: Wait>(&mut self, rt: &R, talk: &mut Talk<E, A, R>) -> Result<(), Halt> {
         let letters = mem::replace(&mut self.letters, Vec::new(self.alloc));
         talk.say_all(rt, letters)

@@ -3,7 +3,7 @@ ghost use Rattle.std.specs.Prelude.{◌≡◌, ◌<◌, ◌⊎◌, ◌↔◌, If
 ghost use Rattle.mr_feed.specs.declared.port.TheConstants.{MAX_CAPACITY};
 ghost use Rattle.mr_threads.specs.Roles.{RolesRan, roles_number};
 ghost use Rattle.mr_threads.specs.Outfit.{AreJoined, IsOutfit};
-ghost use Rattle.mr_threads.specs.Running.{AreNewParts};
+ghost use Rattle.mr_threads.specs.Running.{AreNewParts, HaveHungUp};
 
 use crate::machine::Machine;
 use crate::outfit::{new_lanes, outfit};
@@ -111,6 +111,7 @@ pub fn run_roles<
     requires first_link { P.is_ready roles.first_link }
     requires second_link { Q.is_ready roles.second_link }
     ensures ran { IfOk result (λ end. RolesRan M.steps M.feed_of S.speaks P.speaks Q.speaks F.shows G.shows roles end) }
+    ensures hung_up { IfOk result (λ end. HaveHungUp S.has_hung_up P.has_hung_up Q.has_hung_up end.user.speaker end.first_link.speaker end.second_link.speaker) }
     ensures no_capacity { (result ≡ Err (RolesFault.NoCapacity roles)) ↔ ((capacity ≡ 0) ⊎ (MAX_CAPACITY < capacity)) }
     ensures fault { IfErr result (λ fault. (fault ≡ RolesFault.OutOfMemory) ⊎ (fault ≡ RolesFault.NoCapacity roles)) }
 {
@@ -150,8 +151,9 @@ fn run_parts<
 ) -> Option<RolesEnd<M, A, S, P, Q, F, G>>
     requires new { AreNewParts S.is_ready P.is_ready Q.is_ready F.shows G.shows parts }
     requires joined { AreJoined parts.core parts.user.talk parts.first_link.talk parts.second_link.talk parts.indexer parts.notifier }
-    ensures { (roles : Roles M S P Q) → IsOutfit roles parts
+    ensures ran { (roles : Roles M S P Q) → IsOutfit roles parts
         → IfSome result (λ end. RolesRan M.steps M.feed_of S.speaks P.speaks Q.speaks F.shows G.shows roles end) }
+    ensures hung_up { IfSome result (λ end. HaveHungUp S.has_hung_up P.has_hung_up Q.has_hung_up end.user.speaker end.first_link.speaker end.second_link.speaker) }
 {
     let ends = run_all(rt, scope, given_up, parts)?;
     settle_ends(ends)

@@ -1,6 +1,6 @@
 //! The threads of a node: what is started, in which order, and what is done where a thread can't be made.
 ghost use Rattle.std.specs.Prelude.{◌≡◌, [], IfSome};
-ghost use Rattle.mr_threads.specs.Running.{AreNewParts, AllRan};
+ghost use Rattle.mr_threads.specs.Running.{AreNewParts, AllRan, HaveHungUp};
 
 use crate::core_parts::{Core, CoreEnd};
 use crate::listener::{Listener, ListenerEnd};
@@ -60,7 +60,8 @@ pub(crate) fn run_all<
     parts: Parts<M, E, A, S, P, Q, F, G, R>,
 ) -> Option<Ends<M, E, A, S, P, Q, F, G, R>>
     requires { AreNewParts S.is_ready P.is_ready Q.is_ready F.shows G.shows parts }
-    ensures { IfSome result (λ ends. AllRan M.steps M.feed_of S.speaks P.speaks Q.speaks F.shows G.shows parts ends) }
+    ensures ran { IfSome result (λ ends. AllRan M.steps M.feed_of S.speaks P.speaks Q.speaks F.shows G.shows parts ends) }
+    ensures hung_up { IfSome result (λ ends. HaveHungUp S.has_hung_up P.has_hung_up Q.has_hung_up ends.user.voice.speaker ends.first_link.voice.speaker ends.second_link.voice.speaker) }
 {
     let Parts {
         core,

@@ -43,10 +43,11 @@ pub(crate) fn settle_ends<
     R: Drop,
 >(ends: Ends<M, E, A, S, P, Q, F, G, R>) -> Option<RolesEnd<M, A, S, P, Q, F, G>>
     requires { AreJoined ends.core.core ends.user.voice.talk ends.first_link.voice.talk ends.second_link.voice.talk ends.indexer.listener ends.notifier.listener }
-    ensures { (roles : Roles M S P Q) (parts : Parts M E A S P Q F G R) → IsOutfit roles parts
+    ensures ran { (roles : Roles M S P Q) (parts : Parts M E A S P Q F G R) → IsOutfit roles parts
         → AreNewParts S.is_ready P.is_ready Q.is_ready F.shows G.shows parts
         → AllRan M.steps M.feed_of S.speaks P.speaks Q.speaks F.shows G.shows parts ends
         → IfSome result (λ end. RolesRan M.steps M.feed_of S.speaks P.speaks Q.speaks F.shows G.shows roles end) }
+    ensures speakers { IfSome result (λ end. (end.user.speaker ≡ ends.user.voice.speaker) × (end.first_link.speaker ≡ ends.first_link.voice.speaker) × (end.second_link.speaker ≡ ends.second_link.voice.speaker)) }
 {
     if !are_all_whole(&ends) {
         return None;

@@ -36,7 +36,7 @@ pub(crate) struct OwesVoice<S, E, A, R> {
 
 impl<E: Drop, A: Drop, S: Speaker<E, A>, R> Promise<VoiceEnd<S, E, A, R>>
     for OwesVoice<S, E, A, R> {
-    ghost kept_by = { λ p r. VoiceRan S.speaks p.voice.value r };
+    ghost kept_by = { λ p r. VoiceRan S.speaks p.voice.value r × S.has_hung_up r.voice.speaker };
 }
 
 /// What a subscriber's thread owes.
@@ -163,7 +163,7 @@ pub(crate) fn start_voice<
         move || -> VoiceEnd<S, E, A, R>
             requires ready { S.is_ready voice.speaker }
             requires new { IsNew voice.talk }
-            ensures { VoiceRan S.speaks voice result }
+            ensures { VoiceRan S.speaks voice result × S.has_hung_up result.voice.speaker }
         { run_unless(rt, given_up, voice) },
     );
     match started {
@@ -184,7 +184,8 @@ fn run_unless<E: Drop, A: Drop, S: Speaker<E, A>, R: Wait>(
 ) -> VoiceEnd<S, E, A, R>
     requires ready { S.is_ready voice.speaker }
     requires new { IsNew voice.talk }
-    ensures { VoiceRan S.speaks voice result }
+    ensures ran { VoiceRan S.speaks voice result }
+    ensures hung_up { S.has_hung_up result.voice.speaker }
 {
     if given_up.load(Ordering::SeqCst) {
         give_up(rt, voice)

@@ -1,8 +1,8 @@
 //! A sender's talk: it posts a letter at a time, and waits for its answer before the next.
-ghost use Rattle.std.specs.Prelude.{◌≡◌, ◌∷◌, ◌++◌, [], true, false, IsTrue, List, Some, OnOk};
+ghost use Rattle.std.specs.Prelude.{◌≡◌, ◌∷◌, ◌++◌, [], true, false, IsTrue, List, Some, OnOk, OnErr};
 ghost use Rattle.std.specs.Option.{option_copied};
 ghost use Rattle.mr_threads.specs.Exchange.{Said, said, letters_said};
-ghost use Rattle.mr_threads.specs.Talk.{Says, SameLanes, HearsOut};
+ghost use Rattle.mr_threads.specs.Talk.{Says, SaysInPart, SameLanes, HearsOut};
 
 use crate::lanes::{send, take};
 use mr_lane::{Post, Tap};
@@ -34,6 +34,7 @@ impl<E: Drop, A: Drop, R: Wait> Talk<E, A, R> {
     pub fn say(&mut self, rt: &R, letter: E) -> Result<(), Halt>
         requires { self.old.post.finished ≡ false }
         ensures ok { OnOk result ((answer : A) × Says self.old (said letter answer ∷ []) self.new) }
+        ensures in_turn { OnErr result (SaysInPart self.old self.new) }
         ensures lanes { SameLanes self.old self.new }
     {
         if self.replies.reserve(1).is_err() {
@@ -51,6 +52,7 @@ impl<E: Drop, A: Drop, R: Wait> Talk<E, A, R> {
     pub fn say_all(&mut self, rt: &R, letters: Vec<E>) -> Result<(), Halt>
         requires { self.old.post.finished ≡ false }
         ensures ok { OnOk result ((xs : List (Said E A)) × (letters_said xs ≡ letters.items) × Says self.old xs self.new) }
+        ensures in_turn { OnErr result (SaysInPart self.old self.new) }
         ensures lanes { SameLanes self.old self.new }
     {
         for letter in letters {
@@ -70,6 +72,7 @@ impl<E: Drop, A: Drop, R: Wait> Talk<E, A, R> {
 /// Takes replies until they are closed, and keeps them. Says whether memory was found for all.
 pub(crate) fn hear_out<E: Drop, A: Drop, R: Wait>(rt: &R, talk: &mut Talk<E, A, R>) -> bool
     ensures heard { IsTrue result → HearsOut talk.old talk.new }
+    ensures passed { (rest : List A) × (talk.new.tap.passed ≡ talk.old.tap.passed ++ rest) }
     ensures closed { talk.new.tap.closed ≡ true }
     ensures post { talk.new.post ≡ talk.old.post }
     ensures lanes { SameLanes talk.old talk.new }

@@ -1,6 +1,6 @@
 //! A sender's thread: it speaks, ends its talk, and hears the rest.
 ghost use Rattle.mr_threads.specs.Ends.{VoiceRan};
-ghost use Rattle.mr_threads.specs.Talk.{IsNew, SameLanes};
+ghost use Rattle.mr_threads.specs.Talk.{IsNew, SameLanes, SpokeInTurn};
 
 use crate::lanes::finish;
 use crate::speaker::Speaker;
@@ -29,7 +29,9 @@ pub fn run_voice<E: Drop, A: Drop, S: Speaker<E, A>, R: Wait>(
 ) -> VoiceEnd<S, E, A, R>
     requires ready { S.is_ready voice.speaker }
     requires new { IsNew voice.talk }
-    ensures { VoiceRan S.speaks voice result }
+    ensures ran { VoiceRan S.speaks voice result }
+    ensures in_turn { SpokeInTurn result.voice.talk }
+    ensures hung_up { S.has_hung_up result.voice.speaker }
 {
     let said = voice.speaker.speak(rt, &mut voice.talk);
     finish(rt, &mut voice.talk.post);
@@ -46,7 +48,8 @@ pub(crate) fn give_up<E: Drop, A: Drop, S: Speaker<E, A>, R: Wait>(
     rt: &R,
     mut voice: Voice<S, E, A, R>,
 ) -> VoiceEnd<S, E, A, R>
-    ensures { VoiceRan S.speaks voice result }
+    ensures ran { VoiceRan S.speaks voice result }
+    ensures hung_up { S.has_hung_up result.voice.speaker }
 {
     finish(rt, &mut voice.talk.post);
     voice.speaker.hang_up();

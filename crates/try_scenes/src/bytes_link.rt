@@ -14,6 +14,7 @@ pub struct BytesLink {
     pub calls: u64,
     pub strange: Strange,
     pub downs: u64,
+    pub hung_up: bool,
 }
 
 impl BytesLink {
@@ -28,12 +29,14 @@ impl BytesLink {
             calls: 0,
             strange,
             downs: 0,
+            hung_up: false,
         }
     }
 
     /// What the next call does.
     fn next_call(&mut self) -> What
-        ensures { self.new.downs ≡ self.old.downs }
+        ensures downs { self.new.downs ≡ self.old.downs }
+        ensures hung_up { self.new.hung_up ≡ self.old.hung_up }
     {
         let call = self.calls;
         self.calls = call.saturating_add(1);
@@ -42,7 +45,8 @@ impl BytesLink {
 
     /// The next byte, as a piece. There is none at the end.
     fn next_piece(&mut self, alloc: Global) -> Result<Vec<u8>, LinkFault>
-        ensures { self.new.downs ≡ self.old.downs }
+        ensures downs { self.new.downs ≡ self.old.downs }
+        ensures hung_up { self.new.hung_up ≡ self.old.hung_up }
     {
         let Some(byte) = self.bytes.get(self.given) else {
             return Err(LinkFault::LinkDown);
@@ -56,7 +60,7 @@ impl BytesLink {
 }
 
 impl Link for BytesLink {
-    ghost tells = { λ s. record { received = None; sent = None; downs = s.downs } };
+    ghost tells = { λ s. record { received = None; sent = None; downs = s.downs; hung_up = s.hung_up } };
 
     fn send(&mut self, _alloc: Global, bytes: &[u8]) -> Result<(), LinkFault> {
         match self.next_call() {
@@ -84,5 +88,7 @@ impl Link for BytesLink {
         came
     }
 
-    fn hang_up(&mut self) {}
+    fn hang_up(&mut self) {
+        self.hung_up = true;
+    }
 }

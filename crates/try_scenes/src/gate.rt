@@ -69,6 +69,8 @@ fn have_come(count: &AtomicU64, wanted: u64) -> bool {
 impl Gate for SceneGate {
     ghost closes = { λ _ _ _. true };
 
+    ghost has_let = { λ _ _ _. Unit {0} };
+
     fn pass(&self, link: Sender, number: u64) -> bool {
         match self.kind {
             GateKind::Open => true,

@@ -1,8 +1,11 @@
 //! Both ends of a link over lanes by themselves, in one thread or in two.
+ghost use Rattle.std.specs.Prelude.{◌≡◌};
+ghost use Rattle.mr_link.specs.LaneLink.{SameEnd};
+
 use crate::strange_link::{receive_over, send_over};
 use crate::words::{fault_line, next_word, read_count, words};
 use anyhow::{Context, Result, bail};
-use mr_link::{LaneLink, Link, LinkFault, lane_link};
+use mr_link::{LaneLink, Link, LinkFault, lane_link, link_settle};
 use std::alloc::{AllocError, Global};
 use std::str::SplitWhitespace;
 use std::sync::Wait;
@@ -113,12 +116,39 @@ pub fn pieces<R: Threads + Wait + Sync + Send + Copy>(
     let sends = u8::try_from(read_count(next_word(&mut words)?)?)?;
     let receives = read_count(next_word(&mut words)?)?;
     let (here, there) = lane_link(*rt, alloc, PLACES)?;
-    let (sent, came) = thread::join(
-        rt,
-        move || send_all(alloc, Some(here), sends),
-        move || receive_some(alloc, Some(there), receives),
-    );
+    let ((here, sent), (there, came)) = cross(rt, alloc, here, there, sends, receives);
+    link_settle(here, there);
     pieces_text(alloc, sent, came?.as_slice())
+}
+
+/// One end sends and the other receives, each in a thread of its own.
+fn cross<R: Threads + Wait + Sync + Send + Copy>(
+    rt: &R,
+    alloc: Global,
+    here: LaneLink<R>,
+    there: LaneLink<R>,
+    sends: u8,
+    receives: usize,
+) -> (
+    (LaneLink<R>, Sent),
+    (LaneLink<R>, Result<Vec<u8>, AllocError>),
+)
+    requires here { here.tells.downs ≡ 0 }
+    requires there { there.tells.downs ≡ 0 }
+    ensures here { SameEnd here result.0.0 }
+    ensures there { SameEnd there result.1.0 }
+{
+    thread::join(
+        rt,
+        move || -> (LaneLink<R>, Sent)
+            requires { here.tells.downs ≡ 0 }
+            ensures { SameEnd here result.0 }
+        { send_all(alloc, here, sends) },
+        move || -> (LaneLink<R>, Result<Vec<u8>, AllocError>)
+            requires { there.tells.downs ≡ 0 }
+            ensures { SameEnd there result.0 }
+        { receive_some(alloc, there, receives) },
+    )
 }
 
 /// Whether all were sent or only as many as came and had places, and what came. How many of the latter were sent differs
@@ -140,33 +170,49 @@ fn pieces_text(alloc: Global, sent: Sent, came: &[u8]) -> Result<String> {
 }
 
 /// Sends pieces of one byte, from 0 on, until so many were sent or the link is down, and hangs up.
-fn send_all<R: Wait + Copy>(alloc: Global, mut link: Option<LaneLink<R>>, count: u8) -> Sent {
+fn send_all<R: Wait + Copy>(alloc: Global, mut link: LaneLink<R>, count: u8) -> (LaneLink<R>, Sent)
+    requires { link.tells.downs ≡ 0 }
+    ensures { SameEnd link result.0 }
+{
     for byte in 0..count {
-        if send_over(&mut link, alloc, &[byte]).is_err() {
-            return Sent::Some(usize::from(byte));
+        if link.send(alloc, &[byte]).is_err() {
+            return (link, Sent::Some(usize::from(byte)));
         }
     }
-    if let Some(lane) = &mut link {
-        lane.hang_up();
-    }
-    Sent::All
+    link.hang_up();
+    (link, Sent::All)
 }
 
 /// Receives so many pieces, or until the link is down, and hangs up. All bytes that came.
 fn receive_some<R: Wait + Copy>(
     alloc: Global,
-    mut link: Option<LaneLink<R>>,
+    mut link: LaneLink<R>,
     count: usize,
-) -> Result<Vec<u8>, AllocError> {
+) -> (LaneLink<R>, Result<Vec<u8>, AllocError>)
+    requires { link.tells.downs ≡ 0 }
+    ensures { SameEnd link result.0 }
+{
     let mut all = Vec::new(alloc);
+    let came = receive_into(alloc, &mut link, &mut all, count);
+    link.hang_up();
+    (link, came.map(|()| all))
+}
+
+/// Adds the bytes of so many pieces, or of those that come until the link is down.
+fn receive_into<R: Wait + Copy>(
+    alloc: Global,
+    link: &mut LaneLink<R>,
+    all: &mut Vec<u8>,
+    count: usize,
+) -> Result<(), AllocError>
+    requires { link.old.tells.downs ≡ 0 }
+    ensures { SameEnd link.old link.new }
+{
     for _ in 0..count {
-        match receive_over(&mut link, alloc) {
+        match link.receive(alloc) {
             Ok(piece) => all.extend_from_slice(&piece)?,
-            Err(_) => break,
+            Err(_) => return Ok(()),
         }
     }
-    if let Some(lane) = &mut link {
-        lane.hang_up();
-    }
-    Ok(all)
+    Ok(())
 }

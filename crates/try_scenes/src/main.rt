@@ -36,6 +36,7 @@ mod join;
 mod lanes;
 mod last_run;
 mod leave;
+mod lone_core;
 mod machine;
 mod node;
 mod parts;

@@ -22,6 +22,7 @@
 //! | `counts R..` | how many letters these had in the last run, how many were not refused, how long their logs are, and how many calls each end made |
 //! | `join R..` | joins their logs: `joined`, or why not. Who is alone goes on as in the joined world |
 //! | `posts R TURNS N` | what a link that is down posts in these turns, where N of the answers to a pull and its cut wait, and whether it was whole |
+//! | `core R` | what the core of a replica answers, by itself, to what its user asks and to a pull of its first link, what it tells both subscribers, a point where it closed each lane, and whether it was whole |
 //! | `read HEX [WHAT WHEN]` | what two reads give over a link of these bytes, one a piece |
 //! | `reads N HEX WHAT` | the same where the link does this at call 0, at call 1, and so on for N calls |
 //! | `send HEX HEX [WHAT WHEN]` | what becomes of two frames that are sent over a link, and the bytes that were |
@@ -46,6 +47,7 @@ use crate::form::Form;
 use crate::history::History;
 use crate::join::join;
 use crate::leave::leave_all;
+use crate::lone_core::core;
 use crate::node::run_all;
 use crate::parts::Parts;
 use crate::tell::{tell_all, tell_counts, tell_steps};
@@ -116,6 +118,7 @@ fn do_line<K: Form<Vector: Send> + Send, R: AllocGlobal + Threads + Wait + Sync 
         "counts" => tell_counts(alloc, &scene.devices, rest),
         "join" => join(alloc, &mut scene.devices, rest),
         "posts" => posts(rt, alloc, &scene.devices, rest),
+        "core" => core(rt, alloc, &mut scene.devices, rest),
         _ => match prepare(rt, alloc, scene, word, rest) {
             Some(done) => done.map(|()| String::new(alloc)),
             None => do_part(rt, alloc, scene, line, word, rest),

@@ -14,6 +14,7 @@ pub struct StrangeLink<R> {
     pub calls: u64,
     pub kept: Option<Vec<u8>>,
     pub downs: u64,
+    pub hung_up: bool,
 }
 
 impl<R> StrangeLink<R> {
@@ -27,12 +28,14 @@ impl<R> StrangeLink<R> {
             calls: 0,
             kept: None,
             downs: 0,
+            hung_up: false,
         }
     }
 
     /// The number of a call that begins.
     fn next_call(&mut self) -> u64
-        ensures { self.new.downs ≡ self.old.downs }
+        ensures downs { self.new.downs ≡ self.old.downs }
+        ensures hung_up { self.new.hung_up ≡ self.old.hung_up }
     {
         let call = self.calls;
         self.calls = call.saturating_add(1);
@@ -79,14 +82,17 @@ fn spoilt(mut piece: Vec<u8>) -> Vec<u8> {
 impl<R: Wait + Copy> StrangeLink<R> {
     /// The piece that this call receives.
     fn piece(&mut self, alloc: Global) -> Result<Vec<u8>, LinkFault>
-        ensures { self.new.downs ≡ self.old.downs }
+        ensures downs { self.new.downs ≡ self.old.downs }
+        ensures hung_up { self.new.hung_up ≡ self.old.hung_up }
     {
         let call = self.next_call();
         if let Some(kept) = self.kept.take() {
             return Ok(kept);
         }
-        if self.strange.at_call(call) == What::Fails {
-            return Err(LinkFault::LinkDown);
+        match self.strange.at_call(call) {
+            What::Fails => return Err(LinkFault::LinkDown),
+            What::Starves => return Err(LinkFault::OutOfMemory),
+            _ => {}
         }
         let piece = receive_over(&mut self.lane, alloc)?;
         match self.strange.at_piece(call, &piece) {
@@ -105,14 +111,14 @@ impl<R: Wait + Copy> StrangeLink<R> {
 }
 
 impl<R: Wait + Copy> Link for StrangeLink<R> {
-    ghost tells = { λ s. record { received = None; sent = None; downs = s.downs } };
+    ghost tells = { λ s. record { received = None; sent = None; downs = s.downs; hung_up = s.hung_up } };
 
     fn send(&mut self, alloc: Global, bytes: &[u8]) -> Result<(), LinkFault> {
         let call = self.next_call();
-        let sent = if self.strange.at_call(call) == What::Fails {
-            Err(LinkFault::LinkDown)
-        } else {
-            send_over(&mut self.lane, alloc, bytes)
+        let sent = match self.strange.at_call(call) {
+            What::Fails => Err(LinkFault::LinkDown),
+            What::Starves => Err(LinkFault::OutOfMemory),
+            _ => send_over(&mut self.lane, alloc, bytes),
         };
         if sent == Err(LinkFault::LinkDown) {
             self.downs += 1;
@@ -132,6 +138,7 @@ impl<R: Wait + Copy> Link for StrangeLink<R> {
     }
 
     fn hang_up(&mut self) {
+        self.hung_up = true;
         if let Some(lane) = &mut self.lane {
             lane.hang_up();
         }

@@ -1,8 +1,11 @@
-use Rattle.std.proofs.Common.{◌≡◌, ◌∙◌, Result, ap, subst}
+use Rattle.std.proofs.Common.{◌≡◌, ◌∙◌, ◌∷◌, [], Result, ap, subst}
 use Rattle.std.proofs.lemmas.Result.{IfOk-weaker}
 use Rattle.mr_link.specs.Wire.{wire_of}
 use Rattle.mr_replica.specs.declared.event.Reply.{Reply}
 use Rattle.mr_replica.specs.declared.refusal.Refusal.{Refusal}
+use Rattle.mr_threads.specs.Exchange.{said}
+use Rattle.mr_threads.specs.Talk.{SaysInPart}
+use Rattle.mr_threads.proofs.Saying.{holds_on_err, says_in_part}
 use Rattle.mr_node.specs.Turn.{advanced}
 use Rattle.mr_node.specs.Step.{ComesOf}
 use Rattle.mr_node.proofs.exchange.exchange.Goals as goal
@@ -22,3 +25,13 @@ returns-clause-so g c =
       subst (λ (a : Result Reply Refusal). ComesOf old a stop new) same k,
     ))
     c.send_answer.ensures
+
+pub returns-in_err-advance-clause-in_turn : goal.returns-in_err-advance-clause-in_turn
+returns-in_err-advance-clause-in_turn g c =
+    let one = c.in_ok-say.ensures.ok in
+    holds_on_err c.from_residual-in_err-advance.result (SaysInPart c.args.talk.now c.say.new.self) (says_in_part c.args.talk.now c.say.new.self (said c.args.letter one.0 ∷ []) one.1)
+
+pub returns-clause-in_turn : goal.returns-clause-in_turn
+returns-clause-in_turn g c =
+    let one = c.in_ok-say.ensures.ok in
+    holds_on_err c.send_answer.result (SaysInPart c.args.talk.now c.say.new.self) (says_in_part c.args.talk.now c.say.new.self (said c.args.letter one.0 ∷ []) one.1)

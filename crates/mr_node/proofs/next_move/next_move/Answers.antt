@@ -5,6 +5,7 @@ use Rattle.std.specs.List.{slice_get}
 use Rattle.mr_link.specs.Wire.{wire_of}
 use Rattle.mr_node.specs.declared.turn.Turn.TheVariants as turn
 use Rattle.mr_node.proofs.Moving.{serve_so, redeem_so, grant_so, reads_so}
+use Rattle.mr_node.proofs.Letting.{serve_let, redeem_let}
 use Rattle.mr_node.proofs.next_move.next_move.Goals as goal
 
 pub returns-then-progress-eq0-2-clause-moves : goal.returns-then-progress-eq0-2-clause-moves
@@ -39,3 +40,13 @@ returns-in-Some-clause-moves g c = λ xs at.
     subst (λ (l : List Name). slice_get l c.args.progress.said ≡ Some c.in-Some.version.now) listed
     (slice_get_read c.deref.result.now (length c.deref.result.now) c.args.progress.said c.in-Some.version.now refl within (search rules)) in
     grant_so may c.args.turn.now c.in-Grant.versions c.in-Some.version.now xs c.args.progress (wire_of g.L.Link.tells c.args.wire.now) c.in-Grant.is at (λ e. let sized = c.in-Grant.versions.ok.0 in apart (omega (arith, e, counted, sized))) there c.requires.unread
+
+pub returns-then-progress-eq0-2-clause-let_pass : goal.returns-then-progress-eq0-2-clause-let_pass
+returns-then-progress-eq0-2-clause-let_pass g c =
+    let guard = c.args.guard.now in
+    serve_let (g.G.Gate.has_let guard.gate.now guard.link (guard.posted + 1)) false (wire_of g.L.Link.tells c.args.wire.now) (wire_of g.L.Link.tells c.fetch_request.new.wire) c.fetch_request.result (c.fetch_request.ensures false)
+
+pub returns-else-progress-count-clause-let_pass : goal.returns-else-progress-count-clause-let_pass
+returns-else-progress-count-clause-let_pass g c =
+    let guard = c.args.guard.now in
+    redeem_let (g.G.Gate.has_let guard.gate.now guard.link (guard.posted + 1)) false c.in-Redeem.count (wire_of g.L.Link.tells c.args.wire.now) (wire_of g.L.Link.tells c.fetch_receipt.new.wire) c.fetch_receipt.result (c.fetch_receipt.ensures false)

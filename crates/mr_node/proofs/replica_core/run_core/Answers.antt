@@ -1,3 +1,4 @@
+use Rattle.std.proofs.Common.{◌∙◌, ap}
 use Rattle.mr_node.proofs.Hosting.{log_grows}
 use Rattle.mr_node.proofs.replica_core.run_core.Goals as goal
 
@@ -6,6 +7,9 @@ returns g c = record {
   ran = λ whole.
       let h = c.run_machine.ensures.ran whole in
       record { ran = h; log = log_grows g.K.Knowledge.form c.args.core.machine c.run_machine.result.core.machine h.exchanges h.replays };
+  short = λ short.
+      let h = c.run_machine.ensures.short short in
+      record { ran = h; log = ap (λ s. s.log) h.machine ∙ log_grows g.K.Knowledge.form c.args.core.machine h.served.machine h.exchanges h.serves.replays };
   lanes = c.run_machine.ensures.lanes;
   finished = c.run_machine.ensures.finished;
 }

@@ -1,8 +1,11 @@
-use Rattle.std.proofs.Common.{◌∙◌, ℕ, Bool, Bor, ap, arith, refl, rules, subst}
+use Rattle.std.proofs.Common.{◌∙◌, ℕ, Bool, Bor, ap, arith, refl, rules, subst, sym}
 use Rattle.mr_lane.specs.declared.note.Sender.{Sender}
 use Rattle.mr_link.specs.Wire.{wire_of}
 use Rattle.mr_node.specs.Step.{Steps, SaysPart}
 use Rattle.mr_node.specs.declared.turning.Step.{Step}
+use Rattle.mr_threads.specs.Talk.{SaysInPart}
+use Rattle.mr_threads.proofs.Saying.{part_behind, holds_on_err}
+use Rattle.mr_node.proofs.Letting.{let_same}
 use Rattle.mr_node.proofs.Talking.{some_left}
 use Rattle.mr_node.proofs.Stepping.{so_far_none, so_far_more, so_far_done, so_far_stop}
 use Rattle.mr_node.proofs.turning.go.Goals as goal
@@ -10,6 +13,7 @@ use Rattle.mr_node.proofs.turning.go.Goals as goal
 pub loop-init : goal.loop-init
 loop-init g c = record {
   so_far = so_far_none c.args.turn.now c.args.talk.now (wire_of g.L.Link.tells c.args.wire.now) c.args.guard.now.posted c.args.progress.now c.requires.new c.requires.unread;
+  let_pass = λ h. h;
   gate = refl;
   link = refl;
   lanes = record { post = refl; sender = refl; tap = refl };
@@ -33,6 +37,8 @@ loop-preserved g c =
     record {
       so_far = so_far_more closes c.args.turn.now c.args.talk.now c.loop.talk c.say_next.new.talk (wire_of tells c.args.wire.now) (wire_of tells c.loop.wire) (wire_of tells c.say_next.new.wire) c.args.guard.now.posted c.loop.guard.posted c.say_next.new.guard.posted c.loop.progress c.say_next.new.progress h
           (subst (λ (s : Step). Steps closes c.args.turn.now h.said c.loop.talk (wire_of tells c.loop.wire) c.loop.guard.posted s c.say_next.new.talk (wire_of tells c.say_next.new.wire) c.say_next.new.guard.posted c.say_next.new.progress) c.in-More.is (e.so h.said h.at));
+      let_pass = λ before. let_same g.G.Gate.has_let _ _ _ _ _ c.loop.invariant.gate c.loop.invariant.link
+          (e.let_pass (let_same g.G.Gate.has_let _ _ _ _ _ (sym c.loop.invariant.gate) (sym c.loop.invariant.link) (c.loop.invariant.let_pass before)));
       gate = e.gate ∙ c.loop.invariant.gate;
       link = e.link ∙ c.loop.invariant.link;
       lanes = search rules;
@@ -55,3 +61,16 @@ returns-in-Stop-clause-so g c =
     subst (λ (z : ℕ → Bool). SaysPart z c.args.turn.now c.in-Stop.stop c.args.talk.now (wire_of tells c.args.wire.now) c.args.guard.now.posted c.say_next.new.talk (wire_of tells c.say_next.new.wire) c.say_next.new.guard.posted c.say_next.new.progress) same
     (so_far_stop closes c.args.turn.now c.args.talk.now c.loop.talk c.say_next.new.talk (wire_of tells c.args.wire.now) (wire_of tells c.loop.wire) (wire_of tells c.say_next.new.wire) c.args.guard.now.posted c.loop.guard.posted c.say_next.new.guard.posted c.loop.progress c.say_next.new.progress c.in-Stop.stop h
     (subst (λ (s : Step). Steps closes c.args.turn.now h.said c.loop.talk (wire_of tells c.loop.wire) c.loop.guard.posted s c.say_next.new.talk (wire_of tells c.say_next.new.wire) c.say_next.new.guard.posted c.say_next.new.progress) c.in-Stop.is (c.in_ok-say_next.ensures.so h.said h.at)))
+
+pub returns-in-Done-clause-let_pass : goal.returns-in-Done-clause-let_pass
+returns-in-Done-clause-let_pass g c = λ before. let_same g.G.Gate.has_let _ _ _ _ _ c.loop.invariant.gate c.loop.invariant.link
+    (c.in_ok-say_next.ensures.let_pass (let_same g.G.Gate.has_let _ _ _ _ _ (sym c.loop.invariant.gate) (sym c.loop.invariant.link) (c.loop.invariant.let_pass before)))
+
+pub returns-in-Stop-clause-let_pass : goal.returns-in-Stop-clause-let_pass
+returns-in-Stop-clause-let_pass g c = λ before. let_same g.G.Gate.has_let _ _ _ _ _ c.loop.invariant.gate c.loop.invariant.link
+    (c.in_ok-say_next.ensures.let_pass (let_same g.G.Gate.has_let _ _ _ _ _ (sym c.loop.invariant.gate) (sym c.loop.invariant.link) (c.loop.invariant.let_pass before)))
+
+pub returns-in_err-say_next-clause-in_turn : goal.returns-in_err-say_next-clause-in_turn
+returns-in_err-say_next-clause-in_turn g c =
+    let h = c.loop.invariant.so_far in
+    holds_on_err c.from_residual.result (SaysInPart c.args.talk.now c.say_next.new.talk) (part_behind c.args.talk.now c.loop.talk c.say_next.new.talk h.said h.says c.in_err-say_next.ensures.in_turn)

@@ -1,8 +1,12 @@
-use Rattle.std.proofs.Common.{◌+◌, ◌∙◌, Option, ap, arith, subst}
+use Rattle.std.proofs.Common.{◌+◌, ◌∙◌, ◌∷◌, [], Option, ap, arith, refl, subst}
+use Rattle.mr_threads.specs.Exchange.{said}
+use Rattle.mr_threads.specs.Talk.{SaysInPart}
+use Rattle.mr_threads.proofs.Saying.{holds_on_err, posts_none, says_in_part}
 use Rattle.mr_link.specs.Wire.{wire_of}
-use Rattle.mr_node.specs.Step.{ReadsLetter, Moves, ComesOf}
+use Rattle.mr_node.specs.Step.{ReadsLetter, LetsMove, Moves, ComesOf}
 use Rattle.mr_node.specs.declared.turn.Stop.{Stop}
 use Rattle.mr_node.specs.declared.next_move.Move.{Move}
+use Rattle.mr_node.proofs.Letting.{let_more}
 use Rattle.mr_node.proofs.Talking.{some_left}
 use Rattle.mr_node.proofs.Stepping.{steps_more, steps_unsaid, steps_unread}
 use Rattle.mr_node.proofs.turning.say_next.Goals as goal
@@ -55,3 +59,28 @@ returns-in-Some-clause-so g c = λ xs at.
     (subst (λ (m : Move). Moves (closes (guard.posted + 1)) c.args.turn.now xs old m mid) c.in-Say.is (c.in_ok-next_move.ensures.moves xs at.progress))
     (c.in_ok-count-in-Say.ensures.posted ∙ ap (λ n. guard.posted + n) c.one_if_receive-receives.ensures)
     so.1 so.2 (subst (λ (s : Option Stop). ComesOf mid so.0 s new) c.in-Some.is so.3)
+
+pub returns-in-None-clause-let_pass : goal.returns-in-None-clause-let_pass
+returns-in-None-clause-let_pass g c = λ before.
+    let guard = c.args.guard.now in
+    let has_let = g.G.Gate.has_let guard.gate.now guard.link in
+    let_more has_let guard.posted c.count.new.self.posted c.in-Say.letter before
+    (subst (λ (m : Move). LetsMove (has_let (guard.posted + 1)) m) c.in-Say.is c.in_ok-next_move.ensures.let_pass)
+    (c.in_ok-count-in-Say.ensures.posted ∙ ap (λ n. guard.posted + n) c.one_if_receive-receives.ensures)
+
+pub returns-in-Some-clause-let_pass : goal.returns-in-Some-clause-let_pass
+returns-in-Some-clause-let_pass g c = λ before.
+    let guard = c.args.guard.now in
+    let has_let = g.G.Gate.has_let guard.gate.now guard.link in
+    let_more has_let guard.posted c.count.new.self.posted c.in-Say.letter before
+    (subst (λ (m : Move). LetsMove (has_let (guard.posted + 1)) m) c.in-Say.is c.in_ok-next_move.ensures.let_pass)
+    (c.in_ok-count-in-Say.ensures.posted ∙ ap (λ n. guard.posted + n) c.one_if_receive-receives.ensures)
+
+pub returns-in_err-next_move-clause-in_turn : goal.returns-in_err-next_move-clause-in_turn
+returns-in_err-next_move-clause-in_turn g c =
+    holds_on_err c.from_residual.result (SaysInPart c.args.talk.now c.args.talk.now) (posts_none c.args.talk.now c.args.talk.now refl refl)
+
+pub returns-in_err-count-in-Say-clause-in_turn : goal.returns-in_err-count-in-Say-clause-in_turn
+returns-in_err-count-in-Say-clause-in_turn g c =
+    let so = c.in_ok-stop-in-Say.ensures.so in
+    holds_on_err c.from_residual-in_err-count-in-Say.result (SaysInPart c.args.talk.now c.exchange.new.talk) (says_in_part c.args.talk.now c.exchange.new.talk (said c.in-Say.letter so.0 ∷ []) so.1)

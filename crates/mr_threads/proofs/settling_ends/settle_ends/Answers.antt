@@ -3,8 +3,8 @@ use Rattle.mr_threads.specs.Running.{are_all_whole}
 use Rattle.mr_threads.proofs.WholeRun.{all_whole, settled_ran}
 use Rattle.mr_threads.proofs.settling_ends.settle_ends.Goals as goal
 
-pub returns : goal.returns
-returns g c = λ roles parts fits new ran.
+pub returns-clause-ran : goal.returns-clause-ran
+returns-clause-ran g c = λ roles parts fits new ran.
     let e : are_all_whole c.args.ends ≡ true = search rules in
     let whole = all_whole c.args.ends e in
     settled_ran g.M.Machine.steps g.M.Machine.feed_of g.S.Speaker.speaks g.P.Speaker.speaks g.Q.Speaker.speaks g.F.Fold.shows g.G.Fold.shows

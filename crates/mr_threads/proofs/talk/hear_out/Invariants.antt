@@ -1,4 +1,4 @@
-use Rattle.std.proofs.Common.{◌≡◌}
+use Rattle.std.proofs.Common.{◌≡◌, ◌++◌, List}
 use Rattle.std.specs.Prelude.{IsTrue}
 use Rattle.mr_threads.specs.Talk.{HearsOut, SameLanes}
 use Rattle.mr_threads.proofs.talk.hear_out.Given as goal
@@ -6,6 +6,7 @@ use Rattle.mr_threads.proofs.talk.hear_out.Given as goal
 abbrev pub invariant-loop : goal.invariant-loop
 invariant-loop g l = record {
   heard : IsTrue l.whole → HearsOut l.fn.talk l.talk;
+  passed : (rest : List g.row.A.Denot) × (l.talk.tap.passed ≡ l.fn.talk.tap.passed ++ rest);
   post : l.talk.post ≡ l.fn.talk.post;
   lanes : SameLanes l.fn.talk l.talk;
 }

@@ -1,9 +1,9 @@
-use Rattle.std.proofs.Common.{◌≡◌, ℕ, ap, subst, ◌∙◌}
+use Rattle.std.proofs.Common.{◌≡◌, ℕ, ap, refl, subst, ◌∙◌}
 use Rattle.std.specs.Global.{Vec}
 use Rattle.mr_lane.specs.Tap.{TapEnd, HandsBack}
 use Rattle.mr_lane.specs.declared.fault.SendFault.{SendFault}
 use Rattle.mr_lane.specs.declared.fault.SendFault.TheVariants.{Full}
-use Rattle.mr_link.proofs.LaneBytes.{piece_offered, none_offered}
+use Rattle.mr_link.proofs.LaneBytes.{piece_offered, none_offered, same_end}
 use Rattle.mr_link.proofs.lane_links.LaneLinkLink.send.Goals as goal
 
 -- what comes back of a full lane is what was offered
@@ -13,11 +13,15 @@ back_same spout piece back fault is h = let full : HandsBack spout piece (Full b
 pub loop-preserved : goal.loop-preserved
 loop-preserved g c =
     let l = c.self-in-loop.inside in (
-      none_offered l.spout l.tap c.offer.new.self l.downs c.args.self.now (c.self-in-loop.view_is ∙ c.loop.invariant.0) c.in-Err-Full.ensures.err.0,
+      none_offered l.spout l.tap c.offer.new.self l.downs l.has_hung_up c.args.self.now (c.self-in-loop.view_is ∙ c.loop.invariant.0) c.in-Err-Full.ensures.err.0,
       ap (λ (v : Vec ℕ). v.items) (back_same l.spout c.loop.piece c.in-Err-Full.back c.in-Err-Full.field-0 c.in-Err-Full.field-0-is c.in-Err-Full.ensures.err.1) ∙ c.loop.invariant.1,
     )
 
 pub returns-in-Ok-offer : goal.returns-in-Ok-offer
 returns-in-Ok-offer g c =
     let l = c.self-in-loop.inside in
-    record { sends = piece_offered l.spout l.tap c.offer.new.self l.downs c.args.self.now c.loop.piece c.args.bytes.now (c.self-in-loop.view_is ∙ c.loop.invariant.0) c.in-Ok-offer.ensures.ok.1 c.loop.invariant.1 }
+    let is = c.self-in-loop.view_is ∙ c.loop.invariant.0 in
+    record {
+      sends = piece_offered l.spout l.tap c.offer.new.self l.downs l.has_hung_up c.args.self.now c.loop.piece c.args.bytes.now is c.in-Ok-offer.ensures.ok.1 c.loop.invariant.1;
+      same = same_end l.spout l.tap c.offer.new.self l.tap l.downs l.has_hung_up c.args.self.now is c.in-Ok-offer.ensures.id refl;
+    }

@@ -1,7 +1,8 @@
 use Rattle.std.proofs.Common.{rules, refl, ap, ◌∙◌, ◌++◌, ◌∷◌, []}
 use Rattle.std.proofs.lemmas.List.{map-append}
 use Rattle.mr_threads.specs.Exchange.{Said, said}
-use Rattle.mr_threads.proofs.Saying.{says_none, says-append}
+use Rattle.mr_threads.specs.Talk.{SaysInPart}
+use Rattle.mr_threads.proofs.Saying.{says_none, says-append, part_behind, holds_on_err}
 use Rattle.mr_threads.proofs.talk.Talk.say_all.Goals as goal
 
 pub loop-letter-init : goal.loop-letter-init
@@ -25,3 +26,8 @@ loop-letter-preserved g c =
       );
       lanes = search rules;
     }
+
+pub returns-in_err-say-clause-in_turn : goal.returns-in_err-say-clause-in_turn
+returns-in_err-say-clause-in_turn g c =
+    let h = c.loop-letter.invariant.said in
+    holds_on_err c.from_residual.result (SaysInPart c.args.self.now c.say.new.self) (part_behind c.args.self.now c.loop-letter.self c.say.new.self h.0 h.2 c.in_err-say.ensures.in_turn)
