@@ -1,6 +1,10 @@
+pub mod ByteLemmas
 pub mod LettersLemmas
 pub mod NameLemmas
 pub mod PathLemmas
 pub mod ViewLemmas
 pub mod MergingLemmas
 pub mod ActLemmas
+pub mod FolderLemmas
+pub mod ToldLemmas
+pub mod ReferenceLemmas

@@ -1,19 +1,19 @@
 -- what heads say together, label by label and flag by flag
-use Rattle.std.proofs.Common.{◌≡◌, ◌≢◌, ℕ, zero, suc, ◌<◌, ◌≤◌, Bool, true, false, not, cond, ◌&&◌, ◌||◌, List, [], ◌∷◌, ◌++◌, refl, sym, ap, ◌∙◌, arith, ◌+◌, get_or, take, append_assoc}
-use Rattle.std.specs.Prelude.{if◌then◌else◌, filter, replicate, length}
-use Rattle.std.specs.List.{AllPass, list_all, list_any, flat_map}
+use Rattle.std.proofs.Common.{◌≡◌, ℕ, zero, suc, ◌<◌, Bool, true, false, not, cond, ◌&&◌, ◌||◌, List, [], ◌∷◌, ◌++◌, refl, sym, ap, ◌∙◌, arith, ◌+◌, get_or, take, append_assoc}
+use Rattle.std.specs.Prelude.{filter, replicate, length}
+use Rattle.std.specs.List.{list_all, list_any, flat_map}
 use Rattle.std.specs.List.Sorted.{IsPermutation, IsStrictlySortedBy}
 use Rattle.std.proofs.lemmas.Bool.{false≢true, cond-true}
-use Rattle.std.proofs.lemmas.List.Elements.{All-push, filter_more, filter-append}
+use Rattle.std.proofs.lemmas.List.Elements.{filter_more, filter-append}
 use Rattle.std.proofs.lemmas.List.Folds.{list_any-append}
 use Rattle.std.proofs.lemmas.List.Sorted.{list_any-IsPermutation}
 use Rattle.mr_mail.specs.Flag.{has_flag, flag_eq}
-use Rattle.mr_mail.specs.Label.{text_cmp, text_eq, has_label, is_label}
+use Rattle.mr_mail.specs.Label.{text_cmp, text_eq, has_label}
 use Rattle.mr_mail.specs.declared.flags.Flag.{Flag}
 use Rattle.mr_mail.specs.declared.flags.Flag.TheVariants.{Deleted}
 use Rattle.mr_mail.proofs.FlagLemmas.{flags_alike}
 use Rattle.mr_maildir.specs.Letters.{flags_where}
-use Rattle.mr_maildir.specs.View.{ViewParts, IsView, in_order, is_gone, view_eq}
+use Rattle.mr_maildir.specs.View.{ViewParts, IsView, is_gone, view_eq}
 use Rattle.mr_maildir.specs.Merging.{with_say, asked, stays, stays_in, stays_flagged, joined, merged_view, differ}
 use Rattle.mr_maildir.proofs.LettersLemmas.{has_flag-flags_where, flags_where-le}
 use Rattle.mr_maildir.proofs.ViewLemmas.{same_text, rising-in_order, has-in_order, rising-unique, view_eq-Decides}
@@ -92,11 +92,6 @@ one_more_label p start done new items i x below is was now =
     now ∙ (ap (λ ls. ls ++ cond (p x) (x ∷ []) []) was
     ∙ (append_assoc start (filter p (take i items)) (cond (p x) (x ∷ []) [])
     ∙ ap (λ ls. start ++ ls) (ap (λ y. filter p (take i items) ++ cond (p y) (y ∷ []) []) is ∙ sym more)))
-
--- what holds of labels and of one more holds of both
-pub each_of_more : (labels new : List (List ℕ)) (wanted : Bool) (x : List ℕ) → AllPass is_label labels → is_label x ≡ true → new ≡ labels ++ cond wanted (x ∷ []) [] → AllPass is_label new
-each_of_more labels new true x all one is = rw is (All-push (λ label. is_label label ≡ true) labels x all one)
-each_of_more labels new false x all one is = rw (is, append_nothing labels) all
 
 -- one more head
 pub one_more_head : (p : List ℕ → Bool) (q : ViewParts → Bool) (done new : List (List ℕ)) (heads : List ViewParts) (i : ℕ) (x : ViewParts) → i < length heads → x ≡ get_or heads i x → done ≡ filter p (flat_map (λ head. head.labels) (filter q (take i heads))) → new ≡ done ++ filter p (cond (q x) x.labels []) → new ≡ filter p (flat_map (λ head. head.labels) (filter q (take (i + 1) heads)))

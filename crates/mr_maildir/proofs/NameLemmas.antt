@@ -1,38 +1,14 @@
 -- a name's parts
-use Rattle.std.proofs.Common.{◌≡◌, ◌≢◌, ℕ, ◌<◌, Bool, true, false, not, ◌&&◌, List, [], ◌∷◌, ◌++◌, length, get_or, refl, sym, ap, ◌∙◌, Option, Some, None, IfSome, IfNone, arith, lit<}
+use Rattle.std.proofs.Common.{◌≡◌, ◌≢◌, ℕ, ◌<◌, true, false, not, List, [], ◌∷◌, ◌++◌, length, get_or, refl, sym, ap, ◌∙◌, Option, Some, None, IfSome, IfNone, arith, lit<}
 use Rattle.std.specs.Prelude.{◌==◌}
 use Rattle.std.specs.Borrow.{Bor}
 use Rattle.std.specs.Option.{MatchOption}
 use Rattle.std.specs.List.{list_all}
-use Rattle.std.proofs.lemmas.Bool.{and_parts, and_from, false≢true, not_from_false, ne_eqb, eqb-true}
+use Rattle.std.proofs.lemmas.Bool.{and_parts, and_from, false≢true, eqb-true}
 use Rattle.std.proofs.lemmas.Str.Pattern.{IsSplitOnceResult, split_parts}
-use Rattle.std.proofs.lemmas.List.Sums.{list_all-from_AllPass}
-use Rattle.std.proofs.lemmas.List.Elements.{All-from_get_or}
+use Rattle.mr_maildir.proofs.ByteLemmas.{lacks-from, first_byte}
 use Rattle.mr_maildir.specs.Letters.{is_info_byte}
 use Rattle.mr_maildir.specs.Name.{is_safe_byte, NameParts, name_text, info_text, lacks_colon, HasLetters, LacksLetters, IsName, AreParts}
-
--- no place has a colon
-pub lacks_colon-from : (text : List ℕ) → ((i : ℕ) → i < length text → get_or text i 0 ≢ 58) → lacks_colon text ≡ true
-lacks_colon-from text none =
-    list_all-from_AllPass (λ b. not (b == 58)) text
-    (All-from_get_or (λ b. not (b == 58) ≡ true) text 0 (λ i below. not_from_false (get_or text i 0 == 58) (ne_eqb (get_or text i 0) 58 (none i below))))
-
--- a text has one first colon
-pub first_colon : (a b c d : List ℕ) → lacks_colon a ≡ true → lacks_colon c ≡ true → a ++ 58 ∷ b ≡ c ++ 58 ∷ d → (a ≡ c) × (b ≡ d)
-first_colon [] b [] d la lc e = (refl, cc)
-first_colon [] b (y ∷ c) d la lc e =
-    let head : y ≡ 58 = cc in
-    let no : not (58 == 58) ≡ true = rw head at ((and_parts (not (y == 58)) (lacks_colon c) lc).0) in
-    absurd (false≢true no)
-first_colon (x ∷ a) b [] d la lc e =
-    let head : x ≡ 58 = cc in
-    let no : not (58 == 58) ≡ true = rw head at ((and_parts (not (x == 58)) (lacks_colon a) la).0) in
-    absurd (false≢true no)
-first_colon (x ∷ a) b (y ∷ c) d la lc e =
-    let head : x ≡ y = cc in
-    let tail : a ++ 58 ∷ b ≡ c ++ 58 ∷ d = cc in
-    let rest = first_colon a b c d (and_parts (not (x == 58)) (lacks_colon a) la).1 (and_parts (not (y == 58)) (lacks_colon c) lc).1 tail in
-    (cc, rest.1)
 
 append_nothing : (text : List ℕ) → text ++ [] ≡ text
 append_nothing [] = refl
@@ -45,7 +21,7 @@ one_name unique letters parts has is e = go parts.unique parts.letters is e
     go : (u : List ℕ) (ls : Option (List ℕ)) → AreParts u ls → u ++ info_text ls ≡ unique ++ 58 ∷ 50 ∷ 44 ∷ letters → ◌≡◌ {A = NameParts} (record { unique = u; letters = ls }) (record { unique = unique; letters = Some letters })
     go u None lacks same = absurd (lacks unique letters has (sym (append_nothing u) ∙ same))
     go u (Some ls) found same =
-        let parted = first_colon u (50 ∷ 44 ∷ ls) unique (50 ∷ 44 ∷ letters) found.colon has.colon same in
+        let parted = first_byte 58 u (50 ∷ 44 ∷ ls) unique (50 ∷ 44 ∷ letters) found.colon has.colon same in
         let us : u ≡ unique = parted.0 in
         let tail : 50 ∷ 44 ∷ ls ≡ 50 ∷ 44 ∷ letters = parted.1 in
         let lets : ls ≡ letters = cc in
@@ -65,7 +41,7 @@ before_lacks_colon name r cases = go r (split_parts 58 name r cases (lit< tt))
   where
     go : (r : Option (Bor (List ℕ) × Bor (List ℕ))) → MatchOption r ((i : ℕ) → i < length name → get_or name i 0 ≢ 58) (λ x. (name ≡ x.0.now ++ (58 ∷ x.1.now)) × ((i : ℕ) → i < length x.0.now → get_or x.0.now i 0 ≢ 58)) → IfSome r (λ p. lacks_colon p.0.now ≡ true)
     go None h = tt
-    go (Some x) h = lacks_colon-from x.0.now h.1
+    go (Some x) h = lacks-from 58 x.0.now h.1
 
 at_colon : (before behind : List ℕ) → get_or (before ++ 58 ∷ behind) (length before) 0 ≡ 58
 at_colon [] behind = refl
@@ -102,4 +78,4 @@ safe_lacks_colon (b ∷ bs) safe =
 -- what stands behind the first colon decides whether a name ends in letters
 pub no_letters : (name unique info : List ℕ) → name ≡ unique ++ 58 ∷ info → lacks_colon unique ≡ true → ((letters : List ℕ) → list_all is_info_byte letters ≡ true → info ≢ 50 ∷ 44 ∷ letters) → LacksLetters name
 no_letters name unique info written first none u ls has e =
-    none ls has.each (first_colon unique info u (50 ∷ 44 ∷ ls) first has.colon (sym written ∙ e)).1
+    none ls has.each (first_byte 58 unique info u (50 ∷ 44 ∷ ls) first has.colon (sym written ∙ e)).1

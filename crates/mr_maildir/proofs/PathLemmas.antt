@@ -1,5 +1,5 @@
 -- hexadecimal digits as a part of a path
-use Rattle.std.proofs.Common.{◌≡◌, ◌≢◌, ℕ, zero, suc, ◌+◌, ◌*◌, ◌/◌, ◌%◌, ◌<◌, Bool, true, false, not, ◌&&◌, List, [], ◌∷◌, length, get_or, refl, arith}
+use Rattle.std.proofs.Common.{◌≡◌, ℕ, suc, ◌/◌, ◌%◌, ◌<◌, Bool, true, not, ◌&&◌, List, [], ◌∷◌, length, refl, arith}
 use Rattle.std.specs.Prelude.{◌==◌, slice_index}
 use Rattle.std.specs.List.{list_all}
 use Rattle.std.proofs.lemmas.Bool.{and_from, false≢true}
@@ -11,7 +11,7 @@ use Rattle.mr_maildir.specs.Name.{lacks_colon}
 use Rattle.mr_maildir.specs.Path.{is_path_byte, IsPathPart}
 
 -- what each of the sixteen digits passes, each digit of bytes does
-each_digit : (p : ℕ → Bool) → passes_below 16 (λ d. p (slice_index lower_digits d)) ≡ true → (bytes : List ℕ) → ((i : ℕ) → slice_index bytes i < 256) → list_all p (encode_lower bytes) ≡ true
+pub each_digit : (p : ℕ → Bool) → passes_below 16 (λ d. p (slice_index lower_digits d)) ≡ true → (bytes : List ℕ) → ((i : ℕ) → slice_index bytes i < 256) → list_all p (encode_lower bytes) ≡ true
 unfolding encode_with
 each_digit p table [] fits = refl
 each_digit p table (b ∷ rest) fits =

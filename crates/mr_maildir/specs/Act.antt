@@ -1,5 +1,5 @@
 -- what is done for one mail, of three views of it
-use Rattle.std.specs.Prelude.{◌≡◌, Bool, false, if◌then◌else◌, is_some, Option, Some, None, [], ◌∷◌}
+use Rattle.std.specs.Prelude.{Bool, false, if◌then◌else◌, is_some, Option, Some, None, [], ◌∷◌}
 use Rattle.mr_maildir.specs.View.{ViewParts, view_eq, is_nowhere}
 use Rattle.mr_maildir.specs.Merging.{merged_view, over}
 use Rattle.mr_maildir.specs.declared.act.Act.{Act}

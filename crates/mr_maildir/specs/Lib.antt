@@ -1,6 +1,9 @@
 pub mod Letters
 pub mod Name
 pub mod Path
+pub mod Folder
+pub mod Told
+pub mod Reference
 pub mod View
 pub mod Merging
 pub mod Act

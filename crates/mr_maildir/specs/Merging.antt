@@ -1,5 +1,5 @@
 -- what several heads of one mail say together
-use Rattle.std.specs.Prelude.{◌≡◌, ℕ, Bool, false, not, ◌||◌, if◌then◌else◌, List, [], ◌∷◌, filter, Option, Some, None}
+use Rattle.std.specs.Prelude.{ℕ, Bool, false, not, ◌||◌, if◌then◌else◌, List, [], ◌∷◌, filter, Option, Some, None}
 use Rattle.std.specs.List.{list_all, list_any, flat_map}
 use Rattle.mr_mail.specs.Flag.{has_flag, flag_eq}
 use Rattle.mr_mail.specs.Label.{has_label}

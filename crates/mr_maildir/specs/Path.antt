@@ -1,6 +1,6 @@
 -- what may be a part of a path
-use Rattle.std.specs.Prelude.{◌≡◌, ◌≢◌, ◌<◌, ◌≤◌, ℕ, Bool, not, ◌==◌, ◌&&◌, ◌||◌, nat_le, List, length, slice_index}
-use Rattle.std.specs.List.{list_all, AllPass}
+use Rattle.std.specs.Prelude.{◌≢◌, ◌<◌, ℕ, Bool, not, ◌==◌, ◌&&◌, nat_le, List, length, slice_index}
+use Rattle.std.specs.List.{AllPass}
 
 -- no control character and no `/`
 abbrev pub is_path_byte : ℕ → Bool

@@ -2,7 +2,7 @@
 use Rattle.std.specs.Prelude.{ℕ, ◌<◌, Bool, true, ◌==◌, ◌&&◌, not, IsTrue, List, [], ◌∷◌, length, map, Option, option_map}
 use Rattle.std.specs.List.{list_all}
 use Rattle.mr_mail.specs.Label.{text_eq}
-use Rattle.mr_mail.specs.Mail.{Mail, MailCard}
+use Rattle.mr_mail.specs.Mail.{Mail}
 use Rattle.mr_mail.specs.declared.label.TheConstants.{MAX_LABELS}
 use Rattle.mr_maildir.specs.View.{ViewParts}
 use Rattle.mr_maildir.specs.Merging.{merged_view, over}

@@ -1,10 +1,11 @@
 -- worked rows: what the definitions give for small values
-use Rattle.std.specs.Prelude.{◌≡◌, ℕ, true, false, [], ◌∷◌, ◌++◌, codes, replicate, Some, None, refl}
-use Rattle.mr_mail.specs.declared.flags.Flag.TheVariants.{Seen, Flagged, Deleted}
-use Rattle.mr_maildir.specs.Letters.{letter_of, flags_told, is_info_byte}
-use Rattle.mr_maildir.specs.Name.{name_text, lacks_colon, is_safe_name}
-use Rattle.mr_maildir.specs.View.{ViewParts, in_order, view_eq, is_nowhere, is_gone, nowhere}
-use Rattle.mr_maildir.specs.Merging.{asked, merged_view, differ}
+use Rattle.std.specs.Prelude.{◌≡◌, true, false, [], ◌∷◌, ◌++◌, codes, replicate, Some, None, refl}
+use Rattle.mr_maildir.specs.Letters.{flags_told, is_info_byte, letters_with}
+use Rattle.mr_maildir.specs.Folder.{label_of, is_plain, is_safe_folder, folder_name}
+use Rattle.mr_maildir.specs.Told.{told_by, name_key, folder_key, with_name}
+use Rattle.mr_maildir.specs.Name.{name_text, is_safe_name}
+use Rattle.mr_maildir.specs.View.{ViewParts, in_order, is_gone, nowhere}
+use Rattle.mr_maildir.specs.Merging.{merged_view, differ}
 use Rattle.mr_maildir.specs.Act.{act_of}
 use Rattle.mr_maildir.specs.declared.act.Act.TheVariants.{Agree, Create, Edit, Delete, Follow, Remove}
 
@@ -235,3 +236,64 @@ back_again = refl
 -- deleted before, forgotten, and delivered anew
 pub delivered_anew : act_of (Some gone) (Some inbox) None ≡ Create
 delivered_anew = refl
+
+-- ---- letters on a file whose flags change
+
+-- seen and flagged: `P` and `a` stay, each letter at its place
+pub changed_letters : letters_with (codes "PSa") 5 ≡ codes "FPSa"
+unfolding letters_with
+changed_letters = refl
+
+-- seen is gone, and nothing else stood there
+pub no_letter_left : letters_with (codes "ST") 0 ≡ []
+unfolding letters_with
+no_letter_left = refl
+
+-- ---- folders
+
+pub plain_folder : label_of (codes "work-2026") ≡ codes "work-2026"
+plain_folder = refl
+
+-- the Maildir itself is the inbox, and the program has a folder of its own
+pub second_inbox : is_plain (codes "inbox") ≡ false
+second_inbox = refl
+
+pub own_folder : is_plain (codes "mailfold") ≡ false
+own_folder = refl
+
+-- a label has no capitals, and no dot
+pub capitals : is_plain (codes "Work") ≡ false
+capitals = refl
+
+pub with_space_in_it : is_safe_folder (codes "Sent Items") ≡ true
+with_space_in_it = refl
+
+pub above_the_folder : is_safe_folder (codes "../x") ≡ false
+above_the_folder = refl
+
+pub below_the_folder : is_safe_folder (codes "a/b") ≡ false
+below_the_folder = refl
+
+pub into_the_own_folder : is_safe_folder (codes "mailfold") ≡ false
+into_the_own_folder = refl
+
+-- what was told of another folder counts for nothing
+pub told_of_another : folder_name (codes "work") (Some (codes "play")) ≡ codes "work"
+told_of_another = refl
+
+-- ---- lines
+
+-- the first line with the key counts
+pub first_name : told_by name_key (codes "x y" ++ 10 ∷ codes "name a" ++ 10 ∷ codes "name b" ++ 10 ∷ []) ≡ Some (codes "a")
+first_name = refl
+
+-- a line that doesn't end is none
+pub no_line : told_by name_key (codes "name a") ≡ None
+no_line = refl
+
+pub other_label : told_by (folder_key (codes "x")) (codes "folder y Y" ++ 10 ∷ codes "folder x X" ++ 10 ∷ []) ≡ Some (codes "X")
+other_label = refl
+
+-- the name that is told last is the first line
+pub told_anew : with_name (codes "b") (codes "name a" ++ 10 ∷ []) ≡ codes "name b" ++ 10 ∷ codes "name a" ++ 10 ∷ []
+told_anew = refl

@@ -1,5 +1,5 @@
 //! The letters behind a file's name, and the flags that they tell.
-ghost use Rattle.std.specs.Prelude.{◌≡◌};
+ghost use Rattle.std.specs.Prelude.{◌≡◌, ◌<◌, ◌++◌, ◌∷◌, [], ◌&&◌, if◌then◌else◌, ℕ, IfOk, OnOk, IsTrue, false, string_bytes};
 ghost use Rattle.std.specs.List.{list_all};
 ghost use Rattle.mr_mail.specs.Flag.{has_flag};
 ghost use Rattle.mr_mail.specs.declared.flags.Flag.{Flag};
@@ -7,6 +7,7 @@ ghost use Rattle.mr_maildir.specs.Letters.{has_letter, flags_told};
 ghost use Rattle.mr_maildir.specs.Letters as specs;
 
 use mr_mail::{Flag, Flags};
+use std::alloc::{AllocError, Global};
 
 /// The letter that tells the flag in a Maildir: `D` draft, `F` flagged, `R` answered, `S` seen and `T` deleted, as of
 /// <https://cr.yp.to/proto/maildir.html>, which calls the last three replied, seen and trashed.
@@ -44,6 +45,70 @@ fn flags_in(letters: &[u8]) -> Flags
     Flag::ALL.iter().fold(Flags::empty(), |flags, flag| {
         with_flag_if(flags, *flag, letters.contains(&letter_of(*flag)))
     })
+}
+
+/// The letters of a file whose flags change to these: a flag's letter exactly where the flag is there, and each other
+/// letter exactly where the file has it. They come in rising order of their bytes, each once, as a Maildir wants them; a
+/// byte that may not stand there is left out.
+pub fn letters_with(alloc: Global, letters: &str, flags: Flags) -> Result<String, AllocError>
+    ensures value { IfOk result (λ text. string_bytes text ≡ specs.letters_with letters.now flags) }
+
+    // It tells the flags, and keeps each letter that tells none.
+    ensures flags { flags_told (specs.letters_with letters.now flags) ≡ flags }
+    ensures others { (b : ℕ) → specs.tells_flag b ≡ false
+        → has_letter (specs.letters_with letters.now flags) b ≡ (specs.is_info_byte b && has_letter letters.now b) }
+    // Each may stand behind `:2,`.
+    ensures each { IsTrue (list_all specs.is_info_byte (specs.letters_with letters.now flags)) }
+{
+    let _bits = flags.bits();
+    staying_letters(alloc, letters.as_bytes(), flags)
+}
+
+/// The letters that stand on the file once its flags are these.
+fn staying_letters(alloc: Global, letters: &[u8], flags: Flags) -> Result<String, AllocError>
+    ensures { IfOk result (λ text. string_bytes text ≡ specs.letters_with letters.now flags) }
+{
+    let mut text = String::new(alloc);
+    for byte in b'!'..127 {
+        push_letter_if(&mut text, byte, stays_on(letters, flags, byte))?;
+    }
+    Ok(text)
+}
+
+/// Appends the letter, if it is wanted.
+fn push_letter_if(text: &mut String, letter: u8, wanted: bool) -> Result<(), AllocError>
+    requires { letter < 128 }
+    ensures { OnOk result (string_bytes text.new ≡ string_bytes text.old ++ (if wanted then letter ∷ [] else [])) }
+{
+    if wanted {
+        text.push(char::from(letter))?;
+    }
+    Ok(())
+}
+
+/// Whether the letter stands on the file once its flags are these.
+fn stays_on(letters: &[u8], flags: Flags, letter: u8) -> bool
+    ensures { result ≡ specs.stays_on letters.now flags letter }
+{
+    is_info_byte(letter)
+        && match flag_told(letter) {
+            Some(flag) => flags.contains(flag),
+            None => letters.contains(&letter),
+        }
+}
+
+/// The flag that the letter tells, if it tells one.
+fn flag_told(letter: u8) -> Option<Flag>
+    ensures { result ≡ specs.flag_told letter }
+{
+    match letter {
+        b'D' => Some(Flag::Draft),
+        b'F' => Some(Flag::Flagged),
+        b'R' => Some(Flag::Answered),
+        b'S' => Some(Flag::Seen),
+        b'T' => Some(Flag::Deleted),
+        _ => None,
+    }
 }
 
 /// Whether each of the bytes may stand behind `:2,`: a graphic character of ASCII, but neither `/` nor `:`.

@@ -15,17 +15,23 @@
 #![tactic(auto)]
 
 mod act;
+mod folder;
 mod heads;
 mod letters;
 mod merging;
 mod name;
 mod policy;
+mod reference;
+mod told;
 mod view;
 
 pub use act::{Act, next_act};
+pub use folder::{INBOX, OWN_FOLDER, folder_label, folder_name, inbox, is_safe_folder};
 pub use heads::{is_merge_due, shown};
-pub use letters::{flags_of, letter_of};
+pub use letters::{flags_of, letter_of, letters_with};
 pub use merging::merged;
 pub use name::{FileName, is_safe_name, read_name, unique_for};
 pub use policy::{MergeFault, merged_place};
+pub use reference::{MailReference, read_reference};
+pub use told::{told_folder, told_name, with_told_folder, with_told_name};
 pub use view::View;

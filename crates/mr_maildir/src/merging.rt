@@ -1,8 +1,8 @@
 //! What several heads of one mail say together.
 ghost use Rattle.std.specs.Prelude.{◌≡◌, ◌<◌, ◌||◌, ◌++◌, [], ◌∷◌, if◌then◌else◌, ℕ, List, not, IfOk, OnOk, filter, length, replicate};
 ghost use Rattle.std.specs.List.Sorted.{IsPermutation};
-ghost use Rattle.std.specs.List.{AllPass, list_all, list_any, flat_map};
-ghost use Rattle.mr_mail.specs.Label.{has_label, is_label};
+ghost use Rattle.std.specs.List.{list_all, list_any, flat_map};
+ghost use Rattle.mr_mail.specs.Label.{has_label};
 ghost use Rattle.mr_mail.specs.Flag.{has_flag, flag_eq};
 ghost use Rattle.mr_mail.specs.declared.flags.Flag.{Flag};
 ghost use Rattle.mr_mail.specs.declared.flags.Flag.TheVariants.{Deleted};
@@ -151,10 +151,8 @@ fn push_staying(
     gone: bool,
     head: &View,
 ) -> Result<(), AllocError>
-    requires { AllPass is_label labels.old.items }
-    ensures appended { OnOk result
+    ensures { OnOk result
         (labels.new.items ≡ labels.old.items ++ filter (stays_in ancestor.now (with_say gone heads.now)) head.now.labels) }
-    ensures are_labels { OnOk result (AllPass is_label labels.new.items) }
 {
     for label in head.labels() {
         push_if(labels, label, label_stays(ancestor, heads, gone, label))?;
@@ -180,11 +178,9 @@ fn push_said(
     gone: bool,
     head: &View,
 ) -> Result<(), AllocError>
-    requires { AllPass is_label labels.old.items }
-    ensures appended { OnOk result
+    ensures { OnOk result
         (labels.new.items ≡ labels.old.items ++ filter (stays_in ancestor.now (with_say gone heads.now))
         (if gone || not (is_gone head.now) then head.now.labels else [])) }
-    ensures are_labels { OnOk result (AllPass is_label labels.new.items) }
 {
     if has_say(head, gone) {
         push_staying(labels, ancestor, heads, gone, head)?;
@@ -199,9 +195,8 @@ fn staying_labels(
     heads: &[View],
     gone: bool,
 ) -> Result<Vec<Label>, AllocError>
-    ensures staying { IfOk result (λ labels. labels.items ≡
+    ensures { IfOk result (λ labels. labels.items ≡
         filter (stays_in ancestor.now (with_say gone heads.now)) (flat_map (λ head. head.labels) (with_say gone heads.now))) }
-    ensures are_labels { IfOk result (λ labels. AllPass is_label labels.items) }
 {
     let mut labels = Vec::new(alloc);
     for head in heads {

@@ -47,10 +47,10 @@ impl View {
 
     /// The view with these labels, in whatever order and however often they come, and these flags.
     pub fn of_labels(labels: Vec<Label>, flags: Flags) -> View
-        requires { AllPass is_label labels.items }
         ensures { result ≡ record { labels = in_order labels.items; flags = flags } }
     {
         let _bits = flags.bits();
+        tell_labels(labels.as_slice());
         View {
             labels: sorted_once(labels),
             flags,
@@ -141,6 +141,15 @@ impl PartialEq for View {
 
 impl Eq for View {
     ghost laws = { view_eq_equiv };
+}
+
+/// Does nothing but tell that each label is one, as it is by its type.
+fn tell_labels(labels: &[Label])
+    ensures { AllPass is_label labels.now }
+{
+    for label in labels {
+        let _text = label.as_str();
+    }
 }
 
 /// Sorts labels by their bytes, and drops repeats.

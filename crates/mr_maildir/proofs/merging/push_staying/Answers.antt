@@ -1,8 +1,6 @@
-use Rattle.std.proofs.Common.{◌≡◌, ◌<◌, ◌++◌, ◌∷◌, [], ℕ, Bool, true, List, cond, length, ap, ◌∙◌, arith}
-use Rattle.std.specs.List.{AllPass}
-use Rattle.mr_mail.specs.Label.{is_label}
+use Rattle.std.proofs.Common.{◌≡◌, ◌<◌, ◌++◌, ◌∷◌, [], ℕ, Bool, List, cond, length, arith}
 use Rattle.mr_maildir.specs.Merging.{with_say, stays_in}
-use Rattle.mr_maildir.proofs.MergingLemmas.{one_more_label, each_of_more}
+use Rattle.mr_maildir.proofs.MergingLemmas.{one_more_label}
 use Rattle.mr_maildir.proofs.merging.push_staying.Goals as goal
 
 pub loop-label-preserved : goal.loop-label-preserved
@@ -11,9 +9,4 @@ loop-label-preserved c =
     let below : c.loop-label.label-index < length c.labels-label-items.result.now = omega arith in
     let grown : c.push_if.new.labels.items ≡ c.loop-label.labels.items ++ cond (p c.label-item.result) (c.label-item.result ∷ []) [] =
     rw c.label_stays.ensures at c.in_ok-push_if.ensures in
-    let each : AllPass is_label c.labels-label-items.result.now = rw c.labels-label-items.ensures.value c.labels-label-items.ensures.kept.each in
-    let one : is_label c.label-item.result ≡ true = ap is_label c.label-item.is ∙ each c.loop-label.label-index c.label-item.result below in
-    record {
-      appended = one_more_label p c.args.labels.now.items c.loop-label.labels.items c.push_if.new.labels.items c.labels-label-items.result.now c.loop-label.label-index c.label-item.result below c.label-item.is c.loop-label.invariant.appended grown;
-      are_labels = each_of_more c.loop-label.labels.items c.push_if.new.labels.items (p c.label-item.result) c.label-item.result c.loop-label.invariant.are_labels one grown;
-    }
+    one_more_label p c.args.labels.now.items c.loop-label.labels.items c.push_if.new.labels.items c.labels-label-items.result.now c.loop-label.label-index c.label-item.result below c.label-item.is c.loop-label.invariant grown

@@ -1,12 +1,8 @@
 use Rattle.std.proofs.Common.{◌≡◌, ◌++◌, take}
 use Rattle.std.specs.Prelude.{filter}
-use Rattle.std.specs.List.{AllPass}
-use Rattle.mr_mail.specs.Label.{is_label}
 use Rattle.mr_maildir.specs.Merging.{with_say, stays_in}
 use Rattle.mr_maildir.proofs.merging.push_staying.Given as goal
 
 abbrev pub invariant-loop-label : goal.invariant-loop-label
-invariant-loop-label l = record {
-  appended : l.labels.items ≡ l.fn.labels.items ++ filter (stays_in l.ancestor (with_say l.gone l.heads)) (take l.label-index l.label-items);
-  are_labels : AllPass is_label l.labels.items;
-}
+invariant-loop-label l =
+    l.labels.items ≡ l.fn.labels.items ++ filter (stays_in l.ancestor (with_say l.gone l.heads)) (take l.label-index l.label-items)

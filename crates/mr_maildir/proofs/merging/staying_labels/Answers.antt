@@ -9,7 +9,4 @@ loop-head-preserved c =
     let p : List ℕ → Bool = stays_in c.args.ancestor.now (with_say c.args.gone c.args.heads.now) in
     let q : ViewParts → Bool = λ head. c.args.gone || not (is_gone head) in
     let below : c.loop-head.head-index < length c.args.heads.now = omega arith in
-    record {
-      staying = one_more_head p q c.loop-head.labels.items c.push_said.new.labels.items c.args.heads.now c.loop-head.head-index c.head-item.result below c.head-item.is c.loop-head.invariant.staying c.in_ok-push_said.ensures.appended;
-      are_labels = c.in_ok-push_said.ensures.are_labels;
-    }
+    one_more_head p q c.loop-head.labels.items c.push_said.new.labels.items c.args.heads.now c.loop-head.head-index c.head-item.result below c.head-item.is c.loop-head.invariant c.in_ok-push_said.ensures

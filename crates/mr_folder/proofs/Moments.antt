@@ -1,0 +1,59 @@
+-- what crashes leave over one call after another
+use Rattle.std.proofs.Common.{inl, inr, ⊎_elim, ℕ, subst, sym, arith}
+use Rattle.mr_folder.specs.Tree.{Tree, LeavesOnly, IsUntouched, Passes}
+use Rattle.mr_folder.specs.Store.{IsStore, IsSound, StaysSound}
+
+module _ {F : Type 0} {moment : F → ℕ} {left_since : F → ℕ → Tree → Type 0} where
+  -- what has P has Q
+  pub widened : {old new : F} {P : Tree → Type 0} (Q : Tree → Type 0) → LeavesOnly moment left_since old new P → ((c : Tree) → P c → Q c) → LeavesOnly moment left_since old new Q
+  widened Q leaves from = record {
+    later = leaves.later;
+    each = λ c left. from c (leaves.each c left);
+    before = λ t c le left. ⊎_elim (λ earlier. inl earlier) (λ here. inr (from c here)) (leaves.before t c le left);
+  }
+
+  -- two runs, one after the other
+  pub joined : {old mid new : F} {P : Tree → Type 0} → LeavesOnly moment left_since old mid P → LeavesOnly moment left_since mid new P → LeavesOnly moment left_since old new P
+  joined {old} {mid} {new} {P} first second = record {
+    later = omega (arith, first.later, second.later);
+    each = λ c left. ⊎_elim (first.each c) (λ here. here) (second.before (moment old) c first.later left);
+    before = λ t c le left. ⊎_elim (first.before t c le) (λ here. inr here) (second.before t c (omega (arith, le, first.later)) left);
+  }
+
+  -- before the first call
+  pub started : {old : F} {P : Tree → Type 0} → ((c : Tree) → left_since old (moment old) c → P c) → LeavesOnly moment left_since old old P
+  started here = record { later = omega arith; each = here; before = λ t c le left. inl left }
+
+  -- over a call that writes
+  pub passed : {old new : F} {may_leave : Tree → Type 0} (P : Tree → Type 0) → Passes (moment old) (moment new) (left_since old) (left_since new) may_leave → ((c : Tree) → left_since old (moment old) c → P c) → ((c : Tree) → may_leave c → P c) → LeavesOnly moment left_since old new P
+  passed {old} P time before now = record {
+    later = time.later;
+    each = λ c left. ⊎_elim (before c) (now c) (time.no_more (moment old) c (omega arith) left);
+    before = λ t c le left. ⊎_elim (λ earlier. inl earlier) (λ here. inr (now c here)) (time.no_more t c le left);
+  }
+
+module _ {F : Type 0} {seen : F → Tree} {may_leave : F → Tree → Type 0} {moment : F → ℕ} {left_since : F → ℕ → Tree → Type 0} where
+  -- with no call
+  pub sound_still : (old : F) → ((c : Tree) → left_since old (moment old) c → may_leave old c) → IsSound seen may_leave old → StaysSound seen may_leave moment left_since old old
+  sound_still old only sound = record { sound = sound; moments = started (λ c left. sound.crash c (only c left)) }
+
+  -- over a call that writes nothing
+  pub sound_untouched : {old new : F} → IsUntouched seen may_leave moment left_since old new → IsSound seen may_leave old → StaysSound seen may_leave moment left_since old new
+  sound_untouched untouched sound = record {
+    sound = record {
+      now = subst IsStore (sym untouched.same) sound.now;
+      crash = λ c left. sound.crash c (untouched.no_more c left);
+    };
+    moments = widened IsStore untouched.moments sound.crash;
+  }
+
+  -- over one that writes
+  pub sound_over : {old new : F} → ((c : Tree) → left_since old (moment old) c → may_leave old c) → IsSound seen may_leave old → IsStore (seen new) → ((c : Tree) → may_leave new c → IsStore c) → Passes (moment old) (moment new) (left_since old) (left_since new) (may_leave new) → StaysSound seen may_leave moment left_since old new
+  sound_over only sound now crash time = record {
+    sound = record { now = now; crash = crash };
+    moments = passed IsStore time (λ c left. sound.crash c (only c left)) crash;
+  }
+
+  -- over two
+  pub sound_on : {old mid new : F} → StaysSound seen may_leave moment left_since old mid → StaysSound seen may_leave moment left_since mid new → StaysSound seen may_leave moment left_since old new
+  sound_on first second = record { sound = second.sound; moments = joined first.moments second.moments }

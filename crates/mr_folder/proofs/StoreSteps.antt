@@ -1,0 +1,55 @@
+-- calls that keep a store sound
+use Rattle.std.proofs.Common.{◌≡◌, ◌↔◌, inl, inr, ℕ, Bool, true, List, Option, Some, subst, sym, ap, ◌∙◌, refl}
+use Rattle.std.specs.Str.{bytes_eq}
+use Rattle.std.proofs.lemmas.Slice.Eq.{bytes_eq-Decides}
+use Rattle.hex.specs.Hex.{IsBytes}
+use Rattle.sha2.specs.Sha256.{sha256}
+use Rattle.mr_folder.specs.Inside.{draft_path, stored_path}
+use Rattle.mr_folder.specs.Tree.{Tree, OnlyAt, MayMove, MayLink, Follows, NoneOr, Passes}
+use Rattle.mr_folder.specs.Store.{IsSound, StaysSound}
+use Rattle.mr_folder.proofs.Moments.{sound_over}
+use Rattle.mr_folder.proofs.TreeLemmas.{IsStore-draft, IsStore-moved, IsStore-linked}
+
+module _ {F : Type 0} {seen : F → Tree} {may_leave : F → Tree → Type 0} {moment : F → ℕ} {left_since : F → ℕ → Tree → Type 0} where
+  -- the draft is written
+  pub sound_draft : {old new : F} (path : List ℕ) → path ≡ draft_path → ((c : Tree) → left_since old (moment old) c → may_leave old c) → IsSound seen may_leave old → OnlyAt path (seen old) (seen new) → Follows (OnlyAt path) (may_leave old) (may_leave new) → Passes (moment old) (moment new) (left_since old) (left_since new) (may_leave new) → StaysSound seen may_leave moment left_since old new
+  sound_draft {old} {new} path at only_now sound only crash time =
+      let only_draft = subst (λ p. OnlyAt p (seen old) (seen new)) at only in
+      let crash_draft = subst (λ p. Follows (OnlyAt p) (may_leave old) (may_leave new)) at crash in
+      sound_over only_now sound (IsStore-draft (seen old) (seen new) only_draft sound.now)
+      (λ c left. let d = crash_draft c left in IsStore-draft d.0 c d.2 (sound.crash d.0 d.1)) time
+
+  -- the draft moves to its place
+  pub sound_move : {old new : F} (from to digest bytes : List ℕ) → from ≡ draft_path → to ≡ stored_path digest → IsBytes digest → sha256 bytes ≡ digest → seen old draft_path ≡ Some bytes → NoneOr from (Some bytes) (may_leave old) → ((c : Tree) → left_since old (moment old) c → may_leave old c) → IsSound seen may_leave old → MayMove from to (seen old) (seen new) → Follows (MayMove from to) (may_leave old) (may_leave new) → Passes (moment old) (moment new) (left_since old) (left_since new) (may_leave new) → StaysSound seen may_leave moment left_since old new
+  sound_move {old} {new} from to digest bytes from_is to_is fits is here durable only_now sound files crash time =
+      let durable_draft = subst (λ p. NoneOr p (Some bytes) (may_leave old)) from_is durable in
+      let moves = subst (λ p. MayMove p (stored_path digest) (seen old) (seen new)) from_is (subst (λ q. MayMove from q (seen old) (seen new)) to_is files) in
+      let may = subst (λ p. Follows (MayMove p (stored_path digest)) (may_leave old) (may_leave new)) from_is (subst (λ q. Follows (MayMove from q) (may_leave old) (may_leave new)) to_is crash) in
+      sound_over only_now sound (IsStore-moved digest bytes (seen old) (seen new) fits is (inr here) moves sound.now)
+      (λ c left. let d = may c left in IsStore-moved digest bytes d.0 c fits is (durable_draft d.0 d.1) d.2 (sound.crash d.0 d.1)) time
+
+  -- a file gets a second path in the store
+  pub sound_link : {old new : F} (from to digest bytes : List ℕ) → to ≡ stored_path digest → IsBytes digest → sha256 bytes ≡ digest → seen old from ≡ Some bytes → NoneOr from (Some bytes) (may_leave old) → ((c : Tree) → left_since old (moment old) c → may_leave old c) → IsSound seen may_leave old → MayLink from to (seen old) (seen new) → Follows (MayLink from to) (may_leave old) (may_leave new) → Passes (moment old) (moment new) (left_since old) (left_since new) (may_leave new) → StaysSound seen may_leave moment left_since old new
+  sound_link {old} {new} from to digest bytes to_is fits is here durable only_now sound files crash time =
+      let links = subst (λ q. MayLink from q (seen old) (seen new)) to_is files in
+      let may = subst (λ q. Follows (MayLink from q) (may_leave old) (may_leave new)) to_is crash in
+      sound_over only_now sound (IsStore-linked digest bytes from (seen old) (seen new) fits is (inr here) links sound.now)
+      (λ c left. let d = may c left in IsStore-linked digest bytes from d.0 c fits is (durable d.0 d.1) d.2 (sound.crash d.0 d.1)) time
+
+-- the draft's path, by its name
+pub at_path : (tree : Tree) (path place : List ℕ) (bytes : Option (List ℕ)) → path ≡ place → tree path ≡ bytes → tree place ≡ bytes
+at_path tree path place bytes same here = subst (λ p. tree p ≡ bytes) same here
+
+pub only_at : {old new : Tree} (path place : List ℕ) → path ≡ place → OnlyAt path old new → OnlyAt place old new
+only_at {old} {new} path place same only = subst (λ p. OnlyAt p old new) same only
+
+-- no file moved
+pub unmoved : (from to : List ℕ) (old new : Tree) → new ≡ old → MayMove from to old new
+unmoved from to old new same = subst (λ t. MayMove from to old t) (sym same) record { source = inl refl; target = inl refl; only = λ other a b. refl }
+
+pub same_tree : (path : List ℕ) (old new : Tree) → new ≡ old → OnlyAt path old new
+same_tree path old new same = λ other apart. ap (λ t. t other) same
+
+-- a test of bytes tells whether they are one
+pub tells : (b : Bool) (x y : List ℕ) → b ≡ bytes_eq x y → (b ≡ true) ↔ (x ≡ y)
+tells b x y is = (λ yes. (bytes_eq-Decides x y).0 (sym is ∙ yes), λ same. is ∙ (bytes_eq-Decides x y).1 same)

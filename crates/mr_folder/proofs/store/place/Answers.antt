@@ -1,0 +1,34 @@
+use Rattle.std.proofs.Common.{◌<◌, ℕ, sym, ap, ◌∙◌, subst, arith}
+use Rattle.std.specs.Prelude.{slice_index}
+use Rattle.mr_folder.specs.Tree.{HasSame}
+use Rattle.mr_folder.proofs.Moments.{sound_still}
+use Rattle.mr_folder.proofs.store.place.Goals as goal
+
+pub returns-in_err-draft-clause-sound : goal.returns-in_err-draft-clause-sound
+returns-in_err-draft-clause-sound g c = λ told bytes here is sound. sound_still _ (g.met.F.FileTree.only_now _) sound
+
+pub returns-in_err-stored-clause-sound : goal.returns-in_err-stored-clause-sound
+returns-in_err-stored-clause-sound g c = λ told bytes here is sound. sound_still _ (g.met.F.FileTree.only_now _) sound
+
+pub returns-in_err-move_synced-clause-only : goal.returns-in_err-move_synced-clause-only
+returns-in_err-move_synced-clause-only g c = λ told path a b. (c.move_synced.ensures.only told).only path (λ e. b (e ∙ c.in_ok-draft.ensures)) (λ e. a (e ∙ c.in_ok-stored.ensures))
+
+pub returns-in_err-move_synced-clause-sound : goal.returns-in_err-move_synced-clause-sound
+returns-in_err-move_synced-clause-sound g c = λ told bytes here is sound.
+    let fits : (i : ℕ) → slice_index c.args.digest.now i < 256 = λ i. (let f = c.fits-digest i in omega arith) in
+    c.move_synced.ensures.sound told c.args.digest.now bytes c.in_ok-draft.ensures c.in_ok-stored.ensures fits here is sound
+
+pub returns-clause-placed : goal.returns-clause-placed
+returns-clause-placed g c = λ told.
+    ap (g.F.FileTree.seen c.move_synced.new.files) (sym c.in_ok-stored.ensures) ∙ (c.in_ok-move_synced.ensures.moved told ∙ ap (g.F.FileTree.seen c.args.files.now) c.in_ok-draft.ensures)
+
+pub returns-clause-durable : goal.returns-clause-durable
+returns-clause-durable g c = λ told. subst (λ p. HasSame p (g.F.FileTree.seen c.move_synced.new.files) (g.F.FileTree.may_leave c.move_synced.new.files)) c.in_ok-stored.ensures (c.in_ok-move_synced.ensures.durable told)
+
+pub returns-clause-only : goal.returns-clause-only
+returns-clause-only g c = λ told path a b. (c.move_synced.ensures.only told).only path (λ e. b (e ∙ c.in_ok-draft.ensures)) (λ e. a (e ∙ c.in_ok-stored.ensures))
+
+pub returns-clause-sound : goal.returns-clause-sound
+returns-clause-sound g c = λ told bytes here is sound.
+    let fits : (i : ℕ) → slice_index c.args.digest.now i < 256 = λ i. (let f = c.fits-digest i in omega arith) in
+    c.move_synced.ensures.sound told c.args.digest.now bytes c.in_ok-draft.ensures c.in_ok-stored.ensures fits here is sound

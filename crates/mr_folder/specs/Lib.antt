@@ -1,0 +1,4 @@
+pub mod Tree
+pub mod Inside
+pub mod Store
+pub mod Quiet

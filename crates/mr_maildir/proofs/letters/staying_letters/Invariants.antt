@@ -1,0 +1,8 @@
+use Rattle.std.proofs.Common.{◌≡◌, ◌-◌, string_bytes}
+use Rattle.std.specs.Prelude.{filter}
+use Rattle.std.specs.List.{range_with_len}
+use Rattle.mr_maildir.specs.Letters.{stays_on}
+use Rattle.mr_maildir.proofs.letters.staying_letters.Given as goal
+
+abbrev pub invariant-loop-byte : goal.invariant-loop-byte
+invariant-loop-byte l = string_bytes l.text ≡ filter (stays_on l.letters l.flags) (range_with_len 33 (l.byte - 33))

@@ -1,0 +1,93 @@
+//! What a case answers.
+//!
+//! | Call | Answer |
+//! |---|---|
+//! | `name NAME` | the unique part of a file's name, ` \| `, and the letters, or `none` |
+//! | `safe NAME` | whether a name may be taken from others |
+//! | `letters OLD NEW` | the letters of a file with the letters OLD once its flags are those that NEW tells |
+//! | `label NAME` | the label of a folder |
+//! | `folder LABEL NAME` | the name of the label's folder, where NAME was told of it; `-` for none |
+//! | `body TEXT` | what a body tells, with ` / ` for each newline: size, name, and the folder of the label `f-1`; or `none` |
+//! | `told NAME FOLDER` | the lines of a body that tell these, with ` / ` for each newline |
+//! | `act LEFT SEEN HELD` | what is done for a mail of these views (see the module `view`) |
+use crate::view::{text_of, view_of};
+use anyhow::Result;
+use mr_mail::Label;
+use mr_maildir::{
+    Act, flags_of, folder_label, folder_name, is_safe_name, letters_with, next_act, read_name,
+    read_reference, told_folder, told_name, with_told_folder, with_told_name,
+};
+use std::alloc::Global;
+
+/// What the line answers.
+pub fn answer(alloc: Global, line: &str) -> Result<String> {
+    let (call, words) = line.split_once(' ').unwrap_or((line, ""));
+    match call {
+        "name" => name(alloc, words),
+        "safe" => Ok(format!(in alloc; "{}", is_safe_name(words))?),
+        "letters" => letters(alloc, words),
+        "label" => Ok(String::from_str(alloc, folder_label(alloc, words)?.as_str())?),
+        "folder" => folder(alloc, words),
+        "body" => body(alloc, words),
+        "told" => told(alloc, words),
+        "act" => act(alloc, words),
+        _ => Ok(String::from_str(alloc, "no call")?),
+    }
+}
+
+/// The two words of a text.
+fn two(words: &str) -> (&str, &str) {
+    words.split_once(' ').unwrap_or((words, ""))
+}
+
+fn name(alloc: Global, text: &str) -> Result<String> {
+    let name = read_name(text);
+    let unique = name.unique;
+    let letters = name.letters.unwrap_or("none");
+    Ok(format!(in alloc; "{unique} | {letters}")?)
+}
+
+fn letters(alloc: Global, words: &str) -> Result<String> {
+    let (old, new) = two(words);
+    Ok(letters_with(alloc, old, flags_of(new))?)
+}
+
+fn folder(alloc: Global, words: &str) -> Result<String> {
+    let (label, told) = two(words);
+    let told = if told == "-" { None } else { Some(told) };
+    Ok(folder_name(alloc, &Label::read(label)?, told)?)
+}
+
+fn body(alloc: Global, words: &str) -> Result<String> {
+    let text = words.replace(alloc, " / ", "\n")?;
+    let Some(reference) = read_reference(text.as_bytes()) else {
+        return Ok(String::from_str(alloc, "none")?);
+    };
+    let size = reference.size;
+    let name = told_name(reference.lines).unwrap_or("-");
+    let folder = told_folder(alloc, reference.lines, &Label::read("f-1")?)?.unwrap_or("-");
+    Ok(format!(in alloc; "{size} {name} {folder}")?)
+}
+
+fn told(alloc: Global, words: &str) -> Result<String> {
+    let (name, folder) = two(words);
+    let lines = with_told_name(alloc, "other\n", name)?;
+    let lines = with_told_folder(alloc, lines.as_str(), &Label::read("f-1")?, folder)?;
+    Ok(lines.as_str().replace(alloc, "\n", " / ")?)
+}
+
+fn act(alloc: Global, words: &str) -> Result<String> {
+    let (left, rest) = two(words);
+    let (seen, held) = two(rest);
+    let left = view_of(alloc, left)?;
+    let seen = view_of(alloc, seen)?;
+    let held = view_of(alloc, held)?;
+    match next_act(alloc, left.as_ref(), seen.as_ref(), held.as_ref())? {
+        Act::Edit(view) => Ok(format!(in alloc; "edit {}", text_of(alloc, &view)?)?),
+        Act::Agree => Ok(String::from_str(alloc, "agree")?),
+        Act::Create => Ok(String::from_str(alloc, "create")?),
+        Act::Delete => Ok(String::from_str(alloc, "delete")?),
+        Act::Follow => Ok(String::from_str(alloc, "follow")?),
+        Act::Remove => Ok(String::from_str(alloc, "remove")?),
+    }
+}
