@@ -1,9 +1,11 @@
-//! A replica that is kept in a file, closed, and opened again, and what a replica that isn't kept takes from it.
+//! A replica that is kept in a file, closed, and opened again, what a replica that isn't kept takes from it, and one whose host writes
+//! its file.
 //!
 //! With words on its command line the program writes and reads a replica in a file, for `tools/try-kept`.
 #![tactic(auto)]
 
 mod driver;
+mod hosted;
 mod mail;
 mod sync;
 
@@ -36,7 +38,8 @@ fn main(rt: HostRuntime) -> Result<()> {
     if words.len() > 1 {
         return driver::drive(&rt, &HERE, &words);
     }
-    run(&rt)
+    run(&rt)?;
+    hosted::run(&rt)
 }
 
 fn run<R: Files<File = File> + Print + AllocGlobal>(rt: &R) -> Result<()> {

@@ -1,0 +1,17 @@
+use Rattle.std.proofs.Common.{inl, refl, subst}
+use Rattle.mr_journal.proofs.Moments.{started}
+use Rattle.mr_kept.proofs.LeftLemmas.{left_now}
+use Rattle.mr_outbox.specs.Acts.{only_now}
+use Rattle.mr_replica.specs.Replay.{IsItsLog}
+use Rattle.mr_replica.specs.State.{State}
+use Rattle.mr_hosted.specs.Hosted.{journaled_of, outbox_of}
+use Rattle.mr_hosted.proofs.hosted.Hosted.commit.Goals as goal
+
+pub returns-then-not-is_settled-clause-left : goal.returns-then-not-is_settled-clause-left
+returns-then-not-is_settled-clause-left g c = λ entries kept of.
+    let outbox = outbox_of c.args.self.now in
+    let its_log = subst (λ (s : State g.row.K.Denot). IsItsLog g.K.Knowledge.form s) c.replica-replica.ensures.is c.replica-replica.ensures.is_its_log in
+    started {old = outbox} (λ file left. inl (left_now g.K.Knowledge.form entries (journaled_of c.args.self.now) file kept its_log of (only_now outbox.read.items outbox.acts.items file left)))
+
+pub returns-clause-kept : goal.returns-clause-kept
+returns-clause-kept g c = λ entries kept. c.in_ok-replies.ensures.kept refl entries kept

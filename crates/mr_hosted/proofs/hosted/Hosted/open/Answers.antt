@@ -1,0 +1,26 @@
+use Rattle.std.proofs.Common.{inl, inr, ⊎_elim, ℕ, List, length, refl, sym, ap, subst}
+use Rattle.mr_journal.specs.Journal.{device_of}
+use Rattle.mr_kept.specs.Kept.{journal_of, replica_of}
+use Rattle.mr_kept.specs.Whole.{ComesBack, HasLog, HasLogOf}
+use Rattle.mr_kept.specs.declared.journaled.Journaled.{Journaled}
+use Rattle.mr_outbox.specs.Outbox.{left_since, may_leave}
+use Rattle.mr_outbox.specs.declared.act.Act.{Act}
+use Rattle.mr_outbox.specs.declared.outbox.Outbox.{Outbox}
+use Rattle.mr_hosted.proofs.hosted.Hosted.open.Goals as goal
+
+pub returns-in-Ok-clause-whole : goal.returns-in-Ok-clause-whole
+returns-in-Ok-clause-whole g c = λ head s notes has place.
+    let was = c.in-Ok.ensures.whole refl head s notes (subst (λ (f : List ℕ). HasLogOf g.K.Knowledge.form f head s notes) (sym c.new.ensures.rests.file_is) has) place in
+    (subst (λ (j : Journaled g.row.K.Denot Outbox g.row.K-Vector.Denot). ComesBack g.K.Knowledge.form s c.in-Ok.opened.are_closed (replica_of j)) (sym c.of.ensures.journaled) was.0, was.1)
+
+-- The acts began with none, so all moments are since the first.
+pub returns-in-Ok-clause-left : goal.returns-in-Ok-clause-left
+returns-in-Ok-clause-left g c = λ head s notes has file left.
+    let leaves = c.in-Ok.ensures.left refl head s notes (subst (λ (f : List ℕ). HasLogOf g.K.Knowledge.form f head s notes) (sym c.new.ensures.rests.file_is) has) in
+    let since = subst (λ (j : Journaled g.row.K.Denot Outbox g.row.K-Vector.Denot). left_since (device_of (journal_of j)) 0 file) c.of.ensures.journaled left in
+    let since_first = subst (λ (n : ℕ). left_since (device_of (journal_of c.in-Ok.journaled)) n file) (sym (ap (λ (l : List Act). length l) c.new.ensures.none)) since in
+    ⊎_elim (λ (was : may_leave c.new.result file). inl (c.new.ensures.rests.durable file was)) (λ (log : HasLog g.K.Knowledge.form file head notes). inr log) (leaves.each file since_first)
+
+pub returns-in-Err-clause-whole : goal.returns-in-Err-clause-whole
+returns-in-Err-clause-whole g c = λ head s notes has place.
+    c.in-Err.ensures.whole refl head s notes (subst (λ (f : List ℕ). HasLogOf g.K.Knowledge.form f head s notes) (sym c.new.ensures.rests.file_is) has) place

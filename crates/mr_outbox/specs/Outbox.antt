@@ -1,0 +1,28 @@
+-- what an outbox shows
+use Rattle.std.specs.Prelude.{ℕ, Bool, List, length}
+use Rattle.mr_outbox.specs.Acts.{LeftSince, MayLeave, all_done}
+use Rattle.mr_outbox.specs.declared.act.Act.{Act}
+use Rattle.mr_outbox.specs.declared.outbox.Outbox.{Outbox}
+
+-- what the host has to do
+abbrev pub acts_of : Outbox → List Act
+acts_of outbox = outbox.acts.items
+
+-- the host's file once it has done all of it
+abbrev pub file_of : Outbox → List ℕ
+file_of outbox = all_done outbox.read.items outbox.acts.items
+
+-- whether a call has failed
+abbrev pub outbox_failed : Outbox → Bool
+outbox_failed outbox = outbox.failed
+
+-- What the host's file may be after a crash now, how many acts were begun by now, and what it may be after a crash since t of them were. For an
+-- outbox over a host that does as it is told these are `Device`'s own words.
+abbrev pub may_leave : Outbox → List ℕ → Type 0
+may_leave outbox c = MayLeave outbox.read.items outbox.acts.items c
+
+abbrev pub begun : Outbox → ℕ
+begun outbox = length outbox.acts.items
+
+abbrev pub left_since : Outbox → ℕ → List ℕ → Type 0
+left_since outbox t c = LeftSince outbox.read.items outbox.acts.items t c

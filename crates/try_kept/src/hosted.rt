@@ -1,0 +1,182 @@
+//! A replica whose host writes its file: what the host sees of it before and after it has done its acts, what it finds where it was
+//! killed in one of them, and what it is told once one of them has failed.
+
+use crate::HERE;
+use crate::mail::{message, setup};
+use anyhow::{Result, bail};
+use mr_entry::Note;
+use mr_hosted::{Hosted, HostedFault};
+use mr_itemset::SparingKnowledge;
+use mr_journal::{Device, DeviceFailed, MemoryDevice};
+use mr_kept::KeptFault;
+use mr_outbox::Act;
+use mr_replica::Reply;
+use std::alloc::Global;
+
+/// A replica whose host writes.
+type Tablet = Hosted<SparingKnowledge>;
+
+/// What the tablet writes at a time.
+const SUBJECTS: [&str; 2] = ["Agenda", "Coffee"];
+
+/// Begins the tablet's replica in a file that has no byte.
+pub(crate) fn run<R: Print + AllocGlobal>(rt: &R) -> Result<()> {
+    let alloc = rt.alloc();
+    let mut tablet = Tablet::begin(alloc, setup(alloc, "all", HERE)?)?;
+    keep(rt, &mut tablet)
+}
+
+/// The tablet keeps what it writes, and each line tells what its host sees.
+fn keep<R: Print + AllocGlobal>(rt: &R, tablet: &mut Tablet) -> Result<()> {
+    let alloc = rt.alloc();
+    let mut file = MemoryDevice::new(alloc, Vec::new(alloc));
+    let begun = settle(&mut file, tablet)?;
+    write(alloc, tablet)?;
+    let left = tablet.acts().len();
+    let before = seen(alloc, tablet)?;
+    let told = refusal(alloc, tablet)?;
+    println!(rt; "a host did {begun} acts, and has {left} to do: {before}; {told}")?;
+    let Found { none, both } = kill(alloc, file.bytes(), tablet.acts())?;
+    println!(rt; "killed in them: {none} times it found nothing, {both} times all")?;
+    let done = settle(&mut file, tablet)?;
+    let after = seen(alloc, tablet)?;
+    println!(rt; "it did {done} acts: {after}")?;
+    let failed = fail(alloc, file.bytes())?;
+    let (held, notes) = found_in(alloc, file.bytes())?;
+    println!(rt; "an act failed: {failed}; its file has {held} and {notes} notes")?;
+    Ok(())
+}
+
+/// The tablet writes its messages and a note, and has the host keep them.
+fn write(alloc: Global, tablet: &mut Tablet) -> Result<()> {
+    for subject in SUBJECTS {
+        tablet.create(message(alloc, subject)?)?;
+    }
+    tablet.note(Note::new(1, b"both".to_vec(alloc)?))?;
+    tablet.commit()?;
+    Ok(())
+}
+
+/// What the host is shown and handed out.
+fn seen(alloc: Global, tablet: &Tablet) -> Result<String> {
+    match (tablet.replica(), tablet.replies()) {
+        (Some(replica), Some(replies)) => {
+            let held = replica.heads().len();
+            let issued = issued(alloc, replies)?;
+            Ok(format!(in alloc; "it holds {held}, and handed out{issued}")?)
+        }
+        (None, None) => Ok(String::from_str(alloc, "nothing is shown or handed out")?),
+        _ => bail!("one is shown and the other isn't"),
+    }
+}
+
+/// The versions that were issued.
+fn issued(alloc: Global, replies: &[Reply]) -> Result<String> {
+    let mut text = String::new(alloc);
+    for reply in replies {
+        match reply {
+            Reply::Issued(version) => write!(text, " {version}")?,
+            _ => bail!("nothing was issued"),
+        }
+    }
+    Ok(text)
+}
+
+/// Why the tablet doesn't commit.
+fn refusal(alloc: Global, tablet: &mut Tablet) -> Result<String> {
+    match tablet.commit() {
+        Ok(()) => bail!("it commits"),
+        Err(HostedFault::Kept(KeptFault::Refused(refusal))) => Err(refusal.into()),
+        Err(fault) => Ok(format!(in alloc; "{fault}")?),
+    }
+}
+
+/// The host does an act.
+fn act_on(file: &mut MemoryDevice, act: &Act) -> Result<(), DeviceFailed> {
+    match act {
+        Act::Write { at, bytes } => file.write_at(*at, bytes),
+        Act::Cut { len } => file.cut(*len),
+        Act::Sync => file.sync(),
+    }
+}
+
+/// The host does all acts, and says so. It gives how many they were.
+fn settle(file: &mut MemoryDevice, tablet: &mut Tablet) -> Result<usize> {
+    let acts = tablet.acts();
+    let count = acts.len();
+    for act in acts {
+        act_on(file, act)?;
+    }
+    tablet.settle();
+    Ok(count)
+}
+
+/// How many files of a host that was killed had nothing of a batch, and how many all of it.
+#[derive(Drop)]
+struct Found {
+    none: u32,
+    both: u32,
+}
+
+impl Found {
+    /// Opens such a file.
+    fn look(&mut self, alloc: Global, bytes: &[u8]) -> Result<()> {
+        match found_in(alloc, bytes)? {
+            (0, 0) => self.none = self.none.saturating_add(1),
+            (2, 1) => self.both = self.both.saturating_add(1),
+            (held, notes) => bail!("found {held} messages and {notes} notes"),
+        }
+        Ok(())
+    }
+}
+
+/// What is found where the host was killed before each of the acts, in the middle of each write, and at their end.
+fn kill(alloc: Global, bytes: &[u8], acts: &[Act]) -> Result<Found> {
+    let mut found = Found { none: 0, both: 0 };
+    let mut file = MemoryDevice::new(alloc, bytes.to_vec(alloc)?);
+    found.look(alloc, file.bytes())?;
+    for act in acts {
+        if let Act::Write { at, bytes } = act {
+            found.look(alloc, torn(alloc, file.bytes(), *at, bytes)?.bytes())?;
+        }
+        act_on(&mut file, act)?;
+        found.look(alloc, file.bytes())?;
+    }
+    Ok(found)
+}
+
+/// The file with half of a write.
+fn torn(alloc: Global, bytes: &[u8], at: u64, written: &[u8]) -> Result<MemoryDevice> {
+    let mut file = MemoryDevice::new(alloc, bytes.to_vec(alloc)?);
+    file.write_at(at, &written[..written.len() / 2])?;
+    Ok(file)
+}
+
+/// How many messages and notes a file has, once the host has done what is to be done as it is opened.
+fn found_in(alloc: Global, bytes: &[u8]) -> Result<(usize, usize)> {
+    let mut file = MemoryDevice::new(alloc, bytes.to_vec(alloc)?);
+    let mut opened = Tablet::open(alloc, bytes.to_vec(alloc)?, &HERE, None)?;
+    settle(&mut file, &mut opened.0)?;
+    match opened.0.replica() {
+        Some(replica) => Ok((replica.heads().len(), opened.1.notes.len())),
+        None => bail!("nothing is shown"),
+    }
+}
+
+/// Opens the file, and the host fails in an act.
+fn fail(alloc: Global, bytes: &[u8]) -> Result<String> {
+    let mut file = MemoryDevice::new(alloc, bytes.to_vec(alloc)?);
+    let mut opened = Tablet::open(alloc, bytes.to_vec(alloc)?, &HERE, None)?;
+    settle(&mut file, &mut opened.0)?;
+    break_off(alloc, &mut opened.0)
+}
+
+/// The tablet writes, an act of it fails, and the host goes on as if it hadn't.
+fn break_off(alloc: Global, tablet: &mut Tablet) -> Result<String> {
+    write(alloc, tablet)?;
+    tablet.fail();
+    tablet.settle();
+    let seen = seen(alloc, tablet)?;
+    let told = refusal(alloc, tablet)?;
+    Ok(format!(in alloc; "{seen}; {told}")?)
+}
