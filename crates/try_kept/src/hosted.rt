@@ -50,11 +50,38 @@ fn keep<R: Print + AllocGlobal>(rt: &R, tablet: &mut Tablet) -> Result<()> {
 /// The tablet writes its messages and a note, and has the host keep them.
 fn write(alloc: Global, tablet: &mut Tablet) -> Result<()> {
     for subject in SUBJECTS {
-        tablet.create(message(alloc, subject)?)?;
+        create(alloc, tablet, subject)?;
     }
-    tablet.note(Note::new(1, b"both".to_vec(alloc)?))?;
-    tablet.commit()?;
-    Ok(())
+    note(tablet, Note::new(1, b"both".to_vec(alloc)?))?;
+    commit(tablet)
+}
+
+/// The tablet writes a message.
+fn create(alloc: Global, tablet: &mut Tablet, subject: &str) -> Result<()> {
+    let message = message(alloc, subject)?;
+    match tablet.create(message) {
+        Ok(()) => Ok(()),
+        Err(KeptFault::Refused(refusal)) => Err(refusal.into()),
+        Err(fault) => Err(fault.into()),
+    }
+}
+
+/// The tablet writes a note.
+fn note(tablet: &mut Tablet, note: Note) -> Result<()> {
+    match tablet.note(note) {
+        Ok(()) => Ok(()),
+        Err(KeptFault::Refused(refusal)) => Err(refusal.into()),
+        Err(fault) => Err(fault.into()),
+    }
+}
+
+/// The tablet has its host keep what waits.
+fn commit(tablet: &mut Tablet) -> Result<()> {
+    match tablet.commit() {
+        Ok(()) => Ok(()),
+        Err(HostedFault::Kept(KeptFault::Refused(refusal))) => Err(refusal.into()),
+        Err(fault) => Err(fault.into()),
+    }
 }
 
 /// What the host is shown and handed out.
