@@ -1,8 +1,9 @@
 //! A journal that is open.
-ghost use Rattle.std.specs.Prelude.{◌≡◌, ◌≢◌, ◌⊎◌, ◌↔◌, ◌++◌, [], ℕ, List, false, Err, IsTrue, IfOk, IfErr, OnOk, MatchResult};
+ghost use Rattle.std.specs.Prelude.{◌≡◌, ◌≢◌, ◌⊎◌, ◌↔◌, ◌++◌, [], ℕ, List, false, Err, IsTrue, IfOk, IfErr, OnOk, MatchResult, IsOk};
 ghost use Rattle.mr_journal.specs.Device.{IsUntouched, LeavesOnly};
 ghost use Rattle.mr_journal.specs.Format.{Fits, StandAlike, Stands, contents};
 ghost use Rattle.mr_journal.specs.Reading.{IsReason};
+ghost use Rattle.mr_journal.specs.Fault.{IsOfBatch};
 ghost use Rattle.mr_journal.specs.declared.fault.JournalFault.TheVariants.{Failed, TooLarge};
 
 use crate::Device;
@@ -111,6 +112,8 @@ impl<D: Device> Journal<D> {
         ensures refused { IfErr result (λ fault. fault ≢ Failed → self.new ≡ self.old) }
         ensures cause { IsTrue D.is_told → IfErr result (λ fault. fault ≡ Failed → IsTrue (has_failed self.old) ⊎ IsTrue (D.has_failed (device_of self.new))) }
         ensures nothing { batch.now ≡ [] → self.new ≡ self.old }
+        ensures empty { batch.now ≡ [] → has_failed self.old ≡ false → IsOk result }
+        ensures only { IfErr result IsOfBatch }
     {
         if self.failed {
             return Err(JournalFault::Failed);

@@ -84,6 +84,12 @@ module _ {K D V : Type 0} where
   waiting_is old log n is place =
       ap (λ (m : ℕ). take m (drop n log)) (sym (length-drop n log)) ∙ take-length (drop n log) ∙ ap (λ (m : ℕ). drop m log) place ∙ drop_min (kept_of old) log ∙ ap (drop (kept_of old)) is
 
+  -- these and the notes make the entries that wait
+  pub waits_are : (old : Journaled K D V) (log : List Event) (n : ℕ) (notes : List NoteParts) → log ≡ (replica_of old).log → n ≡ min (kept_of old) (length log) → notes ≡ notes_waiting old
+      → batch_entries (issued_of old) (take (length log - n) (drop n log)) notes ≡ entries_waiting old
+  waits_are old log n notes is place same =
+      ap (λ (events : List Event). batch_entries (issued_of old) events notes) (waiting_is old log n is place) ∙ ap (batch_entries (issued_of old) (waiting old)) same
+
   -- the bytes of these and of the notes
   pub spelled_waits : (old : Journaled K D V) (log : List Event) (n : ℕ) (notes : List NoteParts) (batch given : List (Vec ℕ Global)) → log ≡ (replica_of old).log → n ≡ min (kept_of old) (length log)
       → notes ≡ notes_waiting old → given ≡ batch → AreSpelled (batch_entries (issued_of old) (take (length log - n) (drop n log)) notes) (contents batch) → AreSpelled (entries_waiting old) (contents given)

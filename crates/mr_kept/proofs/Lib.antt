@@ -1,10 +1,12 @@
 -- lemmas
 pub mod EntryLemmas
 pub mod RunLemmas
+pub mod RoomLemmas
 pub mod KeptLemmas
 pub mod CloseLemmas
 pub mod IssuedLemmas
 pub mod OpenLemmas
+pub mod BeginLemmas
 pub mod RefusingLemmas
 pub mod LogLemmas
 pub mod WholeLemmas

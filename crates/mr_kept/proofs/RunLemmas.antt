@@ -88,7 +88,7 @@ batch_belongs n events ns = all_belong n (entries_of n events) (map entry.Note n
 -- ---- a run that ends
 
 -- no run of this stream stands first
-abbrev BeginsNoRun : ℕ → List Entry → Type 0
+abbrev pub BeginsNoRun : ℕ → List Entry → Type 0
 BeginsNoRun s xs = with_next s xs ≡ entry.Nexts s 1 ∷ xs
 
 other_run : (s t k : ℕ) (xs : List Entry) → t ≢ s → BeginsNoRun s (entry.Nexts t k ∷ xs)
@@ -105,13 +105,13 @@ other_next s t (entry.Nexts o k ∷ xs) other = elim (eqb_tells o t) [
 ]
 other_next s t (x ∷ xs) other = other_run s t 1 (x ∷ xs) other
 
-one_run : (s k : ℕ) (xs : List Entry) → with_next s (entry.Nexts s k ∷ xs) ≡ entry.Nexts s (k + 1) ∷ xs
+pub one_run : (s k : ℕ) (xs : List Entry) → with_next s (entry.Nexts s k ∷ xs) ≡ entry.Nexts s (k + 1) ∷ xs
 one_run s k xs = elim (eqb_tells s s) [
   | inl same ↦ rw same.0 refl
   | inr differs ↦ absurd (differs.1 refl)
 ]
 
-run_ends : (n s k : ℕ) (xs : List Event) → BeginsNoRun s (entries_of n xs) → entries_of n (replicate k (Next s) ++ xs) ≡ run_of s k ++ entries_of n xs
+pub run_ends : (n s k : ℕ) (xs : List Event) → BeginsNoRun s (entries_of n xs) → entries_of n (replicate k (Next s) ++ xs) ≡ run_of s k ++ entries_of n xs
 run_ends n s zero xs none = refl
 run_ends n s (suc zero) xs none = none
 run_ends n s (suc (suc k)) xs none =
@@ -162,11 +162,11 @@ run_changes n events texts ended now after s t k other so_far same end =
       counted_is = one_more n events (Next t) now so_far.counted_is;
     })
 
-begins_none : (n s : ℕ) (e : Event) (later : List Event) → ((t : ℕ) → e ≢ Next t) → BeginsNoRun s (entries_of n (e ∷ later))
+pub begins_none : (n s : ℕ) (e : Event) (later : List Event) → ((t : ℕ) → e ≢ Next t) → BeginsNoRun s (entries_of n (e ∷ later))
 begins_none n s (Next t) later other = absurd (other t refl)
 begins_none n s e later other = refl
 
-an_entry : (n : ℕ) (e : Event) (later : List Event) → ((t : ℕ) → e ≢ Next t) → entries_of n (e ∷ later) ≡ entry.Event (counted n e) e ∷ entries_of (counted n e) later
+pub an_entry : (n : ℕ) (e : Event) (later : List Event) → ((t : ℕ) → e ≢ Next t) → entries_of n (e ∷ later) ≡ entry.Event (counted n e) e ∷ entries_of (counted n e) later
 an_entry n (Next t) later other = absurd (other t refl)
 an_entry n e later other = refl
 

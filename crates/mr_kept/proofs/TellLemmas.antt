@@ -1,5 +1,5 @@
 -- what is given of a stream at a time
-use Rattle.std.proofs.Common.{◌≡◌, ◌⊎◌, ⊎_elim, ℕ, ◌+◌, ◌-◌, ◌<◌, ◌≤◌, Bool, true, false, List, [], ◌∷◌, ◌++◌, length, take, append_assoc, Result, Ok, Err, refl, sym, ap, subst, ◌∙◌, arith}
+use Rattle.std.proofs.Common.{◌≡◌, ◌≢◌, ◌⊎◌, ⊎_elim, ℕ, ◌+◌, ◌-◌, ◌<◌, ◌≤◌, Bool, true, false, List, [], ◌∷◌, ◌++◌, length, take, append_assoc, Result, Ok, Err, refl, sym, ap, subst, ◌∙◌, arith}
 use Rattle.std.specs.Prelude.{IsErrAnd, map, sum_by, ◌||◌}
 use Rattle.std.proofs.lemmas.Result.{err_from_is_err_and}
 use Rattle.std.specs.List.{list_any}
@@ -10,6 +10,7 @@ use Rattle.std.proofs.lemmas.List.Folds.{list_any-append}
 use Rattle.std.proofs.lemmas.List.Sums.{sum_by-append, sum_by-cons}
 use Rattle.mr_forms.specs.Known.{Form}
 use Rattle.mr_wire.specs.Frames.{Sent}
+use Rattle.mr_journal.specs.Journal.{has_failed}
 use Rattle.mr_journal.specs.declared.journal.Journal.{Journal}
 use Rattle.mr_replica.specs.State.{State}
 use Rattle.mr_replica.specs.Step.{Steps}
@@ -74,6 +75,7 @@ module _ {K : Type 0} (form : Form K) where
     pub no_end : list_any is_end given ≡ false
     pub wanted : (n : ℕ) → n < count → WantsMore records bytes (take n given)
     pub leaving_is : leaving now ≡ leaving old ++ map Gave given
+    pub sound : given ≢ [] → has_failed (journal_of old) ≡ false
     pub same : SameJournal old now
 
   module _ {D V : Type 0} (stream records bytes : ℕ) where
@@ -86,6 +88,7 @@ module _ {K : Type 0} (form : Form K) where
       no_end = refl;
       wanted = λ n less. absurd (omega (arith, less));
       leaving_is = sym (append-nil (leaving old));
+      sound = λ some. absurd (some refl);
       same = record { journal = refl; head = refl; kept = refl; issued = refl; notes = refl };
     }
 
@@ -103,9 +106,9 @@ module _ {K : Type 0} (form : Form K) where
 
     -- one record more, which is no End
     pub one_given : (old mid new : Journaled K D V) (count left size : ℕ) (sent : Sent) → GivenSoFar stream records bytes old mid count left → count < records → (left ≡ 0 → ⊥) → size ≡ size_of sent → is_end sent ≡ false
-        → Steps form (replica_of mid) (Next stream) (Ok (Gave sent)) (replica_of new) → leaving new ≡ leaving mid ++ Gave sent ∷ [] → SameJournal mid new
+        → Steps form (replica_of mid) (Next stream) (Ok (Gave sent)) (replica_of new) → leaving new ≡ leaving mid ++ Gave sent ∷ [] → has_failed (journal_of mid) ≡ false → SameJournal mid new
         → GivenSoFar stream records bytes old new (count + 1) (left - size)
-    one_given old mid new count left size sent so few some size_is last step held same = record {
+    one_given old mid new count left size sent so few some size_is last step held sound same = record {
       given = so.given ++ sent ∷ [];
       gives = gives_more (replica_of old) stream so.given (replica_of mid) (replica_of new) sent so.gives step;
       length_is = length-append so.given (sent ∷ []) ∙ ap (λ (n : ℕ). n + 1) so.length_is;
@@ -113,14 +116,15 @@ module _ {K : Type 0} (form : Form K) where
       no_end = any_more so.given sent false so.no_end last;
       wanted = wanted_more records bytes so.given sent count so.length_is so.wanted (wants_more old mid count left so few some);
       leaving_is = leaving_more old mid new so.given sent so.leaving_is held;
+      sound = λ _. ap has_failed (sym so.same.journal) ∙ sound;
       same = same_then old mid new so.same same;
     }
 
     -- with the End it is over
     pub end_given : (old mid new : Journaled K D V) (count left : ℕ) (sent : Sent) → GivenSoFar stream records bytes old mid count left → count < records → (left ≡ 0 → ⊥) → is_end sent ≡ true
-        → Steps form (replica_of mid) (Next stream) (Ok (Gave sent)) (replica_of new) → leaving new ≡ leaving mid ++ Gave sent ∷ []
+        → Steps form (replica_of mid) (Next stream) (Ok (Gave sent)) (replica_of new) → leaving new ≡ leaving mid ++ Gave sent ∷ [] → has_failed (journal_of mid) ≡ false
         → Tells form stream records bytes old (Ok true) new
-    end_given old mid new count left sent so few some last step held =
+    end_given old mid new count left sent so few some last step held sound =
         let all : list_any is_end (so.given ++ sent ∷ []) ≡ true = any_more so.given sent true so.no_end last in
         let longer : length (so.given ++ sent ∷ []) ≡ length so.given + 1 = length-append so.given (sent ∷ []) in
         record {
@@ -129,6 +133,7 @@ module _ {K : Type 0} (form : Form K) where
           gives = gives_more (replica_of old) stream so.given (replica_of mid) (replica_of new) sent so.gives step;
           wanted = λ n less. wanted_more records bytes so.given sent count so.length_is so.wanted (wants_more old mid count left so few some) n (omega (arith, less, longer, so.length_is));
           leaving_is = leaving_more old mid new so.given sent so.leaving_is held;
+          sound = λ _. ap has_failed (sym so.same.journal) ∙ sound;
           ends_by = (λ (more : WantsMore records bytes (so.given ++ sent ∷ [])). let is : true ≡ false = sym all ∙ more.no_end in cc, sym all, refl);
         }
 
@@ -140,6 +145,7 @@ module _ {K : Type 0} (form : Form K) where
       gives = so.gives;
       wanted = λ n less. so.wanted n (omega (arith, less, so.length_is));
       leaving_is = so.leaving_is;
+      sound = so.sound;
       ends_by = (
         λ (more : WantsMore records bytes so.given). ⊎_elim (λ (many : records ≤ count). omega (arith, many, more.few, so.length_is)) (λ (none : left ≡ 0). omega (arith, none, more.short, so.left_is)) enough,
         sym so.no_end,
@@ -156,6 +162,7 @@ module _ {K : Type 0} (form : Form K) where
       gives = so.gives;
       wanted = λ n less. so.wanted n (omega (arith, less, so.length_is));
       leaving_is = held ∙ so.leaving_is;
+      sound = so.sound;
       ends_by = (wants_more old mid count left so few some, subst (λ (j : Journal D). Answered form j (replica_of mid) (Next stream) (Err fault) (replica_of new)) so.same.journal answered);
     }
 

@@ -13,10 +13,15 @@ use Rattle.mr_replica.specs.declared.event.Reply.{Reply}
 use Rattle.mr_kept.specs.declared.fault.KeptFault.{KeptFault}
 use Rattle.mr_kept.specs.declared.fault.KeptFault.TheVariants.{OutOfMemory, Refused, Failed, TooLarge}
 
--- why the journal can't keep the event: the device has failed, or the event has more bytes than one may have
+-- the journal can keep the event: its device has not failed, and the event has no more bytes than one may have
+pub record MayKeep {D : Type 0} (journal : Journal D) (event : Event) : Type 0 where
+  pub sound : has_failed journal ≡ false
+  pub short : length (rest_bytes event) ≤ MAX_REST_BYTES
+
+-- why it can't: the device has failed; or else the event has more bytes than one may have
 abbrev pub MayNotKeep : {D : Type 0} → Journal D → Event → KeptFault → Type 0
 MayNotKeep journal event Failed = IsTrue (has_failed journal)
-MayNotKeep journal event TooLarge = MAX_REST_BYTES < length (rest_bytes event)
+MayNotKeep journal event TooLarge = (has_failed journal ≡ false) × (MAX_REST_BYTES < length (rest_bytes event))
 MayNotKeep journal event OutOfMemory = ⊥
 MayNotKeep journal event (Refused e) = ⊥
 
@@ -28,11 +33,10 @@ IsUnnoted journal note OutOfMemory = (has_failed journal ≡ false) × (length n
 IsUnnoted journal note (Refused e) = ⊥
 
 module _ {K D : Type 0} where
-  -- The replica answers the event, or refuses it; or it is not asked, and stays, where the journal can't keep the event or memory
-  -- ran out.
+  -- Where the journal can keep the event, the replica answers it or refuses it. Else it is not asked, and stays, nor where memory ran out.
   abbrev pub Answered : Form K → Journal D → State K → Event → Result Reply KeptFault → State K → Type 0
-  Answered form journal s event (Ok reply) new = Steps form s event (Ok reply) new
-  Answered form journal s event (Err (Refused e)) new = Steps form s event (Err e) new
+  Answered form journal s event (Ok reply) new = MayKeep journal event × Steps form s event (Ok reply) new
+  Answered form journal s event (Err (Refused e)) new = MayKeep journal event × Steps form s event (Err e) new
   Answered form journal s event (Err Failed) new = MayNotKeep journal event Failed × (new ≡ s)
   Answered form journal s event (Err TooLarge) new = MayNotKeep journal event TooLarge × (new ≡ s)
   Answered form journal s event (Err OutOfMemory) new = new ≡ s

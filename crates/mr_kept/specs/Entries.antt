@@ -1,5 +1,5 @@
 -- the entries of events, and how many versions were issued by then
-use Rattle.std.specs.Prelude.{◌≡◌, ◌+◌, ◌≤◌, ◌++◌, ◌==◌, ℕ, zero, suc, List, [], ◌∷◌, if◌then◌else◌, length, map, replicate}
+use Rattle.std.specs.Prelude.{◌≡◌, ◌+◌, ◌≤◌, ◌++◌, ◌==◌, ◌^◌, ℕ, zero, suc, List, [], ◌∷◌, if◌then◌else◌, length, map, replicate}
 use Rattle.std.specs.List.{AllByRecursion, flat_map}
 use Rattle.mr_replica.specs.declared.event.Event.{Event}
 use Rattle.mr_replica.specs.declared.event.Event.TheVariants.{Create, Edit, Retire, Pull, Receive, CutIn, Answer, Next, CutOut, Vouch, Release}
@@ -10,6 +10,8 @@ use Rattle.mr_entry.specs.Note.{NoteParts}
 use Rattle.mr_entry.specs.Spelling.{entry_bytes}
 use Rattle.mr_entry.specs.declared.entry.Entry.{Entry}
 use Rattle.mr_entry.specs.declared.entry.Entry.TheVariants as entry
+use Rattle.mr_kept.specs.declared.fault.KeptFault.{KeptFault}
+use Rattle.mr_kept.specs.declared.fault.KeptFault.TheVariants as kept
 
 -- how many versions were issued once the event was admitted: a Create and an Edit issue one
 abbrev pub counted : ℕ → Event → ℕ
@@ -95,3 +97,25 @@ pub record AreSoFar (issued : ℕ) (events : List Event) (texts : List (List ℕ
   pub spelled : AreSpelled list texts
   pub all : (later : List Event) → entries_of issued (events ++ later) ≡ list ++ entries_of now (replicate nexts (Next stream) ++ later)
   pub counted_is : now ≡ issued_after issued events
+
+-- ---- why they are none
+
+-- Behind so many issued versions, and so many Nexts of this stream at the end, the event is in no entry: another Next makes a run of 2^32,
+-- or the entry of the event would be too long or tell a count of 2^32.
+abbrev pub HasNoEntry : (issued stream nexts : ℕ) → Event → Type 0
+HasNoEntry issued stream nexts (Next other) = (other ≡ stream) × (2 ^ 32 ≤ nexts + 1)
+HasNoEntry issued stream nexts event = IsEntry (entry.Event (counted issued event) event) → ⊥
+
+-- the fault of an event that has none; memory may be wanting
+abbrev pub IsOfEvent : (issued stream nexts : ℕ) → Event → KeptFault → Type 0
+IsOfEvent issued stream nexts event kept.TooLarge = HasNoEntry issued stream nexts event
+IsOfEvent issued stream nexts event kept.OutOfMemory = Unit {0}
+IsOfEvent issued stream nexts event kept.Failed = ⊥
+IsOfEvent issued stream nexts event (kept.Refused _) = ⊥
+
+-- the fault of entries that can't be spelled: not all are in the grammar
+abbrev pub IsOfEntries : List Entry → KeptFault → Type 0
+IsOfEntries entries kept.TooLarge = AllByRecursion IsEntry entries → ⊥
+IsOfEntries entries kept.OutOfMemory = Unit {0}
+IsOfEntries entries kept.Failed = ⊥
+IsOfEntries entries (kept.Refused _) = ⊥

@@ -4,6 +4,7 @@ pub mod Explained
 pub mod Entries
 pub mod Answered
 pub mod Kept
+pub mod Commit
 pub mod Telling
 pub mod Beginning
 pub mod Opening

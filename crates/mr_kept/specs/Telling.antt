@@ -1,5 +1,5 @@
 -- what is given of a stream at a time
-use Rattle.std.specs.Prelude.{◌≡◌, ◌<◌, ◌++◌, ◌∷◌, [], ℕ, Bool, true, false, length, map, sum_by, take, List, Result, Ok, Err}
+use Rattle.std.specs.Prelude.{◌≡◌, ◌≢◌, ◌<◌, ◌++◌, ◌∷◌, [], ℕ, Bool, true, false, length, map, sum_by, take, List, Result, Ok, Err}
 use Rattle.std.specs.List.{list_any}
 use Rattle.mr_forms.specs.Known.{Form}
 use Rattle.mr_wire.specs.Frames.{Sent}
@@ -8,6 +8,7 @@ use Rattle.mr_wire.specs.declared.frame.Body.{Body}
 use Rattle.mr_wire.specs.declared.frame.Body.TheVariants.{Start, Item, MoveOut, Held, Know, End}
 use Rattle.mr_wire.specs.declared.frame.Frame.{Frame}
 use Rattle.mr_wire.specs.declared.frame.Frame.TheVariants as frame
+use Rattle.mr_journal.specs.Journal.{has_failed}
 use Rattle.mr_replica.specs.State.{State}
 use Rattle.mr_replica.specs.Step.{Steps}
 use Rattle.mr_replica.specs.declared.event.Event.TheVariants.{Next}
@@ -57,11 +58,13 @@ module _ {K : Type 0} (form : Form K) where
   Ends stream records bytes old given reached (Ok all) new = (WantsMore records bytes given → ⊥) × (all ≡ list_any is_end given) × (new ≡ reached)
   Ends stream records bytes old given reached (Err e) new = WantsMore records bytes given × Answered form (journal_of old) reached (Next stream) (Err e) new
 
-  -- The stream gives records, each only as long as more is wanted behind those before it, and they are held back.
+  -- The stream gives records, each only where the device has not failed and as long as more is wanted behind those before it, and they
+  -- are held back.
   pub record Tells {D V : Type 0} (stream records bytes : ℕ) (old : Journaled K D V) (answer : Result Bool KeptFault) (new : Journaled K D V) : Type 0 where
     pub given : List Sent
     pub reached : State K
     pub gives : Gives (replica_of old) stream given reached
+    pub sound : given ≢ [] → has_failed (journal_of old) ≡ false
     pub wanted : (n : ℕ) → n < length given → WantsMore records bytes (take n given)
     pub leaving_is : leaving new ≡ leaving old ++ map Gave given
     pub ends_by : Ends stream records bytes old given reached answer (replica_of new)

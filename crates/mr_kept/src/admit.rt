@@ -1,7 +1,6 @@
 //! Events that a replica is asked for, as far as a journal can keep them.
-ghost use Rattle.std.specs.Prelude.{◌≡◌, MatchResult, false};
-ghost use Rattle.mr_journal.specs.Journal.{has_failed};
-ghost use Rattle.mr_kept.specs.Answered.{Answered, MayNotKeep};
+ghost use Rattle.std.specs.Prelude.{MatchResult};
+ghost use Rattle.mr_kept.specs.Answered.{Answered, MayKeep, MayNotKeep};
 
 use crate::fault::KeptFault;
 use mr_entry::event::encoded_len;
@@ -15,7 +14,7 @@ const MAX_EVENT_BYTES: usize = MAX_REST_BYTES as usize + 4;
 
 /// Whether a journal can keep the event.
 pub(crate) fn may_keep<D: Device>(journal: &Journal<D>, event: &Event) -> Result<(), KeptFault>
-    ensures { MatchResult result (λ _. has_failed journal.now ≡ false) (MayNotKeep journal.now event.now) }
+    ensures { MatchResult result (λ _. MayKeep journal.now event.now) (MayNotKeep journal.now event.now) }
 {
     if journal.has_failed() {
         return Err(KeptFault::Failed);

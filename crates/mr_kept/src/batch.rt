@@ -1,10 +1,10 @@
 //! Events and notes as entries.
-ghost use Rattle.std.specs.Prelude.{◌≡◌, ◌≤◌, ◌^◌, ◌++◌, ◌∷◌, [], ℕ, List, IfOk, MatchOption, OnOk};
+ghost use Rattle.std.specs.Prelude.{◌≡◌, ◌≤◌, ◌^◌, ◌++◌, ◌∷◌, [], ℕ, List, IfErr, IfOk, MatchOption, OnOk};
 ghost use Rattle.mr_journal.specs.Format.{contents};
 ghost use Rattle.mr_entry.specs.declared.entry.Entry.{Entry};
 ghost use Rattle.mr_replica.specs.declared.event.Event.{Event};
 ghost use Rattle.mr_replica.specs.declared.event.Event.TheVariants as asked;
-ghost use Rattle.mr_kept.specs.Entries.{AreSoFar, AreSpelled, batch_entries, counted, entries_of, issued_after, run_of};
+ghost use Rattle.mr_kept.specs.Entries.{AreSoFar, AreSpelled, IsOfEntries, IsOfEvent, batch_entries, counted, entries_of, issued_after, run_of};
 
 use crate::fault::KeptFault;
 use mr_entry::{Note, encode_event_entry, encode_nexts, encode_note};
@@ -38,6 +38,7 @@ fn end_run(alloc: Global, batch: &mut Batch) -> Result<(), KeptFault>
         → AreSpelled (list ++ run_of batch.old.stream batch.old.nexts) (contents batch.new.entries.items)) }
     ensures ended { OnOk result (batch.new.nexts ≡ 0) }
     ensures issued { OnOk result (batch.new.issued ≡ batch.old.issued) }
+    ensures fault { IfErr result (λ fault. fault ≡ KeptFault.OutOfMemory) }
 {
     if batch.nexts == 0 {
         return Ok(());
@@ -50,9 +51,10 @@ fn end_run(alloc: Global, batch: &mut Batch) -> Result<(), KeptFault>
 
 /// Takes a Next: the run at the end grows, or is ended and another one begins.
 fn put_next(alloc: Global, batch: &mut Batch, stream: u64) -> Result<(), KeptFault>
-    ensures { OnOk result ((issued : ℕ) (events : List Event)
+    ensures put { OnOk result ((issued : ℕ) (events : List Event)
         → AreSoFar issued events (contents batch.old.entries.items) batch.old.issued batch.old.stream batch.old.nexts
         → AreSoFar issued (events ++ asked.Next stream ∷ []) (contents batch.new.entries.items) batch.new.issued batch.new.stream batch.new.nexts) }
+    ensures fault { IfErr result (IsOfEvent batch.old.issued batch.old.stream batch.old.nexts (asked.Next stream)) }
 {
     if batch.stream != stream {
         end_run(alloc, batch)?;
@@ -60,25 +62,29 @@ fn put_next(alloc: Global, batch: &mut Batch, stream: u64) -> Result<(), KeptFau
         batch.nexts = 1;
         return Ok(());
     }
-    let Some(nexts) = batch.nexts.checked_add(1) else {
-        return Err(KeptFault::TooLarge);
-    };
-    batch.nexts = nexts;
-    Ok(())
+    match batch.nexts.checked_add(1) {
+        Some(nexts) => {
+            batch.nexts = nexts;
+            Ok(())
+        }
+        None => Err(KeptFault::TooLarge),
+    }
 }
 
 /// Takes an event.
 fn put_event(alloc: Global, batch: &mut Batch, event: &Event) -> Result<(), KeptFault>
-    ensures { OnOk result ((issued : ℕ) (events : List Event)
+    ensures put { OnOk result ((issued : ℕ) (events : List Event)
         → AreSoFar issued events (contents batch.old.entries.items) batch.old.issued batch.old.stream batch.old.nexts
         → AreSoFar issued (events ++ event.now ∷ []) (contents batch.new.entries.items) batch.new.issued batch.new.stream batch.new.nexts) }
+    ensures fault { IfErr result (IsOfEvent batch.old.issued batch.old.stream batch.old.nexts event.now) }
 {
     if let Event::Next(stream) = event {
         return put_next(alloc, batch, *stream);
     }
     end_run(alloc, batch)?;
-    let Some(issued) = counted_with(batch.issued, event) else {
-        return Err(KeptFault::TooLarge);
+    let issued = match counted_with(batch.issued, event) {
+        Some(issued) => issued,
+        None => return Err(KeptFault::TooLarge),
     };
     batch.issued = issued;
     batch
@@ -91,6 +97,7 @@ fn put_event(alloc: Global, batch: &mut Batch, event: &Event) -> Result<(), Kept
 fn events_batch(alloc: Global, issued: u32, events: &[Event]) -> Result<Batch, KeptFault>
     ensures spelled { IfOk result (λ batch. AreSpelled (entries_of issued events.now) (contents batch.entries.items)) }
     ensures counted { IfOk result (λ batch. batch.issued ≡ issued_after issued events.now) }
+    ensures fault { IfErr result (IsOfEntries (entries_of issued events.now)) }
 {
     let mut batch = Batch {
         entries: Vec::new(alloc),
@@ -114,6 +121,7 @@ pub(crate) fn batch_of(
 ) -> Result<Batch, KeptFault>
     ensures spelled { IfOk result (λ batch. AreSpelled (batch_entries issued events.now notes.now) (contents batch.entries.items)) }
     ensures counted { IfOk result (λ batch. batch.issued ≡ issued_after issued events.now) }
+    ensures fault { IfErr result (IsOfEntries (batch_entries issued events.now notes.now)) }
 {
     let mut batch = events_batch(alloc, issued, events)?;
     for note in notes {

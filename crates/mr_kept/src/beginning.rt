@@ -1,5 +1,5 @@
 //! How a replica is begun in a journal.
-ghost use Rattle.std.specs.Prelude.{◌≡◌, ◌⊎◌, ◌≤◌, ◌∷◌, [], IfOk, IsTrue, MatchResult, true};
+ghost use Rattle.std.specs.Prelude.{◌≡◌, ◌⊎◌, ◌≤◌, ◌∷◌, [], IfErr, IfOk, IsTrue, MatchResult, true};
 ghost use Rattle.mr_replica.specs.State.{new_state};
 ghost use Rattle.mr_replica.specs.declared.replica.TheConstants.{MAX_EVENTS};
 ghost use Rattle.mr_journal.specs.Device.{LeavesOnly};
@@ -9,7 +9,9 @@ ghost use Rattle.mr_entry.specs.Grammar.{IsEntry};
 ghost use Rattle.mr_entry.specs.Spelling.{entry_bytes};
 ghost use Rattle.mr_entry.specs.declared.entry.Entry.TheVariants as entry;
 ghost use Rattle.mr_kept.specs.Opening.{Begins};
-ghost use Rattle.mr_kept.specs.Beginning.{HasParts};
+ghost use Rattle.mr_kept.specs.Beginning.{HasParts, IsBeginFault, IsLimit, IsOfSetup};
+ghost use Rattle.mr_kept.specs.declared.fault.OpenFault.TheVariants as opens;
+ghost use Rattle.mr_journal.specs.declared.fault.JournalFault.TheVariants.{Failed};
 
 use crate::fault::OpenFault;
 use crate::journaled::Journaled;
@@ -38,9 +40,10 @@ pub struct Setup {
 
 /// The head of this setup, and the batch that it is.
 fn first_batch(alloc: Global, setup: &Setup) -> Result<(Head, Vec<Vec<u8>>), OpenFault>
-    ensures limit { IfOk result (λ _. (1 ≤ setup.now.event_limit) × (setup.now.event_limit ≤ MAX_EVENTS)) }
+    ensures limit { IfOk result (λ _. IsLimit setup.now.event_limit) }
     ensures head { IfOk result (λ r. HasParts setup.now.id setup.now.filter setup.now.event_limit setup.now.birth setup.now.mark r.0) }
     ensures batch { IfOk result (λ r. IsEntry (entry.Head r.0) × (contents r.1.items ≡ entry_bytes (entry.Head r.0) ∷ [])) }
+    ensures fault { IfErr result (IsOfSetup setup.now.filter setup.now.event_limit) }
 {
     if setup.event_limit == 0 || setup.event_limit > MAX_EVENTS {
         return Err(OpenFault::Replay(ReplayFault::BadLimit));
@@ -76,6 +79,8 @@ impl<K: Knowledge, D: Device + Drop> Journaled<K, D> {
         ensures head { IfOk result (λ j. HasParts setup.id setup.filter setup.event_limit setup.birth setup.mark (head_of j)) }
         ensures fresh { IfOk result (λ j. replica_of j ≡ new_state setup.id setup.filter setup.event_limit (replica_of j).knowledge) }
         ensures none_waits { IfOk result (λ j. (nothing_waits j ≡ true) × (leaving j ≡ [])) }
+        ensures fault { IsTrue D.is_told → IfErr result (λ e. IsBeginFault (D.seen device) setup.id setup.filter setup.event_limit setup.birth setup.mark e.0) }
+        ensures cause { IsTrue D.is_told → IfErr result (λ e. e.0 ≡ opens.Journal Failed → IsTrue (D.has_failed e.1)) }
     {
         let (head, batch) = match first_batch(alloc, &setup) {
             Ok(first) => first,
@@ -97,8 +102,7 @@ impl<K: Knowledge, D: Device + Drop> Journaled<K, D> {
 
     // A fresh replica over a journal that has its head.
     fn fresh(alloc: Global, journal: Journal<D>, head: Head, setup: Setup) -> Journaled<K, D>
-        requires low { 1 ≤ setup.event_limit }
-        requires high { setup.event_limit ≤ MAX_EVENTS }
+        requires limit { IsLimit setup.event_limit }
         ensures journal { journal_of result ≡ journal }
         ensures head { head_of result ≡ head }
         ensures replica { replica_of result ≡ new_state setup.id setup.filter setup.event_limit (replica_of result).knowledge }

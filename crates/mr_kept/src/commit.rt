@@ -1,5 +1,6 @@
 //! Commits, and what is sent behind them.
 ghost use Rattle.std.specs.Prelude.{◌≡◌, ◌≢◌, ◌⊎◌, ◌++◌, [], IfErr, IfOk, IsTrue, List, OnErr, OnOk, Err, true, map};
+ghost use Rattle.std.specs.Io.KnownBytes.{Appends};
 ghost use Rattle.mr_journal.specs.Device.{LeavesOnly};
 ghost use Rattle.mr_journal.specs.Format.{Stands};
 ghost use Rattle.mr_journal.specs.Journal.{device_of, has_failed};
@@ -20,14 +21,15 @@ use std::io::Write;
 use std::{io, mem};
 
 impl<K: Knowledge, D: Device + Drop> Journaled<K, D> {
+    ghost use Rattle.mr_kept.specs.Commit.{CanCommit, IsUncommitted};
     ghost use Rattle.mr_kept.specs.Kept.{IsKept, StaysBack, entries_waiting, head_of, journal_of, leaving, nothing_waits, notes_waiting, replica_of, waiting};
 
     /// Keeps all events that wait and behind them all notes, as one batch, and hands out what was held back for it, in the order of
     /// the events. The Nexts of one stream that stand in a row are one entry.
     ///
     /// `Failed` where the device failed, now or before; then what was held back is never handed out, and whether these
-    /// events and notes are kept is known once the journal is open again. `TooLarge` where the journal would get longer than it may
-    /// be, and `OutOfMemory`; then nothing has changed, and it may be tried again. It costs the bytes of the events and two
+    /// events and notes are kept is known once the journal is open again. `TooLarge` where the journal has no room for them: it would get
+    /// longer than it may be, or one of their entries would. `OutOfMemory`; at both nothing has changed, and it may be tried again. It costs the bytes of the events and two
     /// syncs; where nothing waits it writes nothing.
     pub fn commit(&mut self) -> Result<Vec<Reply>, KeptFault>
         ensures handed_out { IfOk result (λ out. out.items ≡ leaving self.old) }
@@ -37,6 +39,10 @@ impl<K: Knowledge, D: Device + Drop> Journaled<K, D> {
         ensures replica { replica_of self.new ≡ replica_of self.old }
         ensures head { head_of self.new ≡ head_of self.old }
         ensures failed_before { IsTrue (has_failed (journal_of self.old)) → result ≡ Err Failed }
+        ensures can { OnOk result (CanCommit self.old) }
+        ensures fault { IfErr result (IsUncommitted self.old) }
+        ensures cause { IsTrue D.is_told → IfErr result (λ fault. fault ≡ Failed
+            → IsTrue (has_failed (journal_of self.old)) ⊎ IsTrue (D.has_failed (device_of (journal_of self.new)))) }
         // At `Ok` the journal has the entries from before and those of all that waited, and a crash leaves that.
         ensures kept { IsTrue D.is_told → (entries : List Entry) → IsKept D.seen D.may_leave entries self.old
             → OnOk result (IsKept D.seen D.may_leave (entries ++ entries_waiting self.old) self.new) }
@@ -64,8 +70,12 @@ impl<K: Knowledge, D: Device + Drop> Journaled<K, D> {
     }
 
     /// Writes bytes to the way to another replica, as all bytes that leave are to be written. No event may wait, and no note.
+    ///
+    /// It writes all of them, in as many writes as that takes, and doesn't flush. At the writer's first error it ends with that, and a
+    /// beginning of the bytes may be written.
     pub fn send<W: Write>(&self, out: &mut W, bytes: &[u8]) -> io::Result<()>
         requires { nothing_waits self.now ≡ true }
+        ensures { OnOk result (Appends (W.contents out.old) (W.contents out.new) bytes.now) }
     {
         out.write_all(bytes)
     }

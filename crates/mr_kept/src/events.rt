@@ -92,12 +92,10 @@ impl<K: Knowledge, D: Device + Drop> Journaled<K, D> {
         ensures at_once { AtOnce K.form self.old (asked.CutIn session) (reply_by (λ _. told.Done) result) self.new }
         ensures journal { SameJournal self.old self.new }
     {
-        if self.journal.has_failed() {
-            return Err(KeptFault::Failed);
-        }
-        match self.replica.cut_in(session) {
-            Ok(()) => Ok(()),
-            Err(refusal) => Err(KeptFault::Refused(refusal)),
+        match admit(&mut self.replica, &self.journal, Event::CutIn(session)) {
+            Ok(Reply::Done) => Ok(()),
+            Ok(_reply) => unreachable!(),
+            Err(fault) => Err(fault),
         }
     }
 
@@ -106,12 +104,10 @@ impl<K: Knowledge, D: Device + Drop> Journaled<K, D> {
         ensures at_once { AtOnce K.form self.old (asked.CutOut stream) (reply_by (λ _. told.Done) result) self.new }
         ensures journal { SameJournal self.old self.new }
     {
-        if self.journal.has_failed() {
-            return Err(KeptFault::Failed);
-        }
-        match self.replica.cut_out(stream) {
-            Ok(()) => Ok(()),
-            Err(refusal) => Err(KeptFault::Refused(refusal)),
+        match admit(&mut self.replica, &self.journal, Event::CutOut(stream)) {
+            Ok(Reply::Done) => Ok(()),
+            Ok(_reply) => unreachable!(),
+            Err(fault) => Err(fault),
         }
     }
 
@@ -120,12 +116,10 @@ impl<K: Knowledge, D: Device + Drop> Journaled<K, D> {
         ensures at_once { AtOnce K.form self.old (asked.Release receipt) (reply_by (λ _. told.Done) result) self.new }
         ensures journal { SameJournal self.old self.new }
     {
-        if self.journal.has_failed() {
-            return Err(KeptFault::Failed);
-        }
-        match self.replica.release(receipt) {
-            Ok(()) => Ok(()),
-            Err(refusal) => Err(KeptFault::Refused(refusal)),
+        match admit(&mut self.replica, &self.journal, Event::Release(receipt)) {
+            Ok(Reply::Done) => Ok(()),
+            Ok(_reply) => unreachable!(),
+            Err(fault) => Err(fault),
         }
     }
 
@@ -134,12 +128,10 @@ impl<K: Knowledge, D: Device + Drop> Journaled<K, D> {
         ensures at_once { AtOnce K.form self.old asked.Retire (reply_by (λ _. told.Done) result) self.new }
         ensures journal { SameJournal self.old self.new }
     {
-        if self.journal.has_failed() {
-            return Err(KeptFault::Failed);
-        }
-        match self.replica.retire() {
-            Ok(()) => Ok(()),
-            Err(refusal) => Err(KeptFault::Refused(refusal)),
+        match admit(&mut self.replica, &self.journal, Event::Retire) {
+            Ok(Reply::Done) => Ok(()),
+            Ok(_reply) => unreachable!(),
+            Err(fault) => Err(fault),
         }
     }
 

@@ -1,5 +1,6 @@
 //! Records of a stream, as many at a time as a host likes.
-ghost use Rattle.std.specs.Prelude.{◌≡◌, ◌++◌, ◌∷◌, [], IfErr, IfOk, Err, Ok};
+ghost use Rattle.std.specs.Prelude.{◌≡◌, ◌++◌, ◌∷◌, [], IfErr, IfOk, OnOk, Err, Ok, false};
+ghost use Rattle.mr_journal.specs.Journal.{has_failed};
 ghost use Rattle.mr_replica.specs.Step.{Steps};
 ghost use Rattle.mr_replica.specs.declared.event.Event.TheVariants as asked;
 ghost use Rattle.mr_replica.specs.declared.event.Reply.TheVariants as told;
@@ -79,6 +80,7 @@ impl<K: Knowledge, D: Device + Drop> Journaled<K, D> {
     fn give(&mut self, stream: u64) -> Result<Given, KeptFault>
         ensures gives { IfOk result (λ given. (sent : Sent) × (given.size ≡ size_of sent) × (given.is_end ≡ is_end sent)
             × Steps K.form (replica_of self.old) (asked.Next stream) (Ok (told.Gave sent)) (replica_of self.new) × (leaving self.new ≡ leaving self.old ++ told.Gave sent ∷ [])) }
+        ensures sound { OnOk result (has_failed (journal_of self.old) ≡ false) }
         ensures refused { IfErr result (λ e. Answered K.form (journal_of self.old) (replica_of self.old) (asked.Next stream) (Err e) (replica_of self.new)
             × (leaving self.new ≡ leaving self.old)) }
         ensures journal { SameJournal self.old self.new }

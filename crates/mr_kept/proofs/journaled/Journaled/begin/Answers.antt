@@ -1,4 +1,5 @@
-use Rattle.std.proofs.Common.{◌≡◌, ◌⊎◌, ◌∙◌, ◌++◌, inl, inr, ℕ, List, [], length, ap, subst, sym}
+use Rattle.std.proofs.Common.{◌≡◌, ◌⊎◌, ◌∙◌, ◌++◌, inl, inr, ℕ, List, [], length, ap, subst, sym, Result, Err, true}
+use Rattle.std.specs.Prelude.{IsTrue}
 use Rattle.mr_journal.specs.Device.{LeavesOnly}
 use Rattle.mr_journal.specs.Format.{StandAlike, Stands, contents}
 use Rattle.mr_journal.specs.Journal.{Keeps, device_of}
@@ -6,6 +7,8 @@ use Rattle.mr_journal.proofs.Moments.{joined, started, widened}
 use Rattle.mr_entry.specs.Head.{HeadParts}
 use Rattle.mr_kept.specs.Beginning.{HasParts}
 use Rattle.mr_kept.specs.Opening.{Begins}
+use Rattle.mr_journal.specs.declared.fault.JournalFault.{JournalFault}
+use Rattle.mr_kept.proofs.BeginLemmas.{device_failed, no_journal_fault, of_commit, of_open, of_setup, some_batch, some_texts}
 use Rattle.mr_kept.proofs.OpenLemmas.{as_begun, begins, empty_texts, kept_begun, none_waits}
 use Rattle.mr_kept.proofs.journaled.Journaled.begin.Goals as goal
 
@@ -66,3 +69,44 @@ returns-clause-head g c =
 
 pub returns-clause-none_waits : goal.returns-clause-none_waits
 returns-clause-none_waits g c = (none_waits c.fresh.result (ap (λ s. length s.log) c.fresh.ensures.replica ∙ sym c.fresh.ensures.counts.0) c.fresh.ensures.leaving.1, c.fresh.ensures.leaving.0)
+
+-- ---- why none is begun
+
+pub returns-in-Err-clause-fault : goal.returns-in-Err-clause-fault
+returns-in-Err-clause-fault g c = λ told. of_setup (g.D.Device.seen c.args.device) c.args.setup.id c.args.setup.filter c.args.setup.event_limit c.args.setup.birth c.args.setup.mark c.in-Err.fault c.in-Err.ensures.fault
+
+pub returns-in-Err-clause-cause : goal.returns-in-Err-clause-cause
+returns-in-Err-clause-cause g c = λ told is. absurd (no_journal_fault c.args.setup.filter c.args.setup.event_limit c.in-Err.fault _ c.in-Err.ensures.fault is)
+
+pub returns-in-Err-open-clause-fault : goal.returns-in-Err-open-clause-fault
+returns-in-Err-open-clause-fault g c = λ told.
+    (c.in-Ok.ensures.limit, (c.in-Ok.first.0, c.in-Ok.ensures.head, of_open (g.D.Device.seen c.args.device) c.in-Ok.first.0 c.in-Err-open.fault (c.in-Err-open.ensures.reason told)))
+
+pub returns-in-Err-open-clause-cause : goal.returns-in-Err-open-clause-cause
+returns-in-Err-open-clause-cause g c = λ told is. c.in-Err-open.ensures.cause told (cc)
+
+pub returns-then-not-is_empty-clause-fault : goal.returns-then-not-is_empty-clause-fault
+returns-then-not-is_empty-clause-fault g c = λ told.
+    let texts = contents c.in-Ok-open.opened.1.items in
+    (c.in-Ok.ensures.limit, (texts, λ (none : texts ≡ []). some_texts c.deref-found.result.now c.is_empty.result c.is_empty.ensures c.if-not-is_empty.true (ap contents c.deref-found.ensures.value ∙ none), (c.in-Ok-open.ensures.opened told).1))
+
+pub returns-in-Err-commit-clause-fault : goal.returns-in-Err-commit-clause-fault
+returns-in-Err-commit-clause-fault g c = λ told.
+    let texts = contents c.in-Ok-open.opened.1.items in
+    let opened = c.in-Ok-open.ensures.opened told in
+    let none : texts ≡ [] = ap contents (sym c.deref-found.ensures.value) ∙ empty_texts c.deref-found.result.now c.is_empty.result c.is_empty.ensures c.if-not-is_empty.false in
+    let batch = ap contents c.deref.ensures.value ∙ c.in-Ok.ensures.batch.1 in
+    let as_err : JournalFault → Result (Unit {0}) JournalFault = λ e. Err e in (
+      c.in-Ok.ensures.limit,
+      (
+        c.in-Ok.first.0,
+        c.in-Ok.ensures.head,
+        of_commit (g.D.Device.seen c.args.device) c.in-Ok.first.0 texts (contents c.deref.result.now) c.in-Ok-open.opened.0 c.in-Err-commit.fault none opened.1 opened.0 c.in-Err-commit.ensures.only batch
+            (λ is. (c.in-Err-commit.ensures.too_large opened.0.sound (some_batch c.deref.result.now _ batch)).0 (ap as_err is)),
+      ),
+    )
+
+pub returns-in-Err-commit-clause-cause : goal.returns-in-Err-commit-clause-cause
+returns-in-Err-commit-clause-cause g c = λ told is.
+    let opened = c.in-Ok-open.ensures.opened told in
+    subst (λ d. IsTrue (g.D.Device.has_failed d)) (sym c.into_device-in-Err-commit.ensures) (device_failed _ opened.0.sound (c.in-Err-commit.ensures.cause told (cc)))

@@ -1,14 +1,19 @@
-use Rattle.std.proofs.Common.{◌⊎◌, ◌++◌, inl, ap, refl, ◌∙◌, length}
-use Rattle.std.specs.Prelude.{map}
+use Rattle.std.proofs.Common.{◌≡◌, ◌⊎◌, ◌++◌, inl, ap, refl, sym, ◌∙◌, length, Result, Ok, Err}
+use Rattle.std.specs.Prelude.{IsTrue, map}
 use Rattle.mr_journal.specs.Format.{contents}
-use Rattle.mr_journal.specs.Journal.{device_of}
+use Rattle.mr_journal.specs.Journal.{device_of, has_failed}
 use Rattle.mr_entry.specs.Spelling.{entry_bytes}
 use Rattle.mr_kept.specs.Entries.{issued_after, notes_of}
 use Rattle.mr_kept.specs.Kept.{head_of, issued_of, journal_of, notes_waiting}
 use Rattle.mr_kept.specs.Whole.{HasLog}
 use Rattle.mr_journal.proofs.Moments.{started, widened}
 use Rattle.mr_kept.proofs.LeftLemmas.{left_by, left_now}
-use Rattle.mr_kept.proofs.KeptLemmas.{kept_after, moments_all, spelled_waits, waiting_is}
+use Rattle.mr_journal.specs.declared.fault.JournalFault.{JournalFault}
+use Rattle.mr_kept.specs.declared.fault.KeptFault.{KeptFault}
+use Rattle.mr_kept.specs.declared.fault.KeptFault.TheVariants.{Failed}
+use Rattle.mr_kept.specs.Commit.{IsUncommitted}
+use Rattle.mr_kept.proofs.KeptLemmas.{kept_after, moments_all, spelled_waits, waiting_is, waits_are}
+use Rattle.mr_kept.proofs.RoomLemmas.{batch_fault, err_by, failed_is, has_room, journal_fault, never_failed}
 use Rattle.mr_kept.proofs.journaled.Journaled.commit.Goals as goal
 
 pub returns-in_err-commit-clause-any_moment : goal.returns-in_err-commit-clause-any_moment
@@ -49,3 +54,47 @@ pub returns-then-has_failed-clause-left : goal.returns-then-has_failed-clause-le
 returns-then-has_failed-clause-left g c = λ told entries kept of.
     let device = device_of (journal_of c.args.self.now) in
     started {old = device} (λ file left. inl (left_now g.K.Knowledge.form entries c.args.self.now file kept c.log-log.ensures.is_its_log of (g.met.D.Device.only_now device file left)))
+
+-- ---- when what waits is kept, and why it isn't
+
+pub returns-then-has_failed-clause-cause : goal.returns-then-has_failed-clause-cause
+returns-then-has_failed-clause-cause g c = λ told is. inl (sym c.has_failed.ensures ∙ c.if-has_failed.true)
+
+pub returns-in_err-batch-clause-fault : goal.returns-in_err-batch-clause-fault
+returns-in_err-batch-clause-fault g c =
+    let old = c.args.self.now in
+    let sound = sym c.has_failed.ensures ∙ c.if-has_failed.false in
+    let waits = waits_are old c.log-log.result.now c.min.result c.deref-notes.result.now c.log-log.ensures.all c.min.ensures c.deref-notes.ensures.value in
+    err_by (IsUncommitted old) c.from_residual.result c.in_err-batch.field-0.0 c.from_residual.ensures.1 (batch_fault old _ c.in_err-batch.field-0.0 sound waits c.in_err-batch.ensures.fault)
+
+pub returns-in_err-batch-clause-cause : goal.returns-in_err-batch-clause-cause
+returns-in_err-batch-clause-cause g c = λ told.
+    let no = never_failed _ c.in_err-batch.field-0.0 c.in_err-batch.ensures.fault in
+    let journal = c.args.self.now.journal in
+    err_by (λ (fault : KeptFault). fault ≡ Failed → IsTrue (has_failed journal) ⊎ IsTrue (g.D.Device.has_failed (device_of journal))) c.from_residual.result c.in_err-batch.field-0.0 c.from_residual.ensures.1
+    (λ is. absurd (no is))
+
+pub returns-in_err-commit-clause-fault : goal.returns-in_err-commit-clause-fault
+returns-in_err-commit-clause-fault g c =
+    let old = c.args.self.now in
+    let sound = sym c.has_failed.ensures ∙ c.if-has_failed.false in
+    let spelled = spelled_waits old c.log-log.result.now c.min.result c.deref-notes.result.now c.in_ok-batch.batch.entries.items c.deref.result.now c.log-log.ensures.all c.min.ensures c.deref-notes.ensures.value c.deref.ensures.value c.in_ok-batch.ensures.spelled in
+    let as_err : JournalFault → Result (Unit {0}) JournalFault = λ e. Err e in
+    let fault = c.in_err-commit.field-0.0 in
+    err_by (IsUncommitted old) c.from_residual-in_err-commit.result _ c.from_residual-in_err-commit.ensures.1
+    (journal_fault old c.deref.result.now fault sound spelled c.in_err-commit.ensures.only (λ none. c.in_err-commit.ensures.empty none sound) (λ some is. (c.in_err-commit.ensures.too_large sound some).0 (ap as_err is)))
+
+pub returns-in_err-commit-clause-cause : goal.returns-in_err-commit-clause-cause
+returns-in_err-commit-clause-cause g c = λ told.
+    err_by (λ (fault : KeptFault). fault ≡ Failed → IsTrue (has_failed c.args.self.now.journal) ⊎ IsTrue (g.D.Device.has_failed (device_of c.commit.new.self))) c.from_residual-in_err-commit.result _ c.from_residual-in_err-commit.ensures.1
+    (λ is. c.in_err-commit.ensures.cause told (failed_is c.in_err-commit.field-0.0 c.in_err-commit.ensures.only is))
+
+pub returns-clause-can : goal.returns-clause-can
+returns-clause-can g c =
+    let old = c.args.self.now in
+    let sound = sym c.has_failed.ensures ∙ c.if-has_failed.false in
+    let spelled = spelled_waits old c.log-log.result.now c.min.result c.deref-notes.result.now c.in_ok-batch.batch.entries.items c.deref.result.now c.log-log.ensures.all c.min.ensures c.deref-notes.ensures.value c.deref.ensures.value c.in_ok-batch.ensures.spelled in
+    record {
+      sound = sound;
+      room = has_room old c.deref.result.now (Ok tt) tt refl spelled (λ some none. (c.in_ok-commit.ensures.too_large sound some).1 none);
+    }

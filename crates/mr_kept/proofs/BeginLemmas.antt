@@ -1,0 +1,77 @@
+-- why no replica is begun
+use Rattle.std.proofs.Common.{◌≡◌, ◌≢◌, ◌⊎◌, ⊎_elim, ℕ, ◌≤◌, ◌==◌, Bool, true, false, List, [], ◌∷◌, length, Result, Err, refl, sym, ap, subst, ◌∙◌, arith}
+use Rattle.std.specs.Prelude.{IsTrue, Vec, not}
+use Rattle.std.specs.declared.alloc.Global.{Global}
+use Rattle.std.proofs.lemmas.Bool.{false≢true}
+use Rattle.mr_filter.specs.Filter.{ClauseParts}
+use Rattle.mr_filter.specs.Grammar.{Reads}
+use Rattle.mr_journal.specs.Fault.{IsOfBatch}
+use Rattle.mr_journal.specs.Format.{AreBatches, Fits, Stands, contents}
+use Rattle.mr_journal.specs.Journal.{Keeps, end_of, has_failed}
+use Rattle.mr_journal.specs.Reading.{IsReason}
+use Rattle.mr_journal.specs.declared.fault.JournalFault.{JournalFault}
+use Rattle.mr_journal.specs.declared.fault.JournalFault.TheVariants as journal
+use Rattle.mr_journal.specs.declared.journal.Journal.{Journal}
+use Rattle.mr_entry.specs.Encoding.{Encodes}
+use Rattle.mr_entry.specs.Head.{HeadParts}
+use Rattle.mr_entry.specs.Spelling.{entry_bytes}
+use Rattle.mr_entry.specs.declared.entry.Entry.TheVariants as entry
+use Rattle.mr_entry.specs.declared.fault.EntryFault.{EntryFault}
+use Rattle.mr_entry.specs.declared.fault.EntryFault.TheVariants as spelling
+use Rattle.mr_kept.specs.declared.fault.OpenFault.{OpenFault}
+use Rattle.mr_kept.specs.declared.fault.OpenFault.TheVariants as fault
+use Rattle.mr_kept.specs.Beginning.{IsBeginFault, IsLimit, IsOfFile, IsOfSetup}
+
+-- by what it was to be begun with
+pub of_setup : (file : List ℕ) (id : ℕ) (filter : List ClauseParts) (limit : ℕ) (birth mark : List ℕ) (why : OpenFault) → IsOfSetup filter limit why → IsBeginFault file id filter limit birth mark why
+of_setup file id filter limit birth mark (fault.Journal j) h = absurd h
+of_setup file id filter limit birth mark fault.NotEmpty h = absurd h
+of_setup file id filter limit birth mark why h = h
+
+pub no_journal_fault : (filter : List ClauseParts) (limit : ℕ) (why : OpenFault) (j : JournalFault) → IsOfSetup filter limit why → why ≡ fault.Journal j → ⊥
+no_journal_fault filter limit why j h is = subst (IsOfSetup filter limit) is h
+
+-- a filter with too long a text
+pub head_fault : (filter : List ClauseParts) (limit : ℕ) (head : HeadParts) (why : EntryFault) → IsLimit limit → Reads head.filter filter → Encodes (entry.Head head) (Err why) → why ≢ spelling.OutOfMemory → IsOfSetup filter limit (fault.BadEntry 0 why)
+head_fault filter limit head spelling.OutOfMemory is reads h other = absurd (other refl)
+head_fault filter limit head spelling.TooLong is reads h other = (is, refl, refl, (head.filter, reads, h))
+head_fault filter limit head spelling.Truncated is reads h other = absurd h
+head_fault filter limit head spelling.BadKind is reads h other = absurd h
+head_fault filter limit head (spelling.OtherFormat f) is reads h other = absurd h
+head_fault filter limit head spelling.BadBody is reads h other = absurd h
+head_fault filter limit head (spelling.BadEvent f) is reads h other = absurd h
+
+-- the file is refused
+pub of_open : (file : List ℕ) (head : HeadParts) (why : JournalFault) → IsReason why file → IsOfFile file head why
+of_open file head journal.TooLarge h = absurd h
+of_open file head why h = h
+
+-- it has entries
+pub some_texts : (l : List (Vec ℕ Global)) (b : Bool) → b ≡ (length l == 0) → b ≡ false → contents l ≢ []
+some_texts [] b is so none = false≢true (sym so ∙ is)
+some_texts (x ∷ xs) b is so none = cc
+
+-- or no room for the head
+pub of_commit : {D : Type 0} {seen : D → List ℕ} {may_leave : D → List ℕ → Type 0} (file : List ℕ) (head : HeadParts) (texts batch : List (List ℕ)) (j : Journal D) (why : JournalFault) → texts ≡ [] → Stands texts file
+    → Keeps seen may_leave texts j → IsOfBatch why → batch ≡ entry_bytes (entry.Head head) ∷ [] → (why ≡ journal.TooLarge → Fits (end_of j) batch → ⊥) → IsOfFile file head why
+of_commit file head texts batch j journal.TooLarge none stands keeps of is large = (
+  subst (λ (l : List (List ℕ)). Stands l file) none stands,
+  record {
+    front = keeps.front;
+    batches = subst (λ (l : List (List ℕ)). AreBatches l keeps.front) none keeps.batches;
+    full = λ fits. large refl (subst (λ (n : ℕ). Fits n batch) keeps.place (subst (λ (l : List (List ℕ)). Fits (length keeps.front) l) (sym is) fits));
+  },
+)
+of_commit file head texts batch j journal.OutOfMemory none stands keeps of is large = tt
+of_commit file head texts batch j journal.Failed none stands keeps of is large = tt
+of_commit file head texts batch j journal.NotAJournal none stands keeps of is large = absurd of
+of_commit file head texts batch j (journal.OtherFormat f) none stands keeps of is large = absurd of
+of_commit file head texts batch j (journal.Damaged at) none stands keeps of is large = absurd of
+
+-- the batch of a head isn't empty
+pub some_batch : (l : List (Vec ℕ Global)) (text : List ℕ) → contents l ≡ text ∷ [] → l ≢ []
+some_batch [] text is none = cc
+some_batch (x ∷ xs) text is none = cc
+
+pub device_failed : {A : Type 0} (b : Bool) → b ≡ false → IsTrue b ⊎ A → A
+device_failed b sound h = ⊎_elim (λ (is : IsTrue b). absurd (false≢true (sym sound ∙ is))) (λ a. a) h

@@ -1,0 +1,251 @@
+-- why what waits isn't kept
+use Rattle.std.proofs.Common.{zero, suc, ◌≡◌, ◌≢◌, ◌⊎◌, inl, inr, ⊎_elim, ℕ, ◌+◌, ◌<◌, ◌≤◌, ◌^◌, List, [], ◌∷◌, ◌++◌, length, take, drop, get_or, Result, Ok, Err, refl, sym, ap, subst, ◌∙◌, append_assoc, add-one, arith}
+use Rattle.std.specs.Prelude.{IfErr, IsErrAnd, IsOk, Vec, false, map, replicate}
+use Rattle.std.specs.List.{AllByRecursion}
+use Rattle.std.specs.declared.alloc.Global.{Global}
+use Rattle.std.proofs.Math.Seq.{drop-cons}
+use Rattle.std.proofs.lemmas.Bool.{cases_lt, false≢true}
+use Rattle.std.proofs.lemmas.Bool.Decides.{eqb_tells}
+use Rattle.std.proofs.lemmas.List.{map-append, replicate_more, take-append-drop}
+use Rattle.mr_journal.specs.Fault.{IsOfBatch}
+use Rattle.mr_journal.specs.Format.{AreEntries, Fits, body, contents}
+use Rattle.mr_journal.specs.Journal.{end_of, has_failed}
+use Rattle.mr_journal.specs.declared.fault.JournalFault.{JournalFault}
+use Rattle.mr_journal.specs.declared.fault.JournalFault.TheVariants as journal
+use Rattle.mr_replica.specs.declared.event.Event.{Event}
+use Rattle.mr_replica.specs.declared.event.Event.TheVariants.{Next}
+use Rattle.mr_entry.specs.Encoding.{Encodes, IsLong}
+use Rattle.mr_entry.specs.Grammar.{IsEntry}
+use Rattle.mr_entry.specs.Note.{NoteParts}
+use Rattle.mr_entry.specs.Spelling.{entry_bytes}
+use Rattle.mr_entry.specs.declared.entry.Entry.{Entry}
+use Rattle.mr_entry.specs.declared.entry.Entry.TheVariants as entry
+use Rattle.mr_entry.specs.declared.fault.EntryFault.{EntryFault}
+use Rattle.mr_entry.specs.declared.fault.EntryFault.TheVariants as spelling
+use Rattle.mr_kept.specs.declared.fault.KeptFault.{KeptFault}
+use Rattle.mr_kept.specs.declared.fault.KeptFault.TheVariants as kept
+use Rattle.mr_kept.specs.declared.journaled.Journaled.{Journaled}
+use Rattle.mr_kept.specs.Commit.{HasRoom, IsUncommitted}
+use Rattle.mr_kept.specs.Entries.{AreSoFar, AreSpelled, HasNoEntry, IsOfEntries, IsOfEvent, batch_entries, counted, entries_of, run_of, with_next}
+use Rattle.mr_kept.specs.Fault.{kept_fault_of, kept_fault_of_entry}
+use Rattle.mr_kept.specs.Kept.{entries_waiting, journal_of}
+use Rattle.mr_kept.proofs.RunLemmas.{an_entry, begins_none, one_run, run_ends}
+
+-- ---- faults
+
+-- the error is this one
+pub err_by : {T E : Type 0} (P : E → Type 0) (r : Result T E) (x : E) → IsErrAnd r (λ y. y ≡ x) → P x → IfErr r P
+err_by P (Ok v) x is p = absurd is
+err_by P (Err y) x is p = subst P (sym is) p
+
+ok_no_err : {T E : Type 0} (r : Result T E) (v : T) (x : E) → r ≡ Ok v → r ≡ Err x → ⊥
+ok_no_err r v x is other = cc
+
+-- ---- entries that are none
+
+all_back : (P : Entry → Type 0) (xs ys : List Entry) → AllByRecursion P (xs ++ ys) → AllByRecursion P ys
+all_back P [] ys h = h
+all_back P (x ∷ xs) ys h = all_back P xs ys h.1
+
+all_front : (P : Entry → Type 0) (xs ys : List Entry) → AllByRecursion P (xs ++ ys) → AllByRecursion P xs
+all_front P [] ys h = tt
+all_front P (x ∷ xs) ys h = (h.0, all_front P xs ys h.1)
+
+-- a run of more than so many Nexts stands first
+pub record BeginsRun (s k : ℕ) (list : List Entry) : Type 0 where
+  pub count : ℕ
+  pub rest : List Entry
+  pub more : k < count
+  pub first : list ≡ entry.Nexts s count ∷ rest
+
+next_first : (s : ℕ) (xs : List Entry) → BeginsRun s 0 (with_next s xs)
+next_first s [] = record { count = 1; rest = []; more = omega arith; first = refl }
+next_first s (entry.Nexts other k ∷ xs) = elim (eqb_tells other s) [
+  | inl same ↦ rw same.0 (record { count = k + 1; rest = xs; more = omega arith; first = refl })
+  | inr differs ↦ rw differs.0 (record { count = 1; rest = entry.Nexts other k ∷ xs; more = omega arith; first = refl })
+]
+next_first s (x ∷ xs) = record { count = 1; rest = x ∷ xs; more = omega arith; first = refl }
+
+run_longer : (s k : ℕ) (list : List Entry) → BeginsRun s k list → BeginsRun s (suc k) (with_next s list)
+run_longer s k list h = record {
+  count = h.count + 1;
+  rest = h.rest;
+  more = omega (arith, h.more);
+  first = ap (with_next s) h.first ∙ one_run s h.count h.rest;
+}
+
+run_first : (n s k : ℕ) (xs : List Event) → BeginsRun s k (entries_of n (replicate (suc k) (Next s) ++ xs))
+run_first n s zero xs = next_first s (entries_of n xs)
+run_first n s (suc k) xs = run_longer s k (entries_of n (replicate (suc k) (Next s) ++ xs)) (run_first n s k xs)
+
+no_long_run : (s k : ℕ) (list : List Entry) → 2 ^ 32 ≤ k + 1 → BeginsRun s k list → AllByRecursion IsEntry list → ⊥
+no_long_run s k list many h all =
+    let is : AllByRecursion IsEntry (entry.Nexts s h.count ∷ h.rest) = subst (λ (l : List Entry). AllByRecursion IsEntry l) h.first all in
+    omega (arith, many, h.more, is.0.1)
+
+-- one Next more than the run may have
+run_over : (n : ℕ) (events : List Event) (texts : List (List ℕ)) (now s k : ℕ) (later : List Event) → AreSoFar n events texts now s k → 2 ^ 32 ≤ k + 1 → AllByRecursion IsEntry (entries_of n (events ++ Next s ∷ later)) → ⊥
+run_over n events texts now s k later so_far many all =
+    let grown : replicate k (Next s) ++ Next s ∷ later ≡ replicate (suc k) (Next s) ++ later =
+    sym (append_assoc (replicate k (Next s)) (Next s ∷ []) later) ∙ ap (λ (l : List Event). l ++ later) (replicate_more k (Next s)) ∙ ap (λ (m : ℕ). replicate m (Next s) ++ later) (add-one k) in
+    let at : entries_of n (events ++ Next s ∷ later) ≡ so_far.list ++ entries_of now (replicate (suc k) (Next s) ++ later) =
+    so_far.all (Next s ∷ later) ∙ ap (λ (l : List Event). so_far.list ++ entries_of now l) grown in
+    no_long_run s k (entries_of now (replicate (suc k) (Next s) ++ later)) many (run_first now s k later)
+    (all_back IsEntry so_far.list (entries_of now (replicate (suc k) (Next s) ++ later)) (subst (λ (l : List Entry). AllByRecursion IsEntry l) at all))
+
+other_over : (n : ℕ) (events : List Event) (texts : List (List ℕ)) (now s k : ℕ) (e : Event) (later : List Event) → ((u : ℕ) → e ≢ Next u) → AreSoFar n events texts now s k → (IsEntry (entry.Event (counted now e) e) → ⊥)
+    → AllByRecursion IsEntry (entries_of n (events ++ e ∷ later)) → ⊥
+other_over n events texts now s k e later other so_far none all =
+    let behind : List Entry = entry.Event (counted now e) e ∷ entries_of (counted now e) later in
+    let at : entries_of n (events ++ e ∷ later) ≡ so_far.list ++ (run_of s k ++ behind) =
+    so_far.all (e ∷ later) ∙ ap (λ (l : List Entry). so_far.list ++ l) (run_ends now s k (e ∷ later) (begins_none now s e later other) ∙ ap (λ (l : List Entry). run_of s k ++ l) (an_entry now e later other)) in
+    none (all_back IsEntry (run_of s k) behind (all_back IsEntry so_far.list (run_of s k ++ behind) (subst (λ (l : List Entry). AllByRecursion IsEntry l) at all))).0
+
+over : (n : ℕ) (events : List Event) (texts : List (List ℕ)) (now s k : ℕ) (e : Event) (later : List Event) → AreSoFar n events texts now s k → HasNoEntry now s k e → AllByRecursion IsEntry (entries_of n (events ++ e ∷ later)) → ⊥
+over n events texts now s k (Next u) later so_far h all =
+    run_over n events texts now s k later so_far h.1 (subst (λ (t : ℕ). AllByRecursion IsEntry (entries_of n (events ++ Next t ∷ later))) h.0 all)
+over n events texts now s k e later so_far h all = other_over n events texts now s k e later (λ u is. cc) so_far h all
+
+-- an event that has no entry, among others
+pub event_over : (n : ℕ) (events : List Event) (i : ℕ) (e : Event) (texts : List (List ℕ)) (now s k : ℕ) (fault : KeptFault) → i < length events → e ≡ get_or events i e → AreSoFar n (take i events) texts now s k → IsOfEvent now s k e fault
+    → IsOfEntries (entries_of n events) fault
+event_over n events i e texts now s k kept.TooLarge within is so_far h = λ all.
+    let split : events ≡ take i events ++ e ∷ drop (suc i) events =
+    sym (take-append-drop i events) ∙ ap (λ (l : List Event). take i events ++ l) (drop-cons events i e within ∙ ap (λ (x : Event). x ∷ drop (suc i) events) (sym is)) in
+    over n (take i events) texts now s k e (drop (suc i) events) so_far h (subst (λ (l : List Event). AllByRecursion IsEntry (entries_of n l)) split all)
+event_over n events i e texts now s k kept.OutOfMemory within is so_far h = tt
+event_over n events i e texts now s k kept.Failed within is so_far h = h
+event_over n events i e texts now s k (kept.Refused r) within is so_far h = h
+
+-- memory is wanting
+pub of_memory : (entries : List Entry) (fault : KeptFault) → fault ≡ kept.OutOfMemory → IsOfEntries entries fault
+of_memory entries fault is = subst (IsOfEntries entries) (sym is) tt
+
+pub event_of_memory : (now s k : ℕ) (e : Event) (fault : KeptFault) → fault ≡ kept.OutOfMemory → IsOfEvent now s k e fault
+event_of_memory now s k e fault is = subst (IsOfEvent now s k e) (sym is) tt
+
+-- ---- what an event's fault comes of
+
+none_over : (now s k count : ℕ) (e : Event) → ((u : ℕ) → e ≢ Next u) → count ≡ counted now e → (IsEntry (entry.Event count e) → ⊥) → HasNoEntry now s k e
+none_over now s k count (Next u) other same none = absurd (other u refl)
+none_over now s k count e other same none = λ is. none (subst (λ (n : ℕ). IsEntry (entry.Event n e)) (sym same) is)
+
+-- its count would be too much
+pub count_over : (now s k : ℕ) (e : Event) → ((u : ℕ) → e ≢ Next u) → 2 ^ 32 ≤ counted now e → HasNoEntry now s k e
+count_over now s k e other many = none_over now s k (counted now e) e other refl (λ is. omega (arith, many, is.0))
+
+-- it has too many bytes
+pub event_fault : (now s k count : ℕ) (e : Event) (fault : EntryFault) → ((u : ℕ) → e ≢ Next u) → count ≡ counted now e → Encodes (entry.Event count e) (Err fault) → IsOfEvent now s k e (kept_fault_of_entry fault)
+event_fault now s k count e spelling.OutOfMemory other same h = tt
+event_fault now s k count e spelling.TooLong other same h = none_over now s k count e other same (λ is. omega (arith, h, is.1.few))
+event_fault now s k count e spelling.Truncated other same h = absurd h
+event_fault now s k count e spelling.BadKind other same h = absurd h
+event_fault now s k count e (spelling.OtherFormat f) other same h = absurd h
+event_fault now s k count e spelling.BadBody other same h = absurd h
+event_fault now s k count e (spelling.BadEvent f) other same h = absurd h
+
+-- the entry of a run is never too long
+pub run_fault : (s k : ℕ) (fault : EntryFault) → Encodes (entry.Nexts s k) (Err fault) → kept_fault_of_entry fault ≡ kept.OutOfMemory
+run_fault s k spelling.OutOfMemory h = refl
+run_fault s k spelling.TooLong h = absurd h
+run_fault s k spelling.Truncated h = absurd h
+run_fault s k spelling.BadKind h = absurd h
+run_fault s k (spelling.OtherFormat f) h = absurd h
+run_fault s k spelling.BadBody h = absurd h
+run_fault s k (spelling.BadEvent f) h = absurd h
+
+-- ---- notes
+
+-- the events alone can't be spelled
+pub events_fault : (n : ℕ) (events : List Event) (ns : List NoteParts) (fault : KeptFault) → IsOfEntries (entries_of n events) fault → IsOfEntries (batch_entries n events ns) fault
+events_fault n events ns kept.TooLarge h = λ all. h (all_front IsEntry (entries_of n events) (map entry.Note ns) all)
+events_fault n events ns kept.OutOfMemory h = h
+events_fault n events ns kept.Failed h = h
+events_fault n events ns (kept.Refused r) h = h
+
+no_note : (ns : List NoteParts) (i : ℕ) (x : NoteParts) → i < length ns → x ≡ get_or ns i x → 2 ^ 32 ≤ length x.bytes → AllByRecursion IsEntry (map entry.Note ns) → ⊥
+no_note [] i x within is long all = omega (arith, within)
+no_note (y ∷ ns) zero x within is long all = let short : length x.bytes < 2 ^ 32 = subst (λ (z : NoteParts). length z.bytes < 2 ^ 32) (sym is) all.0.1 in omega (arith, short, long)
+no_note (y ∷ ns) (suc i) x within is long all = no_note ns i x (omega (arith, within)) is long all.1
+
+-- nor can a note
+pub note_fault : (n : ℕ) (events : List Event) (ns : List NoteParts) (i : ℕ) (x : NoteParts) (fault : EntryFault) → i < length ns → x ≡ get_or ns i x → Encodes (entry.Note x) (Err fault) → IsOfEntries (batch_entries n events ns) (kept_fault_of_entry fault)
+note_fault n events ns i x spelling.OutOfMemory within is h = tt
+note_fault n events ns i x spelling.TooLong within is h = λ all. no_note ns i x within is h (all_back IsEntry (entries_of n events) (map entry.Note ns) all)
+note_fault n events ns i x spelling.Truncated within is h = absurd h
+note_fault n events ns i x spelling.BadKind within is h = absurd h
+note_fault n events ns i x (spelling.OtherFormat f) within is h = absurd h
+note_fault n events ns i x spelling.BadBody within is h = absurd h
+note_fault n events ns i x (spelling.BadEvent f) within is h = absurd h
+
+-- ---- a journal's room
+
+entries_stable : (texts : List (List ℕ)) → ((AreEntries texts → ⊥) → ⊥) → AreEntries texts
+entries_stable [] h = tt
+entries_stable (x ∷ xs) h = (
+  ⊎_elim (λ (few : length x < 2 ^ 32). few) (λ (many : 2 ^ 32 ≤ length x). absurd (h (λ all. omega (arith, many, all.0)))) (cases_lt (length x) (2 ^ 32)),
+  entries_stable xs (λ none. h (λ all. none all.1)),
+)
+
+-- what can't be said not to fit fits
+fits_stable : (place : ℕ) (texts : List (List ℕ)) → ((Fits place texts → ⊥) → ⊥) → Fits place texts
+fits_stable place texts h = record {
+  entries_are = entries_stable texts (λ none. h (λ fits. none fits.entries_are));
+  room = ⊎_elim (λ (over : 2 ^ 62 < place + 42 + length (body texts)). absurd (h (λ fits. omega (arith, over, fits.room)))) (λ (few : place + 42 + length (body texts) ≤ 2 ^ 62). few) (cases_lt (2 ^ 62) (place + 42 + length (body texts)));
+}
+
+none_spelled : (xs : List Entry) → [] ≡ map entry_bytes xs → xs ≡ []
+none_spelled [] is = refl
+none_spelled (x ∷ xs) is = cc
+
+-- a batch that was kept had room, one that was too large had none
+kept_fits : (place : ℕ) (texts : List (List ℕ)) (r : Result (Unit {0}) JournalFault) (v : Unit {0}) → r ≡ Ok v → ((Fits place texts → ⊥) → r ≡ Err journal.TooLarge) → Fits place texts
+kept_fits place texts r v is large = fits_stable place texts (λ none. ok_no_err r v journal.TooLarge is (large none))
+
+large_fault : (place : ℕ) (given : List (Vec ℕ Global)) (fault : JournalFault) (is_ok : given ≡ [] → IsOk {T = Unit {0}} {E = JournalFault} (Err fault)) (large : given ≢ [] → fault ≡ journal.TooLarge → Fits place (contents given) → ⊥) → fault ≡ journal.TooLarge → Fits place (contents given) → ⊥
+large_fault place [] fault is_ok large is fits = false≢true (is_ok refl)
+large_fault place (x ∷ xs) fault is_ok large is fits = large (λ none. cc) is fits
+
+-- never since the device failed
+pub never_failed : (entries : List Entry) (fault : KeptFault) → IsOfEntries entries fault → fault ≡ kept.Failed → ⊥
+never_failed entries fault h is = subst (λ (f : KeptFault). IsOfEntries entries f) is h
+
+-- the device failed, as the journal tells
+pub failed_is : (fault : JournalFault) → IsOfBatch fault → kept_fault_of fault ≡ kept.Failed → fault ≡ journal.Failed
+failed_is journal.OutOfMemory of is = absurd (cc)
+failed_is journal.Failed of is = refl
+failed_is journal.NotAJournal of is = absurd of
+failed_is (journal.OtherFormat f) of is = absurd of
+failed_is (journal.Damaged at) of is = absurd of
+failed_is journal.TooLarge of is = absurd (cc)
+
+module _ {K D V : Type 0} where
+  pub has_room : (old : Journaled K D V) (given : List (Vec ℕ Global)) (r : Result (Unit {0}) JournalFault) (v : Unit {0}) → r ≡ Ok v → AreSpelled (entries_waiting old) (contents given)
+      → (given ≢ [] → (Fits (end_of (journal_of old)) (contents given) → ⊥) → r ≡ Err journal.TooLarge) → entries_waiting old ≢ [] → HasRoom old
+  has_room old given r v is spelled large some = record {
+    in_grammar = spelled.in_grammar;
+    fits = subst (λ (l : List (List ℕ)). Fits (end_of (journal_of old)) l) spelled.written
+        (kept_fits (end_of (journal_of old)) (contents given) r v is (large (λ none. some (none_spelled (entries_waiting old) (sym (ap contents none) ∙ spelled.written)))));
+  }
+
+  no_room : (old : Journaled K D V) (texts : List (List ℕ)) (fault : JournalFault) → has_failed (journal_of old) ≡ false → AreSpelled (entries_waiting old) texts → IsOfBatch fault
+      → (fault ≡ journal.TooLarge → Fits (end_of (journal_of old)) texts → ⊥) → IsUncommitted old (kept_fault_of fault)
+  no_room old texts journal.OutOfMemory sound spelled of large = sound
+  no_room old texts journal.Failed sound spelled of large = tt
+  no_room old texts journal.NotAJournal sound spelled of large = absurd of
+  no_room old texts (journal.OtherFormat f) sound spelled of large = absurd of
+  no_room old texts (journal.Damaged at) sound spelled of large = absurd of
+  no_room old texts journal.TooLarge sound spelled of large =
+      (sound, λ room. large refl (subst (λ (l : List (List ℕ)). Fits (end_of (journal_of old)) l) (sym spelled.written) room.fits))
+
+  -- why the journal didn't keep them
+  pub journal_fault : (old : Journaled K D V) (given : List (Vec ℕ Global)) (fault : JournalFault) → has_failed (journal_of old) ≡ false → AreSpelled (entries_waiting old) (contents given) → IsOfBatch fault
+      → (given ≡ [] → IsOk {T = Unit {0}} {E = JournalFault} (Err fault)) → (given ≢ [] → fault ≡ journal.TooLarge → Fits (end_of (journal_of old)) (contents given) → ⊥) → IsUncommitted old (kept_fault_of fault)
+  journal_fault old given fault sound spelled of is_ok large = no_room old (contents given) fault sound spelled of (large_fault (end_of (journal_of old)) given fault is_ok large)
+
+  -- or why they have no entries
+  pub batch_fault : (old : Journaled K D V) (entries : List Entry) (fault : KeptFault) → has_failed (journal_of old) ≡ false → entries ≡ entries_waiting old → IsOfEntries entries fault → IsUncommitted old fault
+  batch_fault old entries kept.TooLarge sound same h = (sound, λ room. h (subst (λ (l : List Entry). AllByRecursion IsEntry l) (sym same) room.in_grammar))
+  batch_fault old entries kept.OutOfMemory sound same h = sound
+  batch_fault old entries kept.Failed sound same h = absurd h
+  batch_fault old entries (kept.Refused r) sound same h = absurd h
