@@ -91,6 +91,13 @@ impl<T: Drop> Desk<T> {
         }
     }
 
+    /// How many places its inbox has.
+    pub fn capacity(&self) -> usize
+        ensures { result ≡ self.now.capacity }
+    {
+        self.queue.capacity()
+    }
+
     /// Whether the end marks of all three posts were taken.
     pub fn have_all_finished(&self) -> bool
         ensures { result ≡ have_all_finished self.now.taken }

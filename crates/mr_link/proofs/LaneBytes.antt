@@ -1,13 +1,14 @@
 -- What passes the lanes of a link.
-use Rattle.std.proofs.Common.{◌≡◌, ℕ, Bool, List, [], ◌∷◌, ◌++◌, Option, Some, ap, ◌∙◌, append-nil}
-use Rattle.std.specs.Global.{Vec}
+use Rattle.std.proofs.Common.{◌≡◌, ◌<◌, ◌==◌, ℕ, Bool, false, length, arith, List, [], ◌∷◌, ◌++◌, Option, Some, None, ap, refl, sym, ◌∙◌, append-nil}
+use Rattle.mr_link.specs.declared.chunk.Chunk.{Chunk}
+use Rattle.std.proofs.lemmas.Bool.{false≢true}
 use Rattle.std.proofs.lemmas.Grind.{flat_map-append}
 use Rattle.mr_lane.specs.Tap.{TapEnd, with_item}
-use Rattle.mr_link.specs.Link.{LinkView, with_sent, with_received}
+use Rattle.mr_link.specs.Link.{LinkView, and_then, with_sent, with_received}
 use Rattle.mr_link.specs.LaneLink.{LaneEnd, IsBeginning, SameEnd, bytes_in}
 
 -- an end over these lanes
-abbrev pub end_over : TapEnd (Vec ℕ) → TapEnd (Vec ℕ) → ℕ → Bool → LaneEnd
+abbrev pub end_over : TapEnd Chunk → TapEnd Chunk → ℕ → Bool → LaneEnd
 end_over spout tap downs hung_up = record {
   sends_to = spout.id;
   receives_from = tap.id;
@@ -16,42 +17,55 @@ end_over spout tap downs hung_up = record {
 }
 
 -- one piece more
-bytes_more : (pieces : List (Vec ℕ)) (piece : Vec ℕ) → bytes_in (pieces ++ piece ∷ []) ≡ bytes_in pieces ++ piece.items
-bytes_more pieces piece = flat_map-append (λ (p : Vec ℕ). p.items) pieces (piece ∷ []) ∙ ap (λ (z : List ℕ). bytes_in pieces ++ z) (append-nil piece.items)
+bytes_more : (pieces : List Chunk) (piece : Chunk) → bytes_in (pieces ++ piece ∷ []) ≡ bytes_in pieces ++ piece.bytes.items
+bytes_more pieces piece = flat_map-append (λ (p : Chunk). p.bytes.items) pieces (piece ∷ []) ∙ ap (λ (z : List ℕ). bytes_in pieces ++ z) (append-nil piece.bytes.items)
 
 -- a piece was taken
-pub piece_taken : (spout tap more : TapEnd (Vec ℕ)) (downs : ℕ) (hung_up : Bool) (end : LaneEnd) (piece : Vec ℕ) → end_over spout tap downs hung_up ≡ end → more ≡ with_item tap piece → (end_over spout more downs hung_up).tells ≡ with_received end.tells piece.items
+pub piece_taken : (spout tap more : TapEnd Chunk) (downs : ℕ) (hung_up : Bool) (end : LaneEnd) (piece : Chunk) → end_over spout tap downs hung_up ≡ end → more ≡ with_item tap piece → (end_over spout more downs hung_up).tells ≡ with_received end.tells piece.bytes.items
 piece_taken spout tap more downs hung_up end piece is taken =
-    ap (λ (z : TapEnd (Vec ℕ)). (end_over spout z downs hung_up).tells) taken
+    ap (λ (z : TapEnd Chunk). (end_over spout z downs hung_up).tells) taken
     ∙ (ap (λ (z : List ℕ). let t : LinkView = record { received = Some z; sent = Some (bytes_in spout.passed); downs = downs; hung_up = hung_up } in t) (bytes_more tap.passed piece)
-    ∙ ap (λ (z : LaneEnd). with_received z.tells piece.items) is)
+    ∙ ap (λ (z : LaneEnd). with_received z.tells piece.bytes.items) is)
 
 -- a piece was offered
-pub piece_offered : (spout tap more : TapEnd (Vec ℕ)) (downs : ℕ) (hung_up : Bool) (end : LaneEnd) (piece : Vec ℕ) (bytes : List ℕ) → end_over spout tap downs hung_up ≡ end → more ≡ with_item spout piece → piece.items ≡ bytes → (end_over more tap downs hung_up).tells ≡ with_sent end.tells bytes
+pub piece_offered : (spout tap more : TapEnd Chunk) (downs : ℕ) (hung_up : Bool) (end : LaneEnd) (piece : Chunk) (bytes : List ℕ) → end_over spout tap downs hung_up ≡ end → more ≡ with_item spout piece → piece.bytes.items ≡ bytes → (end_over more tap downs hung_up).tells ≡ with_sent end.tells bytes
 piece_offered spout tap more downs hung_up end piece bytes is offered same =
-    ap (λ (z : TapEnd (Vec ℕ)). (end_over z tap downs hung_up).tells) offered
+    ap (λ (z : TapEnd Chunk). (end_over z tap downs hung_up).tells) offered
     ∙ (ap (λ (z : List ℕ). let t : LinkView = record { received = Some (bytes_in tap.passed); sent = Some z; downs = downs; hung_up = hung_up } in t) (bytes_more spout.passed piece ∙ ap (λ (z : List ℕ). bytes_in spout.passed ++ z) same)
     ∙ ap (λ (z : LaneEnd). with_sent z.tells bytes) is)
 
 -- nothing was
-pub none_taken : (spout tap more : TapEnd (Vec ℕ)) (downs : ℕ) (hung_up : Bool) (end : LaneEnd) → end_over spout tap downs hung_up ≡ end → more ≡ tap → end_over spout more downs hung_up ≡ end
-none_taken spout tap more downs hung_up end is same = ap (λ (z : TapEnd (Vec ℕ)). end_over spout z downs hung_up) same ∙ is
+pub none_taken : (spout tap more : TapEnd Chunk) (downs : ℕ) (hung_up : Bool) (end : LaneEnd) → end_over spout tap downs hung_up ≡ end → more ≡ tap → end_over spout more downs hung_up ≡ end
+none_taken spout tap more downs hung_up end is same = ap (λ (z : TapEnd Chunk). end_over spout z downs hung_up) same ∙ is
 
-pub none_offered : (spout tap more : TapEnd (Vec ℕ)) (downs : ℕ) (hung_up : Bool) (end : LaneEnd) → end_over spout tap downs hung_up ≡ end → more ≡ spout → end_over more tap downs hung_up ≡ end
-none_offered spout tap more downs hung_up end is same = ap (λ (z : TapEnd (Vec ℕ)). end_over z tap downs hung_up) same ∙ is
+pub none_offered : (spout tap more : TapEnd Chunk) (downs : ℕ) (hung_up : Bool) (end : LaneEnd) → end_over spout tap downs hung_up ≡ end → more ≡ spout → end_over more tap downs hung_up ≡ end
+none_offered spout tap more downs hung_up end is same = ap (λ (z : TapEnd Chunk). end_over z tap downs hung_up) same ∙ is
 
 -- what was taken is a beginning of what was offered, and so are its bytes
-pub bytes_begin : (spout tap : TapEnd (Vec ℕ)) (received sent : Option (List ℕ)) (more : List (Vec ℕ)) → spout.passed ≡ tap.passed ++ more → received ≡ Some (bytes_in tap.passed) → sent ≡ Some (bytes_in spout.passed) → IsBeginning received sent
+pub bytes_begin : (spout tap : TapEnd Chunk) (received sent : Option (List ℕ)) (more : List Chunk) → spout.passed ≡ tap.passed ++ more → received ≡ Some (bytes_in tap.passed) → sent ≡ Some (bytes_in spout.passed) → IsBeginning received sent
 bytes_begin spout tap received sent more order came went = record {
   bytes = bytes_in tap.passed;
   more = bytes_in more;
   came = came;
-  went = went ∙ ap (λ (z : List ℕ). Some z) (ap bytes_in order ∙ flat_map-append (λ (p : Vec ℕ). p.items) tap.passed more);
+  went = went ∙ ap (λ (z : List ℕ). Some z) (ap bytes_in order ∙ flat_map-append (λ (p : Chunk). p.bytes.items) tap.passed more);
 }
 
 -- an end whose lanes are those of before
-pub same_end : (spout tap more other : TapEnd (Vec ℕ)) (downs : ℕ) (hung_up : Bool) (end : LaneEnd) → end_over spout tap downs hung_up ≡ end → more.id ≡ spout.id → other.id ≡ tap.id → SameEnd end (end_over more other downs hung_up)
+pub same_end : (spout tap more other : TapEnd Chunk) (downs : ℕ) (hung_up : Bool) (end : LaneEnd) → end_over spout tap downs hung_up ≡ end → more.id ≡ spout.id → other.id ≡ tap.id → SameEnd end (end_over more other downs hung_up)
 same_end spout tap more other downs hung_up end is sends receives = record {
   sends_to = sends ∙ ap (λ (z : LaneEnd). z.sends_to) is;
   receives_from = receives ∙ ap (λ (z : LaneEnd). z.receives_from) is;
 }
+
+sent_none : (told : Option (List ℕ)) → told ≡ and_then told []
+sent_none None = refl
+sent_none (Some before) = ap (λ (z : List ℕ). Some z) (sym (append-nil before))
+
+-- of no bytes nothing is sent
+pub nothing_sent : (l : LinkView) (bytes : List ℕ) → bytes ≡ [] → l ≡ with_sent l bytes
+nothing_sent l bytes none = ap (λ (z : Option (List ℕ)). record l { sent = z }) (sent_none l.sent) ∙ ap (with_sent l) (sym none)
+
+-- there is one at least
+pub some_bytes : (l bytes : List ℕ) (b : Bool) → l ≡ bytes → b ≡ (length bytes == 0) → b ≡ false → 0 < length l
+some_bytes l [] b same is so = absurd (false≢true (sym so ∙ is))
+some_bytes l (x ∷ xs) b same is so = let len = ap length same in omega (arith, len)

@@ -1,14 +1,14 @@
 -- ends of a link over lanes
 use Rattle.std.specs.Prelude.{◌≡◌, ◌++◌, ℕ, false, List, [], Option, Some}
 use Rattle.std.specs.List.{flat_map}
-use Rattle.std.specs.Global.{Vec}
 use Rattle.atomic_table.specs.Seated.{TableId}
 use Rattle.mr_lane.specs.Tap.{TapEnd}
+use Rattle.mr_link.specs.declared.chunk.Chunk.{Chunk}
 use Rattle.mr_link.specs.Link.{LinkView, with_down}
 
 -- the bytes of these pieces
-abbrev pub bytes_in : List (Vec ℕ) → List ℕ
-bytes_in pieces = flat_map (λ (piece : Vec ℕ). piece.items) pieces
+abbrev pub bytes_in : List Chunk → List ℕ
+bytes_in pieces = flat_map (λ (piece : Chunk). piece.bytes.items) pieces
 
 -- an end: the lane to which it sends, the one from which it receives, how many pieces may wait for its other end, and what it tells
 pub record LaneEnd : Type 0 where
@@ -29,7 +29,7 @@ abbrev pub new_link : LinkView
 new_link = record { received = Some []; sent = Some []; downs = 0; hung_up = false }
 
 -- a new end over these lanes
-pub record IsEndOf (spout tap : TapEnd (Vec ℕ)) (end : LaneEnd) : Type 0 where
+pub record IsEndOf (spout tap : TapEnd Chunk) (end : LaneEnd) : Type 0 where
   pub sends_to : end.sends_to ≡ spout.id
   pub receives_from : end.receives_from ≡ tap.id
   pub capacity : end.capacity ≡ spout.capacity

@@ -1,9 +1,10 @@
 //! Two links of one process, joined by two lanes.
-ghost use Rattle.std.specs.Prelude.{◌≡◌, ◌<◌, ◌+◌, ◌^◌, ◌⊎◌, ◌↔◌, [], IfOk, Err};
+ghost use Rattle.std.specs.Prelude.{◌≡◌, ◌<◌, ◌+◌, ◌^◌, ◌⊎◌, ◌↔◌, [], IfOk, IsErr, Err, length, true};
 ghost use Rattle.mr_feed.specs.declared.port.TheConstants.{MAX_CAPACITY};
 ghost use Rattle.mr_link.specs.Link.{Sends, Receives, with_hang_up};
 ghost use Rattle.mr_link.specs.LaneLink.{AreEnds, AreJoined, AreSettled, IsEndOf, SameEnd, lane_tells, is_down};
 
+use crate::chunk::{Chunk, chunk_of};
 use crate::link::{Link, LinkFault};
 use crossbeam_utils::CachePadded;
 use mr_lane::{Drawn, LaneFault, SendFault, Spout, Tap, tap, tap_settle};
@@ -20,12 +21,13 @@ type HungUp = Arc<CachePadded<AtomicBool>, Global>;
 /// that it sent and received.
 ///
 /// A send waits until its bytes have a place, and a receive until there are any. After a `hang_up` of either end each
-/// send is `LinkDown`, and so is a receive once nothing waits: what was sent before is received after it.
+/// send is `LinkDown`, and so is a receive once nothing waits: what was sent before is received after it. Of no bytes a send sends
+/// nothing, and takes no place.
 #[derive(Drop)]
 pub struct LaneLink<R> {
     rt: R,
-    spout: Spout<Vec<u8>, R>,
-    tap: Tap<Vec<u8>, R>,
+    spout: Spout<Chunk, R>,
+    tap: Tap<Chunk, R>,
     hung_up: HungUp,
     downs: u64,
     has_hung_up: bool,
@@ -60,10 +62,28 @@ impl<R> LaneLink<R> {
 }
 
 impl<R: Wait> LaneLink<R> {
-    /// Whether an end has hung up.
-    fn is_hung_up(&self) -> bool {
+    /// Whether an end has hung up: this one, or the other.
+    fn is_hung_up(&self) -> bool
+        ensures { (lane_tells self.now).hung_up ≡ true → result ≡ true }
+    {
+        if self.has_hung_up {
+            return true;
+        }
         let flag: &AtomicBool = &self.hung_up;
         flag.load(Ordering::SeqCst)
+    }
+
+    /// Sends no byte, which needs no place.
+    fn send_nothing(&mut self) -> Result<(), LinkFault>
+        requires count { (lane_tells self.old).downs + 1 < 2 ^ 64 }
+        ensures sends { Sends (lane_tells self.old) [] result (lane_tells self.new) }
+        ensures ended { (lane_tells self.old).hung_up ≡ true → IsErr result }
+        ensures same { SameEnd self.old self.new }
+    {
+        if self.is_hung_up() {
+            return Err(self.found_down());
+        }
+        Ok(())
     }
 
     /// Counts that the link was found down.
@@ -83,8 +103,12 @@ impl<R: Wait + Copy> Link for LaneLink<R> {
     fn send(&mut self, alloc: Global, bytes: &[u8]) -> Result<(), LinkFault>
         requires count { (lane_tells self.old).downs + 1 < 2 ^ 64 }
         ensures sends { Sends (lane_tells self.old) bytes.now result (lane_tells self.new) }
+        ensures ended { (lane_tells self.old).hung_up ≡ true → IsErr result }
         ensures same { SameEnd self.old self.new }
     {
+        if bytes.is_empty() {
+            return self.send_nothing();
+        }
         let Ok(mut piece) = Vec::from_slice(alloc, bytes) else {
             return Err(LinkFault::OutOfMemory);
         };
@@ -93,10 +117,10 @@ impl<R: Wait + Copy> Link for LaneLink<R> {
             if self.is_hung_up() {
                 return Err(self.found_down());
             }
-            match self.spout.offer(piece) {
+            match self.spout.offer(chunk_of(piece)) {
                 Ok(()) => return Ok(()),
                 Err(SendFault::Full(back)) => {
-                    piece = back;
+                    piece = back.bytes;
                     thread::yield_now();
                 }
                 Err(SendFault::Ended(_)) => return Err(self.found_down()),
@@ -108,13 +132,14 @@ impl<R: Wait + Copy> Link for LaneLink<R> {
     fn receive(&mut self, _alloc: Global) -> Result<Vec<u8>, LinkFault>
         requires count { (lane_tells self.old).downs + 1 < 2 ^ 64 }
         ensures receives { Receives (lane_tells self.old) result (lane_tells self.new) }
+        ensures some { IfOk result (λ piece. 0 < length piece.items) }
         ensures same { SameEnd self.old self.new }
     {
         let rt = self.rt;
         for _ in rt.forever() {
             let hung_up = self.is_hung_up();
             match self.tap.take() {
-                Drawn::Item(piece) => return Ok(piece),
+                Drawn::Item(piece) => return Ok(piece.bytes),
                 Drawn::Closed => return Err(self.found_down()),
                 Drawn::Empty => {}
             }
@@ -175,7 +200,7 @@ pub fn link_settle<R: Wait + Copy>(here: LaneLink<R>, there: LaneLink<R>)
 }
 
 /// An end over these lanes, over which nothing has passed.
-fn new_end<R>(rt: R, spout: Spout<Vec<u8>, R>, tap: Tap<Vec<u8>, R>, hung_up: HungUp) -> LaneLink<R>
+fn new_end<R>(rt: R, spout: Spout<Chunk, R>, tap: Tap<Chunk, R>, hung_up: HungUp) -> LaneLink<R>
     requires sent { spout.passed ≡ [] }
     requires received { tap.passed ≡ [] }
     ensures { IsEndOf spout tap result }

@@ -17,6 +17,7 @@
 //! ```
 #![tactic(auto)]
 
+mod chunk;
 mod gate;
 mod lane_links;
 mod link;

@@ -1,5 +1,5 @@
 //! What a node's link has to do.
-ghost use Rattle.std.specs.Prelude.{◌≡◌, ◌<◌, ◌+◌, ◌^◌};
+ghost use Rattle.std.specs.Prelude.{◌≡◌, ◌<◌, ◌+◌, ◌^◌, IfOk, length};
 ghost use Rattle.mr_link.specs.Link.{LinkView, Sends, Receives, with_hang_up};
 ghost use Rattle.mr_link.specs.Fault.{link_number};
 
@@ -37,15 +37,17 @@ pub trait Link: Drop {
     /// What it tells.
     ghost tells: { Self → LinkView };
 
-    /// Sends all the bytes, or none.
+    /// Sends all the bytes, or none. Of no bytes it sends nothing.
     fn send(&mut self, alloc: Global, bytes: &[u8]) -> Result<(), LinkFault>
         requires count { (tells self.old).downs + 1 < 2 ^ 64 }
         ensures sends { Sends (tells self.old) bytes.now result (tells self.new) };
 
-    /// Some bytes of the stream, as many as it likes.
+    /// Some bytes of the stream, as many as it likes, and at least one: so who reads until something has come gets on with each call, or
+    /// is told that the link is down.
     fn receive(&mut self, alloc: Global) -> Result<Vec<u8>, LinkFault>
         requires count { (tells self.old).downs + 1 < 2 ^ 64 }
-        ensures receives { Receives (tells self.old) result (tells self.new) };
+        ensures receives { Receives (tells self.old) result (tells self.new) }
+        ensures some { IfOk result (λ piece. 0 < length piece.items) };
 
     /// Ends the link, so that nobody waits at its other end. What it sent and received stays the same.
     fn hang_up(&mut self)
