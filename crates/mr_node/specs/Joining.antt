@@ -38,3 +38,4 @@ module _ {C L M G : Type 0} where
     pub notifier : node.notifier ≡ end.notifier.subscriber
     pub indexer_taken : node.taken.indexer ≡ end.indexer.taken
     pub notifier_taken : node.taken.notifier ≡ end.notifier.taken
+    pub capacity : node.capacity ≡ end.capacity

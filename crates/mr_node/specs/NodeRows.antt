@@ -86,6 +86,7 @@ end_of n heard unheard took = record {
   taken = record { indexer = took; notifier = took };
   indexer = record { fold = []; kept = None };
   notifier = record { fold = []; kept = None };
+  capacity = 4;
 }
 
 -- The user says one letter to a machine that has counted five: it has counted six, and the user has its reply.

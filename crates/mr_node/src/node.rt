@@ -67,6 +67,8 @@ pub struct NodeEnd<C> {
     pub taken: NodeTaken,
     pub indexer: Indexer,
     pub notifier: Notifier,
+    /// How many places each of its lanes had.
+    pub capacity: usize,
 }
 
 /// Why a node came to nothing.
@@ -138,6 +140,7 @@ pub fn run_node<
     requires second_count { (M.tells parts.second_link.link).downs + 1 < 2 ^ 64 }
     ensures ran { IfOk result (λ r. ReplicaNodeRan K.form L.tells M.tells (G.closes gate.now) (G.has_let gate.now) parts r.0 r.1 r.2) }
     ensures hung_up { IfOk result (λ r. ((L.tells r.1).hung_up ≡ true) × ((M.tells r.2).hung_up ≡ true)) }
+    ensures capacity { IfOk result (λ r. r.0.capacity ≡ capacity) }
     ensures no_capacity { (result ≡ Err (NodeFault.NoCapacity parts)) ↔ ((capacity ≡ 0) ⊎ (MAX_CAPACITY < capacity)) }
     ensures fault { IfErr result (λ fault. (fault ≡ NodeFault.OutOfMemory) ⊎ (fault ≡ NodeFault.NoCapacity parts)) }
 {
@@ -176,6 +179,7 @@ fn with_replica<K: Knowledge>(end: NodeEnd<ReplicaMachine<K>>) -> NodeEnd<Replic
         taken,
         indexer,
         notifier,
+        capacity,
     } = end;
     NodeEnd {
         replica: replica.into_replica(),
@@ -183,6 +187,7 @@ fn with_replica<K: Knowledge>(end: NodeEnd<ReplicaMachine<K>>) -> NodeEnd<Replic
         taken,
         indexer,
         notifier,
+        capacity,
     }
 }
 
@@ -203,6 +208,7 @@ fn run_parts<
     requires first_count { (L.tells parts.first_link.link).downs + 1 < 2 ^ 64 }
     requires second_count { (M.tells parts.second_link.link).downs + 1 < 2 ^ 64 }
     ensures hung_up { IfSome result (λ r. ((L.tells r.1).hung_up ≡ true) × ((M.tells r.2).hung_up ≡ true)) }
+    ensures capacity { IfSome result (λ r. r.0.capacity ≡ capacity) }
     ensures ran { IfSome result (λ r. NodeRan C.steps C.feed_of L.tells M.tells (G.closes gate.now) (G.has_let gate.now) parts r.0 r.1 r.2) }
 {
     let roles = roles_of(alloc, parts, gate);
@@ -263,6 +269,7 @@ fn run_in_scope<
     requires { AreReady L.tells M.tells roles }
     ensures ran { IfSome result (λ end. RolesRan C.steps C.feed_of SaysLetters (Runs L.tells G.closes G.has_let) (Runs M.tells G.closes G.has_let) HasCards ListsUnseen roles.entry end) }
     ensures hung_up { IfSome result (λ end. HaveHungUp (λ _. Unit {0}) (HasHungUp L.tells) (HasHungUp M.tells) end.user.speaker end.first_link.speaker end.second_link.speaker) }
+    ensures capacity { IfSome result (λ end. end.capacity ≡ capacity) }
 {
     let given_up = AtomicBool::new(false);
     let flag = &given_up;
@@ -274,6 +281,7 @@ fn run_in_scope<
             requires ready { AreReady L.tells M.tells roles }
             ensures ran { IfSome result (λ end. RolesRan C.steps C.feed_of SaysLetters (Runs L.tells G.closes G.has_let) (Runs M.tells G.closes G.has_let) HasCards ListsUnseen roles.entry end) }
             ensures hung_up { IfSome result (λ end. HaveHungUp (λ _. Unit {0}) (HasHungUp L.tells) (HasHungUp M.tells) end.user.speaker end.first_link.speaker end.second_link.speaker) }
+            ensures capacity { IfSome result (λ end. end.capacity ≡ capacity) }
         {
             match run_roles(rt, scope, flag, alloc, roles, capacity) {
                 Ok(end) => Some(end),
@@ -296,6 +304,7 @@ fn node_end<C: Machine<Event, Answer>, L: Link, M: Link, G: Gate>(
         second_link,
         indexer,
         notifier,
+        capacity,
     } = end;
     let node = NodeEnd {
         replica: machine,
@@ -310,6 +319,7 @@ fn node_end<C: Machine<Event, Answer>, L: Link, M: Link, G: Gate>(
         },
         indexer: indexer.subscriber,
         notifier: notifier.subscriber,
+        capacity,
     };
     (
         node,

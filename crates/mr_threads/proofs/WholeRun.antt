@@ -1,5 +1,5 @@
 -- What follows for roles whose parts have all run whole.
-use Rattle.std.proofs.Common.{◌≡◌, Bool, true, false, ◌&&◌, true≢false, List, [], ◌∷◌, ◌++◌, sym, refl, ap, subst, ◌∙◌}
+use Rattle.std.proofs.Common.{◌≡◌, ℕ, Bool, true, false, ◌&&◌, true≢false, List, [], ◌∷◌, ◌++◌, sym, refl, ap, subst, ◌∙◌}
 use Rattle.std.specs.Prelude.{IsTrue}
 use Rattle.mr_mail.specs.Mail.{MailCard}
 use Rattle.mr_model.specs.Headline.{Cards}
@@ -68,14 +68,15 @@ took shows entries old end ran whole same =
     (record { taken = h.taken; applied = h.applied; none_kept = h.none_kept })
 
 -- what roles come to
-abbrev pub end_of : {M E A S P Q F G R : Type 0} → Ends M E A S P Q F G R → M → RolesEnd M A S P Q F G
-end_of ends machine = record {
+abbrev pub end_of : {M E A S P Q F G R : Type 0} → ℕ → Ends M E A S P Q F G R → M → RolesEnd M A S P Q F G
+end_of capacity ends machine = record {
   machine = machine;
   user = spoken_of ends.user;
   first_link = spoken_of ends.first_link;
   second_link = spoken_of ends.second_link;
   indexer = heard_of ends.indexer;
   notifier = heard_of ends.notifier;
+  capacity = capacity;
 }
 
 -- the parts have all run whole
@@ -108,17 +109,17 @@ all_whole ends h =
 
 module _ {M E A S P Q F G R : Type 0} (steps : M → E → A → M → Type 0) (feed_of : M → List Entry) (user_speaks : S → List (Said E A) → S → Type 0) (first_speaks : P → List (Said E A) → P → Type 0) (second_speaks : Q → List (Said E A) → Q → Type 0) (index : F → Cards MailCard → Type 0) (notice : G → Cards MailCard → Type 0) where
   -- an interleaving of what whole parts sent and took is what their roles come to
-  pub roles_ran : (roles : Roles M S P Q) (parts : Parts M E A S P Q F G R) (ends : Ends M E A S P Q F G R) (machine : M) → IsOutfit roles parts
+  pub roles_ran : (capacity : ℕ) (roles : Roles M S P Q) (parts : Parts M E A S P Q F G R) (ends : Ends M E A S P Q F G R) (machine : M) → IsOutfit roles parts
       → AllRan steps feed_of user_speaks first_speaks second_speaks index notice parts ends → AreWhole ends
       → IsInterleaving steps feed_of parts.core.machine ends.user.voice.talk.post.sent ends.first_link.voice.talk.post.sent ends.second_link.voice.talk.post.sent
       machine ends.user.voice.talk.tap.passed ends.first_link.voice.talk.tap.passed ends.second_link.voice.talk.tap.passed ends.indexer.listener.tap.passed ends.notifier.listener.tap.passed
-      → RolesRan steps feed_of user_speaks first_speaks second_speaks index notice roles (end_of ends machine)
-  roles_ran roles parts ends machine fits ran whole inter = record {
+      → RolesRan steps feed_of user_speaks first_speaks second_speaks index notice roles (end_of capacity ends machine)
+  roles_ran capacity roles parts ends machine fits ran whole inter = record {
     exchanges = inter.exchanges;
     replays = subst (λ m. Replays steps m inter.exchanges machine) fits.machine inter.replays;
-    user = subst (λ s. HadConversation user_speaks s (said_by User inter.exchanges) (end_of ends machine).user) fits.user (had user_speaks User inter.exchanges parts.user ends.user ran.user whole.user inter.user_said inter.user_heard);
-    first_link = subst (λ s. HadConversation first_speaks s (said_by FirstLink inter.exchanges) (end_of ends machine).first_link) fits.first_link (had first_speaks FirstLink inter.exchanges parts.first_link ends.first_link ran.first_link whole.first_link inter.first_said inter.first_heard);
-    second_link = subst (λ s. HadConversation second_speaks s (said_by SecondLink inter.exchanges) (end_of ends machine).second_link) fits.second_link (had second_speaks SecondLink inter.exchanges parts.second_link ends.second_link ran.second_link whole.second_link inter.second_said inter.second_heard);
+    user = subst (λ s. HadConversation user_speaks s (said_by User inter.exchanges) (end_of capacity ends machine).user) fits.user (had user_speaks User inter.exchanges parts.user ends.user ran.user whole.user inter.user_said inter.user_heard);
+    first_link = subst (λ s. HadConversation first_speaks s (said_by FirstLink inter.exchanges) (end_of capacity ends machine).first_link) fits.first_link (had first_speaks FirstLink inter.exchanges parts.first_link ends.first_link ran.first_link whole.first_link inter.first_said inter.first_heard);
+    second_link = subst (λ s. HadConversation second_speaks s (said_by SecondLink inter.exchanges) (end_of capacity ends machine).second_link) fits.second_link (had second_speaks SecondLink inter.exchanges parts.second_link ends.second_link ran.second_link whole.second_link inter.second_said inter.second_heard);
     entries = inter.entries;
     grows = inter.grows ∙ ap (λ m. feed_of m ++ inter.entries) fits.machine;
     indexer = took index inter.entries parts.indexer ends.indexer ran.indexer whole.indexer inter.indexer;
@@ -151,18 +152,18 @@ module _ {M E A S P Q F G R : Type 0} (steps : M → E → A → M → Type 0) (
   }
 
   -- the same, of ends of lanes and of what they come to that are equal to those
-  pub settled_ran : (roles : Roles M S P Q) (parts : Parts M E A S P Q F G R) (ends : Ends M E A S P Q F G R) (machine : M) (posts : Posts E) (taps : Taps A R) (feed_taps : FeedTaps R) (end : RolesEnd M A S P Q F G)
+  pub settled_ran : (capacity : ℕ) (roles : Roles M S P Q) (parts : Parts M E A S P Q F G R) (ends : Ends M E A S P Q F G R) (machine : M) (posts : Posts E) (taps : Taps A R) (feed_taps : FeedTaps R) (end : RolesEnd M A S P Q F G)
       → posts ≡ posts_of ends.user.voice.talk ends.first_link.voice.talk ends.second_link.voice.talk
       → taps ≡ taps_of ends.user.voice.talk ends.first_link.voice.talk ends.second_link.voice.talk
       → feed_taps ≡ feed_taps_of ends.indexer.listener ends.notifier.listener
-      → end ≡ end_of ends machine
+      → end ≡ end_of capacity ends machine
       → IsOutfit roles parts → AllRan steps feed_of user_speaks first_speaks second_speaks index notice parts ends → AreWhole ends
       → IsInterleaving steps feed_of parts.core.machine posts.user.sent posts.first_link.sent posts.second_link.sent
       machine taps.user.passed taps.first_link.passed taps.second_link.passed feed_taps.indexer.passed feed_taps.notifier.passed
       → RolesRan steps feed_of user_speaks first_speaks second_speaks index notice roles end
-  settled_ran roles parts ends machine posts taps feed_taps end same_posts same_taps same_feed_taps same_end fits ran whole inter =
+  settled_ran capacity roles parts ends machine posts taps feed_taps end same_posts same_taps same_feed_taps same_end fits ran whole inter =
       let Told : Posts E → Taps A R → FeedTaps R → Type 0 = λ p t f. IsInterleaving steps feed_of parts.core.machine p.user.sent p.first_link.sent p.second_link.sent machine t.user.passed t.first_link.passed t.second_link.passed f.indexer.passed f.notifier.passed in
       let one : Told (posts_of ends.user.voice.talk ends.first_link.voice.talk ends.second_link.voice.talk) taps feed_taps = subst (λ p. Told p taps feed_taps) same_posts inter in
       let two : Told (posts_of ends.user.voice.talk ends.first_link.voice.talk ends.second_link.voice.talk) (taps_of ends.user.voice.talk ends.first_link.voice.talk ends.second_link.voice.talk) feed_taps = subst (λ t. Told (posts_of ends.user.voice.talk ends.first_link.voice.talk ends.second_link.voice.talk) t feed_taps) same_taps one in
       let three : Told (posts_of ends.user.voice.talk ends.first_link.voice.talk ends.second_link.voice.talk) (taps_of ends.user.voice.talk ends.first_link.voice.talk ends.second_link.voice.talk) (feed_taps_of ends.indexer.listener ends.notifier.listener) = subst (λ f. Told (posts_of ends.user.voice.talk ends.first_link.voice.talk ends.second_link.voice.talk) (taps_of ends.user.voice.talk ends.first_link.voice.talk ends.second_link.voice.talk) f) same_feed_taps two in
-      subst (λ e. RolesRan steps feed_of user_speaks first_speaks second_speaks index notice roles e) (sym same_end) (roles_ran roles parts ends machine fits ran whole three)
+      subst (λ e. RolesRan steps feed_of user_speaks first_speaks second_speaks index notice roles e) (sym same_end) (roles_ran capacity roles parts ends machine fits ran whole three)

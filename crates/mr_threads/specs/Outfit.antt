@@ -1,5 +1,5 @@
 -- new lanes, and parts at their ends
-use Rattle.std.specs.Prelude.{◌≡◌, false, List, []}
+use Rattle.std.specs.Prelude.{◌≡◌, ℕ, false, List, []}
 use Rattle.mr_feed.specs.declared.entry.Entry.{Entry}
 use Rattle.mr_lane.specs.declared.post.Posts.{Posts}
 use Rattle.mr_lane.specs.Post.{PostView}
@@ -18,22 +18,24 @@ use Rattle.mr_threads.specs.declared.running.Parts.{Parts}
 use Rattle.mr_threads.specs.declared.outfit.Lanes.{Lanes}
 use Rattle.mr_threads.specs.declared.roles.Roles.{Roles}
 
--- two ends of one tap, which nothing has passed
-pub record IsNewTap {T : Type 0} (spout tap : TapEnd T) : Type 0 where
+-- two ends of one tap with so many places, which nothing has passed
+pub record IsNewTap {T : Type 0} (capacity : ℕ) (spout tap : TapEnd T) : Type 0 where
   pub id : spout.id ≡ tap.id
+  pub places : spout.capacity ≡ capacity
+  pub same_places : tap.capacity ≡ capacity
   pub offered : spout.passed ≡ []
   pub unclosed : spout.closed ≡ false
   pub taken : tap.passed ≡ []
 
 -- the same of a tap for each sender, and for each subscriber
-pub record AreNewReplies {A R : Type 0} (replies : Replies A R) (taps : Taps A R) : Type 0 where
-  pub user : IsNewTap replies.user taps.user
-  pub first_link : IsNewTap replies.first_link taps.first_link
-  pub second_link : IsNewTap replies.second_link taps.second_link
+pub record AreNewReplies {A R : Type 0} (capacity : ℕ) (replies : Replies A R) (taps : Taps A R) : Type 0 where
+  pub user : IsNewTap capacity replies.user taps.user
+  pub first_link : IsNewTap capacity replies.first_link taps.first_link
+  pub second_link : IsNewTap capacity replies.second_link taps.second_link
 
-pub record AreNewFeeds {R : Type 0} (feeds : Feeds R) (taps : FeedTaps R) : Type 0 where
-  pub indexer : IsNewTap feeds.indexer taps.indexer
-  pub notifier : IsNewTap feeds.notifier taps.notifier
+pub record AreNewFeeds {R : Type 0} (capacity : ℕ) (feeds : Feeds R) (taps : FeedTaps R) : Type 0 where
+  pub indexer : IsNewTap capacity feeds.indexer taps.indexer
+  pub notifier : IsNewTap capacity feeds.notifier taps.notifier
 
 -- a post that has sent nothing
 pub record IsNewPost {E : Type 0} (post : PostView E) : Type 0 where
@@ -48,11 +50,11 @@ pub record AreNewPosts {E : Type 0} (desk : DeskView E) (posts : Posts E) : Type
   pub first_link : IsNewPost posts.first_link
   pub second_link : IsNewPost posts.second_link
 
--- new lanes
+-- new lanes, each with as many places as the inbox
 pub record AreNewLanes {E A R : Type 0} (lanes : Lanes E A R) : Type 0 where
   pub posts : AreNewPosts lanes.desk lanes.posts
-  pub replies : AreNewReplies lanes.replies lanes.taps
-  pub feeds : AreNewFeeds lanes.feeds lanes.feed_taps
+  pub replies : AreNewReplies lanes.desk.capacity lanes.replies lanes.taps
+  pub feeds : AreNewFeeds lanes.desk.capacity lanes.feeds lanes.feed_taps
 
 module _ {E A R : Type 0} where
   abbrev pub posts_of : Talk E A R → Talk E A R → Talk E A R → Posts E

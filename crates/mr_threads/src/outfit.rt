@@ -37,6 +37,7 @@ pub(crate) fn new_lanes<E: Drop, A: Drop, R: Copy>(
     capacity: usize,
 ) -> Result<Lanes<E, A, R>, LaneFault>
     ensures ok { IfOk result AreNewLanes }
+    ensures capacity { IfOk result (λ lanes. lanes.desk.capacity ≡ capacity) }
     ensures no_capacity { (result ≡ Err LaneFault.NoCapacity) ↔ ((capacity ≡ 0) ⊎ (MAX_CAPACITY < capacity)) }
 {
     let (posts, desk) = inbox(alloc, capacity)?;
@@ -58,7 +59,7 @@ fn new_replies<A: Drop, R: Copy>(
     alloc: Global,
     capacity: usize,
 ) -> Result<(Replies<A, R>, Taps<A, R>), LaneFault>
-    ensures ok { IfOk result (λ two. AreNewReplies two.0 two.1) }
+    ensures ok { IfOk result (λ two. AreNewReplies capacity two.0 two.1) }
     ensures no_capacity { (result ≡ Err LaneFault.NoCapacity) ↔ ((capacity ≡ 0) ⊎ (MAX_CAPACITY < capacity)) }
 {
     let (user_spout, user) = new_tap(rt, alloc, capacity)?;
@@ -83,7 +84,7 @@ fn new_feeds<R: Copy>(
     alloc: Global,
     capacity: usize,
 ) -> Result<(Feeds<R>, FeedTaps<R>), LaneFault>
-    ensures ok { IfOk result (λ two. AreNewFeeds two.0 two.1) }
+    ensures ok { IfOk result (λ two. AreNewFeeds capacity two.0 two.1) }
     ensures no_capacity { (result ≡ Err LaneFault.NoCapacity) ↔ ((capacity ≡ 0) ⊎ (MAX_CAPACITY < capacity)) }
 {
     let (indexer_spout, indexer) = new_tap(rt, alloc, capacity)?;
@@ -101,7 +102,7 @@ fn new_tap<T: Drop, R: Copy>(
     alloc: Global,
     capacity: usize,
 ) -> Result<(Spout<T, R>, Tap<T, R>), LaneFault>
-    ensures ok { IfOk result (λ ends. IsNewTap ends.0 ends.1) }
+    ensures ok { IfOk result (λ ends. IsNewTap capacity ends.0 ends.1) }
     ensures no_capacity { (result ≡ Err LaneFault.NoCapacity) ↔ ((capacity ≡ 0) ⊎ (MAX_CAPACITY < capacity)) }
 {
     tap(rt, alloc, capacity)
@@ -130,6 +131,7 @@ pub(crate) fn outfit<
     ensures new { AreNewParts S.is_ready P.is_ready Q.is_ready F.shows G.shows result }
     ensures joined { AreJoined result.core result.user.talk result.first_link.talk result.second_link.talk result.indexer result.notifier }
     ensures roles { IsOutfit roles result }
+    ensures desk { result.core.desk ≡ lanes.desk }
 {
     let Lanes {
         posts,

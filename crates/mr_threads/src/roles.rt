@@ -52,6 +52,8 @@ pub struct RolesEnd<M, A, S, P, Q, F, G> {
     pub second_link: Spoken<Q, A>,
     pub indexer: Heard<F>,
     pub notifier: Heard<G>,
+    /// How many places each of its lanes had.
+    pub capacity: usize,
 }
 
 /// Why a node's threads came to nothing.
@@ -112,6 +114,7 @@ pub fn run_roles<
     requires second_link { Q.is_ready roles.second_link }
     ensures ran { IfOk result (λ end. RolesRan M.steps M.feed_of S.speaks P.speaks Q.speaks F.shows G.shows roles end) }
     ensures hung_up { IfOk result (λ end. HaveHungUp S.has_hung_up P.has_hung_up Q.has_hung_up end.user.speaker end.first_link.speaker end.second_link.speaker) }
+    ensures capacity { IfOk result (λ end. end.capacity ≡ capacity) }
     ensures no_capacity { (result ≡ Err (RolesFault.NoCapacity roles)) ↔ ((capacity ≡ 0) ⊎ (MAX_CAPACITY < capacity)) }
     ensures fault { IfErr result (λ fault. (fault ≡ RolesFault.OutOfMemory) ⊎ (fault ≡ RolesFault.NoCapacity roles)) }
 {
@@ -154,7 +157,9 @@ fn run_parts<
     ensures ran { (roles : Roles M S P Q) → IsOutfit roles parts
         → IfSome result (λ end. RolesRan M.steps M.feed_of S.speaks P.speaks Q.speaks F.shows G.shows roles end) }
     ensures hung_up { IfSome result (λ end. HaveHungUp S.has_hung_up P.has_hung_up Q.has_hung_up end.user.speaker end.first_link.speaker end.second_link.speaker) }
+    ensures capacity { IfSome result (λ end. end.capacity ≡ parts.core.desk.capacity) }
 {
+    let capacity = parts.core.desk.capacity();
     let ends = run_all(rt, scope, given_up, parts)?;
-    settle_ends(ends)
+    settle_ends(ends, capacity)
 }

@@ -30,7 +30,7 @@ fn are_all_whole<M, E, A, S, P, Q, F, G, R>(ends: &Ends<M, E, A, S, P, Q, F, G, 
         && ends.notifier.whole
 }
 
-/// What the parts came to. `None` where one of them has not run whole.
+/// What the parts came to, over lanes of so many places. `None` where one of them has not run whole.
 pub(crate) fn settle_ends<
     E: Drop,
     A: Drop,
@@ -41,13 +41,14 @@ pub(crate) fn settle_ends<
     F: Fold,
     G: Fold,
     R: Drop,
->(ends: Ends<M, E, A, S, P, Q, F, G, R>) -> Option<RolesEnd<M, A, S, P, Q, F, G>>
+>(ends: Ends<M, E, A, S, P, Q, F, G, R>, capacity: usize) -> Option<RolesEnd<M, A, S, P, Q, F, G>>
     requires { AreJoined ends.core.core ends.user.voice.talk ends.first_link.voice.talk ends.second_link.voice.talk ends.indexer.listener ends.notifier.listener }
     ensures ran { (roles : Roles M S P Q) (parts : Parts M E A S P Q F G R) → IsOutfit roles parts
         → AreNewParts S.is_ready P.is_ready Q.is_ready F.shows G.shows parts
         → AllRan M.steps M.feed_of S.speaks P.speaks Q.speaks F.shows G.shows parts ends
         → IfSome result (λ end. RolesRan M.steps M.feed_of S.speaks P.speaks Q.speaks F.shows G.shows roles end) }
     ensures speakers { IfSome result (λ end. (end.user.speaker ≡ ends.user.voice.speaker) × (end.first_link.speaker ≡ ends.first_link.voice.speaker) × (end.second_link.speaker ≡ ends.second_link.voice.speaker)) }
+    ensures capacity { IfSome result (λ end. end.capacity ≡ capacity) }
 {
     if !are_all_whole(&ends) {
         return None;
@@ -87,6 +88,7 @@ pub(crate) fn settle_ends<
         second_link,
         indexer,
         notifier,
+        capacity,
     })
 }
 
