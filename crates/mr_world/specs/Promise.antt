@@ -10,6 +10,7 @@ use Rattle.mr_model.specs.Changes.{now}
 use Rattle.mr_model.specs.Rules.{In, IsRun}
 use Rattle.mr_model.specs.Headline.{Headline, IsSoundHolding, LosesNothing, RetiresClean}
 use Rattle.mr_model.specs.Laws.{KnowsDownward}
+use Rattle.mr_replica.specs.Replay.{IsItsLog}
 use Rattle.mr_replica.specs.State.{State, new_state}
 use Rattle.mr_replica.specs.declared.refusal.Refusal.TheVariants.{Forged}
 use Rattle.mr_wire.specs.Frames.{Sent}
@@ -93,7 +94,7 @@ module _ {K : Type 0} (form : Form K) where
 
   -- each answer says of versions what the sets of its moment say
   abbrev pub AnswersBySets : WorldView K → Type 0
-  AnswersBySets w = AreBySets form (filters_of w) w.answers
+  AnswersBySets w = AreBySets form (replica_at w.members) (filters_of w) w.answers
 
   -- all that a world promises
   pub record Promises (w : WorldView K) : Type 0 where
@@ -120,13 +121,14 @@ module _ {K : Type 0} (form : Form K) where
   abbrev pub whole_world : K → WorldView K → World K
   whole_world nothing w = world_of (unused_member nothing) (new_port 1) w
 
-  -- Its history is a run of the rules, and it agrees with the moment after it. Each answer was by sets, all is genuine, and
-  -- nothing was taken for forged.
+  -- Its history is a run of the rules, and it agrees with the moment after it. Each replica is its log, replayed. Each answer
+  -- was by sets, all is genuine, and nothing was taken for forged.
   pub record KeepsRules (w : WorldView K) : Type 0 where
     pub run : FollowsRules w
     pub nothing : K
     pub knows_nothing : AreSame (form.known nothing) (λ i v. false)
     pub agrees : Agrees form (filters_of w) (whole_world nothing w) (moment_of w)
+    pub its_logs : (r : ℕ) → IsItsLog form ((whole_world nothing w).replicas r)
     pub by_sets : AnswersBySets w
     pub genuine : IsGenuine form (moment_of w).issues (whole_world nothing w)
     pub none_forged : FindsNoneForged w

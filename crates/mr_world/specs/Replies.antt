@@ -13,7 +13,12 @@ use Rattle.mr_model.specs.Versions.{is_issued, item_of}
 use Rattle.mr_model.specs.declared.event.Act.{Act}
 use Rattle.mr_model.specs.declared.event.Act.TheVariants.{Pull, Receive, DeliverPart}
 use Rattle.mr_replica.specs.Fragments.{AreFragmentsOf}
+use Rattle.mr_replica.specs.Pull.{IsAskOf}
+use Rattle.mr_replica.specs.Replay.{Replays}
+use Rattle.mr_replica.specs.State.{State}
 use Rattle.mr_wire.specs.declared.frame.TheConstants.{MAX_ASKED_BYTES}
+use Rattle.mr_replica.specs.declared.event.Event.{Event as ReplicaEvent}
+use Rattle.mr_replica.specs.declared.event.Event.TheVariants as replica
 use Rattle.mr_replica.specs.declared.event.Reply.{Reply}
 use Rattle.mr_replica.specs.declared.event.Reply.TheVariants.{Asked, Known, Took}
 use Rattle.mr_session.specs.Stream.{claimed}
@@ -44,23 +49,35 @@ module _ {K : Type 0} (form : Form K) where
     pub are : AreFragmentsOf (form.is_part knowledge) fragments
     pub long : MAX_ASKED_BYTES < total_len (map piece_of fragments)
 
-  -- Of the issued versions a request claims none but those that r knows; and all of these, unless the fragments of a
-  -- knowledge of them are too long.
-  pub record ClaimsKnown (m : MailMoment) (r : ℕ) (ask : Question) : Type 0 where
+  -- The replica that came to this end made the request when the fragments of what it knew were too long: a fresh one that
+  -- admits its log up to then makes this very request, knows what r knew, and its fragments are too long; and the log goes
+  -- on with the request.
+  pub record AskedTooLong (m : MailMoment) (r : ℕ) (end : State K) (ask : Question) : Type 0 where
+    pub earlier : State K
+    pub later : List ReplicaEvent
+    pub replays : Replays form end.id end.filter end.event_limit earlier.log earlier
+    pub log : end.log ≡ earlier.log ++ replica.Pull ∷ later
+    pub asks : IsAskOf form earlier ask
+    pub knows : Shows m.issues (form.known earlier.knowledge) (known m r)
+    pub long : IsTooLong earlier.knowledge
+
+  -- Of the issued versions a request claims none but those that r knows; and all of these, unless the fragments of what r
+  -- knew then were too long. The replicas are now as these ends.
+  pub record ClaimsKnown (ends : ℕ → Option (State K)) (m : MailMoment) (r : ℕ) (ask : Question) : Type 0 where
     pub no_more : (v : Name) → IsTrue (is_issued m.issues v) → IsTrue (claimed ask.fragments (item_of m.issues v) v) → IsTrue (known m r v)
     pub all : ((v : Name) → IsTrue (is_issued m.issues v) → IsTrue (known m r v) → IsTrue (claimed ask.fragments (item_of m.issues v) v))
-        ⊎ (knowledge : K) × Shows m.issues (form.known knowledge) (known m r) × IsTooLong knowledge
+        ⊎ (end : State K) × (ends r ≡ Some end) × AskedTooLong m r end ask
 
   -- ---- answers
 
-  -- what is answered to an act of r at the moment m
-  abbrev pub IsBySets : MailMoment → ℕ → Act Mail → Answer → Type 0
-  IsBySets m r Pull (Stepped (Ok (Asked ask))) = ClaimsKnown m r ask
-  IsBySets m r (Receive n) (Stepped (Ok reply)) = TellsWhetherKnown m r reply (numbered m.given n)
-  IsBySets m r (DeliverPart n bytes) (Stepped (Ok reply)) = TellsWhetherKnown m r reply (numbered m.given n)
-  IsBySets m r act answer = Unit {0}
+  -- what is answered to an act of r at the moment m, of replicas that came to these ends
+  abbrev pub IsBySets : (ℕ → Option (State K)) → MailMoment → ℕ → Act Mail → Answer → Type 0
+  IsBySets ends m r Pull (Stepped (Ok (Asked ask))) = ClaimsKnown ends m r ask
+  IsBySets ends m r (Receive n) (Stepped (Ok reply)) = TellsWhetherKnown m r reply (numbered m.given n)
+  IsBySets ends m r (DeliverPart n bytes) (Stepped (Ok reply)) = TellsWhetherKnown m r reply (numbered m.given n)
+  IsBySets ends m r act answer = Unit {0}
 
   -- so is each of the answers, at the moment after those before it
-  abbrev pub AreBySets : (ℕ → List ClauseParts) → List Answered → Type 0
-  AreBySets filters answers =
-      (before later : List Answered) (x : Answered) → answers ≡ before ++ x ∷ later → IsBySets (now (setting_of filters) (history filters before)) x.event.replica x.event.act x.answer
+  abbrev pub AreBySets : (ℕ → Option (State K)) → (ℕ → List ClauseParts) → List Answered → Type 0
+  AreBySets ends filters answers =
+      (before later : List Answered) (x : Answered) → answers ≡ before ++ x ∷ later → IsBySets ends (now (setting_of filters) (history filters before)) x.event.replica x.event.act x.answer

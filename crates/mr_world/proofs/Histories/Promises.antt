@@ -18,10 +18,10 @@ use Rattle.mr_model.proofs.Theorem.{headline_holds, is_sound, loses_nothing, run
 use Rattle.mr_replica.specs.State.{State, new_state}
 use Rattle.mr_replica.specs.declared.refusal.Refusal.TheVariants as refusal
 use Rattle.mr_world.specs.Agrees.{Agrees, HoldingsAgree}
-use Rattle.mr_world.specs.Kept.{MemberView, WorldView, found_or, member_at, port_numbered}
+use Rattle.mr_world.specs.Kept.{MemberView, WorldView, found_or, member_at, port_numbered, replica_at}
 use Rattle.mr_world.specs.ListedItems.{IsGenuine}
 use Rattle.mr_world.specs.Moves.{Moves}
-use Rattle.mr_world.specs.Replies.{AreBySets, IsBySets}
+use Rattle.mr_world.specs.Replies.{AreBySets, AskedTooLong, IsBySets}
 use Rattle.mr_world.specs.Made.{IsMadeOf, IsMadeWorld}
 use Rattle.mr_world.specs.Promise.{FindsNoneForged, HoldsAsSeen, KeepsRules, Promises, filters_of, history_of, moment_of, setting_in, unused_member, whole_world}
 use Rattle.mr_world.specs.Run.{Happens, Leads, Meets, answered}
@@ -34,7 +34,8 @@ use Rattle.mr_world.specs.declared.answered.Answered.{Answered}
 use Rattle.mr_model.specs.declared.event.Event.{Event}
 use Rattle.mr_world.specs.declared.fault.WorldFault.{WorldFault}
 use Rattle.mr_world.specs.declared.spec.Spec.{Spec}
-use Rattle.mr_world.proofs.Histories.BySets.{is_by_sets, more_by_sets, none_by_sets}
+use Rattle.mr_world.proofs.Histories.BySets.{ShowsTooLong, by_sets_later, is_by_sets, more_by_sets, none_by_sets}
+use Rattle.mr_world.proofs.Histories.GoingOn.{GoesOn, all_go_on, found_is, fresh_log, has_asked, is_there, still_there}
 use Rattle.mr_world.proofs.Histories.Genuine.{fresh_genuine, one_more_genuine}
 use Rattle.mr_world.proofs.Moving.Refinement.{refines}
 use Rattle.mr_world.proofs.Groundwork.Tools.{find_in, some_path}
@@ -119,7 +120,8 @@ module _ {K : Type 0} (form : Form K) where
       nothing = nothing;
       knows_nothing = knows;
       agrees = subst (λ (xs : List Answered). Agrees form (filters_of w) (whole_world form nothing w) (now (setting_in w) (history (filters_of w) xs))) (sym made.answers) (fresh_agrees form (filters_of w) (whole_world form nothing w) fresh_world);
-      by_sets = none_by_sets form (filters_of w) w.answers made.answers;
+      its_logs = λ r. fresh_log form (filters_of w) r ((whole_world form nothing w).replicas r) (fresh_there r);
+      by_sets = none_by_sets form (filters_of w) (replica_at w.members) w.answers made.answers;
       genuine = subst (λ (xs : List Answered). IsGenuine form (now (setting_in w) (history (filters_of w) xs)).issues (whole_world form nothing w)) (sym made.answers) (fresh_genuine form (filters_of w) (whole_world form nothing w) fresh_world);
       none_forged = λ x i. elim (subst (In x) made.answers i) [ ];
     }
@@ -136,10 +138,35 @@ module _ {K : Type 0} (form : Form K) where
     step : IsRun (setting_in w) start (history_of w ++ seen_step (moment_of w) x ∷ []) × Agrees form (filters_of w) (whole_world form k.nothing w') (now (setting_in w) (history_of w ++ seen_step (moment_of w) x ∷ []))
     step = one_more form (filters_of w) (whole_world form k.nothing w) (whole_world form k.nothing w') (history_of w) x k.run k.agrees moves
 
-    by_sets : IsBySets form (moment_of w) e.replica e.act answer
+    goes_on : (r : ℕ) → GoesOn form ((whole_world form k.nothing w).replicas r) ((whole_world form k.nothing w').replicas r)
+    goes_on r = all_go_on form (whole_world form k.nothing w) (whole_world form k.nothing w') e answer moves r
+
+    -- who was there is there, and went on
+    members_go_on : (r : ℕ) (s : State K) → replica_at w.members r ≡ Some s → (t : State K) × (replica_at w'.members r ≡ Some t) × GoesOn form s t
+    members_go_on r s here =
+        let there = still_there w.members w'.members r s happens.ids here in
+        let old = found_is (unused_member form k.nothing r) w.members r s here in
+        let new = found_is (unused_member form k.nothing r) w'.members r there.0 there.1 in
+        (there.0, there.1, subst (λ (z : State K). GoesOn form z there.0) old (subst (λ (z : State K). GoesOn form ((whole_world form k.nothing w).replicas r) z) new (goes_on r)))
+
+    shows_too_long : ShowsTooLong form (filters_of w) (whole_world form k.nothing w) (whole_world form k.nothing w') (moment_of w) k.agrees (replica_at w'.members) e.replica
+    shows_too_long q move ask long =
+        let here = is_there w e happens.may in
+        let there = still_there w.members w'.members e.replica here.0 happens.ids here.1 in
+        let new = found_is (unused_member form k.nothing e.replica) w'.members e.replica there.0 there.1 in (
+          there.0,
+          there.1,
+          subst (λ (z : State K). AskedTooLong form (moment_of w) e.replica z q) new
+              (has_asked form (whole_world form k.nothing w) (whole_world form k.nothing w') (moment_of w) e.replica q move (k.its_logs e.replica) ask (k.agrees.holdings e.replica).knows long),
+        )
+
+    by_sets : IsBySets form (replica_at w'.members) (moment_of w) e.replica e.act answer
     by_sets =
         let allowed = refines form (filters_of w) (whole_world form k.nothing w) (moment_of w) (run_inv (setting_in w) (history_of w) k.run) k.agrees e answer (whole_world form k.nothing w') moves in
-        is_by_sets form (filters_of w) (whole_world form k.nothing w) (whole_world form k.nothing w') (moment_of w) k.agrees e.replica e.act answer allowed.0 moves
+        is_by_sets form (filters_of w) (whole_world form k.nothing w) (whole_world form k.nothing w') (moment_of w) k.agrees (replica_at w'.members) e.replica e.act answer shows_too_long allowed.0 moves
+
+    all_by_sets : AreBySets form (replica_at w'.members) (filters_of w) (w.answers ++ x ∷ [])
+    all_by_sets = more_by_sets form (filters_of w) (replica_at w'.members) w.answers x (by_sets_later form (filters_of w) (replica_at w.members) (replica_at w'.members) members_go_on w.answers k.by_sets) by_sets
 
     genuine : IsGenuine form (now (setting_in w) (history_of w ++ seen_step (moment_of w) x ∷ [])).issues (whole_world form k.nothing w') × (answer ≢ Stepped (Err refusal.Forged))
     genuine = one_more_genuine form (filters_of w) form_lists (whole_world form k.nothing w) (whole_world form k.nothing w') (history_of w) x k.run k.agrees k.genuine moves
@@ -165,8 +192,9 @@ module _ {K : Type 0} (form : Form K) where
       knows_nothing = k.knows_nothing;
       agrees = subst (λ (f : ℕ → List ClauseParts). Agrees form f (whole_world form k.nothing w') (now (setting_of f) (history f w'.answers))) same_filters
           (subst (λ (h : History Mail MailCard). Agrees form (filters_of w) (whole_world form k.nothing w') (now (setting_in w) h)) same_history step.1);
-      by_sets = subst (λ (f : ℕ → List ClauseParts). AreBySets form f w'.answers) same_filters
-          (subst (AreBySets form (filters_of w)) (sym happens.answers) (more_by_sets form (filters_of w) w.answers x k.by_sets by_sets));
+      its_logs = λ r. (goes_on r).its_log (k.its_logs r);
+      by_sets = subst (λ (f : ℕ → List ClauseParts). AreBySets form (replica_at w'.members) f w'.answers) same_filters
+          (subst (AreBySets form (replica_at w'.members) (filters_of w)) (sym happens.answers) all_by_sets);
       genuine = subst (λ (f : ℕ → List ClauseParts). IsGenuine form (now (setting_of f) (history f w'.answers)).issues (whole_world form k.nothing w')) same_filters
           (subst (λ (h : History Mail MailCard). IsGenuine form (now (setting_in w) h).issues (whole_world form k.nothing w')) same_history genuine.0);
       none_forged = none_forged;

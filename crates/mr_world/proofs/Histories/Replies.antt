@@ -34,7 +34,7 @@ use Rattle.mr_world.specs.Agrees.{Agrees}
 use Rattle.mr_world.specs.Issued.{IsTrueLine}
 use Rattle.mr_world.specs.Asked.{receiving}
 use Rattle.mr_world.specs.Moves.{Moves}
-use Rattle.mr_world.specs.Replies.{ClaimsKnown, IsTooLong}
+use Rattle.mr_world.specs.Replies.{AskedTooLong, ClaimsKnown, IsTooLong}
 use Rattle.mr_world.specs.Seen.{MailMoment, seen_body}
 use Rattle.mr_world.specs.Told.{IsTrueBody}
 use Rattle.mr_world.specs.World.{World}
@@ -74,8 +74,9 @@ module _ {K : Type 0} (form : Form K) (filters : ℕ → List ClauseParts) (w w'
         | inr long ↦ inr long
       ]
 
-  pub claims_known : (q : Question) → Moves form w (r does act.Pull) (Stepped (Ok (Asked q))) w' → ClaimsKnown form m r q
-  claims_known q move =
+  pub claims_known : (ends : ℕ → Option (State K)) (q : Question) → Moves form w (r does act.Pull) (Stepped (Ok (Asked q))) w'
+      → (IsAskOf form (w.replicas r) q → IsTooLong form (w.replicas r).knowledge → (end : State K) × (ends r ≡ Some end) × AskedTooLong form m r end q) → ClaimsKnown form ends m r q
+  claims_known ends q move too_long =
       let there = step_of form w (r does act.Pull) replica.Pull (Stepped (Ok (Asked q))) w' refl move in
       let step = step_replied form (w.replicas r) replica.Pull (Asked q) there.1 there.2 in
       let knows = (a.holdings r).knows in
@@ -83,7 +84,7 @@ module _ {K : Type 0} (form : Form K) (filters : ℕ → List ClauseParts) (w w'
         no_more = λ v issued h. sym (knows.same v issued) ∙ asks_no_more form (w.replicas r) q step.1.0 (item_of m.issues v) v h;
         all = elim (asks_all form (w.replicas r) q step.1.0) [
           | inl same ↦ inl (λ v issued h. same (item_of m.issues v) v ∙ (knows.same v issued ∙ h))
-          | inr long ↦ inr ((w.replicas r).knowledge, knows, long)
+          | inr long ↦ inr (too_long step.1.0 long)
         ];
       }
 
