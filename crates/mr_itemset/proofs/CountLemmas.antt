@@ -40,7 +40,7 @@ gained_few added all (x ∷ xs) = go (cases_Bool (vector_eq (united x.vector add
     go (inr n) rest = rw n (omega arith)
 
 -- it is so where the vector has something that all then lack
-stays_yes : (added before vector : List AuthorColumn) → IsVectorFrom 0 added → IsVectorFrom 0 before → IsVectorFrom 0 vector → Fits before added → Fits vector added → Lacks (both (vector_has added) (vector_has before)) (vector_has vector) → stays added (united before added) vector ≡ true
+pub stays_yes : (added before vector : List AuthorColumn) → IsVectorFrom 0 added → IsVectorFrom 0 before → IsVectorFrom 0 vector → Fits before added → Fits vector added → Lacks (both (vector_has added) (vector_has before)) (vector_has vector) → stays added (united before added) vector ≡ true
 stays_yes added before vector va vb vx fb fx lacks = go (cases_Bool (vector_eq (united vector added) (united before added)))
   where
     or_second : (a b : Bool) → b ≡ true → (a || b) ≡ true
@@ -54,7 +54,7 @@ stays_yes added before vector va vb vx fb fx lacks = go (cases_Bool (vector_eq (
         absurd (false≢true (sym lacks.is_out ∙ sym (united-has before added vb va fb lacks.version) ∙ sym (same lacks.version) ∙ united-has vector added vx va fx lacks.version ∙ or_second (vector_has added lacks.version) (vector_has vector lacks.version) lacks.is_in))
 
 -- and no longer where all then have all of it
-stays_no : (added before vector : List AuthorColumn) → IsVectorFrom 0 added → IsVectorFrom 0 before → IsVectorFrom 0 vector → Fits before added → Fits vector added → Covers (vector_has vector) (vector_has before) → Covers (both (vector_has added) (vector_has before)) (vector_has vector) → stays added (united before added) vector ≡ false
+pub stays_no : (added before vector : List AuthorColumn) → IsVectorFrom 0 added → IsVectorFrom 0 before → IsVectorFrom 0 vector → Fits before added → Fits vector added → Covers (vector_has vector) (vector_has before) → Covers (both (vector_has added) (vector_has before)) (vector_has vector) → stays added (united before added) vector ≡ false
 stays_no added before vector va vb vx fb fx more covers = rw alike refl
   where
     within : (a p y : Bool) → (y ≡ true → (p || a) ≡ true) → (a ≡ true → y ≡ true) → (p || y) ≡ (p || a)

@@ -1,5 +1,11 @@
-use Rattle.std.proofs.Common.{◌≡◌, ◌<◌, ◌⊎◌, ℕ, zero, suc, Bool, true, false, ◌&&◌, nat_lt, cond, List, [], ◌∷◌, ◌++◌, length, get_or, set, Option, Some, None, All, AllPairs, refl, ap, sym, ◌∙◌, arith, inl, inr}
+use Rattle.std.proofs.Common.{◌≡◌, ◌<◌, ◌⊎◌, ℕ, zero, suc, Bool, true, false, ◌&&◌, nat_lt, cond, List, [], ◌∷◌, ◌++◌, length, get_or, set, Option, Some, None, All, AllPairs, refl, ap, sym, ◌∙◌, subst, arith, inl, inr}
+use Rattle.std.specs.Cmp.{nat_cmp_total}
+use Rattle.std.specs.List.{slice_get}
 use Rattle.std.specs.Option.{option_map, unwrap_or, is_some}
+use Rattle.std.specs.Ordering.{is_eq, nat_cmp, ordering_then}
+use Rattle.std.specs.declared.cmp.Ordering.{Ordering}
+use Rattle.std.specs.declared.cmp.Ordering.TheVariants.{Less, Equal, Greater}
+use Rattle.std.proofs.lemmas.Cmp.{tied_itself}
 use Rattle.std.proofs.lemmas.Bool.{false≢true, cases_Bool, and_parts, lt-ltb, ltb-true}
 use Rattle.std.proofs.lemmas.List.{length_push}
 use Rattle.std.proofs.lemmas.List.Elements.{All-nil, All-cons, All-head, All-tail}
@@ -7,9 +13,10 @@ use Rattle.std.proofs.lemmas.List.Kept.{AllPairs-cons}
 use Rattle.mr_forms.proofs.PartLemmas.{AllPairs-head, AllPairs-tail}
 use Rattle.mr_concise.specs.declared.vector.AuthorColumn.{AuthorColumn}
 use Rattle.mr_concise.specs.Equal.{vector_eq}
+use Rattle.mr_concise.specs.Order.{vector_cmp, vectors_tied}
 use Rattle.mr_concise.proofs.EqualLemmas.{vectors_Decides}
 use Rattle.mr_itemset.specs.declared.knowledge.Listed.{Listed}
-use Rattle.mr_itemset.specs.Groups.{Alike, alone, with_item, takes, grouped, place_of, FillInTurn}
+use Rattle.mr_itemset.specs.Groups.{Alike, alone, with_item, takes, grouped, place_of, mark_of, FillInTurn}
 
 none_is_not : {X : Type 0} (x : X) → None ≡ Some x → ⊥
 none_is_not x e = false≢true (ap is_some e)
@@ -196,3 +203,28 @@ place_last most (g ∷ gs) x c room none = go (cases_Bool (takes most g x.vector
     go (inr other) (inr gc) (inr xc) rest =
         let ih : place_of most (gs ++ alone x ∷ []) c ≡ place_of most gs c = rw xc at (rest (not_later (place_of most gs x.vector) (rw other at none))) in
         rw (gc, xc, ih) refl
+
+-- ---- marks
+
+not_tied : (x y : Ordering) → is_eq y ≡ false → false ≡ is_eq (ordering_then x y)
+not_tied Less y none = refl
+not_tied Equal y none = sym none
+not_tied Greater y none = refl
+
+-- vectors are one exactly where their marks and they themselves compare equal
+pub marks_tied : (v w : List AuthorColumn) → vector_eq v w ≡ is_eq (ordering_then (nat_cmp (mark_of v) (mark_of w)) (vector_cmp v w))
+marks_tied v w = go (cases_Bool (vector_eq v w))
+  where
+    go : (vector_eq v w ≡ true) ⊎ (vector_eq v w ≡ false) → vector_eq v w ≡ is_eq (ordering_then (nat_cmp (mark_of v) (mark_of w)) (vector_cmp v w))
+    go (inl one) =
+        subst (λ (z : List AuthorColumn). vector_eq v z ≡ is_eq (ordering_then (nat_cmp (mark_of v) (mark_of z)) (vector_cmp v z))) ((vectors_Decides v w).0 one)
+        (rw (tied_itself nat_cmp_total (mark_of v)) (vectors_tied v v))
+    go (inr other) = other ∙ not_tied (nat_cmp (mark_of v) (mark_of w)) (vector_cmp v w) (sym (vectors_tied v w) ∙ other)
+
+pub mark_first : (v : List AuthorColumn) (x : AuthorColumn) → Some x ≡ slice_get v 0 → x.column.upto ≡ mark_of v
+mark_first [] x e = absurd (none_is_not x (sym e))
+mark_first (y ∷ ys) x e = ap (λ (p : Option AuthorColumn). (unwrap_or p x).column.upto) e
+
+pub mark_none : (v : List AuthorColumn) → None ≡ slice_get v 0 → 0 ≡ mark_of v
+mark_none [] e = refl
+mark_none (y ∷ ys) e = absurd (none_is_not y e)

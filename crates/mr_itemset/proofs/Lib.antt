@@ -29,8 +29,10 @@ pub mod AloneLemmas
 pub mod HolesLemmas
 pub mod SparingLemmas
 pub mod ToldLemmas
+pub mod HoleWalk
 pub mod ToldWalk
 pub mod ToldParts
+pub mod ToldItems
 pub mod MoreLemmas
 pub mod OnlyLemmas
 mod Rows

@@ -1,13 +1,13 @@
 -- The fragments that tell what not all items have are the parts of their form, and mean what is known.
-use Rattle.std.proofs.Common.{◌≡◌, ◌<◌, ◌⊎◌, ℕ, true, false, List, [], ◌∷◌, ◌++◌, length, get_or, Option, Some, None, IfSome, All, Contains, map, refl, ap, sym, ◌∙◌, subst, append_assoc, arith, inl, inr}
+use Rattle.std.proofs.Common.{◌≡◌, ◌<◌, ◌⊎◌, ℕ, true, false, List, [], ◌∷◌, length, get_or, Option, Some, None, IfSome, All, Contains, map, refl, ap, sym, ◌∙◌, subst, arith, inl, inr}
 use Rattle.std.specs.List.{AllZip}
 use Rattle.std.proofs.lemmas.Bool.{cases_Bool}
 use Rattle.std.proofs.lemmas.Simd.{map-map}
-use Rattle.std.proofs.lemmas.List.Elements.{AllZip-get_or, AllZip-push, length_all_zip}
+use Rattle.std.proofs.lemmas.List.Elements.{AllZip-get_or, length_all_zip}
 use Rattle.mr_version.specs.Name.{Name}
 use Rattle.mr_forms.specs.Known.{AreSame, Part}
 use Rattle.mr_forms.specs.Sets.{Versions}
-use Rattle.mr_forms.specs.Covered.{HasItems, all_covered, listed_items}
+use Rattle.mr_forms.specs.Covered.{HasItems, all_covered}
 use Rattle.mr_forms.specs.Parts.{part_of, AreListable, ComesFirst, AreInOrder, ArePartsThat}
 use Rattle.mr_concise.specs.declared.vector.AuthorColumn.{AuthorColumn}
 use Rattle.mr_concise.specs.Fragments.{ConciseFragment}
@@ -15,7 +15,7 @@ use Rattle.mr_concise.specs.Vector.{vector_has}
 use Rattle.mr_itemset.specs.Normal.{Normal, IsNormal, normal_known}
 use Rattle.mr_itemset.specs.ItemForm.{HasNormalVersions, IsNormalPart}
 use Rattle.mr_itemset.specs.NormalForm.{said}
-use Rattle.mr_itemset.specs.Groups.{Alike, all_grouped, part_of_group}
+use Rattle.mr_itemset.specs.Groups.{all_grouped, part_of_group}
 use Rattle.mr_itemset.specs.Shown.{Shown, shown, shown_group, fragments_in, part_in}
 use Rattle.mr_itemset.specs.Told.{Tells, IsToldPart, IsToldOf, IsSparest, Spares}
 use Rattle.mr_forms.specs.declared.fragment.TheConstants.{MAX_ITEMS}
@@ -142,36 +142,3 @@ told_sparest all [] [] told = tt
 told_sparest all [] (t ∷ ts) told = absurd told
 told_sparest all (w ∷ ws) [] told = absurd told
 told_sparest all (w ∷ ws) (t ∷ ts) told = (spares (vector_has all) (vector_has w.vector) (vector_has t.vector) w.items told.0.tells, told_sparest all ws ts told.1)
-
--- ---- the fragments one after the other
-
--- the one of all items says what they have
-pub told_first : (k : Normal) (f : ConciseFragment) (fs : List ConciseFragment) → fs ≡ f ∷ [] → listed_items f.items ≡ None → f.vector ≡ k.all → AllZip (IsToldOf k.all) ((record { items = None; vector = k.all }) ∷ []) (map shown fs)
-told_first k f fs is none same =
-    subst (λ (gs : List ConciseFragment). AllZip (IsToldOf k.all) ((record { items = None; vector = k.all }) ∷ []) (map shown gs)) (sym is)
-    (record { items = none; tells = ap (λ (c : List AuthorColumn). vector_has c) same }, tt)
-
--- behind it stand those of the groups
-pub told_behind : (k : Normal) (all : List AuthorColumn) (groups : List Alike) (old new : List ConciseFragment) → all ≡ k.all → groups ≡ all_grouped MAX_ITEMS [] k.listed → AllZip (IsToldOf k.all) ((record { items = None; vector = k.all }) ∷ []) (map shown old) → ((before : List Shown) → AllZip (IsToldOf all) before (map shown old) → AllZip (IsToldOf all) (before ++ map shown_group groups) (map shown new)) → AllZip (IsToldOf k.all) (fragments_in k) (map shown new)
-told_behind k all groups old new is_all are first step =
-    subst (λ (gs : List Alike). AllZip (IsToldOf k.all) (((record { items = None; vector = k.all }) ∷ []) ++ map shown_group gs) (map shown new)) are
-    (subst (λ (c : List AuthorColumn). AllZip (IsToldOf c) (((record { items = None; vector = k.all }) ∷ []) ++ map shown_group groups) (map shown new)) is_all
-    (step ((record { items = None; vector = k.all }) ∷ []) (subst (λ (c : List AuthorColumn). AllZip (IsToldOf c) ((record { items = None; vector = k.all }) ∷ []) (map shown old)) (sym is_all) first)))
-
--- those so far tell what those before and some groups have, and the other groups are left
-abbrev pub ToldSoFar : List AuthorColumn → List Shown → List Alike → List ConciseFragment → List Alike → Type 0
-ToldSoFar all before groups fs left = (done : List Shown) × (AllZip (IsToldOf all) done (map shown fs) × (done ++ map shown_group left ≡ before ++ map shown_group groups))
-
-shown_push : (fs : List ConciseFragment) (f : ConciseFragment) → map shown (fs ++ f ∷ []) ≡ map shown fs ++ shown f ∷ []
-shown_push [] f = refl
-shown_push (g ∷ fs) f = ap (λ (ss : List Shown). shown g ∷ ss) (shown_push fs f)
-
-pub told_group : (all : List AuthorColumn) (before : List Shown) (groups left next : List Alike) (g : Alike) (fs new : List ConciseFragment) (f : ConciseFragment) → left ≡ g ∷ next → new ≡ fs ++ f ∷ [] → IsToldOf all (shown_group g) (shown f) → ToldSoFar all before groups fs left → ToldSoFar all before groups new next
-told_group all before groups left next g fs new f is made told w = (
-  w.0 ++ shown_group g ∷ [],
-  (
-    subst (λ (ss : List Shown). AllZip (IsToldOf all) (w.0 ++ shown_group g ∷ []) ss) (sym (ap (λ (gs : List ConciseFragment). map shown gs) made ∙ shown_push fs f))
-        (AllZip-push (IsToldOf all) w.0 (map shown fs) (shown_group g) (shown f) w.1.0 told),
-    append_assoc w.0 (shown_group g ∷ []) (map shown_group next) ∙ ap (λ (ls : List Alike). w.0 ++ map shown_group ls) (sym is) ∙ w.1.1,
-  ),
-)

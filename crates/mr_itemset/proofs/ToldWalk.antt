@@ -1,26 +1,26 @@
 -- How far a walk along what not all items have has come, and the column and the vector that it makes.
-use Rattle.std.proofs.Common.{◌≡◌, ◌<◌, ◌≤◌, ◌+◌, ◌-◌, ◌↔◌, ◌⊎◌, ◌==◌, ℕ, zero, suc, Bool, true, false, nat_lt, cond, List, [], ◌∷◌, ◌++◌, length, All, take, drop, refl, ap, sym, ◌∙◌, subst, arith, inl, inr}
+use Rattle.std.proofs.Common.{◌≡◌, ◌<◌, ◌≤◌, ◌+◌, ◌-◌, ◌↔◌, ◌⊎◌, ◌==◌, ◌&&◌, ◌||◌, not, ℕ, zero, suc, Bool, true, false, nat_lt, cond, List, [], ◌∷◌, ◌++◌, length, All, take, drop, refl, ap, sym, ◌∙◌, subst, arith, inl, inr}
 use Rattle.std.specs.Prelude.{if◌then◌else◌}
 use Rattle.std.proofs.lemmas.Bool.{false≢true, cases_lt, cases_eq, lt-ltb, le-ltb, eq-eqb, ne_eqb}
 use Rattle.std.proofs.lemmas.Bool.Decides.{nat_tests}
 use Rattle.std.proofs.lemmas.List.Elements.{All-nil, All-push}
-use Rattle.mr_forms.specs.Sets.{Versions}
+use Rattle.mr_forms.specs.Sets.{Versions, both}
 use Rattle.mr_forms.specs.Runs.{of_author, IsNextAuthor, HasNoAuthorFrom}
 use Rattle.mr_concise.specs.declared.column.Hole.{Hole}
 use Rattle.mr_concise.specs.declared.column.TheConstants.{COUNTERS_END}
 use Rattle.mr_concise.specs.declared.vector.AuthorColumn.{AuthorColumn}
 use Rattle.mr_concise.specs.Column.{Extent, hole_edges, column_has, IsColumn}
 use Rattle.mr_concise.specs.Edges.{is_on, IsRising}
-use Rattle.mr_concise.specs.Next.{IsNextOut, IsNextIn, HasNoneFrom}
+use Rattle.mr_concise.specs.Next.{IsNextIn, HasNoneFrom}
 use Rattle.mr_concise.specs.Vector.{column_of, vector_has, IsVectorFrom, with_column}
 use Rattle.mr_concise.proofs.ColumnLemmas.{column_has-edges}
 use Rattle.mr_concise.proofs.EdgeLemmas.{IsRising-end}
 use Rattle.mr_concise.proofs.LastLemmas.{column_has-above}
 use Rattle.mr_concise.proofs.SweepLemmas.{extend}
-use Rattle.mr_concise.proofs.UnionLemmas.{column_of-IsColumn, column_has-empty}
+use Rattle.mr_concise.proofs.UnionLemmas.{column_has-empty}
 use Rattle.mr_concise.proofs.VectorLemmas.{IsVectorFrom-with_column, column_of-with_column, with_column-insert}
 use Rattle.mr_itemset.specs.Told.{is_beyond, IsTold, IsToldOfAuthor, AreTold, Skips}
-use Rattle.mr_itemset.proofs.ToldLemmas.{beyond_parts, told_beyond, told_within, told_few}
+use Rattle.mr_itemset.proofs.ToldLemmas.{beyond_parts, told_within, fewest}
 
 -- ---- one author
 
@@ -75,34 +75,27 @@ if_true b x y e = rw e refl
 if_false : (b : Bool) (x y : Bool) → b ≡ false → (if b then x else y) ≡ y
 if_false b x y e = rw e refl
 
-module _ (all own : ℕ → Bool) (holes : List Hole) (upto first end : ℕ) (w : Walked all own holes upto) (next : IsNextIn (is_beyond all own) (upto + 1) first) (out : IsNextOut (is_beyond all own) first end) (bound : end ≤ COUNTERS_END) where
-  further : first < end
-  further = let above = out.above in elim (cases_eq first end) [
-    | inl same ↦ absurd (false≢true (sym out.is_out ∙ ap (is_beyond all own) (sym same) ∙ next.is_in))
-    | inr other ↦ omega arith
-  ]
-
-  -- the last of them is one that not all items have
-  last_beyond : is_beyond all own (end - 1) ≡ true
-  last_beyond = let more = further in out.between (end - 1) (omega arith) (omega arith)
-
-  back : end - 1 + 1 ≡ end
-  back = let more = further in omega arith
-
-  from_here : (c : ℕ) → first ≤ c → c < end → IsTold all own c
-  from_here c from to = told_beyond all own c (out.between c from to)
+module _ (all own : ℕ → Bool) (holes : List Hole) (upto first last : ℕ) (w : Walked all own holes upto) (next : IsNextIn (is_beyond all own) (upto + 1) first) (further : first ≤ last) (last_beyond : is_beyond all own last ≡ true) (row : (c : ℕ) → first ≤ c → c ≤ last → own c ≡ true) (bound : last < COUNTERS_END) where
+  from_here : (c : ℕ) → first ≤ c → c < last + 1 → IsTold all own c
+  from_here c from to = record {
+    first = first;
+    last = last;
+    above = from;
+    below = omega arith;
+    begins = inr next.is_in;
+    ends = last_beyond;
+    has = row;
+  }
 
   -- the step, where the holes are then these
-  made : (new : List Hole) → IsRising 0 (hole_edges new ++ end ∷ []) → ((c : ℕ) → 1 ≤ c → c < end → (on new end c ≡ true) ↔ IsTold all own c) → ((c : ℕ) → end ≤ c → on new end c ≡ false) → Walked all own new (end - 1)
-  made new rising means past =
-      let more = further in
-      record {
-        rising = subst (λ (e : ℕ). IsRising 0 (hole_edges new ++ e ∷ [])) (sym back) rising;
-        in_range = omega arith;
-        means = λ c from to. subst (λ (e : ℕ). (on new e c ≡ true) ↔ IsTold all own c) (sym back) (means c from (omega arith));
-        past = λ c above. ap (λ (e : ℕ). on new e c) back ∙ past c (omega arith);
-        begins = inr last_beyond;
-      }
+  made : (new : List Hole) → IsRising 0 (hole_edges new ++ (last + 1) ∷ []) → ((c : ℕ) → 1 ≤ c → c < last + 1 → (on new (last + 1) c ≡ true) ↔ IsTold all own c) → ((c : ℕ) → last + 1 ≤ c → on new (last + 1) c ≡ false) → Walked all own new last
+  made new rising means past = record {
+    rising = rising;
+    in_range = bound;
+    means = λ c from to. means c from (omega arith);
+    past = λ c above. past c (omega arith);
+    begins = inr last_beyond;
+  }
 
   -- a hole is between
   skipped : (at : ℕ) → upto + 1 ≤ at → at < first → own at ≡ false → (c : ℕ) → upto < c → c < first → IsTold all own c → ⊥
@@ -125,29 +118,29 @@ module _ (all own : ℕ → Bool) (holes : List Hole) (upto first end : ℕ) (w 
   abbrev hole : Hole
   hole = record { first = upto + 1; last = first - 1 }
 
-  walked_hole : (at : ℕ) → upto + 1 ≤ at → at < first → own at ≡ false → Walked all own (holes ++ hole ∷ []) (end - 1)
+  walked_hole : (at : ℕ) → upto + 1 ≤ at → at < first → own at ≡ false → Walked all own (holes ++ hole ∷ []) last
   walked_hole at low high lacks = made (holes ++ hole ∷ []) both.0 means past
     where
-      both : IsRising 0 (hole_edges (holes ++ hole ∷ []) ++ end ∷ []) × ((c : ℕ) → on (holes ++ hole ∷ []) end c ≡ (if nat_lt c first then on holes (upto + 1) c else nat_lt c end))
-      both = extend 0 (upto + 1) first end holes w.rising (omega arith) further
+      both : IsRising 0 (hole_edges (holes ++ hole ∷ []) ++ (last + 1) ∷ []) × ((c : ℕ) → on (holes ++ hole ∷ []) (last + 1) c ≡ (if nat_lt c first then on holes (upto + 1) c else nat_lt c (last + 1)))
+      both = extend 0 (upto + 1) first (last + 1) holes w.rising (omega arith) (omega arith)
 
-      before_on : (c : ℕ) → c < first → on (holes ++ hole ∷ []) end c ≡ on holes (upto + 1) c
-      before_on c before = both.1 c ∙ if_true (nat_lt c first) (on holes (upto + 1) c) (nat_lt c end) (lt-ltb c first before)
+      before_on : (c : ℕ) → c < first → on (holes ++ hole ∷ []) (last + 1) c ≡ on holes (upto + 1) c
+      before_on c before = both.1 c ∙ if_true (nat_lt c first) (on holes (upto + 1) c) (nat_lt c (last + 1)) (lt-ltb c first before)
 
-      behind_on : (c : ℕ) → first ≤ c → on (holes ++ hole ∷ []) end c ≡ nat_lt c end
-      behind_on c behind = both.1 c ∙ if_false (nat_lt c first) (on holes (upto + 1) c) (nat_lt c end) (le-ltb c first behind)
+      behind_on : (c : ℕ) → first ≤ c → on (holes ++ hole ∷ []) (last + 1) c ≡ nat_lt c (last + 1)
+      behind_on c behind = both.1 c ∙ if_false (nat_lt c first) (on holes (upto + 1) c) (nat_lt c (last + 1)) (le-ltb c first behind)
 
-      means : (c : ℕ) → 1 ≤ c → c < end → (on (holes ++ hole ∷ []) end c ≡ true) ↔ IsTold all own c
+      means : (c : ℕ) → 1 ≤ c → c < last + 1 → (on (holes ++ hole ∷ []) (last + 1) c ≡ true) ↔ IsTold all own c
       means c from to = elim (cases_lt c first) [
-        | inl before ↦ iff_from (on (holes ++ hole ∷ []) end c) (on holes (upto + 1) c) (IsTold all own c) (before_on c before) (elim (cases_lt upto c) [
+        | inl before ↦ iff_from (on (holes ++ hole ∷ []) (last + 1) c) (on holes (upto + 1) c) (IsTold all own c) (before_on c before) (elim (cases_lt upto c) [
           | inl behind ↦ out_iff (on holes (upto + 1) c) (IsTold all own c) (w.past c behind) (skipped at low high lacks c behind before)
           | inr within ↦ w.means c from within
         ])
-        | inr here ↦ in_iff (on (holes ++ hole ∷ []) end c) (IsTold all own c) (behind_on c here ∙ lt-ltb c end to) (from_here c here to)
+        | inr here ↦ in_iff (on (holes ++ hole ∷ []) (last + 1) c) (IsTold all own c) (behind_on c here ∙ lt-ltb c (last + 1) to) (from_here c here to)
       ]
 
-      past : (c : ℕ) → end ≤ c → on (holes ++ hole ∷ []) end c ≡ false
-      past c above = let more = further in behind_on c (omega arith) ∙ le-ltb c end above
+      past : (c : ℕ) → last + 1 ≤ c → on (holes ++ hole ∷ []) (last + 1) c ≡ false
+      past c above = behind_on c (omega arith) ∙ le-ltb c (last + 1) above
 
   -- the item has all between
   filled : ((c : ℕ) → upto + 1 ≤ c → c < first → own c ≡ true) → (c : ℕ) → upto < c → c < first → IsTold all own c
@@ -181,40 +174,40 @@ module _ (all own : ℕ → Bool) (holes : List Hole) (upto first end : ℕ) (w 
         | inr other ↦ has n low (omega arith)
       ]
 
-  walked_on : ((c : ℕ) → upto + 1 ≤ c → c < first → own c ≡ true) → Walked all own holes (end - 1)
+  walked_on : ((c : ℕ) → upto + 1 ≤ c → c < first → own c ≡ true) → Walked all own holes last
   walked_on has = made holes both.0 means past
     where
-      later : upto + 1 ≤ end
-      later = let more = further in let above = next.above in omega arith
+      later : upto + 1 ≤ last + 1
+      later = let above = next.above in omega arith
 
-      both : IsRising 0 (hole_edges holes ++ end ∷ []) × ((c : ℕ) → on holes end c ≡ (if nat_lt c (upto + 1) then on holes (upto + 1) c else nat_lt c end))
-      both = raise 0 (upto + 1) end holes w.rising later
+      both : IsRising 0 (hole_edges holes ++ (last + 1) ∷ []) × ((c : ℕ) → on holes (last + 1) c ≡ (if nat_lt c (upto + 1) then on holes (upto + 1) c else nat_lt c (last + 1)))
+      both = raise 0 (upto + 1) (last + 1) holes w.rising later
 
-      before_on : (c : ℕ) → c < upto + 1 → on holes end c ≡ on holes (upto + 1) c
-      before_on c before = both.1 c ∙ if_true (nat_lt c (upto + 1)) (on holes (upto + 1) c) (nat_lt c end) (lt-ltb c (upto + 1) before)
+      before_on : (c : ℕ) → c < upto + 1 → on holes (last + 1) c ≡ on holes (upto + 1) c
+      before_on c before = both.1 c ∙ if_true (nat_lt c (upto + 1)) (on holes (upto + 1) c) (nat_lt c (last + 1)) (lt-ltb c (upto + 1) before)
 
-      behind_on : (c : ℕ) → upto + 1 ≤ c → on holes end c ≡ nat_lt c end
-      behind_on c behind = both.1 c ∙ if_false (nat_lt c (upto + 1)) (on holes (upto + 1) c) (nat_lt c end) (le-ltb c (upto + 1) behind)
+      behind_on : (c : ℕ) → upto + 1 ≤ c → on holes (last + 1) c ≡ nat_lt c (last + 1)
+      behind_on c behind = both.1 c ∙ if_false (nat_lt c (upto + 1)) (on holes (upto + 1) c) (nat_lt c (last + 1)) (le-ltb c (upto + 1) behind)
 
-      told_behind : (c : ℕ) → upto + 1 ≤ c → c < end → IsTold all own c
+      told_behind : (c : ℕ) → upto + 1 ≤ c → c < last + 1 → IsTold all own c
       told_behind c behind to = elim (cases_lt c first) [
         | inl before ↦ filled has c (omega arith) before
         | inr here ↦ from_here c here to
       ]
 
-      means : (c : ℕ) → 1 ≤ c → c < end → (on holes end c ≡ true) ↔ IsTold all own c
+      means : (c : ℕ) → 1 ≤ c → c < last + 1 → (on holes (last + 1) c ≡ true) ↔ IsTold all own c
       means c from to = elim (cases_lt c (upto + 1)) [
-        | inl within ↦ iff_from (on holes end c) (on holes (upto + 1) c) (IsTold all own c) (before_on c within) (w.means c from (omega arith))
-        | inr behind ↦ in_iff (on holes end c) (IsTold all own c) (behind_on c behind ∙ lt-ltb c end to) (told_behind c behind to)
+        | inl within ↦ iff_from (on holes (last + 1) c) (on holes (upto + 1) c) (IsTold all own c) (before_on c within) (w.means c from (omega arith))
+        | inr behind ↦ in_iff (on holes (last + 1) c) (IsTold all own c) (behind_on c behind ∙ lt-ltb c (last + 1) to) (told_behind c behind to)
       ]
 
-      past : (c : ℕ) → end ≤ c → on holes end c ≡ false
-      past c above = let up = later in behind_on c (omega arith) ∙ le-ltb c end above
+      past : (c : ℕ) → last + 1 ≤ c → on holes (last + 1) c ≡ false
+      past c above = let up = later in behind_on c (omega arith) ∙ le-ltb c (last + 1) above
 
   -- one step of the walk
-  pub walked_more : (new : List Hole) → Skips own (upto + 1) first holes new → Walked all own new (end - 1)
-  walked_more new (inl has) = subst (λ (hs : List Hole). Walked all own hs (end - 1)) (sym has.0) (walked_on has.1)
-  walked_more new (inr left) = subst (λ (hs : List Hole). Walked all own hs (end - 1)) (sym left.0) (walked_hole left.1.0 left.1.1.0 left.1.1.1.0 left.1.1.1.1)
+  pub walked_more : (new : List Hole) → Skips own (upto + 1) first holes new → Walked all own new last
+  walked_more new (inl has) = subst (λ (hs : List Hole). Walked all own hs last) (sym has.0) (walked_on has.1)
+  walked_more new (inr left) = subst (λ (hs : List Hole). Walked all own hs last) (sym left.0) (walked_hole left.1.0 left.1.1.0 left.1.1.1.0 left.1.1.1.1)
 
 -- where nothing is left, the column has what is told
 pub walked_end : (all own : ℕ → Bool) (holes : List Hole) (upto : ℕ) → Walked all own holes upto → own 0 ≡ false → HasNoneFrom (is_beyond all own) (upto + 1) → (c : ℕ) → (column_has (record { upto = upto; holes = holes }) c ≡ true) ↔ IsTold all own c
@@ -229,16 +222,60 @@ walked_end all own holes upto w zero_out none c = go (cases_lt c 1) (cases_lt up
     go (inr from) (inr within) =
         iff_from (column_has (record { upto = upto; holes = holes }) c) (on holes (upto + 1) c) (IsTold all own c) (column_has-edges (record { upto = upto; holes = holes }) c w.rising from) (w.means c from within)
 
--- and no more holes than what the item has
-pub walked_column : (all : Versions) (columns : List AuthorColumn) (author : ℕ) (holes : List Hole) (upto : ℕ) → IsVectorFrom 0 columns → Walked (of_author all author) (of_author (vector_has columns) author) holes upto → HasNoneFrom (is_beyond (of_author all author) (of_author (vector_has columns) author)) (upto + 1) → IsColumn (record { upto = upto; holes = holes })
-walked_column all columns author holes upto vector w none =
-    let mine = column_of-IsColumn 0 columns author vector in
-    let few : length holes ≤ length (column_of columns author).holes =
-    told_few (of_author all author) (of_author (vector_has columns) author) (record { upto = upto; holes = holes }) (column_of columns author) w.rising mine.apart
-    (walked_end (of_author all author) (of_author (vector_has columns) author) holes upto w refl none) (λ c. refl) in
-    let most = mine.few in
-    let range = w.in_range in
-    record { apart = w.rising; in_range = omega arith; few = omega arith }
+-- ---- what the item has beside
+
+-- what the item has beside is beyond, with what all have or without
+beside_beyond : (a o : Bool) → ((a || o) && not a) ≡ (o && not a)
+beside_beyond true o = sym (and_false o)
+  where
+    and_false : (b : Bool) → (b && false) ≡ false
+    and_false true = refl
+    and_false false = refl
+beside_beyond false o = refl
+
+or_second : (a o : Bool) → o ≡ true → (a || o) ≡ true
+or_second true o has = refl
+or_second false o has = has
+
+-- all that one of the two has
+abbrev pub joined : (ℕ → Bool) → (ℕ → Bool) → ℕ → Bool
+joined all own c = all c || own c
+
+module _ (all own : ℕ → Bool) where
+  pub beyond_with : (c : ℕ) → is_beyond all own c ≡ true → is_beyond all (joined all own) c ≡ true
+  beyond_with c is = beside_beyond (all c) (own c) ∙ is
+
+  pub beyond_beside : (c : ℕ) → is_beyond all (joined all own) c ≡ true → is_beyond all own c ≡ true
+  beyond_beside c is = sym (beside_beyond (all c) (own c)) ∙ is
+
+  pub next_with : (from at : ℕ) → IsNextIn (is_beyond all own) from at → IsNextIn (is_beyond all (joined all own)) from at
+  next_with from at next = record {
+    above = next.above;
+    is_in = beyond_with at next.is_in;
+    between = λ c low high. beside_beyond (all c) (own c) ∙ next.between c low high;
+  }
+
+  pub none_with : (from : ℕ) → HasNoneFrom (is_beyond all own) from → HasNoneFrom (is_beyond all (joined all own)) from
+  none_with from none c low = beside_beyond (all c) (own c) ∙ none c low
+
+  pub row_with : (first last : ℕ) → ((c : ℕ) → first ≤ c → c ≤ last → own c ≡ true) → (c : ℕ) → first ≤ c → c ≤ last → joined all own c ≡ true
+  row_with first last row c from to = or_second (all c) (own c) (row c from to)
+
+  -- and no more holes than what the item has beside
+  pub walked_few : (holes : List Hole) (upto : ℕ) (column : Extent) → IsColumn column → ((c : ℕ) → column_has column c ≡ own c) → (joined all own) 0 ≡ false → Walked all (joined all own) holes upto → HasNoneFrom (is_beyond all own) (upto + 1) → IsColumn (record { upto = upto; holes = holes })
+  walked_few holes upto column mine has zero_out w none =
+      let few : length holes ≤ length column.holes =
+      fewest all (joined all own) (column_has (record { upto = upto; holes = holes })) own
+      (walked_end all (joined all own) holes upto w zero_out (none_with (upto + 1) none))
+      (λ c is lacks. sym (or_out (all c) (own c) lacks) ∙ is)
+      (λ c is. or_second (all c) (own c) is)
+      (record { upto = upto; holes = holes }) column w.rising mine.apart (λ c. refl) has in
+      let most = mine.few in
+      let range = w.in_range in
+      record { apart = w.rising; in_range = omega arith; few = omega arith }
+    where
+      or_out : (a o : Bool) → a ≡ false → (a || o) ≡ o
+      or_out a o out = rw out refl
 
 -- ---- all authors
 
@@ -257,19 +294,23 @@ told_none all own = record {
   rest = λ q c from. column_has-empty c;
 }
 
--- nothing is told of an author of whom the item has nothing
-nothing_told : (all own : Versions) (q : ℕ) → ((c : ℕ) → of_author own q c ≡ false) → (c : ℕ) → IsToldOfAuthor all own q c → ⊥
-nothing_told all own q none c told = false≢true (sym (none c) ∙ told_within (of_author all q) (of_author own q) c told)
+-- nothing is told of an author of whom the item has nothing beside
+nothing_told : (all mine : Versions) (q : ℕ) → ((c : ℕ) → of_author mine q c ≡ false) → (c : ℕ) → IsToldOfAuthor all (both all mine) q c → ⊥
+nothing_told all mine q none c told =
+    false≢true (sym (none told.last) ∙ (beyond_parts (of_author all q) (of_author mine q) told.last (beyond_beside (of_author all q) (of_author mine q) told.last told.ends)).0)
 
 none_in : (column : Extent) → column.upto ≤ 0 → (c : ℕ) → column_has column c ≡ false
 none_in column none zero = refl
 none_in column none (suc c) = column_has-above column (suc c) (omega arith)
 
-module _ (all own : Versions) (columns : List AuthorColumn) (id author : ℕ) (column : Extent) (w : ToldTo all own columns id) (next : IsNextAuthor own id author) (told : (c : ℕ) → (column_has column c ≡ true) ↔ IsToldOfAuthor all own author c) where
+module _ (all mine : Versions) (columns : List AuthorColumn) (id author : ℕ) (column : Extent) (w : ToldTo all (both all mine) columns id) (next : IsNextAuthor mine id author) (told : (c : ℕ) → (column_has column c ≡ true) ↔ IsToldOfAuthor all (both all mine) author c) where
+  abbrev own : Versions
+  own = both all mine
+
   before : (q c : ℕ) → q < author + 1 → (author ≡ q → ⊥) → (column_has (column_of columns q) c ≡ true) ↔ IsToldOfAuthor all own q c
   before q c below other = elim (cases_lt q id) [
     | inl lower ↦ w.means q c lower
-    | inr from ↦ out_iff (column_has (column_of columns q) c) (IsToldOfAuthor all own q c) (w.rest q c from) (nothing_told all own q (next.between q from (omega arith)) c)
+    | inr from ↦ out_iff (column_has (column_of columns q) c) (IsToldOfAuthor all own q c) (w.rest q c from) (nothing_told all mine q (next.between q from (omega arith)) c)
   ]
 
   lower_then : All (λ x. x.author < author + 1) columns
@@ -323,8 +364,8 @@ module _ (all own : Versions) (columns : List AuthorColumn) (id author : ℕ) (c
   }
 
 -- once no author is left, the columns have all that is told
-pub told_whole : (all own : Versions) (columns : List AuthorColumn) (id : ℕ) → ToldTo all own columns id → HasNoAuthorFrom own id → AreTold all own (vector_has columns)
-told_whole all own columns id w none v = elim (cases_lt v.author id) [
+pub told_whole : (all mine : Versions) (columns : List AuthorColumn) (id : ℕ) → ToldTo all (both all mine) columns id → HasNoAuthorFrom mine id → AreTold all (both all mine) (vector_has columns)
+told_whole all mine columns id w none v = elim (cases_lt v.author id) [
   | inl below ↦ w.means v.author v.counter below
-  | inr from ↦ out_iff (vector_has columns v) (IsToldOfAuthor all own v.author v.counter) (w.rest v.author v.counter from) (nothing_told all own v.author (none v.author from) v.counter)
+  | inr from ↦ out_iff (vector_has columns v) (IsToldOfAuthor all (both all mine) v.author v.counter) (w.rest v.author v.counter from) (nothing_told all mine v.author (none v.author from) v.counter)
 ]

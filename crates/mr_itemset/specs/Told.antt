@@ -2,13 +2,15 @@
 -- with as few holes as any that leave the meaning as it is.
 use Rattle.std.specs.Prelude.{◌≡◌, ◌<◌, ◌≤◌, ◌-◌, ◌⊎◌, ◌↔◌, ℕ, Bool, true, false, ◌&&◌, not, List, [], ◌∷◌, ◌++◌, Option, Some, None}
 use Rattle.mr_version.specs.Name.{Name}
-use Rattle.mr_forms.specs.Sets.{Versions, Covers}
+use Rattle.mr_forms.specs.Sets.{Versions, Covers, both}
 use Rattle.mr_forms.specs.Runs.{of_author}
 use Rattle.mr_forms.specs.Known.{Part}
 use Rattle.mr_concise.specs.declared.column.Hole.{Hole}
 use Rattle.mr_concise.specs.declared.vector.AuthorColumn.{AuthorColumn}
 use Rattle.mr_concise.specs.Source.{HasHoles, HasAtMostHoles}
-use Rattle.mr_concise.specs.Vector.{vector_has}
+use Rattle.mr_concise.specs.Vector.{vector_has, IsVectorFrom}
+use Rattle.mr_itemset.specs.declared.knowledge.Listed.{Listed}
+use Rattle.mr_itemset.specs.Lacking.{Lacks}
 use Rattle.mr_itemset.specs.Normal.{Normal}
 use Rattle.mr_itemset.specs.ItemForm.{IsNormalPart}
 use Rattle.mr_itemset.specs.Shown.{Shown}
@@ -55,6 +57,25 @@ pub record IsToldPart (k : Normal) (p : Part) : Type 0 where
 pub record IsToldOf (all : List AuthorColumn) (whole told : Shown) : Type 0 where
   pub items : told.items ≡ whole.items
   pub tells : Tells (vector_has all) whole.items (vector_has whole.vector) (vector_has told.vector)
+
+-- of the item it is told what it has, with all that all items have
+pub record IsToldItem (all : List AuthorColumn) (x told : Listed) : Type 0 where
+  pub item : told.item ≡ x.item
+  pub vector_ok : IsVectorFrom 0 told.vector
+  pub tells : AreTold (vector_has all) (both (vector_has all) (vector_has x.vector)) (vector_has told.vector)
+
+-- all items have what the item has, and nothing is told; or what is told of it stands behind the others
+abbrev pub GainsTold : List AuthorColumn → Listed → List Listed → List Listed → Type 0
+GainsTold all x old new =
+    (Covers (vector_has all) (vector_has x.vector) × (new ≡ old))
+    ⊎ (Lacks (vector_has all) (vector_has x.vector) × ((told : Listed) × (IsToldItem all x told × (new ≡ old ++ told ∷ []))))
+
+-- of these items, one after the other, it is told what not all items have, but of those that have no such thing
+abbrev pub AreToldItems : List AuthorColumn → List Listed → List Listed → Type 0
+AreToldItems all [] ts = ts ≡ []
+AreToldItems all (x ∷ xs) ts =
+    (Covers (vector_has all) (vector_has x.vector) × AreToldItems all xs ts)
+    ⊎ (Lacks (vector_has all) (vector_has x.vector) × ((told : Listed) × ((rest : List Listed) × ((ts ≡ told ∷ rest) × (IsToldItem all x told × AreToldItems all xs rest)))))
 
 -- from here to before the other counter the item has all, or the hole of them is behind the others
 abbrev pub Skips : (ℕ → Bool) → ℕ → ℕ → List Hole → List Hole → Type 0

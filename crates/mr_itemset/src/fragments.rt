@@ -14,7 +14,7 @@ use mr_concise::{ConciseVector, knowledge_text};
 use mr_forms::{FormFault, Fragment, ItemSet, VersionSet};
 
 /// Puts a fragment of each group behind the others.
-fn push_groups(
+pub(crate) fn push_groups(
     fragments: &mut Vec<Fragment<ConciseVector>>,
     groups: Vec<Group<'_>>,
 ) -> Result<(), FormFault>

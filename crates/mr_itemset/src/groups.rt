@@ -1,9 +1,10 @@
 ghost use Rattle.std.specs.Prelude.{◌≡◌, ◌≤◌, ◌↔◌, [], true, Some, Err, IfOk, OnOk, OnErr, IsTrue, length};
 ghost use Rattle.mr_forms.specs.declared.fragment.TheConstants.{MAX_ITEMS};
 ghost use Rattle.mr_itemset.specs.Entries.{listed_as, listed_of};
-ghost use Rattle.mr_itemset.specs.Groups.{alone, with_item, grouped, all_grouped, place_of, ArePlaces, FillInTurn};
+ghost use Rattle.mr_itemset.specs.Groups.{alone, with_item, grouped, all_grouped, place_of, mark_of, ArePlaces, FillInTurn};
 ghost use Rattle.mr_itemset.specs.Shown.{shown, shown_group};
 
+use crate::knowledge::Listed;
 use crate::settled::Vectors;
 use mr_concise::ConciseVector;
 use mr_forms::{FormFault, Fragment, ItemSet, MAX_ITEMS, VersionSet};
@@ -11,6 +12,9 @@ use mr_version::ItemId;
 use std::alloc::{AllocError, Global};
 use std::collections::BTreeMap;
 use std::marker::Model;
+
+/// Which group takes an item of a vector. Vectors are compared by their marks first.
+type Places<'a> = BTreeMap<(u32, &'a ConciseVector), usize>;
 
 /// Listed items that have one vector, by rising item.
 #[derive(Drop)]
@@ -51,14 +55,6 @@ impl<'a> Group<'a> {
         })
     }
 
-    /// Its items, and their vector.
-    pub(crate) fn into_parts(self) -> (Vec<ItemId>, &'a ConciseVector)
-        ensures items { result.0.items ≡ self.entry.items }
-        ensures vector { result.1.now ≡ self.entry.vector }
-    {
-        (self.items, self.vector)
-    }
-
     /// Puts an item behind the others, and tells whether there are then as many as a fragment lists.
     fn push(&mut self, item: ItemId) -> Result<bool, AllocError>
         ensures pushed { OnOk result (self.new ≡ with_item self.old item) }
@@ -69,23 +65,35 @@ impl<'a> Group<'a> {
     }
 }
 
+/// A number in which vectors differ soonest: the bound of the first column.
+fn mark_of(vector: &ConciseVector) -> u32
+    ensures { result ≡ mark_of vector.now }
+{
+    match vector.author_columns().first() {
+        Some(x) => x.column.upto(),
+        None => 0,
+    }
+}
+
 /// Puts a listed item into the group that takes it. Where the group is then full, its vector leaves the
 /// map, so that the next item of this vector begins a new group.
 fn join<'a>(
     groups: &mut Vec<Group<'a>>,
-    places: &mut BTreeMap<&'a ConciseVector, usize>,
+    places: &mut Places<'a>,
     at: usize,
     item: ItemId,
+    mark: u32,
     vector: &'a ConciseVector,
 ) -> Result<(), AllocError>
     requires in_turn { FillInTurn MAX_ITEMS groups.old.items }
     requires places { ArePlaces MAX_ITEMS (λ vector. vector.now) groups.old.items places.old }
     requires at { place_of MAX_ITEMS groups.old.items vector.now ≡ Some at }
+    requires mark { mark ≡ mark_of vector.now }
     ensures added { OnOk result (groups.new.items ≡ grouped MAX_ITEMS groups.old.items (listed_as item vector.now)) }
     ensures places { OnOk result (ArePlaces MAX_ITEMS (λ vector. vector.now) groups.new.items places.new) }
 {
     if groups[at].push(item)? {
-        places.remove(&vector);
+        places.remove(&(mark, vector));
     }
     Ok(())
 }
@@ -94,7 +102,7 @@ fn join<'a>(
 /// map says which group takes an item of a vector.
 fn add<'a>(
     groups: &mut Vec<Group<'a>>,
-    places: &mut BTreeMap<&'a ConciseVector, usize>,
+    places: &mut Places<'a>,
     item: ItemId,
     vector: &'a ConciseVector,
     alloc: Global,
@@ -105,14 +113,27 @@ fn add<'a>(
     ensures in_turn { OnOk result (FillInTurn MAX_ITEMS groups.new.items) }
     ensures places { OnOk result (ArePlaces MAX_ITEMS (λ vector. vector.now) groups.new.items places.new) }
 {
-    match places.get(&vector) {
-        Some(&at) => join(groups, places, at, item, vector)?,
+    let mark = mark_of(vector);
+    match places.get(&(mark, vector)) {
+        Some(&at) => join(groups, places, at, item, mark, vector)?,
         None => {
-            places.insert(vector, groups.len())?;
+            places.insert((mark, vector), groups.len())?;
             groups.push(Group::of(item, vector, alloc)?)?;
         }
     }
     Ok(())
+}
+
+/// The items of a list, grouped as those of a map are.
+pub(crate) fn groups_in(listed: &[Listed], alloc: Global) -> Result<Vec<Group<'_>>, AllocError>
+    ensures { IfOk result (λ groups. groups.items ≡ all_grouped MAX_ITEMS [] listed.now) }
+{
+    let mut groups = Vec::new(alloc);
+    let mut places = BTreeMap::new(alloc);
+    for x in listed {
+        add(&mut groups, &mut places, x.item, &x.vector, alloc)?;
+    }
+    Ok(groups)
 }
 
 /// The listed items, grouped by their vectors, with as many in a group as a fragment lists: the groups

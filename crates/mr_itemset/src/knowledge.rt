@@ -1,8 +1,14 @@
-ghost use Rattle.std.specs.Prelude.{◌≡◌, ◌≤◌, true, false, length, IfOk, OnErr};
+ghost use Rattle.std.specs.Prelude.{◌≡◌, ◌≤◌, true, false, length, map, All, IfOk, OnErr, Err};
+ghost use Rattle.std.specs.List.{AllZip};
 ghost use Rattle.mr_version.specs.Name.{name_eq};
 ghost use Rattle.mr_forms.specs.Sets.{both};
 ghost use Rattle.mr_forms.specs.Known.{AreSame, HasValue, with_below, with_learned, with_learned_below};
+ghost use Rattle.mr_forms.specs.Covered.{all_covered, HasItems};
+ghost use Rattle.mr_forms.specs.Parts.{part_of, ArePartsThat};
+ghost use Rattle.mr_concise.specs.Vector.{vector_has};
 ghost use Rattle.mr_itemset.specs.Normal.{normal_known, IsNormal};
+ghost use Rattle.mr_itemset.specs.Shown.{shown, fragments_in};
+ghost use Rattle.mr_itemset.specs.Told.{IsToldOf, IsToldPart, IsSparest};
 ghost use Rattle.mr_itemset.specs.ItemForm.{items_form, with_all, HasHoleyItem};
 ghost use Rattle.mr_itemset.specs.Folded.{IsSplit};
 
@@ -14,7 +20,7 @@ use crate::pending::{
 };
 use crate::settled::Settled;
 use mr_concise::{ConciseVector, Source};
-use mr_forms::{MAX_ITEMS, VersionSet};
+use mr_forms::{FormFault, Fragment, MAX_ITEMS, VersionSet};
 use mr_version::{ItemId, Version};
 use std::alloc::AllocError;
 use std::marker::Model;
@@ -108,6 +114,19 @@ impl<const LIMIT: usize> ItemsUpTo<LIMIT> {
         ensures normal { IsNormal LIMIT self.now }
     {
         count_beyond(&self.settled, &self.pending)
+    }
+
+    /// The knowledge as fragments that say each thing once, as those of a
+    /// [`SparingKnowledge`](crate::SparingKnowledge) do.
+    pub(crate) fn told(&self) -> Result<Vec<Fragment<ConciseVector>>, FormFault>
+        ensures are { IfOk result (λ fragments. AllZip (IsToldOf self.now.all) (fragments_in self.now) (map shown fragments.items)) }
+        ensures fewest { IfOk result (λ fragments. AllZip (IsSparest self.now.all) (fragments_in self.now) (map shown fragments.items)) }
+        ensures ok { IfOk result (λ fragments. AreSame (normal_known self.now) (all_covered vector_has fragments.items)) }
+        ensures items { IfOk result (λ fragments. All (λ fragment. HasItems fragment.items) fragments.items) }
+        ensures parts { IfOk result (λ fragments. ArePartsThat (IsToldPart self.now) (map (part_of vector_has) fragments.items)) }
+        ensures memory { OnErr result (result ≡ Err FormFault.OutOfMemory) }
+    {
+        Ok(self.settled.told(&self.pending)?)
     }
 
     /// No fewer than there are items of which more is known than of all, without a look at them.

@@ -87,7 +87,7 @@ impl SparingKnowledge {
     /// say of them the versions that all items lack. Of each author that is the column with the fewest holes
     /// that leaves the meaning as it is: counters between two such versions, and before the first, are in it
     /// where the items have them all. `OutOfMemory` is the only fault. For n listed items it takes about
-    /// n log n comparisons of vectors, and for each listed vector a search for each of its runs.
+    /// n log n comparisons of what is told of them, and some searches for each run of what is listed.
     pub fn fragments(&self) -> Result<Vec<Fragment<ConciseVector>>, FormFault>
         ensures are { IfOk result (λ fragments. AllZip (IsToldOf self.now.all) (fragments_in self.now) (map shown fragments.items)) }
         ensures fewest { IfOk result (λ fragments. AllZip (IsSparest self.now.all) (fragments_in self.now) (map shown fragments.items)) }
@@ -96,8 +96,7 @@ impl SparingKnowledge {
         ensures parts { IfOk result (λ fragments. ArePartsThat (IsToldPart self.now) (map (part_of vector_has) fragments.items)) }
         ensures memory { OnErr result (result ≡ Err FormFault.OutOfMemory) }
     {
-        let folded = self.items.folded()?;
-        Ok(folded.told()?)
+        Ok(self.items.told()?)
     }
 
     /// The text of the normal form: `all` or items with commas between them, a space and the text of all that

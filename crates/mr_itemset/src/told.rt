@@ -1,25 +1,97 @@
 //! What the fragments of a sparing knowledge say of listed items: what all items lack.
-ghost use Rattle.std.specs.Prelude.{◌≡◌, ◌≤◌, ◌↔◌, ◌++◌, ℕ, true, List, MatchOption, IfOk, IfSome, OnOk, OnErr, Err, All, map};
+ghost use Rattle.std.specs.Prelude.{◌≡◌, ◌<◌, ◌≤◌, ◌↔◌, ℕ, true, false, nat_lt, length, MatchOption, IfOk, IfSome, OnOk, OnErr, Err, All, Contains, map};
 ghost use Rattle.std.specs.List.{AllZip};
-ghost use Rattle.mr_forms.specs.Known.{AreSame};
-ghost use Rattle.mr_forms.specs.Covered.{all_covered, HasItems};
-ghost use Rattle.mr_forms.specs.Parts.{part_of, ArePartsThat};
+ghost use Rattle.std.specs.List.Sorted.{IsNonDecreasingBy, IsPartitionPoint};
 ghost use Rattle.mr_forms.specs.Runs.{of_author};
-ghost use Rattle.mr_concise.specs.Column.{IsColumn, column_has};
-ghost use Rattle.mr_concise.specs.Next.{IsNextOut, IsNextIn, HasNoneFrom};
-ghost use Rattle.mr_concise.specs.Vector.{vector_has};
-ghost use Rattle.mr_itemset.specs.Normal.{normal_known};
-ghost use Rattle.mr_itemset.specs.Shown.{Shown, shown, shown_group, fragments_in};
-ghost use Rattle.mr_itemset.specs.Told.{beyond, IsToldOfAuthor, AreTold, IsToldPart, IsToldOf, IsSparest, Skips};
+ghost use Rattle.mr_forms.specs.Sets.{both};
+ghost use Rattle.mr_concise.specs.Column.{IsColumn, column_has, empty_column};
+ghost use Rattle.mr_concise.specs.Next.{IsNextIn, HasNoneFrom};
+ghost use Rattle.mr_concise.specs.Vector.{vector_has, column_of, IsVectorFrom};
+ghost use Rattle.mr_itemset.specs.Entries.{listed_as};
+ghost use Rattle.mr_itemset.specs.Folded.{folded, Fits};
+ghost use Rattle.mr_itemset.specs.Shown.{shown, fragments_in};
+ghost use Rattle.mr_itemset.specs.Told.{beyond, IsToldOfAuthor, AreTold, AreToldItems, GainsTold, IsToldOf, Skips};
 
-use crate::groups::{Group, groups_of};
+use crate::fragments::push_groups;
+use crate::groups::groups_in;
+use crate::knowledge::Listed;
 use crate::settled::Settled;
-use mr_concise::{AuthorColumn, COUNTERS_END, Column, ConciseVector, Hole, Source};
+use mr_concise::{AuthorColumn, Column, ConciseVector, Hole, Source};
 use mr_forms::{FormFault, Fragment, ItemSet};
-use mr_version::{Author, MAX_COUNTER};
+use mr_version::{Author, ItemId, MAX_COUNTER};
 use std::alloc::{AllocError, Global};
 
-/// What all items have, and what an item has.
+/// The author's column, where there is one.
+fn column_in(vector: &ConciseVector, author: Author) -> Option<&Column>
+    ensures is { MatchOption result (column_of vector.now author ≡ empty_column) (λ column. column.now ≡ column_of vector.now author) }
+    ensures ok { IfSome result (λ column. IsColumn column.now) }
+{
+    for x in vector.author_columns() {
+        if x.author.id() == author.id() {
+            return Some(&x.column);
+        }
+    }
+    None
+}
+
+/// The last hole that begins before the counter. It costs a binary search.
+fn last_begun(holes: &[Hole], counter: u32) -> Option<Hole>
+    requires { IsNonDecreasingBy (λ hole. hole.first) holes.now }
+    ensures { IfSome result (λ hole. Contains holes.now hole × (hole.first < counter)) }
+{
+    let begun = begun_before(holes, counter);
+    if begun > 0 {
+        Some(holes[begun - 1])
+    } else {
+        None
+    }
+}
+
+/// How many holes begin before the counter.
+fn begun_before(holes: &[Hole], counter: u32) -> usize
+    requires { IsNonDecreasingBy (λ hole. hole.first) holes.now }
+    ensures bound { result ≤ length holes.now }
+    ensures begun { IsPartitionPoint (λ hole. nat_lt hole.first counter ≡ true) (λ hole. nat_lt hole.first counter ≡ false) holes.now result }
+{
+    holes.partition_point(|hole| hole.first < counter)
+}
+
+/// The last counter before the end that the column lacks, where it lacks the first one. Callers may rely on
+/// any such counter; that it is the last one saves them steps.
+#[tactic(auto, using(crate::proofs::HoleWalk::above_lacks))]
+fn last_gap_before(column: &Column, first: u32, end: u32) -> u32
+    requires column { IsColumn column.now }
+    requires before { first < end }
+    requires lacks { column_has column.now first ≡ false }
+    ensures above { first ≤ result }
+    ensures below { result < end }
+    ensures lacks { column_has column.now result ≡ false }
+{
+    if column.upto() < end - 1 {
+        return end - 1;
+    }
+    match last_begun(column.holes(), end) {
+        Some(hole) => hole.last.min(end - 1).max(first),
+        None => first,
+    }
+}
+
+/// The author's last counter before the end that the vector lacks, where it lacks the first one, as
+/// [`last_gap_before`] tells it of a column.
+fn last_out_before(vector: &ConciseVector, author: Author, first: u32, end: u32) -> u32
+    requires before { first < end }
+    requires lacks { of_author (vector_has vector.now) author first ≡ false }
+    ensures above { first ≤ result }
+    ensures below { result < end }
+    ensures lacks { of_author (vector_has vector.now) author result ≡ false }
+{
+    match column_in(vector, author) {
+        Some(column) => last_gap_before(column, first, end),
+        None => end - 1,
+    }
+}
+
+/// What all items have, and what an item has beside: it has what one of the two has.
 #[derive(Drop)]
 struct Difference<'a> {
     all: &'a ConciseVector,
@@ -27,7 +99,8 @@ struct Difference<'a> {
 }
 
 impl<'a> Difference<'a> {
-    /// The author's first counter from here on that the item has, and not all items.
+    /// The author's first counter from here on that the item has, and not all items. It costs two searches
+    /// for each run of what the item has beside.
     fn next_in(&self, author: Author, from: u32) -> Option<u32>
         requires { 1 ≤ from }
         ensures next { MatchOption result (HasNoneFrom (beyond self.now.all.now self.now.own.now author) from) (λ at. IsNextIn (beyond self.now.all.now self.now.own.now author) from at) }
@@ -44,17 +117,31 @@ impl<'a> Difference<'a> {
         }
     }
 
-    /// The author's first counter from here on that the item lacks, or all items have.
-    fn next_out(&self, author: Author, from: u32) -> u32
-        requires { (1 ≤ from) × (from ≤ MAX_COUNTER) }
-        ensures next { IsNextOut (beyond self.now.all.now self.now.own.now author) from result }
-        ensures bound { result ≤ COUNTERS_END }
+    /// The last counter, of those that the item has in a row from the first one on, that not all items have.
+    /// It costs a search in each of the two columns, however many holes all items have in that row.
+    fn last_in_row(&self, author: Author, first: u32) -> u32
+        requires first { (1 ≤ first) × (first ≤ MAX_COUNTER) }
+        requires is { beyond self.now.all.now self.now.own.now author first ≡ true }
+        ensures above { first ≤ result }
+        ensures bound { result ≤ MAX_COUNTER }
+        ensures is { beyond self.now.all.now self.now.own.now author result ≡ true }
+        ensures row { (c : ℕ) → first ≤ c → c ≤ result → of_author (vector_has self.now.own.now) author c ≡ true }
     {
-        let end = self.own.next_out(author, from);
-        match self.all.next_in(author, from) {
-            Some(next) if next < end => next,
-            _ => end,
+        let end = self.own.next_out(author, first);
+        last_out_before(self.all, author, first, end)
+    }
+
+    /// Whether the item has all of the author's counters from here to before the other one.
+    fn has_row(&self, author: Author, from: u32, end: u32) -> bool
+        requires { (1 ≤ from) × (from ≤ MAX_COUNTER) }
+        ensures yes { result ≡ true → (c : ℕ) → from ≤ c → c < end → of_author (both (vector_has self.now.all.now) (vector_has self.now.own.now)) author c ≡ true }
+        ensures no { result ≡ false → (c : ℕ) × ((from ≤ c) × ((c < end) × (of_author (both (vector_has self.now.all.now) (vector_has self.now.own.now)) author c ≡ false))) }
+    {
+        if end <= self.own.next_out(author, from) {
+            return true;
         }
+        let known = (self.all, self.own);
+        end <= known.next_out(author, from)
     }
 
     /// Puts a hole of the counters from here to before the other behind the others, unless the item has
@@ -68,9 +155,9 @@ impl<'a> Difference<'a> {
     ) -> Result<(), AllocError>
         requires from { (1 ≤ from) × (from ≤ MAX_COUNTER) }
         requires first { (from ≤ first) × (first ≤ MAX_COUNTER) }
-        ensures { OnOk result (Skips (of_author (vector_has self.now.own.now) author) from first holes.old.items holes.new.items) }
+        ensures { OnOk result (Skips (of_author (both (vector_has self.now.all.now) (vector_has self.now.own.now)) author) from first holes.old.items holes.new.items) }
     {
-        if self.own.next_out(author, from) < first {
+        if !self.has_row(author, from, first) {
             holes.push(Hole {
                 first: from,
                 last: first - 1,
@@ -84,21 +171,22 @@ impl<'a> Difference<'a> {
     /// item has them all.
     fn column(&self, alloc: Global, author: Author) -> Result<Column, AllocError>
         ensures column { IfOk result IsColumn }
-        ensures told { IfOk result (λ column. (c : ℕ) → (column_has column c ≡ true) ↔ IsToldOfAuthor (vector_has self.now.all.now) (vector_has self.now.own.now) author c) }
+        ensures told { IfOk result (λ column. (c : ℕ) → (column_has column c ≡ true) ↔ IsToldOfAuthor (vector_has self.now.all.now) (both (vector_has self.now.all.now) (vector_has self.now.own.now)) author c) }
     {
         let _own = self.own.author_columns();
         let mut holes = Vec::new(alloc);
         let mut upto = 0;
         while let Some(first) = self.next_in(author, upto + 1) {
             self.skip(&mut holes, author, upto + 1, first)?;
-            upto = self.next_out(author, first) - 1;
+            upto = self.last_in_row(author, first);
         }
         Ok(Column::new(upto, holes))
     }
 
     /// The same of all authors.
     fn vector(&self, alloc: Global) -> Result<ConciseVector, AllocError>
-        ensures { IfOk result (λ vector. AreTold (vector_has self.now.all.now) (vector_has self.now.own.now) (vector_has vector)) }
+        ensures vector { IfOk result (IsVectorFrom 0) }
+        ensures told { IfOk result (λ vector. AreTold (vector_has self.now.all.now) (both (vector_has self.now.all.now) (vector_has self.now.own.now)) (vector_has vector)) }
     {
         let mut columns = Vec::new(alloc);
         let mut id = 0;
@@ -113,59 +201,65 @@ impl<'a> Difference<'a> {
     }
 }
 
-impl<'a> Group<'a> {
-    /// Its items, with what is told of them beside what all items have.
-    fn into_told(
-        self,
-        alloc: Global,
-        all: &ConciseVector,
-    ) -> Result<Fragment<ConciseVector>, AllocError>
-        ensures { IfOk result (λ fragment. IsToldOf all.now (shown_group self.entry) (shown fragment)) }
-    {
-        let (items, own) = self.into_parts();
-        let difference = Difference { all, own };
-        Ok(Fragment {
-            items: ItemSet::Listed(items),
-            vector: difference.vector(alloc)?,
-        })
-    }
-}
-
-/// Puts a fragment of each group, with what is told of its items, behind the others.
+/// Puts what is told of an item behind the others, if it has something that not all items have.
 fn push_told(
-    fragments: &mut Vec<Fragment<ConciseVector>>,
+    told: &mut Vec<Listed>,
     alloc: Global,
     all: &ConciseVector,
-    groups: Vec<Group<'_>>,
+    item: ItemId,
+    own: &ConciseVector,
 ) -> Result<(), AllocError>
-    ensures { (before : List Shown) → AllZip (IsToldOf all.now) before (map shown fragments.old.items) → OnOk result (AllZip (IsToldOf all.now) (before ++ map shown_group groups.entry.items) (map shown fragments.new.items)) }
+    ensures { OnOk result (GainsTold all.now (listed_as item own.now) told.old.items told.new.items) }
 {
-    for group in groups {
-        fragments.push(group.into_told(alloc, all)?)?;
+    let difference = Difference { all, own };
+    let vector = difference.vector(alloc)?;
+    if vector.author_columns().is_empty() {
+        return Ok(());
     }
+    told.push(Listed { item, vector })?;
     Ok(())
 }
 
 impl<const LIMIT: usize> Settled<LIMIT> {
-    /// The knowledge as fragments that say each thing once. They are those of the normal form, but of its
-    /// listed items each says what all items lack, in the column with the fewest holes that leaves the
-    /// meaning as it is. For n listed items it takes about n log n comparisons of vectors, and a walk along
-    /// the columns of each listed vector and of what all items have.
-    pub(crate) fn told(&self) -> Result<Vec<Fragment<ConciseVector>>, AllocError>
-        ensures are { IfOk result (λ fragments. AllZip (IsToldOf self.now.all) (fragments_in self.now) (map shown fragments.items)) }
-        ensures fewest { IfOk result (λ fragments. AllZip (IsSparest self.now.all) (fragments_in self.now) (map shown fragments.items)) }
-        ensures ok { IfOk result (λ fragments. AreSame (normal_known self.now) (all_covered vector_has fragments.items)) }
-        ensures items { IfOk result (λ fragments. All (λ fragment. HasItems fragment.items) fragments.items) }
-        ensures parts { IfOk result (λ fragments. ArePartsThat (IsToldPart self.now) (map (part_of vector_has) fragments.items)) }
+    /// What is told of each listed item that has something that not all items have, by rising item.
+    fn told_items(&self, all: &ConciseVector) -> Result<Vec<Listed>, AllocError>
+        ensures { IfOk result (λ told. AreToldItems all.now self.now.listed told.items) }
     {
         let alloc = self.allocator();
+        let mut told = Vec::new(alloc);
+        for (item, own) in self.listed() {
+            push_told(&mut told, alloc, all, *item, own)?;
+        }
+        Ok(told)
+    }
+
+    /// The knowledge, with these versions for all items, as fragments that say each thing once. They are
+    /// those of the normal form, but of its listed items each says what all items lack, in the column with
+    /// the fewest holes that leaves the meaning as it is. For n listed items it takes about n log n
+    /// comparisons of what is told of them, and some searches for each run of what is listed.
+    pub(crate) fn told(
+        &self,
+        pending: &ConciseVector,
+    ) -> Result<Vec<Fragment<ConciseVector>>, FormFault>
+        requires vector { IsVectorFrom 0 pending.now }
+        requires all { Fits self.now.all pending.now }
+        requires listed { All (λ x. Fits x.vector pending.now) self.now.listed }
+        ensures are { IfOk result (λ fragments. AllZip (IsToldOf (folded self.now pending.now).all) (fragments_in (folded self.now pending.now)) (map shown fragments.items)) }
+        ensures memory { OnErr result (result ≡ Err FormFault.OutOfMemory) }
+    {
+        let alloc = self.allocator();
+        let sources = (pending, self.for_all());
+        let Ok(all) = ConciseVector::gather(alloc, &sources) else {
+            return Err(FormFault::OutOfMemory);
+        };
+        let told = self.told_items(&all)?;
         let mut fragments = Vec::new(alloc);
         fragments.push(Fragment {
             items: ItemSet::All,
-            vector: self.for_all().copy()?,
+            vector: all,
         })?;
-        let groups = groups_of(self.listed(), alloc)?;
-        push_told(&mut fragments, alloc, self.for_all(), groups)?;
+        let groups = groups_in(&told, alloc)?;
+        push_groups(&mut fragments, groups)?;
         Ok(fragments)
     }
 }

@@ -1,8 +1,17 @@
-use Rattle.std.specs.Vec.Iter.{into_iter_items}
-use Rattle.mr_itemset.proofs.ToldParts.{told_group}
+use Rattle.std.proofs.Common.{refl, inl, inr, sym, ◌∙◌}
+use Rattle.mr_itemset.proofs.ToldItems.{none_from, some_from, told_nothing, told_something}
 use Rattle.mr_itemset.proofs.told.push_told.Goals as goal
 
-pub loop-group-preserved : goal.loop-group-preserved
-loop-group-preserved c before told =
-    told_group c.args.all.now before c.args.groups.items (into_iter_items c.loop-group.group-iterator) (into_iter_items c.next.new.self) c.in-Some.group c.loop-group.fragments.items c.push.new.self.items c.in_ok-into_told.field-0
-    c.in-Some.ensures.steps.0 c.in_ok-push.ensures.items c.in_ok-into_told.ensures (c.loop-group.invariant before told)
+pub returns-then-is_empty : goal.returns-then-is_empty
+returns-then-is_empty c =
+    let none = none_from c.author_columns.result.now (sym c.is_empty.ensures ∙ c.if-is_empty.true) in
+    inl (told_nothing c.args.all.now c.args.own.now c.in_ok-vector.vector c.in_ok-vector.ensures.told (sym c.author_columns.ensures.is ∙ none), refl)
+
+pub returns : goal.returns
+returns c = inr (
+  told_something c.args.all.now c.args.own.now c.in_ok-vector.vector c.in_ok-vector.ensures.vector c.in_ok-vector.ensures.told (λ none. some_from c.author_columns.result.now (sym c.is_empty.ensures ∙ c.if-is_empty.false) (c.author_columns.ensures.is ∙ none)),
+  (
+    record { item = c.args.item; vector = c.in_ok-vector.vector },
+    (record { item = refl; vector_ok = c.in_ok-vector.ensures.vector; tells = c.in_ok-vector.ensures.told }, c.in_ok-push.ensures.items),
+  ),
+)

@@ -1,0 +1,100 @@
+-- Holes by where they begin, a counter in one of them, and an author's column among others.
+use Rattle.std.proofs.Common.{◌≡◌, ◌<◌, ◌≤◌, ◌+◌, ◌-◌, ◌&&◌, ◌||◌, ℕ, zero, suc, Bool, true, false, not, nat_le, List, [], ◌∷◌, ◌++◌, length, get_or, drop, Contains, refl, ap, sym, ◌∙◌, arith, inl, inr}
+use Rattle.std.specs.Prelude.{min, max}
+use Rattle.std.specs.List.{list_any}
+use Rattle.std.specs.List.Sorted.{IsNonDecreasingBy}
+use Rattle.std.proofs.lemmas.Bool.{false≢true, cases_lt, cases_eq, le-leb, lt-leb, eq-eqb, ne_eqb}
+use Rattle.mr_concise.specs.Edges.{IsRising}
+use Rattle.mr_concise.specs.declared.column.Hole.{Hole}
+use Rattle.mr_concise.specs.declared.vector.AuthorColumn.{AuthorColumn}
+use Rattle.mr_concise.specs.Column.{Extent, hole_has, hole_edges, column_has, empty_column, IsColumn}
+use Rattle.mr_concise.specs.Next.{IsNextOut}
+use Rattle.mr_concise.specs.Vector.{column_of}
+
+first-above : (low : ℕ) (holes : List Hole) (end j : ℕ) (d : Hole) → IsRising low (hole_edges holes ++ end ∷ []) → j < length holes → low < (get_or holes j d).first
+first-above low [] end j d r l = absurd (omega arith)
+first-above low (h ∷ hs) end zero d r l = let a = r.0 in omega arith
+first-above low (h ∷ hs) end (suc j) d r l = let a = r.0 in let b = r.1.0 in let ih = first-above (h.last + 1) hs end j d r.1.1 (omega arith) in omega arith
+
+-- holes that rise begin in order
+pub firsts-rise : (low : ℕ) (holes : List Hole) (end : ℕ) → IsRising low (hole_edges holes ++ end ∷ []) → IsNonDecreasingBy (λ h. h.first) holes
+firsts-rise low [] end r i j d h l = absurd (omega arith)
+firsts-rise low (x ∷ xs) end r zero zero d h l = omega arith
+firsts-rise low (x ∷ xs) end r zero (suc j) d h l = let b = r.1.0 in let q = first-above (x.last + 1) xs end j d r.1.1 (omega arith) in omega arith
+firsts-rise low (x ∷ xs) end r (suc i) zero d h l = absurd (omega arith)
+firsts-rise low (x ∷ xs) end r (suc i) (suc j) d h l = firsts-rise (x.last + 1) xs end r.1.1 i j d (omega arith) (omega arith)
+
+hole-ordered : (low : ℕ) (hs : List Hole) (end j : ℕ) (d : Hole) → IsRising low (hole_edges hs ++ end ∷ []) → j < length hs → (get_or hs j d).first ≤ (get_or hs j d).last
+hole-ordered low [] end j d r l = absurd (omega arith)
+hole-ordered low (h ∷ hs) end zero d r l = let a = r.1.0 in omega arith
+hole-ordered low (h ∷ hs) end (suc j) d r l = hole-ordered (h.last + 1) hs end j d r.1.1 (omega arith)
+
+or-right : (b : Bool) → (b || true) ≡ true
+or-right true = refl
+or-right false = refl
+
+in-hole : (hs : List Hole) (j c : ℕ) (d : Hole) → j < length hs → (get_or hs j d).first ≤ c → c ≤ (get_or hs j d).last → list_any (λ hole. hole_has hole c) hs ≡ true
+in-hole [] j c d l a b = absurd (omega arith)
+in-hole (h ∷ hs) zero c d l a b = rw (le-leb h.first c a, le-leb c h.last b) refl
+in-hole (h ∷ hs) (suc j) c d l a b = rw (in-hole hs j c d (omega arith) a b) (or-right (hole_has h c))
+
+and-not-true : (b : Bool) → (b && not true) ≡ false
+and-not-true true = refl
+and-not-true false = refl
+
+-- a counter in a hole is not covered
+hole-lacks : (column : Extent) (j c : ℕ) (d : Hole) → j < length column.holes → (get_or column.holes j d).first ≤ c → c ≤ (get_or column.holes j d).last → column_has column c ≡ false
+hole-lacks column j c d l a b = rw (in-hole column.holes j c d l a b) (and-not-true (nat_le 1 c && nat_le c column.upto))
+
+-- nor is one above the bound
+pub above_lacks : (column : Extent) (c : ℕ) → column.upto < c → column_has column c ≡ false
+above_lacks column c above = rw (lt-leb c column.upto above) (out (nat_le 1 c) (list_any (λ hole. hole_has hole c) column.holes))
+  where
+    out : (b x : Bool) → ((b && false) && not x) ≡ false
+    out true x = refl
+    out false x = refl
+
+-- the last counter of a hole, but before an end, and no lower than one that is not covered
+pub last_lacks : (column : Extent) (hole : Hole) (first end r : ℕ) → IsColumn column → Contains column.holes hole → hole.first < end → column_has column first ≡ false → r ≡ max (min hole.last (end - 1)) first → column_has column r ≡ false
+last_lacks column hole first end r normal there begun lacks is = elim (cases_lt (min hole.last (end - 1)) first) [
+  | inl lower ↦ let same : r ≡ first = omega arith in ap (column_has column) same ∙ lacks
+  | inr higher ↦
+      let ordered : (get_or column.holes there.0 hole).first ≤ (get_or column.holes there.0 hole).last = hole-ordered 0 column.holes (column.upto + 1) there.0 hole normal.apart there.1 in
+      let first_is : (get_or column.holes there.0 hole).first ≡ hole.first = ap (λ (h : Hole). h.first) there.2 in
+      let last_is : (get_or column.holes there.0 hole).last ≡ hole.last = ap (λ (h : Hole). h.last) there.2 in
+      let from : (get_or column.holes there.0 hole).first ≤ r = omega arith in
+      let to : r ≤ (get_or column.holes there.0 hole).last = omega arith in
+      hole-lacks column there.0 r hole there.1 from to
+]
+
+-- ---- an author's column
+
+-- it is not the column of another author
+pub column_passed : (xs : List AuthorColumn) (i author : ℕ) (x : AuthorColumn) → i < length xs → x ≡ get_or xs i x → (x.author ≡ author → ⊥) → column_of (drop i xs) author ≡ column_of (drop (suc i) xs) author
+column_passed [] i author x within is other = absurd (omega arith)
+column_passed (y ∷ ys) zero author x within is other =
+    rw (ne_eqb y.author author (λ same. other (ap (λ (z : AuthorColumn). z.author) is ∙ same))) refl
+column_passed (y ∷ ys) (suc i) author x within is other = column_passed ys i author x (omega arith) is other
+
+-- it is that of the author
+pub column_found : (xs : List AuthorColumn) (i author : ℕ) (x : AuthorColumn) → i < length xs → x ≡ get_or xs i x → x.author ≡ author → column_of (drop i xs) author ≡ x.column
+column_found [] i author x within is same = absurd (omega arith)
+column_found (y ∷ ys) zero author x within is same =
+    rw (eq-eqb y.author author (ap (λ (z : AuthorColumn). z.author) (sym is) ∙ same)) (ap (λ (z : AuthorColumn). z.column) (sym is))
+column_found (y ∷ ys) (suc i) author x within is same = column_found ys i author x (omega arith) is same
+
+-- behind all of them there is none
+pub column_none : (xs : List AuthorColumn) (i author : ℕ) → length xs ≤ i → column_of (drop i xs) author ≡ empty_column
+column_none [] zero author past = refl
+column_none [] (suc i) author past = refl
+column_none (y ∷ ys) zero author past = absurd (omega arith)
+column_none (y ∷ ys) (suc i) author past = column_none ys i author (omega arith)
+
+-- ---- a stretch that the item has
+
+-- it goes on past a counter that the item has
+pub row_end : (own : ℕ → Bool) (first end : ℕ) → own first ≡ true → IsNextOut own first end → first < end
+row_end own first end has out = let above = out.above in elim (cases_eq first end) [
+  | inl same ↦ absurd (false≢true (sym out.is_out ∙ ap own (sym same) ∙ has))
+  | inr other ↦ omega arith
+]
