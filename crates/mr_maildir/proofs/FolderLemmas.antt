@@ -9,7 +9,7 @@ use Rattle.hex.specs.Hex.{encode_lower, lower_digits}
 use Rattle.hex.proofs.HexLemmas.{length-encode_with}
 use Rattle.mr_mail.proofs.FlagLemmas.{passes-below}
 use Rattle.mr_mail.specs.Label.{is_label, is_label_byte, text_eq}
-use Rattle.mr_maildir.specs.Folder.{is_kept_name, is_plain, digest_label, label_of, is_safe_folder, is_name_for, folder_name}
+use Rattle.mr_maildir.specs.Folder.{is_kept_name, is_part_name, is_plain, digest_label, label_of, is_safe_folder, is_name_for, folder_name}
 use Rattle.mr_maildir.specs.Path.{is_path_byte, IsPathPart}
 use Rattle.mr_maildir.proofs.PathLemmas.{each_digit}
 use Rattle.mr_maildir.proofs.ViewLemmas.{same_text}
@@ -67,7 +67,7 @@ implied p q each (b ∷ text) all =
     and_from (q b) (list_all q text) (each b parts.0) (implied p q each text parts.1)
 
 -- a label is a part of a path
-label_byte_in_path : (b : ℕ) → is_label_byte b ≡ true → is_path_byte b ≡ true
+pub label_byte_in_path : (b : ℕ) → is_label_byte b ≡ true → is_path_byte b ≡ true
 label_byte_in_path b is =
     both (is_label_byte b) (is_path_byte b) (passes-below 123 (λ n. not (is_label_byte n) || is_path_byte n) refl b (low b is)) is
   where
@@ -103,16 +103,30 @@ label_is_part text is =
 pub label_of-not_own : (name : List ℕ) → text_eq (label_of name) (codes "mailfold") ≡ false
 label_of-not_own name =
     elim (is_plain name) as (λ t. is_plain name ≡ t → text_eq (cond t name (digest_label name)) (codes "mailfold") ≡ false) [
-      | true ↦ λ is. neither (text_eq name (codes "inbox")) (text_eq name (codes "mailfold")) (and_parts (is_label name) (not (is_kept_name name)) is).1
+      | true ↦ λ is. neither (text_eq name (codes "inbox")) (text_eq name (codes "mailfold")) (is_part_name name) (and_parts (is_label name) (not (is_kept_name name)) is).1
       | false ↦ λ _. refl
     ] refl
   where
-    neither : (a b : Bool) → not (a || b) ≡ true → b ≡ false
-    neither true b h = absurd (false≢true h)
-    neither false b h = not_so b h
+    neither : (a b c : Bool) → not (a || b || c) ≡ true → b ≡ false
+    neither true b c h = absurd (false≢true h)
+    neither false true c h = absurd (false≢true h)
+    neither false false c h = refl
+
+-- nor that of one of a folder's parts
+pub label_of-not_part : (name : List ℕ) → is_part_name (label_of name) ≡ false
+label_of-not_part name =
+    elim (is_plain name) as (λ t. is_plain name ≡ t → is_part_name (cond t name (digest_label name)) ≡ false) [
+      | true ↦ λ is. third (text_eq name (codes "inbox")) (text_eq name (codes "mailfold")) (is_part_name name) (and_parts (is_label name) (not (is_kept_name name)) is).1
+      | false ↦ λ _. refl
+    ] refl
+  where
+    third : (a b c : Bool) → not (a || b || c) ≡ true → c ≡ false
+    third true b c h = absurd (false≢true h)
+    third false true c h = absurd (false≢true h)
+    third false false c h = not_so c h
 
 -- the folder that a label's mail is put into has that label
-label_of-label : (label : List ℕ) → is_label label ≡ true → is_kept_name label ≡ false → label_of label ≡ label
+pub label_of-label : (label : List ℕ) → is_label label ≡ true → is_kept_name label ≡ false → label_of label ≡ label
 label_of-label label is free =
     ap (λ t. cond t label (digest_label label)) (and_from (is_label label) (not (is_kept_name label)) is (ap not free))
 

@@ -8,3 +8,7 @@ pub mod ActLemmas
 pub mod FolderLemmas
 pub mod ToldLemmas
 pub mod ReferenceLemmas
+pub mod PlanLemmas
+pub mod LayoutLemmas
+pub mod ListingLemmas
+pub mod HeaderLemmas

@@ -39,7 +39,7 @@ view_eq-Decides a b = (
 pub same_text : (a b : List ℕ) → text_eq a b ≡ true → a ≡ b
 same_text a b = (bytes_decides a b).0
 
-text_eq-itself : (a : List ℕ) → text_eq a a ≡ true
+pub text_eq-itself : (a : List ℕ) → text_eq a a ≡ true
 text_eq-itself a = (bytes_decides a a).1 refl
 
 turned : (a b : List ℕ) → text_cmp a b ≡ Greater → text_cmp b a ≡ Less

@@ -6,9 +6,13 @@ use Rattle.sha2.specs.Sha256.{sha256}
 use Rattle.mr_mail.specs.Label.{is_label, text_eq}
 use Rattle.mr_maildir.specs.Path.{is_path_byte}
 
--- the label of the Maildir itself, and the name of the program's own folder
+-- the names of a folder's three parts
+abbrev pub is_part_name : List ℕ → Bool
+is_part_name name = text_eq name (codes "cur") || text_eq name (codes "new") || text_eq name (codes "tmp")
+
+-- the label of the Maildir itself, the name of the program's own folder, and those of a folder's parts
 abbrev pub is_kept_name : List ℕ → Bool
-is_kept_name name = text_eq name (codes "inbox") || text_eq name (codes "mailfold")
+is_kept_name name = text_eq name (codes "inbox") || text_eq name (codes "mailfold") || is_part_name name
 
 -- a name that is its folder's label
 abbrev pub is_plain : List ℕ → Bool

@@ -5,7 +5,13 @@ pub mod Folder
 pub mod Told
 pub mod Reference
 pub mod View
+pub mod File
+pub mod FileActs
+pub mod Layout
+pub mod Header
+pub mod Listing
 pub mod Merging
 pub mod Act
 pub mod Policy
 pub mod Rows
+pub mod FileRows

@@ -6,7 +6,8 @@ ghost use Rattle.hex.specs.Hex.{encode_lower};
 ghost use Rattle.mr_mail.specs.Label.{is_label, text_eq};
 ghost use Rattle.mr_maildir.specs.Folder as specs;
 ghost use Rattle.mr_maildir.specs.Folder.{label_of, is_kept_name};
-ghost use Rattle.mr_maildir.specs.Path.{IsPathPart, is_path_byte};
+ghost use Rattle.mr_maildir.specs.Path.{IsPathPart};
+ghost use Rattle.mr_maildir.specs.Path as path;
 
 use mr_mail::Label;
 use sha2::{Digest, Sha256};
@@ -29,7 +30,7 @@ pub fn inbox() -> Label
 }
 
 /// The label of a subfolder of this name, which a Maildir++ keeps in `.NAME`: the name itself where it is a label, but
-/// neither `inbox` nor `mailfold`; else `f-` and the first 30 hexadecimal digits of the SHA-256 of the name. Maildir++ is
+/// none of `inbox`, `mailfold`, `cur`, `new` and `tmp`; else `f-` and the first 30 hexadecimal digits of the SHA-256 of the name. Maildir++ is
 /// described at <https://www.courier-mta.org/imap/README.maildirquota.html>. Only for digits memory is asked for.
 pub fn folder_label(alloc: Global, name: &str) -> Result<Label, AllocError>
     ensures { IfOk result (λ label. label ≡ label_of name.now) }
@@ -56,10 +57,11 @@ pub fn is_safe_folder(text: &str) -> bool
 }
 
 /// The name of the label's subfolder, behind its dot: the one that was told, where it is safe and a folder of that name has
-/// this label; else the label itself, but for `inbox` and `mailfold` the label that folders of these names have.
+/// this label; else the label itself, but for `inbox`, `mailfold`, `cur`, `new` and `tmp` the label that folders of these
+/// names have.
 ///
 /// Whatever was told, the name makes a path inside the Maildir, and never the program's own. Read back, it is the
-/// label's again, but for those two.
+/// label's again, but for those five.
 pub fn folder_name(alloc: Global, label: &Label, told: Option<&str>) -> Result<String, AllocError>
     ensures value { IfOk result (λ name. string_bytes name ≡ specs.folder_name label.now (option_copied told.entry)) }
     ensures path { IfOk result (λ name. IsPathPart (string_bytes name)) }
@@ -94,11 +96,18 @@ fn own_name(alloc: Global, label: &Label) -> Result<String, AllocError>
     String::from_str(alloc, named.as_str())
 }
 
-/// Whether the name is kept: it is the label of the Maildir itself, or names the program's own folder.
+/// Whether the name is kept: it is the label of the Maildir itself, or names the program's own folder or a folder's part.
 fn is_kept(name: &str) -> bool
     ensures { result ≡ is_kept_name name.now }
 {
-    name == INBOX || name == OWN_FOLDER
+    name == INBOX || name == OWN_FOLDER || is_part_name(name)
+}
+
+/// Whether it is the name of one of the three parts that each folder has.
+pub(crate) fn is_part_name(name: &str) -> bool
+    ensures { result ≡ specs.is_part_name name.now }
+{
+    name == "cur" || name == "new" || name == "tmp"
 }
 
 /// Whether the folder of this name has the name as its label.
@@ -132,9 +141,14 @@ fn digest_text(alloc: Global, digest: &[u8; 32]) -> Result<String, AllocError>
 
 /// Whether each of the bytes may stand in a path's part.
 fn are_path_bytes(bytes: &[u8]) -> bool
-    ensures { result ≡ list_all is_path_byte bytes.now }
+    ensures { result ≡ list_all path.is_path_byte bytes.now }
 {
-    bytes
-        .iter()
-        .all(|byte| 32 <= *byte && *byte != 127 && *byte != b'/')
+    bytes.iter().all(|byte| is_path_byte(*byte))
+}
+
+/// Whether the byte may stand in a path's part: no control character, and no `/`.
+pub(crate) fn is_path_byte(byte: u8) -> bool
+    ensures { result ≡ path.is_path_byte byte }
+{
+    32 <= byte && byte != 127 && byte != b'/'
 }

@@ -15,22 +15,32 @@
 #![tactic(auto)]
 
 mod act;
+mod file;
 mod folder;
+mod header;
 mod heads;
+mod layout;
 mod letters;
+mod listing;
 mod merging;
 mod name;
+mod plan;
 mod policy;
 mod reference;
 mod told;
 mod view;
 
 pub use act::{Act, next_act};
+pub use file::MailFile;
 pub use folder::{INBOX, OWN_FOLDER, folder_label, folder_name, inbox, is_safe_folder};
+pub use header::{HEADER_BYTES, Header, MAX_MESSAGE_ID_BYTES, read_header};
 pub use heads::{is_merge_due, shown};
+pub use layout::Layout;
 pub use letters::{flags_of, letter_of, letters_with};
+pub use listing::{list_line, printable};
 pub use merging::merged;
 pub use name::{FileName, is_safe_name, read_name, unique_for};
+pub use plan::{FileAct, FileFault, file_acts};
 pub use policy::{MergeFault, merged_place};
 pub use reference::{MailReference, read_reference};
 pub use told::{told_folder, told_name, with_told_folder, with_told_name};
