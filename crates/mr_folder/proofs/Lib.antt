@@ -3,3 +3,10 @@ pub mod TreeLemmas
 pub mod StoreSteps
 pub mod InsideLemmas
 pub mod QuietLemmas
+pub mod PartLemmas
+pub mod HeldLemmas
+pub mod SweepLemmas
+pub mod ShowLemmas
+pub mod MemoryLemmas
+pub mod MemoryNames
+pub mod MemoryFolderLemmas

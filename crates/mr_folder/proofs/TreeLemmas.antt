@@ -1,5 +1,5 @@
 -- trees whose files have the digests that they are stored by
-use Rattle.std.proofs.Common.{◌≡◌, ◌≢◌, ◌⊎◌, ⊎_elim, ℕ, true, false, List, drop, Option, None, Some, IfSome, refl, sym, ap, ◌∙◌, subst, arith}
+use Rattle.std.proofs.Common.{◌≡◌, ◌≢◌, ◌⊎◌, inl, inr, ⊎_elim, ℕ, true, false, List, drop, Option, None, Some, IfSome, refl, sym, ap, ◌∙◌, subst, arith}
 use Rattle.std.specs.Prelude.{slice_index, nat_eq, is_some}
 use Rattle.std.specs.Cmp.Lexicographic.{pointwise, bytes_decides}
 use Rattle.hex.specs.Hex.{IsBytes, encode_lower, decode_of}
@@ -67,7 +67,7 @@ IsStore-moved digest bytes old new fits is draft move store =
 pub IsStore-linked : (digest bytes path : List ℕ) (old new : Tree) → IsBytes digest → sha256 bytes ≡ digest → (old path ≡ None) ⊎ (old path ≡ Some bytes) → MayLink path (stored_path digest) old new → IsStore old → IsStore new
 IsStore-linked digest bytes path old new fits is source linked store =
     IsStore-at digest old new fits (λ other apart _. linked.only other apart)
-    (of_either digest (old (stored_path digest)) (old path) (new (stored_path digest)) (store digest fits) (of_none_or digest bytes (old path) is source) linked.target)
+    (of_either digest (old (stored_path digest)) (old path) (new (stored_path digest)) (store digest fits) (of_none_or digest bytes (old path) is source) (⊎_elim (λ same. inl same) (λ free. inr free.1) linked.target))
     store
 
 -- where a store has a file at the place of a digest, it has the mail

@@ -1,4 +1,13 @@
 pub mod Tree
 pub mod Inside
+pub mod Parts
 pub mod Store
 pub mod Quiet
+pub mod Names
+pub mod Sweep
+pub mod Show
+pub mod Fault
+pub mod Rows
+pub mod Memory
+pub mod MemoryFound
+pub mod MemoryFolders

@@ -15,9 +15,9 @@ pub record MayMove (from to : List ℕ) (old new : Tree) : Type 0 where
   pub target : (new to ≡ old to) ⊎ (new to ≡ old from)
   pub only : (other : List ℕ) → other ≢ from → other ≢ to → new other ≡ old other
 
--- the same of a file that gets one more path
+-- the same of a file that gets one more path, which it gets only where no file stands
 pub record MayLink (from to : List ℕ) (old new : Tree) : Type 0 where
-  pub target : (new to ≡ old to) ⊎ (new to ≡ old from)
+  pub target : (new to ≡ old to) ⊎ ((old to ≡ None) × (new to ≡ old from))
   pub only : OnlyAt to old new
 
 -- the same of a file that goes

@@ -1,5 +1,6 @@
 //! What a store of mail asks of the place where its files are.
-ghost use Rattle.std.specs.Prelude.{◌≡◌, ◌++◌, ℕ, Bool, IsTrue, List, [], Some, OnOk, IfOk, is_some, option_map};
+ghost use Rattle.std.specs.Prelude.{◌≡◌, ◌++◌, ℕ, Bool, IsTrue, List, [], Some, OnOk, IfOk, is_some, map, option_map, string_bytes};
+ghost use Rattle.mr_folder.specs.Names.{TellsDigests};
 ghost use Rattle.mr_folder.specs.Tree.{Tree, OnlyAt, MayMove, MayLink, MayGo, Follows, NoneOr, HasSame, Passes, IsUntouched};
 
 use crate::path::FilePath;
@@ -39,6 +40,11 @@ pub trait FileTree {
     /// Whether there is a file.
     fn has(&mut self, path: &FilePath) -> Result<bool, FilesFailed>
         ensures has { IsTrue is_told → IfOk result (λ is. is ≡ is_some (seen self.old path.now)) }
+        ensures untouched { IsTrue is_told → IsUntouched seen may_leave moment left_since self.old self.new };
+
+    /// The names of the store's files, `.mailfold/files`.
+    fn stored_names(&mut self, alloc: Global) -> Result<Vec<String>, FilesFailed>
+        ensures names { IsTrue is_told → IfOk result (λ names. TellsDigests (seen self.old) (map (λ s. string_bytes s) names.items)) }
         ensures untouched { IsTrue is_told → IsUntouched seen may_leave moment left_since self.old self.new };
 
     /// Makes an empty file, in place of one that stands there.

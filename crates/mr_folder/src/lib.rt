@@ -5,12 +5,24 @@
 //! bytes of its digest.
 #![tactic(auto)]
 
+mod disk;
+mod disk_folders;
 mod files;
 mod listing;
+mod memory;
+mod memory_folders;
 mod path;
+mod show;
 mod store;
+mod sweeping;
 
+pub use disk::{DiskTree, FileMark};
+pub use disk_folders::{DiskFolders, FolderNames};
 pub use files::{FileTree, FilesFailed};
 pub use listing::{Folders, Listing, list};
-pub use path::FilePath;
+pub use memory::MemoryTree;
+pub use memory_folders::MemoryFolders;
+pub use path::{FilePath, FolderPath, Part};
+pub use show::{link, replace, unlink};
 pub use store::{Incoming, StoreFault, adopt, append, begin, end};
+pub use sweeping::{StoredMails, stored, sweep};

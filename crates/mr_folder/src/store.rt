@@ -5,6 +5,7 @@ ghost use Rattle.sha2.specs.Hashers.{Holds256};
 ghost use Rattle.sha2.specs.Sha256.{sha256};
 ghost use Rattle.std.specs.Str.{bytes_eq};
 ghost use Rattle.mr_folder.specs.declared.store.StoreFault.TheVariants.{OutOfMemory, Failed};
+ghost use Rattle.mr_folder.specs.Fault.{store_fault_number};
 ghost use Rattle.mr_folder.specs.Inside.{draft_path, stored_path};
 ghost use Rattle.mr_folder.specs.Store.{IsSound, StaysSound, OnlyStored, IsKept, HasCome};
 ghost use Rattle.mr_folder.specs.Tree.{OnlyAt, MayMove, HasSame, NoneOr};
@@ -22,6 +23,18 @@ pub enum StoreFault {
     OutOfMemory,
     #[error("the files failed")]
     Failed,
+}
+
+impl StoreFault {
+    /// The fault's number: 0 where no memory was found, 1 where the files failed.
+    pub fn number(self) -> u8
+        ensures { result ≡ store_fault_number self }
+    {
+        match self {
+            StoreFault::OutOfMemory => 0,
+            StoreFault::Failed => 1,
+        }
+    }
 }
 
 impl From<AllocError> for StoreFault {

@@ -9,7 +9,14 @@
 //! | `folder LABEL NAME` | the name of the label's folder, where NAME was told of it; `-` for none |
 //! | `body TEXT` | what a body tells, with ` / ` for each newline: size, name, and the folder of the label `f-1`; or `none` |
 //! | `told NAME FOLDER` | the lines of a body that tell these, with ` / ` for each newline |
+//! | `acts VIEW NAME FILES` | what is done with the files of a mail that was told this name (see the module `files`); `-` for none |
+//! | `path dots\|plain LABEL NAME` | the path of the label's folder, where NAME was told of it; `-` for none |
+//! | `at dots\|plain PATH` | the name of the folder at a path, or `none` |
+//! | `header TEXT` | sender, subject, Message-ID and day, where ` / ` stands for a newline and ` // ` for one with a return |
+//! | `list VERSION VIEW DAY TEXT` | the line of a mail with this header, with ` \| ` for each tab |
+//! | `printable TEXT` | the text as it is printed |
 //! | `act LEFT SEEN HELD` | what is done for a mail of these views (see the module `view`) |
+use crate::files;
 use crate::view::{text_of, view_of};
 use anyhow::Result;
 use mr_mail::Label;
@@ -31,6 +38,12 @@ pub fn answer(alloc: Global, line: &str) -> Result<String> {
         "body" => body(alloc, words),
         "told" => told(alloc, words),
         "act" => act(alloc, words),
+        "acts" => files::acts(alloc, words),
+        "path" => files::path(alloc, words),
+        "at" => files::folder_at(alloc, words),
+        "header" => files::header(alloc, words),
+        "list" => files::line(alloc, words),
+        "printable" => files::printed(alloc, words),
         _ => Ok(String::from_str(alloc, "no call")?),
     }
 }

@@ -1,18 +1,19 @@
-//! Names, letters, folders, bodies and acts of a Maildir with what they have to be, as data: this program compares.
+//! Names, letters, folders, bodies, headers and acts of a Maildir with what they have to be, as data: this program compares.
 //!
 //! Each line of the file `maildir.cases`, in the folder that it is run in, says `CALL WORDS => ANSWER`; the module `answer` has
-//! the calls. The program prints each line whose answer differs, and how many there are. Then it takes mail into a store whose calls
-//! fail in turn, and prints what is there after each. It ends with status 1 where an answer differs.
+//! the calls. The program prints each line whose answer differs, and how many there are. Then it plays the
+//! scenes of a store (the module `store`), and prints what came of them. It ends with status 1 where an answer differs.
 #![tactic(auto)]
 
 mod answer;
 mod fake;
+mod files;
 mod store;
 mod view;
 
 use answer::answer;
 use anyhow::{Context, Result};
-use std::fs;
+use std::fs::{self, File};
 use std::process::ExitCode;
 use std::rt::Files;
 
@@ -31,7 +32,7 @@ fn main(rt: HostRuntime) -> ExitCode {
 }
 
 /// Whether each case answers as expected. Prints those that don't, and how many cases there are.
-fn run_all<R: Files + Print + AllocGlobal>(rt: &R) -> Result<bool> {
+fn run_all<R: Files<File = File> + Print + AllocGlobal>(rt: &R) -> Result<bool> {
     let table = fs::read_to_string(rt, TABLE).context("reading the table")?;
     let mut cases = 0u64;
     let mut differing = 0u64;
@@ -40,7 +41,7 @@ fn run_all<R: Files + Print + AllocGlobal>(rt: &R) -> Result<bool> {
         differing = differing.saturating_add(u64::from(!is_ok(rt, line)?));
     }
     println!(rt; "{cases} cases, {differing} differ")?;
-    rt.println(store::told(rt.alloc())?)?;
+    rt.println(store::told(rt)?)?;
     Ok(differing == 0)
 }
 

@@ -1,0 +1,7 @@
+use Rattle.std.proofs.Common.{◌≡◌, take, map, string_bytes}
+use Rattle.std.specs.List.{filter_map}
+use Rattle.mr_folder.specs.Names.{digest_of}
+use Rattle.mr_folder.proofs.sweeping.digests_of.Given as goal
+
+abbrev pub invariant-loop-name : goal.invariant-loop-name
+invariant-loop-name l = l.digests.items ≡ filter_map digest_of (take l.name-index (map (λ s. string_bytes s) l.names.items))

@@ -1,0 +1,43 @@
+-- worked rows
+use Rattle.std.specs.Prelude.{◌≡◌, [], ◌∷◌, codes, refl}
+use Rattle.hex.specs.Hex.{encode_with}
+use Rattle.mr_folder.specs.Fault.{store_fault_number}
+use Rattle.mr_folder.specs.Inside.{joined, first_part, own_folder, draft_path, stored_path, mail_path}
+use Rattle.mr_folder.specs.declared.path.Part.TheVariants.{Cur, New}
+use Rattle.mr_folder.specs.declared.store.StoreFault.TheVariants.{OutOfMemory, Failed}
+
+-- parts stand with `/` between them
+pub joined_one : joined (codes "a") [] ≡ codes "a"
+joined_one = refl
+
+pub joined_three : joined (codes "a") (codes "bc" ∷ codes "d" ∷ []) ≡ codes "a/bc/d"
+joined_three = refl
+
+-- the first part ends at the first `/`
+pub first_of_one : first_part (codes "abc") ≡ codes "abc"
+first_of_one = refl
+
+pub first_of_three : first_part (codes "a/bc/d") ≡ codes "a"
+first_of_three = refl
+
+pub first_of_draft : first_part draft_path ≡ own_folder
+first_of_draft = refl
+
+-- a mail in the Maildir itself, and in a folder of it
+pub mail_in_inbox : mail_path [] New (codes "1.host") ≡ codes "new/1.host"
+mail_in_inbox = refl
+
+pub mail_in_folder : mail_path (codes "Archive/2024") Cur (codes "1.host:2,S") ≡ codes "Archive/2024/cur/1.host:2,S"
+mail_in_folder = refl
+
+-- a mail's place in the store has its digest's digits in lower case
+pub stored_digits : stored_path (0 ∷ 171 ∷ 255 ∷ []) ≡ codes ".mailfold/files/00abff"
+unfolding encode_with
+stored_digits = refl
+
+-- the numbers of faults
+pub memory_is_0 : store_fault_number OutOfMemory ≡ 0
+memory_is_0 = refl
+
+pub failed_is_1 : store_fault_number Failed ≡ 1
+failed_is_1 = refl
