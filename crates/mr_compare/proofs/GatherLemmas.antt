@@ -1,0 +1,50 @@
+-- values by their keys, pair by pair
+use Rattle.std.proofs.Common.{◌≡◌, Bool, true, false, cond, List, [], ◌∷◌, ◌++◌, map, filter, Option, Some, None, refl, ap, sym, ◌∙◌}
+use Rattle.std.specs.Cmp.{IsTotalOrder}
+use Rattle.std.specs.declared.cmp.Ordering.{Ordering}
+use Rattle.std.specs.declared.cmp.Ordering.TheVariants.{Less, Equal, Greater}
+use Rattle.std.specs.Ordering.{is_eq}
+use Rattle.std.specs.Map.{lookup}
+use Rattle.std.specs.Global.{Vec}
+use Rattle.std.proofs.lemmas.List.{map-append, append-nil}
+use Rattle.std.proofs.lemmas.List.Elements.{filter-append}
+use Rattle.mr_compare.specs.Gather.{items_of, values_at, values_of}
+
+-- keys that compare alike find the same
+alike : {K X : Type 0} {R : K → K → Ordering} → IsTotalOrder R → (x y : K) → R x y ≡ Equal → (es : List (K × X)) → lookup (λ k. is_eq (R x k)) es ≡ lookup (λ k. is_eq (R y k)) es
+alike total x y same [] = refl
+alike {K} {X} {R} total x y same (e ∷ es) =
+    ap (λ (o : Ordering). cond (is_eq o) (Some e.1) (lookup (λ k. is_eq (R x k)) es)) (total.congr x y e.0 same)
+    ∙ ap (λ (r : Option X). cond (is_eq (R y e.0)) (Some e.1) r) (alike total x y same es)
+
+-- a key is taken out, and put in again with one value more
+pub put_more : {K V : Type 0} {R : K → K → Ordering} → IsTotalOrder R → (old mid new : List (K × Vec V)) (key : K) (value : V) (more : Vec V) → more.items ≡ values_at R old key ++ value ∷ [] →
+    ((q : K) → lookup (λ own. is_eq (R q own)) mid ≡ cond (is_eq (R key q)) None (lookup (λ own. is_eq (R q own)) old)) →
+    ((q : K) → lookup (λ own. is_eq (R q own)) new ≡ cond (is_eq (R key q)) (Some more) (lookup (λ own. is_eq (R q own)) mid)) →
+    (q : K) → values_at R new q ≡ cond (is_eq (R key q)) (values_at R old q ++ value ∷ []) (values_at R old q)
+put_more {K} {V} {R} total old mid new key value more is taken put q = ap items_of (put q) ∙ cases (R key q) refl
+  where
+    others : (o : Ordering) → R key q ≡ o → is_eq o ≡ false → lookup (λ own. is_eq (R q own)) mid ≡ lookup (λ own. is_eq (R q own)) old
+    others o e not = taken q ∙ ap (λ (c : Ordering). cond (is_eq c) None (lookup (λ own. is_eq (R q own)) old)) e ∙ ap (λ (b : Bool). cond b None (lookup (λ own. is_eq (R q own)) old)) not
+
+    cases : (o : Ordering) → R key q ≡ o → items_of (cond (is_eq o) (Some more) (lookup (λ own. is_eq (R q own)) mid)) ≡ cond (is_eq o) (values_at R old q ++ value ∷ []) (values_at R old q)
+    cases Less e = ap items_of (others Less e refl)
+    cases Equal e = is ∙ ap (λ (r : Option (Vec V)). items_of r ++ value ∷ []) (alike total key q e old)
+    cases Greater e = ap items_of (others Greater e refl)
+
+-- a filter of one pair more
+kept_if : {K V : Type 0} (b : Bool) (p : K × V) (front : List (K × V)) → map (λ (x : K × V). x.1) (front ++ cond b (p ∷ []) []) ≡ cond b (map (λ (x : K × V). x.1) front ++ p.1 ∷ []) (map (λ (x : K × V). x.1) front)
+kept_if true p front = map-append (λ x. x.1) front (p ∷ [])
+kept_if false p front = ap (map (λ x. x.1)) (append-nil front)
+
+-- the values of a key, with one pair more
+pub values_of-more : {K V : Type 0} (R : K → K → Ordering) (q : K) (pairs : List (K × V)) (p : K × V) → values_of R q (pairs ++ p ∷ []) ≡ cond (is_eq (R p.0 q)) (values_of R q pairs ++ p.1 ∷ []) (values_of R q pairs)
+values_of-more R q pairs p =
+    ap (map (λ x. x.1)) (filter-append (λ x. is_eq (R x.0 q)) pairs (p ∷ [])) ∙ kept_if (is_eq (R p.0 q)) p (filter (λ x. is_eq (R x.0 q)) pairs)
+
+-- a table that has the values of some pairs has those of one more
+pub gathered_more : {K V : Type 0} (R : K → K → Ordering) (old new : List (K × Vec V)) (pairs : List (K × V)) (p : K × V) →
+    ((q : K) → values_at R new q ≡ cond (is_eq (R p.0 q)) (values_at R old q ++ p.1 ∷ []) (values_at R old q)) → ((q : K) → values_at R old q ≡ values_of R q pairs) →
+    (q : K) → values_at R new q ≡ values_of R q (pairs ++ p ∷ [])
+gathered_more {K} {V} R old new pairs p put known q =
+    put q ∙ ap (λ (vs : List V). cond (is_eq (R p.0 q)) (vs ++ p.1 ∷ []) vs) (known q) ∙ sym (values_of-more R q pairs p)

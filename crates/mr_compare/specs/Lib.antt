@@ -1,0 +1,10 @@
+pub mod Gather
+pub mod Left
+pub mod Held
+pub mod Tally
+pub mod Compare
+pub mod Sides
+pub mod Shown
+pub mod Note
+pub mod NoteParts
+pub mod Rows

@@ -1,0 +1,115 @@
+-- worked rows: what the definitions give for small values
+use Rattle.std.specs.Prelude.{◌≡◌, ℕ, Bool, true, false, List, [], ◌∷◌, ◌++◌, map, replicate, codes, Option, Some, None, refl}
+use Rattle.mr_version.specs.Name.{Name}
+use Rattle.mr_mail.specs.Mail.{MailCard}
+use Rattle.mr_feed.specs.declared.entry.Entry.{Entry}
+use Rattle.mr_feed.specs.declared.entry.Entry.TheVariants.{Added, Dropped}
+use Rattle.mr_maildir.specs.View.{ViewParts}
+use Rattle.mr_maildir.specs.declared.act.Act.TheVariants.{Agree, Create, Edit, Delete, Remove}
+use Rattle.mr_compare.specs.declared.compare.Standing.{Standing}
+use Rattle.mr_compare.specs.declared.note.FolderNote.TheVariants.{Shown, Met}
+use Rattle.mr_compare.specs.Note.{note_bytes}
+use Rattle.mr_compare.specs.Left.{item_cards, last_told, is_told}
+use Rattle.mr_compare.specs.Compare.{act_for, due_acts, deletions}
+use Rattle.mr_compare.specs.Sides.{are_same, left_of_held}
+
+abbrev name : ℕ → ℕ → Name
+name author counter = record { author = author; counter = counter }
+
+-- ---- notes
+
+-- 258 entries are shown, and of these the item 1.2 lacks its file
+pub shown_row : note_bytes (Shown (record { entries = 258; lacking = name 1 2 ∷ [] })) ≡ 0 ∷ 0 ∷ 0 ∷ 0 ∷ 0 ∷ 0 ∷ 1 ∷ 2 ∷ 0 ∷ 0 ∷ 0 ∷ 1 ∷ 0 ∷ 1 ∷ 0 ∷ 0 ∷ 0 ∷ 2 ∷ []
+shown_row = refl
+
+pub nothing_shown_row : note_bytes (Shown (record { entries = 0; lacking = [] })) ≡ replicate 12 0
+nothing_shown_row = refl
+
+-- 3 was met at 256
+pub met_row : note_bytes (Met (record { id = 3; birth = replicate 16 7; mine = replicate 32 8; theirs = replicate 32 9; time = 256 })) ≡ 0 ∷ 3 ∷ (replicate 16 7 ++ (replicate 32 8 ++ (replicate 32 9 ++ 0 ∷ 0 ∷ 0 ∷ 0 ∷ 0 ∷ 0 ∷ 1 ∷ 0 ∷ [])))
+met_row = refl
+
+-- ---- what was left
+
+abbrev card : ℕ → MailCard
+card flags = record { labels = codes "inbox" ∷ []; flags = flags; day = 0 }
+
+-- the item 0.1 was made, and read elsewhere; another item came between
+abbrev beginning : List Entry
+beginning = Added (name 0 1) (name 0 1) (card 0) ∷ Added (name 2 1) (name 2 1) (card 4) ∷ Dropped (name 0 1) (name 0 1) ∷ Added (name 0 1) (name 1 1) (card 1) ∷ []
+
+-- its edit alone is left of it
+pub left_row : map (item_cards beginning (name 0 1)) (name 0 1 ∷ name 1 1 ∷ name 2 1 ∷ []) ≡ None ∷ Some (card 1) ∷ None ∷ []
+left_row = refl
+
+pub last_told_row : last_told beginning (name 0 1) ≡ Some (Some (card 1))
+last_told_row = refl
+
+-- an item that came and went was added last so
+pub gone_row : last_told (Added (name 3 1) (name 3 1) (card 4) ∷ Dropped (name 3 1) (name 3 1) ∷ []) (name 3 1) ≡ Some (Some (card 4))
+gone_row = refl
+
+-- one that only went
+pub dropped_row : last_told (Dropped (name 3 1) (name 3 1) ∷ []) (name 3 1) ≡ Some None
+dropped_row = refl
+
+pub untold_row : is_told beginning (name 3 1) ≡ false
+untold_row = refl
+
+-- ---- what is done
+
+abbrev inbox : ViewParts
+inbox = record { labels = codes "inbox" ∷ []; flags = 0 }
+
+abbrev work : ViewParts
+work = record { labels = codes "work" ∷ []; flags = 0 }
+
+abbrev standing : (left seen held : Option ViewParts) → (file certain own : Bool) → Standing
+standing left seen held file certain own = record { digest = codes "d"; first = None; left = left; seen = seen; held = held; has_file = file; is_certain = certain; is_own = own }
+
+-- removed here, as two listings say
+pub removed_row : act_for (standing (Some inbox) None (Some inbox) true true false) ≡ Delete
+removed_row = refl
+
+-- one listing alone isn't believed
+pub one_listing_row : act_for (standing (Some inbox) None (Some inbox) true false false) ≡ Agree
+one_listing_row = refl
+
+-- a mail whose file never came is neither deleted nor shown
+pub lacking_row : act_for (standing (Some inbox) None (Some inbox) false true false) ≡ Agree
+lacking_row = refl
+
+pub lacking_moved_row : act_for (standing (Some inbox) None (Some work) false true false) ≡ Agree
+lacking_moved_row = refl
+
+-- moved here: it leaves a folder, so that one listing isn't enough
+pub moved_row : map act_for (standing (Some inbox) (Some work) (Some inbox) true true false ∷ standing (Some inbox) (Some work) (Some inbox) true false false ∷ []) ≡ Edit work ∷ Agree ∷ []
+moved_row = refl
+
+-- read here: one listing is enough
+pub read_row : act_for (standing (Some inbox) (Some (record { labels = codes "inbox" ∷ []; flags = 1 })) (Some inbox) true false false) ≡ Edit (record { labels = codes "inbox" ∷ []; flags = 1 })
+read_row = refl
+
+-- new, and one that came and went while the program was stopped
+pub new_row : map act_for (standing None (Some inbox) None true true false ∷ standing None (Some inbox) None true true true ∷ []) ≡ Create ∷ Remove ∷ []
+new_row = refl
+
+-- left the filter
+pub left_the_filter_row : act_for (standing (Some inbox) (Some inbox) None true true false) ≡ Remove
+left_the_filter_row = refl
+
+-- nothing is told of what agrees, and one is deleted
+pub list_row : due_acts (standing (Some inbox) (Some inbox) (Some inbox) true true false ∷ standing (Some inbox) None (Some inbox) true true false ∷ []) ≡ record { digest = codes "d"; act = Delete } ∷ []
+list_row = refl
+
+pub deletions_row : deletions (standing (Some inbox) (Some inbox) (Some inbox) true true false ∷ standing (Some inbox) None (Some inbox) true true false ∷ []) ≡ 1
+deletions_row = refl
+
+-- ---- sides
+
+pub same_row : map (are_same (Some inbox)) (Some inbox ∷ Some work ∷ None ∷ []) ≡ true ∷ false ∷ false ∷ []
+same_row = refl
+
+-- what the feed didn't change was left as it is held
+pub unchanged_row : left_of_held None inbox ≡ Some inbox
+unchanged_row = refl

@@ -1,0 +1,32 @@
+//! How each mail of a folder was left, is seen and is held, and what follows from these three.
+//!
+//! A folder is a Maildir that shows what a replica holds. A mail is its file's digest. How it was *left* is what the beginning of
+//! the replica's feed has, as far as it was shown ([`left_of`]); how it is *seen* is what a listing says; how it is *held* is what the
+//! replica's heads and push-outs say ([`held_of`], [`gathered`], [`item_view`]). Brought together ([`standings_of_held`],
+//! [`standings_of_unheld`]) they say what is done for each mail ([`acts_of`]): a change or a deletion is told, or files follow. How far
+//! the feed was shown is noted in the replica's journal ([`FolderNote`]). It is all over values and slices: nothing here touches
+//! a disk or a replica.
+//!
+//! ```
+//! let left = left_of(alloc, replica.feed(), shown)?;
+//! let held = held_of(alloc, replica.heads(), replica.push_outs())?;
+//! let standings = standings_of_held(alloc, &mails, &sides)?;
+//! let acts = acts_of(alloc, &standings, most_deletions(mails.len()))?;
+//! ```
+#![tactic(auto)]
+
+mod compare;
+mod gather;
+mod held;
+mod left;
+mod note;
+mod sides;
+mod tally;
+
+pub use compare::{CompareFault, MailAct, Standing, acts_of, believed_act, most_deletions};
+pub use gather::gathered;
+pub use held::{Digest, Head, Held, MailItem, held_of, is_merge_due, item_view};
+pub use left::{Left, left_of};
+pub use note::{FolderNote, MEETING_KIND, Meeting, SHOWN_KIND, Shown, read_note};
+pub use sides::{HeldMail, LeftMail, Sides, standings_of_held, standings_of_unheld};
+pub use tally::{Tally, tally_of};

@@ -1,0 +1,168 @@
+//! The three sides of each mail, brought together.
+ghost use Rattle.std.specs.Prelude.{◌≡◌, IfOk, map};
+ghost use Rattle.std.specs.Option.{option_copied};
+ghost use Rattle.mr_compare.specs.Sides.{are_same, left_of_held, left_of_unheld, standing_of_held, standing_of_unheld};
+ghost use Rattle.mr_compare.specs.Sides as specs;
+
+use crate::compare::Standing;
+use crate::held::Digest;
+use mr_maildir::View;
+use mr_version::Version;
+use std::alloc::{AllocError, Global};
+use std::collections::{BTreeMap, BTreeSet};
+
+/// A mail that is held.
+#[derive(Debug, Drop)]
+pub struct HeldMail {
+    pub digest: Digest,
+    /// The lowest of its versions.
+    pub first: Version,
+    /// How they have it stand together.
+    pub view: View,
+}
+
+/// What was left of a mail, some item of which the feed changed since.
+#[derive(Debug, Drop)]
+pub struct LeftMail {
+    /// How the feed's beginning has it stand, if it has it.
+    pub view: Option<View>,
+    /// Whether the rest of the feed brought it.
+    pub came: bool,
+}
+
+/// What is known of the mails beside what is held of them, by the digests of their files.
+#[derive(Debug, Drop)]
+pub struct Sides {
+    /// What was left of the mails that changed since. Each other mail is held as it was left.
+    pub left: BTreeMap<Digest, LeftMail>,
+    /// Where mails are seen.
+    pub seen: BTreeMap<Digest, View>,
+    /// Where they were seen at the listing before.
+    pub seen_before: BTreeMap<Digest, View>,
+    /// Whether no folder changed during either of the two listings.
+    pub are_quiet: bool,
+    /// The mails whose files aren't here.
+    pub lacking: BTreeSet<Digest>,
+}
+
+/// How mails stand that are held, in their order.
+pub fn standings_of_held(
+    alloc: Global,
+    mails: &[HeldMail],
+    sides: &Sides,
+) -> Result<Vec<Standing>, AllocError>
+    ensures { IfOk result (λ standings. standings.items ≡ map (standing_of_held sides.now) mails.now) }
+{
+    let mut standings = Vec::with_capacity(alloc, mails.len())?;
+    for mail in mails {
+        standings.push(held_standing(alloc, mail, sides)?)?;
+    }
+    Ok(standings)
+}
+
+/// How mails stand that aren't held, in their order.
+pub fn standings_of_unheld(
+    alloc: Global,
+    digests: &[Digest],
+    sides: &Sides,
+) -> Result<Vec<Standing>, AllocError>
+    ensures { IfOk result (λ standings. standings.items ≡ map (standing_of_unheld sides.now) digests.now) }
+{
+    let mut standings = Vec::with_capacity(alloc, digests.len())?;
+    for digest in digests {
+        standings.push(unheld_standing(alloc, digest, sides)?)?;
+    }
+    Ok(standings)
+}
+
+/// How a mail stands that is held.
+fn held_standing(alloc: Global, mail: &HeldMail, sides: &Sides) -> Result<Standing, AllocError>
+    ensures { IfOk result (λ standing. standing ≡ standing_of_held sides.now mail.now) }
+{
+    let digest = mail.digest;
+    let seen = sides.seen.get(&digest);
+    Ok(Standing {
+        digest,
+        first: Some(mail.first),
+        left: held_left(alloc, sides.left.get(&digest), &mail.view)?,
+        seen: copied(alloc, seen)?,
+        held: Some(mail.view.copy(alloc)?),
+        has_file: !sides.lacking.contains(&digest),
+        is_certain: sides.are_quiet && are_same(seen, sides.seen_before.get(&digest)),
+        is_own: false,
+    })
+}
+
+/// How a mail stands that isn't held.
+fn unheld_standing(alloc: Global, digest: &Digest, sides: &Sides) -> Result<Standing, AllocError>
+    ensures { IfOk result (λ standing. standing ≡ standing_of_unheld sides.now digest.now) }
+{
+    let digest = *digest;
+    let seen = sides.seen.get(&digest);
+    let left = sides.left.get(&digest);
+    Ok(Standing {
+        digest,
+        first: None,
+        left: unheld_left(alloc, left)?,
+        seen: copied(alloc, seen)?,
+        held: None,
+        has_file: !sides.lacking.contains(&digest),
+        is_certain: sides.are_quiet && are_same(seen, sides.seen_before.get(&digest)),
+        is_own: has_come(left),
+    })
+}
+
+/// How a mail was left that is held so: so, unless it changed since.
+fn held_left(
+    alloc: Global,
+    left: Option<&LeftMail>,
+    held: &View,
+) -> Result<Option<View>, AllocError>
+    ensures { IfOk result (λ view. view ≡ left_of_held (option_copied left.entry) held.now) }
+{
+    match left {
+        Some(left) => copied(alloc, left.view.as_ref()),
+        None => Ok(Some(held.copy(alloc)?)),
+    }
+}
+
+/// How a mail was left that isn't held: if it was, it changed since.
+fn unheld_left(alloc: Global, left: Option<&LeftMail>) -> Result<Option<View>, AllocError>
+    ensures { IfOk result (λ view. view ≡ left_of_unheld (option_copied left.entry)) }
+{
+    match left {
+        Some(left) => copied(alloc, left.view.as_ref()),
+        None => Ok(None),
+    }
+}
+
+/// Whether the mail came since it was left.
+fn has_come(left: Option<&LeftMail>) -> bool
+    ensures { result ≡ specs.has_come (option_copied left.entry) }
+{
+    match left {
+        Some(left) => left.came,
+        None => false,
+    }
+}
+
+/// An equal view, if there is one.
+fn copied(alloc: Global, view: Option<&View>) -> Result<Option<View>, AllocError>
+    ensures { IfOk result (λ copy. copy ≡ option_copied view.entry) }
+{
+    match view {
+        Some(view) => Ok(Some(view.copy(alloc)?)),
+        None => Ok(None),
+    }
+}
+
+/// Whether two listings say the same of a mail.
+fn are_same(view: Option<&View>, before: Option<&View>) -> bool
+    ensures { result ≡ specs.are_same (option_copied view.entry) (option_copied before.entry) }
+{
+    match (view, before) {
+        (Some(view), Some(before)) => *view == *before,
+        (None, None) => true,
+        _ => false,
+    }
+}
