@@ -1,0 +1,8 @@
+use Rattle.std.proofs.Common.{take}
+use Rattle.mr_kept.specs.Kept.{replica_of}
+use Rattle.mr_fold.specs.Telling.{AreEdits, Grows}
+use Rattle.mr_fold.proofs.telling.tell_edits.Given as goal
+
+-- the log grew by the edits of the items so far
+abbrev pub invariant-loop-heads : goal.invariant-loop-heads
+invariant-loop-heads g l = Grows (AreEdits l.view (take l.heads-index l.items)) (replica_of l.fn.kept).log (replica_of l.kept).log

@@ -1,0 +1,75 @@
+//! Why a folder isn't settled.
+ghost use Rattle.std.specs.Prelude.{◌≡◌};
+ghost use Rattle.mr_fold.specs.Fault.{settle_fault_number};
+ghost use Rattle.mr_fold.specs.declared.fault.SettleFault.TheVariants.{OutOfMemory, Kept, Files};
+
+use mr_folder::FilesFailed;
+use mr_kept::KeptFault;
+use std::alloc::{AllocError, AllocFailed};
+use thiserror::Error;
+
+/// Why a folder isn't settled.
+#[derive(Clone, Copy, Debug, Drop, Error)]
+pub enum SettleFault {
+    #[error("out of memory")]
+    OutOfMemory,
+    /// A mail stands in more folders than a message may have labels.
+    #[error("a mail stands in more than 16 folders")]
+    TooManyFolders,
+    /// A mail's versions are held no more: what is held was read before it changed.
+    #[error("the versions of a mail are held no more")]
+    NotHeld,
+    /// The replica or its journal failed.
+    #[error("{0}")]
+    Kept(KeptFault),
+    /// The files failed.
+    #[error("the files failed")]
+    Files,
+}
+
+impl SettleFault {
+    /// The fault's number: 0 where memory ran out, and from 1 in the order of the variants.
+    pub fn number(self) -> u8
+        ensures { result ≡ settle_fault_number self }
+    {
+        match self {
+            SettleFault::OutOfMemory => 0,
+            SettleFault::TooManyFolders => 1,
+            SettleFault::NotHeld => 2,
+            SettleFault::Kept(_) => 3,
+            SettleFault::Files => 4,
+        }
+    }
+}
+
+impl From<AllocError> for SettleFault {
+    ghost from_gives = { λ _ fault. fault ≡ OutOfMemory };
+
+    fn from(_error: AllocError) -> SettleFault {
+        SettleFault::OutOfMemory
+    }
+}
+
+impl<T: Drop> From<AllocFailed<T>> for SettleFault {
+    ghost from_gives = { λ _ fault. fault ≡ OutOfMemory };
+
+    fn from(_error: AllocFailed<T>) -> SettleFault {
+        SettleFault::OutOfMemory
+    }
+}
+
+impl From<KeptFault> for SettleFault {
+    ghost from_gives = { λ e fault. fault ≡ Kept e };
+
+    fn from(fault: KeptFault) -> SettleFault {
+        SettleFault::Kept(fault)
+    }
+}
+
+impl From<FilesFailed> for SettleFault {
+    ghost from_gives = { λ _ fault. fault ≡ Files };
+
+    fn from(_failed: FilesFailed) -> SettleFault {
+        SettleFault::Files
+    }
+}

@@ -1,0 +1,178 @@
+//! What the user did, as events.
+ghost use Rattle.std.specs.Prelude.{◌≡◌, ◌<◌, ◌↔◌, [], Err, IfOk, OnOk, length};
+ghost use Rattle.mr_mail.specs.declared.label.TheConstants.{MAX_LABELS};
+ghost use Rattle.mr_kept.specs.Kept.{replica_of};
+ghost use Rattle.mr_maildir.specs.declared.act.Act.TheVariants as act;
+ghost use Rattle.mr_fold.specs.Telling.{AreEdits, Grows, GrowsByEdit, TellsAct, TellsAll, gone_view, items_at};
+
+use crate::fault::SettleFault;
+use crate::settling::{HeldItems, ItemHeads, MailFiles};
+use mr_compare::{Digest, MailAct};
+use mr_itemset::SparingKnowledge;
+use mr_journal::Device;
+use mr_kept::Journaled;
+use mr_mail::{Flag, Flags, MAX_LABELS, Message};
+use mr_maildir::{Act, View};
+use mr_replica::{Bases, Replica};
+use mr_version::Version;
+use std::alloc::Global;
+
+/// Tells what the acts say that the user changed. The events wait for a commit.
+pub(crate) fn tell<D: Device + Drop, F: MailFiles>(
+    alloc: Global,
+    kept: &mut Journaled<SparingKnowledge, D>,
+    files: &mut F,
+    acts: &[MailAct],
+    held: &HeldItems,
+) -> Result<(), SettleFault>
+    ensures { OnOk result (Grows (TellsAll held.now.entries acts.now) (replica_of kept.old).log (replica_of kept.new).log) }
+{
+    for mail in acts {
+        let items = items_of(held, &mail.digest);
+        tell_act(alloc, kept, files, &mail.digest, &mail.act, items)?;
+    }
+    Ok(())
+}
+
+/// The items that are held of a mail.
+fn items_of<'a>(held: &'a HeldItems, digest: &Digest) -> &'a [ItemHeads]
+    ensures { result.now ≡ items_at held.now.entries digest.now }
+{
+    match held.get(digest) {
+        Some(items) => items,
+        None => &[],
+    }
+}
+
+/// Tells what is done for a mail that is these items.
+fn tell_act<D: Device + Drop, F: MailFiles>(
+    alloc: Global,
+    kept: &mut Journaled<SparingKnowledge, D>,
+    files: &mut F,
+    digest: &Digest,
+    act: &Act,
+    items: &[ItemHeads],
+) -> Result<(), SettleFault>
+    ensures { OnOk result (Grows (TellsAct items.now act.now) (replica_of kept.old).log (replica_of kept.new).log) }
+{
+    match act {
+        Act::Create => tell_new(alloc, kept, files, digest),
+        Act::Edit(view) => tell_edits(alloc, kept, items, view),
+        Act::Delete => tell_gone(alloc, kept, items),
+        Act::Agree => Ok(()),
+        Act::Follow => Ok(()),
+        Act::Remove => Ok(()),
+    }
+}
+
+/// Tells of each item that a mail is that it is deleted.
+fn tell_gone<D: Device + Drop>(
+    alloc: Global,
+    kept: &mut Journaled<SparingKnowledge, D>,
+    items: &[ItemHeads],
+) -> Result<(), SettleFault>
+    ensures { OnOk result (Grows (AreEdits gone_view items.now) (replica_of kept.old).log (replica_of kept.new).log) }
+{
+    let view = gone(alloc);
+    tell_edits(alloc, kept, items, &view)?;
+    Ok(())
+}
+
+/// Tells a new mail.
+fn tell_new<D: Device + Drop, F: MailFiles>(
+    alloc: Global,
+    kept: &mut Journaled<SparingKnowledge, D>,
+    files: &mut F,
+    digest: &Digest,
+) -> Result<(), SettleFault>
+    ensures { OnOk result (Grows (TellsAct [] act.Create) (replica_of kept.old).log (replica_of kept.new).log) }
+{
+    let message = files.new_message(alloc, digest)?;
+    kept.create(message)?;
+    Ok(())
+}
+
+/// The view of a deleted mail: no folder, and the flag deleted.
+fn gone(alloc: Global) -> View
+    ensures { result ≡ gone_view }
+{
+    View::of_labels(Vec::new(alloc), Flags::empty().with(Flag::Deleted))
+}
+
+/// Tells an edit to this view of each item that a mail is, over all its heads.
+fn tell_edits<D: Device + Drop>(
+    alloc: Global,
+    kept: &mut Journaled<SparingKnowledge, D>,
+    items: &[ItemHeads],
+    view: &View,
+) -> Result<(), SettleFault>
+    ensures { OnOk result (Grows (AreEdits view.now items.now) (replica_of kept.old).log (replica_of kept.new).log) }
+{
+    for heads in items {
+        tell_edit(alloc, kept, &heads.versions, view)?;
+    }
+    Ok(())
+}
+
+/// Tells an edit to this view that supersedes these versions. `NotHeld` where the first of them isn't held.
+fn tell_edit<D: Device + Drop>(
+    alloc: Global,
+    kept: &mut Journaled<SparingKnowledge, D>,
+    versions: &[Version],
+    view: &View,
+) -> Result<(), SettleFault>
+    ensures { OnOk result (GrowsByEdit view.now versions.now (replica_of kept.old).log (replica_of kept.new).log) }
+{
+    let message = edited_head(alloc, kept.replica(), versions, view)?;
+    let bases = copied(alloc, versions)?;
+    kept.edit(bases, message)?;
+    Ok(())
+}
+
+/// The versions as bases.
+fn copied(alloc: Global, versions: &[Version]) -> Result<Bases, SettleFault>
+    ensures { IfOk result (λ bases. bases ≡ versions.now) }
+{
+    let mut bases = Vec::new(alloc);
+    bases.extend_from_slice(versions)?;
+    Ok(Bases::new(bases))
+}
+
+/// The message of the first of these versions, if it is held, with the view's labels and flags.
+fn edited_head(
+    alloc: Global,
+    replica: &Replica<SparingKnowledge>,
+    versions: &[Version],
+    view: &View,
+) -> Result<Message, SettleFault>
+    ensures labels { IfOk result (λ message. message.labels ≡ view.now.labels) }
+    ensures flags { IfOk result (λ message. message.flags ≡ view.now.flags) }
+{
+    let head = match versions.first() {
+        Some(version) => replica.held(*version),
+        None => None,
+    };
+    match head {
+        Some(head) => edited(alloc, head.message(), view),
+        None => Err(SettleFault::NotHeld),
+    }
+}
+
+/// The message with the view's labels and flags in place of its own. `TooManyFolders` over 16 labels.
+fn edited(alloc: Global, old: &Message, view: &View) -> Result<Message, SettleFault>
+    ensures value { IfOk result (λ message. message ≡ record old.now { labels = view.now.labels; flags = view.now.flags }) }
+    ensures labels { IfOk result (λ message. message.labels ≡ view.now.labels) }
+    ensures flags { IfOk result (λ message. message.flags ≡ view.now.flags) }
+    ensures many { (result ≡ Err SettleFault.TooManyFolders) ↔ (MAX_LABELS < length view.now.labels) }
+{
+    if view.labels().len() > MAX_LABELS {
+        return Err(SettleFault::TooManyFolders);
+    }
+    let Some(place) = view.copy(alloc)?.into_place(old.day()) else {
+        return Err(SettleFault::TooManyFolders);
+    };
+    match Message::try_of_place(alloc, old.from(), old.subject(), old.body(), place) {
+        Ok(message) => Ok(message),
+        Err(_) => Err(SettleFault::OutOfMemory),
+    }
+}
