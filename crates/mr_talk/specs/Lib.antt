@@ -1,0 +1,15 @@
+pub mod Kinds
+pub mod Fault
+pub mod Said
+pub mod Messages
+pub mod Stream
+pub mod Reader
+pub mod Calls
+pub mod Hello
+pub mod Turns
+pub mod World
+pub mod Peer
+pub mod Told
+pub mod Line
+pub mod Rows
+pub mod Grammar

@@ -1,0 +1,55 @@
+-- what a line has ahead of it, and what becomes of it
+use Rattle.std.specs.Prelude.{◌≡◌, ◌≢◌, ◌⊎◌, ℕ, List, [], ◌∷◌, ◌++◌, Option, Some, None, Result, Ok, Err}
+use Rattle.mr_talk.specs.declared.fault.LineFault.{LineFault}
+use Rattle.mr_talk.specs.declared.fault.LineFault.TheVariants.{Message, Closed, Read, Write}
+use Rattle.mr_talk.specs.declared.fault.MessageFault.{MessageFault}
+use Rattle.mr_talk.specs.declared.fault.MessageFault.TheVariants.{OutOfMemory, Truncated, BadKind, TooLong, Failed}
+use Rattle.mr_talk.specs.Said.{Said}
+use Rattle.mr_talk.specs.Messages.{decoded}
+use Rattle.mr_talk.specs.Stream.{Begins}
+
+-- the bytes that the reader has, and then those that the stream will give, where both are known
+abbrev pub ahead : Option (List ℕ) → Option (List ℕ) → Option (List ℕ)
+ahead None bytes = None
+ahead (Some rest) None = None
+ahead (Some rest) (Some bytes) = Some (rest ++ bytes)
+
+-- known bytes stay as they are
+abbrev pub IsSame : Option (List ℕ) → Option (List ℕ) → Type 0
+IsSame None new = Unit {0}
+IsSame (Some bytes) new = new ≡ Some bytes
+
+-- some of the bytes at the front have this fault
+abbrev pub HasFault : List ℕ → MessageFault → Type 0
+HasFault bytes fault = (front : List ℕ) × (more : List ℕ) × (bytes ≡ front ++ more) × (decoded front ≡ Err fault)
+
+-- What a fault says of known bytes. The stream closes where none is left, and is cut where some are; where it gives no more all are still ahead; a fault of the bytes themselves is for good.
+abbrev pub Fails : Option (List ℕ) → LineFault → Option (List ℕ) → Type 0
+Fails None fault new = Unit {0}
+Fails (Some bytes) Closed new = (bytes ≡ []) × (new ≡ Some [])
+Fails (Some bytes) Read new = new ≡ Some bytes
+Fails (Some bytes) Write new = ⊥
+Fails (Some bytes) (Message OutOfMemory) new = (new ≡ Some bytes) ⊎ (new ≡ None)
+Fails (Some bytes) (Message Truncated) new = (bytes ≢ []) × (new ≡ Some bytes)
+Fails (Some bytes) (Message BadKind) new = HasFault bytes BadKind × (new ≡ None)
+Fails (Some bytes) (Message TooLong) new = HasFault bytes TooLong × (new ≡ None)
+Fails (Some bytes) (Message Failed) new = ⊥
+
+-- A message is the one that the bytes begin with, and leaves what follows it.
+abbrev pub Hears : Option (List ℕ) → Result Said LineFault → Option (List ℕ) → Type 0
+Hears old (Err fault) new = Fails old fault new
+Hears None (Ok m) new = Unit {0}
+Hears (Some bytes) (Ok m) new = (left : List ℕ) × (new ≡ Some left) × Begins bytes m left
+
+-- why there is no message at the end of the stream, by what the reader has
+abbrev pub Ends : Option (List ℕ) → LineFault → Type 0
+Ends None fault = Unit {0}
+Ends (Some []) fault = fault ≡ Closed
+Ends (Some (b ∷ bytes)) fault = fault ≡ Message Truncated
+
+-- A piece goes behind what the reader has. Where there is no memory for it, the reader has failed.
+abbrev pub TakesPiece : Option (List ℕ) → List ℕ → Result (Unit {0}) LineFault → Option (List ℕ) → Type 0
+TakesPiece None piece (Ok _) new = ⊥
+TakesPiece None piece (Err fault) new = new ≡ None
+TakesPiece (Some rest) piece (Ok _) new = new ≡ Some (rest ++ piece)
+TakesPiece (Some rest) piece (Err fault) new = (fault ≡ Message OutOfMemory) × (new ≡ None)

@@ -1,0 +1,36 @@
+-- what two hellos say of the two sides
+use Rattle.std.specs.Prelude.{◌≡◌, ◌≢◌, ◌≤◌, ◌<◌, ◌⊎◌, ℕ, false, Option, Some, None}
+use Rattle.mr_talk.specs.declared.hello.Hello.{Hello}
+use Rattle.mr_talk.specs.declared.peer.Met.{Met}
+use Rattle.mr_talk.specs.declared.peer.Standing.{Standing}
+use Rattle.mr_talk.specs.declared.peer.Standing.TheVariants.{Good, Itself, SameId, Renewed, PeerIsOldCopy, OldCopy}
+
+-- under the other's id another journal was met
+abbrev pub IsRenewed : Hello → Option Met → Type 0
+IsRenewed theirs None = ⊥
+IsRenewed theirs (Some met) = met.birth ≢ theirs.birth
+
+-- they are two replicas, and the other is the one that was met under its id, if one was
+pub record AreTwo (mine theirs : Hello) (met : Option Met) : Type 0 where
+  pub ids : mine.id ≢ theirs.id
+  pub same : IsRenewed theirs met → ⊥
+
+-- What the other is. An old copy has issued fewer versions than are known of it.
+abbrev pub Stands : Hello → Hello → ℕ → Option Met → Standing → Type 0
+Stands mine theirs known met Itself = (mine.id ≡ theirs.id) × (mine.birth ≡ theirs.birth)
+Stands mine theirs known met SameId = (mine.id ≡ theirs.id) × (mine.birth ≢ theirs.birth)
+Stands mine theirs known met Renewed = (mine.id ≢ theirs.id) × IsRenewed theirs met
+Stands mine theirs known met PeerIsOldCopy = AreTwo mine theirs met × (theirs.issued < known)
+Stands mine theirs known met OldCopy = AreTwo mine theirs met × (known ≤ theirs.issued) × (mine.issued < theirs.known)
+Stands mine theirs known met Good = AreTwo mine theirs met × (known ≤ theirs.issued) × (theirs.known ≤ mine.issued)
+
+-- each knows just what it knew at the end of the last whole talk of these two
+abbrev pub IsAsMet : Hello → Hello → Option Met → Type 0
+IsAsMet mine theirs None = ⊥
+IsAsMet mine theirs (Some met) = (met.birth ≡ theirs.birth) × (met.mine ≡ mine.knows) × (met.theirs ≡ theirs.knows)
+
+-- no mail waits for a receipt, and both know the same, or each what it knew when they last met
+pub record HasNothingToTell (mine theirs : Hello) (met : Option Met) : Type 0 where
+  pub none_here : mine.has_push_outs ≡ false
+  pub none_there : theirs.has_push_outs ≡ false
+  pub same : (mine.knows ≡ theirs.knows) ⊎ IsAsMet mine theirs met

@@ -1,0 +1,159 @@
+-- worked rows: what the definitions give for small values
+use Rattle.std.specs.Prelude.{◌≡◌, ℕ, true, false, List, [], ◌∷◌, ◌++◌, map, length, count_by, replicate, Some, None, Ok, Err, refl}
+use Rattle.mr_talk.specs.declared.kind.Kind.{Kind}
+use Rattle.mr_talk.specs.declared.kind.Kind.TheVariants.{Hello, Idle, Ask, Begin, Piece, End, Missing, Records, Wants, PushOuts, Receipts, Turn as Passes, Done, Fault}
+use Rattle.mr_talk.specs.declared.kind.TheConstants.{HELLO_BYTES, MAX_FRAMES_BYTES, MAX_LIST_BYTES, MAX_PIECE_BYTES, MAX_FAULT_BYTES}
+use Rattle.mr_talk.specs.declared.fault.MessageFault.TheVariants.{Truncated, BadKind, TooLong, Failed}
+use Rattle.mr_talk.specs.declared.hello.Hello as hello
+use Rattle.mr_talk.specs.declared.turn.Role.TheVariants.{Caller, Called}
+use Rattle.mr_talk.specs.declared.turn.Turn.{Turn}
+use Rattle.mr_talk.specs.declared.turn.Turn.TheVariants.{CallerGreets, CalledGreets, CalledAsks, CalledPasses, CallerAsks, CallerTells, CallerTellsFile, CalledTells, CallerSettles, CallerWants, CalledSettles, CalledCloses, CallerCloses, Over}
+use Rattle.mr_talk.specs.declared.turn.Turn.TheVariants as turn
+use Rattle.mr_talk.specs.Kinds.{kind_byte, kind_of_byte, limit_of}
+use Rattle.mr_talk.specs.Said.{Said, message_bytes}
+use Rattle.mr_talk.specs.Messages.{decoded}
+use Rattle.mr_talk.specs.Reader.{Feeds, Nexts, ending}
+use Rattle.mr_talk.specs.Calls.{Fed, Asked, fed, given, told}
+use Rattle.mr_talk.specs.Hello.{hello_bytes}
+use Rattle.mr_talk.specs.Turns.{sender_of, number_of, next_of, Leads, IsTalk, IsBroken}
+use Rattle.mr_talk.specs.World.{World, start, Sends, Receives, happens, after, ends_turn}
+
+-- ---- limits
+
+pub hello_bytes_are : HELLO_BYTES ≡ 44
+hello_bytes_are = refl
+
+pub frames_bytes_are : MAX_FRAMES_BYTES ≡ 8388612
+frames_bytes_are = refl
+
+pub list_bytes_are : MAX_LIST_BYTES ≡ 2097152
+list_bytes_are = refl
+
+pub piece_bytes_are : MAX_PIECE_BYTES ≡ 65536
+piece_bytes_are = refl
+
+pub fault_bytes_are : MAX_FAULT_BYTES ≡ 1024
+fault_bytes_are = refl
+
+-- ---- messages
+
+-- the wants of no file, and a fault of two bytes
+abbrev wants : Said
+wants = record { kind = Wants; bytes = [] }
+
+abbrev fault : Said
+fault = record { kind = Fault; bytes = 7 ∷ 8 ∷ [] }
+
+pub wants_bytes : message_bytes wants ≡ 9 ∷ 0 ∷ 0 ∷ 0 ∷ 0 ∷ []
+wants_bytes = refl
+
+pub fault_bytes : message_bytes fault ≡ 14 ∷ 0 ∷ 0 ∷ 0 ∷ 2 ∷ 7 ∷ 8 ∷ []
+fault_bytes = refl
+
+-- a message is decoded with what follows it left alone
+pub decodes_fault : decoded (14 ∷ 0 ∷ 0 ∷ 0 ∷ 2 ∷ 7 ∷ 8 ∷ 9 ∷ []) ≡ Ok (fault, 7)
+decodes_fault = refl
+
+-- there are no kinds 0 and 15, which is told by the first byte
+pub kinds_end : map kind_of_byte (0 ∷ 1 ∷ 14 ∷ 15 ∷ []) ≡ None ∷ Some Hello ∷ Some Fault ∷ None ∷ []
+kinds_end = refl
+
+pub bad_kind : decoded (15 ∷ []) ≡ Err BadKind
+bad_kind = refl
+
+-- a turn has no bytes, so one that promises some is too long before they are there, and not before its length is
+pub too_long : decoded (12 ∷ 0 ∷ 0 ∷ 0 ∷ 1 ∷ []) ≡ Err TooLong
+too_long = refl
+
+pub no_length_yet : decoded (12 ∷ 0 ∷ 0 ∷ 0 ∷ []) ≡ Err Truncated
+no_length_yet = refl
+
+pub no_bytes_yet : decoded (14 ∷ 0 ∷ 0 ∷ 0 ∷ 2 ∷ 7 ∷ []) ≡ Err Truncated
+no_bytes_yet = refl
+
+-- nothing is truncated
+pub nothing_yet : decoded [] ≡ Err Truncated
+nothing_yet = refl
+
+-- ---- a reader
+
+pub feeds_behind : Feeds (Some (12 ∷ [])) (0 ∷ 0 ∷ []) (Ok tt) (Some (12 ∷ 0 ∷ 0 ∷ []))
+feeds_behind = refl
+
+pub next_fault : Nexts (Some (15 ∷ [])) (Err BadKind) None
+next_fault = (refl, refl)
+
+pub endings : map ending (Some [] ∷ Some (12 ∷ []) ∷ None ∷ []) ≡ Ok tt ∷ Err Truncated ∷ Err Failed ∷ []
+endings = refl
+
+-- ---- a hello
+
+abbrev row : hello.Hello
+row = record { id = 7; birth = replicate 16 1; knows = replicate 16 2; issued = 258; known = 3; has_push_outs = true; keeps_all = false }
+
+pub hello_row : hello_bytes row ≡ 1 ∷ 7 ∷ (replicate 16 1 ++ (replicate 16 2 ++ (0 ∷ 0 ∷ 1 ∷ 2 ∷ 0 ∷ 0 ∷ 0 ∷ 3 ∷ 1 ∷ 0 ∷ [])))
+hello_row = refl
+
+pub hello_long : length (hello_bytes row) ≡ 44
+hello_long = refl
+
+-- ---- turns
+
+-- with nothing to tell, a talk is two messages, of 49 bytes each
+pub idle : IsTalk (Hello ∷ Idle ∷ [])
+idle = (CalledGreets, refl, (Over, refl, refl))
+
+-- in five turns: the called asks; the caller asks and tells a file and its record; the called tells a record and has nothing open; nor has the caller
+abbrev five : List Kind
+five = Hello ∷ Hello ∷ Ask ∷ Passes ∷ Ask ∷ Begin ∷ Piece ∷ End ∷ Records ∷ Passes ∷ Records ∷ Done ∷ Done ∷ []
+
+pub five_is : IsTalk five
+five_is = (CalledGreets, refl, (CalledAsks, refl, (CalledPasses, refl, (CallerAsks, refl, (CallerTells, refl, (CallerTellsFile, refl, (CallerTellsFile, refl, (CallerTells, refl, (CallerTells, refl, (CalledTells, refl, (CalledTells, refl, (CallerWants, refl, (Over, refl, refl)))))))))))))
+
+pub five_turns : count_by ends_turn five ≡ 4
+five_turns = refl
+
+-- in seven: each lacks a file of the other's, and both have mail that waits for a receipt
+abbrev seven : List Kind
+seven = Hello ∷ Hello ∷ Ask ∷ Passes ∷ Ask ∷ Records ∷ PushOuts ∷ Passes ∷ Records ∷ PushOuts ∷ Wants ∷ Passes ∷ Begin ∷ End ∷ Wants ∷ Passes ∷ Missing ∷ Receipts ∷ Done ∷ Receipts ∷ Done ∷ []
+
+pub seven_turns : count_by ends_turn seven ≡ 6
+seven_turns = refl
+
+-- the called can't end a talk whose caller has not said that it has nothing open
+pub not_alone : next_of CalledSettles Done ≡ Some CallerCloses
+not_alone = refl
+
+-- a record is out of place within a file, and so is a second request
+pub not_within : next_of CallerTellsFile Records ≡ None
+not_within = refl
+
+pub not_twice : next_of CallerTells Ask ≡ None
+not_twice = refl
+
+-- a fault ends a talk anywhere, and nothing comes behind it
+pub broken : IsBroken (Hello ∷ Fault ∷ [])
+broken = (CalledGreets, refl, (turn.Failed, refl, refl))
+
+pub nothing_more : next_of turn.Failed Fault ≡ None
+nothing_more = refl
+
+-- the caller speaks in the odd turns
+pub senders : map sender_of (CallerGreets ∷ CalledGreets ∷ CallerTells ∷ CalledTells ∷ CallerSettles ∷ CalledSettles ∷ CallerCloses ∷ Over ∷ []) ≡ Some Caller ∷ Some Called ∷ Some Caller ∷ Some Called ∷ Some Caller ∷ Some Called ∷ Some Caller ∷ None ∷ []
+senders = refl
+
+pub numbers : map number_of (CallerGreets ∷ CalledGreets ∷ CallerTells ∷ CalledTells ∷ CallerSettles ∷ CalledSettles ∷ CallerCloses ∷ Over ∷ []) ≡ 1 ∷ 2 ∷ 3 ∷ 4 ∷ 5 ∷ 6 ∷ 7 ∷ 0 ∷ []
+numbers = refl
+
+-- ---- both sides
+
+-- The caller's hello is on its way. The called may not speak before it has come.
+pub greeted : happens start (Sends Caller Hello) ≡ record { caller = CalledGreets; called = CallerGreets; to_called = Hello ∷ []; to_caller = [] }
+greeted = refl
+
+pub waits_for_it : happens (happens start (Sends Caller Hello)) (Sends Called Hello) ≡ happens start (Sends Caller Hello)
+waits_for_it = refl
+
+-- with nothing to tell, both are over once both hellos came
+pub both_over : after (Sends Caller Hello ∷ Receives Called ∷ Sends Called Idle ∷ Receives Caller ∷ []) start ≡ record { caller = Over; called = Over; to_called = []; to_caller = [] }
+both_over = refl

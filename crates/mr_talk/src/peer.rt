@@ -1,0 +1,106 @@
+//! What a hello says of the other side.
+ghost use Rattle.std.specs.Prelude.{IsTrue, MatchBool};
+ghost use Rattle.std.specs.Option.{option_copied};
+ghost use Rattle.mr_talk.specs.Told.{AreOf, NothingIsTold, Side};
+ghost use Rattle.mr_talk.specs.Peer.{HasNothingToTell, IsAsMet, IsRenewed, Stands};
+
+use crate::hello::{Birth, Hello, Short};
+
+/// What is remembered of a peer since the last whole talk with it.
+#[derive(Clone, Copy, Debug, PartialEq, Eq)]
+pub struct Met {
+    /// When its journal was begun.
+    pub birth: Birth,
+    /// The digest of what this side knew at the end.
+    pub mine: Short,
+    /// The digest of what the peer knew at the end.
+    pub theirs: Short,
+}
+
+/// What the other side is to this one.
+#[derive(Clone, Copy, Debug, PartialEq, Eq)]
+pub enum Standing {
+    /// Another replica, and neither is an old copy as far as the two know.
+    Good,
+    /// This replica itself, or a copy of it.
+    Itself,
+    /// Another replica with the id of this one.
+    SameId,
+    /// Another replica than the one that was met under this id.
+    Renewed,
+    /// The other has issued fewer versions than this side knows of it: it is an old copy, and would issue some of them again.
+    PeerIsOldCopy,
+    /// The other knows more versions of this side than it has issued: this is an old copy.
+    OldCopy,
+}
+
+/// What the other side is, by both hellos, the highest counter that is known here among its versions, and what is remembered
+/// of the replica with its id.
+///
+/// What isn't noticed: an old copy that meets only those who know no more of it than it does itself.
+pub fn standing_of(mine: &Hello, theirs: &Hello, known: u32, met: Option<&Met>) -> Standing
+    ensures { Stands mine.now theirs.now known (option_copied met.entry) result }
+{
+    if mine.id == theirs.id {
+        return if mine.birth == theirs.birth {
+            Standing::Itself
+        } else {
+            Standing::SameId
+        };
+    }
+    if is_renewed(theirs, met) {
+        return Standing::Renewed;
+    }
+    if theirs.issued < known {
+        return Standing::PeerIsOldCopy;
+    }
+    if mine.issued < theirs.known {
+        return Standing::OldCopy;
+    }
+    Standing::Good
+}
+
+/// Whether another journal was met under the other's id.
+fn is_renewed(theirs: &Hello, met: Option<&Met>) -> bool
+    ensures { MatchBool result (IsRenewed theirs.now (option_copied met.entry)) (IsRenewed theirs.now (option_copied met.entry) → ⊥) }
+{
+    match met {
+        Some(met) => met.birth != theirs.birth,
+        None => false,
+    }
+}
+
+/// Whether a talk would tell no record, as far as both hellos and what is remembered of the other can say: no mail waits for
+/// a receipt, and either both know the same, or each knows just what it knew at the end of the last whole talk of these two.
+///
+/// So a `true` means that neither side holds a version that the other selects and doesn't know, if equal digests mean equal
+/// knowledge.
+pub fn nothing_to_tell(mine: &Hello, theirs: &Hello, met: Option<&Met>) -> bool
+    ensures exact { MatchBool result (HasNothingToTell mine.now theirs.now (option_copied met.entry))
+        (HasNothingToTell mine.now theirs.now (option_copied met.entry) → ⊥) }
+    ensures nothing_told { IsTrue result → (a b : Side) → AreOf mine.now theirs.now (option_copied met.entry) a b → NothingIsTold a b }
+{
+    has_nothing(mine, theirs, met)
+}
+
+fn has_nothing(mine: &Hello, theirs: &Hello, met: Option<&Met>) -> bool
+    ensures { MatchBool result (HasNothingToTell mine.now theirs.now (option_copied met.entry))
+        (HasNothingToTell mine.now theirs.now (option_copied met.entry) → ⊥) }
+{
+    if mine.has_push_outs || theirs.has_push_outs {
+        return false;
+    }
+    mine.knows == theirs.knows || is_as_met(mine, theirs, met)
+}
+
+/// Whether each knows just what it knew when the two last met.
+fn is_as_met(mine: &Hello, theirs: &Hello, met: Option<&Met>) -> bool
+    ensures { MatchBool result (IsAsMet mine.now theirs.now (option_copied met.entry)) (IsAsMet mine.now theirs.now (option_copied met.entry) → ⊥) }
+{
+    match met {
+        Some(met) => {
+            met.birth == theirs.birth && met.mine == mine.knows && met.theirs == theirs.knows
+        }
+        None => false,
+    }
+}

@@ -1,0 +1,77 @@
+//! What a talk asks of the folder that it speaks for.
+ghost use Rattle.std.specs.Prelude.{◌≡◌, Bool, false, OnOk};
+
+use crate::hello::{Hello, Short};
+use crate::message::Message;
+use crate::turn::Turn;
+
+/// Why a host can't go on: a number of its own, which the other side is told with the text.
+#[derive(Debug, Drop)]
+pub struct HostFault {
+    /// The fault's number among the host's.
+    pub number: u16,
+    /// What a person reads, at most 1,022 bytes.
+    pub text: String,
+}
+
+/// An open folder, as a talk sees it.
+///
+/// Whatever a call does is undone by nothing here: what a talk that breaks off leaves is the beginning of a whole one.
+pub trait Host {
+    /// Whether something was done that isn't kept yet. Nothing is sent while it is so.
+    ghost waits: { Self → Bool };
+
+    /// Whether a file came that isn't on the disk yet. No record is taken while it is so.
+    ghost files_wait: { Self → Bool };
+
+    /// Keeps what was done, so that a crash leaves it there.
+    fn keep(&mut self) -> Result<(), HostFault>
+        ensures { OnOk result (waits self.new ≡ false) };
+
+    /// Puts the files that came on the disk.
+    fn keep_files(&mut self) -> Result<(), HostFault>
+        ensures { OnOk result (files_wait self.new ≡ false) };
+
+    /// What the folder says of itself; of the other side it may know the hello already.
+    fn hello(&mut self, theirs: Option<&Hello>) -> Result<Hello, HostFault>;
+
+    /// Whether there is nothing to tell this side, as [`nothing_to_tell`](crate::nothing_to_tell) says; or a fault where nothing
+    /// may be told to it, as [`standing_of`](crate::standing_of) says.
+    fn meet(&mut self, theirs: &Hello) -> Result<bool, HostFault>;
+
+    /// The frame of a request.
+    fn ask(&mut self) -> Result<Vec<u8>, HostFault>;
+
+    /// The next message to be sent at this point of the talk, or `None` where there is none: of `Begin`, `Piece` and `End`, each
+    /// file before the record that names it, `Missing`, `Records`, `PushOuts`, `Receipts` and `Wants`, those that
+    /// [`Turn::next`] has a place for.
+    fn next_message(&mut self, turn: Turn) -> Result<Option<Message>, HostFault>;
+
+    /// The digest of what is known, if nothing of the other side is waited for, and nothing is to be told to it.
+    fn done(&mut self, turn: Turn) -> Result<Option<Short>, HostFault>;
+
+    /// Takes the frame of a request, which the next messages answer.
+    fn take_ask(&mut self, frame: &[u8]) -> Result<(), HostFault>;
+
+    /// Takes what a file begins with, its digest and length; then its bytes, piece by piece; then its end.
+    fn take_file(&mut self, message: &Message) -> Result<(), HostFault>;
+
+    /// Takes the digest of a file that was wanted and that the other side hasn't.
+    fn take_missing(&mut self, digest: &[u8]) -> Result<(), HostFault>;
+
+    /// Takes frames of records. Each file that came before is on the disk.
+    fn take_records(&mut self, frames: &[u8]) -> Result<(), HostFault>
+        requires { files_wait self.old ≡ false };
+
+    /// Takes the digests of files that the other side lacks.
+    fn take_wants(&mut self, digests: &[u8]) -> Result<(), HostFault>;
+
+    /// Takes items and versions that wait for a receipt at the other side.
+    fn take_push_outs(&mut self, versions: &[u8]) -> Result<(), HostFault>;
+
+    /// Takes frames of receipts.
+    fn take_receipts(&mut self, frames: &[u8]) -> Result<(), HostFault>;
+
+    /// Takes the digest of what the other side knows, as it has nothing open any more.
+    fn take_done(&mut self, knows: &[u8]) -> Result<(), HostFault>;
+}
