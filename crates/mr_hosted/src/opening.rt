@@ -1,15 +1,16 @@
 //! How a replica is begun, and brought back.
-ghost use Rattle.std.specs.Prelude.{◌≡◌, ◌⊎◌, [], ◌∷◌, ℕ, List, IfOk, MatchResult};
+ghost use Rattle.std.specs.Prelude.{◌≡◌, ◌⊎◌, [], ◌∷◌, ℕ, List, IfErr, IfOk, MatchResult, true};
 ghost use Rattle.mr_entry.specs.Head.{HeadParts};
 ghost use Rattle.mr_entry.specs.Note.{NoteParts};
 ghost use Rattle.mr_entry.specs.declared.entry.Entry.TheVariants as entry;
 ghost use Rattle.mr_kept.specs.Beginning.{HasParts};
-ghost use Rattle.mr_kept.specs.Kept.{IsKept, head_of, replica_of};
+ghost use Rattle.mr_kept.specs.Kept.{IsKept, head_of, leaving, nothing_waits, replica_of};
 ghost use Rattle.mr_journal.specs.Format.{StandAlike};
-ghost use Rattle.mr_kept.specs.Opening.{Begins, IsOfPlace};
+ghost use Rattle.mr_kept.specs.Opening.{Begins, IsOfPlace, Reopens};
+ghost use Rattle.mr_kept.specs.Refusing.{IsOpenFault};
 ghost use Rattle.mr_kept.specs.Whole.{ComesBack, HasLog, HasLogOf, IsOfMachine};
 ghost use Rattle.mr_outbox.specs.Outbox.{file_of, left_since, may_leave};
-ghost use Rattle.mr_replica.specs.State.{State};
+ghost use Rattle.mr_replica.specs.State.{State, new_state};
 
 use crate::hosted::Hosted;
 use mr_entry::{Birth, Mark};
@@ -38,6 +39,8 @@ impl<K: Knowledge> Hosted<K> {
     pub fn begin(alloc: Global, setup: Setup) -> Result<Hosted<K>, OpenFault>
         ensures kept { IfOk result (λ h. IsKept file_of may_leave (entry.Head (head_of (journaled_of h)) ∷ []) (journaled_of h)) }
         ensures head { IfOk result (λ h. HasParts setup.id setup.filter setup.event_limit setup.birth setup.mark (head_of (journaled_of h))) }
+        ensures fresh { IfOk result (λ h. replica_of (journaled_of h) ≡ new_state setup.id setup.filter setup.event_limit (replica_of (journaled_of h)).knowledge) }
+        ensures none_waits { IfOk result (λ h. (nothing_waits (journaled_of h) ≡ true) × (leaving (journaled_of h) ≡ [])) }
         ensures new { IfOk result IsNew }
         // In whichever act the host is killed, the file has nothing, no entry, or the head.
         ensures left { IfOk result (λ h. (c : List ℕ) → left_since (outbox_of h) 0 c → (c ≡ []) ⊎ (StandAlike [] c ⊎ Begins [] c)) }
@@ -57,12 +60,17 @@ impl<K: Knowledge> Hosted<K> {
         mark: &Mark,
         birth: Option<Birth>,
     ) -> Result<(Hosted<K>, Opened), OpenFault>
+        // The entries of the file are those of a replica and of notes, and once the acts are done it has behind them those that close
+        // what was open in that replica.
+        ensures reopens { IfOk result (λ r. Reopens K.form file_of may_leave read.items r.1.are_closed r.1.notes.items (journaled_of r.0)) }
+        ensures fault { IfErr result (IsOpenFault K.form read.items mark.now birth) }
         ensures whole { (head : HeadParts) (s : State K) (notes : List NoteParts) → HasLogOf K.form read.items head s notes → IsOfPlace head mark.now birth
             → MatchResult result (λ r. ComesBack K.form s r.1.are_closed (replica_of (journaled_of r.0)) × (r.1.notes.items ≡ notes)) (λ e. IsOfMachine e) }
         ensures place { IfOk result (λ r. IsOfPlace (head_of (journaled_of r.0)) mark.now birth) }
         // In whichever act the host is killed, the file is as it was read, or again one that has the log of a replica, and the same notes.
         ensures left { (head : HeadParts) (s : State K) (notes : List NoteParts) → HasLogOf K.form read.items head s notes
             → IfOk result (λ r. (c : List ℕ) → left_since (outbox_of r.0) 0 c → (c ≡ read.items) ⊎ HasLog K.form c head notes) }
+        ensures none_waits { IfOk result (λ r. (nothing_waits (journaled_of r.0) ≡ true) × (leaving (journaled_of r.0) ≡ [])) }
         ensures new { IfOk result (λ r. IsNew r.0) }
     {
         match Journaled::open(alloc, Outbox::new(alloc, read), mark, birth) {

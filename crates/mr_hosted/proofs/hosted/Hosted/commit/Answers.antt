@@ -15,3 +15,6 @@ returns-then-not-is_settled-clause-left g c = λ entries kept of.
 
 pub returns-clause-kept : goal.returns-clause-kept
 returns-clause-kept g c = λ entries kept. c.in_ok-replies.ensures.kept refl entries kept
+
+pub returns-clause-left : goal.returns-clause-left
+returns-clause-left g c = λ entries kept of. c.in_ok-replies.ensures.left refl entries kept of

@@ -1,9 +1,11 @@
 use Rattle.std.proofs.Common.{inl, inr, ⊎_elim, ℕ, List, length, refl, sym, ap, subst}
 use Rattle.mr_journal.specs.Journal.{device_of}
 use Rattle.mr_kept.specs.Kept.{journal_of, replica_of}
+use Rattle.mr_kept.specs.Opening.{Reopens}
+use Rattle.mr_kept.specs.Refusing.{IsOpenFault}
 use Rattle.mr_kept.specs.Whole.{ComesBack, HasLog, HasLogOf}
 use Rattle.mr_kept.specs.declared.journaled.Journaled.{Journaled}
-use Rattle.mr_outbox.specs.Outbox.{left_since, may_leave}
+use Rattle.mr_outbox.specs.Outbox.{file_of, left_since, may_leave}
 use Rattle.mr_outbox.specs.declared.act.Act.{Act}
 use Rattle.mr_outbox.specs.declared.outbox.Outbox.{Outbox}
 use Rattle.mr_hosted.proofs.hosted.Hosted.open.Goals as goal
@@ -24,3 +26,14 @@ returns-in-Ok-clause-left g c = λ head s notes has file left.
 pub returns-in-Err-clause-whole : goal.returns-in-Err-clause-whole
 returns-in-Err-clause-whole g c = λ head s notes has place.
     c.in-Err.ensures.whole refl head s notes (subst (λ (f : List ℕ). HasLogOf g.K.Knowledge.form f head s notes) (sym c.new.ensures.rests.file_is) has) place
+
+-- An outbox that is fresh has the bytes that were read.
+pub returns-in-Ok-clause-reopens : goal.returns-in-Ok-clause-reopens
+returns-in-Ok-clause-reopens g c =
+    let opened = c.in-Ok.opened in
+    let was = subst (λ (f : List ℕ). Reopens g.K.Knowledge.form file_of may_leave f opened.are_closed opened.notes.items c.in-Ok.journaled) c.new.ensures.rests.file_is (c.in-Ok.ensures.reopens refl) in
+    subst (λ (j : Journaled g.row.K.Denot Outbox g.row.K-Vector.Denot). Reopens g.K.Knowledge.form file_of may_leave c.args.read.items opened.are_closed opened.notes.items j) (sym c.of.ensures.journaled) was
+
+pub returns-in-Err-clause-fault : goal.returns-in-Err-clause-fault
+returns-in-Err-clause-fault g c =
+    subst (λ (f : List ℕ). IsOpenFault g.K.Knowledge.form f c.args.mark.now c.args.birth c.in-Err.fault) c.new.ensures.rests.file_is (c.in-Err.ensures.fault refl)
