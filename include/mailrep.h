@@ -1,8 +1,11 @@
 /* mailrep.h: devices that keep one mailbox in step, for C and C++.
  *
- * A device is an mr_device, two words that belong to you. mr_open makes one, mr_close gives back what it holds. Every other
- * call that takes one is either an event or a reader. An event does all of what it says, or answers why not and leaves the
- * device as it was. A reader changes nothing.
+ * A device is an mr_device, two words that belong to you. mr_open makes a plain one, mr_kept_begin and mr_kept_open make one that is
+ * kept, and mr_close gives back what it holds. Every other call that takes one is either an event or a reader. An event does all of
+ * what it says, or answers why not and leaves the device as it was. A reader changes nothing.
+ *
+ * A plain device is a log that your program writes down. A kept one has a file that your program alone reads and writes: the device says
+ * what is to be done to it, act by act, and shows and hands out nothing before that is done ("kept devices", below).
  *
  * What the calls ask of you, since C can't check it:
  *   - A new mr_device is all zeros, which is a closed one: mr_device d = {0};
@@ -25,8 +28,9 @@
  * it was: call again with more room. At any other error buffer and word are as they were, and so is each other variable of yours.
  *
  * Every answer is MR_OK, which is 0, or one of the other codes, which are never 0: mr_code_text says each in words. The comment of a
- * call lists its codes; where several hold it answers the first of them. mr_open, mr_replay, each event, and mr_event, mr_sessions,
- * mr_streams and mr_frame_claim may also answer MR_NO_MEMORY, and then nothing has changed; the other calls want no memory.
+ * call lists its codes; where several hold it answers the first of them. The calls that open a device, each event, mr_commit, and
+ * mr_event, mr_sessions, mr_streams, mr_told_frame and mr_frame_claim may also answer MR_NO_MEMORY, and then nothing has changed; the
+ * other calls want no memory.
  */
 #ifndef MAILREP_H
 #define MAILREP_H
@@ -41,7 +45,7 @@ extern "C" {
 /* The interface that this header is of. Its upper half changes where programs have to be built anew: where a call, a struct or the
  * meaning of a number changes or goes. Its lower half grows where calls or codes are added. A program runs with a library whose
  * mr_abi() has the same upper half and a lower half that is not below the header's. */
-#define MR_ABI UINT32_C(0x00010000)
+#define MR_ABI UINT32_C(0x00010001)
 
 /* What a call answers. Below 0x100 stand the codes of this interface; the others are a family, by its upper byte, and the number
  * that docs/API.md has in that family's table. */
@@ -55,6 +59,11 @@ extern "C" {
   CODE(MR_NOT_THERE, 0x006, "nothing is there") \
   CODE(MR_BEHIND, 0x007, "bytes stand behind the frame") \
   CODE(MR_OTHER_FRAME, 0x008, "the frame is of another kind") \
+  CODE(MR_UNSETTLED, 0x009, "events wait for a commit, or acts are left to be done") \
+  CODE(MR_FAILED, 0x00a, "an act failed: open the file again") \
+  CODE(MR_OTHER_DEVICE, 0x00b, "the call is for a device of the other kind") \
+  CODE(MR_TOO_LARGE, 0x00c, "the event or the file is too large") \
+  CODE(MR_BAD_LENGTH, 0x00d, "a birth has 16 bytes, and a mark 32") \
   /* no such id or version: VersionFault */ \
   CODE(MR_VERSION_NO_SUCH_AUTHOR, 0x101, "an id is 0 to 63") \
   CODE(MR_VERSION_BAD_VERSION, 0x102, "a counter is 1 to 1,000,000") \
@@ -106,7 +115,22 @@ extern "C" {
   CODE(MR_REFUSED_OWN_ASK, 0x713, "the request is the device's own") \
   CODE(MR_REFUSED_NOT_PUSHED_OUT, 0x714, "the receipt is for no push-out that is held") \
   CODE(MR_REFUSED_PUSH_OUTS_LEFT, 0x715, "push-outs are left") \
-  CODE(MR_REFUSED_FORGED, 0x716, "no device gave the record")
+  CODE(MR_REFUSED_FORGED, 0x716, "no device gave the record") \
+  /* the file isn't opened: OpenFault, or the fault of another family that it carries */ \
+  CODE(MR_OPEN_NO_REPLICA, 0x803, "no device was begun in the file") \
+  CODE(MR_OPEN_NOT_EMPTY, 0x804, "the file has entries already") \
+  CODE(MR_OPEN_BAD_ENTRY, 0x805, "an entry of the file is none") \
+  CODE(MR_OPEN_MISPLACED, 0x806, "an entry of the file doesn't belong there") \
+  CODE(MR_OPEN_OTHER_COUNTER, 0x807, "an entry of the file has another's counter") \
+  CODE(MR_OPEN_TOO_MANY_EVENTS, 0x808, "the file has more events than a device takes") \
+  CODE(MR_OPEN_COPIED, 0x809, "the file was begun at another place: it was copied or restored") \
+  CODE(MR_OPEN_OTHER_BIRTH, 0x80a, "the file was begun at another time") \
+  /* the file is no journal: JournalFault */ \
+  CODE(MR_JOURNAL_FAILED, 0x901, "no memory to note what is to be done to the file") \
+  CODE(MR_JOURNAL_NOT_A_JOURNAL, 0x902, "the file doesn't begin as a journal") \
+  CODE(MR_JOURNAL_OTHER_FORMAT, 0x903, "the file is a journal of another format") \
+  CODE(MR_JOURNAL_DAMAGED, 0x904, "the file is damaged as no crash leaves it") \
+  CODE(MR_JOURNAL_TOO_LARGE, 0x905, "the file would be too large")
 
 #define MR_CODE_NAME(name, number, text) name = number,
 enum { MR_CODES(MR_CODE_NAME) };
@@ -120,7 +144,9 @@ enum {
   MR_FAMILY_WIRE = 4,
   MR_FAMILY_EVENT = 5,
   MR_FAMILY_REPLAY = 6,
-  MR_FAMILY_REFUSED = 7
+  MR_FAMILY_REFUSED = 7,
+  MR_FAMILY_OPEN = 8,
+  MR_FAMILY_JOURNAL = 9
 };
 
 /* What mr_receive tells: what the record tells was new, or known; or it was the last one, and the session is closed. */
@@ -131,6 +157,16 @@ enum { MR_FROM = 0, MR_SUBJECT = 1, MR_BODY = 2 };
 
 /* The kinds of frames: a request, a record of a stream, a receipt. */
 enum { MR_ASK = 0, MR_RECORD = 1, MR_RECEIPT = 2 };
+
+/* What is to be done to the file of a kept device. */
+enum { MR_WRITE = 0, MR_CUT = 1, MR_SYNC = 2 };
+
+/* What a kept device hands out: the version of a create or an edit; the session of a pull, whose request is its frame; the record of a
+ * next; the receipt of a vouch. */
+enum { MR_ISSUED = 0, MR_ASKED = 1, MR_GAVE = 2, MR_VOUCHED = 3 };
+
+/* How many bytes a birth and a mark have. */
+enum { MR_BIRTH = 16, MR_MARK = 32 };
 
 /* The flags of a message, to be joined by |. */
 enum { MR_SEEN = 1, MR_ANSWERED = 2, MR_FLAGGED = 4, MR_DRAFT = 8, MR_DELETED = 16 };
@@ -185,6 +221,20 @@ typedef struct mr_claimed {
   uint32_t author;
 } mr_claimed;
 
+/* What is to be done to the file of a kept device. */
+typedef struct mr_act {
+  uint32_t kind; /* MR_WRITE, MR_CUT, MR_SYNC */
+  uint64_t at;   /* where to write, which is no later than the file's end; or the length to cut to */
+  size_t len;    /* how many bytes to write, by mr_act_bytes */
+} mr_act;
+
+/* What a kept device hands out. */
+typedef struct mr_told {
+  uint32_t kind;      /* MR_ISSUED, MR_ASKED, MR_GAVE, MR_VOUCHED */
+  uint64_t number;    /* of MR_ASKED the session's, and else 0 */
+  mr_version version; /* of MR_ISSUED the version, and else zeros */
+} mr_told;
+
 /* ---- life */
 
 /* The interface of the library: compare it with MR_ABI, as is said there. */
@@ -201,8 +251,64 @@ int32_t mr_open(mr_device *device, uint16_t id, const uint8_t *filter, size_t fi
 int32_t mr_replay(mr_device *device, uint16_t id, const uint8_t *filter, size_t filter_len, uint32_t event_limit,
                   const uint8_t *log, size_t log_len);
 
-/* Closes the device, and gives back all that it holds; a closed one stays so. What was not written down is gone. */
+/* Closes the device, and gives back all that it holds; a closed one stays so. What was not written down is gone, and of a kept one what
+ * was not committed. */
 void mr_close(mr_device *device);
+
+/* ---- kept devices
+ *
+ * A file of its own, which nothing but your program touches, and of which one device at a time is open (lock it). The loop:
+ *
+ *   mr_create(&phone, .., &unused);                        any number of events; what they show and give is held back
+ *   mr_commit(&phone);                                     what is to be done so that the file has them
+ *   for (size_t i = 0; mr_act_at(&phone, i, &act) == MR_OK; i++) ..   pwrite, ftruncate or fdatasync, in this order
+ *   mr_settle(&phone, all_went_well);
+ *   for (size_t i = 0; mr_told_at(&phone, i, &told) == MR_OK; i++) .. a version, or a frame by mr_told_frame
+ *
+ * Killed at any moment, in whichever act and however that write is torn, your program finds a file with all that it committed before the
+ * last commit, and of the last one all or nothing; mr_kept_open takes it. What was handed out is in the file.
+ *
+ * Of its events mr_answer and mr_receive, which show nothing of it to others, tell at once what they tell of a plain device. mr_create,
+ * mr_edit and mr_pull write nothing to their last parameter: the version or the session is told by mr_told_at, as is the frame of mr_pull,
+ * mr_next and mr_vouch; mr_frame is a plain device's alone. The readers answer MR_UNSETTLED while an event waits for a commit or an act is
+ * left. Behind MR_CLOSED every call answers MR_FAILED once an act has failed: close the device, read the file, open it again. An event
+ * may answer MR_TOO_LARGE, of more than 8,388,608 bytes.
+ *
+ * birth: 16 random bytes, drawn for this file alone. mark: 32 bytes that tell where the file is, as of its device and inode, so that a copy
+ * and a restored backup, which would give versions again, are refused; or zeros, and then they aren't. */
+
+/* Begins a device in a file that has no byte. Its acts are to be done first. The others are mr_open's.
+ * MR_IN_USE, MR_VERSION_NO_SUCH_AUTHOR, MR_NOT_TEXT, MR_FILTER_.., MR_BAD_LENGTH, MR_REPLAY_BAD_LIMIT, MR_OPEN_BAD_ENTRY of a filter
+ * whose text is too long, MR_JOURNAL_FAILED. */
+int32_t mr_kept_begin(mr_device *device, uint16_t id, const uint8_t *filter, size_t filter_len, uint32_t event_limit,
+                      const uint8_t *birth, size_t birth_len, const uint8_t *mark, size_t mark_len);
+
+/* Opens a device of the bytes of its file, which was synced before it was read. What a crash left behind is cut off, and sessions and
+ * streams that were open are closed: these acts are to be done first. Where birth_len is not 0, the file has to be of that birth. A file
+ * that mr_kept_begin and commits left, in whichever act, is never refused, but for memory.
+ * MR_IN_USE, MR_BAD_LENGTH, MR_JOURNAL_.., MR_OPEN_.., MR_FILTER_.., MR_REPLAY_REFUSED; MR_FAILED or MR_TOO_LARGE of what closes. */
+int32_t mr_kept_open(mr_device *device, const uint8_t *file, size_t file_len, const uint8_t *mark, size_t mark_len,
+                     const uint8_t *birth, size_t birth_len);
+
+/* Has the file take all events that wait: its acts are to be done then. What the last commit handed out is let go of.
+ * MR_CLOSED, MR_FAILED also where there is no memory to note an act, MR_OTHER_DEVICE, MR_UNSETTLED while acts are left, MR_TOO_LARGE. */
+int32_t mr_commit(mr_device *device);
+
+/* An act that is left to be done, by its place in their order, from 0. MR_CLOSED, MR_FAILED, MR_OTHER_DEVICE, MR_NOT_THERE. */
+int32_t mr_act_at(mr_device *device, size_t place, mr_act *act);
+
+/* The bytes that an act writes. MR_CLOSED, MR_FAILED, MR_OTHER_DEVICE, MR_NOT_THERE also where it writes none, MR_TOO_SMALL. */
+int32_t mr_act_bytes(mr_device *device, size_t place, uint8_t *to, size_t room, size_t *len);
+
+/* All acts are done; or, where went_well is 0, one of them failed, and so has the device. MR_CLOSED, MR_FAILED, MR_OTHER_DEVICE. */
+int32_t mr_settle(mr_device *device, uint32_t went_well);
+
+/* What the last commit hands out, by its place in the order of the events, from 0. Read it before the next event.
+ * MR_CLOSED, MR_FAILED, MR_OTHER_DEVICE, MR_UNSETTLED, MR_NOT_THERE. */
+int32_t mr_told_at(mr_device *device, size_t place, mr_told *told);
+
+/* Its frame, and none (length 0) of MR_ISSUED. MR_CLOSED, MR_FAILED, MR_OTHER_DEVICE, MR_UNSETTLED, MR_NOT_THERE, MR_TOO_SMALL. */
+int32_t mr_told_frame(mr_device *device, size_t place, uint8_t *to, size_t room, size_t *len);
 
 /* ---- events: each answers MR_CLOSED first; at an error nothing has changed */
 
@@ -250,10 +356,10 @@ int32_t mr_vouch(mr_device *device, mr_version version);
  * LOG_FULL. */
 int32_t mr_release(mr_device *device, const uint8_t *frame, size_t frame_len);
 
-/* ---- readers: each answers MR_CLOSED first; none changes the device */
+/* ---- readers: each answers MR_CLOSED first, and of a kept device MR_FAILED and MR_UNSETTLED; none changes the device */
 
-/* The frame that the last event gave that was not refused: of mr_pull, mr_next and mr_vouch, and else none (length 0). It has at
- * most 8,388,612 bytes. MR_TOO_SMALL. */
+/* The frame that the last event of a plain device gave that was not refused: of mr_pull, mr_next and mr_vouch, and else none (length
+ * 0). It has at most 8,388,612 bytes. MR_OTHER_DEVICE, MR_TOO_SMALL. */
 int32_t mr_frame(mr_device *device, uint8_t *to, size_t room, size_t *len);
 
 /* How much there is. */

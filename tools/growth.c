@@ -1,6 +1,6 @@
-/* Two devices in step, with each call for memory of a run refused in turn (tools/try-c links it with malloc and realloc wrapped).
-   The call then answers MR_NO_MEMORY and has changed nothing that C sees; made again it does what it is to do, and the run ends as
-   it does with all memory. */
+/* Two devices in step, and one that is kept, with each call for memory of a run refused in turn (tools/try-c links it with malloc and
+   realloc wrapped). The call then answers MR_NO_MEMORY and has changed nothing that C sees; made again it does what it is to do, and the
+   run ends as it does with all memory. Where there was none to note an act the kept device has failed, and is opened again. */
 #include <mailrep.h>
 #include <stdio.h>
 #include <stdlib.h>
@@ -115,13 +115,95 @@ static void run(void) {
   mr_close(&again);
 }
 
-int main(void) {
-  run();
+/* ---- a kept device, whose file is here */
+
+static uint8_t file[1 << 16];
+static size_t file_len;
+static const uint8_t birth[MR_BIRTH] = {7}, mark[MR_MARK] = {9};
+
+static void settle(mr_device *device) {
+  mr_act act;
+  for (size_t i = 0; mr_act_at(device, i, &act) == MR_OK; i++) {
+    size_t written = 0;
+    if (act.kind == MR_WRITE && mr_act_bytes(device, i, file + act.at, sizeof file - act.at, &written)) wrong++, puts("no bytes");
+    if (act.kind == MR_WRITE && act.at + written > file_len) file_len = act.at + written;
+    if (act.kind == MR_CUT && act.at < file_len) file_len = act.at;
+  }
+  if (mr_settle(device, 1)) wrong++, puts("not settled");
+}
+
+/* A call that opens a kept device, which may be refused once: also where there is no memory to note an act. */
+static void settle_by(mr_device *device, int32_t code, int32_t again) {
+  if (code) refused++;
+  if (code && code != MR_NO_MEMORY && code != MR_JOURNAL_FAILED && code != MR_FAILED) wrong++, printf("0x%x: not opened\n", (unsigned)code);
+  if (again) wrong++, printf("0x%x: not opened again\n", (unsigned)again);
+  settle(device);
+}
+
+static void open_kept(mr_device *device) {
+  int32_t code = mr_kept_open(device, file, file_len, mark, MR_MARK, birth, MR_BIRTH);
+  settle_by(device, code, code ? mr_kept_open(device, file, file_len, mark, MR_MARK, birth, MR_BIRTH) : MR_OK);
+}
+
+/* A commit, and whether it is to be asked for again with its events: there was no memory to note an act, and the device has failed. */
+static int commit(mr_device *device) {
+  int32_t code = mr_commit(device);
+  if (code == MR_NO_MEMORY) refused++, code = mr_commit(device);
+  if (code == MR_FAILED) {
+    refused++;
+    if (mr_retire(device) != MR_FAILED) wrong++, puts("goes on after a failure");
+    mr_close(device);
+    open_kept(device);
+    return 1;
+  }
+  if (code) wrong++, printf("0x%x: commit\n", (unsigned)code);
+  settle(device);
+  return 0;
+}
+
+static void run_kept(void) {
+  mr_device phone = {0};
+  mr_version unused = {0, 0};
+  mr_told told = {9, 0, {0, 0}};
+  mr_count count = {0, 0, 0, 0};
+  uint64_t session = 0;
+  file_len = 0;
+  int32_t code = mr_kept_begin(&phone, 0, TEXT("all"), 1000, birth, MR_BIRTH, mark, MR_MARK);
+  settle_by(&phone, code, code ? mr_kept_begin(&phone, 0, TEXT("all"), 1000, birth, MR_BIRTH, mark, MR_MARK) : MR_OK);
+  do {
+    CALL(&phone, mr_create(&phone, TEXT("ann@example.org"), TEXT("lunch"), TEXT("See you."), TEXT("inbox,work"), 0, 20000, &unused));
+  } while (commit(&phone));
+  CALL(&phone, mr_told_at(&phone, 0, &told));
+  if (told.kind != MR_ISSUED || told.version.counter != 1) wrong++, puts("another version");
+  do {
+    CALL(&phone, mr_pull(&phone, &session));
+  } while (commit(&phone));
+  CALL(&phone, mr_told_at(&phone, 0, &told));
+  CALL(&phone, mr_told_frame(&phone, 0, bytes, sizeof bytes, &len));
+  if (told.kind != MR_ASKED || len == 0) wrong++, puts("no request");
+  mr_close(&phone);
+  open_kept(&phone);
+  CALL(&phone, mr_counts(&phone, &count));
+  if (count.heads != 1) wrong++, printf("the phone has %zu\n", count.heads);
+  none_open(&phone, mr_sessions);
+  mr_close(&phone);
+}
+
+/* Runs it once with all memory, and then once for each call that asks for some. Says how many those are. */
+static long refuse_each(void (*of)(void)) {
+  left = -1;
+  asked = 0;
+  of();
   long all = asked;
   for (long i = 0; i < all; i++) {
     left = i;
-    run();
+    of();
   }
+  return all;
+}
+
+int main(void) {
+  long all = refuse_each(run) + refuse_each(run_kept);
   printf("%ld calls for memory, each refused once: %d calls answered so, %d are wrong\n", all, refused, wrong);
   return wrong || refused < all;
 }

@@ -1,25 +1,38 @@
 -- what a function that is an event does
-use Rattle.std.specs.Prelude.{◌≡◌, ℕ, Option, Some, None, Result, Ok, Err}
-use Rattle.mr_desk.specs.Desk.{DeskState}
-use Rattle.mr_desk.specs.Serves.{Answers}
+use Rattle.std.specs.Prelude.{◌≡◌, ℕ, ℤ, Option, Some, None, Result, Ok, Err}
+use Rattle.mr_desk.specs.Device.{DeviceAnswers}
 use Rattle.mr_desk.specs.Version.{numbers_of}
 use Rattle.mr_desk.specs.declared.call.Call.{Call}
 use Rattle.mr_desk.specs.declared.call.VersionNumbers.{VersionNumbers}
+use Rattle.mr_desk.specs.declared.device.Device.{Device}
+use Rattle.mr_desk.specs.declared.fault.Fault.{Fault}
 use Rattle.mr_desk.specs.declared.reply.Told.{Told}
 use Rattle.mr_desk.specs.declared.reply.Told.TheVariants.{Issued, Asked, Streaming, Took, Known, Finished}
+use Rattle.mr_c.specs.Code.{code_of}
 use Rattle.mr_c.specs.declared.failure.Failure.{Failure}
 use Rattle.mr_c.specs.declared.failure.Failure.TheVariants.{Closed, Desk}
 
--- A closed handle answers so, and stays closed. An open one stays open, and its desk answers the call.
-abbrev pub Called : Option DeskState → Call → Result Told Failure → Option DeskState → Type 0
+-- A closed handle answers so, and stays closed. An open one stays open, and its device answers the call.
+abbrev pub Called : Option Device → Call → Result Told Failure → Option Device → Type 0
 Called None call answer new = (answer ≡ Err Closed) × (new ≡ None)
-Called (Some s) call (Ok told) (Some n) = Answers s call (Ok told) n
-Called (Some s) call (Err (Desk fault)) (Some n) = Answers s call (Err fault) n
+Called (Some s) call (Ok told) (Some n) = DeviceAnswers s call (Ok told) n
+Called (Some s) call (Err (Desk fault)) (Some n) = DeviceAnswers s call (Err fault) n
 Called (Some s) call answer new = ⊥
 
 -- The handle was called, and C sees of the answer what is said.
-abbrev pub Calls : Option DeskState → Call → Option DeskState → (Result Told Failure → Type 0) → Type 0
+abbrev pub Calls : Option Device → Call → Option Device → (Result Told Failure → Type 0) → Type 0
 Calls old call new IsSeen = (answer : Result Told Failure) × Called old call answer new × IsSeen answer
+
+-- A closed handle answers so, and stays closed. The device of an open one does this.
+abbrev pub Does : (Device → Result (Unit {0}) Fault → Device → Type 0) → Option Device → Result (Unit {0}) Failure → Option Device → Type 0
+Does Acts None answer new = (answer ≡ Err Closed) × (new ≡ None)
+Does Acts (Some s) (Ok done) (Some n) = Acts s (Ok done) n
+Does Acts (Some s) (Err (Desk fault)) (Some n) = Acts s (Err fault) n
+Does Acts (Some s) answer new = ⊥
+
+-- The handle was asked to do it, and C sees the number of the answer.
+abbrev pub DoesAs : (Device → Result (Unit {0}) Fault → Device → Type 0) → Option Device → Option Device → ℤ → Type 0
+DoesAs Acts old new code = (answer : Result (Unit {0}) Failure) × Does Acts old answer new × (code ≡ code_of answer)
 
 -- what stands in the caller's variable then: what was told, and what stood there where nothing was
 abbrev pub version_told : Result Told Failure → VersionNumbers → VersionNumbers

@@ -1,21 +1,18 @@
 -- what a function that reads gives
 use Rattle.std.specs.Prelude.{◌≡◌, ◌<◌, ◌≤◌, ◌++◌, ℕ, ℤ, pos, List, length, drop, Option, Some, None, Result, Ok, Err}
-use Rattle.std.specs.Borrow.{Bor}
 use Rattle.std.specs.Global.{Vec}
 use Rattle.std.specs.List.{slice_get}
 use Rattle.mr_version.specs.declared.fault.VersionFault.{VersionFault}
-use Rattle.mr_desk.specs.Desk.{DeskState}
+use Rattle.mr_itemset.specs.Normal.{Normal}
+use Rattle.mr_replica.specs.State.{State}
+use Rattle.mr_desk.specs.Device.{shown}
+use Rattle.mr_desk.specs.declared.device.Device.{Device}
 use Rattle.mr_desk.specs.declared.fault.Fault.{Fault}
 use Rattle.mr_desk.specs.declared.fault.Fault.TheVariants.{Version, Wire}
 use Rattle.mr_wire.specs.declared.fault.WireFault.{WireFault}
 use Rattle.mr_c.specs.Code.{failure_number}
 use Rattle.mr_c.specs.declared.failure.Failure.{Failure}
 use Rattle.mr_c.specs.declared.failure.Failure.TheVariants.{Closed, TooSmall, NotThere, Desk}
-
--- what is read of the desk, where the handle is open
-abbrev pub read_by : {X : Type 0} → (DeskState → Result X Failure) → Option DeskState → Result X Failure
-read_by read None = Err Closed
-read_by read (Some s) = read s
 
 -- what is at a place
 abbrev pub at_place : {X Y : Type 0} → (X → Y) → List X → ℕ → Result Y Failure
@@ -39,11 +36,6 @@ abbrev pub IsFilled : {X : Type 0} → Result (List X) Failure → (old new : Li
 IsFilled (Ok found) old new old_len new_len code = (new_len ≡ length found) × IsPut found old new code
 IsFilled (Err failure) old new old_len new_len code = (new ≡ old) × (new_len ≡ old_len) × (code ≡ pos (failure_number failure))
 
--- what is found behind a loan
-abbrev pub lent : {X : Type 0} → Result (Bor X) Failure → Result X Failure
-lent (Ok found) = Ok found.now
-lent (Err failure) = Err failure
-
 -- what is found in memory that was wanted for it
 abbrev pub built : {X : Type 0} → Result (Vec X) Failure → Result (List X) Failure
 built (Ok found) = Ok found.items
@@ -61,3 +53,20 @@ by_wire (Err fault) = Err (Desk (Wire fault))
 abbrev pub by_version : {X : Type 0} → Result X VersionFault → Result X Failure
 by_version (Ok found) = Ok found
 by_version (Err fault) = Err (Desk (Version fault))
+
+-- what is read of what was found
+abbrev pub read_of : {X Y : Type 0} → (X → Result Y Failure) → Result X Failure → Result Y Failure
+read_of read (Ok found) = read found
+read_of read (Err failure) = Err failure
+
+-- what is read of the replica of a device, where it is shown
+abbrev pub read_in : {X : Type 0} → (State Normal → Result X Failure) → Device → Result X Failure
+read_in read device = read_of read (by_desk (shown device))
+
+-- what is read of a device, and of its replica, where the handle is open
+abbrev pub read_open : {X : Type 0} → (Device → Result X Failure) → Option Device → Result X Failure
+read_open read None = Err Closed
+read_open read (Some device) = read device
+
+abbrev pub read_by : {X : Type 0} → (State Normal → Result X Failure) → Option Device → Result X Failure
+read_by read device = read_open (read_in read) device

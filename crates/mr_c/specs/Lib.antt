@@ -5,3 +5,4 @@ pub mod Held
 pub mod Opened
 pub mod Rows
 pub mod Shown
+pub mod ShownKept

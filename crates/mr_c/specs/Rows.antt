@@ -1,18 +1,23 @@
 -- worked rows: what the definitions give for small values
-use Rattle.std.specs.Prelude.{◌≡◌, ℕ, [], ◌∷◌, pos, None, Ok, Err, codes, refl}
+use Rattle.std.specs.Prelude.{◌≡◌, ℕ, [], ◌∷◌, pos, Some, None, Ok, Err, false, codes, refl}
 use Rattle.std.proofs.Common.{arith}
 use Rattle.mr_mail.specs.Mail.{Mail}
 use Rattle.mr_version.specs.Name.{Name}
 use Rattle.mr_version.specs.declared.fault.VersionFault.TheVariants.{BadVersion}
 use Rattle.mr_desk.specs.declared.call.Call.TheVariants.{Pull}
 use Rattle.mr_desk.specs.declared.call.VersionNumbers.{VersionNumbers}
+use Rattle.mr_desk.specs.declared.device.Device.{Device}
+use Rattle.mr_outbox.specs.declared.act.Act.TheVariants as act
+use Rattle.mr_replica.specs.declared.event.Reply.TheVariants as reply
 use Rattle.mr_desk.specs.declared.fault.Fault.TheVariants as fault
 use Rattle.mr_desk.specs.declared.reply.Told.TheVariants.{Issued, Done, Asked, Known}
 use Rattle.mr_c.specs.Called.{Called, number_told, outcome_told, version_told}
 use Rattle.mr_c.specs.Code.{code_of, failure_number}
 use Rattle.mr_c.specs.Given.{IsFilled, IsGiven, at_place}
 use Rattle.mr_c.specs.Shown.{known, of_version, part_of, shown_card}
-use Rattle.mr_c.specs.declared.failure.Failure.TheVariants.{Closed, NotThere, Desk}
+use Rattle.mr_c.specs.Opened.{ClosedOnly}
+use Rattle.mr_c.specs.ShownKept.{act_at, is_well, shown_act, shown_reply, written}
+use Rattle.mr_c.specs.declared.failure.Failure.TheVariants.{Closed, InUse, NotThere, Desk}
 
 -- ---- numbers
 
@@ -97,3 +102,28 @@ no_such_version = refl
 
 pub known_when_closed : known None (numbers 3 0) (numbers 3 0) ≡ Err Closed
 known_when_closed = refl
+
+-- ---- kept devices
+
+pub cut_row : shown_act (act.Cut 40) ≡ record { kind = 1; at = 40; len = 0 }
+cut_row = refl
+
+pub sync_row : shown_act act.Sync ≡ record { kind = 2; at = 0; len = 0 }
+sync_row = refl
+
+-- a cut writes no byte
+pub cut_writes_none : written (act.Cut 40 ∷ []) 0 ≡ Err NotThere
+cut_writes_none = refl
+
+pub version_handed : shown_reply (reply.Issued (name 3 7)) ≡ record { kind = 0; number = 0; version = numbers 3 7 }
+version_handed = refl
+
+pub zero_is_unwell : is_well 0 ≡ false
+zero_is_unwell = refl
+
+pub acts_when_closed : act_at None 0 ≡ Err Closed
+acts_when_closed = refl
+
+-- an open one is not opened
+pub open_is_refused : (d : Device) → ClosedOnly (Some d) (Err InUse) (Some d)
+open_is_refused d = (refl, refl)

@@ -1,4 +1,4 @@
--- a desk as C sees it
+-- a device as C sees it
 use Rattle.std.specs.Prelude.{◌≡◌, ◌==◌, ℕ, ℤ, Bool, true, false, if◌then◌else◌, List, length, Option, Some, None, Result, Ok, Err}
 use Rattle.std.specs.Global.{Vec}
 use Rattle.mr_feed.specs.declared.entry.Entry.{Entry}
@@ -6,19 +6,21 @@ use Rattle.mr_feed.specs.declared.entry.Entry.TheVariants.{Added, Dropped}
 use Rattle.mr_itemset.specs.Sparing.{sparing_form}
 use Rattle.mr_madewith.specs.Revision.{Rev}
 use Rattle.mr_mail.specs.Mail.{Mail}
-use Rattle.mr_replica.specs.State.{held}
+use Rattle.mr_replica.specs.State.{State, held}
+use Rattle.mr_itemset.specs.Normal.{Normal}
 use Rattle.mr_replica.specs.declared.event.Event.{Event}
 use Rattle.mr_session.specs.Table.{open_numbers}
-use Rattle.mr_desk.specs.Desk.{DeskState}
+use Rattle.mr_desk.specs.Device.{frame_of as device_frame}
 use Rattle.mr_desk.specs.Fault.{Reads}
 use Rattle.mr_desk.specs.Frames.{any_frame, frame_fault, BeginsFrame, ClaimsIn}
 use Rattle.mr_desk.specs.Log.{GivesBytes}
 use Rattle.mr_desk.specs.Version.{numbers_of, named_by, version_fault}
 use Rattle.mr_desk.specs.declared.call.VersionNumbers.{VersionNumbers}
+use Rattle.mr_desk.specs.declared.device.Device.{Device}
 use Rattle.mr_desk.specs.declared.fault.Fault.{Fault}
 use Rattle.mr_desk.specs.declared.fault.Fault.TheVariants as fault
 use Rattle.mr_desk.specs.declared.frames.Claim.{Claim}
-use Rattle.mr_c.specs.Given.{at_place, built, by_desk, read_by, IsFilled, IsGiven}
+use Rattle.mr_c.specs.Given.{at_place, built, by_desk, read_by, read_of, read_open, IsFilled, IsGiven}
 use Rattle.mr_c.specs.declared.failure.Failure.{Failure}
 use Rattle.mr_c.specs.declared.failure.Failure.TheVariants.{NotThere, Desk}
 use Rattle.mr_c.specs.declared.places.Held.{Held}
@@ -40,20 +42,20 @@ abbrev pub shown_change : Entry → Change
 shown_change (Added item version card) = record { entered = 1; item = numbers_of item; version = numbers_of version }
 shown_change (Dropped item version) = record { entered = 0; item = numbers_of item; version = numbers_of version }
 
-abbrev pub head_at : Option DeskState → ℕ → Result Held Failure
-head_at desk place = read_by (λ s. at_place shown_held s.replica.heads place) desk
+abbrev pub head_at : Option Device → ℕ → Result Held Failure
+head_at device place = read_by (λ s. at_place shown_held s.heads place) device
 
-abbrev pub push_out_at : Option DeskState → ℕ → Result Held Failure
-push_out_at desk place = read_by (λ s. at_place shown_held s.replica.push_outs place) desk
+abbrev pub push_out_at : Option Device → ℕ → Result Held Failure
+push_out_at device place = read_by (λ s. at_place shown_held s.push_outs place) device
 
-abbrev pub change_at : Option DeskState → ℕ → Result Change Failure
-change_at desk place = read_by (λ s. at_place shown_change s.replica.feed place) desk
+abbrev pub change_at : Option Device → ℕ → Result Change Failure
+change_at device place = read_by (λ s. at_place shown_change s.feed place) device
 
-abbrev pub counts_of : Option DeskState → Result Counts Failure
-counts_of desk = read_by (λ s. Ok (record { heads = length s.replica.heads; push_outs = length s.replica.push_outs; changes = length s.replica.feed; events = length s.replica.log })) desk
+abbrev pub counts_of : Option Device → Result Counts Failure
+counts_of device = read_by (λ s. Ok (record { heads = length s.heads; push_outs = length s.push_outs; changes = length s.feed; events = length s.log })) device
 
-abbrev pub retired : Option DeskState → Result ℕ Failure
-retired desk = read_by (λ s. Ok (bit s.replica.is_retired)) desk
+abbrev pub retired : Option Device → Result ℕ Failure
+retired device = read_by (λ s. Ok (bit s.is_retired)) device
 
 -- ---- versions by their numbers
 
@@ -65,25 +67,20 @@ of_version n found = elim (version_fault n) [
 ]
 
 -- whether the version is known for the item
-abbrev pub known_in : DeskState → VersionNumbers → VersionNumbers → Result ℕ Failure
-known_in s item version = of_version item (of_version version (Ok (bit (sparing_form.known s.replica.knowledge (named_by item) (named_by version)))))
+abbrev pub known_in : State Normal → VersionNumbers → VersionNumbers → Result ℕ Failure
+known_in s item version = of_version item (of_version version (Ok (bit (sparing_form.known s.knowledge (named_by item) (named_by version)))))
 
-abbrev pub known : Option DeskState → VersionNumbers → VersionNumbers → Result ℕ Failure
-known desk item version = read_by (λ s. known_in s item version) desk
+abbrev pub known : Option Device → VersionNumbers → VersionNumbers → Result ℕ Failure
+known device item version = read_by (λ s. known_in s item version) device
 
 -- ---- messages
 
 -- the message of a held version
-abbrev pub message_of : DeskState → VersionNumbers → Result Mail Failure
-message_of s version = of_version version (elim (held s.replica (named_by version)) [
+abbrev pub message_of : State Normal → VersionNumbers → Result Mail Failure
+message_of s version = of_version version (elim (held s (named_by version)) [
   | Some r ↦ Ok r.message
   | None ↦ Err NotThere
 ])
-
--- what is read of a message that was found
-abbrev pub read_of : {X : Type 0} → (Mail → Result X Failure) → Result Mail Failure → Result X Failure
-read_of read (Ok mail) = read mail
-read_of read (Err failure) = Err failure
 
 -- its sender, its subject and its body, by number
 abbrev pub part_of : ℕ → Mail → Result (List ℕ) Failure
@@ -93,39 +90,39 @@ part_of part mail =
     else (if part == 2 then Ok mail.body
     else Err NotThere))
 
-abbrev pub part_in : DeskState → VersionNumbers → ℕ → Result (List ℕ) Failure
+abbrev pub part_in : State Normal → VersionNumbers → ℕ → Result (List ℕ) Failure
 part_in s version part = read_of (part_of part) (message_of s version)
 
-abbrev pub label_in : DeskState → VersionNumbers → ℕ → Result (List ℕ) Failure
+abbrev pub label_in : State Normal → VersionNumbers → ℕ → Result (List ℕ) Failure
 label_in s version place = read_of (λ mail. at_place (λ label. label) mail.labels place) (message_of s version)
 
 -- how many labels, its flags and its day
 abbrev pub shown_card : Mail → Card
 shown_card mail = record { labels = length mail.labels; flags = mail.flags; day = mail.day }
 
-abbrev pub card_in : DeskState → VersionNumbers → Result Card Failure
+abbrev pub card_in : State Normal → VersionNumbers → Result Card Failure
 card_in s version = read_of (λ mail. Ok (shown_card mail)) (message_of s version)
 
-abbrev pub part_at : Option DeskState → VersionNumbers → ℕ → Result (List ℕ) Failure
-part_at desk version part = read_by (λ s. part_in s version part) desk
+abbrev pub part_at : Option Device → VersionNumbers → ℕ → Result (List ℕ) Failure
+part_at device version part = read_by (λ s. part_in s version part) device
 
-abbrev pub label_at : Option DeskState → VersionNumbers → ℕ → Result (List ℕ) Failure
-label_at desk version place = read_by (λ s. label_in s version place) desk
+abbrev pub label_at : Option Device → VersionNumbers → ℕ → Result (List ℕ) Failure
+label_at device version place = read_by (λ s. label_in s version place) device
 
-abbrev pub card_at : Option DeskState → VersionNumbers → Result Card Failure
-card_at desk version = read_by (λ s. card_in s version) desk
+abbrev pub card_at : Option Device → VersionNumbers → Result Card Failure
+card_at device version = read_by (λ s. card_in s version) device
 
 -- ---- lists that want memory
 
-abbrev pub frame_of : Option DeskState → Result (List ℕ) Failure
-frame_of desk = read_by (λ s. Ok s.frame) desk
+abbrev pub frame_of : Option Device → Result (List ℕ) Failure
+frame_of device = read_open (λ d. by_desk (device_frame d)) device
 
 -- the numbers of the open sessions and streams
-abbrev pub sessions_of : Option DeskState → Result (List ℕ) Failure
-sessions_of desk = read_by (λ s. Ok (open_numbers s.replica.sessions)) desk
+abbrev pub sessions_of : Option Device → Result (List ℕ) Failure
+sessions_of device = read_by (λ s. Ok (open_numbers s.sessions)) device
 
-abbrev pub streams_of : Option DeskState → Result (List ℕ) Failure
-streams_of desk = read_by (λ s. Ok (open_numbers s.replica.streams)) desk
+abbrev pub streams_of : Option Device → Result (List ℕ) Failure
+streams_of device = read_by (λ s. Ok (open_numbers s.streams)) device
 
 -- What is given is what there is, or want of memory where there is something.
 abbrev pub InMemory : {X : Type 0} → Result (List X) Failure → Result (List X) Failure → Type 0
@@ -140,8 +137,8 @@ GivesNumbers there old new old_len new_len code = (found : Result (Vec ℕ) Fail
 abbrev pub at_event : List Event → ℕ → Result Event Failure
 at_event log place = at_place (λ e. e) log place
 
-abbrev pub event_at : Option DeskState → ℕ → Result Event Failure
-event_at desk place = read_by (λ s. at_event s.replica.log place) desk
+abbrev pub event_at : Option Device → ℕ → Result Event Failure
+event_at device place = read_by (λ s. at_event s.log place) device
 
 -- the bytes of an event, or why it has none
 abbrev pub SpellsFound : Result Event Failure → Result (Vec ℕ) Failure → Type 0

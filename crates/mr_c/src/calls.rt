@@ -1,4 +1,4 @@
-//! The functions that are events: each is one call of the desk.
+//! The functions that are events: each is one call of the device.
 ghost use Rattle.std.specs.Prelude.{◌≡◌};
 ghost use Rattle.mr_c.specs.Code.{code_of};
 ghost use Rattle.mr_c.specs.Called.{Called, Calls, number_told, outcome_told, version_told};
@@ -8,15 +8,15 @@ use crate::handle::Handle;
 use mr_desk::{Call, Draft, Told, VersionNumbers};
 use std::alloc::Global;
 
-// One call of the desk that the handle owns.
+// One call of the device that the handle owns.
 fn called(alloc: Global, handle: &mut Handle, call: &Call<'_>) -> Result<Told, Failure>
-    ensures { Called handle.old.desk call.now result handle.new.desk }
+    ensures { Called handle.old.device call.now result handle.new.device }
 {
-    let Some(mut desk) = handle.take(alloc) else {
+    let Some(mut device) = handle.take(alloc) else {
         return Err(Failure::Closed);
     };
-    let answer = desk.serve(call);
-    handle.put(desk);
+    let answer = device.serve(alloc, call);
+    handle.put(device);
     match answer {
         Ok(told) => Ok(told),
         Err(fault) => Err(Failure::Desk(fault)),
@@ -42,6 +42,29 @@ fn tell_number(answer: &Result<Told, Failure>, number: &mut u64)
     }
 }
 
+// A call that may issue a version.
+fn call_for_version(
+    alloc: Global,
+    handle: &mut Handle,
+    call: &Call<'_>,
+    version: &mut VersionNumbers,
+) -> i32
+    ensures { Calls handle.old.device call.now handle.new.device (λ answer. (result ≡ code_of answer) × (version.new ≡ version_told answer version.old)) }
+{
+    let answer = called(alloc, handle, call);
+    tell_version(&answer, version);
+    code_of(&answer)
+}
+
+// A call that may open a session or a stream.
+fn call_for_number(alloc: Global, handle: &mut Handle, call: &Call<'_>, number: &mut u64) -> i32
+    ensures { Calls handle.old.device call.now handle.new.device (λ answer. (result ≡ code_of answer) × (number.new ≡ number_told answer number.old)) }
+{
+    let answer = called(alloc, handle, call);
+    tell_number(&answer, number);
+    code_of(&answer)
+}
+
 // What came of a record, where it was taken.
 fn tell_outcome(answer: &Result<Told, Failure>, outcome: &mut u32)
     ensures { outcome.new ≡ outcome_told answer.now outcome.old }
@@ -56,7 +79,7 @@ fn tell_outcome(answer: &Result<Told, Failure>, outcome: &mut u32)
 
 /// Writes a message, and gives its version.
 ///
-/// After `Closed` it answers as `Desk::serve` does: first what is wrong with the message, then why the replica refuses it.
+/// After `Closed` it answers as `Device::serve` does: first what is wrong with the message, then why the replica refuses it.
 /// It costs what the event costs, and the bytes of the message.
 #[unsafe(no_mangle)]
 pub extern "C" fn mr_create(
@@ -70,7 +93,7 @@ pub extern "C" fn mr_create(
     day: u16,
     version: &mut VersionNumbers,
 ) -> i32
-    ensures { Calls handle.old.desk (Call.Create (record { from = from.entry; subject = subject.entry; body = body.entry; labels = labels.entry; flags = flags; day = day })) handle.new.desk (λ answer. (result ≡ code_of answer) × (version.new ≡ version_told answer version.old)) }
+    ensures { Calls handle.old.device (Call.Create (record { from = from.entry; subject = subject.entry; body = body.entry; labels = labels.entry; flags = flags; day = day })) handle.new.device (λ answer. (result ≡ code_of answer) × (version.new ≡ version_told answer version.old)) }
 {
     let draft = Draft {
         from,
@@ -80,14 +103,12 @@ pub extern "C" fn mr_create(
         flags,
         day,
     };
-    let answer = called(alloc, handle, &Call::Create(draft));
-    tell_version(&answer, version);
-    code_of(&answer)
+    call_for_version(alloc, handle, &Call::Create(draft), version)
 }
 
 /// Puts a message in the place of held versions of one item, and gives its version.
 ///
-/// After `Closed` it answers as `Desk::serve` does: first what is wrong with the message, then with the versions, then why the
+/// After `Closed` it answers as `Device::serve` does: first what is wrong with the message, then with the versions, then why the
 /// replica refuses the edit.
 #[unsafe(no_mangle)]
 pub extern "C" fn mr_edit(
@@ -102,7 +123,7 @@ pub extern "C" fn mr_edit(
     day: u16,
     version: &mut VersionNumbers,
 ) -> i32
-    ensures { Calls handle.old.desk (Call.Edit bases.entry (record { from = from.entry; subject = subject.entry; body = body.entry; labels = labels.entry; flags = flags; day = day })) handle.new.desk (λ answer. (result ≡ code_of answer) × (version.new ≡ version_told answer version.old)) }
+    ensures { Calls handle.old.device (Call.Edit bases.entry (record { from = from.entry; subject = subject.entry; body = body.entry; labels = labels.entry; flags = flags; day = day })) handle.new.device (λ answer. (result ≡ code_of answer) × (version.new ≡ version_told answer version.old)) }
 {
     let draft = Draft {
         from,
@@ -112,15 +133,13 @@ pub extern "C" fn mr_edit(
         flags,
         day,
     };
-    let answer = called(alloc, handle, &Call::Edit(bases, draft));
-    tell_version(&answer, version);
-    code_of(&answer)
+    call_for_version(alloc, handle, &Call::Edit(bases, draft), version)
 }
 
 /// Admits nothing more but what tells others. After `Closed`, why the replica refuses to retire.
 #[unsafe(no_mangle)]
 pub extern "C" fn mr_retire(alloc: Global, handle: &mut Handle) -> i32
-    ensures { Calls handle.old.desk Call.Retire handle.new.desk (λ answer. result ≡ code_of answer) }
+    ensures { Calls handle.old.device Call.Retire handle.new.device (λ answer. result ≡ code_of answer) }
 {
     code_of(&called(alloc, handle, &Call::Retire))
 }
@@ -130,11 +149,9 @@ pub extern "C" fn mr_retire(alloc: Global, handle: &mut Handle) -> i32
 /// After `Closed`, why the replica refuses the pull. It costs the fragments of what is known.
 #[unsafe(no_mangle)]
 pub extern "C" fn mr_pull(alloc: Global, handle: &mut Handle, session: &mut u64) -> i32
-    ensures { Calls handle.old.desk Call.Pull handle.new.desk (λ answer. (result ≡ code_of answer) × (session.new ≡ number_told answer session.old)) }
+    ensures { Calls handle.old.device Call.Pull handle.new.device (λ answer. (result ≡ code_of answer) × (session.new ≡ number_told answer session.old)) }
 {
-    let answer = called(alloc, handle, &Call::Pull);
-    tell_number(&answer, session);
-    code_of(&answer)
+    call_for_number(alloc, handle, &Call::Pull, session)
 }
 
 /// Takes a record, and tells what came of it: 0 it was taken, 1 its version was known, 2 it was its stream's last.
@@ -147,7 +164,7 @@ pub extern "C" fn mr_receive(
     frame: &[u8],
     outcome: &mut u32,
 ) -> i32
-    ensures { Calls handle.old.desk (Call.Receive frame.entry) handle.new.desk (λ answer. (result ≡ code_of answer) × (outcome.new ≡ outcome_told answer outcome.old)) }
+    ensures { Calls handle.old.device (Call.Receive frame.entry) handle.new.device (λ answer. (result ≡ code_of answer) × (outcome.new ≡ outcome_told answer outcome.old)) }
 {
     let answer = called(alloc, handle, &Call::Receive(frame));
     tell_outcome(&answer, outcome);
@@ -157,7 +174,7 @@ pub extern "C" fn mr_receive(
 /// Closes a session; what it took stays. After `Closed`, why the replica refuses the cut.
 #[unsafe(no_mangle)]
 pub extern "C" fn mr_cut_in(alloc: Global, handle: &mut Handle, session: u64) -> i32
-    ensures { Calls handle.old.desk (Call.CutIn session) handle.new.desk (λ answer. result ≡ code_of answer) }
+    ensures { Calls handle.old.device (Call.CutIn session) handle.new.device (λ answer. result ≡ code_of answer) }
 {
     code_of(&called(alloc, handle, &Call::CutIn(session)))
 }
@@ -172,17 +189,15 @@ pub extern "C" fn mr_answer(
     frame: &[u8],
     stream: &mut u64,
 ) -> i32
-    ensures { Calls handle.old.desk (Call.Answer frame.entry) handle.new.desk (λ answer. (result ≡ code_of answer) × (stream.new ≡ number_told answer stream.old)) }
+    ensures { Calls handle.old.device (Call.Answer frame.entry) handle.new.device (λ answer. (result ≡ code_of answer) × (stream.new ≡ number_told answer stream.old)) }
 {
-    let answer = called(alloc, handle, &Call::Answer(frame));
-    tell_number(&answer, stream);
-    code_of(&answer)
+    call_for_number(alloc, handle, &Call::Answer(frame), stream)
 }
 
 /// Gives the stream's next record as the frame. After `Closed`, why the replica refuses.
 #[unsafe(no_mangle)]
 pub extern "C" fn mr_next(alloc: Global, handle: &mut Handle, stream: u64) -> i32
-    ensures { Calls handle.old.desk (Call.Next stream) handle.new.desk (λ answer. result ≡ code_of answer) }
+    ensures { Calls handle.old.device (Call.Next stream) handle.new.device (λ answer. result ≡ code_of answer) }
 {
     code_of(&called(alloc, handle, &Call::Next(stream)))
 }
@@ -190,7 +205,7 @@ pub extern "C" fn mr_next(alloc: Global, handle: &mut Handle, stream: u64) -> i3
 /// Closes a stream. After `Closed`, why the replica refuses the cut.
 #[unsafe(no_mangle)]
 pub extern "C" fn mr_cut_out(alloc: Global, handle: &mut Handle, stream: u64) -> i32
-    ensures { Calls handle.old.desk (Call.CutOut stream) handle.new.desk (λ answer. result ≡ code_of answer) }
+    ensures { Calls handle.old.device (Call.CutOut stream) handle.new.device (λ answer. result ≡ code_of answer) }
 {
     code_of(&called(alloc, handle, &Call::CutOut(stream)))
 }
@@ -198,7 +213,7 @@ pub extern "C" fn mr_cut_out(alloc: Global, handle: &mut Handle, stream: u64) ->
 /// Gives a receipt for a head as the frame. After `Closed`, why the numbers are no version's, and then why the replica refuses.
 #[unsafe(no_mangle)]
 pub extern "C" fn mr_vouch(alloc: Global, handle: &mut Handle, version: VersionNumbers) -> i32
-    ensures { Calls handle.old.desk (Call.Vouch version) handle.new.desk (λ answer. result ≡ code_of answer) }
+    ensures { Calls handle.old.device (Call.Vouch version) handle.new.device (λ answer. result ≡ code_of answer) }
 {
     code_of(&called(alloc, handle, &Call::Vouch(version)))
 }
@@ -206,7 +221,7 @@ pub extern "C" fn mr_vouch(alloc: Global, handle: &mut Handle, version: VersionN
 /// Lets go of the push-outs that a receipt frees. After `Closed`, what is wrong with the frame, and then why the replica refuses.
 #[unsafe(no_mangle)]
 pub extern "C" fn mr_release(alloc: Global, handle: &mut Handle, frame: &[u8]) -> i32
-    ensures { Calls handle.old.desk (Call.Release frame.entry) handle.new.desk (λ answer. result ≡ code_of answer) }
+    ensures { Calls handle.old.device (Call.Release frame.entry) handle.new.device (λ answer. result ≡ code_of answer) }
 {
     code_of(&called(alloc, handle, &Call::Release(frame)))
 }

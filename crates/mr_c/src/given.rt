@@ -1,8 +1,22 @@
 //! What was found, into the caller's variables.
-ghost use Rattle.std.specs.Prelude.{Ok};
-ghost use Rattle.mr_c.specs.Given.{IsFilled, IsGiven, IsPut, built};
+ghost use Rattle.std.specs.Prelude.{◌≡◌, Ok};
+ghost use Rattle.mr_desk.specs.Device.{lent, shown};
+ghost use Rattle.mr_c.specs.Given.{IsFilled, IsGiven, IsPut, built, by_desk};
 
 use crate::failure::Failure;
+use mr_desk::Device;
+use mr_itemset::SparingKnowledge;
+use mr_replica::Replica;
+
+/// The replica of a device, where that is shown.
+pub(crate) fn replica_of(device: &Device) -> Result<&Replica<SparingKnowledge>, Failure>
+    ensures { lent result ≡ by_desk (shown device.now) }
+{
+    match device.replica() {
+        Ok(replica) => Ok(replica),
+        Err(fault) => Err(Failure::Desk(fault)),
+    }
+}
 
 /// Puts what was found into the caller's variable.
 pub(crate) fn give<T: Copy + Drop>(found: Result<T, Failure>, to: &mut T) -> i32

@@ -1,11 +1,11 @@
-//! What C holds: two words, and the desk that they own while they are open.
+//! What C holds: two words, and the device that they own while they are open.
 ghost use Rattle.std.specs.Prelude.{◌≡◌, Option, Some, None, MatchOption};
-ghost use Rattle.mr_desk.specs.Desk.{DeskState};
-ghost use Rattle.mr_desk.specs.contracts.desk.Desk.{the_row as desk_row};
+ghost use Rattle.mr_desk.specs.contracts.device.Device.{the_row as device_row};
+ghost use Rattle.mr_desk.specs.declared.device.Device.{Device};
 ghost use Rattle.mr_c.specs.Held.{held};
 
 use crate::loose::Loose;
-use mr_desk::Desk;
+use mr_desk::Device;
 use std::alloc::Global;
 use std::marker::Model;
 use std::{mem, ptr};
@@ -16,18 +16,18 @@ use std::{mem, ptr};
 pub struct Handle {
     at: *mut u8,
     live: u64,
-    /// The desk that it owns, if it is open.
-    pub ghost desk: { Option DeskState },
+    /// The device that it owns, if it is open.
+    pub ghost device: { Option Device },
 }
 
 impl Model for Handle {
-    ghost also_owns = { λ h. held desk_row h.at h.live h.desk };
+    ghost also_owns = { λ h. held device_row h.at h.live h.device };
 }
 
 impl Handle {
     // A handle that owns nothing: all zeros.
     pub(crate) fn closed() -> Handle
-        ensures { result.desk ≡ None }
+        ensures { result.device ≡ None }
     {
         Handle {
             at: ptr::null_mut(),
@@ -36,10 +36,10 @@ impl Handle {
     }
 
     // The handle that owns the box from now on.
-    pub(crate) fn of(desk: Loose<Desk, Global>) -> Handle
-        ensures { result.desk ≡ Some desk.value }
+    pub(crate) fn of(device: Loose<Device, Global>) -> Handle
+        ensures { result.device ≡ Some device.value }
     {
-        let Loose { at, alloc: _ } = desk;
+        let Loose { at, alloc: _ } = device;
         Handle {
             at: at as *mut u8,
             live: 1,
@@ -47,34 +47,34 @@ impl Handle {
     }
 
     // The box that the handle owned, if it was open.
-    pub(crate) fn into_loose(self, alloc: Global) -> Option<Loose<Desk, Global>>
-        ensures { MatchOption result (self.desk ≡ None) (λ b. self.desk ≡ Some b.value) }
+    pub(crate) fn into_loose(self, alloc: Global) -> Option<Loose<Device, Global>>
+        ensures { MatchOption result (self.device ≡ None) (λ b. self.device ≡ Some b.value) }
     {
         let Handle { at, live } = self;
         if live == 0 {
             return None;
         }
-        let at = at as *mut Desk;
+        let at = at as *mut Device;
         Some(Loose { at, alloc })
     }
 
-    /// Takes the desk out of the handle, which is closed then. `None` where it was closed before.
-    pub(crate) fn take(&mut self, alloc: Global) -> Option<Box<Desk, Global>>
-        ensures closed { self.new.desk ≡ None }
-        ensures was { MatchOption result (self.old.desk ≡ None) (λ b. self.old.desk ≡ Some b.value) }
+    /// Takes the device out of the handle, which is closed then. `None` where it was closed before.
+    pub(crate) fn take(&mut self, alloc: Global) -> Option<Box<Device, Global>>
+        ensures closed { self.new.device ≡ None }
+        ensures was { MatchOption result (self.old.device ≡ None) (λ b. self.old.device ≡ Some b.value) }
     {
         let loose = mem::replace(self, Handle::closed()).into_loose(alloc)?;
         Some(loose.into_box())
     }
 
-    /// Puts a desk into the handle, which is closed: so none is lost.
-    pub(crate) fn put(&mut self, desk: Box<Desk, Global>)
-        requires { self.old.desk ≡ None }
-        ensures { self.new.desk ≡ Some desk.value }
+    /// Puts a device into the handle, which is closed: so none is lost.
+    pub(crate) fn put(&mut self, device: Box<Device, Global>)
+        requires { self.old.device ≡ None }
+        ensures { self.new.device ≡ Some device.value }
     {
-        *self = Handle::of(Loose::of(desk));
+        *self = Handle::of(Loose::of(device));
     }
 }
 
-// A handle may go to another thread, since its desk may.
+// A handle may go to another thread, since its device may.
 unsafe impl Send for Handle {}

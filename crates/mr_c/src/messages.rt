@@ -1,14 +1,17 @@
 //! The messages that are held, by their versions.
 ghost use Rattle.std.specs.Prelude.{◌≡◌};
-ghost use Rattle.mr_c.specs.Given.{IsFilled, IsGiven, at_place, lent};
+ghost use Rattle.mr_desk.specs.Device.{lent};
+ghost use Rattle.mr_c.specs.Given.{IsFilled, IsGiven, at_place, read_in};
 ghost use Rattle.mr_c.specs.Shown.{card_at, card_in, label_at, label_in, message_of, part_at, part_in, part_of};
 
 use crate::failure::Failure;
-use crate::given::{fill, give};
+use crate::given::{fill, give, replica_of};
 use crate::handle::Handle;
 use crate::open::version_of;
-use mr_desk::{Desk, VersionNumbers};
+use mr_desk::{Device, VersionNumbers};
+use mr_itemset::SparingKnowledge;
 use mr_mail::{Label, Message};
+use mr_replica::Replica;
 use std::alloc::Global;
 
 /// How many labels a message has, its flags and its day.
@@ -21,11 +24,14 @@ pub struct Card {
 }
 
 /// The message of a held version.
-fn message_of(desk: &Desk, version: VersionNumbers) -> Result<&Message, Failure>
-    ensures { lent result ≡ message_of desk.now version }
+fn message_of(
+    replica: &Replica<SparingKnowledge>,
+    version: VersionNumbers,
+) -> Result<&Message, Failure>
+    ensures { lent result ≡ message_of replica.now version }
 {
     let version = version_of(version)?;
-    match desk.replica().held(version) {
+    match replica.held(version) {
         Some(revision) => Ok(revision.message()),
         None => Err(Failure::NotThere),
     }
@@ -42,16 +48,22 @@ fn part_of(message: &Message, part: u32) -> Result<&[u8], Failure>
     }
 }
 
-fn part_in(desk: &Desk, version: VersionNumbers, part: u32) -> Result<&[u8], Failure>
-    ensures { lent result ≡ part_in desk.now version part }
+fn part_in(device: &Device, version: VersionNumbers, part: u32) -> Result<&[u8], Failure>
+    ensures { lent result ≡ read_in (λ s. part_in s version part) device.now }
 {
-    part_of(message_of(desk, version)?, part)
+    part_of(message_of(replica_of(device)?, version)?, part)
 }
 
-fn fill_part(desk: &Desk, version: VersionNumbers, part: u32, to: &mut [u8], len: &mut usize) -> i32
-    ensures { IsFilled (part_in desk.now version part) to.old to.new len.old len.new result }
+fn fill_part(
+    device: &Device,
+    version: VersionNumbers,
+    part: u32,
+    to: &mut [u8],
+    len: &mut usize,
+) -> i32
+    ensures { IsFilled (read_in (λ s. part_in s version part) device.now) to.old to.new len.old len.new result }
 {
-    match part_in(desk, version, part) {
+    match part_in(device, version, part) {
         Ok(bytes) => fill(bytes, to, len),
         Err(failure) => failure.code(),
     }
@@ -59,7 +71,7 @@ fn fill_part(desk: &Desk, version: VersionNumbers, part: u32, to: &mut [u8], len
 
 /// A part of a held message: its sender, 0, its subject, 1, or its body, 2.
 ///
-/// After `Closed`, why the numbers are no version's; then `NotThere` where it isn't held, or for another part; then `TooSmall`
+/// After `Closed`, `Unsettled` or `Failed` of a kept device; then why the numbers are no version's; then `NotThere` where it isn't held, or for another part; then `TooSmall`
 /// where the buffer is shorter than the length that is told. It costs a search, and the bytes.
 #[unsafe(no_mangle)]
 pub extern "C" fn mr_part(
@@ -70,14 +82,14 @@ pub extern "C" fn mr_part(
     to: &mut [u8],
     len: &mut usize,
 ) -> i32
-    ensures unchanged { handle.new.desk ≡ handle.old.desk }
-    ensures given { IsFilled (part_at handle.old.desk version part) to.old to.new len.old len.new result }
+    ensures unchanged { handle.new.device ≡ handle.old.device }
+    ensures given { IsFilled (part_at handle.old.device version part) to.old to.new len.old len.new result }
 {
-    let Some(desk) = handle.take(alloc) else {
+    let Some(device) = handle.take(alloc) else {
         return Failure::Closed.code();
     };
-    let code = fill_part(&desk, version, part, to, len);
-    handle.put(desk);
+    let code = fill_part(&device, version, part, to, len);
+    handle.put(device);
     code
 }
 
@@ -90,22 +102,22 @@ fn label_of(labels: &[Label], place: usize) -> Result<&[u8], Failure>
     }
 }
 
-fn label_in(desk: &Desk, version: VersionNumbers, place: usize) -> Result<&[u8], Failure>
-    ensures { lent result ≡ label_in desk.now version place }
+fn label_in(device: &Device, version: VersionNumbers, place: usize) -> Result<&[u8], Failure>
+    ensures { lent result ≡ read_in (λ s. label_in s version place) device.now }
 {
-    label_of(message_of(desk, version)?.labels(), place)
+    label_of(message_of(replica_of(device)?, version)?.labels(), place)
 }
 
 fn fill_label(
-    desk: &Desk,
+    device: &Device,
     version: VersionNumbers,
     place: usize,
     to: &mut [u8],
     len: &mut usize,
 ) -> i32
-    ensures { IsFilled (label_in desk.now version place) to.old to.new len.old len.new result }
+    ensures { IsFilled (read_in (λ s. label_in s version place) device.now) to.old to.new len.old len.new result }
 {
-    match label_in(desk, version, place) {
+    match label_in(device, version, place) {
         Ok(bytes) => fill(bytes, to, len),
         Err(failure) => failure.code(),
     }
@@ -121,21 +133,21 @@ pub extern "C" fn mr_label(
     to: &mut [u8],
     len: &mut usize,
 ) -> i32
-    ensures unchanged { handle.new.desk ≡ handle.old.desk }
-    ensures given { IsFilled (label_at handle.old.desk version place) to.old to.new len.old len.new result }
+    ensures unchanged { handle.new.device ≡ handle.old.device }
+    ensures given { IsFilled (label_at handle.old.device version place) to.old to.new len.old len.new result }
 {
-    let Some(desk) = handle.take(alloc) else {
+    let Some(device) = handle.take(alloc) else {
         return Failure::Closed.code();
     };
-    let code = fill_label(&desk, version, place, to, len);
-    handle.put(desk);
+    let code = fill_label(&device, version, place, to, len);
+    handle.put(device);
     code
 }
 
-fn card_in(desk: &Desk, version: VersionNumbers) -> Result<Card, Failure>
-    ensures { result ≡ card_in desk.now version }
+fn card_in(device: &Device, version: VersionNumbers) -> Result<Card, Failure>
+    ensures { result ≡ read_in (λ s. card_in s version) device.now }
 {
-    let message = message_of(desk, version)?;
+    let message = message_of(replica_of(device)?, version)?;
     Ok(Card {
         labels: message.labels().len(),
         flags: u32::from(message.flags().bits()),
@@ -151,13 +163,13 @@ pub extern "C" fn mr_card(
     version: VersionNumbers,
     card: &mut Card,
 ) -> i32
-    ensures unchanged { handle.new.desk ≡ handle.old.desk }
-    ensures given { IsGiven (card_at handle.old.desk version) card.old card.new result }
+    ensures unchanged { handle.new.device ≡ handle.old.device }
+    ensures given { IsGiven (card_at handle.old.device version) card.old card.new result }
 {
-    let Some(desk) = handle.take(alloc) else {
+    let Some(device) = handle.take(alloc) else {
         return Failure::Closed.code();
     };
-    let found = card_in(&desk, version);
-    handle.put(desk);
+    let found = card_in(&device, version);
+    handle.put(device);
     give(found, card)
 }

@@ -2,13 +2,15 @@
 ghost use Rattle.std.specs.Prelude.{◌≡◌, Ok};
 ghost use Rattle.mr_session.specs.Table.{open_numbers};
 ghost use Rattle.mr_desk.specs.Version.{named_by};
-ghost use Rattle.mr_c.specs.Given.{IsGiven, built, by_version};
+ghost use Rattle.mr_c.specs.Given.{IsGiven, built, by_version, read_in};
 ghost use Rattle.mr_c.specs.Shown.{GivesNumbers, InMemory, known, known_in, of_version, sessions_of, streams_of};
 
 use crate::failure::Failure;
-use crate::given::{fill_built, give};
+use crate::given::{fill_built, give, replica_of};
 use crate::handle::Handle;
-use mr_desk::{Desk, Fault, VersionNumbers};
+use mr_desk::{Device, Fault, VersionNumbers};
+use mr_itemset::SparingKnowledge;
+use mr_replica::Replica;
 use mr_version::{ItemId, Version, VersionFault};
 use std::alloc::Global;
 
@@ -31,15 +33,25 @@ fn by_version<T: Copy + Drop>(found: Result<T, VersionFault>) -> Result<T, Failu
     }
 }
 
-fn known_in(desk: &Desk, item: VersionNumbers, version: VersionNumbers) -> Result<u32, VersionFault>
-    ensures { by_version result ≡ known_in desk.now item version }
+fn known_in(
+    replica: &Replica<SparingKnowledge>,
+    item: VersionNumbers,
+    version: VersionNumbers,
+) -> Result<u32, VersionFault>
+    ensures { by_version result ≡ known_in replica.now item version }
 {
     let item = item.version()?;
     let version = version.version()?;
-    Ok(u32::from(desk.replica().knows(ItemId::new(item), version)))
+    Ok(u32::from(replica.knows(ItemId::new(item), version)))
 }
 
-/// Whether a version of an item is known, held or not: 1 or 0. After `Closed`, why numbers are no version's, the item's first.
+fn known_of(device: &Device, item: VersionNumbers, version: VersionNumbers) -> Result<u32, Failure>
+    ensures { result ≡ read_in (λ s. known_in s item version) device.now }
+{
+    by_version(known_in(replica_of(device)?, item, version))
+}
+
+/// Whether a version of an item is known, held or not: 1 or 0. After `Closed`, `Unsettled` or `Failed` of a kept device; then why numbers are no version's, the item's first.
 #[unsafe(no_mangle)]
 pub extern "C" fn mr_knows(
     alloc: Global,
@@ -48,44 +60,46 @@ pub extern "C" fn mr_knows(
     version: VersionNumbers,
     is_known: &mut u32,
 ) -> i32
-    ensures unchanged { handle.new.desk ≡ handle.old.desk }
-    ensures given { IsGiven (known handle.old.desk item version) is_known.old is_known.new result }
+    ensures unchanged { handle.new.device ≡ handle.old.device }
+    ensures given { IsGiven (known handle.old.device item version) is_known.old is_known.new result }
 {
-    let Some(desk) = handle.take(alloc) else {
+    let Some(device) = handle.take(alloc) else {
         return Failure::Closed.code();
     };
-    let found = by_version(known_in(&desk, item, version));
-    handle.put(desk);
+    let found = known_of(&device, item, version);
+    handle.put(device);
     give(found, is_known)
 }
 
-fn sessions_in(desk: &Desk) -> Result<Vec<u64>, Failure>
-    ensures { InMemory (Ok (open_numbers desk.now.replica.sessions)) (built result) }
+fn sessions_in(device: &Device) -> Result<Vec<u64>, Failure>
+    ensures { InMemory (read_in (λ s. Ok (open_numbers s.sessions)) device.now) (built result) }
 {
-    Ok(desk.replica().open_sessions()?)
+    let replica = replica_of(device)?;
+    Ok(replica.open_sessions()?)
 }
 
-fn streams_in(desk: &Desk) -> Result<Vec<u64>, Failure>
-    ensures { InMemory (Ok (open_numbers desk.now.replica.streams)) (built result) }
+fn streams_in(device: &Device) -> Result<Vec<u64>, Failure>
+    ensures { InMemory (read_in (λ s. Ok (open_numbers s.streams)) device.now) (built result) }
 {
-    Ok(desk.replica().open_streams()?)
+    let replica = replica_of(device)?;
+    Ok(replica.open_streams()?)
 }
 
 fn open_sessions(alloc: Global, handle: &mut Handle) -> Result<Vec<u64>, Failure>
-    ensures unchanged { handle.new.desk ≡ handle.old.desk }
-    ensures found { InMemory (sessions_of handle.old.desk) (built result) }
+    ensures unchanged { handle.new.device ≡ handle.old.device }
+    ensures found { InMemory (sessions_of handle.old.device) (built result) }
 {
-    let Some(desk) = handle.take(alloc) else {
+    let Some(device) = handle.take(alloc) else {
         return Err(Failure::Closed);
     };
-    let found = sessions_in(&desk);
-    handle.put(desk);
+    let found = sessions_in(&device);
+    handle.put(device);
     found
 }
 
 /// The numbers of the open sessions, rising: at most eight.
 ///
-/// After `Closed`, want of memory; then `TooSmall` where the buffer is shorter than the length that is told.
+/// After `Closed`, `Unsettled` or `Failed` of a kept device; want of memory; then `TooSmall` where the buffer is shorter than the length that is told.
 #[unsafe(no_mangle)]
 pub extern "C" fn mr_sessions(
     alloc: Global,
@@ -93,22 +107,22 @@ pub extern "C" fn mr_sessions(
     to: &mut [u64],
     len: &mut usize,
 ) -> i32
-    ensures unchanged { handle.new.desk ≡ handle.old.desk }
-    ensures given { GivesNumbers (sessions_of handle.old.desk) to.old to.new len.old len.new result }
+    ensures unchanged { handle.new.device ≡ handle.old.device }
+    ensures given { GivesNumbers (sessions_of handle.old.device) to.old to.new len.old len.new result }
 {
     let found = open_sessions(alloc, handle);
     fill_built(&found, to, len)
 }
 
 fn open_streams(alloc: Global, handle: &mut Handle) -> Result<Vec<u64>, Failure>
-    ensures unchanged { handle.new.desk ≡ handle.old.desk }
-    ensures found { InMemory (streams_of handle.old.desk) (built result) }
+    ensures unchanged { handle.new.device ≡ handle.old.device }
+    ensures found { InMemory (streams_of handle.old.device) (built result) }
 {
-    let Some(desk) = handle.take(alloc) else {
+    let Some(device) = handle.take(alloc) else {
         return Err(Failure::Closed);
     };
-    let found = streams_in(&desk);
-    handle.put(desk);
+    let found = streams_in(&device);
+    handle.put(device);
     found
 }
 
@@ -120,8 +134,8 @@ pub extern "C" fn mr_streams(
     to: &mut [u64],
     len: &mut usize,
 ) -> i32
-    ensures unchanged { handle.new.desk ≡ handle.old.desk }
-    ensures given { GivesNumbers (streams_of handle.old.desk) to.old to.new len.old len.new result }
+    ensures unchanged { handle.new.device ≡ handle.old.device }
+    ensures given { GivesNumbers (streams_of handle.old.device) to.old to.new len.old len.new result }
 {
     let found = open_streams(alloc, handle);
     fill_built(&found, to, len)

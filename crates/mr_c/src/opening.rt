@@ -1,18 +1,60 @@
 //! Opening and closing.
 ghost use Rattle.std.specs.Prelude.{◌≡◌, [], None};
-ghost use Rattle.mr_c.specs.Opened.{Opened, OpensAs};
+ghost use Rattle.mr_c.specs.Opened.{ClosedOnly, ComesBack, ComesBegun, ComesPlain, Installed, Opened, OpensAs};
 
 use crate::failure::{Failure, code_of};
 use crate::handle::Handle;
-use mr_desk::{Desk, Fault};
+use mr_desk::{Desk, Device, Fault, begin_kept, open_kept};
 use std::alloc::Global;
 
 /// The number of this interface: its upper half changes where a program has to be built anew, its lower half where functions were added.
 #[unsafe(no_mangle)]
 pub extern "C" fn mr_abi() -> u32
-    ensures { result ≡ 65536 }
+    ensures { result ≡ 65537 }
 {
-    0x0001_0000
+    0x0001_0001
+}
+
+// Refuses an open handle, which stays as it is.
+fn check_closed(alloc: Global, handle: &mut Handle) -> Result<(), Failure>
+    ensures { ClosedOnly handle.old.device result handle.new.device }
+{
+    if let Some(device) = handle.take(alloc) {
+        handle.put(device);
+        return Err(Failure::InUse);
+    }
+    Ok(())
+}
+
+// Puts a device into a closed handle, or tells why there is none.
+fn install(alloc: Global, handle: &mut Handle, device: Result<Device, Fault>) -> Result<(), Failure>
+    requires { handle.old.device ≡ None }
+    ensures { Installed device result handle.new.device }
+{
+    let device = device?;
+    match Box::new(alloc, device) {
+        Ok(device) => {
+            handle.put(device);
+            Ok(())
+        }
+        Err(_) => Err(Failure::Desk(Fault::OutOfMemory)),
+    }
+}
+
+// The device of a log.
+fn replayed(
+    alloc: Global,
+    id: u16,
+    filter: &[u8],
+    event_limit: u32,
+    log: &[u8],
+) -> Result<Device, Fault>
+    ensures { ComesPlain id filter.now event_limit log.now result }
+{
+    match Desk::replay(alloc, id, filter, event_limit, log) {
+        Ok(desk) => Ok(Device::Plain(desk)),
+        Err(fault) => Err(fault),
+    }
 }
 
 // Opens a closed handle. An open one stays as it is.
@@ -24,20 +66,11 @@ fn opened(
     event_limit: u32,
     log: &[u8],
 ) -> Result<(), Failure>
-    ensures { Opened id filter.now event_limit log.now handle.old.desk result handle.new.desk }
+    ensures { Opened (ComesPlain id filter.now event_limit log.now) handle.old.device result handle.new.device }
 {
-    if let Some(desk) = handle.take(alloc) {
-        handle.put(desk);
-        return Err(Failure::InUse);
-    }
-    let desk = Desk::replay(alloc, id, filter, event_limit, log)?;
-    match Box::new(alloc, desk) {
-        Ok(desk) => {
-            handle.put(desk);
-            Ok(())
-        }
-        Err(_) => Err(Failure::Desk(Fault::OutOfMemory)),
-    }
+    check_closed(alloc, handle)?;
+    let device = replayed(alloc, id, filter, event_limit, log);
+    install(alloc, handle, device)
 }
 
 /// Opens a replica to which nothing has happened.
@@ -51,7 +84,7 @@ pub extern "C" fn mr_open(
     filter: &[u8],
     event_limit: u32,
 ) -> i32
-    ensures { OpensAs id filter.now event_limit [] handle.old.desk handle.new.desk result }
+    ensures { OpensAs (ComesPlain id filter.now event_limit []) handle.old.device handle.new.device result }
 {
     let answer = opened(alloc, handle, id, filter, event_limit, b"");
     code_of(&answer)
@@ -67,16 +100,111 @@ pub extern "C" fn mr_replay(
     event_limit: u32,
     log: &[u8],
 ) -> i32
-    ensures { OpensAs id filter.now event_limit log.now handle.old.desk handle.new.desk result }
+    ensures { OpensAs (ComesPlain id filter.now event_limit log.now) handle.old.device handle.new.device result }
 {
     let answer = opened(alloc, handle, id, filter, event_limit, log);
+    code_of(&answer)
+}
+
+// The kept device that is begun.
+fn begun(
+    alloc: Global,
+    id: u16,
+    filter: &[u8],
+    event_limit: u32,
+    birth: &[u8],
+    mark: &[u8],
+) -> Result<Device, Fault>
+    ensures { ComesBegun id filter.now event_limit birth.now mark.now result }
+{
+    match begin_kept(alloc, id, filter, event_limit, birth, mark) {
+        Ok(kept) => Ok(Device::Kept(kept)),
+        Err(fault) => Err(fault),
+    }
+}
+
+// Begins a kept device in a closed handle. An open one stays as it is.
+fn kept_begun(
+    alloc: Global,
+    handle: &mut Handle,
+    id: u16,
+    filter: &[u8],
+    event_limit: u32,
+    birth: &[u8],
+    mark: &[u8],
+) -> Result<(), Failure>
+    ensures { Opened (ComesBegun id filter.now event_limit birth.now mark.now) handle.old.device result handle.new.device }
+{
+    check_closed(alloc, handle)?;
+    let device = begun(alloc, id, filter, event_limit, birth, mark);
+    install(alloc, handle, device)
+}
+
+/// Begins a device that is kept, in a file that has no byte: its acts are to be done first.
+///
+/// `InUse` where the handle is open; then as `begin_kept` answers. The handle is closed still where it fails.
+#[unsafe(no_mangle)]
+pub extern "C" fn mr_kept_begin(
+    alloc: Global,
+    handle: &mut Handle,
+    id: u16,
+    filter: &[u8],
+    event_limit: u32,
+    birth: &[u8],
+    mark: &[u8],
+) -> i32
+    ensures { OpensAs (ComesBegun id filter.now event_limit birth.now mark.now) handle.old.device handle.new.device result }
+{
+    let answer = kept_begun(alloc, handle, id, filter, event_limit, birth, mark);
+    code_of(&answer)
+}
+
+// The kept device of a file.
+fn brought_back(alloc: Global, file: &[u8], mark: &[u8], birth: &[u8]) -> Result<Device, Fault>
+    ensures { ComesBack file.now mark.now birth.now result }
+{
+    match open_kept(alloc, file, mark, birth) {
+        Ok(kept) => Ok(Device::Kept(kept)),
+        Err(fault) => Err(fault),
+    }
+}
+
+// Brings a kept device back into a closed handle. An open one stays as it is.
+fn kept_opened(
+    alloc: Global,
+    handle: &mut Handle,
+    file: &[u8],
+    mark: &[u8],
+    birth: &[u8],
+) -> Result<(), Failure>
+    ensures { Opened (ComesBack file.now mark.now birth.now) handle.old.device result handle.new.device }
+{
+    check_closed(alloc, handle)?;
+    let device = brought_back(alloc, file, mark, birth);
+    install(alloc, handle, device)
+}
+
+/// Opens a device that is kept, of the bytes of its file, which was synced before it was read: its acts are to be done first.
+///
+/// `InUse` where the handle is open; then as `open_kept` answers. The handle is closed still where it fails.
+#[unsafe(no_mangle)]
+pub extern "C" fn mr_kept_open(
+    alloc: Global,
+    handle: &mut Handle,
+    file: &[u8],
+    mark: &[u8],
+    birth: &[u8],
+) -> i32
+    ensures { OpensAs (ComesBack file.now mark.now birth.now) handle.old.device handle.new.device result }
+{
+    let answer = kept_opened(alloc, handle, file, mark, birth);
     code_of(&answer)
 }
 
 /// Closes the handle and gives back all that it holds; a closed one stays so.
 #[unsafe(no_mangle)]
 pub extern "C" fn mr_close(alloc: Global, handle: &mut Handle)
-    ensures { handle.new.desk ≡ None }
+    ensures { handle.new.device ≡ None }
 {
-    let _desk = handle.take(alloc);
+    let _device = handle.take(alloc);
 }

@@ -1,12 +1,12 @@
 //! What is held, what changed, and what is open, by place.
-ghost use Rattle.std.specs.Prelude.{◌≡◌};
-ghost use Rattle.mr_c.specs.Given.{IsGiven, at_place};
-ghost use Rattle.mr_c.specs.Shown.{shown_held, shown_change, head_at, push_out_at, change_at, counts_of, retired};
+ghost use Rattle.std.specs.Prelude.{◌≡◌, Ok, length};
+ghost use Rattle.mr_c.specs.Given.{IsGiven, at_place, read_in};
+ghost use Rattle.mr_c.specs.Shown.{bit, shown_held, shown_change, head_at, push_out_at, change_at, counts_of, retired};
 
 use crate::failure::Failure;
-use crate::given::give;
+use crate::given::{give, replica_of};
 use crate::handle::Handle;
-use mr_desk::VersionNumbers;
+use mr_desk::{Device, VersionNumbers};
 use mr_feed::Entry;
 use mr_replica::Revision;
 use std::alloc::Global;
@@ -73,37 +73,68 @@ fn change_at(feed: &[Entry], place: usize) -> Result<Change, Failure>
     }
 }
 
-/// How many heads, push-outs, changes and events there are, in constant time.
-#[unsafe(no_mangle)]
-pub extern "C" fn mr_counts(alloc: Global, handle: &mut Handle, counts: &mut Counts) -> i32
-    ensures unchanged { handle.new.desk ≡ handle.old.desk }
-    ensures given { IsGiven (counts_of handle.old.desk) counts.old counts.new result }
+fn head_in(device: &Device, place: usize) -> Result<Held, Failure>
+    ensures { result ≡ read_in (λ s. at_place shown_held s.heads place) device.now }
 {
-    let Some(desk) = handle.take(alloc) else {
-        return Failure::Closed.code();
-    };
-    let replica = desk.replica();
-    *counts = Counts {
+    held_at(replica_of(device)?.heads(), place)
+}
+
+fn push_out_in(device: &Device, place: usize) -> Result<Held, Failure>
+    ensures { result ≡ read_in (λ s. at_place shown_held s.push_outs place) device.now }
+{
+    held_at(replica_of(device)?.push_outs(), place)
+}
+
+fn change_in(device: &Device, place: usize) -> Result<Change, Failure>
+    ensures { result ≡ read_in (λ s. at_place shown_change s.feed place) device.now }
+{
+    change_at(replica_of(device)?.feed(), place)
+}
+
+fn counts_in(device: &Device) -> Result<Counts, Failure>
+    ensures { result ≡ read_in (λ s. Ok (record { heads = length s.heads; push_outs = length s.push_outs; changes = length s.feed; events = length s.log })) device.now }
+{
+    let replica = replica_of(device)?;
+    Ok(Counts {
         heads: replica.heads().len(),
         push_outs: replica.push_outs().len(),
         changes: replica.feed().len(),
         events: replica.log().len(),
+    })
+}
+
+fn retired_in(device: &Device) -> Result<u32, Failure>
+    ensures { result ≡ read_in (λ s. Ok (bit s.is_retired)) device.now }
+{
+    Ok(u32::from(replica_of(device)?.is_retired()))
+}
+
+/// How many heads, push-outs, changes and events there are, in constant time. After `Closed`, `Unsettled` or `Failed` of a kept device;
+/// so too for those below.
+#[unsafe(no_mangle)]
+pub extern "C" fn mr_counts(alloc: Global, handle: &mut Handle, counts: &mut Counts) -> i32
+    ensures unchanged { handle.new.device ≡ handle.old.device }
+    ensures given { IsGiven (counts_of handle.old.device) counts.old counts.new result }
+{
+    let Some(device) = handle.take(alloc) else {
+        return Failure::Closed.code();
     };
-    handle.put(desk);
-    0
+    let found = counts_in(&device);
+    handle.put(device);
+    give(found, counts)
 }
 
 /// A head, by its place in version order, in constant time. After `Closed`, `NotThere` past the last.
 #[unsafe(no_mangle)]
 pub extern "C" fn mr_head(alloc: Global, handle: &mut Handle, place: usize, head: &mut Held) -> i32
-    ensures unchanged { handle.new.desk ≡ handle.old.desk }
-    ensures given { IsGiven (head_at handle.old.desk place) head.old head.new result }
+    ensures unchanged { handle.new.device ≡ handle.old.device }
+    ensures given { IsGiven (head_at handle.old.device place) head.old head.new result }
 {
-    let Some(desk) = handle.take(alloc) else {
+    let Some(device) = handle.take(alloc) else {
         return Failure::Closed.code();
     };
-    let found = held_at(desk.replica().heads(), place);
-    handle.put(desk);
+    let found = head_in(&device, place);
+    handle.put(device);
     give(found, head)
 }
 
@@ -115,14 +146,14 @@ pub extern "C" fn mr_push_out(
     place: usize,
     push_out: &mut Held,
 ) -> i32
-    ensures unchanged { handle.new.desk ≡ handle.old.desk }
-    ensures given { IsGiven (push_out_at handle.old.desk place) push_out.old push_out.new result }
+    ensures unchanged { handle.new.device ≡ handle.old.device }
+    ensures given { IsGiven (push_out_at handle.old.device place) push_out.old push_out.new result }
 {
-    let Some(desk) = handle.take(alloc) else {
+    let Some(device) = handle.take(alloc) else {
         return Failure::Closed.code();
     };
-    let found = held_at(desk.replica().push_outs(), place);
-    handle.put(desk);
+    let found = push_out_in(&device, place);
+    handle.put(device);
     give(found, push_out)
 }
 
@@ -134,27 +165,27 @@ pub extern "C" fn mr_change(
     place: usize,
     change: &mut Change,
 ) -> i32
-    ensures unchanged { handle.new.desk ≡ handle.old.desk }
-    ensures given { IsGiven (change_at handle.old.desk place) change.old change.new result }
+    ensures unchanged { handle.new.device ≡ handle.old.device }
+    ensures given { IsGiven (change_at handle.old.device place) change.old change.new result }
 {
-    let Some(desk) = handle.take(alloc) else {
+    let Some(device) = handle.take(alloc) else {
         return Failure::Closed.code();
     };
-    let found = change_at(desk.replica().feed(), place);
-    handle.put(desk);
+    let found = change_in(&device, place);
+    handle.put(device);
     give(found, change)
 }
 
 /// Whether it has retired: 1 or 0.
 #[unsafe(no_mangle)]
 pub extern "C" fn mr_is_retired(alloc: Global, handle: &mut Handle, is_retired: &mut u32) -> i32
-    ensures unchanged { handle.new.desk ≡ handle.old.desk }
-    ensures given { IsGiven (retired handle.old.desk) is_retired.old is_retired.new result }
+    ensures unchanged { handle.new.device ≡ handle.old.device }
+    ensures given { IsGiven (retired handle.old.device) is_retired.old is_retired.new result }
 {
-    let Some(desk) = handle.take(alloc) else {
+    let Some(device) = handle.take(alloc) else {
         return Failure::Closed.code();
     };
-    *is_retired = u32::from(desk.replica().is_retired());
-    handle.put(desk);
-    0
+    let found = retired_in(&device);
+    handle.put(device);
+    give(found, is_retired)
 }

@@ -7,7 +7,7 @@ use Rattle.mr_wire.specs.declared.frame.Frame.{Frame}
 use Rattle.mr_desk.specs.Fault.{Reads, of_wire}
 use Rattle.mr_desk.specs.Frames.{any_frame, frame_fault, BeginsFrame}
 use Rattle.mr_desk.specs.declared.fault.Fault.{Fault}
-use Rattle.mr_desk.specs.declared.fault.Fault.TheVariants.{OutOfMemory, NotText, BytesBehind, OtherFrame, Version, Message, Filter, Wire, Event, Replay, Refused}
+use Rattle.mr_desk.specs.declared.fault.Fault.TheVariants.{OutOfMemory, NotText, BytesBehind, OtherFrame, Unsettled, Failed, OtherDevice, TooLarge, BadLength, Version, Message, Filter, Wire, Event, Replay, Refused, Open}
 
 -- the fault of what was decoded of so many bytes
 abbrev fault_at : (Frame → Option Fault) → ℕ → Result (Frame × ℕ) WireFault → Option Fault
@@ -32,6 +32,12 @@ reads-narrower X Y only bytes IsX IsY OutOfMemory h = h
 reads-narrower X Y only bytes IsX IsY NotText h = narrower only bytes NotText h
 reads-narrower X Y only bytes IsX IsY BytesBehind h = narrower only bytes BytesBehind h
 reads-narrower X Y only bytes IsX IsY OtherFrame h = narrower only bytes OtherFrame h
+reads-narrower X Y only bytes IsX IsY Unsettled h = narrower only bytes Unsettled h
+reads-narrower X Y only bytes IsX IsY Failed h = narrower only bytes Failed h
+reads-narrower X Y only bytes IsX IsY OtherDevice h = narrower only bytes OtherDevice h
+reads-narrower X Y only bytes IsX IsY TooLarge h = narrower only bytes TooLarge h
+reads-narrower X Y only bytes IsX IsY BadLength h = narrower only bytes BadLength h
+reads-narrower X Y only bytes IsX IsY (Open f) h = narrower only bytes (Open f) h
 reads-narrower X Y only bytes IsX IsY (Version f) h = narrower only bytes (Version f) h
 reads-narrower X Y only bytes IsX IsY (Message f) h = narrower only bytes (Message f) h
 reads-narrower X Y only bytes IsX IsY (Filter f) h = narrower only bytes (Filter f) h

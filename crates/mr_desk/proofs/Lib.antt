@@ -1,4 +1,5 @@
 mod FrameLemmas
+mod KeptLemmas
 mod LogLemmas
 mod OpeningLemmas
 mod PartLemmas

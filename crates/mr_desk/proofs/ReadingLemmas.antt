@@ -1,4 +1,4 @@
--- what is wrong with what is handed over is never a refusal
+-- what is wrong with what is handed over is never a refusal, nor a fault of keeping
 use Rattle.std.proofs.Common.{◌≡◌, ◌&&◌, not, ℕ, Bool, true, false, List, length, nat_lt, Option, Some, None, Result, Ok, Err, refl, subst}
 use Rattle.std.specs.Prelude.{if◌then◌else◌}
 use Rattle.std.specs.Option.{option_map}
@@ -12,23 +12,28 @@ use Rattle.mr_wire.specs.declared.fault.WireFault.{WireFault}
 use Rattle.mr_wire.specs.declared.fault.WireFault.TheVariants as wire
 use Rattle.mr_wire.specs.declared.frame.Frame.{Frame}
 use Rattle.mr_wire.specs.declared.frame.Frame.TheVariants as frame
+use Rattle.mr_itemset.specs.Normal.{Normal}
+use Rattle.mr_hosted.specs.declared.hosted.Hosted.{Hosted}
 use Rattle.mr_replica.specs.Refusal.{◌orelse◌}
 use Rattle.mr_desk.specs.Asked.{call_fault, IsEventOf, NeedsMemory}
 use Rattle.mr_desk.specs.Desk.{DeskState}
 use Rattle.mr_desk.specs.Draft.{draft_fault, labels_of}
 use Rattle.mr_desk.specs.Fault.{Reads, of_message, of_wire}
 use Rattle.mr_desk.specs.Frames.{any_frame, frame_fault, only_ask, only_receipt}
+use Rattle.mr_desk.specs.Kept.{KeptAnswers, Stays}
 use Rattle.mr_desk.specs.Serves.{Answers}
 use Rattle.mr_desk.specs.Version.{first_version_fault, version_fault}
 use Rattle.mr_desk.specs.declared.call.Call.{Call}
 use Rattle.mr_desk.specs.declared.call.Call.TheVariants.{Create, Edit, Retire, Pull, Receive, CutIn, Answer, Next, CutOut, Vouch, Release}
 use Rattle.mr_desk.specs.declared.call.Draft.{Draft}
 use Rattle.mr_desk.specs.declared.fault.Fault.{Fault}
-use Rattle.mr_desk.specs.declared.fault.Fault.TheVariants.{OutOfMemory, NotText, BytesBehind, OtherFrame, Version, Message, Filter, Wire, Event, Replay, Refused}
+use Rattle.mr_desk.specs.declared.fault.Fault.TheVariants.{OutOfMemory, NotText, BytesBehind, OtherFrame, Unsettled, Failed, OtherDevice, TooLarge, BadLength, Version, Message, Filter, Wire, Event, Replay, Refused, Open}
 
--- it is no refusal
+-- it is no refusal, nor a fault of keeping
 abbrev IsUnrefused : Option Fault → Type 0
 IsUnrefused (Some (Refused refusal)) = ⊥
+IsUnrefused (Some Failed) = ⊥
+IsUnrefused (Some TooLarge) = ⊥
 IsUnrefused fault = Unit {0}
 
 unrefused-if : (b : Bool) (f g : Option Fault) → IsUnrefused f → IsUnrefused g → IsUnrefused (if b then f else g)
@@ -110,6 +115,12 @@ answers-unread s call OutOfMemory wants = (wants, refl)
 answers-unread s call NotText is = (is, refl)
 answers-unread s call BytesBehind is = (is, refl)
 answers-unread s call OtherFrame is = (is, refl)
+answers-unread s call Unsettled is = (is, refl)
+answers-unread s call Failed is = (is, refl)
+answers-unread s call OtherDevice is = (is, refl)
+answers-unread s call TooLarge is = (is, refl)
+answers-unread s call BadLength is = (is, refl)
+answers-unread s call (Open f) is = (is, refl)
 answers-unread s call (Version f) is = (is, refl)
 answers-unread s call (Message f) is = (is, refl)
 answers-unread s call (Filter f) is = (is, refl)
@@ -117,3 +128,32 @@ answers-unread s call (Wire f) is = (is, refl)
 answers-unread s call (Event f) is = (is, refl)
 answers-unread s call (Replay f) is = (is, refl)
 answers-unread s call (Refused refusal) is = absurd (subst IsUnrefused is (unrefused-call call))
+
+-- a replica whose host writes is as it is
+pub stays : {V : Type 0} → (h : Hosted Normal V) → Stays h h
+stays h = record {
+  replica = refl;
+  held_back = refl;
+  journal = record { journal = refl; head = refl; kept = refl; issued = refl; notes = refl };
+  host = record { done = refl; failed = refl; handed_out_is = refl };
+}
+
+-- what can't be read is answered by it too, and it stays as it was
+pub kept-unread : {V : Type 0} → (h : Hosted Normal V) (call : Call) (f : Fault) → Reads (NeedsMemory call) (call_fault call) (IsEventOf call) (Err f) → KeptAnswers h call (Err f) h
+kept-unread h call OutOfMemory wants = stays h
+kept-unread h call NotText is = (is, stays h)
+kept-unread h call BytesBehind is = (is, stays h)
+kept-unread h call OtherFrame is = (is, stays h)
+kept-unread h call Unsettled is = (is, stays h)
+kept-unread h call Failed is = absurd (subst IsUnrefused is (unrefused-call call))
+kept-unread h call OtherDevice is = (is, stays h)
+kept-unread h call TooLarge is = absurd (subst IsUnrefused is (unrefused-call call))
+kept-unread h call BadLength is = (is, stays h)
+kept-unread h call (Version f) is = (is, stays h)
+kept-unread h call (Message f) is = (is, stays h)
+kept-unread h call (Filter f) is = (is, stays h)
+kept-unread h call (Wire f) is = (is, stays h)
+kept-unread h call (Event f) is = (is, stays h)
+kept-unread h call (Replay f) is = (is, stays h)
+kept-unread h call (Refused refusal) is = absurd (subst IsUnrefused is (unrefused-call call))
+kept-unread h call (Open f) is = (is, stays h)

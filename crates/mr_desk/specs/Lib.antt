@@ -1,8 +1,12 @@
 pub mod Asked
 pub mod Desk
+pub mod Device
 pub mod Draft
 pub mod Fault
 pub mod Frames
+pub mod Kept
+pub mod KeptCommit
+pub mod KeptOpening
 pub mod Log
 pub mod Opening
 pub mod Rows

@@ -8,15 +8,22 @@ use Rattle.mr_wire.specs.declared.frame.Frame.{Frame}
 use Rattle.mr_wire.specs.declared.frame.Frame.TheVariants as frame
 use Rattle.mr_version.specs.Name.{Name}
 use Rattle.mr_version.specs.declared.fault.VersionFault.TheVariants.{NoSuchAuthor, BadVersion}
+use Rattle.mr_journal.specs.declared.fault.JournalFault.TheVariants as journal
+use Rattle.mr_kept.specs.declared.fault.KeptFault.TheVariants as kept
+use Rattle.mr_kept.specs.declared.fault.OpenFault.TheVariants as opens
+use Rattle.mr_replica.specs.declared.event.Event.TheVariants as event
 use Rattle.mr_replica.specs.declared.event.Reply.TheVariants as reply
+use Rattle.mr_replica.specs.declared.replica.replay.ReplayFault.TheVariants.{BadLimit}
 use Rattle.mr_replica.specs.declared.refusal.Refusal.TheVariants.{NoSession, OutOfMemory as NoMemory}
 use Rattle.mr_desk.specs.Draft.{labels_of}
 use Rattle.mr_desk.specs.Fault.{fault_number}
 use Rattle.mr_desk.specs.Frames.{announced, any_frame, claim_by, frame_fault, only_ask, only_receipt}
+use Rattle.mr_desk.specs.Kept.{Gives}
+use Rattle.mr_desk.specs.KeptOpening.{given}
 use Rattle.mr_desk.specs.Told.{frame_by, told_by}
 use Rattle.mr_desk.specs.Version.{first_version_fault, version_fault}
 use Rattle.mr_desk.specs.declared.call.VersionNumbers.{VersionNumbers}
-use Rattle.mr_desk.specs.declared.fault.Fault.TheVariants.{OutOfMemory, BytesBehind, OtherFrame, Wire, Refused}
+use Rattle.mr_desk.specs.declared.fault.Fault.TheVariants.{OutOfMemory, BytesBehind, OtherFrame, Failed, Wire, Refused, Open}
 use Rattle.mr_desk.specs.declared.reply.Told.TheVariants as told
 
 -- ---- faults
@@ -31,6 +38,19 @@ number_of_refusal = refl
 -- want of memory has one number, wherever it came
 pub number_of_memory : fault_number (Refused NoMemory) ≡ fault_number OutOfMemory
 number_of_memory = refl
+
+-- of opening a file it is that of the fault which it carries, and else one of family 8
+pub number_of_copied : fault_number (Open opens.Copied) ≡ 2057
+number_of_copied = refl
+
+pub number_of_damaged : fault_number (Open (opens.Journal (journal.Damaged 7))) ≡ 2308
+number_of_damaged = refl
+
+pub number_of_limit : fault_number (Open (opens.Replay BadLimit)) ≡ 1537
+number_of_limit = refl
+
+pub number_of_failed : fault_number (Open (opens.Kept kept.Failed)) ≡ fault_number Failed
+number_of_failed = refl
 
 -- ---- versions by their numbers
 
@@ -123,3 +143,19 @@ receipt_gives = refl
 
 pub receipt_tells_nothing : told_by (reply.Vouched (record { giver = 5; descent = descent_with (name 1 1) (name 1 1) [] })) ≡ told.Done
 receipt_tells_nothing = refl
+
+-- ---- a replica whose host writes
+
+-- a version is held back, and not told
+pub version_waits : Gives event.Pull (reply.Issued (name 1 2)) told.Done (reply.Done ∷ []) (reply.Done ∷ reply.Issued (name 1 2) ∷ [])
+version_waits = (refl, refl)
+
+-- a stream's number is told at once
+pub stream_is_told : Gives (event.CutIn 3) (reply.Streaming 4) (told.Streaming 4) [] []
+stream_is_told = (refl, refl)
+
+pub no_birth : given [] ≡ None
+no_birth = refl
+
+pub some_birth : given (1 ∷ 2 ∷ []) ≡ Some (1 ∷ 2 ∷ [])
+some_birth = refl

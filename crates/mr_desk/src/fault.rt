@@ -1,9 +1,11 @@
 //! Why a desk does nothing.
 ghost use Rattle.std.specs.Prelude.{◌≡◌};
-ghost use Rattle.mr_desk.specs.Fault.{fault_number, in_family};
+ghost use Rattle.mr_desk.specs.Fault.{fault_number, in_family, kept_number, open_number};
 
 use mr_entry::event::EventFault;
 use mr_filter::FilterFault;
+use mr_hosted::HostedFault;
+use mr_kept::{KeptFault, OpenFault};
 use mr_mail::MessageFault;
 use mr_replica::{Refusal, ReplayFault};
 use mr_version::VersionFault;
@@ -11,7 +13,7 @@ use mr_wire::WireFault;
 use std::alloc::{AllocError, AllocFailed};
 use thiserror::Error;
 
-/// Why a desk does nothing.
+/// Why a desk, plain or kept, does nothing.
 #[derive(Clone, Copy, Debug, PartialEq, Eq, Error)]
 pub enum Fault {
     /// Memory ran out in reading what was handed over.
@@ -26,6 +28,21 @@ pub enum Fault {
     /// A frame of another kind was handed over than the call takes.
     #[error("the frame is of another kind")]
     OtherFrame,
+    /// A kept desk has events that wait for a commit, or its host has acts to do.
+    #[error("unsettled: commit, and do the acts")]
+    Unsettled,
+    /// An act of the host failed, or there was no memory to note one: the file has to be opened again.
+    #[error("failed: open the file again")]
+    Failed,
+    /// What is asked for is a plain desk's alone, or a kept one's.
+    #[error("the device is of the other kind")]
+    OtherDevice,
+    /// The event has more bytes than one may have, or the file would get more than it may have.
+    #[error("too large")]
+    TooLarge,
+    /// A birth has 16 bytes, and a mark 32.
+    #[error("a birth has 16 bytes, and a mark 32")]
+    BadLength,
     /// An id or a version is none.
     #[error(transparent)]
     Version(VersionFault),
@@ -47,12 +64,16 @@ pub enum Fault {
     /// The replica refuses the event.
     #[error(transparent)]
     Refused(Refusal),
+    /// The file isn't begun, or isn't opened.
+    #[error(transparent)]
+    Open(OpenFault),
 }
 
 impl Fault {
     /// The fault's number: 1 for want of memory, wherever it came; 4, 7 and 8 for a text, bytes behind a frame and another
-    /// frame; and else 256 times the number of the family, from 1 in the order of the variants behind those, and the number that the
-    /// family gives it.
+    /// frame; 9 to 13 for the five that follow; and else 256 times the number of the family, from 1 in the order of the variants behind
+    /// those, and the number that the family gives it. Of a file that isn't opened it is that of the fault which that carries: in the
+    /// families of filters, replays and refusals, and in family 9 where the journal is refused.
     pub fn number(self) -> u16
         ensures { result ≡ fault_number self }
     {
@@ -61,6 +82,11 @@ impl Fault {
             Fault::NotText => 4,
             Fault::BytesBehind => 7,
             Fault::OtherFrame => 8,
+            Fault::Unsettled => 9,
+            Fault::Failed => 10,
+            Fault::OtherDevice => 11,
+            Fault::TooLarge => 12,
+            Fault::BadLength => 13,
             Fault::Version(fault) => in_family(1, fault.number()),
             Fault::Message(fault) => in_family(2, fault.number()),
             Fault::Filter(fault) => in_family(3, fault.number()),
@@ -68,7 +94,33 @@ impl Fault {
             Fault::Event(fault) => in_family(5, fault.number()),
             Fault::Replay(fault) => in_family(6, fault.number()),
             Fault::Refused(refusal) => in_family(7, refusal.number()),
+            Fault::Open(fault) => open_number(fault),
         }
+    }
+}
+
+/// The number of a fault that a kept desk has.
+fn kept_number(fault: KeptFault) -> u16
+    ensures { result ≡ kept_number fault }
+{
+    match fault {
+        KeptFault::OutOfMemory => 1,
+        KeptFault::Refused(refusal) => in_family(7, refusal.number()),
+        KeptFault::Failed => 10,
+        KeptFault::TooLarge => 12,
+    }
+}
+
+/// The number of a fault of opening a file: that of the fault which it carries, where it carries one.
+fn open_number(fault: OpenFault) -> u16
+    ensures { result ≡ open_number fault }
+{
+    match fault {
+        OpenFault::Journal(fault) => in_family(9, fault.number()),
+        OpenFault::Kept(fault) => kept_number(fault),
+        OpenFault::BadFilter(fault) => in_family(3, fault.number()),
+        OpenFault::Replay(fault) => in_family(6, fault.number()),
+        _ => in_family(8, fault.number()),
     }
 }
 
@@ -167,6 +219,36 @@ impl From<EventFault> for Fault {
         match fault {
             EventFault::OutOfMemory => Fault::OutOfMemory,
             _ => Fault::Event(fault),
+        }
+    }
+}
+
+impl From<KeptFault> for Fault {
+    ghost use Rattle.std.specs.Prelude.{◌≡◌};
+    ghost use Rattle.mr_desk.specs.Fault.{of_kept};
+
+    ghost from_gives = { λ fault made. made ≡ of_kept fault };
+
+    fn from(fault: KeptFault) -> Fault {
+        match fault {
+            KeptFault::OutOfMemory => Fault::OutOfMemory,
+            KeptFault::Refused(refusal) => Fault::Refused(refusal),
+            KeptFault::Failed => Fault::Failed,
+            KeptFault::TooLarge => Fault::TooLarge,
+        }
+    }
+}
+
+impl From<HostedFault> for Fault {
+    ghost use Rattle.std.specs.Prelude.{◌≡◌};
+    ghost use Rattle.mr_desk.specs.Fault.{of_hosted};
+
+    ghost from_gives = { λ fault made. made ≡ of_hosted fault };
+
+    fn from(fault: HostedFault) -> Fault {
+        match fault {
+            HostedFault::Unsettled => Fault::Unsettled,
+            HostedFault::Kept(fault) => Fault::from(fault),
         }
     }
 }

@@ -16,15 +16,20 @@
 //! office.serve(&Call::Receive(phone.frame()))?;
 //! ```
 //!
-//! A desk is its log: [`Desk::replay`] makes it again of the bytes of the events that it admitted.
+//! A desk is its log: [`Desk::replay`] makes it again of the bytes of the events that it admitted. Who would have the file looked after takes
+//! a [`KeptDesk`], a replica whose host writes ([`mr_hosted::Hosted`]): [`begin_kept`], [`open_kept`]. A [`Device`] is one of the two,
+//! behind the same calls, and nothing that comes of an event of a kept one is shown or handed out before it is in the file.
 #![tactic(auto)]
 
 mod call;
 mod desk;
+mod device;
 mod draft;
 mod event;
 mod fault;
 mod frames;
+mod kept;
+mod kept_opening;
 mod labels;
 mod log;
 mod opening;
@@ -32,7 +37,10 @@ mod reply;
 
 pub use call::{Call, Draft, VersionNumbers};
 pub use desk::Desk;
+pub use device::Device;
 pub use fault::Fault;
 pub use frames::{Claim, announced_len, claim_of};
+pub use kept::KeptDesk;
+pub use kept_opening::{begin_kept, open_kept};
 pub use log::event_bytes;
-pub use reply::Told;
+pub use reply::{Told, frame_by};

@@ -12,7 +12,7 @@ use mr_version::Author;
 use std::alloc::Global;
 
 /// The filter that these bytes mean: `NotText` where they are not UTF-8, then `Filter`.
-fn filter_of(alloc: Global, bytes: &[u8]) -> Result<Filter, Fault>
+pub(crate) fn filter_of(alloc: Global, bytes: &[u8]) -> Result<Filter, Fault>
     ensures { ReadsFilter bytes.now result }
 {
     Ok(Filter::read(alloc, text_of(bytes)?)?)

@@ -42,7 +42,7 @@ pub(crate) fn told_by(reply: &Reply) -> Told
 }
 
 /// The bytes of the frame that a reply gives, and none where it gives none. It costs the frame's bytes.
-pub(crate) fn frame_by(alloc: Global, reply: &Reply) -> Result<Vec<u8>, AllocError>
+pub fn frame_by(alloc: Global, reply: &Reply) -> Result<Vec<u8>, AllocError>
     ensures { IfOk result (λ bytes. bytes.items ≡ frame_by reply.now) }
 {
     let bytes = match reply {

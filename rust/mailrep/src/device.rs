@@ -15,7 +15,7 @@ const MAX_OPEN: usize = 8;
 /// Each call that changes it is an event, which happens as a whole or not at all: at an `Err` it is as it was.
 #[derive(Debug)]
 pub struct Device {
-    device: sys::Device,
+    pub(crate) device: sys::Device,
 }
 
 // Safety: the library proves that what an open device owns may go to another thread. It has no `Sync`, since its readers take the
@@ -34,6 +34,18 @@ fn text_of(bytes: Vec<u8>) -> Result<String> {
 }
 
 impl Device {
+    // A closed one, of the library that this crate is for.
+    pub(crate) fn closed() -> Device {
+        let abi = sys::mr_abi();
+        assert!(
+            abi >> 16 == sys::ABI >> 16 && abi >= sys::ABI,
+            "libmailrep has interface 0x{abi:x}"
+        );
+        Device {
+            device: sys::Device::CLOSED,
+        }
+    }
+
     /// A device to which nothing has happened.
     ///
     /// `id`, 0 to 63, is given to no other device, ever. `filter` says what it keeps, as `all` or `label:inbox & !flag:deleted`.
@@ -60,14 +72,7 @@ impl Device {
     ///
     /// Where the library is of another interface than this crate.
     pub fn replay(id: u16, filter: &str, event_limit: u32, log: &[u8]) -> Result<Device> {
-        let abi = sys::mr_abi();
-        assert!(
-            abi >> 16 == sys::ABI >> 16 && abi >= sys::ABI,
-            "libmailrep has interface 0x{abi:x}"
-        );
-        let mut opened = Device {
-            device: sys::Device::CLOSED,
-        };
+        let mut opened = Device::closed();
         // Safety: the pointers are those of slices of these lengths, and the device is closed.
         answer(unsafe {
             sys::mr_replay(
@@ -170,9 +175,15 @@ impl Device {
     ///
     /// `Refused`, as where eight sessions are open.
     pub fn pull(&mut self) -> Result<(u64, Vec<u8>)> {
+        let session = self.ask()?;
+        Ok((session, self.frame()?))
+    }
+
+    // The same, without the frame.
+    pub(crate) fn ask(&mut self) -> Result<u64> {
         let mut session = 0;
         answer(sys::mr_pull(&mut self.device, &mut session))?;
-        Ok((session, self.frame()?))
+        Ok(session)
     }
 
     /// Opens a stream for a request, and gives its number.
@@ -256,7 +267,7 @@ impl Device {
     }
 
     // What a call writes to a buffer, which grows to the length that the call tells.
-    fn filled(
+    pub(crate) fn filled(
         &mut self,
         call: impl Fn(&mut sys::Device, *mut u8, usize, &mut usize) -> i32,
     ) -> Result<Vec<u8>> {

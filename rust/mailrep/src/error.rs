@@ -18,6 +18,12 @@ pub enum Error {
     BytesBehind,
     /// The frame is of another kind than the call takes.
     OtherFrame,
+    /// Of a kept device: events wait for a commit, or acts are left to be done.
+    Unsettled,
+    /// An act of a kept device failed: read its file and open it again.
+    Failed,
+    /// The event has more bytes than one may have, or the file would get more than it may have.
+    TooLarge,
     /// An id or a version is none.
     Version(VersionFault),
     /// The parts make no message.
@@ -32,6 +38,10 @@ pub enum Error {
     Replay(ReplayFault),
     /// The device refuses the event.
     Refused(Refusal),
+    /// The file isn't that of a device, or not of this one.
+    Open(OpenFault),
+    /// The file is no journal that is read here.
+    Journal(JournalFault),
     /// An answer that this crate doesn't know, as one of a later library, or that can't come of its calls.
     Unknown(i32),
 }
@@ -143,6 +153,27 @@ families! {
         PushOutsLeft = 21, "push-outs are left";
         Forged = 22, "no device gave the record";
     }
+
+    /// Why a file isn't opened, or isn't begun.
+    OpenFault {
+        NoReplica = 3, "no device was begun in the file";
+        NotEmpty = 4, "the file has entries already";
+        BadEntry = 5, "an entry of the file is none";
+        Misplaced = 6, "an entry of the file doesn't belong there";
+        OtherCounter = 7, "an entry of the file has another's counter";
+        TooManyEvents = 8, "the file has more events than a device takes";
+        Copied = 9, "the file was begun at another place: it was copied or restored";
+        OtherBirth = 10, "the file was begun at another time";
+    }
+
+    /// Why a file is no journal.
+    JournalFault {
+        Failed = 1, "no memory to note what is to be done to the file";
+        NotAJournal = 2, "the file doesn't begin as a journal";
+        OtherFormat = 3, "the file is a journal of another format";
+        Damaged = 4, "the file is damaged as no crash leaves it";
+        TooLarge = 5, "the file would be too large";
+    }
 }
 
 impl Error {
@@ -155,6 +186,9 @@ impl Error {
                 6 => Some(Error::NotThere),
                 7 => Some(Error::BytesBehind),
                 8 => Some(Error::OtherFrame),
+                9 => Some(Error::Unsettled),
+                10 => Some(Error::Failed),
+                12 => Some(Error::TooLarge),
                 _ => None,
             },
             1 => VersionFault::of(number).map(Error::Version),
@@ -164,6 +198,8 @@ impl Error {
             5 => EventFault::of(number).map(Error::Event),
             6 => ReplayFault::of(number).map(Error::Replay),
             7 => Refusal::of(number).map(Error::Refused),
+            8 => OpenFault::of(number).map(Error::Open),
+            9 => JournalFault::of(number).map(Error::Journal),
             _ => None,
         };
         known.unwrap_or(Error::Unknown(code))
@@ -177,6 +213,11 @@ impl fmt::Display for Error {
             Error::NotThere => f.write_str("nothing is there"),
             Error::BytesBehind => f.write_str("bytes stand behind the frame"),
             Error::OtherFrame => f.write_str("the frame is of another kind"),
+            Error::Unsettled => {
+                f.write_str("events wait for a commit, or acts are left to be done")
+            }
+            Error::Failed => f.write_str("an act failed: open the file again"),
+            Error::TooLarge => f.write_str("the event or the file is too large"),
             Error::Version(fault) => fault.fmt(f),
             Error::Message(fault) => fault.fmt(f),
             Error::Filter(fault) => fault.fmt(f),
@@ -184,6 +225,8 @@ impl fmt::Display for Error {
             Error::Event(fault) => fault.fmt(f),
             Error::Replay(fault) => fault.fmt(f),
             Error::Refused(refusal) => refusal.fmt(f),
+            Error::Open(fault) => fault.fmt(f),
+            Error::Journal(fault) => fault.fmt(f),
             Error::Unknown(code) => write!(f, "an answer of another interface, 0x{code:x}"),
         }
     }

@@ -41,6 +41,32 @@
 //! assert_eq!(phone.cut_in(7), Err(Error::Refused(Refusal::NoSession)));
 //! ```
 //!
+//! A [`KeptDevice`] has a file of its own, and shows and hands out nothing that isn't in it:
+//!
+//! ```
+//! use mailrep::{Draft, HandedOut, KeptDevice};
+//! use std::fs::File;
+//!
+//! # fn main() -> Result<(), Box<dyn std::error::Error>> {
+//! # let folder = std::env::temp_dir().join(format!("mailrep-{}", std::process::id()));
+//! # std::fs::create_dir_all(&folder)?;
+//! # let path = folder.join("phone");
+//! let file = File::options().read(true).write(true).create(true).truncate(true).open(&path)?;
+//! let (birth, mark) = ([7; 16], [0; 32]); // random bytes, and the file's place
+//! let mut phone = KeptDevice::begin(file, 0, "all", 1_000, &birth, &mark)?;
+//! phone.create(&Draft { from: "ann@example.org", subject: "lunch", ..Draft::default() })?;
+//! let [HandedOut::Issued(lunch)] = phone.commit()?[..] else { panic!() };
+//! drop(phone);
+//!
+//! // Killed at any moment, the program finds what was handed out.
+//! let file = File::options().read(true).write(true).open(&path)?;
+//! let mut phone = KeptDevice::open(file, &mark, None)?;
+//! assert_eq!(phone.shown()?.message(lunch)?.subject, "lunch");
+//! # std::fs::remove_dir_all(&folder)?;
+//! # Ok(())
+//! # }
+//! ```
+//!
 //! A device goes to another thread, and is not shared:
 //!
 //! ```compile_fail
@@ -51,13 +77,15 @@
 mod device;
 mod error;
 mod frames;
+mod kept;
 mod sys;
 mod values;
 
 pub use device::Device;
 pub use error::{
-    Error, EventFault, FilterFault, MessageFault, Refusal, ReplayFault, Result, VersionFault,
-    WireFault,
+    Error, EventFault, FilterFault, JournalFault, MessageFault, OpenFault, Refusal, ReplayFault,
+    Result, VersionFault, WireFault,
 };
 pub use frames::{claim, frame_len};
+pub use kept::{HandedOut, KeptDevice, KeptError, Shown, Storage};
 pub use values::{Change, Claim, Counts, Draft, FrameKind, Held, Message, Received, Version, flag};

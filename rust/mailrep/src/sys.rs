@@ -35,6 +35,27 @@ pub struct Claimed {
     pub author: u32,
 }
 
+/// `mr_act`.
+#[repr(C)]
+#[derive(Clone, Copy, Debug, Default)]
+pub struct Act {
+    pub kind: u32,
+    pub at: u64,
+    pub len: usize,
+}
+
+/// `mr_told`.
+#[repr(C)]
+#[derive(Clone, Copy, Debug, Default)]
+pub struct Told {
+    pub kind: u32,
+    pub number: u64,
+    pub version: Version,
+}
+
+/// The code of a place at which nothing is.
+pub const NOT_THERE: i32 = 6;
+
 /// The code of a text that is none.
 pub const NOT_TEXT: i32 = 4;
 
@@ -42,7 +63,7 @@ pub const NOT_TEXT: i32 = 4;
 pub const TOO_SMALL: i32 = 5;
 
 /// The number of the interface that these declarations are of.
-pub const ABI: u32 = 0x0001_0000;
+pub const ABI: u32 = 0x0001_0001;
 
 #[rustfmt::skip]
 unsafe extern "C" {
@@ -60,6 +81,14 @@ unsafe extern "C" {
     pub safe fn mr_cut_out(device: &mut Device, stream: u64) -> i32;
     pub safe fn mr_vouch(device: &mut Device, version: Version) -> i32;
     pub fn mr_release(device: &mut Device, frame: *const u8, frame_len: usize) -> i32;
+    pub fn mr_kept_begin(device: &mut Device, id: u16, filter: *const u8, filter_len: usize, event_limit: u32, birth: *const u8, birth_len: usize, mark: *const u8, mark_len: usize) -> i32;
+    pub fn mr_kept_open(device: &mut Device, file: *const u8, file_len: usize, mark: *const u8, mark_len: usize, birth: *const u8, birth_len: usize) -> i32;
+    pub safe fn mr_commit(device: &mut Device) -> i32;
+    pub safe fn mr_act_at(device: &mut Device, place: usize, act: &mut Act) -> i32;
+    pub fn mr_act_bytes(device: &mut Device, place: usize, to: *mut u8, room: usize, len: &mut usize) -> i32;
+    pub safe fn mr_settle(device: &mut Device, went_well: u32) -> i32;
+    pub safe fn mr_told_at(device: &mut Device, place: usize, told: &mut Told) -> i32;
+    pub fn mr_told_frame(device: &mut Device, place: usize, to: *mut u8, room: usize, len: &mut usize) -> i32;
     pub fn mr_frame(device: &mut Device, to: *mut u8, room: usize, len: &mut usize) -> i32;
     pub safe fn mr_counts(device: &mut Device, counts: &mut Counts) -> i32;
     pub safe fn mr_head(device: &mut Device, place: usize, head: &mut Held) -> i32;

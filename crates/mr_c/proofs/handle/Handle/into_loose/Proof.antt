@@ -34,7 +34,7 @@ use Rattle.std.proofs.raw_atomic.Walks.{proved_at, leaves}
 use Rattle.mr_c.specs.Held.{held, heap}
 use Rattle.mr_c.proofs.LooseValues.{both, Loose, al, loose_good, loose_in}
 use Rattle.mr_c.proofs.Values.{word, word_typed, fields_told, ptr_typed}
-use Rattle.mr_desk.specs.contracts.desk.Desk as desk
+use Rattle.mr_desk.specs.contracts.device.Device as device
 use Rattle.mr_c.specs.contracts.handle.Handle as handle
 use Rattle.mr_c.specs.contracts.handle.Handle.into_loose.{ended, clauses}
 use Rattle.mr_c.specs.contracts.handle.Handle.into_loose.Key.{name as #self}
@@ -48,14 +48,14 @@ by_size (suc m) none more = more m refl
 pub into_loose_spec : {M : Type 1} → statement M
 into_loose_spec 𝓤 𝓛 𝓜 𝓡 wired =
     let H = 𝓛.H in let 𝓣 = tables 𝓤 H 𝓜 𝓡 𝓡.env in let c = clauses 𝓛 𝓜.mem 𝓡.returns in
-    let R : RattleType = desk.the_row in let Z : RattleType = heap_at.the_row in let LZ = heap_laws.the_row_laws in let Lo : RattleType = Loose R Z LZ ghosts in let Ha : RattleType = handle.the_row in
+    let R : RattleType = device.the_row in let Z : RattleType = heap_at.the_row in let LZ = heap_laws.the_row_laws in let Lo : RattleType = Loose R Z LZ ghosts in let Ha : RattleType = handle.the_row in
     let hs : Stays ended.signature.params ended.kept = (stay_dropped (plain (λ _. Ha)) ended.kept.0, (stay_dropped (plain (λ _. Z)) ended.kept.1.0, tt)) in
     proved_at 𝓛 ended hs c 𝓜 𝓡 (Goes-blank 𝓛 0 (plain (λ _. Ha)) ended.kept.0 (λ κs x f. tt), (Goes-dropped 𝓛 0 (plain (λ _. Z)) ended.kept.1.0 (λ κs x f. refl), tt)) #self code.function (code.unfolded 𝓤 H 𝓜 𝓡 wired) (λ z are.
     let Post : Val → SProp 𝓤 = (walk_of 𝓛 ended hs c).post z in let v = z.0.3.0 in let a = z.0.3.1.0 in let Out : RattleType = type_at ended.signature.result z.0.0 in let told = fields_told v.at v.live z.0.4.0 are.0.0 in
     qed 𝓛 ((raw (alive 𝓛 ended.signature z.0.0 z.0.1) ⊛ ‵ (owns (types_at ended.signature.params z.0.0) z.0.3 z.0.4)) ∷ raw ((c z.0.0 z.0.3).requires z.1) ∷ []) ∵ move ! (1 ∷ []) $ drop ! $ split ! $ move ! (1 ∷ []) $ fsplit ! $ fsplit ! $ drop ! $
     move ! (1 ∷ []) $ fsplit ! $ handle_tells (al R Z LZ ghosts) ! a z.0.4.1.0 (λ h eh fits. move ! (2 ∷ []) $
     by_size v.live
-    (λ none. rewrite ! 0 (λ (k : ℕ). ‵ (held R v.at k v.desk)) none refl $ feq_l ! (λ shut.
+    (λ none. rewrite ! 0 (λ (k : ℕ). ‵ (held R v.at k v.device)) none refl $ feq_l ! (λ shut.
     -- [the heap; true; the tokens]
     regoal ! (λ (us : List Val). prop (WpFn 𝓤 H 𝓣.C 𝓣.Λ code.function us Post)) (λ i. (told.0 ∙ (λ j. word v.at (none j) ∷ [])) i ++ (eh i ++ [])) refl $
     enter ! 𝓣.C 𝓣.Λ code.function (word v.at 0 ∷ h ∷ []) Post $ alloc_all ! (λ l. pass_all ! refl (word_typed v.at 0 (lit< tt), (fits, tt)) $
@@ -63,9 +63,9 @@ into_loose_spec 𝓤 𝓛 𝓜 𝓡 wired =
     sets ! (bin ! (get ! refl) (lit ! tt) tt) refl (tt, tt) $ first ! $ branches ! (get ! refl)
     (λ _. sets ! (agg ! (and_then ! (lit ! tt) (no_more !))) refl (tt, (record { fits = lit< tt }, tt)) $
     returns_within ! Post refl (look_at ! 0 refl) $ free_all ! refl $
-    use0 𝓛 (‵ (Out.own_val None (live 0 vnil ∷ []))) (none_of 𝓛 Lo) $ use0 𝓛 (raw (fact 𝓤 (v.desk ≡ None))) (fact_i 𝓤 (v.desk ≡ None) (emp 𝓤) shut) $ nothing ! $ nothing ! $ fjoin ! $ nothing ! $ fjoin ! $
+    use0 𝓛 (‵ (Out.own_val None (live 0 vnil ∷ []))) (none_of 𝓛 Lo) $ use0 𝓛 (raw (fact 𝓤 (v.device ≡ None))) (fact_i 𝓤 (v.device ≡ None) (emp 𝓤) shut) $ nothing ! $ nothing ! $ fjoin ! $ nothing ! $ fjoin ! $
     keep ! (5 ∷ 0 ∷ 2 ∷ 1 ∷ []) $ by ! (leaves 𝓛 ended hs c z (live 0 vnil) None (tt, (tt, tt)) (tt, (tt, tt)))) (λ wrong. absurd wrong))))
-    (λ m more. rewrite ! 0 (λ (k : ℕ). ‵ (held R v.at k v.desk)) more refl $ fpick ! (λ x. fsplit ! $ feq_l ! (λ is.
+    (λ m more. rewrite ! 0 (λ (k : ℕ). ‵ (held R v.at k v.device)) more refl $ fpick ! (λ x. fsplit ! $ feq_l ! (λ is.
     in_a_block ! v.at (λ p. box_owns (ghosts.dealloc_token heap) R p x) (fst∗ 𝓤 (never 𝓤) (sem 𝓛 (ghosts.dealloc_token heap (bare (lone R.mir)) null_ptr))) (λ b o e.
     let big : suc m < 2 ^ 64 = subst (λ (k : ℕ). k < 2 ^ 64) more told.1 in let w : Val = both (vptr b o) h in let typed = loose_good R Z LZ ghosts b o h fits in let d : Lo.Denot = record { at = block_ptr b o; alloc = a; value = x } in
     let out : Val = live 1 (vcons w vnil) in let good : Good (layout Out) out = (and_tt _ typed.0, (record { fits = lit< tt }, (typed.1, tt))) in
@@ -77,5 +77,5 @@ into_loose_spec 𝓤 𝓛 𝓜 𝓡 wired =
     (λ _. skips ! $ exec ! 𝓣.C 𝓣.Λ Ev code.Mir.t-5 (at_ret Ev Post) $ sets ! (of_opd ! (get ! refl)) refl (tt, tt) $
     sets ! (agg ! (and_then ! (get ! refl) (and_then ! (get ! refl) (no_more !)))) refl typed $ sets ! (agg ! (and_then ! (lit ! tt) (and_then ! (get ! refl) (no_more !)))) refl good $
     loose_in R Z LZ ghosts ! b o h a x $ use1 𝓛 (‵ (Out.own_val (Some d) (out ∷ []))) (Some-of 𝓛 Lo d w) $
-    use0 𝓛 (raw (fact 𝓤 (v.desk ≡ Some d.value))) (fact_i 𝓤 (v.desk ≡ Some d.value) (emp 𝓤) is) $ nothing ! $ nothing ! $ fjoin ! $ nothing ! $ fjoin ! $
+    use0 𝓛 (raw (fact 𝓤 (v.device ≡ Some d.value))) (fact_i 𝓤 (v.device ≡ Some d.value) (emp 𝓤) is) $ nothing ! $ nothing ! $ fjoin ! $ nothing ! $ fjoin ! $
     returns ! (look_at ! 0 refl) $ free_all ! refl $ keep ! (4 ∷ 0 ∷ 2 ∷ 1 ∷ []) $ by ! (leaves 𝓛 ended hs c z out (Some d) (tt, (tt, tt)) (tt, (tt, tt)))))))))))

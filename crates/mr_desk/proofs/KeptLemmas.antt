@@ -1,0 +1,94 @@
+-- events of a replica whose host writes
+use Rattle.std.proofs.Common.{◌≡◌, ◌++◌, ◌∷◌, [], List, None, Result, Ok, Err, refl, subst, sym, true, false, Bool}
+use Rattle.mr_itemset.specs.Normal.{Normal}
+use Rattle.mr_itemset.specs.Sparing.{sparing_form}
+use Rattle.mr_kept.specs.Answered.{Answered, reply_by}
+use Rattle.mr_kept.specs.Kept.{AtOnce, Later, SameJournal, journal_of, leaving}
+use Rattle.mr_kept.specs.declared.fault.KeptFault.{KeptFault}
+use Rattle.mr_kept.specs.declared.fault.KeptFault.TheVariants as kept
+use Rattle.mr_hosted.specs.Hosted.{SameHost, is_settled, journaled_of}
+use Rattle.mr_hosted.specs.declared.fault.HostedFault.{HostedFault}
+use Rattle.mr_hosted.specs.declared.fault.HostedFault.TheVariants as hosted
+use Rattle.mr_hosted.specs.declared.hosted.Hosted.{Hosted}
+use Rattle.mr_replica.specs.State.{State}
+use Rattle.mr_replica.specs.Step.{Steps}
+use Rattle.mr_replica.specs.declared.event.Event.{Event}
+use Rattle.mr_replica.proofs.Replaying.{refused_same}
+use Rattle.mr_replica.specs.declared.event.Reply.{Reply}
+use Rattle.mr_desk.specs.declared.call.Call.{Call}
+use Rattle.mr_desk.specs.Kept.{Gives, KeptAnswers, KeptTells, Refuses, Stays, inside, told_where}
+use Rattle.mr_desk.specs.Asked.{call_fault, IsEventOf}
+use Rattle.mr_desk.specs.Fault.{of_hosted, of_kept}
+use Rattle.mr_desk.specs.KeptCommit.{Committed, KeptCommits, Uncommitted}
+use Rattle.mr_desk.specs.declared.reply.Told.{Told}
+use Rattle.mr_desk.specs.declared.reply.Told.TheVariants as told
+
+module _ {V : Type 0} where
+  -- an event that isn't taken leaves the replica as it was
+  same : (old : Hosted Normal V) (event : Event) (e : KeptFault) (s : State Normal) → Answered sparing_form (journal_of (journaled_of old)) (inside old) event (Err e) s → s ≡ inside old
+  same old event kept.OutOfMemory s is = is
+  same old event (kept.Refused e) s is = refused_same sparing_form (inside old) event e s is.1
+  same old event kept.Failed s is = is.1
+  same old event kept.TooLarge s is = is.1
+
+  refuses : (old : Hosted Normal V) (event : Event) (e : KeptFault) (s : State Normal) → Answered sparing_form (journal_of (journaled_of old)) (inside old) event (Err e) s → Refuses old event e
+  refuses old event kept.OutOfMemory s is = tt
+  refuses old event (kept.Refused e) s is = subst (λ (n : State Normal). Steps sparing_form (inside old) event (Err e) n) (refused_same sparing_form (inside old) event e s is.1) is.1
+  refuses old event kept.Failed s is = is.0
+  refuses old event kept.TooLarge s is = is.0
+
+  -- and with it all else
+  pub untaken : (old new : Hosted Normal V) (event : Event) (e : KeptFault) → Answered sparing_form (journal_of (journaled_of old)) (inside old) event (Err e) (inside new) × (leaving (journaled_of new) ≡ leaving (journaled_of old)) → SameJournal (journaled_of old) (journaled_of new) → SameHost old new → KeptTells old event (Err e) new
+  untaken old new event e is journal host = (refuses old event e (inside new) is.0, record { replica = same old event e (inside new) is.0; held_back = is.1; journal = journal; host = host })
+
+  -- An event whose reply is held back.
+  pub later : (old new : Hosted Normal V) (event : Event) (answer : Result (Unit {0}) KeptFault)
+      → ((reply : Reply) (before after : List Reply) → after ≡ before ++ reply ∷ [] → Gives event reply told.Done before after)
+      → Later sparing_form (journaled_of old) event answer (journaled_of new) → SameJournal (journaled_of old) (journaled_of new) → SameHost old new
+      → KeptTells old event (told_where (λ _. told.Done) answer) new
+  later old new event (Ok done) gives is journal host = record { reply = is.0; step = is.1.1; gives = gives is.0 (leaving (journaled_of old)) (leaving (journaled_of new)) is.2; journal = journal; host = host }
+  later old new event (Err e) gives is journal host = untaken old new event e is journal host
+
+  -- An event that is answered at once.
+  pub at_once : {X : Type 0} → (old new : Hosted Normal V) (event : Event) (reply : X → Reply) (tells : X → Told) (answer : Result X KeptFault)
+      → ((x : X) (before after : List Reply) → after ≡ before → Gives event (reply x) (tells x) before after)
+      → AtOnce sparing_form (journaled_of old) event (reply_by reply answer) (journaled_of new) → SameJournal (journaled_of old) (journaled_of new) → SameHost old new
+      → KeptTells old event (told_where tells answer) new
+  at_once old new event reply tells (Ok x) gives is journal host = record { reply = reply x; step = is.0.1; gives = gives x (leaving (journaled_of old)) (leaving (journaled_of new)) is.1; journal = journal; host = host }
+  at_once old new event reply tells (Err e) gives is journal host = untaken old new event e is journal host
+
+  -- a call whose event isn't taken
+  pub untaken-call : (old new : Hosted Normal V) (call : Call) (event : Event) (e : KeptFault) → (call_fault call ≡ None) × IsEventOf call event → KeptTells old event (Err e) new → KeptAnswers old call (Err (of_kept e)) new
+  untaken-call old new call event kept.OutOfMemory asks is = is.1
+  untaken-call old new call event (kept.Refused e) asks is = ((asks.0, event, asks.1, is.0), is.1)
+  untaken-call old new call event kept.Failed asks is = ((asks.0, event, asks.1, is.0), is.1)
+  untaken-call old new call event kept.TooLarge asks is = ((asks.0, event, asks.1, is.0), is.1)
+
+-- what isn't false is true
+not-false : (b : Bool) → (b ≡ false → ⊥) → b ≡ true
+not-false true isnt = refl
+not-false false isnt = absurd (isnt refl)
+
+-- whether an answer is that the host has acts to do
+abbrev IsUnsettled : Result (Unit {0}) HostedFault → Type 0
+IsUnsettled (Err hosted.Unsettled) = Unit {0}
+IsUnsettled answer = ⊥
+
+-- the answer of this fault
+abbrev pub unkept : HostedFault → Result (Unit {0}) HostedFault
+unkept fault = Err fault
+
+module _ {V : Type 0} where
+  -- a commit that isn't refused so comes of a host that has done all
+  settled-before : (old new : Hosted Normal V) (answer : Result (Unit {0}) HostedFault) → (is_settled old ≡ false → (answer ≡ unkept hosted.Unsettled) × (new ≡ old)) → ¬ IsUnsettled answer → is_settled old ≡ true
+  settled-before old new answer first isnt = not-false (is_settled old) (λ un. isnt (subst IsUnsettled (sym ((first un).0)) tt))
+
+  pub committed : (old new : Hosted Normal V) (answer : Result (Unit {0}) HostedFault) → (is_settled old ≡ false → (answer ≡ unkept hosted.Unsettled) × (new ≡ old)) → answer ≡ Ok tt → Committed old new → KeptCommits old (Ok tt) new
+  committed old new answer first is c = (settled-before old new answer first (λ un. subst IsUnsettled is un), c)
+
+  pub uncommitted : (old new : Hosted Normal V) (fault : HostedFault) → (is_settled old ≡ false → (unkept fault ≡ unkept hosted.Unsettled) × (new ≡ old)) → (fault ≡ hosted.Unsettled → is_settled old ≡ false) → Uncommitted old new → KeptCommits old (Err (of_hosted fault)) new
+  uncommitted old new hosted.Unsettled first only u = (only refl, (first (only refl)).1)
+  uncommitted old new (hosted.Kept kept.OutOfMemory) first only u = (settled-before old new (unkept (hosted.Kept kept.OutOfMemory)) first (λ un. un), u)
+  uncommitted old new (hosted.Kept (kept.Refused e)) first only u = (settled-before old new (unkept (hosted.Kept (kept.Refused e))) first (λ un. un), u)
+  uncommitted old new (hosted.Kept kept.Failed) first only u = (settled-before old new (unkept (hosted.Kept kept.Failed)) first (λ un. un), u)
+  uncommitted old new (hosted.Kept kept.TooLarge) first only u = (settled-before old new (unkept (hosted.Kept kept.TooLarge)) first (λ un. un), u)

@@ -1,0 +1,69 @@
+-- a device, plain or kept: what it shows, and what it does
+use Rattle.std.specs.Prelude.{◌≡◌, ℕ, Bool, true, false, if◌then◌else◌, List, Result, Ok, Err, IsOk}
+use Rattle.std.specs.Borrow.{Bor}
+use Rattle.mr_itemset.specs.Normal.{Normal}
+use Rattle.mr_hosted.specs.Hosted.{Settled, acts_left, handed_out, is_settled, may_show}
+use Rattle.mr_outbox.specs.declared.act.Act.{Act}
+use Rattle.mr_replica.specs.State.{State}
+use Rattle.mr_replica.specs.declared.event.Reply.{Reply}
+use Rattle.mr_desk.specs.Kept.{KeptAnswers, inside}
+use Rattle.mr_desk.specs.KeptCommit.{KeptCommits}
+use Rattle.mr_desk.specs.Serves.{Answers}
+use Rattle.mr_desk.specs.declared.call.Call.{Call}
+use Rattle.mr_desk.specs.declared.device.Device.{Device}
+use Rattle.mr_desk.specs.declared.device.Device.TheVariants.{Plain, Kept, Failed}
+use Rattle.mr_desk.specs.declared.fault.Fault.{Fault}
+use Rattle.mr_desk.specs.declared.fault.Fault.TheVariants as fault
+use Rattle.mr_desk.specs.declared.reply.Told.{Told}
+
+-- what is found behind a loan
+abbrev pub lent : {X E : Type 0} → Result (Bor X) E → Result X E
+lent (Ok found) = Ok found.now
+lent (Err fault) = Err fault
+
+-- the replica, once all that is in it is in the file of a kept device
+abbrev pub shown : Device → Result (State Normal) Fault
+shown (Plain desk) = Ok desk.replica
+shown (Kept h) = if may_show h then Ok (inside h) else Err fault.Unsettled
+shown Failed = Err fault.Failed
+
+-- the frame of a plain device
+abbrev pub frame_of : Device → Result (List ℕ) Fault
+frame_of (Plain desk) = Ok desk.frame
+frame_of (Kept h) = Err fault.OtherDevice
+frame_of Failed = Err fault.Failed
+
+-- what the host of a kept device has to do
+abbrev pub acts_of : Device → Result (List Act) Fault
+acts_of (Plain desk) = Err fault.OtherDevice
+acts_of (Kept h) = Ok (acts_left h)
+acts_of Failed = Err fault.Failed
+
+-- what the last commit of a kept device hands out, once the host has done its acts
+abbrev pub replies_of : Device → Result (List Reply) Fault
+replies_of (Plain desk) = Err fault.OtherDevice
+replies_of (Kept h) = if may_show h then Ok (handed_out h) else Err fault.Unsettled
+replies_of Failed = Err fault.Failed
+
+-- A device answers a call as what it is, and stays that.
+abbrev pub DeviceAnswers : Device → Call → Result Told Fault → Device → Type 0
+DeviceAnswers (Plain s) call answer (Plain n) = Answers s call answer n
+DeviceAnswers (Kept h) call answer (Kept n) = KeptAnswers h call answer n
+DeviceAnswers Failed call answer new = (answer ≡ Err fault.Failed) × (new ≡ Failed)
+DeviceAnswers old call answer new = ⊥
+
+-- A kept device commits. Where there is no memory to note an act, it has failed.
+abbrev pub Commits : Device → Result (Unit {0}) Fault → Device → Type 0
+Commits (Plain s) answer new = (answer ≡ Err fault.OtherDevice) × (new ≡ Plain s)
+Commits (Kept h) (Err fault.Failed) new = (is_settled h ≡ true) × (new ≡ Failed)
+Commits (Kept h) answer (Kept n) = KeptCommits h answer n
+Commits (Kept h) answer new = ⊥
+Commits Failed answer new = (answer ≡ Err fault.Failed) × (new ≡ Failed)
+
+-- The host of a kept device has done all acts, or one of them failed: then so has the device.
+abbrev pub Settles : Device → Bool → Result (Unit {0}) Fault → Device → Type 0
+Settles (Plain s) went_well answer new = (answer ≡ Err fault.OtherDevice) × (new ≡ Plain s)
+Settles (Kept h) true answer (Kept n) = IsOk answer × Settled h n
+Settles (Kept h) true answer new = ⊥
+Settles (Kept h) false answer new = IsOk answer × (new ≡ Failed)
+Settles Failed went_well answer new = (answer ≡ Err fault.Failed) × (new ≡ Failed)

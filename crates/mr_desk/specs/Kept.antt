@@ -1,0 +1,83 @@
+-- what a replica whose host writes does with an event, and with a call
+use Rattle.std.specs.Prelude.{◌≡◌, ◌<◌, ◌++◌, ◌∷◌, [], false, IsTrue, List, length, Option, Some, None, Result, Ok, Err}
+use Rattle.mr_itemset.specs.Normal.{Normal}
+use Rattle.mr_itemset.specs.Sparing.{sparing_form}
+use Rattle.mr_wire.specs.declared.decoding.TheConstants.{MAX_REST_BYTES}
+use Rattle.mr_entry.specs.Spelling.{rest_bytes}
+use Rattle.mr_journal.specs.Journal.{has_failed}
+use Rattle.mr_kept.specs.Kept.{SameJournal, journal_of, leaving, replica_of}
+use Rattle.mr_kept.specs.declared.fault.KeptFault.{KeptFault}
+use Rattle.mr_kept.specs.declared.fault.KeptFault.TheVariants as kept
+use Rattle.mr_hosted.specs.Hosted.{SameHost, journaled_of}
+use Rattle.mr_hosted.specs.declared.hosted.Hosted.{Hosted}
+use Rattle.mr_replica.specs.State.{State}
+use Rattle.mr_replica.specs.Step.{Steps}
+use Rattle.mr_replica.specs.declared.event.Event.{Event}
+use Rattle.mr_replica.specs.declared.event.Event.TheVariants.{Create, Edit, Pull, Next, Vouch}
+use Rattle.mr_replica.specs.declared.event.Reply.{Reply}
+use Rattle.mr_desk.specs.Asked.{call_fault, IsEventOf}
+use Rattle.mr_desk.specs.Told.{told_by}
+use Rattle.mr_desk.specs.declared.call.Call.{Call}
+use Rattle.mr_desk.specs.declared.fault.Fault.{Fault}
+use Rattle.mr_desk.specs.declared.fault.Fault.TheVariants as fault
+use Rattle.mr_desk.specs.declared.reply.Told.{Told}
+use Rattle.mr_desk.specs.declared.reply.Told.TheVariants as told
+
+-- what is told, where the event was admitted
+abbrev pub told_where : {X : Type 0} → (X → Told) → Result X KeptFault → Result Told KeptFault
+told_where tells (Ok x) = Ok (tells x)
+told_where tells (Err e) = Err e
+
+-- A reply that shows a version or gives a frame is held back, behind those that are, and nothing is told. Another is told at once.
+abbrev pub Gives : Event → Reply → Told → (old new : List Reply) → Type 0
+Gives (Create message) reply t old new = (t ≡ told.Done) × (new ≡ old ++ reply ∷ [])
+Gives (Edit bases message) reply t old new = (t ≡ told.Done) × (new ≡ old ++ reply ∷ [])
+Gives Pull reply t old new = (t ≡ told.Done) × (new ≡ old ++ reply ∷ [])
+Gives (Next stream) reply t old new = (t ≡ told.Done) × (new ≡ old ++ reply ∷ [])
+Gives (Vouch version) reply t old new = (t ≡ told.Done) × (new ≡ old ++ reply ∷ [])
+Gives event reply t old new = (t ≡ told_by reply) × (new ≡ old)
+
+-- the call is an event, for which this holds
+abbrev pub Asks : Call → (Event → Type 0) → Type 0
+Asks call Holds = (call_fault call ≡ None) × (event : Event) × IsEventOf call event × Holds event
+
+module _ {V : Type 0} where
+  -- the replica
+  abbrev pub inside : Hosted Normal V → State Normal
+  inside h = replica_of (journaled_of h)
+
+  -- all is as it was: the replica, what is held back and handed out, the file, and what waits and is left to be done
+  pub record Stays (old new : Hosted Normal V) : Type 0 where
+    pub replica : inside new ≡ inside old
+    pub held_back : leaving (journaled_of new) ≡ leaving (journaled_of old)
+    pub journal : SameJournal (journaled_of old) (journaled_of new)
+    pub host : SameHost old new
+
+  -- The replica takes its step, and its reply is held back or told. The file, and what is left to be done, is as it was.
+  pub record Goes (old : Hosted Normal V) (event : Event) (t : Told) (new : Hosted Normal V) : Type 0 where
+    pub reply : Reply
+    pub step : Steps sparing_form (inside old) event (Ok reply) (inside new)
+    pub gives : Gives event reply t (leaving (journaled_of old)) (leaving (journaled_of new))
+    pub journal : SameJournal (journaled_of old) (journaled_of new)
+    pub host : SameHost old new
+
+  -- the replica refuses the event
+  abbrev pub Refuses : Hosted Normal V → Event → KeptFault → Type 0
+  Refuses h event (kept.Refused e) = Steps sparing_form (inside h) event (Err e) (inside h)
+  Refuses h event kept.Failed = IsTrue (has_failed (journal_of (journaled_of h)))
+  Refuses h event kept.TooLarge = (has_failed (journal_of (journaled_of h)) ≡ false) × (MAX_REST_BYTES < length (rest_bytes event))
+  Refuses h event kept.OutOfMemory = Unit {0}
+
+  -- an event is taken, or why it isn't; then all stays
+  abbrev pub KeptTells : Hosted Normal V → Event → Result Told KeptFault → Hosted Normal V → Type 0
+  KeptTells old event (Ok t) new = Goes old event t new
+  KeptTells old event (Err e) new = Refuses old event e × Stays old new
+
+  -- A call is taken where what is handed over is its event. Else, or where the event isn't taken, all stays.
+  abbrev pub KeptAnswers : Hosted Normal V → Call → Result Told Fault → Hosted Normal V → Type 0
+  KeptAnswers old call (Ok t) new = Asks call (λ event. Goes old event t new)
+  KeptAnswers old call (Err (fault.Refused e)) new = Asks call (λ event. Refuses old event (kept.Refused e)) × Stays old new
+  KeptAnswers old call (Err fault.Failed) new = Asks call (λ event. Refuses old event kept.Failed) × Stays old new
+  KeptAnswers old call (Err fault.TooLarge) new = Asks call (λ event. Refuses old event kept.TooLarge) × Stays old new
+  KeptAnswers old call (Err fault.OutOfMemory) new = Stays old new
+  KeptAnswers old call (Err f) new = (call_fault call ≡ Some f) × Stays old new

@@ -1,0 +1,471 @@
+//! A device with a file of its own.
+
+use crate::device::Device;
+use crate::error::{Error, Result, answer};
+use crate::sys;
+use crate::values::{Change, Counts, Draft, Held, Message, Received, Version};
+use std::fs::File;
+use std::io::{self, Read, Seek, SeekFrom};
+use std::{error, fmt};
+
+/// The file of a kept device, which nothing else touches.
+///
+/// Lock it, so that of a file one device is open at a time. What [`Storage::write_at`] and [`Storage::cut`] did may be undone or torn by a
+/// crash until [`Storage::sync`] has returned, and must not be after.
+pub trait Storage {
+    /// All bytes of the file, synced before they are read.
+    ///
+    /// # Errors
+    ///
+    /// As the system says.
+    fn read_all(&mut self) -> io::Result<Vec<u8>>;
+
+    /// Writes all bytes at this place, over what is there and past the end.
+    ///
+    /// # Errors
+    ///
+    /// Where not all of them were written.
+    fn write_at(&mut self, at: u64, bytes: &[u8]) -> io::Result<()>;
+
+    /// Cuts off what is behind this length.
+    ///
+    /// # Errors
+    ///
+    /// As the system says.
+    fn cut(&mut self, len: u64) -> io::Result<()>;
+
+    /// Waits until all that was written and cut is where a crash doesn't undo it.
+    ///
+    /// # Errors
+    ///
+    /// As the system says.
+    fn sync(&mut self) -> io::Result<()>;
+}
+
+impl Storage for File {
+    fn read_all(&mut self) -> io::Result<Vec<u8>> {
+        self.sync_data()?;
+        let mut bytes = Vec::new();
+        self.seek(SeekFrom::Start(0))?;
+        self.read_to_end(&mut bytes)?;
+        Ok(bytes)
+    }
+
+    fn write_at(&mut self, at: u64, bytes: &[u8]) -> io::Result<()> {
+        self.seek(SeekFrom::Start(at))?;
+        io::Write::write_all(self, bytes)
+    }
+
+    fn cut(&mut self, len: u64) -> io::Result<()> {
+        self.set_len(len)
+    }
+
+    fn sync(&mut self) -> io::Result<()> {
+        self.sync_data()
+    }
+}
+
+/// Why a kept device isn't opened, or keeps nothing.
+#[derive(Debug)]
+#[non_exhaustive]
+pub enum KeptError {
+    /// The device says so.
+    Device(Error),
+    /// The file does. Of an open device the next call answers `Failed`: open the file again.
+    File(io::Error),
+}
+
+impl From<Error> for KeptError {
+    fn from(error: Error) -> KeptError {
+        KeptError::Device(error)
+    }
+}
+
+impl From<io::Error> for KeptError {
+    fn from(error: io::Error) -> KeptError {
+        KeptError::File(error)
+    }
+}
+
+impl fmt::Display for KeptError {
+    fn fmt(&self, f: &mut fmt::Formatter<'_>) -> fmt::Result {
+        match self {
+            KeptError::Device(error) => error.fmt(f),
+            KeptError::File(error) => error.fmt(f),
+        }
+    }
+}
+
+impl error::Error for KeptError {
+    fn source(&self) -> Option<&(dyn error::Error + 'static)> {
+        match self {
+            KeptError::Device(error) => Some(error),
+            KeptError::File(error) => Some(error),
+        }
+    }
+}
+
+/// What a commit hands out of an event, which is in the file then.
+#[derive(Clone, Debug, PartialEq, Eq)]
+pub enum HandedOut {
+    /// The version of a create or an edit.
+    Issued(Version),
+    /// Of a pull the number of its session, and the request's frame.
+    Asked(u64, Vec<u8>),
+    /// Of a next the record's frame.
+    Gave(Vec<u8>),
+    /// Of a vouch the receipt's frame.
+    Vouched(Vec<u8>),
+}
+
+/// A device whose file is written before anything that came of its events is shown or handed out.
+///
+/// Killed at any moment, also in the middle of a write, the program finds a file that [`KeptDevice::open`] takes: with all that was
+/// committed before the last commit, and of the last one all or nothing. Once the file has failed, every call answers `Failed`.
+#[derive(Debug)]
+pub struct KeptDevice<F: Storage> {
+    device: Device,
+    file: F,
+}
+
+// What kinds there are of acts, and of what is handed out.
+const WRITE: u32 = 0;
+const CUT: u32 = 1;
+const ISSUED: u32 = 0;
+const ASKED: u32 = 1;
+const GAVE: u32 = 2;
+
+impl<F: Storage> KeptDevice<F> {
+    /// Begins a device in a file that has no byte.
+    ///
+    /// `id`, `filter` and `event_limit` are those of [`Device::open`]. `birth`: random bytes, drawn for this file alone. `mark`: bytes that
+    /// tell where the file is, as of its device and inode, so that a copy and a restored backup, which would give versions again, are
+    /// refused; or zeros, and then they aren't.
+    ///
+    /// # Errors
+    ///
+    /// `Version`, `Filter`, `Replay` for the limit, and what the file says.
+    ///
+    /// # Panics
+    ///
+    /// Where the library is of another interface than this crate.
+    pub fn begin(
+        file: F,
+        id: u16,
+        filter: &str,
+        event_limit: u32,
+        birth: &[u8; 16],
+        mark: &[u8; 32],
+    ) -> std::result::Result<KeptDevice<F>, KeptError> {
+        let mut device = Device::closed();
+        // Safety: the pointers are those of slices of these lengths, and the device is closed.
+        answer(unsafe {
+            sys::mr_kept_begin(
+                &mut device.device,
+                id,
+                filter.as_ptr(),
+                filter.len(),
+                event_limit,
+                birth.as_ptr(),
+                birth.len(),
+                mark.as_ptr(),
+                mark.len(),
+            )
+        })?;
+        let mut begun = KeptDevice { device, file };
+        begun.settle()?;
+        Ok(begun)
+    }
+
+    /// Opens the device of a file. What a crash left behind is cut off, and sessions and streams that were open are closed.
+    ///
+    /// # Errors
+    ///
+    /// `Open(NoReplica)` where a begin was cut off: empty the file and begin again. `Journal` and `Open` where the file is none of a
+    /// device, or of another place or, where a birth is given, of another birth; and what the file says.
+    ///
+    /// # Panics
+    ///
+    /// Where the library is of another interface than this crate.
+    pub fn open(
+        mut file: F,
+        mark: &[u8; 32],
+        birth: Option<&[u8; 16]>,
+    ) -> std::result::Result<KeptDevice<F>, KeptError> {
+        let mut device = Device::closed();
+        let bytes = file.read_all()?;
+        let birth: &[u8] = birth.map_or(&[], |birth| birth);
+        // Safety: the pointers are those of slices of these lengths, and the device is closed.
+        answer(unsafe {
+            sys::mr_kept_open(
+                &mut device.device,
+                bytes.as_ptr(),
+                bytes.len(),
+                mark.as_ptr(),
+                mark.len(),
+                birth.as_ptr(),
+                birth.len(),
+            )
+        })?;
+        let mut opened = KeptDevice { device, file };
+        opened.settle()?;
+        Ok(opened)
+    }
+
+    // Does all acts that are left, in their order, and tells the device how that went.
+    fn settle(&mut self) -> std::result::Result<(), KeptError> {
+        let done = self.do_acts();
+        let well = u32::from(done.is_ok());
+        answer(sys::mr_settle(&mut self.device.device, well))?;
+        done
+    }
+
+    fn do_acts(&mut self) -> std::result::Result<(), KeptError> {
+        for place in 0.. {
+            let mut act = sys::Act::default();
+            match sys::mr_act_at(&mut self.device.device, place, &mut act) {
+                sys::NOT_THERE => break,
+                code => answer(code)?,
+            }
+            match act.kind {
+                WRITE => {
+                    let bytes = self.act_bytes(place)?;
+                    self.file.write_at(act.at, &bytes)?;
+                }
+                CUT => self.file.cut(act.at)?,
+                _ => self.file.sync()?,
+            }
+        }
+        Ok(())
+    }
+
+    fn act_bytes(&mut self, place: usize) -> Result<Vec<u8>> {
+        // Safety: `filled` hands over a buffer of its own, and the room that it has.
+        self.device.filled(|device, to, room, len| unsafe {
+            sys::mr_act_bytes(device, place, to, room, len)
+        })
+    }
+
+    /// Has the file take all events that wait, and hands out what was held back, in the order of the events.
+    ///
+    /// # Errors
+    ///
+    /// `TooLarge` or `OutOfMemory`: what waits waits still. `Failed` where the file failed before or there was no memory to note what is
+    /// to be done to it; or what the file says.
+    pub fn commit(&mut self) -> std::result::Result<Vec<HandedOut>, KeptError> {
+        answer(sys::mr_commit(&mut self.device.device))?;
+        self.settle()?;
+        Ok(self.handed_out()?)
+    }
+
+    /// What the last commit handed out, once more: for who found no memory to take it. `Unsettled` behind the next event.
+    ///
+    /// # Errors
+    ///
+    /// `Unsettled`, `Failed` or `OutOfMemory`.
+    pub fn handed_out(&mut self) -> Result<Vec<HandedOut>> {
+        let mut all = Vec::new();
+        for place in 0.. {
+            let mut told = sys::Told::default();
+            match sys::mr_told_at(&mut self.device.device, place, &mut told) {
+                sys::NOT_THERE => break,
+                code => answer(code)?,
+            }
+            all.push(match told.kind {
+                ISSUED => HandedOut::Issued(told.version),
+                ASKED => HandedOut::Asked(told.number, self.frame(place)?),
+                GAVE => HandedOut::Gave(self.frame(place)?),
+                _ => HandedOut::Vouched(self.frame(place)?),
+            });
+        }
+        Ok(all)
+    }
+
+    fn frame(&mut self, place: usize) -> Result<Vec<u8>> {
+        // Safety: `filled` hands over a buffer of its own, and the room that it has.
+        self.device.filled(|device, to, room, len| unsafe {
+            sys::mr_told_frame(device, place, to, room, len)
+        })
+    }
+
+    /// What the device has, which is all in its file.
+    ///
+    /// # Errors
+    ///
+    /// `Unsettled` while an event waits for a commit; `Failed`.
+    pub fn shown(&mut self) -> Result<Shown<'_>> {
+        let mut counts = Counts::default();
+        answer(sys::mr_counts(&mut self.device.device, &mut counts))?;
+        Ok(Shown {
+            device: &mut self.device,
+        })
+    }
+
+    /// Writes a message, whose version the next commit hands out.
+    ///
+    /// # Errors
+    ///
+    /// As [`Device::create`]; `TooLarge`, `Failed`. So too for the events below.
+    pub fn create(&mut self, draft: &Draft<'_>) -> Result<()> {
+        self.device.create(draft).map(|_| ())
+    }
+
+    /// Puts a message in the place of held versions of one item; the next commit hands out its version.
+    ///
+    /// # Errors
+    ///
+    /// As [`Device::edit`].
+    pub fn edit(&mut self, bases: &[Version], draft: &Draft<'_>) -> Result<()> {
+        self.device.edit(bases, draft).map(|_| ())
+    }
+
+    /// Writes, asks and takes nothing more; it still answers.
+    ///
+    /// # Errors
+    ///
+    /// As [`Device::retire`].
+    pub fn retire(&mut self) -> Result<()> {
+        self.device.retire()
+    }
+
+    /// Asks for what the device lacks. The next commit hands out the session and the request.
+    ///
+    /// # Errors
+    ///
+    /// As [`Device::pull`].
+    pub fn pull(&mut self) -> Result<()> {
+        self.device.ask().map(|_| ())
+    }
+
+    /// Opens a stream for a request, and gives its number.
+    ///
+    /// # Errors
+    ///
+    /// As [`Device::answer`].
+    pub fn answer(&mut self, frame: &[u8]) -> Result<u64> {
+        self.device.answer(frame)
+    }
+
+    /// Has the stream give its next record, which the next commit hands out.
+    ///
+    /// # Errors
+    ///
+    /// As [`Device::next`].
+    pub fn next(&mut self, stream: u64) -> Result<()> {
+        answer(sys::mr_next(&mut self.device.device, stream))
+    }
+
+    /// Takes a record.
+    ///
+    /// # Errors
+    ///
+    /// As [`Device::receive`].
+    pub fn receive(&mut self, frame: &[u8]) -> Result<Received> {
+        self.device.receive(frame)
+    }
+
+    /// Gives up a session; what it took stays.
+    ///
+    /// # Errors
+    ///
+    /// As [`Device::cut_in`].
+    pub fn cut_in(&mut self, session: u64) -> Result<()> {
+        self.device.cut_in(session)
+    }
+
+    /// Gives up a stream.
+    ///
+    /// # Errors
+    ///
+    /// As [`Device::cut_out`].
+    pub fn cut_out(&mut self, stream: u64) -> Result<()> {
+        self.device.cut_out(stream)
+    }
+
+    /// Gives a receipt for a head, which the next commit hands out.
+    ///
+    /// # Errors
+    ///
+    /// As [`Device::vouch`].
+    pub fn vouch(&mut self, version: Version) -> Result<()> {
+        answer(sys::mr_vouch(&mut self.device.device, version))
+    }
+
+    /// Lets go of the push-outs that a receipt frees.
+    ///
+    /// # Errors
+    ///
+    /// As [`Device::release`].
+    pub fn release(&mut self, frame: &[u8]) -> Result<()> {
+        self.device.release(frame)
+    }
+}
+
+/// What a kept device has. While it is there no event happens.
+#[derive(Debug)]
+pub struct Shown<'a> {
+    device: &'a mut Device,
+}
+
+impl Shown<'_> {
+    /// As [`Device::counts`].
+    pub fn counts(&mut self) -> Counts {
+        self.device.counts()
+    }
+
+    /// As [`Device::heads`].
+    pub fn heads(&mut self) -> impl Iterator<Item = Held> + '_ {
+        self.device.heads()
+    }
+
+    /// As [`Device::push_outs`].
+    pub fn push_outs(&mut self) -> impl Iterator<Item = Held> + '_ {
+        self.device.push_outs()
+    }
+
+    /// As [`Device::changes_since`].
+    pub fn changes_since(&mut self, seen: usize) -> impl Iterator<Item = Change> + '_ {
+        self.device.changes_since(seen)
+    }
+
+    /// As [`Device::message`].
+    ///
+    /// # Errors
+    ///
+    /// `Version`, then `NotThere`.
+    pub fn message(&mut self, version: Version) -> Result<Message> {
+        self.device.message(version)
+    }
+
+    /// As [`Device::knows`].
+    ///
+    /// # Errors
+    ///
+    /// `Version`.
+    pub fn knows(&mut self, item: Version, version: Version) -> Result<bool> {
+        self.device.knows(item, version)
+    }
+
+    /// As [`Device::is_retired`].
+    pub fn is_retired(&mut self) -> bool {
+        self.device.is_retired()
+    }
+
+    /// As [`Device::sessions`].
+    ///
+    /// # Errors
+    ///
+    /// `OutOfMemory` alone.
+    pub fn sessions(&mut self) -> Result<Vec<u64>> {
+        self.device.sessions()
+    }
+
+    /// As [`Device::streams`].
+    ///
+    /// # Errors
+    ///
+    /// `OutOfMemory` alone.
+    pub fn streams(&mut self) -> Result<Vec<u64>> {
+        self.device.streams()
+    }
+}
