@@ -1,157 +1,265 @@
-//! A device: a replica, and what it sends and takes.
+//! A device: a replica that is kept in a file, and what it sends and takes.
 use crate::fault::Fault;
-use crate::log::{events_of, log_bytes};
+use crate::hello::{met_in, note_of};
 use crate::mail::Draft;
+use crate::place::{birth, mark_of, setup_of};
 use crate::wire::Wire;
+use mr_entry::Birth;
 use mr_feed::Entry;
 use mr_filter::Filter;
 use mr_itemset::SparingKnowledge;
-use mr_replica::{Bases, Received, Refusal, Replica, Revision, alike_are_one};
+use mr_journal::DiskFile;
+use mr_kept::{Journaled, KeptFault};
+use mr_mail::Message;
+use mr_replica::{Bases, Received, Replica, Reply, Revision};
 use mr_version::{Author, Version};
 use mr_wire::{Ask, Frame, Receipt, encode_ask, encode_receipt, encode_record};
 use std::alloc::Global;
+use std::fs::File;
+use std::rt::Files;
 
-/// How many events a device's log takes.
-const EVENT_LIMIT: u32 = 1_000;
+/// How many records a device gives at a time, and about how many bytes: what it keeps by one commit.
+const BATCH_RECORDS: u32 = 4;
 
-/// One device with its replica. Each method that changes it is one event of the replica, with the bytes that it takes or gives.
+const BATCH_BYTES: u64 = 65_536;
+
+/// A replica with its journal in a file.
+pub type Kept = Journaled<SparingKnowledge, DiskFile>;
+
+/// One device with its replica. Each method that changes it is an event of the replica or a few, and what it hands out it
+/// hands out behind a commit.
 #[derive(Drop)]
 pub struct Device {
     alloc: Global,
-    replica: Replica<SparingKnowledge>,
+    kept: Kept,
+    /// Whom it has met, as the notes of its journal tell.
+    met: Vec<(Author, Birth)>,
 }
 
 impl Device {
-    /// A device with no mail. No other device may ever have its id, 0 to 63; it keeps what the filter selects.
+    /// Makes a device with no mail, whose journal is a new file of this path. No other device may ever have its id, 0 to 63; it keeps
+    /// what the filter selects.
     ///
-    /// `Version` where there is no such id, `Filter` where the text is none or there is no memory for it.
-    pub fn new(alloc: Global, id: u16, filter: &str) -> Result<Device, Fault> {
+    /// `Version` where there is no such id, `Filter` where the text is none, `File` or `Open` where the file is refused.
+    pub fn begin<R: Files<File = File> + AllocGlobal>(
+        rt: &R,
+        path: &str,
+        id: u16,
+        filter: &str,
+    ) -> Result<Device, Fault> {
+        let alloc = rt.alloc();
         let id = Author::try_new(id)?;
         let filter = Filter::read(alloc, filter)?;
-        let replica = Replica::try_new(alloc, id, filter, EVENT_LIMIT)?;
-        Ok(Device { alloc, replica })
+        let birth = birth(rt)?;
+        let file = DiskFile::open(rt, path)?;
+        let setup = setup_of(id, filter, birth, mark_of(&file)?);
+        match Kept::begin(alloc, file, setup) {
+            Ok(kept) => Ok(Device {
+                alloc,
+                kept,
+                met: Vec::new(alloc),
+            }),
+            Err((fault, _file)) => Err(Fault::Open(fault.number())),
+        }
     }
 
-    /// A device of this id and filter that takes all events of this one's log, one after the other: what a program
-    /// does that keeps its log on disk and is started anew. The log goes over bytes, of which the events are read again.
+    /// Opens the device again, from its file. What was open is closed.
     ///
-    /// `Event` where the bytes go wrong; `Replay` at the first event that it refuses, or for which there is no memory.
-    /// Where it comes to the end its log is just these events. With the id and the filter that were given here, the new
-    /// device is equal to this one, by a law; `stdout` compares the two all the same.
-    pub fn from_its_log(&self, id: u16, filter: &str) -> Result<Device, Fault> {
-        let alloc = self.alloc;
-        let id = Author::try_new(id)?;
-        let filter = Filter::read(alloc, filter)?;
-        let bytes = log_bytes(alloc, self.replica.log())?;
-        let log = events_of(alloc, &bytes)?;
-        let replica = Replica::replay(alloc, id, filter, EVENT_LIMIT, log)?;
-        // One log, with its id, filter and limit, has one replica; and these two answer alike from here on.
-        alike_are_one(&self.replica, &replica);
-        Ok(Device { alloc, replica })
+    /// `File` where the file can't be opened, or another process has it open; `Open` where it is no journal of a replica, or was copied.
+    pub fn open<R: Files<File = File> + AllocGlobal>(rt: &R, path: &str) -> Result<Device, Fault> {
+        let alloc = rt.alloc();
+        let file = DiskFile::open(rt, path)?;
+        let mark = mark_of(&file)?;
+        match Kept::open(alloc, file, &mark, None) {
+            Ok((kept, opened)) => {
+                let met = met_in(alloc, &opened.notes)?;
+                Ok(Device { alloc, kept, met })
+            }
+            Err((fault, _file)) => Err(Fault::Open(fault.number())),
+        }
     }
 
-    /// A device that has what this one has. It must not go on beside this one: both would give one version to two
-    /// messages.
-    pub fn copy(&self) -> Result<Device, Fault> {
-        Ok(Device {
-            alloc: self.alloc,
-            replica: self.replica.copy()?,
-        })
+    /// The replica, to be looked at.
+    pub fn replica(&self) -> &Replica<SparingKnowledge> {
+        self.kept.replica()
+    }
+
+    /// The replica with its journal, to be looked at.
+    pub fn kept(&self) -> &Kept {
+        &self.kept
+    }
+
+    /// Whom it has met: the id and the birth of each.
+    pub fn met(&self) -> &[(Author, Birth)] {
+        self.met.as_slice()
+    }
+
+    /// Keeps that it has met this one.
+    pub fn meet(&mut self, id: Author, birth: Birth) -> Result<(), Fault> {
+        self.kept.note(note_of(self.alloc, id, &birth)?)?;
+        self.kept.commit()?;
+        self.met.push((id, birth))?;
+        Ok(())
+    }
+
+    /// When its journal was begun: random bytes.
+    pub fn birth(&self) -> Birth {
+        self.kept.birth()
     }
 
     /// Writes a message. The version names it on all devices, for ever.
     pub fn write(&mut self, draft: &Draft<'_>) -> Result<Version, Fault> {
         let message = draft.message(self.alloc)?;
-        Ok(self.replica.create(message)?)
+        self.kept.create(message)?;
+        issued(&self.kept.commit()?)
     }
 
-    /// Puts a new version of a message in the place of the old one. It works offline: other devices hear of
+    /// Puts a new version of a message in the place of those that it is made from. It works offline: other devices hear of
     /// it at their next sync, and show a conflict where somebody else edited the same version.
-    pub fn edit(&mut self, base: Version, draft: &Draft<'_>) -> Result<Version, Fault> {
-        let message = draft.message(self.alloc)?;
-        let bases = Bases::new(vec![in self.alloc; base]?);
-        Ok(self.replica.edit(bases, message)?)
+    pub fn edit(&mut self, bases: Vec<Version>, message: Message) -> Result<Version, Fault> {
+        self.kept.edit(Bases::new(bases), message)?;
+        issued(&self.kept.commit()?)
     }
 
     /// Asks for what this device lacks, and gives the number of the session that waits for the answer.
     pub fn ask(&mut self, wire: &mut Wire) -> Result<u64, Fault> {
-        let ask = self.replica.pull()?;
-        wire.send(&encode_ask(self.alloc, &ask)?)?;
+        self.kept.pull()?;
+        let replies = self.kept.commit()?;
+        let ask = asked(&replies)?;
+        let bytes = encode_ask(self.alloc, ask)?;
+        self.kept
+            .send(wire.way(), &bytes)
+            .map_err(|_| Fault::Sending)?;
         Ok(ask.session())
     }
 
     /// Opens a stream for whoever asked, and gives its number.
     pub fn answer(&mut self, wire: &mut Wire) -> Result<u64, Fault> {
         wire.deliver()?;
-        let ask = asked(wire.next_frame()?)?;
-        Ok(self.replica.answer(ask)?)
+        let ask = request(wire.next_frame()?)?;
+        answered(self.kept.answer(ask))
     }
 
-    /// Sends the next record of the stream.
-    pub fn give(&mut self, stream: u64, wire: &mut Wire) -> Result<(), Fault> {
-        let record = self.replica.next(stream)?;
-        wire.send(&encode_record(self.alloc, &record)?)
+    /// Sends the next records of the stream, once it is kept that they were given. It tells whether they were the last.
+    pub fn give(&mut self, stream: u64, wire: &mut Wire) -> Result<bool, Fault> {
+        let is_over = self.kept.tell(stream, BATCH_RECORDS, BATCH_BYTES)?;
+        let replies = self.kept.commit()?;
+        for reply in &replies {
+            if let Reply::Gave(record) = reply {
+                let bytes = encode_record(self.alloc, record)?;
+                self.kept
+                    .send(wire.way(), &bytes)
+                    .map_err(|_| Fault::Sending)?;
+            }
+        }
+        Ok(is_over)
     }
 
-    /// Takes the record that came: `Finished` at the last one.
-    pub fn take(&mut self, wire: &mut Wire) -> Result<Received, Fault> {
-        wire.deliver()?;
-        let frame = wire.next_frame()?;
-        Ok(self.replica.receive(frame)?)
+    /// Takes the next record that came, if one is whole.
+    pub fn take(&mut self, wire: &mut Wire) -> Result<Option<Received>, Fault> {
+        match wire.next()? {
+            Some(frame) => Ok(Some(answered(self.kept.receive(frame))?)),
+            None => Ok(None),
+        }
+    }
+
+    /// Keeps what was taken.
+    pub fn keep(&mut self) -> Result<(), Fault> {
+        self.kept.commit()?;
+        Ok(())
     }
 
     /// Gives up a session whose connection is gone. What it took stays, and isn't told again.
     pub fn cut_in(&mut self, session: u64) -> Result<(), Fault> {
-        Ok(self.replica.cut_in(session)?)
+        answered(self.kept.cut_in(session))?;
+        self.keep()
     }
 
     /// Gives up a stream whose connection is gone. A device has eight at a time, so it has to be let go.
     pub fn cut_out(&mut self, stream: u64) -> Result<(), Fault> {
-        Ok(self.replica.cut_out(stream)?)
+        answered(self.kept.cut_out(stream))?;
+        self.keep()
     }
 
     /// Gives its word for a message that it holds, so that the one who wrote it may let go of it.
     pub fn vouch(&mut self, version: Version, wire: &mut Wire) -> Result<(), Fault> {
-        let receipt = self.replica.vouch(version)?;
-        wire.send(&encode_receipt(self.alloc, &receipt)?)
+        self.kept.vouch(version)?;
+        let replies = self.kept.commit()?;
+        let bytes = encode_receipt(self.alloc, vouched(&replies)?)?;
+        self.kept
+            .send(wire.way(), &bytes)
+            .map_err(|_| Fault::Sending)
     }
 
     /// Lets go of what another device has given its word for.
     pub fn release(&mut self, wire: &mut Wire) -> Result<(), Fault> {
         wire.deliver()?;
-        let receipt = vouched(wire.next_frame()?)?;
-        Ok(self.replica.release(receipt)?)
+        let receipt = receipt(wire.next_frame()?)?;
+        answered(self.kept.release(receipt))?;
+        self.keep()
     }
 
     /// Writes, asks and takes nothing more. It is refused while the device keeps messages for others only, and it
     /// is **not** refused while the device is the only one that has a message of its own: see `lacks_any_of`.
-    pub fn retire(&mut self) -> Result<(), Refusal> {
-        self.replica.retire()
+    pub fn retire(&mut self) -> Result<(), KeptFault> {
+        self.kept.retire()?;
+        self.kept.commit()?;
+        Ok(())
     }
 
     /// Whether the other device has a message that this one doesn't know. What this one knows and its filter selects it
     /// holds, unless it knows of a newer version in its place; so a device whose filter is `all` and that lacks nothing
     /// of another has all mail of that one.
     pub fn lacks_any_of(&self, other: &Device) -> bool {
-        other
-            .heads()
-            .iter()
-            .any(|head| !self.replica.knows(head.item(), head.version()))
+        other.heads().iter().any(|head| !self.kept.replica().knows(head.item(), head.version()))
     }
 
     /// The messages of this device, in version order.
     pub fn heads(&self) -> &[Revision] {
-        self.replica.heads()
+        self.kept.replica().heads()
     }
 
     /// What entered and left, from the first on. It only grows.
     pub fn feed(&self) -> &[Entry] {
-        self.replica.feed()
+        self.kept.replica().feed()
+    }
+}
+
+/// What was answered. (A refusal is named here, in a function that owns nothing else: the checker needs it so.)
+fn answered<T: Drop>(answer: Result<T, KeptFault>) -> Result<T, Fault> {
+    match answer {
+        Ok(answer) => Ok(answer),
+        Err(KeptFault::Refused(refusal)) => Err(Fault::from(refusal)),
+        Err(fault) => Err(Fault::from(fault)),
+    }
+}
+
+/// The version that was issued.
+fn issued(replies: &[Reply]) -> Result<Version, Fault> {
+    match replies {
+        [Reply::Issued(version)] => Ok(*version),
+        _ => Err(Fault::OtherReply),
+    }
+}
+
+/// The request that a Pull made.
+fn asked(replies: &[Reply]) -> Result<&Ask, Fault> {
+    match replies {
+        [Reply::Asked(ask)] => Ok(ask),
+        _ => Err(Fault::OtherReply),
+    }
+}
+
+/// The receipt that was given.
+fn vouched(replies: &[Reply]) -> Result<&Receipt, Fault> {
+    match replies {
+        [Reply::Vouched(receipt)] => Ok(receipt),
+        _ => Err(Fault::OtherReply),
     }
 }
 
 /// The request in the frame.
-fn asked(frame: Frame) -> Result<Ask, Fault> {
+fn request(frame: Frame) -> Result<Ask, Fault> {
     match frame {
         Frame::Ask(ask) => Ok(ask),
         _ => Err(Fault::OtherFrame),
@@ -159,7 +267,7 @@ fn asked(frame: Frame) -> Result<Ask, Fault> {
 }
 
 /// The receipt in the frame.
-fn vouched(frame: Frame) -> Result<Receipt, Fault> {
+fn receipt(frame: Frame) -> Result<Receipt, Fault> {
     match frame {
         Frame::Receipt(receipt) => Ok(receipt),
         _ => Err(Fault::OtherFrame),

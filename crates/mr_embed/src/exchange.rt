@@ -2,11 +2,10 @@
 use crate::device::Device;
 use crate::fault::Fault;
 use crate::wire::Wire;
-use mr_replica::Received;
 use std::alloc::Global;
 
-/// The most records that a stream of the story has.
-const MAX_RECORDS: u32 = 100;
+/// The most batches, and the most records of a batch, that a stream of the story has.
+const MANY: u32 = 100;
 
 /// A stream of records on its way from a source to a target.
 #[derive(Drop)]
@@ -36,42 +35,46 @@ impl Exchange {
         })
     }
 
-    /// One record goes from the source to the target.
-    fn pass(&mut self, target: &mut Device, source: &mut Device) -> Result<Received, Fault> {
-        source.give(self.stream, &mut self.wire)?;
-        target.take(&mut self.wire)
+    /// Records go until the last one, batch by batch, and it tells how many they were. The exchange is over.
+    pub fn finish(mut self, target: &mut Device, source: &mut Device) -> Result<u32, Fault> {
+        let mut records = 0u32;
+        for _ in 0..MANY {
+            let is_over = source.give(self.stream, &mut self.wire)?;
+            self.wire.deliver()?;
+            records = records.saturating_add(self.take_all(target)?);
+            if is_over {
+                return Ok(records);
+            }
+        }
+        Err(Fault::NoEnd)
     }
 
-    /// Records go until the last one, and it tells how many they were. The exchange is over.
-    pub fn finish(mut self, target: &mut Device, source: &mut Device) -> Result<u32, Fault> {
-        for count in 1..=MAX_RECORDS {
-            if self.pass(target, source)? == Received::Finished {
+    /// The target takes each record that came whole, keeps them all at once, and tells how many they were.
+    fn take_all(&mut self, target: &mut Device) -> Result<u32, Fault> {
+        for count in 0..MANY {
+            if target.take(&mut self.wire)?.is_none() {
+                target.keep()?;
                 return Ok(count);
             }
         }
         Err(Fault::NoEnd)
     }
 
-    /// So many records go, and the connection breaks within the next. The exchange is over.
-    pub fn break_off_after(
-        mut self,
-        records: u32,
-        target: &mut Device,
-        source: &mut Device,
-    ) -> Result<(), Fault> {
-        for _ in 0..records {
-            self.pass(target, source)?;
-        }
-        self.break_off(target, source)
-    }
-
-    /// The connection breaks within a record, and both sides give up.
+    /// A batch goes, and the connection breaks after so many bytes of it. What came whole is taken, and both sides give up. The
+    /// exchange is over, and it tells how many records were taken.
     ///
     /// A part of a record is never taken. To go on, begin anew: the new request tells what was taken.
-    fn break_off(&mut self, target: &mut Device, source: &mut Device) -> Result<(), Fault> {
+    pub fn break_off_after(
+        mut self,
+        bytes: usize,
+        target: &mut Device,
+        source: &mut Device,
+    ) -> Result<u32, Fault> {
         source.give(self.stream, &mut self.wire)?;
-        self.wire.lose_all_but_a_piece()?;
+        self.wire.lose_all_after(bytes)?;
+        let records = self.take_all(target)?;
         target.cut_in(self.session)?;
-        source.cut_out(self.stream)
+        source.cut_out(self.stream)?;
+        Ok(records)
     }
 }

@@ -1,9 +1,12 @@
 //! What can go wrong in this program.
-use mr_entry::event::EventFault;
 use mr_filter::FilterFault;
+use mr_forms::FormFault;
 use mr_frames::FrameFault;
+use mr_journal::FileFault;
+use mr_kept::{KeptFault, PeerFault};
 use mr_mail::{DayFault, MessageFault};
-use mr_replica::{Refusal, ReplayFault, ReplicaFault};
+use mr_maildir::MergeFault;
+use mr_replica::Refusal;
 use mr_version::VersionFault;
 use mr_wire::WireFault;
 use std::alloc::AllocError;
@@ -31,24 +34,48 @@ pub enum Fault {
     /// A text is no day.
     #[error(transparent)]
     Day(#[from] DayFault),
-    /// There is no replica with this event limit.
-    #[error(transparent)]
-    Replica(#[from] ReplicaFault),
+    /// A file can't be opened: the number of the fault, as `FileFault::number` gives it.
+    #[error("a journal's file can't be opened, for reason {0}")]
+    File(u8),
+    /// A journal isn't begun or opened: the number of the fault, as `OpenFault::number` gives it.
+    #[error("a journal isn't opened, for reason {0}")]
+    Open(u8),
+    /// An event isn't kept: the number of the fault, as `KeptFault::number` gives it. Open the journal again.
+    #[error("a journal isn't written, for reason {0}")]
+    Kept(u8),
     /// A replica refused an event, and has not changed: the number of its refusal, as `Refusal::number` gives it.
     #[error("a replica refused, for reason {0}")]
     Refused(u8),
-    /// A log can't be replayed: the number of the fault, as `ReplayFault::number` gives it.
-    #[error("a log can't be replayed, for reason {0}")]
-    Replay(u8),
+    /// Nothing may be sent to the other device, or taken of it.
+    #[error(transparent)]
+    Peer(#[from] PeerFault),
+    /// What is known can't be told.
+    #[error(transparent)]
+    Known(#[from] FormFault),
+    /// The heads of a message don't become one.
+    #[error(transparent)]
+    Merge(#[from] MergeFault),
+    /// A message to be merged has no head.
+    #[error("a message has no head")]
+    NoHead,
+    /// The system gave no random bytes, or no inode.
+    #[error("the system tells nothing")]
+    Random,
+    /// A file can't be copied.
+    #[error("a file can't be copied")]
+    Copy,
+    /// A connection takes no more bytes.
+    #[error("a connection takes no more")]
+    Sending,
+    /// An event was answered in another way than such an event is.
+    #[error("an event had another answer")]
+    OtherReply,
     /// A frame is too long to be spelled.
     #[error(transparent)]
     Wire(#[from] WireFault),
     /// The bytes of a wire spell no frame.
     #[error(transparent)]
     Frame(#[from] FrameFault),
-    /// An event of a log is too long to be spelled, or the bytes of a log spell no event.
-    #[error(transparent)]
-    Event(#[from] EventFault),
     /// A whole frame was waited for, and its last byte didn't come.
     #[error("a wire ended before a frame")]
     NoFrame,
@@ -66,7 +93,7 @@ pub enum Fault {
     Print,
 }
 
-// The next two are written by hand. With a whole `Refusal` in a fault, which may hold a version, the checker has no proof
+// The next are written by hand. With a whole `Refusal` in a fault, which may hold a version, the checker has no proof
 // for functions that pass a fault on and lend two parts of `self`.
 impl From<Refusal> for Fault {
     fn from(refusal: Refusal) -> Fault {
@@ -77,8 +104,18 @@ impl From<Refusal> for Fault {
     }
 }
 
-impl From<ReplayFault> for Fault {
-    fn from(fault: ReplayFault) -> Fault {
-        Fault::Replay(fault.number())
+impl From<KeptFault> for Fault {
+    fn from(fault: KeptFault) -> Fault {
+        match fault {
+            KeptFault::OutOfMemory => Fault::OutOfMemory(AllocError),
+            KeptFault::Refused(refusal) => Fault::from(refusal),
+            _ => Fault::Kept(fault.number()),
+        }
+    }
+}
+
+impl From<FileFault> for Fault {
+    fn from(fault: FileFault) -> Fault {
+        Fault::File(fault.number())
     }
 }

@@ -6,6 +6,7 @@ use mr_frames::{
     whole_frames_are_given,
 };
 use mr_itemset::one_normal_form;
+use mr_journal::{bytes_stand_for_one_list, no_journal_is_refused};
 use mr_wire::{no_spelling_begins_another, one_spelling};
 
 /// Laws of the libraries. Each is a function that does nothing, and its contract is a theorem about any calls: to call
@@ -19,9 +20,14 @@ pub fn cite_laws() {
     // No frame can be taken for another.
     no_spelling_begins_another();
     one_spelling();
-    // No event of a log can be taken for another.
+    // No event of a log can be taken for another, and no entry of a journal.
     event::no_spelling_begins_another();
     event::one_spelling();
+    mr_entry::no_spelling_begins_another();
+    mr_entry::one_spelling();
+    // A file stands for one list of entries, and none that a journal left is refused.
+    bytes_stand_for_one_list();
+    no_journal_is_refused();
     // Of each knowledge there is one text, so that it can be compared.
     one_normal_form();
     // What a port gave, and what waits in it, is what was offered.

@@ -1,6 +1,6 @@
 //! The messages of the story.
 use crate::fault::Fault;
-use mr_mail::{Day, Flag, Message};
+use mr_mail::{Day, Flag, Message, Place};
 use std::alloc::Global;
 
 /// What a message says, and where it belongs.
@@ -8,7 +8,7 @@ use std::alloc::Global;
 pub struct Draft<'a> {
     pub subject: &'a str,
     pub label: &'a str,
-    pub is_seen: bool,
+    pub flags: u8,
 }
 
 impl<'a> Draft<'a> {
@@ -17,14 +17,22 @@ impl<'a> Draft<'a> {
         Draft {
             subject,
             label,
-            is_seen: false,
+            flags: 0,
         }
     }
 
     /// The same message, now seen.
     pub fn seen(self) -> Draft<'a> {
         Draft {
-            is_seen: true,
+            flags: self.flags | Flag::Seen.bit(),
+            ..self
+        }
+    }
+
+    /// The same message, now flagged.
+    pub fn flagged(self) -> Draft<'a> {
+        Draft {
+            flags: self.flags | Flag::Flagged.bit(),
             ..self
         }
     }
@@ -42,8 +50,18 @@ impl<'a> Draft<'a> {
         let subject = String::from_str(alloc, self.subject)?;
         let body = String::from_str(alloc, "See you there.")?.into_bytes();
         let labels = vec![in alloc; String::from_str(alloc, self.label)?]?;
-        let flags = if self.is_seen { Flag::Seen.bit() } else { 0 };
         let day = Day::read("2026-01-05")?;
-        Ok(Message::try_new(alloc, from, subject, body, labels, flags, day)?)
+        Ok(Message::try_new(alloc, from, subject, body, labels, self.flags, day)?)
     }
+}
+
+/// The same message at another place: with other labels and flags.
+pub fn with_place(alloc: Global, message: &Message, place: Place) -> Result<Message, Fault> {
+    Ok(Message::try_of_place(
+        alloc,
+        message.from(),
+        message.subject(),
+        message.body(),
+        place,
+    )?)
 }

@@ -29,6 +29,6 @@ pub fn hand_over(
 pub fn tell_whether_it_retires<R: Print>(rt: &R, phone: &mut Device) -> Result<(), Fault> {
     match phone.retire() {
         Ok(()) => tell_retired(rt),
-        Err(refusal) => tell_refusal(rt, refusal),
+        Err(fault) => tell_refusal(rt, fault),
     }
 }

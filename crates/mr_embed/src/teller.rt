@@ -3,7 +3,8 @@ use crate::device::Device;
 use crate::fault::Fault;
 use crate::mail::Draft;
 use crate::screen::Screen;
-use mr_replica::{Refusal, Revision};
+use mr_kept::KeptFault;
+use mr_replica::Revision;
 use mr_version::Version;
 use std::alloc::{AllocError, Global};
 
@@ -19,19 +20,40 @@ fn tell_written<R: Print>(rt: &R, version: Version, draft: &Draft<'_>) -> Result
     println!(rt; "office: {version} is {subject} in {label}").map_err(|_| Fault::Print)
 }
 
+/// Tells what two devices that met found out.
+pub fn tell_greeting<R: Print>(rt: &R, is_same: bool) -> Result<(), Fault> {
+    let found = if is_same {
+        "and know the same"
+    } else {
+        "and have something to tell"
+    };
+    println!(rt; "office and phone: they meet, {found}").map_err(|_| Fault::Print)
+}
+
+/// Tells why nothing is synced with a device.
+pub fn tell_stranger<R: Print>(rt: &R, who: &str, fault: Fault) -> Result<(), Fault> {
+    println!(rt; "{who}: {fault}").map_err(|_| Fault::Print)
+}
+
 /// Tells how many records an exchange took.
 pub fn tell_exchange<R: Print>(rt: &R, who: &str, records: u32) -> Result<(), Fault> {
     println!(rt; "{who}: up to date after {records} records").map_err(|_| Fault::Print)
 }
 
 /// Tells that the connection broke.
-pub fn tell_break<R: Print>(rt: &R) -> Result<(), Fault> {
-    println!(rt; "phone: the connection broke").map_err(|_| Fault::Print)
+pub fn tell_break<R: Print>(rt: &R, records: u32) -> Result<(), Fault> {
+    println!(rt; "phone: the connection broke after {records} records").map_err(|_| Fault::Print)
 }
 
 /// Tells which version took the place of which.
-pub fn tell_edit<R: Print>(rt: &R, base: Version, version: Version) -> Result<(), Fault> {
-    println!(rt; "phone: {version} replaces {base}").map_err(|_| Fault::Print)
+pub fn tell_edit<R: Print + AllocGlobal>(
+    rt: &R,
+    who: &str,
+    bases: &[Version],
+    version: Version,
+) -> Result<(), Fault> {
+    let bases = version_list(rt.alloc(), bases)?;
+    println!(rt; "{who}: {version} replaces{bases}").map_err(|_| Fault::Print)
 }
 
 /// Lets the screen take what is new on the device, and tells what it shows.
@@ -49,8 +71,8 @@ pub fn tell_screen<R: Print + AllocGlobal>(
 }
 
 /// Tells why the phone can't retire yet.
-pub fn tell_refusal<R: Print>(rt: &R, refusal: Refusal) -> Result<(), Fault> {
-    println!(rt; "phone: can't retire, since {refusal}").map_err(|_| Fault::Print)
+pub fn tell_refusal<R: Print>(rt: &R, fault: KeptFault) -> Result<(), Fault> {
+    println!(rt; "phone: can't retire: {fault}").map_err(|_| Fault::Print)
 }
 
 /// Tells that the phone has retired.

@@ -7,7 +7,7 @@ use std::alloc::Global;
 /// How many bytes the network hands over at a time. Frames are longer, so that none comes in one piece.
 const PIECE_BYTES: usize = 16;
 
-/// One direction of a connection: here a buffer, in your program a socket.
+/// One direction of a connection: here a buffer, in your program a pipe or a socket.
 ///
 /// Bytes come in pieces that know nothing of frames. The reader keeps the pieces and gives each frame once
 /// its last byte is there. A new connection needs a new reader, since the old one may have half a frame.
@@ -27,9 +27,9 @@ impl Wire {
         }
     }
 
-    /// Sends the bytes of a frame. `OutOfMemory` where the buffer can't grow.
-    pub fn send(&mut self, bytes: &[u8]) -> Result<(), Fault> {
-        Ok(self.sent.extend_from_slice(bytes)?)
+    /// Where the bytes of frames are written.
+    pub fn way(&mut self) -> &mut Vec<u8> {
+        &mut self.sent
     }
 
     /// Lets all that was sent come, piece by piece.
@@ -44,20 +44,22 @@ impl Wire {
         Ok(())
     }
 
-    /// Lets the first piece come, and loses the rest, as where a connection breaks. Faults are those of `deliver`.
-    pub fn lose_all_but_a_piece(&mut self) -> Result<(), Fault> {
-        for piece in self.sent.chunks(PIECE_BYTES).take(1) {
-            self.reader.feed(piece)?;
-        }
-        self.sent.clear();
-        Ok(())
+    /// Lets so many bytes come, and loses the rest, as where a connection breaks. Faults are those of `deliver`.
+    pub fn lose_all_after(&mut self, bytes: usize) -> Result<(), Fault> {
+        self.sent.truncate(bytes);
+        self.deliver()
     }
 
-    /// The next frame of what has come.
+    /// The next frame of what has come, if its last byte has.
     ///
-    /// `NoFrame` where its last byte is still to come, `Frame` where the bytes spell none or there is no memory for it.
+    /// `Frame` where the bytes spell none or there is no memory for it.
+    pub fn next(&mut self) -> Result<Option<Frame>, Fault> {
+        Ok(self.reader.next_frame()?)
+    }
+
+    /// The next frame of what has come. `NoFrame` where its last byte is still to come; else faults are those of `next`.
     pub fn next_frame(&mut self) -> Result<Frame, Fault> {
-        match self.reader.next_frame()? {
+        match self.next()? {
             Some(frame) => Ok(frame),
             None => Err(Fault::NoFrame),
         }
