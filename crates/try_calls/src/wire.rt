@@ -1,5 +1,7 @@
-//! `mr_wire`: a frame's memory.
-use mr_wire::{decode, encode};
+//! `mr_wire`, `mr_frames` and `mr_replica`: a frame's memory, and copies of a reader and of a reply.
+use mr_frames::FrameReader;
+use mr_replica::Reply;
+use mr_wire::{Frame, decode, encode, encode_record};
 use std::alloc::Global;
 use std::test::Fail;
 
@@ -14,6 +16,37 @@ pub const ITEM: [u8; 68] = [
 fn written_room(alloc: Global, bytes: &[u8]) -> Result<usize, Fail> {
     let (frame, _) = decode(alloc, bytes)?;
     Ok(encode(alloc, &frame)?.capacity())
+}
+
+/// The bytes of the frame that a copy of a reader gives, which was fed these.
+fn read_by_copy(alloc: Global, bytes: &[u8]) -> Result<Vec<u8>, Fail> {
+    let mut reader = FrameReader::new(alloc);
+    reader.feed(bytes)?;
+    let frame = reader.copy()?.next_frame()?.ok_or("no frame")?;
+    Ok(encode(alloc, &frame)?)
+}
+
+/// The bytes of the record that a copy of a reply has, which gave the one that these spell.
+fn given_by_copy(alloc: Global, bytes: &[u8]) -> Result<Vec<u8>, Fail> {
+    let (Frame::Record(record), _) = decode(alloc, bytes)? else {
+        return Err(Fail::new("no record"));
+    };
+    match Reply::Gave(record).copy(alloc)? {
+        Reply::Gave(record) => Ok(encode_record(alloc, &record)?),
+        _ => Err(Fail::new("another reply")),
+    }
+}
+
+#[test]
+fn ample_memory_reader(rt: HostRuntime) -> Result<(), Fail> {
+    assert!(rt; read_by_copy(rt.alloc(), &ITEM)?.as_slice() == ITEM.as_slice());
+    Ok(())
+}
+
+#[test]
+fn ample_memory_reply(rt: HostRuntime) -> Result<(), Fail> {
+    assert!(rt; given_by_copy(rt.alloc(), &ITEM)?.as_slice() == ITEM.as_slice());
+    Ok(())
 }
 
 #[test]

@@ -3,7 +3,7 @@ use crate::process::{Folder, Input, Output, Words};
 use anyhow::Result;
 use mr_program::run_mailrep;
 use std::alloc::Global;
-use std::io::ErrorKind;
+use std::io::{ErrorKind, Write};
 use std::sync::Wait;
 use std::thread::Threads;
 
@@ -140,6 +140,8 @@ impl Case {
             &mut output,
             &mut errors,
         );
+        // the system's standard error holds nothing back
+        errors.flush()?;
         Ok(Said {
             status,
             output: output.written,

@@ -102,10 +102,11 @@ impl Read for Input<'_> {
     }
 }
 
-/// A stream that keeps what is written.
+/// A stream that keeps what is written, once it is flushed.
 #[derive(Drop)]
 pub struct Output {
     pub written: Vec<u8>,
+    waiting: Vec<u8>,
     failure: Option<ErrorKind>,
 }
 
@@ -114,6 +115,7 @@ impl Output {
     pub fn new(alloc: Global, failure: Option<ErrorKind>) -> Output {
         Output {
             written: Vec::new(alloc),
+            waiting: Vec::new(alloc),
             failure,
         }
     }
@@ -123,11 +125,13 @@ impl Write for Output {
     fn write(&mut self, buf: &[u8]) -> io::Result<usize> {
         match self.failure {
             Some(kind) => Err(io::Error::from(kind)),
-            None => self.written.write(buf),
+            None => self.waiting.write(buf),
         }
     }
 
     fn flush(&mut self) -> io::Result<()> {
+        self.written.extend_from_slice(&self.waiting)?;
+        self.waiting.clear();
         Ok(())
     }
 }

@@ -1,5 +1,5 @@
 //! A link that gives bytes one by one, and keeps what is sent.
-ghost use Rattle.std.specs.Prelude.{◌≡◌, None};
+ghost use Rattle.std.specs.Prelude.{◌≡◌, ◌<◌, None, IfOk, length};
 
 use crate::strange::{Strange, What};
 use mr_link::{Link, LinkFault};
@@ -45,6 +45,7 @@ impl BytesLink {
 
     /// The next byte, as a piece. There is none at the end.
     fn next_piece(&mut self, alloc: Global) -> Result<Vec<u8>, LinkFault>
+        ensures some { IfOk result (λ piece. 0 < length piece.items) }
         ensures downs { self.new.downs ≡ self.old.downs }
         ensures hung_up { self.new.hung_up ≡ self.old.hung_up }
     {

@@ -1,5 +1,5 @@
 //! Links over lanes that do something strange.
-ghost use Rattle.std.specs.Prelude.{◌≡◌, ◌<◌, ◌+◌, ◌^◌, None};
+ghost use Rattle.std.specs.Prelude.{◌≡◌, ◌<◌, ◌+◌, ◌^◌, None, IfOk, length};
 
 use crate::strange::{Strange, What};
 use mr_link::{LaneLink, Link, LinkFault};
@@ -62,7 +62,9 @@ pub fn send_over<R: Wait + Copy>(
 pub fn receive_over<R: Wait + Copy>(
     lane: &mut Option<LaneLink<R>>,
     alloc: Global,
-) -> Result<Vec<u8>, LinkFault> {
+) -> Result<Vec<u8>, LinkFault>
+    ensures { IfOk result (λ piece. 0 < length piece.items) }
+{
     match lane {
         Some(lane) if lane.downs() < MOST_DOWNS => lane.receive(alloc),
         _ => Err(LinkFault::LinkDown),
@@ -70,8 +72,10 @@ pub fn receive_over<R: Wait + Copy>(
 }
 
 /// The piece, with each `H` made a `J`.
-fn spoilt(mut piece: Vec<u8>) -> Vec<u8> {
-    for byte in &mut piece {
+fn spoilt(mut piece: Vec<u8>) -> Vec<u8>
+    ensures { length result.items ≡ length piece.items }
+{
+    for byte in piece.as_mut_slice() {
         if *byte == b'H' {
             *byte = b'J';
         }
@@ -82,11 +86,14 @@ fn spoilt(mut piece: Vec<u8>) -> Vec<u8> {
 impl<R: Wait + Copy> StrangeLink<R> {
     /// The piece that this call receives.
     fn piece(&mut self, alloc: Global) -> Result<Vec<u8>, LinkFault>
+        ensures some { IfOk result (λ piece. 0 < length piece.items) }
         ensures downs { self.new.downs ≡ self.old.downs }
         ensures hung_up { self.new.hung_up ≡ self.old.hung_up }
     {
         let call = self.next_call();
-        if let Some(kept) = self.kept.take() {
+        if let Some(kept) = self.kept.take()
+            && !kept.is_empty()
+        {
             return Ok(kept);
         }
         match self.strange.at_call(call) {
