@@ -1,9 +1,11 @@
 -- what a line has ahead of it, and what becomes of it
-use Rattle.std.specs.Prelude.{◌≡◌, ◌≢◌, ◌⊎◌, ℕ, List, [], ◌∷◌, ◌++◌, Option, Some, None, Result, Ok, Err}
+use Rattle.std.specs.Prelude.{◌≡◌, ◌≢◌, ◌<◌, ◌≤◌, ◌⊎◌, ℕ, List, [], ◌∷◌, ◌++◌, length, Option, Some, None, Result, Ok, Err}
 use Rattle.mr_talk.specs.declared.fault.LineFault.{LineFault}
 use Rattle.mr_talk.specs.declared.fault.LineFault.TheVariants.{Message, Closed, Read, Write}
 use Rattle.mr_talk.specs.declared.fault.MessageFault.{MessageFault}
 use Rattle.mr_talk.specs.declared.fault.MessageFault.TheVariants.{OutOfMemory, Truncated, BadKind, TooLong, Failed}
+use Rattle.mr_talk.specs.declared.kind.Kind.{Kind}
+use Rattle.mr_talk.specs.Kinds.{limit_of}
 use Rattle.mr_talk.specs.Said.{Said}
 use Rattle.mr_talk.specs.Messages.{decoded}
 use Rattle.mr_talk.specs.Stream.{Begins}
@@ -13,6 +15,12 @@ abbrev pub ahead : Option (List ℕ) → Option (List ℕ) → Option (List ℕ)
 ahead None bytes = None
 ahead (Some rest) None = None
 ahead (Some rest) (Some bytes) = Some (rest ++ bytes)
+
+-- why a message isn't sent: its bytes are more than one of its kind may have; or else the stream took no more
+abbrev pub IsUnsent : Kind → List ℕ → LineFault → Type 0
+IsUnsent kind bytes (Message TooLong) = limit_of kind < length bytes
+IsUnsent kind bytes Write = length bytes ≤ limit_of kind
+IsUnsent kind bytes _ = ⊥
 
 -- known bytes stay as they are
 abbrev pub IsSame : Option (List ℕ) → Option (List ℕ) → Type 0

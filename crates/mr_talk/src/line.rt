@@ -1,8 +1,8 @@
 //! Messages over two streams.
-ghost use Rattle.std.specs.Prelude.{◌≡◌, ◌≤◌, ◌∷◌, false, length, MatchResult, OnOk};
+ghost use Rattle.std.specs.Prelude.{◌≡◌, ◌<◌, ◌≤◌, ◌∷◌, false, length, IfErr, MatchResult, OnOk};
 ghost use Rattle.std.specs.Io.KnownBytes.{Appends, Keeps};
 ghost use Rattle.mr_talk.specs.Kinds.{limit_of};
-ghost use Rattle.mr_talk.specs.Line.{Ends, Fails, Hears, IsSame, TakesPiece, ahead};
+ghost use Rattle.mr_talk.specs.Line.{Ends, Fails, Hears, IsSame, IsUnsent, TakesPiece, ahead};
 ghost use Rattle.mr_talk.specs.Said.{message_bytes};
 
 use crate::fault::{LineFault, MessageFault};
@@ -53,6 +53,8 @@ impl<R: Read + Drop, W: Write + Drop> Line<R, W> {
         ensures sent { OnOk result (Appends (W.contents self.old.output) (W.contents self.new.output)
             (message_bytes (record { kind = kind; bytes = bytes.now }))) }
         ensures fits { OnOk result (length bytes.now ≤ limit_of kind) }
+        ensures fault { IfErr result (IsUnsent kind bytes.now) }
+        ensures too_long { limit_of kind < length bytes.now → self.new ≡ self.old }
         ensures input { self.new.input ≡ self.old.input }
         ensures reader { self.new.reader ≡ self.old.reader }
     {
@@ -66,6 +68,7 @@ impl<R: Read + Drop, W: Write + Drop> Line<R, W> {
     /// Hands over what was written. `Write` where the stream takes no more.
     pub fn flush(&mut self) -> Result<(), LineFault>
         ensures output { Keeps (W.contents self.old.output) (W.contents self.new.output) }
+        ensures fault { IfErr result (λ fault. fault ≡ LineFault.Write) }
         ensures input { self.new.input ≡ self.old.input }
         ensures reader { self.new.reader ≡ self.old.reader }
     {
@@ -90,7 +93,8 @@ impl<R: Read + Drop, W: Write + Drop> Line<R, W> {
 
 /// Writes all of the bytes.
 fn write_bytes<W: Write>(output: &mut W, bytes: &[u8]) -> Result<(), LineFault>
-    ensures { OnOk result (Appends (W.contents output.old) (W.contents output.new) bytes.now) }
+    ensures written { OnOk result (Appends (W.contents output.old) (W.contents output.new) bytes.now) }
+    ensures fault { IfErr result (λ fault. fault ≡ LineFault.Write) }
 {
     match output.write_all(bytes) {
         Ok(()) => Ok(()),
@@ -101,8 +105,9 @@ fn write_bytes<W: Write>(output: &mut W, bytes: &[u8]) -> Result<(), LineFault>
 /// Writes a message that isn't too long.
 fn write_message<W: Write>(output: &mut W, kind: Kind, bytes: &[u8]) -> Result<(), LineFault>
     requires { length bytes.now ≤ limit_of kind }
-    ensures { OnOk result (Appends (W.contents output.old) (W.contents output.new)
+    ensures written { OnOk result (Appends (W.contents output.old) (W.contents output.new)
         (message_bytes (record { kind = kind; bytes = bytes.now }))) }
+    ensures fault { IfErr result (λ fault. fault ≡ LineFault.Write) }
 {
     let most = kind.limit();
     prove!(bytes.len() <= most as usize);
