@@ -20,4 +20,5 @@ pub mod ChangeLemmas
 pub mod LoneLemmas
 pub mod TextLemmas
 pub mod MergeLemmas
+pub mod ManyLemmas
 pub mod AppendLemmas

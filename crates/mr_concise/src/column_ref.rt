@@ -1,7 +1,7 @@
-ghost use Rattle.std.specs.Prelude.{◌≡◌, ◌≤◌, ◌<◌, ◌+◌, ◌↔◌, ◌||◌, ℕ, true, false, length, MatchOption, IfOk, IfSome, IsTrue};
+ghost use Rattle.std.specs.Prelude.{◌≡◌, ◌≤◌, ◌<◌, ◌+◌, ◌↔◌, ◌||◌, ℕ, true, false, length, MatchOption, IfOk, IfSome, IfNone, IsTrue};
 ghost use Rattle.mr_concise.specs.Column.{Extent, IsColumn, column_has, empty_column, ColumnCovers};
 ghost use Rattle.mr_concise.specs.Next.{IsNextOut, IsNextIn, HasNoneFrom, HasNoHoleFrom, IsHoleFrom, IsGapFrom};
-ghost use Rattle.mr_concise.specs.Source.{IsColumnOf};
+ghost use Rattle.mr_concise.specs.Source.{IsColumnOf, HasManyHoles};
 
 use crate::column::{COUNTERS_END, Column, Hole, MAX_HOLES};
 use crate::holes::hole_place_near;
@@ -160,7 +160,7 @@ impl<'a> ColumnRef<'a> {
         true
     }
 
-    /// What this column has or another one, which reaches no higher. `None` where there would be too many
+    /// What this column has or another one, which reaches no higher. `None` exactly where there would be too many
     /// holes. It costs a step for each hole of the two.
     fn merged_with_lower(
         &self,
@@ -170,6 +170,7 @@ impl<'a> ColumnRef<'a> {
         requires { low.now.upto ≤ self.now.upto }
         ensures column { IfOk result (λ column. IfSome column IsColumn) }
         ensures means { IfOk result (λ column. IfSome column (IsColumnOf (λ c. column_has self.now c || column_has low.now c))) }
+        ensures many { IfOk result (λ column. IfNone column (HasManyHoles (λ c. column_has self.now c || column_has low.now c))) }
     {
         let upto = self.upto;
         let mut holes = Vec::with_capacity(alloc, self.holes.len())?;
@@ -189,8 +190,8 @@ impl<'a> ColumnRef<'a> {
         Ok(Some(Column::new(upto, holes)))
     }
 
-    /// What one of two columns has. `None` where there would be too many holes. It costs a step for each hole
-    /// of the two.
+    /// What one of two columns has. `None` exactly where there would be too many holes. It costs a step for each
+    /// hole of the two.
     pub(crate) fn merged(
         &self,
         other: &ColumnRef<'_>,
@@ -198,6 +199,7 @@ impl<'a> ColumnRef<'a> {
     ) -> Result<Option<Column>, AllocError>
         ensures column { IfOk result (λ column. IfSome column IsColumn) }
         ensures means { IfOk result (λ column. IfSome column (IsColumnOf (λ c. column_has self.now c || column_has other.now c))) }
+        ensures many { IfOk result (λ column. IfNone column (HasManyHoles (λ c. column_has self.now c || column_has other.now c))) }
     {
         if other.upto <= self.upto {
             self.merged_with_lower(other, alloc)

@@ -1,4 +1,4 @@
-ghost use Rattle.std.specs.Prelude.{◌≡◌, ◌≤◌, ◌<◌, ◌+◌, ◌↔◌, ◌≢◌, ℕ, true, false, IsTrue, IfOk, IfSome, OnOk, OnErr, IsErrOf, Err, length};
+ghost use Rattle.std.specs.Prelude.{◌≡◌, ◌≤◌, ◌<◌, ◌+◌, ◌↔◌, ◌≢◌, ℕ, true, false, IsTrue, IfOk, IfSome, IfNone, OnOk, OnErr, IsErrOf, Err, length};
 ghost use Rattle.std.specs.Vec.{vec_len, vec_capacity};
 ghost use Rattle.mr_forms.specs.Sets.{both, Covers, IsSame};
 ghost use Rattle.mr_forms.specs.Runs.{of_author, with_run};
@@ -76,7 +76,7 @@ fn has_too_many(a: &[AuthorColumn], b: &[AuthorColumn]) -> bool
     false
 }
 
-/// The columns of a that change where those of b are put to them. `None` where one would have too many holes.
+/// The columns of a that change where those of b are put to them. `None` exactly where one would have too many holes.
 fn changed_columns(
     alloc: Global,
     a: &[AuthorColumn],
@@ -87,6 +87,7 @@ fn changed_columns(
     ensures columns { IfOk result (λ changed. IfSome changed (λ v. AreColumns v.items)) }
     ensures vector { IfOk result (λ changed. IfSome changed (λ v. IsVectorFrom 0 (with_columns v.items a.now))) }
     ensures united { IfOk result (λ changed. IfSome changed (λ v. IsSame (vector_has (with_columns v.items a.now)) (both (vector_has a.now) (vector_has b.now)))) }
+    ensures many { IfOk result (λ changed. IfNone changed (HasTooManyHoles (both (vector_has a.now) (vector_has b.now)))) }
 {
     let mut changed = Vec::new(alloc);
     for x in b {
@@ -137,8 +138,8 @@ fn put_all(columns: &mut Vec<AuthorColumn>, changed: Vec<AuthorColumn>) -> Resul
     Ok(())
 }
 
-/// Puts the columns of another vector to these. Those that do not change are not touched. Only where there are
-/// too many holes, or memory ends, the holes are counted, to tell which.
+/// Puts the columns of another vector to these. Those that do not change are not touched. Only where memory ends
+/// the holes are counted, since too many of them are told first.
 pub(crate) fn unite_columns(
     columns: &mut Vec<AuthorColumn>,
     alloc: Global,
@@ -152,11 +153,11 @@ pub(crate) fn unite_columns(
     ensures items { result ≢ Err FormFault.TooManyItems }
     ensures err { OnErr result (columns.new.items ≡ columns.old.items) }
 {
-    let Ok(Some(changed)) = changed_columns(alloc, columns, other) else {
-        if has_too_many(columns, other) {
-            return Err(FormFault::TooManyHoles);
-        }
-        return Err(FormFault::OutOfMemory);
+    let changed = match changed_columns(alloc, columns, other) {
+        Ok(Some(changed)) => changed,
+        Ok(None) => return Err(FormFault::TooManyHoles),
+        Err(_) if has_too_many(columns, other) => return Err(FormFault::TooManyHoles),
+        Err(_) => return Err(FormFault::OutOfMemory),
     };
     let Ok(()) = put_all(columns, changed) else {
         return Err(FormFault::OutOfMemory);

@@ -1,8 +1,13 @@
 -- worked rows: what the definitions give for small values
-use Rattle.std.specs.Prelude.{◌≡◌, [], ◌∷◌, ◌++◌, true, false, Some, None, refl}
+use Rattle.std.specs.Prelude.{◌≡◌, ◌≢◌, ℕ, List, [], ◌∷◌, ◌++◌, true, false, Some, None, refl}
 use Rattle.std.specs.declared.io.Error.{Error}
-use Rattle.std.proofs.Common.{inl, arith, lit<}
+use Rattle.std.proofs.Common.{inl, arith, lit<, sym, ◌∙◌}
 use Rattle.mr_mail.specs.Mail.{Mail}
+use Rattle.mr_journal.specs.Format.{Stands}
+use Rattle.mr_journal.specs.Journal.{has_failed}
+use Rattle.mr_journal.specs.declared.journal.Journal.{Journal}
+use Rattle.mr_replica.specs.declared.replica.replay.ReplayFault.TheVariants.{BadLimit}
+use Rattle.mr_replica.specs.declared.event.Event.{Event}
 use Rattle.mr_replica.specs.declared.event.Event.TheVariants.{Create, Edit, Pull, Next, CutIn, CutOut}
 use Rattle.mr_entry.specs.Grammar.{Spells}
 use Rattle.mr_entry.specs.Head.{HeadParts}
@@ -14,8 +19,13 @@ use Rattle.mr_entry.specs.declared.fault.EntryFault.TheVariants.{Truncated}
 use Rattle.mr_kept.specs.declared.fault.OpenFault.TheVariants as fault
 use Rattle.mr_kept.specs.declared.fault.KeptFault.TheVariants as kept
 use Rattle.mr_kept.specs.declared.fault.ExplainedFault.TheVariants.{Kept, Device}
+use Rattle.mr_kept.specs.declared.journaled.Journaled.{Journaled}
+use Rattle.mr_kept.specs.Answered.{MayKeep}
+use Rattle.mr_kept.specs.Beginning.{IsBeginFault}
 use Rattle.mr_kept.specs.Closing.{IsCut}
-use Rattle.mr_kept.specs.Entries.{AllBelong, Belongs, batch_entries, entries_of, issued_after, notes_of}
+use Rattle.mr_kept.specs.Commit.{CanCommit}
+use Rattle.mr_kept.specs.Entries.{AllBelong, Belongs, HasNoEntry, batch_entries, entries_of, issued_after, notes_of}
+use Rattle.mr_kept.specs.Kept.{entries_waiting, journal_of}
 use Rattle.mr_kept.specs.Explained.{explained_kept, explained_open}
 use Rattle.mr_kept.specs.Peer.{IsAbove}
 use Rattle.mr_kept.specs.Refusing.{IsOutOfOrder, IsUnread, StopsAt}
@@ -130,3 +140,35 @@ other_fault_row said = refl
 
 pub device_row : (said : Error) → explained_open (fault.Kept kept.Failed) (Some said) ≡ Device said
 device_row said = refl
+
+-- ---- what can be kept
+
+-- a Pull can be kept wherever the device has not failed, and nothing once it has
+pub pull_row : {D : Type 0} (journal : Journal D) → has_failed journal ≡ false → MayKeep journal Pull
+pull_row journal sound = record { sound = sound; short = omega arith }
+
+pub failed_row : {D : Type 0} (journal : Journal D) (event : Event) → has_failed journal ≡ true → MayKeep journal event → ⊥
+failed_row journal event failed may = let is : true ≡ false = sym failed ∙ may.sound in cc
+
+-- where nothing waits, no room is wanted
+pub no_room_row : {K D V : Type 0} (j : Journaled K D V) → has_failed (journal_of j) ≡ false → entries_waiting j ≡ [] → CanCommit j
+no_room_row j sound none = record { sound = sound; room = λ some. absurd (some none) }
+
+-- behind 2^32 - 1 Nexts of a stream one more has no entry, but one of another stream has
+pub long_run_row : HasNoEntry 0 2 4294967295 (Next 2)
+long_run_row = (refl, omega arith)
+
+pub other_stream_row : HasNoEntry 0 2 4294967295 (Next 3) → ⊥
+other_stream_row is = omega (arith, is.0)
+
+-- ---- why no replica is begun
+
+pub no_limit_row : (file birth mark : List ℕ) → IsBeginFault file 3 [] 0 birth mark (fault.Replay BadLimit)
+no_limit_row file birth mark limit = omega (arith, limit.low)
+
+pub high_limit_row : (file birth mark : List ℕ) → IsBeginFault file 3 [] 1000001 birth mark (fault.Replay BadLimit)
+high_limit_row file birth mark limit = omega (arith, limit.high)
+
+-- a journal that has an entry, and a setup that can be kept
+pub not_empty_row : (file birth mark : List ℕ) (entries : List (List ℕ)) → entries ≢ [] → Stands entries file → IsBeginFault file 3 [] 100 birth mark fault.NotEmpty
+not_empty_row file birth mark entries some stands = (record { low = omega arith; high = omega arith }, (entries, some, stands))

@@ -13,7 +13,8 @@ use Rattle.mr_link.specs.declared.snag.Snag.TheVariants as snag
 use Rattle.mr_link.specs.Link.{LinkView, and_then, with_down, with_hang_up, Sends, Receives}
 use Rattle.mr_link.specs.Fault.{link_number, snag_number}
 use Rattle.mr_link.specs.Snag.{snag_of_reader, snag_of_link, snag_of_encoding}
-use Rattle.mr_link.specs.LaneLink.{LaneEnd, IsBeginning, new_link}
+use Rattle.mr_link.specs.declared.chunk.Chunk.{Chunk}
+use Rattle.mr_link.specs.LaneLink.{LaneEnd, IsBeginning, bytes_in, new_link}
 use Rattle.mr_link.specs.Wire.{WireView, unread_in, new_wire, IsBad, PassesWell, ReadsFrame, WritesFrame}
 
 -- ---- what a link tells
@@ -142,3 +143,7 @@ unsent_is_same w = refl
 -- a length that no frame has spells none, whatever comes behind it
 pub bad_length : IsBad (255 ∷ 255 ∷ 255 ∷ 255 ∷ 7 ∷ [])
 bad_length = record { part = 255 ∷ 255 ∷ 255 ∷ 255 ∷ []; more = 7 ∷ []; begins = refl; fault = wire.TooLong; refused = refl; not_cut = λ e. absurd (cc) }
+
+-- the bytes of pieces, one behind the other
+pub pieces : (one two : Chunk) → bytes_in (one ∷ two ∷ []) ≡ one.bytes.items ++ (two.bytes.items ++ [])
+pieces one two = refl

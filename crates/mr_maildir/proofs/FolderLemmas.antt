@@ -40,7 +40,7 @@ not_so true h = absurd (false≢true h)
 not_so false h = refl
 
 -- text that is not empty, of bytes that a path may have, without a dot in front
-part : (text : List ℕ) → 1 ≤ length text → list_all is_path_byte text ≡ true → (slice_index text 0 == 46) ≡ false → IsPathPart text
+pub part : (text : List ℕ) → 1 ≤ length text → list_all is_path_byte text ≡ true → (slice_index text 0 == 46) ≡ false → IsPathPart text
 part text some each no_dot = record {
   something = omega arith;
   bytes = AllPass-from_list_all is_path_byte text each;

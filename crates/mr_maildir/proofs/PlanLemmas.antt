@@ -1,8 +1,8 @@
 -- the files that acts leave
-use Rattle.std.proofs.Common.{◌≡◌, ℕ, zero, suc, ◌+◌, ◌<◌, ◌≤◌, Bool, true, false, not, cond, ◌&&◌, ◌||◌, List, [], ◌∷◌, ◌++◌, length, take, get_or, map, Option, Some, None, refl, sym, ap, ◌∙◌, inl, inr, ◌⊎◌, append_assoc, length-append, arith}
-use Rattle.std.specs.Prelude.{◌==◌, find}
+use Rattle.std.proofs.Common.{◌≡◌, ℕ, zero, suc, ◌+◌, ◌<◌, ◌≤◌, Bool, true, false, not, cond, ◌&&◌, ◌||◌, List, [], ◌∷◌, ◌++◌, length, take, get_or, map, Option, Some, None, refl, sym, ap, ◌∙◌, inl, inr, ◌⊎◌, append_assoc, length-append, arith, subst}
+use Rattle.std.specs.Prelude.{◌==◌, find, nat_le, slice_index}
 use Rattle.std.specs.List.{list_all, list_any, flat_map}
-use Rattle.std.proofs.lemmas.Bool.{and_parts, and_from, or_parts, or_left, or_right, or_cases, false≢true, cases_Bool, eqb-true, eq-eqb, not-true}
+use Rattle.std.proofs.lemmas.Bool.{and_parts, and_from, or_parts, or_left, or_right, or_cases, false≢true, cases_Bool, eqb-true, eq-eqb, not-true, leb-true}
 use Rattle.std.proofs.lemmas.List.{take_more}
 use Rattle.std.proofs.lemmas.List.Concat.{flat_map-append}
 use Rattle.std.proofs.lemmas.List.Folds.{list_any-append}
@@ -10,9 +10,12 @@ use Rattle.std.proofs.lemmas.Map.Views.{any-filter_same}
 use Rattle.mr_mail.specs.Label.{text_eq, has_label}
 use Rattle.mr_maildir.specs.Letters.{letters_with, flags_told}
 use Rattle.mr_maildir.specs.File.{FileParts, letters_on, file_eq, file_eq_decides, has_file}
-use Rattle.mr_maildir.specs.FileActs.{without, done, after, makes, takes, touches, Mail, tells, or_else, first_in, telling_in, kept_in, own_name, is_taken, name_in, letters_from, is_from_new, placed, put_in, first_seen, standing_from, standing_in, standing_files, link_where, move_where, link_in, move_in, is_one, is_kept, remove_of, acts_for, is_blocked_from, is_blocked_where, is_blocked, is_free, overwrites_nothing}
+use Rattle.mr_maildir.specs.FileActs.{without, done, after, makes, takes, touches, Mail, tells, or_else, first_in, telling_in, kept_in, own_name, is_taken, name_in, letters_from, is_from_new, placed, put_in, first_seen, standing_from, standing_in, standing_files, link_where, move_where, link_in, move_in, is_one, is_kept, remove_of, acts_for, is_blocked_from, is_blocked_where, is_blocked, is_free, overwrites_nothing, is_fit, is_fit_byte}
 use Rattle.mr_maildir.specs.declared.plan.FileAct.{FileAct}
 use Rattle.mr_maildir.specs.declared.plan.FileAct.TheVariants.{Link, Move, Remove}
+use Rattle.mr_maildir.specs.Name.{IsMadeName}
+use Rattle.mr_maildir.specs.Path.{is_path_byte}
+use Rattle.mr_maildir.proofs.FolderLemmas.{part, implied}
 use Rattle.mr_maildir.proofs.ViewLemmas.{same_text, text_eq-itself}
 use Rattle.mr_maildir.proofs.LettersLemmas.{flags_told-letters_with}
 
@@ -708,3 +711,38 @@ nothing_overwritten mail labels within open_ =
     all_free mail (flat_map (link_in mail) labels ++ flat_map (move_in mail) labels) (flat_map (remove_of mail labels) mail.seen)
     (all_free mail (flat_map (link_in mail) labels) (flat_map (move_in mail) labels) (each_link mail labels open_) (each_move mail labels within open_))
     (each_remove mail labels mail.seen)
+
+-- ---- what a made file is called
+
+fit_byte_in_path : (b : ℕ) → is_fit_byte b ≡ true → is_path_byte b ≡ true
+fit_byte_in_path b is = (and_parts (is_path_byte b) (not (b == 58)) is).0
+
+fit_no_colon : (b : ℕ) → is_fit_byte b ≡ true → not (b == 58) ≡ true
+fit_no_colon b is = (and_parts (is_path_byte b) (not (b == 58)) is).1
+
+fit_is_made : (text : List ℕ) → is_fit text ≡ true → IsMadeName text
+fit_is_made text is =
+    let three = and_parts (nat_le 1 (length text) && nat_le (length text) 200 && not (slice_index text 0 == 46)) (list_all is_fit_byte text) is in
+    let two = and_parts (nat_le 1 (length text) && nat_le (length text) 200) (not (slice_index text 0 == 46)) three.0 in
+    record {
+      part = part text (leb-true 1 (length text) (and_parts (nat_le 1 (length text)) (nat_le (length text) 200) two.0).0) (implied is_fit_byte is_path_byte fit_byte_in_path text three.1) (not-true (slice_index text 0 == 46) two.1);
+      colon = implied is_fit_byte (λ b. not (b == 58)) fit_no_colon text three.1;
+    }
+
+own_is_made : (mail : Mail) (source : Option FileParts) → IsMadeName mail.spare → IsMadeName (own_name mail source)
+own_is_made mail None spare = spare
+own_is_made mail (Some file) spare =
+    elim (is_fit file.unique) as (λ t. is_fit file.unique ≡ t → IsMadeName (cond t file.unique mail.spare)) [
+      | true ↦ λ is. fit_is_made file.unique is
+      | false ↦ λ _. spare
+    ] refl
+
+-- whatever it is made of
+pub put-named : (mail : Mail) → IsMadeName mail.spare → IsMadeName mail.digits → (label : List ℕ) (source : Option FileParts) → IsMadeName (put_in mail label source).unique
+put-named mail spare digits label source =
+    let P : List ℕ → Type 0 = λ (text : List ℕ). IsMadeName text in
+    subst P (sym (placed-unique label (name_in mail label source) (letters_with (letters_from source) mail.flags) (is_from_new source)))
+    (elim (is_taken mail.taken label (own_name mail source)) as (λ t. IsMadeName (cond t mail.digits (own_name mail source))) [
+      | true ↦ digits
+      | false ↦ own_is_made mail source spare
+    ])

@@ -4,6 +4,7 @@ use Rattle.std.specs.List.{list_all}
 use Rattle.std.specs.Option.{option_copied}
 use Rattle.hex.specs.Hex.{encode_lower}
 use Rattle.mr_maildir.specs.Letters.{is_info_byte}
+use Rattle.mr_maildir.specs.Path.{IsPathPart}
 use Rattle.mr_maildir.specs.declared.name.FileName.{FileName}
 
 -- a name: what is unique of it, and the letters behind `:2,`, if it has these three
@@ -55,3 +56,8 @@ is_safe_name text = nat_le 1 (length text) && nat_le (length text) 200 && not (s
 -- the unique part that a file gets: the one that was told, if it is safe, else the digits of the digest of its bytes
 abbrev pub unique_for : List ℕ → List ℕ → List ℕ
 unique_for told digest = if is_safe_name told then told else encode_lower digest
+
+-- a name that makes a path, and that can be read again before letters
+pub record IsMadeName (text : List ℕ) : Type 0 where
+  pub part : IsPathPart text
+  pub colon : IsTrue (lacks_colon text)

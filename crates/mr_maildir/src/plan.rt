@@ -1,10 +1,12 @@
 //! What is done with the files of a mail, so that they stand as a view says.
-ghost use Rattle.std.specs.Prelude.{◌≡◌, ◌<◌, ◌+◌, ◌++◌, ◌∷◌, [], ℕ, IfOk, IfErr, OnOk, IsTrue, false, true, length, take, map, filter};
+ghost use Rattle.std.specs.Prelude.{◌≡◌, ◌<◌, ◌+◌, ◌++◌, ℕ, List, Option, string_bytes, IfOk, IfErr, OnOk, IsTrue, false, true, length, take, map, filter};
 ghost use Rattle.std.specs.List.{list_all, list_any, flat_map};
 ghost use Rattle.std.specs.Option.{option_copied};
+ghost use Rattle.hex.specs.Hex.{encode_lower};
+ghost use Rattle.mr_maildir.specs.Name.{IsMadeName};
 ghost use Rattle.mr_maildir.specs.File.{FileParts, has_file};
 ghost use Rattle.mr_maildir.specs.FileActs as specs;
-ghost use Rattle.mr_maildir.specs.FileActs.{Mail, mail_of, acts_for, after, standing_files, standing_in, touches, tells, overwrites_nothing, IsFileFault, mail_in};
+ghost use Rattle.mr_maildir.specs.FileActs.{Mail, mail_of, acts_for, after, standing_files, standing_in, touches, tells, overwrites_nothing, IsFileFault, mail_in, put_in};
 
 use crate::file::MailFile;
 use crate::folder::is_path_byte;
@@ -119,6 +121,9 @@ pub fn file_acts(
     // Nothing is overwritten.
     ensures free { let mail = mail_of seen.now view.now.flags told.now digest.now taken.now in
         OnOk result (IsTrue (list_all (overwrites_nothing mail) (acts_for mail view.now.labels))) }
+    // Whatever was told, a made file's name is one part of a path, and can be read again.
+    ensures named { let mail = mail_of seen.now view.now.flags told.now digest.now taken.now in
+        OnOk result ((label : List ℕ) (source : Option FileParts) → IsMadeName (put_in mail label source).unique) }
 {
     let _flags = view.flags();
     acts_of(alloc, seen, view, told, digest, taken)
@@ -136,9 +141,11 @@ fn acts_of(
     ensures value { IfOk result (λ acts. acts.items ≡ acts_for (mail_of seen.now view.now.flags told.now digest.now taken.now) view.now.labels) }
     ensures fault { IfErr result (IsFileFault (mail_of seen.now view.now.flags told.now digest.now taken.now) view.now.labels) }
     ensures open { OnOk result (list_any (specs.is_blocked (mail_of seen.now view.now.flags told.now digest.now taken.now)) view.now.labels ≡ false) }
+    ensures named { OnOk result ((label : List ℕ) (source : Option FileParts)
+        → IsMadeName (put_in (mail_of seen.now view.now.flags told.now digest.now taken.now) label source).unique) }
 {
     let spare = unique_for(alloc, told, digest)?;
-    let digits = hex::encode(alloc, digest.as_slice())?;
+    let digits = digits_of(alloc, digest)?;
     let mail = MailNames {
         seen,
         taken,
@@ -147,6 +154,14 @@ fn acts_of(
         digits: digits.as_str(),
     };
     mail.acts(alloc, view.labels())
+}
+
+/// The digits of a digest.
+fn digits_of(alloc: Global, digest: &[u8; 32]) -> Result<String, AllocError>
+    ensures value { IfOk result (λ digits. string_bytes digits ≡ encode_lower digest.now) }
+    ensures named { IsMadeName (encode_lower digest.now) }
+{
+    hex::encode(alloc, digest.as_slice())
 }
 
 /// A mail's files, the flags that it should have, and what it may be named.

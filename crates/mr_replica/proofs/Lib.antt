@@ -24,6 +24,7 @@ pub mod Seen
 pub mod Alike
 pub mod FiveKinds
 pub mod Replaying
+pub mod Retiring
 pub mod One
 mod Rows
 mod RecordRows

@@ -102,7 +102,7 @@ impl<K: Knowledge> Model for Replica<K> {
 }
 
 impl<K: Knowledge> Replica<K> {
-    ghost use Rattle.std.specs.Prelude.{false, List, OnOk};
+    ghost use Rattle.std.specs.Prelude.{false, IsTrue, List, [], OnOk};
     ghost use Rattle.mr_forms.specs.Known.{AreSame};
     ghost use Rattle.mr_concise.specs.Vector.{vector_has};
     ghost use Rattle.mr_concise.specs.Fragments.{ConciseFragment, knowledge_text};
@@ -170,11 +170,12 @@ impl<K: Knowledge> Replica<K> {
     }
 
     /// The held own revisions that the filter does not select, in version order. None of them has the
-    /// version of a head.
+    /// version of a head. A replica that has retired has none.
     pub fn push_outs(&self) -> &[Revision]
         ensures all { result.now ≡ self.now.push_outs }
         ensures in_order { AreInVersionOrder self.now.push_outs }
         ensures apart { AreApart self.now.heads self.now.push_outs }
+        ensures released { IsTrue self.now.is_retired → self.now.push_outs ≡ [] }
     {
         self.core.parts.contents.store().push_outs()
     }

@@ -10,9 +10,10 @@
 //! is given once, from 1. It is an [`OpenTable`], whose numbers stand in a slab of eight slots, so a look-up
 //! passes over eight entries.
 //!
-//! [`Streams`] is the same table of what the replica tells others. [`Streams::prepare`] gives a stream's next
-//! record, of what the store holds at that draw, and changes nothing; [`Streams::advance`] moves the stream on
-//! behind it, and can't fail. A stream gives a Start; then the heads and push-outs together, by rising
+//! [`Streams`] is the same table of what the replica tells others. [`Streams::draw`] gives a stream's next
+//! record, of what the store holds at that draw. It does two things in a row, which a replica does apart:
+//! [`Streams::prepare`] gives the record and changes nothing, and [`Streams::advance`] moves the stream on behind it,
+//! and can't fail. A stream gives a Start; then the heads and push-outs together, by rising
 //! version, from behind the last one that a draw gave, each that the one who asked doesn't know as an Item
 //! if its filter selects it, and as a MoveOut if it knows the item's first version; then, in a full stream, the
 //! versions of the heads as they are at the first of those draws, in vectors, and the fragments that were
@@ -28,8 +29,7 @@
 //!
 //! let asked = AskedOf::new(alloc, target, session_number, filter, claims)?;
 //! let number = streams.open(asked, Mode::Full, fragments)?;
-//! let Prepared { record, onward } = streams.prepare(number, source, &store)?;
-//! streams.advance(number, onward);
+//! let record = streams.draw(number, source, &store)?;
 //! ```
 #![tactic(auto)]
 

@@ -11,7 +11,7 @@ use crate::open_table::OpenTable;
 use crate::outgoing::{Onward, Outgoing, Prepared};
 use mr_store::Store;
 use mr_version::Author;
-use mr_wire::{FrameFragment, Mode};
+use mr_wire::{FrameFragment, Mode, Record};
 use std::alloc::AllocError;
 use std::collections::VecDeque;
 
@@ -67,8 +67,24 @@ impl OpenTable<Outgoing> {
         }
     }
 
+    /// The next record of the number's stream, which is open, of what its source holds now: it is prepared, and
+    /// the stream goes on behind it and is closed with its End. The index of that record is below the last one
+    /// that there is. Where memory is refused, nothing changes. It costs what [`OpenTable::prepare`] costs.
+    pub fn draw(&mut self, number: u64, source: Author, store: &Store) -> Result<Record, AllocError>
+        requires open { IsSome (open_at self.old number) }
+        requires goes_on { IfSome (open_at self.old number) (λ stream. stream.next + 1 < 2 ^ 32) }
+        ensures gives { IfOk result (λ given. GivesIn source number self.old store.now given self.new) }
+        ensures one { IfOk result (λ given. IsOnlyDraw source number self.old store.now given self.new) }
+        ensures err { OnErr result (self.new ≡ self.old) }
+        ensures sure { IfSome (open_at self.old number) (λ stream. IsFalse (is_copied stream store.now) → IsOk result) }
+    {
+        let Prepared { record, onward } = self.prepare(number, source, store)?;
+        self.advance(number, onward);
+        Ok(record)
+    }
+
     /// The number's stream, which is open, goes on behind the record that it prepared, and is closed with its
-    /// End. It can't fail.
+    /// End. It can't fail. It goes on as it is told: [`OpenTable::draw`] ties it to the record.
     pub fn advance(&mut self, number: u64, onward: Onward)
         requires open { IsSome (open_at self.old number) }
         requires goes_on { IfSome (open_at self.old number) (λ stream. stream.next + 1 < 2 ^ 32) }

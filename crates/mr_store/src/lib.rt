@@ -19,8 +19,7 @@
 //! at the fragments of other items.
 //!
 //! ```
-//! store.reserve(Part::Heads, &revision)?;
-//! store.put(Part::Heads, revision);
+//! store.put(Part::Heads, revision)?;
 //! let left = store.drop_below(item, newer.below())?;
 //! ```
 #![tactic(auto)]

@@ -166,9 +166,21 @@ impl Store {
         }
     }
 
+    /// Lets a revision enter a part, with the memory that it needs. Where memory is refused, both parts stay as
+    /// they are. It costs what [`Store::reserve`] and [`Store::enter`] cost, which do the same apart.
+    pub fn put(&mut self, part: Part, revision: Revision) -> Result<(), AllocError>
+        requires new { revision_of (self.old.heads ++ self.old.push_outs) revision.version ≡ None }
+        ensures ok { OnOk result (self.new ≡ put_in part revision (with_room part revision self.old)) }
+        ensures err { OnErr result ((self.new.heads ≡ self.old.heads) × (self.new.push_outs ≡ self.old.push_outs)) }
+    {
+        self.reserve(part, &revision)?;
+        self.enter(part, revision);
+        Ok(())
+    }
+
     /// Lets a revision enter a part, where there is room for it: it can't fail. It costs a look-up, a binary
     /// search and a shift of handles.
-    pub fn put(&mut self, part: Part, revision: Revision)
+    pub fn enter(&mut self, part: Part, revision: Revision)
         requires room { room_in part self.old ≡ Some (room_of revision) }
         requires new { revision_of (self.old.heads ++ self.old.push_outs) revision.version ≡ None }
         ensures { self.new ≡ put_in part revision self.old }

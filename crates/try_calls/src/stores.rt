@@ -1,7 +1,7 @@
 //! `mr_store` and `mr_madewith`: calls that no program makes find memory.
 //!
-//! A replica makes room first and then changes without failing, so it calls `remove_below`, `remove_heads` and
-//! `note_reserved`. `drop_below`, `drop_unheld` and `note` do both in one call.
+//! A replica makes room first and then changes without failing, so it calls `enter`, `remove_below`, `remove_heads` and
+//! `note_reserved`. `put`, `drop_below`, `drop_unheld` and `note` do both in one call.
 
 use crate::revisions::{created, edited, two_heads};
 use crate::samples::{expect, version};

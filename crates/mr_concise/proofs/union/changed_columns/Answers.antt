@@ -1,5 +1,9 @@
 use Rattle.std.proofs.Common.{take_all}
 use Rattle.mr_concise.proofs.ChangeLemmas.{ChangedTo-begin, ChangedTo-push, ChangedTo-skip}
+use Rattle.mr_concise.specs.Source.{HasManyHoles}
+use Rattle.mr_concise.specs.Vector.{column_of}
+use Rattle.mr_concise.proofs.ManyLemmas.{if-none, many-merged}
+use Rattle.mr_concise.proofs.MergeLemmas.{has_one}
 use Rattle.mr_concise.proofs.union.changed_columns.Goals as goal
 use Rattle.mr_concise.proofs.union.changed_columns.Goals.{then-not-covers+in_ok-column+in-Some+in_ok-push, else-not-covers}
 
@@ -18,3 +22,9 @@ loop-x-preserved c =
 
 pub returns-clause-united : goal.returns-clause-united
 returns-clause-united c = let all = take_all c.loop-x.x-index c.args.b.now c.loop-x-test.false in rw all at c.loop-x.invariant.united
+
+pub returns-in_default-clause-many : goal.returns-in_default-clause-many
+returns-in_default-clause-many c =
+    let both = has_one (column_of c.args.a.now c.x-item.result.author) c.x-item.result.column in
+    let many = rw (c.column_at-had.ensures, c.lent-added.ensures) at c.in_ok-column.ensures.many in
+    many-merged c.args.a.now c.args.b.now c.loop-x.x-index c.x-item.result c.requires.b c.loop-x-test.true c.x-item.is (if-none {P = HasManyHoles both} c.in_ok-column.field-0 c.in_default.not-Some many)

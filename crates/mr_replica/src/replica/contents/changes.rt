@@ -95,7 +95,7 @@ impl Contents {
     {
         self.store.remove_below(item, below);
         if let Some(revision) = comer {
-            self.store.put(Part::Heads, revision);
+            self.store.enter(Part::Heads, revision);
         }
         tell(&mut self.feed, entries);
     }
@@ -148,7 +148,7 @@ impl Contents {
             entries,
         } = arrival;
         self.store.remove_below(revision.item(), revision.below());
-        self.store.put(part_for(selected), revision);
+        self.store.enter(part_for(selected), revision);
         self.trail.note_reserved(last);
         tell(&mut self.feed, entries);
     }

@@ -2,6 +2,7 @@ use Rattle.std.proofs.Common.{inl, inr, ◌⊎◌, ◌≡◌, ◌≤◌, arith, 
 use Rattle.std.proofs.lemmas.Bool.{cases_lt}
 use Rattle.mr_concise.specs.Column.{Extent, IsColumn}
 use Rattle.mr_concise.proofs.MergeLemmas.{has_one, Merged-begin, Merged-pass, Merged-push, Merged-end, IsStep, IsStep-of}
+use Rattle.mr_concise.proofs.ManyLemmas.{Merged-many}
 use Rattle.mr_concise.proofs.column_ref.ColumnRef.merged_with_lower.Goals as goal
 use Rattle.mr_concise.proofs.column_ref.ColumnRef.merged_with_lower.Goals.{then-first-last+else-len-ge-MAX_HOLES+in_ok-push, else-first-last}
 
@@ -73,3 +74,23 @@ returns-clause-means c =
     let is : IsColumn c.args.self.now = rw c.self.view_is at c.self.invariant in
     let upto : c.self.inside.upto ≡ c.args.self.now.upto = ap (λ (e : Extent). e.upto) c.self.view_is in
     rw (c.new.ensures, upto) (Merged-end c.args.self.now c.args.low.now c.loop-hole.holes.items c.loop-hole.from c.loop-hole.invariant.0 is.in_range c.requires c.loop-hole.invariant.1 c.in_default.ensures)
+
+pub returns-then-len-ge-MAX_HOLES-clause-many : goal.returns-then-len-ge-MAX_HOLES-clause-many
+returns-then-len-ge-MAX_HOLES-clause-many c =
+    let is : IsColumn c.args.self.now = rw c.self.view_is at c.self.invariant in
+    let max = c.max-first.ensures in
+    let min = c.min-last.ensures in
+    let below = c.in-Some.ensures.below in
+    let firsts : (c.max-first.result ≤ c.gap_from-gap.result.first) ⊎ (c.max-first.result ≤ c.in-Some.hole.first) = elim (cases_lt c.gap_from-gap.result.first c.in-Some.hole.first) [
+      | inl l ↦ inr (omega arith)
+      | inr g ↦ inl (omega arith)
+    ] in
+    let lasts : (c.gap_from-gap.result.last ≤ c.min-last.result) ⊎ (c.in-Some.hole.last ≤ c.min-last.result) = elim (cases_lt c.gap_from-gap.result.last c.in-Some.hole.last) [
+      | inl l ↦ inl (omega arith)
+      | inr g ↦ inr (omega arith)
+    ] in
+    let step : IsStep (has_one c.args.self.now c.args.low.now) c.loop-hole.from c.max-first.result c.min-last.result =
+    IsStep-of c.args.self.now c.args.low.now c.loop-hole.from c.max-first.result c.min-last.result c.in-Some.hole c.gap_from-gap.result is.in_range c.in-Some.ensures c.gap_from-gap.ensures ((omega arith, omega arith), firsts) ((omega arith, omega arith), lasts) in
+    let full = c.if-len-ge-MAX_HOLES.true in
+    let len = c.len.ensures in
+    Merged-many c.args.self.now c.args.low.now c.loop-hole.holes.items c.loop-hole.from c.max-first.result c.min-last.result c.loop-hole.invariant.0 step c.if-first-last.true (omega arith) is.in_range c.requires
