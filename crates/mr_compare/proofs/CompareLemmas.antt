@@ -1,14 +1,17 @@
 -- what is done for mails, mail by mail
-use Rattle.std.proofs.Common.{◌≡◌, ℕ, ◌+◌, ◌<◌, ◌≤◌, cond, List, [], ◌∷◌, ◌++◌, take, length, get_or, refl, ap, sym, ◌∙◌, arith}
+use Rattle.std.proofs.Common.{◌≡◌, ℕ, ◌+◌, ◌<◌, ◌≤◌, Bool, true, false, cond, List, [], ◌∷◌, ◌++◌, take, length, get_or, Option, Some, None, All, refl, ap, sym, ◌∙◌, arith}
 use Rattle.std.proofs.lemmas.List.{append-nil, take_all}
 use Rattle.std.proofs.lemmas.List.Concat.{flat_map-append, flat_map-cons}
 use Rattle.std.proofs.lemmas.List.Sums.{sum_by-append, sum_by-cons}
+use Rattle.std.proofs.lemmas.List.Elements.{recursion_from_All}
+use Rattle.std.specs.List.{AllByRecursion}
+use Rattle.mr_maildir.specs.View.{ViewParts}
 use Rattle.mr_maildir.specs.declared.act.Act.{Act}
 use Rattle.mr_maildir.specs.declared.act.Act.TheVariants.{Agree, Create, Edit, Delete, Follow, Remove}
 use Rattle.mr_compare.proofs.ListLemmas.{take_one}
 use Rattle.mr_compare.specs.declared.compare.Standing.{Standing}
 use Rattle.mr_compare.specs.declared.compare.MailAct.{MailAct}
-use Rattle.mr_compare.specs.Compare.{act_for, if_any, due, due_acts, deletions}
+use Rattle.mr_compare.specs.Compare.{act_for, told_for, merge_or, merged_act, if_any, due, due_acts, believed_acts, deletions}
 use Rattle.mr_compare.specs.Tally.{deletes, count_of}
 
 -- with one mail more
@@ -25,11 +28,25 @@ one digest Delete = refl
 one digest Follow = refl
 one digest Remove = refl
 
+-- a merge deletes nothing
+merge_deletes : (is_due : Bool) (held : Option ViewParts) (act : Act) → deletes act ≡ false → deletes (merge_or is_due held act) ≡ false
+merge_deletes is_due None act h = h
+merge_deletes true (Some held) act h = refl
+merge_deletes false (Some held) act h = h
+
+merged_deletes : (mail : Standing) (act : Act) → deletes (merged_act mail act) ≡ deletes act
+merged_deletes mail Agree = merge_deletes mail.is_merge_due mail.held Agree refl
+merged_deletes mail Create = refl
+merged_deletes mail (Edit view) = refl
+merged_deletes mail Delete = refl
+merged_deletes mail Follow = merge_deletes mail.is_merge_due mail.held Follow refl
+merged_deletes mail Remove = refl
+
 -- as many acts delete as mails are deleted
 pub counted : (mails : List Standing) → count_of deletes (due_acts mails) ≡ deletions mails
 counted [] = refl
 counted (x ∷ mails) =
-    let here = one x.digest (act_for x) in
+    let here = one x.digest (told_for x) ∙ ap (λ (b : Bool). cond b 1 0) (merged_deletes x (act_for x)) in
     let more = counted mails in
     let both = ap (count_of deletes) (flat_map-cons due x mails) ∙ sum_by-append (λ (act : MailAct). cond (deletes act.act) 1 0) (due x) (due_acts mails) in
     let cons = sum_by-cons (λ (mail : Standing). cond (deletes (act_for mail)) 1 0) x mails in
@@ -38,3 +55,29 @@ counted (x ∷ mails) =
 -- what was counted at the end of a loop over all mails
 pub count_is : (mails : List Standing) (i : ℕ) (acts shown : List MailAct) (count : ℕ) → length mails ≤ i → acts ≡ due_acts (take i mails) → shown ≡ acts → count ≡ count_of deletes shown → count ≡ deletions mails
 count_is mails i acts shown count end known same is = is ∙ ap (count_of deletes) (same ∙ known ∙ ap due_acts (take_all i mails end)) ∙ counted mails
+
+-- ---- where no merge is due
+
+unmerged_or : (is_due : Bool) (held : Option ViewParts) (act : Act) → is_due ≡ false → merge_or is_due held act ≡ act
+unmerged_or is_due None act h = refl
+unmerged_or is_due (Some held) act h = ap (λ (b : Bool). cond b (Edit held) act) h
+
+unmerged_act : (mail : Standing) (act : Act) → mail.is_merge_due ≡ false → merged_act mail act ≡ act
+unmerged_act mail Agree h = unmerged_or mail.is_merge_due mail.held Agree h
+unmerged_act mail Create h = refl
+unmerged_act mail (Edit view) h = refl
+unmerged_act mail Delete h = refl
+unmerged_act mail Follow h = unmerged_or mail.is_merge_due mail.held Follow h
+unmerged_act mail Remove h = refl
+
+unmerged_each : (mails : List Standing) → AllByRecursion (λ (mail : Standing). mail.is_merge_due ≡ false) mails → due_acts mails ≡ believed_acts mails
+unmerged_each [] h = refl
+unmerged_each (x ∷ mails) h =
+    flat_map-cons due x mails
+    ∙ ap (λ (act : Act). if_any x.digest act ++ due_acts mails) (unmerged_act x (act_for x) h.0)
+    ∙ ap (λ (rest : List MailAct). if_any x.digest (act_for x) ++ rest) (unmerged_each mails h.1)
+    ∙ sym (flat_map-cons (λ (mail : Standing). if_any mail.digest (act_for mail)) x mails)
+
+-- nothing is merged where no merge is due
+pub unmerged : (mails : List Standing) → All (λ (mail : Standing). mail.is_merge_due ≡ false) mails → due_acts mails ≡ believed_acts mails
+unmerged mails h = unmerged_each mails (recursion_from_All (λ (mail : Standing). mail.is_merge_due ≡ false) mails h)

@@ -5,3 +5,4 @@ pub mod HeldLemmas
 pub mod NoteLaws
 pub mod CompareLemmas
 pub mod BelievedLemmas
+pub mod JoiningLemmas

@@ -43,6 +43,24 @@ pub record IsDeletion (mail : Standing) : Type 0 where
   pub as_left : mail.held ≡ mail.left
   pub had_file : IsSome (standing mail.held)
 
+-- where a merge is due of a mail that is held, an edit to the view that is held, and else the act
+abbrev pub merge_or : Bool → Option ViewParts → Act → Act
+merge_or due None act = act
+merge_or due (Some held) act = if due then Edit held else act
+
+-- what tells nothing gives way to a merge that is due; each other act stays
+abbrev pub merged_act : Standing → Act → Act
+merged_act mail Agree = merge_or mail.is_merge_due mail.held Agree
+merged_act mail Create = Create
+merged_act mail (Edit view) = Edit view
+merged_act mail Delete = Delete
+merged_act mail Follow = merge_or mail.is_merge_due mail.held Follow
+merged_act mail Remove = Remove
+
+-- what is done for a mail, its heads being merged where that is due
+abbrev pub told_for : Standing → Act
+told_for mail = merged_act mail (act_for mail)
+
 -- what is done for it, if anything is
 abbrev pub if_any : List ℕ → Act → List MailAct
 if_any digest Agree = []
@@ -53,11 +71,15 @@ if_any digest Follow = record { digest = digest; act = Follow } ∷ []
 if_any digest Remove = record { digest = digest; act = Remove } ∷ []
 
 abbrev pub due : Standing → List MailAct
-due mail = if_any mail.digest (act_for mail)
+due mail = if_any mail.digest (told_for mail)
 
 -- what is done for these mails, in their order
 abbrev pub due_acts : List Standing → List MailAct
 due_acts mails = flat_map due mails
+
+-- and what is where nothing is merged
+abbrev pub believed_acts : List Standing → List MailAct
+believed_acts mails = flat_map (λ mail. if_any mail.digest (act_for mail)) mails
 
 -- ---- deletions
 

@@ -4,6 +4,8 @@ pub mod Held
 pub mod Tally
 pub mod Compare
 pub mod Sides
+pub mod Joining
+pub mod MailsLeft
 pub mod Shown
 pub mod Note
 pub mod NoteParts

@@ -5,13 +5,15 @@ use Rattle.mr_mail.specs.Mail.{MailCard}
 use Rattle.mr_feed.specs.declared.entry.Entry.{Entry}
 use Rattle.mr_feed.specs.declared.entry.Entry.TheVariants.{Added, Dropped}
 use Rattle.mr_maildir.specs.View.{ViewParts}
-use Rattle.mr_maildir.specs.declared.act.Act.TheVariants.{Agree, Create, Edit, Delete, Remove}
+use Rattle.mr_maildir.specs.declared.act.Act.TheVariants.{Agree, Create, Edit, Delete, Follow, Remove}
 use Rattle.mr_compare.specs.declared.compare.Standing.{Standing}
 use Rattle.mr_compare.specs.declared.note.FolderNote.TheVariants.{Shown, Met}
 use Rattle.mr_compare.specs.Note.{note_bytes}
 use Rattle.mr_compare.specs.Left.{item_cards, last_told, is_told}
-use Rattle.mr_compare.specs.Compare.{act_for, due_acts, deletions}
+use Rattle.mr_compare.specs.Compare.{act_for, told_for, due_acts, deletions}
 use Rattle.mr_compare.specs.Sides.{are_same, left_of_held}
+use Rattle.mr_compare.specs.Joining.{together, lowest, standing_of, mail_of}
+use Rattle.mr_compare.specs.MailsLeft.{news_told, cards_told, left_mail}
 
 abbrev name : ℕ → ℕ → Name
 name author counter = record { author = author; counter = counter }
@@ -65,7 +67,7 @@ abbrev work : ViewParts
 work = record { labels = codes "work" ∷ []; flags = 0 }
 
 abbrev standing : (left seen held : Option ViewParts) → (file certain own : Bool) → Standing
-standing left seen held file certain own = record { digest = codes "d"; first = None; left = left; seen = seen; held = held; has_file = file; is_certain = certain; is_own = own }
+standing left seen held file certain own = record { digest = codes "d"; first = None; left = left; seen = seen; held = held; is_merge_due = false; has_file = file; is_certain = certain; is_own = own }
 
 -- removed here, as two listings say
 pub removed_row : act_for (standing (Some inbox) None (Some inbox) true true false) ≡ Delete
@@ -105,6 +107,26 @@ list_row = refl
 pub deletions_row : deletions (standing (Some inbox) (Some inbox) (Some inbox) true true false ∷ standing (Some inbox) None (Some inbox) true true false ∷ []) ≡ 1
 deletions_row = refl
 
+-- ---- merges
+
+abbrev to_merge : Standing → Standing
+to_merge mail = record mail { is_merge_due = true }
+
+-- heads that differ are merged where the Maildir agrees with them together, and where it only follows
+pub merged_row : map told_for (to_merge (standing (Some inbox) (Some inbox) (Some inbox) true true false) ∷ to_merge (standing (Some inbox) (Some inbox) (Some work) true true false) ∷ []) ≡ Edit inbox ∷ Edit work ∷ []
+merged_row = refl
+
+-- what is told anyway merges them, and a deletion does
+pub told_row : map told_for (to_merge (standing (Some inbox) (Some work) (Some inbox) true true false) ∷ to_merge (standing (Some inbox) None (Some inbox) true true false) ∷ []) ≡ Edit work ∷ Delete ∷ []
+told_row = refl
+
+-- where nothing is held there is nothing to merge, and without a merge that is due none is made
+pub unheld_row : told_for (to_merge (standing (Some inbox) (Some inbox) None true true false)) ≡ Remove
+unheld_row = refl
+
+pub undue_row : map told_for (standing (Some inbox) (Some inbox) (Some inbox) true true false ∷ standing (Some inbox) (Some inbox) (Some work) true true false ∷ []) ≡ Agree ∷ Follow ∷ []
+undue_row = refl
+
 -- ---- sides
 
 pub same_row : map (are_same (Some inbox)) (Some inbox ∷ Some work ∷ None ∷ []) ≡ true ∷ false ∷ false ∷ []
@@ -113,3 +135,46 @@ same_row = refl
 -- what the feed didn't change was left as it is held
 pub unchanged_row : left_of_held None inbox ≡ Some inbox
 unchanged_row = refl
+
+-- ---- mails of several items
+
+abbrev gone : ViewParts
+gone = record { labels = []; flags = 16 }
+
+abbrev both : ViewParts
+both = record { labels = codes "inbox" ∷ codes "work" ∷ []; flags = 0 }
+
+-- what stands in two folders stands in both, what is gone has no say beside others, and nothing is nothing
+pub together_row : map together ((inbox ∷ work ∷ []) ∷ (gone ∷ inbox ∷ []) ∷ (gone ∷ gone ∷ []) ∷ [] ∷ []) ≡ Some both ∷ Some inbox ∷ Some gone ∷ None ∷ []
+together_row = refl
+
+pub lowest_row : map lowest ((name 1 9 ∷ name 0 4 ∷ name 0 7 ∷ []) ∷ [] ∷ []) ≡ Some (name 0 4) ∷ None ∷ []
+lowest_row = refl
+
+-- two heads of one item that differ, and an item without any
+pub heads_row : standing_of (codes "d", name 0 1) (record { version = name 0 2; view = inbox } ∷ record { version = name 1 1; view = work } ∷ []) (Some inbox) ≡ (codes "d", record { item = name 0 1; versions = name 0 2 ∷ name 1 1 ∷ []; view = work; is_merge_due = true }) ∷ []
+heads_row = refl
+
+pub no_heads_row : standing_of (codes "d", name 0 1) [] None ≡ []
+no_heads_row = refl
+
+-- without a version there is no mail
+pub no_version_row : mail_of (codes "d") None (Some inbox) true ≡ []
+no_version_row = refl
+
+-- two items of one mail changed, of which one came; a third is of a mail that isn't known
+pub news_row : news_told ((name 0 1, None) ∷ (name 0 2, Some (card 0)) ∷ (name 3 1, Some (card 0)) ∷ []) ((name 0 1, codes "d") ∷ (name 0 2, codes "d") ∷ []) ≡ (codes "d", false) ∷ (codes "d", true) ∷ []
+news_row = refl
+
+pub cards_row : cards_told (((name 0 1, name 1 1), card 1) ∷ ((name 3 1, name 3 1), card 0) ∷ []) ((name 0 1, codes "d") ∷ []) ≡ (codes "d", record { labels = codes "inbox" ∷ []; flags = 1 }) ∷ []
+cards_row = refl
+
+-- it came if one of them did; where nothing of it changed nothing is said, and where it was nowhere it has no view
+pub left_mail_row : left_mail (inbox ∷ []) (false ∷ true ∷ []) ≡ Some (record { view = Some inbox; came = true })
+left_mail_row = refl
+
+pub not_left_row : left_mail (inbox ∷ []) [] ≡ None
+not_left_row = refl
+
+pub new_mail_row : left_mail [] (true ∷ []) ≡ Some (record { view = None; came = true })
+new_mail_row = refl

@@ -1,5 +1,5 @@
 //! What is done for each mail of a folder.
-ghost use Rattle.std.specs.Prelude.{◌≡◌, ◌≢◌, ◌↔◌, ◌/◌, ◌++◌, ◌≤◌, false, None, IfOk, IfErr, OnOk, IsSome, IsTrue, max};
+ghost use Rattle.std.specs.Prelude.{◌≡◌, ◌≢◌, ◌↔◌, ◌/◌, ◌++◌, ◌≤◌, All, false, None, IfOk, IfErr, OnOk, IsSome, IsTrue, max};
 ghost use Rattle.mr_maildir.specs.Act.{standing};
 ghost use Rattle.mr_maildir.specs.View.{ViewParts};
 ghost use Rattle.std.specs.List.{list_all};
@@ -9,7 +9,7 @@ ghost use Rattle.mr_compare.specs.declared.compare.CompareFault.TheVariants.{Out
 ghost use Rattle.mr_compare.specs.Compare as specs;
 ghost use Rattle.mr_compare.specs.Tally.{count_of};
 ghost use Rattle.mr_compare.specs.Tally as kinds;
-ghost use Rattle.mr_compare.specs.Compare.{act_for, keeps_folders, due, due_acts, deletions, IsDeletion, IsCompareFault};
+ghost use Rattle.mr_compare.specs.Compare.{act_for, told_for, keeps_folders, due, due_acts, believed_acts, deletions, IsDeletion, IsCompareFault};
 
 use crate::held::Digest;
 use crate::tally::deletes;
@@ -32,6 +32,8 @@ pub struct Standing {
     pub seen: Option<View>,
     /// How the replica has it stand.
     pub held: Option<View>,
+    /// Whether an edit is due that merges the heads of an item of the mail.
+    pub is_merge_due: bool,
     /// Whether its file is here, in the store or in the Maildir.
     pub has_file: bool,
     /// Whether two listings in a row, during which no folder changed, say the same of it.
@@ -168,11 +170,45 @@ fn has_all(view: &View, labels: &[Label]) -> bool
     labels.iter().all(|label| view.contains(label))
 }
 
-/// What is done for these mails, in their order; for those that stand as they are held, nothing is.
+/// What is done for a mail: what is believed, but that an edit to the view that is held merges heads wherever that is due and
+/// nothing else is told.
+fn told_act(alloc: Global, mail: &Standing) -> Result<Act, AllocError>
+    ensures { IfOk result (λ act. act ≡ told_for mail.now) }
+{
+    let act = believed_act(alloc, mail)?;
+    merged_act(alloc, mail, act)
+}
+
+/// The act, or where it tells nothing and a merge is due the edit to the view that is held.
+fn merged_act(alloc: Global, mail: &Standing, act: Act) -> Result<Act, AllocError>
+    ensures { IfOk result (λ merged. merged ≡ specs.merged_act mail.now act) }
+{
+    match act {
+        Act::Agree => merge_or(alloc, mail, Act::Agree),
+        Act::Follow => merge_or(alloc, mail, Act::Follow),
+        act => Ok(act),
+    }
+}
+
+/// The edit to the view that is held where a merge is due, and else the act.
+fn merge_or(alloc: Global, mail: &Standing, act: Act) -> Result<Act, AllocError>
+    ensures { IfOk result (λ merged. merged ≡ specs.merge_or mail.now.is_merge_due mail.now.held act) }
+{
+    match &mail.held {
+        Some(held) if mail.is_merge_due => Ok(Act::Edit(held.copy(alloc)?)),
+        _ => Ok(act),
+    }
+}
+
+/// What is done for these mails, in their order; for those that stand as they are held and want no merge, nothing is.
+///
+/// Where nothing is told of a mail and a merge of its heads is due, it is edited to the view that is held: then files follow, too.
 ///
 /// `TooManyDeletions` where more of them than `most` would be deleted, and else `OutOfMemory`.
 pub fn acts_of(alloc: Global, mails: &[Standing], most: usize) -> Result<Vec<MailAct>, CompareFault>
     ensures value { IfOk result (λ acts. acts.items ≡ due_acts mails.now) }
+    // Where no merge is due nothing is merged: all that is done is what is believed.
+    ensures unmerged { All (λ mail. mail.is_merge_due ≡ false) mails.now → IfOk result (λ acts. acts.items ≡ believed_acts mails.now) }
     ensures few { OnOk result (deletions mails.now ≤ most) }
     ensures fault { IfErr result (IsCompareFault mails.now most) }
 {
@@ -191,7 +227,7 @@ pub fn acts_of(alloc: Global, mails: &[Standing], most: usize) -> Result<Vec<Mai
 fn push_due(alloc: Global, acts: &mut Vec<MailAct>, mail: &Standing) -> Result<(), AllocError>
     ensures { OnOk result (acts.new.items ≡ acts.old.items ++ due mail.now) }
 {
-    let act = believed_act(alloc, mail)?;
+    let act = told_act(alloc, mail)?;
     if let Act::Agree = act {
         return Ok(());
     }

@@ -19,6 +19,8 @@ pub struct HeldMail {
     pub first: Version,
     /// How they have it stand together.
     pub view: View,
+    /// Whether an edit is due that merges the heads of an item of the mail.
+    pub is_merge_due: bool,
 }
 
 /// What was left of a mail, some item of which the feed changed since.
@@ -87,6 +89,7 @@ fn held_standing(alloc: Global, mail: &HeldMail, sides: &Sides) -> Result<Standi
         left: held_left(alloc, sides.left.get(&digest), &mail.view)?,
         seen: copied(alloc, seen)?,
         held: Some(mail.view.copy(alloc)?),
+        is_merge_due: mail.is_merge_due,
         has_file: !sides.lacking.contains(&digest),
         is_certain: sides.are_quiet && are_same(seen, sides.seen_before.get(&digest)),
         is_own: false,
@@ -106,6 +109,7 @@ fn unheld_standing(alloc: Global, digest: &Digest, sides: &Sides) -> Result<Stan
         left: unheld_left(alloc, left)?,
         seen: copied(alloc, seen)?,
         held: None,
+        is_merge_due: false,
         has_file: !sides.lacking.contains(&digest),
         is_certain: sides.are_quiet && are_same(seen, sides.seen_before.get(&digest)),
         is_own: has_come(left),

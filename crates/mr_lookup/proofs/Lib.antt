@@ -1,3 +1,4 @@
 -- lemmas
 pub mod HighestLemmas
 pub mod DigestLemmas
+pub mod ToldLemmas

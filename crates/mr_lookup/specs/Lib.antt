@@ -1,4 +1,5 @@
 pub mod Ancestors
 pub mod Highest
 pub mod Digest
+pub mod Told
 pub mod Rows

@@ -5,6 +5,11 @@ use Rattle.mr_mail.specs.Mail.{Mail}
 use Rattle.mr_madewith.specs.Revision.{Rev}
 use Rattle.mr_lookup.specs.Ancestors.{newest_common}
 use Rattle.mr_lookup.specs.Highest.{HasNone, higher_of}
+use Rattle.mr_lookup.specs.Told.{first_told}
+use Rattle.mr_replica.specs.declared.event.Event.TheVariants.{Create, Edit, Receive, Retire}
+use Rattle.mr_wire.specs.declared.frame.Body.TheVariants.{Item}
+use Rattle.mr_wire.specs.declared.frame.Frame.TheVariants as frame
+use Rattle.mr_wire.specs.declared.frame.Header.{Header}
 
 -- where nothing is known, nothing of any author is
 pub nothing_row : HasNone (λ item version. false) 3
@@ -42,3 +47,17 @@ one_head_row m = refl
 -- and two of two branches have none there
 pub none_row : (m : Mail) → newest_common (rev 1 1 1 m ∷ rev 0 4 3 m ∷ []) (rev 0 2 1 m ∷ rev 0 3 2 m ∷ []) ≡ []
 none_row m = refl
+
+-- ---- what a log tells first
+
+-- the second Create of replica 5 made 5.3, since an Edit issued 5.2 between
+pub own_row : (m n : Mail) → first_told 5 (Create m ∷ Edit [] m ∷ Retire ∷ Create n ∷ []) (record { author = 5; counter = 3 }) ≡ Some n
+own_row m n = refl
+
+-- and no item is named for the Edit's version
+pub edit_row : (m n : Mail) → first_told 5 (Create m ∷ Edit [] m ∷ Retire ∷ Create n ∷ []) (record { author = 5; counter = 2 }) ≡ None
+edit_row m n = refl
+
+-- of what was received of an item the first counts
+pub received_row : (h : Header) (m n : Mail) → first_told 5 (Receive (frame.Record (record { header = h; body = Item (rev 0 1 0 m) })) ∷ Receive (frame.Record (record { header = h; body = Item (rev 1 1 1 n) })) ∷ []) first ≡ Some m
+received_row h m n = refl

@@ -3,7 +3,8 @@
 //! Two hosts that meet say how much they know: [`highest_counter`] of each author, and [`knowledge_digest`], which is the same for
 //! two replicas exactly where they know the same (but for two texts with one digest). One who answers a request may look
 //! up what the request claims, by [`asked_of`]. One who merges heads of an item may look for what they come of, by
-//! [`newest_common_ancestors`].
+//! [`newest_common_ancestors`], and one who has to know what an item was that is held no more asks for the first message that the log
+//! tells of it, by [`told_messages`].
 //!
 //! ```
 //! let mine = knowledge_digest(alloc, &replica)?;
@@ -19,8 +20,10 @@ mod ancestors;
 mod asked;
 mod digest;
 mod highest;
+mod told;
 
 pub use ancestors::newest_common_ancestors;
 pub use asked::asked_of;
 pub use digest::knowledge_digest;
 pub use highest::highest_counter;
+pub use told::told_messages;

@@ -1,14 +1,16 @@
 -- The states of a talk accept just the talks.
-use Rattle.std.proofs.Common.{◌≡◌, ℕ, zero, suc, Bool, true, false, List, [], ◌∷◌, ◌++◌, Option, Some, None, ◌⊎◌, inl, inr, refl, sym, ap, subst, ◌∙◌, append_assoc}
+use Rattle.std.proofs.Common.{◌≡◌, ℕ, zero, suc, Bool, true, false, cond, ◌&&◌, List, [], ◌∷◌, ◌++◌, Option, Some, None, ◌⊎◌, inl, inr, refl, sym, ap, subst, ◌∙◌, append_assoc}
 use Rattle.std.specs.Prelude.{IsTrue, replicate}
 use Rattle.std.specs.List.{flat_map}
 use Rattle.std.proofs.lemmas.List.Concat.{flat_map-cons}
+use Rattle.std.proofs.lemmas.Bool.{and_parts}
 use Rattle.mr_talk.specs.declared.kind.Kind.{Kind}
 use Rattle.mr_talk.specs.declared.kind.Kind.TheVariants.{Hello, Idle, Ask, Begin, Piece, End, Missing, Records, Wants, PushOuts, Receipts, Turn as Passes, Done, Fault}
 use Rattle.mr_talk.specs.declared.turn.Turn.{Turn}
 use Rattle.mr_talk.specs.declared.turn.Turn.TheVariants.{CallerGreets, CalledGreets, CalledAsks, CalledPasses, CallerAsks, CallerTells, CallerTellsFile, CalledTells, CalledTellsFile, CallerSettles, CallerSettlesFile, CallerWants, CalledSettles, CalledSettlesFile, CalledCloses, CallerCloses, Over, Failed}
 use Rattle.mr_talk.specs.Turns.{next_of, Leads}
-use Rattle.mr_talk.specs.Grammar.{Part, One, File, part_kinds, is_in, May, AllMay, IsSaid, IsTold, IsToldBack, IsSettled, IsWanted, IsSettledBack, AreReceipts, IsLate, IsClose, IsOpen, IsHalfDone, IsLong, IsWholeTalk}
+use Rattle.mr_talk.proofs.Tables.{each_kind, kind_at, is_kind, kind_from, is_turn, turn_from, turn_not, each_placed, placed_at}
+use Rattle.mr_talk.specs.Grammar.{Part, One, File, part_kinds, is_in, May, AllMay, IsSaid, IsTold, IsLate, IsClose, IsOpen, IsHalfDone, IsLong, IsWholeTalk}
 
 -- ---- what is said in a turn leaves the state as it is
 
@@ -144,208 +146,118 @@ module _ {S F : Turn} {singles : List Kind} {files : Bool} {leaving : Kind → B
   parsed : (ks : List Kind) → Leads S ks Over → Leaves S singles files leaving ks
   parsed ks = (both ks).0
 
--- ---- the states
+-- ---- the states, each by its table
 
-nowhere : (k : Kind) (t : Turn) (S F : Turn) → next_of Failed k ≡ Some t → SortWithin S F k t
-nowhere k t S F e = let no : ◌≡◌ {A = Option Turn} None (Some t) = e in absurd cc
+-- the first of two tests that holds decides
+abbrev choice : Bool → Bool → Bool → Bool → Bool → Bool
+choice a x b y z = cond a x (cond b y z)
 
-abbrev told_leaving : Kind → Bool
-told_leaving = is_in (Passes ∷ Fault ∷ [])
+chosen : (a x b y z : Bool) → choice a x b y z ≡ true → ((a ≡ true) × (x ≡ true)) ⊎ (((b ≡ true) × (y ≡ true)) ⊎ (z ≡ true))
+chosen true x b y z h = inl (refl, h)
+chosen false x true y z h = inr (inl (refl, h))
+chosen false x false y z h = inr (inr h)
+
+abbrev is_sorted : (S F : Turn) → List Kind → Bool → (Kind → Bool) → Kind → Turn → Bool
+is_sorted S F singles files leaving k t = choice (is_in singles k) (is_turn t S) (is_kind k Begin && files) (is_turn t F) (leaving k)
+
+abbrev is_sorted_within : (S F : Turn) → Kind → Turn → Bool
+is_sorted_within S F k t = choice (is_kind k Piece) (is_turn t F) (is_kind k End) (is_turn t S) (is_turn t Failed)
+
+sorts_from : (S F : Turn) (singles : List Kind) (files : Bool) (leaving : Kind → Bool) → each_placed S (is_sorted S F singles files leaving) ≡ true → each_placed F (is_sorted_within S F) ≡ true → is_turn S Over ≡ false → is_turn F Over ≡ false →
+    Sorts S F singles files leaving
+sorts_from S F singles files leaving table inner s f = record { sort = sort; within = within; opens = turn_not S Over s; opens_within = turn_not F Over f }
+  where
+    sort : (k : Kind) (t : Turn) → next_of S k ≡ Some t → Sort S F singles files leaving k t
+    sort k t n = at_choice (chosen (is_in singles k) (is_turn t S) (is_kind k Begin && files) (is_turn t F) (leaving k) (placed_at S (is_sorted S F singles files leaving) table k t n))
+      where
+        at_choice : ((is_in singles k ≡ true) × (is_turn t S ≡ true)) ⊎ ((((is_kind k Begin && files) ≡ true) × (is_turn t F ≡ true)) ⊎ (leaving k ≡ true)) → Sort S F singles files leaving k t
+        at_choice (inl h) = inl (h.0, turn_from t S h.1)
+        at_choice (inr (inl h)) = let both = and_parts (is_kind k Begin) files h.0 in inr (inl (kind_from k Begin both.0, both.1, turn_from t F h.1))
+        at_choice (inr (inr h)) = inr (inr h)
+
+    within : (k : Kind) (t : Turn) → next_of F k ≡ Some t → SortWithin S F k t
+    within k t n = at_choice (chosen (is_kind k Piece) (is_turn t F) (is_kind k End) (is_turn t S) (is_turn t Failed) (placed_at F (is_sorted_within S F) inner k t n))
+      where
+        at_choice : ((is_kind k Piece ≡ true) × (is_turn t F ≡ true)) ⊎ (((is_kind k End ≡ true) × (is_turn t S ≡ true)) ⊎ (is_turn t Failed ≡ true)) → SortWithin S F k t
+        at_choice (inl h) = inl (kind_from k Piece h.0, turn_from t F h.1)
+        at_choice (inr (inl h)) = inr (inl (kind_from k End h.0, turn_from t S h.1))
+        at_choice (inr (inr h)) = inr (inr (turn_from t Failed h))
+
+abbrev is_next : Option Turn → Turn → Bool
+is_next None S = false
+is_next (Some t) S = is_turn t S
+
+abbrev all_stay : Turn → List Kind → Bool
+all_stay S singles = each_kind (λ (k : Kind). cond (is_in singles k) (is_next (next_of S k) S) true)
+
+stays_from : (S : Turn) (singles : List Kind) → all_stay S singles ≡ true → (k : Kind) → IsTrue (is_in singles k) → next_of S k ≡ Some S
+stays_from S singles table k m =
+    let h = kind_at (λ (j : Kind). cond (is_in singles j) (is_next (next_of S j) S) true) table k in
+    at_next (next_of S k) (subst (λ (b : Bool). cond b (is_next (next_of S k) S) true ≡ true) m h)
+  where
+    at_next : (o : Option Turn) → is_next o S ≡ true → o ≡ Some S
+    at_next None h = absurd cc
+    at_next (Some t) h = ap (λ (x : Turn). Some x) (turn_from t S h)
+
+file_stage : (S F : Turn) (singles : List Kind) → all_stay S singles ≡ true → next_of S Begin ≡ Some F → next_of F Piece ≡ Some F → next_of F End ≡ Some S → Stage S F singles true
+file_stage S F singles table begins goes_on ends = record { stays = stays_from S singles table; begins = λ _. begins; goes_on = λ _. goes_on; ends = λ _. ends }
+
+plain_stage : (S : Turn) (singles : List Kind) → all_stay S singles ≡ true → Stage S Failed singles false
+plain_stage S singles table = record { stays = stays_from S singles table; begins = λ h. absurd (no h); goes_on = λ h. absurd (no h); ends = λ h. absurd (no h) }
+  where
+    no : IsTrue false → ⊥
+    no h = cc
+
+abbrev ends_third : Kind → Bool
+ends_third = is_in (Passes ∷ Fault ∷ [])
+
+abbrev ends_turn : Kind → Bool
+ends_turn = is_in (Passes ∷ Done ∷ Fault ∷ [])
+
+abbrev ends_last : Kind → Bool
+ends_last = is_in (Done ∷ Fault ∷ [])
 
 told_stage : Stage CallerTells CallerTellsFile (Records ∷ PushOuts ∷ []) true
-told_stage = record { stays = stays; begins = λ _. refl; goes_on = λ _. refl; ends = λ _. refl }
-  where
-    stays : (k : Kind) → IsTrue (is_in (Records ∷ PushOuts ∷ []) k) → next_of CallerTells k ≡ Some CallerTells
-    stays Records h = refl
-    stays PushOuts h = refl
-    stays k h = absurd cc
+told_stage = file_stage CallerTells CallerTellsFile (Records ∷ PushOuts ∷ []) refl refl refl refl
 
-told_sorts : Sorts CallerTells CallerTellsFile (Records ∷ PushOuts ∷ []) true told_leaving
-told_sorts = record { sort = sort; within = within; opens = λ e. cc; opens_within = λ e. cc }
-  where
-    sort : (k : Kind) (t : Turn) → next_of CallerTells k ≡ Some t → Sort CallerTells CallerTellsFile (Records ∷ PushOuts ∷ []) true told_leaving k t
-    sort Records t e = inl (refl, cc)
-    sort PushOuts t e = inl (refl, cc)
-    sort Begin t e = inr (inl (refl, refl, cc))
-    sort Passes t e = inr (inr refl)
-    sort Fault t e = inr (inr refl)
-    sort k t e = absurd cc
-
-    within : (k : Kind) (t : Turn) → next_of CallerTellsFile k ≡ Some t → SortWithin CallerTells CallerTellsFile k t
-    within Piece t e = inl (refl, cc)
-    within End t e = inr (inl (refl, cc))
-    within Fault t e = inr (inr cc)
-    within k t e = absurd cc
-
-abbrev back_leaving : Kind → Bool
-back_leaving = is_in (Passes ∷ Done ∷ Fault ∷ [])
+told_sorts : Sorts CallerTells CallerTellsFile (Records ∷ PushOuts ∷ []) true ends_third
+told_sorts = sorts_from CallerTells CallerTellsFile (Records ∷ PushOuts ∷ []) true ends_third refl refl refl refl
 
 back_stage : Stage CalledTells CalledTellsFile (Records ∷ PushOuts ∷ Receipts ∷ Wants ∷ []) true
-back_stage = record { stays = stays; begins = λ _. refl; goes_on = λ _. refl; ends = λ _. refl }
-  where
-    stays : (k : Kind) → IsTrue (is_in (Records ∷ PushOuts ∷ Receipts ∷ Wants ∷ []) k) → next_of CalledTells k ≡ Some CalledTells
-    stays Records h = refl
-    stays PushOuts h = refl
-    stays Receipts h = refl
-    stays Wants h = refl
-    stays k h = absurd cc
+back_stage = file_stage CalledTells CalledTellsFile (Records ∷ PushOuts ∷ Receipts ∷ Wants ∷ []) refl refl refl refl
 
-back_sorts : Sorts CalledTells CalledTellsFile (Records ∷ PushOuts ∷ Receipts ∷ Wants ∷ []) true back_leaving
-back_sorts = record { sort = sort; within = within; opens = λ e. cc; opens_within = λ e. cc }
-  where
-    sort : (k : Kind) (t : Turn) → next_of CalledTells k ≡ Some t → Sort CalledTells CalledTellsFile (Records ∷ PushOuts ∷ Receipts ∷ Wants ∷ []) true back_leaving k t
-    sort Records t e = inl (refl, cc)
-    sort PushOuts t e = inl (refl, cc)
-    sort Receipts t e = inl (refl, cc)
-    sort Wants t e = inl (refl, cc)
-    sort Begin t e = inr (inl (refl, refl, cc))
-    sort Passes t e = inr (inr refl)
-    sort Done t e = inr (inr refl)
-    sort Fault t e = inr (inr refl)
-    sort k t e = absurd cc
-
-    within : (k : Kind) (t : Turn) → next_of CalledTellsFile k ≡ Some t → SortWithin CalledTells CalledTellsFile k t
-    within Piece t e = inl (refl, cc)
-    within End t e = inr (inl (refl, cc))
-    within Fault t e = inr (inr cc)
-    within k t e = absurd cc
-
-abbrev settled_leaving : Kind → Bool
-settled_leaving = is_in (Passes ∷ Done ∷ Fault ∷ [])
+back_sorts : Sorts CalledTells CalledTellsFile (Records ∷ PushOuts ∷ Receipts ∷ Wants ∷ []) true ends_turn
+back_sorts = sorts_from CalledTells CalledTellsFile (Records ∷ PushOuts ∷ Receipts ∷ Wants ∷ []) true ends_turn refl refl refl refl
 
 settled_stage : Stage CallerSettles CallerSettlesFile (Missing ∷ Receipts ∷ Wants ∷ []) true
-settled_stage = record { stays = stays; begins = λ _. refl; goes_on = λ _. refl; ends = λ _. refl }
-  where
-    stays : (k : Kind) → IsTrue (is_in (Missing ∷ Receipts ∷ Wants ∷ []) k) → next_of CallerSettles k ≡ Some CallerSettles
-    stays Missing h = refl
-    stays Receipts h = refl
-    stays Wants h = refl
-    stays k h = absurd cc
+settled_stage = file_stage CallerSettles CallerSettlesFile (Missing ∷ Receipts ∷ Wants ∷ []) refl refl refl refl
 
-settled_sorts : Sorts CallerSettles CallerSettlesFile (Missing ∷ Receipts ∷ Wants ∷ []) true settled_leaving
-settled_sorts = record { sort = sort; within = within; opens = λ e. cc; opens_within = λ e. cc }
-  where
-    sort : (k : Kind) (t : Turn) → next_of CallerSettles k ≡ Some t → Sort CallerSettles CallerSettlesFile (Missing ∷ Receipts ∷ Wants ∷ []) true settled_leaving k t
-    sort Missing t e = inl (refl, cc)
-    sort Receipts t e = inl (refl, cc)
-    sort Wants t e = inl (refl, cc)
-    sort Begin t e = inr (inl (refl, refl, cc))
-    sort Passes t e = inr (inr refl)
-    sort Done t e = inr (inr refl)
-    sort Fault t e = inr (inr refl)
-    sort k t e = absurd cc
-
-    within : (k : Kind) (t : Turn) → next_of CallerSettlesFile k ≡ Some t → SortWithin CallerSettles CallerSettlesFile k t
-    within Piece t e = inl (refl, cc)
-    within End t e = inr (inl (refl, cc))
-    within Fault t e = inr (inr cc)
-    within k t e = absurd cc
-
-abbrev wanted_leaving : Kind → Bool
-wanted_leaving = is_in (Passes ∷ Done ∷ Fault ∷ [])
+settled_sorts : Sorts CallerSettles CallerSettlesFile (Missing ∷ Receipts ∷ Wants ∷ []) true ends_turn
+settled_sorts = sorts_from CallerSettles CallerSettlesFile (Missing ∷ Receipts ∷ Wants ∷ []) true ends_turn refl refl refl refl
 
 wanted_stage : Stage CallerWants Failed (Receipts ∷ Wants ∷ []) false
-wanted_stage = record { stays = stays; begins = λ h. absurd (no h); goes_on = λ h. absurd (no h); ends = λ h. absurd (no h) }
-  where
-    no : IsTrue false → ⊥
-    no h = cc
+wanted_stage = plain_stage CallerWants (Receipts ∷ Wants ∷ []) refl
 
-    stays : (k : Kind) → IsTrue (is_in (Receipts ∷ Wants ∷ []) k) → next_of CallerWants k ≡ Some CallerWants
-    stays Receipts h = refl
-    stays Wants h = refl
-    stays k h = absurd cc
-
-wanted_sorts : Sorts CallerWants Failed (Receipts ∷ Wants ∷ []) false wanted_leaving
-wanted_sorts = record { sort = sort; within = within; opens = λ e. cc; opens_within = λ e. cc }
-  where
-    sort : (k : Kind) (t : Turn) → next_of CallerWants k ≡ Some t → Sort CallerWants Failed (Receipts ∷ Wants ∷ []) false wanted_leaving k t
-    sort Receipts t e = inl (refl, cc)
-    sort Wants t e = inl (refl, cc)
-    sort Passes t e = inr (inr refl)
-    sort Done t e = inr (inr refl)
-    sort Fault t e = inr (inr refl)
-    sort k t e = absurd cc
-
-    within : (k : Kind) (t : Turn) → next_of Failed k ≡ Some t → SortWithin CallerWants Failed k t
-    within k t e = nowhere k t CallerWants Failed e
-
-abbrev settled_back_leaving : Kind → Bool
-settled_back_leaving = is_in (Done ∷ Fault ∷ [])
+wanted_sorts : Sorts CallerWants Failed (Receipts ∷ Wants ∷ []) false ends_turn
+wanted_sorts = sorts_from CallerWants Failed (Receipts ∷ Wants ∷ []) false ends_turn refl refl refl refl
 
 settled_back_stage : Stage CalledSettles CalledSettlesFile (Missing ∷ Receipts ∷ []) true
-settled_back_stage = record { stays = stays; begins = λ _. refl; goes_on = λ _. refl; ends = λ _. refl }
-  where
-    stays : (k : Kind) → IsTrue (is_in (Missing ∷ Receipts ∷ []) k) → next_of CalledSettles k ≡ Some CalledSettles
-    stays Missing h = refl
-    stays Receipts h = refl
-    stays k h = absurd cc
+settled_back_stage = file_stage CalledSettles CalledSettlesFile (Missing ∷ Receipts ∷ []) refl refl refl refl
 
-settled_back_sorts : Sorts CalledSettles CalledSettlesFile (Missing ∷ Receipts ∷ []) true settled_back_leaving
-settled_back_sorts = record { sort = sort; within = within; opens = λ e. cc; opens_within = λ e. cc }
-  where
-    sort : (k : Kind) (t : Turn) → next_of CalledSettles k ≡ Some t → Sort CalledSettles CalledSettlesFile (Missing ∷ Receipts ∷ []) true settled_back_leaving k t
-    sort Missing t e = inl (refl, cc)
-    sort Receipts t e = inl (refl, cc)
-    sort Begin t e = inr (inl (refl, refl, cc))
-    sort Done t e = inr (inr refl)
-    sort Fault t e = inr (inr refl)
-    sort k t e = absurd cc
-
-    within : (k : Kind) (t : Turn) → next_of CalledSettlesFile k ≡ Some t → SortWithin CalledSettles CalledSettlesFile k t
-    within Piece t e = inl (refl, cc)
-    within End t e = inr (inl (refl, cc))
-    within Fault t e = inr (inr cc)
-    within k t e = absurd cc
-
-abbrev closes_leaving : Kind → Bool
-closes_leaving = is_in (Done ∷ Fault ∷ [])
+settled_back_sorts : Sorts CalledSettles CalledSettlesFile (Missing ∷ Receipts ∷ []) true ends_last
+settled_back_sorts = sorts_from CalledSettles CalledSettlesFile (Missing ∷ Receipts ∷ []) true ends_last refl refl refl refl
 
 closes_stage : Stage CalledCloses Failed (Receipts ∷ []) false
-closes_stage = record { stays = stays; begins = λ h. absurd (no h); goes_on = λ h. absurd (no h); ends = λ h. absurd (no h) }
-  where
-    no : IsTrue false → ⊥
-    no h = cc
+closes_stage = plain_stage CalledCloses (Receipts ∷ []) refl
 
-    stays : (k : Kind) → IsTrue (is_in (Receipts ∷ []) k) → next_of CalledCloses k ≡ Some CalledCloses
-    stays Receipts h = refl
-    stays k h = absurd cc
-
-closes_sorts : Sorts CalledCloses Failed (Receipts ∷ []) false closes_leaving
-closes_sorts = record { sort = sort; within = within; opens = λ e. cc; opens_within = λ e. cc }
-  where
-    sort : (k : Kind) (t : Turn) → next_of CalledCloses k ≡ Some t → Sort CalledCloses Failed (Receipts ∷ []) false closes_leaving k t
-    sort Receipts t e = inl (refl, cc)
-    sort Done t e = inr (inr refl)
-    sort Fault t e = inr (inr refl)
-    sort k t e = absurd cc
-
-    within : (k : Kind) (t : Turn) → next_of Failed k ≡ Some t → SortWithin CalledCloses Failed k t
-    within k t e = nowhere k t CalledCloses Failed e
-
-abbrev last_leaving : Kind → Bool
-last_leaving = is_in (Done ∷ Fault ∷ [])
+closes_sorts : Sorts CalledCloses Failed (Receipts ∷ []) false ends_last
+closes_sorts = sorts_from CalledCloses Failed (Receipts ∷ []) false ends_last refl refl refl refl
 
 last_stage : Stage CallerCloses Failed (Receipts ∷ []) false
-last_stage = record { stays = stays; begins = λ h. absurd (no h); goes_on = λ h. absurd (no h); ends = λ h. absurd (no h) }
-  where
-    no : IsTrue false → ⊥
-    no h = cc
+last_stage = plain_stage CallerCloses (Receipts ∷ []) refl
 
-    stays : (k : Kind) → IsTrue (is_in (Receipts ∷ []) k) → next_of CallerCloses k ≡ Some CallerCloses
-    stays Receipts h = refl
-    stays k h = absurd cc
-
-last_sorts : Sorts CallerCloses Failed (Receipts ∷ []) false last_leaving
-last_sorts = record { sort = sort; within = within; opens = λ e. cc; opens_within = λ e. cc }
-  where
-    sort : (k : Kind) (t : Turn) → next_of CallerCloses k ≡ Some t → Sort CallerCloses Failed (Receipts ∷ []) false last_leaving k t
-    sort Receipts t e = inl (refl, cc)
-    sort Done t e = inr (inr refl)
-    sort Fault t e = inr (inr refl)
-    sort k t e = absurd cc
-
-    within : (k : Kind) (t : Turn) → next_of Failed k ≡ Some t → SortWithin CallerCloses Failed k t
-    within k t e = nowhere k t CallerCloses Failed e
+last_sorts : Sorts CallerCloses Failed (Receipts ∷ []) false ends_last
+last_sorts = sorts_from CallerCloses Failed (Receipts ∷ []) false ends_last refl refl refl refl
 
 -- ---- each talk is accepted
 
@@ -404,10 +316,10 @@ same_next S k t u a b = cc
 to : (S : Turn) (k : Kind) (t u : Turn) (rest : List Kind) → next_of S k ≡ Some u → next_of S k ≡ Some t → Leads t rest Over → Leads u rest Over
 to S k t u rest e n r = subst (λ (x : Turn). Leads x rest Over) (same_next S k t u n e) r
 
-closing : (S : Turn) → next_of S Done ≡ Some Over → next_of S Fault ≡ Some Failed → (ks : List Kind) → Leaves S (Receipts ∷ []) false (is_in (Done ∷ Fault ∷ [])) ks → IsClose ks
+closing : (S : Turn) → next_of S Done ≡ Some Over → next_of S Fault ≡ Some Failed → (ks : List Kind) → Leaves S (Receipts ∷ []) false ends_last ks → IsClose ks
 closing S d f ks l = at_kind l.kind l.leaves l.is_next l.whole
   where
-    at_kind : (k : Kind) → IsTrue (is_in (Done ∷ Fault ∷ []) k) → next_of S k ≡ Some l.next → ks ≡ l.said ++ k ∷ l.rest → IsClose ks
+    at_kind : (k : Kind) → IsTrue (ends_last k) → next_of S k ≡ Some l.next → ks ≡ l.said ++ k ∷ l.rest → IsClose ks
     at_kind Done h n w = record { sixth = l.said; receipts = l.is_said; whole = w ∙ ap (λ (x : List Kind). l.said ++ Done ∷ x) (over_is l.rest (to S Done l.next Over l.rest d n l.runs)) }
     at_kind Fault h n w = absurd (failed_stays l.rest (to S Fault l.next Failed l.rest f n l.runs))
     at_kind k h n w = absurd cc
@@ -415,10 +327,10 @@ closing S d f ks l = at_kind l.kind l.leaves l.is_next l.whole
 late_is : (ks : List Kind) → Leads CalledSettles ks Over → IsLate ks
 late_is ks r = at_left (parsed settled_back_sorts ks r)
   where
-    at_left : Leaves CalledSettles (Missing ∷ Receipts ∷ []) true settled_back_leaving ks → IsLate ks
+    at_left : Leaves CalledSettles (Missing ∷ Receipts ∷ []) true ends_last ks → IsLate ks
     at_left l = at_kind l.kind l.leaves l.is_next l.whole
       where
-        at_kind : (k : Kind) → IsTrue (settled_back_leaving k) → next_of CalledSettles k ≡ Some l.next → ks ≡ l.said ++ k ∷ l.rest → IsLate ks
+        at_kind : (k : Kind) → IsTrue (ends_last k) → next_of CalledSettles k ≡ Some l.next → ks ≡ l.said ++ k ∷ l.rest → IsLate ks
         at_kind Done h n w =
             let c = closing CallerCloses refl refl l.rest (parsed last_sorts l.rest (to CalledSettles Done l.next CallerCloses l.rest refl n l.runs)) in
             record { sixth = l.said; seventh = c.sixth; settled = l.is_said; receipts = c.receipts; whole = w ∙ ap (λ (x : List Kind). l.said ++ Done ∷ x) c.whole }
@@ -428,10 +340,10 @@ late_is ks r = at_left (parsed settled_back_sorts ks r)
 open_is : (ks : List Kind) → Leads CallerSettles ks Over → IsOpen ks
 open_is ks r = at_left (parsed settled_sorts ks r)
   where
-    at_left : Leaves CallerSettles (Missing ∷ Receipts ∷ Wants ∷ []) true settled_leaving ks → IsOpen ks
+    at_left : Leaves CallerSettles (Missing ∷ Receipts ∷ Wants ∷ []) true ends_turn ks → IsOpen ks
     at_left l = at_kind l.kind l.leaves l.is_next l.whole
       where
-        at_kind : (k : Kind) → IsTrue (settled_leaving k) → next_of CallerSettles k ≡ Some l.next → ks ≡ l.said ++ k ∷ l.rest → IsOpen ks
+        at_kind : (k : Kind) → IsTrue (ends_turn k) → next_of CallerSettles k ≡ Some l.next → ks ≡ l.said ++ k ∷ l.rest → IsOpen ks
         at_kind Passes h n w = record { fifth = l.said; rest = l.rest; settled = l.is_said; whole = inl (late_is l.rest (to CallerSettles Passes l.next CalledSettles l.rest refl n l.runs), w) }
         at_kind Done h n w =
             record { fifth = l.said; rest = l.rest; settled = l.is_said; whole = inr (closing CalledCloses refl refl l.rest (parsed closes_sorts l.rest (to CallerSettles Done l.next CalledCloses l.rest refl n l.runs)), w) }
@@ -441,10 +353,10 @@ open_is ks r = at_left (parsed settled_sorts ks r)
 half_is : (ks : List Kind) → Leads CallerWants ks Over → IsHalfDone ks
 half_is ks r = at_left (parsed wanted_sorts ks r)
   where
-    at_left : Leaves CallerWants (Receipts ∷ Wants ∷ []) false wanted_leaving ks → IsHalfDone ks
+    at_left : Leaves CallerWants (Receipts ∷ Wants ∷ []) false ends_turn ks → IsHalfDone ks
     at_left l = at_kind l.kind l.leaves l.is_next l.whole
       where
-        at_kind : (k : Kind) → IsTrue (wanted_leaving k) → next_of CallerWants k ≡ Some l.next → ks ≡ l.said ++ k ∷ l.rest → IsHalfDone ks
+        at_kind : (k : Kind) → IsTrue (ends_turn k) → next_of CallerWants k ≡ Some l.next → ks ≡ l.said ++ k ∷ l.rest → IsHalfDone ks
         at_kind Passes h n w = record { fifth = l.said; rest = l.rest; wanted = l.is_said; whole = inl (late_is l.rest (to CallerWants Passes l.next CalledSettles l.rest refl n l.runs), w) }
         at_kind Done h n w =
             let none : l.rest ≡ [] = over_is l.rest (to CallerWants Done l.next Over l.rest refl n l.runs) in
@@ -463,10 +375,10 @@ record IsThird (kinds : List Kind) : Type 0 where
 third_is : (ks : List Kind) → Leads CallerTells ks Over → IsThird ks
 third_is ks r = at_left (parsed told_sorts ks r)
   where
-    at_left : Leaves CallerTells (Records ∷ PushOuts ∷ []) true told_leaving ks → IsThird ks
+    at_left : Leaves CallerTells (Records ∷ PushOuts ∷ []) true ends_third ks → IsThird ks
     at_left l = at_kind l.kind l.leaves l.is_next l.whole
       where
-        at_kind : (k : Kind) → IsTrue (told_leaving k) → next_of CallerTells k ≡ Some l.next → ks ≡ l.said ++ k ∷ l.rest → IsThird ks
+        at_kind : (k : Kind) → IsTrue (ends_third k) → next_of CallerTells k ≡ Some l.next → ks ≡ l.said ++ k ∷ l.rest → IsThird ks
         at_kind Passes h n w = record { third = l.said; rest = l.rest; told = l.is_said; whole = w; runs = to CallerTells Passes l.next CalledTells l.rest refl n l.runs }
         at_kind Fault h n w = absurd (failed_stays l.rest (to CallerTells Fault l.next Failed l.rest refl n l.runs))
         at_kind k h n w = absurd cc
@@ -480,10 +392,10 @@ long_is rest r = at_third (third_is rest r)
     at_third : IsThird rest → IsLong (Hello ∷ Hello ∷ Ask ∷ Passes ∷ Ask ∷ rest)
     at_third t = at_left (parsed back_sorts t.rest t.runs)
       where
-        at_left : Leaves CalledTells (Records ∷ PushOuts ∷ Receipts ∷ Wants ∷ []) true back_leaving t.rest → IsLong (Hello ∷ Hello ∷ Ask ∷ Passes ∷ Ask ∷ rest)
+        at_left : Leaves CalledTells (Records ∷ PushOuts ∷ Receipts ∷ Wants ∷ []) true ends_turn t.rest → IsLong (Hello ∷ Hello ∷ Ask ∷ Passes ∷ Ask ∷ rest)
         at_left l = at_kind l.kind l.leaves l.is_next l.whole
           where
-            at_kind : (k : Kind) → IsTrue (back_leaving k) → next_of CalledTells k ≡ Some l.next → t.rest ≡ l.said ++ k ∷ l.rest → IsLong (Hello ∷ Hello ∷ Ask ∷ Passes ∷ Ask ∷ rest)
+            at_kind : (k : Kind) → IsTrue (ends_turn k) → next_of CalledTells k ≡ Some l.next → t.rest ≡ l.said ++ k ∷ l.rest → IsLong (Hello ∷ Hello ∷ Ask ∷ Passes ∷ Ask ∷ rest)
             at_kind Passes h n w = record {
               third = t.third;
               fourth = l.said;
@@ -503,27 +415,18 @@ long_is rest r = at_third (third_is rest r)
             at_kind Fault h n w = absurd (failed_stays l.rest (to CalledTells Fault l.next Failed l.rest refl n l.runs))
             at_kind k h n w = absurd cc
 
-not_over : (S : Turn) → (S ≡ Over → ⊥) → Leads S [] Over → ⊥
-not_over S h r = h r
-
--- the five messages before the third turn tells anything
-asked_is : (ks : List Kind) → Leads CallerAsks ks Over → (rest : List Kind) × (ks ≡ Ask ∷ rest) × Leads CallerTells rest Over
-asked_is [] r = absurd cc
-asked_is (Ask ∷ ks) r = (ks, refl, to CallerAsks Ask r.0 CallerTells ks refl r.1 r.2)
-asked_is (Fault ∷ ks) r = absurd (failed_stays ks (to CallerAsks Fault r.0 Failed ks refl r.1 r.2))
-asked_is (k ∷ ks) r = absurd cc
-
-passed_is : (ks : List Kind) → Leads CalledPasses ks Over → (rest : List Kind) × (ks ≡ Passes ∷ rest) × Leads CallerAsks rest Over
-passed_is [] r = absurd cc
-passed_is (Passes ∷ ks) r = (ks, refl, to CalledPasses Passes r.0 CallerAsks ks refl r.1 r.2)
-passed_is (Fault ∷ ks) r = absurd (failed_stays ks (to CalledPasses Fault r.0 Failed ks refl r.1 r.2))
-passed_is (k ∷ ks) r = absurd cc
-
-asks_is : (ks : List Kind) → Leads CalledAsks ks Over → (rest : List Kind) × (ks ≡ Ask ∷ rest) × Leads CalledPasses rest Over
-asks_is [] r = absurd cc
-asks_is (Ask ∷ ks) r = (ks, refl, to CalledAsks Ask r.0 CalledPasses ks refl r.1 r.2)
-asks_is (Fault ∷ ks) r = absurd (failed_stays ks (to CalledAsks Fault r.0 Failed ks refl r.1 r.2))
-asks_is (k ∷ ks) r = absurd cc
+-- a state in which only this message has a place, besides a fault
+only : (S T : Turn) (j : Kind) → each_placed S (λ k t. cond (is_kind k j) (is_turn t T) (is_turn t Failed)) ≡ true → is_turn S Over ≡ false → (ks : List Kind) → Leads S ks Over → (rest : List Kind) × (ks ≡ j ∷ rest) × Leads T rest Over
+only S T j table s [] r = absurd (turn_not S Over s r)
+only S T j table s (k ∷ ks) r = at_test (is_kind k j) refl (placed_at S (λ k t. cond (is_kind k j) (is_turn t T) (is_turn t Failed)) table k r.0 r.1)
+  where
+    at_test : (b : Bool) → is_kind k j ≡ b → cond (is_kind k j) (is_turn r.0 T) (is_turn r.0 Failed) ≡ true → (rest : List Kind) × (k ∷ ks ≡ j ∷ rest) × Leads T rest Over
+    at_test true e h =
+        let is : r.0 ≡ T = turn_from r.0 T (subst (λ (b : Bool). cond b (is_turn r.0 T) (is_turn r.0 Failed) ≡ true) e h) in
+        (ks, ap (λ (x : Kind). x ∷ ks) (kind_from k j e), subst (λ (x : Turn). Leads x ks Over) is r.2)
+    at_test false e h =
+        let is : r.0 ≡ Failed = turn_from r.0 Failed (subst (λ (b : Bool). cond b (is_turn r.0 T) (is_turn r.0 Failed) ≡ true) e h) in
+        absurd (failed_stays ks (subst (λ (x : Turn). Leads x ks Over) is r.2))
 
 greets_back : (ks : List Kind) → Leads CalledGreets ks Over → (ks ≡ Idle ∷ []) ⊎ ((rest : List Kind) × (ks ≡ Hello ∷ rest) × Leads CalledAsks rest Over)
 greets_back [] r = absurd cc
@@ -532,14 +435,8 @@ greets_back (Hello ∷ ks) r = inr (ks, refl, to CalledGreets Hello r.0 CalledAs
 greets_back (Fault ∷ ks) r = absurd (failed_stays ks (to CalledGreets Fault r.0 Failed ks refl r.1 r.2))
 greets_back (k ∷ ks) r = absurd cc
 
-greets_is : (ks : List Kind) → Leads CallerGreets ks Over → (rest : List Kind) × (ks ≡ Hello ∷ rest) × Leads CalledGreets rest Over
-greets_is [] r = absurd cc
-greets_is (Hello ∷ ks) r = (ks, refl, to CallerGreets Hello r.0 CalledGreets ks refl r.1 r.2)
-greets_is (Fault ∷ ks) r = absurd (failed_stays ks (to CallerGreets Fault r.0 Failed ks refl r.1 r.2))
-greets_is (k ∷ ks) r = absurd cc
-
 pub runs_talk : (ks : List Kind) → Leads CallerGreets ks Over → IsWholeTalk ks
-runs_talk ks r = at_first (greets_is ks r)
+runs_talk ks r = at_first (only CallerGreets CalledGreets Hello refl refl ks r)
   where
     at_first : (rest : List Kind) × (ks ≡ Hello ∷ rest) × Leads CalledGreets rest Over → IsWholeTalk ks
     at_first a = at_second (greets_back a.0 a.2)
@@ -547,9 +444,9 @@ runs_talk ks r = at_first (greets_is ks r)
         at_second : (a.0 ≡ Idle ∷ []) ⊎ ((rest : List Kind) × (a.0 ≡ Hello ∷ rest) × Leads CalledAsks rest Over) → IsWholeTalk ks
         at_second (inl e) = inl (a.1 ∙ ap (λ (x : List Kind). Hello ∷ x) e)
         at_second (inr b) =
-            let c = asks_is b.0 b.2 in
-            let d = passed_is c.0 c.2 in
-            let e = asked_is d.0 d.2 in
+            let c = only CalledAsks CalledPasses Ask refl refl b.0 b.2 in
+            let d = only CalledPasses CallerAsks Passes refl refl c.0 c.2 in
+            let e = only CallerAsks CallerTells Ask refl refl d.0 d.2 in
             let whole : ks ≡ Hello ∷ Hello ∷ Ask ∷ Passes ∷ Ask ∷ e.0 =
             a.1 ∙ ap (λ (x : List Kind). Hello ∷ x) (b.1 ∙ ap (λ (x : List Kind). Hello ∷ x) (c.1 ∙ ap (λ (x : List Kind). Ask ∷ x) (d.1 ∙ ap (λ (x : List Kind). Passes ∷ x) e.1))) in
             inr (subst (λ (x : List Kind). IsLong x) (sym whole) (long_is e.0 e.2))

@@ -8,9 +8,8 @@ use Rattle.mr_talk.specs.declared.hello.Hello.{Hello}
 use Rattle.mr_talk.specs.declared.hello.HelloFault.{HelloFault}
 use Rattle.mr_talk.specs.declared.hello.HelloFault.TheVariants.{Length, Format, Id, PushOuts, KeepsAll}
 use Rattle.mr_talk.specs.declared.hello.TheConstants.{HELLO_FORMAT}
-use Rattle.mr_talk.specs.declared.kind.TheConstants.{HELLO_BYTES}
 use Rattle.mr_talk.proofs.MessageLaws.{IsBytes, bytes_take, bytes_drop}
-use Rattle.mr_talk.specs.Hello.{flag, hello_bytes, IsHello, AreFields, IsLong, IsOfFormat, HasId, Reads}
+use Rattle.mr_talk.specs.Hello.{flag, hello_bytes, IsHello, AreFields, IsOfFormat, HasId, Reads}
 
 -- what the fields say of single bytes
 record Tells (bytes : List ℕ) (format id push_outs keeps_all : ℕ) : Type 0 where

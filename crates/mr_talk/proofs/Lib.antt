@@ -2,7 +2,9 @@ pub mod MessageLaws
 pub mod StreamLaws
 pub mod CallLaws
 pub mod HelloLaws
+pub mod Tables
 pub mod TurnLaws
 pub mod ToldLaws
 pub mod LineLaws
+pub mod TalkLaws
 pub mod GrammarLaws

@@ -7,13 +7,13 @@ use Rattle.std.proofs.lemmas.List.{take_at, drop_at, take-append-drop, take-appe
 use Rattle.std.proofs.lemmas.Nat.{be_bytes_4, from_be_bytes-to_be_bytes_4}
 use Rattle.mr_talk.specs.declared.kind.Kind.{Kind}
 use Rattle.mr_talk.specs.declared.kind.Kind.TheVariants.{Hello, Idle, Ask, Begin, Piece, End, Missing, Records, Wants, PushOuts, Receipts, Turn, Done, Fault}
-use Rattle.mr_talk.specs.declared.kind.TheConstants.{MAX_FRAMES_BYTES, MAX_LIST_BYTES, MAX_PIECE_BYTES, MAX_FAULT_BYTES}
+use Rattle.mr_talk.specs.declared.kind.TheConstants.{MAX_FRAMES_BYTES}
 use Rattle.mr_talk.specs.declared.fault.MessageFault.{MessageFault}
-use Rattle.mr_talk.specs.declared.fault.MessageFault.TheVariants.{OutOfMemory, Truncated, BadKind, TooLong, Failed}
+use Rattle.mr_talk.specs.declared.fault.MessageFault.TheVariants.{Truncated, TooLong}
 use Rattle.mr_talk.specs.Kinds.{kind_byte, kind_of_byte, limit_of}
 use Rattle.mr_talk.specs.Said.{Said, IsMessage, message_bytes}
 use Rattle.mr_talk.specs.Messages.{length_read, kind_read, head_read, body_read, decoded, Answers}
-use Rattle.mr_talk.specs.Stream.{Begins, IsPart}
+use Rattle.mr_talk.specs.Stream.{Begins}
 
 abbrev pub IsBytes : List ℕ → Type 0
 IsBytes bytes = (i : ℕ) → get_or bytes i 0 < 256
@@ -235,30 +235,6 @@ part_is_truncated m (byte ∷ rest) more fits e some =
     let first : kind_byte m.kind ≡ byte = cc in
     let others : to_be_bytes w32 (length m.bytes) ++ m.bytes ≡ rest ++ more = cc in
     part_from byte m.kind (to_be_bytes w32 (length m.bytes)) m.bytes rest more (ap kind_of_byte (sym first) ∙ kind_again m.kind) refl (from_be_bytes-to_be_bytes_4 (length m.bytes) small) fits others (some_bytes more some)
-
--- what lacks its end is shorter than the longest message
-pub truncated_is_part : (bytes : List ℕ) → decoded bytes ≡ Err Truncated → IsPart bytes
-truncated_is_part [] e = omega arith
-truncated_is_part (byte ∷ bytes) e = at_kind (kind_of_byte byte) refl e
-  where
-    at_body : (k : Kind) (len : ℕ) → len ≤ limit_of k → (b : Bool) → nat_lt (length (byte ∷ bytes)) (5 + len) ≡ b →
-        ◌≡◌ {A = Result (Said × ℕ) MessageFault} (cond b (Err Truncated) (Ok (record { kind = k; bytes = take len (drop 4 bytes) }, 5 + len))) (Err Truncated) → IsPart (byte ∷ bytes)
-    at_body k len fits true h e' = omega (arith, limit_most k, ltb-true (length (byte ∷ bytes)) (5 + len) h)
-    at_body k len fits false h e' = absurd cc
-
-    at_long : (k : Kind) (b : Bool) → nat_lt (limit_of k) (from_be_bytes w32 (take 4 bytes)) ≡ b →
-        body_read (byte ∷ bytes) (cond b (Err TooLong) (Ok (k, from_be_bytes w32 (take 4 bytes)))) ≡ Err Truncated → IsPart (byte ∷ bytes)
-    at_long k true h e' = absurd cc
-    at_long k false h e' = at_body k (from_be_bytes w32 (take 4 bytes)) (ltb-false _ _ h) _ refl e'
-
-    at_short : (k : Kind) (b : Bool) → nat_lt (length bytes) 4 ≡ b →
-        body_read (byte ∷ bytes) (cond b (Err Truncated) (cond (nat_lt (limit_of k) (from_be_bytes w32 (take 4 bytes))) (Err TooLong) (Ok (k, from_be_bytes w32 (take 4 bytes))))) ≡ Err Truncated → IsPart (byte ∷ bytes)
-    at_short k true h e' = let few : length bytes < 4 = ltb-true _ _ h in omega arith
-    at_short k false h e' = at_long k _ refl e'
-
-    at_kind : (o : Option Kind) → kind_of_byte byte ≡ o → body_read (byte ∷ bytes) (kind_read o bytes) ≡ Err Truncated → IsPart (byte ∷ bytes)
-    at_kind None h e' = absurd cc
-    at_kind (Some k) h e' = at_short k _ refl e'
 
 -- ---- answers
 

@@ -1,7 +1,7 @@
 -- The messages that bytes begin with are determined by the bytes.
-use Rattle.std.proofs.Common.{◌≡◌, ℕ, List, [], ◌∷◌, ◌++◌, Ok, Err, refl, sym, ap, subst, ◌∙◌, append_assoc}
+use Rattle.std.proofs.Common.{◌≡◌, ℕ, List, [], ◌∷◌, ◌++◌, Err, refl, sym, ap, subst, ◌∙◌, append_assoc}
 use Rattle.mr_talk.specs.declared.fault.MessageFault.{MessageFault}
-use Rattle.mr_talk.specs.Said.{Said, IsMessage, message_bytes}
+use Rattle.mr_talk.specs.Said.{Said, message_bytes}
 use Rattle.mr_talk.specs.Messages.{decoded}
 use Rattle.mr_talk.specs.Stream.{Begins, AreMessages}
 use Rattle.mr_talk.proofs.MessageLaws.{decoded_begin, begins_once}

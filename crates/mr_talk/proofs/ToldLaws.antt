@@ -1,9 +1,8 @@
 -- Where both know the same, or what they knew when nothing was told, nothing is told.
-use Rattle.std.proofs.Common.{◌≡◌, ◌⊎◌, inl, inr, ℕ, List, Bool, true, false, Option, Some, None, sym, ◌∙◌}
+use Rattle.std.proofs.Common.{◌≡◌, ◌⊎◌, inl, inr, Bool, true, false, Option, Some, None, sym, ◌∙◌}
 use Rattle.std.specs.Prelude.{IsTrue, MatchBool}
-use Rattle.std.specs.Prelude.{Contains}
 use Rattle.mr_version.specs.Name.{Name}
-use Rattle.mr_talk.specs.Told.{Side, IsSide, TellsKnowledge, IsTold, NothingIsTold, IsStill, Remembers, RemembersIfMet, AreOf}
+use Rattle.mr_talk.specs.Told.{Side, IsSide, TellsKnowledge, IsTold, NothingIsTold, IsStill, RemembersIfMet, AreOf}
 use Rattle.mr_talk.specs.declared.hello.Hello.{Hello}
 use Rattle.mr_talk.specs.declared.peer.Met.{Met}
 use Rattle.mr_talk.specs.Peer.{IsAsMet, HasNothingToTell}

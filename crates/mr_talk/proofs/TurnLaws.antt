@@ -1,42 +1,16 @@
 -- Both sides go through the same states, and there are at most seven turns.
-use Rattle.std.proofs.Common.{◌≡◌, ℕ, ◌+◌, ◌≤◌, Bool, true, false, cond, ◌&&◌, List, [], ◌∷◌, ◌++◌, Option, Some, None, ◌⊎◌, inl, inr, refl, sym, ap, subst, ◌∙◌, arith}
+use Rattle.std.proofs.Common.{◌≡◌, ℕ, ◌+◌, ◌≤◌, Bool, true, false, cond, List, [], ◌∷◌, ◌++◌, Option, Some, None, ◌⊎◌, inl, inr, refl, sym, ap, subst, ◌∙◌, arith}
 use Rattle.std.specs.Prelude.{nat_le, count_by}
-use Rattle.std.proofs.lemmas.Bool.{leb-true, and_parts}
+use Rattle.std.proofs.lemmas.Bool.{leb-true}
 use Rattle.std.proofs.lemmas.List.Sums.{sum_by-cons}
 use Rattle.mr_talk.specs.declared.kind.Kind.{Kind}
-use Rattle.mr_talk.specs.declared.kind.Kind.TheVariants.{Hello, Idle, Ask, Begin, Piece, End, Missing, Records, Wants, PushOuts, Receipts, Turn as Passes, Done, Fault}
 use Rattle.mr_talk.specs.declared.turn.Role.{Role}
 use Rattle.mr_talk.specs.declared.turn.Role.TheVariants.{Caller, Called}
 use Rattle.mr_talk.specs.declared.turn.Turn.{Turn}
 use Rattle.mr_talk.specs.declared.turn.Turn.TheVariants.{CallerGreets, CalledGreets, CalledAsks, CalledPasses, CallerAsks, CallerTells, CallerTellsFile, CalledTells, CalledTellsFile, CallerSettles, CallerSettlesFile, CallerWants, CalledSettles, CalledSettlesFile, CalledCloses, CallerCloses, Over, Failed}
-use Rattle.mr_talk.specs.Turns.{sender_of, number_of, next_of, Leads}
+use Rattle.mr_talk.specs.Turns.{sender_of, next_of, Leads}
+use Rattle.mr_talk.proofs.Tables.{turn_at, each_placed, placed_at}
 use Rattle.mr_talk.specs.World.{World, start, Event, Sends, Receives, allowed, caller_sends, called_sends, received, caller_receives, called_receives, happens, after, Follows, Agree, ends_turn}
-
--- ---- tables
-
-abbrev each_kind : (Kind → Bool) → Bool
-each_kind f = f Hello && (f Idle && (f Ask && (f Begin && (f Piece && (f End && (f Missing && (f Records && (f Wants && (f PushOuts && (f Receipts && (f Passes && (f Done && f Fault))))))))))))
-
-abbrev each_turn : (Turn → Bool) → Bool
-each_turn f = f CallerGreets && (f CalledGreets && (f CalledAsks && (f CalledPasses && (f CallerAsks && (f CallerTells && (f CallerTellsFile && (f CalledTells && (f CalledTellsFile && (f CallerSettles && (f CallerSettlesFile && (f CallerWants && (f CalledSettles && (f CalledSettlesFile && (f CalledCloses && (f CallerCloses && (f Over && f Failed))))))))))))))))
-
--- what holds of each kind holds of this one
-kind_at : (f : Kind → Bool) → each_kind f ≡ true → (k : Kind) → f k ≡ true
-kind_at f h k =
-    let p1 = and_parts _ _ h in let p2 = and_parts _ _ p1.1 in let p3 = and_parts _ _ p2.1 in let p4 = and_parts _ _ p3.1 in
-    let p5 = and_parts _ _ p4.1 in let p6 = and_parts _ _ p5.1 in let p7 = and_parts _ _ p6.1 in let p8 = and_parts _ _ p7.1 in
-    let p9 = and_parts _ _ p8.1 in let p10 = and_parts _ _ p9.1 in let p11 = and_parts _ _ p10.1 in let p12 = and_parts _ _ p11.1 in
-    let p13 = and_parts _ _ p12.1 in
-    elim k as (λ x. f x ≡ true) [ Hello ↦ p1.0 | Idle ↦ p2.0 | Ask ↦ p3.0 | Begin ↦ p4.0 | Piece ↦ p5.0 | End ↦ p6.0 | Missing ↦ p7.0 | Records ↦ p8.0 | Wants ↦ p9.0 | PushOuts ↦ p10.0 | Receipts ↦ p11.0 | Passes ↦ p12.0 | Done ↦ p13.0 | Fault ↦ p13.1 ]
-
-turn_at : (f : Turn → Bool) → each_turn f ≡ true → (t : Turn) → f t ≡ true
-turn_at f h t =
-    let p1 = and_parts _ _ h in let p2 = and_parts _ _ p1.1 in let p3 = and_parts _ _ p2.1 in let p4 = and_parts _ _ p3.1 in
-    let p5 = and_parts _ _ p4.1 in let p6 = and_parts _ _ p5.1 in let p7 = and_parts _ _ p6.1 in let p8 = and_parts _ _ p7.1 in
-    let p9 = and_parts _ _ p8.1 in let p10 = and_parts _ _ p9.1 in let p11 = and_parts _ _ p10.1 in let p12 = and_parts _ _ p11.1 in
-    let p13 = and_parts _ _ p12.1 in let p14 = and_parts _ _ p13.1 in let p15 = and_parts _ _ p14.1 in let p16 = and_parts _ _ p15.1 in
-    let p17 = and_parts _ _ p16.1 in
-    elim t as (λ x. f x ≡ true) [ CallerGreets ↦ p1.0 | CalledGreets ↦ p2.0 | CalledAsks ↦ p3.0 | CalledPasses ↦ p4.0 | CallerAsks ↦ p5.0 | CallerTells ↦ p6.0 | CallerTellsFile ↦ p7.0 | CalledTells ↦ p8.0 | CalledTellsFile ↦ p9.0 | CallerSettles ↦ p10.0 | CallerSettlesFile ↦ p11.0 | CallerWants ↦ p12.0 | CalledSettles ↦ p13.0 | CalledSettlesFile ↦ p14.0 | CalledCloses ↦ p15.0 | CallerCloses ↦ p16.0 | Over ↦ p17.0 | Failed ↦ p17.1 ]
 
 -- ---- at most seven turns
 
@@ -65,15 +39,11 @@ abbrev one_of : Bool → ℕ
 one_of true = 1
 one_of false = 0
 
-abbrev falls_to : Turn → Kind → Option Turn → Bool
-falls_to t k None = true
-falls_to t k (Some next) = nat_le (one_of (ends_turn k) + left next) (left t)
-
-falls : (t : Turn) (k : Kind) → falls_to t k (next_of t k) ≡ true
-falls t k = kind_at (λ (j : Kind). falls_to t j (next_of t j)) (turn_at (λ (s : Turn). each_kind (λ (j : Kind). falls_to s j (next_of s j))) refl t) k
+abbrev falls : Turn → Kind → Turn → Bool
+falls t k next = nat_le (one_of (ends_turn k) + left next) (left t)
 
 step_falls : (t : Turn) (k : Kind) (next : Turn) → next_of t k ≡ Some next → one_of (ends_turn k) + left next ≤ left t
-step_falls t k next e = leb-true _ _ (subst (λ (o : Option Turn). falls_to t k o ≡ true) e (falls t k))
+step_falls t k next e = leb-true _ _ (placed_at t (falls t) (turn_at (λ (s : Turn). each_placed s (falls s)) refl t) k next e)
 
 count_cons : (k : Kind) (ks : List Kind) → count_by ends_turn (k ∷ ks) ≡ one_of (ends_turn k) + count_by ends_turn ks
 count_cons k ks = sum_by-cons (λ (x : Kind). cond (ends_turn x) 1 0) k ks ∙ ap (λ (n : ℕ). n + count_by ends_turn ks) (at_test (ends_turn k))
@@ -124,50 +94,55 @@ allowed_is Called None next t e = absurd cc
 two_senders : (t : Turn) → sender_of t ≡ Some Caller → sender_of t ≡ Some Called → ⊥
 two_senders t a b = let e : ◌≡◌ {A = Option Role} (Some Caller) (Some Called) = sym a ∙ b in cc
 
--- where the caller may send, it has received all, and the called gets to its state
-caller_ahead : (w : World) → Agree w → sender_of w.caller ≡ Some Caller → Follows Caller w.called w.to_called w.caller × (w.to_caller ≡ [])
-caller_ahead w (inl h) s = h
-caller_ahead w (inr h) s = at_list w.to_caller refl h.0
-  where
-    at_list : (ks : List Kind) → w.to_caller ≡ ks → Follows Called w.caller ks w.called → Follows Caller w.called w.to_called w.caller × (w.to_caller ≡ [])
-    at_list [] e f = (subst (λ (x : List Kind). Follows Caller w.called x w.caller) (sym h.1) (sym f), e)
-    at_list (k ∷ ks) e f = absurd (two_senders w.caller s f.0)
+-- what is on its way from here, and what comes here from the other side
+abbrev AgreeHere : (here away : Role) (mine theirs : Turn) (going coming : List Kind) → Type 0
+AgreeHere here away mine theirs going coming = (Follows here theirs going mine × (coming ≡ [])) ⊎ (Follows away mine coming theirs × (going ≡ []))
 
-called_ahead : (w : World) → Agree w → sender_of w.called ≡ Some Called → Follows Called w.caller w.to_caller w.called × (w.to_called ≡ [])
-called_ahead w (inr h) s = h
-called_ahead w (inl h) s = at_list w.to_called refl h.0
+turned : {A B : Type 0} → A ⊎ B → B ⊎ A
+turned (inl a) = inr a
+turned (inr b) = inl b
+
+-- who may send has received all, and the other side gets to its state
+ahead : (here away : Role) (mine theirs : Turn) (going coming : List Kind) → (here ≡ away → ⊥) → AgreeHere here away mine theirs going coming → sender_of mine ≡ Some here → Follows here theirs going mine × (coming ≡ [])
+ahead here away mine theirs going coming two (inl h) s = h
+ahead here away mine theirs going [] two (inr h) s = (subst (λ (x : List Kind). Follows here theirs x mine) (sym h.1) (sym h.0), refl)
+ahead here away mine theirs going (k ∷ ks) two (inr h) s = absurd (two (cc_some (sym s ∙ h.0.0)))
   where
-    at_list : (ks : List Kind) → w.to_called ≡ ks → Follows Caller w.called ks w.caller → Follows Called w.caller w.to_caller w.called × (w.to_called ≡ [])
-    at_list [] e f = (subst (λ (x : List Kind). Follows Called w.caller x w.called) (sym h.1) (sym f), e)
-    at_list (k ∷ ks) e f = absurd (two_senders w.called f.0 s)
+    cc_some : {x y : Role} → ◌≡◌ {A = Option Role} (Some x) (Some y) → x ≡ y
+    cc_some e = cc
+
+-- a message that is sent is on its way
+says : (here away : Role) (mine theirs : Turn) (going coming : List Kind) → (here ≡ away → ⊥) → AgreeHere here away mine theirs going coming → (k : Kind) (t : Turn) → allowed here (sender_of mine) (next_of mine k) ≡ Some t →
+    Follows here theirs (going ++ k ∷ []) t × (coming ≡ [])
+says here away mine theirs going coming two a k t e =
+    let is = allowed_is here (sender_of mine) (next_of mine k) t e in
+    let h = ahead here away mine theirs going coming two a is.0 in
+    (follows_more here theirs going mine t k h.0 is.0 is.1, h.1)
+
+-- one that is received is not any more
+hears : (away : Role) (mine theirs : Turn) (k : Kind) (ks : List Kind) → Follows away mine (k ∷ ks) theirs → Follows away (received (next_of mine k)) ks theirs
+hears away mine theirs k ks f = subst (λ (x : Turn). Follows away x ks theirs) (sym (ap received f.2)) f.3
+
+not_empty : {k : Kind} {ks : List Kind} → ◌≡◌ {A = List Kind} (k ∷ ks) [] → ⊥
+not_empty e = cc
 
 caller_sends_keeps : (w : World) (k : Kind) → Agree w → (o : Option Turn) → allowed Caller (sender_of w.caller) (next_of w.caller k) ≡ o → Agree (caller_sends w k o)
 caller_sends_keeps w k a None e = a
-caller_sends_keeps w k a (Some t) e =
-    let is = allowed_is Caller (sender_of w.caller) (next_of w.caller k) t e in
-    let h = caller_ahead w a is.0 in
-    inl (follows_more Caller w.called w.to_called w.caller t k h.0 is.0 is.1, h.1)
+caller_sends_keeps w k a (Some t) e = inl (says Caller Called w.caller w.called w.to_called w.to_caller (λ e. cc) a k t e)
 
 called_sends_keeps : (w : World) (k : Kind) → Agree w → (o : Option Turn) → allowed Called (sender_of w.called) (next_of w.called k) ≡ o → Agree (called_sends w k o)
 called_sends_keeps w k a None e = a
-called_sends_keeps w k a (Some t) e =
-    let is = allowed_is Called (sender_of w.called) (next_of w.called k) t e in
-    let h = called_ahead w a is.0 in
-    inr (follows_more Called w.caller w.to_caller w.called t k h.0 is.0 is.1, h.1)
+called_sends_keeps w k a (Some t) e = inr (says Called Caller w.called w.caller w.to_caller w.to_called (λ e. cc) (turned a) k t e)
 
 called_receives_keeps : (w : World) → Agree w → (ks : List Kind) → w.to_called ≡ ks → Agree (called_receives w ks)
 called_receives_keeps w a [] e = a
-called_receives_keeps w (inl h) (k ∷ ks) e =
-    let f : Follows Caller w.called (k ∷ ks) w.caller = subst (λ (x : List Kind). Follows Caller w.called x w.caller) e h.0 in
-    inl (subst (λ (x : Turn). Follows Caller x ks w.caller) (sym (ap received f.2)) f.3, h.1)
-called_receives_keeps w (inr h) (k ∷ ks) e = let no : ◌≡◌ {A = List Kind} (k ∷ ks) [] = sym e ∙ h.1 in absurd cc
+called_receives_keeps w (inl h) (k ∷ ks) e = inl (hears Caller w.called w.caller k ks (subst (λ (x : List Kind). Follows Caller w.called x w.caller) e h.0), h.1)
+called_receives_keeps w (inr h) (k ∷ ks) e = absurd (not_empty (sym e ∙ h.1))
 
 caller_receives_keeps : (w : World) → Agree w → (ks : List Kind) → w.to_caller ≡ ks → Agree (caller_receives w ks)
 caller_receives_keeps w a [] e = a
-caller_receives_keeps w (inr h) (k ∷ ks) e =
-    let f : Follows Called w.caller (k ∷ ks) w.called = subst (λ (x : List Kind). Follows Called w.caller x w.called) e h.0 in
-    inr (subst (λ (x : Turn). Follows Called x ks w.called) (sym (ap received f.2)) f.3, h.1)
-caller_receives_keeps w (inl h) (k ∷ ks) e = let no : ◌≡◌ {A = List Kind} (k ∷ ks) [] = sym e ∙ h.1 in absurd cc
+caller_receives_keeps w (inr h) (k ∷ ks) e = inr (hears Called w.caller w.called k ks (subst (λ (x : List Kind). Follows Called w.caller x w.called) e h.0), h.1)
+caller_receives_keeps w (inl h) (k ∷ ks) e = absurd (not_empty (sym e ∙ h.1))
 
 step_keeps : (w : World) (e : Event) → Agree w → Agree (happens w e)
 step_keeps w (Sends Caller k) a = caller_sends_keeps w k a _ refl
@@ -183,9 +158,7 @@ pub agree_from_start : (es : List Event) → Agree (after es start)
 agree_from_start es = agree_after es start (inl (refl, refl))
 
 one_in : (w : World) → Agree w → sender_of w.caller ≡ Some Caller → sender_of w.called ≡ Some Called → ⊥
-one_in w a s t =
-    let h = caller_ahead w a s in
-    at_list w.to_called h.0
+one_in w a s t = at_list w.to_called (ahead Caller Called w.caller w.called w.to_called w.to_caller (λ e. cc) a s).0
   where
     at_list : (ks : List Kind) → Follows Caller w.called ks w.caller → ⊥
     at_list [] f = two_senders w.caller s (subst (λ (x : Turn). sender_of x ≡ Some Called) f t)

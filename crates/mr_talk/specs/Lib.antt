@@ -11,5 +11,6 @@ pub mod World
 pub mod Peer
 pub mod Told
 pub mod Line
+pub mod Talk
 pub mod Rows
 pub mod Grammar

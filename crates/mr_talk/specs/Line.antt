@@ -1,5 +1,6 @@
 -- what a line has ahead of it, and what becomes of it
 use Rattle.std.specs.Prelude.{◌≡◌, ◌≢◌, ◌<◌, ◌≤◌, ◌⊎◌, ℕ, List, [], ◌∷◌, ◌++◌, length, Option, Some, None, Result, Ok, Err}
+use Rattle.std.specs.Io.KnownBytes.{Appends}
 use Rattle.mr_talk.specs.declared.fault.LineFault.{LineFault}
 use Rattle.mr_talk.specs.declared.fault.LineFault.TheVariants.{Message, Closed, Read, Write}
 use Rattle.mr_talk.specs.declared.fault.MessageFault.{MessageFault}
@@ -21,6 +22,13 @@ abbrev pub IsUnsent : Kind → List ℕ → LineFault → Type 0
 IsUnsent kind bytes (Message TooLong) = limit_of kind < length bytes
 IsUnsent kind bytes Write = length bytes ≤ limit_of kind
 IsUnsent kind bytes _ = ⊥
+
+-- of these bytes a beginning was written, and nothing else
+pub record IsBegun (old new : Option (List ℕ)) (bytes : List ℕ) : Type 0 where
+  pub part : List ℕ
+  pub more : List ℕ
+  pub whole : bytes ≡ part ++ more
+  pub written : Appends old new part
 
 -- known bytes stay as they are
 abbrev pub IsSame : Option (List ℕ) → Option (List ℕ) → Type 0

@@ -1,22 +1,25 @@
 -- worked rows: what the definitions give for small values
-use Rattle.std.specs.Prelude.{◌≡◌, ℕ, true, false, List, [], ◌∷◌, ◌++◌, map, length, count_by, replicate, Some, None, Ok, Err, refl}
+use Rattle.std.specs.Prelude.{◌≡◌, true, false, List, [], ◌∷◌, ◌++◌, map, length, count_by, replicate, Some, None, Ok, Err, refl}
 use Rattle.mr_talk.specs.declared.kind.Kind.{Kind}
 use Rattle.mr_talk.specs.declared.kind.Kind.TheVariants.{Hello, Idle, Ask, Begin, Piece, End, Missing, Records, Wants, PushOuts, Receipts, Turn as Passes, Done, Fault}
 use Rattle.mr_talk.specs.declared.kind.TheConstants.{HELLO_BYTES, MAX_FRAMES_BYTES, MAX_LIST_BYTES, MAX_PIECE_BYTES, MAX_FAULT_BYTES}
-use Rattle.mr_talk.specs.declared.fault.MessageFault.TheVariants.{Truncated, BadKind, TooLong, Failed}
+use Rattle.std.proofs.Common.{lit≤}
+use Rattle.mr_talk.specs.declared.fault.LineFault.TheVariants.{Message, Write}
+use Rattle.mr_talk.specs.declared.fault.MessageFault.TheVariants.{OutOfMemory, Truncated, BadKind, TooLong, Failed}
+use Rattle.mr_talk.specs.declared.talk_fault.TalkFault.TheVariants as talk
 use Rattle.mr_talk.specs.declared.hello.Hello as hello
 use Rattle.mr_talk.specs.declared.turn.Role.TheVariants.{Caller, Called}
-use Rattle.mr_talk.specs.declared.turn.Turn.{Turn}
 use Rattle.mr_talk.specs.declared.turn.Turn.TheVariants.{CallerGreets, CalledGreets, CalledAsks, CalledPasses, CallerAsks, CallerTells, CallerTellsFile, CalledTells, CallerSettles, CallerWants, CalledSettles, CalledCloses, CallerCloses, Over}
 use Rattle.mr_talk.specs.declared.turn.Turn.TheVariants as turn
-use Rattle.mr_talk.specs.Kinds.{kind_byte, kind_of_byte, limit_of}
+use Rattle.mr_talk.specs.Fault.{talk_fault_number, told_number}
+use Rattle.mr_talk.specs.Kinds.{kind_of_byte}
 use Rattle.mr_talk.specs.Said.{Said, message_bytes}
 use Rattle.mr_talk.specs.Messages.{decoded}
 use Rattle.mr_talk.specs.Reader.{Feeds, Nexts, ending}
-use Rattle.mr_talk.specs.Calls.{Fed, Asked, fed, given, told}
 use Rattle.mr_talk.specs.Hello.{hello_bytes}
-use Rattle.mr_talk.specs.Turns.{sender_of, number_of, next_of, Leads, IsTalk, IsBroken}
-use Rattle.mr_talk.specs.World.{World, start, Sends, Receives, happens, after, ends_turn}
+use Rattle.mr_talk.specs.Turns.{sender_of, number_of, next_of, IsTalk, IsBroken}
+use Rattle.mr_talk.specs.Talk.{Talked, BrokeOff, IsToldBy}
+use Rattle.mr_talk.specs.World.{start, Sends, Receives, happens, after, ends_turn}
 
 -- ---- limits
 
@@ -157,3 +160,48 @@ waits_for_it = refl
 -- with nothing to tell, both are over once both hellos came
 pub both_over : after (Sends Caller Hello ∷ Receives Called ∷ Sends Called Idle ∷ Receives Caller ∷ []) start ≡ record { caller = Over; called = Over; to_called = []; to_caller = [] }
 both_over = refl
+
+-- ---- a talk as one side has it
+
+abbrev greeting : Said
+greeting = record { kind = Hello; bytes = 1 ∷ 7 ∷ [] }
+
+abbrev is_idle : Said
+is_idle = record { kind = Idle; bytes = 1 ∷ 8 ∷ [] }
+
+-- with nothing to tell, the caller sends its hello, and the called's comes; the called has it the other way round
+pub caller_idle : Talked Caller CallerGreets Over (Some []) (Some (message_bytes greeting)) (Some (message_bytes is_idle)) (Some [])
+caller_idle = record { messages = greeting ∷ is_idle ∷ []; runs = (CalledGreets, refl, (Over, refl, refl)); sent = refl; came = refl }
+
+pub called_idle : Talked Called CallerGreets Over (Some []) (Some (message_bytes is_idle)) (Some (message_bytes greeting)) (Some [])
+called_idle = record { messages = greeting ∷ is_idle ∷ []; runs = (CalledGreets, refl, (Over, refl, refl)); sent = refl; came = refl }
+
+-- of the caller's hello one byte was written
+pub cut_short : BrokeOff Caller (Some []) (Some (1 ∷ [])) (Some [])
+cut_short = record {
+  messages = greeting ∷ [];
+  turn = CalledGreets;
+  left = Some [];
+  runs = (CalledGreets, refl, refl);
+  sent = record { part = 1 ∷ []; more = 0 ∷ 0 ∷ 0 ∷ 2 ∷ 1 ∷ 7 ∷ []; whole = refl; written = refl };
+  came = refl;
+}
+
+-- in the place of the caller's hello the called was told a fault
+pub told_at_once : IsToldBy Called (7 ∷ 8 ∷ []) (Some []) (Some []) (Some (message_bytes fault)) (Some [])
+told_at_once = record {
+  turn = CallerGreets;
+  between = Some (message_bytes fault);
+  before = record { messages = []; runs = refl; sent = refl; came = refl };
+  sender = refl;
+  heard = ([], refl, record { is = lit≤ tt; whole = refl });
+}
+
+-- ---- numbers of faults
+
+-- of two bytes, the higher one first
+pub told_numbers : map told_number ([] ∷ (1 ∷ []) ∷ (1 ∷ 2 ∷ 104 ∷ []) ∷ []) ≡ None ∷ None ∷ Some 258 ∷ []
+told_numbers = refl
+
+pub talk_faults : map talk_fault_number (talk.Line (Message OutOfMemory) ∷ talk.Line Write ∷ talk.OutOfPlace ∷ talk.Told [] ∷ []) ≡ 0 ∷ 7 ∷ 9 ∷ 11 ∷ []
+talk_faults = refl

@@ -3,6 +3,17 @@
 //! One side calls, the other is called. They send messages ([`Message`]: a kind, a length, bytes), one side at a time,
 //! in turns. This crate knows what the messages are and who may send which of them when; what stands in them is their
 //! senders' matter.
+//!
+//! [`run_talk`] is one side of a whole talk, over a [`Line`] and for a [`Host`], which stands for a folder: it asks the host
+//! for what is to be said, and hands it what came. Where it answers `Ok`, what was sent and what came is a whole talk, and all
+//! that the host did is kept. A talk that breaks off is a beginning of one, and may be tried again as a new one.
+//!
+//! ```
+//! let mut line = Line::new(alloc, input, BufWriter::new(alloc, output)?);
+//! if let Err(fault) = run_talk(alloc, &mut line, &mut folder, Role::Caller) {
+//!     println!(rt; "the talk broke off: {fault}")?;
+//! }
+//! ```
 #![tactic(auto)]
 
 mod fault;
@@ -10,10 +21,14 @@ mod hello;
 mod kind;
 mod laws;
 mod line;
+mod meeting;
 mod message;
 mod peer;
 mod reader;
 mod side;
+mod talk;
+mod talk_fault;
+mod told_fault;
 mod turn;
 
 pub use fault::{LineFault, MessageFault};
@@ -31,4 +46,7 @@ pub use message::{HEAD_BYTES, Message, decode, encode};
 pub use peer::{Met, Standing, nothing_to_tell, standing_of};
 pub use reader::MessageReader;
 pub use side::{Host, HostFault};
+pub use talk::run_talk;
+pub use talk_fault::TalkFault;
+pub use told_fault::ToldFault;
 pub use turn::{Role, Turn};

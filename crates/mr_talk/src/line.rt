@@ -1,8 +1,8 @@
 //! Messages over two streams.
-ghost use Rattle.std.specs.Prelude.{◌≡◌, ◌<◌, ◌≤◌, ◌∷◌, false, length, IfErr, MatchResult, OnOk};
+ghost use Rattle.std.specs.Prelude.{◌≡◌, ◌<◌, ◌≤◌, ◌∷◌, false, length, take, IfErr, IfOk, MatchResult, OnErr, OnOk};
 ghost use Rattle.std.specs.Io.KnownBytes.{Appends, Keeps};
 ghost use Rattle.mr_talk.specs.Kinds.{limit_of};
-ghost use Rattle.mr_talk.specs.Line.{Ends, Fails, Hears, IsSame, IsUnsent, TakesPiece, ahead};
+ghost use Rattle.mr_talk.specs.Line.{Ends, Fails, Hears, IsBegun, IsSame, IsUnsent, TakesPiece, ahead};
 ghost use Rattle.mr_talk.specs.Said.{message_bytes};
 
 use crate::fault::{LineFault, MessageFault};
@@ -47,13 +47,15 @@ impl<R: Read + Drop, W: Write + Drop> Line<R, W> {
     /// Writes the message of this kind with these bytes, and doesn't flush it. Nothing of the host may wait to be kept.
     ///
     /// `TooLong`, with nothing written, where the bytes are more than a message of its kind may have; `Write` where the
-    /// stream takes no more, and then a part of the message may be written. The bytes are not copied.
+    /// stream takes no more, and then a beginning of the message is written. The bytes are not copied.
     pub fn send<H: Host>(&mut self, host: &H, kind: Kind, bytes: &[u8]) -> Result<(), LineFault>
         requires { H.waits host.now ≡ false }
         ensures sent { OnOk result (Appends (W.contents self.old.output) (W.contents self.new.output)
             (message_bytes (record { kind = kind; bytes = bytes.now }))) }
         ensures fits { OnOk result (length bytes.now ≤ limit_of kind) }
         ensures fault { IfErr result (IsUnsent kind bytes.now) }
+        ensures begun { OnErr result (IsBegun (W.contents self.old.output) (W.contents self.new.output)
+            (message_bytes (record { kind = kind; bytes = bytes.now }))) }
         ensures too_long { limit_of kind < length bytes.now → self.new ≡ self.old }
         ensures input { self.new.input ≡ self.old.input }
         ensures reader { self.new.reader ≡ self.old.reader }
@@ -91,14 +93,38 @@ impl<R: Read + Drop, W: Write + Drop> Line<R, W> {
     }
 }
 
-/// Writes all of the bytes.
+/// Writes all of the bytes, or a beginning of them where the stream takes no more.
 fn write_bytes<W: Write>(output: &mut W, bytes: &[u8]) -> Result<(), LineFault>
     ensures written { OnOk result (Appends (W.contents output.old) (W.contents output.new) bytes.now) }
+    ensures begun { OnErr result (IsBegun (W.contents output.old) (W.contents output.new) bytes.now) }
     ensures fault { IfErr result (λ fault. fault ≡ LineFault.Write) }
 {
-    match output.write_all(bytes) {
-        Ok(()) => Ok(()),
-        Err(_) => Err(LineFault::Write),
+    let mut done = 0;
+    'pieces: for _ in 0..u64::MAX {
+        if done == bytes.len() {
+            return Ok(());
+        }
+        done += write_some(output, &bytes[done..])?;
+    }
+    Err(LineFault::Write)
+}
+
+/// Writes some of the bytes, and says how many: none where it was interrupted.
+fn write_some<W: Write>(output: &mut W, bytes: &[u8]) -> Result<usize, LineFault>
+    ensures within { IfOk result (λ count. count ≤ length bytes.now) }
+    ensures written { IfOk result (λ count. Appends (W.contents output.old) (W.contents output.new) (take count bytes.now)) }
+    ensures unchanged { OnErr result (Keeps (W.contents output.old) (W.contents output.new)) }
+    ensures fault { IfErr result (λ fault. fault ≡ LineFault.Write) }
+{
+    match output.write(bytes) {
+        Ok(0) => Err(LineFault::Write),
+        Ok(count) => Ok(count),
+        Err(error) => {
+            if error.kind() == ErrorKind::Interrupted {
+                return Ok(0);
+            }
+            Err(LineFault::Write)
+        }
     }
 }
 
@@ -106,6 +132,8 @@ fn write_bytes<W: Write>(output: &mut W, bytes: &[u8]) -> Result<(), LineFault>
 fn write_message<W: Write>(output: &mut W, kind: Kind, bytes: &[u8]) -> Result<(), LineFault>
     requires { length bytes.now ≤ limit_of kind }
     ensures written { OnOk result (Appends (W.contents output.old) (W.contents output.new)
+        (message_bytes (record { kind = kind; bytes = bytes.now }))) }
+    ensures begun { OnErr result (IsBegun (W.contents output.old) (W.contents output.new)
         (message_bytes (record { kind = kind; bytes = bytes.now }))) }
     ensures fault { IfErr result (λ fault. fault ≡ LineFault.Write) }
 {

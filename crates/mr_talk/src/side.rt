@@ -4,13 +4,15 @@ ghost use Rattle.std.specs.Prelude.{◌≡◌, Bool, false, OnOk};
 use crate::hello::{Hello, Short};
 use crate::message::Message;
 use crate::turn::Turn;
+use thiserror::Error;
 
 /// Why a host can't go on: a number of its own, which the other side is told with the text.
-#[derive(Debug, Drop)]
+#[derive(Debug, Drop, Error)]
+#[error("{text}")]
 pub struct HostFault {
     /// The fault's number among the host's.
     pub number: u16,
-    /// What a person reads, at most 1,022 bytes.
+    /// What a person reads. The other side is told its first 1,022 bytes at most.
     pub text: String,
 }
 

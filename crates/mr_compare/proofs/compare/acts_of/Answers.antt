@@ -1,5 +1,7 @@
-use Rattle.std.proofs.Common.{refl, arith}
-use Rattle.mr_compare.proofs.CompareLemmas.{due-more, count_is}
+use Rattle.std.proofs.Common.{ap, refl, arith, ◌∙◌}
+use Rattle.std.proofs.lemmas.List.{take_all}
+use Rattle.mr_compare.specs.Compare.{due_acts}
+use Rattle.mr_compare.proofs.CompareLemmas.{due-more, count_is, unmerged}
 use Rattle.mr_compare.proofs.compare.acts_of.Goals as goal
 
 pub loop-mail-preserved : goal.loop-mail-preserved
@@ -17,3 +19,7 @@ returns-clause-few c =
     let is =
     count_is c.args.mails.now c.loop-mail.mail-index c.loop-mail.acts.items c.deref.result.now c.count_of_deletions-count.result (omega arith) c.loop-mail.invariant c.deref.ensures.value c.count_of_deletions-count.ensures in
     omega arith
+
+pub returns-clause-unmerged : goal.returns-clause-unmerged
+returns-clause-unmerged c = λ undue.
+    c.loop-mail.invariant ∙ ap due_acts (take_all c.loop-mail.mail-index c.args.mails.now (omega arith)) ∙ unmerged c.args.mails.now undue

@@ -1,0 +1,8 @@
+use Rattle.std.proofs.Common.{◌≡◌, ◌++◌, map}
+use Rattle.std.specs.List.{flat_map}
+use Rattle.mr_compare.specs.Joining.{standing_parts, standings_at}
+use Rattle.mr_compare.proofs.joining.item_standings.Given as goal
+
+-- the items so far and those of the entries that are left are all
+abbrev pub invariant-loop-key : goal.invariant-loop-key
+invariant-loop-key l = map standing_parts l.standings.items ++ flat_map (standings_at l.ancestors.entries) l.key-iterator ≡ flat_map (standings_at l.ancestors.entries) l.by_item.entries

@@ -1,0 +1,8 @@
+use Rattle.std.proofs.Common.{◌≡◌, ◌++◌, filter}
+use Rattle.std.specs.BTreeMap.{keys}
+use Rattle.mr_compare.specs.MailsLeft.{is_absent}
+use Rattle.mr_compare.proofs.mails_left.seen_unheld.Given as goal
+
+-- the digests so far and those of the keys that are left are all
+abbrev pub invariant-loop-digest : goal.invariant-loop-digest
+invariant-loop-digest l = l.digests.items ++ filter (is_absent l.items.entries) l.digest-iterator ≡ filter (is_absent l.items.entries) (keys l.seen)

@@ -1,0 +1,9 @@
+pub mod LostIssues
+pub mod Changes
+pub mod Agreeing
+pub mod Sees
+pub mod Allowed
+pub mod Same
+pub mod Anew
+pub mod Theorem
+pub mod RowsHold

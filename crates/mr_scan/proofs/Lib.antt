@@ -1,0 +1,4 @@
+pub mod FolderLemmas
+pub mod PathLemmas
+pub mod ScanLemmas
+pub mod SpoiledLemmas

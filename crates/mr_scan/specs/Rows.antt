@@ -1,0 +1,95 @@
+-- worked rows
+use Rattle.std.specs.Prelude.{◌≡◌, true, false, [], ◌∷◌, codes, Some, None, refl}
+use Rattle.mr_maildir.specs.File.{FileParts}
+use Rattle.mr_maildir.specs.View.{ViewParts}
+use Rattle.mr_maildir.specs.declared.layout.Layout.TheVariants.{Dots, Plain}
+use Rattle.mr_folder.specs.declared.path.Part.TheVariants.{Cur, New}
+use Rattle.mr_scan.specs.Folders.{FolderParts, TableParts, folder_there, folders_there, folder_of, path_given, layout_of}
+use Rattle.mr_scan.specs.Found.{part_at}
+use Rattle.mr_scan.specs.Seen.{seen_view}
+use Rattle.mr_scan.specs.Spoiled.{is_spoiled}
+
+-- ---- folders
+
+abbrev inbox : FolderParts
+inbox = record { path = []; label = codes "inbox"; name = codes "inbox" }
+
+abbrev work : FolderParts
+work = record { path = codes ".work"; label = codes "work"; name = codes "work" }
+
+-- the Maildir itself is the inbox in both layouts
+pub maildir_itself : folder_there Plain [] ≡ Some inbox
+maildir_itself = refl
+
+-- a folder without a dot is none where names stand behind dots
+pub three_paths : folders_there Dots ([] ∷ codes ".work" ∷ codes "work" ∷ []) ≡ inbox ∷ work ∷ []
+three_paths = refl
+
+pub of_work : folder_of (inbox ∷ work ∷ []) (codes "work") ≡ Some work
+of_work = refl
+
+-- a listing has `cur` and `new` of the first folder, then those of the second
+pub new_of_first : part_at (inbox ∷ work ∷ []) 1 ≡ Some (inbox, New)
+new_of_first = refl
+
+pub cur_of_second : part_at (inbox ∷ work ∷ []) 2 ≡ Some (work, Cur)
+cur_of_second = refl
+
+pub behind_the_last : part_at (inbox ∷ work ∷ []) 4 ≡ None
+behind_the_last = refl
+
+abbrev table : TableParts
+table = record { layout = Dots; folders = inbox ∷ work ∷ []; passed_over = 0 }
+
+-- a label's folder is where it stands; one that isn't there is made, whatever a peer told of it
+pub path_of_work : path_given table (codes "work") (Some (codes "../x")) ≡ codes ".work"
+path_of_work = refl
+
+pub path_of_play : path_given table (codes "play") (Some (codes "../x")) ≡ codes ".play"
+path_of_play = refl
+
+-- ---- layouts
+
+pub dots : layout_of ([] ∷ codes ".work" ∷ codes "play" ∷ []) ≡ Dots
+dots = refl
+
+pub alone : layout_of ([] ∷ []) ≡ Dots
+alone = refl
+
+pub plain : layout_of ([] ∷ codes "work" ∷ []) ≡ Plain
+plain = refl
+
+-- ---- how a mail is seen
+
+abbrev seen_file : FileParts
+seen_file = record { label = codes "work"; is_new = false; unique = codes "1.host"; info = codes ":2,S" }
+
+abbrev lost_file : FileParts
+lost_file = record { label = codes "inbox"; is_new = false; unique = codes "2.host"; info = codes ":2,F" }
+
+abbrev left : ViewParts
+left = record { labels = codes "inbox" ∷ codes "work" ∷ []; flags = 1 }
+
+-- two files of a mail that was seen: one lost its S, and got an F
+pub lost_and_got : seen_view (Some left) (seen_file ∷ lost_file ∷ []) ≡ record { labels = codes "inbox" ∷ codes "work" ∷ []; flags = 4 }
+lost_and_got = refl
+
+-- the same of a mail that was never left: both come
+pub both_come : seen_view None (seen_file ∷ lost_file ∷ []) ≡ record { labels = codes "inbox" ∷ codes "work" ∷ []; flags = 5 }
+both_come = refl
+
+-- two files in one folder
+pub in_one_folder : seen_view (Some left) (seen_file ∷ seen_file ∷ []) ≡ record { labels = codes "work" ∷ []; flags = 1 }
+in_one_folder = refl
+
+-- ---- files that were edited in place
+
+pub other_size : is_spoiled ((1 ∷ [], 7) ∷ (2 ∷ [], 8) ∷ []) (record { digest = 2 ∷ []; size = 9 }) ≡ true
+other_size = refl
+
+pub same_size : is_spoiled ((1 ∷ [], 7) ∷ (2 ∷ [], 8) ∷ []) (record { digest = 2 ∷ []; size = 8 }) ≡ false
+same_size = refl
+
+-- a mail that isn't held
+pub unheld : is_spoiled ((1 ∷ [], 7) ∷ []) (record { digest = 2 ∷ []; size = 9 }) ≡ false
+unheld = refl

@@ -1,0 +1,8 @@
+use Rattle.std.proofs.Common.{◌≡◌, ◌++◌, map, take}
+use Rattle.mr_kept.specs.Kept.{replica_of}
+use Rattle.mr_replica.specs.declared.event.Event.TheVariants.{Vouch}
+use Rattle.mr_sync.specs.declared.lists.PushOut.{PushOut}
+use Rattle.mr_sync.proofs.vouching.vouch_all.Given as goal
+
+abbrev pub invariant-loop-head : goal.invariant-loop-head
+invariant-loop-head g l = (replica_of l.kept).log ≡ (replica_of l.fn.kept).log ++ map (λ (p : PushOut). Vouch p.version) (take l.head-index l.heads)

@@ -1,0 +1,69 @@
+-- what a folder says of itself
+use Rattle.std.specs.Prelude.{◌≡◌, ◌⊎◌, ◌==◌, ◌&&◌, ℕ, Bool, not, List, length, take, MatchBool, Option, Some, None}
+use Rattle.std.specs.List.{list_any}
+use Rattle.mr_filter.specs.Filter.{ClauseParts}
+use Rattle.mr_forms.specs.Known.{Pairs}
+use Rattle.mr_itemset.specs.Normal.{Normal, normal_known}
+use Rattle.mr_itemset.specs.Sparing.{sparing_form}
+use Rattle.mr_lookup.specs.Digest.{IsDigestOf}
+use Rattle.mr_lookup.specs.Highest.{HasNone, IsHighest}
+use Rattle.mr_compare.specs.declared.note.Meeting.{Meeting}
+use Rattle.mr_replica.specs.State.{State}
+use Rattle.mr_talk.specs.declared.hello.Hello.{Hello}
+use Rattle.mr_talk.specs.declared.peer.Met.{Met}
+use Rattle.mr_talk.specs.declared.peer.Standing.TheVariants as standing
+use Rattle.mr_talk.specs.Peer.{HasNothingToTell, Stands}
+use Rattle.mr_sync.specs.declared.fault.SyncFault.{SyncFault}
+use Rattle.mr_sync.specs.declared.fault.SyncFault.TheVariants.{Itself, SameId, Renewed, PeerIsOldCopy, OldCopy}
+
+-- a clause with no condition, which each message meets, and a filter that has one, as `all` has
+abbrev pub is_free : ClauseParts → Bool
+is_free c = (length c.all_labels == 0) && ((length c.no_labels == 0) && ((c.flags_on == 0) && ((c.flags_off == 0) && (c.since == 0))))
+
+abbrev pub keeps_all : List ClauseParts → Bool
+keeps_all = list_any is_free
+
+-- the highest counter that is known among an author's versions, or 0 where none is known
+abbrev pub IsTop : Pairs → (author counter : ℕ) → Type 0
+IsTop known author counter = IsHighest known author counter ⊎ (HasNone known author × (counter ≡ 0))
+
+-- the same where there may be nobody
+abbrev pub IsTopOf : Normal → Option ℕ → ℕ → Type 0
+IsTopOf k None counter = counter ≡ 0
+IsTopOf k (Some author) counter = IsTop (normal_known k) author counter
+
+-- the first bytes of the digest of what is known
+pub record IsShortDigest (k : Normal) (short : List ℕ) : Type 0 where
+  pub digest : List ℕ
+  pub is_digest : IsDigestOf sparing_form k digest
+  pub front : short ≡ take 16 digest
+
+-- the hello of a replica, whose journal was begun so, to the one with this id
+pub record IsHelloOf (birth : List ℕ) (s : State Normal) (theirs : Option ℕ) (h : Hello) : Type 0 where
+  pub id : h.id ≡ s.id
+  pub birth_is : h.birth ≡ birth
+  pub knows : IsShortDigest s.knowledge h.knows
+  pub issued : IsTopOf s.knowledge (Some s.id) h.issued
+  pub known : IsTopOf s.knowledge theirs h.known
+  pub push_outs : h.has_push_outs ≡ not (length s.push_outs == 0)
+  pub all : h.keeps_all ≡ keeps_all s.filter
+
+-- a meeting as a talk compares it
+abbrev pub met_by : Meeting → Met
+met_by m = record { birth = m.birth; mine = take 16 m.mine; theirs = take 16 m.theirs }
+
+-- why nothing may be told, and the replica that has to become another
+abbrev pub StandsInTheWay : Hello → Hello → Option Met → SyncFault → Type 0
+StandsInTheWay mine theirs met (Itself id) = Stands mine theirs mine.known met standing.Itself × (id ≡ mine.id)
+StandsInTheWay mine theirs met (SameId id) = Stands mine theirs mine.known met standing.SameId × (id ≡ mine.id)
+StandsInTheWay mine theirs met (Renewed id) = Stands mine theirs mine.known met standing.Renewed × (id ≡ theirs.id)
+StandsInTheWay mine theirs met (PeerIsOldCopy id) = Stands mine theirs mine.known met standing.PeerIsOldCopy × (id ≡ theirs.id)
+StandsInTheWay mine theirs met (OldCopy id) = Stands mine theirs mine.known met standing.OldCopy × (id ≡ mine.id)
+StandsInTheWay mine theirs met fault = ⊥
+
+-- nothing stands in the way, by the hello that the replica has for the other side, and whether there is something to tell
+pub record Judges (birth : List ℕ) (s : State Normal) (theirs : Hello) (met : Option Met) (is_idle : Bool) : Type 0 where
+  pub mine : Hello
+  pub mine_is : IsHelloOf birth s (Some theirs.id) mine
+  pub good : Stands mine theirs mine.known met standing.Good
+  pub idle : MatchBool is_idle (HasNothingToTell mine theirs met) (HasNothingToTell mine theirs met → ⊥)

@@ -1,0 +1,12 @@
+pub mod Asking
+pub mod Ending
+pub mod Fault
+pub mod Hello
+pub mod Lists
+pub mod Named
+pub mod Rows
+pub mod Said
+pub mod Sending
+pub mod Taken
+pub mod Telling
+pub mod Vouching

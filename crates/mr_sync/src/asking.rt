@@ -1,0 +1,92 @@
+//! Requests, this side's and the other's.
+ghost use Rattle.std.specs.Prelude.{◌≡◌, ℕ, true, IfOk, IfSome, MatchResult, OnOk};
+ghost use Rattle.mr_kept.specs.Kept.{nothing_waits, replica_of};
+ghost use Rattle.mr_wire.specs.FrameSpelling.{frame_bytes};
+ghost use Rattle.mr_wire.specs.Grammar.{Spells};
+ghost use Rattle.mr_sync.specs.Asking.{IsPullOf, last_asked};
+ghost use Rattle.mr_sync.specs.Taken.{IsNoAskOf};
+
+use crate::fault::SyncFault;
+use crate::said::{Said, say_all};
+use crate::talk::Leaving;
+use mr_itemset::SparingKnowledge;
+use mr_journal::Device;
+use mr_kept::Journaled;
+use mr_lookup::asked_of;
+use mr_replica::Reply;
+use mr_version::Author;
+use mr_wire::{Ask, Frame, decode, encode_ask};
+use std::alloc::Global;
+
+/// Opens the next session, keeps that, and gives the frame of the request for it.
+pub(crate) fn ask<D: Device + Drop>(
+    alloc: Global,
+    kept: &mut Journaled<SparingKnowledge, D>,
+    said: &mut Said,
+) -> Result<Vec<u8>, SyncFault>
+    ensures all_kept { OnOk result (nothing_waits kept.new ≡ true) }
+    ensures pulled { IfOk result (λ bytes. IsPullOf (replica_of kept.old) bytes.items (replica_of kept.new)) }
+{
+    kept.pull()?;
+    let replies = kept.commit()?;
+    say_all(alloc, &replies, said)?;
+    last_ask(alloc, &replies)
+}
+
+/// The frame of the request that is the last of these replies. `OtherFrame` where it is none.
+fn last_ask(alloc: Global, replies: &[Reply]) -> Result<Vec<u8>, SyncFault>
+    ensures { IfOk result (λ bytes. IfSome (last_asked replies.now) (λ q. bytes.items ≡ frame_bytes 2 (Frame.Ask q))) }
+{
+    match replies.last() {
+        Some(Reply::Asked(ask)) => Ok(encode_ask(alloc, ask)?),
+        _ => Err(SyncFault::OtherFrame),
+    }
+}
+
+/// Opens a stream for the request of the other side that the bytes spell.
+///
+/// `Frame` where they begin with no frame; `OtherFrame` where it isn't all of them, or no request; `OtherSide` where another
+/// replica asks; else as the replica refuses.
+pub(crate) fn take_ask<D: Device + Drop>(
+    alloc: Global,
+    kept: &mut Journaled<SparingKnowledge, D>,
+    target: Author,
+    leaving: &mut Leaving,
+    bytes: &[u8],
+) -> Result<(), SyncFault> {
+    let ask = ask_in(alloc, bytes, target)?;
+    let asked = asked_of(alloc, &ask)?;
+    let stream = kept.answer(ask)?;
+    leaving.asked = Some(asked);
+    leaving.stream = Some(stream);
+    Ok(())
+}
+
+/// The request of this side that the bytes spell.
+fn ask_in(alloc: Global, bytes: &[u8], target: Author) -> Result<Ask, SyncFault>
+    ensures target { IfOk result (λ ask. ask.target ≡ target) }
+    ensures spelled { IfOk result (λ ask. (format : ℕ) × Spells format (Frame.Ask ask) bytes.now) }
+{
+    let (frame, used) = decode(alloc, bytes)?;
+    if used != bytes.len() {
+        return Err(SyncFault::OtherFrame);
+    }
+    ask_of(frame, target)
+}
+
+/// The request that a frame is, if this side asks.
+fn ask_of(frame: Frame, target: Author) -> Result<Ask, SyncFault>
+    ensures { MatchResult result (λ q. (frame ≡ Frame.Ask q) × (q.target ≡ target)) (IsNoAskOf target frame) }
+{
+    match frame {
+        Frame::Ask(ask) => {
+            if ask.target() == target {
+                Ok(ask)
+            } else {
+                Err(SyncFault::OtherSide)
+            }
+        }
+        Frame::Record(_) => Err(SyncFault::OtherFrame),
+        Frame::Receipt(_) => Err(SyncFault::OtherFrame),
+    }
+}

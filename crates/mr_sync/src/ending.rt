@@ -1,0 +1,95 @@
+//! The end of a turn.
+ghost use Rattle.std.specs.Prelude.{◌≡◌, ◌↔◌, IfOk, IsTrue, MatchOption, MatchResult, false, take};
+ghost use Rattle.mr_kept.specs.Kept.{replica_of};
+ghost use Rattle.mr_sync.specs.Ending.{HasNothingOpen, IsUnfinished, MayEnd, is_last};
+ghost use Rattle.mr_sync.specs.Hello.{IsShortDigest, met_by};
+
+use crate::fault::SyncFault;
+use crate::hello::short_of;
+use crate::talk::Talk;
+use mr_compare::{Digest, Meeting};
+use mr_itemset::SparingKnowledge;
+use mr_journal::Device;
+use mr_kept::Journaled;
+use mr_lookup::knowledge_digest;
+use mr_talk::{Hello, Short, Turn};
+use std::alloc::Global;
+
+/// The first bytes of the digest of what is known, where this side may say that it has nothing open: its digest is noted then.
+///
+/// In the last turns it has to say so: what is lacking then stays lacking. `Unfinished` where the other side hasn't told all
+/// that it was asked for even then.
+pub(crate) fn end<D: Device + Drop>(
+    alloc: Global,
+    kept: &Journaled<SparingKnowledge, D>,
+    talk: &mut Talk,
+    turn: Turn,
+) -> Result<Option<Short>, SyncFault>
+    ensures { IfOk result (λ found. MatchOption found (MayEnd turn talk.old → ⊥) (λ short. MayEnd turn talk.old × IsShortDigest (replica_of kept.now).knowledge short)) }
+{
+    if !may_end(turn, talk)? {
+        return Ok(None);
+    }
+    let digest = knowledge_digest(alloc, kept.replica())?;
+    talk.mine = Some(digest);
+    Ok(Some(short_of(&digest)))
+}
+
+/// Whether this side may say at the end of this turn that it has nothing open.
+fn may_end(turn: Turn, talk: &Talk) -> Result<bool, SyncFault>
+    ensures { MatchResult result (λ may. IsTrue may ↔ MayEnd turn talk.now) (IsUnfinished turn talk.now) }
+{
+    if is_last(turn) {
+        return if talk.arriving.is_finished {
+            Ok(true)
+        } else {
+            Err(SyncFault::Unfinished)
+        };
+    }
+    Ok(has_nothing_open(talk))
+}
+
+/// Whether the turn is one that has to end so.
+fn is_last(turn: Turn) -> bool
+    ensures { result ≡ is_last turn }
+{
+    matches!(
+        turn,
+        Turn::CalledSettles | Turn::CalledCloses | Turn::CallerCloses
+    )
+}
+
+/// Whether nothing is waited for, and nothing is to be told.
+fn has_nothing_open(talk: &Talk) -> bool
+    ensures { IsTrue result ↔ HasNothingOpen talk.now }
+{
+    let arriving = &talk.arriving;
+    let leaving = &talk.leaving;
+    arriving.is_finished
+        && arriving.lacking.is_empty()
+        && arriving.wanted.is_empty()
+        && leaving.stream.is_none()
+        && leaving.said.records.is_empty()
+        && leaving.said.receipts.is_empty()
+        && leaving.wants.is_empty()
+}
+
+/// The meeting with the other side, as it is noted: what this side knew at the end, and the first bytes of the digest of what
+/// the other knew.
+pub(crate) fn meeting_of(theirs: &Hello, mine: &Digest, knows: &Short, time: u64) -> Meeting
+    ensures id { result.id ≡ theirs.now.id }
+    ensures met { met_by result ≡ record { birth = theirs.now.birth; mine = take 16 mine.now; theirs = knows.now } }
+    ensures time { result.time ≡ time }
+{
+    let mut digest = [0u8; 32];
+    digest[..16].copy_from_slice(knows);
+    let birth = theirs.birth;
+    let mine = *mine;
+    Meeting {
+        id: theirs.id,
+        birth,
+        mine,
+        theirs: digest,
+        time,
+    }
+}

@@ -1,0 +1,171 @@
+//! What a folder says of itself, and what the other side is to it.
+ghost use Rattle.std.specs.Prelude.{◌≡◌, ◌==◌, ℕ, not, length, take, IfOk, MatchBool, MatchResult, Some, None, option_map, unwrap_or};
+ghost use Rattle.std.specs.BTreeMap.{get};
+ghost use Rattle.std.specs.List.{list_any};
+ghost use Rattle.std.specs.Option.{option_copied};
+ghost use Rattle.std.specs.Ordering.{nat_cmp};
+ghost use Rattle.mr_itemset.specs.Normal.{normal_known};
+ghost use Rattle.mr_kept.specs.Kept.{head_of, replica_of};
+ghost use Rattle.mr_talk.specs.Peer.{HasNothingToTell, Stands};
+ghost use Rattle.mr_talk.specs.declared.peer.Standing.TheVariants.{Good};
+ghost use Rattle.mr_sync.specs.Hello.{IsHelloOf, Judges, IsShortDigest, IsTop, IsTopOf, StandsInTheWay, is_free, keeps_all, met_by};
+
+use crate::fault::SyncFault;
+use mr_compare::{Digest, Meeting};
+use mr_filter::{Clause, Filter};
+use mr_forms::FormFault;
+use mr_itemset::SparingKnowledge;
+use mr_journal::Device;
+use mr_kept::Journaled;
+use mr_lookup::{highest_counter, knowledge_digest};
+use mr_replica::Replica;
+use mr_talk::{Hello, Met, Short, Standing, nothing_to_tell, standing_of};
+use mr_version::Author;
+use std::alloc::Global;
+use std::collections::BTreeMap;
+
+/// The first bytes of a digest.
+pub(crate) fn short_of(digest: &Digest) -> Short
+    ensures { result ≡ take 16 digest.now }
+{
+    let mut short = [0u8; 16];
+    short.copy_from_slice(&digest[..16]);
+    short
+}
+
+/// What the folder says of itself to the one with this id, or to one whose id it doesn't know.
+///
+/// `Knowledge` where what is known has no fragments or memory runs out for them. It costs all that is known, three times.
+pub(crate) fn folder_hello<D: Device + Drop>(
+    alloc: Global,
+    kept: &Journaled<SparingKnowledge, D>,
+    theirs: Option<Author>,
+) -> Result<Hello, SyncFault>
+    ensures { IfOk result (IsHelloOf (head_of kept.now).birth (replica_of kept.now) theirs) }
+{
+    let birth = kept.birth();
+    let hello = replica_hello(alloc, kept.replica(), birth, theirs)?;
+    Ok(hello)
+}
+
+/// The same of a replica whose journal was begun so.
+fn replica_hello(
+    alloc: Global,
+    replica: &Replica<SparingKnowledge>,
+    birth: [u8; 16],
+    theirs: Option<Author>,
+) -> Result<Hello, FormFault>
+    ensures { IfOk result (IsHelloOf birth replica.now theirs) }
+{
+    let knows = short_digest(alloc, replica)?;
+    let issued = highest_of(replica, Some(replica.id()))?;
+    let known = highest_of(replica, theirs)?;
+    Ok(Hello {
+        id: replica.id(),
+        birth,
+        knows,
+        issued,
+        known,
+        has_push_outs: !replica.push_outs().is_empty(),
+        keeps_all: selects_all(replica.filter()),
+    })
+}
+
+/// The first bytes of the digest of what is known.
+fn short_digest(alloc: Global, replica: &Replica<SparingKnowledge>) -> Result<Short, FormFault>
+    ensures { IfOk result (IsShortDigest replica.now.knowledge) }
+{
+    let digest = knowledge_digest(alloc, replica)?;
+    Ok(short_of(&digest))
+}
+
+/// The highest counter that is known among the versions of this author; 0 for none, and for nobody.
+fn highest_of(replica: &Replica<SparingKnowledge>, author: Option<Author>) -> Result<u32, FormFault>
+    ensures { IfOk result (IsTopOf replica.now.knowledge author) }
+{
+    match author {
+        Some(author) => highest_by(replica, author),
+        None => Ok(0),
+    }
+}
+
+fn highest_by(replica: &Replica<SparingKnowledge>, author: Author) -> Result<u32, FormFault>
+    ensures { IfOk result (IsTop (normal_known replica.now.knowledge) author) }
+{
+    match highest_counter(replica, author)? {
+        Some(counter) => Ok(counter),
+        None => Ok(0),
+    }
+}
+
+/// Whether the filter has a clause with no conditions, as `all` is.
+fn selects_all(filter: &Filter) -> bool
+    ensures { result ≡ keeps_all filter.now }
+{
+    filter
+        .clauses()
+        .iter()
+        .any(|clause| has_no_condition(clause))
+}
+
+/// Whether a clause has no condition.
+fn has_no_condition(clause: &Clause) -> bool
+    ensures { result ≡ is_free clause.now }
+{
+    clause.all_labels().is_empty()
+        && (clause.no_labels().is_empty()
+            && (clause.flags_on().bits() == 0
+                && (clause.flags_off().bits() == 0 && clause.since().days() == 0)))
+}
+
+/// What is remembered of the replica with this id, as a talk compares it.
+pub(crate) fn remembered(meetings: &BTreeMap<u16, Meeting>, id: Author) -> Option<Met>
+    ensures { result ≡ option_map met_by (get nat_cmp meetings.now id) }
+{
+    match meetings.get(&id.id()) {
+        Some(meeting) => Some(met_of(meeting)),
+        None => None,
+    }
+}
+
+fn met_of(meeting: &Meeting) -> Met
+    ensures { result ≡ met_by meeting.now }
+{
+    let birth = meeting.birth;
+    let mine = short_of(&meeting.mine);
+    let theirs = short_of(&meeting.theirs);
+    Met {
+        birth,
+        mine,
+        theirs,
+    }
+}
+
+/// Whether there is nothing to tell the other side, by both hellos and what is remembered of it; or why nothing may be told.
+pub(crate) fn verdict(mine: &Hello, theirs: &Hello, met: Option<Met>) -> Result<bool, SyncFault>
+    ensures good { IfOk result (λ _. Stands mine.now theirs.now mine.now.known met Good) }
+    ensures exact { IfOk result (λ is_idle. MatchBool is_idle (HasNothingToTell mine.now theirs.now met) (HasNothingToTell mine.now theirs.now met → ⊥)) }
+    ensures fault { MatchResult result (λ _. Unit {0}) (StandsInTheWay mine.now theirs.now met) }
+{
+    match standing_of(mine, theirs, mine.known, met.as_ref()) {
+        Standing::Good => Ok(nothing_to_tell(mine, theirs, met.as_ref())),
+        Standing::Itself => Err(SyncFault::Itself(mine.id)),
+        Standing::SameId => Err(SyncFault::SameId(mine.id)),
+        Standing::Renewed => Err(SyncFault::Renewed(theirs.id)),
+        Standing::PeerIsOldCopy => Err(SyncFault::PeerIsOldCopy(theirs.id)),
+        Standing::OldCopy => Err(SyncFault::OldCopy(mine.id)),
+    }
+}
+
+/// Whether there is nothing to tell the other side, by what the folder knows now; or why nothing may be told.
+pub(crate) fn judge<D: Device + Drop>(
+    alloc: Global,
+    kept: &Journaled<SparingKnowledge, D>,
+    meetings: &BTreeMap<u16, Meeting>,
+    theirs: &Hello,
+) -> Result<bool, SyncFault>
+    ensures { IfOk result (λ is_idle. Judges (head_of kept.now).birth (replica_of kept.now) theirs.now (option_map met_by (get nat_cmp meetings.now theirs.now.id)) is_idle) }
+{
+    let mine = folder_hello(alloc, kept, Some(theirs.id))?;
+    verdict(&mine, theirs, remembered(meetings, theirs.id))
+}

@@ -1,0 +1,196 @@
+//! An open folder as a talk sees it.
+ghost use Rattle.std.specs.Prelude.{◌≡◌, not, is_some, IfOk, IfSome, IsSome};
+ghost use Rattle.mr_kept.specs.Kept.{nothing_waits};
+ghost use Rattle.mr_talk.specs.Turns.{next_of};
+
+use crate::asking::ask;
+use crate::ending::{end, meeting_of};
+use crate::fault::{SyncFault, answered};
+use crate::files::take_file_message;
+use crate::hello::{folder_hello, judge};
+use crate::receipts::take_receipts_message;
+use crate::records::take_records_message;
+use crate::said::keep_and_say;
+use crate::summary::Summary;
+use crate::taking::{take_done, take_missing, take_other_ask, take_push_outs, take_wants};
+use crate::talk::Talk;
+use crate::telling::next_said;
+use mr_compare::{Digest, Meeting};
+use mr_folder::FileTree;
+use mr_itemset::SparingKnowledge;
+use mr_journal::Device;
+use mr_kept::Journaled;
+use mr_talk::{Hello, Host, HostFault, Message, Short, Turn};
+use std::alloc::Global;
+use std::collections::BTreeMap;
+
+/// An open folder while it talks: a kept replica, a tree of files, and what is remembered of others.
+#[derive(Drop)]
+pub struct FolderHost<D: Device + Drop, F: FileTree + Drop> {
+    alloc: Global,
+    kept: Journaled<SparingKnowledge, D>,
+    files: F,
+    meetings: BTreeMap<u16, Meeting>,
+    talk: Talk,
+    summary: Summary,
+}
+
+impl<D: Device + Drop, F: FileTree + Drop> FolderHost<D, F> {
+    /// A folder that hasn't talked yet, and what it remembers of those that it met, by their ids.
+    pub fn new(
+        alloc: Global,
+        kept: Journaled<SparingKnowledge, D>,
+        files: F,
+        meetings: BTreeMap<u16, Meeting>,
+    ) -> FolderHost<D, F> {
+        FolderHost {
+            alloc,
+            kept,
+            files,
+            meetings,
+            talk: Talk::new(alloc),
+            summary: Summary::new(),
+        }
+    }
+
+    /// Has the talk want this file of the other side too: one that the folder lacks from before.
+    pub fn want(&mut self, digest: Digest) -> Result<(), SyncFault> {
+        self.talk.arriving.lacking.insert(digest)?;
+        Ok(())
+    }
+
+    /// The meeting with the other side at this time, in seconds since 1970, if each side said that it has nothing open. It is to be
+    /// noted where the talk came to its end.
+    pub fn met(&self, time: u64) -> Option<Meeting> {
+        let theirs = self.talk.theirs?;
+        let mine = self.talk.mine?;
+        let knows = self.talk.knows?;
+        Some(meeting_of(&theirs, &mine, &knows, time))
+    }
+
+    /// What came and went so far.
+    pub fn summary(&self) -> Summary {
+        let mut summary = self.summary;
+        summary.told = self.talk.leaving.said.told;
+        summary.taken = self.talk.arriving.taken;
+        summary.files_sent = self.talk.leaving.files;
+        summary.files_came = self.talk.arriving.files;
+        summary.files_missing = self.talk.arriving.missing;
+        summary.vouched = self.talk.vouched;
+        summary
+    }
+
+    /// The folder's parts again, and what came and went. A file that has no end yet is given up.
+    pub fn into_parts(self) -> (Journaled<SparingKnowledge, D>, F, Summary) {
+        let summary = self.summary();
+        let FolderHost { kept, files, .. } = self;
+        (kept, files, summary)
+    }
+}
+
+impl<D: Device + Drop, F: FileTree + Drop> Host for FolderHost<D, F> {
+    ghost waits = { λ h. not (nothing_waits h.kept) };
+
+    ghost files_wait = { λ h. is_some h.talk.coming };
+
+    fn keep(&mut self) -> Result<(), HostFault> {
+        let kept = keep_and_say(self.alloc, &mut self.kept, &mut self.talk.leaving.said);
+        answered(self.alloc, kept)
+    }
+
+    fn keep_files(&mut self) -> Result<(), HostFault> {
+        let whole = if self.talk.coming.is_some() {
+            Err(SyncFault::HalfFile)
+        } else {
+            Ok(())
+        };
+        answered(self.alloc, whole)
+    }
+
+    fn hello(&mut self, theirs: Option<&Hello>) -> Result<Hello, HostFault> {
+        let id = match theirs {
+            Some(theirs) => Some(theirs.id),
+            None => None,
+        };
+        let hello = folder_hello(self.alloc, &self.kept, id);
+        answered(self.alloc, hello)
+    }
+
+    fn meet(&mut self, theirs: &Hello) -> Result<bool, HostFault> {
+        self.talk.theirs = Some(*theirs);
+        let met = judge(self.alloc, &self.kept, &self.meetings, theirs);
+        answered(self.alloc, met)
+    }
+
+    fn ask(&mut self) -> Result<Vec<u8>, HostFault> {
+        self.summary.is_idle = false;
+        let frame = ask(self.alloc, &mut self.kept, &mut self.talk.leaving.said);
+        answered(self.alloc, frame)
+    }
+
+    fn next_message(&mut self, turn: Turn) -> Result<Option<Message>, HostFault>
+        ensures in_place { IfOk result (λ found. IfSome found (λ message. IsSome (next_of turn message.kind))) }
+    {
+        let next = next_said(
+            self.alloc,
+            &mut self.kept,
+            &mut self.files,
+            &mut self.talk,
+            turn,
+        );
+        answered(self.alloc, next)
+    }
+
+    fn done(&mut self, turn: Turn) -> Result<Option<Short>, HostFault> {
+        let end = end(self.alloc, &self.kept, &mut self.talk, turn);
+        answered(self.alloc, end)
+    }
+
+    fn take_ask(&mut self, frame: &[u8]) -> Result<(), HostFault> {
+        let taken = take_other_ask(self.alloc, &mut self.kept, &mut self.talk, frame);
+        answered(self.alloc, taken)
+    }
+
+    fn take_file(&mut self, message: &Message) -> Result<(), HostFault> {
+        let taken = take_file_message(self.alloc, &mut self.files, &mut self.talk, message);
+        answered(self.alloc, taken)
+    }
+
+    fn take_missing(&mut self, digest: &[u8]) -> Result<(), HostFault> {
+        let taken = take_missing(&mut self.talk, digest);
+        answered(self.alloc, taken)
+    }
+
+    fn take_records(&mut self, frames: &[u8]) -> Result<(), HostFault> {
+        let taken = take_records_message(
+            self.alloc,
+            &mut self.kept,
+            &mut self.files,
+            &mut self.talk,
+            frames,
+        );
+        answered(self.alloc, taken)
+    }
+
+    fn take_wants(&mut self, digests: &[u8]) -> Result<(), HostFault> {
+        let taken = take_wants(self.alloc, &mut self.talk, digests);
+        answered(self.alloc, taken)
+    }
+
+    fn take_push_outs(&mut self, versions: &[u8]) -> Result<(), HostFault> {
+        let taken = take_push_outs(self.alloc, &mut self.talk, versions);
+        answered(self.alloc, taken)
+    }
+
+    fn take_receipts(&mut self, frames: &[u8]) -> Result<(), HostFault> {
+        let taken = take_receipts_message(self.alloc, &mut self.kept, &mut self.talk, frames);
+        let released = answered(self.alloc, taken)?;
+        self.summary.released = self.summary.released.saturating_add(released);
+        Ok(())
+    }
+
+    fn take_done(&mut self, knows: &[u8]) -> Result<(), HostFault> {
+        let taken = take_done(&mut self.talk, knows);
+        answered(self.alloc, taken)
+    }
+}

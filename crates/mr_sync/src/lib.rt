@@ -1,0 +1,42 @@
+//! Two open folders talk: what a talk of [`mr_talk`] asks of a folder.
+//!
+//! A folder is a kept replica and a tree of files. A [`FolderHost`] owns both while they talk, and is the
+//! [`Host`](mr_talk::Host) of it: it says who the folder is, asks for what it lacks, tells what the other side asks for, each
+//! file before the record that names it, and takes what the other side tells. What the replica did is kept before anything
+//! that comes of it leaves. What comes is a stranger's: what is wrong ends the talk by a fault, and what was taken before
+//! stays.
+//!
+//! ```
+//! let mut host = FolderHost::new(alloc, kept, files, meetings);
+//! let ended = run_talk(alloc, &mut line, &mut host, Role::Caller);
+//! let met = host.met(now);
+//! let (kept, files, summary) = host.into_parts();
+//! ```
+#![tactic(auto)]
+
+mod asking;
+mod ending;
+mod fault;
+mod files;
+mod hashing;
+mod hello;
+mod host;
+mod lists;
+mod named;
+mod receipts;
+mod records;
+mod said;
+mod sending;
+mod summary;
+mod taking;
+mod talk;
+mod telling;
+mod vouching;
+mod wants;
+
+pub use fault::SyncFault;
+pub use host::FolderHost;
+pub use lists::{
+    PushOut, begin_bytes, push_out_list, read_begin, read_digest, read_digests, read_push_outs,
+};
+pub use summary::Summary;

@@ -1,0 +1,158 @@
+//! Records that come.
+ghost use Rattle.std.specs.Prelude.{◌≡◌, ◌++◌, ◌∷◌, [], None, IfOk, IfSome, IsTrue, MatchResult, OnOk, is_some, map};
+ghost use Rattle.mr_folder.specs.Inside.{stored_path};
+ghost use Rattle.mr_folder.specs.Tree.{IsUntouched};
+ghost use Rattle.mr_kept.specs.Kept.{replica_of};
+ghost use Rattle.mr_replica.specs.declared.event.Event.TheVariants as event;
+ghost use Rattle.mr_sync.specs.Taken.{AreFrames, GrowsOnlyBy, IsNoRecordOf, IsRecordOf, TakesRecordOf};
+
+use crate::fault::SyncFault;
+use crate::named::file_in_frame;
+use crate::said::keep_and_say;
+use crate::talk::{Arriving, Talk};
+use mr_compare::Digest;
+use mr_folder::{FilePath, FileTree};
+use mr_itemset::SparingKnowledge;
+use mr_journal::Device;
+use mr_kept::Journaled;
+use mr_replica::Received;
+use mr_talk::Hello;
+use mr_version::Author;
+use mr_wire::{Body, Frame, decode};
+use std::alloc::Global;
+use std::collections::BTreeSet;
+
+/// The frames that the bytes spell, one after the other, all of them. `Frame` by the first that is none; `OutOfMemory`.
+pub(crate) fn frames_in(alloc: Global, bytes: &[u8]) -> Result<Vec<Frame>, SyncFault>
+    ensures { IfOk result (λ frames. AreFrames frames.items bytes.now) }
+{
+    let mut frames = Vec::new(alloc);
+    let mut at = 0;
+    for _ in 0..bytes.len() {
+        if at >= bytes.len() {
+            break;
+        }
+        let (frame, used) = decode(alloc, &bytes[at..])?;
+        frames.push(frame)?;
+        at += used;
+    }
+    if at != bytes.len() {
+        return Err(SyncFault::OtherFrame);
+    }
+    Ok(frames)
+}
+
+/// Notes which of the files that these frames' records name the store lacks.
+pub(crate) fn note_lacking<F: FileTree>(
+    alloc: Global,
+    files: &mut F,
+    frames: &[Frame],
+    lacking: &mut BTreeSet<Digest>,
+) -> Result<(), SyncFault> {
+    for frame in frames {
+        if let Some(file) = file_in_frame(frame) {
+            let digest = file.digest;
+            if !has_file(alloc, files, &digest)? {
+                lacking.insert(digest)?;
+            }
+        }
+    }
+    Ok(())
+}
+
+/// Whether the store has a file of this digest.
+pub(crate) fn has_file<F: FileTree>(
+    alloc: Global,
+    files: &mut F,
+    digest: &Digest,
+) -> Result<bool, SyncFault>
+    ensures has { IsTrue F.is_told → IfOk result (λ is. is ≡ is_some (F.seen files.old (stored_path digest.now))) }
+    ensures untouched { IsTrue F.is_told → IsUntouched F.seen F.may_leave F.moment F.left_since files.old files.new }
+{
+    let path = FilePath::stored(alloc, digest)?;
+    Ok(files.has(&path)?)
+}
+
+/// Has the replica take these records, all of them given by this source. Each that is taken is an event of the log, in their
+/// order, whatever comes of those behind it.
+///
+/// `OtherFrame` at a frame that is no record, `OtherSide` at one that another source gave; else as the replica refuses.
+pub(crate) fn take_records<D: Device + Drop>(
+    kept: &mut Journaled<SparingKnowledge, D>,
+    source: Author,
+    frames: Vec<Frame>,
+    arriving: &mut Arriving,
+) -> Result<(), SyncFault>
+    ensures grows { GrowsOnlyBy (TakesRecordOf source) (replica_of kept.old).log (replica_of kept.new).log }
+    ensures all { OnOk result ((replica_of kept.new).log ≡ (replica_of kept.old).log ++ map event.Receive frames.items) }
+{
+    for frame in frames {
+        let is_item = tells_item(&frame);
+        let received = take_record(kept, source, frame)?;
+        arriving.note(is_item, received);
+    }
+    Ok(())
+}
+
+/// Whether a frame tells a revision.
+fn tells_item(frame: &Frame) -> bool {
+    match frame {
+        Frame::Record(sent) => matches!(sent.body(), Body::Item(_)),
+        _ => false,
+    }
+}
+
+/// Has the replica take a record that this source gave.
+fn take_record<D: Device + Drop>(
+    kept: &mut Journaled<SparingKnowledge, D>,
+    source: Author,
+    frame: Frame,
+) -> Result<Received, SyncFault>
+    ensures grows { GrowsOnlyBy (TakesRecordOf source) (replica_of kept.old).log (replica_of kept.new).log }
+    ensures taken { OnOk result ((replica_of kept.new).log ≡ (replica_of kept.old).log ++ event.Receive frame ∷ []) }
+{
+    check_record(&frame, source)?;
+    Ok(kept.receive(frame)?)
+}
+
+/// That the frame is a record that this source gave.
+fn check_record(frame: &Frame, source: Author) -> Result<(), SyncFault>
+    ensures { MatchResult result (λ _. IsRecordOf source frame.now) (IsNoRecordOf source frame.now) }
+{
+    match frame {
+        Frame::Record(sent) => {
+            if sent.header().source == source {
+                Ok(())
+            } else {
+                Err(SyncFault::OtherSide)
+            }
+        }
+        Frame::Ask(_) => Err(SyncFault::OtherFrame),
+        Frame::Receipt(_) => Err(SyncFault::OtherFrame),
+    }
+}
+
+/// Takes a message of records of the other side, and keeps that they were taken.
+pub(crate) fn take_records_message<D: Device + Drop, F: FileTree>(
+    alloc: Global,
+    kept: &mut Journaled<SparingKnowledge, D>,
+    files: &mut F,
+    talk: &mut Talk,
+    bytes: &[u8],
+) -> Result<(), SyncFault> {
+    let source = other_side(&talk.theirs)?;
+    let frames = frames_in(alloc, bytes)?;
+    note_lacking(alloc, files, &frames, &mut talk.arriving.lacking)?;
+    take_records(kept, source, frames, &mut talk.arriving)?;
+    keep_and_say(alloc, kept, &mut talk.leaving.said)
+}
+
+/// The other side's id. `NotMet` where it hasn't said it.
+pub(crate) fn other_side(theirs: &Option<Hello>) -> Result<Author, SyncFault>
+    ensures { MatchResult result (λ id. IfSome theirs.now (λ h. id ≡ h.id)) (λ fault. (fault ≡ SyncFault.NotMet) × (theirs.now ≡ None)) }
+{
+    match theirs {
+        Some(hello) => Ok(hello.id),
+        None => Err(SyncFault::NotMet),
+    }
+}

@@ -1,0 +1,296 @@
+//! What is told in a turn.
+ghost use Rattle.std.specs.Prelude.{◌≡◌, ◌++◌, ◌≤◌, IfOk, IfSome, IsSome, OnOk, IsTrue, true, drop, length, take};
+ghost use Rattle.std.specs.List.{flat_map};
+ghost use Rattle.mr_kept.specs.Kept.{nothing_waits};
+ghost use Rattle.mr_talk.specs.Turns.{next_of};
+ghost use Rattle.mr_talk.specs.declared.kind.Kind.TheVariants as kind;
+ghost use Rattle.mr_talk.specs.declared.turn.Turn.TheVariants as turn;
+ghost use Rattle.mr_sync.specs.Lists.{revision_bytes};
+ghost use Rattle.mr_sync.specs.Telling.{IsBegun, IsGiven, IsOfKind, TellsRevisions};
+
+use crate::fault::SyncFault;
+use crate::lists::{PUSH_OUT_BYTES, push_out_list};
+use crate::named::NamedFile;
+use crate::said::{Said, frames_message, keep_and_say};
+use crate::sending::{Sending, begin_message, file_message, message_of, whole_file};
+use crate::talk::{Leaving, Talk};
+use crate::vouching::vouch_held;
+use crate::wants::wants_message;
+use mr_compare::Digest;
+use mr_folder::FileTree;
+use mr_itemset::SparingKnowledge;
+use mr_journal::Device;
+use mr_kept::Journaled;
+use mr_replica::Revision;
+use mr_session::AskedOf;
+use mr_talk::{Kind, MAX_LIST_BYTES, Message, Turn};
+use mr_version::ItemId;
+use std::alloc::Global;
+use std::collections::VecDeque;
+
+/// How many records are drawn at a time, and about how many bytes of them: what is kept by one commit.
+const BATCH_RECORDS: u32 = 512;
+
+const BATCH_BYTES: u64 = 1_048_576;
+
+/// The most push-outs in a message.
+const MOST_PUSH_OUTS: usize = MAX_LIST_BYTES as usize / PUSH_OUT_BYTES;
+
+/// What is said next in this turn, if there is something: nothing that has no place there.
+pub(crate) fn next_said<D: Device + Drop, F: FileTree>(
+    alloc: Global,
+    kept: &mut Journaled<SparingKnowledge, D>,
+    files: &mut F,
+    talk: &mut Talk,
+    turn: Turn,
+) -> Result<Option<Message>, SyncFault>
+    ensures { IfOk result (λ found. IfSome found (λ message. IsSome (next_of turn message.kind))) }
+{
+    match turn {
+        Turn::CallerTells => next_told(alloc, kept, files, &mut talk.leaving),
+        Turn::CalledTells => next_told_or_settled(alloc, kept, files, talk, turn.number()),
+        Turn::CallerSettles => next_settled(alloc, kept, files, talk, turn.number()),
+        Turn::CallerWants => next_wanted(alloc, kept, files, talk, turn.number()),
+        Turn::CalledSettles => next_closing(alloc, kept, files, talk, turn.number()),
+        Turn::CalledCloses | Turn::CallerCloses => {
+            next_receipts(alloc, kept, files, talk, turn.number())
+        }
+        Turn::CallerTellsFile
+        | Turn::CalledTellsFile
+        | Turn::CallerSettlesFile
+        | Turn::CalledSettlesFile => next_of_file(alloc, &mut talk.leaving.sending),
+        _ => Ok(None),
+    }
+}
+
+/// The fourth turn: what is told, then wants and receipts.
+fn next_told_or_settled<D: Device + Drop, F: FileTree>(
+    alloc: Global,
+    kept: &mut Journaled<SparingKnowledge, D>,
+    files: &mut F,
+    talk: &mut Talk,
+    number: u8,
+) -> Result<Option<Message>, SyncFault>
+    ensures { IfOk result (λ found. IfSome found (λ message. IsSome (next_of turn.CalledTells message.kind))) }
+{
+    if let Some(message) = next_told(alloc, kept, files, &mut talk.leaving)? {
+        return Ok(Some(message));
+    }
+    next_wanted(alloc, kept, files, talk, number)
+}
+
+/// The fifth turn: the files that are wanted, then wants and receipts.
+fn next_settled<D: Device + Drop, F: FileTree>(
+    alloc: Global,
+    kept: &mut Journaled<SparingKnowledge, D>,
+    files: &mut F,
+    talk: &mut Talk,
+    number: u8,
+) -> Result<Option<Message>, SyncFault>
+    ensures { IfOk result (λ found. IfSome found (λ message. IsSome (next_of turn.CallerSettles message.kind))) }
+{
+    if let Some(message) = next_wanted_file(alloc, files, &mut talk.leaving)? {
+        return Ok(Some(message));
+    }
+    next_wanted(alloc, kept, files, talk, number)
+}
+
+/// The sixth turn: the files that are wanted, then receipts.
+fn next_closing<D: Device + Drop, F: FileTree>(
+    alloc: Global,
+    kept: &mut Journaled<SparingKnowledge, D>,
+    files: &mut F,
+    talk: &mut Talk,
+    number: u8,
+) -> Result<Option<Message>, SyncFault>
+    ensures { IfOk result (λ found. IfSome found (λ message. IsSome (next_of turn.CalledSettles message.kind))) }
+{
+    if let Some(message) = next_wanted_file(alloc, files, &mut talk.leaving)? {
+        return Ok(Some(message));
+    }
+    next_receipts(alloc, kept, files, talk, number)
+}
+
+/// Wants, then receipts.
+fn next_wanted<D: Device + Drop, F: FileTree>(
+    alloc: Global,
+    kept: &mut Journaled<SparingKnowledge, D>,
+    files: &mut F,
+    talk: &mut Talk,
+    number: u8,
+) -> Result<Option<Message>, SyncFault>
+    ensures { IfOk result (λ found. IfSome found (λ message. IsOfKind kind.Wants kind.Receipts message.kind)) }
+{
+    if let Some(message) = wants_message(alloc, &mut talk.arriving)? {
+        return Ok(Some(message));
+    }
+    next_receipts(alloc, kept, files, talk, number)
+}
+
+/// Receipts. What is held here is vouched for once a turn.
+fn next_receipts<D: Device + Drop, F: FileTree>(
+    alloc: Global,
+    kept: &mut Journaled<SparingKnowledge, D>,
+    files: &mut F,
+    talk: &mut Talk,
+    number: u8,
+) -> Result<Option<Message>, SyncFault>
+    ensures { IfOk result (λ found. IfSome found (λ message. message.kind ≡ kind.Receipts)) }
+{
+    if talk.vouched_in != number {
+        let vouched = vouch_held(alloc, kept, files, &mut talk.waiting)?;
+        keep_and_say(alloc, kept, &mut talk.leaving.said)?;
+        talk.vouched = talk.vouched.saturating_add(vouched);
+        talk.vouched_in = number;
+    }
+    frames_message(alloc, Kind::Receipts, &mut talk.leaving.said.receipts)
+}
+
+/// What the other side asked for: files, records, and behind them the push-outs.
+fn next_told<D: Device + Drop, F: FileTree>(
+    alloc: Global,
+    kept: &mut Journaled<SparingKnowledge, D>,
+    files: &mut F,
+    leaving: &mut Leaving,
+) -> Result<Option<Message>, SyncFault>
+    ensures { IfOk result (λ found. IfSome found (λ message. IsGiven message.kind)) }
+{
+    draw(alloc, kept, &mut leaving.stream, &mut leaving.said)?;
+    if let Some(message) = next_file(alloc, files, leaving)? {
+        return Ok(Some(message));
+    }
+    if let Some(message) = frames_message(alloc, Kind::Records, &mut leaving.said.records)? {
+        return Ok(Some(message));
+    }
+    let push_outs = kept.replica().push_outs();
+    push_outs_message(alloc, push_outs, &mut leaving.push_outs)
+}
+
+/// Draws the next records of the stream and keeps that, where none wait to be told.
+fn draw<D: Device + Drop>(
+    alloc: Global,
+    kept: &mut Journaled<SparingKnowledge, D>,
+    stream: &mut Option<u64>,
+    said: &mut Said,
+) -> Result<(), SyncFault> {
+    let Some(number) = *stream else {
+        return Ok(());
+    };
+    if !said.records.is_empty() {
+        return Ok(());
+    }
+    let is_over = kept.tell(number, BATCH_RECORDS, BATCH_BYTES)?;
+    keep_and_say(alloc, kept, said)?;
+    if is_over {
+        *stream = None;
+    }
+    Ok(())
+}
+
+/// The next file that records to be told name, if the store has it whole and the other side may lack it.
+fn next_file<F: FileTree>(
+    alloc: Global,
+    files: &mut F,
+    leaving: &mut Leaving,
+) -> Result<Option<Message>, SyncFault>
+    ensures { IfOk result (λ found. IfSome found (λ message. message.kind ≡ kind.Begin)) }
+{
+    for _ in 0..leaving.said.files.len() {
+        let Some(file) = leaving.said.files.pop_front() else {
+            break;
+        };
+        if is_known(leaving.asked.as_ref(), file.item) {
+            continue;
+        }
+        if let Some(message) = open_file(alloc, files, &file.digest, &mut leaving.sending)? {
+            leaving.files = leaving.files.saturating_add(1);
+            return Ok(Some(message));
+        }
+    }
+    Ok(None)
+}
+
+/// Whether the one who asked claims to know the item's first version, and so has its file.
+fn is_known(asked: Option<&AskedOf>, item: ItemId) -> bool {
+    match asked {
+        Some(asked) => asked.knows(item, item.creator()),
+        None => false,
+    }
+}
+
+/// Begins to send a file, if the store has it whole.
+fn open_file<F: FileTree>(
+    alloc: Global,
+    files: &mut F,
+    digest: &Digest,
+    sending: &mut Option<Sending>,
+) -> Result<Option<Message>, SyncFault>
+    ensures { IfOk result (λ found. IfSome found (λ message. (message.kind ≡ kind.Begin) × IsBegun digest.now message.bytes sending.new)) }
+{
+    let Some(bytes) = whole_file(alloc, files, digest)? else {
+        return Ok(None);
+    };
+    let message = begin_message(alloc, digest, bytes.len())?;
+    *sending = Some(Sending { bytes, told: 0 });
+    Ok(Some(message))
+}
+
+/// The next file that the other side wants, or that it is missing here; none where it wants no more.
+fn next_wanted_file<F: FileTree>(
+    alloc: Global,
+    files: &mut F,
+    leaving: &mut Leaving,
+) -> Result<Option<Message>, SyncFault>
+    ensures { IfOk result (λ found. IfSome found (λ message. IsOfKind kind.Begin kind.Missing message.kind)) }
+{
+    let Some(digest) = leaving.wants.pop_front() else {
+        return Ok(None);
+    };
+    if let Some(message) = open_file(alloc, files, &digest, &mut leaving.sending)? {
+        leaving.files = leaving.files.saturating_add(1);
+        return Ok(Some(message));
+    }
+    Ok(Some(missing_message(alloc, &digest)?))
+}
+
+/// That a file is missing here.
+fn missing_message(alloc: Global, digest: &Digest) -> Result<Message, SyncFault>
+    ensures { IfOk result (λ message. (message.kind ≡ kind.Missing) × (message.bytes ≡ digest.now)) }
+{
+    let mut bytes = Vec::new(alloc);
+    bytes.extend_from_slice(digest)?;
+    Ok(message_of(Kind::Missing, bytes))
+}
+
+/// The next piece of the file that is being sent, or its end, which it is open no more behind; none where none is open.
+fn next_of_file(alloc: Global, sending: &mut Option<Sending>) -> Result<Option<Message>, SyncFault>
+    ensures { IfOk result (λ found. IfSome found (λ message. IsOfKind kind.Piece kind.End message.kind)) }
+{
+    let Some(open) = sending else {
+        return Ok(None);
+    };
+    let message = file_message(alloc, open)?;
+    if message.kind() == Kind::End {
+        *sending = None;
+    }
+    Ok(Some(message))
+}
+
+/// The push-outs behind those that are told, as far as a message has room for them; none where all are told.
+fn push_outs_message(
+    alloc: Global,
+    push_outs: &[Revision],
+    told: &mut usize,
+) -> Result<Option<Message>, SyncFault>
+    ensures kind { IfOk result (λ found. IfSome found (λ message. message.kind ≡ kind.PushOuts)) }
+    ensures told { IfOk result (TellsRevisions push_outs.now told.old told.new) }
+{
+    if *told >= push_outs.len() {
+        return Ok(None);
+    }
+    let size = (push_outs.len() - *told).min(MOST_PUSH_OUTS);
+    let upto = *told + size;
+    let bytes = push_out_list(alloc, &push_outs[*told..upto])?;
+    *told = upto;
+    Ok(Some(message_of(Kind::PushOuts, bytes)))
+}

@@ -1,0 +1,41 @@
+//! Files that one side wants of the other.
+ghost use Rattle.std.specs.Prelude.{◌≡◌, IfOk, IfSome, MatchOption};
+ghost use Rattle.mr_talk.specs.declared.kind.Kind.TheVariants as kind;
+ghost use Rattle.mr_sync.specs.Lists.{TellsFront};
+
+use crate::fault::SyncFault;
+use crate::lists::digest_list;
+use crate::sending::message_of;
+use crate::talk::Arriving;
+use mr_compare::Digest;
+use mr_talk::{Kind, Message};
+use std::alloc::Global;
+use std::collections::BTreeSet;
+
+/// The most digests in a message.
+pub(crate) const MOST_WANTS: usize = 65_536;
+
+/// Wants of the other side what is lacking, as far as a message has room for it; none where nothing is lacking.
+pub(crate) fn wants_message(
+    alloc: Global,
+    arriving: &mut Arriving,
+) -> Result<Option<Message>, SyncFault>
+    ensures { IfOk result (λ found. IfSome found (λ message. message.kind ≡ kind.Wants)) }
+{
+    wants_of(alloc, &mut arriving.lacking, &mut arriving.wanted)
+}
+
+fn wants_of(
+    alloc: Global,
+    lacking: &mut BTreeSet<Digest>,
+    wanted: &mut BTreeSet<Digest>,
+) -> Result<Option<Message>, SyncFault>
+    ensures kind { IfOk result (λ found. IfSome found (λ message. message.kind ≡ kind.Wants)) }
+    ensures told { IfOk result (TellsFront MOST_WANTS lacking.old.keys lacking.new.keys) }
+{
+    if lacking.is_empty() {
+        return Ok(None);
+    }
+    let bytes = digest_list(alloc, lacking, wanted, MOST_WANTS)?;
+    Ok(Some(message_of(Kind::Wants, bytes)))
+}
