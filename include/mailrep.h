@@ -1,4 +1,4 @@
-/* mailrep.h: devices that keep one mailbox in step, for C and C++.
+/* mailrep.h: devices that keep one mailbox in step, for C99, C++11 and later.
  *
  * A device is an mr_device, two words that belong to you. mr_open makes a plain one, mr_kept_begin and mr_kept_open make one that is
  * kept, and mr_close gives back what it holds. Every other call that takes one is either an event or a reader. An event does all of

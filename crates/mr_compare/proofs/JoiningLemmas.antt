@@ -3,8 +3,6 @@ use Rattle.std.proofs.Common.{◌≡◌, ℕ, ◌+◌, ◌<◌, Bool, true, fals
 use Rattle.std.specs.Prelude.{◌||◌, not}
 use Rattle.std.specs.List.{flat_map, list_any}
 use Rattle.std.specs.Ordering.{is_eq, ord_min}
-use Rattle.std.specs.declared.cmp.Ordering.{Ordering}
-use Rattle.std.specs.declared.cmp.Ordering.TheVariants.{Less, Equal, Greater}
 use Rattle.std.proofs.Math.Bool.{or-false}
 use Rattle.std.proofs.lemmas.List.{append-nil, map-append}
 use Rattle.std.proofs.lemmas.List.Concat.{flat_map-append, flat_map-cons}
@@ -21,9 +19,8 @@ use Rattle.mr_compare.specs.Joining.{lowest, lower_of, together}
 use Rattle.mr_compare.specs.MailsLeft.{left_mail, next_mail}
 use Rattle.mr_compare.specs.Sides.{at_digest}
 use Rattle.mr_compare.proofs.GatherLemmas.{values_of-more}
+use Rattle.mr_compare.proofs.LeftLemmas.{equal_of}
 use Rattle.mr_compare.proofs.ListLemmas.{take_one}
-
--- ---- walks
 
 -- those that a test lets pass, with one element more
 passed-more : {X A : Type 0} (f : X → A) (p : X → Bool) (front : List X) (x : X) → map f (filter (λ y. not (p y)) (front ++ x ∷ [])) ≡ map f (filter (λ y. not (p y)) front) ++ cond (p x) [] (f x ∷ [])
@@ -70,11 +67,7 @@ next-left : (views : List ViewParts) (bs : List Bool) (b : Bool) → Some (next_
 next-left views [] b = ap (λ c. Some (record { view = together views; came = c })) (sym (or-false b))
 next-left views (x ∷ xs) b = ap (λ c. Some (record { view = together views; came = c })) (sym (any-more (x ∷ xs) b))
 
-equal_of : (o : Ordering) → is_eq o ≡ true → o ≡ Equal
-equal_of Less h = cc
-equal_of Equal h = refl
-equal_of Greater h = cc
-
+-- texts that compare alike are one
 same_text : (a b : List ℕ) → is_eq (text_cmp a b) ≡ true → a ≡ b
 same_text a b h = exact_bytes a b (equal_of (text_cmp a b) h)
 

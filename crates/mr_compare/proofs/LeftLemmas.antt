@@ -18,7 +18,8 @@ use Rattle.mr_feed.specs.Fold.{fold_from-append}
 use Rattle.mr_compare.proofs.ListLemmas.{take_one}
 use Rattle.mr_compare.specs.Left.{of_item, item_cards, newer, last_added, last_told, told_last, card_left, newest_of, card_added, with_entry, pair_cmp}
 
-equal_of : (o : Ordering) → is_eq o ≡ true → o ≡ Equal
+-- orderings that say equal are Equal
+pub equal_of : (o : Ordering) → is_eq o ≡ true → o ≡ Equal
 equal_of Less h = cc
 equal_of Equal h = refl
 equal_of Greater h = cc

@@ -1,4 +1,5 @@
 //! What the story rests on besides its calls.
+use mr_crash::{crashes_are_runs, runs_with_crashes};
 use mr_entry::event;
 use mr_feed::{PlainPort, first_in_first_out};
 use mr_frames::{
@@ -7,6 +8,7 @@ use mr_frames::{
 };
 use mr_itemset::one_normal_form;
 use mr_journal::{bytes_stand_for_one_list, no_journal_is_refused};
+use mr_mail::{Card, Message};
 use mr_wire::{no_spelling_begins_another, one_spelling};
 
 /// Laws of the libraries. Each is a function that does nothing, and its contract is a theorem about any calls: to call
@@ -28,6 +30,9 @@ pub fn cite_laws() {
     // A file stands for one list of entries, and none that a journal left is refused.
     bytes_stand_for_one_list();
     no_journal_is_refused();
+    // A replica that crashes, and loses what nobody was given, leaves a history of the rules.
+    crashes_are_runs::<Message, Card>();
+    runs_with_crashes::<Message, Card>();
     // Of each knowledge there is one text, so that it can be compared.
     one_normal_form();
     // What a port gave, and what waits in it, is what was offered.

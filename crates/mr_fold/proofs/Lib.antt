@@ -1,2 +1,4 @@
 pub mod StateLemmas
 pub mod TellingLemmas
+pub mod LackingLemmas
+pub mod TakingLemmas

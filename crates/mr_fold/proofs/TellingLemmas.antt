@@ -15,7 +15,7 @@ use Rattle.mr_replica.specs.declared.event.Reply.{Reply}
 use Rattle.mr_kept.specs.declared.journaled.Journaled.{Journaled}
 use Rattle.mr_compare.specs.declared.compare.MailAct.{MailAct}
 use Rattle.mr_compare.proofs.ListLemmas.{take_one}
-use Rattle.mr_fold.specs.declared.settling.ItemHeads.{ItemHeads}
+use Rattle.mr_compare.specs.declared.joining.ItemHeads.{ItemHeads}
 use Rattle.mr_fold.specs.Telling.{AreEdits, TellsAct, TellsAll, items_at, Grows, GrowsByEdit}
 
 -- an event that was admitted is the log's last

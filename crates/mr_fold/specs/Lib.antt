@@ -1,5 +1,14 @@
 pub mod Fault
+pub mod FoldFault
 pub mod State
 pub mod Shown
 pub mod Telling
+pub mod Settings
+pub mod Mark
+pub mod Message
+pub mod HeldSide
+pub mod Lacking
+pub mod Taking
+pub mod Straying
+pub mod Released
 pub mod Rows

@@ -12,7 +12,7 @@ use Rattle.mr_replica.specs.declared.event.Event.{Event}
 use Rattle.mr_replica.specs.declared.event.Event.TheVariants.{Create, Edit}
 use Rattle.mr_compare.specs.Gather.{values_at}
 use Rattle.mr_compare.specs.declared.compare.MailAct.{MailAct}
-use Rattle.mr_fold.specs.declared.settling.ItemHeads.{ItemHeads}
+use Rattle.mr_compare.specs.declared.joining.ItemHeads.{ItemHeads}
 
 -- the view of a deleted mail: no folder, and the flag deleted
 abbrev pub gone_view : ViewParts

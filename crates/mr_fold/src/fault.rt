@@ -1,10 +1,11 @@
 //! Why a folder isn't settled.
 ghost use Rattle.std.specs.Prelude.{◌≡◌};
-ghost use Rattle.mr_fold.specs.Fault.{settle_fault_number};
+ghost use Rattle.mr_fold.specs.Fault.{settle_fault_number, settle_fault_of_plan};
 ghost use Rattle.mr_fold.specs.declared.fault.SettleFault.TheVariants.{OutOfMemory, Kept, Files};
 
 use mr_folder::FilesFailed;
 use mr_kept::KeptFault;
+use mr_maildir::FileFault as PlanFault;
 use std::alloc::{AllocError, AllocFailed};
 use thiserror::Error;
 
@@ -25,6 +26,12 @@ pub enum SettleFault {
     /// The files failed.
     #[error("the files failed")]
     Files,
+    /// In a folder other mails' files have both names that a mail's file may get.
+    #[error("other mails' files have the names that a mail's file may get")]
+    NameTaken,
+    /// A file that was seen isn't there any more, or a new one is where none was: another program is at work.
+    #[error("another program changed files meanwhile: settle again")]
+    Changed,
 }
 
 impl SettleFault {
@@ -38,6 +45,8 @@ impl SettleFault {
             SettleFault::NotHeld => 2,
             SettleFault::Kept(_) => 3,
             SettleFault::Files => 4,
+            SettleFault::NameTaken => 5,
+            SettleFault::Changed => 6,
         }
     }
 }
@@ -63,6 +72,17 @@ impl From<KeptFault> for SettleFault {
 
     fn from(fault: KeptFault) -> SettleFault {
         SettleFault::Kept(fault)
+    }
+}
+
+impl From<PlanFault> for SettleFault {
+    ghost from_gives = { λ e fault. fault ≡ settle_fault_of_plan e };
+
+    fn from(fault: PlanFault) -> SettleFault {
+        match fault {
+            PlanFault::OutOfMemory => SettleFault::OutOfMemory,
+            PlanFault::NameTaken => SettleFault::NameTaken,
+        }
     }
 }
 

@@ -1,23 +1,50 @@
 //! An open folder of mail: a kept replica, and the Maildir that shows it.
 //!
-//! The journal of the replica keeps notes beside its events: how far of the feed the Maildir shows, and with whom a sync came to
-//! its end; [`shown_of`] and [`meetings_of`] say what they tell. [`settle`] tells what the user changed, commits, shows what was
-//! changed elsewhere, and notes that.
+//! [`init`] makes a folder's replica, and [`open`] opens it again: its journal is `.mailfold/log`, and how its folders lie is told in
+//! `.mailfold/config` or found. [`settle_folder`] brings both together: the Maildir is scanned, what the user changed is told and kept, and
+//! only then the files are made to stand as the replica holds the mail; [`look`] says what it would do. Where it would delete a mail that lies
+//! in a folder that the layout hasn't got, nothing is done ([`StrayMails`]). The journal keeps notes beside its
+//! events: how far of the feed the Maildir shows, and with whom a sync came to its end ([`shown_of`], [`meetings_of`]).
+//!
+//! [`settle`] is the same over any files ([`MailFiles`]): there the contracts say what is told, and that nothing is shown before it is
+//! kept, and nothing noted before it is on the disk. What real files take and give no contract says.
 //!
 //! ```
-//! let acts = acts_of(alloc, &standings, most_deletions(mails))?;
-//! settle(alloc, &mut kept, &mut files, &acts, &held, lacking)?;
-//! println!(rt; "{}", tally_of(&acts))?;
+//! init(&rt, "Mail", FolderSetup { id, filter, birth, layout: None })?;
+//! let mut folder = open(&rt, "Mail")?;
+//! println!(rt; "{}", settle_folder(&mut folder, None)?.tally)?;
 //! ```
 #![tactic(auto)]
 
+mod ancestors;
+mod digests;
+mod disk_mails;
 mod fault;
+mod fold_fault;
+mod held_side;
+mod lacking;
+mod looking;
+mod mark;
+mod message;
+mod names;
+mod opening;
+mod released;
+mod settings;
 mod settling;
 mod shown;
+mod sides;
 mod state;
+mod straying;
+mod targets;
 mod telling;
 
 pub use fault::SettleFault;
-pub use settling::{HeldItems, ItemHeads, MailFiles, settle};
+pub use fold_fault::FoldFault;
+pub use looking::{Looked, PassedOver, Settled, look, settle_folder, sweep_folder};
+pub use mark::mark_of;
+pub use message::{day_at, folder_lines, new_mail};
+pub use opening::{FolderSetup, Kept, OpenFolder, begin_log, check_made, init, mark_for, open};
+pub use settling::{HeldItems, MailFiles, settle};
 pub use shown::note_shown;
 pub use state::{meetings_of, shown_of};
+pub use straying::{StrayMails, WhyPassedOver, layout_name};

@@ -6,8 +6,8 @@ ghost use Rattle.mr_maildir.specs.declared.act.Act.TheVariants as act;
 ghost use Rattle.mr_fold.specs.Telling.{AreEdits, Grows, GrowsByEdit, TellsAct, TellsAll, gone_view, items_at};
 
 use crate::fault::SettleFault;
-use crate::settling::{HeldItems, ItemHeads, MailFiles};
-use mr_compare::{Digest, MailAct};
+use crate::settling::{HeldItems, MailFiles};
+use mr_compare::{Digest, ItemHeads, MailAct};
 use mr_itemset::SparingKnowledge;
 use mr_journal::Device;
 use mr_kept::Journaled;

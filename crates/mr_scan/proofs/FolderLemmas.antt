@@ -9,7 +9,7 @@ use Rattle.std.proofs.lemmas.List.Elements.{filter_map-append, filter-append}
 use Rattle.mr_mail.specs.Label.{text_eq}
 use Rattle.mr_maildir.proofs.ViewLemmas.{same_text}
 use Rattle.mr_maildir.specs.declared.layout.Layout.{Layout}
-use Rattle.mr_scan.specs.Folders.{FolderParts, are_apart, folder_there, folder_parts, folder_of, first_of_each, folders_there, has_folder, with_folder}
+use Rattle.mr_scan.specs.Folders.{FolderParts, are_apart, folder_there, folder_parts, folder_of, first_of_each, folders_there, has_folder, is_path_of, with_folder}
 use Rattle.mr_scan.specs.declared.folders.MailFolder.{MailFolder}
 
 -- those that have another label than this one
@@ -164,3 +164,14 @@ pushed_first folders folder new =
 pub kept_first : (folders : List MailFolder) (folder : MailFolder) → list_any (λ own. text_eq own.label folder.label) folders ≡ true → map folder_parts folders ≡ with_folder (map folder_parts folders) (Some (folder_parts folder))
 kept_first folders folder old =
     ap (λ b. cond b (map folder_parts folders) (map folder_parts folders ++ folder_parts folder ∷ [])) (sym (sym (any-parts folder.label folders) ∙ old))
+
+any-paths : (path : List ℕ) (folders : List MailFolder) → list_any (λ folder. text_eq folder.path path) folders ≡ is_path_of (map folder_parts folders) path
+any-paths path [] = refl
+any-paths path (f ∷ folders) = ap (λ b. text_eq f.path path || b) (any-paths path folders)
+
+-- the paths at which no folder lies, told by the folders' parts
+pub without-parts : (folders : List MailFolder) (paths : List (List ℕ)) → filter (λ path. not (list_any (λ folder. text_eq folder.path path) folders)) paths ≡ filter (λ path. not (is_path_of (map folder_parts folders) path)) paths
+without-parts folders [] = refl
+without-parts folders (path ∷ paths) =
+    ap (λ b. cond (not b) (path ∷ filter (λ own. not (list_any (λ folder. text_eq folder.path own) folders)) paths) (filter (λ own. not (list_any (λ folder. text_eq folder.path own) folders)) paths)) (any-paths path folders)
+    ∙ ap (λ rest. cond (not (is_path_of (map folder_parts folders) path)) (path ∷ rest) rest) (without-parts folders paths)

@@ -17,11 +17,11 @@ pub record FolderParts : Type 0 where
 abbrev pub folder_parts : MailFolder → FolderParts
 folder_parts folder = record { path = folder.path; label = folder.label; name = string_bytes folder.name }
 
--- the folders of a Maildir, how they lie below it, and how many paths were passed over
+-- the folders of a Maildir, how they lie below it, and the paths that were passed over
 pub record TableParts : Type 0 where
   pub layout : Layout
   pub folders : List FolderParts
-  pub passed_over : ℕ
+  pub passed_over : List (List ℕ)
 
 -- the folder at a path, if the layout has one there: the Maildir itself is the inbox
 abbrev pub folder_there : Layout → List ℕ → Option FolderParts
@@ -35,6 +35,14 @@ first_of_each (folder ∷ folders) = folder ∷ filter (λ other. not (text_eq o
 
 abbrev pub folders_there : Layout → List (List ℕ) → List FolderParts
 folders_there layout paths = first_of_each (filter_map (folder_there layout) paths)
+
+-- whether one of the folders lies at the path
+abbrev pub is_path_of : List FolderParts → List ℕ → Bool
+is_path_of folders path = list_any (λ folder. text_eq folder.path path) folders
+
+-- those of the paths, in their order, that became no folder
+abbrev pub paths_passed_over : Layout → List (List ℕ) → List (List ℕ)
+paths_passed_over layout paths = filter (λ path. not (is_path_of (folders_there layout paths) path)) paths
 
 -- the folder of a label
 abbrev pub folder_of : List FolderParts → List ℕ → Option FolderParts

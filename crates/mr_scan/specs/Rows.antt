@@ -4,7 +4,7 @@ use Rattle.mr_maildir.specs.File.{FileParts}
 use Rattle.mr_maildir.specs.View.{ViewParts}
 use Rattle.mr_maildir.specs.declared.layout.Layout.TheVariants.{Dots, Plain}
 use Rattle.mr_folder.specs.declared.path.Part.TheVariants.{Cur, New}
-use Rattle.mr_scan.specs.Folders.{FolderParts, TableParts, folder_there, folders_there, folder_of, path_given, layout_of}
+use Rattle.mr_scan.specs.Folders.{FolderParts, TableParts, folder_there, folders_there, paths_passed_over, folder_of, path_given, layout_of}
 use Rattle.mr_scan.specs.Found.{part_at}
 use Rattle.mr_scan.specs.Seen.{seen_view}
 use Rattle.mr_scan.specs.Spoiled.{is_spoiled}
@@ -25,6 +25,17 @@ maildir_itself = refl
 pub three_paths : folders_there Dots ([] ∷ codes ".work" ∷ codes "work" ∷ []) ≡ inbox ∷ work ∷ []
 three_paths = refl
 
+-- so it is passed over
+pub passed_over_work : paths_passed_over Dots ([] ∷ codes ".work" ∷ codes "work" ∷ []) ≡ codes "work" ∷ []
+passed_over_work = refl
+
+-- in their order, and whatever stands between them
+pub passed_over_dots : paths_passed_over Plain (codes ".b" ∷ [] ∷ codes ".a" ∷ codes "work" ∷ codes "a.b" ∷ []) ≡ codes ".b" ∷ codes ".a" ∷ codes "a.b" ∷ []
+passed_over_dots = refl
+
+pub none_passed_over : paths_passed_over Plain ([] ∷ codes "work" ∷ []) ≡ []
+none_passed_over = refl
+
 pub of_work : folder_of (inbox ∷ work ∷ []) (codes "work") ≡ Some work
 of_work = refl
 
@@ -39,7 +50,7 @@ pub behind_the_last : part_at (inbox ∷ work ∷ []) 4 ≡ None
 behind_the_last = refl
 
 abbrev table : TableParts
-table = record { layout = Dots; folders = inbox ∷ work ∷ []; passed_over = 0 }
+table = record { layout = Dots; folders = inbox ∷ work ∷ []; passed_over = [] }
 
 -- a label's folder is where it stands; one that isn't there is made, whatever a peer told of it
 pub path_of_work : path_given table (codes "work") (Some (codes "../x")) ≡ codes ".work"
@@ -77,6 +88,17 @@ lost_and_got = refl
 -- the same of a mail that was never left: both come
 pub both_come : seen_view None (seen_file ∷ lost_file ∷ []) ≡ record { labels = codes "inbox" ∷ codes "work" ∷ []; flags = 5 }
 both_come = refl
+
+abbrev trashed_file : FileParts
+trashed_file = record { label = codes "inbox"; is_new = false; unique = codes "2.host"; info = codes ":2,ST" }
+
+-- one of two copies is marked for deletion: the mail isn't deleted
+pub one_trashed : seen_view (Some left) (seen_file ∷ trashed_file ∷ []) ≡ record { labels = codes "inbox" ∷ codes "work" ∷ []; flags = 1 }
+one_trashed = refl
+
+-- both are
+pub both_trashed : seen_view (Some left) (trashed_file ∷ trashed_file ∷ []) ≡ record { labels = codes "inbox" ∷ []; flags = 17 }
+both_trashed = refl
 
 -- two files in one folder
 pub in_one_folder : seen_view (Some left) (seen_file ∷ seen_file ∷ []) ≡ record { labels = codes "work" ∷ []; flags = 1 }

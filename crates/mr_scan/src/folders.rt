@@ -1,12 +1,12 @@
 //! The folders of a Maildir and their labels.
-ghost use Rattle.std.specs.Prelude.{◌≡◌, ◌-◌, ◌==◌, Contains, IfOk, OnOk, Some, find, map, length, codes, option_map, string_bytes};
+ghost use Rattle.std.specs.Prelude.{◌≡◌, ◌==◌, Contains, IfOk, OnOk, Some, filter, find, map, not, length, codes, option_map, string_bytes};
 ghost use Rattle.std.specs.List.{list_all, list_any};
 ghost use Rattle.std.specs.Option.{option_copied};
 ghost use Rattle.mr_folder.specs.Inside.{IsFolder};
 ghost use Rattle.mr_mail.specs.Label.{text_eq};
 ghost use Rattle.mr_maildir.specs.Folder.{label_of};
 ghost use Rattle.mr_maildir.specs.Layout.{folder_path};
-ghost use Rattle.mr_scan.specs.Folders.{FolderParts, folder_parts, folder_there, folders_there, folder_of, with_folder, begins_with_dot, path_given, path_or, layout_of};
+ghost use Rattle.mr_scan.specs.Folders.{FolderParts, folder_parts, folder_there, folders_there, folder_of, with_folder, paths_passed_over, begins_with_dot, path_given, path_or, layout_of};
 ghost use Rattle.mr_scan.specs.Found as found;
 
 use mr_folder::{FolderPath, Part};
@@ -31,7 +31,7 @@ pub struct MailFolder {
 pub struct FolderTable {
     layout: Layout,
     folders: Vec<MailFolder>,
-    passed_over: usize,
+    passed_over: Vec<FolderPath>,
 }
 
 impl Model for FolderTable {
@@ -40,7 +40,7 @@ impl Model for FolderTable {
 
     ghost Value = { TableParts };
 
-    ghost view = { λ t. record { layout = t.layout; folders = map folder_parts t.folders.items; passed_over = t.passed_over } };
+    ghost view = { λ t. record { layout = t.layout; folders = map folder_parts t.folders.items; passed_over = t.passed_over.items } };
 
     ghost invariant = { λ t. IsTrue (are_apart (map folder_parts t.folders.items)) };
 }
@@ -49,7 +49,7 @@ impl FolderTable {
     /// The folders at these paths, in their order. The Maildir itself, whose path is empty, is the inbox. Passed over are a path where the
     /// layout has no folder, and a folder whose label one before it has.
     ///
-    /// It costs a comparison for each two folders.
+    /// It costs a comparison for each two folders, and one of each path with each folder's.
     pub fn of(
         alloc: Global,
         layout: Layout,
@@ -57,11 +57,11 @@ impl FolderTable {
     ) -> Result<FolderTable, AllocError>
         ensures layout { IfOk result (λ table. table.layout ≡ layout) }
         ensures folders { IfOk result (λ table. table.folders ≡ folders_there layout paths.items) }
-        ensures passed_over { IfOk result (λ table. table.passed_over ≡ length paths.items - length table.folders) }
+        ensures passed_over { IfOk result (λ table. table.passed_over ≡ paths_passed_over layout paths.items) }
     {
-        let count = paths.len();
-        let folders = taken_folders(alloc, layout, paths)?;
-        let passed_over = count.saturating_sub(folders.len());
+        let copies = copied(alloc, &paths)?;
+        let folders = taken_folders(alloc, layout, copies)?;
+        let passed_over = paths_without(paths, &folders);
         Ok(FolderTable {
             layout,
             folders,
@@ -85,11 +85,19 @@ impl FolderTable {
         self.folders.as_slice()
     }
 
-    /// How many paths were passed over.
-    pub fn passed_over(&self) -> usize
-        ensures { result ≡ self.now.passed_over }
+    /// The paths that were passed over, in their order: those at which no folder of the table lies.
+    pub fn passed_over(&self) -> &[FolderPath]
+        ensures { result.now ≡ self.now.passed_over }
     {
-        self.passed_over
+        self.passed_over.as_slice()
+    }
+
+    /// The paths that were passed over, of a table that is done with.
+    pub fn into_passed_over(self) -> Vec<FolderPath>
+        ensures { result.items ≡ self.passed_over }
+    {
+        let FolderTable { passed_over, .. } = self;
+        passed_over
     }
 
     /// The folder of this label.
@@ -156,6 +164,34 @@ fn copied_paths(alloc: Global, folders: &[MailFolder]) -> Result<Vec<FolderPath>
         paths.push(path_of(alloc, folder.path.as_str())?)?;
     }
     Ok(paths)
+}
+
+/// Equal paths.
+fn copied(alloc: Global, paths: &[FolderPath]) -> Result<Vec<FolderPath>, AllocError>
+    ensures { IfOk result (λ copies. copies.items ≡ paths.now) }
+{
+    let mut copies = Vec::with_capacity(alloc, paths.len())?;
+    for path in paths {
+        copies.push(path_of(alloc, path.as_str())?)?;
+    }
+    Ok(copies)
+}
+
+/// Those of the paths at which none of these folders lies.
+fn paths_without(mut paths: Vec<FolderPath>, folders: &[MailFolder]) -> Vec<FolderPath>
+    ensures { result.items ≡ filter (λ path. not (list_any (λ folder. text_eq folder.path path) folders.now)) paths.items }
+{
+    paths.retain(|path| !has_path(folders, path));
+    paths
+}
+
+/// Whether one of the folders lies at this path.
+fn has_path(folders: &[MailFolder], path: &FolderPath) -> bool
+    ensures { result ≡ list_any (λ folder. text_eq folder.path path.now) folders.now }
+{
+    folders
+        .iter()
+        .any(|folder| folder.path.as_str() == path.as_str())
 }
 
 /// The path of this text.

@@ -2,7 +2,8 @@
 //!
 //! A folder has a label ([`FolderTable`]). A mail is the bytes of its file, and its file in the store is its file in the Maildir, so the number
 //! of a file's inode tells which mail it is ([`Index`]). [`scan`] lists the folders, looks each file up, and takes into the store what it hasn't seen.
-//! The files of one mail make one view ([`seen_view`]).
+//! The files of one mail make one view ([`seen_view`]). A folder that the layout doesn't have is passed over, and
+//! [`mails_passed_over`] tells which mails lie there.
 //!
 //! ```text
 //! let table = FolderTable::of(alloc, default_layout(&folders), folders)?;
@@ -18,9 +19,11 @@ mod inodes;
 mod scanned;
 mod scanning;
 mod seeing;
+mod straying;
 
 pub use folders::{FolderTable, MailFolder, default_layout};
 pub use inodes::{Index, Stored, index_of, spoiled};
 pub use scanned::Scan;
 pub use scanning::scan;
 pub use seeing::seen_view;
+pub use straying::mails_passed_over;

@@ -45,7 +45,7 @@ pub fn scan<R: Files<File = File> + AllocGlobal + Clone + Drop>(
 }
 
 /// The names in the parts of these folders, and how many aren't UTF-8.
-fn listed<R: Files<File = File> + AllocGlobal + Clone + Drop>(
+pub(crate) fn listed<R: Files<File = File> + AllocGlobal + Clone + Drop>(
     alloc: Global,
     tree: &DiskTree<R>,
     paths: &[FolderPath],

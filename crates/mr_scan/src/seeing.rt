@@ -2,6 +2,8 @@
 ghost use Rattle.std.specs.Prelude.{◌≡◌, IfOk, map};
 ghost use Rattle.std.specs.List.{list_all, list_any};
 ghost use Rattle.std.specs.Option.{option_copied};
+ghost use Rattle.mr_mail.specs.Flag.{flag_eq};
+ghost use Rattle.mr_mail.specs.declared.flags.Flag.TheVariants.{Deleted};
 ghost use Rattle.mr_maildir.specs.Letters.{flags_where};
 ghost use Rattle.mr_scan.specs.Seen as specs;
 ghost use Rattle.mr_scan.specs.Seen.{flags_left, is_flag_on, is_flag_seen, file_label};
@@ -12,6 +14,8 @@ use std::alloc::{AllocError, Global};
 
 /// How a mail is seen that was left in this view, if it was left, and has these files: in the folders of all of them. A flag that was
 /// left stays where each file has it, and another one comes where some file has it.
+///
+/// That it is deleted is seen only where each file says so: who marks one of two copies for deletion keeps the other.
 pub fn seen_view(alloc: Global, left: Option<&View>, files: &[MailFile]) -> Result<View, AllocError>
     ensures { IfOk result (λ view. view ≡ specs.seen_view (option_copied left.entry) files.now) }
 {
@@ -57,11 +61,18 @@ fn seen_flags(left: Flags, files: &[MailFile]) -> Flags
 fn is_flag_seen(left: Flags, files: &[MailFile], flag: Flag) -> bool
     ensures { result ≡ is_flag_seen left files.now flag }
 {
-    if left.contains(flag) {
+    if is_deleted(flag) || left.contains(flag) {
         is_on_each(files, flag)
     } else {
         is_on_some(files, flag)
     }
+}
+
+/// Whether it is the flag of a mail that counts as deleted.
+fn is_deleted(flag: Flag) -> bool
+    ensures { result ≡ flag_eq flag Deleted }
+{
+    flag.bit() == Flag::Deleted.bit()
 }
 
 /// Whether each of the files has the flag.

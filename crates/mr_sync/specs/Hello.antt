@@ -1,5 +1,5 @@
 -- what a folder says of itself
-use Rattle.std.specs.Prelude.{◌≡◌, ◌⊎◌, ◌==◌, ◌&&◌, ℕ, Bool, not, List, length, take, MatchBool, Option, Some, None}
+use Rattle.std.specs.Prelude.{◌≡◌, ◌⊎◌, ◌==◌, ◌&&◌, ◌||◌, ℕ, Bool, not, List, length, take, MatchBool, Option, Some, None}
 use Rattle.std.specs.List.{list_any}
 use Rattle.mr_filter.specs.Filter.{ClauseParts}
 use Rattle.mr_forms.specs.Known.{Pairs}
@@ -38,14 +38,15 @@ pub record IsShortDigest (k : Normal) (short : List ℕ) : Type 0 where
   pub is_digest : IsDigestOf sparing_form k digest
   pub front : short ≡ take 16 digest
 
--- the hello of a replica, whose journal was begun so, to the one with this id
-pub record IsHelloOf (birth : List ℕ) (s : State Normal) (theirs : Option ℕ) (h : Hello) : Type 0 where
+-- the hello of a replica, whose journal was begun so and which lacks files or none, to the one with this id
+pub record IsHelloOf (birth : List ℕ) (s : State Normal) (lacks : Bool) (theirs : Option ℕ) (h : Hello) : Type 0 where
   pub id : h.id ≡ s.id
   pub birth_is : h.birth ≡ birth
   pub knows : IsShortDigest s.knowledge h.knows
   pub issued : IsTopOf s.knowledge (Some s.id) h.issued
   pub known : IsTopOf s.knowledge theirs h.known
-  pub push_outs : h.has_push_outs ≡ not (length s.push_outs == 0)
+  -- mail waits for a receipt, or a mail for its file
+  pub waiting : h.is_waiting ≡ (lacks || not (length s.push_outs == 0))
   pub all : h.keeps_all ≡ keeps_all s.filter
 
 -- a meeting as a talk compares it
@@ -62,8 +63,8 @@ StandsInTheWay mine theirs met (OldCopy id) = Stands mine theirs mine.known met 
 StandsInTheWay mine theirs met fault = ⊥
 
 -- nothing stands in the way, by the hello that the replica has for the other side, and whether there is something to tell
-pub record Judges (birth : List ℕ) (s : State Normal) (theirs : Hello) (met : Option Met) (is_idle : Bool) : Type 0 where
+pub record Judges (birth : List ℕ) (s : State Normal) (lacks : Bool) (theirs : Hello) (met : Option Met) (is_idle : Bool) : Type 0 where
   pub mine : Hello
-  pub mine_is : IsHelloOf birth s (Some theirs.id) mine
+  pub mine_is : IsHelloOf birth s lacks (Some theirs.id) mine
   pub good : Stands mine theirs mine.known met standing.Good
   pub idle : MatchBool is_idle (HasNothingToTell mine theirs met) (HasNothingToTell mine theirs met → ⊥)

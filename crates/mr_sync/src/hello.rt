@@ -1,5 +1,5 @@
 //! What a folder says of itself, and what the other side is to it.
-ghost use Rattle.std.specs.Prelude.{◌≡◌, ◌==◌, ℕ, not, length, take, IfOk, MatchBool, MatchResult, Some, None, option_map, unwrap_or};
+ghost use Rattle.std.specs.Prelude.{◌≡◌, ◌==◌, ◌||◌, ℕ, not, length, take, IfOk, MatchBool, MatchResult, Some, None, option_map, unwrap_or};
 ghost use Rattle.std.specs.BTreeMap.{get};
 ghost use Rattle.std.specs.List.{list_any};
 ghost use Rattle.std.specs.Option.{option_copied};
@@ -33,18 +33,19 @@ pub(crate) fn short_of(digest: &Digest) -> Short
     short
 }
 
-/// What the folder says of itself to the one with this id, or to one whose id it doesn't know.
+/// What the folder, which lacks files or none, says of itself to the one with this id, or to one whose id it doesn't know.
 ///
 /// `Knowledge` where what is known has no fragments or memory runs out for them. It costs all that is known, three times.
 pub(crate) fn folder_hello<D: Device + Drop>(
     alloc: Global,
     kept: &Journaled<SparingKnowledge, D>,
+    lacks: bool,
     theirs: Option<Author>,
 ) -> Result<Hello, SyncFault>
-    ensures { IfOk result (IsHelloOf (head_of kept.now).birth (replica_of kept.now) theirs) }
+    ensures { IfOk result (IsHelloOf (head_of kept.now).birth (replica_of kept.now) lacks theirs) }
 {
     let birth = kept.birth();
-    let hello = replica_hello(alloc, kept.replica(), birth, theirs)?;
+    let hello = replica_hello(alloc, kept.replica(), birth, lacks, theirs)?;
     Ok(hello)
 }
 
@@ -53,9 +54,10 @@ fn replica_hello(
     alloc: Global,
     replica: &Replica<SparingKnowledge>,
     birth: [u8; 16],
+    lacks: bool,
     theirs: Option<Author>,
 ) -> Result<Hello, FormFault>
-    ensures { IfOk result (IsHelloOf birth replica.now theirs) }
+    ensures { IfOk result (IsHelloOf birth replica.now lacks theirs) }
 {
     let knows = short_digest(alloc, replica)?;
     let issued = highest_of(replica, Some(replica.id()))?;
@@ -66,7 +68,7 @@ fn replica_hello(
         knows,
         issued,
         known,
-        has_push_outs: !replica.push_outs().is_empty(),
+        is_waiting: lacks || !replica.push_outs().is_empty(),
         keeps_all: selects_all(replica.filter()),
     })
 }
@@ -157,15 +159,16 @@ pub(crate) fn verdict(mine: &Hello, theirs: &Hello, met: Option<Met>) -> Result<
     }
 }
 
-/// Whether there is nothing to tell the other side, by what the folder knows now; or why nothing may be told.
+/// Whether there is nothing to tell the other side, by what the folder knows now and whether it lacks files; or why nothing may be told.
 pub(crate) fn judge<D: Device + Drop>(
     alloc: Global,
     kept: &Journaled<SparingKnowledge, D>,
     meetings: &BTreeMap<u16, Meeting>,
+    lacks: bool,
     theirs: &Hello,
 ) -> Result<bool, SyncFault>
-    ensures { IfOk result (λ is_idle. Judges (head_of kept.now).birth (replica_of kept.now) theirs.now (option_map met_by (get nat_cmp meetings.now theirs.now.id)) is_idle) }
+    ensures { IfOk result (λ is_idle. Judges (head_of kept.now).birth (replica_of kept.now) lacks theirs.now (option_map met_by (get nat_cmp meetings.now theirs.now.id)) is_idle) }
 {
-    let mine = folder_hello(alloc, kept, Some(theirs.id))?;
+    let mine = folder_hello(alloc, kept, lacks, Some(theirs.id))?;
     verdict(&mine, theirs, remembered(meetings, theirs.id))
 }

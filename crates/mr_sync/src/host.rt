@@ -53,7 +53,8 @@ impl<D: Device + Drop, F: FileTree + Drop> FolderHost<D, F> {
         }
     }
 
-    /// Has the talk want this file of the other side too: one that the folder lacks from before.
+    /// Has the talk want this file of the other side too: one that the folder lacks from before. Where some file is wanted, no talk ends
+    /// with the hellos.
     pub fn want(&mut self, digest: Digest) -> Result<(), SyncFault> {
         self.talk.arriving.lacking.insert(digest)?;
         Ok(())
@@ -112,13 +113,14 @@ impl<D: Device + Drop, F: FileTree + Drop> Host for FolderHost<D, F> {
             Some(theirs) => Some(theirs.id),
             None => None,
         };
-        let hello = folder_hello(self.alloc, &self.kept, id);
+        let hello = folder_hello(self.alloc, &self.kept, self.talk.arriving.lacks(), id);
         answered(self.alloc, hello)
     }
 
     fn meet(&mut self, theirs: &Hello) -> Result<bool, HostFault> {
         self.talk.theirs = Some(*theirs);
-        let met = judge(self.alloc, &self.kept, &self.meetings, theirs);
+        let lacks = self.talk.arriving.lacks();
+        let met = judge(self.alloc, &self.kept, &self.meetings, lacks, theirs);
         answered(self.alloc, met)
     }
 

@@ -42,6 +42,11 @@ impl Arriving {
         }
     }
 
+    /// Whether files are lacking that aren't wanted of the other side yet.
+    pub(crate) fn lacks(&self) -> bool {
+        !self.lacking.is_empty()
+    }
+
     /// Notes what came of a record, and whether that tells a revision.
     pub(crate) fn note(&mut self, is_item: bool, received: Received) {
         match received {
@@ -65,6 +70,8 @@ impl Arriving {
 pub(crate) struct Leaving {
     /// The stream that is open for the other side.
     pub(crate) stream: Option<u64>,
+    /// How many files were sent when records were drawn last, if any were drawn.
+    pub(crate) files_before: Option<u64>,
     /// What the other side's request claims.
     pub(crate) asked: Option<AskedOf>,
     /// What is kept and to be said.
@@ -84,6 +91,7 @@ impl Leaving {
     pub(crate) fn new(alloc: Global) -> Leaving {
         Leaving {
             stream: None,
+            files_before: None,
             asked: None,
             said: Said::new(alloc),
             sending: None,

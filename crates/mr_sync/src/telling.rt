@@ -11,7 +11,7 @@ ghost use Rattle.mr_sync.specs.Telling.{IsBegun, IsGiven, IsOfKind, TellsRevisio
 use crate::fault::SyncFault;
 use crate::lists::{PUSH_OUT_BYTES, push_out_list};
 use crate::named::NamedFile;
-use crate::said::{Said, frames_message, keep_and_say};
+use crate::said::{frames_message, keep_and_say};
 use crate::sending::{Sending, begin_message, file_message, message_of, whole_file};
 use crate::talk::{Leaving, Talk};
 use crate::vouching::vouch_held;
@@ -32,6 +32,10 @@ use std::collections::VecDeque;
 const BATCH_RECORDS: u32 = 512;
 
 const BATCH_BYTES: u64 = 1_048_576;
+
+/// How many records are drawn at a time while files go with them. Where a talk is cut off, the files that went since the last record go
+/// once more.
+const BATCH_FILES: u32 = 8;
 
 /// The most push-outs in a message.
 const MOST_PUSH_OUTS: usize = MAX_LIST_BYTES as usize / PUSH_OUT_BYTES;
@@ -155,7 +159,7 @@ fn next_told<D: Device + Drop, F: FileTree>(
 ) -> Result<Option<Message>, SyncFault>
     ensures { IfOk result (λ found. IfSome found (λ message. IsGiven message.kind)) }
 {
-    draw(alloc, kept, &mut leaving.stream, &mut leaving.said)?;
+    draw(alloc, kept, leaving)?;
     if let Some(message) = next_file(alloc, files, leaving)? {
         return Ok(Some(message));
     }
@@ -170,21 +174,29 @@ fn next_told<D: Device + Drop, F: FileTree>(
 fn draw<D: Device + Drop>(
     alloc: Global,
     kept: &mut Journaled<SparingKnowledge, D>,
-    stream: &mut Option<u64>,
-    said: &mut Said,
+    leaving: &mut Leaving,
 ) -> Result<(), SyncFault> {
-    let Some(number) = *stream else {
+    let Some(number) = leaving.stream else {
         return Ok(());
     };
-    if !said.records.is_empty() {
+    if !leaving.said.records.is_empty() {
         return Ok(());
     }
-    let is_over = kept.tell(number, BATCH_RECORDS, BATCH_BYTES)?;
-    keep_and_say(alloc, kept, said)?;
+    let is_over = kept.tell(number, batch_of(leaving), BATCH_BYTES)?;
+    leaving.files_before = Some(leaving.files);
+    keep_and_say(alloc, kept, &mut leaving.said)?;
     if is_over {
-        *stream = None;
+        leaving.stream = None;
     }
     Ok(())
+}
+
+/// How many records are drawn next: few at first, and where files went with those that were drawn last.
+fn batch_of(leaving: &Leaving) -> u32 {
+    match leaving.files_before {
+        Some(before) if before == leaving.files => BATCH_RECORDS,
+        _ => BATCH_FILES,
+    }
 }
 
 /// The next file that records to be told name, if the store has it whole and the other side may lack it.

@@ -6,7 +6,7 @@ use Rattle.std.proofs.lemmas.Nat.{be_bytes_4, from_be_bytes-to_be_bytes_4}
 use Rattle.mr_version.specs.declared.author.TheConstants.{AUTHORS}
 use Rattle.mr_talk.specs.declared.hello.Hello.{Hello}
 use Rattle.mr_talk.specs.declared.hello.HelloFault.{HelloFault}
-use Rattle.mr_talk.specs.declared.hello.HelloFault.TheVariants.{Length, Format, Id, PushOuts, KeepsAll}
+use Rattle.mr_talk.specs.declared.hello.HelloFault.TheVariants.{Length, Format, Id, Waiting, KeepsAll}
 use Rattle.mr_talk.specs.declared.hello.TheConstants.{HELLO_FORMAT}
 use Rattle.mr_talk.proofs.MessageLaws.{IsBytes, bytes_take, bytes_drop}
 use Rattle.mr_talk.specs.Hello.{flag, hello_bytes, IsHello, AreFields, IsOfFormat, HasId, Reads}
@@ -53,7 +53,7 @@ module _ (bytes : List ℕ) (format id : ℕ) (birth knows : List ℕ) (issued k
       has_id : HasId bytes
       has_id = (of_format, subst (λ (n : ℕ). n < AUTHORS) (sym tells.second) is_id)
 
-      pub push_outs_fault : 1 < push_outs → Reads bytes (Err PushOuts)
+      pub push_outs_fault : 1 < push_outs → Reads bytes (Err Waiting)
       push_outs_fault h = (has_id, subst (λ (n : ℕ). 1 < n) (sym tells.third) h)
 
       module _ (has : Bool) (is_push_outs : push_outs ≡ flag has) where
@@ -68,7 +68,7 @@ module _ (bytes : List ℕ) (format id : ℕ) (birth knows : List ℕ) (issued k
         keeps_all_fault h = (has_id, low, subst (λ (n : ℕ). 1 < n) (sym tells.last) h)
 
         pub good : (who : ℕ) → who ≡ id → (all : Bool) → keeps_all ≡ flag all →
-            Reads bytes (Ok (record { id = who; birth = birth; knows = knows; issued = issued; known = known; has_push_outs = has; keeps_all = all }))
+            Reads bytes (Ok (record { id = who; birth = birth; knows = knows; issued = issued; known = known; is_waiting = has; keeps_all = all }))
         good who is_who all is_all =
             let in_range : who < AUTHORS = subst (λ (x : ℕ). x < AUTHORS) (sym is_who) is_id in
             let r : List ℕ = to_be_bytes w32 issued in
@@ -84,7 +84,7 @@ module _ (bytes : List ℕ) (format id : ℕ) (birth knows : List ℕ) (issued k
 -- ---- what is written is read
 
 -- the fields of a hello's spelling
-written : (h : Hello) → IsHello h → AreFields (hello_bytes h) HELLO_FORMAT h.id h.birth h.knows h.issued h.known (flag h.has_push_outs) (flag h.keeps_all)
+written : (h : Hello) → IsHello h → AreFields (hello_bytes h) HELLO_FORMAT h.id h.birth h.knows h.issued h.known (flag h.is_waiting) (flag h.keeps_all)
 written h is = record { whole = refl; birth_long = is.birth; knows_long = is.knows; issued_in = is.issued; known_in = is.known }
 
 -- lists of one length that begin equal lists are equal, and so is what follows
@@ -104,17 +104,17 @@ same_ends : (a b c d : ℕ) → ◌≡◌ {A = List ℕ} (a ∷ b ∷ []) (c ∷
 same_ends a b c d e = (ap (λ (x : List ℕ). get_or x 0 0) e, ap (λ (x : List ℕ). get_or x 1 0) e)
 
 abbrev made : ℕ → List ℕ → List ℕ → ℕ → ℕ → Bool → Bool → Hello
-made id birth knows issued known push_outs all = record { id = id; birth = birth; knows = knows; issued = issued; known = known; has_push_outs = push_outs; keeps_all = all }
+made id birth knows issued known push_outs all = record { id = id; birth = birth; knows = knows; issued = issued; known = known; is_waiting = push_outs; keeps_all = all }
 
-joined : (a b : Hello) → a.id ≡ b.id → a.birth ≡ b.birth → a.knows ≡ b.knows → a.issued ≡ b.issued → a.known ≡ b.known → a.has_push_outs ≡ b.has_push_outs → a.keeps_all ≡ b.keeps_all → a ≡ b
+joined : (a b : Hello) → a.id ≡ b.id → a.birth ≡ b.birth → a.knows ≡ b.knows → a.issued ≡ b.issued → a.known ≡ b.known → a.is_waiting ≡ b.is_waiting → a.keeps_all ≡ b.keeps_all → a ≡ b
 joined a b e1 e2 e3 e4 e5 e6 e7 =
-    ap (λ (x : ℕ). made x a.birth a.knows a.issued a.known a.has_push_outs a.keeps_all) e1 ∙
-    ap (λ (x : List ℕ). made b.id x a.knows a.issued a.known a.has_push_outs a.keeps_all) e2 ∙
-    ap (λ (x : List ℕ). made b.id b.birth x a.issued a.known a.has_push_outs a.keeps_all) e3 ∙
-    ap (λ (x : ℕ). made b.id b.birth b.knows x a.known a.has_push_outs a.keeps_all) e4 ∙
-    ap (λ (x : ℕ). made b.id b.birth b.knows b.issued x a.has_push_outs a.keeps_all) e5 ∙
+    ap (λ (x : ℕ). made x a.birth a.knows a.issued a.known a.is_waiting a.keeps_all) e1 ∙
+    ap (λ (x : List ℕ). made b.id x a.knows a.issued a.known a.is_waiting a.keeps_all) e2 ∙
+    ap (λ (x : List ℕ). made b.id b.birth x a.issued a.known a.is_waiting a.keeps_all) e3 ∙
+    ap (λ (x : ℕ). made b.id b.birth b.knows x a.known a.is_waiting a.keeps_all) e4 ∙
+    ap (λ (x : ℕ). made b.id b.birth b.knows b.issued x a.is_waiting a.keeps_all) e5 ∙
     ap (λ (x : Bool). made b.id b.birth b.knows b.issued b.known x a.keeps_all) e6 ∙
-    ap (λ (x : Bool). made b.id b.birth b.knows b.issued b.known b.has_push_outs x) e7
+    ap (λ (x : Bool). made b.id b.birth b.knows b.issued b.known b.is_waiting x) e7
 
 -- hellos of one spelling are one
 pub one_hello : (g h : Hello) → IsHello g → IsHello h → hello_bytes g ≡ hello_bytes h → g ≡ h
@@ -124,20 +124,20 @@ one_hello g h ig ih e =
     let r2 = same_front g.knows h.knows _ _ 16 ig.knows ih.knows r1.1 in
     let r3 = same_front (to_be_bytes w32 g.issued) (to_be_bytes w32 h.issued) _ _ 4 refl refl r2.1 in
     let r4 = same_front (to_be_bytes w32 g.known) (to_be_bytes w32 h.known) _ _ 4 refl refl r3.1 in
-    let r5 = same_ends (flag g.has_push_outs) (flag g.keeps_all) (flag h.has_push_outs) (flag h.keeps_all) r4.1 in
+    let r5 = same_ends (flag g.is_waiting) (flag g.keeps_all) (flag h.is_waiting) (flag h.keeps_all) r4.1 in
     let issued : g.issued ≡ h.issued = same_number g.issued h.issued ig.issued ih.issued r3.0 in
     let known : g.known ≡ h.known = same_number g.known h.known ig.known ih.known r4.0 in
-    let push_outs : g.has_push_outs ≡ h.has_push_outs = same_flag g.has_push_outs h.has_push_outs r5.0 in
+    let push_outs : g.is_waiting ≡ h.is_waiting = same_flag g.is_waiting h.is_waiting r5.0 in
     let all : g.keeps_all ≡ h.keeps_all = same_flag g.keeps_all h.keeps_all r5.1 in
     joined g h ids r1.0 r2.0 issued known push_outs all
 
 pub reads_whole : (bytes : List ℕ) (r : Result Hello HelloFault) → Reads bytes r → (h : Hello) → IsHello h → bytes ≡ hello_bytes h → r ≡ Ok h
 reads_whole bytes (Ok g) e h is w = ap (λ (x : Hello). Ok x) (one_hello g h e.0 is (sym e.1 ∙ w))
 reads_whole bytes (Err fault) e h is w =
-    let t : Tells bytes HELLO_FORMAT h.id (flag h.has_push_outs) (flag h.keeps_all) =
-    subst (λ (x : List ℕ). Tells x HELLO_FORMAT h.id (flag h.has_push_outs) (flag h.keeps_all)) (sym w)
-    (tells (hello_bytes h) HELLO_FORMAT h.id h.birth h.knows h.issued h.known (flag h.has_push_outs) (flag h.keeps_all) (written h is)) in
-    absurd (never fault t e is.id (low h.has_push_outs) (low h.keeps_all))
+    let t : Tells bytes HELLO_FORMAT h.id (flag h.is_waiting) (flag h.keeps_all) =
+    subst (λ (x : List ℕ). Tells x HELLO_FORMAT h.id (flag h.is_waiting) (flag h.keeps_all)) (sym w)
+    (tells (hello_bytes h) HELLO_FORMAT h.id h.birth h.knows h.issued h.known (flag h.is_waiting) (flag h.keeps_all) (written h is)) in
+    absurd (never fault t e is.id (low h.is_waiting) (low h.keeps_all))
   where
     low : (b : Bool) → flag b ≤ 1
     low false = omega arith
@@ -147,7 +147,7 @@ reads_whole bytes (Err fault) e h is w =
     never Length t e' hi hp ha = e' t.long
     never Format t e' hi hp ha = e'.1 t.first
     never Id t e' hi hp ha = omega (arith, e'.1, t.second)
-    never PushOuts t e' hi hp ha = omega (arith, e'.1, t.third)
+    never Waiting t e' hi hp ha = omega (arith, e'.1, t.third)
     never KeepsAll t e' hi hp ha = omega (arith, e'.2, t.last)
 
 -- ---- the fields of so many bytes

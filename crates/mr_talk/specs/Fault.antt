@@ -21,7 +21,7 @@ abbrev pub hello_fault_number : HelloFault → ℕ
 hello_fault_number hello.Length = 1
 hello_fault_number hello.Format = 2
 hello_fault_number hello.Id = 3
-hello_fault_number hello.PushOuts = 4
+hello_fault_number hello.Waiting = 4
 hello_fault_number hello.KeepsAll = 5
 
 abbrev pub line_fault_number : LineFault → ℕ

@@ -4,7 +4,7 @@ use Rattle.std.specs.Int.{w32, to_be_bytes}
 use Rattle.mr_version.specs.declared.author.TheConstants.{AUTHORS}
 use Rattle.mr_talk.specs.declared.hello.Hello.{Hello}
 use Rattle.mr_talk.specs.declared.hello.HelloFault.{HelloFault}
-use Rattle.mr_talk.specs.declared.hello.HelloFault.TheVariants.{Length, Format, Id, PushOuts, KeepsAll}
+use Rattle.mr_talk.specs.declared.hello.HelloFault.TheVariants.{Length, Format, Id, Waiting, KeepsAll}
 use Rattle.mr_talk.specs.declared.hello.TheConstants.{HELLO_FORMAT}
 use Rattle.mr_talk.specs.declared.kind.TheConstants.{HELLO_BYTES}
 
@@ -15,7 +15,7 @@ flag true = 1
 
 -- its one spelling: format, id, birth, digest, the highest counter that it issued and the highest that it knows of the other, whether mail waits here for a receipt, and whether it keeps all
 abbrev pub hello_bytes : Hello → List ℕ
-hello_bytes h = HELLO_FORMAT ∷ h.id ∷ (h.birth ++ (h.knows ++ (to_be_bytes w32 h.issued ++ (to_be_bytes w32 h.known ++ (flag h.has_push_outs ∷ flag h.keeps_all ∷ [])))))
+hello_bytes h = HELLO_FORMAT ∷ h.id ∷ (h.birth ++ (h.knows ++ (to_be_bytes w32 h.issued ++ (to_be_bytes w32 h.known ++ (flag h.is_waiting ∷ flag h.keeps_all ∷ [])))))
 
 -- what is a hello: each field has its size
 pub record IsHello (h : Hello) : Type 0 where
@@ -49,5 +49,5 @@ Reads bytes (Ok h) = IsHello h × (bytes ≡ hello_bytes h)
 Reads bytes (Err Length) = length bytes ≢ HELLO_BYTES
 Reads bytes (Err Format) = IsLong bytes × (slice_index bytes 0 ≢ HELLO_FORMAT)
 Reads bytes (Err Id) = IsOfFormat bytes × (AUTHORS ≤ slice_index bytes 1)
-Reads bytes (Err PushOuts) = HasId bytes × (1 < slice_index bytes 42)
+Reads bytes (Err Waiting) = HasId bytes × (1 < slice_index bytes 42)
 Reads bytes (Err KeepsAll) = HasId bytes × (slice_index bytes 42 ≤ 1) × (1 < slice_index bytes 43)

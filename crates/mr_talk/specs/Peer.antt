@@ -29,8 +29,8 @@ abbrev pub IsAsMet : Hello → Hello → Option Met → Type 0
 IsAsMet mine theirs None = ⊥
 IsAsMet mine theirs (Some met) = (met.birth ≡ theirs.birth) × (met.mine ≡ mine.knows) × (met.theirs ≡ theirs.knows)
 
--- no mail waits for a receipt, and both know the same, or each what it knew when they last met
+-- nothing waits at either side, and both know the same, or each what it knew when they last met
 pub record HasNothingToTell (mine theirs : Hello) (met : Option Met) : Type 0 where
-  pub none_here : mine.has_push_outs ≡ false
-  pub none_there : theirs.has_push_outs ≡ false
+  pub none_here : mine.is_waiting ≡ false
+  pub none_there : theirs.is_waiting ≡ false
   pub same : (mine.knows ≡ theirs.knows) ⊎ IsAsMet mine theirs met

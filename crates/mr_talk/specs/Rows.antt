@@ -92,7 +92,7 @@ endings = refl
 -- ---- a hello
 
 abbrev row : hello.Hello
-row = record { id = 7; birth = replicate 16 1; knows = replicate 16 2; issued = 258; known = 3; has_push_outs = true; keeps_all = false }
+row = record { id = 7; birth = replicate 16 1; knows = replicate 16 2; issued = 258; known = 3; is_waiting = true; keeps_all = false }
 
 pub hello_row : hello_bytes row ≡ 1 ∷ 7 ∷ (replicate 16 1 ++ (replicate 16 2 ++ (0 ∷ 0 ∷ 1 ∷ 2 ∷ 0 ∷ 0 ∷ 0 ∷ 3 ∷ 1 ∷ 0 ∷ [])))
 hello_row = refl

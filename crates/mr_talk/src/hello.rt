@@ -34,8 +34,8 @@ pub struct Hello {
     /// The highest counter that it knows among the other's versions; 0 for none, and where it doesn't know yet whom it
     /// calls.
     pub known: u32,
-    /// Whether mail waits here for a receipt.
-    pub has_push_outs: bool,
+    /// Whether something waits here: mail for a receipt, or a mail for its file.
+    pub is_waiting: bool,
     /// Whether its filter selects all mail.
     pub keeps_all: bool,
 }
@@ -52,9 +52,9 @@ pub enum HelloFault {
     /// An id above 63.
     #[error("bad hello: no such replica")]
     Id,
-    /// Neither 0 nor 1 for whether mail waits for a receipt.
-    #[error("bad hello: whether mail waits for a receipt is neither 0 nor 1")]
-    PushOuts,
+    /// Neither 0 nor 1 for whether something waits.
+    #[error("bad hello: whether something waits is neither 0 nor 1")]
+    Waiting,
     /// Neither 0 nor 1 for whether its filter selects all mail.
     #[error("bad hello: whether all mail is kept is neither 0 nor 1")]
     KeepsAll,
@@ -69,7 +69,7 @@ impl HelloFault {
             HelloFault::Length => 1,
             HelloFault::Format => 2,
             HelloFault::Id => 3,
-            HelloFault::PushOuts => 4,
+            HelloFault::Waiting => 4,
             HelloFault::KeepsAll => 5,
         }
     }
@@ -140,8 +140,8 @@ fn hello_of(fields: &Fields<'_>) -> Result<Hello, HelloFault>
     let Ok(id) = Author::try_new(u16::from(fields.id)) else {
         return Err(HelloFault::Id);
     };
-    let Some(has_push_outs) = flag_of(fields.push_outs) else {
-        return Err(HelloFault::PushOuts);
+    let Some(is_waiting) = flag_of(fields.push_outs) else {
+        return Err(HelloFault::Waiting);
     };
     let Some(keeps_all) = flag_of(fields.keeps_all) else {
         return Err(HelloFault::KeepsAll);
@@ -152,7 +152,7 @@ fn hello_of(fields: &Fields<'_>) -> Result<Hello, HelloFault>
         knows: *fields.knows,
         issued: fields.issued,
         known: fields.known,
-        has_push_outs,
+        is_waiting,
         keeps_all,
     })
 }
@@ -177,7 +177,7 @@ impl Hello {
         out.extend_from_slice(&self.knows)?;
         out.extend_from_slice(&self.issued.to_be_bytes())?;
         out.extend_from_slice(&self.known.to_be_bytes())?;
-        out.push(u8::from(self.has_push_outs))?;
+        out.push(u8::from(self.is_waiting))?;
         out.push(u8::from(self.keeps_all))?;
         Ok(out)
     }

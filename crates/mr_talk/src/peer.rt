@@ -70,8 +70,8 @@ fn is_renewed(theirs: &Hello, met: Option<&Met>) -> bool
     }
 }
 
-/// Whether a talk would tell no record, as far as both hellos and what is remembered of the other can say: no mail waits for
-/// a receipt, and either both know the same, or each knows just what it knew at the end of the last whole talk of these two.
+/// Whether a talk would tell no record, as far as both hellos and what is remembered of the other can say: nothing waits
+/// at either side, and either both know the same, or each knows just what it knew at the end of the last whole talk of these two.
 ///
 /// So a `true` means that neither side holds a version that the other selects and doesn't know, if equal digests mean equal
 /// knowledge.
@@ -87,7 +87,7 @@ fn has_nothing(mine: &Hello, theirs: &Hello, met: Option<&Met>) -> bool
     ensures { MatchBool result (HasNothingToTell mine.now theirs.now (option_copied met.entry))
         (HasNothingToTell mine.now theirs.now (option_copied met.entry) → ⊥) }
 {
-    if mine.has_push_outs || theirs.has_push_outs {
+    if mine.is_waiting || theirs.is_waiting {
         return false;
     }
     mine.knows == theirs.knows || is_as_met(mine, theirs, met)

@@ -11,9 +11,8 @@ use std::test::Fail;
 
 /// Puts a head where its version isn't held.
 pub(crate) fn put_head(store: &mut Store, revision: Revision) -> Result<(), Fail> {
-    store.reserve(Part::Heads, &revision)?;
     if store.held(revision.version()).is_none() {
-        store.enter(Part::Heads, revision);
+        store.put(Part::Heads, revision)?;
     }
     Ok(())
 }

@@ -6,7 +6,7 @@ use crate::samples::{expect, version};
 use mr_concise::ConciseVector;
 use mr_filter::Filter;
 use mr_forms::{Fragment, ItemSet};
-use mr_session::{AskedOf, Prepared, Streams};
+use mr_session::{AskedOf, Streams};
 use mr_store::Store;
 use mr_version::{Author, Version};
 use mr_wire::{Body, FrameFragment, Mode};
@@ -72,8 +72,7 @@ fn draw(streams: &mut Streams, store: &Store) -> Result<char, Fail> {
         Some(stream) if stream.next() < u32::MAX => {}
         _ => return Ok('.'),
     }
-    let Prepared { record, onward } = streams.prepare(1, Author::try_new(0)?, store)?;
-    streams.advance(1, onward);
+    let record = streams.draw(1, Author::try_new(0)?, store)?;
     Ok(letter(record.body()))
 }
 

@@ -1,15 +1,17 @@
 //! A replica in a file that is named on the command line, for tools that stop the program, cut its file and change it.
 
-use crate::begin;
-use crate::mail::message;
-use crate::sync::Office;
+use crate::mail::{message, setup};
 use anyhow::{Error, Result, anyhow, bail};
 use mr_entry::{Mark, Note};
+use mr_itemset::SparingKnowledge;
 use mr_journal::DiskFile;
 use mr_kept::{Journaled, KeptFault};
 use std::alloc::Global;
 use std::fs::File;
 use std::rt::Files;
+
+/// A replica with its journal in a file.
+type Office = Journaled<SparingKnowledge, DiskFile>;
 
 /// `begin FILE` begins a replica there. `write FILE COUNT SIZE` has it issue so many times so many messages, a commit each time
 /// with a note of how many it holds then, and prints after each how many; `read FILE` prints how many it holds, once each is the one
@@ -21,13 +23,24 @@ pub(crate) fn drive<R: Files<File = File> + Print + AllocGlobal>(
 ) -> Result<()> {
     match words {
         [_, what, path] if what.as_str() == "begin" => {
-            begin(rt.alloc(), DiskFile::open(rt, path.as_str())?)
+            begin(rt.alloc(), DiskFile::open(rt, path.as_str())?, *here)
         }
         [_, what, path] if what.as_str() == "read" => open(rt, here, path.as_str(), 0, 0),
         [_, what, path, count, size] if what.as_str() == "write" => {
             open(rt, here, path.as_str(), number(count)?, number(size)?)
         }
         _ => bail!("usage: begin FILE, write FILE COUNT SIZE, read FILE, or nothing"),
+    }
+}
+
+/// Makes the journal of the office in a file that has nothing in it.
+fn begin(alloc: Global, file: DiskFile, mark: Mark) -> Result<()> {
+    match Office::begin(alloc, file, setup(alloc, "all", mark)?) {
+        Ok(office) => {
+            let _ = office.into_device();
+            Ok(())
+        }
+        Err((fault, _file)) => bail!("{fault}"),
     }
 }
 

@@ -1,0 +1,68 @@
+//! What is held of each mail of a replica, and how the Maildir was left with it.
+ghost use Rattle.std.specs.Prelude.{◌≡◌, ◌++◌, IfOk};
+ghost use Rattle.std.specs.List.{flat_map};
+ghost use Rattle.mr_compare.specs.Joining.{held_entry};
+ghost use Rattle.mr_fold.specs.HeldSide.{AreHeld};
+
+use crate::ancestors::ancestors_of;
+use crate::digests::{asked_items, digests_of};
+use crate::lacking::without_lacking;
+use crate::settling::HeldItems;
+use mr_compare::{
+    Digest, HeldMail, LeftMail, Shown, gathered, held_mails, held_of, item_standings, left_mails,
+    left_of,
+};
+use mr_itemset::SparingKnowledge;
+use mr_replica::Replica;
+use std::alloc::{AllocError, Global};
+use std::collections::BTreeMap;
+
+/// What is held of the mails, by their files' digests.
+#[derive(Debug, Drop)]
+pub(crate) struct HeldSide {
+    /// The items that each mail is.
+    pub(crate) items: HeldItems,
+    /// How each mail stands, in rising order of the digests.
+    pub(crate) mails: Vec<HeldMail>,
+}
+
+/// What the replica holds.
+pub(crate) fn held_side(
+    alloc: Global,
+    replica: &Replica<SparingKnowledge>,
+) -> Result<HeldSide, AllocError>
+    ensures items { IfOk result (λ held. AreHeld (replica.now.heads ++ replica.now.push_outs) held.items.entries) }
+    ensures mails { IfOk result (λ held. held.mails.items ≡ flat_map held_entry held.items.entries) }
+{
+    let items = held_items(alloc, replica)?;
+    let mails = held_mails(alloc, &items)?;
+    Ok(HeldSide { items, mails })
+}
+
+/// The items that are held of each mail, by the digest of its file.
+fn held_items(alloc: Global, replica: &Replica<SparingKnowledge>) -> Result<HeldItems, AllocError>
+    ensures { IfOk result (λ items. AreHeld (replica.now.heads ++ replica.now.push_outs) items.entries) }
+{
+    let held = held_of(alloc, replica.heads(), replica.push_outs())?;
+    let by_item = gathered(alloc, held.heads)?;
+    let ancestors = ancestors_of(alloc, replica, &by_item)?;
+    let standings = item_standings(alloc, &by_item, &ancestors)?;
+    gathered(alloc, standings)
+}
+
+/// How the Maildir was left with those mails some item of which changed since, as far as it was shown; each that lacked its file
+/// then it was left without.
+pub(crate) fn left_side(
+    alloc: Global,
+    replica: &Replica<SparingKnowledge>,
+    shown: &Shown,
+    items: &HeldItems,
+) -> Result<BTreeMap<Digest, LeftMail>, AllocError> {
+    let entries = usize::try_from(shown.entries()).unwrap_or(usize::MAX);
+    let left = left_of(alloc, replica.feed(), entries)?;
+    let asked = asked_items(alloc, &left, shown.lacking())?;
+    let digests = digests_of(alloc, replica, items, &asked)?;
+    let mut mails = left_mails(alloc, &left, &digests, items)?;
+    without_lacking(&mut mails, &digests, shown.lacking())?;
+    Ok(mails)
+}
