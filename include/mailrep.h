@@ -29,8 +29,8 @@
  *
  * Every answer is MR_OK, which is 0, or one of the other codes, which are never 0: mr_code_text says each in words. The comment of a
  * call lists its codes; where several hold it answers the first of them. The calls that open a device, each event, mr_commit, and
- * mr_event, mr_sessions, mr_streams, mr_told_frame and mr_frame_claim may also answer MR_NO_MEMORY, and then nothing has changed; the
- * other calls want no memory.
+ * mr_event, mr_conflicts, mr_heads_of, mr_sessions, mr_streams, mr_told_frame and mr_frame_claim may also answer MR_NO_MEMORY, and then
+ * nothing has changed; the other calls want no memory.
  */
 #ifndef MAILREP_H
 #define MAILREP_H
@@ -45,7 +45,7 @@ extern "C" {
 /* The interface that this header is of. Its upper half changes where programs have to be built anew: where a call, a struct or the
  * meaning of a number changes or goes. Its lower half grows where calls or codes are added. A program runs with a library whose
  * mr_abi() has the same upper half and a lower half that is not below the header's. */
-#define MR_ABI UINT32_C(0x00010001)
+#define MR_ABI UINT32_C(0x00010002)
 
 /* What a call answers. Below 0x100 stand the codes of this interface; the others are a family, by its upper byte, and the number
  * that docs/API.md has in that family's table. */
@@ -64,6 +64,7 @@ extern "C" {
   CODE(MR_OTHER_DEVICE, 0x00b, "the call is for a device of the other kind") \
   CODE(MR_TOO_LARGE, 0x00c, "the event or the file is too large") \
   CODE(MR_BAD_LENGTH, 0x00d, "a birth has 16 bytes, and a mark 32") \
+  CODE(MR_NO_CONFLICT, 0x00e, "the item has no heads that differ") \
   /* no such id or version: VersionFault */ \
   CODE(MR_VERSION_NO_SUCH_AUTHOR, 0x101, "an id is 0 to 63") \
   CODE(MR_VERSION_BAD_VERSION, 0x102, "a counter is 1 to 1,000,000") \
@@ -130,7 +131,10 @@ extern "C" {
   CODE(MR_JOURNAL_NOT_A_JOURNAL, 0x902, "the file doesn't begin as a journal") \
   CODE(MR_JOURNAL_OTHER_FORMAT, 0x903, "the file is a journal of another format") \
   CODE(MR_JOURNAL_DAMAGED, 0x904, "the file is damaged as no crash leaves it") \
-  CODE(MR_JOURNAL_TOO_LARGE, 0x905, "the file would be too large")
+  CODE(MR_JOURNAL_TOO_LARGE, 0x905, "the file would be too large") \
+  /* the heads of an item make no message together: MergeFault */ \
+  CODE(MR_MERGE_CONTENTS_DIFFER, 0xa01, "the heads differ in more than labels and flags") \
+  CODE(MR_MERGE_TOO_MANY_LABELS, 0xa02, "more than 16 labels together")
 
 #define MR_CODE_NAME(name, number, text) name = number,
 enum { MR_CODES(MR_CODE_NAME) };
@@ -146,7 +150,8 @@ enum {
   MR_FAMILY_REPLAY = 6,
   MR_FAMILY_REFUSED = 7,
   MR_FAMILY_OPEN = 8,
-  MR_FAMILY_JOURNAL = 9
+  MR_FAMILY_JOURNAL = 9,
+  MR_FAMILY_MERGE = 10
 };
 
 /* What mr_receive tells: what the record tells was new, or known; or it was the last one, and the session is closed. */
@@ -269,9 +274,9 @@ void mr_close(mr_device *device);
  * last commit, and of the last one all or nothing; mr_kept_open takes it. What was handed out is in the file.
  *
  * Of its events mr_answer and mr_receive, which show nothing of it to others, tell at once what they tell of a plain device. mr_create,
- * mr_edit and mr_pull write nothing to their last parameter: the version or the session is told by mr_told_at, as is the frame of mr_pull,
- * mr_next and mr_vouch; mr_frame is a plain device's alone. The readers answer MR_UNSETTLED while an event waits for a commit or an act is
- * left. Behind MR_CLOSED every call answers MR_FAILED once an act has failed: close the device, read the file, open it again. An event
+ * mr_edit, mr_merge and mr_pull write nothing to their last parameter: the version or the session is told by mr_told_at, as is the frame of
+ * mr_pull, mr_next and mr_vouch; mr_frame is a plain device's alone. The readers, and mr_merge, which looks at the heads, answer
+ * MR_UNSETTLED while an event waits for a commit or an act is left. Behind MR_CLOSED every call answers MR_FAILED once an act has failed: close the device, read the file, open it again. An event
  * may answer MR_TOO_LARGE, of more than 8,388,608 bytes.
  *
  * birth: 16 random bytes, drawn for this file alone. mark: 32 bytes that tell where the file is, as of its device and inode, so that a copy
@@ -325,6 +330,15 @@ int32_t mr_edit(mr_device *device, const mr_version *bases, size_t bases_len, co
                 const uint8_t *subject, size_t subject_len, const uint8_t *body, size_t body_len, const uint8_t *labels,
                 size_t labels_len, uint8_t flags, uint16_t day, mr_version *version);
 
+/* Merges the heads of an item that differ in labels and flags alone, by an edit of all of them, and gives its version. The last version that
+ * came to the device and that all of them replace decides: a label or a flag of it stays if each head has it, another one comes if some
+ * head has it; and the message counts as deleted only where each head says so. A head that is deleted and has no label has no say
+ * beside others. Where the contents differ nothing is merged: show the heads to the user. Merge on the device that sees the conflict.
+ * Of a kept device first MR_FAILED, MR_UNSETTLED: so one merge to a commit. MR_VERSION_.. of the item, MR_MERGE_CONTENTS_DIFFER,
+ * MR_MERGE_TOO_MANY_LABELS, MR_NO_CONFLICT where the heads say the same, or there is one or none, MR_REFUSED_ RETIRED, OWN_HEAD_LEFT
+ * while a push-out of the item is held, LOG_FULL, TOO_MANY_HOLES, TOO_MANY_ITEMS. */
+int32_t mr_merge(mr_device *device, mr_version item, mr_version *version);
+
 /* Writes, asks and takes nothing more; it still answers. MR_REFUSED_ RETIRED, PUSH_OUTS_LEFT while it keeps messages for others. */
 int32_t mr_retire(mr_device *device);
 
@@ -368,6 +382,13 @@ int32_t mr_counts(mr_device *device, mr_count *counts);
 /* A head or a push-out, by its place in version order, from 0. MR_NOT_THERE. */
 int32_t mr_head(mr_device *device, size_t place, mr_held *head);
 int32_t mr_push_out(mr_device *device, size_t place, mr_held *push_out);
+
+/* The items that have two or more heads, in rising order: they are in conflict until an edit of all their heads, as mr_merge makes one.
+ * MR_TOO_SMALL. */
+int32_t mr_conflicts(mr_device *device, mr_version *to, size_t room, size_t *len);
+
+/* The versions of an item that are heads, in version order. MR_VERSION_.. of the item, MR_TOO_SMALL. */
+int32_t mr_heads_of(mr_device *device, mr_version item, mr_version *to, size_t room, size_t *len);
 
 /* A change of the heads, by its place in order of time, from 0: keep how many you have seen, and read on from there. MR_NOT_THERE. */
 int32_t mr_change(mr_device *device, size_t place, mr_changed *change);

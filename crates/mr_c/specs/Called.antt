@@ -1,6 +1,6 @@
 -- what a function that is an event does
 use Rattle.std.specs.Prelude.{◌≡◌, ℕ, ℤ, Option, Some, None, Result, Ok, Err}
-use Rattle.mr_desk.specs.Device.{DeviceAnswers}
+use Rattle.mr_desk.specs.Device.{DeviceAnswers, DeviceMerges}
 use Rattle.mr_desk.specs.Version.{numbers_of}
 use Rattle.mr_desk.specs.declared.call.Call.{Call}
 use Rattle.mr_desk.specs.declared.call.VersionNumbers.{VersionNumbers}
@@ -24,7 +24,7 @@ abbrev pub Calls : Option Device → Call → Option Device → (Result Told Fai
 Calls old call new IsSeen = (answer : Result Told Failure) × Called old call answer new × IsSeen answer
 
 -- A closed handle answers so, and stays closed. The device of an open one does this.
-abbrev pub Does : (Device → Result (Unit {0}) Fault → Device → Type 0) → Option Device → Result (Unit {0}) Failure → Option Device → Type 0
+abbrev pub Does : {X : Type 0} → (Device → Result X Fault → Device → Type 0) → Option Device → Result X Failure → Option Device → Type 0
 Does Acts None answer new = (answer ≡ Err Closed) × (new ≡ None)
 Does Acts (Some s) (Ok done) (Some n) = Acts s (Ok done) n
 Does Acts (Some s) (Err (Desk fault)) (Some n) = Acts s (Err fault) n
@@ -33,6 +33,10 @@ Does Acts (Some s) answer new = ⊥
 -- The handle was asked to do it, and C sees the number of the answer.
 abbrev pub DoesAs : (Device → Result (Unit {0}) Fault → Device → Type 0) → Option Device → Option Device → ℤ → Type 0
 DoesAs Acts old new code = (answer : Result (Unit {0}) Failure) × Does Acts old answer new × (code ≡ code_of answer)
+
+-- The handle was asked to merge the heads of an item, and C sees of the answer what is said.
+abbrev pub Merges : Option Device → VersionNumbers → Option Device → (Result Told Failure → Type 0) → Type 0
+Merges old item new IsSeen = (answer : Result Told Failure) × Does (λ s told n. DeviceMerges s item told n) old answer new × IsSeen answer
 
 -- what stands in the caller's variable then: what was told, and what stood there where nothing was
 abbrev pub version_told : Result Told Failure → VersionNumbers → VersionNumbers

@@ -1,5 +1,6 @@
 pub mod Called
 pub mod Code
+pub mod Conflicts
 pub mod Given
 pub mod Held
 pub mod Opened

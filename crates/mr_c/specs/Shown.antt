@@ -131,8 +131,8 @@ InMemory (Ok there) (Err failure) = failure ≡ Desk fault.OutOfMemory
 InMemory (Err there) found = found ≡ Err there
 
 -- The numbers are put into the buffer, or memory was wanting.
-abbrev pub GivesNumbers : Result (List ℕ) Failure → (old new : List ℕ) → (old_len new_len : ℕ) → ℤ → Type 0
-GivesNumbers there old new old_len new_len code = (found : Result (Vec ℕ) Failure) × InMemory there (built found) × IsFilled (built found) old new old_len new_len code
+abbrev pub GivesNumbers : {X : Type 0} → Result (List X) Failure → (old new : List X) → (old_len new_len : ℕ) → ℤ → Type 0
+GivesNumbers {X} there old new old_len new_len code = (found : Result (Vec X) Failure) × InMemory there (built found) × IsFilled (built found) old new old_len new_len code
 
 abbrev pub at_event : List Event → ℕ → Result Event Failure
 at_event log place = at_place (λ e. e) log place

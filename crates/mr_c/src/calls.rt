@@ -24,7 +24,7 @@ fn called(alloc: Global, handle: &mut Handle, call: &Call<'_>) -> Result<Told, F
 }
 
 // The version that was issued, where one was.
-fn tell_version(answer: &Result<Told, Failure>, version: &mut VersionNumbers)
+pub(crate) fn tell_version(answer: &Result<Told, Failure>, version: &mut VersionNumbers)
     ensures { version.new ≡ version_told answer.now version.old }
 {
     if let Ok(Told::Issued(issued)) = answer {

@@ -12,6 +12,7 @@
 
 mod bytes;
 mod calls;
+mod conflicts;
 mod failure;
 mod frames;
 mod given;

@@ -1,5 +1,5 @@
 -- bytes that are no frame at all are none of those that a call takes
-use Rattle.std.proofs.Common.{◌≡◌, ℕ, Bool, true, false, nat_lt, List, length, Option, Some, None, Result, Ok, Err}
+use Rattle.std.proofs.Common.{◌≡◌, ℕ, Bool, true, false, nat_lt, List, length, Option, Some, Result, Ok, Err}
 use Rattle.std.specs.Prelude.{if◌then◌else◌}
 use Rattle.mr_wire.specs.Decoding.{decoded}
 use Rattle.mr_wire.specs.declared.fault.WireFault.{WireFault}
@@ -7,7 +7,7 @@ use Rattle.mr_wire.specs.declared.frame.Frame.{Frame}
 use Rattle.mr_desk.specs.Fault.{Reads, of_wire}
 use Rattle.mr_desk.specs.Frames.{any_frame, frame_fault, BeginsFrame}
 use Rattle.mr_desk.specs.declared.fault.Fault.{Fault}
-use Rattle.mr_desk.specs.declared.fault.Fault.TheVariants.{OutOfMemory, NotText, BytesBehind, OtherFrame, Unsettled, Failed, OtherDevice, TooLarge, BadLength, Version, Message, Filter, Wire, Event, Replay, Refused, Open}
+use Rattle.mr_desk.specs.declared.fault.Fault.TheVariants.{OutOfMemory, NotText, BytesBehind, OtherFrame, Unsettled, Failed, OtherDevice, TooLarge, BadLength, NoConflict, Version, Message, Filter, Wire, Event, Replay, Refused, Open, Merge}
 
 -- the fault of what was decoded of so many bytes
 abbrev fault_at : (Frame → Option Fault) → ℕ → Result (Frame × ℕ) WireFault → Option Fault
@@ -37,6 +37,8 @@ reads-narrower X Y only bytes IsX IsY Failed h = narrower only bytes Failed h
 reads-narrower X Y only bytes IsX IsY OtherDevice h = narrower only bytes OtherDevice h
 reads-narrower X Y only bytes IsX IsY TooLarge h = narrower only bytes TooLarge h
 reads-narrower X Y only bytes IsX IsY BadLength h = narrower only bytes BadLength h
+reads-narrower X Y only bytes IsX IsY NoConflict h = narrower only bytes NoConflict h
+reads-narrower X Y only bytes IsX IsY (Merge f) h = narrower only bytes (Merge f) h
 reads-narrower X Y only bytes IsX IsY (Open f) h = narrower only bytes (Open f) h
 reads-narrower X Y only bytes IsX IsY (Version f) h = narrower only bytes (Version f) h
 reads-narrower X Y only bytes IsX IsY (Message f) h = narrower only bytes (Message f) h

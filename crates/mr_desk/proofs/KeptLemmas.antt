@@ -1,12 +1,12 @@
 -- events of a replica whose host writes
-use Rattle.std.proofs.Common.{◌≡◌, ◌++◌, ◌∷◌, [], List, None, Result, Ok, Err, refl, subst, sym, true, false, Bool}
+use Rattle.std.proofs.Common.{◌≡◌, ◌++◌, ◌∷◌, [], List, Option, None, Result, Ok, Err, refl, subst, sym, true, false, Bool}
 use Rattle.mr_itemset.specs.Normal.{Normal}
 use Rattle.mr_itemset.specs.Sparing.{sparing_form}
 use Rattle.mr_kept.specs.Answered.{Answered, reply_by}
 use Rattle.mr_kept.specs.Kept.{AtOnce, Later, SameJournal, journal_of, leaving}
 use Rattle.mr_kept.specs.declared.fault.KeptFault.{KeptFault}
 use Rattle.mr_kept.specs.declared.fault.KeptFault.TheVariants as kept
-use Rattle.mr_hosted.specs.Hosted.{SameHost, is_settled, journaled_of}
+use Rattle.mr_hosted.specs.Hosted.{SameHost, is_settled, journaled_of, may_show}
 use Rattle.mr_hosted.specs.declared.fault.HostedFault.{HostedFault}
 use Rattle.mr_hosted.specs.declared.fault.HostedFault.TheVariants as hosted
 use Rattle.mr_hosted.specs.declared.hosted.Hosted.{Hosted}
@@ -16,7 +16,10 @@ use Rattle.mr_replica.specs.declared.event.Event.{Event}
 use Rattle.mr_replica.proofs.Replaying.{refused_same}
 use Rattle.mr_replica.specs.declared.event.Reply.{Reply}
 use Rattle.mr_desk.specs.declared.call.Call.{Call}
-use Rattle.mr_desk.specs.Kept.{Gives, KeptAnswers, KeptTells, Refuses, Stays, inside, told_where}
+use Rattle.mr_desk.specs.Kept.{Gives, KeptAnswers, KeptMerges, KeptTells, Refuses, TakesMeant, inside, told_where}
+use Rattle.mr_desk.specs.Merge.{IsMergeIn, merge_fault_in}
+use Rattle.mr_desk.specs.declared.call.VersionNumbers.{VersionNumbers}
+use Rattle.mr_desk.specs.declared.fault.Fault.{Fault}
 use Rattle.mr_desk.specs.Asked.{call_fault, IsEventOf}
 use Rattle.mr_desk.specs.Fault.{of_hosted, of_kept}
 use Rattle.mr_desk.specs.KeptCommit.{Committed, KeptCommits, Uncommitted}
@@ -57,12 +60,21 @@ module _ {V : Type 0} where
   at_once old new event reply tells (Ok x) gives is journal host = record { reply = reply x; step = is.0.1; gives = gives x (leaving (journaled_of old)) (leaving (journaled_of new)) is.1; journal = journal; host = host }
   at_once old new event reply tells (Err e) gives is journal host = untaken old new event e is journal host
 
-  -- a call whose event isn't taken
+  -- an event that is meant and isn't taken
+  pub untaken-meant : (wrong : Option Fault) (IsMeant : Event → Type 0) (old new : Hosted Normal V) (event : Event) (e : KeptFault) → (wrong ≡ None) × IsMeant event → KeptTells old event (Err e) new → TakesMeant wrong IsMeant old (Err (of_kept e)) new
+  untaken-meant wrong IsMeant old new event kept.OutOfMemory asks is = is.1
+  untaken-meant wrong IsMeant old new event (kept.Refused e) asks is = ((asks.0, event, asks.1, is.0), is.1)
+  untaken-meant wrong IsMeant old new event kept.Failed asks is = ((asks.0, event, asks.1, is.0), is.1)
+  untaken-meant wrong IsMeant old new event kept.TooLarge asks is = ((asks.0, event, asks.1, is.0), is.1)
+
   pub untaken-call : (old new : Hosted Normal V) (call : Call) (event : Event) (e : KeptFault) → (call_fault call ≡ None) × IsEventOf call event → KeptTells old event (Err e) new → KeptAnswers old call (Err (of_kept e)) new
-  untaken-call old new call event kept.OutOfMemory asks is = is.1
-  untaken-call old new call event (kept.Refused e) asks is = ((asks.0, event, asks.1, is.0), is.1)
-  untaken-call old new call event kept.Failed asks is = ((asks.0, event, asks.1, is.0), is.1)
-  untaken-call old new call event kept.TooLarge asks is = ((asks.0, event, asks.1, is.0), is.1)
+  untaken-call old new call event e asks is = untaken-meant (call_fault call) (IsEventOf call) old new event e asks is
+
+  pub untaken-merge : (old new : Hosted Normal V) (item : VersionNumbers) (event : Event) (e : KeptFault) → may_show old ≡ true → (merge_fault_in (inside old) item ≡ None) × IsMergeIn (inside old) item event → KeptTells old event (Err e) new → KeptMerges old item (Err (of_kept e)) new
+  untaken-merge old new item event kept.OutOfMemory shown meant is = (shown, untaken-meant (merge_fault_in (inside old) item) (IsMergeIn (inside old) item) old new event kept.OutOfMemory meant is)
+  untaken-merge old new item event (kept.Refused e) shown meant is = (shown, untaken-meant (merge_fault_in (inside old) item) (IsMergeIn (inside old) item) old new event (kept.Refused e) meant is)
+  untaken-merge old new item event kept.Failed shown meant is = (shown, untaken-meant (merge_fault_in (inside old) item) (IsMergeIn (inside old) item) old new event kept.Failed meant is)
+  untaken-merge old new item event kept.TooLarge shown meant is = (shown, untaken-meant (merge_fault_in (inside old) item) (IsMergeIn (inside old) item) old new event kept.TooLarge meant is)
 
 -- what isn't false is true
 not-false : (b : Bool) → (b ≡ false → ⊥) → b ≡ true

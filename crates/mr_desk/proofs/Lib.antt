@@ -1,6 +1,7 @@
 mod FrameLemmas
 mod KeptLemmas
 mod LogLemmas
+mod MergeLemmas
 mod OpeningLemmas
 mod PartLemmas
 mod ReadingLemmas

@@ -1,5 +1,5 @@
 -- what is no limit can be decided
-use Rattle.std.proofs.Common.{ℕ, ◌≤◌, arith, inl, inr}
+use Rattle.std.proofs.Common.{ℕ, arith, inl, inr}
 use Rattle.std.proofs.lemmas.Bool.{cases_lt}
 use Rattle.mr_replica.specs.declared.replica.TheConstants.{MAX_EVENTS}
 use Rattle.mr_desk.specs.Opening.{IsLimit}

@@ -1,5 +1,5 @@
 -- what is wrong with what is handed over is never a refusal, nor a fault of keeping
-use Rattle.std.proofs.Common.{◌≡◌, ◌&&◌, not, ℕ, Bool, true, false, List, length, nat_lt, Option, Some, None, Result, Ok, Err, refl, subst}
+use Rattle.std.proofs.Common.{◌≡◌, ◌&&◌, not, ℕ, Bool, true, false, List, length, map, nat_lt, Option, Some, None, Result, Ok, Err, refl, subst}
 use Rattle.std.specs.Prelude.{if◌then◌else◌}
 use Rattle.std.specs.Option.{option_map}
 use Rattle.std.specs.Str.{is_utf8}
@@ -12,27 +12,39 @@ use Rattle.mr_wire.specs.declared.fault.WireFault.{WireFault}
 use Rattle.mr_wire.specs.declared.fault.WireFault.TheVariants as wire
 use Rattle.mr_wire.specs.declared.frame.Frame.{Frame}
 use Rattle.mr_wire.specs.declared.frame.Frame.TheVariants as frame
+use Rattle.mr_mail.specs.declared.label.TheConstants.{MAX_LABELS}
+use Rattle.mr_feed.specs.declared.entry.Entry.{Entry}
+use Rattle.mr_madewith.specs.Revision.{Rev}
+use Rattle.mr_maildir.specs.Merging.{differ}
+use Rattle.mr_maildir.specs.Policy.{have_one_content, view_of}
+use Rattle.mr_maildir.specs.declared.policy.MergeFault.TheVariants.{ContentsDiffer, TooManyLabels}
 use Rattle.mr_itemset.specs.Normal.{Normal}
+use Rattle.mr_hosted.specs.Hosted.{may_show}
 use Rattle.mr_hosted.specs.declared.hosted.Hosted.{Hosted}
 use Rattle.mr_replica.specs.Refusal.{◌orelse◌}
+use Rattle.mr_replica.specs.State.{State}
+use Rattle.mr_replica.specs.declared.event.Event.{Event as ReplicaEvent}
 use Rattle.mr_desk.specs.Asked.{call_fault, IsEventOf, NeedsMemory}
 use Rattle.mr_desk.specs.Desk.{DeskState}
 use Rattle.mr_desk.specs.Draft.{draft_fault, labels_of}
 use Rattle.mr_desk.specs.Fault.{Reads, of_message, of_wire}
 use Rattle.mr_desk.specs.Frames.{any_frame, frame_fault, only_ask, only_receipt}
-use Rattle.mr_desk.specs.Kept.{KeptAnswers, Stays}
-use Rattle.mr_desk.specs.Serves.{Answers}
-use Rattle.mr_desk.specs.Version.{first_version_fault, version_fault}
+use Rattle.mr_desk.specs.Kept.{KeptAnswers, KeptMerges, Stays, TakesMeant, inside}
+use Rattle.mr_desk.specs.Merge.{IsMergeIn, edit_fault_over, heads_of, last_under, merge_fault, merge_fault_in, said_by, said_together}
+use Rattle.mr_desk.specs.Serves.{Answers, Merges, ServesMeant}
+use Rattle.mr_desk.specs.Version.{first_version_fault, named_by, version_fault}
+use Rattle.mr_desk.specs.declared.call.VersionNumbers.{VersionNumbers}
 use Rattle.mr_desk.specs.declared.call.Call.{Call}
 use Rattle.mr_desk.specs.declared.call.Call.TheVariants.{Create, Edit, Retire, Pull, Receive, CutIn, Answer, Next, CutOut, Vouch, Release}
 use Rattle.mr_desk.specs.declared.call.Draft.{Draft}
 use Rattle.mr_desk.specs.declared.fault.Fault.{Fault}
-use Rattle.mr_desk.specs.declared.fault.Fault.TheVariants.{OutOfMemory, NotText, BytesBehind, OtherFrame, Unsettled, Failed, OtherDevice, TooLarge, BadLength, Version, Message, Filter, Wire, Event, Replay, Refused, Open}
+use Rattle.mr_desk.specs.declared.fault.Fault.TheVariants.{OutOfMemory, NotText, BytesBehind, OtherFrame, Unsettled, Failed, OtherDevice, TooLarge, BadLength, NoConflict, Version, Message, Filter, Wire, Event, Replay, Refused, Open, Merge}
 
--- it is no refusal, nor a fault of keeping
+-- it is no refusal, nor a fault of keeping, nor that something waits
 abbrev IsUnrefused : Option Fault → Type 0
 IsUnrefused (Some (Refused refusal)) = ⊥
 IsUnrefused (Some Failed) = ⊥
+IsUnrefused (Some Unsettled) = ⊥
 IsUnrefused (Some TooLarge) = ⊥
 IsUnrefused fault = Unit {0}
 
@@ -96,6 +108,13 @@ unrefused-at only each len (Err fault) = unrefused-wire fault
 unrefused-frame : (only : Frame → Option Fault) → ((f : Frame) → IsUnrefused (only f)) → (bytes : List ℕ) → IsUnrefused (frame_fault only bytes)
 unrefused-frame only each bytes = unrefused-at only each (length bytes) (decoded bytes)
 
+-- what heads say together
+unrefused-heads : (heads : List Rev) (feed : List Entry) → IsUnrefused (edit_fault_over heads feed)
+unrefused-heads heads feed =
+    let messages = said_by heads in
+    let view = said_together (last_under heads feed) messages in
+    unrefused-if (not (have_one_content messages)) (Some (Merge ContentsDiffer)) _ tt (unrefused-if (nat_lt MAX_LABELS (length view.labels)) (Some (Merge TooManyLabels)) _ tt (unrefused-if (not (differ (map view_of messages))) (Some NoConflict) None tt tt))
+
 unrefused-call : (call : Call) → IsUnrefused (call_fault call)
 unrefused-call (Create draft) = unrefused-draft draft
 unrefused-call (Edit bases draft) = unrefused-orelse (draft_fault draft) (option_map Version (first_version_fault bases.now)) (unrefused-draft draft) (unrefused-version (first_version_fault bases.now))
@@ -109,25 +128,37 @@ unrefused-call (CutOut stream) = tt
 unrefused-call (Vouch numbers) = unrefused-version (version_fault numbers)
 unrefused-call (Release bytes) = unrefused-frame only_receipt unrefused-only_receipt bytes.now
 
+-- what is wrong with a merge is none either
+unrefused-merge : (s : State Normal) (item : VersionNumbers) → IsUnrefused (merge_fault_in s item)
+unrefused-merge s item = unrefused-orelse (option_map Version (version_fault item)) (merge_fault s.heads s.feed (named_by item)) (unrefused-version (version_fault item)) (unrefused-heads (heads_of (named_by item) s.heads) s.feed)
+
 -- what can't be read is answered, and the desk stays as it was
+answers-wrong : (Wants : Type 0) (wrong : Option Fault) (IsMeant : ReplicaEvent → Type 0) → IsUnrefused wrong → (s : DeskState) (f : Fault) → Reads Wants wrong IsMeant (Err f) → ServesMeant Wants wrong IsMeant s (Err f) s
+answers-wrong Wants wrong IsMeant un s OutOfMemory wants = (wants, refl)
+answers-wrong Wants wrong IsMeant un s NotText is = (is, refl)
+answers-wrong Wants wrong IsMeant un s BytesBehind is = (is, refl)
+answers-wrong Wants wrong IsMeant un s OtherFrame is = (is, refl)
+answers-wrong Wants wrong IsMeant un s Unsettled is = (is, refl)
+answers-wrong Wants wrong IsMeant un s Failed is = (is, refl)
+answers-wrong Wants wrong IsMeant un s OtherDevice is = (is, refl)
+answers-wrong Wants wrong IsMeant un s TooLarge is = (is, refl)
+answers-wrong Wants wrong IsMeant un s BadLength is = (is, refl)
+answers-wrong Wants wrong IsMeant un s NoConflict is = (is, refl)
+answers-wrong Wants wrong IsMeant un s (Open f) is = (is, refl)
+answers-wrong Wants wrong IsMeant un s (Merge f) is = (is, refl)
+answers-wrong Wants wrong IsMeant un s (Version f) is = (is, refl)
+answers-wrong Wants wrong IsMeant un s (Message f) is = (is, refl)
+answers-wrong Wants wrong IsMeant un s (Filter f) is = (is, refl)
+answers-wrong Wants wrong IsMeant un s (Wire f) is = (is, refl)
+answers-wrong Wants wrong IsMeant un s (Event f) is = (is, refl)
+answers-wrong Wants wrong IsMeant un s (Replay f) is = (is, refl)
+answers-wrong Wants wrong IsMeant un s (Refused refusal) is = absurd (subst IsUnrefused is un)
+
 pub answers-unread : (s : DeskState) (call : Call) (f : Fault) → Reads (NeedsMemory call) (call_fault call) (IsEventOf call) (Err f) → Answers s call (Err f) s
-answers-unread s call OutOfMemory wants = (wants, refl)
-answers-unread s call NotText is = (is, refl)
-answers-unread s call BytesBehind is = (is, refl)
-answers-unread s call OtherFrame is = (is, refl)
-answers-unread s call Unsettled is = (is, refl)
-answers-unread s call Failed is = (is, refl)
-answers-unread s call OtherDevice is = (is, refl)
-answers-unread s call TooLarge is = (is, refl)
-answers-unread s call BadLength is = (is, refl)
-answers-unread s call (Open f) is = (is, refl)
-answers-unread s call (Version f) is = (is, refl)
-answers-unread s call (Message f) is = (is, refl)
-answers-unread s call (Filter f) is = (is, refl)
-answers-unread s call (Wire f) is = (is, refl)
-answers-unread s call (Event f) is = (is, refl)
-answers-unread s call (Replay f) is = (is, refl)
-answers-unread s call (Refused refusal) is = absurd (subst IsUnrefused is (unrefused-call call))
+answers-unread s call f is = answers-wrong (NeedsMemory call) (call_fault call) (IsEventOf call) (unrefused-call call) s f is
+
+pub merges-unread : (s : DeskState) (item : VersionNumbers) (f : Fault) → Reads (Unit {0}) (merge_fault_in s.replica item) (IsMergeIn s.replica item) (Err f) → Merges s item (Err f) s
+merges-unread s item f is = answers-wrong (Unit {0}) (merge_fault_in s.replica item) (IsMergeIn s.replica item) (unrefused-merge s.replica item) s f is
 
 -- a replica whose host writes is as it is
 pub stays : {V : Type 0} → (h : Hosted Normal V) → Stays h h
@@ -139,21 +170,48 @@ stays h = record {
 }
 
 -- what can't be read is answered by it too, and it stays as it was
+kept-wrong : {V : Type 0} (Wants : Type 0) (wrong : Option Fault) (IsMeant : ReplicaEvent → Type 0) → IsUnrefused wrong → (h : Hosted Normal V) (f : Fault) → Reads Wants wrong IsMeant (Err f) → TakesMeant wrong IsMeant h (Err f) h
+kept-wrong Wants wrong IsMeant un h OutOfMemory wants = stays h
+kept-wrong Wants wrong IsMeant un h NotText is = (is, stays h)
+kept-wrong Wants wrong IsMeant un h BytesBehind is = (is, stays h)
+kept-wrong Wants wrong IsMeant un h OtherFrame is = (is, stays h)
+kept-wrong Wants wrong IsMeant un h Unsettled is = (is, stays h)
+kept-wrong Wants wrong IsMeant un h Failed is = absurd (subst IsUnrefused is un)
+kept-wrong Wants wrong IsMeant un h OtherDevice is = (is, stays h)
+kept-wrong Wants wrong IsMeant un h TooLarge is = absurd (subst IsUnrefused is un)
+kept-wrong Wants wrong IsMeant un h BadLength is = (is, stays h)
+kept-wrong Wants wrong IsMeant un h NoConflict is = (is, stays h)
+kept-wrong Wants wrong IsMeant un h (Open f) is = (is, stays h)
+kept-wrong Wants wrong IsMeant un h (Merge f) is = (is, stays h)
+kept-wrong Wants wrong IsMeant un h (Version f) is = (is, stays h)
+kept-wrong Wants wrong IsMeant un h (Message f) is = (is, stays h)
+kept-wrong Wants wrong IsMeant un h (Filter f) is = (is, stays h)
+kept-wrong Wants wrong IsMeant un h (Wire f) is = (is, stays h)
+kept-wrong Wants wrong IsMeant un h (Event f) is = (is, stays h)
+kept-wrong Wants wrong IsMeant un h (Replay f) is = (is, stays h)
+kept-wrong Wants wrong IsMeant un h (Refused refusal) is = absurd (subst IsUnrefused is un)
+
 pub kept-unread : {V : Type 0} → (h : Hosted Normal V) (call : Call) (f : Fault) → Reads (NeedsMemory call) (call_fault call) (IsEventOf call) (Err f) → KeptAnswers h call (Err f) h
-kept-unread h call OutOfMemory wants = stays h
-kept-unread h call NotText is = (is, stays h)
-kept-unread h call BytesBehind is = (is, stays h)
-kept-unread h call OtherFrame is = (is, stays h)
-kept-unread h call Unsettled is = (is, stays h)
-kept-unread h call Failed is = absurd (subst IsUnrefused is (unrefused-call call))
-kept-unread h call OtherDevice is = (is, stays h)
-kept-unread h call TooLarge is = absurd (subst IsUnrefused is (unrefused-call call))
-kept-unread h call BadLength is = (is, stays h)
-kept-unread h call (Version f) is = (is, stays h)
-kept-unread h call (Message f) is = (is, stays h)
-kept-unread h call (Filter f) is = (is, stays h)
-kept-unread h call (Wire f) is = (is, stays h)
-kept-unread h call (Event f) is = (is, stays h)
-kept-unread h call (Replay f) is = (is, stays h)
-kept-unread h call (Refused refusal) is = absurd (subst IsUnrefused is (unrefused-call call))
-kept-unread h call (Open f) is = (is, stays h)
+kept-unread h call f is = kept-wrong (NeedsMemory call) (call_fault call) (IsEventOf call) (unrefused-call call) h f is
+
+-- nor what isn't merged
+pub merges-kept-unread : {V : Type 0} → (h : Hosted Normal V) (item : VersionNumbers) (f : Fault) → may_show h ≡ true → Reads (Unit {0}) (merge_fault_in (inside h) item) (IsMergeIn (inside h) item) (Err f) → KeptMerges h item (Err f) h
+merges-kept-unread h item OutOfMemory shown is = (shown, kept-wrong (Unit {0}) (merge_fault_in (inside h) item) (IsMergeIn (inside h) item) (unrefused-merge (inside h) item) h OutOfMemory is)
+merges-kept-unread h item NotText shown is = (shown, kept-wrong (Unit {0}) (merge_fault_in (inside h) item) (IsMergeIn (inside h) item) (unrefused-merge (inside h) item) h NotText is)
+merges-kept-unread h item BytesBehind shown is = (shown, kept-wrong (Unit {0}) (merge_fault_in (inside h) item) (IsMergeIn (inside h) item) (unrefused-merge (inside h) item) h BytesBehind is)
+merges-kept-unread h item OtherFrame shown is = (shown, kept-wrong (Unit {0}) (merge_fault_in (inside h) item) (IsMergeIn (inside h) item) (unrefused-merge (inside h) item) h OtherFrame is)
+merges-kept-unread h item Unsettled shown is = absurd (subst IsUnrefused is (unrefused-merge (inside h) item))
+merges-kept-unread h item Failed shown is = (shown, kept-wrong (Unit {0}) (merge_fault_in (inside h) item) (IsMergeIn (inside h) item) (unrefused-merge (inside h) item) h Failed is)
+merges-kept-unread h item OtherDevice shown is = (shown, kept-wrong (Unit {0}) (merge_fault_in (inside h) item) (IsMergeIn (inside h) item) (unrefused-merge (inside h) item) h OtherDevice is)
+merges-kept-unread h item TooLarge shown is = (shown, kept-wrong (Unit {0}) (merge_fault_in (inside h) item) (IsMergeIn (inside h) item) (unrefused-merge (inside h) item) h TooLarge is)
+merges-kept-unread h item BadLength shown is = (shown, kept-wrong (Unit {0}) (merge_fault_in (inside h) item) (IsMergeIn (inside h) item) (unrefused-merge (inside h) item) h BadLength is)
+merges-kept-unread h item NoConflict shown is = (shown, kept-wrong (Unit {0}) (merge_fault_in (inside h) item) (IsMergeIn (inside h) item) (unrefused-merge (inside h) item) h NoConflict is)
+merges-kept-unread h item (Open f) shown is = (shown, kept-wrong (Unit {0}) (merge_fault_in (inside h) item) (IsMergeIn (inside h) item) (unrefused-merge (inside h) item) h (Open f) is)
+merges-kept-unread h item (Merge f) shown is = (shown, kept-wrong (Unit {0}) (merge_fault_in (inside h) item) (IsMergeIn (inside h) item) (unrefused-merge (inside h) item) h (Merge f) is)
+merges-kept-unread h item (Version f) shown is = (shown, kept-wrong (Unit {0}) (merge_fault_in (inside h) item) (IsMergeIn (inside h) item) (unrefused-merge (inside h) item) h (Version f) is)
+merges-kept-unread h item (Message f) shown is = (shown, kept-wrong (Unit {0}) (merge_fault_in (inside h) item) (IsMergeIn (inside h) item) (unrefused-merge (inside h) item) h (Message f) is)
+merges-kept-unread h item (Filter f) shown is = (shown, kept-wrong (Unit {0}) (merge_fault_in (inside h) item) (IsMergeIn (inside h) item) (unrefused-merge (inside h) item) h (Filter f) is)
+merges-kept-unread h item (Wire f) shown is = (shown, kept-wrong (Unit {0}) (merge_fault_in (inside h) item) (IsMergeIn (inside h) item) (unrefused-merge (inside h) item) h (Wire f) is)
+merges-kept-unread h item (Event f) shown is = (shown, kept-wrong (Unit {0}) (merge_fault_in (inside h) item) (IsMergeIn (inside h) item) (unrefused-merge (inside h) item) h (Event f) is)
+merges-kept-unread h item (Replay f) shown is = (shown, kept-wrong (Unit {0}) (merge_fault_in (inside h) item) (IsMergeIn (inside h) item) (unrefused-merge (inside h) item) h (Replay f) is)
+merges-kept-unread h item (Refused refusal) shown is = (shown, kept-wrong (Unit {0}) (merge_fault_in (inside h) item) (IsMergeIn (inside h) item) (unrefused-merge (inside h) item) h (Refused refusal) is)

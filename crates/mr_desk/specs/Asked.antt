@@ -1,7 +1,6 @@
 -- the event that a call is
-use Rattle.std.specs.Prelude.{◌≡◌, List, map, Option, Some, None}
+use Rattle.std.specs.Prelude.{◌≡◌, List, map, Option, None}
 use Rattle.std.specs.Option.{option_map}
-use Rattle.mr_mail.specs.Mail.{Mail}
 use Rattle.mr_wire.specs.declared.frame.Frame.TheVariants as frame
 use Rattle.mr_replica.specs.Refusal.{◌orelse◌}
 use Rattle.mr_replica.specs.declared.event.Event.{Event}

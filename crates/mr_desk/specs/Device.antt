@@ -6,10 +6,11 @@ use Rattle.mr_hosted.specs.Hosted.{Settled, acts_left, handed_out, is_settled, m
 use Rattle.mr_outbox.specs.declared.act.Act.{Act}
 use Rattle.mr_replica.specs.State.{State}
 use Rattle.mr_replica.specs.declared.event.Reply.{Reply}
-use Rattle.mr_desk.specs.Kept.{KeptAnswers, inside}
+use Rattle.mr_desk.specs.Kept.{KeptAnswers, KeptMerges, inside}
 use Rattle.mr_desk.specs.KeptCommit.{KeptCommits}
-use Rattle.mr_desk.specs.Serves.{Answers}
+use Rattle.mr_desk.specs.Serves.{Answers, Merges}
 use Rattle.mr_desk.specs.declared.call.Call.{Call}
+use Rattle.mr_desk.specs.declared.call.VersionNumbers.{VersionNumbers}
 use Rattle.mr_desk.specs.declared.device.Device.{Device}
 use Rattle.mr_desk.specs.declared.device.Device.TheVariants.{Plain, Kept, Failed}
 use Rattle.mr_desk.specs.declared.fault.Fault.{Fault}
@@ -51,6 +52,13 @@ DeviceAnswers (Plain s) call answer (Plain n) = Answers s call answer n
 DeviceAnswers (Kept h) call answer (Kept n) = KeptAnswers h call answer n
 DeviceAnswers Failed call answer new = (answer ≡ Err fault.Failed) × (new ≡ Failed)
 DeviceAnswers old call answer new = ⊥
+
+-- A device merges the heads of an item as what it is, and stays that.
+abbrev pub DeviceMerges : Device → VersionNumbers → Result Told Fault → Device → Type 0
+DeviceMerges (Plain s) item answer (Plain n) = Merges s item answer n
+DeviceMerges (Kept h) item answer (Kept n) = KeptMerges h item answer n
+DeviceMerges Failed item answer new = (answer ≡ Err fault.Failed) × (new ≡ Failed)
+DeviceMerges old item answer new = ⊥
 
 -- A kept device commits. Where there is no memory to note an act, it has failed.
 abbrev pub Commits : Device → Result (Unit {0}) Fault → Device → Type 0

@@ -3,6 +3,7 @@ use Rattle.std.specs.Prelude.{◌≡◌, ◌+◌, ◌*◌, ◌==◌, ℕ, if◌t
 use Rattle.mr_version.specs.Fault.{fault_number as version_number}
 use Rattle.mr_mail.specs.Fault.{fault_number as message_number}
 use Rattle.mr_filter.specs.Fault.{fault_number as filter_number}
+use Rattle.mr_maildir.specs.Policy.{fault_number as merge_number}
 use Rattle.mr_wire.specs.Fault.{fault_number as wire_number}
 use Rattle.mr_entry.specs.Fault.{event_fault_number as event_number}
 use Rattle.mr_replica.specs.Replay.{replay_fault_number}
@@ -17,6 +18,8 @@ use Rattle.mr_hosted.specs.declared.fault.HostedFault.{HostedFault}
 use Rattle.mr_hosted.specs.declared.fault.HostedFault.TheVariants as hosted
 use Rattle.mr_mail.specs.declared.fault.MessageFault.{MessageFault}
 use Rattle.mr_mail.specs.declared.fault.MessageFault.TheVariants as message
+use Rattle.mr_maildir.specs.declared.policy.MergeFault.{MergeFault}
+use Rattle.mr_maildir.specs.declared.policy.MergeFault.TheVariants as merge
 use Rattle.mr_filter.specs.declared.fault.FilterFault.{FilterFault}
 use Rattle.mr_filter.specs.declared.fault.FilterFault.TheVariants as filter
 use Rattle.mr_wire.specs.declared.fault.WireFault.{WireFault}
@@ -24,7 +27,7 @@ use Rattle.mr_wire.specs.declared.fault.WireFault.TheVariants as wire
 use Rattle.mr_entry.specs.declared.event.fault.EventFault.{EventFault}
 use Rattle.mr_entry.specs.declared.event.fault.EventFault.TheVariants as event
 use Rattle.mr_desk.specs.declared.fault.Fault.{Fault}
-use Rattle.mr_desk.specs.declared.fault.Fault.TheVariants.{OutOfMemory, NotText, BytesBehind, OtherFrame, Unsettled, Failed, OtherDevice, TooLarge, BadLength, Version, Message, Filter, Wire, Event, Replay, Refused, Open}
+use Rattle.mr_desk.specs.declared.fault.Fault.TheVariants.{OutOfMemory, NotText, BytesBehind, OtherFrame, Unsettled, Failed, OtherDevice, TooLarge, BadLength, NoConflict, Version, Message, Filter, Wire, Event, Replay, Refused, Open, Merge}
 
 -- the number of a fault of a family, which numbers want of memory 0
 abbrev pub in_family : ℕ → ℕ → ℕ
@@ -56,6 +59,7 @@ fault_number Failed = 10
 fault_number OtherDevice = 11
 fault_number TooLarge = 12
 fault_number BadLength = 13
+fault_number NoConflict = 14
 fault_number (Version fault) = in_family 1 (version_number fault)
 fault_number (Message fault) = in_family 2 (message_number fault)
 fault_number (Filter fault) = in_family 3 (filter_number fault)
@@ -64,11 +68,16 @@ fault_number (Event fault) = in_family 5 (event_number fault)
 fault_number (Replay fault) = in_family 6 (replay_fault_number fault)
 fault_number (Refused refusal) = in_family 7 (refusal_number refusal)
 fault_number (Open fault) = open_number fault
+fault_number (Merge fault) = in_family 10 (merge_number fault)
 
--- the faults of a message, a filter, a frame and an event as the desk's: where memory was wanting, that is all
+-- the faults of a message, a merge, a filter, a frame and an event as the desk's: where memory was wanting, that is all
 abbrev pub of_message : MessageFault → Fault
 of_message message.OutOfMemory = OutOfMemory
 of_message fault = Message fault
+
+abbrev pub of_merge : MergeFault → Fault
+of_merge merge.OutOfMemory = OutOfMemory
+of_merge fault = Merge fault
 
 abbrev pub of_filter : FilterFault → Fault
 of_filter filter.OutOfMemory = OutOfMemory

@@ -1,5 +1,5 @@
 -- what a replica whose host writes does with an event, and with a call
-use Rattle.std.specs.Prelude.{◌≡◌, ◌<◌, ◌++◌, ◌∷◌, [], false, IsTrue, List, length, Option, Some, None, Result, Ok, Err}
+use Rattle.std.specs.Prelude.{◌≡◌, ◌<◌, ◌++◌, ◌∷◌, [], true, false, IsTrue, List, length, Option, Some, None, Result, Ok, Err}
 use Rattle.mr_itemset.specs.Normal.{Normal}
 use Rattle.mr_itemset.specs.Sparing.{sparing_form}
 use Rattle.mr_wire.specs.declared.decoding.TheConstants.{MAX_REST_BYTES}
@@ -8,7 +8,7 @@ use Rattle.mr_journal.specs.Journal.{has_failed}
 use Rattle.mr_kept.specs.Kept.{SameJournal, journal_of, leaving, replica_of}
 use Rattle.mr_kept.specs.declared.fault.KeptFault.{KeptFault}
 use Rattle.mr_kept.specs.declared.fault.KeptFault.TheVariants as kept
-use Rattle.mr_hosted.specs.Hosted.{SameHost, journaled_of}
+use Rattle.mr_hosted.specs.Hosted.{SameHost, journaled_of, may_show}
 use Rattle.mr_hosted.specs.declared.hosted.Hosted.{Hosted}
 use Rattle.mr_replica.specs.State.{State}
 use Rattle.mr_replica.specs.Step.{Steps}
@@ -16,8 +16,10 @@ use Rattle.mr_replica.specs.declared.event.Event.{Event}
 use Rattle.mr_replica.specs.declared.event.Event.TheVariants.{Create, Edit, Pull, Next, Vouch}
 use Rattle.mr_replica.specs.declared.event.Reply.{Reply}
 use Rattle.mr_desk.specs.Asked.{call_fault, IsEventOf}
+use Rattle.mr_desk.specs.Merge.{merge_fault_in, IsMergeIn}
 use Rattle.mr_desk.specs.Told.{told_by}
 use Rattle.mr_desk.specs.declared.call.Call.{Call}
+use Rattle.mr_desk.specs.declared.call.VersionNumbers.{VersionNumbers}
 use Rattle.mr_desk.specs.declared.fault.Fault.{Fault}
 use Rattle.mr_desk.specs.declared.fault.Fault.TheVariants as fault
 use Rattle.mr_desk.specs.declared.reply.Told.{Told}
@@ -37,9 +39,9 @@ Gives (Next stream) reply t old new = (t ≡ told.Done) × (new ≡ old ++ reply
 Gives (Vouch version) reply t old new = (t ≡ told.Done) × (new ≡ old ++ reply ∷ [])
 Gives event reply t old new = (t ≡ told_by reply) × (new ≡ old)
 
--- the call is an event, for which this holds
-abbrev pub Asks : Call → (Event → Type 0) → Type 0
-Asks call Holds = (call_fault call ≡ None) × (event : Event) × IsEventOf call event × Holds event
+-- nothing is wrong, and of the event that is meant this holds
+abbrev pub Asks : Option Fault → (Event → Type 0) → (Event → Type 0) → Type 0
+Asks wrong IsMeant Holds = (wrong ≡ None) × (event : Event) × IsMeant event × Holds event
 
 module _ {V : Type 0} where
   -- the replica
@@ -73,11 +75,21 @@ module _ {V : Type 0} where
   KeptTells old event (Ok t) new = Goes old event t new
   KeptTells old event (Err e) new = Refuses old event e × Stays old new
 
-  -- A call is taken where what is handed over is its event. Else, or where the event isn't taken, all stays.
+  -- An event that is meant is taken, where nothing is wrong. Else, or where it isn't taken, all stays.
+  module _ (wrong : Option Fault) (IsMeant : Event → Type 0) where
+    abbrev pub TakesMeant : Hosted Normal V → Result Told Fault → Hosted Normal V → Type 0
+    TakesMeant old (Ok t) new = Asks wrong IsMeant (λ event. Goes old event t new)
+    TakesMeant old (Err (fault.Refused e)) new = Asks wrong IsMeant (λ event. Refuses old event (kept.Refused e)) × Stays old new
+    TakesMeant old (Err fault.Failed) new = Asks wrong IsMeant (λ event. Refuses old event kept.Failed) × Stays old new
+    TakesMeant old (Err fault.TooLarge) new = Asks wrong IsMeant (λ event. Refuses old event kept.TooLarge) × Stays old new
+    TakesMeant old (Err fault.OutOfMemory) new = Stays old new
+    TakesMeant old (Err f) new = (wrong ≡ Some f) × Stays old new
+
+  -- a call is taken where what is handed over is its event
   abbrev pub KeptAnswers : Hosted Normal V → Call → Result Told Fault → Hosted Normal V → Type 0
-  KeptAnswers old call (Ok t) new = Asks call (λ event. Goes old event t new)
-  KeptAnswers old call (Err (fault.Refused e)) new = Asks call (λ event. Refuses old event (kept.Refused e)) × Stays old new
-  KeptAnswers old call (Err fault.Failed) new = Asks call (λ event. Refuses old event kept.Failed) × Stays old new
-  KeptAnswers old call (Err fault.TooLarge) new = Asks call (λ event. Refuses old event kept.TooLarge) × Stays old new
-  KeptAnswers old call (Err fault.OutOfMemory) new = Stays old new
-  KeptAnswers old call (Err f) new = (call_fault call ≡ Some f) × Stays old new
+  KeptAnswers old call answer new = TakesMeant (call_fault call) (IsEventOf call) old answer new
+
+  -- The heads of an item are merged by the edit that makes one of them, where nothing waits and the host has no act to do.
+  abbrev pub KeptMerges : Hosted Normal V → VersionNumbers → Result Told Fault → Hosted Normal V → Type 0
+  KeptMerges old item (Err fault.Unsettled) new = (may_show old ≡ false) × Stays old new
+  KeptMerges old item answer new = (may_show old ≡ true) × TakesMeant (merge_fault_in (inside old) item) (IsMergeIn (inside old) item) old answer new

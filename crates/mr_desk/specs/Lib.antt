@@ -8,6 +8,7 @@ pub mod Kept
 pub mod KeptCommit
 pub mod KeptOpening
 pub mod Log
+pub mod Merge
 pub mod Opening
 pub mod Rows
 pub mod Serves

@@ -15,15 +15,20 @@ use Rattle.mr_replica.specs.declared.event.Event.TheVariants as event
 use Rattle.mr_replica.specs.declared.event.Reply.TheVariants as reply
 use Rattle.mr_replica.specs.declared.replica.replay.ReplayFault.TheVariants.{BadLimit}
 use Rattle.mr_replica.specs.declared.refusal.Refusal.TheVariants.{NoSession, OutOfMemory as NoMemory}
+use Rattle.mr_mail.specs.Mail.{Mail, MailCard}
+use Rattle.mr_maildir.specs.declared.policy.MergeFault.TheVariants as merge
+use Rattle.mr_feed.specs.declared.entry.Entry.TheVariants.{Added, Dropped}
+use Rattle.mr_madewith.specs.Revision.{Rev}
 use Rattle.mr_desk.specs.Draft.{labels_of}
 use Rattle.mr_desk.specs.Fault.{fault_number}
 use Rattle.mr_desk.specs.Frames.{announced, any_frame, claim_by, frame_fault, only_ask, only_receipt}
 use Rattle.mr_desk.specs.Kept.{Gives}
 use Rattle.mr_desk.specs.KeptOpening.{given}
+use Rattle.mr_desk.specs.Merge.{last_under, said_together, unmerged}
 use Rattle.mr_desk.specs.Told.{frame_by, told_by}
 use Rattle.mr_desk.specs.Version.{first_version_fault, version_fault}
 use Rattle.mr_desk.specs.declared.call.VersionNumbers.{VersionNumbers}
-use Rattle.mr_desk.specs.declared.fault.Fault.TheVariants.{OutOfMemory, BytesBehind, OtherFrame, Failed, Wire, Refused, Open}
+use Rattle.mr_desk.specs.declared.fault.Fault.TheVariants.{OutOfMemory, BytesBehind, OtherFrame, Failed, NoConflict, Wire, Refused, Open, Merge}
 use Rattle.mr_desk.specs.declared.reply.Told.TheVariants as told
 
 -- ---- faults
@@ -51,6 +56,9 @@ number_of_limit = refl
 
 pub number_of_failed : fault_number (Open (opens.Kept kept.Failed)) ≡ fault_number Failed
 number_of_failed = refl
+
+pub number_of_contents : fault_number (Merge merge.ContentsDiffer) ≡ 2561
+number_of_contents = refl
 
 -- ---- versions by their numbers
 
@@ -159,3 +167,38 @@ no_birth = refl
 
 pub some_birth : given (1 ∷ 2 ∷ []) ≡ Some (1 ∷ 2 ∷ [])
 some_birth = refl
+
+-- ---- merges
+
+abbrev mail : (subject label : List ℕ) (flags : ℕ) → Mail
+mail subject label flags = record { from = []; subject = subject; body = []; labels = label ∷ []; flags = flags; day = 0 }
+
+abbrev card : (label : List ℕ) → MailCard
+card label = record { labels = label ∷ []; flags = 0; day = 0 }
+
+-- one head moves the mail, and another reads it: over where it stood it is moved and read
+pub moved_and_read : said_together (Some (card (codes "inbox"))) (mail [] (codes "inbox") 1 ∷ mail [] (codes "work") 0 ∷ []) ≡ record { labels = codes "work" ∷ []; flags = 1 }
+moved_and_read = refl
+
+-- over nothing it stands in both
+pub read_in_both : said_together None (mail [] (codes "inbox") 1 ∷ mail [] (codes "work") 0 ∷ []) ≡ record { labels = codes "inbox" ∷ codes "work" ∷ []; flags = 1 }
+read_in_both = refl
+
+-- one head alone isn't merged, nor are two that say the same
+pub one_head : unmerged None (mail [] (codes "inbox") 1 ∷ []) ≡ Some NoConflict
+one_head = refl
+
+pub alike_heads : unmerged None (mail [] (codes "inbox") 1 ∷ mail [] (codes "inbox") 1 ∷ []) ≡ Some NoConflict
+alike_heads = refl
+
+-- where a subject differs too, that is told first
+pub other_subject : unmerged None (mail (codes "a") (codes "inbox") 1 ∷ mail (codes "b") (codes "inbox") 1 ∷ []) ≡ Some (Merge merge.ContentsDiffer)
+other_subject = refl
+
+-- a head of the item 0.1 that supersedes the first so many versions of author 0
+abbrev head_over : ℕ → Mail → Rev
+head_over upto message = record { item = name 0 1; version = name 1 1; below = record { author = 0; column = record { upto = upto; holes = [] } } ∷ []; message = message }
+
+-- of two versions that a head supersedes the last counts, and one that it doesn't is passed over
+pub last_came : last_under (head_over 2 (mail [] [] 0) ∷ []) (Added (name 0 1) (name 0 1) (card (codes "a")) ∷ Added (name 0 1) (name 0 2) (card (codes "b")) ∷ Dropped (name 0 1) (name 0 1) ∷ Added (name 0 1) (name 0 3) (card (codes "c")) ∷ []) ≡ Some (card (codes "b"))
+last_came = refl

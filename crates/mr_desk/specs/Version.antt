@@ -1,5 +1,5 @@
 -- versions by their numbers
-use Rattle.std.specs.Prelude.{ℕ, ◌&&◌, not, nat_le, nat_lt, if◌then◌else◌, find, is_some, List, Option, Some, None}
+use Rattle.std.specs.Prelude.{◌&&◌, not, nat_le, nat_lt, if◌then◌else◌, find, is_some, List, Option, Some, None}
 use Rattle.mr_version.specs.Name.{Name}
 use Rattle.mr_version.specs.declared.author.TheConstants.{AUTHORS}
 use Rattle.mr_version.specs.declared.version.TheConstants.{MAX_COUNTER}

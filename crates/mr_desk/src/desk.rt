@@ -1,10 +1,11 @@
 //! The desk, and its events.
 ghost use Rattle.std.specs.Prelude.{◌≡◌};
-ghost use Rattle.mr_desk.specs.Serves.{Serves, Answers};
+ghost use Rattle.mr_desk.specs.Serves.{Serves, Answers, Merges};
 
-use crate::call::Call;
+use crate::call::{Call, VersionNumbers};
 use crate::event::event_of;
 use crate::fault::Fault;
+use crate::merging::merge_in;
 use crate::reply::{Told, frame_by, told_by};
 use mr_itemset::SparingKnowledge;
 use mr_replica::{Event, Refusal, Replica};
@@ -67,6 +68,22 @@ impl Desk {
         match self.tell(event) {
             Ok(told) => Ok(told),
             Err(refusal) => Err(Fault::Refused(refusal)),
+        }
+    }
+
+    /// Merges the heads of an item by an edit of all of them, over the last version that came and that each of them supersedes, as
+    /// `mr_maildir::merged_place` has it: the message is that of each of them but for labels and flags. What is told is its version.
+    ///
+    /// `Version` where the numbers are none; `Merge` where the heads differ in more than labels and flags, or have more than 16 labels
+    /// together; `NoConflict` where they say the same, as where there is one or none; then as the replica refuses the edit: `Refused`.
+    /// Whatever the fault, the desk stays as it was. It costs a walk over the heads and the feed, and the edit.
+    pub fn merge(&mut self, item: VersionNumbers) -> Result<Told, Fault>
+        ensures { Merges self.old item result self.new }
+    {
+        let event = merge_in(self.alloc, &self.replica, item)?;
+        match self.tell(event) {
+            Ok(told) => Ok(told),
+            Err(refused) => Err(Fault::Refused(refused)),
         }
     }
 }

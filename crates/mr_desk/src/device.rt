@@ -1,11 +1,11 @@
 //! The device behind a handle: a desk, plain or kept.
 ghost use Rattle.std.specs.Prelude.{◌≡◌};
-ghost use Rattle.mr_desk.specs.Device.{Commits, DeviceAnswers, Settles, acts_of, frame_of, lent, replies_of, shown};
+ghost use Rattle.mr_desk.specs.Device.{Commits, DeviceAnswers, DeviceMerges, Settles, acts_of, frame_of, lent, replies_of, shown};
 
-use crate::call::Call;
+use crate::call::{Call, VersionNumbers};
 use crate::desk::Desk;
 use crate::fault::Fault;
-use crate::kept::{KeptDesk, commit, serve};
+use crate::kept::{KeptDesk, commit, merge, serve};
 use crate::reply::Told;
 use mr_itemset::SparingKnowledge;
 use mr_outbox::Act;
@@ -32,6 +32,18 @@ impl Device {
         match self {
             Device::Plain(desk) => desk.serve(call),
             Device::Kept(kept) => serve(alloc, kept, call),
+            Device::Failed => Err(Fault::Failed),
+        }
+    }
+
+    /// Merges the heads of an item, as [`Desk::merge`]. A kept device does so where nothing waits for a commit and its host has no act to
+    /// do, and else answers `Unsettled`; the version waits for the next commit.
+    pub fn merge(&mut self, alloc: Global, item: VersionNumbers) -> Result<Told, Fault>
+        ensures { DeviceMerges self.old item result self.new }
+    {
+        match self {
+            Device::Plain(desk) => desk.merge(item),
+            Device::Kept(kept) => merge(alloc, kept, item),
             Device::Failed => Err(Fault::Failed),
         }
     }

@@ -7,6 +7,7 @@ use mr_filter::FilterFault;
 use mr_hosted::HostedFault;
 use mr_kept::{KeptFault, OpenFault};
 use mr_mail::MessageFault;
+use mr_maildir::MergeFault;
 use mr_replica::{Refusal, ReplayFault};
 use mr_version::VersionFault;
 use mr_wire::WireFault;
@@ -43,6 +44,9 @@ pub enum Fault {
     /// A birth has 16 bytes, and a mark 32.
     #[error("a birth has 16 bytes, and a mark 32")]
     BadLength,
+    /// The heads of an item say the same, or it has one or none: there is nothing to merge.
+    #[error("the item has no heads that differ")]
+    NoConflict,
     /// An id or a version is none.
     #[error(transparent)]
     Version(VersionFault),
@@ -67,13 +71,16 @@ pub enum Fault {
     /// The file isn't begun, or isn't opened.
     #[error(transparent)]
     Open(OpenFault),
+    /// The heads of an item make no message together.
+    #[error(transparent)]
+    Merge(MergeFault),
 }
 
 impl Fault {
     /// The fault's number: 1 for want of memory, wherever it came; 4, 7 and 8 for a text, bytes behind a frame and another
-    /// frame; 9 to 13 for the five that follow; and else 256 times the number of the family, from 1 in the order of the variants behind
+    /// frame; 9 to 14 for the six that follow; and else 256 times the number of the family, from 1 in the order of the variants behind
     /// those, and the number that the family gives it. Of a file that isn't opened it is that of the fault which that carries: in the
-    /// families of filters, replays and refusals, and in family 9 where the journal is refused.
+    /// families of filters, replays and refusals, and in family 9 where the journal is refused. Of merges the family is 10.
     pub fn number(self) -> u16
         ensures { result ≡ fault_number self }
     {
@@ -87,6 +94,7 @@ impl Fault {
             Fault::OtherDevice => 11,
             Fault::TooLarge => 12,
             Fault::BadLength => 13,
+            Fault::NoConflict => 14,
             Fault::Version(fault) => in_family(1, fault.number()),
             Fault::Message(fault) => in_family(2, fault.number()),
             Fault::Filter(fault) => in_family(3, fault.number()),
@@ -95,6 +103,7 @@ impl Fault {
             Fault::Replay(fault) => in_family(6, fault.number()),
             Fault::Refused(refusal) => in_family(7, refusal.number()),
             Fault::Open(fault) => open_number(fault),
+            Fault::Merge(fault) => in_family(10, fault.number()),
         }
     }
 }
@@ -177,6 +186,20 @@ impl From<MessageFault> for Fault {
         match fault {
             MessageFault::OutOfMemory => Fault::OutOfMemory,
             _ => Fault::Message(fault),
+        }
+    }
+}
+
+impl From<MergeFault> for Fault {
+    ghost use Rattle.std.specs.Prelude.{◌≡◌};
+    ghost use Rattle.mr_desk.specs.Fault.{of_merge};
+
+    ghost from_gives = { λ fault made. made ≡ of_merge fault };
+
+    fn from(fault: MergeFault) -> Fault {
+        match fault {
+            MergeFault::OutOfMemory => Fault::OutOfMemory,
+            _ => Fault::Merge(fault),
         }
     }
 }

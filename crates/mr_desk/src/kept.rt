@@ -1,14 +1,15 @@
 //! A replica whose host writes, behind the same calls as a desk.
 ghost use Rattle.std.specs.Prelude.{◌≡◌};
 ghost use Rattle.mr_replica.specs.Methods.{received_reply};
-ghost use Rattle.mr_desk.specs.Kept.{KeptAnswers, KeptTells, told_where};
+ghost use Rattle.mr_desk.specs.Kept.{KeptAnswers, KeptMerges, KeptTells, told_where};
 ghost use Rattle.mr_desk.specs.KeptCommit.{KeptCommits};
 ghost use Rattle.mr_desk.specs.Told.{told_by};
 ghost use Rattle.mr_desk.specs.declared.reply.Told.TheVariants as told;
 
-use crate::call::Call;
+use crate::call::{Call, VersionNumbers};
 use crate::event::event_of;
 use crate::fault::Fault;
+use crate::merging::merge_in;
 use crate::reply::Told;
 use mr_hosted::Hosted;
 use mr_itemset::SparingKnowledge;
@@ -81,6 +82,25 @@ pub(crate) fn serve(alloc: Global, kept: &mut KeptDesk, call: &Call<'_>) -> Resu
     ensures { KeptAnswers kept.old call.now result kept.new }
 {
     let event = event_of(alloc, call)?;
+    match tell(kept, event) {
+        Ok(told) => Ok(told),
+        Err(fault) => Err(Fault::from(fault)),
+    }
+}
+
+/// Merges the heads of an item of a replica whose host writes, as [`Desk::merge`]; the version waits for the next commit.
+///
+/// `Unsettled` while an event or a note waits for a commit or the host has acts to do; then `Version`, `Merge` and `NoConflict`; then as
+/// the replica takes the edit: `Failed`, `TooLarge`, `Refused`, or `OutOfMemory`. Whatever the fault, all stays as it was.
+///
+/// [`Desk::merge`]: crate::Desk::merge
+pub(crate) fn merge(alloc: Global, kept: &mut KeptDesk, item: VersionNumbers) -> Result<Told, Fault>
+    ensures { KeptMerges kept.old item result kept.new }
+{
+    let Some(replica) = kept.replica() else {
+        return Err(Fault::Unsettled);
+    };
+    let event = merge_in(alloc, replica, item)?;
     match tell(kept, event) {
         Ok(told) => Ok(told),
         Err(fault) => Err(Fault::from(fault)),

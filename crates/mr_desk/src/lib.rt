@@ -21,6 +21,7 @@
 //! behind the same calls, and nothing that comes of an event of a kept one is shown or handed out before it is in the file.
 #![tactic(auto)]
 
+mod ancestor;
 mod call;
 mod desk;
 mod device;
@@ -32,6 +33,7 @@ mod kept;
 mod kept_opening;
 mod labels;
 mod log;
+mod merging;
 mod opening;
 mod reply;
 

@@ -1,4 +1,5 @@
 pub mod StateLemmas
 pub mod TellingLemmas
+pub mod SettlingLemmas
 pub mod LackingLemmas
 pub mod TakingLemmas

@@ -67,3 +67,17 @@ tells_more held mails i x start mid new h e before one = record {
   log = grouped start mid new before.events one.events before.log one.log;
   are = subst (λ (xs : List MailAct). TellsAll held xs (before.events ++ one.events)) (sym (take_one mails i x h e)) (tells_push held (take i mails) x before.events one.events before.are one.are);
 }
+
+-- ---- one part behind the other
+
+tells_append : (held : List (List ℕ × Vec ItemHeads)) (mails more : List MailAct) (events rest : List Event) → TellsAll held mails events → TellsAll held more rest → TellsAll held (mails ++ more) (events ++ rest)
+tells_append held [] more events rest h after = subst (λ (es : List Event). TellsAll held more (es ++ rest)) (sym h) after
+tells_append held (m ∷ mails) more events rest h after = (h.0, h.1 ++ rest, ap (λ (es : List Event). es ++ rest) h.2 ∙ append_assoc h.0 h.1 rest, h.3, tells_append held mails more h.1 rest h.4 after)
+
+-- what is told of some mails, and then of others
+pub grows_then : (held : List (List ℕ × Vec ItemHeads)) (mails more : List MailAct) (old mid new : List Event) → Grows (TellsAll held mails) old mid → Grows (TellsAll held more) mid new → Grows (TellsAll held (mails ++ more)) old new
+grows_then held mails more old mid new first second = record {
+  events = first.events ++ second.events;
+  log = grouped old mid new first.events second.events first.log second.log;
+  are = tells_append held mails more first.events second.events first.are second.are;
+}

@@ -1,10 +1,11 @@
 -- mails whose files aren't here
-use Rattle.std.specs.Prelude.{ℕ, Bool, true, false, not, ◌&&◌, if◌then◌else◌, List, [], map, Option, Some, None}
+use Rattle.std.specs.Prelude.{ℕ, Bool, true, false, not, ◌&&◌, ◌||◌, if◌then◌else◌, List, [], map, Option, Some, None}
 use Rattle.std.specs.Global.{Vec}
 use Rattle.std.specs.List.{flat_map, list_any}
 use Rattle.std.specs.Ordering.{is_eq}
 use Rattle.mr_version.specs.Name.{Name}
 use Rattle.mr_mail.specs.Label.{text_cmp}
+use Rattle.mr_maildir.specs.View.{is_gone}
 use Rattle.mr_scan.specs.declared.inodes.Stored.{Stored}
 use Rattle.mr_compare.specs.Joining.{at_item}
 use Rattle.mr_compare.specs.declared.joining.ItemHeads.{ItemHeads}
@@ -19,9 +20,9 @@ has_digest digests digest = list_any (λ own. is_eq (text_cmp digest own)) diges
 abbrev pub is_stored : List Stored → List ℕ → Bool
 is_stored mails digest = list_any (λ (stored : Stored). is_eq (text_cmp stored.digest digest)) mails
 
--- one of the held mails is that of the digest, and the store has no file of it
+-- one of the held mails is that of the digest, isn't gone, and the store has no file of it
 abbrev pub is_lacking : (stored : List (List ℕ)) → List HeldMail → List ℕ → Bool
-is_lacking stored mails digest = list_any (λ (mail : HeldMail). not (has_digest stored mail.digest) && is_eq (text_cmp mail.digest digest)) mails
+is_lacking stored mails digest = list_any (λ (mail : HeldMail). not (has_digest stored mail.digest || is_gone mail.view) && is_eq (text_cmp mail.digest digest)) mails
 
 -- the items of an entry's mail, if that is among the lacking ones
 abbrev pub items_of : (lacking : List (List ℕ)) → List ℕ × Vec ItemHeads → List Name

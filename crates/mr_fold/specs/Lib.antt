@@ -3,11 +3,13 @@ pub mod FoldFault
 pub mod State
 pub mod Shown
 pub mod Telling
+pub mod Settling
 pub mod Settings
 pub mod Mark
 pub mod Message
 pub mod HeldSide
 pub mod Lacking
+pub mod Expiring
 pub mod Taking
 pub mod Straying
 pub mod Released

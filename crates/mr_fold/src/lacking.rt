@@ -26,7 +26,7 @@ pub(crate) fn stored_digests(alloc: Global, index: &Index) -> Result<BTreeSet<Di
     Ok(digests)
 }
 
-/// The held mails whose files the store doesn't have.
+/// The held mails whose files the store doesn't have, but for those that are gone: they need none.
 pub(crate) fn lacking_mails(
     alloc: Global,
     mails: &[HeldMail],
@@ -36,13 +36,14 @@ pub(crate) fn lacking_mails(
 {
     let mut lacking = BTreeSet::new(alloc);
     for mail in mails {
-        insert_unless(&mut lacking, mail.digest, stored.contains(&mail.digest))?;
+        let needs_none = stored.contains(&mail.digest) || mail.view.is_gone();
+        insert_unless(&mut lacking, mail.digest, needs_none)?;
     }
     Ok(lacking)
 }
 
-/// Adds the digest, unless the store has its mail.
-fn insert_unless(
+/// Adds the digest, unless it is known already.
+pub(crate) fn insert_unless(
     digests: &mut BTreeSet<Digest>,
     digest: Digest,
     is_known: bool,

@@ -2,9 +2,10 @@
 //!
 //! [`init`] makes a folder's replica, and [`open`] opens it again: its journal is `.mailfold/log`, and how its folders lie is told in
 //! `.mailfold/config` or found. [`settle_folder`] brings both together: the Maildir is scanned, what the user changed is told and kept, and
-//! only then the files are made to stand as the replica holds the mail; [`look`] says what it would do. Where it would delete a mail that lies
-//! in a folder that the layout hasn't got, nothing is done ([`StrayMails`]). The journal keeps notes beside its
-//! events: how far of the feed the Maildir shows, and with whom a sync came to its end ([`shown_of`], [`meetings_of`]).
+//! files that have to be moved for it only then, so that they stand as the replica holds the mail; [`look`] says what it would do. Where it would
+//! delete a mail that lies in a folder that the layout hasn't got, nothing is done ([`StrayMails`]). [`sweep_folder`] lets files go that no mail
+//! names, and [`expire_folder`] those of deleted mail too. The journal keeps notes beside its events: how far of the feed the Maildir shows,
+//! and with whom a sync came to its end ([`shown_of`], [`meetings_of`]).
 //!
 //! [`settle`] is the same over any files ([`MailFiles`]): there the contracts say what is told, and that nothing is shown before it is
 //! kept, and nothing noted before it is on the disk. What real files take and give no contract says.
@@ -19,6 +20,7 @@
 mod ancestors;
 mod digests;
 mod disk_mails;
+mod expiring;
 mod fault;
 mod fold_fault;
 mod held_side;
@@ -28,6 +30,7 @@ mod mark;
 mod message;
 mod names;
 mod opening;
+mod parting;
 mod released;
 mod settings;
 mod settling;
@@ -38,6 +41,7 @@ mod straying;
 mod targets;
 mod telling;
 
+pub use expiring::{expire_folder, needed_mails};
 pub use fault::SettleFault;
 pub use fold_fault::FoldFault;
 pub use looking::{Looked, PassedOver, Settled, look, settle_folder, sweep_folder};

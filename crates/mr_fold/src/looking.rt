@@ -10,6 +10,7 @@ use crate::fold_fault::{FoldFault, files_failed};
 use crate::held_side::{HeldSide, held_side, left_side};
 use crate::lacking::lacking_items;
 use crate::opening::{Kept, OpenFolder};
+use crate::parting::moved_first;
 use crate::released::with_released;
 use crate::settling::settle;
 use crate::sides::{first_sides, second_sides, take_away};
@@ -76,7 +77,10 @@ struct Found {
 struct Sight {
     /// The last scan.
     scan: Scan,
+    /// First those for which files have to be moved, and then the others.
     acts: Vec<MailAct>,
+    /// How many the first ones are.
+    moved: usize,
     /// The held mails whose files aren't here.
     lacking: BTreeSet<Digest>,
 }
@@ -249,20 +253,27 @@ fn seen<R: Files<File = File> + AllocGlobal + Clone + Drop>(
         let second = scanned(alloc, tree, table, &mut index)?;
         let sides = second_sides(alloc, sides, &held.mails, &first, &second, &index)?;
         let acts = allowed_acts(alloc, tree, table, &index, held, &sides, most)?;
-        Ok(sight_of(sides, second, acts))
+        Ok(sight_of(alloc, sides, second, acts)?)
     } else {
-        Ok(sight_of(sides, first, acts))
+        Ok(sight_of(alloc, sides, first, acts)?)
     }
 }
 
 /// What was seen, and what is done for it.
-fn sight_of(sides: Sides, scan: Scan, acts: Vec<MailAct>) -> Sight {
+fn sight_of(
+    alloc: Global,
+    sides: Sides,
+    scan: Scan,
+    acts: Vec<MailAct>,
+) -> Result<Sight, AllocError> {
     let Sides { lacking, .. } = sides;
-    Sight {
+    let (acts, moved) = moved_first(alloc, acts, &scan, &lacking)?;
+    Ok(Sight {
         scan,
         acts,
+        moved,
         lacking,
-    }
+    })
 }
 
 /// What is done, as two scans say, unless it would delete a mail that lies in a folder that is passed over, or too many mails.
@@ -368,10 +379,19 @@ fn settle_seen<R: Files<File = File> + AllocGlobal + Clone + Drop>(
     found: &Found,
 ) -> Result<(), SettleFault> {
     let acts = &found.sight.acts;
+    let (moved, standing) = acts.split_at(found.sight.moved.min(acts.len()));
     let lacking = few(copied(alloc, &found.lacking)?)?;
-    let targets = targets_of(alloc, kept.replica(), acts, &found.held.mails)?;
+    let targets = targets_of(alloc, kept.replica(), moved, &found.held.mails)?;
     let mut files = DiskMails::new(alloc, tree, &found.table, &found.sight.scan, &targets)?;
-    settle(alloc, kept, &mut files, acts, &found.held.items, lacking)
+    settle(
+        alloc,
+        kept,
+        &mut files,
+        moved,
+        standing,
+        &found.held.items,
+        &lacking,
+    )
 }
 
 /// Has the folder know that all is shown, but for these items.
@@ -407,7 +427,7 @@ fn few(items: Vec<ItemId>) -> Result<Vec<ItemId>, SettleFault>
 }
 
 /// A fault of the store, with what the system said of the files.
-fn said<R: Files<File = File> + AllocGlobal + Clone + Drop>(
+pub(crate) fn said<R: Files<File = File> + AllocGlobal + Clone + Drop>(
     tree: &DiskTree<R>,
     fault: StoreFault,
 ) -> FoldFault {

@@ -1,6 +1,13 @@
 //! Brings a Maildir and its replica together: what the user changed is told, and what was changed elsewhere is shown.
-ghost use Rattle.std.specs.Prelude.{◌≡◌, ◌<◌, ◌^◌, true, length, OnOk};
-ghost use Rattle.mr_kept.specs.Kept.{nothing_waits, replica_of};
+ghost use Rattle.std.specs.Prelude.{◌≡◌, ◌<◌, ◌^◌, ◌++◌, ◌⊎◌, [], ℕ, IsTrue, List, true, length, map, OnOk};
+ghost use Rattle.mr_journal.specs.Device.{LeavesOnly};
+ghost use Rattle.mr_journal.specs.Format.{Stands};
+ghost use Rattle.mr_journal.specs.Journal.{device_of};
+ghost use Rattle.mr_entry.specs.Spelling.{entry_bytes};
+ghost use Rattle.mr_entry.specs.declared.entry.Entry.{Entry};
+ghost use Rattle.mr_kept.specs.Kept.{IsKept, Noted, entries_waiting, journal_of, nothing_waits, replica_of};
+ghost use Rattle.mr_fold.specs.Settling.{HasAll, IsNoted};
+ghost use Rattle.mr_fold.specs.Shown.{shown_note};
 ghost use Rattle.mr_fold.specs.Telling.{Grows, TellsAll};
 
 use crate::fault::SettleFault;
@@ -34,40 +41,109 @@ pub trait MailFiles {
 /// What is held of each mail, by its file's digest: the items that it is, by their heads.
 pub type HeldItems = BTreeMap<Digest, Vec<ItemHeads>>;
 
-/// Settles a folder: tells what the acts say that the user changed, commits, has the files stand as the acts say, and notes
-/// that the whole feed is shown, but for the items that lack their file; fewer than 2^32. The acts are those of
-/// [`mr_compare::acts_of`].
+/// Settles a folder: tells what the acts say that the user changed, has the files stand as the acts say, and notes that the whole feed is
+/// shown, but for the items that lack their file; fewer than 2^32. The acts are those of [`mr_compare::acts_of`] in two parts: first
+/// those for which files have to be moved, and then the others, whose files stand as they say already.
 ///
-/// It is called between syncs, so that nothing is held back for one. Nothing is shown before all that was told is kept, and
-/// nothing is noted before it is shown and on the disk. Whatever fails, and wherever the program is stopped, the next settling goes on. `NotHeld`
-/// where the first head of an item that is to be edited isn't held, `TooManyFolders` where a mail stands in more than 16; then
-/// what was told before it waits for a commit.
+/// It is called between syncs, so that nothing is held back for one. For the first part what is told of it is kept before any file is moved,
+/// and what is shown is on the disk before it is noted. What the user did with the others the first note leaves as it was: each of them
+/// was held as it was left, or keeps all that the user changed. Then these are told, and that they are shown is noted in the same commit. So
+/// none of their events is ever kept without a note: it would count as a change made elsewhere, and what the user does meanwhile would be
+/// undone. Of an edit that moves files this isn't so, if the program is stopped between its two commits.
+///
+/// Whatever fails, and wherever the program is stopped, the next settling goes on. `NotHeld` where the first head of an item that is to be
+/// edited isn't held, `TooManyFolders` where a mail stands in more than 16; then what was told before it waits for a commit.
 pub fn settle<D: Device + Drop, F: MailFiles>(
     alloc: Global,
     kept: &mut Journaled<SparingKnowledge, D>,
     files: &mut F,
-    acts: &[MailAct],
+    moved: &[MailAct],
+    standing: &[MailAct],
     held: &HeldItems,
-    lacking: Vec<ItemId>,
+    lacking: &[ItemId],
 ) -> Result<(), SettleFault>
-    requires { length lacking.items < 2 ^ 32 }
+    requires { length lacking.now < 2 ^ 32 }
     ensures all_kept { OnOk result (nothing_waits kept.new ≡ true) }
     ensures all_synced { OnOk result (F.are_synced files.new) }
     // The log grew by what is told of the mails, one after the other, and by nothing else.
-    ensures told { OnOk result (Grows (TellsAll held.now.entries acts.now) (replica_of kept.old).log (replica_of kept.new).log) }
+    ensures told { OnOk result (Grows (TellsAll held.now.entries (moved.now ++ standing.now)) (replica_of kept.old).log (replica_of kept.new).log) }
+    // The journal's last note is that the whole feed is shown, with all that is told in it.
+    ensures noted { IsTrue D.is_told → (entries : List Entry) → IsKept D.seen D.may_leave entries kept.old
+        → OnOk result (IsNoted D.seen D.may_leave entries kept.new (shown_note (length (replica_of kept.new).feed) lacking.now)) }
+    // Where no file has to be moved, a crash at any moment leaves the journal's entries from before, or those and all at once: what waited,
+    // what is told, and the note that it is shown.
+    ensures at_once { moved.now ≡ [] → IsTrue D.is_told → (entries : List Entry) → IsKept D.seen D.may_leave entries kept.old
+        → LeavesOnly D.moment D.left_since (device_of (journal_of kept.old)) (device_of (journal_of kept.new))
+        (λ c. Stands (map entry_bytes entries) c ⊎ HasAll c entries kept.old kept.new (shown_note (length (replica_of kept.new).feed) lacking.now)) }
 {
-    tell(alloc, kept, files, acts, held)?;
+    if moved.is_empty() {
+        return settle_standing(alloc, kept, files, standing, held, lacking);
+    }
+    settle_moved(alloc, kept, files, moved, held, lacking)?;
+    if standing.is_empty() {
+        return Ok(());
+    }
+    settle_standing(alloc, kept, files, standing, held, lacking)
+}
+
+/// Settles mails whose files have to be moved: tells what the user changed, keeps it, has the files stand as the acts say, and notes that
+/// they do.
+fn settle_moved<D: Device + Drop, F: MailFiles>(
+    alloc: Global,
+    kept: &mut Journaled<SparingKnowledge, D>,
+    files: &mut F,
+    moved: &[MailAct],
+    held: &HeldItems,
+    lacking: &[ItemId],
+) -> Result<(), SettleFault>
+    requires { length lacking.now < 2 ^ 32 }
+    ensures all_kept { OnOk result (nothing_waits kept.new ≡ true) }
+    ensures all_synced { OnOk result (F.are_synced files.new) }
+    ensures told { OnOk result (Grows (TellsAll held.now.entries moved.now) (replica_of kept.old).log (replica_of kept.new).log) }
+    ensures noted { IsTrue D.is_told → (entries : List Entry) → IsKept D.seen D.may_leave entries kept.old
+        → OnOk result (IsNoted D.seen D.may_leave entries kept.new (shown_note (length (replica_of kept.new).feed) lacking.now)) }
+{
+    tell(alloc, kept, files, moved, held)?;
     commit(kept)?;
-    show(alloc, kept, files, acts)?;
+    show(alloc, kept, files, moved)?;
     note(alloc, kept, files, lacking)?;
-    commit(kept)?;
-    Ok(())
+    commit(kept)
+}
+
+/// Settles mails whose files stand as they are told: tells what the user changed, and notes that it is shown, in one commit with all that
+/// waits.
+fn settle_standing<D: Device + Drop, F: MailFiles>(
+    alloc: Global,
+    kept: &mut Journaled<SparingKnowledge, D>,
+    files: &mut F,
+    standing: &[MailAct],
+    held: &HeldItems,
+    lacking: &[ItemId],
+) -> Result<(), SettleFault>
+    requires { length lacking.now < 2 ^ 32 }
+    ensures all_kept { OnOk result (nothing_waits kept.new ≡ true) }
+    ensures all_synced { OnOk result (F.are_synced files.new) }
+    ensures told { OnOk result (Grows (TellsAll held.now.entries standing.now) (replica_of kept.old).log (replica_of kept.new).log) }
+    ensures noted { IsTrue D.is_told → (entries : List Entry) → IsKept D.seen D.may_leave entries kept.old
+        → OnOk result (IsNoted D.seen D.may_leave entries kept.new (shown_note (length (replica_of kept.new).feed) lacking.now)) }
+    ensures at_once { IsTrue D.is_told → (entries : List Entry) → IsKept D.seen D.may_leave entries kept.old
+        → LeavesOnly D.moment D.left_since (device_of (journal_of kept.old)) (device_of (journal_of kept.new))
+        (λ c. Stands (map entry_bytes entries) c ⊎ HasAll c entries kept.old kept.new (shown_note (length (replica_of kept.new).feed) lacking.now)) }
+{
+    tell(alloc, kept, files, standing, held)?;
+    note(alloc, kept, files, lacking)?;
+    commit(kept)
 }
 
 /// Keeps all that waits. What is handed out for it are the versions that were issued, and goes nowhere.
 fn commit<D: Device + Drop>(kept: &mut Journaled<SparingKnowledge, D>) -> Result<(), SettleFault>
     ensures all_kept { OnOk result (nothing_waits kept.new ≡ true) }
     ensures replica { replica_of kept.new ≡ replica_of kept.old }
+    ensures any_moment { IsTrue D.is_told → (entries : List Entry) → IsKept D.seen D.may_leave entries kept.old
+        → LeavesOnly D.moment D.left_since (device_of (journal_of kept.old)) (device_of (journal_of kept.new))
+        (λ c. Stands (map entry_bytes entries) c ⊎ Stands (map entry_bytes (entries ++ entries_waiting kept.old)) c) }
+    ensures kept { IsTrue D.is_told → (entries : List Entry) → IsKept D.seen D.may_leave entries kept.old
+        → OnOk result (IsKept D.seen D.may_leave (entries ++ entries_waiting kept.old) kept.new) }
 {
     match kept.commit() {
         Ok(_replies) => Ok(()),
@@ -83,28 +159,28 @@ fn show<D: Device + Drop, F: MailFiles>(
     acts: &[MailAct],
 ) -> Result<(), SettleFault>
     requires { nothing_waits kept.now ≡ true }
-    ensures { OnOk result (F.are_synced files.new) }
 {
     let _is_kept = kept.is_kept();
     for act in acts {
         files.show(alloc, act)?;
     }
-    files.sync(alloc)
+    Ok(())
 }
 
-/// Has a note wait of what is shown, now that it is on the disk.
+/// Has what was shown on the disk, and then a note of it wait.
 fn note<D: Device + Drop, F: MailFiles>(
     alloc: Global,
     kept: &mut Journaled<SparingKnowledge, D>,
-    files: &F,
-    lacking: Vec<ItemId>,
+    files: &mut F,
+    lacking: &[ItemId],
 ) -> Result<(), SettleFault>
-    requires few { length lacking.items < 2 ^ 32 }
-    requires all_kept { nothing_waits kept.old ≡ true }
-    requires all_synced { F.are_synced files.now }
-    ensures { OnOk result (replica_of kept.new ≡ replica_of kept.old) }
+    requires { length lacking.now < 2 ^ 32 }
+    ensures all_synced { OnOk result (F.are_synced files.new) }
+    ensures noted { OnOk result (Noted (shown_note (length (replica_of kept.old).feed) lacking.now) kept.old kept.new) }
+    ensures journal { journal_of kept.new ≡ journal_of kept.old }
 {
-    let _synced = files;
+    files.sync(alloc)?;
+    let lacking = Vec::from_slice(alloc, lacking)?;
     note_shown(alloc, kept, lacking)?;
     Ok(())
 }

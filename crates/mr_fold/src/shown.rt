@@ -1,6 +1,6 @@
 //! The note of what the Maildir shows.
-ghost use Rattle.std.specs.Prelude.{◌≡◌, ◌<◌, ◌^◌, true, length, IfOk, OnErr, OnOk};
-ghost use Rattle.mr_kept.specs.Kept.{Noted, SameJournal, nothing_waits, replica_of};
+ghost use Rattle.std.specs.Prelude.{◌≡◌, ◌<◌, ◌^◌, length, IfOk, OnErr, OnOk};
+ghost use Rattle.mr_kept.specs.Kept.{Noted, SameJournal, replica_of};
 ghost use Rattle.mr_fold.specs.Shown.{shown_note};
 
 use mr_compare::{FolderNote, Shown};
@@ -12,17 +12,15 @@ use mr_version::ItemId;
 use std::alloc::Global;
 
 /// Has a note wait that the Maildir shows the whole feed, but for these items, whose files aren't here yet; fewer than 2^32.
-/// The next commit keeps it.
+/// The next commit keeps it, behind the events that wait: of those the Maildir is to stand as they tell.
 ///
-/// No event may wait: what is shown comes of events that are kept. The faults are those of [`Journaled::note`]; then nothing
-/// has changed.
+/// The faults are those of [`Journaled::note`]; then nothing has changed.
 pub fn note_shown<D: Device + Drop>(
     alloc: Global,
     kept: &mut Journaled<SparingKnowledge, D>,
     lacking: Vec<ItemId>,
 ) -> Result<(), KeptFault>
-    requires few { length lacking.items < 2 ^ 32 }
-    requires all_kept { nothing_waits kept.old ≡ true }
+    requires { length lacking.items < 2 ^ 32 }
     ensures noted { OnOk result (Noted (shown_note (length (replica_of kept.old).feed) lacking.items) kept.old kept.new) }
     ensures unchanged { OnErr result ((replica_of kept.new ≡ replica_of kept.old) × SameJournal kept.old kept.new) }
 {

@@ -1,7 +1,7 @@
 //! What the user did, as events.
 ghost use Rattle.std.specs.Prelude.{◌≡◌, ◌<◌, ◌↔◌, [], Err, IfOk, OnOk, length};
 ghost use Rattle.mr_mail.specs.declared.label.TheConstants.{MAX_LABELS};
-ghost use Rattle.mr_kept.specs.Kept.{replica_of};
+ghost use Rattle.mr_kept.specs.Kept.{SameJournal, replica_of};
 ghost use Rattle.mr_maildir.specs.declared.act.Act.TheVariants as act;
 ghost use Rattle.mr_fold.specs.Telling.{AreEdits, Grows, GrowsByEdit, TellsAct, TellsAll, gone_view, items_at};
 
@@ -25,7 +25,8 @@ pub(crate) fn tell<D: Device + Drop, F: MailFiles>(
     acts: &[MailAct],
     held: &HeldItems,
 ) -> Result<(), SettleFault>
-    ensures { OnOk result (Grows (TellsAll held.now.entries acts.now) (replica_of kept.old).log (replica_of kept.new).log) }
+    ensures told { OnOk result (Grows (TellsAll held.now.entries acts.now) (replica_of kept.old).log (replica_of kept.new).log) }
+    ensures journal { SameJournal kept.old kept.new }
 {
     for mail in acts {
         let items = items_of(held, &mail.digest);
@@ -53,7 +54,8 @@ fn tell_act<D: Device + Drop, F: MailFiles>(
     act: &Act,
     items: &[ItemHeads],
 ) -> Result<(), SettleFault>
-    ensures { OnOk result (Grows (TellsAct items.now act.now) (replica_of kept.old).log (replica_of kept.new).log) }
+    ensures told { OnOk result (Grows (TellsAct items.now act.now) (replica_of kept.old).log (replica_of kept.new).log) }
+    ensures journal { SameJournal kept.old kept.new }
 {
     match act {
         Act::Create => tell_new(alloc, kept, files, digest),
@@ -71,7 +73,8 @@ fn tell_gone<D: Device + Drop>(
     kept: &mut Journaled<SparingKnowledge, D>,
     items: &[ItemHeads],
 ) -> Result<(), SettleFault>
-    ensures { OnOk result (Grows (AreEdits gone_view items.now) (replica_of kept.old).log (replica_of kept.new).log) }
+    ensures told { OnOk result (Grows (AreEdits gone_view items.now) (replica_of kept.old).log (replica_of kept.new).log) }
+    ensures journal { SameJournal kept.old kept.new }
 {
     let view = gone(alloc);
     tell_edits(alloc, kept, items, &view)?;
@@ -85,7 +88,8 @@ fn tell_new<D: Device + Drop, F: MailFiles>(
     files: &mut F,
     digest: &Digest,
 ) -> Result<(), SettleFault>
-    ensures { OnOk result (Grows (TellsAct [] act.Create) (replica_of kept.old).log (replica_of kept.new).log) }
+    ensures told { OnOk result (Grows (TellsAct [] act.Create) (replica_of kept.old).log (replica_of kept.new).log) }
+    ensures journal { SameJournal kept.old kept.new }
 {
     let message = files.new_message(alloc, digest)?;
     kept.create(message)?;
@@ -106,7 +110,8 @@ fn tell_edits<D: Device + Drop>(
     items: &[ItemHeads],
     view: &View,
 ) -> Result<(), SettleFault>
-    ensures { OnOk result (Grows (AreEdits view.now items.now) (replica_of kept.old).log (replica_of kept.new).log) }
+    ensures told { OnOk result (Grows (AreEdits view.now items.now) (replica_of kept.old).log (replica_of kept.new).log) }
+    ensures journal { SameJournal kept.old kept.new }
 {
     for heads in items {
         tell_edit(alloc, kept, &heads.versions, view)?;
@@ -121,7 +126,8 @@ fn tell_edit<D: Device + Drop>(
     versions: &[Version],
     view: &View,
 ) -> Result<(), SettleFault>
-    ensures { OnOk result (GrowsByEdit view.now versions.now (replica_of kept.old).log (replica_of kept.new).log) }
+    ensures told { OnOk result (GrowsByEdit view.now versions.now (replica_of kept.old).log (replica_of kept.new).log) }
+    ensures journal { SameJournal kept.old kept.new }
 {
     let message = edited_head(alloc, kept.replica(), versions, view)?;
     let bases = copied(alloc, versions)?;

@@ -2,6 +2,7 @@ pub mod Asking
 pub mod Ending
 pub mod Fault
 pub mod Hello
+pub mod Host
 pub mod Lists
 pub mod Named
 pub mod Rows

@@ -33,6 +33,16 @@ pub(crate) fn short_of(digest: &Digest) -> Short
     short
 }
 
+/// The id of the one that said this, where somebody did.
+pub(crate) fn id_of(hello: Option<&Hello>) -> Option<Author>
+    ensures { result ≡ option_map (λ h. h.id) (option_copied hello.entry) }
+{
+    match hello {
+        Some(hello) => Some(hello.id),
+        None => None,
+    }
+}
+
 /// What the folder, which lacks files or none, says of itself to the one with this id, or to one whose id it doesn't know.
 ///
 /// `Knowledge` where what is known has no fragments or memory runs out for them. It costs all that is known, three times.

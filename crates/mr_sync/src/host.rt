@@ -1,5 +1,6 @@
 //! An open folder as a talk sees it.
-ghost use Rattle.std.specs.Prelude.{◌≡◌, not, is_some, IfOk, IfSome, IsSome};
+ghost use Rattle.std.specs.Prelude.{◌≡◌, not, is_some, option_map, IfErr, IfOk, IfSome, IsSome, OnErr, OnOk};
+ghost use Rattle.std.specs.Option.{option_copied};
 ghost use Rattle.mr_kept.specs.Kept.{nothing_waits};
 ghost use Rattle.mr_talk.specs.Turns.{next_of};
 
@@ -7,7 +8,7 @@ use crate::asking::ask;
 use crate::ending::{end, meeting_of};
 use crate::fault::{SyncFault, answered};
 use crate::files::take_file_message;
-use crate::hello::{folder_hello, judge};
+use crate::hello::{folder_hello, id_of, judge};
 use crate::receipts::take_receipts_message;
 use crate::records::take_records_message;
 use crate::said::keep_and_say;
@@ -36,13 +37,18 @@ pub struct FolderHost<D: Device + Drop, F: FileTree + Drop> {
 }
 
 impl<D: Device + Drop, F: FileTree + Drop> FolderHost<D, F> {
+    ghost use Rattle.mr_sync.specs.Host.{IsOpened, LacksToo, SameFolder, files_of, journaled_of};
+    ghost use Rattle.mr_sync.specs.declared.fault.SyncFault.TheVariants.{OutOfMemory};
+
     /// A folder that hasn't talked yet, and what it remembers of those that it met, by their ids.
     pub fn new(
         alloc: Global,
         kept: Journaled<SparingKnowledge, D>,
         files: F,
         meetings: BTreeMap<u16, Meeting>,
-    ) -> FolderHost<D, F> {
+    ) -> FolderHost<D, F>
+        ensures { IsOpened kept files meetings result }
+    {
         FolderHost {
             alloc,
             kept,
@@ -55,7 +61,11 @@ impl<D: Device + Drop, F: FileTree + Drop> FolderHost<D, F> {
 
     /// Has the talk want this file of the other side too: one that the folder lacks from before. Where some file is wanted, no talk ends
     /// with the hellos.
-    pub fn want(&mut self, digest: Digest) -> Result<(), SyncFault> {
+    pub fn want(&mut self, digest: Digest) -> Result<(), SyncFault>
+        ensures lacking { OnOk result (LacksToo digest self.old self.new) }
+        ensures unchanged { OnErr result (SameFolder self.old self.new) }
+        ensures fault { IfErr result (λ fault. fault ≡ OutOfMemory) }
+    {
         self.talk.arriving.lacking.insert(digest)?;
         Ok(())
     }
@@ -82,7 +92,10 @@ impl<D: Device + Drop, F: FileTree + Drop> FolderHost<D, F> {
     }
 
     /// The folder's parts again, and what came and went. A file that has no end yet is given up.
-    pub fn into_parts(self) -> (Journaled<SparingKnowledge, D>, F, Summary) {
+    pub fn into_parts(self) -> (Journaled<SparingKnowledge, D>, F, Summary)
+        ensures journaled { result.0 ≡ journaled_of self }
+        ensures files { result.1 ≡ files_of self }
+    {
         let summary = self.summary();
         let FolderHost { kept, files, .. } = self;
         (kept, files, summary)
@@ -90,6 +103,8 @@ impl<D: Device + Drop, F: FileTree + Drop> FolderHost<D, F> {
 }
 
 impl<D: Device + Drop, F: FileTree + Drop> Host for FolderHost<D, F> {
+    ghost use Rattle.mr_sync.specs.Host.{IsHelloFrom, JudgesOf, SameFolder};
+
     ghost waits = { λ h. not (nothing_waits h.kept) };
 
     ghost files_wait = { λ h. is_some h.talk.coming };
@@ -108,16 +123,19 @@ impl<D: Device + Drop, F: FileTree + Drop> Host for FolderHost<D, F> {
         answered(self.alloc, whole)
     }
 
-    fn hello(&mut self, theirs: Option<&Hello>) -> Result<Hello, HostFault> {
-        let id = match theirs {
-            Some(theirs) => Some(theirs.id),
-            None => None,
-        };
+    fn hello(&mut self, theirs: Option<&Hello>) -> Result<Hello, HostFault>
+        ensures is { IfOk result (IsHelloFrom self.new (option_map (λ h. h.id) (option_copied theirs.entry))) }
+        ensures unchanged { self.new ≡ self.old }
+    {
+        let id = id_of(theirs);
         let hello = folder_hello(self.alloc, &self.kept, self.talk.arriving.lacks(), id);
         answered(self.alloc, hello)
     }
 
-    fn meet(&mut self, theirs: &Hello) -> Result<bool, HostFault> {
+    fn meet(&mut self, theirs: &Hello) -> Result<bool, HostFault>
+        ensures judges { IfOk result (JudgesOf self.new theirs.now) }
+        ensures unchanged { SameFolder self.old self.new }
+    {
         self.talk.theirs = Some(*theirs);
         let lacks = self.talk.arriving.lacks();
         let met = judge(self.alloc, &self.kept, &self.meetings, lacks, theirs);

@@ -2,8 +2,8 @@
 //!
 //! A folder is a kept replica and a tree of files. A [`FolderHost`] owns both while they talk, and is the
 //! [`Host`](mr_talk::Host) of it: it says who the folder is, asks for what it lacks, tells what the other side asks for, each
-//! file before the record that names it, and takes what the other side tells. What the replica did is kept before anything
-//! that comes of it leaves. What comes is a stranger's: what is wrong ends the talk by a fault, and what was taken before
+//! file before the record that names it, unless the mail is gone by that, and takes what the other side tells. What the
+//! replica did is kept before anything that comes of it leaves. What comes is a stranger's: what is wrong ends the talk by a fault, and what was taken before
 //! stays.
 //!
 //! ```

@@ -1,16 +1,17 @@
-//! Files that records name.
-ghost use Rattle.std.specs.Prelude.{◌≡◌, ℕ, List, IfSome, Some};
+//! Files that records name, but for those of mail that is gone.
+ghost use Rattle.std.specs.Prelude.{◌≡◌, ℕ, List, IfSome, Some, None, true, false};
 ghost use Rattle.std.specs.Str.{IsUtf8};
 ghost use Rattle.mr_maildir.specs.Reference.{IsReference, ReferenceParts, reference_text};
-ghost use Rattle.mr_sync.specs.Named.{IsFileOf};
+ghost use Rattle.mr_sync.specs.Named.{IsFileOf, needs_file};
 
 use mr_compare::Digest;
+use mr_mail::{Flag, Message};
 use mr_maildir::read_reference;
 use mr_replica::Revision;
 use mr_version::ItemId;
 use mr_wire::{Body, Frame, Record};
 
-/// A file that a record names, with the record's item.
+/// A file that a record names and needs, with the record's item.
 #[derive(Clone, Copy, Debug)]
 pub(crate) struct NamedFile {
     pub(crate) item: ItemId,
@@ -31,6 +32,26 @@ pub(crate) fn file_of(body: &[u8]) -> Option<Digest>
     }
 }
 
+/// Whether the mail needs its file by this message: unless it is gone, as it stands in no folder and counts as deleted.
+pub(crate) fn needs_file(message: &Message) -> bool
+    ensures { result ≡ needs_file message.now }
+{
+    !(message.labels().is_empty() && message.flags().contains(Flag::Deleted))
+}
+
+/// The digest of the file that a message refers to, if the mail needs it.
+pub(crate) fn needed_file(message: &Message) -> Option<Digest>
+    ensures gone { needs_file message.now ≡ false → result ≡ None }
+    ensures refers { IfSome result (IsFileOf message.now.body) }
+    ensures whole { needs_file message.now ≡ true → (parts : ReferenceParts) → IsReference parts → IsUtf8 message.now.body
+        → reference_text parts ≡ message.now.body → result ≡ Some parts.digest }
+{
+    if !needs_file(message) {
+        return None;
+    }
+    file_of(message.body())
+}
+
 /// The revision that a record tells.
 pub(crate) fn revision_in(sent: &Record) -> Option<&Revision> {
     match sent.body() {
@@ -39,17 +60,17 @@ pub(crate) fn revision_in(sent: &Record) -> Option<&Revision> {
     }
 }
 
-/// The file that a record's revision refers to.
+/// The file that a record's revision refers to, if the mail needs it.
 pub(crate) fn file_in(sent: &Record) -> Option<NamedFile> {
     let revision = revision_in(sent)?;
-    let digest = file_of(revision.message().body())?;
+    let digest = needed_file(revision.message())?;
     Some(NamedFile {
         item: revision.item(),
         digest,
     })
 }
 
-/// The file that the record in a frame refers to.
+/// The file that the record in a frame refers to, if the mail needs it.
 pub(crate) fn file_in_frame(frame: &Frame) -> Option<NamedFile> {
     match frame {
         Frame::Record(sent) => file_in(sent),

@@ -42,7 +42,7 @@ pub(crate) fn frames_in(alloc: Global, bytes: &[u8]) -> Result<Vec<Frame>, SyncF
     Ok(frames)
 }
 
-/// Notes which of the files that these frames' records name the store lacks.
+/// Notes which of the files that these frames' records name the store lacks. A record whose mail is gone needs none.
 pub(crate) fn note_lacking<F: FileTree>(
     alloc: Global,
     files: &mut F,

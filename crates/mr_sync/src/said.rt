@@ -21,7 +21,7 @@ use std::collections::VecDeque;
 pub(crate) struct Said {
     pub(crate) records: VecDeque<Vec<u8>>,
     pub(crate) receipts: VecDeque<Vec<u8>>,
-    /// The files that these records name.
+    /// The files that these records name and need.
     pub(crate) files: VecDeque<NamedFile>,
     /// How many revisions were to be said so far.
     pub(crate) told: u64,
@@ -99,7 +99,7 @@ fn push_frame(frames: &mut VecDeque<Vec<u8>>, frame: Vec<u8>) -> Result<(), Wire
     Ok(())
 }
 
-/// Notes the file that a record names, and counts the revision that it tells.
+/// Notes the file that a record needs, and counts the revision that it tells.
 fn note_file(
     record: &Record,
     files: &mut VecDeque<NamedFile>,

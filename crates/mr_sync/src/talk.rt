@@ -1,5 +1,6 @@
 //! What a talk has open.
-ghost use Rattle.std.specs.Prelude.{◌≡◌, None};
+ghost use Rattle.std.specs.Prelude.{◌≡◌, ◌==◌, not, [], None};
+ghost use Rattle.std.specs.BTreeSet.{btree_set_len};
 
 use crate::files::Coming;
 use crate::said::Said;
@@ -17,7 +18,7 @@ use std::collections::{BTreeMap, BTreeSet, VecDeque};
 pub(crate) struct Arriving {
     /// Whether the other side has told all that was asked for.
     pub(crate) is_finished: bool,
-    /// The files that records name and that aren't here, and aren't wanted of the other side yet.
+    /// The files that records need and that aren't here, and aren't wanted of the other side yet.
     pub(crate) lacking: BTreeSet<Digest>,
     /// The files that are wanted of the other side.
     pub(crate) wanted: BTreeSet<Digest>,
@@ -31,7 +32,9 @@ pub(crate) struct Arriving {
 
 impl Arriving {
     /// Nothing came yet.
-    pub(crate) fn new(alloc: Global) -> Arriving {
+    pub(crate) fn new(alloc: Global) -> Arriving
+        ensures { result.lacking.keys ≡ [] }
+    {
         Arriving {
             is_finished: false,
             lacking: BTreeSet::new(alloc),
@@ -43,7 +46,9 @@ impl Arriving {
     }
 
     /// Whether files are lacking that aren't wanted of the other side yet.
-    pub(crate) fn lacks(&self) -> bool {
+    pub(crate) fn lacks(&self) -> bool
+        ensures { result ≡ not (btree_set_len self.now.lacking == 0) }
+    {
         !self.lacking.is_empty()
     }
 
@@ -126,7 +131,8 @@ pub(crate) struct Talk {
 impl Talk {
     /// Nothing is open yet.
     pub(crate) fn new(alloc: Global) -> Talk
-        ensures { result.coming ≡ None }
+        ensures coming { result.coming ≡ None }
+        ensures none_lacking { result.arriving.lacking.keys ≡ [] }
     {
         Talk {
             theirs: None,

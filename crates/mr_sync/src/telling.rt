@@ -199,7 +199,7 @@ fn batch_of(leaving: &Leaving) -> u32 {
     }
 }
 
-/// The next file that records to be told name, if the store has it whole and the other side may lack it.
+/// The next file that records to be told need, if the store has it whole and the other side may lack it.
 fn next_file<F: FileTree>(
     alloc: Global,
     files: &mut F,
@@ -222,7 +222,8 @@ fn next_file<F: FileTree>(
     Ok(None)
 }
 
-/// Whether the one who asked claims to know the item's first version, and so has its file.
+/// Whether the one who asked claims to know the item's first version: then it has its file, or wants it where it let that go as the mail
+/// was gone.
 fn is_known(asked: Option<&AskedOf>, item: ItemId) -> bool {
     match asked {
         Some(asked) => asked.knows(item, item.creator()),

@@ -8,7 +8,7 @@ ghost use Rattle.mr_sync.specs.Vouching.{is_answer};
 
 use crate::fault::SyncFault;
 use crate::lists::PushOut;
-use crate::named::file_of;
+use crate::named::needed_file;
 use crate::records::has_file;
 use mr_folder::FileTree;
 use mr_itemset::SparingKnowledge;
@@ -30,7 +30,7 @@ pub(crate) fn note_waiting(waiting: &mut Waiting, list: &[PushOut]) -> Result<()
     Ok(())
 }
 
-/// Gives a receipt for each head that is, or supersedes, what waits at the other side, and whose file is here, if it names one. What
+/// Gives a receipt for each head that is, or supersedes, what waits at the other side, and whose file is here, if it needs one. What
 /// gets its receipt waits no more. The receipts are handed out by the next commit; it tells how many.
 pub(crate) fn vouch_held<D: Device + Drop, F: FileTree>(
     alloc: Global,
@@ -78,9 +78,9 @@ fn is_answer(waiting: &Waiting, head: &Revision) -> bool
     }
 }
 
-/// Whether the file that the head names is here, if it names one.
+/// Whether the file that the head names is here, if it names one and its mail isn't gone.
 fn is_whole<F: FileTree>(alloc: Global, files: &mut F, head: &Revision) -> Result<bool, SyncFault> {
-    match file_of(head.message().body()) {
+    match needed_file(head.message()) {
         Some(digest) => has_file(alloc, files, &digest),
         None => Ok(true),
     }

@@ -12,11 +12,11 @@ use Rattle.mr_talk.proofs.MessageLaws.{IsBytes, bytes_take, bytes_drop}
 use Rattle.mr_talk.specs.Hello.{flag, hello_bytes, IsHello, AreFields, IsOfFormat, HasId, Reads}
 
 -- what the fields say of single bytes
-record Tells (bytes : List ℕ) (format id push_outs keeps_all : ℕ) : Type 0 where
+record Tells (bytes : List ℕ) (format id waiting keeps_all : ℕ) : Type 0 where
   pub long : length bytes ≡ 44
   pub first : get_or bytes 0 0 ≡ format
   pub second : get_or bytes 1 0 ≡ id
-  pub third : get_or bytes 42 0 ≡ push_outs
+  pub third : get_or bytes 42 0 ≡ waiting
   pub last : get_or bytes 43 0 ≡ keeps_all
 
 behind : (p q r s t : List ℕ) → length p ≡ 16 → length q ≡ 16 → length r ≡ 4 → length s ≡ 4 → (drop 40 (p ++ (q ++ (r ++ (s ++ t)))) ≡ t) × (length (p ++ (q ++ (r ++ (s ++ t)))) ≡ 40 + length t)
@@ -27,17 +27,17 @@ behind p q r s t hp hq hr hs =
     let long : length front ≡ 40 = omega (arith, length-append p (q ++ (r ++ s)), length-append q (r ++ s), length-append r s) in
     (ap (drop 40) whole ∙ drop_at front t 40 long, ap length whole ∙ length-append front t ∙ ap (λ (n : ℕ). n + length t) long)
 
-module _ (bytes : List ℕ) (format id : ℕ) (birth knows : List ℕ) (issued known push_outs keeps_all : ℕ) (are : AreFields bytes format id birth knows issued known push_outs keeps_all) where
-  tells : Tells bytes format id push_outs keeps_all
+module _ (bytes : List ℕ) (format id : ℕ) (birth knows : List ℕ) (issued known waiting keeps_all : ℕ) (are : AreFields bytes format id birth knows issued known waiting keeps_all) where
+  tells : Tells bytes format id waiting keeps_all
   tells =
       let r : List ℕ = to_be_bytes w32 issued in
       let s : List ℕ = to_be_bytes w32 known in
-      let rest : List ℕ = birth ++ (knows ++ (r ++ (s ++ (push_outs ∷ keeps_all ∷ [])))) in
-      let b = behind birth knows r s (push_outs ∷ keeps_all ∷ []) are.birth_long are.knows_long refl refl in
-      let third : get_or rest 40 0 ≡ push_outs = sym (get_or-drop 40 rest 0 0) ∙ ap (λ (x : List ℕ). get_or x 0 0) b.0 in
+      let rest : List ℕ = birth ++ (knows ++ (r ++ (s ++ (waiting ∷ keeps_all ∷ [])))) in
+      let b = behind birth knows r s (waiting ∷ keeps_all ∷ []) are.birth_long are.knows_long refl refl in
+      let third : get_or rest 40 0 ≡ waiting = sym (get_or-drop 40 rest 0 0) ∙ ap (λ (x : List ℕ). get_or x 0 0) b.0 in
       let last : get_or rest 41 0 ≡ keeps_all = sym (get_or-drop 40 rest 1 0) ∙ ap (λ (x : List ℕ). get_or x 1 0) b.0 in
-      let here : Tells (format ∷ id ∷ rest) format id push_outs keeps_all = record { long = omega (arith, b.1); first = refl; second = refl; third = third; last = last } in
-      subst (λ (x : List ℕ). Tells x format id push_outs keeps_all) (sym are.whole) here
+      let here : Tells (format ∷ id ∷ rest) format id waiting keeps_all = record { long = omega (arith, b.1); first = refl; second = refl; third = third; last = last } in
+      subst (λ (x : List ℕ). Tells x format id waiting keeps_all) (sym are.whole) here
 
   pub format_fault : format ≢ HELLO_FORMAT → Reads bytes (Err Format)
   format_fault h = (tells.long, λ e. h (sym tells.first ∙ e))
@@ -53,16 +53,16 @@ module _ (bytes : List ℕ) (format id : ℕ) (birth knows : List ℕ) (issued k
       has_id : HasId bytes
       has_id = (of_format, subst (λ (n : ℕ). n < AUTHORS) (sym tells.second) is_id)
 
-      pub push_outs_fault : 1 < push_outs → Reads bytes (Err Waiting)
-      push_outs_fault h = (has_id, subst (λ (n : ℕ). 1 < n) (sym tells.third) h)
+      pub waiting_fault : 1 < waiting → Reads bytes (Err Waiting)
+      waiting_fault h = (has_id, subst (λ (n : ℕ). 1 < n) (sym tells.third) h)
 
-      module _ (has : Bool) (is_push_outs : push_outs ≡ flag has) where
+      module _ (has : Bool) (waits : waiting ≡ flag has) where
         flag_low : (b : Bool) → flag b ≤ 1
         flag_low false = omega arith
         flag_low true = omega arith
 
         low : get_or bytes 42 0 ≤ 1
-        low = subst (λ (n : ℕ). n ≤ 1) (sym (tells.third ∙ is_push_outs)) (flag_low has)
+        low = subst (λ (n : ℕ). n ≤ 1) (sym (tells.third ∙ waits)) (flag_low has)
 
         pub keeps_all_fault : 1 < keeps_all → Reads bytes (Err KeepsAll)
         keeps_all_fault h = (has_id, low, subst (λ (n : ℕ). 1 < n) (sym tells.last) h)
@@ -75,9 +75,9 @@ module _ (bytes : List ℕ) (format id : ℕ) (birth knows : List ℕ) (issued k
             let s : List ℕ = to_be_bytes w32 known in (
               record { id = in_range; birth = are.birth_long; knows = are.knows_long; issued = are.issued_in; known = are.known_in },
               are.whole ∙
-                  ap (λ (x : ℕ). x ∷ id ∷ (birth ++ (knows ++ (r ++ (s ++ (push_outs ∷ keeps_all ∷ [])))))) is_format ∙
-                  ap (λ (x : ℕ). HELLO_FORMAT ∷ x ∷ (birth ++ (knows ++ (r ++ (s ++ (push_outs ∷ keeps_all ∷ [])))))) (sym is_who) ∙
-                  ap (λ (x : ℕ). HELLO_FORMAT ∷ who ∷ (birth ++ (knows ++ (r ++ (s ++ (x ∷ keeps_all ∷ [])))))) is_push_outs ∙
+                  ap (λ (x : ℕ). x ∷ id ∷ (birth ++ (knows ++ (r ++ (s ++ (waiting ∷ keeps_all ∷ [])))))) is_format ∙
+                  ap (λ (x : ℕ). HELLO_FORMAT ∷ x ∷ (birth ++ (knows ++ (r ++ (s ++ (waiting ∷ keeps_all ∷ [])))))) (sym is_who) ∙
+                  ap (λ (x : ℕ). HELLO_FORMAT ∷ who ∷ (birth ++ (knows ++ (r ++ (s ++ (x ∷ keeps_all ∷ [])))))) waits ∙
                   ap (λ (x : ℕ). HELLO_FORMAT ∷ who ∷ (birth ++ (knows ++ (r ++ (s ++ (flag has ∷ x ∷ [])))))) is_all,
             )
 
@@ -104,7 +104,7 @@ same_ends : (a b c d : ℕ) → ◌≡◌ {A = List ℕ} (a ∷ b ∷ []) (c ∷
 same_ends a b c d e = (ap (λ (x : List ℕ). get_or x 0 0) e, ap (λ (x : List ℕ). get_or x 1 0) e)
 
 abbrev made : ℕ → List ℕ → List ℕ → ℕ → ℕ → Bool → Bool → Hello
-made id birth knows issued known push_outs all = record { id = id; birth = birth; knows = knows; issued = issued; known = known; is_waiting = push_outs; keeps_all = all }
+made id birth knows issued known waiting all = record { id = id; birth = birth; knows = knows; issued = issued; known = known; is_waiting = waiting; keeps_all = all }
 
 joined : (a b : Hello) → a.id ≡ b.id → a.birth ≡ b.birth → a.knows ≡ b.knows → a.issued ≡ b.issued → a.known ≡ b.known → a.is_waiting ≡ b.is_waiting → a.keeps_all ≡ b.keeps_all → a ≡ b
 joined a b e1 e2 e3 e4 e5 e6 e7 =
@@ -127,9 +127,9 @@ one_hello g h ig ih e =
     let r5 = same_ends (flag g.is_waiting) (flag g.keeps_all) (flag h.is_waiting) (flag h.keeps_all) r4.1 in
     let issued : g.issued ≡ h.issued = same_number g.issued h.issued ig.issued ih.issued r3.0 in
     let known : g.known ≡ h.known = same_number g.known h.known ig.known ih.known r4.0 in
-    let push_outs : g.is_waiting ≡ h.is_waiting = same_flag g.is_waiting h.is_waiting r5.0 in
+    let waiting : g.is_waiting ≡ h.is_waiting = same_flag g.is_waiting h.is_waiting r5.0 in
     let all : g.keeps_all ≡ h.keeps_all = same_flag g.keeps_all h.keeps_all r5.1 in
-    joined g h ids r1.0 r2.0 issued known push_outs all
+    joined g h ids r1.0 r2.0 issued known waiting all
 
 pub reads_whole : (bytes : List ℕ) (r : Result Hello HelloFault) → Reads bytes r → (h : Hello) → IsHello h → bytes ≡ hello_bytes h → r ≡ Ok h
 reads_whole bytes (Ok g) e h is w = ap (λ (x : Hello). Ok x) (one_hello g h e.0 is (sym e.1 ∙ w))

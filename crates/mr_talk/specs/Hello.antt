@@ -13,7 +13,7 @@ abbrev pub flag : Bool → ℕ
 flag false = 0
 flag true = 1
 
--- its one spelling: format, id, birth, digest, the highest counter that it issued and the highest that it knows of the other, whether mail waits here for a receipt, and whether it keeps all
+-- its one spelling: format, id, birth, digest, the highest counter that it issued and the highest that it knows of the other, whether something waits here, mail for a receipt or a mail for its file, and whether it keeps all
 abbrev pub hello_bytes : Hello → List ℕ
 hello_bytes h = HELLO_FORMAT ∷ h.id ∷ (h.birth ++ (h.knows ++ (to_be_bytes w32 h.issued ++ (to_be_bytes w32 h.known ++ (flag h.is_waiting ∷ flag h.keeps_all ∷ [])))))
 
@@ -26,8 +26,8 @@ pub record IsHello (h : Hello) : Type 0 where
   pub known : h.known < 2 ^ 32
 
 -- the bytes are these fields, each as it is spelled, one behind another
-pub record AreFields (bytes : List ℕ) (format id : ℕ) (birth knows : List ℕ) (issued known push_outs keeps_all : ℕ) : Type 0 where
-  pub whole : bytes ≡ format ∷ id ∷ (birth ++ (knows ++ (to_be_bytes w32 issued ++ (to_be_bytes w32 known ++ (push_outs ∷ keeps_all ∷ [])))))
+pub record AreFields (bytes : List ℕ) (format id : ℕ) (birth knows : List ℕ) (issued known waiting keeps_all : ℕ) : Type 0 where
+  pub whole : bytes ≡ format ∷ id ∷ (birth ++ (knows ++ (to_be_bytes w32 issued ++ (to_be_bytes w32 known ++ (waiting ∷ keeps_all ∷ [])))))
   pub birth_long : length birth ≡ 16
   pub knows_long : length knows ≡ 16
   pub issued_in : issued < 2 ^ 32

@@ -84,14 +84,14 @@ struct Fields<'a> {
     knows: &'a Short,
     issued: u32,
     known: u32,
-    push_outs: u8,
+    waiting: u8,
     keeps_all: u8,
 }
 
 /// The fields of so many bytes, if they are as many as a hello has.
 fn split(bytes: &[u8]) -> Option<Fields<'_>>
     ensures { MatchOption result (length bytes.now ≢ HELLO_BYTES) (λ f.
-        AreFields bytes.now f.format f.id f.birth.now f.knows.now f.issued f.known f.push_outs f.keeps_all) }
+        AreFields bytes.now f.format f.id f.birth.now f.knows.now f.issued f.known f.waiting f.keeps_all) }
 {
     if bytes.len() != HELLO_BYTES as usize {
         return None;
@@ -103,7 +103,7 @@ fn split(bytes: &[u8]) -> Option<Fields<'_>>
     let (knows, rest) = rest.split_first_chunk::<16>()?;
     let (issued, rest) = rest.split_first_chunk::<4>()?;
     let (known, rest) = rest.split_first_chunk::<4>()?;
-    let [push_outs, keeps_all] = rest else {
+    let [waiting, keeps_all] = rest else {
         return None;
     };
     Some(Fields {
@@ -113,7 +113,7 @@ fn split(bytes: &[u8]) -> Option<Fields<'_>>
         knows,
         issued: u32::from_be_bytes(*issued),
         known: u32::from_be_bytes(*known),
-        push_outs: *push_outs,
+        waiting: *waiting,
         keeps_all: *keeps_all,
     })
 }
@@ -132,7 +132,7 @@ fn flag_of(byte: u8) -> Option<bool>
 /// The hello of these fields, or the first that is wrong.
 fn hello_of(fields: &Fields<'_>) -> Result<Hello, HelloFault>
     ensures { (bytes : List ℕ) → AreFields bytes fields.now.format fields.now.id fields.now.birth.now fields.now.knows.now
-        fields.now.issued fields.now.known fields.now.push_outs fields.now.keeps_all → Reads bytes result }
+        fields.now.issued fields.now.known fields.now.waiting fields.now.keeps_all → Reads bytes result }
 {
     if fields.format != HELLO_FORMAT {
         return Err(HelloFault::Format);
@@ -140,7 +140,7 @@ fn hello_of(fields: &Fields<'_>) -> Result<Hello, HelloFault>
     let Ok(id) = Author::try_new(u16::from(fields.id)) else {
         return Err(HelloFault::Id);
     };
-    let Some(is_waiting) = flag_of(fields.push_outs) else {
+    let Some(is_waiting) = flag_of(fields.waiting) else {
         return Err(HelloFault::Waiting);
     };
     let Some(keeps_all) = flag_of(fields.keeps_all) else {

@@ -4,7 +4,7 @@ use crate::error::{Error, Result, answer};
 use crate::sys;
 use crate::values::{Change, Counts, Draft, Held, Message, Received, Version};
 
-/// How many bytes a buffer has at first.
+/// How many bytes, or versions, a buffer has room for at first.
 const ROOM: usize = 512;
 
 /// The most sessions and streams that are open.
@@ -160,6 +160,21 @@ impl Device {
         Ok(version)
     }
 
+    /// Merges the heads of an item that differ in labels and flags alone, by an edit of all of them, and gives its version.
+    ///
+    /// The last version that came to the device and that all of them replace decides: a label or a flag of it stays if each head has
+    /// it, another one comes if some head has it; the message counts as deleted only where each head says so.
+    ///
+    /// # Errors
+    ///
+    /// `Version`; `Merge` where the contents differ, so that the user has to look, or there are too many labels together; `NoConflict`
+    /// where the heads say the same, or there is one or none; then `Refused`.
+    pub fn merge(&mut self, item: Version) -> Result<Version> {
+        let mut version = Version::default();
+        answer(sys::mr_merge(&mut self.device, item, &mut version))?;
+        Ok(version)
+    }
+
     /// Writes, asks and takes nothing more; it still answers.
     ///
     /// # Errors
@@ -267,20 +282,20 @@ impl Device {
     }
 
     // What a call writes to a buffer, which grows to the length that the call tells.
-    pub(crate) fn filled(
+    pub(crate) fn filled<T: Copy + Default>(
         &mut self,
-        call: impl Fn(&mut sys::Device, *mut u8, usize, &mut usize) -> i32,
-    ) -> Result<Vec<u8>> {
-        let mut bytes = vec![0; ROOM];
+        call: impl Fn(&mut sys::Device, *mut T, usize, &mut usize) -> i32,
+    ) -> Result<Vec<T>> {
+        let mut items = vec![T::default(); ROOM];
         let mut len = 0;
-        let mut code = call(&mut self.device, bytes.as_mut_ptr(), bytes.len(), &mut len);
+        let mut code = call(&mut self.device, items.as_mut_ptr(), items.len(), &mut len);
         if code == sys::TOO_SMALL {
-            bytes.resize(len, 0);
-            code = call(&mut self.device, bytes.as_mut_ptr(), bytes.len(), &mut len);
+            items.resize(len, T::default());
+            code = call(&mut self.device, items.as_mut_ptr(), items.len(), &mut len);
         }
         answer(code)?;
-        bytes.truncate(len);
-        Ok(bytes)
+        items.truncate(len);
+        Ok(items)
     }
 
     /// The frame that the last event gave that was not refused, and nothing where it gave none. `pull`, `next` and `vouch` give it
@@ -315,6 +330,29 @@ impl Device {
         (0..self.counts().push_outs).map_while(|place| {
             let mut push_out = Held::default();
             (sys::mr_push_out(&mut self.device, place, &mut push_out) == 0).then_some(push_out)
+        })
+    }
+
+    /// The items that have two or more heads, in rising order: they are in conflict until an edit of all their heads, as
+    /// [`merge`](Device::merge) makes one.
+    ///
+    /// # Errors
+    ///
+    /// `OutOfMemory` alone.
+    pub fn conflicts(&mut self) -> Result<Vec<Version>> {
+        // Safety: `filled` hands over a buffer of its own, and the room that it has.
+        self.filled(|device, to, room, len| unsafe { sys::mr_conflicts(device, to, room, len) })
+    }
+
+    /// The versions of an item that are heads, in version order.
+    ///
+    /// # Errors
+    ///
+    /// `Version`.
+    pub fn heads_of(&mut self, item: Version) -> Result<Vec<Version>> {
+        // Safety: `filled` hands over a buffer of its own, and the room that it has.
+        self.filled(|device, to, room, len| unsafe {
+            sys::mr_heads_of(device, item, to, room, len)
         })
     }
 

@@ -24,6 +24,8 @@ pub enum Error {
     Failed,
     /// The event has more bytes than one may have, or the file would get more than it may have.
     TooLarge,
+    /// The item has no heads that differ: there is nothing to merge.
+    NoConflict,
     /// An id or a version is none.
     Version(VersionFault),
     /// The parts make no message.
@@ -42,6 +44,8 @@ pub enum Error {
     Open(OpenFault),
     /// The file is no journal that is read here.
     Journal(JournalFault),
+    /// The heads of an item make no message together.
+    Merge(MergeFault),
     /// An answer that this crate doesn't know, as one of a later library, or that can't come of its calls.
     Unknown(i32),
 }
@@ -174,6 +178,12 @@ families! {
         Damaged = 4, "the file is damaged as no crash leaves it";
         TooLarge = 5, "the file would be too large";
     }
+
+    /// Why the heads of an item make no message together.
+    MergeFault {
+        ContentsDiffer = 1, "the heads differ in more than labels and flags";
+        TooManyLabels = 2, "more than 16 labels together";
+    }
 }
 
 impl Error {
@@ -189,6 +199,7 @@ impl Error {
                 9 => Some(Error::Unsettled),
                 10 => Some(Error::Failed),
                 12 => Some(Error::TooLarge),
+                14 => Some(Error::NoConflict),
                 _ => None,
             },
             1 => VersionFault::of(number).map(Error::Version),
@@ -200,6 +211,7 @@ impl Error {
             7 => Refusal::of(number).map(Error::Refused),
             8 => OpenFault::of(number).map(Error::Open),
             9 => JournalFault::of(number).map(Error::Journal),
+            10 => MergeFault::of(number).map(Error::Merge),
             _ => None,
         };
         known.unwrap_or(Error::Unknown(code))
@@ -218,6 +230,7 @@ impl fmt::Display for Error {
             }
             Error::Failed => f.write_str("an act failed: open the file again"),
             Error::TooLarge => f.write_str("the event or the file is too large"),
+            Error::NoConflict => f.write_str("the item has no heads that differ"),
             Error::Version(fault) => fault.fmt(f),
             Error::Message(fault) => fault.fmt(f),
             Error::Filter(fault) => fault.fmt(f),
@@ -227,6 +240,7 @@ impl fmt::Display for Error {
             Error::Refused(refusal) => refusal.fmt(f),
             Error::Open(fault) => fault.fmt(f),
             Error::Journal(fault) => fault.fmt(f),
+            Error::Merge(fault) => fault.fmt(f),
             Error::Unknown(code) => write!(f, "an answer of another interface, 0x{code:x}"),
         }
     }

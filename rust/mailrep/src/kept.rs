@@ -319,6 +319,15 @@ impl<F: Storage> KeptDevice<F> {
         self.device.edit(bases, draft).map(|_| ())
     }
 
+    /// Merges the heads of an item; the next commit hands out the version. It looks at the heads, so that no event may wait for a commit.
+    ///
+    /// # Errors
+    ///
+    /// `Failed`, `Unsettled`; then as [`Device::merge`].
+    pub fn merge(&mut self, item: Version) -> Result<()> {
+        self.device.merge(item).map(|_| ())
+    }
+
     /// Writes, asks and takes nothing more; it still answers.
     ///
     /// # Errors
@@ -421,6 +430,24 @@ impl Shown<'_> {
     /// As [`Device::push_outs`].
     pub fn push_outs(&mut self) -> impl Iterator<Item = Held> + '_ {
         self.device.push_outs()
+    }
+
+    /// As [`Device::conflicts`].
+    ///
+    /// # Errors
+    ///
+    /// `OutOfMemory` alone.
+    pub fn conflicts(&mut self) -> Result<Vec<Version>> {
+        self.device.conflicts()
+    }
+
+    /// As [`Device::heads_of`].
+    ///
+    /// # Errors
+    ///
+    /// `Version`.
+    pub fn heads_of(&mut self, item: Version) -> Result<Vec<Version>> {
+        self.device.heads_of(item)
     }
 
     /// As [`Device::changes_since`].

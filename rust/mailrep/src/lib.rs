@@ -83,8 +83,8 @@ mod values;
 
 pub use device::Device;
 pub use error::{
-    Error, EventFault, FilterFault, JournalFault, MessageFault, OpenFault, Refusal, ReplayFault,
-    Result, VersionFault, WireFault,
+    Error, EventFault, FilterFault, JournalFault, MergeFault, MessageFault, OpenFault, Refusal,
+    ReplayFault, Result, VersionFault, WireFault,
 };
 pub use frames::{claim, frame_len};
 pub use kept::{HandedOut, KeptDevice, KeptError, Shown, Storage};

@@ -63,7 +63,7 @@ pub const NOT_TEXT: i32 = 4;
 pub const TOO_SMALL: i32 = 5;
 
 /// The number of the interface that these declarations are of.
-pub const ABI: u32 = 0x0001_0001;
+pub const ABI: u32 = 0x0001_0002;
 
 #[rustfmt::skip]
 unsafe extern "C" {
@@ -72,6 +72,7 @@ unsafe extern "C" {
     pub safe fn mr_close(device: &mut Device);
     pub fn mr_create(device: &mut Device, from: *const u8, from_len: usize, subject: *const u8, subject_len: usize, body: *const u8, body_len: usize, labels: *const u8, labels_len: usize, flags: u8, day: u16, version: &mut Version) -> i32;
     pub fn mr_edit(device: &mut Device, bases: *const Version, bases_len: usize, from: *const u8, from_len: usize, subject: *const u8, subject_len: usize, body: *const u8, body_len: usize, labels: *const u8, labels_len: usize, flags: u8, day: u16, version: &mut Version) -> i32;
+    pub safe fn mr_merge(device: &mut Device, item: Version, version: &mut Version) -> i32;
     pub safe fn mr_retire(device: &mut Device) -> i32;
     pub safe fn mr_pull(device: &mut Device, session: &mut u64) -> i32;
     pub fn mr_answer(device: &mut Device, frame: *const u8, frame_len: usize, stream: &mut u64) -> i32;
@@ -93,6 +94,8 @@ unsafe extern "C" {
     pub safe fn mr_counts(device: &mut Device, counts: &mut Counts) -> i32;
     pub safe fn mr_head(device: &mut Device, place: usize, head: &mut Held) -> i32;
     pub safe fn mr_push_out(device: &mut Device, place: usize, push_out: &mut Held) -> i32;
+    pub fn mr_conflicts(device: &mut Device, to: *mut Version, room: usize, len: &mut usize) -> i32;
+    pub fn mr_heads_of(device: &mut Device, item: Version, to: *mut Version, room: usize, len: &mut usize) -> i32;
     pub safe fn mr_change(device: &mut Device, place: usize, change: &mut Change) -> i32;
     pub fn mr_event(device: &mut Device, place: usize, to: *mut u8, room: usize, len: &mut usize) -> i32;
     pub fn mr_part(device: &mut Device, version: Version, part: u32, to: *mut u8, room: usize, len: &mut usize) -> i32;

@@ -1,8 +1,8 @@
 //! Two devices, and what they refuse.
 
 use mailrep::{
-    Change, Claim, Device, Draft, Error, EventFault, FilterFault, FrameKind, MessageFault,
-    Received, Refusal, ReplayFault, Result, Version, VersionFault, WireFault, flag,
+    Change, Claim, Device, Draft, Error, EventFault, FilterFault, FrameKind, MergeFault,
+    MessageFault, Received, Refusal, ReplayFault, Result, Version, VersionFault, WireFault, flag,
 };
 
 const LUNCH: Draft<'_> = Draft {
@@ -53,6 +53,50 @@ fn a_message_goes_over_and_back() -> Result<()> {
     assert_eq!(changes, [(true, lunch), (false, lunch)]);
     assert!(phone.knows(lunch, moved)?);
     assert_eq!(phone.changes_since(2).next(), None::<Change>);
+    Ok(())
+}
+
+#[test]
+fn two_edits_are_merged() -> Result<()> {
+    let mut phone = Device::open(0, "all", 100)?;
+    let mut office = Device::open(1, "all", 100)?;
+    let lunch = phone.create(&LUNCH)?;
+    sync(&mut office, &mut phone)?;
+    assert_eq!(phone.merge(lunch), Err(Error::NoConflict));
+    let read = Draft {
+        flags: flag::SEEN | flag::FLAGGED,
+        ..LUNCH
+    };
+    let moved = Draft {
+        labels: "archive",
+        ..LUNCH
+    };
+    let here = phone.edit(&[lunch], &read)?;
+    let there = office.edit(&[lunch], &moved)?;
+    sync(&mut phone, &mut office)?;
+    assert_eq!(phone.conflicts()?, [lunch]);
+    assert_eq!(phone.heads_of(lunch)?, [here, there]);
+    let merged = phone.merge(lunch)?;
+    assert_eq!(phone.heads_of(lunch)?, [merged]);
+    assert_eq!(phone.conflicts()?, []);
+    let message = phone.message(merged)?;
+    assert_eq!(message.labels, ["archive"]);
+    assert_eq!(message.flags, flag::SEEN | flag::FLAGGED);
+    sync(&mut office, &mut phone)?;
+    assert_eq!(office.heads_of(lunch)?, [merged]);
+    phone.edit(&[merged], &LUNCH)?;
+    office.edit(
+        &[merged],
+        &Draft {
+            subject: "lunch at noon",
+            ..LUNCH
+        },
+    )?;
+    sync(&mut office, &mut phone)?;
+    assert_eq!(
+        office.merge(lunch),
+        Err(Error::Merge(MergeFault::ContentsDiffer))
+    );
     Ok(())
 }
 

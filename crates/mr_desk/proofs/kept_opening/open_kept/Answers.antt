@@ -1,5 +1,5 @@
 use Rattle.std.proofs.Common.{◌≡◌, ℕ, List, Option, rules, subst}
-use Rattle.mr_desk.specs.KeptOpening.{Reopened, Unopened, given}
+use Rattle.mr_desk.specs.KeptOpening.{Reopened, Unopened}
 use Rattle.mr_desk.proofs.kept_opening.open_kept.Goals as goal
 
 -- What was read is the file, and what was asked for is what the bytes say.

@@ -1,8 +1,11 @@
 use Rattle.std.proofs.Common.{take}
-use Rattle.mr_kept.specs.Kept.{replica_of}
+use Rattle.mr_kept.specs.Kept.{SameJournal, replica_of}
 use Rattle.mr_fold.specs.Telling.{TellsAll, Grows}
 use Rattle.mr_fold.proofs.telling.tell.Given as goal
 
--- the log grew by what is told of the mails so far
+-- the log grew by what is told of the mails so far, and the journal stays
 abbrev pub invariant-loop-mail : goal.invariant-loop-mail
-invariant-loop-mail g l = Grows (TellsAll l.held.entries (take l.mail-index l.acts)) (replica_of l.fn.kept).log (replica_of l.kept).log
+invariant-loop-mail g l = record {
+  told : Grows (TellsAll l.held.entries (take l.mail-index l.acts)) (replica_of l.fn.kept).log (replica_of l.kept).log;
+  journal : SameJournal l.fn.kept l.kept;
+}

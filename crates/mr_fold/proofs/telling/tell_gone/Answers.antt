@@ -3,5 +3,5 @@ use Rattle.mr_kept.specs.Kept.{replica_of}
 use Rattle.mr_fold.specs.Telling.{AreEdits, Grows}
 use Rattle.mr_fold.proofs.telling.tell_gone.Goals as goal
 
-pub returns : goal.returns
-returns g c = subst (λ v. Grows (AreEdits v c.args.items.now) (replica_of c.args.kept.now).log (replica_of c.tell_edits.new.kept).log) c.gone-view.ensures c.in_ok-tell_edits.ensures
+pub returns-clause-told : goal.returns-clause-told
+returns-clause-told g c = subst (λ v. Grows (AreEdits v c.args.items.now) (replica_of c.args.kept.now).log (replica_of c.tell_edits.new.kept).log) c.gone-view.ensures c.in_ok-tell_edits.ensures.told

@@ -1,0 +1,117 @@
+//! `mailfold`: folders of mail that are kept alike on several machines.
+//!
+//! A folder is a Maildir that shows what a replica holds. The program opens one, lets the layers below do what the command line asks
+//! for, and tells what came of it: a result on standard output, all else on standard error, and an exit status of 0 to 4. Here is what a
+//! command line means ([`command_line`]), what each subcommand calls, and how the program ends ([`ending`]).
+#![tactic(auto)]
+
+ghost use Rattle.std.specs.Prelude.{◌≡◌};
+ghost use Rattle.std.specs.Process.{exit_status};
+
+mod advice;
+mod after;
+mod audit;
+mod before;
+mod command_line;
+mod ending;
+mod expire;
+mod fault;
+mod full_log;
+mod heads;
+mod help;
+mod init;
+mod list;
+mod log;
+mod log_files;
+mod log_names;
+mod mail_file;
+mod moved;
+mod old_log;
+mod passed_over;
+mod queries;
+mod renew;
+mod scan;
+mod show;
+mod status;
+mod talk;
+mod tallies;
+mod told;
+mod unread;
+mod verify;
+mod words;
+
+use audit::audit_folders;
+use command_line::{Request, read_command_line};
+use ending::{Ending, exit_of};
+use expire::expire_mails;
+use fault::Fault;
+use init::init_folder;
+use moved::move_folder;
+use mr_talk::Role;
+use queries::{export_mail, list_mails, log_events, log_history, show_version, verify_files};
+use renew::renew_folder;
+use scan::scan_folder;
+use status::print_status;
+use std::env;
+use std::process::ExitCode;
+use talk::sync_folder;
+use told::tell_fault;
+use unread::answer_unread;
+
+fn main(rt: HostRuntime) -> ExitCode {
+    exit_with(exit_of(run(&rt)))
+}
+
+/// The process ends with this status.
+fn exit_with(status: u8) -> ExitCode
+    ensures { exit_status result ≡ status }
+{
+    ExitCode::from(status)
+}
+
+/// Does what the command line asks for.
+fn run(rt: &HostRuntime) -> Ending {
+    let words = match words_given(rt) {
+        Ok(words) => words,
+        Err(fault) => return end_with(rt, &fault),
+    };
+    match read_command_line(rt.alloc(), words.as_slice()) {
+        Ok(request) => match answer(rt, request) {
+            Ok(ending) => ending,
+            Err(fault) => end_with(rt, &fault),
+        },
+        Err(unread) => answer_unread(rt, &unread),
+    }
+}
+
+/// Tells why a command isn't done.
+fn end_with(rt: &HostRuntime, fault: &Fault) -> Ending {
+    tell_fault(rt, fault);
+    fault.ending()
+}
+
+/// The words of the command line, the program's name first.
+fn words_given(rt: &HostRuntime) -> Result<Vec<String>, Fault> {
+    Ok(env::args(rt)?.collect(rt.alloc())?)
+}
+
+/// Does what is asked for.
+fn answer(rt: &HostRuntime, request: Request) -> Result<Ending, Fault> {
+    match request {
+        Request::Init(request) => init_folder(rt, request),
+        Request::Scan(request) => scan_folder(rt, request),
+        Request::Sync(folder) => sync_folder(rt, folder, Role::Caller),
+        Request::Serve(folder) => sync_folder(rt, folder, Role::Called),
+        Request::Expire(folder) => expire_mails(rt, folder),
+        Request::Renew(request) => renew_folder(rt, request),
+        Request::Moved(folder) => move_folder(rt, folder),
+        Request::Status { folder, is_short } => print_status(rt, folder, is_short),
+        Request::List(request) => list_mails(rt, &request),
+        Request::Show { folder, version } => show_version(rt, folder, version),
+        Request::Export { folder, version } => export_mail(rt, folder, version),
+        Request::Log(folder) => log_events(rt, folder),
+        Request::History { folder, version } => log_history(rt, folder, version),
+        Request::Verify(folder) => verify_files(rt, folder),
+        Request::Audit(folders) => audit_folders(rt, &folders),
+    }
+}

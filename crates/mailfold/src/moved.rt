@@ -1,0 +1,111 @@
+//! `moved`: a folder that was moved opens again.
+use crate::ending::Ending;
+use crate::fault::Fault;
+use crate::log_files::{locked_log, next_log, put_in_place, told_log};
+use crate::old_log::OldLog;
+use mr_entry::{EntryFault, Head, Mark, encode_head};
+use mr_fold::{FoldFault, Kept, check_made, mark_for};
+use mr_journal::{DiskFile, Journal};
+use mr_kept::OpenFault;
+use std::alloc::Global;
+use std::fs::File;
+use std::rt::Files;
+
+/// Notes in the folder's log where it lies now: it is written anew, with the same entries and another mark. The folder stays the
+/// replica that it was. Of a folder that is where it was nothing changes.
+///
+/// The new log is whole, and was opened, before it takes the old one's place.
+pub fn move_folder<R>(rt: &R, root: &str) -> Result<Ending, Fault>
+where
+    R: Files<File = File> + Eprint + AllocGlobal + Clone + Drop,
+{
+    check_made(rt, root)?;
+    let file = locked_log(rt, root)?;
+    let head = head_of(told_log(rt, root)?)?;
+    let id = head.id().id();
+    if head.mark() == mark_for(rt, &file)? {
+        eprintln!(rt; "replica {id} is where it was: nothing was done")?;
+        return Ok(Ending::Done);
+    }
+    let (_journal, entries) = opened(rt.alloc(), file)?;
+    let _kept = moved_log(rt, root, &head, entries.as_slice())?;
+    put_in_place(rt, root)?;
+    eprintln!(rt; "replica {id} was moved here")?;
+    Ok(Ending::Done)
+}
+
+/// The head of a log.
+fn head_of(log: OldLog) -> Result<Head, Fault> {
+    match log {
+        OldLog::Of(head) => Ok(head),
+        OldLog::Empty => Err(Fault::Folder(FoldFault::NotMade)),
+        OldLog::Unread => Err(Fault::UnreadLog),
+    }
+}
+
+/// Opens the journal that a log is.
+fn opened(alloc: Global, file: DiskFile) -> Result<(Journal<DiskFile>, Vec<Vec<u8>>), Fault> {
+    match Journal::open(alloc, file) {
+        Ok(opened) => Ok(opened),
+        Err((fault, file)) => Err(unopened(OpenFault::Journal(fault), &file)),
+    }
+}
+
+/// Why a log isn't opened, with the system's words.
+fn unopened(fault: OpenFault, file: &DiskFile) -> Fault {
+    Fault::Folder(FoldFault::Journal(fault.explained(file.error())))
+}
+
+/// Writes the next log with these entries, but its own mark, and opens it.
+fn moved_log<R: Files<File = File> + AllocGlobal>(
+    rt: &R,
+    root: &str,
+    head: &Head,
+    entries: &[Vec<u8>],
+) -> Result<Kept, Fault> {
+    let [_, others @ ..] = entries else {
+        return Err(Fault::UnreadLog);
+    };
+    let alloc = rt.alloc();
+    let file = next_log(rt, root)?;
+    let mark = mark_for(rt, &file)?;
+    let first = first_batch(alloc, head, mark)?;
+    let file = written(alloc, file, first.as_slice(), others)?;
+    match Kept::open(alloc, file, &mark, None) {
+        Ok((kept, _opened)) => Ok(kept),
+        Err((fault, file)) => Err(unopened(fault, &file)),
+    }
+}
+
+/// The batch that the head is, with another mark.
+fn first_batch(alloc: Global, head: &Head, mark: Mark) -> Result<Vec<Vec<u8>>, Fault> {
+    let filter = String::from_str(alloc, head.filter())?;
+    let moved = Head::new(head.id(), head.event_limit(), head.birth(), mark, filter);
+    let mut batch = Vec::new(alloc);
+    match encode_head(alloc, &moved) {
+        Ok(bytes) => batch.push(bytes)?,
+        Err(EntryFault::OutOfMemory) => return Err(Fault::OutOfMemory),
+        Err(_) => return Err(Fault::UnreadLog),
+    }
+    Ok(batch)
+}
+
+/// Keeps two batches in a file that has none.
+fn written(
+    alloc: Global,
+    file: DiskFile,
+    first: &[Vec<u8>],
+    others: &[Vec<u8>],
+) -> Result<DiskFile, Fault> {
+    let (mut journal, _none) = opened(alloc, file)?;
+    commit(alloc, &mut journal, first)?;
+    commit(alloc, &mut journal, others)?;
+    Ok(journal.into_device())
+}
+
+fn commit(alloc: Global, journal: &mut Journal<DiskFile>, batch: &[Vec<u8>]) -> Result<(), Fault> {
+    match journal.commit(alloc, batch) {
+        Ok(()) => Ok(()),
+        Err(fault) => Err(unopened(OpenFault::Journal(fault), journal.device())),
+    }
+}

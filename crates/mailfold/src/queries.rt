@@ -1,0 +1,109 @@
+//! The subcommands that tell of a folder: each opens it, and prints what it is asked for.
+use crate::command_line::ListRequest;
+use crate::ending::Ending;
+use crate::fault::Fault;
+use crate::list::print_list;
+use crate::log::{print_history, print_log};
+use crate::show::{print_mail, print_version};
+use crate::verify::{Verified, verify};
+use mr_fold::open;
+use mr_version::Version;
+use std::fs::File;
+use std::io::{self, BufWriter, Write};
+use std::rt::Files;
+
+/// `ls`: lists the mail of a folder.
+pub fn list_mails<R: Files<File = File> + Print + AllocGlobal + Clone + Drop>(
+    rt: &R,
+    request: &ListRequest,
+) -> Result<Ending, Fault> {
+    let folder = open(rt, request.folder)?;
+    let mut output = BufWriter::new(rt.alloc(), io::writer(rt))?;
+    let end = if request.ends_in_zero { "\0" } else { "\n" };
+    let replica = folder.kept.replica();
+    print_list(
+        rt,
+        request.folder,
+        replica,
+        request.filter.as_ref(),
+        end,
+        &mut output,
+    )?;
+    flush(&mut output)
+}
+
+/// `show`: tells what a version says.
+pub fn show_version<R: Files<File = File> + Print + AllocGlobal + Clone + Drop>(
+    rt: &R,
+    root: &str,
+    version: Version,
+) -> Result<Ending, Fault> {
+    let folder = open(rt, root)?;
+    let mut output = BufWriter::new(rt.alloc(), io::writer(rt))?;
+    print_version(rt, root, folder.kept.replica(), version, &mut output)?;
+    flush(&mut output)
+}
+
+/// `export`: writes a mail's file.
+pub fn export_mail<R: Files<File = File> + Print + AllocGlobal + Clone + Drop>(
+    rt: &R,
+    root: &str,
+    version: Version,
+) -> Result<Ending, Fault> {
+    let folder = open(rt, root)?;
+    let mut output = io::writer(rt);
+    print_mail(rt, root, folder.kept.replica(), version, &mut output)?;
+    flush(&mut output)
+}
+
+/// `log`: lists all events.
+pub fn log_events<R: Files<File = File> + Print + AllocGlobal + Clone + Drop>(
+    rt: &R,
+    root: &str,
+) -> Result<Ending, Fault> {
+    let folder = open(rt, root)?;
+    let mut output = BufWriter::new(rt.alloc(), io::writer(rt))?;
+    print_log(rt.alloc(), folder.kept.replica(), &mut output)?;
+    flush(&mut output)
+}
+
+/// `log` of a version: lists what is told of its mail.
+pub fn log_history<R: Files<File = File> + Print + AllocGlobal + Clone + Drop>(
+    rt: &R,
+    root: &str,
+    version: Version,
+) -> Result<Ending, Fault> {
+    let folder = open(rt, root)?;
+    let mut output = BufWriter::new(rt.alloc(), io::writer(rt))?;
+    print_history(rt.alloc(), folder.kept.replica(), version, &mut output)?;
+    flush(&mut output)
+}
+
+/// `verify`: reads each file again.
+pub fn verify_files<R: Files<File = File> + Print + Eprint + AllocGlobal + Clone + Drop>(
+    rt: &R,
+    root: &str,
+) -> Result<Ending, Fault> {
+    let folder = open(rt, root)?;
+    let mut output = BufWriter::new(rt.alloc(), io::writer(rt))?;
+    let verified = verify(rt, root, folder.kept.replica(), &mut output)?;
+    flush(&mut output)?;
+    let Verified {
+        whole,
+        missing,
+        damaged,
+        expired,
+    } = verified;
+    eprintln!(rt; "{whole} whole, {missing} missing, {damaged} damaged, {expired} expired")?;
+    Ok(if verified.is_whole() {
+        Ending::Done
+    } else {
+        Ending::Stopped
+    })
+}
+
+/// Hands over what was written.
+fn flush<W: Write>(output: &mut W) -> Result<Ending, Fault> {
+    output.flush().map_err(Fault::Output)?;
+    Ok(Ending::Done)
+}

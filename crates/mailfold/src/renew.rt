@@ -1,0 +1,86 @@
+//! `renew`: a folder becomes another replica.
+use crate::command_line::RenewRequest;
+use crate::ending::Ending;
+use crate::fault::Fault;
+use crate::log_files::{keep_aside, locked_log, next_log, put_in_place, told_log, told_old_log};
+use crate::log_names::MAX_OLD_LOGS;
+use crate::old_log::{OldLog, filter_for, is_of};
+use mr_filter::Filter;
+use mr_fold::{FoldFault, FolderSetup, Kept, begin_log, check_made};
+use mr_version::Author;
+use std::fs::File;
+use std::io;
+use std::random::RandomSource;
+use std::rt::Files;
+
+/// Makes the folder another replica, with an empty log, and keeps the old log. The Maildir and the store stay as they are.
+///
+/// The new log is whole before it takes the old one's place, so a crash leaves the folder as it was or made anew.
+pub fn renew_folder<R>(rt: &R, request: RenewRequest) -> Result<Ending, Fault>
+where
+    R: Files<File = File> + RandomSource + Eprint + AllocGlobal + Clone + Drop,
+{
+    let RenewRequest { folder, id, filter } = request;
+    check_made(rt, folder)?;
+    let _lock = locked_log(rt, folder)?;
+    let old = told_log(rt, folder)?;
+    check_unused(rt, folder, &old, id)?;
+    let filter = filter_for(rt.alloc(), filter, &old)?;
+    let kept = begun(rt, folder, id, filter)?;
+    let number = keep_aside(rt, folder)?;
+    put_in_place(rt, folder)?;
+    tell_renewed(rt, &kept, number)?;
+    Ok(Ending::Done)
+}
+
+/// Whether no log of the folder is of this id.
+fn check_unused<R: Files<File = File> + AllocGlobal>(
+    rt: &R,
+    root: &str,
+    log: &OldLog,
+    id: Author,
+) -> Result<(), Fault> {
+    if let OldLog::Empty = log {
+        return Err(Fault::Folder(FoldFault::NotMade));
+    }
+    if is_of(log, id) {
+        return Err(Fault::UsedId(id));
+    }
+    for number in 1..=MAX_OLD_LOGS {
+        if is_of(&told_old_log(rt, root, number)?, id) {
+            return Err(Fault::UsedId(id));
+        }
+    }
+    Ok(())
+}
+
+/// Begins the replica in the next log.
+fn begun<R: Files<File = File> + RandomSource + AllocGlobal>(
+    rt: &R,
+    root: &str,
+    id: Author,
+    filter: Filter,
+) -> Result<Kept, Fault> {
+    let mut birth = [0u8; 16];
+    rt.fill_bytes(&mut birth)?;
+    let setup = FolderSetup {
+        id,
+        filter,
+        birth,
+        layout: None,
+    };
+    Ok(begin_log(rt, next_log(rt, root)?, setup)?)
+}
+
+/// Tells what replica the folder is, and what to do next.
+fn tell_renewed<R: Eprint>(rt: &R, kept: &Kept, number: u32) -> io::Result<()> {
+    let replica = kept.replica();
+    let id = replica.id().id();
+    let filter = replica.filter().text()?;
+    let filter = filter.as_str();
+    eprintln!(rt; "replica {id}, filter {filter}; the old log is .mailfold/log.{number}")?;
+    eprintln!(rt;
+        "mailfold: let this folder begin the next sync, before any scan: then mail that both sides have isn't new"
+    )?;
+    Ok(())
+}

@@ -1,0 +1,38 @@
+//! `scan`: what other programs changed is taken.
+use crate::command_line::ScanRequest;
+use crate::ending::Ending;
+use crate::fault::Fault;
+use crate::full_log::warn_of_full_log;
+use crate::passed_over::tell_passed_over;
+use mr_compare::tally_of;
+use mr_fold::{OpenFolder, Settled, look, open, settle_folder};
+use std::fs::File;
+use std::rt::Files;
+
+/// Scans the folder, or tells what a scan would do.
+pub fn scan_folder<R: Files<File = File> + Eprint + AllocGlobal + Clone + Drop>(
+    rt: &R,
+    request: ScanRequest,
+) -> Result<Ending, Fault> {
+    let mut folder = open(rt, request.folder)?;
+    let Settled { tally, passed_over } = scanned(&mut folder, request)?;
+    tell_passed_over(rt, &passed_over)?;
+    eprintln!(rt; "{tally}")?;
+    warn_of_full_log(rt, folder.kept.replica())?;
+    Ok(Ending::Done)
+}
+
+/// What was done, or would be, and what was passed over.
+fn scanned<R: Files<File = File> + AllocGlobal + Clone + Drop>(
+    folder: &mut OpenFolder<R>,
+    request: ScanRequest,
+) -> Result<Settled, Fault> {
+    if request.is_dry {
+        let looked = look(folder)?;
+        return Ok(Settled {
+            tally: tally_of(&looked.acts),
+            passed_over: looked.passed_over,
+        });
+    }
+    Ok(settle_folder(folder, request.most_deletions)?)
+}

@@ -1,0 +1,4 @@
+pub mod Peers
+pub mod Verdict
+pub mod Beginning
+pub mod Rows

@@ -1,0 +1,25 @@
+use Rattle.std.proofs.Common.{◌≡◌, None, Err, ap, subst}
+use Rattle.std.proofs.lemmas.Result.{err_from_is_err_and}
+use Rattle.mr_itemset.specs.Normal.{Normal}
+use Rattle.mr_replica.specs.State.{State}
+use Rattle.mr_desk.specs.Desk.{DeskState}
+use Rattle.mr_desk.specs.Fault.{Reads}
+use Rattle.mr_desk.specs.Merge.{IsMergeIn, merge_fault_in}
+use Rattle.mr_desk.proofs.ReadingLemmas.{merges-unread}
+use Rattle.mr_desk.proofs.desk.Desk.merge.Goals as goal
+
+pub returns-in_err-event : goal.returns-in_err-event
+returns-in_err-event c =
+    let p = err_from_is_err_and c.from_residual.result c.from_residual.ensures.1 in
+    let reads = subst (λ (s : State Normal). Reads (Unit {0}) (merge_fault_in s c.args.item) (IsMergeIn s c.args.item) (Err c.in_err-event.field-0.0)) (ap (λ (d : DeskState). d.replica) c.self.view_is) c.in_err-event.ensures in
+    rw (p.1, p.2) (merges-unread c.args.self.now c.args.item c.in_err-event.field-0.0 reads)
+
+pub returns-in-Ok : goal.returns-in-Ok
+returns-in-Ok c =
+    let meant = subst (λ (s : State Normal). (merge_fault_in s c.args.item ≡ None) × IsMergeIn s c.args.item c.in_ok-event.event) (ap (λ (d : DeskState). d.replica) c.self.view_is) c.in_ok-event.ensures in
+    (meant.0, c.in_ok-event.event, meant.1, c.in-Ok.ensures)
+
+pub returns-in-Err : goal.returns-in-Err
+returns-in-Err c =
+    let meant = subst (λ (s : State Normal). (merge_fault_in s c.args.item ≡ None) × IsMergeIn s c.args.item c.in_ok-event.event) (ap (λ (d : DeskState). d.replica) c.self.view_is) c.in_ok-event.ensures in
+    (meant.0, c.in_ok-event.event, meant.1, c.in-Err.ensures)

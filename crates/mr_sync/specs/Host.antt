@@ -1,0 +1,66 @@
+-- an open folder as it talks: what it was opened with, and the files that it lacks
+use Rattle.std.specs.Prelude.{◌≡◌, ◌==◌, ℕ, Bool, not, [], List, length, Option, option_map}
+use Rattle.std.specs.BTreeMap.{BTreeMap, get}
+use Rattle.std.specs.BTreeSet.{insert_key}
+use Rattle.std.specs.Cmp.Lexicographic.{slice_cmp}
+use Rattle.std.specs.Ordering.{nat_cmp}
+use Rattle.mr_compare.specs.declared.note.Meeting.{Meeting}
+use Rattle.mr_concise.specs.declared.vector.AuthorColumn.{AuthorColumn}
+use Rattle.mr_itemset.specs.Normal.{Normal}
+use Rattle.mr_kept.specs.Kept.{head_of, replica_of}
+use Rattle.mr_kept.specs.declared.journaled.Journaled.{Journaled}
+use Rattle.mr_talk.specs.declared.hello.Hello.{Hello}
+use Rattle.mr_sync.specs.Hello.{IsHelloOf, Judges, met_by}
+use Rattle.mr_sync.specs.declared.host.FolderHost.{FolderHost}
+
+module _ {D F : Type 0} where
+  -- the replica with its journal
+  abbrev pub journaled_of : FolderHost D F → Journaled Normal D (List AuthorColumn)
+  journaled_of h = h.kept
+
+  -- the tree of files
+  abbrev pub files_of : FolderHost D F → F
+  files_of h = h.files
+
+  -- what is remembered of the replicas that it met, by their ids
+  abbrev pub meetings_of : FolderHost D F → BTreeMap ℕ Meeting
+  meetings_of h = h.meetings
+
+  -- the digests of the files that it lacks and hasn't asked for yet, each once, in their order
+  abbrev pub lacking_of : FolderHost D F → List (List ℕ)
+  lacking_of h = h.talk.arriving.lacking.keys
+
+  -- whether there is such a file
+  abbrev pub lacks_files : FolderHost D F → Bool
+  lacks_files h = not (length (lacking_of h) == 0)
+
+  -- the folder has just been opened with these, and lacks no file
+  pub record IsOpened (kept : Journaled Normal D (List AuthorColumn)) (files : F) (meetings : BTreeMap ℕ Meeting) (h : FolderHost D F) : Type 0 where
+    pub journaled : journaled_of h ≡ kept
+    pub files_are : files_of h ≡ files
+    pub meetings_are : meetings_of h ≡ meetings
+    pub none_lacking : lacking_of h ≡ []
+
+  -- what the folder was opened with is as it was
+  pub record SameParts (old new : FolderHost D F) : Type 0 where
+    pub journaled : journaled_of new ≡ journaled_of old
+    pub files_are : files_of new ≡ files_of old
+    pub meetings_are : meetings_of new ≡ meetings_of old
+
+  -- and so are the files that it lacks
+  pub record SameFolder (old new : FolderHost D F) : Type 0 where
+    pub parts : SameParts old new
+    pub lacking : lacking_of new ≡ lacking_of old
+
+  -- the folder lacks the file of this digest too, once, and is else as it was
+  pub record LacksToo (digest : List ℕ) (old new : FolderHost D F) : Type 0 where
+    pub parts : SameParts old new
+    pub lacking : lacking_of new ≡ insert_key (slice_cmp nat_cmp) (lacking_of old) digest
+
+  -- the hello that the folder has for the one with this id, or for one whose id it doesn't know
+  abbrev pub IsHelloFrom : FolderHost D F → Option ℕ → Hello → Type 0
+  IsHelloFrom h = IsHelloOf (head_of (journaled_of h)).birth (replica_of (journaled_of h)) (lacks_files h)
+
+  -- what the folder finds of the one that said this: nothing stands in the way, and whether there is something to tell
+  abbrev pub JudgesOf : FolderHost D F → Hello → Bool → Type 0
+  JudgesOf h theirs = Judges (head_of (journaled_of h)).birth (replica_of (journaled_of h)) (lacks_files h) theirs (option_map met_by (get nat_cmp (meetings_of h) theirs.id))
