@@ -22,13 +22,30 @@ where
     check_made(rt, root)?;
     let file = locked_log(rt, root)?;
     let head = head_of(told_log(rt, root)?)?;
+    move_locked(rt, root, file, &head)
+}
+
+/// The same, once the log is locked.
+fn move_locked<R>(rt: &R, root: &str, file: DiskFile, head: &Head) -> Result<Ending, Fault>
+where
+    R: Files<File = File> + Eprint + AllocGlobal + Clone + Drop,
+{
     let id = head.id().id();
     if head.mark() == mark_for(rt, &file)? {
         eprintln!(rt; "replica {id} is where it was: nothing was done")?;
         return Ok(Ending::Done);
     }
     let (_journal, entries) = opened(rt.alloc(), file)?;
-    let _kept = moved_log(rt, root, &head, entries.as_slice())?;
+    put_moved(rt, root, head, entries.as_slice())
+}
+
+/// Puts a log with these entries and the mark of its place where the log was, and tells so.
+fn put_moved<R>(rt: &R, root: &str, head: &Head, entries: &[Vec<u8>]) -> Result<Ending, Fault>
+where
+    R: Files<File = File> + Eprint + AllocGlobal + Clone + Drop,
+{
+    let id = head.id().id();
+    let _kept = moved_log(rt, root, head, entries)?;
     put_in_place(rt, root)?;
     eprintln!(rt; "replica {id} was moved here")?;
     Ok(Ending::Done)

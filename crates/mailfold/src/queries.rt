@@ -1,4 +1,4 @@
-//! The subcommands that tell of a folder: each opens it, and prints what it is asked for.
+//! The subcommands that tell of a folder: each opens it, and lends what it holds to the function that prints what is asked for.
 use crate::command_line::ListRequest;
 use crate::ending::Ending;
 use crate::fault::Fault;
@@ -7,10 +7,15 @@ use crate::log::{print_history, print_log};
 use crate::show::{print_mail, print_version};
 use crate::verify::{Verified, verify};
 use mr_fold::open;
+use mr_itemset::SparingKnowledge;
+use mr_replica::Replica;
 use mr_version::Version;
 use std::fs::File;
 use std::io::{self, BufWriter, Write};
 use std::rt::Files;
+
+/// What a folder holds.
+type FolderReplica = Replica<SparingKnowledge>;
 
 /// `ls`: lists the mail of a folder.
 pub fn list_mails<R: Files<File = File> + Print + AllocGlobal + Clone + Drop>(
@@ -18,9 +23,16 @@ pub fn list_mails<R: Files<File = File> + Print + AllocGlobal + Clone + Drop>(
     request: &ListRequest,
 ) -> Result<Ending, Fault> {
     let folder = open(rt, request.folder)?;
+    list_held(rt, request, folder.kept.replica())
+}
+
+fn list_held<R: Files<File = File> + Print + AllocGlobal>(
+    rt: &R,
+    request: &ListRequest,
+    replica: &FolderReplica,
+) -> Result<Ending, Fault> {
     let mut output = BufWriter::new(rt.alloc(), io::writer(rt))?;
     let end = if request.ends_in_zero { "\0" } else { "\n" };
-    let replica = folder.kept.replica();
     print_list(
         rt,
         request.folder,
@@ -39,8 +51,17 @@ pub fn show_version<R: Files<File = File> + Print + AllocGlobal + Clone + Drop>(
     version: Version,
 ) -> Result<Ending, Fault> {
     let folder = open(rt, root)?;
+    show_held(rt, root, folder.kept.replica(), version)
+}
+
+fn show_held<R: Files<File = File> + Print + AllocGlobal>(
+    rt: &R,
+    root: &str,
+    replica: &FolderReplica,
+    version: Version,
+) -> Result<Ending, Fault> {
     let mut output = BufWriter::new(rt.alloc(), io::writer(rt))?;
-    print_version(rt, root, folder.kept.replica(), version, &mut output)?;
+    print_version(rt, root, replica, version, &mut output)?;
     flush(&mut output)
 }
 
@@ -51,8 +72,17 @@ pub fn export_mail<R: Files<File = File> + Print + AllocGlobal + Clone + Drop>(
     version: Version,
 ) -> Result<Ending, Fault> {
     let folder = open(rt, root)?;
+    export_held(rt, root, folder.kept.replica(), version)
+}
+
+fn export_held<R: Files<File = File> + Print + AllocGlobal>(
+    rt: &R,
+    root: &str,
+    replica: &FolderReplica,
+    version: Version,
+) -> Result<Ending, Fault> {
     let mut output = io::writer(rt);
-    print_mail(rt, root, folder.kept.replica(), version, &mut output)?;
+    print_mail(rt, root, replica, version, &mut output)?;
     flush(&mut output)
 }
 
@@ -62,8 +92,12 @@ pub fn log_events<R: Files<File = File> + Print + AllocGlobal + Clone + Drop>(
     root: &str,
 ) -> Result<Ending, Fault> {
     let folder = open(rt, root)?;
+    log_held(rt, folder.kept.replica())
+}
+
+fn log_held<R: Print + AllocGlobal>(rt: &R, replica: &FolderReplica) -> Result<Ending, Fault> {
     let mut output = BufWriter::new(rt.alloc(), io::writer(rt))?;
-    print_log(rt.alloc(), folder.kept.replica(), &mut output)?;
+    print_log(rt.alloc(), replica, &mut output)?;
     flush(&mut output)
 }
 
@@ -74,8 +108,16 @@ pub fn log_history<R: Files<File = File> + Print + AllocGlobal + Clone + Drop>(
     version: Version,
 ) -> Result<Ending, Fault> {
     let folder = open(rt, root)?;
+    log_held_of(rt, folder.kept.replica(), version)
+}
+
+fn log_held_of<R: Print + AllocGlobal>(
+    rt: &R,
+    replica: &FolderReplica,
+    version: Version,
+) -> Result<Ending, Fault> {
     let mut output = BufWriter::new(rt.alloc(), io::writer(rt))?;
-    print_history(rt.alloc(), folder.kept.replica(), version, &mut output)?;
+    print_history(rt.alloc(), replica, version, &mut output)?;
     flush(&mut output)
 }
 
@@ -85,9 +127,22 @@ pub fn verify_files<R: Files<File = File> + Print + Eprint + AllocGlobal + Clone
     root: &str,
 ) -> Result<Ending, Fault> {
     let folder = open(rt, root)?;
+    verify_held(rt, root, folder.kept.replica())
+}
+
+fn verify_held<R: Files<File = File> + Print + Eprint + AllocGlobal>(
+    rt: &R,
+    root: &str,
+    replica: &FolderReplica,
+) -> Result<Ending, Fault> {
     let mut output = BufWriter::new(rt.alloc(), io::writer(rt))?;
-    let verified = verify(rt, root, folder.kept.replica(), &mut output)?;
+    let verified = verify(rt, root, replica, &mut output)?;
     flush(&mut output)?;
+    tell_verified(rt, verified)
+}
+
+/// Tells how many files are as they should be.
+fn tell_verified<R: Eprint>(rt: &R, verified: Verified) -> Result<Ending, Fault> {
     let Verified {
         whole,
         missing,

@@ -23,13 +23,30 @@ where
     let RenewRequest { folder, id, filter } = request;
     check_made(rt, folder)?;
     let _lock = locked_log(rt, folder)?;
-    let old = told_log(rt, folder)?;
-    check_unused(rt, folder, &old, id)?;
+    renew_locked(rt, folder, id, filter)
+}
+
+/// The same, once the log is locked.
+fn renew_locked<R>(rt: &R, root: &str, id: Author, filter: Option<Filter>) -> Result<Ending, Fault>
+where
+    R: Files<File = File> + RandomSource + Eprint + AllocGlobal + Clone + Drop,
+{
+    let old = told_log(rt, root)?;
+    check_unused(rt, root, &old, id)?;
     let filter = filter_for(rt.alloc(), filter, &old)?;
-    let kept = begun(rt, folder, id, filter)?;
-    let number = keep_aside(rt, folder)?;
-    put_in_place(rt, folder)?;
-    tell_renewed(rt, &kept, number)?;
+    let kept = begun(rt, root, id, filter)?;
+    put_begun(rt, root, &kept)
+}
+
+/// Puts the log of the new replica in the place of the old one, which is kept, and tells so.
+fn put_begun<R: Files<File = File> + Eprint + AllocGlobal>(
+    rt: &R,
+    root: &str,
+    kept: &Kept,
+) -> Result<Ending, Fault> {
+    let number = keep_aside(rt, root)?;
+    put_in_place(rt, root)?;
+    tell_renewed(rt, kept, number)?;
     Ok(Ending::Done)
 }
 

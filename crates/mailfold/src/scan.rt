@@ -15,7 +15,15 @@ pub fn scan_folder<R: Files<File = File> + Eprint + AllocGlobal + Clone + Drop>(
     request: ScanRequest,
 ) -> Result<Ending, Fault> {
     let mut folder = open(rt, request.folder)?;
-    let Settled { tally, passed_over } = scanned(&mut folder, request)?;
+    scan_opened(rt, &mut folder, request)
+}
+
+fn scan_opened<R: Files<File = File> + Eprint + AllocGlobal + Clone + Drop>(
+    rt: &R,
+    folder: &mut OpenFolder<R>,
+    request: ScanRequest,
+) -> Result<Ending, Fault> {
+    let Settled { tally, passed_over } = scanned(folder, request)?;
     tell_passed_over(rt, &passed_over)?;
     eprintln!(rt; "{tally}")?;
     warn_of_full_log(rt, folder.kept.replica())?;

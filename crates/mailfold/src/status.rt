@@ -21,11 +21,19 @@ pub fn print_status<R: Files<File = File> + Print + Eprint + AllocGlobal + Clone
     is_short: bool,
 ) -> Result<Ending, Fault> {
     let mut folder = open(rt, root)?;
-    let plan = plan_text(rt, &mut folder)?;
+    print_opened(rt, &mut folder, is_short)
+}
+
+fn print_opened<R: Files<File = File> + Print + Eprint + AllocGlobal + Clone + Drop>(
+    rt: &R,
+    folder: &mut OpenFolder<R>,
+    is_short: bool,
+) -> Result<Ending, Fault> {
+    let plan = plan_text(rt, folder)?;
     let text = if is_short {
         short_text(rt.alloc(), folder.kept.replica(), plan.as_str())?
     } else {
-        long_text(rt.alloc(), &folder, plan.as_str())?
+        long_text(rt.alloc(), folder, plan.as_str())?
     };
     let text = text.as_str();
     print!(rt; "{text}").map_err(Fault::Output)?;

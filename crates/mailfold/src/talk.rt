@@ -153,8 +153,22 @@ where
     let output = BufWriter::with_capacity(rt.alloc(), STREAM_BYTES, io::writer(rt))?;
     let mut line = Line::new(rt.alloc(), input, output);
     let now = seconds(rt)?;
+    Ok(talk_on(folder, &mut line, role, &wanted, now))
+}
+
+/// Talks for the folder over a line at this time, and gives it back.
+fn talk_on<R, I: Read + Drop, O: Write + Drop>(
+    folder: OpenFolder<R>,
+    line: &mut Line<I, O>,
+    role: Role,
+    wanted: &BTreeSet<Digest>,
+    now: u64,
+) -> (OpenFolder<R>, Talked)
+where
+    R: Files<File = File> + AllocGlobal + Clone + Drop,
+{
     let (mut host, aside) = host_of(folder);
-    let fault = talk_over(aside.alloc, &mut line, &mut host, role, &wanted);
+    let fault = talk_over(aside.alloc, line, &mut host, role, wanted);
     let meeting = host.met(now);
     let (folder, summary) = folder_of(host, aside);
     let talked = Talked {
@@ -162,7 +176,7 @@ where
         meeting,
         fault,
     };
-    Ok((folder, talked))
+    (folder, talked)
 }
 
 /// The folder as it talks.
