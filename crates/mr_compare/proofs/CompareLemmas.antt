@@ -58,7 +58,7 @@ count_is mails i acts shown count end known same is = is ∙ ap (count_of delete
 
 -- ---- where no merge is due
 
-unmerged_or : (is_due : Bool) (held : Option ViewParts) (act : Act) → is_due ≡ false → merge_or is_due held act ≡ act
+pub unmerged_or : (is_due : Bool) (held : Option ViewParts) (act : Act) → is_due ≡ false → merge_or is_due held act ≡ act
 unmerged_or is_due None act h = refl
 unmerged_or is_due (Some held) act h = ap (λ (b : Bool). cond b (Edit held) act) h
 

@@ -1,6 +1,6 @@
 -- values by their keys, pair by pair
 use Rattle.std.proofs.Common.{◌≡◌, Bool, true, false, cond, List, [], ◌∷◌, ◌++◌, map, filter, Option, Some, None, refl, ap, sym, ◌∙◌}
-use Rattle.std.specs.Cmp.{IsTotalOrder}
+use Rattle.std.specs.Cmp.{IsTotalOrder, tied_itself}
 use Rattle.std.specs.declared.cmp.Ordering.{Ordering}
 use Rattle.std.specs.declared.cmp.Ordering.TheVariants.{Less, Equal, Greater}
 use Rattle.std.specs.Ordering.{is_eq}
@@ -17,20 +17,51 @@ alike {K} {X} {R} total x y same (e ∷ es) =
     ap (λ (o : Ordering). cond (is_eq o) (Some e.1) (lookup (λ k. is_eq (R x k)) es)) (total.congr x y e.0 same)
     ∙ ap (λ (r : Option X). cond (is_eq (R y e.0)) (Some e.1) r) (alike total x y same es)
 
--- a key is taken out, and put in again with one value more
-pub put_more : {K V : Type 0} {R : K → K → Ordering} → IsTotalOrder R → (old mid new : List (K × Vec V)) (key : K) (value : V) (more : Vec V) → more.items ≡ values_at R old key ++ value ∷ [] →
+-- a key is taken out, and put in again
+pub put_again : {K V : Type 0} (R : K → K → Ordering) (old mid new : List (K × Vec V)) (key : K) (more : Vec V) →
     ((q : K) → lookup (λ own. is_eq (R q own)) mid ≡ cond (is_eq (R key q)) None (lookup (λ own. is_eq (R q own)) old)) →
     ((q : K) → lookup (λ own. is_eq (R q own)) new ≡ cond (is_eq (R key q)) (Some more) (lookup (λ own. is_eq (R q own)) mid)) →
-    (q : K) → values_at R new q ≡ cond (is_eq (R key q)) (values_at R old q ++ value ∷ []) (values_at R old q)
-put_more {K} {V} {R} total old mid new key value more is taken put q = ap items_of (put q) ∙ cases (R key q) refl
+    (q : K) → values_at R new q ≡ cond (is_eq (R key q)) more.items (values_at R old q)
+put_again {K} {V} R old mid new key more taken put q = ap items_of (put q) ∙ cases (is_eq (R key q)) (taken q)
   where
-    others : (o : Ordering) → R key q ≡ o → is_eq o ≡ false → lookup (λ own. is_eq (R q own)) mid ≡ lookup (λ own. is_eq (R q own)) old
-    others o e not = taken q ∙ ap (λ (c : Ordering). cond (is_eq c) None (lookup (λ own. is_eq (R q own)) old)) e ∙ ap (λ (b : Bool). cond b None (lookup (λ own. is_eq (R q own)) old)) not
+    cases : (b : Bool) → lookup (λ own. is_eq (R q own)) mid ≡ cond b None (lookup (λ own. is_eq (R q own)) old)
+        → items_of (cond b (Some more) (lookup (λ own. is_eq (R q own)) mid)) ≡ cond b more.items (values_at R old q)
+    cases true e = refl
+    cases false e = ap items_of e
 
-    cases : (o : Ordering) → R key q ≡ o → items_of (cond (is_eq o) (Some more) (lookup (λ own. is_eq (R q own)) mid)) ≡ cond (is_eq o) (values_at R old q ++ value ∷ []) (values_at R old q)
-    cases Less e = ap items_of (others Less e refl)
-    cases Equal e = is ∙ ap (λ (r : Option (Vec V)). items_of r ++ value ∷ []) (alike total key q e old)
-    cases Greater e = ap items_of (others Greater e refl)
+-- a key that isn't there is put in with one value
+pub put_first : {K V : Type 0} {R : K → K → Ordering} → IsTotalOrder R → (old new : List (K × Vec V)) (key : K) (value : V) (one : Vec V) → one.items ≡ value ∷ [] →
+    lookup (λ own. is_eq (R key own)) old ≡ None →
+    ((q : K) → lookup (λ own. is_eq (R q own)) new ≡ cond (is_eq (R key q)) (Some one) (lookup (λ own. is_eq (R q own)) old)) →
+    (q : K) → values_at R new q ≡ cond (is_eq (R key q)) (values_at R old q ++ value ∷ []) (values_at R old q)
+put_first {K} {V} {R} total old new key value one is absent put q = ap items_of (put q) ∙ cases (R key q) refl
+  where
+    cases : (o : Ordering) → R key q ≡ o → items_of (cond (is_eq o) (Some one) (lookup (λ own. is_eq (R q own)) old)) ≡ cond (is_eq o) (values_at R old q ++ value ∷ []) (values_at R old q)
+    cases Less e = refl
+    cases Equal e = is ∙ ap (λ (r : Option (Vec V)). items_of r ++ value ∷ []) (sym absent ∙ alike total key q e old)
+    cases Greater e = refl
+
+-- a key that is there gets one value, and then those from before in front of it
+pub put_more : {K V : Type 0} {R : K → K → Ordering} → IsTotalOrder R → (old mid new : List (K × Vec V)) (key : K) (value : V) (one before : Vec V) → one.items ≡ value ∷ [] →
+    lookup (λ own. is_eq (R key own)) old ≡ Some before →
+    ((q : K) → lookup (λ own. is_eq (R q own)) mid ≡ cond (is_eq (R key q)) (Some one) (lookup (λ own. is_eq (R q own)) old)) →
+    ((q : K) → values_at R new q ≡ cond (is_eq (R key q)) (before.items ++ values_at R mid key) (values_at R mid q)) →
+    (q : K) → values_at R new q ≡ cond (is_eq (R key q)) (values_at R old q ++ value ∷ []) (values_at R old q)
+put_more {K} {V} {R} total old mid new key value one before is present put behind q = behind q ∙ cases (R key q) refl
+  where
+    self : is_eq (R key key) ≡ true
+    self = ap is_eq (tied_itself total key)
+
+    own : values_at R mid key ≡ value ∷ []
+    own = ap items_of (put key) ∙ ap (λ (b : Bool). items_of (cond b (Some one) (lookup (λ k. is_eq (R key k)) old))) self ∙ is
+
+    others : (o : Ordering) → R key q ≡ o → is_eq o ≡ false → values_at R mid q ≡ values_at R old q
+    others o e not = ap items_of (put q) ∙ ap (λ (c : Ordering). items_of (cond (is_eq c) (Some one) (lookup (λ k. is_eq (R q k)) old))) e ∙ ap (λ (b : Bool). items_of (cond b (Some one) (lookup (λ k. is_eq (R q k)) old))) not
+
+    cases : (o : Ordering) → R key q ≡ o → cond (is_eq o) (before.items ++ values_at R mid key) (values_at R mid q) ≡ cond (is_eq o) (values_at R old q ++ value ∷ []) (values_at R old q)
+    cases Less e = others Less e refl
+    cases Equal e = ap (λ (vs : List V). before.items ++ vs) own ∙ ap (λ (r : Option (Vec V)). items_of r ++ value ∷ []) (sym present ∙ alike total key q e old)
+    cases Greater e = others Greater e refl
 
 -- a filter of one pair more
 kept_if : {K V : Type 0} (b : Bool) (p : K × V) (front : List (K × V)) → map (λ (x : K × V). x.1) (front ++ cond b (p ∷ []) []) ≡ cond b (map (λ (x : K × V). x.1) front ++ p.1 ∷ []) (map (λ (x : K × V). x.1) front)

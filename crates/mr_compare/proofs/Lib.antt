@@ -6,3 +6,4 @@ pub mod NoteLaws
 pub mod CompareLemmas
 pub mod BelievedLemmas
 pub mod JoiningLemmas
+pub mod UndecidedLemmas

@@ -4,6 +4,7 @@ pub mod Held
 pub mod Tally
 pub mod Compare
 pub mod Sides
+pub mod Undecided
 pub mod Joining
 pub mod MailsLeft
 pub mod Shown

@@ -12,6 +12,7 @@ use Rattle.mr_compare.specs.Note.{note_bytes}
 use Rattle.mr_compare.specs.Left.{item_cards, last_told, is_told}
 use Rattle.mr_compare.specs.Compare.{act_for, told_for, due_acts, deletions}
 use Rattle.mr_compare.specs.Sides.{are_same, left_of_held}
+use Rattle.mr_compare.specs.Undecided.{is_undecided, first_undecided}
 use Rattle.mr_compare.specs.Joining.{together, lowest, standing_of, mail_of}
 use Rattle.mr_compare.specs.MailsLeft.{news_told, cards_told, left_mail}
 
@@ -126,6 +127,34 @@ unheld_row = refl
 
 pub undue_row : map told_for (standing (Some inbox) (Some inbox) (Some inbox) true true false ∷ standing (Some inbox) (Some inbox) (Some work) true true false ∷ []) ≡ Agree ∷ Follow ∷ []
 undue_row = refl
+
+-- ---- what isn't decided
+
+abbrev read_inbox : ViewParts
+read_inbox = record { labels = codes "inbox" ∷ []; flags = 1 }
+
+-- moved here and read elsewhere: one listing isn't enough to tell the move, and it can't wait
+pub undecided_row : map is_undecided (standing (Some inbox) (Some work) (Some read_inbox) true false false ∷ standing (Some inbox) (Some work) (Some read_inbox) true true false ∷ []) ≡ true ∷ false ∷ []
+undecided_row = refl
+
+-- moved here alone: the move waits, unless a merge is due
+pub waiting_row : map is_undecided (standing (Some inbox) (Some work) (Some inbox) true false false ∷ to_merge (standing (Some inbox) (Some work) (Some inbox) true false false) ∷ []) ≡ false ∷ true ∷ []
+waiting_row = refl
+
+-- removed here alone likewise; what has no file here was not removed
+pub waiting_removal_row : map is_undecided (standing (Some inbox) None (Some inbox) true false false ∷ to_merge (standing (Some inbox) None (Some inbox) true false false) ∷ to_merge (standing (Some inbox) None (Some inbox) false false false) ∷ []) ≡ false ∷ true ∷ false ∷ []
+waiting_removal_row = refl
+
+-- removed here and moved elsewhere, it follows; so does what only moved elsewhere; what is read here and moved elsewhere is told
+pub decided_row : map is_undecided (standing (Some inbox) None (Some work) true false false ∷ standing (Some inbox) (Some inbox) (Some work) true false false ∷ standing (Some inbox) (Some read_inbox) (Some work) true false false ∷ []) ≡ false ∷ false ∷ false ∷ []
+decided_row = refl
+
+-- the second of two is the first one
+pub first_undecided_row : first_undecided (standing (Some inbox) (Some work) (Some inbox) true false false ∷ record (standing (Some inbox) (Some work) (Some read_inbox) true false false) { digest = codes "e" } ∷ []) ≡ Some (codes "e")
+first_undecided_row = refl
+
+pub none_undecided_row : first_undecided (standing (Some inbox) (Some work) (Some inbox) true false false ∷ []) ≡ None
+none_undecided_row = refl
 
 -- ---- sides
 

@@ -154,7 +154,7 @@ fn believed_edit(mail: &Standing, view: View) -> Act
 }
 
 /// Whether the view has each folder that is held.
-fn keeps_folders(held: Option<&View>, view: &View) -> bool
+pub(crate) fn keeps_folders(held: Option<&View>, view: &View) -> bool
     ensures { result ≡ specs.keeps_folders (option_copied held.entry) view.now }
 {
     match held {

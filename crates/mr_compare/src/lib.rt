@@ -5,8 +5,9 @@
 //! replica's heads and push-outs say ([`held_of`], [`gathered`], [`item_view`]). A mail may be several items, each of which may have
 //! several heads: these are joined ([`item_standings`], [`held_mails`], [`left_mails`]). Brought together ([`standings_of_held`],
 //! and [`standings_of_unheld`] of [`unheld_digests`]) the three say what is done for each mail ([`acts_of`]): a change or a deletion is
-//! told, heads are merged, or files follow. How far the feed was shown is noted in the replica's journal ([`FolderNote`]). It is all
-//! over values and slices: nothing here touches a disk or a replica.
+//! told, heads are merged, or files follow. A change that a listing tells, and that isn't certain, waits, or else nothing is done
+//! ([`first_undecided`]). How far the feed was shown is noted in the replica's journal ([`FolderNote`]). It is all over values and
+//! slices: nothing here touches a disk or a replica.
 //!
 //! ```
 //! let heads = gathered(alloc, held_of(alloc, replica.heads(), replica.push_outs())?.heads)?;
@@ -26,6 +27,7 @@ mod mails_left;
 mod note;
 mod sides;
 mod tally;
+mod undecided;
 
 pub use compare::{CompareFault, MailAct, Standing, acts_of, believed_act, most_deletions};
 pub use gather::gathered;
@@ -36,3 +38,4 @@ pub use mails_left::{left_mails, unheld_digests};
 pub use note::{FolderNote, MEETING_KIND, Meeting, SHOWN_KIND, Shown, read_note};
 pub use sides::{HeldMail, LeftMail, Sides, standings_of_held, standings_of_unheld};
 pub use tally::{Tally, tally_of};
+pub use undecided::first_undecided;

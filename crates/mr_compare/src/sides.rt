@@ -161,7 +161,7 @@ fn copied(alloc: Global, view: Option<&View>) -> Result<Option<View>, AllocError
 }
 
 /// Whether two listings say the same of a mail.
-fn are_same(view: Option<&View>, before: Option<&View>) -> bool
+pub(crate) fn are_same(view: Option<&View>, before: Option<&View>) -> bool
     ensures { result ≡ specs.are_same (option_copied view.entry) (option_copied before.entry) }
 {
     match (view, before) {

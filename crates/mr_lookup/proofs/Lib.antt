@@ -2,3 +2,5 @@
 pub mod HighestLemmas
 pub mod DigestLemmas
 pub mod ToldLemmas
+pub mod VersionLemmas
+pub mod Rows

@@ -44,7 +44,7 @@ told_after-more id issued (x ∷ es) e =
 
 -- ---- the first message
 
-abbrev or_else : Option Mail → Option Mail → Option Mail
+abbrev pub or_else : Option Mail → Option Mail → Option Mail
 or_else None more = more
 or_else (Some first) more = Some first
 
@@ -52,7 +52,7 @@ or_if : (b : Bool) (m : Mail) (first more : Option Mail) → cond b (Some m) (or
 or_if true m first more = refl
 or_if false m first more = refl
 
-message_at-append : (ps qs : List (Name × Mail)) (item : Name) → message_at (ps ++ qs) item ≡ or_else (message_at ps item) (message_at qs item)
+pub message_at-append : (ps qs : List (Name × Mail)) (item : Name) → message_at (ps ++ qs) item ≡ or_else (message_at ps item) (message_at qs item)
 message_at-append [] qs item = refl
 message_at-append (p ∷ ps) qs item =
     ap (λ (o : Option Mail). cond (name_eq item p.0) (Some p.1) o) (message_at-append ps qs item) ∙ or_if (name_eq item p.0) p.1 (message_at ps item) (message_at qs item)

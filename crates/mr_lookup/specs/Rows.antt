@@ -5,7 +5,10 @@ use Rattle.mr_mail.specs.Mail.{Mail}
 use Rattle.mr_madewith.specs.Revision.{Rev}
 use Rattle.mr_lookup.specs.Ancestors.{newest_common}
 use Rattle.mr_lookup.specs.Highest.{HasNone, higher_of}
-use Rattle.mr_lookup.specs.Told.{first_told}
+use Rattle.mr_lookup.specs.History.{history_of}
+use Rattle.mr_lookup.specs.Told.{first_told, message_at}
+use Rattle.mr_lookup.specs.Versions.{TellsNone, newer_of, next_name, versions_told}
+use Rattle.mr_replica.specs.declared.event.Event.{Event}
 use Rattle.mr_replica.specs.declared.event.Event.TheVariants.{Create, Edit, Receive, Retire}
 use Rattle.mr_wire.specs.declared.frame.Body.TheVariants.{Item}
 use Rattle.mr_wire.specs.declared.frame.Frame.TheVariants as frame
@@ -61,3 +64,69 @@ edit_row m n = refl
 -- of what was received of an item the first counts
 pub received_row : (h : Header) (m n : Mail) → first_told 5 (Receive (frame.Record (record { header = h; body = Item (rev 0 1 0 m) })) ∷ Receive (frame.Record (record { header = h; body = Item (rev 1 1 1 n) })) ∷ []) first ≡ Some m
 received_row h m n = refl
+
+-- ---- what a log tells of versions
+
+abbrev name : (author counter : ℕ) → Name
+name author counter = record { author = author; counter = counter }
+
+-- an Item of this version was received
+abbrev got : Header → (author counter : ℕ) → Mail → Event
+got h author counter message = Receive (frame.Record (record { header = h; body = Item (rev author counter 1 message) }))
+
+-- a Create and an Edit issue the versions of a replica, and each version is told with the message that the event has
+pub told_row : (h : Header) (m n : Mail) → versions_told 5 (Create m ∷ Retire ∷ got h 1 4 n ∷ Edit (name 5 1 ∷ []) n ∷ []) ≡ (name 5 1, m) ∷ (name 1 4, n) ∷ (name 5 2, n) ∷ []
+told_row h m n = refl
+
+-- of two messages that were received of a version the first counts
+pub first_message_row : (h : Header) (m n : Mail) → message_at (versions_told 5 (got h 1 4 m ∷ got h 1 4 n ∷ [])) (name 1 4) ≡ Some m
+first_message_row h m n = refl
+
+-- and none of a version that no event tells
+pub untold_row : (h : Header) (m : Mail) → message_at (versions_told 5 (Create m ∷ got h 1 4 m ∷ [])) (name 5 2) ≡ None
+untold_row h m = refl
+
+-- no version is issued behind the last counter
+pub last_counter_row : next_name 5 999999 ≡ Some (name 5 1000000)
+last_counter_row = refl
+
+pub behind_last_row : next_name 5 1000000 ≡ None
+behind_last_row = refl
+
+-- where nothing is told, nothing of any author is
+pub tells_nothing_row : TellsNone [] 5
+tells_nothing_row version of_author = refl
+
+-- of two versions of an author that with the higher counter is newer, whichever is told first
+pub newer_row : (m n : Mail) → newer_of 5 (Some (name 5 3, m)) (Some (name 5 4, n)) ≡ Some (name 5 4, n)
+newer_row m n = refl
+
+pub older_row : (m n : Mail) → newer_of 5 (Some (name 5 4, m)) (Some (name 5 3, n)) ≡ Some (name 5 4, m)
+older_row m n = refl
+
+-- a version that is told again keeps its first message
+pub same_counter_row : (m n : Mail) → newer_of 5 (Some (name 5 4, m)) (Some (name 5 4, n)) ≡ Some (name 5 4, m)
+same_counter_row m n = refl
+
+-- and another author's doesn't count
+pub other_author_row : (m n : Mail) → newer_of 5 (Some (name 5 4, m)) (Some (name 6 9, n)) ≡ Some (name 5 4, m)
+other_author_row m n = refl
+
+-- ---- the past of an item
+
+-- replica 0 makes 0.1 and changes it to 0.2, takes 1.1 of that item, and merges the two to 0.4; 0.3 is another item
+pub past_row : (h : Header) (m n : Mail) → history_of 0 first (Create m ∷ Edit (first ∷ []) n ∷ Create n ∷ got h 1 1 m ∷ Edit (name 1 1 ∷ name 0 2 ∷ []) n ∷ [])
+    ≡ (first, m) ∷ (name 0 2, n) ∷ (name 1 1, m) ∷ (name 0 4, n) ∷ []
+past_row h m n = refl
+
+-- and of that one there is no other version
+pub other_item_row : (h : Header) (m n : Mail) → history_of 0 (name 0 3) (Create m ∷ Edit (first ∷ []) n ∷ Create n ∷ got h 1 1 m ∷ []) ≡ (name 0 3, n) ∷ []
+other_item_row h m n = refl
+
+-- a version that is received again stands once, with its first message
+pub again_row : (h : Header) (m n : Mail) → history_of 0 first (got h 1 1 m ∷ got h 1 2 n ∷ got h 1 1 n ∷ []) ≡ (name 1 1, m) ∷ (name 1 2, n) ∷ []
+again_row h m n = refl
+
+-- nothing was told of the item
+pub no_past_row : (h : Header) (m n : Mail) → history_of 5 first (Create m ∷ Edit (name 5 1 ∷ []) n ∷ []) ≡ []
+no_past_row h m n = refl

@@ -1,13 +1,16 @@
-//! A digest that tells what is known.
+//! Digests of what is known, and of a message.
 ghost use Rattle.std.specs.Prelude.{◌≡◌, ◌≢◌, ◌∷◌, [], Err, IfOk, IsErrOf, OnOk, string_bytes};
 ghost use Rattle.sha2.specs.Sha256.{sha256};
 ghost use Rattle.mr_concise.specs.Fragments.{knowledge_text};
+ghost use Rattle.mr_wire.specs.Spelling.{message_bytes};
 ghost use Rattle.mr_replica.specs.Fragments.{HasHoleyPart};
 ghost use Rattle.mr_lookup.specs.Digest.{IsDigestOf};
 
 use mr_concise::{ConciseVector, knowledge_text};
 use mr_forms::{FormFault, Fragment, Knowledge};
+use mr_mail::Message;
 use mr_replica::Replica;
+use mr_wire::parts::{message_len, put_message};
 use sha2::{Digest, Sha256};
 use std::alloc::{AllocError, Global};
 
@@ -35,6 +38,18 @@ pub fn knowledge_digest<K: Knowledge>(
         Ok(digest) => Ok(digest),
         Err(_) => Err(FormFault::OutOfMemory),
     }
+}
+
+/// The SHA-256 (FIPS 180-4) of the message as frames and logs spell it, by [`mr_wire::parts::put_message`]: equal messages have one
+/// digest.
+///
+/// It costs the message's bytes, once.
+pub fn message_digest(alloc: Global, message: &Message) -> Result<[u8; 32], AllocError>
+    ensures { IfOk result (λ digest. digest ≡ sha256 (message_bytes message.now)) }
+{
+    let mut bytes = Vec::with_capacity(alloc, message_len(message))?;
+    put_message(&mut bytes, message)?;
+    Ok(Sha256::digest(bytes.as_slice()))
 }
 
 /// The digest of the text of the fragments, one after the other.

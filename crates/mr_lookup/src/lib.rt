@@ -6,6 +6,10 @@
 //! [`newest_common_ancestors`], and one who has to know what an item was that is held no more asks for the first message that the log
 //! tells of it, by [`told_messages`].
 //!
+//! A log tells more than is held: the message of a version by [`told_message`], the newest version of an author by
+//! [`newest_told`], and all versions of an item by [`history`]. Two who have a message of one version compare its
+//! [`message_digest`].
+//!
 //! ```
 //! let mine = knowledge_digest(alloc, &replica)?;
 //! if mine == theirs {
@@ -20,10 +24,14 @@ mod ancestors;
 mod asked;
 mod digest;
 mod highest;
+mod past;
 mod told;
+mod versions;
 
 pub use ancestors::newest_common_ancestors;
 pub use asked::asked_of;
-pub use digest::knowledge_digest;
+pub use digest::{knowledge_digest, message_digest};
 pub use highest::highest_counter;
+pub use past::history;
 pub use told::told_messages;
+pub use versions::{ToldVersion, newest_told, told_message};

@@ -47,7 +47,7 @@ fn told_in_log(
 }
 
 /// How many versions were issued after the event, where so many were before.
-fn issued_then(issued: usize, event: &Event) -> usize
+pub(crate) fn issued_then(issued: usize, event: &Event) -> usize
     requires { issued + 1 < 2 ^ 64 }
     ensures { result ≡ issued_with issued event.now }
 {

@@ -1,0 +1,62 @@
+-- a change that was seen is told, or waits, unless its mail is undecided
+use Rattle.std.proofs.Common.{◌≡◌, ◌⊎◌, inl, inr, Bool, true, false, cond, List, [], ◌∷◌, Option, Some, None, All, refl, sym, ap, find, ◌∙◌}
+use Rattle.std.proofs.lemmas.List.Elements.{All-from_recursion}
+use Rattle.std.specs.List.{AllByRecursion}
+use Rattle.std.specs.Prelude.{if◌then◌else◌, not, ◌&&◌, ◌||◌, option_map}
+use Rattle.mr_maildir.specs.View.{ViewParts}
+use Rattle.mr_maildir.specs.Act.{act_of}
+use Rattle.mr_maildir.specs.declared.act.Act.TheVariants.{Agree, Edit, Delete}
+use Rattle.mr_maildir.proofs.ViewLemmas.{view_eq-Decides}
+use Rattle.mr_compare.specs.declared.compare.Standing.{Standing}
+use Rattle.mr_compare.specs.Compare.{keeps_folders, believed, merged_act, merge_or, told_for}
+use Rattle.mr_compare.specs.Sides.{are_same}
+use Rattle.mr_compare.specs.Undecided.{is_doubted, has_news, is_undecided, first_undecided, Waits, IsHeeded}
+use Rattle.mr_compare.proofs.CompareLemmas.{unmerged_or}
+
+same_is : (a b : Option ViewParts) → are_same a b ≡ true → b ≡ a
+same_is None None h = refl
+same_is None (Some b) h = cc
+same_is (Some a) None h = cc
+same_is (Some a) (Some b) h = ap Some (sym ((view_eq-Decides a b).0 h))
+
+-- without news a mail of which nothing is told waits
+waits : (mail : Standing) → has_news mail ≡ false → told_for mail ≡ merge_or mail.is_merge_due mail.held Agree → Waits mail
+waits mail news told = go mail.is_merge_due (are_same mail.left mail.held) refl refl news
+  where
+    go : (due same : Bool) → mail.is_merge_due ≡ due → are_same mail.left mail.held ≡ same → (due || not same) ≡ false → Waits mail
+    go true same d s h = cc
+    go false false d s h = cc
+    go false true d s h = record { undone = told ∙ unmerged_or mail.is_merge_due mail.held Agree d; as_left = same_is mail.left mail.held s }
+
+edit_heeded : (mail : Standing) → is_undecided mail ≡ false → (view : ViewParts) → act_of mail.left mail.seen mail.held ≡ Edit view → (told_for mail ≡ Edit view) ⊎ Waits mail
+edit_heeded mail decided view e =
+    go (mail.is_certain || keeps_folders mail.held view) (ap (λ act. merged_act mail (believed mail act)) e) (ap (λ act. is_doubted mail act && has_news mail) (sym e) ∙ decided)
+  where
+    go : (sure : Bool) → told_for mail ≡ merged_act mail (if sure then Edit view else Agree) → (not sure && has_news mail) ≡ false → (told_for mail ≡ Edit view) ⊎ Waits mail
+    go true told h = inl told
+    go false told h = inr (waits mail h told)
+
+removal_heeded : (mail : Standing) → is_undecided mail ≡ false → act_of mail.left mail.seen mail.held ≡ Delete → mail.has_file ≡ true → (told_for mail ≡ Delete) ⊎ Waits mail
+removal_heeded mail decided e file =
+    go mail.is_certain
+    (ap (λ act. merged_act mail (believed mail act)) e ∙ ap (λ here. merged_act mail (if here && mail.is_certain then Delete else Agree)) file)
+    (ap (λ here. here && not mail.is_certain && has_news mail) (sym file) ∙ ap (λ act. is_doubted mail act && has_news mail) (sym e) ∙ decided)
+  where
+    go : (sure : Bool) → told_for mail ≡ merged_act mail (if sure then Delete else Agree) → (not sure && has_news mail) ≡ false → (told_for mail ≡ Delete) ⊎ Waits mail
+    go true told h = inl told
+    go false told h = inr (waits mail h told)
+
+heeded : (mail : Standing) → is_undecided mail ≡ false → IsHeeded mail
+heeded mail decided = record { edit = edit_heeded mail decided; removal = removal_heeded mail decided }
+
+each_heeded : (mails : List Standing) → first_undecided mails ≡ None → AllByRecursion IsHeeded mails
+each_heeded [] h = tt
+each_heeded (mail ∷ mails) h = go (λ none. each_heeded mails none) (is_undecided mail) refl h
+  where
+    go : (first_undecided mails ≡ None → AllByRecursion IsHeeded mails) → (found : Bool) → is_undecided mail ≡ found → option_map (λ (m : Standing). m.digest) (cond found (Some mail) (find is_undecided mails)) ≡ None → AllByRecursion IsHeeded (mail ∷ mails)
+    go more true is none = cc
+    go more false is none = (heeded mail is, more none)
+
+-- where none was found each is heeded
+pub all_heeded : (mails : List Standing) → first_undecided mails ≡ None → All IsHeeded mails
+all_heeded mails none = All-from_recursion IsHeeded mails (each_heeded mails none)

@@ -1,0 +1,13 @@
+use Rattle.std.proofs.Common.{List, sym, ◌∙◌}
+use Rattle.std.proofs.lemmas.List.{at_drop_all}
+use Rattle.mr_replica.specs.declared.event.Event.{Event}
+use Rattle.mr_lookup.specs.Versions.{versions_after, versions_told}
+use Rattle.mr_lookup.proofs.VersionLemmas.{found, newest_of}
+use Rattle.mr_lookup.proofs.versions.newest_in.Goals as goal
+
+pub returns : goal.returns
+returns c =
+    let log = c.args.log.now in
+    let loop = c.loop-event in
+    found (versions_told c.args.id log) c.args.author loop.newest
+    (sym (at_drop_all (λ (es : List Event). newest_of c.args.author loop.newest (versions_after c.args.id loop.issued es)) log loop.event-index c.loop-event-test.false) ∙ loop.invariant.left)
