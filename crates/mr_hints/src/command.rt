@@ -1,9 +1,11 @@
 //! Commands: their names and how each is written.
+use crate::Commands;
 use crate::shown::shown;
 use std::alloc::{AllocError, Global};
 use strsim::levenshtein;
 
-/// How each command is written. Brackets are round what may be missing, bars between what may stand there.
+/// How each command is written, those of a live script first. Brackets are round what may be missing, bars between what
+/// may stand there.
 const USAGES: [&str; 27] = [
     "replica ID LIMIT CAP FILTER",
     "create R LABELS FLAGS DATE FROM [SUBJECT]",
@@ -33,6 +35,9 @@ const USAGES: [&str; 27] = [
     "index R LABEL",
     "unseen R",
 ];
+
+/// How many of them are those of a live script.
+const LIVE_USAGES: usize = 3;
 
 /// How many letters a name may be away from a command's to be taken for a slip.
 const MOST_SLIPS: usize = 2;
@@ -72,21 +77,45 @@ pub(crate) fn usage_of(line: &str) -> Option<&'static str> {
     None
 }
 
-/// What is wrong with a name that is no command's.
-pub(crate) fn unknown_command(alloc: Global, line: &str) -> Result<String, AllocError> {
+/// What is wrong with a name that is none of these commands'.
+pub(crate) fn unknown_command(
+    alloc: Global,
+    commands: Commands,
+    line: &str,
+) -> Result<String, AllocError> {
     let name = first_word(line);
     if let Some(hint) = known_slip(name) {
         return String::from_str(alloc, hint);
     }
-    if let Some(command) = in_small_letters(name) {
+    let usages = usages_of(commands);
+    if let Some(command) = in_small_letters(usages, name) {
         return format!(in alloc; "commands are in small letters: write {command}");
     }
     let name_shown = shown(alloc, name)?;
-    match nearest(alloc, name)? {
+    match nearest(alloc, usages, name)? {
         Some(command) => {
             format!(in alloc; "{name_shown} is no command; the nearest one is {command}")
         }
-        None => { format!(in alloc; "{name_shown} is no command; mailrep run --help lists them") }
+        None => {
+            let rest = where_listed(commands);
+            format!(in alloc; "{name_shown} is no command{rest}")
+        }
+    }
+}
+
+/// How each of these commands is written.
+fn usages_of(commands: Commands) -> &'static [&'static str] {
+    match commands {
+        Commands::All => &USAGES,
+        Commands::Live => &USAGES[..LIVE_USAGES],
+    }
+}
+
+/// Which commands there are, behind the words that a name is none.
+fn where_listed(commands: Commands) -> &'static str {
+    match commands {
+        Commands::All => "; mailrep run --help lists them",
+        Commands::Live => " of a live script, which has replica, create and edit alone",
     }
 }
 
@@ -119,9 +148,9 @@ fn is_one_of(name: &str, names: &[&str]) -> bool {
     names.iter().any(|other| other.eq_ignore_ascii_case(name))
 }
 
-/// The command of this name, if it is one's but for capitals.
-fn in_small_letters(name: &str) -> Option<&'static str> {
-    for usage in USAGES {
+/// The command of this name, if it is that of one of these usages but for capitals.
+fn in_small_letters(usages: &[&'static str], name: &str) -> Option<&'static str> {
+    for usage in usages {
         let command = first_word(usage);
         if command.eq_ignore_ascii_case(name) {
             return Some(command);
@@ -130,14 +159,18 @@ fn in_small_letters(name: &str) -> Option<&'static str> {
     None
 }
 
-/// The command that is the fewest letters away, if two lead to it at most. Of several the first.
-fn nearest(alloc: Global, name: &str) -> Result<Option<&'static str>, AllocError> {
+/// The command of these usages that is the fewest letters away, if two lead to it at most. Of several the first.
+fn nearest(
+    alloc: Global,
+    usages: &[&'static str],
+    name: &str,
+) -> Result<Option<&'static str>, AllocError> {
     let mut found = None;
     let mut fewest = MOST_SLIPS + 1;
     if name.len() > LONGEST_NAME {
         return Ok(None);
     }
-    for usage in USAGES {
+    for usage in usages {
         let command = first_word(usage);
         let slips = levenshtein(alloc, name, command)?;
         if slips < fewest {

@@ -4,9 +4,9 @@
 //! written, for a person who reads it. It is no part of what a script answers.
 //!
 //! ```text
-//! hint(alloc, "heads 64", LineFault::BadNumber)
+//! hint(alloc, Commands::All, "heads 64", LineFault::BadNumber)
 //!     "64" is no replica's id: write 0 to 63, without leading zeros
-//! hint(alloc, "Heads 0", LineFault::UnknownCommand)
+//! hint(alloc, Commands::All, "Heads 0", LineFault::UnknownCommand)
 //!     commands are in small letters: write heads
 //! ```
 #![tactic(auto)]
@@ -28,17 +28,31 @@ use mr_filter::{MAX_CLAUSE_LABELS, MAX_CLAUSES};
 use std::alloc::{AllocError, Global};
 use word::wrong_word;
 
-/// What is wrong with the line that has this fault, and what is right, in one line of text without a line feed. There
-/// is one for each fault but `OutOfMemory`. A line that is no text is given as an empty one.
+/// The commands that a script may have.
+#[derive(Clone, Copy, Debug, PartialEq, Eq)]
+pub enum Commands {
+    /// All that there are.
+    All,
+    /// Those of a script of two nodes: `replica`, `create` and `edit`.
+    Live,
+}
+
+/// What is wrong with the line that has this fault, of a script that may have these commands, and what is right, in one line of
+/// text without a line feed. There is one for each fault but `OutOfMemory`. A line that is no text is given as an empty one.
 ///
 /// What it shows of the line is quoted, with escapes for what can't be printed, and cut after 40 characters. It takes
 /// time in proportion to the line's bytes.
-pub fn hint(alloc: Global, line: &str, fault: LineFault) -> Result<Option<String>, AllocError>
+pub fn hint(
+    alloc: Global,
+    commands: Commands,
+    line: &str,
+    fault: LineFault,
+) -> Result<Option<String>, AllocError>
     ensures { IfOk result (λ hint. IsSome hint ↔ (fault ≢ OutOfMemory)) }
 {
     match fault {
         LineFault::OutOfMemory => Ok(None),
-        LineFault::UnknownCommand => Ok(Some(unknown_command(alloc, line)?)),
+        LineFault::UnknownCommand => Ok(Some(unknown_command(alloc, commands, line)?)),
         LineFault::WrongWords => Ok(Some(wrong_words(alloc, line)?)),
         LineFault::BadNumber | LineFault::BadVersion | LineFault::BadFlags | LineFault::BadDate =>
             Ok(Some(wrong_word(alloc, line, fault)?)),

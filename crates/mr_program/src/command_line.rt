@@ -239,13 +239,22 @@ pub struct Run<'a> {
     pub names: Vec<&'a str>,
 }
 
+/// How the two replicas of a script are run as nodes.
+#[derive(Clone, Copy)]
+pub struct Live<'a> {
+    /// The name of the script's file; none is standard input.
+    pub file: Option<&'a str>,
+    /// Whether a hint follows a fault.
+    pub has_hints: bool,
+}
+
 /// What a command line asks for.
 #[derive(Drop)]
 pub enum Request<'a> {
     /// To run a script.
     Run(Run<'a>),
-    /// To run the two replicas of the script in this file as nodes; none is standard input.
-    Live(Option<&'a str>),
+    /// To run the two replicas of a script as nodes.
+    Live(Live<'a>),
     /// To tell what the frame says that this word spells.
     Frame(&'a str),
 }
@@ -265,7 +274,10 @@ pub fn read_command_line<'a>(alloc: Global, words: &'a [String]) -> Result<Reque
         return Ok(Request::Run(run_of(draw, Wanted::Picture, names)));
     }
     if let Some(live) = matches.subcommand_matches("live") {
-        return Ok(Request::Live(file_of(live)));
+        return Ok(Request::Live(Live {
+            file: file_of(live),
+            has_hints: live.get_flag(HINTS),
+        }));
     }
     Ok(Request::Run(plain_run(alloc)))
 }
@@ -331,11 +343,18 @@ fn with_script_words<'a>(alloc: Global, command: Command<'a>) -> Result<Command<
         .long(SPARING)
         .help("For real mail at any size: it keeps holes few, so `know` may print another text")
         .action(ArgAction::SetTrue);
-    let hints = Arg::new(alloc, HINTS)
+    command
+        .arg(file_word(alloc))?
+        .arg(sparing)?
+        .arg(hints_option(alloc))
+}
+
+/// The option that asks for hints.
+fn hints_option<'a>(alloc: Global) -> Arg<'a> {
+    Arg::new(alloc, HINTS)
         .long(HINTS)
         .help("Behind a fault, a second line says what was wrong and what is right")
-        .action(ArgAction::SetTrue);
-    command.arg(file_word(alloc))?.arg(sparing)?.arg(hints)
+        .action(ArgAction::SetTrue)
 }
 
 /// The word that names a script's file.
@@ -349,7 +368,8 @@ fn live_command<'a>(alloc: Global) -> Result<Command<'a>, AllocError> {
         .about("Runs the two replicas of a script as nodes, and prints what they hold")
         .long_about(LIVE_ABOUT)
         .after_long_help(LIVE_AFTER)
-        .arg(file_word(alloc))
+        .arg(file_word(alloc))?
+        .arg(hints_option(alloc))
 }
 
 /// The subcommand `frame`.

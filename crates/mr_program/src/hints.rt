@@ -1,15 +1,16 @@
 //! What follows a fault on standard error for a person: a line that says what was wrong, and what is right.
 use crate::ending::{Ending, Fault};
 use crate::remembering::Remembering;
-use mr_hints::hint;
+use mr_hints::{Commands, hint};
 use mr_script::{LineFault, ScriptFault};
 use std::alloc::Global;
 use std::io::{ErrorKind, Read, Write};
 
-/// Tells a hint behind what ended a script, which was read from the file of this name or from standard input, if there is
-/// such a hint and memory for it.
+/// Tells a hint behind what ended a script that may have these commands, which was read from the file of this name or from
+/// standard input, if there is such a hint and memory for it.
 pub(crate) fn tell_hint<R: Read, E: Write>(
     alloc: Global,
+    commands: Commands,
     name: Option<&str>,
     reader: &Remembering<R>,
     ending: Ending,
@@ -17,7 +18,7 @@ pub(crate) fn tell_hint<R: Read, E: Write>(
 ) {
     match ending {
         Ending::Stopped(Fault::Script(ScriptFault::Line { line, fault })) => {
-            tell_hint_of_line(alloc, reader.line(line), fault, errors)
+            tell_hint_of_line(alloc, commands, reader.line(line), fault, errors)
         }
         Ending::Stopped(Fault::Script(ScriptFault::Read)) => {
             tell_reason(name, reader.failure().unwrap_or(ErrorKind::Other), errors)
@@ -29,6 +30,7 @@ pub(crate) fn tell_hint<R: Read, E: Write>(
 /// Tells what was wrong with a line and what is right.
 fn tell_hint_of_line<E: Write>(
     alloc: Global,
+    commands: Commands,
     line: Option<&str>,
     fault: LineFault,
     errors: &mut E,
@@ -36,7 +38,7 @@ fn tell_hint_of_line<E: Write>(
     let Some(line) = line else {
         return;
     };
-    if let Ok(Some(text)) = hint(alloc, line, fault) {
+    if let Ok(Some(text)) = hint(alloc, commands, line, fault) {
         let _ = writeln!(errors, "hint: {text}");
     }
 }

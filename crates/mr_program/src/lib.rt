@@ -83,10 +83,10 @@ where
     match read_command_line(rt.alloc(), words.as_slice()) {
         Ok(Request::Frame(hex)) => tell_frame(rt.alloc(), hex, &mut output, errors),
         Ok(Request::Run(how)) => run_named(rt.alloc(), &how, scripts, input, &mut output, errors),
-        Ok(Request::Live(file)) => live_named(
+        Ok(Request::Live(how)) => live_named(
             threads,
             rt.alloc(),
-            file,
+            how,
             scripts,
             input,
             &mut output,
@@ -134,17 +134,22 @@ fn run_named<S: Scripts, I: Read + Drop, W: Write, E: Write>(
     };
     match scripts.open_script(name) {
         Ok(script) => run_reader(alloc, how, script, output, errors),
-        Err(error) => leave_unopened(how, error.kind(), errors),
+        Err(error) => leave_unopened(how.file, how.has_hints, error.kind(), errors),
     }
 }
 
-/// Tells that the script can't be opened, with why where hints are wanted, and gives the exit status.
-fn leave_unopened<E: Write>(how: &Run, kind: io::ErrorKind, errors: &mut E) -> u8
+/// Tells that the script of this name can't be opened, with why where hints are wanted, and gives the exit status.
+fn leave_unopened<E: Write>(
+    file: Option<&str>,
+    has_hints: bool,
+    kind: io::ErrorKind,
+    errors: &mut E,
+) -> u8
     ensures { result ≤ 2 }
 {
     let status = leave(Ending::Stopped(Fault::Script(ScriptFault::Read)), errors);
-    if how.has_hints {
-        tell_reason(how.file, kind, errors);
+    if has_hints {
+        tell_reason(file, kind, errors);
     }
     status
 }

@@ -2,13 +2,16 @@
 ghost use Rattle.std.specs.Prelude.{◌≤◌, IfSome};
 ghost use Rattle.mr_program.specs.Printing.{EndsLive};
 
-use crate::Scripts;
-use crate::ending::{Ending, Fault, ending_of_live, leave, leave_behind};
+use crate::command_line::Live;
+use crate::ending::{Ending, ending_of_live, leave_behind};
+use crate::hints::tell_hint;
 use crate::piped::Piped;
+use crate::remembering::Remembering;
+use crate::{Scripts, leave_unopened};
 use mr_forms::OneValue;
+use mr_hints::Commands;
 use mr_itemset::ItemKnowledge;
 use mr_live::run_live;
-use mr_script::ScriptFault;
 use std::alloc::Global;
 use std::io::{Read, Write};
 use std::sync::Wait;
@@ -18,7 +21,7 @@ use std::thread::Threads;
 pub(crate) fn live_named<T, S, I, W, E>(
     threads: &T,
     alloc: Global,
-    file: Option<&str>,
+    how: Live,
     scripts: &S,
     input: I,
     output: &mut Piped<W>,
@@ -32,12 +35,12 @@ where
     E: Write,
     ensures { result ≤ 2 }
 {
-    let Some(name) = file else {
-        return live_reader(threads, alloc, input, output, errors);
+    let Some(name) = how.file else {
+        return live_reader(threads, alloc, how, input, output, errors);
     };
     match scripts.open_script(name) {
-        Ok(script) => live_reader(threads, alloc, script, output, errors),
-        Err(_) => leave(Ending::Stopped(Fault::Script(ScriptFault::Read)), errors),
+        Ok(script) => live_reader(threads, alloc, how, script, output, errors),
+        Err(error) => leave_unopened(how.file, how.has_hints, error.kind(), errors),
     }
 }
 
@@ -45,6 +48,7 @@ where
 fn live_reader<T, I, W, E>(
     threads: &T,
     alloc: Global,
+    how: Live,
     reader: I,
     output: &mut Piped<W>,
     errors: &mut E,
@@ -56,8 +60,39 @@ where
     E: Write,
     ensures { result ≤ 2 }
 {
+    if how.has_hints {
+        return live_with_hints(threads, alloc, how.file, reader, output, errors);
+    }
     let ending = end_live::<ItemKnowledge, T, I, Piped<W>>(threads, alloc, reader, output);
     leave_behind(ending, output, errors)
+}
+
+/// Runs the live script that the reader gives, tells a hint behind its fault, and gives the exit status.
+fn live_with_hints<T, I, W, E>(
+    threads: &T,
+    alloc: Global,
+    file: Option<&str>,
+    reader: I,
+    output: &mut Piped<W>,
+    errors: &mut E,
+) -> u8
+where
+    T: Threads + Wait + Sync + Send + Copy,
+    I: Read + Drop,
+    W: Write,
+    E: Write,
+    ensures { result ≤ 2 }
+{
+    let mut reader = Remembering::new(alloc, reader);
+    let ending = end_live::<ItemKnowledge, T, &mut Remembering<I>, Piped<W>>(
+        threads,
+        alloc,
+        &mut reader,
+        output,
+    );
+    let status = leave_behind(ending, output, errors);
+    tell_hint(alloc, Commands::Live, file, &reader, ending, errors);
+    status
 }
 
 /// Runs the live script that the reader gives over a form of knowledge, prints what its replicas hold, and says how the program

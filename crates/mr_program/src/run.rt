@@ -13,6 +13,7 @@ use crate::piped::Piped;
 use crate::remembering::Remembering;
 use clap::error::ErrorKind;
 use mr_forms::Knowledge;
+use mr_hints::Commands;
 use mr_itemset::{ItemKnowledge, SparingKnowledge};
 use mr_script::{frame_text, run_script};
 use std::alloc::Global;
@@ -50,7 +51,7 @@ fn run_with_hints<R: Read + Drop, W: Write, E: Write>(
     let mut reader = Remembering::new(alloc, reader);
     let (ending, has_holes) = end_noticing(alloc, how, &mut reader, output);
     let status = leave_behind(ending, output, errors);
-    tell_hint(alloc, how.file, &reader, ending, errors);
+    tell_hint(alloc, Commands::All, how.file, &reader, ending, errors);
     if has_holes && matches!(how.form, Form::Items) {
         tell_of_sparing(errors);
     }
