@@ -29,8 +29,8 @@
  *
  * Every answer is MR_OK, which is 0, or one of the other codes, which are never 0: mr_code_text says each in words. The comment of a
  * call lists its codes; where several hold it answers the first of them. The calls that open a device, each event, mr_commit, and
- * mr_event, mr_conflicts, mr_heads_of, mr_sessions, mr_streams, mr_told_frame and mr_frame_claim may also answer MR_NO_MEMORY, and then
- * nothing has changed; the other calls want no memory.
+ * mr_event, mr_conflicts, mr_heads_of, mr_sessions, mr_streams, mr_highest, mr_check_peer, mr_told_frame and mr_frame_claim may also answer
+ * MR_NO_MEMORY, and then nothing has changed; the other calls want no memory.
  */
 #ifndef MAILREP_H
 #define MAILREP_H
@@ -45,7 +45,7 @@ extern "C" {
 /* The interface that this header is of. Its upper half changes where programs have to be built anew: where a call, a struct or the
  * meaning of a number changes or goes. Its lower half grows where calls or codes are added. A program runs with a library whose
  * mr_abi() has the same upper half and a lower half that is not below the header's. */
-#define MR_ABI UINT32_C(0x00010002)
+#define MR_ABI UINT32_C(0x00010003)
 
 /* What a call answers. Below 0x100 stand the codes of this interface; the others are a family, by its upper byte, and the number
  * that docs/API.md has in that family's table. */
@@ -134,7 +134,10 @@ extern "C" {
   CODE(MR_JOURNAL_TOO_LARGE, 0x905, "the file would be too large") \
   /* the heads of an item make no message together: MergeFault */ \
   CODE(MR_MERGE_CONTENTS_DIFFER, 0xa01, "the heads differ in more than labels and flags") \
-  CODE(MR_MERGE_TOO_MANY_LABELS, 0xa02, "more than 16 labels together")
+  CODE(MR_MERGE_TOO_MANY_LABELS, 0xa02, "more than 16 labels together") \
+  /* what another device tells doesn't go with this one: PeerFault */ \
+  CODE(MR_PEER_OLD_COPY, 0xb01, "an old copy: the other device knows more versions than this one gave") \
+  CODE(MR_PEER_OTHER_BIRTH, 0xb02, "the other device knows another file of this id")
 
 #define MR_CODE_NAME(name, number, text) name = number,
 enum { MR_CODES(MR_CODE_NAME) };
@@ -151,7 +154,8 @@ enum {
   MR_FAMILY_REFUSED = 7,
   MR_FAMILY_OPEN = 8,
   MR_FAMILY_JOURNAL = 9,
-  MR_FAMILY_MERGE = 10
+  MR_FAMILY_MERGE = 10,
+  MR_FAMILY_PEER = 11
 };
 
 /* What mr_receive tells: what the record tells was new, or known; or it was the last one, and the session is closed. */
@@ -240,6 +244,12 @@ typedef struct mr_told {
   mr_version version; /* of MR_ISSUED the version, and else zeros */
 } mr_told;
 
+/* A file of a device, as another device knows it: the device's id, and what was drawn when the file was begun. */
+typedef struct mr_born {
+  uint32_t author;
+  uint8_t birth[16]; /* MR_BIRTH bytes */
+} mr_born;
+
 /* ---- life */
 
 /* The interface of the library: compare it with MR_ABI, as is said there. */
@@ -314,6 +324,19 @@ int32_t mr_told_at(mr_device *device, size_t place, mr_told *told);
 
 /* Its frame, and none (length 0) of MR_ISSUED. MR_CLOSED, MR_FAILED, MR_OTHER_DEVICE, MR_UNSETTLED, MR_NOT_THERE, MR_TOO_SMALL. */
 int32_t mr_told_frame(mr_device *device, size_t place, uint8_t *to, size_t room, size_t *len);
+
+/* What was drawn when the file was begun: MR_BIRTH bytes. MR_CLOSED, MR_FAILED, MR_OTHER_DEVICE, MR_UNSETTLED, MR_TOO_SMALL. */
+int32_t mr_birth(mr_device *device, uint8_t *to, size_t room, size_t *len);
+
+/* Whether what another device tells goes with this one: ask before you send it anything or take anything of it. highest: of each author
+ * that it tells of the highest version that it knows, as mr_highest finds it there; what it tells of this device's id is what counts.
+ * births: the files that it has met, each with its device's id, as your program has noted of each device that it met. MR_PEER_OLD_COPY
+ * where the other knows a version of this id that this device hasn't given: so this is an older state of the device, which would give
+ * that version to another message. MR_PEER_OTHER_BIRTH where it has met another file of this id. Then send and take nothing, and begin
+ * anew under another id. MR_OK proves nothing of the other device: an old copy that meets only those who know no more of it than it does
+ * isn't noticed. MR_CLOSED, MR_FAILED, MR_OTHER_DEVICE, MR_UNSETTLED, MR_VERSION_.. of a version, MR_VERSION_NO_SUCH_AUTHOR of a file,
+ * MR_PEER_OLD_COPY, MR_PEER_OTHER_BIRTH. */
+int32_t mr_check_peer(mr_device *device, const mr_version *highest, size_t highest_len, const mr_born *births, size_t births_len);
 
 /* ---- events: each answers MR_CLOSED first; at an error nothing has changed */
 
@@ -407,6 +430,11 @@ int32_t mr_label(mr_device *device, mr_version version, size_t place, uint8_t *t
 
 /* Whether a version of an item is known, held or not: 1 or 0. MR_VERSION_.. of the item, then of the version. */
 int32_t mr_knows(mr_device *device, mr_version item, mr_version version, uint32_t *is_known);
+
+/* The highest counter of an author's versions that the device knows, of whatever item: tell it that author when you meet it, for
+ * mr_check_peer there. Of the device's own id it is that of the last version that it gave. It costs all that is known.
+ * MR_VERSION_NO_SUCH_AUTHOR, MR_REFUSED_TOO_MANY_HOLES, MR_NOT_THERE where it knows none. */
+int32_t mr_highest(mr_device *device, uint32_t author, uint32_t *counter);
 
 /* Whether it has retired: 1 or 0. */
 int32_t mr_is_retired(mr_device *device, uint32_t *is_retired);

@@ -144,10 +144,23 @@ static void create(kept *k, const char *subject) {
   MUST(mr_create(&k->device, TEXT("ann@example.org"), TEXT(subject), TEXT("See you there."), TEXT("inbox"), 0, 20000, &unused));
 }
 
+/* What `other` tells of `k` when they meet: the highest version of it that it knows, if it knows one, and the birth that it noted. */
+static void check_peer(kept *k, kept *other) {
+  mr_version known = {k->id, 0};
+  mr_born met = {k->id, {0}};
+  size_t knows = mr_highest(&other->device, k->id, &known.counter) == MR_OK;
+  MUST(mr_birth(&k->device, met.birth, MR_BIRTH, &len));
+  MUST(mr_check_peer(&k->device, &known, knows, &met, 1));
+  known.counter += 9;
+  if (mr_check_peer(&k->device, &known, 1, &met, 1) != MR_PEER_OLD_COPY) exit((puts("an old copy isn't noticed"), 1));
+}
+
 /* `to` asks, and `from` gives record by record. Each frame is in its giver's file before it is handed out. */
 static void sync_from(kept *to, kept *from) {
   uint64_t unused, stream;
   uint32_t outcome = MR_TOOK;
+  check_peer(to, from);
+  check_peer(from, to);
   MUST(mr_pull(&to->device, &unused));
   commit(to);
   MUST(mr_answer(&from->device, bytes, len, &stream));

@@ -4,6 +4,7 @@ pub mod Conflicts
 pub mod Given
 pub mod Held
 pub mod Opened
+pub mod Peer
 pub mod Rows
 pub mod Shown
 pub mod ShownKept

@@ -16,6 +16,7 @@ use Rattle.mr_c.specs.Code.{code_of, failure_number}
 use Rattle.mr_c.specs.Given.{IsFilled, IsGiven, at_place}
 use Rattle.mr_c.specs.Shown.{known, of_version, part_of, shown_card}
 use Rattle.mr_c.specs.Opened.{ClosedOnly}
+use Rattle.mr_c.specs.Peer.{FindsCounter, birth_at}
 use Rattle.mr_c.specs.ShownKept.{act_at, is_well, shown_act, shown_reply, written}
 use Rattle.mr_c.specs.declared.failure.Failure.TheVariants.{Closed, InUse, NotThere, Desk}
 
@@ -123,6 +124,16 @@ zero_is_unwell = refl
 
 pub acts_when_closed : act_at None 0 ≡ Err Closed
 acts_when_closed = refl
+
+-- ---- other devices
+
+pub birth_when_closed : birth_at None ≡ Err Closed
+birth_when_closed = refl
+
+pub none_found_when_closed : FindsCounter (Err Closed) 3 (Err Closed)
+none_found_when_closed = refl
+
+-- ---- opening
 
 -- an open one is not opened
 pub open_is_refused : (d : Device) → ClosedOnly (Some d) (Err InUse) (Some d)

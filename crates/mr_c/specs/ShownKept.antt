@@ -1,5 +1,5 @@
 -- what the host of a kept device does, and what it is handed out
-use Rattle.std.specs.Prelude.{◌≡◌, ◌==◌, not, ℕ, Bool, List, length, Option, Result, Ok, Err}
+use Rattle.std.specs.Prelude.{◌==◌, not, ℕ, Bool, List, length, Option, Result, Ok, Err}
 use Rattle.mr_outbox.specs.declared.act.Act.{Act}
 use Rattle.mr_outbox.specs.declared.act.Act.TheVariants.{Write, Cut, Sync}
 use Rattle.mr_replica.specs.declared.event.Reply.{Reply}

@@ -22,4 +22,5 @@ mod loose;
 mod messages;
 mod open;
 mod opening;
+mod peer;
 mod places;

@@ -10,9 +10,9 @@ use std::alloc::Global;
 /// The number of this interface: its upper half changes where a program has to be built anew, its lower half where functions were added.
 #[unsafe(no_mangle)]
 pub extern "C" fn mr_abi() -> u32
-    ensures { result ≡ 65538 }
+    ensures { result ≡ 65539 }
 {
-    0x0001_0002
+    0x0001_0003
 }
 
 // Refuses an open handle, which stays as it is.

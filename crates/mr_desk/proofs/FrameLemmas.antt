@@ -7,7 +7,7 @@ use Rattle.mr_wire.specs.declared.frame.Frame.{Frame}
 use Rattle.mr_desk.specs.Fault.{Reads, of_wire}
 use Rattle.mr_desk.specs.Frames.{any_frame, frame_fault, BeginsFrame}
 use Rattle.mr_desk.specs.declared.fault.Fault.{Fault}
-use Rattle.mr_desk.specs.declared.fault.Fault.TheVariants.{OutOfMemory, NotText, BytesBehind, OtherFrame, Unsettled, Failed, OtherDevice, TooLarge, BadLength, NoConflict, Version, Message, Filter, Wire, Event, Replay, Refused, Open, Merge}
+use Rattle.mr_desk.specs.declared.fault.Fault.TheVariants.{OutOfMemory, NotText, BytesBehind, OtherFrame, Unsettled, Failed, OtherDevice, TooLarge, BadLength, NoConflict, Version, Message, Filter, Wire, Event, Replay, Refused, Open, Merge, Peer}
 
 -- the fault of what was decoded of so many bytes
 abbrev fault_at : (Frame → Option Fault) → ℕ → Result (Frame × ℕ) WireFault → Option Fault
@@ -39,6 +39,7 @@ reads-narrower X Y only bytes IsX IsY TooLarge h = narrower only bytes TooLarge 
 reads-narrower X Y only bytes IsX IsY BadLength h = narrower only bytes BadLength h
 reads-narrower X Y only bytes IsX IsY NoConflict h = narrower only bytes NoConflict h
 reads-narrower X Y only bytes IsX IsY (Merge f) h = narrower only bytes (Merge f) h
+reads-narrower X Y only bytes IsX IsY (Peer f) h = narrower only bytes (Peer f) h
 reads-narrower X Y only bytes IsX IsY (Open f) h = narrower only bytes (Open f) h
 reads-narrower X Y only bytes IsX IsY (Version f) h = narrower only bytes (Version f) h
 reads-narrower X Y only bytes IsX IsY (Message f) h = narrower only bytes (Message f) h

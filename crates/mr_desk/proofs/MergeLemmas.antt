@@ -15,7 +15,7 @@ use Rattle.mr_desk.specs.Merge.{IsMergeIn, IsMergeOf, IsTogether, edit_fault_ove
 use Rattle.mr_desk.specs.Version.{named_by, version_fault}
 use Rattle.mr_desk.specs.declared.call.VersionNumbers.{VersionNumbers}
 use Rattle.mr_desk.specs.declared.fault.Fault.{Fault}
-use Rattle.mr_desk.specs.declared.fault.Fault.TheVariants.{OutOfMemory, NotText, BytesBehind, OtherFrame, Unsettled, Failed, OtherDevice, TooLarge, BadLength, NoConflict, Version, Message, Filter, Wire, Event, Replay, Refused, Open, Merge}
+use Rattle.mr_desk.specs.declared.fault.Fault.TheVariants.{OutOfMemory, NotText, BytesBehind, OtherFrame, Unsettled, Failed, OtherDevice, TooLarge, BadLength, NoConflict, Version, Message, Filter, Wire, Event, Replay, Refused, Open, Merge, Peer}
 
 -- one fault is read of two things alike
 pub unread-same : {X Y : Type 0} (a b : Option Fault) (P : X → Type 0) (Q : Y → Type 0) (f : Fault) → a ≡ b → Reads (Unit {0}) a P (Err f) → Reads (Unit {0}) b Q (Err f)
@@ -31,6 +31,7 @@ unread-same a b P Q BadLength e is = sym e ∙ is
 unread-same a b P Q NoConflict e is = sym e ∙ is
 unread-same a b P Q (Open f) e is = sym e ∙ is
 unread-same a b P Q (Merge f) e is = sym e ∙ is
+unread-same a b P Q (Peer f) e is = sym e ∙ is
 unread-same a b P Q (Version f) e is = sym e ∙ is
 unread-same a b P Q (Message f) e is = sym e ∙ is
 unread-same a b P Q (Filter f) e is = sym e ∙ is

@@ -38,7 +38,7 @@ use Rattle.mr_desk.specs.declared.call.Call.{Call}
 use Rattle.mr_desk.specs.declared.call.Call.TheVariants.{Create, Edit, Retire, Pull, Receive, CutIn, Answer, Next, CutOut, Vouch, Release}
 use Rattle.mr_desk.specs.declared.call.Draft.{Draft}
 use Rattle.mr_desk.specs.declared.fault.Fault.{Fault}
-use Rattle.mr_desk.specs.declared.fault.Fault.TheVariants.{OutOfMemory, NotText, BytesBehind, OtherFrame, Unsettled, Failed, OtherDevice, TooLarge, BadLength, NoConflict, Version, Message, Filter, Wire, Event, Replay, Refused, Open, Merge}
+use Rattle.mr_desk.specs.declared.fault.Fault.TheVariants.{OutOfMemory, NotText, BytesBehind, OtherFrame, Unsettled, Failed, OtherDevice, TooLarge, BadLength, NoConflict, Version, Message, Filter, Wire, Event, Replay, Refused, Open, Merge, Peer}
 
 -- it is no refusal, nor a fault of keeping, nor that something waits
 abbrev IsUnrefused : Option Fault → Type 0
@@ -146,6 +146,7 @@ answers-wrong Wants wrong IsMeant un s BadLength is = (is, refl)
 answers-wrong Wants wrong IsMeant un s NoConflict is = (is, refl)
 answers-wrong Wants wrong IsMeant un s (Open f) is = (is, refl)
 answers-wrong Wants wrong IsMeant un s (Merge f) is = (is, refl)
+answers-wrong Wants wrong IsMeant un s (Peer f) is = (is, refl)
 answers-wrong Wants wrong IsMeant un s (Version f) is = (is, refl)
 answers-wrong Wants wrong IsMeant un s (Message f) is = (is, refl)
 answers-wrong Wants wrong IsMeant un s (Filter f) is = (is, refl)
@@ -183,6 +184,7 @@ kept-wrong Wants wrong IsMeant un h BadLength is = (is, stays h)
 kept-wrong Wants wrong IsMeant un h NoConflict is = (is, stays h)
 kept-wrong Wants wrong IsMeant un h (Open f) is = (is, stays h)
 kept-wrong Wants wrong IsMeant un h (Merge f) is = (is, stays h)
+kept-wrong Wants wrong IsMeant un h (Peer f) is = (is, stays h)
 kept-wrong Wants wrong IsMeant un h (Version f) is = (is, stays h)
 kept-wrong Wants wrong IsMeant un h (Message f) is = (is, stays h)
 kept-wrong Wants wrong IsMeant un h (Filter f) is = (is, stays h)
@@ -208,6 +210,7 @@ merges-kept-unread h item BadLength shown is = (shown, kept-wrong (Unit {0}) (me
 merges-kept-unread h item NoConflict shown is = (shown, kept-wrong (Unit {0}) (merge_fault_in (inside h) item) (IsMergeIn (inside h) item) (unrefused-merge (inside h) item) h NoConflict is)
 merges-kept-unread h item (Open f) shown is = (shown, kept-wrong (Unit {0}) (merge_fault_in (inside h) item) (IsMergeIn (inside h) item) (unrefused-merge (inside h) item) h (Open f) is)
 merges-kept-unread h item (Merge f) shown is = (shown, kept-wrong (Unit {0}) (merge_fault_in (inside h) item) (IsMergeIn (inside h) item) (unrefused-merge (inside h) item) h (Merge f) is)
+merges-kept-unread h item (Peer f) shown is = (shown, kept-wrong (Unit {0}) (merge_fault_in (inside h) item) (IsMergeIn (inside h) item) (unrefused-merge (inside h) item) h (Peer f) is)
 merges-kept-unread h item (Version f) shown is = (shown, kept-wrong (Unit {0}) (merge_fault_in (inside h) item) (IsMergeIn (inside h) item) (unrefused-merge (inside h) item) h (Version f) is)
 merges-kept-unread h item (Message f) shown is = (shown, kept-wrong (Unit {0}) (merge_fault_in (inside h) item) (IsMergeIn (inside h) item) (unrefused-merge (inside h) item) h (Message f) is)
 merges-kept-unread h item (Filter f) shown is = (shown, kept-wrong (Unit {0}) (merge_fault_in (inside h) item) (IsMergeIn (inside h) item) (unrefused-merge (inside h) item) h (Filter f) is)

@@ -9,7 +9,7 @@ use Rattle.mr_entry.specs.Fault.{event_fault_number as event_number}
 use Rattle.mr_replica.specs.Replay.{replay_fault_number}
 use Rattle.mr_replica.specs.Refusal.{refusal_number}
 use Rattle.mr_journal.specs.Fault.{fault_number as journal_number}
-use Rattle.mr_kept.specs.Fault.{open_fault_number}
+use Rattle.mr_kept.specs.Fault.{open_fault_number, peer_fault_number}
 use Rattle.mr_kept.specs.declared.fault.KeptFault.{KeptFault}
 use Rattle.mr_kept.specs.declared.fault.KeptFault.TheVariants as kept
 use Rattle.mr_kept.specs.declared.fault.OpenFault.{OpenFault}
@@ -27,7 +27,7 @@ use Rattle.mr_wire.specs.declared.fault.WireFault.TheVariants as wire
 use Rattle.mr_entry.specs.declared.event.fault.EventFault.{EventFault}
 use Rattle.mr_entry.specs.declared.event.fault.EventFault.TheVariants as event
 use Rattle.mr_desk.specs.declared.fault.Fault.{Fault}
-use Rattle.mr_desk.specs.declared.fault.Fault.TheVariants.{OutOfMemory, NotText, BytesBehind, OtherFrame, Unsettled, Failed, OtherDevice, TooLarge, BadLength, NoConflict, Version, Message, Filter, Wire, Event, Replay, Refused, Open, Merge}
+use Rattle.mr_desk.specs.declared.fault.Fault.TheVariants.{OutOfMemory, NotText, BytesBehind, OtherFrame, Unsettled, Failed, OtherDevice, TooLarge, BadLength, NoConflict, Version, Message, Filter, Wire, Event, Replay, Refused, Open, Merge, Peer}
 
 -- the number of a fault of a family, which numbers want of memory 0
 abbrev pub in_family : ℕ → ℕ → ℕ
@@ -69,6 +69,7 @@ fault_number (Replay fault) = in_family 6 (replay_fault_number fault)
 fault_number (Refused refusal) = in_family 7 (refusal_number refusal)
 fault_number (Open fault) = open_number fault
 fault_number (Merge fault) = in_family 10 (merge_number fault)
+fault_number (Peer fault) = in_family 11 (peer_fault_number fault)
 
 -- the faults of a message, a merge, a filter, a frame and an event as the desk's: where memory was wanting, that is all
 abbrev pub of_message : MessageFault → Fault

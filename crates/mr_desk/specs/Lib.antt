@@ -10,6 +10,7 @@ pub mod KeptOpening
 pub mod Log
 pub mod Merge
 pub mod Opening
+pub mod Peer
 pub mod Rows
 pub mod Serves
 pub mod Told

@@ -11,6 +11,7 @@ use Rattle.mr_version.specs.declared.fault.VersionFault.TheVariants.{NoSuchAutho
 use Rattle.mr_journal.specs.declared.fault.JournalFault.TheVariants as journal
 use Rattle.mr_kept.specs.declared.fault.KeptFault.TheVariants as kept
 use Rattle.mr_kept.specs.declared.fault.OpenFault.TheVariants as opens
+use Rattle.mr_kept.specs.declared.peer.PeerFault.TheVariants as peer
 use Rattle.mr_replica.specs.declared.event.Event.TheVariants as event
 use Rattle.mr_replica.specs.declared.event.Reply.TheVariants as reply
 use Rattle.mr_replica.specs.declared.replica.replay.ReplayFault.TheVariants.{BadLimit}
@@ -25,10 +26,13 @@ use Rattle.mr_desk.specs.Frames.{announced, any_frame, claim_by, frame_fault, on
 use Rattle.mr_desk.specs.Kept.{Gives}
 use Rattle.mr_desk.specs.KeptOpening.{given}
 use Rattle.mr_desk.specs.Merge.{last_under, said_together, unmerged}
+use Rattle.mr_desk.specs.Peer.{birth_of, births_fault, heard_fault, told_verdict}
 use Rattle.mr_desk.specs.Told.{frame_by, told_by}
 use Rattle.mr_desk.specs.Version.{first_version_fault, version_fault}
 use Rattle.mr_desk.specs.declared.call.VersionNumbers.{VersionNumbers}
-use Rattle.mr_desk.specs.declared.fault.Fault.TheVariants.{OutOfMemory, BytesBehind, OtherFrame, Failed, NoConflict, Wire, Refused, Open, Merge}
+use Rattle.mr_desk.specs.declared.device.Device.TheVariants as device
+use Rattle.mr_desk.specs.declared.fault.Fault.TheVariants.{OutOfMemory, BytesBehind, OtherFrame, Failed, NoConflict, Version, Wire, Refused, Open, Merge, Peer}
+use Rattle.mr_desk.specs.declared.peer.Born.{Born}
 use Rattle.mr_desk.specs.declared.reply.Told.TheVariants as told
 
 -- ---- faults
@@ -60,6 +64,9 @@ number_of_failed = refl
 pub number_of_contents : fault_number (Merge merge.ContentsDiffer) ≡ 2561
 number_of_contents = refl
 
+pub number_of_old_copy : fault_number (Peer peer.OldCopy) ≡ 2817
+number_of_old_copy = refl
+
 -- ---- versions by their numbers
 
 abbrev numbers : ℕ → ℕ → VersionNumbers
@@ -78,6 +85,30 @@ author_before_counter = refl
 -- the first of several that is none tells
 pub first_of_several : first_version_fault (numbers 0 1 ∷ numbers 1 0 ∷ numbers 64 1 ∷ []) ≡ Some BadVersion
 first_of_several = refl
+
+-- ---- what another replica tells
+
+abbrev born : ℕ → Born
+born author = record { author = author; birth = 7 ∷ [] }
+
+pub last_author : births_fault (born 0 ∷ born 63 ∷ []) ≡ None
+last_author = refl
+
+pub no_such_author : births_fault (born 0 ∷ born 64 ∷ born 1 ∷ []) ≡ Some NoSuchAuthor
+no_such_author = refl
+
+-- of versions and journals the versions come first
+pub versions_first : heard_fault (numbers 0 0 ∷ []) (born 64 ∷ []) ≡ Some (Version BadVersion)
+versions_first = refl
+
+pub nothing_heard : heard_fault [] [] ≡ None
+nothing_heard = refl
+
+pub told_old_copy : told_verdict (Ok (Err peer.OldCopy)) ≡ Err (Peer peer.OldCopy)
+told_old_copy = refl
+
+pub failed_has_no_birth : birth_of device.Failed ≡ Err Failed
+failed_has_no_birth = refl
 
 -- ---- labels
 

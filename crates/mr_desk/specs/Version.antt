@@ -1,5 +1,5 @@
 -- versions by their numbers
-use Rattle.std.specs.Prelude.{◌&&◌, not, nat_le, nat_lt, if◌then◌else◌, find, is_some, List, Option, Some, None}
+use Rattle.std.specs.Prelude.{◌&&◌, ℕ, Bool, not, nat_le, nat_lt, if◌then◌else◌, find, is_some, List, Option, Some, None}
 use Rattle.mr_version.specs.Name.{Name}
 use Rattle.mr_version.specs.declared.author.TheConstants.{AUTHORS}
 use Rattle.mr_version.specs.declared.version.TheConstants.{MAX_COUNTER}
@@ -13,6 +13,10 @@ numbers_of v = record { author = v.author; counter = v.counter }
 
 abbrev pub named_by : VersionNumbers → Name
 named_by n = record { author = n.author; counter = n.counter }
+
+-- the number of an author
+abbrev pub is_author : ℕ → Bool
+is_author n = nat_lt n AUTHORS
 
 -- why there is no version with these numbers: first its author, then its counter
 abbrev pub version_fault : VersionNumbers → Option VersionFault

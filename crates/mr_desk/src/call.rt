@@ -1,8 +1,19 @@
 //! What a desk is asked to do: an event, whose texts and frames are lent bytes.
-ghost use Rattle.std.specs.Prelude.{◌≡◌, None, Some, MatchResult};
-ghost use Rattle.mr_desk.specs.Version.{named_by, numbers_of, version_fault};
+ghost use Rattle.std.specs.Prelude.{◌≡◌, None, Some, MatchResult, true, false};
+ghost use Rattle.mr_version.specs.declared.fault.VersionFault.TheVariants.{NoSuchAuthor};
+ghost use Rattle.mr_desk.specs.Version.{is_author, named_by, numbers_of, version_fault};
 
 use mr_version::{Author, Version, VersionFault};
+
+/// The author with this number: `NoSuchAuthor` where it is above 63.
+pub(crate) fn author_of(number: u32) -> Result<Author, VersionFault>
+    ensures { MatchResult result (λ author. (author ≡ number) × (is_author number ≡ true)) (λ fault. (fault ≡ NoSuchAuthor) × (is_author number ≡ false)) }
+{
+    let Ok(id) = u16::try_from(number) else {
+        return Err(VersionFault::NoSuchAuthor);
+    };
+    Author::try_new(id)
+}
 
 /// A version by its numbers: its author's id, and its number among that author's.
 #[repr(C)]

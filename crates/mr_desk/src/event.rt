@@ -16,7 +16,7 @@ use std::alloc::Global;
 
 /// The versions with these numbers. `Version` with the fault of the first that names none; memory may run out before that
 /// is known.
-fn versions_of(alloc: Global, numbers: &[VersionNumbers]) -> Result<Vec<Version>, Fault>
+pub(crate) fn versions_of(alloc: Global, numbers: &[VersionNumbers]) -> Result<Vec<Version>, Fault>
     ensures { Reads (Unit {0}) (option_map fault.Version (first_version_fault numbers.now)) (λ versions. versions.items ≡ map named_by numbers.now) result }
 {
     let mut versions = Vec::new(alloc);

@@ -5,7 +5,7 @@ ghost use Rattle.mr_desk.specs.Fault.{fault_number, in_family, kept_number, open
 use mr_entry::event::EventFault;
 use mr_filter::FilterFault;
 use mr_hosted::HostedFault;
-use mr_kept::{KeptFault, OpenFault};
+use mr_kept::{KeptFault, OpenFault, PeerFault};
 use mr_mail::MessageFault;
 use mr_maildir::MergeFault;
 use mr_replica::{Refusal, ReplayFault};
@@ -74,13 +74,17 @@ pub enum Fault {
     /// The heads of an item make no message together.
     #[error(transparent)]
     Merge(MergeFault),
+    /// What another replica tells doesn't go with this one.
+    #[error(transparent)]
+    Peer(PeerFault),
 }
 
 impl Fault {
     /// The fault's number: 1 for want of memory, wherever it came; 4, 7 and 8 for a text, bytes behind a frame and another
     /// frame; 9 to 14 for the six that follow; and else 256 times the number of the family, from 1 in the order of the variants behind
     /// those, and the number that the family gives it. Of a file that isn't opened it is that of the fault which that carries: in the
-    /// families of filters, replays and refusals, and in family 9 where the journal is refused. Of merges the family is 10.
+    /// families of filters, replays and refusals, and in family 9 where the journal is refused. Of merges the family is 10, and
+    /// of other replicas 11.
     pub fn number(self) -> u16
         ensures { result ≡ fault_number self }
     {
@@ -104,6 +108,7 @@ impl Fault {
             Fault::Refused(refusal) => in_family(7, refusal.number()),
             Fault::Open(fault) => open_number(fault),
             Fault::Merge(fault) => in_family(10, fault.number()),
+            Fault::Peer(fault) => in_family(11, fault.number()),
         }
     }
 }

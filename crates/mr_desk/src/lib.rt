@@ -35,6 +35,7 @@ mod labels;
 mod log;
 mod merging;
 mod opening;
+mod peer;
 mod reply;
 
 pub use call::{Call, Draft, VersionNumbers};
@@ -45,4 +46,5 @@ pub use frames::{Claim, announced_len, claim_of};
 pub use kept::KeptDesk;
 pub use kept_opening::{begin_kept, open_kept};
 pub use log::event_bytes;
+pub use peer::{Born, highest_of};
 pub use reply::{Told, frame_by};

@@ -52,7 +52,8 @@ impl<K: Knowledge> Hosted<K> {
         !self.has_failed && acts.len() <= self.done
     }
 
-    fn may_show(&self) -> bool
+    /// Whether the replica is shown: all acts are done, none failed, and neither an event nor a note waits for a commit.
+    pub fn may_show(&self) -> bool
         ensures { result ≡ may_show self.now }
     {
         self.is_settled() && self.journaled.is_kept()

@@ -21,6 +21,7 @@ mod fault;
 mod hosted;
 mod notes;
 mod opening;
+mod peer;
 
 pub use fault::HostedFault;
 pub use hosted::Hosted;

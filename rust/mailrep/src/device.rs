@@ -430,6 +430,22 @@ impl Device {
         Ok(is_known == 1)
     }
 
+    /// The highest counter of an author's versions that the device knows, of whatever item, and `None` where it knows none: to be told
+    /// to that author, for [`KeptDevice::check_peer`](crate::KeptDevice::check_peer) there. Of its own id it is that of the last version
+    /// that it gave.
+    ///
+    /// # Errors
+    ///
+    /// `Version`; `Refused`, where what is known has too many holes.
+    pub fn highest(&mut self, author: u32) -> Result<Option<u32>> {
+        let mut counter = 0;
+        match answer(sys::mr_highest(&mut self.device, author, &mut counter)) {
+            Ok(()) => Ok(Some(counter)),
+            Err(Error::NotThere) => Ok(None),
+            Err(error) => Err(error),
+        }
+    }
+
     /// Whether it has retired.
     pub fn is_retired(&mut self) -> bool {
         let mut is_retired = 0;

@@ -46,6 +46,8 @@ pub enum Error {
     Journal(JournalFault),
     /// The heads of an item make no message together.
     Merge(MergeFault),
+    /// What another device tells doesn't go with this one: send it nothing and take nothing of it.
+    Peer(PeerFault),
     /// An answer that this crate doesn't know, as one of a later library, or that can't come of its calls.
     Unknown(i32),
 }
@@ -184,6 +186,12 @@ families! {
         ContentsDiffer = 1, "the heads differ in more than labels and flags";
         TooManyLabels = 2, "more than 16 labels together";
     }
+
+    /// Why what another device tells doesn't go with this one.
+    PeerFault {
+        OldCopy = 1, "an old copy: the other device knows more versions than this one gave";
+        OtherBirth = 2, "the other device knows another file of this id";
+    }
 }
 
 impl Error {
@@ -212,6 +220,7 @@ impl Error {
             8 => OpenFault::of(number).map(Error::Open),
             9 => JournalFault::of(number).map(Error::Journal),
             10 => MergeFault::of(number).map(Error::Merge),
+            11 => PeerFault::of(number).map(Error::Peer),
             _ => None,
         };
         known.unwrap_or(Error::Unknown(code))
@@ -241,6 +250,7 @@ impl fmt::Display for Error {
             Error::Open(fault) => fault.fmt(f),
             Error::Journal(fault) => fault.fmt(f),
             Error::Merge(fault) => fault.fmt(f),
+            Error::Peer(fault) => fault.fmt(f),
             Error::Unknown(code) => write!(f, "an answer of another interface, 0x{code:x}"),
         }
     }

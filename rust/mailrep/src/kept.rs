@@ -3,7 +3,7 @@
 use crate::device::Device;
 use crate::error::{Error, Result, answer};
 use crate::sys;
-use crate::values::{Change, Counts, Draft, Held, Message, Received, Version};
+use crate::values::{Born, Change, Counts, Draft, Held, Message, Received, Version};
 use std::fs::File;
 use std::io::{self, Read, Seek, SeekFrom};
 use std::{error, fmt};
@@ -288,6 +288,47 @@ impl<F: Storage> KeptDevice<F> {
         })
     }
 
+    /// What was drawn when the file was begun.
+    ///
+    /// # Errors
+    ///
+    /// `Unsettled` while an event waits for a commit; `Failed`.
+    pub fn birth(&mut self) -> Result<[u8; 16]> {
+        let (mut birth, mut len) = ([0; 16], 0);
+        // Safety: the buffer has this length.
+        answer(unsafe {
+            sys::mr_birth(
+                &mut self.device.device,
+                birth.as_mut_ptr(),
+                birth.len(),
+                &mut len,
+            )
+        })?;
+        Ok(birth)
+    }
+
+    /// Whether what another device tells goes with this one: the highest version that it knows of each author, as [`Shown::highest`]
+    /// finds it there, and the files that it has met. Ask before you send it anything or take anything of it.
+    ///
+    /// An `Ok` proves nothing of the other device: an old copy that meets only those who know no more of it than it does isn't noticed.
+    ///
+    /// # Errors
+    ///
+    /// `Unsettled` while an event waits for a commit; `Failed`; `Version`; then `Peer`, where this is an older state of its device, or
+    /// where another file was begun under its id.
+    pub fn check_peer(&mut self, highest: &[Version], births: &[Born]) -> Result<()> {
+        // Safety: the pointers are those of slices of these lengths.
+        answer(unsafe {
+            sys::mr_check_peer(
+                &mut self.device.device,
+                highest.as_ptr(),
+                highest.len(),
+                births.as_ptr(),
+                births.len(),
+            )
+        })
+    }
+
     /// What the device has, which is all in its file.
     ///
     /// # Errors
@@ -471,6 +512,15 @@ impl Shown<'_> {
     /// `Version`.
     pub fn knows(&mut self, item: Version, version: Version) -> Result<bool> {
         self.device.knows(item, version)
+    }
+
+    /// As [`Device::highest`].
+    ///
+    /// # Errors
+    ///
+    /// `Version`; `Refused`, where what is known has too many holes.
+    pub fn highest(&mut self, author: u32) -> Result<Option<u32>> {
+        self.device.highest(author)
     }
 
     /// As [`Device::is_retired`].

@@ -83,9 +83,11 @@ mod values;
 
 pub use device::Device;
 pub use error::{
-    Error, EventFault, FilterFault, JournalFault, MergeFault, MessageFault, OpenFault, Refusal,
-    ReplayFault, Result, VersionFault, WireFault,
+    Error, EventFault, FilterFault, JournalFault, MergeFault, MessageFault, OpenFault, PeerFault,
+    Refusal, ReplayFault, Result, VersionFault, WireFault,
 };
 pub use frames::{claim, frame_len};
 pub use kept::{HandedOut, KeptDevice, KeptError, Shown, Storage};
-pub use values::{Change, Claim, Counts, Draft, FrameKind, Held, Message, Received, Version, flag};
+pub use values::{
+    Born, Change, Claim, Counts, Draft, FrameKind, Held, Message, Received, Version, flag,
+};

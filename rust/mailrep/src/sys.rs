@@ -1,6 +1,6 @@
 //! The declarations of `mailrep.h`.
 
-use crate::{Change, Counts, Held, Version};
+use crate::{Born, Change, Counts, Held, Version};
 use std::ffi::c_void;
 
 /// `mr_device`: all zeros is closed.
@@ -63,7 +63,7 @@ pub const NOT_TEXT: i32 = 4;
 pub const TOO_SMALL: i32 = 5;
 
 /// The number of the interface that these declarations are of.
-pub const ABI: u32 = 0x0001_0002;
+pub const ABI: u32 = 0x0001_0003;
 
 #[rustfmt::skip]
 unsafe extern "C" {
@@ -90,6 +90,8 @@ unsafe extern "C" {
     pub safe fn mr_settle(device: &mut Device, went_well: u32) -> i32;
     pub safe fn mr_told_at(device: &mut Device, place: usize, told: &mut Told) -> i32;
     pub fn mr_told_frame(device: &mut Device, place: usize, to: *mut u8, room: usize, len: &mut usize) -> i32;
+    pub fn mr_birth(device: &mut Device, to: *mut u8, room: usize, len: &mut usize) -> i32;
+    pub fn mr_check_peer(device: &mut Device, highest: *const Version, highest_len: usize, births: *const Born, births_len: usize) -> i32;
     pub fn mr_frame(device: &mut Device, to: *mut u8, room: usize, len: &mut usize) -> i32;
     pub safe fn mr_counts(device: &mut Device, counts: &mut Counts) -> i32;
     pub safe fn mr_head(device: &mut Device, place: usize, head: &mut Held) -> i32;
@@ -102,6 +104,7 @@ unsafe extern "C" {
     pub safe fn mr_card(device: &mut Device, version: Version, card: &mut Placed) -> i32;
     pub fn mr_label(device: &mut Device, version: Version, place: usize, to: *mut u8, room: usize, len: &mut usize) -> i32;
     pub safe fn mr_knows(device: &mut Device, item: Version, version: Version, is_known: &mut u32) -> i32;
+    pub safe fn mr_highest(device: &mut Device, author: u32, counter: &mut u32) -> i32;
     pub safe fn mr_is_retired(device: &mut Device, is_retired: &mut u32) -> i32;
     pub fn mr_sessions(device: &mut Device, to: *mut u64, room: usize, len: &mut usize) -> i32;
     pub fn mr_streams(device: &mut Device, to: *mut u64, room: usize, len: &mut usize) -> i32;

@@ -45,6 +45,16 @@ pub struct Held {
     pub version: Version,
 }
 
+/// A file of a device, as another device knows it.
+#[repr(C)]
+#[derive(Clone, Copy, Debug, Default, PartialEq, Eq, Hash)]
+pub struct Born {
+    /// The device's id, 0 to 63.
+    pub author: u32,
+    /// What was drawn when the file was begun.
+    pub birth: [u8; 16],
+}
+
 /// A change of what is held.
 #[repr(C)]
 #[derive(Clone, Copy, Debug, Default, PartialEq, Eq, Hash)]

@@ -1,7 +1,8 @@
 //! A device with a file of its own: killed in each act, and told of a failure.
 
 use mailrep::{
-    Draft, Error, HandedOut, KeptDevice, KeptError, OpenFault, Received, Refusal, Storage, Version,
+    Born, Draft, Error, HandedOut, KeptDevice, KeptError, OpenFault, PeerFault, Received, Refusal,
+    Storage, Version, VersionFault,
 };
 use std::cell::RefCell;
 use std::io;
@@ -217,4 +218,39 @@ fn a_copy_and_another_birth_are_refused() {
         Some(Error::Open(OpenFault::OtherBirth))
     );
     assert_eq!(open(&MARK, &BIRTH), None);
+}
+
+#[test]
+fn an_old_copy_and_another_file_of_its_id_are_told_by_a_peer() -> Result<(), KeptError> {
+    let bytes = Rc::default();
+    let mut phone = KeptDevice::begin(Memory::over(&bytes), 0, "all", 100, &BIRTH, &MARK)?;
+    phone.create(&LUNCH)?;
+    phone.commit()?;
+    let backup = Rc::new(RefCell::new(bytes.borrow().clone()));
+    phone.create(&LUNCH)?;
+    assert_eq!(phone.check_peer(&[], &[]), Err(Error::Unsettled));
+    phone.commit()?;
+    let met = Born {
+        author: 0,
+        birth: phone.birth()?,
+    };
+    assert_eq!(met.birth, BIRTH);
+    let counter = phone.shown()?.highest(0)?.unwrap();
+    let told = Version { author: 0, counter };
+    assert_eq!((counter, phone.shown()?.highest(5)?), (2, None));
+    assert_eq!(phone.check_peer(&[told], &[met]), Ok(()));
+    let mut old = KeptDevice::open(Memory::over(&backup), &MARK, None)?;
+    let old_copy = Err(Error::Peer(PeerFault::OldCopy));
+    assert_eq!(old.check_peer(&[told], &[met]), old_copy);
+    let other = Born {
+        birth: [0; 16],
+        ..met
+    };
+    let other_birth = Err(Error::Peer(PeerFault::OtherBirth));
+    assert_eq!(old.check_peer(&[], &[met, other]), other_birth);
+    assert_eq!(
+        old.check_peer(&[told], &[Born { author: 64, ..met }]),
+        Err(Error::Version(VersionFault::NoSuchAuthor))
+    );
+    Ok(())
 }
