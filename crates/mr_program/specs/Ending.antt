@@ -1,5 +1,5 @@
 -- how the program ends: the exit status, and what standard error is told
-use Rattle.std.specs.Prelude.{◌≡◌, ℕ, List, ◌++◌, codes, Bool, true, false, Option, Some, None, Result, Ok, Err}
+use Rattle.std.specs.Prelude.{◌≡◌, ◌==◌, ◌||◌, ℕ, nat_le, List, ◌++◌, codes, Bool, true, false, Option, Some, None, Result, Ok, Err}
 use Rattle.std.specs.Io.KnownBytes.{Appends}
 use Rattle.mr_script.specs.declared.fault.ScriptFault.{ScriptFault}
 use Rattle.mr_script.specs.declared.fault.ScriptFault.TheVariants as script
@@ -11,15 +11,20 @@ use Rattle.mr_program.specs.declared.ending.Ending.{Ending}
 use Rattle.mr_program.specs.declared.ending.Ending.TheVariants.{Done, NoFrame, Unexplained, WrongCommandLine, Closed, Stopped}
 use Rattle.mr_program.specs.Text.{fault_text}
 
--- 0 where all was done, 2 for a wrong command line, 1 for all else
+-- 0 where all was done, 2 for a wrong command line, 1 for all else; and where nobody reads the output any more, what a shell has of a
+-- program that a write to a closed pipe ended: 128 and the number of its signal, 13
 abbrev pub status_of : Ending → ℕ
 status_of Done = 0
 status_of NoFrame = 1
 status_of Unexplained = 1
 status_of WrongCommandLine = 2
-status_of Closed = 1
+status_of Closed = 141
 status_of (Stopped CommandLine) = 2
 status_of (Stopped _) = 1
+
+-- the statuses that there are
+abbrev pub is_status : ℕ → Bool
+is_status status = nat_le status 2 || (status == 141)
 
 -- how the program ends where this ended a script, or nothing did
 abbrev pub ending_of : Option ScriptFault → Ending

@@ -64,7 +64,7 @@ failed_write = refl
 pub faulty_line : ending_behind true (ending_of (Some (Line 1 BadNumber))) ≡ ending_of (Some (Line 1 BadNumber))
 faulty_line = refl
 
-pub closed_status : status_of Closed ≡ 1
+pub closed_status : status_of Closed ≡ 141
 closed_status = refl
 
 -- two nodes whose logs join are status 0

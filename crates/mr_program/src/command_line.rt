@@ -13,7 +13,8 @@ const AFTER: &str = "Exit status:
   0  the script ran to its end (a replica's refusal is an answer, no fault), or the frame was told
   1  a line that can't be run, no frame, nodes whose logs don't join, a failed read or write, or no
      memory left
-  2  a wrong command line";
+  2  a wrong command line
+  141  standard output was closed before all was written, as `head` does";
 
 const RUN_ABOUT: &str =
     "Runs the script in FILE, or on standard input, line by line, and prints its answers.
@@ -97,9 +98,10 @@ Exit status:
   0  the script ran to its end (a replica's refusal is an answer, no fault)
   1  a fault, told on standard error as `line N: TEXT`, `read fault`, `write fault` or
      `script too long`; the answers of the lines before it stand. A FILE that can't be opened is a
-     `read fault`. Nothing is told where the output's reader has closed it, as `head` does. With
-     --hints a second line `hint: TEXT` follows the fault of a line and a `read fault`
-  2  a wrong command line";
+     `read fault`. With --hints a second line `hint: TEXT` follows the fault of a line and a
+     `read fault`
+  2  a wrong command line
+  141  standard output was closed before all was written, as `head` does";
 
 const DRAW_ABOUT: &str =
     "Runs the script in FILE, or on standard input, and prints an SVG picture of what happened in it.
@@ -125,7 +127,8 @@ Exit status:
   0  the script ran to its end
   1  a fault as of `mailrep run`: the picture is of what was done before it, and has its text under
      it, and standard error tells it too. Nothing is printed where there is no memory for the picture
-  2  a wrong command line";
+  2  a wrong command line
+  141  standard output was closed before all was written, as `head` does";
 
 const LIVE_ABOUT: &str =
     "Runs the two replicas of the script in FILE, or on standard input, as nodes in threads of their own.
@@ -157,7 +160,8 @@ Exit status:
   0  the logs joined
   1  they did not join; or a fault, told on standard error as of `mailrep run`, as `live needs two
      replicas`, or as `out of memory`
-  2  a wrong command line";
+  2  a wrong command line
+  141  standard output was closed before all was written, as `head` does";
 
 const FRAME_ABOUT: &str = "Tells what the bytes of a frame say.
 
@@ -186,7 +190,8 @@ Example:
 Exit status:
   0  the frame was told
   1  there is no frame, standard output can't be written, or no memory is left
-  2  a wrong command line";
+  2  a wrong command line
+  141  standard output was closed before all was written, as `head` does";
 
 /// The name of the word of digits in the help.
 const HEX: &str = "HEX";

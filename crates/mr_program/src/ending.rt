@@ -1,8 +1,8 @@
 //! How the program ends: its exit status, and what it tells standard error.
-ghost use Rattle.std.specs.Prelude.{◌≡◌, ◌≤◌, Some, IfOk, OnOk, string_bytes};
+ghost use Rattle.std.specs.Prelude.{◌≡◌, true, Some, IfOk, OnOk, string_bytes};
 ghost use Rattle.mr_script.specs.Run.{end_of};
 ghost use Rattle.mr_program.specs.Drawing.{text_under};
-ghost use Rattle.mr_program.specs.Ending.{IsTold, ending_behind, ending_of, ending_of_live, status_of};
+ghost use Rattle.mr_program.specs.Ending.{IsTold, ending_behind, ending_of, ending_of_live, is_status, status_of};
 ghost use Rattle.mr_program.specs.Text.{fault_text, line_fault_text, script_fault_text};
 
 use crate::piped::Piped;
@@ -11,6 +11,9 @@ use mr_script::{LineFault, ScriptFault};
 use std::alloc::{AllocError, Global};
 use std::io::Write;
 use std::{fmt, io};
+
+/// What a shell has of a program that a write to a closed pipe ended: 128 and the number of SIGPIPE.
+const CLOSED_PIPE: u8 = 141;
 
 /// Why the program ends before its end.
 #[derive(Clone, Copy, Debug, PartialEq, Eq)]
@@ -80,17 +83,18 @@ pub fn ending_behind(is_closed: bool, ending: Ending) -> Ending
     }
 }
 
-/// The exit status of an ending: 0 where all was done, 2 for a wrong command line, and else 1.
+/// The exit status of an ending: 0 where all was done, 2 for a wrong command line, 141 where nobody reads the output any more, as a shell has it
+/// of a program that SIGPIPE ended, and else 1.
 pub fn exit_of(ending: Ending) -> u8
     ensures status { result ≡ status_of ending }
-    ensures within { result ≤ 2 }
+    ensures within { is_status result ≡ true }
 {
     match ending {
         Ending::Done => 0,
         Ending::WrongCommandLine | Ending::Stopped(Fault::CommandLine) => 2,
         Ending::NoFrame => 1,
         Ending::Unexplained => 1,
-        Ending::Closed => 1,
+        Ending::Closed => CLOSED_PIPE,
         Ending::Stopped(Fault::Write | Fault::OutOfMemory | Fault::NotTwo | Fault::Script(_)) => 1,
     }
 }
@@ -116,7 +120,7 @@ pub fn tell<E: Write>(ending: Ending, errors: &mut E) -> io::Result<()>
 /// Tells why the program ends, and gives its exit status, which is the same where that can't be told.
 pub fn leave<E: Write>(ending: Ending, errors: &mut E) -> u8
     ensures status { result ≡ status_of ending }
-    ensures within { result ≤ 2 }
+    ensures within { is_status result ≡ true }
 {
     let _ = tell(ending, errors);
     exit_of(ending)
@@ -130,7 +134,7 @@ pub(crate) fn leave_behind<W: Write, E: Write>(
     errors: &mut E,
 ) -> u8
     ensures status { result ≡ status_of (ending_behind output.now.is_closed ending) }
-    ensures within { result ≤ 2 }
+    ensures within { is_status result ≡ true }
 {
     leave(ending_behind(output.is_closed(), ending), errors)
 }

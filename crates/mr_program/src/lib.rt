@@ -6,13 +6,14 @@
 //! `mailrep frame HEX` prints what `frame_text` says of HEX. Here stand the command line with its help, how the program
 //! ends, and its exit status: 0; 1 for a script, read or write fault, for a HEX that spells no frame, or where memory runs
 //! out, or where the logs of two nodes do not join; 2 for a wrong command line. A fault's text goes to standard error, and with `--hints` a hint behind it.
-//! Where the reader of standard output has closed it, that is no fault to tell of.
+//! Where the reader of standard output has closed it, that is no fault to tell of, and the status is 141, as of a program that SIGPIPE ended.
 //!
 //! [`run_mailrep`] is all of `main`. What it reads and writes are parameters, so that a program can call it with many
 //! command lines, and with readers and writers that fail.
 #![tactic(auto)]
 
-ghost use Rattle.std.specs.Prelude.{◌≤◌};
+ghost use Rattle.std.specs.Prelude.{◌≡◌, true};
+ghost use Rattle.mr_program.specs.Ending.{is_status};
 
 mod command_line;
 mod draw;
@@ -53,7 +54,7 @@ pub trait Scripts {
     fn open_script(&self, name: &str) -> io::Result<Self::Script>;
 }
 
-/// Does what the command line of the runtime asks for, and gives the exit status: 0, 1 or 2.
+/// Does what the command line of the runtime asks for, and gives the exit status: 0, 1, 2, or 141 where nobody reads the output any more.
 ///
 /// A script is read from the input, or from the file that the command line names. Answers, pictures, frames, help and the
 /// version go to the output; faults, hints and what is wrong with a command line go to the errors. The threads are for `live`
@@ -73,7 +74,7 @@ where
     I: Read + Drop,
     W: Write,
     E: Write,
-    ensures { result ≤ 2 }
+    ensures { is_status result ≡ true }
 {
     let words = match words(rt) {
         Ok(words) => words,
@@ -103,7 +104,7 @@ fn tell_frame<W: Write, E: Write>(
     output: &mut Piped<W>,
     errors: &mut E,
 ) -> u8
-    ensures { result ≤ 2 }
+    ensures { is_status result ≡ true }
 {
     let ending = end_frame(alloc, word, output);
     leave_behind(ending, output, errors)
@@ -127,7 +128,7 @@ fn run_named<S: Scripts, I: Read + Drop, W: Write, E: Write>(
     output: &mut Piped<W>,
     errors: &mut E,
 ) -> u8
-    ensures { result ≤ 2 }
+    ensures { is_status result ≡ true }
 {
     let Some(name) = how.file else {
         return run_reader(alloc, how, input, output, errors);
@@ -145,7 +146,7 @@ fn leave_unopened<E: Write>(
     kind: io::ErrorKind,
     errors: &mut E,
 ) -> u8
-    ensures { result ≤ 2 }
+    ensures { is_status result ≡ true }
 {
     let status = leave(Ending::Stopped(Fault::Script(ScriptFault::Read)), errors);
     if has_hints {

@@ -1,5 +1,6 @@
 //! `mailrep live`: the two replicas of a script run as nodes, and what they hold is printed.
-ghost use Rattle.std.specs.Prelude.{◌≤◌, IfSome};
+ghost use Rattle.std.specs.Prelude.{◌≡◌, true, IfSome};
+ghost use Rattle.mr_program.specs.Ending.{is_status};
 ghost use Rattle.mr_program.specs.Printing.{EndsLive};
 
 use crate::command_line::Live;
@@ -33,7 +34,7 @@ where
     I: Read + Drop,
     W: Write,
     E: Write,
-    ensures { result ≤ 2 }
+    ensures { is_status result ≡ true }
 {
     let Some(name) = how.file else {
         return live_reader(threads, alloc, how, input, output, errors);
@@ -58,7 +59,7 @@ where
     I: Read + Drop,
     W: Write,
     E: Write,
-    ensures { result ≤ 2 }
+    ensures { is_status result ≡ true }
 {
     if how.has_hints {
         return live_with_hints(threads, alloc, how.file, reader, output, errors);
@@ -81,7 +82,7 @@ where
     I: Read + Drop,
     W: Write,
     E: Write,
-    ensures { result ≤ 2 }
+    ensures { is_status result ≡ true }
 {
     let mut reader = Remembering::new(alloc, reader);
     let ending = end_live::<ItemKnowledge, T, &mut Remembering<I>, Piped<W>>(

@@ -1,7 +1,8 @@
 //! What the program does: runs or draws a script, tells a frame, or says what its command line is.
-ghost use Rattle.std.specs.Prelude.{◌≡◌, ◌≢◌, ◌≤◌, IfSome, OnOk};
+ghost use Rattle.std.specs.Prelude.{◌≡◌, ◌≢◌, true, IfSome, OnOk};
 ghost use Rattle.std.specs.Io.KnownBytes.{Appends};
 ghost use Rattle.clap.specs.Values.{kind_of};
+ghost use Rattle.mr_program.specs.Ending.{is_status};
 ghost use Rattle.mr_program.specs.Printing.{EndsFrame, EndsScript};
 
 use crate::command_line::{Form, Run, Wanted};
@@ -28,7 +29,7 @@ pub(crate) fn run_reader<R: Read + Drop, W: Write, E: Write>(
     output: &mut Piped<W>,
     errors: &mut E,
 ) -> u8
-    ensures { result ≤ 2 }
+    ensures { is_status result ≡ true }
 {
     if how.has_hints {
         return run_with_hints(alloc, how, reader, output, errors);
@@ -46,7 +47,7 @@ fn run_with_hints<R: Read + Drop, W: Write, E: Write>(
     output: &mut Piped<W>,
     errors: &mut E,
 ) -> u8
-    ensures { result ≤ 2 }
+    ensures { is_status result ≡ true }
 {
     let mut reader = Remembering::new(alloc, reader);
     let (ending, has_holes) = end_noticing(alloc, how, &mut reader, output);
@@ -139,7 +140,7 @@ pub(crate) fn answer_command_line<W: Write, E: Write>(
 ) -> u8
     ensures wrong { kind_of error.now ≢ ErrorKind.OutOfMemory → kind_of error.now ≢ ErrorKind.DisplayHelp
         → kind_of error.now ≢ ErrorKind.DisplayVersion → result ≡ 2 }
-    ensures within { result ≤ 2 }
+    ensures within { is_status result ≡ true }
 {
     if error.kind() == ErrorKind::OutOfMemory {
         return leave(Ending::Stopped(Fault::OutOfMemory), errors);
