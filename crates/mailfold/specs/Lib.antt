@@ -1,4 +1,5 @@
 pub mod Ending
+pub mod Expire
 pub mod Advice
 pub mod Fault
 pub mod LogNames

@@ -1,5 +1,6 @@
 -- worked rows: what the definitions give for small values
-use Rattle.std.specs.Prelude.{◌≡◌, ◌^◌, ◌-◌, None, Some, codes, refl}
+use Rattle.std.proofs.Common.{arith}
+use Rattle.std.specs.Prelude.{◌≡◌, ◌^◌, ◌-◌, ◌<◌, None, Some, codes, refl}
 use Rattle.std.specs.Fmt.{digits}
 use Rattle.mr_entry.specs.declared.fault.EntryFault.TheVariants as entries
 use Rattle.mr_fold.specs.declared.fold_fault.FoldFault.TheVariants as folds
@@ -15,6 +16,7 @@ use Rattle.mailfold.specs.declared.ending.Ending.TheVariants.{Stopped, Cut, InUs
 use Rattle.mailfold.specs.declared.fault.Fault.TheVariants as faults
 use Rattle.mailfold.specs.Advice.{advice_for, advice_for_journal, advice_for_open}
 use Rattle.mailfold.specs.Ending.{status_of}
+use Rattle.mailfold.specs.Expire.{IsYounger}
 use Rattle.mailfold.specs.Fault.{ending_of_folder, ending_of_line, ending_of_talk}
 use Rattle.mailfold.specs.LogNames.{inside, old_name}
 use Rattle.mailfold.specs.Tallies.{sum_of}
@@ -73,3 +75,15 @@ cut_goes_on = refl
 
 pub out_of_place_has_no_advice : advice_for (faults.Talk talks.OutOfPlace) ≡ None
 out_of_place_has_no_advice = refl
+
+-- a file that changed at second 100 stays for a day of 86,400 seconds
+pub last_second_of_a_day : IsYounger 100 1 86499
+last_second_of_a_day = omega arith
+
+-- and not for longer
+pub a_day_later : ¬ IsYounger 100 1 86500
+a_day_later younger = let wrong : 86500 < 86500 = younger in absurd (omega arith)
+
+-- one that changed in the future stays, also where none is to stay for a day
+pub from_the_future : IsYounger 101 0 100
+from_the_future = omega arith

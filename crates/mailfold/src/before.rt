@@ -3,7 +3,7 @@ use crate::fault::Fault;
 use crate::mail_file::digest_of;
 use crate::tallies::nothing;
 use mr_compare::{Digest, Shown};
-use mr_fold::{OpenFolder, Settled, look, settle_folder};
+use mr_fold::{OpenFolder, Settled, look, settle_if_changed};
 use mr_itemset::SparingKnowledge;
 use mr_replica::{Replica, Revision};
 use mr_version::ItemId;
@@ -12,9 +12,11 @@ use std::collections::BTreeSet;
 use std::fs::File;
 use std::rt::Files;
 
-/// Takes what other programs changed. A folder that is fresh is looked at alone: its files come into the store, so that mail that
-/// the other side has too is known for the same when it comes.
+/// Takes what other programs changed, of the folder at this path. A folder that is fresh is looked at alone: its files come into the store,
+/// so that mail that the other side has too is known for the same when it comes.
 pub fn scanned<R: Files<File = File> + AllocGlobal + Clone + Drop>(
+    rt: &R,
+    root: &str,
     folder: &mut OpenFolder<R>,
     is_fresh: bool,
 ) -> Result<Settled, Fault> {
@@ -25,7 +27,7 @@ pub fn scanned<R: Files<File = File> + AllocGlobal + Clone + Drop>(
             passed_over: looked.passed_over,
         });
     }
-    Ok(settle_folder(folder, None)?)
+    Ok(settle_if_changed(rt, root, folder, None)?)
 }
 
 /// The mails whose files weren't here when the folder was settled last: the other side may have them.

@@ -43,6 +43,12 @@ const SHORT: &str = "short";
 /// The option that ends each line with a zero byte.
 const NULL: &str = "null";
 
+/// The option that shows a terminal nothing of how far a command is.
+const QUIET: &str = "quiet";
+
+/// The option of how many days the file of a deleted mail stays.
+const OLDER: &str = "older";
+
 /// A new folder.
 #[derive(Drop)]
 pub struct InitRequest<'a> {
@@ -70,6 +76,16 @@ pub struct ScanRequest<'a> {
     pub is_dry: bool,
     /// How many deletions are told in one go; with none it goes by how many mails there are.
     pub most_deletions: Option<usize>,
+    /// Whether a terminal isn't shown how far it is.
+    pub is_quiet: bool,
+}
+
+/// Files of deleted mail that go.
+#[derive(Clone, Copy)]
+pub struct ExpireRequest<'a> {
+    pub folder: &'a str,
+    /// For how many days they stay; with none all of them go.
+    pub days: Option<u32>,
 }
 
 /// A list of mail.
@@ -87,9 +103,10 @@ pub struct ListRequest<'a> {
 pub enum Request<'a> {
     Init(InitRequest<'a>),
     Scan(ScanRequest<'a>),
-    Sync(&'a str),
+    /// A sync, and whether a terminal isn't shown how far it is.
+    Sync { folder: &'a str, is_quiet: bool },
     Serve(&'a str),
-    Expire(&'a str),
+    Expire(ExpireRequest<'a>),
     Renew(RenewRequest<'a>),
     Moved(&'a str),
     Status { folder: &'a str, is_short: bool },
@@ -145,9 +162,9 @@ pub fn read_command_line<'a>(alloc: Global, words: &'a [String]) -> Result<Reque
     match name {
         "init" => init_request(alloc, folder, words),
         "scan" => Ok(scan_request(folder, words)),
-        "sync" => Ok(Request::Sync(folder)),
+        "sync" => Ok(sync_request(folder, words)),
         "serve" => Ok(Request::Serve(folder)),
-        "expire" => Ok(Request::Expire(folder)),
+        "expire" => Ok(expire_request(folder, words)),
         "renew" => renew_request(alloc, folder, words),
         "moved" => Ok(Request::Moved(folder)),
         "status" => Ok(status_request(folder, words)),
@@ -223,6 +240,21 @@ fn scan_request<'a>(folder: &'a str, words: &ArgMatches<'a>) -> Request<'a> {
         folder,
         is_dry: words.get_flag(DRY_RUN),
         most_deletions: words.get_one::<usize>(MOST_DELETIONS),
+        is_quiet: words.get_flag(QUIET),
+    })
+}
+
+fn sync_request<'a>(folder: &'a str, words: &ArgMatches<'a>) -> Request<'a> {
+    Request::Sync {
+        folder,
+        is_quiet: words.get_flag(QUIET),
+    }
+}
+
+fn expire_request<'a>(folder: &'a str, words: &ArgMatches<'a>) -> Request<'a> {
+    Request::Expire(ExpireRequest {
+        folder,
+        days: words.get_one::<u32>(OLDER),
     })
 }
 
@@ -338,7 +370,17 @@ fn sync_command<'a>(alloc: Global) -> Result<Command<'a>, AllocError> {
     Command::new(alloc, "sync")
         .about("Syncs with the folder that talks on the standard streams")
         .long_about(help::SYNC_ABOUT)
-        .arg(folder_word(alloc))
+        .arg(folder_word(alloc))?
+        .arg(quiet_option(alloc))
+}
+
+/// The option that shows a terminal nothing of how far a command is.
+fn quiet_option<'a>(alloc: Global) -> Arg<'a> {
+    Arg::new(alloc, QUIET)
+        .short('q')
+        .long(QUIET)
+        .help("Shows nothing of how far it is; else a terminal is shown that")
+        .action(ArgAction::SetTrue)
 }
 
 fn serve_command<'a>(alloc: Global) -> Result<Command<'a>, AllocError> {
@@ -349,10 +391,17 @@ fn serve_command<'a>(alloc: Global) -> Result<Command<'a>, AllocError> {
 }
 
 fn expire_command<'a>(alloc: Global) -> Result<Command<'a>, AllocError> {
+    let older = Arg::new(alloc, OLDER)
+        .long(OLDER)
+        .value_name("DAYS")
+        .help("Lets only those go that are so many days old; with none, all")
+        .value_parser(clap::value_parser!(u32));
     Command::new(alloc, "expire")
         .about("Lets the files of deleted mail go")
         .long_about(help::EXPIRE_ABOUT)
-        .arg(folder_word(alloc))
+        .after_long_help(help::EXPIRE_AFTER)
+        .arg(folder_word(alloc))?
+        .arg(older)
 }
 
 fn moved_command<'a>(alloc: Global) -> Result<Command<'a>, AllocError> {
@@ -486,7 +535,8 @@ fn scan_command<'a>(alloc: Global) -> Result<Command<'a>, AllocError> {
         .after_long_help(help::SCAN_AFTER)
         .arg(folder_word(alloc))?
         .arg(dry)?
-        .arg(most)
+        .arg(most)?
+        .arg(quiet_option(alloc))
 }
 
 fn status_command<'a>(alloc: Global) -> Result<Command<'a>, AllocError> {

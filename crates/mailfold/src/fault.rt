@@ -24,6 +24,9 @@ pub enum Fault {
     /// What the system said of the machine: its clock, its random bytes, a file.
     #[error("{0}")]
     System(io::Error),
+    /// What the system said of the file at this path.
+    #[error("{path}: {said}")]
+    File { path: String, said: io::Error },
     /// Standard output takes no more.
     #[error("standard output: {0}")]
     Output(io::Error),
@@ -60,6 +63,7 @@ impl Fault {
             Fault::Talk(fault) => ending_of_talk(fault),
             Fault::OutOfMemory
             | Fault::System(_)
+            | Fault::File { .. }
             | Fault::Output(_)
             | Fault::NotHeld(_)
             | Fault::NoMail(_)

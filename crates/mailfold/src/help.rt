@@ -51,7 +51,10 @@ the Maildir away. Let it delete them by --most-deletions.";
 pub const SYNC_ABOUT: &str = "Syncs the folder with the one that talks on standard input and output.
 
 It scans, talks, and shows in the Maildir what came. `mailfold-sync DIR COMMAND..` joins it with a command
-that serves the other folder.";
+that serves the other folder, and `mailfold-sync DIR NAME` with that of a line `NAME COMMAND` of the file
+DIR/.mailfold/peers.
+
+While it runs, a terminal is shown how many versions and files went and came so far.";
 
 pub const SERVE_ABOUT: &str = "Serves the folder to a sync, on standard input and output.
 
@@ -62,6 +65,15 @@ pub const EXPIRE_ABOUT: &str =
 
 It is of mail whose deletion a scan or a sync has taken, and of this folder alone. What the log tells of the
 mail stays, and no sync brings the file, unless the mail is changed elsewhere and so is there again.";
+
+pub const EXPIRE_AFTER: &str =
+    "By --older the files stay that lost their place in the Maildir fewer than DAYS times 24 hours ago. It goes by
+the file's own time (ctime), which is set when a path of the file goes: so a folder that was copied or restored
+counts from then on. A mail that another program moved by writing it once more counts from that move, and where
+the file system has no hard links, from when it came.
+
+Example:
+  $ mailfold expire Mail --older 30";
 
 pub const RENEW_ABOUT: &str = "Makes the folder a new replica, with another number and an empty log.
 

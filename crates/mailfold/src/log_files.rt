@@ -48,8 +48,7 @@ fn remove<R: Files>(rt: &R, path: &str) -> io::Result<()> {
 
 /// What the folder's log tells.
 pub fn told_log<R: Files<File = File> + AllocGlobal>(rt: &R, root: &str) -> Result<OldLog, Fault> {
-    let path = log_path(rt.alloc(), root)?;
-    log_at(rt, path.as_str())
+    log_at(rt, log_path(rt.alloc(), root)?)
 }
 
 /// What the old log of this number tells. One that isn't there tells nothing.
@@ -58,20 +57,21 @@ pub fn told_old_log<R: Files<File = File> + AllocGlobal>(
     root: &str,
     number: u32,
 ) -> Result<OldLog, Fault> {
-    let path = old_path(rt.alloc(), root, number)?;
-    log_at(rt, path.as_str())
+    log_at(rt, old_path(rt.alloc(), root, number)?)
 }
 
 /// What a log tells; nothing where it isn't there.
-fn log_at<R: Files<File = File> + AllocGlobal>(rt: &R, path: &str) -> Result<OldLog, Fault> {
-    match fs::open(rt, path) {
-        Ok(file) => {
-            let bytes = front(rt.alloc(), file)?;
-            Ok(old_log(rt.alloc(), bytes.as_slice())?)
-        }
+fn log_at<R: Files<File = File> + AllocGlobal>(rt: &R, path: String) -> Result<OldLog, Fault> {
+    match front_of(rt, path.as_str()) {
+        Ok(bytes) => Ok(old_log(rt.alloc(), bytes.as_slice())?),
         Err(said) if said.kind() == ErrorKind::NotFound => Ok(OldLog::Empty),
-        Err(said) => Err(Fault::System(said)),
+        Err(said) => Err(Fault::File { path, said }),
     }
+}
+
+/// The first bytes of the log at a path.
+fn front_of<R: Files<File = File> + AllocGlobal>(rt: &R, path: &str) -> io::Result<Vec<u8>> {
+    front(rt.alloc(), fs::open(rt, path)?)
 }
 
 /// The first bytes of a log.

@@ -8,6 +8,7 @@ use sha2::{Digest as _, Sha256};
 use std::alloc::Global;
 use std::fs::{self, File};
 use std::io::{self, ErrorKind, Read};
+use std::os::unix::fs::MetadataExt;
 use std::rt::Files;
 
 /// The digest of the mail that the revision is of; none where it is of no mail's file.
@@ -28,7 +29,7 @@ pub fn header_of<R: Files<File = File> + AllocGlobal>(
 ) -> Result<Header, Fault> {
     let alloc = rt.alloc();
     let bytes = match digest_of(revision) {
-        Some(digest) => first_bytes(rt, path_of(alloc, root, &digest)?.as_str())?,
+        Some(digest) => first_bytes(rt, path_of(alloc, root, &digest)?)?,
         None => Vec::new(alloc),
     };
     Ok(read_header(alloc, bytes.as_slice())?)
@@ -43,8 +44,23 @@ pub fn mail_bytes<R: Files<File = File> + AllocGlobal>(
     let path = path_of(rt.alloc(), root, digest)?;
     match fs::read(rt, path.as_str()) {
         Ok(bytes) => Ok(Some(bytes)),
-        Err(error) if error.kind() == ErrorKind::NotFound => Ok(None),
-        Err(error) => Err(Fault::System(error)),
+        Err(said) if said.kind() == ErrorKind::NotFound => Ok(None),
+        Err(said) => Err(Fault::File { path, said }),
+    }
+}
+
+/// When the system last changed what it notes of a mail's file, `st_ctime` of POSIX, in seconds since 1970, and 0 for a time before; none where
+/// there is no file. It does so when the file gets or loses a path.
+pub fn changed_at<R: Files<File = File> + AllocGlobal>(
+    rt: &R,
+    root: &str,
+    digest: &Digest,
+) -> Result<Option<u64>, Fault> {
+    let path = path_of(rt.alloc(), root, digest)?;
+    match fs::symlink_metadata(rt, path.as_str()) {
+        Ok(told) => Ok(Some(u64::try_from(told.ctime()).unwrap_or(0))),
+        Err(said) if said.kind() == ErrorKind::NotFound => Ok(None),
+        Err(said) => Err(Fault::File { path, said }),
     }
 }
 
@@ -61,12 +77,23 @@ fn path_of(alloc: Global, root: &str, digest: &Digest) -> Result<String, Fault> 
 }
 
 /// The first bytes of a file, as many as a header may have; none where there is no file.
-fn first_bytes<R: Files<File = File> + AllocGlobal>(rt: &R, path: &str) -> Result<Vec<u8>, Fault> {
-    match fs::open(rt, path) {
-        Ok(file) => Ok(beginning(rt.alloc(), file)?),
-        Err(error) if error.kind() == ErrorKind::NotFound => Ok(Vec::new(rt.alloc())),
-        Err(error) => Err(Fault::System(error)),
+fn first_bytes<R: Files<File = File> + AllocGlobal>(
+    rt: &R,
+    path: String,
+) -> Result<Vec<u8>, Fault> {
+    match opened_beginning(rt, path.as_str()) {
+        Ok(bytes) => Ok(bytes),
+        Err(said) if said.kind() == ErrorKind::NotFound => Ok(Vec::new(rt.alloc())),
+        Err(said) => Err(Fault::File { path, said }),
     }
+}
+
+/// The first bytes of the file at a path, as many as a header may have.
+fn opened_beginning<R: Files<File = File> + AllocGlobal>(
+    rt: &R,
+    path: &str,
+) -> io::Result<Vec<u8>> {
+    beginning(rt.alloc(), fs::open(rt, path)?)
 }
 
 /// The first bytes of a reader, as many as a header may have.

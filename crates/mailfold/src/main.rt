@@ -28,6 +28,7 @@ mod mail_file;
 mod moved;
 mod old_log;
 mod passed_over;
+mod progress;
 mod queries;
 mod renew;
 mod scan;
@@ -38,6 +39,7 @@ mod tallies;
 mod told;
 mod unread;
 mod verify;
+mod watched;
 mod words;
 
 use audit::audit_folders;
@@ -53,6 +55,7 @@ use renew::renew_folder;
 use scan::scan_folder;
 use status::print_status;
 use std::env;
+use std::io::IsTerminal;
 use std::process::ExitCode;
 use talk::sync_folder;
 use told::tell_fault;
@@ -99,10 +102,12 @@ fn words_given(rt: &HostRuntime) -> Result<Vec<String>, Fault> {
 fn answer(rt: &HostRuntime, request: Request) -> Result<Ending, Fault> {
     match request {
         Request::Init(request) => init_folder(rt, request),
-        Request::Scan(request) => scan_folder(rt, request),
-        Request::Sync(folder) => sync_folder(rt, folder, Role::Caller),
-        Request::Serve(folder) => sync_folder(rt, folder, Role::Called),
-        Request::Expire(folder) => expire_mails(rt, folder),
+        Request::Scan(request) => scan_folder(rt, request, is_watched(rt, request.is_quiet)),
+        Request::Sync { folder, is_quiet } => {
+            sync_folder(rt, folder, Role::Caller, is_watched(rt, is_quiet))
+        }
+        Request::Serve(folder) => sync_folder(rt, folder, Role::Called, false),
+        Request::Expire(request) => expire_mails(rt, request),
         Request::Renew(request) => renew_folder(rt, request),
         Request::Moved(folder) => move_folder(rt, folder),
         Request::Status { folder, is_short } => print_status(rt, folder, is_short),
@@ -114,4 +119,9 @@ fn answer(rt: &HostRuntime, request: Request) -> Result<Ending, Fault> {
         Request::Verify(folder) => verify_files(rt, folder),
         Request::Audit(folders) => audit_folders(rt, &folders),
     }
+}
+
+/// Whether a terminal is shown how far a command is: standard error is one, and nobody asked for quiet.
+fn is_watched(rt: &HostRuntime, is_quiet: bool) -> bool {
+    !is_quiet && rt.stderr().is_terminal()
 }

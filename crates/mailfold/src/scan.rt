@@ -4,26 +4,32 @@ use crate::ending::Ending;
 use crate::fault::Fault;
 use crate::full_log::warn_of_full_log;
 use crate::passed_over::tell_passed_over;
+use crate::progress::{clear_step, show_step};
 use mr_compare::tally_of;
 use mr_fold::{OpenFolder, Settled, look, open, settle_folder};
 use std::fs::File;
 use std::rt::Files;
 
-/// Scans the folder, or tells what a scan would do.
+/// Scans the folder, or tells what a scan would do. Who watches is shown that it is at work.
 pub fn scan_folder<R: Files<File = File> + Eprint + AllocGlobal + Clone + Drop>(
     rt: &R,
     request: ScanRequest,
+    is_watched: bool,
 ) -> Result<Ending, Fault> {
     let mut folder = open(rt, request.folder)?;
-    scan_opened(rt, &mut folder, request)
+    scan_opened(rt, &mut folder, request, is_watched)
 }
 
 fn scan_opened<R: Files<File = File> + Eprint + AllocGlobal + Clone + Drop>(
     rt: &R,
     folder: &mut OpenFolder<R>,
     request: ScanRequest,
+    is_watched: bool,
 ) -> Result<Ending, Fault> {
-    let Settled { tally, passed_over } = scanned(folder, request)?;
+    show_step(rt, is_watched, "scan: looking at the files");
+    let scanned = scanned(folder, request);
+    clear_step(rt, is_watched);
+    let Settled { tally, passed_over } = scanned?;
     tell_passed_over(rt, &passed_over)?;
     eprintln!(rt; "{tally}")?;
     warn_of_full_log(rt, folder.kept.replica())?;

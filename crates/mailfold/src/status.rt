@@ -5,7 +5,7 @@ use crate::heads::count_mails;
 use crate::passed_over::tell_passed_over;
 use jiff::Timestamp;
 use mr_compare::{Meeting, tally_of};
-use mr_fold::{FoldFault, OpenFolder, look, open};
+use mr_fold::{FoldFault, OpenFolder, look_if_changed, open};
 use mr_itemset::SparingKnowledge;
 use mr_maildir::printable;
 use mr_replica::Replica;
@@ -21,15 +21,16 @@ pub fn print_status<R: Files<File = File> + Print + Eprint + AllocGlobal + Clone
     is_short: bool,
 ) -> Result<Ending, Fault> {
     let mut folder = open(rt, root)?;
-    print_opened(rt, &mut folder, is_short)
+    print_opened(rt, root, &mut folder, is_short)
 }
 
 fn print_opened<R: Files<File = File> + Print + Eprint + AllocGlobal + Clone + Drop>(
     rt: &R,
+    root: &str,
     folder: &mut OpenFolder<R>,
     is_short: bool,
 ) -> Result<Ending, Fault> {
-    let plan = plan_text(rt, folder)?;
+    let plan = plan_text(rt, root, folder)?;
     let text = if is_short {
         short_text(rt.alloc(), folder.kept.replica(), plan.as_str())?
     } else {
@@ -43,9 +44,10 @@ fn print_opened<R: Files<File = File> + Print + Eprint + AllocGlobal + Clone + D
 /// What a scan would do. What of the folder isn't shown is told on standard error.
 fn plan_text<R: Files<File = File> + Eprint + AllocGlobal + Clone + Drop>(
     rt: &R,
+    root: &str,
     folder: &mut OpenFolder<R>,
 ) -> Result<String, Fault> {
-    match look(folder) {
+    match look_if_changed(rt, root, folder) {
         Ok(looked) => {
             tell_passed_over(rt, &looked.passed_over)?;
             let tally = tally_of(&looked.acts);

@@ -5,7 +5,9 @@ use crate::ending::Ending;
 use crate::fault::Fault;
 use crate::full_log::warn_of_full_log;
 use crate::passed_over::tell_passed_over_by;
+use crate::progress::{Ticker, clear_step, show_step};
 use crate::told::{Told, tell_fault, tell_sync, tell_system};
+use crate::watched::Watched;
 use mr_compare::{Digest, Shown, Tally};
 use mr_fold::{OpenFolder, open};
 use mr_folder::{DiskTree, FileTree};
@@ -25,23 +27,29 @@ const STREAM_BYTES: usize = 65_536;
 
 /// Scans the folder, talks with the one on the standard streams, and shows what came.
 ///
-/// What came before the talk was cut off is shown too.
-pub fn sync_folder<R>(rt: &R, root: &str, role: Role) -> Result<Ending, Fault>
+/// What came before the talk was cut off is shown too. Who watches is shown how far it is.
+pub fn sync_folder<R>(rt: &R, root: &str, role: Role, is_watched: bool) -> Result<Ending, Fault>
 where
     R: Files<File = File> + Input + Print + Eprint + Clock + AllocGlobal + Clone + Drop,
 {
     let folder = open(rt, root)?;
-    sync_opened(rt, folder, role)
+    sync_opened(rt, root, folder, role, is_watched)
 }
 
 /// Syncs a folder that is open.
-fn sync_opened<R>(rt: &R, mut folder: OpenFolder<R>, role: Role) -> Result<Ending, Fault>
+fn sync_opened<R>(
+    rt: &R,
+    root: &str,
+    mut folder: OpenFolder<R>,
+    role: Role,
+    is_watched: bool,
+) -> Result<Ending, Fault>
 where
     R: Files<File = File> + Input + Print + Eprint + Clock + AllocGlobal + Clone + Drop,
 {
-    let before = scan_before(rt, &mut folder, role)?;
-    let (mut folder, talked) = talk(rt, folder, role)?;
-    end_sync(rt, &mut folder, before, talked)
+    let before = scan_before(rt, root, &mut folder, role, is_watched)?;
+    let (mut folder, talked) = talk(rt, folder, role, is_watched)?;
+    end_sync(rt, &mut folder, before, talked, is_watched)
 }
 
 /// What was done before a talk.
@@ -53,12 +61,21 @@ struct Before {
 }
 
 /// Scans the folder before it talks, and tells what it passed over.
-fn scan_before<R>(rt: &R, folder: &mut OpenFolder<R>, role: Role) -> Result<Before, Fault>
+fn scan_before<R>(
+    rt: &R,
+    root: &str,
+    folder: &mut OpenFolder<R>,
+    role: Role,
+    is_watched: bool,
+) -> Result<Before, Fault>
 where
     R: Files<File = File> + Eprint + AllocGlobal + Clone + Drop,
 {
     let is_fresh = role == Role::Caller && folder.kept.replica().log().is_empty();
-    let settled = scanned(folder, is_fresh)?;
+    show_step(rt, is_watched, "sync: looking at the files");
+    let scanned = scanned(rt, root, folder, is_fresh);
+    clear_step(rt, is_watched);
+    let settled = scanned?;
     tell_passed_over_by(rt, folder.kept.replica().id().id(), &settled.passed_over)?;
     Ok(Before {
         tally: settled.tally,
@@ -72,11 +89,12 @@ fn end_sync<R>(
     folder: &mut OpenFolder<R>,
     before: Before,
     talked: Talked,
+    is_watched: bool,
 ) -> Result<Ending, Fault>
 where
     R: Files<File = File> + Eprint + AllocGlobal + Clone + Drop,
 {
-    let after = show_after(rt, folder, &talked, before.is_fresh);
+    let after = show_after(rt, folder, &talked, before.is_fresh, is_watched);
     let id = folder.kept.replica().id().id();
     let Talked { summary, fault, .. } = talked;
     match fault {
@@ -91,14 +109,19 @@ fn show_after<R>(
     folder: &mut OpenFolder<R>,
     talked: &Talked,
     is_fresh: bool,
+    is_watched: bool,
 ) -> Result<Tally, Fault>
 where
     R: Files<File = File> + Eprint + AllocGlobal + Clone + Drop,
 {
     if talked.fault.is_some() {
-        tell_system(rt, folder.tree.error());
+        tell_system(rt, "files", folder.tree.error());
+        tell_system(rt, "log", folder.kept.journal().device().error());
     }
-    let after = shown(folder, talked, is_fresh)?;
+    show_step(rt, is_watched, "sync: showing what came");
+    let shown = shown(folder, talked, is_fresh);
+    clear_step(rt, is_watched);
+    let after = shown?;
     warn_of_full_log(rt, folder.kept.replica())?;
     Ok(after)
 }
@@ -144,16 +167,24 @@ struct Aside {
 }
 
 /// Talks for the folder over the standard streams, and gives it back. Where there is no memory for a talk, the folder is closed.
-fn talk<R>(rt: &R, folder: OpenFolder<R>, role: Role) -> Result<(OpenFolder<R>, Talked), Fault>
+fn talk<R>(
+    rt: &R,
+    folder: OpenFolder<R>,
+    role: Role,
+    is_watched: bool,
+) -> Result<(OpenFolder<R>, Talked), Fault>
 where
-    R: Files<File = File> + Input + Print + Clock + AllocGlobal + Clone + Drop,
+    R: Files<File = File> + Input + Print + Eprint + Clock + AllocGlobal + Clone + Drop,
 {
     let wanted = lacking_mails(rt.alloc(), folder.kept.replica(), &folder.shown)?;
     let input = BufReader::with_capacity(rt.alloc(), STREAM_BYTES, rt.reader())?;
     let output = BufWriter::with_capacity(rt.alloc(), STREAM_BYTES, io::writer(rt))?;
     let mut line = Line::new(rt.alloc(), input, output);
     let now = seconds(rt)?;
-    Ok(talk_on(folder, &mut line, role, &wanted, now))
+    let ticker = Ticker::new(rt, is_watched);
+    let talked = talk_on(folder, &mut line, role, &wanted, now, ticker);
+    clear_step(rt, is_watched);
+    Ok(talked)
 }
 
 /// Talks for the folder over a line at this time, and gives it back.
@@ -163,12 +194,13 @@ fn talk_on<R, I: Read + Drop, O: Write + Drop>(
     role: Role,
     wanted: &BTreeSet<Digest>,
     now: u64,
+    ticker: Ticker<R>,
 ) -> (OpenFolder<R>, Talked)
 where
-    R: Files<File = File> + AllocGlobal + Clone + Drop,
+    R: Files<File = File> + Eprint + Clock + AllocGlobal + Clone + Drop,
 {
-    let (mut host, aside) = host_of(folder);
-    let fault = talk_over(aside.alloc, line, &mut host, role, wanted);
+    let (host, aside) = host_of(folder);
+    let (host, fault) = talk_over(aside.alloc, line, Watched { host, ticker }, role, wanted);
     let meeting = host.met(now);
     let (folder, summary) = folder_of(host, aside);
     let talked = Talked {
@@ -223,20 +255,36 @@ where
     (folder, summary)
 }
 
-/// Talks over the line, and wants these files too. Gives why the talk didn't come to its end.
-fn talk_over<I: Read + Drop, O: Write + Drop, D: Device + Drop, F: FileTree + Drop>(
+/// Talks over the line, and wants these files too. Gives the host back, and why the talk didn't come to its end.
+fn talk_over<R, I: Read + Drop, O: Write + Drop, D: Device + Drop, F: FileTree + Drop>(
     alloc: Global,
     line: &mut Line<I, O>,
-    host: &mut FolderHost<D, F>,
+    mut watched: Watched<R, FolderHost<D, F>>,
     role: Role,
     wanted: &BTreeSet<Digest>,
-) -> Option<TalkFault> {
+) -> (FolderHost<D, F>, Option<TalkFault>)
+where
+    R: Eprint + Clock,
+{
+    let fault = match want_all(&mut watched.host, wanted) {
+        Ok(()) => run_talk(alloc, line, &mut watched, role).err(),
+        Err(fault) => Some(fault),
+    };
+    let Watched { host, .. } = watched;
+    (host, fault)
+}
+
+/// Wants these files.
+fn want_all<D: Device + Drop, F: FileTree + Drop>(
+    host: &mut FolderHost<D, F>,
+    wanted: &BTreeSet<Digest>,
+) -> Result<(), TalkFault> {
     for digest in wanted {
         if host.want(*digest).is_err() {
-            return Some(TalkFault::from(MessageFault::OutOfMemory));
+            return Err(TalkFault::from(MessageFault::OutOfMemory));
         }
     }
-    run_talk(alloc, line, host, role).err()
+    Ok(())
 }
 
 /// The time, in seconds since 1970.

@@ -29,11 +29,11 @@ pub fn tell_fault<R: Eprint + AllocGlobal>(rt: &R, fault: &Fault) {
     }
 }
 
-/// Tells what the system said of the folder's files, if one of its calls failed: a fault of a talk has no words of it. A text that can't be
-/// told is lost.
-pub fn tell_system<R: Eprint>(rt: &R, error: Option<io::Error>) {
+/// Tells what the system said of the folder's files or of its log, if one of its calls failed: a fault of a talk has no words of it. A text
+/// that can't be told is lost.
+pub fn tell_system<R: Eprint>(rt: &R, of: &str, error: Option<io::Error>) {
     if let Some(error) = error {
-        let _ = eprintln!(rt; "mailfold: the system says of the files: {error}");
+        let _ = eprintln!(rt; "mailfold: the system says of the {of}: {error}");
     }
 }
 

@@ -26,7 +26,7 @@ fold_fault_number (Journal fault) = 6
 fold_fault_number Files = 7
 fold_fault_number (System said) = 8
 fold_fault_number (TooManyDeletions count most) = 9
-fold_fault_number TooManyFolders = 10
+fold_fault_number (TooManyFolders mail) = 10
 fold_fault_number NameTaken = 11
 fold_fault_number Changed = 12
 fold_fault_number NotHeld = 13
@@ -55,7 +55,7 @@ files_failed (Some said) = System said
 -- a settling's fault, with what the system said of the journal's device and of the files
 abbrev pub explained_settle : SettleFault → Option Error → Option Error → FoldFault
 explained_settle settle.OutOfMemory journal files = OutOfMemory
-explained_settle settle.TooManyFolders journal files = TooManyFolders
+explained_settle (settle.TooManyFolders digest) journal files = TooManyFolders (record { digest = digest })
 explained_settle settle.NotHeld journal files = NotHeld
 explained_settle (settle.Kept kept.OutOfMemory) journal files = OutOfMemory
 explained_settle (settle.Kept fault) journal files = Journal (explained_kept fault journal)

@@ -13,4 +13,5 @@ pub mod Expiring
 pub mod Taking
 pub mod Straying
 pub mod Released
+pub mod Resting
 pub mod Rows

@@ -1,5 +1,5 @@
 -- worked rows: what the definitions give for small values
-use Rattle.std.specs.Prelude.{◌≡◌, ℕ, true, false, [], ◌∷◌, ◌++◌, map, codes, Some, None, Ok, Err, refl}
+use Rattle.std.specs.Prelude.{◌≡◌, ℕ, true, false, List, [], ◌∷◌, ◌++◌, map, codes, Some, None, Ok, Err, refl}
 use Rattle.std.specs.Fmt.{decimal}
 use Rattle.std.specs.declared.io.Error.{Error}
 use Rattle.mr_mail.specs.Mail.{Mail}
@@ -16,6 +16,7 @@ use Rattle.mr_fold.specs.declared.fold_fault.FoldFault.TheVariants as fold
 use Rattle.mr_fold.specs.Lacking.{has_digest, is_digest}
 use Rattle.mr_fold.specs.Mark.{mark_text}
 use Rattle.mr_fold.specs.Message.{day_at, folder_lines}
+use Rattle.mr_fold.specs.Resting.{folder_bytes}
 use Rattle.mr_fold.specs.Settings.{layout_told, settings_text}
 use Rattle.mr_fold.specs.Straying.{first_place, path_instead, place_of, strays}
 use Rattle.mr_fold.specs.Taking.{takes_away}
@@ -71,6 +72,11 @@ bad_settings = refl
 pub mark_row : (inode : ℕ) → mark_text (codes "c0ffee") inode ≡ codes "c0ffee " ++ decimal inode
 mark_row inode = refl
 
+-- ---- the note of rest
+
+pub rest_row : folder_bytes (codes "ab") 258 0 ≡ 0 ∷ 0 ∷ 0 ∷ 0 ∷ 0 ∷ 0 ∷ 1 ∷ 2 ∷ 0 ∷ 0 ∷ 0 ∷ 0 ∷ 0 ∷ 0 ∷ 0 ∷ 0 ∷ 0 ∷ 0 ∷ 0 ∷ 0 ∷ 0 ∷ 0 ∷ 0 ∷ 2 ∷ codes "ab"
+rest_row = refl
+
 -- ---- faults
 
 -- what the system said of the journal's device, and of the files
@@ -79,6 +85,10 @@ device_said said = refl
 
 pub files_said : (said : Error) → explained_settle settle.Files None (Some said) ≡ fold.System said
 files_said said = refl
+
+-- the mail that stands in too many folders is named
+pub mail_named : (digest : List ℕ) → explained_settle (settle.TooManyFolders digest) None None ≡ fold.TooManyFolders (record { digest = digest })
+mail_named digest = refl
 
 pub nothing_said : explained_settle settle.Files None None ≡ fold.Files
 nothing_said = refl

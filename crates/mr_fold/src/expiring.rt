@@ -1,8 +1,10 @@
 //! Files of deleted mail are let go.
-ghost use Rattle.std.specs.Prelude.{◌≡◌, ◌++◌, ℕ, List, IfOk, count_by};
+ghost use Rattle.std.specs.Prelude.{◌≡◌, ◌++◌, ◌∷◌, ◌||◌, [], ℕ, List, IfOk, OnOk, count_by, filter, if◌then◌else◌};
 ghost use Rattle.std.specs.Cmp.Lexicographic.{slice_cmp};
+ghost use Rattle.std.specs.List.{list_any};
 ghost use Rattle.std.specs.List.Sorted.{IsPermutation, IsSorted};
-ghost use Rattle.std.specs.Ordering.{nat_cmp};
+ghost use Rattle.std.specs.Ordering.{is_eq, nat_cmp};
+ghost use Rattle.mr_mail.specs.Label.{text_cmp};
 ghost use Rattle.mr_compare.specs.Held.{AreRead};
 ghost use Rattle.mr_fold.specs.Expiring.{AreNeeded, is_gone_among, is_needed};
 ghost use Rattle.mr_fold.specs.Lacking.{has_digest};
@@ -20,35 +22,88 @@ use std::collections::BTreeSet;
 use std::fs::File;
 use std::rt::Files;
 
-/// Takes the files of deleted mail out of the store, and those that no held mail names: how many files of deleted mail there were.
+/// The deleted mails whose files are in the store still, in the order of the store's names. No file is read.
 ///
-/// A mail is deleted where each head and each push-out of it has it stand in no folder and count as deleted; its revisions stay. Files of the
-/// Maildir stay, and those that aren't told yet are taken in again by the next settling. It is called between syncs, as
-/// [`sweep_folder`](crate::sweep_folder) is. Where another device takes the deletion back, the file comes with what it tells, or is lacking.
-pub fn expire_folder<R: Files<File = File> + AllocGlobal + Clone + Drop>(
+/// A mail is deleted where each head and each push-out of it has it stand in no folder and count as deleted.
+pub fn deleted_mails<R: Files<File = File> + AllocGlobal + Clone + Drop>(
     folder: &mut OpenFolder<R>,
-) -> Result<u64, FoldFault> {
+) -> Result<Vec<Digest>, FoldFault> {
     let alloc = folder.alloc;
     let heads = heads_of(alloc, folder.kept.replica())?;
     let needed = needed_among(alloc, &heads)?;
     let gone = gone_among(alloc, &heads, &needed)?;
-    let expired = stored_among(folder, &gone)?;
-    let needed = sorted(alloc, &needed)?;
-    match sweep(alloc, &mut folder.tree, &needed) {
+    let stored = stored_in(folder)?;
+    Ok(among(alloc, &stored, &gone)?)
+}
+
+/// Takes the files of deleted mail out of the store, but of these mails, and those that no held mail names: how many files of deleted mail
+/// there were that went.
+///
+/// A mail is deleted as [`deleted_mails`] says; its revisions stay. Files of the
+/// Maildir stay, and those that aren't told yet are taken in again by the next settling. It is called between syncs, as
+/// [`sweep_folder`](crate::sweep_folder) is. Where another device takes the deletion back, the file comes with what it tells, or is lacking.
+pub fn expire_folder<R: Files<File = File> + AllocGlobal + Clone + Drop>(
+    folder: &mut OpenFolder<R>,
+    spared: &[Digest],
+) -> Result<u64, FoldFault> {
+    let alloc = folder.alloc;
+    let heads = heads_of(alloc, folder.kept.replica())?;
+    let mut stays = needed_among(alloc, &heads)?;
+    insert_all(&mut stays, spared)?;
+    let gone = gone_among(alloc, &heads, &stays)?;
+    let stored = stored_in(folder)?;
+    let expired = count_among(&stored, &gone) as u64;
+    let stays = sorted(alloc, &stays)?;
+    match sweep(alloc, &mut folder.tree, &stays) {
         Ok(()) => Ok(expired),
         Err(fault) => Err(said(&folder.tree, fault)),
     }
 }
 
-/// How many of these mails have a file in the store.
-fn stored_among<R: Files<File = File> + AllocGlobal + Clone + Drop>(
+/// The digests of the store's files.
+fn stored_in<R: Files<File = File> + AllocGlobal + Clone + Drop>(
     folder: &mut OpenFolder<R>,
-    mails: &BTreeSet<Digest>,
-) -> Result<u64, FoldFault> {
+) -> Result<Vec<Digest>, FoldFault> {
     match stored(folder.alloc, &mut folder.tree) {
-        Ok(stored) => Ok(count_among(&stored.digests, mails) as u64),
+        Ok(stored) => Ok(stored.digests),
         Err(fault) => Err(said(&folder.tree, fault)),
     }
+}
+
+/// Adds the digests to the set.
+fn insert_all(digests: &mut BTreeSet<Digest>, more: &[Digest]) -> Result<(), AllocError>
+    ensures { OnOk result ((digest : List ℕ) → has_digest digests.new.keys digest
+        ≡ (has_digest digests.old.keys digest || list_any (λ (other : List ℕ). is_eq (text_cmp other digest)) more.now)) }
+{
+    for digest in more {
+        insert_unless(digests, *digest, false)?;
+    }
+    Ok(())
+}
+
+/// Those of the digests that are among these mails, in their order.
+fn among(
+    alloc: Global,
+    digests: &[Digest],
+    mails: &BTreeSet<Digest>,
+) -> Result<Vec<Digest>, AllocError>
+    ensures { IfOk result (λ found. found.items ≡ filter (has_digest mails.now.keys) digests.now) }
+{
+    let mut found = Vec::new(alloc);
+    for digest in digests {
+        push_if(&mut found, *digest, mails.contains(digest))?;
+    }
+    Ok(found)
+}
+
+/// Appends the digest, if it is wanted.
+fn push_if(found: &mut Vec<Digest>, digest: Digest, is_wanted: bool) -> Result<(), AllocError>
+    ensures { OnOk result (found.new.items ≡ found.old.items ++ (if is_wanted then digest ∷ [] else [])) }
+{
+    if is_wanted {
+        found.push(digest)?;
+    }
+    Ok(())
 }
 
 /// How many of the digests are among these.

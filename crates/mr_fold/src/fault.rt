@@ -3,6 +3,7 @@ ghost use Rattle.std.specs.Prelude.{◌≡◌};
 ghost use Rattle.mr_fold.specs.Fault.{settle_fault_number, settle_fault_of_plan};
 ghost use Rattle.mr_fold.specs.declared.fault.SettleFault.TheVariants.{OutOfMemory, Kept, Files};
 
+use mr_compare::Digest;
 use mr_folder::FilesFailed;
 use mr_kept::KeptFault;
 use mr_maildir::FileFault as PlanFault;
@@ -14,9 +15,9 @@ use thiserror::Error;
 pub enum SettleFault {
     #[error("out of memory")]
     OutOfMemory,
-    /// A mail stands in more folders than a message may have labels.
+    /// The mail whose file has this SHA-256 stands in more folders than a message may have labels.
     #[error("a mail stands in more than 16 folders")]
-    TooManyFolders,
+    TooManyFolders(Digest),
     /// A mail's versions are held no more: what is held was read before it changed.
     #[error("the versions of a mail are held no more")]
     NotHeld,
@@ -41,7 +42,7 @@ impl SettleFault {
     {
         match self {
             SettleFault::OutOfMemory => 0,
-            SettleFault::TooManyFolders => 1,
+            SettleFault::TooManyFolders(_) => 1,
             SettleFault::NotHeld => 2,
             SettleFault::Kept(_) => 3,
             SettleFault::Files => 4,

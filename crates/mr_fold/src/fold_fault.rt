@@ -4,6 +4,7 @@ ghost use Rattle.mr_fold.specs.declared.fold_fault.FoldFault.TheVariants.{OutOfM
 ghost use Rattle.mr_fold.specs.FoldFault.{fold_fault_number, fold_fault_of_compare, fold_fault_of_file, fold_fault_of_store, explained_settle, files_failed};
 
 use crate::fault::SettleFault;
+use crate::stored_mail::StoredMail;
 use crate::straying::StrayMails;
 use mr_compare::CompareFault;
 use mr_folder::StoreFault;
@@ -46,12 +47,13 @@ pub enum FoldFault {
     #[error("{count} mails are missing, and at most {most} may be deleted in one go: nothing was done")]
     TooManyDeletions { count: usize, most: usize },
     /// A mail stands in more folders than a message may have labels.
-    #[error("a mail stands in more than 16 folders")]
-    TooManyFolders,
+    #[error("a mail stands in more than 16 folders: its file is {0}")]
+    TooManyFolders(StoredMail),
     /// In a folder other mails' files have both names that a mail's file may get.
     #[error("other mails' files have the names that a mail's file may get")]
     NameTaken,
-    /// A file that was seen isn't there any more, or a new one is where none was.
+    /// A file that was seen isn't there any more, or a new one is where none was; or a mail was changed elsewhere, and two scans don't say
+    /// that the folder was quiet while it was seen to be changed here.
     #[error("another program changed files meanwhile: settle again")]
     Changed,
     /// What is held was read before it changed.
@@ -78,7 +80,7 @@ impl FoldFault {
             FoldFault::Files => 7,
             FoldFault::System(_) => 8,
             FoldFault::TooManyDeletions { .. } => 9,
-            FoldFault::TooManyFolders => 10,
+            FoldFault::TooManyFolders(_) => 10,
             FoldFault::NameTaken => 11,
             FoldFault::Changed => 12,
             FoldFault::NotHeld => 13,
@@ -94,7 +96,7 @@ impl SettleFault {
     {
         match self {
             SettleFault::OutOfMemory => FoldFault::OutOfMemory,
-            SettleFault::TooManyFolders => FoldFault::TooManyFolders,
+            SettleFault::TooManyFolders(digest) => FoldFault::TooManyFolders(StoredMail { digest }),
             SettleFault::NotHeld => FoldFault::NotHeld,
             SettleFault::Kept(KeptFault::OutOfMemory) => FoldFault::OutOfMemory,
             SettleFault::Kept(fault) => FoldFault::Journal(fault.explained(journal)),

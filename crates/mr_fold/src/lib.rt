@@ -2,9 +2,10 @@
 //!
 //! [`init`] makes a folder's replica, and [`open`] opens it again: its journal is `.mailfold/log`, and how its folders lie is told in
 //! `.mailfold/config` or found. [`settle_folder`] brings both together: the Maildir is scanned, what the user changed is told and kept, and
-//! files that have to be moved for it only then, so that they stand as the replica holds the mail; [`look`] says what it would do. Where it would
+//! files that have to be moved for it only then, so that they stand as the replica holds the mail; [`look`] says what it would do; [`settle_if_changed`] and
+//! [`look_if_changed`] don't look where nothing was changed since. Where it would
 //! delete a mail that lies in a folder that the layout hasn't got, nothing is done ([`StrayMails`]). [`sweep_folder`] lets files go that no mail
-//! names, and [`expire_folder`] those of deleted mail too. The journal keeps notes beside its events: how far of the feed the Maildir shows,
+//! names, and [`expire_folder`] those of deleted mail too ([`deleted_mails`]). The journal keeps notes beside its events: how far of the feed the Maildir shows,
 //! and with whom a sync came to its end ([`shown_of`], [`meetings_of`]).
 //!
 //! [`settle`] is the same over any files ([`MailFiles`]): there the contracts say what is told, and that nothing is shown before it is
@@ -18,6 +19,7 @@
 #![tactic(auto)]
 
 mod ancestors;
+mod deciding;
 mod digests;
 mod disk_mails;
 mod expiring;
@@ -32,23 +34,30 @@ mod names;
 mod opening;
 mod parting;
 mod released;
+mod rest_bytes;
+mod resting;
 mod settings;
 mod settling;
 mod shown;
 mod sides;
 mod state;
+mod stored_mail;
 mod straying;
 mod targets;
 mod telling;
 
-pub use expiring::{expire_folder, needed_mails};
+pub use expiring::{deleted_mails, expire_folder, needed_mails};
 pub use fault::SettleFault;
 pub use fold_fault::FoldFault;
-pub use looking::{Looked, PassedOver, Settled, look, settle_folder, sweep_folder};
+pub use looking::{
+    Looked, PassedOver, Settled, look, look_if_changed, settle_folder, settle_if_changed,
+    sweep_folder,
+};
 pub use mark::mark_of;
 pub use message::{day_at, folder_lines, new_mail};
 pub use opening::{FolderSetup, Kept, OpenFolder, begin_log, check_made, init, mark_for, open};
 pub use settling::{HeldItems, MailFiles, settle};
 pub use shown::note_shown;
 pub use state::{meetings_of, shown_of};
+pub use stored_mail::StoredMail;
 pub use straying::{StrayMails, WhyPassedOver, layout_name};

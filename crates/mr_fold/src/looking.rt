@@ -1,9 +1,10 @@
 //! An open folder is looked at, and settled. What real files take and give no contract says, so what is here is tested only.
-ghost use Rattle.std.specs.Prelude.{◌≡◌, ◌<◌, ◌^◌, IfOk, length};
+ghost use Rattle.std.specs.Prelude.{◌≡◌, ◌==◌, ◌&&◌, ◌<◌, ◌^◌, IfOk, length};
 ghost use Rattle.std.specs.Cmp.Lexicographic.{slice_cmp};
-ghost use Rattle.std.specs.List.Sorted.{IsSorted};
+ghost use Rattle.std.specs.List.Sorted.{IsPermutation, IsSorted};
 ghost use Rattle.std.specs.Ordering.{nat_cmp};
 
+use crate::deciding::decided_acts;
 use crate::disk_mails::DiskMails;
 use crate::fault::SettleFault;
 use crate::fold_fault::{FoldFault, files_failed};
@@ -12,13 +13,14 @@ use crate::lacking::lacking_items;
 use crate::opening::{Kept, OpenFolder};
 use crate::parting::moved_first;
 use crate::released::with_released;
+use crate::resting::{Stand, empty_note, is_noted, note_stand, stand_of};
 use crate::settling::settle;
 use crate::sides::{first_sides, second_sides, take_away};
 use crate::straying::stray_mails;
 use crate::targets::targets_of;
 use mr_compare::{
-    Digest, LeftMail, MailAct, Shown, Sides, Tally, acts_of, most_deletions, standings_of_held,
-    standings_of_unheld, tally_of, unheld_digests,
+    Digest, LeftMail, MailAct, Shown, Sides, Standing, Tally, acts_of, most_deletions,
+    standings_of_held, standings_of_unheld, tally_of, unheld_digests,
 };
 use mr_folder::{DiskTree, FolderNames, FolderPath, StoreFault, sweep};
 use mr_itemset::SparingKnowledge;
@@ -60,12 +62,18 @@ pub struct PassedOver {
     pub names: u64,
 }
 
-/// What was found in a folder, and what is done for it.
+/// The folders of a Maildir.
 #[derive(Drop)]
-struct Found {
+struct Listed {
     table: FolderTable,
     /// How many names of folders aren't UTF-8.
     unreadable: u64,
+}
+
+/// What was found in a folder, and what is done for it.
+#[derive(Drop)]
+struct Found {
+    listed: Listed,
     held: HeldSide,
     sight: Sight,
     /// The held items whose files aren't here.
@@ -88,29 +96,106 @@ struct Sight {
 /// Settles a folder: the user's changes of the Maildir are told and kept, and what was changed elsewhere is shown. It is called
 /// between syncs.
 ///
-/// A mail is deleted, or taken out of a folder, only where two scans in a row say so. At most `most` mails are deleted in one go, and where
-/// none is told as many as [`most_deletions`] gives for those that are held.
+/// A mail is deleted, or taken out of a folder, only where two scans in a row say so. Where they don't, its change waits for the next
+/// settling, if it is held as it was left and no heads of it are to be merged. At most `most` mails are deleted in one go, and where none is told
+/// as many as [`most_deletions`] gives for those that are held.
 ///
-/// `PassedOver` where a mail would be deleted whose file was moved into a folder that is passed over, and else `TooManyDeletions` where more
-/// mails are missing; then nothing was done. After any other fault the next settling goes on: `Changed` where
-/// another program was at work, `Journal` where the journal failed, so that the folder has to be opened again, `System` with what
-/// the system said of the files. It costs two calls of the system for each file, and a walk over what is held; where nothing is to be done
-/// nothing is written. Only where a mail would be deleted the folders that are passed over are listed too, with a call of the system for
-/// each file.
+/// `Changed` where such a change can't wait: another program was at work, and the mail was changed elsewhere too or its heads are to be merged,
+/// so that what was done here or elsewhere would be lost. Else `PassedOver` where a mail would be deleted whose file was moved into a folder that is
+/// passed over, and else `TooManyDeletions` where more mails are missing. After these nothing was done. After each other fault, as after the
+/// first, the next settling goes on: `Changed` too where another program was at work while files were moved, `Journal` where the journal failed, so
+/// that the folder has to be opened again, `System` with what the system said of the files. It costs two calls of the system for each file, and a
+/// walk over what is held; where nothing is to be done nothing is written. Only where a mail would be deleted the folders that are passed over
+/// are listed too, with a call of the system for each file.
 pub fn settle_folder<R: Files<File = File> + AllocGlobal + Clone + Drop>(
     folder: &mut OpenFolder<R>,
     most: Option<usize>,
 ) -> Result<Settled, FoldFault> {
     let found = found_in(folder, most)?;
-    if !is_settled(folder, &found) {
-        show(folder, &found)?;
-        note_settled(folder, copied(folder.alloc, &found.lacking)?)?;
+    settle_found(folder, &found)?;
+    Ok(settled_of(found))
+}
+
+/// As [`settle_folder`], but where nothing was changed since a call of it that found nothing to do, no file is looked at, and nothing is
+/// done. `root` is the path that the folder was opened at.
+///
+/// What was changed is told by the times of the last changes of the folders' `cur` and `new`, of the store, and of the log: a name that
+/// comes, goes or is changed moves such a time, and no program can set it. What changes a file in its place moves none.
+/// `.mailfold/tmp/rest` has how all stood; where that can't be read or written, where the folders have names that aren't
+/// those of mail's files, and where a change is as new as the file system's clock, the folder is settled. It costs the listing of the folders
+/// and two calls of the system for each of them, and where something was changed those of a settling too.
+pub fn settle_if_changed<R: Files<File = File> + AllocGlobal + Clone + Drop>(
+    rt: &R,
+    root: &str,
+    folder: &mut OpenFolder<R>,
+    most: Option<usize>,
+) -> Result<Settled, FoldFault> {
+    let listed = listed_in(folder)?;
+    let before = stand_of(rt, root, folder, &listed.table);
+    if rests(rt, root, &before) {
+        return Ok(Settled {
+            tally: tally_of(&[]),
+            passed_over: passed_over(listed, 0),
+        });
     }
+    let now = empty_note(rt, root);
+    let found = found_at(folder, listed, most)?;
+    if settle_found(folder, &found)? && is_told(&found.sight.scan) {
+        note_rest(rt, root, folder, &found.listed.table, before, now);
+    }
+    Ok(settled_of(found))
+}
+
+/// Whether it is noted that the folder stood so.
+fn rests<R: Files<File = File> + AllocGlobal>(rt: &R, root: &str, stand: &Option<Stand>) -> bool {
+    match stand {
+        Some(stand) => is_noted(rt, root, stand),
+        None => false,
+    }
+}
+
+/// Whether a scan saw all that is in the folders, and each name is that of a mail's file.
+fn is_told(scan: &Scan) -> bool
+    ensures { result ≡ (scan.now.is_quiet && (scan.now.unreadable == 0)) }
+{
+    scan.is_quiet && scan.unreadable == 0
+}
+
+/// Notes that nothing has to be done in a folder that stood so before this time, if it stands so still.
+fn note_rest<R: Files<File = File> + AllocGlobal + Clone + Drop>(
+    rt: &R,
+    root: &str,
+    folder: &OpenFolder<R>,
+    table: &FolderTable,
+    before: Option<Stand>,
+    now: Option<u64>,
+) {
+    let after = stand_of(rt, root, folder, table);
+    if let (Some(before), Some(after), Some(now)) = (before, after, now) {
+        note_stand(rt, root, &before, &after, now);
+    }
+}
+
+/// Does what is to be done for what was found. Whether that was nothing.
+fn settle_found<R: Files<File = File> + AllocGlobal + Clone + Drop>(
+    folder: &mut OpenFolder<R>,
+    found: &Found,
+) -> Result<bool, FoldFault> {
+    if is_settled(folder, found) {
+        return Ok(true);
+    }
+    show(folder, found)?;
+    note_settled(folder, copied(folder.alloc, &found.lacking)?)?;
+    Ok(false)
+}
+
+/// What was done, and what was passed over.
+fn settled_of(found: Found) -> Settled {
     let Looked { acts, passed_over } = told_of(found);
-    Ok(Settled {
+    Settled {
         tally: tally_of(&acts),
         passed_over,
-    })
+    }
 }
 
 /// Whether nothing is to be done, and the journal has that all is shown.
@@ -124,29 +209,47 @@ fn is_settled<R: Drop>(folder: &OpenFolder<R>, found: &Found) -> bool {
 
 /// What a settling would do now, however many mails it would delete.
 ///
-/// New files of the Maildir are taken into the store, and nothing else changes. The faults are those of the files, and `PassedOver` as a
-/// settling has it.
+/// New files of the Maildir are taken into the store, and nothing else changes. The faults are those of the files, and `Changed` and
+/// `PassedOver` as a settling has them before anything is done.
 pub fn look<R: Files<File = File> + AllocGlobal + Clone + Drop>(
     folder: &mut OpenFolder<R>,
 ) -> Result<Looked, FoldFault> {
     Ok(told_of(found_in(folder, Some(usize::MAX))?))
 }
 
+/// As [`look`], but where [`settle_if_changed`] wouldn't look either, nothing is done.
+pub fn look_if_changed<R: Files<File = File> + AllocGlobal + Clone + Drop>(
+    rt: &R,
+    root: &str,
+    folder: &mut OpenFolder<R>,
+) -> Result<Looked, FoldFault> {
+    let listed = listed_in(folder)?;
+    let stand = stand_of(rt, root, folder, &listed.table);
+    if rests(rt, root, &stand) {
+        return Ok(Looked {
+            acts: Vec::new(folder.alloc),
+            passed_over: passed_over(listed, 0),
+        });
+    }
+    Ok(told_of(found_at(folder, listed, Some(usize::MAX))?))
+}
+
 /// What is done, and what was passed over.
 fn told_of(found: Found) -> Looked {
-    let Found {
-        table,
-        unreadable,
-        sight,
-        ..
-    } = found;
+    let Found { listed, sight, .. } = found;
     let Sight { scan, acts, .. } = sight;
-    let passed_over = PassedOver {
-        layout: table.layout(),
-        names: unreadable.saturating_add(scan.unreadable),
-        folders: table.into_passed_over(),
-    };
+    let passed_over = passed_over(listed, scan.unreadable);
     Looked { acts, passed_over }
+}
+
+/// What is passed over, with so many names in the folders.
+fn passed_over(listed: Listed, names: u64) -> PassedOver {
+    let Listed { table, unreadable } = listed;
+    PassedOver {
+        layout: table.layout(),
+        names: unreadable.saturating_add(names),
+        folders: table.into_passed_over(),
+    }
 }
 
 /// Takes the files out of the store that no held mail names. Files of the Maildir stay, and those that aren't told yet are taken
@@ -183,11 +286,21 @@ fn found_in<R: Files<File = File> + AllocGlobal + Clone + Drop>(
     folder: &mut OpenFolder<R>,
     most: Option<usize>,
 ) -> Result<Found, FoldFault> {
+    let listed = listed_in(folder)?;
+    found_at(folder, listed, most)
+}
+
+/// Looks at a folder with these folders.
+fn found_at<R: Files<File = File> + AllocGlobal + Clone + Drop>(
+    folder: &mut OpenFolder<R>,
+    listed: Listed,
+    most: Option<usize>,
+) -> Result<Found, FoldFault> {
     look_at(
         folder.alloc,
         folder.kept.replica(),
         &mut folder.tree,
-        folder.layout,
+        listed,
         &folder.shown,
         most,
     )
@@ -198,40 +311,50 @@ fn look_at<R: Files<File = File> + AllocGlobal + Clone + Drop>(
     alloc: Global,
     replica: &Replica<SparingKnowledge>,
     tree: &mut DiskTree<R>,
-    layout: Layout,
+    listed: Listed,
     shown: &Shown,
     most: Option<usize>,
 ) -> Result<Found, FoldFault> {
     let held = held_side(alloc, replica)?;
     let left = left_side(alloc, replica, shown, &held.items)?;
-    let (table, unreadable) = table_of(alloc, tree, layout)?;
-    let sight = seen(alloc, replica, tree, &table, left, &held, most)?;
+    let sight = seen(alloc, replica, tree, &listed.table, left, &held, most)?;
     let lacking = lacking_items(alloc, &held.items, &sight.lacking)?;
     Ok(Found {
-        table,
-        unreadable,
+        listed,
         held,
         sight,
         lacking,
     })
 }
 
-/// The folders that are there, and how many names of folders aren't UTF-8.
-fn table_of<R: Files<File = File> + AllocGlobal + Clone + Drop>(
-    alloc: Global,
-    tree: &mut DiskTree<R>,
-    layout: Layout,
-) -> Result<(FolderTable, u64), FoldFault> {
-    match tree.folders(alloc) {
-        Ok(found) => {
-            let FolderNames {
-                folders,
-                unreadable,
-            } = found;
-            Ok((FolderTable::of(alloc, layout, folders)?, unreadable))
-        }
-        Err(_) => Err(files_failed(tree.error())),
+/// The folders that are there.
+fn listed_in<R: Files<File = File> + AllocGlobal + Clone + Drop>(
+    folder: &mut OpenFolder<R>,
+) -> Result<Listed, FoldFault> {
+    match folder.tree.folders(folder.alloc) {
+        Ok(found) => listed_of(folder.alloc, folder.layout, found),
+        Err(_) => Err(files_failed(folder.tree.error())),
     }
+}
+
+fn listed_of(alloc: Global, layout: Layout, found: FolderNames) -> Result<Listed, FoldFault> {
+    let FolderNames {
+        folders,
+        unreadable,
+    } = found;
+    let table = FolderTable::of(alloc, layout, in_order(folders))?;
+    Ok(Listed { table, unreadable })
+}
+
+/// The folders in the order of their paths, the Maildir itself first. So which of two with one label is taken is the same at each settling,
+/// in whatever order the file system tells them.
+fn in_order(folders: Vec<FolderPath>) -> Vec<FolderPath>
+    ensures same { IsPermutation folders.items result.items }
+    ensures sorted { IsSorted (slice_cmp nat_cmp) result.items }
+{
+    let mut folders = folders;
+    folders.sort_unstable_by(|a, b| a.as_str().cmp(b.as_str()));
+    folders
 }
 
 /// Scans the folders, twice where something would be taken away, and finds what is done.
@@ -248,7 +371,7 @@ fn seen<R: Files<File = File> + AllocGlobal + Clone + Drop>(
     let first = scanned(alloc, tree, table, &mut index)?;
     let sides = first_sides(alloc, left, &held.mails, &first, &index)?;
     let sides = with_released(alloc, replica, &held.items, sides)?;
-    let acts = acts_with(alloc, held, &sides, usize::MAX)?;
+    let acts = acts_of(alloc, &standings_with(alloc, held, &sides)?, usize::MAX)?;
     if take_away(&acts, &held.mails) {
         let second = scanned(alloc, tree, table, &mut index)?;
         let sides = second_sides(alloc, sides, &held.mails, &first, &second, &index)?;
@@ -276,7 +399,8 @@ fn sight_of(
     })
 }
 
-/// What is done, as two scans say, unless it would delete a mail that lies in a folder that is passed over, or too many mails.
+/// What is done, as two scans say, unless a change would be lost, or it would delete a mail that lies in a folder that is passed over, or too
+/// many mails.
 fn allowed_acts<R: Files<File = File> + AllocGlobal + Clone + Drop>(
     alloc: Global,
     tree: &mut DiskTree<R>,
@@ -286,13 +410,14 @@ fn allowed_acts<R: Files<File = File> + AllocGlobal + Clone + Drop>(
     sides: &Sides,
     most: Option<usize>,
 ) -> Result<Vec<MailAct>, FoldFault> {
-    let acts = acts_with(alloc, held, sides, usize::MAX)?;
+    let mails = standings_with(alloc, held, sides)?;
+    let acts = decided_acts(alloc, &mails)?;
     if tally_of(&acts).deleted == 0 {
         return Ok(acts);
     }
     refuse_strays(alloc, tree, table, index, &acts)?;
     let most = most.unwrap_or(most_deletions(held.mails.len()));
-    acts_with(alloc, held, sides, most)
+    Ok(acts_of(alloc, &mails, most)?)
 }
 
 /// Refuses acts that would delete a mail whose file lies in a folder that is passed over.
@@ -313,19 +438,18 @@ fn refuse_strays<R: Files<File = File> + AllocGlobal + Clone + Drop>(
     }
 }
 
-/// What is done for the mails, by these sides: of those that are held, and then of the others.
-fn acts_with(
+/// How the mails stand, by these sides: those that are held, and then the others.
+fn standings_with(
     alloc: Global,
     held: &HeldSide,
     sides: &Sides,
-    most: usize,
-) -> Result<Vec<MailAct>, FoldFault> {
+) -> Result<Vec<Standing>, AllocError> {
     let mut standings = standings_of_held(alloc, &held.mails, sides)?;
     let unheld = unheld_digests(alloc, &held.items, sides)?;
     for standing in standings_of_unheld(alloc, &unheld, sides)? {
         standings.push(standing)?;
     }
-    Ok(acts_of(alloc, &standings, most)?)
+    Ok(standings)
 }
 
 /// The store's mails.
@@ -382,7 +506,13 @@ fn settle_seen<R: Files<File = File> + AllocGlobal + Clone + Drop>(
     let (moved, standing) = acts.split_at(found.sight.moved.min(acts.len()));
     let lacking = few(copied(alloc, &found.lacking)?)?;
     let targets = targets_of(alloc, kept.replica(), moved, &found.held.mails)?;
-    let mut files = DiskMails::new(alloc, tree, &found.table, &found.sight.scan, &targets)?;
+    let mut files = DiskMails::new(
+        alloc,
+        tree,
+        &found.listed.table,
+        &found.sight.scan,
+        &targets,
+    )?;
     settle(
         alloc,
         kept,

@@ -30,10 +30,10 @@ pub fn new_mail(
     day: Day,
 ) -> Result<Message, SettleFault>
     ensures value { IfOk result (λ message. message ≡ new_mail (record { digest = digest.now; size = size; lines = lines.now }) view day) }
-    ensures many { (result ≡ Err TooManyFolders) ↔ (MAX_LABELS < length view.labels) }
+    ensures many { (result ≡ Err (TooManyFolders digest.now)) ↔ (MAX_LABELS < length view.labels) }
 {
     let Some(place) = view.into_place(day) else {
-        return Err(SettleFault::TooManyFolders);
+        return Err(SettleFault::TooManyFolders(*digest));
     };
     let body = body_of(alloc, digest, size, lines)?;
     match Message::try_of_place(alloc, "", "", body.as_bytes(), place) {

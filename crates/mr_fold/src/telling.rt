@@ -59,8 +59,8 @@ fn tell_act<D: Device + Drop, F: MailFiles>(
 {
     match act {
         Act::Create => tell_new(alloc, kept, files, digest),
-        Act::Edit(view) => tell_edits(alloc, kept, items, view),
-        Act::Delete => tell_gone(alloc, kept, items),
+        Act::Edit(view) => tell_edits(alloc, kept, digest, items, view),
+        Act::Delete => tell_gone(alloc, kept, digest, items),
         Act::Agree => Ok(()),
         Act::Follow => Ok(()),
         Act::Remove => Ok(()),
@@ -71,13 +71,14 @@ fn tell_act<D: Device + Drop, F: MailFiles>(
 fn tell_gone<D: Device + Drop>(
     alloc: Global,
     kept: &mut Journaled<SparingKnowledge, D>,
+    digest: &Digest,
     items: &[ItemHeads],
 ) -> Result<(), SettleFault>
     ensures told { OnOk result (Grows (AreEdits gone_view items.now) (replica_of kept.old).log (replica_of kept.new).log) }
     ensures journal { SameJournal kept.old kept.new }
 {
     let view = gone(alloc);
-    tell_edits(alloc, kept, items, &view)?;
+    tell_edits(alloc, kept, digest, items, &view)?;
     Ok(())
 }
 
@@ -107,6 +108,7 @@ fn gone(alloc: Global) -> View
 fn tell_edits<D: Device + Drop>(
     alloc: Global,
     kept: &mut Journaled<SparingKnowledge, D>,
+    digest: &Digest,
     items: &[ItemHeads],
     view: &View,
 ) -> Result<(), SettleFault>
@@ -114,7 +116,7 @@ fn tell_edits<D: Device + Drop>(
     ensures journal { SameJournal kept.old kept.new }
 {
     for heads in items {
-        tell_edit(alloc, kept, &heads.versions, view)?;
+        tell_edit(alloc, kept, digest, &heads.versions, view)?;
     }
     Ok(())
 }
@@ -123,13 +125,14 @@ fn tell_edits<D: Device + Drop>(
 fn tell_edit<D: Device + Drop>(
     alloc: Global,
     kept: &mut Journaled<SparingKnowledge, D>,
+    digest: &Digest,
     versions: &[Version],
     view: &View,
 ) -> Result<(), SettleFault>
     ensures told { OnOk result (GrowsByEdit view.now versions.now (replica_of kept.old).log (replica_of kept.new).log) }
     ensures journal { SameJournal kept.old kept.new }
 {
-    let message = edited_head(alloc, kept.replica(), versions, view)?;
+    let message = edited_head(alloc, kept.replica(), digest, versions, view)?;
     let bases = copied(alloc, versions)?;
     kept.edit(bases, message)?;
     Ok(())
@@ -148,6 +151,7 @@ fn copied(alloc: Global, versions: &[Version]) -> Result<Bases, SettleFault>
 fn edited_head(
     alloc: Global,
     replica: &Replica<SparingKnowledge>,
+    digest: &Digest,
     versions: &[Version],
     view: &View,
 ) -> Result<Message, SettleFault>
@@ -159,23 +163,28 @@ fn edited_head(
         None => None,
     };
     match head {
-        Some(head) => edited(alloc, head.message(), view),
+        Some(head) => edited(alloc, digest, head.message(), view),
         None => Err(SettleFault::NotHeld),
     }
 }
 
-/// The message with the view's labels and flags in place of its own. `TooManyFolders` over 16 labels.
-fn edited(alloc: Global, old: &Message, view: &View) -> Result<Message, SettleFault>
+/// The message of this mail with the view's labels and flags in place of its own. `TooManyFolders` over 16 labels.
+fn edited(
+    alloc: Global,
+    digest: &Digest,
+    old: &Message,
+    view: &View,
+) -> Result<Message, SettleFault>
     ensures value { IfOk result (λ message. message ≡ record old.now { labels = view.now.labels; flags = view.now.flags }) }
     ensures labels { IfOk result (λ message. message.labels ≡ view.now.labels) }
     ensures flags { IfOk result (λ message. message.flags ≡ view.now.flags) }
-    ensures many { (result ≡ Err SettleFault.TooManyFolders) ↔ (MAX_LABELS < length view.now.labels) }
+    ensures many { (result ≡ Err (SettleFault.TooManyFolders digest.now)) ↔ (MAX_LABELS < length view.now.labels) }
 {
     if view.labels().len() > MAX_LABELS {
-        return Err(SettleFault::TooManyFolders);
+        return Err(SettleFault::TooManyFolders(*digest));
     }
     let Some(place) = view.copy(alloc)?.into_place(old.day()) else {
-        return Err(SettleFault::TooManyFolders);
+        return Err(SettleFault::TooManyFolders(*digest));
     };
     match Message::try_of_place(alloc, old.from(), old.subject(), old.body(), place) {
         Ok(message) => Ok(message),

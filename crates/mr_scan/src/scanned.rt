@@ -1,5 +1,5 @@
 //! What a scan has found.
-ghost use Rattle.std.specs.Prelude.{◌≡◌, ◌&&◌, ℕ, List, if◌then◌else◌, not, None, IfOk, OnOk};
+ghost use Rattle.std.specs.Prelude.{◌≡◌, ◌&&◌, ◌++◌, ◌∷◌, [], ℕ, List, if◌then◌else◌, not, None, IfOk, OnOk};
 ghost use Rattle.std.specs.Map.{lookup};
 ghost use Rattle.std.specs.Ordering.{is_eq};
 ghost use Rattle.mr_mail.specs.Label.{text_cmp};
@@ -77,24 +77,51 @@ fn put(
     ensures { OnOk result ((other : List ℕ) → files_at mails.new.entries other
         ≡ files_with (is_eq (text_cmp digest other)) file (files_at mails.old.entries other)) }
 {
-    let mut files = taken(alloc, mails, digest)?;
+    let one = alone(alloc, file)?;
+    match mails.insert(digest, one)? {
+        Some(before) => put_behind(alloc, mails, digest, before),
+        None => Ok(()),
+    }
+}
+
+/// A file alone. Most mails have one.
+fn alone(alloc: Global, file: MailFile) -> Result<Vec<MailFile>, AllocError>
+    ensures { IfOk result (λ files. files.items ≡ file ∷ []) }
+{
+    let mut files = Vec::with_capacity(alloc, 1)?;
     files.push(file)?;
+    Ok(files)
+}
+
+/// Puts the files of a mail behind those that were found before.
+fn put_behind(
+    alloc: Global,
+    mails: &mut BTreeMap<[u8; 32], Vec<MailFile>>,
+    digest: [u8; 32],
+    before: Vec<MailFile>,
+) -> Result<(), AllocError>
+    ensures { OnOk result ((other : List ℕ) → files_at mails.new.entries other
+        ≡ (if is_eq (text_cmp digest other) then before.items ++ files_at mails.old.entries digest else files_at mails.old.entries other)) }
+{
+    let mut files = before;
+    let mut own = taken(alloc, mails, digest);
+    files.append(&mut own)?;
     mails.insert(digest, files)?;
     Ok(())
 }
 
-/// Takes out the files of a mail. Most mails have one.
+/// Takes out the files of a mail.
 fn taken(
     alloc: Global,
     mails: &mut BTreeMap<[u8; 32], Vec<MailFile>>,
     digest: [u8; 32],
-) -> Result<Vec<MailFile>, AllocError>
-    ensures files { IfOk result (λ files. files.items ≡ files_at mails.old.entries digest) }
+) -> Vec<MailFile>
+    ensures files { result.items ≡ files_at mails.old.entries digest }
     ensures gone { (other : List ℕ) → lookup (λ own. is_eq (text_cmp other own)) mails.new.entries
         ≡ (if is_eq (text_cmp digest other) then None else lookup (λ own. is_eq (text_cmp other own)) mails.old.entries) }
 {
     match mails.remove(&digest) {
-        Some(files) => Ok(files),
-        None => Vec::with_capacity(alloc, 1),
+        Some(files) => files,
+        None => Vec::new(alloc),
     }
 }

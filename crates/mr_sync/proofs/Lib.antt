@@ -4,5 +4,7 @@ pub mod GrowLaws
 pub mod HelloLaws
 pub mod HostLaws
 pub mod ListLaws
+pub mod MarkLaws
 pub mod SayLaws
 pub mod SendLaws
+pub mod TakeLaws

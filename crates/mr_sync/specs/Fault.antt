@@ -1,11 +1,11 @@
 -- numbers of faults
-use Rattle.std.specs.Prelude.{ℕ}
+use Rattle.std.specs.Prelude.{◌≡◌, ℕ}
 use Rattle.mr_forms.specs.declared.fault.FormFault.{FormFault}
 use Rattle.mr_forms.specs.declared.fault.FormFault.TheVariants as form
 use Rattle.mr_wire.specs.declared.fault.WireFault.{WireFault}
 use Rattle.mr_wire.specs.declared.fault.WireFault.TheVariants as wire
 use Rattle.mr_sync.specs.declared.fault.SyncFault.{SyncFault}
-use Rattle.mr_sync.specs.declared.fault.SyncFault.TheVariants.{OutOfMemory, Kept, Files, Knowledge, Itself, SameId, Renewed, PeerIsOldCopy, OldCopy, NotMet, Frame, OtherFrame, OtherSide, BadList, NoFile, OtherFile, HalfFile, TooLong, Unfinished}
+use Rattle.mr_sync.specs.declared.fault.SyncFault.TheVariants.{OutOfMemory, Kept, Files, Knowledge, Itself, SameId, Renewed, PeerIsOldCopy, OldCopy, NotMet, Frame, OtherFrame, OtherSide, BadList, NoFile, OtherFile, HalfFile, TooLong, Unfinished, OtherHistory, PeerWentOn}
 
 -- 0 where memory ran out, and from 1 in the order of the variants
 abbrev pub sync_fault_number : SyncFault → ℕ
@@ -28,6 +28,14 @@ sync_fault_number OtherFile = 15
 sync_fault_number HalfFile = 16
 sync_fault_number TooLong = 17
 sync_fault_number Unfinished = 18
+sync_fault_number (OtherHistory id) = 19
+sync_fault_number (PeerWentOn id) = 20
+
+-- the number is that of a fault of which this holds
+pub record IsToldFor (P : SyncFault → Type 0) (number : ℕ) : Type 0 where
+  pub fault : SyncFault
+  pub number_is : number ≡ sync_fault_number fault
+  pub holds : P fault
 
 -- the fault that one of a lower layer is: want of memory is that alone
 abbrev pub fault_of_form : FormFault → SyncFault

@@ -10,7 +10,9 @@ use Rattle.mr_itemset.specs.Normal.{Normal}
 use Rattle.mr_kept.specs.Kept.{head_of, replica_of}
 use Rattle.mr_kept.specs.declared.journaled.Journaled.{Journaled}
 use Rattle.mr_talk.specs.declared.hello.Hello.{Hello}
+use Rattle.mr_sync.specs.Asking.{AsksMet, IsMetAskFault, TakesMetAsk}
 use Rattle.mr_sync.specs.Hello.{IsHelloOf, Judges, met_by}
+use Rattle.mr_sync.specs.declared.fault.SyncFault.{SyncFault}
 use Rattle.mr_sync.specs.declared.host.FolderHost.{FolderHost}
 
 module _ {D F : Type 0} where
@@ -60,6 +62,21 @@ module _ {D F : Type 0} where
   -- the hello that the folder has for the one with this id, or for one whose id it doesn't know
   abbrev pub IsHelloFrom : FolderHost D F → Option ℕ → Hello → Type 0
   IsHelloFrom h = IsHelloOf (head_of (journaled_of h)).birth (replica_of (journaled_of h)) (lacks_files h)
+
+  -- what the other side said of itself, if it did
+  abbrev pub theirs_of : FolderHost D F → Option Hello
+  theirs_of h = h.talk.theirs
+
+  -- the bytes by which the folder asks it
+  abbrev pub AsksOf : FolderHost D F → List ℕ → FolderHost D F → Type 0
+  AsksOf old bytes new = AsksMet (theirs_of old) (replica_of (journaled_of old)) bytes (replica_of (journaled_of new))
+
+  -- what comes of the bytes by which it asks the folder
+  abbrev pub TakesAskOf : FolderHost D F → List ℕ → FolderHost D F → Type 0
+  TakesAskOf old bytes new = TakesMetAsk (theirs_of old) (replica_of (journaled_of old)) bytes (replica_of (journaled_of new))
+
+  abbrev pub IsAskFaultOf : FolderHost D F → List ℕ → FolderHost D F → SyncFault → Type 0
+  IsAskFaultOf old bytes new = IsMetAskFault (theirs_of old) (replica_of (journaled_of old)) bytes (replica_of (journaled_of new))
 
   -- what the folder finds of the one that said this: nothing stands in the way, and whether there is something to tell
   abbrev pub JudgesOf : FolderHost D F → Hello → Bool → Type 0

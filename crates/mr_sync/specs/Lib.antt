@@ -4,6 +4,7 @@ pub mod Fault
 pub mod Hello
 pub mod Host
 pub mod Lists
+pub mod Marks
 pub mod Named
 pub mod Rows
 pub mod Said

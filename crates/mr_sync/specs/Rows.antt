@@ -1,14 +1,18 @@
 -- worked rows: what the definitions give for small values
-use Rattle.std.specs.Prelude.{◌≡◌, [], ◌∷◌, true, false, None, refl}
+use Rattle.std.specs.Prelude.{◌≡◌, [], ◌∷◌, ◌++◌, replicate, true, false, None, refl}
+use Rattle.std.proofs.Common.{inl, inr, lit<, lit≤}
+use Rattle.mr_mail.specs.Mail.{Mail}
+use Rattle.mr_lookup.specs.Told.{message_at, own_name}
 use Rattle.mr_filter.specs.Filter.{clause_with}
 use Rattle.mr_replica.specs.declared.event.Reply.TheVariants.{Took}
 use Rattle.mr_talk.specs.declared.turn.Turn.TheVariants.{CallerSettles, CalledCloses}
-use Rattle.mr_sync.specs.declared.fault.SyncFault.TheVariants.{OutOfMemory, Unfinished}
+use Rattle.mr_sync.specs.declared.fault.SyncFault.TheVariants.{OutOfMemory, BadList, PeerWentOn}
 use Rattle.mr_sync.specs.Asking.{last_asked}
 use Rattle.mr_sync.specs.Ending.{is_last}
 use Rattle.mr_sync.specs.Fault.{sync_fault_number}
 use Rattle.mr_sync.specs.Hello.{is_free, keeps_all}
 use Rattle.mr_sync.specs.Lists.{push_out_bytes}
+use Rattle.mr_sync.specs.Marks.{AgreesWith, IsMarkFault, IsMarkOf, mark_bytes, message_short}
 use Rattle.mr_sync.specs.Said.{receipt_frames, record_frames}
 
 -- a push-out takes twelve bytes, the highest of each number first
@@ -46,5 +50,29 @@ taking_asks_nothing = refl
 pub first_number : sync_fault_number OutOfMemory ≡ 0
 first_number = refl
 
-pub last_number : sync_fault_number Unfinished ≡ 18
+pub last_number : sync_fault_number (PeerWentOn 7) ≡ 20
 last_number = refl
+
+-- a mark's counter comes first, the highest byte of it before the others
+pub mark_spelled : mark_bytes (record { counter = 258; short = replicate 16 7 }) ≡ 0 ∷ 0 ∷ 1 ∷ 2 ∷ replicate 16 7
+mark_spelled = refl
+
+-- where nothing is told of an author, the mark is of none
+pub nothing_marked : IsMarkOf [] 3 (record { counter = 0; short = replicate 16 0 })
+nothing_marked = inl (record { none = λ version of_author. refl; counter_is = refl; short_is = refl })
+
+-- replica 5 agrees with a mark of its first version by the message that its log tells of that
+pub first_agrees : (m : Mail) → AgreesWith 5 ((own_name 5 1, m) ∷ []) (record { counter = 1; short = message_short m })
+first_agrees m = inr (record {
+  message = m;
+  own = record { is_version = record { author_in = lit< tt; counter_from = lit≤ tt; counter_to = lit≤ tt }; is_told = refl };
+  short_is = refl;
+})
+
+-- of its second it tells none
+pub second_untold : (m : Mail) → message_at ((own_name 5 1, m) ∷ []) (own_name 5 2) ≡ None
+second_untold m = refl
+
+-- nineteen bytes have no room for a mark
+pub mark_too_short : IsMarkFault 5 [] (replicate 19 0) BadList
+mark_too_short = lit< tt

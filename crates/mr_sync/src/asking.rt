@@ -1,12 +1,13 @@
 //! Requests, this side's and the other's.
-ghost use Rattle.std.specs.Prelude.{◌≡◌, ℕ, true, IfOk, IfSome, MatchResult, OnOk};
+ghost use Rattle.std.specs.Prelude.{◌≡◌, ℕ, true, IfErr, IfOk, IfSome, MatchResult, OnOk};
 ghost use Rattle.mr_kept.specs.Kept.{nothing_waits, replica_of};
 ghost use Rattle.mr_wire.specs.FrameSpelling.{frame_bytes};
 ghost use Rattle.mr_wire.specs.Grammar.{Spells};
-ghost use Rattle.mr_sync.specs.Asking.{IsPullOf, last_asked};
+ghost use Rattle.mr_sync.specs.Asking.{Answers, IsAnswerFault, IsAskFault, IsMarkedPull, IsPullOf, TakesAsk, last_asked};
 ghost use Rattle.mr_sync.specs.Taken.{IsNoAskOf};
 
 use crate::fault::SyncFault;
+use crate::marks::{mark_of, marked, own_marked};
 use crate::said::{Said, say_all};
 use crate::talk::Leaving;
 use mr_itemset::SparingKnowledge;
@@ -18,8 +19,25 @@ use mr_version::Author;
 use mr_wire::{Ask, Frame, decode, encode_ask};
 use std::alloc::Global;
 
-/// Opens the next session, keeps that, and gives the frame of the request for it.
+/// Opens the next session, keeps that, and gives the request for it: a mark of the history of the one that is asked, and the frame.
+///
+/// The frame of a request that a replica makes has at most 8,000,000 bytes of fragments, so a message has room for a mark before it.
 pub(crate) fn ask<D: Device + Drop>(
+    alloc: Global,
+    kept: &mut Journaled<SparingKnowledge, D>,
+    theirs: Author,
+    said: &mut Said,
+) -> Result<Vec<u8>, SyncFault>
+    ensures all_kept { OnOk result (nothing_waits kept.new ≡ true) }
+    ensures marked { IfOk result (λ bytes. IsMarkedPull (replica_of kept.old) theirs bytes.items (replica_of kept.new)) }
+{
+    let mark = mark_of(alloc, kept.replica(), theirs)?;
+    let frame = pull_frame(alloc, kept, said)?;
+    Ok(marked(alloc, &mark, &frame)?)
+}
+
+/// Opens the next session, keeps that, and gives the frame of the request for it.
+fn pull_frame<D: Device + Drop>(
     alloc: Global,
     kept: &mut Journaled<SparingKnowledge, D>,
     said: &mut Said,
@@ -43,17 +61,36 @@ fn last_ask(alloc: Global, replies: &[Reply]) -> Result<Vec<u8>, SyncFault>
     }
 }
 
-/// Opens a stream for the request of the other side that the bytes spell.
+/// Opens a stream for the request of the other side that the bytes spell, behind a mark of this side's history.
 ///
-/// `Frame` where they begin with no frame; `OtherFrame` where it isn't all of them, or no request; `OtherSide` where another
-/// replica asks; else as the replica refuses.
+/// `BadList` where they have no room for a mark; `OtherHistory` where the log doesn't agree with it; `Frame` where they go on
+/// with no frame; `OtherFrame` where it isn't all of them, or no request; `OtherSide` where another replica asks; else as the
+/// replica refuses.
 pub(crate) fn take_ask<D: Device + Drop>(
     alloc: Global,
     kept: &mut Journaled<SparingKnowledge, D>,
     target: Author,
     leaving: &mut Leaving,
     bytes: &[u8],
-) -> Result<(), SyncFault> {
+) -> Result<(), SyncFault>
+    ensures taken { OnOk result (TakesAsk (replica_of kept.old) target bytes.now (replica_of kept.new)) }
+    ensures fault { IfErr result (IsAskFault (replica_of kept.old) bytes.now (replica_of kept.new)) }
+{
+    let frame = own_marked(alloc, kept.replica(), bytes)?;
+    answer_ask(alloc, kept, target, leaving, frame)
+}
+
+/// Opens a stream for the request of the other side that the bytes spell.
+fn answer_ask<D: Device + Drop>(
+    alloc: Global,
+    kept: &mut Journaled<SparingKnowledge, D>,
+    target: Author,
+    leaving: &mut Leaving,
+    bytes: &[u8],
+) -> Result<(), SyncFault>
+    ensures answers { OnOk result (Answers (replica_of kept.old) target bytes.now (replica_of kept.new)) }
+    ensures fault { IfErr result IsAnswerFault }
+{
     let ask = ask_in(alloc, bytes, target)?;
     let asked = asked_of(alloc, &ask)?;
     let stream = kept.answer(ask)?;
@@ -66,6 +103,7 @@ pub(crate) fn take_ask<D: Device + Drop>(
 fn ask_in(alloc: Global, bytes: &[u8], target: Author) -> Result<Ask, SyncFault>
     ensures target { IfOk result (λ ask. ask.target ≡ target) }
     ensures spelled { IfOk result (λ ask. (format : ℕ) × Spells format (Frame.Ask ask) bytes.now) }
+    ensures fault { IfErr result IsAnswerFault }
 {
     let (frame, used) = decode(alloc, bytes)?;
     if used != bytes.len() {

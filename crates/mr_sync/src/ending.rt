@@ -2,7 +2,7 @@
 ghost use Rattle.std.specs.Prelude.{◌≡◌, ◌↔◌, IfOk, IsTrue, MatchOption, MatchResult, false, take};
 ghost use Rattle.mr_kept.specs.Kept.{replica_of};
 ghost use Rattle.mr_sync.specs.Ending.{HasNothingOpen, IsUnfinished, MayEnd, is_last};
-ghost use Rattle.mr_sync.specs.Hello.{IsShortDigest, met_by};
+ghost use Rattle.mr_sync.specs.Hello.{IsDigestFront};
 
 use crate::fault::SyncFault;
 use crate::hello::short_of;
@@ -25,7 +25,7 @@ pub(crate) fn end<D: Device + Drop>(
     talk: &mut Talk,
     turn: Turn,
 ) -> Result<Option<Short>, SyncFault>
-    ensures { IfOk result (λ found. MatchOption found (MayEnd turn talk.old → ⊥) (λ short. MayEnd turn talk.old × IsShortDigest (replica_of kept.now).knowledge short)) }
+    ensures { IfOk result (λ found. MatchOption found (MayEnd turn talk.old → ⊥) (λ short. MayEnd turn talk.old × IsDigestFront 16 (replica_of kept.now).knowledge short)) }
 {
     if !may_end(turn, talk)? {
         return Ok(None);
@@ -78,7 +78,9 @@ fn has_nothing_open(talk: &Talk) -> bool
 /// the other knew.
 pub(crate) fn meeting_of(theirs: &Hello, mine: &Digest, knows: &Short, time: u64) -> Meeting
     ensures id { result.id ≡ theirs.now.id }
-    ensures met { met_by result ≡ record { birth = theirs.now.birth; mine = take 16 mine.now; theirs = knows.now } }
+    ensures birth { result.birth ≡ theirs.now.birth }
+    ensures mine { result.mine ≡ mine.now }
+    ensures theirs { take 16 result.theirs ≡ knows.now }
     ensures time { result.time ≡ time }
 {
     let mut digest = [0u8; 32];

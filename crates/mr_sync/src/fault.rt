@@ -74,6 +74,12 @@ pub enum SyncFault {
     /// The talk is at its end, and the other side didn't tell all that it was asked for.
     #[error("the other side didn't tell all that it was asked for")]
     Unfinished,
+    /// This side's log was set back, and it went on: another message had the number of one of its own before.
+    #[error("replica {0}, this side, is an old copy that went on, and has numbered mail again: give it another id (mailfold renew)")]
+    OtherHistory(Author),
+    /// The other side's log was set back, and it went on: its last version has another message than is known here.
+    #[error("replica {0}, the other side, is an old copy that went on, and has numbered mail again: give it another id (mailfold renew)")]
+    PeerWentOn(Author),
 }
 
 impl SyncFault {
@@ -101,6 +107,8 @@ impl SyncFault {
             SyncFault::HalfFile => 16,
             SyncFault::TooLong => 17,
             SyncFault::Unfinished => 18,
+            SyncFault::OtherHistory(_) => 19,
+            SyncFault::PeerWentOn(_) => 20,
         }
     }
 }

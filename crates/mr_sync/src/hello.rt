@@ -6,22 +6,25 @@ ghost use Rattle.std.specs.Option.{option_copied};
 ghost use Rattle.std.specs.Ordering.{nat_cmp};
 ghost use Rattle.mr_itemset.specs.Normal.{normal_known};
 ghost use Rattle.mr_kept.specs.Kept.{head_of, replica_of};
+ghost use Rattle.mr_lookup.specs.Versions.{versions_told};
 ghost use Rattle.mr_talk.specs.Peer.{HasNothingToTell, Stands};
 ghost use Rattle.mr_talk.specs.declared.peer.Standing.TheVariants.{Good};
-ghost use Rattle.mr_sync.specs.Hello.{IsHelloOf, Judges, IsShortDigest, IsTop, IsTopOf, StandsInTheWay, is_free, keeps_all, met_by};
+ghost use Rattle.mr_sync.specs.Hello.{IsDigestFront, IsHelloOf, IsTip, IsTop, IsTopOf, Judges, StandsInTheWay, is_free, keeps_all, met_by, tip_of};
 
 use crate::fault::SyncFault;
+use crate::marks::message_told;
 use mr_compare::{Digest, Meeting};
 use mr_filter::{Clause, Filter};
 use mr_forms::FormFault;
 use mr_itemset::SparingKnowledge;
 use mr_journal::Device;
 use mr_kept::Journaled;
-use mr_lookup::{highest_counter, knowledge_digest};
+use mr_lookup::{highest_counter, knowledge_digest, message_digest};
+use mr_mail::Message;
 use mr_replica::Replica;
-use mr_talk::{Hello, Met, Short, Standing, nothing_to_tell, standing_of};
+use mr_talk::{Hello, Knows, Met, Short, Standing, Tip, nothing_to_tell, standing_of};
 use mr_version::Author;
-use std::alloc::Global;
+use std::alloc::{AllocError, Global};
 use std::collections::BTreeMap;
 
 /// The first bytes of a digest.
@@ -31,6 +34,15 @@ pub(crate) fn short_of(digest: &Digest) -> Short
     let mut short = [0u8; 16];
     short.copy_from_slice(&digest[..16]);
     short
+}
+
+/// The first bytes of a digest of what is known, as a hello tells them.
+fn knows_of(digest: &Digest) -> Knows
+    ensures { result ≡ take 12 digest.now }
+{
+    let mut knows = [0u8; 12];
+    knows.copy_from_slice(&digest[..12]);
+    knows
 }
 
 /// The id of the one that said this, where somebody did.
@@ -69,13 +81,15 @@ fn replica_hello(
 ) -> Result<Hello, FormFault>
     ensures { IfOk result (IsHelloOf birth replica.now lacks theirs) }
 {
-    let knows = short_digest(alloc, replica)?;
+    let knows = known_digest(alloc, replica)?;
     let issued = highest_of(replica, Some(replica.id()))?;
+    let tip = tip_told(alloc, replica, replica.id(), issued)?.unwrap_or([0u8; 4]);
     let known = highest_of(replica, theirs)?;
     Ok(Hello {
         id: replica.id(),
         birth,
         knows,
+        tip,
         issued,
         known,
         is_waiting: lacks || !replica.push_outs().is_empty(),
@@ -84,11 +98,36 @@ fn replica_hello(
 }
 
 /// The first bytes of the digest of what is known.
-fn short_digest(alloc: Global, replica: &Replica<SparingKnowledge>) -> Result<Short, FormFault>
-    ensures { IfOk result (IsShortDigest replica.now.knowledge) }
+fn known_digest(alloc: Global, replica: &Replica<SparingKnowledge>) -> Result<Knows, FormFault>
+    ensures { IfOk result (IsDigestFront 12 replica.now.knowledge) }
 {
     let digest = knowledge_digest(alloc, replica)?;
-    Ok(short_of(&digest))
+    Ok(knows_of(&digest))
+}
+
+/// The first bytes of the digest of the message of this author's version, if the replica's log tells one. It costs a walk over the log.
+fn tip_told(
+    alloc: Global,
+    replica: &Replica<SparingKnowledge>,
+    author: Author,
+    counter: u32,
+) -> Result<Option<Tip>, AllocError>
+    ensures { IfOk result (IsTip (versions_told replica.now.id replica.now.log) author counter) }
+{
+    match message_told(replica, author, counter) {
+        Some(message) => Ok(Some(tip_of(alloc, message)?)),
+        None => Ok(None),
+    }
+}
+
+/// The first bytes of the digest of a message, as a hello tells them.
+fn tip_of(alloc: Global, message: &Message) -> Result<Tip, AllocError>
+    ensures { IfOk result (λ tip. tip ≡ tip_of message.now) }
+{
+    let digest = message_digest(alloc, message)?;
+    let mut tip = [0u8; 4];
+    tip.copy_from_slice(&digest[..4]);
+    Ok(tip)
 }
 
 /// The highest counter that is known among the versions of this author; 0 for none, and for nobody.
@@ -144,8 +183,8 @@ fn met_of(meeting: &Meeting) -> Met
     ensures { result ≡ met_by meeting.now }
 {
     let birth = meeting.birth;
-    let mine = short_of(&meeting.mine);
-    let theirs = short_of(&meeting.theirs);
+    let mine = knows_of(&meeting.mine);
+    let theirs = knows_of(&meeting.theirs);
     Met {
         birth,
         mine,
@@ -153,19 +192,26 @@ fn met_of(meeting: &Meeting) -> Met
     }
 }
 
-/// Whether there is nothing to tell the other side, by both hellos and what is remembered of it; or why nothing may be told.
-pub(crate) fn verdict(mine: &Hello, theirs: &Hello, met: Option<Met>) -> Result<bool, SyncFault>
-    ensures good { IfOk result (λ _. Stands mine.now theirs.now mine.now.known met Good) }
+/// Whether there is nothing to tell the other side, by both hellos, what is told here of the other's last version, and what is
+/// remembered of it; or why nothing may be told.
+pub(crate) fn verdict(
+    mine: &Hello,
+    theirs: &Hello,
+    tip: Option<Tip>,
+    met: Option<Met>,
+) -> Result<bool, SyncFault>
+    ensures good { IfOk result (λ _. Stands mine.now theirs.now mine.now.known tip met Good) }
     ensures exact { IfOk result (λ is_idle. MatchBool is_idle (HasNothingToTell mine.now theirs.now met) (HasNothingToTell mine.now theirs.now met → ⊥)) }
-    ensures fault { MatchResult result (λ _. Unit {0}) (StandsInTheWay mine.now theirs.now met) }
+    ensures fault { MatchResult result (λ _. Unit {0}) (StandsInTheWay mine.now theirs.now tip met) }
 {
-    match standing_of(mine, theirs, mine.known, met.as_ref()) {
+    match standing_of(mine, theirs, mine.known, tip.as_ref(), met.as_ref()) {
         Standing::Good => Ok(nothing_to_tell(mine, theirs, met.as_ref())),
         Standing::Itself => Err(SyncFault::Itself(mine.id)),
         Standing::SameId => Err(SyncFault::SameId(mine.id)),
         Standing::Renewed => Err(SyncFault::Renewed(theirs.id)),
         Standing::PeerIsOldCopy => Err(SyncFault::PeerIsOldCopy(theirs.id)),
         Standing::OldCopy => Err(SyncFault::OldCopy(mine.id)),
+        Standing::PeerWentOn => Err(SyncFault::PeerWentOn(theirs.id)),
     }
 }
 
@@ -180,5 +226,6 @@ pub(crate) fn judge<D: Device + Drop>(
     ensures { IfOk result (λ is_idle. Judges (head_of kept.now).birth (replica_of kept.now) lacks theirs.now (option_map met_by (get nat_cmp meetings.now theirs.now.id)) is_idle) }
 {
     let mine = folder_hello(alloc, kept, lacks, Some(theirs.id))?;
-    verdict(&mine, theirs, remembered(meetings, theirs.id))
+    let tip = tip_told(alloc, kept.replica(), theirs.id, theirs.issued)?;
+    verdict(&mine, theirs, tip, remembered(meetings, theirs.id))
 }

@@ -4,7 +4,6 @@ ghost use Rattle.std.specs.Option.{option_copied};
 ghost use Rattle.mr_kept.specs.Kept.{nothing_waits};
 ghost use Rattle.mr_talk.specs.Turns.{next_of};
 
-use crate::asking::ask;
 use crate::ending::{end, meeting_of};
 use crate::fault::{SyncFault, answered};
 use crate::files::take_file_message;
@@ -13,7 +12,9 @@ use crate::receipts::take_receipts_message;
 use crate::records::take_records_message;
 use crate::said::keep_and_say;
 use crate::summary::Summary;
-use crate::taking::{take_done, take_missing, take_other_ask, take_push_outs, take_wants};
+use crate::taking::{
+    ask_other, take_done, take_missing, take_other_ask, take_push_outs, take_wants,
+};
 use crate::talk::Talk;
 use crate::telling::next_said;
 use mr_compare::{Digest, Meeting};
@@ -103,7 +104,8 @@ impl<D: Device + Drop, F: FileTree + Drop> FolderHost<D, F> {
 }
 
 impl<D: Device + Drop, F: FileTree + Drop> Host for FolderHost<D, F> {
-    ghost use Rattle.mr_sync.specs.Host.{IsHelloFrom, JudgesOf, SameFolder};
+    ghost use Rattle.mr_sync.specs.Fault.{IsToldFor};
+    ghost use Rattle.mr_sync.specs.Host.{AsksOf, IsAskFaultOf, IsHelloFrom, JudgesOf, SameFolder, TakesAskOf};
 
     ghost waits = { λ h. not (nothing_waits h.kept) };
 
@@ -142,10 +144,12 @@ impl<D: Device + Drop, F: FileTree + Drop> Host for FolderHost<D, F> {
         answered(self.alloc, met)
     }
 
-    fn ask(&mut self) -> Result<Vec<u8>, HostFault> {
+    fn ask(&mut self) -> Result<Vec<u8>, HostFault>
+        ensures asks { IfOk result (λ bytes. AsksOf self.old bytes.items self.new) }
+    {
         self.summary.is_idle = false;
-        let frame = ask(self.alloc, &mut self.kept, &mut self.talk.leaving.said);
-        answered(self.alloc, frame)
+        let bytes = ask_other(self.alloc, &mut self.kept, &mut self.talk);
+        answered(self.alloc, bytes)
     }
 
     fn next_message(&mut self, turn: Turn) -> Result<Option<Message>, HostFault>
@@ -166,8 +170,11 @@ impl<D: Device + Drop, F: FileTree + Drop> Host for FolderHost<D, F> {
         answered(self.alloc, end)
     }
 
-    fn take_ask(&mut self, frame: &[u8]) -> Result<(), HostFault> {
-        let taken = take_other_ask(self.alloc, &mut self.kept, &mut self.talk, frame);
+    fn take_ask(&mut self, bytes: &[u8]) -> Result<(), HostFault>
+        ensures taken { OnOk result (TakesAskOf self.old bytes.now self.new) }
+        ensures fault { IfErr result (λ fault. IsToldFor (IsAskFaultOf self.old bytes.now self.new) fault.number) }
+    {
+        let taken = take_other_ask(self.alloc, &mut self.kept, &mut self.talk, bytes);
         answered(self.alloc, taken)
     }
 

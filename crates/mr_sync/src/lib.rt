@@ -22,6 +22,7 @@ mod hashing;
 mod hello;
 mod host;
 mod lists;
+mod marks;
 mod named;
 mod receipts;
 mod records;

@@ -1,5 +1,5 @@
 //! Records that come.
-ghost use Rattle.std.specs.Prelude.{◌≡◌, ◌++◌, ◌∷◌, [], None, IfOk, IfSome, IsTrue, MatchResult, OnOk, is_some, map};
+ghost use Rattle.std.specs.Prelude.{◌≡◌, ◌++◌, ◌∷◌, [], None, IfOk, IfSome, IsTrue, MatchResult, OnOk, Some, is_some, map, option_map};
 ghost use Rattle.mr_folder.specs.Inside.{stored_path};
 ghost use Rattle.mr_folder.specs.Tree.{IsUntouched};
 ghost use Rattle.mr_kept.specs.Kept.{replica_of};
@@ -149,7 +149,7 @@ pub(crate) fn take_records_message<D: Device + Drop, F: FileTree>(
 
 /// The other side's id. `NotMet` where it hasn't said it.
 pub(crate) fn other_side(theirs: &Option<Hello>) -> Result<Author, SyncFault>
-    ensures { MatchResult result (λ id. IfSome theirs.now (λ h. id ≡ h.id)) (λ fault. (fault ≡ SyncFault.NotMet) × (theirs.now ≡ None)) }
+    ensures { MatchResult result (λ id. option_map (λ h. h.id) theirs.now ≡ Some id) (λ fault. (fault ≡ SyncFault.NotMet) × (theirs.now ≡ None)) }
 {
     match theirs {
         Some(hello) => Ok(hello.id),

@@ -1,8 +1,10 @@
 //! What comes beside files, records and receipts.
-ghost use Rattle.std.specs.Prelude.{◌≡◌, Some, OnOk, IfErr};
+ghost use Rattle.std.specs.Prelude.{◌≡◌, Some, true, OnOk, IfErr, IfOk};
+ghost use Rattle.mr_kept.specs.Kept.{nothing_waits, replica_of};
+ghost use Rattle.mr_sync.specs.Asking.{AsksMet, IsMetAskFault, TakesMetAsk};
 ghost use Rattle.mr_sync.specs.Lists.{IsDigest};
 
-use crate::asking::take_ask;
+use crate::asking::{ask, take_ask};
 use crate::fault::SyncFault;
 use crate::lists::{read_digest, read_digests, read_push_outs};
 use crate::records::other_side;
@@ -14,13 +16,29 @@ use mr_kept::Journaled;
 use mr_talk::Short;
 use std::alloc::Global;
 
-/// Takes the request of the other side.
+/// Asks the other side, as [`ask`]. `NotMet` where it hasn't said who it is.
+pub(crate) fn ask_other<D: Device + Drop>(
+    alloc: Global,
+    kept: &mut Journaled<SparingKnowledge, D>,
+    talk: &mut Talk,
+) -> Result<Vec<u8>, SyncFault>
+    ensures all_kept { OnOk result (nothing_waits kept.new ≡ true) }
+    ensures asks { IfOk result (λ bytes. AsksMet talk.old.theirs (replica_of kept.old) bytes.items (replica_of kept.new)) }
+{
+    let theirs = other_side(&talk.theirs)?;
+    ask(alloc, kept, theirs, &mut talk.leaving.said)
+}
+
+/// Takes the request of the other side, as [`take_ask`]. `NotMet` where it hasn't said who it is.
 pub(crate) fn take_other_ask<D: Device + Drop>(
     alloc: Global,
     kept: &mut Journaled<SparingKnowledge, D>,
     talk: &mut Talk,
     bytes: &[u8],
-) -> Result<(), SyncFault> {
+) -> Result<(), SyncFault>
+    ensures taken { OnOk result (TakesMetAsk talk.old.theirs (replica_of kept.old) bytes.now (replica_of kept.new)) }
+    ensures fault { IfErr result (IsMetAskFault talk.old.theirs (replica_of kept.old) bytes.now (replica_of kept.new)) }
+{
     let target = other_side(&talk.theirs)?;
     take_ask(alloc, kept, target, &mut talk.leaving, bytes)
 }

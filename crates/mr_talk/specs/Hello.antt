@@ -13,23 +13,25 @@ abbrev pub flag : Bool → ℕ
 flag false = 0
 flag true = 1
 
--- its one spelling: format, id, birth, digest, the highest counter that it issued and the highest that it knows of the other, whether something waits here, mail for a receipt or a mail for its file, and whether it keeps all
+-- its one spelling: format, id, birth, the digest of what it knows and that of its last message, the highest counter that it issued and the highest that it knows of the other, whether something waits here, mail for a receipt or a mail for its file, and whether it keeps all
 abbrev pub hello_bytes : Hello → List ℕ
-hello_bytes h = HELLO_FORMAT ∷ h.id ∷ (h.birth ++ (h.knows ++ (to_be_bytes w32 h.issued ++ (to_be_bytes w32 h.known ++ (flag h.is_waiting ∷ flag h.keeps_all ∷ [])))))
+hello_bytes h = HELLO_FORMAT ∷ h.id ∷ (h.birth ++ (h.knows ++ (h.tip ++ (to_be_bytes w32 h.issued ++ (to_be_bytes w32 h.known ++ (flag h.is_waiting ∷ flag h.keeps_all ∷ []))))))
 
 -- what is a hello: each field has its size
 pub record IsHello (h : Hello) : Type 0 where
   pub id : h.id < AUTHORS
   pub birth : length h.birth ≡ 16
-  pub knows : length h.knows ≡ 16
+  pub knows : length h.knows ≡ 12
+  pub tip : length h.tip ≡ 4
   pub issued : h.issued < 2 ^ 32
   pub known : h.known < 2 ^ 32
 
 -- the bytes are these fields, each as it is spelled, one behind another
-pub record AreFields (bytes : List ℕ) (format id : ℕ) (birth knows : List ℕ) (issued known waiting keeps_all : ℕ) : Type 0 where
-  pub whole : bytes ≡ format ∷ id ∷ (birth ++ (knows ++ (to_be_bytes w32 issued ++ (to_be_bytes w32 known ++ (waiting ∷ keeps_all ∷ [])))))
+pub record AreFields (bytes : List ℕ) (format id : ℕ) (birth knows tip : List ℕ) (issued known waiting keeps_all : ℕ) : Type 0 where
+  pub whole : bytes ≡ format ∷ id ∷ (birth ++ (knows ++ (tip ++ (to_be_bytes w32 issued ++ (to_be_bytes w32 known ++ (waiting ∷ keeps_all ∷ []))))))
   pub birth_long : length birth ≡ 16
-  pub knows_long : length knows ≡ 16
+  pub knows_long : length knows ≡ 12
+  pub tip_long : length tip ≡ 4
   pub issued_in : issued < 2 ^ 32
   pub known_in : known < 2 ^ 32
 

@@ -92,9 +92,9 @@ endings = refl
 -- ---- a hello
 
 abbrev row : hello.Hello
-row = record { id = 7; birth = replicate 16 1; knows = replicate 16 2; issued = 258; known = 3; is_waiting = true; keeps_all = false }
+row = record { id = 7; birth = replicate 16 1; knows = replicate 12 2; tip = replicate 4 9; issued = 258; known = 3; is_waiting = true; keeps_all = false }
 
-pub hello_row : hello_bytes row ≡ 1 ∷ 7 ∷ (replicate 16 1 ++ (replicate 16 2 ++ (0 ∷ 0 ∷ 1 ∷ 2 ∷ 0 ∷ 0 ∷ 0 ∷ 3 ∷ 1 ∷ 0 ∷ [])))
+pub hello_row : hello_bytes row ≡ 2 ∷ 7 ∷ (replicate 16 1 ++ (replicate 12 2 ++ (9 ∷ 9 ∷ 9 ∷ 9 ∷ 0 ∷ 0 ∷ 1 ∷ 2 ∷ 0 ∷ 0 ∷ 0 ∷ 3 ∷ 1 ∷ 0 ∷ [])))
 hello_row = refl
 
 pub hello_long : length (hello_bytes row) ≡ 44
@@ -164,10 +164,10 @@ both_over = refl
 -- ---- a talk as one side has it
 
 abbrev greeting : Said
-greeting = record { kind = Hello; bytes = 1 ∷ 7 ∷ [] }
+greeting = record { kind = Hello; bytes = 2 ∷ 7 ∷ [] }
 
 abbrev is_idle : Said
-is_idle = record { kind = Idle; bytes = 1 ∷ 8 ∷ [] }
+is_idle = record { kind = Idle; bytes = 2 ∷ 8 ∷ [] }
 
 -- with nothing to tell, the caller sends its hello, and the called's comes; the called has it the other way round
 pub caller_idle : Talked Caller CallerGreets Over (Some []) (Some (message_bytes greeting)) (Some (message_bytes is_idle)) (Some [])
@@ -183,7 +183,7 @@ cut_short = record {
   turn = CalledGreets;
   left = Some [];
   runs = (CalledGreets, refl, refl);
-  sent = record { part = 1 ∷ []; more = 0 ∷ 0 ∷ 0 ∷ 2 ∷ 1 ∷ 7 ∷ []; whole = refl; written = refl };
+  sent = record { part = 1 ∷ []; more = 0 ∷ 0 ∷ 0 ∷ 2 ∷ 2 ∷ 7 ∷ []; whole = refl; written = refl };
   came = refl;
 }
 

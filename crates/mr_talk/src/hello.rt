@@ -10,13 +10,19 @@ use std::alloc::{AllocError, Global};
 use thiserror::Error;
 
 /// The format of a hello, and so of a talk.
-pub const HELLO_FORMAT: u8 = 1;
+pub const HELLO_FORMAT: u8 = 2;
 
 /// What tells two journals of one id apart: the bytes that each was begun with.
 pub type Birth = [u8; 16];
 
-/// The first bytes of a digest: enough to tell two states of knowledge apart.
+/// The first bytes of a digest.
 pub type Short = [u8; 16];
+
+/// The first bytes of a digest of what a side knows, as a hello has room for: enough to tell two states of knowledge apart.
+pub type Knows = [u8; 12];
+
+/// The first bytes of the digest of a message: enough to tell that two sides have another message for one version.
+pub type Tip = [u8; 4];
 
 /// What a side says of itself.
 ///
@@ -28,7 +34,9 @@ pub struct Hello {
     /// When its journal was begun. A replica's filter is as old as its journal, and so is told by this.
     pub birth: Birth,
     /// The digest of what it knows.
-    pub knows: Short,
+    pub knows: Knows,
+    /// The digest of the message of the highest of its own versions, or zeros where it has none.
+    pub tip: Tip,
     /// The highest counter among its own versions, or 0.
     pub issued: u32,
     /// The highest counter that it knows among the other's versions; 0 for none, and where it doesn't know yet whom it
@@ -46,7 +54,7 @@ pub enum HelloFault {
     /// Not 44 bytes.
     #[error("bad hello: not of its length")]
     Length,
-    /// Another format, of a later release.
+    /// Another format, of another release.
     #[error("bad hello: another format")]
     Format,
     /// An id above 63.
@@ -81,7 +89,8 @@ struct Fields<'a> {
     format: u8,
     id: u8,
     birth: &'a Birth,
-    knows: &'a Short,
+    knows: &'a Knows,
+    tip: &'a Tip,
     issued: u32,
     known: u32,
     waiting: u8,
@@ -91,7 +100,7 @@ struct Fields<'a> {
 /// The fields of so many bytes, if they are as many as a hello has.
 fn split(bytes: &[u8]) -> Option<Fields<'_>>
     ensures { MatchOption result (length bytes.now ≢ HELLO_BYTES) (λ f.
-        AreFields bytes.now f.format f.id f.birth.now f.knows.now f.issued f.known f.waiting f.keeps_all) }
+        AreFields bytes.now f.format f.id f.birth.now f.knows.now f.tip.now f.issued f.known f.waiting f.keeps_all) }
 {
     if bytes.len() != HELLO_BYTES as usize {
         return None;
@@ -100,7 +109,8 @@ fn split(bytes: &[u8]) -> Option<Fields<'_>>
         return None;
     };
     let (birth, rest) = rest.split_first_chunk::<16>()?;
-    let (knows, rest) = rest.split_first_chunk::<16>()?;
+    let (knows, rest) = rest.split_first_chunk::<12>()?;
+    let (tip, rest) = rest.split_first_chunk::<4>()?;
     let (issued, rest) = rest.split_first_chunk::<4>()?;
     let (known, rest) = rest.split_first_chunk::<4>()?;
     let [waiting, keeps_all] = rest else {
@@ -111,6 +121,7 @@ fn split(bytes: &[u8]) -> Option<Fields<'_>>
         id: *id,
         birth,
         knows,
+        tip,
         issued: u32::from_be_bytes(*issued),
         known: u32::from_be_bytes(*known),
         waiting: *waiting,
@@ -132,7 +143,7 @@ fn flag_of(byte: u8) -> Option<bool>
 /// The hello of these fields, or the first that is wrong.
 fn hello_of(fields: &Fields<'_>) -> Result<Hello, HelloFault>
     ensures { (bytes : List ℕ) → AreFields bytes fields.now.format fields.now.id fields.now.birth.now fields.now.knows.now
-        fields.now.issued fields.now.known fields.now.waiting fields.now.keeps_all → Reads bytes result }
+        fields.now.tip.now fields.now.issued fields.now.known fields.now.waiting fields.now.keeps_all → Reads bytes result }
 {
     if fields.format != HELLO_FORMAT {
         return Err(HelloFault::Format);
@@ -150,6 +161,7 @@ fn hello_of(fields: &Fields<'_>) -> Result<Hello, HelloFault>
         id,
         birth: *fields.birth,
         knows: *fields.knows,
+        tip: *fields.tip,
         issued: fields.issued,
         known: fields.known,
         is_waiting,
@@ -166,7 +178,7 @@ impl Hello {
         parse(bytes)
     }
 
-    /// Its one spelling, of 44 bytes: format, id, birth, digest, both counters, and two flags.
+    /// Its one spelling, of 44 bytes: format, id, birth, both digests, both counters, and two flags.
     pub fn write(&self, alloc: Global) -> Result<Vec<u8>, AllocError>
         ensures { IfOk result (λ v. v.items ≡ hello_bytes self.now) }
     {
@@ -175,6 +187,7 @@ impl Hello {
         out.push(self.id.id() as u8)?;
         out.extend_from_slice(&self.birth)?;
         out.extend_from_slice(&self.knows)?;
+        out.extend_from_slice(&self.tip)?;
         out.extend_from_slice(&self.issued.to_be_bytes())?;
         out.extend_from_slice(&self.known.to_be_bytes())?;
         out.push(u8::from(self.is_waiting))?;

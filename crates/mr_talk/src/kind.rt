@@ -24,7 +24,7 @@ pub enum Kind {
     Hello,
     /// The called side's hello where there is nothing to tell: the talk is over.
     Idle,
-    /// The frame of a request.
+    /// A mark of the other side's history, and the frame of a request.
     Ask,
     /// A file begins: its digest and its length.
     Begin,

@@ -32,7 +32,7 @@ mod told_fault;
 mod turn;
 
 pub use fault::{LineFault, MessageFault};
-pub use hello::{Birth, HELLO_FORMAT, Hello, HelloFault, Short};
+pub use hello::{Birth, HELLO_FORMAT, Hello, HelloFault, Knows, Short, Tip};
 pub use kind::{
     HELLO_BYTES, Kind, MAX_FAULT_BYTES, MAX_FRAMES_BYTES, MAX_LIST_BYTES, MAX_PIECE_BYTES,
 };

@@ -141,7 +141,7 @@ impl Speech {
         let (kind, bytes) = match self {
             Speech::Hello(hello) => (Kind::Hello, hello.write(alloc)?),
             Speech::Idle(hello) => (Kind::Idle, hello.write(alloc)?),
-            Speech::Ask(frame) => (Kind::Ask, frame),
+            Speech::Ask(bytes) => (Kind::Ask, bytes),
             Speech::Given(message) => return Ok(message),
             Speech::Turn => (Kind::Turn, Vec::new(alloc)),
             Speech::Done(knows) => (Kind::Done, knows.as_slice().to_vec(alloc)?),

@@ -2,9 +2,9 @@
 ghost use Rattle.std.specs.Prelude.{IsTrue, MatchBool};
 ghost use Rattle.std.specs.Option.{option_copied};
 ghost use Rattle.mr_talk.specs.Told.{AreOf, NothingIsTold, Side};
-ghost use Rattle.mr_talk.specs.Peer.{HasNothingToTell, IsAsMet, IsRenewed, Stands};
+ghost use Rattle.mr_talk.specs.Peer.{HasNothingToTell, IsAsMet, IsRenewed, Stands, WentOn};
 
-use crate::hello::{Birth, Hello, Short};
+use crate::hello::{Birth, Hello, Knows, Tip};
 
 /// What is remembered of a peer since the last whole talk with it.
 #[derive(Clone, Copy, Debug, PartialEq, Eq)]
@@ -12,9 +12,9 @@ pub struct Met {
     /// When its journal was begun.
     pub birth: Birth,
     /// The digest of what this side knew at the end.
-    pub mine: Short,
+    pub mine: Knows,
     /// The digest of what the peer knew at the end.
-    pub theirs: Short,
+    pub theirs: Knows,
 }
 
 /// What the other side is to this one.
@@ -32,14 +32,23 @@ pub enum Standing {
     PeerIsOldCopy,
     /// The other knows more versions of this side than it has issued: this is an old copy.
     OldCopy,
+    /// The other's last version has another message than this side knows of it: it is an old copy that went on.
+    PeerWentOn,
 }
 
 /// What the other side is, by both hellos, the highest counter that is known here among its versions, and what is remembered
-/// of the replica with its id.
+/// of the replica with its id; and by the digest of the message of its last version, if that one's message is known here.
 ///
-/// What isn't noticed: an old copy that meets only those who know no more of it than it does itself.
-pub fn standing_of(mine: &Hello, theirs: &Hello, known: u32, met: Option<&Met>) -> Standing
-    ensures { Stands mine.now theirs.now known (option_copied met.entry) result }
+/// What isn't noticed: an old copy that meets only those who know no more of it than it does itself, and one that went on past
+/// all that is known here of it. A mark that goes with a request finds the latter out.
+pub fn standing_of(
+    mine: &Hello,
+    theirs: &Hello,
+    known: u32,
+    tip: Option<&Tip>,
+    met: Option<&Met>,
+) -> Standing
+    ensures { Stands mine.now theirs.now known (option_copied tip.entry) (option_copied met.entry) result }
 {
     if mine.id == theirs.id {
         return if mine.birth == theirs.birth {
@@ -57,7 +66,20 @@ pub fn standing_of(mine: &Hello, theirs: &Hello, known: u32, met: Option<&Met>) 
     if mine.issued < theirs.known {
         return Standing::OldCopy;
     }
+    if went_on(theirs, tip) {
+        return Standing::PeerWentOn;
+    }
     Standing::Good
+}
+
+/// Whether the other's last version has another message than is known here.
+fn went_on(theirs: &Hello, tip: Option<&Tip>) -> bool
+    ensures { MatchBool result (WentOn theirs.now (option_copied tip.entry)) (WentOn theirs.now (option_copied tip.entry) → ⊥) }
+{
+    match tip {
+        Some(tip) => *tip != theirs.tip,
+        None => false,
+    }
 }
 
 /// Whether another journal was met under the other's id.

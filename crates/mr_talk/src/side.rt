@@ -41,7 +41,7 @@ pub trait Host {
     /// may be told to it, as [`standing_of`](crate::standing_of) says.
     fn meet(&mut self, theirs: &Hello) -> Result<bool, HostFault>;
 
-    /// The frame of a request.
+    /// A mark of the other side's history, as far as it is told here, and the frame of a request.
     fn ask(&mut self) -> Result<Vec<u8>, HostFault>;
 
     /// The next message to be sent at this point of the talk, or `None` where there is none: of `Begin`, `Piece` and `End`, each
@@ -52,8 +52,9 @@ pub trait Host {
     /// The digest of what is known, if nothing of the other side is waited for, and nothing is to be told to it.
     fn done(&mut self, turn: Turn) -> Result<Option<Short>, HostFault>;
 
-    /// Takes the frame of a request, which the next messages answer.
-    fn take_ask(&mut self, frame: &[u8]) -> Result<(), HostFault>;
+    /// Takes the other side's mark of this history, and the frame of a request, which the next messages answer; or a fault where
+    /// the history is another one.
+    fn take_ask(&mut self, bytes: &[u8]) -> Result<(), HostFault>;
 
     /// Takes what a file begins with, its digest and length; then its bytes, piece by piece; then its end.
     fn take_file(&mut self, message: &Message) -> Result<(), HostFault>;

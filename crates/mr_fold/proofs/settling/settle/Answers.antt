@@ -1,8 +1,6 @@
-use Rattle.std.proofs.Common.{[], ◌++◌, ap, sym, subst, ◌∙◌}
-use Rattle.std.specs.Prelude.{OnOk}
+use Rattle.std.proofs.Common.{sym, ◌∙◌}
 use Rattle.std.proofs.lemmas.Result.{on_ok_weaker}
 use Rattle.mr_kept.specs.Kept.{replica_of}
-use Rattle.mr_fold.specs.Telling.{Grows, TellsAll}
 use Rattle.mr_fold.proofs.TellingLemmas.{grows_then}
 use Rattle.mr_fold.proofs.SettlingLemmas.{none_from, noted_behind, some_from, told_alone, told_first}
 use Rattle.mr_fold.proofs.settling.settle.Goals as goal

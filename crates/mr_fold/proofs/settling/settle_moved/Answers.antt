@@ -1,6 +1,5 @@
 use Rattle.std.proofs.Common.{length, ap, sym, subst, ◌∙◌}
 use Rattle.std.proofs.lemmas.Result.{on_ok_weaker}
-use Rattle.mr_kept.specs.Kept.{replica_of}
 use Rattle.mr_fold.specs.Settling.{IsNoted}
 use Rattle.mr_fold.specs.Shown.{shown_note}
 use Rattle.mr_fold.proofs.SettlingLemmas.{noted_after, kept_told, kept_noted}

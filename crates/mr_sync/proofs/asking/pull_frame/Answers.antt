@@ -1,7 +1,7 @@
 use Rattle.std.proofs.Common.{◌∙◌}
 use Rattle.mr_kept.specs.Kept.{leaving, replica_of}
 use Rattle.mr_sync.proofs.AskLaws.{pull_told}
-use Rattle.mr_sync.proofs.asking.ask.Goals as goal
+use Rattle.mr_sync.proofs.asking.pull_frame.Goals as goal
 
 pub returns-clause-pulled : goal.returns-clause-pulled
 returns-clause-pulled g c =

@@ -1,0 +1,24 @@
+-- the note that a folder rests: how it stood when nothing had to be done
+use Rattle.std.specs.Prelude.{ℕ, List, [], ◌∷◌, ◌++◌, length}
+use Rattle.std.specs.List.{flat_map}
+use Rattle.mr_maildir.specs.declared.layout.Layout.{Layout}
+use Rattle.mr_maildir.specs.declared.layout.Layout.TheVariants.{Dots, Plain}
+use Rattle.mr_replica.specs.State.{State}
+use Rattle.mr_wire.specs.Spelling.{u64, name_bytes}
+use Rattle.mr_compare.specs.Shown.{ShownParts}
+
+abbrev pub layout_number : Layout → ℕ
+layout_number Dots = 0
+layout_number Plain = 1
+
+-- the counts of a replica, of what its Maildir shows, and how its folders lie
+abbrev pub counts : {K : Type 0} → Layout → State K → ShownParts → List ℕ
+counts layout replica shown = layout_number layout ∷ replica.id ∷ length replica.log ∷ length replica.feed ∷ shown.entries ∷ length shown.lacking ∷ []
+
+-- the replica's birth, its counts, and the items that lack their files
+abbrev pub replica_bytes : {K : Type 0} → List ℕ → Layout → State K → ShownParts → List ℕ
+replica_bytes birth layout replica shown = (birth ++ flat_map u64 (counts layout replica shown)) ++ flat_map name_bytes shown.lacking
+
+-- when the parts of a folder changed last, and its path behind its length
+abbrev pub folder_bytes : List ℕ → ℕ → ℕ → List ℕ
+folder_bytes path cur new = flat_map u64 (cur ∷ new ∷ length path ∷ []) ++ path

@@ -1,0 +1,87 @@
+//! What a folder's note of rest spells: numbers are big-endian, each of eight bytes.
+ghost use Rattle.std.specs.Prelude.{◌≡◌, ◌++◌, IfOk, OnOk};
+ghost use Rattle.std.specs.List.{flat_map};
+ghost use Rattle.mr_wire.specs.Spelling.{u64, name_bytes};
+ghost use Rattle.mr_fold.specs.Resting as specs;
+ghost use Rattle.mr_fold.specs.Resting.{folder_bytes, layout_number};
+
+use mr_compare::Shown;
+use mr_entry::Birth;
+use mr_itemset::SparingKnowledge;
+use mr_maildir::Layout;
+use mr_replica::Replica;
+use mr_version::ItemId;
+use mr_wire::parts::{put_u64, put_version};
+use std::alloc::{AllocError, Global};
+
+/// What of a replica with this birth, and of what its Maildir shows, tells whether it changed.
+pub(crate) fn replica_bytes(
+    alloc: Global,
+    birth: Birth,
+    layout: Layout,
+    replica: &Replica<SparingKnowledge>,
+    shown: &Shown,
+) -> Result<Vec<u8>, AllocError>
+    ensures { IfOk result (λ bytes. bytes.items ≡ specs.replica_bytes birth layout replica.now shown.now) }
+{
+    let mut out = Vec::from_slice(alloc, &birth)?;
+    put_numbers(&mut out, &counts(layout, replica, shown))?;
+    put_items(&mut out, shown.lacking())?;
+    Ok(out)
+}
+
+/// The counts of a replica, of what its Maildir shows, and how its folders lie.
+fn counts(layout: Layout, replica: &Replica<SparingKnowledge>, shown: &Shown) -> [u64; 6]
+    ensures { result ≡ specs.counts layout replica.now shown.now }
+{
+    [
+        layout_number(layout),
+        u64::from(replica.id().id()),
+        replica.log().len() as u64,
+        replica.feed().len() as u64,
+        shown.entries(),
+        shown.lacking().len() as u64,
+    ]
+}
+
+fn layout_number(layout: Layout) -> u64
+    ensures { result ≡ layout_number layout }
+{
+    match layout {
+        Layout::Dots => 0,
+        Layout::Plain => 1,
+    }
+}
+
+/// Writes when the parts of a folder changed last, and its path.
+pub(crate) fn put_folder(
+    out: &mut Vec<u8>,
+    path: &str,
+    cur: u64,
+    new: u64,
+) -> Result<(), AllocError>
+    ensures { OnOk result (out.new.items ≡ out.old.items ++ folder_bytes path.now cur new) }
+{
+    put_numbers(out, &[cur, new, path.len() as u64])?;
+    out.extend_from_slice(path.as_bytes())
+}
+
+/// Writes the numbers.
+pub(crate) fn put_numbers(out: &mut Vec<u8>, numbers: &[u64]) -> Result<(), AllocError>
+    ensures { OnOk result (out.new.items ≡ out.old.items ++ flat_map u64 numbers.now) }
+{
+    for number in numbers {
+        put_u64(out, *number)?;
+    }
+    Ok(())
+}
+
+/// Writes the items.
+fn put_items(out: &mut Vec<u8>, items: &[ItemId]) -> Result<(), AllocError>
+    ensures { OnOk result (out.new.items ≡ out.old.items ++ flat_map name_bytes items.now) }
+{
+    for item in items {
+        put_version(out, item.creator())?;
+    }
+    Ok(())
+}

@@ -1,0 +1,151 @@
+//! Whether a folder rests: nothing in it was changed since it was found with nothing to do, as the times of its parts tell. What real files
+//! take and give no contract says, so what is here is tested only.
+ghost use Rattle.std.specs.Prelude.{◌≡◌, ◌+◌, ◌*◌, ◌<◌, ◌^◌, ℕ, pos, SomeIff};
+
+use crate::opening::OpenFolder;
+use crate::rest_bytes::{put_folder, put_numbers, replica_bytes};
+use mr_folder::{DiskTree, FolderPath, Folders};
+use mr_scan::{FolderTable, MailFolder};
+use std::alloc::Global;
+use std::fs::{self, File};
+use std::os::unix::fs::MetadataExt;
+use std::rt::Files;
+use std::slice;
+
+/// The program's file that has how a folder stood when nothing had to be done.
+const NOTE: &str = "tmp/rest";
+
+/// How a folder stands.
+#[derive(Drop)]
+pub(crate) struct Stand {
+    /// Others, as soon as its replica, its store, or the names in one of its folders change.
+    bytes: Vec<u8>,
+    /// The latest time of a change of the store or of a folder, in nanoseconds since 1970.
+    newest: u64,
+}
+
+/// How the folder stands, with these folders. `None` where that isn't told, and where its journal waits for a commit.
+pub(crate) fn stand_of<R: Files<File = File> + AllocGlobal + Clone + Drop>(
+    rt: &R,
+    root: &str,
+    folder: &OpenFolder<R>,
+    table: &FolderTable,
+) -> Option<Stand> {
+    if !folder.kept.is_kept() {
+        return None;
+    }
+    let (birth, layout) = (folder.kept.birth(), table.layout());
+    let replica = folder.kept.replica();
+    let mut bytes = replica_bytes(rt.alloc(), birth, layout, replica, &folder.shown).ok()?;
+    let store = put_own(rt, root, &mut bytes)?;
+    let newest = put_folders(&folder.tree, table.folders(), &mut bytes)?;
+    Some(Stand {
+        bytes,
+        newest: newest.max(store),
+    })
+}
+
+/// Whether the note has that the folder stood so.
+pub(crate) fn is_noted<R: Files<File = File> + AllocGlobal>(
+    rt: &R,
+    root: &str,
+    stand: &Stand,
+) -> bool {
+    match noted(rt, root) {
+        Some(bytes) => bytes.as_slice() == stand.bytes.as_slice(),
+        None => false,
+    }
+}
+
+fn noted<R: Files<File = File> + AllocGlobal>(rt: &R, root: &str) -> Option<Vec<u8>> {
+    let path = own_path(rt.alloc(), root, NOTE)?;
+    fs::read(rt, path.as_str()).ok()
+}
+
+/// Empties the note, and tells the time, as the file system has it: what is changed from now on has that time or a later one.
+pub(crate) fn empty_note<R: Files<File = File> + AllocGlobal>(rt: &R, root: &str) -> Option<u64> {
+    let path = own_path(rt.alloc(), root, NOTE)?;
+    fs::write(rt, path.as_str(), "\n").ok()?;
+    changed(rt, root, NOTE)
+}
+
+/// Notes how the folder stands, if it stood so before this time too. A note that can't be written is missing.
+pub(crate) fn note_stand<R: Files<File = File> + AllocGlobal>(
+    rt: &R,
+    root: &str,
+    before: &Stand,
+    after: &Stand,
+    now: u64,
+) {
+    if before.bytes.as_slice() != after.bytes.as_slice() || after.newest >= now {
+        return;
+    }
+    if let Some(path) = own_path(rt.alloc(), root, NOTE) {
+        let _ = fs::write(rt, path.as_str(), after.bytes.as_slice());
+    }
+}
+
+/// Writes the size of the log, and the times of its last change and the store's, which is told.
+fn put_own<R: Files<File = File> + AllocGlobal>(
+    rt: &R,
+    root: &str,
+    out: &mut Vec<u8>,
+) -> Option<u64> {
+    let path = own_path(rt.alloc(), root, "log")?;
+    let told = fs::metadata(rt, path.as_str()).ok()?;
+    let log = nanoseconds(told.ctime(), told.ctime_nsec())?;
+    let store = changed(rt, root, "files")?;
+    put_numbers(out, &[told.len(), log, store]).ok()?;
+    Some(store)
+}
+
+/// Writes the folders with the times of their last changes, of which the latest is told.
+fn put_folders<R: Files<File = File> + AllocGlobal + Clone + Drop>(
+    tree: &DiskTree<R>,
+    folders: &[MailFolder],
+    out: &mut Vec<u8>,
+) -> Option<u64> {
+    let mut newest = 0;
+    for folder in folders {
+        newest = put_times(tree, &folder.path, out)?.max(newest);
+    }
+    Some(newest)
+}
+
+/// Writes a folder with the times of the last changes of its parts, of which the later is told. A folder has a `cur`; where it has no
+/// `new`, its time is 0.
+fn put_times<R: Files<File = File> + AllocGlobal + Clone + Drop>(
+    tree: &DiskTree<R>,
+    path: &FolderPath,
+    out: &mut Vec<u8>,
+) -> Option<u64> {
+    let mut parts = tree.parts(slice::from_ref(path));
+    let cur = parts.time(0).ok()?;
+    let new = parts.time(1).ok()?;
+    if cur == 0 {
+        return None;
+    }
+    put_folder(out, path.as_str(), cur, new).ok()?;
+    Some(cur.max(new))
+}
+
+/// When one of the program's own files or folders changed last.
+fn changed<R: Files<File = File> + AllocGlobal>(rt: &R, root: &str, inside: &str) -> Option<u64> {
+    let path = own_path(rt.alloc(), root, inside)?;
+    let told = fs::metadata(rt, path.as_str()).ok()?;
+    nanoseconds(told.ctime(), told.ctime_nsec())
+}
+
+/// The path of one of them.
+fn own_path(alloc: Global, root: &str, inside: &str) -> Option<String> {
+    format!(in alloc; "{root}/.mailfold/{inside}").ok()
+}
+
+/// A time of so many seconds and nanoseconds since 1970, in nanoseconds. `None` for one before, or more than five centuries later.
+fn nanoseconds(seconds: i64, rest: i64) -> Option<u64>
+    ensures { (s n : ℕ) → seconds ≡ pos s → rest ≡ pos n → SomeIff result (s * 1000000000 + n < 2 ^ 64) (s * 1000000000 + n) }
+{
+    let seconds = u64::try_from(seconds).ok()?;
+    let rest = u64::try_from(rest).ok()?;
+    seconds.checked_mul(1_000_000_000)?.checked_add(rest)
+}

@@ -1,0 +1,63 @@
+-- marks: what bytes and logs say of them
+use Rattle.std.proofs.Common.{◌≡◌, ◌≢◌, ◌↔◌, ◌≤◌, ◌<◌, ◌^◌, ◌⊎◌, inl, inr, ℕ, Bool, true, false, IsTrue, List, ◌++◌, length, take, drop, Option, Some, None, refl, sym, ap, subst, ◌∙◌, append_assoc, arith}
+use Rattle.std.specs.Prelude.{MatchBool, MatchOption}
+use Rattle.std.specs.Borrow.{Bor}
+use Rattle.std.specs.Option.{option_copied}
+use Rattle.std.specs.Int.{w32, from_be_bytes, to_be_bytes}
+use Rattle.std.proofs.lemmas.List.{length-take-le, take-append-drop}
+use Rattle.std.proofs.lemmas.Nat.{be_bytes_4}
+use Rattle.std.proofs.lemmas.Bool.{false≢true}
+use Rattle.mr_version.specs.Name.{IsVersion, Name}
+use Rattle.mr_mail.specs.Mail.{Mail}
+use Rattle.mr_talk.proofs.MessageLaws.{IsBytes, bytes_take}
+use Rattle.mr_lookup.specs.Told.{message_at}
+use Rattle.mr_sync.specs.declared.marks.Mark.{Mark}
+use Rattle.mr_sync.specs.Marks.{AgreesWith, IsMarked, MarksOwn, Tells, TellsNoneOf, message_short}
+
+-- bytes that are cut behind the fourth and the twentieth are a mark and what is behind it
+pub cut_marked : (bytes four rest short frame : List ℕ) (counter : ℕ) → IsBytes bytes → four ≡ take 4 bytes → rest ≡ drop 4 bytes → 4 ≤ length bytes →
+    short ≡ take 16 rest → frame ≡ drop 16 rest → 16 ≤ length rest → counter ≡ from_be_bytes w32 four → counter < 2 ^ 32 → IsMarked bytes (record { counter = counter; short = short }) frame
+cut_marked bytes four rest short frame counter are is_four is_rest has_four is_short is_frame has_short value fits =
+    let spelled : to_be_bytes w32 counter ≡ take 4 bytes =
+    be_bytes_4 four counter (ap length is_four ∙ length-take-le 4 bytes has_four) (subst IsBytes (sym is_four) (bytes_take 4 bytes are)) value ∙ is_four in
+    let behind : short ++ frame ≡ drop 4 bytes =
+    ap (λ (l : List ℕ). l ++ frame) is_short ∙ ap (λ (l : List ℕ). take 16 rest ++ l) is_frame ∙ take-append-drop 16 rest ∙ is_rest in
+    let all : (to_be_bytes w32 counter ++ short) ++ frame ≡ bytes =
+    append_assoc (to_be_bytes w32 counter) short frame ∙ ap (λ (l : List ℕ). l ++ (short ++ frame)) spelled ∙ ap (λ (l : List ℕ). take 4 bytes ++ l) behind ∙ take-append-drop 4 bytes in
+    record { counter_in = fits; short_long = ap length is_short ∙ length-take-le 16 rest has_short; whole = sym all }
+
+-- a replica's own version is told with one message
+same_message : (a b : Mail) (o : Option Mail) → o ≡ Some a → o ≡ Some b → a ≡ b
+same_message a b o e f = ap from (sym e ∙ f)
+  where
+    from : Option Mail → Mail
+    from None = a
+    from (Some m) = m
+
+-- where its message is told, the mark agrees just where it has the first bytes of that one's digest
+pub told_agrees : (id : ℕ) (told : List (Name × Mail)) (mark : Mark) (message : Mail) (short : List ℕ) (is : Bool) → mark.counter ≢ 0 → Tells told id mark.counter message → short ≡ message_short message →
+    (IsTrue is ↔ (short ≡ mark.short)) → MatchBool is (AgreesWith id told mark) (AgreesWith id told mark → ⊥)
+told_agrees id told mark message short true some own of test = inr (record { message = message; own = own; short_is = sym (test.0 refl) ∙ of })
+told_agrees id told mark message short false some own of test = never
+  where
+    never : AgreesWith id told mark → ⊥
+    never (inl none) = some none
+    never (inr marks) = false≢true (test.1 (of ∙ ap message_short (same_message message marks.message _ own.is_told marks.own.is_told) ∙ sym marks.short_is))
+
+-- where none is told, it does not
+pub untold_differs : (id : ℕ) (told : List (Name × Mail)) (mark : Mark) → mark.counter ≢ 0 → TellsNoneOf told id mark.counter → AgreesWith id told mark → ⊥
+untold_differs id told mark some untold (inl none) = some none
+untold_differs id told mark some untold (inr marks) = untold marks.message marks.own
+
+none≢some : (message : Mail) → ◌≡◌ {A = Option Mail} None (Some message) → ⊥
+none≢some message e = subst is e tt
+  where
+    is : Option Mail → Type 0
+    is None = Unit {0}
+    is (Some m) = ⊥
+
+-- a log tells one message of an author's version, or none
+pub told_of : (told : List (Name × Mail)) (author counter : ℕ) (version : Name) → IsVersion author counter → version ≡ (record { author = author; counter = counter }) →
+    (found : Option (Bor Mail)) → option_copied found ≡ message_at told version → MatchOption found (TellsNoneOf told author counter) (λ message. Tells told author counter message.now)
+told_of told author counter version is named (Some message) e = record { is_version = is; is_told = sym (e ∙ ap (message_at told) named) }
+told_of told author counter version is named None e = λ message tells. none≢some message (e ∙ ap (message_at told) named ∙ tells.is_told)
