@@ -28,7 +28,7 @@
  * it was: call again with more room. At any other error buffer and word are as they were, and so is each other variable of yours.
  *
  * Every answer is MR_OK, which is 0, or one of the other codes, which are never 0: mr_code_text says each in words. The comment of a
- * call lists its codes; where several hold it answers the first of them. The calls that open a device, each event, mr_commit, and
+ * call lists its codes; where several hold it answers the first of them. The calls that open a device, each event, mr_commit, mr_note, and
  * mr_event, mr_conflicts, mr_heads_of, mr_sessions, mr_streams, mr_highest, mr_check_peer, mr_told_frame and mr_frame_claim may also answer
  * MR_NO_MEMORY, and then nothing has changed; the other calls want no memory.
  */
@@ -45,7 +45,7 @@ extern "C" {
 /* The interface that this header is of. Its upper half changes where programs have to be built anew: where a call, a struct or the
  * meaning of a number changes or goes. Its lower half grows where calls or codes are added. A program runs with a library whose
  * mr_abi() has the same upper half and a lower half that is not below the header's. */
-#define MR_ABI UINT32_C(0x00010003)
+#define MR_ABI UINT32_C(0x00010004)
 
 /* What a call answers. Below 0x100 stand the codes of this interface; the others are a family, by its upper byte, and the number
  * that docs/API.md has in that family's table. */
@@ -286,7 +286,7 @@ void mr_close(mr_device *device);
  * Of its events mr_answer and mr_receive, which show nothing of it to others, tell at once what they tell of a plain device. mr_create,
  * mr_edit, mr_merge and mr_pull write nothing to their last parameter: the version or the session is told by mr_told_at, as is the frame of
  * mr_pull, mr_next and mr_vouch; mr_frame is a plain device's alone. The readers, and mr_merge, which looks at the heads, answer
- * MR_UNSETTLED while an event waits for a commit or an act is left. Behind MR_CLOSED every call answers MR_FAILED once an act has failed: close the device, read the file, open it again. An event
+ * MR_UNSETTLED while an event or a note waits for a commit or an act is left. Behind MR_CLOSED every call answers MR_FAILED once an act has failed: close the device, read the file, open it again. An event
  * may answer MR_TOO_LARGE, of more than 8,388,608 bytes.
  *
  * birth: 16 random bytes, drawn for this file alone. mark: 32 bytes that tell where the file is, as of its device and inode, so that a copy
@@ -305,7 +305,7 @@ int32_t mr_kept_begin(mr_device *device, uint16_t id, const uint8_t *filter, siz
 int32_t mr_kept_open(mr_device *device, const uint8_t *file, size_t file_len, const uint8_t *mark, size_t mark_len,
                      const uint8_t *birth, size_t birth_len);
 
-/* Has the file take all events that wait: its acts are to be done then. What the last commit handed out is let go of.
+/* Has the file take all events and notes that wait: its acts are to be done then. What the last commit handed out is let go of.
  * MR_CLOSED, MR_FAILED also where there is no memory to note an act, MR_OTHER_DEVICE, MR_UNSETTLED while acts are left, MR_TOO_LARGE. */
 int32_t mr_commit(mr_device *device);
 
@@ -324,6 +324,19 @@ int32_t mr_told_at(mr_device *device, size_t place, mr_told *told);
 
 /* Its frame, and none (length 0) of MR_ISSUED. MR_CLOSED, MR_FAILED, MR_OTHER_DEVICE, MR_UNSETTLED, MR_NOT_THERE, MR_TOO_SMALL. */
 int32_t mr_told_frame(mr_device *device, size_t place, uint8_t *to, size_t room, size_t *len);
+
+/* Has a note wait: bytes of your own, which mean nothing here, as how many changes your program has announced. The next commit keeps it in
+ * one batch with all events that wait then, all or nothing, behind the notes that waited before it; each mr_kept_open from then on
+ * finds it. MR_CLOSED, MR_FAILED, MR_OTHER_DEVICE, MR_TOO_LARGE of 2^32 bytes or more. */
+int32_t mr_note(mr_device *device, const uint8_t *bytes, size_t bytes_len);
+
+/* How many notes mr_kept_open found in the file: of all commits, and none that was written since. A device that was begun has found none.
+ * MR_CLOSED, MR_FAILED, MR_OTHER_DEVICE. */
+int32_t mr_notes(mr_device *device, size_t *count);
+
+/* The bytes of one of these, by its place in the order in which they were written, from 0; so that of the newest is the count less one.
+ * MR_CLOSED, MR_FAILED, MR_OTHER_DEVICE, MR_NOT_THERE, MR_TOO_SMALL. */
+int32_t mr_note_at(mr_device *device, size_t place, uint8_t *to, size_t room, size_t *len);
 
 /* What was drawn when the file was begun: MR_BIRTH bytes. MR_CLOSED, MR_FAILED, MR_OTHER_DEVICE, MR_UNSETTLED, MR_TOO_SMALL. */
 int32_t mr_birth(mr_device *device, uint8_t *to, size_t room, size_t *len);

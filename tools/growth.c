@@ -167,11 +167,13 @@ static void run_kept(void) {
   mr_told told = {9, 0, {0, 0}};
   mr_count count = {0, 0, 0, 0};
   uint64_t session = 0;
+  size_t notes = 0;
   file_len = 0;
   int32_t code = mr_kept_begin(&phone, 0, TEXT("all"), 1000, birth, MR_BIRTH, mark, MR_MARK);
   settle_by(&phone, code, code ? mr_kept_begin(&phone, 0, TEXT("all"), 1000, birth, MR_BIRTH, mark, MR_MARK) : MR_OK);
   do {
     CALL(&phone, mr_create(&phone, TEXT("ann@example.org"), TEXT("lunch"), TEXT("See you."), TEXT("inbox,work"), 0, 20000, &unused));
+    CALL(&phone, mr_note(&phone, TEXT("lunch")));
   } while (commit(&phone));
   CALL(&phone, mr_told_at(&phone, 0, &told));
   if (told.kind != MR_ISSUED || told.version.counter != 1) wrong++, puts("another version");
@@ -185,6 +187,9 @@ static void run_kept(void) {
   open_kept(&phone);
   CALL(&phone, mr_counts(&phone, &count));
   if (count.heads != 1) wrong++, printf("the phone has %zu\n", count.heads);
+  CALL(&phone, mr_notes(&phone, &notes));
+  CALL(&phone, mr_note_at(&phone, 0, bytes, sizeof bytes, &len));
+  if (notes != 1 || len != 5 || memcmp(bytes, "lunch", 5)) wrong++, printf("the phone found %zu notes\n", notes);
   none_open(&phone, mr_sessions);
   mr_close(&phone);
 }

@@ -1,6 +1,6 @@
 /* Two devices that are kept in files. A child process begins them, writes, syncs them and edits; it is killed before each act on a file
- * and in the middle of each write, one run after the other. Each time the parent opens both files: what was handed out is in them. It
- * prints kept.expected.
+ * and in the middle of each write, one run after the other. Each time the parent opens both files: what was handed out is in them, and
+ * what was announced is noted there. It prints kept.expected.
  *
  *   tools/c-library build/c
  *   gcc examples/c/kept.c -I build/c -L build/c -l:libmailrep.a -o kept && ./kept
@@ -20,12 +20,13 @@
 #define ROOM ((size_t)1 << 20)
 #define TEXT(x) (const uint8_t *)(x), strlen(x)
 
-/* A device, its file, and how many messages it has handed out as written. */
+/* A device, its file, and how many of its changes have been announced. */
 typedef struct kept {
   uint16_t id;
   const char *path;
   int fd;
   mr_device device;
+  size_t announced;
 } kept;
 
 static uint8_t bytes[ROOM];
@@ -35,7 +36,7 @@ static size_t len;
 static long acts_until_death = -1;
 static int dies_halfway;
 
-/* Where the child tells what was handed out. */
+/* Where the child tells what was handed out, and what it announces: the device's id, or that and two. */
 static int told_to = -1;
 
 #define MUST(call) must((call), #call)
@@ -77,12 +78,16 @@ static void settle(kept *k) {
   if (!well) die(k->path);
 }
 
+static void tell(int what) {
+  char byte = (char)what;
+  if (told_to >= 0 && write(told_to, &byte, 1) != 1) die("write");
+}
+
 /* Tells what the last commit hands out: a version to whom it may concern, and a frame into `bytes`. */
 static void hand_out(kept *k) {
   mr_told told;
   for (size_t i = 0; mr_told_at(&k->device, i, &told) == MR_OK; i++) {
-    char id = (char)k->id;
-    if (told.kind == MR_ISSUED && told_to >= 0 && write(told_to, &id, 1) != 1) die("write");
+    if (told.kind == MR_ISSUED) tell(k->id);
     if (told.kind != MR_ISSUED) MUST(mr_told_frame(&k->device, i, bytes, ROOM, &len));
   }
 }
@@ -91,6 +96,24 @@ static void commit(kept *k) {
   MUST(mr_commit(&k->device));
   settle(k);
   hand_out(k);
+}
+
+/* Announces the changes that nobody has heard of. A note in the file says so before: a program that is killed in between announces
+ * them never, and none is announced twice. */
+static void announce(kept *k) {
+  mr_count count;
+  MUST(mr_counts(&k->device, &count));
+  MUST(mr_note(&k->device, (const uint8_t *)&count.changes, sizeof count.changes));
+  commit(k);
+  for (; k->announced < count.changes; k->announced++) tell(k->id + 2);
+}
+
+/* How many were announced, as the last note says. */
+static void find_announced(kept *k) {
+  size_t notes;
+  k->announced = 0;
+  MUST(mr_notes(&k->device, &notes));
+  if (notes > 0) MUST(mr_note_at(&k->device, notes - 1, (uint8_t *)&k->announced, sizeof k->announced, &len));
 }
 
 /* The place of a file: a copy of it is at another one. */
@@ -130,6 +153,7 @@ static void open_kept(kept *k) {
   }
   must(code, k->path);
   settle(k);
+  find_announced(k);
 }
 
 static void close_kept(kept *k) {
@@ -180,21 +204,26 @@ static void story(kept *phone, kept *office) {
   create(phone, "lunch");
   create(phone, "coffee");
   commit(phone);
+  announce(phone);
   sync_from(office, phone);
+  announce(office);
   MUST(mr_head(&office->device, 0, &head));
   MUST(mr_edit(&office->device, &head.version, 1, TEXT("ann@example.org"), TEXT("lunch"), TEXT("Later."), TEXT("inbox"), MR_SEEN, 20000,
                &unused));
   commit(office);
+  announce(office);
   close_kept(phone);
   close_kept(office);
 }
 
 /* ---- death and after */
 
-/* Opens the file and asks for more: what was handed out is there, and no version is given again. Says how many versions it has given. */
-static unsigned check(kept *k, unsigned handed_out) {
+/* Opens the file and asks for more: what was handed out is there, no version is given again, and nothing would be announced again. Says how
+ * many versions it has given. */
+static unsigned check(kept *k, unsigned handed_out, unsigned announced) {
   mr_told told;
   open_kept(k);
+  if (k->announced < announced) exit((printf("%s has noted %zu, and %u were announced\n", k->path, k->announced, announced), 1));
   create(k, "one more");
   MUST(mr_commit(&k->device));
   if (mr_told_at(&k->device, 0, &told) != MR_UNSETTLED) exit((puts("handed out before its acts were done"), 1));
@@ -208,8 +237,8 @@ static unsigned check(kept *k, unsigned handed_out) {
 /* A run that is killed in its act of this number; 0 where it ended before. */
 static int killed_in(long act, int halfway, kept *phone, kept *office) {
   int pipe_ends[2], status;
-  unsigned handed_out[2] = {0, 0};
-  char id;
+  unsigned told[4] = {0, 0, 0, 0};
+  char what;
   unlink(phone->path);
   unlink(office->path);
   fflush(stdout);
@@ -224,12 +253,13 @@ static int killed_in(long act, int halfway, kept *phone, kept *office) {
     _exit(0);
   }
   close(pipe_ends[1]);
-  while (read(pipe_ends[0], &id, 1) == 1) handed_out[(int)id]++;
+  while (read(pipe_ends[0], &what, 1) == 1) told[(int)what]++;
   close(pipe_ends[0]);
   if (waitpid(child, &status, 0) != child) die("waitpid");
   if (!WIFSIGNALED(status) && status != 0) exit(1);
-  unsigned of_phone = check(phone, handed_out[0]), of_office = check(office, handed_out[1]);
-  if (!WIFSIGNALED(status)) printf("to its end: the phone has given %u versions, the office %u\n", of_phone, of_office);
+  unsigned of_phone = check(phone, told[0], told[2]), of_office = check(office, told[1], told[3]);
+  if (!WIFSIGNALED(status))
+    printf("to its end: the phone has given %u versions, the office %u; announced: %u changes and %u\n", of_phone, of_office, told[2], told[3]);
   return WIFSIGNALED(status);
 }
 
@@ -245,7 +275,7 @@ int main(void) {
     acts++;
   }
   if (acts < 20) exit((printf("only %ld acts\n", acts), 1));
-  puts("killed before and in each act: what was handed out is kept");
+  puts("killed before and in each act: what was handed out is kept, and nothing is announced twice");
   unlink(phone_path);
   unlink(office_path);
   rmdir(folder);

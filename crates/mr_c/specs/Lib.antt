@@ -3,6 +3,7 @@ pub mod Code
 pub mod Conflicts
 pub mod Given
 pub mod Held
+pub mod Notes
 pub mod Opened
 pub mod Peer
 pub mod Rows

@@ -1,5 +1,5 @@
 -- what opening a handle does
-use Rattle.std.specs.Prelude.{◌≡◌, ℕ, ℤ, List, Option, Some, None, Result, Ok, Err}
+use Rattle.std.specs.Prelude.{◌≡◌, ℕ, ℤ, List, [], Option, Some, None, Result, Ok, Err}
 use Rattle.mr_desk.specs.KeptOpening.{ArePlace, Begun, IsUnbegun, IsUnopened, Reopened, given}
 use Rattle.mr_desk.specs.Opening.{Opens}
 use Rattle.mr_desk.specs.declared.device.Device.{Device}
@@ -16,15 +16,15 @@ ComesPlain id filter limit log (Ok (Plain s)) = Opens id filter limit log (Ok s)
 ComesPlain id filter limit log (Ok other) = ⊥
 ComesPlain id filter limit log (Err fault) = Opens id filter limit log (Err fault)
 
--- a kept one that is begun
+-- a kept one that is begun, and found no note
 abbrev pub ComesBegun : (id : ℕ) (filter : List ℕ) (limit : ℕ) (birth mark : List ℕ) → Result Device Fault → Type 0
-ComesBegun id filter limit birth mark (Ok (Kept h)) = Begun id filter limit birth mark h
+ComesBegun id filter limit birth mark (Ok (Kept h notes)) = Begun id filter limit birth mark h × (notes.items ≡ [])
 ComesBegun id filter limit birth mark (Ok other) = ⊥
 ComesBegun id filter limit birth mark (Err fault) = IsUnbegun id filter limit birth mark fault
 
--- a kept one that is brought back from its file
+-- a kept one that is brought back from its file, with the notes that are there
 abbrev pub ComesBack : (file mark birth : List ℕ) → Result Device Fault → Type 0
-ComesBack file mark birth (Ok (Kept h)) = ArePlace mark birth × Reopened file mark (given birth) h
+ComesBack file mark birth (Ok (Kept h notes)) = ArePlace mark birth × Reopened file mark (given birth) h notes.items
 ComesBack file mark birth (Ok other) = ⊥
 ComesBack file mark birth (Err fault) = IsUnopened file mark birth fault
 

@@ -1,9 +1,11 @@
 -- worked rows: what the definitions give for small values
-use Rattle.std.specs.Prelude.{◌≡◌, ℕ, [], ◌∷◌, pos, Some, None, Ok, Err, false, codes, refl}
+use Rattle.std.specs.Prelude.{◌≡◌, ℕ, List, [], ◌∷◌, pos, Some, None, Ok, Err, false, codes, refl}
 use Rattle.std.proofs.Common.{arith}
 use Rattle.mr_mail.specs.Mail.{Mail}
 use Rattle.mr_version.specs.Name.{Name}
 use Rattle.mr_version.specs.declared.fault.VersionFault.TheVariants.{BadVersion}
+use Rattle.mr_entry.specs.Note.{NoteParts}
+use Rattle.mr_desk.specs.Notes.{TakesNote}
 use Rattle.mr_desk.specs.declared.call.Call.TheVariants.{Pull}
 use Rattle.mr_desk.specs.declared.call.VersionNumbers.{VersionNumbers}
 use Rattle.mr_desk.specs.declared.device.Device.{Device}
@@ -11,10 +13,11 @@ use Rattle.mr_outbox.specs.declared.act.Act.TheVariants as act
 use Rattle.mr_replica.specs.declared.event.Reply.TheVariants as reply
 use Rattle.mr_desk.specs.declared.fault.Fault.TheVariants as fault
 use Rattle.mr_desk.specs.declared.reply.Told.TheVariants.{Issued, Done, Asked, Known}
-use Rattle.mr_c.specs.Called.{Called, number_told, outcome_told, version_told}
+use Rattle.mr_c.specs.Called.{Called, Does, number_told, outcome_told, version_told}
 use Rattle.mr_c.specs.Code.{code_of, failure_number}
 use Rattle.mr_c.specs.Given.{IsFilled, IsGiven, at_place}
 use Rattle.mr_c.specs.Shown.{known, of_version, part_of, shown_card}
+use Rattle.mr_c.specs.Notes.{count_at}
 use Rattle.mr_c.specs.Opened.{ClosedOnly}
 use Rattle.mr_c.specs.Peer.{FindsCounter, birth_at}
 use Rattle.mr_c.specs.ShownKept.{act_at, is_well, shown_act, shown_reply, written}
@@ -124,6 +127,24 @@ zero_is_unwell = refl
 
 pub acts_when_closed : act_at None 0 ≡ Err Closed
 acts_when_closed = refl
+
+-- ---- notes
+
+pub no_count_when_closed : count_at None ≡ Err Closed
+no_count_when_closed = refl
+
+-- the second of two notes, and none behind it
+abbrev two_notes : List NoteParts
+two_notes = record { kind = 0; bytes = 7 ∷ [] } ∷ record { kind = 0; bytes = 8 ∷ 9 ∷ [] } ∷ []
+
+pub second_note : at_place (λ (n : NoteParts). n.bytes) two_notes 1 ≡ Ok (8 ∷ 9 ∷ [])
+second_note = refl
+
+pub no_third_note : at_place (λ (n : NoteParts). n.bytes) two_notes 2 ≡ Err NotThere
+no_third_note = refl
+
+pub none_taken_when_closed : (bytes : List ℕ) → Does (TakesNote bytes) None (Err Closed) None
+none_taken_when_closed bytes = (refl, refl)
 
 -- ---- other devices
 

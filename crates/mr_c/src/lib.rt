@@ -5,7 +5,8 @@
 //! gives, as a number and through pointers; one that reads gives what its clauses say of the device, and changes nothing. A
 //! closed handle is told by [`failure::Failure::Closed`], by each of them.
 //!
-//! A kept device has its host do what is to be done to its file, [`kept`], and shows and hands out nothing before.
+//! A kept device has its host do what is to be done to its file, [`kept`], and shows and hands out nothing before. The host may keep [`notes`]
+//! there, and finds them as it opens the file.
 //!
 //! Whatever C hands over is read with care: bytes that are no text, no frame, no version are refused, and nothing changes.
 #![tactic(auto)]
@@ -20,6 +21,7 @@ mod handle;
 mod kept;
 mod loose;
 mod messages;
+mod notes;
 mod open;
 mod opening;
 mod peer;

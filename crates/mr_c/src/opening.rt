@@ -10,9 +10,9 @@ use std::alloc::Global;
 /// The number of this interface: its upper half changes where a program has to be built anew, its lower half where functions were added.
 #[unsafe(no_mangle)]
 pub extern "C" fn mr_abi() -> u32
-    ensures { result ≡ 65539 }
+    ensures { result ≡ 65540 }
 {
-    0x0001_0003
+    0x0001_0004
 }
 
 // Refuses an open handle, which stays as it is.
@@ -118,7 +118,10 @@ fn begun(
     ensures { ComesBegun id filter.now event_limit birth.now mark.now result }
 {
     match begin_kept(alloc, id, filter, event_limit, birth, mark) {
-        Ok(kept) => Ok(Device::Kept(kept)),
+        Ok(kept) => Ok(Device::Kept {
+            kept,
+            notes: Vec::new(alloc),
+        }),
         Err(fault) => Err(fault),
     }
 }
@@ -159,12 +162,12 @@ pub extern "C" fn mr_kept_begin(
     code_of(&answer)
 }
 
-// The kept device of a file.
+// The kept device of a file, with the notes that are found there.
 fn brought_back(alloc: Global, file: &[u8], mark: &[u8], birth: &[u8]) -> Result<Device, Fault>
     ensures { ComesBack file.now mark.now birth.now result }
 {
     match open_kept(alloc, file, mark, birth) {
-        Ok(kept) => Ok(Device::Kept(kept)),
+        Ok((kept, notes)) => Ok(Device::Kept { kept, notes }),
         Err(fault) => Err(fault),
     }
 }

@@ -1,8 +1,8 @@
 -- events of a replica whose host writes
-use Rattle.std.proofs.Common.{◌≡◌, ◌++◌, ◌∷◌, [], List, Option, None, Result, Ok, Err, refl, subst, sym, true, false, Bool}
+use Rattle.std.proofs.Common.{◌≡◌, ◌++◌, ◌∷◌, [], ℕ, List, Option, None, Result, Ok, Err, refl, subst, sym, true, false, Bool}
 use Rattle.mr_itemset.specs.Normal.{Normal}
 use Rattle.mr_itemset.specs.Sparing.{sparing_form}
-use Rattle.mr_kept.specs.Answered.{Answered, reply_by}
+use Rattle.mr_kept.specs.Answered.{Answered, IsUnnoted, reply_by}
 use Rattle.mr_kept.specs.Kept.{AtOnce, Later, SameJournal, journal_of, leaving}
 use Rattle.mr_kept.specs.declared.fault.KeptFault.{KeptFault}
 use Rattle.mr_kept.specs.declared.fault.KeptFault.TheVariants as kept
@@ -18,6 +18,7 @@ use Rattle.mr_replica.specs.declared.event.Reply.{Reply}
 use Rattle.mr_desk.specs.declared.call.Call.{Call}
 use Rattle.mr_desk.specs.Kept.{Gives, KeptAnswers, KeptMerges, KeptTells, Refuses, TakesMeant, inside, told_where}
 use Rattle.mr_desk.specs.Merge.{IsMergeIn, merge_fault_in}
+use Rattle.mr_desk.specs.Notes.{KeptTakesNote, note_of}
 use Rattle.mr_desk.specs.declared.call.VersionNumbers.{VersionNumbers}
 use Rattle.mr_desk.specs.declared.fault.Fault.{Fault}
 use Rattle.mr_desk.specs.Asked.{call_fault, IsEventOf}
@@ -75,6 +76,15 @@ module _ {V : Type 0} where
   untaken-merge old new item event (kept.Refused e) shown meant is = (shown, untaken-meant (merge_fault_in (inside old) item) (IsMergeIn (inside old) item) old new event (kept.Refused e) meant is)
   untaken-merge old new item event kept.Failed shown meant is = (shown, untaken-meant (merge_fault_in (inside old) item) (IsMergeIn (inside old) item) old new event kept.Failed meant is)
   untaken-merge old new item event kept.TooLarge shown meant is = (shown, untaken-meant (merge_fault_in (inside old) item) (IsMergeIn (inside old) item) old new event kept.TooLarge meant is)
+
+module _ {V : Type 0} where
+  -- a note that isn't taken
+  pub unnoted : (bytes : List ℕ) (old new : Hosted Normal V) (e : KeptFault) → IsUnnoted (journal_of (journaled_of old)) (note_of bytes) e
+      → (inside new ≡ inside old) × (leaving (journaled_of new) ≡ leaving (journaled_of old)) × SameJournal (journaled_of old) (journaled_of new) → SameHost old new → KeptTakesNote bytes old (Err (of_kept e)) new
+  unnoted bytes old new kept.OutOfMemory why same host = record { replica = same.0; held_back = same.1; journal = same.2; host = host }
+  unnoted bytes old new (kept.Refused e) why same host = absurd why
+  unnoted bytes old new kept.Failed why same host = (why, record { replica = same.0; held_back = same.1; journal = same.2; host = host })
+  unnoted bytes old new kept.TooLarge why same host = (why, record { replica = same.0; held_back = same.1; journal = same.2; host = host })
 
 -- what isn't false is true
 not-false : (b : Bool) → (b ≡ false → ⊥) → b ≡ true

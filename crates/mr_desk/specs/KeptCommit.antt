@@ -6,7 +6,7 @@ use Rattle.mr_entry.specs.declared.entry.Entry.{Entry}
 use Rattle.mr_journal.specs.Device.{LeavesOnly}
 use Rattle.mr_kept.specs.Entries.{notes_of}
 use Rattle.mr_kept.specs.Kept.{IsKept, StaysBack, entries_waiting, head_of, leaving, notes_waiting, waiting}
-use Rattle.mr_kept.specs.Whole.{HasLog, IsOf}
+use Rattle.mr_kept.specs.Whole.{HasLog, HasLogOf, IsOf}
 use Rattle.mr_hosted.specs.Hosted.{SameDone, handed_out, is_settled, journaled_of, outbox_of}
 use Rattle.mr_hosted.specs.declared.hosted.Hosted.{Hosted}
 use Rattle.mr_outbox.specs.Outbox.{begun, file_of, left_since, may_leave}
@@ -28,6 +28,8 @@ module _ {V : Type 0} where
     pub head : head_of (journaled_of new) ≡ head_of (journaled_of old)
     pub host : SameDone old new
     pub kept : (entries : List Entry) → IsKept file_of may_leave entries (journaled_of old) → IsKept file_of may_leave (entries ++ entries_waiting (journaled_of old)) (journaled_of new)
+    -- so opening it then gives a replica that is alike, and the notes from before and behind them those that waited
+    pub has_log : (entries : List Entry) → IsKept file_of may_leave entries (journaled_of old) → IsOf (head_of (journaled_of old)) (inside old) → HasLogOf sparing_form (file_of (outbox_of new)) (head_of (journaled_of new)) (inside new) (notes_of entries ++ notes_waiting (journaled_of old))
     pub left : LeavesOneOfTwo old new
 
   -- nothing is: what waits and what is held back and handed out is as it was

@@ -1,5 +1,6 @@
 -- how a replica whose host writes comes to be
 use Rattle.std.specs.Prelude.{◌≡◌, ◌<◌, ◌⊎◌, ℕ, Bool, true, false, List, [], ◌∷◌, length, Option, Some, None, Result, Ok, Err}
+use Rattle.std.specs.Global.{Vec}
 use Rattle.std.specs.Str.{is_utf8}
 use Rattle.mr_version.specs.declared.author.TheConstants.{AUTHORS}
 use Rattle.mr_version.specs.declared.fault.VersionFault.TheVariants.{NoSuchAuthor}
@@ -92,11 +93,10 @@ module _ {V : Type 0} where
     BeginsKept (Ok h) = Begun h
     BeginsKept (Err f) = IsUnbegun id text event_limit birth mark f
 
-  -- The file has the log of a replica, and what was open in that is closed once the acts are done. In whichever act the host is killed, the
-  -- file is as it was read, or again one that has the log of a replica, and the same notes.
-  pub record Reopened (file mark : List ℕ) (asked : Option (List ℕ)) (h : Hosted Normal V) : Type 0 where
+  -- The file has the log of a replica and these notes, and what was open in that is closed once the acts are done. In whichever act the host is
+  -- killed, the file is as it was read, or again one that has the log of a replica, and the same notes.
+  pub record Reopened (file mark : List ℕ) (asked : Option (List ℕ)) (h : Hosted Normal V) (notes : List NoteParts) : Type 0 where
     pub are_closed : Bool
-    pub notes : List NoteParts
     pub reopens : Reopens sparing_form file_of may_leave file are_closed notes (journaled_of h)
     pub place : IsOfPlace (head_of (journaled_of h)) mark asked
     pub whole : (head : HeadParts) (s : State Normal) (ns : List NoteParts) → HasLogOf sparing_form file head s ns → IsOfPlace head mark asked → ComesBack sparing_form s are_closed (inside h) × (notes ≡ ns)
@@ -104,7 +104,7 @@ module _ {V : Type 0} where
     pub none_waits : (nothing_waits (journaled_of h) ≡ true) × (leaving (journaled_of h) ≡ [])
     pub new : IsNew h
 
-  -- the replica of a file, or why there is none
-  abbrev pub OpensKept : (file mark birth : List ℕ) → Result (Hosted Normal V) Fault → Type 0
-  OpensKept file mark birth (Ok h) = ArePlace mark birth × Reopened file mark (given birth) h
+  -- the replica of a file and its notes, or why there is none
+  abbrev pub OpensKept : (file mark birth : List ℕ) → Result (Hosted Normal V × Vec NoteParts) Fault → Type 0
+  OpensKept file mark birth (Ok found) = ArePlace mark birth × Reopened file mark (given birth) found.0 found.1.items
   OpensKept file mark birth (Err f) = IsUnopened file mark birth f

@@ -9,6 +9,7 @@ pub mod KeptCommit
 pub mod KeptOpening
 pub mod Log
 pub mod Merge
+pub mod Notes
 pub mod Opening
 pub mod Peer
 pub mod Rows

@@ -39,7 +39,7 @@ FindsHighest s author (Err f) = ⊥
 -- what was drawn when the file of a kept device was begun
 abbrev pub birth_of : Device → Result (List ℕ) Fault
 birth_of (Plain desk) = Err fault.OtherDevice
-birth_of (Kept h) = if may_show h then Ok (head_of (journaled_of h)).birth else Err fault.Unsettled
+birth_of (Kept h notes) = if may_show h then Ok (head_of (journaled_of h)).birth else Err fault.Unsettled
 birth_of Failed = Err fault.Failed
 
 -- ---- what is heard
@@ -80,5 +80,5 @@ module _ {V : Type 0} where
 -- A kept device tells whether what another one tells goes with it.
 abbrev pub ChecksPeer : Device → List VersionNumbers → List Born → Result (Unit {0}) Fault → Type 0
 ChecksPeer (Plain desk) highest births answer = answer ≡ Err fault.OtherDevice
-ChecksPeer (Kept h) highest births answer = JudgesSettled h highest births answer
+ChecksPeer (Kept h notes) highest births answer = JudgesSettled h highest births answer
 ChecksPeer Failed highest births answer = answer ≡ Err fault.Failed

@@ -20,12 +20,14 @@ use Rattle.mr_mail.specs.Mail.{Mail, MailCard}
 use Rattle.mr_maildir.specs.declared.policy.MergeFault.TheVariants as merge
 use Rattle.mr_feed.specs.declared.entry.Entry.TheVariants.{Added, Dropped}
 use Rattle.mr_madewith.specs.Revision.{Rev}
+use Rattle.mr_desk.specs.Device.{notes_found}
 use Rattle.mr_desk.specs.Draft.{labels_of}
 use Rattle.mr_desk.specs.Fault.{fault_number}
 use Rattle.mr_desk.specs.Frames.{announced, any_frame, claim_by, frame_fault, only_ask, only_receipt}
 use Rattle.mr_desk.specs.Kept.{Gives}
 use Rattle.mr_desk.specs.KeptOpening.{given}
 use Rattle.mr_desk.specs.Merge.{last_under, said_together, unmerged}
+use Rattle.mr_desk.specs.Notes.{TakesNote, note_of}
 use Rattle.mr_desk.specs.Peer.{birth_of, births_fault, heard_fault, told_verdict}
 use Rattle.mr_desk.specs.Told.{frame_by, told_by}
 use Rattle.mr_desk.specs.Version.{first_version_fault, version_fault}
@@ -109,6 +111,18 @@ told_old_copy = refl
 
 pub failed_has_no_birth : birth_of device.Failed ≡ Err Failed
 failed_has_no_birth = refl
+
+-- ---- notes
+
+pub note_of_two_bytes : note_of (7 ∷ 8 ∷ []) ≡ record { kind = 0; bytes = 7 ∷ 8 ∷ [] }
+note_of_two_bytes = refl
+
+pub failed_found_no_note : notes_found device.Failed ≡ Err Failed
+failed_found_no_note = refl
+
+-- a device that has failed takes none either, and stays so
+pub failed_takes_no_note : TakesNote (7 ∷ []) device.Failed (Err Failed) device.Failed
+failed_takes_no_note = (refl, refl)
 
 -- ---- labels
 

@@ -1,12 +1,13 @@
 //! The device behind a handle: a desk, plain or kept.
 ghost use Rattle.std.specs.Prelude.{◌≡◌};
-ghost use Rattle.mr_desk.specs.Device.{Commits, DeviceAnswers, DeviceMerges, Settles, acts_of, frame_of, lent, replies_of, shown};
+ghost use Rattle.mr_desk.specs.Device.{Commits, DeviceAnswers, DeviceMerges, Settles, acts_of, frame_of, lent, notes_found, replies_of, shown};
 
 use crate::call::{Call, VersionNumbers};
 use crate::desk::Desk;
 use crate::fault::Fault;
 use crate::kept::{KeptDesk, commit, merge, serve};
 use crate::reply::Told;
+use mr_entry::Note;
 use mr_itemset::SparingKnowledge;
 use mr_outbox::Act;
 use mr_replica::{Replica, Reply};
@@ -18,7 +19,11 @@ pub enum Device {
     /// It shows what it has at once.
     Plain(Desk),
     /// It shows and hands out only what is in its file.
-    Kept(KeptDesk),
+    Kept {
+        kept: KeptDesk,
+        /// The notes that its opening found, none where it was begun.
+        notes: Vec<Note>,
+    },
     /// It was kept, and an act failed or there was no memory to note one: the file has to be opened again.
     Failed,
 }
@@ -31,7 +36,7 @@ impl Device {
     {
         match self {
             Device::Plain(desk) => desk.serve(call),
-            Device::Kept(kept) => serve(alloc, kept, call),
+            Device::Kept { kept, .. } => serve(alloc, kept, call),
             Device::Failed => Err(Fault::Failed),
         }
     }
@@ -43,7 +48,7 @@ impl Device {
     {
         match self {
             Device::Plain(desk) => desk.merge(item),
-            Device::Kept(kept) => merge(alloc, kept, item),
+            Device::Kept { kept, .. } => merge(alloc, kept, item),
             Device::Failed => Err(Fault::Failed),
         }
     }
@@ -54,7 +59,7 @@ impl Device {
     {
         match self {
             Device::Plain(desk) => Ok(desk.replica()),
-            Device::Kept(kept) => match kept.replica() {
+            Device::Kept { kept, .. } => match kept.replica() {
                 Some(replica) => Ok(replica),
                 None => Err(Fault::Unsettled),
             },
@@ -68,7 +73,7 @@ impl Device {
     {
         match self {
             Device::Plain(desk) => Ok(desk.frame()),
-            Device::Kept(_) => Err(Fault::OtherDevice),
+            Device::Kept { .. } => Err(Fault::OtherDevice),
             Device::Failed => Err(Fault::Failed),
         }
     }
@@ -79,7 +84,7 @@ impl Device {
     {
         match self {
             Device::Plain(_) => Err(Fault::OtherDevice),
-            Device::Kept(kept) => Ok(kept.acts()),
+            Device::Kept { kept, .. } => Ok(kept.acts()),
             Device::Failed => Err(Fault::Failed),
         }
     }
@@ -90,7 +95,7 @@ impl Device {
     {
         match self {
             Device::Plain(_) => Err(Fault::OtherDevice),
-            Device::Kept(kept) => match kept.replies() {
+            Device::Kept { kept, .. } => match kept.replies() {
                 Some(replies) => Ok(replies),
                 None => Err(Fault::Unsettled),
             },
@@ -98,7 +103,20 @@ impl Device {
         }
     }
 
-    /// Has the host of a kept device keep all events that wait: [`Device::acts`] are what it has to do.
+    /// The notes that the opening of a kept device found, in the order in which they were written: none where it was begun, and none of
+    /// those that were written since.
+    pub fn notes(&self) -> Result<&[Note], Fault>
+        ensures { lent result ≡ notes_found self.now }
+    {
+        match self {
+            Device::Plain(_) => Err(Fault::OtherDevice),
+            Device::Kept { notes, .. } => Ok(notes),
+            Device::Failed => Err(Fault::Failed),
+        }
+    }
+
+    /// Has the host of a kept device keep all events that wait, and behind them all notes: [`Device::acts`] are what it has to do. Opening
+    /// the file once they are done finds the notes from before, and behind them these.
     ///
     /// `Unsettled` where it has acts to do; `TooLarge` or `OutOfMemory`: then what waits waits still. `Failed` where there is no memory to
     /// note an act; then the device has failed.
@@ -107,7 +125,7 @@ impl Device {
     {
         let answer = match self {
             Device::Plain(_) => Err(Fault::OtherDevice),
-            Device::Kept(kept) => commit(kept),
+            Device::Kept { kept, .. } => commit(kept),
             Device::Failed => Err(Fault::Failed),
         };
         if let Err(Fault::Failed) = answer {
@@ -122,11 +140,11 @@ impl Device {
     {
         match self {
             Device::Plain(_) => Err(Fault::OtherDevice),
-            Device::Kept(kept) if went_well => {
+            Device::Kept { kept, .. } if went_well => {
                 kept.settle();
                 Ok(())
             }
-            Device::Kept(_) => {
+            Device::Kept { .. } => {
                 *self = Device::Failed;
                 Ok(())
             }

@@ -29,7 +29,7 @@ pub enum Fault {
     /// A frame of another kind was handed over than the call takes.
     #[error("the frame is of another kind")]
     OtherFrame,
-    /// A kept desk has events that wait for a commit, or its host has acts to do.
+    /// A kept desk has events or notes that wait for a commit, or its host has acts to do.
     #[error("unsettled: commit, and do the acts")]
     Unsettled,
     /// An act of the host failed, or there was no memory to note one: the file has to be opened again.
@@ -38,7 +38,7 @@ pub enum Fault {
     /// What is asked for is a plain desk's alone, or a kept one's.
     #[error("the device is of the other kind")]
     OtherDevice,
-    /// The event has more bytes than one may have, or the file would get more than it may have.
+    /// The event or the note has more bytes than one may have, or the file would get more than it may have.
     #[error("too large")]
     TooLarge,
     /// A birth has 16 bytes, and a mark 32.

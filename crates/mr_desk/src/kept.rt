@@ -107,7 +107,7 @@ pub(crate) fn merge(alloc: Global, kept: &mut KeptDesk, item: VersionNumbers) ->
     }
 }
 
-/// Has the host of the replica keep all that waits, as [`Hosted::commit`]: `Unsettled`, `Failed`, `TooLarge` or `OutOfMemory`.
+/// Has the host of the replica keep all that waits, events and notes, as [`Hosted::commit`]: `Unsettled`, `Failed`, `TooLarge` or `OutOfMemory`.
 pub(crate) fn commit(kept: &mut KeptDesk) -> Result<(), Fault>
     ensures { KeptCommits kept.old result kept.new }
 {

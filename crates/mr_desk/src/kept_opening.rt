@@ -6,7 +6,7 @@ ghost use Rattle.mr_desk.specs.declared.fault.Fault.TheVariants.{BadLength};
 use crate::fault::Fault;
 use crate::kept::KeptDesk;
 use crate::opening::filter_of;
-use mr_entry::{Birth, Mark};
+use mr_entry::{Birth, Mark, Note};
 use mr_hosted::Hosted;
 use mr_kept::Setup;
 use mr_replica::{MAX_EVENTS, ReplayFault};
@@ -85,18 +85,23 @@ pub fn begin_kept(
     }
 }
 
-/// Brings back the replica of a file that a host synced and then read.
+/// Brings back the replica of a file that a host synced and then read, and all notes that were kept in it, in their order.
 ///
 /// `BadLength` where the mark has another length than 32 bytes, or the birth another than 16 and than none; `OutOfMemory`; then `Open`
 /// where the file isn't opened. One that a host left is, but for memory.
-pub fn open_kept(alloc: Global, file: &[u8], mark: &[u8], birth: &[u8]) -> Result<KeptDesk, Fault>
+pub fn open_kept(
+    alloc: Global,
+    file: &[u8],
+    mark: &[u8],
+    birth: &[u8],
+) -> Result<(KeptDesk, Vec<Note>), Fault>
     ensures { OpensKept file.now mark.now birth.now result }
 {
     let mark = mark_of(mark)?;
     let birth = birth_asked(birth)?;
     let read = file.to_vec(alloc)?;
     match Hosted::open(alloc, read, &mark, birth) {
-        Ok((kept, _opened)) => Ok(kept),
+        Ok((kept, opened)) => Ok((kept, opened.notes)),
         Err(fault) => Err(Fault::Open(fault)),
     }
 }

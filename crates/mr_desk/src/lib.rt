@@ -18,7 +18,8 @@
 //!
 //! A desk is its log: [`Desk::replay`] makes it again of the bytes of the events that it admitted. Who would have the file looked after takes
 //! a [`KeptDesk`], a replica whose host writes ([`mr_hosted::Hosted`]): [`begin_kept`], [`open_kept`]. A [`Device`] is one of the two,
-//! behind the same calls, and nothing that comes of an event of a kept one is shown or handed out before it is in the file.
+//! behind the same calls, and nothing that comes of an event of a kept one is shown or handed out before it is in the file. Its host may
+//! keep notes of its own beside the events, by [`Device::note`], and finds them as it opens the file.
 #![tactic(auto)]
 
 mod ancestor;
@@ -34,6 +35,7 @@ mod kept_opening;
 mod labels;
 mod log;
 mod merging;
+mod notes;
 mod opening;
 mod peer;
 mod reply;
@@ -46,5 +48,6 @@ pub use frames::{Claim, announced_len, claim_of};
 pub use kept::KeptDesk;
 pub use kept_opening::{begin_kept, open_kept};
 pub use log::event_bytes;
+pub use notes::NOTE_KIND;
 pub use peer::{Born, highest_of};
 pub use reply::{Told, frame_by};

@@ -96,8 +96,8 @@ impl Device {
     {
         match self {
             Device::Plain(_) => Err(Fault::OtherDevice),
-            Device::Kept(kept) if kept.may_show() => Ok(kept.birth()),
-            Device::Kept(_) => Err(Fault::Unsettled),
+            Device::Kept { kept, .. } if kept.may_show() => Ok(kept.birth()),
+            Device::Kept { .. } => Err(Fault::Unsettled),
             Device::Failed => Err(Fault::Failed),
         }
     }
@@ -118,8 +118,8 @@ impl Device {
     {
         match self {
             Device::Plain(_) => Err(Fault::OtherDevice),
-            Device::Kept(kept) if kept.may_show() => judge(alloc, kept, highest, births),
-            Device::Kept(_) => Err(Fault::Unsettled),
+            Device::Kept { kept, .. } if kept.may_show() => judge(alloc, kept, highest, births),
+            Device::Kept { .. } => Err(Fault::Unsettled),
             Device::Failed => Err(Fault::Failed),
         }
     }

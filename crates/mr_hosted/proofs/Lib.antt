@@ -1,1 +1,2 @@
--- no lemmas of its own
+-- lemmas
+pub mod FileLemmas

@@ -4,7 +4,7 @@ ghost use Rattle.mr_entry.specs.declared.entry.Entry.{Entry};
 ghost use Rattle.mr_journal.specs.Device.{LeavesOnly};
 ghost use Rattle.mr_kept.specs.Entries.{notes_of};
 ghost use Rattle.mr_kept.specs.Kept.{IsKept, StaysBack, entries_waiting, head_of, leaving, notes_waiting, replica_of, waiting};
-ghost use Rattle.mr_kept.specs.Whole.{HasLog, IsOf};
+ghost use Rattle.mr_kept.specs.Whole.{HasLog, HasLogOf, IsOf};
 ghost use Rattle.mr_outbox.specs.Outbox.{begun, file_of, left_since, may_leave};
 ghost use Rattle.mr_hosted.specs.declared.fault.HostedFault.TheVariants.{Unsettled};
 
@@ -32,6 +32,10 @@ impl<K: Knowledge> Hosted<K> {
         // Once its acts are done the host's file has the entries from before and those of all that waited.
         ensures kept { (entries : List Entry) → IsKept file_of may_leave entries (journaled_of self.old)
             → OnOk result (IsKept file_of may_leave (entries ++ entries_waiting (journaled_of self.old)) (journaled_of self.new)) }
+        // So the file has the log of the replica then, and the notes from before and behind them those that waited: `open` gives a replica that is
+        // alike, and just these notes.
+        ensures has_log { (entries : List Entry) → IsKept file_of may_leave entries (journaled_of self.old) → IsOf (head_of (journaled_of self.old)) (replica_of (journaled_of self.old))
+            → OnOk result (HasLogOf K.form (file_of (outbox_of self.new)) (head_of (journaled_of self.new)) (replica_of (journaled_of self.new)) (notes_of entries ++ notes_waiting (journaled_of self.old))) }
         // In whichever act the host is killed, its file has the log of a replica, which `open` brings back, and the notes from before,
         // or those and all that waited.
         ensures left { (entries : List Entry) → IsKept file_of may_leave entries (journaled_of self.old) → IsOf (head_of (journaled_of self.old)) (replica_of (journaled_of self.old))

@@ -18,11 +18,11 @@ pub enum Error {
     BytesBehind,
     /// The frame is of another kind than the call takes.
     OtherFrame,
-    /// Of a kept device: events wait for a commit, or acts are left to be done.
+    /// Of a kept device: events or notes wait for a commit, or acts are left to be done.
     Unsettled,
     /// An act of a kept device failed: read its file and open it again.
     Failed,
-    /// The event has more bytes than one may have, or the file would get more than it may have.
+    /// The event or the note has more bytes than one may have, or the file would get more than it may have.
     TooLarge,
     /// The item has no heads that differ: there is nothing to merge.
     NoConflict,

@@ -246,7 +246,7 @@ impl<F: Storage> KeptDevice<F> {
         })
     }
 
-    /// Has the file take all events that wait, and hands out what was held back, in the order of the events.
+    /// Has the file take all events and notes that wait, and hands out what was held back, in the order of the events.
     ///
     /// # Errors
     ///
@@ -258,7 +258,7 @@ impl<F: Storage> KeptDevice<F> {
         Ok(self.handed_out()?)
     }
 
-    /// What the last commit handed out, once more: for who found no memory to take it. `Unsettled` behind the next event.
+    /// What the last commit handed out, once more: for who found no memory to take it. `Unsettled` behind the next event or note.
     ///
     /// # Errors
     ///
@@ -288,11 +288,74 @@ impl<F: Storage> KeptDevice<F> {
         })
     }
 
+    /// Has a note wait: bytes of the program's own, which mean nothing to the device. The next commit keeps it in one batch with the events
+    /// that wait, all or nothing, behind the notes that waited before it; [`KeptDevice::notes`] has it whenever the file is opened again.
+    ///
+    /// So a program keeps what it has done about the events, as how many changes it has announced:
+    ///
+    /// ```
+    /// use mailrep::{Draft, KeptDevice};
+    /// use std::fs::File;
+    ///
+    /// # fn main() -> Result<(), Box<dyn std::error::Error>> {
+    /// # let folder = std::env::temp_dir().join(format!("mailrep-note-{}", std::process::id()));
+    /// # std::fs::create_dir_all(&folder)?;
+    /// # let path = folder.join("phone");
+    /// # let file = File::options().read(true).write(true).create(true).truncate(true).open(&path)?;
+    /// # let mark = [0; 32];
+    /// # let mut phone = KeptDevice::begin(file, 0, "all", 1_000, &[7; 16], &mark)?;
+    /// # phone.create(&Draft { from: "ann@example.org", subject: "lunch", ..Draft::default() })?;
+    /// # phone.commit()?;
+    /// // The note is in the file before anything is announced, so that nothing is announced twice.
+    /// let changes = phone.shown()?.counts().changes as u64;
+    /// phone.note(&changes.to_le_bytes())?;
+    /// phone.commit()?;
+    /// drop(phone);
+    ///
+    /// let file = File::options().read(true).write(true).open(&path)?;
+    /// let mut phone = KeptDevice::open(file, &mark, None)?;
+    /// let announced = match phone.notes()?.pop() {
+    ///     Some(note) => u64::from_le_bytes(note[..].try_into()?),
+    ///     None => 0,
+    /// };
+    /// assert_eq!(announced, 1);
+    /// # std::fs::remove_dir_all(&folder)?;
+    /// # Ok(())
+    /// # }
+    /// ```
+    ///
+    /// # Errors
+    ///
+    /// `Failed`; `TooLarge` of 2^32 bytes or more; `OutOfMemory`.
+    pub fn note(&mut self, bytes: &[u8]) -> Result<()> {
+        // Safety: the pointer is that of a slice of this length.
+        answer(unsafe { sys::mr_note(&mut self.device.device, bytes.as_ptr(), bytes.len()) })
+    }
+
+    /// The notes that opening the file found, in the order in which they were written: of all commits, and none that was written since. A
+    /// device that was begun has found none.
+    ///
+    /// # Errors
+    ///
+    /// `Failed`.
+    pub fn notes(&mut self) -> Result<Vec<Vec<u8>>> {
+        let mut count = 0;
+        answer(sys::mr_notes(&mut self.device.device, &mut count))?;
+        (0..count).map(|place| self.note_at(place)).collect()
+    }
+
+    fn note_at(&mut self, place: usize) -> Result<Vec<u8>> {
+        // Safety: `filled` hands over a buffer of its own, and the room that it has.
+        self.device.filled(|device, to, room, len| unsafe {
+            sys::mr_note_at(device, place, to, room, len)
+        })
+    }
+
     /// What was drawn when the file was begun.
     ///
     /// # Errors
     ///
-    /// `Unsettled` while an event waits for a commit; `Failed`.
+    /// `Unsettled` while an event or a note waits for a commit; `Failed`.
     pub fn birth(&mut self) -> Result<[u8; 16]> {
         let (mut birth, mut len) = ([0; 16], 0);
         // Safety: the buffer has this length.
@@ -314,7 +377,7 @@ impl<F: Storage> KeptDevice<F> {
     ///
     /// # Errors
     ///
-    /// `Unsettled` while an event waits for a commit; `Failed`; `Version`; then `Peer`, where this is an older state of its device, or
+    /// `Unsettled` while an event or a note waits for a commit; `Failed`; `Version`; then `Peer`, where this is an older state of its device, or
     /// where another file was begun under its id.
     pub fn check_peer(&mut self, highest: &[Version], births: &[Born]) -> Result<()> {
         // Safety: the pointers are those of slices of these lengths.
@@ -333,7 +396,7 @@ impl<F: Storage> KeptDevice<F> {
     ///
     /// # Errors
     ///
-    /// `Unsettled` while an event waits for a commit; `Failed`.
+    /// `Unsettled` while an event or a note waits for a commit; `Failed`.
     pub fn shown(&mut self) -> Result<Shown<'_>> {
         let mut counts = Counts::default();
         answer(sys::mr_counts(&mut self.device.device, &mut counts))?;
@@ -360,7 +423,7 @@ impl<F: Storage> KeptDevice<F> {
         self.device.edit(bases, draft).map(|_| ())
     }
 
-    /// Merges the heads of an item; the next commit hands out the version. It looks at the heads, so that no event may wait for a commit.
+    /// Merges the heads of an item; the next commit hands out the version. It looks at the heads, so that neither an event nor a note may wait for a commit.
     ///
     /// # Errors
     ///

@@ -63,7 +63,7 @@ pub const NOT_TEXT: i32 = 4;
 pub const TOO_SMALL: i32 = 5;
 
 /// The number of the interface that these declarations are of.
-pub const ABI: u32 = 0x0001_0003;
+pub const ABI: u32 = 0x0001_0004;
 
 #[rustfmt::skip]
 unsafe extern "C" {
@@ -90,6 +90,9 @@ unsafe extern "C" {
     pub safe fn mr_settle(device: &mut Device, went_well: u32) -> i32;
     pub safe fn mr_told_at(device: &mut Device, place: usize, told: &mut Told) -> i32;
     pub fn mr_told_frame(device: &mut Device, place: usize, to: *mut u8, room: usize, len: &mut usize) -> i32;
+    pub fn mr_note(device: &mut Device, bytes: *const u8, bytes_len: usize) -> i32;
+    pub safe fn mr_notes(device: &mut Device, count: &mut usize) -> i32;
+    pub fn mr_note_at(device: &mut Device, place: usize, to: *mut u8, room: usize, len: &mut usize) -> i32;
     pub fn mr_birth(device: &mut Device, to: *mut u8, room: usize, len: &mut usize) -> i32;
     pub fn mr_check_peer(device: &mut Device, highest: *const Version, highest_len: usize, births: *const Born, births_len: usize) -> i32;
     pub fn mr_frame(device: &mut Device, to: *mut u8, room: usize, len: &mut usize) -> i32;

@@ -145,6 +145,58 @@ fn what_was_handed_out_is_kept_in_whichever_act_the_program_is_killed() {
     }
 }
 
+/// Writes a message and its number as a note, three times, until the file fails.
+fn run_with_notes(file: Memory) -> Result<(), KeptError> {
+    let mut phone = KeptDevice::begin(file, 0, "all", 100, &BIRTH, &MARK)?;
+    for number in 1..=3 {
+        phone.note(&[number; 600])?;
+        phone.create(&LUNCH)?;
+        phone.commit()?;
+    }
+    Ok(())
+}
+
+#[test]
+fn a_note_is_kept_with_its_event_in_whichever_act_the_program_is_killed() {
+    for torn in [0, 100, usize::MAX] {
+        for fails_at in 0.. {
+            let bytes = Rc::default();
+            let mut file = Memory::over(&bytes);
+            (file.fails_at, file.torn) = (Some(fails_at), torn);
+            let ended = run_with_notes(file).is_ok();
+            let mut phone = again(&bytes);
+            let heads = phone.shown().unwrap().counts().heads;
+            let notes: Vec<_> = [1, 2, 3].map(|number| vec![number; 600]).into();
+            assert_eq!(phone.notes().unwrap(), notes[..heads]);
+            if ended {
+                assert_eq!(heads, 3);
+                break;
+            }
+        }
+    }
+}
+
+#[test]
+fn a_note_waits_for_a_commit_and_the_next_opening_finds_it() -> Result<(), KeptError> {
+    let bytes = Rc::default();
+    let mut phone = KeptDevice::begin(Memory::over(&bytes), 0, "all", 100, &BIRTH, &MARK)?;
+    phone.note(b"first")?;
+    assert_eq!(phone.shown().map(|_| ()), Err(Error::Unsettled));
+    assert_eq!(phone.commit()?, []);
+    phone.note(b"")?;
+    phone.commit()?;
+    phone.note(b"never committed")?;
+    assert_eq!(phone.notes()?, Vec::<Vec<u8>>::new());
+    let mut phone = KeptDevice::open(Memory::over(&bytes), &MARK, None)?;
+    phone.note(b"third")?;
+    assert_eq!(phone.notes()?, [b"first".to_vec(), Vec::new()]);
+    phone.commit()?;
+    let mut phone = KeptDevice::open(Memory::over(&bytes), &MARK, None)?;
+    assert_eq!(phone.notes()?.pop(), Some(b"third".to_vec()));
+    assert_eq!(phone.notes()?.len(), 3);
+    Ok(())
+}
+
 #[test]
 fn a_file_that_failed_has_to_be_opened_again() {
     let bytes = Rc::default();
@@ -158,6 +210,8 @@ fn a_file_that_failed_has_to_be_opened_again() {
         phone.create(&LUNCH).unwrap();
     }
     assert_eq!(phone.create(&LUNCH), Err(Error::Failed));
+    assert_eq!(phone.note(b"1"), Err(Error::Failed));
+    assert_eq!(phone.notes(), Err(Error::Failed));
     assert_eq!(phone.shown().map(|_| ()), Err(Error::Failed));
     assert!(matches!(
         phone.commit(),
