@@ -3,7 +3,7 @@ use crate::fault::Fault;
 use crate::tallies::nothing;
 use mr_compare::{FolderNote, Meeting, Tally};
 use mr_entry::Note;
-use mr_fold::{FoldFault, Kept, OpenFolder, settle_folder, sweep_folder};
+use mr_fold::{FoldFault, Kept, OpenFolder, Settled, settle_folder, sweep_folder};
 use mr_kept::KeptFault;
 use mr_sync::Summary;
 use mr_talk::TalkFault;
@@ -20,6 +20,14 @@ pub struct Talked {
     pub fault: Option<TalkFault>,
 }
 
+/// What was done after a talk.
+#[derive(Clone, Copy, Debug, PartialEq, Eq)]
+pub struct After {
+    pub tally: Tally,
+    /// How many mails were found that had been edited in place.
+    pub edited: usize,
+}
+
 /// Shows what came, and notes the meeting. Where nothing could come nothing is done, unless the folder is fresh.
 ///
 /// Files that no held mail names go, but not where the talk was cut off: they may be those of records that didn't come any more.
@@ -27,18 +35,21 @@ pub fn shown<R: Files<File = File> + AllocGlobal + Clone + Drop>(
     folder: &mut OpenFolder<R>,
     talked: &Talked,
     is_fresh: bool,
-) -> Result<Tally, Fault> {
+) -> Result<After, Fault> {
     if talked.summary.is_idle && !is_fresh {
-        return Ok(nothing());
+        return Ok(After {
+            tally: nothing(),
+            edited: 0,
+        });
     }
     if let Some(meeting) = talked.meeting {
         note_meeting(folder, meeting)?;
     }
-    let tally = settle_folder(folder, None)?.tally;
+    let Settled { tally, edited, .. } = settle_folder(folder, None)?;
     if talked.fault.is_none() {
         sweep_folder(folder)?;
     }
-    Ok(tally)
+    Ok(After { tally, edited })
 }
 
 /// Notes the meeting in the journal.

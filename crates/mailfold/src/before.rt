@@ -24,6 +24,7 @@ pub fn scanned<R: Files<File = File> + AllocGlobal + Clone + Drop>(
         let looked = look(folder)?;
         return Ok(Settled {
             tally: nothing(),
+            edited: looked.edited,
             passed_over: looked.passed_over,
         });
     }

@@ -13,6 +13,7 @@ mod after;
 mod audit;
 mod before;
 mod command_line;
+mod edited;
 mod ending;
 mod expire;
 mod fault;

@@ -1,5 +1,6 @@
 //! `scan`: what other programs changed is taken.
 use crate::command_line::ScanRequest;
+use crate::edited::tell_edited;
 use crate::ending::Ending;
 use crate::fault::Fault;
 use crate::full_log::warn_of_full_log;
@@ -29,8 +30,13 @@ fn scan_opened<R: Files<File = File> + Eprint + AllocGlobal + Clone + Drop>(
     show_step(rt, is_watched, "scan: looking at the files");
     let scanned = scanned(folder, request);
     clear_step(rt, is_watched);
-    let Settled { tally, passed_over } = scanned?;
+    let Settled {
+        tally,
+        edited,
+        passed_over,
+    } = scanned?;
     tell_passed_over(rt, &passed_over)?;
+    tell_edited(rt, edited)?;
     eprintln!(rt; "{tally}")?;
     warn_of_full_log(rt, folder.kept.replica())?;
     Ok(Ending::Done)
@@ -45,6 +51,7 @@ fn scanned<R: Files<File = File> + AllocGlobal + Clone + Drop>(
         let looked = look(folder)?;
         return Ok(Settled {
             tally: tally_of(&looked.acts),
+            edited: looked.edited,
             passed_over: looked.passed_over,
         });
     }

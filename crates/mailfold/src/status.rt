@@ -1,4 +1,5 @@
 //! `status`: how a folder stands.
+use crate::edited::tell_edited;
 use crate::ending::Ending;
 use crate::fault::Fault;
 use crate::heads::count_mails;
@@ -50,6 +51,7 @@ fn plan_text<R: Files<File = File> + Eprint + AllocGlobal + Clone + Drop>(
     match look_if_changed(rt, root, folder) {
         Ok(looked) => {
             tell_passed_over(rt, &looked.passed_over)?;
+            tell_edited(rt, looked.edited)?;
             let tally = tally_of(&looked.acts);
             Ok(format!(in rt.alloc(); "{tally}")?)
         }

@@ -1,6 +1,7 @@
 //! `sync` and `serve`: two folders talk over the standard streams.
-use crate::after::{Talked, shown};
+use crate::after::{After, Talked, shown};
 use crate::before::{lacking_mails, scanned};
+use crate::edited::tell_edited_by;
 use crate::ending::Ending;
 use crate::fault::Fault;
 use crate::full_log::warn_of_full_log;
@@ -76,7 +77,9 @@ where
     let scanned = scanned(rt, root, folder, is_fresh);
     clear_step(rt, is_watched);
     let settled = scanned?;
-    tell_passed_over_by(rt, folder.kept.replica().id().id(), &settled.passed_over)?;
+    let id = folder.kept.replica().id().id();
+    tell_passed_over_by(rt, id, &settled.passed_over)?;
+    tell_edited_by(rt, id, settled.edited)?;
     Ok(Before {
         tally: settled.tally,
         is_fresh,
@@ -121,9 +124,10 @@ where
     show_step(rt, is_watched, "sync: showing what came");
     let shown = shown(folder, talked, is_fresh);
     clear_step(rt, is_watched);
-    let after = shown?;
+    let After { tally, edited } = shown?;
+    tell_edited_by(rt, folder.kept.replica().id().id(), edited)?;
     warn_of_full_log(rt, folder.kept.replica())?;
-    Ok(after)
+    Ok(tally)
 }
 
 /// Why the sync did not come to its end. A fault of what was done after the talk is told here.

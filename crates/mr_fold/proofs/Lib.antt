@@ -3,3 +3,5 @@ pub mod TellingLemmas
 pub mod SettlingLemmas
 pub mod LackingLemmas
 pub mod TakingLemmas
+pub mod SizesLemmas
+pub mod DecidingLemmas

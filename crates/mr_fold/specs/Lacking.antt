@@ -1,5 +1,5 @@
 -- mails whose files aren't here
-use Rattle.std.specs.Prelude.{ℕ, Bool, true, false, not, ◌&&◌, ◌||◌, if◌then◌else◌, List, [], map, Option, Some, None}
+use Rattle.std.specs.Prelude.{◌≡◌, ℕ, Bool, true, false, not, ◌&&◌, ◌||◌, if◌then◌else◌, List, [], map, Option, Some, None}
 use Rattle.std.specs.Global.{Vec}
 use Rattle.std.specs.List.{flat_map, list_any}
 use Rattle.std.specs.Ordering.{is_eq}
@@ -8,9 +8,11 @@ use Rattle.mr_mail.specs.Label.{text_cmp}
 use Rattle.mr_maildir.specs.View.{is_gone}
 use Rattle.mr_scan.specs.declared.inodes.Stored.{Stored}
 use Rattle.mr_compare.specs.Joining.{at_item}
+use Rattle.mr_compare.specs.Sides.{lacks_file}
 use Rattle.mr_compare.specs.declared.joining.ItemHeads.{ItemHeads}
 use Rattle.mr_compare.specs.declared.sides.HeldMail.{HeldMail}
 use Rattle.mr_compare.specs.declared.sides.LeftMail.{LeftMail}
+use Rattle.mr_compare.specs.declared.sides.Sides.{Sides}
 
 -- a set of digests has this one
 abbrev pub has_digest : List (List ℕ) → List ℕ → Bool
@@ -23,6 +25,14 @@ is_stored mails digest = list_any (λ (stored : Stored). is_eq (text_cmp stored.
 -- one of the held mails is that of the digest, isn't gone, and the store has no file of it
 abbrev pub is_lacking : (stored : List (List ℕ)) → List HeldMail → List ℕ → Bool
 is_lacking stored mails digest = list_any (λ (mail : HeldMail). not (has_digest stored mail.digest || is_gone mail.view) && is_eq (text_cmp mail.digest digest)) mails
+
+-- one of the held mails is that of the digest, isn't gone, and is none of the store's mails
+abbrev pub is_missing : List Stored → List HeldMail → List ℕ → Bool
+is_missing stored mails digest = list_any (λ (mail : HeldMail). not (is_stored stored mail.digest || is_gone mail.view) && is_eq (text_cmp mail.digest digest)) mails
+
+-- the sides say of just these of the held mails that they lack their files
+abbrev pub AreMissing : List Stored → List HeldMail → Sides → Type 0
+AreMissing stored mails sides = (digest : List ℕ) → lacks_file sides digest ≡ is_missing stored mails digest
 
 -- the items of an entry's mail, if that is among the lacking ones
 abbrev pub items_of : (lacking : List (List ℕ)) → List ℕ × Vec ItemHeads → List Name

@@ -8,7 +8,9 @@ pub mod Settings
 pub mod Mark
 pub mod Message
 pub mod HeldSide
+pub mod Sizes
 pub mod Lacking
+pub mod Deciding
 pub mod Expiring
 pub mod Taking
 pub mod Straying

@@ -3,6 +3,7 @@ use Rattle.std.specs.Prelude.{◌≡◌, ℕ, true, false, List, [], ◌∷◌, 
 use Rattle.std.specs.Fmt.{decimal}
 use Rattle.std.specs.declared.io.Error.{Error}
 use Rattle.mr_mail.specs.Mail.{Mail}
+use Rattle.mr_maildir.specs.Reference.{ReferenceParts}
 use Rattle.mr_maildir.specs.View.{ViewParts}
 use Rattle.mr_maildir.specs.declared.act.Act.TheVariants as act
 use Rattle.mr_maildir.specs.declared.layout.Layout.{Layout}
@@ -13,11 +14,13 @@ use Rattle.mr_scan.specs.Folders.{FolderParts}
 use Rattle.mr_fold.specs.FoldFault.{explained_settle}
 use Rattle.mr_fold.specs.declared.fault.SettleFault.TheVariants as settle
 use Rattle.mr_fold.specs.declared.fold_fault.FoldFault.TheVariants as fold
-use Rattle.mr_fold.specs.Lacking.{has_digest, is_digest}
+use Rattle.mr_compare.specs.declared.sides.HeldMail.{HeldMail}
+use Rattle.mr_fold.specs.Lacking.{has_digest, is_digest, is_missing}
 use Rattle.mr_fold.specs.Mark.{mark_text}
 use Rattle.mr_fold.specs.Message.{day_at, folder_lines}
 use Rattle.mr_fold.specs.Resting.{folder_bytes}
 use Rattle.mr_fold.specs.Settings.{layout_told, settings_text}
+use Rattle.mr_fold.specs.Sizes.{newer_size}
 use Rattle.mr_fold.specs.Straying.{first_place, path_instead, place_of, strays}
 use Rattle.mr_fold.specs.Taking.{takes_away}
 use Rattle.mr_replica.specs.declared.event.Event.TheVariants.{Create}
@@ -155,3 +158,22 @@ digest_row = refl
 
 pub told_digest_row : map (is_digest (codes "ab")) (None ∷ Some (codes "ab") ∷ Some (codes "b") ∷ []) ≡ false ∷ true ∷ false ∷ []
 told_digest_row = refl
+
+-- the store has the first one's file, the second one lacks its own, and the third one is gone
+abbrev held_of : List ℕ → ViewParts → HeldMail
+held_of digest view = record { digest = digest; first = record { author = 0; counter = 1 }; view = view; is_merge_due = false }
+
+abbrev gone : ViewParts
+gone = record { labels = []; flags = 16 }
+
+pub missing_row : map (is_missing (record { digest = codes "a"; size = 7 } ∷ []) (held_of (codes "a") in_inbox ∷ held_of (codes "b") in_inbox ∷ held_of (codes "c") gone ∷ [])) (codes "a" ∷ codes "b" ∷ codes "c" ∷ codes "d" ∷ []) ≡ false ∷ true ∷ false ∷ false ∷ []
+missing_row = refl
+
+-- ---- sizes
+
+abbrev seven : ReferenceParts
+seven = record { digest = codes "a"; size = 7; lines = [] }
+
+-- what was told last of the digest's file counts
+pub newer_row : newer_size (codes "a") (Some 5) (Some seven) ∷ newer_size (codes "b") (Some 5) (Some seven) ∷ newer_size (codes "a") (Some 5) None ∷ [] ≡ Some 7 ∷ Some 5 ∷ Some 5 ∷ []
+newer_row = refl

@@ -1,10 +1,12 @@
-//! Which mail an item is.
+//! Which mail an item is, and how large its file is.
 use crate::settling::HeldItems;
+use crate::sizes::put_size;
 use mr_compare::{Digest, ItemHeads, Left};
 use mr_itemset::SparingKnowledge;
 use mr_lookup::told_messages;
 use mr_maildir::read_reference;
 use mr_replica::Replica;
+use mr_scan::Sizes;
 use mr_version::ItemId;
 use std::alloc::{AllocError, Global};
 use std::collections::{BTreeMap, BTreeSet};
@@ -25,7 +27,8 @@ pub(crate) fn asked_items(
     Ok(asked)
 }
 
-/// The digests of these items' mails: as they are held, and of those that aren't held as the log told them first.
+/// The digests of these items' mails: as they are held, and of those that aren't held as the log told them first. How many bytes the files
+/// of the latter have is put among the sizes.
 ///
 /// It costs a walk over what is held, and one over the log where an item isn't held.
 pub(crate) fn digests_of(
@@ -33,11 +36,12 @@ pub(crate) fn digests_of(
     replica: &Replica<SparingKnowledge>,
     held: &HeldItems,
     asked: &BTreeSet<ItemId>,
+    sizes: &mut Sizes,
 ) -> Result<BTreeMap<ItemId, Digest>, AllocError> {
     let mut digests = held_digests(alloc, held, asked)?;
     let unheld = unheld_items(alloc, asked, &digests)?;
     if !unheld.is_empty() {
-        add_told(alloc, &mut digests, replica, &unheld)?;
+        add_told(alloc, &mut digests, sizes, replica, &unheld)?;
     }
     Ok(digests)
 }
@@ -88,10 +92,11 @@ fn unheld_items(
     Ok(unheld)
 }
 
-/// Adds the digests that the log told first of these items.
+/// Adds the digests that the log told first of these items, and the sizes of their files.
 fn add_told(
     alloc: Global,
     digests: &mut BTreeMap<ItemId, Digest>,
+    sizes: &mut Sizes,
     replica: &Replica<SparingKnowledge>,
     unheld: &BTreeSet<ItemId>,
 ) -> Result<(), AllocError> {
@@ -99,6 +104,7 @@ fn add_told(
     for (item, message) in told.iter() {
         if let Some(reference) = read_reference(message.body()) {
             digests.insert(*item, reference.digest)?;
+            put_size(sizes, reference.digest, reference.size)?;
         }
     }
     Ok(())

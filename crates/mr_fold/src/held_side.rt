@@ -8,12 +8,14 @@ use crate::ancestors::ancestors_of;
 use crate::digests::{asked_items, digests_of};
 use crate::lacking::without_lacking;
 use crate::settling::HeldItems;
+use crate::sizes::sizes_of;
 use mr_compare::{
     Digest, HeldMail, LeftMail, Shown, gathered, held_mails, held_of, item_standings, left_mails,
     left_of,
 };
 use mr_itemset::SparingKnowledge;
 use mr_replica::Replica;
+use mr_scan::Sizes;
 use std::alloc::{AllocError, Global};
 use std::collections::BTreeMap;
 
@@ -50,19 +52,29 @@ fn held_items(alloc: Global, replica: &Replica<SparingKnowledge>) -> Result<Held
     gathered(alloc, standings)
 }
 
+/// How the Maildir was left with the mails, and how large their files are.
+#[derive(Drop)]
+pub(crate) struct LeftSide {
+    /// How it was left with those mails some item of which changed since, as far as it was shown.
+    pub(crate) mails: BTreeMap<Digest, LeftMail>,
+    /// How many bytes the files have of the mails that are held, and of those that were left and are held no more.
+    pub(crate) sizes: Sizes,
+}
+
 /// How the Maildir was left with those mails some item of which changed since, as far as it was shown; each that lacked its file
-/// then it was left without.
+/// then it was left without. And how large the files of mails are, that what was edited in place is found.
 pub(crate) fn left_side(
     alloc: Global,
     replica: &Replica<SparingKnowledge>,
     shown: &Shown,
     items: &HeldItems,
-) -> Result<BTreeMap<Digest, LeftMail>, AllocError> {
+) -> Result<LeftSide, AllocError> {
     let entries = usize::try_from(shown.entries()).unwrap_or(usize::MAX);
     let left = left_of(alloc, replica.feed(), entries)?;
     let asked = asked_items(alloc, &left, shown.lacking())?;
-    let digests = digests_of(alloc, replica, items, &asked)?;
+    let mut sizes = sizes_of(alloc, replica.heads(), replica.push_outs())?;
+    let digests = digests_of(alloc, replica, items, &asked, &mut sizes)?;
     let mut mails = left_mails(alloc, &left, &digests, items)?;
     without_lacking(&mut mails, &digests, shown.lacking())?;
-    Ok(mails)
+    Ok(LeftSide { mails, sizes })
 }

@@ -5,7 +5,7 @@ ghost use Rattle.std.specs.Option.{option_copied};
 ghost use Rattle.std.specs.Ordering.{is_eq};
 ghost use Rattle.mr_mail.specs.Label.{text_cmp};
 ghost use Rattle.mr_compare.specs.Sides.{at_digest};
-ghost use Rattle.mr_fold.specs.Lacking.{has_digest, is_digest, is_lacking, is_stored, is_told_of, unshown};
+ghost use Rattle.mr_fold.specs.Lacking.{has_digest, is_digest, is_lacking, is_missing, is_stored, is_told_of, unshown};
 ghost use Rattle.mr_fold.specs.Lacking as specs;
 
 use crate::settling::HeldItems;
@@ -16,7 +16,7 @@ use std::alloc::{AllocError, Global};
 use std::collections::{BTreeMap, BTreeSet};
 
 /// The digests of the store's mails.
-pub(crate) fn stored_digests(alloc: Global, index: &Index) -> Result<BTreeSet<Digest>, AllocError>
+fn stored_digests(alloc: Global, index: &Index) -> Result<BTreeSet<Digest>, AllocError>
     ensures { IfOk result (λ digests. (digest : List ℕ) → has_digest digests.keys digest ≡ is_stored (values index.now) digest) }
 {
     let mut digests = BTreeSet::new(alloc);
@@ -26,8 +26,22 @@ pub(crate) fn stored_digests(alloc: Global, index: &Index) -> Result<BTreeSet<Di
     Ok(digests)
 }
 
+/// The held mails that lack their files, by what the index has of the store: the store has none of them, and they aren't gone, since those need
+/// none.
+pub(crate) fn missing_mails(
+    alloc: Global,
+    mails: &[HeldMail],
+    index: &Index,
+) -> Result<BTreeSet<Digest>, AllocError>
+    ensures { IfOk result (λ digests. (digest : List ℕ) → has_digest digests.keys digest ≡ is_missing (values index.now) mails.now digest) }
+{
+    let stored = stored_digests(alloc, index)?;
+    let lacking = lacking_mails(alloc, mails, &stored)?;
+    Ok(lacking)
+}
+
 /// The held mails whose files the store doesn't have, but for those that are gone: they need none.
-pub(crate) fn lacking_mails(
+fn lacking_mails(
     alloc: Global,
     mails: &[HeldMail],
     stored: &BTreeSet<Digest>,

@@ -40,6 +40,7 @@ mod settings;
 mod settling;
 mod shown;
 mod sides;
+mod sizes;
 mod state;
 mod stored_mail;
 mod straying;

@@ -4,50 +4,51 @@ ghost use Rattle.std.specs.Cmp.Lexicographic.{slice_cmp};
 ghost use Rattle.std.specs.List.Sorted.{IsPermutation, IsSorted};
 ghost use Rattle.std.specs.Ordering.{nat_cmp};
 
-use crate::deciding::decided_acts;
+use crate::deciding::{Decided, decide, standings_with};
 use crate::disk_mails::DiskMails;
 use crate::fault::SettleFault;
 use crate::fold_fault::{FoldFault, files_failed};
-use crate::held_side::{HeldSide, held_side, left_side};
+use crate::held_side::{HeldSide, LeftSide, held_side, left_side};
 use crate::lacking::lacking_items;
 use crate::opening::{Kept, OpenFolder};
 use crate::parting::moved_first;
 use crate::released::with_released;
 use crate::resting::{Stand, empty_note, is_noted, note_stand, stand_of};
 use crate::settling::settle;
-use crate::sides::{first_sides, second_sides, take_away};
+use crate::sides::{first_sides, take_away};
 use crate::straying::stray_mails;
 use crate::targets::targets_of;
-use mr_compare::{
-    Digest, LeftMail, MailAct, Shown, Sides, Standing, Tally, acts_of, most_deletions,
-    standings_of_held, standings_of_unheld, tally_of, unheld_digests,
-};
-use mr_folder::{DiskTree, FolderNames, FolderPath, StoreFault, sweep};
+use mr_compare::{Digest, MailAct, Shown, Sides, Tally, acts_of, most_deletions, tally_of};
+use mr_folder::{DiskTree, FilePath, FolderNames, FolderPath, StoreFault, sweep, unlink};
 use mr_itemset::SparingKnowledge;
 use mr_kept::KeptFault;
 use mr_maildir::Layout;
 use mr_replica::Replica;
-use mr_scan::{FolderTable, Index, Scan, index_of, mails_passed_over, scan};
+use mr_scan::{FolderTable, Index, Indexed, Scan, Sizes, index_of, mails_passed_over, scan};
 use mr_version::ItemId;
 use std::alloc::{AllocError, Global};
-use std::collections::{BTreeMap, BTreeSet};
+use std::collections::BTreeSet;
 use std::fs::File;
 use std::rt::Files;
 
 /// The most items that may lack their files.
 const MAX_LACKING: usize = 4_294_967_295;
 
-/// What a settling did, and what of the Maildir it passed over.
+/// What a settling did, what it found edited, and what of the Maildir it passed over.
 #[derive(Debug, Drop)]
 pub struct Settled {
     pub tally: Tally,
+    /// How many mails were edited in place: what their files are now are other mails.
+    pub edited: usize,
     pub passed_over: PassedOver,
 }
 
-/// What a settling would do, and what of the Maildir it would pass over.
+/// What a settling would do, what it would find edited, and what of the Maildir it would pass over.
 #[derive(Debug, Drop)]
 pub struct Looked {
     pub acts: Vec<MailAct>,
+    /// How many mails were edited in place: what their files are now are other mails.
+    pub edited: usize,
     pub passed_over: PassedOver,
 }
 
@@ -91,6 +92,8 @@ struct Sight {
     moved: usize,
     /// The held mails whose files aren't here.
     lacking: BTreeSet<Digest>,
+    /// The mails that were edited in place.
+    edited: Vec<Digest>,
 }
 
 /// Settles a folder: the user's changes of the Maildir are told and kept, and what was changed elsewhere is shown. It is called
@@ -99,6 +102,9 @@ struct Sight {
 /// A mail is deleted, or taken out of a folder, only where two scans in a row say so. Where they don't, its change waits for the next
 /// settling, if it is held as it was left and no heads of it are to be merged. At most `most` mails are deleted in one go, and where none is told
 /// as many as [`most_deletions`] gives for those that are held.
+///
+/// A mail whose file has another size than is held, and other bytes, was edited in place: the file is a new mail, as its bytes say. The mail
+/// itself isn't deleted. It lacks its file from then on, which the store has no more, and is shown again once a sync brought that.
 ///
 /// `Changed` where such a change can't wait: another program was at work, and the mail was changed elsewhere too or its heads are to be merged,
 /// so that what was done here or elsewhere would be lost. Else `PassedOver` where a mail would be deleted whose file was moved into a folder that is
@@ -120,7 +126,7 @@ pub fn settle_folder<R: Files<File = File> + AllocGlobal + Clone + Drop>(
 /// done. `root` is the path that the folder was opened at.
 ///
 /// What was changed is told by the times of the last changes of the folders' `cur` and `new`, of the store, and of the log: a name that
-/// comes, goes or is changed moves such a time, and no program can set it. What changes a file in its place moves none.
+/// comes, goes or is changed moves such a time, and no program can set it. A file that is edited in place moves none.
 /// `.mailfold/tmp/rest` has how all stood; where that can't be read or written, where the folders have names that aren't
 /// those of mail's files, and where a change is as new as the file system's clock, the folder is settled. It costs the listing of the folders
 /// and two calls of the system for each of them, and where something was changed those of a settling too.
@@ -135,6 +141,7 @@ pub fn settle_if_changed<R: Files<File = File> + AllocGlobal + Clone + Drop>(
     if rests(rt, root, &before) {
         return Ok(Settled {
             tally: tally_of(&[]),
+            edited: 0,
             passed_over: passed_over(listed, 0),
         });
     }
@@ -184,16 +191,37 @@ fn settle_found<R: Files<File = File> + AllocGlobal + Clone + Drop>(
     if is_settled(folder, found) {
         return Ok(true);
     }
+    let_go(folder, &found.sight.edited)?;
     show(folder, found)?;
     note_settled(folder, copied(folder.alloc, &found.lacking)?)?;
     Ok(false)
 }
 
-/// What was done, and what was passed over.
+/// Takes those names out of the store whose files are other mails now, and have the names of these too. What of them a crash brings back the
+/// next settling takes out again.
+fn let_go<R: Files<File = File> + AllocGlobal + Clone + Drop>(
+    folder: &mut OpenFolder<R>,
+    edited: &[Digest],
+) -> Result<(), FoldFault> {
+    for digest in edited {
+        let path = FilePath::stored(folder.alloc, digest)?;
+        if unlink(&mut folder.tree, &path).is_err() {
+            return Err(files_failed(folder.tree.error()));
+        }
+    }
+    Ok(())
+}
+
+/// What was done, what was edited, and what was passed over.
 fn settled_of(found: Found) -> Settled {
-    let Looked { acts, passed_over } = told_of(found);
+    let Looked {
+        acts,
+        edited,
+        passed_over,
+    } = told_of(found);
     Settled {
         tally: tally_of(&acts),
+        edited,
         passed_over,
     }
 }
@@ -202,6 +230,7 @@ fn settled_of(found: Found) -> Settled {
 fn is_settled<R: Drop>(folder: &OpenFolder<R>, found: &Found) -> bool {
     let entries = folder.kept.replica().feed().len();
     found.sight.acts.is_empty()
+        && found.sight.edited.is_empty()
         && folder.kept.is_kept()
         && folder.shown.entries() == entries as u64
         && folder.shown.lacking() == found.lacking.as_slice()
@@ -209,7 +238,7 @@ fn is_settled<R: Drop>(folder: &OpenFolder<R>, found: &Found) -> bool {
 
 /// What a settling would do now, however many mails it would delete.
 ///
-/// New files of the Maildir are taken into the store, and nothing else changes. The faults are those of the files, and `Changed` and
+/// New files of the Maildir, and those that were edited in place, are taken into the store, and nothing else changes. The faults are those of the files, and `Changed` and
 /// `PassedOver` as a settling has them before anything is done.
 pub fn look<R: Files<File = File> + AllocGlobal + Clone + Drop>(
     folder: &mut OpenFolder<R>,
@@ -228,18 +257,27 @@ pub fn look_if_changed<R: Files<File = File> + AllocGlobal + Clone + Drop>(
     if rests(rt, root, &stand) {
         return Ok(Looked {
             acts: Vec::new(folder.alloc),
+            edited: 0,
             passed_over: passed_over(listed, 0),
         });
     }
     Ok(told_of(found_at(folder, listed, Some(usize::MAX))?))
 }
 
-/// What is done, and what was passed over.
+/// What is done, what was edited, and what was passed over.
 fn told_of(found: Found) -> Looked {
     let Found { listed, sight, .. } = found;
-    let Sight { scan, acts, .. } = sight;
-    let passed_over = passed_over(listed, scan.unreadable);
-    Looked { acts, passed_over }
+    let Sight {
+        scan,
+        acts,
+        edited,
+        ..
+    } = sight;
+    Looked {
+        acts,
+        edited: edited.len(),
+        passed_over: passed_over(listed, scan.unreadable),
+    }
 }
 
 /// What is passed over, with so many names in the folders.
@@ -363,22 +401,23 @@ fn seen<R: Files<File = File> + AllocGlobal + Clone + Drop>(
     replica: &Replica<SparingKnowledge>,
     tree: &mut DiskTree<R>,
     table: &FolderTable,
-    left: BTreeMap<Digest, LeftMail>,
+    left: LeftSide,
     held: &HeldSide,
     most: Option<usize>,
 ) -> Result<Sight, FoldFault> {
-    let mut index = indexed(alloc, tree)?;
+    let LeftSide { mails, sizes } = left;
+    let Indexed { mut index, edited } = indexed(alloc, tree, &sizes)?;
     let first = scanned(alloc, tree, table, &mut index)?;
-    let sides = first_sides(alloc, left, &held.mails, &first, &index)?;
+    let sides = first_sides(alloc, mails, &held.mails, &first, &index)?;
     let sides = with_released(alloc, replica, &held.items, sides)?;
     let acts = acts_of(alloc, &standings_with(alloc, held, &sides)?, usize::MAX)?;
     if take_away(&acts, &held.mails) {
         let second = scanned(alloc, tree, table, &mut index)?;
-        let sides = second_sides(alloc, sides, &held.mails, &first, &second, &index)?;
-        let acts = allowed_acts(alloc, tree, table, &index, held, &sides, most)?;
-        Ok(sight_of(alloc, sides, second, acts)?)
+        let decided = decide(alloc, sides, held, &first, &second, &index)?;
+        let (sides, acts) = allowed(alloc, tree, table, &index, held, decided, most)?;
+        Ok(sight_of(alloc, sides, second, acts, edited)?)
     } else {
-        Ok(sight_of(alloc, sides, first, acts)?)
+        Ok(sight_of(alloc, sides, first, acts, edited)?)
     }
 }
 
@@ -388,6 +427,7 @@ fn sight_of(
     sides: Sides,
     scan: Scan,
     acts: Vec<MailAct>,
+    edited: Vec<Digest>,
 ) -> Result<Sight, AllocError> {
     let Sides { lacking, .. } = sides;
     let (acts, moved) = moved_first(alloc, acts, &scan, &lacking)?;
@@ -396,28 +436,28 @@ fn sight_of(
         acts,
         moved,
         lacking,
+        edited,
     })
 }
 
-/// What is done, as two scans say, unless a change would be lost, or it would delete a mail that lies in a folder that is passed over, or too
-/// many mails.
-fn allowed_acts<R: Files<File = File> + AllocGlobal + Clone + Drop>(
+/// What two scans say and what is done then, unless it would delete a mail that lies in a folder that is passed over, or too many mails.
+fn allowed<R: Files<File = File> + AllocGlobal + Clone + Drop>(
     alloc: Global,
     tree: &mut DiskTree<R>,
     table: &FolderTable,
     index: &Index,
     held: &HeldSide,
-    sides: &Sides,
+    decided: Decided,
     most: Option<usize>,
-) -> Result<Vec<MailAct>, FoldFault> {
-    let mails = standings_with(alloc, held, sides)?;
-    let acts = decided_acts(alloc, &mails)?;
+) -> Result<(Sides, Vec<MailAct>), FoldFault> {
+    let Decided { sides, mails, acts } = decided;
     if tally_of(&acts).deleted == 0 {
-        return Ok(acts);
+        return Ok((sides, acts));
     }
     refuse_strays(alloc, tree, table, index, &acts)?;
     let most = most.unwrap_or(most_deletions(held.mails.len()));
-    Ok(acts_of(alloc, &mails, most)?)
+    let acts = acts_of(alloc, &mails, most)?;
+    Ok((sides, acts))
 }
 
 /// Refuses acts that would delete a mail whose file lies in a folder that is passed over.
@@ -438,27 +478,14 @@ fn refuse_strays<R: Files<File = File> + AllocGlobal + Clone + Drop>(
     }
 }
 
-/// How the mails stand, by these sides: those that are held, and then the others.
-fn standings_with(
-    alloc: Global,
-    held: &HeldSide,
-    sides: &Sides,
-) -> Result<Vec<Standing>, AllocError> {
-    let mut standings = standings_of_held(alloc, &held.mails, sides)?;
-    let unheld = unheld_digests(alloc, &held.items, sides)?;
-    for standing in standings_of_unheld(alloc, &unheld, sides)? {
-        standings.push(standing)?;
-    }
-    Ok(standings)
-}
-
-/// The store's mails.
+/// The store's mails, and those that were edited in place.
 fn indexed<R: Files<File = File> + AllocGlobal + Clone + Drop>(
     alloc: Global,
     tree: &mut DiskTree<R>,
-) -> Result<Index, FoldFault> {
-    match index_of(alloc, tree) {
-        Ok(index) => Ok(index),
+    sizes: &Sizes,
+) -> Result<Indexed, FoldFault> {
+    match index_of(alloc, tree, sizes) {
+        Ok(indexed) => Ok(indexed),
         Err(fault) => Err(said(tree, fault)),
     }
 }

@@ -1,12 +1,14 @@
 //! What two listings say of the mails, beside what is held of them.
-ghost use Rattle.std.specs.Prelude.{◌≡◌, All, false};
+ghost use Rattle.std.specs.Prelude.{◌≡◌, All, false, IfOk};
+ghost use Rattle.std.specs.BTreeMap.{values};
 ghost use Rattle.std.specs.List.{list_all};
 ghost use Rattle.std.specs.Option.{option_copied};
 ghost use Rattle.mr_mail.specs.Label.{has_label};
 ghost use Rattle.mr_compare.specs.Tally.{deletes};
+ghost use Rattle.mr_fold.specs.Lacking.{AreMissing};
 ghost use Rattle.mr_fold.specs.Taking.{leaves_a_folder, takes_away};
 
-use crate::lacking::{lacking_mails, stored_digests};
+use crate::lacking::missing_mails;
 use crate::targets::held_mail;
 use mr_compare::{Digest, HeldMail, LeftMail, MailAct, Sides};
 use mr_mail::Label;
@@ -22,8 +24,10 @@ pub(crate) fn first_sides(
     mails: &[HeldMail],
     scan: &Scan,
     index: &Index,
-) -> Result<Sides, AllocError> {
-    let lacking = lacking_mails(alloc, mails, &stored_digests(alloc, index)?)?;
+) -> Result<Sides, AllocError>
+    ensures { IfOk result (λ sides. AreMissing (values index.now) mails.now sides) }
+{
+    let lacking = missing_mails(alloc, mails, index)?;
     let seen = seen_views(alloc, scan, &left, mails)?;
     let seen_before = seen_views(alloc, scan, &left, mails)?;
     Ok(Sides {
@@ -43,13 +47,15 @@ pub(crate) fn second_sides(
     first: &Scan,
     second: &Scan,
     index: &Index,
-) -> Result<Sides, AllocError> {
+) -> Result<Sides, AllocError>
+    ensures { IfOk result (λ sides. AreMissing (values index.now) mails.now sides) }
+{
     let Sides {
         left,
         seen: seen_before,
         ..
     } = sides;
-    let lacking = lacking_mails(alloc, mails, &stored_digests(alloc, index)?)?;
+    let lacking = missing_mails(alloc, mails, index)?;
     let seen = seen_views(alloc, second, &left, mails)?;
     Ok(Sides {
         left,

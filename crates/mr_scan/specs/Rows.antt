@@ -1,5 +1,5 @@
 -- worked rows
-use Rattle.std.specs.Prelude.{◌≡◌, true, false, [], ◌∷◌, codes, Some, None, refl}
+use Rattle.std.specs.Prelude.{◌≡◌, ℕ, true, false, List, [], ◌∷◌, map, codes, Some, None, refl}
 use Rattle.mr_maildir.specs.File.{FileParts}
 use Rattle.mr_maildir.specs.View.{ViewParts}
 use Rattle.mr_maildir.specs.declared.layout.Layout.TheVariants.{Dots, Plain}
@@ -7,7 +7,10 @@ use Rattle.mr_folder.specs.declared.path.Part.TheVariants.{Cur, New}
 use Rattle.mr_scan.specs.Folders.{FolderParts, TableParts, folder_there, folders_there, paths_passed_over, folder_of, path_given, layout_of}
 use Rattle.mr_scan.specs.Found.{part_at}
 use Rattle.mr_scan.specs.Seen.{seen_view}
-use Rattle.mr_scan.specs.Spoiled.{is_spoiled}
+use Rattle.mr_scan.specs.Scan.{is_other_mail}
+use Rattle.mr_scan.specs.Spoiled.{is_spoiled, last_at, spoiled_of, whole_of}
+use Rattle.mr_scan.specs.declared.inodes.StoreFile.{StoreFile}
+use Rattle.mr_scan.specs.declared.scanned.Sight.TheVariants.{Adopted, Gone}
 
 -- ---- folders
 
@@ -106,12 +109,36 @@ in_one_folder = refl
 
 -- ---- files that were edited in place
 
-pub other_size : is_spoiled ((1 ∷ [], 7) ∷ (2 ∷ [], 8) ∷ []) (record { digest = 2 ∷ []; size = 9 }) ≡ true
-other_size = refl
+abbrev first : StoreFile
+first = record { inode = 5; mail = record { digest = 1 ∷ []; size = 7 } }
 
-pub same_size : is_spoiled ((1 ∷ [], 7) ∷ (2 ∷ [], 8) ∷ []) (record { digest = 2 ∷ []; size = 8 }) ≡ false
-same_size = refl
+-- of another size than the table tells
+abbrev second : StoreFile
+second = record { inode = 6; mail = record { digest = 2 ∷ []; size = 9 } }
 
--- a mail that isn't held
-pub unheld : is_spoiled ((1 ∷ [], 7) ∷ []) (record { digest = 2 ∷ []; size = 9 }) ≡ false
-unheld = refl
+-- a mail of which the table tells no size, and a second name of the second file
+abbrev third : StoreFile
+third = record { inode = 6; mail = record { digest = 3 ∷ []; size = 9 } }
+
+abbrev told : List (List ℕ × ℕ)
+told = (1 ∷ [], 7) ∷ (2 ∷ [], 8) ∷ []
+
+pub spoiled_row : map (is_spoiled told) (first ∷ second ∷ third ∷ []) ≡ false ∷ true ∷ false ∷ []
+spoiled_row = refl
+
+pub spoiled_digests : spoiled_of told (first ∷ second ∷ third ∷ []) ≡ (2 ∷ []) ∷ []
+spoiled_digests = refl
+
+-- the inode of both names is what the whole one says
+pub whole_inode : last_at 6 (whole_of told (first ∷ second ∷ third ∷ [])) ≡ Some (record { digest = 3 ∷ []; size = 9 })
+whole_inode = refl
+
+pub no_inode : last_at 7 (whole_of told (first ∷ second ∷ third ∷ [])) ≡ None
+no_inode = refl
+
+-- the last of two whole ones counts
+pub last_inode : last_at 6 (second ∷ third ∷ first ∷ []) ≡ Some (record { digest = 3 ∷ []; size = 9 })
+last_inode = refl
+
+pub other_mail : map (λ sight. is_other_mail sight (1 ∷ [])) (Adopted (1 ∷ []) ∷ Adopted (2 ∷ []) ∷ Gone ∷ []) ≡ false ∷ true ∷ false ∷ []
+other_mail = refl

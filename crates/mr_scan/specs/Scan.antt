@@ -1,8 +1,9 @@
 -- what a scan has found
-use Rattle.std.specs.Prelude.{ℕ, ◌+◌, ◌-◌, ◌^◌, Bool, true, false, if◌then◌else◌, List, [], ◌∷◌, ◌++◌, Option, Some, None, min}
+use Rattle.std.specs.Prelude.{ℕ, ◌+◌, ◌-◌, ◌^◌, Bool, true, false, not, if◌then◌else◌, List, [], ◌∷◌, ◌++◌, Option, Some, None, min}
 use Rattle.std.specs.Global.{Vec}
 use Rattle.std.specs.Map.{lookup}
 use Rattle.std.specs.Ordering.{is_eq}
+use Rattle.std.specs.Str.{bytes_eq}
 use Rattle.mr_mail.specs.Label.{text_cmp}
 use Rattle.mr_maildir.specs.File.{FileParts}
 use Rattle.mr_scan.specs.declared.scanned.Sight.{Sight}
@@ -45,6 +46,13 @@ is_adopted (Stored mail) = false
 is_adopted (Adopted mail) = true
 is_adopted Gone = false
 is_adopted NoFile = false
+
+-- what was read of a mail's file is another mail
+abbrev pub is_other_mail : Sight → List ℕ → Bool
+is_other_mail (Stored mail) digest = false
+is_other_mail (Adopted mail) digest = not (bytes_eq mail digest)
+is_other_mail Gone digest = false
+is_other_mail NoFile digest = false
 
 -- one more where it counts, up to the most that fits
 abbrev pub counted : Bool → ℕ → ℕ

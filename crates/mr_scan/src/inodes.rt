@@ -1,15 +1,13 @@
 //! The store's mails by their inodes.
-ghost use Rattle.std.specs.Prelude.{◌≡◌, ◌++◌, ◌∷◌, [], if◌then◌else◌, IfOk, OnOk};
-ghost use Rattle.std.specs.BTreeMap.{insert_entry, values};
+ghost use Rattle.std.specs.Prelude.{◌≡◌, ◌++◌, ◌∷◌, [], if◌then◌else◌, ℕ, IfOk, OnOk};
+ghost use Rattle.std.specs.BTreeMap.{insert_entry};
 ghost use Rattle.std.specs.Ordering.{nat_cmp};
 ghost use Rattle.mr_scan.specs.Spoiled as specs;
-ghost use Rattle.mr_scan.specs.Spoiled.{spoiled_of};
+ghost use Rattle.mr_scan.specs.Spoiled.{at_inode, last_at, spoiled_of, whole_of, with_file};
 
-use mr_folder::{DiskTree, FileMark, FilePath, StoreFault, stored};
+use mr_folder::FileMark;
 use std::alloc::{AllocError, Global};
 use std::collections::BTreeMap;
-use std::fs::File;
-use std::rt::Files;
 
 /// A mail of the store, as its file was when the store was listed or the mail was taken in.
 #[derive(Clone, Copy, Debug, PartialEq, Eq)]
@@ -20,26 +18,20 @@ pub struct Stored {
     pub size: u64,
 }
 
+/// A file of the store, by the name that it has there.
+#[derive(Clone, Copy, Debug, PartialEq, Eq)]
+pub(crate) struct StoreFile {
+    /// The number of its inode, `st_ino` of POSIX.
+    pub(crate) inode: u64,
+    /// The mail whose digest its name is.
+    pub(crate) mail: Stored,
+}
+
 /// The store's mails by the numbers of their inodes, `st_ino` of POSIX. A number is a mail's as long as the store has its file.
 pub type Index = BTreeMap<u64, Stored>;
 
-/// The store's mails by their inodes. It costs a call of the system for each. What real files give no contract can say.
-///
-/// `Failed` where the folder of the store, or what the system tells of a file in it, can't be read; `OutOfMemory`.
-pub fn index_of<R: Files<File = File> + AllocGlobal + Clone + Drop>(
-    alloc: Global,
-    tree: &mut DiskTree<R>,
-) -> Result<Index, StoreFault> {
-    let mails = stored(alloc, tree)?;
-    let mut index = BTreeMap::new(alloc);
-    for digest in mails.digests {
-        let path = FilePath::stored(alloc, &digest)?;
-        if let Some(mark) = tree.mark(&path)? {
-            put_mark(&mut index, &mark, digest)?;
-        }
-    }
-    Ok(index)
-}
+/// How many bytes the files of mails have, by their digests.
+pub type Sizes = BTreeMap<[u8; 32], u64>;
 
 /// Puts a mail into the index, by what the system tells of its file.
 pub(crate) fn put_mark(
@@ -54,39 +46,80 @@ pub(crate) fn put_mark(
     Ok(())
 }
 
-/// The mails of the store whose files have another size than is held, in the order of their inodes: a program edited them in place,
-/// since a mail's file in the store is its file in the Maildir.
-pub fn spoiled(
-    alloc: Global,
-    index: &Index,
-    sizes: &BTreeMap<[u8; 32], u64>,
-) -> Result<Vec<[u8; 32]>, AllocError>
-    ensures { IfOk result (λ digests. digests.items ≡ spoiled_of sizes.now.entries (values index.now)) }
+/// Appends the mail's file, by what the system tells of it.
+pub(crate) fn push_file(
+    files: &mut Vec<StoreFile>,
+    mark: &FileMark,
+    digest: [u8; 32],
+) -> Result<(), AllocError>
+    ensures { OnOk result (files.new.items ≡ files.old.items ++ (record { inode = mark.now.inode; mail = record { digest = digest; size = mark.now.size } }) ∷ []) }
 {
-    let mut digests = Vec::new(alloc);
-    for stored in index.values() {
-        push_if(&mut digests, stored, is_spoiled(stored, sizes))?;
-    }
-    Ok(digests)
+    let size = mark.size;
+    files.push(StoreFile {
+        inode: mark.inode,
+        mail: Stored { digest, size },
+    })?;
+    Ok(())
 }
 
-/// Appends the mail's digest, if it is wanted.
-fn push_if(digests: &mut Vec<[u8; 32]>, stored: &Stored, is_wanted: bool) -> Result<(), AllocError>
-    ensures { OnOk result (digests.new.items ≡ digests.old.items ++ (if is_wanted then stored.now.digest ∷ [] else [])) }
+/// The mails of a store by their inodes, and those whose files have another size than is told of them.
+#[derive(Drop)]
+pub(crate) struct Judged {
+    pub(crate) index: Index,
+    pub(crate) spoiled: Vec<[u8; 32]>,
+}
+
+/// Judges files of a store by their sizes. The index has the mails of those that have the size that is told of them, or of which none is told;
+/// of several with one inode the last one's. Spoiled are the others, in the order of the files: a program edited them in place, since a
+/// mail's file in the store is its file in the Maildir.
+///
+/// It costs a look-up for each file.
+pub(crate) fn judge(alloc: Global, files: &[StoreFile], sizes: &Sizes) -> Result<Judged, AllocError>
+    ensures index { IfOk result (λ judged. (inode : ℕ) → at_inode judged.index.entries inode ≡ last_at inode (whole_of sizes.now.entries files.now)) }
+    ensures spoiled { IfOk result (λ judged. judged.spoiled.items ≡ spoiled_of sizes.now.entries files.now) }
 {
-    if is_wanted {
-        digests.push(stored.digest)?;
+    let mut index = BTreeMap::new(alloc);
+    let mut spoiled = Vec::new(alloc);
+    for file in files {
+        let is_spoiled = is_spoiled(file, sizes);
+        insert_unless(&mut index, file, is_spoiled)?;
+        push_if(&mut spoiled, file.mail.digest, is_spoiled)?;
+    }
+    Ok(Judged { index, spoiled })
+}
+
+/// Puts the file's mail into the index, unless it is spoiled.
+fn insert_unless(index: &mut Index, file: &StoreFile, is_spoiled: bool) -> Result<(), AllocError>
+    ensures { OnOk result ((inode : ℕ) → at_inode index.new.entries inode
+        ≡ with_file is_spoiled file.now inode (at_inode index.old.entries inode)) }
+{
+    if !is_spoiled {
+        index.insert(file.inode, file.mail)?;
     }
     Ok(())
 }
 
-/// Whether a mail's file has another size than is held.
-fn is_spoiled(stored: &Stored, sizes: &BTreeMap<[u8; 32], u64>) -> bool
-    ensures { result ≡ specs.is_spoiled sizes.now.entries stored.now }
+/// Appends the digest, if it is wanted.
+pub(crate) fn push_if(
+    digests: &mut Vec<[u8; 32]>,
+    digest: [u8; 32],
+    is_wanted: bool,
+) -> Result<(), AllocError>
+    ensures { OnOk result (digests.new.items ≡ digests.old.items ++ (if is_wanted then digest ∷ [] else [])) }
 {
-    let digest = stored.digest;
+    if is_wanted {
+        digests.push(digest)?;
+    }
+    Ok(())
+}
+
+/// Whether a file has another size than is told of its mail.
+fn is_spoiled(file: &StoreFile, sizes: &Sizes) -> bool
+    ensures { result ≡ specs.is_spoiled sizes.now.entries file.now }
+{
+    let Stored { digest, size } = file.mail;
     match sizes.get(&digest) {
-        Some(size) => *size != stored.size,
+        Some(told) => *told != size,
         None => false,
     }
 }

@@ -1,13 +1,11 @@
 //! The files of a Maildir, told apart by their inodes. What real files give no contract can say.
-ghost use Rattle.std.specs.Prelude.{◌≡◌, ◌==◌, ◌&&◌};
-
+use crate::adopting::adopted;
 use crate::finding::{FoundFile, found_file};
 use crate::folders::{FolderTable, MailFolder};
-use crate::inodes::{Index, put_mark};
+use crate::inodes::Index;
 use crate::scanned::{Scan, Sight};
 use mr_folder::{
-    DiskTree, FileMark, FilePath, FileTree, FilesFailed, FolderPath, Listing, Part, StoreFault,
-    adopt, list,
+    DiskTree, FilePath, FileTree, FilesFailed, FolderPath, Listing, Part, StoreFault, list,
 };
 use std::alloc::Global;
 use std::collections::BTreeMap;
@@ -93,31 +91,4 @@ fn sight_of<R: Files<File = File> + AllocGlobal + Clone + Drop>(
         Some(stored) => Ok(Sight::Stored(stored.digest)),
         None => adopted(alloc, tree, index, path, &mark),
     }
-}
-
-/// Takes a file into the store whose inode the index doesn't have.
-fn adopted<R: Files<File = File> + AllocGlobal + Clone + Drop>(
-    alloc: Global,
-    tree: &mut DiskTree<R>,
-    index: &mut Index,
-    path: &FilePath,
-    mark: &FileMark,
-) -> Result<Sight, StoreFault> {
-    let Some(digest) = adopt(alloc, tree, path)? else {
-        return Ok(Sight::Gone);
-    };
-    match tree.mark(path)? {
-        Some(now) if is_same_file(mark, &now) => {
-            put_mark(index, mark, digest)?;
-            Ok(Sight::Adopted(digest))
-        }
-        _ => Ok(Sight::Gone),
-    }
-}
-
-/// Whether what the system tells twice is of one file, with the same bytes.
-fn is_same_file(before: &FileMark, now: &FileMark) -> bool
-    ensures { result ≡ (before.now.inode == now.now.inode && before.now.size == now.now.size && before.now.time == now.now.time) }
-{
-    before.inode == now.inode && before.size == now.size && before.time == now.time
 }
