@@ -17,7 +17,8 @@ use Rattle.mr_journal.specs.Reading.{IsReason}
 use Rattle.mr_journal.specs.declared.fault.JournalFault.{JournalFault}
 use Rattle.mr_journal.specs.declared.fault.JournalFault.TheVariants.{Failed, OutOfMemory}
 use Rattle.mr_journal.proofs.Unique.{not_refused, one_list}
-use Rattle.mailfold.specs.OldLog.{AreOfHead, Tells, TellsFirst, TellsSome, told_in}
+use Rattle.mailfold.specs.OldLog.{AreOfHead, Tells}
+use Rattle.mailfold.specs.inner.OldLog.{TellsFirst, TellsSome, told_in}
 use Rattle.mailfold.specs.declared.old_log.OldLog.{OldLog}
 use Rattle.mailfold.specs.declared.old_log.OldLog.TheVariants as logs
 

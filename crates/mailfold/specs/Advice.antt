@@ -9,7 +9,6 @@ use Rattle.mr_kept.specs.declared.fault.KeptFault.TheVariants as kept
 use Rattle.mr_kept.specs.declared.fault.OpenFault.{OpenFault}
 use Rattle.mr_kept.specs.declared.fault.OpenFault.TheVariants as opens
 use Rattle.mr_replica.specs.declared.refusal.Refusal.TheVariants as refusals
-use Rattle.mr_talk.specs.declared.talk_fault.TalkFault.{TalkFault}
 use Rattle.mailfold.specs.Fault.{ending_of_talk}
 use Rattle.mailfold.specs.declared.advice.Advice.{Advice}
 use Rattle.mailfold.specs.declared.advice.Advice.TheVariants.{SyncAgain, MovedOrRenew, Renew}
@@ -32,7 +31,7 @@ advice_for_open opens.TooManyEvents = Some Renew
 advice_for_open (opens.Replay _) = Some Renew
 advice_for_open _ = None
 
--- so is one that is full
+-- what helps where a journal failed: a log that is full is replaced
 abbrev pub advice_for_journal : ExplainedFault → Option Advice
 advice_for_journal (explained.Open fault) = advice_for_open fault
 advice_for_journal (explained.Kept (kept.Refused refusals.LogFull)) = Some Renew

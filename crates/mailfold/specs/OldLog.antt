@@ -2,7 +2,6 @@
 use Rattle.std.specs.Prelude.{◌≡◌, ℕ, List, [], ◌∷◌, ◌++◌}
 use Rattle.mr_entry.specs.Grammar.{Spells}
 use Rattle.mr_entry.specs.Head.{HeadParts}
-use Rattle.mr_entry.specs.declared.entry.Entry.{Entry}
 use Rattle.mr_entry.specs.declared.entry.Entry.TheVariants as entry
 use Rattle.mr_filter.specs.Filter.{ClauseParts, IsFilter}
 use Rattle.mr_filter.specs.Grammar.{Reads}
@@ -34,23 +33,6 @@ abbrev pub Tells : OldLog → List ℕ → Type 0
 Tells (logs.Of head) file = BeginsWith head file
 Tells logs.Empty file = Stands [] file
 Tells logs.Unread file = Unit {0}
-
--- what these entries tell of it
-abbrev pub TellsFirst : OldLog → List (List ℕ) → Type 0
-TellsFirst (logs.Of head) entries = AreOfHead head entries
-TellsFirst logs.Empty entries = entries ≡ []
-TellsFirst logs.Unread entries = Unit {0}
-
--- the same where some replica has to have been begun
-abbrev pub TellsSome : OldLog → List (List ℕ) → Type 0
-TellsSome (logs.Of head) entries = AreOfHead head entries
-TellsSome logs.Empty entries = ⊥
-TellsSome logs.Unread entries = Unit {0}
-
--- what a log tells whose first entry is this
-abbrev pub told_in : Entry → OldLog
-told_in (entry.Head head) = logs.Of head
-told_in _ = logs.Unread
 
 -- the log is of the replica of this head
 abbrev pub IsOfHead : HeadParts → OldLog → Type 0

@@ -16,7 +16,7 @@ use Rattle.mailfold.specs.declared.ending.Ending.TheVariants.{Stopped, Cut, InUs
 use Rattle.mailfold.specs.declared.fault.Fault.TheVariants as faults
 use Rattle.mailfold.specs.Advice.{advice_for, advice_for_journal, advice_for_open}
 use Rattle.mailfold.specs.Ending.{status_of}
-use Rattle.mailfold.specs.Expire.{IsYounger}
+use Rattle.mailfold.specs.inner.Expire.{IsYounger}
 use Rattle.mailfold.specs.Fault.{ending_of_folder, ending_of_line, ending_of_talk}
 use Rattle.mailfold.specs.LogNames.{inside, old_name}
 use Rattle.mailfold.specs.Tallies.{sum_of}

@@ -1,6 +1,6 @@
 //! `expire`: the files of deleted mail go.
 ghost use Rattle.std.specs.Prelude.{◌↔◌, IsTrue};
-ghost use Rattle.mailfold.specs.Expire.{IsYounger};
+ghost use Rattle.mailfold.specs.inner.Expire.{IsYounger};
 
 use crate::command_line::ExpireRequest;
 use crate::ending::Ending;

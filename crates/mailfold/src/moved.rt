@@ -45,6 +45,7 @@ where
     R: Files<File = File> + Eprint + AllocGlobal + Clone + Drop,
 {
     let id = head.id().id();
+    // the log is on the disk, and whoever needs it opens it
     let _kept = moved_log(rt, root, head, entries)?;
     put_in_place(rt, root)?;
     eprintln!(rt; "replica {id} was moved here")?;

@@ -6,7 +6,8 @@ ghost use Rattle.mr_filter.specs.Grammar.{Reads};
 ghost use Rattle.mr_journal.specs.Format.{Stands, contents};
 ghost use Rattle.mr_journal.specs.Reading.{IsReason};
 ghost use Rattle.mr_journal.specs.declared.fault.JournalFault.TheVariants.{Failed, OutOfMemory};
-ghost use Rattle.mailfold.specs.OldLog.{AreOfHead, IsNoFilter, IsNoToldFilter, IsOf, IsOfHead, IsToldFilter, Tells, TellsFirst, TellsSome, told_in};
+ghost use Rattle.mailfold.specs.OldLog.{AreOfHead, IsNoFilter, IsNoToldFilter, IsOf, IsOfHead, IsToldFilter, Tells};
+ghost use Rattle.mailfold.specs.inner.OldLog.{TellsFirst, TellsSome, told_in};
 
 use crate::fault::Fault;
 use mr_entry::{Entry, EntryFault, Head, decode_entry};

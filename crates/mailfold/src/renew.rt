@@ -22,6 +22,7 @@ where
 {
     let RenewRequest { folder, id, filter } = request;
     check_made(rt, folder)?;
+    // the log stays locked until the new one is in its place
     let _lock = locked_log(rt, folder)?;
     renew_locked(rt, folder, id, filter)
 }

@@ -9,10 +9,12 @@ pub fn answer_unread<R: Print + Eprint>(rt: &R, unread: &Unread) -> Ending {
     match unread {
         Unread::Told(error) => answer_told(rt, error),
         Unread::Version(fault) => {
+            // the exit status tells it too
             let _ = eprintln!(rt; "mailfold: {fault}");
             Ending::WrongCommandLine
         }
         Unread::Filter(fault) => {
+            // the exit status tells it too
             let _ = eprintln!(rt; "mailfold: {fault}");
             ending_of_filter(*fault)
         }

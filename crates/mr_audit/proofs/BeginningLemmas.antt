@@ -20,8 +20,10 @@ use Rattle.mr_settle.specs.History.{log_in}
 use Rattle.mr_settle.specs.Stuck.{IsStuck, IsWhy}
 use Rattle.mr_settle.specs.declared.fault.JoinFault.{JoinFault}
 use Rattle.mr_settle.specs.declared.fault.JoinFault.TheVariants as faults
-use Rattle.mr_audit.specs.Beginning.{IsBeginning, IsPutBack, event_count}
-use Rattle.mr_audit.specs.Verdict.{IsVerdict, Says}
+use Rattle.mr_audit.specs.Beginning.{IsBeginning}
+use Rattle.mr_audit.specs.inner.Beginning.{IsPutBack, event_count}
+use Rattle.mr_audit.specs.Verdict.{IsVerdict}
+use Rattle.mr_audit.specs.inner.Verdict.{Says}
 use Rattle.mr_audit.specs.declared.verdict.Verdict.{Verdict}
 use Rattle.mr_audit.specs.declared.verdict.Verdict.TheVariants.{Unexplained}
 

@@ -1,14 +1,9 @@
 -- A replica as it was some events ago.
-use Rattle.std.specs.Prelude.{◌≡◌, ◌≤◌, ◌++◌, ℕ, List, length, sum_by}
+use Rattle.std.specs.Prelude.{◌≡◌, ◌++◌, List}
 use Rattle.mr_forms.specs.Known.{Form}
 use Rattle.mr_replica.specs.State.{State}
 use Rattle.mr_replica.specs.Replay.{IsItsLog}
 use Rattle.mr_replica.specs.declared.event.Event.{Event}
-
-module _ {K : Type 0} where
-  -- how many events the logs have
-  abbrev pub event_count : List (State K) → ℕ
-  event_count ends = sum_by (λ end. length end.log) ends
 
 module _ {K : Type 0} (form : Form K) where
   -- It has the end's id, filter and limit, and is a beginning of the end's log, replayed.
@@ -19,8 +14,3 @@ module _ {K : Type 0} (form : Form K) where
     pub later : List Event
     pub log : end.log ≡ start.log ++ later
     pub is_its_log : IsItsLog form start
-
-  -- a beginning of the end, which has at most so many events if it has this id
-  pub record IsPutBack (replica events : ℕ) (end start : State K) : Type 0 where
-    pub beginning : IsBeginning end start
-    pub few : end.id ≡ replica → length start.log ≤ events

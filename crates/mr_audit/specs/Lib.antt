@@ -2,3 +2,4 @@ pub mod Peers
 pub mod Verdict
 pub mod Beginning
 pub mod Rows
+pub mod inner

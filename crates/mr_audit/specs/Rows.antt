@@ -3,13 +3,13 @@ use Rattle.std.specs.Prelude.{◌≡◌, ℕ, true, false, [], ◌∷◌, Some, 
 use Rattle.mr_version.specs.Name.{Name}
 use Rattle.mr_replica.specs.State.{State, new_state}
 use Rattle.mr_replica.specs.declared.event.Event.TheVariants.{Pull, Receive, Answer, Release, Next}
-use Rattle.mr_wire.specs.FrameParts.{descent_with}
+use Rattle.mr_wire.specs.inner.FrameParts.{descent_with}
 use Rattle.mr_wire.specs.Frames.{Question, Sent}
 use Rattle.mr_wire.specs.declared.frame.Body.TheVariants.{Start}
 use Rattle.mr_wire.specs.declared.frame.Frame.TheVariants as frame
 use Rattle.mr_wire.specs.declared.frame.Mode.TheVariants.{Full}
 use Rattle.mr_wire.specs.declared.frame.Receipt.{Receipt}
-use Rattle.mr_audit.specs.Beginning.{event_count}
+use Rattle.mr_audit.specs.inner.Beginning.{event_count}
 use Rattle.mr_audit.specs.Peers.{giver_of, is_missing}
 
 abbrev first : Name

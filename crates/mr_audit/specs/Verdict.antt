@@ -1,5 +1,5 @@
 -- What one history, or none, says of replicas.
-use Rattle.std.specs.Prelude.{◌≡◌, List, All}
+use Rattle.std.specs.Prelude.{List, All}
 use Rattle.mr_forms.specs.Known.{Form}
 use Rattle.mr_replica.specs.State.{State}
 use Rattle.mr_world.specs.Kept.{WorldView}
@@ -7,8 +7,6 @@ use Rattle.mr_world.specs.Promise.{Promises, moment_of}
 use Rattle.mr_settle.specs.Explains.{Explains}
 use Rattle.mr_settle.specs.Kept.{Keeps, KeepTogether}
 use Rattle.mr_settle.specs.Stuck.{IsStuck}
-use Rattle.mr_settle.specs.declared.fault.JoinFault.{JoinFault}
-use Rattle.mr_settle.specs.declared.fault.JoinFault.TheVariants as fault
 use Rattle.mr_audit.specs.declared.verdict.Verdict.{Verdict}
 use Rattle.mr_audit.specs.declared.verdict.Verdict.TheVariants.{OneHistory, Unexplained}
 
@@ -26,8 +24,3 @@ module _ {K : Type 0} (form : Form K) where
   abbrev pub IsVerdict : List (State K) → Verdict → Type 0
   IsVerdict ends OneHistory = AreExplained ends
   IsVerdict ends (Unexplained replica event) = IsStuck form ends replica event
-
--- what is said of logs by the fault at which they don't join
-abbrev pub Says : JoinFault → Verdict → Type 0
-Says fault.OutOfMemory verdict = ⊥
-Says (fault.Unexplained replica event) verdict = verdict ≡ Unexplained replica event

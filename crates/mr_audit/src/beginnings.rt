@@ -3,7 +3,8 @@ ghost use Rattle.std.specs.Prelude.{All, IfOk};
 ghost use Rattle.std.specs.List.{AllZip};
 ghost use Rattle.mr_replica.specs.Replay.{IsItsLog};
 ghost use Rattle.mr_settle.specs.Explains.{AreDistinct};
-ghost use Rattle.mr_audit.specs.Beginning.{IsBeginning, IsPutBack};
+ghost use Rattle.mr_audit.specs.Beginning.{IsBeginning};
+ghost use Rattle.mr_audit.specs.inner.Beginning.{IsPutBack};
 ghost use Rattle.mr_audit.specs.Verdict.{AreExplained};
 
 use crate::beginning::beginning_of;
@@ -85,5 +86,6 @@ fn look_at_logs<K: Knowledge>(ends: &[Replica<K>])
 fn look_at_log<K: Knowledge>(end: &Replica<K>)
     ensures { IsItsLog K.form end.now }
 {
+    // a replica is its log replayed
     let _log = end.log();
 }

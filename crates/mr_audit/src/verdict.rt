@@ -1,7 +1,8 @@
 //! Whether one history explains some logs.
 ghost use Rattle.std.specs.Prelude.{IfOk};
 ghost use Rattle.mr_settle.specs.Explains.{AreDistinct};
-ghost use Rattle.mr_audit.specs.Verdict.{IsVerdict, Says};
+ghost use Rattle.mr_audit.specs.Verdict.{IsVerdict};
+ghost use Rattle.mr_audit.specs.inner.Verdict.{Says};
 
 use mr_forms::OneValue;
 use mr_replica::Replica;

@@ -2,13 +2,12 @@
 use Rattle.std.specs.Prelude.{◌≡◌, ◌<◌, ◌≤◌, ◌++◌, ℕ, ℤ, pos, List, length, drop, Option, Some, None, Result, Ok, Err}
 use Rattle.std.specs.Global.{Vec}
 use Rattle.std.specs.List.{slice_get}
-use Rattle.mr_version.specs.declared.fault.VersionFault.{VersionFault}
 use Rattle.mr_itemset.specs.Normal.{Normal}
 use Rattle.mr_replica.specs.State.{State}
 use Rattle.mr_desk.specs.Device.{shown}
 use Rattle.mr_desk.specs.declared.device.Device.{Device}
 use Rattle.mr_desk.specs.declared.fault.Fault.{Fault}
-use Rattle.mr_desk.specs.declared.fault.Fault.TheVariants.{Version, Wire}
+use Rattle.mr_desk.specs.declared.fault.Fault.TheVariants.{Wire}
 use Rattle.mr_wire.specs.declared.fault.WireFault.{WireFault}
 use Rattle.mr_c.specs.Code.{failure_number}
 use Rattle.mr_c.specs.declared.failure.Failure.{Failure}
@@ -49,10 +48,6 @@ by_desk (Err fault) = Err (Desk fault)
 abbrev pub by_wire : {X : Type 0} → Result X WireFault → Result X Failure
 by_wire (Ok found) = Ok found
 by_wire (Err fault) = Err (Desk (Wire fault))
-
-abbrev pub by_version : {X : Type 0} → Result X VersionFault → Result X Failure
-by_version (Ok found) = Ok found
-by_version (Err fault) = Err (Desk (Version fault))
 
 -- what is read of what was found
 abbrev pub read_of : {X Y : Type 0} → (X → Result Y Failure) → Result X Failure → Result Y Failure

@@ -9,3 +9,4 @@ pub mod Peer
 pub mod Rows
 pub mod Shown
 pub mod ShownKept
+pub mod inner

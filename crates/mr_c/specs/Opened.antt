@@ -5,7 +5,6 @@ use Rattle.mr_desk.specs.Opening.{Opens}
 use Rattle.mr_desk.specs.declared.device.Device.{Device}
 use Rattle.mr_desk.specs.declared.device.Device.TheVariants.{Plain, Kept}
 use Rattle.mr_desk.specs.declared.fault.Fault.{Fault}
-use Rattle.mr_desk.specs.declared.fault.Fault.TheVariants.{OutOfMemory}
 use Rattle.mr_c.specs.Code.{code_of}
 use Rattle.mr_c.specs.declared.failure.Failure.{Failure}
 use Rattle.mr_c.specs.declared.failure.Failure.TheVariants.{InUse, Desk}
@@ -27,23 +26,6 @@ abbrev pub ComesBack : (file mark birth : List ℕ) → Result Device Fault → 
 ComesBack file mark birth (Ok (Kept h notes)) = ArePlace mark birth × Reopened file mark (given birth) h notes.items
 ComesBack file mark birth (Ok other) = ⊥
 ComesBack file mark birth (Err fault) = IsUnopened file mark birth fault
-
--- An open handle is refused. It stays as it is, and so does a closed one.
-abbrev pub ClosedOnly : Option Device → Result (Unit {0}) Failure → Option Device → Type 0
-ClosedOnly None (Ok done) new = new ≡ None
-ClosedOnly (Some s) (Err failure) new = (failure ≡ InUse) × (new ≡ Some s)
-ClosedOnly old answer new = ⊥
-
--- A closed handle has the device then, or stays closed: where there is none, or no memory for it.
-abbrev pub Installed : Result Device Fault → Result (Unit {0}) Failure → Option Device → Type 0
-Installed device (Ok done) new = elim device [
-  | Ok d ↦ new ≡ Some d
-  | Err fault ↦ ⊥
-]
-Installed device (Err failure) new = (new ≡ None) × elim device [
-  | Ok d ↦ failure ≡ Desk OutOfMemory
-  | Err fault ↦ failure ≡ Desk fault
-]
 
 -- An open handle answers so, and stays as it is. A closed one has the device then, or stays closed.
 abbrev pub Opened : (Result Device Fault → Type 0) → Option Device → Result (Unit {0}) Failure → Option Device → Type 0

@@ -18,7 +18,7 @@ use Rattle.mr_c.specs.Code.{code_of, failure_number}
 use Rattle.mr_c.specs.Given.{IsFilled, IsGiven, at_place}
 use Rattle.mr_c.specs.Shown.{known, of_version, part_of, shown_card}
 use Rattle.mr_c.specs.Notes.{count_at}
-use Rattle.mr_c.specs.Opened.{ClosedOnly}
+use Rattle.mr_c.specs.inner.Opened.{ClosedOnly}
 use Rattle.mr_c.specs.Peer.{FindsCounter, birth_at}
 use Rattle.mr_c.specs.ShownKept.{act_at, is_well, shown_act, shown_reply, written}
 use Rattle.mr_c.specs.declared.failure.Failure.TheVariants.{Closed, InUse, NotThere, Desk}

@@ -2,7 +2,8 @@
 ghost use Rattle.std.specs.Prelude.{◌≡◌, Ok};
 ghost use Rattle.mr_session.specs.Table.{open_numbers};
 ghost use Rattle.mr_desk.specs.Version.{named_by};
-ghost use Rattle.mr_c.specs.Given.{IsGiven, built, by_version, read_in};
+ghost use Rattle.mr_c.specs.Given.{IsGiven, built, read_in};
+ghost use Rattle.mr_c.specs.inner.Given.{by_version};
 ghost use Rattle.mr_c.specs.Shown.{GivesNumbers, InMemory, known, known_in, of_version, sessions_of, streams_of};
 
 use crate::failure::Failure;

@@ -1,6 +1,7 @@
 //! Opening and closing.
 ghost use Rattle.std.specs.Prelude.{◌≡◌, [], None};
-ghost use Rattle.mr_c.specs.Opened.{ClosedOnly, ComesBack, ComesBegun, ComesPlain, Installed, Opened, OpensAs};
+ghost use Rattle.mr_c.specs.Opened.{ComesBack, ComesBegun, ComesPlain, Opened, OpensAs};
+ghost use Rattle.mr_c.specs.inner.Opened.{ClosedOnly, Installed};
 
 use crate::failure::{Failure, code_of};
 use crate::handle::Handle;
@@ -209,5 +210,6 @@ pub extern "C" fn mr_kept_open(
 pub extern "C" fn mr_close(alloc: Global, handle: &mut Handle)
     ensures { handle.new.device ≡ None }
 {
+    // what the handle held is given back here
     let _device = handle.take(alloc);
 }

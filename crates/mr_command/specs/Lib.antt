@@ -15,3 +15,4 @@ pub mod Taking
 pub mod There
 pub mod Words
 pub mod Rows
+pub mod inner

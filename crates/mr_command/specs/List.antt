@@ -1,6 +1,5 @@
 -- words that are lists
-use Rattle.std.specs.Prelude.{◌≡◌, ℕ, ◌==◌, List, [], if◌then◌else◌, fold, map, codes, All, Option, Some, None}
-use Rattle.std.specs.Borrow.{Bor}
+use Rattle.std.specs.Prelude.{◌≡◌, ℕ, ◌==◌, List, [], if◌then◌else◌, fold, map, codes, All}
 use Rattle.std.specs.Int.RustNames.{bit_or}
 use Rattle.std.specs.List.{slice_split}
 use Rattle.mr_version.specs.Name.{Name, IsVersion, name_text}
@@ -12,14 +11,9 @@ use Rattle.mr_mail.specs.Label.{text_eq}
 abbrev pub parts_of : ℕ → List ℕ → List (List ℕ)
 parts_of separator text = slice_split (λ b. b == separator) text
 
--- the same of a word, of which one that is a dot has none
+-- the parts of a word between its separators; a word that is a dot has none
 abbrev pub pieces_of : ℕ → List ℕ → List (List ℕ)
 pieces_of separator word = if text_eq word (codes ".") then [] else parts_of separator word
-
--- the parts of what is left of a word, which is nothing once its last part was taken
-abbrev pub parts_left : ℕ → Option (Bor (List ℕ)) → List (List ℕ)
-parts_left separator None = []
-parts_left separator (Some rest) = parts_of separator rest.now
 
 -- the flag byte that has these flags
 abbrev pub united : List Flag → ℕ

@@ -37,7 +37,7 @@ abbrev pub names : {X : Type 0} → (List ℕ → X → Type 0) → LineFault �
 names Names fault word (Ok x) = Names word x
 names Names fault word (Err e) = (e ≡ fault) × NamesNone Names word
 
--- the same of what takes memory, which is wanted only where the word names something
+-- what the word names, and the fault where it names nothing; memory for it is wanted only where the word names something
 abbrev pub names_in_memory : {X : Type 0} → (List ℕ → X → Type 0) → LineFault → List ℕ → Reading X
 names_in_memory Names fault word (Err OutOfMemory) = NamesSome Names word
 names_in_memory Names fault word result = names Names fault word result
@@ -47,7 +47,7 @@ pub data Both {X Y : Type 0} (First : Result X LineFault → Type 0) (Next : X �
   goes_on : {x : X} {result : Result Y LineFault} → First (Ok x) → Next x result → Both First Next result
   ends : {fault : LineFault} → First (Err fault) → Both First Next (Err fault)
 
--- the same, between the two
+-- one reading and then another, which goes on with what the first gave
 infixr 20 ◌andthen◌
 abbrev pub ◌andthen◌ : {X Y : Type 0} → Reading X → (X → Reading Y) → Reading Y
 First andthen Next = Both First Next

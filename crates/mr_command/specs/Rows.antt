@@ -23,7 +23,8 @@ use Rattle.mr_command.specs.Opening.{takes_spec, reads_opening}
 use Rattle.mr_command.specs.Reading.{Both.goes_on, Both.ends}
 use Rattle.mr_command.specs.Scene.{Scene}
 use Rattle.mr_command.specs.Taking.{takes_one, takes_two_or_three}
-use Rattle.mr_command.specs.Words.{words, unwords, words_left}
+use Rattle.mr_command.specs.Words.{words, unwords}
+use Rattle.mr_command.specs.inner.Words.{words_left}
 
 -- ---- words
 

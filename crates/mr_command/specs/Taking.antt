@@ -22,12 +22,6 @@ abbrev pub takes_three : List Text → Reading (Text × Text × Text)
 takes_three (a ∷ b ∷ c ∷ []) = gives (a, b, c)
 takes_three args = fails WrongWords
 
--- one word, or none
-abbrev pub takes_at_most_one : List Text → Reading (Option Text)
-takes_at_most_one [] = gives None
-takes_at_most_one (a ∷ []) = gives (Some a)
-takes_at_most_one args = fails WrongWords
-
 -- two words, and a third that may be missing
 abbrev pub takes_two_or_three : List Text → Reading (Text × Text × Option Text)
 takes_two_or_three (a ∷ b ∷ []) = gives (a, b, None)

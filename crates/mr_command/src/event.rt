@@ -1,5 +1,4 @@
 //! Lines that let an event happen.
-ghost use Rattle.std.specs.Prelude.{◌≡◌};
 ghost use Rattle.mr_command.specs.Event.{reads_create, reads_edit, reads_part};
 
 use crate::LineFault;

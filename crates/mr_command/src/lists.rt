@@ -1,5 +1,5 @@
 //! Words that are lists: labels, flags and versions. A word of one dot is the empty list.
-ghost use Rattle.std.specs.Prelude.{◌≡◌, ◌<◌, ◌↔◌, ◌⊎◌, true, false, IfOk, IfErr, IsTrue, length};
+ghost use Rattle.std.specs.Prelude.{◌≡◌, ◌<◌, ◌↔◌, ◌⊎◌, true, false, IfOk, IfErr, IsTrue};
 ghost use Rattle.std.specs.List.{list_all};
 ghost use Rattle.mr_mail.specs.Label.{is_label, texts_of, different_labels};
 ghost use Rattle.mr_mail.specs.declared.label.TheConstants.{MAX_LABELS};

@@ -1,5 +1,4 @@
 //! Words that name what is there: replicas, frames and subscribers.
-ghost use Rattle.std.specs.Prelude.{◌≡◌};
 ghost use Rattle.mr_command.specs.Named.{SpellsFrame, BeginsWithLetter, NamesSubscriber, reads_replica, reads_new_id, reads_frame};
 ghost use Rattle.mr_command.specs.Reading.{names};
 

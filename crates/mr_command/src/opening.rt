@@ -1,5 +1,4 @@
 //! Lines that make replicas.
-ghost use Rattle.std.specs.Prelude.{◌≡◌};
 ghost use Rattle.mr_command.specs.Opening.{takes_spec, reads_filter, reads_spec, reads_opening};
 
 use crate::LineFault;

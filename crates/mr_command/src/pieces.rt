@@ -1,6 +1,7 @@
 //! The parts of a word between its separators, one after the other. No memory is taken for them.
 ghost use Rattle.std.specs.Prelude.{◌≡◌, ◌<◌, [], ◌∷◌, MatchOption};
-ghost use Rattle.mr_command.specs.List.{pieces_of, parts_of, parts_left};
+ghost use Rattle.mr_command.specs.List.{pieces_of, parts_of};
+ghost use Rattle.mr_command.specs.inner.List.{parts_left};
 
 use std::marker::Model;
 
@@ -16,7 +17,7 @@ pub(crate) struct Pieces<'a> {
 
 impl<'a> Model for Pieces<'a> {
     ghost use Rattle.std.specs.Prelude.{ℕ, ◌<◌, List};
-    ghost use Rattle.mr_command.specs.List.{parts_left};
+    ghost use Rattle.mr_command.specs.inner.List.{parts_left};
 
     ghost Value = { List (List ℕ) };
 

@@ -1,5 +1,4 @@
 //! Lines that ask what there is.
-ghost use Rattle.std.specs.Prelude.{◌≡◌};
 ghost use Rattle.mr_command.specs.Question.{reads_text, reads_bytes, reads_index};
 
 use crate::LineFault;

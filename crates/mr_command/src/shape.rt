@@ -1,5 +1,4 @@
 //! Lines of a replica, and of one thing more at most.
-ghost use Rattle.std.specs.Prelude.{◌≡◌};
 ghost use Rattle.std.specs.Fn.{FnOnceReturnsAt};
 ghost use Rattle.mr_command.specs.Named.{reads_frame};
 ghost use Rattle.mr_command.specs.Shape.{reads_alone, reads_two, reads_numbered, reads_framed, reads_followed, reads_versioned};

@@ -1,8 +1,10 @@
 //! The words of a line.
 ghost use Rattle.std.specs.Prelude.{◌≡◌, [], ◌∷◌, ◌↔◌, ◌≢◌, Ok, Err, IsOk, IfErr, MatchResult};
 ghost use Rattle.std.specs.Option.{option_copied};
-ghost use Rattle.mr_command.specs.Taking.{takes_one, takes_two, takes_three, takes_at_most_one, takes_two_or_three};
-ghost use Rattle.mr_command.specs.Words.{words, unwords, words_left};
+ghost use Rattle.mr_command.specs.Taking.{takes_one, takes_two, takes_three, takes_two_or_three};
+ghost use Rattle.mr_command.specs.inner.Taking.{takes_at_most_one};
+ghost use Rattle.mr_command.specs.Words.{words, unwords};
+ghost use Rattle.mr_command.specs.inner.Words.{words_left};
 
 use crate::LineFault;
 use std::marker::Model;
@@ -18,7 +20,7 @@ pub(crate) struct Words<'a> {
 
 impl<'a> Model for Words<'a> {
     ghost use Rattle.std.specs.Prelude.{ℕ, List};
-    ghost use Rattle.mr_command.specs.Words.{words_left};
+    ghost use Rattle.mr_command.specs.inner.Words.{words_left};
 
     ghost Value = { List (List ℕ) };
 

@@ -16,7 +16,8 @@ use Rattle.mr_maildir.proofs.ViewLemmas.{view_eq-Decides}
 use Rattle.mr_maildir.proofs.MergingLemmas.{merged-moved}
 use Rattle.mr_compare.proofs.ListLemmas.{take_one}
 use Rattle.mr_compare.specs.declared.held.Head.{Head}
-use Rattle.mr_compare.specs.Held.{Tells, heads_told, AreRead, ReadsOne, view_at}
+use Rattle.mr_compare.specs.Held.{Tells, heads_told, AreRead, view_at}
+use Rattle.mr_compare.specs.inner.Held.{ReadsOne}
 
 abbrev Row : Type 0
 Row = (List ℕ × Name) × Head

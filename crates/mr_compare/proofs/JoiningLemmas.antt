@@ -15,8 +15,10 @@ use Rattle.mr_mail.specs.Label.{text_cmp}
 use Rattle.mr_maildir.specs.View.{ViewParts}
 use Rattle.mr_compare.specs.declared.sides.LeftMail.{LeftMail}
 use Rattle.mr_compare.specs.Gather.{values_of}
-use Rattle.mr_compare.specs.Joining.{lowest, lower_of, together}
-use Rattle.mr_compare.specs.MailsLeft.{left_mail, next_mail}
+use Rattle.mr_compare.specs.Joining.{lowest, together}
+use Rattle.mr_compare.specs.inner.Joining.{lower_of}
+use Rattle.mr_compare.specs.MailsLeft.{left_mail}
+use Rattle.mr_compare.specs.inner.MailsLeft.{next_mail}
 use Rattle.mr_compare.specs.Sides.{at_digest}
 use Rattle.mr_compare.proofs.GatherLemmas.{values_of-more}
 use Rattle.mr_compare.proofs.LeftLemmas.{equal_of}

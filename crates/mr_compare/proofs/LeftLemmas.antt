@@ -16,7 +16,9 @@ use Rattle.mr_feed.specs.declared.entry.Entry.TheVariants.{Added, Dropped}
 use Rattle.mr_feed.specs.Entry.{told, told_entry, entry_item, entry_version}
 use Rattle.mr_feed.specs.Fold.{fold_from-append}
 use Rattle.mr_compare.proofs.ListLemmas.{take_one}
-use Rattle.mr_compare.specs.Left.{of_item, item_cards, newer, last_added, last_told, told_last, card_left, newest_of, card_added, with_entry, pair_cmp}
+use Rattle.mr_compare.specs.Left.{of_item, item_cards, newer, last_added, last_told, told_last, card_left, pair_cmp}
+use Rattle.mr_feed.specs.inner.Entry.{card_added}
+use Rattle.mr_compare.specs.inner.Left.{newest_of, with_entry}
 
 -- orderings that say equal are Equal
 pub equal_of : (o : Ordering) → is_eq o ≡ true → o ≡ Equal

@@ -21,7 +21,8 @@ use Rattle.mr_compare.specs.declared.note.FolderNote.{FolderNote}
 use Rattle.mr_compare.specs.declared.note.FolderNote.TheVariants as note
 use Rattle.mr_compare.specs.Shown.{ShownParts}
 use Rattle.mr_compare.specs.Note.{shown_bytes, meeting_bytes, note_kind, note_bytes, IsShown, IsMeeting, IsNote, Spells}
-use Rattle.mr_compare.specs.NoteParts.{items_run, shown_at, meeting_at, note_read, FindsWhole, FindsNote, HasItems, IsKept}
+use Rattle.mr_compare.specs.NoteParts.{items_run, shown_at, meeting_at, note_read}
+use Rattle.mr_compare.specs.inner.NoteParts.{FindsWhole, FindsNote, HasItems, IsKept}
 
 -- ---- the parts
 

@@ -77,7 +77,7 @@ due mail = if_any mail.digest (told_for mail)
 abbrev pub due_acts : List Standing → List MailAct
 due_acts mails = flat_map due mails
 
--- and what is where nothing is merged
+-- what is done for these mails, in their order, where nothing is merged
 abbrev pub believed_acts : List Standing → List MailAct
 believed_acts mails = flat_map (λ mail. if_any mail.digest (act_for mail)) mails
 

@@ -1,5 +1,5 @@
 -- what revisions are of which mails
-use Rattle.std.specs.Prelude.{◌≡◌, ◌≢◌, ℕ, List, [], ◌∷◌, ◌++◌, map, All, Option, Some, None}
+use Rattle.std.specs.Prelude.{◌≡◌, ◌≢◌, ℕ, List, [], ◌∷◌, map, All, Option, Some, None}
 use Rattle.std.specs.List.{flat_map}
 use Rattle.std.specs.Str.{IsUtf8}
 use Rattle.mr_version.specs.Name.{Name}
@@ -38,12 +38,6 @@ pub record AreRead (revisions : List Rev) (heads : List ((List ℕ × Name) × H
   pub of_all : map (λ p. p.0) told ≡ revisions
   pub by_bodies : All (λ p. Tells p.0.message.body p.1) told
   pub heads_are : heads ≡ flat_map (λ p. heads_told p.0 p.1) told
-
--- one revision more was read
-pub record ReadsOne (r : Rev) (old new : List ((List ℕ × Name) × Head)) : Type 0 where
-  pub told : Option (List ℕ)
-  pub by_body : Tells r.message.body told
-  pub heads_are : new ≡ old ++ heads_told r told
 
 -- how a mail stands by a head
 abbrev pub view_at : Head → ViewParts

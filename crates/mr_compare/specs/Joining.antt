@@ -59,11 +59,6 @@ together (view ∷ views) = Some (merged_view nowhere (view ∷ views))
 abbrev pub lowest : List Name → Option Name
 lowest versions = reduce (ord_min name_cmp) versions
 
--- the lower one, where there are two
-abbrev pub lower_of : Option Name → Name → Name
-lower_of None version = version
-lower_of (Some lowest) version = ord_min name_cmp lowest version
-
 -- a mail of this lowest version and this view, if it has them
 abbrev pub mail_of : List ℕ → Option Name → Option ViewParts → Bool → List HeldMail
 mail_of digest None view is_due = []

@@ -1,5 +1,5 @@
 -- what a feed's beginning has of the items that its rest tells of
-use Rattle.std.specs.Prelude.{Bool, ◌&&◌, if◌then◌else◌, List, [], ◌∷◌, filter, fold, Option, Some, None}
+use Rattle.std.specs.Prelude.{Bool, List, [], ◌∷◌, filter, fold, Option, Some, None}
 use Rattle.std.specs.Option.{is_some}
 use Rattle.std.specs.Map.{lookup}
 use Rattle.std.specs.Ordering.{ordering_then, eq_by_cmp}
@@ -9,7 +9,7 @@ use Rattle.mr_mail.specs.Mail.{MailCard}
 use Rattle.mr_model.specs.Headline as model
 use Rattle.mr_feed.specs.declared.entry.Entry.{Entry}
 use Rattle.mr_feed.specs.declared.entry.Entry.TheVariants.{Added, Dropped}
-use Rattle.mr_feed.specs.Entry.{told, entry_item, entry_version}
+use Rattle.mr_feed.specs.Entry.{told, entry_item}
 
 -- an item's entries
 abbrev pub of_item : Name → List Entry → List Entry
@@ -50,19 +50,3 @@ pair_cmp a b = ordering_then (name_cmp a.0 b.0) (name_cmp a.1 b.1)
 -- the card of an item's version in a table
 abbrev pub card_left : List ((Name × Name) × MailCard) → Name → Name → Option MailCard
 card_left table item version = lookup (λ own. eq_by_cmp pair_cmp (item, version) own) table
-
--- ---- one entry more
-
--- what is told of an item, with one entry more of it
-abbrev pub newest_of : Option (Option MailCard) → Entry → Option MailCard
-newest_of None e = newer None e
-newest_of (Some last) e = newer last e
-
--- the card that an entry gives its version
-abbrev pub card_added : Entry → Option MailCard
-card_added (Added item version card) = Some card
-card_added (Dropped item version) = None
-
--- the card of an item's version, with one entry more
-abbrev pub with_entry : Entry → Option MailCard → Name → Name → Option MailCard
-with_entry e before item version = if name_eq (entry_item e) item && name_eq (entry_version e) version then card_added e else before

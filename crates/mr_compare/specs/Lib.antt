@@ -11,3 +11,4 @@ pub mod Shown
 pub mod Note
 pub mod NoteParts
 pub mod Rows
+pub mod inner

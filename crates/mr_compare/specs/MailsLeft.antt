@@ -1,5 +1,5 @@
 -- what was left of each mail, some item of which changed since
-use Rattle.std.specs.Prelude.{ℕ, Bool, not, ◌&&◌, ◌||◌, is_some, List, [], ◌∷◌, ◌++◌, map, filter, Option, Some, None}
+use Rattle.std.specs.Prelude.{ℕ, Bool, not, ◌&&◌, is_some, List, [], ◌∷◌, ◌++◌, map, filter, Option, Some, None}
 use Rattle.std.specs.BTreeMap.{keys}
 use Rattle.std.specs.Global.{Vec}
 use Rattle.std.specs.List.{flat_map, list_any}
@@ -44,11 +44,6 @@ views_left left digests items digest = values_of text_cmp digest (cards_told lef
 abbrev pub left_mail : List ViewParts → List Bool → Option LeftMail
 left_mail views [] = None
 left_mail views (came ∷ more) = Some (record { view = together views; came = list_any (λ b. b) (came ∷ more) })
-
--- and by one item more
-abbrev pub next_mail : Option LeftMail → List ViewParts → Bool → LeftMail
-next_mail None views came = record { view = together views; came = came }
-next_mail (Some mail) views came = record { view = mail.view; came = mail.came || came }
 
 -- ---- mails that aren't held
 

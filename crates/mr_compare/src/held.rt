@@ -7,7 +7,8 @@ ghost use Rattle.mr_madewith.specs.Revision.{Rev};
 ghost use Rattle.mr_maildir.specs.View.{view_eq};
 ghost use Rattle.mr_maildir.specs.Merging.{merged_view, over, differ};
 ghost use Rattle.mr_compare.specs.declared.held.Head.{Head};
-ghost use Rattle.mr_compare.specs.Held.{AreRead, ReadsOne, head_of, view_at};
+ghost use Rattle.mr_compare.specs.Held.{AreRead, head_of, view_at};
+ghost use Rattle.mr_compare.specs.inner.Held.{ReadsOne};
 
 use mr_madewith::Revision;
 use mr_maildir::{View, read_reference, shown};

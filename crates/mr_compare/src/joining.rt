@@ -3,7 +3,8 @@ ghost use Rattle.std.specs.Prelude.{◌≡◌, ◌++◌, List, IfOk, OnOk, map};
 ghost use Rattle.std.specs.List.{flat_map, list_any};
 ghost use Rattle.std.specs.Option.{option_copied};
 ghost use Rattle.mr_version.specs.Name.{Name};
-ghost use Rattle.mr_compare.specs.Joining.{held_entry, held_mail, lower_of, lowest, standing_of, standing_parts, standings_at, together, versions_in};
+ghost use Rattle.mr_compare.specs.Joining.{held_entry, held_mail, lowest, standing_of, standing_parts, standings_at, together, versions_in};
+ghost use Rattle.mr_compare.specs.inner.Joining.{lower_of};
 
 use crate::held::{Digest, Head, MailItem, is_merge_due, item_view};
 use crate::sides::HeldMail;

@@ -3,7 +3,8 @@ ghost use Rattle.std.specs.Prelude.{◌≡◌, if◌then◌else◌, None, IfOk, 
 ghost use Rattle.std.specs.Option.{is_some};
 ghost use Rattle.mr_version.specs.Name.{Name};
 ghost use Rattle.mr_feed.specs.Entry.{entry_item};
-ghost use Rattle.mr_compare.specs.Left.{card_left, told_last, is_told, last_told, item_cards, with_entry, newest_of};
+ghost use Rattle.mr_compare.specs.Left.{card_left, told_last, is_told, last_told, item_cards};
+ghost use Rattle.mr_compare.specs.inner.Left.{with_entry, newest_of};
 
 use mr_feed::Entry;
 use mr_mail::Card;

@@ -7,7 +7,8 @@ ghost use Rattle.mr_mail.specs.Label.{text_cmp};
 ghost use Rattle.mr_compare.specs.Gather.{values_at, values_of};
 ghost use Rattle.mr_compare.specs.Joining.{together};
 ghost use Rattle.mr_compare.specs.Sides.{at_digest};
-ghost use Rattle.mr_compare.specs.MailsLeft.{card_view, cards_told, is_absent, left_mail, news_told, next_mail, stayed_views, unheld, views_left, with_digest};
+ghost use Rattle.mr_compare.specs.MailsLeft.{card_view, cards_told, is_absent, left_mail, news_told, stayed_views, unheld, views_left, with_digest};
+ghost use Rattle.mr_compare.specs.inner.MailsLeft.{next_mail};
 
 use crate::gather::gathered;
 use crate::held::Digest;
@@ -16,7 +17,7 @@ use crate::left::Left;
 use crate::sides::{LeftMail, Sides};
 use mr_mail::Card;
 use mr_maildir::View;
-use mr_version::{ItemId, Version};
+use mr_version::ItemId;
 use std::alloc::{AllocError, Global};
 use std::collections::BTreeMap;
 

@@ -4,7 +4,6 @@
 //! written. One of another kind, or with other bytes behind its kind, is none of these.
 ghost use Rattle.std.specs.Prelude.{◌≡◌, ◌<◌, ◌^◌, ◌++◌, All, IfOk, IfSome, IsOk, None, OnOk, Some, length, option_map};
 ghost use Rattle.std.specs.List.{flat_map};
-ghost use Rattle.mr_version.specs.Name.{Name};
 ghost use Rattle.mr_wire.specs.Grammar.{IsItem};
 ghost use Rattle.mr_wire.specs.Parts.{author_at};
 ghost use Rattle.mr_wire.specs.Reading.{Finds, Gives, as_at, bytes_at, number_at};
@@ -14,7 +13,8 @@ ghost use Rattle.std.specs.Int.{w16};
 ghost use Rattle.mr_compare.specs.declared.note.FolderNote.TheVariants as note;
 ghost use Rattle.mr_compare.specs.declared.note.FolderNote.{FolderNote};
 ghost use Rattle.mr_compare.specs.Note.{shown_bytes, meeting_bytes, note_kind, IsShown, IsMeeting, Spells};
-ghost use Rattle.mr_compare.specs.NoteParts.{note_read, shown_at, meeting_at, items_run, FindsNote, FindsWhole, HasItems, IsKept};
+ghost use Rattle.mr_compare.specs.NoteParts.{note_read, shown_at, meeting_at, items_run};
+ghost use Rattle.mr_compare.specs.inner.NoteParts.{FindsNote, FindsWhole, HasItems, IsKept};
 
 use crate::held::Digest;
 use mr_version::{Author, ItemId};

@@ -9,7 +9,8 @@ use Rattle.mr_forms.specs.Sets.{Versions}
 use Rattle.mr_concise.specs.Next.{IsNextOut, IsNextIn, HasNoneFrom}
 use Rattle.mr_forms.specs.Runs.{HasNoneOf}
 use Rattle.mr_forms.specs.Runs.{HasNoAuthorFrom, IsNextAuthor}
-use Rattle.mr_concise.specs.AnyOf.{in_any, lower_of, IsPassed}
+use Rattle.mr_concise.specs.AnyOf.{in_any, lower_of}
+use Rattle.mr_concise.specs.inner.AnyOf.{IsPassed}
 use Rattle.mr_concise.specs.declared.column.TheConstants.{COUNTERS_END}
 
 or_none : (b : Bool) → (b || false) ≡ b

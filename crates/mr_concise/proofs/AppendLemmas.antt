@@ -8,13 +8,14 @@ use Rattle.mr_version.specs.declared.version.TheConstants.{MAX_COUNTER}
 use Rattle.mr_forms.specs.Sets.{IsSame}
 use Rattle.mr_forms.specs.declared.run.Run.{Run}
 use Rattle.mr_forms.specs.Runs.{in_run, in_runs, with_run, StandsBefore}
-use Rattle.mr_concise.specs.Edges.{is_on, IsRising}
+use Rattle.mr_concise.specs.Edges.{IsRising}
+use Rattle.mr_concise.specs.inner.Edges.{is_on}
+use Rattle.mr_concise.proofs.EdgeLemmas.{IsRising-end}
 use Rattle.mr_concise.specs.declared.column.Hole.{Hole}
 use Rattle.mr_concise.specs.declared.column.TheConstants.{MAX_HOLES}
 use Rattle.mr_concise.specs.Column.{Extent, hole_edges, edges, column_has, gap, IsColumn}
 use Rattle.mr_concise.specs.declared.vector.AuthorColumn.{AuthorColumn}
 use Rattle.mr_concise.specs.Vector.{column_of, vector_has, IsVectorFrom, with_column}
-use Rattle.mr_concise.proofs.EdgeLemmas.{IsRising-end}
 use Rattle.mr_concise.proofs.ColumnLemmas.{column_has-edges}
 use Rattle.mr_concise.proofs.InsertLemmas.{to_end, with_counter-means}
 use Rattle.mr_concise.proofs.UnionLemmas.{bound-on, column_of-IsColumn}

@@ -5,7 +5,8 @@ use Rattle.std.proofs.lemmas.Bool.{cases_lt, cases_eq, true≢false, false≢tru
 use Rattle.mr_forms.specs.Sets.{Covers}
 use Rattle.mr_concise.specs.Edges.{IsRising}
 use Rattle.mr_concise.specs.declared.column.Hole.{Hole}
-use Rattle.mr_concise.specs.Column.{Extent, hole_has, hole_edges, column_has, IsColumn, ColumnCovers}
+use Rattle.mr_concise.specs.Column.{Extent, hole_has, hole_edges, column_has, IsColumn}
+use Rattle.mr_concise.specs.inner.Column.{ColumnCovers}
 use Rattle.mr_concise.specs.declared.vector.AuthorColumn.{AuthorColumn}
 use Rattle.mr_concise.specs.Vector.{column_of, vector_has, IsVectorFrom}
 use Rattle.mr_concise.proofs.ColumnLemmas.{column_has-edges}

@@ -1,6 +1,7 @@
 use Rattle.std.proofs.Common.{inl, inr, ◌⊎◌, ◌≡◌, ◌<◌, ◌≤◌, ℕ, Bool, true, false, not, refl, sym, ◌∙◌, arith, List, [], ◌∷◌, ◌++◌, length}
 use Rattle.std.proofs.lemmas.Bool.{true≢false, false≢true, cases_order, lt-ltb, le-ltb, cases_lt}
-use Rattle.mr_concise.specs.Edges.{is_on, IsRising}
+use Rattle.mr_concise.specs.Edges.{IsRising}
+use Rattle.mr_concise.specs.inner.Edges.{is_on}
 
 pub not≢self : (b : Bool) → b ≡ not b → ⊥
 not≢self true h = true≢false h

@@ -4,7 +4,8 @@ use Rattle.std.specs.List.Sorted.{IsNonDecreasingBy, IsPartitionPoint}
 use Rattle.std.proofs.lemmas.Bool.{cases_lt, le-leb, lt-leb, lt-ltb, le-ltb, ltb-true, ltb-false}
 use Rattle.mr_concise.specs.Edges.{IsRising}
 use Rattle.mr_concise.specs.declared.column.Hole.{Hole}
-use Rattle.mr_concise.specs.Column.{hole_edges, gap, filled, AreApart}
+use Rattle.mr_concise.specs.Column.{hole_edges, gap, filled}
+use Rattle.mr_concise.specs.inner.Column.{AreApart}
 
 last-above : (low : ℕ) (holes : List Hole) (end j : ℕ) (d : Hole) → IsRising low (hole_edges holes ++ end ∷ []) → j < length holes → low ≤ (get_or holes j d).last
 last-above low [] end j d r l = absurd (omega arith)

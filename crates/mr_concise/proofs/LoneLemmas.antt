@@ -5,7 +5,8 @@ use Rattle.mr_forms.specs.Runs.{of_author}
 use Rattle.mr_concise.specs.declared.vector.AuthorColumn.{AuthorColumn}
 use Rattle.mr_concise.specs.Column.{Extent, column_has}
 use Rattle.mr_concise.specs.Source.{IsColumnOf, HasFewerHoles, HasAtLeastHoles}
-use Rattle.mr_concise.specs.Vector.{column_of, vector_has, in_column, IsVectorFrom, HasTooManyHoles}
+use Rattle.mr_concise.specs.Vector.{column_of, vector_has, IsVectorFrom, HasTooManyHoles}
+use Rattle.mr_concise.specs.inner.Vector.{in_column}
 use Rattle.mr_concise.proofs.LastLemmas.{column_has-above}
 use Rattle.mr_concise.proofs.SweepLemmas.{IsColumnOf-unique, few-from_column, few-of_authors}
 use Rattle.mr_concise.proofs.UnionLemmas.{column_of-IsColumn}

@@ -8,14 +8,16 @@ use Rattle.mr_concise.specs.declared.column.TheConstants.{MAX_HOLES}
 use Rattle.mr_forms.proofs.SetLemmas.{or_comm}
 use Rattle.mr_forms.specs.Sets.{both}
 use Rattle.mr_forms.specs.Runs.{of_author}
-use Rattle.mr_concise.specs.Edges.{is_on, IsRising}
+use Rattle.mr_concise.specs.Edges.{IsRising}
+use Rattle.mr_concise.specs.inner.Edges.{is_on}
+use Rattle.mr_concise.proofs.EdgeLemmas.{is_on-before, edges_fewer}
 use Rattle.mr_concise.specs.declared.column.Hole.{Hole}
 use Rattle.mr_concise.specs.Column.{Extent, hole_edges, edges, column_has, empty_column, with_counter}
-use Rattle.mr_concise.specs.Source.{IsColumnOf, HasManyHoles}
+use Rattle.mr_concise.specs.Source.{IsColumnOf}
+use Rattle.mr_concise.specs.inner.Source.{HasManyHoles}
 use Rattle.mr_concise.specs.declared.vector.AuthorColumn.{AuthorColumn}
 use Rattle.mr_concise.specs.Vector.{column_of, vector_has, IsVectorFrom, HasTooManyHoles}
-use Rattle.mr_concise.proofs.EdgeLemmas.{is_on-before, edges_fewer}
-use Rattle.mr_concise.proofs.ColumnLemmas.{column_has-edges, column_has-zero}
+use Rattle.mr_concise.proofs.ColumnLemmas.{column_has-edges}
 use Rattle.mr_concise.proofs.InsertLemmas.{with_counter-means}
 use Rattle.mr_concise.proofs.UnionLemmas.{column_has-empty, IsColumn-empty, column_of-item, item-IsColumn}
 use Rattle.mr_concise.proofs.LastLemmas.{column_has-above}

@@ -3,10 +3,11 @@ use Rattle.std.specs.Prelude.{if◌then◌else◌}
 use Rattle.std.proofs.lemmas.Bool.{cases_lt, cases_eq, true≢false, lt-ltb, le-ltb, le-leb, or_left, or_right}
 use Rattle.mr_version.specs.declared.version.TheConstants.{MAX_COUNTER}
 use Rattle.mr_forms.proofs.SetLemmas.{or_comm}
-use Rattle.mr_concise.specs.Edges.{is_on, IsRising}
+use Rattle.mr_concise.specs.Edges.{IsRising}
+use Rattle.mr_concise.specs.inner.Edges.{is_on}
 use Rattle.mr_concise.specs.declared.column.Hole.{Hole}
 use Rattle.mr_concise.specs.Column.{Extent, hole_edges, edges, column_has}
-use Rattle.mr_concise.specs.Next.{IsHoleFrom, HasNoHoleFrom, IsGapFrom}
+use Rattle.mr_concise.specs.inner.Next.{IsHoleFrom, HasNoHoleFrom, IsGapFrom}
 use Rattle.mr_concise.specs.Source.{IsColumnOf}
 use Rattle.mr_concise.proofs.ColumnLemmas.{column_has-edges}
 use Rattle.mr_concise.proofs.LastLemmas.{column_has-above}

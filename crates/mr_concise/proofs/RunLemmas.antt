@@ -9,14 +9,15 @@ use Rattle.std.proofs.Math.Seq.{get_or-append_seam}
 use Rattle.mr_version.specs.Name.{Name}
 use Rattle.mr_forms.specs.declared.run.Run.{Run}
 use Rattle.mr_forms.specs.Runs.{in_run, in_runs, StandsBefore}
-use Rattle.mr_concise.specs.Edges.{is_on, IsRising}
+use Rattle.mr_concise.specs.Edges.{IsRising}
+use Rattle.mr_concise.specs.inner.Edges.{is_on}
+use Rattle.mr_concise.proofs.EdgeLemmas.{is_on-turn, is_on-stay, IsRising-end, IsRising-lower}
 use Rattle.mr_concise.specs.declared.column.Hole.{Hole}
 use Rattle.mr_concise.specs.Column.{Extent, hole_edges, column_has, IsColumn}
-use Rattle.mr_concise.specs.Runs.{EndBefore, AddsRuns}
+use Rattle.mr_concise.specs.inner.Runs.{EndBefore, AddsRuns}
 use Rattle.mr_concise.specs.declared.vector.AuthorColumn.{AuthorColumn}
 use Rattle.mr_concise.specs.Vector.{column_of, vector_has, IsVectorFrom}
 use Rattle.mr_concise.proofs.UnionLemmas.{column_of-under, column_of-take_more, column_of-take_before, column_has-empty}
-use Rattle.mr_concise.proofs.EdgeLemmas.{is_on-turn, is_on-stay, IsRising-end, IsRising-lower}
 use Rattle.mr_concise.proofs.ColumnLemmas.{column_has-edges, column_has-zero}
 
 -- How far the runs of a column have come: those below `start` are put, and the holes that are left

@@ -1,21 +1,21 @@
 use Rattle.std.proofs.Common.{inl, inr, ◌⊎◌, ◌≡◌, ◌<◌, ◌≤◌, ◌+◌, ◌-◌, ◌==◌, ◌&&◌, ℕ, Bool, true, false, nat_lt, cond, refl, ap, sym, ◌∙◌, arith, List, [], ◌∷◌, ◌++◌, length, length-append, suc, zero}
-use Rattle.std.specs.Prelude.{if◌then◌else◌}
+use Rattle.std.specs.Prelude.{if◌then◌else◌, Result, Ok, Err, OnOk, IsErrOf}
 use Rattle.std.proofs.lemmas.Bool.{cases_lt, cases_eq, true≢false, eq-eqb, ne_eqb, lt-ltb, le-ltb}
 use Rattle.std.proofs.lemmas.Bool.Decides.{nat_tests}
-use Rattle.std.specs.Prelude.{Result, Ok, Err, OnOk, IsErrOf}
 use Rattle.mr_forms.specs.declared.fault.FormFault.{FormFault}
 use Rattle.mr_forms.specs.declared.fault.FormFault.TheVariants.{TooManyHoles}
 use Rattle.mr_forms.specs.Sets.{Versions, IsSame}
-use Rattle.mr_concise.specs.Edges.{is_on, IsRising}
+use Rattle.mr_concise.specs.Edges.{IsRising}
+use Rattle.mr_concise.specs.inner.Edges.{is_on}
+use Rattle.mr_concise.proofs.EdgeLemmas.{IsRising-end, is_on-before, edges_fewer}
 use Rattle.mr_concise.specs.declared.column.Hole.{Hole}
 use Rattle.mr_concise.specs.declared.vector.AuthorColumn.{AuthorColumn}
 use Rattle.mr_concise.specs.Column.{Extent, hole_edges, edges, column_has, empty_column, IsColumn}
 use Rattle.mr_concise.specs.Next.{IsNextOut, IsNextIn, HasNoneFrom}
-use Rattle.mr_forms.specs.Runs.{of_author}
-use Rattle.mr_concise.specs.Source.{IsColumnOf, HasHoles, HasAtMostHoles, ColumnsHaveAtMost, HasFewHoles, HasManyHoles, HasFewerHoles, HasAtLeastHoles}
-use Rattle.mr_forms.specs.Runs.{HasNoAuthorFrom, IsNextAuthor}
+use Rattle.mr_forms.specs.Runs.{of_author, HasNoAuthorFrom, IsNextAuthor}
+use Rattle.mr_concise.specs.Source.{IsColumnOf, HasHoles, HasAtMostHoles, ColumnsHaveAtMost, HasFewerHoles, HasAtLeastHoles}
+use Rattle.mr_concise.specs.inner.Source.{HasFewHoles, HasManyHoles}
 use Rattle.mr_concise.specs.Vector.{column_of, vector_has, IsVectorFrom, with_column, HasTooManyHoles}
-use Rattle.mr_concise.proofs.EdgeLemmas.{IsRising-end, is_on-before, edges_fewer}
 use Rattle.mr_concise.proofs.ColumnLemmas.{column_unique, column_has-edges}
 use Rattle.mr_concise.proofs.VectorLemmas.{column_of-with_column, IsVectorFrom-with_column}
 use Rattle.mr_concise.proofs.UnionLemmas.{column_has-empty, IsColumn-empty}

@@ -9,7 +9,8 @@ use Rattle.mr_version.specs.declared.version.TheConstants.{MAX_COUNTER}
 use Rattle.mr_concise.proofs.NameLemmas.{name_eq_parts}
 use Rattle.mr_concise.specs.Column.{Extent, column_has, with_counter, empty_column, gap}
 use Rattle.mr_concise.specs.declared.vector.AuthorColumn.{AuthorColumn}
-use Rattle.mr_concise.specs.Vector.{column_of, vector_has, IsVectorFrom, with_column, HasTooManyHoles, with_one}
+use Rattle.mr_concise.specs.Vector.{column_of, vector_has, IsVectorFrom, with_column, HasTooManyHoles}
+use Rattle.mr_concise.specs.inner.Vector.{with_one}
 use Rattle.mr_concise.proofs.ColumnLemmas.{column_unique}
 use Rattle.mr_concise.proofs.VectorLemmas.{column_of-with_column, column_of-at, set-with_column, IsVectorFrom-with_column}
 use Rattle.mr_concise.proofs.UnionLemmas.{column_of-IsColumn}

@@ -1,4 +1,4 @@
-use Rattle.std.specs.Prelude.{◌≡◌, ◌≤◌, ◌+◌, ◌-◌, ℕ, Bool, true, not, nat_lt, nat_le, ◌&&◌, if◌then◌else◌, List, [], ◌∷◌, ◌++◌, length, refl}
+use Rattle.std.specs.Prelude.{◌≤◌, ◌+◌, ◌-◌, ℕ, Bool, not, nat_lt, nat_le, ◌&&◌, if◌then◌else◌, List, [], ◌∷◌, ◌++◌, length, refl}
 use Rattle.std.specs.List.{list_any}
 use Rattle.std.specs.Coded.{Coded, code_by, coded×, coded_ℕ, coded_list}
 use Rattle.mr_version.specs.declared.version.TheConstants.{MAX_COUNTER}
@@ -24,10 +24,6 @@ extent_code = code_by (ℕ × List Hole) (coded× coded_ℕ (coded_list hole_cod
 -- the counters 1 to upto that are in no hole
 abbrev pub column_has : Extent → ℕ → Bool
 column_has column c = (nat_le 1 c && nat_le c column.upto) && not (list_any (λ hole. hole_has hole c) column.holes)
-
--- what the second column has is in the first
-abbrev pub ColumnCovers : Extent → Extent → Type 0
-ColumnCovers a b = (c : ℕ) → column_has b c ≡ true → column_has a c ≡ true
 
 -- where the holes begin and end
 abbrev pub hole_edges : List Hole → List ℕ
@@ -63,8 +59,3 @@ filled k (hole ∷ holes) =
 abbrev pub with_counter : Extent → ℕ → Extent
 with_counter column k =
     if nat_lt column.upto k then (record { upto = k; holes = column.holes ++ gap (column.upto + 1) (k - 1) }) else (record { upto = column.upto; holes = filled k column.holes })
-
--- the holes are apart
-pub record AreApart (holes : List Hole) : Type 0 where
-  pub end : ℕ
-  pub apart : IsRising 0 (hole_edges holes ++ end ∷ [])

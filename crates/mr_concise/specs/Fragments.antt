@@ -13,7 +13,7 @@ use Rattle.mr_concise.specs.Text.{vector_text}
 abbrev pub ConciseFragment : Type 0
 ConciseFragment = Fragment (List AuthorColumn)
 
--- the same items, with the concise vector of the same set
+-- the concise fragment has the items of the other one, and the concise vector of the same set
 pub record IsConciseOf {V : Type 0} (has : V → Versions) (fragment : Fragment V) (concise : ConciseFragment) : Type 0 where
   pub items : concise.items ≡ fragment.items
   pub vector : IsVectorOf (has fragment.vector) concise.vector

@@ -2,7 +2,6 @@ pub mod Edges
 pub mod Next
 pub mod Column
 pub mod Vector
-pub mod Runs
 pub mod Equal
 pub mod Last
 pub mod Source
@@ -13,3 +12,4 @@ pub mod Fragments
 pub mod Order
 pub mod Limits
 pub mod Rows
+pub mod inner

@@ -34,7 +34,7 @@ author_columns_total = then_total (on_total (λ x. x.author) nat_cmp_total) (on_
 pub vectors_total : IsTotalOrder vector_cmp
 vectors_total = lists_total author_columns_total
 
--- and tells apart what is not equal
+-- each order tells apart what is not equal
 pub holes_tied : (a b : Hole) → hole_eq a b ≡ eq_by_cmp hole_cmp a b
 holes_tied a b = both_tied _ _ (nat_cmp a.first b.first) (nat_cmp a.last b.last) (unsigned_ties a.first b.first) (unsigned_ties a.last b.last)
 

@@ -8,15 +8,16 @@ use Rattle.mr_forms.specs.declared.fragment.ItemSet.TheVariants.{All}
 use Rattle.mr_concise.specs.declared.column.Hole.{Hole}
 use Rattle.mr_concise.specs.declared.vector.AuthorColumn.{AuthorColumn}
 use Rattle.mr_concise.specs.AnyOf.{lower_of}
-use Rattle.mr_concise.specs.Edges.{is_on}
+use Rattle.mr_concise.specs.inner.Edges.{is_on}
 use Rattle.mr_concise.specs.Column.{Extent, column_has, edges, gap, empty_column, with_counter, IsColumn}
 use Rattle.mr_concise.specs.Equal.{vector_eq}
 use Rattle.mr_concise.specs.Fragments.{ConciseFragment, knowledge_text}
-use Rattle.mr_concise.specs.Next.{IsGapFrom}
+use Rattle.mr_concise.specs.inner.Next.{IsGapFrom}
 use Rattle.mr_concise.specs.Order.{vector_cmp}
 use Rattle.mr_concise.specs.Source.{HasFewerHoles, HasAtLeastHoles}
 use Rattle.mr_concise.specs.Text.{column_text, vector_text}
-use Rattle.mr_concise.specs.Vector.{column_of, vector_has, with_column, with_one, IsVectorFrom}
+use Rattle.mr_concise.specs.Vector.{column_of, vector_has, with_column, IsVectorFrom}
+use Rattle.mr_concise.specs.inner.Vector.{with_one}
 
 abbrev hole : ℕ → ℕ → Hole
 hole first last = record { first = first; last = last }

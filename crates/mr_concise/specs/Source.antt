@@ -2,7 +2,6 @@ use Rattle.std.specs.Prelude.{◌≡◌, ◌<◌, ◌≤◌, ℕ, Bool, false, l
 use Rattle.mr_forms.specs.Sets.{Versions}
 use Rattle.mr_forms.specs.Runs.{of_author}
 use Rattle.mr_version.specs.declared.version.TheConstants.{MAX_COUNTER}
-use Rattle.mr_concise.specs.declared.column.TheConstants.{MAX_HOLES}
 use Rattle.mr_concise.specs.Edges.{IsRising}
 use Rattle.mr_concise.specs.Column.{Extent, edges, column_has}
 
@@ -25,16 +24,6 @@ HasAtMostHoles has most = (column : Extent) → IsColumnOf has column → length
 -- no author's column of the set has more holes than that
 abbrev pub ColumnsHaveAtMost : Versions → ℕ → Type 0
 ColumnsHaveAtMost set most = (q : ℕ) → HasAtMostHoles (of_author set q) most
-
--- the column of these counters has no more holes than a column may have
-abbrev pub HasFewHoles : (ℕ → Bool) → Type 0
-HasFewHoles has = HasAtMostHoles has MAX_HOLES
-
--- the column of these counters has more
-pub record HasManyHoles (has : ℕ → Bool) : Type 0 where
-  pub column : Extent
-  pub is : IsColumnOf has column
-  pub many : MAX_HOLES < length column.holes
 
 -- the column of these counters has fewer holes than that
 pub record HasFewerHoles (has : ℕ → Bool) (limit : ℕ) : Type 0 where

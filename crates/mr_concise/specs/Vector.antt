@@ -1,11 +1,11 @@
-use Rattle.std.specs.Prelude.{◌≡◌, ◌<◌, ◌≤◌, ◌+◌, ℕ, ◌==◌, ◌&&◌, nat_lt, if◌then◌else◌, List, [], ◌∷◌, length, refl, All}
+use Rattle.std.specs.Prelude.{◌≡◌, ◌<◌, ◌≤◌, ◌+◌, ℕ, ◌==◌, nat_lt, if◌then◌else◌, List, [], ◌∷◌, length, refl}
 use Rattle.std.specs.Coded.{Coded, code_by, coded×, coded_ℕ}
 use Rattle.mr_forms.specs.Sets.{Versions, IsSame}
 use Rattle.mr_version.specs.declared.version.TheConstants.{MAX_COUNTER}
 use Rattle.mr_concise.specs.declared.vector.AuthorColumn.{AuthorColumn}
 use Rattle.mr_concise.specs.declared.column.TheConstants.{MAX_HOLES}
 use Rattle.mr_concise.specs.Edges.{IsRising}
-use Rattle.mr_concise.specs.Column.{Extent, extent_code, edges, column_has, empty_column, IsColumn, with_counter}
+use Rattle.mr_concise.specs.Column.{Extent, extent_code, edges, column_has, empty_column, IsColumn}
 use Rattle.mr_version.specs.declared.author.TheConstants.{AUTHORS}
 
 abbrev pub author_column_code : Coded AuthorColumn
@@ -44,24 +44,3 @@ pub record HasTooManyHoles (set : Versions) : Type 0 where
   pub in_range : column.upto ≤ MAX_COUNTER
   pub means : (c : ℕ) → column_has column c ≡ set (record { author = author; counter = c })
   pub many : MAX_HOLES < length column.holes
-
--- the author's column with one counter more
-abbrev pub with_one : List AuthorColumn → ℕ → ℕ → AuthorColumn
-with_one columns author counter = record { author = author; column = with_counter (column_of columns author) counter }
-
--- the author's versions that the column has
-abbrev pub in_column : ℕ → Extent → Versions
-in_column author column v = (v.author == author) && column_has column v.counter
-
--- one author's column alone
-abbrev pub single : ℕ → Extent → List AuthorColumn
-single author column = (record { author = author; column = column }) ∷ []
-
--- none is empty, and each is a column of an author
-abbrev pub AreColumns : List AuthorColumn → Type 0
-AreColumns xs = All (λ x. (1 ≤ x.column.upto) × IsColumn x.column × (x.author < AUTHORS)) xs
-
--- the columns with each of these in its author's place, one after the other
-abbrev pub with_columns : List AuthorColumn → List AuthorColumn → List AuthorColumn
-with_columns [] columns = columns
-with_columns (x ∷ xs) columns = with_columns xs (with_column x columns)

@@ -1,6 +1,6 @@
-ghost use Rattle.std.specs.Prelude.{◌≡◌, ◌≤◌, ◌<◌, ◌+◌, ◌-◌, ◌++◌, ◌↔◌, ℕ, Bool, true, false, not, nat_lt, if◌then◌else◌, List, [], ◌∷◌, length, IsTrue, IfOk, IfSome, IfNone, OnOk, OnErr, drop, slice_get, IsErrOf, Err, ◌≢◌};
-ghost use Rattle.std.specs.List.{list_any};
-ghost use Rattle.mr_concise.specs.Column.{Extent, hole_has, IsColumn, column_has, edges, hole_edges, empty_column, gap, with_counter};
+//! The counters of one author, as a bound with holes.
+ghost use Rattle.std.specs.Prelude.{◌≡◌, ◌≤◌, ◌<◌, ◌+◌, ◌-◌, ◌++◌, ◌↔◌, true, false, length, IfOk, OnOk, OnErr, IsErrOf, Err, ◌≢◌};
+ghost use Rattle.mr_concise.specs.Column.{Extent, IsColumn, column_has, empty_column, gap, with_counter};
 
 use crate::column_ref::ColumnRef;
 use crate::holes::{fill, filled_count};

@@ -1,7 +1,11 @@
-ghost use Rattle.std.specs.Prelude.{◌≡◌, ◌≤◌, ◌<◌, ◌+◌, ◌↔◌, ◌||◌, ℕ, true, false, length, MatchOption, IfOk, IfSome, IfNone, IsTrue};
-ghost use Rattle.mr_concise.specs.Column.{Extent, IsColumn, column_has, empty_column, ColumnCovers};
-ghost use Rattle.mr_concise.specs.Next.{IsNextOut, IsNextIn, HasNoneFrom, HasNoHoleFrom, IsHoleFrom, IsGapFrom};
-ghost use Rattle.mr_concise.specs.Source.{IsColumnOf, HasManyHoles};
+//! A column that is lent, and questions that go up along it.
+ghost use Rattle.std.specs.Prelude.{◌≡◌, ◌≤◌, ◌<◌, ◌+◌, ◌↔◌, ◌||◌, ℕ, true, false, MatchOption, IfOk, IfSome, IfNone, IsTrue};
+ghost use Rattle.mr_concise.specs.Column.{Extent, IsColumn, column_has, empty_column};
+ghost use Rattle.mr_concise.specs.inner.Column.{ColumnCovers};
+ghost use Rattle.mr_concise.specs.Next.{IsNextOut, IsNextIn, HasNoneFrom};
+ghost use Rattle.mr_concise.specs.inner.Next.{HasNoHoleFrom, IsHoleFrom, IsGapFrom};
+ghost use Rattle.mr_concise.specs.Source.{IsColumnOf};
+ghost use Rattle.mr_concise.specs.inner.Source.{HasManyHoles};
 
 use crate::column::{COUNTERS_END, Column, Hole, MAX_HOLES};
 use crate::holes::hole_place_near;

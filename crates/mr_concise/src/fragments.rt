@@ -1,9 +1,10 @@
+//! Vectors of any set, and knowledge as fragments with concise vectors.
 ghost use Rattle.std.specs.Prelude.{◌≡◌, ◌<◌, ◌≢◌, ◌↔◌, true, AllPairs, Some, All, IfOk, IfSome, OnOk, IsErrOf, Err, string_bytes};
 ghost use Rattle.std.specs.List.{AllZip, Any};
 ghost use Rattle.mr_forms.specs.Sets.{IsSame};
 ghost use Rattle.mr_forms.specs.Runs.{in_runs, with_run, StandsBefore};
 ghost use Rattle.mr_concise.specs.Vector.{column_of, vector_has, IsVectorFrom, IsVectorOf, HasTooManyHoles};
-ghost use Rattle.mr_concise.specs.Fragments.{IsConciseOf, IsTooHoley, items_text, fragment_text, knowledge_text};
+ghost use Rattle.mr_concise.specs.Fragments.{IsConciseOf, IsTooHoley, items_text, knowledge_text};
 
 use crate::column::Column;
 use crate::source::OfSet;

@@ -1,10 +1,10 @@
 //! What every set of versions does.
-ghost use Rattle.std.specs.Prelude.{◌≡◌, ◌≤◌, ◌<◌, ◌-◌, ◌↔◌, ◌≢◌, false, IsTrue, IfOk, OnOk, OnErr, IsErrOf, Err, [], ◌∷◌, ◌+◌, ℕ, length};
-ghost use Rattle.mr_forms.specs.Sets.{Versions, IsSame, both, with_version, Covers};
-ghost use Rattle.mr_forms.specs.Runs.{with_run, AreRunsOf, HasVersionsAlone, HasNoAuthorFrom, IsNextAuthor, HasNoRunFrom, IsRunFrom};
-ghost use Rattle.mr_concise.specs.Column.{Extent, empty_column, with_counter, IsColumn};
-ghost use Rattle.mr_concise.specs.Vector.{vector_has, IsVectorFrom, HasTooManyHoles, column_of, with_column, with_one};
-ghost use Rattle.mr_concise.specs.Runs.{EndBefore, AddsRuns};
+ghost use Rattle.std.specs.Prelude.{◌≡◌, ◌≤◌, ◌<◌, ◌-◌, ◌↔◌, ◌≢◌, false, OnOk, OnErr, IsErrOf, Err, [], ◌+◌, length};
+ghost use Rattle.mr_forms.specs.Sets.{IsSame};
+ghost use Rattle.mr_concise.specs.Column.{IsColumn};
+ghost use Rattle.mr_concise.specs.Vector.{vector_has, IsVectorFrom, HasTooManyHoles, with_column};
+ghost use Rattle.mr_concise.specs.inner.Vector.{with_one};
+ghost use Rattle.mr_concise.specs.inner.Runs.{EndBefore, AddsRuns};
 
 use crate::column::{Column, MAX_HOLES};
 use crate::union::{covers_columns, unite_columns, unite_run};

@@ -1,12 +1,14 @@
 //! What a vector can be gathered of: vectors, runs, sets in other forms, and several sources in one.
 ghost use Rattle.std.specs.Prelude.{◌≡◌, ◌≤◌, MatchOption, IfSome, false};
 ghost use Rattle.mr_forms.specs.Sets.{Versions, both};
-ghost use Rattle.mr_forms.specs.Runs.{of_author, HasNoneOf, HasNoAuthorFrom, IsNextAuthor, in_run};
+ghost use Rattle.mr_forms.specs.Runs.{of_author, HasNoAuthorFrom, IsNextAuthor, in_run};
 ghost use Rattle.mr_concise.specs.Next.{IsNextOut, IsNextIn, HasNoneFrom};
-ghost use Rattle.mr_concise.specs.AnyOf.{in_any, lower_of, IsPassed};
+ghost use Rattle.mr_concise.specs.AnyOf.{in_any, lower_of};
+ghost use Rattle.mr_concise.specs.inner.AnyOf.{IsPassed};
 ghost use Rattle.mr_concise.specs.Source.{in_some};
 ghost use Rattle.mr_version.specs.Name.{name_eq};
-ghost use Rattle.mr_concise.specs.Vector.{vector_has, in_column};
+ghost use Rattle.mr_concise.specs.Vector.{vector_has};
+ghost use Rattle.mr_concise.specs.inner.Vector.{in_column};
 
 use crate::column::COUNTERS_END;
 use crate::column_ref::ColumnRef;

@@ -1,11 +1,13 @@
 //! Vectors gathered of sources.
-ghost use Rattle.std.specs.Prelude.{◌≡◌, ◌≤◌, ◌<◌, ◌↔◌, ◌≢◌, ℕ, true, false, IsTrue, IfOk, IsErrOf, Err, length, OnOk};
+ghost use Rattle.std.specs.Prelude.{◌≡◌, ◌≤◌, ◌<◌, ◌↔◌, ◌≢◌, ℕ, true, false, IsTrue, IfOk, IsErrOf, Err, OnOk};
 ghost use Rattle.mr_forms.specs.Sets.{IsSame, is_listed};
-ghost use Rattle.mr_concise.specs.Column.{Extent, column_has, IsColumn};
+ghost use Rattle.mr_concise.specs.Column.{IsColumn};
 ghost use Rattle.mr_forms.specs.Runs.{of_author};
-ghost use Rattle.mr_concise.specs.Source.{IsColumnOf, HasHoles, HasFewHoles, HasManyHoles, HasFewerHoles, HasAtLeastHoles, ColumnsHaveAtMost};
-ghost use Rattle.mr_concise.specs.Vector.{vector_has, column_of, IsVectorFrom, IsVectorOf, HasTooManyHoles};
-ghost use Rattle.mr_concise.specs.Meet.{in_both, meet_has};
+ghost use Rattle.mr_concise.specs.Source.{IsColumnOf, HasHoles, HasFewerHoles, HasAtLeastHoles, ColumnsHaveAtMost};
+ghost use Rattle.mr_concise.specs.inner.Source.{HasFewHoles, HasManyHoles};
+ghost use Rattle.mr_concise.specs.Vector.{vector_has, IsVectorFrom, IsVectorOf, HasTooManyHoles};
+ghost use Rattle.mr_concise.specs.Meet.{in_both};
+ghost use Rattle.mr_concise.specs.inner.Meet.{meet_has};
 
 use crate::column::{Column, Hole, MAX_HOLES};
 use crate::source::{AnyOf, Source};

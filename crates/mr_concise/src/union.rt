@@ -1,9 +1,11 @@
-ghost use Rattle.std.specs.Prelude.{◌≡◌, ◌≤◌, ◌<◌, ◌+◌, ◌↔◌, ◌≢◌, ℕ, true, false, IsTrue, IfOk, IfSome, IfNone, OnOk, OnErr, IsErrOf, Err, length};
+//! The union of two vectors, in the first of them.
+ghost use Rattle.std.specs.Prelude.{◌≡◌, ◌≤◌, ◌<◌, ◌+◌, ◌↔◌, ◌≢◌, true, false, IsTrue, IfOk, IfSome, IfNone, OnOk, OnErr, IsErrOf, Err};
 ghost use Rattle.std.specs.Vec.{vec_len, vec_capacity};
 ghost use Rattle.mr_forms.specs.Sets.{both, Covers, IsSame};
 ghost use Rattle.mr_forms.specs.Runs.{of_author, with_run};
 ghost use Rattle.mr_concise.specs.Source.{HasFewerHoles, HasAtLeastHoles};
-ghost use Rattle.mr_concise.specs.Vector.{column_of, vector_has, IsVectorFrom, HasTooManyHoles, AreColumns, with_columns, with_column};
+ghost use Rattle.mr_concise.specs.Vector.{column_of, vector_has, IsVectorFrom, HasTooManyHoles, with_column};
+ghost use Rattle.mr_concise.specs.inner.Vector.{AreColumns, with_columns};
 
 use crate::source::OneColumn;
 use crate::sweep::{gathered_column, has_fewer_holes, has_many_holes};

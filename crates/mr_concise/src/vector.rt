@@ -1,9 +1,8 @@
 //! The vector, its columns and its text.
-ghost use Rattle.std.specs.Prelude.{◌≡◌, ◌≤◌, ◌+◌, ◌<◌, ℕ, true, false, nat_lt, length, IfOk, OnOk, OnErr, MatchOption, Some, string_bytes};
+ghost use Rattle.std.specs.Prelude.{◌≡◌, ◌≤◌, ◌<◌, true, false, nat_lt, length, IfOk, OnOk, OnErr, MatchOption, Some, string_bytes};
 ghost use Rattle.mr_concise.specs.Last.{IsLast};
 ghost use Rattle.mr_forms.specs.Runs.{HasNoneOf, HasNoAuthorFrom, IsNextAuthor};
 ghost use Rattle.std.specs.List.Sorted.{IsPartitionPoint};
-ghost use Rattle.mr_concise.specs.Column.{Extent, empty_column};
 ghost use Rattle.mr_concise.specs.Vector.{column_of, vector_has, IsVectorFrom, with_column};
 ghost use Rattle.mr_concise.specs.Text.{hole_text, column_text, vector_text};
 

@@ -16,7 +16,8 @@ use Rattle.mr_replica.specs.declared.event.Event.{Event}
 use Rattle.mr_replica.proofs.Replaying.{refused_same}
 use Rattle.mr_replica.specs.declared.event.Reply.{Reply}
 use Rattle.mr_desk.specs.declared.call.Call.{Call}
-use Rattle.mr_desk.specs.Kept.{Gives, KeptAnswers, KeptMerges, KeptTells, Refuses, TakesMeant, inside, told_where}
+use Rattle.mr_desk.specs.Kept.{Gives, KeptAnswers, KeptMerges, Refuses, TakesMeant, inside}
+use Rattle.mr_desk.specs.inner.Kept.{KeptTells, told_where}
 use Rattle.mr_desk.specs.Merge.{IsMergeIn, merge_fault_in}
 use Rattle.mr_desk.specs.Notes.{KeptTakesNote, note_of}
 use Rattle.mr_desk.specs.declared.call.VersionNumbers.{VersionNumbers}

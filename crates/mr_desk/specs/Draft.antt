@@ -1,7 +1,6 @@
 -- what a draft's bytes say
-use Rattle.std.specs.Prelude.{◌≡◌, ◌==◌, ◌&&◌, not, ℕ, List, [], ◌∷◌, Option, Some, None, if◌then◌else◌}
+use Rattle.std.specs.Prelude.{◌≡◌, ◌==◌, ◌&&◌, not, ℕ, List, [], ◌∷◌, Option, Some, if◌then◌else◌}
 use Rattle.std.specs.Option.{option_map}
-use Rattle.std.specs.Borrow.{Bor}
 use Rattle.std.specs.List.{slice_split}
 use Rattle.std.specs.Str.{is_utf8}
 use Rattle.mr_mail.specs.Mail.{Mail}
@@ -15,11 +14,6 @@ use Rattle.mr_desk.specs.Fault.{of_message}
 -- the parts of a text between its commas
 abbrev pub parts_of : List ℕ → List (List ℕ)
 parts_of text = slice_split (λ b. b == 44) text
-
--- the parts of what is left of it
-abbrev pub parts_left : Option (Bor (List ℕ)) → List (List ℕ)
-parts_left None = []
-parts_left (Some rest) = parts_of rest.now
 
 -- the labels of a text: its parts between commas, and none of an empty one
 abbrev pub labels_of : List ℕ → List (List ℕ)

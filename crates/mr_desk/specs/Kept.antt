@@ -25,11 +25,6 @@ use Rattle.mr_desk.specs.declared.fault.Fault.TheVariants as fault
 use Rattle.mr_desk.specs.declared.reply.Told.{Told}
 use Rattle.mr_desk.specs.declared.reply.Told.TheVariants as told
 
--- what is told, where the event was admitted
-abbrev pub told_where : {X : Type 0} → (X → Told) → Result X KeptFault → Result Told KeptFault
-told_where tells (Ok x) = Ok (tells x)
-told_where tells (Err e) = Err e
-
 -- A reply that shows a version or gives a frame is held back, behind those that are, and nothing is told. Another is told at once.
 abbrev pub Gives : Event → Reply → Told → (old new : List Reply) → Type 0
 Gives (Create message) reply t old new = (t ≡ told.Done) × (new ≡ old ++ reply ∷ [])
@@ -69,11 +64,6 @@ module _ {V : Type 0} where
   Refuses h event kept.Failed = IsTrue (has_failed (journal_of (journaled_of h)))
   Refuses h event kept.TooLarge = (has_failed (journal_of (journaled_of h)) ≡ false) × (MAX_REST_BYTES < length (rest_bytes event))
   Refuses h event kept.OutOfMemory = Unit {0}
-
-  -- an event is taken, or why it isn't; then all stays
-  abbrev pub KeptTells : Hosted Normal V → Event → Result Told KeptFault → Hosted Normal V → Type 0
-  KeptTells old event (Ok t) new = Goes old event t new
-  KeptTells old event (Err e) new = Refuses old event e × Stays old new
 
   -- An event that is meant is taken, where nothing is wrong. Else, or where it isn't taken, all stays.
   module _ (wrong : Option Fault) (IsMeant : Event → Type 0) where

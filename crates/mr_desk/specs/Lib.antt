@@ -16,3 +16,4 @@ pub mod Rows
 pub mod Serves
 pub mod Told
 pub mod Version
+pub mod inner

@@ -30,13 +30,6 @@ pub record StopsIn (bytes : List ℕ) (fault : EventFault) : Type 0 where
   pub all : bytes ≡ before ++ rest
   pub stops : event_decoded rest ≡ Err fault
 
--- the events of the bytes, or the fault of the first that is none; memory may run out before it is known
-abbrev pub ReadsLog : List ℕ → Result (Vec Event) Fault → Type 0
-ReadsLog bytes (Ok events) = SpellsLog events.items bytes
-ReadsLog bytes (Err OutOfMemory) = Unit {0}
-ReadsLog bytes (Err (OfEvent fault)) = StopsIn bytes fault
-ReadsLog bytes (Err fault) = ⊥
-
 -- The event's bytes, or that they are too many. Memory runs out only where they aren't.
 abbrev pub GivesBytes : Event → Result (Vec ℕ) Fault → Type 0
 GivesBytes e (Ok bytes) = SpellsEvent e bytes.items

@@ -1,5 +1,5 @@
 -- what the heads of an item say together, and the edit that makes one of them
-use Rattle.std.specs.Prelude.{◌≡◌, ◌<◌, ◌≤◌, ◌&&◌, Bool, not, nat_lt, if◌then◌else◌, IsTrue, IfSome, List, [], ◌∷◌, length, map, filter, fold, slice_get, Option, Some, None, Result, Ok, Err}
+use Rattle.std.specs.Prelude.{◌≡◌, ◌&&◌, Bool, not, nat_lt, if◌then◌else◌, List, [], ◌∷◌, length, map, filter, fold, Option, Some, None}
 use Rattle.std.specs.List.{list_all}
 use Rattle.std.specs.Option.{option_map}
 use Rattle.mr_version.specs.Name.{Name, name_eq}
@@ -12,8 +12,7 @@ use Rattle.mr_store.specs.Revisions.{is_of, version_of}
 use Rattle.mr_maildir.specs.View.{ViewParts}
 use Rattle.mr_maildir.specs.Merging.{merged_view, over, differ}
 use Rattle.mr_maildir.specs.Policy.{have_one_content, view_of}
-use Rattle.mr_maildir.specs.declared.policy.MergeFault.{MergeFault}
-use Rattle.mr_maildir.specs.declared.policy.MergeFault.TheVariants.{OutOfMemory, ContentsDiffer, TooManyLabels}
+use Rattle.mr_maildir.specs.declared.policy.MergeFault.TheVariants.{ContentsDiffer, TooManyLabels}
 use Rattle.mr_itemset.specs.Normal.{Normal}
 use Rattle.mr_replica.specs.Refusal.{◌orelse◌}
 use Rattle.mr_replica.specs.State.{State}
@@ -64,15 +63,6 @@ unmerged card messages =
     else (if not (differ (map view_of messages)) then Some NoConflict
     else None))
 
--- the place that they have together, or why they have none
-abbrev pub PlacesTogether : Option MailCard → List Mail → Result MailCard MergeFault → Type 0
-PlacesTogether card messages (Ok place) =
-    let view = said_together card messages in
-    IsTrue (have_one_content messages) × (length view.labels ≤ MAX_LABELS) × (place.labels ≡ view.labels) × (place.flags ≡ view.flags) × IfSome (slice_get messages 0) (λ first. place.day ≡ first.day)
-PlacesTogether card messages (Err OutOfMemory) = Unit {0}
-PlacesTogether card messages (Err ContentsDiffer) = IsTrue (not (have_one_content messages))
-PlacesTogether card messages (Err TooManyLabels) = IsTrue (have_one_content messages) × (MAX_LABELS < length (said_together card messages).labels)
-
 -- the message that they are together: the first of them, where they are one but for labels and flags
 abbrev pub IsTogether : Option MailCard → List Mail → Mail → Type 0
 IsTogether card [] mail = ⊥
@@ -88,14 +78,14 @@ abbrev pub IsEditOver : List Rev → List Entry → Event → Type 0
 IsEditOver heads feed (event.Edit bases message) = (bases ≡ map version_of heads) × IsTogether (last_under heads feed) (said_by heads) message
 IsEditOver heads feed e = ⊥
 
--- the same of all heads of an item
+-- why the heads of an item are not merged
 abbrev pub merge_fault : List Rev → List Entry → Name → Option Fault
 merge_fault heads feed item = edit_fault_over (heads_of item heads) feed
 
 abbrev pub IsMergeOf : List Rev → List Entry → Name → Event → Type 0
 IsMergeOf heads feed item e = IsEditOver (heads_of item heads) feed e
 
--- the same of a replica, for an item that is named by its numbers: first these
+-- why a replica does not merge the heads of an item that is named by its numbers: first what is wrong with these
 abbrev pub merge_fault_in : State Normal → VersionNumbers → Option Fault
 merge_fault_in s item = option_map Version (version_fault item) orelse merge_fault s.heads s.feed (named_by item)
 

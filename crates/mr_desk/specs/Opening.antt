@@ -23,14 +23,6 @@ pub record MeansFilter (text : List ℕ) (filter : List ClauseParts) : Type 0 wh
   pub is_text : is_utf8 text ≡ true
   pub read : Reads text filter
 
--- the filter that bytes mean, or why they mean none; memory is wanting only where there is no other fault
-abbrev pub ReadsFilter : List ℕ → Result (List ClauseParts) Fault → Type 0
-ReadsFilter text (Ok filter) = MeansFilter text filter
-ReadsFilter text (Err fault.OutOfMemory) = is_utf8 text ≡ true
-ReadsFilter text (Err fault.NotText) = is_utf8 text ≡ false
-ReadsFilter text (Err (fault.Filter f)) = (is_utf8 text ≡ true) × IsFaultOf text f
-ReadsFilter text (Err f) = ⊥
-
 -- an event limit
 abbrev pub IsLimit : ℕ → Type 0
 IsLimit limit = (1 ≤ limit) × (limit ≤ MAX_EVENTS)

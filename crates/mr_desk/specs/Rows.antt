@@ -1,6 +1,6 @@
 -- worked rows: what the definitions give for small values
 use Rattle.std.specs.Prelude.{◌≡◌, ◌++◌, ℕ, List, [], ◌∷◌, Some, None, Ok, Err, codes, refl}
-use Rattle.mr_wire.specs.FrameParts.{descent_with}
+use Rattle.mr_wire.specs.inner.FrameParts.{descent_with}
 use Rattle.mr_wire.specs.FrameSpelling.{frame_bytes}
 use Rattle.mr_wire.specs.Reading.{run_at}
 use Rattle.mr_wire.specs.declared.fault.WireFault.TheVariants as wire

@@ -1,7 +1,8 @@
 //! A replica whose host writes, behind the same calls as a desk.
 ghost use Rattle.std.specs.Prelude.{◌≡◌};
 ghost use Rattle.mr_replica.specs.Methods.{received_reply};
-ghost use Rattle.mr_desk.specs.Kept.{KeptAnswers, KeptMerges, KeptTells, told_where};
+ghost use Rattle.mr_desk.specs.Kept.{KeptAnswers, KeptMerges};
+ghost use Rattle.mr_desk.specs.inner.Kept.{KeptTells, told_where};
 ghost use Rattle.mr_desk.specs.KeptCommit.{KeptCommits};
 ghost use Rattle.mr_desk.specs.Told.{told_by};
 ghost use Rattle.mr_desk.specs.declared.reply.Told.TheVariants as told;

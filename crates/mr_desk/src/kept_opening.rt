@@ -1,5 +1,5 @@
 //! How a replica whose host writes comes to be: begun in an empty file, or brought back from one.
-ghost use Rattle.std.specs.Prelude.{◌≡◌, ◌≢◌, length, MatchResult, MatchOption};
+ghost use Rattle.std.specs.Prelude.{◌≡◌, ◌≢◌, length, MatchResult};
 ghost use Rattle.mr_desk.specs.KeptOpening.{BeginsKept, IsBirth, OpensKept, given};
 ghost use Rattle.mr_desk.specs.declared.fault.Fault.TheVariants.{BadLength};
 

@@ -1,7 +1,8 @@
 //! The labels of a draft: the parts of a text between its commas.
 ghost use Rattle.std.specs.Prelude.{◌≡◌, [], ◌∷◌, IfOk, MatchOption};
 ghost use Rattle.mr_mail.specs.Label.{texts_of};
-ghost use Rattle.mr_desk.specs.Draft.{labels_of, parts_of, parts_left};
+ghost use Rattle.mr_desk.specs.Draft.{labels_of, parts_of};
+ghost use Rattle.mr_desk.specs.inner.Draft.{parts_left};
 
 use std::alloc::{AllocError, Global};
 use std::marker::Model;
@@ -14,7 +15,7 @@ struct Parts<'a> {
 
 impl<'a> Model for Parts<'a> {
     ghost use Rattle.std.specs.Prelude.{ℕ, List};
-    ghost use Rattle.mr_desk.specs.Draft.{parts_left};
+    ghost use Rattle.mr_desk.specs.inner.Draft.{parts_left};
 
     ghost Value = { List (List ℕ) };
 

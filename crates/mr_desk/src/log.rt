@@ -1,5 +1,6 @@
 //! Events as bytes, and logs as the bytes of their events.
-ghost use Rattle.mr_desk.specs.Log.{ReadsLog, GivesBytes};
+ghost use Rattle.mr_desk.specs.Log.{GivesBytes};
+ghost use Rattle.mr_desk.specs.inner.Log.{ReadsLog};
 
 use crate::fault::Fault;
 use mr_entry::event::{decode_event, encode_event};

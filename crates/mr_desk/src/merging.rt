@@ -6,7 +6,8 @@ ghost use Rattle.mr_maildir.specs.Policy.{view_of};
 ghost use Rattle.mr_mail.specs.Mail.{mail_with};
 ghost use Rattle.mr_store.specs.Revisions.{version_of};
 ghost use Rattle.mr_desk.specs.Fault.{Reads};
-ghost use Rattle.mr_desk.specs.Merge.{IsEditOver, IsMergeIn, IsMergeOf, IsTogether, PlacesTogether, edit_fault_over, merge_fault, merge_fault_in, said_by, unmerged};
+ghost use Rattle.mr_desk.specs.Merge.{IsEditOver, IsMergeIn, IsMergeOf, IsTogether, edit_fault_over, merge_fault, merge_fault_in, said_by, unmerged};
+ghost use Rattle.mr_desk.specs.inner.Merge.{PlacesTogether};
 ghost use Rattle.mr_desk.specs.Merge as specs;
 
 use crate::ancestor::last_under;

@@ -1,6 +1,6 @@
 //! How a desk comes to be.
-ghost use Rattle.std.specs.Prelude.{◌≡◌};
-ghost use Rattle.mr_desk.specs.Opening.{Opens, ReadsFilter};
+ghost use Rattle.mr_desk.specs.Opening.{Opens};
+ghost use Rattle.mr_desk.specs.inner.Opening.{ReadsFilter};
 
 use crate::desk::Desk;
 use crate::draft::text_of;

@@ -11,3 +11,4 @@ pub mod SheetView
 pub mod Sheet
 pub mod Picture
 pub mod Rows
+pub mod inner

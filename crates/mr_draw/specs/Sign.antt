@@ -1,5 +1,5 @@
 -- what a mark has to be of a happening
-use Rattle.std.specs.Prelude.{◌≡◌, ℕ, ◌+◌, List, [], ◌∷◌}
+use Rattle.std.specs.Prelude.{ℕ, ◌+◌, List, [], ◌∷◌}
 use Rattle.mr_draw.specs.MarkView.{MarkView}
 use Rattle.mr_draw.specs.Happened.{Happened}
 use Rattle.mr_draw.specs.declared.happening.Kind.{Kind}
@@ -53,6 +53,3 @@ sign_at row h = record { row = row; lane = h.lane; other_lane = other_lane_of h;
 abbrev pub signs_from : ℕ → List Happened → List Sign
 signs_from n [] = []
 signs_from n (h ∷ hs) = sign_at n h ∷ signs_from (n + 1) hs
-
-abbrev pub IsMarkOf : ℕ → Happened → MarkView → Type 0
-IsMarkOf row h m = sign_of m ≡ sign_at row h

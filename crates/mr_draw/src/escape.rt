@@ -1,6 +1,5 @@
 //! Texts that were given, as they may stand in an SVG.
 ghost use Rattle.std.specs.Prelude.{◌≡◌, ◌++◌, OnOk, string_bytes};
-ghost use Rattle.std.specs.Str.{chars};
 ghost use Rattle.mr_draw.specs.Escape.{entity, escaped};
 
 use std::alloc::AllocError;

@@ -1,13 +1,13 @@
 //! The marks of a world's history.
 ghost use Rattle.std.specs.Prelude.{◌≡◌, ◌≤◌, ◌<◌, IfOk, length, map};
-ghost use Rattle.mr_draw.specs.Sign.{IsMarkOf, other_lane_of, plain, shape_of, sign_of, signs_from};
+ghost use Rattle.mr_draw.specs.Sign.{other_lane_of, plain, shape_of, sign_of, signs_from};
+ghost use Rattle.mr_draw.specs.inner.Sign.{IsMarkOf};
 
 use crate::ends::{last_row_of_band, last_row_of_push_out};
 use crate::happening::{Happening, Kind};
 use crate::mark::{Look, Mark, Shape};
 use crate::title::{label_of, title_of};
 use mr_forms::Knowledge;
-use mr_replica::Replica;
 use mr_version::{Author, Version};
 use mr_world::{Act, Event, World};
 use std::alloc::{AllocError, Global};

@@ -1,5 +1,5 @@
 //! The text of a picture.
-ghost use Rattle.std.specs.Prelude.{◌≡◌, ◌++◌, ◌≤◌, ◌<◌, ◌^◌, IfOk, OnOk, length, string_bytes};
+ghost use Rattle.std.specs.Prelude.{◌≡◌, ◌++◌, ◌≤◌, ◌<◌, IfOk, OnOk, length, string_bytes};
 ghost use Rattle.std.specs.List.{flat_map};
 ghost use Rattle.mr_draw.specs.Sheet.{blank_text, fault_at, fault_text, filter_at, foot_text, heading_text, left_out_text, legend_at, legend_text, name_at, name_y, named_text, opening_of, parts_text, sheet_text, size_text, title_text, width_of};
 

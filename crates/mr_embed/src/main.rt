@@ -41,7 +41,7 @@ use fault::Fault;
 use hello::greet;
 use laws::cite_laws;
 use mail::Draft;
-use mr_replica::{Replica, alike_are_one};
+use mr_replica::alike_are_one;
 use mr_version::{ItemId, Version};
 use retirement::{hand_over, tell_whether_it_retires};
 use screen::Screen;
@@ -74,6 +74,7 @@ fn main(rt: HostRuntime) -> ExitCode {
     match told {
         Ok(()) => ExitCode::SUCCESS,
         Err(fault) => {
+            // a fault that can't be told is lost
             let _ = eprintln!(rt; "{fault}");
             ExitCode::FAILURE
         }
@@ -83,6 +84,7 @@ fn main(rt: HostRuntime) -> ExitCode {
 /// Removes what an earlier run left.
 fn remove_files<R: Files<File = File>>(rt: &R) {
     for name in [OFFICE, PHONE, OLD_OFFICE] {
+        // there may be none
         let _ = fs::remove_file(rt, name);
     }
 }

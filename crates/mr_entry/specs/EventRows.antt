@@ -5,7 +5,7 @@ use Rattle.mr_mail.specs.Mail.{Mail}
 use Rattle.mr_wire.specs.declared.frame.Body.TheVariants.{End}
 use Rattle.mr_wire.specs.declared.frame.Frame.{Frame}
 use Rattle.mr_wire.specs.declared.frame.Frame.TheVariants as frame
-use Rattle.mr_wire.specs.FrameParts.{descent_with}
+use Rattle.mr_wire.specs.inner.FrameParts.{descent_with}
 use Rattle.mr_wire.specs.Reading.{run_at}
 use Rattle.mr_replica.specs.declared.event.Event.{Event}
 use Rattle.mr_replica.specs.declared.event.Event.TheVariants.{Create, Edit, Retire, Pull, Receive, CutIn, Answer, Next, CutOut, Vouch, Release}

@@ -5,8 +5,8 @@ pub mod Spelling
 pub mod Grammar
 pub mod Parts
 pub mod Decoding
-pub mod Seen
 pub mod Encoding
 pub mod Events
 pub mod EventRows
 pub mod Rows
+pub mod inner

@@ -3,7 +3,7 @@ ghost use Rattle.std.specs.Prelude.{◌≡◌, ◌≤◌, ◌++◌, ℕ, List, I
 ghost use Rattle.mr_entry.specs.declared.entry.Entry.{Entry};
 ghost use Rattle.mr_entry.specs.Decoding.{Answers, decoded, entry_read, event_read, head_read, nexts_read, note_read, parts_read};
 ghost use Rattle.mr_entry.specs.Grammar.{Spells};
-ghost use Rattle.mr_entry.specs.Seen.{leaving};
+ghost use Rattle.mr_entry.specs.inner.Seen.{leaving};
 
 use crate::entry::Entry;
 use crate::event::event_in;

@@ -68,6 +68,7 @@ fn put_note(out: &mut Vec<u8>, note: &Note) -> Result<(), AllocError>
 pub fn encode_head(alloc: Global, head: &Head) -> Result<Vec<u8>, EntryFault>
     ensures { Encodes (entry.Head head.now) result }
 {
+    // the parts of a head are in their ranges
     let _id = head.id();
     if head.filter().len() > u32::MAX as usize {
         return Err(EntryFault::TooLong);
@@ -109,6 +110,7 @@ pub fn encode_nexts(alloc: Global, stream: u64, count: u32) -> Result<Vec<u8>, E
 pub fn encode_note(alloc: Global, note: &Note) -> Result<Vec<u8>, EntryFault>
     ensures { Encodes (entry.Note note.now) result }
 {
+    // a note's kind is in its range
     let _kind = note.kind();
     if note.bytes().len() > u32::MAX as usize {
         return Err(EntryFault::TooLong);

@@ -41,6 +41,7 @@ impl Head {
     pub fn new(id: Author, event_limit: u32, birth: Birth, mark: Mark, filter: String) -> Head
         ensures { result ≡ record { id = id; event_limit = event_limit; birth = birth; mark = mark; filter = string_bytes filter } }
     {
+        // the id is below 64, and the filter is a text
         let _id = id.id();
         let _text = filter.as_str();
         Head {

@@ -6,7 +6,7 @@ ghost use Rattle.std.specs.Str.{is_utf8};
 ghost use Rattle.mr_wire.specs.Parts.{author_at};
 ghost use Rattle.mr_wire.specs.Reading.{Gives, bytes_at, number_at};
 ghost use Rattle.mr_entry.specs.Parts.{counted_bytes_at, filter_text_at, head_at};
-ghost use Rattle.mr_entry.specs.Seen.{head_seen};
+ghost use Rattle.mr_entry.specs.inner.Seen.{head_seen};
 
 use crate::head::{Birth, Mark};
 use mr_version::Author;

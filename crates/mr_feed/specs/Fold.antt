@@ -1,7 +1,6 @@
 -- what the fold of a feed's entries has
 use Rattle.std.specs.Prelude.{◌≡◌, if◌then◌else◌, List, [], ◌∷◌, ◌++◌, Some, None, refl}
 use Rattle.std.specs.Option.{is_some}
-use Rattle.mr_version.specs.Name.{Name}
 pub use Rattle.mr_version.specs.Sets.{is_listed}
 use Rattle.mr_mail.specs.Mail.{MailCard}
 use Rattle.mr_version.specs.Sets.{Versions}

@@ -6,3 +6,4 @@ pub mod PortFault
 pub mod PlainPort
 pub mod Limits
 pub mod Rows
+pub mod inner

@@ -9,7 +9,7 @@ use Rattle.mr_mail.specs.Flag.{bit_of}
 use Rattle.mr_mail.specs.Label.{text_cmp, different_labels, AreLabelsOf}
 use Rattle.mr_filter.specs.Filter.{ClauseParts, IsClause}
 use Rattle.mr_filter.specs.Condition.{HasLabel, LacksLabel, HasFlag, LacksFlag, Since}
-use Rattle.mr_filter.specs.Draft.{IsWithCondition, label_count_with}
+use Rattle.mr_filter.specs.inner.Draft.{IsWithCondition, label_count_with}
 use Rattle.mr_filter.proofs.PlaceLemmas.{different_labels-rising}
 use Rattle.mr_filter.specs.declared.clause.TheConstants.{MAX_CLAUSE_LABELS}
 

@@ -11,7 +11,7 @@ use Rattle.std.proofs.lemmas.List.Folds.{list_any-append}
 use Rattle.mr_mail.specs.Label.{text_eq, different_labels, AreLabelsOf}
 use Rattle.mr_filter.specs.Filter.{ClauseParts, IsClause, IsFilter}
 use Rattle.mr_filter.specs.Condition.{Condition, SpellsCondition, Combines, label_count, wanted_label, barred_label, wanted_labels, barred_labels, bit_on, bit_off}
-use Rattle.mr_filter.specs.Draft.{IsWithCondition, label_count_with, no_condition}
+use Rattle.mr_filter.specs.inner.Draft.{IsWithCondition, label_count_with, no_condition}
 use Rattle.mr_filter.specs.Grammar.{pieces_of, clauses_of, IsCondition, IsClauseInGrammar, ReadsClause, NamesTooMany}
 use Rattle.mr_filter.proofs.CombineLemmas.{all_bits-append, latest_day-append}
 use Rattle.mr_filter.proofs.CountLemmas.{different_labels-le}

@@ -13,7 +13,8 @@ use Rattle.mr_mail.specs.Flag.{all_flags, flag_name, has_flag}
 use Rattle.mr_mail.specs.Label.{texts_of, is_label}
 use Rattle.mr_filter.specs.Filter.{ClauseParts, IsClause}
 use Rattle.mr_filter.specs.Condition.{HasLabel, LacksLabel, HasFlag, LacksFlag, Since, SpellsCondition}
-use Rattle.mr_filter.specs.Text.{IsClauseText, since_condition, SpellsMore, join_or}
+use Rattle.mr_filter.specs.Text.{IsClauseText, since_condition, join_or}
+use Rattle.mr_filter.specs.inner.Text.{SpellsMore}
 use Rattle.mr_filter.proofs.ZipLemmas.{AllZip-append}
 
 -- a loop's step: one more text at the end

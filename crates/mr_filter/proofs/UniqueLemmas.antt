@@ -19,7 +19,7 @@ use Rattle.mr_filter.specs.declared.fault.FilterFault.{FilterFault}
 use Rattle.mr_filter.specs.declared.fault.FilterFault.TheVariants.{OutOfMemory, BadFilter, TooManyClauses, TooManyLabels}
 use Rattle.mr_filter.specs.Fault.{IsFaultOf}
 use Rattle.mr_filter.specs.Grammar.{pieces_of, clauses_of, SpellsConditions, ReadsClause, Reads, IsFirstBad, HasTooManyClauses, NamesTooMany, HasTooManyLabels}
-use Rattle.mr_filter.specs.Written.{LacksColon}
+use Rattle.mr_filter.specs.inner.Written.{LacksColon}
 use Rattle.mr_mail.proofs.DayLemmas.{IsDayOf_day}
 use Rattle.mr_mail.proofs.LabelLemmas.{length-AreLabelsOf}
 use Rattle.mr_filter.proofs.Reading.{at_place}

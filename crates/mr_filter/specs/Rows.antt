@@ -7,7 +7,7 @@ use Rattle.mr_mail.specs.Label.{text_eq}
 use Rattle.mr_mail.specs.Mail.{MailCard}
 use Rattle.mr_filter.specs.Filter.{ClauseParts, clause_with}
 use Rattle.mr_filter.specs.Condition.{Condition, HasLabel, LacksLabel, HasFlag, LacksFlag, Since, SpellsCondition, label_count, bits_on, bits_off, latest_day}
-use Rattle.mr_filter.specs.Draft.{no_condition, label_count_with}
+use Rattle.mr_filter.specs.inner.Draft.{no_condition, label_count_with}
 use Rattle.mr_filter.specs.Grammar.{clauses_of, pieces_of, Reads, HasTrueClause, IsCondition, IsFirstBad}
 use Rattle.mr_filter.specs.Meaning.{is_true_of, meets, selects, is_as_wide, covers}
 use Rattle.mr_filter.specs.Text.{conditions_of, join_or}

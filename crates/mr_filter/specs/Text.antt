@@ -18,10 +18,6 @@ conditions_of clause =
     ++ map LacksFlag (filter (has_flag clause.flags_off) all_flags)
     ++ since_condition clause.since
 
--- the new texts are the old ones and the conditions' texts
-abbrev pub SpellsMore : List (List ℕ) → List (List ℕ) → List Condition → Type 0
-SpellsMore old new conditions = (pieces : List (List ℕ)) × AllZip SpellsCondition pieces conditions × (new ≡ old ++ pieces)
-
 -- the texts with the separator between each two, or `none` for no text
 abbrev pub join_or : List ℕ → List ℕ → List (List ℕ) → List ℕ
 join_or none separator [] = none

@@ -1,5 +1,5 @@
 //! Clauses: conditions that hold together.
-ghost use Rattle.std.specs.Prelude.{◌≡◌, ◌≤◌, ◌<◌, ◌+◌, ◌&&◌, IfOk, map, length};
+ghost use Rattle.std.specs.Prelude.{◌≡◌, ◌≤◌, ◌<◌, ◌+◌, ◌&&◌, IfOk, length};
 ghost use Rattle.std.specs.List.{list_all, list_any};
 ghost use Rattle.std.specs.List.Sorted.{IsStrictlySortedBy};
 ghost use Rattle.mr_mail.specs.Label.{IsLabelSet, has_label, text_cmp};
@@ -55,6 +55,7 @@ impl Clause {
         requires few { length all_labels.items + length no_labels.items ≤ MAX_CLAUSE_LABELS }
         ensures { result ≡ clause_with all_labels.items no_labels.items flags_on flags_off since }
     {
+        // the flags and the day are in their ranges
         let _on = flags_on.bits();
         let _off = flags_off.bits();
         let _days = since.days();

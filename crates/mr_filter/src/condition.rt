@@ -3,7 +3,7 @@ ghost use Rattle.std.specs.Prelude.{◌≡◌, ℕ, List, ◌∷◌, ◌++◌, �
 ghost use Rattle.mr_mail.specs.Label.{is_label};
 ghost use Rattle.mr_filter.specs.Condition.{SpellsCondition, IsValueOf, kind_of};
 ghost use Rattle.mr_filter.specs.Condition as specs;
-ghost use Rattle.mr_filter.specs.Written.{meaning_of, LacksColon};
+ghost use Rattle.mr_filter.specs.inner.Written.{meaning_of, LacksColon};
 
 use mr_mail::{Day, Flag, Label};
 

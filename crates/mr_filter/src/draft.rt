@@ -3,9 +3,9 @@ ghost use Rattle.std.specs.Prelude.{◌≡◌, ℕ, List, [], ◌∷◌, ◌++�
 ghost use Rattle.std.specs.List.{AllPass};
 ghost use Rattle.mr_mail.specs.Label.{is_label, different_labels, AreLabelsOf, IsLabelSet};
 ghost use Rattle.mr_filter.specs.Condition.{SpellsCondition};
-ghost use Rattle.mr_filter.specs.Draft.{IsWithCondition, label_count_with, no_condition};
+ghost use Rattle.mr_filter.specs.inner.Draft.{IsWithCondition, label_count_with, no_condition};
 ghost use Rattle.mr_filter.specs.Filter.{IsClause};
-ghost use Rattle.mr_filter.specs.Written.{meaning_of, lent_texts};
+ghost use Rattle.mr_filter.specs.inner.Written.{meaning_of, lent_texts};
 ghost use Rattle.mr_filter.specs.declared.clause.TheConstants.{MAX_CLAUSE_LABELS};
 
 use crate::clause::{Clause, MAX_CLAUSE_LABELS};
@@ -32,7 +32,7 @@ pub(crate) struct Draft<'a> {
 
 impl<'a> Model for Draft<'a> {
     ghost use Rattle.mr_filter.specs.Filter.{ClauseParts, clause_code, clause_with, IsClause};
-    ghost use Rattle.mr_filter.specs.Written.{lent_texts};
+    ghost use Rattle.mr_filter.specs.inner.Written.{lent_texts};
 
     ghost Value = { ClauseParts };
 

@@ -1,5 +1,5 @@
 //! Filters: clauses of which one is to be met.
-ghost use Rattle.std.specs.Prelude.{◌≡◌, ◌≤◌, ◌↔◌, ℕ, IsTrue, List, IfOk, IfErr, MatchResult, length, string_bytes};
+ghost use Rattle.std.specs.Prelude.{◌≡◌, ◌↔◌, ℕ, IsTrue, List, IfOk, IfErr, MatchResult, string_bytes};
 ghost use Rattle.mr_mail.specs.Mail.{MailCard, IsCard, card_of};
 ghost use Rattle.mr_filter.specs.Fault.{IsFaultOf};
 ghost use Rattle.mr_filter.specs.Filter.{ClauseParts, IsFilter};

@@ -1,10 +1,10 @@
 //! How clauses and filters are written.
-ghost use Rattle.std.specs.Prelude.{◌≡◌, ◌==◌, if◌then◌else◌, List, [], ◌∷◌, ◌++◌, IfOk, OnOk, map, filter, string_bytes, codes};
+ghost use Rattle.std.specs.Prelude.{◌≡◌, ◌++◌, IfOk, OnOk, map, filter, string_bytes};
 ghost use Rattle.std.specs.List.{AllZip, flat_map};
 ghost use Rattle.mr_mail.specs.Flag.{all_flags, flag_name, has_flag};
 ghost use Rattle.mr_mail.specs.Label.{texts_of};
-ghost use Rattle.mr_filter.specs.Filter.{IsClause};
-ghost use Rattle.mr_filter.specs.Text.{IsClauseText, IsFilterText, SpellsMore, join_or, since_condition};
+ghost use Rattle.mr_filter.specs.Text.{IsClauseText, IsFilterText, join_or, since_condition};
+ghost use Rattle.mr_filter.specs.inner.Text.{SpellsMore};
 
 use crate::clause::Clause;
 use mr_mail::{Day, Flags, Label};

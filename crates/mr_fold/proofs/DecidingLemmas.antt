@@ -23,8 +23,8 @@ use Rattle.mr_compare.specs.declared.compare.Standing.{Standing}
 use Rattle.mr_compare.specs.declared.sides.HeldMail.{HeldMail}
 use Rattle.mr_compare.specs.declared.sides.Sides.{Sides}
 use Rattle.mr_compare.proofs.BelievedLemmas.{where_deleted}
-use Rattle.mr_fold.specs.Deciding.{IsStoredIfDeleted}
-use Rattle.mr_fold.specs.Lacking.{is_stored, is_missing, AreMissing}
+use Rattle.mr_fold.specs.inner.Deciding.{IsStoredIfDeleted}
+use Rattle.mr_fold.specs.inner.Lacking.{is_stored, is_missing, AreMissing}
 
 -- ---- a deletion that is told is one
 

@@ -8,7 +8,8 @@ use Rattle.mr_mail.specs.Label.{text_cmp}
 use Rattle.mr_maildir.specs.View.{is_gone}
 use Rattle.mr_scan.specs.declared.inodes.Stored.{Stored}
 use Rattle.mr_compare.specs.declared.sides.HeldMail.{HeldMail}
-use Rattle.mr_fold.specs.Lacking.{has_digest, is_lacking, is_missing, is_stored}
+use Rattle.mr_fold.specs.Lacking.{has_digest}
+use Rattle.mr_fold.specs.inner.Lacking.{is_lacking, is_missing, is_stored}
 
 -- what is put where either holds
 either : {X : Type 0} (a b : Bool) (put old : X) → cond b put (cond a put old) ≡ cond (a || b) put old

@@ -1,5 +1,5 @@
 -- what crashes leave of a settling
-use Rattle.std.proofs.Common.{◌≡◌, ◌≢◌, ◌⊎◌, inl, inr, ⊎_elim, ℕ, true, false, true≢false, List, [], ◌∷◌, ◌++◌, length, take, drop, refl, sym, ap, subst, ◌∙◌, append_assoc, append-nil}
+use Rattle.std.proofs.Common.{◌≡◌, ◌≢◌, ◌⊎◌, inl, inr, ⊎_elim, ℕ, true, false, true≢false, List, [], ◌∷◌, ◌++◌, length, take, refl, sym, ap, subst, ◌∙◌, append_assoc, append-nil}
 use Rattle.std.specs.Prelude.{◌==◌, map}
 use Rattle.std.specs.Global.{Vec}
 use Rattle.std.proofs.lemmas.Bool.{eqb-true}
@@ -17,7 +17,7 @@ use Rattle.mr_replica.specs.State.{State}
 use Rattle.mr_replica.specs.declared.event.Event.{Event}
 use Rattle.mr_kept.specs.declared.journaled.Journaled.{Journaled}
 use Rattle.mr_kept.specs.Entries.{notes_of}
-use Rattle.mr_kept.specs.Kept.{IsKept, Noted, SameJournal, entries_waiting, head_of, issued_of, journal_of, kept_of, notes_waiting, replica_of, waiting}
+use Rattle.mr_kept.specs.Kept.{IsKept, Noted, SameJournal, entries_waiting, issued_of, journal_of, kept_of, notes_waiting, replica_of, waiting}
 use Rattle.mr_kept.proofs.EntryLemmas.{events_append, notes_append}
 use Rattle.mr_kept.proofs.RunLemmas.{batch_notes, batch_tells}
 use Rattle.mr_kept.proofs.KeptLemmas.{kept_on, stands_now}

@@ -6,7 +6,7 @@ use Rattle.std.proofs.lemmas.List.Sums.{fold_push}
 use Rattle.mr_madewith.specs.Revision.{Rev}
 use Rattle.mr_maildir.specs.Reference.{ReferenceParts}
 use Rattle.mr_compare.proofs.ListLemmas.{take_one}
-use Rattle.mr_fold.specs.Sizes.{Refers, newer_size, AreSizes, PutsSize}
+use Rattle.mr_fold.specs.inner.Sizes.{Refers, newer_size, AreSizes, PutsSize}
 
 abbrev Told : Type 0
 Told = Rev × Option ReferenceParts

@@ -4,7 +4,7 @@ use Rattle.mr_maildir.specs.View.{ViewParts}
 use Rattle.mr_maildir.specs.declared.act.Act.{Act}
 use Rattle.mr_maildir.specs.declared.act.Act.TheVariants.{Agree, Create, Edit, Delete, Follow, Remove}
 use Rattle.mr_compare.specs.Tally.{deletes}
-use Rattle.mr_fold.specs.Taking.{takes_away}
+use Rattle.mr_fold.specs.inner.Taking.{takes_away}
 
 -- one that takes nothing away is no deletion
 pub deletes_not : (act : Act) (held : Option ViewParts) → takes_away act held ≡ false → deletes act ≡ false

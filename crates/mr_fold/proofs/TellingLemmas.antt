@@ -16,7 +16,8 @@ use Rattle.mr_kept.specs.declared.journaled.Journaled.{Journaled}
 use Rattle.mr_compare.specs.declared.compare.MailAct.{MailAct}
 use Rattle.mr_compare.proofs.ListLemmas.{take_one}
 use Rattle.mr_compare.specs.declared.joining.ItemHeads.{ItemHeads}
-use Rattle.mr_fold.specs.Telling.{AreEdits, TellsAct, TellsAll, items_at, Grows, GrowsByEdit}
+use Rattle.mr_fold.specs.Telling.{AreEdits, TellsAct, TellsAll, items_at, Grows}
+use Rattle.mr_fold.specs.inner.Telling.{GrowsByEdit}
 
 -- an event that was admitted is the log's last
 pub later_log : {K D V : Type 0} (form : Form K) (old new : Journaled K D V) (event : Event) →

@@ -14,10 +14,6 @@ use Rattle.mr_fold.specs.Lacking.{has_digest}
 abbrev pub is_needed : List ((List ℕ × Name) × Head) → List ℕ → Bool
 is_needed heads digest = list_any (λ (e : (List ℕ × Name) × Head). not (is_gone e.1.view) && is_eq (text_cmp e.0.0 digest)) heads
 
--- one of the heads is of the mail of the digest, and that isn't needed
-abbrev pub is_gone_among : List ((List ℕ × Name) × Head) → (needed : List (List ℕ)) → List ℕ → Bool
-is_gone_among heads needed digest = list_any (λ (e : (List ℕ × Name) × Head). not (has_digest needed e.0.0) && is_eq (text_cmp e.0.0 digest)) heads
-
 -- a set has the digests of the mails that these revisions need
 pub record AreNeeded (revisions : List Rev) (needed : List (List ℕ)) : Type 0 where
   pub heads : List ((List ℕ × Name) × Head)

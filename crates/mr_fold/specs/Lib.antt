@@ -4,16 +4,10 @@ pub mod State
 pub mod Shown
 pub mod Telling
 pub mod Settling
-pub mod Settings
 pub mod Mark
 pub mod Message
-pub mod HeldSide
-pub mod Sizes
 pub mod Lacking
-pub mod Deciding
 pub mod Expiring
-pub mod Taking
 pub mod Straying
-pub mod Released
-pub mod Resting
 pub mod Rows
+pub mod inner

@@ -15,14 +15,15 @@ use Rattle.mr_fold.specs.FoldFault.{explained_settle}
 use Rattle.mr_fold.specs.declared.fault.SettleFault.TheVariants as settle
 use Rattle.mr_fold.specs.declared.fold_fault.FoldFault.TheVariants as fold
 use Rattle.mr_compare.specs.declared.sides.HeldMail.{HeldMail}
-use Rattle.mr_fold.specs.Lacking.{has_digest, is_digest, is_missing}
+use Rattle.mr_fold.specs.Lacking.{has_digest}
+use Rattle.mr_fold.specs.inner.Lacking.{is_digest, is_missing}
 use Rattle.mr_fold.specs.Mark.{mark_text}
 use Rattle.mr_fold.specs.Message.{day_at, folder_lines}
-use Rattle.mr_fold.specs.Resting.{folder_bytes}
-use Rattle.mr_fold.specs.Settings.{layout_told, settings_text}
-use Rattle.mr_fold.specs.Sizes.{newer_size}
-use Rattle.mr_fold.specs.Straying.{first_place, path_instead, place_of, strays}
-use Rattle.mr_fold.specs.Taking.{takes_away}
+use Rattle.mr_fold.specs.inner.Resting.{folder_bytes}
+use Rattle.mr_fold.specs.inner.Settings.{layout_told, settings_text}
+use Rattle.mr_fold.specs.inner.Sizes.{newer_size}
+use Rattle.mr_fold.specs.inner.Straying.{first_place, path_instead, place_of, strays}
+use Rattle.mr_fold.specs.inner.Taking.{takes_away}
 use Rattle.mr_replica.specs.declared.event.Event.TheVariants.{Create}
 use Rattle.mr_fold.specs.State.{nothing_shown, shown_by, met_by}
 use Rattle.mr_fold.specs.Telling.{TellsAct, TellsAll}

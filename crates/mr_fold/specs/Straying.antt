@@ -1,53 +1,9 @@
--- mails in folders that are passed over
-use Rattle.std.specs.Prelude.{ℕ, Bool, ◌==◌, if◌then◌else◌, List, codes, count_by, Option, Some, None, option_map, slice_get, string_bytes}
-use Rattle.std.specs.List.{filter_map}
-use Rattle.std.specs.Map.{lookup}
-use Rattle.std.specs.Ordering.{is_eq}
-use Rattle.mr_mail.specs.Label.{text_cmp}
-use Rattle.mr_maildir.specs.Folder.{label_of}
-use Rattle.mr_maildir.specs.Layout.{folder_path, name_at}
+-- the layouts of a Maildir, as they are told
+use Rattle.std.specs.Prelude.{ℕ, List, codes}
 use Rattle.mr_maildir.specs.declared.layout.Layout.{Layout}
 use Rattle.mr_maildir.specs.declared.layout.Layout.TheVariants.{Dots, Plain}
-use Rattle.mr_compare.specs.Tally.{deletes}
-use Rattle.mr_compare.specs.declared.compare.MailAct.{MailAct}
-use Rattle.mr_fold.specs.declared.straying.StrayMails.{StrayMails}
 
+-- the name of a layout
 abbrev pub layout_name : Layout → List ℕ
 layout_name Dots = codes "dots"
 layout_name Plain = codes "plain"
-
--- where a table has a mail lie that an act deletes
-abbrev pub place_of : List (List ℕ × ℕ) → MailAct → Option ℕ
-place_of table mail = if deletes mail.act then lookup (λ own. is_eq (text_cmp mail.digest own)) table else None
-
--- the first of some places, and how often it stands among them
-abbrev pub first_place : List ℕ → Option (ℕ × ℕ)
-first_place places = option_map (λ place. (place, count_by (λ other. other == place) places)) (slice_get places 0)
-
--- the folder that stray mails lie in, and how many they are
-abbrev pub stray_parts : StrayMails → List ℕ × ℕ
-stray_parts stray = (string_bytes stray.folder, stray.mails)
-
-abbrev pub lying_at : ℕ → List ℕ → List ℕ × ℕ
-lying_at mails path = (path, mails)
-
--- these with the path at the place
-abbrev pub with_path : List (List ℕ) → Option (ℕ × ℕ) → Option (List ℕ × ℕ)
-with_path paths None = None
-with_path paths (Some found) = option_map (lying_at found.1) (slice_get paths found.0)
-
--- the folder that the first mail lies in that an act deletes and the table tells of, and how many of those mails lie in it
-abbrev pub strays : List (List ℕ) → List (List ℕ × ℕ) → List MailAct → Option (List ℕ × ℕ)
-strays paths table acts = with_path paths (first_place (filter_map (place_of table) acts))
-
-abbrev pub other_layout : Layout → Layout
-other_layout Dots = Plain
-other_layout Plain = Dots
-
--- where a layout has the folder of a name
-abbrev pub path_of : Layout → List ℕ → List ℕ
-path_of layout name = folder_path layout (label_of name) (Some name)
-
--- where a layout has the folder that the other one has at a path, if that has one there
-abbrev pub path_instead : Layout → List ℕ → Option (List ℕ)
-path_instead layout path = option_map (path_of layout) (name_at (other_layout layout) path)

@@ -53,9 +53,3 @@ pub record Grows (P : List Event → Type 0) (old new : List Event) : Type 0 whe
   pub events : List Event
   pub log : new ≡ old ++ events
   pub are : P events
-
--- it grows by one edit
-pub record GrowsByEdit (view : ViewParts) (versions : List Name) (old new : List Event) : Type 0 where
-  pub event : Event
-  pub log : new ≡ old ++ event ∷ []
-  pub is_edit : IsEditTo view versions event

@@ -3,7 +3,7 @@ ghost use Rattle.std.specs.Prelude.{◌≡◌, All, Err, IfOk, IsSome, OnOk};
 ghost use Rattle.std.specs.BTreeMap.{values};
 ghost use Rattle.mr_compare.specs.Compare.{due_acts};
 ghost use Rattle.mr_compare.specs.Undecided.{IsHeeded, first_undecided};
-ghost use Rattle.mr_fold.specs.Deciding.{AreStandings, IsStoredIfDeleted};
+ghost use Rattle.mr_fold.specs.inner.Deciding.{AreStandings, IsStoredIfDeleted};
 
 use crate::fold_fault::FoldFault;
 use crate::held_side::HeldSide;

@@ -1,5 +1,5 @@
 //! The files of a folder of a disk. What real files take and give no contract says, so what is here is tested only.
-ghost use Rattle.std.specs.Prelude.{◌≡◌, [], OnOk};
+ghost use Rattle.std.specs.Prelude.{◌≡◌, []};
 
 use crate::fault::SettleFault;
 use crate::message::{day_at, folder_lines, new_mail};

@@ -6,7 +6,8 @@ ghost use Rattle.std.specs.List.Sorted.{IsPermutation, IsSorted};
 ghost use Rattle.std.specs.Ordering.{is_eq, nat_cmp};
 ghost use Rattle.mr_mail.specs.Label.{text_cmp};
 ghost use Rattle.mr_compare.specs.Held.{AreRead};
-ghost use Rattle.mr_fold.specs.Expiring.{AreNeeded, is_gone_among, is_needed};
+ghost use Rattle.mr_fold.specs.Expiring.{AreNeeded, is_needed};
+ghost use Rattle.mr_fold.specs.inner.Expiring.{is_gone_among};
 ghost use Rattle.mr_fold.specs.Lacking.{has_digest};
 
 use crate::fold_fault::FoldFault;

@@ -2,7 +2,7 @@
 ghost use Rattle.std.specs.Prelude.{◌≡◌, ◌++◌, IfOk};
 ghost use Rattle.std.specs.List.{flat_map};
 ghost use Rattle.mr_compare.specs.Joining.{held_entry};
-ghost use Rattle.mr_fold.specs.HeldSide.{AreHeld};
+ghost use Rattle.mr_fold.specs.inner.HeldSide.{AreHeld};
 
 use crate::ancestors::ancestors_of;
 use crate::digests::{asked_items, digests_of};

@@ -5,8 +5,9 @@ ghost use Rattle.std.specs.Option.{option_copied};
 ghost use Rattle.std.specs.Ordering.{is_eq};
 ghost use Rattle.mr_mail.specs.Label.{text_cmp};
 ghost use Rattle.mr_compare.specs.Sides.{at_digest};
-ghost use Rattle.mr_fold.specs.Lacking.{has_digest, is_digest, is_lacking, is_missing, is_stored, is_told_of, unshown};
-ghost use Rattle.mr_fold.specs.Lacking as specs;
+ghost use Rattle.mr_fold.specs.Lacking.{has_digest};
+ghost use Rattle.mr_fold.specs.inner.Lacking.{is_digest, is_lacking, is_missing, is_stored, is_told_of, unshown};
+ghost use Rattle.mr_fold.specs.inner.Lacking as specs;
 
 use crate::settling::HeldItems;
 use mr_compare::{Digest, HeldMail, ItemHeads, LeftMail};

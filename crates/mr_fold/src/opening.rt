@@ -72,6 +72,7 @@ pub fn init<R: Files<File = File> + AllocGlobal + Clone + Drop>(
     let path = log_path(alloc, root)?;
     let file = empty_log(alloc, DiskFile::open(rt, path.as_str())?)?;
     write_settings(rt, root, setup.layout)?;
+    // the log is on the disk, and whoever needs it opens it
     let _kept = begin_log(rt, file, setup)?;
     Ok(())
 }

@@ -2,7 +2,7 @@
 //! no more, of which the feed tells nothing. Its files are the program's own then, and no new mail.
 ghost use Rattle.std.specs.Prelude.{◌≡◌};
 ghost use Rattle.std.specs.Option.{option_copied};
-ghost use Rattle.mr_fold.specs.Released.{is_as_told};
+ghost use Rattle.mr_fold.specs.inner.Released.{is_as_told};
 
 use crate::settling::HeldItems;
 use crate::sides::has_all;

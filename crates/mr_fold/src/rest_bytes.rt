@@ -2,8 +2,8 @@
 ghost use Rattle.std.specs.Prelude.{◌≡◌, ◌++◌, IfOk, OnOk};
 ghost use Rattle.std.specs.List.{flat_map};
 ghost use Rattle.mr_wire.specs.Spelling.{u64, name_bytes};
-ghost use Rattle.mr_fold.specs.Resting as specs;
-ghost use Rattle.mr_fold.specs.Resting.{folder_bytes, layout_number};
+ghost use Rattle.mr_fold.specs.inner.Resting as specs;
+ghost use Rattle.mr_fold.specs.inner.Resting.{folder_bytes, layout_number};
 
 use mr_compare::Shown;
 use mr_entry::Birth;

@@ -81,6 +81,7 @@ pub(crate) fn note_stand<R: Files<File = File> + AllocGlobal>(
         return;
     }
     if let Some(path) = own_path(rt.alloc(), root, NOTE) {
+        // without the note the next command looks at all again
         let _ = fs::write(rt, path.as_str(), after.bytes.as_slice());
     }
 }

@@ -5,8 +5,8 @@ ghost use Rattle.std.specs.Prelude.{◌≡◌, Err, Ok, string_bytes, IfOk};
 ghost use Rattle.std.specs.List.{list_all, list_any};
 ghost use Rattle.mr_mail.specs.Label.{text_eq};
 ghost use Rattle.mr_maildir.specs.Layout.{cut_at};
-ghost use Rattle.mr_fold.specs.Settings.{layout_line, is_comment, layout_told};
-ghost use Rattle.mr_fold.specs.Settings as specs;
+ghost use Rattle.mr_fold.specs.inner.Settings.{layout_line, is_comment, layout_told};
+ghost use Rattle.mr_fold.specs.inner.Settings as specs;
 
 use crate::fold_fault::FoldFault;
 use mr_maildir::Layout;

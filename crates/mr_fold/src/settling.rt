@@ -1,5 +1,5 @@
 //! Brings a Maildir and its replica together: what the user changed is told, and what was changed elsewhere is shown.
-ghost use Rattle.std.specs.Prelude.{◌≡◌, ◌<◌, ◌^◌, ◌++◌, ◌⊎◌, [], ℕ, IsTrue, List, true, length, map, OnOk};
+ghost use Rattle.std.specs.Prelude.{◌≡◌, ◌<◌, ◌^◌, ◌++◌, ◌⊎◌, [], IsTrue, List, true, length, map, OnOk};
 ghost use Rattle.mr_journal.specs.Device.{LeavesOnly};
 ghost use Rattle.mr_journal.specs.Format.{Stands};
 ghost use Rattle.mr_journal.specs.Journal.{device_of};
@@ -160,6 +160,7 @@ fn show<D: Device + Drop, F: MailFiles>(
 ) -> Result<(), SettleFault>
     requires { nothing_waits kept.now ≡ true }
 {
+    // the replica is lent for what is required of it: all is kept
     let _is_kept = kept.is_kept();
     for act in acts {
         files.show(alloc, act)?;

@@ -5,8 +5,8 @@ ghost use Rattle.std.specs.List.{list_all};
 ghost use Rattle.std.specs.Option.{option_copied};
 ghost use Rattle.mr_mail.specs.Label.{has_label};
 ghost use Rattle.mr_compare.specs.Tally.{deletes};
-ghost use Rattle.mr_fold.specs.Lacking.{AreMissing};
-ghost use Rattle.mr_fold.specs.Taking.{leaves_a_folder, takes_away};
+ghost use Rattle.mr_fold.specs.inner.Lacking.{AreMissing};
+ghost use Rattle.mr_fold.specs.inner.Taking.{leaves_a_folder, takes_away};
 
 use crate::lacking::missing_mails;
 use crate::targets::held_mail;

@@ -4,7 +4,7 @@ ghost use Rattle.std.specs.Ordering.{is_eq};
 ghost use Rattle.mr_madewith.specs.Revision.{Rev};
 ghost use Rattle.mr_mail.specs.Label.{text_cmp};
 ghost use Rattle.mr_compare.specs.Sides.{at_digest};
-ghost use Rattle.mr_fold.specs.Sizes.{AreSizes, PutsSize};
+ghost use Rattle.mr_fold.specs.inner.Sizes.{AreSizes, PutsSize};
 
 use mr_compare::Digest;
 use mr_madewith::Revision;

@@ -1,6 +1,6 @@
 //! What the notes of a folder's journal tell.
 ghost use Rattle.std.specs.Prelude.{◌≡◌, ◌==◌, if◌then◌else◌, ℕ, Some, IfOk, OnOk};
-ghost use Rattle.mr_fold.specs.State.{read_of, shown_by, shown_with, met_by, met_with, meeting_at};
+ghost use Rattle.mr_fold.specs.State.{shown_by, shown_with, met_by, met_with, meeting_at};
 
 use mr_compare::{FolderNote, Meeting, Shown, read_note};
 use mr_entry::Note;

@@ -5,8 +5,9 @@ ghost use Rattle.std.specs.Map.{lookup};
 ghost use Rattle.std.specs.Option.{option_copied, option_to_list};
 ghost use Rattle.std.specs.Ordering.{is_eq};
 ghost use Rattle.mr_mail.specs.Label.{text_cmp};
-ghost use Rattle.mr_fold.specs.Straying.{other_layout, path_instead, place_of, first_place, strays, stray_parts, lying_at};
+ghost use Rattle.mr_fold.specs.inner.Straying.{other_layout, path_instead, place_of, first_place, strays, stray_parts, lying_at};
 ghost use Rattle.mr_fold.specs.Straying as specs;
+ghost use Rattle.mr_fold.specs.inner.Straying as inner;
 
 use mr_compare::{Digest, MailAct};
 use mr_folder::FolderPath;
@@ -202,7 +203,7 @@ fn path_instead(alloc: Global, layout: Layout, path: &str) -> Result<Option<Stri
 
 /// Where the layout has the folder of this name.
 fn path_of(alloc: Global, layout: Layout, name: &str) -> Result<String, AllocError>
-    ensures { IfOk result (λ path. string_bytes path ≡ specs.path_of layout name.now) }
+    ensures { IfOk result (λ path. string_bytes path ≡ inner.path_of layout name.now) }
 {
     let label = folder_label(alloc, name)?;
     layout.folder_path(alloc, &label, Some(name))

@@ -3,7 +3,8 @@ ghost use Rattle.std.specs.Prelude.{◌≡◌, ◌<◌, ◌↔◌, [], Err, IfOk
 ghost use Rattle.mr_mail.specs.declared.label.TheConstants.{MAX_LABELS};
 ghost use Rattle.mr_kept.specs.Kept.{SameJournal, replica_of};
 ghost use Rattle.mr_maildir.specs.declared.act.Act.TheVariants as act;
-ghost use Rattle.mr_fold.specs.Telling.{AreEdits, Grows, GrowsByEdit, TellsAct, TellsAll, gone_view, items_at};
+ghost use Rattle.mr_fold.specs.Telling.{AreEdits, Grows, TellsAct, TellsAll, gone_view, items_at};
+ghost use Rattle.mr_fold.specs.inner.Telling.{GrowsByEdit};
 
 use crate::fault::SettleFault;
 use crate::settling::{HeldItems, MailFiles};

@@ -1,12 +1,12 @@
 -- steps in memory, and what a crash leaves of them
-use Rattle.std.proofs.Common.{◌≡◌, ◌≢◌, ◌⊎◌, inl, inr, ⊎_elim, ℕ, zero, suc, ◌-◌, ◌≤◌, Bool, true, false, if◌then◌else◌, List, [], ◌∷◌, ◌++◌, length, map, Option, Some, None, Result, Ok, Err, is_ok, is_some, OnOk, refl, sym, ap, ◌∙◌, subst, arith}
+use Rattle.std.proofs.Common.{◌≡◌, ◌≢◌, ◌⊎◌, inl, inr, ⊎_elim, ℕ, suc, ◌-◌, ◌≤◌, true, false, if◌then◌else◌, List, ◌∷◌, length, Some, None, Result, Ok, Err, is_ok, OnOk, refl, sym, ap, ◌∙◌, subst, arith}
 use Rattle.std.specs.Str.{bytes_eq}
 use Rattle.std.specs.Cmp.Lexicographic.{bytes_decides}
 use Rattle.std.proofs.lemmas.Bool.{false_from_ne_true}
-use Rattle.mr_folder.specs.Tree.{Tree, OnlyAt, MayMove, MayLink, MayGo, Follows, NoneOr, HasSame, LeavesOnly, IsUntouched, Passes}
-use Rattle.mr_folder.specs.Memory.{Step, Puts, Moves, Links, Goes, Syncs, SyncsPath, steps_of, after, tree_of, MayLeave, Left, LeftSince, only_now}
+use Rattle.mr_folder.specs.Tree.{Tree, OnlyAt, MayMove, MayLink, MayGo, Follows, NoneOr, HasSame, IsUntouched, Passes}
+use Rattle.mr_folder.specs.Memory.{Step, Puts, Moves, Links, Goes, Syncs, SyncsPath, steps_of, tree_of, MayLeave, Left, LeftSince, only_now}
 use Rattle.mr_folder.specs.declared.memory.MemoryTree.{MemoryTree}
-use Rattle.mr_folder.proofs.ShowLemmas.{move_none, link_none, go_none}
+use Rattle.mr_folder.proofs.ShowLemmas.{link_none}
 
 -- one more step
 one_more : (step : Step) (old : List Step) → Passes (length old) (length (step ∷ old)) (LeftSince old) (LeftSince (step ∷ old)) (MayLeave (step ∷ old))

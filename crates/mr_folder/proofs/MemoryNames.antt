@@ -1,5 +1,5 @@
 -- what is found of files in memory, and their names in the store
-use Rattle.std.proofs.Common.{◌≡◌, ◌↔◌, ℕ, ◌+◌, ◌<◌, Bool, true, false, if◌then◌else◌, cond, List, [], ◌∷◌, ◌++◌, length, get_or, take, drop, map, Option, Some, None, is_some, Contains, codes, refl, sym, ap, ap₂, ◌∙◌, subst, arith, ◌⊎◌, inl, inr, ⊎_elim, IsTrue}
+use Rattle.std.proofs.Common.{◌≡◌, ℕ, ◌+◌, ◌<◌, Bool, true, false, if◌then◌else◌, List, [], ◌∷◌, ◌++◌, length, get_or, take, drop, map, Option, Some, None, is_some, Contains, codes, refl, sym, ap, ◌∙◌, subst, arith, ◌⊎◌, inl, inr, ⊎_elim}
 use Rattle.std.specs.Prelude.{nat_eq, string_bytes, Vec, Result, Ok, Err, IfOk}
 use Rattle.std.specs.declared.string.String.{String}
 use Rattle.std.specs.declared.alloc.Global.{Global}
@@ -12,10 +12,10 @@ use Rattle.hex.specs.Hex.{encode_lower}
 use Rattle.mr_folder.specs.Inside.{stored_path}
 use Rattle.std.proofs.Math.ListN.{get_or-map}
 use Rattle.mr_folder.specs.Memory.{step_of, Step, Puts, Moves, Links, Goes, Syncs, SyncsPath, after, tree_of}
-use Rattle.mr_folder.specs.Names.{IsDigest, TellsDigests}
+use Rattle.mr_folder.specs.Names.{TellsDigests}
 use Rattle.mr_folder.specs.Tree.{Tree}
 use Rattle.mr_folder.specs.declared.memory.Change.{Change}
-use Rattle.mr_folder.specs.MemoryFound.{behind_store, stored_name, target}
+use Rattle.mr_folder.specs.inner.MemoryFound.{behind_store, stored_name, target}
 use Rattle.std.specs.Cmp.Lexicographic.{bytes_decides}
 use Rattle.std.specs.Option.{MatchOption, option_copied}
 use Rattle.std.proofs.lemmas.Bool.{false≢true}

@@ -5,7 +5,8 @@ use Rattle.std.specs.declared.string.String.{String}
 use Rattle.std.specs.declared.alloc.Global.{Global}
 use Rattle.std.proofs.lemmas.Bool.{cases_lt}
 use Rattle.std.proofs.lemmas.List.{get_or_append_left, get_or_push}
-use Rattle.mr_folder.specs.Quiet.{Past, TellsChanges, IsStill, Between, AreTimes, AreNames, IsSnapshot, texts}
+use Rattle.mr_folder.specs.Quiet.{Past, TellsChanges, IsStill, Between, IsSnapshot, texts}
+use Rattle.mr_folder.specs.inner.Quiet.{AreTimes, AreNames}
 
 -- a folder with the same time on both sides was still between them
 still_between : (past : Past) → TellsChanges past → (folder i j from to : ℕ) → i ≤ from → to ≤ j → past.time i folder ≡ past.time j folder → IsStill past folder from to

@@ -1,5 +1,5 @@
 -- acts on the files of the Maildir keep a store sound
-use Rattle.std.proofs.Common.{◌≡◌, ◌≢◌, ◌↔◌, inl, ℕ, Bool, true, false, List, Option, None, Some, IfSome, Result, Ok, Err, IfOk, IsTrue, is_some, refl, sym, ap, ◌∙◌, subst}
+use Rattle.std.proofs.Common.{◌≡◌, ◌≢◌, ◌↔◌, inl, ℕ, Bool, false, List, Option, None, Some, IfSome, Result, Ok, Err, IfOk, IsTrue, is_some, refl, sym, ap, ◌∙◌, subst}
 use Rattle.std.proofs.lemmas.Bool.{false≢true}
 use Rattle.sha2.specs.Sha256.{sha256}
 use Rattle.mr_folder.specs.Inside.{stored_path, first_part, own_folder}

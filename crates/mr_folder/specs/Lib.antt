@@ -1,6 +1,5 @@
 pub mod Tree
 pub mod Inside
-pub mod Parts
 pub mod Store
 pub mod Quiet
 pub mod Names
@@ -9,5 +8,5 @@ pub mod Show
 pub mod Fault
 pub mod Rows
 pub mod Memory
-pub mod MemoryFound
 pub mod MemoryFolders
+pub mod inner

@@ -1,5 +1,5 @@
 -- files in memory: what was done to them, and what a crash leaves of that
-use Rattle.std.specs.Prelude.{◌≡◌, ◌⊎◌, ℕ, zero, suc, ◌-◌, if◌then◌else◌, List, [], ◌∷◌, length, map, Option, Some, None, is_some, string_bytes}
+use Rattle.std.specs.Prelude.{◌≡◌, ◌⊎◌, ℕ, zero, suc, ◌-◌, if◌then◌else◌, List, [], ◌∷◌, length, map, Some, None, is_some, string_bytes}
 use Rattle.std.proofs.Common.{sym, subst}
 use Rattle.std.proofs.Math.Nat.{sub_self}
 use Rattle.std.specs.Str.{bytes_eq}

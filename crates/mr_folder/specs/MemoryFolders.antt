@@ -1,5 +1,5 @@
 -- folders in memory that change once: what is in them at each moment
-use Rattle.std.specs.Prelude.{◌≡◌, ℕ, ◌≤◌, List, [], if◌then◌else◌, ◌==◌, slice_index_or}
+use Rattle.std.specs.Prelude.{ℕ, ◌≤◌, List, [], if◌then◌else◌, ◌==◌, slice_index_or}
 use Rattle.std.proofs.Common.{sym, ap, subst}
 use Rattle.std.proofs.Math.Nat.{le_antisymm}
 use Rattle.mr_folder.specs.Quiet.{Past, TellsChanges, texts}

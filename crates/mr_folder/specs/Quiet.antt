@@ -1,5 +1,5 @@
 -- listings of folders that other programs may change meanwhile
-use Rattle.std.specs.Prelude.{◌≡◌, ℕ, ◌<◌, ◌≤◌, List, [], length, map, slice_index, slice_index_or, string_bytes, Vec}
+use Rattle.std.specs.Prelude.{◌≡◌, ℕ, ◌<◌, ◌≤◌, List, [], length, map, slice_index_or, string_bytes, Vec}
 use Rattle.std.specs.declared.string.String.{String}
 use Rattle.std.specs.declared.alloc.Global.{Global}
 
@@ -22,14 +22,6 @@ pub record Between (from to : ℕ) (P : ℕ → Type 0) : Type 0 where
   pub no_sooner : from ≤ moment
   pub no_later : moment ≤ to
   pub holds : P moment
-
--- the time that was read of each folder is one that it had between two moments
-abbrev pub AreTimes : Past → ℕ → ℕ → List ℕ → Type 0
-AreTimes past from to times = (folder : ℕ) → folder < length times → Between from to (λ m. slice_index times folder ≡ past.time m folder)
-
--- the names that were read of each folder are those that it had, if it was still meanwhile
-abbrev pub AreNames : Past → ℕ → ℕ → List (List (List ℕ)) → Type 0
-AreNames past from to names = (folder : ℕ) → folder < length names → IsStill past folder from to → slice_index_or names folder [] ≡ past.names from folder
 
 -- all folders had these names at one moment
 abbrev pub IsSnapshot : Past → List (List (List ℕ)) → ℕ → Type 0

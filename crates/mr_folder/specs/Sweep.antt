@@ -2,7 +2,7 @@
 use Rattle.std.specs.Prelude.{◌≡◌, ◌⊎◌, ℕ, List, None, Contains}
 use Rattle.mr_folder.specs.Inside.{stored_path}
 use Rattle.mr_folder.specs.Names.{IsDigest}
-use Rattle.mr_folder.specs.Tree.{Tree, Follows, LeavesOnly}
+use Rattle.mr_folder.specs.Tree.{Tree, LeavesOnly}
 
 -- the path is that of a digest which isn't held
 pub record IsUnheld (held : List (List ℕ)) (path : List ℕ) : Type 0 where

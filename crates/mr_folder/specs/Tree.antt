@@ -15,12 +15,12 @@ pub record MayMove (from to : List ℕ) (old new : Tree) : Type 0 where
   pub target : (new to ≡ old to) ⊎ (new to ≡ old from)
   pub only : (other : List ℕ) → other ≢ from → other ≢ to → new other ≡ old other
 
--- the same of a file that gets one more path, which it gets only where no file stands
+-- What a call, or a crash, may make of a file that gets one more path: that path is as before, or the file is there too, where none was.
 pub record MayLink (from to : List ℕ) (old new : Tree) : Type 0 where
   pub target : (new to ≡ old to) ⊎ ((old to ≡ None) × (new to ≡ old from))
   pub only : OnlyAt to old new
 
--- the same of a file that goes
+-- what a call, or a crash, may make of a file that goes: its path is as before or as after
 pub record MayGo (path : List ℕ) (old new : Tree) : Type 0 where
   pub place : (new path ≡ old path) ⊎ (new path ≡ None)
   pub only : OnlyAt path old new

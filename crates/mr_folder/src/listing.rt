@@ -1,10 +1,11 @@
 //! Listings of folders that other programs may change meanwhile.
 ghost use Rattle.std.specs.Prelude.{◌≡◌, ◌≤◌, ◌++◌, ◌∷◌, [], ℕ, Bool, IsTrue, IfOk, OnOk, length, map, nat_eq, string_bytes};
 ghost use Rattle.std.specs.Cmp.Lexicographic.{pointwise};
-ghost use Rattle.mr_folder.specs.Quiet.{Past, TellsChanges, IsStill, Between, AreTimes, AreNames, IsSnapshot, texts};
+ghost use Rattle.mr_folder.specs.Quiet.{Past, TellsChanges, IsStill, Between, IsSnapshot, texts};
+ghost use Rattle.mr_folder.specs.inner.Quiet.{AreTimes, AreNames};
 
 use crate::files::FilesFailed;
-use std::alloc::{AllocError, Global};
+use std::alloc::Global;
 
 /// Folders that other programs change as they like, told by their places in a list.
 pub trait Folders {

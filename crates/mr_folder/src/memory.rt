@@ -1,10 +1,10 @@
 //! Files in memory, for tests.
-ghost use Rattle.std.specs.Prelude.{◌≡◌, ◌∷◌, ◌++◌, [], ℕ, List, Some, None, true, if◌then◌else◌, is_ok, is_some, length, map, option_map, unwrap_or, string_bytes, IfOk, OnOk};
+ghost use Rattle.std.specs.Prelude.{◌≡◌, ◌∷◌, ◌++◌, [], Some, None, true, if◌then◌else◌, is_ok, is_some, length, map, option_map, unwrap_or, string_bytes, IfOk, OnOk};
 ghost use Rattle.std.specs.List.{filter_map};
 ghost use Rattle.std.specs.Option.{option_copied, option_to_list};
 ghost use Rattle.mr_folder.specs.Memory.{Puts, Moves, Links, Goes, Syncs, SyncsPath, LeftSince, MayLeave, after, only_now, step_of, steps_of, tree_of};
 ghost use Rattle.mr_folder.specs.Tree.{Tree};
-ghost use Rattle.mr_folder.specs.MemoryFound.{behind_store, found_in, target, stored_name};
+ghost use Rattle.mr_folder.specs.inner.MemoryFound.{behind_store, found_in, target, stored_name};
 
 use crate::files::{FileTree, FilesFailed};
 use crate::path::FilePath;

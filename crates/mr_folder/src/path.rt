@@ -3,7 +3,7 @@ ghost use Rattle.std.specs.Prelude.{◌≡◌, ◌≢◌, ◌↔◌, IsSome, IfO
 ghost use Rattle.std.specs.List.{list_all};
 ghost use Rattle.std.specs.Str.{bytes_eq};
 ghost use Rattle.mr_folder.specs.Inside.{is_part_byte, IsPart, IsInside, IsFolder, draft_path, stored_path, first_part, own_folder, part_name, mail_path};
-ghost use Rattle.mr_folder.specs.Parts.{is_part_text, is_folder_text, parts_of};
+ghost use Rattle.mr_folder.specs.inner.Parts.{is_part_text, is_folder_text, parts_of};
 
 use std::alloc::{AllocError, Global};
 use std::marker::Model;

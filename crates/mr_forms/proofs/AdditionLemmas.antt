@@ -8,7 +8,7 @@ use Rattle.std.specs.List.{list_any}
 use Rattle.std.specs.Ordering.{is_eq, match_ordering}
 use Rattle.std.specs.Set.{remove_key}
 use Rattle.std.proofs.lemmas.Cmp.{tied_itself}
-use Rattle.mr_forms.specs.Additions.{taken_back}
+use Rattle.mr_forms.specs.inner.Additions.{taken_back}
 
 -- the last key that was added is the first to be taken back
 pub taken_back-push : {K : Type 0} (cmp : K → K → Ordering) (added : List K) (x : K) (keys : List K) → taken_back cmp (added ++ x ∷ []) keys ≡ taken_back cmp added (remove_key (is_at (cmp x)) keys)

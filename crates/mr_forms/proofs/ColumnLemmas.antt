@@ -10,7 +10,7 @@ use Rattle.std.proofs.lemmas.List.Quantifiers.{all_pairs_push}
 use Rattle.mr_version.specs.Name.{Name, name_eq, name_cmp}
 use Rattle.mr_forms.specs.declared.run.Run.{Run}
 use Rattle.mr_forms.specs.Runs.{in_run, in_runs, StandsBefore}
-use Rattle.mr_forms.specs.Columns.{EndsBelow, EndsUpTo, GainsVersion}
+use Rattle.mr_forms.specs.inner.Columns.{EndsBelow, EndsUpTo, GainsVersion}
 use Rattle.mr_forms.proofs.ListLemmas.{All-front, All-last, AllPairs-front, AllPairs-last}
 use Rattle.mr_forms.proofs.SetLemmas.{name_eq-parts, parts_from_less}
 

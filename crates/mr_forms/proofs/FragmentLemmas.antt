@@ -17,8 +17,9 @@ use Rattle.mr_forms.specs.declared.plain_knowledge.Pair.{Pair}
 use Rattle.mr_forms.specs.Sets.{is_listed}
 use Rattle.mr_forms.specs.Covered.{all_covered, has_item}
 use Rattle.mr_forms.specs.PlainPair.{pair, pair_cmp}
-use Rattle.mr_forms.specs.Plain.{IsOnly, IsAllOrOne, ComesBefore, IsOneByOne, is_all, is_named, had_for_all, had_by_item}
-use Rattle.mr_forms.specs.PlainSteps.{EndsBy, GainsPair, IsFragmentOf, GainsVersionOf}
+use Rattle.mr_forms.specs.Plain.{IsAllOrOne, ComesBefore, IsOneByOne, is_all, is_named, had_for_all, had_by_item}
+use Rattle.mr_forms.specs.inner.Plain.{IsOnly}
+use Rattle.mr_forms.specs.inner.PlainSteps.{EndsBy, GainsPair, IsFragmentOf, GainsVersionOf}
 use Rattle.mr_forms.proofs.SetLemmas.{or_nothing}
 use Rattle.mr_forms.proofs.PairLemmas.{pair_eq-parts}
 use Rattle.mr_forms.proofs.ListLemmas.{All-front, All-last, AllPairs-front, AllPairs-last}

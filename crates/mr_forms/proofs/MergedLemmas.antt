@@ -1,5 +1,5 @@
 -- fragments that are merged one after the other
-use Rattle.std.proofs.Common.{◌≡◌, ◌↔◌, ◌||◌, ◌<◌, ◌+◌, IsErrOf, ℕ, suc, arith, Bool, true, false, refl, sym, ap, subst, ◌∙◌, List, [], ◌∷◌, ◌++◌, length, take, get_or, drop, Result, Ok, Err, inl, inr}
+use Rattle.std.proofs.Common.{◌≡◌, ◌↔◌, ◌||◌, ◌<◌, ◌+◌, IsErrOf, ℕ, suc, Bool, true, false, refl, sym, ap, subst, ◌∙◌, List, [], ◌∷◌, ◌++◌, length, take, get_or, drop, Result, Ok, Err, inl, inr}
 use Rattle.std.specs.List.{All}
 use Rattle.std.proofs.Math.Seq.{drop-cons}
 use Rattle.std.proofs.lemmas.List.{take_more, take-append-drop}
@@ -11,7 +11,7 @@ use Rattle.mr_forms.specs.declared.fault.FormFault.TheVariants as fault
 use Rattle.mr_forms.specs.Sets.{Versions}
 use Rattle.mr_forms.specs.Known.{Pairs, Form, AreSame, HasValue, IsOnlyOverItems, with_pairs}
 use Rattle.mr_forms.specs.Covered.{covered, all_covered}
-use Rattle.mr_forms.specs.Merged.{after_each, FirstHasValue, AreOverHolesInTurn, AreOverItemsInTurn}
+use Rattle.mr_forms.specs.Merged.{after_each, AreOverHolesInTurn, AreOverItemsInTurn}
 
 -- pairs that are the same are one
 pub same_pairs : (s t : Pairs) → AreSame s t → s ≡ t

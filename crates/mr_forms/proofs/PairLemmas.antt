@@ -10,7 +10,7 @@ use Rattle.mr_version.specs.Name.{Name, name_eq, name_cmp}
 use Rattle.mr_version.specs.Order.{names_total}
 use Rattle.mr_forms.specs.declared.plain_knowledge.Pair.{Pair}
 use Rattle.mr_forms.specs.Sets.{is_listed}
-use Rattle.mr_forms.specs.Fresh.{same_name}
+use Rattle.mr_forms.specs.inner.Fresh.{same_name}
 use Rattle.mr_forms.specs.PlainPair.{pair, pair_cmp, has_pair}
 use Rattle.mr_forms.proofs.SetLemmas.{name_eq-symmetric}
 

@@ -15,10 +15,11 @@ use Rattle.mr_forms.specs.declared.fragment.Fragment.{Fragment}
 use Rattle.mr_forms.specs.Sets.{Versions, is_listed}
 use Rattle.mr_forms.specs.Known.{Part}
 use Rattle.mr_forms.specs.Covered.{listed_items}
-use Rattle.mr_forms.specs.Fresh.{same_name}
+use Rattle.mr_forms.specs.inner.Fresh.{same_name}
 use Rattle.mr_forms.specs.Parts.{part_of, AreListable, ComesFirst, AreInOrder, ArePartsThat}
 use Rattle.mr_forms.specs.PlainPair.{PlainKnown}
-use Rattle.mr_forms.specs.Plain.{IsOnly, IsAllOrOne, ComesBefore, IsOneByOne, AreFragmentsOf, HasPlainVersions, IsPlainPart, beyond_all, is_all, is_named, had_for_all, had_by_item}
+use Rattle.mr_forms.specs.Plain.{IsAllOrOne, ComesBefore, IsOneByOne, AreFragmentsOf, HasPlainVersions, IsPlainPart, beyond_all, is_all, is_named, had_for_all, had_by_item}
+use Rattle.mr_forms.specs.inner.Plain.{IsOnly}
 use Rattle.mr_forms.proofs.SetLemmas.{name_eq-symmetric, or_nothing}
 use Rattle.mr_forms.proofs.PairLemmas.{name_eq-itself}
 use Rattle.mr_forms.proofs.PartLemmas.{AllPairs-head, AllPairs-tail, Contains-cases, Contains-here, Contains-there, Contains-map}

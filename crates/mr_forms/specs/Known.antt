@@ -6,7 +6,7 @@ use Rattle.mr_forms.specs.Sets.{Versions}
 abbrev pub Pairs : Type 0
 Pairs = Name → Name → Bool
 
--- the same pairs are in both
+-- two knowledges have the same pairs
 abbrev pub AreSame : Pairs → Pairs → Type 0
 AreSame s t = (i v : Name) → s i v ≡ t i v
 
@@ -48,7 +48,7 @@ pub record Form (K : Type 0) : Type 1 where
   pub firsts_for_all : K → Name → Name → Versions → Bool
   -- the knowledge that this form has no value for, since a vector of it would have too many holes
   pub has_too_many_holes : Pairs → Type 0
-  -- the same, since it would list too many items
+  -- the knowledge that this form has no value for, since it would list too many items
   pub has_too_many_items : Pairs → Type 0
 
 -- What is known with a version more, that came with a set below it, but without this set yet. The item's first version may
@@ -76,6 +76,6 @@ HasValue form pairs = ¬ form.has_too_many_holes pairs × ¬ form.has_too_many_i
 abbrev pub IsOverHolesInTurn : {K : Type 0} → Form K → Pairs → Pairs → Type 0
 IsOverHolesInTurn form first second = form.has_too_many_holes first ⊎ (HasValue form first × form.has_too_many_holes second)
 
--- the same of too many items, where the result at fault has no vector with too many holes
+-- Of two results in turn: the first lists too many items alone, or it has a value and the second lists too many items alone.
 abbrev pub IsOverItemsInTurn : {K : Type 0} → Form K → Pairs → Pairs → Type 0
 IsOverItemsInTurn form first second = IsOnlyOverItems form first ⊎ (HasValue form first × IsOnlyOverItems form second)

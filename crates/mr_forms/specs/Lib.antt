@@ -7,12 +7,9 @@ pub mod Parts
 pub mod Listing
 pub mod ByMeaning
 pub mod Fault
-pub mod Additions
-pub mod Columns
 pub mod PlainPair
 pub mod Plain
-pub mod PlainSteps
-pub mod Fresh
 pub mod PlainLaws
 pub mod Limits
 pub mod Rows
+pub mod inner

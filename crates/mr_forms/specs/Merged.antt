@@ -21,7 +21,7 @@ module _ {K : Type 0} where
   AreOverHolesInTurn form [] = ⊥
   AreOverHolesInTurn form (p ∷ ps) = form.has_too_many_holes p ⊎ (HasValue form p × AreOverHolesInTurn form ps)
 
-  -- the same of too many items, where the result at fault has no vector with too many holes
+  -- of results in turn the first without a value lists too many items, and has no vector with too many holes
   abbrev pub AreOverItemsInTurn : Form K → List Pairs → Type 0
   AreOverItemsInTurn form [] = ⊥
   AreOverItemsInTurn form (p ∷ ps) = IsOnlyOverItems form p ⊎ (HasValue form p × AreOverItemsInTurn form ps)

@@ -39,11 +39,6 @@ plain_form = record {
   has_too_many_items = λ _. ⊥;
 }
 
--- the items are this one alone
-abbrev pub IsOnly : Name → ItemSet → Type 0
-IsOnly i AllItems = ⊥
-IsOnly i (Listed items) = items.items ≡ i ∷ []
-
 -- the items are all, or one
 abbrev pub IsAllOrOne : ItemSet → Type 0
 IsAllOrOne AllItems = Unit {0}

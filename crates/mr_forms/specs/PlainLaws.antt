@@ -13,7 +13,7 @@ use Rattle.mr_forms.specs.Sets.{Versions, is_listed}
 use Rattle.mr_forms.specs.Listing.{HasMoreFor, ListsMore}
 use Rattle.mr_forms.specs.Known.{AreSame}
 use Rattle.mr_forms.specs.ByMeaning.{IsByMeaning}
-use Rattle.mr_forms.specs.Fresh.{unlisted_item, unlisted_in_both}
+use Rattle.mr_forms.specs.inner.Fresh.{unlisted_item, unlisted_in_both}
 use Rattle.mr_forms.specs.PlainPair.{PlainKnown, pair, has_pair}
 use Rattle.mr_forms.specs.Plain.{HasPlainVersions, beyond_all, plain_known, plain_form}
 

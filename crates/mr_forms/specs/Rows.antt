@@ -6,7 +6,7 @@ use Rattle.mr_version.specs.Name.{Name, name_cmp}
 use Rattle.mr_forms.specs.declared.run.Run.{Run}
 use Rattle.mr_forms.specs.declared.fragment.ItemSet.TheVariants.{All}
 use Rattle.mr_forms.specs.declared.fragment.Fragment.{Fragment}
-use Rattle.mr_forms.specs.Additions.{taken_back}
+use Rattle.mr_forms.specs.inner.Additions.{taken_back}
 use Rattle.mr_forms.specs.Covered.{has_item, all_covered}
 use Rattle.mr_forms.specs.Known.{with_learned, with_below}
 use Rattle.mr_forms.specs.Parts.{ComesFirst}

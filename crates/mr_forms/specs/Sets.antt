@@ -1,4 +1,4 @@
-use Rattle.std.specs.Prelude.{◌≡◌, Bool, true, ◌||◌}
+use Rattle.std.specs.Prelude.{◌≡◌, true, ◌||◌}
 use Rattle.mr_version.specs.Name.{Name, name_eq}
 pub use Rattle.mr_version.specs.Sets.{Versions, is_listed}
 
@@ -10,7 +10,7 @@ with_version s version = λ v. name_eq version v || s v
 abbrev pub both : Versions → Versions → Versions
 both s t = λ v. s v || t v
 
--- the same versions are in both
+-- two sets have the same versions
 abbrev pub IsSame : Versions → Versions → Type 0
 IsSame s t = (v : Name) → s v ≡ t v
 

@@ -1,8 +1,9 @@
+//! Keys that are added to a set: all of them, or none.
 ghost use Rattle.std.specs.Prelude.{◌≡◌, ◌||◌, OnOk, OnErr};
 ghost use Rattle.std.specs.List.{list_any};
 ghost use Rattle.std.specs.Ordering.{eq_by_cmp};
 ghost use Rattle.std.specs.BTreeSet.{contains};
-ghost use Rattle.mr_forms.specs.Additions.{taken_back};
+ghost use Rattle.mr_forms.specs.inner.Additions.{taken_back};
 
 use std::alloc::{AllocError, Global};
 use std::collections::BTreeSet;

@@ -1,3 +1,4 @@
+//! Why a form could not take something.
 ghost use Rattle.std.specs.Prelude.{◌≡◌};
 ghost use Rattle.mr_forms.specs.declared.fault.FormFault.TheVariants.{OutOfMemory};
 

@@ -1,3 +1,4 @@
+//! Fragments: a part of a knowledge, of some items or of all.
 ghost use Rattle.std.specs.Prelude.{◌≡◌, ◌↔◌, IsTrue, IfOk};
 
 use crate::VersionSet;
@@ -17,7 +18,7 @@ pub enum ItemSet {
 }
 
 impl ItemSet {
-    ghost use Rattle.mr_forms.specs.Plain.{IsOnly};
+    ghost use Rattle.mr_forms.specs.inner.Plain.{IsOnly};
     ghost use Rattle.mr_forms.specs.Covered.{listed_items};
 
     /// The same items.

@@ -1,3 +1,4 @@
+//! Which versions are known for which items, in any form.
 ghost use Rattle.std.specs.Prelude.{◌≡◌, ◌↔◌, ◌≢◌, false, All, IfOk, OnOk, OnErr, IsErrOf, Err, map};
 ghost use Rattle.mr_forms.specs.Known.{Form, AreSame, HasValue, IsOnlyOverItems, IsOverHolesInTurn, IsOverItemsInTurn, with_below, with_pairs, learned, learned_of, learned_with};
 

@@ -1,3 +1,4 @@
+//! Forms in which each knowledge has one value.
 ghost use Rattle.mr_forms.specs.ByMeaning.{AreOneValue};
 
 use crate::Knowledge;

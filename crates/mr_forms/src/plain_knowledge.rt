@@ -1,3 +1,4 @@
+//! Knowledge that is kept pair by pair.
 ghost use Rattle.std.specs.Prelude.{◌≡◌, ◌&&◌, ◌||◌, All, OnOk, OnErr, Err, IfOk, map};
 ghost use Rattle.std.specs.List.{list_any};
 ghost use Rattle.std.specs.Ordering.{eq_by_cmp};
@@ -9,7 +10,7 @@ ghost use Rattle.mr_forms.specs.Covered.{HasItems, all_covered};
 ghost use Rattle.mr_forms.specs.PlainPair.{pair, pair_cmp, has_pair};
 ghost use Rattle.mr_forms.specs.Plain.{plain_form, plain_known, IsPlainPart, IsOneByOne, AreFragmentsOf};
 ghost use Rattle.mr_forms.specs.Parts.{part_of, ArePartsThat};
-ghost use Rattle.mr_forms.specs.PlainSteps.{EndsBy, GainsPair, IsFragmentOf, GainsVersionOf, AreForAll};
+ghost use Rattle.mr_forms.specs.inner.PlainSteps.{EndsBy, GainsPair, IsFragmentOf, GainsVersionOf, AreForAll};
 
 use crate::additions::add_all;
 use crate::versions::versions_in;

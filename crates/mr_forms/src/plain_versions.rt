@@ -1,7 +1,8 @@
+//! A set of versions that is kept one by one.
 ghost use Rattle.std.specs.Prelude.{◌≡◌, ◌≤◌, ◌↔◌, [], true, false, All, IsTrue, OnOk, OnErr, Err, MatchOption};
 ghost use Rattle.mr_forms.specs.Sets.{is_listed, both, IsSame};
 ghost use Rattle.mr_forms.specs.Runs.{HasVersionsAlone, HasNoAuthorFrom, IsNextAuthor, HasNoRunFrom, IsFirstFrom, IsEndOfRun, of_author};
-ghost use Rattle.mr_forms.specs.Columns.{EndsBelow, GainsVersion};
+ghost use Rattle.mr_forms.specs.inner.Columns.{EndsBelow, GainsVersion};
 
 use crate::additions::add_all;
 use crate::versions::push_run;

@@ -1,3 +1,4 @@
+//! Runs: versions of one author whose counters have no gap.
 ghost use Rattle.std.specs.Prelude.{◌≡◌, ◌≤◌, ◌+◌, ◌↔◌, IsTrue};
 ghost use Rattle.mr_version.specs.declared.version.TheConstants.{MAX_COUNTER};
 

@@ -1,3 +1,4 @@
+//! Sets of versions, in any form.
 ghost use Rattle.std.specs.Prelude.{◌≡◌, ◌≤◌, ◌↔◌, ◌≢◌, false, MatchOption, IsTrue, IfOk, OnOk, OnErr, IsErrOf, Err};
 ghost use Rattle.mr_forms.specs.Sets.{Versions, IsSame, Covers, with_version, both};
 ghost use Rattle.mr_forms.specs.Runs.{with_run, AreRunsOf, HasVersionsAlone, HasNoAuthorFrom, IsNextAuthor, HasNoRunFrom, IsRunFrom};

@@ -1,5 +1,5 @@
+//! The versions of a set, one by one.
 ghost use Rattle.std.specs.Prelude.{◌≡◌, ◌||◌, OnOk, IfOk, OnErr, Err};
-ghost use Rattle.mr_version.specs.Name.{Name};
 ghost use Rattle.mr_forms.specs.Sets.{IsSame, is_listed};
 ghost use Rattle.mr_forms.specs.Runs.{in_run, HasVersionsAlone};
 

@@ -3,3 +3,4 @@ pub mod Stream
 pub mod Reader
 pub mod Calls
 pub mod Rows
+pub mod inner

@@ -9,7 +9,8 @@ use Rattle.mr_wire.specs.declared.frame.Mode.TheVariants.{Partial}
 use Rattle.mr_wire.specs.Decoding.{decoded}
 use Rattle.mr_wire.proofs.DecodeLaws.{decoded_takes}
 use Rattle.mr_frames.specs.declared.fault.FrameFault.TheVariants.{Wire, Failed}
-use Rattle.mr_frames.specs.Stream.{Begins, AreFrames, Takes}
+use Rattle.mr_frames.specs.Stream.{Begins, AreFrames}
+use Rattle.mr_frames.specs.inner.Stream.{Takes}
 use Rattle.mr_frames.specs.Reader.{Feeds, Nexts, ending}
 use Rattle.mr_frames.specs.Calls.{Call, Fed, Asked, fed, given, told, Ends, ComesTo, IsDrained}
 

@@ -2,7 +2,8 @@
 ghost use Rattle.std.specs.Prelude.{◌≡◌, ◌↔◌, IsTrue, IfOk, IfSome, IfNone, Some, Err, []};
 ghost use Rattle.mr_wire.specs.Decoding.{decoded};
 ghost use Rattle.mr_wire.specs.declared.fault.WireFault.TheVariants.{Truncated};
-ghost use Rattle.mr_frames.specs.Stream.{IsPart, Takes};
+ghost use Rattle.mr_frames.specs.Stream.{IsPart};
+ghost use Rattle.mr_frames.specs.inner.Stream.{Takes};
 
 use crate::fault::FrameFault;
 use byteorder::{BigEndian, ByteOrder};

@@ -11,7 +11,7 @@
 //! ```
 #![tactic(auto)]
 
-ghost use Rattle.std.specs.Prelude.{◌≡◌, ◌≢◌, ◌↔◌, IfOk, IsSome};
+ghost use Rattle.std.specs.Prelude.{◌≢◌, ◌↔◌, IfOk, IsSome};
 ghost use Rattle.mr_command.specs.declared.fault.LineFault.TheVariants.{OutOfMemory};
 
 mod command;

@@ -1,5 +1,5 @@
 -- what a host has done, and what is shown then
-use Rattle.std.specs.Prelude.{◌≡◌, ◌&&◌, [], ℕ, Bool, true, false, not, nat_le, List, drop, length}
+use Rattle.std.specs.Prelude.{◌≡◌, ◌&&◌, [], Bool, true, false, not, nat_le, List, drop, length}
 use Rattle.mr_journal.specs.Journal.{device_of}
 use Rattle.mr_kept.specs.Kept.{journal_of, nothing_waits}
 use Rattle.mr_kept.specs.declared.journaled.Journaled.{Journaled}
@@ -34,7 +34,7 @@ module _ {K V : Type 0} where
   abbrev pub is_settled : Hosted K V → Bool
   is_settled h = not h.has_failed && nat_le (length (acts_of (outbox_of h))) h.done
 
-  -- and neither an event nor a note waits
+  -- the host has done all, nothing failed, and neither an event nor a note waits
   abbrev pub may_show : Hosted K V → Bool
   may_show h = is_settled h && nothing_waits (journaled_of h)
 
@@ -43,7 +43,7 @@ module _ {K V : Type 0} where
     pub done : new.done ≡ old.done
     pub failed : new.has_failed ≡ old.has_failed
 
-  -- and so is what is handed out
+  -- what the host has done, what failed and what is handed out are as they were
   pub record SameHost (old new : Hosted K V) : Type 0 where
     pub done : new.done ≡ old.done
     pub failed : new.has_failed ≡ old.has_failed

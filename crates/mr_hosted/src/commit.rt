@@ -41,6 +41,7 @@ impl<K: Knowledge> Hosted<K> {
         ensures left { (entries : List Entry) → IsKept file_of may_leave entries (journaled_of self.old) → IsOf (head_of (journaled_of self.old)) (replica_of (journaled_of self.old))
             → LeavesOnly begun left_since (outbox_of self.old) (outbox_of self.new) (λ c. HasLog K.form c (head_of (journaled_of self.old)) (notes_of entries) ⊎ HasLog K.form c (head_of (journaled_of self.old)) (notes_of entries ++ notes_waiting (journaled_of self.old))) }
     {
+        // the replica is its log replayed
         let _replica = self.journaled.replica();
         if !self.is_settled() {
             return Err(HostedFault::Unsettled);

@@ -1,5 +1,4 @@
 //! The events, as methods. What is held back, the next commit hands out.
-ghost use Rattle.std.specs.Prelude.{◌≡◌};
 ghost use Rattle.mr_kept.specs.Answered.{reply_by};
 ghost use Rattle.mr_kept.specs.Kept.{AtOnce, Later, SameJournal};
 ghost use Rattle.mr_replica.specs.Methods.{received_reply};

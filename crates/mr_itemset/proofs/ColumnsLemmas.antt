@@ -15,7 +15,8 @@ use Rattle.mr_concise.proofs.ColumnLemmas.{column_unique}
 use Rattle.mr_concise.proofs.InsertLemmas.{with_counter-means}
 use Rattle.mr_concise.proofs.VectorLemmas.{IsVectorFrom-with_column, column_of-with_column}
 use Rattle.mr_concise.proofs.UnionLemmas.{column_of-IsColumn, column_has-empty}
-use Rattle.mr_itemset.specs.Folded.{column_upto, both_columns, united, Fits}
+use Rattle.mr_itemset.specs.Folded.{column_upto, both_columns, united}
+use Rattle.mr_itemset.specs.inner.Folded.{Fits}
 
 -- ---- the counters of a set, one after the other
 

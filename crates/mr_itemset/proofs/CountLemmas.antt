@@ -9,9 +9,10 @@ use Rattle.mr_concise.specs.Equal.{vector_eq}
 use Rattle.mr_concise.proofs.EqualLemmas.{vector_eq-same}
 use Rattle.mr_itemset.specs.declared.knowledge.Listed.{Listed}
 use Rattle.mr_itemset.specs.Normal.{Normal, HasMore, IsNormal}
-use Rattle.mr_itemset.specs.Lacking.{Lacks}
-use Rattle.mr_itemset.specs.Folded.{Fits, united, gained, folded}
-use Rattle.mr_itemset.specs.Entries.{vectors_of}
+use Rattle.mr_itemset.specs.inner.Lacking.{Lacks}
+use Rattle.mr_itemset.specs.Folded.{united, gained, folded}
+use Rattle.mr_itemset.specs.inner.Folded.{Fits}
+use Rattle.mr_itemset.specs.inner.Entries.{vectors_of}
 use Rattle.mr_itemset.proofs.ColumnsLemmas.{united-vector, united-has}
 
 pub folded_listed : (k : Normal) (added : List AuthorColumn) → length (gained added (united k.all added) k.listed) ≡ length (folded k added).listed

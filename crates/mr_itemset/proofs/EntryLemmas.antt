@@ -16,9 +16,10 @@ use Rattle.mr_itemset.proofs.NormalLemmas.{same_name}
 use Rattle.mr_forms.proofs.SetLemmas.{name_eq-symmetric}
 use Rattle.mr_concise.specs.declared.vector.AuthorColumn.{AuthorColumn}
 use Rattle.mr_itemset.specs.declared.knowledge.Listed.{Listed}
-use Rattle.mr_itemset.specs.Normal.{items_of, IsBefore, vector_in}
-use Rattle.mr_itemset.specs.Entries.{listed_as, listed_of, vectors_of}
-use Rattle.mr_itemset.specs.Placed.{placed}
+use Rattle.mr_itemset.specs.Normal.{IsBefore, vector_in}
+use Rattle.mr_itemset.specs.inner.Normal.{items_of}
+use Rattle.mr_itemset.specs.inner.Entries.{listed_as, listed_of, vectors_of}
+use Rattle.mr_itemset.specs.inner.Placed.{placed}
 use Rattle.mr_itemset.proofs.PlaceLemmas.{name_cases, not_lt-more, not_lt-same, same_test, other_test}
 
 -- a map has as many entries as it lists items

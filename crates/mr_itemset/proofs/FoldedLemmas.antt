@@ -15,8 +15,9 @@ use Rattle.mr_concise.proofs.UnionLemmas.{column_has-empty}
 use Rattle.mr_itemset.specs.declared.knowledge.Listed.{Listed}
 use Rattle.mr_itemset.specs.Normal.{Normal, IsBefore, HasMore, IsNormal, vector_of, normal_known}
 use Rattle.mr_itemset.specs.ItemForm.{with_all, HasHoleyItem}
-use Rattle.mr_itemset.specs.Growth.{HasGained, IsGrown}
-use Rattle.mr_itemset.specs.Folded.{Fits, united, gained, folded, IsKept}
+use Rattle.mr_itemset.specs.inner.Growth.{HasGained, IsGrown}
+use Rattle.mr_itemset.specs.Folded.{united, gained, folded, IsKept}
+use Rattle.mr_itemset.specs.inner.Folded.{Fits}
 use Rattle.mr_itemset.proofs.NormalLemmas.{vector_in-has, normal_unique}
 use Rattle.mr_itemset.proofs.LimitLemmas.{free_item}
 use Rattle.mr_itemset.proofs.ItemLemmas.{vector_of-IsVector}

@@ -19,7 +19,8 @@ use Rattle.mr_concise.specs.declared.vector.AuthorColumn.{AuthorColumn}
 use Rattle.mr_concise.specs.Vector.{vector_has, IsVectorFrom}
 use Rattle.mr_concise.specs.Equal.{vector_eq}
 use Rattle.mr_concise.proofs.EqualLemmas.{vectors_Decides, vectors_same}
-use Rattle.mr_itemset.specs.Normal.{Normal, IsNormal, items_of, vector_of, normal_known}
+use Rattle.mr_itemset.specs.Normal.{Normal, IsNormal, vector_of, normal_known}
+use Rattle.mr_itemset.specs.inner.Normal.{items_of}
 use Rattle.mr_itemset.specs.ItemForm.{HasNormalVersions, IsNormalPart}
 use Rattle.mr_itemset.specs.ListingLaws.{known_of}
 use Rattle.mr_itemset.specs.Pieces.{AreAllWith, FillsBefore, HasPiece, IsFullBefore}

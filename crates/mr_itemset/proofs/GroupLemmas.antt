@@ -16,7 +16,8 @@ use Rattle.mr_concise.specs.Equal.{vector_eq}
 use Rattle.mr_concise.specs.Order.{vector_cmp, vectors_tied}
 use Rattle.mr_concise.proofs.EqualLemmas.{vectors_Decides}
 use Rattle.mr_itemset.specs.declared.knowledge.Listed.{Listed}
-use Rattle.mr_itemset.specs.Groups.{Alike, alone, with_item, takes, grouped, place_of, mark_of, FillInTurn}
+use Rattle.mr_itemset.specs.Groups.{Alike, alone, with_item, takes, grouped}
+use Rattle.mr_itemset.specs.inner.Groups.{place_of, mark_of, FillInTurn}
 
 none_is_not : {X : Type 0} (x : X) → None ≡ Some x → ⊥
 none_is_not x e = false≢true (ap is_some e)

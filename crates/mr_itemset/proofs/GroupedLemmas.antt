@@ -22,11 +22,15 @@ use Rattle.mr_concise.proofs.EqualLemmas.{vectors_same}
 use Rattle.mr_itemset.specs.declared.knowledge.Listed.{Listed}
 use Rattle.mr_itemset.specs.Normal.{Normal, IsBefore, HasMore, IsNormal, vector_in}
 use Rattle.mr_itemset.specs.NormalForm.{is_of, said, IsGreater, AreApart, AreNormalOf, HasOneNormalForm}
-use Rattle.mr_itemset.specs.Groups.{Alike, takes, grouped, all_grouped, part_of_group}
+use Rattle.mr_itemset.specs.Groups.{Alike, takes, grouped, all_grouped}
 use Rattle.mr_itemset.specs.Pieces.{FillsBefore, IsFullBefore}
 use Rattle.mr_itemset.proofs.NormalLemmas.{same_name}
 use Rattle.mr_itemset.proofs.FormLemmas.{normal_form_unique}
 use Rattle.mr_itemset.proofs.GroupLemmas.{all_grouped_by, pairs_grouped_by, taken, untaken}
+
+-- a group's items, with their versions
+abbrev pub part_of_group : Alike → Part
+part_of_group g = record { items = Some g.items; versions = vector_has g.vector }
 
 -- ---- the groups so far
 

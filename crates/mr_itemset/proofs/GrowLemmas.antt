@@ -11,8 +11,8 @@ use Rattle.mr_concise.specs.Vector.{vector_has, IsVectorFrom}
 use Rattle.mr_itemset.specs.declared.knowledge.Listed.{Listed}
 use Rattle.mr_itemset.specs.Normal.{Normal, IsBefore, HasMore, IsNormal, vector_in, normal_known}
 use Rattle.mr_itemset.specs.ItemForm.{with_all}
-use Rattle.mr_itemset.specs.Growth.{HasGained, GainsListed, IsGrown}
-use Rattle.mr_itemset.specs.Lacking.{Lacks}
+use Rattle.mr_itemset.specs.inner.Growth.{HasGained, GainsListed, IsGrown}
+use Rattle.mr_itemset.specs.inner.Lacking.{Lacks}
 use Rattle.mr_itemset.proofs.NormalLemmas.{vector_in-has, vector_in-cases}
 
 -- an item is put at the end with its grown vector

@@ -16,10 +16,11 @@ use Rattle.mr_concise.specs.declared.vector.AuthorColumn.{AuthorColumn}
 use Rattle.mr_concise.specs.Vector.{vector_has, IsVectorFrom, HasTooManyHoles}
 use Rattle.mr_concise.proofs.VersionLemmas.{few-vector}
 use Rattle.mr_itemset.specs.declared.knowledge.Listed.{Listed}
-use Rattle.mr_itemset.specs.Normal.{Normal, items_of, IsBefore, HasMore, IsNormal, vector_in, vector_of, normal_known}
+use Rattle.mr_itemset.specs.Normal.{Normal, IsBefore, HasMore, IsNormal, vector_in, vector_of, normal_known}
+use Rattle.mr_itemset.specs.inner.Normal.{items_of}
 use Rattle.mr_itemset.specs.ItemForm.{HasHoleyItem}
-use Rattle.mr_itemset.specs.Lacking.{Lacks}
-use Rattle.mr_itemset.specs.Placed.{placed, HasRoom}
+use Rattle.mr_itemset.specs.inner.Lacking.{Lacks}
+use Rattle.mr_itemset.specs.inner.Placed.{placed, HasRoom}
 use Rattle.mr_itemset.proofs.NormalLemmas.{same_name, vector_in-cases, vector_in-unlisted}
 use Rattle.mr_itemset.proofs.PlaceLemmas.{name_cases, All-placed, rising-placed, length-placed, vector_in-placed}
 

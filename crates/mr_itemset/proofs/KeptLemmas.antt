@@ -8,8 +8,8 @@ use Rattle.mr_forms.specs.Known.{AreSame, with_below, with_learned_below}
 use Rattle.mr_forms.proofs.SetLemmas.{name_eq-parts}
 use Rattle.mr_concise.specs.declared.column.TheConstants.{MAX_HOLES}
 use Rattle.mr_concise.specs.declared.vector.AuthorColumn.{AuthorColumn}
-use Rattle.mr_concise.specs.Column.{empty_column, with_counter, IsColumn}
-use Rattle.mr_concise.specs.Vector.{column_of, vector_has, IsVectorFrom, IsVectorOf, single}
+use Rattle.mr_concise.specs.Column.{empty_column, with_counter, IsColumn, Extent}
+use Rattle.mr_concise.specs.Vector.{column_of, vector_has, IsVectorFrom, IsVectorOf}
 use Rattle.mr_concise.proofs.EqualLemmas.{vectors_same}
 use Rattle.mr_concise.proofs.InsertLemmas.{with_counter-means, IsColumn-with_counter}
 use Rattle.mr_concise.proofs.UnionLemmas.{column_has-empty, IsColumn-empty}
@@ -17,11 +17,16 @@ use Rattle.mr_concise.proofs.VersionLemmas.{few-vector}
 use Rattle.mr_itemset.specs.Normal.{Normal, IsNormal, vector_in, vector_of, normal_known}
 use Rattle.mr_itemset.specs.declared.knowledge.Listed.{Listed}
 use Rattle.mr_itemset.specs.ItemForm.{with_all, HasHoleyItem}
-use Rattle.mr_itemset.specs.Folded.{Fits, united, folded, IsKept, IsSparse, HasAtMost, HasLeeway}
+use Rattle.mr_itemset.specs.Folded.{united, folded, IsKept, IsSparse, HasAtMost}
+use Rattle.mr_itemset.specs.inner.Folded.{Fits, HasLeeway}
 use Rattle.mr_itemset.proofs.NormalLemmas.{same_name, vector_in-cases}
 use Rattle.mr_itemset.proofs.ItemLemmas.{vector_of-IsVector}
 use Rattle.mr_itemset.proofs.ColumnsLemmas.{united-vector, united-has, united-holes}
 use Rattle.mr_itemset.proofs.FoldedLemmas.{folded_known, kept_fits}
+
+-- one author's column alone
+abbrev pub single : ℕ → Extent → List AuthorColumn
+single author column = (record { author = author; column = column }) ∷ []
 
 -- ---- one version, as a vector
 

@@ -11,7 +11,8 @@ use Rattle.mr_forms.specs.Sets.{Versions, IsSame, both}
 use Rattle.mr_concise.specs.declared.vector.AuthorColumn.{AuthorColumn}
 use Rattle.mr_concise.specs.Vector.{vector_has, HasTooManyHoles}
 use Rattle.mr_itemset.specs.declared.knowledge.Listed.{Listed}
-use Rattle.mr_itemset.specs.Normal.{Normal, items_of, vector_in, normal_known, IsNormal}
+use Rattle.mr_itemset.specs.Normal.{Normal, vector_in, normal_known, IsNormal}
+use Rattle.mr_itemset.specs.inner.Normal.{items_of}
 use Rattle.mr_itemset.specs.ItemForm.{with_all, HasHoleyItem, ListsTooMany}
 use Rattle.mr_itemset.proofs.NormalLemmas.{same_name, top, free-above, vector_in-unlisted, vector_in-has, vector_in-cases}
 

@@ -7,7 +7,8 @@ use Rattle.mr_concise.specs.declared.vector.AuthorColumn.{AuthorColumn}
 use Rattle.mr_concise.specs.Vector.{vector_has, IsVectorFrom}
 use Rattle.mr_itemset.specs.Normal.{Normal, normal_known}
 use Rattle.mr_itemset.specs.ItemForm.{items_form, with_all}
-use Rattle.mr_itemset.specs.Folded.{folded, IsKept, HasLeeway}
+use Rattle.mr_itemset.specs.Folded.{folded, IsKept}
+use Rattle.mr_itemset.specs.inner.Folded.{HasLeeway}
 use Rattle.mr_itemset.proofs.FoldedLemmas.{folded_known, folded_normal}
 use Rattle.mr_itemset.proofs.ValueLemmas.{known_value}
 

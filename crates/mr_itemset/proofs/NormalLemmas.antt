@@ -17,7 +17,8 @@ use Rattle.mr_concise.specs.declared.vector.AuthorColumn.{AuthorColumn}
 use Rattle.mr_concise.specs.Vector.{vector_has}
 use Rattle.mr_concise.proofs.EqualLemmas.{vectors_same}
 use Rattle.mr_itemset.specs.declared.knowledge.Listed.{Listed}
-use Rattle.mr_itemset.specs.Normal.{Normal, items_of, IsBefore, vector_in, normal_known, HasMore, IsNormal}
+use Rattle.mr_itemset.specs.Normal.{Normal, IsBefore, vector_in, normal_known, HasMore, IsNormal}
+use Rattle.mr_itemset.specs.inner.Normal.{items_of}
 
 -- ---- names
 

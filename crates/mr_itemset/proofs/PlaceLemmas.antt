@@ -12,7 +12,7 @@ use Rattle.mr_forms.proofs.PartLemmas.{AllPairs-head, AllPairs-tail}
 use Rattle.mr_concise.specs.declared.vector.AuthorColumn.{AuthorColumn}
 use Rattle.mr_itemset.specs.declared.knowledge.Listed.{Listed}
 use Rattle.mr_itemset.specs.Normal.{IsBefore, vector_in}
-use Rattle.mr_itemset.specs.Placed.{placed}
+use Rattle.mr_itemset.specs.inner.Placed.{placed}
 use Rattle.mr_itemset.proofs.NormalLemmas.{same_name}
 
 -- ---- two names

@@ -9,7 +9,8 @@ use Rattle.mr_version.specs.Name.{Name, name_eq}
 use Rattle.mr_forms.proofs.PairLemmas.{name_eq-itself}
 use Rattle.mr_forms.proofs.PartLemmas.{Contains-cases}
 use Rattle.mr_itemset.specs.declared.knowledge.Listed.{Listed}
-use Rattle.mr_itemset.specs.Normal.{items_of, IsBefore}
+use Rattle.mr_itemset.specs.Normal.{IsBefore}
+use Rattle.mr_itemset.specs.inner.Normal.{items_of}
 use Rattle.mr_itemset.proofs.NormalLemmas.{same_name}
 
 pub none_by_recursion : (i : Name) (js : List Name) → list_any (name_eq i) js ≡ false → AllByRecursion (λ j. name_eq i j ≡ false) js

@@ -7,7 +7,7 @@ use Rattle.mr_version.specs.Name.{Name}
 use Rattle.mr_forms.specs.declared.fragment.ItemSet.{ItemSet}
 use Rattle.mr_forms.specs.declared.fragment.ItemSet.TheVariants.{All as AllItems, Listed}
 use Rattle.mr_forms.specs.declared.fragment.TheConstants.{MAX_ITEMS}
-use Rattle.mr_forms.specs.Known.{AreSame}
+use Rattle.mr_forms.specs.Known.{AreSame, Part}
 use Rattle.mr_forms.specs.Covered.{has_item, listed_items, HasItems, all_covered}
 use Rattle.mr_forms.specs.Parts.{part_of, AreListable, ArePartsThat}
 use Rattle.mr_concise.specs.Vector.{vector_has}
@@ -16,9 +16,13 @@ use Rattle.mr_itemset.specs.Normal.{Normal, normal_known, IsNormal}
 use Rattle.mr_itemset.specs.ItemForm.{IsNormalPart}
 use Rattle.mr_itemset.specs.NormalForm.{is_of, said, AreNormalOf}
 use Rattle.mr_itemset.specs.Groups.{all_grouped}
-use Rattle.mr_itemset.specs.Shown.{shown, shown_group, fragments_in, part_in, shown_items, shown_text, normal_text}
+use Rattle.mr_itemset.specs.Shown.{shown, shown_group, fragments_in, shown_items, shown_text, normal_text, Shown}
 use Rattle.mr_itemset.proofs.FormLemmas.{normal_parts_that}
 use Rattle.mr_itemset.proofs.GroupedLemmas.{parts_in, parts_are_normal}
+
+-- what it says
+abbrev pub part_in : Shown → Part
+part_in s = record { items = s.items; versions = vector_has s.vector }
 
 -- the fragments' parts are those of the normal form
 pub parts_shown : (k : Normal) (fs : List ConciseFragment) → map shown fs ≡ fragments_in k → map (part_of vector_has) fs ≡ parts_in k

@@ -16,7 +16,7 @@ use Rattle.mr_itemset.specs.ItemForm.{with_all}
 use Rattle.mr_itemset.specs.Sparing.{holes_for_all, goes_to_all, spreads, sparing_form}
 use Rattle.mr_itemset.proofs.FoldedLemmas.{same_pairs}
 use Rattle.mr_itemset.proofs.HolesLemmas.{holes_counted}
-use Rattle.mr_itemset.specs.Folded.{IsSplit}
+use Rattle.mr_itemset.specs.inner.Folded.{IsSplit}
 use Rattle.mr_itemset.proofs.SplitLemmas.{split_all}
 
 pub all_know_by : {limit : ℕ} (k settled : Normal) (pending : List AuthorColumn) (v : Name) → IsSplit limit k settled pending → (vector_has pending v || vector_has settled.all v) ≡ vector_has k.all v

@@ -9,10 +9,12 @@ use Rattle.mr_forms.specs.Known.{Pairs, AreSame, with_below}
 use Rattle.mr_concise.specs.declared.vector.AuthorColumn.{AuthorColumn}
 use Rattle.mr_concise.specs.Vector.{vector_has}
 use Rattle.mr_itemset.specs.declared.knowledge.Listed.{Listed}
-use Rattle.mr_itemset.specs.Normal.{Normal, items_of, HasMore, IsNormal, vector_in, vector_of, normal_known}
+use Rattle.mr_itemset.specs.Normal.{Normal, HasMore, IsNormal, vector_in, vector_of, normal_known}
+use Rattle.mr_itemset.specs.inner.Normal.{items_of}
 use Rattle.mr_itemset.specs.ItemForm.{with_all}
-use Rattle.mr_itemset.specs.Lacking.{Lacks}
-use Rattle.mr_itemset.specs.Folded.{folded, IsKept, IsSplit}
+use Rattle.mr_itemset.specs.inner.Lacking.{Lacks}
+use Rattle.mr_itemset.specs.Folded.{folded, IsKept}
+use Rattle.mr_itemset.specs.inner.Folded.{IsSplit}
 use Rattle.mr_itemset.proofs.NormalLemmas.{top, free-above, vector_in-unlisted, vector_in-has, vector_in-cases}
 use Rattle.mr_itemset.proofs.ItemLemmas.{covers_all}
 use Rattle.mr_itemset.proofs.EachLemmas.{listed_item}

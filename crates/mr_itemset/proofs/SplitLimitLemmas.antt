@@ -8,8 +8,8 @@ use Rattle.mr_concise.specs.declared.vector.AuthorColumn.{AuthorColumn}
 use Rattle.mr_concise.specs.Vector.{vector_has}
 use Rattle.mr_itemset.specs.Normal.{Normal, IsNormal, normal_known}
 use Rattle.mr_itemset.specs.ItemForm.{with_all, HasHoleyItem, ListsTooMany}
-use Rattle.mr_itemset.specs.Room.{HasRoomWith}
-use Rattle.mr_itemset.specs.Folded.{IsSplit}
+use Rattle.mr_itemset.specs.inner.Room.{HasRoomWith}
+use Rattle.mr_itemset.specs.inner.Folded.{IsSplit}
 use Rattle.mr_itemset.proofs.NormalLemmas.{normal_unique}
 use Rattle.mr_itemset.proofs.WithLemmas.{lists_few-with}
 use Rattle.mr_itemset.proofs.FoldedLemmas.{normal_few}

@@ -11,12 +11,14 @@ use Rattle.mr_concise.specs.Equal.{vector_eq}
 use Rattle.mr_concise.specs.Vector.{vector_has, IsVectorFrom, IsVectorOf}
 use Rattle.mr_concise.proofs.EqualLemmas.{vectors_same, vector_eq-same}
 use Rattle.mr_itemset.specs.declared.knowledge.Listed.{Listed}
-use Rattle.mr_itemset.specs.Folded.{Fits, united, gained, folded}
+use Rattle.mr_itemset.specs.Folded.{united, gained, folded}
+use Rattle.mr_itemset.specs.inner.Folded.{Fits}
 use Rattle.mr_itemset.specs.Groups.{Alike, alone, with_item, takes, grouped, all_grouped}
-use Rattle.mr_itemset.specs.Lacking.{Lacks}
+use Rattle.mr_itemset.specs.inner.Lacking.{Lacks}
 use Rattle.mr_itemset.specs.Normal.{Normal, HasMore, IsNormal}
 use Rattle.mr_itemset.specs.Shown.{Shown, shown_group, fragments_in}
-use Rattle.mr_itemset.specs.Told.{AreTold, IsToldItem, GainsTold, AreToldItems, IsToldOf}
+use Rattle.mr_itemset.specs.Told.{AreTold, IsToldOf}
+use Rattle.mr_itemset.specs.inner.Told.{IsToldItem, GainsTold, AreToldItems}
 use Rattle.mr_itemset.proofs.ColumnsLemmas.{united-vector, united-has}
 use Rattle.mr_itemset.proofs.CountLemmas.{stays_yes, stays_no}
 use Rattle.mr_concise.proofs.LastLemmas.{bound-is_last}

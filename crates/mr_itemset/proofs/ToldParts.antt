@@ -15,13 +15,13 @@ use Rattle.mr_concise.specs.Vector.{vector_has}
 use Rattle.mr_itemset.specs.Normal.{Normal, IsNormal, normal_known}
 use Rattle.mr_itemset.specs.ItemForm.{HasNormalVersions, IsNormalPart}
 use Rattle.mr_itemset.specs.NormalForm.{said}
-use Rattle.mr_itemset.specs.Groups.{all_grouped, part_of_group}
-use Rattle.mr_itemset.specs.Shown.{Shown, shown, shown_group, fragments_in, part_in}
+use Rattle.mr_itemset.specs.Groups.{all_grouped}
+use Rattle.mr_itemset.proofs.GroupedLemmas.{part_of_group, parts_in, parts_are_normal}
+use Rattle.mr_itemset.specs.Shown.{Shown, shown, shown_group, fragments_in}
+use Rattle.mr_itemset.proofs.ShownLemmas.{part_in, said_covered, each_has_items}
 use Rattle.mr_itemset.specs.Told.{Tells, IsToldPart, IsToldOf, IsSparest, Spares}
 use Rattle.mr_forms.specs.declared.fragment.TheConstants.{MAX_ITEMS}
 use Rattle.mr_itemset.proofs.FormLemmas.{normal_parts_that}
-use Rattle.mr_itemset.proofs.GroupedLemmas.{parts_in, parts_are_normal}
-use Rattle.mr_itemset.proofs.ShownLemmas.{said_covered, each_has_items}
 use Rattle.mr_itemset.proofs.ToldLemmas.{told_unique, told_same, has_fewest}
 
 -- of the other part's items it says what is told

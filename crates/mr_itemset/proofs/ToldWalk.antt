@@ -10,16 +10,18 @@ use Rattle.mr_concise.specs.declared.column.Hole.{Hole}
 use Rattle.mr_concise.specs.declared.column.TheConstants.{COUNTERS_END}
 use Rattle.mr_concise.specs.declared.vector.AuthorColumn.{AuthorColumn}
 use Rattle.mr_concise.specs.Column.{Extent, hole_edges, column_has, IsColumn}
-use Rattle.mr_concise.specs.Edges.{is_on, IsRising}
+use Rattle.mr_concise.specs.Edges.{IsRising}
+use Rattle.mr_concise.specs.inner.Edges.{is_on}
+use Rattle.mr_concise.proofs.EdgeLemmas.{IsRising-end}
 use Rattle.mr_concise.specs.Next.{IsNextIn, HasNoneFrom}
 use Rattle.mr_concise.specs.Vector.{column_of, vector_has, IsVectorFrom, with_column}
 use Rattle.mr_concise.proofs.ColumnLemmas.{column_has-edges}
-use Rattle.mr_concise.proofs.EdgeLemmas.{IsRising-end}
 use Rattle.mr_concise.proofs.LastLemmas.{column_has-above}
 use Rattle.mr_concise.proofs.SweepLemmas.{extend}
 use Rattle.mr_concise.proofs.UnionLemmas.{column_has-empty}
 use Rattle.mr_concise.proofs.VectorLemmas.{IsVectorFrom-with_column, column_of-with_column, with_column-insert}
-use Rattle.mr_itemset.specs.Told.{is_beyond, IsTold, IsToldOfAuthor, AreTold, Skips}
+use Rattle.mr_itemset.specs.Told.{is_beyond, IsTold, IsToldOfAuthor, AreTold}
+use Rattle.mr_itemset.specs.inner.Told.{Skips}
 use Rattle.mr_itemset.proofs.ToldLemmas.{beyond_parts, told_within, fewest}
 
 -- ---- one author

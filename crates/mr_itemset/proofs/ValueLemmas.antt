@@ -4,7 +4,8 @@ use Rattle.mr_forms.specs.Known.{Pairs, AreSame, HasValue}
 use Rattle.mr_concise.specs.declared.vector.AuthorColumn.{AuthorColumn}
 use Rattle.mr_itemset.specs.Normal.{Normal, IsNormal, normal_known}
 use Rattle.mr_itemset.specs.ItemForm.{items_form, with_all}
-use Rattle.mr_itemset.specs.Folded.{folded, IsKept, HasLeeway}
+use Rattle.mr_itemset.specs.Folded.{folded, IsKept}
+use Rattle.mr_itemset.specs.inner.Folded.{HasLeeway}
 use Rattle.mr_itemset.proofs.LimitLemmas.{lists_few}
 use Rattle.mr_itemset.proofs.FoldedLemmas.{folded_normal, normal_few, same_pairs}
 use Rattle.mr_itemset.proofs.KeptLemmas.{InRange, leeway_few}

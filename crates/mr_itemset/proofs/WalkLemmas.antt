@@ -10,7 +10,7 @@ use Rattle.mr_version.specs.Name.{Name}
 use Rattle.mr_concise.specs.declared.vector.AuthorColumn.{AuthorColumn}
 use Rattle.mr_itemset.specs.declared.knowledge.Listed.{Listed}
 use Rattle.mr_itemset.specs.Normal.{IsBefore}
-use Rattle.mr_itemset.specs.Entries.{listed_as, listed_of, vectors_of}
+use Rattle.mr_itemset.specs.inner.Entries.{listed_as, listed_of, vectors_of}
 
 -- ---- a loop over the vectors
 

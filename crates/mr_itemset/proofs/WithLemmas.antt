@@ -15,11 +15,12 @@ use Rattle.mr_forms.proofs.PairLemmas.{name_eq-itself}
 use Rattle.mr_concise.specs.declared.vector.AuthorColumn.{AuthorColumn}
 use Rattle.mr_concise.specs.Vector.{vector_has, HasTooManyHoles}
 use Rattle.mr_itemset.specs.declared.knowledge.Listed.{Listed}
-use Rattle.mr_itemset.specs.Normal.{Normal, items_of, HasMore, IsNormal, normal_known, vector_of}
+use Rattle.mr_itemset.specs.Normal.{Normal, HasMore, IsNormal, normal_known, vector_of}
+use Rattle.mr_itemset.specs.inner.Normal.{items_of}
 use Rattle.mr_itemset.specs.ItemForm.{ListsTooMany, HasHoleyItem, with_all}
-use Rattle.mr_itemset.specs.Lacking.{Lacks}
-use Rattle.mr_itemset.specs.Placed.{Lists}
-use Rattle.mr_itemset.specs.Room.{Drops, HasRoomWith}
+use Rattle.mr_itemset.specs.inner.Lacking.{Lacks}
+use Rattle.mr_itemset.specs.inner.Placed.{Lists}
+use Rattle.mr_itemset.specs.inner.Room.{Drops, HasRoomWith}
 use Rattle.mr_itemset.proofs.NormalLemmas.{same_name, top, free-above, vector_in-has, vector_in-unlisted}
 use Rattle.mr_itemset.proofs.LimitLemmas.{any_all}
 use Rattle.mr_itemset.proofs.ItemLemmas.{same_tests}

@@ -1,13 +1,12 @@
-use Rattle.std.specs.Prelude.{◌≡◌, ◌≤◌, ◌+◌, ℕ, zero, suc, Bool, ◌||◌, nat_lt, if◌then◌else◌, List, [], ◌∷◌, length}
+use Rattle.std.specs.Prelude.{◌≤◌, ◌+◌, ℕ, zero, suc, Bool, ◌||◌, nat_lt, if◌then◌else◌, List, [], ◌∷◌, length}
 use Rattle.mr_version.specs.Name.{Name}
 use Rattle.mr_concise.specs.declared.column.TheConstants.{MAX_HOLES}
 use Rattle.mr_concise.specs.declared.vector.AuthorColumn.{AuthorColumn}
 use Rattle.mr_concise.specs.Column.{Extent, empty_column, column_has, with_counter}
-use Rattle.mr_concise.specs.Vector.{column_of, vector_has, with_column, IsVectorFrom}
+use Rattle.mr_concise.specs.Vector.{column_of, with_column, IsVectorFrom}
 use Rattle.mr_concise.specs.Equal.{vector_eq}
 use Rattle.mr_itemset.specs.declared.knowledge.Listed.{Listed}
-use Rattle.mr_itemset.specs.Normal.{Normal, IsNormal, vector_of, normal_known}
-use Rattle.mr_itemset.specs.ItemForm.{with_all}
+use Rattle.mr_itemset.specs.Normal.{Normal, IsNormal, vector_of}
 
 -- the column of a set's counters from 1 to n
 abbrev pub column_upto : (ℕ → Bool) → ℕ → Extent
@@ -32,10 +31,6 @@ gained added all (x ∷ xs) = if vector_eq (united x.vector added) all then gain
 unfoldable pub folded : Normal → List AuthorColumn → Normal
 folded k added = record { all = united k.all added; listed = gained added (united k.all added) k.listed }
 
--- no author's columns together have more holes than a column may have
-abbrev pub Fits : List AuthorColumn → List AuthorColumn → Type 0
-Fits a b = (q : ℕ) → length (column_of a q).holes + length (column_of b q).holes ≤ MAX_HOLES
-
 -- no column of a vector has more holes
 abbrev pub HasAtMost : ℕ → List AuthorColumn → Type 0
 HasAtMost most columns = (q : ℕ) → length (column_of columns q).holes ≤ most
@@ -43,10 +38,6 @@ HasAtMost most columns = (q : ℕ) → length (column_of columns q).holes ≤ mo
 -- no column of an item's vector has more holes
 abbrev pub IsSparse : Normal → ℕ → Type 0
 IsSparse k most = (i : Name) → HasAtMost most (vector_of k i)
-
--- each author's column, with so many holes more and one, has no more than MAX_HOLES
-abbrev pub HasLeeway : List AuthorColumn → ℕ → Type 0
-HasLeeway columns most = (q : ℕ) → most + length (column_of columns q).holes + 1 ≤ MAX_HOLES
 
 -- What is kept of a knowledge: a part that is settled, and versions of all items that are still to be added to it. The
 -- settled part lists no more items than the limit. No item's settled vector has a column of more than so many holes, and
@@ -56,9 +47,3 @@ pub record IsKept (limit : ℕ) (settled : Normal) (pending : List AuthorColumn)
   pub vector_ok : IsVectorFrom 0 pending
   pub few : IsSparse settled most
   pub room : (q : ℕ) → most + length (column_of pending q).holes ≤ MAX_HOLES
-
--- the knowledge is what is settled, with the pending versions for all items
-pub record IsSplit (limit : ℕ) (k settled : Normal) (pending : List AuthorColumn) : Type 0 where
-  pub normal : IsNormal limit k
-  pub settled_ok : IsNormal limit settled
-  pub known : normal_known k ≡ with_all (normal_known settled) (vector_has pending)

@@ -49,6 +49,6 @@ items_form limit = record {
   has_too_many_items = ListsTooMany limit;
 }
 
--- the same, where no more items may be listed than a fragment lists
+-- the form of a knowledge that lists no more items than a fragment lists
 abbrev pub item_form : Form Normal
 item_form = items_form MAX_ITEMS

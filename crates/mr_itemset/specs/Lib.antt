@@ -3,12 +3,6 @@ pub mod Equal
 pub mod ItemForm
 pub mod ListingLaws
 pub mod Folded
-pub mod Growth
-pub mod Lacking
-pub mod Entries
-pub mod Placed
-pub mod Room
-pub mod Each
 pub mod Pieces
 pub mod NormalForm
 pub mod Groups
@@ -19,3 +13,4 @@ pub mod Sparing
 pub mod MeaningLaws
 pub mod SparingRows
 pub mod ToldRows
+pub mod inner

@@ -11,11 +11,12 @@ use Rattle.mr_forms.specs.declared.fragment.TheConstants.{MAX_ITEMS}
 use Rattle.mr_forms.specs.Sets.{Versions, is_listed}
 use Rattle.mr_forms.specs.Known.{Pairs}
 use Rattle.mr_forms.specs.Listing.{HasMoreFor, ListsMore, SaysKnownForAll}
-use Rattle.mr_forms.specs.Fresh.{unlisted_item}
+use Rattle.mr_forms.specs.inner.Fresh.{unlisted_item}
 use Rattle.mr_concise.specs.declared.vector.AuthorColumn.{AuthorColumn}
 use Rattle.mr_concise.specs.Vector.{vector_has}
 use Rattle.mr_itemset.specs.declared.knowledge.Listed.{Listed}
-use Rattle.mr_itemset.specs.Normal.{Normal, items_of, vector_in, normal_known}
+use Rattle.mr_itemset.specs.Normal.{Normal, vector_in, normal_known}
+use Rattle.mr_itemset.specs.inner.Normal.{items_of}
 use Rattle.mr_itemset.specs.ItemForm.{HasNormalVersions, item_form}
 use Rattle.mr_itemset.specs.Pieces.{HasPiece}
 use Rattle.mr_itemset.specs.Sparing.{sparing_form}

@@ -11,12 +11,13 @@ use Rattle.mr_forms.specs.declared.fragment.TheConstants.{MAX_ITEMS}
 use Rattle.mr_forms.specs.Sets.{Versions}
 use Rattle.mr_forms.specs.Known.{Pairs, AreSame, Part}
 use Rattle.mr_forms.specs.ByMeaning.{IsByMeaning}
-use Rattle.mr_forms.specs.Fresh.{unlisted_in_both}
+use Rattle.mr_forms.specs.inner.Fresh.{unlisted_in_both}
 use Rattle.mr_concise.specs.declared.vector.AuthorColumn.{AuthorColumn}
 use Rattle.mr_concise.specs.Column.{Extent, column_has}
 use Rattle.mr_concise.specs.Vector.{column_of, vector_has}
 use Rattle.mr_itemset.specs.declared.rule.TheConstants.{SPARED_HOLES}
-use Rattle.mr_itemset.specs.Normal.{Normal, items_of, normal_known}
+use Rattle.mr_itemset.specs.Normal.{Normal, normal_known}
+use Rattle.mr_itemset.specs.inner.Normal.{items_of}
 use Rattle.mr_itemset.specs.ItemForm.{HasNormalVersions, items_form}
 use Rattle.mr_itemset.specs.ListingLaws.{vector_in-free}
 use Rattle.mr_itemset.specs.Pieces.{HasPiece}

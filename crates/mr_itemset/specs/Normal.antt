@@ -1,4 +1,4 @@
-use Rattle.std.specs.Prelude.{◌≡◌, ◌≤◌, ℕ, if◌then◌else◌, List, [], ◌∷◌, All, AllPairs, length, map, refl}
+use Rattle.std.specs.Prelude.{◌≡◌, ◌≤◌, ℕ, if◌then◌else◌, List, [], ◌∷◌, All, AllPairs, length, refl}
 use Rattle.std.specs.Coded.{Coded, code_by, coded×, coded_list}
 use Rattle.std.specs.declared.cmp.Ordering.TheVariants.{Less}
 use Rattle.mr_version.specs.Name.{Name, name_code, name_cmp, name_eq}
@@ -18,10 +18,6 @@ listed_code = code_by (Name × List AuthorColumn) (coded× name_code (coded_list
 
 abbrev pub normal_code : Coded Normal
 normal_code = code_by (List AuthorColumn × List Listed) (coded× (coded_list author_column_code) (coded_list listed_code)) (λ k. (k.all, k.listed)) (λ p. record { all = p.0; listed = p.1 }) (λ _. refl)
-
--- the items that are listed
-abbrev pub items_of : List Listed → List Name
-items_of listed = map (λ x. x.item) listed
 
 -- the one item is lower than the other
 abbrev pub IsBefore : Listed → Listed → Type 0

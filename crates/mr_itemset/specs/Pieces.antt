@@ -27,7 +27,7 @@ pub record FillsBefore (most : ℕ) (items others : List Name) : Type 0 where
   pub full : length items ≡ most
   pub below : (i j : Name) → list_any (name_eq i) items ≡ true → list_any (name_eq j) others ≡ true → name_cmp i j ≡ Less
 
--- the same of two parts, each of which lists items
+-- of two parts that list items the first has so many, and each is lower than each of the other one
 abbrev pub IsFullBefore : ℕ → Option (List Name) → Option (List Name) → Type 0
 IsFullBefore most None others = ⊥
 IsFullBefore most (Some items) None = ⊥

@@ -10,16 +10,17 @@ use Rattle.mr_concise.specs.declared.vector.AuthorColumn.{AuthorColumn}
 use Rattle.mr_concise.specs.Column.{Extent}
 use Rattle.mr_concise.specs.Vector.{vector_has}
 use Rattle.mr_itemset.specs.declared.knowledge.Listed.{Listed}
-use Rattle.mr_itemset.specs.Each.{with_each}
-use Rattle.mr_itemset.specs.Entries.{listed_as}
+use Rattle.mr_itemset.specs.inner.Each.{with_each}
+use Rattle.mr_itemset.specs.inner.Entries.{listed_as}
 use Rattle.mr_itemset.specs.Equal.{normal_eq}
 use Rattle.mr_itemset.specs.Folded.{both_columns, united, gained, folded}
-use Rattle.mr_itemset.specs.Groups.{Alike, takes, all_grouped, place_of, FillInTurn}
+use Rattle.mr_itemset.specs.Groups.{Alike, takes, all_grouped}
+use Rattle.mr_itemset.specs.inner.Groups.{place_of, FillInTurn}
 use Rattle.mr_itemset.specs.ItemForm.{with_all}
 use Rattle.mr_itemset.specs.Normal.{Normal, vector_of, normal_known, IsNormal}
 use Rattle.mr_itemset.specs.NormalForm.{is_of}
 use Rattle.mr_itemset.specs.Pieces.{AreAllWith, FillsBefore, IsFullBefore, IsPieceOf}
-use Rattle.mr_itemset.specs.Placed.{placed}
+use Rattle.mr_itemset.specs.inner.Placed.{placed}
 use Rattle.mr_itemset.specs.Shown.{normal_text}
 
 -- the author's version, or an item by its first version

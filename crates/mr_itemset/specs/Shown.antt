@@ -2,10 +2,8 @@ use Rattle.std.specs.Prelude.{ℕ, List, [], ◌∷◌, ◌++◌, Option, Some, 
 use Rattle.std.specs.List.{join_by}
 use Rattle.mr_version.specs.Name.{Name, name_text}
 use Rattle.mr_forms.specs.declared.fragment.TheConstants.{MAX_ITEMS}
-use Rattle.mr_forms.specs.Known.{Part}
 use Rattle.mr_forms.specs.Covered.{listed_items}
 use Rattle.mr_concise.specs.declared.vector.AuthorColumn.{AuthorColumn}
-use Rattle.mr_concise.specs.Vector.{vector_has}
 use Rattle.mr_concise.specs.Text.{vector_text}
 use Rattle.mr_concise.specs.Fragments.{ConciseFragment}
 use Rattle.mr_itemset.specs.Normal.{Normal}
@@ -26,10 +24,6 @@ shown_group g = record { items = Some g.items; vector = g.vector }
 -- items in each as a fragment lists, and the rest in the last
 abbrev pub fragments_in : Normal → List Shown
 fragments_in k = (record { items = None; vector = k.all }) ∷ map shown_group (all_grouped MAX_ITEMS [] k.listed)
-
--- what it says
-abbrev pub part_in : Shown → Part
-part_in s = record { items = s.items; versions = vector_has s.vector }
 
 -- all, or the items with commas between them
 abbrev pub shown_items : Option (List Name) → List ℕ

@@ -5,7 +5,8 @@ use Rattle.std.specs.Prelude.{◌≡◌, ◌≤◌, ◌==◌, ◌||◌, ◌&&◌
 use Rattle.mr_version.specs.Name.{Name}
 use Rattle.mr_forms.specs.Sets.{is_listed}
 use Rattle.mr_concise.specs.declared.column.Hole.{Hole}
-use Rattle.mr_itemset.specs.Told.{is_beyond, IsTold, IsEnough, Skips}
+use Rattle.mr_itemset.specs.Told.{is_beyond, IsTold, IsEnough}
+use Rattle.mr_itemset.specs.inner.Told.{Skips}
 
 -- the counters from 1 to this one
 abbrev upto : ℕ → ℕ → Bool

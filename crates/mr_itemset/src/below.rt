@@ -1,10 +1,12 @@
+//! A set that is learned for one item, where the limits leave room for it.
 ghost use Rattle.std.specs.Prelude.{◌≡◌, true, false, OnOk, OnErr};
 ghost use Rattle.std.specs.List.{list_any};
 ghost use Rattle.mr_version.specs.Name.{name_eq};
 ghost use Rattle.mr_forms.specs.Known.{AreSame, with_below};
-ghost use Rattle.mr_itemset.specs.Normal.{normal_known, items_of, IsNormal};
+ghost use Rattle.mr_itemset.specs.Normal.{normal_known, IsNormal};
+ghost use Rattle.mr_itemset.specs.inner.Normal.{items_of};
 ghost use Rattle.mr_itemset.specs.ItemForm.{ListsTooMany};
-ghost use Rattle.mr_itemset.specs.Placed.{HasRoom};
+ghost use Rattle.mr_itemset.specs.inner.Placed.{HasRoom};
 
 use crate::limits::lacks;
 use crate::settled::Settled;

@@ -25,6 +25,7 @@ impl<const LIMIT: usize> ItemsUpTo<LIMIT> {
         ensures holey { IsTrue result ↔ HasHoleyItem (with_all (normal_known self.now) (name_eq version)) }
         ensures normal { IsNormal LIMIT self.now }
     {
+        // what is settled is in its normal form
         let _parts = self.parts();
         if self.has_leeway(version) {
             return false;

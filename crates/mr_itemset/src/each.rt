@@ -1,14 +1,15 @@
-ghost use Rattle.std.specs.Prelude.{◌≡◌, ◌≤◌, ◌↔◌, ◌≢◌, true, false, All, AllPairs, IfOk, OnOk, OnErr, IsErrOf, Err};
+//! A set that is learned for each of some items.
+ghost use Rattle.std.specs.Prelude.{◌≡◌, ◌↔◌, ◌≢◌, true, false, All, AllPairs, IfOk, OnOk, OnErr, IsErrOf, Err};
 ghost use Rattle.std.specs.List.{list_any};
 ghost use Rattle.std.specs.declared.cmp.Ordering.TheVariants.{Less};
 ghost use Rattle.mr_version.specs.Name.{name_cmp, name_eq};
 ghost use Rattle.mr_forms.specs.Sets.{Versions};
 ghost use Rattle.mr_forms.specs.Known.{AreSame, HasValue, IsOnlyOverItems};
 ghost use Rattle.mr_concise.specs.Vector.{vector_has};
-ghost use Rattle.mr_itemset.specs.Lacking.{Lacks};
-ghost use Rattle.mr_itemset.specs.Normal.{normal_known, items_of, IsNormal};
+ghost use Rattle.mr_itemset.specs.inner.Lacking.{Lacks};
+ghost use Rattle.mr_itemset.specs.Normal.{normal_known, IsNormal};
 ghost use Rattle.mr_itemset.specs.ItemForm.{items_form, HasHoleyItem, ListsTooMany};
-ghost use Rattle.mr_itemset.specs.Each.{with_each, CountsNew};
+ghost use Rattle.mr_itemset.specs.inner.Each.{with_each, CountsNew};
 
 use crate::knowledge::ItemsUpTo;
 use crate::settled::Settled;

@@ -1,3 +1,4 @@
+//! When two values are equal: where they know the same.
 ghost use Rattle.std.specs.Prelude.{◌≡◌, ◌↔◌, IsTrue};
 ghost use Rattle.std.specs.Cmp.{partial_equiv_from_equiv};
 ghost use Rattle.mr_forms.specs.Known.{AreSame};

@@ -1,3 +1,4 @@
+//! Laws of normal forms: each knowledge has one, and one value.
 ghost use Rattle.std.specs.Prelude.{◌≡◌, ℕ};
 ghost use Rattle.mr_version.specs.Name.{Name};
 ghost use Rattle.mr_forms.specs.Sets.{Versions};
@@ -18,6 +19,7 @@ pub fn one_normal_form()
 pub fn one_value<const LIMIT: usize>(first: &ItemsUpTo<LIMIT>, second: &ItemsUpTo<LIMIT>)
     ensures { AreSame (normal_known first.now) (normal_known second.now) → first.now ≡ second.now }
 {
+    // both are in their normal form
     let _first = first.parts();
     let _second = second.parts();
 }

@@ -1,9 +1,10 @@
+//! Knowledge as fragments, in normal form, and its text.
 ghost use Rattle.std.specs.Prelude.{◌≡◌, ◌++◌, All, IfOk, OnOk, OnErr, Err, map, string_bytes};
 ghost use Rattle.mr_forms.specs.Known.{AreSame};
 ghost use Rattle.mr_forms.specs.Covered.{all_covered, HasItems};
 ghost use Rattle.mr_forms.specs.Parts.{part_of, ArePartsThat};
 ghost use Rattle.mr_concise.specs.Vector.{vector_has};
-ghost use Rattle.mr_itemset.specs.Normal.{normal_known, IsNormal};
+ghost use Rattle.mr_itemset.specs.Normal.{normal_known};
 ghost use Rattle.mr_itemset.specs.ItemForm.{IsNormalPart};
 ghost use Rattle.mr_itemset.specs.NormalForm.{AreNormal};
 ghost use Rattle.mr_itemset.specs.Shown.{shown, shown_group, fragments_in, normal_text};

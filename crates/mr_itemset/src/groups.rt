@@ -1,7 +1,9 @@
-ghost use Rattle.std.specs.Prelude.{◌≡◌, ◌≤◌, ◌↔◌, [], true, Some, Err, IfOk, OnOk, OnErr, IsTrue, length};
+//! Items with one vector, brought together.
+ghost use Rattle.std.specs.Prelude.{◌≡◌, ◌≤◌, ◌↔◌, [], Some, Err, IfOk, OnOk, OnErr, IsTrue, length};
 ghost use Rattle.mr_forms.specs.declared.fragment.TheConstants.{MAX_ITEMS};
-ghost use Rattle.mr_itemset.specs.Entries.{listed_as, listed_of};
-ghost use Rattle.mr_itemset.specs.Groups.{alone, with_item, grouped, all_grouped, place_of, mark_of, ArePlaces, FillInTurn};
+ghost use Rattle.mr_itemset.specs.inner.Entries.{listed_as, listed_of};
+ghost use Rattle.mr_itemset.specs.Groups.{alone, with_item, grouped, all_grouped};
+ghost use Rattle.mr_itemset.specs.inner.Groups.{place_of, mark_of, ArePlaces, FillInTurn};
 ghost use Rattle.mr_itemset.specs.Shown.{shown, shown_group};
 
 use crate::knowledge::Listed;
@@ -24,7 +26,8 @@ pub(crate) struct Group<'a> {
 }
 
 impl<'a> Model for Group<'a> {
-    ghost use Rattle.mr_itemset.specs.Groups.{Alike, alike_code};
+    ghost use Rattle.mr_itemset.specs.Groups.{Alike};
+    ghost use Rattle.mr_itemset.specs.inner.Groups.{alike_code};
 
     ghost Value = { Alike };
 

@@ -1,12 +1,13 @@
-ghost use Rattle.std.specs.Prelude.{◌≡◌, ◌≤◌, ◌+◌, true, [], ◌∷◌, ◌++◌, All, AllPairs, OnOk, OnErr, IfOk, Err, take, length};
+//! Versions that are learned for all items.
+ghost use Rattle.std.specs.Prelude.{◌≡◌, true, All, OnOk, IfOk, Err};
 ghost use Rattle.mr_version.specs.Name.{Name};
 ghost use Rattle.mr_forms.specs.Sets.{IsSame, Covers, both};
 ghost use Rattle.mr_forms.specs.Known.{AreSame};
 ghost use Rattle.mr_concise.specs.Vector.{vector_has, IsVectorOf};
-ghost use Rattle.mr_itemset.specs.Normal.{normal_known, IsNormal, IsBefore, HasMore};
+ghost use Rattle.mr_itemset.specs.Normal.{normal_known, IsNormal, IsBefore};
 ghost use Rattle.mr_itemset.specs.ItemForm.{with_all};
-ghost use Rattle.mr_itemset.specs.Entries.{listed_as, listed_of};
-ghost use Rattle.mr_itemset.specs.Growth.{IsGrown, GainsListed};
+ghost use Rattle.mr_itemset.specs.inner.Entries.{listed_as, listed_of};
+ghost use Rattle.mr_itemset.specs.inner.Growth.{IsGrown, GainsListed};
 
 use crate::item::put_in;
 use crate::knowledge::Listed;
@@ -24,6 +25,7 @@ fn united(all: &ConciseVector, vector: &ConciseVector) -> Result<ConciseVector, 
 {
     let mut grown = all.copy()?;
     grown.union(vector)?;
+    // a vector's columns are as they have to be
     let _columns = grown.author_columns();
     Ok(grown)
 }

@@ -1,3 +1,4 @@
+//! One listed item: how it is put in its place, gets a vector, and is taken out again.
 ghost use Rattle.std.specs.Prelude.{◌≡◌, IsSome, OnOk, OnErr};
 ghost use Rattle.std.specs.BTreeMap.{get, Updates, IsOrdered};
 ghost use Rattle.mr_version.specs.Name.{name_cmp};
@@ -5,8 +6,8 @@ ghost use Rattle.mr_forms.specs.Sets.{IsSame, with_version};
 ghost use Rattle.mr_forms.specs.Known.{AreSame, with_below};
 ghost use Rattle.mr_concise.specs.Vector.{vector_has};
 ghost use Rattle.mr_itemset.specs.Normal.{normal_known};
-ghost use Rattle.mr_itemset.specs.Entries.{listed_of};
-ghost use Rattle.mr_itemset.specs.Placed.{placed, HasRoom};
+ghost use Rattle.mr_itemset.specs.inner.Entries.{listed_of};
+ghost use Rattle.mr_itemset.specs.inner.Placed.{placed, HasRoom};
 
 use crate::knowledge::Listed;
 use crate::settled::{Settled, Vectors};

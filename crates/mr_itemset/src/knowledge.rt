@@ -1,3 +1,4 @@
+//! Knowledge that lists no more than so many items.
 ghost use Rattle.std.specs.Prelude.{◌≡◌, ◌≤◌, true, false, length, map, All, IfOk, OnErr, Err};
 ghost use Rattle.std.specs.List.{AllZip};
 ghost use Rattle.mr_version.specs.Name.{name_eq};
@@ -10,7 +11,7 @@ ghost use Rattle.mr_itemset.specs.Normal.{normal_known, IsNormal};
 ghost use Rattle.mr_itemset.specs.Shown.{shown, fragments_in};
 ghost use Rattle.mr_itemset.specs.Told.{IsToldOf, IsToldPart, IsSparest};
 ghost use Rattle.mr_itemset.specs.ItemForm.{items_form, with_all, HasHoleyItem};
-ghost use Rattle.mr_itemset.specs.Folded.{IsSplit};
+ghost use Rattle.mr_itemset.specs.inner.Folded.{IsSplit};
 
 use crate::limits::lacks;
 use crate::listing::count_beyond;
@@ -141,6 +142,7 @@ impl<const LIMIT: usize> ItemsUpTo<LIMIT> {
     pub(crate) fn has_leeway(&self, version: Version) -> bool
         ensures { result ≡ true → ¬ HasHoleyItem (with_all (normal_known self.now) (name_eq version)) }
     {
+        // a version's counter is in its range
         let _counter = version.counter();
         leaves_room(&self.pending, self.most_holes)
     }
@@ -151,6 +153,7 @@ impl<const LIMIT: usize> ItemsUpTo<LIMIT> {
         ensures { result ≡ true → ¬ HasHoleyItem (with_all (normal_known self.now) (A.has learned.now)) }
     {
         let added = mr_concise::most_holes(learned);
+        // a vector's columns are as they have to be
         let _columns = self.pending.author_columns();
         fit_together(self.most_holes, most_holes(&self.pending), added)
     }
@@ -165,10 +168,12 @@ impl<const LIMIT: usize> ItemsUpTo<LIMIT> {
         if !leaves_room(&self.pending, self.most_holes) {
             return Ok(false);
         }
+        // a version's counter is in its range
         let _counter = version.counter();
         let Ok(()) = self.pending.insert(version) else {
             return Err(AllocError);
         };
+        // a vector's columns are as they have to be
         let _columns = self.pending.author_columns();
         Ok(true)
     }
@@ -194,6 +199,7 @@ impl<const LIMIT: usize> ItemsUpTo<LIMIT> {
         ensures err { OnErr result (self.new ≡ self.old) }
     {
         let added = mr_concise::most_holes(learned);
+        // a vector's columns are as they have to be
         let _columns = self.pending.author_columns();
         if !fit_together(self.most_holes, most_holes(&self.pending), added) {
             return Ok(false);
@@ -204,6 +210,7 @@ impl<const LIMIT: usize> ItemsUpTo<LIMIT> {
         let Ok(()) = self.pending.union(&vector) else {
             return Err(AllocError);
         };
+        // the united columns are as they have to be
         let _united = self.pending.author_columns();
         Ok(true)
     }
@@ -248,6 +255,7 @@ impl<const LIMIT: usize> ItemsUpTo<LIMIT> {
         if !lacks(&(learned, self.settled.vector_of(item)), below) {
             return self.try_learn(version);
         }
+        // a version's counter is in its range
         let _counter = version.counter();
         let done = try_list_with(
             &mut self.settled,
@@ -257,6 +265,7 @@ impl<const LIMIT: usize> ItemsUpTo<LIMIT> {
             version,
             below,
         )?;
+        // a vector's columns are as they have to be
         let _columns = self.pending.author_columns();
         Ok(done)
     }

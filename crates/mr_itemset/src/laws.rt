@@ -1,3 +1,4 @@
+//! The two knowledges as forms of `mr_forms`.
 use crate::form::{one_choice, one_value};
 use crate::knowledge::ItemKnowledge;
 use crate::sparing::SparingKnowledge;

@@ -1,7 +1,8 @@
+//! The knowledge of nothing, equal copies, and what a knowledge knows.
 ghost use Rattle.std.specs.Prelude.{◌≡◌, false, [], AllPairs, IfOk};
 ghost use Rattle.mr_forms.specs.Known.{AreSame};
 ghost use Rattle.mr_itemset.specs.Normal.{normal_known, IsBefore};
-ghost use Rattle.mr_itemset.specs.Entries.{listed_of};
+ghost use Rattle.mr_itemset.specs.inner.Entries.{listed_of};
 
 use crate::item::put_in;
 use crate::knowledge::Listed;

@@ -1,7 +1,7 @@
+//! What a source lacks of a set, and vectors that would have too many holes.
 ghost use Rattle.std.specs.Prelude.{◌≡◌, ◌↔◌, true, false, IsTrue};
 ghost use Rattle.mr_forms.specs.Sets.{Covers};
-ghost use Rattle.mr_forms.specs.Runs.{HasVersionsAlone};
-ghost use Rattle.mr_itemset.specs.Lacking.{CoversAuthor, Lacks};
+ghost use Rattle.mr_itemset.specs.inner.Lacking.{CoversAuthor, Lacks};
 ghost use Rattle.mr_itemset.specs.Normal.{normal_known, IsNormal};
 ghost use Rattle.mr_itemset.specs.ItemForm.{HasHoleyItem, with_all};
 
@@ -14,6 +14,7 @@ fn lacks_of<A: Source, S: Source>(source: &A, set: &S, author: Author) -> bool
     ensures yes { result ≡ true → Lacks (A.has source.now) (S.has set.now) }
     ensures no { result ≡ false → CoversAuthor (A.has source.now) (S.has set.now) author }
 {
+    // what a set has of an author ends
     let _none = set.next_out(author, 1);
     let mut from = 1;
     while let Some(first) = set.next_in(author, from) {

@@ -4,9 +4,11 @@ ghost use Rattle.std.specs.List.{list_any};
 ghost use Rattle.mr_version.specs.Name.{name_eq};
 ghost use Rattle.mr_forms.specs.Sets.{Covers};
 ghost use Rattle.mr_concise.specs.Vector.{vector_has, IsVectorFrom};
-ghost use Rattle.mr_itemset.specs.Lacking.{Lacks};
-ghost use Rattle.mr_itemset.specs.Normal.{items_of, normal_known, IsNormal};
-ghost use Rattle.mr_itemset.specs.Folded.{Fits, united, gained};
+ghost use Rattle.mr_itemset.specs.inner.Lacking.{Lacks};
+ghost use Rattle.mr_itemset.specs.Normal.{normal_known, IsNormal};
+ghost use Rattle.mr_itemset.specs.inner.Normal.{items_of};
+ghost use Rattle.mr_itemset.specs.Folded.{united, gained};
+ghost use Rattle.mr_itemset.specs.inner.Folded.{Fits};
 ghost use Rattle.mr_version.specs.Name.{Name};
 
 use crate::knowledge::ItemsUpTo;

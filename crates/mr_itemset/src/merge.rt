@@ -1,3 +1,4 @@
+//! A set that is learned for all items, and a fragment that is merged.
 ghost use Rattle.std.specs.Prelude.{◌≡◌, ◌↔◌, ◌≢◌, OnOk, OnErr, IsErrOf, Err};
 ghost use Rattle.mr_forms.specs.Known.{AreSame, IsOnlyOverItems, with_pairs};
 ghost use Rattle.mr_forms.specs.Covered.{covered};

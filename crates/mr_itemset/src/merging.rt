@@ -5,7 +5,7 @@ ghost use Rattle.mr_forms.specs.Covered.{covered, all_covered};
 ghost use Rattle.mr_forms.specs.Merged.{after_each, FirstHasValue, AreOverHolesInTurn, AreOverItemsInTurn};
 ghost use Rattle.mr_itemset.specs.Normal.{normal_known};
 ghost use Rattle.mr_itemset.specs.ItemForm.{items_form, HasHoleyItem};
-ghost use Rattle.mr_itemset.specs.Each.{with_each};
+ghost use Rattle.mr_itemset.specs.inner.Each.{with_each};
 
 use crate::knowledge::ItemsUpTo;
 use mr_concise::{OfSet, Source};

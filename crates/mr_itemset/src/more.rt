@@ -38,6 +38,7 @@ impl<const LIMIT: usize> Settled<LIMIT> {
         }
         let own = mr_concise::most_holes(&(below, vector));
         let added = mr_concise::most_holes(learned);
+        // a vector's columns are as they have to be
         let _columns = pending.author_columns();
         if fit_together(own, most_holes(pending), added) {
             return false;
@@ -81,6 +82,7 @@ impl<const LIMIT: usize> ItemsUpTo<LIMIT> {
         ensures holey { IsTrue result ↔ HasHoleyItem (with_all (normal_known self.now) (A.has learned.now)) }
         ensures normal { IsNormal LIMIT self.now }
     {
+        // what is settled is in its normal form
         let _parts = self.parts();
         if self.has_leeway_for(learned) {
             return false;

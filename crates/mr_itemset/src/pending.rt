@@ -1,16 +1,16 @@
 //! What tells without a look at the listed items that no limit is near.
-ghost use Rattle.std.specs.Prelude.{◌≡◌, ◌≤◌, ◌+◌, ℕ, true, false, List, length, IfOk, IfSome, OnErr};
+ghost use Rattle.std.specs.Prelude.{◌≡◌, ◌≤◌, ◌+◌, ℕ, true, false, length, IfOk, IfSome, OnErr};
 ghost use Rattle.mr_version.specs.Name.{name_eq};
 ghost use Rattle.mr_forms.specs.Sets.{IsSame, both, with_version};
 ghost use Rattle.mr_forms.specs.Known.{AreSame, with_below};
 ghost use Rattle.mr_concise.specs.declared.column.TheConstants.{MAX_HOLES};
-ghost use Rattle.mr_concise.specs.declared.vector.AuthorColumn.{AuthorColumn};
 ghost use Rattle.mr_concise.specs.Vector.{column_of, vector_has, IsVectorOf};
 ghost use Rattle.mr_itemset.specs.Normal.{normal_known, vector_of, IsNormal};
 ghost use Rattle.mr_itemset.specs.ItemForm.{with_all};
-ghost use Rattle.mr_itemset.specs.Folded.{HasAtMost, HasLeeway, IsSparse};
-ghost use Rattle.mr_itemset.specs.Lacking.{Lacks};
-ghost use Rattle.mr_itemset.specs.Placed.{placed, HasRoom};
+ghost use Rattle.mr_itemset.specs.Folded.{HasAtMost, IsSparse};
+ghost use Rattle.mr_itemset.specs.inner.Folded.{HasLeeway};
+ghost use Rattle.mr_itemset.specs.inner.Lacking.{Lacks};
+ghost use Rattle.mr_itemset.specs.inner.Placed.{placed, HasRoom};
 
 use crate::knowledge::Listed;
 use crate::limits::lacks;
@@ -73,6 +73,7 @@ pub(crate) fn only_version<S: Source>(source: &S) -> Option<Version>
 {
     let author = source.next_author(0)?;
     let counter = source.next_in(author, 1)?;
+    // what a source has of an author ends
     let _end = source.next_out(author, counter);
     if let Some(_next) = source.next_in(author, counter + 1) {
         return None;
@@ -116,6 +117,7 @@ pub(crate) fn with_two(
     let Ok(()) = more.insert(two.1) else {
         return Err(AllocError);
     };
+    // a vector's columns are as they have to be
     let _columns = more.author_columns();
     Ok(more)
 }
@@ -207,6 +209,7 @@ fn try_list<S: Source, const LIMIT: usize>(
         return Ok(false);
     }
     settled.list(new)?;
+    // what is settled is in its normal form
     let _listed = settled.listed();
     *most = holes;
     Ok(true)
@@ -241,6 +244,7 @@ pub(crate) fn try_list_with<S: Source, const LIMIT: usize>(
         return Ok(false);
     }
     settled.list_with(new, pending, version)?;
+    // what is settled is in its normal form
     let _listed = settled.listed();
     *most = holes;
     Ok(true)

@@ -1,9 +1,10 @@
+//! Knowledge in its normal form.
 ghost use Rattle.std.specs.Prelude.{◌≡◌, OnOk, OnErr};
 ghost use Rattle.mr_forms.specs.Sets.{IsSame, with_version};
 ghost use Rattle.mr_concise.specs.Vector.{vector_has};
 ghost use Rattle.mr_itemset.specs.Normal.{Normal, IsNormal, vector_of};
-ghost use Rattle.mr_itemset.specs.Entries.{listed_of, vectors_of};
-ghost use Rattle.mr_itemset.specs.Placed.{placed};
+ghost use Rattle.mr_itemset.specs.inner.Entries.{listed_of, vectors_of};
+ghost use Rattle.mr_itemset.specs.inner.Placed.{placed};
 
 use crate::item::{put_in, put_in_with};
 use crate::knowledge::Listed;
@@ -28,7 +29,7 @@ pub(crate) struct Settled<const LIMIT: usize> {
 
 impl<const LIMIT: usize> Model for Settled<LIMIT> {
     ghost use Rattle.mr_itemset.specs.Normal.{Normal, normal_code, IsNormal};
-    ghost use Rattle.mr_itemset.specs.Entries.{listed_of};
+    ghost use Rattle.mr_itemset.specs.inner.Entries.{listed_of};
 
     ghost Value = { Normal };
 

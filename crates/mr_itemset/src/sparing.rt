@@ -71,6 +71,7 @@ impl SparingKnowledge {
         ensures is { result.now ≡ self.now }
         ensures normal { IsNormal MAX_LISTED_ITEMS self.now }
     {
+        // what is settled is in its normal form
         let _parts = self.items.parts();
         &self.items
     }

@@ -7,10 +7,12 @@ ghost use Rattle.mr_forms.specs.Sets.{both};
 ghost use Rattle.mr_concise.specs.Column.{IsColumn, column_has, empty_column};
 ghost use Rattle.mr_concise.specs.Next.{IsNextIn, HasNoneFrom};
 ghost use Rattle.mr_concise.specs.Vector.{vector_has, column_of, IsVectorFrom};
-ghost use Rattle.mr_itemset.specs.Entries.{listed_as};
-ghost use Rattle.mr_itemset.specs.Folded.{folded, Fits};
+ghost use Rattle.mr_itemset.specs.inner.Entries.{listed_as};
+ghost use Rattle.mr_itemset.specs.Folded.{folded};
+ghost use Rattle.mr_itemset.specs.inner.Folded.{Fits};
 ghost use Rattle.mr_itemset.specs.Shown.{shown, fragments_in};
-ghost use Rattle.mr_itemset.specs.Told.{beyond, IsToldOfAuthor, AreTold, AreToldItems, GainsTold, IsToldOf, Skips};
+ghost use Rattle.mr_itemset.specs.Told.{IsToldOfAuthor, AreTold, IsToldOf};
+ghost use Rattle.mr_itemset.specs.inner.Told.{beyond, AreToldItems, GainsTold, Skips};
 
 use crate::fragments::push_groups;
 use crate::groups::groups_in;
@@ -173,6 +175,7 @@ impl<'a> Difference<'a> {
         ensures column { IfOk result IsColumn }
         ensures told { IfOk result (λ column. (c : ℕ) → (column_has column c ≡ true) ↔ IsToldOfAuthor (vector_has self.now.all.now) (both (vector_has self.now.all.now) (vector_has self.now.own.now)) author c) }
     {
+        // a vector's columns are as they have to be
         let _own = self.own.author_columns();
         let mut holes = Vec::new(alloc);
         let mut upto = 0;

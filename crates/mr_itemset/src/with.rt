@@ -1,10 +1,11 @@
+//! A set that is learned for one item, while all items learn some versions too.
 ghost use Rattle.std.specs.Prelude.{◌≡◌, true, false, All, IfOk};
 ghost use Rattle.mr_forms.specs.Sets.{Covers, both};
 ghost use Rattle.mr_forms.specs.Known.{AreSame, with_below};
 ghost use Rattle.mr_concise.specs.Vector.{vector_has};
 ghost use Rattle.mr_itemset.specs.Normal.{normal_known, IsNormal};
 ghost use Rattle.mr_itemset.specs.ItemForm.{ListsTooMany, with_all};
-ghost use Rattle.mr_itemset.specs.Room.{Drops, HasRoomWith};
+ghost use Rattle.mr_itemset.specs.inner.Room.{Drops, HasRoomWith};
 
 use crate::limits::lacks;
 use crate::settled::Settled;

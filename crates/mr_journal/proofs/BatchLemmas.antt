@@ -5,7 +5,7 @@ use Rattle.std.proofs.lemmas.List.Concat.{flat_map-append}
 use Rattle.std.specs.List.{flat_map, slice_index, AllByRecursion}
 use Rattle.std.specs.Int.{w32, to_be_bytes}
 use Rattle.sha2.specs.Sha256.{sha256, digest_bytes}
-use Rattle.mr_journal.specs.Device.{IsStaged}
+use Rattle.mr_journal.specs.inner.Device.{IsStaged}
 use Rattle.mr_journal.specs.Format.{AreBatches, IsBatch, Stands, batch, body, head, sealed, u64}
 
 length-digest_bytes : (h : List ℕ) (n : ℕ) → length (digest_bytes h n) ≡ 4 * n

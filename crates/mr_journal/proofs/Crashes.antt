@@ -2,7 +2,8 @@
 use Rattle.std.proofs.Common.{◌≡◌, ◌⊎◌, inl, inr, ⊎_elim, ℕ, zero, suc, ◌+◌, ◌<◌, List, [], ◌∷◌, ◌++◌, length, take, drop, sym, ◌∙◌, ap, subst, arith, length-append, length-drop, take-append-drop, append_assoc}
 use Rattle.std.proofs.lemmas.List.{append-nil, take_at, drop_at, take_all, drop_all, ext_get_or, get_or-take, length-take-le}
 use native.Mathlib.Numerals.{unary_clauses}
-use Rattle.mr_journal.specs.Device.{Torn, IsStaged, IsOldOrWritten, overwritten}
+use Rattle.mr_journal.specs.Device.{Torn, IsOldOrWritten, overwritten}
+use Rattle.mr_journal.specs.inner.Device.{IsStaged}
 
 -- a write at the end leaves what was there
 pub torn_end : (file bytes c : List ℕ) → Torn (length file) bytes file c → c ≡ file ++ drop (length file) c

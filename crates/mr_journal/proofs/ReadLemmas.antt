@@ -8,10 +8,12 @@ use Rattle.std.proofs.lemmas.Nat.{be_bytes_4, be_bytes_8, from_be_bytes-to_be_by
 use Rattle.std.specs.Int.{w32, w64, from_be_bytes}
 use Rattle.std.proofs.lemmas.List.Concat.{flat_map-append}
 use Rattle.sha2.specs.Sha256.{sha256}
-use Rattle.mr_journal.specs.Format.{AreBatches, AreEntries, IsDamagedAt, batch, body, entry_bytes, framed, head, u32, u64}
+use Rattle.mr_journal.specs.Format.{AreBatches, AreEntries, IsDamagedAt, batch, body, entry_bytes, head, u32, u64}
+use Rattle.mr_journal.specs.inner.Format.{framed}
 use Rattle.mr_journal.specs.declared.fault.JournalFault.{JournalFault}
 use Rattle.mr_journal.specs.declared.fault.JournalFault.TheVariants.{OutOfMemory, Failed, NotAJournal, OtherFormat, Damaged, TooLarge}
-use Rattle.mr_journal.specs.Reading.{IsFound, IsNothing, IsReason}
+use Rattle.mr_journal.specs.Reading.{IsReason}
+use Rattle.mr_journal.specs.inner.Reading.{IsFound, IsNothing}
 use Rattle.mr_journal.proofs.BatchLemmas.{length-sha256, grown}
 
 -- a byte of a part of bytes is a byte

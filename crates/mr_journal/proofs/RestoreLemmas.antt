@@ -5,9 +5,12 @@ use Rattle.std.proofs.lemmas.Nat.{be_bytes_2}
 use Rattle.std.specs.Int.{w16, from_be_bytes}
 use Rattle.mr_journal.specs.declared.fault.JournalFault.{JournalFault}
 use Rattle.mr_journal.specs.declared.fault.JournalFault.TheVariants.{OutOfMemory, Failed, NotAJournal, OtherFormat, Damaged, TooLarge}
-use Rattle.mr_journal.specs.Device.{Cut, IsStaged, Torn}
-use Rattle.mr_journal.specs.Format.{IsNew, IsRead, Stands, StandAlike, head, u16}
-use Rattle.mr_journal.specs.Reading.{IsHeadOf, IsReason}
+use Rattle.mr_journal.specs.Device.{Cut, Torn}
+use Rattle.mr_journal.specs.inner.Device.{IsStaged}
+use Rattle.mr_journal.specs.Format.{IsNew, Stands, StandAlike, head, u16}
+use Rattle.mr_journal.specs.inner.Format.{IsRead}
+use Rattle.mr_journal.specs.Reading.{IsReason}
+use Rattle.mr_journal.specs.inner.Reading.{IsHeadOf}
 use Rattle.mr_journal.proofs.ReadLemmas.{byte_of_part, none_yet}
 
 pub both_new : (file c : List ℕ) → IsNew file → IsNew c → StandAlike file c

@@ -7,7 +7,8 @@ use Rattle.std.specs.List.{flat_map, AllByRecursion}
 use Rattle.sha2.specs.Sha256.{sha256}
 use Rattle.mr_journal.specs.declared.fault.JournalFault.{JournalFault}
 use Rattle.mr_journal.specs.declared.fault.JournalFault.TheVariants.{OutOfMemory, Failed, NotAJournal, OtherFormat, Damaged, TooLarge}
-use Rattle.mr_journal.specs.Format.{AreEntries, IsBatch, IsNew, Stands, batch, body, entry_bytes, framed, head, u16, u32}
+use Rattle.mr_journal.specs.Format.{AreEntries, IsBatch, IsNew, Stands, batch, body, entry_bytes, head, u16, u32}
+use Rattle.mr_journal.specs.inner.Format.{framed}
 use Rattle.mr_journal.specs.Reading.{IsReason}
 use Rattle.mr_journal.proofs.ReadLemmas.{drop-framed, entry_front, framed_batch, same_front, take-framed}
 

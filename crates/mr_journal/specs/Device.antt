@@ -1,5 +1,5 @@
 -- what the calls of a device do to its bytes, and what a crash may make of them
-use Rattle.std.specs.Prelude.{◌≡◌, ◌⊎◌, ℕ, ◌+◌, ◌-◌, ◌<◌, ◌≤◌, min, max, Bool, IsTrue, List, ◌∷◌, ◌++◌, length, take, drop, slice_index, Result, MatchResult}
+use Rattle.std.specs.Prelude.{◌≡◌, ◌⊎◌, ℕ, ◌+◌, ◌-◌, ◌<◌, ◌≤◌, min, max, Bool, IsTrue, List, ◌++◌, length, take, drop, slice_index, Result, MatchResult}
 
 -- a file with these bytes written over it at a place
 abbrev pub overwritten : List ℕ → ℕ → List ℕ → List ℕ
@@ -57,9 +57,3 @@ pub record IsUntouched {D : Type 0} (seen : D → List ℕ) (may_leave : D → L
 pub record Rests {D : Type 0} (seen : D → List ℕ) (may_leave : D → List ℕ → Type 0) (file : List ℕ) (device : D) : Type 0 where
   pub file_is : seen device ≡ file
   pub durable : Only file (may_leave device)
-
--- a file that had a closed gate behind this front, and behind the gate has at most so many bytes
-pub record IsStaged (front : List ℕ) (most : ℕ) (file : List ℕ) : Type 0 where
-  pub tail : List ℕ
-  pub file_is : file ≡ front ++ (0 ∷ tail)
-  pub few : length tail ≤ most

@@ -84,18 +84,6 @@ pub record Fits (place : ℕ) (entries : List (List ℕ)) : Type 0 where
   pub entries_are : AreEntries entries
   pub room : place + 42 + length (body entries) ≤ 2 ^ 62
 
--- what was read of a file: the entries of its batches, and the place of the closed gate behind them
-pub record IsRead (entries : List (List ℕ)) (place : ℕ) (file : List ℕ) : Type 0 where
-  pub front : List ℕ
-  pub left : List ℕ
-  pub batches : AreBatches entries front
-  pub file_is : file ≡ front ++ (0 ∷ left)
-  pub place_is : place ≡ length front
-
--- bytes that begin with an open gate, and with the length and the digest of what stands behind
-abbrev pub framed : List ℕ → List ℕ → List ℕ
-framed bytes left = 1 ∷ (u64 (length bytes) ++ (sha256 bytes ++ (bytes ++ left)))
-
 -- two files stand for the same entries
 abbrev pub StandAlike : List ℕ → List ℕ → Type 0
 StandAlike file other = (entries : List (List ℕ)) × Stands entries file × Stands entries other

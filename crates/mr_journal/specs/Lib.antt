@@ -7,3 +7,4 @@ pub mod Format
 pub mod Journal
 pub mod Reading
 pub mod Rows
+pub mod inner

@@ -1,5 +1,5 @@
 //! What a journal asks of the place where its bytes are.
-ghost use Rattle.std.specs.Prelude.{◌≡◌, ◌+◌, ◌≤◌, ℕ, Bool, IsTrue, List, length, take, drop, IfOk, OnOk};
+ghost use Rattle.std.specs.Prelude.{◌≡◌, ◌≤◌, ℕ, Bool, IsTrue, List, length, take, drop, IfOk, OnOk};
 ghost use Rattle.mr_journal.specs.Device.{Cut, Follows, HasCause, IsUntouched, Only, Passes, Torn, overwritten};
 
 use thiserror::Error;

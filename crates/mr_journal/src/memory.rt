@@ -1,5 +1,5 @@
 //! A device in memory.
-ghost use Rattle.std.specs.Prelude.{◌≡◌, [], ◌∷◌, ◌++◌, ◌≤◌, true, Ok, length, take, drop, IfOk, OnOk, OnErr};
+ghost use Rattle.std.specs.Prelude.{◌≡◌, [], ◌∷◌, ◌++◌, ◌≤◌, true, Ok, length, IfOk, OnOk, OnErr};
 ghost use Rattle.std.proofs.Common.{inl};
 ghost use Rattle.mr_journal.specs.Device.{HasCause, overwritten};
 ghost use Rattle.mr_journal.specs.Past.{LeftSince, only_now};

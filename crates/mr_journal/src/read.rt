@@ -1,8 +1,8 @@
 //! The batches of a device, read one after another.
-ghost use Rattle.std.specs.Prelude.{◌≡◌, ◌≢◌, ◌⊎◌, ◌+◌, ◌-◌, ◌<◌, ◌≤◌, ◌^◌, ◌++◌, ◌∷◌, [], ℕ, List, IsTrue, Err, length, take, drop, IfOk, IfErr, IfSome, IfNone, OnOk};
+ghost use Rattle.std.specs.Prelude.{◌≡◌, ◌≢◌, ◌⊎◌, ◌+◌, ◌-◌, ◌<◌, ◌≤◌, ◌^◌, ◌++◌, ◌∷◌, ℕ, List, IsTrue, Err, length, take, drop, IfOk, IfErr, IfSome, IfNone};
 ghost use Rattle.mr_journal.specs.declared.fault.JournalFault.TheVariants.{OutOfMemory, Failed};
 ghost use Rattle.mr_journal.specs.Device.{IsUntouched};
-ghost use Rattle.mr_journal.specs.Reading.{AreRead, IsFound, IsHead, IsSplit};
+ghost use Rattle.mr_journal.specs.inner.Reading.{AreRead, IsFound, IsHead, IsSplit};
 ghost use Rattle.mr_journal.specs.Format.{contents, entry_bytes, head, u64};
 
 use crate::Device;

@@ -3,7 +3,8 @@ ghost use Rattle.std.specs.Prelude.{◌≡◌, ◌≢◌, ◌⊎◌, ◌↔◌, 
 ghost use Rattle.mr_journal.specs.declared.fault.JournalFault.TheVariants.{Failed};
 ghost use Rattle.mr_journal.specs.Device.{Cut, HasCause, IsUntouched, LeavesOnly, Only, Rests};
 ghost use Rattle.mr_journal.specs.Format.{IsNew, StandAlike, contents, head};
-ghost use Rattle.mr_journal.specs.Reading.{IsExamined, IsHeadOf, IsReason, IsRestored};
+ghost use Rattle.mr_journal.specs.Reading.{IsReason};
+ghost use Rattle.mr_journal.specs.inner.Reading.{IsExamined, IsHeadOf, IsRestored};
 
 use crate::fault::JournalFault;
 use crate::read::{read_batches, read_vec};

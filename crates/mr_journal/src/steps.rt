@@ -1,6 +1,7 @@
 //! Writes and cuts that are synced before anything else is done.
 ghost use Rattle.std.specs.Prelude.{◌≡◌, ◌⊎◌, ◌+◌, ◌<◌, ◌≤◌, ◌^◌, ◌++◌, ◌∷◌, [], ℕ, List, IsTrue, length, take, OnOk};
-ghost use Rattle.mr_journal.specs.Device.{Cut, HasCause, IsStaged, LeavesOnly, Rests, Torn, overwritten};
+ghost use Rattle.mr_journal.specs.Device.{Cut, HasCause, LeavesOnly, Rests, Torn, overwritten};
+ghost use Rattle.mr_journal.specs.inner.Device.{IsStaged};
 
 use crate::{Device, DeviceFailed};
 

@@ -1,13 +1,13 @@
 -- why no replica is begun
-use Rattle.std.proofs.Common.{◌≡◌, ◌≢◌, ◌⊎◌, ⊎_elim, ℕ, ◌≤◌, ◌==◌, Bool, true, false, List, [], ◌∷◌, length, Result, Err, refl, sym, ap, subst, ◌∙◌, arith}
-use Rattle.std.specs.Prelude.{IsTrue, Vec, not}
+use Rattle.std.proofs.Common.{◌≡◌, ◌≢◌, ◌⊎◌, ⊎_elim, ℕ, ◌==◌, Bool, false, List, [], ◌∷◌, length, Err, refl, sym, subst, ◌∙◌}
+use Rattle.std.specs.Prelude.{IsTrue, Vec}
 use Rattle.std.specs.declared.alloc.Global.{Global}
 use Rattle.std.proofs.lemmas.Bool.{false≢true}
 use Rattle.mr_filter.specs.Filter.{ClauseParts}
 use Rattle.mr_filter.specs.Grammar.{Reads}
 use Rattle.mr_journal.specs.Fault.{IsOfBatch}
 use Rattle.mr_journal.specs.Format.{AreBatches, Fits, Stands, contents}
-use Rattle.mr_journal.specs.Journal.{Keeps, end_of, has_failed}
+use Rattle.mr_journal.specs.Journal.{Keeps, end_of}
 use Rattle.mr_journal.specs.Reading.{IsReason}
 use Rattle.mr_journal.specs.declared.fault.JournalFault.{JournalFault}
 use Rattle.mr_journal.specs.declared.fault.JournalFault.TheVariants as journal

@@ -22,7 +22,8 @@ use Rattle.mr_replica.specs.declared.refusal.Refusal.TheVariants.{LogFull, Retir
 use Rattle.mr_replica.proofs.Replaying.{refused_same}
 use Rattle.mr_replica.proofs.Replies.{step_changes}
 use Rattle.mr_kept.specs.declared.fault.KeptFault.{KeptFault}
-use Rattle.mr_kept.specs.Closing.{AreClosed, Closes, IsCut, IsFull, Takes, closers, sessions_of, streams_of}
+use Rattle.mr_kept.specs.Closing.{AreClosed, IsCut, IsFull, Takes, closers}
+use Rattle.mr_kept.specs.inner.Closing.{Closes, sessions_of, streams_of}
 
 -- ---- tables
 

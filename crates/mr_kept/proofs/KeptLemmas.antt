@@ -10,7 +10,6 @@ use Rattle.mr_journal.specs.Format.{Stands, contents}
 use Rattle.mr_journal.specs.Journal.{Keeps, device_of}
 use Rattle.mr_journal.proofs.Moments.{widened}
 use Rattle.mr_entry.specs.Head.{HeadParts}
-use Rattle.mr_entry.specs.Grammar.{IsEntry}
 use Rattle.mr_entry.specs.Events.{events_of}
 use Rattle.mr_entry.specs.Note.{NoteParts}
 use Rattle.mr_entry.specs.Spelling.{entry_bytes}

@@ -1,5 +1,5 @@
 -- what a commit leaves has the log of a replica
-use Rattle.std.proofs.Common.{◌≡◌, ◌⊎◌, inl, inr, ⊎_elim, Ok, ℕ, List, [], ◌∷◌, ◌++◌, take, drop, sym, ap, subst, ◌∙◌, append_assoc, append-nil, refl}
+use Rattle.std.proofs.Common.{◌≡◌, ◌⊎◌, inl, inr, ⊎_elim, Ok, ℕ, List, [], ◌∷◌, ◌++◌, sym, ap, subst, ◌∙◌, append_assoc, append-nil, refl}
 use Rattle.std.proofs.lemmas.List.{take-append-drop}
 use Rattle.std.specs.Prelude.{map}
 use Rattle.std.specs.List.{AllByRecursion}
@@ -14,7 +14,6 @@ use Rattle.mr_entry.specs.Head.{HeadParts}
 use Rattle.mr_entry.specs.Note.{NoteParts}
 use Rattle.mr_entry.specs.Spelling.{entry_bytes}
 use Rattle.mr_entry.specs.declared.entry.Entry.{Entry}
-use Rattle.mr_entry.specs.declared.entry.Entry.TheVariants as entry
 use Rattle.mr_replica.specs.Growing.{IsOfSameSetting}
 use Rattle.mr_replica.specs.Replay.{AdmitsAll, IsItsLog, Replays}
 use Rattle.mr_replica.specs.State.{State}
@@ -23,7 +22,7 @@ use Rattle.mr_replica.proofs.Replaying.{step_log, step_setting}
 use Rattle.mr_kept.specs.declared.journaled.Journaled.{Journaled}
 use Rattle.mr_kept.specs.Entries.{AreSpelled, notes_of}
 use Rattle.mr_kept.specs.Kept.{AreHeaded, IsKept, entries_waiting, head_of, issued_of, journal_of, kept_of, notes_waiting, replica_of, waiting}
-use Rattle.mr_kept.specs.Whole.{HasLog, HasLogOf, IsOf}
+use Rattle.mr_kept.specs.Whole.{HasLog, IsOf}
 use Rattle.mr_kept.proofs.CloseLemmas.{same_setting, setting_on}
 use Rattle.mr_kept.proofs.EntryLemmas.{all_spelled, events_append, events_head, notes_append, notes_head}
 use Rattle.mr_kept.proofs.RunLemmas.{batch_notes, batch_tells}

@@ -1,5 +1,5 @@
 -- a log has at most one event more than its limit
-use Rattle.std.proofs.Common.{◌≡◌, ◌⊎◌, inl, inr, ⊎_elim, ℕ, ◌+◌, ◌≤◌, ◌<◌, ◌==◌, not, Bool, true, false, List, [], ◌∷◌, ◌++◌, length, Option, Some, None, Result, Ok, Err, refl, sym, ap, subst, ◌∙◌, arith}
+use Rattle.std.proofs.Common.{◌≡◌, ◌⊎◌, inl, inr, ⊎_elim, ℕ, ◌+◌, ◌≤◌, ◌<◌, ◌==◌, not, Bool, true, false, List, [], ◌∷◌, length, Option, Some, None, Result, Ok, Err, refl, sym, ap, subst, ◌∙◌, arith}
 use Rattle.std.specs.Prelude.{nat_le}
 use Rattle.std.proofs.lemmas.Bool.{false≢true, leb-false}
 use Rattle.std.proofs.lemmas.List.{length-append}
@@ -12,7 +12,7 @@ use Rattle.mr_replica.specs.Refusal.{◌orelse◌, refused_if}
 use Rattle.mr_replica.specs.Admission.{log_full, retired}
 use Rattle.mr_replica.specs.Edit.{edited_item, item_refusal, own_left}
 use Rattle.std.specs.Option.{option_map}
-use Rattle.mr_replica.specs.Step.{first_refusal, Answers, Changes, Steps}
+use Rattle.mr_replica.specs.Step.{first_refusal, Answers, Changes}
 use Rattle.mr_replica.specs.Replay.{Admits, AdmitsAll, Replays}
 use Rattle.mr_replica.specs.declared.event.Event.{Event}
 use Rattle.mr_replica.specs.declared.event.Event.TheVariants.{Create, Edit, Retire, Pull, Receive, CutIn, Answer, Next, CutOut, Vouch, Release}

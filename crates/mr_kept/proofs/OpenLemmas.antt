@@ -28,7 +28,8 @@ use Rattle.mr_kept.specs.declared.journaled.Journaled.{Journaled}
 use Rattle.mr_kept.specs.Closing.{AreClosed, IsCut, IsFull, Takes, closers}
 use Rattle.mr_kept.specs.Entries.{AreInOrder, AreSpelled, batch_entries, entries_of, issued_after, notes_of}
 use Rattle.mr_kept.specs.Kept.{IsKept, Tells, entries_waiting, head_of, issued_of, journal_of, kept_of, nothing_waits, notes_waiting, replica_of, waiting}
-use Rattle.mr_kept.specs.Opening.{Begins, GoesOn, HasCut, IsClosedIn, IsReplayed, Reopens}
+use Rattle.mr_kept.specs.Opening.{Begins, GoesOn, HasCut, IsReplayed, Reopens}
+use Rattle.mr_kept.specs.inner.Opening.{IsClosedIn}
 use Rattle.mr_kept.proofs.CloseLemmas.{same_setting, setting_on, taken_cuts}
 use Rattle.mr_kept.proofs.EntryLemmas.{bytes_append, events_head}
 use Rattle.mr_kept.proofs.IssuedLemmas.{replayed_issued}

@@ -1,7 +1,7 @@
 -- what is wrong with bytes that are no entry, or no entry that belongs where it stands
-use Rattle.std.proofs.Common.{◌≡◌, ◌⊎◌, Result, Err, refl, ℕ, ◌+◌, ◌<◌, ◌≤◌, List, [], ◌∷◌, ◌++◌, length, take, drop, get_or, arith, sym, ap, subst, ◌∙◌, length-drop}
+use Rattle.std.proofs.Common.{◌≡◌, ◌⊎◌, Result, Err, refl, ℕ, ◌+◌, ◌<◌, ◌≤◌, List, ◌∷◌, ◌++◌, length, take, drop, get_or, arith, sym, ap, subst, ◌∙◌, length-drop}
 use Rattle.std.proofs.lemmas.List.{drop_more, length-map, length-take-le, take-append-drop}
-use Rattle.std.specs.Prelude.{◌≢◌, Option, Vec, map}
+use Rattle.std.specs.Prelude.{◌≢◌, Option, Vec}
 use Rattle.std.specs.declared.alloc.Global.{Global}
 use Rattle.mr_filter.specs.Filter.{ClauseParts}
 use Rattle.mr_forms.specs.Known.{Form}

@@ -1,12 +1,12 @@
 -- why what waits isn't kept
-use Rattle.std.proofs.Common.{zero, suc, ◌≡◌, ◌≢◌, ◌⊎◌, inl, inr, ⊎_elim, ℕ, ◌+◌, ◌<◌, ◌≤◌, ◌^◌, List, [], ◌∷◌, ◌++◌, length, take, drop, get_or, Result, Ok, Err, refl, sym, ap, subst, ◌∙◌, append_assoc, add-one, arith}
+use Rattle.std.proofs.Common.{zero, suc, ◌≡◌, ◌≢◌, inl, inr, ⊎_elim, ℕ, ◌+◌, ◌<◌, ◌≤◌, ◌^◌, List, [], ◌∷◌, ◌++◌, length, take, drop, get_or, Result, Ok, Err, refl, sym, ap, subst, ◌∙◌, append_assoc, add-one, arith}
 use Rattle.std.specs.Prelude.{IfErr, IsErrAnd, IsOk, Vec, false, map, replicate}
 use Rattle.std.specs.List.{AllByRecursion}
 use Rattle.std.specs.declared.alloc.Global.{Global}
 use Rattle.std.proofs.Math.Seq.{drop-cons}
 use Rattle.std.proofs.lemmas.Bool.{cases_lt, false≢true}
 use Rattle.std.proofs.lemmas.Bool.Decides.{eqb_tells}
-use Rattle.std.proofs.lemmas.List.{map-append, replicate_more, take-append-drop}
+use Rattle.std.proofs.lemmas.List.{replicate_more, take-append-drop}
 use Rattle.mr_journal.specs.Fault.{IsOfBatch}
 use Rattle.mr_journal.specs.Format.{AreEntries, Fits, body, contents}
 use Rattle.mr_journal.specs.Journal.{end_of, has_failed}
@@ -14,7 +14,7 @@ use Rattle.mr_journal.specs.declared.fault.JournalFault.{JournalFault}
 use Rattle.mr_journal.specs.declared.fault.JournalFault.TheVariants as journal
 use Rattle.mr_replica.specs.declared.event.Event.{Event}
 use Rattle.mr_replica.specs.declared.event.Event.TheVariants.{Next}
-use Rattle.mr_entry.specs.Encoding.{Encodes, IsLong}
+use Rattle.mr_entry.specs.Encoding.{Encodes}
 use Rattle.mr_entry.specs.Grammar.{IsEntry}
 use Rattle.mr_entry.specs.Note.{NoteParts}
 use Rattle.mr_entry.specs.Spelling.{entry_bytes}
@@ -26,7 +26,8 @@ use Rattle.mr_kept.specs.declared.fault.KeptFault.{KeptFault}
 use Rattle.mr_kept.specs.declared.fault.KeptFault.TheVariants as kept
 use Rattle.mr_kept.specs.declared.journaled.Journaled.{Journaled}
 use Rattle.mr_kept.specs.Commit.{HasRoom, IsUncommitted}
-use Rattle.mr_kept.specs.Entries.{AreSoFar, AreSpelled, HasNoEntry, IsOfEntries, IsOfEvent, batch_entries, counted, entries_of, run_of, with_next}
+use Rattle.mr_kept.specs.Entries.{AreSpelled, batch_entries, counted, entries_of, with_next}
+use Rattle.mr_kept.specs.inner.Entries.{AreSoFar, HasNoEntry, IsOfEntries, IsOfEvent, run_of}
 use Rattle.mr_kept.specs.Fault.{kept_fault_of, kept_fault_of_entry}
 use Rattle.mr_kept.specs.Kept.{entries_waiting, journal_of}
 use Rattle.mr_kept.proofs.RunLemmas.{an_entry, begins_none, one_run, run_ends}

@@ -1,16 +1,17 @@
 -- the entries of events: Nexts of one stream in a row are one run
-use Rattle.std.proofs.Common.{zero, suc, ◌≡◌, ◌≢◌, inl, inr, ℕ, ◌+◌, ◌<◌, ◌≤◌, List, [], ◌∷◌, ◌++◌, length, take, take_all, get_or, refl, sym, ap, subst, ◌∙◌, append_assoc, append-nil, add-one, arith}
+use Rattle.std.proofs.Common.{zero, suc, ◌≡◌, ◌≢◌, inl, inr, ℕ, ◌+◌, ◌<◌, ◌≤◌, List, [], ◌∷◌, ◌++◌, length, take, take_all, get_or, refl, sym, ap, subst, ◌∙◌, append_assoc, append-nil, add-one}
 use Rattle.std.specs.Prelude.{map, replicate}
 use Rattle.std.proofs.lemmas.Bool.Decides.{eqb_tells}
 use Rattle.std.proofs.lemmas.List.{replicate_more, take_more}
 use Rattle.mr_replica.specs.declared.event.Event.{Event}
 use Rattle.mr_replica.specs.declared.event.Event.TheVariants.{Next}
-use Rattle.mr_entry.specs.Events.{events_of, events_of_entry}
+use Rattle.mr_entry.specs.Events.{events_of}
 use Rattle.mr_entry.specs.Grammar.{Spells}
 use Rattle.mr_entry.specs.Note.{NoteParts}
 use Rattle.mr_entry.specs.declared.entry.Entry.{Entry}
 use Rattle.mr_entry.specs.declared.entry.Entry.TheVariants as entry
-use Rattle.mr_kept.specs.Entries.{AllBelong, AreSoFar, AreSpelled, batch_entries, counted, entries_of, issued_after, notes_of, run_of, with_event, with_next}
+use Rattle.mr_kept.specs.Entries.{AllBelong, AreSpelled, batch_entries, counted, entries_of, issued_after, notes_of, with_event, with_next}
+use Rattle.mr_kept.specs.inner.Entries.{AreSoFar, run_of}
 use Rattle.mr_kept.proofs.EntryLemmas.{all_belong, events_append, events_cons, issued_append, notes_append, notes_are, notes_belong, notes_cons, notes_tell, run_issues, spelled_append, spelled_one}
 
 -- ---- what they tell

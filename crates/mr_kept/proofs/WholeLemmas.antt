@@ -1,12 +1,10 @@
 -- a journal that a replica left is not refused, and gives a replica that is alike
-use Rattle.std.proofs.Common.{◌≡◌, ◌≢◌, ◌⊎◌, inl, inr, ⊎_elim, ℕ, ◌+◌, ◌≤◌, ◌<◌, Bool, List, [], ◌∷◌, ◌++◌, length, Option, Some, Result, Ok, Err, refl, sym, ap, subst, ◌∙◌, arith, append-nil, append_assoc}
+use Rattle.std.proofs.Common.{◌≡◌, inl, inr, ⊎_elim, ℕ, ◌+◌, ◌≤◌, Bool, List, [], ◌∷◌, ◌++◌, length, Option, Result, Ok, Err, refl, sym, ap, subst, ◌∙◌, arith, append-nil}
 use Rattle.std.specs.Prelude.{map}
 use Rattle.std.specs.List.{AllByRecursion}
 use Rattle.std.proofs.lemmas.List.{length-append, append_cancel_left}
 use Rattle.mr_filter.specs.Filter.{ClauseParts, IsFilter}
-use Rattle.mr_filter.specs.Fault.{IsFaultOf}
 use Rattle.mr_filter.specs.Grammar.{Reads}
-use Rattle.mr_filter.specs.declared.fault.FilterFault.{FilterFault}
 use Rattle.mr_filter.proofs.UniqueLemmas.{Reads-fault, Reads-unique}
 use Rattle.mr_forms.specs.ByMeaning.{IsByMeaning}
 use Rattle.mr_forms.specs.Known.{Form}
@@ -23,7 +21,6 @@ use Rattle.mr_entry.specs.declared.entry.Entry.TheVariants as entry
 use Rattle.mr_entry.specs.declared.fault.EntryFault.{EntryFault}
 use Rattle.mr_entry.proofs.CodecLaws.{begins_no_other, is_found}
 use Rattle.mr_entry.proofs.EntryLaws.{entry_codec}
-use Rattle.mr_replica.specs.Alike.{AreAlike}
 use Rattle.mr_replica.specs.Replay.{AdmitsAll, IsItsLog, Replays}
 use Rattle.mr_replica.specs.State.{State}
 use Rattle.mr_replica.specs.declared.event.Event.{Event}
@@ -33,7 +30,7 @@ use Rattle.mr_replica.proofs.Alike.{alike_fresh, alike_replays, alike_stop}
 use Rattle.mr_kept.specs.declared.fault.OpenFault.{OpenFault}
 use Rattle.mr_kept.specs.declared.fault.OpenFault.TheVariants as fault
 use Rattle.mr_kept.specs.declared.journaled.Journaled.{Journaled}
-use Rattle.mr_kept.specs.Entries.{AllBelong, Belongs, counted, issued_after, notes_of}
+use Rattle.mr_kept.specs.Entries.{AllBelong, Belongs, issued_after, notes_of}
 use Rattle.mr_kept.specs.Kept.{head_of, replica_of}
 use Rattle.mr_kept.specs.Opening.{IsOfOther, IsOfPlace, IsReplayed, Reopens}
 use Rattle.mr_kept.specs.Refusing.{IsBehindHead, IsLonger, IsNoFilter, IsNoHead, IsNoReplay, IsOpenFault, IsOutOfOrder, IsRefused, IsUnread, IsWrong, StopsAt}

@@ -1,8 +1,6 @@
 -- what is done to what was open when a program ended
-use Rattle.std.specs.Prelude.{◌≡◌, ◌≤◌, ◌++◌, [], ℕ, List, Bool, false, cond, length, map, IsTrue, MatchBool}
-use Rattle.mr_session.specs.Session.{Session}
-use Rattle.mr_session.specs.Stream.{Stream}
-use Rattle.mr_session.specs.Table.{Table, open_numbers}
+use Rattle.std.specs.Prelude.{◌≡◌, ◌≤◌, ◌++◌, [], List, Bool, false, cond, length, map, MatchBool}
+use Rattle.mr_session.specs.Table.{open_numbers}
 use Rattle.mr_replica.specs.State.{State}
 use Rattle.mr_replica.specs.Growing.{IsOfSameSetting}
 use Rattle.mr_replica.specs.declared.event.Event.{Event}
@@ -23,13 +21,7 @@ IsCut (Vouch version) = ⊥
 IsCut (Release receipt) = ⊥
 
 module _ {K : Type 0} where
-  abbrev pub sessions_of : State K → Table Session
-  sessions_of s = s.sessions
-
-  abbrev pub streams_of : State K → Table Stream
-  streams_of s = s.streams
-
-  -- those that close what is open: a CutIn for each session, but of a retired replica none, and then a CutOut for each stream
+  -- the events that close what is open: a CutIn for each session, but of a retired replica none, and then a CutOut for each stream
   abbrev pub closers : State K → List Event
   closers s = cond s.is_retired [] (map CutIn (open_numbers s.sessions)) ++ map CutOut (open_numbers s.streams)
 
@@ -50,9 +42,3 @@ module _ {K : Type 0} where
     pub log_is : new.log ≡ old.log ++ more
     pub setting : IsOfSameSetting old new
     pub rest : MatchBool are_all (left ≡ []) (IsFull new)
-
-  -- it took such an event for each that was open of one kind, or as many as its log takes
-  pub record Closes {T : Type 0} (cut : ℕ → Event) (table_of : State K → Table T) (are_all : Bool) (old new : State K) : Type 0 where
-    pub takes : Takes (map cut (open_numbers (table_of old))) are_all old new
-    pub none_left : IsTrue are_all → open_numbers (table_of new) ≡ []
-    pub retired_is : new.is_retired ≡ old.is_retired

@@ -1,5 +1,5 @@
 -- the entries of events, and how many versions were issued by then
-use Rattle.std.specs.Prelude.{◌≡◌, ◌+◌, ◌≤◌, ◌++◌, ◌==◌, ◌^◌, ℕ, zero, suc, List, [], ◌∷◌, if◌then◌else◌, length, map, replicate}
+use Rattle.std.specs.Prelude.{◌≡◌, ◌+◌, ◌≤◌, ◌++◌, ◌==◌, ℕ, List, [], ◌∷◌, if◌then◌else◌, length, map}
 use Rattle.std.specs.List.{AllByRecursion, flat_map}
 use Rattle.mr_replica.specs.declared.event.Event.{Event}
 use Rattle.mr_replica.specs.declared.event.Event.TheVariants.{Create, Edit, Retire, Pull, Receive, CutIn, Answer, Next, CutOut, Vouch, Release}
@@ -10,8 +10,6 @@ use Rattle.mr_entry.specs.Note.{NoteParts}
 use Rattle.mr_entry.specs.Spelling.{entry_bytes}
 use Rattle.mr_entry.specs.declared.entry.Entry.{Entry}
 use Rattle.mr_entry.specs.declared.entry.Entry.TheVariants as entry
-use Rattle.mr_kept.specs.declared.fault.KeptFault.{KeptFault}
-use Rattle.mr_kept.specs.declared.fault.KeptFault.TheVariants as kept
 
 -- how many versions were issued once the event was admitted: a Create and an Edit issue one
 abbrev pub counted : ℕ → Event → ℕ
@@ -27,7 +25,7 @@ counted issued (CutOut stream) = issued
 counted issued (Vouch version) = issued
 counted issued (Release receipt) = issued
 
--- and once all of these were
+-- how many versions were issued once all of these events were admitted
 abbrev pub issued_after : ℕ → List Event → ℕ
 issued_after issued [] = issued
 issued_after issued (event ∷ events) = issued_after (counted issued event) events
@@ -48,11 +46,6 @@ abbrev pub entries_of : ℕ → List Event → List Entry
 entries_of issued [] = []
 entries_of issued (event ∷ events) = with_event issued event (entries_of (counted issued event) events)
 
--- the run of so many Nexts, where there are any
-abbrev pub run_of : ℕ → ℕ → List Entry
-run_of stream zero = []
-run_of stream (suc n) = entry.Nexts stream (suc n) ∷ []
-
 -- Behind so many issued versions the entry belongs: it is no head, and of an event the count is the one that the events up to it make.
 abbrev pub Belongs : ℕ → Entry → Type 0
 Belongs issued (entry.Head h) = ⊥
@@ -60,7 +53,7 @@ Belongs issued (entry.Event count event) = count ≡ counted issued event
 Belongs issued (entry.Nexts stream count) = Unit {0}
 Belongs issued (entry.Note n) = Unit {0}
 
--- so does each of these behind those before it
+-- each of the entries belongs behind those before it
 abbrev pub AllBelong : ℕ → List Entry → Type 0
 AllBelong issued [] = Unit {0}
 AllBelong issued (x ∷ xs) = Belongs issued x × AllBelong (issued_after issued (events_of_entry x)) xs
@@ -77,7 +70,7 @@ notes_of_entry (entry.Event count event) = []
 notes_of_entry (entry.Nexts stream count) = []
 notes_of_entry (entry.Note n) = n ∷ []
 
--- those of entries, in their order
+-- the notes of entries, in their order
 abbrev pub notes_of : List Entry → List NoteParts
 notes_of entries = flat_map notes_of_entry entries
 
@@ -89,33 +82,3 @@ batch_entries issued events notes = entries_of issued events ++ map entry.Note n
 pub record AreSpelled (entries : List Entry) (texts : List (List ℕ)) : Type 0 where
   pub in_grammar : AllByRecursion IsEntry entries
   pub written : texts ≡ map entry_bytes entries
-
--- Of these events the byte strings tell all but the run of Nexts at their end, so many of this stream, which may still grow: whatever comes
--- later, its entries stand behind the byte strings.
-pub record AreSoFar (issued : ℕ) (events : List Event) (texts : List (List ℕ)) (now stream nexts : ℕ) : Type 0 where
-  pub list : List Entry
-  pub spelled : AreSpelled list texts
-  pub all : (later : List Event) → entries_of issued (events ++ later) ≡ list ++ entries_of now (replicate nexts (Next stream) ++ later)
-  pub counted_is : now ≡ issued_after issued events
-
--- ---- why they are none
-
--- Behind so many issued versions, and so many Nexts of this stream at the end, the event is in no entry: another Next makes a run of 2^32,
--- or the entry of the event would be too long or tell a count of 2^32.
-abbrev pub HasNoEntry : (issued stream nexts : ℕ) → Event → Type 0
-HasNoEntry issued stream nexts (Next other) = (other ≡ stream) × (2 ^ 32 ≤ nexts + 1)
-HasNoEntry issued stream nexts event = IsEntry (entry.Event (counted issued event) event) → ⊥
-
--- the fault of an event that has none; memory may be wanting
-abbrev pub IsOfEvent : (issued stream nexts : ℕ) → Event → KeptFault → Type 0
-IsOfEvent issued stream nexts event kept.TooLarge = HasNoEntry issued stream nexts event
-IsOfEvent issued stream nexts event kept.OutOfMemory = Unit {0}
-IsOfEvent issued stream nexts event kept.Failed = ⊥
-IsOfEvent issued stream nexts event (kept.Refused _) = ⊥
-
--- the fault of entries that can't be spelled: not all are in the grammar
-abbrev pub IsOfEntries : List Entry → KeptFault → Type 0
-IsOfEntries entries kept.TooLarge = AllByRecursion IsEntry entries → ⊥
-IsOfEntries entries kept.OutOfMemory = Unit {0}
-IsOfEntries entries kept.Failed = ⊥
-IsOfEntries entries (kept.Refused _) = ⊥

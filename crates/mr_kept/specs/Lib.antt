@@ -12,3 +12,4 @@ pub mod Peer
 pub mod Refusing
 pub mod Whole
 pub mod Rows
+pub mod inner

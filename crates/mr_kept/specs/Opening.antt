@@ -18,7 +18,7 @@ use Rattle.mr_kept.specs.declared.fault.OpenFault.TheVariants as fault
 use Rattle.mr_kept.specs.declared.journaled.Journaled.{Journaled}
 use Rattle.mr_kept.specs.Closing.{IsCut, Takes, closers}
 use Rattle.mr_kept.specs.Entries.{AreInOrder, AreSpelled, entries_of, issued_after, notes_of}
-use Rattle.mr_kept.specs.Kept.{IsKept, Tells, head_of, issued_of, replica_of}
+use Rattle.mr_kept.specs.Kept.{IsKept, Tells, head_of, replica_of}
 
 -- The texts are a head and entries that belong where they stand, and a fresh replica of that head that takes the
 -- events of the entries is this one. They tell so many events, which issued so many versions, and these notes.
@@ -46,11 +46,6 @@ pub record Reopens {K D V : Type 0} (form : Form K) (seen : D → List ℕ) (may
   pub notes_are : notes ≡ notes_of entries
   pub closed : Takes (closers replica) are_closed replica (replica_of j)
   pub kept : IsKept seen may_leave ((entry.Head (head_of j) ∷ entries) ++ entries_of (issued_after 0 (events_of entries)) closed.more) j
-
--- The replica took the events that close what was open, and the journal has these entries and behind them those of the events.
-pub record IsClosedIn {K D V : Type 0} (seen : D → List ℕ) (may_leave : D → List ℕ → Type 0) (entries : List Entry) (are_closed : Bool) (old new : Journaled K D V) : Type 0 where
-  pub closed : Takes (closers (replica_of old)) are_closed (replica_of old) (replica_of new)
-  pub kept : IsKept seen may_leave (entries ++ entries_of (issued_of old) closed.more) new
 
 -- ---- refusals
 

@@ -24,7 +24,8 @@ use Rattle.mr_kept.specs.Answered.{MayKeep}
 use Rattle.mr_kept.specs.Beginning.{IsBeginFault}
 use Rattle.mr_kept.specs.Closing.{IsCut}
 use Rattle.mr_kept.specs.Commit.{CanCommit}
-use Rattle.mr_kept.specs.Entries.{AllBelong, Belongs, HasNoEntry, batch_entries, entries_of, issued_after, notes_of}
+use Rattle.mr_kept.specs.Entries.{AllBelong, Belongs, batch_entries, entries_of, issued_after, notes_of}
+use Rattle.mr_kept.specs.inner.Entries.{HasNoEntry}
 use Rattle.mr_kept.specs.Kept.{entries_waiting, journal_of}
 use Rattle.mr_kept.specs.Explained.{explained_kept, explained_open}
 use Rattle.mr_kept.specs.Peer.{IsAbove}

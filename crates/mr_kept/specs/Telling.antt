@@ -6,7 +6,6 @@ use Rattle.mr_wire.specs.Frames.{Sent}
 use Rattle.mr_wire.specs.FrameSpelling.{frame_bytes}
 use Rattle.mr_wire.specs.declared.frame.Body.{Body}
 use Rattle.mr_wire.specs.declared.frame.Body.TheVariants.{Start, Item, MoveOut, Held, Know, End}
-use Rattle.mr_wire.specs.declared.frame.Frame.{Frame}
 use Rattle.mr_wire.specs.declared.frame.Frame.TheVariants as frame
 use Rattle.mr_journal.specs.Journal.{has_failed}
 use Rattle.mr_replica.specs.State.{State}
@@ -21,12 +20,6 @@ use Rattle.mr_kept.specs.Kept.{journal_of, leaving, replica_of}
 -- how many bytes a record takes as a frame
 abbrev pub size_of : Sent → ℕ
 size_of sent = length (frame_bytes 2 (frame.Record sent))
-
--- the frame is a record
-abbrev pub IsRecord : Frame → Type 0
-IsRecord (frame.Record sent) = Unit {0}
-IsRecord (frame.Ask question) = ⊥
-IsRecord (frame.Receipt receipt) = ⊥
 
 -- whether nothing comes behind what is said
 abbrev pub ends : Body → Bool

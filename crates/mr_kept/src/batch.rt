@@ -4,7 +4,8 @@ ghost use Rattle.mr_journal.specs.Format.{contents};
 ghost use Rattle.mr_entry.specs.declared.entry.Entry.{Entry};
 ghost use Rattle.mr_replica.specs.declared.event.Event.{Event};
 ghost use Rattle.mr_replica.specs.declared.event.Event.TheVariants as asked;
-ghost use Rattle.mr_kept.specs.Entries.{AreSoFar, AreSpelled, IsOfEntries, IsOfEvent, batch_entries, counted, entries_of, issued_after, run_of};
+ghost use Rattle.mr_kept.specs.Entries.{AreSpelled, batch_entries, counted, entries_of, issued_after};
+ghost use Rattle.mr_kept.specs.inner.Entries.{AreSoFar, IsOfEntries, IsOfEvent, run_of};
 
 use crate::fault::KeptFault;
 use mr_entry::{Note, encode_event_entry, encode_nexts, encode_note};

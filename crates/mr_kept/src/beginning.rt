@@ -1,5 +1,5 @@
 //! How a replica is begun in a journal.
-ghost use Rattle.std.specs.Prelude.{◌≡◌, ◌⊎◌, ◌≤◌, ◌∷◌, [], IfErr, IfOk, IsTrue, MatchResult, true};
+ghost use Rattle.std.specs.Prelude.{◌≡◌, ◌⊎◌, ◌∷◌, [], IfErr, IfOk, IsTrue, MatchResult, true};
 ghost use Rattle.mr_replica.specs.State.{new_state};
 ghost use Rattle.mr_replica.specs.declared.replica.TheConstants.{MAX_EVENTS};
 ghost use Rattle.mr_journal.specs.Device.{LeavesOnly};

@@ -5,7 +5,8 @@ ghost use Rattle.mr_journal.specs.Device.{LeavesOnly};
 ghost use Rattle.mr_journal.specs.Journal.{device_of};
 ghost use Rattle.mr_entry.specs.Spelling.{entry_bytes};
 ghost use Rattle.mr_entry.specs.declared.entry.Entry.{Entry};
-ghost use Rattle.mr_kept.specs.Closing.{AreClosed, Closes, Takes, closers, sessions_of, streams_of};
+ghost use Rattle.mr_kept.specs.Closing.{AreClosed, Takes, closers};
+ghost use Rattle.mr_kept.specs.inner.Closing.{Closes, sessions_of, streams_of};
 ghost use Rattle.mr_kept.specs.Entries.{notes_of};
 ghost use Rattle.mr_kept.specs.Opening.{HasCut};
 
@@ -62,7 +63,7 @@ fn close_streams<K: Knowledge>(replica: &mut Replica<K>) -> Result<bool, KeptFau
 
 impl<K: Knowledge, D: Device + Drop> Journaled<K, D> {
     ghost use Rattle.mr_kept.specs.Kept.{IsKept, head_of, journal_of, leaving, nothing_waits, replica_of};
-    ghost use Rattle.mr_kept.specs.Opening.{IsClosedIn};
+    ghost use Rattle.mr_kept.specs.inner.Opening.{IsClosedIn};
     ghost use Rattle.mr_kept.specs.Whole.{HasLog, IsOf};
 
     // Closes what is open, keeps that, and tells whether nothing is left open: else the log is full.
@@ -80,8 +81,10 @@ impl<K: Knowledge, D: Device + Drop> Journaled<K, D> {
         ensures left { IsTrue D.is_told → (entries : List Entry) → IsKept D.seen D.may_leave entries self.old → IsOf (head_of self.old) (replica_of self.old)
             → LeavesOnly D.moment D.left_since (device_of (journal_of self.old)) (device_of (journal_of self.new)) (λ c. HasLog K.form c (head_of self.old) (notes_of entries)) }
     {
+        // the replica is its log replayed
         let _log = self.replica.log();
         let are_closed = close_all(&mut self.replica)?;
+        // nobody asked for these events, so nobody waits for their replies
         let _ = self.commit()?;
         Ok(are_closed)
     }

@@ -1,5 +1,4 @@
 //! The events, as methods.
-ghost use Rattle.std.specs.Prelude.{◌≡◌};
 ghost use Rattle.mr_replica.specs.declared.event.Event.TheVariants as asked;
 ghost use Rattle.mr_replica.specs.declared.event.Reply.TheVariants as told;
 ghost use Rattle.mr_replica.specs.Methods.{received_reply};

@@ -1,5 +1,5 @@
 //! What the entries of a journal tell.
-ghost use Rattle.std.specs.Prelude.{◌≡◌, ◌+◌, ◌++◌, ◌≤◌, [], ◌∷◌, List, IfErr, IfOk, OnOk, length, replicate};
+ghost use Rattle.std.specs.Prelude.{◌≡◌, ◌+◌, ◌++◌, ◌≤◌, List, IfErr, IfOk, OnOk, length, replicate};
 ghost use Rattle.mr_journal.specs.Format.{contents};
 ghost use Rattle.mr_entry.specs.Events.{events_of, events_of_entry};
 ghost use Rattle.mr_entry.specs.Grammar.{Spells};

@@ -37,6 +37,7 @@ impl<K: Knowledge, D: Device + Drop> Journaled<K, D> {
         ensures is { result.now ≡ replica_of self.now }
         ensures is_its_log { IsItsLog K.form result.now }
     {
+        // the replica is its log replayed
         let _log = self.replica.log();
         &self.replica
     }

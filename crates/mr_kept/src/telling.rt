@@ -6,7 +6,8 @@ ghost use Rattle.mr_replica.specs.declared.event.Event.TheVariants as asked;
 ghost use Rattle.mr_replica.specs.declared.event.Reply.TheVariants as told;
 ghost use Rattle.mr_wire.specs.Frames.{Sent};
 ghost use Rattle.mr_kept.specs.Answered.{Answered};
-ghost use Rattle.mr_kept.specs.Telling.{IsRecord, is_end, size_of};
+ghost use Rattle.mr_kept.specs.Telling.{is_end, size_of};
+ghost use Rattle.mr_kept.specs.inner.Telling.{IsRecord};
 
 use crate::admit::admit;
 use crate::fault::KeptFault;

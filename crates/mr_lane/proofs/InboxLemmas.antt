@@ -10,7 +10,7 @@ use Rattle.mr_lane.specs.declared.piece.Piece.{Piece}
 use Rattle.mr_lane.specs.declared.note.Note.{Note}
 use Rattle.mr_lane.specs.declared.inbox_rule.InboxSight.{InboxSight}
 use Rattle.mr_lane.specs.Note.{pieces_by, sender_number}
-use Rattle.mr_lane.specs.InboxRule.{taker_sight, sender_sight, spent_sight, with_sender, with_heard, with_sent, with_taken, KnowsItsPart, DeliversInOrder, AccountsForAll}
+use Rattle.mr_lane.specs.inner.InboxRule.{taker_sight, sender_sight, spent_sight, with_sender, with_heard, with_sent, with_taken, KnowsItsPart, DeliversInOrder, AccountsForAll}
 use Rattle.mr_lane.proofs.NoteLemmas.{pieces_by-append}
 use Rattle.mr_lane.proofs.SightLemmas.{AllSights, all_set, only_one, snoc_cases}
 use Rattle.mr_lane.proofs.UpdateLemmas.{but, but-here, but-else, but-same}

@@ -9,7 +9,8 @@ use Rattle.mr_lane.specs.declared.note.Note.{Note}
 use Rattle.mr_lane.specs.declared.arrival.Marks.{Marks}
 use Rattle.mr_lane.specs.Piece.{pieces, has_end}
 use Rattle.mr_lane.specs.Note.{pieces_by, sender_number}
-use Rattle.mr_lane.specs.Desk.{has_finished, have_all_finished, AreMarksOf, with_mark}
+use Rattle.mr_lane.specs.Desk.{has_finished, have_all_finished, AreMarksOf}
+use Rattle.mr_lane.specs.inner.Desk.{with_mark}
 
 or-false : (b : Bool) → (b || false) ≡ b
 or-false true = refl

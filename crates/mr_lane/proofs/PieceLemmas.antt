@@ -4,7 +4,7 @@ use Rattle.std.proofs.lemmas.List.{append-nil}
 use Rattle.mr_lane.specs.declared.piece.Piece.{Piece}
 use Rattle.mr_lane.specs.declared.piece.Piece.TheVariants.{Item, End}
 use Rattle.mr_lane.specs.Piece.{pieces, items_of}
-use Rattle.mr_lane.specs.Tap.{EndsWithWaiting}
+use Rattle.mr_lane.specs.inner.Tap.{EndsWithWaiting}
 
 module _ {T : Type 0} where
   pub items_of-append : (ps qs : List (Piece T)) → items_of (ps ++ qs) ≡ items_of ps ++ items_of qs

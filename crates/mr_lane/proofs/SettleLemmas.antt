@@ -4,7 +4,7 @@ use Rattle.mr_lane.specs.declared.note.Note.{Note}
 use Rattle.mr_lane.specs.declared.inbox_rule.InboxSight.{InboxSight}
 use Rattle.mr_lane.specs.Piece.{pieces}
 use Rattle.mr_lane.specs.Note.{pieces_by}
-use Rattle.mr_lane.specs.InboxRule.{taker_sight, with_heard, AccountsForAll}
+use Rattle.mr_lane.specs.inner.InboxRule.{taker_sight, with_heard, AccountsForAll}
 use Rattle.mr_lane.specs.Desk.{have_all_finished}
 use Rattle.mr_lane.proofs.NoteLemmas.{is_all, each_finished}
 

@@ -7,7 +7,7 @@ use Rattle.crossbeam_queue.proofs.Lists.{at_set}
 use Rattle.mr_lane.specs.declared.piece.Piece.{Piece}
 use Rattle.mr_lane.specs.declared.tap_rule.TapSight.{TapSight}
 use Rattle.mr_lane.specs.Piece.{pieces}
-use Rattle.mr_lane.specs.TapRule.{tap_sight, KnowsItsSide, FlowsInOrder}
+use Rattle.mr_lane.specs.inner.TapRule.{tap_sight, KnowsItsSide, FlowsInOrder}
 use Rattle.mr_lane.proofs.PieceLemmas.{begins_of}
 use Rattle.mr_lane.proofs.SightLemmas.{AllSights, all_set, only_one, snoc_cases}
 

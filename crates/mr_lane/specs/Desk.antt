@@ -54,9 +54,3 @@ module _ {T : Type 0} where
     pub takes : s.takes ≡ true
     pub heard_none : s.heard_out ≡ []
     pub marked : AreMarksOf marks s.taken
-
--- the marks, with that of one sender more
-abbrev pub with_mark : Marks → Sender → Marks
-with_mark marks User = record marks { user = true }
-with_mark marks FirstLink = record marks { first_link = true }
-with_mark marks SecondLink = record marks { second_link = true }

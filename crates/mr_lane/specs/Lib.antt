@@ -1,12 +1,11 @@
 pub mod Desk
 pub mod Fault
 pub mod Inbox
-pub mod InboxRule
 pub mod Letters
 pub mod Note
 pub mod Piece
 pub mod Post
 pub mod Tap
 pub mod TapPort
-pub mod TapRule
 pub mod Rows
+pub mod inner

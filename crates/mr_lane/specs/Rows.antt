@@ -13,7 +13,8 @@ use Rattle.mr_lane.specs.declared.tap_ends.Drawn.TheVariants as drawn
 use Rattle.mr_lane.specs.Piece.{pieces, items_of, has_end}
 use Rattle.mr_lane.specs.Note.{pieces_by}
 use Rattle.mr_lane.specs.Letters.{letters_in, letters_by}
-use Rattle.mr_lane.specs.Desk.{new_desk, with_note, Arrives, has_finished, have_all_finished, with_mark}
+use Rattle.mr_lane.specs.Desk.{new_desk, with_note, Arrives, has_finished, have_all_finished}
+use Rattle.mr_lane.specs.inner.Desk.{with_mark}
 use Rattle.mr_lane.specs.Post.{PostView, with_letter, with_end_mark, ReturnsLetter}
 use Rattle.mr_lane.specs.Inbox.{IsAllOf}
 use Rattle.mr_lane.specs.Tap.{TapEnd, new_end, with_item, with_end, HandsBack, Draws}

@@ -52,7 +52,7 @@ module _ {T : Type 0} where
     pub offers : s.offers ≡ true
     pub in_order : s.offered ≡ pieces (items_of s.offered) closed
 
-  -- the same of a sight that takes
+  -- a sight that takes, of items in order, and of the end mark last where they have ended
   pub record IsTaker (s : TapSight T) (closed : Bool) : Type 0 where
     pub takes : s.takes ≡ true
     pub in_order : s.taken ≡ pieces (items_of s.taken) closed
@@ -60,7 +60,3 @@ module _ {T : Type 0} where
   -- what a pass knows
   abbrev pub tap_sight_of : Pass (Piece T) (TapSight T) → TapSight T
   tap_sight_of p = view p
-
-  -- at one moment this many waited: the last of these
-  abbrev pub EndsWithWaiting : List (Piece T) → ℕ → Type 0
-  EndsWithWaiting offered count = (waiting : List (Piece T)) × (length waiting ≡ count) × ((gone : List (Piece T)) × (offered ≡ gone ++ waiting))

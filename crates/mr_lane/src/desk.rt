@@ -3,9 +3,10 @@ ghost use Rattle.std.specs.Prelude.{◌≡◌, ◌↔◌, [], ◌∷◌, ◌++�
 ghost use Rattle.std.specs.Arc.{arc_value};
 ghost use Rattle.crossbeam_queue.specs.Passes.{IsPassOf, ruled_capacity};
 ghost use Rattle.mr_lane.specs.declared.desk.SettleFault.TheVariants.{NotFinished};
-ghost use Rattle.mr_lane.specs.InboxRule.{taker_sight};
+ghost use Rattle.mr_lane.specs.inner.InboxRule.{taker_sight};
 ghost use Rattle.mr_lane.specs.Post.{inbox_sight_of};
-ghost use Rattle.mr_lane.specs.Desk.{Arrives, new_desk, have_all_finished, with_mark};
+ghost use Rattle.mr_lane.specs.Desk.{Arrives, new_desk, have_all_finished};
+ghost use Rattle.mr_lane.specs.inner.Desk.{with_mark};
 ghost use Rattle.mr_lane.specs.Inbox.{ArePostsOf, IsSettled};
 
 use crate::arrival::{Arrival, Marks};

@@ -27,7 +27,7 @@ pub struct InboxRule;
 
 impl<T> Protocol<Note<T>, InboxSight<T>> for InboxRule {
     ghost use Rattle.std.specs.Prelude.{[]};
-    ghost use Rattle.mr_lane.specs.InboxRule.{taker_sight, DeliversInOrder};
+    ghost use Rattle.mr_lane.specs.inner.InboxRule.{taker_sight, DeliversInOrder};
 
     ghost holds = { DeliversInOrder };
 
@@ -39,7 +39,7 @@ pub struct NextSender;
 
 impl<T> Split<InboxSight<T>> for NextSender {
     ghost use Rattle.std.specs.Prelude.{[]};
-    ghost use Rattle.mr_lane.specs.InboxRule.{sender_sight, with_sender};
+    ghost use Rattle.mr_lane.specs.inner.InboxRule.{sender_sight, with_sender};
 
     ghost left = { with_sender };
 
@@ -50,7 +50,7 @@ impl<T> Split<InboxSight<T>> for NextSender {
 pub struct HearsOut;
 
 impl<T> Join<InboxSight<T>> for HearsOut {
-    ghost use Rattle.mr_lane.specs.InboxRule.{with_heard, spent_sight};
+    ghost use Rattle.mr_lane.specs.inner.InboxRule.{with_heard, spent_sight};
 
     ghost both = { with_heard };
 
@@ -62,7 +62,7 @@ pub struct Sends;
 
 impl<T> Outcome<Note<T>, InboxSight<T>> for Sends {
     ghost use Rattle.std.specs.Prelude.{◌≡◌};
-    ghost use Rattle.mr_lane.specs.InboxRule.{with_sent};
+    ghost use Rattle.mr_lane.specs.inner.InboxRule.{with_sent};
 
     ghost then = { λ s note t. t ≡ with_sent s note.piece };
 }
@@ -79,7 +79,7 @@ pub struct Takes;
 
 impl<T> Outcome<Note<T>, InboxSight<T>> for Takes {
     ghost use Rattle.std.specs.Prelude.{◌≡◌};
-    ghost use Rattle.mr_lane.specs.InboxRule.{with_taken};
+    ghost use Rattle.mr_lane.specs.inner.InboxRule.{with_taken};
 
     ghost then = { λ s note t. t ≡ with_taken s note };
 }
@@ -95,7 +95,7 @@ impl<T> Lesson<Note<T>, InboxSight<T>> for Takes {
 pub struct Compares;
 
 impl<T> Lesson<Note<T>, InboxSight<T>> for Compares {
-    ghost use Rattle.mr_lane.specs.InboxRule.{AccountsForAll};
+    ghost use Rattle.mr_lane.specs.inner.InboxRule.{AccountsForAll};
 
     ghost fact = { AccountsForAll };
 }

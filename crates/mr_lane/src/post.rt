@@ -2,7 +2,7 @@
 ghost use Rattle.std.specs.Prelude.{◌≡◌, [], ◌∷◌, ◌++◌, true, false, OnOk, IfErr};
 ghost use Rattle.std.specs.Arc.{arc_value};
 ghost use Rattle.crossbeam_queue.specs.Passes.{IsPassOf, ruled_capacity};
-ghost use Rattle.mr_lane.specs.InboxRule.{sender_sight};
+ghost use Rattle.mr_lane.specs.inner.InboxRule.{sender_sight};
 ghost use Rattle.mr_lane.specs.Note.{sender_number};
 ghost use Rattle.mr_lane.specs.Post.{inbox_sight_of, new_post, with_letter, with_end_mark, ReturnsLetter};
 

@@ -1,7 +1,8 @@
 //! The two ends of a tap.
 ghost use Rattle.std.specs.Prelude.{◌≡◌, [], ◌∷◌, ◌++◌, true, false, MatchOption, OnOk, IfErr};
 ghost use Rattle.crossbeam_queue.specs.Passes.{IsPassOf, ruled_capacity};
-ghost use Rattle.mr_lane.specs.Tap.{tap_sight_of, EndsWithWaiting, with_item, with_end, WasFull, HandsBack, Draws};
+ghost use Rattle.mr_lane.specs.Tap.{tap_sight_of, with_item, with_end, WasFull, HandsBack, Draws};
+ghost use Rattle.mr_lane.specs.inner.Tap.{EndsWithWaiting};
 
 use crate::fault::{FinishFault, SendFault};
 use crate::piece::Piece;

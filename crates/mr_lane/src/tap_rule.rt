@@ -20,7 +20,7 @@ pub struct TapRule;
 
 impl<T> Protocol<Piece<T>, TapSight<T>> for TapRule {
     ghost use Rattle.std.specs.Prelude.{true, []};
-    ghost use Rattle.mr_lane.specs.TapRule.{tap_sight, FlowsInOrder};
+    ghost use Rattle.mr_lane.specs.inner.TapRule.{tap_sight, FlowsInOrder};
 
     ghost holds = { FlowsInOrder };
 
@@ -32,7 +32,7 @@ pub struct TwoEnds;
 
 impl<T> Split<TapSight<T>> for TwoEnds {
     ghost use Rattle.std.specs.Prelude.{true, false, []};
-    ghost use Rattle.mr_lane.specs.TapRule.{tap_sight};
+    ghost use Rattle.mr_lane.specs.inner.TapRule.{tap_sight};
 
     ghost left = { λ s. tap_sight true false s.offered [] };
 
@@ -41,7 +41,7 @@ impl<T> Split<TapSight<T>> for TwoEnds {
 
 impl<T> Join<TapSight<T>> for TwoEnds {
     ghost use Rattle.std.specs.Prelude.{true, false, []};
-    ghost use Rattle.mr_lane.specs.TapRule.{tap_sight};
+    ghost use Rattle.mr_lane.specs.inner.TapRule.{tap_sight};
 
     ghost both = { λ s t. tap_sight true true s.offered t.taken };
 
@@ -53,7 +53,7 @@ pub struct Offers;
 
 impl<T> Outcome<Piece<T>, TapSight<T>> for Offers {
     ghost use Rattle.std.specs.Prelude.{◌≡◌, ◌++◌, ◌∷◌, []};
-    ghost use Rattle.mr_lane.specs.TapRule.{tap_sight};
+    ghost use Rattle.mr_lane.specs.inner.TapRule.{tap_sight};
 
     ghost then = { λ s p t. t ≡ tap_sight s.offers s.takes (s.offered ++ p ∷ []) s.taken };
 }
@@ -71,7 +71,7 @@ pub struct Takes;
 
 impl<T> Outcome<Piece<T>, TapSight<T>> for Takes {
     ghost use Rattle.std.specs.Prelude.{◌≡◌, ◌++◌, ◌∷◌, []};
-    ghost use Rattle.mr_lane.specs.TapRule.{tap_sight};
+    ghost use Rattle.mr_lane.specs.inner.TapRule.{tap_sight};
 
     ghost then = { λ s p t. t ≡ tap_sight s.offers s.takes s.offered (s.taken ++ p ∷ []) };
 }

@@ -14,8 +14,9 @@ use Rattle.mr_frames.specs.declared.fault.FrameFault.{FrameFault}
 use Rattle.mr_frames.specs.declared.fault.FrameFault.TheVariants as reading
 use Rattle.mr_frames.proofs.StreamLaws.{begins_more}
 use Rattle.mr_link.specs.Link.{LinkView, Sends, Receives}
-use Rattle.mr_link.specs.Snag.{snag_of_reader, snag_of_link, snag_of_encoding}
-use Rattle.mr_link.specs.Wire.{WireView, held_bytes, unread_in, wire_of, PassesWell, ReadsFrame, ReadsPiece, HandsOn, Hands, WritesFrame}
+use Rattle.mr_link.specs.inner.Snag.{snag_of_reader, snag_of_link, snag_of_encoding}
+use Rattle.mr_link.specs.Wire.{WireView, held_bytes, unread_in, wire_of, PassesWell, ReadsFrame, WritesFrame}
+use Rattle.mr_link.specs.inner.Wire.{ReadsPiece, HandsOn, Hands}
 use Rattle.mr_link.specs.declared.link.LinkFault.{LinkFault}
 use Rattle.mr_link.specs.declared.link.LinkFault.TheVariants as link
 use Rattle.mr_link.specs.declared.snag.Snag.{Snag}

@@ -2,9 +2,8 @@
 use Rattle.std.specs.Prelude.{◌≡◌, ◌++◌, ℕ, false, List, [], Option, Some}
 use Rattle.std.specs.List.{flat_map}
 use Rattle.atomic_table.specs.Seated.{TableId}
-use Rattle.mr_lane.specs.Tap.{TapEnd}
 use Rattle.mr_link.specs.declared.chunk.Chunk.{Chunk}
-use Rattle.mr_link.specs.Link.{LinkView, with_down}
+use Rattle.mr_link.specs.Link.{LinkView}
 
 -- the bytes of these pieces
 abbrev pub bytes_in : List Chunk → List ℕ
@@ -20,20 +19,9 @@ pub record LaneEnd : Type 0 where
 abbrev pub lane_tells : LaneEnd → LinkView
 lane_tells end = end.tells
 
--- the end was down once more
-abbrev pub is_down : LaneEnd → LaneEnd
-is_down end = record end { tells = with_down end.tells }
-
 -- nothing was sent or received yet, the link was never down, and it was not hung up
 abbrev pub new_link : LinkView
 new_link = record { received = Some []; sent = Some []; downs = 0; hung_up = false }
-
--- a new end over these lanes
-pub record IsEndOf (spout tap : TapEnd Chunk) (end : LaneEnd) : Type 0 where
-  pub sends_to : end.sends_to ≡ spout.id
-  pub receives_from : end.receives_from ≡ tap.id
-  pub capacity : end.capacity ≡ spout.capacity
-  pub tells : end.tells ≡ new_link
 
 -- two new ends of one link: each sends to the lane from which the other receives
 pub record AreJoined (capacity : ℕ) (here there : LaneEnd) : Type 0 where

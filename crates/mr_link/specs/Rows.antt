@@ -12,9 +12,9 @@ use Rattle.mr_link.specs.declared.link.LinkFault.TheVariants as link
 use Rattle.mr_link.specs.declared.snag.Snag.TheVariants as snag
 use Rattle.mr_link.specs.Link.{LinkView, and_then, with_down, with_hang_up, Sends, Receives}
 use Rattle.mr_link.specs.Fault.{link_number, snag_number}
-use Rattle.mr_link.specs.Snag.{snag_of_reader, snag_of_link, snag_of_encoding}
+use Rattle.mr_link.specs.inner.Snag.{snag_of_reader, snag_of_link, snag_of_encoding}
 use Rattle.mr_link.specs.declared.chunk.Chunk.{Chunk}
-use Rattle.mr_link.specs.LaneLink.{LaneEnd, IsBeginning, bytes_in, new_link}
+use Rattle.mr_link.specs.LaneLink.{IsBeginning, bytes_in, new_link}
 use Rattle.mr_link.specs.Wire.{WireView, unread_in, new_wire, IsBad, PassesWell, ReadsFrame, WritesFrame}
 
 -- ---- what a link tells

@@ -57,21 +57,21 @@ pub record Passes (old : WireView) (read gone : List Frame) (rest : List ℕ) (n
   pub sent : new.link.sent ≡ and_then old.link.sent sent_bytes
   pub sent_frames : AreFrames sent_bytes gone []
 
--- the same; the rest is still unread, and the link was not down
+-- frames were read and sent between two states; the rest is still unread, and the link was not down
 pub record PassesWell (old : WireView) (read gone : List Frame) (new : WireView) : Type 0 where
   pub rest : List ℕ
   pub passes : Passes old read gone rest new
   pub unread : new.unread ≡ Some rest
   pub downs : new.link.downs ≡ old.link.downs
 
--- the same; the rest is still unread, and then the link was down once
+-- frames were read and sent between two states; the rest is still unread, and then the link was down once
 pub record GoesDown (old : WireView) (read gone : List Frame) (new : WireView) : Type 0 where
   pub rest : List ℕ
   pub passes : Passes old read gone rest new
   pub unread : new.unread ≡ Some rest
   pub downs : new.link.downs ≡ old.link.downs + 1
 
--- the same; and the rest is no frame
+-- frames were read and sent between two states; and the rest is no frame
 pub record IsSpoilt (old : WireView) (read gone : List Frame) (new : WireView) : Type 0 where
   pub rest : List ℕ
   pub passes : Passes old read gone rest new
@@ -86,27 +86,6 @@ ReadsFrame old (Err LinkDown) new = GoesDown old [] [] new
 ReadsFrame old (Err BadFrame) new = IsSpoilt old [] [] new
 ReadsFrame old (Err OutOfMemory) new = PassesWell old [] [] new
 ReadsFrame old (Err TooLong) new = ⊥
-
--- what comes of receiving more bytes
-abbrev pub ReadsPiece : WireView → Result (Unit {0}) Snag → WireView → Type 0
-ReadsPiece old (Ok _) new = PassesWell old [] [] new
-ReadsPiece old (Err LinkDown) new = GoesDown old [] [] new
-ReadsPiece old (Err OutOfMemory) new = PassesWell old [] [] new
-ReadsPiece old (Err BadFrame) new = ⊥
-ReadsPiece old (Err TooLong) new = ⊥
-
--- the piece is behind what was unread
-pub record HandsOn {L : Type 0} (old : Wire L) (piece : Vec ℕ) (new : Wire L) : Type 0 where
-  pub link : new.link ≡ old.link
-  pub unread : unread_in new.reader new.held ≡ unread_in old.reader (Some piece)
-
--- what comes of handing a piece to the reader
-abbrev pub Hands : {L : Type 0} → Wire L → Vec ℕ → Result (Unit {0}) Snag → Wire L → Type 0
-Hands old piece (Ok _) new = HandsOn old piece new
-Hands old piece (Err OutOfMemory) new = HandsOn old piece new
-Hands old piece (Err LinkDown) new = ⊥
-Hands old piece (Err BadFrame) new = ⊥
-Hands old piece (Err TooLong) new = ⊥
 
 -- What comes of sending a frame. Where memory runs out, or where the frame is too long, nothing has changed.
 abbrev pub WritesFrame : WireView → Frame → Result (Unit {0}) Snag → WireView → Type 0

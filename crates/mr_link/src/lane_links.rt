@@ -2,7 +2,8 @@
 ghost use Rattle.std.specs.Prelude.{◌≡◌, ◌<◌, ◌+◌, ◌^◌, ◌⊎◌, ◌↔◌, [], IfOk, IsErr, Err, length, true};
 ghost use Rattle.mr_feed.specs.declared.port.TheConstants.{MAX_CAPACITY};
 ghost use Rattle.mr_link.specs.Link.{Sends, Receives, with_hang_up};
-ghost use Rattle.mr_link.specs.LaneLink.{AreEnds, AreJoined, AreSettled, IsEndOf, SameEnd, lane_tells, is_down};
+ghost use Rattle.mr_link.specs.LaneLink.{AreEnds, AreJoined, AreSettled, SameEnd, lane_tells};
+ghost use Rattle.mr_link.specs.inner.LaneLink.{IsEndOf, is_down};
 
 use crate::chunk::{Chunk, chunk_of};
 use crate::link::{Link, LinkFault};

@@ -1,7 +1,7 @@
 //! Why no frame passes a wire.
 ghost use Rattle.std.specs.Prelude.{◌≡◌};
 ghost use Rattle.mr_link.specs.Fault.{snag_number};
-ghost use Rattle.mr_link.specs.Snag.{snag_of_reader, snag_of_link, snag_of_encoding};
+ghost use Rattle.mr_link.specs.inner.Snag.{snag_of_reader, snag_of_link, snag_of_encoding};
 
 use crate::link::LinkFault;
 use mr_frames::FrameFault;

@@ -3,7 +3,8 @@ ghost use Rattle.std.specs.Prelude.{◌≡◌, ◌≢◌, ◌<◌, ◌+◌, ◌^
 ghost use Rattle.mr_wire.specs.Grammar.{Spells};
 ghost use Rattle.mr_wire.specs.declared.frame.Frame.{Frame};
 ghost use Rattle.mr_wire.specs.declared.frame.Frame.TheVariants as frame;
-ghost use Rattle.mr_link.specs.Wire.{wire_of, ReadsFrame, ReadsPiece, Hands, WritesFrame};
+ghost use Rattle.mr_link.specs.Wire.{wire_of, ReadsFrame, WritesFrame};
+ghost use Rattle.mr_link.specs.inner.Wire.{ReadsPiece, Hands};
 
 use crate::link::Link;
 use crate::snag::{Snag, snag_of_encoding, snag_of_link, snag_of_reader};

@@ -1,6 +1,7 @@
 -- two nodes that pull over each other's links
 use Rattle.mr_link.specs.LaneLink.{LaneEnd, AreJoined}
-use Rattle.mr_live.specs.Rounds.{Links, PullAndServe, Cross}
+use Rattle.mr_live.specs.Rounds.{Links, Cross}
+use Rattle.mr_live.specs.inner.Rounds.{PullAndServe}
 use Rattle.mr_live.specs.declared.rounds.TheConstants.{LINK_PIECES}
 
 pub crosses : (first_pulls second_serves second_pulls first_serves : LaneEnd) (first second : Links) → AreJoined LINK_PIECES first_pulls second_serves → AreJoined LINK_PIECES second_pulls first_serves → PullAndServe first_pulls first_serves first → PullAndServe second_pulls second_serves second → Cross first second

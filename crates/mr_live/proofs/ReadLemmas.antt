@@ -11,7 +11,8 @@ use Rattle.mr_script.specs.Fault.{fault_of_source}
 use Rattle.mr_script.specs.Run.{Breaks}
 use Rattle.mr_script.specs.Script.{lines_of, looked_at, TakesLine, IsNextLine}
 use Rattle.mr_script.proofs.LineLemmas.{lines-first}
-use Rattle.mr_live.specs.Plan.{PlanView, LineAsks, LinesAsk, ScriptAsks, LeadsOn, no_plan}
+use Rattle.mr_live.specs.Plan.{PlanView, LineAsks, LinesAsk, ScriptAsks, no_plan}
+use Rattle.mr_live.specs.inner.Plan.{LeadsOn}
 use Rattle.mr_live.specs.Plan.LinesAsk.{all_read, breaks, too_long, at_fault, goes_on}
 
 module _ (p : PlanView) (number taken : ℕ) (bytes line : List ℕ) (left : Option (List ℕ)) (taken_then : ℕ) where

@@ -14,7 +14,8 @@ use Rattle.mr_command.proofs.There.{command-there}
 use Rattle.mr_world.specs.declared.spec.Spec.{Spec}
 use Rattle.mr_live.specs.declared.plan.Asked.{Asked}
 use Rattle.mr_live.specs.declared.plan.NodePlan.{NodePlan}
-use Rattle.mr_live.specs.Plan.{PlanView, AreApart, CanAllRun, CanBothRun, CanRun, Halves, Adds, AddsAsked, LineAsks, TextAsks, asked_by, scene_of}
+use Rattle.mr_live.specs.Plan.{PlanView, AreApart, CanAllRun, CanRun, Halves, Adds, AddsAsked, LineAsks, TextAsks, asked_by, scene_of}
+use Rattle.mr_live.specs.inner.Plan.{CanBothRun}
 use Rattle.mr_live.specs.Plan.TextAsks.{skipped, unknown, not_read, done}
 
 -- one more, whose id none of them has

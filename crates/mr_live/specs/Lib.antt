@@ -4,3 +4,4 @@ pub mod Telling
 pub mod Rounds
 pub mod Live
 pub mod Rows
+pub mod inner

@@ -125,7 +125,7 @@ pub data LinesAsk : PlanView → (number room : ℕ) → (lines : List (List ℕ
   -- it is at fault
   at_fault : {p : PlanView} (q : PlanView) {number room : ℕ} {line : List ℕ} {lines : List (List ℕ)} {fault : LineFault} → length line ≤ room
       → LineAsks p (line_text line) (Err fault) q → LinesAsk p number room (line ∷ lines) (Err (Line number fault))
-  -- or it is taken, and the lines after it go on
+  -- a line is taken, and the lines after it go on
   goes_on : {p : PlanView} (q : PlanView) {number room : ℕ} {line : List ℕ} {lines : List (List ℕ)} {result : Result PlanView ScriptFault} → length line ≤ room
       → LineAsks p (line_text line) (Ok tt) q → LinesAsk q (number + 1) (room - length line) lines result → LinesAsk p number room (line ∷ lines) result
 
@@ -133,28 +133,10 @@ pub data LinesAsk : PlanView → (number room : ℕ) → (lines : List (List ℕ
 abbrev pub ScriptAsks : List ℕ → Result PlanView ScriptFault → Type 0
 ScriptAsks script result = LinesAsk no_plan 1 MAX_SCRIPT_BYTES (lines_of (looked_at script)) result
 
--- Whatever the lines at the new place come to, those at the old one come to.
-abbrev pub LeadsOn : PlanView → (number room : ℕ) → List ℕ → PlanView → (number_then room_then : ℕ) → List ℕ → Type 0
-LeadsOn p number room bytes q number_then room_then left =
-    (result : Result PlanView ScriptFault) → LinesAsk q number_then room_then (lines_of left) result → LinesAsk p number room (lines_of bytes) result
-
--- what comes of the next line of these bytes
-abbrev pub NextAsks : PlanView → (number room : ℕ) → List ℕ → Result Bool ScriptFault → PlanView → Option (List ℕ) → ℕ → Type 0
-NextAsks p number room bytes (Ok true) q left room_then =
-    (rest : List ℕ) × (left ≡ Some rest) × LeadsOn p number room bytes q (number + 1) room_then rest
-NextAsks p number room bytes (Ok false) q left room_then = LinesAsk p number room (lines_of bytes) (Ok q)
-NextAsks p number room bytes (Err fault) q left room_then = LinesAsk p number room (lines_of bytes) (Err fault)
-
 -- a node does what is asked of its replica
 pub record IsNodePlan (asked : List Asked) (spec : Spec) (n : NodePlan) : Type 0 where
   pub replica : n.spec ≡ spec
   pub events : n.events.items ≡ events_for spec.id asked
-
--- nothing but memory keeps both from running
-pub record CanBothRun (nodes : NodePlan × NodePlan) : Type 0 where
-  pub apart : nodes.0.spec.id ≢ nodes.1.spec.id
-  pub first : CanRun nodes.0.spec
-  pub second : CanRun nodes.1.spec
 
 -- there are just two replicas, whose nodes these are; or another number
 abbrev pub Halves : PlanView → Option (NodePlan × NodePlan) → Type 0

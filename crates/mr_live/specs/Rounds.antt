@@ -3,7 +3,7 @@ use Rattle.std.specs.Prelude.{◌≡◌, ◌==◌, ◌&&◌, not, ℕ, Bool, tru
 use Rattle.std.specs.List.{list_all}
 use Rattle.mr_forms.specs.Known.{Form, AreSame}
 use Rattle.mr_lane.specs.declared.note.Sender.{Sender}
-use Rattle.mr_link.specs.LaneLink.{LaneEnd, lane_tells, new_link, AreJoined}
+use Rattle.mr_link.specs.LaneLink.{LaneEnd, lane_tells, AreJoined}
 use Rattle.mr_node.specs.Node.{ReplicaNodeRan}
 use Rattle.mr_node.specs.declared.node.LinkTurns.{LinkTurns}
 use Rattle.mr_node.specs.declared.node.NodeEnd.{NodeEnd}
@@ -24,18 +24,13 @@ use Rattle.mr_live.specs.declared.rounds.TheConstants.{LINK_PIECES}
 abbrev pub never : Sender → ℕ → Bool
 never = λ link number. false
 
--- and each record was let pass
+-- a gate that lets each record pass
 abbrev pub always : Sender → ℕ → Type 0
 always = λ link number. Unit {0}
 
 -- the first and the second link of a node
 abbrev pub Links : Type 0
 Links = LinkTurns LaneEnd × LinkTurns LaneEnd
-
--- nothing passed over them yet
-pub record AreNew (links : Links) : Type 0 where
-  pub first : links.0.link.tells ≡ new_link
-  pub second : links.1.link.tells ≡ new_link
 
 -- they have these turns
 pub record HaveTurns (on_first on_second : List Turn) (links : Links) : Type 0 where
@@ -46,12 +41,6 @@ pub record HaveTurns (on_first on_second : List Turn) (links : Links) : Type 0 w
 pub record AreIdle (links : Links) : Type 0 where
   pub turns : HaveTurns [] [] links
   pub joined : AreJoined LINK_PIECES links.0.link links.1.link
-
--- a node's links: it pulls over the one and serves over the other
-pub record PullAndServe (pulls serves : LaneEnd) (links : Links) : Type 0 where
-  pub first : links.0.link ≡ pulls
-  pub second : links.1.link ≡ serves
-  pub turns : HaveTurns (Pull ∷ []) (Serve ∷ []) links
 
 -- Each node pulls over its first link, which is new, and whose other end is the second link of the other, over which that one serves.
 pub record Cross (these those : Links) : Type 0 where

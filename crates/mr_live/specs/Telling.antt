@@ -1,5 +1,5 @@
 -- what is printed of replicas that ended
-use Rattle.std.specs.Prelude.{◌≡◌, ℕ, Bool, true, false, List, [], ◌∷◌, ◌++◌, All, Option, Some, None, codes}
+use Rattle.std.specs.Prelude.{◌≡◌, ℕ, Bool, true, false, List, [], ◌∷◌, ◌++◌, All, codes}
 use Rattle.std.specs.Fmt.{decimal}
 use Rattle.std.specs.List.{concat, flat_map}
 use Rattle.mr_replica.specs.State.{State}
@@ -8,9 +8,7 @@ use Rattle.mr_world.specs.Kept.{WorldView}
 use Rattle.mr_world.specs.Promise.{moment_of}
 use Rattle.mr_settle.specs.Explains.{Explains}
 use Rattle.mr_settle.specs.Kept.{Keeps, KeepTogether}
-use Rattle.mr_settle.specs.Stuck.{IsStuck, IsWhy}
-use Rattle.mr_settle.specs.declared.fault.JoinFault.{JoinFault}
-use Rattle.mr_settle.specs.declared.fault.JoinFault.TheVariants.{OutOfMemory, Unexplained}
+use Rattle.mr_settle.specs.Stuck.{IsStuck}
 use Rattle.mr_script.specs.Holding.{heads_text, push_outs_text}
 
 -- the lines of what a replica holds
@@ -25,11 +23,6 @@ told_text ends = codes "joined\n" ++ flat_map held_text ends
 abbrev pub unexplained_text : (replica event : ℕ) → List ℕ
 unexplained_text replica event = concat (codes "unexplained " ∷ decimal replica ∷ codes " " ∷ decimal event ∷ codes "\n" ∷ [])
 
--- what is told of the fault: nothing where there was no memory
-abbrev pub TellsFault : JoinFault → (joined : Bool) → (text : List ℕ) → Type 0
-TellsFault OutOfMemory joined text = ⊥
-TellsFault (Unexplained replica event) joined text = (joined ≡ false) × (text ≡ unexplained_text replica event)
-
 module _ {K : Type 0} (form : Form K) where
   -- the history of a world explains them, and what holds of each world holds of them
   pub record AreExplained (ends : List (State K)) : Type 0 where
@@ -37,11 +30,6 @@ module _ {K : Type 0} (form : Form K) where
     pub explains : Explains form ends world
     pub kept : All (Keeps form (moment_of world).issues) ends
     pub together : KeepTogether (moment_of world).issues ends
-
-  -- they are explained, or this is why not
-  abbrev pub IsWhyNot : List (State K) → Option JoinFault → Type 0
-  IsWhyNot ends None = AreExplained ends
-  IsWhyNot ends (Some fault) = IsWhy form ends fault
 
   -- The text tells what replicas hold whose logs joined; or the event of which no history that goes as far as any can tells who gave its frame.
   abbrev pub Tells : List (State K) → (joined : Bool) → (text : List ℕ) → Type 0

@@ -3,7 +3,8 @@ ghost use Rattle.std.specs.Prelude.{◌≡◌, ◌≢◌, ◌∷◌, [], ◌<◌
 ghost use Rattle.mr_script.specs.declared.fault.ScriptFault.{ScriptFault};
 ghost use Rattle.mr_script.specs.declared.source.TheConstants.{MAX_SCRIPT_BYTES};
 ghost use Rattle.mr_live.specs.Live.{AreById, CannotMeet, LiveEnds, NodesEnd, NodesMeet, PlanEnds, TellsBoth, Writes};
-ghost use Rattle.mr_live.specs.Plan.{CanAllRun, CanBothRun, Halves, PlanView, ScriptAsks};
+ghost use Rattle.mr_live.specs.Plan.{CanAllRun, Halves, PlanView, ScriptAsks};
+ghost use Rattle.mr_live.specs.inner.Plan.{CanBothRun};
 
 use crate::fault::LiveFault;
 use crate::plan::{NodePlan, Plan};

@@ -1,6 +1,7 @@
 //! What the lines of a live script ask for.
 ghost use Rattle.std.specs.Prelude.{◌≡◌, ◌∷◌, ◌++◌, IfOk, IsErr, OnOk, length};
-ghost use Rattle.mr_command.specs.Words.{words, words_left};
+ghost use Rattle.mr_command.specs.Words.{words};
+ghost use Rattle.mr_command.specs.inner.Words.{words_left};
 ghost use Rattle.mr_live.specs.Plan.{Halves, LineAsks, TextAsks, Adds, AddsReplica, AddsAsked, asked_by, event_for, events_for, is_live_line, is_live_name, no_plan};
 
 use mr_command::{Command, LineFault, Pool, Roster};

@@ -2,10 +2,10 @@
 ghost use Rattle.std.specs.Prelude.{◌≡◌, ◌∷◌, [], IfOk, IfSome};
 ghost use Rattle.std.specs.List.{list_all};
 ghost use Rattle.std.specs.Thread.{IsSend, IsSync};
-ghost use Rattle.mr_link.specs.LaneLink.{new_link};
-ghost use Rattle.mr_node.specs.declared.turn.Turn.TheVariants.{Pull, Serve};
-ghost use Rattle.mr_live.specs.Plan.{ArePlaces, CanBothRun, CanRun};
-ghost use Rattle.mr_live.specs.Rounds.{AreIdle, AreNew, Cross, HaveTurns, PullAndServe, RanAlone, RanBoth, RanFrom, TwoRounds, had_memory, has_memory};
+ghost use Rattle.mr_live.specs.Plan.{ArePlaces, CanRun};
+ghost use Rattle.mr_live.specs.inner.Plan.{CanBothRun};
+ghost use Rattle.mr_live.specs.Rounds.{AreIdle, Cross, RanAlone, RanBoth, RanFrom, TwoRounds, had_memory, has_memory};
+ghost use Rattle.mr_live.specs.inner.Rounds.{AreNew, PullAndServe};
 
 use crate::plan::NodePlan;
 use mr_forms::Knowledge;

@@ -1,12 +1,12 @@
 //! The lines of a live script, out of a reader.
 ghost use Rattle.std.specs.Prelude.{◌≡◌, ◌≢◌, ◌+◌, ◌-◌, ◌<◌, ◌≤◌, ℕ, List, Option, Err, IsTrue, IfOk, IfErr, IfSome, OnOk, length};
-ghost use Rattle.mr_live.specs.Plan.{CanAllRun, NextAsks, ScriptAsks};
+ghost use Rattle.mr_live.specs.Plan.{CanAllRun, ScriptAsks};
+ghost use Rattle.mr_live.specs.inner.Plan.{NextAsks};
 ghost use Rattle.mr_script.specs.Fault.{NumbersItsLine};
 ghost use Rattle.mr_script.specs.Script.{Accounts};
 ghost use Rattle.mr_script.specs.declared.source.TheConstants.{MAX_SCRIPT_BYTES};
 
 use crate::plan::Plan;
-use mr_command::LineFault;
 use mr_script::{MAX_SCRIPT_BYTES, ScriptFault, ScriptLines, source_fault};
 use std::alloc::Global;
 use std::io::Read;

@@ -1,7 +1,8 @@
 //! What is printed of two replicas that ended.
 ghost use Rattle.std.specs.Prelude.{◌≡◌, ◌++◌, IfOk, OnOk, string_bytes};
 ghost use Rattle.mr_settle.specs.Explains.{AreDistinct};
-ghost use Rattle.mr_live.specs.Telling.{IsWhyNot, Tells, TellsFault, held_text, told_text, unexplained_text};
+ghost use Rattle.mr_live.specs.Telling.{Tells, held_text, told_text, unexplained_text};
+ghost use Rattle.mr_live.specs.inner.Telling.{IsWhyNot, TellsFault};
 
 use mr_forms::{Knowledge, OneValue};
 use mr_replica::Replica;

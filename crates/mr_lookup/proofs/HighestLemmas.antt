@@ -15,7 +15,8 @@ use Rattle.mr_forms.specs.Runs.{HasNoneOf, of_author}
 use Rattle.mr_concise.specs.Fragments.{ConciseFragment}
 use Rattle.mr_concise.specs.Last.{IsLast}
 use Rattle.mr_concise.specs.Vector.{vector_has}
-use Rattle.mr_lookup.specs.Highest.{HasNone, IsHighest, higher_of}
+use Rattle.mr_lookup.specs.Highest.{HasNone, IsHighest}
+use Rattle.mr_lookup.specs.inner.Highest.{higher_of}
 
 -- the option is that highest counter
 abbrev pub IsFound : Pairs → ℕ → Option ℕ → Type 0

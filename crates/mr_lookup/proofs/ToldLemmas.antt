@@ -13,7 +13,8 @@ use Rattle.mr_version.specs.Order.{exact_names, names_total}
 use Rattle.mr_mail.specs.Mail.{Mail}
 use Rattle.mr_replica.specs.declared.event.Event.{Event}
 use Rattle.mr_replica.specs.declared.event.Event.TheVariants.{Create, Edit, Retire, Pull, Receive, CutIn, Answer, Next, CutOut, Vouch, Release}
-use Rattle.mr_lookup.specs.Told.{first_told, issued_with, message_at, own_name, told_after, told_by, told_with}
+use Rattle.mr_lookup.specs.Told.{first_told, issued_with, message_at, own_name, told_after, told_by}
+use Rattle.mr_lookup.specs.inner.Told.{told_with}
 
 -- no event issues two versions
 pub issued_one : (issued : ℕ) (e : Event) → issued_with issued e ≤ issued + 1

@@ -7,7 +7,8 @@ use Rattle.mr_version.specs.Name.{Name, name_eq}
 use Rattle.mr_forms.proofs.PairLemmas.{name_eq-itself}
 use Rattle.mr_mail.specs.Mail.{Mail}
 use Rattle.mr_lookup.specs.Told.{message_at}
-use Rattle.mr_lookup.specs.Versions.{IsNewest, TellsNone, newer_of}
+use Rattle.mr_lookup.specs.Versions.{IsNewest, TellsNone}
+use Rattle.mr_lookup.specs.inner.Versions.{newer_of}
 use Rattle.mr_lookup.proofs.ToldLemmas.{message_at-append, or_else, same_name}
 
 -- the newest so far, after these are told

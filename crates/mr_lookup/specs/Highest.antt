@@ -1,5 +1,5 @@
 -- the highest version of an author among those that are known of some item
-use Rattle.std.specs.Prelude.{◌≡◌, ◌≤◌, ℕ, max, true, false, Option, Some, None}
+use Rattle.std.specs.Prelude.{◌≡◌, ◌≤◌, ℕ, true, false}
 use Rattle.mr_version.specs.Name.{Name}
 use Rattle.mr_forms.specs.Known.{Pairs}
 
@@ -12,9 +12,3 @@ pub record IsHighest (known : Pairs) (author counter : ℕ) : Type 0 where
   pub item : Name
   pub is_known : known item (record { author = author; counter = counter }) ≡ true
   pub highest : (other version : Name) → version.author ≡ author → known other version ≡ true → version.counter ≤ counter
-
--- the higher one of two counters, where there are any
-abbrev pub higher_of : Option ℕ → Option ℕ → Option ℕ
-higher_of None b = b
-higher_of (Some a) None = Some a
-higher_of (Some a) (Some b) = Some (max a b)

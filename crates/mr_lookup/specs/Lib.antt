@@ -5,3 +5,4 @@ pub mod Told
 pub mod Versions
 pub mod History
 pub mod Rows
+pub mod inner

@@ -4,10 +4,12 @@ use Rattle.mr_version.specs.Name.{Name}
 use Rattle.mr_mail.specs.Mail.{Mail}
 use Rattle.mr_madewith.specs.Revision.{Rev}
 use Rattle.mr_lookup.specs.Ancestors.{newest_common}
-use Rattle.mr_lookup.specs.Highest.{HasNone, higher_of}
+use Rattle.mr_lookup.specs.Highest.{HasNone}
+use Rattle.mr_lookup.specs.inner.Highest.{higher_of}
 use Rattle.mr_lookup.specs.History.{history_of}
 use Rattle.mr_lookup.specs.Told.{first_told, message_at}
-use Rattle.mr_lookup.specs.Versions.{TellsNone, newer_of, next_name, versions_told}
+use Rattle.mr_lookup.specs.Versions.{TellsNone, next_name, versions_told}
+use Rattle.mr_lookup.specs.inner.Versions.{newer_of}
 use Rattle.mr_replica.specs.declared.event.Event.{Event}
 use Rattle.mr_replica.specs.declared.event.Event.TheVariants.{Create, Edit, Receive, Retire}
 use Rattle.mr_wire.specs.declared.frame.Body.TheVariants.{Item}

@@ -1,5 +1,5 @@
 -- what a log tells first of items
-use Rattle.std.specs.Prelude.{ℕ, ◌+◌, Bool, if◌then◌else◌, List, [], ◌∷◌, ◌++◌, Option, Some, None}
+use Rattle.std.specs.Prelude.{ℕ, ◌+◌, Bool, List, [], ◌∷◌, ◌++◌, Option}
 use Rattle.std.specs.List.{list_any}
 use Rattle.std.specs.Map.{lookup}
 use Rattle.mr_version.specs.Name.{Name, name_eq}
@@ -30,7 +30,7 @@ abbrev pub told_in_frame : Frame → List (Name × Mail)
 told_in_frame (Record sent) = told_in sent.body
 told_in_frame _ = []
 
--- and that an event tells: a Create of the item that it makes, which is named for the next version
+-- the messages that an event tells of items: a Create tells one of the item that it makes, which is named for the next version
 abbrev pub told_by : (id issued : ℕ) → Event → List (Name × Mail)
 told_by id issued (Create message) = (own_name id (issued + 1), message) ∷ []
 told_by id issued (Receive frame) = told_in_frame frame
@@ -52,9 +52,3 @@ first_told id log item = message_at (told_after id 0 log) item
 -- whether a list has an item
 abbrev pub is_among : List Name → Name → Bool
 is_among items item = list_any (λ own. name_eq item own) items
-
--- what is known of an item that is told first, with one message more of it, if it is wanted
-abbrev pub told_with : (more known : Option Mail) → (wanted : Bool) → Option Mail
-told_with None known wanted = known
-told_with (Some message) None wanted = if wanted then Some message else None
-told_with (Some message) (Some first) wanted = Some first

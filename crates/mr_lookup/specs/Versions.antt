@@ -1,9 +1,9 @@
 -- what a log tells of versions
-use Rattle.std.specs.Prelude.{◌≡◌, ◌≤◌, ℕ, ◌+◌, ◌==◌, Bool, false, ◌&&◌, nat_lt, if◌then◌else◌, List, [], ◌∷◌, Option, Some, None}
+use Rattle.std.specs.Prelude.{◌≡◌, ◌≤◌, ℕ, ◌+◌, nat_lt, if◌then◌else◌, List, [], ◌∷◌, Option, Some, None}
 use Rattle.std.specs.Coded.{Coded, coded×}
 use Rattle.std.specs.List.{cons_option}
 use Rattle.std.specs.Option.{option_map}
-use Rattle.mr_version.specs.Name.{Name, name_code, name_eq}
+use Rattle.mr_version.specs.Name.{Name, name_code}
 use Rattle.mr_version.specs.declared.version.TheConstants.{MAX_COUNTER}
 use Rattle.mr_mail.specs.Mail.{Mail, mail_code}
 use Rattle.mr_wire.specs.declared.frame.Body.{Body}
@@ -35,7 +35,7 @@ abbrev pub version_in_frame : Frame → Option (Name × Mail)
 version_in_frame (Record sent) = version_in sent.body
 version_in_frame _ = None
 
--- and that an event tells: a Create or an Edit the version that it issues
+-- the version that an event tells with its message: a Create and an Edit tell the one that they issue
 abbrev pub version_told_by : (id issued : ℕ) → Event → Option (Name × Mail)
 version_told_by id issued (Create message) = issued_next id issued message
 version_told_by id issued (Edit bases message) = issued_next id issued message
@@ -47,14 +47,9 @@ abbrev pub versions_after : (id issued : ℕ) → List Event → List (Name × M
 versions_after id issued [] = []
 versions_after id issued (e ∷ es) = cons_option (version_told_by id issued e) (versions_after id (issued_with issued e) es)
 
--- those that a log tells
+-- the versions that a log tells with their messages
 abbrev pub versions_told : (id : ℕ) → List Event → List (Name × Mail)
 versions_told id log = versions_after id 0 log
-
--- the message, if it is told of this version
-abbrev pub message_if : Name → Option (Name × Mail) → Option Mail
-message_if version None = None
-message_if version (Some told) = if name_eq version told.0 then Some told.1 else None
 
 -- none of these versions is the author's
 abbrev pub TellsNone : List (Name × Mail) → (author : ℕ) → Type 0
@@ -65,17 +60,3 @@ pub record IsNewest (told : List (Name × Mail)) (author : ℕ) (version : Name)
   pub of_author : version.author ≡ author
   pub is_told : message_at told version ≡ Some message
   pub newest : (other : Name) → (older : Mail) → other.author ≡ author → message_at told other ≡ Some older → other.counter ≤ version.counter
-
--- whether a version is the author's, with a higher counter than the newest one so far
-abbrev pub is_above : (author : ℕ) → (newest : Option (Name × Mail)) → Name → Bool
-is_above author None version = version.author == author
-is_above author (Some before) version = (version.author == author) && nat_lt before.0.counter version.counter
-
--- whether one more is told, which is that
-abbrev pub is_newer : (author : ℕ) → (newest more : Option (Name × Mail)) → Bool
-is_newer author newest None = false
-is_newer author newest (Some told) = is_above author newest told.0
-
--- the newest one so far, after one more may be told
-abbrev pub newer_of : (author : ℕ) → (newest more : Option (Name × Mail)) → Option (Name × Mail)
-newer_of author newest more = if is_newer author newest more then more else newest

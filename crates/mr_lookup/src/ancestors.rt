@@ -1,6 +1,5 @@
 //! Which versions several others of an item come of.
 ghost use Rattle.std.specs.Prelude.{◌≡◌, IfOk, filter};
-ghost use Rattle.std.specs.List.{list_all};
 ghost use Rattle.mr_lookup.specs.Ancestors.{is_above, is_common, is_topmost, newest_common};
 
 use mr_madewith::Revision;

@@ -1,5 +1,5 @@
 //! Digests of what is known, and of a message.
-ghost use Rattle.std.specs.Prelude.{◌≡◌, ◌≢◌, ◌∷◌, [], Err, IfOk, IsErrOf, OnOk, string_bytes};
+ghost use Rattle.std.specs.Prelude.{◌≡◌, ◌≢◌, Err, IfOk, IsErrOf, OnOk};
 ghost use Rattle.sha2.specs.Sha256.{sha256};
 ghost use Rattle.mr_concise.specs.Fragments.{knowledge_text};
 ghost use Rattle.mr_wire.specs.Spelling.{message_bytes};

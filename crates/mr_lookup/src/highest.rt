@@ -3,7 +3,8 @@ ghost use Rattle.std.specs.Prelude.{◌≡◌, ◌≢◌, All, Err, IfOk, IsErrO
 ghost use Rattle.mr_forms.specs.Covered.{HasItems, all_covered};
 ghost use Rattle.mr_concise.specs.Vector.{vector_has};
 ghost use Rattle.mr_replica.specs.Fragments.{HasHoleyPart};
-ghost use Rattle.mr_lookup.specs.Highest.{HasNone, IsHighest, higher_of};
+ghost use Rattle.mr_lookup.specs.Highest.{HasNone, IsHighest};
+ghost use Rattle.mr_lookup.specs.inner.Highest.{higher_of};
 
 use mr_concise::ConciseVector;
 use mr_forms::{FormFault, Fragment, Knowledge};

@@ -1,7 +1,8 @@
 //! What a log tells first of items.
-ghost use Rattle.std.specs.Prelude.{◌≡◌, ◌+◌, ◌<◌, ◌^◌, ◌&&◌, not, is_some, ◌∷◌, [], if◌then◌else◌, ℕ, None, IfNone, IfOk, IfSome, OnOk};
+ghost use Rattle.std.specs.Prelude.{◌≡◌, ◌+◌, ◌<◌, ◌^◌, ◌&&◌, not, is_some, ◌∷◌, [], if◌then◌else◌, None, IfNone, IfOk, IfSome, OnOk};
 ghost use Rattle.mr_version.specs.Name.{IsVersion, Name};
-ghost use Rattle.mr_lookup.specs.Told.{first_told, is_among, issued_with, message_at, own_name, told_by, told_in, told_with};
+ghost use Rattle.mr_lookup.specs.Told.{first_told, is_among, issued_with, message_at, own_name, told_by, told_in};
+ghost use Rattle.mr_lookup.specs.inner.Told.{told_with};
 
 use mr_forms::Knowledge;
 use mr_mail::Message;

@@ -2,7 +2,8 @@
 ghost use Rattle.std.specs.Prelude.{◌≡◌, ◌+◌, ◌<◌, ◌^◌, MatchOption};
 ghost use Rattle.std.specs.Option.{option_copied};
 ghost use Rattle.mr_lookup.specs.Told.{message_at};
-ghost use Rattle.mr_lookup.specs.Versions.{IsNewest, TellsNone, is_above, is_newer, issued_next, message_if, newer_of, next_name, version_in, version_told_by, versions_told};
+ghost use Rattle.mr_lookup.specs.Versions.{IsNewest, TellsNone, issued_next, next_name, version_in, version_told_by, versions_told};
+ghost use Rattle.mr_lookup.specs.inner.Versions.{is_above, is_newer, message_if, newer_of};
 
 use crate::told::issued_then;
 use mr_forms::Knowledge;

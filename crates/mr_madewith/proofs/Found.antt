@@ -8,7 +8,7 @@ use Rattle.std.proofs.lemmas.List.Sorted.{searchable_from_sorted}
 use Rattle.mr_version.specs.Name.{Name, name_cmp, name_eq}
 use Rattle.mr_version.specs.Order.{exact_names, names_total}
 use Rattle.mr_madewith.specs.Keyed.{AreRising, named, without, inserted}
-use Rattle.mr_madewith.specs.Search.{IsFoundAt, IsGapFor}
+use Rattle.mr_madewith.specs.inner.Search.{IsFoundAt, IsGapFor}
 use Rattle.mr_madewith.proofs.Rising.{not_after, head_before, tail_rises, sorted_by_name, at_place}
 
 module _ {X : Type 0} (name : X → Name) where

@@ -1,5 +1,5 @@
 -- lists whose elements each have a name, in the order of the names
-use Rattle.std.specs.Prelude.{Bool, not, if◌then◌else◌, Option, List, [], ◌∷◌, map, filter, find}
+use Rattle.std.specs.Prelude.{not, if◌then◌else◌, Option, List, [], ◌∷◌, map, filter, find}
 use Rattle.std.specs.List.Sorted.{IsStrictlySortedBy}
 use Rattle.mr_version.specs.Name.{Name, name_cmp, name_eq}
 pub use Rattle.mr_version.specs.Sets.{is_before}

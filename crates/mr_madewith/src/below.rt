@@ -1,5 +1,5 @@
 //! The made-with set of a new version.
-ghost use Rattle.std.specs.Prelude.{◌≡◌, ◌↔◌, ◌≢◌, IfOk, IsErrOf, Err};
+ghost use Rattle.std.specs.Prelude.{◌↔◌, ◌≢◌, IfOk, IsErrOf, Err};
 ghost use Rattle.std.specs.Option.{option_copied};
 ghost use Rattle.mr_forms.specs.Sets.{IsSame};
 ghost use Rattle.mr_forms.specs.Runs.{in_run};
@@ -30,6 +30,7 @@ pub fn below_of<S: Source>(
     ensures items { result ≢ Err FormFault.TooManyItems }
 {
     let below = ConciseVector::gather(alloc, &((bases, last), run_before(new)))?;
+    // a vector's columns are as they have to be
     let _columns = below.author_columns();
     Ok(below)
 }

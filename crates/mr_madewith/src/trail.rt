@@ -2,7 +2,7 @@
 ghost use Rattle.std.specs.Prelude.{◌≡◌, ◌<◌, [], IfOk, IfErr, OnOk, OnErr};
 ghost use Rattle.std.specs.Option.{option_copied};
 ghost use Rattle.mr_madewith.specs.Keyed.{AreRising};
-ghost use Rattle.mr_madewith.specs.Search.{IsFoundAt, IsGapFor};
+ghost use Rattle.mr_madewith.specs.inner.Search.{IsFoundAt, IsGapFor};
 ghost use Rattle.mr_madewith.specs.Trail.{item_of_last, last_of, noted};
 
 use crate::Revision;

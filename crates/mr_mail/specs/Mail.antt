@@ -49,7 +49,7 @@ card_code =
     (λ c. (c.labels, (c.flags, c.day)))
     (λ p. record { labels = p.0; flags = p.1.0; day = p.1.1 }) (λ _. refl)
 
--- so is a message
+-- a message is stored as the tuple of its fields
 abbrev pub mail_code : Coded Mail
 mail_code =
     code_by ((List ℕ × (List ℕ × List ℕ)) × (List (List ℕ) × (ℕ × ℕ)))

@@ -34,6 +34,7 @@ impl Place {
         requires { IsLabelSet labels.items }
         ensures { result ≡ record { labels = labels.items; flags = flags; day = day } }
     {
+        // the flags and the day are in their ranges
         let _bits = flags.bits();
         let _days = day.days();
         Place { labels, flags, day }

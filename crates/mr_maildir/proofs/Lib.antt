@@ -9,6 +9,7 @@ pub mod FolderLemmas
 pub mod ToldLemmas
 pub mod ReferenceLemmas
 pub mod PlanLemmas
+pub mod MomentLemmas
 pub mod LayoutLemmas
 pub mod ListingLemmas
 pub mod HeaderLemmas

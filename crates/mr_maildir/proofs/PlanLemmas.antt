@@ -1,8 +1,8 @@
 -- the files that acts leave
-use Rattle.std.proofs.Common.{◌≡◌, ℕ, zero, suc, ◌+◌, ◌<◌, ◌≤◌, Bool, true, false, not, cond, ◌&&◌, ◌||◌, List, [], ◌∷◌, ◌++◌, length, take, get_or, map, Option, Some, None, refl, sym, ap, ◌∙◌, inl, inr, ◌⊎◌, append_assoc, length-append, arith, subst}
-use Rattle.std.specs.Prelude.{◌==◌, find, nat_le, slice_index}
+use Rattle.std.proofs.Common.{◌≡◌, ℕ, ◌+◌, ◌<◌, ◌≤◌, Bool, true, false, not, cond, ◌&&◌, ◌||◌, List, [], ◌∷◌, ◌++◌, length, take, get_or, map, Option, Some, None, refl, sym, ap, ◌∙◌, inl, inr, append_assoc, arith}
+use Rattle.std.specs.Prelude.{◌==◌, find}
 use Rattle.std.specs.List.{list_all, list_any, flat_map}
-use Rattle.std.proofs.lemmas.Bool.{and_parts, and_from, or_parts, or_left, or_right, or_cases, false≢true, cases_Bool, eqb-true, eq-eqb, not-true, leb-true}
+use Rattle.std.proofs.lemmas.Bool.{and_parts, and_from, or_parts, or_left, or_right, or_cases, false≢true, cases_Bool, eqb-true, eq-eqb, not-true}
 use Rattle.std.proofs.lemmas.List.{take_more}
 use Rattle.std.proofs.lemmas.List.Concat.{flat_map-append}
 use Rattle.std.proofs.lemmas.List.Folds.{list_any-append}
@@ -10,12 +10,9 @@ use Rattle.std.proofs.lemmas.Map.Views.{any-filter_same}
 use Rattle.mr_mail.specs.Label.{text_eq, has_label}
 use Rattle.mr_maildir.specs.Letters.{letters_with, flags_told}
 use Rattle.mr_maildir.specs.File.{FileParts, letters_on, file_eq, file_eq_decides, has_file}
-use Rattle.mr_maildir.specs.FileActs.{without, done, after, makes, takes, touches, Mail, tells, or_else, first_in, telling_in, kept_in, own_name, is_taken, name_in, letters_from, is_from_new, placed, put_in, first_seen, standing_from, standing_in, standing_files, link_where, move_where, link_in, move_in, is_one, is_kept, remove_of, acts_for, is_blocked_from, is_blocked_where, is_blocked, is_free, overwrites_nothing, is_fit, is_fit_byte}
+use Rattle.mr_maildir.specs.FileActs.{without, done, after, makes, takes, touches, Mail, tells, or_else, first_in, telling_in, kept_in, name_in, letters_from, is_from_new, placed, put_in, first_seen, standing_from, standing_in, standing_files, link_where, move_where, link_in, move_in, is_one, is_kept, remove_of, acts_for}
 use Rattle.mr_maildir.specs.declared.plan.FileAct.{FileAct}
 use Rattle.mr_maildir.specs.declared.plan.FileAct.TheVariants.{Link, Move, Remove}
-use Rattle.mr_maildir.specs.Name.{IsMadeName}
-use Rattle.mr_maildir.specs.Path.{is_path_byte}
-use Rattle.mr_maildir.proofs.FolderLemmas.{part, implied}
 use Rattle.mr_maildir.proofs.ViewLemmas.{same_text, text_eq-itself}
 use Rattle.mr_maildir.proofs.LettersLemmas.{flags_told-letters_with}
 
@@ -32,7 +29,7 @@ or_assoc false b c = refl
 same_file : (a b : FileParts) → file_eq a b ≡ true → a ≡ b
 same_file a b = (file_eq_decides a b).0
 
-is_itself : (a : FileParts) → file_eq a a ≡ true
+pub is_itself : (a : FileParts) → file_eq a a ≡ true
 is_itself a = (file_eq_decides a a).1 refl
 
 has_one_more : (files : List FileParts) (to g : FileParts) → has_file (files ++ to ∷ []) g ≡ (has_file files g || file_eq g to)
@@ -84,7 +81,7 @@ has_done files (Move from to) g =
 has_done files (Remove gone) g = has_without gone files g
 
 -- what no act takes away is there in the end, if it was there or is made
-has_untaken : (acts : List FileAct) (files : List FileParts) (g : FileParts) → list_any (takes g) acts ≡ false → has_file (after acts files) g ≡ (has_file files g || list_any (makes g) acts)
+pub has_untaken : (acts : List FileAct) (files : List FileParts) (g : FileParts) → list_any (takes g) acts ≡ false → has_file (after acts files) g ≡ (has_file files g || list_any (makes g) acts)
 has_untaken [] files g none = sym (or_nothing (has_file files g))
 has_untaken (act ∷ acts) files g none =
     let parts = or_parts (takes g act) (list_any (takes g) acts) none in
@@ -228,7 +225,7 @@ placed-label : (label unique letters : List ℕ) (new : Bool) → (placed label 
 placed-label label unique letters new =
     elim ((length letters == 0) && new) as (λ t. (let f : FileParts = cond t (record { label = label; is_new = true; unique = unique; info = [] }) (record { label = label; is_new = false; unique = unique; info = 58 ∷ 50 ∷ 44 ∷ letters }) in f.label ≡ label)) [ true ↦ refl | false ↦ refl ]
 
-placed-unique : (label unique letters : List ℕ) (new : Bool) → (placed label unique letters new).unique ≡ unique
+pub placed-unique : (label unique letters : List ℕ) (new : Bool) → (placed label unique letters new).unique ≡ unique
 placed-unique label unique letters new =
     elim ((length letters == 0) && new) as (λ t. (let f : FileParts = cond t (record { label = label; is_new = true; unique = unique; info = [] }) (record { label = label; is_new = false; unique = unique; info = 58 ∷ 50 ∷ 44 ∷ letters }) in f.unique ≡ unique)) [ true ↦ refl | false ↦ refl ]
 
@@ -246,7 +243,7 @@ placed-letters label unique letters new =
           ap (λ t. letters_on (cond t (record { label = label; is_new = true; unique = unique; info = [] }) (record { label = label; is_new = false; unique = unique; info = 58 ∷ 50 ∷ 44 ∷ letters }))) fails
     ]
 
-put-label : (mail : Mail) (label : List ℕ) (source : Option FileParts) → (put_in mail label source).label ≡ label
+pub put-label : (mail : Mail) (label : List ℕ) (source : Option FileParts) → (put_in mail label source).label ≡ label
 put-label mail label source = placed-label label (name_in mail label source) (letters_with (letters_from source) mail.flags) (is_from_new source)
 
 -- it tells the flags
@@ -255,7 +252,7 @@ put-tells mail label source within =
     eq-eqb _ _ (ap flags_told (placed-letters label (name_in mail label source) (letters_with (letters_from source) mail.flags) (is_from_new source)) ∙ flags_told-letters_with (letters_from source) mail.flags within)
 
 -- a made file is not one that is seen
-put-unseen_first : (mail : Mail) (label : List ℕ) → kept_in mail label ≡ None → has_file mail.seen (put_in mail label (first_seen mail)) ≡ false
+pub put-unseen_first : (mail : Mail) (label : List ℕ) → kept_in mail label ≡ None → has_file mail.seen (put_in mail label (first_seen mail)) ≡ false
 put-unseen_first mail label none =
     elim (cases_Bool (has_file mail.seen (put_in mail label (first_seen mail)))) [
       | inl has ↦
@@ -264,7 +261,7 @@ put-unseen_first mail label none =
       | inr fails ↦ fails
     ]
 
-put-unseen : (mail : Mail) (label : List ℕ) (f : FileParts) → mail.flags ≤ 31 → kept_in mail label ≡ Some f → tells mail.flags f ≡ false → has_file mail.seen (put_in mail label (Some f)) ≡ false
+pub put-unseen : (mail : Mail) (label : List ℕ) (f : FileParts) → mail.flags ≤ 31 → kept_in mail label ≡ Some f → tells mail.flags f ≡ false → has_file mail.seen (put_in mail label (Some f)) ≡ false
 put-unseen mail label f within is other =
     elim (cases_Bool (has_file mail.seen (put_in mail label (Some f)))) [
       | inl has ↦
@@ -342,7 +339,7 @@ no_link_takes mail g (label ∷ labels) =
     here None = refl
     here (Some f) = refl
 
-no_remove_makes : (mail : Mail) (labels : List (List ℕ)) (g : FileParts) (files : List FileParts) → list_any (makes g) (flat_map (remove_of mail labels) files) ≡ false
+pub no_remove_makes : (mail : Mail) (labels : List (List ℕ)) (g : FileParts) (files : List FileParts) → list_any (makes g) (flat_map (remove_of mail labels) files) ≡ false
 no_remove_makes mail labels g [] = refl
 no_remove_makes mail labels g (f ∷ files) =
     list_any-append (makes g) (remove_of mail labels f) (flat_map (remove_of mail labels) files)
@@ -433,7 +430,7 @@ seen_unmade mail labels g within has =
     neither (Some f) is = moved f is (tells mail.flags f) refl
 
 -- it stays exactly if it is to stand
-seen_taken : (mail : Mail) (labels : List (List ℕ)) (g : FileParts) → mail.flags ≤ 31 → has_file mail.seen g ≡ true → not (list_any (takes g) (acts_for mail labels)) ≡ has_file (standing_files mail labels) g
+pub seen_taken : (mail : Mail) (labels : List (List ℕ)) (g : FileParts) → mail.flags ≤ 31 → has_file mail.seen g ≡ true → not (list_any (takes g) (acts_for mail labels)) ≡ has_file (standing_files mail labels) g
 seen_taken mail labels g within has =
     ap not (acts_take mail labels g) ∙ (ap (λ b. not ((has_label labels g.label && list_any (takes g) (move_in mail g.label)) || (b && not (is_kept mail labels g)))) has
     ∙ (cases (has_label labels g.label) (kept_in mail g.label) refl ∙ sym (has-standing mail labels g)))
@@ -474,7 +471,7 @@ seen_taken mail labels g within has =
 
 -- ---- a file that isn't seen
 
-unseen_taken : (mail : Mail) (labels : List (List ℕ)) (g : FileParts) → has_file mail.seen g ≡ false → list_any (takes g) (acts_for mail labels) ≡ false
+pub unseen_taken : (mail : Mail) (labels : List (List ℕ)) (g : FileParts) → has_file mail.seen g ≡ false → list_any (takes g) (acts_for mail labels) ≡ false
 unseen_taken mail labels g lacking =
     acts_take mail labels g ∙ (ap (λ b. (has_label labels g.label && list_any (takes g) (move_in mail g.label)) || (b && not (is_kept mail labels g))) lacking
     ∙ (or_nothing (has_label labels g.label && list_any (takes g) (move_in mail g.label)) ∙ (ap (λ b. has_label labels g.label && b) (moved (kept_in mail g.label) refl) ∙ none (has_label labels g.label))))
@@ -496,7 +493,7 @@ unseen_taken mail labels g lacking =
     moved (Some f) is = at f (kept mail g.label f is).1 (tells mail.flags f)
 
 -- it is made exactly if it is to stand
-unseen_made : (mail : Mail) (labels : List (List ℕ)) (g : FileParts) → has_file mail.seen g ≡ false → list_any (makes g) (acts_for mail labels) ≡ has_file (standing_files mail labels) g
+pub unseen_made : (mail : Mail) (labels : List (List ℕ)) (g : FileParts) → has_file mail.seen g ≡ false → list_any (makes g) (acts_for mail labels) ≡ has_file (standing_files mail labels) g
 unseen_made mail labels g lacking =
     acts_make mail labels g ∙ (ap (λ b. has_label labels g.label && b) (cases (kept_in mail g.label) refl) ∙ sym (has-standing mail labels g))
   where
@@ -541,208 +538,3 @@ pub stays_untouched : (mail : Mail) (labels : List (List ℕ)) → mail.flags �
 stays_untouched mail labels within g has stands =
     any_either (makes g) (takes g) (acts_for mail labels) (seen_unmade mail labels g within has)
     (not-true (list_any (takes g) (acts_for mail labels)) (seen_taken mail labels g within has ∙ stands))
-
--- ---- at every moment
-
-abbrev adds : FileAct → Bool
-adds (Link from to) = true
-adds (Move from to) = true
-adds (Remove file) = false
-
-grown : (files : List FileParts) (to : FileParts) → 0 < length (files ++ to ∷ [])
-grown files to = let long = length-append files (to ∷ []) in omega arith
-
--- where acts only make files, some is there
-some_added : (acts : List FileAct) (files : List FileParts) → list_all adds acts ≡ true → 0 < length files + length acts → 0 < length (after acts files)
-some_added [] files all some = omega arith
-some_added (Link from to ∷ acts) files all some = some_added acts (files ++ to ∷ []) all (let more = grown files to in omega arith)
-some_added (Move from to ∷ acts) files all some = some_added acts (without from files ++ to ∷ []) all (let more = grown (without from files) to in omega arith)
-some_added (Remove file ∷ acts) files all some = absurd (false≢true all)
-
-some_there : (files : List FileParts) (g : FileParts) → has_file files g ≡ true → 0 < length files
-some_there [] g has = absurd (false≢true has)
-some_there (f ∷ files) g has = omega arith
-
-any_taken : (p : FileAct → Bool) (k : ℕ) (acts : List FileAct) → list_any p acts ≡ false → list_any p (take k acts) ≡ false
-any_taken p zero acts none = refl
-any_taken p (suc k) [] none = refl
-any_taken p (suc k) (a ∷ acts) none =
-    let parts = or_parts (p a) (list_any p acts) none in
-    ap (λ b. b || list_any p (take k acts)) parts.0 ∙ any_taken p k acts parts.1
-
--- before the file is made there are acts that make files alone
-before_made : (p : FileAct → Bool) (k : ℕ) (adding rest : List FileAct) → list_all adds adding ≡ true → list_any p adding ≡ true → list_any p (take k (adding ++ rest)) ≡ false → (list_all adds (take k (adding ++ rest)) ≡ true) × (k ≤ length (take k (adding ++ rest)))
-before_made p zero adding rest all some none = (refl, omega arith)
-before_made p (suc k) [] rest all some none = absurd (false≢true some)
-before_made p (suc k) (a ∷ adding) rest all some none =
-    let alls = and_parts (adds a) (list_all adds adding) all in
-    let nones = or_parts (p a) (list_any p (take k (adding ++ rest))) none in
-    let later : list_any p adding ≡ true = elim (or_cases (p a) (list_any p adding) some) [ inl now ↦ absurd (false≢true (sym nones.0 ∙ now)) | inr then ↦ then ] in
-    let more = before_made p k adding rest alls.1 later nones.1 in
-    (and_from (adds a) (list_all adds (take k (adding ++ rest))) alls.0 more.0, let few = more.1 in omega arith)
-
-all_append : (xs ys : List FileAct) → list_all adds xs ≡ true → list_all adds ys ≡ true → list_all adds (xs ++ ys) ≡ true
-all_append [] ys one two = two
-all_append (x ∷ xs) ys one two =
-    let parts = and_parts (adds x) (list_all adds xs) one in
-    and_from (adds x) (list_all adds (xs ++ ys)) parts.0 (all_append xs ys parts.1 two)
-
-all_add : (mail : Mail) (labels : List (List ℕ)) → (list_all adds (flat_map (link_in mail) labels) ≡ true) × (list_all adds (flat_map (move_in mail) labels) ≡ true)
-all_add mail [] = (refl, refl)
-all_add mail (label ∷ labels) =
-    let rest = all_add mail labels in
-    (all_append (link_in mail label) (flat_map (link_in mail) labels) (link (kept_in mail label)) rest.0, all_append (move_in mail label) (flat_map (move_in mail) labels) (move (kept_in mail label)) rest.1)
-  where
-    link : (o : Option FileParts) → list_all adds (link_where mail label o) ≡ true
-    link None = refl
-    link (Some f) = refl
-
-    renamed : (f : FileParts) (t : Bool) → list_all adds (cond t [] (Move f (put_in mail label (Some f)) ∷ [])) ≡ true
-    renamed f true = refl
-    renamed f false = refl
-
-    move : (o : Option FileParts) → list_all adds (move_where mail label o) ≡ true
-    move None = refl
-    move (Some f) = renamed f (tells mail.flags f)
-
--- at each moment some file is there that is never taken away, or that is yet to be made
-moment : (mail : Mail) (labels : List (List ℕ)) (w : FileParts) (k : ℕ) → list_any (takes w) (acts_for mail labels) ≡ false → (has_file mail.seen w ≡ true) ⊎ (list_any (makes w) (flat_map (link_in mail) labels ++ flat_map (move_in mail) labels) ≡ true) → 0 < length mail.seen + k → 0 < length (after (take k (acts_for mail labels)) mail.seen)
-moment mail labels w k untaken (inl has) begun =
-    some_there (after (take k (acts_for mail labels)) mail.seen) w
-    (has_untaken (take k (acts_for mail labels)) mail.seen w (any_taken (takes w) k (acts_for mail labels) untaken)
-    ∙ or_left (has_file mail.seen w) (list_any (makes w) (take k (acts_for mail labels))) has)
-moment mail labels w k untaken (inr made) begun =
-    elim (cases_Bool (list_any (makes w) (take k (acts_for mail labels)))) [
-      | inl holds ↦
-          some_there (after (take k (acts_for mail labels)) mail.seen) w
-          (has_untaken (take k (acts_for mail labels)) mail.seen w (any_taken (takes w) k (acts_for mail labels) untaken)
-          ∙ or_right (has_file mail.seen w) (list_any (makes w) (take k (acts_for mail labels))) holds)
-      | inr fails ↦
-          let adding = all_add mail labels in
-          let both = all_append (flat_map (link_in mail) labels) (flat_map (move_in mail) labels) adding.0 adding.1 in
-          let front = before_made (makes w) k (flat_map (link_in mail) labels ++ flat_map (move_in mail) labels) (flat_map (remove_of mail labels) mail.seen) both made fails in
-          let long : k ≤ length (take k (acts_for mail labels)) = front.1 in
-          some_added (take k (acts_for mail labels)) mail.seen front.0 (omega arith)
-    ]
-
-made_early : (mail : Mail) (labels : List (List ℕ)) (w : FileParts) → list_any (makes w) (acts_for mail labels) ≡ true → list_any (makes w) (flat_map (link_in mail) labels ++ flat_map (move_in mail) labels) ≡ true
-made_early mail labels w made =
-    let adding : List FileAct = flat_map (link_in mail) labels ++ flat_map (move_in mail) labels in
-    elim (or_cases (list_any (makes w) adding) (list_any (makes w) (flat_map (remove_of mail labels) mail.seen)) (sym (list_any-append (makes w) adding (flat_map (remove_of mail labels) mail.seen)) ∙ made)) [
-      | inl early ↦ early
-      | inr late ↦ absurd (false≢true (sym (no_remove_makes mail labels w mail.seen) ∙ late))
-    ]
-
--- some file is there at every moment, once there is one
-pub always_some : (mail : Mail) (labels : List (List ℕ)) → mail.flags ≤ 31 → (k : ℕ) → 0 < length labels → 0 < length mail.seen + k → 0 < length (after (take k (acts_for mail labels)) mail.seen)
-always_some mail [] within k some begun = absurd (omega arith)
-always_some mail (label ∷ labels) within k some begun =
-    let w : FileParts = standing_in mail label in
-    let stands : has_file (standing_files mail (label ∷ labels)) (standing_in mail label) ≡ true = or_left (file_eq w w) (has_file (standing_files mail labels) w) (is_itself w) in
-    elim (cases_Bool (has_file mail.seen (standing_in mail label))) [
-      | inl has ↦
-          moment mail (label ∷ labels) (standing_in mail label) k
-          (not-true (list_any (takes (standing_in mail label)) (acts_for mail (label ∷ labels))) (seen_taken mail (label ∷ labels) (standing_in mail label) within has ∙ stands))
-          (inl has) begun
-      | inr lacking ↦
-          moment mail (label ∷ labels) (standing_in mail label) k
-          (unseen_taken mail (label ∷ labels) (standing_in mail label) lacking)
-          (inr (made_early mail (label ∷ labels) (standing_in mail label) (unseen_made mail (label ∷ labels) (standing_in mail label) lacking ∙ stands))) begun
-    ]
-
--- ---- names
-
--- what is made is not taken, where the folder isn't blocked
-put-free : (mail : Mail) (label : List ℕ) (source : Option FileParts) → is_blocked_from mail label source ≡ false → is_taken mail.taken (put_in mail label source).label (put_in mail label source).unique ≡ false
-put-free mail label source open_ =
-    ap (λ l. is_taken mail.taken l (put_in mail label source).unique) (put-label mail label source)
-    ∙ (ap (is_taken mail.taken label) (placed-unique label (name_in mail label source) (letters_with (letters_from source) mail.flags) (is_from_new source))
-    ∙ elim (is_taken mail.taken label (own_name mail source)) as (λ t. is_taken mail.taken label (own_name mail source) ≡ t → (t && is_taken mail.taken label mail.digits) ≡ false → is_taken mail.taken label (cond t mail.digits (own_name mail source)) ≡ false) [
-      | true ↦ λ _ free. free
-      | false ↦ λ free _. free
-    ] refl open_)
-
-free : (mail : Mail) (to : FileParts) → has_file mail.seen to ≡ false → is_taken mail.taken to.label to.unique ≡ false → is_free mail to ≡ true
-free mail to unseen untaken = and_from (not (has_file mail.seen to)) (not (is_taken mail.taken to.label to.unique)) (ap not unseen) (ap not untaken)
-
-free_links : (mail : Mail) (label : List ℕ) (o : Option FileParts) → kept_in mail label ≡ o → is_blocked_where mail label o ≡ false → list_all (overwrites_nothing mail) (link_where mail label o) ≡ true
-free_links mail label None is open_ =
-    and_from (is_free mail (put_in mail label (first_seen mail))) true (free mail (put_in mail label (first_seen mail)) (put-unseen_first mail label is) (put-free mail label (first_seen mail) open_)) refl
-free_links mail label (Some f) is open_ = refl
-
-free_moves : (mail : Mail) (label : List ℕ) (o : Option FileParts) → mail.flags ≤ 31 → kept_in mail label ≡ o → is_blocked_where mail label o ≡ false → list_all (overwrites_nothing mail) (move_where mail label o) ≡ true
-free_moves mail label None within is open_ = refl
-free_moves mail label (Some f) within is open_ = at (tells mail.flags f) refl open_
-  where
-    at : (t : Bool) → tells mail.flags f ≡ t → (not t && is_blocked_from mail label (Some f)) ≡ false → list_all (overwrites_nothing mail) (cond t [] (Move f (put_in mail label (Some f)) ∷ [])) ≡ true
-    at true _ unblocked = refl
-    at false other unblocked =
-        and_from (is_free mail (put_in mail label (Some f))) true (free mail (put_in mail label (Some f)) (put-unseen mail label f within is other) (put-free mail label (Some f) unblocked)) refl
-
-all_free : (mail : Mail) (xs ys : List FileAct) → list_all (overwrites_nothing mail) xs ≡ true → list_all (overwrites_nothing mail) ys ≡ true → list_all (overwrites_nothing mail) (xs ++ ys) ≡ true
-all_free mail [] ys one two = two
-all_free mail (x ∷ xs) ys one two =
-    let parts = and_parts (overwrites_nothing mail x) (list_all (overwrites_nothing mail) xs) one in
-    and_from (overwrites_nothing mail x) (list_all (overwrites_nothing mail) (xs ++ ys)) parts.0 (all_free mail xs ys parts.1 two)
-
-each_link : (mail : Mail) (labels : List (List ℕ)) → list_any (is_blocked mail) labels ≡ false → list_all (overwrites_nothing mail) (flat_map (link_in mail) labels) ≡ true
-each_link mail [] open_ = refl
-each_link mail (label ∷ labels) open_ =
-    let parts = or_parts (is_blocked mail label) (list_any (is_blocked mail) labels) open_ in
-    all_free mail (link_in mail label) (flat_map (link_in mail) labels) (free_links mail label (kept_in mail label) refl parts.0) (each_link mail labels parts.1)
-
-each_move : (mail : Mail) (labels : List (List ℕ)) → mail.flags ≤ 31 → list_any (is_blocked mail) labels ≡ false → list_all (overwrites_nothing mail) (flat_map (move_in mail) labels) ≡ true
-each_move mail [] within open_ = refl
-each_move mail (label ∷ labels) within open_ =
-    let parts = or_parts (is_blocked mail label) (list_any (is_blocked mail) labels) open_ in
-    all_free mail (move_in mail label) (flat_map (move_in mail) labels) (free_moves mail label (kept_in mail label) within refl parts.0) (each_move mail labels within parts.1)
-
-each_remove : (mail : Mail) (labels : List (List ℕ)) (files : List FileParts) → list_all (overwrites_nothing mail) (flat_map (remove_of mail labels) files) ≡ true
-each_remove mail labels [] = refl
-each_remove mail labels (f ∷ files) = all_free mail (remove_of mail labels f) (flat_map (remove_of mail labels) files) (at (is_kept mail labels f)) (each_remove mail labels files)
-  where
-    at : (t : Bool) → list_all (overwrites_nothing mail) (cond t [] (Remove f ∷ [])) ≡ true
-    at true = refl
-    at false = refl
-
--- no act makes a file over another
-pub nothing_overwritten : (mail : Mail) (labels : List (List ℕ)) → mail.flags ≤ 31 → list_any (is_blocked mail) labels ≡ false → list_all (overwrites_nothing mail) (acts_for mail labels) ≡ true
-nothing_overwritten mail labels within open_ =
-    all_free mail (flat_map (link_in mail) labels ++ flat_map (move_in mail) labels) (flat_map (remove_of mail labels) mail.seen)
-    (all_free mail (flat_map (link_in mail) labels) (flat_map (move_in mail) labels) (each_link mail labels open_) (each_move mail labels within open_))
-    (each_remove mail labels mail.seen)
-
--- ---- what a made file is called
-
-fit_byte_in_path : (b : ℕ) → is_fit_byte b ≡ true → is_path_byte b ≡ true
-fit_byte_in_path b is = (and_parts (is_path_byte b) (not (b == 58)) is).0
-
-fit_no_colon : (b : ℕ) → is_fit_byte b ≡ true → not (b == 58) ≡ true
-fit_no_colon b is = (and_parts (is_path_byte b) (not (b == 58)) is).1
-
-fit_is_made : (text : List ℕ) → is_fit text ≡ true → IsMadeName text
-fit_is_made text is =
-    let three = and_parts (nat_le 1 (length text) && nat_le (length text) 200 && not (slice_index text 0 == 46)) (list_all is_fit_byte text) is in
-    let two = and_parts (nat_le 1 (length text) && nat_le (length text) 200) (not (slice_index text 0 == 46)) three.0 in
-    record {
-      part = part text (leb-true 1 (length text) (and_parts (nat_le 1 (length text)) (nat_le (length text) 200) two.0).0) (implied is_fit_byte is_path_byte fit_byte_in_path text three.1) (not-true (slice_index text 0 == 46) two.1);
-      colon = implied is_fit_byte (λ b. not (b == 58)) fit_no_colon text three.1;
-    }
-
-own_is_made : (mail : Mail) (source : Option FileParts) → IsMadeName mail.spare → IsMadeName (own_name mail source)
-own_is_made mail None spare = spare
-own_is_made mail (Some file) spare =
-    elim (is_fit file.unique) as (λ t. is_fit file.unique ≡ t → IsMadeName (cond t file.unique mail.spare)) [
-      | true ↦ λ is. fit_is_made file.unique is
-      | false ↦ λ _. spare
-    ] refl
-
--- whatever it is made of
-pub put-named : (mail : Mail) → IsMadeName mail.spare → IsMadeName mail.digits → (label : List ℕ) (source : Option FileParts) → IsMadeName (put_in mail label source).unique
-put-named mail spare digits label source =
-    let P : List ℕ → Type 0 = λ (text : List ℕ). IsMadeName text in
-    subst P (sym (placed-unique label (name_in mail label source) (letters_with (letters_from source) mail.flags) (is_from_new source)))
-    (elim (is_taken mail.taken label (own_name mail source)) as (λ t. IsMadeName (cond t mail.digits (own_name mail source))) [
-      | true ↦ digits
-      | false ↦ own_is_made mail source spare
-    ])

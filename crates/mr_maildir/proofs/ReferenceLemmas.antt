@@ -11,7 +11,8 @@ use Rattle.std.proofs.lemmas.Str.Parse.{IsNumeralModel, numerals_by_value, tells
 use Rattle.hex.specs.Hex.{encode_lower}
 use Rattle.mr_mail.specs.Label.{text_eq}
 use Rattle.mr_maildir.specs.Reference.{IsDigest, ReferenceParts}
-use Rattle.mr_maildir.specs.Told.{behind_key, is_one_line}
+use Rattle.mr_maildir.specs.Told.{behind_key}
+use Rattle.mr_maildir.specs.inner.Told.{is_one_line}
 use Rattle.mr_maildir.proofs.ByteLemmas.{lacks-from, first_byte}
 use Rattle.mr_maildir.proofs.PathLemmas.{each_digit}
 use Rattle.mr_maildir.proofs.ToldLemmas.{behind-key}

@@ -13,7 +13,8 @@ use Rattle.mr_mail.specs.Label.{is_label, is_label_byte, text_eq}
 use Rattle.mr_maildir.specs.Folder.{is_safe_folder}
 use Rattle.mr_maildir.specs.Name.{is_safe_name, is_safe_byte}
 use Rattle.mr_maildir.specs.Path.{is_path_byte}
-use Rattle.mr_maildir.specs.Told.{lines_behind, behind_key, first_told, told_by, is_one_line, name_key, folder_key, with_line, with_name, with_folder}
+use Rattle.mr_maildir.specs.Told.{lines_behind, behind_key, first_told, told_by, name_key, folder_key, with_line, with_name, with_folder}
+use Rattle.mr_maildir.specs.inner.Told.{is_one_line}
 use Rattle.mr_maildir.proofs.ByteLemmas.{lacks-from, not_first}
 use Rattle.mr_maildir.proofs.FolderLemmas.{implied}
 

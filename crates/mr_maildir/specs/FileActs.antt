@@ -9,7 +9,6 @@ use Rattle.mr_maildir.specs.Path.{is_path_byte}
 use Rattle.mr_maildir.specs.File.{FileParts, letters_on, flags_on, file_eq, has_file}
 use Rattle.mr_maildir.specs.declared.plan.FileAct.{FileAct}
 use Rattle.mr_maildir.specs.declared.plan.FileAct.TheVariants.{Link, Move, Remove}
-use Rattle.mr_maildir.specs.declared.plan.MailNames.{MailNames}
 use Rattle.mr_maildir.specs.declared.plan.FileFault.{FileFault}
 use Rattle.mr_maildir.specs.declared.plan.FileFault.TheVariants.{OutOfMemory, NameTaken}
 
@@ -190,9 +189,6 @@ overwrites_nothing mail (Remove file) = true
 abbrev pub mail_of : List FileParts → ℕ → List ℕ → List ℕ → List FileParts → Mail
 mail_of seen flags told digest taken =
     record { seen = seen; taken = taken; flags = flags; spare = unique_for told digest; digits = encode_lower digest }
-
-abbrev pub mail_in : MailNames → Mail
-mail_in names = record { seen = names.seen.now; taken = names.taken.now; flags = names.flags; spare = names.spare.now; digits = names.digits.now }
 
 abbrev pub fault_number : FileFault → ℕ
 fault_number OutOfMemory = 0

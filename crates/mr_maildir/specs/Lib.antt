@@ -15,3 +15,4 @@ pub mod Act
 pub mod Policy
 pub mod Rows
 pub mod FileRows
+pub mod inner

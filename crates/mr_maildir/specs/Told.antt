@@ -1,6 +1,6 @@
 -- lines that tell of a mail's file
-use Rattle.std.specs.Prelude.{ℕ, Bool, not, ◌==◌, nat_eq, if◌then◌else◌, List, [], ◌∷◌, ◌++◌, codes, length, drop, Option, Some, None}
-use Rattle.std.specs.List.{list_all, starts_with}
+use Rattle.std.specs.Prelude.{ℕ, ◌==◌, nat_eq, if◌then◌else◌, List, [], ◌∷◌, ◌++◌, codes, length, drop, Option, Some, None}
+use Rattle.std.specs.List.{starts_with}
 use Rattle.mr_maildir.specs.Name.{is_safe_name}
 use Rattle.mr_maildir.specs.Folder.{is_safe_folder}
 
@@ -23,10 +23,6 @@ first_told key (line ∷ lines) = if starts_with nat_eq line key then Some (drop
 
 abbrev pub told_by : List ℕ → List ℕ → Option (List ℕ)
 told_by key text = first_told key (lines_of text)
-
--- no newline stands in it
-abbrev pub is_one_line : List ℕ → Bool
-is_one_line text = list_all (λ b. not (b == 10)) text
 
 -- what a line of the file's name begins with, and one of the name of a label's folder
 abbrev pub name_key : List ℕ

@@ -68,6 +68,7 @@ pub fn folder_name(alloc: Global, label: &Label, told: Option<&str>) -> Result<S
     ensures not_own { IfOk result (λ name. text_eq (string_bytes name) (codes "mailfold") ≡ false) }
     ensures read_back { is_kept_name label.now ≡ false → label_of (specs.folder_name label.now (option_copied told.entry)) ≡ label.now }
 {
+    // a label is within its bounds
     let _text = label.as_str();
     match told {
         Some(told) if is_name_for(alloc, label, told)? => String::from_str(alloc, told),

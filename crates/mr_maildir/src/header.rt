@@ -1,5 +1,5 @@
 //! The fields of a mail's header, as a list shows them.
-ghost use Rattle.std.specs.Prelude.{◌≡◌, ◌<◌, ◌≤◌, ◌++◌, ℕ, List, IfOk, codes, length, map, drop, string_bytes};
+ghost use Rattle.std.specs.Prelude.{◌≡◌, ◌≤◌, IfOk, codes, length, map, drop, string_bytes};
 ghost use Rattle.std.specs.List.{flat_map, prefix_len, position_or_len};
 ghost use Rattle.mr_maildir.specs.Header as specs;
 ghost use Rattle.mr_maildir.specs.Header.{field_text, field_value, day_of_date, IsCut};

@@ -45,6 +45,7 @@ impl Layout {
         ensures read_back { is_kept_name label.now ≡ false
             → option_map label_of (name_at self (specs.folder_path self label.now (option_copied told.entry))) ≡ Some label.now }
     {
+        // a label is within its bounds
         let _text = label.as_str();
         self.path_for(alloc, label, told)
     }

@@ -60,6 +60,7 @@ pub fn letters_with(alloc: Global, letters: &str, flags: Flags) -> Result<String
     // Each may stand behind `:2,`.
     ensures each { IsTrue (list_all specs.is_info_byte (specs.letters_with letters.now flags)) }
 {
+    // the flags are in their range
     let _bits = flags.bits();
     staying_letters(alloc, letters.as_bytes(), flags)
 }

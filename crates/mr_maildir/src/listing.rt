@@ -3,7 +3,6 @@ ghost use Rattle.std.specs.Prelude.{◌≡◌, ◌<◌, ◌++◌, ◌/◌, ◌%�
 ghost use Rattle.std.specs.List.{join_with_byte, list_all, flat_map};
 ghost use Rattle.std.specs.Char.{is_control, digit_char};
 ghost use Rattle.std.specs.Str.{chars, encode_utf8_all};
-ghost use Rattle.mr_mail.specs.Day.{Spells};
 ghost use Rattle.mr_version.specs.Name.{name_text};
 ghost use Rattle.mr_maildir.specs.Letters.{letters_with as letters_of_flags};
 ghost use Rattle.mr_maildir.specs.Listing as specs;

@@ -1,12 +1,13 @@
 //! What is done with the files of a mail, so that they stand as a view says.
-ghost use Rattle.std.specs.Prelude.{◌≡◌, ◌<◌, ◌+◌, ◌++◌, ℕ, List, Option, string_bytes, IfOk, IfErr, OnOk, IsTrue, false, true, length, take, map, filter};
+ghost use Rattle.std.specs.Prelude.{◌≡◌, ◌<◌, ◌+◌, ◌++◌, ℕ, List, Option, string_bytes, IfOk, IfErr, OnOk, IsTrue, false, true, length, take};
 ghost use Rattle.std.specs.List.{list_all, list_any, flat_map};
 ghost use Rattle.std.specs.Option.{option_copied};
 ghost use Rattle.hex.specs.Hex.{encode_lower};
 ghost use Rattle.mr_maildir.specs.Name.{IsMadeName};
 ghost use Rattle.mr_maildir.specs.File.{FileParts, has_file};
 ghost use Rattle.mr_maildir.specs.FileActs as specs;
-ghost use Rattle.mr_maildir.specs.FileActs.{Mail, mail_of, acts_for, after, standing_files, standing_in, touches, tells, overwrites_nothing, IsFileFault, mail_in, put_in};
+ghost use Rattle.mr_maildir.specs.FileActs.{mail_of, acts_for, after, standing_files, touches, tells, overwrites_nothing, IsFileFault, put_in};
+ghost use Rattle.mr_maildir.specs.inner.FileActs.{mail_in};
 
 use crate::file::MailFile;
 use crate::folder::is_path_byte;
@@ -125,6 +126,7 @@ pub fn file_acts(
     ensures named { let mail = mail_of seen.now view.now.flags told.now digest.now taken.now in
         OnOk result ((label : List ℕ) (source : Option FileParts) → IsMadeName (put_in mail label source).unique) }
 {
+    // a view has rising labels, and flags in their range
     let _flags = view.flags();
     acts_of(alloc, seen, view, told, digest, taken)
 }

@@ -1,10 +1,9 @@
 //! The body of a message that stands for a mail's file.
 ghost use Rattle.std.specs.Prelude.{◌≡◌, ◌<◌, ◌^◌, ◌∷◌, ◌++◌, ℕ, List, IfOk, IfSome, IsTrue, MatchOption, OnOk, [], string_bytes};
-ghost use Rattle.std.specs.Fmt.{decimal};
 ghost use Rattle.std.specs.Str.{IsUtf8};
 ghost use Rattle.hex.specs.Hex.{encode_lower};
 ghost use Rattle.mr_mail.specs.Label.{text_eq};
-ghost use Rattle.mr_maildir.specs.Told.{is_one_line};
+ghost use Rattle.mr_maildir.specs.inner.Told.{is_one_line};
 ghost use Rattle.mr_maildir.specs.Reference.{ReferenceParts, parts_of, reference_text, digest_line, size_line, IsDigest, IsReference};
 
 use crate::told::{behind, first_line};

@@ -4,7 +4,8 @@ ghost use Rattle.std.specs.Option.{option_copied};
 ghost use Rattle.std.specs.Str.{IsUtf8};
 ghost use Rattle.mr_maildir.specs.Folder.{is_safe_folder};
 ghost use Rattle.mr_maildir.specs.Name.{is_safe_name};
-ghost use Rattle.mr_maildir.specs.Told.{told_by, behind_key, name_key, folder_key, with_line, is_one_line};
+ghost use Rattle.mr_maildir.specs.Told.{told_by, behind_key, name_key, folder_key, with_line};
+ghost use Rattle.mr_maildir.specs.inner.Told.{is_one_line};
 ghost use Rattle.mr_maildir.specs.Told as specs;
 
 use crate::folder::is_safe_folder;
@@ -67,6 +68,7 @@ pub fn with_told_folder(
     ensures told { IsTrue (is_safe_folder name.now) → told_by (folder_key label.now) (specs.with_folder label.now name.now lines.now) ≡ Some name.now }
     ensures name { told_by name_key (specs.with_folder label.now name.now lines.now) ≡ told_by name_key lines.now }
 {
+    // a label has no newline
     let _text = label.as_str();
     with_folder(alloc, lines, label, name)
 }

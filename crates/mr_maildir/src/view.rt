@@ -49,6 +49,7 @@ impl View {
     pub fn of_labels(labels: Vec<Label>, flags: Flags) -> View
         ensures { result ≡ record { labels = in_order labels.items; flags = flags } }
     {
+        // the flags are in their range
         let _bits = flags.bits();
         tell_labels(labels.as_slice());
         View {
@@ -62,6 +63,7 @@ impl View {
         ensures { IfOk result (λ view. view ≡ record { labels = place.now.labels; flags = place.now.flags }) }
     {
         let flags = place.flags();
+        // the flags are in their range
         let _bits = flags.bits();
         Ok(View {
             labels: Label::copy_all(alloc, place.labels())?,
@@ -148,6 +150,7 @@ fn tell_labels(labels: &[Label])
     ensures { AllPass is_label labels.now }
 {
     for label in labels {
+        // each has the text of a label
         let _text = label.as_str();
     }
 }

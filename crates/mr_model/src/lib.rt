@@ -25,7 +25,7 @@
 mod event;
 pub mod worked_rows;
 
-ghost use Rattle.std.specs.Prelude.{◌≡◌, ℕ, [], ◌∷◌, ◌++◌, IsTrue, List, Some};
+ghost use Rattle.std.specs.Prelude.{◌≡◌, ℕ, [], ◌∷◌, ◌++◌, IsTrue, Some};
 ghost use Rattle.mr_version.specs.Name.{Name};
 ghost use Rattle.mr_model.specs.History.{◌does◌, Setting, History, Ask, Record, Step};
 ghost use Rattle.mr_model.specs.History.{Reply.Streaming, Reply.Gave};

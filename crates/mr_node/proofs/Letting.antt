@@ -1,5 +1,5 @@
 -- What a gate has let pass.
-use Rattle.std.proofs.Common.{◌≡◌, ◌<◌, ◌+◌, ℕ, Bool, Bor, List, Result, IfOk, subst, sym, arith, below_more}
+use Rattle.std.proofs.Common.{◌≡◌, ◌+◌, ℕ, Bool, Bor, List, Result, IfOk, subst, sym, arith, below_more}
 use Rattle.std.proofs.lemmas.Result.{IfOk-weaker}
 use Rattle.mr_lane.specs.declared.note.Sender.{Sender}
 use Rattle.mr_link.specs.Wire.{WireView}
@@ -12,8 +12,9 @@ use Rattle.mr_replica.specs.declared.refusal.Refusal.{Refusal}
 use Rattle.mr_threads.specs.Talk.{Says}
 use Rattle.mr_threads.specs.declared.talk.Talk.{Talk}
 use Rattle.mr_threads.specs.declared.talk.Halt.{Halt}
-use Rattle.mr_node.specs.Saying.{Saying, one_if_receive, receives, HasLet, IsLetPass}
-use Rattle.mr_node.specs.Step.{Fetches, LetsMove, unread}
+use Rattle.mr_node.specs.Saying.{Saying, one_if_receive, receives, HasLet}
+use Rattle.mr_node.specs.inner.Saying.{IsLetPass}
+use Rattle.mr_node.specs.inner.Step.{Fetches, LetsMove, unread}
 use Rattle.mr_node.specs.Stop.{LinkRan, AreLetPass}
 use Rattle.mr_node.specs.declared.turn.Turn.{Turn}
 use Rattle.mr_node.specs.declared.turn.Turn.TheVariants as turn

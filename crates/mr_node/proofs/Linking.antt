@@ -22,8 +22,9 @@ use Rattle.mr_link.proofs.Passing.{passes_none}
 use Rattle.mr_node.specs.Saying.{Saying, frames_read, frames_given, one_if_receive, receives, are_over, opened_behind, cut_of}
 use Rattle.mr_node.specs.Turn.{IsWhole, AreWhole}
 use Rattle.mr_node.specs.Stop.{Stops, IsThrough, IsStopped, LinkRan, AreLetPass}
-use Rattle.mr_node.specs.Step.{SaysWhole, SaysCut}
-use Rattle.mr_node.specs.Voice.{SaysTurns, IsReady, IsVoiceOf, Runs}
+use Rattle.mr_node.specs.inner.Step.{SaysWhole, SaysCut}
+use Rattle.mr_node.specs.Voice.{IsReady, Runs}
+use Rattle.mr_node.specs.inner.Voice.{IsVoiceOf}
 use Rattle.mr_node.specs.Thread.{SaidTurns, SaidInTurn}
 use Rattle.mr_node.specs.declared.link_voice.LinkVoice.{LinkVoice}
 use Rattle.mr_node.specs.declared.link_thread.LinkParts.{LinkParts}
@@ -34,6 +35,14 @@ use Rattle.mr_node.specs.declared.turn.Stop.TheVariants.{Refused, NotSent, NotRe
 use Rattle.mr_node.specs.declared.progress.Opened.{Opened}
 use Rattle.mr_node.specs.declared.progress.Opened.TheVariants.{Nothing, Session, Stream}
 use Rattle.mr_node.proofs.Talking.{receives-append, well-append, stops-append}
+
+-- these turns were taken, each whole, by a link that had posted nothing before
+pub record SaysTurns {R : Type 0} (ts : List Turn) (talk : Talk Event (Result Reply Refusal) R) (wire : WireView) (talk' : Talk Event (Result Reply Refusal) R) (wire' : WireView) (posted : ℕ) : Type 0 where
+  pub said : List Saying
+  pub are_whole : AreWhole ts said
+  pub says : Says talk said talk'
+  pub passes : PassesWell wire (frames_read said) (frames_given said) wire'
+  pub counted : posted ≡ receives said
 
 -- one turn more
 pub whole-append : (ts : List Turn) (t : Turn) (xs ys : List Saying) → AreWhole ts xs → IsWhole t ys → AreWhole (ts ++ t ∷ []) (xs ++ ys)

@@ -13,8 +13,9 @@ use Rattle.mr_link.proofs.Passing.{passes_none}
 use Rattle.mr_replica.specs.declared.event.Event.TheVariants.{Pull, Next, Vouch}
 use Rattle.mr_threads.specs.declared.talk.Halt.{Halt}
 use Rattle.mr_node.specs.Saying.{Saying, are_over, opened_behind}
-use Rattle.mr_node.specs.Turn.{progress_of, reads}
-use Rattle.mr_node.specs.Step.{Fetches, Moves, ReadsLetter, unread}
+use Rattle.mr_node.specs.Turn.{reads}
+use Rattle.mr_node.specs.inner.Turn.{progress_of}
+use Rattle.mr_node.specs.inner.Step.{Fetches, Moves, ReadsLetter, unread}
 use Rattle.mr_node.specs.declared.turn.Turn.{Turn}
 use Rattle.mr_node.specs.declared.turn.Turn.TheVariants as turn
 use Rattle.mr_node.specs.declared.turn.Stop.TheVariants.{BadFrame, Shut}

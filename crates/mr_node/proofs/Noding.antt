@@ -27,9 +27,10 @@ use Rattle.mr_model.specs.Headline.{Cards}
 use Rattle.mr_feed.specs.declared.entry.Entry.{Entry}
 use Rattle.mr_node.specs.Machine.{feed_of}
 use Rattle.mr_node.specs.Saying.{Saying}
-use Rattle.mr_node.specs.Voice.{IsVoiceOf, Runs}
+use Rattle.mr_node.specs.Voice.{Runs}
+use Rattle.mr_node.specs.inner.Voice.{IsVoiceOf}
 use Rattle.mr_node.proofs.Linking.{voice_ready, voice_ran, voice_let}
-use Rattle.mr_node.specs.Joining.{AreRolesOf, AreReady, IsEndOf}
+use Rattle.mr_node.specs.inner.Joining.{AreRolesOf, AreReady, IsEndOf}
 use Rattle.mr_node.specs.Node.{HadTurns, ShowsAll, NodeRan, ReplicaNodeRan}
 use Rattle.mr_node.specs.declared.link_voice.LinkVoice.{LinkVoice}
 use Rattle.mr_node.specs.declared.node.LinkTurns.{LinkTurns}

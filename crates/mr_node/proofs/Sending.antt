@@ -7,7 +7,7 @@ use Rattle.mr_link.proofs.Passing.{passes_none}
 use Rattle.mr_link.specs.declared.snag.Snag.TheVariants as snag
 use Rattle.mr_replica.specs.declared.event.Reply.{Reply}
 use Rattle.mr_node.specs.Saying.{reply_frame}
-use Rattle.mr_node.specs.Step.{WritesAll, ComesOf, unsent}
+use Rattle.mr_node.specs.inner.Step.{WritesAll, ComesOf, unsent}
 
 pub writes_all : (old : WireView) (f : Frame) (r : Result (Unit {0}) Snag) (new : WireView) → WritesFrame old f r new → WritesAll old (f ∷ []) r new
 writes_all old f (Ok u) new h = h

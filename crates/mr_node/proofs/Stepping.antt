@@ -12,8 +12,9 @@ use Rattle.mr_threads.specs.Talk.{Says, SaysInPart}
 use Rattle.mr_threads.specs.declared.talk.Talk.{Talk}
 use Rattle.mr_threads.proofs.Saying.{says_none, says-append, part_behind}
 use Rattle.mr_node.specs.Saying.{Saying, letter_frame, answer_frame, frames_read, frames_given, one_if_receive, receives}
-use Rattle.mr_node.specs.Turn.{is_done, is_reading, IsReading, IsCutShort, IsAt, progress_of, advanced, cut_by}
-use Rattle.mr_node.specs.Step.{IsUnposted, Moves, ComesOf, Steps, SaysSoFar, SaysWhole, SaysPart, SaysCut, TurnGoes}
+use Rattle.mr_node.specs.Turn.{is_done, is_reading, IsReading, IsCutShort}
+use Rattle.mr_node.specs.inner.Turn.{IsAt, progress_of, advanced, cut_by}
+use Rattle.mr_node.specs.inner.Step.{IsUnposted, Moves, ComesOf, Steps, SaysSoFar, SaysWhole, SaysPart, SaysCut, TurnGoes}
 use Rattle.mr_node.specs.declared.turn.Turn.{Turn}
 use Rattle.mr_node.specs.declared.turn.Stop.{Stop}
 use Rattle.mr_node.specs.declared.turn.Stop.TheVariants.{Refused, NotSent, NotReceived, BadFrame, Shut}

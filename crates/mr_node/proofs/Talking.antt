@@ -8,7 +8,8 @@ use Rattle.mr_wire.specs.declared.frame.Frame.{Frame}
 use Rattle.mr_link.specs.Wire.{WireView, PassesWell}
 use Rattle.mr_link.proofs.Passing.{well_on, down_on, spoilt_on}
 use Rattle.mr_node.specs.Saying.{Saying, letter_frame, answer_frame, frames_read, frames_given, receives, is_last, are_over, opened_by, opened_behind}
-use Rattle.mr_node.specs.Turn.{SaysNext, is_done, IsOrderly, progress_of, advanced}
+use Rattle.mr_node.specs.Turn.{SaysNext, is_done, IsOrderly}
+use Rattle.mr_node.specs.inner.Turn.{progress_of, advanced}
 use Rattle.mr_node.specs.Stop.{Stops}
 use Rattle.mr_node.specs.declared.turn.Turn.{Turn}
 use Rattle.mr_node.specs.declared.turn.Stop.{Stop}

@@ -15,7 +15,7 @@ pub record ReplicaRan {K R : Type 0} (form : Form K) (old new : Core (State K) E
   pub ran : Ran (Steps form) feed_of old new
   pub log : new.machine.log ≡ old.machine.log ++ admitted_of ran.exchanges
 
--- The same up to the letter whose entries could not all be copied for want of memory: all spouts were closed behind that, and each letter that was taken then is unanswered.
+-- The letters were answered up to the one whose entries could not all be copied for want of memory: all spouts were closed behind that, and each letter that was taken then is unanswered.
 pub record ReplicaRanShort {K R : Type 0} (form : Form K) (old new : Core (State K) Event (Result Reply Refusal) R) : Type 0 where
   pub ran : RanShort (Steps form) feed_of old new
   pub log : new.machine.log ≡ old.machine.log ++ admitted_of ran.exchanges

@@ -3,10 +3,9 @@ pub mod CoreRun
 pub mod Saying
 pub mod Turn
 pub mod Stop
-pub mod Step
 pub mod Voice
 pub mod Thread
 pub mod Node
-pub mod Joining
 pub mod Rows
 pub mod NodeRows
+pub mod inner

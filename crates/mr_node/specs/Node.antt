@@ -54,7 +54,7 @@ pub record NodeRan {C L M : Type 0} (steps : C → Event → Result Reply Refusa
   pub indexer : ShowsAll HasCards entries end.indexer
   pub notifier : ShowsAll ListsUnseen entries end.notifier
 
--- the same of a replica; and its log has grown by the letters that were not refused
+-- the node of a replica ran; and its log has grown by the letters that were not refused
 pub record ReplicaNodeRan {K L M : Type 0} (form : Form K) (first_tells : L → LinkView) (second_tells : M → LinkView) (closes : Sender → ℕ → Bool) (has_let : Sender → ℕ → Type 0) (parts : NodeParts (State K) L M) (end : NodeEnd (State K)) (first : L) (second : M) : Type 0 where
   pub ran : NodeRan (Steps form) feed_of first_tells second_tells closes has_let parts end first second
   pub log : end.replica.log ≡ parts.replica.log ++ admitted_of ran.exchanges

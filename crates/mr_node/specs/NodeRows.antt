@@ -1,5 +1,5 @@
 -- worked rows: what a node comes to, over a machine that counts its letters
-use Rattle.std.specs.Prelude.{◌≡◌, ◌+◌, ◌<◌, ℕ, Bool, false, List, [], ◌∷◌, length, map, None, Some, Result, Ok, refl}
+use Rattle.std.specs.Prelude.{◌≡◌, ◌+◌, ℕ, Bool, false, List, [], ◌∷◌, length, map, None, Some, Result, Ok, refl}
 use Rattle.std.proofs.Common.{ap, sym, subst, inl, ◌∙◌, lit<, arith}
 use Rattle.std.proofs.lemmas.List.{length-map}
 use Rattle.std.specs.Global.{Vec}
@@ -14,7 +14,8 @@ use Rattle.mr_replica.specs.declared.event.Reply.{Reply}
 use Rattle.mr_replica.specs.declared.event.Reply.TheVariants.{Done, Took}
 use Rattle.mr_replica.specs.declared.refusal.Refusal.{Refusal}
 use Rattle.mr_wire.specs.declared.frame.Frame.{Frame}
-use Rattle.mr_threads.specs.Exchange.{exchange, said, said_by}
+use Rattle.mr_threads.specs.Exchange.{said, said_by}
+use Rattle.mr_threads.specs.inner.Exchange.{exchange}
 use Rattle.mr_node.specs.Saying.{Saying}
 use Rattle.mr_node.specs.Stop.{LinkRan, AreLetPass}
 use Rattle.mr_node.specs.declared.turn.Turn.{Turn}

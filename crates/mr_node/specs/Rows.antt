@@ -11,9 +11,11 @@ use Rattle.mr_replica.specs.declared.event.Event.{Event}
 use Rattle.mr_replica.specs.declared.event.Event.TheVariants.{Pull, Receive, CutIn, CutOut, Answer, Next, Vouch, Release, Retire}
 use Rattle.mr_replica.specs.declared.event.Reply.TheVariants.{Asked, Streaming, Took, Known, Finished, Vouched, Done}
 use Rattle.mr_replica.specs.declared.refusal.Refusal.{Refusal}
-use Rattle.mr_threads.specs.Exchange.{said, exchange}
+use Rattle.mr_threads.specs.Exchange.{said}
+use Rattle.mr_threads.specs.inner.Exchange.{exchange}
 use Rattle.mr_node.specs.Saying.{Saying, frames_read, frames_given, receives}
-use Rattle.mr_node.specs.Turn.{SaysNext, is_done, is_reading, reads, IsWhole, cut_behind, progress_of}
+use Rattle.mr_node.specs.Turn.{SaysNext, is_done, is_reading, reads, IsWhole, cut_behind}
+use Rattle.mr_node.specs.inner.Turn.{progress_of}
 use Rattle.mr_node.specs.declared.turn.Turn.TheVariants as turn
 use Rattle.mr_node.specs.declared.progress.Opened.{Opened}
 use Rattle.mr_node.specs.declared.progress.Opened.TheVariants.{Session, Stream}

@@ -56,11 +56,6 @@ receives (x ∷ xs) = one_if_receive x.letter + receives xs
 abbrev pub HasLet : (has_let : ℕ → Type 0) → (count : ℕ) → Type 0
 HasLet has_let count = (n : ℕ) → n < count → has_let (n + 1)
 
--- a letter that is a Receive was let pass
-abbrev pub IsLetPass : (has_let : Type 0) → Event → Type 0
-IsLetPass has_let (Receive f) = has_let
-IsLetPass has_let event = Unit {0}
-
 -- whether it is the body of a stream's last record
 abbrev pub is_end : Body → Bool
 is_end body.End = true

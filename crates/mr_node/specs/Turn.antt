@@ -1,5 +1,5 @@
 -- how a turn goes, letter by letter, and how it may be cut short
-use Rattle.std.specs.Prelude.{◌≡◌, ◌+◌, ◌++◌, ◌==◌, ◌||◌, ℕ, Bool, true, false, cond, List, [], ◌∷◌, length, Some, Result, Err, IsOk}
+use Rattle.std.specs.Prelude.{◌≡◌, ◌++◌, ◌==◌, ℕ, Bool, true, false, cond, List, [], ◌∷◌, length, Some, Err, IsOk}
 use Rattle.std.specs.List.{slice_get}
 use Rattle.mr_version.specs.Name.{Name}
 use Rattle.mr_wire.specs.Frames.{Question}
@@ -8,16 +8,14 @@ use Rattle.mr_wire.specs.declared.frame.Frame.TheVariants as frame
 use Rattle.mr_wire.specs.declared.frame.Receipt.{Receipt}
 use Rattle.mr_replica.specs.declared.event.Event.{Event}
 use Rattle.mr_replica.specs.declared.event.Event.TheVariants.{Pull, Receive, Answer, Next, Vouch, Release}
-use Rattle.mr_replica.specs.declared.event.Reply.{Reply}
 use Rattle.mr_replica.specs.declared.refusal.Refusal.{Refusal}
 use Rattle.mr_threads.specs.Exchange.{said}
-use Rattle.mr_node.specs.Saying.{Saying, is_last, are_over, opened_by, opened_behind, cut_of}
+use Rattle.mr_node.specs.Saying.{Saying, are_over, opened_by, opened_behind, cut_of}
 use Rattle.mr_node.specs.declared.turn.Turn.{Turn}
 use Rattle.mr_node.specs.declared.turn.Turn.TheVariants as turn
 use Rattle.mr_node.specs.declared.turn.Stop.{Stop}
 use Rattle.mr_node.specs.declared.turn.Stop.TheVariants.{Refused, NotSent, NotReceived, BadFrame, Shut}
 use Rattle.mr_node.specs.declared.progress.Opened.TheVariants.{Stream}
-use Rattle.mr_node.specs.declared.progress.Progress.{Progress}
 
 -- a letter that the turn makes of a frame
 abbrev pub IsMadeOfFrame : Turn → Event → Type 0
@@ -100,20 +98,3 @@ IsCutShort t xs Shut = IsReading t xs
 -- the letter that closes what the turn has open, if it has anything open: what its first letter opened, where the stream's last record has not come
 abbrev pub cut_behind : List Saying → List Event
 cut_behind xs = cond (are_over xs) [] (cut_of (opened_behind xs))
-
--- ---- what the code keeps of a turn
-
-abbrev pub progress_of : List Saying → Progress
-progress_of xs = record { said = length xs; opened = opened_behind xs; over = are_over xs }
-
--- one letter further, which was answered so
-abbrev pub advanced : Progress → Result Reply Refusal → Progress
-advanced p answer = record { said = p.said + 1; opened = cond (p.said == 0) (opened_by answer) p.opened; over = p.over || is_last answer }
-
-abbrev pub cut_by : Progress → List Event
-cut_by p = cond p.over [] (cut_of p.opened)
-
--- the turn has come so far, and nothing was refused
-pub record IsAt (t : Turn) (xs : List Saying) (p : Progress) : Type 0 where
-  pub progress : p ≡ progress_of xs
-  pub orderly : IsOrderly t [] xs

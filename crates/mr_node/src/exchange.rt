@@ -6,8 +6,8 @@ ghost use Rattle.mr_replica.specs.declared.refusal.Refusal.{Refusal};
 ghost use Rattle.mr_threads.specs.Exchange.{said};
 ghost use Rattle.mr_threads.specs.Talk.{Says, SaysInPart, SameLanes};
 ghost use Rattle.mr_node.specs.Saying.{reply_frame};
-ghost use Rattle.mr_node.specs.Turn.{advanced};
-ghost use Rattle.mr_node.specs.Step.{WritesAll, ComesOf, unsent};
+ghost use Rattle.mr_node.specs.inner.Turn.{advanced};
+ghost use Rattle.mr_node.specs.inner.Step.{WritesAll, ComesOf, unsent};
 
 use crate::progress::Progress;
 use crate::replica_machine::Answer;

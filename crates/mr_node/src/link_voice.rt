@@ -4,7 +4,8 @@ ghost use Rattle.mr_link.specs.Wire.{wire_of};
 ghost use Rattle.mr_threads.specs.Talk.{Says, SaysInPart, SameLanes};
 ghost use Rattle.mr_node.specs.Saying.{Saying};
 ghost use Rattle.mr_node.specs.Stop.{LinkRan, AreLetPass};
-ghost use Rattle.mr_node.specs.Voice.{HasHungUp, IsReady, IsVoiceOf, Runs};
+ghost use Rattle.mr_node.specs.Voice.{HasHungUp, IsReady, Runs};
+ghost use Rattle.mr_node.specs.inner.Voice.{IsVoiceOf};
 
 use crate::guard::Guard;
 use crate::replica_machine::Answer;

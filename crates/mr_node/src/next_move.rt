@@ -2,8 +2,8 @@
 ghost use Rattle.std.specs.Prelude.{◌≡◌, ◌≢◌, ◌<◌, ◌+◌, ◌^◌, Bool, List, IsSome, IfOk};
 ghost use Rattle.mr_link.specs.Wire.{wire_of};
 ghost use Rattle.mr_node.specs.Saying.{Saying};
-ghost use Rattle.mr_node.specs.Turn.{progress_of};
-ghost use Rattle.mr_node.specs.Step.{Fetches, LetsMove, Moves, ReadsLetter, unread};
+ghost use Rattle.mr_node.specs.inner.Turn.{progress_of};
+ghost use Rattle.mr_node.specs.inner.Step.{Fetches, LetsMove, Moves, ReadsLetter, unread};
 ghost use Rattle.mr_node.specs.declared.turn.Turn.TheVariants as turn;
 
 use crate::guard::Guard;

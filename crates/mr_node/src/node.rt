@@ -9,7 +9,7 @@ ghost use Rattle.mr_threads.specs.Roles.{RolesRan};
 ghost use Rattle.mr_threads.specs.Running.{HaveHungUp};
 ghost use Rattle.mr_node.specs.Voice.{HasHungUp, Runs};
 ghost use Rattle.mr_node.specs.Node.{NodeRan, ReplicaNodeRan, node_number};
-ghost use Rattle.mr_node.specs.Joining.{AreReady, AreRolesOf, IsEndOf};
+ghost use Rattle.mr_node.specs.inner.Joining.{AreReady, AreRolesOf, IsEndOf};
 
 use crate::link_voice::LinkVoice;
 use crate::replica_machine::{Answer, ReplicaMachine};

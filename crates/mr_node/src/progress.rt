@@ -1,7 +1,7 @@
 //! How far a turn has come.
 ghost use Rattle.std.specs.Prelude.{◌≡◌, [], OnOk};
 ghost use Rattle.mr_node.specs.Saying.{is_end, is_last, opened_by};
-ghost use Rattle.mr_node.specs.Turn.{progress_of, advanced};
+ghost use Rattle.mr_node.specs.inner.Turn.{progress_of, advanced};
 
 use crate::replica_machine::Answer;
 use mr_replica::Reply;

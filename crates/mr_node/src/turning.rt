@@ -4,8 +4,8 @@ ghost use Rattle.mr_link.specs.Wire.{wire_of};
 ghost use Rattle.mr_threads.specs.Exchange.{letters_said};
 ghost use Rattle.mr_threads.specs.Talk.{Says, SaysInPart, SameLanes};
 ghost use Rattle.mr_node.specs.Saying.{Saying, HasLet};
-ghost use Rattle.mr_node.specs.Turn.{IsAt, cut_by, progress_of};
-ghost use Rattle.mr_node.specs.Step.{Steps, TurnGoes, TurnRan};
+ghost use Rattle.mr_node.specs.inner.Turn.{IsAt, cut_by, progress_of};
+ghost use Rattle.mr_node.specs.inner.Step.{Steps, TurnGoes, TurnRan};
 
 use crate::exchange::exchange;
 use crate::guard::{Guard, one_if_receive};

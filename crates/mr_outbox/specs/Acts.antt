@@ -12,7 +12,7 @@ done file (act.Write at bytes) = overwritten file at bytes.items
 done file (act.Cut len) = take len file
 done file act.Sync = file
 
--- and once all of them are, one after the other
+-- the file once all of the acts are done, one after the other
 abbrev pub all_done : List ℕ → List Act → List ℕ
 all_done file [] = file
 all_done file (a ∷ acts) = all_done (done file a) acts
@@ -24,7 +24,7 @@ LeftBy file (act.Write at bytes) before c = (d : List ℕ) × before d × Torn a
 LeftBy file (act.Cut len) before c = (d : List ℕ) × before d × Cut len d c
 LeftBy file act.Sync before c = c ≡ file
 
--- the same of acts one after the other
+-- what a crash may leave once acts were begun, one after the other
 abbrev pub LeftByAll : List ℕ → (List ℕ → Type 0) → List Act → List ℕ → Type 0
 LeftByAll file before [] c = before c
 LeftByAll file before (a ∷ acts) c = LeftByAll (done file a) (LeftBy file a before) acts c
@@ -33,14 +33,14 @@ LeftByAll file before (a ∷ acts) c = LeftByAll (done file a) (LeftBy file a be
 abbrev pub MayLeave : List ℕ → List Act → List ℕ → Type 0
 MayLeave file acts c = LeftByAll file (λ d. d ≡ file) acts c
 
--- and what a crash left at some moment: so many acts were begun, at least t
+-- what a crash left at some moment: so many acts were begun, at least t
 pub record LeftSince (file : List ℕ) (acts : List Act) (t : ℕ) (c : List ℕ) : Type 0 where
   pub begun : ℕ
   pub from : t ≤ begun
   pub to : begun ≤ length acts
   pub left : MayLeave file (take begun acts) c
 
--- all of them were, in what a crash leaves now
+-- in what a crash leaves now all acts were begun
 pub now_counts : (file : List ℕ) (acts : List Act) (t : ℕ) (c : List ℕ) → t ≤ length acts → MayLeave file acts c → LeftSince file acts t c
 now_counts file acts t c le left = record {
   begun = length acts;
@@ -49,6 +49,6 @@ now_counts file acts t c le left = record {
   left = subst (λ (l : List Act). MayLeave file l c) (sym (take_all (length acts) acts (omega arith))) left;
 }
 
--- and nothing else was left since the last one was begun
+-- since the last act was begun nothing else was left than what a crash leaves now
 pub only_now : (file : List ℕ) (acts : List Act) (c : List ℕ) → LeftSince file acts (length acts) c → MayLeave file acts c
 only_now file acts c since = subst (λ (l : List Act). MayLeave file l c) (take_all since.begun acts since.from) since.left

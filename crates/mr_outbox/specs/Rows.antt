@@ -1,7 +1,7 @@
 -- rows that files and acts meet
 use Rattle.std.specs.Prelude.{◌≡◌, [], ◌∷◌, ℕ, List, Vec}
 use Rattle.std.specs.declared.alloc.Global.{Global}
-use Rattle.std.proofs.Common.{refl, ap}
+use Rattle.std.proofs.Common.{ap}
 use Rattle.mr_journal.specs.Device.{overwritten}
 use Rattle.mr_outbox.specs.Acts.{MayLeave, all_done}
 use Rattle.mr_outbox.specs.declared.act.Act.TheVariants as act

@@ -1,5 +1,5 @@
 //! A device that notes what a host has to do.
-ghost use Rattle.std.specs.Prelude.{◌≡◌, ◌++◌, ◌∷◌, [], IsTrue, true, false, length, IfOk, OnOk, OnErr};
+ghost use Rattle.std.specs.Prelude.{◌≡◌, ◌++◌, ◌∷◌, [], IsTrue, true, false, length, OnOk, OnErr};
 ghost use Rattle.mr_journal.specs.Device.{HasCause, Rests};
 ghost use Rattle.mr_outbox.specs.Acts.{LeftSince, MayLeave, all_done, now_counts, only_now};
 

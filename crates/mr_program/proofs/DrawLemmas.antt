@@ -15,7 +15,8 @@ use Rattle.mr_draw.specs.Sheet.{blank_text}
 use Rattle.mr_program.specs.declared.ending.Fault.TheVariants.{Write}
 use Rattle.mr_program.specs.declared.ending.Ending.{Ending}
 use Rattle.mr_program.specs.declared.ending.Ending.TheVariants.{Stopped}
-use Rattle.mr_program.specs.Drawing.{DrawsStage, EndsPicture, PrintsPicture, text_under}
+use Rattle.mr_program.specs.Drawing.{DrawsStage, EndsPicture, text_under}
+use Rattle.mr_program.specs.inner.Drawing.{PrintsPicture}
 use Rattle.mr_program.specs.Ending.{ending_of}
 
 same_if_some : {A : Type 0} (x y : A) → Some x ≡ Some y → x ≡ y

@@ -1,8 +1,5 @@
 -- what standard output holds when a picture was drawn
-use Rattle.std.specs.Prelude.{◌≡◌, ◌⊎◌, ℕ, List, [], Option, Result, Ok, Err, ⊤, string_bytes}
-use Rattle.std.specs.declared.string.String.{String}
-use Rattle.std.specs.declared.alloc.AllocError.{AllocError}
-use Rattle.std.specs.declared.alloc.Global.{Global}
+use Rattle.std.specs.Prelude.{◌≡◌, ℕ, List, [], Option, ⊤}
 use Rattle.std.specs.Io.KnownBytes.{Appends}
 use Rattle.mr_forms.specs.Known.{Form}
 use Rattle.mr_script.specs.declared.fault.ScriptFault.{ScriptFault}
@@ -11,7 +8,6 @@ use Rattle.mr_script.specs.Run.{bare}
 use Rattle.mr_script.specs.Stage.{Stage, Stage.opening, Stage.running}
 use Rattle.mr_draw.specs.Picture.{Draws}
 use Rattle.mr_draw.specs.Sheet.{blank_text}
-use Rattle.mr_program.specs.declared.ending.Fault.{Fault}
 use Rattle.mr_program.specs.declared.ending.Fault.TheVariants.{CommandLine, Write, OutOfMemory, NotTwo, Script}
 use Rattle.mr_program.specs.declared.ending.Ending.{Ending}
 use Rattle.mr_program.specs.declared.ending.Ending.TheVariants.{Done, NoFrame, Unexplained, WrongCommandLine, Closed, Stopped}
@@ -31,11 +27,6 @@ text_under Closed = []
 abbrev pub DrawsStage : {K : Type 0} → (names : List (List ℕ)) → Stage K → (under svg : List ℕ) → Type 0
 DrawsStage names (opening specs) under svg = svg ≡ blank_text under
 DrawsStage names (running w) under svg = Draws w names under svg
-
--- The picture was written and the program ends as the script did, or the write failed; or there was no memory for a picture.
-abbrev pub PrintsPicture : Result (String Global) AllocError → (ran result : Ending) → (old new : Option (List ℕ)) → Type 0
-PrintsPicture (Ok svg) ran result old new = ((result ≡ ran) × Appends old new (string_bytes svg)) ⊎ (result ≡ Stopped Write)
-PrintsPicture (Err error) ran result old new = result ≡ Stopped OutOfMemory
 
 -- It ends as the script does, and the picture was written of what the script left, with its fault under it.
 pub record DrawsScript {K : Type 0} (form : Form K) (names : List (List ℕ)) (script : List ℕ) (ending : Ending) (old new : Option (List ℕ)) : Type 0 where

@@ -5,7 +5,6 @@ use Rattle.mr_script.specs.declared.fault.ScriptFault.{ScriptFault}
 use Rattle.mr_script.specs.declared.fault.ScriptFault.TheVariants as script
 use Rattle.mr_live.specs.declared.fault.LiveFault.{LiveFault}
 use Rattle.mr_live.specs.declared.fault.LiveFault.TheVariants as live
-use Rattle.mr_program.specs.declared.ending.Fault.{Fault}
 use Rattle.mr_program.specs.declared.ending.Fault.TheVariants.{CommandLine, Write, NotTwo, OutOfMemory, Script}
 use Rattle.mr_program.specs.declared.ending.Ending.{Ending}
 use Rattle.mr_program.specs.declared.ending.Ending.TheVariants.{Done, NoFrame, Unexplained, WrongCommandLine, Closed, Stopped}

@@ -9,7 +9,6 @@ use Rattle.mr_script.specs.Frame.{Tells, bytes_of}
 use Rattle.mr_live.specs.Live.{LiveEnds}
 use Rattle.mr_live.specs.Plan.{PlanView, ScriptAsks}
 use Rattle.mr_live.specs.declared.fault.LiveFault.{LiveFault}
-use Rattle.mr_program.specs.declared.ending.Fault.{Fault}
 use Rattle.mr_program.specs.declared.ending.Fault.TheVariants.{CommandLine, Write, OutOfMemory, NotTwo, Script}
 use Rattle.mr_program.specs.declared.ending.Ending.{Ending}
 use Rattle.mr_program.specs.declared.ending.Ending.TheVariants.{Done, NoFrame, Unexplained, WrongCommandLine, Closed, Stopped}

@@ -5,7 +5,7 @@ use Rattle.mr_command.specs.declared.fault.LineFault.TheVariants.{BadFilter, Bad
 use Rattle.mr_script.specs.declared.fault.ScriptFault.TheVariants.{Line, Read, TooLong}
 use Rattle.mr_script.specs.declared.fault.ScriptFault.TheVariants as script
 use Rattle.mr_live.specs.declared.fault.LiveFault.TheVariants as live
-use Rattle.mr_program.specs.declared.ending.Fault.TheVariants.{CommandLine, Write, OutOfMemory, Script}
+use Rattle.mr_program.specs.declared.ending.Fault.TheVariants.{CommandLine, Write, Script}
 use Rattle.mr_program.specs.declared.ending.Ending.TheVariants.{Done, Closed, Stopped}
 use Rattle.mr_program.specs.Drawing.{text_under}
 use Rattle.mr_program.specs.Ending.{ending_behind, ending_of, ending_of_live, status_of}

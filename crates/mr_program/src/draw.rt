@@ -1,6 +1,7 @@
 //! `mailrep draw`: a script is run, and the picture of its world is printed.
 ghost use Rattle.std.specs.Prelude.{IfOk, IfSome, map, string_bytes};
-ghost use Rattle.mr_program.specs.Drawing.{DrawsStage, EndsPicture, PrintsPicture, text_under};
+ghost use Rattle.mr_program.specs.Drawing.{DrawsStage, EndsPicture, text_under};
+ghost use Rattle.mr_program.specs.inner.Drawing.{PrintsPicture};
 
 use crate::ending::{Ending, Fault, ending_of_run, text_under};
 use crate::run::print_all;

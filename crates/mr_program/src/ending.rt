@@ -122,6 +122,7 @@ pub fn leave<E: Write>(ending: Ending, errors: &mut E) -> u8
     ensures status { result ≡ status_of ending }
     ensures within { is_status result ≡ true }
 {
+    // the exit status tells it too
     let _ = tell(ending, errors);
     exit_of(ending)
 }

@@ -39,6 +39,7 @@ fn tell_hint_of_line<E: Write>(
         return;
     };
     if let Ok(Some(text)) = hint(alloc, commands, line, fault) {
+        // a hint that can't be told is lost
         let _ = writeln!(errors, "hint: {text}");
     }
 }
@@ -46,6 +47,7 @@ fn tell_hint_of_line<E: Write>(
 /// Tells why a script can't be read that is in the file of this name, or on standard input.
 pub(crate) fn tell_reason<E: Write>(name: Option<&str>, kind: ErrorKind, errors: &mut E) {
     let reason = reason_of(kind);
+    // a reason that can't be told is lost
     let _ = match name {
         Some(name) => writeln!(errors, "hint: {name:?}: {reason}"),
         None => writeln!(errors, "hint: standard input: {reason}"),
@@ -64,6 +66,7 @@ fn reason_of(kind: ErrorKind) -> &'static str {
 
 /// Tells by which form of knowledge a script has fewer holes.
 pub(crate) fn tell_of_sparing<E: Write>(errors: &mut E) {
+    // a hint that can't be told is lost
     let _ = writeln!(
         errors,
         "hint: TooManyHoles: run it with --sparing, which keeps holes few"

@@ -2,7 +2,7 @@
 ghost use Rattle.std.specs.Prelude.{◌≡◌};
 ghost use Rattle.std.specs.Io.{WritesAtMost};
 ghost use Rattle.std.specs.Io.KnownBytes.{Keeps, WriteAppends};
-ghost use Rattle.mr_program.specs.Piped.{noticing_contents};
+ghost use Rattle.mr_program.specs.inner.Piped.{noticing_contents};
 
 use std::io;
 use std::io::Write;

@@ -3,7 +3,7 @@ ghost use Rattle.std.specs.Prelude.{◌≡◌, ◌↔◌, IfErr, true};
 ghost use Rattle.std.specs.Io.{WritesAtMost};
 ghost use Rattle.std.specs.Io.KnownBytes.{Keeps, WriteAppends};
 ghost use Rattle.std.specs.IoError.{error_kind};
-ghost use Rattle.mr_program.specs.Piped.{piped_contents};
+ghost use Rattle.mr_program.specs.inner.Piped.{piped_contents};
 
 use std::io;
 use std::io::{ErrorKind, Write};

@@ -2,7 +2,7 @@
 ghost use Rattle.std.specs.Prelude.{◌≡◌};
 ghost use Rattle.std.specs.Io.{ReadsAtMost};
 ghost use Rattle.std.specs.Io.KnownBytes.{ReadConsumes};
-ghost use Rattle.mr_program.specs.Remembering.{remembering_remaining};
+ghost use Rattle.mr_program.specs.inner.Remembering.{remembering_remaining};
 
 use std::alloc::Global;
 use std::io::{ErrorKind, Read};

@@ -146,6 +146,7 @@ pub(crate) fn answer_command_line<W: Write, E: Write>(
         return leave(Ending::Stopped(Fault::OutOfMemory), errors);
     }
     if error.use_stderr() {
+        // the exit status tells it too
         let _ = write!(errors, "{error}");
         return leave(Ending::WrongCommandLine, errors);
     }

@@ -8,10 +8,10 @@ use Rattle.mr_session.proofs.DrawnLemmas.{same_gives}
 use Rattle.mr_store.specs.Holdings.{Holdings}
 use Rattle.mr_replica.specs.State.{State}
 use Rattle.mr_replica.specs.Next.{held_now, GivesNext}
-use Rattle.mr_replica.specs.Next.{going_on}
+use Rattle.mr_replica.specs.inner.Next.{going_on}
 use Rattle.mr_session.specs.declared.outgoing.onward.Onward.{Onward}
 use Rattle.mr_session.specs.Onward.{after_given, is_last, gone_on, advanced}
-use Rattle.mr_replica.specs.Sound.{AreWithin}
+use Rattle.mr_replica.specs.inner.Sound.{AreWithin}
 use Rattle.mr_replica.specs.declared.event.Event.{Event}
 use Rattle.mr_replica.proofs.Keeping.{within_later, within_closed}
 use Rattle.mr_replica.proofs.Drawing.{next_of, open_within, within_changed}

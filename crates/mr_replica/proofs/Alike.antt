@@ -1,10 +1,8 @@
 -- Replicas that are alike answer alike, and stay alike.
 use Rattle.std.proofs.Common.{◌≡◌, ◌≢◌, refl, sym, ap, subst, ◌∙◌, ℕ, List, [], ◌∷◌, ◌++◌, Result, Ok, Err}
-use Rattle.mr_version.specs.Name.{Name}
 use Rattle.mr_filter.specs.Filter.{ClauseParts}
 use Rattle.mr_forms.specs.ByMeaning.{IsByMeaning}
 use Rattle.mr_forms.specs.Known.{Form, Pairs, AreSame}
-use Rattle.mr_forms.specs.Sets.{Versions}
 use Rattle.mr_replica.specs.State.{State, new_state}
 use Rattle.mr_replica.specs.Alike.{seen, AreAlike}
 use Rattle.mr_replica.specs.Step.{Steps, IsDecided}

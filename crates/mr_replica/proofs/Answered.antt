@@ -1,5 +1,5 @@
 -- why an event's issue was not made
-use Rattle.std.proofs.Common.{◌≡◌, ◌≢◌, ◌↔◌, IsErrOf, sym, ◌∙◌, List, [], ◌∷◌, Result, Ok, Err, inl, inr}
+use Rattle.std.proofs.Common.{◌≢◌, ◌↔◌, IsErrOf, sym, ◌∙◌, List, [], ◌∷◌, Result, Err, inl, inr}
 use Rattle.std.specs.List.{All}
 use Rattle.std.proofs.lemmas.List.Elements.{All-nil, All-cons}
 use Rattle.mr_version.specs.Name.{Name}
@@ -11,7 +11,7 @@ use Rattle.mr_concise.specs.Vector.{HasTooManyHoles}
 use Rattle.mr_mail.specs.Mail.{Mail}
 use Rattle.mr_replica.specs.State.{State}
 use Rattle.mr_replica.specs.Issue.{Issue, Wanted.Vector, Wanted.Knowledge, below_of_issue, version_learned, wanted_by_issue, Fits, FirstFault}
-use Rattle.mr_replica.specs.Issued.{RefusesMade}
+use Rattle.mr_replica.specs.inner.Issued.{RefusesMade}
 use Rattle.mr_replica.specs.Create.{created}
 use Rattle.mr_replica.specs.Edit.{edited}
 use Rattle.mr_replica.specs.Step.{RefusesLate}

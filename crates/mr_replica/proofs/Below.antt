@@ -21,10 +21,10 @@ use Rattle.mr_store.specs.Holdings.{Holdings}
 use Rattle.mr_store.specs.HeldVersions.{by_held}
 use Rattle.mr_replica.specs.State.{State, next_version, held, item_of_held}
 use Rattle.mr_replica.specs.Refusal.{◌orelse◌, refused_if}
-use Rattle.mr_replica.specs.Sound.{IsNoLater, AreNoLater, IsSound}
+use Rattle.mr_replica.specs.inner.Sound.{IsNoLater, AreNoLater, IsSound}
 use Rattle.mr_replica.specs.Issue.{revisions_of, below_for}
 use Rattle.mr_mail.specs.Mail.{Mail}
-use Rattle.mr_replica.specs.Issued.{IsNext}
+use Rattle.mr_replica.specs.inner.Issued.{IsNext}
 use Rattle.mr_replica.specs.Admission.{retired, log_full}
 use Rattle.mr_replica.specs.Edit.{not_held, are_all_of, own_left, item_refusal, edit_refusal, edited_item}
 use Rattle.mr_replica.specs.declared.refusal.Refusal.TheVariants.{NoBase, NotHeld, MixedItems, OwnHeadLeft}

@@ -11,7 +11,7 @@ use Rattle.mr_replica.specs.Refusal.{◌orelse◌, refused_if}
 use Rattle.mr_replica.specs.Admission.{log_full}
 use Rattle.mr_replica.specs.Next.{next_refusal}
 use Rattle.mr_forms.specs.Known.{Form}
-use Rattle.mr_replica.specs.Sound.{AreWithin, IsSound}
+use Rattle.mr_replica.specs.inner.Sound.{AreWithin, IsSound}
 use Rattle.mr_replica.specs.declared.refusal.Refusal.{Refusal}
 use Rattle.mr_replica.specs.declared.refusal.Refusal.TheVariants.{NoStream, LogFull}
 

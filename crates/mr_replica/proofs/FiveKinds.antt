@@ -27,7 +27,7 @@ use Rattle.mr_replica.specs.Next.{held_now}
 use Rattle.mr_replica.specs.Receive.{Ends, EndsSession, TakesBody, TakesFrame, TakesLine, ending, entering, learning, line_learned, session_for}
 use Rattle.mr_replica.specs.Release.{releasing}
 use Rattle.mr_replica.specs.Step.{Changes}
-use Rattle.mr_replica.specs.Taking.{told_line}
+use Rattle.mr_replica.specs.inner.Taking.{told_line}
 use Rattle.mr_replica.specs.declared.event.Event.{Event}
 use Rattle.mr_replica.specs.declared.event.Event.TheVariants.{Create, Edit, Retire, Pull, Receive, CutIn, Answer, Next, CutOut, Vouch, Release}
 use Rattle.mr_replica.specs.declared.event.Reply.{Reply}

@@ -1,7 +1,7 @@
 -- what a replica keeps when it issues a revision
-use Rattle.std.proofs.Common.{◌≡◌, ◌≤◌, ◌+◌, ℕ, Bool, true, false, not, ◌&&◌, ◌||◌, cond, ap, ◌∙◌, arith, refl, List, [], ◌∷◌, ◌++◌, None, inl, inr}
+use Rattle.std.proofs.Common.{◌≡◌, ◌≤◌, ◌+◌, ℕ, Bool, true, false, not, cond, ap, ◌∙◌, arith, refl, List, [], ◌∷◌, ◌++◌, None, inl, inr}
 use Rattle.std.specs.List.{All}
-use Rattle.std.proofs.lemmas.Bool.{cases_Bool, or_left, or_right}
+use Rattle.std.proofs.lemmas.Bool.{cases_Bool}
 use Rattle.std.proofs.lemmas.List.{length_push}
 use Rattle.std.proofs.lemmas.List.Elements.{All-cons, All-head, All-tail, All-filter, All-weaker, All-append}
 use Rattle.mr_version.specs.Name.{Name, name_eq}
@@ -11,13 +11,13 @@ use Rattle.mr_concise.specs.declared.vector.AuthorColumn.{AuthorColumn}
 use Rattle.mr_madewith.specs.Revision.{Rev, IsRevision, has_below}
 use Rattle.mr_madewith.specs.Keyed.{without, inserted, is_before}
 use Rattle.mr_madewith.specs.Trail.{item_of_last}
-use Rattle.mr_madewith.proofs.Rising.{same_names, name_eq_self}
+use Rattle.mr_madewith.proofs.Rising.{same_names}
 use Rattle.mr_store.specs.Revisions.{version_of, revision_of, supersedes, left_by}
 use Rattle.mr_store.proofs.HoldingLemmas.{revision_of-neither}
 use Rattle.mr_replica.specs.State.{State, held, next_version}
-use Rattle.mr_replica.specs.Sound.{AreNoLater, AreIssued, AreKnown, IsSound}
+use Rattle.mr_replica.specs.inner.Sound.{AreNoLater, AreIssued, AreKnown, IsSound}
 use Rattle.mr_replica.specs.Issue.{version_learned, is_selected, entered_if, issuing, logged}
-use Rattle.mr_replica.specs.Issued.{IsNext}
+use Rattle.mr_replica.specs.inner.Issued.{IsNext}
 use Rattle.mr_replica.specs.declared.event.Event.{Event}
 use Rattle.mr_replica.proofs.Folding.{folds_issued, in_order_issued}
 use Rattle.mr_replica.proofs.Keeping.{within_later}

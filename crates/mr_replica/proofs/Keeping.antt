@@ -11,7 +11,7 @@ use Rattle.mr_session.specs.Table.{Table, Numbered, with_closed}
 use Rattle.mr_session.specs.Session.{Session}
 use Rattle.mr_session.specs.Stream.{Stream}
 use Rattle.mr_replica.specs.State.{State}
-use Rattle.mr_replica.specs.Sound.{AreNoLater, AreIssued, AreKnown, AreWithin, IsSound}
+use Rattle.mr_replica.specs.inner.Sound.{AreNoLater, AreIssued, AreKnown, AreWithin, IsSound}
 use Rattle.mr_replica.specs.Issue.{logged}
 use Rattle.mr_replica.specs.declared.event.Event.{Event}
 

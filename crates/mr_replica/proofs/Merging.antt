@@ -22,7 +22,7 @@ use Rattle.mr_replica.specs.Refusal.{refusal_of}
 use Rattle.mr_replica.specs.Issue.{Wanted, Wanted.Knowledge, Fits, FirstFault}
 use Rattle.mr_replica.specs.Wanting.{FirstFits}
 use Rattle.mr_replica.specs.Receive.{merged_by, is_unheld}
-use Rattle.mr_replica.specs.Taking.{RefusesMerged}
+use Rattle.mr_replica.specs.inner.Taking.{RefusesMerged}
 
 -- pairs that are the same are one
 pub one_pairs : (s t : Pairs) → AreSame s t → s ≡ t

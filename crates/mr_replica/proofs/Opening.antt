@@ -6,7 +6,7 @@ use Rattle.mr_forms.specs.Known.{Form}
 use Rattle.mr_session.specs.Table.{Table, Numbered, with_opened}
 use Rattle.mr_session.specs.Stream.{Stream}
 use Rattle.mr_replica.specs.State.{State}
-use Rattle.mr_replica.specs.Sound.{AreWithin, IsSound}
+use Rattle.mr_replica.specs.inner.Sound.{AreWithin, IsSound}
 use Rattle.mr_replica.specs.Issue.{logged}
 use Rattle.mr_replica.specs.declared.event.Event.{Event}
 use Rattle.mr_replica.proofs.Keeping.{within_later}

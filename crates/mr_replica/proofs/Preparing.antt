@@ -1,11 +1,11 @@
 -- an event in two calls is one step
-use Rattle.std.proofs.Common.{rules, arith, not, nat_le, ◌==◌, ◌<◌, ◌≤◌, ◌+◌, ◌^◌, ◌++◌, is_some, IsSome, IfSome, ◌≡◌, ◌≢◌, ◌↔◌, Bool, true, false, ℕ, length, Option, Some, None, Result, Ok, Err, List, [], ◌∷◌, map, filter, MatchResult, refl, sym, ap, subst, ◌∙◌}
+use Rattle.std.proofs.Common.{rules, arith, not, nat_le, ◌==◌, ◌<◌, ◌≤◌, ◌+◌, ◌^◌, ◌++◌, is_some, IsSome, IfSome, ◌≡◌, Bool, true, false, ℕ, length, Option, Some, None, Result, Ok, Err, List, [], ◌∷◌, map, filter, MatchResult, refl, sym, ap, subst, ◌∙◌}
 use Rattle.std.specs.List.{All}
 use Rattle.std.proofs.lemmas.Bool.{leb-false, or_right}
 use Rattle.std.proofs.lemmas.List.{append-nil}
 use Rattle.std.proofs.lemmas.List.Elements.{All-nil, All-head}
 use Rattle.mr_version.specs.Name.{Name}
-use Rattle.mr_forms.specs.Known.{Form, AreSame, learned, with_pairs}
+use Rattle.mr_forms.specs.Known.{Form, AreSame, learned}
 use Rattle.mr_concise.specs.declared.vector.AuthorColumn.{AuthorColumn}
 use Rattle.mr_mail.specs.Mail.{Mail}
 use Rattle.mr_madewith.specs.Revision.{Rev, IsRevision}
@@ -14,7 +14,7 @@ use Rattle.mr_madewith.proofs.Rising.{rises-filter}
 use Rattle.mr_store.specs.Revisions.{AreInVersionOrder, version_of, holds, left_by}
 use Rattle.mr_store.proofs.RevisionLemmas.{filter-passing}
 use Rattle.mr_wire.specs.Values.{DescentParts}
-use Rattle.mr_wire.specs.Frames.{Sent, Question, IsSent}
+use Rattle.mr_wire.specs.Frames.{Sent, Question}
 use Rattle.mr_wire.specs.declared.frame.Header.{Header}
 use Rattle.mr_wire.specs.declared.frame.Receipt.{Receipt as ReceiptParts}
 use Rattle.mr_wire.specs.declared.frame.Frame.TheVariants.{Record, Ask, Receipt}
@@ -27,32 +27,33 @@ use Rattle.mr_session.specs.Onward.{advanced}
 use Rattle.mr_session.specs.declared.limits.TheConstants.{MAX_OPEN}
 use Rattle.mr_session.specs.declared.outgoing.onward.Onward.{Onward}
 use Rattle.mr_replica.specs.State.{State, next_version}
-use Rattle.mr_replica.specs.Sound.{IsSound}
+use Rattle.mr_replica.specs.inner.Sound.{IsSound}
 use Rattle.mr_replica.specs.Forged.{line_of, is_forged}
 use Rattle.mr_replica.specs.Refusal.{◌orelse◌, refused_if, refusal_of_session}
 use Rattle.mr_replica.specs.Admission.{retired, log_full}
 use Rattle.mr_replica.specs.Issue.{Issue, Wanted, Fits, below_of_issue, revision_for, version_learned, issuing, logged, wanted_by_issue, dropped, Issues}
 use Rattle.mr_replica.specs.Create.{created}
 use Rattle.mr_replica.specs.Edit.{edited}
-use Rattle.mr_replica.specs.Receive.{session_refusal, session_for, record_refusal, moved_on, learning, line_learned, entering, wanted_by_line, wanted_by_end, merges, merged_by, is_unheld, ending, finished, TakesLine, EndsSession}
-use Rattle.mr_replica.specs.Taking.{told_line, told_by, RefusesLine, RefusesEnding, RefusesEnd}
-use Rattle.mr_replica.specs.Pull.{pull_refusal, pulling, IsAskOf}
+use Rattle.mr_replica.specs.Receive.{session_refusal, session_for, moved_on, learning, line_learned, entering, wanted_by_line, wanted_by_end, merges, merged_by, is_unheld, ending, finished, EndsSession}
+use Rattle.mr_replica.specs.inner.Taking.{told_line, told_by, RefusesEnding, RefusesEnd}
+use Rattle.mr_replica.specs.Pull.{pull_refusal, IsAskOf}
 use Rattle.mr_replica.specs.CutIn.{cut_in_refusal}
 use Rattle.mr_replica.specs.CutOut.{cut_out_refusal}
-use Rattle.mr_replica.specs.Next.{next_refusal, going_on, GivesNext}
-use Rattle.mr_replica.specs.Answer.{answer_refusal, mode_for, asked_of, Keeps, Opens}
+use Rattle.mr_replica.specs.Next.{next_refusal, GivesNext}
+use Rattle.mr_replica.specs.inner.Next.{going_on}
+use Rattle.mr_replica.specs.Answer.{answer_refusal}
 use Rattle.mr_replica.specs.Vouch.{IsReceiptFor}
 use Rattle.mr_replica.specs.Release.{vouched}
-use Rattle.mr_replica.specs.Wanting.{FirstFits, FitBeforeMemory}
+use Rattle.mr_replica.specs.Wanting.{FitBeforeMemory}
 use Rattle.mr_replica.specs.Step.{first_refusal, wanted_by, Changes, RefusesLate, Answers, Steps}
-use Rattle.mr_replica.specs.Parts.{OfRecord, OfReceipt, PartsView, IsDueIn, IsToldIn, MayPut, Puts, entered_in, told_in, ended_in, parts_seen, IsPut, Enters}
-use Rattle.mr_replica.specs.Prepare.{parts_of, with_parts, IsToOpen, IsToEnter, IsToTake, IsToLearn, IsToEnd, IsOpeningFor, IsToChange, IsChanged, IsPrepared, PreparesLate, Prepares, IsLinePrepared, PreparesLine, IsEndPrepared, PreparesEnd}
+use Rattle.mr_replica.specs.inner.Parts.{OfRecord, OfReceipt, PartsView, IsDueIn, IsToldIn, MayPut, Puts, entered_in, told_in, ended_in, parts_seen, IsPut, Enters}
+use Rattle.mr_replica.specs.inner.Prepare.{parts_of, with_parts, IsToOpen, IsToEnter, IsToTake, IsToLearn, IsToEnd, IsOpeningFor, IsToChange, IsChanged, IsPrepared, PreparesLate, Prepares, IsLinePrepared, PreparesLine, IsEndPrepared, PreparesEnd}
 use Rattle.mr_replica.specs.declared.event.Event.{Event}
 use Rattle.mr_replica.specs.declared.event.Event.TheVariants as event
 use Rattle.mr_replica.specs.declared.event.Reply.{Reply}
 use Rattle.mr_replica.specs.declared.event.Reply.TheVariants.{Issued, Done, Asked, Streaming, Gave, Took, Known, Finished, Vouched}
 use Rattle.mr_replica.specs.declared.refusal.Refusal.{Refusal}
-use Rattle.mr_replica.specs.declared.refusal.Refusal.TheVariants.{OutOfMemory, NotForMe, Forged, NoSession, NoStream, OwnAsk, TooManySessions, TooManyStreams, LogFull}
+use Rattle.mr_replica.specs.declared.refusal.Refusal.TheVariants.{OutOfMemory, NotForMe, Forged, NoSession, NoStream, OwnAsk, TooManySessions, TooManyStreams}
 use Rattle.mr_replica.specs.declared.replica.answer.Opening.{Opening}
 use Rattle.mr_replica.specs.declared.replica.contents.arrival.Arrival.{Arrival}
 use Rattle.mr_replica.specs.declared.replica.take.Told.{Told}

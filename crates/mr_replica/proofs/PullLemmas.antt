@@ -16,7 +16,7 @@ use Rattle.mr_wire.specs.Frames.{FragmentsRise, IsQuestion, Question, least_foll
 use Rattle.mr_wire.specs.Encoding.{total_len}
 use Rattle.mr_wire.specs.Spelling.{fragment_bytes, items_bytes, vector_bytes}
 use Rattle.mr_replica.specs.State.{State}
-use Rattle.mr_replica.specs.Sound.{IsSound}
+use Rattle.mr_replica.specs.inner.Sound.{IsSound}
 use Rattle.mr_replica.specs.Issue.{logged}
 use Rattle.mr_replica.specs.Pieces.{IsPieceOf}
 use Rattle.mr_replica.specs.Pull.{IsLongestWithin, AreAsked, IsAskOf, pulling}

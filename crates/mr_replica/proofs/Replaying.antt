@@ -7,7 +7,8 @@ use Rattle.mr_replica.specs.State.{State, new_state}
 use Rattle.mr_replica.specs.Alike.{AreAlike}
 use Rattle.mr_replica.specs.Step.{Changes, Steps}
 use Rattle.mr_replica.specs.Growing.{FeedGrows, IsOfSameSetting, admitted}
-use Rattle.mr_replica.specs.Replay.{IsForMemory, Admits, AdmitsAll, StopsAt, IsStop, IsFresh, Replays, IsReplayFault, IsItsLog}
+use Rattle.mr_replica.specs.Replay.{IsForMemory, Admits, AdmitsAll, StopsAt, IsFresh, Replays, IsReplayFault, IsItsLog}
+use Rattle.mr_replica.specs.inner.Replay.{IsStop}
 use Rattle.mr_replica.specs.declared.event.Event.{Event}
 use Rattle.mr_replica.specs.declared.event.Reply.{Reply}
 use Rattle.mr_replica.specs.declared.refusal.Refusal.{Refusal}

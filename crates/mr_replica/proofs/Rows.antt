@@ -20,7 +20,7 @@ use Rattle.mr_wire.specs.declared.frame.Mode.TheVariants.{Full, Partial}
 use Rattle.mr_wire.specs.declared.frame.Receipt.{Receipt}
 use Rattle.mr_replica.specs.State.{State}
 use Rattle.mr_replica.specs.Issue.{below_of_issue, version_learned, issuing, logged}
-use Rattle.mr_replica.specs.Contents.{news_of}
+use Rattle.mr_replica.specs.inner.Contents.{news_of}
 use Rattle.mr_replica.specs.Edit.{edited}
 use Rattle.mr_replica.specs.Retire.{retiring}
 use Rattle.mr_replica.specs.Pull.{IsLongestWithin, pulling}

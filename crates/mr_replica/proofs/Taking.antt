@@ -2,7 +2,7 @@
 use Rattle.std.proofs.Common.{◌≡◌, ◌≤◌, ◌<◌, ◌+◌, ◌==◌, nat_lt, nat_le, ℕ, Bool, true, false, not, ◌&&◌, ◌||◌, if◌then◌else◌, refl, sym, ap, subst, ◌∙◌, arith, List, [], ◌∷◌, ◌++◌, length, Option, Some, None, inl, inr, eq-eqb}
 use Rattle.std.specs.List.{All}
 use Rattle.std.specs.Option.{option_map_or, IfSome}
-use Rattle.std.proofs.lemmas.Bool.{cases_Bool, or_left, or_right, or_parts, not-false, ltb-true, ltb-false, leb-false}
+use Rattle.std.proofs.lemmas.Bool.{cases_Bool, or_parts, not-false, ltb-true, ltb-false, leb-false}
 use Rattle.std.proofs.lemmas.Option.{IfSome_then}
 use Rattle.std.proofs.lemmas.List.{length_push}
 use Rattle.std.proofs.lemmas.List.Elements.{All-head, All-tail, All-map, All-filter, All-weaker, All-append}
@@ -14,7 +14,7 @@ use Rattle.mr_concise.specs.Column.{column_has}
 use Rattle.mr_concise.specs.Vector.{vector_has, column_of}
 use Rattle.mr_concise.proofs.LastLemmas.{column_has-above}
 use Rattle.mr_madewith.specs.Revision.{Rev, IsRevision}
-use Rattle.mr_madewith.proofs.Rising.{same_names, name_eq_self}
+use Rattle.mr_madewith.proofs.Rising.{same_names}
 use Rattle.mr_store.specs.Revisions.{version_of, revision_of, supersedes, left_by}
 use Rattle.mr_store.proofs.HoldingLemmas.{revision_of-neither}
 use Rattle.mr_wire.specs.Values.{DescentParts}
@@ -28,7 +28,7 @@ use Rattle.mr_session.specs.declared.origin.Origin.{Origin}
 use Rattle.mr_replica.specs.State.{State, held}
 use Rattle.mr_replica.specs.Refusal.{◌orelse◌, refused_if, refusal_of_session}
 use Rattle.mr_replica.specs.Admission.{log_full}
-use Rattle.mr_replica.specs.Sound.{IsNoLater, AreNoLater, AreWithin, IsSound}
+use Rattle.mr_replica.specs.inner.Sound.{IsNoLater, AreNoLater, AreWithin, IsSound}
 use Rattle.mr_replica.specs.Forged.{line_of, is_early, has_early, is_early_line, is_misfiled, is_forged}
 use Rattle.mr_replica.specs.Receive.{session_refusal, session_for, record_refusal, moved_on, line_learned, arrived, learning, finished, ending, is_unheld}
 use Rattle.mr_replica.specs.declared.event.Event.{Event}

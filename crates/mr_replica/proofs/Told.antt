@@ -1,5 +1,5 @@
 -- what comes of a version that a record tells of
-use Rattle.std.proofs.Common.{◌≡◌, ◌↔◌, IsErrOf, Bool, true, false, if◌then◌else◌, refl, sym, ap, subst, ◌∙◌, [], ◌∷◌, Option, Some, None, IfSome, Result, Ok, Err, inl, inr}
+use Rattle.std.proofs.Common.{◌≡◌, ◌↔◌, IsErrOf, Bool, true, false, if◌then◌else◌, refl, sym, ap, subst, ◌∙◌, [], ◌∷◌, Option, Some, None, IfSome, Result, Ok, inl, inr}
 use Rattle.std.specs.List.{All}
 use Rattle.std.proofs.lemmas.Bool.{or_parts}
 use Rattle.std.proofs.lemmas.List.Elements.{All-nil, All-cons}
@@ -13,12 +13,11 @@ use Rattle.mr_wire.specs.Values.{DescentParts}
 use Rattle.mr_wire.specs.declared.frame.Body.{Body}
 use Rattle.mr_wire.specs.declared.frame.Body.TheVariants.{Start, Item, MoveOut, Held, Know, End}
 use Rattle.mr_replica.specs.State.{State, held}
-use Rattle.mr_replica.specs.Sound.{IsSound}
+use Rattle.mr_replica.specs.inner.Sound.{IsSound}
 use Rattle.mr_replica.specs.Forged.{line_of, is_early_line, is_misfiled, is_forged}
 use Rattle.mr_replica.specs.Issue.{Wanted.Knowledge, Fits, is_selected}
 use Rattle.mr_replica.specs.Receive.{line_learned, wanted_by_line, entering}
-use Rattle.mr_replica.specs.Taking.{told_line, told_by}
-use Rattle.mr_replica.specs.declared.refusal.Refusal.TheVariants.{TooManyHoles, TooManyItems}
+use Rattle.mr_replica.specs.inner.Taking.{told_line, told_by}
 use Rattle.mr_replica.proofs.Choice.{some_same}
 use Rattle.mr_replica.proofs.Taking.{not_held_yet}
 

@@ -22,7 +22,7 @@ abbrev pub IsNews : (items : Cards Name) → Entry → Type 0
 IsNews items (Added item version card) = items version ≡ None
 IsNews items (Dropped item version) = items version ≡ Some item
 
--- so is each of these, by what those before it make of the items
+-- each of the entries is news, by what those before it make of the items
 abbrev pub AreNews : (items : Cards Name) → List Entry → Type 0
 AreNews items [] = ⊤
 AreNews items (entry ∷ entries) = IsNews items entry × AreNews (fold_from items (told_item entry ∷ [])) entries

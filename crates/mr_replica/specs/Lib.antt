@@ -3,7 +3,6 @@ pub mod Alike
 pub mod Refusal
 pub mod Admission
 pub mod Folded
-pub mod Sound
 pub mod Issue
 pub mod Create
 pub mod Edit
@@ -20,16 +19,12 @@ pub mod Answer
 pub mod Next
 pub mod Forged
 pub mod Receive
-pub mod Taking
-pub mod Contents
-pub mod Issued
 pub mod StepThen
 pub mod Methods
 pub mod Step
 pub mod One
-pub mod Parts
-pub mod Prepare
 pub mod Growing
 pub mod Replay
 pub mod Limits
 pub mod Rows
+pub mod inner

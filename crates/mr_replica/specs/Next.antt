@@ -3,8 +3,6 @@ use Rattle.std.specs.Prelude.{◌≡◌, ℕ, not, is_some, Option, None}
 use Rattle.mr_store.specs.Holdings.{Holdings}
 use Rattle.mr_session.specs.Table.{Table, open_at}
 use Rattle.mr_session.specs.Stream.{Stream, GivesIn}
-use Rattle.mr_session.specs.declared.outgoing.onward.Onward.{Onward}
-use Rattle.mr_session.specs.Onward.{advanced}
 use Rattle.mr_wire.specs.Frames.{Sent}
 use Rattle.mr_replica.specs.State.{State}
 use Rattle.mr_replica.specs.Refusal.{◌orelse◌, refused_if}
@@ -27,7 +25,3 @@ module _ {K : Type 0} where
   abbrev pub GivesNext : State K → (stream : ℕ) → Sent → State K → Type 0
   GivesNext s stream sent new =
       (streams : Table Stream) × GivesIn s.id stream s.streams (held_now s) sent streams × (new ≡ logged (record s { streams = streams }) (Next stream))
-
-  -- the stream goes on behind a record that it gave
-  abbrev pub going_on : State K → (stream : ℕ) → Onward → State K
-  going_on s stream way = logged (record s { streams = advanced stream way s.streams }) (Next stream)

@@ -22,6 +22,6 @@ module _ {K : Type 0} where
   release_refusal s receipt =
       retired s orelse refused_if (not (list_any (supersedes receipt.descent.item (vouched receipt.descent)) s.push_outs)) NotPushedOut orelse log_full s
 
-  -- those push-outs leave
+  -- the push-outs leave that a receipt vouches for
   abbrev pub releasing : State K → Receipt → State K
   releasing s receipt = record s { push_outs = left_by receipt.descent.item (vouched receipt.descent) s.push_outs }

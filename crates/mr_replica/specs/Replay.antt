@@ -43,11 +43,6 @@ module _ {K : Type 0} (form : Form K) where
     pub admits : AdmitsAll s before reached
     pub refuses : Steps form reached event (Err refusal) reached
 
-  -- the fault tells where the replica stops, and why
-  abbrev pub IsStop : State K → List Event → ReplayFault → Type 0
-  IsStop s events BadLimit = ⊥
-  IsStop s events (Refused place refusal) = StopsAt s events place refusal
-
   module _ (id : ℕ) (filter : List ClauseParts) (event_limit : ℕ) where
     -- a replica to which nothing has happened, and which knows nothing
     pub record IsFresh (s : State K) : Type 0 where

@@ -1,5 +1,5 @@
 //! The parts of a knowledge, as frames carry them.
-ghost use Rattle.std.specs.Prelude.{◌≡◌, ◌≢◌, All, IfOk, IsErrOf, Err, map};
+ghost use Rattle.std.specs.Prelude.{◌≢◌, All, IfOk, IsErrOf, Err, map};
 ghost use Rattle.std.specs.List.{AllZip, Any};
 ghost use Rattle.mr_forms.specs.Covered.{listed_items};
 ghost use Rattle.mr_forms.specs.Parts.{part_of};

@@ -1,5 +1,5 @@
 //! The replica, and its step.
-ghost use Rattle.std.specs.Prelude.{◌≡◌, ◌<◌, ◌≤◌, ◌↔◌, ◌≢◌, IsOk, IfOk, IfErr, IsErrOf, Err, length};
+ghost use Rattle.std.specs.Prelude.{◌≡◌, ◌≤◌, ◌↔◌, ◌≢◌, IsOk, IfOk, IfErr, IsErrOf, Err, length};
 ghost use Rattle.std.specs.Option.{option_copied};
 
 mod admission;
@@ -74,7 +74,7 @@ struct Core<K: Knowledge> {
 impl<K: Knowledge> Model for Core<K> {
     ghost use Rattle.std.specs.Prelude.{◌≤◌, length};
     ghost use Rattle.mr_replica.specs.State.{State};
-    ghost use Rattle.mr_replica.specs.Sound.{IsSound};
+    ghost use Rattle.mr_replica.specs.inner.Sound.{IsSound};
 
     ghost Value = { State K };
 

@@ -9,7 +9,8 @@ use Rattle.std.proofs.lemmas.List.Elements.{filter_map-append, filter-append}
 use Rattle.mr_mail.specs.Label.{text_eq}
 use Rattle.mr_maildir.proofs.ViewLemmas.{same_text}
 use Rattle.mr_maildir.specs.declared.layout.Layout.{Layout}
-use Rattle.mr_scan.specs.Folders.{FolderParts, are_apart, folder_there, folder_parts, folder_of, first_of_each, folders_there, has_folder, is_path_of, with_folder}
+use Rattle.mr_scan.specs.Folders.{FolderParts, are_apart, folder_there, folder_parts, folder_of, first_of_each, folders_there, has_folder, is_path_of}
+use Rattle.mr_scan.specs.inner.Folders.{with_folder}
 use Rattle.mr_scan.specs.declared.folders.MailFolder.{MailFolder}
 
 -- those that have another label than this one

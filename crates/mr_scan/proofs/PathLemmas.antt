@@ -6,7 +6,7 @@ use Rattle.std.specs.Cmp.Lexicographic.{bytes_decides}
 use Rattle.std.proofs.lemmas.Bool.{and_parts, and_from, false≢true, not-true, eqb-true, both_ways}
 use Rattle.std.proofs.lemmas.List.Sums.{AllPass-from_list_all, list_all-from_AllPass}
 use Rattle.mr_folder.specs.Inside.{is_part_byte, IsPart, IsFolder, first_part, own_folder}
-use Rattle.mr_folder.specs.Parts.{is_part_text, parts_of}
+use Rattle.mr_folder.specs.inner.Parts.{is_part_text, parts_of}
 use Rattle.mr_folder.proofs.PartLemmas.{inside_from_test, test_from_part}
 use Rattle.mr_mail.specs.Label.{text_eq}
 use Rattle.mr_maildir.specs.Layout.{cut_at, folder_path, is_level, is_path_level, name_for, path_of, IsFolderPath}

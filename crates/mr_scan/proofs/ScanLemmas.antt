@@ -9,7 +9,7 @@ use Rattle.std.specs.Map.{lookup}
 use Rattle.std.specs.Global.{Vec}
 use Rattle.mr_mail.specs.Label.{text_cmp}
 use Rattle.mr_maildir.specs.File.{FileParts}
-use Rattle.mr_scan.specs.Scan.{items_of, files_at, files_with}
+use Rattle.mr_scan.specs.inner.Scan.{items_of, files_at, files_with}
 
 -- what a table has of a digest
 abbrev found : {X : Type 0} → List ℕ → List (List ℕ × X) → Option X

@@ -4,7 +4,7 @@ use Rattle.std.specs.Prelude.{not, slice_get}
 use Rattle.std.proofs.lemmas.List.{append-nil, map-append, length-append, get_or_push}
 use Rattle.std.proofs.lemmas.List.Elements.{filter-append, filter_more}
 use Rattle.std.proofs.lemmas.Option.{slice_get-get_or}
-use Rattle.mr_scan.specs.Spoiled.{mail_of, digest_of, is_spoiled, spoiled_of, whole_of, has_inode, last_of, last_at, with_file}
+use Rattle.mr_scan.specs.inner.Spoiled.{mail_of, digest_of, is_spoiled, spoiled_of, whole_of, has_inode, last_of, last_at, with_file}
 use Rattle.mr_scan.specs.declared.inodes.Stored.{Stored}
 use Rattle.mr_scan.specs.declared.inodes.StoreFile.{StoreFile}
 

@@ -1,5 +1,5 @@
 -- the folders of a Maildir and their labels
-use Rattle.std.specs.Prelude.{ℕ, Bool, true, not, ◌==◌, ◌&&◌, ◌||◌, if◌then◌else◌, false, length, List, [], ◌∷◌, ◌++◌, codes, filter, find, Option, Some, None, option_map, string_bytes}
+use Rattle.std.specs.Prelude.{ℕ, Bool, true, not, ◌==◌, ◌&&◌, ◌||◌, if◌then◌else◌, false, length, List, [], ◌∷◌, codes, filter, find, Option, Some, None, option_map, string_bytes}
 use Rattle.std.specs.List.{filter_map, list_all, list_any}
 use Rattle.mr_mail.specs.Label.{text_eq}
 use Rattle.mr_maildir.specs.Folder.{label_of}
@@ -40,7 +40,7 @@ folders_there layout paths = first_of_each (filter_map (folder_there layout) pat
 abbrev pub is_path_of : List FolderParts → List ℕ → Bool
 is_path_of folders path = list_any (λ folder. text_eq folder.path path) folders
 
--- those of the paths, in their order, that became no folder
+-- the paths that became no folder, in their order
 abbrev pub paths_passed_over : Layout → List (List ℕ) → List (List ℕ)
 paths_passed_over layout paths = filter (λ path. not (is_path_of (folders_there layout paths) path)) paths
 
@@ -55,11 +55,6 @@ has_folder folders label = list_any (λ folder. text_eq folder.label label) fold
 abbrev pub are_apart : List FolderParts → Bool
 are_apart [] = true
 are_apart (folder ∷ folders) = not (has_folder folders folder.label) && are_apart folders
-
--- with one more, unless one has its label already
-abbrev pub with_folder : List FolderParts → Option FolderParts → List FolderParts
-with_folder folders None = folders
-with_folder folders (Some folder) = if has_folder folders folder.label then folders else folders ++ folder ∷ []
 
 -- a folder's path, if it is there, else this one
 abbrev pub path_or : Option FolderParts → List ℕ → List ℕ

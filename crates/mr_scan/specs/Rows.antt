@@ -5,10 +5,10 @@ use Rattle.mr_maildir.specs.View.{ViewParts}
 use Rattle.mr_maildir.specs.declared.layout.Layout.TheVariants.{Dots, Plain}
 use Rattle.mr_folder.specs.declared.path.Part.TheVariants.{Cur, New}
 use Rattle.mr_scan.specs.Folders.{FolderParts, TableParts, folder_there, folders_there, paths_passed_over, folder_of, path_given, layout_of}
-use Rattle.mr_scan.specs.Found.{part_at}
+use Rattle.mr_scan.specs.inner.Found.{part_at}
 use Rattle.mr_scan.specs.Seen.{seen_view}
-use Rattle.mr_scan.specs.Scan.{is_other_mail}
-use Rattle.mr_scan.specs.Spoiled.{is_spoiled, last_at, spoiled_of, whole_of}
+use Rattle.mr_scan.specs.inner.Scan.{is_other_mail}
+use Rattle.mr_scan.specs.inner.Spoiled.{is_spoiled, last_at, spoiled_of, whole_of}
 use Rattle.mr_scan.specs.declared.inodes.StoreFile.{StoreFile}
 use Rattle.mr_scan.specs.declared.scanned.Sight.TheVariants.{Adopted, Gone}
 

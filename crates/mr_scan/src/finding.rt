@@ -1,9 +1,9 @@
 //! The files of a listing.
-ghost use Rattle.std.specs.Prelude.{◌≡◌, ◌↔◌, IfOk, IfSome, IsSome, option_map};
+ghost use Rattle.std.specs.Prelude.{◌≡◌, ◌↔◌, IfOk, IfSome, IsSome};
 ghost use Rattle.mr_folder.specs.Inside.{IsPart, mail_path};
 ghost use Rattle.mr_maildir.specs.File.{name_of};
 ghost use Rattle.mr_maildir.specs.Name.{IsName, name_text};
-ghost use Rattle.mr_scan.specs.Found.{is_of_new};
+ghost use Rattle.mr_scan.specs.inner.Found.{is_of_new};
 
 use crate::folders::MailFolder;
 use mr_folder::{FilePath, Part};

@@ -6,8 +6,9 @@ ghost use Rattle.mr_folder.specs.Inside.{IsFolder};
 ghost use Rattle.mr_mail.specs.Label.{text_eq};
 ghost use Rattle.mr_maildir.specs.Folder.{label_of};
 ghost use Rattle.mr_maildir.specs.Layout.{folder_path};
-ghost use Rattle.mr_scan.specs.Folders.{FolderParts, folder_parts, folder_there, folders_there, folder_of, with_folder, paths_passed_over, begins_with_dot, path_given, path_or, layout_of};
-ghost use Rattle.mr_scan.specs.Found as found;
+ghost use Rattle.mr_scan.specs.Folders.{FolderParts, folder_parts, folder_there, folders_there, folder_of, paths_passed_over, begins_with_dot, path_given, path_or, layout_of};
+ghost use Rattle.mr_scan.specs.inner.Folders.{with_folder};
+ghost use Rattle.mr_scan.specs.inner.Found as found;
 
 use mr_folder::{FolderPath, Part};
 use mr_mail::Label;

@@ -1,6 +1,6 @@
 //! The store, looked through. What real files give no contract can say.
 ghost use Rattle.std.specs.Prelude.{◌≡◌};
-ghost use Rattle.mr_scan.specs.Scan as specs;
+ghost use Rattle.mr_scan.specs.inner.Scan as specs;
 
 use crate::adopting::adopted;
 use crate::inodes::{Index, Judged, Sizes, StoreFile, judge, push_file, push_if};

@@ -2,8 +2,8 @@
 ghost use Rattle.std.specs.Prelude.{◌≡◌, ◌++◌, ◌∷◌, [], if◌then◌else◌, ℕ, IfOk, OnOk};
 ghost use Rattle.std.specs.BTreeMap.{insert_entry};
 ghost use Rattle.std.specs.Ordering.{nat_cmp};
-ghost use Rattle.mr_scan.specs.Spoiled as specs;
-ghost use Rattle.mr_scan.specs.Spoiled.{at_inode, last_at, spoiled_of, whole_of, with_file};
+ghost use Rattle.mr_scan.specs.inner.Spoiled as specs;
+ghost use Rattle.mr_scan.specs.inner.Spoiled.{at_inode, last_at, spoiled_of, whole_of, with_file};
 
 use mr_folder::FileMark;
 use std::alloc::{AllocError, Global};

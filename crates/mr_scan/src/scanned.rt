@@ -3,7 +3,7 @@ ghost use Rattle.std.specs.Prelude.{◌≡◌, ◌&&◌, ◌++◌, ◌∷◌, []
 ghost use Rattle.std.specs.Map.{lookup};
 ghost use Rattle.std.specs.Ordering.{is_eq};
 ghost use Rattle.mr_mail.specs.Label.{text_cmp};
-ghost use Rattle.mr_scan.specs.Scan.{files_at, files_with, files_noted, is_gone, is_no_file, is_adopted, counted};
+ghost use Rattle.mr_scan.specs.inner.Scan.{files_at, files_with, files_noted, is_gone, is_no_file, is_adopted, counted};
 
 use mr_maildir::MailFile;
 use std::alloc::{AllocError, Global};

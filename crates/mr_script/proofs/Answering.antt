@@ -31,7 +31,7 @@ use Rattle.mr_world.specs.declared.fault.WorldFault.{WorldFault}
 use Rattle.mr_world.specs.declared.fault.WorldFault.TheVariants as stops
 use Rattle.mr_world.specs.declared.task.Task.{Task}
 use Rattle.mr_world.proofs.Moving.Asking.{found, step_of, receives_one}
-use Rattle.mr_script.specs.Sync.{MayOpenSession, MayOpenStream, MayDraw, MayTake}
+use Rattle.mr_script.specs.inner.Sync.{MayOpenSession, MayOpenStream, MayDraw, MayTake}
 
 module _ {K : Type 0} (form : Form K) where
   -- ---- over all ids

@@ -13,7 +13,8 @@ use Rattle.mr_script.specs.declared.sync.Outcome.{Outcome}
 use Rattle.mr_script.specs.declared.sync_line.SyncCounts.{SyncCounts}
 use Rattle.mr_script.specs.declared.sync_line.SyncEnd.{SyncEnd}
 use Rattle.mr_script.specs.declared.sync_line.SyncEnd.TheVariants.{Finished, Cut, Refused}
-use Rattle.mr_script.specs.Doing.{Doing, Follows, newest, happens, looking, ◌andthen◌}
+use Rattle.mr_script.specs.Doing.{Doing, Follows, happens, looking, ◌andthen◌}
+use Rattle.mr_script.specs.inner.Doing.{newest}
 use Rattle.mr_script.specs.Doing.Follows.{goes_on}
 use Rattle.mr_script.specs.Sync.{closes, cuts_in, cuts_out}
 

@@ -6,7 +6,8 @@ use Rattle.std.specs.declared.alloc.Global.{Global}
 use Rattle.std.proofs.lemmas.List.{append-nil}
 use Rattle.mr_filter.specs.Text.{IsFilterText}
 use Rattle.mr_wire.specs.Frames.{Question}
-use Rattle.mr_script.specs.Frame.{line_of, after_spaces, ask_words, IsAskLine}
+use Rattle.mr_script.specs.Frame.{line_of, ask_words, IsAskLine}
+use Rattle.mr_script.specs.inner.Frame.{after_spaces}
 
 -- the line of a word and of those behind it, word by word
 abbrev line_from : List ℕ → List (List ℕ) → List ℕ

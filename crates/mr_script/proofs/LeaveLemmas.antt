@@ -10,7 +10,8 @@ use Rattle.mr_script.specs.declared.fault.ScriptFault.TheVariants.{Line}
 use Rattle.mr_script.specs.declared.source.SourceFault.{SourceFault}
 use Rattle.mr_script.specs.declared.source.SourceFault.TheVariants as source
 use Rattle.mr_script.specs.Fault.{fault_of_source}
-use Rattle.mr_script.specs.Leaving.{Leaves, ScriptLeaves, ComesTo, NextLeaves}
+use Rattle.mr_script.specs.Leaving.{Leaves, ScriptLeaves}
+use Rattle.mr_script.specs.inner.Leaving.{ComesTo, NextLeaves}
 use Rattle.mr_script.specs.Leaving.Leaves.{all_run, breaks, too_long, at_fault, goes_on}
 use Rattle.mr_script.specs.Run.{Breaks, LineDoes}
 use Rattle.mr_script.specs.Script.{lines_of, looked_at, TakesLine, IsNextLine}

@@ -13,7 +13,8 @@ use Rattle.mr_world.specs.declared.fault.WorldFault.{WorldFault}
 use Rattle.mr_world.specs.declared.fault.WorldFault.TheVariants as stops
 use Rattle.mr_command.specs.declared.fault.LineFault.{LineFault}
 use Rattle.mr_script.specs.Answer.{answer_text}
-use Rattle.mr_script.specs.Doing.{Prevents, newest}
+use Rattle.mr_script.specs.Doing.{Prevents}
+use Rattle.mr_script.specs.inner.Doing.{newest}
 use Rattle.mr_script.specs.Doing.Follows.{goes_on}
 use Rattle.mr_script.specs.Fault.{fault_of_stop}
 use Rattle.mr_script.specs.Question.{tells}

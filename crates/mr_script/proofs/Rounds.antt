@@ -11,7 +11,8 @@ use Rattle.mr_script.specs.declared.sync.Told.TheVariants as told
 use Rattle.mr_script.specs.declared.sync_line.SyncCounts.{SyncCounts}
 use Rattle.mr_script.specs.declared.sync_line.SyncEnd.{SyncEnd}
 use Rattle.mr_script.specs.declared.sync_line.SyncEnd.TheVariants.{Cut}
-use Rattle.mr_script.specs.Sync.{Rounds, TakesAll, counts_of, counts_with, is_item, is_move_out, most_of, round}
+use Rattle.mr_script.specs.Sync.{Rounds, TakesAll, counts_of, is_item, is_move_out, most_of, round}
+use Rattle.mr_script.specs.inner.Sync.{counts_with}
 use Rattle.mr_script.specs.Sync.Rounds.{ended, enough, fails}
 
 same_counts : (a b c d : ℕ) → a ≡ b → c ≡ d → ◌≡◌ {A = SyncCounts} (record { items = a; move_outs = c }) (record { items = b; move_outs = d })

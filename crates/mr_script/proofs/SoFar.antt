@@ -7,7 +7,8 @@ use Rattle.mr_forms.specs.Known.{Form}
 use Rattle.mr_command.specs.declared.fault.LineFault.TheVariants.{OutOfMemory}
 use Rattle.mr_script.specs.declared.fault.ScriptFault.{ScriptFault}
 use Rattle.mr_script.specs.declared.fault.ScriptFault.TheVariants.{Line}
-use Rattle.mr_script.specs.Run.{Runs, LeadsTo, NextAnswer, Prints, PrintsSoFar, BeginsToPrint, Breaks, bare}
+use Rattle.mr_script.specs.Run.{Runs, LeadsTo, Prints, PrintsSoFar, BeginsToPrint, Breaks, bare}
+use Rattle.mr_script.specs.inner.Run.{NextAnswer}
 use Rattle.mr_script.specs.Run.Runs.{breaks}
 use Rattle.mr_script.specs.Script.{lines_of, looked_at}
 use Rattle.mr_script.specs.Stage.{Stage}

@@ -3,7 +3,8 @@ use Rattle.std.proofs.Common.{◌≡◌, refl, ℕ, true, List, length, Option, 
 use Rattle.std.specs.Prelude.{codes}
 use Rattle.hex.specs.declared.error.FromHexError.{FromHexError}
 use Rattle.mr_wire.specs.Decoding.{decoded}
-use Rattle.mr_script.specs.Frame.{GivesBytes, Tells, TellsFound}
+use Rattle.mr_script.specs.Frame.{Tells, TellsFound}
+use Rattle.mr_script.specs.inner.Frame.{GivesBytes}
 use Rattle.mr_script.specs.declared.frame.FrameText.{FrameText}
 
 -- the bytes that were found are told

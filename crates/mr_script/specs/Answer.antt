@@ -41,7 +41,7 @@ spaced (Some version) = codes " " ++ name_text version
 abbrev pub refusal_text : Refusal → List ℕ
 refusal_text refusal = concat (codes "refused " ∷ decimal (refusal_number refusal) ∷ codes " " ∷ refusal_name refusal ∷ spaced (named_version refusal) ∷ [])
 
--- the same as a line
+-- a refusal as a line
 abbrev pub refused_text : Refusal → List ℕ
 refused_text refusal = refusal_text refusal ++ codes "\n"
 
@@ -117,6 +117,6 @@ counted_text sync counts =
     concat (codes "sync " ∷ decimal sync.target ∷ codes " from " ∷ decimal sync.source
     ∷ codes ": items " ∷ decimal counts.items ∷ codes " moveouts " ∷ decimal counts.move_outs ∷ codes " " ∷ [])
 
--- and then how it ended
+-- the line of a sync: its counts, and then how it ended
 abbrev pub sync_text : Sync → SyncCounts → SyncEnd → List ℕ
 sync_text sync counts ending = counted_text sync counts ++ ending_text ending ++ codes "\n"

@@ -1,10 +1,9 @@
 -- what comes of a command in a world: what it gives or why it can't be done, and the world after it
-use Rattle.std.specs.Prelude.{◌≡◌, ◌⊎◌, Option, Result, Ok, Err, IsSomeAnd}
-use Rattle.std.specs.Option.{option_map}
+use Rattle.std.specs.Prelude.{◌≡◌, ◌⊎◌, Result, Ok, Err, IsSomeAnd}
 use Rattle.mr_forms.specs.Known.{Form}
 use Rattle.mr_mail.specs.Mail.{Mail}
 use Rattle.mr_model.specs.declared.event.Event.{Event}
-use Rattle.mr_world.specs.Kept.{WorldView, newest_answered}
+use Rattle.mr_world.specs.Kept.{WorldView}
 use Rattle.mr_world.specs.Run.{Happens, stop_fault}
 use Rattle.mr_world.specs.declared.answer.Answer.{Answer}
 use Rattle.mr_command.specs.declared.fault.LineFault.{LineFault}
@@ -26,14 +25,10 @@ module _ {K : Type 0} where
     goes_on : {x : X} {mid w' : WorldView K} {result : Result Y LineFault} → First w (Ok x) mid → Next x mid result w' → Follows First Next w result w'
     ends : {fault : LineFault} {w' : WorldView K} → First w (Err fault) w' → Follows First Next w (Err fault) w'
 
-  -- the same, between the two
+  -- one thing that is done and then another, which goes on with what the first gave
   infixr 20 ◌andthen◌
   abbrev pub ◌andthen◌ : {X Y : Type 0} → Doing K X → (X → Doing K Y) → Doing K Y
   First andthen Next = Follows First Next
-
-  -- the newest answer
-  abbrev pub newest : WorldView K → Option Answer
-  newest w = option_map (λ x. x.answer) (newest_answered w)
 
   -- why the event can't happen: memory is wanting, or it names what isn't there
   abbrev pub Prevents : WorldView K → Event Mail → LineFault → Type 0
@@ -44,11 +39,6 @@ module _ {K : Type 0} (form : Form K) where
   abbrev pub happens : Event Mail → Doing K Answer
   happens e w (Ok answer) w' = Happens form w e answer w'
   happens e w (Err fault) w' = Prevents w e fault × (w' ≡ w)
-
-  -- it happens, and the world has its answer
-  abbrev pub happens_noted : {X : Type 0} → Event Mail → Doing K X
-  happens_noted e w (Ok _) w' = IsSomeAnd (newest w') (λ answer. Happens form w e answer w')
-  happens_noted e w (Err fault) w' = Prevents w e fault × (w' ≡ w)
 
   -- it happens, and this is what its answer says
   abbrev pub says : {X : Type 0} → Event Mail → (Answer → X → Type 0) → Doing K X

@@ -1,7 +1,5 @@
 -- faults of a line and of a script
 use Rattle.std.specs.Prelude.{ℕ, ◌+◌, ◌≤◌, ⊤}
-use Rattle.std.specs.declared.io.ErrorKind.{ErrorKind}
-use Rattle.std.specs.declared.io.ErrorKind.TheVariants as kinds
 use Rattle.mr_world.specs.declared.fault.SpecFault.{SpecFault}
 use Rattle.mr_world.specs.declared.fault.SpecFault.TheVariants as specs
 use Rattle.mr_world.specs.declared.fault.WorldFault.{WorldFault}
@@ -26,11 +24,6 @@ fault_of_spec specs.OutOfMemory = OutOfMemory
 fault_of_spec specs.SameReplica = SameReplica
 fault_of_spec specs.BadLimit = BadLimit
 fault_of_spec specs.NoCapacity = BadCapacity
-
--- why a reader's error of this kind keeps the next line away
-abbrev pub fault_of_kind : ErrorKind → SourceFault
-fault_of_kind kinds.OutOfMemory = source.OutOfMemory
-fault_of_kind kind = source.Read
 
 -- what ends a script whose line of this number can't be had
 abbrev pub fault_of_source : ℕ → SourceFault → ScriptFault

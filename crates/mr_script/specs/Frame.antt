@@ -1,6 +1,6 @@
 -- what is printed of a frame: its words, with a space between each two
 use Rattle.std.specs.Prelude.{◌≡◌, ℕ, ◌-◌, ◌==◌, Bool, true, false, not, if◌then◌else◌, List, [], ◌∷◌, ◌++◌, length, Option, Some, None, Result, Ok, Err, filter, codes}
-use Rattle.std.specs.List.{flat_map, join_by}
+use Rattle.std.specs.List.{join_by}
 use Rattle.std.specs.Fmt.{decimal}
 use Rattle.hex.specs.declared.error.FromHexError.{FromHexError}
 use Rattle.hex.specs.Hex.{decode_of}
@@ -25,10 +25,6 @@ use Rattle.mr_wire.specs.Decoding.{decoded}
 -- words with a space between each two
 abbrev pub joined_words : List (List ℕ) → List ℕ
 joined_words words = join_by (λ word. word) (codes " ") words
-
--- words with a space before each
-abbrev pub after_spaces : List (List ℕ) → List ℕ
-after_spaces words = flat_map (λ word. codes " " ++ word) words
 
 -- a line of these words
 abbrev pub line_of : List (List ℕ) → List ℕ
@@ -119,11 +115,6 @@ rest_line count = if count == 0 then [] else line_of (codes "rest" ∷ decimal c
 -- the bytes that a word spells by two digits each, of either case; spaces are skipped
 abbrev pub bytes_of : List ℕ → Result (List ℕ) FromHexError
 bytes_of word = decode_of (filter (λ c. not (c == 32)) word)
-
--- the bytes are given, or not where the word spells none
-abbrev pub GivesBytes : Result (List ℕ) FromHexError → Option (List ℕ) → Type 0
-GivesBytes (Ok bytes) found = found ≡ Some bytes
-GivesBytes (Err fault) found = found ≡ None
 
 -- what is told of so many bytes: the frame's line and the count of those behind it; or a fault
 abbrev pub TellsFound : Result (Frame × ℕ) WireFault → ℕ → List ℕ → Bool → Type 0

@@ -1,7 +1,5 @@
 -- what a script leaves behind it, whatever it prints
-use Rattle.std.specs.Prelude.{◌≡◌, ◌<◌, ◌≤◌, ◌+◌, ◌-◌, ℕ, List, [], ◌∷◌, length, Option, Some, None, Result, Ok, Err}
-use Rattle.std.specs.declared.string.String.{String}
-use Rattle.std.specs.declared.alloc.Global.{Global}
+use Rattle.std.specs.Prelude.{◌<◌, ◌≤◌, ◌+◌, ◌-◌, ℕ, List, [], ◌∷◌, length, Option, Some, None, Ok, Err}
 use Rattle.mr_forms.specs.Known.{Form}
 use Rattle.mr_command.specs.declared.fault.LineFault.{LineFault}
 use Rattle.mr_script.specs.declared.fault.ScriptFault.{ScriptFault}
@@ -23,22 +21,10 @@ module _ {K : Type 0} (form : Form K) where
     -- it is at fault
     at_fault : {s last : Stage K} {number room : ℕ} {line : List ℕ} {lines : List (List ℕ)} {fault : LineFault} → length line ≤ room
         → LineDoes form s (line_text line) (Err fault) last → Leaves s number room (line ∷ lines) (Some (Line number fault)) last
-    -- or it is run, and the lines after it go on
+    -- a line is run, and the lines after it go on
     goes_on : {s last : Stage K} (new : Stage K) {number room : ℕ} {line : List ℕ} {lines : List (List ℕ)} {end : Option ScriptFault} (text : List ℕ) → length line ≤ room
         → LineDoes form s (line_text line) (Ok text) new → Leaves new (number + 1) (room - length line) lines end last → Leaves s number room (line ∷ lines) end last
 
   -- From s, the script ends so and leaves the last stage.
   abbrev pub ScriptLeaves : Stage K → (script : List ℕ) → Option ScriptFault → (last : Stage K) → Type 0
   ScriptLeaves s script end last = Leaves s 1 MAX_SCRIPT_BYTES (lines_of (looked_at script)) end last
-
-  -- Whatever the lines at the new place leave, those at the old one leave.
-  abbrev pub ComesTo : Stage K → (number room : ℕ) → List ℕ → (new : Stage K) → (number_then room_then : ℕ) → List ℕ → Type 0
-  ComesTo s number room bytes new number_then room_then left =
-      (end : Option ScriptFault) (last : Stage K) → Leaves new number_then room_then (lines_of left) end last → Leaves s number room (lines_of bytes) end last
-
-  -- what the next line of these bytes leaves
-  abbrev pub NextLeaves : Stage K → (number room : ℕ) → List ℕ → Result (Option (String Global)) ScriptFault → Stage K → Option (List ℕ) → ℕ → Type 0
-  NextLeaves s number room bytes (Ok (Some text)) new left room_then =
-      (rest : List ℕ) × (left ≡ Some rest) × ComesTo s number room bytes new (number + 1) room_then rest
-  NextLeaves s number room bytes (Ok None) new left room_then = Leaves s number room (lines_of bytes) None new
-  NextLeaves s number room bytes (Err fault) new left room_then = Leaves s number room (lines_of bytes) (Some fault) new

@@ -13,6 +13,6 @@ pub mod Stage
 pub mod Sync
 pub mod Taken
 pub mod Writing
-pub mod Waiting
 pub mod Limits
 pub mod Rows
+pub mod inner

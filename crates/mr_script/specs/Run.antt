@@ -1,8 +1,6 @@
 -- a script from its first line to its end
-use Rattle.std.specs.Prelude.{◌≡◌, ◌<◌, ◌≤◌, ◌+◌, ◌-◌, ◌==◌, ℕ, Bool, true, false, List, [], ◌∷◌, ◌++◌, length, Option, Some, None, Result, Ok, Err, ◌⊎◌, string_bytes}
+use Rattle.std.specs.Prelude.{◌≡◌, ◌<◌, ◌≤◌, ◌+◌, ◌-◌, ◌==◌, ℕ, Bool, true, false, List, [], ◌∷◌, ◌++◌, length, Option, Some, None, Result, Ok, Err, ◌⊎◌}
 use Rattle.std.specs.Str.{IsUtf8}
-use Rattle.std.specs.declared.string.String.{String}
-use Rattle.std.specs.declared.alloc.Global.{Global}
 use Rattle.std.specs.Io.KnownBytes.{Appends}
 use Rattle.mr_forms.specs.Known.{Form}
 use Rattle.mr_command.specs.declared.fault.LineFault.{LineFault}
@@ -55,7 +53,7 @@ module _ {K : Type 0} (form : Form K) where
     -- it is at fault
     at_fault : {s : Stage K} (new : Stage K) {number room : ℕ} {line : List ℕ} {lines : List (List ℕ)} {fault : LineFault} → length line ≤ room
         → LineDoes s (line_text line) (Err fault) new → Runs s number room (line ∷ lines) (Some (Line number fault)) []
-    -- or it prints a text, and the lines after it go on
+    -- a line prints a text, and the lines after it go on
     prints : {s : Stage K} (new : Stage K) {number room : ℕ} {line : List ℕ} {lines : List (List ℕ)} {end : Option ScriptFault} {text output : List ℕ} → length line ≤ room
         → LineDoes s (line_text line) (Ok text) new → Runs new (number + 1) (room - length line) lines end output
         → Runs s number room (line ∷ lines) end (text ++ output)
@@ -68,13 +66,6 @@ module _ {K : Type 0} (form : Form K) where
   abbrev pub LeadsTo : Stage K → (number room : ℕ) → List ℕ → (text : List ℕ) → Stage K → (number_then room_then : ℕ) → List ℕ → Type 0
   LeadsTo s number room bytes text new number_then room_then left =
       (end : Option ScriptFault) (output : List ℕ) → Runs new number_then room_then (lines_of left) end output → Runs s number room (lines_of bytes) end (text ++ output)
-
-  -- what comes of the next line of these bytes
-  abbrev pub NextAnswer : Stage K → (number room : ℕ) → List ℕ → Result (Option (String Global)) ScriptFault → Stage K → Option (List ℕ) → ℕ → Type 0
-  NextAnswer s number room bytes (Ok (Some text)) new left room_then =
-      (rest : List ℕ) × (left ≡ Some rest) × LeadsTo s number room bytes (string_bytes text) new (number + 1) room_then rest
-  NextAnswer s number room bytes (Ok None) new left room_then = Runs s number room (lines_of bytes) None []
-  NextAnswer s number room bytes (Err fault) new left room_then = Runs s number room (lines_of bytes) (Some fault) []
 
 -- of a script whose bytes are known, it was written what it prints but for what waits
 pub record Prints {K : Type 0} (form : Form K) (script : List ℕ) (end : Option ScriptFault) (old new : Option (List ℕ)) (waits : List ℕ) : Type 0 where

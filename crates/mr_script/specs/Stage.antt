@@ -32,7 +32,7 @@ pub data Stage (K : Type 0) : Type 0 where
   opening : (specs : List Spec) → Stage K
   running : (world : WorldView K) → Stage K
 
--- the same, of what the code keeps
+-- the stage that the code keeps
 abbrev pub stage_of : {K V : Type 0} → CodeStage K V → Stage K
 stage_of (code.Opening specs) = opening specs.items
 stage_of (code.Running w) = running w

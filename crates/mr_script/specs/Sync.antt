@@ -1,5 +1,5 @@
 -- a sync: a session that is run to its end, to a number of records, or to a refusal
-use Rattle.std.specs.Prelude.{◌≡◌, ◌<◌, ◌+◌, ◌-◌, ◌^◌, ℕ, Bool, true, false, List, [], ◌∷◌, length, Result, Ok, Err, count_by, unwrap_or}
+use Rattle.std.specs.Prelude.{◌≡◌, ◌<◌, ◌-◌, ◌^◌, ℕ, Bool, true, false, List, [], ◌∷◌, length, Result, Ok, Err, count_by, unwrap_or}
 use Rattle.mr_forms.specs.Known.{Form}
 use Rattle.mr_model.specs.History.{◌does◌}
 use Rattle.mr_model.specs.declared.event.Act.TheVariants as act
@@ -57,34 +57,6 @@ Takes t (Stepped (Ok reply.Finished)) round = round ≡ Ended Finished
 Takes t (Stepped (Err refusal)) round = round ≡ Ended (Refused refusal)
 Takes t answer round = ⊥
 
--- ---- which answers there are
-
--- a pull's
-abbrev pub MayOpenSession : Answer → Type 0
-MayOpenSession (Stepped (Ok (reply.Asked ask))) = Unit {0}
-MayOpenSession (Stepped (Err refusal)) = Unit {0}
-MayOpenSession answer = ⊥
-
--- those to a request
-abbrev pub MayOpenStream : Answer → Type 0
-MayOpenStream (Stepped (Ok (reply.Streaming stream))) = Unit {0}
-MayOpenStream (Stepped (Err refusal)) = Unit {0}
-MayOpenStream answer = ⊥
-
--- a draw's
-abbrev pub MayDraw : Answer → Type 0
-MayDraw (Stepped (Ok (reply.Gave sent))) = Unit {0}
-MayDraw (Stepped (Err refusal)) = Unit {0}
-MayDraw answer = ⊥
-
--- those to a record
-abbrev pub MayTake : Answer → Type 0
-MayTake (Stepped (Ok reply.Took)) = Unit {0}
-MayTake (Stepped (Ok reply.Known)) = Unit {0}
-MayTake (Stepped (Ok reply.Finished)) = Unit {0}
-MayTake (Stepped (Err refusal)) = Unit {0}
-MayTake answer = ⊥
-
 -- ---- what is counted
 
 abbrev pub is_item : Told → Bool
@@ -100,12 +72,6 @@ is_move_out told.Other = false
 -- how many of the records that were taken are of each kind
 abbrev pub counts_of : List Told → SyncCounts
 counts_of taken = record { items = count_by is_item taken; move_outs = count_by is_move_out taken }
-
--- the counts with one record more
-abbrev pub counts_with : SyncCounts → Told → SyncCounts
-counts_with counts told.Item = record counts { items = counts.items + 1 }
-counts_with counts told.MoveOut = record counts { move_outs = counts.move_outs + 1 }
-counts_with counts told.Other = counts
 
 -- after these records a sync ended so
 abbrev pub outcome : List Told → SyncEnd → Outcome
@@ -138,7 +104,7 @@ module _ {K : Type 0} (form : Form K) (sync : Sync) where
   abbrev pub cuts_in : (session : ℕ) → Doing K Answer
   cuts_in session = happens form (sync.target does act.CutIn session)
 
-  -- so is the stream
+  -- the stream is closed, whatever is answered
   abbrev pub cuts_out : (stream : ℕ) → Doing K Answer
   cuts_out stream = happens form (sync.source does act.CutOut stream)
 

@@ -2,7 +2,7 @@
 ghost use Rattle.std.specs.Prelude.{◌≡◌, IfOk, OnOk, ◌++◌, codes, string_bytes};
 ghost use Rattle.mr_version.specs.Name.{name_text};
 ghost use Rattle.mr_script.specs.Answer.{answer_text, reply_text, gave_text, short_words, took_text, entry_text, refused_text, refusal_text, named_version};
-ghost use Rattle.mr_script.specs.Frame.{after_spaces};
+ghost use Rattle.mr_script.specs.inner.Frame.{after_spaces};
 
 use crate::frame_line::{kind_of, push_said};
 use mr_feed::Entry;

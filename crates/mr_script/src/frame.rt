@@ -1,7 +1,8 @@
 //! What the bytes of a frame say, as text.
 ghost use Rattle.std.specs.Prelude.{◌≡◌, ◌++◌, IfOk, OnOk, length, option_map, string_bytes};
 ghost use Rattle.mr_wire.specs.Decoding.{decoded};
-ghost use Rattle.mr_script.specs.Frame.{GivesBytes, Tells, TellsFound, bytes_of, fault_name, refused_line, rest_line};
+ghost use Rattle.mr_script.specs.Frame.{Tells, TellsFound, bytes_of, fault_name, refused_line, rest_line};
+ghost use Rattle.mr_script.specs.inner.Frame.{GivesBytes};
 
 use crate::frame_line::frame_line;
 use hex::FromHexError;

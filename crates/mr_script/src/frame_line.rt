@@ -1,7 +1,7 @@
 //! The lines of frames: their words with a space between each two.
 ghost use Rattle.std.specs.Prelude.{◌≡◌, ◌++◌, IfOk, OnOk, codes, string_bytes};
-ghost use Rattle.std.specs.List.{flat_map};
-ghost use Rattle.mr_script.specs.Frame.{IsAskLine, IsFrameLine, header_words, kind_word, line_of, piece_text, pieces_text, receipt_words, record_words, said_words, version_words, joined_words, after_spaces};
+ghost use Rattle.mr_script.specs.Frame.{IsAskLine, IsFrameLine, header_words, kind_word, line_of, piece_text, pieces_text, receipt_words, record_words, said_words, version_words, joined_words};
+ghost use Rattle.mr_script.specs.inner.Frame.{after_spaces};
 
 use mr_concise::knowledge_text;
 use mr_version::{ItemId, Version};

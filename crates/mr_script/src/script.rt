@@ -2,10 +2,12 @@
 ghost use Rattle.std.specs.Prelude.{◌≡◌, ◌≢◌, ◌+◌, ◌-◌, ◌<◌, ◌≤◌, ◌++◌, ℕ, List, Option, [], Err, IfOk, IfErr, IfSome, OnOk, OnErr, IsSome, length};
 ghost use Rattle.std.specs.Option.{option_map};
 ghost use Rattle.mr_script.specs.Fault.{fault_of_source, NumbersItsLine};
-ghost use Rattle.mr_script.specs.Leaving.{NextLeaves, ScriptLeaves};
-ghost use Rattle.mr_script.specs.Run.{BeginsToPrint, Breaks, NextAnswer, Prints, PrintsSoFar, end_of};
+ghost use Rattle.mr_script.specs.Leaving.{ScriptLeaves};
+ghost use Rattle.mr_script.specs.inner.Leaving.{NextLeaves};
+ghost use Rattle.mr_script.specs.Run.{BeginsToPrint, Breaks, Prints, PrintsSoFar, end_of};
+ghost use Rattle.mr_script.specs.inner.Run.{NextAnswer};
 ghost use Rattle.mr_script.specs.Script.{Accounts, looked_at, source_remaining};
-ghost use Rattle.mr_script.specs.Waiting.{MayAsk};
+ghost use Rattle.mr_script.specs.inner.Waiting.{MayAsk};
 ghost use Rattle.mr_script.specs.Writing.{Settles};
 ghost use Rattle.mr_script.specs.declared.source.TheConstants.{MAX_SCRIPT_BYTES};
 

@@ -1,6 +1,6 @@
 //! Events of a script's world, one at a time.
 ghost use Rattle.std.specs.Prelude.{◌≡◌, IsSome, Some};
-ghost use Rattle.mr_script.specs.Doing.{happens_noted, newest};
+ghost use Rattle.mr_script.specs.inner.Doing.{happens_noted, newest};
 ghost use Rattle.mr_script.specs.Fault.{fault_of_stop};
 ghost use Rattle.mr_script.specs.Question.{text_of};
 ghost use Rattle.mr_script.specs.Stage.{happens_told, sizes_of};

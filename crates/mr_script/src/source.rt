@@ -1,5 +1,5 @@
 //! The lines of a script, out of a reader.
-ghost use Rattle.std.specs.Prelude.{◌≡◌, ◌≢◌, ◌≤◌, ◌<◌, ◌+◌, ◌++◌, ℕ, List, Option, Err, IsTrue, IfOk, IfErr, OnOk, IfSome, length, take, vec_len};
+ghost use Rattle.std.specs.Prelude.{◌≡◌, ◌≤◌, ◌<◌, ◌+◌, ◌++◌, ℕ, List, Option, Err, IsTrue, IfOk, IfErr, OnOk, IfSome, length, take, vec_len};
 ghost use Rattle.std.specs.Option.{option_map};
 ghost use Rattle.std.specs.Io.{appended_bytes};
 ghost use Rattle.std.specs.Io.BufRead.{DropsThrough, take_through};
@@ -7,9 +7,9 @@ ghost use Rattle.std.specs.Io.Buffered.{reader_remaining};
 ghost use Rattle.std.specs.Io.KnownBytes.{Consumes, IsAtEnd};
 ghost use Rattle.std.specs.Io.Take.{take_remaining};
 ghost use Rattle.std.specs.IoError.{error_kind};
-ghost use Rattle.mr_script.specs.Fault.{fault_of_kind};
+ghost use Rattle.mr_script.specs.inner.Fault.{fault_of_kind};
 ghost use Rattle.mr_script.specs.Script.{Accounts, TakesLine, looked_at, metered_remaining, source_remaining};
-ghost use Rattle.mr_script.specs.Waiting.{has_line};
+ghost use Rattle.mr_script.specs.inner.Waiting.{has_line};
 ghost use Rattle.mr_script.specs.declared.source.TheConstants.{MAX_SCRIPT_BYTES};
 
 use crate::metered::Metered;

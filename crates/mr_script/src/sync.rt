@@ -2,8 +2,8 @@
 ghost use Rattle.std.specs.Prelude.{◌≡◌, ◌<◌, ◌+◌, ◌^◌, [], Ok};
 ghost use Rattle.mr_script.specs.Question.{text_of};
 ghost use Rattle.mr_script.specs.Stage.{syncs_told};
-ghost use Rattle.mr_script.specs.Sync.{Draws, OpensSession, OpensStream, Takes, Rounds, answers, closes, draws, goes_through, most_of, outcome, pulls, receives, round, streams, syncs, told_by};
-ghost use Rattle.mr_script.specs.Sync.{MayOpenSession, MayOpenStream, MayDraw, MayTake, counts_with};
+ghost use Rattle.mr_script.specs.Sync.{Draws, OpensSession, OpensStream, Takes, Rounds, answers, closes, draws, goes_through, outcome, pulls, receives, round, streams, syncs, told_by};
+ghost use Rattle.mr_script.specs.inner.Sync.{MayOpenSession, MayOpenStream, MayDraw, MayTake, counts_with};
 
 use crate::single_event::{let_happen, newest};
 use crate::sync_line::{SyncCounts, SyncEnd, sync_line};

@@ -14,7 +14,8 @@ use Rattle.mr_concise.specs.declared.vector.AuthorColumn.{AuthorColumn}
 use Rattle.mr_concise.specs.declared.column.Hole.{Hole}
 use Rattle.mr_concise.specs.Edges.{IsRising}
 use Rattle.mr_concise.specs.Column.{Extent, IsColumn, column_has, edges, hole_edges, hole_has, gap, with_counter}
-use Rattle.mr_concise.specs.Vector.{column_of, vector_has, in_column, IsVectorFrom, IsVectorOf, HasTooManyHoles}
+use Rattle.mr_concise.specs.Vector.{column_of, vector_has, IsVectorFrom, IsVectorOf, HasTooManyHoles}
+use Rattle.mr_concise.specs.inner.Vector.{in_column}
 use Rattle.mr_concise.proofs.ColumnLemmas.{column_has-edges}
 use Rattle.mr_concise.proofs.InsertLemmas.{with_counter-means}
 use Rattle.mr_concise.proofs.LastLemmas.{vector_has-versions, column_has-above}
@@ -23,7 +24,8 @@ use Rattle.mr_concise.proofs.UnionLemmas.{bound-on, column_has-empty}
 use Rattle.mr_concise.proofs.VersionLemmas.{few-vector}
 use Rattle.mr_madewith.specs.Keyed.{is_before}
 use Rattle.mr_madewith.proofs.Rising.{name_eq_self, same_names}
-use Rattle.mr_session.specs.Held.{HasJust, AreBelow, with_last}
+use Rattle.mr_session.specs.Held.{HasJust}
+use Rattle.mr_session.specs.inner.Held.{AreBelow, with_last}
 use Rattle.mr_session.proofs.HeldLemmas.{listed_more}
 
 -- ---- a run above a column

@@ -13,7 +13,12 @@ use Rattle.mr_madewith.specs.Revision.{Rev}
 use Rattle.mr_madewith.specs.Keyed.{is_before}
 use Rattle.mr_madewith.proofs.Rising.{head_before, tail_rises, same_names}
 use Rattle.mr_store.specs.Revisions.{AreInVersionOrder, version_of}
-use Rattle.mr_session.specs.Held.{counter_on, in_row, IsRow, IsAbove}
+use Rattle.mr_session.specs.inner.Held.{counter_on, IsRow, IsAbove}
+
+-- so many of the author's versions in a row
+abbrev pub in_row : (first : Name) → ℕ → List Name
+in_row first zero = []
+in_row first (suc n) = in_row first n ++ counter_on first n ∷ []
 
 -- ---- where rising versions stand
 

@@ -4,8 +4,9 @@ use Rattle.std.proofs.lemmas.Bool.{cases_eq}
 use Rattle.std.proofs.lemmas.Bool.Decides.{eqb_tells}
 use Rattle.slab.specs.Slab.{Slab, get, Updates}
 use Rattle.mr_session.specs.declared.slots.Entry.{Entry}
-use Rattle.mr_session.specs.Slots.{with_at}
-use Rattle.mr_session.specs.Slots.{value_in, value_at, HasNumber, AreOnce, AreUpTo}
+use Rattle.mr_session.specs.inner.Slots.{with_at}
+use Rattle.mr_session.specs.Slots.{HasNumber, AreOnce, AreUpTo}
+use Rattle.mr_session.specs.inner.Slots.{value_in, value_at}
 
 module _ {T : Type 0} where
   -- a slot with the number's entry, that has this value

@@ -8,8 +8,8 @@ use Rattle.mr_concise.specs.declared.vector.AuthorColumn.{AuthorColumn}
 use Rattle.mr_concise.specs.declared.column.Hole.{Hole}
 use Rattle.mr_madewith.specs.Revision.{Rev}
 use Rattle.mr_store.specs.Revisions.{AreInVersionOrder, version_of}
-use Rattle.mr_session.specs.Held.{extent, with_last, in_row, IsRow, IsGrowth, IsAbove, IsBelowFirst, IsTurned, IsExtended}
-use Rattle.mr_session.proofs.RowLemmas.{row_names, next_above, names_split, names_from}
+use Rattle.mr_session.proofs.RowLemmas.{in_row, row_names, next_above, names_split, names_from}
+use Rattle.mr_session.specs.inner.Held.{extent, with_last, IsRow, IsGrowth, IsAbove, IsBelowFirst, IsTurned, IsExtended}
 use Rattle.mr_session.proofs.GrowingLemmas.{row_listed}
 use Rattle.mr_session.proofs.WalkLemmas.{rest_of, drop_rises}
 

@@ -5,7 +5,8 @@ use Rattle.std.specs.Option.{option_map}
 use Rattle.std.proofs.lemmas.Bool.{cases_eq, ltb-true, ltb-false}
 use Rattle.std.proofs.lemmas.Bool.Decides.{eqb_tells}
 use Rattle.mr_session.specs.Table.{Numbered, Table, IsTable, at, open_at, changed, with_changed, RisesFrom, AreNumberedTo}
-use Rattle.mr_session.specs.Slots.{put, with_at}
+use Rattle.mr_session.specs.Slots.{put}
+use Rattle.mr_session.specs.inner.Slots.{with_at}
 
 pub lt_tells : (a b : ℕ) → ((nat_lt a b ≡ true) × (a < b)) ⊎ ((nat_lt a b ≡ false) × (b ≤ a))
 lt_tells a b = by_test (nat_lt a b) refl

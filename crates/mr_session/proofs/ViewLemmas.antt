@@ -8,7 +8,8 @@ use Rattle.slab.specs.Slab.{Slab, slab_len, IsSlotClone}
 use Rattle.mr_session.specs.declared.slots.Entry.{Entry}
 use Rattle.mr_session.specs.Table.{Numbered, at, open_at, changed, RisesFrom, AreNumberedTo, Table, IsTable}
 use Rattle.mr_session.specs.declared.limits.TheConstants.{MAX_OPEN}
-use Rattle.mr_session.specs.Slots.{value_in, value_at, with_at, HasNumber, AreOnce, AreUpTo, AreSlots, by_number}
+use Rattle.mr_session.specs.Slots.{HasNumber, AreOnce, AreUpTo, AreSlots, by_number}
+use Rattle.mr_session.specs.inner.Slots.{value_in, value_at, with_at}
 use Rattle.mr_session.proofs.SlotLemmas.{has_found, none_at}
 use Rattle.mr_session.proofs.TableLemmas.{same_list, at_put, rises_put, length-put, numbered-put, others, at-others, rises-others, at-behind, rises-behind, at-changed, rises-changed}
 

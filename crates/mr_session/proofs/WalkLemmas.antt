@@ -17,7 +17,7 @@ use Rattle.mr_madewith.specs.Keyed.{is_before}
 use Rattle.mr_madewith.proofs.Rising.{sides_of, head_before, tail_rises, all_after, sorted_by_name}
 use Rattle.mr_store.specs.Revisions.{AreInVersionOrder, version_of}
 use Rattle.mr_session.specs.Stream.{Asked, claimed, is_wanted, is_ahead, is_due, lower}
-use Rattle.mr_session.specs.Merge.{is_left_first}
+use Rattle.mr_session.specs.inner.Merge.{is_left_first}
 
 -- ---- those ahead
 

@@ -4,8 +4,8 @@ pub mod Fault
 pub mod Session
 pub mod Held
 pub mod Stream
-pub mod Merge
 pub mod Onward
 pub mod Preparing
 pub mod Limits
 pub mod Rows
+pub mod inner

@@ -13,9 +13,10 @@ use Rattle.mr_wire.specs.declared.frame.Mode.TheVariants.{Full, Partial}
 use Rattle.mr_session.specs.declared.fault.SessionFault.TheVariants.{NotStart, OtherStream, Repeated, Gap}
 use Rattle.mr_session.specs.declared.outgoing.onward.Onward.TheVariants as onward
 use Rattle.mr_session.specs.Table.{Table, Numbered, empty_table, with_opened, with_closed, open_at, open_numbers}
-use Rattle.mr_session.specs.Slots.{value_in, by_number}
+use Rattle.mr_session.specs.Slots.{by_number}
+use Rattle.mr_session.specs.inner.Slots.{value_in}
 use Rattle.mr_session.specs.Session.{Session, new_session, first_fault, with_taken}
-use Rattle.mr_session.specs.Merge.{is_left_first}
+use Rattle.mr_session.specs.inner.Merge.{is_left_first}
 use Rattle.mr_session.specs.Stream.{Asked, Stream, lists, claimed, lower, new_stream, Draws, Gives, GivesIn}
 use Rattle.mr_session.specs.Onward.{advanced}
 

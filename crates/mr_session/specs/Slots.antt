@@ -1,25 +1,11 @@
 -- numbered values in the slots of a slab
-use Rattle.std.specs.Prelude.{◌≡◌, ◌≤◌, ℕ, ◌==◌, nat_lt, if◌then◌else◌, List, [], ◌∷◌, Option, Some, None}
+use Rattle.std.specs.Prelude.{◌≡◌, ◌≤◌, ℕ, nat_lt, if◌then◌else◌, List, [], ◌∷◌, Option, Some, None}
 use Rattle.slab.specs.Slab.{Slab, get, slab_len}
 use Rattle.mr_session.specs.declared.slots.Entry.{Entry}
 use Rattle.mr_session.specs.Table.{Numbered}
 use Rattle.mr_session.specs.declared.limits.TheConstants.{MAX_OPEN}
 
 module _ {T : Type 0} where
-  -- what is under a number, among these slots
-  abbrev pub value_in : List (Option (Entry T)) → ℕ → Option T
-  value_in [] n = None
-  value_in (None ∷ slots) n = value_in slots n
-  value_in (Some entry ∷ slots) n = if entry.number == n then Some entry.value else value_in slots n
-
-  -- what is under a number
-  abbrev pub value_at : Slab (Entry T) → ℕ → Option T
-  value_at slab n = value_in slab.slots n
-
-  -- what is under each number, with this under one
-  abbrev pub with_at : ℕ → Option T → (ℕ → Option T) → ℕ → Option T
-  with_at number value values n = if number == n then value else values n
-
   -- the key has the number's entry
   abbrev pub HasNumber : Slab (Entry T) → ℕ → ℕ → Type 0
   HasNumber slab number key = (entry : Entry T) × (get slab key ≡ Some entry) × (entry.number ≡ number)

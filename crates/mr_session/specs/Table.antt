@@ -1,5 +1,5 @@
 -- tables of what is open, each under a number of its own
-use Rattle.std.specs.Prelude.{◌≡◌, ◌≤◌, ◌<◌, ℕ, not, ◌+◌, ◌==◌, if◌then◌else◌, List, [], ◌∷◌, ◌++◌, map, filter, length, Option, Some, None}
+use Rattle.std.specs.Prelude.{◌≤◌, ◌<◌, ℕ, not, ◌+◌, ◌==◌, if◌then◌else◌, List, [], ◌∷◌, ◌++◌, map, filter, length, Option, Some, None}
 use Rattle.mr_session.specs.declared.limits.TheConstants.{MAX_OPEN}
 
 -- a value under its number
@@ -45,12 +45,6 @@ module _ {T : Type 0} where
   -- the one of that number is changed
   abbrev pub with_changed : ℕ → (T → T) → Table T → Table T
   with_changed n change table = record table { open_ones = map (changed n change) table.open_ones }
-
-  -- What was open under the number has become another value, as the change may make it with this answer, and nothing else
-  -- has changed.
-  abbrev pub Changes : {R : Type 0} → (may : T → T × R → Type 0) → ℕ → Table T → (answer : R) → Table T → Type 0
-  Changes may n table answer new =
-      (before : T) × (after : T) × (open_at table n ≡ Some before) × may before (after, answer) × (new ≡ with_changed n (λ _. after) table)
 
   -- the numbers rise, and are above low
   abbrev pub RisesFrom : (low : ℕ) → List (Numbered T) → Type 0

@@ -7,7 +7,7 @@ ghost use Rattle.mr_version.specs.Name.{name_cmp};
 ghost use Rattle.mr_madewith.specs.Keyed.{is_before};
 ghost use Rattle.mr_store.specs.Revisions.{AreInVersionOrder};
 ghost use Rattle.mr_session.specs.Stream.{is_wanted, is_ahead, lower, due};
-ghost use Rattle.mr_session.specs.Merge.{is_left_first};
+ghost use Rattle.mr_session.specs.inner.Merge.{is_left_first};
 
 use crate::asked::AskedOf;
 use mr_madewith::Revision;

@@ -1,3 +1,4 @@
+//! Why a session does not take a record.
 ghost use Rattle.std.specs.Prelude.{◌≡◌};
 
 use thiserror::Error;

@@ -21,6 +21,7 @@ fn vector_of(alloc: Global, version: Version) -> Result<ConciseVector, AllocErro
     let mut vector = ConciseVector::new(alloc);
     match vector.insert(version) {
         Ok(()) => {
+            // the columns of a vector are as they have to be
             let _columns = vector.author_columns();
             Ok(vector)
         }

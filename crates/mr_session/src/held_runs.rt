@@ -6,7 +6,7 @@ ghost use Rattle.mr_concise.specs.Column.{gap};
 ghost use Rattle.mr_concise.specs.Vector.{IsVectorOf};
 ghost use Rattle.mr_madewith.specs.Revision.{Rev};
 ghost use Rattle.mr_store.specs.Revisions.{AreInVersionOrder, version_of};
-ghost use Rattle.mr_session.specs.Held.{counter_on, IsRow, extent, with_last, IsGrowth, IsAbove, IsBelowFirst, IsClosed, IsTurned, IsExtended};
+ghost use Rattle.mr_session.specs.inner.Held.{counter_on, IsRow, extent, with_last, IsGrowth, IsAbove, IsBelowFirst, IsClosed, IsTurned, IsExtended};
 
 use mr_concise::{AuthorColumn, Column, ConciseVector, Hole, MAX_HOLES};
 use mr_forms::{Run, VersionSet};
@@ -225,6 +225,7 @@ fn empty_vector(alloc: Global) -> ConciseVector
     ensures { IsVectorOf (is_listed []) result }
 {
     let vector = ConciseVector::new(alloc);
+    // a vector's columns are as they have to be
     let _columns = vector.author_columns();
     vector
 }

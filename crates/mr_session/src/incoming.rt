@@ -1,7 +1,6 @@
 //! Sessions: what a replica has taken of a stream.
-ghost use Rattle.std.specs.Prelude.{◌≡◌, ◌+◌, ◌<◌, ◌^◌, ◌++◌, [], map, IsOk, IsFalse, IfOk, OnOk, OnErr};
+ghost use Rattle.std.specs.Prelude.{◌≡◌, ◌+◌, ◌<◌, ◌^◌, ◌++◌, map, IsOk, IsFalse, IfOk, OnOk, OnErr};
 ghost use Rattle.std.specs.Result.{result_err};
-ghost use Rattle.mr_concise.specs.Vector.{vector_has};
 ghost use Rattle.mr_wire.specs.Values.{piece_of};
 ghost use Rattle.mr_session.specs.Session.{new_session, first_fault, is_start, is_full, if_so, with_body, after_record, is_to_keep};
 

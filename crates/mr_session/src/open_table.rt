@@ -1,7 +1,8 @@
 //! Tables of what is open, each under a number of its own.
 ghost use Rattle.std.specs.Prelude.{◌≡◌, ◌<◌, ◌≤◌, ◌+◌, ◌^◌, nat_le, length, is_some, IsSome, Some, IfOk, OnOk, OnErr};
 ghost use Rattle.std.specs.Option.{option_copied, ForSome};
-ghost use Rattle.mr_session.specs.Table.{open_at, open_numbers, empty_table, with_opened, with_closed, Changes, IsTable};
+ghost use Rattle.mr_session.specs.Table.{open_at, open_numbers, empty_table, with_opened, with_closed, IsTable};
+ghost use Rattle.mr_session.specs.inner.Table.{Changes};
 ghost use Rattle.mr_session.specs.declared.limits.TheConstants.{MAX_OPEN};
 
 use crate::limits::MAX_OPEN;

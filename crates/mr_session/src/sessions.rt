@@ -1,7 +1,7 @@
 //! The open sessions of a replica.
 ghost use Rattle.std.specs.Prelude.{◌≡◌, ◌<◌, ◌+◌, ◌^◌, length, None, IsSome, IfSome, IsOk, IsFalse, IfOk, OnOk, OnErr};
 ghost use Rattle.std.specs.Result.{result_err};
-ghost use Rattle.mr_session.specs.Session.{new_session, first_fault, after_record, with_taken, is_to_keep};
+ghost use Rattle.mr_session.specs.Session.{new_session, first_fault, with_taken, is_to_keep};
 ghost use Rattle.mr_session.specs.Table.{open_at, with_opened};
 ghost use Rattle.mr_session.specs.declared.limits.TheConstants.{MAX_OPEN};
 

@@ -1,9 +1,10 @@
 //! Values under numbers, in the slots of a slab.
 ghost use Rattle.std.specs.Prelude.{◌≡◌, ◌≤◌, ◌+◌, ℕ, map, Some, None, IfSome, IfNone, IsSome, IfOk};
 ghost use Rattle.std.specs.Option.{option_copied};
-ghost use Rattle.slab.specs.Slab.{slab_len, HasRoomFor, entries, get};
-ghost use Rattle.mr_session.specs.Slots.{with_at};
-ghost use Rattle.mr_session.specs.Slots.{value_at, HasNumber, AreOnce, AreUpTo};
+ghost use Rattle.slab.specs.Slab.{slab_len, HasRoomFor, entries};
+ghost use Rattle.mr_session.specs.inner.Slots.{with_at};
+ghost use Rattle.mr_session.specs.Slots.{HasNumber, AreOnce, AreUpTo};
+ghost use Rattle.mr_session.specs.inner.Slots.{value_at};
 
 use slab::Slab;
 use std::alloc::{AllocError, Global};

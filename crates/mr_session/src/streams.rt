@@ -91,6 +91,7 @@ impl OpenTable<Outgoing> {
         ensures { self.new ≡ advanced number onward self.old }
     {
         if let Onward::Closed = onward {
+            // the stream itself is told no more
             let _ = self.close(number);
             return;
         }

@@ -21,14 +21,14 @@ use Rattle.mr_replica.proofs.Alike.{alike_replays}
 use Rattle.mr_settle.specs.History.{log_in}
 use Rattle.mr_settle.specs.Explains.{Explains}
 use Rattle.mr_settle.specs.Stuck.{Waits, IsBehind, HasEventsLeft, IsStuck}
-use Rattle.mr_settle.specs.Named.{GivenNumbers, Names}
-use Rattle.mr_settle.specs.Ready.{IsNext, IsReady, Rests, IsFirstReady, FindsReady}
+use Rattle.mr_settle.specs.inner.Named.{GivenNumbers, Names}
+use Rattle.mr_settle.specs.inner.Ready.{IsNext, IsReady, Rests, IsFirstReady, FindsReady}
 use Rattle.mr_settle.specs.declared.ready.Ready.{Ready}
-use Rattle.mr_settle.specs.Carried.{done_of}
+use Rattle.mr_settle.specs.inner.Carried.{done_of}
 use Rattle.mr_settle.specs.declared.progress.Progress.{Progress}
 use Rattle.mr_settle.proofs.ProgressLemmas.{get_map}
-use Rattle.mr_settle.specs.Way.{TellAll, IsUnderWay}
-use Rattle.mr_settle.specs.Arrived.{IsLeftAt, HasLeft, AreNoLower, FindsLeftTo, FindsLeftAt, FindsLeft, lower_of, IsOneInWorld}
+use Rattle.mr_settle.specs.inner.Way.{TellAll, IsUnderWay}
+use Rattle.mr_settle.specs.inner.Arrived.{IsLeftAt, HasLeft, AreNoLower, FindsLeftTo, FindsLeftAt, FindsLeft, lower_of, IsOneInWorld}
 use Rattle.mr_settle.proofs.ListLemmas.{some_one, all_places, get_within, get_there, take_all, get_all, first_of, take_drop, length_first}
 
 -- ---- what is left of a log

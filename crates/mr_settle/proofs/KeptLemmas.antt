@@ -24,7 +24,7 @@ use Rattle.mr_world.specs.Promise.{HasHeadline, Promises, filters_of, setting_in
 use Rattle.mr_world.specs.Seen.{setting_of}
 use Rattle.mr_settle.specs.Kept.{IsNewest, HasHead, KnowsAllOf, IsHeldBySome, KeepTogether, Keeps}
 use Rattle.mr_settle.specs.Explains.{Explains}
-use Rattle.mr_settle.specs.Arrived.{IsOneInWorld}
+use Rattle.mr_settle.specs.inner.Arrived.{IsOneInWorld}
 use Rattle.mr_settle.proofs.MoveLemmas.{there_if}
 use Rattle.mr_settle.proofs.MomentLemmas.{nothing_held}
 use Rattle.mr_settle.proofs.RetireLemmas.{none_after}

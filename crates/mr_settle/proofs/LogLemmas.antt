@@ -19,10 +19,10 @@ use Rattle.mr_world.specs.declared.answer.Answer.TheVariants.{Stepped}
 use Rattle.mr_world.specs.declared.answered.Answered.{Answered}
 use Rattle.mr_world.specs.declared.task.Task.{Task}
 use Rattle.mr_world.specs.declared.task.Task.TheVariants.{Step}
-use Rattle.mr_settle.specs.Numbers.{Grew}
+use Rattle.mr_settle.specs.inner.Numbers.{Grew}
 use Rattle.mr_settle.proofs.PoolLemmas.{number_stays}
 use Rattle.mr_settle.specs.History.{admitted, admitted_at, log_in}
-use Rattle.mr_settle.specs.Way.{NamesFrames}
+use Rattle.mr_settle.specs.inner.Way.{NamesFrames}
 
 filter_map-same : {A B : Type 0} (f g : A → Option B) (xs : List A) → All (λ x. f x ≡ g x) xs → filter_map f xs ≡ filter_map g xs
 filter_map-same f g [] h = refl

@@ -23,7 +23,7 @@ use Rattle.mr_world.specs.declared.answer.Answer.{Answer}
 use Rattle.mr_world.specs.declared.answer.Answer.TheVariants.{Stepped}
 use Rattle.mr_world.proofs.Groundwork.AtPlaces.{at_other}
 use Rattle.mr_world.proofs.Moving.Asking.{step_of}
-use Rattle.mr_settle.specs.Numbers.{Grew}
+use Rattle.mr_settle.specs.inner.Numbers.{Grew}
 use Rattle.mr_settle.proofs.ListLemmas.{some_one}
 use Rattle.mr_settle.proofs.NamedLemmas.{IsNamed}
 

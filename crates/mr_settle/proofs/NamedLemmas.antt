@@ -22,10 +22,10 @@ use Rattle.mr_world.specs.Pool.{question_of, sent_of, receipt_of}
 use Rattle.mr_world.specs.Run.{asked_in}
 use Rattle.mr_world.specs.declared.task.Task.{Task}
 use Rattle.mr_world.specs.declared.task.Task.TheVariants as task
-use Rattle.mr_settle.specs.Carried.{HasBytes, carried}
-use Rattle.mr_settle.specs.Named.{AsksFor, GivenNumbers, Names}
-use Rattle.mr_settle.specs.Numbers.{Numbering, Tells, found_in}
-use Rattle.mr_settle.specs.Way.{TellAll}
+use Rattle.mr_settle.specs.inner.Carried.{HasBytes, carried}
+use Rattle.mr_settle.specs.inner.Named.{AsksFor, GivenNumbers, Names}
+use Rattle.mr_settle.specs.inner.Numbers.{Numbering, Tells, found_in}
+use Rattle.mr_settle.specs.inner.Way.{TellAll}
 use Rattle.mr_settle.proofs.ListLemmas.{some_one}
 use Rattle.mr_settle.proofs.PoolLemmas.{one_spelled}
 

@@ -9,7 +9,7 @@ use Rattle.mr_wire.proofs.DecodeLaws.{begins_no_other}
 use Rattle.std.specs.Str.{bytes_eq}
 use Rattle.std.proofs.lemmas.Slice.Eq.{bytes_eq-Decides}
 use Rattle.mr_world.specs.Pool.{GivesFrame}
-use Rattle.mr_settle.specs.Numbers.{Numbering, Puts, Tells, KeepsUp, Grew, no_numbers}
+use Rattle.mr_settle.specs.inner.Numbers.{Numbering, Puts, Tells, KeepsUp, Grew, no_numbers}
 
 not_none : {A : Type 0} (x : A) → (let o : Option A = Some x in o ≡ None) → ⊥
 not_none x e = cc

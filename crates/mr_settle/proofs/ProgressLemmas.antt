@@ -5,7 +5,7 @@ use Rattle.std.specs.List.{slice_get, AllZip}
 use Rattle.std.specs.Option.{option_map}
 use Rattle.mr_replica.specs.State.{State}
 use Rattle.mr_settle.specs.declared.progress.Progress.{Progress}
-use Rattle.mr_settle.specs.Carried.{IsUpToDate, AreAtStart, done_of}
+use Rattle.mr_settle.specs.inner.Carried.{IsUpToDate, AreAtStart, done_of}
 use Rattle.mr_settle.proofs.ListLemmas.{some_one}
 
 none_some : {A : Type 0} (x : A) → (let o : Option A = None in o ≡ Some x) → ⊥

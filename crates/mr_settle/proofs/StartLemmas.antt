@@ -12,8 +12,9 @@ use Rattle.mr_replica.specs.declared.replica.TheConstants.{MAX_EVENTS}
 use Rattle.mr_world.specs.Made.{has_same_id, has_bad_limit, has_bad_capacity, spec_refusal}
 use Rattle.mr_world.specs.declared.spec.Spec.{Spec}
 use Rattle.mr_settle.specs.History.{IsSpecOf}
-use Rattle.mr_settle.specs.Explains.{AreDistinct, share_id}
-use Rattle.mr_settle.specs.Way.{HasGoodLimit}
+use Rattle.mr_settle.specs.Explains.{AreDistinct}
+use Rattle.mr_settle.specs.inner.Explains.{share_id}
+use Rattle.mr_settle.specs.inner.Way.{HasGoodLimit}
 
 pub eqb-false_of : (a b : ℕ) → a ≢ b → (a == b) ≡ false
 eqb-false_of a b ne = by (a == b) refl

@@ -28,15 +28,15 @@ use Rattle.mr_world.specs.declared.fault.WorldFault.{WorldFault}
 use Rattle.mr_world.specs.declared.fault.WorldFault.TheVariants.{NoSuchReplica, NoSuchFrame}
 use Rattle.mr_world.specs.declared.spec.Spec.{Spec}
 use Rattle.mr_settle.proofs.AdmitLemmas.{next_admitted, replays_more}
-use Rattle.mr_settle.specs.Numbers.{Tells, Grew}
+use Rattle.mr_settle.specs.inner.Numbers.{Tells, Grew}
 use Rattle.mr_settle.proofs.PoolLemmas.{nothing_told, tells_on}
 use Rattle.mr_settle.specs.History.{log_in, IsSpecOf, IsStartOf, IsWorldOf}
 use Rattle.mr_settle.specs.Explains.{AreDistinct}
-use Rattle.mr_settle.specs.Named.{GivenNumbers, nothing_given}
-use Rattle.mr_settle.specs.Ready.{IsNext, IsReady}
+use Rattle.mr_settle.specs.inner.Named.{GivenNumbers, nothing_given}
+use Rattle.mr_settle.specs.inner.Ready.{IsNext, IsReady}
 use Rattle.mr_settle.specs.declared.ready.Ready.{Ready}
-use Rattle.mr_settle.specs.Way.{NotesNewest, TellAll, NamesFrames, left_over, HappensSo, IsAt, IsUnderWay}
-use Rattle.mr_settle.specs.Carried.{done_of}
+use Rattle.mr_settle.specs.inner.Way.{NotesNewest, TellAll, NamesFrames, left_over, HappensSo, IsAt, IsUnderWay}
+use Rattle.mr_settle.specs.inner.Carried.{done_of}
 use Rattle.mr_settle.specs.declared.progress.Progress.{Progress}
 use Rattle.mr_settle.proofs.ProgressLemmas.{map_there}
 use Rattle.mr_settle.proofs.ListLemmas.{some_one, get_within, get_set, get_other, length_set, split_at, get_all}

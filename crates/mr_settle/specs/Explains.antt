@@ -1,6 +1,5 @@
 -- A history that explains how replicas ended.
-use Rattle.std.specs.Prelude.{◌≡◌, ◌≢◌, ◌==◌, ◌||◌, Bool, false, Some, List, [], ◌∷◌, map, All, AllPairs}
-use Rattle.std.specs.List.{list_any}
+use Rattle.std.specs.Prelude.{◌≡◌, ◌≢◌, Some, List, map, All, AllPairs}
 use Rattle.mr_forms.specs.Known.{Form}
 use Rattle.mr_replica.specs.State.{State}
 use Rattle.mr_world.specs.Kept.{WorldView, replica_at}
@@ -11,11 +10,6 @@ module _ {K : Type 0} where
   -- no two of them have one id
   abbrev pub AreDistinct : List (State K) → Type 0
   AreDistinct ends = AllPairs (λ s t. s.id ≢ t.id) ends
-
-  -- two of them have one id, by a test
-  abbrev pub share_id : List (State K) → Bool
-  share_id [] = false
-  share_id (end ∷ ends) = list_any (λ other. other.id == end.id) ends || share_id ends
 
 module _ {K : Type 0} (form : Form K) where
   -- The world's replicas are these ends, in their order: each has admitted in its history just the events of the end's log,

@@ -1,11 +1,6 @@
 pub mod History
 pub mod Explains
 pub mod Stuck
-pub mod Carried
-pub mod Numbers
-pub mod Named
-pub mod Ready
-pub mod Way
-pub mod Arrived
 pub mod Kept
 pub mod Rows
+pub mod inner

@@ -9,7 +9,7 @@ use Rattle.mr_replica.specs.State.{State, new_state}
 use Rattle.mr_replica.specs.declared.event.Event.TheVariants as replica
 use Rattle.mr_replica.specs.declared.event.Reply.TheVariants as reply
 use Rattle.mr_replica.specs.declared.refusal.Refusal.TheVariants.{NoSession}
-use Rattle.mr_wire.specs.FrameParts.{descent_with}
+use Rattle.mr_wire.specs.inner.FrameParts.{descent_with}
 use Rattle.mr_wire.specs.Frames.{Question, Sent}
 use Rattle.mr_wire.specs.declared.frame.Body.TheVariants.{Start}
 use Rattle.mr_wire.specs.declared.frame.Frame.TheVariants as frame
@@ -20,12 +20,12 @@ use Rattle.mr_world.specs.Run.{answered, asked_in}
 use Rattle.mr_world.specs.declared.answer.Answer.TheVariants.{Stepped, Truncated, NothingNew}
 use Rattle.mr_world.specs.declared.answered.Answered.{Answered}
 use Rattle.mr_world.specs.declared.task.Task.TheVariants as task
-use Rattle.mr_settle.specs.Arrived.{lower_of}
-use Rattle.mr_settle.specs.Carried.{carried}
-use Rattle.mr_settle.specs.Explains.{share_id}
+use Rattle.mr_settle.specs.inner.Arrived.{lower_of}
+use Rattle.mr_settle.specs.inner.Carried.{carried}
+use Rattle.mr_settle.specs.inner.Explains.{share_id}
 use Rattle.mr_settle.specs.History.{admitted, log_in}
-use Rattle.mr_settle.specs.Named.{AsksFor}
-use Rattle.mr_settle.specs.Numbers.{found_in, no_numbers}
+use Rattle.mr_settle.specs.inner.Named.{AsksFor}
+use Rattle.mr_settle.specs.inner.Numbers.{found_in, no_numbers}
 use Rattle.mr_settle.specs.Stuck.{HasItsFrame, IsBehind, join_fault_number}
 use Rattle.mr_settle.specs.declared.fault.JoinFault.TheVariants.{OutOfMemory, Unexplained}
 

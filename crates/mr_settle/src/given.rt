@@ -1,10 +1,10 @@
 //! What the replicas of a world gave so far: the numbers of all frames.
 ghost use Rattle.std.specs.Prelude.{◌≡◌, IfOk, OnOk};
 ghost use Rattle.std.specs.Option.{option_copied};
-ghost use Rattle.mr_settle.specs.Carried.{carried, HasBytes};
-ghost use Rattle.mr_settle.specs.Numbers.{numbering, found_in, KeepsUp};
-ghost use Rattle.mr_settle.specs.Named.{Names, given_by, nothing_given};
-ghost use Rattle.mr_settle.specs.Way.{NotesNewest};
+ghost use Rattle.mr_settle.specs.inner.Carried.{carried, HasBytes};
+ghost use Rattle.mr_settle.specs.inner.Numbers.{numbering, found_in, KeepsUp};
+ghost use Rattle.mr_settle.specs.inner.Named.{Names, given_by, nothing_given};
+ghost use Rattle.mr_settle.specs.inner.Way.{NotesNewest};
 
 use crate::numbers::Numbers;
 use mr_forms::Knowledge;

@@ -2,9 +2,10 @@
 ghost use Rattle.std.specs.Prelude.{◌≡◌, ◌==◌, ◌↔◌, IsTrue, IfOk, IfErr, All};
 ghost use Rattle.std.specs.List.{list_any};
 ghost use Rattle.mr_world.specs.Promise.{moment_of};
-ghost use Rattle.mr_settle.specs.Arrived.{FindsLeft, FindsLeftAt, lower_of, IsOneInWorld};
-ghost use Rattle.mr_settle.specs.Carried.{done_of};
-ghost use Rattle.mr_settle.specs.Explains.{AreDistinct, Explains, share_id};
+ghost use Rattle.mr_settle.specs.inner.Arrived.{FindsLeft, FindsLeftAt, lower_of, IsOneInWorld};
+ghost use Rattle.mr_settle.specs.inner.Carried.{done_of};
+ghost use Rattle.mr_settle.specs.Explains.{AreDistinct, Explains};
+ghost use Rattle.mr_settle.specs.inner.Explains.{share_id};
 ghost use Rattle.mr_settle.specs.Kept.{Keeps, KeepTogether};
 ghost use Rattle.mr_settle.specs.Stuck.{IsWhy};
 

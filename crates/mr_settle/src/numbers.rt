@@ -1,6 +1,6 @@
 //! The numbers of a pool's frames, by their bytes.
 ghost use Rattle.std.specs.Prelude.{◌≡◌, OnOk};
-ghost use Rattle.mr_settle.specs.Numbers.{no_numbers, Puts, numbering};
+ghost use Rattle.mr_settle.specs.inner.Numbers.{no_numbers, Puts, numbering};
 
 use std::alloc::{AllocError, Global};
 use std::collections::BTreeMap;

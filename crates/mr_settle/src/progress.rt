@@ -1,7 +1,7 @@
 //! How far a log has come.
 ghost use Rattle.std.specs.Prelude.{◌≡◌, IfOk};
 ghost use Rattle.std.specs.Option.{option_copied, option_map};
-ghost use Rattle.mr_settle.specs.Carried.{carried, HasBytes, EncodesCarried, IsProgressAt};
+ghost use Rattle.mr_settle.specs.inner.Carried.{carried, HasBytes, EncodesCarried, IsProgressAt};
 
 use mr_forms::Knowledge;
 use mr_replica::{Event as ReplicaEvent, Replica};

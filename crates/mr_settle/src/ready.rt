@@ -1,9 +1,9 @@
 //! Which end can go on.
 ghost use Rattle.std.specs.Prelude.{IfOk};
 ghost use Rattle.std.specs.List.{AllZip};
-ghost use Rattle.mr_settle.specs.Carried.{IsUpToDate, done_of};
-ghost use Rattle.mr_settle.specs.Named.{given_by};
-ghost use Rattle.mr_settle.specs.Ready.{FindsAt, IsFirstReady, FindsReady};
+ghost use Rattle.mr_settle.specs.inner.Carried.{IsUpToDate, done_of};
+ghost use Rattle.mr_settle.specs.inner.Named.{given_by};
+ghost use Rattle.mr_settle.specs.inner.Ready.{FindsAt, IsFirstReady, FindsReady};
 
 use crate::given::Given;
 use crate::progress::Progress;

@@ -3,7 +3,7 @@ ghost use Rattle.std.specs.Prelude.{IfOk, All};
 ghost use Rattle.std.specs.List.{AllZip};
 ghost use Rattle.mr_settle.specs.History.{IsSpecOf, IsStartOf};
 ghost use Rattle.mr_settle.specs.Explains.{AreDistinct};
-ghost use Rattle.mr_settle.specs.Way.{HasGoodLimit};
+ghost use Rattle.mr_settle.specs.inner.Way.{HasGoodLimit};
 
 use mr_forms::Knowledge;
 use mr_replica::Replica;

@@ -2,11 +2,11 @@
 ghost use Rattle.std.specs.Prelude.{◌≡◌, ◌<◌, IfOk, OnOk, None};
 ghost use Rattle.std.specs.List.{AllZip};
 ghost use Rattle.mr_world.specs.Run.{stop_fault};
-ghost use Rattle.mr_settle.specs.Carried.{IsUpToDate, AreAtStart, done_of};
+ghost use Rattle.mr_settle.specs.inner.Carried.{IsUpToDate, AreAtStart, done_of};
 ghost use Rattle.mr_settle.specs.Explains.{AreDistinct};
-ghost use Rattle.mr_settle.specs.Named.{given_by};
-ghost use Rattle.mr_settle.specs.Ready.{IsReady, FindsReady};
-ghost use Rattle.mr_settle.specs.Way.{TellAll, HappensSo, IsUnderWay, left_over};
+ghost use Rattle.mr_settle.specs.inner.Named.{given_by};
+ghost use Rattle.mr_settle.specs.inner.Ready.{IsReady, FindsReady};
+ghost use Rattle.mr_settle.specs.inner.Way.{TellAll, HappensSo, IsUnderWay, left_over};
 
 use crate::given::Given;
 use crate::progress::Progress;

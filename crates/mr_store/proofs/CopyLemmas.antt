@@ -5,12 +5,12 @@ use Rattle.std.specs.List.{AllZip}
 use Rattle.std.specs.Map.{lookup}
 use Rattle.std.specs.declared.vec.Vec.{Vec}
 use Rattle.mr_version.specs.Name.{Name, name_cmp}
-use Rattle.mr_store.specs.Index.{IsIndexOf}
+use Rattle.mr_store.specs.inner.Index.{IsIndexOf}
 use Rattle.mr_store.specs.Revisions.{AreInVersionOrder}
 use Rattle.mr_store.specs.declared.room.Room.{Room}
 use Rattle.mr_madewith.specs.Revision.{Rev}
-use Rattle.mr_store.specs.GapVector.{GapParts}
-use Rattle.mr_store.specs.RevisionList.{IsRevisionList}
+use Rattle.mr_store.specs.inner.GapVector.{GapParts}
+use Rattle.mr_store.specs.inner.RevisionList.{IsRevisionList}
 use Rattle.mr_store.proofs.IndexLemmas.{no_some}
 
 -- equal revisions, with an index of them that has no room, are a list of a store that has none

@@ -16,7 +16,8 @@ use Rattle.mr_forms.specs.Covered.{has_item, listed_items, all_covered}
 use Rattle.mr_concise.specs.Fragments.{ConciseFragment}
 use Rattle.mr_concise.specs.Vector.{vector_has}
 use Rattle.mr_store.specs.declared.fragment_index.Listing.{Listing}
-use Rattle.mr_store.specs.FragmentIndex.{items_of, is_for, listing_at, listings_of, listings_from, general_of, general_from, has_at, Places, Finds}
+use Rattle.mr_store.specs.FragmentIndex.{items_of, listing_at, listings_of, listings_from, general_of, general_from, Places, Finds}
+use Rattle.mr_store.specs.inner.FragmentIndex.{is_for, has_at}
 
 -- ---- what is covered
 

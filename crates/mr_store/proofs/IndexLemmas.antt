@@ -8,8 +8,9 @@ use Rattle.mr_version.specs.Name.{Name, name_cmp, name_eq}
 use Rattle.mr_madewith.specs.Revision.{Rev}
 use Rattle.mr_forms.specs.Sets.{Versions}
 use Rattle.mr_store.specs.Revisions.{AreInVersionOrder, entered, versions_of, left_by}
-use Rattle.mr_store.specs.Room.{room_of, is_for_later}
-use Rattle.mr_store.specs.Index.{listed_for, IsIndexOf, HasRoomFor, version_inserted, has_later, to_list, stays_listed}
+use Rattle.mr_store.specs.Room.{room_of}
+use Rattle.mr_store.specs.inner.Room.{is_for_later}
+use Rattle.mr_store.specs.inner.Index.{listed_for, IsIndexOf, HasRoomFor, version_inserted, has_later, to_list, stays_listed}
 use Rattle.mr_store.specs.declared.room.Room.{Room}
 use Rattle.mr_madewith.proofs.Rising.{same_names}
 use Rattle.mr_store.proofs.RevisionLemmas.{either, versions_of-entered, versions_of-left_by}

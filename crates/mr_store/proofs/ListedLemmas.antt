@@ -12,8 +12,8 @@ use Rattle.mr_forms.specs.Sets.{Versions, is_listed}
 use Rattle.mr_madewith.specs.Keyed.{without, is_before}
 use Rattle.mr_madewith.proofs.Rising.{same_names, name_eq_self, name_eq-swap, head_before, tail_rises, all_filtered, rises-filter}
 use Rattle.mr_store.specs.Revisions.{AreInVersionOrder, version_of, revision_of, is_of, versions_of, left_by, AreConflicts}
-use Rattle.mr_store.specs.Room.{is_for_later}
-use Rattle.mr_store.specs.Index.{version_inserted, are_several, has_later, to_list, stays_listed}
+use Rattle.mr_store.specs.inner.Room.{is_for_later}
+use Rattle.mr_store.specs.inner.Index.{version_inserted, are_several, has_later, to_list, stays_listed}
 use Rattle.mr_store.specs.declared.room.Room.{Room}
 use Rattle.mr_store.proofs.RevisionLemmas.{either, is_none_of, without-more, is_none_of-more, left_by-listed, filter-all, unlisted_stay}
 

@@ -18,7 +18,8 @@ use Rattle.mr_madewith.specs.Revision.{Rev}
 use Rattle.mr_madewith.specs.Keyed.{is_before}
 use Rattle.mr_madewith.proofs.Rising.{tail_rises, sorted_by_name}
 use Rattle.mr_store.specs.Revisions.{AreInVersionOrder, version_of}
-use Rattle.mr_store.specs.Unheld.{is_unheld, by_vector}
+use Rattle.mr_store.specs.Unheld.{is_unheld}
+use Rattle.mr_store.specs.inner.Unheld.{by_vector}
 
 -- what a slice to the end has
 pub rest_of : (rs : List Rev) (i : ℕ) → take (length rs - i) (drop i rs) ≡ drop i rs

@@ -10,8 +10,8 @@ use Rattle.std.specs.declared.vec.Vec.{Vec}
 use Rattle.mr_version.specs.Name.{Name, name_cmp, name_eq}
 use Rattle.mr_madewith.specs.Keyed.{AreRising}
 use Rattle.mr_madewith.proofs.Rising.{same_names, head_before, tail_rises}
-use Rattle.mr_store.specs.Room.{is_for_later}
-use Rattle.mr_store.specs.Index.{listed_for, HasRoomFor, has_later, stays_listed}
+use Rattle.mr_store.specs.inner.Room.{is_for_later}
+use Rattle.mr_store.specs.inner.Index.{listed_for, HasRoomFor, has_later, stays_listed}
 use Rattle.mr_store.specs.declared.room.Room.{Room}
 use Rattle.mr_store.proofs.IndexLemmas.{items_of_list, HasSpace}
 use Rattle.mr_store.proofs.RevisionLemmas.{either}

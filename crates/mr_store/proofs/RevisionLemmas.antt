@@ -11,9 +11,9 @@ use Rattle.mr_version.specs.Name.{Name, name_cmp, name_eq}
 use Rattle.mr_forms.specs.Sets.{Versions, is_listed}
 use Rattle.mr_madewith.specs.Revision.{Rev}
 use Rattle.mr_madewith.specs.Keyed.{without, is_before}
-use Rattle.mr_madewith.specs.Search.{IsFoundAt, IsGapFor}
+use Rattle.mr_madewith.specs.inner.Search.{IsFoundAt, IsGapFor}
 use Rattle.mr_store.specs.Revisions.{AreInVersionOrder, version_of, revision_of, holds, entered, is_of, versions_of, supersedes, left_by}
-use Rattle.mr_store.specs.Index.{version_inserted}
+use Rattle.mr_store.specs.inner.Index.{version_inserted}
 use Rattle.mr_madewith.proofs.Rising.{name_eq_self, same_names, name_eq-swap, head_before, tail_rises, all_filtered}
 use Rattle.mr_madewith.proofs.Found.{first_place}
 

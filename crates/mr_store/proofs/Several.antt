@@ -9,7 +9,7 @@ use Rattle.std.specs.Option.{option_map, option_map_or}
 use Rattle.mr_version.specs.Name.{Name, name_cmp, name_eq}
 use Rattle.mr_forms.specs.Sets.{is_listed}
 use Rattle.mr_madewith.specs.Keyed.{AreRising}
-use Rattle.mr_store.specs.Index.{are_several}
+use Rattle.mr_store.specs.inner.Index.{are_several}
 use Rattle.mr_madewith.proofs.Rising.{same_names, head_before, tail_rises, rises-filter, all_filtered}
 use Rattle.mr_store.proofs.RevisionLemmas.{either, unlisted_before}
 

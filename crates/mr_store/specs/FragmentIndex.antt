@@ -1,12 +1,9 @@
 -- how fragments are found by item
-use Rattle.std.specs.Prelude.{◌≡◌, ◌+◌, ℕ, Bool, false, List, [], ◌∷◌, ◌++◌, map, Option, Some, None}
-use Rattle.std.specs.Option.{option_map_or}
-use Rattle.std.specs.List.{slice_get}
+use Rattle.std.specs.Prelude.{◌≡◌, ◌+◌, ℕ, List, [], ◌∷◌, ◌++◌, map, Option, Some, None}
 use Rattle.std.specs.List.Sorted.{IsPermutation}
-use Rattle.mr_version.specs.Name.{Name, name_eq}
+use Rattle.mr_version.specs.Name.{Name}
 use Rattle.mr_forms.specs.Covered.{listed_items}
 use Rattle.mr_concise.specs.Fragments.{ConciseFragment}
-use Rattle.mr_concise.specs.Vector.{vector_has}
 use Rattle.mr_store.specs.declared.fragment_index.Listing.{Listing}
 
 -- the items that a fragment lists, or none where it is of all items
@@ -15,10 +12,6 @@ items_of fragment = listed_items fragment.items
 
 abbrev pub item_of : Listing → Name
 item_of listing = listing.item
-
--- whether it is a listing of the item
-abbrev pub is_for : Name → Listing → Bool
-is_for item listing = name_eq listing.item item
 
 -- the listing of an item in the fragment at a place
 abbrev pub listing_at : (place : ℕ) → Name → Listing
@@ -43,10 +36,6 @@ general_of place (Some items) = []
 abbrev pub general_from : (place : ℕ) → List (Option (List Name)) → List ℕ
 general_from place [] = []
 general_from place (items ∷ others) = general_of place items ++ general_from (place + 1) others
-
--- whether the fragment at the place has the version
-abbrev pub has_at : List ConciseFragment → Name → (place : ℕ) → Bool
-has_at fragments v place = option_map_or (λ fragment. vector_has fragment.vector v) (slice_get fragments place) false
 
 -- the places of the fragments of all items, and the listings of the others
 pub record Places : Type 0 where

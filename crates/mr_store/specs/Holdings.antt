@@ -19,12 +19,12 @@ abbrev pub room_in : Part → Holdings → Option Room
 room_in Heads h = h.head_room
 room_in PushOuts h = h.push_out_room
 
--- with room for the revision
+-- the holdings with room for the revision
 abbrev pub with_room : Part → Rev → Holdings → Holdings
 with_room Heads r h = record h { head_room = Some (room_of r) }
 with_room PushOuts r h = record h { push_out_room = Some (room_of r) }
 
--- with one more revision, in the room that there was
+-- the holdings with one more revision, in the room that was made for it
 abbrev pub put_in : Part → Rev → Holdings → Holdings
 put_in Heads r h = record h { heads = entered r h.heads; head_room = None }
 put_in PushOuts r h = record h { push_outs = entered r h.push_outs; push_out_room = None }

@@ -3,10 +3,8 @@ pub mod Leaving
 pub mod Unheld
 pub mod FragmentIndex
 pub mod Room
-pub mod Index
-pub mod GapVector
-pub mod RevisionList
 pub mod Holdings
 pub mod HeldVersions
 pub mod Parts
 pub mod Rows
+pub mod inner

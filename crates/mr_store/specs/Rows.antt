@@ -13,9 +13,11 @@ use Rattle.mr_store.specs.declared.store.Part.TheVariants.{Heads, PushOuts}
 use Rattle.mr_store.specs.Revisions.{versions_of, supersedes, left_by, has_conflict, holds, AreConflicts}
 use Rattle.mr_store.specs.Leaving.{leaves}
 use Rattle.mr_store.specs.Unheld.{is_unheld}
-use Rattle.mr_store.specs.FragmentIndex.{listing_at, listings_from, general_from, has_at}
-use Rattle.mr_store.specs.Index.{version_inserted, are_several, has_later, to_list, stays_listed}
-use Rattle.mr_store.specs.Room.{room_of, is_for_later}
+use Rattle.mr_store.specs.FragmentIndex.{listing_at, listings_from, general_from}
+use Rattle.mr_store.specs.inner.FragmentIndex.{has_at}
+use Rattle.mr_store.specs.inner.Index.{version_inserted, are_several, has_later, to_list, stays_listed}
+use Rattle.mr_store.specs.Room.{room_of}
+use Rattle.mr_store.specs.inner.Room.{is_for_later}
 use Rattle.mr_store.specs.declared.room.Room.{Room}
 use Rattle.mr_store.specs.Holdings.{Holdings, room_in, with_room, put_in}
 use Rattle.mr_store.specs.HeldVersions.{by_held}

@@ -4,7 +4,7 @@ ghost use Rattle.std.specs.List.Sorted.{IsPartitionPoint};
 ghost use Rattle.std.specs.Option.{option_copied};
 ghost use Rattle.mr_version.specs.Name.{name_eq};
 ghost use Rattle.mr_madewith.specs.Keyed.{is_before};
-ghost use Rattle.mr_madewith.specs.Search.{IsFoundAt, IsGapFor};
+ghost use Rattle.mr_madewith.specs.inner.Search.{IsFoundAt, IsGapFor};
 ghost use Rattle.mr_store.specs.Revisions.{AreInVersionOrder, version_of, revision_of, holds, is_of, versions_of};
 
 use mr_madewith::Revision;

@@ -2,12 +2,12 @@
 ghost use Rattle.std.specs.Prelude.{◌≡◌, ◌≤◌, ◌==◌, ◌++◌, not, map, length, filter, true, false, IfOk, OnOk};
 ghost use Rattle.std.specs.List.{list_any, slice_get};
 ghost use Rattle.std.specs.List.Sorted.{IsPermutation, IsPartitionPoint, IsSortedByKey};
-ghost use Rattle.std.specs.Option.{option_copied};
 ghost use Rattle.std.specs.Ordering.{is_lt, is_le};
 ghost use Rattle.mr_version.specs.Name.{name_cmp};
 ghost use Rattle.mr_forms.specs.Covered.{listed_items, all_covered};
 ghost use Rattle.mr_concise.specs.Vector.{vector_has};
-ghost use Rattle.mr_store.specs.FragmentIndex.{items_of, item_of, is_for, listing_at, listings_of, listings_from, general_of, general_from, has_at, Finds};
+ghost use Rattle.mr_store.specs.FragmentIndex.{items_of, item_of, listing_at, listings_of, listings_from, general_of, general_from, Finds};
+ghost use Rattle.mr_store.specs.inner.FragmentIndex.{is_for, has_at};
 
 use mr_concise::ConciseVector;
 use mr_forms::{Fragment, ItemSet, VersionSet};

@@ -23,7 +23,7 @@ pub struct GapVector {
 
 impl Model for GapVector {
     ghost use Rattle.std.specs.Prelude.{◌≤◌, vec_len};
-    ghost use Rattle.mr_store.specs.GapVector.{GapParts, behind_gap};
+    ghost use Rattle.mr_store.specs.inner.GapVector.{GapParts, behind_gap};
 
     ghost Value = { GapParts };
 

@@ -1,6 +1,7 @@
 //! The held ones of some versions, as a source of a made-with set.
-ghost use Rattle.std.specs.Prelude.{◌≡◌, ◌≤◌};
-ghost use Rattle.mr_concise.specs.AnyOf.{in_any, IsPassed};
+ghost use Rattle.std.specs.Prelude.{◌≤◌};
+ghost use Rattle.mr_concise.specs.AnyOf.{in_any};
+ghost use Rattle.mr_concise.specs.inner.AnyOf.{IsPassed};
 ghost use Rattle.mr_forms.specs.Runs.{of_author};
 ghost use Rattle.mr_store.specs.HeldVersions.{by_held};
 

@@ -9,8 +9,8 @@ ghost use Rattle.mr_madewith.specs.Keyed.{is_before};
 ghost use Rattle.mr_madewith.specs.Revision.{Rev};
 ghost use Rattle.mr_store.specs.Leaving.{leaves};
 ghost use Rattle.mr_store.specs.Revisions.{AreInVersionOrder, holds};
-ghost use Rattle.mr_store.specs.Room.{is_for_later};
-ghost use Rattle.mr_store.specs.Index.{listed_for, IsIndexOf, HasRoomFor, has_later, stays_listed, version_inserted, are_several};
+ghost use Rattle.mr_store.specs.inner.Room.{is_for_later};
+ghost use Rattle.mr_store.specs.inner.Index.{listed_for, IsIndexOf, HasRoomFor, has_later, stays_listed, version_inserted, are_several};
 ghost use Rattle.mr_store.specs.declared.room.Room.{Room};
 
 use crate::by_version::{first_of, has_version};

@@ -6,7 +6,7 @@ ghost use Rattle.mr_version.specs.Name.{Name, name_eq};
 ghost use Rattle.mr_forms.specs.Sets.{is_listed};
 ghost use Rattle.mr_concise.specs.Vector.{vector_has};
 ghost use Rattle.mr_madewith.specs.Keyed.{without};
-ghost use Rattle.mr_store.specs.Index.{listed_for, has_later, HasRoomFor};
+ghost use Rattle.mr_store.specs.inner.Index.{listed_for, has_later, HasRoomFor};
 ghost use Rattle.mr_store.specs.Leaving.{leaves};
 ghost use Rattle.mr_store.specs.Revisions.{AreInVersionOrder, version_of, revision_of, holds, entered, versions_of, supersedes, left_by, AreConflicts};
 ghost use Rattle.mr_store.specs.Room.{room_of};
@@ -45,7 +45,7 @@ pub struct RevisionList {
 }
 
 impl Model for RevisionList {
-    ghost use Rattle.mr_store.specs.RevisionList.{RevisionParts, IsRevisionList};
+    ghost use Rattle.mr_store.specs.inner.RevisionList.{RevisionParts, IsRevisionList};
 
     ghost Value = { RevisionParts };
 

@@ -1,7 +1,8 @@
 //! Room for one more revision.
 ghost use Rattle.std.specs.Prelude.{◌≡◌};
 ghost use Rattle.mr_version.specs.Name.{name_eq};
-ghost use Rattle.mr_store.specs.Room.{room_of, is_for_later};
+ghost use Rattle.mr_store.specs.Room.{room_of};
+ghost use Rattle.mr_store.specs.inner.Room.{is_for_later};
 
 use mr_madewith::Revision;
 use mr_version::{ItemId, Version};

@@ -1,6 +1,5 @@
 //! What a full source covers and did not hold.
-ghost use Rattle.std.specs.Prelude.{◌≡◌, ◌≤◌, ◌<◌, ◌++◌, ℕ, List, map, filter, length, true, false, IfOk, MatchOption};
-ghost use Rattle.mr_version.specs.Name.{Name};
+ghost use Rattle.std.specs.Prelude.{◌≡◌, ◌≤◌, ◌<◌, ℕ, List, map, filter, length, true, false, IfOk, MatchOption};
 ghost use Rattle.mr_forms.specs.Runs.{of_author};
 ghost use Rattle.mr_concise.specs.AnyOf.{in_any};
 ghost use Rattle.mr_concise.specs.Fragments.{ConciseFragment};
@@ -9,7 +8,8 @@ ghost use Rattle.mr_concise.specs.Vector.{vector_has};
 ghost use Rattle.mr_concise.specs.declared.vector.AuthorColumn.{AuthorColumn};
 ghost use Rattle.mr_store.specs.FragmentIndex.{items_of, Finds};
 ghost use Rattle.mr_store.specs.Revisions.{AreInVersionOrder};
-ghost use Rattle.mr_store.specs.Unheld.{is_unheld, by_vector};
+ghost use Rattle.mr_store.specs.Unheld.{is_unheld};
+ghost use Rattle.mr_store.specs.inner.Unheld.{by_vector};
 
 use crate::FragmentIndex;
 use crate::by_version::place_before;

@@ -8,7 +8,7 @@ use Rattle.std.specs.Cmp.Lexicographic.{texts_ties, nat_list_cmp_total}
 use Rattle.mr_version.specs.Name.{Name, name_eq}
 use Rattle.mr_version.specs.Order.{names_total}
 use Rattle.mr_mail.specs.Label.{text_cmp, text_eq, has_label}
-use Rattle.mr_subs.specs.Index.{is_place}
+use Rattle.mr_subs.specs.inner.Index.{is_place}
 use Rattle.mr_subs.proofs.ShelfLemmas.{same_label}
 
 either : (a b : Bool) → (a || (b || false)) ≡ true → (a ≡ true) ⊎ (b ≡ true)

@@ -8,7 +8,8 @@ use Rattle.std.proofs.lemmas.Map.Lookups.{exact_bytes}
 use Rattle.mr_version.specs.Name.{Name, name_eq}
 use Rattle.mr_mail.specs.Label.{text_cmp}
 use Rattle.mr_feed.specs.Fold.{is_listed}
-use Rattle.mr_subs.specs.Index.{set_has, shelf, on_shelf, is_place}
+use Rattle.mr_subs.specs.Index.{set_has, shelf, on_shelf}
+use Rattle.mr_subs.specs.inner.Index.{is_place}
 
 equal_of : (o : Ordering) → is_eq o ≡ true → o ≡ Equal
 equal_of Less h = cc

@@ -1,13 +1,20 @@
 -- the unseen versions after one entry
+use Rattle.std.specs.Prelude.{if◌then◌else◌}
 use Rattle.std.proofs.Common.{◌≡◌, Bool, true, false, cond, ap, sym, ◌∙◌, refl, List, [], ◌∷◌, Option}
 use Rattle.mr_version.specs.Name.{Name, name_eq}
 use Rattle.mr_mail.specs.Mail.{MailCard}
 use Rattle.mr_model.specs.Headline.{Cards, fold_from}
 use Rattle.mr_feed.specs.declared.entry.Entry.{Entry}
+use Rattle.mr_feed.specs.declared.entry.Entry.TheVariants.{Added, Dropped}
 use Rattle.mr_feed.specs.Entry.{told, entry_version}
 use Rattle.mr_feed.specs.Fold.{is_listed}
-use Rattle.mr_subs.specs.Subscriber.{card_added, fold_from-entry}
+use Rattle.mr_feed.specs.inner.Entry.{card_added}
 use Rattle.mr_subs.specs.Unseen.{lacks_seen, ListsUnseen}
+
+-- an entry changes the card of its version alone
+fold_from-entry : (cards : Cards MailCard) (entry : Entry) (v : Name) → fold_from cards (told (entry ∷ [])) v ≡ (if name_eq (entry_version entry) v then card_added entry else cards v)
+fold_from-entry cards (Added item version card) v = refl
+fold_from-entry cards (Dropped item version) v = refl
 
 lacks_seen-cond : (b : Bool) (x y : Option MailCard) → lacks_seen (cond b x y) ≡ cond b (lacks_seen x) (lacks_seen y)
 lacks_seen-cond true x y = refl

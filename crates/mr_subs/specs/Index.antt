@@ -1,5 +1,5 @@
 -- which versions have a label
-use Rattle.std.specs.Prelude.{◌≡◌, ℕ, ◌&&◌, Bool, false, IsTrue, List, Option, Some, None}
+use Rattle.std.specs.Prelude.{◌≡◌, ℕ, Bool, false, IsTrue, List, Option, Some, None}
 use Rattle.std.specs.Ordering.{is_eq}
 use Rattle.std.specs.Map.{lookup}
 use Rattle.std.specs.BTreeSet.{BTreeSet}
@@ -40,10 +40,6 @@ shelf shelves label = lookup (λ own. is_eq (text_cmp label own)) shelves
 -- the version stands under the label
 abbrev pub on_shelf : List (List ℕ × BTreeSet Name) → List ℕ → Versions
 on_shelf shelves label v = set_has (shelf shelves label) v
-
--- it is this label and this version
-abbrev pub is_place : List ℕ → Name → List ℕ → Name → Bool
-is_place label version q v = is_eq (text_cmp label q) && name_eq version v
 
 -- each version stands on the shelf of each of its card's labels
 abbrev pub AreShelved : List (Name × MailCard) → List (List ℕ × BTreeSet Name) → Type 0

@@ -2,3 +2,4 @@ pub mod Subscriber
 pub mod Unseen
 pub mod Index
 pub mod Rows
+pub mod inner

@@ -8,9 +8,11 @@ use Rattle.mr_feed.specs.declared.entry.Entry.{Entry}
 use Rattle.mr_feed.specs.declared.entry.Entry.TheVariants.{Added, Dropped}
 use Rattle.mr_feed.specs.Entry.{told}
 use Rattle.mr_feed.specs.Fold.{is_listed}
-use Rattle.mr_subs.specs.Index.{labelled, card_at, is_place}
+use Rattle.mr_subs.specs.Index.{labelled, card_at}
+use Rattle.mr_subs.specs.inner.Index.{is_place}
 use Rattle.mr_subs.specs.Unseen.{unseen_in, HasCount}
-use Rattle.mr_subs.specs.Subscriber.{card_added, pending}
+use Rattle.mr_subs.specs.Subscriber.{pending}
+use Rattle.mr_feed.specs.inner.Entry.{card_added}
 
 abbrev name : ℕ → ℕ → Name
 name author counter = record { author = author; counter = counter }

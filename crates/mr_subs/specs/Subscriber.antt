@@ -1,12 +1,10 @@
 -- what a subscriber keeps, and what its calls make of it
-use Rattle.std.specs.Prelude.{◌≡◌, Bool, refl, if◌then◌else◌, IsTrue, IsFalse, IsSome, List, [], ◌∷◌, ◌++◌, Option, Some, None}
+use Rattle.std.specs.Prelude.{◌≡◌, Bool, IsTrue, IsFalse, IsSome, List, [], ◌∷◌, ◌++◌, Option, Some, None}
 use Rattle.std.specs.Option.{option_to_list}
 use Rattle.mr_mail.specs.Mail.{MailCard}
 use Rattle.mr_model.specs.Headline.{Cards, fold, fold_from, no_cards}
 use Rattle.mr_feed.specs.declared.entry.Entry.{Entry}
-use Rattle.mr_feed.specs.declared.entry.Entry.TheVariants.{Added, Dropped}
-use Rattle.mr_feed.specs.Entry.{told, told_entry, entry_version}
-use Rattle.mr_version.specs.Name.{Name, name_eq}
+use Rattle.mr_feed.specs.Entry.{told, told_entry}
 use Rattle.mr_feed.specs.Fold.{fold_from-append}
 use Rattle.std.proofs.Common.{ap, sym, subst, ◌∙◌}
 use Rattle.std.proofs.lemmas.List.{map-append}
@@ -25,11 +23,6 @@ ShowsFold shows s entries = shows s (fold (told entries))
 -- s becomes t by these entries: where s shows some cards, t shows what the entries make of them
 abbrev pub Applies : {F : Type 0} → (F → Cards MailCard → Type 0) → F → List Entry → F → Type 0
 Applies shows s entries t = (cards : Cards MailCard) → shows s cards → shows t (fold_from cards (told entries))
-
--- the card that an entry gives its version
-abbrev pub card_added : Entry → Option MailCard
-card_added (Added item version card) = Some card
-card_added (Dropped item version) = None
 
 -- how a drain ended
 abbrev pub EndedSo : {P : Type 0} → (P → Bool) → (P → Type 0) → P → Drained → Type 0
@@ -73,10 +66,3 @@ Applies-append shows s t u xs ys h k cards p =
 pub ShowsFold-append : {F : Type 0} (shows : F → Cards MailCard → Type 0) (s t : F) (xs ys : List Entry) → ShowsFold shows s xs → Applies shows s ys t → ShowsFold shows t (xs ++ ys)
 ShowsFold-append shows s t xs ys h k =
     subst (shows t) (sym (ap fold (map-append told_entry xs ys) ∙ fold_from-append no_cards (told xs) (told ys))) (k (fold (told xs)) h)
-
--- ---- one entry
-
--- an entry changes the card of its version alone
-pub fold_from-entry : (cards : Cards MailCard) (entry : Entry) (v : Name) → fold_from cards (told (entry ∷ [])) v ≡ (if name_eq (entry_version entry) v then card_added entry else cards v)
-fold_from-entry cards (Added item version card) v = refl
-fold_from-entry cards (Dropped item version) v = refl

@@ -2,7 +2,7 @@
 ghost use Rattle.std.specs.Prelude.{◌≡◌, length};
 ghost use Rattle.mr_mail.specs.Mail.{MailCard};
 ghost use Rattle.mr_model.specs.Headline.{Cards};
-ghost use Rattle.mr_subs.specs.Subscriber.{card_added};
+ghost use Rattle.mr_feed.specs.inner.Entry.{card_added};
 ghost use Rattle.mr_subs.specs.Unseen.{ListsUnseen, HasCount, unseen_in, lacks_seen};
 
 use crate::subscriber::{Fold, Subscriber};

@@ -2,7 +2,8 @@
 ghost use Rattle.std.specs.Prelude.{◌≡◌, ℕ, true, false, if◌then◌else◌, IsTrue, IsFalse, List, OnOk, OnErr};
 ghost use Rattle.mr_version.specs.Name.{Name, name_eq};
 ghost use Rattle.mr_mail.specs.Label.{has_label};
-ghost use Rattle.mr_subs.specs.Index.{on_shelf, is_place};
+ghost use Rattle.mr_subs.specs.Index.{on_shelf};
+ghost use Rattle.mr_subs.specs.inner.Index.{is_place};
 
 use mr_mail::Label;
 use mr_version::Version;

@@ -17,7 +17,8 @@ use Rattle.mr_wire.specs.FrameSpelling.{frame_bytes}
 use Rattle.mr_wire.specs.Frames.{Question}
 use Rattle.mr_wire.specs.declared.frame.Frame.TheVariants as frame
 use Rattle.mr_sync.specs.declared.fault.SyncFault.{SyncFault}
-use Rattle.mr_sync.specs.Asking.{IsPullOf, asked, last_asked}
+use Rattle.mr_sync.specs.Asking.{IsPullOf}
+use Rattle.mr_sync.specs.inner.Asking.{asked, last_asked}
 
 -- the request behind other replies is the last one
 pub last_is : (replies : List Reply) (question : Question) → last_asked (replies ++ Asked question ∷ []) ≡ Some question

@@ -14,7 +14,7 @@ use Rattle.mr_replica.proofs.Replaying.{step_log}
 use Rattle.mr_kept.specs.declared.fault.KeptFault.{KeptFault}
 use Rattle.mr_kept.specs.declared.fault.KeptFault.TheVariants.{OutOfMemory, Refused, Failed, TooLarge}
 use Rattle.mr_kept.specs.Answered.{Answered}
-use Rattle.mr_sync.specs.Taken.{GrowsOnlyBy}
+use Rattle.mr_sync.specs.inner.Taken.{GrowsOnlyBy}
 
 all_append : (P : Event → Type 0) (xs ys : List Event) → AllByRecursion P xs → AllByRecursion P ys → AllByRecursion P (xs ++ ys)
 all_append P [] ys a b = b

@@ -1,6 +1,6 @@
 -- what a host says: whether there are some, as a test, and answers as the other side is told them
 use Rattle.std.proofs.Common.{◌≡◌, ◌==◌, ◌↔◌, ℕ, Bool, true, false, not, IsTrue, ap, refl, sym}
-use Rattle.std.specs.Prelude.{Result, Ok, Err, IfErr, IfOk, IsErr, OnErr}
+use Rattle.std.specs.Prelude.{Result, Ok, Err, IfErr, IsErr, OnErr}
 use Rattle.mr_talk.specs.declared.side.HostFault.{HostFault}
 use Rattle.mr_sync.specs.declared.fault.SyncFault.{SyncFault}
 use Rattle.mr_sync.specs.Fault.{IsToldFor, sync_fault_number}

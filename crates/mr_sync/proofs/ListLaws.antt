@@ -15,7 +15,8 @@ use Rattle.mr_wire.proofs.PartLaws.{reads_name}
 use Rattle.mr_sync.specs.declared.fault.SyncFault.{SyncFault}
 use Rattle.mr_sync.specs.declared.fault.SyncFault.TheVariants.{OutOfMemory, BadList}
 use Rattle.mr_sync.specs.declared.lists.PushOut.{PushOut}
-use Rattle.mr_sync.specs.Lists.{IsDigest, IsPushOut, ReadsList, begin_at, digest_at, list_at, push_out_at, push_out_bytes, revision_bytes, whole_list_of}
+use Rattle.mr_sync.specs.Lists.{IsDigest, IsPushOut, ReadsList, push_out_bytes, revision_bytes}
+use Rattle.mr_sync.specs.inner.Lists.{begin_at, digest_at, list_at, push_out_at, whole_list_of}
 
 -- nothing is left, or something
 more_left : {X : Type 0} (xs ys : List X) (b : ℕ) (rest : List ℕ) → ◌≢◌ {A = Option (List X × List ℕ)} (Some (xs, b ∷ rest)) (Some (ys, []))

@@ -1,5 +1,5 @@
 -- marks: what bytes and logs say of them
-use Rattle.std.proofs.Common.{◌≡◌, ◌≢◌, ◌↔◌, ◌≤◌, ◌<◌, ◌^◌, ◌⊎◌, inl, inr, ℕ, Bool, true, false, IsTrue, List, ◌++◌, length, take, drop, Option, Some, None, refl, sym, ap, subst, ◌∙◌, append_assoc, arith}
+use Rattle.std.proofs.Common.{◌≡◌, ◌≢◌, ◌↔◌, ◌≤◌, ◌<◌, ◌^◌, inl, inr, ℕ, Bool, true, false, IsTrue, List, ◌++◌, length, take, drop, Option, Some, None, refl, sym, ap, subst, ◌∙◌, append_assoc}
 use Rattle.std.specs.Prelude.{MatchBool, MatchOption}
 use Rattle.std.specs.Borrow.{Bor}
 use Rattle.std.specs.Option.{option_copied}
@@ -12,7 +12,7 @@ use Rattle.mr_mail.specs.Mail.{Mail}
 use Rattle.mr_talk.proofs.MessageLaws.{IsBytes, bytes_take}
 use Rattle.mr_lookup.specs.Told.{message_at}
 use Rattle.mr_sync.specs.declared.marks.Mark.{Mark}
-use Rattle.mr_sync.specs.Marks.{AgreesWith, IsMarked, MarksOwn, Tells, TellsNoneOf, message_short}
+use Rattle.mr_sync.specs.Marks.{AgreesWith, IsMarked, Tells, TellsNoneOf, message_short}
 
 -- bytes that are cut behind the fourth and the twentieth are a mark and what is behind it
 pub cut_marked : (bytes four rest short frame : List ℕ) (counter : ℕ) → IsBytes bytes → four ≡ take 4 bytes → rest ≡ drop 4 bytes → 4 ≤ length bytes →

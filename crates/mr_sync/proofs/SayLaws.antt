@@ -7,7 +7,7 @@ use Rattle.std.proofs.lemmas.List.Elements.{filter_map-append}
 use Rattle.std.proofs.lemmas.Grind.{flat_map-append}
 use Rattle.mr_compare.proofs.ListLemmas.{take_one}
 use Rattle.mr_replica.specs.declared.event.Reply.{Reply}
-use Rattle.mr_sync.specs.Said.{FrontIs}
+use Rattle.mr_sync.specs.inner.Said.{FrontIs}
 
 -- one reply more
 pub one_more : (f : Reply → Option (List ℕ)) (replies : List Reply) (i : ℕ) (x : Reply) (start old new : List (List ℕ)) → old ≡ start ++ filter_map f (take i replies) → i < length replies → x ≡ get_or replies i x → new ≡ old ++ filter_map f (x ∷ []) → new ≡ start ++ filter_map f (take (i + 1) replies)

@@ -9,7 +9,7 @@ use Rattle.mr_talk.specs.declared.hello.Hello.{Hello}
 use Rattle.mr_sync.specs.declared.fault.SyncFault.{SyncFault}
 use Rattle.mr_sync.specs.declared.fault.SyncFault.TheVariants.{OutOfMemory, Kept, NotMet, Frame, OtherFrame, OtherSide, BadList, OtherHistory}
 use Rattle.mr_sync.specs.Asking.{Answers, IsAnswerFault, IsAskFault, IsMetAskFault, IsOwnMarked, TakesAsk}
-use Rattle.mr_sync.specs.Marks.{IsMarkFault}
+use Rattle.mr_sync.specs.inner.Marks.{IsMarkFault}
 
 -- what holds of a fault holds of an answer that passes it on
 pub passed_on : {T : Type 0} (P : SyncFault → Type 0) (fault : SyncFault) (r : Result T SyncFault) → IsErrAnd r (λ e. e ≡ fault) → P fault → IfErr r P

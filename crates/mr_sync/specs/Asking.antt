@@ -1,12 +1,11 @@
 -- requests
-use Rattle.std.specs.Prelude.{◌≡◌, ◌-◌, ◌<◌, ℕ, List, length, slice_get, Option, Some, None, option_and_then, option_map, Ok}
+use Rattle.std.specs.Prelude.{◌≡◌, ◌<◌, ℕ, List, length, Option, Some, None, option_map, Ok}
 use Rattle.mr_itemset.specs.Normal.{Normal}
 use Rattle.mr_itemset.specs.Sparing.{sparing_form}
 use Rattle.mr_lookup.specs.Versions.{versions_told}
 use Rattle.mr_replica.specs.State.{State}
 use Rattle.mr_replica.specs.Step.{Steps}
 use Rattle.mr_replica.specs.declared.event.Event.TheVariants.{Answer, Pull}
-use Rattle.mr_replica.specs.declared.event.Reply.{Reply}
 use Rattle.mr_replica.specs.declared.event.Reply.TheVariants.{Asked, Streaming}
 use Rattle.mr_talk.specs.declared.hello.Hello.{Hello}
 use Rattle.mr_wire.specs.FrameSpelling.{frame_bytes}
@@ -32,15 +31,6 @@ pub record IsMarkedPull (old : State Normal) (other : ℕ) (bytes : List ℕ) (n
   pub marked : IsMarked bytes mark pull
   pub mark_is : IsMarkOf (versions_told old.id old.log) other mark
   pub pulled : IsPullOf old pull new
-
--- the request that a reply is
-abbrev pub asked : Reply → Option Question
-asked (Asked question) = Some question
-asked reply = None
-
--- the request that the last of these replies is
-abbrev pub last_asked : List Reply → Option Question
-last_asked replies = option_and_then asked (slice_get replies (length replies - 1))
 
 -- the bytes spell a request of the target, for which the replica has opened a stream
 pub record Answers (old : State Normal) (target : ℕ) (bytes : List ℕ) (new : State Normal) : Type 0 where

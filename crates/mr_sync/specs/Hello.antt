@@ -19,8 +19,6 @@ use Rattle.mr_talk.specs.declared.peer.Met.{Met}
 use Rattle.mr_talk.specs.declared.peer.Standing.TheVariants as standing
 use Rattle.mr_talk.specs.Peer.{HasNothingToTell, Stands}
 use Rattle.mr_sync.specs.Marks.{Tells, TellsNoneOf}
-use Rattle.mr_sync.specs.declared.fault.SyncFault.{SyncFault}
-use Rattle.mr_sync.specs.declared.fault.SyncFault.TheVariants.{Itself, SameId, Renewed, PeerIsOldCopy, OldCopy, PeerWentOn}
 
 -- a clause with no condition, which each message meets, and a filter that has one, as `all` has
 abbrev pub is_free : ClauseParts → Bool
@@ -33,7 +31,7 @@ keeps_all = list_any is_free
 abbrev pub IsTop : Pairs → (author counter : ℕ) → Type 0
 IsTop known author counter = IsHighest known author counter ⊎ (HasNone known author × (counter ≡ 0))
 
--- the same where there may be nobody
+-- the highest counter that is known among an author's versions; 0 where there is no author
 abbrev pub IsTopOf : Normal → Option ℕ → ℕ → Type 0
 IsTopOf k None counter = counter ≡ 0
 IsTopOf k (Some author) counter = IsTop (normal_known k) author counter
@@ -48,7 +46,7 @@ pub record IsDigestFront (size : ℕ) (k : Normal) (front : List ℕ) : Type 0 w
 abbrev pub tip_of : Mail → List ℕ
 tip_of message = take 4 (sha256 (message_bytes message))
 
--- those of the message of an author's version, if one is told of it
+-- the first bytes of the digest of the message of an author's version, if one is told of it
 abbrev pub IsTip : List (Name × Mail) → (author counter : ℕ) → Option (List ℕ) → Type 0
 IsTip told author counter None = TellsNoneOf told author counter
 IsTip told author counter (Some tip) = (message : Mail) × Tells told author counter message × (tip ≡ tip_of message)
@@ -71,16 +69,6 @@ pub record IsHelloOf (birth : List ℕ) (s : State Normal) (lacks : Bool) (their
 -- a meeting as a talk compares it
 abbrev pub met_by : Meeting → Met
 met_by m = record { birth = m.birth; mine = take 12 m.mine; theirs = take 12 m.theirs }
-
--- why nothing may be told, and the replica that has to become another
-abbrev pub StandsInTheWay : Hello → Hello → (tip : Option (List ℕ)) → Option Met → SyncFault → Type 0
-StandsInTheWay mine theirs tip met (Itself id) = Stands mine theirs mine.known tip met standing.Itself × (id ≡ mine.id)
-StandsInTheWay mine theirs tip met (SameId id) = Stands mine theirs mine.known tip met standing.SameId × (id ≡ mine.id)
-StandsInTheWay mine theirs tip met (Renewed id) = Stands mine theirs mine.known tip met standing.Renewed × (id ≡ theirs.id)
-StandsInTheWay mine theirs tip met (PeerIsOldCopy id) = Stands mine theirs mine.known tip met standing.PeerIsOldCopy × (id ≡ theirs.id)
-StandsInTheWay mine theirs tip met (OldCopy id) = Stands mine theirs mine.known tip met standing.OldCopy × (id ≡ mine.id)
-StandsInTheWay mine theirs tip met (PeerWentOn id) = Stands mine theirs mine.known tip met standing.PeerWentOn × (id ≡ theirs.id)
-StandsInTheWay mine theirs tip met fault = ⊥
 
 -- nothing stands in the way, by the hello that the replica has for the other side, and whether there is something to tell
 pub record Judges (birth : List ℕ) (s : State Normal) (lacks : Bool) (theirs : Hello) (met : Option Met) (is_idle : Bool) : Type 0 where

@@ -49,7 +49,7 @@ module _ {D F : Type 0} where
     pub files_are : files_of new ≡ files_of old
     pub meetings_are : meetings_of new ≡ meetings_of old
 
-  -- and so are the files that it lacks
+  -- what the folder was opened with is as it was, and so are the files that it lacks
   pub record SameFolder (old new : FolderHost D F) : Type 0 where
     pub parts : SameParts old new
     pub lacking : lacking_of new ≡ lacking_of old

@@ -1,14 +1,8 @@
 pub mod Asking
-pub mod Ending
 pub mod Fault
 pub mod Hello
 pub mod Host
 pub mod Lists
 pub mod Marks
-pub mod Named
 pub mod Rows
-pub mod Said
-pub mod Sending
-pub mod Taken
-pub mod Telling
-pub mod Vouching
+pub mod inner

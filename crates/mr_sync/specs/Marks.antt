@@ -1,5 +1,5 @@
 -- marks of histories: which version of a replica another's log tells as the newest, and by what message
-use Rattle.std.specs.Prelude.{◌≡◌, ◌⊎◌, ◌<◌, ◌^◌, ℕ, List, ◌++◌, length, take, replicate, Option, Some}
+use Rattle.std.specs.Prelude.{◌≡◌, ◌⊎◌, ◌<◌, ◌^◌, ℕ, List, ◌++◌, length, take, replicate, Some}
 use Rattle.std.specs.Int.{w32, to_be_bytes}
 use Rattle.sha2.specs.Sha256.{sha256}
 use Rattle.mr_version.specs.Name.{IsVersion, Name}
@@ -7,10 +7,7 @@ use Rattle.mr_mail.specs.Mail.{Mail}
 use Rattle.mr_lookup.specs.Told.{message_at}
 use Rattle.mr_lookup.specs.Versions.{IsNewest, TellsNone}
 use Rattle.mr_wire.specs.Spelling.{message_bytes}
-use Rattle.mr_sync.specs.declared.fault.SyncFault.{SyncFault}
-use Rattle.mr_sync.specs.declared.fault.SyncFault.TheVariants.{OutOfMemory, BadList, OtherHistory}
 use Rattle.mr_sync.specs.declared.marks.Mark.{Mark}
-use Rattle.mr_sync.specs.declared.marks.TheConstants.{MARK_BYTES}
 
 -- the first bytes of a message's digest
 abbrev pub message_short : Mail → List ℕ
@@ -49,7 +46,7 @@ pub record Tells (told : List (Name × Mail)) (author counter : ℕ) (message : 
   pub is_version : IsVersion author counter
   pub is_told : message_at told (record { author = author; counter = counter }) ≡ Some message
 
--- and with none
+-- the author's version of that counter is told with no message
 abbrev pub TellsNoneOf : List (Name × Mail) → (author counter : ℕ) → Type 0
 TellsNoneOf told author counter = (message : Mail) → Tells told author counter message → ⊥
 
@@ -75,10 +72,3 @@ pub record HasOtherMark (id : ℕ) (told : List (Name × Mail)) (bytes : List �
   pub frame : List ℕ
   pub marked : IsMarked bytes mark frame
   pub differs : AgreesWith id told mark → ⊥
-
--- why there is no frame behind a mark of its history
-abbrev pub IsMarkFault : (id : ℕ) → List (Name × Mail) → (bytes : List ℕ) → SyncFault → Type 0
-IsMarkFault id told bytes OutOfMemory = Unit {0}
-IsMarkFault id told bytes BadList = length bytes < MARK_BYTES
-IsMarkFault id told bytes (OtherHistory other) = (other ≡ id) × HasOtherMark id told bytes
-IsMarkFault id told bytes fault = ⊥

@@ -1,5 +1,5 @@
 -- worked rows: what the definitions give for small values
-use Rattle.std.specs.Prelude.{◌≡◌, [], ◌∷◌, ◌++◌, replicate, true, false, None, refl}
+use Rattle.std.specs.Prelude.{◌≡◌, [], ◌∷◌, replicate, true, false, None, refl}
 use Rattle.std.proofs.Common.{inl, inr, lit<, lit≤}
 use Rattle.mr_mail.specs.Mail.{Mail}
 use Rattle.mr_lookup.specs.Told.{message_at, own_name}
@@ -7,13 +7,14 @@ use Rattle.mr_filter.specs.Filter.{clause_with}
 use Rattle.mr_replica.specs.declared.event.Reply.TheVariants.{Took}
 use Rattle.mr_talk.specs.declared.turn.Turn.TheVariants.{CallerSettles, CalledCloses}
 use Rattle.mr_sync.specs.declared.fault.SyncFault.TheVariants.{OutOfMemory, BadList, PeerWentOn}
-use Rattle.mr_sync.specs.Asking.{last_asked}
-use Rattle.mr_sync.specs.Ending.{is_last}
+use Rattle.mr_sync.specs.inner.Asking.{last_asked}
+use Rattle.mr_sync.specs.inner.Ending.{is_last}
 use Rattle.mr_sync.specs.Fault.{sync_fault_number}
 use Rattle.mr_sync.specs.Hello.{is_free, keeps_all}
 use Rattle.mr_sync.specs.Lists.{push_out_bytes}
-use Rattle.mr_sync.specs.Marks.{AgreesWith, IsMarkFault, IsMarkOf, mark_bytes, message_short}
-use Rattle.mr_sync.specs.Said.{receipt_frames, record_frames}
+use Rattle.mr_sync.specs.Marks.{AgreesWith, IsMarkOf, mark_bytes, message_short}
+use Rattle.mr_sync.specs.inner.Marks.{IsMarkFault}
+use Rattle.mr_sync.specs.inner.Said.{receipt_frames, record_frames}
 
 -- a push-out takes twelve bytes, the highest of each number first
 pub push_out_spelled : push_out_bytes (record { item = record { author = 1; counter = 2 }; version = record { author = 63; counter = 1000000 } }) ≡ 0 ∷ 1 ∷ 0 ∷ 0 ∷ 0 ∷ 2 ∷ 0 ∷ 63 ∷ 0 ∷ 15 ∷ 66 ∷ 64 ∷ []

@@ -3,8 +3,9 @@ ghost use Rattle.std.specs.Prelude.{◌≡◌, ℕ, true, IfErr, IfOk, IfSome, M
 ghost use Rattle.mr_kept.specs.Kept.{nothing_waits, replica_of};
 ghost use Rattle.mr_wire.specs.FrameSpelling.{frame_bytes};
 ghost use Rattle.mr_wire.specs.Grammar.{Spells};
-ghost use Rattle.mr_sync.specs.Asking.{Answers, IsAnswerFault, IsAskFault, IsMarkedPull, IsPullOf, TakesAsk, last_asked};
-ghost use Rattle.mr_sync.specs.Taken.{IsNoAskOf};
+ghost use Rattle.mr_sync.specs.Asking.{Answers, IsAnswerFault, IsAskFault, IsMarkedPull, IsPullOf, TakesAsk};
+ghost use Rattle.mr_sync.specs.inner.Asking.{last_asked};
+ghost use Rattle.mr_sync.specs.inner.Taken.{IsNoAskOf};
 
 use crate::fault::SyncFault;
 use crate::marks::{mark_of, marked, own_marked};

@@ -1,7 +1,7 @@
 //! The end of a turn.
-ghost use Rattle.std.specs.Prelude.{◌≡◌, ◌↔◌, IfOk, IsTrue, MatchOption, MatchResult, false, take};
+ghost use Rattle.std.specs.Prelude.{◌≡◌, ◌↔◌, IfOk, IsTrue, MatchOption, MatchResult, take};
 ghost use Rattle.mr_kept.specs.Kept.{replica_of};
-ghost use Rattle.mr_sync.specs.Ending.{HasNothingOpen, IsUnfinished, MayEnd, is_last};
+ghost use Rattle.mr_sync.specs.inner.Ending.{HasNothingOpen, IsUnfinished, MayEnd, is_last};
 ghost use Rattle.mr_sync.specs.Hello.{IsDigestFront};
 
 use crate::fault::SyncFault;

@@ -1,5 +1,5 @@
 //! Files that come, piece by piece.
-ghost use Rattle.std.specs.Prelude.{◌≡◌, ◌+◌, ◌++◌, ◌≤◌, ℕ, List, [], Some, IsTrue, IfOk, OnOk, length};
+ghost use Rattle.std.specs.Prelude.{◌≡◌, ◌+◌, ◌++◌, ℕ, List, [], Some, IsTrue, IfOk, OnOk, length};
 ghost use Rattle.sha2.specs.Sha256.{sha256};
 ghost use Rattle.mr_folder.specs.Inside.{draft_path, stored_path};
 ghost use Rattle.mr_folder.specs.Store.{HasCome, IsKept, IsSound, OnlyStored, StaysSound};

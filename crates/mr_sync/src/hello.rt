@@ -1,7 +1,6 @@
 //! What a folder says of itself, and what the other side is to it.
-ghost use Rattle.std.specs.Prelude.{◌≡◌, ◌==◌, ◌||◌, ℕ, not, length, take, IfOk, MatchBool, MatchResult, Some, None, option_map, unwrap_or};
+ghost use Rattle.std.specs.Prelude.{◌≡◌, ◌==◌, ◌||◌, take, IfOk, MatchBool, MatchResult, Some, None, option_map};
 ghost use Rattle.std.specs.BTreeMap.{get};
-ghost use Rattle.std.specs.List.{list_any};
 ghost use Rattle.std.specs.Option.{option_copied};
 ghost use Rattle.std.specs.Ordering.{nat_cmp};
 ghost use Rattle.mr_itemset.specs.Normal.{normal_known};
@@ -9,7 +8,8 @@ ghost use Rattle.mr_kept.specs.Kept.{head_of, replica_of};
 ghost use Rattle.mr_lookup.specs.Versions.{versions_told};
 ghost use Rattle.mr_talk.specs.Peer.{HasNothingToTell, Stands};
 ghost use Rattle.mr_talk.specs.declared.peer.Standing.TheVariants.{Good};
-ghost use Rattle.mr_sync.specs.Hello.{IsDigestFront, IsHelloOf, IsTip, IsTop, IsTopOf, Judges, StandsInTheWay, is_free, keeps_all, met_by, tip_of};
+ghost use Rattle.mr_sync.specs.Hello.{IsDigestFront, IsHelloOf, IsTip, IsTop, IsTopOf, Judges, is_free, keeps_all, met_by, tip_of};
+ghost use Rattle.mr_sync.specs.inner.Hello.{StandsInTheWay};
 
 use crate::fault::SyncFault;
 use crate::marks::message_told;

@@ -1,11 +1,10 @@
 //! Lists in messages: digests of files, and items with versions that wait for a receipt.
-ghost use Rattle.std.specs.Prelude.{◌≡◌, ◌<◌, ◌≤◌, ◌^◌, ◌++◌, ◌*◌, ℕ, List, length, map, Some, IfOk, IfSome, OnOk};
+ghost use Rattle.std.specs.Prelude.{◌≡◌, ◌<◌, ◌≤◌, ◌^◌, ◌++◌, ◌*◌, ℕ, List, length, Some, IfOk, IfSome, OnOk};
 ghost use Rattle.std.specs.List.{flat_map};
-ghost use Rattle.std.specs.Int.{w64};
-ghost use Rattle.mr_wire.specs.Reading.{Finds, Gives, as_at, bytes_at, number_at, then_at};
-ghost use Rattle.mr_wire.specs.Spelling.{u64, name_bytes};
-ghost use Rattle.mr_sync.specs.Lists.{IsDigest, IsPushOut, ReadsList, TakesFront, begin_at, digest_at, list_at, push_out_at, push_out_bytes, revision_bytes, whole_list_of};
-ghost use Rattle.mr_sync.specs.declared.fault.SyncFault.TheVariants.{OutOfMemory};
+ghost use Rattle.mr_wire.specs.Reading.{Finds, Gives};
+ghost use Rattle.mr_wire.specs.Spelling.{u64};
+ghost use Rattle.mr_sync.specs.Lists.{IsDigest, IsPushOut, ReadsList, push_out_bytes, revision_bytes};
+ghost use Rattle.mr_sync.specs.inner.Lists.{TakesFront, begin_at, digest_at, list_at, push_out_at, whole_list_of};
 
 use crate::fault::SyncFault;
 use mr_compare::Digest;

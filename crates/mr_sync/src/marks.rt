@@ -2,7 +2,8 @@
 ghost use Rattle.std.specs.Prelude.{◌≡◌, ◌<◌, length, IfNone, IfOk, IfSome, MatchBool, MatchOption, MatchResult};
 ghost use Rattle.mr_lookup.specs.Versions.{versions_told};
 ghost use Rattle.mr_version.specs.Name.{IsVersion};
-ghost use Rattle.mr_sync.specs.Marks.{AgreesWith, HasOwnMark, IsMarkFault, IsMarkOf, IsMarked, Tells, TellsNoneOf, message_short};
+ghost use Rattle.mr_sync.specs.Marks.{AgreesWith, HasOwnMark, IsMarkOf, IsMarked, Tells, TellsNoneOf, message_short};
+ghost use Rattle.mr_sync.specs.inner.Marks.{IsMarkFault};
 
 use crate::fault::SyncFault;
 use crate::hello::short_of;

@@ -1,8 +1,8 @@
 //! Files that records name, but for those of mail that is gone.
-ghost use Rattle.std.specs.Prelude.{◌≡◌, ℕ, List, IfSome, Some, None, true, false};
+ghost use Rattle.std.specs.Prelude.{◌≡◌, IfSome, Some, None, true, false};
 ghost use Rattle.std.specs.Str.{IsUtf8};
 ghost use Rattle.mr_maildir.specs.Reference.{IsReference, ReferenceParts, reference_text};
-ghost use Rattle.mr_sync.specs.Named.{IsFileOf, needs_file};
+ghost use Rattle.mr_sync.specs.inner.Named.{IsFileOf, needs_file};
 
 use mr_compare::Digest;
 use mr_mail::{Flag, Message};

@@ -1,7 +1,7 @@
 //! Receipts that come.
 ghost use Rattle.std.specs.Prelude.{◌≡◌, MatchResult};
 ghost use Rattle.mr_kept.specs.Kept.{replica_of};
-ghost use Rattle.mr_sync.specs.Taken.{GrowsOnlyBy, IsNoReceiptOf, IsReceiptOf, LetsGoFor};
+ghost use Rattle.mr_sync.specs.inner.Taken.{GrowsOnlyBy, IsNoReceiptOf, LetsGoFor};
 
 use crate::fault::SyncFault;
 use crate::records::{frames_in, other_side};

@@ -1,10 +1,10 @@
 //! Records that come.
-ghost use Rattle.std.specs.Prelude.{◌≡◌, ◌++◌, ◌∷◌, [], None, IfOk, IfSome, IsTrue, MatchResult, OnOk, Some, is_some, map, option_map};
+ghost use Rattle.std.specs.Prelude.{◌≡◌, ◌++◌, ◌∷◌, [], None, IfOk, IsTrue, MatchResult, OnOk, Some, is_some, map, option_map};
 ghost use Rattle.mr_folder.specs.Inside.{stored_path};
 ghost use Rattle.mr_folder.specs.Tree.{IsUntouched};
 ghost use Rattle.mr_kept.specs.Kept.{replica_of};
 ghost use Rattle.mr_replica.specs.declared.event.Event.TheVariants as event;
-ghost use Rattle.mr_sync.specs.Taken.{AreFrames, GrowsOnlyBy, IsNoRecordOf, IsRecordOf, TakesRecordOf};
+ghost use Rattle.mr_sync.specs.inner.Taken.{AreFrames, GrowsOnlyBy, IsNoRecordOf, IsRecordOf, TakesRecordOf};
 
 use crate::fault::SyncFault;
 use crate::named::file_in_frame;

@@ -1,8 +1,8 @@
 //! What is to be said once it is kept.
-ghost use Rattle.std.specs.Prelude.{◌≡◌, ◌≢◌, ◌++◌, ◌≤◌, ◌∷◌, [], true, IfNone, IfOk, IfSome, OnErr, OnOk, length, map, MatchOption, IsTrue};
+ghost use Rattle.std.specs.Prelude.{◌≡◌, ◌++◌, ◌≤◌, ◌∷◌, [], true, IfNone, IfOk, IfSome, OnOk, length};
 ghost use Rattle.mr_kept.specs.Kept.{leaving, nothing_waits, replica_of};
 ghost use Rattle.mr_talk.specs.Kinds.{limit_of};
-ghost use Rattle.mr_sync.specs.Said.{FrontIs, TellsFrames, bytes_of, receipt_frames, record_frames};
+ghost use Rattle.mr_sync.specs.inner.Said.{FrontIs, TellsFrames, bytes_of, receipt_frames, record_frames};
 
 use crate::fault::SyncFault;
 use crate::named::{NamedFile, file_in, revision_in};

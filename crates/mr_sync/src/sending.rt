@@ -1,12 +1,12 @@
 //! Files that go, piece by piece.
-ghost use Rattle.std.specs.Prelude.{◌≡◌, ◌≢◌, ◌+◌, ◌++◌, ◌≤◌, [], Some, IsTrue, IfOk, IfSome, MatchOption, OnOk, drop, length, min, take, vec_len};
+ghost use Rattle.std.specs.Prelude.{◌≡◌, ◌≢◌, ◌+◌, ◌++◌, ◌≤◌, Some, IsTrue, IfOk, IfSome, MatchOption, length, vec_len};
 ghost use Rattle.sha2.specs.Sha256.{sha256};
 ghost use Rattle.mr_folder.specs.Inside.{stored_path};
 ghost use Rattle.mr_folder.specs.Tree.{IsUntouched};
 ghost use Rattle.mr_talk.specs.Kinds.{limit_of};
 ghost use Rattle.mr_wire.specs.Spelling.{u64};
 ghost use Rattle.mr_talk.specs.declared.kind.Kind.TheVariants as kind;
-ghost use Rattle.mr_sync.specs.Sending.{GoesOn};
+ghost use Rattle.mr_sync.specs.inner.Sending.{GoesOn};
 
 use crate::fault::SyncFault;
 use crate::hashing::has_digest;

@@ -2,7 +2,6 @@
 ghost use Rattle.std.specs.Prelude.{◌≡◌, Some, true, OnOk, IfErr, IfOk};
 ghost use Rattle.mr_kept.specs.Kept.{nothing_waits, replica_of};
 ghost use Rattle.mr_sync.specs.Asking.{AsksMet, IsMetAskFault, TakesMetAsk};
-ghost use Rattle.mr_sync.specs.Lists.{IsDigest};
 
 use crate::asking::{ask, take_ask};
 use crate::fault::SyncFault;

@@ -64,6 +64,7 @@ impl Arriving {
 
     /// Notes that a file came.
     pub(crate) fn note_file(&mut self, digest: &Digest) {
+        // it need not have been lacking, nor wanted
         let _ = self.lacking.remove(digest);
         let _ = self.wanted.remove(digest);
         self.files = self.files.saturating_add(1);

@@ -1,16 +1,12 @@
 //! What is told in a turn.
-ghost use Rattle.std.specs.Prelude.{◌≡◌, ◌++◌, ◌≤◌, IfOk, IfSome, IsSome, OnOk, IsTrue, true, drop, length, take};
-ghost use Rattle.std.specs.List.{flat_map};
-ghost use Rattle.mr_kept.specs.Kept.{nothing_waits};
+ghost use Rattle.std.specs.Prelude.{◌≡◌, IfOk, IfSome, IsSome};
 ghost use Rattle.mr_talk.specs.Turns.{next_of};
 ghost use Rattle.mr_talk.specs.declared.kind.Kind.TheVariants as kind;
 ghost use Rattle.mr_talk.specs.declared.turn.Turn.TheVariants as turn;
-ghost use Rattle.mr_sync.specs.Lists.{revision_bytes};
-ghost use Rattle.mr_sync.specs.Telling.{IsBegun, IsGiven, IsOfKind, TellsRevisions};
+ghost use Rattle.mr_sync.specs.inner.Telling.{IsBegun, IsGiven, IsOfKind, TellsRevisions};
 
 use crate::fault::SyncFault;
 use crate::lists::{PUSH_OUT_BYTES, push_out_list};
-use crate::named::NamedFile;
 use crate::said::{frames_message, keep_and_say};
 use crate::sending::{Sending, begin_message, file_message, message_of, whole_file};
 use crate::talk::{Leaving, Talk};
@@ -26,7 +22,6 @@ use mr_session::AskedOf;
 use mr_talk::{Kind, MAX_LIST_BYTES, Message, Turn};
 use mr_version::ItemId;
 use std::alloc::Global;
-use std::collections::VecDeque;
 
 /// How many records are drawn at a time, and about how many bytes of them: what is kept by one commit.
 const BATCH_RECORDS: u32 = 512;

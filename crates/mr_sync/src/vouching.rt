@@ -1,10 +1,10 @@
 //! Receipts that are given.
-ghost use Rattle.std.specs.Prelude.{◌≡◌, ◌++◌, ◌||◌, false, IfOk, OnOk, map, option_map};
+ghost use Rattle.std.specs.Prelude.{◌≡◌, ◌++◌, ◌||◌, false, OnOk, map};
 ghost use Rattle.std.specs.BTreeMap.{get};
 ghost use Rattle.mr_kept.specs.Kept.{replica_of};
 ghost use Rattle.mr_replica.specs.declared.event.Event.TheVariants as event;
 ghost use Rattle.mr_version.specs.Name.{name_cmp};
-ghost use Rattle.mr_sync.specs.Vouching.{is_answer};
+ghost use Rattle.mr_sync.specs.inner.Vouching.{is_answer};
 
 use crate::fault::SyncFault;
 use crate::lists::PushOut;
@@ -44,6 +44,7 @@ pub(crate) fn vouch_held<D: Device + Drop, F: FileTree>(
     let heads = answers(alloc, kept.replica().heads(), files, waiting)?;
     vouch_all(kept, &heads)?;
     for head in &heads {
+        // the digest that it waited for is needed no more
         let _ = waiting.remove(&head.item);
     }
     Ok(heads.len() as u64)

@@ -1,7 +1,7 @@
 //! Files that one side wants of the other.
-ghost use Rattle.std.specs.Prelude.{◌≡◌, IfOk, IfSome, MatchOption};
+ghost use Rattle.std.specs.Prelude.{◌≡◌, IfOk, IfSome};
 ghost use Rattle.mr_talk.specs.declared.kind.Kind.TheVariants as kind;
-ghost use Rattle.mr_sync.specs.Lists.{TellsFront};
+ghost use Rattle.mr_sync.specs.inner.Lists.{TellsFront};
 
 use crate::fault::SyncFault;
 use crate::lists::digest_list;

@@ -9,7 +9,8 @@ use Rattle.mr_talk.specs.declared.hello.HelloFault.{HelloFault}
 use Rattle.mr_talk.specs.declared.hello.HelloFault.TheVariants.{Length, Format, Id, Waiting, KeepsAll}
 use Rattle.mr_talk.specs.declared.hello.TheConstants.{HELLO_FORMAT}
 use Rattle.mr_talk.proofs.MessageLaws.{IsBytes, bytes_take, bytes_drop}
-use Rattle.mr_talk.specs.Hello.{flag, hello_bytes, IsHello, AreFields, IsOfFormat, HasId, Reads}
+use Rattle.mr_talk.specs.Hello.{flag, hello_bytes, IsHello, IsOfFormat, HasId, Reads}
+use Rattle.mr_talk.specs.inner.Hello.{AreFields}
 
 -- what the fields say of single bytes
 record Tells (bytes : List ℕ) (format id waiting keeps_all : ℕ) : Type 0 where

@@ -8,7 +8,8 @@ use Rattle.mr_talk.specs.Kinds.{kind_byte}
 use Rattle.mr_talk.specs.Said.{Said, message_bytes}
 use Rattle.mr_talk.specs.Reader.{Nexts}
 use Rattle.mr_talk.specs.Stream.{Begins}
-use Rattle.mr_talk.specs.Line.{ahead, IsBegun, IsSame, Hears}
+use Rattle.mr_talk.specs.Line.{ahead, IsBegun, Hears}
+use Rattle.mr_talk.specs.inner.Line.{IsSame}
 use Rattle.mr_talk.proofs.StreamLaws.{begins_more}
 
 -- ---- writing

@@ -13,7 +13,8 @@ use Rattle.mr_talk.specs.Said.{Said, message_bytes}
 use Rattle.mr_talk.specs.Turns.{sender_of, next_of, Leads}
 use Rattle.mr_talk.specs.World.{received}
 use Rattle.mr_talk.specs.Line.{Hears, IsBegun}
-use Rattle.mr_talk.specs.Talk.{other, if_sender, sent_by, kinds, Talked, BrokeOff, IsPartly}
+use Rattle.mr_talk.specs.Talk.{other, if_sender, sent_by, kinds, Talked, BrokeOff}
+use Rattle.mr_talk.specs.inner.Talk.{IsPartly}
 use Rattle.mr_talk.proofs.LineLaws.{begun_all, begun_behind}
 
 -- ---- the two sides

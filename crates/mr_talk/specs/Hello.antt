@@ -26,15 +26,6 @@ pub record IsHello (h : Hello) : Type 0 where
   pub issued : h.issued < 2 ^ 32
   pub known : h.known < 2 ^ 32
 
--- the bytes are these fields, each as it is spelled, one behind another
-pub record AreFields (bytes : List ℕ) (format id : ℕ) (birth knows tip : List ℕ) (issued known waiting keeps_all : ℕ) : Type 0 where
-  pub whole : bytes ≡ format ∷ id ∷ (birth ++ (knows ++ (tip ++ (to_be_bytes w32 issued ++ (to_be_bytes w32 known ++ (waiting ∷ keeps_all ∷ []))))))
-  pub birth_long : length birth ≡ 16
-  pub knows_long : length knows ≡ 12
-  pub tip_long : length tip ≡ 4
-  pub issued_in : issued < 2 ^ 32
-  pub known_in : known < 2 ^ 32
-
 -- the fields that stand before this one are right
 abbrev pub IsLong : List ℕ → Type 0
 IsLong bytes = length bytes ≡ HELLO_BYTES

@@ -14,3 +14,4 @@ pub mod Line
 pub mod Talk
 pub mod Rows
 pub mod Grammar
+pub mod inner

@@ -1,5 +1,5 @@
 -- what a line has ahead of it, and what becomes of it
-use Rattle.std.specs.Prelude.{◌≡◌, ◌≢◌, ◌<◌, ◌≤◌, ◌⊎◌, ℕ, List, [], ◌∷◌, ◌++◌, length, Option, Some, None, Result, Ok, Err}
+use Rattle.std.specs.Prelude.{◌≡◌, ◌≢◌, ◌<◌, ◌≤◌, ◌⊎◌, ℕ, List, [], ◌++◌, length, Option, Some, None, Result, Ok, Err}
 use Rattle.std.specs.Io.KnownBytes.{Appends}
 use Rattle.mr_talk.specs.declared.fault.LineFault.{LineFault}
 use Rattle.mr_talk.specs.declared.fault.LineFault.TheVariants.{Message, Closed, Read, Write}
@@ -30,11 +30,6 @@ pub record IsBegun (old new : Option (List ℕ)) (bytes : List ℕ) : Type 0 whe
   pub whole : bytes ≡ part ++ more
   pub written : Appends old new part
 
--- known bytes stay as they are
-abbrev pub IsSame : Option (List ℕ) → Option (List ℕ) → Type 0
-IsSame None new = Unit {0}
-IsSame (Some bytes) new = new ≡ Some bytes
-
 -- some of the bytes at the front have this fault
 abbrev pub HasFault : List ℕ → MessageFault → Type 0
 HasFault bytes fault = (front : List ℕ) × (more : List ℕ) × (bytes ≡ front ++ more) × (decoded front ≡ Err fault)
@@ -56,16 +51,3 @@ abbrev pub Hears : Option (List ℕ) → Result Said LineFault → Option (List 
 Hears old (Err fault) new = Fails old fault new
 Hears None (Ok m) new = Unit {0}
 Hears (Some bytes) (Ok m) new = (left : List ℕ) × (new ≡ Some left) × Begins bytes m left
-
--- why there is no message at the end of the stream, by what the reader has
-abbrev pub Ends : Option (List ℕ) → LineFault → Type 0
-Ends None fault = Unit {0}
-Ends (Some []) fault = fault ≡ Closed
-Ends (Some (b ∷ bytes)) fault = fault ≡ Message Truncated
-
--- A piece goes behind what the reader has. Where there is no memory for it, the reader has failed.
-abbrev pub TakesPiece : Option (List ℕ) → List ℕ → Result (Unit {0}) LineFault → Option (List ℕ) → Type 0
-TakesPiece None piece (Ok _) new = ⊥
-TakesPiece None piece (Err fault) new = new ≡ None
-TakesPiece (Some rest) piece (Ok _) new = new ≡ Some (rest ++ piece)
-TakesPiece (Some rest) piece (Err fault) new = (fault ≡ Message OutOfMemory) × (new ≡ None)

@@ -9,7 +9,7 @@ use Rattle.mr_talk.specs.declared.fault.MessageFault.TheVariants.{OutOfMemory, T
 use Rattle.mr_talk.specs.declared.talk_fault.TalkFault.TheVariants as talk
 use Rattle.mr_talk.specs.declared.hello.Hello as hello
 use Rattle.mr_talk.specs.declared.turn.Role.TheVariants.{Caller, Called}
-use Rattle.mr_talk.specs.declared.turn.Turn.TheVariants.{CallerGreets, CalledGreets, CalledAsks, CalledPasses, CallerAsks, CallerTells, CallerTellsFile, CalledTells, CallerSettles, CallerWants, CalledSettles, CalledCloses, CallerCloses, Over}
+use Rattle.mr_talk.specs.declared.turn.Turn.TheVariants.{CallerGreets, CalledGreets, CalledAsks, CalledPasses, CallerAsks, CallerTells, CallerTellsFile, CalledTells, CallerSettles, CallerWants, CalledSettles, CallerCloses, Over}
 use Rattle.mr_talk.specs.declared.turn.Turn.TheVariants as turn
 use Rattle.mr_talk.specs.Fault.{talk_fault_number, told_number}
 use Rattle.mr_talk.specs.Kinds.{kind_of_byte}
@@ -17,7 +17,7 @@ use Rattle.mr_talk.specs.Said.{Said, message_bytes}
 use Rattle.mr_talk.specs.Messages.{decoded}
 use Rattle.mr_talk.specs.Reader.{Feeds, Nexts, ending}
 use Rattle.mr_talk.specs.Hello.{hello_bytes}
-use Rattle.mr_talk.specs.Turns.{sender_of, number_of, next_of, IsTalk, IsBroken}
+use Rattle.mr_talk.specs.Turns.{sender_of, number_of, next_of, IsTalk, Leads}
 use Rattle.mr_talk.specs.Talk.{Talked, BrokeOff, IsToldBy}
 use Rattle.mr_talk.specs.World.{start, Sends, Receives, happens, after, ends_turn}
 
@@ -135,7 +135,7 @@ pub not_twice : next_of CallerTells Ask ≡ None
 not_twice = refl
 
 -- a fault ends a talk anywhere, and nothing comes behind it
-pub broken : IsBroken (Hello ∷ Fault ∷ [])
+pub broken : Leads turn.CallerGreets (Hello ∷ Fault ∷ []) turn.Failed
 broken = (CalledGreets, refl, (turn.Failed, refl, refl))
 
 pub nothing_more : next_of turn.Failed Fault ≡ None

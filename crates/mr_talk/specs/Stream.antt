@@ -1,10 +1,7 @@
 -- a stream of bytes: the spellings of messages, one behind another, and then what is no whole message
-use Rattle.std.specs.Prelude.{◌≡◌, ℕ, List, [], ◌∷◌, ◌++◌, length, ◌+◌, ◌<◌, Option, Some, None, Result, Ok, Err, IsOk}
+use Rattle.std.specs.Prelude.{◌≡◌, ℕ, List, [], ◌∷◌, ◌++◌, length, ◌+◌, ◌<◌}
 use Rattle.mr_talk.specs.declared.kind.TheConstants.{MAX_FRAMES_BYTES}
-use Rattle.mr_talk.specs.declared.fault.MessageFault.{MessageFault}
-use Rattle.mr_talk.specs.declared.fault.MessageFault.TheVariants.{OutOfMemory, Truncated, BadKind, TooLong, Failed}
 use Rattle.mr_talk.specs.Said.{Said, IsMessage, message_bytes}
-use Rattle.mr_talk.specs.Messages.{decoded}
 
 -- the bytes begin with the spelling of the message, and go on with these
 pub record Begins (bytes : List ℕ) (m : Said) (left : List ℕ) : Type 0 where
@@ -19,13 +16,3 @@ AreMessages bytes (m ∷ messages) rest = (left : List ℕ) × Begins bytes m le
 -- fewer bytes than the longest message has: five of the kind and the length, and what stands behind them
 abbrev pub IsPart : List ℕ → Type 0
 IsPart rest = length rest < 5 + MAX_FRAMES_BYTES
-
--- what comes of taking the first message: it goes, and what follows it is left; or nothing changes, since it lacks its end, or the bytes spell no message, or there is no memory
-abbrev pub Takes : List ℕ → Result (Option Said) MessageFault → List ℕ → Type 0
-Takes rest (Ok (Some m)) left = Begins rest m left
-Takes rest (Ok None) left = (decoded rest ≡ Err Truncated) × (left ≡ rest)
-Takes rest (Err OutOfMemory) left = IsOk (decoded rest) × (left ≡ rest)
-Takes rest (Err Truncated) left = ⊥
-Takes rest (Err BadKind) left = (decoded rest ≡ Err BadKind) × (left ≡ rest)
-Takes rest (Err TooLong) left = (decoded rest ≡ Err TooLong) × (left ≡ rest)
-Takes rest (Err Failed) left = ⊥

@@ -1,6 +1,6 @@
 -- a talk as one side has it: the messages, which of their bytes it sent, and which it received
-use Rattle.std.specs.Prelude.{◌≡◌, ◌⊎◌, ℕ, List, [], ◌∷◌, ◌++◌, map, Option, Some, None, Ok}
-use Rattle.std.specs.Io.KnownBytes.{Appends, Consumes, Keeps}
+use Rattle.std.specs.Prelude.{◌≡◌, ℕ, List, [], ◌∷◌, ◌++◌, map, Option, Some, None, Ok}
+use Rattle.std.specs.Io.KnownBytes.{Appends, Consumes}
 use Rattle.mr_talk.specs.declared.kind.Kind.{Kind}
 use Rattle.mr_talk.specs.declared.kind.Kind.TheVariants.{Fault}
 use Rattle.mr_talk.specs.declared.turn.Role.{Role}
@@ -50,10 +50,6 @@ pub record BrokeOff (role : Role) (out_old out_new in_old : Option (List ℕ)) :
   pub sent : IsBegun out_old out_new (sent_by role CallerGreets messages)
   pub came : Consumes in_old left (sent_by (other role) CallerGreets messages)
 
--- nothing of the message was sent; or it is in its place, and a beginning of it was sent
-abbrev pub IsPartly : Turn → Said → Option (List ℕ) → Option (List ℕ) → Type 0
-IsPartly t m old new = Keeps old new ⊎ ((next : Turn) × (next_of t m.kind ≡ Some next) × IsBegun old new (message_bytes m))
-
 -- this holds of the bytes, if the other side told its fault in them
 abbrev pub IfTold : TalkFault → (List ℕ → Type 0) → Type 0
 IfTold (Line fault) P = Unit {0}
@@ -61,10 +57,6 @@ IfTold (Hello fault) P = Unit {0}
 IfTold OutOfPlace P = Unit {0}
 IfTold (Host fault) P = Unit {0}
 IfTold (Told bytes) P = P bytes
-
--- a fault that the other side did not tell
-abbrev pub IsOwn : TalkFault → Type 0
-IsOwn fault = IfTold fault (λ _. ⊥)
 
 -- the talk came to a turn of the other side, and the message that came then told a fault in these bytes
 pub record IsToldBy (role : Role) (told : List ℕ) (out_old out_new in_old in_new : Option (List ℕ)) : Type 0 where

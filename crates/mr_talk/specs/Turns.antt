@@ -137,7 +137,3 @@ Leads t (kind ∷ kinds) end = (next : Turn) × (next_of t kind ≡ Some next) �
 -- a whole talk
 abbrev pub IsTalk : List Kind → Type 0
 IsTalk kinds = Leads CallerGreets kinds Over
-
--- a talk that a fault ended
-abbrev pub IsBroken : List Kind → Type 0
-IsBroken kinds = Leads CallerGreets kinds Failed

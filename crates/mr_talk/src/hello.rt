@@ -1,7 +1,8 @@
 //! What a side says first.
 ghost use Rattle.std.specs.Prelude.{◌≡◌, ◌≢◌, ◌<◌, ℕ, List, IfOk, Ok, MatchOption, length};
 ghost use Rattle.mr_talk.specs.Fault.{hello_fault_number};
-ghost use Rattle.mr_talk.specs.Hello.{AreFields, IsHello, Reads, flag, hello_bytes};
+ghost use Rattle.mr_talk.specs.Hello.{IsHello, Reads, flag, hello_bytes};
+ghost use Rattle.mr_talk.specs.inner.Hello.{AreFields};
 ghost use Rattle.mr_talk.specs.declared.hello.Hello.{Hello};
 
 use crate::kind::HELLO_BYTES;

@@ -1,8 +1,9 @@
 //! Messages over two streams.
-ghost use Rattle.std.specs.Prelude.{◌≡◌, ◌<◌, ◌≤◌, ◌∷◌, false, length, take, IfErr, IfOk, MatchResult, OnErr, OnOk};
+ghost use Rattle.std.specs.Prelude.{◌≡◌, ◌<◌, ◌≤◌, false, length, take, IfErr, IfOk, MatchResult, OnErr, OnOk};
 ghost use Rattle.std.specs.Io.KnownBytes.{Appends, Keeps};
 ghost use Rattle.mr_talk.specs.Kinds.{limit_of};
-ghost use Rattle.mr_talk.specs.Line.{Ends, Fails, Hears, IsBegun, IsSame, IsUnsent, TakesPiece, ahead};
+ghost use Rattle.mr_talk.specs.Line.{Fails, Hears, IsBegun, IsUnsent, ahead};
+ghost use Rattle.mr_talk.specs.inner.Line.{Ends, IsSame, TakesPiece};
 ghost use Rattle.mr_talk.specs.Said.{message_bytes};
 
 use crate::fault::{LineFault, MessageFault};
@@ -60,6 +61,7 @@ impl<R: Read + Drop, W: Write + Drop> Line<R, W> {
         ensures input { self.new.input ≡ self.old.input }
         ensures reader { self.new.reader ≡ self.old.reader }
     {
+        // the host is lent for what is required of it: nothing waits
         let _host = host;
         if bytes.len() > kind.limit() as usize {
             return Err(LineFault::Message(MessageFault::TooLong));

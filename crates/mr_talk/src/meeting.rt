@@ -2,7 +2,8 @@
 ghost use Rattle.std.specs.Prelude.{◌≡◌, false, IfErr, OnOk};
 ghost use Rattle.mr_talk.specs.declared.kind.Kind.TheVariants.{Fault};
 ghost use Rattle.mr_talk.specs.declared.turn.Turn.TheVariants.{Over};
-ghost use Rattle.mr_talk.specs.Talk.{IfTold, IsOwn};
+ghost use Rattle.mr_talk.specs.Talk.{IfTold};
+ghost use Rattle.mr_talk.specs.inner.Talk.{IsOwn};
 
 use crate::fault::MessageFault;
 use crate::hello::{Hello, Short};

@@ -1,5 +1,5 @@
 //! Messages and their bytes.
-ghost use Rattle.std.specs.Prelude.{◌≡◌, ◌≤◌, ◌++◌, ℕ, List, length, drop, IfOk, IfErr, Ok};
+ghost use Rattle.std.specs.Prelude.{◌≡◌, ◌≤◌, ℕ, List, length, drop, IfOk, IfErr, Ok};
 ghost use Rattle.mr_talk.specs.Kinds.{limit_of};
 ghost use Rattle.mr_talk.specs.Messages.{Answers, Encodes, decoded, head_read};
 ghost use Rattle.mr_talk.specs.Said.{Said, message_bytes};

@@ -1,6 +1,7 @@
 //! The reader of a stream of messages.
 ghost use Rattle.std.specs.Prelude.{◌≡◌, IfOk, IfSome, IfNone, Some, None, [], MatchBool};
-ghost use Rattle.mr_talk.specs.Stream.{IsPart, Takes};
+ghost use Rattle.mr_talk.specs.Stream.{IsPart};
+ghost use Rattle.mr_talk.specs.inner.Stream.{Takes};
 
 use crate::fault::MessageFault;
 use crate::message::{Message, decode};

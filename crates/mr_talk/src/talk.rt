@@ -4,7 +4,8 @@ ghost use Rattle.std.specs.Io.KnownBytes.{Appends};
 ghost use Rattle.mr_talk.specs.declared.turn.Turn.TheVariants.{CallerGreets, Over};
 ghost use Rattle.mr_talk.specs.Line.{Hears, ahead};
 ghost use Rattle.mr_talk.specs.Said.{message_bytes};
-ghost use Rattle.mr_talk.specs.Talk.{BrokeOff, IfTold, IsOwn, IsPartly, IsToldBy, Talked};
+ghost use Rattle.mr_talk.specs.Talk.{BrokeOff, IfTold, IsToldBy, Talked};
+ghost use Rattle.mr_talk.specs.inner.Talk.{IsOwn, IsPartly};
 ghost use Rattle.mr_talk.specs.Turns.{next_of};
 
 use crate::line::Line;

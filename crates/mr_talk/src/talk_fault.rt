@@ -2,14 +2,12 @@
 ghost use Rattle.std.specs.Prelude.{◌≡◌};
 ghost use Rattle.mr_talk.specs.Fault.{talk_fault_number};
 ghost use Rattle.mr_talk.specs.declared.fault.LineFault.TheVariants.{Message};
-ghost use Rattle.mr_talk.specs.declared.fault.MessageFault.TheVariants.{OutOfMemory};
 ghost use Rattle.mr_talk.specs.declared.talk_fault.TalkFault.TheVariants as talk;
 
 use crate::fault::{LineFault, MessageFault};
 use crate::hello::HelloFault;
 use crate::side::HostFault;
 use crate::told_fault::ToldFault;
-use std::alloc::AllocError;
 use thiserror::Error;
 
 /// Why a talk did not come to its end.

@@ -1,6 +1,5 @@
 //! How a host's fault is told to the other side.
-ghost use Rattle.std.specs.Prelude.{◌≡◌, drop, IsUtf8, IfOk, MatchOption};
-ghost use Rattle.std.specs.String.{string_bytes};
+ghost use Rattle.std.specs.Prelude.{◌≡◌, drop, IsUtf8, MatchOption};
 ghost use Rattle.mr_talk.specs.Fault.{told_number};
 
 use crate::fault::MessageFault;

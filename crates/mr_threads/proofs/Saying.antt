@@ -9,7 +9,8 @@ use Rattle.mr_subs.specs.Subscriber.{Keeping, ShowsFold, Applies, pending, Shows
 use Rattle.mr_lane.specs.Post.{PostView, with_letter}
 use Rattle.mr_threads.specs.declared.talk.Talk.{Talk}
 use Rattle.mr_threads.specs.Exchange.{Said, letters_said, answers_heard}
-use Rattle.mr_threads.specs.Talk.{with_letters, Says, SaysInPart, HearsOut}
+use Rattle.mr_threads.specs.Talk.{with_letters, Says, SaysInPart}
+use Rattle.mr_threads.specs.inner.Talk.{HearsOut}
 use Rattle.mr_threads.proofs.Serving.{with_items-append, with_items-nil}
 
 -- what holds in any case holds of an error

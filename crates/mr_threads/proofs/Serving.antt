@@ -9,13 +9,15 @@ use Rattle.mr_lane.specs.declared.note.Sender.TheVariants.{User, FirstLink, Seco
 use Rattle.mr_lane.specs.declared.note.Note.{Note}
 use Rattle.mr_lane.specs.Note.{sender_number}
 use Rattle.mr_lane.specs.Tap.{TapEnd}
-use Rattle.mr_threads.specs.Exchange.{Said, Exchange, exchange, said, said_by, answers_heard, answers_to, Replays}
+use Rattle.mr_threads.specs.Exchange.{Said, Exchange, said, said_by, answers_heard, answers_to, Replays}
+use Rattle.mr_threads.specs.inner.Exchange.{exchange}
 use Rattle.mr_lane.specs.Letters.{letter_in, letters_in}
 use Rattle.mr_threads.specs.Lanes.{with_items}
 use Rattle.mr_threads.specs.declared.core_parts.Replies.{Replies}
 use Rattle.mr_threads.specs.declared.core_parts.Feeds.{Feeds}
 use Rattle.mr_threads.specs.declared.core_parts.Core.{Core}
-use Rattle.mr_threads.specs.Core.{GivesAnswers, GivesAnswer, TellsBoth, TellsPart, Serves, ServesPart, Serving, ServingPart, RanShort, closed_replies, closed_feeds, letters_with_senders}
+use Rattle.mr_threads.specs.Core.{GivesAnswers, TellsBoth, TellsPart, ServesPart, RanShort, closed_replies, closed_feeds, letters_with_senders}
+use Rattle.mr_threads.specs.inner.Core.{GivesAnswer, Serves, Serving, ServingPart}
 
 -- ---- lists
 

@@ -14,7 +14,8 @@ use Rattle.mr_lane.proofs.LetterLemmas.{letters-all}
 use Rattle.mr_threads.specs.Exchange.{Exchange, said, letters_said, said_by, answers_to}
 use Rattle.mr_threads.specs.Lanes.{with_items}
 use Rattle.mr_threads.specs.Core.{letters_with_senders, Ran, IsNewCore}
-use Rattle.mr_threads.specs.Settled.{TookAll, TookAllEntries, IsInterleaving}
+use Rattle.mr_threads.specs.Settled.{IsInterleaving}
+use Rattle.mr_threads.specs.inner.Settled.{TookAll, TookAllEntries}
 use Rattle.mr_threads.specs.declared.core_parts.Core.{Core}
 use Rattle.mr_threads.specs.declared.settling.Taps.{Taps}
 use Rattle.mr_threads.specs.declared.settling.FeedTaps.{FeedTaps}

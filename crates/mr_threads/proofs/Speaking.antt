@@ -2,7 +2,8 @@
 use Rattle.std.proofs.Common.{◌≡◌, true, List, ◌++◌, Result, Ok, Err, OnOk, OnErr, sym, ap, ◌∙◌}
 use Rattle.mr_lane.specs.Post.{with_end_mark}
 use Rattle.mr_threads.specs.Exchange.{Said, letters_said, answers_heard}
-use Rattle.mr_threads.specs.Talk.{Says, SaysInPart, SpokeInTurn, IsNew, HearsOut}
+use Rattle.mr_threads.specs.Talk.{Says, SaysInPart, SpokeInTurn, IsNew}
+use Rattle.mr_threads.specs.inner.Talk.{HearsOut}
 use Rattle.mr_threads.specs.Ends.{HasSpoken}
 use Rattle.mr_threads.specs.declared.talk.Talk.{Talk}
 use Rattle.mr_threads.specs.declared.talk.Halt.{Halt}

@@ -7,11 +7,12 @@ use Rattle.mr_feed.specs.declared.entry.Entry.{Entry}
 use Rattle.mr_lane.specs.declared.note.Sender.{Sender}
 use Rattle.mr_lane.specs.declared.note.Sender.TheVariants.{User, FirstLink, SecondLink}
 use Rattle.mr_threads.specs.Exchange.{Said, said, Exchange, letters_said, answers_heard, said_by, Replays}
-use Rattle.mr_threads.specs.Ends.{HasSpoken, VoiceRan, ListenerRan}
+use Rattle.mr_threads.specs.Ends.{VoiceRan, ListenerRan}
 use Rattle.mr_threads.specs.Settled.{IsInterleaving}
-use Rattle.mr_threads.specs.Running.{AllRan, are_all_whole}
-use Rattle.mr_threads.specs.Outfit.{posts_of, taps_of, feed_taps_of, AreJoined, IsOutfit}
-use Rattle.mr_threads.specs.Roles.{spoken_of, heard_of, HadConversation, TookEntries, RolesRan}
+use Rattle.mr_threads.specs.inner.Running.{AllRan, are_all_whole}
+use Rattle.mr_threads.specs.inner.Outfit.{posts_of, taps_of, feed_taps_of, AreJoined, IsOutfit}
+use Rattle.mr_threads.specs.Roles.{HadConversation, TookEntries, RolesRan}
+use Rattle.mr_threads.specs.inner.Roles.{spoken_of, heard_of}
 use Rattle.mr_lane.specs.declared.post.Posts.{Posts}
 use Rattle.mr_threads.specs.declared.settling.Taps.{Taps}
 use Rattle.mr_threads.specs.declared.settling.FeedTaps.{FeedTaps}
@@ -22,8 +23,6 @@ use Rattle.mr_threads.specs.declared.listener.ListenerEnd.{ListenerEnd}
 use Rattle.mr_threads.specs.declared.running.Parts.{Parts}
 use Rattle.mr_threads.specs.declared.running.Ends.{Ends}
 use Rattle.mr_threads.specs.declared.roles.Roles.{Roles}
-use Rattle.mr_threads.specs.declared.roles.Spoken.{Spoken}
-use Rattle.mr_threads.specs.declared.roles.Heard.{Heard}
 use Rattle.mr_threads.specs.declared.roles.RolesEnd.{RolesEnd}
 
 -- the first of a list that has one

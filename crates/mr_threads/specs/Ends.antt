@@ -1,26 +1,14 @@
 -- what the threads owe
-use Rattle.std.specs.Prelude.{◌≡◌, ◌++◌, true, IsTrue, IsFalse, List}
+use Rattle.std.specs.Prelude.{◌≡◌, ◌++◌, true, IsTrue, List}
 use Rattle.mr_mail.specs.Mail.{MailCard}
 use Rattle.mr_model.specs.Headline.{Cards}
-use Rattle.mr_feed.specs.declared.entry.Entry.{Entry}
-use Rattle.mr_lane.specs.Desk.{have_all_finished}
 use Rattle.mr_threads.specs.Exchange.{Said, letters_said, answers_heard}
-use Rattle.mr_threads.specs.Core.{Ran, RanShort, KeepsLanes}
 use Rattle.mr_threads.specs.Talk.{SameLanes}
 use Rattle.mr_threads.specs.Listening.{HasHeard}
-use Rattle.mr_threads.specs.declared.core_parts.Core.{Core}
-use Rattle.mr_threads.specs.declared.core_parts.CoreEnd.{CoreEnd}
 use Rattle.mr_threads.specs.declared.voice.Voice.{Voice}
 use Rattle.mr_threads.specs.declared.voice.VoiceEnd.{VoiceEnd}
 use Rattle.mr_threads.specs.declared.listener.Listener.{Listener}
 use Rattle.mr_threads.specs.declared.listener.ListenerEnd.{ListenerEnd}
-
--- a core has run
-pub record CoreRan {M E A R : Type 0} (steps : M → E → A → M → Type 0) (feed_of : M → List Entry) (old : Core M E A R) (end : CoreEnd M E A R) : Type 0 where
-  pub ran : IsTrue end.whole → Ran steps feed_of old end.core
-  pub short : IsFalse end.whole → RanShort steps feed_of old end.core
-  pub lanes : KeepsLanes old end.core
-  pub finished : have_all_finished end.core.desk.taken ≡ true
 
 module _ {S E A R : Type 0} (speaks : S → List (Said E A) → S → Type 0) where
   -- a whole conversation: its letters are all that was sent, and each answer was kept; what came behind the answers was kept as well

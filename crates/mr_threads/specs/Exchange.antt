@@ -24,9 +24,6 @@ module _ {E A : Type 0} where
   abbrev pub answers_heard : List (Said E A) → List A
   answers_heard xs = map (λ x. x.answer) xs
 
-  abbrev pub exchange : Sender → E → A → Exchange E A
-  exchange sender letter answer = record { sender = sender; letter = letter; answer = answer }
-
   -- the conversation of one sender: its letters in order, each with its answer
   abbrev pub said_by : Sender → List (Exchange E A) → List (Said E A)
   said_by sender [] = []

@@ -10,3 +10,4 @@ pub mod Running
 pub mod Outfit
 pub mod Roles
 pub mod Rows
+pub mod inner

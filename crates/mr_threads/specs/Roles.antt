@@ -1,27 +1,17 @@
 -- what the threads of a node come to
-use Rattle.std.specs.Prelude.{◌≡◌, ℕ, ◌++◌, true, None, List}
+use Rattle.std.specs.Prelude.{◌≡◌, ℕ, ◌++◌, None, List}
 use Rattle.mr_mail.specs.Mail.{MailCard}
 use Rattle.mr_model.specs.Headline.{Cards}
 use Rattle.mr_feed.specs.declared.entry.Entry.{Entry}
 use Rattle.mr_subs.specs.Subscriber.{ShowsFold}
 use Rattle.mr_lane.specs.declared.note.Sender.TheVariants.{User, FirstLink, SecondLink}
 use Rattle.mr_threads.specs.Exchange.{Said, Exchange, said_by, answers_heard, Replays}
-use Rattle.mr_threads.specs.declared.voice.VoiceEnd.{VoiceEnd}
-use Rattle.mr_threads.specs.declared.listener.ListenerEnd.{ListenerEnd}
 use Rattle.mr_threads.specs.declared.roles.Roles.{Roles}
 use Rattle.mr_threads.specs.declared.roles.Spoken.{Spoken}
 use Rattle.mr_threads.specs.declared.roles.Heard.{Heard}
 use Rattle.mr_threads.specs.declared.roles.RolesEnd.{RolesEnd}
 use Rattle.mr_threads.specs.declared.roles.RolesFault.{RolesFault}
 use Rattle.mr_threads.specs.declared.roles.RolesFault.TheVariants.{OutOfMemory, NoCapacity}
-
--- what a voice that has run said and heard
-abbrev pub spoken_of : {S E A R : Type 0} → VoiceEnd S E A R → Spoken S A
-spoken_of end = record { speaker = end.voice.speaker; replies = end.voice.talk.replies }
-
--- what a subscriber that has run heard
-abbrev pub heard_of : {F R : Type 0} → ListenerEnd F R → Heard F
-heard_of end = record { subscriber = end.listener.subscriber; taken = end.listener.taken }
 
 -- the speaker had this conversation, and has all answers of it
 pub record HadConversation {S E A : Type 0} (speaks : S → List (Said E A) → S → Type 0) (old : S) (conversation : List (Said E A)) (new : Spoken S A) : Type 0 where

@@ -1,15 +1,15 @@
 -- worked rows: what the definitions give for small values, over a machine that adds up what it is sent and answers the sum
-use Rattle.std.specs.Prelude.{◌≡◌, ℕ, ◌+◌, Bool, true, false, List, [], ◌∷◌, ◌++◌, map, refl}
+use Rattle.std.specs.Prelude.{◌≡◌, ℕ, ◌+◌, Bool, true, false, List, [], ◌∷◌, map, refl}
 use Rattle.std.proofs.Common.{◌∙◌}
 use Rattle.atomic_table.specs.Seated.{TableId}
 use Rattle.mr_feed.specs.declared.entry.Entry.{Entry}
 use Rattle.mr_lane.specs.declared.note.Sender.{Sender}
 use Rattle.mr_lane.specs.declared.note.Sender.TheVariants.{User, FirstLink, SecondLink}
-use Rattle.mr_lane.specs.declared.note.Note.{Note}
 use Rattle.mr_lane.specs.Tap.{TapEnd, new_end}
 use Rattle.mr_threads.specs.declared.settling.Taps.{Taps}
 use Rattle.mr_threads.specs.declared.settling.FeedTaps.{FeedTaps}
-use Rattle.mr_threads.specs.Exchange.{Exchange, Said, said, exchange, letters_said, answers_heard, said_by, answers_to, Replays}
+use Rattle.mr_threads.specs.Exchange.{Exchange, said, letters_said, answers_heard, said_by, answers_to, Replays}
+use Rattle.mr_threads.specs.inner.Exchange.{exchange}
 use Rattle.mr_threads.specs.Lanes.{with_items}
 use Rattle.mr_threads.specs.Core.{letters_with_senders}
 use Rattle.mr_threads.specs.Settled.{are_taps_closed, are_feed_taps_closed, IsInterleaving}

@@ -24,23 +24,13 @@ pub record AreFeedTapsOf {R : Type 0} (feeds : Feeds R) (taps : FeedTaps R) : Ty
 abbrev pub are_taps_closed : {A R : Type 0} → Taps A R → Bool
 are_taps_closed taps = taps.user.closed && taps.first_link.closed && taps.second_link.closed
 
--- and that of each feed tap
+-- whether the end mark of each feed tap was taken
 abbrev pub are_feed_taps_closed : {R : Type 0} → FeedTaps R → Bool
 are_feed_taps_closed taps = taps.indexer.closed && taps.notifier.closed
 
 -- whether each end mark was taken: those of the posts by the desk, and those of the spouts by their taps
 abbrev pub have_all_ended : {M E A R : Type 0} → Core M E A R → Taps A R → FeedTaps R → Bool
 have_all_ended core taps feed_taps = have_all_finished core.desk.taken && are_taps_closed taps && are_feed_taps_closed feed_taps
-
--- what was taken of each tap is all that was offered
-pub record TookAll {A R : Type 0} (replies : Replies A R) (taps : Taps A R) : Type 0 where
-  pub user : taps.user.passed ≡ replies.user.passed
-  pub first_link : taps.first_link.passed ≡ replies.first_link.passed
-  pub second_link : taps.second_link.passed ≡ replies.second_link.passed
-
-pub record TookAllEntries {R : Type 0} (feeds : Feeds R) (taps : FeedTaps R) : Type 0 where
-  pub indexer : taps.indexer.passed ≡ feeds.indexer.passed
-  pub notifier : taps.notifier.passed ≡ feeds.notifier.passed
 
 -- There is an interleaving of letters that leads the machine from m to n. Each sender's part of it is its letters, with their answers in order, and each subscriber took just what came into the feed.
 pub record IsInterleaving {M E A : Type 0} (steps : M → E → A → M → Type 0) (feed_of : M → List Entry) (m : M) (user_letters first_letters second_letters : List E) (n : M) (user_replies first_replies second_replies : List A) (indexer_took notifier_took : List Entry) : Type 0 where

@@ -33,12 +33,6 @@ module _ {E A R : Type 0} where
     pub rest : List A
     pub passed : t.tap.passed ≡ answers_heard answered ++ rest
 
-  -- the rest of the replies was taken, and kept
-  pub record HearsOut (old new : Talk E A R) : Type 0 where
-    pub rest : List A
-    pub passed : new.tap.passed ≡ old.tap.passed ++ rest
-    pub replies : new.replies.items ≡ old.replies.items ++ rest
-
   -- nothing was said yet
   pub record IsNew (t : Talk E A R) : Type 0 where
     pub sent : t.post.sent ≡ []

@@ -1,9 +1,9 @@
 //! The lanes of a node, and what is put at their ends.
 ghost use Rattle.std.specs.Prelude.{◌≡◌, ◌<◌, ◌⊎◌, ◌↔◌, [], IfOk, Err};
 ghost use Rattle.mr_feed.specs.declared.port.TheConstants.{MAX_CAPACITY};
-ghost use Rattle.mr_threads.specs.Outfit.{IsNewTap, AreNewPosts, AreNewReplies, AreNewFeeds, AreNewLanes, AreJoined, IsOutfit};
+ghost use Rattle.mr_threads.specs.inner.Outfit.{IsNewTap, AreNewReplies, AreNewFeeds, AreNewLanes, AreJoined, IsOutfit};
 ghost use Rattle.mr_threads.specs.Listening.{HasHeard};
-ghost use Rattle.mr_threads.specs.Running.{AreNewParts};
+ghost use Rattle.mr_threads.specs.inner.Running.{AreNewParts};
 
 use crate::core_parts::{Core, Feeds, Replies};
 use crate::listener::Listener;

@@ -2,8 +2,9 @@
 ghost use Rattle.std.specs.Prelude.{◌≡◌, ◌<◌, ◌⊎◌, ◌↔◌, IfSome, IfOk, IfErr, Err};
 ghost use Rattle.mr_feed.specs.declared.port.TheConstants.{MAX_CAPACITY};
 ghost use Rattle.mr_threads.specs.Roles.{RolesRan, roles_number};
-ghost use Rattle.mr_threads.specs.Outfit.{AreJoined, IsOutfit};
-ghost use Rattle.mr_threads.specs.Running.{AreNewParts, HaveHungUp};
+ghost use Rattle.mr_threads.specs.inner.Outfit.{AreJoined, IsOutfit};
+ghost use Rattle.mr_threads.specs.Running.{HaveHungUp};
+ghost use Rattle.mr_threads.specs.inner.Running.{AreNewParts};
 
 use crate::machine::Machine;
 use crate::outfit::{new_lanes, outfit};
@@ -18,7 +19,6 @@ use std::alloc::Global;
 use std::sync::Wait;
 use std::sync::atomic::AtomicBool;
 use std::thread::{Scope, Threads};
-use thiserror::Error;
 
 /// A machine, and three speakers that are to send it letters.
 #[derive(Drop)]

@@ -1,6 +1,7 @@
 //! The threads of a node: what is started, in which order, and what is done where a thread can't be made.
-ghost use Rattle.std.specs.Prelude.{◌≡◌, [], IfSome};
-ghost use Rattle.mr_threads.specs.Running.{AreNewParts, AllRan, HaveHungUp};
+ghost use Rattle.std.specs.Prelude.{IfSome};
+ghost use Rattle.mr_threads.specs.Running.{HaveHungUp};
+ghost use Rattle.mr_threads.specs.inner.Running.{AreNewParts, AllRan};
 
 use crate::core_parts::{Core, CoreEnd};
 use crate::listener::{Listener, ListenerEnd};

@@ -3,7 +3,8 @@ ghost use Rattle.std.specs.Prelude.{◌≡◌, ◌↔◌, ◌&&◌, IsTrue, IsSo
 ghost use Rattle.mr_lane.specs.Desk.{have_all_finished};
 ghost use Rattle.mr_lane.specs.Inbox.{ArePostsOf, IsSettled};
 ghost use Rattle.mr_threads.specs.Core.{IsNewCore, Ran};
-ghost use Rattle.mr_threads.specs.Settled.{AreTapsOf, AreFeedTapsOf, TookAll, TookAllEntries, IsInterleaving, are_taps_closed, are_feed_taps_closed, have_all_ended};
+ghost use Rattle.mr_threads.specs.Settled.{AreTapsOf, AreFeedTapsOf, IsInterleaving, are_taps_closed, are_feed_taps_closed, have_all_ended};
+ghost use Rattle.mr_threads.specs.inner.Settled.{TookAll, TookAllEntries};
 
 use crate::core_parts::{Core, Feeds, Replies};
 use crate::machine::Machine;

@@ -1,8 +1,9 @@
 //! Parts that have run are put together again.
-ghost use Rattle.std.specs.Prelude.{◌≡◌, ◌↔◌, ◌&&◌, IsTrue, IsSome, IfSome};
-ghost use Rattle.mr_threads.specs.Outfit.{AreJoined, IsOutfit};
-ghost use Rattle.mr_threads.specs.Roles.{RolesRan, spoken_of, heard_of};
-ghost use Rattle.mr_threads.specs.Running.{AreNewParts, AllRan, are_all_whole};
+ghost use Rattle.std.specs.Prelude.{◌≡◌, ◌&&◌, IfSome};
+ghost use Rattle.mr_threads.specs.inner.Outfit.{AreJoined, IsOutfit};
+ghost use Rattle.mr_threads.specs.Roles.{RolesRan};
+ghost use Rattle.mr_threads.specs.inner.Roles.{spoken_of, heard_of};
+ghost use Rattle.mr_threads.specs.inner.Running.{AreNewParts, AllRan, are_all_whole};
 ghost use Rattle.mr_threads.specs.declared.roles.Roles.{Roles};
 ghost use Rattle.mr_threads.specs.declared.running.Parts.{Parts};
 

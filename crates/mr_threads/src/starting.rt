@@ -1,7 +1,8 @@
 //! How each part of a node is started in a thread.
 ghost use Rattle.std.specs.Prelude.{◌≡◌, [], IfSome};
 ghost use Rattle.mr_threads.specs.Core.{AreRepliesOpen, AreFeedsOpen, IsNewCore};
-ghost use Rattle.mr_threads.specs.Ends.{CoreRan, VoiceRan, ListenerRan};
+ghost use Rattle.mr_threads.specs.Ends.{VoiceRan, ListenerRan};
+ghost use Rattle.mr_threads.specs.inner.Ends.{CoreRan};
 ghost use Rattle.mr_threads.specs.Listening.{HasHeard};
 ghost use Rattle.mr_threads.specs.Talk.{IsNew};
 

@@ -2,7 +2,8 @@
 ghost use Rattle.std.specs.Prelude.{◌≡◌, ◌∷◌, ◌++◌, [], true, false, IsTrue, List, Some, OnOk, OnErr};
 ghost use Rattle.std.specs.Option.{option_copied};
 ghost use Rattle.mr_threads.specs.Exchange.{Said, said, letters_said};
-ghost use Rattle.mr_threads.specs.Talk.{Says, SaysInPart, SameLanes, HearsOut};
+ghost use Rattle.mr_threads.specs.Talk.{Says, SaysInPart, SameLanes};
+ghost use Rattle.mr_threads.specs.inner.Talk.{HearsOut};
 
 use crate::lanes::{send, take};
 use mr_lane::{Post, Tap};

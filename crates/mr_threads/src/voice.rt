@@ -1,6 +1,6 @@
 //! A sender's thread: it speaks, ends its talk, and hears the rest.
 ghost use Rattle.mr_threads.specs.Ends.{VoiceRan};
-ghost use Rattle.mr_threads.specs.Talk.{IsNew, SameLanes, SpokeInTurn};
+ghost use Rattle.mr_threads.specs.Talk.{IsNew, SpokeInTurn};
 
 use crate::lanes::finish;
 use crate::speaker::Speaker;

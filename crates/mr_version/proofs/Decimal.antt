@@ -6,7 +6,7 @@ use Rattle.std.proofs.lemmas.Str.Parse.{IsNumeralModel, numerals_by_value, tells
 use Rattle.std.proofs.lemmas.Str.Pattern.{IsSplitOnceResult, split_after}
 use Rattle.std.specs.Fmt.{decimal}
 use Rattle.std.specs.Str.Parse.{AllDigits, ParsesUnsigned, digits_value}
-use Rattle.mr_version.specs.Number.{IsPlain}
+use Rattle.mr_version.specs.inner.Number.{IsPlain}
 use Rattle.mr_version.specs.Name.{Name, IsVersion, name_text}
 
 -- digits, and what they are worth

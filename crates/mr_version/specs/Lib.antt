@@ -2,6 +2,6 @@ pub mod Name
 pub mod Order
 pub mod Sets
 pub mod Fault
-pub mod Number
 pub mod Limits
 pub mod Rows
+pub mod inner

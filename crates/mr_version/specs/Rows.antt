@@ -4,7 +4,7 @@ use Rattle.std.specs.Prelude.{◌≡◌, true, false, [], ◌∷◌, codes, refl
 use Rattle.std.specs.declared.cmp.Ordering.TheVariants.{Less, Equal, Greater}
 use Rattle.std.specs.Fmt.{digits}
 use Rattle.mr_version.specs.Name.{Name, name_cmp, name_eq, name_text}
-use Rattle.mr_version.specs.Number.{IsPlain}
+use Rattle.mr_version.specs.inner.Number.{IsPlain}
 use Rattle.mr_version.specs.Sets.{is_before, is_listed, nothing}
 
 -- version 12 of author 3

@@ -1,3 +1,4 @@
+//! Authors: the replicas that make versions, by their ids.
 ghost use Rattle.std.specs.Prelude.{◌≡◌, ◌<◌, ◌↔◌, Some, IsOk, IfOk, IfErr};
 ghost use Rattle.std.specs.Fmt.{decimal};
 ghost use Rattle.mr_version.specs.declared.author.TheConstants.{AUTHORS};

@@ -1,3 +1,4 @@
+//! Why something is no author or no version.
 ghost use Rattle.std.specs.Prelude.{◌≡◌};
 
 use thiserror::Error;

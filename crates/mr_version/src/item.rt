@@ -1,3 +1,4 @@
+//! Items, each named by the version that created it.
 ghost use Rattle.std.specs.Prelude.{◌≡◌, Some, refl};
 ghost use Rattle.std.specs.Cmp;
 ghost use Rattle.std.proofs.Common.{rules};

@@ -1,6 +1,7 @@
+//! Numbers in decimal, each written in one way.
 ghost use Rattle.std.specs.Prelude.{◌≡◌, ◌<◌, ◌^◌, ◌↔◌, ℕ, Some, IsTrue, IfSome};
 ghost use Rattle.std.specs.Fmt.{decimal};
-ghost use Rattle.mr_version.specs.Number.{IsPlain};
+ghost use Rattle.mr_version.specs.inner.Number.{IsPlain};
 
 fn is_plain(text: &str) -> bool
     ensures { IsTrue result ↔ IsPlain text.now }

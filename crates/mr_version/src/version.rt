@@ -1,3 +1,4 @@
+//! Versions, and their texts.
 ghost use Rattle.std.specs.Prelude.{◌≡◌, ◌<◌, ◌≤◌, ◌^◌, ◌↔◌, ℕ, Some, Ok, IsOk, IfOk, IfErr, IfSome, string_bytes, refl};
 ghost use Rattle.std.specs.Fmt.{decimal};
 ghost use Rattle.std.specs.Cmp;

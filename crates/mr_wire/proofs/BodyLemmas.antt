@@ -17,7 +17,7 @@ use Rattle.mr_wire.specs.Frames.{Sent, Question, IsSent, IsIndexOf, IsQuestion, 
 use Rattle.mr_wire.specs.Reading.{Reader, number_at, as_at, Stands}
 use Rattle.mr_wire.specs.Parts.{author_at, filter_at, descent_at, vector_at, fragment_at}
 use Rattle.mr_wire.specs.FrameParts.{mode_at, revision_at, serial_at, header_at, body_at, index_fits, record_at, asked_at, next_asked, ask_at, receipt_at, frame_at}
-use Rattle.mr_wire.specs.Bodies.{asked_run}
+use Rattle.mr_wire.specs.inner.Bodies.{asked_run}
 use Rattle.mr_wire.proofs.Laws.{Reads, RunFits, bind_some, some_is, reads_like, reads_only, reads_as, reads_then, reads_run, reads_u32, reads_u64}
 use Rattle.mr_wire.proofs.PartLaws.{reads_author}
 use Rattle.mr_version.specs.Name.{Name}

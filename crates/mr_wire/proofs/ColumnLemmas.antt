@@ -15,7 +15,7 @@ use Rattle.mr_wire.specs.declared.vector.Head.{Head}
 use Rattle.mr_wire.specs.declared.vector.Watch.{Watch}
 use Rattle.mr_wire.specs.declared.vector.Place.{Place}
 use Rattle.mr_concise.specs.Vector.{IsVectorFrom, vector_has}
-use Rattle.mr_wire.specs.Watch.{AreSeen, IsHead, AreIn, AreHad, is_in_column, name_of_place}
+use Rattle.mr_wire.specs.inner.Watch.{AreSeen, IsHead, AreIn, AreHad, is_in_column, name_of_place}
 use Rattle.mr_wire.specs.Reading.{number_at, Stands}
 use Rattle.mr_wire.specs.Parts.{author_at, counter_at, holes_at, column_at, columns_at, vector_at}
 use Rattle.mr_wire.proofs.PartLaws.{reads_counter, reads_hole, after_hole, holes_rise, reads_column, after_column, columns_stand}

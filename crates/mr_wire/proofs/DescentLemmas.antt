@@ -11,12 +11,13 @@ use Rattle.mr_madewith.specs.Revision.{Rev, IsRevision}
 use Rattle.mr_madewith.proofs.Rising.{name_eq_self, same_names}
 use Rattle.mr_wire.specs.declared.vector.Told.{Told}
 use Rattle.mr_wire.specs.declared.vector.Watch.{Watch}
-use Rattle.mr_wire.specs.Watch.{AreHad, name_of_place}
+use Rattle.mr_wire.specs.inner.Watch.{AreHad, name_of_place}
 use Rattle.mr_wire.specs.Values.{DescentParts}
 use Rattle.mr_wire.specs.Grammar.{IsDescent}
 use Rattle.mr_wire.specs.Reading.{Stands}
 use Rattle.mr_wire.specs.Parts.{name_at, vector_at, is_descent, descent_at, message_at}
-use Rattle.mr_wire.specs.FrameParts.{descent_with, rev_with, revision_at}
+use Rattle.mr_wire.specs.FrameParts.{rev_with, revision_at}
+use Rattle.mr_wire.specs.inner.FrameParts.{descent_with}
 use Rattle.mr_wire.specs.Spelling.{descent_bytes}
 use Rattle.mr_wire.proofs.Laws.{Reads, and_left, and_right, reads_like, reads_only, reads_as, reads_then}
 use Rattle.mr_wire.proofs.PartLaws.{reads_name, reads_vector, both}

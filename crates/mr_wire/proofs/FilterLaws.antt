@@ -14,7 +14,7 @@ use Rattle.mr_mail.specs.Label.{is_label, is_label_byte, text_cmp, IsLabelSet}
 use Rattle.mr_filter.specs.Filter.{ClauseParts, IsClause, IsFilter, clause_with}
 use Rattle.mr_wire.specs.Reading.{number_at, only_at, run_at}
 use Rattle.mr_wire.specs.Spelling.{u8, label_bytes, labels_bytes, clause_bytes, filter_bytes}
-use Rattle.mr_wire.specs.Labels.{next_label}
+use Rattle.mr_wire.specs.inner.Labels.{next_label}
 use Rattle.mr_wire.specs.Parts.{label_follows, label_at, labels_at, flags_at, clause_at, filter_at}
 use Rattle.mr_wire.proofs.Laws.{Reads, RunFits, and_left, and_right, reads_like, reads_only, reads_as, reads_then, reads_counted, reads_run, reads_u8, reads_u16, reads_bytes}
 use Rattle.mr_wire.proofs.PartLaws.{both}

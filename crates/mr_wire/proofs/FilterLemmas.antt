@@ -6,7 +6,7 @@ use Rattle.std.specs.Int.{w8, w16}
 use Rattle.std.proofs.lemmas.Bool.{le-leb}
 use Rattle.mr_mail.specs.Label.{IsLabelSet}
 use Rattle.mr_filter.specs.Filter.{ClauseParts, IsFilter, clause_with}
-use Rattle.mr_wire.specs.Labels.{next_label}
+use Rattle.mr_wire.specs.inner.Labels.{next_label}
 use Rattle.mr_wire.specs.Reading.{number_at, run_at, Stands}
 use Rattle.mr_wire.specs.Parts.{label_at, labels_at, flags_at, clause_at, filter_at}
 use Rattle.mr_wire.proofs.Laws.{reads_run}

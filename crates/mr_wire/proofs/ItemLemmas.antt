@@ -9,7 +9,7 @@ use Rattle.mr_version.specs.Name.{Name}
 use Rattle.mr_forms.specs.declared.fragment.ItemSet.{ItemSet}
 use Rattle.mr_concise.specs.declared.vector.AuthorColumn.{AuthorColumn}
 use Rattle.mr_wire.specs.Values.{Piece, AreItems, ItemsRise, item_follows, listed_items, least_item}
-use Rattle.mr_wire.specs.Items.{first_or, first_item, next_item}
+use Rattle.mr_wire.specs.inner.Items.{first_or, first_item, next_item}
 use Rattle.mr_wire.specs.Grammar.{IsItem, AreFramed, IsFramed}
 use Rattle.mr_wire.specs.Reading.{number_at, only_at, as_at, Stands}
 use Rattle.mr_wire.specs.Parts.{item_at, listed_items_at, items_at, vector_at, fragment_at}

@@ -8,7 +8,7 @@ use Rattle.std.proofs.lemmas.Bool.{le-leb, leb-true}
 use Rattle.std.proofs.lemmas.Str.{IsUtf8-from_is_utf8, is_utf8-from_IsUtf8}
 use Rattle.mr_mail.specs.Label.{IsLabelSet}
 use Rattle.mr_mail.specs.Mail.{Mail}
-use Rattle.mr_wire.specs.Labels.{message_with}
+use Rattle.mr_wire.specs.inner.Labels.{message_with}
 use Rattle.mr_wire.specs.Grammar.{IsLetter}
 use Rattle.mr_wire.specs.Reading.{number_at, only_at, Stands}
 use Rattle.mr_wire.specs.Parts.{text_at, message_body_at, labels_at, flags_at, message_at}

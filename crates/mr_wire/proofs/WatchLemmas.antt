@@ -9,7 +9,7 @@ use Rattle.mr_wire.specs.declared.vector.Seen.{Seen}
 use Rattle.mr_wire.specs.declared.vector.Head.{Head}
 use Rattle.mr_wire.specs.declared.vector.Watch.{Watch}
 use Rattle.mr_concise.specs.declared.vector.AuthorColumn.{AuthorColumn}
-use Rattle.mr_wire.specs.Watch.{AreSeen, AreIn, IsHead, is_in_column, seen_with, either_seen}
+use Rattle.mr_wire.specs.inner.Watch.{AreSeen, AreIn, IsHead, is_in_column, seen_with, either_seen}
 
 or_false : (b : Bool) → (b || false) ≡ b
 or_false true = refl

@@ -1,5 +1,5 @@
 -- what stands at the front of some bytes, or the first thing that is wrong with them
-use Rattle.std.specs.Prelude.{◌≡◌, ◌+◌, ℕ, ◌==◌, ◌||◌, if◌then◌else◌, List, [], ◌∷◌, length, Option, Some, None, Result, Ok, Err, IsOk, IfSome}
+use Rattle.std.specs.Prelude.{◌≡◌, ◌+◌, ℕ, ◌==◌, ◌||◌, if◌then◌else◌, List, [], ◌∷◌, length, Option, Some, Result, Ok, Err, IsOk}
 use Rattle.mr_wire.specs.declared.fault.WireFault.{WireFault}
 use Rattle.mr_wire.specs.declared.fault.WireFault.TheVariants.{OutOfMemory, Truncated, TooLong, BadFormat, BadKind, BadBody}
 use Rattle.mr_wire.specs.declared.frame.Frame.{Frame}
@@ -39,8 +39,3 @@ Answers read (Err TooLong) = read ≡ Err TooLong
 Answers read (Err BadFormat) = read ≡ Err BadFormat
 Answers read (Err BadKind) = read ≡ Err BadKind
 Answers read (Err BadBody) = read ≡ Err BadBody
-
--- The frame that the bytes are is kept, or not; or they are none.
-abbrev pub FindsWhole : Kind → List ℕ → Option (Option Frame) → Type 0
-FindsWhole kind parts None = whole_frame kind parts ≡ None
-FindsWhole kind parts (Some kept) = (f : Frame) × (whole_frame kind parts ≡ Some f) × IfSome kept (λ k. k ≡ f)

@@ -1,5 +1,5 @@
 -- the bytes of a frame, in the format that is written
-use Rattle.std.specs.Prelude.{◌≡◌, ◌≤◌, ◌<◌, ◌+◌, ◌*◌, ◌++◌, ℕ, List, [], ◌∷◌, length, sum_by, Result, Ok, Err}
+use Rattle.std.specs.Prelude.{◌≡◌, ◌≤◌, ◌<◌, ◌+◌, ◌*◌, ℕ, List, length, sum_by, Result, Ok, Err}
 use Rattle.std.specs.Global.{Vec}
 use Rattle.mr_version.specs.declared.author.TheConstants.{AUTHORS}
 use Rattle.mr_forms.specs.declared.fragment.TheConstants.{MAX_ITEMS}
@@ -10,10 +10,8 @@ use Rattle.mr_wire.specs.declared.fault.WireFault.TheVariants.{OutOfMemory, Trun
 use Rattle.mr_wire.specs.declared.frame.Frame.{Frame}
 use Rattle.mr_wire.specs.declared.frame.Frame.TheVariants as frame
 use Rattle.mr_wire.specs.declared.frame.TheConstants.{MAX_ASKED_BYTES}
-use Rattle.mr_wire.specs.declared.kind.Kind.{Kind}
-use Rattle.mr_wire.specs.Kinds.{kind_byte}
 use Rattle.mr_wire.specs.Values.{Piece}
-use Rattle.mr_wire.specs.Spelling.{u32, fragment_bytes}
+use Rattle.mr_wire.specs.Spelling.{fragment_bytes}
 use Rattle.mr_wire.specs.FrameSpelling.{rest_bytes, frame_bytes}
 
 -- how many bytes the fragments take
@@ -29,13 +27,6 @@ abbrev pub HasShortFragments : Frame → Type 0
 HasShortFragments (frame.Ask q) = total_len q.fragments ≤ MAX_ASKED_BYTES
 HasShortFragments (frame.Record r) = Unit {0}
 HasShortFragments (frame.Receipt r) = Unit {0}
-
--- The start of a frame is its length, format and kind, where so many bytes come behind the kind; or they would be too many. Memory runs out only where they aren't.
-abbrev pub Begins : Kind → ℕ → Result (Vec ℕ) WireFault → Type 0
-Begins kind parts (Ok v) = (v.items ≡ u32 (parts + 2) ++ (2 ∷ kind_byte kind ∷ [])) × (parts + 2 ≤ MAX_REST_BYTES)
-Begins kind parts (Err TooLong) = MAX_REST_BYTES < parts + 2
-Begins kind parts (Err OutOfMemory) = parts + 2 ≤ MAX_REST_BYTES
-Begins kind parts (Err fault) = ⊥
 
 -- What is answered is the frame's bytes, or that they would be too many. Memory runs out only where they aren't.
 abbrev pub Encodes : Frame → Result (Vec ℕ) WireFault → Type 0

@@ -1,9 +1,8 @@
 -- what stands behind the kind of a frame, as it is read
-use Rattle.std.specs.Prelude.{◌≡◌, ℕ, Bool, ◌==◌, nat_le, if◌then◌else◌, List, Option, Some, None}
+use Rattle.std.specs.Prelude.{ℕ, Bool, ◌==◌, nat_le, if◌then◌else◌, Option, Some, None}
 use Rattle.std.specs.Int.{w8, w32, w64}
 use Rattle.mr_version.specs.Name.{Name}
 use Rattle.mr_mail.specs.Mail.{Mail}
-use Rattle.mr_concise.specs.declared.vector.AuthorColumn.{AuthorColumn}
 use Rattle.mr_madewith.specs.Revision.{Rev}
 use Rattle.mr_wire.specs.declared.frame.Mode.{Mode}
 use Rattle.mr_wire.specs.declared.frame.Mode.TheVariants.{Partial, Full}
@@ -15,19 +14,10 @@ use Rattle.mr_wire.specs.declared.frame.Frame.{Frame}
 use Rattle.mr_wire.specs.declared.frame.Frame.TheVariants as frame
 use Rattle.mr_wire.specs.declared.kind.Kind.{Kind}
 use Rattle.mr_wire.specs.declared.kind.Kind.TheVariants as kind
-use Rattle.mr_wire.specs.declared.revision.ReadDescent.{ReadDescent}
 use Rattle.mr_wire.specs.Values.{DescentParts, Piece, least_item}
 use Rattle.mr_wire.specs.Frames.{Sent, Question, least_follows}
-use Rattle.mr_wire.specs.Reading.{Reader, number_at, only_at, as_at, then_at, counted_at, run_at, Stands}
+use Rattle.mr_wire.specs.Reading.{Reader, number_at, only_at, as_at, then_at, counted_at, run_at}
 use Rattle.mr_wire.specs.Parts.{author_at, vector_at, descent_at, filter_at, message_at, fragment_at}
-
--- the version of the item, with what it supersedes
-abbrev pub descent_with : Name → Name → List AuthorColumn → DescentParts
-descent_with item version below = record { item = item; version = version; below = below }
-
-abbrev pub FindsDescent : List ℕ → Option ReadDescent → List ℕ → Type 0
-FindsDescent old None new = descent_at old ≡ None
-FindsDescent old (Some found) new = Stands (descent_with found.item found.version) descent_at old found.below new (λ descent. (descent.item ≡ found.item) × (descent.version ≡ found.version))
 
 abbrev pub rev_with : DescentParts → Mail → Rev
 rev_with descent message = record { item = descent.item; version = descent.version; below = descent.below; message = message }

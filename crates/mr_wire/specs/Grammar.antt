@@ -63,7 +63,7 @@ IsSaid (body.Held vector) = IsVectorFrom 0 vector
 IsSaid (body.Know piece) = IsFramed piece
 IsSaid body.End = Unit {0}
 
--- so is a request
+-- what a request says is in the grammar
 pub record IsAsked (q : Question) : Type 0 where
   pub target_in : q.target < AUTHORS
   pub session_in : (q.session < 2 ^ 64) × (1 ≤ q.session)

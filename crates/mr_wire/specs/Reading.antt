@@ -53,7 +53,7 @@ abbrev pub Gives : {X : Type 0} → Reader X → List ℕ → Option X → List 
 Gives at old None new = at old ≡ None
 Gives at old (Some x) new = at old ≡ Some (x, new)
 
--- The same of a part that takes memory: it is kept, or it is not. Of the part something is told besides.
+-- What a reader answers of a part that takes memory is the part at the front of the old bytes: it is kept, or it is not. Of the part something is told besides.
 pub record Stands {X Y : Type 0} (view : Y → X) (at : Reader X) (old : List ℕ) (kept : Option Y) (new : List ℕ) (Told : X → Type 0) : Type 0 where
   pub part : X
   pub stands : at old ≡ Some (part, new)

@@ -16,7 +16,8 @@ use Rattle.mr_wire.specs.Values.{item_follows, least_item, AreItems}
 use Rattle.mr_wire.specs.Frames.{least_follows}
 use Rattle.mr_wire.specs.Reading.{number_at, bytes_at, run_at}
 use Rattle.mr_wire.specs.Parts.{name_at, labels_at, is_descent}
-use Rattle.mr_wire.specs.FrameParts.{descent_with, index_fits}
+use Rattle.mr_wire.specs.FrameParts.{index_fits}
+use Rattle.mr_wire.specs.inner.FrameParts.{descent_with}
 use Rattle.mr_wire.specs.FrameSpelling.{frame_bytes}
 use Rattle.mr_wire.specs.Decoding.{decoded}
 

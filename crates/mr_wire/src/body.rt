@@ -1,11 +1,9 @@
 //! What stands behind the kind of a frame.
 ghost use Rattle.std.specs.Prelude.{◌≡◌, IfSome, IsSomeAnd, None, Some};
-ghost use Rattle.mr_filter.specs.Filter.{ClauseParts};
 ghost use Rattle.mr_wire.specs.Frames.{IsQuestion, IsSent, least_follows};
-ghost use Rattle.mr_wire.specs.Parts.{author_at};
-ghost use Rattle.mr_wire.specs.FrameParts.{asked_at, ask_at, body_at, index_fits, record_at, frame_at, header_at, mode_at, receipt_at, serial_at};
+ghost use Rattle.mr_wire.specs.FrameParts.{ask_at, body_at, index_fits, record_at, frame_at, header_at, mode_at, receipt_at, serial_at};
 ghost use Rattle.mr_wire.specs.Reading.{Gives, Finds};
-ghost use Rattle.mr_wire.specs.Bodies.{FindsAsked, asked_run};
+ghost use Rattle.mr_wire.specs.inner.Bodies.{FindsAsked, asked_run};
 
 use crate::descent::Descent;
 use crate::filter::filter;

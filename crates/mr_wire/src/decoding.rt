@@ -1,9 +1,10 @@
 //! From bytes to a frame.
 ghost use Rattle.std.specs.Prelude.{◌≡◌, ◌++◌, ◌≤◌, ℕ, List, length, take, IfOk, Ok};
-ghost use Rattle.mr_wire.specs.Decoding.{Answers, FindsWhole, decoded};
+ghost use Rattle.mr_wire.specs.Decoding.{Answers, decoded};
+ghost use Rattle.mr_wire.specs.inner.Decoding.{FindsWhole};
 ghost use Rattle.mr_wire.specs.declared.frame.Frame.{Frame};
 ghost use Rattle.mr_wire.specs.Grammar.{Spells};
-ghost use Rattle.mr_wire.specs.Rests.{AnswersRest, AnswersKind};
+ghost use Rattle.mr_wire.specs.inner.Rests.{AnswersRest, AnswersKind};
 
 use crate::body::frame;
 use crate::fault::WireFault;

@@ -4,7 +4,7 @@ ghost use Rattle.mr_forms.specs.declared.fragment.ItemSet.{ItemSet};
 ghost use Rattle.mr_wire.specs.Values.{AreItems, item_follows, listed_items};
 ghost use Rattle.mr_wire.specs.Parts.{item_at};
 ghost use Rattle.mr_wire.specs.Reading.{Gives};
-ghost use Rattle.mr_wire.specs.Items.{FindsItems, FindsListed, FindsItemSet, FindsFragment, first_or};
+ghost use Rattle.mr_wire.specs.inner.Items.{FindsItems, FindsListed, FindsItemSet, FindsFragment, first_or};
 
 use crate::fragment::FrameFragment;
 use crate::input::Input;

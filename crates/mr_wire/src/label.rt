@@ -1,11 +1,11 @@
 //! Labels: a count, and each label behind its length.
-ghost use Rattle.std.specs.Prelude.{◌≡◌, ◌≤◌, None, Some, IfSome, length};
+ghost use Rattle.std.specs.Prelude.{◌≡◌, None, Some, IfSome};
 ghost use Rattle.std.specs.Option.{option_copied};
 ghost use Rattle.mr_mail.specs.Label.{is_label, is_label_byte};
 ghost use Rattle.std.specs.List.{list_all};
 ghost use Rattle.mr_wire.specs.Parts.{label_at, label_follows, flags_at};
 ghost use Rattle.mr_wire.specs.Reading.{Gives, Finds, run_at};
-ghost use Rattle.mr_wire.specs.Labels.{FindsLabels, next_label};
+ghost use Rattle.mr_wire.specs.inner.Labels.{FindsLabels, next_label};
 
 use crate::input::Input;
 use crate::keep::{keep, room};

@@ -3,10 +3,9 @@ ghost use Rattle.std.specs.Prelude.{◌≡◌, true, false, MatchOption, IfOk, I
 ghost use Rattle.std.specs.Option.{option_copied};
 ghost use Rattle.std.specs.Str.{is_utf8};
 ghost use Rattle.mr_mail.specs.Label.{IsLabelSet};
-ghost use Rattle.mr_mail.specs.Mail.{Mail};
 ghost use Rattle.mr_wire.specs.Parts.{message_at, text_at, message_body_at};
 ghost use Rattle.mr_wire.specs.Reading.{Gives, Finds};
-ghost use Rattle.mr_wire.specs.Labels.{message_with};
+ghost use Rattle.mr_wire.specs.inner.Labels.{message_with};
 
 use crate::input::Input;
 use crate::label::{flags, labels};

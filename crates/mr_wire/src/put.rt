@@ -9,7 +9,7 @@ ghost use Rattle.mr_madewith.specs.Revision.{IsRevision};
 ghost use Rattle.mr_mail.specs.Label.{IsLabelSet};
 ghost use Rattle.mr_mail.specs.Mail.{IsMail};
 ghost use Rattle.mr_version.specs.Name.{IsVersion};
-ghost use Rattle.mr_wire.specs.FrameParts.{descent_with};
+ghost use Rattle.mr_wire.specs.inner.FrameParts.{descent_with};
 ghost use Rattle.mr_wire.specs.Grammar.{AreFramed, IsDescent, IsFramed, IsItem, IsLetter};
 ghost use Rattle.mr_wire.specs.Values.{AreItems, listed_items};
 ghost use Rattle.mr_wire.specs.Spelling.{u16, u32, name_bytes, hole_bytes, column_bytes, vector_bytes, label_bytes, labels_bytes, clause_bytes, filter_bytes, texts_bytes, card_bytes, message_bytes, items_bytes, fragment_bytes, descent_bytes};

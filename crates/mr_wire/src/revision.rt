@@ -4,7 +4,8 @@ ghost use Rattle.mr_version.specs.Name.{name_eq};
 ghost use Rattle.mr_madewith.specs.Revision.{IsRevision};
 ghost use Rattle.mr_wire.specs.Parts.{descent_at};
 ghost use Rattle.mr_wire.specs.Reading.{Finds};
-ghost use Rattle.mr_wire.specs.FrameParts.{FindsDescent, revision_at};
+ghost use Rattle.mr_wire.specs.FrameParts.{revision_at};
+ghost use Rattle.mr_wire.specs.inner.FrameParts.{FindsDescent};
 
 use crate::descent::Descent;
 use crate::input::Input;

@@ -4,7 +4,7 @@ ghost use Rattle.mr_concise.specs.Column.{hole_has, IsColumn};
 ghost use Rattle.mr_concise.specs.Vector.{IsVectorFrom};
 ghost use Rattle.mr_wire.specs.Parts.{hole_at, vector_at};
 ghost use Rattle.mr_wire.specs.Reading.{Gives, Finds};
-ghost use Rattle.mr_wire.specs.Watch.{FindsHoles, FindsColumn, FindsColumns, FindsVector, seen_with, either_seen, name_of_place};
+ghost use Rattle.mr_wire.specs.inner.Watch.{FindsHoles, FindsColumn, FindsColumns, FindsVector, seen_with, either_seen, name_of_place};
 
 use crate::input::Input;
 use crate::keep::{keep, room};

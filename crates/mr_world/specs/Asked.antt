@@ -1,19 +1,15 @@
 -- What an act asks of its replica, or of one of the replica's ports.
-use Rattle.std.specs.Prelude.{◌≡◌, nat_lt, ℕ, false, if◌then◌else◌, is_none, Option, Some, None, List, length, Result, Ok, Err}
+use Rattle.std.specs.Prelude.{nat_lt, ℕ, if◌then◌else◌, Option, Some, List, length}
 use Rattle.std.specs.Option.{option_map}
 use Rattle.mr_mail.specs.Mail.{Mail}
 use Rattle.mr_model.specs.Moment.{numbered}
 use Rattle.mr_model.specs.declared.event.Act.{Act}
 use Rattle.mr_model.specs.declared.event.Act.TheVariants as act
-use Rattle.mr_replica.specs.declared.event.Event.{Event as ReplicaEvent}
 use Rattle.mr_replica.specs.declared.event.Event.TheVariants as replica
 use Rattle.mr_wire.specs.Frames.{Question, Sent}
 use Rattle.mr_wire.specs.FrameSpelling.{frame_bytes}
 use Rattle.mr_wire.specs.declared.frame.Frame.TheVariants as frame
 use Rattle.mr_wire.specs.declared.frame.Receipt.{Receipt}
-use Rattle.mr_world.specs.Pool.{PoolList, questions_in, sents_in, receipts_in}
-use Rattle.mr_world.specs.declared.fault.WorldFault.{WorldFault}
-use Rattle.mr_world.specs.declared.fault.WorldFault.TheVariants.{OutOfMemory, NoSuchReplica, NoSuchFrame}
 use Rattle.mr_world.specs.declared.task.Task.{Task}
 use Rattle.mr_world.specs.declared.task.Task.TheVariants.{Step, Truncated, Offer, Take, Close}
 
@@ -55,14 +51,3 @@ module _ (asks : List Question) (records : List Sent) (receipts : List Receipt) 
   asked (act.Close u) = Some (Close u)
   asked (act.Vouch version) = Some (Step (replica.Vouch version))
   asked (act.Release n) = option_map releasing (numbered receipts n)
-
--- what it asks by the frames of pools
-abbrev pub asked_of : PoolList → Act Mail → Option Task
-asked_of p = asked (questions_in p.asks.frames) (sents_in p.records.frames) (receipts_in p.receipts.frames)
-
--- The task is found; or there is none, since a frame isn't there; or memory is wanting, and there is one.
-abbrev pub Finds : Option Task → Result Task WorldFault → Type 0
-Finds o (Ok t) = o ≡ Some t
-Finds o (Err OutOfMemory) = is_none o ≡ false
-Finds o (Err NoSuchFrame) = o ≡ None
-Finds o (Err NoSuchReplica) = ⊥

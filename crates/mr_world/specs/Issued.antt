@@ -36,6 +36,6 @@ pub record IsTrueRevision (issues : List (Issue Mail)) (r : Rev) : Type 0 where
   pub below : IsBelow issues r.item r.version r.below
   pub message : message_of issues r.version ≡ Some r.message
 
--- so is a version that is told without its message
+-- a version that is told without its message is of an issue
 abbrev pub IsTrueLine : List (Issue Mail) → DescentParts → Type 0
 IsTrueLine issues line = IsBelow issues line.item line.version line.below

@@ -6,8 +6,6 @@ use Rattle.mr_wire.specs.Frames.{Question, Sent}
 use Rattle.mr_wire.specs.declared.frame.Receipt.{Receipt}
 use Rattle.mr_world.specs.Pool.{PoolList, questions_in, sents_in, receipts_in}
 use Rattle.mr_world.specs.World.{Port, World}
-use Rattle.mr_model.specs.declared.event.Subscriber.{Subscriber}
-use Rattle.mr_model.specs.declared.event.Subscriber.TheVariants.{Indexer, Notifier}
 use Rattle.mr_world.specs.declared.answered.Answered.{Answered}
 
 -- a replica with the ports to its two subscribers
@@ -46,16 +44,6 @@ module _ {K : Type 0} where
   -- the replica of this id
   abbrev pub replica_at : List (MemberView K) → ℕ → Option (State K)
   replica_at members r = option_map (λ m. m.replica) (member_at members r)
-
-  -- the port to a subscriber
-  abbrev pub port_of : MemberView K → Subscriber → Port
-  port_of m Indexer = m.indexer
-  port_of m Notifier = m.notifier
-
-  -- the member with another port to a subscriber
-  abbrev pub with_outlet : MemberView K → Subscriber → Port → MemberView K
-  with_outlet m Indexer port = record m { indexer = port }
-  with_outlet m Notifier port = record m { notifier = port }
 
   -- ---- as a world over all ids
 

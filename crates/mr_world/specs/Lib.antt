@@ -5,12 +5,8 @@ pub mod Fault
 pub mod Pool
 pub mod Asked
 pub mod Kept
-pub mod Given
-pub mod Happens
 pub mod Made
 pub mod Run
-pub mod TakenAnswer
-pub mod Stepped
 pub mod Seen
 pub mod Issued
 pub mod Told
@@ -24,3 +20,4 @@ pub mod Normal
 pub mod ListedItems
 pub mod Replies
 pub mod Rows
+pub mod inner

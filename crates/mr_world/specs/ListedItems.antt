@@ -21,11 +21,11 @@ abbrev pub AreIssuedItems : List (Issue Mail) → Option (List Name) → Type 0
 AreIssuedItems issues None = Unit {0}
 AreIssuedItems issues (Some items) = (i : Name) → In i items → IsTrue (is_issued issues i)
 
--- so are those that each of the fragments lists
+-- the items that each of the fragments lists were issued
 abbrev pub ListIssued : List (Issue Mail) → List Piece → Type 0
 ListIssued issues pieces = (piece : Piece) → In piece pieces → AreIssuedItems issues piece.items
 
--- so are those that a record lists
+-- the items that a record lists were issued
 abbrev pub ListsIssued : List (Issue Mail) → Body → Type 0
 ListsIssued issues (Know piece) = AreIssuedItems issues piece.items
 ListsIssued issues (Start mode) = Unit {0}
@@ -45,7 +45,7 @@ module _ {K : Type 0} (form : Form K) where
     pub streams : (number : ℕ) (k : Stream) → open_at s.streams number ≡ Some k → ListIssued issues k.know
     pub sessions : (number : ℕ) (k : Session) → open_at s.sessions number ≡ Some k → ListIssued issues k.know
 
-  -- so does all that is in a world
+  -- all that is in a world lists issued items alone
   pub record IsListedWorld (issues : List (Issue Mail)) (w : World K) : Type 0 where
     pub replicas : (r : ℕ) → IsListedReplica issues (w.replicas r)
     pub records : (sent : Sent) → In sent w.records → ListsIssued issues sent.body

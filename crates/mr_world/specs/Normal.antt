@@ -17,7 +17,7 @@ use Rattle.mr_world.specs.World.{World}
 abbrev pub IsNormal : List AuthorColumn → Type 0
 IsNormal columns = IsVectorFrom 0 columns
 
--- so are those that a record carries
+-- the columns that a record carries are as those of a vector have to be
 abbrev pub IsNormalBody : Body → Type 0
 IsNormalBody (Start mode) = Unit {0}
 IsNormalBody (Item r) = IsNormal r.below
@@ -26,22 +26,22 @@ IsNormalBody (Held vector) = IsNormal vector
 IsNormalBody (Know piece) = IsNormal piece.vector
 IsNormalBody End = Unit {0}
 
--- so are those of revisions
+-- the columns of revisions are as those of a vector have to be
 abbrev pub AreNormalRevisions : List Rev → Type 0
 AreNormalRevisions rs = (r : Rev) → In r rs → IsNormal r.below
 
--- so are those that a stream still has to give
+-- the columns that a stream still has to give are as those of a vector have to be
 pub record IsNormalStream (k : Stream) : Type 0 where
   pub held : (vectors : List (List AuthorColumn)) → k.held ≡ Some vectors → (v : List AuthorColumn) → In v vectors → IsNormal v
   pub know : (piece : Piece) → In piece k.know → IsNormal piece.vector
 
--- so are those that a replica holds and has to give
+-- the columns that a replica holds and has to give are as those of a vector have to be
 pub record IsNormalReplica {K : Type 0} (s : State K) : Type 0 where
   pub heads : AreNormalRevisions s.heads
   pub push_outs : AreNormalRevisions s.push_outs
   pub streams : (number : ℕ) (k : Stream) → open_at s.streams number ≡ Some k → IsNormalStream k
 
--- so are all
+-- all columns in a world are as those of a vector have to be
 pub record IsNormalWorld {K : Type 0} (w : World K) : Type 0 where
   pub replicas : (r : ℕ) → IsNormalReplica (w.replicas r)
   pub records : (sent : Sent) → In sent w.records → IsNormalBody sent.body

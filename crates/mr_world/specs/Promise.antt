@@ -82,7 +82,7 @@ module _ {K : Type 0} where
   abbrev pub GivesTrueRecords : WorldView K → Type 0
   GivesTrueRecords w = (sent : Sent) → In sent w.records → IsTrueBody (moment_of w).issues sent.body
 
-  -- and so is each receipt
+  -- each receipt of the pool is of issues
   abbrev pub GivesTrueReceipts : WorldView K → Type 0
   GivesTrueReceipts w = ReceiptsAgree (moment_of w).issues w.receipts
 

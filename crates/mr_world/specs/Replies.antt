@@ -77,7 +77,7 @@ module _ {K : Type 0} (form : Form K) where
   IsBySets ends m r (DeliverPart n bytes) (Stepped (Ok reply)) = TellsWhetherKnown m r reply (numbered m.given n)
   IsBySets ends m r act answer = Unit {0}
 
-  -- so is each of the answers, at the moment after those before it
+  -- each of the answers is by sets, at the moment after those before it
   abbrev pub AreBySets : (ℕ → Option (State K)) → (ℕ → List ClauseParts) → List Answered → Type 0
   AreBySets ends filters answers =
       (before later : List Answered) (x : Answered) → answers ≡ before ++ x ∷ later → IsBySets ends (now (setting_of filters) (history filters before)) x.event.replica x.event.act x.answer

@@ -12,7 +12,8 @@ use Rattle.mr_replica.specs.State.{new_state}
 use Rattle.mr_replica.specs.declared.event.Reply.TheVariants.{Asked}
 use Rattle.mr_replica.specs.declared.refusal.Refusal.TheVariants.{LogFull}
 use Rattle.mr_world.specs.World.{World, new_port, with_given}
-use Rattle.mr_world.specs.Kept.{MemberView, WorldView, newest_answered, member_at, replica_at, with_outlet, port_of, world_of}
+use Rattle.mr_world.specs.Kept.{MemberView, WorldView, newest_answered, member_at, replica_at, world_of}
+use Rattle.mr_world.specs.inner.Kept.{with_outlet, port_of}
 use Rattle.mr_world.specs.Made.{has_same_id, spec_refusal}
 use Rattle.mr_world.specs.Pool.{at_number}
 use Rattle.mr_world.specs.Run.{answered}

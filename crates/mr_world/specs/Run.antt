@@ -1,5 +1,5 @@
 -- runs of a world: events that are answered one after the other, up to the end or to one at which it stops
-use Rattle.std.specs.Prelude.{◌≡◌, ◌++◌, [], ◌∷◌, ℕ, Bool, false, is_none, if◌then◌else◌, Option, Some, None, List, length, map, Result, Ok, Err}
+use Rattle.std.specs.Prelude.{◌≡◌, ◌++◌, [], ◌∷◌, ℕ, is_none, if◌then◌else◌, Option, Some, None, List, length, map, Result, Ok, Err}
 use Rattle.mr_forms.specs.Known.{Form}
 use Rattle.mr_mail.specs.Mail.{Mail}
 use Rattle.mr_model.specs.declared.event.Act.{Act}

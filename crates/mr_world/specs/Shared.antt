@@ -22,7 +22,7 @@ pub record SeesAsk (issues : List (Issue Mail)) (filters : ℕ → List ClausePa
   pub filter : asked.filter ≡ filters asked.target
   pub shows : Shows issues (claimed asked.claims) (claims seen)
 
--- so does each of the pool, in its order
+-- each request of the pool is seen as what was asked, in its order
 abbrev pub SeesAsks : List (Issue Mail) → (ℕ → List ClauseParts) → List Ask → List Question → Type 0
 SeesAsks issues filters [] [] = Unit {0}
 SeesAsks issues filters (seen ∷ older) (question ∷ questions) = SeesAsk issues filters seen (asked_of question) × SeesAsks issues filters older questions

@@ -1,8 +1,8 @@
 //! How an event is answered: its replica is found, its task made, done, and its answer noted.
 ghost use Rattle.std.specs.Prelude.{◌≡◌, ◌==◌, ◌<◌, OnOk, Some, vec_len, vec_capacity};
 ghost use Rattle.std.specs.List.{position};
-ghost use Rattle.mr_world.specs.Given.{HasPlaces, KeepsFrames};
-ghost use Rattle.mr_world.specs.Asked.{asked_of};
+ghost use Rattle.mr_world.specs.inner.Given.{HasPlaces, KeepsFrames};
+ghost use Rattle.mr_world.specs.inner.Asked.{asked_of};
 ghost use Rattle.mr_world.specs.Pool.{AreFrames};
 ghost use Rattle.mr_world.specs.Kept.{world_view};
 ghost use Rattle.mr_world.specs.Run.{Meets};

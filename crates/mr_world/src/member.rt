@@ -1,8 +1,8 @@
 //! A replica of a world, with the ports to its two subscribers.
 ghost use Rattle.std.specs.Prelude.{◌≡◌, ◌==◌, OnErr, IfOk, Ok};
 ghost use Rattle.std.specs.List.{position};
-ghost use Rattle.mr_world.specs.Given.{HasPlaces};
-ghost use Rattle.mr_world.specs.Stepped.{StepsIn, IsRefusedBy};
+ghost use Rattle.mr_world.specs.inner.Given.{HasPlaces};
+ghost use Rattle.mr_world.specs.inner.Stepped.{StepsIn, IsRefusedBy};
 ghost use Rattle.mr_world.specs.Ports.{Offers, Takes, Closes};
 
 use crate::answer::Answer;
@@ -35,8 +35,8 @@ impl<K: Knowledge> Model for Member<K> {
 }
 
 impl<K: Knowledge> Member<K> {
-    ghost use Rattle.mr_world.specs.Kept.{port_of, with_outlet};
-    ghost use Rattle.mr_world.specs.Happens.{Fulfils};
+    ghost use Rattle.mr_world.specs.inner.Kept.{port_of, with_outlet};
+    ghost use Rattle.mr_world.specs.inner.Happens.{Fulfils};
 
     /// A replica, with ports through which nothing went.
     pub fn new(replica: Replica<K>, indexer: PlainPort, notifier: PlainPort) -> Member<K>

@@ -1,7 +1,7 @@
 //! What one subscriber of a replica is told: its port, and how far the feed was offered to it.
-ghost use Rattle.std.specs.Prelude.{◌≡◌, [], false, IfOk, OnErr};
+ghost use Rattle.std.specs.Prelude.{◌≡◌, IfOk, OnErr};
 ghost use Rattle.mr_world.specs.Ports.{Offers, Takes, Closes};
-ghost use Rattle.mr_world.specs.TakenAnswer.{answer_taken};
+ghost use Rattle.mr_world.specs.inner.TakenAnswer.{answer_taken};
 
 use crate::answer::Answer;
 use mr_feed::{Entry, PlainPort, PortIn, PortOut, Taken};
@@ -68,6 +68,7 @@ impl Outlet {
     pub fn close(&mut self) -> Answer
         ensures { Closes self.old result self.new }
     {
+        // whether it was open makes no difference
         let _ = self.port.close();
         Answer::Done
     }

@@ -1,6 +1,6 @@
 //! The three pools, and what a replica's answer gives to them.
-ghost use Rattle.std.specs.Prelude.{◌≡◌, ◌<◌, [], IfOk, OnOk};
-ghost use Rattle.mr_world.specs.Given.{IsGivenBy, KeepsFrames, HasPlaces, Gains};
+ghost use Rattle.std.specs.Prelude.{◌≡◌, [], IfOk, OnOk};
+ghost use Rattle.mr_world.specs.inner.Given.{IsGivenBy, KeepsFrames, HasPlaces, Gains};
 
 use crate::pool::Pool;
 use mr_replica::Reply;

@@ -1,7 +1,7 @@
 //! What every world keeps, and what holds of it then.
 //!
 //! The functions compute nothing. Each is a law, whose contract is a theorem.
-ghost use Rattle.std.specs.Prelude.{◌≡◌, false, List};
+ghost use Rattle.std.specs.Prelude.{false, List};
 ghost use Rattle.mr_forms.specs.Known.{AreSame};
 ghost use Rattle.mr_mail.specs.Mail.{Mail};
 ghost use Rattle.mr_world.specs.declared.answer.Answer.{Answer};

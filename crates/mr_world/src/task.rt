@@ -1,10 +1,11 @@
 //! What an act asks of its replica, or of one of the replica's ports.
-ghost use Rattle.std.specs.Prelude.{◌≡◌, IfOk, All};
+ghost use Rattle.std.specs.Prelude.{IfOk, All};
 ghost use Rattle.std.specs.Option.{option_map};
 ghost use Rattle.mr_model.specs.Moment.{numbered};
 ghost use Rattle.mr_wire.specs.Grammar.{Spells};
 ghost use Rattle.mr_wire.specs.declared.frame.Frame.{Frame};
-ghost use Rattle.mr_world.specs.Asked.{asked_of, receiving, delivering, answering, releasing, Finds};
+ghost use Rattle.mr_world.specs.Asked.{receiving, delivering, answering, releasing};
+ghost use Rattle.mr_world.specs.inner.Asked.{asked_of, Finds};
 ghost use Rattle.mr_world.specs.Pool.{AreFrames, IsAskFrame, IsRecordFrame, IsReceiptFrame, questions_in, sents_in, receipts_in};
 
 use crate::event::Act;

@@ -1,6 +1,6 @@
 //! A world: replicas, all that they gave one another, and ports to their subscribers.
-ghost use Rattle.std.specs.Prelude.{◌≡◌, ◌==◌, ◌≤◌, IfOk, IfErr, None, Some, length};
-ghost use Rattle.std.specs.List.{position, AllZip};
+ghost use Rattle.std.specs.Prelude.{◌≡◌, ◌≤◌, IfOk, IfErr, None, Some, length};
+ghost use Rattle.std.specs.List.{AllZip};
 ghost use Rattle.std.specs.Option.{option_copied};
 ghost use Rattle.mr_world.specs.Made.{IsMadeOf, spec_refusal};
 ghost use Rattle.mr_world.specs.World.{new_port};

@@ -12,8 +12,6 @@ struct AnyRoster {
 }
 
 impl Roster for AnyRoster {
-    ghost use Rattle.mr_command.specs.Scene.{Scene};
-
     ghost scene = { λ roster. record { is_opening = roster.is_opening; has_replica = λ _. not roster.is_opening; has_frame = λ _ _. true } };
 
     fn is_opening(&self) -> bool {

@@ -1,5 +1,5 @@
 //! Links over lanes that do something strange.
-ghost use Rattle.std.specs.Prelude.{◌≡◌, ◌<◌, ◌+◌, ◌^◌, None, IfOk, length};
+ghost use Rattle.std.specs.Prelude.{◌≡◌, ◌<◌, ◌+◌, None, IfOk, length};
 
 use crate::strange::{Strange, What};
 use mr_link::{LaneLink, Link, LinkFault};

@@ -1,7 +1,6 @@
 //! The bases of an edit: a count, and so many versions.
 ghost use Rattle.std.specs.Prelude.{◌≡◌, ◌<◌, ◌^◌, ◌++◌, OnOk, All, IfSome, IsSomeAnd, length};
 ghost use Rattle.std.specs.List.{flat_map};
-ghost use Rattle.mr_mail.specs.Mail.{Mail};
 ghost use Rattle.mr_wire.specs.Grammar.{IsItem};
 ghost use Rattle.mr_wire.specs.Reading.{Finds};
 ghost use Rattle.mr_wire.specs.Spelling.{name_bytes};

@@ -1,5 +1,4 @@
 //! What stands behind the kind of an event.
-ghost use Rattle.std.specs.Prelude.{◌≡◌};
 ghost use Rattle.mr_wire.specs.Reading.{Gives, Finds};
 ghost use Rattle.mr_entry.specs.Parts.{event_at, frame_kind_at, framed_at};
 

@@ -4,7 +4,7 @@ ghost use Rattle.mr_replica.specs.declared.event.Event.{Event};
 ghost use Rattle.mr_wire.specs.Prefixed.{rest_of};
 ghost use Rattle.mr_entry.specs.Decoding.{AnswersEvent, event_decoded, kind_and_parts, rest_faults};
 ghost use Rattle.mr_entry.specs.Grammar.{SpellsEvent};
-ghost use Rattle.mr_entry.specs.Seen.{FindsWhole, kind_seen, rest_seen};
+ghost use Rattle.mr_entry.specs.inner.Seen.{FindsWhole, kind_seen, rest_seen};
 
 use crate::event::body::event;
 use crate::event::encoding::FORM;

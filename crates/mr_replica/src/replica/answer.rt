@@ -47,7 +47,7 @@ impl<K: Knowledge> Core<K> {
     ghost use Rattle.mr_replica.specs.Fragments.{HasHoleyPart};
     ghost use Rattle.mr_replica.specs.Pieces.{ArePiecesOf};
     ghost use Rattle.mr_replica.specs.Answer.{answer_refusal, mode_for, Keeps, KeepsHoley};
-    ghost use Rattle.mr_replica.specs.Prepare.{Prepares, IsOpeningFor};
+    ghost use Rattle.mr_replica.specs.inner.Prepare.{Prepares, IsOpeningFor};
 
     pub(crate) fn prepare_answer(&self, ask: &Ask) -> Result<Prepared<K>, Refusal>
         ensures { Prepares K.form self.now (Event.Answer ask.now) result }

@@ -26,7 +26,7 @@ pub struct Contents {
 
 impl Model for Contents {
     ghost use Rattle.std.specs.Prelude.{◌-◌, vec_len, vec_capacity};
-    ghost use Rattle.mr_replica.specs.Contents.{ContentParts};
+    ghost use Rattle.mr_replica.specs.inner.Contents.{ContentParts};
 
     ghost Value = { ContentParts };
 
@@ -34,7 +34,7 @@ impl Model for Contents {
 }
 
 impl Contents {
-    ghost use Rattle.mr_replica.specs.Contents.{HoldsSame};
+    ghost use Rattle.mr_replica.specs.inner.Contents.{HoldsSame};
 
     /// Nothing. It allocates nothing.
     pub fn new(alloc: Global) -> Contents

@@ -1,6 +1,6 @@
 //! Copies of a replica.
 ghost use Rattle.std.specs.Prelude.{◌≡◌, IfOk, OnOk};
-ghost use Rattle.mr_replica.specs.Parts.{parts_seen};
+ghost use Rattle.mr_replica.specs.inner.Parts.{parts_seen};
 
 use super::parts::Parts;
 use super::{Core, Replica};

@@ -31,7 +31,7 @@ impl<K: Knowledge> Replica<K> {
 
 impl<K: Knowledge> Core<K> {
     ghost use Rattle.mr_replica.specs.Create.{create_refusal};
-    ghost use Rattle.mr_replica.specs.Prepare.{Prepares, PreparesLate};
+    ghost use Rattle.mr_replica.specs.inner.Prepare.{Prepares, PreparesLate};
 
     pub(crate) fn prepare_create(&self, message: &Message) -> Result<Prepared<K>, Refusal>
         ensures { Prepares K.form self.now (Event.Create message.now) result }

@@ -26,7 +26,7 @@ impl<K: Knowledge> Replica<K> {
 
 impl<K: Knowledge> Core<K> {
     ghost use Rattle.mr_replica.specs.CutIn.{cut_in_refusal};
-    ghost use Rattle.mr_replica.specs.Prepare.{Prepares};
+    ghost use Rattle.mr_replica.specs.inner.Prepare.{Prepares};
 
     pub(crate) fn prepare_cut_in(&self, session: u64) -> Result<Prepared<K>, Refusal>
         ensures { Prepares K.form self.now (Event.CutIn session) result }

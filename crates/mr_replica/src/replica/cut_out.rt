@@ -26,7 +26,7 @@ impl<K: Knowledge> Replica<K> {
 
 impl<K: Knowledge> Core<K> {
     ghost use Rattle.mr_replica.specs.CutOut.{cut_out_refusal};
-    ghost use Rattle.mr_replica.specs.Prepare.{Prepares};
+    ghost use Rattle.mr_replica.specs.inner.Prepare.{Prepares};
 
     pub(crate) fn prepare_cut_out(&self, stream: u64) -> Result<Prepared<K>, Refusal>
         ensures { Prepares K.form self.now (Event.CutOut stream) result }

@@ -43,11 +43,11 @@ impl<K: Knowledge> Core<K> {
     ghost use Rattle.mr_replica.specs.State.{next_version};
     ghost use Rattle.mr_mail.specs.Mail.{Mail};
     ghost use Rattle.mr_replica.specs.Issue.{below_for};
-    ghost use Rattle.mr_replica.specs.Issued.{IsNext};
+    ghost use Rattle.mr_replica.specs.inner.Issued.{IsNext};
     ghost use Rattle.mr_replica.specs.Edit.{edit_refusal, edited_item, item_refusal, not_held, are_all_of, own_left};
     ghost use Rattle.std.specs.Option.{option_map};
     ghost use Rattle.mr_replica.specs.declared.refusal.Refusal.TheVariants.{NotHeld};
-    ghost use Rattle.mr_replica.specs.Prepare.{Prepares, PreparesLate};
+    ghost use Rattle.mr_replica.specs.inner.Prepare.{Prepares, PreparesLate};
 
     pub(crate) fn prepare_edit(
         &self,

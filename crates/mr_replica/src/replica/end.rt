@@ -32,9 +32,9 @@ impl<K: Knowledge> Core<K> {
     ghost use Rattle.mr_forms.specs.Known.{AreSame, with_pairs};
     ghost use Rattle.mr_replica.specs.Issue.{Fits};
     ghost use Rattle.mr_replica.specs.Receive.{record_refusal, session_for};
-    ghost use Rattle.mr_replica.specs.Taking.{RefusesEnding, RefusesMerged};
+    ghost use Rattle.mr_replica.specs.inner.Taking.{RefusesEnding, RefusesMerged};
     ghost use Rattle.mr_replica.specs.Wanting.{FirstFits};
-    ghost use Rattle.mr_replica.specs.Prepare.{PreparesEnd};
+    ghost use Rattle.mr_replica.specs.inner.Prepare.{PreparesEnd};
 
     // The session is to take the End of its stream, and to be closed.
     pub(crate) fn prepare_end(&self, sent: &Record) -> Result<Prepared<K>, Refusal>

@@ -91,6 +91,7 @@ impl<K: Knowledge> Core<K> {
 fn highest(vector: &ConciseVector, author: Author) -> u32
     ensures { result ≡ (column_of vector.now author).upto }
 {
+    // a vector's columns are as they have to be
     let _columns = vector.author_columns();
     vector.last(author).unwrap_or(0)
 }

@@ -14,8 +14,8 @@ use std::alloc::AllocError;
 impl<K: Knowledge> Core<K> {
     ghost use Rattle.mr_replica.specs.State.{next_version};
     ghost use Rattle.mr_replica.specs.Issue.{Wanted.Knowledge as KnowledgeWanted, version_learned, Fits};
-    ghost use Rattle.mr_replica.specs.Issued.{IsNext, RefusesMade};
-    ghost use Rattle.mr_replica.specs.Prepare.{IsToEnter};
+    ghost use Rattle.mr_replica.specs.inner.Issued.{IsNext, RefusesMade};
+    ghost use Rattle.mr_replica.specs.inner.Prepare.{IsToEnter};
 
     // The version that is issued next.
     pub(crate) fn next_version(&self) -> Version

@@ -31,8 +31,9 @@ impl<K: Knowledge> Replica<K> {
 }
 
 impl<K: Knowledge> Core<K> {
-    ghost use Rattle.mr_replica.specs.Next.{next_refusal, GivesNext, going_on};
-    ghost use Rattle.mr_replica.specs.Prepare.{Prepares};
+    ghost use Rattle.mr_replica.specs.Next.{next_refusal, GivesNext};
+    ghost use Rattle.mr_replica.specs.inner.Next.{going_on};
+    ghost use Rattle.mr_replica.specs.inner.Prepare.{Prepares};
 
     pub(crate) fn prepare_next(&self, stream: u64) -> Result<Prepared<K>, Refusal>
         ensures { Prepares K.form self.now (Event.Next stream) result }

@@ -6,7 +6,7 @@ ghost use Rattle.mr_session.specs.Stream.{new_stream};
 ghost use Rattle.mr_session.specs.Table.{open_at, with_opened, with_closed};
 ghost use Rattle.mr_session.specs.Onward.{advanced};
 ghost use Rattle.mr_session.specs.declared.limits.TheConstants.{MAX_OPEN};
-ghost use Rattle.mr_replica.specs.Parts.{parts_seen, HasBecome, IsDueIn, IsOfRecord, IsOfReceipt, IsReceiveOf, IsReleaseOf};
+ghost use Rattle.mr_replica.specs.inner.Parts.{parts_seen, HasBecome, IsDueIn, IsOfRecord, IsOfReceipt, IsReceiveOf, IsReleaseOf};
 ghost use Rattle.mr_replica.specs.Release.{vouched};
 
 use super::answer::Opening;
@@ -63,7 +63,7 @@ pub enum Change<K> {
 
 impl<K: Knowledge> Parts<K> {
     ghost use Rattle.mr_forms.specs.Known.{AreSame};
-    ghost use Rattle.mr_replica.specs.Parts.{new_parts, MayPut, IsPut, Enters, Learns, IsToldIn, ended_in};
+    ghost use Rattle.mr_replica.specs.inner.Parts.{new_parts, MayPut, IsPut, Enters, Learns, IsToldIn, ended_in};
 
     /// Nothing. It allocates nothing.
     pub fn new(alloc: Global) -> Parts<K>

@@ -15,7 +15,7 @@ pub struct Prepared<K> {
 }
 
 impl<K: Knowledge> Core<K> {
-    ghost use Rattle.mr_replica.specs.Prepare.{IsToChange, IsChanged, Prepares};
+    ghost use Rattle.mr_replica.specs.inner.Prepare.{IsToChange, IsChanged, Prepares};
 
     // What the event is answered and what it changes, or why it is refused.
     pub(crate) fn prepare(&self, event: &Event) -> Result<Prepared<K>, Refusal>

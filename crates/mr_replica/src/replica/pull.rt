@@ -37,7 +37,7 @@ impl<K: Knowledge> Core<K> {
     ghost use Rattle.mr_replica.specs.Fragments.{HasHoleyPart};
     ghost use Rattle.mr_replica.specs.Pull.{pull_refusal, AreAsked, IsAskOf};
     ghost use Rattle.mr_replica.specs.Step.{RefusesLate};
-    ghost use Rattle.mr_replica.specs.Prepare.{Prepares};
+    ghost use Rattle.mr_replica.specs.inner.Prepare.{Prepares};
 
     pub(crate) fn prepare_pull(&self) -> Result<Prepared<K>, Refusal>
         ensures { Prepares K.form self.now Event.Pull result }

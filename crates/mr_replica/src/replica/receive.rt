@@ -50,7 +50,7 @@ impl<K: Knowledge> Replica<K> {
 impl<K: Knowledge> Core<K> {
     ghost use Rattle.mr_replica.specs.Admission.{retired};
     ghost use Rattle.mr_replica.specs.Receive.{session_for, session_refusal, record_refusal};
-    ghost use Rattle.mr_replica.specs.Prepare.{Prepares, PreparesLate};
+    ghost use Rattle.mr_replica.specs.inner.Prepare.{Prepares, PreparesLate};
 
     pub(crate) fn prepare_receive(&self, frame: &Frame) -> Result<Prepared<K>, Refusal>
         ensures { Prepares K.form self.now (Event.Receive frame.now) result }

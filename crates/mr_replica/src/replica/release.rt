@@ -1,7 +1,6 @@
 //! Release: push-outs for which another replica vouches are let go.
 ghost use Rattle.std.specs.Prelude.{◌≡◌, ◌||◌, None, Some, MatchResult};
 ghost use Rattle.std.specs.List.{list_any};
-ghost use Rattle.mr_store.specs.Revisions.{versions_of};
 ghost use Rattle.mr_replica.specs.StepThen.{answer_by};
 ghost use Rattle.mr_replica.specs.Release.{vouched};
 
@@ -32,7 +31,7 @@ impl<K: Knowledge> Replica<K> {
 
 impl<K: Knowledge> Core<K> {
     ghost use Rattle.mr_replica.specs.Release.{release_refusal};
-    ghost use Rattle.mr_replica.specs.Prepare.{Prepares};
+    ghost use Rattle.mr_replica.specs.inner.Prepare.{Prepares};
 
     pub(crate) fn prepare_release(&self, receipt: &Receipt) -> Result<Prepared<K>, Refusal>
         ensures { Prepares K.form self.now (Event.Release receipt.now) result }

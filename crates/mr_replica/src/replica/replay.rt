@@ -45,7 +45,8 @@ impl<K: Knowledge> Replica<K> {
     ghost use Rattle.mr_replica.specs.State.{State};
     ghost use Rattle.mr_replica.specs.Step.{Steps};
     ghost use Rattle.mr_replica.specs.Alike.{AreAlike};
-    ghost use Rattle.mr_replica.specs.Replay.{Admits, AdmitsAll, IsStop, Replays, IsReplayFault, IsItsLog, IsForMemory};
+    ghost use Rattle.mr_replica.specs.Replay.{Admits, AdmitsAll, Replays, IsReplayFault, IsItsLog, IsForMemory};
+    ghost use Rattle.mr_replica.specs.inner.Replay.{IsStop};
 
     /// The replica that a fresh one of this id, filter and limit becomes by these events, each of which it
     /// admits in its turn. Its log is then just these events.
@@ -110,6 +111,7 @@ impl<K: Knowledge> Replica<K> {
     fn take_again(&mut self, event: Event) -> Result<(), Refusal>
         ensures { MatchResult result (λ _. Admits K.form self.old event self.new) (λ e. Steps K.form self.old event (Err e) self.new) }
     {
+        // the reply was given when it happened first
         let _ = self.step(event)?;
         Ok(())
     }

@@ -26,7 +26,7 @@ impl<K: Knowledge> Replica<K> {
 
 impl<K: Knowledge> Core<K> {
     ghost use Rattle.mr_replica.specs.Retire.{retire_refusal};
-    ghost use Rattle.mr_replica.specs.Prepare.{Prepares};
+    ghost use Rattle.mr_replica.specs.inner.Prepare.{Prepares};
 
     pub(crate) fn prepare_retire(&self) -> Result<Prepared<K>, Refusal>
         ensures { Prepares K.form self.now Event.Retire result }

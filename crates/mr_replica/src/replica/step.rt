@@ -1,5 +1,4 @@
 //! What one event does.
-ghost use Rattle.std.specs.Prelude.{◌≡◌};
 
 use super::Replica;
 use crate::{Event, Refusal, Reply};

@@ -2,7 +2,7 @@
 ghost use Rattle.std.specs.Prelude.{◌≡◌, ◌≢◌, None, Some, IfSome, IfOk, OnOk, IfErr, All};
 ghost use Rattle.mr_madewith.specs.Revision.{IsRevision};
 ghost use Rattle.mr_wire.specs.Frames.{IsSent};
-ghost use Rattle.mr_replica.specs.Taking.{below_told, told_by, told_line, news_told};
+ghost use Rattle.mr_replica.specs.inner.Taking.{below_told, told_by, told_line, news_told};
 
 use super::Core;
 use super::contents::news;
@@ -29,8 +29,8 @@ impl<K: Knowledge> Core<K> {
     ghost use Rattle.std.specs.Prelude.{false};
     ghost use Rattle.mr_replica.specs.Issue.{Fits};
     ghost use Rattle.mr_replica.specs.Receive.{record_refusal, entering, wanted_by_line};
-    ghost use Rattle.mr_replica.specs.Taking.{RefusesLine};
-    ghost use Rattle.mr_replica.specs.Prepare.{PreparesLine};
+    ghost use Rattle.mr_replica.specs.inner.Taking.{RefusesLine};
+    ghost use Rattle.mr_replica.specs.inner.Prepare.{PreparesLine};
 
     // The record is to be taken, which tells of this version.
     pub(crate) fn prepare_line(

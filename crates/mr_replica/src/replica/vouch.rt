@@ -33,7 +33,7 @@ impl<K: Knowledge> Replica<K> {
 
 impl<K: Knowledge> Core<K> {
     ghost use Rattle.mr_replica.specs.Vouch.{vouch_refusal, IsReceiptFor};
-    ghost use Rattle.mr_replica.specs.Prepare.{Prepares};
+    ghost use Rattle.mr_replica.specs.inner.Prepare.{Prepares};
 
     pub(crate) fn prepare_vouch(&self, version: Version) -> Result<Prepared<K>, Refusal>
         ensures { Prepares K.form self.now (Event.Vouch version) result }

@@ -22,7 +22,7 @@ use Rattle.mr_model.proofs.Theorem.{after-append, run_inv}
 use Rattle.mr_model.proofs.Sets.{at_elim, at_same, choice}
 use Rattle.mr_replica.specs.Forged.{line_of}
 use Rattle.mr_replica.specs.State.{State}
-use Rattle.mr_replica.specs.Taking.{told_line}
+use Rattle.mr_replica.specs.inner.Taking.{told_line}
 use Rattle.mr_replica.specs.declared.event.Event.{Event as ReplicaEvent}
 use Rattle.mr_replica.specs.declared.event.Reply.{Reply}
 use Rattle.mr_replica.specs.declared.event.Reply.TheVariants.{Asked, Gave, Vouched}

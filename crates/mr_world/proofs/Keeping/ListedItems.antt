@@ -18,7 +18,7 @@ use Rattle.mr_replica.specs.Issue.{is_selected, issuing, revision_for}
 use Rattle.mr_replica.specs.Next.{held_now}
 use Rattle.mr_replica.specs.Receive.{line_learned}
 use Rattle.mr_replica.specs.State.{State, next_version}
-use Rattle.mr_replica.specs.Taking.{told_line}
+use Rattle.mr_replica.specs.inner.Taking.{told_line}
 use Rattle.mr_replica.specs.Step.{Changes}
 use Rattle.mr_replica.specs.declared.event.Event.{Event as ReplicaEvent}
 use Rattle.mr_replica.specs.declared.event.Event.TheVariants as replica

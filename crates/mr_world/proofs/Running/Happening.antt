@@ -6,12 +6,13 @@ use Rattle.std.proofs.lemmas.List.Elements.{All-nil, All-cons, All-append}
 use Rattle.mr_forms.specs.Known.{Form}
 use Rattle.mr_mail.specs.Mail.{Mail}
 use Rattle.mr_world.specs.World.{Port}
-use Rattle.mr_world.specs.Given.{IsGivenBy, KeepsFrames, HasMore, Gains}
-use Rattle.mr_world.specs.Happens.{GainsBy, StepsTo, Answers, Fulfils}
-use Rattle.mr_world.specs.Kept.{MemberView, WorldView, world_view, member_at, port_of, with_outlet}
+use Rattle.mr_world.specs.inner.Given.{IsGivenBy, KeepsFrames, HasMore, Gains}
+use Rattle.mr_world.specs.inner.Happens.{GainsBy, StepsTo, Answers, Fulfils}
+use Rattle.mr_world.specs.Kept.{MemberView, WorldView, world_view, member_at}
+use Rattle.mr_world.specs.inner.Kept.{port_of, with_outlet}
 use Rattle.mr_world.specs.Pool.{PoolList, AreFrames, IsAskFrame, IsRecordFrame, IsReceiptFrame}
 use Rattle.mr_world.specs.Run.{answered, stop_fault, Happens, Meets, Leads}
-use Rattle.mr_world.specs.Asked.{asked_of, Finds}
+use Rattle.mr_world.specs.inner.Asked.{asked_of, Finds}
 use Rattle.mr_replica.specs.declared.event.Event.{Event as ReplicaEvent}
 use Rattle.mr_replica.specs.declared.event.Reply.{Reply}
 use Rattle.mr_replica.specs.declared.event.Reply.TheVariants as reply

@@ -12,7 +12,8 @@ use Rattle.mr_model.specs.Moment.{at, at_two}
 use Rattle.mr_replica.specs.State.{State}
 use Rattle.mr_model.specs.History.{subscriber_number}
 use Rattle.mr_world.specs.World.{Port, World}
-use Rattle.mr_world.specs.Kept.{MemberView, member_at, replica_at, port_of, with_outlet, found_or, port_numbered}
+use Rattle.mr_world.specs.Kept.{MemberView, member_at, replica_at, found_or, port_numbered}
+use Rattle.mr_world.specs.inner.Kept.{port_of, with_outlet}
 use Rattle.mr_world.specs.Run.{ids_of}
 use Rattle.mr_model.specs.declared.event.Subscriber.{Subscriber}
 use Rattle.mr_model.specs.declared.event.Subscriber.TheVariants.{Indexer, Notifier}

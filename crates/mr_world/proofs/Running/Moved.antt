@@ -1,11 +1,10 @@
 -- What a task does to a member and to the pools is a move of the world.
-use Rattle.std.proofs.Common.{◌≡◌, ◌<◌, ◌≤◌, ℕ, List, [], ◌∷◌, length, Option, Some, None, Result, Ok, Err, refl, sym, ap, subst, ◌∙◌}
-use Rattle.std.specs.Prelude.{All, slice_set, is_none}
+use Rattle.std.proofs.Common.{◌≡◌, ℕ, List, [], ◌∷◌, Some, Result, Ok, Err, refl, sym, ap, subst, ◌∙◌}
+use Rattle.std.specs.Prelude.{slice_set}
 use Rattle.std.proofs.lemmas.List.{append-nil}
 use Rattle.mr_forms.specs.Known.{Form}
 use Rattle.mr_mail.specs.Mail.{Mail}
 use Rattle.mr_model.specs.History.{subscriber_number}
-use Rattle.mr_model.specs.Moment.{at}
 use Rattle.mr_replica.specs.State.{State}
 use Rattle.mr_replica.specs.Step.{Steps}
 use Rattle.mr_replica.specs.declared.event.Event.{Event as ReplicaEvent}
@@ -16,19 +15,19 @@ use Rattle.mr_replica.specs.declared.refusal.Refusal.{Refusal}
 use Rattle.mr_replica.proofs.Replaying.{step_setting}
 use Rattle.mr_wire.specs.Frames.{Question, Sent}
 use Rattle.mr_wire.specs.Grammar.{Spells}
-use Rattle.mr_wire.specs.declared.frame.Frame.{Frame}
 use Rattle.mr_wire.specs.declared.frame.Frame.TheVariants as frame
 use Rattle.mr_wire.specs.declared.frame.Receipt.{Receipt}
 use Rattle.mr_world.specs.World.{Port, World, with_given, with_replica as world_with_replica, with_port}
 use Rattle.mr_world.specs.Moves.{Does, Moves, OnPort, StepsAt}
 use Rattle.mr_world.specs.Ports.{Offers, Takes, Closes}
-use Rattle.mr_world.specs.Pool.{PoolList, at_number, questions_in, sents_in, receipts_in, IsAskFrame, IsRecordFrame, IsReceiptFrame, GivesFrame}
-use Rattle.mr_world.specs.Given.{IsGivenBy, KeepsFrames, HasMore, Gains}
-use Rattle.mr_world.specs.Kept.{MemberView, world_view, port_of, with_outlet, world_of}
-use Rattle.mr_world.specs.Asked.{asked_of}
-use Rattle.mr_world.specs.Happens.{GainsBy, OnOutlet, StepsTo, Answers}
+use Rattle.mr_world.specs.Pool.{PoolList, questions_in, sents_in, receipts_in}
+use Rattle.mr_world.specs.inner.Given.{IsGivenBy, KeepsFrames, HasMore, Gains}
+use Rattle.mr_world.specs.Kept.{MemberView, world_view, world_of}
+use Rattle.mr_world.specs.inner.Kept.{port_of, with_outlet}
+use Rattle.mr_world.specs.inner.Asked.{asked_of}
+use Rattle.mr_world.specs.inner.Happens.{GainsBy, OnOutlet, StepsTo, Answers}
 use Rattle.mr_world.specs.declared.answer.Answer.{Answer}
-use Rattle.mr_world.specs.declared.answer.Answer.TheVariants.{Stepped, Truncated}
+use Rattle.mr_world.specs.declared.answer.Answer.TheVariants.{Stepped}
 use Rattle.mr_world.specs.declared.answered.Answered.{Answered}
 use Rattle.mr_model.specs.declared.event.Event.{Event}
 use Rattle.mr_model.specs.declared.event.Subscriber.{Subscriber}
@@ -38,7 +37,7 @@ use Rattle.mr_world.specs.declared.pools.Given.TheVariants as given
 use Rattle.mr_world.specs.declared.task.Task.{Task}
 use Rattle.mr_world.specs.declared.task.Task.TheVariants as task
 use Rattle.mr_world.proofs.Running.MemberPlaces.{IsPlace, goes_back, same_world, replica_there, port_there, replicas_then, ports_then, replicas_with_port, ports_with_port}
-use Rattle.mr_world.proofs.Running.Pools.{frame_again, gives_ask, gives_record, gives_receipt, one_more_ask, one_more_record, one_more_receipt}
+use Rattle.mr_world.proofs.Running.Pools.{one_more_ask, one_more_record, one_more_receipt}
 
 -- frames kept twice are kept
 keeps_on : (p q o : PoolList) → KeepsFrames p q → KeepsFrames q o → KeepsFrames p o

@@ -8,7 +8,7 @@ use Rattle.mr_feed.specs.declared.port.Taken.{Taken}
 use Rattle.mr_feed.specs.declared.port.Taken.TheVariants as taken
 use Rattle.mr_world.specs.World.{Port}
 use Rattle.mr_world.specs.Ports.{Takes}
-use Rattle.mr_world.specs.TakenAnswer.{answer_taken}
+use Rattle.mr_world.specs.inner.TakenAnswer.{answer_taken}
 use Rattle.mr_world.specs.declared.answer.Answer.{Answer}
 
 same_port : (p p' : PortView) (n : ℕ) → p'.waiting ≡ p.waiting → p' ≡ record p { waiting = p'.waiting } → ◌≡◌ {A = Port} (record { view = p'; offered = n }) (record { view = p; offered = n })

@@ -8,11 +8,11 @@ use Rattle.mr_replica.specs.declared.event.Reply.{Reply}
 use Rattle.mr_replica.specs.declared.refusal.Refusal.{Refusal}
 use Rattle.mr_replica.specs.declared.refusal.Refusal.TheVariants as refusal
 use Rattle.mr_replica.proofs.Replies.{step_refused}
-use Rattle.mr_world.specs.Given.{IsGivenBy, KeepsFrames, Gains}
-use Rattle.mr_world.specs.Happens.{with_replica, Fulfils}
+use Rattle.mr_world.specs.inner.Given.{IsGivenBy, KeepsFrames, Gains}
+use Rattle.mr_world.specs.inner.Happens.{with_replica, Fulfils}
 use Rattle.mr_world.specs.Kept.{MemberView}
 use Rattle.mr_world.specs.Pool.{PoolList}
-use Rattle.mr_world.specs.Stepped.{IsRefusedBy, StepsIn}
+use Rattle.mr_world.specs.inner.Stepped.{IsRefusedBy, StepsIn}
 use Rattle.mr_world.specs.declared.answer.Answer.{Answer}
 use Rattle.mr_world.specs.declared.answer.Answer.TheVariants.{Stepped}
 use Rattle.mr_world.specs.declared.fault.WorldFault.{WorldFault}

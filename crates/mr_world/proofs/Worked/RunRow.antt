@@ -1,6 +1,6 @@
 -- A worked run of a world, of two replicas: a full stream is taken to its End; an edit moves a mail out of the one, which
 -- the other takes, vouches for and tells of; the push-out is released; a stream and a session are cut.
-use Rattle.std.proofs.Common.{◌≡◌, ◌≢◌, refl, sym, ap, subst, ◌∙◌, ℕ, List, [], ◌∷◌, ◌++◌, inl, inr, arith, Some, None}
+use Rattle.std.proofs.Common.{◌≡◌, ◌≢◌, refl, subst, ℕ, List, [], ◌∷◌, ◌++◌, inl, arith, Some}
 use Rattle.std.specs.Prelude.{Ok, Err, All, IfSome}
 use Rattle.mr_forms.specs.Known.{Part}
 use Rattle.mr_forms.specs.Listing.{HasMoreFor, ListsMore}
@@ -14,7 +14,6 @@ use Rattle.mr_replica.specs.declared.event.Event.{Event as ReplicaEvent}
 use Rattle.mr_replica.specs.declared.event.Event.TheVariants as replica
 use Rattle.mr_replica.specs.declared.event.Reply.{Reply}
 use Rattle.mr_replica.specs.declared.event.Reply.TheVariants.{Asked, Done, Finished, Gave, Issued, Known, Streaming, Took, Vouched}
-use Rattle.mr_wire.specs.Frames.{Sent}
 use Rattle.mr_mail.specs.Mail.{Mail}
 use Rattle.mr_model.specs.History.{◌does◌}
 use Rattle.mr_model.specs.declared.event.Act.{Act}

@@ -6,7 +6,8 @@ use Rattle.mr_journal.specs.Fault.{fault_number}
 use Rattle.mr_journal.specs.Format.{Stands, contents}
 use Rattle.mr_journal.specs.Reading.{IsReason}
 use Rattle.mr_journal.specs.declared.fault.JournalFault.TheVariants.{Failed, OutOfMemory}
-use Rattle.mailfold.specs.OldLog.{AreOfHead, IsOfHead, Tells, TellsFirst}
+use Rattle.mailfold.specs.OldLog.{AreOfHead, IsOfHead, Tells}
+use Rattle.mailfold.specs.inner.OldLog.{TellsFirst}
 use Rattle.mailfold.specs.declared.old_log.OldLog.{OldLog}
 use Rattle.mailfold.specs.declared.old_log.OldLog.TheVariants.{Unread}
 use Rattle.mailfold.proofs.OldLogLemmas.{never_refused, same_first, tells_stands}

@@ -3,7 +3,8 @@ use Rattle.std.specs.Prelude.{Vec}
 use Rattle.std.specs.declared.alloc.Global.{Global}
 use Rattle.std.proofs.lemmas.Result.{IfOk-weaker}
 use Rattle.mr_journal.specs.Format.{Stands, contents}
-use Rattle.mailfold.specs.OldLog.{Tells, TellsSome}
+use Rattle.mailfold.specs.OldLog.{Tells}
+use Rattle.mailfold.specs.inner.OldLog.{TellsSome}
 use Rattle.mailfold.proofs.OldLogLemmas.{tells_front}
 use Rattle.mailfold.proofs.old_log.told_before.Goals as goal
 

@@ -5,7 +5,8 @@ use Rattle.mr_entry.specs.Grammar.{Spells}
 use Rattle.mr_entry.specs.declared.fault.EntryFault.TheVariants.{OutOfMemory}
 use Rattle.mr_journal.specs.Format.{contents}
 use Rattle.mr_kept.proofs.EntryLemmas.{contents_first}
-use Rattle.mailfold.specs.OldLog.{IsOfHead, TellsFirst}
+use Rattle.mailfold.specs.OldLog.{IsOfHead}
+use Rattle.mailfold.specs.inner.OldLog.{TellsFirst}
 use Rattle.mailfold.proofs.OldLogLemmas.{never_unread, told_first, whole_first}
 use Rattle.mailfold.proofs.old_log.told_by.Goals as goal
 

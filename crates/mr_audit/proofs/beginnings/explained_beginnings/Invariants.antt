@@ -1,6 +1,7 @@
 use Rattle.std.specs.List.{AllZip}
 use Rattle.mr_settle.specs.Explains.{AreDistinct}
-use Rattle.mr_audit.specs.Beginning.{IsBeginning, event_count}
+use Rattle.mr_audit.specs.Beginning.{IsBeginning}
+use Rattle.mr_audit.specs.inner.Beginning.{event_count}
 use Rattle.mr_audit.proofs.beginnings.explained_beginnings.Given as goal
 
 abbrev pub invariant-loop-starts : goal.invariant-loop-starts

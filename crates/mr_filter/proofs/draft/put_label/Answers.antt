@@ -4,7 +4,7 @@ use Rattle.std.specs.List.Sorted.{IsStrictlySortedBy, IsPartitionPoint, IsBinary
 use Rattle.std.specs.declared.cmp.Ordering.TheVariants.{Less, Greater}
 use Rattle.std.proofs.lemmas.List.{length-append, length-map}
 use Rattle.mr_mail.specs.Label.{text_cmp, has_label}
-use Rattle.mr_filter.specs.Written.{lent_texts}
+use Rattle.mr_filter.specs.inner.Written.{lent_texts}
 use Rattle.mr_filter.proofs.SearchLemmas.{is_ok-binary_search, partition_point}
 use Rattle.mr_filter.proofs.PlaceLemmas.{rising-insert, AreLabelsOf-insert, AllPass-insert, AreLabelsOf-again, different_labels-one_more}
 use Rattle.mr_filter.proofs.draft.put_label.Goals as goal

@@ -2,7 +2,7 @@ use Rattle.std.proofs.Common.{◌≡◌, ◌∙◌, ap, ◌++◌, ◌∷◌, [],
 use Rattle.std.specs.Str.{IsUtf8}
 use Rattle.std.proofs.lemmas.Option.{MatchOption-at_some, MatchOption-at_none}
 use Rattle.mr_filter.specs.Grammar.{cut_at, pieces_of}
-use Rattle.mr_filter.specs.Written.{meaning_of}
+use Rattle.mr_filter.specs.inner.Written.{meaning_of}
 use Rattle.mr_filter.proofs.DraftLemmas.{IfErr-any}
 use Rattle.mr_filter.proofs.Progress.{cut-front, other_text}
 use Rattle.mr_filter.proofs.Reading.{Combines-none, HasReadConditions-more, HasReadConditions-all, NamesTooMany-so_far, piece_in_grammar}

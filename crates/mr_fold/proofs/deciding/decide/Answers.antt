@@ -1,7 +1,7 @@
 use Rattle.std.proofs.Common.{ap, subst, ◌∙◌}
 use Rattle.std.specs.BTreeMap.{values}
 use Rattle.mr_compare.specs.Compare.{due_acts}
-use Rattle.mr_fold.specs.Lacking.{AreMissing}
+use Rattle.mr_fold.specs.inner.Lacking.{AreMissing}
 use Rattle.mr_fold.proofs.DecidingLemmas.{deletes_stored}
 use Rattle.mr_fold.proofs.deciding.decide.Goals as goal
 

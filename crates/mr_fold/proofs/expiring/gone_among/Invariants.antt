@@ -1,5 +1,5 @@
 use Rattle.std.proofs.Common.{◌≡◌, ℕ, List, take}
-use Rattle.mr_fold.specs.Expiring.{is_gone_among}
+use Rattle.mr_fold.specs.inner.Expiring.{is_gone_among}
 use Rattle.mr_fold.specs.Lacking.{has_digest}
 use Rattle.mr_fold.proofs.expiring.gone_among.Given as goal
 

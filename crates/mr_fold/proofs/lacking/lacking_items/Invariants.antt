@@ -1,5 +1,5 @@
 use Rattle.std.proofs.Common.{◌≡◌, ◌++◌}
-use Rattle.mr_fold.specs.Lacking.{lacking_items}
+use Rattle.mr_fold.specs.inner.Lacking.{lacking_items}
 use Rattle.mr_fold.proofs.lacking.lacking_items.Given as goal
 
 -- the items so far and those of the entries that are left are all

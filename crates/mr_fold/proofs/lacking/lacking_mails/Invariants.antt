@@ -1,5 +1,6 @@
 use Rattle.std.proofs.Common.{◌≡◌, ℕ, List, take}
-use Rattle.mr_fold.specs.Lacking.{has_digest, is_lacking}
+use Rattle.mr_fold.specs.Lacking.{has_digest}
+use Rattle.mr_fold.specs.inner.Lacking.{is_lacking}
 use Rattle.mr_fold.proofs.lacking.lacking_mails.Given as goal
 
 -- the lacking ones of the mails so far

@@ -1,7 +1,7 @@
 use Rattle.std.proofs.Common.{ℕ, List, Option, Some, cond, ap, ◌∙◌}
 use Rattle.mr_compare.specs.Joining.{at_item}
 use Rattle.mr_compare.specs.Sides.{at_digest}
-use Rattle.mr_fold.specs.Lacking.{is_digest, unshown}
+use Rattle.mr_fold.specs.inner.Lacking.{is_digest, unshown}
 use Rattle.mr_fold.proofs.LackingLemmas.{put_more}
 use Rattle.mr_fold.proofs.lacking.without_lacking.Goals as goal
 

@@ -1,6 +1,6 @@
 use Rattle.std.proofs.Common.{◌≡◌, ℕ, List, Some, cond, take}
 use Rattle.mr_compare.specs.Sides.{at_digest}
-use Rattle.mr_fold.specs.Lacking.{is_told_of, unshown}
+use Rattle.mr_fold.specs.inner.Lacking.{is_told_of, unshown}
 use Rattle.mr_fold.proofs.lacking.without_lacking.Given as goal
 
 -- so it is of the items so far

@@ -1,7 +1,7 @@
 use Rattle.std.proofs.Common.{lit<, rules, tests}
 use Rattle.std.proofs.lemmas.Iterator.Search.{all_from_yields_List}
 use Rattle.std.proofs.lemmas.Iterator.Splits.{YieldsList-from_str_split}
-use Rattle.mr_fold.specs.Settings.{is_setting}
+use Rattle.mr_fold.specs.inner.Settings.{is_setting}
 use Rattle.mr_fold.proofs.settings.are_settings.Goals as goal
 
 pub returns : goal.returns

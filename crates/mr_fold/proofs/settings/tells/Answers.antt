@@ -2,7 +2,7 @@ use Rattle.std.proofs.Common.{ℕ, List, lit<, rules, tests}
 use Rattle.std.proofs.lemmas.Iterator.Search.{any_from_yields_List}
 use Rattle.std.proofs.lemmas.Iterator.Splits.{YieldsList-from_str_split}
 use Rattle.mr_mail.specs.Label.{text_eq}
-use Rattle.mr_fold.specs.Settings.{layout_line}
+use Rattle.mr_fold.specs.inner.Settings.{layout_line}
 use Rattle.mr_fold.proofs.settings.tells.Goals as goal
 
 pub returns : goal.returns

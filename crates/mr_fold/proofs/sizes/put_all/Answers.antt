@@ -1,6 +1,6 @@
 use Rattle.std.proofs.Common.{sym, subst}
 use Rattle.std.proofs.lemmas.List.{append-nil}
-use Rattle.mr_fold.specs.Sizes.{AreSizes}
+use Rattle.mr_fold.specs.inner.Sizes.{AreSizes}
 use Rattle.mr_fold.proofs.SizesLemmas.{sizes_further}
 use Rattle.mr_fold.proofs.sizes.put_all.Goals as goal
 

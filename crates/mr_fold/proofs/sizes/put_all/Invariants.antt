@@ -1,6 +1,6 @@
 use Rattle.std.proofs.Common.{List, ◌++◌, take}
 use Rattle.mr_madewith.specs.Revision.{Rev}
-use Rattle.mr_fold.specs.Sizes.{AreSizes}
+use Rattle.mr_fold.specs.inner.Sizes.{AreSizes}
 use Rattle.mr_fold.proofs.sizes.put_all.Given as goal
 
 -- the sizes of the revisions so far were put in

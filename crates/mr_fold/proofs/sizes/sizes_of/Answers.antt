@@ -1,5 +1,5 @@
 use Rattle.std.proofs.Common.{[], subst, sym}
-use Rattle.mr_fold.specs.Sizes.{AreSizes}
+use Rattle.mr_fold.specs.inner.Sizes.{AreSizes}
 use Rattle.mr_fold.proofs.SizesLemmas.{sizes_none}
 use Rattle.mr_fold.proofs.sizes.sizes_of.Goals as goal
 

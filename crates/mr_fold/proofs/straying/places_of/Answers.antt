@@ -1,7 +1,7 @@
 use Rattle.std.proofs.Common.{◌++◌, ap, sym, ◌∙◌}
 use Rattle.std.specs.Option.{option_to_list}
 use Rattle.mr_folder.proofs.HeldLemmas.{one_more}
-use Rattle.mr_fold.specs.Straying.{place_of}
+use Rattle.mr_fold.specs.inner.Straying.{place_of}
 use Rattle.mr_fold.proofs.straying.places_of.Goals as goal
 
 pub loop-mail-preserved : goal.loop-mail-preserved

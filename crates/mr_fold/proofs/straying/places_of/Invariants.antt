@@ -1,6 +1,6 @@
 use Rattle.std.proofs.Common.{◌≡◌, take}
 use Rattle.std.specs.List.{filter_map}
-use Rattle.mr_fold.specs.Straying.{place_of}
+use Rattle.mr_fold.specs.inner.Straying.{place_of}
 use Rattle.mr_fold.proofs.straying.places_of.Given as goal
 
 -- the places of the acts so far

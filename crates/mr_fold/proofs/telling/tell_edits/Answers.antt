@@ -1,6 +1,7 @@
 use Rattle.std.proofs.Common.{[], subst}
 use Rattle.mr_kept.specs.Kept.{replica_of}
-use Rattle.mr_fold.specs.Telling.{AreEdits, GrowsByEdit}
+use Rattle.mr_fold.specs.Telling.{AreEdits}
+use Rattle.mr_fold.specs.inner.Telling.{GrowsByEdit}
 use Rattle.mr_fold.proofs.TellingLemmas.{grows_not, edits_more}
 use Rattle.mr_fold.proofs.SettlingLemmas.{same_journal, same_then}
 use Rattle.mr_fold.proofs.telling.tell_edits.Goals as goal

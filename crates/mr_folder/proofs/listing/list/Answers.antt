@@ -1,6 +1,7 @@
 use Rattle.std.proofs.Common.{◌≡◌, length, sym, ◌∙◌, subst, arith}
 use Rattle.std.specs.Cmp.Lexicographic.{bytes_decides}
-use Rattle.mr_folder.specs.Quiet.{AreNames, AreTimes, texts}
+use Rattle.mr_folder.specs.Quiet.{texts}
+use Rattle.mr_folder.specs.inner.Quiet.{AreNames, AreTimes}
 use Rattle.mr_folder.proofs.QuietLemmas.{snapshot, length-texts}
 use Rattle.mr_folder.proofs.listing.list.Goals as goal
 

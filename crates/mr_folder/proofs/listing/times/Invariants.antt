@@ -1,5 +1,5 @@
 use Rattle.std.proofs.Common.{◌≡◌, ◌≤◌, IsTrue, length}
-use Rattle.mr_folder.specs.Quiet.{AreTimes}
+use Rattle.mr_folder.specs.inner.Quiet.{AreTimes}
 use Rattle.mr_folder.proofs.listing.times.Given as goal
 
 abbrev pub invariant-loop-folder : goal.invariant-loop-folder

@@ -1,4 +1,4 @@
-use Rattle.std.proofs.Common.{◌≡◌, ◌++◌, ◌∷◌, [], map, string_bytes, ap, ◌∙◌, arith}
+use Rattle.std.proofs.Common.{◌++◌, ◌∷◌, [], map, string_bytes, ap, ◌∙◌, arith}
 use Rattle.mr_folder.proofs.MemoryFolderLemmas.{more_names}
 use Rattle.mr_folder.proofs.memory_folders.copied.Goals as goal
 

@@ -1,4 +1,4 @@
-use Rattle.std.proofs.Common.{◌≡◌, List, ℕ, map, string_bytes, IfOk, slice_index_or, [], length, ◌≤◌, sym, ap, ◌∙◌, subst, arith}
+use Rattle.std.proofs.Common.{◌≡◌, map, string_bytes, IfOk, slice_index_or, [], length, ◌≤◌, sym, ap, ◌∙◌, subst, arith}
 use Rattle.std.proofs.Math.ListN.{get_or-eq_default}
 use Rattle.mr_folder.specs.Quiet.{texts}
 use Rattle.mr_folder.proofs.QuietLemmas.{length-texts}

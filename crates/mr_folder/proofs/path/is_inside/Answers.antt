@@ -2,7 +2,7 @@ use Rattle.std.proofs.Common.{lit<, rules}
 use Rattle.std.proofs.lemmas.Iterator.Search.{all_from_yields_List}
 use Rattle.std.proofs.lemmas.Iterator.Splits.{YieldsList-from_str_split}
 use borrow.Author.Tests.{tests}
-use Rattle.mr_folder.specs.Parts.{is_part_text}
+use Rattle.mr_folder.specs.inner.Parts.{is_part_text}
 use Rattle.mr_folder.proofs.path.is_inside.Goals as goal
 
 pub returns : goal.returns

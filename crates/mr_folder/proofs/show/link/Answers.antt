@@ -1,5 +1,4 @@
-use Rattle.std.proofs.Common.{◌↔◌, Bool, IsTrue, is_some, sym, ap, ◌∙◌, subst}
-use Rattle.std.proofs.lemmas.Bool.{false≢true}
+use Rattle.std.proofs.Common.{◌↔◌, IsTrue, ap, ◌∙◌, subst}
 use Rattle.mr_folder.specs.Show.{HasRoom}
 use Rattle.mr_folder.specs.Tree.{MayLink}
 use Rattle.mr_folder.proofs.Moments.{sound_untouched, sound_on}

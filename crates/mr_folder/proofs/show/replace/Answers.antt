@@ -1,4 +1,4 @@
-use Rattle.std.proofs.Common.{◌↔◌, Bool, IsTrue, is_some, sym, ap, ◌∙◌, subst}
+use Rattle.std.proofs.Common.{◌↔◌, IsTrue, is_some, sym, ap, ◌∙◌, subst}
 use Rattle.std.proofs.lemmas.Bool.{false≢true}
 use Rattle.mr_folder.specs.Show.{HasRoom}
 use Rattle.mr_folder.specs.Tree.{MayMove}

@@ -1,4 +1,4 @@
-use Rattle.std.proofs.Common.{◌≡◌, ◌<◌, ℕ, Contains, None, sym, ◌∙◌, arith}
+use Rattle.std.proofs.Common.{◌<◌, ℕ, None, sym, ◌∙◌, arith}
 use Rattle.std.specs.Prelude.{slice_index}
 use Rattle.std.proofs.lemmas.Bool.{false≢true}
 use Rattle.mr_folder.specs.Inside.{stored_path}

@@ -1,5 +1,5 @@
-use Rattle.std.proofs.Common.{◌≡◌, IsTrue, slice_index_or, [], refl, arith}
-use Rattle.mr_folder.proofs.SweepLemmas.{sweeps_still, sweeps_on, one_gone}
+use Rattle.std.proofs.Common.{slice_index_or, [], refl, arith}
+use Rattle.mr_folder.proofs.SweepLemmas.{sweeps_on, one_gone}
 use Rattle.mr_folder.proofs.sweeping.let_go_all.Goals as goal
 
 pub loop-digest-preserved : goal.loop-digest-preserved

@@ -1,5 +1,5 @@
 use Rattle.std.proofs.Common.{◌∙◌, ap, sym}
-use Rattle.mr_forms.specs.Additions.{taken_back}
+use Rattle.mr_forms.specs.inner.Additions.{taken_back}
 use Rattle.mr_forms.proofs.AdditionLemmas.{taken_back-push}
 use Rattle.mr_forms.proofs.additions.take_back.Goals as goal
 

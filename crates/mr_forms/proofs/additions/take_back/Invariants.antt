@@ -1,5 +1,5 @@
 use Rattle.std.proofs.Common.{◌≡◌, vec_len}
-use Rattle.mr_forms.specs.Additions.{taken_back}
+use Rattle.mr_forms.specs.inner.Additions.{taken_back}
 use Rattle.mr_forms.proofs.additions.take_back.Given as goal
 
 -- what is left to take back leads to the same keys

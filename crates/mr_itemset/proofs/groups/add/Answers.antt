@@ -3,8 +3,9 @@ use Rattle.std.specs.BTreeMap.{get}
 use Rattle.std.specs.Ordering.{is_eq, nat_cmp, ordering_then}
 use Rattle.mr_forms.specs.declared.fragment.TheConstants.{MAX_ITEMS}
 use Rattle.mr_concise.specs.Order.{vector_cmp}
-use Rattle.mr_itemset.specs.Entries.{listed_as}
-use Rattle.mr_itemset.specs.Groups.{Alike, alone, place_of, mark_of}
+use Rattle.mr_itemset.specs.inner.Entries.{listed_as}
+use Rattle.mr_itemset.specs.Groups.{Alike, alone}
+use Rattle.mr_itemset.specs.inner.Groups.{place_of, mark_of}
 use Rattle.mr_itemset.proofs.GroupLemmas.{fill_grouped, grouped_last, place_last, marks_tied}
 use Rattle.mr_itemset.proofs.groups.add.Goals as goal
 

@@ -1,6 +1,7 @@
 use Rattle.std.proofs.Common.{◌≡◌, [], drop}
 use Rattle.mr_forms.specs.declared.fragment.TheConstants.{MAX_ITEMS}
-use Rattle.mr_itemset.specs.Groups.{all_grouped, ArePlaces, FillInTurn}
+use Rattle.mr_itemset.specs.Groups.{all_grouped}
+use Rattle.mr_itemset.specs.inner.Groups.{ArePlaces, FillInTurn}
 use Rattle.mr_itemset.proofs.groups.groups_in.Given as goal
 
 -- with what is left grouped too, the groups are those of all

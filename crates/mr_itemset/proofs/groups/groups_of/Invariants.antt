@@ -1,7 +1,8 @@
 use Rattle.std.proofs.Common.{◌≡◌, []}
 use Rattle.mr_forms.specs.declared.fragment.TheConstants.{MAX_ITEMS}
-use Rattle.mr_itemset.specs.Entries.{listed_of}
-use Rattle.mr_itemset.specs.Groups.{all_grouped, ArePlaces, FillInTurn}
+use Rattle.mr_itemset.specs.inner.Entries.{listed_of}
+use Rattle.mr_itemset.specs.Groups.{all_grouped}
+use Rattle.mr_itemset.specs.inner.Groups.{ArePlaces, FillInTurn}
 use Rattle.mr_itemset.proofs.groups.groups_of.Given as goal
 
 -- with what is left grouped too, the groups are those of all

@@ -2,8 +2,9 @@ use Rattle.std.proofs.Common.{rules, ◌≡◌, ◌≤◌, ◌<◌, ◌+◌, ◌
 use Rattle.std.proofs.lemmas.Bool.{le-ltb, lt-ltb}
 use Rattle.std.proofs.lemmas.List.{length_push}
 use Rattle.mr_forms.specs.declared.fragment.TheConstants.{MAX_ITEMS}
-use Rattle.mr_itemset.specs.Entries.{listed_as}
-use Rattle.mr_itemset.specs.Groups.{Alike, mark_of}
+use Rattle.mr_itemset.specs.inner.Entries.{listed_as}
+use Rattle.mr_itemset.specs.Groups.{Alike}
+use Rattle.mr_itemset.specs.inner.Groups.{mark_of}
 use Rattle.mr_itemset.proofs.GroupLemmas.{place_within, grouped_there, places_then, marks_tied}
 use Rattle.mr_itemset.proofs.groups.join.Goals as goal
 

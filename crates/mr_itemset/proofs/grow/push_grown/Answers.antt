@@ -1,5 +1,5 @@
 use Rattle.std.proofs.Common.{◌∙◌}
-use Rattle.mr_itemset.specs.Entries.{listed_as, listed_of}
+use Rattle.mr_itemset.specs.inner.Entries.{listed_as, listed_of}
 use Rattle.mr_itemset.proofs.EntryLemmas.{placed-last}
 use Rattle.mr_itemset.proofs.GrowLemmas.{gains_nothing, gains_pushed, lacks_grown, united_gained}
 use Rattle.mr_itemset.proofs.grow.push_grown.Goals as goal

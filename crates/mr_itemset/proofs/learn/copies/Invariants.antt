@@ -1,5 +1,5 @@
 use Rattle.std.proofs.Common.{◌≡◌, map}
-use Rattle.mr_itemset.specs.Entries.{listed_of}
+use Rattle.mr_itemset.specs.inner.Entries.{listed_of}
 use Rattle.mr_itemset.proofs.WalkLemmas.{lent}
 use Rattle.mr_itemset.proofs.learn.copies.Given as goal
 

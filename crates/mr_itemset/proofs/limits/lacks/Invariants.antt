@@ -1,5 +1,5 @@
 use Rattle.std.proofs.Common.{◌<◌, ◌≤◌, ◌-◌, ℕ}
-use Rattle.mr_itemset.specs.Lacking.{CoversAuthor}
+use Rattle.mr_itemset.specs.inner.Lacking.{CoversAuthor}
 use Rattle.mr_itemset.proofs.limits.lacks.Given as goal
 
 -- of lower authors the source has what the set has

@@ -2,7 +2,7 @@ use Rattle.std.proofs.Common.{◌≡◌, ◌<◌, ◌^◌, ◌++◌, ℕ, List, 
 use Rattle.std.proofs.lemmas.List.{drop_at}
 use Rattle.std.proofs.lemmas.Result.{err_from_is_err_and}
 use Rattle.mr_journal.specs.Format.{AreBatches, batch, contents, head}
-use Rattle.mr_journal.specs.Reading.{IsFound, IsSplit}
+use Rattle.mr_journal.specs.inner.Reading.{IsFound, IsSplit}
 use Rattle.mr_journal.proofs.BatchLemmas.{length-sealed}
 use Rattle.mr_journal.proofs.Moments.{untouched_none, untouched_on}
 use Rattle.mr_journal.proofs.ReadLemmas.{damaged_body, none_yet, read_one, reason_found}

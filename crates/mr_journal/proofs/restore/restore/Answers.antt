@@ -1,7 +1,7 @@
 use Rattle.std.proofs.Common.{◌≡◌, ◌⊎◌, inl, inr, [], ℕ, List, Ok, ◌+◌, refl, sym, ap, subst, arith}
 use Rattle.mr_journal.specs.Device.{Rests}
 use Rattle.mr_journal.specs.Format.{AreBatches, StandAlike, Stands, contents, head}
-use Rattle.mr_journal.specs.Reading.{IsExamined}
+use Rattle.mr_journal.specs.inner.Reading.{IsExamined}
 use Rattle.mr_journal.proofs.Moments.{joined, widened}
 use Rattle.mr_journal.proofs.ReadLemmas.{none_yet}
 use Rattle.mr_journal.proofs.RestoreLemmas.{cut_done, cut_left}

@@ -2,7 +2,7 @@ use Rattle.std.proofs.Common.{◌+◌, ◌∙◌, ℕ, List, drop, refl, subst}
 use Rattle.std.proofs.Math.ListN.{drop_of_length-le}
 use Rattle.std.proofs.lemmas.List.{drop_more}
 use Rattle.mr_replica.specs.declared.event.Event.TheVariants.{CutIn}
-use Rattle.mr_kept.specs.Closing.{sessions_of}
+use Rattle.mr_kept.specs.inner.Closing.{sessions_of}
 use Rattle.mr_kept.proofs.CloseLemmas.{SessionsClose, closing_begins, session_closed, session_full, sessions_closed}
 use Rattle.mr_kept.proofs.closing.close_sessions.Goals as goal
 

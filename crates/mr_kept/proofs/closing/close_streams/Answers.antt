@@ -2,7 +2,7 @@ use Rattle.std.proofs.Common.{◌+◌, ◌∙◌, ℕ, List, drop, refl, subst}
 use Rattle.std.proofs.Math.ListN.{drop_of_length-le}
 use Rattle.std.proofs.lemmas.List.{drop_more}
 use Rattle.mr_replica.specs.declared.event.Event.TheVariants.{CutOut}
-use Rattle.mr_kept.specs.Closing.{streams_of}
+use Rattle.mr_kept.specs.inner.Closing.{streams_of}
 use Rattle.mr_kept.proofs.CloseLemmas.{StreamsClose, closing_begins, stream_closed, stream_full, streams_closed}
 use Rattle.mr_kept.proofs.closing.close_streams.Goals as goal
 

@@ -1,6 +1,6 @@
 use Rattle.std.proofs.lemmas.Result.{on_ok_weaker}
 use Rattle.mr_maildir.specs.FileActs.{mail_of}
-use Rattle.mr_maildir.proofs.PlanLemmas.{put-named}
+use Rattle.mr_maildir.proofs.MomentLemmas.{put-named}
 use Rattle.mr_maildir.proofs.plan.acts_of.Goals as goal
 
 pub returns-clause-named : goal.returns-clause-named

@@ -1,6 +1,7 @@
 use Rattle.std.proofs.lemmas.Result.{on_ok_weaker}
 use Rattle.mr_maildir.specs.FileActs.{mail_of}
-use Rattle.mr_maildir.proofs.PlanLemmas.{acts_leave, standing-tell, stays_untouched, always_some, nothing_overwritten}
+use Rattle.mr_maildir.proofs.PlanLemmas.{acts_leave, standing-tell, stays_untouched}
+use Rattle.mr_maildir.proofs.MomentLemmas.{always_some, nothing_overwritten}
 use Rattle.mr_maildir.proofs.plan.file_acts.Goals as goal
 
 pub returns-clause-files : goal.returns-clause-files

@@ -6,8 +6,8 @@ use Rattle.mr_replica.specs.declared.refusal.Refusal.{Refusal}
 use Rattle.mr_threads.specs.Exchange.{said}
 use Rattle.mr_threads.specs.Talk.{SaysInPart}
 use Rattle.mr_threads.proofs.Saying.{holds_on_err, says_in_part}
-use Rattle.mr_node.specs.Turn.{advanced}
-use Rattle.mr_node.specs.Step.{ComesOf}
+use Rattle.mr_node.specs.inner.Turn.{advanced}
+use Rattle.mr_node.specs.inner.Step.{ComesOf}
 use Rattle.mr_node.proofs.exchange.exchange.Goals as goal
 
 pub returns-clause-so : goal.returns-clause-so

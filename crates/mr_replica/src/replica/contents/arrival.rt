@@ -18,7 +18,7 @@ pub struct Arrival {
 }
 
 impl Arrival {
-    ghost use Rattle.mr_replica.specs.Contents.{news_of};
+    ghost use Rattle.mr_replica.specs.inner.Contents.{news_of};
 
     /// The arrival of a revision that the filter selects, or does not, at this store.
     pub fn of(

@@ -5,7 +5,7 @@ ghost use Rattle.mr_madewith.specs.Trail.{noted};
 ghost use Rattle.mr_concise.specs.Vector.{vector_has};
 ghost use Rattle.mr_store.specs.Revisions.{AreInVersionOrder, revision_of, holds, left_by};
 ghost use Rattle.mr_replica.specs.Issue.{entered_if};
-ghost use Rattle.mr_replica.specs.Contents.{part_for, HasPlace};
+ghost use Rattle.mr_replica.specs.inner.Contents.{part_for, HasPlace};
 ghost use Rattle.mr_replica.specs.Receive.{arrived};
 ghost use Rattle.mr_replica.specs.Release.{vouched};
 
@@ -20,7 +20,7 @@ use mr_wire::Receipt;
 use std::alloc::AllocError;
 
 impl Contents {
-    ghost use Rattle.mr_replica.specs.Contents.{HasRoom, HoldsSame};
+    ghost use Rattle.mr_replica.specs.inner.Contents.{HasRoom, HoldsSame};
 
     /// Makes room for the arrival and one event.
     pub fn reserve(&mut self, arrival: &Arrival) -> Result<(), AllocError>

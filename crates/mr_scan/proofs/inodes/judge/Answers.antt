@@ -1,5 +1,5 @@
 use Rattle.mr_scan.proofs.SpoiledLemmas.{spoiled_more, whole_more}
-use Rattle.mr_scan.specs.Spoiled.{at_inode}
+use Rattle.mr_scan.specs.inner.Spoiled.{at_inode}
 use Rattle.mr_scan.proofs.inodes.judge.Goals as goal
 
 pub loop-file-preserved : goal.loop-file-preserved

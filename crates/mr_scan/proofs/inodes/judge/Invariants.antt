@@ -1,5 +1,5 @@
 use Rattle.std.proofs.Common.{◌≡◌, ℕ, take}
-use Rattle.mr_scan.specs.Spoiled.{at_inode, last_at, spoiled_of, whole_of}
+use Rattle.mr_scan.specs.inner.Spoiled.{at_inode, last_at, spoiled_of, whole_of}
 use Rattle.mr_scan.proofs.inodes.judge.Given as goal
 
 -- the files so far were judged

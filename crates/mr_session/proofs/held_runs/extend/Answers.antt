@@ -1,4 +1,4 @@
-use Rattle.mr_session.specs.Held.{extent}
+use Rattle.mr_session.specs.inner.Held.{extent}
 use Rattle.mr_session.proofs.GrowingLemmas.{extends_last}
 use Rattle.mr_session.proofs.held_runs.extend.Goals as goal
 

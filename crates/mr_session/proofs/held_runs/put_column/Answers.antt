@@ -1,4 +1,4 @@
-use Rattle.mr_session.specs.Held.{extent}
+use Rattle.mr_session.specs.inner.Held.{extent}
 use Rattle.mr_session.proofs.GrowingLemmas.{closes}
 use Rattle.mr_session.proofs.held_runs.put_column.Goals as goal
 

@@ -1,5 +1,5 @@
 use Rattle.std.proofs.Common.{◌≤◌, ◌-◌, length}
-use Rattle.mr_session.specs.Held.{IsRow}
+use Rattle.mr_session.specs.inner.Held.{IsRow}
 use Rattle.mr_session.proofs.held_runs.row_length.Given as goal
 
 -- those below are in the row

@@ -1,5 +1,5 @@
 use Rattle.std.proofs.Common.{All, take}
-use Rattle.mr_settle.specs.Arrived.{IsOneInWorld}
+use Rattle.mr_settle.specs.inner.Arrived.{IsOneInWorld}
 use Rattle.mr_settle.proofs.join.compare.Given as goal
 
 abbrev pub invariant-loop-end : goal.invariant-loop-end

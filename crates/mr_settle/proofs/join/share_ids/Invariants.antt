@@ -1,5 +1,5 @@
 use Rattle.std.proofs.Common.{◌≡◌, length}
-use Rattle.mr_settle.specs.Explains.{share_id}
+use Rattle.mr_settle.specs.inner.Explains.{share_id}
 use Rattle.mr_settle.proofs.join.share_ids.Given as goal
 
 abbrev pub invariant-loop-first : goal.invariant-loop-first

@@ -1,7 +1,7 @@
 use Rattle.std.specs.List.{AllZip}
-use Rattle.mr_settle.specs.Carried.{IsUpToDate, done_of}
-use Rattle.mr_settle.specs.Named.{given_by}
-use Rattle.mr_settle.specs.Way.{IsUnderWay, TellAll, left_over}
+use Rattle.mr_settle.specs.inner.Carried.{IsUpToDate, done_of}
+use Rattle.mr_settle.specs.inner.Named.{given_by}
+use Rattle.mr_settle.specs.inner.Way.{IsUnderWay, TellAll, left_over}
 use Rattle.mr_settle.proofs.way.follow.Given as goal
 
 abbrev pub invariant-loop-way : goal.invariant-loop-way

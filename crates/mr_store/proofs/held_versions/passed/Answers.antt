@@ -1,6 +1,7 @@
 use Rattle.std.proofs.Common.{◌≡◌, false, sym, subst, take}
 use Rattle.mr_concise.specs.Next.{IsNextOut}
-use Rattle.mr_concise.specs.AnyOf.{in_any, IsPassed}
+use Rattle.mr_concise.specs.AnyOf.{in_any}
+use Rattle.mr_concise.specs.inner.AnyOf.{IsPassed}
 use Rattle.mr_concise.proofs.AnyOfLemmas.{in_any-more_is, IsPassed-more}
 use Rattle.mr_forms.specs.Sets.{Versions}
 use Rattle.mr_forms.specs.Runs.{of_author}

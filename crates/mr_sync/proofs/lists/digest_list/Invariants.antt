@@ -1,5 +1,5 @@
 use Rattle.std.proofs.Common.{◌≡◌, ◌*◌, length}
-use Rattle.mr_sync.specs.Lists.{TakesFront}
+use Rattle.mr_sync.specs.inner.Lists.{TakesFront}
 use Rattle.mr_sync.proofs.lists.digest_list.Given as goal
 
 abbrev pub invariant-loop : goal.invariant-loop

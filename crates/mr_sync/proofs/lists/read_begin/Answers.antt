@@ -1,5 +1,5 @@
 use Rattle.std.proofs.Common.{◌≡◌, ℕ, List, [], Some, length, ap, sym, ◌∙◌}
-use Rattle.mr_sync.specs.Lists.{begin_at}
+use Rattle.mr_sync.specs.inner.Lists.{begin_at}
 use Rattle.mr_sync.proofs.ListLaws.{begin_spelled, begin_missed, begin_found}
 use Rattle.mr_sync.proofs.lists.read_begin.Goals as goal
 

@@ -4,7 +4,7 @@ use Rattle.mr_kept.specs.Answered.{reply_by}
 use Rattle.mr_kept.specs.Kept.{journal_of, replica_of}
 use Rattle.mr_replica.specs.declared.event.Event.TheVariants.{Release}
 use Rattle.mr_replica.specs.declared.event.Reply.TheVariants.{Done}
-use Rattle.mr_sync.specs.Taken.{LetsGoFor}
+use Rattle.mr_sync.specs.inner.Taken.{LetsGoFor}
 use Rattle.mr_sync.proofs.GrowLaws.{grows_not, answered_grows}
 use Rattle.mr_sync.proofs.receipts.take_receipt.Goals as goal
 

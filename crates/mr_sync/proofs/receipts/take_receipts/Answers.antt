@@ -1,5 +1,5 @@
 use Rattle.std.proofs.Common.{refl}
-use Rattle.mr_sync.specs.Taken.{LetsGoFor}
+use Rattle.mr_sync.specs.inner.Taken.{LetsGoFor}
 use Rattle.mr_sync.proofs.GrowLaws.{grows_not, grows_on}
 use Rattle.mr_sync.proofs.receipts.take_receipts.Goals as goal
 

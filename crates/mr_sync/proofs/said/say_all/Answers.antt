@@ -1,5 +1,5 @@
 use Rattle.std.proofs.Common.{sym, append-nil}
-use Rattle.mr_sync.specs.Said.{bytes_of, receipt_frame, record_frame}
+use Rattle.mr_sync.specs.inner.Said.{bytes_of, receipt_frame, record_frame}
 use Rattle.mr_sync.proofs.SayLaws.{one_more}
 use Rattle.mr_sync.proofs.said.say_all.Goals as goal
 

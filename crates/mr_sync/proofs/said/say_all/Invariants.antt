@@ -1,5 +1,5 @@
 use Rattle.std.proofs.Common.{◌≡◌, ◌++◌, take}
-use Rattle.mr_sync.specs.Said.{bytes_of, receipt_frames, record_frames}
+use Rattle.mr_sync.specs.inner.Said.{bytes_of, receipt_frames, record_frames}
 use Rattle.mr_sync.proofs.said.say_all.Given as goal
 
 abbrev pub invariant-loop-reply : goal.invariant-loop-reply

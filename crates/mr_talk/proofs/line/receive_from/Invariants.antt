@@ -1,4 +1,5 @@
-use Rattle.mr_talk.specs.Line.{IsSame, ahead}
+use Rattle.mr_talk.specs.Line.{ahead}
+use Rattle.mr_talk.specs.inner.Line.{IsSame}
 use Rattle.mr_talk.proofs.line.receive_from.Given as goal
 
 abbrev pub invariant-loop : goal.invariant-loop

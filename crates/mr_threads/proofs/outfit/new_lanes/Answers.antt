@@ -1,5 +1,4 @@
-use Rattle.std.proofs.Common.{ℕ, rules, subst, sym}
-use Rattle.mr_threads.specs.Outfit.{AreNewReplies, AreNewFeeds}
+use Rattle.std.proofs.Common.{rules}
 use Rattle.mr_threads.proofs.outfit.new_lanes.Goals as goal
 
 pub returns-clause-ok : goal.returns-clause-ok

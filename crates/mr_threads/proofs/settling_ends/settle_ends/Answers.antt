@@ -1,5 +1,5 @@
 use Rattle.std.proofs.Common.{rules, ◌≡◌, true}
-use Rattle.mr_threads.specs.Running.{are_all_whole}
+use Rattle.mr_threads.specs.inner.Running.{are_all_whole}
 use Rattle.mr_threads.proofs.WholeRun.{all_whole, settled_ran}
 use Rattle.mr_threads.proofs.settling_ends.settle_ends.Goals as goal
 

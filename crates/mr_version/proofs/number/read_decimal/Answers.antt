@@ -1,7 +1,7 @@
 use Rattle.std.proofs.Common.{◌≡◌, ◌∙◌, ap, true}
 use Rattle.std.proofs.lemmas.Fmt.{parse-decimal}
 use Rattle.std.specs.Result.{result_ok}
-use Rattle.mr_version.specs.Number.{IsPlain}
+use Rattle.mr_version.specs.inner.Number.{IsPlain}
 use Rattle.mr_version.proofs.Decimal.{IsPlain-decimal, decimal-parse}
 use Rattle.mr_version.proofs.number.read_decimal.Goals as goal
 

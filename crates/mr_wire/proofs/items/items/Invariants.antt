@@ -1,6 +1,6 @@
 use Rattle.std.proofs.Common.{◌≡◌, ◌-◌, None}
 use Rattle.mr_wire.specs.Parts.{item_at}
-use Rattle.mr_wire.specs.Items.{next_item, first_item}
+use Rattle.mr_wire.specs.inner.Items.{next_item, first_item}
 use Rattle.mr_wire.proofs.RunLemmas.{Running}
 use Rattle.mr_wire.proofs.items.items.Given as goal
 

@@ -1,5 +1,5 @@
 use Rattle.std.proofs.Common.{rules}
-use Rattle.mr_world.specs.Given.{IsGivenBy}
+use Rattle.mr_world.specs.inner.Given.{IsGivenBy}
 use Rattle.mr_world.proofs.Running.Stepped.{replied_so, refused_so}
 use Rattle.mr_world.proofs.member.step_replica.Goals as goal
 

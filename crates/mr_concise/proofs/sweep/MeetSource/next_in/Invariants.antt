@@ -1,6 +1,6 @@
 use Rattle.std.proofs.Common.{◌-◌}
 use Rattle.mr_forms.specs.Runs.{of_author}
-use Rattle.mr_concise.specs.Meet.{meet_has}
+use Rattle.mr_concise.specs.inner.Meet.{meet_has}
 use Rattle.mr_concise.proofs.MeetLemmas.{NoneTo}
 use Rattle.mr_concise.proofs.sweep.MeetSource.next_in.Given as goal
 use Rattle.mr_concise.specs.declared.column.TheConstants.{COUNTERS_END}

@@ -1,6 +1,6 @@
 use Rattle.std.proofs.Common.{arith}
 use Rattle.mr_filter.specs.Filter.{IsClause}
-use Rattle.mr_filter.specs.Draft.{no_condition}
+use Rattle.mr_filter.specs.inner.Draft.{no_condition}
 use Rattle.mr_filter.proofs.LabelLemmas.{IsLabelSet-none}
 use Rattle.mr_filter.proofs.draft.Draft.new.Goals as goal
 

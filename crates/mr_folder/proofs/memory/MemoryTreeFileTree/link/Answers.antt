@@ -1,6 +1,6 @@
-use Rattle.std.proofs.Common.{◌≡◌, ◌++◌, ℕ, List, [], ◌∷◌, Option, Some, None, refl, ap, ◌∙◌, unwrap_or}
-use Rattle.mr_folder.specs.Memory.{Puts, Moves, Links, Goes, Syncs, SyncsPath, steps_of, tree_of, MayLeave}
-use Rattle.mr_folder.specs.Tree.{OnlyAt, MayMove, MayLink, MayGo, NoneOr, HasSame}
+use Rattle.std.proofs.Common.{◌≡◌}
+use Rattle.mr_folder.specs.Memory.{Links, steps_of, tree_of}
+use Rattle.mr_folder.specs.Tree.{MayLink}
 use Rattle.mr_folder.proofs.ShowLemmas.{link_none}
 use Rattle.mr_folder.proofs.MemoryLemmas.{write_ok, write_crash, write_time, link_files, linked}
 use Rattle.mr_folder.proofs.memory.MemoryTreeFileTree.link.Goals as goal

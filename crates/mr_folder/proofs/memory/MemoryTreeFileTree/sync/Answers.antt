@@ -1,6 +1,5 @@
-use Rattle.std.proofs.Common.{◌≡◌, ◌++◌, ℕ, List, [], ◌∷◌, Option, Some, None, refl, ap, ◌∙◌, unwrap_or}
-use Rattle.mr_folder.specs.Memory.{Puts, Moves, Links, Goes, Syncs, SyncsPath, steps_of, tree_of, MayLeave}
-use Rattle.mr_folder.specs.Tree.{OnlyAt, MayMove, MayLink, MayGo, NoneOr, HasSame}
+use Rattle.mr_folder.specs.Memory.{Syncs, steps_of, tree_of, MayLeave}
+use Rattle.mr_folder.specs.Tree.{NoneOr}
 use Rattle.mr_folder.proofs.MemoryLemmas.{write_ok, sync_untouched}
 use Rattle.mr_folder.proofs.memory.MemoryTreeFileTree.sync.Goals as goal
 

@@ -1,7 +1,6 @@
-use Rattle.std.proofs.Common.{◌≡◌, true, refl, sym, ap, ◌∙◌, subst}
+use Rattle.std.proofs.Common.{refl, sym, ◌∙◌, subst}
 use Rattle.std.proofs.lemmas.Bool.{false≢true}
 use Rattle.mr_folder.specs.Inside.{IsFolder}
-use Rattle.mr_folder.specs.Parts.{is_folder_text}
 use Rattle.mr_folder.proofs.PartLemmas.{folder_from_test, test_from_folder}
 use Rattle.mr_folder.proofs.path.FolderPath.read.Goals as goal
 

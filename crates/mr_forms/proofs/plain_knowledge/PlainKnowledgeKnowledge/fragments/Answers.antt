@@ -7,7 +7,7 @@ use Rattle.std.proofs.lemmas.List.Elements.{All-head, All-tail}
 use Rattle.mr_forms.specs.Sets.{is_listed}
 use Rattle.mr_forms.specs.PlainPair.{pair, pair_cmp, has_pair}
 use Rattle.mr_forms.specs.Plain.{beyond_all, had_by_item}
-use Rattle.mr_forms.specs.PlainSteps.{EndsBy}
+use Rattle.mr_forms.specs.inner.PlainSteps.{EndsBy}
 use Rattle.mr_forms.proofs.SetLemmas.{or_nothing}
 use Rattle.mr_forms.proofs.PairLemmas.{left_out, of_same_version, taken_in, with_beyond}
 use Rattle.mr_forms.proofs.FragmentLemmas.{all_covered-parts, ends_by-rest}

@@ -6,7 +6,7 @@ use Rattle.std.proofs.lemmas.List.Elements.{All-head}
 use Rattle.mr_version.specs.Name.{name_cmp, name_eq}
 use Rattle.mr_forms.specs.Sets.{is_listed}
 use Rattle.mr_forms.specs.Runs.{in_runs}
-use Rattle.mr_forms.specs.Columns.{EndsBelow}
+use Rattle.mr_forms.specs.inner.Columns.{EndsBelow}
 use Rattle.mr_forms.proofs.SetLemmas.{passes_on, name_eq-symmetric}
 use Rattle.mr_forms.proofs.ColumnLemmas.{ends_below-rest}
 use Rattle.mr_forms.proofs.plain_versions.PlainVersionsVersionSet.columns.Goals as goal

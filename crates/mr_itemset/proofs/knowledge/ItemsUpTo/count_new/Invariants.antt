@@ -1,5 +1,5 @@
 use Rattle.std.proofs.Common.{◌≤◌, take}
-use Rattle.mr_itemset.specs.Each.{CountsNew}
+use Rattle.mr_itemset.specs.inner.Each.{CountsNew}
 use Rattle.mr_itemset.proofs.knowledge.ItemsUpTo.count_new.Given as goal
 
 -- the items so far are counted

@@ -1,5 +1,5 @@
 use Rattle.std.proofs.Common.{map, ap, ◌∙◌}
-use Rattle.mr_itemset.specs.Entries.{listed_of}
+use Rattle.mr_itemset.specs.inner.Entries.{listed_of}
 use Rattle.mr_itemset.proofs.ToldItems.{told_more}
 use Rattle.mr_itemset.proofs.WalkLemmas.{lent, items_more, items_all}
 use Rattle.mr_itemset.proofs.settled.Settled.told_items.Goals as goal

@@ -1,5 +1,5 @@
 use Rattle.std.proofs.Common.{map}
-use Rattle.mr_itemset.specs.Told.{AreToldItems}
+use Rattle.mr_itemset.specs.inner.Told.{AreToldItems}
 use Rattle.mr_itemset.proofs.WalkLemmas.{lent}
 use Rattle.mr_itemset.proofs.settled.Settled.told_items.Given as goal
 

@@ -1,4 +1,4 @@
-use Rattle.mr_itemset.specs.Entries.{listed_of}
+use Rattle.mr_itemset.specs.inner.Entries.{listed_of}
 use Rattle.mr_itemset.proofs.GrowLemmas.{grown_known}
 use Rattle.mr_itemset.proofs.settled.Settled.with_all.Goals as goal
 

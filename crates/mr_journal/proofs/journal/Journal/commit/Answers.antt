@@ -1,5 +1,6 @@
 use Rattle.std.proofs.Common.{◌≡◌, ◌⊎◌, inl, inr, ⊎_elim, ℕ, ◌++◌, ◌∷◌, List, length, refl, ◌∙◌, ap, subst, arith, length-append}
-use Rattle.mr_journal.specs.Device.{IsStaged, Rests}
+use Rattle.mr_journal.specs.Device.{Rests}
+use Rattle.mr_journal.specs.inner.Device.{IsStaged}
 use Rattle.mr_journal.specs.Format.{IsBatch, Stands, batch, contents}
 use Rattle.mr_journal.proofs.BatchLemmas.{grown, behind_gate, length-sealed, stands_staged, stands_rest}
 use Rattle.mr_journal.proofs.Moments.{widened}

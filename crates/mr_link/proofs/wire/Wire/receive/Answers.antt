@@ -1,5 +1,6 @@
 use Rattle.std.proofs.Common.{Err, subst, sym, ◌∙◌}
-use Rattle.mr_link.specs.Wire.{wire_of, ReadsPiece, Hands}
+use Rattle.mr_link.specs.Wire.{wire_of}
+use Rattle.mr_link.specs.inner.Wire.{ReadsPiece, Hands}
 use Rattle.mr_link.specs.declared.wire.Wire.{Wire}
 use Rattle.mr_link.proofs.Reading.{wired, has_not_failed, held_read, piece_read, piece_lost}
 use Rattle.mr_link.proofs.wire.Wire.receive.Goals as goal

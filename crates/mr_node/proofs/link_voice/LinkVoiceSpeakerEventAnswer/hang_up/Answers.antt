@@ -1,4 +1,3 @@
-use Rattle.std.proofs.Common.{ap}
 use Rattle.mr_link.specs.Wire.{wire_of, unread_in}
 use Rattle.mr_node.proofs.Linking.{ran_still}
 use Rattle.mr_node.proofs.link_voice.LinkVoiceSpeakerEventAnswer.hang_up.Goals as goal

@@ -1,4 +1,4 @@
-use Rattle.std.proofs.Common.{arith, ap, length, length-take, List, ℕ}
+use Rattle.std.proofs.Common.{arith, ap, length, length-take}
 use Rattle.mr_outbox.specs.Acts.{all_done}
 use Rattle.mr_outbox.specs.declared.act.Act.TheVariants as act
 use Rattle.mr_outbox.proofs.ActLemmas.{after, left_behind, passes}

@@ -1,8 +1,8 @@
-use Rattle.std.proofs.Common.{◌≡◌, refl, sym, subst, ap, ◌∙◌}
+use Rattle.std.proofs.Common.{refl, sym, subst}
 use Rattle.mr_replica.specs.State.{State}
-use Rattle.mr_replica.specs.Sound.{IsSound}
-use Rattle.mr_replica.specs.Parts.{parts_seen}
-use Rattle.mr_replica.specs.Prepare.{IsToChange, IsChanged}
+use Rattle.mr_replica.specs.inner.Sound.{IsSound}
+use Rattle.mr_replica.specs.inner.Parts.{parts_seen}
+use Rattle.mr_replica.specs.inner.Prepare.{IsToChange}
 use Rattle.mr_replica.proofs.Preparing.{may_put, sound_put}
 use Rattle.mr_replica.proofs.replica.Core.apply.Goals as goal
 

@@ -13,7 +13,7 @@ use Rattle.mr_replica.specs.State.{State}
 use Rattle.mr_replica.specs.Issue.{below_for}
 use Rattle.std.proofs.lemmas.Result.{IfOk-weaker}
 use Rattle.mr_version.specs.Name.{Name}
-use Rattle.mr_replica.specs.Sound.{IsSound}
+use Rattle.mr_replica.specs.inner.Sound.{IsSound}
 use Rattle.mr_replica.specs.Edit.{edited_item}
 use Rattle.mr_replica.proofs.Below.{below_for-sources, edited_next}
 use Rattle.mr_replica.proofs.replica.Core.edited_below.Goals as goal

@@ -2,7 +2,7 @@ use Rattle.std.proofs.Common.{◌≡◌, None, IfOk, ap, sym, subst}
 use Rattle.mr_store.specs.Holdings.{Holdings}
 use Rattle.mr_replica.specs.State.{State}
 use Rattle.mr_replica.specs.Next.{next_refusal, GivesNext}
-use Rattle.mr_replica.specs.Next.{going_on}
+use Rattle.mr_replica.specs.inner.Next.{going_on}
 use Rattle.mr_replica.proofs.Drawing.{goes_on}
 use Rattle.mr_replica.proofs.Advancing.{prepared_next}
 use Rattle.mr_replica.proofs.replica.Core.given.Goals as goal

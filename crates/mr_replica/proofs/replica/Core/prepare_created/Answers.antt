@@ -1,4 +1,4 @@
-use Rattle.std.proofs.Common.{◌≡◌, ◌≢◌, ◌↔◌, IsErrOf, refl, Result, Ok, Err, List, sym, ap, subst, ◌∙◌}
+use Rattle.std.proofs.Common.{◌≡◌, ◌↔◌, IsErrOf, refl, Result, Ok, Err, List, sym, ap, subst, ◌∙◌}
 use Rattle.std.proofs.lemmas.Result.{err_from_is_err_and}
 use Rattle.mr_forms.specs.declared.fault.FormFault.{FormFault}
 use Rattle.mr_forms.specs.declared.fault.FormFault.TheVariants as faults

@@ -1,4 +1,4 @@
-use Rattle.std.proofs.Common.{refl, Err, sym, ap, ◌∙◌}
+use Rattle.std.proofs.Common.{Err, sym, ap, ◌∙◌}
 use Rattle.std.proofs.lemmas.Result.{err_from_is_err_and}
 use Rattle.mr_replica.specs.Edit.{edited}
 use Rattle.mr_replica.specs.declared.event.Event.TheVariants.{Edit}

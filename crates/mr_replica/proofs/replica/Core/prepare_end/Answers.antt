@@ -5,7 +5,7 @@ use Rattle.mr_wire.specs.declared.frame.Header.{Header}
 use Rattle.mr_session.specs.Session.{is_full}
 use Rattle.mr_session.specs.Table.{open_at}
 use Rattle.mr_replica.specs.State.{State}
-use Rattle.mr_replica.specs.Sound.{IsSound}
+use Rattle.mr_replica.specs.inner.Sound.{IsSound}
 use Rattle.mr_replica.specs.Receive.{session_for}
 use Rattle.mr_replica.proofs.Preparing.{partial_prepared, full_prepared, end_refused}
 use Rattle.mr_replica.proofs.replica.Core.prepare_end.Goals as goal

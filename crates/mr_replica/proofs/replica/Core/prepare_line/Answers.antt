@@ -1,7 +1,7 @@
-use Rattle.std.proofs.Common.{◌≡◌, true, false, refl, sym, ap, ◌∙◌}
+use Rattle.std.proofs.Common.{sym, ap, ◌∙◌}
 use Rattle.mr_replica.specs.State.{State}
 use Rattle.mr_replica.specs.Receive.{entering}
-use Rattle.mr_replica.specs.Taking.{told_by}
+use Rattle.mr_replica.specs.inner.Taking.{told_by}
 use Rattle.mr_replica.proofs.Preparing.{known_prepared, told_prepared}
 use Rattle.mr_replica.proofs.replica.Core.prepare_line.Goals as goal
 

@@ -1,7 +1,7 @@
 use Rattle.std.proofs.Common.{Err, ap, ◌∙◌}
 use Rattle.std.proofs.lemmas.Result.{err_from_is_err_and}
 use Rattle.mr_replica.specs.State.{State}
-use Rattle.mr_replica.specs.Taking.{below_told, told_by}
+use Rattle.mr_replica.specs.inner.Taking.{below_told, told_by}
 use Rattle.mr_replica.proofs.Told.{line_fits}
 use Rattle.mr_replica.proofs.replica.Core.told.Goals as goal
 

@@ -1,7 +1,8 @@
 use Rattle.std.proofs.Common.{◌≡◌, ◌||◌, Bool, ℕ, map, filter, sym, ap, subst, ◌∙◌}
 use Rattle.std.specs.List.{list_any}
 use Rattle.mr_store.specs.declared.fragment_index.Listing.{Listing}
-use Rattle.mr_store.specs.FragmentIndex.{items_of, is_for, has_at, Places, Finds}
+use Rattle.mr_store.specs.FragmentIndex.{items_of, Places, Finds}
+use Rattle.mr_store.specs.inner.FragmentIndex.{is_for, has_at}
 use Rattle.mr_store.proofs.FragmentIndexLemmas.{covered_is}
 use Rattle.mr_store.proofs.fragment_index.FragmentIndex.covers.Goals as goal
 

@@ -1,4 +1,4 @@
-use Rattle.mr_store.specs.Index.{listed_for}
+use Rattle.mr_store.specs.inner.Index.{listed_for}
 use Rattle.mr_store.proofs.ListedLemmas.{are_conflicts}
 use Rattle.mr_store.proofs.revision_list.RevisionList.conflicts.Goals as goal
 

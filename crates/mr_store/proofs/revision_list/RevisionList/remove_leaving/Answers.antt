@@ -1,7 +1,7 @@
 use Rattle.std.proofs.Common.{ap, List, arith}
 use Rattle.mr_store.specs.Leaving.{leaves}
 use Rattle.mr_madewith.specs.Revision.{Rev}
-use Rattle.mr_store.specs.RevisionList.{RevisionParts}
+use Rattle.mr_store.specs.inner.RevisionList.{RevisionParts}
 use Rattle.mr_store.proofs.IndexLemmas.{index-left}
 use Rattle.mr_store.proofs.ListedLemmas.{to_list-exact}
 use Rattle.mr_store.specs.Revisions.{versions_of}

@@ -5,7 +5,7 @@ use Rattle.std.proofs.lemmas.List.Elements.{filter_map-append}
 use Rattle.mr_version.specs.Name.{Name}
 use Rattle.mr_madewith.specs.Revision.{Rev}
 use Rattle.mr_concise.specs.Vector.{vector_has}
-use Rattle.mr_store.specs.RevisionList.{RevisionParts}
+use Rattle.mr_store.specs.inner.RevisionList.{RevisionParts}
 use Rattle.mr_store.proofs.RevisionLemmas.{found_below, found-versions_of}
 use Rattle.mr_store.proofs.revision_list.RevisionList.superseded.Goals.{in-Some+in_ok-copy+in_ok-push, in_default}
 use Rattle.mr_store.proofs.revision_list.RevisionList.superseded.Goals as goal

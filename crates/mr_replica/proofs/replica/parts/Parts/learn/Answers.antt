@@ -1,5 +1,5 @@
 use Rattle.std.proofs.Common.{refl, ap, ◌∙◌}
-use Rattle.mr_replica.specs.Taking.{below_told}
+use Rattle.mr_replica.specs.inner.Taking.{below_told}
 use Rattle.mr_replica.proofs.replica.parts.Parts.learn.Goals as goal
 
 -- what it tells is learned, and the session has taken it

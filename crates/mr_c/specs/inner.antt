@@ -1,0 +1,3 @@
+-- what private functions promise, and what their loops keep: no public contract cites it
+pub mod Given
+pub mod Opened

@@ -1,0 +1,4 @@
+-- what private functions promise, and what their loops keep: no public contract cites it
+pub mod Draft
+pub mod Text
+pub mod Written

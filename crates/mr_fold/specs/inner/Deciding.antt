@@ -1,0 +1,26 @@
+-- how all mails stand, and which acts delete one
+use Rattle.std.specs.Prelude.{◌≡◌, ◌++◌, ℕ, IsTrue, List, map}
+use Rattle.std.specs.Global.{Vec}
+use Rattle.std.specs.List.Sorted.{IsPermutation, IsSorted}
+use Rattle.mr_mail.specs.Label.{text_cmp}
+use Rattle.mr_scan.specs.declared.inodes.Stored.{Stored}
+use Rattle.mr_compare.specs.MailsLeft.{unheld}
+use Rattle.mr_compare.specs.Sides.{standing_of_held, standing_of_unheld}
+use Rattle.mr_compare.specs.Tally.{deletes}
+use Rattle.mr_compare.specs.declared.compare.MailAct.{MailAct}
+use Rattle.mr_compare.specs.declared.compare.Standing.{Standing}
+use Rattle.mr_compare.specs.declared.joining.ItemHeads.{ItemHeads}
+use Rattle.mr_compare.specs.declared.sides.HeldMail.{HeldMail}
+use Rattle.mr_compare.specs.declared.sides.Sides.{Sides}
+use Rattle.mr_fold.specs.inner.Lacking.{is_stored}
+
+-- the mails stand so by these sides: those that are held, and then those that aren't, rising
+pub record AreStandings (items : List (List ℕ × Vec ItemHeads)) (mails : List HeldMail) (sides : Sides) (standings : List Standing) : Type 0 where
+  pub others : List (List ℕ)
+  pub rising : IsSorted text_cmp others
+  pub each : IsPermutation (unheld items sides) others
+  pub are : standings ≡ map (standing_of_held sides) mails ++ map (standing_of_unheld sides) others
+
+-- if the act deletes its mail, that is one of the store's mails
+abbrev pub IsStoredIfDeleted : List Stored → MailAct → Type 0
+IsStoredIfDeleted stored act = IsTrue (deletes act.act) → IsTrue (is_stored stored act.digest)

@@ -1,0 +1,12 @@
+-- a replica of which all was closed
+use Rattle.std.specs.Prelude.{◌++◌, ℕ, Bool, List}
+use Rattle.mr_entry.specs.declared.entry.Entry.{Entry}
+use Rattle.mr_kept.specs.declared.journaled.Journaled.{Journaled}
+use Rattle.mr_kept.specs.Closing.{Takes, closers}
+use Rattle.mr_kept.specs.Entries.{entries_of}
+use Rattle.mr_kept.specs.Kept.{IsKept, issued_of, replica_of}
+
+-- The replica took the events that close what was open, and the journal has these entries and behind them those of the events.
+pub record IsClosedIn {K D V : Type 0} (seen : D → List ℕ) (may_leave : D → List ℕ → Type 0) (entries : List Entry) (are_closed : Bool) (old new : Journaled K D V) : Type 0 where
+  pub closed : Takes (closers (replica_of old)) are_closed (replica_of old) (replica_of new)
+  pub kept : IsKept seen may_leave (entries ++ entries_of (issued_of old) closed.more) new

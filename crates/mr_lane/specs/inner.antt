@@ -1,0 +1,5 @@
+-- what private functions promise, and what their loops keep: no public contract cites it
+pub mod Desk
+pub mod InboxRule
+pub mod Tap
+pub mod TapRule

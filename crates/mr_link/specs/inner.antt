@@ -1,0 +1,4 @@
+-- what private functions promise, and what their loops keep: no public contract cites it
+pub mod LaneLink
+pub mod Snag
+pub mod Wire

@@ -1,0 +1,4 @@
+-- what private functions promise, and what their loops keep: no public contract cites it
+pub mod Plan
+pub mod Rounds
+pub mod Telling

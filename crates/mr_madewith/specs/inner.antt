@@ -1,0 +1,2 @@
+-- what private functions promise, and what their loops keep: no public contract cites it
+pub mod Search

@@ -1,0 +1,5 @@
+-- what private functions promise, and what their loops keep: no public contract cites it
+pub mod Folders
+pub mod Found
+pub mod Scan
+pub mod Spoiled
