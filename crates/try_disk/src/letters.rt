@@ -93,8 +93,8 @@ fn taken<J: Keeper>(alloc: Global, replica: &mut J, letter: &[u8]) -> Result<Str
 /// What a replica makes of a frame.
 fn given<J: Keeper>(alloc: Global, replica: &mut J, frame: &Frame) -> Result<String> {
     match frame {
-        Frame::Ask(ask) => answered(alloc, replica.answer(ask.copy(alloc)?)),
-        Frame::Record(_) => received(alloc, replica.receive(frame.copy(alloc)?)),
+        Frame::Ask(ask) => answered(alloc, replica.answer(ask.copy()?)),
+        Frame::Record(_) => received(alloc, replica.receive(frame.copy()?)),
         Frame::Receipt(receipt) => released(alloc, replica.release(receipt.copy()?)),
     }
 }

@@ -4,7 +4,8 @@
 //! `rt try -- "$PWD/data"`. A file `NAME.scene` is a row of lines. A line that begins with a space is an answer, and each
 //! other one is done (`scene.rt` says what lines there are). The program does the lines of each file, over item sets and
 //! over sparing knowledge, and compares what they answer with what stands in the file: it prints `ok NAME`, or the first line
-//! that differs and the whole file as it would be. It ends with status 1 where a file differs or can't be read.
+//! that differs and the whole file as it would be. It ends with status 1 where a file differs or can't be read. Behind
+//! the files it tells of a replica whose host writes its file (`hosted.rt`).
 //!
 //! With more words it writes and reads a journal, or a replica, in a file, for tools that stop the program, cut its file and
 //! change it (`commands.rt`).
@@ -15,6 +16,7 @@ mod disk;
 mod disks;
 mod events;
 mod files;
+mod hosted;
 mod journals;
 mod keeper;
 mod kept;
@@ -52,8 +54,18 @@ fn main(rt: HostRuntime) -> ExitCode {
 fn run<R: Env + Files<File = File> + Print + AllocGlobal + Copy>(rt: &R) -> anyhow::Result<bool> {
     let words: Vec<String> = env::args(rt)?.collect(rt.alloc())?;
     match words.as_slice() {
-        [] | [_] => files::run_all(rt, "."),
-        [_, folder] => files::run_all(rt, folder.as_str()),
+        [] | [_] => run_all(rt, "."),
+        [_, folder] => run_all(rt, folder.as_str()),
         [_, words @ ..] => commands::run(rt, words).map(|()| true),
     }
+}
+
+/// Plays the scenes in the folder, and a host, and tells whether all is as it has to be.
+fn run_all<R: Files<File = File> + Print + AllocGlobal + Copy>(
+    rt: &R,
+    folder: &str,
+) -> anyhow::Result<bool> {
+    let are_ok = files::run_all(rt, folder)?;
+    hosted::run(rt)?;
+    Ok(are_ok)
 }

@@ -10,7 +10,7 @@ use mr_version::Author;
 use std::alloc::Global;
 
 /// Where the journal is.
-const HERE: Mark = [7; 32];
+pub const HERE: Mark = [7; 32];
 
 /// Begins a replica.
 pub fn begin<J: Keeper>(alloc: Global, disk: Disk) -> Result<()> {
@@ -20,8 +20,8 @@ pub fn begin<J: Keeper>(alloc: Global, disk: Disk) -> Result<()> {
     }
 }
 
-/// What the office is begun with.
-fn setup(alloc: Global) -> Result<Setup> {
+/// What a replica of messages is begun with.
+pub fn setup(alloc: Global) -> Result<Setup> {
     Ok(Setup {
         id: Author::try_new(0)?,
         filter: Filter::read(alloc, "all")?,

@@ -2,7 +2,7 @@
 //!
 //! What the one learns for an item the other learns for all, and the sparing form chooses by what it knows,
 //! so they are compared by the pairs of a version with the item that it is of.
-use crate::Outcome;
+use super::Outcome;
 use crate::numbers::Numbers;
 use anyhow::Result;
 use mr_concise::ConciseVector;

@@ -1,8 +1,8 @@
 //! Concise vectors beside plain sets, at the limit: a vector refuses exactly where the plain set
 //! has more holes than a column keeps.
-use crate::Outcome;
+use super::Outcome;
+use super::sets::Twin;
 use crate::numbers::Numbers;
-use crate::sets::Twin;
 use anyhow::Result;
 use mr_concise::{ConciseVector, MAX_HOLES};
 use mr_forms::{FormFault, Run, VersionSet};

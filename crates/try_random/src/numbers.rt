@@ -1,7 +1,4 @@
 //! Numbers, as a seed gives them.
-//!
-//! `try_twins` and `try_hostile` have the same file, as `tools/check-pages` compares: a library of its own would take longer to
-//! load than its two functions take to prove once more.
 ghost use Rattle.std.specs.Prelude.{◌≤◌, ◌<◌};
 
 use rand::RngExt;

@@ -1,8 +1,8 @@
 //! A replica whose host writes its file: what the host sees of it before and after it has done its acts, what it finds where it was
 //! killed in one of them, and what it is told once one of them has failed.
 
-use crate::HERE;
-use crate::mail::{message, setup};
+use crate::events::message;
+use crate::office::{HERE, setup};
 use anyhow::{Result, bail};
 use mr_entry::Note;
 use mr_hosted::{Hosted, HostedFault};
@@ -22,7 +22,7 @@ const SUBJECTS: [&str; 2] = ["Agenda", "Coffee"];
 /// Begins the tablet's replica in a file that has no byte.
 pub(crate) fn run<R: Print + AllocGlobal>(rt: &R) -> Result<()> {
     let alloc = rt.alloc();
-    let mut tablet = Tablet::begin(alloc, setup(alloc, "all", HERE)?)?;
+    let mut tablet = Tablet::begin(alloc, setup(alloc)?)?;
     keep(rt, &mut tablet)
 }
 
@@ -58,7 +58,7 @@ fn write(alloc: Global, tablet: &mut Tablet) -> Result<()> {
 
 /// The tablet writes a message.
 fn create(alloc: Global, tablet: &mut Tablet, subject: &str) -> Result<()> {
-    let message = message(alloc, subject)?;
+    let message = message(alloc, subject, "inbox")?;
     match tablet.create(message) {
         Ok(()) => Ok(()),
         Err(KeptFault::Refused(refusal)) => Err(refusal.into()),

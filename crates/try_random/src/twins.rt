@@ -6,19 +6,16 @@
 //! here concise vectors beside plain sets with their limit, knowledge by sets of items and its sparing form
 //! beside plain knowledge, and their limits of items. A further pair is a module of its own and a line in
 //! `run_all`. The numbers come from fixed seeds, so that each run of the program is the same.
-#![tactic(auto)]
 
 mod knowledge;
 mod limits;
 mod many_items;
-mod numbers;
 mod runs;
 mod sets;
 
 use anyhow::Result;
 use knowledge::Course;
 use mr_itemset::{ItemKnowledge, SparingKnowledge};
-use std::process::ExitCode;
 
 /// Knowledge by sets of items is compared over few counters.
 const FEW_COUNTERS: Course = Course {
@@ -32,19 +29,8 @@ const MANY_COUNTERS: Course = Course {
     counters: 40,
 };
 
-fn main(rt: HostRuntime) -> ExitCode {
-    match run_all(&rt) {
-        Ok(true) => ExitCode::SUCCESS,
-        Ok(false) => ExitCode::FAILURE,
-        Err(error) => {
-            let _ = eprintln!(rt; "{error:?}");
-            ExitCode::FAILURE
-        }
-    }
-}
-
 /// Whether the twins of each pair agree. Prints a line for each.
-fn run_all(rt: &(impl Print + AllocGlobal)) -> Result<bool> {
+pub fn run_all(rt: &(impl Print + AllocGlobal)) -> Result<bool> {
     let sets = say(
         rt,
         "concise vectors and plain sets",

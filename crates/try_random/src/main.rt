@@ -1,9 +1,10 @@
-//! Hostile input: bytes, streams and frames that nobody should send, and what comes of them.
+//! Random calls: two forms of one thing that have to answer alike, and hostile input, which is bytes, streams and frames that
+//! nobody should send, and what comes of them.
 //!
-//!     try_hostile SEED COUNT           tries so many hostile frames, and what belongs to them
-//!     try_hostile SEED COUNT told      reads so many, and says before each how long it is
+//!     try_random SEED COUNT           compares the twins (`twins.rt`), and tries so many hostile frames, and what belongs to them
+//!     try_random SEED COUNT told      reads so many hostile frames, and says before each how long it is
 //!
-//! The seed gives all numbers, so that each run with the same words is the same. Where something is not as it has to be
+//! The seed gives all numbers of the hostile input, so that each run with the same words is the same. Where something is not as it has to be
 //! the program says what, with the bytes, and ends with status 1. Otherwise it prints a line for each thing that it
 //! tried, and how often each fault and refusal was met, by its number: a run that meets too few has shown little.
 #![tactic(auto)]
@@ -19,6 +20,7 @@ mod story;
 mod streams;
 mod tally;
 mod tell;
+mod twins;
 
 use anyhow::{Result, bail};
 use cast::{Device, new_devices};
@@ -54,6 +56,9 @@ struct Course {
 /// Does what the command line says.
 fn run<R: Env + Print + AllocGlobal>(rt: &R) -> Result<()> {
     let course = asked(rt)?;
+    if !course.is_told && !twins::run_all(rt)? {
+        bail!("two forms of one thing answer differently");
+    }
     play(rt, course)
 }
 
@@ -68,7 +73,7 @@ fn course_of(words: &[String]) -> Result<Course> {
     let (seed, count, is_told) = match words {
         [_program, seed, count] => (seed, count, false),
         [_program, seed, count, last] if last.as_str() == "told" => (seed, count, true),
-        _ => bail!("usage: try_hostile SEED COUNT [told]"),
+        _ => bail!("usage: try_random SEED COUNT [told]"),
     };
     Ok(Course {
         seed: seed.as_str().parse()?,

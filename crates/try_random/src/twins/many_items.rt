@@ -1,6 +1,6 @@
 //! Knowledge of as many items as a fragment lists: one fragment has them all. Of one item more, knowledge by
 //! sets of items refuses it, and its sparing form tells it in a second fragment.
-use crate::Outcome;
+use super::Outcome;
 use anyhow::Result;
 use mr_concise::ConciseVector;
 use mr_forms::{FormFault, Fragment, ItemSet, Knowledge, MAX_ITEMS, VersionSet};

@@ -1,5 +1,5 @@
 //! Concise vectors beside plain sets: calls on few and low versions.
-use crate::Outcome;
+use super::Outcome;
 use crate::numbers::Numbers;
 use anyhow::Result;
 use mr_concise::ConciseVector;
