@@ -38,7 +38,7 @@ fn copies(alloc: Global, events: &[Event]) -> Result<Vec<Event>, AllocError>
 {
     let mut copies = Vec::with_capacity(alloc, events.len())?;
     for event in events {
-        copies.push(event.copy(alloc)?)?;
+        copies.push(event.copy()?)?;
     }
     Ok(copies)
 }

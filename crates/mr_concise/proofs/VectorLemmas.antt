@@ -88,6 +88,14 @@ with_column-insert new [] (suc i) before from l = absurd (omega arith)
 with_column-insert new (x ∷ xs) zero before from l = let gt : new.author < x.author = from x (omega arith) in let ge : new.author ≤ x.author = omega arith in let ne : x.author ≡ new.author → ⊥ = λ k. omega arith in rw (le-ltb x.author new.author ge, ne_eqb x.author new.author ne) refl
 with_column-insert new (x ∷ xs) (suc i) before from l = rw (lt-ltb x.author new.author (before 0 x (omega arith))) (ap (λ ys. x ∷ ys) (with_column-insert new xs i (λ k d h. before (suc k) d (omega arith)) (λ d h. from d (omega arith)) (omega arith)))
 
+-- behind all others it is put at the end
+pub push-with_column : (new : AuthorColumn) (xs : List AuthorColumn) (i : ℕ) → ((k : ℕ) (d : AuthorColumn) → 0 ≤ k → k < i → nat_lt (get_or xs k d).author new.author ≡ true) → i ≡ length xs → (xs ++ new ∷ []) ≡ with_column new xs
+push-with_column new [] zero before end = refl
+push-with_column new [] (suc i) before end = absurd (omega arith)
+push-with_column new (x ∷ xs) zero before end = absurd (omega arith)
+push-with_column new (x ∷ xs) (suc i) before end =
+    rw (before 0 x (omega arith) (omega arith)) (ap (λ ys. x ∷ ys) (push-with_column new xs i (λ k d z h. before (suc k) d (omega arith) (omega arith)) (omega arith)))
+
 pub with_column-set : (new : AuthorColumn) (xs : List AuthorColumn) (i : ℕ) → ((k : ℕ) (d : AuthorColumn) → k < i → (get_or xs k d).author < new.author) → ((d : AuthorColumn) → new.author ≡ (get_or xs i d).author) → i < length xs → with_column new xs ≡ set xs i new
 with_column-set new [] i before at l = absurd (omega arith)
 with_column-set new (x ∷ xs) zero before at l = let e : new.author ≡ x.author = at x in let ge : new.author ≤ x.author = omega arith in rw (le-ltb x.author new.author ge, eq-eqb x.author new.author (sym e)) refl

@@ -46,7 +46,8 @@ fn columns_of_runs(alloc: Global, runs: &[Run]) -> Result<Option<Vec<AuthorColum
     ensures vector { IfOk result (λ columns. IfSome columns (λ v. IsVectorFrom 0 v.items)) }
     ensures means { IfOk result (λ columns. IfSome columns (λ v. IsSame (vector_has v.items) (in_runs runs.now))) }
 {
-    let mut columns = Vec::new(alloc);
+    // most vectors have one column
+    let mut columns = Vec::with_capacity(alloc, 1)?;
     for run in runs {
         if !append_run(&mut columns, alloc, *run)? {
             return Ok(None);
@@ -118,7 +119,7 @@ pub fn concise_fragments<V: VersionSet>(
     ensures holes { IsErrOf result FormFault.TooManyHoles → Any (IsTooHoley V.has) fragments.items }
     ensures items { result ≢ Err FormFault.TooManyItems }
 {
-    let mut concise = Vec::new(alloc);
+    let mut concise = Vec::with_capacity(alloc, fragments.len())?;
     for fragment in fragments {
         concise.push(concise_fragment(alloc, fragment)?)?;
     }

@@ -25,6 +25,7 @@
 //! ```
 #![tactic(auto)]
 
+mod as_fragment;
 mod column;
 mod column_ref;
 mod fragments;
@@ -36,6 +37,7 @@ mod sweep;
 mod union;
 mod vector;
 
+pub use as_fragment::AsFragment;
 pub use column::{COUNTERS_END, Column, Hole, MAX_HOLES};
 pub use fragments::{concise_fragments, knowledge_text};
 pub use source::{AnyOf, OfSet, Source, lower_author, lower_counter};

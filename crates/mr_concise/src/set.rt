@@ -76,7 +76,7 @@ impl VersionSet for ConciseVector {
     }
 
     fn columns(&self) -> Result<Vec<Run>, FormFault> {
-        let mut runs = Vec::new(self.alloc);
+        let mut runs = Vec::with_capacity(self.alloc, self.columns.len())?;
         for x in &self.columns {
             push_runs(x, &mut runs)?;
         }

@@ -107,7 +107,9 @@ pub(crate) fn put(columns: &mut Vec<AuthorColumn>, new: AuthorColumn) -> Result<
     ensures err { OnErr result (columns.new.items ≡ columns.old.items) }
 {
     let at = place(columns, new.author);
-    if at < columns.len() && columns[at].author.id() == new.author.id() {
+    if at == columns.len() {
+        columns.push(new)?;
+    } else if columns[at].author.id() == new.author.id() {
         columns[at] = new;
     } else {
         columns.insert(at, new)?;

@@ -19,14 +19,14 @@ use Rattle.mr_itemset.specs.declared.knowledge.Listed.{Listed}
 use Rattle.mr_itemset.specs.Groups.{Alike, alone, with_item, takes, grouped}
 use Rattle.mr_itemset.specs.inner.Groups.{place_of, mark_of, FillInTurn}
 
-none_is_not : {X : Type 0} (x : X) → None ≡ Some x → ⊥
+pub none_is_not : {X : Type 0} (x : X) → None ≡ Some x → ⊥
 none_is_not x e = false≢true (ap is_some e)
 
-inside : (j k d : ℕ) → Some j ≡ Some k → j ≡ k
+pub inside : (j k d : ℕ) → Some j ≡ Some k → j ≡ k
 inside j k d e = ap (λ p. unwrap_or p d) e
 
 -- the place in the tail, where the head has another vector
-later : (p : Option ℕ) (k : ℕ) → option_map suc p ≡ Some k → (j : ℕ) × ((p ≡ Some j) × (k ≡ suc j))
+pub later : (p : Option ℕ) (k : ℕ) → option_map suc p ≡ Some k → (j : ℕ) × ((p ≡ Some j) × (k ≡ suc j))
 later None k e = absurd (none_is_not k e)
 later (Some j) k e = (j, (refl, sym (inside (suc j) k 0 e)))
 

@@ -5,6 +5,9 @@ use Rattle.std.specs.List.{list_any}
 use Rattle.std.specs.List.Sorted.{IsNonDecreasingBy}
 use Rattle.std.proofs.lemmas.Bool.{false≢true, cases_lt, cases_eq, le-leb, lt-leb, eq-eqb, ne_eqb}
 use Rattle.mr_concise.specs.Edges.{IsRising}
+use Rattle.mr_concise.specs.inner.Edges.{is_on}
+use Rattle.mr_concise.proofs.EdgeLemmas.{is_on-turn, is_on-stay}
+use Rattle.mr_concise.proofs.ColumnLemmas.{column_has-edges}
 use Rattle.mr_concise.specs.declared.column.Hole.{Hole}
 use Rattle.mr_concise.specs.declared.vector.AuthorColumn.{AuthorColumn}
 use Rattle.mr_concise.specs.Column.{Extent, hole_has, hole_edges, column_has, empty_column, IsColumn}
@@ -66,6 +69,40 @@ last_lacks column hole first end r normal there begun lacks is = elim (cases_lt 
       let to : r ≤ (get_or column.holes there.0 hole).last = omega arith in
       hole-lacks column there.0 r hole there.1 from to
 ]
+
+-- ---- columns that begin alike
+
+-- behind a hole that two columns share they may differ
+behind_same : (h : Hole) (xs ys : List ℕ) (c : ℕ) → (h.last + 1 ≤ c → is_on true xs c ≡ is_on true ys c) → is_on true (h.first ∷ (h.last + 1) ∷ xs) c ≡ is_on true (h.first ∷ (h.last + 1) ∷ ys) c
+behind_same h xs ys c rest = elim (cases_lt c h.first) [
+  | inl before ↦ is_on-stay true h.first ((h.last + 1) ∷ xs) c before ∙ sym (is_on-stay true h.first ((h.last + 1) ∷ ys) c before)
+  | inr from ↦ is_on-turn true h.first ((h.last + 1) ∷ xs) c from ∙ (inside ∙ sym (is_on-turn true h.first ((h.last + 1) ∷ ys) c from))
+]
+  where
+    inside : is_on false ((h.last + 1) ∷ xs) c ≡ is_on false ((h.last + 1) ∷ ys) c
+    inside = elim (cases_lt c (h.last + 1)) [
+      | inl within ↦ is_on-stay false (h.last + 1) xs c within ∙ sym (is_on-stay false (h.last + 1) ys c within)
+      | inr past ↦ is_on-turn false (h.last + 1) xs c past ∙ (rest past ∙ sym (is_on-turn false (h.last + 1) ys c past))
+    ]
+
+-- up to the last of the holes that they share they are the same
+alike_to : (hs gs : List Hole) (xs ys : List ℕ) (n : ℕ) (d : Hole) (c : ℕ) → n < length hs → n < length gs → ((k : ℕ) (e : Hole) → k ≤ n → get_or hs k e ≡ get_or gs k e) → c ≤ (get_or hs n d).last
+    → is_on true (hole_edges hs ++ xs) c ≡ is_on true (hole_edges gs ++ ys) c
+alike_to [] gs xs ys n d c in_hs in_gs same up = absurd (omega arith)
+alike_to (h ∷ hs) [] xs ys n d c in_hs in_gs same up = absurd (omega arith)
+alike_to (h ∷ hs) (g ∷ gs) xs ys zero d c in_hs in_gs same up =
+    rw (← same 0 d (omega arith)) (behind_same h (hole_edges hs ++ xs) (hole_edges gs ++ ys) c (λ past. absurd (omega arith)))
+alike_to (h ∷ hs) (g ∷ gs) xs ys (suc n) d c in_hs in_gs same up =
+    rw (← same 0 d (omega arith)) (behind_same h (hole_edges hs ++ xs) (hole_edges gs ++ ys) c (λ past. alike_to hs gs xs ys n d c (omega arith) (omega arith) (λ k e le. same (suc k) e (omega arith)) up))
+
+-- so they have the same counters up to there
+pub columns_alike : (all own : Extent) (n : ℕ) (d : Hole) (c : ℕ) → IsColumn all → IsColumn own → n < length all.holes → n < length own.holes → ((k : ℕ) (e : Hole) → k ≤ n → get_or all.holes k e ≡ get_or own.holes k e) → c ≤ (get_or all.holes n d).last
+    → column_has all c ≡ column_has own c
+columns_alike all own n d zero of_all of_own in_all in_own same up = refl
+columns_alike all own n d (suc c) of_all of_own in_all in_own same up =
+    column_has-edges all (suc c) of_all.apart (omega arith)
+    ∙ (alike_to all.holes own.holes ((all.upto + 1) ∷ []) ((own.upto + 1) ∷ []) n d (suc c) in_all in_own same up
+    ∙ sym (column_has-edges own (suc c) of_own.apart (omega arith)))
 
 -- ---- an author's column
 

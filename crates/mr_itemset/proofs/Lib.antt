@@ -1,4 +1,5 @@
 pub mod NormalLemmas
+pub mod NotedLemmas
 pub mod ColumnsLemmas
 pub mod EqualLemmas
 pub mod LimitLemmas

@@ -6,7 +6,6 @@ ghost use Rattle.mr_itemset.specs.Groups.{alone, with_item, grouped, all_grouped
 ghost use Rattle.mr_itemset.specs.inner.Groups.{place_of, mark_of, ArePlaces, FillInTurn};
 ghost use Rattle.mr_itemset.specs.Shown.{shown, shown_group};
 
-use crate::knowledge::Listed;
 use crate::settled::Vectors;
 use mr_concise::ConciseVector;
 use mr_forms::{FormFault, Fragment, ItemSet, MAX_ITEMS, VersionSet};
@@ -69,7 +68,7 @@ impl<'a> Group<'a> {
 }
 
 /// A number in which vectors differ soonest: the bound of the first column.
-fn mark_of(vector: &ConciseVector) -> u32
+pub(crate) fn mark_of(vector: &ConciseVector) -> u32
     ensures { result ≡ mark_of vector.now }
 {
     match vector.author_columns().first() {
@@ -125,18 +124,6 @@ fn add<'a>(
         }
     }
     Ok(())
-}
-
-/// The items of a list, grouped as those of a map are.
-pub(crate) fn groups_in(listed: &[Listed], alloc: Global) -> Result<Vec<Group<'_>>, AllocError>
-    ensures { IfOk result (λ groups. groups.items ≡ all_grouped MAX_ITEMS [] listed.now) }
-{
-    let mut groups = Vec::new(alloc);
-    let mut places = BTreeMap::new(alloc);
-    for x in listed {
-        add(&mut groups, &mut places, x.item, &x.vector, alloc)?;
-    }
-    Ok(groups)
 }
 
 /// The listed items, grouped by their vectors, with as many in a group as a fragment lists: the groups

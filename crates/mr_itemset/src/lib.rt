@@ -46,6 +46,7 @@ mod listing;
 mod merge;
 mod merging;
 mod more;
+mod moved;
 mod pending;
 mod rule;
 mod settle;

@@ -14,9 +14,8 @@ ghost use Rattle.mr_itemset.specs.Shown.{shown, fragments_in};
 ghost use Rattle.mr_itemset.specs.Told.{IsToldOfAuthor, AreTold, IsToldOf};
 ghost use Rattle.mr_itemset.specs.inner.Told.{beyond, AreToldItems, GainsTold, Skips};
 
-use crate::fragments::push_groups;
-use crate::groups::groups_in;
 use crate::knowledge::Listed;
+use crate::moved::{own_groups, push_own_groups};
 use crate::settled::Settled;
 use mr_concise::{AuthorColumn, Column, ConciseVector, Hole, Source};
 use mr_forms::{FormFault, Fragment, ItemSet};
@@ -93,6 +92,22 @@ fn last_out_before(vector: &ConciseVector, author: Author, first: u32, end: u32)
     }
 }
 
+/// A counter up to which two columns have the same: the last one of the holes that they share from the first one on.
+/// Callers may rely on any such counter; that it is a high one saves them steps. It costs a look at each of these holes.
+fn alike_until(all: &Column, own: &Column) -> u32
+    requires all { IsColumn all.now }
+    requires own { IsColumn own.now }
+    ensures { (c : ℕ) → c ≤ result → column_has all.now c ≡ column_has own.now c }
+{
+    let (left, right) = (all.holes(), own.holes());
+    let most = left.len().min(right.len());
+    let mut shared = 0;
+    while shared < most && left[shared] == right[shared] {
+        shared += 1;
+    }
+    if shared > 0 { left[shared - 1].last } else { 0 }
+}
+
 /// What all items have, and what an item has beside: it has what one of the two has.
 #[derive(Drop)]
 struct Difference<'a> {
@@ -101,14 +116,24 @@ struct Difference<'a> {
 }
 
 impl<'a> Difference<'a> {
-    /// The author's first counter from here on that the item has, and not all items. It costs two searches
-    /// for each run of what the item has beside.
+    /// A counter of the author up to which the item has nothing that not all items have.
+    fn nothing_until(&self, author: Author) -> u32
+        ensures { (c : ℕ) → c ≤ result → beyond self.now.all.now self.now.own.now author c ≡ false }
+    {
+        match (column_in(self.all, author), column_in(self.own, author)) {
+            (Some(all), Some(own)) => alike_until(all, own),
+            _ => 0,
+        }
+    }
+
+    /// The author's first counter from here on that the item has, and not all items. It costs a look at each hole
+    /// that the two columns share at their beginning, and behind these two searches for each run of what the item has.
     fn next_in(&self, author: Author, from: u32) -> Option<u32>
         requires { 1 ≤ from }
         ensures next { MatchOption result (HasNoneFrom (beyond self.now.all.now self.now.own.now author) from) (λ at. IsNextIn (beyond self.now.all.now self.now.own.now author) from at) }
         ensures bound { IfSome result (λ at. at ≤ MAX_COUNTER) }
     {
-        let mut at = from;
+        let mut at = from.max(self.nothing_until(author));
         loop {
             let there = self.own.next_in(author, at)?;
             let next = self.all.next_out(author, there);
@@ -191,7 +216,7 @@ impl<'a> Difference<'a> {
         ensures vector { IfOk result (IsVectorFrom 0) }
         ensures told { IfOk result (λ vector. AreTold (vector_has self.now.all.now) (both (vector_has self.now.all.now) (vector_has self.now.own.now)) (vector_has vector)) }
     {
-        let mut columns = Vec::new(alloc);
+        let mut columns = Vec::with_capacity(alloc, self.own.author_columns().len())?;
         let mut id = 0;
         while let Some(author) = self.own.next_author(id) {
             let column = self.column(alloc, author)?;
@@ -229,7 +254,7 @@ impl<const LIMIT: usize> Settled<LIMIT> {
         ensures { IfOk result (λ told. AreToldItems all.now self.now.listed told.items) }
     {
         let alloc = self.allocator();
-        let mut told = Vec::new(alloc);
+        let mut told = Vec::with_capacity(alloc, self.listed().len())?;
         for (item, own) in self.listed() {
             push_told(&mut told, alloc, all, *item, own)?;
         }
@@ -256,13 +281,13 @@ impl<const LIMIT: usize> Settled<LIMIT> {
             return Err(FormFault::OutOfMemory);
         };
         let told = self.told_items(&all)?;
-        let mut fragments = Vec::new(alloc);
+        let groups = own_groups(told, alloc)?;
+        let mut fragments = Vec::with_capacity(alloc, groups.len() + 1)?;
         fragments.push(Fragment {
             items: ItemSet::All,
             vector: all,
         })?;
-        let groups = groups_in(&told, alloc)?;
-        push_groups(&mut fragments, groups)?;
+        push_own_groups(&mut fragments, groups)?;
         Ok(fragments)
     }
 }

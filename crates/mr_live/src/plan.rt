@@ -180,22 +180,17 @@ fn events_for(alloc: Global, id: Author, asked: &[Asked]) -> Result<Vec<Event>, 
 {
     let mut events = Vec::new(alloc);
     for ask in asked {
-        push_if_for(alloc, &mut events, id, ask)?;
+        push_if_for(&mut events, id, ask)?;
     }
     Ok(events)
 }
 
 /// Adds what is asked, if it is of the replica of this id.
-fn push_if_for(
-    alloc: Global,
-    events: &mut Vec<Event>,
-    id: Author,
-    ask: &Asked,
-) -> Result<(), AllocError>
+fn push_if_for(events: &mut Vec<Event>, id: Author, ask: &Asked) -> Result<(), AllocError>
     ensures { OnOk result (events.new.items ≡ events.old.items ++ event_for id ask.now) }
 {
     if ask.id == id {
-        events.push(ask.event.copy(alloc)?)?;
+        events.push(ask.event.copy()?)?;
     }
     Ok(())
 }

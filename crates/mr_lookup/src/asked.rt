@@ -2,7 +2,7 @@
 ghost use Rattle.std.specs.Prelude.{◌≡◌, IfOk};
 
 use mr_session::AskedOf;
-use mr_wire::{Ask, FrameFragment};
+use mr_wire::Ask;
 use std::alloc::{AllocError, Global};
 
 /// What the request asks for, so that what it claims can be looked up by [`AskedOf::knows`], at two binary searches among all the
@@ -10,7 +10,5 @@ use std::alloc::{AllocError, Global};
 pub fn asked_of(alloc: Global, ask: &Ask) -> Result<AskedOf, AllocError>
     ensures { IfOk result (λ asked. asked ≡ record { target = ask.now.target; session = ask.now.session; filter = ask.now.filter; claims = ask.now.fragments }) }
 {
-    let filter = ask.filter().copy()?;
-    let claims = FrameFragment::copy_all(alloc, ask.fragments())?;
-    AskedOf::new(alloc, ask.target(), ask.session(), filter, claims)
+    AskedOf::new(alloc, ask)
 }

@@ -4,7 +4,8 @@ use Rattle.mr_forms.specs.Known.{Form, AreSame}
 use Rattle.mr_filter.specs.Meaning.{covers}
 use Rattle.mr_session.specs.Table.{with_opened}
 use Rattle.mr_session.specs.declared.limits.TheConstants.{MAX_OPEN}
-use Rattle.mr_session.specs.Stream.{Asked, claimed, new_stream}
+use Rattle.mr_session.specs.Stream.{claimed, new_stream}
+pub use Rattle.mr_session.specs.Stream.{asked_of}
 use Rattle.mr_wire.specs.Values.{Piece}
 use Rattle.mr_wire.specs.Frames.{Question}
 use Rattle.mr_wire.specs.declared.frame.Mode.{Mode}
@@ -18,10 +19,6 @@ use Rattle.mr_replica.specs.Issue.{logged}
 use Rattle.mr_replica.specs.declared.event.Event.TheVariants.{Answer}
 use Rattle.mr_replica.specs.declared.refusal.Refusal.{Refusal}
 use Rattle.mr_replica.specs.declared.refusal.Refusal.TheVariants.{OwnAsk, TooManyStreams}
-
--- what a stream keeps of the request that it answers
-abbrev pub asked_of : Question → Asked
-asked_of ask = record { target = ask.target; session = ask.session; filter = ask.filter; claims = ask.fragments }
 
 module _ {K : Type 0} where
   -- why it is refused. A retired replica goes on telling others.

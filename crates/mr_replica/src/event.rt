@@ -5,7 +5,7 @@ use mr_mail::Message;
 use mr_model::Bases;
 use mr_version::Version;
 use mr_wire::{Ask, Frame, Receipt, Record};
-use std::alloc::{AllocError, Global};
+use std::alloc::AllocError;
 
 /// What a replica is asked to do.
 #[derive(Debug, Drop)]
@@ -37,7 +37,7 @@ pub enum Event {
 
 impl Event {
     /// An equal event. It costs a copy of what the event carries.
-    pub fn copy(&self, alloc: Global) -> Result<Event, AllocError>
+    pub fn copy(&self) -> Result<Event, AllocError>
         ensures { IfOk result (λ event. event ≡ self.now) }
     {
         match self {
@@ -45,9 +45,9 @@ impl Event {
             Event::Edit(bases, message) => copied_edit(bases, message),
             Event::Retire => Ok(Event::Retire),
             Event::Pull => Ok(Event::Pull),
-            Event::Receive(frame) => frame.copy(alloc).map(Event::Receive),
+            Event::Receive(frame) => frame.copy().map(Event::Receive),
             Event::CutIn(session) => Ok(Event::CutIn(*session)),
-            Event::Answer(ask) => ask.copy(alloc).map(Event::Answer),
+            Event::Answer(ask) => ask.copy().map(Event::Answer),
             Event::Next(stream) => Ok(Event::Next(*stream)),
             Event::CutOut(stream) => Ok(Event::CutOut(*stream)),
             Event::Vouch(version) => Ok(Event::Vouch(*version)),
@@ -88,13 +88,13 @@ pub enum Reply {
 
 impl Reply {
     /// An equal reply. It costs a copy of what the reply carries.
-    pub fn copy(&self, alloc: Global) -> Result<Reply, AllocError>
+    pub fn copy(&self) -> Result<Reply, AllocError>
         ensures { IfOk result (λ reply. reply ≡ self.now) }
     {
         match self {
             Reply::Issued(version) => Ok(Reply::Issued(*version)),
             Reply::Done => Ok(Reply::Done),
-            Reply::Asked(ask) => ask.copy(alloc).map(Reply::Asked),
+            Reply::Asked(ask) => ask.copy().map(Reply::Asked),
             Reply::Streaming(stream) => Ok(Reply::Streaming(*stream)),
             Reply::Gave(record) => record.copy().map(Reply::Gave),
             Reply::Took => Ok(Reply::Took),

@@ -45,7 +45,6 @@
 //! which tells that `0.1` and `0.2` are known for the item `0.1`.
 #![tactic(auto)]
 
-mod asks;
 mod event;
 mod laws;
 mod pieces;

@@ -1,5 +1,4 @@
 pub mod SlotLemmas
-pub mod PieceLemmas
 pub mod TableLemmas
 pub mod ViewLemmas
 pub mod NumberLemmas

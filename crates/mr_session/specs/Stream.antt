@@ -11,10 +11,11 @@ use Rattle.mr_concise.specs.declared.vector.AuthorColumn.{AuthorColumn}
 use Rattle.mr_concise.specs.Vector.{vector_has}
 use Rattle.mr_madewith.specs.Revision.{Rev}
 use Rattle.mr_madewith.specs.Keyed.{is_before}
+pub use Rattle.mr_store.specs.FragmentIndex.{lists}
 use Rattle.mr_store.specs.Holdings.{Holdings}
 use Rattle.mr_store.specs.Revisions.{version_of}
 use Rattle.mr_wire.specs.Values.{Piece}
-use Rattle.mr_wire.specs.Frames.{Sent}
+use Rattle.mr_wire.specs.Frames.{Sent, Question}
 use Rattle.mr_wire.specs.declared.frame.Header.{Header}
 use Rattle.mr_wire.specs.declared.frame.Mode.{Mode}
 use Rattle.mr_wire.specs.declared.frame.Mode.TheVariants.{Full, Partial}
@@ -24,11 +25,6 @@ use Rattle.mr_session.specs.Held.{AreCut}
 use Rattle.mr_session.specs.Table.{Table, open_at, with_closed, with_changed}
 
 -- ---- what is asked for
-
--- whether a fragment of these items is of the item: all items at None, else those that are listed
-abbrev pub lists : Option (List Name) → Name → Bool
-lists None i = true
-lists (Some items) i = list_any (λ item. name_eq item i) items
 
 -- what these fragments say is known
 abbrev pub claimed : List Piece → Pairs
@@ -40,6 +36,10 @@ pub record Asked : Type 0 where
   pub session : ℕ
   pub filter : List ClauseParts
   pub claims : List Piece
+
+-- what a request asks
+abbrev pub asked_of : Question → Asked
+asked_of ask = record { target = ask.target; session = ask.session; filter = ask.filter; claims = ask.fragments }
 
 -- ---- what is told
 

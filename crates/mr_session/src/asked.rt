@@ -1,67 +1,58 @@
 //! What a stream keeps of the Ask that it answers.
-ghost use Rattle.std.specs.Prelude.{◌≡◌, ◌≤◌, ◌<◌, ◌&&◌, ℕ, not, true, IfOk};
+ghost use Rattle.std.specs.Prelude.{◌≡◌, ◌≤◌, ◌<◌, ◌&&◌, ℕ, not, true, IfOk, IfSome};
 ghost use Rattle.mr_version.specs.Name.{Name, name_eq};
-ghost use Rattle.mr_session.specs.Stream.{Asked, is_item, is_wanted, claimed};
+ghost use Rattle.mr_concise.specs.Vector.{vector_has};
+ghost use Rattle.mr_session.specs.Stream.{Asked, asked_of, is_item, is_wanted, claimed};
 
-use crate::claims::Claims;
+use mr_concise::{ConciseVector, Source};
 use mr_filter::Filter;
 use mr_madewith::Revision;
+use mr_store::FragmentIndex;
 use mr_version::{Author, ItemId, Version};
-use mr_wire::FrameFragment;
+use mr_wire::Ask;
 use std::alloc::{AllocError, Global};
 use std::marker::Model;
 
 /// What was asked for: by whom, for which of its sessions, what its filter selects, and what it claims to
-/// know.
+/// know, found by item.
 #[derive(Drop)]
 pub struct AskedOf {
-    target: Author,
-    session: u64,
-    filter: Filter,
-    claims: Claims,
+    ask: Ask,
+    index: FragmentIndex,
 }
 
 impl Model for AskedOf {
-    ghost use Rattle.std.specs.Prelude.{◌≤◌};
-    ghost use Rattle.mr_session.specs.Stream.{Asked};
+    ghost use Rattle.std.specs.Prelude.{map};
+    ghost use Rattle.mr_store.specs.FragmentIndex.{Finds};
+    ghost use Rattle.mr_session.specs.Stream.{Asked, asked_of};
 
     ghost Value = { Asked };
 
-    ghost view = { λ a. record { target = a.target; session = a.session; filter = a.filter; claims = a.claims } };
+    ghost view = { λ a. asked_of a.ask };
 
-    ghost invariant = { λ a. 1 ≤ a.session };
+    ghost invariant = { λ a. Finds (map (λ piece. piece.items) a.ask.fragments) a.index };
 }
 
 impl AskedOf {
-    /// What the target asks for one of its sessions, which are numbered from 1: what the filter selects,
-    /// and these fragments don't claim to be known. It sorts the items that the fragments list.
-    pub fn new(
-        alloc: Global,
-        target: Author,
-        session: u64,
-        filter: Filter,
-        claims: Vec<FrameFragment>,
-    ) -> Result<AskedOf, AllocError>
-        requires { 1 ≤ session }
-        ensures { IfOk result (λ asked. asked ≡ record { target = target; session = session; filter = filter; claims = claims.items }) }
+    /// What a request asks for: what its filter selects, and its fragments don't claim to be known. It shares
+    /// the fragments with the request, and sorts the items that they list.
+    pub fn new(alloc: Global, ask: &Ask) -> Result<AskedOf, AllocError>
+        ensures { IfOk result (λ asked. asked ≡ asked_of ask.now) }
     {
+        let index = FragmentIndex::new(alloc, ask.fragments())?;
         Ok(AskedOf {
-            target,
-            session,
-            filter,
-            claims: Claims::new(alloc, claims)?,
+            ask: ask.copy()?,
+            index,
         })
     }
 
-    /// An equal one.
+    /// An equal one. It shares the fragments.
     pub fn copy(&self) -> Result<AskedOf, AllocError>
         ensures { IfOk result (λ asked. asked ≡ self.now) }
     {
         Ok(AskedOf {
-            target: self.target,
-            session: self.session,
-            filter: self.filter.copy()?,
-            claims: self.claims.copy()?,
+            ask: self.ask.copy()?,
+            index: self.index.copy()?,
         })
     }
 
@@ -69,7 +60,7 @@ impl AskedOf {
     pub fn target(&self) -> Author
         ensures { result ≡ self.now.target }
     {
-        self.target
+        self.ask.target()
     }
 
     /// For which of its sessions, numbered from 1.
@@ -77,29 +68,43 @@ impl AskedOf {
         ensures is { result ≡ self.now.session }
         ensures kept { 1 ≤ self.now.session }
     {
-        self.session
+        self.ask.session()
     }
 
-    /// Whether the one who asks claims to know the version for the item.
+    /// Whether the one who asks claims to know the version for the item. It costs a binary search among all
+    /// listed items, and two in the vector of each fragment that is of the item.
     pub fn knows(&self, item: ItemId, version: Version) -> bool
         ensures { result ≡ claimed self.now.claims item version }
     {
-        self.claims.has(item, version)
+        self.index.covers(self.ask.fragments(), item, version)
     }
 
     /// The first counter from the version's on that the one who asks may not claim for all items: the author's
-    /// counters from the version's up to this one are claimed for each item.
+    /// counters from the version's up to this one are claimed for each item. It costs two binary searches in the
+    /// vector of the first fragment of all items.
     pub fn known_until(&self, version: Version) -> u32
         ensures { (counter : ℕ) → version.counter ≤ counter → counter < result → (item : Name) → claimed self.now.claims item (record { author = version.author; counter = counter }) ≡ true }
     {
-        self.claims.known_until(version)
+        match self.first_general() {
+            Some(vector) => vector.next_out(version.author(), version.counter()),
+            None => version.counter(),
+        }
+    }
+
+    // The vector of the first fragment of all items, if there is one.
+    fn first_general(&self) -> Option<&ConciseVector>
+        ensures { IfSome result (λ vector. (item v : Name) → vector_has vector.now v ≡ true → claimed self.now.claims item v ≡ true) }
+    {
+        let place = self.index.first_general()?;
+        let fragment = self.ask.fragments().get(place)?;
+        Some(&fragment.as_fragment().vector)
     }
 
     /// Whether the filter of the one who asks selects the revision.
     pub fn selects(&self, revision: &Revision) -> bool
         ensures { result ≡ is_item self.now revision.now }
     {
-        self.filter.select(revision.message())
+        self.ask.filter().select(revision.message())
     }
 
     /// Whether the one who asks is to be told of the revision: it isn't known, and it is selected, or a

@@ -62,6 +62,9 @@ fn pass_known<'a>(asked: &AskedOf, revisions: &'a [Revision]) -> &'a [Revision]
         Some(first) => {
             let version = first.version();
             let until = asked.known_until(version);
+            if until <= version.counter() {
+                return revisions;
+            }
             &revisions[place_before(revisions, version.author(), until)..]
         }
         None => revisions,

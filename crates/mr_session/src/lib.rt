@@ -27,14 +27,13 @@
 //! sessions.take(&record)?;
 //! let session = sessions.close(number);
 //!
-//! let asked = AskedOf::new(alloc, target, session_number, filter, claims)?;
+//! let asked = AskedOf::new(alloc, &ask)?;
 //! let number = streams.open(asked, Mode::Full, fragments)?;
 //! let record = streams.draw(number, source, &store)?;
 //! ```
 #![tactic(auto)]
 
 mod asked;
-mod claims;
 mod copies;
 mod due;
 mod fault;

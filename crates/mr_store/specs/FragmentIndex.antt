@@ -1,14 +1,17 @@
 -- how fragments are found by item
-use Rattle.std.specs.Prelude.{◌≡◌, ◌+◌, ℕ, List, [], ◌∷◌, ◌++◌, map, Option, Some, None}
+use Rattle.std.specs.Prelude.{◌≡◌, ◌+◌, ◌&&◌, ℕ, Bool, true, List, [], ◌∷◌, ◌++◌, map, Option, Some, None}
+use Rattle.std.specs.List.{list_any}
 use Rattle.std.specs.List.Sorted.{IsPermutation}
-use Rattle.mr_version.specs.Name.{Name}
-use Rattle.mr_forms.specs.Covered.{listed_items}
-use Rattle.mr_concise.specs.Fragments.{ConciseFragment}
+use Rattle.mr_version.specs.Name.{Name, name_eq}
+use Rattle.mr_forms.specs.Known.{Pairs}
+use Rattle.mr_concise.specs.declared.vector.AuthorColumn.{AuthorColumn}
+use Rattle.mr_concise.specs.Vector.{vector_has}
 use Rattle.mr_store.specs.declared.fragment_index.Listing.{Listing}
 
--- the items that a fragment lists, or none where it is of all items
-abbrev pub items_of : ConciseFragment → Option (List Name)
-items_of fragment = listed_items fragment.items
+-- whether what lists these items, or is of all items at none, is of the item
+abbrev pub lists : Option (List Name) → Name → Bool
+lists None i = true
+lists (Some items) i = list_any (λ item. name_eq item i) items
 
 abbrev pub item_of : Listing → Name
 item_of listing = listing.item
@@ -36,6 +39,10 @@ general_of place (Some items) = []
 abbrev pub general_from : (place : ℕ) → List (Option (List Name)) → List ℕ
 general_from place [] = []
 general_from place (items ∷ others) = general_of place items ++ general_from (place + 1) others
+
+-- whether one of these, which list these items and have these versions, tells the version of the item
+abbrev pub is_told : {F : Type 0} (listed : F → Option (List Name)) (vector : F → List AuthorColumn) → List F → Pairs
+is_told listed vector fragments i v = list_any (λ fragment. lists (listed fragment) i && vector_has (vector fragment) v) fragments
 
 -- the places of the fragments of all items, and the listings of the others
 pub record Places : Type 0 where

@@ -162,7 +162,7 @@ pub listings_of_told : listings_from 0 told ≡ listing_at 1 (name 0 1) ∷ list
 listings_of_told = refl
 
 -- the fragment at a place is asked for its vector alone, and behind the last one there is none
-pub which_have_it : map (has_at (first_two ∷ record { items = All; vector = upto 1 3 ∷ [] } ∷ []) (name 1 2)) (0 ∷ 1 ∷ 2 ∷ []) ≡ false ∷ true ∷ false ∷ []
+pub which_have_it : map (has_at (λ fragment. fragment.vector) (first_two ∷ record { items = All; vector = upto 1 3 ∷ [] } ∷ []) (name 1 2)) (0 ∷ 1 ∷ 2 ∷ []) ≡ false ∷ true ∷ false ∷ []
 which_have_it = refl
 
 -- ---- the index

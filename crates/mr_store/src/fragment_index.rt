@@ -2,15 +2,14 @@
 ghost use Rattle.std.specs.Prelude.{◌≡◌, ◌≤◌, ◌==◌, ◌++◌, not, map, length, filter, true, false, IfOk, OnOk};
 ghost use Rattle.std.specs.List.{list_any, slice_get};
 ghost use Rattle.std.specs.List.Sorted.{IsPermutation, IsPartitionPoint, IsSortedByKey};
-ghost use Rattle.std.specs.Ordering.{is_lt, is_le};
+ghost use Rattle.std.specs.Ordering.{is_lt};
 ghost use Rattle.mr_version.specs.Name.{name_cmp};
-ghost use Rattle.mr_forms.specs.Covered.{listed_items, all_covered};
-ghost use Rattle.mr_concise.specs.Vector.{vector_has};
-ghost use Rattle.mr_store.specs.FragmentIndex.{items_of, item_of, listing_at, listings_of, listings_from, general_of, general_from, Finds};
+ghost use Rattle.mr_forms.specs.Covered.{listed_items};
+ghost use Rattle.mr_store.specs.FragmentIndex.{item_of, is_told, listing_at, listings_of, listings_from, general_of, general_from, Finds};
 ghost use Rattle.mr_store.specs.inner.FragmentIndex.{is_for, has_at};
 
-use mr_concise::ConciseVector;
-use mr_forms::{Fragment, ItemSet, VersionSet};
+use mr_concise::AsFragment;
+use mr_forms::{ItemSet, VersionSet};
 use mr_version::{ItemId, Version};
 use std::alloc::{AllocError, Global};
 use std::marker::Model;
@@ -77,29 +76,23 @@ fn note_listed(listings: &mut Vec<Listing>, items: &ItemSet, place: usize) -> Re
 }
 
 // The places of the fragments of all items.
-fn general_places(
-    alloc: Global,
-    fragments: &[Fragment<ConciseVector>],
-) -> Result<Vec<usize>, AllocError>
-    ensures { IfOk result (λ places. places.items ≡ general_from 0 (map items_of fragments.now)) }
+fn general_places<F: AsFragment>(alloc: Global, fragments: &[F]) -> Result<Vec<usize>, AllocError>
+    ensures { IfOk result (λ places. places.items ≡ general_from 0 (map F.listed fragments.now)) }
 {
     let mut places = Vec::new(alloc);
     for (place, fragment) in fragments.iter().enumerate() {
-        note_general(&mut places, &fragment.items, place)?;
+        note_general(&mut places, &fragment.as_fragment().items, place)?;
     }
     Ok(places)
 }
 
 // What the fragments list.
-fn all_listings(
-    alloc: Global,
-    fragments: &[Fragment<ConciseVector>],
-) -> Result<Vec<Listing>, AllocError>
-    ensures { IfOk result (λ listings. listings.items ≡ listings_from 0 (map items_of fragments.now)) }
+fn all_listings<F: AsFragment>(alloc: Global, fragments: &[F]) -> Result<Vec<Listing>, AllocError>
+    ensures { IfOk result (λ listings. listings.items ≡ listings_from 0 (map F.listed fragments.now)) }
 {
-    let mut listings = Vec::new(alloc);
+    let mut listings = Vec::with_capacity(alloc, fragments.len())?;
     for (place, fragment) in fragments.iter().enumerate() {
-        note_listed(&mut listings, &fragment.items, place)?;
+        note_listed(&mut listings, &fragment.as_fragment().items, place)?;
     }
     Ok(listings)
 }
@@ -120,38 +113,32 @@ fn place_of(listings: &[Listing], item: ItemId) -> usize
     listings.partition_point(|listing| listing.item < item)
 }
 
-// How many listings are of the item or a lower one.
-fn place_behind(listings: &[Listing], item: ItemId) -> usize
-    requires { IsSortedByKey item_of name_cmp listings.now }
-    ensures bound { result ≤ length listings.now }
-    ensures place { IsPartitionPoint (λ l. is_le (name_cmp l.item item) ≡ true) (λ l. is_le (name_cmp l.item item) ≡ false) listings.now result }
-{
-    listings.partition_point(|listing| listing.item <= item)
-}
-
-// The listings of the item. It costs two binary searches.
+// The listings of the item. It costs a binary search, and a look at each of them.
 fn listings_for(listings: &[Listing], item: ItemId) -> &[Listing]
     requires { IsSortedByKey item_of name_cmp listings.now }
     ensures { result.now ≡ filter (is_for item) listings.now }
 {
     let from = place_of(listings, item);
-    let to = place_behind(listings, item);
+    let mut to = from;
+    while to < listings.len() && listings[to].item == item {
+        to += 1;
+    }
     &listings[from..to]
 }
 
 // Whether the fragment at the place has the version.
-fn has_at(fragments: &[Fragment<ConciseVector>], version: Version, place: usize) -> bool
-    ensures { result ≡ has_at fragments.now version place }
+fn has_at<F: AsFragment>(fragments: &[F], version: Version, place: usize) -> bool
+    ensures { result ≡ has_at F.told fragments.now version place }
 {
     match fragments.get(place) {
-        Some(fragment) => fragment.vector.contains(version),
+        Some(fragment) => fragment.as_fragment().vector.contains(version),
         None => false,
     }
 }
 
 // Whether the fragment at one of the places has the version.
-fn some_has(fragments: &[Fragment<ConciseVector>], version: Version, places: &[usize]) -> bool
-    ensures { result ≡ list_any (has_at fragments.now version) places.now }
+fn some_has<F: AsFragment>(fragments: &[F], version: Version, places: &[usize]) -> bool
+    ensures { result ≡ list_any (has_at F.told fragments.now version) places.now }
 {
     places
         .iter()
@@ -159,8 +146,8 @@ fn some_has(fragments: &[Fragment<ConciseVector>], version: Version, places: &[u
 }
 
 // Whether a fragment that one of the listings is of has the version.
-fn any_has(fragments: &[Fragment<ConciseVector>], version: Version, listings: &[Listing]) -> bool
-    ensures { result ≡ list_any (λ l. has_at fragments.now version l.place) listings.now }
+fn any_has<F: AsFragment>(fragments: &[F], version: Version, listings: &[Listing]) -> bool
+    ensures { result ≡ list_any (λ l. has_at F.told fragments.now version l.place) listings.now }
 {
     listings
         .iter()
@@ -169,11 +156,8 @@ fn any_has(fragments: &[Fragment<ConciseVector>], version: Version, listings: &[
 
 impl FragmentIndex {
     /// The index of these fragments. It sorts the items that they list, and copies no fragment.
-    pub fn new(
-        alloc: Global,
-        fragments: &[Fragment<ConciseVector>],
-    ) -> Result<FragmentIndex, AllocError>
-        ensures { IfOk result (Finds (map items_of fragments.now)) }
+    pub fn new<F: AsFragment>(alloc: Global, fragments: &[F]) -> Result<FragmentIndex, AllocError>
+        ensures { IfOk result (Finds (map F.listed fragments.now)) }
     {
         let general = general_places(alloc, fragments)?;
         let mut listings = all_listings(alloc, fragments)?;
@@ -213,16 +197,10 @@ impl FragmentIndex {
     }
 
     /// Whether one of the fragments, of which this is the index, covers the version for the item. It costs
-    /// two binary searches among all listed items, and two in the vector of each fragment that is of the
-    /// item.
-    pub fn covers(
-        &self,
-        fragments: &[Fragment<ConciseVector>],
-        item: ItemId,
-        version: Version,
-    ) -> bool
-        requires { Finds (map items_of fragments.now) self.now }
-        ensures { result ≡ all_covered vector_has fragments.now item version }
+    /// a binary search among all listed items, and two in the vector of each fragment that is of the item.
+    pub fn covers<F: AsFragment>(&self, fragments: &[F], item: ItemId, version: Version) -> bool
+        requires { Finds (map F.listed fragments.now) self.now }
+        ensures { result ≡ is_told F.listed F.told fragments.now item version }
     {
         some_has(fragments, version, &self.general)
             || any_has(fragments, version, listings_for(&self.listings, item))

@@ -106,6 +106,7 @@ fn fragments(
 
 /// The request, where its parts are kept.
 fn ask_of(
+    memory: Option<Global>,
     target: Author,
     session: u64,
     filter: Option<Filter>,
@@ -115,7 +116,7 @@ fn ask_of(
     ensures { IfSome result (λ a. IsSomeAnd filter (λ f. IsSomeAnd fragments
         (λ v. a ≡ record { target = target; session = session; filter = f; fragments = v.items }))) }
 {
-    Some(Ask::new(target, session, filter?, fragments?))
+    Ask::new(memory?, target, session, filter?, fragments?).ok()
 }
 
 /// A request: target, session, filter, a count of fragments, and those.
@@ -129,7 +130,7 @@ pub fn ask(input: &mut Input<'_>, memory: Option<Global>) -> Option<Option<Ask>>
     let filter = filter(input, memory)?;
     let count = input.u32()?;
     let fragments = fragments(input, memory, count)?;
-    Some(ask_of(target, session, filter, fragments))
+    Some(ask_of(memory, target, session, filter, fragments))
 }
 
 /// The record, where its body is kept.

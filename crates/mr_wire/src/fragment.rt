@@ -5,7 +5,7 @@ ghost use Rattle.mr_wire.specs.Spelling.{fragment_bytes};
 ghost use Rattle.mr_wire.specs.Encoding.{longest_fragment};
 
 use crate::lengths::{item_set_len, vector_len};
-use mr_concise::ConciseVector;
+use mr_concise::{AsFragment, ConciseVector};
 use mr_forms::Fragment;
 use std::alloc::{AllocError, Global};
 use std::marker::Model;
@@ -60,20 +60,6 @@ impl FrameFragment {
         Ok(FrameFragment::new(fragment))
     }
 
-    /// Equal fragments, in the same order.
-    pub fn copy_all(
-        alloc: Global,
-        fragments: &[FrameFragment],
-    ) -> Result<Vec<FrameFragment>, AllocError>
-        ensures { IfOk result (λ copied. copied.items ≡ fragments.now) }
-    {
-        let mut copied = Vec::with_capacity(alloc, fragments.len())?;
-        for fragment in fragments {
-            copied.push(fragment.copy()?)?;
-        }
-        Ok(copied)
-    }
-
     /// How many bytes the fragment takes in a frame: 3 to 2,490,887.
     ///
     /// It takes no memory, and looks at each column once, at no item and at no hole.
@@ -82,5 +68,15 @@ impl FrameFragment {
         ensures most { result ≤ longest_fragment }
     {
         item_set_len(&self.fragment.items) + vector_len(&self.fragment.vector)
+    }
+}
+
+impl AsFragment for FrameFragment {
+    ghost listed = { λ piece. piece.items };
+
+    ghost told = { λ piece. piece.vector };
+
+    fn as_fragment(&self) -> &Fragment<ConciseVector> {
+        &self.fragment
     }
 }

@@ -11,6 +11,7 @@ use mr_madewith::Revision;
 use mr_version::Author;
 use std::alloc::{AllocError, Global};
 use std::marker::Model;
+use std::sync::Arc;
 
 /// The most bytes that a request's fragments may take, so that it is never too long for a frame.
 pub const MAX_ASKED_BYTES: usize = 8_000_000;
@@ -128,38 +129,48 @@ impl Record {
 ///
 /// Its session has a number from 1. A fragment of all items comes first, if there is one; the others
 /// rise by their least items.
+///
+/// A request never changes, and its fragments are shared: `copy` makes one more owner of them, and their memory is
+/// given back with the last.
 #[derive(Debug, Drop)]
 pub struct Ask {
     target: Author,
     session: u64,
     filter: Filter,
-    fragments: Vec<FrameFragment>,
+    fragments: Arc<Vec<FrameFragment>, Global>,
 }
 
 impl Model for Ask {
+    ghost use Rattle.std.specs.Arc.{arc_value};
     ghost use Rattle.mr_wire.specs.Frames.{Question, question_code, IsQuestion};
 
     ghost Value = { Question };
 
     ghost coded = { question_code };
 
-    ghost view = { λ a. record { target = a.target; session = a.session; filter = a.filter; fragments = a.fragments.items } };
+    ghost view = { λ a. record { target = a.target; session = a.session; filter = a.filter; fragments = (arc_value a.fragments).items } };
 
-    ghost invariant = { λ a. IsQuestion a.session a.fragments.items };
+    ghost invariant = { λ a. IsQuestion a.session (arc_value a.fragments).items };
 }
 
 impl Ask {
-    /// The request with these parts.
-    pub fn new(target: Author, session: u64, filter: Filter, fragments: Vec<FrameFragment>) -> Ask
+    /// The request with these parts. The fragments are moved into memory that its owners share.
+    pub fn new(
+        alloc: Global,
+        target: Author,
+        session: u64,
+        filter: Filter,
+        fragments: Vec<FrameFragment>,
+    ) -> Result<Ask, AllocError>
         requires { IsQuestion session fragments.items }
-        ensures { result ≡ record { target = target; session = session; filter = filter; fragments = fragments.items } }
+        ensures { IfOk result (λ ask. ask ≡ record { target = target; session = session; filter = filter; fragments = fragments.items }) }
     {
-        Ask {
+        Ok(Ask {
             target,
             session,
             filter,
-            fragments,
-        }
+            fragments: Arc::new(alloc, fragments)?,
+        })
     }
 
     /// Who asks.
@@ -191,13 +202,16 @@ impl Ask {
         self.fragments.as_slice()
     }
 
-    /// An equal request. It costs a copy of the filter and of the fragments.
-    pub fn copy(&self, alloc: Global) -> Result<Ask, AllocError>
+    /// An equal request, which shares the fragments: it costs a copy of the filter.
+    pub fn copy(&self) -> Result<Ask, AllocError>
         ensures { IfOk result (λ ask. ask ≡ self.now) }
     {
-        let filter = self.filter.copy()?;
-        let fragments = FrameFragment::copy_all(alloc, &self.fragments)?;
-        Ok(Ask::new(self.target, self.session, filter, fragments))
+        Ok(Ask {
+            target: self.target,
+            session: self.session,
+            filter: self.filter.copy()?,
+            fragments: Arc::try_clone(&self.fragments)?,
+        })
     }
 
     /// How many bytes the fragments take together. Where they take at most [`MAX_ASKED_BYTES`], the request
@@ -209,7 +223,7 @@ impl Ask {
         ensures most { result < 2 ^ 54 }
     {
         let mut len = 0;
-        for fragment in &self.fragments {
+        for fragment in self.fragments.as_slice() {
             len += fragment.encoded_len();
         }
         len
@@ -250,11 +264,11 @@ pub enum Frame {
 
 impl Frame {
     /// An equal frame. It costs a copy of what the frame carries.
-    pub fn copy(&self, alloc: Global) -> Result<Frame, AllocError>
+    pub fn copy(&self) -> Result<Frame, AllocError>
         ensures { IfOk result (λ frame. frame ≡ self.now) }
     {
         match self {
-            Frame::Ask(ask) => Ok(Frame::Ask(ask.copy(alloc)?)),
+            Frame::Ask(ask) => Ok(Frame::Ask(ask.copy()?)),
             Frame::Record(sent) => Ok(Frame::Record(sent.copy()?)),
             Frame::Receipt(receipt) => Ok(Frame::Receipt(receipt.copy()?)),
         }

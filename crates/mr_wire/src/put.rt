@@ -42,15 +42,17 @@ pub fn put_version(out: &mut Vec<u8>, version: Version) -> Result<(), AllocError
     ensures written { OnOk result (out.new.items ≡ out.old.items ++ name_bytes version) }
     ensures in_grammar { OnOk result (IsVersion version.author version.counter) }
 {
-    put_u16(out, version.author().id())?;
-    put_u32(out, version.counter())
+    let [a, b] = version.author().id().to_be_bytes();
+    let [c, d, e, f] = version.counter().to_be_bytes();
+    out.extend_from_slice(&[a, b, c, d, e, f])
 }
 
 fn put_hole(out: &mut Vec<u8>, hole: Hole) -> Result<(), AllocError>
     ensures { OnOk result (out.new.items ≡ out.old.items ++ hole_bytes hole) }
 {
-    put_u32(out, hole.first)?;
-    put_u32(out, hole.last)
+    let [a, b, c, d] = hole.first.to_be_bytes();
+    let [e, f, g, h] = hole.last.to_be_bytes();
+    out.extend_from_slice(&[a, b, c, d, e, f, g, h])
 }
 
 fn put_holes(out: &mut Vec<u8>, holes: &[Hole]) -> Result<(), AllocError>
@@ -67,9 +69,10 @@ fn put_column(out: &mut Vec<u8>, x: &AuthorColumn) -> Result<(), AllocError>
     ensures { OnOk result (out.new.items ≡ out.old.items ++ column_bytes x.now) }
 {
     let holes = x.column.holes();
-    put_u16(out, x.author.id())?;
-    put_u32(out, x.column.upto())?;
-    put_u16(out, holes.len() as u16)?;
+    let [a, b] = x.author.id().to_be_bytes();
+    let [c, d, e, f] = x.column.upto().to_be_bytes();
+    let [g, h] = (holes.len() as u16).to_be_bytes();
+    out.extend_from_slice(&[a, b, c, d, e, f, g, h])?;
     put_holes(out, holes)
 }
 

@@ -8,7 +8,7 @@
 //! A test is proved safe before it runs, and costs the more the longer it is. So each is one
 //! call of a helper without clauses, and a comparison; `samples` and `revisions` have what the tests
 //! share. A table of cases is no test: it is data of the program `try_scripts`, and two forms
-//! of one thing are compared by the program `try_twins`, which calls all that both forms have. Scenes of replicas and
+//! of one thing are compared by the program `try_random`, which calls all that both forms have. Scenes of replicas and
 //! worlds are data of `try_scenes`.
 //! `mr_program` and `mr_hints` are called by the program `try_command_lines`, and `mr_console`, whose
 //! functions no other crate can call, is tried by `tools/try-command-lines`.

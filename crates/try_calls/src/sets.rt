@@ -1,5 +1,5 @@
 //! `mr_forms`, `mr_concise` and `mr_itemset`: the texts of a vector and a knowledge. The calls that two
-//! forms have are compared by `try_twins`, which fails where one finds no memory, and worlds and scripts make the
+//! forms have are compared by `try_random`, which fails where one finds no memory, and worlds and scripts make the
 //! others.
 use crate::samples::{expect, version};
 use mr_concise::ConciseVector;

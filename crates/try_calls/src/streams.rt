@@ -1,6 +1,8 @@
 //! `mr_session`: streams find memory, and draw their records as worked examples tell. The calls that a replica
 //! makes of `mr_madewith`, `mr_store` and `mr_session` are made by the programs that play worlds.
 
+ghost use Rattle.std.specs.Prelude.{◌≡◌, None, IfOk};
+
 use crate::revisions::{created, put_head, two_heads};
 use crate::samples::{expect, version};
 use mr_concise::ConciseVector;
@@ -9,14 +11,20 @@ use mr_forms::{Fragment, ItemSet};
 use mr_session::{AskedOf, Streams};
 use mr_store::Store;
 use mr_version::{Author, Version};
-use mr_wire::{Body, FrameFragment, Mode};
+use mr_wire::{Ask, Body, FrameFragment, Mode};
 use std::alloc::Global;
 use std::collections::VecDeque;
 use std::test::Fail;
 
-/// A fragment of all items that has this version.
-fn known_for_all(alloc: Global, text: &str) -> Result<FrameFragment, Fail> {
-    let vector = ConciseVector::from_versions(alloc, &[version(text)?])?;
+/// A fragment of all items that has these versions.
+fn known_for_all(alloc: Global, texts: &[&str]) -> Result<FrameFragment, Fail>
+    ensures { IfOk result (λ piece. piece.items ≡ None) }
+{
+    let mut versions = Vec::new(alloc);
+    for text in texts {
+        versions.push(version(text)?)?;
+    }
+    let vector = ConciseVector::from_versions(alloc, &versions)?;
     let items = ItemSet::All;
     Ok(FrameFragment::new(Fragment { items, vector }))
 }
@@ -25,20 +33,18 @@ fn known_for_all(alloc: Global, text: &str) -> Result<FrameFragment, Fail> {
 fn fragments(alloc: Global, texts: &[&str]) -> Result<VecDeque<FrameFragment>, Fail> {
     let mut all = VecDeque::new(alloc);
     for text in texts {
-        all.push_back(known_for_all(alloc, text)?)?;
+        all.push_back(known_for_all(alloc, &[*text])?)?;
     }
     Ok(all)
 }
 
-/// What replica 9 asks for its session 1: what the filter selects, and no claim has.
+/// What replica 9 asks for its session 1: what the filter selects, and is not claimed of all items.
 fn asked(alloc: Global, filter: &str, claims: &[&str]) -> Result<AskedOf, Fail> {
     let target = Author::try_new(9)?;
     let filter = Filter::read(alloc, filter)?;
-    let mut claimed = Vec::new(alloc);
-    for text in claims {
-        claimed.push(known_for_all(alloc, text)?)?;
-    }
-    Ok(AskedOf::new(alloc, target, 1, filter, claimed)?)
+    let claimed = vec![in alloc; known_for_all(alloc, claims)?]?;
+    let ask = Ask::new(alloc, target, 1, filter, claimed)?;
+    Ok(AskedOf::new(alloc, &ask)?)
 }
 
 /// Opens a stream where there may be one more, and answers its number, or else 0.

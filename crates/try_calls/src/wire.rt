@@ -31,7 +31,7 @@ fn given_by_copy(alloc: Global, bytes: &[u8]) -> Result<Vec<u8>, Fail> {
     let (Frame::Record(record), _) = decode(alloc, bytes)? else {
         return Err(Fail::new("no record"));
     };
-    match Reply::Gave(record).copy(alloc)? {
+    match Reply::Gave(record).copy()? {
         Reply::Gave(record) => Ok(encode_record(alloc, &record)?),
         _ => Err(Fail::new("another reply")),
     }

@@ -1,5 +1,5 @@
 -- groups of items with one vector, as they are filled
-use Rattle.std.specs.Prelude.{◌≡◌, ◌<◌, ℕ, suc, if◌then◌else◌, List, [], ◌∷◌, Option, Some, None, AllPairs, length, refl}
+use Rattle.std.specs.Prelude.{◌≡◌, ◌<◌, ◌⊎◌, ◌%◌, ℕ, suc, if◌then◌else◌, List, [], ◌∷◌, Option, Some, None, AllPairs, get_or, length, refl}
 use Rattle.std.specs.Option.{option_map}
 use Rattle.std.specs.BTreeMap.{BTreeMap, get}
 use Rattle.std.specs.Ordering.{nat_cmp, ordering_then}
@@ -28,6 +28,18 @@ mark_of (x ∷ xs) = x.column.upto
 abbrev pub ArePlaces : {K : Type 0} → ℕ → (K → List AuthorColumn) → List Alike → BTreeMap (ℕ × K) ℕ → Type 0
 ArePlaces {K} most vector gs places =
     (key : K) → get (λ a b. ordering_then (nat_cmp a.0 b.0) (vector_cmp (vector a.1) (vector b.1))) places (mark_of (vector key), key) ≡ place_of most gs (vector key)
+
+-- the slot of a vector, of so many
+abbrev pub slot_of : ℕ → List AuthorColumn → ℕ
+slot_of count vector = mark_of vector % count
+
+-- the place is noted for the vector: in its slot, or under the vector in the map
+abbrev pub IsNoted : List (Option ℕ) → BTreeMap (List AuthorColumn) ℕ → List AuthorColumn → ℕ → Type 0
+IsNoted slots others vector place = (get_or slots (slot_of (length slots) vector) None ≡ Some place) ⊎ (get vector_cmp others vector ≡ Some place)
+
+-- for each vector the place of the group that takes an item of it is noted, if one does
+abbrev pub AreNoted : ℕ → List Alike → List (Option ℕ) → BTreeMap (List AuthorColumn) ℕ → Type 0
+AreNoted most gs slots others = (vector : List AuthorColumn) (place : ℕ) → place_of most gs vector ≡ Some place → IsNoted slots others vector place
 
 -- of two groups with one vector the first takes no item
 abbrev pub FillInTurn : ℕ → List Alike → Type 0

@@ -5,7 +5,6 @@ ghost use Rattle.mr_replica.specs.StepThen.{answer_by};
 use super::parts::Change;
 use super::prepare::Prepared;
 use super::{Core, Replica};
-use crate::asks::asked_of;
 use crate::pieces::pieces_of;
 use crate::{Event, Refusal, Reply};
 use mr_forms::{FormFault, Knowledge};
@@ -69,7 +68,7 @@ impl<K: Knowledge> Core<K> {
     {
         let mode = self.mode_for(ask);
         let know = self.kept_for(mode)?;
-        let asked = asked_of(self.alloc, ask)?;
+        let asked = AskedOf::new(self.alloc, ask)?;
         Ok(Opening { asked, mode, know })
     }
 

@@ -108,7 +108,7 @@ fn copied_log(alloc: Global, log: &[Event]) -> Result<Vec<Event>, AllocError>
 {
     let mut copied = Vec::with_capacity(alloc, log.len())?;
     for event in log {
-        copied.push(event.copy(alloc)?)?;
+        copied.push(event.copy()?)?;
     }
     Ok(copied)
 }

@@ -70,7 +70,7 @@ impl<K: Knowledge> Core<K> {
         let asked = self.asked()?;
         let filter = self.filter.copy()?;
         let session = self.parts.sessions.opened() + 1;
-        Ok(Ask::new(self.id, session, filter, asked))
+        Ok(Ask::new(self.alloc, self.id, session, filter, asked)?)
     }
 
     // What a request tells of what is known.
@@ -93,7 +93,7 @@ fn first_fitting(
     requires { All (λ fragment. AreItems (piece_of fragment).items) fragments.items }
     ensures { IfOk result (λ asked. IsLongestWithin MAX_ASKED_BYTES (map piece_of fragments.items) asked.items) }
 {
-    let mut asked = Vec::new(alloc);
+    let mut asked = Vec::with_capacity(alloc, fragments.len())?;
     let mut room = MAX_ASKED_BYTES;
     for fragment in fragments {
         let fragment = FrameFragment::new(fragment);

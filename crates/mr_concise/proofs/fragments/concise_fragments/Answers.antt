@@ -6,7 +6,7 @@ use Rattle.mr_concise.proofs.FragmentLemmas.{ConciseSoFar-begin, ConciseSoFar-mo
 use Rattle.mr_concise.proofs.fragments.concise_fragments.Goals as goal
 
 pub loop-fragment-init : goal.loop-fragment-init
-loop-fragment-init g c = rw c.new-concise.ensures.items (ConciseSoFar-begin g.V.VersionSet.has c.args.fragments.items (into_iter_items c.into_iter-fragment-iterator.result) c.into_iter-fragment-iterator.ensures.into_iter_gives.0)
+loop-fragment-init g c = rw c.in_ok-concise.ensures.items (ConciseSoFar-begin g.V.VersionSet.has c.args.fragments.items (into_iter_items c.into_iter-fragment-iterator.result) c.into_iter-fragment-iterator.ensures.into_iter_gives.0)
 
 pub returns-in_err-concise_fragment-clause-holes :
     goal.returns-in_err-concise_fragment-clause-holes

@@ -3,8 +3,8 @@ use Rattle.std.proofs.lemmas.List.{length-drop}
 use Rattle.mr_session.proofs.WalkLemmas.{passed, rest_of, drop_rises}
 use Rattle.mr_session.proofs.due.pass_known.Goals as goal
 
-pub returns-in-Some : goal.returns-in-Some
-returns-in-Some c =
+pub returns-else-until-counter : goal.returns-else-until-counter
+returns-else-until-counter c =
     let revisions = c.args.revisions.now in
     let n = c.place_before.result in
     let known = rw c.version-version.ensures at c.known_until-until.ensures in

@@ -14,7 +14,7 @@ pub loop-x-preserved : goal.loop-x-preserved
 loop-x-preserved c = RunsOfFirst-more c.args.self.now c.loop-x.x-index c.x-item.result c.loop-x.runs.items c.push_runs.new.runs.items (rw c.self.view_is at c.self.invariant) (rw (c.deref-x-items.ensures.value, c.self.view_is) at c.loop-x-test.true) (rw (c.deref-x-items.ensures.value, c.self.view_is) at c.x-item.is) c.loop-x.invariant c.in_ok-push_runs.ensures
 
 pub loop-x-init : goal.loop-x-init
-loop-x-init c = rw c.new-runs.ensures.items (RunsOfFirst-none c.args.self.now)
+loop-x-init c = rw c.in_ok-runs.ensures.items (RunsOfFirst-none c.args.self.now)
 
 pub returns-clause-ok : goal.returns-clause-ok
 returns-clause-ok c = record {

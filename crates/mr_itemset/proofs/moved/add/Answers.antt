@@ -1,0 +1,43 @@
+use Rattle.std.proofs.Common.{rules, ap, sym, ◌∙◌, ◌≡◌, refl, None, Some, length, [], ◌∷◌, ◌++◌}
+use Rattle.mr_forms.specs.declared.fragment.TheConstants.{MAX_ITEMS}
+use Rattle.mr_itemset.specs.Groups.{Alike, alone}
+use Rattle.mr_itemset.specs.inner.Groups.{place_of, IsNoted}
+use Rattle.mr_itemset.proofs.GroupLemmas.{fill_grouped, grouped_last, grouped_there, place_within}
+use Rattle.mr_itemset.proofs.NotedLemmas.{noted_joined, noted_alone}
+use Rattle.mr_itemset.proofs.moved.add.Goals as goal
+
+pub index_mut-requires : goal.index_mut-requires
+index_mut-requires c =
+    let at : place_of MAX_ITEMS c.args.groups.now.items c.args.x.vector ≡ Some c.in-Some.at = sym (rw c.deref.ensures.value at c.in-Some.ensures) in
+    let within = place_within MAX_ITEMS c.args.groups.now.items c.args.x.vector c.in-Some.at at in search rules
+
+pub returns-in_ok-push-in-Some-clause-added : goal.returns-in_ok-push-in-Some-clause-added
+returns-in_ok-push-in-Some-clause-added c =
+    let at : place_of MAX_ITEMS c.args.groups.now.items c.args.x.vector ≡ Some c.in-Some.at = sym (rw c.deref.ensures.value at c.in-Some.ensures) in
+    rw c.in_ok-push-in-Some.ensures (grouped_there MAX_ITEMS c.args.groups.now.items c.args.x c.in-Some.at c.index_mut.result.now at c.index_mut.ensures.value)
+
+pub returns-in_ok-push-in-Some-clause-in_turn : goal.returns-in_ok-push-in-Some-clause-in_turn
+returns-in_ok-push-in-Some-clause-in_turn c =
+    rw (returns-in_ok-push-in-Some-clause-added c) (fill_grouped MAX_ITEMS c.args.groups.now.items c.args.x c.requires.in_turn)
+
+pub returns-in_ok-push-in-Some-clause-noted : goal.returns-in_ok-push-in-Some-clause-noted
+returns-in_ok-push-in-Some-clause-noted c =
+    let at : place_of MAX_ITEMS c.args.groups.now.items c.args.x.vector ≡ Some c.in-Some.at = sym (rw c.deref.ensures.value at c.in-Some.ensures) in
+    rw (returns-in_ok-push-in-Some-clause-added c) (noted_joined MAX_ITEMS c.args.groups.now.items c.args.x c.in-Some.at c.index_mut.result.now c.args.slots.now c.args.others.now c.requires.in_turn at c.index_mut.ensures.value c.requires.noted)
+
+pub returns-in_ok-push-in-None-clause-added : goal.returns-in_ok-push-in-None-clause-added
+returns-in_ok-push-in-None-clause-added c =
+    let none : place_of MAX_ITEMS c.args.groups.now.items c.args.x.vector ≡ None = sym (rw c.deref.ensures.value at c.in-None.ensures) in
+    c.in_ok-push-in-None.ensures.items ∙ ap (λ (g : Alike). c.args.groups.now.items ++ g ∷ []) c.in_ok-of-in-None.ensures
+    ∙ sym (grouped_last MAX_ITEMS c.args.groups.now.items c.args.x none)
+
+pub returns-in_ok-push-in-None-clause-in_turn : goal.returns-in_ok-push-in-None-clause-in_turn
+returns-in_ok-push-in-None-clause-in_turn c =
+    rw (returns-in_ok-push-in-None-clause-added c) (fill_grouped MAX_ITEMS c.args.groups.now.items c.args.x c.requires.in_turn)
+
+pub returns-in_ok-push-in-None-clause-noted : goal.returns-in_ok-push-in-None-clause-noted
+returns-in_ok-push-in-None-clause-noted c =
+    let none : place_of MAX_ITEMS c.args.groups.now.items c.args.x.vector ≡ None = sym (rw c.deref.ensures.value at c.in-None.ensures) in
+    let items : c.push-in-None.new.self.items ≡ c.args.groups.now.items ++ alone c.args.x ∷ [] = c.in_ok-push-in-None.ensures.items ∙ ap (λ (g : Alike). c.args.groups.now.items ++ g ∷ []) c.in_ok-of-in-None.ensures in
+    let many : c.len.result ≡ length c.args.groups.now.items = let n = c.len.ensures in search rules in
+    rw items (noted_alone MAX_ITEMS c.args.groups.now.items c.args.x c.args.slots.now c.note.new.slots c.args.others.now c.note.new.others refl none c.requires.noted (rw many at c.in_ok-note-in-None.ensures.here) c.in_ok-note-in-None.ensures.kept)

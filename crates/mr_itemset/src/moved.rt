@@ -1,0 +1,221 @@
+//! What is told of listed items, grouped by its vectors, which are moved into fragments and not copied.
+ghost use Rattle.std.specs.Prelude.{◌≡◌, ◌≢◌, ◌≤◌, ◌++◌, ℕ, [], true, false, None, Some, List, get_or, length, map, IfOk, IfSome, OnOk, OnErr, Err};
+ghost use Rattle.std.specs.BTreeMap.{get};
+ghost use Rattle.mr_concise.specs.declared.vector.AuthorColumn.{AuthorColumn};
+ghost use Rattle.mr_concise.specs.Order.{vector_cmp};
+ghost use Rattle.mr_forms.specs.declared.fragment.TheConstants.{MAX_ITEMS};
+ghost use Rattle.mr_itemset.specs.Groups.{alone, with_item, grouped, all_grouped, takes};
+ghost use Rattle.mr_itemset.specs.inner.Groups.{place_of, slot_of, FillInTurn, IsNoted, AreNoted};
+ghost use Rattle.mr_itemset.specs.Shown.{shown, shown_group};
+
+use crate::groups::mark_of;
+use crate::knowledge::Listed;
+use mr_concise::ConciseVector;
+use mr_forms::{FormFault, Fragment, ItemSet, MAX_ITEMS};
+use mr_version::ItemId;
+use std::alloc::{AllocError, Global};
+use std::collections::BTreeMap;
+use std::marker::Model;
+
+/// Places of groups by their vectors, where another group has the slot.
+type Others = BTreeMap<ConciseVector, usize>;
+
+/// How many slots there are for each item that may be the first of a group.
+const SLOTS_EACH: usize = 4;
+
+/// Listed items that have one vector, by rising item, and that vector.
+#[derive(Drop)]
+pub(crate) struct OwnGroup {
+    vector: ConciseVector,
+    items: Vec<ItemId>,
+}
+
+impl Model for OwnGroup {
+    ghost use Rattle.mr_itemset.specs.Groups.{Alike};
+    ghost use Rattle.mr_itemset.specs.inner.Groups.{alike_code};
+
+    ghost Value = { Alike };
+
+    ghost coded = { alike_code };
+
+    ghost view = { λ g. record { vector = g.vector; items = g.items.items } };
+}
+
+impl OwnGroup {
+    /// The group of one item.
+    fn of(x: Listed, alloc: Global) -> Result<OwnGroup, AllocError>
+        ensures { IfOk result (λ group. group ≡ alone x) }
+    {
+        let Listed { item, vector } = x;
+        let mut items = Vec::with_capacity(alloc, 1)?;
+        items.push(item)?;
+        Ok(OwnGroup { vector, items })
+    }
+
+    /// Its items with their vector. It costs no copy.
+    fn into_fragment(self) -> Fragment<ConciseVector>
+        ensures { shown result ≡ shown_group self }
+    {
+        let OwnGroup { vector, items } = self;
+        Fragment {
+            items: ItemSet::Listed(items),
+            vector,
+        }
+    }
+
+    /// Whether it takes an item of the vector.
+    fn takes(&self, vector: &ConciseVector) -> bool
+        ensures { result ≡ takes MAX_ITEMS self.now vector.now }
+    {
+        self.vector == *vector && self.items.len() < MAX_ITEMS
+    }
+
+    /// Puts an item behind the others.
+    fn push(&mut self, item: ItemId) -> Result<(), AllocError>
+        ensures { OnOk result (self.new ≡ with_item self.old item) }
+    {
+        self.items.push(item)?;
+        Ok(())
+    }
+}
+
+/// Whether the group at the place is the one that takes an item of the vector.
+fn takes_at(groups: &[OwnGroup], at: usize, vector: &ConciseVector) -> bool
+    requires { FillInTurn MAX_ITEMS groups.now }
+    ensures yes { result ≡ true → place_of MAX_ITEMS groups.now vector.now ≡ Some at }
+    ensures no { result ≡ false → place_of MAX_ITEMS groups.now vector.now ≢ Some at }
+{
+    if at < groups.len() {
+        groups[at].takes(vector)
+    } else {
+        false
+    }
+}
+
+/// The slot of the vector. Vectors with other marks may have the same one.
+fn slot_of(slots: &[Option<usize>], vector: &ConciseVector) -> usize
+    requires { 1 ≤ length slots.now }
+    ensures { result ≡ slot_of (length slots.now) vector.now }
+{
+    mark_of(vector) as usize % slots.len()
+}
+
+/// The place in the vector's slot.
+fn noted_in_slot(slots: &[Option<usize>], vector: &ConciseVector) -> Option<usize>
+    requires { 1 ≤ length slots.now }
+    ensures { result ≡ get_or slots.now (slot_of (length slots.now) vector.now) None }
+{
+    let slot = slot_of(slots, vector);
+    if slot < slots.len() {
+        slots[slot]
+    } else {
+        None
+    }
+}
+
+/// The place, where the group there takes an item of the vector.
+fn checked(groups: &[OwnGroup], noted: Option<usize>, vector: &ConciseVector) -> Option<usize>
+    requires { FillInTurn MAX_ITEMS groups.now }
+    ensures some { IfSome result (λ at. place_of MAX_ITEMS groups.now vector.now ≡ Some at) }
+    ensures none { result ≡ None → (at : ℕ) → noted ≡ Some at → place_of MAX_ITEMS groups.now vector.now ≢ Some at }
+{
+    match noted {
+        Some(at) if takes_at(groups, at, vector) => Some(at),
+        _ => None,
+    }
+}
+
+/// Which group takes an item of the vector. It costs a look at a slot and, where that has no such group, a
+/// search among the vectors that have no slot.
+fn place(
+    groups: &[OwnGroup],
+    slots: &[Option<usize>],
+    others: &Others,
+    vector: &ConciseVector,
+) -> Option<usize>
+    requires some { 1 ≤ length slots.now }
+    requires in_turn { FillInTurn MAX_ITEMS groups.now }
+    requires noted { AreNoted MAX_ITEMS groups.now slots.now others.now }
+    ensures { result ≡ place_of MAX_ITEMS groups.now vector.now }
+{
+    if let Some(at) = checked(groups, noted_in_slot(slots, vector), vector) {
+        return Some(at);
+    }
+    checked(groups, others.get(vector).copied(), vector)
+}
+
+/// Notes the place of a new group in its vector's slot, or beside the slots where another group has it.
+fn note(
+    slots: &mut [Option<usize>],
+    others: &mut Others,
+    vector: &ConciseVector,
+    place: usize,
+) -> Result<(), AllocError>
+    requires { 1 ≤ length slots.old }
+    ensures same { length slots.new ≡ length slots.old }
+    ensures here { OnOk result (IsNoted slots.new others.new vector.now place) }
+    ensures kept { OnOk result ((v : List AuthorColumn) (at : ℕ) → v ≢ vector.now → IsNoted slots.old others.old v at → IsNoted slots.new others.new v at) }
+{
+    let slot = slot_of(slots, vector);
+    if slot < slots.len() && slots[slot].is_none() {
+        slots[slot] = Some(place);
+        return Ok(());
+    }
+    others.insert(vector.copy()?, place)?;
+    Ok(())
+}
+
+/// Puts a listed item into the group that takes it, or else into one of its own behind the others.
+fn add(
+    groups: &mut Vec<OwnGroup>,
+    slots: &mut [Option<usize>],
+    others: &mut Others,
+    x: Listed,
+    alloc: Global,
+) -> Result<(), AllocError>
+    requires some { 1 ≤ length slots.old }
+    requires in_turn { FillInTurn MAX_ITEMS groups.old.items }
+    requires noted { AreNoted MAX_ITEMS groups.old.items slots.old others.old }
+    ensures same { length slots.new ≡ length slots.old }
+    ensures added { OnOk result (groups.new.items ≡ grouped MAX_ITEMS groups.old.items x) }
+    ensures in_turn { OnOk result (FillInTurn MAX_ITEMS groups.new.items) }
+    ensures noted { OnOk result (AreNoted MAX_ITEMS groups.new.items slots.new others.new) }
+{
+    match place(groups, slots, others, &x.vector) {
+        Some(at) => groups[at].push(x.item)?,
+        None => {
+            note(slots, others, &x.vector, groups.len())?;
+            groups.push(OwnGroup::of(x, alloc)?)?;
+        }
+    }
+    Ok(())
+}
+
+/// The items of a list, grouped as those of a map are. For n items it takes about n looks at a slot, and a
+/// search for each item whose vector has none.
+pub(crate) fn own_groups(listed: Vec<Listed>, alloc: Global) -> Result<Vec<OwnGroup>, AllocError>
+    ensures { IfOk result (λ groups. groups.items ≡ all_grouped MAX_ITEMS [] listed.items) }
+{
+    let count = listed.len().saturating_mul(SLOTS_EACH).max(1);
+    let mut slots = Vec::from_elem(alloc, None, count)?;
+    let mut groups = Vec::with_capacity(alloc, listed.len())?;
+    let mut others = BTreeMap::new(alloc);
+    for x in listed {
+        add(&mut groups, &mut slots, &mut others, x, alloc)?;
+    }
+    Ok(groups)
+}
+
+/// Puts a fragment of each group behind the others.
+pub(crate) fn push_own_groups(
+    fragments: &mut Vec<Fragment<ConciseVector>>,
+    groups: Vec<OwnGroup>,
+) -> Result<(), FormFault>
+    ensures ok { OnOk result (map shown fragments.new.items ≡ map shown fragments.old.items ++ map shown_group groups.items) }
+    ensures memory { OnErr result (result ≡ Err FormFault.OutOfMemory) }
+{
+    for group in groups {
+        fragments.push(group.into_fragment())?;
+    }
+    Ok(())
+}
