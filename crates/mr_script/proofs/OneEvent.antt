@@ -29,7 +29,7 @@ last_of_more xs x =
 module _ {K : Type 0} (form : Form K) where
   -- the newest answer is that of the event that happened
   pub newest_is : (w w' : WorldView K) (e : Event Mail) (answer : Answer) → Happens form w e answer w' → newest w' ≡ Some answer
-  newest_is w w' e answer h = rw (h.answers, last_of_more w.answers (answered e answer)) refl
+  newest_is w w' e answer h = rw (h.notes, last_of_more w.answers (answered e answer)) refl
 
   -- an event that was answered is noted
   pub met_noted : (w w' : WorldView K) (e : Event Mail) → (answer : Answer) × Happens form w e answer w' → IsSomeAnd (newest w') (λ answer. Happens form w e answer w')

@@ -13,14 +13,13 @@ use Rattle.mr_model.specs.declared.event.Act.{Act}
 use Rattle.mr_model.specs.declared.event.Act.TheVariants as act
 use Rattle.mr_model.specs.declared.event.Event.{Event}
 use Rattle.mr_replica.specs.State.{State}
-use Rattle.mr_world.specs.Kept.{WorldView, member_at}
+use Rattle.mr_world.specs.Kept.{WorldView, MemberView, member_at}
 use Rattle.mr_world.specs.Promise.{filters_of, moment_of}
-use Rattle.mr_world.specs.Run.{Happens, Leads, answered, asked_in, ids_of, stop_fault}
+use Rattle.mr_world.specs.Run.{Happens, Leads, answered, ids_of}
 use Rattle.mr_world.specs.Runs.{history_from, seen_step}
 use Rattle.mr_world.specs.Seen.{MailMoment, MailSetting, setting_of}
 use Rattle.mr_world.specs.declared.answer.Answer.{Answer}
 use Rattle.mr_world.specs.declared.answered.Answered.{Answered}
-use Rattle.mr_world.specs.declared.fault.WorldFault.TheVariants.{NoSuchReplica, NoSuchFrame}
 use Rattle.mr_world.proofs.Groundwork.AtPlaces.{at_other}
 use Rattle.mr_settle.specs.History.{IsWorldOf}
 use Rattle.mr_settle.proofs.MoveLemmas.{there_if}
@@ -92,23 +91,16 @@ module _ {K : Type 0} where
   there_still : (w w' : WorldView K) (q : ℕ) → ids_of w'.members ≡ ids_of w.members → is_none (member_at w.members q) ≡ false → is_none (member_at w'.members q) ≡ false
   there_still w w' q ids h = there_if w'.members q ∙ ap (λ (xs : List ℕ). is_none (find (λ i. i == q) xs)) ids ∙ sym (there_if w.members q) ∙ h
 
-  asked_there : (w : WorldView K) (e : Event Mail) → stop_fault w e ≡ None → is_none (member_at w.members e.replica) ≡ false
-  asked_there w e h = by (is_none (member_at w.members e.replica)) h
-    where
-      by : (a : Bool) → cond a (Some NoSuchReplica) (cond (is_none (asked_in w e.act)) (Some NoSuchFrame) None) ≡ None → a ≡ false
-      by true is = cc (is)
-      by false is = refl
-
 module _ {K : Type 0} (form : Form K) where
   asked_on : (w w' : WorldView K) (e : Event Mail) (answer : Answer) → Happens form w e answer w' → AskedMembers w → AskedMembers w'
-  asked_on w w' e answer h all = subst (All (λ x. is_none (member_at w'.members x.event.replica) ≡ false)) (sym h.answers)
+  asked_on w w' e answer h all = subst (All (λ x. is_none (member_at w'.members x.event.replica) ≡ false)) (sym h.notes)
       (All-append (λ x. is_none (member_at w'.members x.event.replica) ≡ false) w.answers (answered e answer ∷ [])
-      (All-weaker (λ x. is_none (member_at w.members x.event.replica) ≡ false) (λ x. is_none (member_at w'.members x.event.replica) ≡ false) (λ x there. there_still w w' x.event.replica h.ids there) w.answers all)
-      (All-cons (λ x. is_none (member_at w'.members x.event.replica) ≡ false) (answered e answer) [] (there_still w w' e.replica h.ids (asked_there w e h.may)) (All-nil (λ x. is_none (member_at w'.members x.event.replica) ≡ false))))
+      (All-weaker (λ x. is_none (member_at w.members x.event.replica) ≡ false) (λ x. is_none (member_at w'.members x.event.replica) ≡ false) (λ x there. there_still w w' x.event.replica h.becomes.ids there) w.answers all)
+      (All-cons (λ x. is_none (member_at w'.members x.event.replica) ≡ false) (answered e answer) [] (there_still w w' e.replica h.becomes.ids (ap (λ (o : Option (MemberView K)). is_none o) h.becomes.was)) (All-nil (λ x. is_none (member_at w'.members x.event.replica) ≡ false))))
 
   asked_all : (w w' : WorldView K) (events : List (Event Mail)) → Leads form w events w' → AskedMembers w → AskedMembers w'
   asked_all w w' [] h all = subst AskedMembers (sym h) all
-  asked_all w w' (e ∷ events) h all = asked_all h.0 w' events h.3 (asked_on w h.0 e h.1 h.2 all)
+  asked_all w w' (e ∷ events) h all = asked_all h.0 w' events h.2 (asked_on w h.0 e h.1.0 h.1.1 all)
 
   asked_since : (ends : List (State K)) (w : WorldView K) → IsWorldOf form ends w → AskedMembers w
   asked_since ends w of = asked_all of.start w of.events of.leads (subst (All (λ x. is_none (member_at of.start.members x.event.replica) ≡ false)) (sym of.is_start.made.answers) (All-nil (λ x. is_none (member_at of.start.members x.event.replica) ≡ false)))

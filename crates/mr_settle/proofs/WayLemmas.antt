@@ -1,5 +1,5 @@
 -- How a world comes along the logs, event by event.
-use Rattle.std.proofs.Common.{◌≡◌, ◌≢◌, ◌<◌, refl, sym, ap, subst, ◌∙◌, ◌+◌, ◌==◌, cond, arith, ℕ, zero, suc, Bool, true, false, List, [], ◌∷◌, ◌++◌, length, map, take, Option, Some, None, Result, inl, inr, ◌⊎◌, eq-eqb, eqb-true}
+use Rattle.std.proofs.Common.{◌≡◌, ◌≢◌, ◌<◌, refl, sym, ap, subst, ◌∙◌, ◌+◌, ◌==◌, arith, ℕ, zero, suc, Bool, true, false, List, [], ◌∷◌, ◌++◌, length, map, take, Option, Some, None, Result, inl, inr, ◌⊎◌, eq-eqb, eqb-true}
 use Rattle.std.specs.Prelude.{slice_set, All, is_none}
 use Rattle.std.specs.List.{slice_get, AllZip}
 use Rattle.std.specs.Option.{option_map}
@@ -24,8 +24,7 @@ use Rattle.mr_world.specs.Made.{IsMadeOf}
 use Rattle.mr_world.specs.Run.{Happens, Leads, asked_in, ids_of, stop_fault}
 use Rattle.mr_world.specs.declared.answer.Answer.{Answer}
 use Rattle.mr_world.specs.declared.answer.Answer.TheVariants.{Stepped}
-use Rattle.mr_world.specs.declared.fault.WorldFault.{WorldFault}
-use Rattle.mr_world.specs.declared.fault.WorldFault.TheVariants.{NoSuchReplica, NoSuchFrame}
+use Rattle.mr_world.specs.declared.task.Task.{Task}
 use Rattle.mr_world.specs.declared.spec.Spec.{Spec}
 use Rattle.mr_settle.proofs.AdmitLemmas.{next_admitted, replays_more}
 use Rattle.mr_settle.specs.inner.Numbers.{Tells, Grew}
@@ -84,21 +83,13 @@ module _ {K : Type 0} where
 
 -- ---- the act asks for something where the event happens
 
-some_none : (f : WorldFault) → (let o : Option WorldFault = Some f in o ≡ None) → ⊥
-some_none f e = cc
-
-happened_asks : {K : Type 0} (w : WorldView K) (e : Event Mail) → stop_fault w e ≡ None → is_none (asked_in w e.act) ≡ false
-happened_asks w e h = by (is_none (member_at w.members e.replica)) (is_none (asked_in w e.act)) h
-  where
-    by : (a b : Bool) → cond a (Some NoSuchReplica) (cond b (Some NoSuchFrame) None) ≡ None → b ≡ false
-    by true b is = absurd (some_none NoSuchReplica is)
-    by false true is = absurd (some_none NoSuchFrame is)
-    by false false is = refl
+happened_asks : {K : Type 0} (form : Form K) (w w' : WorldView K) (e : Event Mail) (answer : Answer) → Happens form w e answer w' → is_none (asked_in w e.act) ≡ false
+happened_asks form w w' e answer h = ap (λ (o : Option Task). is_none o) h.asks
 
 module _ {K : Type 0} (form : Form K) where
   pub leads_on : (w now new : WorldView K) (events : List (Event Mail)) (e : Event Mail) (answer : Answer) → Leads form w events now → Happens form now e answer new → Leads form w (events ++ e ∷ []) new
-  leads_on w now new [] e answer h happens = (new, answer, subst (λ (v : WorldView K). Happens form v e answer new) h happens, refl)
-  leads_on w now new (x ∷ events) e answer h happens = (h.0, h.1, h.2, leads_on h.0 now new events e answer h.3 happens)
+  leads_on w now new [] e answer h happens = (new, (answer, subst (λ (v : WorldView K). Happens form v e answer new) h happens), refl)
+  leads_on w now new (x ∷ events) e answer h happens = (h.0, h.1, leads_on h.0 now new events e answer h.2 happens)
 
   is_of_on : (ends : List (State K)) (w w' : WorldView K) (e : Event Mail) (answer : Answer) → IsWorldOf form ends w → Happens form w e answer w' → IsWorldOf form ends w'
   is_of_on ends w w' e answer of happens = record {
@@ -113,7 +104,7 @@ module _ {K : Type 0} (form : Form K) (stable : IsByMeaning form) where
   turned : (w w' : WorldView K) (end : State K) (position : ℕ) (e : ReplicaEvent) (we : Event Mail) (answer : Answer)
       → IsItsLog form end → IsAt form w end position → slice_get end.log position ≡ Some e → IsNamed w end.id e we → NamesFrames w → Happens form w we answer w' → IsAt form w' end (position + 1)
   turned w w' end position e we answer its at is_e named frames happens =
-      let t = turns form w w' end.id e we answer at.replica named at.there happens in
+      let t = turns form w w' end.id e we answer named happens in
       let parts = split_at end.log position e is_e in
       let whole = subst (λ (log : List ReplicaEvent). Replays form end.id end.filter end.event_limit log end) parts.1 its in
       let before : t.before ≡ at.replica = some_one t.before at.replica (replica_at w.members end.id) t.was at.there in
@@ -127,7 +118,7 @@ module _ {K : Type 0} (form : Form K) (stable : IsByMeaning form) where
         there = t.is;
         within = omega (arith, low);
         log =
-            log_with w w' t.asks t.records t.receipts we answer happens.answers frames (happened_asks w we happens.may) end.id e admitted.0 named.is_for named.asks
+            log_with w w' t.asks t.records t.receipts we answer happens.notes frames (happened_asks form w w' we answer happens) end.id e admitted.0 named.is_for named.asks
             (t.answer_is ∙ ap (λ (o : Result Reply Refusal). Stepped o) admitted.1)
             ∙ ap (λ (log : List ReplicaEvent). log ++ e ∷ []) at.log ∙ sym first;
         replays = subst (λ (log : List ReplicaEvent). Replays form end.id end.filter end.event_limit log t.after) (sym first)
@@ -136,15 +127,15 @@ module _ {K : Type 0} (form : Form K) (stable : IsByMeaning form) where
       }
 
   -- the others have what they had
-  rested : (w w' : WorldView K) (end other : State K) (position : ℕ) (e : ReplicaEvent) (we : Event Mail) (answer : Answer) (s : State K)
-      → other.id ≢ end.id → IsAt form w other position → IsNamed w end.id e we → replica_at w.members end.id ≡ Some s → NamesFrames w → Happens form w we answer w' → IsAt form w' other position
-  rested w w' end other position e we answer s ne at named there frames happens =
-      let t = turns form w w' end.id e we answer s named there happens in
+  rested : (w w' : WorldView K) (end other : State K) (position : ℕ) (e : ReplicaEvent) (we : Event Mail) (answer : Answer)
+      → other.id ≢ end.id → IsAt form w other position → IsNamed w end.id e we → NamesFrames w → Happens form w we answer w' → IsAt form w' other position
+  rested w w' end other position e we answer ne at named frames happens =
+      let t = turns form w w' end.id e we answer named happens in
       record {
         replica = at.replica;
         there = t.others other.id at.replica ne at.there;
         within = at.within;
-        log = log_without w w' t.asks t.records t.receipts we answer happens.answers frames (happened_asks w we happens.may) other.id (λ is. ne (is ∙ named.is_for)) ∙ at.log;
+        log = log_without w w' t.asks t.records t.receipts we answer happens.notes frames (happened_asks form w w' we answer happens) other.id (λ is. ne (is ∙ named.is_for)) ∙ at.log;
         replays = at.replays;
       }
 
@@ -154,8 +145,8 @@ module _ {K : Type 0} (form : Form K) (stable : IsByMeaning form) where
       → IsUnderWay form ends w' (slice_set done place (position + 1))
   goes_on ends w w' given done place position we end e distinct its way tells next named happens = record {
     is_of = is_of_on form ends w w' we happens.0 way.is_of happens.1;
-    ids = happens.1.ids ∙ way.ids;
-    frames = names_on w w' t.asks t.records t.receipts we happens.0 happens.1.answers way.frames (happened_asks w we happens.1.may);
+    ids = happens.1.becomes.ids ∙ way.ids;
+    frames = names_on w w' t.asks t.records t.receipts we happens.0 happens.1.notes way.frames (happened_asks form w w' we happens.0 happens.1);
     as_long = length_set done place (position + 1) ∙ way.as_long;
     each = each;
   }
@@ -164,7 +155,7 @@ module _ {K : Type 0} (form : Form K) (stable : IsByMeaning form) where
       at = way.each place end position next.end_is next.done_is
 
       t : Turns form w end.id e happens.0 w'
-      t = turns form w w' end.id e we happens.0 at.replica named at.there happens.1
+      t = turns form w w' end.id e we happens.0 named happens.1
 
       by : (j : ℕ) (other : State K) (p : ℕ) → (j ≡ place) ⊎ (j ≢ place) → slice_get ends j ≡ Some other → slice_get (slice_set done place (position + 1)) j ≡ Some p → IsAt form w' other p
       by j other p (inl same) is_other is_p =
@@ -174,8 +165,8 @@ module _ {K : Type 0} (form : Form K) (stable : IsByMeaning form) where
           (subst (λ (s : State K). IsAt form w' s (position + 1)) mine
           (turned w w' end position e we happens.0 its at next.event_is named way.frames happens.1))
       by j other p (inr ne) is_other is_p =
-          rested w w' end other p e we happens.0 at.replica (other_id ends place j end other distinct next.end_is is_other ne)
-          (way.each j other p is_other (sym (get_other done place j (position + 1) ne) ∙ is_p)) named at.there way.frames happens.1
+          rested w w' end other p e we happens.0 (other_id ends place j end other distinct next.end_is is_other ne)
+          (way.each j other p is_other (sym (get_other done place j (position + 1) ne) ∙ is_p)) named way.frames happens.1
 
       each : (j : ℕ) (other : State K) (p : ℕ) → slice_get ends j ≡ Some other → slice_get (slice_set done place (position + 1)) j ≡ Some p → IsAt form w' other p
       each j other p is_other is_p = by j other p (same_or (j == place) refl) is_other is_p
@@ -189,7 +180,7 @@ module _ {K : Type 0} (form : Form K) (stable : IsByMeaning form) where
       → IsUnderWay form ends w done → TellAll w old → IsNext ends done place end position e → IsNamed w end.id e we → HappensSo form w we w' → NotesNewest old w' new → TellAll w' new
   tells_after ends w w' old new done place position we end e way tells next named happens notes =
       let at = way.each place end position next.end_is next.done_is in
-      let t = turns form w w' end.id e we happens.0 at.replica named at.there happens.1 in
+      let t = turns form w w' end.id e we happens.0 named happens.1 in
       tell_on w w' old new t.asks t.records t.receipts tells notes
 
   pub ready_goes_on : (ends : List (State K)) (w w' : WorldView K) (given : GivenNumbers) (done : List ℕ) (ready : Ready)
@@ -242,16 +233,16 @@ module _ {K : Type 0} (form : Form K) where
   made_there (x ∷ xs) (p ∷ ps) [] are made distinct i end is = absurd made
   made_there (x ∷ xs) (p ∷ ps) (m ∷ ms) are made distinct zero end is =
       let mine : x ≡ end = some_one x end (Some x) refl is in
-      let id : m.replica.id ≡ end.id = ap (λ (s : State K). s.id) made.0.replica ∙ are.0.id ∙ ap (λ (s : State K). s.id) mine in
+      let id : m.replica.id ≡ end.id = ap (λ (s : State K). s.id) made.0.replica.is_empty ∙ are.0.id ∙ ap (λ (s : State K). s.id) mine in
       let here : (m.replica.id == end.id) ≡ true = eq-eqb m.replica.id end.id id in
       let filter : p.filter ≡ end.filter = are.0.filter ∙ ap (λ (s : State K). s.filter) mine in
       let limit : p.event_limit ≡ end.event_limit = are.0.event_limit ∙ ap (λ (s : State K). s.event_limit) mine in
       let spec_id : p.id ≡ end.id = are.0.id ∙ ap (λ (s : State K). s.id) mine in
-      (m.replica, rw here refl, record { is_empty = fresh_as m.replica p.id end.id p.filter end.filter p.event_limit end.event_limit spec_id filter limit made.0.replica; knows_nothing = made.0.knows_nothing })
+      (m.replica, rw here refl, record { is_empty = fresh_as m.replica p.id end.id p.filter end.filter p.event_limit end.event_limit spec_id filter limit made.0.replica.is_empty; knows_nothing = made.0.replica.knows_nothing })
   made_there (x ∷ xs) (p ∷ ps) (m ∷ ms) are made distinct (suc i) end is =
       let rest = made_there xs ps ms are.1 made.1 (AllPairs-tail (λ (a b : State K). a.id ≢ b.id) x xs distinct) i end is in
       let ne = get_all (λ (z : State K). x.id ≢ z.id) xs i end (AllPairs-head (λ (a b : State K). a.id ≢ b.id) x xs distinct) is in
-      let id : m.replica.id ≡ x.id = ap (λ (s : State K). s.id) made.0.replica ∙ are.0.id in
+      let id : m.replica.id ≡ x.id = ap (λ (s : State K). s.id) made.0.replica.is_empty ∙ are.0.id in
       let other : (m.replica.id == end.id) ≡ false = eqb-false_of m.replica.id end.id (λ same. ne (sym id ∙ same)) in
       (rest.0, rw other rest.1, rest.2)
 
@@ -262,7 +253,7 @@ module _ {K : Type 0} (form : Form K) where
   made_ids (x ∷ xs) [] members are made = absurd are
   made_ids (x ∷ xs) (p ∷ ps) [] are made = absurd made
   made_ids (x ∷ xs) (p ∷ ps) (m ∷ ms) are made =
-      let id : m.replica.id ≡ x.id = ap (λ (s : State K). s.id) made.0.replica ∙ are.0.id in
+      let id : m.replica.id ≡ x.id = ap (λ (s : State K). s.id) made.0.replica.is_empty ∙ are.0.id in
       let rest = made_ids xs ps ms are.1 made.1 in
       λ j. id j ∷ rest j
 

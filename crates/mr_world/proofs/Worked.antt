@@ -1,4 +1,2 @@
--- The worked rows of the definitions, and a worked run of two replicas, computed.
-mod RunSteps
-mod RunRow
+-- The worked rows of the definitions, computed.
 mod Rows

@@ -1,11 +1,14 @@
 -- a world as contracts see it
-use Rattle.std.specs.Prelude.{ℕ, ◌==◌, ◌-◌, if◌then◌else◌, Option, Some, None, List, find, length, slice_get}
+use Rattle.std.specs.Prelude.{ℕ, ◌==◌, ◌-◌, Option, List, find, length, slice_get}
 use Rattle.std.specs.Option.{option_map}
+use Rattle.mr_model.specs.declared.event.Subscriber.{Subscriber}
+use Rattle.mr_model.specs.declared.event.Subscriber.TheVariants.{Indexer, Notifier}
 use Rattle.mr_replica.specs.State.{State}
 use Rattle.mr_wire.specs.Frames.{Question, Sent}
 use Rattle.mr_wire.specs.declared.frame.Receipt.{Receipt}
+use Rattle.mr_world.specs.Given.{GivenLists}
 use Rattle.mr_world.specs.Pool.{PoolList, questions_in, sents_in, receipts_in}
-use Rattle.mr_world.specs.World.{Port, World}
+use Rattle.mr_world.specs.Ports.{Port}
 use Rattle.mr_world.specs.declared.answered.Answered.{Answered}
 
 -- a replica with the ports to its two subscribers
@@ -23,6 +26,16 @@ pub record WorldView (K : Type 0) : Type 0 where
   pub answers : List Answered
 
 module _ {K : Type 0} where
+  -- the port to a subscriber
+  abbrev pub port_of : MemberView K → Subscriber → Port
+  port_of m Indexer = m.indexer
+  port_of m Notifier = m.notifier
+
+  -- the member with another port to a subscriber
+  abbrev pub with_port : MemberView K → Subscriber → Port → MemberView K
+  with_port m Indexer port = record m { indexer = port }
+  with_port m Notifier port = record m { notifier = port }
+
   -- the world of these members, of what these frames are, and of these answers
   abbrev pub world_view : List (MemberView K) → PoolList → List Answered → WorldView K
   world_view members pools answers = record {
@@ -32,6 +45,10 @@ module _ {K : Type 0} where
     receipts = receipts_in pools.receipts.frames;
     answers = answers;
   }
+
+  -- what its replicas gave
+  abbrev pub given_in : WorldView K → GivenLists
+  given_in w = record { asks = w.asks; records = w.records; receipts = w.receipts }
 
   -- the newest event with its answer, where there is one
   abbrev pub newest_answered : WorldView K → Option Answered
@@ -44,24 +61,3 @@ module _ {K : Type 0} where
   -- the replica of this id
   abbrev pub replica_at : List (MemberView K) → ℕ → Option (State K)
   replica_at members r = option_map (λ m. m.replica) (member_at members r)
-
-  -- ---- as a world over all ids
-
-  -- what was found, or m
-  abbrev pub found_or : MemberView K → Option (MemberView K) → MemberView K
-  found_or m None = m
-  found_or m (Some n) = n
-
-  -- the port of that number, or the third
-  abbrev pub port_numbered : MemberView K → Port → ℕ → Port
-  port_numbered m third u = if u == 0 then m.indexer else (if u == 1 then m.notifier else third)
-
-  -- The world of these members and pools: an id of no member has an unused one; a number of no subscriber has the port `third`.
-  abbrev pub world_of : (unused : ℕ → MemberView K) → (third : Port) → WorldView K → World K
-  world_of unused third w = record {
-    replicas = λ r. (found_or (unused r) (member_at w.members r)).replica;
-    asks = w.asks;
-    records = w.records;
-    receipts = w.receipts;
-    ports = λ r u. port_numbered (found_or (unused r) (member_at w.members r)) third u;
-  }

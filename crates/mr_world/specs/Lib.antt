@@ -1,10 +1,12 @@
-pub mod World
 pub mod Ports
-pub mod Moves
+pub mod Given
 pub mod Fault
 pub mod Pool
 pub mod Asked
 pub mod Kept
+pub mod Does
+pub mod World
+pub mod Moves
 pub mod Made
 pub mod Run
 pub mod Seen

@@ -1,11 +1,11 @@
 -- of what a world is made, and what it is then
 use Rattle.std.specs.Prelude.{◌≡◌, ◌==◌, ◌||◌, Bool, false, nat_lt, if◌then◌else◌, Option, Some, None, List, [], ◌∷◌}
 use Rattle.std.specs.List.{list_any, AllZip}
-use Rattle.mr_forms.specs.Known.{Form, AreSame}
+use Rattle.mr_forms.specs.Known.{Form}
 use Rattle.mr_feed.specs.declared.port.TheConstants.{MAX_CAPACITY}
-use Rattle.mr_replica.specs.State.{new_state}
+use Rattle.mr_replica.specs.Replay.{IsFresh}
 use Rattle.mr_replica.specs.declared.replica.TheConstants.{MAX_EVENTS}
-use Rattle.mr_world.specs.World.{new_port}
+use Rattle.mr_world.specs.Ports.{new_port}
 use Rattle.mr_world.specs.Kept.{MemberView, WorldView}
 use Rattle.mr_world.specs.declared.fault.SpecFault.{SpecFault}
 use Rattle.mr_world.specs.declared.fault.SpecFault.TheVariants.{OutOfMemory, SameReplica, BadLimit, NoCapacity}
@@ -37,8 +37,7 @@ IsRefusedBy refusal fault = refusal ≡ Some fault
 module _ {K : Type 0} (form : Form K) where
   -- the member was made of this, and nothing has happened to it
   pub record IsMadeOf (spec : Spec) (m : MemberView K) : Type 0 where
-    pub replica : m.replica ≡ new_state spec.id spec.filter spec.event_limit m.replica.knowledge
-    pub knows_nothing : AreSame (form.known m.replica.knowledge) (λ _ _. false)
+    pub replica : IsFresh form spec.id spec.filter spec.event_limit m.replica
     pub indexer : m.indexer ≡ new_port spec.port_capacity
     pub notifier : m.notifier ≡ new_port spec.port_capacity
 

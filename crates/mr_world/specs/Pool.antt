@@ -48,25 +48,33 @@ abbrev pub receipt_of : Option Frame → Option Receipt
 receipt_of (Some (frame.Receipt receipt)) = Some receipt
 receipt_of _ = None
 
--- the requests, records and receipts that frames are, the newest first
-unfoldable pub questions_in : List (List ℕ) → List Question
-questions_in frames = reverse (filter_map (λ bytes. question_of (frame_in bytes)) frames)
+-- what the frames of a kind say, the newest first
+unfoldable pub values_in : {A : Type 0} → (Option Frame → Option A) → List (List ℕ) → List A
+values_in value_of frames = reverse (filter_map (λ bytes. value_of (frame_in bytes)) frames)
 
-unfoldable pub sents_in : List (List ℕ) → List Sent
-sents_in frames = reverse (filter_map (λ bytes. sent_of (frame_in bytes)) frames)
+-- the requests, records and receipts among them
+abbrev pub questions_in : List (List ℕ) → List Question
+questions_in = values_in question_of
 
-unfoldable pub receipts_in : List (List ℕ) → List Receipt
-receipts_in frames = reverse (filter_map (λ bytes. receipt_of (frame_in bytes)) frames)
+abbrev pub sents_in : List (List ℕ) → List Sent
+sents_in = values_in sent_of
 
--- the bytes are a request, a record or a receipt, in the format that is written
+abbrev pub receipts_in : List (List ℕ) → List Receipt
+receipts_in = values_in receipt_of
+
+-- the bytes are a frame of a kind, in the format that is written
+abbrev pub IsFrameOf : {A : Type 0} → (A → Frame) → List ℕ → Type 0
+IsFrameOf {A} frame_of bytes = (x : A) × Spells 2 (frame_of x) bytes
+
+-- they are a request, a record or a receipt
 abbrev pub IsAskFrame : List ℕ → Type 0
-IsAskFrame bytes = (question : Question) × Spells 2 (frame.Ask question) bytes
+IsAskFrame = IsFrameOf (λ x. frame.Ask x)
 
 abbrev pub IsRecordFrame : List ℕ → Type 0
-IsRecordFrame bytes = (sent : Sent) × Spells 2 (frame.Record sent) bytes
+IsRecordFrame = IsFrameOf (λ x. frame.Record x)
 
 abbrev pub IsReceiptFrame : List ℕ → Type 0
-IsReceiptFrame bytes = (receipt : Receipt) × Spells 2 (frame.Receipt receipt) bytes
+IsReceiptFrame = IsFrameOf (λ x. frame.Receipt x)
 
 -- each pool has frames of its kind
 pub record AreFrames (p : PoolList) : Type 0 where

@@ -1,10 +1,19 @@
--- what a subscriber's port answers, and what becomes of it
-use Rattle.std.specs.Prelude.{◌≡◌, ◌≢◌, ◌+◌, true, IsTrue, IsFalse, List, [], ◌∷◌, ◌++◌, length, Some, None}
+-- a subscriber's port, what it answers, and what becomes of it
+use Rattle.std.specs.Prelude.{◌≡◌, ◌≢◌, ◌+◌, ℕ, true, false, IsTrue, IsFalse, List, [], ◌∷◌, ◌++◌, length, Some, None}
 use Rattle.std.specs.List.{slice_get}
+use Rattle.mr_feed.specs.PlainPort.{PortView}
 use Rattle.mr_feed.specs.declared.entry.Entry.{Entry}
-use Rattle.mr_world.specs.World.{Port}
 use Rattle.mr_world.specs.declared.answer.Answer.{Answer}
 use Rattle.mr_world.specs.declared.answer.Answer.TheVariants.{Offered, NothingNew, Full, TookEntry, Empty, Closed, Done}
+
+-- a port to a subscriber, and how many entries of the feed were offered to it: the first ones
+pub record Port : Type 0 where
+  pub view : PortView
+  pub offered : ℕ
+
+-- a port with so many places, through which nothing went
+abbrev pub new_port : (capacity : ℕ) → Port
+new_port capacity = record { view = record { waiting = []; capacity = capacity; closed = false }; offered = 0 }
 
 -- the port with one more entry behind those that wait
 abbrev pub with_offered : Port → Entry → Port

@@ -16,13 +16,14 @@ use Rattle.mr_replica.specs.declared.refusal.Refusal.TheVariants.{Forged}
 use Rattle.mr_wire.specs.Frames.{Sent}
 use Rattle.mr_wire.specs.declared.frame.Body.TheVariants.{Start, End}
 use Rattle.mr_wire.specs.declared.frame.Mode.TheVariants.{Full}
-use Rattle.mr_world.specs.World.{World, new_port}
+use Rattle.mr_world.specs.Ports.{new_port}
+use Rattle.mr_world.specs.World.{World, world_of}
 use Rattle.mr_world.specs.Runs.{history}
 use Rattle.mr_world.specs.Seen.{MailMoment, MailSetting, setting_of}
 use Rattle.mr_world.specs.Agrees.{Agrees, HoldingsAgree}
 use Rattle.mr_world.specs.Shared.{ReceiptsAgree}
 use Rattle.mr_world.specs.Told.{AreOfOneStream, IsToldWhole, IsTrueBody}
-use Rattle.mr_world.specs.Kept.{MemberView, WorldView, member_at, replica_at, world_of}
+use Rattle.mr_world.specs.Kept.{MemberView, WorldView, member_at, replica_at}
 use Rattle.mr_world.specs.ListedItems.{IsGenuine}
 use Rattle.mr_world.specs.Replies.{AreBySets}
 use Rattle.mr_world.specs.declared.answer.Answer.TheVariants.{Stepped}

@@ -11,9 +11,10 @@ use Rattle.mr_wire.specs.declared.frame.Frame.TheVariants as frame
 use Rattle.mr_replica.specs.State.{new_state}
 use Rattle.mr_replica.specs.declared.event.Reply.TheVariants.{Asked}
 use Rattle.mr_replica.specs.declared.refusal.Refusal.TheVariants.{LogFull}
-use Rattle.mr_world.specs.World.{World, new_port, with_given}
-use Rattle.mr_world.specs.Kept.{MemberView, WorldView, newest_answered, member_at, replica_at, world_of}
-use Rattle.mr_world.specs.inner.Kept.{with_outlet, port_of}
+use Rattle.mr_world.specs.Given.{GivenLists, with_given}
+use Rattle.mr_world.specs.Kept.{MemberView, WorldView, newest_answered, member_at, replica_at, port_of, with_port}
+use Rattle.mr_world.specs.Ports.{new_port}
+use Rattle.mr_world.specs.World.{World, member_of, with_member, world_of}
 use Rattle.mr_world.specs.Made.{has_same_id, spec_refusal}
 use Rattle.mr_world.specs.Pool.{at_number}
 use Rattle.mr_world.specs.Run.{answered}
@@ -139,7 +140,7 @@ pub no_such_member : replica_at (member 7 ∷ member 3 ∷ []) 1 ≡ None
 no_such_member = refl
 
 -- a new port to one subscriber leaves the other's
-pub other_port_stays : port_of (with_outlet (member 7) Indexer (new_port 9)) Notifier ≡ new_port 2
+pub other_port_stays : port_of (with_port (member 7) Indexer (new_port 9)) Notifier ≡ new_port 2
 other_port_stays = refl
 
 -- ---- answers
@@ -183,9 +184,25 @@ pub notifier_of_no_member : whole.ports 1 1 ≡ new_port 5
 notifier_of_no_member = refl
 
 -- what is given is the newest of its pool
-pub given_first : (with_given (with_given whole (Ok (Asked (question 1)))) (Ok (Asked (question 2)))).asks ≡ question 2 ∷ question 1 ∷ []
+abbrev given_twice : GivenLists
+given_twice = with_given (with_given (record { asks = []; records = []; receipts = [] }) (Stepped (Ok (Asked (question 1))))) (Stepped (Ok (Asked (question 2))))
+
+pub given_first : given_twice ≡ record { asks = question 2 ∷ question 1 ∷ []; records = []; receipts = [] }
 given_first = refl
 
 -- a refusal gives nothing
-pub refusal_gives_nothing : with_given whole (Err LogFull) ≡ whole
+pub refusal_gives_nothing : with_given given_twice (Stepped (Err LogFull)) ≡ given_twice
 refusal_gives_nothing = refl
+
+-- in a world over all ids, another member of an id leaves those of the others, and the third port
+abbrev changed : World ℕ
+changed = with_member whole 3 (member 5) (Stepped (Err LogFull))
+
+pub new_member : member_of changed 3 ≡ member 5
+new_member = refl
+
+pub other_member_stays : member_of changed 7 ≡ member 7
+other_member_stays = refl
+
+pub third_port_stays : changed.ports 3 2 ≡ new_port 9
+third_port_stays = refl

@@ -1,16 +1,18 @@
 -- Whole runs of a world, and the history that they make.
-use Rattle.std.specs.Prelude.{◌≡◌, ℕ, false, List, [], ◌∷◌}
-use Rattle.mr_forms.specs.Known.{Form, AreSame}
+use Rattle.std.specs.Prelude.{◌≡◌, ℕ, List, [], ◌∷◌}
+use Rattle.mr_forms.specs.Known.{Form}
 use Rattle.mr_filter.specs.Filter.{ClauseParts}
 use Rattle.mr_mail.specs.Mail.{Mail, MailCard}
 use Rattle.mr_model.specs.History.{Step, History}
 use Rattle.mr_model.specs.Moment.{start}
 use Rattle.mr_model.specs.Changes.{happens, change}
-use Rattle.mr_replica.specs.State.{State, new_state}
+use Rattle.mr_replica.specs.Replay.{IsFresh}
 use Rattle.mr_world.specs.declared.answered.Answered.{Answered}
-use Rattle.mr_world.specs.World.{World, new_port}
 use Rattle.mr_world.specs.Moves.{Moves}
+use Rattle.mr_world.specs.Ports.{new_port}
+use Rattle.mr_world.specs.Run.{LeadsBy}
 use Rattle.mr_world.specs.Seen.{MailMoment, setting_of, seen_answer}
+use Rattle.mr_world.specs.World.{World}
 
 -- what a history sees of an event with its answer, at the moment m
 abbrev pub seen_step : MailMoment → Answered → Step Mail MailCard
@@ -26,16 +28,9 @@ abbrev pub history : (ℕ → List ClauseParts) → List Answered → History Ma
 history filters xs = history_from filters start xs
 
 module _ {K : Type 0} (form : Form K) where
-  -- nothing has happened to the replica
-  pub record IsFresh (filters : ℕ → List ClauseParts) (r : ℕ) (s : State K) : Type 0 where
-    pub event_limit : ℕ
-    pub knowledge : K
-    pub is_new : s ≡ new_state r (filters r) event_limit knowledge
-    pub knows_nothing : AreSame (form.known knowledge) (λ i v. false)
-
   -- nothing has happened in the world
   pub record IsFreshWorld (filters : ℕ → List ClauseParts) (w : World K) : Type 0 where
-    pub replicas : (r : ℕ) → IsFresh filters r (w.replicas r)
+    pub replicas : (r : ℕ) → (event_limit : ℕ) × IsFresh form r (filters r) event_limit (w.replicas r)
     pub asks : w.asks ≡ []
     pub records : w.records ≡ []
     pub receipts : w.receipts ≡ []
@@ -43,5 +38,4 @@ module _ {K : Type 0} (form : Form K) where
 
   -- From w, these events with these answers lead to w'.
   abbrev pub Runs : World K → List Answered → World K → Type 0
-  Runs w [] w' = w' ≡ w
-  Runs w (x ∷ later) w' = (mid : World K) × Moves form w x.event x.answer mid × Runs mid later w'
+  Runs = LeadsBy (λ w x w'. Moves form w x.event x.answer w')

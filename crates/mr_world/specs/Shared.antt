@@ -12,7 +12,7 @@ use Rattle.mr_replica.specs.Answer.{asked_of}
 use Rattle.mr_session.specs.Stream.{Asked, claimed}
 use Rattle.mr_wire.specs.Frames.{Question}
 use Rattle.mr_wire.specs.declared.frame.Receipt.{Receipt}
-use Rattle.mr_world.specs.World.{Port}
+use Rattle.mr_world.specs.Ports.{Port}
 use Rattle.mr_world.specs.Issued.{Shows, IsTrueLine}
 
 -- who asks selects by its own filter, and claims of issued versions what it is seen to claim

@@ -2,6 +2,5 @@
 pub mod Asked
 pub mod Given
 pub mod Happens
-pub mod Kept
 pub mod Stepped
 pub mod TakenAnswer

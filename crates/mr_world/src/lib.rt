@@ -12,8 +12,8 @@
 //! the event at which it stopped has changed nothing: all that an event may need is at hand before its
 //! replica changes.
 //!
-//! The definitions in `specs/` say what one event of a world does (`Moves`), and what a run of the code
-//! is (`Run`).
+//! The definitions in `specs/` say what a member of a world does (`Does`), what one event makes of the
+//! world, and what a run of it is (`Run`).
 //!
 //! ```text
 //! let spec = Spec { id, filter, event_limit: 1_000_000, port_capacity: 4096 };

@@ -2,7 +2,9 @@
 ghost use Rattle.std.specs.Prelude.{◌≡◌, ◌==◌, OnErr, IfOk, Ok};
 ghost use Rattle.std.specs.List.{position};
 ghost use Rattle.mr_world.specs.inner.Given.{HasPlaces};
-ghost use Rattle.mr_world.specs.inner.Stepped.{StepsIn, IsRefusedBy};
+ghost use Rattle.mr_world.specs.inner.Happens.{Fulfils};
+ghost use Rattle.mr_world.specs.inner.Stepped.{IsRefusedBy};
+ghost use Rattle.mr_world.specs.Does.{StepsTo};
 ghost use Rattle.mr_world.specs.Ports.{Offers, Takes, Closes};
 
 use crate::answer::Answer;
@@ -35,8 +37,8 @@ impl<K: Knowledge> Model for Member<K> {
 }
 
 impl<K: Knowledge> Member<K> {
-    ghost use Rattle.mr_world.specs.inner.Kept.{port_of, with_outlet};
-    ghost use Rattle.mr_world.specs.inner.Happens.{Fulfils};
+    ghost use Rattle.mr_world.specs.Does.{Does};
+    ghost use Rattle.mr_world.specs.Kept.{port_of, with_port};
 
     /// A replica, with ports through which nothing went.
     pub fn new(replica: Replica<K>, indexer: PlainPort, notifier: PlainPort) -> Member<K>
@@ -65,7 +67,7 @@ impl<K: Knowledge> Member<K> {
         task: Task,
     ) -> Result<Answer, WorldFault>
         requires { HasPlaces pools.old }
-        ensures { Fulfils K.form self.old pools.old task result self.new pools.new }
+        ensures { Fulfils (Does K.form task) self.old pools.old result self.new pools.new }
     {
         match task {
             Task::Step(event) => self.step(alloc, pools, event),
@@ -84,14 +86,14 @@ impl<K: Knowledge> Member<K> {
         event: ReplicaEvent,
     ) -> Result<Answer, WorldFault>
         requires { HasPlaces pools.old }
-        ensures { Fulfils K.form self.old pools.old (Task.Step event) result self.new pools.new }
+        ensures { Fulfils (Does K.form (Task.Step event)) self.old pools.old result self.new pools.new }
     {
         step_replica(alloc, &mut self.replica, pools, event)
     }
 
     fn offer(&mut self, subscriber: Subscriber) -> Result<Answer, AllocError>
         ensures ok { IfOk result (λ answer. Offers self.old.replica.feed (port_of self.old subscriber) answer (port_of self.new subscriber)) }
-        ensures others { self.new ≡ with_outlet self.old subscriber (port_of self.new subscriber) }
+        ensures others { self.new ≡ with_port self.old subscriber (port_of self.new subscriber) }
         ensures err { OnErr result (self.new ≡ self.old) }
     {
         match subscriber {
@@ -102,7 +104,7 @@ impl<K: Knowledge> Member<K> {
 
     fn take(&mut self, subscriber: Subscriber) -> Answer
         ensures taken { Takes (port_of self.old subscriber) result (port_of self.new subscriber) }
-        ensures others { self.new ≡ with_outlet self.old subscriber (port_of self.new subscriber) }
+        ensures others { self.new ≡ with_port self.old subscriber (port_of self.new subscriber) }
     {
         match subscriber {
             Subscriber::Indexer => self.indexer.take(),
@@ -112,7 +114,7 @@ impl<K: Knowledge> Member<K> {
 
     fn close(&mut self, subscriber: Subscriber) -> Answer
         ensures closed { Closes (port_of self.old subscriber) result (port_of self.new subscriber) }
-        ensures others { self.new ≡ with_outlet self.old subscriber (port_of self.new subscriber) }
+        ensures others { self.new ≡ with_port self.old subscriber (port_of self.new subscriber) }
     {
         match subscriber {
             Subscriber::Indexer => self.indexer.close(),
@@ -130,7 +132,7 @@ fn step_replica<K: Knowledge>(
     event: ReplicaEvent,
 ) -> Result<Answer, WorldFault>
     requires { HasPlaces pools.old }
-    ensures { StepsIn K.form replica.old pools.old event result replica.new pools.new }
+    ensures { Fulfils (StepsTo K.form event) replica.old pools.old result replica.new pools.new }
 {
     match replica.step_then(event, |reply| given_by(alloc, reply)) {
         Ok((reply, given)) => {

@@ -16,7 +16,7 @@ pub struct Outlet {
 }
 
 impl Model for Outlet {
-    ghost use Rattle.mr_world.specs.World.{Port};
+    ghost use Rattle.mr_world.specs.Ports.{Port};
 
     ghost Value = { Port };
 

@@ -1,5 +1,5 @@
 //! Runs of a world.
-ghost use Rattle.std.specs.Prelude.{IfOk, IfErr};
+ghost use Rattle.std.specs.Prelude.{IfOk, IfErr, MatchResult};
 
 use crate::event::Event;
 use crate::fault::WorldFault;
@@ -33,9 +33,8 @@ impl<K: Knowledge> World<K> {
     /// It is [`World::happen`] for each event, and costs the same.
     pub fn run(mut self, events: Vec<Event>) -> Result<World<K>, Stopped<K>>
         ensures ran { IfOk result (Leads K.form self events.items) }
-        ensures promises { IfOk result (Promises K.form) }
         ensures stopped { IfErr result (λ stopped. StopsAt K.form self events.items stopped.at stopped.fault stopped.world) }
-        ensures stopped_promises { IfErr result (λ stopped. Promises K.form stopped.world) }
+        ensures promises { MatchResult result (Promises K.form) (λ stopped. Promises K.form stopped.world) }
     {
         let mut at = 0;
         for event in events {

@@ -3,7 +3,7 @@ ghost use Rattle.std.specs.Prelude.{◌≡◌, ◌≤◌, IfOk, IfErr, None, Som
 ghost use Rattle.std.specs.List.{AllZip};
 ghost use Rattle.std.specs.Option.{option_copied};
 ghost use Rattle.mr_world.specs.Made.{IsMadeOf, spec_refusal};
-ghost use Rattle.mr_world.specs.World.{new_port};
+ghost use Rattle.mr_world.specs.Ports.{new_port};
 
 use crate::answered::Answered;
 use crate::answering::answer_event;

@@ -36,7 +36,8 @@ use Rattle.mr_replica.specs.declared.refusal.Refusal.TheVariants.{MixedItems, No
 use Rattle.mr_world.specs.Agrees.{Agrees, HoldingsAgree, version_alone}
 use Rattle.mr_world.specs.Issued.{IsBelow, IsTrueRevision}
 use Rattle.mr_world.specs.Seen.{MailMoment, setting_of}
-use Rattle.mr_world.specs.World.{World, with_replica}
+use Rattle.mr_world.specs.World.{World}
+use Rattle.mr_world.proofs.Moving.ByParts.{with_replica}
 use Rattle.mr_world.proofs.Agreement.Issuing.{issue_agrees}
 use Rattle.mr_world.proofs.Agreement.OneMore.{issued_more, item_more}
 use Rattle.mr_world.proofs.Groundwork.Orders.{in_held}

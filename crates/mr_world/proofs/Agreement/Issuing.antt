@@ -29,7 +29,8 @@ use Rattle.mr_world.specs.Issued.{IsBelow, IsTrueRevision}
 use Rattle.mr_world.specs.Seen.{MailMoment, setting_of}
 use Rattle.mr_world.specs.Sessions.{SessionsAgree}
 use Rattle.mr_world.specs.Streams.{StreamsAgree}
-use Rattle.mr_world.specs.World.{World, with_replica}
+use Rattle.mr_world.specs.World.{World}
+use Rattle.mr_world.proofs.Moving.ByParts.{with_replica}
 use Rattle.mr_world.proofs.Agreement.Learning.{Comes, feed_learned, held_learned, shows_version}
 use Rattle.mr_world.proofs.Agreement.OneMore.{asks_more, below_more, holds_more, receipts_more, records_more, shows_more, stream_more}
 use Rattle.mr_world.proofs.Agreement.Trails.{noted_back, noted_here}

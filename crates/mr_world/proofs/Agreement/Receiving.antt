@@ -50,7 +50,8 @@ use Rattle.mr_world.specs.Seen.{MailMoment, MailSetting, seen_body, seen_record,
 use Rattle.mr_world.specs.Sessions.{SessionsAgree}
 use Rattle.mr_world.specs.Streams.{StreamsAgree}
 use Rattle.mr_world.specs.Told.{AreAtOnePlace, IsToldWhole, IsTrueBody}
-use Rattle.mr_world.specs.World.{World, with_replica}
+use Rattle.mr_world.specs.World.{World}
+use Rattle.mr_world.proofs.Moving.ByParts.{with_replica}
 use Rattle.mr_world.proofs.Agreement.Feeds.{feed_is}
 use Rattle.mr_world.proofs.Agreement.Learning.{Comes, feed_learned, held_learned, out_learned, shows_revision}
 use Rattle.mr_world.proofs.Agreement.Staying.{tables_hold}

@@ -25,13 +25,13 @@ use Rattle.mr_session.specs.declared.origin.Origin.{Origin}
 use Rattle.mr_wire.specs.Frames.{Sent}
 use Rattle.mr_wire.specs.declared.frame.Body.{Body}
 use Rattle.mr_world.specs.Agrees.{Agrees, HoldingsAgree}
-use Rattle.mr_world.specs.Moves.{StepsAt}
 use Rattle.mr_world.specs.Seen.{MailMoment, seen_record, setting_of}
 use Rattle.mr_world.specs.Sessions.{Follows, SessionsAgree}
 use Rattle.mr_world.specs.Streams.{StreamAgrees, StreamsAgree}
-use Rattle.mr_world.specs.World.{World, with_given, with_replica}
+use Rattle.mr_world.specs.World.{World}
 use Rattle.mr_world.specs.declared.answer.Answer.{Answer}
 use Rattle.mr_world.specs.declared.answer.Answer.TheVariants.{Stepped}
+use Rattle.mr_world.proofs.Moving.ByParts.{StepsAt, with_given, with_replica}
 use Rattle.mr_model.specs.declared.event.Act.TheVariants as act
 use Rattle.mr_world.proofs.Groundwork.AtPlaces.{at_other, same_place}
 use Rattle.mr_world.proofs.Drawing.Drawn.{Drawn, Source, drawn, next_allowed, record_of}

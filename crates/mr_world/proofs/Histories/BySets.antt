@@ -15,7 +15,6 @@ use Rattle.mr_replica.specs.State.{State}
 use Rattle.mr_replica.specs.declared.event.Reply.{Reply}
 use Rattle.mr_replica.specs.declared.event.Reply.TheVariants.{Asked, Known, Took}
 use Rattle.mr_world.specs.Agrees.{Agrees}
-use Rattle.mr_world.specs.Moves.{Moves}
 use Rattle.mr_world.specs.Replies.{AreBySets, AskedTooLong, ClaimsKnown, IsBySets, IsTooLong, TellsWhetherKnown}
 use Rattle.mr_world.specs.Runs.{history}
 use Rattle.mr_world.specs.Seen.{MailMoment, seen_answer, seen_reply, setting_of}
@@ -23,6 +22,7 @@ use Rattle.mr_world.specs.World.{World}
 use Rattle.mr_world.specs.declared.answer.Answer.{Answer}
 use Rattle.mr_world.specs.declared.answer.Answer.TheVariants.{Stepped}
 use Rattle.mr_world.specs.declared.answered.Answered.{Answered}
+use Rattle.mr_world.proofs.Moving.ByParts.{MovesAt}
 use Rattle.mr_model.specs.declared.event.Act.{Act}
 use Rattle.mr_model.specs.declared.event.Act.TheVariants as act
 use Rattle.mr_wire.specs.Frames.{Question}
@@ -60,10 +60,10 @@ module _ (m : MailMoment) (r : ℕ) where
 module _ {K : Type 0} (form : Form K) (filters : ℕ → List ClauseParts) (w w' : World K) (m : MailMoment) (a : Agrees form filters w m) where
   -- what shows that the replica made a request that was too long
   abbrev pub ShowsTooLong : (ends : ℕ → Option (State K)) → ℕ → Type 0
-  ShowsTooLong ends r = (q : Question) → Moves form w (r does act.Pull) (Stepped (Ok (Asked q))) w' → IsAskOf form (w.replicas r) q → IsTooLong form (w.replicas r).knowledge
+  ShowsTooLong ends r = (q : Question) → MovesAt form w (r does act.Pull) (Stepped (Ok (Asked q))) w' → IsAskOf form (w.replicas r) q → IsTooLong form (w.replicas r).knowledge
       → (end : State K) × (ends r ≡ Some end) × AskedTooLong form m r end q
 
-  pub is_by_sets : (ends : ℕ → Option (State K)) (r : ℕ) (x : Act Mail) (reply : Answer) → ShowsTooLong ends r → IsAllowed (setting_of filters) m (change_of m r x (seen_answer m.issues reply)) → Moves form w (r does x) reply w' → IsBySets form ends m r x reply
+  pub is_by_sets : (ends : ℕ → Option (State K)) (r : ℕ) (x : Act Mail) (reply : Answer) → ShowsTooLong ends r → IsAllowed (setting_of filters) m (change_of m r x (seen_answer m.issues reply)) → MovesAt form w (r does x) reply w' → IsBySets form ends m r x reply
   is_by_sets ends r act.Pull (Stepped (Ok (Asked ask))) too_long allowed move = claims_known form filters w w' m a r ends ask move (too_long ask move)
   is_by_sets ends r (act.Receive n) (Stepped (Ok reply)) too_long allowed move = by_reply m r filters reply n (numbered m.given n) refl allowed
   is_by_sets ends r (act.DeliverPart n bytes) (Stepped (Ok reply)) too_long allowed move = by_reply m r filters reply n (numbered m.given n) refl allowed

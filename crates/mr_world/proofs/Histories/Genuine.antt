@@ -21,6 +21,7 @@ use Rattle.mr_model.proofs.Runs.{change_keeps, start_holds}
 use Rattle.mr_model.proofs.Theorem.{after-append, run_inv}
 use Rattle.mr_model.proofs.Sets.{at_elim, at_same, choice}
 use Rattle.mr_replica.specs.Forged.{line_of}
+use Rattle.mr_replica.specs.Replay.{IsFresh}
 use Rattle.mr_replica.specs.State.{State}
 use Rattle.mr_replica.specs.inner.Taking.{told_line}
 use Rattle.mr_replica.specs.declared.event.Event.{Event as ReplicaEvent}
@@ -35,15 +36,15 @@ use Rattle.mr_wire.specs.declared.frame.Body.TheVariants.{Item, MoveOut}
 use Rattle.mr_world.specs.Agrees.{Agrees, HoldingsAgree}
 use Rattle.mr_world.specs.Issued.{IsTrueLine, IsTrueRevision}
 use Rattle.mr_world.specs.ListedItems.{IsGenuine, IsListedReplica, IsListedWorld, ListsIssued}
-use Rattle.mr_world.specs.Moves.{Moves, StepsAt}
 use Rattle.mr_world.specs.Normal.{IsNormalReplica}
-use Rattle.mr_world.specs.Runs.{IsFresh, IsFreshWorld, Runs, seen_step}
+use Rattle.mr_world.specs.Runs.{IsFreshWorld, Runs, seen_step}
 use Rattle.mr_world.specs.Seen.{MailMoment, MailSetting, seen_answer, setting_of}
 use Rattle.mr_world.specs.Told.{IsTrueBody}
-use Rattle.mr_world.specs.World.{World, with_given, with_replica}
+use Rattle.mr_world.specs.World.{World}
 use Rattle.mr_world.specs.declared.answer.Answer.{Answer}
 use Rattle.mr_world.specs.declared.answer.Answer.TheVariants as answer
 use Rattle.mr_world.specs.declared.answered.Answered.{Answered}
+use Rattle.mr_world.proofs.Moving.ByParts.{MovesAt, StepsAt, by_parts, with_given, with_replica}
 use Rattle.mr_model.specs.declared.event.Event.{Event}
 use Rattle.mr_world.proofs.Keeping.ListedItems.{IsIssuedEvent, IsIssuedReply, lists_more, replica_more, step_listed}
 use Rattle.mr_world.proofs.Keeping.NeverForged.{never_forged}
@@ -68,18 +69,18 @@ module _ {K : Type 0} where
 module _ {K : Type 0} (form : Form K) (filters : ℕ → List ClauseParts) where
   pub fresh_genuine : (w : World K) → IsFreshWorld form filters w → IsGenuine form [] w
   fresh_genuine w f = record {
-    normal = record { replicas = λ r. normal r (f.replicas r); records = λ sent i. absurd (none sent i) };
-    listed = record { replicas = λ r. listed r (f.replicas r); records = λ sent i. absurd (none sent i) };
+    normal = record { replicas = λ r. normal (f.replicas r).0 r (f.replicas r).1; records = λ sent i. absurd (none sent i) };
+    listed = record { replicas = λ r. listed (f.replicas r).0 r (f.replicas r).1; records = λ sent i. absurd (none sent i) };
   }
     where
       none : (sent : Sent) → ¬ In sent w.records
       none sent i = elim (subst (In sent) f.records i) [ ]
 
-      normal : (r : ℕ) → IsFresh form filters r (w.replicas r) → IsNormalReplica (w.replicas r)
-      normal r h = subst IsNormalReplica (sym h.is_new) (record { heads = λ x i. elim i [ ]; push_outs = λ x i. elim i [ ]; streams = λ n k e. absurd (cc) })
+      normal : (event_limit r : ℕ) → IsFresh form r (filters r) event_limit (w.replicas r) → IsNormalReplica (w.replicas r)
+      normal event_limit r h = subst IsNormalReplica (sym h.is_empty) (record { heads = λ x i. elim i [ ]; push_outs = λ x i. elim i [ ]; streams = λ n k e. absurd (cc) })
 
-      listed : (r : ℕ) → IsFresh form filters r (w.replicas r) → IsListedReplica form [] (w.replicas r)
-      listed r h = subst (IsListedReplica form []) (sym h.is_new) (record { filed = λ i v k. absurd (both_ways (form.known h.knowledge i v) (h.knows_nothing i v) k); streams = λ n k e. absurd (cc); sessions = λ n k e. absurd (cc) })
+      listed : (event_limit r : ℕ) → IsFresh form r (filters r) event_limit (w.replicas r) → IsListedReplica form [] (w.replicas r)
+      listed event_limit r h = subst (IsListedReplica form []) (sym h.is_empty) (record { filed = λ i v k. absurd (both_ways (form.known (w.replicas r).knowledge i v) (h.knows_nothing i v) k); streams = λ n k e. absurd (cc); sessions = λ n k e. absurd (cc) })
 
 module _ {K : Type 0} (form : Form K) (filters : ℕ → List ClauseParts) (form_lists : ListsMore form) where
   module _ (w w' : World K) (m m' : MailMoment) (inv : Inv (setting_of filters) m) (inv' : Inv (setting_of filters) m') (a : Agrees form filters w m) (a' : Agrees form filters w' m')
@@ -130,13 +131,13 @@ module _ {K : Type 0} (form : Form K) (filters : ℕ → List ClauseParts) (form
     by_mover reply (A_port r u port is none) = subst (IsListedWorld form m'.issues) (sym is) (record { replicas = listed_later.replicas; records = listed_later.records })
     by_mover reply (None_at_all is none) = subst (IsListedWorld form m'.issues) (sym is) listed_later
 
-    moves_listed : (e : Event Mail) (reply : Answer) → Moves form w e reply w' → IsListedWorld form m'.issues w'
+    moves_listed : (e : Event Mail) (reply : Answer) → MovesAt form w e reply w' → IsListedWorld form m'.issues w'
     moves_listed e reply move = by_mover reply (mover form w e reply w' move)
 
   -- ---- one event
 
   -- a genuine world stays one
-  pub moves_genuine : (w w' : World K) (m : MailMoment) (e : Event Mail) (reply : Answer) → Inv (setting_of filters) m → Agrees form filters w m → IsGenuine form m.issues w → Moves form w e reply w' →
+  pub moves_genuine : (w w' : World K) (m : MailMoment) (e : Event Mail) (reply : Answer) → Inv (setting_of filters) m → Agrees form filters w m → IsGenuine form m.issues w → MovesAt form w e reply w' →
       IsGenuine form (happens (setting_of filters) m (change m (record { event = e; reply = seen_answer m.issues reply }))).issues w'
   moves_genuine w w' m e reply inv a genuine move =
       let c = change m (record { event = e; reply = seen_answer m.issues reply }) in
@@ -147,18 +148,19 @@ module _ {K : Type 0} (form : Form K) (filters : ℕ → List ClauseParts) (form
       }
 
   -- and answers no event with Forged
-  pub genuine_answers : (w w' : World K) (m : MailMoment) (e : Event Mail) (reply : Answer) → Inv (setting_of filters) m → Agrees form filters w m → IsGenuine form m.issues w → Moves form w e reply w' → reply ≢ answer.Stepped (Err refusal.Forged)
-  genuine_answers w w' m e reply inv a genuine move forged = never_forged form filters w m inv a genuine.normal genuine.listed.records e w' (subst (λ (z : Answer). Moves form w e z w') forged move)
+  pub genuine_answers : (w w' : World K) (m : MailMoment) (e : Event Mail) (reply : Answer) → Inv (setting_of filters) m → Agrees form filters w m → IsGenuine form m.issues w → MovesAt form w e reply w' → reply ≢ answer.Stepped (Err refusal.Forged)
+  genuine_answers w w' m e reply inv a genuine move forged = never_forged form filters w m inv a genuine.normal genuine.listed.records e w' (subst (λ (z : Answer). MovesAt form w e z w') forged move)
 
   -- ---- whole runs
 
   run_answers : (w w' : World K) (m : MailMoment) (xs : List Answered) → Inv (setting_of filters) m → Agrees form filters w m → IsGenuine form m.issues w → Runs form w xs w' → (x : Answered) → In x xs → x.answer ≢ answer.Stepped (Err refusal.Forged)
   run_answers w w' m [] inv a genuine run x i = elim i [ ]
   run_answers w w' m (y ∷ later) inv a genuine run x i =
-      let step = refines form filters w m inv a y.event y.answer run.0 run.1 in
+      let move = by_parts form w y.event y.answer run.0 run.1 in
+      let step = refines form filters w m inv a y.event y.answer run.0 move in
       elim i [
-        | inl e ↦ subst (λ (z : Answered). z.answer ≢ answer.Stepped (Err refusal.Forged)) e (genuine_answers w run.0 m y.event y.answer inv a genuine run.1)
-        | inr j ↦ run_answers run.0 w' (happens (setting_of filters) m (change m (seen_step m y))) later (change_keeps (setting_of filters) m (change m (seen_step m y)) step.0 inv) step.1 (moves_genuine w run.0 m y.event y.answer inv a genuine run.1) run.2 x j
+        | inl e ↦ subst (λ (z : Answered). z.answer ≢ answer.Stepped (Err refusal.Forged)) e (genuine_answers w run.0 m y.event y.answer inv a genuine move)
+        | inr j ↦ run_answers run.0 w' (happens (setting_of filters) m (change m (seen_step m y))) later (change_keeps (setting_of filters) m (change m (seen_step m y)) step.0 inv) step.1 (moves_genuine w run.0 m y.event y.answer inv a genuine move) run.2 x j
       ]
 
   -- no run of a fresh world answers Forged
@@ -166,7 +168,7 @@ module _ {K : Type 0} (form : Form K) (filters : ℕ → List ClauseParts) (form
   world_answers w w' xs f run = run_answers w w' start xs (start_holds (setting_of filters)) (fresh_agrees form filters w f) (fresh_genuine form filters w f) run
 
   -- one more event of a world that agrees with the moment after a run
-  pub one_more_genuine : (w w' : World K) (h : History Mail MailCard) (x : Answered) → IsRun (setting_of filters) start h → Agrees form filters w (now (setting_of filters) h) → IsGenuine form (now (setting_of filters) h).issues w → Moves form w x.event x.answer w' →
+  pub one_more_genuine : (w w' : World K) (h : History Mail MailCard) (x : Answered) → IsRun (setting_of filters) start h → Agrees form filters w (now (setting_of filters) h) → IsGenuine form (now (setting_of filters) h).issues w → MovesAt form w x.event x.answer w' →
       IsGenuine form (now (setting_of filters) (h ++ seen_step (now (setting_of filters) h) x ∷ [])).issues w' × (x.answer ≢ answer.Stepped (Err refusal.Forged))
   one_more_genuine w w' h x run a genuine move =
       let inv = run_inv (setting_of filters) h run in (

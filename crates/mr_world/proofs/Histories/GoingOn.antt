@@ -12,8 +12,8 @@ use Rattle.mr_model.specs.declared.event.Act.TheVariants as act
 use Rattle.mr_model.specs.declared.event.Event.{Event}
 use Rattle.mr_replica.specs.Growing.{admitted}
 use Rattle.mr_replica.specs.Pull.{IsAskOf}
-use Rattle.mr_replica.specs.Replay.{IsItsLog}
-use Rattle.mr_replica.specs.State.{State, new_state}
+use Rattle.mr_replica.specs.Replay.{IsFresh, IsItsLog}
+use Rattle.mr_replica.specs.State.{State}
 use Rattle.mr_replica.specs.Step.{Steps}
 use Rattle.mr_replica.specs.declared.event.Event.{Event as ReplicaEvent}
 use Rattle.mr_replica.specs.declared.event.Event.TheVariants as replica
@@ -23,19 +23,16 @@ use Rattle.mr_replica.specs.declared.refusal.Refusal.{Refusal}
 use Rattle.mr_replica.proofs.Replaying.{fresh_is_its_log, kept, step_log, step_setting}
 use Rattle.mr_wire.specs.Frames.{Question}
 use Rattle.mr_world.specs.Issued.{Shows}
-use Rattle.mr_world.specs.Kept.{MemberView, WorldView, found_or, member_at, replica_at}
-use Rattle.mr_world.specs.Moves.{Does, Moves, StepsAt}
+use Rattle.mr_world.specs.Kept.{MemberView, WorldView, member_at, replica_at}
+use Rattle.mr_world.specs.World.{World, found_or}
 use Rattle.mr_world.specs.Replies.{AskedTooLong, IsTooLong}
-use Rattle.mr_world.specs.Run.{ids_of, stop_fault}
-use Rattle.mr_world.specs.Runs.{IsFresh}
+use Rattle.mr_world.specs.Run.{Happens, ids_of}
 use Rattle.mr_world.specs.Seen.{MailMoment}
-use Rattle.mr_world.specs.World.{World, with_given, with_replica}
 use Rattle.mr_world.specs.declared.answer.Answer.{Answer}
 use Rattle.mr_world.specs.declared.answer.Answer.TheVariants as answer
-use Rattle.mr_world.specs.declared.fault.WorldFault.{WorldFault}
-use Rattle.mr_world.specs.declared.fault.WorldFault.TheVariants.{NoSuchReplica}
 use Rattle.mr_world.specs.declared.task.Task.{Task}
 use Rattle.mr_world.specs.declared.task.Task.TheVariants as task
+use Rattle.mr_world.proofs.Moving.ByParts.{DoesAt, MovesAt, StepsAt, with_given, with_replica}
 use Rattle.mr_world.proofs.Groundwork.Tools.{some_path}
 use Rattle.mr_world.proofs.Moving.Asking.{step_of}
 
@@ -119,7 +116,7 @@ module _ {K : Type 0} (form : Form K) where
     ]
     by_step q r event given h = absurd h
 
-    by_task : (q r : ℕ) (t : Task) (given : Answer) → Does form w q t given w' → GoesOn (w.replicas r) (w'.replicas r)
+    by_task : (q r : ℕ) (t : Task) (given : Answer) → DoesAt form w q t given w' → GoesOn (w.replicas r) (w'.replicas r)
     by_task q r (task.Step event) given h = by_step q r event given h
     by_task q r task.Truncated given h = stays (w.replicas r) (w'.replicas r) (ap (λ (z : World K). z.replicas r) h.1)
     by_task q r (task.Offer u) given h = stays (w.replicas r) (w'.replicas r) (ap (λ (z : World K). z.replicas r) h.2)
@@ -127,11 +124,11 @@ module _ {K : Type 0} (form : Form K) where
     by_task q r (task.Close u) given h = stays (w.replicas r) (w'.replicas r) (ap (λ (z : World K). z.replicas r) h.2)
 
     -- each replica goes on
-    pub all_go_on : (e : Event Mail) (given : Answer) → Moves form w e given w' → (r : ℕ) → GoesOn (w.replicas r) (w'.replicas r)
+    pub all_go_on : (e : Event Mail) (given : Answer) → MovesAt form w e given w' → (r : ℕ) → GoesOn (w.replicas r) (w'.replicas r)
     all_go_on e given move r = by_task e.replica r move.0 given move.2
 
     -- the replica of a request that is too long has made it
-    pub has_asked : (m : MailMoment) (r : ℕ) (q : Question) → Moves form w (r does act.Pull) (answer.Stepped (Ok (Asked q))) w' → IsItsLog form (w.replicas r) → IsAskOf form (w.replicas r) q
+    pub has_asked : (m : MailMoment) (r : ℕ) (q : Question) → MovesAt form w (r does act.Pull) (answer.Stepped (Ok (Asked q))) w' → IsItsLog form (w.replicas r) → IsAskOf form (w.replicas r) q
         → Shows m.issues (form.known (w.replicas r).knowledge) (known m r) → IsTooLong form (w.replicas r).knowledge → AskedTooLong form m r (w'.replicas r) q
     has_asked m r q move its ask knows long =
         let step = step_of form w (r does act.Pull) replica.Pull (answer.Stepped (Ok (Asked q))) w' refl move in
@@ -139,9 +136,8 @@ module _ {K : Type 0} (form : Form K) where
         subst (λ (z : State K). AskedTooLong form m r z q) (sym is) (asked_now m r (w.replicas r) step.1 q step.2 its ask knows long)
 
   -- a fresh replica is its log
-  pub fresh_log : (filters : ℕ → List ClauseParts) (r : ℕ) (s : State K) → IsFresh form filters r s → IsItsLog form s
-  fresh_log filters r s fresh = subst (λ (z : State K). IsItsLog form z) (sym fresh.is_new)
-      (fresh_is_its_log form (new_state r (filters r) fresh.event_limit fresh.knowledge) r (filters r) fresh.event_limit refl fresh.knows_nothing)
+  pub fresh_log : (filter : List ClauseParts) (event_limit r : ℕ) (s : State K) → IsFresh form r filter event_limit s → IsItsLog form s
+  fresh_log filter event_limit r s fresh = fresh_is_its_log form s r filter event_limit fresh.is_empty fresh.knows_nothing
 
 -- ---- the members of a world
 
@@ -168,9 +164,5 @@ module _ {K : Type 0} where
       ]
 
   -- the replica of an event that is answered is there
-  pub is_there : (w : WorldView K) (e : Event Mail) → stop_fault w e ≡ None → (s : State K) × (replica_at w.members e.replica ≡ Some s)
-  is_there w e may = go (member_at w.members e.replica) refl
-    where
-      go : (o : Option (MemberView K)) → member_at w.members e.replica ≡ o → (s : State K) × (replica_at w.members e.replica ≡ Some s)
-      go None is = let no : (◌≡◌ {A = Option WorldFault} (Some NoSuchReplica) None) = rw is at may in absurd (cc)
-      go (Some m) is = (m.replica, ap (λ (o : Option (MemberView K)). option_map (λ m. m.replica) o) is)
+  pub is_there : (form : Form K) (w w' : WorldView K) (e : Event Mail) (answer : Answer) → Happens form w e answer w' → (s : State K) × (replica_at w.members e.replica ≡ Some s)
+  is_there form w w' e answer h = (h.old.replica, ap (λ (o : Option (MemberView K)). option_map (λ m. m.replica) o) h.becomes.was)

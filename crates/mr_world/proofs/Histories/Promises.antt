@@ -15,30 +15,33 @@ use Rattle.mr_model.proofs.Basics.{cases, in_append}
 use Rattle.mr_model.proofs.Core.{Inv}
 use Rattle.mr_model.proofs.Readings.{knows_downward}
 use Rattle.mr_model.proofs.Theorem.{headline_holds, is_sound, loses_nothing, run_inv}
+use Rattle.mr_replica.specs.Replay.{IsFresh}
 use Rattle.mr_replica.specs.State.{State, new_state}
 use Rattle.mr_replica.specs.declared.refusal.Refusal.TheVariants as refusal
 use Rattle.mr_world.specs.Agrees.{Agrees, HoldingsAgree}
-use Rattle.mr_world.specs.Kept.{MemberView, WorldView, found_or, member_at, port_numbered, replica_at}
+use Rattle.mr_world.specs.Kept.{MemberView, WorldView, member_at, replica_at}
+use Rattle.mr_world.specs.World.{found_or, port_numbered}
 use Rattle.mr_world.specs.ListedItems.{IsGenuine}
-use Rattle.mr_world.specs.Moves.{Moves}
 use Rattle.mr_world.specs.Replies.{AreBySets, AskedTooLong, IsBySets}
 use Rattle.mr_world.specs.Made.{IsMadeOf, IsMadeWorld}
 use Rattle.mr_world.specs.Promise.{FindsNoneForged, HoldsAsSeen, KeepsRules, Promises, filters_of, history_of, moment_of, setting_in, unused_member, whole_world}
 use Rattle.mr_world.specs.Run.{Happens, Leads, Meets, answered}
-use Rattle.mr_world.specs.Runs.{IsFresh, IsFreshWorld, history, history_from, seen_step}
+use Rattle.mr_world.specs.Runs.{IsFreshWorld, history, history_from, seen_step}
 use Rattle.mr_world.specs.Seen.{MailMoment, setting_of}
-use Rattle.mr_world.specs.World.{new_port}
+use Rattle.mr_world.specs.Ports.{new_port}
 use Rattle.mr_world.specs.declared.answer.Answer.{Answer}
 use Rattle.mr_world.specs.declared.answer.Answer.TheVariants.{Stepped}
 use Rattle.mr_world.specs.declared.answered.Answered.{Answered}
 use Rattle.mr_model.specs.declared.event.Event.{Event}
 use Rattle.mr_world.specs.declared.fault.WorldFault.{WorldFault}
 use Rattle.mr_world.specs.declared.spec.Spec.{Spec}
+use Rattle.mr_world.proofs.Moving.ByParts.{MovesAt, by_parts}
 use Rattle.mr_world.proofs.Histories.BySets.{ShowsTooLong, by_sets_later, is_by_sets, more_by_sets, none_by_sets}
 use Rattle.mr_world.proofs.Histories.GoingOn.{GoesOn, all_go_on, found_is, fresh_log, has_asked, is_there, still_there}
 use Rattle.mr_world.proofs.Histories.Genuine.{fresh_genuine, one_more_genuine}
 use Rattle.mr_world.proofs.Moving.Refinement.{refines}
 use Rattle.mr_world.proofs.Groundwork.Tools.{find_in, some_path}
+use Rattle.mr_world.proofs.Running.Moved.{moves}
 use Rattle.mr_world.proofs.Histories.WholeRuns.{fresh_agrees, one_more}
 
 -- ---- histories
@@ -70,32 +73,31 @@ module _ {K : Type 0} (form : Form K) where
     made_member [] (n ∷ ms) all m i = absurd all
     made_member (s ∷ ss) (n ∷ ms) all m i = elim i [ inl e ↦ (s, subst (IsMadeOf form s) e all.0) | inr j ↦ made_member ss ms all.1 m j ]
 
-    fresh_member : (r : ℕ) (m : MemberView K) (spec : Spec) → IsMadeOf form spec m → m.replica.id ≡ r → m.replica.filter ≡ filters_of w r → IsFresh form (filters_of w) r m.replica
+    fresh_member : (r : ℕ) (m : MemberView K) (spec : Spec) → IsMadeOf form spec m → m.replica.id ≡ r → m.replica.filter ≡ filters_of w r → IsFresh form r (filters_of w r) spec.event_limit m.replica
     fresh_member r m spec of here same = record {
-      event_limit = spec.event_limit;
-      knowledge = m.replica.knowledge;
-      is_new = of.replica ∙ (λ i. new_state (id i) (filter i) spec.event_limit m.replica.knowledge);
-      knows_nothing = of.knows_nothing;
+      is_empty = of.replica.is_empty ∙ (λ i. new_state (id i) (filter i) spec.event_limit m.replica.knowledge);
+      knows_nothing = of.replica.knows_nothing;
     }
       where
         id : spec.id ≡ r
-        id = sym (ap (λ (s : State K). s.id) of.replica) ∙ here
+        id = sym (ap (λ (s : State K). s.id) of.replica.is_empty) ∙ here
 
         filter : spec.filter ≡ filters_of w r
-        filter = sym (ap (λ (s : State K). s.filter) of.replica) ∙ same
+        filter = sym (ap (λ (s : State K). s.filter) of.replica.is_empty) ∙ same
 
-    fresh_there : (r : ℕ) → IsFresh form (filters_of w) r ((whole_world form nothing w).replicas r)
+    fresh_there : (r : ℕ) → (event_limit : ℕ) × IsFresh form r (filters_of w r) event_limit ((whole_world form nothing w).replicas r)
     fresh_there r = go (member_at w.members r) refl
       where
-        go : (o : Option (MemberView K)) → member_at w.members r ≡ o → IsFresh form (filters_of w) r (found_or (unused_member form nothing r) o).replica
-        go None e = record {
-          event_limit = 1;
-          knowledge = nothing;
-          is_new = ap (λ (f : List ClauseParts). new_state r f 1 nothing) (sym (ap (λ (o : Option (MemberView K)). option_map_or (λ m. m.replica.filter) o []) e));
-          knows_nothing = knows;
-        }
+        go : (o : Option (MemberView K)) → member_at w.members r ≡ o → (event_limit : ℕ) × IsFresh form r (filters_of w r) event_limit (found_or (unused_member form nothing r) o).replica
+        go None e = (
+          1,
+          record {
+            is_empty = ap (λ (f : List ClauseParts). new_state r f 1 nothing) (sym (ap (λ (o : Option (MemberView K)). option_map_or (λ m. m.replica.filter) o []) e));
+            knows_nothing = knows;
+          },
+        )
         go (Some m) e = let f = find_in (λ (n : MemberView K). n.replica.id == r) w.members m e in let of = made_member specs w.members made.members m f.0 in
-            fresh_member r m of.0 of.1 (eqb-true m.replica.id r f.1) (sym (ap (λ (o : Option (MemberView K)). option_map_or (λ m. m.replica.filter) o []) e))
+            (of.0.event_limit, fresh_member r m of.0 of.1 (eqb-true m.replica.id r f.1) (sym (ap (λ (o : Option (MemberView K)). option_map_or (λ m. m.replica.filter) o []) e)))
 
     fresh_port : (r u : ℕ) → (capacity : ℕ) × ((whole_world form nothing w).ports r u ≡ new_port capacity)
     fresh_port r u = go (member_at w.members r) refl
@@ -120,7 +122,7 @@ module _ {K : Type 0} (form : Form K) where
       nothing = nothing;
       knows_nothing = knows;
       agrees = subst (λ (xs : List Answered). Agrees form (filters_of w) (whole_world form nothing w) (now (setting_in w) (history (filters_of w) xs))) (sym made.answers) (fresh_agrees form (filters_of w) (whole_world form nothing w) fresh_world);
-      its_logs = λ r. fresh_log form (filters_of w) r ((whole_world form nothing w).replicas r) (fresh_there r);
+      its_logs = λ r. fresh_log form (filters_of w r) (fresh_there r).0 r ((whole_world form nothing w).replicas r) (fresh_there r).1;
       by_sets = none_by_sets form (filters_of w) (replica_at w.members) w.answers made.answers;
       genuine = subst (λ (xs : List Answered). IsGenuine form (now (setting_in w) (history (filters_of w) xs)).issues (whole_world form nothing w)) (sym made.answers) (fresh_genuine form (filters_of w) (whole_world form nothing w) fresh_world);
       none_forged = λ x i. elim (subst (In x) made.answers i) [ ];
@@ -132,47 +134,47 @@ module _ {K : Type 0} (form : Form K) where
     abbrev x : Answered
     x = answered e answer
 
-    moves : Moves form (whole_world form k.nothing w) e answer (whole_world form k.nothing w')
-    moves = happens.moves (unused_member form k.nothing) (new_port 1)
+    move : MovesAt form (whole_world form k.nothing w) e answer (whole_world form k.nothing w')
+    move = by_parts form (whole_world form k.nothing w) e answer (whole_world form k.nothing w') (moves form w e answer w' happens (unused_member form k.nothing) (new_port 1))
 
     step : IsRun (setting_in w) start (history_of w ++ seen_step (moment_of w) x ∷ []) × Agrees form (filters_of w) (whole_world form k.nothing w') (now (setting_in w) (history_of w ++ seen_step (moment_of w) x ∷ []))
-    step = one_more form (filters_of w) (whole_world form k.nothing w) (whole_world form k.nothing w') (history_of w) x k.run k.agrees moves
+    step = one_more form (filters_of w) (whole_world form k.nothing w) (whole_world form k.nothing w') (history_of w) x k.run k.agrees move
 
     goes_on : (r : ℕ) → GoesOn form ((whole_world form k.nothing w).replicas r) ((whole_world form k.nothing w').replicas r)
-    goes_on r = all_go_on form (whole_world form k.nothing w) (whole_world form k.nothing w') e answer moves r
+    goes_on r = all_go_on form (whole_world form k.nothing w) (whole_world form k.nothing w') e answer move r
 
     -- who was there is there, and went on
     members_go_on : (r : ℕ) (s : State K) → replica_at w.members r ≡ Some s → (t : State K) × (replica_at w'.members r ≡ Some t) × GoesOn form s t
     members_go_on r s here =
-        let there = still_there w.members w'.members r s happens.ids here in
+        let there = still_there w.members w'.members r s happens.becomes.ids here in
         let old = found_is (unused_member form k.nothing r) w.members r s here in
         let new = found_is (unused_member form k.nothing r) w'.members r there.0 there.1 in
         (there.0, there.1, subst (λ (z : State K). GoesOn form z there.0) old (subst (λ (z : State K). GoesOn form ((whole_world form k.nothing w).replicas r) z) new (goes_on r)))
 
     shows_too_long : ShowsTooLong form (filters_of w) (whole_world form k.nothing w) (whole_world form k.nothing w') (moment_of w) k.agrees (replica_at w'.members) e.replica
-    shows_too_long q move ask long =
-        let here = is_there w e happens.may in
-        let there = still_there w.members w'.members e.replica here.0 happens.ids here.1 in
+    shows_too_long q asked ask long =
+        let here = is_there form w w' e answer happens in
+        let there = still_there w.members w'.members e.replica here.0 happens.becomes.ids here.1 in
         let new = found_is (unused_member form k.nothing e.replica) w'.members e.replica there.0 there.1 in (
           there.0,
           there.1,
           subst (λ (z : State K). AskedTooLong form (moment_of w) e.replica z q) new
-              (has_asked form (whole_world form k.nothing w) (whole_world form k.nothing w') (moment_of w) e.replica q move (k.its_logs e.replica) ask (k.agrees.holdings e.replica).knows long),
+              (has_asked form (whole_world form k.nothing w) (whole_world form k.nothing w') (moment_of w) e.replica q asked (k.its_logs e.replica) ask (k.agrees.holdings e.replica).knows long),
         )
 
     by_sets : IsBySets form (replica_at w'.members) (moment_of w) e.replica e.act answer
     by_sets =
-        let allowed = refines form (filters_of w) (whole_world form k.nothing w) (moment_of w) (run_inv (setting_in w) (history_of w) k.run) k.agrees e answer (whole_world form k.nothing w') moves in
-        is_by_sets form (filters_of w) (whole_world form k.nothing w) (whole_world form k.nothing w') (moment_of w) k.agrees (replica_at w'.members) e.replica e.act answer shows_too_long allowed.0 moves
+        let allowed = refines form (filters_of w) (whole_world form k.nothing w) (moment_of w) (run_inv (setting_in w) (history_of w) k.run) k.agrees e answer (whole_world form k.nothing w') move in
+        is_by_sets form (filters_of w) (whole_world form k.nothing w) (whole_world form k.nothing w') (moment_of w) k.agrees (replica_at w'.members) e.replica e.act answer shows_too_long allowed.0 move
 
     all_by_sets : AreBySets form (replica_at w'.members) (filters_of w) (w.answers ++ x ∷ [])
     all_by_sets = more_by_sets form (filters_of w) (replica_at w'.members) w.answers x (by_sets_later form (filters_of w) (replica_at w.members) (replica_at w'.members) members_go_on w.answers k.by_sets) by_sets
 
     genuine : IsGenuine form (now (setting_in w) (history_of w ++ seen_step (moment_of w) x ∷ [])).issues (whole_world form k.nothing w') × (answer ≢ Stepped (Err refusal.Forged))
-    genuine = one_more_genuine form (filters_of w) form_lists (whole_world form k.nothing w) (whole_world form k.nothing w') (history_of w) x k.run k.agrees k.genuine moves
+    genuine = one_more_genuine form (filters_of w) form_lists (whole_world form k.nothing w) (whole_world form k.nothing w') (history_of w) x k.run k.agrees k.genuine move
 
     none_forged : FindsNoneForged w'
-    none_forged z i = elim (in_append w.answers (x ∷ []) z (subst (In z) happens.answers i)) [
+    none_forged z i = elim (in_append w.answers (x ∷ []) z (subst (In z) happens.notes i)) [
       | inl old ↦ k.none_forged z old
       | inr new ↦ elim new [ inl same ↦ subst (λ (y : Answered). y.answer ≢ Stepped (Err refusal.Forged)) same genuine.1 | inr none ↦ elim none [ ] ]
     ]
@@ -183,7 +185,7 @@ module _ {K : Type 0} (form : Form K) where
 
     -- the history has one step more
     same_history : history_of w ++ seen_step (moment_of w) x ∷ [] ≡ history (filters_of w) w'.answers
-    same_history = sym (ap (history (filters_of w)) happens.answers ∙ history_more (filters_of w) start w.answers x)
+    same_history = sym (ap (history (filters_of w)) happens.notes ∙ history_more (filters_of w) start w.answers x)
 
     pub happens_keeps : KeepsRules form w'
     happens_keeps = record {
@@ -194,7 +196,7 @@ module _ {K : Type 0} (form : Form K) where
           (subst (λ (h : History Mail MailCard). Agrees form (filters_of w) (whole_world form k.nothing w') (now (setting_in w) h)) same_history step.1);
       its_logs = λ r. (goes_on r).its_log (k.its_logs r);
       by_sets = subst (λ (f : ℕ → List ClauseParts). AreBySets form (replica_at w'.members) f w'.answers) same_filters
-          (subst (AreBySets form (replica_at w'.members) (filters_of w)) (sym happens.answers) all_by_sets);
+          (subst (AreBySets form (replica_at w'.members) (filters_of w)) (sym happens.notes) all_by_sets);
       genuine = subst (λ (f : ℕ → List ClauseParts). IsGenuine form (now (setting_of f) (history f w'.answers)).issues (whole_world form k.nothing w')) same_filters
           (subst (λ (h : History Mail MailCard). IsGenuine form (now (setting_in w) h).issues (whole_world form k.nothing w')) same_history genuine.0);
       none_forged = none_forged;
@@ -207,7 +209,7 @@ module _ {K : Type 0} (form : Form K) where
 
   pub leads_keeps : ListsMore form → (w w' : WorldView K) (events : List (Event Mail)) → KeepsRules form w → Leads form w events w' → KeepsRules form w'
   leads_keeps form_lists w w' [] k leads = subst (KeepsRules form) (sym leads) k
-  leads_keeps form_lists w w' (e ∷ events) k leads = leads_keeps form_lists leads.0 w' events (happens_keeps form_lists w leads.0 e leads.1 k leads.2) leads.3
+  leads_keeps form_lists w w' (e ∷ events) k leads = leads_keeps form_lists leads.0 w' events (happens_keeps form_lists w leads.0 e leads.1.0 k leads.1.1) leads.2
 
   -- ---- what holds then
 

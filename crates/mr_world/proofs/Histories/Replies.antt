@@ -33,12 +33,12 @@ use Rattle.mr_wire.specs.declared.frame.Frame.TheVariants as frame
 use Rattle.mr_world.specs.Agrees.{Agrees}
 use Rattle.mr_world.specs.Issued.{IsTrueLine}
 use Rattle.mr_world.specs.Asked.{receiving}
-use Rattle.mr_world.specs.Moves.{Moves}
 use Rattle.mr_world.specs.Replies.{AskedTooLong, ClaimsKnown, IsTooLong}
 use Rattle.mr_world.specs.Seen.{MailMoment, seen_body}
 use Rattle.mr_world.specs.Told.{IsTrueBody}
 use Rattle.mr_world.specs.World.{World}
 use Rattle.mr_world.specs.declared.answer.Answer.TheVariants.{Stepped}
+use Rattle.mr_world.proofs.Moving.ByParts.{MovesAt}
 use Rattle.mr_model.specs.declared.event.Act.TheVariants as act
 use Rattle.mr_world.proofs.Moving.Opening.{asks_known as asks_no_more}
 use Rattle.mr_replica.proofs.Replies.{step_replied}
@@ -65,7 +65,7 @@ module _ {K : Type 0} (form : Form K) (s : State K) (q : Question) (ask : IsAskO
   ]
 
 module _ {K : Type 0} (form : Form K) (filters : ℕ → List ClauseParts) (w w' : World K) (m : MailMoment) (a : Agrees form filters w m) (r : ℕ) where
-  pub asks_known : (q : Question) → Moves form w (r does act.Pull) (Stepped (Ok (Asked q))) w' → ((v : Name) → IsTrue (is_issued m.issues v) → claimed q.fragments (item_of m.issues v) v ≡ known m r v) ⊎ IsTooLong form (w.replicas r).knowledge
+  pub asks_known : (q : Question) → MovesAt form w (r does act.Pull) (Stepped (Ok (Asked q))) w' → ((v : Name) → IsTrue (is_issued m.issues v) → claimed q.fragments (item_of m.issues v) v ≡ known m r v) ⊎ IsTooLong form (w.replicas r).knowledge
   asks_known q move =
       let there = step_of form w (r does act.Pull) replica.Pull (Stepped (Ok (Asked q))) w' refl move in
       let step = step_replied form (w.replicas r) replica.Pull (Asked q) there.1 there.2 in
@@ -74,7 +74,7 @@ module _ {K : Type 0} (form : Form K) (filters : ℕ → List ClauseParts) (w w'
         | inr long ↦ inr long
       ]
 
-  pub claims_known : (ends : ℕ → Option (State K)) (q : Question) → Moves form w (r does act.Pull) (Stepped (Ok (Asked q))) w'
+  pub claims_known : (ends : ℕ → Option (State K)) (q : Question) → MovesAt form w (r does act.Pull) (Stepped (Ok (Asked q))) w'
       → (IsAskOf form (w.replicas r) q → IsTooLong form (w.replicas r).knowledge → (end : State K) × (ends r ≡ Some end) × AskedTooLong form m r end q) → ClaimsKnown form ends m r q
   claims_known ends q move too_long =
       let there = step_of form w (r does act.Pull) replica.Pull (Stepped (Ok (Asked q))) w' refl move in
@@ -113,15 +113,15 @@ module _ {K : Type 0} (form : Form K) (filters : ℕ → List ClauseParts) (w w'
   body_answer sent (Know piece) reply new v t e step = absurd (cc)
   body_answer sent End reply new v t e step = absurd (cc)
 
-  record_answer : (n : ℕ) (reply : Reply) → Moves form w (r does act.Receive n) (Stepped (Ok reply)) w' → (sent : Sent) → numbered w.records n ≡ Some sent → (v : Name) → version_in (seen_body sent.body) ≡ Some v → IsAnswer reply v
+  record_answer : (n : ℕ) (reply : Reply) → MovesAt form w (r does act.Receive n) (Stepped (Ok reply)) w' → (sent : Sent) → numbered w.records n ≡ Some sent → (v : Name) → version_in (seen_body sent.body) ≡ Some v → IsAnswer reply v
   record_answer n reply move sent pool v e =
       let there = step_of form w (r does act.Receive n) (replica.Receive (frame.Record sent)) (Stepped (Ok reply)) w' (ap (λ (o : Option Sent). option_map receiving o) pool) move in
       let step = step_replied form (w.replicas r) (replica.Receive (frame.Record sent)) reply there.1 there.2 in
       body_answer sent sent.body reply there.1 v (a.records.each sent (numbered_in w.records n sent pool)) e step.1
 
   -- Known is answered of a version that is known, and Took of one that is not
-  pub known_known : (n : ℕ) → Moves form w (r does act.Receive n) (Stepped (Ok Known)) w' → (sent : Sent) → numbered w.records n ≡ Some sent → (v : Name) → version_in (seen_body sent.body) ≡ Some v → IsTrue (known m r v)
+  pub known_known : (n : ℕ) → MovesAt form w (r does act.Receive n) (Stepped (Ok Known)) w' → (sent : Sent) → numbered w.records n ≡ Some sent → (v : Name) → version_in (seen_body sent.body) ≡ Some v → IsTrue (known m r v)
   known_known n move sent pool v e = record_answer n Known move sent pool v e
 
-  pub took_unknown : (n : ℕ) → Moves form w (r does act.Receive n) (Stepped (Ok Took)) w' → (sent : Sent) → numbered w.records n ≡ Some sent → (v : Name) → version_in (seen_body sent.body) ≡ Some v → IsFalse (known m r v)
+  pub took_unknown : (n : ℕ) → MovesAt form w (r does act.Receive n) (Stepped (Ok Took)) w' → (sent : Sent) → numbered w.records n ≡ Some sent → (v : Name) → version_in (seen_body sent.body) ≡ Some v → IsFalse (known m r v)
   took_unknown n move sent pool v e = record_answer n Took move sent pool v e

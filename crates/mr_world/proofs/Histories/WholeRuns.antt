@@ -12,19 +12,21 @@ use Rattle.mr_model.specs.Versions.{nothing}
 use Rattle.mr_model.proofs.Core.{Inv}
 use Rattle.mr_model.proofs.Runs.{change_keeps, start_holds}
 use Rattle.mr_model.proofs.Theorem.{after-append, headline_holds, run_inv, run_more}
+use Rattle.mr_replica.specs.Replay.{IsFresh}
 use Rattle.mr_replica.specs.State.{State}
 use Rattle.mr_session.specs.Table.{empty_table}
 use Rattle.mr_wire.specs.Frames.{Sent}
 use Rattle.mr_world.specs.Agrees.{Agrees, HoldingsAgree, HoldsAs}
-use Rattle.mr_world.specs.Moves.{Moves}
-use Rattle.mr_world.specs.Runs.{IsFresh, IsFreshWorld, Runs, history, history_from, seen_step}
+use Rattle.mr_world.specs.Runs.{IsFreshWorld, Runs, history, history_from, seen_step}
 use Rattle.mr_world.specs.Seen.{MailMoment, seen_receipt, seen_record, setting_of}
 use Rattle.mr_world.specs.Sessions.{SessionsAgree}
 use Rattle.mr_world.specs.Shared.{PortAgrees, ReceiptsAgree, SeesAsks}
 use Rattle.mr_world.specs.Streams.{StreamsAgree}
 use Rattle.mr_world.specs.Told.{RecordsAgree}
-use Rattle.mr_world.specs.World.{Port, World, new_port}
+use Rattle.mr_world.specs.Ports.{Port, new_port}
+use Rattle.mr_world.specs.World.{World}
 use Rattle.mr_world.specs.declared.answered.Answered.{Answered}
+use Rattle.mr_world.proofs.Moving.ByParts.{MovesAt, by_parts}
 use Rattle.mr_world.proofs.Groundwork.Orders.{none_in_order}
 use Rattle.mr_world.proofs.Moving.Refinement.{refines}
 
@@ -50,8 +52,8 @@ fresh_port : (p : Port) (capacity : ℕ) → p ≡ new_port capacity → PortAgr
 fresh_port p capacity e = subst (PortAgrees [] []) (sym e) (record { count = refl; waits = refl; closes = refl })
 
 module _ {K : Type 0} (form : Form K) (filters : ℕ → List ClauseParts) where
-  fresh_holds : (r : ℕ) (s : State K) → IsFresh form filters r s → HoldingsAgree form [] filters r (record { known = nothing; stored = nothing; pushed_out = nothing }) [] false s
-  fresh_holds r s f = subst (HoldingsAgree form [] filters r (record { known = nothing; stored = nothing; pushed_out = nothing }) [] false) (sym f.is_new) (record {
+  fresh_holds : (event_limit r : ℕ) (s : State K) → IsFresh form r (filters r) event_limit s → HoldingsAgree form [] filters r (record { known = nothing; stored = nothing; pushed_out = nothing }) [] false s
+  fresh_holds event_limit r s f = subst (HoldingsAgree form [] filters r (record { known = nothing; stored = nothing; pushed_out = nothing }) [] false) (sym f.is_empty) (record {
     id = refl;
     filter = refl;
     is_retired = refl;
@@ -71,9 +73,9 @@ module _ {K : Type 0} (form : Form K) (filters : ℕ → List ClauseParts) where
     records = subst (λ (xs : List Sent). RecordsAgree [] xs (λ s t. nothing) (λ s t. nothing)) (sym f.records) no_records;
     vouched = sym (ap (map seen_receipt) f.receipts);
     receipts = subst (ReceiptsAgree []) (sym f.receipts) no_receipts;
-    holdings = λ r. fresh_holds r (w.replicas r) (f.replicas r);
-    sessions = λ r. (let g = f.replicas r in subst (λ (s : State K). SessionsAgree w.records [] s.sessions) (sym g.is_new) (subst (λ (xs : List Sent). SessionsAgree xs [] empty_table) (sym f.records) fresh_sessions));
-    streams = λ r. (let g = f.replicas r in subst (λ (s : State K). StreamsAgree [] filters w.records [] r (λ t. None) (λ t. nothing) (λ t. nothing) s.streams) (sym g.is_new)
+    holdings = λ r. fresh_holds (f.replicas r).0 r (w.replicas r) (f.replicas r).1;
+    sessions = λ r. (let g = f.replicas r in subst (λ (s : State K). SessionsAgree w.records [] s.sessions) (sym g.1.is_empty) (subst (λ (xs : List Sent). SessionsAgree xs [] empty_table) (sym f.records) fresh_sessions));
+    streams = λ r. (let g = f.replicas r in subst (λ (s : State K). StreamsAgree [] filters w.records [] r (λ t. None) (λ t. nothing) (λ t. nothing) s.streams) (sym g.1.is_empty)
         (subst (λ (xs : List Sent). StreamsAgree [] filters xs [] r (λ t. None) (λ t. nothing) (λ t. nothing) empty_table) (sym f.records) (fresh_streams filters r)));
     ports = λ r u. (let p = f.ports r u in fresh_port (w.ports r u) p.0 p.1);
   }
@@ -84,7 +86,7 @@ module _ {K : Type 0} (form : Form K) (filters : ℕ → List ClauseParts) where
       IsRun (setting_of filters) m (history_from filters m xs) × Agrees form filters w' (after (setting_of filters) m (history_from filters m xs))
   run_refines w w' m [] inv a run = (tt, subst (λ (z : World K). Agrees form filters z m) (sym run) a)
   run_refines w w' m (x ∷ later) inv a run =
-      let step = refines form filters w m inv a x.event x.answer run.0 run.1 in
+      let step = refines form filters w m inv a x.event x.answer run.0 (by_parts form w x.event x.answer run.0 run.1) in
       let rest = run_refines run.0 w' (happens (setting_of filters) m (change m (seen_step m x))) later (change_keeps (setting_of filters) m (change m (seen_step m x)) step.0 inv) step.1 run.2 in
       ((step.0, rest.0), rest.1)
 
@@ -97,7 +99,7 @@ module _ {K : Type 0} (form : Form K) (filters : ℕ → List ClauseParts) where
   world_headline w w' xs f run = headline_holds (setting_of filters) (history filters xs) (world_runs w w' xs f run).0
 
   -- one more event of a world that agrees
-  pub one_more : (w w' : World K) (h : History Mail MailCard) (x : Answered) → IsRun (setting_of filters) start h → Agrees form filters w (now (setting_of filters) h) → Moves form w x.event x.answer w' →
+  pub one_more : (w w' : World K) (h : History Mail MailCard) (x : Answered) → IsRun (setting_of filters) start h → Agrees form filters w (now (setting_of filters) h) → MovesAt form w x.event x.answer w' →
       IsRun (setting_of filters) start (h ++ seen_step (now (setting_of filters) h) x ∷ []) × Agrees form filters w' (now (setting_of filters) (h ++ seen_step (now (setting_of filters) h) x ∷ []))
   one_more w w' h x run a move =
       let step = refines form filters w (now (setting_of filters) h) (run_inv (setting_of filters) h run) a x.event x.answer w' move in (

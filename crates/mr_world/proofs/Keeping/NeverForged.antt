@@ -41,13 +41,13 @@ use Rattle.mr_wire.specs.declared.frame.Body.TheVariants.{Start, Item, MoveOut, 
 use Rattle.mr_wire.specs.declared.frame.Frame.TheVariants as frame
 use Rattle.mr_world.specs.Agrees.{Agrees, HoldingsAgree}
 use Rattle.mr_world.specs.Issued.{AreOfIssues, IsTrueLine, IsTrueRevision}
-use Rattle.mr_world.specs.Moves.{Moves, StepsAt}
 use Rattle.mr_world.specs.ListedItems.{AreIssuedItems, ListsIssued}
 use Rattle.mr_world.specs.Normal.{IsNormal, IsNormalBody, IsNormalWorld}
 use Rattle.mr_world.specs.Seen.{MailMoment, setting_of}
 use Rattle.mr_world.specs.Told.{IsTrueBody}
 use Rattle.mr_world.specs.World.{World}
 use Rattle.mr_world.specs.declared.answer.Answer.TheVariants.{Stepped}
+use Rattle.mr_world.proofs.Moving.ByParts.{MovesAt, StepsAt}
 use Rattle.mr_model.specs.declared.event.Event.{Event}
 use Rattle.mr_world.proofs.Groundwork.Tools.{find_in}
 use Rattle.mr_world.proofs.Moving.Asking.{IsOfPool}
@@ -209,5 +209,5 @@ module _ {K : Type 0} (form : Form K) (filters : ℕ → List ClauseParts) (w : 
   by_mover w' (A_port r u port is none) = none (Err refusal.Forged) refl
   by_mover w' (None_at_all is none) = none (Err refusal.Forged) refl
 
-  pub never_forged : (e : Event Mail) (w' : World K) → ¬ Moves form w e (Stepped (Err refusal.Forged)) w'
+  pub never_forged : (e : Event Mail) (w' : World K) → ¬ MovesAt form w e (Stepped (Err refusal.Forged)) w'
   never_forged e w' move = by_mover w' (mover form w e (Stepped (Err refusal.Forged)) w' move)

@@ -36,11 +36,11 @@ use Rattle.mr_wire.specs.declared.frame.Body.TheVariants.{Item, MoveOut}
 use Rattle.mr_wire.specs.declared.frame.Frame.TheVariants as frame
 use Rattle.mr_wire.specs.declared.frame.Mode.{Mode}
 use Rattle.mr_wire.specs.declared.frame.Mode.TheVariants.{Full, Partial}
-use Rattle.mr_world.specs.Moves.{Moves, StepsAt}
 use Rattle.mr_world.specs.Normal.{AreNormalRevisions, IsNormal, IsNormalBody, IsNormalReplica, IsNormalStream, IsNormalWorld}
-use Rattle.mr_world.specs.World.{World, with_given, with_replica}
+use Rattle.mr_world.specs.World.{World}
 use Rattle.mr_world.specs.declared.answer.Answer.{Answer}
 use Rattle.mr_world.specs.declared.answer.Answer.TheVariants as answer
+use Rattle.mr_world.proofs.Moving.ByParts.{MovesAt, StepsAt, with_given, with_replica}
 use Rattle.mr_model.specs.declared.event.Event.{Event}
 use Rattle.mr_world.proofs.Drawing.Drawn.{Drawn, Drawn.Ends_fully, Drawn.Ends_partly, Drawn.Shows_first, Drawn.Shows_more, Drawn.Starts, Drawn.Tells, Drawn.Walks, drawn}
 use Rattle.mr_world.proofs.Drawing.Due.{lower_found}
@@ -225,5 +225,5 @@ module _ {K : Type 0} (form : Form K) (w : World K) (normal : IsNormalWorld w) w
   by_mover given w' (None_at_all is none) = subst IsNormalWorld (sym is) normal
 
   -- no event takes a vector out of its form
-  pub moves_normal : (e : Event Mail) (given : Answer) (w' : World K) → Moves form w e given w' → IsNormalWorld w'
+  pub moves_normal : (e : Event Mail) (given : Answer) (w' : World K) → MovesAt form w e given w' → IsNormalWorld w'
   moves_normal e given w' move = by_mover given w' (mover form w e given w' move)

@@ -17,11 +17,11 @@ use Rattle.mr_wire.specs.Frames.{Question, Sent}
 use Rattle.mr_wire.specs.declared.frame.Frame.TheVariants as frame
 use Rattle.mr_wire.specs.declared.frame.Receipt.{Receipt}
 use Rattle.mr_world.specs.Asked.{asked, record_len, receiving, delivering, answering, releasing}
-use Rattle.mr_world.specs.Moves.{Does, Moves, StepsAt}
 use Rattle.mr_world.specs.World.{World}
 use Rattle.mr_world.specs.declared.answer.Answer.{Answer}
 use Rattle.mr_world.specs.declared.task.Task.{Task}
 use Rattle.mr_world.specs.declared.task.Task.TheVariants as task
+use Rattle.mr_world.proofs.Moving.ByParts.{DoesAt, MovesAt, StepsAt}
 
 pub some_is : {A : Type 0} (x y : A) → Some x ≡ Some y → x ≡ y
 some_is x y e = cc
@@ -45,16 +45,16 @@ part_or_whole bytes sent t e = go (nat_lt bytes (record_len sent)) refl e
 
 module _ {K : Type 0} (form : Form K) (w : World K) where
   -- what the act asks is done
-  pub done : (e : Event Mail) (t : Task) (given : Answer) (w' : World K) → asked w.asks w.records w.receipts e.act ≡ Some t → Moves form w e given w' → Does form w e.replica t given w'
-  done e t given w' is move = subst (λ (u : Task). Does form w e.replica u given w') (some_is move.0 t (sym move.1 ∙ is)) move.2
+  pub done : (e : Event Mail) (t : Task) (given : Answer) (w' : World K) → asked w.asks w.records w.receipts e.act ≡ Some t → MovesAt form w e given w' → DoesAt form w e.replica t given w'
+  done e t given w' is move = subst (λ (u : Task). DoesAt form w e.replica u given w') (some_is move.0 t (sym move.1 ∙ is)) move.2
 
   -- where it is an event of the replica, that is answered
-  pub step_of : (e : Event Mail) (there : ReplicaEvent) (given : Answer) (w' : World K) → asked w.asks w.records w.receipts e.act ≡ Some (task.Step there) → Moves form w e given w' → StepsAt form w e.replica there given w'
+  pub step_of : (e : Event Mail) (there : ReplicaEvent) (given : Answer) (w' : World K) → asked w.asks w.records w.receipts e.act ≡ Some (task.Step there) → MovesAt form w e given w' → StepsAt form w e.replica there given w'
   step_of e there given w' is move = done e (task.Step there) given w' is move
 
   -- the record that a Receive names is taken
-  pub receives_one : (r n : ℕ) (given : Answer) (w' : World K) → Moves form w (r does act.Receive n) given w' → (sent : Sent) × (numbered w.records n ≡ Some sent) × StepsAt form w r (replica.Receive (frame.Record sent)) given w'
-  receives_one r n given w' move = let x = found receiving (numbered w.records n) move.0 move.1 in (x.0, x.1, subst (λ (u : Task). Does form w r u given w') (sym x.2) move.2)
+  pub receives_one : (r n : ℕ) (given : Answer) (w' : World K) → MovesAt form w (r does act.Receive n) given w' → (sent : Sent) × (numbered w.records n ≡ Some sent) × StepsAt form w r (replica.Receive (frame.Record sent)) given w'
+  receives_one r n given w' move = let x = found receiving (numbered w.records n) move.0 move.1 in (x.0, x.1, subst (λ (u : Task). DoesAt form w r u given w') (sym x.2) move.2)
 
 -- ---- records of the pool
 

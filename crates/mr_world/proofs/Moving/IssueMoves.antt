@@ -16,11 +16,11 @@ use Rattle.mr_replica.specs.declared.event.Event.TheVariants as replica
 use Rattle.mr_replica.specs.declared.event.Reply.{Reply}
 use Rattle.mr_replica.specs.declared.event.Reply.TheVariants.{Issued}
 use Rattle.mr_world.specs.Agrees.{Agrees}
-use Rattle.mr_world.specs.Moves.{StepsAt}
 use Rattle.mr_world.specs.Seen.{MailMoment, setting_of}
-use Rattle.mr_world.specs.World.{World, with_given, with_replica}
+use Rattle.mr_world.specs.World.{World}
 use Rattle.mr_world.specs.declared.answer.Answer.{Answer}
 use Rattle.mr_world.specs.declared.answer.Answer.TheVariants.{Stepped}
+use Rattle.mr_world.proofs.Moving.ByParts.{StepsAt, with_given, with_replica}
 use Rattle.mr_model.specs.declared.event.Act.TheVariants as act
 use Rattle.mr_world.proofs.Agreement.Editing.{create_agrees, edit_agrees}
 use Rattle.mr_world.proofs.Moving.Refines.{Refines, by_steps}

@@ -50,15 +50,15 @@ use Rattle.mr_wire.specs.declared.frame.Mode.TheVariants.{Full, Partial}
 use Rattle.mr_madewith.specs.Revision.{Rev}
 use Rattle.mr_world.specs.Agrees.{Agrees, HoldingsAgree}
 use Rattle.mr_world.specs.Issued.{Shows}
-use Rattle.mr_world.specs.Moves.{StepsAt}
 use Rattle.mr_world.specs.Seen.{MailMoment, seen_ask, seen_record, setting_of, versions_in_order}
 use Rattle.mr_world.specs.Sessions.{Follows, SessionAgrees, SessionsAgree}
 use Rattle.mr_world.specs.Shared.{SeesAsk, SeesAsks}
 use Rattle.mr_world.specs.Streams.{StreamAgrees, StreamsAgree}
 use Rattle.mr_world.specs.Told.{told_pairs}
-use Rattle.mr_world.specs.World.{World, with_given, with_replica}
+use Rattle.mr_world.specs.World.{World}
 use Rattle.mr_world.specs.declared.answer.Answer.{Answer}
 use Rattle.mr_world.specs.declared.answer.Answer.TheVariants.{Stepped}
+use Rattle.mr_world.proofs.Moving.ByParts.{StepsAt, with_given, with_replica}
 use Rattle.mr_model.specs.declared.event.Act.TheVariants as act
 use Rattle.mr_world.proofs.Groundwork.AtPlaces.{at_other, same_place, two_other}
 use Rattle.mr_world.proofs.Agreement.OneMore.{stream_kept}

@@ -17,16 +17,16 @@ use Rattle.mr_model.proofs.Core.{Inv}
 use Rattle.mr_model.proofs.Ports.{entries-append}
 use Rattle.mr_model.proofs.Sets.{two_elim, two_elim₂}
 use Rattle.mr_world.specs.Agrees.{Agrees}
-use Rattle.mr_world.specs.Moves.{Does}
-use Rattle.mr_world.specs.Ports.{with_close, with_offered, with_waiting}
+use Rattle.mr_world.specs.Ports.{with_close, with_offered, with_waiting, Port}
 use Rattle.mr_world.specs.Seen.{MailMoment, setting_of}
 use Rattle.mr_world.specs.Shared.{PortAgrees}
-use Rattle.mr_world.specs.World.{Port, World, with_port}
+use Rattle.mr_world.specs.World.{World}
 use Rattle.mr_world.specs.declared.answer.Answer.{Answer}
 use Rattle.mr_world.specs.declared.answer.Answer.TheVariants as answer
 use Rattle.mr_model.specs.declared.event.Act.TheVariants as act
 use Rattle.mr_model.specs.declared.event.Subscriber.{Subscriber}
 use Rattle.mr_world.specs.declared.task.Task.TheVariants as task
+use Rattle.mr_world.proofs.Moving.ByParts.{DoesAt, with_port}
 use Rattle.mr_world.proofs.Groundwork.AtPlaces.{two_self}
 use Rattle.mr_world.proofs.Agreement.Feeds.{told_append}
 use Rattle.mr_world.proofs.Moving.Refines.{Refines, stays}
@@ -126,7 +126,7 @@ module _ {K : Type 0} (form : Form K) (filters : ℕ → List ClauseParts) (w : 
           }) (λ other. a.ports q t')))
     ]
 
-  pub offers : (r : ℕ) (u : Subscriber) (reply : Answer) (w' : World K) → Does form w r (task.Offer u) reply w' → Refines form filters w m r (act.Offer u) reply w'
+  pub offers : (r : ℕ) (u : Subscriber) (reply : Answer) (w' : World K) → DoesAt form w r (task.Offer u) reply w' → Refines form filters w m r (act.Offer u) reply w'
   offers r u (answer.Offered e) w' move =
       let n = subscriber_number u in
       let may = move.1 in
@@ -136,7 +136,7 @@ module _ {K : Type 0} (form : Form K) (filters : ℕ → List ClauseParts) (w : 
   offers r u answer.Full w' move = stays form filters w m r (act.Offer u) w' (port_stays r (subscriber_number u) w' move.0 move.2 move.1.3)
   offers r u reply w' move = absurd move.1
 
-  pub takes : (r : ℕ) (u : Subscriber) (reply : Answer) (w' : World K) → Does form w r (task.Take u) reply w' → Refines form filters w m r (act.Take u) reply w'
+  pub takes : (r : ℕ) (u : Subscriber) (reply : Answer) (w' : World K) → DoesAt form w r (task.Take u) reply w' → Refines form filters w m r (act.Take u) reply w'
   takes r u (answer.TookEntry e) w' move =
       let n = subscriber_number u in
       let may = move.1 in
@@ -145,7 +145,7 @@ module _ {K : Type 0} (form : Form K) (filters : ℕ → List ClauseParts) (w : 
   takes r u answer.Empty w' move = stays form filters w m r (act.Take u) w' (port_stays r (subscriber_number u) w' move.0 move.2 move.1.2)
   takes r u reply w' move = absurd move.1
 
-  pub closes : (r : ℕ) (u : Subscriber) (reply : Answer) (w' : World K) → Does form w r (task.Close u) reply w' → Refines form filters w m r (act.Close u) reply w'
+  pub closes : (r : ℕ) (u : Subscriber) (reply : Answer) (w' : World K) → DoesAt form w r (task.Close u) reply w' → Refines form filters w m r (act.Close u) reply w'
   closes r u answer.Done w' move =
       let n = subscriber_number u in
       subst (Refines form filters w m r (act.Close u) answer.Done) (sym (move.2 ∙ ap (λ (z : Port). with_port w r n z) move.1)) (tt, close_agrees r n)

@@ -37,13 +37,13 @@ use Rattle.mr_wire.specs.Values.{DescentParts}
 use Rattle.mr_wire.specs.declared.frame.Receipt.{Receipt}
 use Rattle.mr_world.specs.Agrees.{Agrees, HoldingsAgree, HoldsAs}
 use Rattle.mr_world.specs.Issued.{IsTrueLine, IsTrueRevision}
-use Rattle.mr_world.specs.Moves.{StepsAt}
 use Rattle.mr_world.specs.Seen.{MailMoment, seen_receipt, setting_of}
 use Rattle.mr_world.specs.Sessions.{SessionsAgree}
 use Rattle.mr_world.specs.Streams.{StreamsAgree}
-use Rattle.mr_world.specs.World.{World, with_given, with_replica}
+use Rattle.mr_world.specs.World.{World}
 use Rattle.mr_world.specs.declared.answer.Answer.{Answer}
 use Rattle.mr_world.specs.declared.answer.Answer.TheVariants.{Stepped}
+use Rattle.mr_world.proofs.Moving.ByParts.{StepsAt, with_given, with_replica}
 use Rattle.mr_model.specs.declared.event.Act.TheVariants as act
 use Rattle.mr_world.proofs.Groundwork.Orders.{held_in, in_held, some_in_order}
 use Rattle.mr_world.proofs.Moving.Refines.{Refines, alive, by_change, by_steps}

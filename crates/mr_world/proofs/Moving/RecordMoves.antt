@@ -16,14 +16,14 @@ use Rattle.mr_replica.specs.declared.event.Reply.TheVariants as reply
 use Rattle.mr_wire.specs.Frames.{Sent}
 use Rattle.mr_wire.specs.declared.frame.Frame.TheVariants as frame
 use Rattle.mr_world.specs.Agrees.{Agrees}
-use Rattle.mr_world.specs.Moves.{Does, StepsAt}
 use Rattle.mr_world.specs.Seen.{MailMoment, seen_body, seen_record, seen_reply, setting_of}
-use Rattle.mr_world.specs.World.{World, with_given, with_replica}
+use Rattle.mr_world.specs.World.{World}
 use Rattle.mr_world.specs.declared.answer.Answer.{Answer}
 use Rattle.mr_model.specs.declared.event.Act.TheVariants as act
 use Rattle.mr_world.proofs.Agreement.Receiving.{receive_agrees}
 use Rattle.mr_world.specs.declared.task.Task.{Task}
 use Rattle.mr_world.specs.declared.task.Task.TheVariants as task
+use Rattle.mr_world.proofs.Moving.ByParts.{DoesAt, StepsAt, with_given, with_replica}
 use Rattle.mr_world.proofs.Moving.Asking.{IsPartOf, IsPartOf.Some_bytes, IsPartOf.All_bytes}
 use Rattle.mr_world.proofs.Moving.Refines.{IsInStep, Refines, by_steps, stays}
 
@@ -45,9 +45,9 @@ module _ {K : Type 0} (form : Form K) (filters : ℕ → List ClauseParts) (w : 
   pub receives : (x : Sent) → numbered w.records n ≡ Some x → (given : Answer) (w' : World K) → StepsAt form w r (replica.Receive (frame.Record x)) given w' → Refines form filters w m r (act.Receive n) given w'
   receives x pool given w' step = by_steps form filters w m a r (act.Receive n) (replica.Receive (frame.Record x)) given w' step (taken x pool)
 
-  pub delivers : (bytes : ℕ) (x : Sent) → numbered w.records n ≡ Some x → (t : Task) → IsPartOf bytes x t → (given : Answer) (w' : World K) → Does form w r t given w' → Refines form filters w m r (act.DeliverPart n bytes) given w'
+  pub delivers : (bytes : ℕ) (x : Sent) → numbered w.records n ≡ Some x → (t : Task) → IsPartOf bytes x t → (given : Answer) (w' : World K) → DoesAt form w r t given w' → Refines form filters w m r (act.DeliverPart n bytes) given w'
   delivers bytes x pool t (Some_bytes few is) given w' done =
-      let cut : Does form w r task.Truncated given w' = subst (λ (u : Task). Does form w r u given w') is done in
+      let cut : DoesAt form w r task.Truncated given w' = subst (λ (u : Task). DoesAt form w r u given w') is done in
       subst (λ (g : Answer). Refines form filters w m r (act.DeliverPart n bytes) g w') (sym cut.0) (stays form filters w m r (act.DeliverPart n bytes) w' (subst (λ (z : World K). Agrees form filters z m) (sym cut.1) a))
   delivers bytes x pool t (All_bytes few is) given w' done =
-      by_steps form filters w m a r (act.DeliverPart n bytes) (replica.Receive (frame.Record x)) given w' (subst (λ (u : Task). Does form w r u given w') is done) (taken x pool)
+      by_steps form filters w m a r (act.DeliverPart n bytes) (replica.Receive (frame.Record x)) given w' (subst (λ (u : Task). DoesAt form w r u given w') is done) (taken x pool)

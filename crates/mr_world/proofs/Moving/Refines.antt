@@ -19,11 +19,11 @@ use Rattle.mr_replica.specs.declared.event.Reply.{Reply}
 use Rattle.mr_replica.specs.declared.refusal.Refusal.{Refusal}
 use Rattle.mr_replica.specs.declared.refusal.Refusal.TheVariants as refusal
 use Rattle.mr_world.specs.Agrees.{Agrees}
-use Rattle.mr_world.specs.Moves.{StepsAt}
 use Rattle.mr_world.specs.Seen.{MailMoment, seen_answer, setting_of}
-use Rattle.mr_world.specs.World.{World, with_given, with_replica}
+use Rattle.mr_world.specs.World.{World}
 use Rattle.mr_world.specs.declared.answer.Answer.{Answer}
 use Rattle.mr_world.specs.declared.answer.Answer.TheVariants.{Stepped}
+use Rattle.mr_world.proofs.Moving.ByParts.{StepsAt, with_given, with_replica}
 use Rattle.mr_world.proofs.Groundwork.Tools.{at_self, not_refused, orelse_none}
 
 module _ {K : Type 0} (form : Form K) where

@@ -12,7 +12,7 @@ use Rattle.mr_wire.specs.declared.frame.Frame.{Frame}
 use Rattle.mr_wire.specs.declared.frame.Frame.TheVariants as frame
 use Rattle.mr_wire.specs.declared.frame.Receipt.{Receipt}
 use Rattle.mr_wire.proofs.DecodeLaws.{decoded_again}
-use Rattle.mr_world.specs.Pool.{at_number, found_frame, frame_in, question_of, sent_of, receipt_of, questions_in, sents_in, receipts_in, IsAskFrame, IsRecordFrame, IsReceiptFrame, GivesFrame}
+use Rattle.mr_world.specs.Pool.{at_number, found_frame, frame_in, question_of, sent_of, receipt_of, values_in, questions_in, sents_in, receipts_in, IsFrameOf, IsAskFrame, IsRecordFrame, IsReceiptFrame, GivesFrame}
 use Rattle.mr_world.proofs.Groundwork.Tools.{differs}
 
 -- ---- numbers, from the oldest and from the newest
@@ -77,40 +77,40 @@ module _ {A : Type 0} (of : Option Frame → Option A) (wrap : A → Frame) (law
   abbrev value_in : List ℕ → Option A
   value_in bytes = of (frame_in bytes)
 
-  abbrev IsOne : List ℕ → Type 0
-  IsOne bytes = (x : A) × Spells 2 (wrap x) bytes
-
   value_is : (x : A) (bytes : List ℕ) → Spells 2 (wrap x) bytes → value_in bytes ≡ Some x
   value_is x bytes h = ap of (frame_again (wrap x) bytes h) ∙ law x
 
-  get_values : (frames : List (List ℕ)) (i : ℕ) → AllByRecursion IsOne frames → GivesFrame wrap (slice_get (filter_map value_in frames) i) (slice_get frames i)
+  get_values : (frames : List (List ℕ)) (i : ℕ) → AllByRecursion (IsFrameOf wrap) frames → GivesFrame wrap (slice_get (filter_map value_in frames) i) (slice_get frames i)
   get_values [] i h = tt
   get_values (bytes ∷ more) zero h = rw (value_is h.0.0 bytes h.0.1) h.0.1
   get_values (bytes ∷ more) (suc i) h = rw (value_is h.0.0 bytes h.0.1) (get_values more i h.1)
 
-  number_values : (frames : List (List ℕ)) (n : ℕ) → AllByRecursion IsOne frames → GivesFrame wrap (at_number (filter_map value_in frames) n) (at_number frames n)
+  number_values : (frames : List (List ℕ)) (n : ℕ) → AllByRecursion (IsFrameOf wrap) frames → GivesFrame wrap (at_number (filter_map value_in frames) n) (at_number frames n)
   number_values frames n h =
       let cases : (b : Bool) → GivesFrame wrap (cond b None (slice_get (filter_map value_in frames) (n - 1))) (cond b None (slice_get frames (n - 1))) = λ b.
       elim b as (λ b. GivesFrame wrap (cond b None (slice_get (filter_map value_in frames) (n - 1))) (cond b None (slice_get frames (n - 1)))) [ true ↦ tt | false ↦ get_values frames (n - 1) h ] in
       cases (n == 0)
 
   -- a frame has the number of what it spells
-  pub gives : (frames : List (List ℕ)) (n : ℕ) → All IsOne frames → GivesFrame wrap (numbered (reverse (filter_map value_in frames)) n) (at_number frames n)
+  pub gives : (frames : List (List ℕ)) (n : ℕ) → All (IsFrameOf wrap) frames → GivesFrame wrap (numbered (values_in of frames) n) (at_number frames n)
+  unfolding values_in
   gives frames n h =
       let same : numbered (reverse (filter_map value_in frames)) n ≡ at_number (filter_map value_in frames) n =
       numbered_oldest (reverse (filter_map value_in frames)) n ∙ ap (λ (xs : List A). at_number xs n) (reverse-reverse (filter_map value_in frames)) in
-      rw same (number_values frames n (recursion_from_All IsOne frames h))
+      rw same (number_values frames n (recursion_from_All (IsFrameOf wrap) frames h))
 
   -- each frame spells one of them
-  count_values : (frames : List (List ℕ)) → AllByRecursion IsOne frames → length (filter_map value_in frames) ≡ length frames
+  count_values : (frames : List (List ℕ)) → AllByRecursion (IsFrameOf wrap) frames → length (filter_map value_in frames) ≡ length frames
   count_values [] h = refl
   count_values (bytes ∷ more) h = rw (value_is h.0.0 bytes h.0.1) (ap (λ (n : ℕ). suc n) (count_values more h.1))
 
-  pub counts : (frames : List (List ℕ)) → All IsOne frames → length frames ≡ length (reverse (filter_map value_in frames))
-  counts frames h = sym (length-reverse (filter_map value_in frames) ∙ count_values frames (recursion_from_All IsOne frames h))
+  pub counts : (frames : List (List ℕ)) → All (IsFrameOf wrap) frames → length frames ≡ length (values_in of frames)
+  unfolding values_in
+  counts frames h = sym (length-reverse (filter_map value_in frames) ∙ count_values frames (recursion_from_All (IsFrameOf wrap) frames h))
 
   -- a frame more is one more of these, the newest
-  pub one_more : (frames : List (List ℕ)) (x : A) (bytes : List ℕ) → Spells 2 (wrap x) bytes → reverse (filter_map value_in (frames ++ bytes ∷ [])) ≡ x ∷ reverse (filter_map value_in frames)
+  pub one_more : (frames : List (List ℕ)) (x : A) (bytes : List ℕ) → Spells 2 (wrap x) bytes → values_in of (frames ++ bytes ∷ []) ≡ x ∷ values_in of frames
+  unfolding values_in
   one_more frames x bytes h =
       let last : filter_map value_in (bytes ∷ []) ≡ x ∷ [] = rw (value_is x bytes h) refl in
       ap (λ (xs : List A). reverse xs) (filter_map-append value_in frames (bytes ∷ []) ∙ ap (λ (ys : List A). filter_map value_in frames ++ ys) last)
@@ -126,37 +126,28 @@ receipt_law : (x : Receipt) → receipt_of (Some (frame.Receipt x)) ≡ Some x
 receipt_law x = refl
 
 pub gives_ask : (frames : List (List ℕ)) (n : ℕ) → All IsAskFrame frames → GivesFrame (λ x. frame.Ask x) (numbered (questions_in frames) n) (at_number frames n)
-unfolding questions_in
 gives_ask frames n h = gives question_of (λ x. frame.Ask x) question_law frames n h
 
 pub gives_record : (frames : List (List ℕ)) (n : ℕ) → All IsRecordFrame frames → GivesFrame (λ x. frame.Record x) (numbered (sents_in frames) n) (at_number frames n)
-unfolding sents_in
 gives_record frames n h = gives sent_of (λ x. frame.Record x) sent_law frames n h
 
 pub gives_receipt : (frames : List (List ℕ)) (n : ℕ) → All IsReceiptFrame frames → GivesFrame (λ x. frame.Receipt x) (numbered (receipts_in frames) n) (at_number frames n)
-unfolding receipts_in
 gives_receipt frames n h = gives receipt_of (λ x. frame.Receipt x) receipt_law frames n h
 
 pub count_asks : (frames : List (List ℕ)) → All IsAskFrame frames → length frames ≡ length (questions_in frames)
-unfolding questions_in
 count_asks frames h = counts question_of (λ x. frame.Ask x) question_law frames h
 
 pub count_records : (frames : List (List ℕ)) → All IsRecordFrame frames → length frames ≡ length (sents_in frames)
-unfolding sents_in
 count_records frames h = counts sent_of (λ x. frame.Record x) sent_law frames h
 
 pub count_receipts : (frames : List (List ℕ)) → All IsReceiptFrame frames → length frames ≡ length (receipts_in frames)
-unfolding receipts_in
 count_receipts frames h = counts receipt_of (λ x. frame.Receipt x) receipt_law frames h
 
 pub one_more_ask : (frames : List (List ℕ)) (x : Question) (bytes : List ℕ) → Spells 2 (frame.Ask x) bytes → questions_in (frames ++ bytes ∷ []) ≡ x ∷ questions_in frames
-unfolding questions_in
 one_more_ask frames x bytes h = one_more question_of (λ x. frame.Ask x) question_law frames x bytes h
 
 pub one_more_record : (frames : List (List ℕ)) (x : Sent) (bytes : List ℕ) → Spells 2 (frame.Record x) bytes → sents_in (frames ++ bytes ∷ []) ≡ x ∷ sents_in frames
-unfolding sents_in
 one_more_record frames x bytes h = one_more sent_of (λ x. frame.Record x) sent_law frames x bytes h
 
 pub one_more_receipt : (frames : List (List ℕ)) (x : Receipt) (bytes : List ℕ) → Spells 2 (frame.Receipt x) bytes → receipts_in (frames ++ bytes ∷ []) ≡ x ∷ receipts_in frames
-unfolding receipts_in
 one_more_receipt frames x bytes h = one_more receipt_of (λ x. frame.Receipt x) receipt_law frames x bytes h

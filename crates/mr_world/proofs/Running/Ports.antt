@@ -6,8 +6,7 @@ use Rattle.mr_feed.specs.Port.{taken_entries}
 use Rattle.mr_feed.specs.declared.entry.Entry.{Entry}
 use Rattle.mr_feed.specs.declared.port.Taken.{Taken}
 use Rattle.mr_feed.specs.declared.port.Taken.TheVariants as taken
-use Rattle.mr_world.specs.World.{Port}
-use Rattle.mr_world.specs.Ports.{Takes}
+use Rattle.mr_world.specs.Ports.{Takes, Port}
 use Rattle.mr_world.specs.inner.TakenAnswer.{answer_taken}
 use Rattle.mr_world.specs.declared.answer.Answer.{Answer}
 

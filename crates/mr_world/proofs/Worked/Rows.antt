@@ -11,8 +11,7 @@ use Rattle.mr_wire.specs.Values.{Piece}
 use Rattle.mr_wire.specs.declared.frame.Body.{Body}
 use Rattle.mr_wire.specs.declared.frame.Body.TheVariants.{Start, Held, Know, End}
 use Rattle.mr_wire.specs.declared.frame.Mode.TheVariants.{Full, Partial}
-use Rattle.mr_world.specs.World.{Port, new_port}
-use Rattle.mr_world.specs.Ports.{Closes, Offers, Takes, with_close, with_offered, with_waiting}
+use Rattle.mr_world.specs.Ports.{Closes, Offers, Takes, with_close, with_offered, with_waiting, Port, new_port}
 use Rattle.mr_world.specs.Asked.{record_len}
 use Rattle.mr_world.specs.Seen.{seen_answer, seen_body, seen_record}
 use Rattle.mr_world.specs.Sessions.{Follows}
