@@ -4,6 +4,9 @@
 //! A replica is a machine of letters and answers, [`ReplicaMachine`]; and [`run_core`] is what its thread does. Who
 //! sends letters, and who takes what comes into the feed, meets it over lanes alone.
 //!
+//! [`run_node`] runs all of them over a replica alone, and [`run_machine_node`] over any machine that takes a replica's letters and
+//! gives its answers.
+//!
 //! [`run_link`] is what a link's thread does. It takes its turns, one after the other: each is a row of letters to the
 //! replica, of which some are made of frames that come over the link, and whose answers give the frames that it sends.
 //! A link is whole, or it stopped for one of the reasons of [`Stop`] and cut what it had open.
@@ -13,6 +16,7 @@ mod exchange;
 mod guard;
 mod link_thread;
 mod link_voice;
+mod machine_node;
 mod next_move;
 mod node;
 mod progress;
@@ -23,6 +27,7 @@ mod turning;
 
 pub use link_thread::{LinkEnd, LinkParts, run_link};
 pub use link_voice::LinkVoice;
+pub use machine_node::run_machine_node;
 pub use node::{LinkTurns, NodeEnd, NodeFault, NodeParts, NodeReplies, NodeTaken, run_node};
 pub use progress::Opened;
 pub use replica_core::{ReplicaCore, ReplicaCoreEnd, run_core};

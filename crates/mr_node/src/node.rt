@@ -192,7 +192,7 @@ fn with_replica<K: Knowledge>(end: NodeEnd<ReplicaMachine<K>>) -> NodeEnd<Replic
 }
 
 /// Runs a node of any machine of a replica's letters and answers. `None` where no memory was found.
-fn run_parts<
+pub(crate) fn run_parts<
     C: Machine<Event, Answer> + Drop + Send,
     L: Link + Send,
     M: Link + Send,
