@@ -18,6 +18,8 @@ pub struct Talked {
     pub meeting: Option<Meeting>,
     /// Why it didn't come to its end.
     pub fault: Option<TalkFault>,
+    /// How many versions waited for a receipt before it.
+    pub waiting: usize,
 }
 
 /// What was done after a talk.
@@ -28,7 +30,8 @@ pub struct After {
     pub edited: usize,
 }
 
-/// Shows what came, and notes the meeting. Where nothing could come nothing is done, unless the folder is fresh.
+/// Shows what came, and notes the meeting. Where nothing could come nothing is done, and where nothing came that has to be shown nothing is looked
+/// at, unless the folder is fresh.
 ///
 /// Files that no held mail names go, but not where the talk was cut off: they may be those of records that didn't come any more.
 pub fn shown<R: Files<File = File> + AllocGlobal + Clone + Drop>(
@@ -37,19 +40,36 @@ pub fn shown<R: Files<File = File> + AllocGlobal + Clone + Drop>(
     is_fresh: bool,
 ) -> Result<After, Fault> {
     if talked.summary.is_idle && !is_fresh {
-        return Ok(After {
-            tally: nothing(),
-            edited: 0,
-        });
+        return Ok(nothing_shown());
     }
     if let Some(meeting) = talked.meeting {
         note_meeting(folder, meeting)?;
+    }
+    if !is_fresh && shows_all(folder, talked) {
+        return Ok(nothing_shown());
     }
     let Settled { tally, edited, .. } = settle_folder(folder, None)?;
     if talked.fault.is_none() {
         sweep_folder(folder)?;
     }
     Ok(After { tally, edited })
+}
+
+/// Nothing was done.
+fn nothing_shown() -> After {
+    After {
+        tally: nothing(),
+        edited: 0,
+    }
+}
+
+/// Whether nothing that the talk brought is to be shown: the feed is as it was shown, no file came, and as many versions wait for a receipt as
+/// did before, of which a talk adds none. What the feed doesn't tell is a mail that waits no more, be it for a receipt or for what superseded it.
+fn shows_all<R: Drop>(folder: &OpenFolder<R>, talked: &Talked) -> bool {
+    let replica = folder.kept.replica();
+    talked.summary.files_came == 0
+        && replica.push_outs().len() == talked.waiting
+        && replica.feed().len() as u64 == folder.shown.entries()
 }
 
 /// Notes the meeting in the journal.

@@ -59,8 +59,8 @@ fn put_mails(
     items: &BTreeSet<ItemId>,
 ) -> Result<(), AllocError> {
     for revision in revisions {
-        if let Some(digest) = digest_of(revision)
-            && items.contains(&revision.item())
+        if items.contains(&revision.item())
+            && let Some(digest) = digest_of(revision)
         {
             mails.insert(digest)?;
         }

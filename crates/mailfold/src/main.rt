@@ -13,6 +13,7 @@ mod after;
 mod audit;
 mod before;
 mod command_line;
+mod counting;
 mod edited;
 mod ending;
 mod expire;
@@ -44,7 +45,8 @@ mod watched;
 mod words;
 
 use audit::audit_folders;
-use command_line::{Request, read_command_line};
+use command_line::{Request, ScanRequest, read_command_line};
+use counting::{Counting, Looks};
 use ending::{Ending, exit_of};
 use expire::expire_mails;
 use fault::Fault;
@@ -103,10 +105,8 @@ fn words_given(rt: &HostRuntime) -> Result<Vec<String>, Fault> {
 fn answer(rt: &HostRuntime, request: Request) -> Result<Ending, Fault> {
     match request {
         Request::Init(request) => init_folder(rt, request),
-        Request::Scan(request) => scan_folder(rt, request, is_watched(rt, request.is_quiet)),
-        Request::Sync { folder, is_quiet } => {
-            sync_folder(rt, folder, Role::Caller, is_watched(rt, is_quiet))
-        }
+        Request::Scan(request) => begin_scan(rt, request),
+        Request::Sync { folder, is_quiet } => begin_sync(rt, folder, is_quiet),
         Request::Serve(folder) => sync_folder(rt, folder, Role::Called, false),
         Request::Expire(request) => expire_mails(rt, request),
         Request::Renew(request) => renew_folder(rt, request),
@@ -120,6 +120,22 @@ fn answer(rt: &HostRuntime, request: Request) -> Result<Ending, Fault> {
         Request::Verify(folder) => verify_files(rt, folder),
         Request::Audit(folders) => audit_folders(rt, &folders),
     }
+}
+
+/// Scans a folder. A terminal is shown how many files were looked at.
+fn begin_scan(rt: &HostRuntime, request: ScanRequest) -> Result<Ending, Fault> {
+    let is_watched = is_watched(rt, request.is_quiet);
+    let looks = Looks::none();
+    let counting = Counting::new(rt, &looks, is_watched.then_some("scan"));
+    scan_folder(&counting, request, is_watched)
+}
+
+/// Begins a sync. A terminal is shown how many files were looked at, and how far the talk is.
+fn begin_sync(rt: &HostRuntime, folder: &str, is_quiet: bool) -> Result<Ending, Fault> {
+    let is_watched = is_watched(rt, is_quiet);
+    let looks = Looks::none();
+    let counting = Counting::new(rt, &looks, is_watched.then_some("sync"));
+    sync_folder(&counting, folder, Role::Caller, is_watched)
 }
 
 /// Whether a terminal is shown how far a command is: standard error is one, and nobody asked for quiet.

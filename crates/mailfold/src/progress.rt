@@ -53,7 +53,7 @@ impl<'a, R: Eprint + Clock> Ticker<'a, R> {
 }
 
 /// Whether a line that was shown at this second has stood for long enough.
-fn is_due(last: u64, now: u64) -> bool
+pub(crate) fn is_due(last: u64, now: u64) -> bool
     ensures { IsTrue result ↔ (last + 1 ≤ now) }
 {
     now.saturating_sub(last) >= SECONDS

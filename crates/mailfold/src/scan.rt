@@ -7,7 +7,7 @@ use crate::full_log::warn_of_full_log;
 use crate::passed_over::tell_passed_over;
 use crate::progress::{clear_step, show_step};
 use mr_compare::tally_of;
-use mr_fold::{OpenFolder, Settled, look, open, settle_folder};
+use mr_fold::{OpenFolder, Settled, look, open, settle_if_edited};
 use std::fs::File;
 use std::rt::Files;
 
@@ -28,7 +28,7 @@ fn scan_opened<R: Files<File = File> + Eprint + AllocGlobal + Clone + Drop>(
     is_watched: bool,
 ) -> Result<Ending, Fault> {
     show_step(rt, is_watched, "scan: looking at the files");
-    let scanned = scanned(folder, request);
+    let scanned = scanned(rt, folder, request);
     clear_step(rt, is_watched);
     let Settled {
         tally,
@@ -44,6 +44,7 @@ fn scan_opened<R: Files<File = File> + Eprint + AllocGlobal + Clone + Drop>(
 
 /// What was done, or would be, and what was passed over.
 fn scanned<R: Files<File = File> + AllocGlobal + Clone + Drop>(
+    rt: &R,
     folder: &mut OpenFolder<R>,
     request: ScanRequest,
 ) -> Result<Settled, Fault> {
@@ -55,5 +56,5 @@ fn scanned<R: Files<File = File> + AllocGlobal + Clone + Drop>(
             passed_over: looked.passed_over,
         });
     }
-    Ok(settle_folder(folder, request.most_deletions)?)
+    Ok(settle_if_edited(rt, request.folder, folder, request.most_deletions)?)
 }

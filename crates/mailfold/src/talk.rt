@@ -203,6 +203,7 @@ fn talk_on<R, I: Read + Drop, O: Write + Drop>(
 where
     R: Files<File = File> + Eprint + Clock + AllocGlobal + Clone + Drop,
 {
+    let waiting = folder.kept.replica().push_outs().len();
     let (host, aside) = host_of(folder);
     let (host, fault) = talk_over(aside.alloc, line, Watched { host, ticker }, role, wanted);
     let meeting = host.met(now);
@@ -211,6 +212,7 @@ where
         summary,
         meeting,
         fault,
+        waiting,
     };
     (folder, talked)
 }

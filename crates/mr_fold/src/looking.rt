@@ -13,7 +13,9 @@ use crate::lacking::lacking_items;
 use crate::opening::{Kept, OpenFolder};
 use crate::parting::moved_first;
 use crate::released::with_released;
-use crate::resting::{Stand, empty_note, is_noted, note_stand, stand_of};
+use crate::resting::{
+    Stand, empty_note, is_noted, is_noted_whole, names_digest, note_stand, seen_bytes, stand_of,
+};
 use crate::settling::settle;
 use crate::sides::{first_sides, take_away};
 use crate::straying::stray_mails;
@@ -94,6 +96,8 @@ struct Sight {
     lacking: BTreeSet<Digest>,
     /// The mails that were edited in place.
     edited: Vec<Digest>,
+    /// The inodes of the store's files, and their sizes, as they were found before the scans, if each file of the folders is one of these.
+    sizes: Option<Vec<(u64, u64)>>,
 }
 
 /// Settles a folder: the user's changes of the Maildir are told and kept, and what was changed elsewhere is shown. It is called
@@ -137,18 +141,62 @@ pub fn settle_if_changed<R: Files<File = File> + AllocGlobal + Clone + Drop>(
     most: Option<usize>,
 ) -> Result<Settled, FoldFault> {
     let listed = listed_in(folder)?;
-    let before = stand_of(rt, root, folder, &listed.table);
-    if rests(rt, root, &before) {
-        return Ok(Settled {
-            tally: tally_of(&[]),
-            edited: 0,
-            passed_over: passed_over(listed, 0),
-        });
+    let stand = stand_of(rt, root, folder, &listed.table);
+    if rests(rt, root, &stand) {
+        return Ok(at_rest(listed));
     }
+    let names = names_digest(folder.alloc, &folder.tree, listed.table.folders());
+    settle_and_note(rt, root, folder, listed, Before { stand, names }, most)
+}
+
+/// As [`settle_if_changed`], but the names in the folders are listed too, and the sizes of the store's files are looked at, so that a file that was
+/// edited in place is found, and what a file system has no times for. Each file of a mail in the Maildir is a file of the store. It costs the
+/// listing of all names, and a call of the system for each file of the store; where something was changed those of a settling too.
+pub fn settle_if_edited<R: Files<File = File> + AllocGlobal + Clone + Drop>(
+    rt: &R,
+    root: &str,
+    folder: &mut OpenFolder<R>,
+    most: Option<usize>,
+) -> Result<Settled, FoldFault> {
+    let listed = listed_in(folder)?;
+    let stand = stand_of(rt, root, folder, &listed.table);
+    let names = names_digest(folder.alloc, &folder.tree, listed.table.folders());
+    let before = Before { stand, names };
+    if rests_whole(rt, root, &before) {
+        return Ok(at_rest(listed));
+    }
+    settle_and_note(rt, root, folder, listed, before, most)
+}
+
+/// How a folder stood before it was looked at, and a digest of the names in its folders.
+#[derive(Drop)]
+struct Before {
+    stand: Option<Stand>,
+    names: Option<[u8; 32]>,
+}
+
+/// Nothing was done.
+fn at_rest(listed: Listed) -> Settled {
+    Settled {
+        tally: tally_of(&[]),
+        edited: 0,
+        passed_over: passed_over(listed, 0),
+    }
+}
+
+/// Settles a folder with these folders, and where nothing was to be done notes how it stood before.
+fn settle_and_note<R: Files<File = File> + AllocGlobal + Clone + Drop>(
+    rt: &R,
+    root: &str,
+    folder: &mut OpenFolder<R>,
+    listed: Listed,
+    before: Before,
+    most: Option<usize>,
+) -> Result<Settled, FoldFault> {
     let now = empty_note(rt, root);
     let found = found_at(folder, listed, most)?;
     if settle_found(folder, &found)? && is_told(&found.sight.scan) {
-        note_rest(rt, root, folder, &found.listed.table, before, now);
+        note_rest(rt, root, folder, &found, before, now);
     }
     Ok(settled_of(found))
 }
@@ -158,6 +206,18 @@ fn rests<R: Files<File = File> + AllocGlobal>(rt: &R, root: &str, stand: &Option
     match stand {
         Some(stand) => is_noted(rt, root, stand),
         None => false,
+    }
+}
+
+/// Whether it is noted that the folder stood so, with these names and the sizes that the store's files have.
+fn rests_whole<R: Files<File = File> + AllocGlobal + Clone + Drop>(
+    rt: &R,
+    root: &str,
+    before: &Before,
+) -> bool {
+    match (&before.stand, &before.names) {
+        (Some(stand), Some(names)) => is_noted_whole(rt, root, stand, names),
+        _ => false,
     }
 }
 
@@ -173,13 +233,25 @@ fn note_rest<R: Files<File = File> + AllocGlobal + Clone + Drop>(
     rt: &R,
     root: &str,
     folder: &OpenFolder<R>,
-    table: &FolderTable,
-    before: Option<Stand>,
+    found: &Found,
+    before: Before,
     now: Option<u64>,
 ) {
-    let after = stand_of(rt, root, folder, table);
-    if let (Some(before), Some(after), Some(now)) = (before, after, now) {
-        note_stand(rt, root, &before, &after, now);
+    let Before { stand, names } = before;
+    let after = stand_of(rt, root, folder, &found.listed.table);
+    if let (Some(stand), Some(after), Some(now)) = (stand, after, now) {
+        let seen = seen_before(folder.alloc, names, &found.sight.sizes);
+        note_stand(rt, root, &stand, &after, &seen, now);
+    }
+}
+
+/// What was seen, as a note has it; nothing where it isn't known, or where a file of the folders isn't in the store.
+fn seen_before(alloc: Global, names: Option<[u8; 32]>, sizes: &Option<Vec<(u64, u64)>>) -> Vec<u8> {
+    match (names, sizes) {
+        (Some(names), Some(sizes)) => {
+            seen_bytes(alloc, &names, sizes).unwrap_or(Vec::new(alloc))
+        }
+        _ => Vec::new(alloc),
     }
 }
 
@@ -407,7 +479,9 @@ fn seen<R: Files<File = File> + AllocGlobal + Clone + Drop>(
 ) -> Result<Sight, FoldFault> {
     let LeftSide { mails, sizes } = left;
     let Indexed { mut index, edited } = indexed(alloc, tree, &sizes)?;
+    let stored = sizes_in(alloc, &index)?;
     let first = scanned(alloc, tree, table, &mut index)?;
+    let stored = (first.adopted == 0).then_some(stored);
     let sides = first_sides(alloc, mails, &held.mails, &first, &index)?;
     let sides = with_released(alloc, replica, &held.items, sides)?;
     let acts = acts_of(alloc, &standings_with(alloc, held, &sides)?, usize::MAX)?;
@@ -415,10 +489,19 @@ fn seen<R: Files<File = File> + AllocGlobal + Clone + Drop>(
         let second = scanned(alloc, tree, table, &mut index)?;
         let decided = decide(alloc, sides, held, &first, &second, &index)?;
         let (sides, acts) = allowed(alloc, tree, table, &index, held, decided, most)?;
-        Ok(sight_of(alloc, sides, second, acts, edited)?)
+        Ok(sight_of(alloc, sides, second, acts, edited, stored)?)
     } else {
-        Ok(sight_of(alloc, sides, first, acts, edited)?)
+        Ok(sight_of(alloc, sides, first, acts, edited, stored)?)
     }
+}
+
+/// The inodes of the store's files, and their sizes.
+fn sizes_in(alloc: Global, index: &Index) -> Result<Vec<(u64, u64)>, AllocError> {
+    let mut sizes = Vec::with_capacity(alloc, index.len())?;
+    for (inode, stored) in index.iter() {
+        sizes.push((*inode, stored.size))?;
+    }
+    Ok(sizes)
 }
 
 /// What was seen, and what is done for it.
@@ -428,6 +511,7 @@ fn sight_of(
     scan: Scan,
     acts: Vec<MailAct>,
     edited: Vec<Digest>,
+    sizes: Option<Vec<(u64, u64)>>,
 ) -> Result<Sight, AllocError> {
     let Sides { lacking, .. } = sides;
     let (acts, moved) = moved_first(alloc, acts, &scan, &lacking)?;
@@ -437,6 +521,7 @@ fn sight_of(
         moved,
         lacking,
         edited,
+        sizes,
     })
 }
 

@@ -1,9 +1,9 @@
 //! What a folder's note of rest spells: numbers are big-endian, each of eight bytes.
-ghost use Rattle.std.specs.Prelude.{◌≡◌, ◌++◌, IfOk, OnOk};
+ghost use Rattle.std.specs.Prelude.{◌≡◌, ◌++◌, IfOk, OnOk, length};
 ghost use Rattle.std.specs.List.{flat_map};
 ghost use Rattle.mr_wire.specs.Spelling.{u64, name_bytes};
 ghost use Rattle.mr_fold.specs.inner.Resting as specs;
-ghost use Rattle.mr_fold.specs.inner.Resting.{folder_bytes, layout_number};
+ghost use Rattle.mr_fold.specs.inner.Resting.{folder_bytes, layout_number, size_bytes};
 
 use mr_compare::Shown;
 use mr_entry::Birth;
@@ -84,4 +84,26 @@ fn put_items(out: &mut Vec<u8>, items: &[ItemId]) -> Result<(), AllocError>
         put_version(out, item.creator())?;
     }
     Ok(())
+}
+
+/// A note: how long the stand is, the stand, and what was seen. So the note of no stand begins as that of another one.
+pub(crate) fn rest_bytes(alloc: Global, stand: &[u8], seen: &[u8]) -> Result<Vec<u8>, AllocError>
+    ensures { IfOk result (λ bytes. bytes.items ≡ u64 (length stand.now) ++ (stand.now ++ seen.now)) }
+{
+    let mut out = Vec::new(alloc);
+    put_u64(&mut out, stand.len() as u64)?;
+    out.extend_from_slice(stand)?;
+    out.extend_from_slice(seen)?;
+    Ok(out)
+}
+
+/// Files of a store, each by its inode and its size.
+pub(crate) fn store_bytes(alloc: Global, sizes: &[(u64, u64)]) -> Result<Vec<u8>, AllocError>
+    ensures { IfOk result (λ bytes. bytes.items ≡ flat_map size_bytes sizes.now) }
+{
+    let mut out = Vec::new(alloc);
+    for size in sizes {
+        put_numbers(&mut out, &[size.0, size.1])?;
+    }
+    Ok(out)
 }

@@ -1,11 +1,12 @@
-//! Whether a folder rests: nothing in it was changed since it was found with nothing to do, as the times of its parts tell. What real files
-//! take and give no contract says, so what is here is tested only.
+//! Whether a folder rests: nothing in it was changed since it was found with nothing to do, as the times of its parts tell, or also the names in
+//! them and the sizes of the store's files. What real files take and give no contract says, so what is here is tested only.
 ghost use Rattle.std.specs.Prelude.{◌≡◌, ◌+◌, ◌*◌, ◌<◌, ◌^◌, ℕ, pos, SomeIff};
 
 use crate::opening::OpenFolder;
-use crate::rest_bytes::{put_folder, put_numbers, replica_bytes};
+use crate::rest_bytes::{put_folder, put_numbers, replica_bytes, rest_bytes, store_bytes};
 use mr_folder::{DiskTree, FolderPath, Folders};
 use mr_scan::{FolderTable, MailFolder};
+use sha2::{Digest, Sha256};
 use std::alloc::Global;
 use std::fs::{self, File};
 use std::os::unix::fs::MetadataExt;
@@ -51,15 +52,93 @@ pub(crate) fn is_noted<R: Files<File = File> + AllocGlobal>(
     root: &str,
     stand: &Stand,
 ) -> bool {
-    match noted(rt, root) {
-        Some(bytes) => bytes.as_slice() == stand.bytes.as_slice(),
-        None => false,
-    }
+    noted(rt, root, stand).is_some()
 }
 
-fn noted<R: Files<File = File> + AllocGlobal>(rt: &R, root: &str) -> Option<Vec<u8>> {
+/// Whether the note has that the folder stood so, with names of this digest in its folders, and with the sizes that the store's files have.
+pub(crate) fn is_noted_whole<R: Files<File = File> + AllocGlobal + Clone + Drop>(
+    rt: &R,
+    root: &str,
+    stand: &Stand,
+    names: &[u8; 32],
+) -> bool {
+    has_noted(rt, root, stand, names).unwrap_or(false)
+}
+
+fn has_noted<R: Files<File = File> + AllocGlobal + Clone + Drop>(
+    rt: &R,
+    root: &str,
+    stand: &Stand,
+    names: &[u8; 32],
+) -> Option<bool> {
+    let seen = noted(rt, root, stand)?;
+    if !seen.as_slice().starts_with(names) {
+        return Some(false);
+    }
+    let sizes = sizes_now(rt, root)?;
+    let now = seen_bytes(rt.alloc(), names, &sizes)?;
+    Some(now.as_slice() == seen.as_slice())
+}
+
+/// What the note has behind this stand, if it is the one that it has.
+fn noted<R: Files<File = File> + AllocGlobal>(
+    rt: &R,
+    root: &str,
+    stand: &Stand,
+) -> Option<Vec<u8>> {
     let path = own_path(rt.alloc(), root, NOTE)?;
-    fs::read(rt, path.as_str()).ok()
+    let bytes = fs::read(rt, path.as_str()).ok()?;
+    let begins = rest_bytes(rt.alloc(), &stand.bytes, &[]).ok()?;
+    let seen = bytes.as_slice().strip_prefix(begins.as_slice())?;
+    Vec::from_slice(rt.alloc(), seen).ok()
+}
+
+/// What was seen, as a note has it: the digest of the names, and one of the sizes of the store's files.
+pub(crate) fn seen_bytes(alloc: Global, names: &[u8; 32], sizes: &[(u64, u64)]) -> Option<Vec<u8>> {
+    let bytes = store_bytes(alloc, sizes).ok()?;
+    let digest = Sha256::digest(bytes.as_slice());
+    let mut seen = Vec::from_slice(alloc, names).ok()?;
+    seen.extend_from_slice(&digest).ok()?;
+    Some(seen)
+}
+
+/// The sizes of the store's files, by their inodes.
+fn sizes_now<R: Files<File = File> + AllocGlobal + Clone + Drop>(
+    rt: &R,
+    root: &str,
+) -> Option<Vec<(u64, u64)>> {
+    let path = own_path(rt.alloc(), root, "files")?;
+    let mut sizes = Vec::new(rt.alloc());
+    for entry in fs::read_dir(rt, path.as_str()).ok()? {
+        let told = entry.ok()?.metadata().ok()?;
+        sizes.push((told.ino(), told.len())).ok()?;
+    }
+    sizes.sort_unstable();
+    Some(sizes)
+}
+
+/// A digest of the names in the folders, in the order in which the system tells them. `None` where they can't be read.
+pub(crate) fn names_digest<R: Files<File = File> + AllocGlobal + Clone + Drop>(
+    alloc: Global,
+    tree: &DiskTree<R>,
+    folders: &[MailFolder],
+) -> Option<[u8; 32]> {
+    let mut hasher = Sha256::new();
+    for folder in folders {
+        let mut parts = tree.parts(slice::from_ref(&folder.path));
+        take_names(&mut hasher, &parts.names(alloc, 0).ok()?);
+        take_names(&mut hasher, &parts.names(alloc, 1).ok()?);
+    }
+    Some(hasher.finalize())
+}
+
+/// Takes the names of a part of a folder, and its end. No name has a slash.
+fn take_names(hasher: &mut Sha256, names: &[String]) {
+    for name in names {
+        hasher.update(name.as_bytes());
+        hasher.update(b"/");
+    }
+    hasher.update(b"/");
 }
 
 /// Empties the note, and tells the time, as the file system has it: what is changed from now on has that time or a later one.
@@ -69,21 +148,32 @@ pub(crate) fn empty_note<R: Files<File = File> + AllocGlobal>(rt: &R, root: &str
     changed(rt, root, NOTE)
 }
 
-/// Notes how the folder stands, if it stood so before this time too. A note that can't be written is missing.
+/// Notes how the folder stands, if it stood so before this time too, and what was seen in it. A note that can't be written is missing.
 pub(crate) fn note_stand<R: Files<File = File> + AllocGlobal>(
     rt: &R,
     root: &str,
     before: &Stand,
     after: &Stand,
+    seen: &[u8],
     now: u64,
 ) {
     if before.bytes.as_slice() != after.bytes.as_slice() || after.newest >= now {
         return;
     }
-    if let Some(path) = own_path(rt.alloc(), root, NOTE) {
-        // without the note the next command looks at all again
-        let _ = fs::write(rt, path.as_str(), after.bytes.as_slice());
-    }
+    // without the note the next command looks at all again
+    let _ = write_note(rt, root, after, seen);
+}
+
+/// Writes the note, if it can be.
+fn write_note<R: Files<File = File> + AllocGlobal>(
+    rt: &R,
+    root: &str,
+    stand: &Stand,
+    seen: &[u8],
+) -> Option<()> {
+    let path = own_path(rt.alloc(), root, NOTE)?;
+    let bytes = rest_bytes(rt.alloc(), &stand.bytes, seen).ok()?;
+    fs::write(rt, path.as_str(), bytes.as_slice()).ok()
 }
 
 /// Writes the size of the log, and the times of its last change and the store's, which is told.

@@ -66,42 +66,68 @@ pub(crate) fn second_sides(
     })
 }
 
-/// How each mail is seen that has files.
+/// How each mail is seen that has files. The mails that are held stand in rising order of their digests, as the scan's do, so that both are walked
+/// at once.
 fn seen_views(
     alloc: Global,
     scan: &Scan,
     left: &BTreeMap<Digest, LeftMail>,
     mails: &[HeldMail],
 ) -> Result<BTreeMap<Digest, View>, AllocError> {
-    let mut views = BTreeMap::new(alloc);
+    let mut views = Vec::with_capacity(alloc, scan.mails.len())?;
+    let mut rest = mails;
     for (digest, files) in scan.mails.iter() {
-        let view = view_seen(alloc, digest, files, left, mails)?;
-        views.insert(*digest, view)?;
+        rest = from_digest(rest, digest);
+        let view = seen_view(alloc, left_view(digest, left, rest.first()), files)?;
+        views.push((*digest, view))?;
+        rest = behind_digest(rest, digest);
     }
-    Ok(views)
+    views.into_iter().collect(alloc)
 }
 
-/// How a mail is seen that has these files.
-fn view_seen(
-    alloc: Global,
-    digest: &Digest,
-    files: &[MailFile],
-    left: &BTreeMap<Digest, LeftMail>,
-    mails: &[HeldMail],
-) -> Result<View, AllocError> {
-    seen_view(alloc, left_view(digest, left, mails), files)
-}
-
-/// How the mail was left: as it is held, unless it changed since.
+/// How the mail was left: as it is held, unless it changed since. The first mail that isn't before it is told, if there is one.
 fn left_view<'a>(
     digest: &Digest,
     left: &'a BTreeMap<Digest, LeftMail>,
-    mails: &'a [HeldMail],
+    first: Option<&'a HeldMail>,
 ) -> Option<&'a View> {
     match left.get(digest) {
         Some(mail) => mail.view.as_ref(),
-        None => held_view(mails, digest),
+        None => match first {
+            Some(held) if held.digest == *digest => Some(&held.view),
+            _ => None,
+        },
     }
+}
+
+/// The mails from this digest on, of mails in rising order of their digests.
+fn from_digest<'a>(mails: &'a [HeldMail], digest: &Digest) -> &'a [HeldMail] {
+    match mails.first() {
+        Some(first) if first.digest < *digest => behind(mails, place_of(mails, digest)),
+        _ => mails,
+    }
+}
+
+/// The place of the first mail that isn't before this digest.
+fn place_of(mails: &[HeldMail], digest: &Digest) -> usize {
+    match mails.binary_search_by(|mail| mail.digest.cmp(digest)) {
+        Ok(place) => place,
+        Err(place) => place,
+    }
+}
+
+/// The mails without the first one, if that has this digest.
+fn behind_digest<'a>(mails: &'a [HeldMail], digest: &Digest) -> &'a [HeldMail] {
+    match mails.first() {
+        Some(first) if first.digest == *digest => behind(mails, 1),
+        _ => mails,
+    }
+}
+
+/// The mails behind the first so many.
+fn behind(mails: &[HeldMail], count: usize) -> &[HeldMail] {
+    let (_, rest) = mails.split_at(count.min(mails.len()));
+    rest
 }
 
 /// Whether some act takes a mail away, or out of a folder. It costs a binary search for each act.

@@ -22,3 +22,7 @@ replica_bytes birth layout replica shown = (birth ++ flat_map u64 (counts layout
 -- when the parts of a folder changed last, and its path behind its length
 abbrev pub folder_bytes : List ℕ → ℕ → ℕ → List ℕ
 folder_bytes path cur new = flat_map u64 (cur ∷ new ∷ length path ∷ []) ++ path
+
+-- a file of the store: its inode and its size
+abbrev pub size_bytes : ℕ × ℕ → List ℕ
+size_bytes file = flat_map u64 (file.0 ∷ file.1 ∷ [])
