@@ -1,0 +1,11 @@
+-- lemmas
+pub mod Asking
+pub mod Replying
+pub mod Taking
+pub mod Stepping
+pub mod Running
+pub mod Leaving
+pub mod Feeding
+pub mod Reaching
+pub mod Opening
+pub mod Noding
