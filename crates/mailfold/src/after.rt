@@ -5,8 +5,9 @@ use mr_compare::{FolderNote, Meeting, Tally};
 use mr_entry::Note;
 use mr_fold::{FoldFault, Kept, OpenFolder, Settled, settle_folder, sweep_folder};
 use mr_kept::KeptFault;
-use mr_sync::Summary;
+use mr_sync::{Hellos, Summary};
 use mr_talk::TalkFault;
+use std::alloc::Global;
 use std::fs::File;
 use std::rt::Files;
 
@@ -20,6 +21,21 @@ pub struct Talked {
     pub fault: Option<TalkFault>,
     /// How many versions waited for a receipt before it.
     pub waiting: usize,
+    /// The hellos of talks with nothing to tell, this one among them, if the folder was opened for it; else of none.
+    pub idle: Vec<Hellos>,
+}
+
+impl Talked {
+    /// A talk for which the folder wasn't opened, and why it didn't come to its end.
+    pub fn closed(alloc: Global, fault: Option<TalkFault>) -> Talked {
+        Talked {
+            summary: Summary::new(),
+            meeting: None,
+            fault,
+            waiting: 0,
+            idle: Vec::new(alloc),
+        }
+    }
 }
 
 /// What was done after a talk.

@@ -17,6 +17,11 @@ pub fn warn_of_full_log<R: Eprint>(rt: &R, replica: &Replica<SparingKnowledge>) 
     Ok(())
 }
 
+/// Whether the warning is due.
+pub fn has_full_log(replica: &Replica<SparingKnowledge>) -> bool {
+    is_nearly_full(replica.log().len() as u64, replica.event_limit())
+}
+
 /// Whether four fifths of the limit are reached.
 fn is_nearly_full(events: u64, limit: u32) -> bool
     ensures { IsTrue result ↔ (limit * 4 ≤ events * 5) }

@@ -5,19 +5,22 @@ use crate::edited::tell_edited_by;
 use crate::ending::Ending;
 use crate::fault::Fault;
 use crate::full_log::warn_of_full_log;
+use crate::late::{Late, Opens};
+use crate::noted::{RestNote, note_hellos, noted, put_hellos};
+use crate::opener::{Aside, DiskHost, Opener, folder_of, host_of};
 use crate::passed_over::tell_passed_over_by;
 use crate::progress::{Ticker, clear_step, show_step};
+use crate::tallies::nothing;
 use crate::told::{Told, tell_fault, tell_sync, tell_system};
 use crate::watched::Watched;
-use mr_compare::{Digest, Shown, Tally};
-use mr_fold::{OpenFolder, open};
-use mr_folder::{DiskTree, FileTree};
+use mr_compare::{Digest, Tally};
+use mr_fold::{OpenFolder, lock, open_locked};
+use mr_folder::FileTree;
 use mr_journal::{Device, DiskFile};
-use mr_maildir::Layout;
-use mr_sync::{FolderHost, Summary};
+use mr_sync::{FolderHost, Hellos, Summary};
 use mr_talk::{Line, MessageFault, Role, TalkFault, run_talk};
 use std::alloc::Global;
-use std::collections::{BTreeMap, BTreeSet};
+use std::collections::BTreeSet;
 use std::fs::File;
 use std::io::{self, BufReader, BufWriter, Read, Write};
 use std::rt::Files;
@@ -28,13 +31,51 @@ const STREAM_BYTES: usize = 65_536;
 
 /// Scans the folder, talks with the one on the standard streams, and shows what came.
 ///
-/// What came before the talk was cut off is shown too. Who watches is shown how far it is.
+/// What came before the talk was cut off is shown too. Who watches is shown how far it is. A folder that rests isn't opened where a talk
+/// like this one is noted of it.
 pub fn sync_folder<R>(rt: &R, root: &str, role: Role, is_watched: bool) -> Result<Ending, Fault>
 where
     R: Files<File = File> + Input + Print + Eprint + Clock + AllocGlobal + Clone + Drop,
 {
-    let folder = open(rt, root)?;
-    sync_opened(rt, root, folder, role, is_watched)
+    let log = lock(rt, root)?;
+    show_step(rt, is_watched, "sync: looking at the files");
+    let found = noted(rt, root, &log);
+    clear_step(rt, is_watched);
+    match found {
+        Some(noted) => sync_noted(rt, root, log, noted, role, is_watched),
+        None => {
+            let folder = open_locked(rt, root, log)?;
+            sync_opened(rt, root, folder, role, is_watched)
+        }
+    }
+}
+
+/// Syncs a folder that rests, and opens it once it has to.
+fn sync_noted<R>(
+    rt: &R,
+    root: &str,
+    log: DiskFile,
+    noted: RestNote,
+    role: Role,
+    is_watched: bool,
+) -> Result<Ending, Fault>
+where
+    R: Files<File = File> + Input + Print + Eprint + Clock + AllocGlobal + Clone + Drop,
+{
+    let RestNote {
+        id,
+        passed_over,
+        talks,
+    } = noted;
+    tell_passed_over_by(rt, id, &passed_over)?;
+    let before = Before {
+        id,
+        tally: nothing(),
+        is_fresh: false,
+    };
+    let late = Late::new(Opener::new(rt, root, Some(log), None), None, talks);
+    let wanted = BTreeSet::new(rt.alloc());
+    sync_late(rt, root, late, before, role, &wanted, is_watched)
 }
 
 /// Syncs a folder that is open.
@@ -49,13 +90,40 @@ where
     R: Files<File = File> + Input + Print + Eprint + Clock + AllocGlobal + Clone + Drop,
 {
     let before = scan_before(rt, root, &mut folder, role, is_watched)?;
-    let (mut folder, talked) = talk(rt, folder, role, is_watched)?;
-    end_sync(rt, &mut folder, before, talked, is_watched)
+    let wanted = lacking_mails(rt.alloc(), folder.kept.replica(), &folder.shown)?;
+    let (host, aside) = host_of(folder);
+    let opener = Opener::new(rt, root, None, Some(aside));
+    let late = Late::new(opener, Some(host), Vec::new(rt.alloc()));
+    sync_late(rt, root, late, before, role, &wanted, is_watched)
+}
+
+/// Talks for a folder that is open, or will be once it has to, and shows what came.
+fn sync_late<R>(
+    rt: &R,
+    root: &str,
+    late: Late<DiskHost<R>, Opener<R>>,
+    before: Before,
+    role: Role,
+    wanted: &BTreeSet<Digest>,
+    is_watched: bool,
+) -> Result<Ending, Fault>
+where
+    R: Files<File = File> + Input + Print + Eprint + Clock + AllocGlobal + Clone + Drop,
+{
+    let ticker = Ticker::new(rt, is_watched);
+    let mut watched = Watched { late, ticker };
+    let (now, fault) = talk(rt, &mut watched, role, wanted)?;
+    clear_step(rt, is_watched);
+    let Watched { late, .. } = watched;
+    let (folder, talked) = ended(late, fault, now)?;
+    end_sync(rt, root, folder, before, talked, is_watched)
 }
 
 /// What was done before a talk.
 #[derive(Clone, Copy)]
 struct Before {
+    /// The folder's replica.
+    id: u16,
     tally: Tally,
     /// Whether the folder was never scanned before.
     is_fresh: bool,
@@ -81,15 +149,17 @@ where
     tell_passed_over_by(rt, id, &settled.passed_over)?;
     tell_edited_by(rt, id, settled.edited)?;
     Ok(Before {
+        id,
         tally: settled.tally,
         is_fresh,
     })
 }
 
-/// Shows what came, and tells what the sync did, or why the talk did not come to its end.
+/// Shows what came where the folder is open, and tells what the sync did, or why the talk did not come to its end.
 fn end_sync<R>(
     rt: &R,
-    folder: &mut OpenFolder<R>,
+    root: &str,
+    folder: Option<OpenFolder<R>>,
     before: Before,
     talked: Talked,
     is_watched: bool,
@@ -97,13 +167,34 @@ fn end_sync<R>(
 where
     R: Files<File = File> + Eprint + AllocGlobal + Clone + Drop,
 {
-    let after = show_after(rt, folder, &talked, before.is_fresh, is_watched);
-    let id = folder.kept.replica().id().id();
+    let after = match folder {
+        Some(mut folder) => end_open(rt, root, &mut folder, before, &talked, is_watched),
+        None => Ok(nothing()),
+    };
     let Talked { summary, fault, .. } = talked;
     match fault {
         Some(fault) => Err(cut_off(rt, after, fault)),
-        None => tell_whole(rt, id, before, after, &summary),
+        None => tell_whole(rt, before, after, &summary),
     }
+}
+
+/// Shows what came, and notes the hellos of a talk with nothing to tell.
+fn end_open<R>(
+    rt: &R,
+    root: &str,
+    folder: &mut OpenFolder<R>,
+    before: Before,
+    talked: &Talked,
+    is_watched: bool,
+) -> Result<Tally, Fault>
+where
+    R: Files<File = File> + Eprint + AllocGlobal + Clone + Drop,
+{
+    let tally = show_after(rt, folder, talked, before.is_fresh, is_watched)?;
+    if !before.is_fresh {
+        note_hellos(rt, root, folder, &talked.idle);
+    }
+    Ok(tally)
 }
 
 /// Shows what came. Where the talk was cut off, what the system said of the files is told.
@@ -145,14 +236,13 @@ fn cut_off<R: Eprint + AllocGlobal>(
 /// Tells what a sync did that came to its end.
 fn tell_whole<R: Eprint>(
     rt: &R,
-    id: u16,
     before: Before,
     after: Result<Tally, Fault>,
     summary: &Summary,
 ) -> Result<Ending, Fault> {
     let after = after?;
     let told = Told {
-        id,
+        id: before.id,
         before: &before.tally,
         after: &after,
         summary,
@@ -162,129 +252,125 @@ fn tell_whole<R: Eprint>(
     Ok(Ending::Done)
 }
 
-/// What a folder has that a talk doesn't ask for.
-#[derive(Drop)]
-struct Aside {
-    alloc: Global,
-    layout: Layout,
-    shown: Shown,
-}
-
-/// Talks for the folder over the standard streams, and gives it back. Where there is no memory for a talk, the folder is closed.
+/// Talks for the folder over the standard streams: when it began to, and why the talk didn't come to its end.
 fn talk<R>(
     rt: &R,
-    folder: OpenFolder<R>,
+    watched: &mut Watched<R, DiskHost<R>, Opener<R>>,
     role: Role,
-    is_watched: bool,
-) -> Result<(OpenFolder<R>, Talked), Fault>
+    wanted: &BTreeSet<Digest>,
+) -> Result<(u64, Option<TalkFault>), Fault>
 where
     R: Files<File = File> + Input + Print + Eprint + Clock + AllocGlobal + Clone + Drop,
 {
-    let wanted = lacking_mails(rt.alloc(), folder.kept.replica(), &folder.shown)?;
+    let now = seconds(rt)?;
     let input = BufReader::with_capacity(rt.alloc(), STREAM_BYTES, rt.reader())?;
     let output = BufWriter::with_capacity(rt.alloc(), STREAM_BYTES, io::writer(rt))?;
     let mut line = Line::new(rt.alloc(), input, output);
-    let now = seconds(rt)?;
-    let ticker = Ticker::new(rt, is_watched);
-    let talked = talk_on(folder, &mut line, role, &wanted, now, ticker);
-    clear_step(rt, is_watched);
-    Ok(talked)
+    let fault = talk_over(rt.alloc(), &mut line, watched, role, wanted);
+    Ok((now, fault))
 }
 
-/// Talks for the folder over a line at this time, and gives it back.
-fn talk_on<R, I: Read + Drop, O: Write + Drop>(
-    folder: OpenFolder<R>,
-    line: &mut Line<I, O>,
-    role: Role,
-    wanted: &BTreeSet<Digest>,
+/// What a talk came to that ended at this time, and the folder if it is open. A fault where it had to be opened and wasn't.
+fn ended<R>(
+    late: Late<DiskHost<R>, Opener<R>>,
+    fault: Option<TalkFault>,
     now: u64,
-    ticker: Ticker<R>,
+) -> Result<(Option<OpenFolder<R>>, Talked), Fault>
+where
+    R: Files<File = File> + AllocGlobal + Clone + Drop,
+{
+    let Late {
+        opener,
+        host,
+        talks,
+        ..
+    } = late;
+    let Opener {
+        rt,
+        aside,
+        fault: unopened,
+        ..
+    } = opener;
+    if let Some(fault) = unopened {
+        return Err(Fault::Folder(fault));
+    }
+    match (host, aside) {
+        (Some(host), Some(aside)) => {
+            let (folder, talked) = talked_of(host, aside, talks, fault, now);
+            Ok((Some(folder), talked))
+        }
+        _ => Ok((None, Talked::closed(rt.alloc(), fault))),
+    }
+}
+
+/// What a talk came to, and the folder. The hellos are put behind those of these talks.
+fn talked_of<R>(
+    host: DiskHost<R>,
+    aside: Aside,
+    talks: Vec<Hellos>,
+    fault: Option<TalkFault>,
+    now: u64,
 ) -> (OpenFolder<R>, Talked)
 where
-    R: Files<File = File> + Eprint + Clock + AllocGlobal + Clone + Drop,
+    R: Files<File = File> + AllocGlobal + Clone + Drop,
 {
-    let waiting = folder.kept.replica().push_outs().len();
-    let (host, aside) = host_of(folder);
-    let (host, fault) = talk_over(aside.alloc, line, Watched { host, ticker }, role, wanted);
+    let waiting = aside.waiting;
     let meeting = host.met(now);
+    let idle = idle_talks(aside.alloc, &host, talks, fault.is_none());
     let (folder, summary) = folder_of(host, aside);
     let talked = Talked {
         summary,
         meeting,
         fault,
         waiting,
+        idle,
     };
     (folder, talked)
 }
 
-/// The folder as it talks.
-fn host_of<R>(folder: OpenFolder<R>) -> (FolderHost<DiskFile, DiskTree<R>>, Aside)
-where
-    R: Files<File = File> + AllocGlobal + Clone + Drop,
-{
-    let OpenFolder {
-        alloc,
-        kept,
-        tree,
-        layout,
-        shown,
-        meetings,
-    } = folder;
-    let host = FolderHost::new(alloc, kept, tree, meetings);
-    let aside = Aside {
-        alloc,
-        layout,
-        shown,
-    };
-    (host, aside)
+/// These talks, and the one that the folder has had, if that was a whole one with nothing to tell; else none.
+fn idle_talks<D: Device + Drop, F: FileTree + Drop>(
+    alloc: Global,
+    host: &FolderHost<D, F>,
+    mut talks: Vec<Hellos>,
+    is_whole: bool,
+) -> Vec<Hellos> {
+    if is_whole
+        && host.summary().is_idle
+        && let Some(hellos) = host.idle_hellos()
+    {
+        put_hellos(&mut talks, hellos);
+        return talks;
+    }
+    Vec::new(alloc)
 }
 
-/// The folder that has talked. It remembers no meetings: nothing asks for them any more.
-fn folder_of<R>(host: FolderHost<DiskFile, DiskTree<R>>, aside: Aside) -> (OpenFolder<R>, Summary)
-where
-    R: Files<File = File> + AllocGlobal + Clone + Drop,
-{
-    let (kept, tree, summary) = host.into_parts();
-    let Aside {
-        alloc,
-        layout,
-        shown,
-    } = aside;
-    let folder = OpenFolder {
-        alloc,
-        kept,
-        tree,
-        layout,
-        shown,
-        meetings: BTreeMap::new(alloc),
-    };
-    (folder, summary)
-}
-
-/// Talks over the line, and wants these files too. Gives the host back, and why the talk didn't come to its end.
-fn talk_over<R, I: Read + Drop, O: Write + Drop, D: Device + Drop, F: FileTree + Drop>(
+/// Talks over the line, and wants these files too. Tells why the talk didn't come to its end.
+fn talk_over<R, I: Read + Drop, O: Write + Drop, D: Device + Drop, F: FileTree + Drop, P>(
     alloc: Global,
     line: &mut Line<I, O>,
-    mut watched: Watched<R, FolderHost<D, F>>,
+    watched: &mut Watched<R, FolderHost<D, F>, P>,
     role: Role,
     wanted: &BTreeSet<Digest>,
-) -> (FolderHost<D, F>, Option<TalkFault>)
+) -> Option<TalkFault>
 where
     R: Eprint + Clock,
+    P: Opens<FolderHost<D, F>> + Drop,
 {
-    let fault = match want_all(&mut watched.host, wanted) {
-        Ok(()) => run_talk(alloc, line, &mut watched, role).err(),
+    match want_all(&mut watched.late.host, wanted) {
+        Ok(()) => run_talk(alloc, line, watched, role).err(),
         Err(fault) => Some(fault),
-    };
-    let Watched { host, .. } = watched;
-    (host, fault)
+    }
 }
 
-/// Wants these files.
+/// Has a folder that is open want these files.
 fn want_all<D: Device + Drop, F: FileTree + Drop>(
-    host: &mut FolderHost<D, F>,
+    host: &mut Option<FolderHost<D, F>>,
     wanted: &BTreeSet<Digest>,
 ) -> Result<(), TalkFault> {
+    let Some(host) = host else {
+        return Ok(());
+    };
     for digest in wanted {
         if host.want(*digest).is_err() {
             return Err(TalkFault::from(MessageFault::OutOfMemory));

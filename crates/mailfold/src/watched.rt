@@ -1,4 +1,7 @@
 //! A folder that talks while somebody watches how far it is.
+ghost use Rattle.std.specs.Prelude.{false, option_map, unwrap_or};
+
+use crate::late::{Late, Opens};
 use crate::progress::Ticker;
 use mr_folder::FileTree;
 use mr_journal::Device;
@@ -17,88 +20,99 @@ impl<D: Device + Drop, F: FileTree + Drop> Counts for FolderHost<D, F> {
     }
 }
 
-/// A host that shows how far it is. It talks as the one within.
+/// A host that shows how far it is. It talks as the one within, which is opened once it has to be.
 #[derive(Drop)]
-pub struct Watched<'a, R, H: Host + Drop> {
-    pub host: H,
+pub struct Watched<'a, R, H: Host + Drop, O: Opens<H> + Drop> {
+    pub late: Late<H, O>,
     pub ticker: Ticker<'a, R>,
 }
 
-impl<R: Eprint + Clock, H: Host + Counts + Drop> Watched<'_, R, H> {
+impl<R: Eprint + Clock, H: Host + Counts + Drop, O: Opens<H> + Drop> Watched<'_, R, H, O> {
     /// Shows how far the talk is, if it is time to.
     fn tick(&mut self) {
-        let counts = self.host.counts();
-        self.ticker.show(&counts);
+        if let Some(host) = &self.late.host {
+            let counts = host.counts();
+            self.ticker.show(&counts);
+        }
     }
 }
 
-impl<R: Eprint + Clock, H: Host + Counts + Drop> Host for Watched<'_, R, H> {
-    ghost waits = { λ w. H.waits w.host };
+impl<R: Eprint + Clock, H: Host + Counts + Drop, O: Opens<H> + Drop> Host for Watched<'_, R, H, O> {
+    ghost waits = { λ w. unwrap_or (option_map (λ h. H.waits h) w.late.host) false };
 
-    ghost files_wait = { λ w. H.files_wait w.host };
+    ghost files_wait = { λ w. unwrap_or (option_map (λ h. H.files_wait h) w.late.host) false };
 
     fn keep(&mut self) -> Result<(), HostFault> {
-        self.host.keep()
+        match &mut self.late.host {
+            Some(host) => host.keep(),
+            None => Ok(()),
+        }
     }
 
     fn keep_files(&mut self) -> Result<(), HostFault> {
-        self.host.keep_files()
+        match &mut self.late.host {
+            Some(host) => host.keep_files(),
+            None => Ok(()),
+        }
     }
 
     fn hello(&mut self, theirs: Option<&Hello>) -> Result<Hello, HostFault> {
-        self.host.hello(theirs)
+        self.late.hello(theirs)
     }
 
     fn meet(&mut self, theirs: &Hello) -> Result<bool, HostFault> {
-        self.host.meet(theirs)
+        self.late.meet(theirs)
     }
 
     fn ask(&mut self) -> Result<Vec<u8>, HostFault> {
-        self.host.ask()
+        self.late.opened()?.ask()
     }
 
     fn next_message(&mut self, turn: Turn) -> Result<Option<Message>, HostFault> {
         self.tick();
-        self.host.next_message(turn)
+        self.late.opened()?.next_message(turn)
     }
 
     fn done(&mut self, turn: Turn) -> Result<Option<Short>, HostFault> {
-        self.host.done(turn)
+        self.late.opened()?.done(turn)
     }
 
     fn take_ask(&mut self, frame: &[u8]) -> Result<(), HostFault> {
-        self.host.take_ask(frame)
+        self.late.opened()?.take_ask(frame)
     }
 
     fn take_file(&mut self, message: &Message) -> Result<(), HostFault> {
-        let taken = self.host.take_file(message);
+        let taken = self.late.opened()?.take_file(message);
         self.tick();
         taken
     }
 
     fn take_missing(&mut self, digest: &[u8]) -> Result<(), HostFault> {
-        self.host.take_missing(digest)
+        self.late.opened()?.take_missing(digest)
     }
 
     fn take_records(&mut self, frames: &[u8]) -> Result<(), HostFault> {
-        let taken = self.host.take_records(frames);
+        let host = self.late.opened()?;
+        // no file waits, be the folder just opened or not
+        host.keep_files()?;
+        let taken = host.take_records(frames);
         self.tick();
         taken
     }
 
     fn take_wants(&mut self, digests: &[u8]) -> Result<(), HostFault> {
-        self.host.take_wants(digests)
+        self.late.opened()?.take_wants(digests)
     }
 
     fn take_push_outs(&mut self, versions: &[u8]) -> Result<(), HostFault> {
-        self.host.take_push_outs(versions)
+        self.late.opened()?.take_push_outs(versions)
     }
 
     fn take_receipts(&mut self, frames: &[u8]) -> Result<(), HostFault> {
-        self.host.take_receipts(frames)
+        self.late.opened()?.take_receipts(frames)
     }
 
     fn take_done(&mut self, knows: &[u8]) -> Result<(), HostFault> {
-        self.host.take_done(knows)
+        self.late.opened()?.take_done(knows)
     }
 }

@@ -67,8 +67,8 @@ pub struct PassedOver {
 
 /// The folders of a Maildir.
 #[derive(Drop)]
-struct Listed {
-    table: FolderTable,
+pub(crate) struct Listed {
+    pub(crate) table: FolderTable,
     /// How many names of folders aren't UTF-8.
     unreadable: u64,
 }
@@ -353,7 +353,7 @@ fn told_of(found: Found) -> Looked {
 }
 
 /// What is passed over, with so many names in the folders.
-fn passed_over(listed: Listed, names: u64) -> PassedOver {
+pub(crate) fn passed_over(listed: Listed, names: u64) -> PassedOver {
     let Listed { table, unreadable } = listed;
     PassedOver {
         layout: table.layout(),
@@ -441,9 +441,18 @@ fn look_at<R: Files<File = File> + AllocGlobal + Clone + Drop>(
 fn listed_in<R: Files<File = File> + AllocGlobal + Clone + Drop>(
     folder: &mut OpenFolder<R>,
 ) -> Result<Listed, FoldFault> {
-    match folder.tree.folders(folder.alloc) {
-        Ok(found) => listed_of(folder.alloc, folder.layout, found),
-        Err(_) => Err(files_failed(folder.tree.error())),
+    listed_at(folder.alloc, &mut folder.tree, folder.layout)
+}
+
+/// The folders of these files, which lie so.
+pub(crate) fn listed_at<R: Files<File = File> + AllocGlobal + Clone + Drop>(
+    alloc: Global,
+    tree: &mut DiskTree<R>,
+    layout: Layout,
+) -> Result<Listed, FoldFault> {
+    match tree.folders(alloc) {
+        Ok(found) => listed_of(alloc, layout, found),
+        Err(_) => Err(files_failed(tree.error())),
     }
 }
 

@@ -146,9 +146,30 @@ pub fn open<R: Files<File = File> + AllocGlobal + Clone + Drop>(
     rt: &R,
     root: &str,
 ) -> Result<OpenFolder<R>, FoldFault> {
-    let alloc = rt.alloc();
+    let log = lock(rt, root)?;
+    open_locked(rt, root, log)
+}
+
+/// Locks a folder that [`init`] made, for as long as the log's file lives. The log isn't read.
+///
+/// `NoFolder`, `NotMade`, `InUse` and `System` as [`open`] has them.
+pub fn lock<R: Files<File = File> + AllocGlobal>(
+    rt: &R,
+    root: &str,
+) -> Result<DiskFile, FoldFault> {
     check_made(rt, root)?;
-    let (kept, notes) = open_log(rt, root)?;
+    let path = log_path(rt.alloc(), root)?;
+    Ok(DiskFile::open(rt, path.as_str())?)
+}
+
+/// Opens a folder that was locked by its log's file. The faults are the others of [`open`].
+pub fn open_locked<R: Files<File = File> + AllocGlobal + Clone + Drop>(
+    rt: &R,
+    root: &str,
+    log: DiskFile,
+) -> Result<OpenFolder<R>, FoldFault> {
+    let alloc = rt.alloc();
+    let (kept, notes) = open_log(rt, log)?;
     let shown = shown_of(alloc, &notes)?;
     let meetings = meetings_of(alloc, &notes)?;
     let (tree, layout) = open_tree(rt, root)?;
@@ -180,10 +201,8 @@ pub fn check_made<R: Files + AllocGlobal>(rt: &R, root: &str) -> Result<(), Fold
 /// Opens the replica, with the notes of its journal.
 fn open_log<R: Files<File = File> + AllocGlobal>(
     rt: &R,
-    root: &str,
+    file: DiskFile,
 ) -> Result<(Kept, Vec<Note>), FoldFault> {
-    let path = log_path(rt.alloc(), root)?;
-    let file = DiskFile::open(rt, path.as_str())?;
     let mark = mark_for(rt, &file)?;
     match Kept::open(rt.alloc(), file, &mark, None) {
         Ok((kept, opened)) => Ok((kept, opened.notes)),
@@ -193,7 +212,7 @@ fn open_log<R: Files<File = File> + AllocGlobal>(
 }
 
 /// Opens the files, and finds how the folders lie.
-fn open_tree<R: Files<File = File> + AllocGlobal + Clone + Drop>(
+pub(crate) fn open_tree<R: Files<File = File> + AllocGlobal + Clone + Drop>(
     rt: &R,
     root: &str,
 ) -> Result<(DiskTree<R>, Layout), FoldFault> {

@@ -1,17 +1,19 @@
 //! What a folder's note of rest spells: numbers are big-endian, each of eight bytes.
-ghost use Rattle.std.specs.Prelude.{◌≡◌, ◌++◌, IfOk, OnOk, length};
+ghost use Rattle.std.specs.Prelude.{◌≡◌, ◌++◌, IfOk, IfSome, OnOk, length};
+ghost use Rattle.sha2.specs.Sha256.{sha256};
 ghost use Rattle.std.specs.List.{flat_map};
 ghost use Rattle.mr_wire.specs.Spelling.{u64, name_bytes};
 ghost use Rattle.mr_fold.specs.inner.Resting as specs;
 ghost use Rattle.mr_fold.specs.inner.Resting.{folder_bytes, layout_number, size_bytes};
 
 use mr_compare::Shown;
-use mr_entry::Birth;
+use mr_entry::{Birth, Mark};
 use mr_itemset::SparingKnowledge;
 use mr_maildir::Layout;
 use mr_replica::Replica;
 use mr_version::ItemId;
 use mr_wire::parts::{put_u64, put_version};
+use sha2::{Digest, Sha256};
 use std::alloc::{AllocError, Global};
 
 /// What of a replica with this birth, and of what its Maildir shows, tells whether it changed.
@@ -84,6 +86,41 @@ fn put_items(out: &mut Vec<u8>, items: &[ItemId]) -> Result<(), AllocError>
         put_version(out, item.creator())?;
     }
     Ok(())
+}
+
+/// What of a folder whose log isn't read tells whether it changed: the mark of its log's file, how its folders lie, and how its files stand.
+pub(crate) fn closed_bytes(
+    alloc: Global,
+    mark: &Mark,
+    layout: Layout,
+    files: &[u8],
+) -> Result<Vec<u8>, AllocError>
+    ensures { IfOk result (λ bytes. bytes.items ≡ specs.closed_bytes mark.now layout files.now) }
+{
+    let mut out = Vec::from_slice(alloc, mark)?;
+    put_u64(&mut out, layout_number(layout))?;
+    out.extend_from_slice(files)?;
+    Ok(out)
+}
+
+/// Bytes behind their digest.
+pub(crate) fn sealed_bytes(alloc: Global, bytes: &[u8]) -> Result<Vec<u8>, AllocError>
+    ensures { IfOk result (λ sealed. sealed.items ≡ sha256 bytes.now ++ bytes.now) }
+{
+    let mut out = Vec::from_slice(alloc, &Sha256::digest(bytes))?;
+    out.extend_from_slice(bytes)?;
+    Ok(out)
+}
+
+/// The bytes behind their digest, if it is theirs.
+pub(crate) fn unsealed(sealed: &[u8]) -> Option<&[u8]>
+    ensures { IfSome result (λ bytes. sealed.now ≡ sha256 bytes.now ++ bytes.now) }
+{
+    let (digest, bytes) = sealed.split_first_chunk::<32>()?;
+    if Sha256::digest(bytes) != *digest {
+        return None;
+    }
+    Some(bytes)
 }
 
 /// A note: how long the stand is, the stand, and what was seen. So the note of no stand begins as that of another one.

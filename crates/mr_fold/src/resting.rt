@@ -5,6 +5,7 @@ ghost use Rattle.std.specs.Prelude.{◌≡◌, ◌+◌, ◌*◌, ◌<◌, ◌^�
 use crate::opening::OpenFolder;
 use crate::rest_bytes::{put_folder, put_numbers, replica_bytes, rest_bytes, store_bytes};
 use mr_folder::{DiskTree, FolderPath, Folders};
+use mr_maildir::Layout;
 use mr_scan::{FolderTable, MailFolder};
 use sha2::{Digest, Sha256};
 use std::alloc::Global;
@@ -20,7 +21,7 @@ const NOTE: &str = "tmp/rest";
 #[derive(Drop)]
 pub(crate) struct Stand {
     /// Others, as soon as its replica, its store, or the names in one of its folders change.
-    bytes: Vec<u8>,
+    pub(crate) bytes: Vec<u8>,
     /// The latest time of a change of the store or of a folder, in nanoseconds since 1970.
     newest: u64,
 }
@@ -35,11 +36,37 @@ pub(crate) fn stand_of<R: Files<File = File> + AllocGlobal + Clone + Drop>(
     if !folder.kept.is_kept() {
         return None;
     }
-    let (birth, layout) = (folder.kept.birth(), table.layout());
+    let files = files_stand(rt, root, &folder.tree, table)?;
+    stand_with(rt.alloc(), folder, table.layout(), &files)
+}
+
+/// How the folder stands, whose files stand so.
+pub(crate) fn stand_with<R: Drop>(
+    alloc: Global,
+    folder: &OpenFolder<R>,
+    layout: Layout,
+    files: &Stand,
+) -> Option<Stand> {
+    let birth = folder.kept.birth();
     let replica = folder.kept.replica();
-    let mut bytes = replica_bytes(rt.alloc(), birth, layout, replica, &folder.shown).ok()?;
+    let mut bytes = replica_bytes(alloc, birth, layout, replica, &folder.shown).ok()?;
+    bytes.extend_from_slice(&files.bytes).ok()?;
+    Some(Stand {
+        bytes,
+        newest: files.newest,
+    })
+}
+
+/// How the log, the store and these folders stand.
+pub(crate) fn files_stand<R: Files<File = File> + AllocGlobal + Clone + Drop>(
+    rt: &R,
+    root: &str,
+    tree: &DiskTree<R>,
+    table: &FolderTable,
+) -> Option<Stand> {
+    let mut bytes = Vec::new(rt.alloc());
     let store = put_own(rt, root, &mut bytes)?;
-    let newest = put_folders(&folder.tree, table.folders(), &mut bytes)?;
+    let newest = put_folders(tree, table.folders(), &mut bytes)?;
     Some(Stand {
         bytes,
         newest: newest.max(store),
@@ -52,7 +79,7 @@ pub(crate) fn is_noted<R: Files<File = File> + AllocGlobal>(
     root: &str,
     stand: &Stand,
 ) -> bool {
-    noted(rt, root, stand).is_some()
+    noted(rt, root, NOTE, &stand.bytes).is_some()
 }
 
 /// Whether the note has that the folder stood so, with names of this digest in its folders, and with the sizes that the store's files have.
@@ -71,7 +98,7 @@ fn has_noted<R: Files<File = File> + AllocGlobal + Clone + Drop>(
     stand: &Stand,
     names: &[u8; 32],
 ) -> Option<bool> {
-    let seen = noted(rt, root, stand)?;
+    let seen = noted(rt, root, NOTE, &stand.bytes)?;
     if !seen.as_slice().starts_with(names) {
         return Some(false);
     }
@@ -80,15 +107,16 @@ fn has_noted<R: Files<File = File> + AllocGlobal + Clone + Drop>(
     Some(now.as_slice() == seen.as_slice())
 }
 
-/// What the note has behind this stand, if it is the one that it has.
-fn noted<R: Files<File = File> + AllocGlobal>(
+/// What a note has behind this stand, if it is the one that it has.
+pub(crate) fn noted<R: Files<File = File> + AllocGlobal>(
     rt: &R,
     root: &str,
-    stand: &Stand,
+    note: &str,
+    stand: &[u8],
 ) -> Option<Vec<u8>> {
-    let path = own_path(rt.alloc(), root, NOTE)?;
+    let path = own_path(rt.alloc(), root, note)?;
     let bytes = fs::read(rt, path.as_str()).ok()?;
-    let begins = rest_bytes(rt.alloc(), &stand.bytes, &[]).ok()?;
+    let begins = rest_bytes(rt.alloc(), stand, &[]).ok()?;
     let seen = bytes.as_slice().strip_prefix(begins.as_slice())?;
     Vec::from_slice(rt.alloc(), seen).ok()
 }
@@ -161,18 +189,19 @@ pub(crate) fn note_stand<R: Files<File = File> + AllocGlobal>(
         return;
     }
     // without the note the next command looks at all again
-    let _ = write_note(rt, root, after, seen);
+    let _ = write_note(rt, root, NOTE, &after.bytes, seen);
 }
 
-/// Writes the note, if it can be.
-fn write_note<R: Files<File = File> + AllocGlobal>(
+/// Writes a note, if it can be.
+pub(crate) fn write_note<R: Files<File = File> + AllocGlobal>(
     rt: &R,
     root: &str,
-    stand: &Stand,
+    note: &str,
+    stand: &[u8],
     seen: &[u8],
 ) -> Option<()> {
-    let path = own_path(rt.alloc(), root, NOTE)?;
-    let bytes = rest_bytes(rt.alloc(), &stand.bytes, seen).ok()?;
+    let path = own_path(rt.alloc(), root, note)?;
+    let bytes = rest_bytes(rt.alloc(), stand, seen).ok()?;
     fs::write(rt, path.as_str(), bytes.as_slice()).ok()
 }
 

@@ -3,6 +3,7 @@ pub mod FrameRuns
 pub mod GrowLaws
 pub mod HelloLaws
 pub mod HostLaws
+pub mod IdleLaws
 pub mod ListLaws
 pub mod MarkLaws
 pub mod SayLaws

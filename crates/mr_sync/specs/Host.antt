@@ -1,5 +1,5 @@
 -- an open folder as it talks: what it was opened with, and the files that it lacks
-use Rattle.std.specs.Prelude.{◌≡◌, ◌==◌, ℕ, Bool, not, [], List, length, Option, option_map}
+use Rattle.std.specs.Prelude.{◌≡◌, ◌==◌, ℕ, Bool, false, not, [], List, length, Option, option_map}
 use Rattle.std.specs.BTreeMap.{BTreeMap, get}
 use Rattle.std.specs.BTreeSet.{insert_key}
 use Rattle.std.specs.Cmp.Lexicographic.{slice_cmp}
@@ -12,8 +12,10 @@ use Rattle.mr_kept.specs.declared.journaled.Journaled.{Journaled}
 use Rattle.mr_talk.specs.declared.hello.Hello.{Hello}
 use Rattle.mr_sync.specs.Asking.{AsksMet, IsMetAskFault, TakesMetAsk}
 use Rattle.mr_sync.specs.Hello.{IsHelloOf, Judges, met_by}
+use Rattle.mr_sync.specs.Idle.{AreIdle}
 use Rattle.mr_sync.specs.declared.fault.SyncFault.{SyncFault}
 use Rattle.mr_sync.specs.declared.host.FolderHost.{FolderHost}
+use Rattle.mr_sync.specs.declared.idle.Hellos.{Hellos}
 
 module _ {D F : Type 0} where
   -- the replica with its journal
@@ -81,3 +83,8 @@ module _ {D F : Type 0} where
   -- what the folder finds of the one that said this: nothing stands in the way, and whether there is something to tell
   abbrev pub JudgesOf : FolderHost D F → Hello → Bool → Type 0
   JudgesOf h theirs = Judges (head_of (journaled_of h)).birth (replica_of (journaled_of h)) (lacks_files h) theirs (option_map met_by (get nat_cmp (meetings_of h) theirs.id))
+
+  -- the folder lacks no file, and has nothing to tell by these hellos
+  pub record IsIdle (h : FolderHost D F) (talk : Hellos) : Type 0 where
+    pub lacks_none : lacks_files h ≡ false
+    pub idle : AreIdle (head_of (journaled_of h)).birth (replica_of (journaled_of h)) (meetings_of h) talk

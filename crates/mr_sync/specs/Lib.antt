@@ -2,6 +2,7 @@ pub mod Asking
 pub mod Fault
 pub mod Hello
 pub mod Host
+pub mod Idle
 pub mod Lists
 pub mod Marks
 pub mod Rows

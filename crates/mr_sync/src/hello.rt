@@ -215,17 +215,20 @@ pub(crate) fn verdict(
     }
 }
 
-/// Whether there is nothing to tell the other side, by what the folder knows now and whether it lacks files; or why nothing may be told.
+/// What the folder says to the other side, and whether there is nothing to tell it, by what is known now and whether the folder lacks
+/// files; or why nothing may be told.
 pub(crate) fn judge<D: Device + Drop>(
     alloc: Global,
     kept: &Journaled<SparingKnowledge, D>,
     meetings: &BTreeMap<u16, Meeting>,
     lacks: bool,
     theirs: &Hello,
-) -> Result<bool, SyncFault>
-    ensures { IfOk result (λ is_idle. Judges (head_of kept.now).birth (replica_of kept.now) lacks theirs.now (option_map met_by (get nat_cmp meetings.now theirs.now.id)) is_idle) }
+) -> Result<(Hello, bool), SyncFault>
+    ensures says { IfOk result (λ said. IsHelloOf (head_of kept.now).birth (replica_of kept.now) lacks (Some theirs.now.id) said.0) }
+    ensures judges { IfOk result (λ said. Judges (head_of kept.now).birth (replica_of kept.now) lacks theirs.now (option_map met_by (get nat_cmp meetings.now theirs.now.id)) said.1) }
 {
     let mine = folder_hello(alloc, kept, lacks, Some(theirs.id))?;
     let tip = tip_told(alloc, kept.replica(), theirs.id, theirs.issued)?;
-    verdict(&mine, theirs, tip, remembered(meetings, theirs.id))
+    let is_idle = verdict(&mine, theirs, tip, remembered(meetings, theirs.id))?;
+    Ok((mine, is_idle))
 }

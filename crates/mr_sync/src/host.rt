@@ -8,6 +8,7 @@ use crate::ending::{end, meeting_of};
 use crate::fault::{SyncFault, answered};
 use crate::files::take_file_message;
 use crate::hello::{folder_hello, id_of, judge};
+use crate::idle::Hellos;
 use crate::receipts::take_receipts_message;
 use crate::records::take_records_message;
 use crate::said::keep_and_say;
@@ -38,7 +39,7 @@ pub struct FolderHost<D: Device + Drop, F: FileTree + Drop> {
 }
 
 impl<D: Device + Drop, F: FileTree + Drop> FolderHost<D, F> {
-    ghost use Rattle.mr_sync.specs.Host.{IsOpened, LacksToo, SameFolder, files_of, journaled_of};
+    ghost use Rattle.mr_sync.specs.Host.{IsIdle, IsOpened, LacksToo, SameFolder, files_of, journaled_of};
     ghost use Rattle.mr_sync.specs.declared.fault.SyncFault.TheVariants.{OutOfMemory};
 
     /// A folder that hasn't talked yet, and what it remembers of those that it met, by their ids.
@@ -78,6 +79,21 @@ impl<D: Device + Drop, F: FileTree + Drop> FolderHost<D, F> {
         let mine = self.talk.mine?;
         let knows = self.talk.knows?;
         Some(meeting_of(&theirs, &mine, &knows, time))
+    }
+
+    /// The hellos by which there is nothing to tell, if the other side has said its own: what is to be noted where the talk ended with them.
+    /// `None` too where the folder lacks files, and where memory runs out. It costs what a hello costs.
+    pub fn idle_hellos(&self) -> Option<Hellos>
+        ensures { IfSome result (IsIdle self.now) }
+    {
+        let theirs = self.talk.theirs?;
+        if self.talk.arriving.lacks() {
+            return None;
+        }
+        match judge(self.alloc, &self.kept, &self.meetings, false, &theirs) {
+            Ok((mine, true)) => Some(Hellos { mine, theirs }),
+            _ => None,
+        }
     }
 
     /// What came and went so far.
@@ -140,8 +156,9 @@ impl<D: Device + Drop, F: FileTree + Drop> Host for FolderHost<D, F> {
     {
         self.talk.theirs = Some(*theirs);
         let lacks = self.talk.arriving.lacks();
-        let met = judge(self.alloc, &self.kept, &self.meetings, lacks, theirs);
-        answered(self.alloc, met)
+        let said = judge(self.alloc, &self.kept, &self.meetings, lacks, theirs);
+        let (_mine, is_idle) = answered(self.alloc, said)?;
+        Ok(is_idle)
     }
 
     fn ask(&mut self) -> Result<Vec<u8>, HostFault>

@@ -4,7 +4,8 @@
 //! [`Host`](mr_talk::Host) of it: it says who the folder is, asks for what it lacks, tells what the other side asks for, each
 //! file before the record that names it, unless the mail is gone by that, and takes what the other side tells. What the
 //! replica did is kept before anything that comes of it leaves. What comes is a stranger's: what is wrong ends the talk by a fault, and what was taken before
-//! stays.
+//! stays. Where there was nothing to tell, what both sides said may be noted ([`FolderHost::idle_hellos`], [`write_hellos`]): for a talk like that one
+//! ([`idle_answer`]) the folder as it is needn't be opened.
 //!
 //! ```
 //! let mut host = FolderHost::new(alloc, kept, files, meetings);
@@ -21,6 +22,7 @@ mod files;
 mod hashing;
 mod hello;
 mod host;
+mod idle;
 mod lists;
 mod marks;
 mod named;
@@ -37,6 +39,7 @@ mod wants;
 
 pub use fault::SyncFault;
 pub use host::FolderHost;
+pub use idle::{HELLOS_BYTES, Hellos, MAX_IDLE_TALKS, idle_answer, read_hellos, write_hellos};
 pub use lists::{
     PushOut, begin_bytes, push_out_list, read_begin, read_digest, read_digests, read_push_outs,
 };

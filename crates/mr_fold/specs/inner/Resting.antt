@@ -19,6 +19,10 @@ counts layout replica shown = layout_number layout ∷ replica.id ∷ length rep
 abbrev pub replica_bytes : {K : Type 0} → List ℕ → Layout → State K → ShownParts → List ℕ
 replica_bytes birth layout replica shown = (birth ++ flat_map u64 (counts layout replica shown)) ++ flat_map name_bytes shown.lacking
 
+-- of a folder whose log isn't read: the mark of the log's file, how the folders lie, and how the files stand
+abbrev pub closed_bytes : List ℕ → Layout → List ℕ → List ℕ
+closed_bytes mark layout files = (mark ++ u64 (layout_number layout)) ++ files
+
 -- when the parts of a folder changed last, and its path behind its length
 abbrev pub folder_bytes : List ℕ → ℕ → ℕ → List ℕ
 folder_bytes path cur new = flat_map u64 (cur ∷ new ∷ length path ∷ []) ++ path
