@@ -30,6 +30,9 @@ pub enum Fault {
     /// Standard output takes no more.
     #[error("standard output: {0}")]
     Output(io::Error),
+    /// A terminal stands in the place of the pipes that a talk goes over.
+    #[error("folders talk over pipes, and a terminal is none: `mailfold-sync DIR COMMAND` joins two")]
+    Terminal,
     #[error("{0} is not held: `mailfold ls` prints the versions that are")]
     NotHeld(Version),
     /// The message is of no mail's file.
@@ -65,6 +68,7 @@ impl Fault {
             | Fault::System(_)
             | Fault::File { .. }
             | Fault::Output(_)
+            | Fault::Terminal
             | Fault::NotHeld(_)
             | Fault::NoMail(_)
             | Fault::Missing(_)

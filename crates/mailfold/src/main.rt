@@ -110,7 +110,7 @@ fn answer(rt: &HostRuntime, request: Request) -> Result<Ending, Fault> {
         Request::Init(request) => init_folder(rt, request),
         Request::Scan(request) => begin_scan(rt, request),
         Request::Sync { folder, is_quiet } => begin_sync(rt, folder, is_quiet),
-        Request::Serve(folder) => sync_folder(rt, folder, Role::Called, false),
+        Request::Serve(folder) => begin_serve(rt, folder),
         Request::Expire(request) => expire_mails(rt, request),
         Request::Renew(request) => renew_folder(rt, request),
         Request::Moved(folder) => move_folder(rt, folder),
@@ -135,10 +135,25 @@ fn begin_scan(rt: &HostRuntime, request: ScanRequest) -> Result<Ending, Fault> {
 
 /// Begins a sync. A terminal is shown how many files were looked at, and how far the talk is.
 fn begin_sync(rt: &HostRuntime, folder: &str, is_quiet: bool) -> Result<Ending, Fault> {
+    check_streams(rt)?;
     let is_watched = is_watched(rt, is_quiet);
     let looks = Looks::none();
     let counting = Counting::new(rt, &looks, is_watched.then_some("sync"));
     sync_folder(&counting, folder, Role::Caller, is_watched)
+}
+
+/// Serves a folder.
+fn begin_serve(rt: &HostRuntime, folder: &str) -> Result<Ending, Fault> {
+    check_streams(rt)?;
+    sync_folder(rt, folder, Role::Called, false)
+}
+
+/// Refuses a terminal in the place of the pipes that a talk goes over.
+fn check_streams(rt: &HostRuntime) -> Result<(), Fault> {
+    if rt.stdin().is_terminal() || rt.stdout().is_terminal() {
+        return Err(Fault::Terminal);
+    }
+    Ok(())
 }
 
 /// Whether a terminal is shown how far a command is: standard error is one, and nobody asked for quiet.

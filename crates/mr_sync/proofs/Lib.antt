@@ -9,3 +9,4 @@ pub mod MarkLaws
 pub mod SayLaws
 pub mod SendLaws
 pub mod TakeLaws
+pub mod PackLaws

@@ -2,6 +2,8 @@
 use Rattle.std.specs.Prelude.{◌≡◌, ℕ}
 use Rattle.mr_forms.specs.declared.fault.FormFault.{FormFault}
 use Rattle.mr_forms.specs.declared.fault.FormFault.TheVariants as form
+use Rattle.mr_talk.specs.declared.packed.PackedFault.{PackedFault}
+use Rattle.mr_talk.specs.declared.packed.PackedFault.TheVariants as packed
 use Rattle.mr_wire.specs.declared.fault.WireFault.{WireFault}
 use Rattle.mr_wire.specs.declared.fault.WireFault.TheVariants as wire
 use Rattle.mr_sync.specs.declared.fault.SyncFault.{SyncFault}
@@ -45,3 +47,8 @@ fault_of_form e = Knowledge e
 abbrev pub fault_of_wire : WireFault → SyncFault
 fault_of_wire wire.OutOfMemory = OutOfMemory
 fault_of_wire e = Frame e
+
+abbrev pub fault_of_packed : PackedFault → SyncFault
+fault_of_packed packed.OutOfMemory = OutOfMemory
+fault_of_packed packed.BadToken = BadList
+fault_of_packed packed.TooLong = BadList

@@ -6,6 +6,7 @@ pub mod Lists
 pub mod Marks
 pub mod Named
 pub mod Said
+pub mod Packed
 pub mod Sending
 pub mod Taken
 pub mod Telling

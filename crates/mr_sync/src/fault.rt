@@ -1,12 +1,12 @@
 //! Why a folder can't go on with a talk.
 ghost use Rattle.std.specs.Prelude.{◌≡◌, ◌≤◌, Ok, IfOk, IsErr, OnErr, string_len, IfErr};
-ghost use Rattle.mr_sync.specs.Fault.{fault_of_form, fault_of_wire, sync_fault_number};
+ghost use Rattle.mr_sync.specs.Fault.{fault_of_form, fault_of_packed, fault_of_wire, sync_fault_number};
 ghost use Rattle.mr_sync.specs.declared.fault.SyncFault.TheVariants.{OutOfMemory, Kept, Files};
 
 use mr_folder::{FilesFailed, StoreFault};
 use mr_forms::FormFault;
 use mr_kept::KeptFault;
-use mr_talk::HostFault;
+use mr_talk::{HostFault, PackedFault};
 use mr_version::Author;
 use mr_wire::WireFault;
 use std::alloc::{AllocError, AllocFailed, Global};
@@ -155,6 +155,17 @@ impl From<WireFault> for SyncFault {
         match fault {
             WireFault::OutOfMemory => SyncFault::OutOfMemory,
             _ => SyncFault::Frame(fault),
+        }
+    }
+}
+
+impl From<PackedFault> for SyncFault {
+    ghost from_gives = { λ e fault. fault ≡ fault_of_packed e };
+
+    fn from(fault: PackedFault) -> SyncFault {
+        match fault {
+            PackedFault::OutOfMemory => SyncFault::OutOfMemory,
+            PackedFault::BadToken | PackedFault::TooLong => SyncFault::BadList,
         }
     }
 }

@@ -26,6 +26,7 @@ mod idle;
 mod lists;
 mod marks;
 mod named;
+mod packed;
 mod receipts;
 mod records;
 mod said;

@@ -8,6 +8,7 @@ ghost use Rattle.mr_sync.specs.inner.Taken.{AreFrames, GrowsOnlyBy, IsNoRecordOf
 
 use crate::fault::SyncFault;
 use crate::named::file_in_frame;
+use crate::packed::unpacked_frames;
 use crate::said::keep_and_say;
 use crate::talk::{Arriving, Talk};
 use mr_compare::Digest;
@@ -141,7 +142,7 @@ pub(crate) fn take_records_message<D: Device + Drop, F: FileTree>(
     bytes: &[u8],
 ) -> Result<(), SyncFault> {
     let source = other_side(&talk.theirs)?;
-    let frames = frames_in(alloc, bytes)?;
+    let frames = unpacked_frames(alloc, &mut talk.arriving.last, bytes)?;
     note_lacking(alloc, files, &frames, &mut talk.arriving.lacking)?;
     take_records(kept, source, frames, &mut talk.arriving)?;
     keep_and_say(alloc, kept, &mut talk.leaving.said)

@@ -9,13 +9,15 @@ use crate::vouching::Waiting;
 use mr_compare::Digest;
 use mr_replica::Received;
 use mr_session::AskedOf;
-use mr_talk::{Hello, Short};
+use mr_talk::{Hello, LastFrame, Short};
 use std::alloc::Global;
 use std::collections::{BTreeMap, BTreeSet, VecDeque};
 
 /// What this side asked for, as far as it came.
 #[derive(Drop)]
 pub(crate) struct Arriving {
+    /// The last frame of a record that came.
+    pub(crate) last: LastFrame,
     /// Whether the other side has told all that was asked for.
     pub(crate) is_finished: bool,
     /// The files that records need and that aren't here, and aren't wanted of the other side yet.
@@ -36,6 +38,7 @@ impl Arriving {
         ensures { result.lacking.keys ≡ [] }
     {
         Arriving {
+            last: LastFrame::new(alloc),
             is_finished: false,
             lacking: BTreeSet::new(alloc),
             wanted: BTreeSet::new(alloc),
@@ -82,6 +85,8 @@ pub(crate) struct Leaving {
     pub(crate) asked: Option<AskedOf>,
     /// What is kept and to be said.
     pub(crate) said: Said,
+    /// The last frame of a record that was said.
+    pub(crate) last: LastFrame,
     /// The file that is being sent.
     pub(crate) sending: Option<Sending>,
     /// How many push-outs are told.
@@ -100,6 +105,7 @@ impl Leaving {
             files_before: None,
             asked: None,
             said: Said::new(alloc),
+            last: LastFrame::new(alloc),
             sending: None,
             push_outs: 0,
             wants: VecDeque::new(alloc),

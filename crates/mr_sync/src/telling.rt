@@ -3,12 +3,13 @@ ghost use Rattle.std.specs.Prelude.{◌≡◌, IfOk, IfSome, IsSome};
 ghost use Rattle.mr_talk.specs.Turns.{next_of};
 ghost use Rattle.mr_talk.specs.declared.kind.Kind.TheVariants as kind;
 ghost use Rattle.mr_talk.specs.declared.turn.Turn.TheVariants as turn;
-ghost use Rattle.mr_sync.specs.inner.Telling.{IsBegun, IsGiven, IsOfKind, TellsRevisions};
+ghost use Rattle.mr_sync.specs.inner.Telling.{IsGiven, IsOfKind, IsOpened, IsWantedFile, TellsRevisions};
 
 use crate::fault::SyncFault;
 use crate::lists::{PUSH_OUT_BYTES, push_out_list};
+use crate::packed::records_message;
 use crate::said::{frames_message, keep_and_say};
-use crate::sending::{Sending, begin_message, file_message, message_of, whole_file};
+use crate::sending::{Sending, begin_message, file_message, message_of, whole_file, whole_message};
 use crate::talk::{Leaving, Talk};
 use crate::vouching::vouch_held;
 use crate::wants::wants_message;
@@ -19,7 +20,7 @@ use mr_journal::Device;
 use mr_kept::Journaled;
 use mr_replica::Revision;
 use mr_session::AskedOf;
-use mr_talk::{Kind, MAX_LIST_BYTES, Message, Turn};
+use mr_talk::{Kind, MAX_LIST_BYTES, MAX_PIECE_BYTES, Message, Turn};
 use mr_version::ItemId;
 use std::alloc::Global;
 
@@ -158,7 +159,7 @@ fn next_told<D: Device + Drop, F: FileTree>(
     if let Some(message) = next_file(alloc, files, leaving)? {
         return Ok(Some(message));
     }
-    if let Some(message) = frames_message(alloc, Kind::Records, &mut leaving.said.records)? {
+    if let Some(message) = records_message(alloc, &mut leaving.last, &mut leaving.said.records)? {
         return Ok(Some(message));
     }
     let push_outs = kept.replica().push_outs();
@@ -200,7 +201,7 @@ fn next_file<F: FileTree>(
     files: &mut F,
     leaving: &mut Leaving,
 ) -> Result<Option<Message>, SyncFault>
-    ensures { IfOk result (λ found. IfSome found (λ message. message.kind ≡ kind.Begin)) }
+    ensures { IfOk result (λ found. IfSome found (λ message. IsOfKind kind.Whole kind.Begin message.kind)) }
 {
     for _ in 0..leaving.said.files.len() {
         let Some(file) = leaving.said.files.pop_front() else {
@@ -226,18 +227,22 @@ fn is_known(asked: Option<&AskedOf>, item: ItemId) -> bool {
     }
 }
 
-/// Begins to send a file, if the store has it whole.
+/// Sends a file, if the store has it whole: in one message where it is small, or as one that is begun.
 fn open_file<F: FileTree>(
     alloc: Global,
     files: &mut F,
     digest: &Digest,
     sending: &mut Option<Sending>,
 ) -> Result<Option<Message>, SyncFault>
-    ensures { IfOk result (λ found. IfSome found (λ message. (message.kind ≡ kind.Begin) × IsBegun digest.now message.bytes sending.new)) }
+    ensures kind { IfOk result (λ found. IfSome found (λ message. IsOfKind kind.Whole kind.Begin message.kind)) }
+    ensures told { IfOk result (λ found. IfSome found (λ message. IsOpened digest.now message sending.old sending.new)) }
 {
     let Some(bytes) = whole_file(alloc, files, digest)? else {
         return Ok(None);
     };
+    if bytes.len() <= MAX_PIECE_BYTES as usize {
+        return Ok(Some(whole_message(alloc, digest, &bytes)?));
+    }
     let message = begin_message(alloc, digest, bytes.len())?;
     *sending = Some(Sending { bytes, told: 0 });
     Ok(Some(message))
@@ -249,7 +254,7 @@ fn next_wanted_file<F: FileTree>(
     files: &mut F,
     leaving: &mut Leaving,
 ) -> Result<Option<Message>, SyncFault>
-    ensures { IfOk result (λ found. IfSome found (λ message. IsOfKind kind.Begin kind.Missing message.kind)) }
+    ensures { IfOk result (λ found. IfSome found (λ message. IsWantedFile message.kind)) }
 {
     let Some(digest) = leaving.wants.pop_front() else {
         return Ok(None);

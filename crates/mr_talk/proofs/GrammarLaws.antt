@@ -5,7 +5,7 @@ use Rattle.std.specs.List.{flat_map}
 use Rattle.std.proofs.lemmas.List.Concat.{flat_map-cons}
 use Rattle.std.proofs.lemmas.Bool.{and_parts}
 use Rattle.mr_talk.specs.declared.kind.Kind.{Kind}
-use Rattle.mr_talk.specs.declared.kind.Kind.TheVariants.{Hello, Idle, Ask, Begin, Piece, End, Missing, Records, Wants, PushOuts, Receipts, Turn as Passes, Done, Fault}
+use Rattle.mr_talk.specs.declared.kind.Kind.TheVariants.{Hello, Idle, Ask, Begin, Piece, End, Missing, Records, Wants, PushOuts, Receipts, Turn as Passes, Done, Fault, Whole}
 use Rattle.mr_talk.specs.declared.turn.Turn.{Turn}
 use Rattle.mr_talk.specs.declared.turn.Turn.TheVariants.{CallerGreets, CalledGreets, CalledAsks, CalledPasses, CallerAsks, CallerTells, CallerTellsFile, CalledTells, CalledTellsFile, CallerSettles, CallerSettlesFile, CallerWants, CalledSettles, CalledSettlesFile, CalledCloses, CallerCloses, Over, Failed}
 use Rattle.mr_talk.specs.Turns.{next_of, Leads}
@@ -217,23 +217,23 @@ ends_turn = is_in (Passes ∷ Done ∷ Fault ∷ [])
 abbrev ends_last : Kind → Bool
 ends_last = is_in (Done ∷ Fault ∷ [])
 
-told_stage : Stage CallerTells CallerTellsFile (Records ∷ PushOuts ∷ []) true
-told_stage = file_stage CallerTells CallerTellsFile (Records ∷ PushOuts ∷ []) refl refl refl refl
+told_stage : Stage CallerTells CallerTellsFile (Whole ∷ Records ∷ PushOuts ∷ []) true
+told_stage = file_stage CallerTells CallerTellsFile (Whole ∷ Records ∷ PushOuts ∷ []) refl refl refl refl
 
-told_sorts : Sorts CallerTells CallerTellsFile (Records ∷ PushOuts ∷ []) true ends_third
-told_sorts = sorts_from CallerTells CallerTellsFile (Records ∷ PushOuts ∷ []) true ends_third refl refl refl refl
+told_sorts : Sorts CallerTells CallerTellsFile (Whole ∷ Records ∷ PushOuts ∷ []) true ends_third
+told_sorts = sorts_from CallerTells CallerTellsFile (Whole ∷ Records ∷ PushOuts ∷ []) true ends_third refl refl refl refl
 
-back_stage : Stage CalledTells CalledTellsFile (Records ∷ PushOuts ∷ Receipts ∷ Wants ∷ []) true
-back_stage = file_stage CalledTells CalledTellsFile (Records ∷ PushOuts ∷ Receipts ∷ Wants ∷ []) refl refl refl refl
+back_stage : Stage CalledTells CalledTellsFile (Whole ∷ Records ∷ PushOuts ∷ Receipts ∷ Wants ∷ []) true
+back_stage = file_stage CalledTells CalledTellsFile (Whole ∷ Records ∷ PushOuts ∷ Receipts ∷ Wants ∷ []) refl refl refl refl
 
-back_sorts : Sorts CalledTells CalledTellsFile (Records ∷ PushOuts ∷ Receipts ∷ Wants ∷ []) true ends_turn
-back_sorts = sorts_from CalledTells CalledTellsFile (Records ∷ PushOuts ∷ Receipts ∷ Wants ∷ []) true ends_turn refl refl refl refl
+back_sorts : Sorts CalledTells CalledTellsFile (Whole ∷ Records ∷ PushOuts ∷ Receipts ∷ Wants ∷ []) true ends_turn
+back_sorts = sorts_from CalledTells CalledTellsFile (Whole ∷ Records ∷ PushOuts ∷ Receipts ∷ Wants ∷ []) true ends_turn refl refl refl refl
 
-settled_stage : Stage CallerSettles CallerSettlesFile (Missing ∷ Receipts ∷ Wants ∷ []) true
-settled_stage = file_stage CallerSettles CallerSettlesFile (Missing ∷ Receipts ∷ Wants ∷ []) refl refl refl refl
+settled_stage : Stage CallerSettles CallerSettlesFile (Whole ∷ Missing ∷ Receipts ∷ Wants ∷ []) true
+settled_stage = file_stage CallerSettles CallerSettlesFile (Whole ∷ Missing ∷ Receipts ∷ Wants ∷ []) refl refl refl refl
 
-settled_sorts : Sorts CallerSettles CallerSettlesFile (Missing ∷ Receipts ∷ Wants ∷ []) true ends_turn
-settled_sorts = sorts_from CallerSettles CallerSettlesFile (Missing ∷ Receipts ∷ Wants ∷ []) true ends_turn refl refl refl refl
+settled_sorts : Sorts CallerSettles CallerSettlesFile (Whole ∷ Missing ∷ Receipts ∷ Wants ∷ []) true ends_turn
+settled_sorts = sorts_from CallerSettles CallerSettlesFile (Whole ∷ Missing ∷ Receipts ∷ Wants ∷ []) true ends_turn refl refl refl refl
 
 wanted_stage : Stage CallerWants Failed (Receipts ∷ Wants ∷ []) false
 wanted_stage = plain_stage CallerWants (Receipts ∷ Wants ∷ []) refl
@@ -241,11 +241,11 @@ wanted_stage = plain_stage CallerWants (Receipts ∷ Wants ∷ []) refl
 wanted_sorts : Sorts CallerWants Failed (Receipts ∷ Wants ∷ []) false ends_turn
 wanted_sorts = sorts_from CallerWants Failed (Receipts ∷ Wants ∷ []) false ends_turn refl refl refl refl
 
-settled_back_stage : Stage CalledSettles CalledSettlesFile (Missing ∷ Receipts ∷ []) true
-settled_back_stage = file_stage CalledSettles CalledSettlesFile (Missing ∷ Receipts ∷ []) refl refl refl refl
+settled_back_stage : Stage CalledSettles CalledSettlesFile (Whole ∷ Missing ∷ Receipts ∷ []) true
+settled_back_stage = file_stage CalledSettles CalledSettlesFile (Whole ∷ Missing ∷ Receipts ∷ []) refl refl refl refl
 
-settled_back_sorts : Sorts CalledSettles CalledSettlesFile (Missing ∷ Receipts ∷ []) true ends_last
-settled_back_sorts = sorts_from CalledSettles CalledSettlesFile (Missing ∷ Receipts ∷ []) true ends_last refl refl refl refl
+settled_back_sorts : Sorts CalledSettles CalledSettlesFile (Whole ∷ Missing ∷ Receipts ∷ []) true ends_last
+settled_back_sorts = sorts_from CalledSettles CalledSettlesFile (Whole ∷ Missing ∷ Receipts ∷ []) true ends_last refl refl refl refl
 
 closes_stage : Stage CalledCloses Failed (Receipts ∷ []) false
 closes_stage = plain_stage CalledCloses (Receipts ∷ []) refl
@@ -327,7 +327,7 @@ closing S d f ks l = at_kind l.kind l.leaves l.is_next l.whole
 late_is : (ks : List Kind) → Leads CalledSettles ks Over → IsLate ks
 late_is ks r = at_left (parsed settled_back_sorts ks r)
   where
-    at_left : Leaves CalledSettles (Missing ∷ Receipts ∷ []) true ends_last ks → IsLate ks
+    at_left : Leaves CalledSettles (Whole ∷ Missing ∷ Receipts ∷ []) true ends_last ks → IsLate ks
     at_left l = at_kind l.kind l.leaves l.is_next l.whole
       where
         at_kind : (k : Kind) → IsTrue (ends_last k) → next_of CalledSettles k ≡ Some l.next → ks ≡ l.said ++ k ∷ l.rest → IsLate ks
@@ -340,7 +340,7 @@ late_is ks r = at_left (parsed settled_back_sorts ks r)
 open_is : (ks : List Kind) → Leads CallerSettles ks Over → IsOpen ks
 open_is ks r = at_left (parsed settled_sorts ks r)
   where
-    at_left : Leaves CallerSettles (Missing ∷ Receipts ∷ Wants ∷ []) true ends_turn ks → IsOpen ks
+    at_left : Leaves CallerSettles (Whole ∷ Missing ∷ Receipts ∷ Wants ∷ []) true ends_turn ks → IsOpen ks
     at_left l = at_kind l.kind l.leaves l.is_next l.whole
       where
         at_kind : (k : Kind) → IsTrue (ends_turn k) → next_of CallerSettles k ≡ Some l.next → ks ≡ l.said ++ k ∷ l.rest → IsOpen ks
@@ -375,7 +375,7 @@ record IsThird (kinds : List Kind) : Type 0 where
 third_is : (ks : List Kind) → Leads CallerTells ks Over → IsThird ks
 third_is ks r = at_left (parsed told_sorts ks r)
   where
-    at_left : Leaves CallerTells (Records ∷ PushOuts ∷ []) true ends_third ks → IsThird ks
+    at_left : Leaves CallerTells (Whole ∷ Records ∷ PushOuts ∷ []) true ends_third ks → IsThird ks
     at_left l = at_kind l.kind l.leaves l.is_next l.whole
       where
         at_kind : (k : Kind) → IsTrue (ends_third k) → next_of CallerTells k ≡ Some l.next → ks ≡ l.said ++ k ∷ l.rest → IsThird ks
@@ -392,7 +392,7 @@ long_is rest r = at_third (third_is rest r)
     at_third : IsThird rest → IsLong (Hello ∷ Hello ∷ Ask ∷ Passes ∷ Ask ∷ rest)
     at_third t = at_left (parsed back_sorts t.rest t.runs)
       where
-        at_left : Leaves CalledTells (Records ∷ PushOuts ∷ Receipts ∷ Wants ∷ []) true ends_turn t.rest → IsLong (Hello ∷ Hello ∷ Ask ∷ Passes ∷ Ask ∷ rest)
+        at_left : Leaves CalledTells (Whole ∷ Records ∷ PushOuts ∷ Receipts ∷ Wants ∷ []) true ends_turn t.rest → IsLong (Hello ∷ Hello ∷ Ask ∷ Passes ∷ Ask ∷ rest)
         at_left l = at_kind l.kind l.leaves l.is_next l.whole
           where
             at_kind : (k : Kind) → IsTrue (ends_turn k) → next_of CalledTells k ≡ Some l.next → t.rest ≡ l.said ++ k ∷ l.rest → IsLong (Hello ∷ Hello ∷ Ask ∷ Passes ∷ Ask ∷ rest)

@@ -8,3 +8,4 @@ pub mod ToldLaws
 pub mod LineLaws
 pub mod TalkLaws
 pub mod GrammarLaws
+pub mod PackedLaws

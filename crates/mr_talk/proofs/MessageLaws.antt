@@ -6,8 +6,8 @@ use Rattle.std.proofs.lemmas.Bool.{eqb-true, ltb-false, ltb-true, le-ltb, lt-ltb
 use Rattle.std.proofs.lemmas.List.{take_at, drop_at, take-append-drop, take-append-le, length-append, length-take, length-take-le, length-drop, drop-drop, get_or-take, get_or-drop, get_or_past}
 use Rattle.std.proofs.lemmas.Nat.{be_bytes_4, from_be_bytes-to_be_bytes_4}
 use Rattle.mr_talk.specs.declared.kind.Kind.{Kind}
-use Rattle.mr_talk.specs.declared.kind.Kind.TheVariants.{Hello, Idle, Ask, Begin, Piece, End, Missing, Records, Wants, PushOuts, Receipts, Turn, Done, Fault}
-use Rattle.mr_talk.specs.declared.kind.TheConstants.{MAX_FRAMES_BYTES}
+use Rattle.mr_talk.specs.declared.kind.Kind.TheVariants.{Hello, Idle, Ask, Begin, Piece, End, Missing, Records, Wants, PushOuts, Receipts, Turn, Done, Fault, Whole}
+use Rattle.mr_talk.specs.declared.kind.TheConstants.{MAX_PACKED_BYTES}
 use Rattle.mr_talk.specs.declared.fault.MessageFault.{MessageFault}
 use Rattle.mr_talk.specs.declared.fault.MessageFault.TheVariants.{Truncated, TooLong}
 use Rattle.mr_talk.specs.Kinds.{kind_byte, kind_of_byte, limit_of}
@@ -44,7 +44,7 @@ none_step byte y e = absurd cc
 pub byte_is : (byte : ℕ) (k : Kind) → kind_of_byte byte ≡ Some k → byte ≡ kind_byte k
 byte_is byte k =
     kind_step byte Hello k _ (kind_step byte Idle k _ (kind_step byte Ask k _ (kind_step byte Begin k _ (kind_step byte Piece k _ (kind_step byte End k _ (kind_step byte Missing k _
-    (kind_step byte Records k _ (kind_step byte Wants k _ (kind_step byte PushOuts k _ (kind_step byte Receipts k _ (kind_step byte Turn k _ (kind_step byte Done k _ (kind_step byte Fault k _ (none_step byte k))))))))))))))
+    (kind_step byte Records k _ (kind_step byte Wants k _ (kind_step byte PushOuts k _ (kind_step byte Receipts k _ (kind_step byte Turn k _ (kind_step byte Done k _ (kind_step byte Fault k _ (kind_step byte Whole k _ (none_step byte k)))))))))))))))
 
 -- a kind's byte is of that kind
 pub kind_again : (k : Kind) → kind_of_byte (kind_byte k) ≡ Some k
@@ -62,9 +62,10 @@ kind_again Receipts = refl
 kind_again Turn = refl
 kind_again Done = refl
 kind_again Fault = refl
+kind_again Whole = refl
 
 -- no kind has longer messages than those of frames
-pub limit_most : (k : Kind) → limit_of k ≤ MAX_FRAMES_BYTES
+pub limit_most : (k : Kind) → limit_of k ≤ MAX_PACKED_BYTES
 limit_most Hello = omega arith
 limit_most Idle = omega arith
 limit_most Ask = omega arith
@@ -79,6 +80,7 @@ limit_most Receipts = omega arith
 limit_most Turn = omega arith
 limit_most Done = omega arith
 limit_most Fault = omega arith
+limit_most Whole = omega arith
 
 -- ---- the head
 

@@ -5,13 +5,13 @@ use Rattle.std.proofs.lemmas.Bool.{and_parts}
 use Rattle.mr_talk.specs.contracts.kind.Kind.{the_type as the_kind}
 use Rattle.mr_talk.specs.contracts.turn.Turn.{the_type as the_turn}
 use Rattle.mr_talk.specs.declared.kind.Kind.{Kind}
-use Rattle.mr_talk.specs.declared.kind.Kind.TheVariants.{Hello, Idle, Ask, Begin, Piece, End, Missing, Records, Wants, PushOuts, Receipts, Turn as Passes, Done, Fault}
+use Rattle.mr_talk.specs.declared.kind.Kind.TheVariants.{Hello, Idle, Ask, Begin, Piece, End, Missing, Records, Wants, PushOuts, Receipts, Turn as Passes, Done, Fault, Whole}
 use Rattle.mr_talk.specs.declared.turn.Turn.{Turn}
 use Rattle.mr_talk.specs.declared.turn.Turn.TheVariants.{CallerGreets, CalledGreets, CalledAsks, CalledPasses, CallerAsks, CallerTells, CallerTellsFile, CalledTells, CalledTellsFile, CallerSettles, CallerSettlesFile, CallerWants, CalledSettles, CalledSettlesFile, CalledCloses, CallerCloses, Over, Failed}
 use Rattle.mr_talk.specs.Turns.{next_of}
 
 abbrev pub each_kind : (Kind → Bool) → Bool
-each_kind f = f Hello && (f Idle && (f Ask && (f Begin && (f Piece && (f End && (f Missing && (f Records && (f Wants && (f PushOuts && (f Receipts && (f Passes && (f Done && f Fault))))))))))))
+each_kind f = f Hello && (f Idle && (f Ask && (f Begin && (f Piece && (f End && (f Missing && (f Records && (f Wants && (f PushOuts && (f Receipts && (f Passes && (f Done && (f Fault && f Whole)))))))))))))
 
 abbrev pub each_turn : (Turn → Bool) → Bool
 each_turn f = f CallerGreets && (f CalledGreets && (f CalledAsks && (f CalledPasses && (f CallerAsks && (f CallerTells && (f CallerTellsFile && (f CalledTells && (f CalledTellsFile && (f CallerSettles && (f CallerSettlesFile && (f CallerWants && (f CalledSettles && (f CalledSettlesFile && (f CalledCloses && (f CallerCloses && (f Over && f Failed))))))))))))))))
@@ -22,8 +22,8 @@ kind_at f h k =
     let p1 = and_parts _ _ h in let p2 = and_parts _ _ p1.1 in let p3 = and_parts _ _ p2.1 in let p4 = and_parts _ _ p3.1 in
     let p5 = and_parts _ _ p4.1 in let p6 = and_parts _ _ p5.1 in let p7 = and_parts _ _ p6.1 in let p8 = and_parts _ _ p7.1 in
     let p9 = and_parts _ _ p8.1 in let p10 = and_parts _ _ p9.1 in let p11 = and_parts _ _ p10.1 in let p12 = and_parts _ _ p11.1 in
-    let p13 = and_parts _ _ p12.1 in
-    elim k as (λ x. f x ≡ true) [ Hello ↦ p1.0 | Idle ↦ p2.0 | Ask ↦ p3.0 | Begin ↦ p4.0 | Piece ↦ p5.0 | End ↦ p6.0 | Missing ↦ p7.0 | Records ↦ p8.0 | Wants ↦ p9.0 | PushOuts ↦ p10.0 | Receipts ↦ p11.0 | Passes ↦ p12.0 | Done ↦ p13.0 | Fault ↦ p13.1 ]
+    let p13 = and_parts _ _ p12.1 in let p14 = and_parts _ _ p13.1 in
+    elim k as (λ x. f x ≡ true) [ Hello ↦ p1.0 | Idle ↦ p2.0 | Ask ↦ p3.0 | Begin ↦ p4.0 | Piece ↦ p5.0 | End ↦ p6.0 | Missing ↦ p7.0 | Records ↦ p8.0 | Wants ↦ p9.0 | PushOuts ↦ p10.0 | Receipts ↦ p11.0 | Passes ↦ p12.0 | Done ↦ p13.0 | Fault ↦ p14.0 | Whole ↦ p14.1 ]
 
 pub turn_at : (f : Turn → Bool) → each_turn f ≡ true → (t : Turn) → f t ≡ true
 turn_at f h t =

@@ -3,7 +3,7 @@ use Rattle.std.specs.Prelude.{◌≡◌, ◌⊎◌, ℕ, Bool, true, false, IsTr
 use Rattle.std.specs.List.{flat_map, list_any}
 use Rattle.mr_talk.specs.declared.kind.Kind.{Kind}
 use Rattle.mr_talk.specs.Kinds.{kind_byte}
-use Rattle.mr_talk.specs.declared.kind.Kind.TheVariants.{Hello, Idle, Ask, Begin, Piece, End, Missing, Records, Wants, PushOuts, Receipts, Turn as Passes, Done}
+use Rattle.mr_talk.specs.declared.kind.Kind.TheVariants.{Hello, Idle, Ask, Begin, Piece, End, Missing, Records, Wants, PushOuts, Receipts, Turn as Passes, Done, Whole}
 
 -- one message, or a whole file of so many pieces
 pub data Part : Type 0 where
@@ -35,22 +35,22 @@ pub record IsSaid (singles : List Kind) (files : Bool) (kinds : List Kind) : Typ
 
 -- the third turn
 abbrev pub IsTold : List Kind → Type 0
-IsTold = IsSaid (Records ∷ PushOuts ∷ []) true
+IsTold = IsSaid (Whole ∷ Records ∷ PushOuts ∷ []) true
 
 -- the fourth
 abbrev pub IsToldBack : List Kind → Type 0
-IsToldBack = IsSaid (Records ∷ PushOuts ∷ Receipts ∷ Wants ∷ []) true
+IsToldBack = IsSaid (Whole ∷ Records ∷ PushOuts ∷ Receipts ∷ Wants ∷ []) true
 
 -- the fifth, where the called has something open, and where it has not
 abbrev pub IsSettled : List Kind → Type 0
-IsSettled = IsSaid (Missing ∷ Receipts ∷ Wants ∷ []) true
+IsSettled = IsSaid (Whole ∷ Missing ∷ Receipts ∷ Wants ∷ []) true
 
 abbrev pub IsWanted : List Kind → Type 0
 IsWanted = IsSaid (Receipts ∷ Wants ∷ []) false
 
 -- the sixth, where the caller has something open
 abbrev pub IsSettledBack : List Kind → Type 0
-IsSettledBack = IsSaid (Missing ∷ Receipts ∷ []) true
+IsSettledBack = IsSaid (Whole ∷ Missing ∷ Receipts ∷ []) true
 
 -- a turn of receipts alone
 abbrev pub AreReceipts : List Kind → Type 0

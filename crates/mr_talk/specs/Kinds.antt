@@ -1,8 +1,8 @@
 -- kinds of messages: their bytes, and how long a message of each may be
 use Rattle.std.specs.Prelude.{ℕ, ◌==◌, if◌then◌else◌, Option, Some, None}
 use Rattle.mr_talk.specs.declared.kind.Kind.{Kind}
-use Rattle.mr_talk.specs.declared.kind.Kind.TheVariants.{Hello, Idle, Ask, Begin, Piece, End, Missing, Records, Wants, PushOuts, Receipts, Turn, Done, Fault}
-use Rattle.mr_talk.specs.declared.kind.TheConstants.{HELLO_BYTES, MAX_FRAMES_BYTES, MAX_LIST_BYTES, MAX_PIECE_BYTES, MAX_FAULT_BYTES}
+use Rattle.mr_talk.specs.declared.kind.Kind.TheVariants.{Hello, Idle, Ask, Begin, Piece, End, Missing, Records, Wants, PushOuts, Receipts, Turn, Done, Fault, Whole}
+use Rattle.mr_talk.specs.declared.kind.TheConstants.{HELLO_BYTES, MAX_FRAMES_BYTES, MAX_PACKED_BYTES, MAX_LIST_BYTES, MAX_PIECE_BYTES, MAX_WHOLE_BYTES, MAX_FAULT_BYTES}
 
 abbrev pub kind_byte : Kind → ℕ
 kind_byte Hello = 1
@@ -19,6 +19,7 @@ kind_byte Receipts = 11
 kind_byte Turn = 12
 kind_byte Done = 13
 kind_byte Fault = 14
+kind_byte Whole = 15
 
 -- the kind of a byte
 abbrev pub kind_of_byte : ℕ → Option Kind
@@ -37,7 +38,8 @@ kind_of_byte byte =
     else (if byte == 12 then Some Turn
     else (if byte == 13 then Some Done
     else (if byte == 14 then Some Fault
-    else None)))))))))))))
+    else (if byte == 15 then Some Whole
+    else None))))))))))))))
 
 -- the most bytes of a message of this kind
 abbrev pub limit_of : Kind → ℕ
@@ -48,10 +50,11 @@ limit_of Begin = 40
 limit_of Piece = MAX_PIECE_BYTES
 limit_of End = 0
 limit_of Missing = 32
-limit_of Records = MAX_FRAMES_BYTES
+limit_of Records = MAX_PACKED_BYTES
 limit_of Wants = MAX_LIST_BYTES
 limit_of PushOuts = MAX_LIST_BYTES
 limit_of Receipts = MAX_FRAMES_BYTES
 limit_of Turn = 0
 limit_of Done = 16
 limit_of Fault = MAX_FAULT_BYTES
+limit_of Whole = MAX_WHOLE_BYTES

@@ -14,4 +14,5 @@ pub mod Line
 pub mod Talk
 pub mod Rows
 pub mod Grammar
+pub mod Packed
 pub mod inner

@@ -1,9 +1,9 @@
 -- worked rows: what the definitions give for small values
 use Rattle.std.specs.Prelude.{◌≡◌, true, false, List, [], ◌∷◌, ◌++◌, map, length, count_by, replicate, Some, None, Ok, Err, refl}
 use Rattle.mr_talk.specs.declared.kind.Kind.{Kind}
-use Rattle.mr_talk.specs.declared.kind.Kind.TheVariants.{Hello, Idle, Ask, Begin, Piece, End, Missing, Records, Wants, PushOuts, Receipts, Turn as Passes, Done, Fault}
-use Rattle.mr_talk.specs.declared.kind.TheConstants.{HELLO_BYTES, MAX_FRAMES_BYTES, MAX_LIST_BYTES, MAX_PIECE_BYTES, MAX_FAULT_BYTES}
-use Rattle.std.proofs.Common.{lit≤}
+use Rattle.mr_talk.specs.declared.kind.Kind.TheVariants.{Hello, Idle, Ask, Begin, Piece, End, Missing, Records, Wants, PushOuts, Receipts, Turn as Passes, Done, Fault, Whole}
+use Rattle.mr_talk.specs.declared.kind.TheConstants.{HELLO_BYTES, MAX_FRAMES_BYTES, MAX_PACKED_BYTES, MAX_LIST_BYTES, MAX_PIECE_BYTES, MAX_WHOLE_BYTES, MAX_FAULT_BYTES}
+use Rattle.std.proofs.Common.{lit≤, lit<}
 use Rattle.mr_talk.specs.declared.fault.LineFault.TheVariants.{Message, Write}
 use Rattle.mr_talk.specs.declared.fault.MessageFault.TheVariants.{OutOfMemory, Truncated, BadKind, TooLong, Failed}
 use Rattle.mr_talk.specs.declared.talk_fault.TalkFault.TheVariants as talk
@@ -19,6 +19,8 @@ use Rattle.mr_talk.specs.Reader.{Feeds, Nexts, ending}
 use Rattle.mr_talk.specs.Hello.{hello_bytes}
 use Rattle.mr_talk.specs.Turns.{sender_of, number_of, next_of, IsTalk, Leads}
 use Rattle.mr_talk.specs.Talk.{Talked, BrokeOff, IsToldBy}
+use Rattle.mr_talk.specs.Packed as packed
+use Rattle.mr_talk.specs.Packed.{Copy, Digits, Literal, Move, Unpacks, begun, spell}
 use Rattle.mr_talk.specs.World.{start, Sends, Receives, happens, after, ends_turn}
 
 -- ---- limits
@@ -28,6 +30,12 @@ hello_bytes_are = refl
 
 pub frames_bytes_are : MAX_FRAMES_BYTES ≡ 8388612
 frames_bytes_are = refl
+
+pub packed_bytes_are : MAX_PACKED_BYTES ≡ 8388618
+packed_bytes_are = refl
+
+pub whole_bytes_are : MAX_WHOLE_BYTES ≡ 65568
+whole_bytes_are = refl
 
 pub list_bytes_are : MAX_LIST_BYTES ≡ 2097152
 list_bytes_are = refl
@@ -57,11 +65,11 @@ fault_bytes = refl
 pub decodes_fault : decoded (14 ∷ 0 ∷ 0 ∷ 0 ∷ 2 ∷ 7 ∷ 8 ∷ 9 ∷ []) ≡ Ok (fault, 7)
 decodes_fault = refl
 
--- there are no kinds 0 and 15, which is told by the first byte
-pub kinds_end : map kind_of_byte (0 ∷ 1 ∷ 14 ∷ 15 ∷ []) ≡ None ∷ Some Hello ∷ Some Fault ∷ None ∷ []
+-- there are no kinds 0 and 16, which is told by the first byte
+pub kinds_end : map kind_of_byte (0 ∷ 1 ∷ 14 ∷ 15 ∷ 16 ∷ []) ≡ None ∷ Some Hello ∷ Some Fault ∷ Some Whole ∷ None ∷ []
 kinds_end = refl
 
-pub bad_kind : decoded (15 ∷ []) ≡ Err BadKind
+pub bad_kind : decoded (16 ∷ []) ≡ Err BadKind
 bad_kind = refl
 
 -- a turn has no bytes, so one that promises some is too long before they are there, and not before its length is
@@ -83,7 +91,7 @@ nothing_yet = refl
 pub feeds_behind : Feeds (Some (12 ∷ [])) (0 ∷ 0 ∷ []) (Ok tt) (Some (12 ∷ 0 ∷ 0 ∷ []))
 feeds_behind = refl
 
-pub next_fault : Nexts (Some (15 ∷ [])) (Err BadKind) None
+pub next_fault : Nexts (Some (16 ∷ [])) (Err BadKind) None
 next_fault = (refl, refl)
 
 pub endings : map ending (Some [] ∷ Some (12 ∷ []) ∷ None ∷ []) ≡ Ok tt ∷ Err Truncated ∷ Err Failed ∷ []
@@ -94,7 +102,7 @@ endings = refl
 abbrev row : hello.Hello
 row = record { id = 7; birth = replicate 16 1; knows = replicate 12 2; tip = replicate 4 9; issued = 258; known = 3; is_waiting = true; keeps_all = false }
 
-pub hello_row : hello_bytes row ≡ 2 ∷ 7 ∷ (replicate 16 1 ++ (replicate 12 2 ++ (9 ∷ 9 ∷ 9 ∷ 9 ∷ 0 ∷ 0 ∷ 1 ∷ 2 ∷ 0 ∷ 0 ∷ 0 ∷ 3 ∷ 1 ∷ 0 ∷ [])))
+pub hello_row : hello_bytes row ≡ 3 ∷ 7 ∷ (replicate 16 1 ++ (replicate 12 2 ++ (9 ∷ 9 ∷ 9 ∷ 9 ∷ 0 ∷ 0 ∷ 1 ∷ 2 ∷ 0 ∷ 0 ∷ 0 ∷ 3 ∷ 1 ∷ 0 ∷ [])))
 hello_row = refl
 
 pub hello_long : length (hello_bytes row) ≡ 44
@@ -106,12 +114,12 @@ hello_long = refl
 pub idle : IsTalk (Hello ∷ Idle ∷ [])
 idle = (CalledGreets, refl, (Over, refl, refl))
 
--- in five turns: the called asks; the caller asks and tells a file and its record; the called tells a record and has nothing open; nor has the caller
+-- in five turns: the called asks; the caller asks and tells two files, one of them whole in a message, and a record; the called tells a record and has nothing open; nor has the caller
 abbrev five : List Kind
-five = Hello ∷ Hello ∷ Ask ∷ Passes ∷ Ask ∷ Begin ∷ Piece ∷ End ∷ Records ∷ Passes ∷ Records ∷ Done ∷ Done ∷ []
+five = Hello ∷ Hello ∷ Ask ∷ Passes ∷ Ask ∷ Begin ∷ Piece ∷ End ∷ Whole ∷ Records ∷ Passes ∷ Records ∷ Done ∷ Done ∷ []
 
 pub five_is : IsTalk five
-five_is = (CalledGreets, refl, (CalledAsks, refl, (CalledPasses, refl, (CallerAsks, refl, (CallerTells, refl, (CallerTellsFile, refl, (CallerTellsFile, refl, (CallerTells, refl, (CallerTells, refl, (CalledTells, refl, (CalledTells, refl, (CallerWants, refl, (Over, refl, refl)))))))))))))
+five_is = (CalledGreets, refl, (CalledAsks, refl, (CalledPasses, refl, (CallerAsks, refl, (CallerTells, refl, (CallerTellsFile, refl, (CallerTellsFile, refl, (CallerTells, refl, (CallerTells, refl, (CallerTells, refl, (CalledTells, refl, (CalledTells, refl, (CallerWants, refl, (Over, refl, refl))))))))))))))
 
 pub five_turns : count_by ends_turn five ≡ 4
 five_turns = refl
@@ -205,3 +213,41 @@ told_numbers = refl
 
 pub talk_faults : map talk_fault_number (talk.Line (Message OutOfMemory) ∷ talk.Line Write ∷ talk.OutOfPlace ∷ talk.Told [] ∷ []) ≡ 0 ∷ 7 ∷ 9 ∷ 11 ∷ []
 talk_faults = refl
+
+-- ---- packed frames
+
+-- a frame behind nothing: two bytes as they are
+pub packed_first : Unpacks [] (65 ∷ 7 ∷ 8 ∷ 0 ∷ []) (7 ∷ 8 ∷ []) (7 ∷ 8 ∷ [])
+packed_first = record {
+  tokens = Literal (7 ∷ 8 ∷ []) ∷ packed.End ∷ [];
+  are = (record { low = lit≤ tt; high = lit≤ tt; short = lit< tt }, (record { low = lit≤ tt; high = lit≤ tt; short = lit< tt }, tt));
+  whole = refl;
+  spelled = (_, refl, (_, refl, refl));
+}
+
+-- one behind another: two bytes of that, another one, and the last of that
+pub packed_next : Unpacks (1 ∷ 2 ∷ 3 ∷ 4 ∷ []) (2 ∷ 64 ∷ 9 ∷ 1 ∷ 0 ∷ []) (1 ∷ 2 ∷ 9 ∷ 4 ∷ []) (1 ∷ 2 ∷ 9 ∷ 4 ∷ [])
+packed_next = record {
+  tokens = Copy 2 ∷ Literal (9 ∷ []) ∷ Copy 1 ∷ packed.End ∷ [];
+  are = (
+    record { low = lit≤ tt; high = lit≤ tt; short = lit< tt },
+    (
+      record { low = lit≤ tt; high = lit≤ tt; short = lit< tt },
+      (record { low = lit≤ tt; high = lit≤ tt; short = lit< tt }, (record { low = lit≤ tt; high = lit≤ tt; short = lit< tt }, tt)),
+    ),
+  );
+  whole = refl;
+  spelled = (_, refl, (_, refl, (_, refl, (_, refl, refl))));
+}
+
+-- the byte 175 as its digits, a and f
+pub digits_of_a_byte : spell (Digits (175 ∷ [])) (begun [] []) ≡ Some (record { before = []; place = 0; now = 97 ∷ 102 ∷ []; told = [] })
+digits_of_a_byte = refl
+
+-- a move by three from the place 2: one of 34 is three on, and 31 none
+pub moves_on : spell (Move 34) (record { before = 1 ∷ 2 ∷ 3 ∷ 4 ∷ 5 ∷ 6 ∷ []; place = 2; now = []; told = [] }) ≡ Some (record { before = 1 ∷ 2 ∷ 3 ∷ 4 ∷ 5 ∷ 6 ∷ []; place = 5; now = []; told = [] })
+moves_on = refl
+
+-- three bytes of a frame of two are nothing
+pub copies_too_much : spell (Copy 3) (begun (1 ∷ 2 ∷ []) []) ≡ None
+copies_too_much = refl

@@ -1,6 +1,6 @@
 -- a stream of bytes: the spellings of messages, one behind another, and then what is no whole message
 use Rattle.std.specs.Prelude.{◌≡◌, ℕ, List, [], ◌∷◌, ◌++◌, length, ◌+◌, ◌<◌}
-use Rattle.mr_talk.specs.declared.kind.TheConstants.{MAX_FRAMES_BYTES}
+use Rattle.mr_talk.specs.declared.kind.TheConstants.{MAX_PACKED_BYTES}
 use Rattle.mr_talk.specs.Said.{Said, IsMessage, message_bytes}
 
 -- the bytes begin with the spelling of the message, and go on with these
@@ -15,4 +15,4 @@ AreMessages bytes (m ∷ messages) rest = (left : List ℕ) × Begins bytes m le
 
 -- fewer bytes than the longest message has: five of the kind and the length, and what stands behind them
 abbrev pub IsPart : List ℕ → Type 0
-IsPart rest = length rest < 5 + MAX_FRAMES_BYTES
+IsPart rest = length rest < 5 + MAX_PACKED_BYTES

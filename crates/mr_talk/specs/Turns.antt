@@ -1,7 +1,7 @@
 -- who sends what, and when
 use Rattle.std.specs.Prelude.{◌≡◌, ℕ, List, [], ◌∷◌, Option, Some, None}
 use Rattle.mr_talk.specs.declared.kind.Kind.{Kind}
-use Rattle.mr_talk.specs.declared.kind.Kind.TheVariants.{Hello, Idle, Ask, Begin, Piece, End, Missing, Records, Wants, PushOuts, Receipts, Turn as Passes, Done, Fault}
+use Rattle.mr_talk.specs.declared.kind.Kind.TheVariants.{Hello, Idle, Ask, Begin, Piece, End, Missing, Records, Wants, PushOuts, Receipts, Turn as Passes, Done, Fault, Whole}
 use Rattle.mr_talk.specs.declared.turn.Role.{Role}
 use Rattle.mr_talk.specs.declared.turn.Role.TheVariants.{Caller, Called}
 use Rattle.mr_talk.specs.declared.turn.Turn.{Turn}
@@ -68,6 +68,7 @@ next_of CallerAsks Ask = Some CallerTells
 next_of CallerAsks Fault = Some Failed
 next_of CallerAsks kind = None
 next_of CallerTells Begin = Some CallerTellsFile
+next_of CallerTells Whole = Some CallerTells
 next_of CallerTells Records = Some CallerTells
 next_of CallerTells PushOuts = Some CallerTells
 next_of CallerTells Passes = Some CalledTells
@@ -78,6 +79,7 @@ next_of CallerTellsFile End = Some CallerTells
 next_of CallerTellsFile Fault = Some Failed
 next_of CallerTellsFile kind = None
 next_of CalledTells Begin = Some CalledTellsFile
+next_of CalledTells Whole = Some CalledTells
 next_of CalledTells Records = Some CalledTells
 next_of CalledTells PushOuts = Some CalledTells
 next_of CalledTells Receipts = Some CalledTells
@@ -91,6 +93,7 @@ next_of CalledTellsFile End = Some CalledTells
 next_of CalledTellsFile Fault = Some Failed
 next_of CalledTellsFile kind = None
 next_of CallerSettles Begin = Some CallerSettlesFile
+next_of CallerSettles Whole = Some CallerSettles
 next_of CallerSettles Missing = Some CallerSettles
 next_of CallerSettles Receipts = Some CallerSettles
 next_of CallerSettles Wants = Some CallerSettles
@@ -109,6 +112,7 @@ next_of CallerWants Done = Some Over
 next_of CallerWants Fault = Some Failed
 next_of CallerWants kind = None
 next_of CalledSettles Begin = Some CalledSettlesFile
+next_of CalledSettles Whole = Some CalledSettles
 next_of CalledSettles Missing = Some CalledSettles
 next_of CalledSettles Receipts = Some CalledSettles
 next_of CalledSettles Done = Some CallerCloses

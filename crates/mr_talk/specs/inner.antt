@@ -3,3 +3,4 @@ pub mod Hello
 pub mod Line
 pub mod Stream
 pub mod Talk
+pub mod Packed

@@ -8,11 +8,17 @@ pub const HELLO_BYTES: u32 = 44;
 /// The most bytes of frames in a message: those of the longest frame.
 pub const MAX_FRAMES_BYTES: u32 = 8_388_612;
 
+/// The most bytes of packed frames in a message: those of the longest frame, packed.
+pub const MAX_PACKED_BYTES: u32 = 8_388_618;
+
 /// The most bytes of a list of digests or of versions.
 pub const MAX_LIST_BYTES: u32 = 2_097_152;
 
 /// The most bytes of a file in a message.
 pub const MAX_PIECE_BYTES: u32 = 65_536;
+
+/// The most bytes of a whole file in a message, behind its digest.
+pub const MAX_WHOLE_BYTES: u32 = 65_568;
 
 /// The most bytes of a fault: its number and its text.
 pub const MAX_FAULT_BYTES: u32 = 1_024;
@@ -34,7 +40,7 @@ pub enum Kind {
     End,
     /// A file that was wanted isn't here: its digest.
     Missing,
-    /// Frames of records. The files that they name came before them, or are here, or are told as missing.
+    /// Packed frames of records. The files that they name came before them, or are here, or are told as missing.
     Records,
     /// The digests of files that are lacking.
     Wants,
@@ -48,10 +54,12 @@ pub enum Kind {
     Done,
     /// Why the talk ends here: a number and a text.
     Fault,
+    /// A whole file: its digest and its bytes.
+    Whole,
 }
 
 impl Kind {
-    /// The kind's byte, 1 to 14 in the order of the variants.
+    /// The kind's byte, 1 to 15 in the order of the variants.
     pub fn byte(self) -> u8
         ensures { result ≡ kind_byte self }
     {
@@ -70,6 +78,7 @@ impl Kind {
             Kind::Turn => 12,
             Kind::Done => 13,
             Kind::Fault => 14,
+            Kind::Whole => 15,
         }
     }
 
@@ -92,6 +101,7 @@ impl Kind {
             12 => Some(Kind::Turn),
             13 => Some(Kind::Done),
             14 => Some(Kind::Fault),
+            15 => Some(Kind::Whole),
             _ => None,
         }
     }
@@ -99,18 +109,20 @@ impl Kind {
     /// The most bytes behind the length of a message of this kind.
     pub fn limit(self) -> u32
         ensures is { result ≡ limit_of self }
-        ensures most { result ≤ MAX_FRAMES_BYTES }
+        ensures most { result ≤ MAX_PACKED_BYTES }
     {
         match self {
             Kind::Hello | Kind::Idle => HELLO_BYTES,
             Kind::Begin => 40,
             Kind::Piece => MAX_PIECE_BYTES,
             Kind::Missing => 32,
-            Kind::Ask | Kind::Records | Kind::Receipts => MAX_FRAMES_BYTES,
+            Kind::Ask | Kind::Receipts => MAX_FRAMES_BYTES,
+            Kind::Records => MAX_PACKED_BYTES,
             Kind::Wants | Kind::PushOuts => MAX_LIST_BYTES,
             Kind::End | Kind::Turn => 0,
             Kind::Done => 16,
             Kind::Fault => MAX_FAULT_BYTES,
+            Kind::Whole => MAX_WHOLE_BYTES,
         }
     }
 }

@@ -10,6 +10,7 @@ ghost use Rattle.mr_talk.specs.declared.turn.Turn.{Turn};
 ghost use Rattle.mr_talk.specs.declared.turn.Turn.TheVariants.{CallerGreets};
 ghost use Rattle.mr_talk.specs.Grammar.{IsWholeTalk};
 ghost use Rattle.mr_talk.specs.Turns.{IsTalk, Leads, sender_of};
+ghost use Rattle.mr_talk.specs.Packed.{Unpacks};
 ghost use Rattle.mr_talk.specs.World.{Agree, Event, after, ends_turn, start};
 ghost use Rattle.mr_talk.specs.Calls.{AreAlike, Call, ComesTo, IsDrained, Runs, fed, given, told};
 
@@ -73,4 +74,10 @@ pub fn both_sides_agree()
 pub fn accepted_talks_are_talks()
     ensures accepted { (kinds : List Kind) → IsTalk kinds → IsWholeTalk kinds }
     ensures talks { (kinds : List Kind) → IsWholeTalk kinds → IsTalk kinds }
+{}
+
+/// Packed frames behind others are packed frames: those of both, where the second ones were packed behind the last of the first.
+pub fn packed_behind_packed()
+    ensures none { (before : List ℕ) → Unpacks before [] [] before }
+    ensures more { (before x f mid y g after : List ℕ) → Unpacks before x f mid → Unpacks mid y g after → Unpacks before (x ++ y) (f ++ g) after }
 {}

@@ -23,26 +23,33 @@ mod laws;
 mod line;
 mod meeting;
 mod message;
+mod packed;
+mod packing;
 mod peer;
 mod reader;
 mod side;
 mod talk;
 mod talk_fault;
+mod token;
 mod told_fault;
 mod turn;
+mod unpacking;
 
 pub use fault::{LineFault, MessageFault};
 pub use hello::{Birth, HELLO_FORMAT, Hello, HelloFault, Knows, Short, Tip};
 pub use kind::{
-    HELLO_BYTES, Kind, MAX_FAULT_BYTES, MAX_FRAMES_BYTES, MAX_LIST_BYTES, MAX_PIECE_BYTES,
+    HELLO_BYTES, Kind, MAX_FAULT_BYTES, MAX_FRAMES_BYTES, MAX_LIST_BYTES, MAX_PACKED_BYTES,
+    MAX_PIECE_BYTES, MAX_WHOLE_BYTES,
 };
 pub use laws::{
     accepted_talks_are_talks, both_sides_agree, cuts_have_no_effect,
     fed_bytes_are_messages_and_rest, no_spelling_begins_another, nothing_behind_a_talk,
-    part_of_a_message_is_truncated, seven_turns_at_most, whole_messages_are_given,
+    packed_behind_packed, part_of_a_message_is_truncated, seven_turns_at_most,
+    whole_messages_are_given,
 };
 pub use line::Line;
 pub use message::{HEAD_BYTES, Message, decode, encode};
+pub use packed::{LastFrame, PackedFault};
 pub use peer::{Met, Standing, nothing_to_tell, standing_of};
 pub use reader::MessageReader;
 pub use side::{Host, HostFault};

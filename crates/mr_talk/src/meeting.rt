@@ -167,7 +167,7 @@ fn hand_over<H: Host>(host: &mut H, message: &Message) -> Result<(), HostFault> 
     let bytes = message.bytes();
     match message.kind() {
         Kind::Ask => host.take_ask(bytes),
-        Kind::Begin | Kind::Piece | Kind::End => host.take_file(message),
+        Kind::Whole | Kind::Begin | Kind::Piece | Kind::End => host.take_file(message),
         Kind::Missing => host.take_missing(bytes),
         Kind::Records => {
             host.keep_files()?;

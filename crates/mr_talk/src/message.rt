@@ -107,7 +107,7 @@ fn first(alloc: Global, bytes: &[u8]) -> Result<(Message, usize), MessageFault>
 /// The message at the front of the bytes, and how many bytes it takes.
 ///
 /// A message is a byte of its kind, a length of four bytes, the highest first, and so many bytes. The faults are tried in
-/// this order: `Truncated` where there are no bytes; `BadKind` for a first byte outside 1 to 14; `Truncated` for fewer
+/// this order: `Truncated` where there are no bytes; `BadKind` for a first byte outside 1 to 15; `Truncated` for fewer
 /// than five bytes; `TooLong` for a length above [`Kind::limit`], before any of those bytes is looked at; `Truncated` where
 /// fewer bytes follow than the length says; `OutOfMemory` last. It costs a copy of the message's bytes.
 pub fn decode(alloc: Global, bytes: &[u8]) -> Result<(Message, usize), MessageFault>

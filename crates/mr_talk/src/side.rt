@@ -44,8 +44,8 @@ pub trait Host {
     /// A mark of the other side's history, as far as it is told here, and the frame of a request.
     fn ask(&mut self) -> Result<Vec<u8>, HostFault>;
 
-    /// The next message to be sent at this point of the talk, or `None` where there is none: of `Begin`, `Piece` and `End`, each
-    /// file before the record that names it, `Missing`, `Records`, `PushOuts`, `Receipts` and `Wants`, those that
+    /// The next message to be sent at this point of the talk, or `None` where there is none: of `Whole`, `Begin`, `Piece` and
+    /// `End`, each file before the record that names it, `Missing`, `Records`, `PushOuts`, `Receipts` and `Wants`, those that
     /// [`Turn::next`] has a place for.
     fn next_message(&mut self, turn: Turn) -> Result<Option<Message>, HostFault>;
 
@@ -56,14 +56,14 @@ pub trait Host {
     /// the history is another one.
     fn take_ask(&mut self, bytes: &[u8]) -> Result<(), HostFault>;
 
-    /// Takes what a file begins with, its digest and length; then its bytes, piece by piece; then its end.
+    /// Takes a whole file, or what one begins with, its digest and length; then its bytes, piece by piece; then its end.
     fn take_file(&mut self, message: &Message) -> Result<(), HostFault>;
 
     /// Takes the digest of a file that was wanted and that the other side hasn't.
     fn take_missing(&mut self, digest: &[u8]) -> Result<(), HostFault>;
 
-    /// Takes frames of records. Each file that came before is on the disk.
-    fn take_records(&mut self, frames: &[u8]) -> Result<(), HostFault>
+    /// Takes packed frames of records. Each file that came before is on the disk.
+    fn take_records(&mut self, packed: &[u8]) -> Result<(), HostFault>
         requires { files_wait self.old ≡ false };
 
     /// Takes the digests of files that the other side lacks.

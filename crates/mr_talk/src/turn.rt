@@ -192,7 +192,7 @@ fn caller_tells(kind: Kind) -> Option<Turn>
 {
     match kind {
         Kind::Begin => Some(Turn::CallerTellsFile),
-        Kind::Records | Kind::PushOuts => Some(Turn::CallerTells),
+        Kind::Whole | Kind::Records | Kind::PushOuts => Some(Turn::CallerTells),
         Kind::Turn => Some(Turn::CalledTells),
         Kind::Fault => Some(Turn::Failed),
         _ => None,
@@ -215,7 +215,9 @@ fn called_tells(kind: Kind) -> Option<Turn>
 {
     match kind {
         Kind::Begin => Some(Turn::CalledTellsFile),
-        Kind::Records | Kind::PushOuts | Kind::Receipts | Kind::Wants => Some(Turn::CalledTells),
+        Kind::Whole | Kind::Records | Kind::PushOuts | Kind::Receipts | Kind::Wants => {
+            Some(Turn::CalledTells)
+        }
         Kind::Turn => Some(Turn::CallerSettles),
         Kind::Done => Some(Turn::CallerWants),
         Kind::Fault => Some(Turn::Failed),
@@ -239,7 +241,7 @@ fn caller_settles(kind: Kind) -> Option<Turn>
 {
     match kind {
         Kind::Begin => Some(Turn::CallerSettlesFile),
-        Kind::Missing | Kind::Receipts | Kind::Wants => Some(Turn::CallerSettles),
+        Kind::Whole | Kind::Missing | Kind::Receipts | Kind::Wants => Some(Turn::CallerSettles),
         Kind::Turn => Some(Turn::CalledSettles),
         Kind::Done => Some(Turn::CalledCloses),
         Kind::Fault => Some(Turn::Failed),
@@ -275,7 +277,7 @@ fn called_settles(kind: Kind) -> Option<Turn>
 {
     match kind {
         Kind::Begin => Some(Turn::CalledSettlesFile),
-        Kind::Missing | Kind::Receipts => Some(Turn::CalledSettles),
+        Kind::Whole | Kind::Missing | Kind::Receipts => Some(Turn::CalledSettles),
         Kind::Done => Some(Turn::CallerCloses),
         Kind::Fault => Some(Turn::Failed),
         _ => None,
