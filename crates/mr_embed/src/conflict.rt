@@ -31,8 +31,17 @@ pub fn merge(
     item: ItemId,
 ) -> Result<(Version, Vec<Version>), Fault> {
     let heads = heads_of(alloc, device, item)?;
-    let message = merged(alloc, device, &heads)?;
-    let bases = versions(alloc, &heads)?;
+    merge_heads(alloc, device, &heads)
+}
+
+/// Makes one version of these heads.
+fn merge_heads(
+    alloc: Global,
+    device: &mut Device,
+    heads: &[Revision],
+) -> Result<(Version, Vec<Version>), Fault> {
+    let bases = versions(alloc, heads)?;
+    let message = merged(alloc, device, heads)?;
     let version = device.edit(bases.to_vec(alloc)?, message)?;
     Ok((version, bases))
 }

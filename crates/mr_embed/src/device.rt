@@ -16,6 +16,7 @@ use mr_version::{Author, Version};
 use mr_wire::{Ask, Frame, Receipt, encode_ask, encode_receipt, encode_record};
 use std::alloc::Global;
 use std::fs::File;
+use std::io;
 use std::rt::Files;
 
 /// How many records a device gives at a time, and about how many bytes: what it keeps by one commit.
@@ -47,10 +48,21 @@ impl Device {
         id: u16,
         filter: &str,
     ) -> Result<Device, Fault> {
-        let alloc = rt.alloc();
         let id = Author::try_new(id)?;
-        let filter = Filter::read(alloc, filter)?;
         let birth = birth(rt)?;
+        let filter = Filter::read(rt.alloc(), filter)?;
+        Device::begin_with(rt, path, id, filter, birth)
+    }
+
+    /// Makes the device once its words are read.
+    fn begin_with<R: Files<File = File> + AllocGlobal>(
+        rt: &R,
+        path: &str,
+        id: Author,
+        filter: Filter,
+        birth: Birth,
+    ) -> Result<Device, Fault> {
+        let alloc = rt.alloc();
         let file = DiskFile::open(rt, path)?;
         let setup = setup_of(id, filter, birth, mark_of(&file)?);
         match Kept::begin(alloc, file, setup) {
@@ -127,9 +139,7 @@ impl Device {
         let replies = self.kept.commit()?;
         let ask = asked(&replies)?;
         let bytes = encode_ask(self.alloc, ask)?;
-        self.kept
-            .send(wire.way(), &bytes)
-            .map_err(|_| Fault::Sending)?;
+        sent(self.kept.send(wire.way(), &bytes))?;
         Ok(ask.session())
     }
 
@@ -147,9 +157,7 @@ impl Device {
         for reply in &replies {
             if let Reply::Gave(record) = reply {
                 let bytes = encode_record(self.alloc, record)?;
-                self.kept
-                    .send(wire.way(), &bytes)
-                    .map_err(|_| Fault::Sending)?;
+                sent(self.kept.send(wire.way(), &bytes))?;
             }
         }
         Ok(is_over)
@@ -186,9 +194,7 @@ impl Device {
         self.kept.vouch(version)?;
         let replies = self.kept.commit()?;
         let bytes = encode_receipt(self.alloc, vouched(&replies)?)?;
-        self.kept
-            .send(wire.way(), &bytes)
-            .map_err(|_| Fault::Sending)
+        sent(self.kept.send(wire.way(), &bytes))
     }
 
     /// Lets go of what another device has given its word for.
@@ -231,6 +237,14 @@ fn answered<T: Drop>(answer: Result<T, KeptFault>) -> Result<T, Fault> {
         Ok(answer) => Ok(answer),
         Err(KeptFault::Refused(refusal)) => Err(Fault::from(refusal)),
         Err(fault) => Err(Fault::from(fault)),
+    }
+}
+
+/// What became of bytes: `Sending` where the connection takes no more.
+fn sent(done: io::Result<()>) -> Result<(), Fault> {
+    match done {
+        Ok(()) => Ok(()),
+        Err(_) => Err(Fault::Sending),
     }
 }
 

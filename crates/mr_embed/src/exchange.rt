@@ -37,6 +37,11 @@ impl Exchange {
 
     /// Records go until the last one, batch by batch, and it tells how many they were. The exchange is over.
     pub fn finish(mut self, target: &mut Device, source: &mut Device) -> Result<u32, Fault> {
+        self.give_all(target, source)
+    }
+
+    /// Records go until the last one.
+    fn give_all(&mut self, target: &mut Device, source: &mut Device) -> Result<u32, Fault> {
         let mut records = 0u32;
         for _ in 0..MANY {
             let is_over = source.give(self.stream, &mut self.wire)?;
@@ -66,6 +71,16 @@ impl Exchange {
     /// A part of a record is never taken. To go on, begin anew: the new request tells what was taken.
     pub fn break_off_after(
         mut self,
+        bytes: usize,
+        target: &mut Device,
+        source: &mut Device,
+    ) -> Result<u32, Fault> {
+        self.give_up_after(bytes, target, source)
+    }
+
+    /// A part of a batch goes, and both sides give up.
+    fn give_up_after(
+        &mut self,
         bytes: usize,
         target: &mut Device,
         source: &mut Device,

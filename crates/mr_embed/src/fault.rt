@@ -17,7 +17,7 @@ use thiserror::Error;
 /// `?` turns each library's fault into one of these, with the library's own text; a refusal keeps its number. The story
 /// ends at the first of them. A program that goes on gives up the exchange in which it came: both sides cut it, and the
 /// next has new wires.
-#[derive(Clone, Copy, Debug, PartialEq, Eq, Error)]
+#[derive(Clone, Copy, Debug, Error)]
 pub enum Fault {
     /// A call found no memory.
     #[error("out of memory")]

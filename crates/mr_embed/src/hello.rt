@@ -31,25 +31,31 @@ pub struct Hello {
 pub fn greet(alloc: Global, here: &mut Device, there: &mut Device) -> Result<bool, Fault> {
     let mine = told_by(alloc, here, there.replica().id())?;
     let theirs = told_by(alloc, there, here.replica().id())?;
-    check(here, &theirs)?;
-    check(there, &mine)?;
-    remember(here, &theirs)?;
-    remember(there, &mine)?;
+    hear(here, there, &mine, &theirs)?;
     Ok(mine.digest == theirs.digest)
+}
+
+/// Each hears what the other tells, and remembers it where both may sync.
+fn hear(here: &mut Device, there: &mut Device, mine: &Hello, theirs: &Hello) -> Result<(), Fault> {
+    check(here, theirs)?;
+    check(there, mine)?;
+    remember(here, theirs)?;
+    remember(there, mine)
 }
 
 /// What the device tells one of this id.
 pub fn told_by(alloc: Global, device: &Device, other: Author) -> Result<Hello, Fault> {
     let id = device.replica().id();
     let birth = device.birth();
+    let digest = knowledge_digest(alloc, device.replica())?;
+    let highest = known_of(alloc, device, other)?;
     let mut births = vec![in alloc; (id, birth)]?;
     births.extend_from_slice(device.met())?;
-    let digest = knowledge_digest(alloc, device.replica())?;
     Ok(Hello {
         id,
         birth,
         births,
-        highest: known_of(alloc, device, other)?,
+        highest,
         digest,
     })
 }

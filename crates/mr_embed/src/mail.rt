@@ -46,12 +46,17 @@ impl<'a> Draft<'a> {
     ///
     /// `Message` where the label is none or the subject is too long; `OutOfMemory`.
     pub fn message(&self, alloc: Global) -> Result<Message, Fault> {
-        let from = String::from_str(alloc, "ann@example.org")?;
-        let subject = String::from_str(alloc, self.subject)?;
-        let body = String::from_str(alloc, "See you there.")?.into_bytes();
-        let labels = vec![in alloc; String::from_str(alloc, self.label)?]?;
         let day = Day::read("2026-01-05")?;
-        Ok(Message::try_new(alloc, from, subject, body, labels, self.flags, day)?)
+        let labels = vec![in alloc; String::from_str(alloc, self.label)?]?;
+        Ok(Message::try_copying(
+            alloc,
+            "ann@example.org",
+            self.subject,
+            b"See you there.",
+            labels,
+            self.flags,
+            day,
+        )?)
     }
 }
 

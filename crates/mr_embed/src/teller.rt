@@ -6,7 +6,8 @@ use crate::screen::Screen;
 use mr_kept::KeptFault;
 use mr_replica::Revision;
 use mr_version::Version;
-use std::alloc::{AllocError, Global};
+use std::alloc::Global;
+use std::io;
 
 /// Has the office write the message, and tells it.
 pub fn write<R: Print>(rt: &R, office: &mut Device, draft: &Draft<'_>) -> Result<Version, Fault> {
@@ -17,7 +18,7 @@ pub fn write<R: Print>(rt: &R, office: &mut Device, draft: &Draft<'_>) -> Result
 
 fn tell_written<R: Print>(rt: &R, version: Version, draft: &Draft<'_>) -> Result<(), Fault> {
     let Draft { subject, label, .. } = *draft;
-    println!(rt; "office: {version} is {subject} in {label}").map_err(|_| Fault::Print)
+    printed(println!(rt; "office: {version} is {subject} in {label}"))
 }
 
 /// Tells what two devices that met found out.
@@ -27,22 +28,22 @@ pub fn tell_greeting<R: Print>(rt: &R, is_same: bool) -> Result<(), Fault> {
     } else {
         "and have something to tell"
     };
-    println!(rt; "office and phone: they meet, {found}").map_err(|_| Fault::Print)
+    printed(println!(rt; "office and phone: they meet, {found}"))
 }
 
 /// Tells why nothing is synced with a device.
 pub fn tell_stranger<R: Print>(rt: &R, who: &str, fault: Fault) -> Result<(), Fault> {
-    println!(rt; "{who}: {fault}").map_err(|_| Fault::Print)
+    printed(println!(rt; "{who}: {fault}"))
 }
 
 /// Tells how many records an exchange took.
 pub fn tell_exchange<R: Print>(rt: &R, who: &str, records: u32) -> Result<(), Fault> {
-    println!(rt; "{who}: up to date after {records} records").map_err(|_| Fault::Print)
+    printed(println!(rt; "{who}: up to date after {records} records"))
 }
 
 /// Tells that the connection broke.
 pub fn tell_break<R: Print>(rt: &R, records: u32) -> Result<(), Fault> {
-    println!(rt; "phone: the connection broke after {records} records").map_err(|_| Fault::Print)
+    printed(println!(rt; "phone: the connection broke after {records} records"))
 }
 
 /// Tells which version took the place of which.
@@ -53,7 +54,7 @@ pub fn tell_edit<R: Print + AllocGlobal>(
     version: Version,
 ) -> Result<(), Fault> {
     let bases = version_list(rt.alloc(), bases)?;
-    println!(rt; "{who}: {version} replaces{bases}").map_err(|_| Fault::Print)
+    printed(println!(rt; "{who}: {version} replaces{bases}"))
 }
 
 /// Lets the screen take what is new on the device, and tells what it shows.
@@ -65,32 +66,30 @@ pub fn tell_screen<R: Print + AllocGlobal>(
     let new = screen.follow(device.feed())?;
     let inbox = version_list(rt.alloc(), &screen.inbox()?)?;
     let unseen = screen.unseen();
-    println!(rt; "phone: its inbox shows{inbox}, {unseen} unseen, {new} new").map_err(
-        |_| Fault::Print,
-    )
+    printed(println!(rt; "phone: its inbox shows{inbox}, {unseen} unseen, {new} new"))
 }
 
 /// Tells why the phone can't retire yet.
 pub fn tell_refusal<R: Print>(rt: &R, fault: KeptFault) -> Result<(), Fault> {
-    println!(rt; "phone: can't retire: {fault}").map_err(|_| Fault::Print)
+    printed(println!(rt; "phone: can't retire: {fault}"))
 }
 
 /// Tells that the phone has retired.
 pub fn tell_retired<R: Print>(rt: &R) -> Result<(), Fault> {
-    println!(rt; "phone: retired").map_err(|_| Fault::Print)
+    printed(println!(rt; "phone: retired"))
 }
 
 /// Tells what the device holds.
 pub fn tell_heads<R: Print + AllocGlobal>(rt: &R, who: &str, device: &Device) -> Result<(), Fault> {
     let heads = head_list(rt.alloc(), device.heads())?;
-    println!(rt; "{who}: holds{heads}").map_err(|_| Fault::Print)
+    printed(println!(rt; "{who}: holds{heads}"))
 }
 
 /// Each version behind a space.
 fn version_list(alloc: Global, versions: &[Version]) -> Result<String, Fault> {
     let mut list = String::new(alloc);
     for version in versions {
-        write!(list, " {version}").map_err(|_| AllocError)?;
+        write!(list, " {version}")?;
     }
     Ok(list)
 }
@@ -100,7 +99,15 @@ fn head_list(alloc: Global, heads: &[Revision]) -> Result<String, Fault> {
     let mut list = String::new(alloc);
     for head in heads {
         let version = head.version();
-        write!(list, " {version}").map_err(|_| AllocError)?;
+        write!(list, " {version}")?;
     }
     Ok(list)
+}
+
+/// What became of a line: `Print` where it isn't printed.
+fn printed(done: io::Result<()>) -> Result<(), Fault> {
+    match done {
+        Ok(()) => Ok(()),
+        Err(_) => Err(Fault::Print),
+    }
 }

@@ -34,14 +34,13 @@ fn do_in<J: OnDisk>(
     words: &mut SplitWhitespace<'_>,
 ) -> Result<String> {
     match word {
-        "bytes" => return bytes(alloc, slot),
-        "calls" => return calls(alloc, disk_in(slot)?),
-        "close" => close(slot),
-        "crash" => crash(alloc, slot, next_word(words))?,
-        "stop" | "room" | "append" | "cut" | "flip" => renew(alloc, slot, word, words)?,
+        "bytes" => bytes(alloc, slot),
+        "calls" => calls(alloc, disk_in(slot)?),
+        "close" => Ok(close(alloc, slot)),
+        "crash" => crash(alloc, slot, next_word(words)),
+        "stop" | "room" | "append" | "cut" | "flip" => renew(alloc, slot, word, words),
         _ => bail!("there is no such line: {word}"),
     }
-    Ok(String::new(alloc))
 }
 
 /// `disk D [HEX]`: a disk in memory, with these bytes.
@@ -80,13 +79,14 @@ pub fn put_bytes<J: OnDisk>(
 }
 
 /// `close D`: what is open there ends. What waits for a commit is lost.
-fn close<J: OnDisk>(slot: &mut Slot<J>) {
+fn close<J: OnDisk>(alloc: Global, slot: &mut Slot<J>) -> String {
     let disk = take_disk(slot);
     slot.disk = disk;
+    String::new(alloc)
 }
 
 /// `crash D written | synced | zeros | mixed`: what is open there is gone, and the disk has what a crash leaves.
-fn crash<J: OnDisk>(alloc: Global, slot: &mut Slot<J>, how: &str) -> Result<()> {
+fn crash<J: OnDisk>(alloc: Global, slot: &mut Slot<J>, how: &str) -> Result<String> {
     let crash = Crash::read(how).context("no crash")?;
     let left = disk_in(slot)?.left_by(crash)?;
     set_bytes(alloc, slot, &left, NO_LIMITS)
@@ -98,10 +98,10 @@ fn set_bytes<J: OnDisk>(
     slot: &mut Slot<J>,
     bytes: &[u8],
     limits: Limits,
-) -> Result<()> {
+) -> Result<String> {
     let disk = Disk::in_memory(alloc, bytes, limits)?;
     set_disk(slot, disk);
-    Ok(())
+    Ok(String::new(alloc))
 }
 
 /// A line that changes the bytes of a disk, or when it fails.
@@ -110,7 +110,7 @@ fn renew<J: OnDisk>(
     slot: &mut Slot<J>,
     word: &str,
     words: &mut SplitWhitespace<'_>,
-) -> Result<()> {
+) -> Result<String> {
     let mut bytes = bytes_in(alloc, slot)?;
     let limits = changed(alloc, &mut bytes, word, words)?;
     set_bytes(alloc, slot, &bytes, limits)
@@ -124,18 +124,18 @@ fn changed(
     word: &str,
     words: &mut SplitWhitespace<'_>,
 ) -> Result<Limits> {
+    if word == "append" {
+        bytes.extend_from_slice(&next_bytes(alloc, words)?)?;
+        return Ok(NO_LIMITS);
+    }
+    let number = next_number(words)?;
     match word {
-        "stop" => return Ok(Limits::after(next_number(words)?)),
-        "room" => return Ok(Limits::at(next_number(words)?)),
-        "append" => bytes.extend_from_slice(&next_bytes(alloc, words)?)?,
-        "cut" => bytes.truncate(next_place(words)?),
-        _ => flip(bytes, next_place(words)?, next_byte(words)?)?,
+        "stop" => return Ok(Limits::after(number)),
+        "room" => return Ok(Limits::at(number)),
+        "cut" => bytes.truncate(usize::try_from(number)?),
+        _ => flip(bytes, usize::try_from(number)?, next_byte(words)?)?,
     }
     Ok(NO_LIMITS)
-}
-
-fn next_place(words: &mut SplitWhitespace<'_>) -> Result<usize> {
-    usize::try_from(next_number(words)?).context("no place")
 }
 
 /// Changes a byte by these bits.

@@ -26,23 +26,54 @@ pub(crate) fn run<R: Print + AllocGlobal>(rt: &R) -> Result<()> {
     keep(rt, &mut tablet)
 }
 
-/// The tablet keeps what it writes, and each line tells what its host sees.
+/// The tablet keeps what it writes, in a file that has no byte yet.
 fn keep<R: Print + AllocGlobal>(rt: &R, tablet: &mut Tablet) -> Result<()> {
-    let alloc = rt.alloc();
-    let mut file = MemoryDevice::new(alloc, Vec::new(alloc));
-    let begun = settle(&mut file, tablet)?;
-    write(alloc, tablet)?;
+    let mut file = MemoryDevice::new(rt.alloc(), Vec::new(rt.alloc()));
+    keep_in(rt, tablet, &mut file)
+}
+
+/// The tablet keeps what it writes in this file, and each line tells what its host sees.
+fn keep_in<R: Print + AllocGlobal>(
+    rt: &R,
+    tablet: &mut Tablet,
+    file: &mut MemoryDevice,
+) -> Result<()> {
+    let begun = settle(file, tablet)?;
+    write(rt.alloc(), tablet)?;
+    tell_before(rt, tablet, begun)?;
+    tell_killed(rt, file.bytes(), tablet.acts())?;
+    let done = settle(file, tablet)?;
+    tell_after(rt, tablet, done)?;
+    tell_failed(rt, file.bytes())
+}
+
+/// Tells what the host sees before it has done the acts of a commit, once it did so many.
+fn tell_before<R: Print + AllocGlobal>(rt: &R, tablet: &mut Tablet, begun: usize) -> Result<()> {
     let left = tablet.acts().len();
-    let before = seen(alloc, tablet)?;
-    let told = refusal(alloc, tablet)?;
+    let before = seen(rt.alloc(), tablet)?;
+    let told = refusal(rt.alloc(), tablet)?;
     println!(rt; "a host did {begun} acts, and has {left} to do: {before}; {told}")?;
-    let Found { none, both } = kill(alloc, file.bytes(), tablet.acts())?;
+    Ok(())
+}
+
+/// Tells what is found where the host is killed in one of the acts.
+fn tell_killed<R: Print + AllocGlobal>(rt: &R, bytes: &[u8], acts: &[Act]) -> Result<()> {
+    let Found { none, both } = kill(rt.alloc(), bytes, acts)?;
     println!(rt; "killed in them: {none} times it found nothing, {both} times all")?;
-    let done = settle(&mut file, tablet)?;
-    let after = seen(alloc, tablet)?;
+    Ok(())
+}
+
+/// Tells what the host sees once it has done so many acts, which were all.
+fn tell_after<R: Print + AllocGlobal>(rt: &R, tablet: &Tablet, done: usize) -> Result<()> {
+    let after = seen(rt.alloc(), tablet)?;
     println!(rt; "it did {done} acts: {after}")?;
-    let failed = fail(alloc, file.bytes())?;
-    let (held, notes) = found_in(alloc, file.bytes())?;
+    Ok(())
+}
+
+/// Tells what comes of an act that fails, and what the file has then.
+fn tell_failed<R: Print + AllocGlobal>(rt: &R, bytes: &[u8]) -> Result<()> {
+    let (held, notes) = found_in(rt.alloc(), bytes)?;
+    let failed = fail(rt.alloc(), bytes)?;
     println!(rt; "an act failed: {failed}; its file has {held} and {notes} notes")?;
     Ok(())
 }
@@ -50,25 +81,15 @@ fn keep<R: Print + AllocGlobal>(rt: &R, tablet: &mut Tablet) -> Result<()> {
 /// The tablet writes its messages and a note, and has the host keep them.
 fn write(alloc: Global, tablet: &mut Tablet) -> Result<()> {
     for subject in SUBJECTS {
-        create(alloc, tablet, subject)?;
+        done(tablet.create(message(alloc, subject, "inbox")?))?;
     }
-    note(tablet, Note::new(1, b"both".to_vec(alloc)?))?;
+    done(tablet.note(Note::new(1, b"both".to_vec(alloc)?)))?;
     commit(tablet)
 }
 
-/// The tablet writes a message.
-fn create(alloc: Global, tablet: &mut Tablet, subject: &str) -> Result<()> {
-    let message = message(alloc, subject, "inbox")?;
-    match tablet.create(message) {
-        Ok(()) => Ok(()),
-        Err(KeptFault::Refused(refusal)) => Err(refusal.into()),
-        Err(fault) => Err(fault.into()),
-    }
-}
-
-/// The tablet writes a note.
-fn note(tablet: &mut Tablet, note: Note) -> Result<()> {
-    match tablet.note(note) {
+/// What the tablet was asked, once it is done. A refusal is named in a function that owns nothing else.
+fn done(answer: Result<(), KeptFault>) -> Result<()> {
+    match answer {
         Ok(()) => Ok(()),
         Err(KeptFault::Refused(refusal)) => Err(refusal.into()),
         Err(fault) => Err(fault.into()),
@@ -139,7 +160,7 @@ fn settle(file: &mut MemoryDevice, tablet: &mut Tablet) -> Result<usize> {
 }
 
 /// How many files of a host that was killed had nothing of a batch, and how many all of it.
-#[derive(Drop)]
+#[derive(Clone, Copy)]
 struct Found {
     none: u32,
     both: u32,
@@ -163,13 +184,18 @@ fn kill(alloc: Global, bytes: &[u8], acts: &[Act]) -> Result<Found> {
     let mut file = MemoryDevice::new(alloc, bytes.to_vec(alloc)?);
     found.look(alloc, file.bytes())?;
     for act in acts {
-        if let Act::Write { at, bytes } = act {
-            found.look(alloc, torn(alloc, file.bytes(), *at, bytes)?.bytes())?;
-        }
-        act_on(&mut file, act)?;
-        found.look(alloc, file.bytes())?;
+        kill_in(alloc, &mut found, &mut file, act)?;
     }
     Ok(found)
+}
+
+/// What is found where the host was killed in the middle of a write, and behind the act.
+fn kill_in(alloc: Global, found: &mut Found, file: &mut MemoryDevice, act: &Act) -> Result<()> {
+    if let Act::Write { at, bytes } = act {
+        found.look(alloc, torn(alloc, file.bytes(), *at, bytes)?.bytes())?;
+    }
+    act_on(file, act)?;
+    found.look(alloc, file.bytes())
 }
 
 /// The file with half of a write.
@@ -181,20 +207,25 @@ fn torn(alloc: Global, bytes: &[u8], at: u64, written: &[u8]) -> Result<MemoryDe
 
 /// How many messages and notes a file has, once the host has done what is to be done as it is opened.
 fn found_in(alloc: Global, bytes: &[u8]) -> Result<(usize, usize)> {
-    let mut file = MemoryDevice::new(alloc, bytes.to_vec(alloc)?);
     let mut opened = Tablet::open(alloc, bytes.to_vec(alloc)?, &HERE, None)?;
-    settle(&mut file, &mut opened.0)?;
+    settle_opened(alloc, bytes, &mut opened.0)?;
     match opened.0.replica() {
         Some(replica) => Ok((replica.heads().len(), opened.1.notes.len())),
         None => bail!("nothing is shown"),
     }
 }
 
+/// The host does on such a file what is to be done as it is opened.
+fn settle_opened(alloc: Global, bytes: &[u8], tablet: &mut Tablet) -> Result<()> {
+    let mut file = MemoryDevice::new(alloc, bytes.to_vec(alloc)?);
+    settle(&mut file, tablet)?;
+    Ok(())
+}
+
 /// Opens the file, and the host fails in an act.
 fn fail(alloc: Global, bytes: &[u8]) -> Result<String> {
-    let mut file = MemoryDevice::new(alloc, bytes.to_vec(alloc)?);
     let mut opened = Tablet::open(alloc, bytes.to_vec(alloc)?, &HERE, None)?;
-    settle(&mut file, &mut opened.0)?;
+    settle_opened(alloc, bytes, &mut opened.0)?;
     break_off(alloc, &mut opened.0)
 }
 

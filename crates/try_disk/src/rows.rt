@@ -24,9 +24,17 @@ fn batch(alloc: Global, first: u64) -> Result<Vec<Vec<u8>>> {
     Ok(entries)
 }
 
+/// The journal on a disk, and its entries.
+fn opened(alloc: Global, disk: Disk) -> Result<(Journal<Disk>, Vec<Vec<u8>>), JournalFault> {
+    match Journal::open(alloc, disk) {
+        Ok(opened) => Ok(opened),
+        Err((fault, _disk)) => Err(fault),
+    }
+}
+
 /// Adds so many batches, and prints after each how many entries there are.
 pub fn write<R: Print + AllocGlobal>(rt: &R, disk: Disk, count: u64) -> Result<()> {
-    let (mut journal, entries) = Journal::open(rt.alloc(), disk).map_err(|e| e.0)?;
+    let (mut journal, entries) = opened(rt.alloc(), disk)?;
     add_all(rt, &mut journal, entries.len() as u64, count)
 }
 
@@ -66,7 +74,7 @@ fn told(journal: &Journal<Disk>, fault: JournalFault) -> Error {
 /// Prints how many entries there are, once each is the one that belongs there.
 pub fn read<R: Print + AllocGlobal>(rt: &R, disk: Disk) -> Result<()> {
     let alloc = rt.alloc();
-    let (_, entries) = Journal::open(alloc, disk).map_err(|e| e.0)?;
+    let (_, entries) = opened(alloc, disk)?;
     let mut number = 0u64;
     for bytes in &entries {
         if bytes.as_slice() != entry(alloc, number)?.as_slice() {

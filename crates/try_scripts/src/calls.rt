@@ -44,7 +44,7 @@ struct Row<'a> {
 }
 
 /// How a script is read and written.
-#[derive(Clone, Copy, Debug)]
+#[derive(Clone, Copy)]
 struct Manners {
     reader: Manner,
     writer: Manner,

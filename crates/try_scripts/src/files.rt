@@ -1,4 +1,4 @@
-//! The files of a row.
+//! The files of a folder, and those of a row.
 use crate::many::written_out;
 use anyhow::{Context, Result};
 use std::fs;
@@ -40,4 +40,17 @@ pub fn is_there<R: Files + AllocGlobal>(
 ) -> Result<bool> {
     let path = format!(in rt.alloc(); "{folder}/{name}.{kind}")?;
     Ok(fs::exists(rt, path.as_str())?)
+}
+
+/// The names of the files in the folder, in order.
+pub fn file_names<R: Files + AllocGlobal + Clone + Drop>(
+    rt: &R,
+    folder: &str,
+) -> Result<Vec<String>> {
+    let mut names = Vec::new(rt.alloc());
+    for entry in fs::read_dir(rt, folder)? {
+        names.push(String::from_str(rt.alloc(), entry?.file_name())?)?;
+    }
+    names.sort()?;
+    Ok(names)
 }

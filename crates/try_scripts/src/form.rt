@@ -6,7 +6,7 @@ use mr_script::run_script;
 use std::alloc::Global;
 
 /// A form of knowledge that the replicas of a script keep.
-#[derive(Clone, Copy, Debug, PartialEq, Eq)]
+#[derive(Clone, Copy, PartialEq, Eq)]
 pub enum Form {
     /// Item sets, which learn each version for all items.
     Items,

@@ -1,7 +1,11 @@
-//! Scripts, lines and frames with what they have to answer, as data: this program compares.
+//! Scripts, lines and frames with what they have to answer, as data, which this program compares; random calls; and the command
+//! lines of `mailrep`.
 //!
-//!     try_scripts                      all rows of the folder that it is run in
-//!     try_scripts FOLDER [BEGINNING]   those of this folder, whose names begin so, as by `rt try -- "$PWD/data" first`
+//!     try_scripts                           all rows of the folder that it is run in, random calls, and all command lines
+//!     try_scripts FOLDER [BEGINNING]        the rows of this folder whose names begin so, as by `rt try -- "$PWD/data" first`
+//!     try_scripts command-lines FOLDER      the command lines of this folder
+//!     try_scripts random SEED COUNT         compares twins (`random/twins.rt`), and tries so many hostile frames, and what belongs to them
+//!     try_scripts random SEED COUNT told    reads so many hostile frames, and says before each how long it is
 //!
 //! | File | What it says |
 //! |---|---|
@@ -16,12 +20,14 @@
 //! `many`).
 //!
 //! The program prints the texts of the faults of all libraries. Then it runs the rows in the order of their names and prints a
-//! line for each: `ok`, or what differs. It ends with status 1 where a row differs or can't be read.
+//! line for each: `ok`, or what differs. It ends with status 1 where a row differs or can't be read. Behind the rows it makes the
+//! random calls of `random.rt`, and then it prints what comes of the command lines of the folder's tables `NAME.runs` (see `command_lines`).
 #![tactic(auto)]
 
 mod answer;
 mod calls;
 mod cases;
+mod command_lines;
 mod faults;
 mod files;
 mod form;
@@ -29,17 +35,21 @@ mod frames;
 mod many;
 mod pieces;
 mod pipes;
+mod random;
 mod script;
 mod tally;
 
 use anyhow::Result;
+use files::file_names;
+use std::env;
 use std::process::ExitCode;
 use std::rt::{Env, Files};
-use std::{env, fs};
+use std::sync::Wait;
+use std::thread::Threads;
 use tally::Tally;
 
 fn main(rt: HostRuntime) -> ExitCode {
-    match run_all(&rt) {
+    match run(&rt) {
         Ok(true) => ExitCode::SUCCESS,
         Ok(false) => ExitCode::FAILURE,
         Err(error) => {
@@ -49,20 +59,45 @@ fn main(rt: HostRuntime) -> ExitCode {
     }
 }
 
-/// Whether each row answers as expected. Prints the texts of faults, then a line for each file, and then how many there
-/// are.
-fn run_all<R: Env + Files + Print + AllocGlobal + Clone + Drop>(rt: &R) -> Result<bool> {
-    faults::print(rt)?;
-    let (folder, beginning) = (word(rt, 1, ".")?, word(rt, 2, "")?);
-    run_folder(rt, folder.as_str(), beginning.as_str())?.tell(rt, "all", "files of rows")
+/// Does what the words of the command line say, and tells whether all is as it has to be.
+fn run<R: Env + Files + Print + AllocGlobal + Threads + Wait + Sync + Send + Copy>(
+    rt: &R,
+) -> Result<bool> {
+    let words: Vec<String> = env::args(rt)?.collect(rt.alloc())?;
+    match words.as_slice() {
+        [] | [_] => run_all(rt),
+        [_, word, words @ ..] if word.as_str() == "random" => {
+            random::run_words(rt, words)?;
+            Ok(true)
+        }
+        [_, word, folder] if word.as_str() == "command-lines" => {
+            command_lines::run_all(rt, folder.as_str())?;
+            Ok(true)
+        }
+        [_, folder] => run_rows(rt, folder.as_str(), ""),
+        [_, folder, beginning, ..] => run_rows(rt, folder.as_str(), beginning.as_str()),
+    }
 }
 
-/// The word of the command line at this place, or else this one.
-fn word<R: Env + AllocGlobal>(rt: &R, place: usize, default: &str) -> Result<String> {
-    match env::args(rt)?.nth(place) {
-        Some(word) => Ok(word),
-        None => Ok(String::from_str(rt.alloc(), default)?),
-    }
+/// Runs all rows of the folder that the program is run in, makes the random calls, and runs the command lines.
+fn run_all<R: Files + Print + AllocGlobal + Threads + Wait + Sync + Send + Copy>(
+    rt: &R,
+) -> Result<bool> {
+    let are_ok = run_rows(rt, ".", "")?;
+    random::run_all(rt)?;
+    command_lines::run_all(rt, ".")?;
+    Ok(are_ok)
+}
+
+/// Whether each row answers as expected. Prints the texts of faults, then a line for each file, and then how many there
+/// are.
+fn run_rows<R: Files + Print + AllocGlobal + Clone + Drop>(
+    rt: &R,
+    folder: &str,
+    beginning: &str,
+) -> Result<bool> {
+    faults::print(rt)?;
+    run_folder(rt, folder, beginning)?.tell(rt, "all", "files of rows")
 }
 
 /// Runs each row of a folder whose name begins so. Prints a line for each file.
@@ -78,16 +113,6 @@ fn run_folder<R: Files + Print + AllocGlobal + Clone + Drop>(
         }
     }
     Ok(tally)
-}
-
-/// The names of the files in the folder, in order.
-fn file_names<R: Files + AllocGlobal + Clone + Drop>(rt: &R, folder: &str) -> Result<Vec<String>> {
-    let mut names = Vec::new(rt.alloc());
-    for entry in fs::read_dir(rt, folder)? {
-        names.push(String::from_str(rt.alloc(), entry?.file_name())?)?;
-    }
-    names.sort()?;
-    Ok(names)
 }
 
 /// Runs the rows of a file, if it has some.

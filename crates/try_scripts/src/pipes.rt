@@ -5,7 +5,7 @@ use std::io;
 use std::io::{ErrorKind, Read, Write};
 
 /// How much a call gives or takes.
-#[derive(Clone, Copy, Debug)]
+#[derive(Clone, Copy)]
 pub enum Piece {
     /// A line.
     Line,
@@ -14,7 +14,7 @@ pub enum Piece {
 }
 
 /// Which calls go wrong, counted from 1.
-#[derive(Clone, Copy, Debug)]
+#[derive(Clone, Copy)]
 pub enum Trouble {
     Never,
     /// One call.
@@ -35,7 +35,7 @@ impl Trouble {
 }
 
 /// How a reader or a writer is called.
-#[derive(Clone, Copy, Debug)]
+#[derive(Clone, Copy)]
 pub struct Manner {
     pub piece: Piece,
     pub trouble: Trouble,

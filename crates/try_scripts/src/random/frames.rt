@@ -1,8 +1,8 @@
 //! Frames: hostile bytes are read as the frame that they spell, or refused by a named fault.
 ghost use Rattle.std.specs.Prelude.{◌≤◌};
 
-use crate::bytes::{LENGTH_BYTES, make, put};
-use crate::numbers::Numbers;
+use crate::random::bytes::{LENGTH_BYTES, make, put};
+use crate::random::numbers::Numbers;
 use mr_wire::{Frame, WireFault, decode, encode};
 use std::alloc::{AllocError, Global};
 

@@ -3,7 +3,7 @@
 //! What the one learns for an item the other learns for all, and the sparing form chooses by what it knows,
 //! so they are compared by the pairs of a version with the item that it is of.
 use super::Outcome;
-use crate::numbers::Numbers;
+use crate::random::numbers::Numbers;
 use anyhow::Result;
 use mr_concise::ConciseVector;
 use mr_forms::{
@@ -28,7 +28,7 @@ fn item_of(version: Version) -> Result<ItemId> {
 }
 
 /// How long a comparison is.
-#[derive(Clone, Copy, Debug)]
+#[derive(Clone, Copy)]
 pub struct Course {
     /// How many calls are made.
     pub calls: u32,

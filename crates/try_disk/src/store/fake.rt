@@ -107,10 +107,8 @@ impl FakeTree {
     /// Puts a file at a path.
     fn put(&mut self, path: &FilePath, bytes: Vec<u8>) -> Result<(), FilesFailed> {
         let text = text_of(self.alloc, path)?;
-        match self.files.insert(text, bytes) {
-            Ok(_) => Ok(()),
-            Err(_) => Err(FilesFailed),
-        }
+        or_failed(self.files.insert(text, bytes))?;
+        Ok(())
     }
 
     /// Notes that the bytes at a path are synced, or that they aren't.
@@ -120,10 +118,8 @@ impl FakeTree {
             return Ok(());
         }
         let text = text_of(self.alloc, path)?;
-        match self.unsynced.insert(text) {
-            Ok(_) => Ok(()),
-            Err(_) => Err(FilesFailed),
-        }
+        or_failed(self.unsynced.insert(text))?;
+        Ok(())
     }
 
     /// Puts at a path what stands at another.
@@ -151,10 +147,8 @@ impl FakeTree {
             bytes
         };
         let text = text_of(self.alloc, path)?;
-        match self.synced.insert(text, kept) {
-            Ok(_) => Ok(()),
-            Err(_) => Err(FilesFailed),
-        }
+        or_failed(self.synced.insert(text, kept))?;
+        Ok(())
     }
 
     /// The names of the store's files.
@@ -183,7 +177,15 @@ fn copy_of(alloc: Global, files: &Files) -> Result<Files> {
 
 /// A copy of a path's text.
 fn text_of(alloc: Global, path: &FilePath) -> Result<String, FilesFailed> {
-    String::from_str(alloc, path.as_str()).map_err(|_| FilesFailed)
+    or_failed(String::from_str(alloc, path.as_str()))
+}
+
+/// What was done, where there was memory for it.
+fn or_failed<T: Drop, E: Drop>(done: Result<T, E>) -> Result<T, FilesFailed> {
+    match done {
+        Ok(done) => Ok(done),
+        Err(_) => Err(FilesFailed),
+    }
 }
 
 impl FileTree for FakeTree {
@@ -201,7 +203,7 @@ impl FileTree for FakeTree {
 
     fn read(&mut self, _alloc: Global, path: &FilePath) -> Result<Option<Vec<u8>>, FilesFailed> {
         self.step()?;
-        self.bytes(path).map_err(|_| FilesFailed)
+        or_failed(self.bytes(path))
     }
 
     fn has(&mut self, path: &FilePath) -> Result<bool, FilesFailed> {
@@ -211,7 +213,7 @@ impl FileTree for FakeTree {
 
     fn stored_names(&mut self, alloc: Global) -> Result<Vec<String>, FilesFailed> {
         self.step()?;
-        self.names(alloc).map_err(|_| FilesFailed)
+        or_failed(self.names(alloc))
     }
 
     fn create(&mut self, path: &FilePath) -> Result<(), FilesFailed> {
@@ -224,7 +226,7 @@ impl FileTree for FakeTree {
     fn append(&mut self, path: &FilePath, bytes: &[u8]) -> Result<(), FilesFailed> {
         self.step()?;
         match self.files.get_mut(path.as_str()) {
-            Some(file) => file.extend_from_slice(bytes).map_err(|_| FilesFailed)?,
+            Some(file) => or_failed(file.extend_from_slice(bytes))?,
             None => return Err(FilesFailed),
         }
         self.mark(path, false)

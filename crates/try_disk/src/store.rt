@@ -1,9 +1,11 @@
 //! Scenes of a store of mail: over files of which each call fails in turn and that a crash then cuts, and over a folder of the disk.
 //!
-//! A line of the file `store.scene` says `CALL WORDS => ANSWER`. A mail is told by its text, a path by its folder (`-` for the
+//! A line of the file `store.mails` says `CALL WORDS => ANSWER`. A mail is told by its text, a path by its folder (`-` for the
 //! Maildir itself), its part and its name.
-use crate::fake::{Crash, FakeTree};
+mod fake;
+
 use anyhow::Result;
+use fake::{Crash, FakeTree};
 use mr_folder::{
     DiskTree, FilePath, FileTree, FolderPath, Part, StoreFault, adopt, append, begin, end, link,
     list, replace, stored, sweep, unlink,
@@ -14,7 +16,7 @@ use std::fs::{self, File};
 use std::rt::Files;
 
 /// The file of scenes, and the folder that they are played in.
-const SCENES: &str = "store.scene";
+const SCENES: &str = "store.mails";
 
 const FOLDER: &str = "store.d";
 
@@ -22,50 +24,91 @@ const FOLDER: &str = "store.d";
 const ALL: u64 = 1_000;
 
 /// What a run of a scene came to.
-#[derive(Drop)]
+#[derive(Clone, Copy)]
 struct Run {
     /// How many answers differ.
     differing: u64,
-    /// The digests of which it was told that they are in the store.
-    kept: Vec<[u8; 32]>,
     /// Whether each call was done.
     is_whole: bool,
 }
 
-/// Plays the scenes. What came of them, as text.
-pub fn told<R: Files<File = File> + AllocGlobal>(rt: &R) -> Result<String> {
+/// What runs came to of which each call failed in turn.
+#[derive(Clone, Copy)]
+struct Failing {
+    runs: u64,
+    /// How many files a crash left in the store whose bytes aren't those that their names say.
+    wrong: u64,
+    /// How many mails a crash left none of that were told to be there.
+    lost: u64,
+}
+
+/// Plays the scenes, and prints what came of them.
+pub fn print<R: Files<File = File> + Print + AllocGlobal>(rt: &R, folder: &str) -> Result<()> {
+    let path = format!(in rt.alloc(); "{folder}/{SCENES}")?;
+    let scenes = fs::read_to_string(rt, path.as_str())?;
+    rt.println(told(rt, scenes.as_str())?)?;
+    Ok(())
+}
+
+/// What came of the scenes, as text.
+fn told<R: Files<File = File> + AllocGlobal>(rt: &R, lines: &str) -> Result<String> {
     let alloc = rt.alloc();
-    let scenes = fs::read_to_string(rt, SCENES)?;
-    let lines = scenes.as_str();
-    let mut whole = FakeTree::new(alloc, ALL);
-    let run = play(alloc, &mut whole, lines)?;
-    let differing = run.differing;
-    let failing = fail_in_turn(alloc, lines)?;
-    let failing = failing.as_str();
+    let differing = play_whole(alloc, lines)?.differing;
+    let Failing { runs, wrong, lost } = fail_in_turn(alloc, lines)?;
     let disk = on_disk(rt, lines)?;
-    let disk = disk.as_str();
-    Ok(format!(in alloc; "store: {differing} differ; {failing}; {disk}")?)
+    Ok(format!(in alloc;
+        "store: {differing} differ; {runs} runs, {wrong} wrong, {lost} lost; {disk}"
+    )?)
+}
+
+/// Plays the scenes with no call failing.
+fn play_whole(alloc: Global, lines: &str) -> Result<Run> {
+    let mut files = FakeTree::new(alloc, ALL);
+    play_kept(alloc, &mut files, lines)
 }
 
 /// Plays the scenes with each call failing in turn, and looks at what crashes then leave.
-fn fail_in_turn(alloc: Global, lines: &str) -> Result<String> {
-    let mut runs = 0u64;
-    let mut wrong = 0u64;
-    let mut lost = 0u64;
+fn fail_in_turn(alloc: Global, lines: &str) -> Result<Failing> {
+    let mut failing = Failing {
+        runs: 0,
+        wrong: 0,
+        lost: 0,
+    };
     for fuse in 0..ALL {
-        let mut files = FakeTree::new(alloc, fuse);
-        let run = play(alloc, &mut files, lines)?;
-        runs = runs.saturating_add(1);
-        for crash in [Crash::LosesPaths, Crash::LosesBytes] {
-            let mut left = files.after(crash)?;
-            wrong = wrong.saturating_add(left.wrong()?);
-            lost = lost.saturating_add(lacking(alloc, &mut left, &run.kept)?);
-        }
-        if run.is_whole {
+        failing.runs = failing.runs.saturating_add(1);
+        if fail_at(alloc, lines, fuse, &mut failing)? {
             break;
         }
     }
-    Ok(format!(in alloc; "{runs} runs, {wrong} wrong, {lost} lost")?)
+    Ok(failing)
+}
+
+/// Plays the scenes with all calls failing from the one of this number on, and looks at what crashes then leave. Tells whether no call
+/// failed.
+fn fail_at(alloc: Global, lines: &str, fuse: u64, failing: &mut Failing) -> Result<bool> {
+    let mut files = FakeTree::new(alloc, fuse);
+    let mut kept = Vec::new(alloc);
+    let run = play(alloc, &mut files, lines, &mut kept)?;
+    for crash in [Crash::LosesPaths, Crash::LosesBytes] {
+        failing.look(alloc, &files, crash, &kept)?;
+    }
+    Ok(run.is_whole)
+}
+
+impl Failing {
+    /// Looks at what a crash leaves of these files.
+    fn look(
+        &mut self,
+        alloc: Global,
+        files: &FakeTree,
+        crash: Crash,
+        kept: &[[u8; 32]],
+    ) -> Result<()> {
+        let mut left = files.after(crash)?;
+        self.wrong = self.wrong.saturating_add(left.wrong()?);
+        self.lost = self.lost.saturating_add(lacking(alloc, &mut left, kept)?);
+        Ok(())
+    }
 }
 
 /// How many of these digests the store has no file of.
@@ -80,21 +123,49 @@ fn lacking(alloc: Global, files: &mut FakeTree, kept: &[[u8; 32]]) -> Result<u64
 
 /// Plays the scenes in a folder of the disk.
 fn on_disk<R: Files<File = File> + AllocGlobal>(rt: &R, lines: &str) -> Result<String> {
-    let alloc = rt.alloc();
     fs::create_dir_all(rt, FOLDER)?;
+    let told = told_on_disk(rt, lines)?;
+    fs::remove_dir_all(rt, FOLDER)?;
+    Ok(told)
+}
+
+/// What came of the scenes in that folder, as text.
+fn told_on_disk<R: Files<File = File> + AllocGlobal>(rt: &R, lines: &str) -> Result<String> {
+    let alloc = rt.alloc();
     let mut tree = DiskTree::open(rt, String::from_str(alloc, FOLDER)?)?;
+    play_on(alloc, &mut tree, lines)
+}
+
+/// What came of the scenes over this tree, as text.
+fn play_on<R: Files<File = File> + AllocGlobal + Clone + Drop>(
+    alloc: Global,
+    tree: &mut DiskTree<R>,
+    lines: &str,
+) -> Result<String> {
+    make_folders(alloc, tree)?;
+    let differing = play_kept(alloc, tree, lines)?.differing;
+    let links = same_file(alloc, tree)?;
+    let names = listed(alloc, tree)?;
+    Ok(format!(in alloc; "disk: {differing} differ, {names}, one file: {links}")?)
+}
+
+/// Makes the folders of the scenes.
+fn make_folders<R: Files<File = File> + AllocGlobal + Clone + Drop>(
+    alloc: Global,
+    tree: &mut DiskTree<R>,
+) -> Result<()> {
     for folder in ["", "Archive"] {
         if let Some(folder) = FolderPath::read(alloc, folder)? {
             tree.make_folder(&folder)?;
         }
     }
-    let run = play(alloc, &mut tree, lines)?;
-    let differing = run.differing;
-    let names = listed(alloc, &mut tree)?;
-    let names = names.as_str();
-    let links = same_file(alloc, &mut tree)?;
-    fs::remove_dir_all(rt, FOLDER)?;
-    Ok(format!(in alloc; "disk: {differing} differ, {names}, one file: {links}")?)
+    Ok(())
+}
+
+/// Plays lines over files of which no call fails.
+fn play_kept<F: FileTree>(alloc: Global, files: &mut F, lines: &str) -> Result<Run> {
+    let mut kept = Vec::new(alloc);
+    play(alloc, files, lines, &mut kept)
 }
 
 /// The names in the folders of a disk.
@@ -133,21 +204,20 @@ fn same_file<R: Files<File = File> + AllocGlobal + Clone + Drop>(
     Ok(kept.is_some() && kept == seen)
 }
 
-/// Plays lines until a call of the files fails.
-fn play<F: FileTree>(alloc: Global, files: &mut F, lines: &str) -> Result<Run> {
+/// Plays lines until a call of the files fails. The digests of which it is told that they are in the store come to `kept`.
+fn play<F: FileTree>(
+    alloc: Global,
+    files: &mut F,
+    lines: &str,
+    kept: &mut Vec<[u8; 32]>,
+) -> Result<Run> {
     let mut run = Run {
         differing: 0,
-        kept: Vec::new(alloc),
         is_whole: true,
     };
     for line in lines.lines() {
-        let (call, expected) = line.split_once(" => ").unwrap_or((line, ""));
-        match answer(alloc, files, call, &mut run.kept) {
-            Ok(told) => {
-                run.differing = run
-                    .differing
-                    .saturating_add(u64::from(told.as_str() != expected));
-            }
+        match differs(alloc, files, line, kept) {
+            Ok(differs) => run.differing = run.differing.saturating_add(u64::from(differs)),
             Err(fault) => {
                 run.is_whole = false;
                 run.differing = u64::from(fault.number());
@@ -156,6 +226,18 @@ fn play<F: FileTree>(alloc: Global, files: &mut F, lines: &str) -> Result<Run> {
         }
     }
     Ok(run)
+}
+
+/// Whether a line is answered otherwise than it says.
+fn differs<F: FileTree>(
+    alloc: Global,
+    files: &mut F,
+    line: &str,
+    kept: &mut Vec<[u8; 32]>,
+) -> Result<bool, StoreFault> {
+    let (call, expected) = line.split_once(" => ").unwrap_or((line, ""));
+    let told = answer(alloc, files, call, kept)?;
+    Ok(told.as_str() != expected)
 }
 
 /// What a line answers.
@@ -169,13 +251,34 @@ fn answer<F: FileTree>(
     match call {
         "take" => take(alloc, files, words, kept),
         "mixed" => mixed(alloc, files, words),
-        "adopt" => take_link(alloc, files, words, kept),
-        "show" => show(alloc, files, words),
-        "move" => move_to(alloc, files, words),
-        "unlink" => go(alloc, files, words),
         "sweep" => sweep_all_but(alloc, files, words, kept),
         "stored" => count(alloc, files),
-        "read" => read(alloc, files, words),
+        "show" | "move" => {
+            let (what, path) = halves(words);
+            answer_at(alloc, files, call, what, path, kept)
+        }
+        _ => answer_at(alloc, files, call, "", words, kept),
+    }
+}
+
+/// What a call answers that is about a path: no path leads outside.
+fn answer_at<F: FileTree>(
+    alloc: Global,
+    files: &mut F,
+    call: &str,
+    what: &str,
+    path: &str,
+    kept: &mut Vec<[u8; 32]>,
+) -> Result<String, StoreFault> {
+    let Some(path) = path_of(alloc, path)? else {
+        return Ok(String::from_str(alloc, "outside")?);
+    };
+    match call {
+        "adopt" => take_link(alloc, files, &path, kept),
+        "show" => show(alloc, files, what, &path),
+        "move" => move_to(alloc, files, what, &path),
+        "unlink" => go(alloc, files, &path),
+        "read" => read(alloc, files, &path),
         _ => Ok(String::from_str(alloc, "no call")?),
     }
 }
@@ -230,22 +333,14 @@ fn halves(words: &str) -> (&str, &str) {
     words.split_once(", ").unwrap_or((words, ""))
 }
 
-/// The answer where a path leads outside.
-fn outside(alloc: Global) -> Result<String, StoreFault> {
-    Ok(String::from_str(alloc, "outside")?)
-}
-
 /// Takes a file of the Maildir into the store.
 fn take_link<F: FileTree>(
     alloc: Global,
     files: &mut F,
-    words: &str,
+    path: &FilePath,
     kept: &mut Vec<[u8; 32]>,
 ) -> Result<String, StoreFault> {
-    let Some(path) = path_of(alloc, words)? else {
-        return outside(alloc);
-    };
-    match adopt(alloc, files, &path)? {
+    match adopt(alloc, files, path)? {
         Some(digest) => {
             keep(kept, digest)?;
             Ok(hex::encode(alloc, &digest[..4])?)
@@ -255,32 +350,34 @@ fn take_link<F: FileTree>(
 }
 
 /// Shows a mail of the store at a path.
-fn show<F: FileTree>(alloc: Global, files: &mut F, words: &str) -> Result<String, StoreFault> {
-    let (text, path) = halves(words);
+fn show<F: FileTree>(
+    alloc: Global,
+    files: &mut F,
+    text: &str,
+    path: &FilePath,
+) -> Result<String, StoreFault> {
     let stored = FilePath::stored(alloc, &Sha256::digest(text.as_bytes()))?;
-    let Some(path) = path_of(alloc, path)? else {
-        return outside(alloc);
-    };
-    let is_done = link(files, &stored, &path)?;
+    let is_done = link(files, &stored, path)?;
     Ok(format!(in alloc; "{is_done}")?)
 }
 
 /// Moves a mail.
-fn move_to<F: FileTree>(alloc: Global, files: &mut F, words: &str) -> Result<String, StoreFault> {
-    let (from, to) = halves(words);
-    let (Some(from), Some(to)) = (path_of(alloc, from)?, path_of(alloc, to)?) else {
-        return outside(alloc);
+fn move_to<F: FileTree>(
+    alloc: Global,
+    files: &mut F,
+    from: &str,
+    to: &FilePath,
+) -> Result<String, StoreFault> {
+    let Some(from) = path_of(alloc, from)? else {
+        return Ok(String::from_str(alloc, "outside")?);
     };
-    let is_done = replace(files, &from, &to)?;
+    let is_done = replace(files, &from, to)?;
     Ok(format!(in alloc; "{is_done}")?)
 }
 
 /// Takes a mail's path away.
-fn go<F: FileTree>(alloc: Global, files: &mut F, words: &str) -> Result<String, StoreFault> {
-    let Some(path) = path_of(alloc, words)? else {
-        return outside(alloc);
-    };
-    let is_done = unlink(files, &path)?;
+fn go<F: FileTree>(alloc: Global, files: &mut F, path: &FilePath) -> Result<String, StoreFault> {
+    let is_done = unlink(files, path)?;
     Ok(format!(in alloc; "{is_done}")?)
 }
 
@@ -310,11 +407,8 @@ fn count<F: FileTree>(alloc: Global, files: &mut F) -> Result<String, StoreFault
 }
 
 /// The text of a mail.
-fn read<F: FileTree>(alloc: Global, files: &mut F, words: &str) -> Result<String, StoreFault> {
-    let Some(path) = path_of(alloc, words)? else {
-        return outside(alloc);
-    };
-    match files.read(alloc, &path)? {
+fn read<F: FileTree>(alloc: Global, files: &mut F, path: &FilePath) -> Result<String, StoreFault> {
+    match files.read(alloc, path)? {
         Some(bytes) => Ok(String::from_str(alloc, str::from_utf8(&bytes).unwrap_or("?"))?),
         None => Ok(String::from_str(alloc, "none")?),
     }

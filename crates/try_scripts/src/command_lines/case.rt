@@ -1,5 +1,5 @@
 //! One command line with what it is given, and what comes of it.
-use crate::process::{Folder, Input, Output, Words};
+use crate::command_lines::process::{Folder, Input, Output, Words};
 use anyhow::Result;
 use mr_program::run_mailrep;
 use std::alloc::Global;

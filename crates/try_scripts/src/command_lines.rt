@@ -1,8 +1,7 @@
 //! The program `mailrep` by a table of command lines: what each prints on which stream, and its exit status.
 //!
 //! Each is a call of `run_mailrep`, which is all that `main` of `mailrep` does. Its words, standard input, file and the
-//! streams that fail are those of the table. The tables lie in the folder that the program is run in, or in the one that
-//! it is given, as by `rt try -- "$PWD/data"`.
+//! streams that fail are those of the table.
 //!
 //! A line of a table `NAME.runs` begins with what it is:
 //!
@@ -20,71 +19,39 @@
 //! at the end says that the line has no line feed.
 //! Lines that begin otherwise are skipped. Each command line is printed as the table has it, with `status N`, and then with `out: `
 //! and `err: ` before each line of standard output and standard error.
-#![tactic(auto)]
-
 mod case;
 mod process;
 mod table;
 
+use crate::files::{file_names, text};
 use anyhow::Result;
 use case::Case;
-use std::process::ExitCode;
-use std::rt::{Env, Files};
+use std::rt::Files;
 use std::sync::Wait;
 use std::thread::Threads;
-use std::{env, fs};
 use table::read_table;
 
-fn main(rt: HostRuntime) -> ExitCode {
-    match run_all(&rt) {
-        Ok(()) => ExitCode::SUCCESS,
-        Err(error) => {
-            let _ = eprintln!(rt; "{error:?}");
-            ExitCode::FAILURE
-        }
-    }
-}
-
-/// Runs each table in the order of their names.
-fn run_all<R: Env + Files + Print + AllocGlobal + Threads + Wait + Sync + Send + Copy>(
+/// Runs each table of the folder, in the order of their names.
+pub fn run_all<R: Files + Print + AllocGlobal + Threads + Wait + Sync + Send + Copy>(
     rt: &R,
+    folder: &str,
 ) -> Result<()> {
-    let folder = folder(rt)?;
-    for file in &file_names(rt, folder.as_str())? {
-        if file.ends_with(".runs") {
-            run_table(rt, folder.as_str(), file)?;
+    for file in &file_names(rt, folder)? {
+        if let Some(name) = file.strip_suffix(".runs") {
+            run_table(rt, folder, name)?;
         }
     }
     Ok(())
-}
-
-/// The folder of the tables.
-fn folder<R: Env + AllocGlobal>(rt: &R) -> Result<String> {
-    match env::args(rt)?.nth(1) {
-        Some(folder) => Ok(folder),
-        None => Ok(String::from_str(rt.alloc(), ".")?),
-    }
-}
-
-/// The names of the files in the folder, in order.
-fn file_names<R: Files + AllocGlobal + Clone + Drop>(rt: &R, folder: &str) -> Result<Vec<String>> {
-    let mut names = Vec::new(rt.alloc());
-    for entry in fs::read_dir(rt, folder)? {
-        names.push(String::from_str(rt.alloc(), entry?.file_name())?)?;
-    }
-    names.sort()?;
-    Ok(names)
 }
 
 /// Runs each command line of a table, and prints what comes of it.
 fn run_table<R: Files + Print + AllocGlobal + Threads + Wait + Sync + Send + Copy>(
     rt: &R,
     folder: &str,
-    file: &str,
+    name: &str,
 ) -> Result<()> {
-    let path = format!(in rt.alloc(); "{folder}/{file}")?;
-    let text = fs::read_to_string(rt, path.as_str())?;
-    println!(rt; "== {file}")?;
+    let text = text(rt, folder, name, "runs")?;
+    println!(rt; "== {name}.runs")?;
     for case in &read_table(rt.alloc(), text.as_str())? {
         show(rt, case)?;
     }

@@ -2,7 +2,7 @@
 //! has more holes than a column keeps.
 use super::Outcome;
 use super::sets::Twin;
-use crate::numbers::Numbers;
+use crate::random::numbers::Numbers;
 use anyhow::Result;
 use mr_concise::{ConciseVector, MAX_HOLES};
 use mr_forms::{FormFault, Run, VersionSet};

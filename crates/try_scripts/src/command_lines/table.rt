@@ -1,5 +1,5 @@
 //! Tables of command lines.
-use crate::case::{Case, Failing};
+use crate::command_lines::case::{Case, Failing};
 use anyhow::Result;
 use std::alloc::{AllocError, Global};
 

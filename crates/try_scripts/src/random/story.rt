@@ -1,5 +1,5 @@
 //! A story of two replicas, and the right frames that it leaves, of which hostile ones are made.
-use crate::cast::{Device, ask, both, pass, sync};
+use crate::random::cast::{Device, ask, both, pass, sync};
 use anyhow::{Context, Result};
 use mr_mail::{Day, Message};
 use mr_replica::{Bases, Event, Refusal};

@@ -1,7 +1,7 @@
 //! Hostile frames are read one by one, and said before each is how long it is, so that a tool which counts the memory
 //! that the program asks for can tell what each cost.
-use crate::frames::make_frame;
-use crate::numbers::Numbers;
+use crate::random::frames::make_frame;
+use crate::random::numbers::Numbers;
 use anyhow::Result;
 use mr_frames::FrameReader;
 use mr_wire::decode;

@@ -1,5 +1,5 @@
 //! Hostile bytes: right ones that are changed, cut and put together, with lengths and counts that lie.
-use crate::numbers::Numbers;
+use crate::random::numbers::Numbers;
 use std::alloc::AllocError;
 
 /// The bytes of a length, and the place of the byte that follows it: the number of the format.

@@ -16,13 +16,13 @@
 //! | `list VERSION VIEW DAY TEXT` | the line of a mail with this header, with ` \| ` for each tab |
 //! | `printable TEXT` | the text as it is printed |
 //! | `act LEFT SEEN HELD` | what is done for a mail of these views (see the module `view`) |
-use crate::files;
-use crate::view::{text_of, view_of};
+use crate::maildir::files;
+use crate::maildir::view::{text_of, view_of};
 use anyhow::Result;
 use mr_mail::Label;
 use mr_maildir::{
-    Act, flags_of, folder_label, folder_name, is_safe_name, letters_with, next_act, read_name,
-    read_reference, told_folder, told_name, with_told_folder, with_told_name,
+    Act, View, flags_of, folder_label, folder_name, is_safe_name, letters_with, next_act,
+    read_name, read_reference, told_folder, told_name, with_told_folder, with_told_name,
 };
 use std::alloc::Global;
 
@@ -95,12 +95,30 @@ fn act(alloc: Global, words: &str) -> Result<String> {
     let left = view_of(alloc, left)?;
     let seen = view_of(alloc, seen)?;
     let held = view_of(alloc, held)?;
-    match next_act(alloc, left.as_ref(), seen.as_ref(), held.as_ref())? {
-        Act::Edit(view) => Ok(format!(in alloc; "edit {}", text_of(alloc, &view)?)?),
-        Act::Agree => Ok(String::from_str(alloc, "agree")?),
-        Act::Create => Ok(String::from_str(alloc, "create")?),
-        Act::Delete => Ok(String::from_str(alloc, "delete")?),
-        Act::Follow => Ok(String::from_str(alloc, "follow")?),
-        Act::Remove => Ok(String::from_str(alloc, "remove")?),
-    }
+    act_of(alloc, left.as_ref(), seen.as_ref(), held.as_ref())
+}
+
+/// What is done for a mail of these views.
+fn act_of(
+    alloc: Global,
+    left: Option<&View>,
+    seen: Option<&View>,
+    held: Option<&View>,
+) -> Result<String> {
+    let act = next_act(alloc, left, seen, held)?;
+    let word = match &act {
+        Act::Edit(view) => return edit_text(alloc, view),
+        Act::Agree => "agree",
+        Act::Create => "create",
+        Act::Delete => "delete",
+        Act::Follow => "follow",
+        Act::Remove => "remove",
+    };
+    Ok(String::from_str(alloc, word)?)
+}
+
+/// An edit that makes the mail of this view.
+fn edit_text(alloc: Global, view: &View) -> Result<String> {
+    let text = text_of(alloc, view)?;
+    Ok(format!(in alloc; "edit {text}")?)
 }

@@ -1,14 +1,9 @@
 //! Random calls: two forms of one thing that have to answer alike, and hostile input, which is bytes, streams and frames that
 //! nobody should send, and what comes of them.
 //!
-//!     try_random SEED COUNT           compares the twins (`twins.rt`), and tries so many hostile frames, and what belongs to them
-//!     try_random SEED COUNT told      reads so many hostile frames, and says before each how long it is
-//!
 //! The seed gives all numbers of the hostile input, so that each run with the same words is the same. Where something is not as it has to be
 //! the program says what, with the bytes, and ends with status 1. Otherwise it prints a line for each thing that it
 //! tried, and how often each fault and refusal was met, by its number: a run that meets too few has shown little.
-#![tactic(auto)]
-
 mod bytes;
 mod cast;
 mod facts;
@@ -26,23 +21,11 @@ use anyhow::{Result, bail};
 use cast::{Device, new_devices};
 use mr_wire::WireFault;
 use numbers::Numbers;
-use std::process::ExitCode;
-use std::rt::Env;
-use std::{env, io};
+use std::io;
 use steps::Trial;
 use story::{PHONE_FILTER, add_frames};
 use tally::Tally;
 use tell::tell_all;
-
-fn main(rt: HostRuntime) -> ExitCode {
-    match run(&rt) {
-        Ok(()) => ExitCode::SUCCESS,
-        Err(error) => {
-            let _ = eprintln!(rt; "{error:?}");
-            ExitCode::FAILURE
-        }
-    }
-}
 
 /// What the command line says.
 #[derive(Clone, Copy)]
@@ -53,27 +36,37 @@ struct Course {
     is_told: bool,
 }
 
-/// Does what the command line says.
-fn run<R: Env + Print + AllocGlobal>(rt: &R) -> Result<()> {
-    let course = asked(rt)?;
+/// What is done where the command line says nothing.
+const GIVEN: Course = Course {
+    seed: 7,
+    count: 200_000,
+    is_told: false,
+};
+
+/// Compares the twins (`twins.rt`), and tries as many hostile frames as are given, and what belongs to them.
+pub fn run_all<R: Print + AllocGlobal>(rt: &R) -> Result<()> {
+    run(rt, GIVEN)
+}
+
+/// Does what these words say: `SEED COUNT`, or `SEED COUNT told`.
+pub fn run_words<R: Print + AllocGlobal>(rt: &R, words: &[String]) -> Result<()> {
+    run(rt, course_of(words)?)
+}
+
+/// Compares the twins, where frames aren't only told, and plays with frames.
+fn run<R: Print + AllocGlobal>(rt: &R, course: Course) -> Result<()> {
     if !course.is_told && !twins::run_all(rt)? {
         bail!("two forms of one thing answer differently");
     }
     play(rt, course)
 }
 
-/// What the command line says.
-fn asked<R: Env + AllocGlobal>(rt: &R) -> Result<Course> {
-    let words: Vec<String> = env::args(rt)?.collect(rt.alloc())?;
-    course_of(&words)
-}
-
 /// The course of these words.
 fn course_of(words: &[String]) -> Result<Course> {
     let (seed, count, is_told) = match words {
-        [_program, seed, count] => (seed, count, false),
-        [_program, seed, count, last] if last.as_str() == "told" => (seed, count, true),
-        _ => bail!("usage: try_random SEED COUNT [told]"),
+        [seed, count] => (seed, count, false),
+        [seed, count, last] if last.as_str() == "told" => (seed, count, true),
+        _ => bail!("usage: try_scripts random SEED COUNT [told]"),
     };
     Ok(Course {
         seed: seed.as_str().parse()?,

@@ -1,6 +1,6 @@
 //! Concise vectors beside plain sets: calls on few and low versions.
 use super::Outcome;
-use crate::numbers::Numbers;
+use crate::random::numbers::Numbers;
 use anyhow::Result;
 use mr_concise::ConciseVector;
 use mr_forms::{PlainVersions, Run, VersionSet};

@@ -1,7 +1,7 @@
 //! Files of a mail, folders, headers and lines of lists as text.
 //!
 //! A file is written as `LABEL/cur/NAME` or `LABEL/new/NAME`, and one of another mail with `!` before it.
-use crate::view::view_of;
+use crate::maildir::view::view_of;
 use anyhow::{Context, Result};
 use mr_mail::{Day, Label};
 use mr_maildir::{
@@ -16,10 +16,14 @@ pub fn acts(alloc: Global, words: &str) -> Result<String> {
     let (view, words) = words.split_once(' ').context("no view")?;
     let (told, words) = words.split_once(' ').context("no name")?;
     let view = view_of(alloc, view)?.unwrap_or(View::nowhere(alloc));
+    acts_for(alloc, &view, told, words)
+}
+
+/// The acts for a mail of this view and told name, of these files.
+fn acts_for(alloc: Global, view: &View, told: &str, words: &str) -> Result<String> {
     let seen = files_of(alloc, words, false)?;
     let taken = files_of(alloc, words, true)?;
-    let digest = Sha256::digest(b"");
-    match file_acts(alloc, &seen, &view, told, &digest, &taken) {
+    match file_acts(alloc, &seen, view, told, &Sha256::digest(b""), &taken) {
         Ok(acts) => acts_text(alloc, &acts),
         Err(fault) => Ok(format!(in alloc; "{fault}")?),
     }
@@ -54,7 +58,7 @@ fn acts_text(alloc: Global, acts: &[FileAct]) -> Result<String> {
         if !text.is_empty() {
             text.push_str("; ")?;
         }
-        text.push_str(act_text(alloc, act)?.as_str())?;
+        push_act(alloc, &mut text, act)?;
     }
     if text.is_empty() {
         text.push('-')?;
@@ -62,27 +66,27 @@ fn acts_text(alloc: Global, acts: &[FileAct]) -> Result<String> {
     Ok(text)
 }
 
-/// The text of an act.
-fn act_text(alloc: Global, act: &FileAct) -> Result<String> {
+/// Adds an act.
+fn push_act(alloc: Global, text: &mut String, act: &FileAct) -> Result<()> {
     match act {
-        FileAct::Link { from, to } => {
-            let from = match from {
-                Some(file) => file_text(alloc, file)?,
-                None => String::from_str(alloc, "store")?,
-            };
-            Ok(format!(in alloc; "link {from} {}", file_text(alloc, to)?)?)
-        }
-        FileAct::Move { from, to } => {
-            let from = file_text(alloc, from)?;
-            Ok(format!(in alloc; "move {from} {}", file_text(alloc, to)?)?)
-        }
-        FileAct::Remove { file } => Ok(format!(in alloc; "remove {}", file_text(alloc, file)?)?),
+        FileAct::Link {
+            from: Some(from),
+            to,
+        } => push_files(alloc, text, "link", &[from, to]),
+        FileAct::Link { from: None, to } => push_files(alloc, text, "link store", &[to]),
+        FileAct::Move { from, to } => push_files(alloc, text, "move", &[from, to]),
+        FileAct::Remove { file } => push_files(alloc, text, "remove", &[file]),
     }
 }
 
-/// The text of a file.
-fn file_text(alloc: Global, file: &MailFile) -> Result<String> {
-    Ok(file.path(alloc, file.label().as_str())?)
+/// Adds these words, and files behind them.
+fn push_files(alloc: Global, text: &mut String, words: &str, files: &[&MailFile]) -> Result<()> {
+    text.push_str(words)?;
+    for file in files {
+        let path = file.path(alloc, file.label().as_str())?;
+        write!(text, " {path}")?;
+    }
+    Ok(())
 }
 
 /// The layout that a word names.
@@ -138,15 +142,15 @@ pub fn line(alloc: Global, words: &str) -> Result<String> {
     let (version, words) = words.split_once(' ').context("no version")?;
     let (view, words) = words.split_once(' ').context("no view")?;
     let (day, words) = words.split_once(' ').context("no day")?;
+    let (version, day) = (Version::read(version)?, Day::read(day)?);
     let view = view_of(alloc, view)?.unwrap_or(View::nowhere(alloc));
-    let header = header_of(alloc, words)?;
-    let line = list_line(
-        alloc,
-        Version::read(version)?,
-        &view,
-        Day::read(day)?,
-        &header,
-    )?;
+    line_of(alloc, version, &view, day, words)
+}
+
+/// The line of a mail of these, where the header is a text.
+fn line_of(alloc: Global, version: Version, view: &View, day: Day, header: &str) -> Result<String> {
+    let header = header_of(alloc, header)?;
+    let line = list_line(alloc, version, view, day, &header)?;
     Ok(line.as_str().replace(alloc, "\t", " | ")?)
 }
 

@@ -1,7 +1,7 @@
 //! Random places, and what happens now and then.
 ghost use Rattle.std.specs.Prelude.{◌≤◌, ◌<◌};
 
-use crate::numbers::Numbers;
+use crate::random::numbers::Numbers;
 use rand::RngExt;
 
 impl Numbers {

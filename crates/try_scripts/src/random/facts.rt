@@ -1,7 +1,7 @@
 //! What hostile frames that are taken can do, which the page on threats tells: two facts.
-use crate::cast::{Device, ask, sync};
-use crate::frames::read;
-use crate::story::create;
+use crate::random::cast::{Device, ask, sync};
+use crate::random::frames::read;
+use crate::random::story::create;
 use anyhow::{Result, ensure};
 use mr_replica::Refusal;
 use mr_version::ItemId;

@@ -1,5 +1,5 @@
 //! Random runs of versions.
-use crate::numbers::Numbers;
+use crate::random::numbers::Numbers;
 use anyhow::Result;
 use mr_forms::Run;
 use mr_version::Author;

@@ -1,8 +1,8 @@
 //! Streams: however one is cut, its reader gives the frames that its bytes spell, up to their first fault.
-use crate::bytes::pick;
-use crate::frames::{add, add_first, make_frame};
-use crate::numbers::Numbers;
-use crate::tally::Tally;
+use crate::random::bytes::pick;
+use crate::random::frames::{add, add_first, make_frame};
+use crate::random::numbers::Numbers;
+use crate::random::tally::Tally;
 use anyhow::{Context, Result, bail, ensure};
 use mr_frames::{FrameFault, FrameReader};
 use mr_wire::{Frame, WireFault};

@@ -1,10 +1,10 @@
 //! Steps: a replica with content is given hostile frames. It refuses each for a named reason and then answers all as
 //! before, or takes it and notes it in its log.
-use crate::cast::{Device, are_alike, renew, same};
-use crate::frames::{KIND_PLACE, RECEIPT, REQUEST, is_spelled_alike, make_frame, read};
-use crate::numbers::Numbers;
-use crate::story::{frames_of, sync_both};
-use crate::tally::Tally;
+use crate::random::cast::{Device, are_alike, renew, same};
+use crate::random::frames::{KIND_PLACE, RECEIPT, REQUEST, is_spelled_alike, make_frame, read};
+use crate::random::numbers::Numbers;
+use crate::random::story::{frames_of, sync_both};
+use crate::random::tally::Tally;
 use anyhow::{Context, Result, bail, ensure};
 use mr_replica::{Event, Refusal};
 use mr_wire::{Frame, WireFault};
