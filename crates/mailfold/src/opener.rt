@@ -21,8 +21,8 @@ pub struct Aside {
     pub alloc: Global,
     layout: Layout,
     shown: Shown,
-    /// How many versions waited for a receipt before the talk.
-    pub waiting: usize,
+    /// How many changes of its push-outs the replica had told before the talk.
+    pub push_outs_told: usize,
 }
 
 /// What opens the folder at this path.
@@ -106,13 +106,13 @@ where
         shown,
         meetings,
     } = folder;
-    let waiting = kept.replica().push_outs().len();
+    let push_outs_told = kept.replica().push_out_feed().len();
     let host = FolderHost::new(alloc, kept, tree, meetings);
     let aside = Aside {
         alloc,
         layout,
         shown,
-        waiting,
+        push_outs_told,
     };
     (host, aside)
 }

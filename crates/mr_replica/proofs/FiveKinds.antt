@@ -1,7 +1,6 @@
 -- What an admitted event changes: one of five kinds of change of what is known and held, and a turn each of the sessions and the streams.
-use Rattle.std.proofs.Common.{◌≡◌, ◌≢◌, ◌++◌, refl, sym, ap, subst, append-nil, ℕ, Bool, true, false, List, [], Option, Some, None}
+use Rattle.std.proofs.Common.{◌≡◌, ◌≢◌, refl, sym, ap, subst, append-nil, ℕ, Bool, true, false, List, [], Option, Some, None}
 use Rattle.mr_version.specs.Name.{Name}
-use Rattle.mr_feed.specs.declared.entry.Entry.{Entry}
 use Rattle.mr_forms.specs.Known.{Form, AreSame, with_pairs}
 use Rattle.mr_concise.specs.declared.vector.AuthorColumn.{AuthorColumn}
 use Rattle.mr_madewith.specs.MadeWith.{AreColumnsOf}
@@ -21,7 +20,7 @@ use Rattle.mr_replica.specs.Answer.{Keeps, asked_of, mode_for}
 use Rattle.mr_replica.specs.Create.{created}
 use Rattle.mr_replica.specs.Edit.{edited}
 use Rattle.mr_replica.specs.Forged.{line_of}
-use Rattle.mr_replica.specs.Growing.{FeedGrows}
+use Rattle.mr_replica.specs.Growing.{FeedGrows, PushOutFeedGrows}
 use Rattle.mr_replica.specs.Issue.{Issue, Issues, below_of_issue, issuing, logged, revision_for, version_learned}
 use Rattle.mr_replica.specs.Next.{held_now}
 use Rattle.mr_replica.specs.Receive.{Ends, EndsSession, TakesBody, TakesFrame, TakesLine, ending, entering, learning, line_learned, session_for}
@@ -136,20 +135,21 @@ module _ {K : Type 0} (form : Form K) (s : State K) where
 
   -- ---- what each kind leaves, and tells
 
-  -- id, filter, limit and log stay, and the feed grows
+  -- id, filter, limit and log stay, and the feeds grow
   pub record Leaves (to : State K) : Type 0 where
     pub id : to.id ≡ s.id
     pub filter : to.filter ≡ s.filter
     pub event_limit : to.event_limit ≡ s.event_limit
     pub log : to.log ≡ s.log
     pub feed : FeedGrows s to
+    pub push_out_feed : PushOutFeedGrows s to
 
-  leaves_as : (to made : State K) → to ≡ made → made.id ≡ s.id → made.filter ≡ s.filter → made.event_limit ≡ s.event_limit → made.log ≡ s.log → (more : List Entry) → made.feed ≡ s.feed ++ more → Leaves to
-  leaves_as to made is id filter event_limit log more feed = subst Leaves (sym is) (record { id = id; filter = filter; event_limit = event_limit; log = log; feed = (more, feed) })
+  leaves_as : (to made : State K) → to ≡ made → made.id ≡ s.id → made.filter ≡ s.filter → made.event_limit ≡ s.event_limit → made.log ≡ s.log → FeedGrows s made → PushOutFeedGrows s made → Leaves to
+  leaves_as to made is id filter event_limit log feed push_out_feed = subst Leaves (sym is) (record { id = id; filter = filter; event_limit = event_limit; log = log; feed = feed; push_out_feed = push_out_feed })
 
   pub kind_leaves : (event : Event) (to : State K) → Kind event to → Leaves to
-  kind_leaves event to (Issuing i columns of known is) = leaves_as to _ is refl refl refl refl _ refl
-  kind_leaves event to (Learning sent e line tells known is) = leaves_as to _ is refl refl refl refl _ refl
-  kind_leaves event to (Ending sent session found known is) = leaves_as to _ is refl refl refl refl _ refl
-  kind_leaves event to (Releasing receipt is) = leaves_as to _ is refl refl refl refl [] (sym (append-nil s.feed))
-  kind_leaves event to (Staying retired is) = leaves_as to _ is refl refl refl refl [] (sym (append-nil s.feed))
+  kind_leaves event to (Issuing i columns of known is) = leaves_as to _ is refl refl refl refl (_, refl) (_, refl)
+  kind_leaves event to (Learning sent e line tells known is) = leaves_as to _ is refl refl refl refl (_, refl) (_, refl)
+  kind_leaves event to (Ending sent session found known is) = leaves_as to _ is refl refl refl refl (_, refl) ([], sym (append-nil s.push_out_feed))
+  kind_leaves event to (Releasing receipt is) = leaves_as to _ is refl refl refl refl ([], sym (append-nil s.feed)) (_, refl)
+  kind_leaves event to (Staying retired is) = leaves_as to _ is refl refl refl refl ([], sym (append-nil s.feed)) ([], sym (append-nil s.push_out_feed))

@@ -100,9 +100,15 @@ module _ {K : Type 0} (form : Form K) (s : State K) (k : K) (r : Rev) (event : E
         no_later = All-inserted item_of_last NoLater r others next_no_later (All-filter of_others NoLater s.trail (All-weaker WasNoLater NoLater (λ l n. later_still l.version l.below n) s.trail sound.trail_issued.no_later));
       }
 
-  -- its version is no head's yet
+  new_held : held s r.version ≡ None
+  new_held = next_not_held form s r.version sound (ap (λ (n : Name). n.author) next.version) (ap (λ (n : Name). n.counter) next.version)
+
+  -- its version is no head's yet, and no push-out's
   new_head : revision_of s.heads r.version ≡ None
-  new_head = (revision_of-neither s.heads s.push_outs r.version (next_not_held form s r.version sound (ap (λ (n : Name). n.author) next.version) (ap (λ (n : Name). n.counter) next.version))).first
+  new_head = (revision_of-neither s.heads s.push_outs r.version new_held).first
+
+  new_push_out : revision_of s.push_outs r.version ≡ None
+  new_push_out = (revision_of-neither s.heads s.push_outs r.version new_held).second
 
   pub sound_issued : IsSound form (logged (issuing s k r) event)
   sound_issued = record {
@@ -110,6 +116,7 @@ module _ {K : Type 0} (form : Form K) (s : State K) (k : K) (r : Rev) (event : E
     limit_to = sound.limit_to;
     issued_few = omega (arith, sound.issued_few, length_push s.log event);
     heads_in_order = in_order_issued (supersedes r.item (has_below r)) (is_selected s r) r s.heads sound.heads_in_order new_head;
+    push_outs_in_order = in_order_issued (supersedes r.item (has_below r)) (not (is_selected s r)) r s.push_outs sound.push_outs_in_order new_push_out;
     heads_issued = issued_entered (is_selected s r) s.heads sound.heads_issued;
     push_outs_issued = issued_entered (not (is_selected s r)) s.push_outs sound.push_outs_issued;
     trail_issued = issued_noted;
@@ -118,4 +125,5 @@ module _ {K : Type 0} (form : Form K) (s : State K) (k : K) (r : Rev) (event : E
     sessions_within = within_later (λ session. session.next) s.log event s.sessions sound.sessions_within;
     streams_within = within_later (λ stream. stream.next) s.log event s.streams sound.streams_within;
     folds = folds_issued (supersedes r.item (has_below r)) (is_selected s r) r s.feed s.heads sound.heads_in_order new_head sound.folds;
+    push_outs_fold = folds_issued (supersedes r.item (has_below r)) (not (is_selected s r)) r s.push_out_feed s.push_outs sound.push_outs_in_order new_push_out sound.push_outs_fold;
   }

@@ -23,6 +23,7 @@ module _ {K : Type 0} (form : Form K) (s t : State K) (one : AreOneValue form s.
         push_outs = (alike i).push_outs;
         trail = (alike i).trail;
         feed = (alike i).feed;
+        push_out_feed = (alike i).push_out_feed;
         log = (alike i).log;
         is_retired = (alike i).is_retired;
         sessions = (alike i).sessions;

@@ -28,6 +28,7 @@ sound_streaming form s streams event sound within = record {
   limit_to = sound.limit_to;
   issued_few = omega (arith, sound.issued_few, length_push s.log event);
   heads_in_order = sound.heads_in_order;
+  push_outs_in_order = sound.push_outs_in_order;
   heads_issued = sound.heads_issued;
   push_outs_issued = sound.push_outs_issued;
   trail_issued = sound.trail_issued;
@@ -36,4 +37,5 @@ sound_streaming form s streams event sound within = record {
   sessions_within = within_later (λ session. session.next) s.log event s.sessions sound.sessions_within;
   streams_within = within;
   folds = sound.folds;
+  push_outs_fold = sound.push_outs_fold;
 }

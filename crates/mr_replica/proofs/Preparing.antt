@@ -6,12 +6,14 @@ use Rattle.std.proofs.lemmas.List.{append-nil}
 use Rattle.std.proofs.lemmas.List.Elements.{All-nil, All-head}
 use Rattle.mr_version.specs.Name.{Name}
 use Rattle.mr_forms.specs.Known.{Form, AreSame, learned}
+use Rattle.mr_concise.specs.Vector.{vector_has}
 use Rattle.mr_concise.specs.declared.vector.AuthorColumn.{AuthorColumn}
+use Rattle.mr_feed.specs.declared.entry.Entry.{Entry}
 use Rattle.mr_mail.specs.Mail.{Mail}
 use Rattle.mr_madewith.specs.Revision.{Rev, IsRevision}
 use Rattle.mr_madewith.specs.MadeWith.{AreColumnsOf}
 use Rattle.mr_madewith.proofs.Rising.{rises-filter}
-use Rattle.mr_store.specs.Revisions.{AreInVersionOrder, version_of, holds, left_by}
+use Rattle.mr_store.specs.Revisions.{AreInVersionOrder, version_of, holds, supersedes, left_by}
 use Rattle.mr_store.proofs.RevisionLemmas.{filter-passing}
 use Rattle.mr_wire.specs.Values.{DescentParts}
 use Rattle.mr_wire.specs.Frames.{Sent, Question}
@@ -31,11 +33,11 @@ use Rattle.mr_replica.specs.inner.Sound.{IsSound}
 use Rattle.mr_replica.specs.Forged.{line_of, is_forged}
 use Rattle.mr_replica.specs.Refusal.{◌orelse◌, refused_if, refusal_of_session}
 use Rattle.mr_replica.specs.Admission.{retired, log_full}
-use Rattle.mr_replica.specs.Issue.{Issue, Wanted, Fits, below_of_issue, revision_for, version_learned, issuing, logged, wanted_by_issue, dropped, Issues}
+use Rattle.mr_replica.specs.Issue.{Issue, Wanted, Fits, below_of_issue, revision_for, version_learned, issuing, logged, wanted_by_issue, dropped, told_more, Issues}
 use Rattle.mr_replica.specs.Create.{created}
 use Rattle.mr_replica.specs.Edit.{edited}
 use Rattle.mr_replica.specs.Receive.{session_refusal, session_for, moved_on, learning, line_learned, entering, wanted_by_line, wanted_by_end, merges, merged_by, is_unheld, ending, finished, EndsSession}
-use Rattle.mr_replica.specs.inner.Taking.{told_line, told_by, RefusesEnding, RefusesEnd}
+use Rattle.mr_replica.specs.inner.Taking.{below_told, told_line, told_by, RefusesEnding, RefusesEnd}
 use Rattle.mr_replica.specs.Pull.{pull_refusal, IsAskOf}
 use Rattle.mr_replica.specs.CutIn.{cut_in_refusal}
 use Rattle.mr_replica.specs.CutOut.{cut_out_refusal}
@@ -43,11 +45,11 @@ use Rattle.mr_replica.specs.Next.{next_refusal, GivesNext}
 use Rattle.mr_replica.specs.inner.Next.{going_on}
 use Rattle.mr_replica.specs.Answer.{answer_refusal}
 use Rattle.mr_replica.specs.Vouch.{IsReceiptFor}
-use Rattle.mr_replica.specs.Release.{vouched}
+use Rattle.mr_replica.specs.Release.{vouched, released, releasing}
 use Rattle.mr_replica.specs.Wanting.{FitBeforeMemory}
 use Rattle.mr_replica.specs.Step.{first_refusal, wanted_by, Changes, RefusesLate, Answers, Steps}
-use Rattle.mr_replica.specs.inner.Parts.{OfRecord, OfReceipt, PartsView, IsDueIn, IsToldIn, MayPut, Puts, entered_in, told_in, ended_in, parts_seen, IsPut, Enters}
-use Rattle.mr_replica.specs.inner.Prepare.{parts_of, with_parts, IsToOpen, IsToEnter, IsToTake, IsToLearn, IsToEnd, IsOpeningFor, IsToChange, IsChanged, IsPrepared, PreparesLate, Prepares, IsLinePrepared, PreparesLine, IsEndPrepared, PreparesEnd}
+use Rattle.mr_replica.specs.inner.Parts.{OfRecord, OfReceipt, IsOfReceipt, PartsView, IsDueIn, IsToldIn, MayPut, Puts, entered_in, told_in, released_in, ended_in, parts_seen, IsPut, Enters}
+use Rattle.mr_replica.specs.inner.Prepare.{parts_of, with_parts, IsToOpen, IsToEnter, IsToTake, IsToLearn, IsToEnd, IsToRelease, IsOpeningFor, IsToChange, IsChanged, IsPrepared, PreparesLate, Prepares, IsLinePrepared, PreparesLine, IsEndPrepared, PreparesEnd}
 use Rattle.mr_replica.specs.declared.event.Event.{Event}
 use Rattle.mr_replica.specs.declared.event.Event.TheVariants as event
 use Rattle.mr_replica.specs.declared.event.Reply.{Reply}
@@ -63,7 +65,7 @@ use Rattle.mr_replica.specs.declared.replica.parts.Parts.{Parts}
 use Rattle.mr_replica.specs.declared.replica.parts.Change.TheVariants as change
 use Rattle.mr_replica.specs.declared.replica.prepare.Prepared.{Prepared}
 use Rattle.mr_replica.proofs.Choice.{some_same, first_none, later_none, not_refused, map_none}
-use Rattle.mr_replica.proofs.Keeping.{sound_with, within_closed, issued_left, known_left}
+use Rattle.mr_replica.proofs.Keeping.{pushed_out, pushed_out_still, sound_with, within_closed}
 use Rattle.mr_replica.proofs.Issuing.{next_not_held, sound_issued}
 use Rattle.mr_replica.proofs.Taking.{index_fits, not_forged, sound_moved_on, sound_learned, sound_ended}
 use Rattle.mr_replica.proofs.Told.{comer_new, comer_told, told_not_early}
@@ -161,7 +163,7 @@ module _ {K : Type 0} (form : Form K) (s : State K) where
 
   -- the replica once the arrival has entered
   entered_is : (arrival : Arrival) (k : K) → IsToEnter form s arrival → with_parts s (entered_in (parts_of s) arrival k) ≡ issuing s k arrival.revision
-  entered_is arrival k to = rw (to.entries, to.last, to.selected) refl
+  entered_is arrival k to = rw (to.entries, to.push_out_entries, to.last, to.selected) refl
 
   enters : (e : Event) (arrival : Arrival) (p : PartsView K) → IsToEnter form s arrival → Puts form (parts_of s) (change.Enter arrival) e p → AreSame (form.known p.knowledge) (version_learned form s arrival.revision.item) × (with_parts s p ≡ issuing s p.knowledge arrival.revision)
   enters e arrival p to h =
@@ -171,12 +173,21 @@ module _ {K : Type 0} (form : Form K) (s : State K) where
   -- the replica once it has learned what a record tells
   told_is : (item version : Name) (told : Told) (sent : Sent) (k : K) → IsToLearn form s item version told sent
       → with_parts s (told_in (parts_of s) item told sent k) ≡ record (learning s k (told_by item version sent.body) told.comer) { sessions = with_taken sent s.sessions }
-  told_is item version told sent k to = rw to.entries refl
+  told_is item version told sent k to =
+      let gone = filter (supersedes item (vector_has (below_told sent.body))) s.push_outs in
+      let push_out_entries : told.push_out_entries.items ≡ map dropped gone ++ [] = to.push_out_entries ∙ sym (append-nil (map dropped gone)) in
+      rw (to.entries, push_out_entries) refl
 
   learns : (item version : Name) (told : Told) (sent : Sent) (p : PartsView K) → IsToLearn form s item version told sent → Puts form (parts_of s) (change.Learn item version told) (event.Receive (Record sent)) p
       → AreSame (form.known p.knowledge) (line_learned form s (told_by item version sent.body)) × (logged (with_parts s p) (event.Receive (Record sent)) ≡ moved_on (learning s p.knowledge (told_by item version sent.body) told.comer) sent)
   learns item version told sent p to h =
       (h.0, ap (λ (t : State K). logged t (event.Receive (Record sent))) (ap (with_parts s) h.1 ∙ told_is item version told sent p.knowledge to))
+
+  -- the replica once it has released what the receipt is for
+  released_is : (entries : List Entry) (receipt : ReceiptParts) → IsToRelease form s entries receipt → with_parts s (released_in (parts_of s) entries receipt) ≡ releasing s receipt
+  released_is entries receipt to =
+      let push_out_entries : entries ≡ map dropped (released s receipt) ++ [] = to.tell ∙ sym (append-nil (map dropped (released s receipt))) in
+      rw push_out_entries refl
 
   -- the replica once a session has ended
   ended_is : (ended : Ended K) (sent : Sent) (to : IsToEnd form s ended sent)
@@ -227,7 +238,7 @@ module _ {K : Type 0} (form : Form K) (s : State K) where
     may_put (change.OpenStream opening) e to = opens s.streams sound.streams_within.opened to
     may_put (change.GoOn stream onward) e to = (is_open (open_at s.streams stream) NoStream None (log_full s) to, goes_on form s stream sound to)
     may_put (change.CloseStream stream) e to = to
-    may_put change.Release e to = to
+    may_put (change.Release entries) e to = by_receipt (IsToRelease form s entries.items) IsOfReceipt (λ receipt to. tt) e to
     may_put change.Retire e to = tt
 
     -- ---- what the replica keeps
@@ -243,12 +254,17 @@ module _ {K : Type 0} (form : Form K) (s : State K) where
         let new = comer_new form s sound item version sent.body to.told to.unknown sure told.comer to.comer in
         sound_learned form s sent sound to.take.kept to.take.taken k line told.comer (told_not_early s sent.body line to.told sure) known brings new
 
+    sound_released : (receipt : ReceiptParts) → IsSound form (logged (releasing s receipt) (event.Release receipt))
+    sound_released receipt =
+        let line = receipt.descent in
+        sound_with form s (left_by line.item (vouched line) s.push_outs) (told_more s.push_out_feed (released s receipt) []) s.is_retired s.sessions s.streams (event.Release receipt) sound (pushed_out_still form s line.item (vouched line) sound) sound.sessions_within sound.streams_within
+
     abbrev IsSoundWith : PartsView K → Event → Type 0
     IsSoundWith p e = IsSound form (logged (with_parts s p) e)
 
     pub sound_put : (made : Change K) (e : Event) (p : PartsView K) → IsToChange form s made e → Puts form (parts_of s) made e p → IsSoundWith p e
     sound_put change.Note e p to h =
-        subst (λ (p : PartsView K). IsSoundWith p e) (sym h) (sound_with form s s.push_outs s.is_retired s.sessions s.streams e sound sound.push_outs_issued sound.push_outs_known sound.sessions_within sound.streams_within)
+        subst (λ (p : PartsView K). IsSoundWith p e) (sym h) (sound_with form s s.push_outs s.push_out_feed s.is_retired s.sessions s.streams e sound (pushed_out form s sound) sound.sessions_within sound.streams_within)
     sound_put (change.Enter arrival) e p to h =
         let is = enters e arrival p to h in
         subst (λ (t : State K). IsSound form (logged t e)) (sym is.1) (sound_issued form s p.knowledge arrival.revision e sound to.next is.0)
@@ -267,7 +283,7 @@ module _ {K : Type 0} (form : Form K) (s : State K) where
     sound_put change.OpenSession e p to h = subst (λ (p : PartsView K). IsSoundWith p e) (sym h) (sound_pulled form s e sound)
     sound_put (change.CloseSession session) e p to h =
         subst (λ (p : PartsView K). IsSoundWith p e) (sym h)
-        (sound_with form s s.push_outs s.is_retired (with_closed s.sessions session) s.streams e sound sound.push_outs_issued sound.push_outs_known (within_closed (λ session. session.next) (length s.log) session s.sessions sound.sessions_within) sound.streams_within)
+        (sound_with form s s.push_outs s.push_out_feed s.is_retired (with_closed s.sessions session) s.streams e sound (pushed_out form s sound) (within_closed (λ session. session.next) (length s.log) session s.sessions sound.sessions_within) sound.streams_within)
     sound_put (change.OpenStream opening) e p to h =
         let stream : Stream = new_stream opening.asked opening.mode opening.know.items in
         subst (λ (p : PartsView K). IsSoundWith p e) (sym h) (sound_streaming form s (with_opened s.streams stream) e sound (within_opened (λ stream. stream.next) s.log e s.streams stream refl sound.streams_within))
@@ -275,15 +291,12 @@ module _ {K : Type 0} (form : Form K) (s : State K) where
         subst (λ (p : PartsView K). IsSoundWith p e) (sym h) (sound_streaming form s (advanced stream onward s.streams) e sound (within_advanced s.log e stream onward s.streams sound.streams_within))
     sound_put (change.CloseStream stream) e p to h =
         subst (λ (p : PartsView K). IsSoundWith p e) (sym h)
-        (sound_with form s s.push_outs s.is_retired s.sessions (with_closed s.streams stream) e sound sound.push_outs_issued sound.push_outs_known sound.sessions_within (within_closed (λ stream. stream.next) (length s.log) stream s.streams sound.streams_within))
-    sound_put change.Release e p to h =
-        by_receipt (λ _. Unit {0}) (λ e. Puts form (parts_of s) change.Release e p → IsSoundWith p e)
-        (λ receipt _ h.
-        let line = receipt.descent in
-        subst (λ (p : PartsView K). IsSoundWith p (event.Release receipt)) (sym h)
-        (sound_with form s (left_by line.item (vouched line) s.push_outs) s.is_retired s.sessions s.streams (event.Release receipt) sound (issued_left s.id s.issued line.item (vouched line) s.push_outs sound.push_outs_issued) (known_left (form.known s.knowledge) line.item (vouched line) s.push_outs sound.push_outs_known) sound.sessions_within sound.streams_within)) e to h
+        (sound_with form s s.push_outs s.push_out_feed s.is_retired s.sessions (with_closed s.streams stream) e sound (pushed_out form s sound) sound.sessions_within (within_closed (λ stream. stream.next) (length s.log) stream s.streams sound.streams_within))
+    sound_put (change.Release entries) e p to h =
+        by_receipt (IsToRelease form s entries.items) (λ e. Puts form (parts_of s) (change.Release entries) e p → IsSoundWith p e)
+        (λ receipt to h. subst (λ (p : PartsView K). IsSoundWith p (event.Release receipt)) (sym h) (subst (λ (t : State K). IsSound form (logged t (event.Release receipt))) (sym (released_is entries.items receipt to)) (sound_released receipt))) e to h
     sound_put change.Retire e p to h =
-        subst (λ (p : PartsView K). IsSoundWith p e) (sym h) (sound_with form s s.push_outs true s.sessions s.streams e sound sound.push_outs_issued sound.push_outs_known sound.sessions_within sound.streams_within)
+        subst (λ (p : PartsView K). IsSoundWith p e) (sym h) (sound_with form s s.push_outs s.push_out_feed true s.sessions s.streams e sound (pushed_out form s sound) sound.sessions_within sound.streams_within)
 
   -- ---- a step
 
@@ -486,5 +499,5 @@ module _ {K : Type 0} (form : Form K) (s : State K) where
   pub vouch_prepared : (version : Name) (receipt : ReceiptParts) → IsReceiptFor s version receipt → IsPrepared form s (event.Vouch version) (record { reply = Vouched receipt; change = change.Note })
   vouch_prepared version receipt is = record { fits = All-nil (Fits form); to_change = tt; changes = λ p h. (is, ap (λ (p : PartsView K). logged (with_parts s p) (event.Vouch version)) h) }
 
-  pub release_prepared : (receipt : ReceiptParts) → IsPrepared form s (event.Release receipt) (record { reply = Done; change = change.Release })
-  release_prepared receipt = record { fits = All-nil (Fits form); to_change = tt; changes = λ p h. ap (λ (p : PartsView K). logged (with_parts s p) (event.Release receipt)) h }
+  pub release_puts : (entries : List Entry) (receipt : ReceiptParts) → IsToRelease form s entries receipt → (p : PartsView K) → p ≡ released_in (parts_of s) entries receipt → logged (with_parts s p) (event.Release receipt) ≡ logged (releasing s receipt) (event.Release receipt)
+  release_puts entries receipt to p h = ap (λ (t : State K). logged t (event.Release receipt)) (ap (with_parts s) h ∙ released_is entries receipt to)

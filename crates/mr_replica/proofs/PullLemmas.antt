@@ -178,6 +178,7 @@ sound_pulled form s event sound =
       limit_to = sound.limit_to;
       issued_few = omega (arith, sound.issued_few, length_push s.log event);
       heads_in_order = sound.heads_in_order;
+      push_outs_in_order = sound.push_outs_in_order;
       heads_issued = sound.heads_issued;
       push_outs_issued = sound.push_outs_issued;
       trail_issued = sound.trail_issued;
@@ -189,4 +190,5 @@ sound_pulled form s event sound =
       };
       streams_within = within_later (λ stream. stream.next) s.log event s.streams sound.streams_within;
       folds = sound.folds;
+      push_outs_fold = sound.push_outs_fold;
     }

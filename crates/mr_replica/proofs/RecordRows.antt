@@ -45,7 +45,7 @@ bound mode next = record { origin = Some (record { source = 0; stream = 1; mode 
 
 -- replica 1, which issued 1.1, knows 0.1 and 1.1, has these heads, and of which this session 1 is open
 abbrev receiver : Session → List Rev → State Pairs
-receiver session heads = record { id = 1; filter = all_messages; event_limit = 9; issued = 1; knowledge = knowing (name 0 1 ∷ name 1 1 ∷ []); heads = heads; push_outs = []; trail = []; feed = []; log = []; is_retired = false; sessions = record { opened = 1; open_ones = (record { number = 1; value = session }) ∷ [] }; streams = empty_table }
+receiver session heads = record { id = 1; filter = all_messages; event_limit = 9; issued = 1; knowledge = knowing (name 0 1 ∷ name 1 1 ∷ []); heads = heads; push_outs = []; trail = []; feed = []; push_out_feed = []; log = []; is_retired = false; sessions = record { opened = 1; open_ones = (record { number = 1; value = session }) ∷ [] }; streams = empty_table }
 
 -- a record for it, of a stream of replica 0
 abbrev sent : (stream index : ℕ) → Body → Sent

@@ -6,7 +6,7 @@ use Rattle.mr_forms.specs.Known.{Form, AreSame}
 use Rattle.mr_replica.specs.State.{State, new_state}
 use Rattle.mr_replica.specs.Alike.{AreAlike}
 use Rattle.mr_replica.specs.Step.{Changes, Steps}
-use Rattle.mr_replica.specs.Growing.{FeedGrows, IsOfSameSetting, admitted}
+use Rattle.mr_replica.specs.Growing.{FeedGrows, PushOutFeedGrows, IsOfSameSetting, admitted}
 use Rattle.mr_replica.specs.Replay.{IsForMemory, Admits, AdmitsAll, StopsAt, IsFresh, Replays, IsReplayFault, IsItsLog}
 use Rattle.mr_replica.specs.inner.Replay.{IsStop}
 use Rattle.mr_replica.specs.declared.event.Event.{Event}
@@ -25,6 +25,7 @@ record Logs {K : Type 0} (s : State K) (event : Event) (new : State K) : Type 0 
   event_limit : new.event_limit ≡ s.event_limit
   log : new.log ≡ s.log ++ event ∷ []
   feed : FeedGrows s new
+  push_out_feed : PushOutFeedGrows s new
 
 module _ {K : Type 0} (form : Form K) where
   -- ---- an admitted event is noted, and id, filter and limit stay
@@ -39,6 +40,7 @@ module _ {K : Type 0} (form : Form K) where
         event_limit = ap (λ (z : State K). z.event_limit) made.is ∙ leaves.event_limit;
         log = ap (λ (z : State K). z.log) made.is ∙ ap (λ (log : List Event). log ++ event ∷ []) leaves.log;
         feed = (leaves.feed.0, ap (λ (z : State K). z.feed) made.is ∙ leaves.feed.1);
+        push_out_feed = (leaves.push_out_feed.0, ap (λ (z : State K). z.push_out_feed) made.is ∙ leaves.push_out_feed.1);
       }
 
   admits_log : (s : State K) (event : Event) (new : State K) → Admits form s event new → Logs s event new
@@ -53,6 +55,10 @@ module _ {K : Type 0} (form : Form K) where
   pub step_feed : (s new : State K) (event : Event) (answer : Result Reply Refusal) → Steps form s event answer new → FeedGrows s new
   step_feed s new event (Ok told) h = (admits_log s event new (told, h)).feed
   step_feed s new event (Err e) h = ([], ap (λ (z : State K). z.feed) (step_refused form s event e new h) ∙ sym (append-nil s.feed))
+
+  pub step_push_out_feed : (s new : State K) (event : Event) (answer : Result Reply Refusal) → Steps form s event answer new → PushOutFeedGrows s new
+  step_push_out_feed s new event (Ok told) h = (admits_log s event new (told, h)).push_out_feed
+  step_push_out_feed s new event (Err e) h = ([], ap (λ (z : State K). z.push_out_feed) (step_refused form s event e new h) ∙ sym (append-nil s.push_out_feed))
 
   pub step_log : (s new : State K) (event : Event) (answer : Result Reply Refusal) → Steps form s event answer new → new.log ≡ s.log ++ admitted event answer
   step_log s new event (Ok told) h = (admits_log s event new (told, h)).log

@@ -58,7 +58,7 @@ edited_below s bases = below_of_issue s (edited s bases mail)
 
 -- a replica 0 that issued so many versions, with these heads and last own versions
 abbrev replica : ℕ → List Rev → List Rev → State (Unit {0})
-replica issued heads trail = record { id = 0; filter = all_messages; event_limit = 9; issued = issued; knowledge = tt; heads = heads; push_outs = []; trail = trail; feed = []; log = []; is_retired = false; sessions = empty_table; streams = empty_table }
+replica issued heads trail = record { id = 0; filter = all_messages; event_limit = 9; issued = issued; knowledge = tt; heads = heads; push_outs = []; trail = trail; feed = []; push_out_feed = []; log = []; is_retired = false; sessions = empty_table; streams = empty_table }
 
 -- ---- a conflict and its merge: 1.1 and 2.1 both replace 0.1
 

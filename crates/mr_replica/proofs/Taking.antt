@@ -38,7 +38,7 @@ use Rattle.mr_wire.specs.declared.frame.Frame.TheVariants.{Record}
 use Rattle.mr_replica.proofs.Choice.{first_none, later_none, not_refused, map_none, some_same, found_has}
 use Rattle.mr_replica.proofs.Folding.{folds_on, in_order_on}
 use Rattle.mr_replica.proofs.Issuing.{All-inserted}
-use Rattle.mr_replica.proofs.Keeping.{within_later, within_closed, issued_left, sound_with}
+use Rattle.mr_replica.proofs.Keeping.{within_later, within_closed, pushed_out, pushed_out_still, sound_with}
 
 -- ---- the next index
 
@@ -143,6 +143,7 @@ module _ {K : Type 0} (form : Form K) (s : State K) (sent : Sent) (sound : IsSou
     limit_to = sound.limit_to;
     issued_few = omega (arith, sound.issued_few, length_push s.log (Receive (Record sent)));
     heads_in_order = sound.heads_in_order;
+    push_outs_in_order = sound.push_outs_in_order;
     heads_issued = sound.heads_issued;
     push_outs_issued = sound.push_outs_issued;
     trail_issued = sound.trail_issued;
@@ -151,11 +152,12 @@ module _ {K : Type 0} (form : Form K) (s : State K) (sent : Sent) (sound : IsSou
     sessions_within = within_taken (Receive (Record sent));
     streams_within = within_later (λ stream. stream.next) s.log (Receive (Record sent)) s.streams sound.streams_within;
     folds = sound.folds;
+    push_outs_fold = sound.push_outs_fold;
   }
 
   pub sound_finished : IsSound form (finished s sent)
   sound_finished =
-      sound_with form s s.push_outs s.is_retired (with_closed s.sessions sent.header.session) s.streams (Receive (Record sent)) sound sound.push_outs_issued sound.push_outs_known
+      sound_with form s s.push_outs s.push_out_feed s.is_retired (with_closed s.sessions sent.header.session) s.streams (Receive (Record sent)) sound (pushed_out form s sound)
       (within_closed (λ session. session.next) (length s.log) sent.header.session s.sessions sound.sessions_within) sound.streams_within
 
   -- ---- a version that is told
@@ -206,22 +208,25 @@ module _ {K : Type 0} (form : Form K) (s : State K) (sent : Sent) (sound : IsSou
         let of_line : (r : Rev) → comer ≡ Some r → NoLater r = λ r is. subst (λ (l : DescentParts). AreNoLater s.id s.issued l.version l.below) (sym (brings r is).0) line_no_later in
         let known_comer : (r : Rev) → comer ≡ Some r → Now r = λ r is. ap (λ (l : DescentParts). form.known k l.item l.version) (brings r is).0 ∙ told_known in
         let left = left_by line.item (vector_has line.below) s.heads in
+        let still = pushed_out_still form s line.item (vector_has line.below) sound in
         record {
           limit_from = sound.limit_from;
           limit_to = sound.limit_to;
           issued_few = omega (arith, sound.issued_few, length_push s.log event);
           heads_in_order = in_order_on (supersedes line.item (vector_has line.below)) comer s.heads sound.heads_in_order new_heads;
+          push_outs_in_order = still.in_order;
           heads_issued = record {
             are = arrived_all One comer left (λ r is. (brings r is).1) (All-filter stays One s.heads sound.heads_issued.are);
             no_later = arrived_all NoLater comer left of_line (All-filter stays NoLater s.heads sound.heads_issued.no_later);
           };
-          push_outs_issued = issued_left s.id s.issued line.item (vector_has line.below) s.push_outs sound.push_outs_issued;
+          push_outs_issued = still.issued;
           trail_issued = sound.trail_issued;
           heads_known = arrived_all Now comer left known_comer (All-filter stays Now s.heads (All-weaker Was Now (λ r was. told_still r.item r.version was) s.heads sound.heads_known));
           push_outs_known = All-filter stays Now s.push_outs (All-weaker Was Now (λ r was. told_still r.item r.version was) s.push_outs sound.push_outs_known);
           sessions_within = within_taken event;
           streams_within = within_later (λ stream. stream.next) s.log event s.streams sound.streams_within;
           folds = folds_on (supersedes line.item (vector_has line.below)) comer s.feed s.heads sound.heads_in_order new_heads sound.folds;
+          push_outs_fold = still.fold;
         }
 
   -- ---- the End of a full session
@@ -237,6 +242,7 @@ module _ {K : Type 0} (form : Form K) (s : State K) (sent : Sent) (sound : IsSou
         limit_to = sound.limit_to;
         issued_few = omega (arith, sound.issued_few, length_push s.log event);
         heads_in_order = in_order_on (is_unheld session) None s.heads sound.heads_in_order tt;
+        push_outs_in_order = sound.push_outs_in_order;
         heads_issued = record {
           are = All-filter stays (λ r. IsRevision r.item r.version r.below) s.heads sound.heads_issued.are;
           no_later = All-filter stays (λ r. AreNoLater s.id s.issued r.version r.below) s.heads sound.heads_issued.no_later;
@@ -248,6 +254,7 @@ module _ {K : Type 0} (form : Form K) (s : State K) (sent : Sent) (sound : IsSou
         sessions_within = sound_finished.sessions_within;
         streams_within = sound_finished.streams_within;
         folds = folds_on (is_unheld session) None s.feed s.heads sound.heads_in_order tt sound.folds;
+        push_outs_fold = sound.push_outs_fold;
       }
 
 -- ---- what is new

@@ -16,6 +16,7 @@ module _ {K : Type 0} (form : Form K) where
     push_outs = s.push_outs;
     trail = s.trail;
     feed = s.feed;
+    push_out_feed = s.push_out_feed;
     log = s.log;
     is_retired = s.is_retired;
     sessions = s.sessions;

@@ -1,4 +1,4 @@
--- what a subscriber has that went through the whole feed of a replica
+-- what a subscriber has that went through a whole feed of a replica, that of its heads or that of its push-outs
 use Rattle.std.specs.Prelude.{◌≡◌, Some, None, List, [], ◌∷◌, map, ⊤}
 use Rattle.std.specs.Option.{option_map}
 use Rattle.mr_version.specs.Name.{Name}
@@ -27,14 +27,18 @@ abbrev pub AreNews : (items : Cards Name) → List Entry → Type 0
 AreNews items [] = ⊤
 AreNews items (entry ∷ entries) = IsNews items entry × AreNews (fold_from items (told_item entry ∷ [])) entries
 
--- Once the whole feed was gone through, each head's version has the head's card and its item, and no other version has any.
+-- Once the whole feed was gone through, the version of each of these revisions has its card and its item, and no other version has any.
 -- On the way no version is added that is there, and none is dropped that is not there or is of another item.
-pub record FoldsTo (feed : List Entry) (heads : List Rev) : Type 0 where
-  pub cards : (v : Name) → fold (told feed) v ≡ option_map (λ r. card_of r.message) (revision_of heads v)
-  pub items : (v : Name) → fold (map told_item feed) v ≡ option_map (λ r. r.item) (revision_of heads v)
+pub record FoldsTo (feed : List Entry) (held : List Rev) : Type 0 where
+  pub cards : (v : Name) → fold (told feed) v ≡ option_map (λ r. card_of r.message) (revision_of held v)
+  pub items : (v : Name) → fold (map told_item feed) v ≡ option_map (λ r. r.item) (revision_of held v)
   pub news : AreNews no_cards feed
 
 module _ {K : Type 0} where
   -- the fold of the replica's feed is its store
   abbrev pub FoldsToStore : State K → Type 0
   FoldsToStore s = FoldsTo s.feed s.heads
+
+  -- the fold of its push-out feed is its push-outs
+  abbrev pub FoldsToPushOuts : State K → Type 0
+  FoldsToPushOuts s = FoldsTo s.push_out_feed s.push_outs

@@ -27,11 +27,11 @@ pub record Issue : Type 0 where
   pub bases : List Name
   pub message : Mail
 
--- a revision leaves the heads
+-- a revision leaves the heads, or the push-outs
 abbrev pub dropped : Rev → Entry
 dropped r = Dropped r.item r.version
 
--- a revision enters the heads
+-- a revision enters the heads, or the push-outs
 abbrev pub added : Rev → Entry
 added r = Added r.item r.version (card_of r.message)
 
@@ -39,7 +39,7 @@ added r = Added r.item r.version (card_of r.message)
 abbrev pub entered_if : Bool → Rev → List Rev → List Rev
 entered_if b r rs = if b then entered r rs else rs
 
--- the feed after these left the heads, in their order, and then those entered
+-- a feed after these left, in their order, and then those entered
 abbrev pub told_more : List Entry → (left entering : List Rev) → List Entry
 told_more feed left entering = feed ++ (map dropped left ++ map added entering)
 
@@ -96,7 +96,7 @@ module _ {K : Type 0} where
   is_selected s r = selects s.filter (card_of r.message)
 
   -- The revision is the next own one. What it supersedes leaves the heads and the push-outs; it enters the heads where the
-  -- filter selects it, else the push-outs; and the feed tells what left and entered the heads.
+  -- filter selects it, else the push-outs; and of either the feed tells what left and entered it.
   abbrev pub issuing : State K → K → Rev → State K
   issuing s knowledge r = record s {
     issued = s.issued + 1;
@@ -105,6 +105,7 @@ module _ {K : Type 0} where
     push_outs = entered_if (not (is_selected s r)) r (left_by r.item (has_below r) s.push_outs);
     trail = noted r s.trail;
     feed = told_more s.feed (filter (supersedes r.item (has_below r)) s.heads) (if_so (is_selected s r) r);
+    push_out_feed = told_more s.push_out_feed (filter (supersedes r.item (has_below r)) s.push_outs) (if_so (not (is_selected s r)) r);
   }
 
   -- the issue's revision, with these columns

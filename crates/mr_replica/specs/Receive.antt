@@ -91,13 +91,14 @@ module _ {K : Type 0} where
   line_learned form s line = learned_with form s.knowledge line.item line.version (vector_has line.below)
 
   -- What the version supersedes leaves the heads and the push-outs, the revision enters the heads where there is one, and
-  -- the feed tells what left and entered the heads.
+  -- of either the feed tells what left and entered it.
   abbrev pub learning : State K → K → DescentParts → (comer : Option Rev) → State K
   learning s knowledge line comer = record s {
     knowledge = knowledge;
     heads = arrived comer (left_by line.item (vector_has line.below) s.heads);
     push_outs = left_by line.item (vector_has line.below) s.push_outs;
     feed = told_more s.feed (filter (supersedes line.item (vector_has line.below)) s.heads) (arrival_alone comer);
+    push_out_feed = told_more s.push_out_feed (filter (supersedes line.item (vector_has line.below)) s.push_outs) [];
   }
 
   -- a known version changes nothing; an unknown one is learned with what it supersedes

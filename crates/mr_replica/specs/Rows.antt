@@ -223,6 +223,13 @@ created_no_head = refl
 pub created_untold : (behind_create 16).feed ≡ []
 created_untold = refl
 
+-- the push-out feed tells it, and nothing of a head
+pub created_pushed_told : (behind_create 16).push_out_feed ≡ added (rev (name 3 1) (name 3 1) [] 16) ∷ []
+created_pushed_told = refl
+
+pub created_head_pushed_untold : (behind_create 0).push_out_feed ≡ []
+created_head_pushed_untold = refl
+
 -- the next version is 2 either way
 pub second_version : next_version (behind_create 16) ≡ name 3 2
 second_version = refl
@@ -329,6 +336,14 @@ release_itself = refl
 
 pub release_by_later : (releasing (behind_create 16) (receipt other)).push_outs ≡ []
 release_by_later = refl
+
+-- the push-out feed tells that it left
+pub release_told : (releasing (behind_create 16) (receipt other)).push_out_feed ≡ added (rev (name 3 1) (name 3 1) [] 16) ∷ Dropped (name 3 1) (name 3 1) ∷ []
+release_told = refl
+
+-- also where something known supersedes it
+pub superseded_told : (learning (behind_create 16) 0 (line_of other) (Some other)).push_out_feed ≡ added (rev (name 3 1) (name 3 1) [] 16) ∷ Dropped (name 3 1) (name 3 1) ∷ []
+superseded_told = refl
 
 -- a receipt for a version of another item releases nothing
 pub no_release_by_other_item : release_refusal (behind_create 16) (receipt (rev (name 7 1) (name 7 2) (upto 3 1 ∷ []) 0)) ≡ Some NotPushedOut

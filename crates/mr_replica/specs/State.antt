@@ -23,8 +23,9 @@ pub record State (K : Type 0) : Type 0 where
   pub push_outs : List Rev
   -- the last own version of each item, in the order of the items
   pub trail : List Rev
-  -- the changes of the heads and the admitted events, in order of time
+  -- the changes of the heads, those of the push-outs and the admitted events, each in order of time
   pub feed : List Entry
+  pub push_out_feed : List Entry
   pub log : List Event
   pub is_retired : Bool
   -- what it has taken of the streams that it asked for, and what it tells others
@@ -44,6 +45,7 @@ module _ {K : Type 0} where
     push_outs = [];
     trail = [];
     feed = [];
+    push_out_feed = [];
     log = [];
     is_retired = false;
     sessions = empty_table;

@@ -1,7 +1,7 @@
 //! What holds of every step, and of replicas that are alike, for the layers above. The functions compute nothing:
 //! each is a law, whose contract is a theorem.
 ghost use Rattle.std.specs.Prelude.{◌≡◌, ◌++◌, Result};
-ghost use Rattle.mr_replica.specs.Growing.{FeedGrows, IsOfSameSetting, admitted};
+ghost use Rattle.mr_replica.specs.Growing.{FeedGrows, PushOutFeedGrows, IsOfSameSetting, admitted};
 ghost use Rattle.mr_replica.specs.One.{AreOneByEvent, AreOneByLog, AreOneIfAlike};
 ghost use Rattle.mr_replica.specs.State.{State};
 ghost use Rattle.mr_replica.specs.Step.{Steps};
@@ -9,10 +9,11 @@ ghost use Rattle.mr_replica.specs.Step.{Steps};
 use crate::{Event, Refusal, Replica, Reply};
 use mr_forms::{Knowledge, OneValue};
 
-/// A step only adds. The feed gets some entries behind those that it has, or none; the log gets the event where
-/// it is admitted, and nothing where it is refused. Id, filter and limit stay.
+/// A step only adds. The feed, and that of the push-outs, gets some entries behind those that it has, or none; the
+/// log gets the event where it is admitted, and nothing where it is refused. Id, filter and limit stay.
 pub fn steps_only_add<K: Knowledge>()
     ensures feed { (s new : State K) (event : Event) (answer : Result Reply Refusal) → Steps K.form s event answer new → FeedGrows s new }
+    ensures push_out_feed { (s new : State K) (event : Event) (answer : Result Reply Refusal) → Steps K.form s event answer new → PushOutFeedGrows s new }
     ensures log { (s new : State K) (event : Event) (answer : Result Reply Refusal) → Steps K.form s event answer new → new.log ≡ s.log ++ admitted event answer }
     ensures setting { (s new : State K) (event : Event) (answer : Result Reply Refusal) → Steps K.form s event answer new → IsOfSameSetting s new }
 {}

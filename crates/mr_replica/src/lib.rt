@@ -11,8 +11,8 @@
 //! **of its item**.
 //!
 //! An own version that the replica's filter selects enters its heads, another one its push-outs, which
-//! it holds until another replica has them. Each change of the heads is an entry of the feed, each
-//! admitted event one of the log.
+//! it holds until another replica has them. Each change of the heads is an entry of the feed, each of the
+//! push-outs one of the push-out feed, each admitted event one of the log.
 //!
 //! A push-out may go once another replica vouches, by a receipt, that it holds that version or one that
 //! supersedes it. A replica that has let go of all its push-outs can retire, and from then on only tells

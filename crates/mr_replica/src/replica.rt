@@ -78,9 +78,9 @@ impl<K: Knowledge> Model for Core<K> {
 
     ghost Value = { State K };
 
-    ghost view = { λ r. record { id = r.id; filter = r.filter; event_limit = r.event_limit; issued = r.parts.issued; knowledge = r.parts.knowledge; heads = r.parts.contents.store.heads; push_outs = r.parts.contents.store.push_outs; trail = r.parts.contents.trail.lasts; feed = r.parts.contents.feed.entries; log = r.parts.contents.log; is_retired = r.parts.is_retired; sessions = r.parts.sessions; streams = r.parts.streams } };
+    ghost view = { λ r. record { id = r.id; filter = r.filter; event_limit = r.event_limit; issued = r.parts.issued; knowledge = r.parts.knowledge; heads = r.parts.contents.store.heads; push_outs = r.parts.contents.store.push_outs; trail = r.parts.contents.trail.lasts; feed = r.parts.contents.feed.entries; push_out_feed = r.parts.contents.push_out_feed.entries; log = r.parts.contents.log; is_retired = r.parts.is_retired; sessions = r.parts.sessions; streams = r.parts.streams } };
 
-    ghost invariant = { λ r. IsSound K.form (record { id = r.id; filter = r.filter; event_limit = r.event_limit; issued = r.parts.issued; knowledge = r.parts.knowledge; heads = r.parts.contents.store.heads; push_outs = r.parts.contents.store.push_outs; trail = r.parts.contents.trail.lasts; feed = r.parts.contents.feed.entries; log = r.parts.contents.log; is_retired = r.parts.is_retired; sessions = r.parts.sessions; streams = r.parts.streams }) };
+    ghost invariant = { λ r. IsSound K.form (record { id = r.id; filter = r.filter; event_limit = r.event_limit; issued = r.parts.issued; knowledge = r.parts.knowledge; heads = r.parts.contents.store.heads; push_outs = r.parts.contents.store.push_outs; trail = r.parts.contents.trail.lasts; feed = r.parts.contents.feed.entries; push_out_feed = r.parts.contents.push_out_feed.entries; log = r.parts.contents.log; is_retired = r.parts.is_retired; sessions = r.parts.sessions; streams = r.parts.streams }) };
 }
 
 /// A replica over a form of knowledge. It is its log replayed: a fresh one of its id, filter and limit that admits
@@ -107,7 +107,7 @@ impl<K: Knowledge> Replica<K> {
     ghost use Rattle.mr_concise.specs.Vector.{vector_has};
     ghost use Rattle.mr_concise.specs.Fragments.{ConciseFragment, knowledge_text};
     ghost use Rattle.mr_replica.specs.State.{new_state, held};
-    ghost use Rattle.mr_replica.specs.Folded.{FoldsToStore};
+    ghost use Rattle.mr_replica.specs.Folded.{FoldsToStore, FoldsToPushOuts};
     ghost use Rattle.mr_store.specs.Revisions.{AreInVersionOrder, AreApart, AreConflicts};
     ghost use Rattle.mr_replica.specs.Fragments.{HaveKnown, AreFragmentsOf, HasHoleyPart};
     ghost use Rattle.mr_replica.specs.Replay.{IsItsLog};
@@ -233,6 +233,16 @@ impl<K: Knowledge> Replica<K> {
         ensures folds { FoldsToStore self.now }
     {
         self.core.parts.contents.feed()
+    }
+
+    /// The changes of the push-outs, in order of time: an own revision comes among them where the filter doesn't
+    /// select it, and leaves where it is released or superseded. Somebody who goes through all of them has each
+    /// push-out's version with its card and item, and no other.
+    pub fn push_out_feed(&self) -> &[Entry]
+        ensures all { result.now ≡ self.now.push_out_feed }
+        ensures folds { FoldsToPushOuts self.now }
+    {
+        self.core.parts.contents.push_out_feed()
     }
 
     /// The admitted events, in order of time. The replica is its log replayed.

@@ -1,5 +1,5 @@
 -- what a replica holds and tells, and one revision more
-use Rattle.std.specs.Prelude.{◌≡◌, ◌≤◌, ◌<◌, ℕ, Bool, true, false, Option, Some, None, List, ◌++◌, map, filter}
+use Rattle.std.specs.Prelude.{◌≡◌, ◌≤◌, ◌<◌, ℕ, Bool, true, false, not, Option, Some, None, List, ◌++◌, map, filter}
 use Rattle.mr_feed.specs.declared.entry.Entry.{Entry}
 use Rattle.mr_feed.specs.Feed.{FeedView}
 use Rattle.mr_madewith.specs.Revision.{Rev, has_below}
@@ -12,11 +12,12 @@ use Rattle.mr_store.specs.Room.{room_of}
 use Rattle.mr_replica.specs.Issue.{dropped, added, if_so}
 use Rattle.mr_replica.specs.declared.event.Event.{Event}
 
--- the store, the trail, the feed and the log, each with the room that it has
+-- the store, the trail, the feeds and the log, each with the room that it has
 pub record ContentParts : Type 0 where
   pub store : Holdings
   pub trail : Track
   pub feed : FeedView
+  pub push_out_feed : FeedView
   pub log : List Event
   pub log_room : ℕ
 
@@ -29,11 +30,16 @@ part_for false = PushOuts
 abbrev pub news_of : Bool → Rev → List Rev → List Entry
 news_of selected r heads = map dropped (filter (supersedes r.item (has_below r)) heads) ++ map added (if_so selected r)
 
--- there is room for the revision, for so many entries, and for an event
-pub record HasRoom (selected : Bool) (r : Rev) (entries : ℕ) (c : ContentParts) : Type 0 where
+-- the entries of the push-outs as it enters: those that it supersedes leave, in version order, and it enters them if it isn't selected
+abbrev pub push_out_news_of : Bool → Rev → List Rev → List Entry
+push_out_news_of selected r push_outs = map dropped (filter (supersedes r.item (has_below r)) push_outs) ++ map added (if_so (not selected) r)
+
+-- there is room for the revision, for so many entries of either feed, and for an event
+pub record HasRoom (selected : Bool) (r : Rev) (entries push_out_entries : ℕ) (c : ContentParts) : Type 0 where
   pub in_store : room_in (part_for selected) c.store ≡ Some (room_of r)
   pub in_trail : 0 < c.trail.room
   pub in_feed : entries ≤ c.feed.room
+  pub in_push_out_feed : push_out_entries ≤ c.push_out_feed.room
   pub in_log : 0 < c.log_room
 
 -- there is room for the revision in the heads, where there is one
@@ -47,4 +53,5 @@ pub record HoldsSame (old new : ContentParts) : Type 0 where
   pub push_outs : new.store.push_outs ≡ old.store.push_outs
   pub trail : new.trail.lasts ≡ old.trail.lasts
   pub feed : new.feed.entries ≡ old.feed.entries
+  pub push_out_feed : new.push_out_feed.entries ≡ old.push_out_feed.entries
   pub log : new.log ≡ old.log

@@ -62,6 +62,7 @@ pub record PartsView (K : Type 0) : Type 0 where
   pub push_outs : List Rev
   pub trail : List Rev
   pub feed : List Entry
+  pub push_out_feed : List Entry
   pub log : List Event
   pub is_retired : Bool
   pub sessions : Table Session
@@ -77,6 +78,7 @@ module _ {K : Type 0} where
     push_outs = [];
     trail = [];
     feed = [];
+    push_out_feed = [];
     log = [];
     is_retired = false;
     sessions = empty_table;
@@ -108,7 +110,7 @@ module _ {K : Type 0} where
   MayPut p (change.OpenStream opening) event = (length p.streams.open_ones < MAX_OPEN) × (p.streams.opened + 1 < 2 ^ 64)
   MayPut p (change.GoOn stream onward) event = IsSome (open_at p.streams stream) × IfSome (open_at p.streams stream) (λ stream. stream.next + 1 < 2 ^ 32)
   MayPut p (change.CloseStream stream) event = IsSome (open_at p.streams stream)
-  MayPut p change.Release event = IsOfReceipt event
+  MayPut p (change.Release entries) event = IsOfReceipt event
   MayPut p change.Retire event = Unit {0}
 
   -- ---- the changes
@@ -122,6 +124,7 @@ module _ {K : Type 0} where
     push_outs = entered_if (not arrival.selected) arrival.revision (left_by arrival.revision.item (has_below arrival.revision) p.push_outs);
     trail = noted arrival.last p.trail;
     feed = p.feed ++ arrival.entries.items;
+    push_out_feed = p.push_out_feed ++ arrival.push_out_entries.items;
   }
 
   -- a session has taken the record, and this is known by what it tells
@@ -131,6 +134,7 @@ module _ {K : Type 0} where
     heads = arrived told.comer (left_by item (vector_has (below_told sent.body)) p.heads);
     push_outs = left_by item (vector_has (below_told sent.body)) p.push_outs;
     feed = p.feed ++ told.entries.items;
+    push_out_feed = p.push_out_feed ++ told.push_out_entries.items;
     sessions = with_taken sent p.sessions;
   }
 
@@ -141,6 +145,13 @@ module _ {K : Type 0} where
     heads = filter (λ r. not (holds ended.left.items r.version)) p.heads;
     feed = p.feed ++ ended.entries.items;
     sessions = with_closed p.sessions ended.session;
+  }
+
+  -- the push-outs leave that the receipt is for, and these entries tell it
+  abbrev pub released_in : PartsView K → List Entry → Receipt → PartsView K
+  released_in p entries receipt = record p {
+    push_outs = left_by receipt.descent.item (vouched receipt.descent) p.push_outs;
+    push_out_feed = p.push_out_feed ++ entries;
   }
 
   -- the change is made
@@ -156,7 +167,7 @@ module _ {K : Type 0} where
   Puts form p (change.OpenStream opening) event q = q ≡ record p { streams = with_opened p.streams (new_stream opening.asked opening.mode opening.know.items) }
   Puts form p (change.GoOn stream onward) event q = q ≡ record p { streams = advanced stream onward p.streams }
   Puts form p (change.CloseStream stream) event q = q ≡ record p { streams = with_closed p.streams stream }
-  Puts form p change.Release event q = OfReceipt event (λ receipt. q ≡ record p { push_outs = left_by receipt.descent.item (vouched receipt.descent) p.push_outs })
+  Puts form p (change.Release entries) event q = OfReceipt event (λ receipt. q ≡ released_in p entries.items receipt)
   Puts form p change.Retire event q = q ≡ record p { is_retired = true }
 
   -- ---- the parts of the code, of which contracts tell what they hold
@@ -169,6 +180,7 @@ module _ {K : Type 0} where
     push_outs = p.contents.store.push_outs;
     trail = p.contents.trail.lasts;
     feed = p.contents.feed.entries;
+    push_out_feed = p.contents.push_out_feed.entries;
     log = p.contents.log;
     is_retired = p.is_retired;
     sessions = p.sessions;

@@ -1,12 +1,15 @@
 -- An event in two calls: its answer and its change are prepared, and then put in.
-use Rattle.std.specs.Prelude.{◌≡◌, ◌<◌, ℕ, Option, Some, None, IsSome, Result, Ok, Err, false, All, map, filter, length}
+use Rattle.std.specs.Prelude.{◌≡◌, ◌<◌, ℕ, Option, Some, None, IsSome, Result, Ok, Err, false, List, All, map, filter, length}
 use Rattle.mr_version.specs.Name.{Name}
 use Rattle.mr_forms.specs.Known.{Form, AreSame, with_pairs}
+use Rattle.mr_concise.specs.Vector.{vector_has}
+use Rattle.mr_feed.specs.declared.entry.Entry.{Entry}
 use Rattle.mr_madewith.specs.Revision.{Rev, IsRevision}
-use Rattle.mr_store.specs.Revisions.{AreInVersionOrder}
+use Rattle.mr_store.specs.Revisions.{AreInVersionOrder, supersedes}
 use Rattle.mr_wire.specs.Values.{DescentParts}
 use Rattle.mr_wire.specs.Frames.{Sent, Question, IsSent}
 use Rattle.mr_wire.specs.declared.frame.Frame.TheVariants.{Record}
+use Rattle.mr_wire.specs.declared.frame.Receipt.{Receipt}
 use Rattle.mr_session.specs.Session.{Session}
 use Rattle.mr_session.specs.Stream.{claimed}
 use Rattle.mr_session.specs.Table.{Table, open_at}
@@ -14,13 +17,14 @@ use Rattle.mr_session.specs.declared.limits.TheConstants.{MAX_OPEN}
 use Rattle.mr_replica.specs.State.{State}
 use Rattle.mr_replica.specs.Issue.{Fits, dropped, is_selected, logged}
 use Rattle.mr_replica.specs.inner.Issued.{IsNext}
-use Rattle.mr_replica.specs.inner.Contents.{news_of}
+use Rattle.mr_replica.specs.inner.Contents.{news_of, push_out_news_of}
 use Rattle.mr_replica.specs.Answer.{asked_of, mode_for, Keeps}
 use Rattle.mr_replica.specs.Next.{next_refusal}
 use Rattle.mr_replica.specs.Receive.{record_refusal, session_for, entering, wanted_by_line, wanted_by_end, is_unheld, TakesLine, EndsSession}
 use Rattle.mr_replica.specs.inner.Taking.{below_told, told_line, told_by, news_told, RefusesLine, RefusesEnd}
+use Rattle.mr_replica.specs.Release.{released}
 use Rattle.mr_replica.specs.Step.{first_refusal, wanted_by, Changes, RefusesLate}
-use Rattle.mr_replica.specs.inner.Parts.{OfRecord, IsOfReceipt, PartsView, Puts}
+use Rattle.mr_replica.specs.inner.Parts.{OfRecord, OfReceipt, PartsView, Puts}
 use Rattle.mr_replica.specs.declared.event.Event.{Event}
 use Rattle.mr_replica.specs.declared.event.Event.TheVariants.{Receive}
 use Rattle.mr_replica.specs.declared.event.Reply.TheVariants.{Finished}
@@ -43,6 +47,7 @@ module _ {K : Type 0} where
     push_outs = s.push_outs;
     trail = s.trail;
     feed = s.feed;
+    push_out_feed = s.push_out_feed;
     log = s.log;
     is_retired = s.is_retired;
     sessions = s.sessions;
@@ -60,6 +65,7 @@ module _ {K : Type 0} where
     push_outs = p.push_outs;
     trail = p.trail;
     feed = p.feed;
+    push_out_feed = p.push_out_feed;
     log = p.log;
     is_retired = p.is_retired;
     sessions = p.sessions;
@@ -81,6 +87,7 @@ module _ {K : Type 0} (form : Form K) (s : State K) where
     pub selected : arrival.selected ≡ is_selected s arrival.revision
     pub last : arrival.last ≡ arrival.revision
     pub entries : arrival.entries.items ≡ news_of arrival.selected arrival.revision s.heads
+    pub push_out_entries : arrival.push_out_entries.items ≡ push_out_news_of arrival.selected arrival.revision s.push_outs
 
   -- a session is to take the record
   pub record IsToTake (sent : Sent) : Type 0 where
@@ -95,6 +102,7 @@ module _ {K : Type 0} (form : Form K) (s : State K) where
     pub is : IsRevision item version (below_told sent.body)
     pub comer : news.comer ≡ entering s sent.body
     pub entries : news.entries.items ≡ news_told (told_by item version sent.body) news.comer s.heads
+    pub push_out_entries : news.push_out_entries.items ≡ map dropped (filter (supersedes item (vector_has (below_told sent.body))) s.push_outs)
 
   -- the session of the record is to end, and what is unheld to leave
   pub record IsToEnd (ended : Ended K) (sent : Sent) : Type 0 where
@@ -106,6 +114,10 @@ module _ {K : Type 0} (form : Form K) (s : State K) where
     pub left : ended.left.items ≡ filter (is_unheld session) s.heads
     pub entries : ended.entries.items ≡ map dropped (filter (is_unheld session) s.heads)
     pub in_order : AreInVersionOrder s.heads
+
+  -- the push-outs are to leave that the receipt is for
+  pub record IsToRelease (entries : List Entry) (receipt : Receipt) : Type 0 where
+    pub tell : entries ≡ map dropped (released s receipt)
 
   -- a stream is to be opened for the request
   pub record IsOpeningFor (ask : Question) (opening : Opening) : Type 0 where
@@ -125,7 +137,7 @@ module _ {K : Type 0} (form : Form K) (s : State K) where
   IsToChange (change.OpenStream opening) event = IsToOpen (length s.log) s.event_limit s.streams
   IsToChange (change.GoOn stream onward) event = next_refusal s stream ≡ None
   IsToChange (change.CloseStream stream) event = IsSome (open_at s.streams stream)
-  IsToChange change.Release event = IsOfReceipt event
+  IsToChange (change.Release entries) event = OfReceipt event (IsToRelease entries.items)
   IsToChange change.Retire event = Unit {0}
 
   -- the change was put in, and the event noted

@@ -8,7 +8,7 @@ use Rattle.mr_madewith.specs.Revision.{Rev, IsRevision}
 use Rattle.mr_store.specs.Revisions.{AreInVersionOrder}
 use Rattle.mr_session.specs.Table.{Table, Numbered}
 use Rattle.mr_replica.specs.State.{State}
-use Rattle.mr_replica.specs.Folded.{FoldsToStore}
+use Rattle.mr_replica.specs.Folded.{FoldsToStore, FoldsToPushOuts}
 use Rattle.mr_replica.specs.declared.replica.TheConstants.{MAX_EVENTS}
 
 -- the version is no own one, or one of those issued
@@ -39,6 +39,7 @@ pub record IsSound {K : Type 0} (form : Form K) (s : State K) : Type 0 where
   pub limit_to : s.event_limit ≤ MAX_EVENTS
   pub issued_few : s.issued ≤ length s.log
   pub heads_in_order : AreInVersionOrder s.heads
+  pub push_outs_in_order : AreInVersionOrder s.push_outs
   pub heads_issued : AreIssued s.id s.issued s.heads
   pub push_outs_issued : AreIssued s.id s.issued s.push_outs
   pub trail_issued : AreIssued s.id s.issued s.trail
@@ -47,3 +48,4 @@ pub record IsSound {K : Type 0} (form : Form K) (s : State K) : Type 0 where
   pub sessions_within : AreWithin (λ session. session.next) (length s.log) s.sessions
   pub streams_within : AreWithin (λ stream. stream.next) (length s.log) s.streams
   pub folds : FoldsToStore s
+  pub push_outs_fold : FoldsToPushOuts s

@@ -7,20 +7,21 @@ mod entries;
 
 use crate::Event;
 pub use arrival::Arrival;
-pub use entries::{entries_of_left, news};
+pub use entries::{entries_of_gone, entries_of_left, news};
 use mr_feed::{Entry, Feed};
 use mr_madewith::Trail;
 use mr_store::Store;
 use std::alloc::{AllocError, Global};
 use std::marker::Model;
 
-/// The store, the trail, the feed and the log of a replica, which change together.
+/// The store, the trail, the feeds and the log of a replica, which change together.
 #[derive(Drop)]
 pub struct Contents {
     alloc: Global,
     store: Store,
     trail: Trail,
     feed: Feed,
+    push_out_feed: Feed,
     log: Vec<Event>,
 }
 
@@ -30,7 +31,7 @@ impl Model for Contents {
 
     ghost Value = { ContentParts };
 
-    ghost view = { λ c. record { store = c.store; trail = c.trail; feed = c.feed; log = c.log.items; log_room = vec_capacity c.log - vec_len c.log } };
+    ghost view = { λ c. record { store = c.store; trail = c.trail; feed = c.feed; push_out_feed = c.push_out_feed; log = c.log.items; log_room = vec_capacity c.log - vec_len c.log } };
 }
 
 impl Contents {
@@ -42,6 +43,7 @@ impl Contents {
         ensures push_outs { result.store.push_outs ≡ [] }
         ensures trail { result.trail.lasts ≡ [] }
         ensures feed { result.feed.entries ≡ [] }
+        ensures push_out_feed { result.push_out_feed.entries ≡ [] }
         ensures log { result.log ≡ [] }
     {
         Contents {
@@ -49,6 +51,7 @@ impl Contents {
             store: Store::new(alloc),
             trail: Trail::new(alloc),
             feed: Feed::new(alloc),
+            push_out_feed: Feed::new(alloc),
             log: Vec::new(alloc),
         }
     }
@@ -74,6 +77,13 @@ impl Contents {
         self.feed.entries()
     }
 
+    /// The changes of the push-outs, in order of time.
+    pub fn push_out_feed(&self) -> &[Entry]
+        ensures { result.now ≡ self.now.push_out_feed.entries }
+    {
+        self.push_out_feed.entries()
+    }
+
     /// The admitted events, in order of time.
     pub fn log(&self) -> &[Event]
         ensures { result.now ≡ self.now.log }
@@ -97,6 +107,7 @@ impl Contents {
         self.store = others.store.copy()?;
         self.trail = others.trail.copy()?;
         self.feed = others.feed.copy()?;
+        self.push_out_feed = others.push_out_feed.copy()?;
         self.log = copied_log(self.alloc, &others.log)?;
         Ok(())
     }

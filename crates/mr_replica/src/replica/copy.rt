@@ -10,7 +10,7 @@ use std::alloc::{AllocError, Global};
 impl<K: Knowledge> Replica<K> {
     /// An equal replica, which goes its own way from then on. Memory alone can be wanting.
     ///
-    /// Held revisions share their parts with the original, and each message in the log its body; the feed, the
+    /// Held revisions share their parts with the original, and each message in the log its body; the feeds, the
     /// log, what is known and what is open are copied.
     pub fn copy(&self) -> Result<Replica<K>, AllocError>
         ensures { IfOk result (λ replica. replica ≡ self.now) }

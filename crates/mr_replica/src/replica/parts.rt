@@ -1,19 +1,19 @@
 //! What events change of a replica, and the changes: what can be wanting is made sure of first, and then none can fail.
 ghost use Rattle.std.specs.Prelude.{◌≡◌, ◌<◌, ◌+◌, ◌^◌, ◌++◌, false, true, length, None, IsSome, IfSome, MatchResult};
-ghost use Rattle.mr_store.specs.Revisions.{AreInVersionOrder, revision_of, left_by};
+ghost use Rattle.mr_store.specs.Revisions.{AreInVersionOrder, revision_of};
 ghost use Rattle.mr_session.specs.Session.{new_session, with_taken};
 ghost use Rattle.mr_session.specs.Stream.{new_stream};
 ghost use Rattle.mr_session.specs.Table.{open_at, with_opened, with_closed};
 ghost use Rattle.mr_session.specs.Onward.{advanced};
 ghost use Rattle.mr_session.specs.declared.limits.TheConstants.{MAX_OPEN};
 ghost use Rattle.mr_replica.specs.inner.Parts.{parts_seen, HasBecome, IsDueIn, IsOfRecord, IsOfReceipt, IsReceiveOf, IsReleaseOf};
-ghost use Rattle.mr_replica.specs.Release.{vouched};
 
 use super::answer::Opening;
 use super::contents::{Arrival, Contents};
 use super::end::Ended;
 use super::take::{Told, told_below};
 use crate::Event;
+use mr_feed::Entry;
 use mr_forms::Knowledge;
 use mr_session::{Onward, Sessions, Streams};
 use mr_version::{ItemId, Version};
@@ -55,15 +55,15 @@ pub enum Change<K> {
     GoOn(u64, Onward),
     /// The stream of this number is closed.
     CloseStream(u64),
-    /// The push-outs leave that the event's receipt is for.
-    Release,
+    /// The push-outs leave that the event's receipt is for, and these entries tell it.
+    Release(Vec<Entry>),
     /// It has retired.
     Retire,
 }
 
 impl<K: Knowledge> Parts<K> {
     ghost use Rattle.mr_forms.specs.Known.{AreSame};
-    ghost use Rattle.mr_replica.specs.inner.Parts.{new_parts, MayPut, IsPut, Enters, Learns, IsToldIn, ended_in};
+    ghost use Rattle.mr_replica.specs.inner.Parts.{new_parts, MayPut, IsPut, Enters, Learns, IsToldIn, released_in, ended_in};
 
     /// Nothing. It allocates nothing.
     pub fn new(alloc: Global) -> Parts<K>
@@ -98,7 +98,7 @@ impl<K: Knowledge> Parts<K> {
             Change::OpenStream(opening) => self.open_stream(opening),
             Change::GoOn(stream, onward) => self.go_on(stream, onward),
             Change::CloseStream(stream) => self.close_stream(stream),
-            Change::Release => self.release(receipt_of(event)),
+            Change::Release(entries) => self.release(receipt_of(event), entries),
             Change::Retire => self.retire(),
         }
     }
@@ -133,24 +133,23 @@ impl<K: Knowledge> Parts<K> {
         ensures { MatchResult result (λ _. Learns K.form self.old item version told sent.now self.new) (λ _. parts_seen self.new ≡ parts_seen self.old) }
     {
         let below = told_below(sent.body());
-        self.contents
-            .reserve_taken(&told.comer, told.entries.len())?;
+        self.contents.reserve_taken(&told.comer, told.entries.len(), told.push_out_entries.len())?;
         let Ok(()) = self.knowledge.learn_with(item, version, below) else {
             return Err(AllocError);
         };
         let Ok(()) = self.sessions.take(sent) else {
             unreachable!()
         };
-        self.contents.learn(item, below, told.comer, told.entries);
+        self.contents.learn(item, below, told.comer, told.entries, told.push_out_entries);
         Ok(())
     }
 
-    // The push-outs that the receipt is for leave.
-    fn release(&mut self, receipt: &Receipt) -> Result<(), AllocError>
-        ensures { MatchResult result (λ _. HasBecome self.new (record (parts_seen self.old) { push_outs = left_by receipt.now.descent.item (vouched receipt.now.descent) self.old.contents.store.push_outs })) (λ _. parts_seen self.new ≡ parts_seen self.old) }
+    // The push-outs that the receipt is for leave, and the entries tell it.
+    fn release(&mut self, receipt: &Receipt, entries: Vec<Entry>) -> Result<(), AllocError>
+        ensures { MatchResult result (λ _. HasBecome self.new (released_in (parts_seen self.old) entries.items receipt.now)) (λ _. parts_seen self.new ≡ parts_seen self.old) }
     {
-        self.contents.reserve_event()?;
-        self.contents.release(receipt);
+        self.contents.reserve_gone(entries.len())?;
+        self.contents.release(receipt, entries);
         Ok(())
     }
 
@@ -181,7 +180,7 @@ impl<K: Knowledge> Parts<K> {
         requires in_order { AreInVersionOrder ended.left.items }
         ensures { MatchResult result (λ _. HasBecome self.new (ended_in (parts_seen self.old) ended)) (λ _. parts_seen self.new ≡ parts_seen self.old) }
     {
-        self.contents.reserve_taken(&None, ended.entries.len())?;
+        self.contents.reserve_taken(&None, ended.entries.len(), 0)?;
         self.sessions.close(ended.session);
         self.knowledge = ended.knowledge;
         self.contents.drop_heads(ended.left, ended.entries);

@@ -1,16 +1,21 @@
 //! Release: push-outs for which another replica vouches are let go.
-ghost use Rattle.std.specs.Prelude.{◌≡◌, ◌||◌, None, Some, MatchResult};
+ghost use Rattle.std.specs.Prelude.{◌≡◌, ◌||◌, None, Some, IfOk, MatchResult, filter, map};
 ghost use Rattle.std.specs.List.{list_any};
+ghost use Rattle.mr_store.specs.Revisions.{supersedes};
+ghost use Rattle.mr_replica.specs.Issue.{dropped};
 ghost use Rattle.mr_replica.specs.StepThen.{answer_by};
 ghost use Rattle.mr_replica.specs.Release.{vouched};
 
+use super::contents::entries_of_gone;
 use super::parts::Change;
 use super::prepare::Prepared;
 use super::{Core, Replica};
 use crate::{Event, Refusal, Reply};
+use mr_feed::Entry;
 use mr_forms::{Knowledge, VersionSet};
 use mr_version::Version;
 use mr_wire::{Descent, Receipt};
+use std::alloc::AllocError;
 
 impl<K: Knowledge> Replica<K> {
     ghost use Rattle.mr_replica.specs.Step.{Steps};
@@ -37,10 +42,24 @@ impl<K: Knowledge> Core<K> {
         ensures { Prepares K.form self.now (Event.Release receipt.now) result }
     {
         self.check_release(receipt)?;
+        let entries = self.released(&receipt.descent)?;
         Ok(Prepared {
             reply: Reply::Done,
-            change: Change::Release,
+            change: Change::Release(entries),
         })
+    }
+
+    // The entries of the push-outs that leave: of this version, and what it supersedes.
+    fn released(&self, descent: &Descent) -> Result<Vec<Entry>, AllocError>
+        ensures { IfOk result (λ entries. entries.items ≡ map dropped (filter (supersedes descent.now.item (vouched descent.now)) self.now.push_outs)) }
+    {
+        entries_of_gone(
+            self.alloc,
+            self.parts.contents.store(),
+            descent.item(),
+            &[descent.version()],
+            descent.below(),
+        )
     }
 
     // Nothing, where the receipt is for a push-out.

@@ -120,13 +120,13 @@ module _ {K : Type 0} (form : Form K) (filters : ℕ → List ClauseParts) (w : 
   abbrev told_of : Versions → List (SeenEntry MailCard)
   told_of store = feed_after (setting_of filters) m.issues (stored m r) store (m.feed r)
 
-  abbrev with_holdings : K → (heads push_outs : List Rev) → List Entry → Table Session → List Event → State K
-  with_holdings knowledge heads push_outs feed sessions log = record (w.replicas r) { knowledge = knowledge; heads = heads; push_outs = push_outs; feed = feed; sessions = sessions; log = log }
+  abbrev with_holdings : K → (heads push_outs : List Rev) → (feed push_out_feed : List Entry) → Table Session → List Event → State K
+  with_holdings knowledge heads push_outs feed push_out_feed sessions log = record (w.replicas r) { knowledge = knowledge; heads = heads; push_outs = push_outs; feed = feed; push_out_feed = push_out_feed; sessions = sessions; log = log }
 
-  changes : (sessions : Table Session) → SessionsAgree w.records (seen_record x ∷ m.taken_in r) sessions → (h : Holding) (knowledge : K) (heads push_outs : List Rev) (feed : List Entry) (log : List Event) →
-      HoldingsAgree form m.issues filters r h (told_of h.stored) (m.is_retired r) (with_holdings knowledge heads push_outs feed sessions log) →
-      Agrees form filters (with_replica w r (with_holdings knowledge heads push_outs feed sessions log)) (taking h)
-  changes sessions agree h knowledge heads push_outs feed log new = record {
+  changes : (sessions : Table Session) → SessionsAgree w.records (seen_record x ∷ m.taken_in r) sessions → (h : Holding) (knowledge : K) (heads push_outs : List Rev) (feed push_out_feed : List Entry) (log : List Event) →
+      HoldingsAgree form m.issues filters r h (told_of h.stored) (m.is_retired r) (with_holdings knowledge heads push_outs feed push_out_feed sessions log) →
+      Agrees form filters (with_replica w r (with_holdings knowledge heads push_outs feed push_out_feed sessions log)) (taking h)
+  changes sessions agree h knowledge heads push_outs feed push_out_feed log new = record {
     asks = a.asks;
     given = a.given;
     records = a.records;
@@ -134,18 +134,18 @@ module _ {K : Type 0} (form : Form K) (filters : ℕ → List ClauseParts) (w : 
     receipts = a.receipts;
     ports = a.ports;
     holdings = λ q. at_elim₃ (λ (z : ℕ) (ho : Holding) (fe : List (SeenEntry MailCard)) (st : State K). HoldingsAgree form m.issues filters z ho fe (m.is_retired z) st) m.holding m.feed w.replicas
-        r h (told_of h.stored) (with_holdings knowledge heads push_outs feed sessions log) q new (a.holdings q);
-    sessions = λ q. at_elim₂ (λ (z : ℕ) (u : List Record) (st : State K). SessionsAgree w.records u st.sessions) m.taken_in w.replicas r (seen_record x ∷ m.taken_in r) (with_holdings knowledge heads push_outs feed sessions log) q
+        r h (told_of h.stored) (with_holdings knowledge heads push_outs feed push_out_feed sessions log) q new (a.holdings q);
+    sessions = λ q. at_elim₂ (λ (z : ℕ) (u : List Record) (st : State K). SessionsAgree w.records u st.sessions) m.taken_in w.replicas r (seen_record x ∷ m.taken_in r) (with_holdings knowledge heads push_outs feed push_out_feed sessions log) q
         agree (a.sessions q);
     streams = λ q. at_elim (λ (z : ℕ) (st : State K). StreamsAgree m.issues filters w.records m.given z (m.ask_of z) (m.known_at_answer z) (m.held_at_draw z) st.streams) w.replicas r
-        (with_holdings knowledge heads push_outs feed sessions log) q (a.streams r) (a.streams q);
+        (with_holdings knowledge heads push_outs feed push_out_feed sessions log) q (a.streams r) (a.streams q);
   }
 
   -- the sets are as they were
   quiet : (sessions : Table Session) → SessionsAgree w.records (seen_record x ∷ m.taken_in r) sessions → (log : List Event) →
       Agrees form filters (with_replica w r (record (w.replicas r) { sessions = sessions; log = log })) (taking (m.holding r))
-  quiet sessions agree log = changes sessions agree (m.holding r) (w.replicas r).knowledge (w.replicas r).heads (w.replicas r).push_outs (w.replicas r).feed log
-      (subst (λ (fe : List (SeenEntry MailCard)). HoldingsAgree form m.issues filters r (m.holding r) fe (m.is_retired r) (with_holdings (w.replicas r).knowledge (w.replicas r).heads (w.replicas r).push_outs (w.replicas r).feed sessions log))
+  quiet sessions agree log = changes sessions agree (m.holding r) (w.replicas r).knowledge (w.replicas r).heads (w.replicas r).push_outs (w.replicas r).feed (w.replicas r).push_out_feed log
+      (subst (λ (fe : List (SeenEntry MailCard)). HoldingsAgree form m.issues filters r (m.holding r) fe (m.is_retired r) (with_holdings (w.replicas r).knowledge (w.replicas r).heads (w.replicas r).push_outs (w.replicas r).feed (w.replicas r).push_out_feed sessions log))
       (sym (feed_stays (setting_of filters) m.issues (stored m r) (m.feed r)))
       (tables_hold form m.issues filters r (m.holding r) (m.feed r) (m.is_retired r) (w.replicas r) log sessions (w.replicas r).streams (a.holdings r)))
 
@@ -203,7 +203,7 @@ module _ {K : Type 0} (form : Form K) (filters : ℕ → List ClauseParts) (w : 
     version_new new n l e = let n' : IsFalse (known m r line.version) = sym known_is ∙ n in (
       rw n' tt,
       rw n' (subst (λ (z : State K). Agrees form filters (with_replica w r z) (taking with_version)) (sym e)
-          (changes (with_taken x (w.replicas r).sessions) goes_on with_version new.knowledge (learned new.knowledge).heads (learned new.knowledge).push_outs (learned new.knowledge).feed (learned new.knowledge).log
+          (changes (with_taken x (w.replicas r).sessions) goes_on with_version new.knowledge (learned new.knowledge).heads (learned new.knowledge).push_outs (learned new.knowledge).feed (learned new.knowledge).push_out_feed (learned new.knowledge).log
           (version_holds new.knowledge n' l))),
     )
 
@@ -322,7 +322,7 @@ module _ {K : Type 0} (form : Form K) (filters : ℕ → List ClauseParts) (w : 
     session_ended : (b : Bool) → is_full k.origin ≡ b → (new : State K) → Ends form (w.replicas r) x k b new → Ended new
     session_ended true full new step = let done : completes m r (seen_record x) ≡ true = completes_is ∙ full in
         rw done (subst (λ (z : State K). Agrees form filters (with_replica w r z) (taking (holding_after_end m r (seen_record x)))) (sym step.1)
-        (changes (with_closed (w.replicas r).sessions x.header.session) closes (holding_after_end m r (seen_record x)) new.knowledge (ended full new.knowledge).heads (w.replicas r).push_outs (ended full new.knowledge).feed (ended full new.knowledge).log
+        (changes (with_closed (w.replicas r).sessions x.header.session) closes (holding_after_end m r (seen_record x)) new.knowledge (ended full new.knowledge).heads (w.replicas r).push_outs (ended full new.knowledge).feed (w.replicas r).push_out_feed (ended full new.knowledge).log
         (end_holds full new.knowledge step.0)))
     session_ended false partial new step = let done : completes m r (seen_record x) ≡ false = completes_is ∙ partial in
         rw done (subst (λ (z : State K). Agrees form filters (with_replica w r z) (taking (m.holding r))) (sym step) (quiet (with_closed (w.replicas r).sessions x.header.session) closes (finished (w.replicas r) x).log))

@@ -1,7 +1,7 @@
 //! Revisions that are to enter.
 ghost use Rattle.std.specs.Prelude.{◌≡◌, IfOk};
 
-use super::entries::news;
+use super::entries::{news, push_out_news};
 use mr_feed::Entry;
 use mr_madewith::Revision;
 use mr_store::Store;
@@ -15,10 +15,11 @@ pub struct Arrival {
     // the same, for the trail
     pub last: Revision,
     pub entries: Vec<Entry>,
+    pub push_out_entries: Vec<Entry>,
 }
 
 impl Arrival {
-    ghost use Rattle.mr_replica.specs.inner.Contents.{news_of};
+    ghost use Rattle.mr_replica.specs.inner.Contents.{news_of, push_out_news_of};
 
     /// The arrival of a revision that the filter selects, or does not, at this store.
     pub fn of(
@@ -31,15 +32,25 @@ impl Arrival {
         ensures revision { IfOk result (λ arrival. arrival.revision ≡ revision) }
         ensures last { IfOk result (λ arrival. arrival.last ≡ revision) }
         ensures entries { IfOk result (λ arrival. arrival.entries.items ≡ news_of selected revision store.now.heads) }
+        ensures push_out_entries { IfOk result (λ arrival. arrival.push_out_entries.items ≡ push_out_news_of selected revision store.now.push_outs) }
     {
         let last = revision.copy()?;
         let comer = if selected { Some(&revision) } else { None };
         let entries = news(alloc, store, revision.item(), revision.below(), comer)?;
+        let pushed = if selected { None } else { Some(&revision) };
+        let push_out_entries = push_out_news(
+            alloc,
+            store,
+            revision.item(),
+            revision.below(),
+            pushed,
+        )?;
         Ok(Arrival {
             selected,
             revision,
             last,
             entries,
+            push_out_entries,
         })
     }
 }

@@ -25,12 +25,13 @@ impl Contents {
     /// Makes room for the arrival and one event.
     pub fn reserve(&mut self, arrival: &Arrival) -> Result<(), AllocError>
         ensures same { HoldsSame self.old self.new }
-        ensures room { OnOk result (HasRoom arrival.now.selected arrival.now.revision (vec_len arrival.now.entries) self.new) }
+        ensures room { OnOk result (HasRoom arrival.now.selected arrival.now.revision (vec_len arrival.now.entries) (vec_len arrival.now.push_out_entries) self.new) }
     {
         self.store
             .reserve(part_for(arrival.selected), &arrival.revision)?;
         self.trail.reserve()?;
         self.feed.reserve(arrival.entries.len())?;
+        self.push_out_feed.reserve(arrival.push_out_entries.len())?;
         self.log.reserve(1)
     }
 
@@ -42,6 +43,16 @@ impl Contents {
         self.log.reserve(1)
     }
 
+    /// Makes room for so many entries of the push-outs, and for one event.
+    pub fn reserve_gone(&mut self, entries: usize) -> Result<(), AllocError>
+        ensures same { HoldsSame self.old self.new }
+        ensures push_out_feed { OnOk result (entries ≤ self.new.push_out_feed.room) }
+        ensures log { OnOk result (0 < self.new.log_room) }
+    {
+        self.push_out_feed.reserve(entries)?;
+        self.log.reserve(1)
+    }
+
     /// Notes an event, for which there is room, in the log.
     pub fn note_event(&mut self, event: Event)
         requires { 0 < self.old.log_room }
@@ -49,27 +60,31 @@ impl Contents {
         ensures push_outs { self.new.store.push_outs ≡ self.old.store.push_outs }
         ensures trail { self.new.trail.lasts ≡ self.old.trail.lasts }
         ensures feed { self.new.feed.entries ≡ self.old.feed.entries }
+        ensures push_out_feed { self.new.push_out_feed.entries ≡ self.old.push_out_feed.entries }
         ensures log { self.new.log ≡ self.old.log ++ event ∷ [] }
     {
         self.log.push_reserved(event);
     }
 
-    /// Makes room for a revision that comes to the heads, if there is one, for so many entries, and for
-    /// one event.
+    /// Makes room for a revision that comes to the heads, if there is one, for so many entries of the heads
+    /// and of the push-outs, and for one event.
     pub fn reserve_taken(
         &mut self,
         comer: &Option<Revision>,
         entries: usize,
+        push_out_entries: usize,
     ) -> Result<(), AllocError>
         ensures same { HoldsSame self.old self.new }
         ensures store { OnOk result (HasPlace comer.now self.new.store) }
         ensures feed { OnOk result (entries ≤ self.new.feed.room) }
+        ensures push_out_feed { OnOk result (push_out_entries ≤ self.new.push_out_feed.room) }
         ensures log { OnOk result (0 < self.new.log_room) }
     {
         if let Some(revision) = comer {
             self.store.reserve(Part::Heads, revision)?;
         }
         self.feed.reserve(entries)?;
+        self.push_out_feed.reserve(push_out_entries)?;
         self.log.reserve(1)
     }
 
@@ -82,14 +97,17 @@ impl Contents {
         below: &ConciseVector,
         comer: Option<Revision>,
         entries: Vec<Entry>,
+        push_out_entries: Vec<Entry>,
     )
         requires place { HasPlace comer self.old.store }
         requires new { IfSome comer (λ r. revision_of (self.old.store.heads ++ self.old.store.push_outs) r.version ≡ None) }
         requires room { vec_len entries ≤ self.old.feed.room }
+        requires push_out_room { vec_len push_out_entries ≤ self.old.push_out_feed.room }
         ensures heads { self.new.store.heads ≡ arrived comer (left_by item (vector_has below.now) self.old.store.heads) }
         ensures push_outs { self.new.store.push_outs ≡ left_by item (vector_has below.now) self.old.store.push_outs }
         ensures trail { self.new.trail.lasts ≡ self.old.trail.lasts }
         ensures feed { self.new.feed.entries ≡ self.old.feed.entries ++ entries.items }
+        ensures push_out_feed { self.new.push_out_feed.entries ≡ self.old.push_out_feed.entries ++ push_out_entries.items }
         ensures log { self.new.log ≡ self.old.log }
         ensures log_room { self.new.log_room ≡ self.old.log_room }
     {
@@ -98,6 +116,7 @@ impl Contents {
             self.store.enter(Part::Heads, revision);
         }
         tell(&mut self.feed, entries);
+        tell(&mut self.push_out_feed, push_out_entries);
     }
 
     /// The heads leave that are of the version of one of these revisions, which stand in version order.
@@ -108,6 +127,7 @@ impl Contents {
         ensures push_outs { self.new.store.push_outs ≡ self.old.store.push_outs }
         ensures trail { self.new.trail.lasts ≡ self.old.trail.lasts }
         ensures feed { self.new.feed.entries ≡ self.old.feed.entries ++ entries.items }
+        ensures push_out_feed { self.new.push_out_feed.entries ≡ self.old.push_out_feed.entries }
         ensures log { self.new.log ≡ self.old.log }
         ensures log_room { self.new.log_room ≡ self.old.log_room }
     {
@@ -116,28 +136,32 @@ impl Contents {
     }
 
     /// Lets go of the push-outs of the receipt's item that are its version, or below it.
-    pub fn release(&mut self, receipt: &Receipt)
+    pub fn release(&mut self, receipt: &Receipt, entries: Vec<Entry>)
+        requires room { vec_len entries ≤ self.old.push_out_feed.room }
         ensures heads { self.new.store.heads ≡ self.old.store.heads }
         ensures push_outs { self.new.store.push_outs ≡ left_by receipt.now.descent.item (vouched receipt.now.descent) self.old.store.push_outs }
         ensures trail { self.new.trail.lasts ≡ self.old.trail.lasts }
         ensures feed { self.new.feed.entries ≡ self.old.feed.entries }
+        ensures push_out_feed { self.new.push_out_feed.entries ≡ self.old.push_out_feed.entries ++ entries.items }
         ensures log { self.new.log ≡ self.old.log }
         ensures log_room { self.new.log_room ≡ self.old.log_room }
     {
         let descent = &receipt.descent;
         self.store
             .drop_push_outs(descent.item(), descent.version(), descent.below());
+        tell(&mut self.push_out_feed, entries);
     }
 
     /// Lets a revision enter where there is room: what it supersedes leaves.
     #[tactic(auto, using(crate::proofs::Staying::stays_new))]
     pub fn enter(&mut self, arrival: Arrival)
-        requires room { HasRoom arrival.selected arrival.revision (vec_len arrival.entries) self.old }
+        requires room { HasRoom arrival.selected arrival.revision (vec_len arrival.entries) (vec_len arrival.push_out_entries) self.old }
         requires new { revision_of (self.old.store.heads ++ self.old.store.push_outs) arrival.revision.version ≡ None }
         ensures heads { self.new.store.heads ≡ entered_if arrival.selected arrival.revision (left_by arrival.revision.item (has_below arrival.revision) self.old.store.heads) }
         ensures push_outs { self.new.store.push_outs ≡ entered_if (not arrival.selected) arrival.revision (left_by arrival.revision.item (has_below arrival.revision) self.old.store.push_outs) }
         ensures trail { self.new.trail.lasts ≡ noted arrival.last self.old.trail.lasts }
         ensures feed { self.new.feed.entries ≡ self.old.feed.entries ++ arrival.entries.items }
+        ensures push_out_feed { self.new.push_out_feed.entries ≡ self.old.push_out_feed.entries ++ arrival.push_out_entries.items }
         ensures log { self.new.log ≡ self.old.log }
         ensures log_room { self.new.log_room ≡ self.old.log_room }
     {
@@ -146,11 +170,13 @@ impl Contents {
             revision,
             last,
             entries,
+            push_out_entries,
         } = arrival;
         self.store.remove_below(revision.item(), revision.below());
         self.store.enter(part_for(selected), revision);
         self.trail.note_reserved(last);
         tell(&mut self.feed, entries);
+        tell(&mut self.push_out_feed, push_out_entries);
     }
 }
 

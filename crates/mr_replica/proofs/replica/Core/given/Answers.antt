@@ -11,14 +11,14 @@ use Rattle.mr_replica.proofs.replica.Core.given.Goals as goal
 pub prepare-requires-clause-goes_on : goal.prepare-requires-clause-goes_on
 prepare-requires-clause-goes_on g c =
     let i = c.self.inside in
-    let s : State g.row.K.Denot = record { id = i.id; filter = i.filter; event_limit = i.event_limit; issued = i.parts.issued; knowledge = i.parts.knowledge; heads = i.parts.contents.store.heads; push_outs = i.parts.contents.store.push_outs; trail = i.parts.contents.trail.lasts; feed = i.parts.contents.feed.entries; log = i.parts.contents.log; is_retired = i.parts.is_retired; sessions = i.parts.sessions; streams = i.parts.streams } in
+    let s : State g.row.K.Denot = record { id = i.id; filter = i.filter; event_limit = i.event_limit; issued = i.parts.issued; knowledge = i.parts.knowledge; heads = i.parts.contents.store.heads; push_outs = i.parts.contents.store.push_outs; trail = i.parts.contents.trail.lasts; feed = i.parts.contents.feed.entries; push_out_feed = i.parts.contents.push_out_feed.entries; log = i.parts.contents.log; is_retired = i.parts.is_retired; sessions = i.parts.sessions; streams = i.parts.streams } in
     goes_on g.K.Knowledge.form s c.args.stream c.self.invariant (subst (λ (p : State g.row.K.Denot). next_refusal p c.args.stream ≡ None) (sym c.self.view_is) c.requires)
 
 -- it is of what is held now
 pub returns : goal.returns
 returns g c =
     let i = c.self.inside in
-    let s : State g.row.K.Denot = record { id = i.id; filter = i.filter; event_limit = i.event_limit; issued = i.parts.issued; knowledge = i.parts.knowledge; heads = i.parts.contents.store.heads; push_outs = i.parts.contents.store.push_outs; trail = i.parts.contents.trail.lasts; feed = i.parts.contents.feed.entries; log = i.parts.contents.log; is_retired = i.parts.is_retired; sessions = i.parts.sessions; streams = i.parts.streams } in
+    let s : State g.row.K.Denot = record { id = i.id; filter = i.filter; event_limit = i.event_limit; issued = i.parts.issued; knowledge = i.parts.knowledge; heads = i.parts.contents.store.heads; push_outs = i.parts.contents.store.push_outs; trail = i.parts.contents.trail.lasts; feed = i.parts.contents.feed.entries; push_out_feed = i.parts.contents.push_out_feed.entries; log = i.parts.contents.log; is_retired = i.parts.is_retired; sessions = i.parts.sessions; streams = i.parts.streams } in
     let heads = ap (λ (h : Holdings). h.heads) c.store.ensures in
     let push_outs = ap (λ (h : Holdings). h.push_outs) c.store.ensures in
     subst (λ (t : State g.row.K.Denot). IfOk c.prepare.result (λ p. GivesNext t c.args.stream p.record (going_on t c.args.stream p.onward))) c.self.view_is

@@ -21,4 +21,4 @@ returns g c =
     let unknown = ap (λ (t : State g.row.K.Denot). form.known t.knowledge c.args.item c.args.version) (sym c.self.view_is) ∙ sym c.knows.ensures ∙ c.if-knows.false in
     let told = c.in_ok-told.ensures in
     told_prepared form s c.args.item c.args.version c.in_ok-told.told sent
-    (record { take = record { taken = c.requires.taken; kept = c.requires.kept }; unknown = unknown; told = c.requires.told; is = told.is; comer = told.comer; entries = told.entries }) told.fits
+    (record { take = record { taken = c.requires.taken; kept = c.requires.kept }; unknown = unknown; told = c.requires.told; is = told.is; comer = told.comer; entries = told.entries; push_out_entries = told.push_out_entries }) told.fits

@@ -33,6 +33,16 @@ returns-in_err-entries-clause-refused g c =
     let p = err_from_is_err_and c.from_residual-in_err-entries.result c.from_residual-in_err-entries.ensures.1 in
     rw (p.1 ∙ ap Err p.2) fits
 
+pub returns-in_err-push_out_entries-clause-refused : goal.returns-in_err-push_out_entries-clause-refused
+returns-in_err-push_out_entries-clause-refused g c =
+    let below = c.told_below-below.ensures.is ∙ ap below_told c.body.ensures in
+    let holes = rw (ap (λ (t : State g.row.K.Denot). t.knowledge) c.self.view_is, below) at c.may_learn_with.ensures.holes in
+    let items = rw (ap (λ (t : State g.row.K.Denot). t.knowledge) c.self.view_is, below) at c.may_learn_with.ensures.items in
+    let line = told_by c.args.item c.args.version c.args.sent.now.body in
+    let fits = line_fits g.K.Knowledge.form c.args.self.now line c.requires.unknown c.may_learn_with.result holes items c.in_ok-may_learn_with.was in
+    let p = err_from_is_err_and c.from_residual-in_err-push_out_entries.result c.from_residual-in_err-push_out_entries.ensures.1 in
+    rw (p.1 ∙ ap Err p.2) fits
+
 pub returns-clause-is : goal.returns-clause-is
 returns-clause-is g c =
     let kept = c.told_below-below.ensures.kept in

@@ -11,7 +11,7 @@ returns g c =
     record {
       known = rw below at c.in-Ok.ensures.ok;
       has = record {
-        is = rw (learned.heads, learned.push_outs, learned.trail, learned.feed, learned.log, same.heads, same.push_outs, same.trail, same.feed, same.log, below, c.in-Ok-take.ensures.ok) refl;
+        is = rw (learned.heads, learned.push_outs, learned.trail, learned.feed, learned.push_out_feed, learned.log, same.heads, same.push_outs, same.trail, same.feed, same.push_out_feed, same.log, below, c.in-Ok-take.ensures.ok) refl;
         room = rw learned.log_room c.in_ok-reserve_taken.ensures.log;
       };
     }
