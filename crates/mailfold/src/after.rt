@@ -19,8 +19,8 @@ pub struct Talked {
     pub meeting: Option<Meeting>,
     /// Why it didn't come to its end.
     pub fault: Option<TalkFault>,
-    /// How many versions waited for a receipt before it.
-    pub waiting: usize,
+    /// How many changes of its push-outs the replica had told before it.
+    pub push_outs_told: usize,
     /// The hellos of talks with nothing to tell, this one among them, if the folder was opened for it; else of none.
     pub idle: Vec<Hellos>,
 }
@@ -32,7 +32,7 @@ impl Talked {
             summary: Summary::new(),
             meeting: None,
             fault,
-            waiting: 0,
+            push_outs_told: 0,
             idle: Vec::new(alloc),
         }
     }
@@ -58,6 +58,7 @@ pub fn shown<R: Files<File = File> + AllocGlobal + Clone + Drop>(
     if talked.summary.is_idle && !is_fresh {
         return Ok(nothing_shown());
     }
+    keep_taken(folder)?;
     if let Some(meeting) = talked.meeting {
         note_meeting(folder, meeting)?;
     }
@@ -71,6 +72,20 @@ pub fn shown<R: Files<File = File> + AllocGlobal + Clone + Drop>(
     Ok(After { tally, edited })
 }
 
+/// Keeps the records that came and wait for that, as they may where the talk was cut off.
+fn keep_taken<R>(folder: &mut OpenFolder<R>) -> Result<(), Fault>
+where
+    R: Files<File = File> + AllocGlobal + Clone + Drop,
+{
+    if folder.kept.is_kept() {
+        return Ok(());
+    }
+    match folder.kept.commit() {
+        Ok(_said) => Ok(()),
+        Err(fault) => Err(explained(&folder.kept, fault)),
+    }
+}
+
 /// Nothing was done.
 fn nothing_shown() -> After {
     After {
@@ -79,12 +94,12 @@ fn nothing_shown() -> After {
     }
 }
 
-/// Whether nothing that the talk brought is to be shown: the feed is as it was shown, no file came, and as many versions wait for a receipt as
-/// did before, of which a talk adds none. What the feed doesn't tell is a mail that waits no more, be it for a receipt or for what superseded it.
+/// Whether nothing that the talk brought is to be shown: the feed is as it was shown, no file came, and no version has come to wait for a receipt
+/// or waits no more, be it that one came or what supersedes it, which the push-out feed tells.
 fn shows_all<R: Drop>(folder: &OpenFolder<R>, talked: &Talked) -> bool {
     let replica = folder.kept.replica();
     talked.summary.files_came == 0
-        && replica.push_outs().len() == talked.waiting
+        && replica.push_out_feed().len() == talked.push_outs_told
         && replica.feed().len() as u64 == folder.shown.entries()
 }
 

@@ -24,5 +24,5 @@ pub use memory::MemoryTree;
 pub use memory_folders::MemoryFolders;
 pub use path::{FilePath, FolderPath, Part};
 pub use show::{link, replace, unlink};
-pub use store::{Incoming, StoreFault, adopt, append, begin, end};
+pub use store::{Incoming, StoreFault, adopt, append, begin, end, take_in};
 pub use sweeping::{StoredMails, stored, sweep};

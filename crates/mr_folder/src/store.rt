@@ -115,6 +115,36 @@ pub fn end<F: FileTree>(
     }
 }
 
+/// Takes a mail in that is here as a whole, in place of one that was begun and not ended. Its digest, by which it is in the store then.
+pub fn take_in<F: FileTree>(
+    alloc: Global,
+    files: &mut F,
+    bytes: &[u8],
+) -> Result<[u8; 32], StoreFault>
+    ensures digest { IfOk result (λ digest. digest ≡ sha256 bytes.now) }
+    ensures stored { IsTrue F.is_told → IfOk result (λ digest. F.seen files.new (stored_path digest) ≡ Some bytes.now) }
+    ensures kept { IsTrue F.is_told → IsSound F.seen F.may_leave files.old → IfOk result (λ digest. IsKept F.seen F.may_leave digest files.new) }
+    ensures only { IsTrue F.is_told → OnlyStored (sha256 bytes.now) (F.seen files.old) (F.seen files.new) }
+    ensures sound { IsTrue F.is_told → IsSound F.seen F.may_leave files.old → StaysSound F.seen F.may_leave F.moment F.left_since files.old files.new }
+{
+    let digest = Sha256::digest(bytes);
+    write_draft(alloc, files, bytes)?;
+    place(alloc, files, &digest)?;
+    Ok(digest)
+}
+
+/// Writes a draft of these bytes.
+fn write_draft<F: FileTree>(alloc: Global, files: &mut F, bytes: &[u8]) -> Result<(), StoreFault>
+    ensures written { IsTrue F.is_told → OnOk result (F.seen files.new draft_path ≡ Some bytes.now) }
+    ensures only { IsTrue F.is_told → OnlyAt draft_path (F.seen files.old) (F.seen files.new) }
+    ensures sound { IsTrue F.is_told → IsSound F.seen F.may_leave files.old → StaysSound F.seen F.may_leave F.moment F.left_since files.old files.new }
+{
+    let draft = FilePath::draft(alloc)?;
+    files.create(&draft)?;
+    files.append(&draft, bytes)?;
+    Ok(())
+}
+
 /// Whether what the hasher holds has this digest.
 fn has_digest(hasher: Sha256, digest: &[u8; 32]) -> bool
     ensures { (come : List ℕ) → Holds256 hasher come → result ≡ bytes_eq (sha256 come) digest.now }
@@ -125,7 +155,8 @@ fn has_digest(hasher: Sha256, digest: &[u8; 32]) -> bool
 /// Moves the draft to its place in the store.
 fn place<F: FileTree>(alloc: Global, files: &mut F, digest: &[u8; 32]) -> Result<(), StoreFault>
     ensures placed { IsTrue F.is_told → OnOk result (F.seen files.new (stored_path digest.now) ≡ F.seen files.old draft_path) }
-    ensures durable { IsTrue F.is_told → OnOk result (HasSame (stored_path digest.now) (F.seen files.new) (F.may_leave files.new)) }
+    ensures kept { IsTrue F.is_told → (bytes : List ℕ) → F.seen files.old draft_path ≡ Some bytes → sha256 bytes ≡ digest.now
+        → IsSound F.seen F.may_leave files.old → OnOk result (IsKept F.seen F.may_leave digest.now files.new) }
     ensures only { IsTrue F.is_told → OnlyStored digest.now (F.seen files.old) (F.seen files.new) }
     ensures sound { IsTrue F.is_told → (bytes : List ℕ) → F.seen files.old draft_path ≡ Some bytes → sha256 bytes ≡ digest.now
         → IsSound F.seen F.may_leave files.old → StaysSound F.seen F.may_leave F.moment F.left_since files.old files.new }

@@ -1,5 +1,5 @@
 -- an open folder as it talks: what it was opened with, and the files that it lacks
-use Rattle.std.specs.Prelude.{◌≡◌, ◌==◌, ℕ, Bool, false, not, [], List, length, Option, option_map}
+use Rattle.std.specs.Prelude.{◌≡◌, ◌==◌, ◌⊎◌, ℕ, Bool, true, false, not, [], List, length, Option, Some, None, option_map}
 use Rattle.std.specs.BTreeMap.{BTreeMap, get}
 use Rattle.std.specs.BTreeSet.{insert_key}
 use Rattle.std.specs.Cmp.Lexicographic.{slice_cmp}
@@ -84,7 +84,12 @@ module _ {D F : Type 0} where
   abbrev pub JudgesOf : FolderHost D F → Hello → Bool → Type 0
   JudgesOf h theirs = Judges (head_of (journaled_of h)).birth (replica_of (journaled_of h)) (lacks_files h) theirs (option_map met_by (get nat_cmp (meetings_of h) theirs.id))
 
-  -- the folder lacks no file, and has nothing to tell by these hellos
+  -- the other side hasn't said anything, the folder lacks a file, or there is something to tell
+  abbrev pub HasToTell : FolderHost D F → Type 0
+  HasToTell h = (theirs_of h ≡ None) ⊎ (lacks_files h ≡ true) ⊎ ((theirs : Hello) × (theirs_of h ≡ Some theirs) × JudgesOf h theirs false)
+
+  -- the folder lacks no file, and has nothing to tell by these hellos, of which the other side has said its own
   pub record IsIdle (h : FolderHost D F) (talk : Hellos) : Type 0 where
+    pub said : theirs_of h ≡ Some talk.theirs
     pub lacks_none : lacks_files h ≡ false
     pub idle : AreIdle (head_of (journaled_of h)).birth (replica_of (journaled_of h)) (meetings_of h) talk

@@ -1,6 +1,7 @@
 -- the hellos of talks with nothing to tell
-use Rattle.std.specs.Prelude.{ℕ, false, true, List, ◌++◌, Some, option_map}
+use Rattle.std.specs.Prelude.{◌≡◌, ◌≢◌, ◌≤◌, ◌<◌, ℕ, false, true, List, ◌++◌, length, Option, Some, None, option_map}
 use Rattle.std.specs.BTreeMap.{BTreeMap, get}
+use Rattle.std.specs.List.{AllByRecursion, AllWithin, HoldsAt, flat_map}
 use Rattle.std.specs.Ordering.{nat_cmp}
 use Rattle.mr_compare.specs.declared.note.Meeting.{Meeting}
 use Rattle.mr_itemset.specs.Normal.{Normal}
@@ -9,6 +10,7 @@ use Rattle.mr_talk.specs.Hello.{IsHello, hello_bytes}
 use Rattle.mr_talk.specs.declared.hello.Hello.{Hello}
 use Rattle.mr_sync.specs.Hello.{IsHelloOf, Judges, met_by}
 use Rattle.mr_sync.specs.declared.idle.Hellos.{Hellos}
+use Rattle.mr_sync.specs.declared.idle.TheConstants.{MAX_IDLE_TALKS}
 
 -- this side's hello, and behind it the other's
 abbrev pub hellos_bytes : Hellos → List ℕ
@@ -17,6 +19,21 @@ hellos_bytes talk = hello_bytes talk.mine ++ hello_bytes talk.theirs
 -- each field of both has its size
 abbrev pub IsHellos : Hellos → Type 0
 IsHellos talk = IsHello talk.mine × IsHello talk.theirs
+
+-- the bytes spell these pairs, one behind another, of which there are not too many
+pub record AreSpelled (bytes : List ℕ) (talks : List Hellos) : Type 0 where
+  pub are : AllByRecursion IsHellos talks
+  pub few : length talks ≤ MAX_IDLE_TALKS
+  pub spelled : bytes ≡ flat_map hellos_bytes talks
+
+-- in none of the first k talks did the other side say this
+abbrev pub HasNoneBefore : (talks : List Hellos) (theirs : Hello) (k : ℕ) → Type 0
+HasNoneBefore talks theirs k = AllWithin (λ talk. talk.theirs ≢ theirs) talks 0 k
+
+-- what this side said in the first of the talks in which the other side said this, if there is one
+abbrev pub IsAnswer : (talks : List Hellos) (theirs : Hello) → Option Hello → Type 0
+IsAnswer talks theirs None = HasNoneBefore talks theirs (length talks)
+IsAnswer talks theirs (Some mine) = (k : ℕ) × (k < length talks) × HasNoneBefore talks theirs k × HoldsAt (λ talk. talk ≡ record { mine = mine; theirs = theirs }) talks k
 
 -- the hello of one that doesn't know whom it calls
 abbrev pub unmet : Hello → Hello

@@ -1,12 +1,12 @@
 //! The end of a turn.
 ghost use Rattle.std.specs.Prelude.{◌≡◌, ◌↔◌, IfOk, IsTrue, MatchOption, MatchResult, take};
 ghost use Rattle.mr_kept.specs.Kept.{replica_of};
-ghost use Rattle.mr_sync.specs.inner.Ending.{HasNothingOpen, IsUnfinished, MayEnd, is_last};
+ghost use Rattle.mr_sync.specs.inner.Ending.{HasNothingOpen, IsAllTold, IsUnfinished, MayEnd, is_last};
 ghost use Rattle.mr_sync.specs.Hello.{IsDigestFront};
 
 use crate::fault::SyncFault;
 use crate::hello::short_of;
-use crate::talk::Talk;
+use crate::talk::{Arriving, Talk};
 use mr_compare::{Digest, Meeting};
 use mr_itemset::SparingKnowledge;
 use mr_journal::Device;
@@ -18,7 +18,7 @@ use std::alloc::Global;
 /// The first bytes of the digest of what is known, where this side may say that it has nothing open: its digest is noted then.
 ///
 /// In the last turns it has to say so: what is lacking then stays lacking. `Unfinished` where the other side hasn't told all
-/// that it was asked for even then.
+/// that it was asked for even then, as where a file that came for one that was wanted is another.
 pub(crate) fn end<D: Device + Drop>(
     alloc: Global,
     kept: &Journaled<SparingKnowledge, D>,
@@ -39,14 +39,14 @@ pub(crate) fn end<D: Device + Drop>(
 fn may_end(turn: Turn, talk: &Talk) -> Result<bool, SyncFault>
     ensures { MatchResult result (λ may. IsTrue may ↔ MayEnd turn talk.now) (IsUnfinished turn talk.now) }
 {
-    if is_last(turn) {
-        return if talk.arriving.is_finished {
-            Ok(true)
-        } else {
-            Err(SyncFault::Unfinished)
-        };
+    if !is_last(turn) {
+        return Ok(has_nothing_open(talk));
     }
-    Ok(has_nothing_open(talk))
+    if is_all_told(&talk.arriving) {
+        Ok(true)
+    } else {
+        Err(SyncFault::Unfinished)
+    }
 }
 
 /// Whether the turn is one that has to end so.
@@ -59,15 +59,21 @@ fn is_last(turn: Turn) -> bool
     )
 }
 
+/// Whether the other side has told all that was asked for, each file that was wanted of it among that, or that it is missing.
+fn is_all_told(arriving: &Arriving) -> bool
+    ensures { IsTrue result ↔ IsAllTold arriving.now }
+{
+    arriving.is_finished && arriving.wanted.is_empty()
+}
+
 /// Whether nothing is waited for, and nothing is to be told.
 fn has_nothing_open(talk: &Talk) -> bool
     ensures { IsTrue result ↔ HasNothingOpen talk.now }
 {
     let arriving = &talk.arriving;
     let leaving = &talk.leaving;
-    arriving.is_finished
+    is_all_told(arriving)
         && arriving.lacking.is_empty()
-        && arriving.wanted.is_empty()
         && leaving.stream.is_none()
         && leaving.said.records.is_empty()
         && leaving.said.receipts.is_empty()

@@ -7,10 +7,10 @@ ghost use Rattle.mr_folder.specs.Tree.{OnlyAt};
 ghost use Rattle.mr_wire.specs.Spelling.{u64};
 
 use crate::fault::SyncFault;
-use crate::lists::{DIGEST_BYTES, read_begin};
+use crate::lists::read_begin;
 use crate::talk::Talk;
 use mr_compare::Digest;
-use mr_folder::{FileTree, Incoming, append, begin, end};
+use mr_folder::{FileTree, Incoming, append, begin, end, take_in};
 use mr_talk::{Kind, Message};
 use std::alloc::Global;
 
@@ -104,30 +104,8 @@ pub(crate) fn end_file<F: FileTree>(
     }
 }
 
-/// Takes a whole file: a digest, and bytes, which are in the store by it then. `BadList` where the bytes are fewer than a digest has;
-/// `OtherFile` where they have another digest.
-pub(crate) fn take_whole<F: FileTree>(
-    alloc: Global,
-    files: &mut F,
-    bytes: &[u8],
-) -> Result<Digest, SyncFault>
-    ensures told { IfOk result (λ digest. (file : List ℕ) × (bytes.now ≡ digest ++ file)
-        × (IsTrue F.is_told → (sha256 file ≡ digest) × (F.seen files.new (stored_path digest) ≡ Some file))) }
-    ensures sound { IsTrue F.is_told → IsSound F.seen F.may_leave files.old → StaysSound F.seen F.may_leave F.moment F.left_since files.old files.new }
-{
-    let Some((digest, file)) = bytes.split_first_chunk::<DIGEST_BYTES>() else {
-        return Err(SyncFault::BadList);
-    };
-    let mut incoming = begin(alloc, files)?;
-    append(alloc, files, &mut incoming, file)?;
-    if end(alloc, files, incoming, digest)? {
-        Ok(*digest)
-    } else {
-        Err(SyncFault::OtherFile)
-    }
-}
-
-/// Takes a whole file, what one begins with, a piece of it, or its end: then it is in the store, and not lacking any more.
+/// Takes a whole file, what one begins with, a piece of it, or its end: then it is in the store, and not lacking any more. A whole file's
+/// digest isn't told: one that came with other bytes is the file of another digest, and what the records name is lacking as before.
 ///
 /// `NoFile` where a file begins within another, and for a piece or an end of none.
 pub(crate) fn take_file_message<F: FileTree>(
@@ -136,12 +114,13 @@ pub(crate) fn take_file_message<F: FileTree>(
     talk: &mut Talk,
     message: &Message,
 ) -> Result<(), SyncFault> {
+    talk.arriving.note_bytes(message.bytes());
     match message.kind() {
         Kind::Whole => {
             if talk.coming.is_some() {
                 return Err(SyncFault::NoFile);
             }
-            let digest = take_whole(alloc, files, message.bytes())?;
+            let digest = take_in(alloc, files, message.bytes())?;
             talk.arriving.note_file(&digest);
             Ok(())
         }

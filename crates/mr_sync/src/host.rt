@@ -1,5 +1,5 @@
 //! An open folder as a talk sees it.
-ghost use Rattle.std.specs.Prelude.{◌≡◌, not, is_some, option_map, IfErr, IfOk, IfSome, IsSome, OnErr, OnOk};
+ghost use Rattle.std.specs.Prelude.{◌≡◌, not, is_some, option_map, IfErr, IfOk, IfSome, MatchOption, IsSome, OnErr, OnOk};
 ghost use Rattle.std.specs.Option.{option_copied};
 ghost use Rattle.mr_kept.specs.Kept.{nothing_waits};
 ghost use Rattle.mr_talk.specs.Turns.{next_of};
@@ -39,7 +39,7 @@ pub struct FolderHost<D: Device + Drop, F: FileTree + Drop> {
 }
 
 impl<D: Device + Drop, F: FileTree + Drop> FolderHost<D, F> {
-    ghost use Rattle.mr_sync.specs.Host.{IsIdle, IsOpened, LacksToo, SameFolder, files_of, journaled_of};
+    ghost use Rattle.mr_sync.specs.Host.{HasToTell, IsIdle, IsOpened, LacksToo, SameFolder, files_of, journaled_of};
     ghost use Rattle.mr_sync.specs.declared.fault.SyncFault.TheVariants.{OutOfMemory};
 
     /// A folder that hasn't talked yet, and what it remembers of those that it met, by their ids.
@@ -81,19 +81,20 @@ impl<D: Device + Drop, F: FileTree + Drop> FolderHost<D, F> {
         Some(meeting_of(&theirs, &mine, &knows, time))
     }
 
-    /// The hellos by which there is nothing to tell, if the other side has said its own: what is to be noted where the talk ended with them.
-    /// `None` too where the folder lacks files, and where memory runs out. It costs what a hello costs.
-    pub fn idle_hellos(&self) -> Option<Hellos>
-        ensures { IfSome result (IsIdle self.now) }
+    /// The hellos by which there is nothing to tell: what is to be noted where the talk ended with them. `None` where the other side hasn't said
+    /// its own, where the folder lacks files, and where there is something to tell. A fault is why nothing may be told to that side, or
+    /// `OutOfMemory`. It costs what a hello costs.
+    pub fn idle_hellos(&self) -> Result<Option<Hellos>, SyncFault>
+        ensures { IfOk result (λ found. MatchOption found (HasToTell self.now) (IsIdle self.now)) }
     {
-        let theirs = self.talk.theirs?;
+        let Some(theirs) = self.talk.theirs else {
+            return Ok(None);
+        };
         if self.talk.arriving.lacks() {
-            return None;
+            return Ok(None);
         }
-        match judge(self.alloc, &self.kept, &self.meetings, false, &theirs) {
-            Ok((mine, true)) => Some(Hellos { mine, theirs }),
-            _ => None,
-        }
+        let (mine, is_idle) = judge(self.alloc, &self.kept, &self.meetings, false, &theirs)?;
+        Ok(is_idle.then_some(Hellos { mine, theirs }))
     }
 
     /// What came and went so far.

@@ -1,13 +1,13 @@
 //! Talks that ended with the hellos. What both sides said is noted: when the other side says the same again, and the folder is as it was, the
 //! answer is the same, and the folder needn't be opened for it.
-ghost use Rattle.std.specs.Prelude.{◌≡◌, ◌++◌, ℕ, All, Bool, List, IfOk, IfSome, None, OnOk, Some};
+ghost use Rattle.std.specs.Prelude.{◌≡◌, ◌≢◌, ◌++◌, ℕ, All, Bool, List, IfOk, IfSome, MatchBool, MatchOption, None, OnOk, Some};
 ghost use Rattle.std.specs.BTreeMap.{BTreeMap};
-ghost use Rattle.std.specs.List.{AllByRecursion, Contains, flat_map};
+ghost use Rattle.std.specs.List.{flat_map};
 ghost use Rattle.mr_compare.specs.declared.note.Meeting.{Meeting};
 ghost use Rattle.mr_itemset.specs.Normal.{Normal};
 ghost use Rattle.mr_replica.specs.State.{State};
 ghost use Rattle.mr_sync.specs.Hello.{IsHelloOf};
-ghost use Rattle.mr_sync.specs.Idle.{AreIdle, IsHellos, hellos_bytes, unmet};
+ghost use Rattle.mr_sync.specs.Idle.{AreIdle, AreSpelled, IsAnswer, IsHellos, hellos_bytes, unmet};
 ghost use Rattle.mr_sync.specs.declared.idle.Hellos.{Hellos};
 
 use mr_talk::{HELLO_BYTES, Hello};
@@ -61,19 +61,17 @@ fn put_both(out: &mut Vec<u8>, mine: &[u8], theirs: &[u8]) -> Result<(), AllocEr
     out.extend_from_slice(theirs)
 }
 
-/// The hellos that the bytes spell, one pair behind another: just those that were written. `None` where the bytes are no such
-/// list of at most 256, or there is no memory for it.
-pub fn read_hellos(alloc: Global, bytes: &[u8]) -> Option<Vec<Hellos>>
-    ensures spelled { IfSome result (λ talks. bytes.now ≡ flat_map hellos_bytes talks.items) }
-    ensures same { (written : List Hellos) → AllByRecursion IsHellos written → bytes.now ≡ flat_map hellos_bytes written
-        → IfSome result (λ talks. talks.items ≡ written) }
+/// The hellos that the bytes spell, one pair behind another: just those that were written, at most 256 pairs. `None` where the bytes
+/// spell no such list.
+pub fn read_hellos(alloc: Global, bytes: &[u8]) -> Result<Option<Vec<Hellos>>, AllocError>
+    ensures spelled { IfOk result (λ read. MatchOption read ((talks : List Hellos) → AreSpelled bytes.now talks → ⊥) (λ talks. AreSpelled bytes.now talks.items)) }
+    ensures same { (written : List Hellos) → AreSpelled bytes.now written → IfOk result (λ read. MatchOption read ⊥ (λ talks. talks.items ≡ written)) }
 {
     hellos_in(alloc, bytes)
 }
 
-fn hellos_in(alloc: Global, bytes: &[u8]) -> Option<Vec<Hellos>>
-    ensures spelled { IfSome result (λ talks. bytes.now ≡ flat_map hellos_bytes talks.items) }
-    ensures are { IfSome result (λ talks. AllByRecursion IsHellos talks.items) }
+fn hellos_in(alloc: Global, bytes: &[u8]) -> Result<Option<Vec<Hellos>>, AllocError>
+    ensures { IfOk result (λ read. MatchOption read ((talks : List Hellos) → AreSpelled bytes.now talks → ⊥) (λ talks. AreSpelled bytes.now talks.items)) }
 {
     let mut talks = Vec::new(alloc);
     let mut rest = bytes;
@@ -81,26 +79,34 @@ fn hellos_in(alloc: Global, bytes: &[u8]) -> Option<Vec<Hellos>>
         let Some((front, behind)) = rest.split_first_chunk::<HELLOS_BYTES>() else {
             break;
         };
-        talks.push(hellos_of(front)?).ok()?;
+        let Some(pair) = hellos_of(front) else {
+            return Ok(None);
+        };
+        talks.push(pair)?;
         rest = behind;
     }
-    rest.is_empty().then_some(talks)
+    Ok(rest.is_empty().then_some(talks))
 }
 
 /// Both hellos.
 fn hellos_of(bytes: &[u8; HELLOS_BYTES]) -> Option<Hellos>
-    ensures { IfSome result (λ hellos. IsHellos hellos × (bytes.now ≡ hellos_bytes hellos)) }
+    ensures { MatchOption result ((hellos : Hellos) → IsHellos hellos → bytes.now ≢ hellos_bytes hellos) (λ hellos. IsHellos hellos × (bytes.now ≡ hellos_bytes hellos)) }
 {
     let (mine, theirs) = bytes.split_at(HELLO_BYTES as usize);
-    let mine = Hello::read(mine).ok()?;
-    let theirs = Hello::read(theirs).ok()?;
+    let Ok(mine) = Hello::read(mine) else {
+        return None;
+    };
+    let Ok(theirs) = Hello::read(theirs) else {
+        return None;
+    };
     Some(Hellos { mine, theirs })
 }
 
-/// What this side answers the one that said this, if a talk that is noted had the same. Where these are talks of a replica as it is, it
-/// has just this hello for the other side, and nothing to tell it.
+/// What this side answers the one that said this: as in the first of these talks in which it said the same. `None` where it did in none of
+/// them. Where these are talks of a replica as it is, it has just this hello for the other side, and nothing to tell it. It costs a
+/// walk through the talks.
 pub fn idle_answer(talks: &[Hellos], theirs: &Hello) -> Option<Hello>
-    ensures noted { IfSome result (λ mine. Contains talks.now (record { mine = mine; theirs = theirs.now })) }
+    ensures answer { IsAnswer talks.now theirs.now result }
     ensures idle { (birth : List ℕ) (s : State Normal) (meetings : BTreeMap ℕ Meeting) → All (AreIdle birth s meetings) talks.now
         → IfSome result (λ mine. AreIdle birth s meetings (record { mine = mine; theirs = theirs.now })) }
 {
@@ -108,12 +114,19 @@ pub fn idle_answer(talks: &[Hellos], theirs: &Hello) -> Option<Hello>
 }
 
 fn answer_in(talks: &[Hellos], theirs: &Hello) -> Option<Hello>
-    ensures { IfSome result (λ mine. Contains talks.now (record { mine = mine; theirs = theirs.now })) }
+    ensures { IsAnswer talks.now theirs.now result }
 {
     for talk in talks {
-        if talk.theirs == *theirs {
+        if said(talk, theirs) {
             return Some(talk.mine);
         }
     }
     None
+}
+
+/// Whether the other side said this.
+fn said(talk: &Hellos, theirs: &Hello) -> bool
+    ensures { MatchBool result (talk.now.theirs ≡ theirs.now) (talk.now.theirs ≢ theirs.now) }
+{
+    talk.theirs == *theirs
 }

@@ -16,14 +16,15 @@ use std::collections::VecDeque;
 /// How many bytes more than it has a frame may take as it is packed.
 const MOST_MORE: usize = 6;
 
-/// A message of the records in front, packed, as many as it has room for; none where there are none. What is told and what is left is what
-/// there was.
+/// A message of the records in front, packed, as many as it has room for and no more than so many; none where there are none. What is told
+/// and what is left is what there was.
 ///
 /// `TooLong` where the first frame is longer than a message.
 pub(crate) fn records_message(
     alloc: Global,
     last: &mut LastFrame,
     frames: &mut VecDeque<Vec<u8>>,
+    most: usize,
 ) -> Result<Option<Message>, SyncFault>
     ensures kind { IfOk result (λ found. IfSome found (λ message. message.kind ≡ kind.Records)) }
     ensures told { IfOk result (TellsPacked frames.old.items last.old frames.new.items last.new) }
@@ -31,25 +32,26 @@ pub(crate) fn records_message(
     if frames.is_empty() {
         return Ok(None);
     }
-    let bytes = front_packed(alloc, last, frames)?;
+    let bytes = front_packed(alloc, last, frames, most)?;
     if bytes.is_empty() {
         return Err(SyncFault::TooLong);
     }
     Ok(Some(message_of(Kind::Records, bytes)))
 }
 
-/// The frames in front, packed, as many as a message has room for.
+/// The frames in front, packed, as many as a message has room for and no more than so many.
 fn front_packed(
     alloc: Global,
     last: &mut LastFrame,
     frames: &mut VecDeque<Vec<u8>>,
+    most: usize,
 ) -> Result<Vec<u8>, SyncFault>
     ensures short { IfOk result (λ bytes. length bytes.items ≤ MAX_PACKED_BYTES) }
     ensures told { IfOk result (λ bytes. PacksFront frames.old.items last.old bytes.items frames.new.items last.new) }
 {
     let mut bytes = Vec::new(alloc);
     let mut room = MAX_PACKED_BYTES as usize;
-    for _ in 0..frames.len() {
+    for _ in 0..frames.len().min(most) {
         let Some(frame) = next_fitting(frames, room) else {
             break;
         };

@@ -23,6 +23,10 @@ use mr_wire::{Body, Frame, decode};
 use std::alloc::Global;
 use std::collections::BTreeSet;
 
+/// How many bytes of records and files may come before the records are kept. Where the program is killed, as much goes once more, and the
+/// file that came last.
+const UNKEPT_BYTES: u64 = 65_536;
+
 /// The frames that the bytes spell, one after the other, all of them. `Frame` by the first that is none; `OutOfMemory`.
 pub(crate) fn frames_in(alloc: Global, bytes: &[u8]) -> Result<Vec<Frame>, SyncFault>
     ensures { IfOk result (λ frames. AreFrames frames.items bytes.now) }
@@ -133,7 +137,8 @@ fn check_record(frame: &Frame, source: Author) -> Result<(), SyncFault>
     }
 }
 
-/// Takes a message of records of the other side, and keeps that they were taken.
+/// Takes a message of records of the other side, and keeps that they were taken once much has come. What isn't kept yet is so before anything
+/// is sent, and where the line is cut whoever has the folder then may keep it.
 pub(crate) fn take_records_message<D: Device + Drop, F: FileTree>(
     alloc: Global,
     kept: &mut Journaled<SparingKnowledge, D>,
@@ -144,7 +149,21 @@ pub(crate) fn take_records_message<D: Device + Drop, F: FileTree>(
     let source = other_side(&talk.theirs)?;
     let frames = unpacked_frames(alloc, &mut talk.arriving.last, bytes)?;
     note_lacking(alloc, files, &frames, &mut talk.arriving.lacking)?;
+    talk.arriving.note_bytes(bytes);
     take_records(kept, source, frames, &mut talk.arriving)?;
+    keep_much(alloc, kept, talk)
+}
+
+/// Keeps what came, where it is much.
+fn keep_much<D: Device + Drop>(
+    alloc: Global,
+    kept: &mut Journaled<SparingKnowledge, D>,
+    talk: &mut Talk,
+) -> Result<(), SyncFault> {
+    if talk.arriving.unkept < UNKEPT_BYTES {
+        return Ok(());
+    }
+    talk.arriving.unkept = 0;
     keep_and_say(alloc, kept, &mut talk.leaving.said)
 }
 

@@ -16,13 +16,22 @@ use mr_wire::{Record, WireFault, encode_receipt, encode_record};
 use std::alloc::Global;
 use std::collections::VecDeque;
 
+/// A file that a record needs, and how many records were to be said before that one.
+#[derive(Clone, Copy, Debug)]
+pub(crate) struct DueFile {
+    pub(crate) file: NamedFile,
+    pub(crate) records_before: usize,
+}
+
 /// Frames that are to be said, of what is kept.
 #[derive(Drop)]
 pub(crate) struct Said {
     pub(crate) records: VecDeque<Vec<u8>>,
     pub(crate) receipts: VecDeque<Vec<u8>>,
-    /// The files that these records name and need.
-    pub(crate) files: VecDeque<NamedFile>,
+    /// The files that these records name and need, in the order of the records.
+    pub(crate) files: VecDeque<DueFile>,
+    /// How many records were to be said so far.
+    pub(crate) records_given: usize,
     /// How many revisions were to be said so far.
     pub(crate) told: u64,
 }
@@ -36,8 +45,26 @@ impl Said {
             records: VecDeque::new(alloc),
             receipts: VecDeque::new(alloc),
             files: VecDeque::new(alloc),
+            records_given: 0,
             told: 0,
         }
+    }
+
+    /// How many records are to be said before the next file goes: all of them, where none is to go.
+    pub(crate) fn records_before_file(&self) -> usize {
+        let said = self.records_given.saturating_sub(self.records.len());
+        match self.files.front() {
+            Some(due) => due.records_before.saturating_sub(said),
+            None => self.records.len(),
+        }
+    }
+
+    /// Takes the next file out, if the record in front needs it.
+    pub(crate) fn next_file(&mut self) -> Option<NamedFile> {
+        if self.records_before_file() > 0 {
+            return None;
+        }
+        Some(self.files.pop_front()?.file)
     }
 }
 
@@ -78,7 +105,8 @@ fn say_one(alloc: Global, reply: &Reply, said: &mut Said) -> Result<(), WireFaul
     match reply {
         Reply::Asked(_) => Ok(()),
         Reply::Gave(record) => {
-            note_file(record, &mut said.files, &mut said.told)?;
+            note_file(record, said.records_given, &mut said.files, &mut said.told)?;
+            said.records_given = said.records_given.saturating_add(1);
             push_frame(&mut said.records, encode_record(alloc, record)?)
         }
         Reply::Vouched(receipt) => push_frame(&mut said.receipts, encode_receipt(alloc, receipt)?),
@@ -99,17 +127,21 @@ fn push_frame(frames: &mut VecDeque<Vec<u8>>, frame: Vec<u8>) -> Result<(), Wire
     Ok(())
 }
 
-/// Notes the file that a record needs, and counts the revision that it tells.
+/// Notes the file that a record needs, behind so many records, and counts the revision that it tells.
 fn note_file(
     record: &Record,
-    files: &mut VecDeque<NamedFile>,
+    records_before: usize,
+    files: &mut VecDeque<DueFile>,
     told: &mut u64,
 ) -> Result<(), WireFault> {
     if revision_in(record).is_some() {
         *told = told.saturating_add(1);
     }
     if let Some(file) = file_in(record) {
-        files.push_back(file)?;
+        files.push_back(DueFile {
+            file,
+            records_before,
+        })?;
     }
     Ok(())
 }

@@ -13,7 +13,7 @@ use crate::hashing::has_digest;
 use crate::lists::begin_bytes;
 use mr_compare::Digest;
 use mr_folder::{FilePath, FileTree};
-use mr_talk::{Kind, MAX_PIECE_BYTES, MAX_WHOLE_BYTES, Message};
+use mr_talk::{Kind, MAX_PIECE_BYTES, Message};
 use std::alloc::{AllocError, Global};
 
 /// A file that goes: its bytes, of which so many are told.
@@ -57,22 +57,6 @@ pub(crate) fn whole_file<F: FileTree>(
     } else {
         Ok(None)
     }
-}
-
-/// A whole file as a message: its digest and its bytes.
-pub(crate) fn whole_message(
-    alloc: Global,
-    digest: &Digest,
-    file: &[u8],
-) -> Result<Message, AllocError>
-    requires { length file.now ≤ MAX_PIECE_BYTES }
-    ensures { IfOk result (λ message. (message.kind ≡ kind.Whole) × (message.bytes ≡ digest.now ++ file.now)) }
-{
-    let mut bytes = Vec::with_capacity(alloc, digest.len() + file.len())?;
-    bytes.extend_from_slice(digest)?;
-    bytes.extend_from_slice(file)?;
-    prove!(bytes.len() <= MAX_WHOLE_BYTES as usize);
-    Ok(message_of(Kind::Whole, bytes))
 }
 
 /// What a file begins with, as a message.

@@ -24,6 +24,8 @@ pub(crate) struct Arriving {
     pub(crate) lacking: BTreeSet<Digest>,
     /// The files that are wanted of the other side.
     pub(crate) wanted: BTreeSet<Digest>,
+    /// How many bytes came since the records that came were kept.
+    pub(crate) unkept: u64,
     /// How many revisions were taken that weren't known.
     pub(crate) taken: u64,
     /// How many files came.
@@ -42,6 +44,7 @@ impl Arriving {
             is_finished: false,
             lacking: BTreeSet::new(alloc),
             wanted: BTreeSet::new(alloc),
+            unkept: 0,
             taken: 0,
             files: 0,
             missing: 0,
@@ -53,6 +56,11 @@ impl Arriving {
         ensures { result ≡ not (btree_set_len self.now.lacking == 0) }
     {
         !self.lacking.is_empty()
+    }
+
+    /// Notes that these bytes came, of a file or of records.
+    pub(crate) fn note_bytes(&mut self, bytes: &[u8]) {
+        self.unkept = self.unkept.saturating_add(bytes.len() as u64);
     }
 
     /// Notes what came of a record, and whether that tells a revision.
@@ -79,8 +87,6 @@ impl Arriving {
 pub(crate) struct Leaving {
     /// The stream that is open for the other side.
     pub(crate) stream: Option<u64>,
-    /// How many files were sent when records were drawn last, if any were drawn.
-    pub(crate) files_before: Option<u64>,
     /// What the other side's request claims.
     pub(crate) asked: Option<AskedOf>,
     /// What is kept and to be said.
@@ -102,7 +108,6 @@ impl Leaving {
     pub(crate) fn new(alloc: Global) -> Leaving {
         Leaving {
             stream: None,
-            files_before: None,
             asked: None,
             said: Said::new(alloc),
             last: LastFrame::new(alloc),

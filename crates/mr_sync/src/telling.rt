@@ -9,7 +9,7 @@ use crate::fault::SyncFault;
 use crate::lists::{PUSH_OUT_BYTES, push_out_list};
 use crate::packed::records_message;
 use crate::said::{frames_message, keep_and_say};
-use crate::sending::{Sending, begin_message, file_message, message_of, whole_file, whole_message};
+use crate::sending::{Sending, begin_message, file_message, message_of, whole_file};
 use crate::talk::{Leaving, Talk};
 use crate::vouching::vouch_held;
 use crate::wants::wants_message;
@@ -28,10 +28,6 @@ use std::alloc::Global;
 const BATCH_RECORDS: u32 = 512;
 
 const BATCH_BYTES: u64 = 1_048_576;
-
-/// How many records are drawn at a time while files go with them. Where a talk is cut off, the files that went since the last record go
-/// once more.
-const BATCH_FILES: u32 = 8;
 
 /// The most push-outs in a message.
 const MOST_PUSH_OUTS: usize = MAX_LIST_BYTES as usize / PUSH_OUT_BYTES;
@@ -146,7 +142,8 @@ fn next_receipts<D: Device + Drop, F: FileTree>(
     frames_message(alloc, Kind::Receipts, &mut talk.leaving.said.receipts)
 }
 
-/// What the other side asked for: files, records, and behind them the push-outs.
+/// What the other side asked for: records, each file just before the one that needs it, and behind them the push-outs. So where a talk is
+/// cut off, one file at most goes once more.
 fn next_told<D: Device + Drop, F: FileTree>(
     alloc: Global,
     kept: &mut Journaled<SparingKnowledge, D>,
@@ -159,7 +156,13 @@ fn next_told<D: Device + Drop, F: FileTree>(
     if let Some(message) = next_file(alloc, files, leaving)? {
         return Ok(Some(message));
     }
-    if let Some(message) = records_message(alloc, &mut leaving.last, &mut leaving.said.records)? {
+    let most = leaving.said.records_before_file();
+    if let Some(message) = records_message(
+        alloc,
+        &mut leaving.last,
+        &mut leaving.said.records,
+        most,
+    )? {
         return Ok(Some(message));
     }
     let push_outs = kept.replica().push_outs();
@@ -178,8 +181,7 @@ fn draw<D: Device + Drop>(
     if !leaving.said.records.is_empty() {
         return Ok(());
     }
-    let is_over = kept.tell(number, batch_of(leaving), BATCH_BYTES)?;
-    leaving.files_before = Some(leaving.files);
+    let is_over = kept.tell(number, BATCH_RECORDS, BATCH_BYTES)?;
     keep_and_say(alloc, kept, &mut leaving.said)?;
     if is_over {
         leaving.stream = None;
@@ -187,15 +189,7 @@ fn draw<D: Device + Drop>(
     Ok(())
 }
 
-/// How many records are drawn next: few at first, and where files went with those that were drawn last.
-fn batch_of(leaving: &Leaving) -> u32 {
-    match leaving.files_before {
-        Some(before) if before == leaving.files => BATCH_RECORDS,
-        _ => BATCH_FILES,
-    }
-}
-
-/// The next file that records to be told need, if the store has it whole and the other side may lack it.
+/// The next file that the record in front needs, if the store has it whole and the other side may lack it.
 fn next_file<F: FileTree>(
     alloc: Global,
     files: &mut F,
@@ -204,7 +198,7 @@ fn next_file<F: FileTree>(
     ensures { IfOk result (λ found. IfSome found (λ message. IsOfKind kind.Whole kind.Begin message.kind)) }
 {
     for _ in 0..leaving.said.files.len() {
-        let Some(file) = leaving.said.files.pop_front() else {
+        let Some(file) = leaving.said.next_file() else {
             break;
         };
         if is_known(leaving.asked.as_ref(), file.item) {
@@ -241,7 +235,7 @@ fn open_file<F: FileTree>(
         return Ok(None);
     };
     if bytes.len() <= MAX_PIECE_BYTES as usize {
-        return Ok(Some(whole_message(alloc, digest, &bytes)?));
+        return Ok(Some(message_of(Kind::Whole, bytes)));
     }
     let message = begin_message(alloc, digest, bytes.len())?;
     *sending = Some(Sending { bytes, told: 0 });

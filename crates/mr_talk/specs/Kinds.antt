@@ -2,7 +2,7 @@
 use Rattle.std.specs.Prelude.{ℕ, ◌==◌, if◌then◌else◌, Option, Some, None}
 use Rattle.mr_talk.specs.declared.kind.Kind.{Kind}
 use Rattle.mr_talk.specs.declared.kind.Kind.TheVariants.{Hello, Idle, Ask, Begin, Piece, End, Missing, Records, Wants, PushOuts, Receipts, Turn, Done, Fault, Whole}
-use Rattle.mr_talk.specs.declared.kind.TheConstants.{HELLO_BYTES, MAX_FRAMES_BYTES, MAX_PACKED_BYTES, MAX_LIST_BYTES, MAX_PIECE_BYTES, MAX_WHOLE_BYTES, MAX_FAULT_BYTES}
+use Rattle.mr_talk.specs.declared.kind.TheConstants.{HELLO_BYTES, MAX_FRAMES_BYTES, MAX_PACKED_BYTES, MAX_LIST_BYTES, MAX_PIECE_BYTES, MAX_FAULT_BYTES}
 
 abbrev pub kind_byte : Kind → ℕ
 kind_byte Hello = 1
@@ -57,4 +57,4 @@ limit_of Receipts = MAX_FRAMES_BYTES
 limit_of Turn = 0
 limit_of Done = 16
 limit_of Fault = MAX_FAULT_BYTES
-limit_of Whole = MAX_WHOLE_BYTES
+limit_of Whole = MAX_PIECE_BYTES

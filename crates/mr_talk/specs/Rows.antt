@@ -2,7 +2,7 @@
 use Rattle.std.specs.Prelude.{◌≡◌, true, false, List, [], ◌∷◌, ◌++◌, map, length, count_by, replicate, Some, None, Ok, Err, refl}
 use Rattle.mr_talk.specs.declared.kind.Kind.{Kind}
 use Rattle.mr_talk.specs.declared.kind.Kind.TheVariants.{Hello, Idle, Ask, Begin, Piece, End, Missing, Records, Wants, PushOuts, Receipts, Turn as Passes, Done, Fault, Whole}
-use Rattle.mr_talk.specs.declared.kind.TheConstants.{HELLO_BYTES, MAX_FRAMES_BYTES, MAX_PACKED_BYTES, MAX_LIST_BYTES, MAX_PIECE_BYTES, MAX_WHOLE_BYTES, MAX_FAULT_BYTES}
+use Rattle.mr_talk.specs.declared.kind.TheConstants.{HELLO_BYTES, MAX_FRAMES_BYTES, MAX_PACKED_BYTES, MAX_LIST_BYTES, MAX_PIECE_BYTES, MAX_FAULT_BYTES}
 use Rattle.std.proofs.Common.{lit≤, lit<}
 use Rattle.mr_talk.specs.declared.fault.LineFault.TheVariants.{Message, Write}
 use Rattle.mr_talk.specs.declared.fault.MessageFault.TheVariants.{OutOfMemory, Truncated, BadKind, TooLong, Failed}
@@ -33,9 +33,6 @@ frames_bytes_are = refl
 
 pub packed_bytes_are : MAX_PACKED_BYTES ≡ 8388618
 packed_bytes_are = refl
-
-pub whole_bytes_are : MAX_WHOLE_BYTES ≡ 65568
-whole_bytes_are = refl
 
 pub list_bytes_are : MAX_LIST_BYTES ≡ 2097152
 list_bytes_are = refl
@@ -102,7 +99,7 @@ endings = refl
 abbrev row : hello.Hello
 row = record { id = 7; birth = replicate 16 1; knows = replicate 12 2; tip = replicate 4 9; issued = 258; known = 3; is_waiting = true; keeps_all = false }
 
-pub hello_row : hello_bytes row ≡ 3 ∷ 7 ∷ (replicate 16 1 ++ (replicate 12 2 ++ (9 ∷ 9 ∷ 9 ∷ 9 ∷ 0 ∷ 0 ∷ 1 ∷ 2 ∷ 0 ∷ 0 ∷ 0 ∷ 3 ∷ 1 ∷ 0 ∷ [])))
+pub hello_row : hello_bytes row ≡ 4 ∷ 7 ∷ (replicate 16 1 ++ (replicate 12 2 ++ (9 ∷ 9 ∷ 9 ∷ 9 ∷ 0 ∷ 0 ∷ 1 ∷ 2 ∷ 0 ∷ 0 ∷ 0 ∷ 3 ∷ 1 ∷ 0 ∷ [])))
 hello_row = refl
 
 pub hello_long : length (hello_bytes row) ≡ 44

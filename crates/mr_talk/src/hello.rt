@@ -11,7 +11,7 @@ use std::alloc::{AllocError, Global};
 use thiserror::Error;
 
 /// The format of a hello, and so of a talk.
-pub const HELLO_FORMAT: u8 = 3;
+pub const HELLO_FORMAT: u8 = 4;
 
 /// What tells two journals of one id apart: the bytes that each was begun with.
 pub type Birth = [u8; 16];

@@ -17,9 +17,6 @@ pub const MAX_LIST_BYTES: u32 = 2_097_152;
 /// The most bytes of a file in a message.
 pub const MAX_PIECE_BYTES: u32 = 65_536;
 
-/// The most bytes of a whole file in a message, behind its digest.
-pub const MAX_WHOLE_BYTES: u32 = 65_568;
-
 /// The most bytes of a fault: its number and its text.
 pub const MAX_FAULT_BYTES: u32 = 1_024;
 
@@ -54,7 +51,7 @@ pub enum Kind {
     Done,
     /// Why the talk ends here: a number and a text.
     Fault,
-    /// A whole file: its digest and its bytes.
+    /// A whole file: its bytes. Who takes it finds its digest, which the record that names the file tells.
     Whole,
 }
 
@@ -114,7 +111,7 @@ impl Kind {
         match self {
             Kind::Hello | Kind::Idle => HELLO_BYTES,
             Kind::Begin => 40,
-            Kind::Piece => MAX_PIECE_BYTES,
+            Kind::Piece | Kind::Whole => MAX_PIECE_BYTES,
             Kind::Missing => 32,
             Kind::Ask | Kind::Receipts => MAX_FRAMES_BYTES,
             Kind::Records => MAX_PACKED_BYTES,
@@ -122,7 +119,6 @@ impl Kind {
             Kind::End | Kind::Turn => 0,
             Kind::Done => 16,
             Kind::Fault => MAX_FAULT_BYTES,
-            Kind::Whole => MAX_WHOLE_BYTES,
         }
     }
 }

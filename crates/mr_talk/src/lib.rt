@@ -39,7 +39,7 @@ pub use fault::{LineFault, MessageFault};
 pub use hello::{Birth, HELLO_FORMAT, Hello, HelloFault, Knows, Short, Tip};
 pub use kind::{
     HELLO_BYTES, Kind, MAX_FAULT_BYTES, MAX_FRAMES_BYTES, MAX_LIST_BYTES, MAX_PACKED_BYTES,
-    MAX_PIECE_BYTES, MAX_WHOLE_BYTES,
+    MAX_PIECE_BYTES,
 };
 pub use laws::{
     accepted_talks_are_talks, both_sides_agree, cuts_have_no_effect,

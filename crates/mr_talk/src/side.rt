@@ -56,7 +56,7 @@ pub trait Host {
     /// the history is another one.
     fn take_ask(&mut self, bytes: &[u8]) -> Result<(), HostFault>;
 
-    /// Takes a whole file, or what one begins with, its digest and length; then its bytes, piece by piece; then its end.
+    /// Takes a whole file, which is its bytes; or what one begins with, its digest and length; then its bytes, piece by piece; then its end.
     fn take_file(&mut self, message: &Message) -> Result<(), HostFault>;
 
     /// Takes the digest of a file that was wanted and that the other side hasn't.

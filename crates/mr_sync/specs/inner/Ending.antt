@@ -5,13 +5,18 @@ use Rattle.mr_talk.specs.declared.turn.Turn.{Turn}
 use Rattle.mr_talk.specs.declared.turn.Turn.TheVariants.{CalledSettles, CalledCloses, CallerCloses}
 use Rattle.mr_sync.specs.declared.fault.SyncFault.{SyncFault}
 use Rattle.mr_sync.specs.declared.fault.SyncFault.TheVariants.{Unfinished}
+use Rattle.mr_sync.specs.declared.talk.Arriving.{Arriving}
 use Rattle.mr_sync.specs.declared.talk.Talk.{Talk}
 
--- the other side told all that was asked for, each file that is named came, and all that is to be told is told
+-- the other side told all that was asked for, and each file that was wanted of it came, or is missing there
+pub record IsAllTold (arriving : Arriving) : Type 0 where
+  pub finished : arriving.is_finished ≡ true
+  pub none_wanted : btree_set_len arriving.wanted ≡ 0
+
+-- that, and each file that is named came, and all that is to be told is told
 pub record HasNothingOpen (talk : Talk) : Type 0 where
-  pub finished : talk.arriving.is_finished ≡ true
+  pub all_told : IsAllTold talk.arriving
   pub none_lacking : btree_set_len talk.arriving.lacking ≡ 0
-  pub none_wanted : btree_set_len talk.arriving.wanted ≡ 0
   pub no_stream : talk.leaving.stream ≡ None
   pub no_records : talk.leaving.said.records.items ≡ []
   pub no_receipts : talk.leaving.said.receipts.items ≡ []
@@ -25,7 +30,7 @@ is_last CallerCloses = true
 is_last turn = false
 
 abbrev pub MayEndIf : Bool → Talk → Type 0
-MayEndIf true talk = talk.arriving.is_finished ≡ true
+MayEndIf true talk = IsAllTold talk.arriving
 MayEndIf false talk = HasNothingOpen talk
 
 abbrev pub MayEnd : Turn → Talk → Type 0
@@ -35,4 +40,4 @@ MayEnd turn talk = MayEndIf (is_last turn) talk
 pub record IsUnfinished (turn : Turn) (talk : Talk) (fault : SyncFault) : Type 0 where
   pub fault_is : fault ≡ Unfinished
   pub last : is_last turn ≡ true
-  pub unfinished : talk.arriving.is_finished ≡ false
+  pub unfinished : ¬ (IsAllTold talk.arriving)

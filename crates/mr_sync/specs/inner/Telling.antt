@@ -30,7 +30,7 @@ IsBegun digest bytes (Some s) = (bytes ≡ digest ++ u64 (length s.bytes.items))
 -- a file of this digest is told whole, and none is begun; or it is begun
 abbrev pub IsOpened : (digest : List ℕ) → Said → Option Sending → Option Sending → Type 0
 IsOpened digest message old new =
-    ((message.kind ≡ kind.Whole) × (new ≡ old) × ((file : List ℕ) × (sha256 file ≡ digest) × (message.bytes ≡ digest ++ file))) ⊎ ((message.kind ≡ kind.Begin) × IsBegun digest message.bytes new)
+    ((message.kind ≡ kind.Whole) × (new ≡ old) × (sha256 message.bytes ≡ digest)) ⊎ ((message.kind ≡ kind.Begin) × IsBegun digest message.bytes new)
 
 -- a kind of what is sent for a file that is wanted: the file, or that it is missing
 abbrev pub IsWantedFile : Kind → Type 0

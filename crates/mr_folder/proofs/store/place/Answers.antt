@@ -1,7 +1,8 @@
 use Rattle.std.proofs.Common.{◌<◌, ℕ, sym, ap, ◌∙◌, subst, arith}
-use Rattle.std.specs.Prelude.{slice_index}
+use Rattle.std.specs.Prelude.{slice_index, is_some}
 use Rattle.mr_folder.specs.Tree.{HasSame}
 use Rattle.mr_folder.proofs.Moments.{sound_still}
+use Rattle.mr_folder.proofs.TreeLemmas.{HasMail-there}
 use Rattle.mr_folder.proofs.store.place.Goals as goal
 
 pub returns-in_err-draft-clause-sound : goal.returns-in_err-draft-clause-sound
@@ -22,8 +23,16 @@ pub returns-clause-placed : goal.returns-clause-placed
 returns-clause-placed g c = λ told.
     ap (g.F.FileTree.seen c.move_synced.new.files) (sym c.in_ok-stored.ensures) ∙ (c.in_ok-move_synced.ensures.moved told ∙ ap (g.F.FileTree.seen c.args.files.now) c.in_ok-draft.ensures)
 
-pub returns-clause-durable : goal.returns-clause-durable
-returns-clause-durable g c = λ told. subst (λ p. HasSame p (g.F.FileTree.seen c.move_synced.new.files) (g.F.FileTree.may_leave c.move_synced.new.files)) c.in_ok-stored.ensures (c.in_ok-move_synced.ensures.durable told)
+pub returns-clause-kept : goal.returns-clause-kept
+returns-clause-kept g c = λ told bytes here is sound.
+    let fits : (i : ℕ) → slice_index c.args.digest.now i < 256 = λ i. (let f = c.fits-digest i in omega arith) in
+    let after = c.move_synced.ensures.sound told c.args.digest.now bytes c.in_ok-draft.ensures c.in_ok-stored.ensures fits here is sound in
+    let moved = ap (g.F.FileTree.seen c.move_synced.new.files) (sym c.in_ok-stored.ensures) ∙ (c.in_ok-move_synced.ensures.moved told ∙ (ap (g.F.FileTree.seen c.args.files.now) c.in_ok-draft.ensures ∙ here)) in
+    let durable = subst (λ p. HasSame p (g.F.FileTree.seen c.move_synced.new.files) (g.F.FileTree.may_leave c.move_synced.new.files)) c.in_ok-stored.ensures (c.in_ok-move_synced.ensures.durable told) in
+    record {
+      now = record { bytes = bytes; stored = moved; digest_is = is };
+      crash = λ t left. HasMail-there c.args.digest.now t fits (durable t left ∙ ap is_some moved) (after.sound.crash t left);
+    }
 
 pub returns-clause-only : goal.returns-clause-only
 returns-clause-only g c = λ told path a b. (c.move_synced.ensures.only told).only path (λ e. b (e ∙ c.in_ok-draft.ensures)) (λ e. a (e ∙ c.in_ok-stored.ensures))

@@ -1,14 +1,25 @@
-use Rattle.std.proofs.Common.{◌≡◌, List, [], ◌∷◌, ◌++◌, subst, sym, rules}
+use Rattle.std.proofs.Common.{◌≡◌, ◌<◌, ◌⊎◌, inl, inr, ◌+◌, List, [], ◌∷◌, ◌++◌, length, subst, sym, rules, arith}
 use Rattle.std.specs.List.{AllByRecursion, flat_map}
+use Rattle.std.proofs.lemmas.List.{length-append}
 use Rattle.mr_sync.specs.Idle.{IsHellos, hellos_bytes}
 use Rattle.mr_sync.specs.declared.idle.Hellos.{Hellos}
-use Rattle.mr_sync.proofs.IdleLaws.{all_more, grow}
+use Rattle.mr_sync.proofs.IdleLaws.{all_more, grow, no_pair, read_all}
+use Rattle.mr_sync.proofs.idle.hellos_in.Goals.{else-loop-test, then-loop-test+in_default}
 use Rattle.mr_sync.proofs.idle.hellos_in.Goals as goal
+
+pub returns-in_default-hellos_of : goal.returns-in_default-hellos_of
+returns-in_default-hellos_of c = no_pair c.args.bytes.now c.loop.rest.now c.in-Some.front.now c.loop.talks.items c.loop.invariant.0 c.loop.invariant.1 (search rules) c.in-Some.ensures.cases.0 c.in_default-hellos_of.ensures
 
 pub loop-preserved : goal.loop-preserved
 loop-preserved c =
-    let x = c.in_ok-hellos_of.field-0 in
-    let items : c.push.new.self.items ≡ c.loop.talks.items ++ x ∷ [] = search rules in
-    let spelled = grow c.loop.talks.items x c.args.bytes.now c.loop.rest.now c.in-Some.front.now c.in-Some.behind.now c.loop.invariant.0 c.in-Some.ensures.cases.0 c.in-Some.ensures.cases.1 c.in_ok-hellos_of.ensures.1 in
-    let are = all_more c.loop.talks.items x c.loop.invariant.1 c.in_ok-hellos_of.ensures.0 in
-    subst (λ (talks : List Hellos). (c.args.bytes.now ≡ flat_map hellos_bytes talks ++ c.in-Some.behind.now) × AllByRecursion IsHellos talks) (sym items) (spelled, are)
+    let x = c.in-Some-hellos_of.pair in
+    let items : c.push.new.self.items ≡ c.loop.talks.items ++ x ∷ [] = c.in_ok-push.ensures.items in
+    let spelled = grow c.loop.talks.items x c.args.bytes.now c.loop.rest.now c.in-Some.front.now c.in-Some.behind.now c.loop.invariant.0 c.in-Some.ensures.cases.0 c.in-Some.ensures.cases.1 c.in-Some-hellos_of.ensures.1 in
+    let are = all_more c.loop.talks.items x c.loop.invariant.1 c.in-Some-hellos_of.ensures.0 in
+    let long : length (c.loop.talks.items ++ x ∷ []) ≡ c.loop.counter + 1 = omega (arith, length-append c.loop.talks.items (x ∷ []), c.loop.invariant.2) in
+    subst (λ (talks : List Hellos). (c.args.bytes.now ≡ flat_map hellos_bytes talks ++ c.in-Some.behind.now) × AllByRecursion IsHellos talks × (length talks ≡ c.loop.counter + 1)) (sym items) (spelled, are, long)
+
+pub returns : goal.returns
+returns c =
+    let ends : (length c.loop.talks.items ≡ 256) ⊎ (length c.loop.rest.now < 88) = elim c.loop-test.branch [ else-loop-test w ↦ inl (omega (arith, c.loop.invariant.2, c.loop.auto.counter-end, w.loop-test.false)) | then-loop-test+in_default w ↦ inr w.in_default.ensures.cases ] in
+    read_all c.args.bytes.now c.loop.rest.now c.loop.talks c.is_empty.result c.then_some.result c.loop.invariant.0 c.loop.invariant.1 (omega (arith, c.loop.invariant.2, c.loop.auto.counter-end)) ends c.is_empty.ensures c.then_some.ensures
