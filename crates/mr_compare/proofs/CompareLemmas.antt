@@ -1,6 +1,6 @@
 -- what is done for mails, mail by mail
-use Rattle.std.proofs.Common.{◌≡◌, ℕ, ◌+◌, ◌<◌, ◌≤◌, Bool, true, false, cond, List, [], ◌∷◌, ◌++◌, take, length, get_or, Option, Some, None, All, refl, ap, sym, ◌∙◌, arith}
-use Rattle.std.proofs.lemmas.List.{append-nil, take_all}
+use Rattle.std.proofs.Common.{◌≡◌, ℕ, ◌+◌, ◌<◌, Bool, true, false, cond, List, [], ◌∷◌, ◌++◌, map, take, length, get_or, Option, Some, None, All, refl, ap, sym, ◌∙◌, arith}
+use Rattle.std.proofs.lemmas.List.{append-nil, append_assoc, map-append}
 use Rattle.std.proofs.lemmas.List.Concat.{flat_map-append, flat_map-cons}
 use Rattle.std.proofs.lemmas.List.Sums.{sum_by-append, sum_by-cons}
 use Rattle.std.proofs.lemmas.List.Elements.{recursion_from_All}
@@ -15,10 +15,16 @@ use Rattle.mr_compare.specs.Compare.{act_for, told_for, merge_or, merged_act, if
 use Rattle.mr_compare.specs.Tally.{deletes, count_of}
 
 -- with one mail more
-pub due-more : (mails : List Standing) (i : ℕ) (x : Standing) (acts new : List MailAct) → i < length mails → x ≡ get_or mails i x → acts ≡ due_acts (take i mails) → new ≡ acts ++ due x → new ≡ due_acts (take (i + 1) mails)
-due-more mails i x acts new h e known put =
-    put ∙ ap (λ before. before ++ due x) known
-    ∙ sym (ap due_acts (take_one mails i x h e) ∙ flat_map-append due (take i mails) (x ∷ []) ∙ ap (λ more. due_acts (take i mails) ++ more) (flat_map-cons due x [] ∙ append-nil (due x)))
+pub due-more : {X : Type 0} (f : X → Standing) (xs : List X) (i : ℕ) (x : X) (old acts new : List MailAct) → i < length xs → x ≡ get_or xs i x → acts ≡ old ++ due_acts (map f (take i xs)) → new ≡ acts ++ due (f x)
+    → new ≡ old ++ due_acts (map f (take (i + 1) xs))
+due-more f xs i x old acts new h e known put =
+    let front = map f (take i xs) in
+    let one_more = ap due_acts (ap (map f) (take_one xs i x h e) ∙ map-append f (take i xs) (x ∷ [])) ∙ flat_map-append due front (f x ∷ []) ∙ ap (λ more. due_acts front ++ more) (flat_map-cons due (f x) [] ∙ append-nil (due (f x))) in
+    put ∙ ap (λ before. before ++ due (f x)) known ∙ append_assoc old (due_acts front) (due (f x)) ∙ sym (ap (λ acts. old ++ acts) one_more)
+
+-- first for some mails, and then for others
+pub due-both : (xs ys : List Standing) (none one two : List MailAct) → none ≡ [] → one ≡ none ++ due_acts xs → two ≡ one ++ due_acts ys → two ≡ due_acts (xs ++ ys)
+due-both xs ys none one two empty first second = second ∙ ap (λ acts. acts ++ due_acts ys) (first ∙ ap (λ acts. acts ++ due_acts xs) empty) ∙ sym (flat_map-append due xs ys)
 
 one : (digest : List ℕ) (act : Act) → count_of deletes (if_any digest act) ≡ cond (deletes act) 1 0
 one digest Agree = refl
@@ -52,9 +58,9 @@ counted (x ∷ mails) =
     let cons = sum_by-cons (λ (mail : Standing). cond (deletes (act_for mail)) 1 0) x mails in
     omega (arith, both, cons)
 
--- what was counted at the end of a loop over all mails
-pub count_is : (mails : List Standing) (i : ℕ) (acts shown : List MailAct) (count : ℕ) → length mails ≤ i → acts ≡ due_acts (take i mails) → shown ≡ acts → count ≡ count_of deletes shown → count ≡ deletions mails
-count_is mails i acts shown count end known same is = is ∙ ap (count_of deletes) (same ∙ known ∙ ap due_acts (take_all i mails end)) ∙ counted mails
+-- what was counted of all that is done
+pub count_is : (mails : List Standing) (acts shown : List MailAct) (count : ℕ) → acts ≡ due_acts mails → shown ≡ acts → count ≡ count_of deletes shown → count ≡ deletions mails
+count_is mails acts shown count known same is = is ∙ ap (count_of deletes) (same ∙ known) ∙ counted mails
 
 -- ---- where no merge is due
 

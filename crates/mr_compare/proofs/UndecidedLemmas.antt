@@ -1,5 +1,7 @@
 -- a change that was seen is told, or waits, unless its mail is undecided
-use Rattle.std.proofs.Common.{◌≡◌, ◌⊎◌, inl, inr, Bool, true, false, cond, List, [], ◌∷◌, Option, Some, None, All, refl, sym, ap, find, ◌∙◌}
+use Rattle.std.proofs.Common.{◌≡◌, ◌⊎◌, inl, inr, ℕ, suc, ◌+◌, ◌<◌, ◌≤◌, Bool, true, false, cond, List, [], ◌∷◌, ◌++◌, map, drop, length, get_or, add-one, Option, Some, None, All, refl, sym, ap, find, ◌∙◌}
+use Rattle.std.proofs.Math.Seq.{drop-cons}
+use Rattle.std.proofs.lemmas.List.{drop_all}
 use Rattle.std.proofs.lemmas.List.Elements.{All-from_recursion}
 use Rattle.std.specs.List.{AllByRecursion}
 use Rattle.std.specs.Prelude.{if◌then◌else◌, not, ◌&&◌, ◌||◌, option_map}
@@ -60,3 +62,48 @@ each_heeded (mail ∷ mails) h = go (λ none. each_heeded mails none) (is_undeci
 -- where none was found each is heeded
 pub all_heeded : (mails : List Standing) → first_undecided mails ≡ None → All IsHeeded mails
 all_heeded mails none = All-from_recursion IsHeeded mails (each_heeded mails none)
+
+-- ---- the first one in a walk over what stands for mails
+
+-- the rest begins with this one
+rest_at : {X : Type 0} (xs : List X) (i : ℕ) (x : X) → i < length xs → x ≡ get_or xs i x → drop i xs ≡ x ∷ drop (i + 1) xs
+rest_at xs i x h e = drop-cons xs i x h ∙ ap (λ y. y ∷ drop (suc i) xs) (sym e) ∙ ap (λ n. x ∷ drop n xs) (sym (add-one i))
+
+first_at : {X : Type 0} (f : X → Standing) (xs : List X) (i : ℕ) (x : X) (found : Bool) → i < length xs → x ≡ get_or xs i x → is_undecided (f x) ≡ found
+    → first_undecided (map f (drop i xs)) ≡ option_map (λ (mail : Standing). mail.digest) (cond found (Some (f x)) (find is_undecided (map f (drop (i + 1) xs))))
+first_at f xs i x found h e is =
+    ap (λ rest. first_undecided (map f rest)) (rest_at xs i x h e) ∙ ap (λ (b : Bool). option_map (λ (mail : Standing). mail.digest) (cond b (Some (f x)) (find is_undecided (map f (drop (i + 1) xs))))) is
+
+-- it isn't this one
+pub passed : {X : Type 0} (f : X → Standing) (xs : List X) (i : ℕ) (x : X) (found : Bool) → i < length xs → x ≡ get_or xs i x → found ≡ is_undecided (f x) → found ≡ false
+    → first_undecided (map f xs) ≡ first_undecided (map f (drop i xs)) → first_undecided (map f xs) ≡ first_undecided (map f (drop (i + 1) xs))
+passed f xs i x found h e is other known = known ∙ first_at f xs i x false h e (sym is ∙ other)
+
+-- it is this one
+pub found_here : {X : Type 0} (f : X → Standing) (xs : List X) (i : ℕ) (x : X) (found : Bool) → i < length xs → x ≡ get_or xs i x → found ≡ is_undecided (f x) → found ≡ true
+    → first_undecided (map f xs) ≡ first_undecided (map f (drop i xs)) → Some (f x).digest ≡ first_undecided (map f xs)
+found_here f xs i x found h e is here known = sym (known ∙ first_at f xs i x true h e (sym is ∙ here))
+
+-- there is none
+pub none_found : {X : Type 0} (f : X → Standing) (xs : List X) (i : ℕ) → length xs ≤ i → first_undecided (map f xs) ≡ first_undecided (map f (drop i xs)) → None ≡ first_undecided (map f xs)
+none_found f xs i end known = sym (known ∙ ap (λ rest. first_undecided (map f rest)) (drop_all i xs end))
+
+-- the first one of some mails is that of them and others
+pub first_of_both : (xs ys : List Standing) (digest : List ℕ) → Some digest ≡ first_undecided xs → Some digest ≡ first_undecided (xs ++ ys)
+first_of_both [] ys digest h = cc
+first_of_both (x ∷ xs) ys digest h = go (λ is. first_of_both xs ys digest is) (is_undecided x) h
+  where
+    go : (Some digest ≡ first_undecided xs → Some digest ≡ first_undecided (xs ++ ys)) → (found : Bool) → Some digest ≡ option_map (λ (m : Standing). m.digest) (cond found (Some x) (find is_undecided xs))
+        → Some digest ≡ option_map (λ (m : Standing). m.digest) (cond found (Some x) (find is_undecided (xs ++ ys)))
+    go more true is = is
+    go more false is = more is
+
+-- where none of some mails is one, the first one is that of the others
+pub first_of_others : (xs ys : List Standing) → None ≡ first_undecided xs → first_undecided (xs ++ ys) ≡ first_undecided ys
+first_of_others [] ys h = refl
+first_of_others (x ∷ xs) ys h = go (λ is. first_of_others xs ys is) (is_undecided x) h
+  where
+    go : (None ≡ first_undecided xs → first_undecided (xs ++ ys) ≡ first_undecided ys) → (found : Bool) → None ≡ option_map (λ (m : Standing). m.digest) (cond found (Some x) (find is_undecided xs))
+        → option_map (λ (m : Standing). m.digest) (cond found (Some x) (find is_undecided (xs ++ ys))) ≡ first_undecided ys
+    go more true is = let wrong : None ≡ Some x.digest = is in cc
+    go more false is = more is

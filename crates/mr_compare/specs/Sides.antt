@@ -1,5 +1,6 @@
 -- the three sides of mails, brought together
-use Rattle.std.specs.Prelude.{ℕ, Bool, true, false, not, ◌&&◌, List, Option, Some, None}
+use Rattle.std.specs.Prelude.{ℕ, Bool, true, false, not, ◌&&◌, ◌++◌, List, map, Option, Some, None}
+use Rattle.std.specs.BTreeMap.{BTreeMap}
 use Rattle.std.specs.List.{list_any}
 use Rattle.std.specs.Map.{lookup}
 use Rattle.std.specs.Ordering.{is_eq}
@@ -21,9 +22,14 @@ are_same None (Some before) = false
 are_same (Some view) None = false
 are_same (Some view) (Some before) = view_eq view before
 
--- two quiet listings say the same of it
+-- the listing before says the same of a mail that is seen so, if there was one
+abbrev pub was_same : Option (BTreeMap (List ℕ) ViewParts) → List ℕ → Option ViewParts → Bool
+was_same None digest seen = true
+was_same (Some before) digest seen = are_same seen (at_digest before.entries digest)
+
+-- each listing says the same of it, and they were quiet
 abbrev pub is_certain : Sides → List ℕ → Bool
-is_certain sides digest = sides.are_quiet && are_same (at_digest sides.seen.entries digest) (at_digest sides.seen_before.entries digest)
+is_certain sides digest = sides.are_quiet && was_same sides.seen_before digest (at_digest sides.seen.entries digest)
 
 abbrev pub lacks_file : Sides → List ℕ → Bool
 lacks_file sides digest = list_any (λ own. is_eq (text_cmp digest own)) sides.lacking.keys
@@ -69,3 +75,7 @@ standing_of_unheld sides digest = record {
   is_certain = is_certain sides digest;
   is_own = has_come (at_digest sides.left.entries digest);
 }
+
+-- how all mails stand: those that are held, and then these others
+abbrev pub standings_by : Sides → List HeldMail → List (List ℕ) → List Standing
+standings_by sides mails others = map (standing_of_held sides) mails ++ map (standing_of_unheld sides) others

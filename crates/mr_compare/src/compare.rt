@@ -1,5 +1,5 @@
 //! What is done for each mail of a folder.
-ghost use Rattle.std.specs.Prelude.{◌≡◌, ◌≢◌, ◌↔◌, ◌/◌, ◌++◌, ◌≤◌, All, false, None, IfOk, IfErr, OnOk, IsSome, IsTrue, max};
+ghost use Rattle.std.specs.Prelude.{◌≡◌, ◌≢◌, ◌↔◌, ◌/◌, ◌++◌, ◌≤◌, All, false, None, map, IfOk, IfErr, OnOk, IsSome, IsTrue, max};
 ghost use Rattle.mr_maildir.specs.Act.{standing};
 ghost use Rattle.mr_maildir.specs.View.{ViewParts};
 ghost use Rattle.std.specs.List.{list_all};
@@ -7,11 +7,14 @@ ghost use Rattle.std.specs.Option.{option_copied};
 ghost use Rattle.mr_mail.specs.Label.{has_label};
 ghost use Rattle.mr_compare.specs.declared.compare.CompareFault.TheVariants.{OutOfMemory};
 ghost use Rattle.mr_compare.specs.Compare as specs;
+ghost use Rattle.mr_compare.specs.Sides as specs_of;
+ghost use Rattle.mr_compare.specs.Sides.{standings_by};
 ghost use Rattle.mr_compare.specs.Tally.{count_of};
 ghost use Rattle.mr_compare.specs.Tally as kinds;
 ghost use Rattle.mr_compare.specs.Compare.{act_for, told_for, keeps_folders, due, due_acts, believed_acts, deletions, IsDeletion, IsCompareFault};
 
 use crate::held::Digest;
+use crate::sides::{HeldMail, Sides, standing_of_held, standing_of_unheld};
 use crate::tally::deletes;
 use mr_mail::Label;
 use mr_maildir::{Act, View, next_act};
@@ -200,27 +203,78 @@ fn merge_or(alloc: Global, mail: &Standing, act: Act) -> Result<Act, AllocError>
     }
 }
 
-/// What is done for these mails, in their order; for those that stand as they are held and want no merge, nothing is.
+/// What is done for the mails that are held and for these others, by the sides, in their order; for those that stand as they are held and want
+/// no merge, nothing is.
 ///
 /// Where nothing is told of a mail and a merge of its heads is due, it is edited to the view that is held: then files follow, too.
 ///
-/// `TooManyDeletions` where more of them than `most` would be deleted, and else `OutOfMemory`.
-pub fn acts_of(alloc: Global, mails: &[Standing], most: usize) -> Result<Vec<MailAct>, CompareFault>
-    ensures value { IfOk result (λ acts. acts.items ≡ due_acts mails.now) }
+/// `TooManyDeletions` where more of them than `most` would be deleted, and else `OutOfMemory`. It costs some look-ups and copies of views for each mail,
+/// and memory for one mail beside that of the acts.
+pub fn acts_of(
+    alloc: Global,
+    mails: &[HeldMail],
+    others: &[Digest],
+    sides: &Sides,
+    most: usize,
+) -> Result<Vec<MailAct>, CompareFault>
+    ensures value { IfOk result (λ acts. acts.items ≡ due_acts (standings_by sides.now mails.now others.now)) }
     // Where no merge is due nothing is merged: all that is done is what is believed.
-    ensures unmerged { All (λ mail. mail.is_merge_due ≡ false) mails.now → IfOk result (λ acts. acts.items ≡ believed_acts mails.now) }
-    ensures few { OnOk result (deletions mails.now ≤ most) }
-    ensures fault { IfErr result (IsCompareFault mails.now most) }
+    ensures unmerged { All (λ mail. mail.is_merge_due ≡ false) (standings_by sides.now mails.now others.now)
+        → IfOk result (λ acts. acts.items ≡ believed_acts (standings_by sides.now mails.now others.now)) }
+    ensures few { OnOk result (deletions (standings_by sides.now mails.now others.now) ≤ most) }
+    ensures fault { IfErr result (IsCompareFault (standings_by sides.now mails.now others.now) most) }
 {
-    let mut acts = Vec::new(alloc);
-    for mail in mails {
-        push_due(alloc, &mut acts, mail)?;
-    }
+    let acts = all_acts(alloc, mails, others, sides)?;
     let count = count_of_deletions(&acts);
     if count > most {
         return Err(CompareFault::TooManyDeletions { count, most });
     }
     Ok(acts)
+}
+
+/// What is done for the mails that are held and for these others, however many are deleted.
+fn all_acts(
+    alloc: Global,
+    mails: &[HeldMail],
+    others: &[Digest],
+    sides: &Sides,
+) -> Result<Vec<MailAct>, AllocError>
+    ensures { IfOk result (λ acts. acts.items ≡ due_acts (standings_by sides.now mails.now others.now)) }
+{
+    let mut acts = Vec::new(alloc);
+    push_held(alloc, &mut acts, mails, sides)?;
+    push_unheld(alloc, &mut acts, others, sides)?;
+    Ok(acts)
+}
+
+/// Puts what is done for mails that are held behind the others.
+fn push_held(
+    alloc: Global,
+    acts: &mut Vec<MailAct>,
+    mails: &[HeldMail],
+    sides: &Sides,
+) -> Result<(), AllocError>
+    ensures { OnOk result (acts.new.items ≡ acts.old.items ++ due_acts (map (specs_of.standing_of_held sides.now) mails.now)) }
+{
+    for mail in mails {
+        push_due(alloc, acts, &standing_of_held(alloc, mail, sides)?)?;
+    }
+    Ok(())
+}
+
+/// Puts what is done for mails that aren't held behind the others.
+fn push_unheld(
+    alloc: Global,
+    acts: &mut Vec<MailAct>,
+    digests: &[Digest],
+    sides: &Sides,
+) -> Result<(), AllocError>
+    ensures { OnOk result (acts.new.items ≡ acts.old.items ++ due_acts (map (specs_of.standing_of_unheld sides.now) digests.now)) }
+{
+    for digest in digests {
+        push_due(alloc, acts, &standing_of_unheld(alloc, digest, sides)?)?;
+    }
+    Ok(())
 }
 
 /// Puts what is done for the mail behind the others, if anything is.

@@ -1,7 +1,7 @@
 //! The three sides of each mail, brought together.
-ghost use Rattle.std.specs.Prelude.{◌≡◌, IfOk, map};
+ghost use Rattle.std.specs.Prelude.{◌≡◌, IfOk};
 ghost use Rattle.std.specs.Option.{option_copied};
-ghost use Rattle.mr_compare.specs.Sides.{are_same, left_of_held, left_of_unheld, standing_of_held, standing_of_unheld};
+ghost use Rattle.mr_compare.specs.Sides.{at_digest, left_of_held, left_of_unheld};
 ghost use Rattle.mr_compare.specs.Sides as specs;
 
 use crate::compare::Standing;
@@ -39,47 +39,21 @@ pub struct Sides {
     pub left: BTreeMap<Digest, LeftMail>,
     /// Where mails are seen.
     pub seen: BTreeMap<Digest, View>,
-    /// Where they were seen at the listing before.
-    pub seen_before: BTreeMap<Digest, View>,
+    /// Where they were seen at the listing before, if there was one.
+    pub seen_before: Option<BTreeMap<Digest, View>>,
     /// Whether no folder changed during either of the two listings.
     pub are_quiet: bool,
     /// The mails whose files aren't here.
     pub lacking: BTreeSet<Digest>,
 }
 
-/// How mails stand that are held, in their order.
-pub fn standings_of_held(
-    alloc: Global,
-    mails: &[HeldMail],
-    sides: &Sides,
-) -> Result<Vec<Standing>, AllocError>
-    ensures { IfOk result (λ standings. standings.items ≡ map (standing_of_held sides.now) mails.now) }
-{
-    let mut standings = Vec::with_capacity(alloc, mails.len())?;
-    for mail in mails {
-        standings.push(held_standing(alloc, mail, sides)?)?;
-    }
-    Ok(standings)
-}
-
-/// How mails stand that aren't held, in their order.
-pub fn standings_of_unheld(
-    alloc: Global,
-    digests: &[Digest],
-    sides: &Sides,
-) -> Result<Vec<Standing>, AllocError>
-    ensures { IfOk result (λ standings. standings.items ≡ map (standing_of_unheld sides.now) digests.now) }
-{
-    let mut standings = Vec::with_capacity(alloc, digests.len())?;
-    for digest in digests {
-        standings.push(unheld_standing(alloc, digest, sides)?)?;
-    }
-    Ok(standings)
-}
-
 /// How a mail stands that is held.
-fn held_standing(alloc: Global, mail: &HeldMail, sides: &Sides) -> Result<Standing, AllocError>
-    ensures { IfOk result (λ standing. standing ≡ standing_of_held sides.now mail.now) }
+pub fn standing_of_held(
+    alloc: Global,
+    mail: &HeldMail,
+    sides: &Sides,
+) -> Result<Standing, AllocError>
+    ensures { IfOk result (λ standing. standing ≡ specs.standing_of_held sides.now mail.now) }
 {
     let digest = mail.digest;
     let seen = sides.seen.get(&digest);
@@ -91,14 +65,18 @@ fn held_standing(alloc: Global, mail: &HeldMail, sides: &Sides) -> Result<Standi
         held: Some(mail.view.copy(alloc)?),
         is_merge_due: mail.is_merge_due,
         has_file: !sides.lacking.contains(&digest),
-        is_certain: sides.are_quiet && are_same(seen, sides.seen_before.get(&digest)),
+        is_certain: is_certain(sides, &digest, seen),
         is_own: false,
     })
 }
 
 /// How a mail stands that isn't held.
-fn unheld_standing(alloc: Global, digest: &Digest, sides: &Sides) -> Result<Standing, AllocError>
-    ensures { IfOk result (λ standing. standing ≡ standing_of_unheld sides.now digest.now) }
+pub fn standing_of_unheld(
+    alloc: Global,
+    digest: &Digest,
+    sides: &Sides,
+) -> Result<Standing, AllocError>
+    ensures { IfOk result (λ standing. standing ≡ specs.standing_of_unheld sides.now digest.now) }
 {
     let digest = *digest;
     let seen = sides.seen.get(&digest);
@@ -111,9 +89,27 @@ fn unheld_standing(alloc: Global, digest: &Digest, sides: &Sides) -> Result<Stan
         held: None,
         is_merge_due: false,
         has_file: !sides.lacking.contains(&digest),
-        is_certain: sides.are_quiet && are_same(seen, sides.seen_before.get(&digest)),
+        is_certain: is_certain(sides, &digest, seen),
         is_own: has_come(left),
     })
+}
+
+/// Whether all listings, during which no folder changed, say the same of a mail that is seen so.
+fn is_certain(sides: &Sides, digest: &Digest, seen: Option<&View>) -> bool
+    requires { option_copied seen ≡ at_digest sides.now.seen.entries digest.now }
+    ensures { result ≡ specs.is_certain sides.now digest.now }
+{
+    sides.are_quiet && was_same(sides.seen_before.as_ref(), digest, seen)
+}
+
+/// Whether the listing before, if there was one, says the same of a mail that is seen so.
+fn was_same(before: Option<&BTreeMap<Digest, View>>, digest: &Digest, seen: Option<&View>) -> bool
+    ensures { result ≡ specs.was_same (option_copied before.entry) digest.now (option_copied seen.entry) }
+{
+    match before {
+        Some(before) => are_same(seen, before.get(digest)),
+        None => true,
+    }
 }
 
 /// How a mail was left that is held so: so, unless it changed since.

@@ -1,11 +1,13 @@
 //! Changes of the Maildir that aren't told yet, and that a note of what is shown would take back.
-ghost use Rattle.std.specs.Prelude.{◌≡◌, All, IfOk, None};
+ghost use Rattle.std.specs.Prelude.{◌≡◌, All, IfOk, None, map};
+ghost use Rattle.mr_compare.specs.Sides as specs_of;
+ghost use Rattle.mr_compare.specs.Sides.{standings_by};
 ghost use Rattle.mr_compare.specs.Undecided as specs;
 ghost use Rattle.mr_compare.specs.Undecided.{IsHeeded};
 
 use crate::compare::{Standing, keeps_folders};
 use crate::held::Digest;
-use crate::sides::are_same;
+use crate::sides::{HeldMail, Sides, are_same, standing_of_held, standing_of_unheld};
 use mr_maildir::{Act, next_act};
 use std::alloc::{AllocError, Global};
 
@@ -18,22 +20,62 @@ use std::alloc::{AllocError, Global};
 /// listing finds it. A mail that is seen no more and was changed elsewhere follows that; it is such a one only where it is held as it was left
 /// and its heads are to be merged.
 ///
-/// It costs some comparisons of views for each mail, and memory only where a view is to be copied or merged.
-pub fn first_undecided(alloc: Global, mails: &[Standing]) -> Result<Option<Digest>, AllocError>
-    ensures value { IfOk result (λ first. first ≡ specs.first_undecided mails.now) }
+/// It costs some look-ups, copies and comparisons of views for each mail, and memory for one mail.
+pub fn first_undecided(
+    alloc: Global,
+    mails: &[HeldMail],
+    others: &[Digest],
+    sides: &Sides,
+) -> Result<Option<Digest>, AllocError>
+    ensures value { IfOk result (λ first. first ≡ specs.first_undecided (standings_by sides.now mails.now others.now)) }
     // Where there is none, nothing that was changed in the Maildir is lost.
-    ensures heeded { IfOk result (λ first. first ≡ None → All IsHeeded mails.now) }
+    ensures heeded { IfOk result (λ first. first ≡ None → All IsHeeded (standings_by sides.now mails.now others.now)) }
 {
-    first_of(alloc, mails)
+    first_of(alloc, mails, others, sides)
 }
 
 /// The first mail whose change isn't told though there is news of it.
-fn first_of(alloc: Global, mails: &[Standing]) -> Result<Option<Digest>, AllocError>
-    ensures { IfOk result (λ first. first ≡ specs.first_undecided mails.now) }
+fn first_of(
+    alloc: Global,
+    mails: &[HeldMail],
+    others: &[Digest],
+    sides: &Sides,
+) -> Result<Option<Digest>, AllocError>
+    ensures { IfOk result (λ first. first ≡ specs.first_undecided (standings_by sides.now mails.now others.now)) }
+{
+    match first_of_held(alloc, mails, sides)? {
+        Some(digest) => Ok(Some(digest)),
+        None => first_of_unheld(alloc, others, sides),
+    }
+}
+
+/// The first one of mails that are held.
+fn first_of_held(
+    alloc: Global,
+    mails: &[HeldMail],
+    sides: &Sides,
+) -> Result<Option<Digest>, AllocError>
+    ensures { IfOk result (λ first. first ≡ specs.first_undecided (map (specs_of.standing_of_held sides.now) mails.now)) }
 {
     for mail in mails {
-        if is_undecided(alloc, mail)? {
+        if is_undecided(alloc, &standing_of_held(alloc, mail, sides)?)? {
             return Ok(Some(mail.digest));
+        }
+    }
+    Ok(None)
+}
+
+/// The first one of mails that aren't held.
+fn first_of_unheld(
+    alloc: Global,
+    digests: &[Digest],
+    sides: &Sides,
+) -> Result<Option<Digest>, AllocError>
+    ensures { IfOk result (λ first. first ≡ specs.first_undecided (map (specs_of.standing_of_unheld sides.now) digests.now)) }
+{
+    for digest in digests {
+        if is_undecided(alloc, &standing_of_unheld(alloc, digest, sides)?)? {
+            return Ok(Some(*digest));
         }
     }
     Ok(None)

@@ -16,7 +16,7 @@ use Rattle.mr_maildir.specs.declared.act.Act.{Act}
 use Rattle.mr_maildir.specs.declared.act.Act.TheVariants.{Agree, Create, Edit, Delete, Follow, Remove}
 use Rattle.mr_scan.specs.declared.inodes.Stored.{Stored}
 use Rattle.mr_compare.specs.Compare.{act_for, told_for, merge_or, merged_act, if_any, due, due_acts, IsDeletion}
-use Rattle.mr_compare.specs.Sides.{lacks_file, standing_of_held, standing_of_unheld}
+use Rattle.mr_compare.specs.Sides.{lacks_file, standing_of_held, standing_of_unheld, standings_by}
 use Rattle.mr_compare.specs.Tally.{deletes}
 use Rattle.mr_compare.specs.declared.compare.MailAct.{MailAct}
 use Rattle.mr_compare.specs.declared.compare.Standing.{Standing}
@@ -116,11 +116,11 @@ unheld_stored stored sides [] = tt
 unheld_stored stored sides (digest ∷ digests) = (λ is. let wrong : false ≡ true = is.had_file in (cc), unheld_stored stored sides digests)
 
 -- no act that is due deletes a mail whose file the store doesn't have
-pub deletes_stored : (stored : List Stored) (sides : Sides) (mails : List HeldMail) (others : List (List ℕ)) (standings : List Standing) (acts : List MailAct) → AreMissing stored mails sides
-    → standings ≡ map (standing_of_held sides) mails ++ map (standing_of_unheld sides) others → acts ≡ due_acts standings → All (IsStoredIfDeleted stored) acts
-deletes_stored stored sides mails others standings acts missing are is =
-    All-same (IsStoredIfDeleted stored) acts (due_acts (map (standing_of_held sides) mails ++ map (standing_of_unheld sides) others)) (is ∙ ap due_acts are)
-    (due_stored stored (map (standing_of_held sides) mails ++ map (standing_of_unheld sides) others) (recursion_from_All (IsStored stored) (map (standing_of_held sides) mails ++ map (standing_of_unheld sides) others)
+pub deletes_stored : (stored : List Stored) (sides : Sides) (mails : List HeldMail) (others : List (List ℕ)) (acts : List MailAct) → AreMissing stored mails sides
+    → acts ≡ due_acts (standings_by sides mails others) → All (IsStoredIfDeleted stored) acts
+deletes_stored stored sides mails others acts missing is =
+    All-same (IsStoredIfDeleted stored) acts (due_acts (standings_by sides mails others)) is
+    (due_stored stored (standings_by sides mails others) (recursion_from_All (IsStored stored) (standings_by sides mails others)
     (All-append (IsStored stored) (map (standing_of_held sides) mails) (map (standing_of_unheld sides) others)
     (All-map (IsStored stored) (standing_of_held sides) mails
     (All-from_recursion (λ (mail : HeldMail). IsStored stored (standing_of_held sides mail)) mails (held_stored stored sides mails (λ digest here. sym (missing digest) ∙ here))))

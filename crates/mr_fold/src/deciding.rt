@@ -1,17 +1,15 @@
 //! What two listings say is done, unless a change of the Maildir would be lost.
-ghost use Rattle.std.specs.Prelude.{◌≡◌, All, Err, IfOk, IsSome, OnOk};
+ghost use Rattle.std.specs.Prelude.{◌≡◌, ◌&&◌, All, Err, IfOk, IsSome, OnOk, Some};
 ghost use Rattle.std.specs.BTreeMap.{values};
 ghost use Rattle.mr_compare.specs.Compare.{due_acts};
+ghost use Rattle.mr_compare.specs.Sides.{standings_by};
 ghost use Rattle.mr_compare.specs.Undecided.{IsHeeded, first_undecided};
-ghost use Rattle.mr_fold.specs.inner.Deciding.{AreStandings, IsStoredIfDeleted};
+ghost use Rattle.mr_fold.specs.inner.Deciding.{AreOthers, IsStoredIfDeleted};
 
 use crate::fold_fault::FoldFault;
 use crate::held_side::HeldSide;
 use crate::sides::second_sides;
-use mr_compare::{
-    MailAct, Sides, Standing, acts_of, first_undecided, standings_of_held, standings_of_unheld,
-    unheld_digests,
-};
+use mr_compare::{Digest, HeldMail, MailAct, Sides, acts_of, first_undecided, unheld_digests};
 use mr_scan::{Index, Scan};
 use std::alloc::{AllocError, Global};
 
@@ -20,8 +18,8 @@ use std::alloc::{AllocError, Global};
 pub(crate) struct Decided {
     /// What they say, beside what is held.
     pub(crate) sides: Sides,
-    /// How the mails stand.
-    pub(crate) mails: Vec<Standing>,
+    /// The mails that aren't held, and that they tell of or that were left.
+    pub(crate) others: Vec<Digest>,
     /// What is done for them, however many it deletes.
     pub(crate) acts: Vec<MailAct>,
 }
@@ -35,43 +33,40 @@ pub(crate) fn decide(
     second: &Scan,
     index: &Index,
 ) -> Result<Decided, FoldFault>
-    ensures mails { IfOk result (λ decided. AreStandings held.now.items.entries held.now.mails.items decided.sides decided.mails.items) }
-    ensures acts { IfOk result (λ decided. decided.acts.items ≡ due_acts decided.mails.items) }
+    ensures others { IfOk result (λ decided. AreOthers held.now.items.entries decided.sides decided.others.items) }
+    ensures acts { IfOk result (λ decided. decided.acts.items ≡ due_acts (standings_by decided.sides held.now.mails.items decided.others.items)) }
+    // What the second listing says is certain only where the first one says it too, and both were quiet.
+    ensures before { IfOk result (λ decided. decided.sides.seen_before ≡ Some sides.seen) }
+    ensures quiet { IfOk result (λ decided. decided.sides.are_quiet ≡ (first.now.is_quiet && second.now.is_quiet)) }
     // No mail is deleted whose file the store doesn't have: one that was edited in place isn't.
     ensures stored { IfOk result (λ decided. All (IsStoredIfDeleted (values index.now)) decided.acts.items) }
     // No change of the Maildir that was seen is lost: it is told, or waits.
-    ensures heeded { IfOk result (λ decided. All IsHeeded decided.mails.items) }
+    ensures heeded { IfOk result (λ decided. All IsHeeded (standings_by decided.sides held.now.mails.items decided.others.items)) }
 {
     let sides = second_sides(alloc, sides, &held.mails, first, second, index)?;
-    let mails = standings_with(alloc, held, &sides)?;
-    let acts = decided_acts(alloc, &mails)?;
-    Ok(Decided { sides, mails, acts })
-}
-
-/// How the mails stand, by these sides: those that are held, and then the others.
-pub(crate) fn standings_with(
-    alloc: Global,
-    held: &HeldSide,
-    sides: &Sides,
-) -> Result<Vec<Standing>, AllocError>
-    ensures { IfOk result (λ standings. AreStandings held.now.items.entries held.now.mails.items sides.now standings.items) }
-{
-    let mut standings = standings_of_held(alloc, &held.mails, sides)?;
-    let unheld = unheld_digests(alloc, &held.items, sides)?;
-    let mut others = standings_of_unheld(alloc, &unheld, sides)?;
-    standings.append(&mut others)?;
-    Ok(standings)
+    let others = unheld_digests(alloc, &held.items, &sides)?;
+    let acts = decided_acts(alloc, &held.mails, &others, &sides)?;
+    Ok(Decided {
+        sides,
+        others,
+        acts,
+    })
 }
 
 /// What is done for the mails, of which two listings tell, however many it deletes. `Changed` where a change that they don't tell can't wait.
-fn decided_acts(alloc: Global, mails: &[Standing]) -> Result<Vec<MailAct>, FoldFault>
-    ensures value { IfOk result (λ acts. acts.items ≡ due_acts mails.now) }
+fn decided_acts(
+    alloc: Global,
+    mails: &[HeldMail],
+    others: &[Digest],
+    sides: &Sides,
+) -> Result<Vec<MailAct>, FoldFault>
+    ensures value { IfOk result (λ acts. acts.items ≡ due_acts (standings_by sides.now mails.now others.now)) }
     // No change of the Maildir that was seen is lost: it is told, or waits.
-    ensures heeded { OnOk result (All IsHeeded mails.now) }
-    ensures changed { result ≡ Err FoldFault.Changed → IsSome (first_undecided mails.now) }
+    ensures heeded { OnOk result (All IsHeeded (standings_by sides.now mails.now others.now)) }
+    ensures changed { result ≡ Err FoldFault.Changed → IsSome (first_undecided (standings_by sides.now mails.now others.now)) }
 {
-    if let Some(_digest) = first_undecided(alloc, mails)? {
+    if let Some(_digest) = first_undecided(alloc, mails, others, sides)? {
         return Err(FoldFault::Changed);
     }
-    Ok(acts_of(alloc, mails, usize::MAX)?)
+    Ok(acts_of(alloc, mails, others, sides, usize::MAX)?)
 }

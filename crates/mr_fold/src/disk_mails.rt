@@ -27,7 +27,7 @@ pub(crate) struct DiskMails<'a, R> {
     scan: &'a Scan,
     targets: &'a BTreeMap<Digest, Target>,
     /// The names of all mails' files, with those that were made.
-    names: FileNames,
+    names: FileNames<'a>,
     /// The paths of the folders that are there or were made, by their labels.
     folders: BTreeMap<Label, FolderPath>,
     /// A path in each part of a folder that was changed and isn't synced yet, by the part's path.
@@ -239,11 +239,11 @@ impl<'a, R: Files<File = File> + AllocGlobal + Clone + Drop> DiskMails<'a, R> {
 }
 
 /// The names of the files that were seen, if some are to be made.
-fn names_for(
+fn names_for<'a>(
     alloc: Global,
-    scan: &Scan,
+    scan: &'a Scan,
     targets: &BTreeMap<Digest, Target>,
-) -> Result<FileNames, AllocError> {
+) -> Result<FileNames<'a>, AllocError> {
     if targets.is_empty() {
         return Ok(FileNames::none(alloc));
     }

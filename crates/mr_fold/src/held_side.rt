@@ -49,6 +49,7 @@ fn held_items(alloc: Global, replica: &Replica<SparingKnowledge>) -> Result<Held
     let by_item = gathered(alloc, held.heads)?;
     let ancestors = ancestors_of(alloc, replica, &by_item)?;
     let standings = item_standings(alloc, &by_item, &ancestors)?;
+    drop(by_item);
     gathered(alloc, standings)
 }
 

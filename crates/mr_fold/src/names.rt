@@ -3,61 +3,70 @@ use mr_compare::Digest;
 use mr_maildir::{MailFile, unique_for};
 use mr_scan::Scan;
 use std::alloc::{AllocError, Global};
+use std::cmp::Ordering;
 use std::collections::BTreeMap;
 
-/// A file of a mail.
+/// A file of a mail that was seen.
+#[derive(Clone, Copy, Debug)]
+struct SeenFile<'a> {
+    digest: &'a Digest,
+    file: &'a MailFile,
+}
+
+/// A file of a mail that was made.
 #[derive(Debug, Drop)]
-struct NamedFile {
+struct MadeFile {
     digest: Digest,
     file: MailFile,
 }
 
 /// The files of all mails, by the unique parts of their names, so that no mail's file gets the name of another's.
 #[derive(Debug, Drop)]
-pub(crate) struct FileNames {
+pub(crate) struct FileNames<'a> {
     alloc: Global,
-    files: BTreeMap<String, Vec<NamedFile>>,
+    /// Those that were seen, in the order of the unique parts.
+    seen: Vec<SeenFile<'a>>,
+    /// Those that were made, by the unique parts.
+    made: BTreeMap<String, Vec<MadeFile>>,
 }
 
-impl FileNames {
+impl<'a> FileNames<'a> {
     /// No names.
-    pub(crate) fn none(alloc: Global) -> FileNames {
+    pub(crate) fn none(alloc: Global) -> FileNames<'a> {
         FileNames {
             alloc,
-            files: BTreeMap::new(alloc),
+            seen: Vec::new(alloc),
+            made: BTreeMap::new(alloc),
         }
     }
 
-    /// The names of the files that were seen.
-    pub(crate) fn of(alloc: Global, scan: &Scan) -> Result<FileNames, AllocError> {
-        let mut names = FileNames::none(alloc);
+    /// The names of the files that were seen. It takes 16 bytes for each file.
+    pub(crate) fn of(alloc: Global, scan: &'a Scan) -> Result<FileNames<'a>, AllocError> {
+        let mut seen = Vec::with_capacity(alloc, scan.mails.len())?;
         for (digest, files) in scan.mails.iter() {
-            names.note_all(digest, files)?;
+            push_files(&mut seen, digest, files)?;
         }
-        Ok(names)
+        seen.sort_unstable_by(|a, b| a.file.unique().cmp(b.file.unique()));
+        Ok(FileNames {
+            alloc,
+            seen,
+            made: BTreeMap::new(alloc),
+        })
     }
 
-    /// Notes files of a mail.
-    fn note_all(&mut self, digest: &Digest, files: &[MailFile]) -> Result<(), AllocError> {
-        for file in files {
-            self.note(digest, file)?;
-        }
-        Ok(())
-    }
-
-    /// Notes a file of a mail.
+    /// Notes a file of a mail that was made.
     pub(crate) fn note(&mut self, digest: &Digest, file: &MailFile) -> Result<(), AllocError> {
-        let named = NamedFile {
+        let made = MadeFile {
             digest: *digest,
             file: copied(self.alloc, file)?,
         };
-        let mut files = match self.files.remove(file.unique()) {
+        let mut files = match self.made.remove(file.unique()) {
             Some(files) => files,
-            None => Vec::new(self.alloc),
+            None => Vec::with_capacity(self.alloc, 1)?,
         };
-        files.push(named)?;
+        files.push(made)?;
         let unique = String::from_str(self.alloc, file.unique())?;
-        self.files.insert(unique, files)?;
+        self.made.insert(unique, files)?;
         Ok(())
     }
 
@@ -86,15 +95,53 @@ impl FileNames {
         digest: &Digest,
         unique: &str,
     ) -> Result<(), AllocError> {
-        if let Some(files) = self.files.get(unique) {
-            for named in files {
-                if named.digest != *digest {
-                    taken.push(copied(self.alloc, &named.file)?)?;
-                }
+        for seen in self.seen_from(unique) {
+            if seen.file.unique() != unique {
+                break;
+            }
+            self.push_other(taken, digest, seen.digest, seen.file)?;
+        }
+        if let Some(files) = self.made.get(unique) {
+            for made in files {
+                self.push_other(taken, digest, &made.digest, &made.file)?;
             }
         }
         Ok(())
     }
+
+    /// The files that were seen, from the first one on whose unique part isn't before this one.
+    fn seen_from(&self, unique: &str) -> &[SeenFile<'a>] {
+        let start = self
+            .seen
+            .partition_point(|seen| seen.file.unique().cmp(unique) == Ordering::Less);
+        &self.seen[start..]
+    }
+
+    /// Puts the file of a mail behind the others, if that isn't this mail.
+    fn push_other(
+        &self,
+        taken: &mut Vec<MailFile>,
+        digest: &Digest,
+        other: &Digest,
+        file: &MailFile,
+    ) -> Result<(), AllocError> {
+        if *other != *digest {
+            taken.push(copied(self.alloc, file)?)?;
+        }
+        Ok(())
+    }
+}
+
+/// Puts the files of a mail behind the others.
+fn push_files<'a>(
+    seen: &mut Vec<SeenFile<'a>>,
+    digest: &'a Digest,
+    files: &'a [MailFile],
+) -> Result<(), AllocError> {
+    for file in files {
+        seen.push(SeenFile { digest, file })?;
+    }
+    Ok(())
 }
 
 /// An equal file.

@@ -26,18 +26,14 @@ pub(crate) fn moved_first(
     scan: &Scan,
     lacking: &BTreeSet<Digest>,
 ) -> Result<(Vec<MailAct>, usize), AllocError> {
-    let Parted { moved, standing } = in_parts(alloc, acts, scan, lacking)?;
+    let Parted {
+        mut moved,
+        mut standing,
+    } = in_parts(alloc, acts, scan, lacking)?;
     let count = moved.len();
-    Ok((appended(moved, standing)?, count))
-}
-
-/// These acts, and the others behind them.
-fn appended(acts: Vec<MailAct>, others: Vec<MailAct>) -> Result<Vec<MailAct>, AllocError> {
-    let mut acts = acts;
-    for mail in others {
-        acts.push(mail)?;
-    }
-    Ok(acts)
+    moved.append(&mut standing)?;
+    moved.shrink_to_fit();
+    Ok((moved, count))
 }
 
 /// The acts in two parts, each in their order.

@@ -1,5 +1,5 @@
 //! What two listings say of the mails, beside what is held of them.
-ghost use Rattle.std.specs.Prelude.{◌≡◌, All, false, IfOk};
+ghost use Rattle.std.specs.Prelude.{◌≡◌, ◌&&◌, All, false, IfOk, Some};
 ghost use Rattle.std.specs.BTreeMap.{values};
 ghost use Rattle.std.specs.List.{list_all};
 ghost use Rattle.std.specs.Option.{option_copied};
@@ -17,7 +17,7 @@ use mr_scan::{Index, Scan, seen_view};
 use std::alloc::{AllocError, Global};
 use std::collections::BTreeMap;
 
-/// What one scan says, as if another one had said the same and no folder had changed.
+/// What one scan says, as if no folder had changed meanwhile.
 pub(crate) fn first_sides(
     alloc: Global,
     left: BTreeMap<Digest, LeftMail>,
@@ -29,11 +29,10 @@ pub(crate) fn first_sides(
 {
     let lacking = missing_mails(alloc, mails, index)?;
     let seen = seen_views(alloc, scan, &left, mails)?;
-    let seen_before = seen_views(alloc, scan, &left, mails)?;
     Ok(Sides {
         left,
         seen,
-        seen_before,
+        seen_before: None,
         are_quiet: true,
         lacking,
     })
@@ -48,11 +47,14 @@ pub(crate) fn second_sides(
     second: &Scan,
     index: &Index,
 ) -> Result<Sides, AllocError>
-    ensures { IfOk result (λ sides. AreMissing (values index.now) mails.now sides) }
+    ensures missing { IfOk result (λ sides. AreMissing (values index.now) mails.now sides) }
+    // What is seen is compared with what was seen first.
+    ensures before { IfOk result (λ two. two.seen_before ≡ Some sides.seen) }
+    ensures quiet { IfOk result (λ two. two.are_quiet ≡ (first.now.is_quiet && second.now.is_quiet)) }
 {
     let Sides {
         left,
-        seen: seen_before,
+        seen: before,
         ..
     } = sides;
     let lacking = missing_mails(alloc, mails, index)?;
@@ -60,7 +62,7 @@ pub(crate) fn second_sides(
     Ok(Sides {
         left,
         seen,
-        seen_before,
+        seen_before: Some(before),
         are_quiet: first.is_quiet && second.is_quiet,
         lacking,
     })

@@ -22,16 +22,16 @@ pub(crate) fn targets_of(
     acts: &[MailAct],
     mails: &[HeldMail],
 ) -> Result<BTreeMap<Digest, Target>, AllocError> {
-    let mut targets = BTreeMap::new(alloc);
+    let mut targets = Vec::new(alloc);
     for mail in acts {
         if let Some(held) = held_mail(mails, &mail.digest) {
             if let Some(view) = view_after(alloc, &mail.act, held)? {
                 let lines = lines_of(alloc, replica, held.first)?;
-                targets.insert(mail.digest, Target { view, lines })?;
+                targets.push((mail.digest, Target { view, lines }))?;
             }
         }
     }
-    Ok(targets)
+    targets.into_iter().collect(alloc)
 }
 
 /// How the mail stands after the act, if its files follow.

@@ -188,7 +188,7 @@ fn push_said(
     Ok(())
 }
 
-/// The labels that stay, as the heads have them in turn.
+/// The labels that stay, as the heads have them in turn. There is room for those of the first head, mostly for all.
 fn staying_labels(
     alloc: Global,
     ancestor: &View,
@@ -198,7 +198,8 @@ fn staying_labels(
     ensures { IfOk result (λ labels. labels.items ≡
         filter (stays_in ancestor.now (with_say gone heads.now)) (flat_map (λ head. head.labels) (with_say gone heads.now))) }
 {
-    let mut labels = Vec::new(alloc);
+    let room = heads.first().map_or(0, |head| head.labels().len());
+    let mut labels = Vec::with_capacity(alloc, room)?;
     for head in heads {
         push_said(&mut labels, ancestor, heads, gone, head)?;
     }

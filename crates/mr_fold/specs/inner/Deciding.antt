@@ -1,4 +1,4 @@
--- how all mails stand, and which acts delete one
+-- the mails that aren't held, and which acts delete one
 use Rattle.std.specs.Prelude.{◌≡◌, ◌++◌, ℕ, IsTrue, List, map}
 use Rattle.std.specs.Global.{Vec}
 use Rattle.std.specs.List.Sorted.{IsPermutation, IsSorted}
@@ -14,12 +14,10 @@ use Rattle.mr_compare.specs.declared.sides.HeldMail.{HeldMail}
 use Rattle.mr_compare.specs.declared.sides.Sides.{Sides}
 use Rattle.mr_fold.specs.inner.Lacking.{is_stored}
 
--- the mails stand so by these sides: those that are held, and then those that aren't, rising
-pub record AreStandings (items : List (List ℕ × Vec ItemHeads)) (mails : List HeldMail) (sides : Sides) (standings : List Standing) : Type 0 where
-  pub others : List (List ℕ)
+-- these are the mails that aren't held and that the sides tell of, rising
+pub record AreOthers (items : List (List ℕ × Vec ItemHeads)) (sides : Sides) (others : List (List ℕ)) : Type 0 where
   pub rising : IsSorted text_cmp others
   pub each : IsPermutation (unheld items sides) others
-  pub are : standings ≡ map (standing_of_held sides) mails ++ map (standing_of_unheld sides) others
 
 -- if the act deletes its mail, that is one of the store's mails
 abbrev pub IsStoredIfDeleted : List Stored → MailAct → Type 0
