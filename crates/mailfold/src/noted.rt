@@ -23,7 +23,7 @@ where
     R: Files<File = File> + AllocGlobal + Clone + Drop,
 {
     let AtRest { passed_over, bytes } = noted_at_rest(rt, root, log)?;
-    let talks = read_hellos(rt.alloc(), &bytes)?;
+    let talks = read_hellos(rt.alloc(), &bytes).ok()??;
     let id = talks.first()?.mine.id.id();
     Some(RestNote {
         id,

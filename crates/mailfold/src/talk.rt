@@ -14,7 +14,7 @@ use crate::tallies::nothing;
 use crate::told::{Told, tell_fault, tell_sync, tell_system};
 use crate::watched::Watched;
 use mr_compare::{Digest, Tally};
-use mr_fold::{OpenFolder, lock, open_locked};
+use mr_fold::{OpenFolder, Settled, lock, open_locked};
 use mr_folder::FileTree;
 use mr_journal::{Device, DiskFile};
 use mr_sync::{FolderHost, Hellos, Summary};
@@ -39,13 +39,15 @@ where
 {
     let log = lock(rt, root)?;
     show_step(rt, is_watched, "sync: looking at the files");
-    let found = noted(rt, root, &log);
-    clear_step(rt, is_watched);
-    match found {
-        Some(noted) => sync_noted(rt, root, log, noted, role, is_watched),
+    match noted(rt, root, &log) {
+        Some(noted) => {
+            clear_step(rt, is_watched);
+            sync_noted(rt, root, log, noted, role, is_watched)
+        }
         None => {
-            let folder = open_locked(rt, root, log)?;
-            sync_opened(rt, root, folder, role, is_watched)
+            let begun = opened_and_scanned(rt, root, log, role);
+            clear_step(rt, is_watched);
+            sync_begun(rt, root, begun?, role, is_watched)
         }
     }
 }
@@ -78,18 +80,19 @@ where
     sync_late(rt, root, late, before, role, &wanted, is_watched)
 }
 
-/// Syncs a folder that is open.
-fn sync_opened<R>(
+/// Syncs a folder that was opened and scanned.
+fn sync_begun<R>(
     rt: &R,
     root: &str,
-    mut folder: OpenFolder<R>,
+    begun: Begun<R>,
     role: Role,
     is_watched: bool,
 ) -> Result<Ending, Fault>
 where
     R: Files<File = File> + Input + Print + Eprint + Clock + AllocGlobal + Clone + Drop,
 {
-    let before = scan_before(rt, root, &mut folder, role, is_watched)?;
+    let before = tell_before(rt, &begun)?;
+    let Begun { folder, .. } = begun;
     let wanted = lacking_mails(rt.alloc(), folder.kept.replica(), &folder.shown)?;
     let (host, aside) = host_of(folder);
     let opener = Opener::new(rt, root, None, Some(aside));
@@ -129,29 +132,44 @@ struct Before {
     is_fresh: bool,
 }
 
-/// Scans the folder before it talks, and tells what it passed over.
-fn scan_before<R>(
-    rt: &R,
-    root: &str,
-    folder: &mut OpenFolder<R>,
-    role: Role,
-    is_watched: bool,
-) -> Result<Before, Fault>
+/// A folder that was opened, and scanned before it talks.
+#[derive(Drop)]
+struct Begun<R> {
+    folder: OpenFolder<R>,
+    settled: Settled,
+    /// Whether it was never scanned before.
+    is_fresh: bool,
+}
+
+/// Opens the folder, which is locked by its log's file, and scans it.
+fn opened_and_scanned<R>(rt: &R, root: &str, log: DiskFile, role: Role) -> Result<Begun<R>, Fault>
 where
-    R: Files<File = File> + Eprint + AllocGlobal + Clone + Drop,
+    R: Files<File = File> + AllocGlobal + Clone + Drop,
 {
+    let mut folder = open_locked(rt, root, log)?;
     let is_fresh = role == Role::Caller && folder.kept.replica().log().is_empty();
-    show_step(rt, is_watched, "sync: looking at the files");
-    let scanned = scanned(rt, root, folder, is_fresh);
-    clear_step(rt, is_watched);
-    let settled = scanned?;
+    let settled = scanned(rt, root, &mut folder, is_fresh)?;
+    Ok(Begun {
+        folder,
+        settled,
+        is_fresh,
+    })
+}
+
+/// Tells what a scan before a talk passed over, and what was edited.
+fn tell_before<R: Eprint + AllocGlobal>(rt: &R, begun: &Begun<R>) -> Result<Before, Fault> {
+    let Begun {
+        folder,
+        settled,
+        is_fresh,
+    } = begun;
     let id = folder.kept.replica().id().id();
     tell_passed_over_by(rt, id, &settled.passed_over)?;
     tell_edited_by(rt, id, settled.edited)?;
     Ok(Before {
         id,
         tally: settled.tally,
-        is_fresh,
+        is_fresh: *is_fresh,
     })
 }
 
@@ -314,7 +332,7 @@ fn talked_of<R>(
 where
     R: Files<File = File> + AllocGlobal + Clone + Drop,
 {
-    let waiting = aside.waiting;
+    let push_outs_told = aside.push_outs_told;
     let meeting = host.met(now);
     let idle = idle_talks(aside.alloc, &host, talks, fault.is_none());
     let (folder, summary) = folder_of(host, aside);
@@ -322,7 +340,7 @@ where
         summary,
         meeting,
         fault,
-        waiting,
+        push_outs_told,
         idle,
     };
     (folder, talked)
@@ -337,7 +355,7 @@ fn idle_talks<D: Device + Drop, F: FileTree + Drop>(
 ) -> Vec<Hellos> {
     if is_whole
         && host.summary().is_idle
-        && let Some(hellos) = host.idle_hellos()
+        && let Ok(Some(hellos)) = host.idle_hellos()
     {
         put_hellos(&mut talks, hellos);
         return talks;

@@ -1,9 +1,12 @@
 //! What is noted of a folder at rest for those that needn't open it: whoever finds its files as they stood then finds the folder as it was. What
 //! real files take and give no contract says, so what is here is tested only.
-use crate::looking::{Listed, PassedOver, listed_at, passed_over};
+use crate::looking::{Listed, PassedOver, Settled, at_rest, listed_at, passed_over};
 use crate::opening::{OpenFolder, mark_for, open_tree};
 use crate::rest_bytes::{closed_bytes, sealed_bytes, unsealed};
-use crate::resting::{Stand, files_stand, is_noted, noted, stand_with, write_note};
+use crate::resting::{
+    CLOSED_NOTE, Stand, files_stand, has_seen, names_digest, noted, seen_at, stand_with, write_note,
+};
+use mr_folder::DiskTree;
 use mr_journal::DiskFile;
 use mr_maildir::Layout;
 use std::fs::File;
@@ -21,6 +24,24 @@ pub struct AtRest {
     pub bytes: Vec<u8>,
 }
 
+/// A folder whose log isn't read.
+#[derive(Drop)]
+struct Closed<R> {
+    tree: DiskTree<R>,
+    listed: Listed,
+    /// Other bytes, as soon as its log, its store, or the names in one of its folders change.
+    stand: Vec<u8>,
+}
+
+/// A folder that rests.
+#[derive(Drop)]
+struct Rest {
+    /// How it stands for those that don't read its log.
+    stand: Vec<u8>,
+    /// What was seen in it.
+    seen: Vec<u8>,
+}
+
 /// What [`note_at_rest`] noted of the folder at this path, which is locked by its log's file. `None` where nothing was, where its log, its
 /// store, or a name in its folders was changed since, and where that can't be told. The log isn't read.
 ///
@@ -30,14 +51,35 @@ pub fn noted_at_rest<R: Files<File = File> + AllocGlobal + Clone + Drop>(
     root: &str,
     log: &DiskFile,
 ) -> Option<AtRest> {
-    let (mut tree, layout) = open_tree(rt, root).ok()?;
-    let listed = listed_at(rt.alloc(), &mut tree, layout).ok()?;
-    let files = files_stand(rt, root, &tree, &listed.table)?;
-    let stand = closed_stand(rt, log, layout, &files)?;
+    let Closed { listed, stand, .. } = closed_at(rt, root, log)?;
     let sealed = noted(rt, root, NOTE, &stand)?;
     let bytes = Vec::from_slice(rt.alloc(), unsealed(&sealed)?).ok()?;
     let passed_over = passed_over(listed, 0);
     Some(AtRest { passed_over, bytes })
+}
+
+/// What [`settle_if_edited`](crate::settle_if_edited) does in the folder at this path, which is locked by its log's file: nothing, as [`note_seen`] noted.
+/// `None` where nothing was noted, where the log, the store, a name in the folders, or the size of a file of the store was changed since, where a
+/// settling looked at the files since, and where that can't be told: then the folder has to be opened. The log isn't read.
+///
+/// It costs the listing of the folders, and two calls of the system for each of them; where these stand as they were noted also the listing of all
+/// names, and a call of the system for each file of the store.
+pub fn seen_at_rest<R: Files<File = File> + AllocGlobal + Clone + Drop>(
+    rt: &R,
+    root: &str,
+    log: &DiskFile,
+) -> Option<Settled> {
+    let Closed {
+        tree,
+        listed,
+        stand,
+    } = closed_at(rt, root, log)?;
+    let seen = noted(rt, root, CLOSED_NOTE, &stand)?;
+    let names = names_digest(rt.alloc(), &tree, listed.table.folders())?;
+    if !has_seen(rt, root, &seen, &names)? {
+        return None;
+    }
+    Some(at_rest(listed))
 }
 
 /// Notes these bytes of the folder as it stands, in place of what was noted. Where the folder doesn't rest, as
@@ -58,25 +100,66 @@ fn write_at_rest<R: Files<File = File> + AllocGlobal + Clone + Drop>(
     folder: &mut OpenFolder<R>,
     bytes: &[u8],
 ) -> Option<()> {
-    let (layout, files) = files_at_rest(rt, root, folder)?;
-    let stand = closed_stand(rt, folder.kept.journal().device(), layout, &files)?;
+    let Rest { stand, .. } = rest_of(rt, root, folder)?;
     let sealed = sealed_bytes(rt.alloc(), bytes).ok()?;
     write_note(rt, root, NOTE, &stand, &sealed)
 }
 
-/// How the folders lie, and how the files stand, if the folder rests.
-fn files_at_rest<R: Files<File = File> + AllocGlobal + Clone + Drop>(
+/// Notes what was seen of the folder as it stands, so that the next call of [`seen_at_rest`] finds it, until a settling looks at the files again. Where
+/// the folder doesn't rest, as [`settle_if_edited`](crate::settle_if_edited) has it, and where the note can't be written, nothing is noted.
+pub fn note_seen<R: Files<File = File> + AllocGlobal + Clone + Drop>(
     rt: &R,
     root: &str,
     folder: &mut OpenFolder<R>,
-) -> Option<(Layout, Stand)> {
+) {
+    // without the note the folder is opened
+    let _ = write_seen(rt, root, folder);
+}
+
+fn write_seen<R: Files<File = File> + AllocGlobal + Clone + Drop>(
+    rt: &R,
+    root: &str,
+    folder: &mut OpenFolder<R>,
+) -> Option<()> {
+    let Rest { stand, seen } = rest_of(rt, root, folder)?;
+    if seen.is_empty() {
+        return None;
+    }
+    write_note(rt, root, CLOSED_NOTE, &stand, &seen)
+}
+
+/// The folder at this path, if what can be told of it is.
+fn closed_at<R: Files<File = File> + AllocGlobal + Clone + Drop>(
+    rt: &R,
+    root: &str,
+    log: &DiskFile,
+) -> Option<Closed<R>> {
+    let (mut tree, layout) = open_tree(rt, root).ok()?;
+    let listed = listed_at(rt.alloc(), &mut tree, layout).ok()?;
+    let files = files_stand(rt, root, &tree, &listed.table)?;
+    let stand = closed_stand(rt, log, layout, &files)?;
+    Some(Closed {
+        tree,
+        listed,
+        stand,
+    })
+}
+
+/// The folder, if it rests.
+fn rest_of<R: Files<File = File> + AllocGlobal + Clone + Drop>(
+    rt: &R,
+    root: &str,
+    folder: &mut OpenFolder<R>,
+) -> Option<Rest> {
     if !folder.kept.is_kept() {
         return None;
     }
     let Listed { table, .. } = listed_at(folder.alloc, &mut folder.tree, folder.layout).ok()?;
+    let layout = table.layout();
     let files = files_stand(rt, root, &folder.tree, &table)?;
-    let stand = stand_with(folder.alloc, folder, table.layout(), &files)?;
-    is_noted(rt, root, &stand).then_some((table.layout(), files))
+    let seen = seen_at(rt, root, &stand_with(folder.alloc, folder, layout, &files)?)?;
+    let stand = closed_stand(rt, folder.kept.journal().device(), layout, &files)?;
+    Some(Rest { stand, seen })
 }
 
 /// How the files of a folder stand whose log isn't read.

@@ -3,8 +3,8 @@
 //! [`init`] makes a folder's replica, and [`open`] opens it again: its journal is `.mailfold/log`, and how its folders lie is told in
 //! `.mailfold/config` or found. [`settle_folder`] brings both together: the Maildir is scanned, what the user changed is told and kept, and
 //! files that have to be moved for it only then, so that they stand as the replica holds the mail; [`look`] says what it would do; [`settle_if_changed`],
-//! [`settle_if_edited`] and [`look_if_changed`] don't look where nothing was changed since, and [`noted_at_rest`] has what was noted for those
-//! that needn't even open the folder then. Where it would
+//! [`settle_if_edited`] and [`look_if_changed`] don't look where nothing was changed since, and [`noted_at_rest`] and [`seen_at_rest`] have what was noted for
+//! those that needn't even open the folder then. Where it would
 //! delete a mail that lies in a folder that the layout hasn't got, nothing is done ([`StrayMails`]). [`sweep_folder`] lets files go that no mail
 //! names, and [`expire_folder`] those of deleted mail too ([`deleted_mails`]). The journal keeps notes beside its events: how far of the feed the Maildir shows,
 //! and with whom a sync came to its end ([`shown_of`], [`meetings_of`]).
@@ -49,7 +49,7 @@ mod straying;
 mod targets;
 mod telling;
 
-pub use closed::{AtRest, note_at_rest, noted_at_rest};
+pub use closed::{AtRest, note_at_rest, note_seen, noted_at_rest, seen_at_rest};
 pub use expiring::{deleted_mails, expire_folder, needed_mails};
 pub use fault::SettleFault;
 pub use fold_fault::FoldFault;

@@ -4,7 +4,7 @@ ghost use Rattle.std.specs.Cmp.Lexicographic.{slice_cmp};
 ghost use Rattle.std.specs.List.Sorted.{IsPermutation, IsSorted};
 ghost use Rattle.std.specs.Ordering.{nat_cmp};
 
-use crate::deciding::{Decided, decide, standings_with};
+use crate::deciding::{Decided, decide};
 use crate::disk_mails::DiskMails;
 use crate::fault::SettleFault;
 use crate::fold_fault::{FoldFault, files_failed};
@@ -13,14 +13,17 @@ use crate::lacking::lacking_items;
 use crate::opening::{Kept, OpenFolder};
 use crate::parting::moved_first;
 use crate::released::with_released;
+use crate::rest_bytes::seen_bytes;
 use crate::resting::{
-    Stand, empty_note, is_noted, is_noted_whole, names_digest, note_stand, seen_bytes, stand_of,
+    Stand, empty_notes, is_noted, is_noted_whole, names_digest, note_stand, stand_of,
 };
 use crate::settling::settle;
 use crate::sides::{first_sides, take_away};
 use crate::straying::stray_mails;
 use crate::targets::targets_of;
-use mr_compare::{Digest, MailAct, Shown, Sides, Tally, acts_of, most_deletions, tally_of};
+use mr_compare::{
+    Digest, MailAct, Shown, Sides, Tally, acts_of, most_deletions, tally_of, unheld_digests,
+};
 use mr_folder::{DiskTree, FilePath, FolderNames, FolderPath, StoreFault, sweep, unlink};
 use mr_itemset::SparingKnowledge;
 use mr_kept::KeptFault;
@@ -176,7 +179,7 @@ struct Before {
 }
 
 /// Nothing was done.
-fn at_rest(listed: Listed) -> Settled {
+pub(crate) fn at_rest(listed: Listed) -> Settled {
     Settled {
         tally: tally_of(&[]),
         edited: 0,
@@ -193,7 +196,7 @@ fn settle_and_note<R: Files<File = File> + AllocGlobal + Clone + Drop>(
     before: Before,
     most: Option<usize>,
 ) -> Result<Settled, FoldFault> {
-    let now = empty_note(rt, root);
+    let now = empty_notes(rt, root);
     let found = found_at(folder, listed, most)?;
     if settle_found(folder, &found)? && is_told(&found.sight.scan) {
         note_rest(rt, root, folder, &found, before, now);
@@ -488,12 +491,14 @@ fn seen<R: Files<File = File> + AllocGlobal + Clone + Drop>(
 ) -> Result<Sight, FoldFault> {
     let LeftSide { mails, sizes } = left;
     let Indexed { mut index, edited } = indexed(alloc, tree, &sizes)?;
+    drop(sizes);
     let stored = sizes_in(alloc, &index)?;
     let first = scanned(alloc, tree, table, &mut index)?;
     let stored = (first.adopted == 0).then_some(stored);
     let sides = first_sides(alloc, mails, &held.mails, &first, &index)?;
     let sides = with_released(alloc, replica, &held.items, sides)?;
-    let acts = acts_of(alloc, &standings_with(alloc, held, &sides)?, usize::MAX)?;
+    let others = unheld_digests(alloc, &held.items, &sides)?;
+    let acts = acts_of(alloc, &held.mails, &others, &sides, usize::MAX)?;
     if take_away(&acts, &held.mails) {
         let second = scanned(alloc, tree, table, &mut index)?;
         let decided = decide(alloc, sides, held, &first, &second, &index)?;
@@ -544,13 +549,17 @@ fn allowed<R: Files<File = File> + AllocGlobal + Clone + Drop>(
     decided: Decided,
     most: Option<usize>,
 ) -> Result<(Sides, Vec<MailAct>), FoldFault> {
-    let Decided { sides, mails, acts } = decided;
+    let Decided {
+        sides,
+        others,
+        acts,
+    } = decided;
     if tally_of(&acts).deleted == 0 {
         return Ok((sides, acts));
     }
     refuse_strays(alloc, tree, table, index, &acts)?;
     let most = most.unwrap_or(most_deletions(held.mails.len()));
-    let acts = acts_of(alloc, &mails, most)?;
+    let acts = acts_of(alloc, &held.mails, &others, &sides, most)?;
     Ok((sides, acts))
 }
 

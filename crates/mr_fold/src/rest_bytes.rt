@@ -1,10 +1,10 @@
 //! What a folder's note of rest spells: numbers are big-endian, each of eight bytes.
-ghost use Rattle.std.specs.Prelude.{◌≡◌, ◌++◌, IfOk, IfSome, OnOk, length};
+ghost use Rattle.std.specs.Prelude.{◌≡◌, ◌≢◌, ◌↔◌, ◌++◌, ℕ, List, IfOk, IfSome, IsTrue, MatchOption, OnOk};
 ghost use Rattle.sha2.specs.Sha256.{sha256};
 ghost use Rattle.std.specs.List.{flat_map};
 ghost use Rattle.mr_wire.specs.Spelling.{u64, name_bytes};
 ghost use Rattle.mr_fold.specs.inner.Resting as specs;
-ghost use Rattle.mr_fold.specs.inner.Resting.{folder_bytes, layout_number, size_bytes};
+ghost use Rattle.mr_fold.specs.inner.Resting.{folder_bytes, layout_number, note_bytes, size_bytes};
 
 use mr_compare::Shown;
 use mr_entry::{Birth, Mark};
@@ -123,9 +123,9 @@ pub(crate) fn unsealed(sealed: &[u8]) -> Option<&[u8]>
     Some(bytes)
 }
 
-/// A note: how long the stand is, the stand, and what was seen. So the note of no stand begins as that of another one.
+/// A note of this stand, and of what was seen.
 pub(crate) fn rest_bytes(alloc: Global, stand: &[u8], seen: &[u8]) -> Result<Vec<u8>, AllocError>
-    ensures { IfOk result (λ bytes. bytes.items ≡ u64 (length stand.now) ++ (stand.now ++ seen.now)) }
+    ensures { IfOk result (λ bytes. bytes.items ≡ note_bytes stand.now seen.now) }
 {
     let mut out = Vec::new(alloc);
     put_u64(&mut out, stand.len() as u64)?;
@@ -134,8 +134,43 @@ pub(crate) fn rest_bytes(alloc: Global, stand: &[u8], seen: &[u8]) -> Result<Vec
     Ok(out)
 }
 
+/// What was seen, as a note of this stand has it. The note of no stand begins as that of another one.
+pub(crate) fn seen_in<'a>(note: &'a [u8], stand: &[u8]) -> Option<&'a [u8]>
+    ensures { MatchOption result ((seen : List ℕ) → note.now ≢ note_bytes stand.now seen) (λ seen. note.now ≡ note_bytes stand.now seen.now) }
+{
+    let length = (stand.len() as u64).to_be_bytes();
+    note.strip_prefix(&length)?.strip_prefix(stand)
+}
+
+/// What was seen, as a note has it: names of this digest, and these sizes of the store's files.
+pub(crate) fn seen_bytes(
+    alloc: Global,
+    names: &[u8; 32],
+    sizes: &[(u64, u64)],
+) -> Result<Vec<u8>, AllocError>
+    ensures { IfOk result (λ seen. seen.items ≡ specs.seen_bytes names.now sizes.now) }
+{
+    let bytes = store_bytes(alloc, sizes)?;
+    let mut seen = Vec::from_slice(alloc, names)?;
+    seen.extend_from_slice(&Sha256::digest(bytes.as_slice()))?;
+    Ok(seen)
+}
+
+/// Whether it was just this that was seen: names of this digest, and these sizes of the store's files.
+pub(crate) fn was_seen(
+    alloc: Global,
+    seen: &[u8],
+    names: &[u8; 32],
+    sizes: &[(u64, u64)],
+) -> Result<bool, AllocError>
+    ensures { IfOk result (λ was. IsTrue was ↔ (seen.now ≡ specs.seen_bytes names.now sizes.now)) }
+{
+    let now = seen_bytes(alloc, names, sizes)?;
+    Ok(now.as_slice() == seen)
+}
+
 /// Files of a store, each by its inode and its size.
-pub(crate) fn store_bytes(alloc: Global, sizes: &[(u64, u64)]) -> Result<Vec<u8>, AllocError>
+fn store_bytes(alloc: Global, sizes: &[(u64, u64)]) -> Result<Vec<u8>, AllocError>
     ensures { IfOk result (λ bytes. bytes.items ≡ flat_map size_bytes sizes.now) }
 {
     let mut out = Vec::new(alloc);

@@ -3,19 +3,23 @@
 ghost use Rattle.std.specs.Prelude.{◌≡◌, ◌+◌, ◌*◌, ◌<◌, ◌^◌, ℕ, pos, SomeIff};
 
 use crate::opening::OpenFolder;
-use crate::rest_bytes::{put_folder, put_numbers, replica_bytes, rest_bytes, store_bytes};
+use crate::rest_bytes::{put_folder, put_numbers, replica_bytes, rest_bytes, seen_in, was_seen};
 use mr_folder::{DiskTree, FolderPath, Folders};
 use mr_maildir::Layout;
 use mr_scan::{FolderTable, MailFolder};
 use sha2::{Digest, Sha256};
 use std::alloc::Global;
 use std::fs::{self, File};
+use std::io::ErrorKind;
 use std::os::unix::fs::MetadataExt;
 use std::rt::Files;
 use std::slice;
 
 /// The program's file that has how a folder stood when nothing had to be done.
 const NOTE: &str = "tmp/rest";
+
+/// The program's file that has it for those that don't read the log.
+pub(crate) const CLOSED_NOTE: &str = "tmp/scan";
 
 /// How a folder stands.
 #[derive(Drop)]
@@ -79,7 +83,16 @@ pub(crate) fn is_noted<R: Files<File = File> + AllocGlobal>(
     root: &str,
     stand: &Stand,
 ) -> bool {
-    noted(rt, root, NOTE, &stand.bytes).is_some()
+    seen_at(rt, root, stand).is_some()
+}
+
+/// What was seen of the folder, if the note has that it stood so.
+pub(crate) fn seen_at<R: Files<File = File> + AllocGlobal>(
+    rt: &R,
+    root: &str,
+    stand: &Stand,
+) -> Option<Vec<u8>> {
+    noted(rt, root, NOTE, &stand.bytes)
 }
 
 /// Whether the note has that the folder stood so, with names of this digest in its folders, and with the sizes that the store's files have.
@@ -98,13 +111,22 @@ fn has_noted<R: Files<File = File> + AllocGlobal + Clone + Drop>(
     stand: &Stand,
     names: &[u8; 32],
 ) -> Option<bool> {
-    let seen = noted(rt, root, NOTE, &stand.bytes)?;
-    if !seen.as_slice().starts_with(names) {
+    let seen = seen_at(rt, root, stand)?;
+    has_seen(rt, root, &seen, names)
+}
+
+/// Whether it was names of this digest that were seen, and the sizes that the store's files have. Where it was other names, no size is looked at.
+pub(crate) fn has_seen<R: Files<File = File> + AllocGlobal + Clone + Drop>(
+    rt: &R,
+    root: &str,
+    seen: &[u8],
+    names: &[u8; 32],
+) -> Option<bool> {
+    if !seen.starts_with(names) {
         return Some(false);
     }
     let sizes = sizes_now(rt, root)?;
-    let now = seen_bytes(rt.alloc(), names, &sizes)?;
-    Some(now.as_slice() == seen.as_slice())
+    was_seen(rt.alloc(), seen, names, &sizes).ok()
 }
 
 /// What a note has behind this stand, if it is the one that it has.
@@ -116,18 +138,7 @@ pub(crate) fn noted<R: Files<File = File> + AllocGlobal>(
 ) -> Option<Vec<u8>> {
     let path = own_path(rt.alloc(), root, note)?;
     let bytes = fs::read(rt, path.as_str()).ok()?;
-    let begins = rest_bytes(rt.alloc(), stand, &[]).ok()?;
-    let seen = bytes.as_slice().strip_prefix(begins.as_slice())?;
-    Vec::from_slice(rt.alloc(), seen).ok()
-}
-
-/// What was seen, as a note has it: the digest of the names, and one of the sizes of the store's files.
-pub(crate) fn seen_bytes(alloc: Global, names: &[u8; 32], sizes: &[(u64, u64)]) -> Option<Vec<u8>> {
-    let bytes = store_bytes(alloc, sizes).ok()?;
-    let digest = Sha256::digest(bytes.as_slice());
-    let mut seen = Vec::from_slice(alloc, names).ok()?;
-    seen.extend_from_slice(&digest).ok()?;
-    Some(seen)
+    Vec::from_slice(rt.alloc(), seen_in(&bytes, stand)?).ok()
 }
 
 /// The sizes of the store's files, by their inodes.
@@ -169,11 +180,22 @@ fn take_names(hasher: &mut Sha256, names: &[String]) {
     hasher.update(b"/");
 }
 
-/// Empties the note, and tells the time, as the file system has it: what is changed from now on has that time or a later one.
-pub(crate) fn empty_note<R: Files<File = File> + AllocGlobal>(rt: &R, root: &str) -> Option<u64> {
+/// Takes the notes back, and tells the time, as the file system has it: what is changed from now on has that time or a later one.
+pub(crate) fn empty_notes<R: Files<File = File> + AllocGlobal>(rt: &R, root: &str) -> Option<u64> {
+    remove_note(rt, root, CLOSED_NOTE)?;
     let path = own_path(rt.alloc(), root, NOTE)?;
     fs::write(rt, path.as_str(), "\n").ok()?;
     changed(rt, root, NOTE)
+}
+
+/// Removes a note, if it is there.
+fn remove_note<R: Files + AllocGlobal>(rt: &R, root: &str, note: &str) -> Option<()> {
+    let path = own_path(rt.alloc(), root, note)?;
+    match fs::remove_file(rt, path.as_str()) {
+        Ok(()) => Some(()),
+        Err(said) if said.kind() == ErrorKind::NotFound => Some(()),
+        Err(_) => None,
+    }
 }
 
 /// Notes how the folder stands, if it stood so before this time too, and what was seen in it. A note that can't be written is missing.

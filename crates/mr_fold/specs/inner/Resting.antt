@@ -4,6 +4,7 @@ use Rattle.std.specs.List.{flat_map}
 use Rattle.mr_maildir.specs.declared.layout.Layout.{Layout}
 use Rattle.mr_maildir.specs.declared.layout.Layout.TheVariants.{Dots, Plain}
 use Rattle.mr_replica.specs.State.{State}
+use Rattle.sha2.specs.Sha256.{sha256}
 use Rattle.mr_wire.specs.Spelling.{u64, name_bytes}
 use Rattle.mr_compare.specs.Shown.{ShownParts}
 
@@ -30,3 +31,11 @@ folder_bytes path cur new = flat_map u64 (cur ∷ new ∷ length path ∷ []) ++
 -- a file of the store: its inode and its size
 abbrev pub size_bytes : ℕ × ℕ → List ℕ
 size_bytes file = flat_map u64 (file.0 ∷ file.1 ∷ [])
+
+-- what was seen of a folder: a digest of the names in it, and one of the sizes of its store's files
+abbrev pub seen_bytes : List ℕ → List (ℕ × ℕ) → List ℕ
+seen_bytes names sizes = names ++ sha256 (flat_map size_bytes sizes)
+
+-- a note: how long the stand is, the stand, and what was seen
+abbrev pub note_bytes : List ℕ → List ℕ → List ℕ
+note_bytes stand seen = u64 (length stand) ++ (stand ++ seen)
