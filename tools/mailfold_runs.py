@@ -3,12 +3,14 @@
 import collections
 import hashlib
 import os
+import queue
 import re
 import shutil
 import signal
 import subprocess
 import tempfile
 import threading
+import time
 from pathlib import Path
 
 TOP = Path(__file__).resolve().parent.parent
@@ -70,13 +72,14 @@ def run(*words, user=None, preload=None, kill_after=None):
 
 
 class Relay:
-    """Carries bytes between two programs, counts them, and may cut both ways after so many."""
+    """Carries bytes between two programs, counts them, may cut both ways after so many, and may hand each on so many seconds later."""
 
-    def __init__(self, most):
+    def __init__(self, most, delay=0):
         self.most, self.bytes, self.turns, self.last, self.cut = most, 0, 0, None, False
+        self.delay = delay
         self.lock = threading.Lock()
 
-    def carry(self, name, source, target):
+    def parts(self, name, source):
         try:
             while not self.cut and (part := os.read(source, 1 << 16)):
                 with self.lock:
@@ -85,6 +88,14 @@ class Relay:
                     self.bytes += len(part)
                     self.turns += self.last != name
                     self.last = name
+                yield part
+        except OSError:
+            pass
+
+    def carry(self, name, source, target):
+        parts = self.parts(name, source)
+        try:
+            for part in later(parts, self.delay) if self.delay else parts:
                 while part:
                     part = part[os.write(target, part) :]
         except OSError:
@@ -93,10 +104,29 @@ class Relay:
         os.close(source)
 
 
-def sync(caller, server, cut=None, kill=None, preload=None, programs=None):
-    """Syncs two folders. `cut` ends the line after so many bytes; `kill` is (seconds, ends), with `c` and `s` for the ends."""
+def later(parts, delay):
+    """The parts, each so many seconds after it came."""
+    waiting = queue.SimpleQueue()
+
+    def take():
+        for part in parts:
+            waiting.put((time.monotonic() + delay, part))
+        waiting.put((time.monotonic() + delay, None))
+
+    threading.Thread(target=take, daemon=True).start()
+    while True:
+        due, part = waiting.get()
+        time.sleep(max(0, due - time.monotonic()))
+        if part is None:
+            return
+        yield part
+
+
+def sync(caller, server, cut=None, kill=None, preload=None, programs=None, delay=0):
+    """Syncs two folders. `cut` ends the line after so many bytes; `kill` is (seconds, ends), with `c` and `s` for the ends; each byte comes `delay`
+    seconds later than it was sent."""
     surroundings = {**os.environ, "LD_PRELOAD": preload} if preload else None
-    relay = Relay(cut)
+    relay = Relay(cut, delay)
     ends, errors = [], []
     for which, (word, folder) in enumerate((("sync", caller), ("serve", server))):
         err = tempfile.TemporaryFile()
