@@ -46,8 +46,8 @@ fn columns_of_runs(alloc: Global, runs: &[Run]) -> Result<Option<Vec<AuthorColum
     ensures vector { IfOk result (λ columns. IfSome columns (λ v. IsVectorFrom 0 v.items)) }
     ensures means { IfOk result (λ columns. IfSome columns (λ v. IsSame (vector_has v.items) (in_runs runs.now))) }
 {
-    // most vectors have one column
-    let mut columns = Vec::with_capacity(alloc, 1)?;
+    // most vectors have one column or two, each of one run
+    let mut columns = Vec::with_capacity(alloc, runs.len().min(2))?;
     for run in runs {
         if !append_run(&mut columns, alloc, *run)? {
             return Ok(None);

@@ -22,6 +22,7 @@ pub mod RisingLemmas
 pub mod EachLemmas
 pub mod MergingLemmas
 pub mod GroupLemmas
+mod GroupingLemmas
 pub mod GroupedLemmas
 pub mod PieceLemmas
 pub mod FormLemmas

@@ -2,6 +2,7 @@
 pub mod Each
 pub mod Entries
 pub mod Folded
+pub mod Grouping
 pub mod Groups
 pub mod Growth
 pub mod Lacking

@@ -4,8 +4,9 @@ ghost use Rattle.std.specs.BTreeMap.{get};
 ghost use Rattle.mr_concise.specs.declared.vector.AuthorColumn.{AuthorColumn};
 ghost use Rattle.mr_concise.specs.Order.{vector_cmp};
 ghost use Rattle.mr_forms.specs.declared.fragment.TheConstants.{MAX_ITEMS};
-ghost use Rattle.mr_itemset.specs.Groups.{alone, with_item, grouped, all_grouped, takes};
+ghost use Rattle.mr_itemset.specs.Groups.{alone, with_item, grouped, takes};
 ghost use Rattle.mr_itemset.specs.inner.Groups.{place_of, slot_of, FillInTurn, IsNoted, AreNoted};
+ghost use Rattle.mr_itemset.specs.inner.Grouping.{IsGrouping};
 ghost use Rattle.mr_itemset.specs.Shown.{shown, shown_group};
 
 use crate::groups::mark_of;
@@ -191,19 +192,49 @@ fn add(
     Ok(())
 }
 
-/// The items of a list, grouped as those of a map are. For n items it takes about n looks at a slot, and a
-/// search for each item whose vector has none.
-pub(crate) fn own_groups(listed: Vec<Listed>, alloc: Global) -> Result<Vec<OwnGroup>, AllocError>
-    ensures { IfOk result (λ groups. groups.items ≡ all_grouped MAX_ITEMS [] listed.items) }
-{
-    let count = listed.len().saturating_mul(SLOTS_EACH).max(1);
-    let mut slots = Vec::from_elem(alloc, None, count)?;
-    let mut groups = Vec::with_capacity(alloc, listed.len())?;
-    let mut others = BTreeMap::new(alloc);
-    for x in listed {
-        add(&mut groups, &mut slots, &mut others, x, alloc)?;
+/// Listed items as they are grouped, one after the other.
+#[derive(Drop)]
+pub(crate) struct Grouping {
+    groups: Vec<OwnGroup>,
+    /// The places of groups, in the slots of their vectors.
+    slots: Vec<Option<usize>>,
+    others: Others,
+}
+
+impl Grouping {
+    /// No groups yet, and slots for so many items.
+    pub(crate) fn new(alloc: Global, count: usize) -> Result<Grouping, AllocError>
+        ensures { IfOk result (IsGrouping []) }
+    {
+        let slots = count.saturating_mul(SLOTS_EACH).max(1);
+        Ok(Grouping {
+            groups: Vec::with_capacity(alloc, count)?,
+            slots: Vec::from_elem(alloc, None, slots)?,
+            others: BTreeMap::new(alloc),
+        })
     }
-    Ok(groups)
+
+    /// Puts a listed item into the group that takes it, or else into one of its own behind the others, as the items of a
+    /// map are grouped. It costs a look at a slot, and a search where that is another group's.
+    pub(crate) fn add(&mut self, alloc: Global, x: Listed) -> Result<(), AllocError>
+        requires { IsGrouping self.old.groups.items self.old }
+        ensures { OnOk result (IsGrouping (grouped MAX_ITEMS self.old.groups.items x) self.new) }
+    {
+        add(
+            &mut self.groups,
+            &mut self.slots,
+            &mut self.others,
+            x,
+            alloc,
+        )
+    }
+
+    /// The groups.
+    pub(crate) fn into_groups(self) -> Vec<OwnGroup>
+        ensures { result ≡ self.groups }
+    {
+        self.groups
+    }
 }
 
 /// Puts a fragment of each group behind the others.

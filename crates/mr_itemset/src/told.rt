@@ -12,10 +12,11 @@ ghost use Rattle.mr_itemset.specs.Folded.{folded};
 ghost use Rattle.mr_itemset.specs.inner.Folded.{Fits};
 ghost use Rattle.mr_itemset.specs.Shown.{shown, fragments_in};
 ghost use Rattle.mr_itemset.specs.Told.{IsToldOfAuthor, AreTold, IsToldOf};
-ghost use Rattle.mr_itemset.specs.inner.Told.{beyond, AreToldItems, GainsTold, Skips};
+ghost use Rattle.mr_itemset.specs.inner.Grouping.{AreGroupsTold, GroupsTold, IsGrouping};
+ghost use Rattle.mr_itemset.specs.inner.Told.{beyond, Skips};
 
 use crate::knowledge::Listed;
-use crate::moved::{own_groups, push_own_groups};
+use crate::moved::{Grouping, OwnGroup, push_own_groups};
 use crate::settled::Settled;
 use mr_concise::{AuthorColumn, Column, ConciseVector, Hole, Source};
 use mr_forms::{FormFault, Fragment, ItemSet};
@@ -229,36 +230,37 @@ impl<'a> Difference<'a> {
     }
 }
 
-/// Puts what is told of an item behind the others, if it has something that not all items have.
-fn push_told(
-    told: &mut Vec<Listed>,
+/// Puts what is told of an item into the group that takes it, if the item has something that not all items have.
+fn group_told(
+    grouping: &mut Grouping,
     alloc: Global,
     all: &ConciseVector,
     item: ItemId,
     own: &ConciseVector,
 ) -> Result<(), AllocError>
-    ensures { OnOk result (GainsTold all.now (listed_as item own.now) told.old.items told.new.items) }
+    requires { IsGrouping grouping.old.groups.items grouping.old }
+    ensures { OnOk result (GroupsTold all.now (listed_as item own.now) grouping.old grouping.new) }
 {
     let difference = Difference { all, own };
     let vector = difference.vector(alloc)?;
     if vector.author_columns().is_empty() {
         return Ok(());
     }
-    told.push(Listed { item, vector })?;
+    grouping.add(alloc, Listed { item, vector })?;
     Ok(())
 }
 
 impl<const LIMIT: usize> Settled<LIMIT> {
-    /// What is told of each listed item that has something that not all items have, by rising item.
-    fn told_items(&self, all: &ConciseVector) -> Result<Vec<Listed>, AllocError>
-        ensures { IfOk result (λ told. AreToldItems all.now self.now.listed told.items) }
+    /// What is told of each listed item that has something that not all items have, grouped.
+    fn told_groups(&self, all: &ConciseVector) -> Result<Vec<OwnGroup>, AllocError>
+        ensures { IfOk result (λ groups. AreGroupsTold all.now self.now.listed groups.items) }
     {
         let alloc = self.allocator();
-        let mut told = Vec::with_capacity(alloc, self.listed().len())?;
+        let mut grouping = Grouping::new(alloc, self.listed().len())?;
         for (item, own) in self.listed() {
-            push_told(&mut told, alloc, all, *item, own)?;
+            group_told(&mut grouping, alloc, all, *item, own)?;
         }
-        Ok(told)
+        Ok(grouping.into_groups())
     }
 
     /// The knowledge, with these versions for all items, as fragments that say each thing once. They are
@@ -280,8 +282,7 @@ impl<const LIMIT: usize> Settled<LIMIT> {
         let Ok(all) = ConciseVector::gather(alloc, &sources) else {
             return Err(FormFault::OutOfMemory);
         };
-        let told = self.told_items(&all)?;
-        let groups = own_groups(told, alloc)?;
+        let groups = self.told_groups(&all)?;
         let mut fragments = Vec::with_capacity(alloc, groups.len() + 1)?;
         fragments.push(Fragment {
             items: ItemSet::All,

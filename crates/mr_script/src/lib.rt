@@ -49,6 +49,6 @@ pub use holding::{heads_line, push_outs_line};
 pub use interpreter::{Interpreter, is_skipped};
 pub use mr_command::LineFault;
 pub use output::Output;
-pub use script::{run_script, run_script_in, source_fault};
+pub use script::{run_script, run_script_in, run_script_over, source_fault};
 pub use script_lines::ScriptLines;
 pub use source::{MAX_SCRIPT_BYTES, SourceFault};

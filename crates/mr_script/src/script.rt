@@ -8,6 +8,7 @@ ghost use Rattle.mr_script.specs.Run.{BeginsToPrint, Breaks, Prints, PrintsSoFar
 ghost use Rattle.mr_script.specs.inner.Run.{NextAnswer};
 ghost use Rattle.mr_script.specs.Script.{Accounts, looked_at, source_remaining};
 ghost use Rattle.mr_script.specs.inner.Waiting.{MayAsk};
+ghost use Rattle.mr_script.specs.Stage.{Stage.opening};
 ghost use Rattle.mr_script.specs.Writing.{Settles};
 ghost use Rattle.mr_script.specs.declared.source.TheConstants.{MAX_SCRIPT_BYTES};
 
@@ -45,8 +46,29 @@ pub fn run_script<K: Knowledge, R: Read + Drop, W: Write>(
     ensures begins { IfSome (R.remaining reader)
         (λ script. BeginsToPrint K.form script (W.contents writer.old) (W.contents writer.new)) }
 {
+    let mut interpreter = Interpreter::<K>::new(alloc);
+    run_script_over(alloc, reader, writer, &mut interpreter)
+}
+
+/// Runs the script as [`run_script`] does, in a new interpreter of the caller's: for a caller who keeps the world that it
+/// makes, or who ends behind it and leaves it to the system to take its memory back.
+pub fn run_script_over<K: Knowledge, R: Read + Drop, W: Write>(
+    alloc: Global,
+    reader: R,
+    writer: &mut W,
+    interpreter: &mut Interpreter<K>,
+) -> Result<(), ScriptFault>
+    requires { interpreter.old ≡ opening [] }
+    ensures too_long { result ≡ Err ScriptFault.TooLong
+        → IfSome (R.remaining reader) (λ script. MAX_SCRIPT_BYTES < length script) }
+    ensures line { IfErr result NumbersItsLine }
+    ensures prints { result ≢ Err ScriptFault.Write → IfSome (R.remaining reader)
+        (λ script. Prints K.form script (end_of result) (W.contents writer.old) (W.contents writer.new) []) }
+    ensures begins { IfSome (R.remaining reader)
+        (λ script. BeginsToPrint K.form script (W.contents writer.old) (W.contents writer.new)) }
+{
     let mut output = Output::new(alloc);
-    let ran = run_lines::<K, R, W>(alloc, reader, &mut output, writer);
+    let ran = run_lines::<K, R, W>(alloc, reader, &mut output, writer, interpreter);
     finish(ran, &mut output, writer)
 }
 
@@ -96,8 +118,10 @@ fn run_lines<K: Knowledge, R: Read + Drop, W: Write>(
     reader: R,
     output: &mut Output,
     writer: &mut W,
+    interpreter: &mut Interpreter<K>,
 ) -> Result<(), ScriptFault>
-    requires { output.old ≡ [] }
+    requires empty { output.old ≡ [] }
+    requires begins { interpreter.old ≡ opening [] }
     ensures too_long { result ≡ Err ScriptFault.TooLong
         → IfSome (R.remaining reader) (λ script. MAX_SCRIPT_BYTES < length script) }
     ensures line { IfErr result NumbersItsLine }
@@ -107,11 +131,10 @@ fn run_lines<K: Knowledge, R: Read + Drop, W: Write>(
         (λ script. PrintsSoFar K.form script (W.contents writer.old) (W.contents writer.new) output.new) }
 {
     let mut source = first_source(alloc, reader)?;
-    let mut interpreter = Interpreter::<K>::new(alloc);
     let mut line = Vec::new(alloc);
     for number in 1..MAX_SCRIPT_BYTES + 2 {
         settle(&source, output, writer)?;
-        let answer = next_answer(output, &mut source, &mut interpreter, &mut line, number)?;
+        let answer = next_answer(output, &mut source, interpreter, &mut line, number)?;
         let Some(answer) = answer else {
             return Ok(());
         };

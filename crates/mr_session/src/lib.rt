@@ -23,7 +23,9 @@
 //!
 //! ```
 //! let number = sessions.open()?;
-//! sessions.check(&record)?;
+//! if let Some(session) = sessions.get(number) {
+//!     session.check(&record)?;
+//! }
 //! sessions.take(&record)?;
 //! let session = sessions.close(number);
 //!

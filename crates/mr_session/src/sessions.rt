@@ -33,7 +33,7 @@ impl OpenTable<Incoming> {
     ///
     /// `NotStart` where the session has taken no Start, and the record is none; else `OtherStream` where the
     /// record is of another stream; else `Repeated` below the index that the session takes next, and `Gap`
-    /// above it.
+    /// above it. A replica has the session at hand, and asks that: of this project only a test calls this.
     pub fn check(&self, sent: &Record) -> Result<(), SessionFault>
         requires { IsSome (open_at self.now sent.now.header.session) }
         ensures { IfSome (open_at self.now sent.now.header.session)

@@ -8,8 +8,8 @@
 //! Of most items a store has the first version alone, and that version has the item's name: a binary search by version
 //! finds it. An index lists the versions of each other item, so that an edit of one item looks at no other's revisions.
 //!
-//! What a newer version supersedes leaves both parts ([`Store::drop_below`]). What a full source covers
-//! and did not hold leaves the heads ([`Store::drop_unheld`]). What another replica vouches for leaves the
+//! What a newer version supersedes leaves both parts ([`Store::remove_below`]). What a full source covers
+//! and did not hold leaves the heads ([`Store::remove_heads`]). What another replica vouches for leaves the
 //! push-outs ([`Store::drop_push_outs`]). A revision is a handle of eight bytes, so a shift of 50,000 of
 //! them moves 400,000 bytes; what leaves at the front, or comes at the end, shifts few. Two versions of an
 //! item may be held beside one another, also where one supersedes the other: a stranger's late version may
@@ -20,7 +20,8 @@
 //!
 //! ```
 //! store.put(Part::Heads, revision)?;
-//! let left = store.drop_below(item, newer.below())?;
+//! let left = store.superseded(item, newer.below())?;
+//! store.remove_below(item, newer.below());
 //! ```
 #![tactic(auto)]
 

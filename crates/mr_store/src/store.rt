@@ -201,7 +201,8 @@ impl Store {
     }
 
     /// What a version of the item with this `below` supersedes leaves both parts. The heads that left
-    /// are given, in version order.
+    /// are given, in version order. A replica does the two things apart, by `superseded` and `remove_below`: of this
+    /// project only a test calls this.
     pub fn drop_below(
         &mut self,
         item: ItemId,
@@ -227,7 +228,8 @@ impl Store {
     }
 
     /// The heads that these fragments cover and that no vector has leave; push-outs stay. Those that
-    /// left are given, in version order.
+    /// left are given, in version order. A replica does the two things apart, by `unheld` and `remove_heads`: of this
+    /// project only a test calls this.
     pub fn drop_unheld(
         &mut self,
         learned: &[Fragment<ConciseVector>],

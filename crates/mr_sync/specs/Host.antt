@@ -1,5 +1,5 @@
 -- an open folder as it talks: what it was opened with, and the files that it lacks
-use Rattle.std.specs.Prelude.{◌≡◌, ◌==◌, ◌⊎◌, ℕ, Bool, true, false, not, [], List, length, Option, Some, None, option_map}
+use Rattle.std.specs.Prelude.{◌≡◌, ◌==◌, ◌⊎◌, ℕ, Bool, true, false, not, [], List, length, take, Option, Some, None, option_map}
 use Rattle.std.specs.BTreeMap.{BTreeMap, get}
 use Rattle.std.specs.BTreeSet.{insert_key}
 use Rattle.std.specs.Cmp.Lexicographic.{slice_cmp}
@@ -68,6 +68,25 @@ module _ {D F : Type 0} where
   -- what the other side said of itself, if it did
   abbrev pub theirs_of : FolderHost D F → Option Hello
   theirs_of h = h.talk.theirs
+
+  -- the digest of what the folder knew when it said that it has nothing open, if it did
+  abbrev pub mine_of : FolderHost D F → Option (List ℕ)
+  mine_of h = h.talk.mine
+
+  -- the first bytes of that digest of the other side, if it said so
+  abbrev pub knows_of : FolderHost D F → Option (List ℕ)
+  knows_of h = h.talk.knows
+
+  -- both sides have said that they have nothing open, and this is their meeting at that time
+  pub record HasMet (h : FolderHost D F) (time : ℕ) (meeting : Meeting) : Type 0 where
+    pub theirs : (said : Hello) × (theirs_of h ≡ Some said) × (meeting.id ≡ said.id) × (meeting.birth ≡ said.birth)
+    pub mine : mine_of h ≡ Some meeting.mine
+    pub knows : knows_of h ≡ Some (take 16 meeting.theirs)
+    pub time_is : meeting.time ≡ time
+
+  -- one of them hasn't said so
+  abbrev pub HasNotMet : FolderHost D F → Type 0
+  HasNotMet h = (theirs_of h ≡ None) ⊎ (mine_of h ≡ None) ⊎ (knows_of h ≡ None)
 
   -- the bytes by which the folder asks it
   abbrev pub AsksOf : FolderHost D F → List ℕ → FolderHost D F → Type 0

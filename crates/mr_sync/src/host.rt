@@ -39,7 +39,7 @@ pub struct FolderHost<D: Device + Drop, F: FileTree + Drop> {
 }
 
 impl<D: Device + Drop, F: FileTree + Drop> FolderHost<D, F> {
-    ghost use Rattle.mr_sync.specs.Host.{HasToTell, IsIdle, IsOpened, LacksToo, SameFolder, files_of, journaled_of};
+    ghost use Rattle.mr_sync.specs.Host.{HasMet, HasNotMet, HasToTell, IsIdle, IsOpened, LacksToo, SameFolder, files_of, journaled_of};
     ghost use Rattle.mr_sync.specs.declared.fault.SyncFault.TheVariants.{OutOfMemory};
 
     /// A folder that hasn't talked yet, and what it remembers of those that it met, by their ids.
@@ -74,7 +74,9 @@ impl<D: Device + Drop, F: FileTree + Drop> FolderHost<D, F> {
 
     /// The meeting with the other side at this time, in seconds since 1970, if each side said that it has nothing open. It is to be
     /// noted where the talk came to its end.
-    pub fn met(&self, time: u64) -> Option<Meeting> {
+    pub fn met(&self, time: u64) -> Option<Meeting>
+        ensures { MatchOption result (HasNotMet self.now) (HasMet self.now time) }
+    {
         let theirs = self.talk.theirs?;
         let mine = self.talk.mine?;
         let knows = self.talk.knows?;

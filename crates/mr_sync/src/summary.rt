@@ -1,4 +1,5 @@
 //! What came and went in a talk.
+ghost use Rattle.std.specs.Prelude.{◌≡◌, true};
 
 /// What came and went in a talk. A count that would pass 2^64 stays at its end.
 #[derive(Clone, Copy, Debug, PartialEq, Eq)]
@@ -23,7 +24,9 @@ pub struct Summary {
 
 impl Summary {
     /// Nothing came or went yet.
-    pub fn new() -> Summary {
+    pub fn new() -> Summary
+        ensures { result ≡ record { is_idle = true; told = 0; taken = 0; files_sent = 0; files_came = 0; files_missing = 0; vouched = 0; released = 0 } }
+    {
         Summary {
             is_idle: true,
             told: 0,

@@ -169,7 +169,8 @@ fn next_told<D: Device + Drop, F: FileTree>(
     push_outs_message(alloc, push_outs, &mut leaving.push_outs)
 }
 
-/// Draws the next records of the stream and keeps that, where none wait to be told.
+/// Draws the next records of the stream and keeps that, where none wait to be told. Of the files that they need those stay that the other side
+/// may lack.
 fn draw<D: Device + Drop>(
     alloc: Global,
     kept: &mut Journaled<SparingKnowledge, D>,
@@ -183,13 +184,18 @@ fn draw<D: Device + Drop>(
     }
     let is_over = kept.tell(number, BATCH_RECORDS, BATCH_BYTES)?;
     keep_and_say(alloc, kept, &mut leaving.said)?;
+    let asked = leaving.asked.as_ref();
+    leaving
+        .said
+        .files
+        .retain(|due| !is_known(asked, due.file.item));
     if is_over {
         leaving.stream = None;
     }
     Ok(())
 }
 
-/// The next file that the record in front needs, if the store has it whole and the other side may lack it.
+/// The next file that the record in front needs, if the store has it whole.
 fn next_file<F: FileTree>(
     alloc: Global,
     files: &mut F,
@@ -201,9 +207,6 @@ fn next_file<F: FileTree>(
         let Some(file) = leaving.said.next_file() else {
             break;
         };
-        if is_known(leaving.asked.as_ref(), file.item) {
-            continue;
-        }
         if let Some(message) = open_file(alloc, files, &file.digest, &mut leaving.sending)? {
             leaving.files = leaving.files.saturating_add(1);
             return Ok(Some(message));

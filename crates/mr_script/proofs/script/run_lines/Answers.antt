@@ -8,7 +8,7 @@ use Rattle.mr_script.proofs.script.run_lines.Goals as goal
 pub returns-in_err-source-clause-prints : goal.returns-in_err-source-clause-prints
 returns-in_err-source-clause-prints g c =
     let p = err_from_is_err_and c.from_residual.result c.from_residual.ensures.1 in
-    rw (p.1, p.2) (λ _. never_began g.K.Knowledge.form _ _ _ _ c.in_err-source.ensures.fault c.requires)
+    rw (p.1, p.2) (λ _. never_began g.K.Knowledge.form _ _ _ _ c.in_err-source.ensures.fault c.requires.empty)
 
 pub returns-in_err-answer-clause-prints : goal.returns-in_err-answer-clause-prints
 returns-in_err-answer-clause-prints g c =
@@ -29,7 +29,7 @@ returns-in_err-push_answer-clause-prints g c =
     so_far-no_memory g.K.Knowledge.form _ _ _ _ _ _ _ _ (so_far-settled g.K.Knowledge.form _ _ _ _ _ _ _ _ so _ _ c.in_ok-settle.ensures.settles)))
 
 pub returns-in_err-source-clause-so_far : goal.returns-in_err-source-clause-so_far
-returns-in_err-source-clause-so_far g c = so_far-none g.K.Knowledge.form _ _ _ c.requires
+returns-in_err-source-clause-so_far g c = so_far-none g.K.Knowledge.form _ _ _ c.requires.empty
 
 pub returns-in_err-settle-clause-so_far : goal.returns-in_err-settle-clause-so_far
 returns-in_err-settle-clause-so_far g c = IfSome_then _ c.loop-number.invariant.1 (λ script so.

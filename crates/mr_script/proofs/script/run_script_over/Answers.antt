@@ -1,6 +1,6 @@
 use Rattle.std.proofs.lemmas.Option.{IfSome_then}
 use Rattle.mr_script.proofs.SoFar.{begins, prints_settled}
-use Rattle.mr_script.proofs.script.run_script.Goals as goal
+use Rattle.mr_script.proofs.script.run_script_over.Goals as goal
 
 pub returns-clause-prints : goal.returns-clause-prints
 returns-clause-prints g c = λ whole.
