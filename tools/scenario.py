@@ -1,11 +1,11 @@
 #!/usr/bin/env python3
 """Prints a script that makes a mailbox of a size, and lets a device sync with the office that has it.
 
-  tools/scenario.py NAME MESSAGES [unsynced]
+  tools/scenario.py NAME MESSAGES
 
 The office is replica 0 and keeps all mail, the device replica 1; replica 2 is a branch that keeps all mail too. Each name is a way in
 which the mail came about, with `-cut` behind it for a sync that is cut at half of its items, and with `-cuts` for one that is cut
-twenty times; it is taken up again behind each cut. `unsynced` leaves the device's sync out, to time what stands before it. The first
+twenty times; it is taken up again behind each cut. The first
 line is a comment with the number of items that all syncs of the device tell, if none comes twice, and the last one asks for the bytes of
 the newest request. The numbers are random, but the same in each run. A script has at most 16,777,216 bytes. Small ones are rows of
 `try_scripts`; tools/figures times large ones.
@@ -139,17 +139,16 @@ def cuts_of(name):
     return name, 0, 1
 
 
-def main(name, messages, last=None):
+def main(name, messages):
     way, cuts, parts = cuts_of(name)
     box = Mailbox()
     WAYS[way](box, int(messages))
     items = box.wanted() * (2 if way == "both-sides" else 1)
-    if last != "unsynced":
-        for _ in range(cuts):
-            # The start of the stream is a record too.
-            box.sync(1, 0, box.wanted() // parts + 1)
-        box.sync(1, 0)
-        box.lines.append(f"bytes Q{box.asked}")
+    for _ in range(cuts):
+        # The start of the stream is a record too.
+        box.sync(1, 0, box.wanted() // parts + 1)
+    box.sync(1, 0)
+    box.lines.append(f"bytes Q{box.asked}")
     some = way in ("two-authors-half", "every-second", "every-third")
     print(f"# items: {items}")
     for replica, selects in enumerate(("all", "label:inbox" if some else "all", "all")):

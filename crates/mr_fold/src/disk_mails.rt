@@ -25,6 +25,8 @@ pub(crate) struct DiskMails<'a, R> {
     tree: &'a mut DiskTree<R>,
     table: &'a FolderTable,
     scan: &'a Scan,
+    /// The files of new mails that weren't told yet, but for those that the scan has.
+    created: BTreeMap<Digest, Vec<MailFile>>,
     targets: &'a BTreeMap<Digest, Target>,
     /// The names of all mails' files, with those that were made.
     names: FileNames<'a>,
@@ -35,18 +37,20 @@ pub(crate) struct DiskMails<'a, R> {
 }
 
 impl<'a, R: Files<File = File> + AllocGlobal + Clone + Drop> DiskMails<'a, R> {
-    /// The files that were seen, and the mails that are to stand so.
+    /// The files that were seen, those of new mails that aren't among these, and the mails that are to stand so.
     pub(crate) fn new(
         alloc: Global,
         tree: &'a mut DiskTree<R>,
         table: &'a FolderTable,
         scan: &'a Scan,
+        created: BTreeMap<Digest, Vec<MailFile>>,
         targets: &'a BTreeMap<Digest, Target>,
     ) -> Result<DiskMails<'a, R>, AllocError> {
         Ok(DiskMails {
             tree,
             table,
             scan,
+            created,
             targets,
             names: names_for(alloc, scan, targets)?,
             folders: BTreeMap::new(alloc),
@@ -63,7 +67,7 @@ impl<'a, R: Files<File = File> + AllocGlobal + Clone + Drop> DiskMails<'a, R> {
         }
     }
 
-    /// The message of a mail with a file of these bytes.
+    /// The message of a mail with a file of these bytes. The files of a new mail are let go.
     fn message_of(
         &mut self,
         alloc: Global,
@@ -71,7 +75,21 @@ impl<'a, R: Files<File = File> + AllocGlobal + Clone + Drop> DiskMails<'a, R> {
         bytes: &[u8],
         time: u64,
     ) -> Result<Message, SettleFault> {
-        let files = self.seen(digest);
+        match self.created.remove(digest) {
+            Some(files) => self.message_with(alloc, digest, &files, bytes, time),
+            None => self.message_with(alloc, digest, self.seen(digest), bytes, time),
+        }
+    }
+
+    /// The message of a mail with these files, of these bytes.
+    fn message_with(
+        &self,
+        alloc: Global,
+        digest: &Digest,
+        files: &[MailFile],
+        bytes: &[u8],
+        time: u64,
+    ) -> Result<Message, SettleFault> {
         let view = seen_view(alloc, None, files)?;
         let lines = with_told_name(alloc, "", first_unique(files))?;
         let lines = folder_lines(alloc, lines, self.table.folders(), &view)?;

@@ -6,18 +6,19 @@ ghost use Rattle.mr_fold.specs.inner.HeldSide.{AreHeld};
 
 use crate::ancestors::ancestors_of;
 use crate::digests::{asked_items, digests_of};
-use crate::lacking::without_lacking;
+use crate::lacking::{lacking_items, without_lacking};
 use crate::settling::HeldItems;
 use crate::sizes::sizes_of;
 use mr_compare::{
-    Digest, HeldMail, LeftMail, Shown, gathered, held_mails, held_of, item_standings, left_mails,
-    left_of,
+    Digest, HeldMail, LeftMail, MailAct, Shown, gathered, held_mails, held_of, item_standings,
+    left_mails, left_of,
 };
 use mr_itemset::SparingKnowledge;
 use mr_replica::Replica;
 use mr_scan::Sizes;
+use mr_version::ItemId;
 use std::alloc::{AllocError, Global};
-use std::collections::BTreeMap;
+use std::collections::{BTreeMap, BTreeSet};
 
 /// What is held of the mails, by their files' digests.
 #[derive(Debug, Drop)]
@@ -42,7 +43,10 @@ pub(crate) fn held_side(
 }
 
 /// The items that are held of each mail, by the digest of its file.
-fn held_items(alloc: Global, replica: &Replica<SparingKnowledge>) -> Result<HeldItems, AllocError>
+pub(crate) fn held_items(
+    alloc: Global,
+    replica: &Replica<SparingKnowledge>,
+) -> Result<HeldItems, AllocError>
     ensures { IfOk result (λ items. AreHeld (replica.now.heads ++ replica.now.push_outs) items.entries) }
 {
     let held = held_of(alloc, replica.heads(), replica.push_outs())?;
@@ -78,4 +82,66 @@ pub(crate) fn left_side(
     let mut mails = left_mails(alloc, &left, &digests, items)?;
     without_lacking(&mut mails, &digests, shown.lacking())?;
     Ok(LeftSide { mails, sizes })
+}
+
+/// How the mails stand that are held, in rising order of their digests, and how the Maildir was left with them.
+pub(crate) fn held_and_left(
+    alloc: Global,
+    replica: &Replica<SparingKnowledge>,
+    shown: &Shown,
+) -> Result<(Vec<HeldMail>, LeftSide), AllocError> {
+    let HeldSide { items, mails } = held_side(alloc, replica)?;
+    let left = left_side(alloc, replica, shown, &items)?;
+    Ok((mails, left))
+}
+
+/// What is held of the mails for which something is done.
+#[derive(Drop)]
+pub(crate) struct Concerned {
+    pub(crate) held: HeldSide,
+    /// The held items whose files aren't here.
+    pub(crate) lacking: Vec<ItemId>,
+}
+
+/// What the replica holds of the mails for which these acts do something, and the items of those that lack their files. It costs a walk over what is
+/// held, if there is such a mail.
+pub(crate) fn concerned_by(
+    alloc: Global,
+    replica: &Replica<SparingKnowledge>,
+    acts: &[MailAct],
+    lacking: &BTreeSet<Digest>,
+) -> Result<Concerned, AllocError> {
+    if acts.is_empty() && lacking.is_empty() {
+        return Ok(none_concerned(alloc));
+    }
+    let items = held_items(alloc, replica)?;
+    let lacking = lacking_items(alloc, &items, lacking)?;
+    let items = those_of(alloc, items, acts)?;
+    let mails = held_mails(alloc, &items)?;
+    let held = HeldSide { items, mails };
+    Ok(Concerned { held, lacking })
+}
+
+/// Where nothing is done.
+fn none_concerned(alloc: Global) -> Concerned {
+    let held = HeldSide {
+        items: BTreeMap::new(alloc),
+        mails: Vec::new(alloc),
+    };
+    Concerned {
+        held,
+        lacking: Vec::new(alloc),
+    }
+}
+
+/// What is held of the acts' mails.
+fn those_of(alloc: Global, items: HeldItems, acts: &[MailAct]) -> Result<HeldItems, AllocError> {
+    let mut items = items;
+    let mut own = BTreeMap::new(alloc);
+    for mail in acts {
+        if let Some(heads) = items.remove(&mail.digest) {
+            own.insert(mail.digest, heads)?;
+        }
+    }
+    Ok(own)
 }

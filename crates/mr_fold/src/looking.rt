@@ -4,36 +4,30 @@ ghost use Rattle.std.specs.Cmp.Lexicographic.{slice_cmp};
 ghost use Rattle.std.specs.List.Sorted.{IsPermutation, IsSorted};
 ghost use Rattle.std.specs.Ordering.{nat_cmp};
 
-use crate::deciding::{Decided, decide};
 use crate::disk_mails::DiskMails;
 use crate::fault::SettleFault;
 use crate::fold_fault::{FoldFault, files_failed};
-use crate::held_side::{HeldSide, LeftSide, held_side, left_side};
-use crate::lacking::lacking_items;
+use crate::held_side::{Concerned, concerned_by, held_and_left, held_side};
 use crate::opening::{Kept, OpenFolder};
-use crate::parting::moved_first;
-use crate::released::with_released;
 use crate::rest_bytes::seen_bytes;
 use crate::resting::{
     Stand, empty_notes, is_noted, is_noted_whole, names_digest, note_stand, stand_of,
 };
+use crate::seeing::{Sight, seen};
 use crate::settling::settle;
-use crate::sides::{first_sides, take_away};
-use crate::straying::stray_mails;
 use crate::targets::targets_of;
-use mr_compare::{
-    Digest, MailAct, Shown, Sides, Tally, acts_of, most_deletions, tally_of, unheld_digests,
-};
+use mr_compare::{Digest, MailAct, Shown, Tally, tally_of};
 use mr_folder::{DiskTree, FilePath, FolderNames, FolderPath, StoreFault, sweep, unlink};
 use mr_itemset::SparingKnowledge;
 use mr_kept::KeptFault;
-use mr_maildir::Layout;
+use mr_maildir::{Layout, MailFile};
 use mr_replica::Replica;
-use mr_scan::{FolderTable, Index, Indexed, Scan, Sizes, index_of, mails_passed_over, scan};
+use mr_scan::{FolderTable, Scan};
 use mr_version::ItemId;
 use std::alloc::{AllocError, Global};
-use std::collections::BTreeSet;
+use std::collections::BTreeMap;
 use std::fs::File;
+use std::mem;
 use std::rt::Files;
 
 /// The most items that may lack their files.
@@ -80,27 +74,8 @@ pub(crate) struct Listed {
 #[derive(Drop)]
 struct Found {
     listed: Listed,
-    held: HeldSide,
     sight: Sight,
-    /// The held items whose files aren't here.
-    lacking: Vec<ItemId>,
-}
-
-/// What was seen, and what is done for it.
-#[derive(Drop)]
-struct Sight {
-    /// The last scan.
-    scan: Scan,
-    /// First those for which files have to be moved, and then the others.
-    acts: Vec<MailAct>,
-    /// How many the first ones are.
-    moved: usize,
-    /// The held mails whose files aren't here.
-    lacking: BTreeSet<Digest>,
-    /// The mails that were edited in place.
-    edited: Vec<Digest>,
-    /// The inodes of the store's files, and their sizes, as they were found before the scans, if each file of the folders is one of these.
-    sizes: Option<Vec<(u64, u64)>>,
+    concerned: Concerned,
 }
 
 /// Settles a folder: the user's changes of the Maildir are told and kept, and what was changed elsewhere is shown. It is called
@@ -124,8 +99,8 @@ pub fn settle_folder<R: Files<File = File> + AllocGlobal + Clone + Drop>(
     folder: &mut OpenFolder<R>,
     most: Option<usize>,
 ) -> Result<Settled, FoldFault> {
-    let found = found_in(folder, most)?;
-    settle_found(folder, &found)?;
+    let mut found = found_in(folder, most)?;
+    settle_found(folder, &mut found)?;
     Ok(settled_of(found))
 }
 
@@ -197,8 +172,8 @@ fn settle_and_note<R: Files<File = File> + AllocGlobal + Clone + Drop>(
     most: Option<usize>,
 ) -> Result<Settled, FoldFault> {
     let now = empty_notes(rt, root);
-    let found = found_at(folder, listed, most)?;
-    if settle_found(folder, &found)? && is_told(&found.sight.scan) {
+    let mut found = found_at(folder, listed, most)?;
+    if settle_found(folder, &mut found)? && is_told(&found.sight.scan) {
         note_rest(rt, root, folder, &found, before, now);
     }
     Ok(settled_of(found))
@@ -261,14 +236,15 @@ fn seen_before(alloc: Global, names: Option<[u8; 32]>, sizes: &Option<Vec<(u64, 
 /// Does what is to be done for what was found. Whether that was nothing.
 fn settle_found<R: Files<File = File> + AllocGlobal + Clone + Drop>(
     folder: &mut OpenFolder<R>,
-    found: &Found,
+    found: &mut Found,
 ) -> Result<bool, FoldFault> {
     if is_settled(folder, found) {
         return Ok(true);
     }
     let_go(folder, &found.sight.edited)?;
-    show(folder, found)?;
-    note_settled(folder, copied(folder.alloc, &found.lacking)?)?;
+    let created = mem::replace(&mut found.sight.created, BTreeMap::new(folder.alloc));
+    show(folder, found, created)?;
+    note_settled(folder, copied(folder.alloc, &found.concerned.lacking)?)?;
     Ok(false)
 }
 
@@ -308,7 +284,7 @@ fn is_settled<R: Drop>(folder: &OpenFolder<R>, found: &Found) -> bool {
         && found.sight.edited.is_empty()
         && folder.kept.is_kept()
         && folder.shown.entries() == entries as u64
-        && folder.shown.lacking() == found.lacking.as_slice()
+        && folder.shown.lacking() == found.concerned.lacking.as_slice()
 }
 
 /// What a settling would do now, however many mails it would delete.
@@ -428,15 +404,13 @@ fn look_at<R: Files<File = File> + AllocGlobal + Clone + Drop>(
     shown: &Shown,
     most: Option<usize>,
 ) -> Result<Found, FoldFault> {
-    let held = held_side(alloc, replica)?;
-    let left = left_side(alloc, replica, shown, &held.items)?;
-    let sight = seen(alloc, replica, tree, &listed.table, left, &held, most)?;
-    let lacking = lacking_items(alloc, &held.items, &sight.lacking)?;
+    let (mails, left) = held_and_left(alloc, replica, shown)?;
+    let sight = seen(alloc, replica, tree, &listed.table, left, mails, most)?;
+    let concerned = concerned_by(alloc, replica, &sight.acts, &sight.lacking)?;
     Ok(Found {
         listed,
-        held,
         sight,
-        lacking,
+        concerned,
     })
 }
 
@@ -479,139 +453,19 @@ fn in_order(folders: Vec<FolderPath>) -> Vec<FolderPath>
     folders
 }
 
-/// Scans the folders, twice where something would be taken away, and finds what is done.
-fn seen<R: Files<File = File> + AllocGlobal + Clone + Drop>(
-    alloc: Global,
-    replica: &Replica<SparingKnowledge>,
-    tree: &mut DiskTree<R>,
-    table: &FolderTable,
-    left: LeftSide,
-    held: &HeldSide,
-    most: Option<usize>,
-) -> Result<Sight, FoldFault> {
-    let LeftSide { mails, sizes } = left;
-    let Indexed { mut index, edited } = indexed(alloc, tree, &sizes)?;
-    drop(sizes);
-    let stored = sizes_in(alloc, &index)?;
-    let first = scanned(alloc, tree, table, &mut index)?;
-    let stored = (first.adopted == 0).then_some(stored);
-    let sides = first_sides(alloc, mails, &held.mails, &first, &index)?;
-    let sides = with_released(alloc, replica, &held.items, sides)?;
-    let others = unheld_digests(alloc, &held.items, &sides)?;
-    let acts = acts_of(alloc, &held.mails, &others, &sides, usize::MAX)?;
-    if take_away(&acts, &held.mails) {
-        let second = scanned(alloc, tree, table, &mut index)?;
-        let decided = decide(alloc, sides, held, &first, &second, &index)?;
-        let (sides, acts) = allowed(alloc, tree, table, &index, held, decided, most)?;
-        Ok(sight_of(alloc, sides, second, acts, edited, stored)?)
-    } else {
-        Ok(sight_of(alloc, sides, first, acts, edited, stored)?)
-    }
-}
-
-/// The inodes of the store's files, and their sizes.
-fn sizes_in(alloc: Global, index: &Index) -> Result<Vec<(u64, u64)>, AllocError> {
-    let mut sizes = Vec::with_capacity(alloc, index.len())?;
-    for (inode, stored) in index.iter() {
-        sizes.push((*inode, stored.size))?;
-    }
-    Ok(sizes)
-}
-
-/// What was seen, and what is done for it.
-fn sight_of(
-    alloc: Global,
-    sides: Sides,
-    scan: Scan,
-    acts: Vec<MailAct>,
-    edited: Vec<Digest>,
-    sizes: Option<Vec<(u64, u64)>>,
-) -> Result<Sight, AllocError> {
-    let Sides { lacking, .. } = sides;
-    let (acts, moved) = moved_first(alloc, acts, &scan, &lacking)?;
-    Ok(Sight {
-        scan,
-        acts,
-        moved,
-        lacking,
-        edited,
-        sizes,
-    })
-}
-
-/// What two scans say and what is done then, unless it would delete a mail that lies in a folder that is passed over, or too many mails.
-fn allowed<R: Files<File = File> + AllocGlobal + Clone + Drop>(
-    alloc: Global,
-    tree: &mut DiskTree<R>,
-    table: &FolderTable,
-    index: &Index,
-    held: &HeldSide,
-    decided: Decided,
-    most: Option<usize>,
-) -> Result<(Sides, Vec<MailAct>), FoldFault> {
-    let Decided {
-        sides,
-        others,
-        acts,
-    } = decided;
-    if tally_of(&acts).deleted == 0 {
-        return Ok((sides, acts));
-    }
-    refuse_strays(alloc, tree, table, index, &acts)?;
-    let most = most.unwrap_or(most_deletions(held.mails.len()));
-    let acts = acts_of(alloc, &held.mails, &others, &sides, most)?;
-    Ok((sides, acts))
-}
-
-/// Refuses acts that would delete a mail whose file lies in a folder that is passed over.
-fn refuse_strays<R: Files<File = File> + AllocGlobal + Clone + Drop>(
-    alloc: Global,
-    tree: &mut DiskTree<R>,
-    table: &FolderTable,
-    index: &Index,
-    acts: &[MailAct],
-) -> Result<(), FoldFault> {
-    let places = match mails_passed_over(alloc, tree, table, index) {
-        Ok(places) => places,
-        Err(fault) => return Err(said(tree, fault)),
-    };
-    match stray_mails(alloc, table.layout(), table.passed_over(), acts, &places)? {
-        Some(mails) => Err(FoldFault::PassedOver(mails)),
-        None => Ok(()),
-    }
-}
-
-/// The store's mails, and those that were edited in place.
-fn indexed<R: Files<File = File> + AllocGlobal + Clone + Drop>(
-    alloc: Global,
-    tree: &mut DiskTree<R>,
-    sizes: &Sizes,
-) -> Result<Indexed, FoldFault> {
-    match index_of(alloc, tree, sizes) {
-        Ok(indexed) => Ok(indexed),
-        Err(fault) => Err(said(tree, fault)),
-    }
-}
-
-/// Scans the folders.
-fn scanned<R: Files<File = File> + AllocGlobal + Clone + Drop>(
-    alloc: Global,
-    tree: &mut DiskTree<R>,
-    table: &FolderTable,
-    index: &mut Index,
-) -> Result<Scan, FoldFault> {
-    match scan(alloc, tree, table, index) {
-        Ok(found) => Ok(found),
-        Err(fault) => Err(said(tree, fault)),
-    }
-}
-
 /// Tells what was seen, keeps it, and has the files stand as they are held.
 fn show<R: Files<File = File> + AllocGlobal + Clone + Drop>(
     folder: &mut OpenFolder<R>,
     found: &Found,
+    created: BTreeMap<Digest, Vec<MailFile>>,
 ) -> Result<(), FoldFault> {
-    match settle_seen(folder.alloc, &mut folder.kept, &mut folder.tree, found) {
+    match settle_seen(
+        folder.alloc,
+        &mut folder.kept,
+        &mut folder.tree,
+        found,
+        created,
+    ) {
         Ok(()) => Ok(()),
         Err(fault) => Err(explained(folder, fault)),
     }
@@ -631,16 +485,18 @@ fn settle_seen<R: Files<File = File> + AllocGlobal + Clone + Drop>(
     kept: &mut Kept,
     tree: &mut DiskTree<R>,
     found: &Found,
+    created: BTreeMap<Digest, Vec<MailFile>>,
 ) -> Result<(), SettleFault> {
     let acts = &found.sight.acts;
     let (moved, standing) = acts.split_at(found.sight.moved.min(acts.len()));
-    let lacking = few(copied(alloc, &found.lacking)?)?;
-    let targets = targets_of(alloc, kept.replica(), moved, &found.held.mails)?;
+    let lacking = few(copied(alloc, &found.concerned.lacking)?)?;
+    let targets = targets_of(alloc, kept.replica(), moved, &found.concerned.held.mails)?;
     let mut files = DiskMails::new(
         alloc,
         tree,
         &found.listed.table,
         &found.sight.scan,
+        created,
         &targets,
     )?;
     settle(
@@ -649,7 +505,7 @@ fn settle_seen<R: Files<File = File> + AllocGlobal + Clone + Drop>(
         &mut files,
         moved,
         standing,
-        &found.held.items,
+        &found.concerned.held.items,
         &lacking,
     )
 }

@@ -7,7 +7,7 @@ use mr_compare::{Digest, MailAct};
 use mr_maildir::{Act, FileFault, MailFile, View, file_acts};
 use mr_scan::Scan;
 use std::alloc::{AllocError, Global};
-use std::collections::BTreeSet;
+use std::collections::{BTreeMap, BTreeSet};
 
 /// Acts in two parts.
 #[derive(Debug, Drop)]
@@ -30,6 +30,10 @@ pub(crate) fn moved_first(
         mut moved,
         mut standing,
     } = in_parts(alloc, acts, scan, lacking)?;
+    if moved.is_empty() {
+        standing.shrink_to_fit();
+        return Ok((standing, 0));
+    }
     let count = moved.len();
     moved.append(&mut standing)?;
     moved.shrink_to_fit();
@@ -95,4 +99,57 @@ fn moves(alloc: Global, seen: &[MailFile], view: &View, digest: &Digest) -> Resu
         Err(FileFault::NameTaken) => Ok(true),
         Err(FileFault::OutOfMemory) => Err(AllocError),
     }
+}
+
+/// The files of those mails that these acts create, of a scan's files. It costs a removal for each other mail.
+pub(crate) fn created_files(
+    alloc: Global,
+    files: BTreeMap<Digest, Vec<MailFile>>,
+    acts: &[MailAct],
+) -> Result<BTreeMap<Digest, Vec<MailFile>>, AllocError> {
+    let created = created_mails(alloc, acts)?;
+    if created.is_empty() {
+        return Ok(BTreeMap::new(alloc));
+    }
+    let others = mails_but(alloc, &files, &created)?;
+    Ok(without(files, &others))
+}
+
+/// The mails that these acts create, in rising order of their digests.
+fn created_mails(alloc: Global, acts: &[MailAct]) -> Result<Vec<Digest>, AllocError> {
+    let mut created = Vec::new(alloc);
+    for mail in acts {
+        if let Act::Create = &mail.act {
+            created.push(mail.digest)?;
+        }
+    }
+    created.sort_unstable();
+    Ok(created)
+}
+
+/// The mails of these files but for some, which are in rising order of their digests.
+fn mails_but(
+    alloc: Global,
+    files: &BTreeMap<Digest, Vec<MailFile>>,
+    some: &[Digest],
+) -> Result<Vec<Digest>, AllocError> {
+    let mut others = Vec::new(alloc);
+    for digest in files.keys() {
+        if some.binary_search(digest).is_err() {
+            others.push(*digest)?;
+        }
+    }
+    Ok(others)
+}
+
+/// The files of all mails but of these.
+fn without(
+    files: BTreeMap<Digest, Vec<MailFile>>,
+    mails: &[Digest],
+) -> BTreeMap<Digest, Vec<MailFile>> {
+    let mut files = files;
+    for digest in mails {
+        files.remove(digest);
+    }
+    files
 }

@@ -4,58 +4,45 @@ ghost use Rattle.std.specs.Prelude.{◌≡◌};
 ghost use Rattle.std.specs.Option.{option_copied};
 ghost use Rattle.mr_fold.specs.inner.Released.{is_as_told};
 
-use crate::settling::HeldItems;
-use crate::sides::has_all;
-use mr_compare::{Digest, LeftMail, Sides};
+use crate::sides::{has_all, view_seen};
+use mr_compare::{Digest, LeftMail};
 use mr_itemset::SparingKnowledge;
 use mr_mail::Message;
 use mr_maildir::{View, read_reference};
 use mr_replica::{Event, Replica};
+use mr_scan::Scan;
 use mr_wire::{Body, Frame};
 use std::alloc::{AllocError, Global};
 use std::collections::{BTreeMap, BTreeSet};
 
-/// The sides, with how those mails were left that aren't held and stand in just the folders of the last message that the log tells of them:
-/// as that message has them. A mail of which it is known otherwise how it was left stays as it is.
+/// How mails were left, with those of the others that are seen in just the folders of the last message that the log tells of them: as
+/// that message has them. The others aren't held, and are seen or were left. A mail of which it is known otherwise how it was left stays as it is.
 ///
-/// It costs a walk over what is seen, and one over the log where there is such a mail.
+/// It costs a walk over the others, and one over the log where there is such a mail.
 pub(crate) fn with_released(
     alloc: Global,
     replica: &Replica<SparingKnowledge>,
-    items: &HeldItems,
-    sides: Sides,
-) -> Result<Sides, AllocError> {
-    let asked = unexplained(alloc, items, &sides)?;
+    others: &[Digest],
+    left: BTreeMap<Digest, LeftMail>,
+    scan: &Scan,
+) -> Result<BTreeMap<Digest, LeftMail>, AllocError> {
+    let asked = unexplained(alloc, others, &left)?;
     if asked.is_empty() {
-        return Ok(sides);
+        return Ok(left);
     }
     let told = last_told(alloc, replica.log(), &asked)?;
-    let Sides {
-        left,
-        seen,
-        seen_before,
-        are_quiet,
-        lacking,
-    } = sides;
-    let left = with_told(left, &seen, told)?;
-    Ok(Sides {
-        left,
-        seen,
-        seen_before,
-        are_quiet,
-        lacking,
-    })
+    with_told(alloc, left, scan, told)
 }
 
 /// The mails that are seen and not held, of which nothing tells how they were left.
 fn unexplained(
     alloc: Global,
-    items: &HeldItems,
-    sides: &Sides,
+    others: &[Digest],
+    left: &BTreeMap<Digest, LeftMail>,
 ) -> Result<BTreeSet<Digest>, AllocError> {
     let mut asked = BTreeSet::new(alloc);
-    for digest in sides.seen.keys() {
-        if !items.contains_key(digest) && !sides.left.contains_key(digest) {
+    for digest in others {
+        if !left.contains_key(digest) {
             asked.insert(*digest)?;
         }
     }
@@ -109,13 +96,15 @@ fn note(
 
 /// What was left, with the mails that are seen in just the folders that were told of them.
 fn with_told(
+    alloc: Global,
     left: BTreeMap<Digest, LeftMail>,
-    seen: &BTreeMap<Digest, View>,
+    scan: &Scan,
     told: BTreeMap<Digest, View>,
 ) -> Result<BTreeMap<Digest, LeftMail>, AllocError> {
     let mut left = left;
     for (digest, view) in told {
-        if is_as_told(seen.get(&digest), &view) {
+        let seen = view_seen(alloc, scan, &digest, None)?;
+        if is_as_told(seen.as_ref(), &view) {
             let mail = LeftMail {
                 view: Some(view),
                 came: false,

@@ -87,8 +87,21 @@ fn seen_views(
     views.into_iter().collect(alloc)
 }
 
+/// How a mail is seen that was left so, if it has files.
+pub(crate) fn view_seen(
+    alloc: Global,
+    scan: &Scan,
+    digest: &Digest,
+    left: Option<&View>,
+) -> Result<Option<View>, AllocError> {
+    match scan.mails.get(digest) {
+        Some(files) => Ok(Some(seen_view(alloc, left, files)?)),
+        None => Ok(None),
+    }
+}
+
 /// How the mail was left: as it is held, unless it changed since. The first mail that isn't before it is told, if there is one.
-fn left_view<'a>(
+pub(crate) fn left_view<'a>(
     digest: &Digest,
     left: &'a BTreeMap<Digest, LeftMail>,
     first: Option<&'a HeldMail>,

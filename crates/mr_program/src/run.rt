@@ -16,7 +16,7 @@ use clap::error::ErrorKind;
 use mr_forms::Knowledge;
 use mr_hints::Commands;
 use mr_itemset::{ItemKnowledge, SparingKnowledge};
-use mr_script::{frame_text, run_script};
+use mr_script::{Interpreter, frame_text, run_script, run_script_over};
 use std::alloc::Global;
 use std::io;
 use std::io::{Read, Write};
@@ -94,7 +94,8 @@ fn end_over<R: Read + Drop, W: Write>(
     }
 }
 
-/// Runs the script that the reader gives over a form of knowledge, prints its answers, and says how the program ends.
+/// Runs the script that the reader gives over a form of knowledge, prints its answers, and says how the program ends. The
+/// world that the script made stays in memory: the program ends behind it, and the system takes all back at once.
 pub fn end_script<K: Knowledge, R: Read + Drop, W: Write>(
     alloc: Global,
     reader: R,
@@ -103,7 +104,11 @@ pub fn end_script<K: Knowledge, R: Read + Drop, W: Write>(
     ensures { IfSome (R.remaining reader)
         (λ script. EndsScript K.form script result (W.contents output.old) (W.contents output.new)) }
 {
-    ending_of_run(run_script::<K, R, W>(alloc, reader, output))
+    let Ok(interpreter) = Box::new(alloc, Interpreter::<K>::new(alloc)) else {
+        return ending_of_run(run_script::<K, R, W>(alloc, reader, output));
+    };
+    let interpreter = Box::leak(interpreter);
+    ending_of_run(run_script_over(alloc, reader, output, interpreter))
 }
 
 /// Prints what the frame says that the word spells, and says how the program ends.
