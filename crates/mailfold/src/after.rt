@@ -5,35 +5,30 @@ use mr_compare::{FolderNote, Meeting, Tally};
 use mr_entry::Note;
 use mr_fold::{FoldFault, Kept, OpenFolder, Settled, settle_folder, sweep_folder};
 use mr_kept::KeptFault;
-use mr_sync::{Hellos, Summary};
-use mr_talk::TalkFault;
-use std::alloc::Global;
+use mr_sync::Summary;
 use std::fs::File;
 use std::rt::Files;
 
 /// What a talk came to.
-#[derive(Debug, Drop)]
+#[derive(Clone, Copy, Debug)]
 pub struct Talked {
     pub summary: Summary,
     /// The meeting, where the talk came to its end and something was told.
     pub meeting: Option<Meeting>,
-    /// Why it didn't come to its end.
-    pub fault: Option<TalkFault>,
+    /// Whether it came to its end.
+    pub is_whole: bool,
     /// How many changes of its push-outs the replica had told before it.
     pub push_outs_told: usize,
-    /// The hellos of talks with nothing to tell, this one among them, if the folder was opened for it; else of none.
-    pub idle: Vec<Hellos>,
 }
 
 impl Talked {
-    /// A talk for which the folder wasn't opened, and why it didn't come to its end.
-    pub fn closed(alloc: Global, fault: Option<TalkFault>) -> Talked {
+    /// A talk for which the folder wasn't opened, and whether it came to its end.
+    pub fn closed(is_whole: bool) -> Talked {
         Talked {
             summary: Summary::new(),
             meeting: None,
-            fault,
+            is_whole,
             push_outs_told: 0,
-            idle: Vec::new(alloc),
         }
     }
 }
@@ -66,7 +61,7 @@ pub fn shown<R: Files<File = File> + AllocGlobal + Clone + Drop>(
         return Ok(nothing_shown());
     }
     let Settled { tally, edited, .. } = settle_folder(folder, None)?;
-    if talked.fault.is_none() {
+    if talked.is_whole {
         sweep_folder(folder)?;
     }
     Ok(After { tally, edited })

@@ -10,7 +10,7 @@ use mr_entry::{Entry, Mark, decode_entry};
 use mr_fold::{FoldFault, Kept, meetings_of};
 use mr_itemset::SparingKnowledge;
 use mr_journal::{DiskFile, Journal};
-use mr_kept::OpenFault;
+use mr_kept::{OpenFault, Opened};
 use mr_maildir::printable;
 use mr_replica::{Event, Replica};
 use mr_version::Author;
@@ -22,14 +22,16 @@ use std::rt::Files;
 /// The replica of a folder.
 type End = Replica<SparingKnowledge>;
 
+/// Whom a folder met, by their ids.
+type Meetings = BTreeMap<u16, Meeting>;
+
 /// A folder that is audited. Its log is locked for as long as this value lives.
 #[derive(Drop)]
 struct Audited<'a> {
     /// The folder's path.
     root: &'a str,
     kept: Kept,
-    /// Whom it met, by their ids.
-    meetings: BTreeMap<u16, Meeting>,
+    meetings: Meetings,
 }
 
 /// Tells whether one history explains the logs of these folders, or which events it leaves out. All logs are locked meanwhile, so that
@@ -41,11 +43,17 @@ where
     let mut folders = Vec::new(rt.alloc());
     for root in roots {
         match open_log(rt, root) {
-            Ok(folder) => folders.push(folder)?,
+            Ok(folder) => put(&mut folders, folder)?,
             Err(fault) => return tell_unopened(rt, root, fault),
         }
     }
     audit_opened(rt, &folders)
+}
+
+/// Puts one behind the others.
+fn put<T: Drop>(all: &mut Vec<T>, one: T) -> Result<(), AllocError> {
+    all.push(one)?;
+    Ok(())
 }
 
 /// Tells whether one history explains the logs of these folders.
@@ -71,18 +79,37 @@ fn open_log<'a, R: Files<File = File> + AllocGlobal>(
         return Err(FoldFault::NotMade);
     }
     let (mark, file) = mark_in(alloc, DiskFile::open(rt, path.as_str())?)?;
-    match Kept::open(alloc, file, &mark, None) {
+    let (kept, meetings) = kept_in(alloc, file, &mark)?;
+    Ok(Audited {
+        root,
+        kept,
+        meetings,
+    })
+}
+
+/// The replica of the log in a file that has this mark, and whom it met.
+fn kept_in(alloc: Global, file: DiskFile, mark: &Mark) -> Result<(Kept, Meetings), FoldFault> {
+    with_meetings(alloc, Kept::open(alloc, file, mark, None))
+}
+
+/// What was opened, and whom it met; else why it wasn't opened.
+fn with_meetings<K: Drop>(
+    alloc: Global,
+    opened: Result<(K, Opened), (OpenFault, DiskFile)>,
+) -> Result<(K, Meetings), FoldFault> {
+    match opened {
         Ok((kept, opened)) => {
             let meetings = meetings_of(alloc, &opened.notes)?;
-            Ok(Audited {
-                root,
-                kept,
-                meetings,
-            })
+            Ok((kept, meetings))
         }
         Err((OpenFault::NoReplica, _file)) => Err(FoldFault::NotMade),
-        Err((fault, file)) => Err(FoldFault::Journal(fault.explained(file.error()))),
+        Err((fault, file)) => Err(unopened(fault, &file)),
     }
+}
+
+/// Why a log isn't opened, with the system's words.
+fn unopened(fault: OpenFault, file: &DiskFile) -> FoldFault {
+    FoldFault::Journal(fault.explained(file.error()))
 }
 
 /// The mark of the place where the log was made, as its head tells it.
@@ -92,9 +119,7 @@ fn mark_in(alloc: Global, file: DiskFile) -> Result<(Mark, DiskFile), FoldFault>
             let mark = mark_told(alloc, &entries);
             Ok((mark, journal.into_device()))
         }
-        Err((fault, file)) => Err(FoldFault::Journal(OpenFault::Journal(fault).explained(
-            file.error(),
-        ))),
+        Err((fault, file)) => Err(unopened(OpenFault::Journal(fault), &file)),
     }
 }
 
@@ -104,7 +129,19 @@ fn mark_told(alloc: Global, entries: &[Vec<u8>]) -> Mark {
         return [0; 32];
     };
     match decode_entry(alloc, first) {
-        Ok((Entry::Head(head), _)) => head.mark(),
+        Ok(decoded) => {
+            let mark = mark_of(&decoded.0);
+            drop(decoded);
+            mark
+        }
+        Err(_) => [0; 32],
+    }
+}
+
+/// The mark that an entry tells; zeros, if it is no head.
+fn mark_of(entry: &Entry) -> Mark {
+    match entry {
+        Entry::Head(head) => head.mark(),
         _ => [0; 32],
     }
 }
@@ -126,7 +163,7 @@ fn tell_unopened<R: Eprint + AllocGlobal>(
 fn copies(alloc: Global, folders: &[Audited]) -> Result<Vec<End>, AllocError> {
     let mut ends = Vec::new(alloc);
     for folder in folders {
-        ends.push(folder.kept.replica().copy()?)?;
+        put(&mut ends, folder.kept.replica().copy()?)?;
     }
     Ok(ends)
 }

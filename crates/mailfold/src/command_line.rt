@@ -155,6 +155,13 @@ impl From<FilterFault> for Unread {
 /// Reads the words of a command line, the program's name first.
 pub fn read_command_line<'a>(alloc: Global, words: &'a [String]) -> Result<Request<'a>, Unread> {
     let matches = matches_of(alloc, words)?;
+    let request = request_of(alloc, &matches);
+    drop(matches);
+    request
+}
+
+/// What the words ask for, by their subcommand.
+fn request_of<'a>(alloc: Global, matches: &ArgMatches<'a>) -> Result<Request<'a>, Unread> {
     let Some((name, words)) = matches.subcommand() else {
         return Err(Unread::Nothing);
     };
@@ -334,36 +341,40 @@ fn mailfold<'a>(alloc: Global) -> Result<Command<'a>, AllocError> {
 
 /// The command, with the subcommands that change a folder.
 fn with_syncing<'a>(alloc: Global, command: Command<'a>) -> Result<Command<'a>, AllocError> {
-    command
-        .subcommand(init_command(alloc)?)?
-        .subcommand(scan_command(alloc)?)?
-        .subcommand(sync_command(alloc)?)?
-        .subcommand(serve_command(alloc)?)?
-        .subcommand(expire_command(alloc)?)
+    let command = with(command, init_command(alloc))?;
+    let command = with(command, scan_command(alloc))?;
+    let command = with(command, sync_command(alloc))?;
+    let command = with(command, serve_command(alloc))?;
+    with(command, expire_command(alloc))
+}
+
+/// The command, with this subcommand if there is memory for it.
+fn with<'a>(
+    command: Command<'a>,
+    made: Result<Command<'a>, AllocError>,
+) -> Result<Command<'a>, AllocError> {
+    command.subcommand(made?)
 }
 
 /// The command, with the subcommands for a folder that isn't what it was, or isn't where it was.
 fn with_replacing<'a>(alloc: Global, command: Command<'a>) -> Result<Command<'a>, AllocError> {
-    command
-        .subcommand(renew_command(alloc)?)?
-        .subcommand(moved_command(alloc)?)
+    let command = with(command, renew_command(alloc))?;
+    with(command, moved_command(alloc))
 }
 
 /// The command, with the subcommands that tell of the whole folder.
 fn with_lists<'a>(alloc: Global, command: Command<'a>) -> Result<Command<'a>, AllocError> {
-    command
-        .subcommand(status_command(alloc)?)?
-        .subcommand(list_command(alloc)?)?
-        .subcommand(log_command(alloc)?)?
-        .subcommand(verify_command(alloc)?)?
-        .subcommand(audit_command(alloc)?)
+    let command = with(command, status_command(alloc))?;
+    let command = with(command, list_command(alloc))?;
+    let command = with(command, log_command(alloc))?;
+    let command = with(command, verify_command(alloc))?;
+    with(command, audit_command(alloc))
 }
 
 /// The command, with the subcommands that tell of one mail.
 fn with_mails<'a>(alloc: Global, command: Command<'a>) -> Result<Command<'a>, AllocError> {
-    command
-        .subcommand(show_command(alloc)?)?
-        .subcommand(export_command(alloc)?)
+    let command = with(command, show_command(alloc))?;
+    with(command, export_command(alloc))
 }
 
 fn sync_command<'a>(alloc: Global) -> Result<Command<'a>, AllocError> {
@@ -391,17 +402,21 @@ fn serve_command<'a>(alloc: Global) -> Result<Command<'a>, AllocError> {
 }
 
 fn expire_command<'a>(alloc: Global) -> Result<Command<'a>, AllocError> {
-    let older = Arg::new(alloc, OLDER)
-        .long(OLDER)
-        .value_name("DAYS")
-        .help("Lets only those go that are so many days old; with none, all")
-        .value_parser(clap::value_parser!(u32));
     Command::new(alloc, "expire")
         .about("Lets the files of deleted mail go")
         .long_about(help::EXPIRE_ABOUT)
         .after_long_help(help::EXPIRE_AFTER)
         .arg(folder_word(alloc))?
-        .arg(older)
+        .arg(older_option(alloc))
+}
+
+/// The option of how many days the file of a deleted mail stays.
+fn older_option<'a>(alloc: Global) -> Arg<'a> {
+    Arg::new(alloc, OLDER)
+        .long(OLDER)
+        .value_name("DAYS")
+        .help("Lets only those go that are so many days old; with none, all")
+        .value_parser(clap::value_parser!(u32))
 }
 
 fn moved_command<'a>(alloc: Global) -> Result<Command<'a>, AllocError> {
@@ -437,16 +452,20 @@ fn export_command<'a>(alloc: Global) -> Result<Command<'a>, AllocError> {
 }
 
 fn audit_command<'a>(alloc: Global) -> Result<Command<'a>, AllocError> {
-    let folders = Arg::new(alloc, DIR)
-        .help("The folders: Maildirs")
-        .required(true)
-        .num_args(1..)
-        .value_parser(ValueParser::NonEmptyString);
     Command::new(alloc, "audit")
         .about("Joins the logs of folders into one history")
         .long_about(help::AUDIT_ABOUT)
         .after_long_help(help::AUDIT_AFTER)
-        .arg(folders)
+        .arg(folder_words(alloc))
+}
+
+/// The words of the folders' paths.
+fn folder_words<'a>(alloc: Global) -> Arg<'a> {
+    Arg::new(alloc, DIR)
+        .help("The folders: Maildirs")
+        .required(true)
+        .num_args(1..)
+        .value_parser(ValueParser::NonEmptyString)
 }
 
 /// The word of the folder's path.
@@ -463,14 +482,6 @@ fn version_word<'a>(alloc: Global) -> Arg<'a> {
 }
 
 fn init_command<'a>(alloc: Global) -> Result<Command<'a>, AllocError> {
-    let filter = filter_option(alloc, "Which mail the folder has; all, with none");
-    let layout = Arg::new(alloc, LAYOUT)
-        .long(LAYOUT)
-        .value_name("LAYOUT")
-        .help(
-            "How its folders lie: Maildir++ (`.a.b`) or plain (`a/b`); as they seem to, with none",
-        )
-        .value_parser(ValueParser::Names(LAYOUTS));
     Command::new(alloc, "init")
         .about("Makes a Maildir a folder that can be synced")
         .long_about(help::INIT_ABOUT)
@@ -480,15 +491,22 @@ fn init_command<'a>(alloc: Global) -> Result<Command<'a>, AllocError> {
             alloc,
             "The folder's number, 0 to 63: another one for each folder of those that sync",
         ))?
-        .arg(filter)?
-        .arg(layout)
+        .arg(filter_option(alloc, "Which mail the folder has; all, with none"))?
+        .arg(layout_option(alloc))
+}
+
+/// The option of how the folders lie.
+fn layout_option<'a>(alloc: Global) -> Arg<'a> {
+    Arg::new(alloc, LAYOUT)
+        .long(LAYOUT)
+        .value_name("LAYOUT")
+        .help(
+            "How its folders lie: Maildir++ (`.a.b`) or plain (`a/b`); as they seem to, with none",
+        )
+        .value_parser(ValueParser::Names(LAYOUTS))
 }
 
 fn renew_command<'a>(alloc: Global) -> Result<Command<'a>, AllocError> {
-    let filter = filter_option(
-        alloc,
-        "Which mail the folder has; with none, that which it had",
-    );
     Command::new(alloc, "renew")
         .about("Makes the folder a new replica, with another number")
         .long_about(help::RENEW_ABOUT)
@@ -498,7 +516,10 @@ fn renew_command<'a>(alloc: Global) -> Result<Command<'a>, AllocError> {
             alloc,
             "The folder's new number, 0 to 63: one that no folder ever had",
         ))?
-        .arg(filter)
+        .arg(filter_option(
+            alloc,
+            "Which mail the folder has; with none, that which it had",
+        ))
 }
 
 /// The option of a replica's id, which has to be there.
@@ -520,53 +541,71 @@ fn filter_option<'a>(alloc: Global, about: &'a str) -> Arg<'a> {
 }
 
 fn scan_command<'a>(alloc: Global) -> Result<Command<'a>, AllocError> {
-    let dry = Arg::new(alloc, DRY_RUN)
-        .long(DRY_RUN)
-        .help("Tells what would be done, and does nothing")
-        .action(ArgAction::SetTrue);
-    let most = Arg::new(alloc, MOST_DELETIONS)
-        .long(MOST_DELETIONS)
-        .value_name("N")
-        .help("How many mails may be missing: 20 or a tenth of all, with none")
-        .value_parser(clap::value_parser!(usize));
     Command::new(alloc, "scan")
         .about("Takes what other programs changed in the Maildir")
         .long_about(help::SCAN_ABOUT)
         .after_long_help(help::SCAN_AFTER)
         .arg(folder_word(alloc))?
-        .arg(dry)?
-        .arg(most)?
+        .arg(dry_option(alloc))?
+        .arg(deletions_option(alloc))?
         .arg(quiet_option(alloc))
 }
 
+/// The option of a scan that changes nothing.
+fn dry_option<'a>(alloc: Global) -> Arg<'a> {
+    Arg::new(alloc, DRY_RUN)
+        .long(DRY_RUN)
+        .help("Tells what would be done, and does nothing")
+        .action(ArgAction::SetTrue)
+}
+
+/// The option of how many deletions are told in one go.
+fn deletions_option<'a>(alloc: Global) -> Arg<'a> {
+    Arg::new(alloc, MOST_DELETIONS)
+        .long(MOST_DELETIONS)
+        .value_name("N")
+        .help("How many mails may be missing: 20 or a tenth of all, with none")
+        .value_parser(clap::value_parser!(usize))
+}
+
 fn status_command<'a>(alloc: Global) -> Result<Command<'a>, AllocError> {
-    let short = Arg::new(alloc, SHORT)
-        .long(SHORT)
-        .help("In one line")
-        .action(ArgAction::SetTrue);
     Command::new(alloc, "status")
         .about("Tells what a scan would do, and what waits")
         .long_about(help::STATUS_ABOUT)
         .arg(folder_word(alloc))?
-        .arg(short)
+        .arg(short_option(alloc))
+}
+
+/// The option of a status in one line.
+fn short_option<'a>(alloc: Global) -> Arg<'a> {
+    Arg::new(alloc, SHORT)
+        .long(SHORT)
+        .help("In one line")
+        .action(ArgAction::SetTrue)
 }
 
 fn list_command<'a>(alloc: Global) -> Result<Command<'a>, AllocError> {
-    let filter = Arg::new(alloc, FILTER).help(
-        "Which mail is listed; all that isn't deleted, with none",
-    );
-    let null = Arg::new(alloc, NULL)
-        .short('0')
-        .long(NULL)
-        .help("A zero byte ends each line, in place of a line feed")
-        .action(ArgAction::SetTrue);
     Command::new(alloc, "ls")
         .about("Lists the mail of the folder")
         .long_about(help::LIST_ABOUT)
         .after_long_help(help::LIST_AFTER)
         .arg(folder_word(alloc))?
-        .arg(filter)?
-        .arg(null)
+        .arg(filter_word(alloc))?
+        .arg(null_option(alloc))
+}
+
+/// The word of the filter of a list.
+fn filter_word<'a>(alloc: Global) -> Arg<'a> {
+    Arg::new(alloc, FILTER).help("Which mail is listed; all that isn't deleted, with none")
+}
+
+/// The option that ends each line with a zero byte.
+fn null_option<'a>(alloc: Global) -> Arg<'a> {
+    Arg::new(alloc, NULL)
+        .short('0')
+        .long(NULL)
+        .help("A zero byte ends each line, in place of a line feed")
+        .action(ArgAction::SetTrue)
 }
 
 fn log_command<'a>(alloc: Global) -> Result<Command<'a>, AllocError> {

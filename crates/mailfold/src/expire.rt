@@ -21,10 +21,12 @@ pub fn expire_mails<R: Files<File = File> + Eprint + Clock + AllocGlobal + Clone
     request: ExpireRequest,
 ) -> Result<Ending, Fault> {
     let mut folder = open(rt, request.folder)?;
-    match request.days {
+    let ending = match request.days {
         Some(days) => expire_older(rt, &mut folder, request.folder, days),
         None => expire_all(rt, &mut folder),
-    }
+    };
+    drop(folder);
+    ending
 }
 
 /// Lets the files of all deleted mail go.

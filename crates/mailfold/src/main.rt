@@ -80,23 +80,38 @@ fn exit_with(status: u8) -> ExitCode
 
 /// Does what the command line asks for.
 fn run(rt: &HostRuntime) -> Ending {
-    let words = match words_given(rt) {
-        Ok(words) => words,
-        Err(fault) => return end_with(rt, &fault),
-    };
-    match read_command_line(rt.alloc(), words.as_slice()) {
-        Ok(request) => match answer(rt, request) {
-            Ok(ending) => ending,
-            Err(fault) => end_with(rt, &fault),
-        },
-        Err(unread) => answer_unread(rt, &unread),
+    match words_given(rt) {
+        Ok(words) => run_words(rt, &words),
+        Err(fault) => end_with(rt, fault),
+    }
+}
+
+/// Does what these words ask for.
+fn run_words(rt: &HostRuntime, words: &[String]) -> Ending {
+    match read_command_line(rt.alloc(), words) {
+        Ok(request) => end(rt, answer(rt, request)),
+        Err(unread) => {
+            let ending = answer_unread(rt, &unread);
+            drop(unread);
+            ending
+        }
+    }
+}
+
+/// How a command ended, or why it isn't done, which is told.
+fn end(rt: &HostRuntime, answer: Result<Ending, Fault>) -> Ending {
+    match answer {
+        Ok(ending) => ending,
+        Err(fault) => end_with(rt, fault),
     }
 }
 
 /// Tells why a command isn't done.
-fn end_with(rt: &HostRuntime, fault: &Fault) -> Ending {
-    tell_fault(rt, fault);
-    fault.ending()
+fn end_with(rt: &HostRuntime, fault: Fault) -> Ending {
+    tell_fault(rt, &fault);
+    let ending = fault.ending();
+    drop(fault);
+    ending
 }
 
 /// The words of the command line, the program's name first.

@@ -5,7 +5,7 @@ use crate::log_files::{locked_log, next_log, put_in_place, told_log};
 use crate::old_log::OldLog;
 use mr_entry::{EntryFault, Head, Mark, encode_head};
 use mr_fold::{FoldFault, Kept, check_made, mark_for};
-use mr_journal::{DiskFile, Journal};
+use mr_journal::{Device, DiskFile, Journal};
 use mr_kept::OpenFault;
 use std::alloc::Global;
 use std::fs::File;
@@ -35,8 +35,10 @@ where
         eprintln!(rt; "replica {id} is where it was: nothing was done")?;
         return Ok(Ending::Done);
     }
-    let (_journal, entries) = opened(rt.alloc(), file)?;
-    put_moved(rt, root, head, entries.as_slice())
+    let (journal, entries) = opened(rt.alloc(), file)?;
+    let ending = put_moved(rt, root, head, entries.as_slice());
+    drop(journal);
+    ending
 }
 
 /// Puts a log with these entries and the mark of its place where the log was, and tells so.
@@ -44,9 +46,18 @@ fn put_moved<R>(rt: &R, root: &str, head: &Head, entries: &[Vec<u8>]) -> Result<
 where
     R: Files<File = File> + Eprint + AllocGlobal + Clone + Drop,
 {
-    let id = head.id().id();
     // the log is on the disk, and whoever needs it opens it
-    let _kept = moved_log(rt, root, head, entries)?;
+    let kept = moved_log(rt, root, head, entries)?;
+    let ending = put_next(rt, root, head.id().id());
+    drop(kept);
+    ending
+}
+
+/// Puts the next log, of this replica, where the log was, and tells so.
+fn put_next<R>(rt: &R, root: &str, id: u16) -> Result<Ending, Fault>
+where
+    R: Files<File = File> + Eprint + AllocGlobal,
+{
     put_in_place(rt, root)?;
     eprintln!(rt; "replica {id} was moved here")?;
     Ok(Ending::Done)
@@ -66,6 +77,19 @@ fn opened(alloc: Global, file: DiskFile) -> Result<(Journal<DiskFile>, Vec<Vec<u
     match Journal::open(alloc, file) {
         Ok(opened) => Ok(opened),
         Err((fault, file)) => Err(unopened(OpenFault::Journal(fault), &file)),
+    }
+}
+
+/// Opens the replica of the log in a file that has this mark.
+fn opened_kept(alloc: Global, file: DiskFile, mark: &Mark) -> Result<Kept, Fault> {
+    kept_of(Kept::open(alloc, file, mark, None))
+}
+
+/// What was opened; else why it wasn't.
+fn kept_of<K: Drop, O: Drop>(opened: Result<(K, O), (OpenFault, DiskFile)>) -> Result<K, Fault> {
+    match opened {
+        Ok((kept, _opened)) => Ok(kept),
+        Err((fault, file)) => Err(unopened(fault, &file)),
     }
 }
 
@@ -89,10 +113,7 @@ fn moved_log<R: Files<File = File> + AllocGlobal>(
     let mark = mark_for(rt, &file)?;
     let first = first_batch(alloc, head, mark)?;
     let file = written(alloc, file, first.as_slice(), others)?;
-    match Kept::open(alloc, file, &mark, None) {
-        Ok((kept, _opened)) => Ok(kept),
-        Err((fault, file)) => Err(unopened(fault, &file)),
-    }
+    opened_kept(alloc, file, &mark)
 }
 
 /// The batch that the head is, with another mark.
@@ -115,10 +136,29 @@ fn written(
     first: &[Vec<u8>],
     others: &[Vec<u8>],
 ) -> Result<DiskFile, Fault> {
-    let (mut journal, _none) = opened(alloc, file)?;
-    commit(alloc, &mut journal, first)?;
-    commit(alloc, &mut journal, others)?;
+    let (mut journal, none) = opened(alloc, file)?;
+    drop(none);
+    let written = commit_both(alloc, &mut journal, first, others);
+    device_of(journal, written)
+}
+
+/// The device of a journal in which something was written; else why it wasn't.
+fn device_of<D: Device + Drop>(
+    journal: Journal<D>,
+    written: Result<(), Fault>,
+) -> Result<D, Fault> {
+    written?;
     Ok(journal.into_device())
+}
+
+fn commit_both(
+    alloc: Global,
+    journal: &mut Journal<DiskFile>,
+    first: &[Vec<u8>],
+    second: &[Vec<u8>],
+) -> Result<(), Fault> {
+    commit(alloc, journal, first)?;
+    commit(alloc, journal, second)
 }
 
 fn commit(alloc: Global, journal: &mut Journal<DiskFile>, batch: &[Vec<u8>]) -> Result<(), Fault> {

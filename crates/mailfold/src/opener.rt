@@ -1,12 +1,16 @@
 //! How a folder is opened for a talk, and what it has that the talk doesn't ask for.
-use crate::late::Opens;
+use crate::fault::Fault;
+use crate::late::{Late, Opens};
+use crate::noted::RestNote;
+use crate::progress::clear_step;
+use crate::watched::Watched;
 use mr_compare::Shown;
 use mr_fold::{FoldFault, OpenFolder, open_locked};
 use mr_folder::DiskTree;
 use mr_journal::DiskFile;
 use mr_maildir::Layout;
-use mr_sync::{FolderHost, Summary};
-use mr_talk::HostFault;
+use mr_sync::FolderHost;
+use mr_talk::{HostFault, TalkFault};
 use std::alloc::Global;
 use std::collections::BTreeMap;
 use std::fs::File;
@@ -14,6 +18,12 @@ use std::rt::Files;
 
 /// A folder on the disk as it talks.
 pub type DiskHost<R> = FolderHost<DiskFile, DiskTree<R>>;
+
+/// A folder on the disk that is open, or will be as soon as it has to.
+pub type DiskLate<'a, R> = Late<DiskHost<R>, Opener<'a, R>>;
+
+/// The same, while somebody watches.
+pub type DiskWatched<'a, R> = Watched<'a, R, DiskHost<R>, Opener<'a, R>>;
 
 /// What a folder has that a talk doesn't ask for.
 #[derive(Drop)]
@@ -62,23 +72,90 @@ impl<'a, R: Files<File = File> + AllocGlobal + Clone + Drop> Opener<'a, R> {
             None => Err(FoldFault::Files),
         }
     }
+
+    /// The folder as it talks, which has this aside.
+    fn parted(&mut self, folder: OpenFolder<R>) -> DiskHost<R> {
+        let (host, aside) = host_of(folder);
+        put(&mut self.aside, aside);
+        host
+    }
+}
+
+/// Puts a value in the place of another one.
+fn put<T: Drop>(place: &mut Option<T>, value: T) {
+    *place = Some(value);
 }
 
 impl<R: Files<File = File> + AllocGlobal + Clone + Drop> Opens<DiskHost<R>> for Opener<'_, R> {
     fn open(&mut self) -> Result<DiskHost<R>, HostFault> {
         match self.folder() {
-            Ok(folder) => {
-                let (host, aside) = host_of(folder);
-                self.aside = Some(aside);
-                Ok(host)
-            }
+            Ok(folder) => Ok(self.parted(folder)),
             Err(fault) => {
                 let told = told_of(self.rt.alloc(), &fault);
-                self.fault = Some(fault);
+                put(&mut self.fault, fault);
                 Err(told)
             }
         }
     }
+}
+
+/// Why a talk didn't come to its end: that the folder had to be opened and wasn't, or else this fault of the talk.
+pub fn fault_of<R>(opener: &mut Opener<R>, fault: Option<TalkFault>) -> Option<Fault> {
+    match opener.fault.take() {
+        Some(unopened) => {
+            drop(fault);
+            Some(Fault::Folder(unopened))
+        }
+        None => talk_fault(fault),
+    }
+}
+
+fn talk_fault(fault: Option<TalkFault>) -> Option<Fault> {
+    match fault {
+        Some(fault) => Some(Fault::Talk(fault)),
+        None => None,
+    }
+}
+
+/// Opens a folder that is locked by its log's file, while somebody watches: where it isn't opened, what was being done is shown no more.
+pub fn open_watched<R>(
+    rt: &R,
+    root: &str,
+    log: DiskFile,
+    is_watched: bool,
+) -> Result<OpenFolder<R>, FoldFault>
+where
+    R: Files<File = File> + Eprint + AllocGlobal + Clone + Drop,
+{
+    let folder = open_locked(rt, root, log);
+    if folder.is_err() {
+        clear_step(rt, is_watched);
+    }
+    folder
+}
+
+/// A folder that rests, and is opened once its talk needs it. It is locked by its log's file.
+pub fn late_closed<'a, R>(
+    rt: &'a R,
+    root: &'a str,
+    log: DiskFile,
+    noted: RestNote,
+) -> DiskLate<'a, R>
+where
+    R: Files<File = File> + AllocGlobal + Clone + Drop,
+{
+    let RestNote { talks, .. } = noted;
+    Late::new(Opener::new(rt, root, Some(log), None), None, talks)
+}
+
+/// A folder that is open, and talks.
+pub fn late_open<'a, R>(rt: &'a R, root: &'a str, folder: OpenFolder<R>) -> DiskLate<'a, R>
+where
+    R: Files<File = File> + AllocGlobal + Clone + Drop,
+{
+    let (host, aside) = host_of(folder);
+    let opener = Opener::new(rt, root, None, Some(aside));
+    Late::new(opener, Some(host), Vec::new(rt.alloc()))
 }
 
 /// Why a folder isn't opened, as the other side is told it.
@@ -93,8 +170,8 @@ fn told_of(alloc: Global, fault: &FoldFault) -> HostFault {
     }
 }
 
-/// The folder as it talks.
-pub fn host_of<R>(folder: OpenFolder<R>) -> (DiskHost<R>, Aside)
+/// The folder as it talks, and what the talk doesn't ask for.
+fn host_of<R>(folder: OpenFolder<R>) -> (DiskHost<R>, Aside)
 where
     R: Files<File = File> + AllocGlobal + Clone + Drop,
 {
@@ -117,25 +194,33 @@ where
     (host, aside)
 }
 
-/// The folder that has talked. It remembers no meetings: nothing asks for them any more.
-pub fn folder_of<R>(host: DiskHost<R>, aside: Aside) -> (OpenFolder<R>, Summary)
+/// The folder that has talked, if it is open. It is taken out of the talk.
+pub fn folder_again<R>(late: &mut DiskLate<R>) -> Option<OpenFolder<R>>
 where
     R: Files<File = File> + AllocGlobal + Clone + Drop,
 {
-    let (kept, tree, summary) = host.into_parts();
+    let (host, aside) = late.host.take().zip(late.opener.aside.take())?;
+    Some(folder_of(host, aside))
+}
+
+/// The folder that has talked. It remembers no meetings: nothing asks for them any more.
+fn folder_of<R>(host: DiskHost<R>, aside: Aside) -> OpenFolder<R>
+where
+    R: Files<File = File> + AllocGlobal + Clone + Drop,
+{
+    let (kept, tree, _) = host.into_parts();
     let Aside {
         alloc,
         layout,
         shown,
         ..
     } = aside;
-    let folder = OpenFolder {
+    OpenFolder {
         alloc,
         kept,
         tree,
         layout,
         shown,
         meetings: BTreeMap::new(alloc),
-    };
-    (folder, summary)
+    }
 }

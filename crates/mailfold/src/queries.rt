@@ -23,7 +23,9 @@ pub fn list_mails<R: Files<File = File> + Print + AllocGlobal + Clone + Drop>(
     request: &ListRequest,
 ) -> Result<Ending, Fault> {
     let folder = open(rt, request.folder)?;
-    list_held(rt, request, folder.kept.replica())
+    let ending = list_held(rt, request, folder.kept.replica());
+    drop(folder);
+    ending
 }
 
 fn list_held<R: Files<File = File> + Print + AllocGlobal>(
@@ -33,15 +35,16 @@ fn list_held<R: Files<File = File> + Print + AllocGlobal>(
 ) -> Result<Ending, Fault> {
     let mut output = BufWriter::new(rt.alloc(), io::writer(rt))?;
     let end = if request.ends_in_zero { "\0" } else { "\n" };
-    print_list(
+    let printed = print_list(
         rt,
         request.folder,
         replica,
         request.filter.as_ref(),
         end,
         &mut output,
-    )?;
-    flush(&mut output)
+    );
+    finish(output, printed)?;
+    Ok(Ending::Done)
 }
 
 /// `show`: tells what a version says.
@@ -51,7 +54,9 @@ pub fn show_version<R: Files<File = File> + Print + AllocGlobal + Clone + Drop>(
     version: Version,
 ) -> Result<Ending, Fault> {
     let folder = open(rt, root)?;
-    show_held(rt, root, folder.kept.replica(), version)
+    let ending = show_held(rt, root, folder.kept.replica(), version);
+    drop(folder);
+    ending
 }
 
 fn show_held<R: Files<File = File> + Print + AllocGlobal>(
@@ -61,8 +66,9 @@ fn show_held<R: Files<File = File> + Print + AllocGlobal>(
     version: Version,
 ) -> Result<Ending, Fault> {
     let mut output = BufWriter::new(rt.alloc(), io::writer(rt))?;
-    print_version(rt, root, replica, version, &mut output)?;
-    flush(&mut output)
+    let printed = print_version(rt, root, replica, version, &mut output);
+    finish(output, printed)?;
+    Ok(Ending::Done)
 }
 
 /// `export`: writes a mail's file.
@@ -72,7 +78,9 @@ pub fn export_mail<R: Files<File = File> + Print + AllocGlobal + Clone + Drop>(
     version: Version,
 ) -> Result<Ending, Fault> {
     let folder = open(rt, root)?;
-    export_held(rt, root, folder.kept.replica(), version)
+    let ending = export_held(rt, root, folder.kept.replica(), version);
+    drop(folder);
+    ending
 }
 
 fn export_held<R: Files<File = File> + Print + AllocGlobal>(
@@ -82,8 +90,9 @@ fn export_held<R: Files<File = File> + Print + AllocGlobal>(
     version: Version,
 ) -> Result<Ending, Fault> {
     let mut output = io::writer(rt);
-    print_mail(rt, root, replica, version, &mut output)?;
-    flush(&mut output)
+    let printed = print_mail(rt, root, replica, version, &mut output);
+    finish(output, printed)?;
+    Ok(Ending::Done)
 }
 
 /// `log`: lists all events.
@@ -92,13 +101,16 @@ pub fn log_events<R: Files<File = File> + Print + AllocGlobal + Clone + Drop>(
     root: &str,
 ) -> Result<Ending, Fault> {
     let folder = open(rt, root)?;
-    log_held(rt, folder.kept.replica())
+    let ending = log_held(rt, folder.kept.replica());
+    drop(folder);
+    ending
 }
 
 fn log_held<R: Print + AllocGlobal>(rt: &R, replica: &FolderReplica) -> Result<Ending, Fault> {
     let mut output = BufWriter::new(rt.alloc(), io::writer(rt))?;
-    print_log(rt.alloc(), replica, &mut output)?;
-    flush(&mut output)
+    let printed = print_log(rt.alloc(), replica, &mut output);
+    finish(output, printed)?;
+    Ok(Ending::Done)
 }
 
 /// `log` of a version: lists what is told of its mail.
@@ -108,7 +120,9 @@ pub fn log_history<R: Files<File = File> + Print + AllocGlobal + Clone + Drop>(
     version: Version,
 ) -> Result<Ending, Fault> {
     let folder = open(rt, root)?;
-    log_held_of(rt, folder.kept.replica(), version)
+    let ending = log_held_of(rt, folder.kept.replica(), version);
+    drop(folder);
+    ending
 }
 
 fn log_held_of<R: Print + AllocGlobal>(
@@ -117,8 +131,9 @@ fn log_held_of<R: Print + AllocGlobal>(
     version: Version,
 ) -> Result<Ending, Fault> {
     let mut output = BufWriter::new(rt.alloc(), io::writer(rt))?;
-    print_history(rt.alloc(), replica, version, &mut output)?;
-    flush(&mut output)
+    let printed = print_history(rt.alloc(), replica, version, &mut output);
+    finish(output, printed)?;
+    Ok(Ending::Done)
 }
 
 /// `verify`: reads each file again.
@@ -127,7 +142,9 @@ pub fn verify_files<R: Files<File = File> + Print + Eprint + AllocGlobal + Clone
     root: &str,
 ) -> Result<Ending, Fault> {
     let folder = open(rt, root)?;
-    verify_held(rt, root, folder.kept.replica())
+    let ending = verify_held(rt, root, folder.kept.replica());
+    drop(folder);
+    ending
 }
 
 fn verify_held<R: Files<File = File> + Print + Eprint + AllocGlobal>(
@@ -136,9 +153,8 @@ fn verify_held<R: Files<File = File> + Print + Eprint + AllocGlobal>(
     replica: &FolderReplica,
 ) -> Result<Ending, Fault> {
     let mut output = BufWriter::new(rt.alloc(), io::writer(rt))?;
-    let verified = verify(rt, root, replica, &mut output)?;
-    flush(&mut output)?;
-    tell_verified(rt, verified)
+    let verified = verify(rt, root, replica, &mut output);
+    tell_verified(rt, finish(output, verified)?)
 }
 
 /// Tells how many files are as they should be.
@@ -157,8 +173,9 @@ fn tell_verified<R: Eprint>(rt: &R, verified: Verified) -> Result<Ending, Fault>
     })
 }
 
-/// Hands over what was written.
-fn flush<W: Write>(output: &mut W) -> Result<Ending, Fault> {
+/// Hands over what was written, if all was.
+fn finish<W: Write + Drop, T: Drop>(mut output: W, written: Result<T, Fault>) -> Result<T, Fault> {
+    let written = written?;
     output.flush().map_err(Fault::Output)?;
-    Ok(Ending::Done)
+    Ok(written)
 }

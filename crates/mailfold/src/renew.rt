@@ -23,8 +23,10 @@ where
     let RenewRequest { folder, id, filter } = request;
     check_made(rt, folder)?;
     // the log stays locked until the new one is in its place
-    let _lock = locked_log(rt, folder)?;
-    renew_locked(rt, folder, id, filter)
+    let lock = locked_log(rt, folder)?;
+    let ending = renew_locked(rt, folder, id, filter);
+    drop(lock);
+    ending
 }
 
 /// The same, once the log is locked.
@@ -32,11 +34,12 @@ fn renew_locked<R>(rt: &R, root: &str, id: Author, filter: Option<Filter>) -> Re
 where
     R: Files<File = File> + RandomSource + Eprint + AllocGlobal + Clone + Drop,
 {
-    let old = told_log(rt, root)?;
-    check_unused(rt, root, &old, id)?;
+    let old = unused_log(rt, root, id)?;
     let filter = filter_for(rt.alloc(), filter, &old)?;
     let kept = begun(rt, root, id, filter)?;
-    put_begun(rt, root, &kept)
+    let ending = put_begun(rt, root, &kept);
+    drop(kept);
+    ending
 }
 
 /// Puts the log of the new replica in the place of the old one, which is kept, and tells so.
@@ -49,6 +52,17 @@ fn put_begun<R: Files<File = File> + Eprint + AllocGlobal>(
     put_in_place(rt, root)?;
     tell_renewed(rt, kept, number)?;
     Ok(Ending::Done)
+}
+
+/// What the folder's log tells, where no log of the folder is of this id.
+fn unused_log<R: Files<File = File> + AllocGlobal>(
+    rt: &R,
+    root: &str,
+    id: Author,
+) -> Result<OldLog, Fault> {
+    let log = told_log(rt, root)?;
+    check_unused(rt, root, &log, id)?;
+    Ok(log)
 }
 
 /// Whether no log of the folder is of this id.

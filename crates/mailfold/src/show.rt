@@ -23,16 +23,18 @@ pub fn print_version<R: Files<File = File> + AllocGlobal, W: Write>(
     let alloc = rt.alloc();
     let revision = held(replica, version)?;
     let header = header_of(rt, root, revision)?;
-    let texts = [
-        place_lines(alloc, revision)?,
-        file_lines(alloc, revision.message())?,
-        header_lines(alloc, &header)?,
-    ];
-    for text in &texts {
-        let text = text.as_str();
-        write!(output, "{text}").map_err(Fault::Output)?;
-    }
-    Ok(())
+    let text = version_text(alloc, revision, &header)?;
+    let text = text.as_str();
+    write!(output, "{text}").map_err(Fault::Output)
+}
+
+/// The lines of a version.
+fn version_text(alloc: Global, revision: &Revision, header: &Header) -> Result<String, AllocError> {
+    let mut lines = String::new(alloc);
+    push_place(&mut lines, alloc, revision)?;
+    push_file(&mut lines, alloc, revision.message())?;
+    push_header(&mut lines, alloc, header)?;
+    Ok(lines)
 }
 
 /// Writes the file of a held version's mail. It is read whole, and compared with its digest before.
@@ -63,56 +65,72 @@ pub fn held(replica: &Replica<SparingKnowledge>, version: Version) -> Result<&Re
     }
 }
 
-/// The lines of a version and of its place.
-fn place_lines(alloc: Global, revision: &Revision) -> Result<String, AllocError> {
+/// Appends the lines of a version and of its place.
+fn push_place(lines: &mut String, alloc: Global, revision: &Revision) -> Result<(), AllocError> {
     let message = revision.message();
-    let version = revision.version().text(alloc)?;
-    let item = revision.item().creator().text(alloc)?;
-    let labels = labels_text(alloc, message.labels())?;
-    let flags = flags_text(alloc, message.flags())?;
-    let day = message.day().text(alloc)?;
-    let mut lines = field(alloc, "version", version.as_str())?;
-    for (name, value) in [
-        ("item", item),
-        ("labels", labels),
-        ("flags", flags),
-        ("day", day),
-    ] {
-        lines.push_str(field(alloc, name, value.as_str())?.as_str())?;
-    }
-    Ok(lines)
+    push_text(lines, alloc, "version", revision.version().text(alloc)?)?;
+    push_text(lines, alloc, "item", revision.item().creator().text(alloc)?)?;
+    push_text(
+        lines,
+        alloc,
+        "labels",
+        labels_text(alloc, message.labels())?,
+    )?;
+    push_text(lines, alloc, "flags", flags_text(alloc, message.flags())?)?;
+    push_text(lines, alloc, "day", message.day().text(alloc)?)
 }
 
-/// The lines of a mail's file; none where the message is of no mail's file.
-fn file_lines(alloc: Global, message: &Message) -> Result<String, AllocError> {
+/// Appends the lines of a mail's file; none where the message is of no mail's file.
+fn push_file(lines: &mut String, alloc: Global, message: &Message) -> Result<(), AllocError> {
     match read_reference(message.body()) {
-        Some(reference) => reference_lines(alloc, &reference),
-        None => Ok(String::new(alloc)),
+        Some(reference) => push_reference(lines, alloc, &reference),
+        None => Ok(()),
     }
 }
 
-fn reference_lines(alloc: Global, reference: &MailReference) -> Result<String, AllocError> {
-    let digest = hex::encode(alloc, reference.digest)?;
-    let size = format!(in alloc; "{}", reference.size)?;
-    let mut lines = field(alloc, "sha256", digest.as_str())?;
-    lines.push_str(field(alloc, "size", size.as_str())?.as_str())?;
-    if let Some(name) = told_name(reference.lines) {
-        lines.push_str(field(alloc, "name", name)?.as_str())?;
+fn push_reference(
+    lines: &mut String,
+    alloc: Global,
+    reference: &MailReference,
+) -> Result<(), AllocError> {
+    push_text(
+        lines,
+        alloc,
+        "sha256",
+        hex::encode(alloc, reference.digest)?,
+    )?;
+    push_text(
+        lines,
+        alloc,
+        "size",
+        format!(in alloc; "{}", reference.size)?,
+    )?;
+    match told_name(reference.lines) {
+        Some(name) => push_line(lines, alloc, "name", name),
+        None => Ok(()),
     }
-    Ok(lines)
 }
 
-/// The lines of a mail's header.
-fn header_lines(alloc: Global, header: &Header) -> Result<String, AllocError> {
-    let mut lines = field(alloc, "from", header.from.as_str())?;
-    lines.push_str(field(alloc, "subject", header.subject.as_str())?.as_str())?;
-    lines.push_str(field(alloc, "message-id", header.message_id.as_str())?.as_str())?;
-    Ok(lines)
+/// Appends the lines of a mail's header.
+fn push_header(lines: &mut String, alloc: Global, header: &Header) -> Result<(), AllocError> {
+    push_line(lines, alloc, "from", header.from.as_str())?;
+    push_line(lines, alloc, "subject", header.subject.as_str())?;
+    push_line(lines, alloc, "message-id", header.message_id.as_str())
 }
 
-/// A line of a name and a value, as a terminal may show it.
-fn field(alloc: Global, name: &str, value: &str) -> Result<String, AllocError> {
+fn push_text(
+    lines: &mut String,
+    alloc: Global,
+    name: &str,
+    value: String,
+) -> Result<(), AllocError> {
+    push_line(lines, alloc, name, value.as_str())
+}
+
+/// Appends a line of a name and a value, as a terminal may show it.
+fn push_line(lines: &mut String, alloc: Global, name: &str, value: &str) -> Result<(), AllocError> {
     let value = printable(alloc, value)?;
     let value = value.as_str();
-    format!(in alloc; "{name} {value}\n")
+    let line = format!(in alloc; "{name} {value}\n")?;
+    lines.push_str(line.as_str())
 }

@@ -6,7 +6,7 @@ use crate::heads::count_mails;
 use crate::passed_over::tell_passed_over;
 use jiff::Timestamp;
 use mr_compare::{Meeting, tally_of};
-use mr_fold::{FoldFault, OpenFolder, look_if_changed, open};
+use mr_fold::{FoldFault, Looked, OpenFolder, StrayMails, look_if_changed, open};
 use mr_itemset::SparingKnowledge;
 use mr_maildir::printable;
 use mr_replica::Replica;
@@ -22,7 +22,9 @@ pub fn print_status<R: Files<File = File> + Print + Eprint + AllocGlobal + Clone
     is_short: bool,
 ) -> Result<Ending, Fault> {
     let mut folder = open(rt, root)?;
-    print_opened(rt, root, &mut folder, is_short)
+    let ending = print_opened(rt, root, &mut folder, is_short);
+    drop(folder);
+    ending
 }
 
 fn print_opened<R: Files<File = File> + Print + Eprint + AllocGlobal + Clone + Drop>(
@@ -50,17 +52,27 @@ fn plan_text<R: Files<File = File> + Eprint + AllocGlobal + Clone + Drop>(
 ) -> Result<String, Fault> {
     match look_if_changed(rt, root, folder) {
         Ok(looked) => {
-            tell_passed_over(rt, &looked.passed_over)?;
-            tell_edited(rt, looked.edited)?;
-            let tally = tally_of(&looked.acts);
-            Ok(format!(in rt.alloc(); "{tally}")?)
+            let text = looked_text(rt, &looked);
+            drop(looked);
+            text
         }
-        Err(FoldFault::PassedOver(mails)) => {
-            let text = format!(in rt.alloc(); "nothing, as {mails}")?;
-            Ok(printable(rt.alloc(), text.as_str())?)
-        }
+        Err(FoldFault::PassedOver(mails)) => Ok(straying_text(rt.alloc(), mails)?),
         Err(fault) => Err(Fault::Folder(fault)),
     }
+}
+
+/// What a scan would do by what was seen.
+fn looked_text<R: Eprint + AllocGlobal>(rt: &R, looked: &Looked) -> Result<String, Fault> {
+    tell_passed_over(rt, &looked.passed_over)?;
+    tell_edited(rt, looked.edited)?;
+    let tally = tally_of(&looked.acts);
+    Ok(format!(in rt.alloc(); "{tally}")?)
+}
+
+/// That a scan would do nothing, as it would delete these mails.
+fn straying_text(alloc: Global, mails: StrayMails) -> Result<String, AllocError> {
+    let text = format!(in alloc; "nothing, as {mails}")?;
+    printable(alloc, text.as_str())
 }
 
 /// How many mails are held, and what a scan would do.

@@ -5,16 +5,18 @@ use crate::edited::tell_edited_by;
 use crate::ending::Ending;
 use crate::fault::Fault;
 use crate::full_log::warn_of_full_log;
-use crate::late::{Late, Opens};
+use crate::late::Opens;
 use crate::noted::{RestNote, note_hellos, noted, put_hellos};
-use crate::opener::{Aside, DiskHost, Opener, folder_of, host_of};
+use crate::opener::{
+    DiskLate, DiskWatched, fault_of, folder_again, late_closed, late_open, open_watched,
+};
 use crate::passed_over::tell_passed_over_by;
 use crate::progress::{Ticker, clear_step, show_step};
 use crate::tallies::nothing;
 use crate::told::{Told, tell_fault, tell_sync, tell_system};
 use crate::watched::Watched;
 use mr_compare::{Digest, Tally};
-use mr_fold::{OpenFolder, Settled, lock, open_locked};
+use mr_fold::{OpenFolder, Settled, lock};
 use mr_folder::FileTree;
 use mr_journal::{Device, DiskFile};
 use mr_sync::{FolderHost, Hellos, Summary};
@@ -44,11 +46,7 @@ where
             clear_step(rt, is_watched);
             sync_noted(rt, root, log, noted, role, is_watched)
         }
-        None => {
-            let begun = opened_and_scanned(rt, root, log, role);
-            clear_step(rt, is_watched);
-            sync_begun(rt, root, begun?, role, is_watched)
-        }
+        None => sync_open(rt, root, log, role, is_watched),
     }
 }
 
@@ -64,62 +62,40 @@ fn sync_noted<R>(
 where
     R: Files<File = File> + Input + Print + Eprint + Clock + AllocGlobal + Clone + Drop,
 {
-    let RestNote {
-        id,
-        passed_over,
-        talks,
-    } = noted;
-    tell_passed_over_by(rt, id, &passed_over)?;
-    let before = Before {
-        id,
-        tally: nothing(),
-        is_fresh: false,
-    };
-    let late = Late::new(Opener::new(rt, root, Some(log), None), None, talks);
-    let wanted = BTreeSet::new(rt.alloc());
-    sync_late(rt, root, late, before, role, &wanted, is_watched)
+    match tell_noted(rt, &noted) {
+        Ok(begun) => {
+            let late = late_closed(rt, root, log, noted);
+            sync_late(rt, root, late, &begun, role, is_watched)
+        }
+        Err(fault) => {
+            drop(log);
+            Err(fault)
+        }
+    }
 }
 
-/// Syncs a folder that was opened and scanned.
-fn sync_begun<R>(
+/// Syncs a folder that has to be opened, and is scanned before it talks.
+fn sync_open<R>(
     rt: &R,
     root: &str,
-    begun: Begun<R>,
+    log: DiskFile,
     role: Role,
     is_watched: bool,
 ) -> Result<Ending, Fault>
 where
     R: Files<File = File> + Input + Print + Eprint + Clock + AllocGlobal + Clone + Drop,
 {
-    let before = tell_before(rt, &begun)?;
-    let Begun { folder, .. } = begun;
-    let wanted = lacking_mails(rt.alloc(), folder.kept.replica(), &folder.shown)?;
-    let (host, aside) = host_of(folder);
-    let opener = Opener::new(rt, root, None, Some(aside));
-    let late = Late::new(opener, Some(host), Vec::new(rt.alloc()));
-    sync_late(rt, root, late, before, role, &wanted, is_watched)
-}
-
-/// Talks for a folder that is open, or will be once it has to, and shows what came.
-fn sync_late<R>(
-    rt: &R,
-    root: &str,
-    late: Late<DiskHost<R>, Opener<R>>,
-    before: Before,
-    role: Role,
-    wanted: &BTreeSet<Digest>,
-    is_watched: bool,
-) -> Result<Ending, Fault>
-where
-    R: Files<File = File> + Input + Print + Eprint + Clock + AllocGlobal + Clone + Drop,
-{
-    let ticker = Ticker::new(rt, is_watched);
-    let mut watched = Watched { late, ticker };
-    let (now, fault) = talk(rt, &mut watched, role, wanted)?;
-    clear_step(rt, is_watched);
-    let Watched { late, .. } = watched;
-    let (folder, talked) = ended(late, fault, now)?;
-    end_sync(rt, root, folder, before, talked, is_watched)
+    let mut folder = open_watched(rt, root, log, is_watched)?;
+    match begin(rt, root, &mut folder, role, is_watched) {
+        Ok(begun) => {
+            let late = late_open(rt, root, folder);
+            sync_late(rt, root, late, &begun, role, is_watched)
+        }
+        Err(fault) => {
+            drop(folder);
+            Err(fault)
+        }
+    }
 }
 
 /// What was done before a talk.
@@ -132,68 +108,177 @@ struct Before {
     is_fresh: bool,
 }
 
-/// A folder that was opened, and scanned before it talks.
+/// What a talk begins with.
 #[derive(Drop)]
-struct Begun<R> {
-    folder: OpenFolder<R>,
-    settled: Settled,
-    /// Whether it was never scanned before.
-    is_fresh: bool,
+struct Begun {
+    before: Before,
+    /// The files that the folder lacks from before.
+    wanted: BTreeSet<Digest>,
 }
 
-/// Opens the folder, which is locked by its log's file, and scans it.
-fn opened_and_scanned<R>(rt: &R, root: &str, log: DiskFile, role: Role) -> Result<Begun<R>, Fault>
+/// Tells what isn't shown of a folder that rests.
+fn tell_noted<R: Eprint + AllocGlobal>(rt: &R, noted: &RestNote) -> Result<Begun, Fault> {
+    tell_passed_over_by(rt, noted.id, &noted.passed_over)?;
+    let before = Before {
+        id: noted.id,
+        tally: nothing(),
+        is_fresh: false,
+    };
+    let wanted = BTreeSet::new(rt.alloc());
+    Ok(Begun { before, wanted })
+}
+
+/// Scans an open folder, and finds which files it lacks from before.
+fn begin<R>(
+    rt: &R,
+    root: &str,
+    folder: &mut OpenFolder<R>,
+    role: Role,
+    is_watched: bool,
+) -> Result<Begun, Fault>
 where
-    R: Files<File = File> + AllocGlobal + Clone + Drop,
+    R: Files<File = File> + Eprint + AllocGlobal + Clone + Drop,
 {
-    let mut folder = open_locked(rt, root, log)?;
+    let before = scan_before(rt, root, folder, role, is_watched)?;
+    let wanted = lacking_mails(rt.alloc(), folder.kept.replica(), &folder.shown)?;
+    Ok(Begun { before, wanted })
+}
+
+/// Scans an open folder before it talks, and tells what that passed over, and what was edited.
+fn scan_before<R>(
+    rt: &R,
+    root: &str,
+    folder: &mut OpenFolder<R>,
+    role: Role,
+    is_watched: bool,
+) -> Result<Before, Fault>
+where
+    R: Files<File = File> + Eprint + AllocGlobal + Clone + Drop,
+{
     let is_fresh = role == Role::Caller && folder.kept.replica().log().is_empty();
-    let settled = scanned(rt, root, &mut folder, is_fresh)?;
-    Ok(Begun {
-        folder,
-        settled,
-        is_fresh,
-    })
+    let settled = scanned(rt, root, folder, is_fresh);
+    clear_step(rt, is_watched);
+    tell_before(rt, folder.kept.replica().id().id(), &settled?, is_fresh)
 }
 
 /// Tells what a scan before a talk passed over, and what was edited.
-fn tell_before<R: Eprint + AllocGlobal>(rt: &R, begun: &Begun<R>) -> Result<Before, Fault> {
-    let Begun {
-        folder,
-        settled,
-        is_fresh,
-    } = begun;
-    let id = folder.kept.replica().id().id();
+fn tell_before<R: Eprint + AllocGlobal>(
+    rt: &R,
+    id: u16,
+    settled: &Settled,
+    is_fresh: bool,
+) -> Result<Before, Fault> {
     tell_passed_over_by(rt, id, &settled.passed_over)?;
     tell_edited_by(rt, id, settled.edited)?;
     Ok(Before {
         id,
         tally: settled.tally,
-        is_fresh: *is_fresh,
+        is_fresh,
     })
 }
 
-/// Shows what came where the folder is open, and tells what the sync did, or why the talk did not come to its end.
-fn end_sync<R>(
+/// Talks for a folder that is open, or will be once it has to, shows what came, and tells what the sync did.
+fn sync_late<R>(
     rt: &R,
     root: &str,
-    folder: Option<OpenFolder<R>>,
-    before: Before,
-    talked: Talked,
+    late: DiskLate<R>,
+    begun: &Begun,
+    role: Role,
     is_watched: bool,
 ) -> Result<Ending, Fault>
 where
-    R: Files<File = File> + Eprint + AllocGlobal + Clone + Drop,
+    R: Files<File = File> + Input + Print + Eprint + Clock + AllocGlobal + Clone + Drop,
 {
-    let after = match folder {
-        Some(mut folder) => end_open(rt, root, &mut folder, before, &talked, is_watched),
-        None => Ok(nothing()),
-    };
-    let Talked { summary, fault, .. } = talked;
+    let ticker = Ticker::new(rt, is_watched);
+    let mut watched = Watched { late, ticker };
+    let ended = talk_and_show(rt, root, &mut watched, begun, role, is_watched);
+    // the folder is unlocked before the sync is told of
+    drop(watched);
+    tell_ended(rt, begun.before, ended?)
+}
+
+/// What a talk came to, and what was done after it.
+#[derive(Drop)]
+struct Ended {
+    summary: Summary,
+    /// Why the talk didn't come to its end.
+    fault: Option<Fault>,
+    after: Result<Tally, Fault>,
+}
+
+/// Talks, and shows what came.
+fn talk_and_show<R>(
+    rt: &R,
+    root: &str,
+    watched: &mut DiskWatched<R>,
+    begun: &Begun,
+    role: Role,
+    is_watched: bool,
+) -> Result<Ended, Fault>
+where
+    R: Files<File = File> + Input + Print + Eprint + Clock + AllocGlobal + Clone + Drop,
+{
+    let (now, fault) = talk(rt, watched, role, &begun.wanted)?;
+    clear_step(rt, is_watched);
+    let talked = talked_of(&mut watched.late, fault.is_none(), now);
+    let after = show_talked(
+        rt,
+        root,
+        &mut watched.late,
+        begun.before,
+        &talked,
+        is_watched,
+    );
+    Ok(Ended {
+        summary: talked.summary,
+        fault,
+        after,
+    })
+}
+
+/// Tells what a sync did, or why the talk did not come to its end.
+fn tell_ended<R: Eprint + AllocGlobal>(
+    rt: &R,
+    before: Before,
+    ended: Ended,
+) -> Result<Ending, Fault> {
+    let Ended {
+        summary,
+        fault,
+        after,
+    } = ended;
     match fault {
         Some(fault) => Err(cut_off(rt, after, fault)),
         None => tell_whole(rt, before, after, &summary),
     }
+}
+
+/// Shows what came where the folder is open, which is closed then.
+fn show_talked<R>(
+    rt: &R,
+    root: &str,
+    late: &mut DiskLate<R>,
+    before: Before,
+    talked: &Talked,
+    is_watched: bool,
+) -> Result<Tally, Fault>
+where
+    R: Files<File = File> + Eprint + AllocGlobal + Clone + Drop,
+{
+    let Some(mut folder) = folder_again(late) else {
+        return Ok(nothing());
+    };
+    let tally = end_open(
+        rt,
+        root,
+        &mut folder,
+        before,
+        talked,
+        &late.talks,
+        is_watched,
+    );
+    drop(folder);
+    tally
 }
 
 /// Shows what came, and notes the hellos of a talk with nothing to tell.
@@ -203,6 +288,7 @@ fn end_open<R>(
     folder: &mut OpenFolder<R>,
     before: Before,
     talked: &Talked,
+    talks: &[Hellos],
     is_watched: bool,
 ) -> Result<Tally, Fault>
 where
@@ -210,7 +296,7 @@ where
 {
     let tally = show_after(rt, folder, talked, before.is_fresh, is_watched)?;
     if !before.is_fresh {
-        note_hellos(rt, root, folder, &talked.idle);
+        note_hellos(rt, root, folder, talks);
     }
     Ok(tally)
 }
@@ -226,7 +312,7 @@ fn show_after<R>(
 where
     R: Files<File = File> + Eprint + AllocGlobal + Clone + Drop,
 {
-    if talked.fault.is_some() {
+    if !talked.is_whole {
         tell_system(rt, "files", folder.tree.error());
         tell_system(rt, "log", folder.kept.journal().device().error());
     }
@@ -240,15 +326,12 @@ where
 }
 
 /// Why the sync did not come to its end. A fault of what was done after the talk is told here.
-fn cut_off<R: Eprint + AllocGlobal>(
-    rt: &R,
-    after: Result<Tally, Fault>,
-    fault: TalkFault,
-) -> Fault {
-    if let Err(other) = after {
-        tell_fault(rt, &other);
+fn cut_off<R: Eprint + AllocGlobal>(rt: &R, after: Result<Tally, Fault>, fault: Fault) -> Fault {
+    if let Err(other) = &after {
+        tell_fault(rt, other);
     }
-    Fault::Talk(fault)
+    drop(after);
+    fault
 }
 
 /// Tells what a sync did that came to its end.
@@ -273,94 +356,63 @@ fn tell_whole<R: Eprint>(
 /// Talks for the folder over the standard streams: when it began to, and why the talk didn't come to its end.
 fn talk<R>(
     rt: &R,
-    watched: &mut Watched<R, DiskHost<R>, Opener<R>>,
+    watched: &mut DiskWatched<R>,
     role: Role,
     wanted: &BTreeSet<Digest>,
-) -> Result<(u64, Option<TalkFault>), Fault>
+) -> Result<(u64, Option<Fault>), Fault>
 where
     R: Files<File = File> + Input + Print + Eprint + Clock + AllocGlobal + Clone + Drop,
 {
     let now = seconds(rt)?;
     let input = BufReader::with_capacity(rt.alloc(), STREAM_BYTES, rt.reader())?;
-    let output = BufWriter::with_capacity(rt.alloc(), STREAM_BYTES, io::writer(rt))?;
-    let mut line = Line::new(rt.alloc(), input, output);
+    let output = BufWriter::with_capacity(rt.alloc(), STREAM_BYTES, io::writer(rt));
+    let mut line = line_of(rt.alloc(), input, output)?;
     let fault = talk_over(rt.alloc(), &mut line, watched, role, wanted);
-    Ok((now, fault))
+    drop(line);
+    Ok((now, fault_of(&mut watched.late.opener, fault)))
 }
 
-/// What a talk came to that ended at this time, and the folder if it is open. A fault where it had to be opened and wasn't.
-fn ended<R>(
-    late: Late<DiskHost<R>, Opener<R>>,
-    fault: Option<TalkFault>,
-    now: u64,
-) -> Result<(Option<OpenFolder<R>>, Talked), Fault>
-where
-    R: Files<File = File> + AllocGlobal + Clone + Drop,
-{
-    let Late {
-        opener,
-        host,
-        talks,
-        ..
-    } = late;
-    let Opener {
-        rt,
-        aside,
-        fault: unopened,
-        ..
-    } = opener;
-    if let Some(fault) = unopened {
-        return Err(Fault::Folder(fault));
-    }
-    match (host, aside) {
-        (Some(host), Some(aside)) => {
-            let (folder, talked) = talked_of(host, aside, talks, fault, now);
-            Ok((Some(folder), talked))
-        }
-        _ => Ok((None, Talked::closed(rt.alloc(), fault))),
-    }
-}
-
-/// What a talk came to, and the folder. The hellos are put behind those of these talks.
-fn talked_of<R>(
-    host: DiskHost<R>,
-    aside: Aside,
-    talks: Vec<Hellos>,
-    fault: Option<TalkFault>,
-    now: u64,
-) -> (OpenFolder<R>, Talked)
-where
-    R: Files<File = File> + AllocGlobal + Clone + Drop,
-{
-    let push_outs_told = aside.push_outs_told;
-    let meeting = host.met(now);
-    let idle = idle_talks(aside.alloc, &host, talks, fault.is_none());
-    let (folder, summary) = folder_of(host, aside);
-    let talked = Talked {
-        summary,
-        meeting,
-        fault,
-        push_outs_told,
-        idle,
-    };
-    (folder, talked)
-}
-
-/// These talks, and the one that the folder has had, if that was a whole one with nothing to tell; else none.
-fn idle_talks<D: Device + Drop, F: FileTree + Drop>(
+/// The line of what is read and what is written.
+fn line_of<I: Read + Drop, O: Write + Drop>(
     alloc: Global,
+    input: I,
+    output: io::Result<O>,
+) -> io::Result<Line<I, O>> {
+    Ok(Line::new(alloc, input, output?))
+}
+
+/// What a talk came to that ended at this time. Its hellos are put behind those of the noted talks if it was a whole one with nothing to tell;
+/// else these go.
+fn talked_of<R>(late: &mut DiskLate<R>, is_whole: bool, now: u64) -> Talked
+where
+    R: Files<File = File> + AllocGlobal + Clone + Drop,
+{
+    let (Some(host), Some(aside)) = (&late.host, &late.opener.aside) else {
+        return Talked::closed(is_whole);
+    };
+    put_idle(host, &mut late.talks, is_whole);
+    Talked {
+        summary: host.summary(),
+        meeting: host.met(now),
+        is_whole,
+        push_outs_told: aside.push_outs_told,
+    }
+}
+
+/// Puts the hellos of the talk that the folder has had, if that was a whole one with nothing to tell; else the others go.
+fn put_idle<D: Device + Drop, F: FileTree + Drop>(
     host: &FolderHost<D, F>,
-    mut talks: Vec<Hellos>,
+    talks: &mut Vec<Hellos>,
     is_whole: bool,
-) -> Vec<Hellos> {
+) {
     if is_whole
         && host.summary().is_idle
         && let Ok(Some(hellos)) = host.idle_hellos()
     {
-        put_hellos(&mut talks, hellos);
-        return talks;
+        put_hellos(talks, hellos);
+    } else {
+        talks.clear();
     }
-    Vec::new(alloc)
 }
 
 /// Talks over the line, and wants these files too. Tells why the talk didn't come to its end.
