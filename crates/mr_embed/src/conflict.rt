@@ -31,7 +31,9 @@ pub fn merge(
     item: ItemId,
 ) -> Result<(Version, Vec<Version>), Fault> {
     let heads = heads_of(alloc, device, item)?;
-    merge_heads(alloc, device, &heads)
+    let merged = merge_heads(alloc, device, &heads);
+    drop(heads);
+    merged
 }
 
 /// Makes one version of these heads.
@@ -40,22 +42,42 @@ fn merge_heads(
     device: &mut Device,
     heads: &[Revision],
 ) -> Result<(Version, Vec<Version>), Fault> {
-    let bases = versions(alloc, heads)?;
     let message = merged(alloc, device, heads)?;
-    let version = device.edit(bases.to_vec(alloc)?, message)?;
-    Ok((version, bases))
+    let version = device.edit(versions(alloc, heads)?, message)?;
+    Ok((version, versions(alloc, heads)?))
 }
 
 /// The message that the heads are together.
 fn merged(alloc: Global, device: &Device, heads: &[Revision]) -> Result<Message, Fault> {
     let told = told(alloc, device)?;
-    let ancestors = newest_common_ancestors(alloc, &told, heads)?;
+    let ancestors = newest_common_ancestors(alloc, &told, heads);
+    drop(told);
+    merged_over(alloc, &ancestors?, heads)
+}
+
+/// The message that the heads are together, over these newest common ancestors: at most one.
+fn merged_over(
+    alloc: Global,
+    ancestors: &[Revision],
+    heads: &[Revision],
+) -> Result<Message, Fault> {
+    let ancestor = ancestors.first().map(|ancestor| ancestor.message());
     let messages = messages(alloc, heads)?;
+    let merged = merged_message(alloc, ancestor, &messages);
+    drop(messages);
+    merged
+}
+
+/// The message that these are together, over their ancestor.
+fn merged_message(
+    alloc: Global,
+    ancestor: Option<&Message>,
+    messages: &[Message],
+) -> Result<Message, Fault> {
     if messages.is_empty() {
         return Err(Fault::NoHead);
     }
-    let ancestor = ancestors.first().map(|ancestor| ancestor.message());
-    let place = merged_place(alloc, ancestor, &messages)?;
+    let place = merged_place(alloc, ancestor, messages)?;
     with_place(alloc, &messages[0], place)
 }
 

@@ -4,12 +4,12 @@ use crate::hello::{met_in, note_of};
 use crate::mail::Draft;
 use crate::place::{birth, mark_of, setup_of};
 use crate::wire::Wire;
-use mr_entry::Birth;
+use mr_entry::{Birth, Mark, Note};
 use mr_feed::Entry;
 use mr_filter::Filter;
 use mr_itemset::SparingKnowledge;
 use mr_journal::DiskFile;
-use mr_kept::{Journaled, KeptFault};
+use mr_kept::{Journaled, KeptFault, OpenFault};
 use mr_mail::Message;
 use mr_replica::{Bases, Received, Replica, Reply, Revision};
 use mr_version::{Author, Version};
@@ -62,33 +62,34 @@ impl Device {
         filter: Filter,
         birth: Birth,
     ) -> Result<Device, Fault> {
-        let alloc = rt.alloc();
-        let file = DiskFile::open(rt, path)?;
-        let setup = setup_of(id, filter, birth, mark_of(&file)?);
-        match Kept::begin(alloc, file, setup) {
-            Ok(kept) => Ok(Device {
-                alloc,
-                kept,
-                met: Vec::new(alloc),
-            }),
-            Err((fault, _file)) => Err(Fault::Open(fault.number())),
-        }
+        let (file, mark) = file_at(rt, path)?;
+        let setup = setup_of(id, filter, birth, mark);
+        let kept = opened(Kept::begin(rt.alloc(), file, setup))?;
+        Ok(Device::of(rt.alloc(), kept))
+    }
+
+    /// The device of this replica, which has met nobody yet.
+    fn of(alloc: Global, kept: Kept) -> Device {
+        let met = Vec::new(alloc);
+        Device { alloc, kept, met }
     }
 
     /// Opens the device again, from its file. What was open is closed.
     ///
     /// `File` where the file can't be opened, or another process has it open; `Open` where it is no journal of a replica, or was copied.
     pub fn open<R: Files<File = File> + AllocGlobal>(rt: &R, path: &str) -> Result<Device, Fault> {
-        let alloc = rt.alloc();
-        let file = DiskFile::open(rt, path)?;
-        let mark = mark_of(&file)?;
-        match Kept::open(alloc, file, &mark, None) {
-            Ok((kept, opened)) => {
-                let met = met_in(alloc, &opened.notes)?;
-                Ok(Device { alloc, kept, met })
-            }
-            Err((fault, _file)) => Err(Fault::Open(fault.number())),
-        }
+        let (file, mark) = file_at(rt, path)?;
+        let (kept, found) = opened(Kept::open(rt.alloc(), file, &mark, None))?;
+        let mut device = Device::of(rt.alloc(), kept);
+        let told = device.recall(&found.notes);
+        drop(found);
+        told.and(Ok(device))
+    }
+
+    /// Recalls from the notes of its journal whom it has met.
+    fn recall(&mut self, notes: &[Note]) -> Result<(), Fault> {
+        self.met = met_in(self.alloc, notes)?;
+        Ok(())
     }
 
     /// The replica, to be looked at.
@@ -231,6 +232,24 @@ impl Device {
     }
 }
 
+/// The file of this path, and where it is.
+fn file_at<R: Files<File = File> + AllocGlobal>(
+    rt: &R,
+    path: &str,
+) -> Result<(DiskFile, Mark), Fault> {
+    let file = DiskFile::open(rt, path)?;
+    let mark = mark_of(&file)?;
+    Ok((file, mark))
+}
+
+/// What was begun or opened. The file is closed where nothing was.
+fn opened<T: Drop, D: Drop>(outcome: Result<T, (OpenFault, D)>) -> Result<T, Fault> {
+    match outcome {
+        Ok(made) => Ok(made),
+        Err((fault, _file)) => Err(Fault::Open(fault.number())),
+    }
+}
+
 /// What was answered. (A refusal is named here, in a function that owns nothing else: the checker needs it so.)
 fn answered<T: Drop>(answer: Result<T, KeptFault>) -> Result<T, Fault> {
     match answer {
@@ -276,7 +295,7 @@ fn vouched(replies: &[Reply]) -> Result<&Receipt, Fault> {
 fn request(frame: Frame) -> Result<Ask, Fault> {
     match frame {
         Frame::Ask(ask) => Ok(ask),
-        _ => Err(Fault::OtherFrame),
+        other => Err(of_another_kind(other)),
     }
 }
 
@@ -284,6 +303,11 @@ fn request(frame: Frame) -> Result<Ask, Fault> {
 fn receipt(frame: Frame) -> Result<Receipt, Fault> {
     match frame {
         Frame::Receipt(receipt) => Ok(receipt),
-        _ => Err(Fault::OtherFrame),
+        other => Err(of_another_kind(other)),
     }
+}
+
+/// The fault of a frame that wasn't waited for.
+fn of_another_kind<T: Drop>(_frame: T) -> Fault {
+    Fault::OtherFrame
 }

@@ -26,8 +26,9 @@ impl Exchange {
         source: &mut Device,
     ) -> Result<Exchange, Fault> {
         let mut asks = Wire::new(alloc);
-        let session = target.ask(&mut asks)?;
-        let stream = source.answer(&mut asks)?;
+        let numbers = agree(target, source, &mut asks);
+        drop(asks);
+        let (session, stream) = numbers?;
         Ok(Exchange {
             wire: Wire::new(alloc),
             session,
@@ -37,7 +38,9 @@ impl Exchange {
 
     /// Records go until the last one, batch by batch, and it tells how many they were. The exchange is over.
     pub fn finish(mut self, target: &mut Device, source: &mut Device) -> Result<u32, Fault> {
-        self.give_all(target, source)
+        let records = self.give_all(target, source);
+        drop(self);
+        records
     }
 
     /// Records go until the last one.
@@ -75,7 +78,9 @@ impl Exchange {
         target: &mut Device,
         source: &mut Device,
     ) -> Result<u32, Fault> {
-        self.give_up_after(bytes, target, source)
+        let records = self.give_up_after(bytes, target, source);
+        drop(self);
+        records
     }
 
     /// A part of a batch goes, and both sides give up.
@@ -92,4 +97,11 @@ impl Exchange {
         source.cut_out(self.stream)?;
         Ok(records)
     }
+}
+
+/// The target asks over this connection, and the source opens a stream: the number of the session, and that of the stream.
+fn agree(target: &mut Device, source: &mut Device, asks: &mut Wire) -> Result<(u64, u64), Fault> {
+    let session = target.ask(asks)?;
+    let stream = source.answer(asks)?;
+    Ok((session, stream))
 }

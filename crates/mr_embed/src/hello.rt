@@ -30,9 +30,24 @@ pub struct Hello {
 /// `Peer` where one of them is an old copy, or there are two journals of one id: then nothing may be sent or taken.
 pub fn greet(alloc: Global, here: &mut Device, there: &mut Device) -> Result<bool, Fault> {
     let mine = told_by(alloc, here, there.replica().id())?;
+    let is_same = greet_back(alloc, here, there, &mine);
+    drop(mine);
+    is_same
+}
+
+/// The other tells too, and each hears what it is told.
+fn greet_back(
+    alloc: Global,
+    here: &mut Device,
+    there: &mut Device,
+    mine: &Hello,
+) -> Result<bool, Fault> {
     let theirs = told_by(alloc, there, here.replica().id())?;
-    hear(here, there, &mine, &theirs)?;
-    Ok(mine.digest == theirs.digest)
+    let is_same = mine.digest == theirs.digest;
+    let heard = hear(here, there, mine, &theirs);
+    drop(theirs);
+    heard?;
+    Ok(is_same)
 }
 
 /// Each hears what the other tells, and remembers it where both may sync.
@@ -45,19 +60,23 @@ fn hear(here: &mut Device, there: &mut Device, mine: &Hello, theirs: &Hello) -> 
 
 /// What the device tells one of this id.
 pub fn told_by(alloc: Global, device: &Device, other: Author) -> Result<Hello, Fault> {
-    let id = device.replica().id();
-    let birth = device.birth();
     let digest = knowledge_digest(alloc, device.replica())?;
     let highest = known_of(alloc, device, other)?;
-    let mut births = vec![in alloc; (id, birth)]?;
-    births.extend_from_slice(device.met())?;
+    let births = journals_of(alloc, device)?;
     Ok(Hello {
-        id,
-        birth,
+        id: device.replica().id(),
+        birth: device.birth(),
         births,
         highest,
         digest,
     })
+}
+
+/// The journal of the device, and those that it has met.
+fn journals_of(alloc: Global, device: &Device) -> Result<Vec<(Author, Birth)>, Fault> {
+    let mut births = vec![in alloc; (device.replica().id(), device.birth())]?;
+    births.extend_from_slice(device.met())?;
+    Ok(births)
 }
 
 /// The highest version of this author that the device knows, if it knows any.

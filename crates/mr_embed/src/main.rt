@@ -89,11 +89,14 @@ fn remove_files<R: Files<File = File>>(rt: &R) {
     }
 }
 
-/// The whole story. It opens the office, and the functions below the phone and its inbox: one value that owns
-/// much in each, as the proof of a function grows with the places where it lets such a value go.
+/// The whole story. It begins the phone, and the functions below its inbox and the office: one value that owns
+/// much in each, which lends it, and drops it by a call. The proof of a function grows with the places where such a value
+/// goes out of scope, and by much less where it is handed to `drop`.
 fn story<R: Files<File = File> + Print + AllocGlobal>(rt: &R) -> Result<(), Fault> {
     let mut phone = Device::begin(rt, PHONE, 1, "label:inbox")?;
-    with_screen(rt, &mut phone)
+    let told = with_screen(rt, &mut phone);
+    drop(phone);
+    told
 }
 
 /// The story from where the phone is there.
@@ -103,8 +106,19 @@ fn with_screen<R: Files<File = File> + Print + AllocGlobal>(
 ) -> Result<(), Fault> {
     cite_laws();
     let mut screen = Screen::new(rt.alloc())?;
-    begin_office(rt, phone, &mut screen)?;
-    go_on_with_office(rt, phone, &mut screen)?;
+    let told = all_days(rt, phone, &mut screen);
+    drop(screen);
+    told
+}
+
+/// The first day, the second, and a third on which the office is an old copy.
+fn all_days<R: Files<File = File> + Print + AllocGlobal>(
+    rt: &R,
+    phone: &mut Device,
+    screen: &mut Screen,
+) -> Result<(), Fault> {
+    begin_office(rt, phone, screen)?;
+    go_on_with_office(rt, phone, screen)?;
     meet_old_copy(rt, phone)
 }
 
@@ -115,7 +129,9 @@ fn begin_office<R: Files<File = File> + Print + AllocGlobal>(
     screen: &mut Screen,
 ) -> Result<(), Fault> {
     let mut office = Device::begin(rt, OFFICE, 0, "all")?;
-    first_day(rt, &mut office, phone, screen)
+    let told = first_day(rt, &mut office, phone, screen);
+    drop(office);
+    told
 }
 
 /// The first day, scene by scene.
@@ -144,7 +160,9 @@ fn go_on_with_office<R: Files<File = File> + Print + AllocGlobal>(
     screen: &mut Screen,
 ) -> Result<(), Fault> {
     let mut office = Device::open(rt, OFFICE)?;
-    second_day(rt, &mut office, phone, screen)
+    let told = second_day(rt, &mut office, phone, screen);
+    drop(office);
+    told
 }
 
 /// The second day, scene by scene.
@@ -276,6 +294,7 @@ fn bring_to_office<R: Print + AllocGlobal>(
 fn compare_with_its_log(alloc: Global, office: &Device) -> Result<(), Fault> {
     let copy = office.replica().copy()?;
     alike_are_one(&copy, office.replica());
+    drop(copy);
     Ok(())
 }
 
@@ -310,7 +329,9 @@ fn meet_old_copy<R: Files<File = File> + Print + AllocGlobal>(
 ) -> Result<(), Fault> {
     copy_file(rt, OLD_OFFICE, OFFICE)?;
     let mut office = Device::open(rt, OFFICE)?;
-    match greet(rt.alloc(), &mut office, phone) {
+    let met = greet(rt.alloc(), &mut office, phone);
+    drop(office);
+    match met {
         Ok(_) => Err(Fault::OtherReply),
         Err(fault) => tell_stranger(rt, "office, restored", fault),
     }

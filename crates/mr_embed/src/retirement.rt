@@ -21,8 +21,20 @@ pub fn hand_over(
         return Err(Fault::OnlyCopy);
     }
     let mut receipts = Wire::new(alloc);
-    office.vouch(kept, &mut receipts)?;
-    phone.release(&mut receipts)
+    let done = hand_over_by(&mut receipts, office, phone, kept);
+    drop(receipts);
+    done
+}
+
+/// The receipt goes over this connection.
+fn hand_over_by(
+    receipts: &mut Wire,
+    office: &mut Device,
+    phone: &mut Device,
+    kept: Version,
+) -> Result<(), Fault> {
+    office.vouch(kept, receipts)?;
+    phone.release(receipts)
 }
 
 /// Lets the phone retire, and tells it, or why it can't.

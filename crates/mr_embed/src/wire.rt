@@ -59,9 +59,6 @@ impl Wire {
 
     /// The next frame of what has come. `NoFrame` where its last byte is still to come; else faults are those of `next`.
     pub fn next_frame(&mut self) -> Result<Frame, Fault> {
-        match self.next()? {
-            Some(frame) => Ok(frame),
-            None => Err(Fault::NoFrame),
-        }
+        self.next()?.ok_or(Fault::NoFrame)
     }
 }
