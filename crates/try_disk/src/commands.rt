@@ -60,7 +60,10 @@ fn replica<J: Keeper, R: Files<File = File> + Print + AllocGlobal>(
     numbers: &[String],
 ) -> Result<()> {
     match (what, numbers) {
-        ("begin", []) => office::begin::<J>(rt.alloc(), disk_at(rt, path)?),
+        ("begin", []) => {
+            let setup = office::setup(rt.alloc())?;
+            office::begin::<J>(rt.alloc(), disk_at(rt, path)?, setup)
+        }
         ("read", []) => office::open::<J, R>(rt, disk_at(rt, path)?, 0, 0),
         ("write", [count, size]) => {
             let (count, size) = (number(count)?, number(size)?);

@@ -1,6 +1,6 @@
 //! Disks, by lines.
 use crate::disk::{Crash, Disk, Limits, NO_LIMITS};
-use crate::slot::{OnDisk, Slot, bytes_in, disk_in, next_slot, put_disk, set_disk, take_disk};
+use crate::slot::{OnDisk, Slot, bytes_in, disk_in, next_slot, put, put_disk, set_disk, take_disk};
 use crate::words::{next_byte, next_bytes, next_number, next_word, words_of};
 use anyhow::{Context, Result, bail};
 use std::alloc::Global;
@@ -81,7 +81,7 @@ pub fn put_bytes<J: OnDisk>(
 /// `close D`: what is open there ends. What waits for a commit is lost.
 fn close<J: OnDisk>(alloc: Global, slot: &mut Slot<J>) -> String {
     let disk = take_disk(slot);
-    slot.disk = disk;
+    put(&mut slot.disk, disk);
     String::new(alloc)
 }
 

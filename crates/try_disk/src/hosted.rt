@@ -23,13 +23,17 @@ const SUBJECTS: [&str; 2] = ["Agenda", "Coffee"];
 pub(crate) fn run<R: Print + AllocGlobal>(rt: &R) -> Result<()> {
     let alloc = rt.alloc();
     let mut tablet = Tablet::begin(alloc, setup(alloc)?)?;
-    keep(rt, &mut tablet)
+    let kept = keep(rt, &mut tablet);
+    drop(tablet);
+    kept
 }
 
 /// The tablet keeps what it writes, in a file that has no byte yet.
 fn keep<R: Print + AllocGlobal>(rt: &R, tablet: &mut Tablet) -> Result<()> {
     let mut file = MemoryDevice::new(rt.alloc(), Vec::new(rt.alloc()));
-    keep_in(rt, tablet, &mut file)
+    let kept = keep_in(rt, tablet, &mut file);
+    drop(file);
+    kept
 }
 
 /// The tablet keeps what it writes in this file, and each line tells what its host sees.
@@ -180,11 +184,18 @@ impl Found {
 
 /// What is found where the host was killed before each of the acts, in the middle of each write, and at their end.
 fn kill(alloc: Global, bytes: &[u8], acts: &[Act]) -> Result<Found> {
-    let mut found = Found { none: 0, both: 0 };
     let mut file = MemoryDevice::new(alloc, bytes.to_vec(alloc)?);
+    let found = kill_each(alloc, &mut file, acts);
+    drop(file);
+    found
+}
+
+/// What is found where the host was killed in these acts on a file.
+fn kill_each(alloc: Global, file: &mut MemoryDevice, acts: &[Act]) -> Result<Found> {
+    let mut found = Found { none: 0, both: 0 };
     found.look(alloc, file.bytes())?;
     for act in acts {
-        kill_in(alloc, &mut found, &mut file, act)?;
+        kill_in(alloc, &mut found, file, act)?;
     }
     Ok(found)
 }
@@ -192,10 +203,24 @@ fn kill(alloc: Global, bytes: &[u8], acts: &[Act]) -> Result<Found> {
 /// What is found where the host was killed in the middle of a write, and behind the act.
 fn kill_in(alloc: Global, found: &mut Found, file: &mut MemoryDevice, act: &Act) -> Result<()> {
     if let Act::Write { at, bytes } = act {
-        found.look(alloc, torn(alloc, file.bytes(), *at, bytes)?.bytes())?;
+        look_torn(alloc, found, file, *at, bytes)?;
     }
     act_on(file, act)?;
     found.look(alloc, file.bytes())
+}
+
+/// What is found where half of a write was done.
+fn look_torn(
+    alloc: Global,
+    found: &mut Found,
+    file: &MemoryDevice,
+    at: u64,
+    written: &[u8],
+) -> Result<()> {
+    let torn = torn(alloc, file.bytes(), at, written)?;
+    let looked = found.look(alloc, torn.bytes());
+    drop(torn);
+    looked
 }
 
 /// The file with half of a write.
@@ -208,9 +233,17 @@ fn torn(alloc: Global, bytes: &[u8], at: u64, written: &[u8]) -> Result<MemoryDe
 /// How many messages and notes a file has, once the host has done what is to be done as it is opened.
 fn found_in(alloc: Global, bytes: &[u8]) -> Result<(usize, usize)> {
     let mut opened = Tablet::open(alloc, bytes.to_vec(alloc)?, &HERE, None)?;
-    settle_opened(alloc, bytes, &mut opened.0)?;
-    match opened.0.replica() {
-        Some(replica) => Ok((replica.heads().len(), opened.1.notes.len())),
+    let held = held_by(alloc, bytes, &mut opened.0);
+    let notes = opened.1.notes.len();
+    drop(opened);
+    Ok((held?, notes))
+}
+
+/// How many messages a tablet holds that was opened.
+fn held_by(alloc: Global, bytes: &[u8], tablet: &mut Tablet) -> Result<usize> {
+    settle_opened(alloc, bytes, tablet)?;
+    match tablet.replica() {
+        Some(replica) => Ok(replica.heads().len()),
         None => bail!("nothing is shown"),
     }
 }
@@ -218,19 +251,23 @@ fn found_in(alloc: Global, bytes: &[u8]) -> Result<(usize, usize)> {
 /// The host does on such a file what is to be done as it is opened.
 fn settle_opened(alloc: Global, bytes: &[u8], tablet: &mut Tablet) -> Result<()> {
     let mut file = MemoryDevice::new(alloc, bytes.to_vec(alloc)?);
-    settle(&mut file, tablet)?;
+    let settled = settle(&mut file, tablet);
+    drop(file);
+    settled?;
     Ok(())
 }
 
 /// Opens the file, and the host fails in an act.
 fn fail(alloc: Global, bytes: &[u8]) -> Result<String> {
     let mut opened = Tablet::open(alloc, bytes.to_vec(alloc)?, &HERE, None)?;
-    settle_opened(alloc, bytes, &mut opened.0)?;
-    break_off(alloc, &mut opened.0)
+    let told = break_off(alloc, bytes, &mut opened.0);
+    drop(opened);
+    told
 }
 
 /// The tablet writes, an act of it fails, and the host goes on as if it hadn't.
-fn break_off(alloc: Global, tablet: &mut Tablet) -> Result<String> {
+fn break_off(alloc: Global, bytes: &[u8], tablet: &mut Tablet) -> Result<String> {
+    settle_opened(alloc, bytes, tablet)?;
     write(alloc, tablet)?;
     tablet.fail();
     tablet.settle();

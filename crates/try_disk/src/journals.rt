@@ -1,6 +1,6 @@
 //! Journals, by lines.
 use crate::disk::Disk;
-use crate::slot::{Slot, next_slot};
+use crate::slot::{Slot, next_slot, opened};
 use crate::told::{told_fault, told_refused};
 use crate::words::words_of;
 use anyhow::{Context, Result};
@@ -14,35 +14,48 @@ pub fn open<J>(alloc: Global, slots: &mut [Slot<J>], rest: &str) -> Result<Strin
     let Some(disk) = slot.disk.take() else {
         return Ok(String::from_str(alloc, "something is open there")?);
     };
-    let before = disk.bytes().to_vec(alloc)?;
-    match Journal::open(alloc, disk) {
-        Ok((journal, entries)) => {
-            let told = told_open(alloc, &journal, &entries);
-            slot.journal = Some(journal);
-            Ok(told?)
-        }
-        Err((fault, disk)) => {
-            let told = told_refused(alloc, fault.number(), &fault, &before, &disk);
-            slot.disk = Some(disk);
-            Ok(told?)
-        }
+    let before = disk.bytes().to_vec(alloc);
+    let outcome = opened(
+        &mut slot.journal,
+        &mut slot.disk,
+        Journal::open(alloc, disk),
+    );
+    told_outcome(alloc, slot, &before?, outcome)
+}
+
+/// What came of an opening.
+fn told_outcome<J>(
+    alloc: Global,
+    slot: &Slot<J>,
+    before: &[u8],
+    outcome: Result<Vec<Vec<u8>>, JournalFault>,
+) -> Result<String> {
+    match outcome {
+        Ok(entries) => told_open(alloc, slot.journal.as_ref(), &entries),
+        Err(fault) => told_refused(alloc, fault.number(), &fault, before, slot.disk.as_ref()),
     }
 }
 
 /// The entries of a journal, and its end.
 fn told_open(
     alloc: Global,
-    journal: &Journal<Disk>,
+    journal: Option<&Journal<Disk>>,
     entries: &[Vec<u8>],
-) -> Result<String, AllocError> {
+) -> Result<String> {
+    let end = journal.context("no journal is open there")?.end();
     let mut text = String::from_str(alloc, "entries")?;
-    for entry in entries {
-        text.push(' ')?;
-        push_entry(alloc, &mut text, entry)?;
-    }
-    let end = journal.end();
+    push_entries(alloc, &mut text, entries)?;
     write!(text, "; end {end}")?;
     Ok(text)
+}
+
+/// Adds entries, each behind a space.
+fn push_entries(alloc: Global, text: &mut String, entries: &[Vec<u8>]) -> Result<(), AllocError> {
+    for entry in entries {
+        text.push(' ')?;
+        push_entry(alloc, text, entry)?;
+    }
+    Ok(())
 }
 
 /// Adds an entry: as text where it is one word, and else in hexadecimal digits behind `#`.

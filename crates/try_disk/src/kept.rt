@@ -1,7 +1,7 @@
 //! Kept replicas, by lines: how they begin and come back, what they tell, and their notes.
 use crate::disk::Disk;
 use crate::keeper::Keeper;
-use crate::slot::{Slot, next_replica, next_slot};
+use crate::slot::{Slot, begun, next_replica, next_slot, opened};
 use crate::told::{told_fault, told_refused};
 use crate::words::{next_byte, next_id, next_limit, next_version, next_word, words_of};
 use anyhow::{Context, Result};
@@ -20,10 +20,22 @@ pub fn begin<J: Keeper>(alloc: Global, slots: &mut [Slot<J>], rest: &str) -> Res
     let Some(disk) = slot.disk.take() else {
         return Ok(String::from_str(alloc, "something is open there")?);
     };
-    let before = disk.bytes().to_vec(alloc)?;
-    match begun(slot, J::begin(alloc, disk, setup)) {
+    let before = disk.bytes().to_vec(alloc);
+    let outcome = J::begin(alloc, disk, setup);
+    let outcome = begun(&mut slot.replica, &mut slot.disk, outcome);
+    told_begun(alloc, slot.disk.as_ref(), &before?, outcome)
+}
+
+/// What came of a beginning.
+fn told_begun(
+    alloc: Global,
+    disk: Option<&Disk>,
+    before: &[u8],
+    outcome: Result<(), OpenFault>,
+) -> Result<String> {
+    match outcome {
         Ok(()) => Ok(String::from_str(alloc, "begun")?),
-        Err(fault) => not_opened(alloc, fault, &before, slot.disk.as_ref()),
+        Err(fault) => told_refused(alloc, fault.number(), &fault, before, disk),
     }
 }
 
@@ -42,51 +54,6 @@ fn setup_of(alloc: Global, words: &mut SplitWhitespace<'_>) -> Result<Setup> {
     })
 }
 
-/// Puts a replica that was begun in its place, or the disk back.
-fn begun<J: Drop>(
-    slot: &mut Slot<J>,
-    outcome: Result<J, (OpenFault, Disk)>,
-) -> Result<(), OpenFault> {
-    match outcome {
-        Ok(replica) => {
-            slot.replica = Some(replica);
-            Ok(())
-        }
-        Err((fault, disk)) => {
-            slot.disk = Some(disk);
-            Err(fault)
-        }
-    }
-}
-
-/// Puts a replica that was opened in its place, or the disk back.
-fn opened<J: Drop>(
-    slot: &mut Slot<J>,
-    outcome: Result<(J, Opened), (OpenFault, Disk)>,
-) -> Result<Opened, OpenFault> {
-    match outcome {
-        Ok((replica, opened)) => {
-            slot.replica = Some(replica);
-            Ok(opened)
-        }
-        Err((fault, disk)) => {
-            slot.disk = Some(disk);
-            Err(fault)
-        }
-    }
-}
-
-/// The fault, and whether the disk is as before.
-fn not_opened(
-    alloc: Global,
-    fault: OpenFault,
-    before: &[u8],
-    disk: Option<&Disk>,
-) -> Result<String> {
-    let disk = disk.context("the disk is gone")?;
-    Ok(told_refused(alloc, fault.number(), &fault, before, disk)?)
-}
-
 /// `back D MARK [BIRTH]`: the replica of a disk comes back, what it holds, and its notes.
 pub fn back<J: Keeper>(alloc: Global, slots: &mut [Slot<J>], rest: &str) -> Result<String> {
     let mut words = words_of(rest);
@@ -96,10 +63,22 @@ pub fn back<J: Keeper>(alloc: Global, slots: &mut [Slot<J>], rest: &str) -> Resu
     let Some(disk) = slot.disk.take() else {
         return Ok(String::from_str(alloc, "something is open there")?);
     };
-    let before = disk.bytes().to_vec(alloc)?;
-    match opened(slot, J::open(alloc, disk, &mark, birth)) {
+    let before = disk.bytes().to_vec(alloc);
+    let outcome = J::open(alloc, disk, &mark, birth);
+    let outcome = opened(&mut slot.replica, &mut slot.disk, outcome);
+    told_outcome(alloc, slot, &before?, outcome)
+}
+
+/// What came of a coming back.
+fn told_outcome<J: Keeper>(
+    alloc: Global,
+    slot: &Slot<J>,
+    before: &[u8],
+    outcome: Result<Opened, OpenFault>,
+) -> Result<String> {
+    match outcome {
         Ok(found) => told_back(alloc, slot.replica.as_ref(), &found),
-        Err(fault) => not_opened(alloc, fault, &before, slot.disk.as_ref()),
+        Err(fault) => told_refused(alloc, fault.number(), &fault, before, slot.disk.as_ref()),
     }
 }
 
@@ -120,12 +99,23 @@ fn read_birth(word: &str) -> Result<Birth> {
 fn told_back<J: Keeper>(alloc: Global, replica: Option<&J>, found: &Opened) -> Result<String> {
     let replica = replica.context("no replica is open there")?;
     let mut text = String::new(alloc);
-    replica.push_held(&mut text)?;
-    push_notes(alloc, &mut text, &found.notes)?;
+    push_back(alloc, &mut text, replica, found)?;
+    Ok(text)
+}
+
+/// Adds what a replica that came back holds, its notes, and whether something is still open.
+fn push_back<J: Keeper>(
+    alloc: Global,
+    text: &mut String,
+    replica: &J,
+    found: &Opened,
+) -> Result<(), AllocError> {
+    replica.push_held(text)?;
+    push_notes(alloc, text, &found.notes)?;
     if !found.are_closed {
         text.push_str("; left open")?;
     }
-    Ok(text)
+    Ok(())
 }
 
 /// Adds the notes, each as its kind and its bytes.
@@ -143,14 +133,19 @@ fn push_notes(alloc: Global, text: &mut String, notes: &[Note]) -> Result<(), Al
 pub fn tell<J: Keeper>(alloc: Global, slots: &mut [Slot<J>], rest: &str) -> Result<String> {
     let replica = next_replica(slots, &mut words_of(rest))?;
     let mut text = String::new(alloc);
-    replica.push_held(&mut text)?;
+    push_told(&mut text, replica)?;
+    Ok(text)
+}
+
+/// Adds what a kept replica holds, and whether something waits.
+fn push_told<J: Keeper>(text: &mut String, replica: &J) -> Result<(), AllocError> {
+    replica.push_held(text)?;
     let end = if replica.is_kept() {
         "; kept"
     } else {
         "; waits"
     };
-    text.push_str(end)?;
-    Ok(text)
+    text.push_str(end)
 }
 
 /// `note D KIND TEXT`: a note waits.

@@ -35,15 +35,27 @@ fn hand_out<J: Keeper>(
 ) -> Result<String> {
     let mut text = String::from_str(alloc, "kept")?;
     for reply in replies {
-        if let Reply::Issued(version) = reply {
-            write!(text, " {version}")?;
-        } else if let Some(bytes) = letter_of(alloc, reply)? {
-            send(alloc, replica, &bytes, letters)?;
-            let number = letters.len();
-            write!(text, " letter {number}")?;
-        }
+        hand_out_one(alloc, replica, reply, letters, &mut text)?;
     }
     Ok(text)
+}
+
+/// Sends a reply, where it is one that is sent, and tells it.
+fn hand_out_one<J: Keeper>(
+    alloc: Global,
+    replica: &J,
+    reply: &Reply,
+    letters: &mut Vec<Letter>,
+    text: &mut String,
+) -> Result<()> {
+    if let Reply::Issued(version) = reply {
+        write!(text, " {version}")?;
+    } else if let Some(bytes) = letter_of(alloc, reply)? {
+        send(alloc, replica, &bytes, letters)?;
+        let number = letters.len();
+        write!(text, " letter {number}")?;
+    }
+    Ok(())
 }
 
 /// Sends bytes, and puts what was sent behind the other letters.
@@ -87,7 +99,9 @@ pub fn give<J: Keeper>(
 /// What a replica makes of a letter.
 fn taken<J: Keeper>(alloc: Global, replica: &mut J, letter: &[u8]) -> Result<String> {
     let decoded = decode(alloc, letter)?;
-    given(alloc, replica, &decoded.0)
+    let told = given(alloc, replica, &decoded.0);
+    drop(decoded);
+    told
 }
 
 /// What a replica makes of a frame.

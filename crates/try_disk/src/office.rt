@@ -2,6 +2,7 @@
 use crate::disk::Disk;
 use crate::events::message;
 use crate::keeper::Keeper;
+use crate::slot::made;
 use anyhow::{Error, Result, anyhow, bail};
 use mr_entry::{Mark, Note};
 use mr_filter::Filter;
@@ -13,10 +14,10 @@ use std::alloc::Global;
 pub const HERE: Mark = [7; 32];
 
 /// Begins a replica.
-pub fn begin<J: Keeper>(alloc: Global, disk: Disk) -> Result<()> {
-    match J::begin(alloc, disk, setup(alloc)?) {
+pub fn begin<J: Keeper>(alloc: Global, disk: Disk, setup: Setup) -> Result<()> {
+    match made(J::begin(alloc, disk, setup)) {
         Ok(_office) => Ok(()),
-        Err((fault, _disk)) => bail!("{fault}"),
+        Err(fault) => bail!("{fault}"),
     }
 }
 
@@ -38,9 +39,9 @@ pub fn open<J: Keeper, R: Print + AllocGlobal>(
     count: u64,
     size: u64,
 ) -> Result<()> {
-    match J::open(rt.alloc(), disk, &HERE, None) {
+    match made(J::open(rt.alloc(), disk, &HERE, None)) {
         Ok((mut office, opened)) => fill(rt, &mut office, &opened.notes, count, size),
-        Err((fault, _disk)) => bail!("{fault}"),
+        Err(fault) => bail!("{fault}"),
     }
 }
 

@@ -5,7 +5,7 @@ use crate::slot::{Slot, next_replica};
 use crate::words::{next_id, next_limit, next_number_or, next_word, words_of};
 use anyhow::{Context, Result};
 use mr_filter::Filter;
-use mr_replica::Received;
+use mr_replica::{Received, Reply};
 use mr_wire::decode;
 use std::alloc::Global;
 
@@ -70,9 +70,15 @@ fn take_all<J: Keeper, P: Taker>(
 fn give<J: Keeper>(alloc: Global, office: &mut J, stream: u64) -> Result<Letter> {
     office.next(stream)?;
     let replies = office.commit()?;
+    let bytes = last_letter(alloc, &replies);
+    drop(replies);
+    office.sent(alloc, &bytes?)
+}
+
+/// The bytes of the last reply.
+fn last_letter(alloc: Global, replies: &[Reply]) -> Result<Letter> {
     let reply = replies.last().context("nothing was handed out")?;
-    let bytes = letter_of(alloc, reply)?.context("no record was handed out")?;
-    office.sent(alloc, &bytes)
+    letter_of(alloc, reply)?.context("no record was handed out")
 }
 
 fn take<P: Taker>(alloc: Global, phone: &mut P, letter: &[u8]) -> Result<Received> {

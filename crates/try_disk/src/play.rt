@@ -13,7 +13,10 @@ pub fn transcript<J: Keeper, P: Taker, R: Files<File = File> + AllocGlobal>(
 ) -> Result<String> {
     let mut scene: Scene<J, P> = Scene::new(rt.alloc());
     let mut scratch: Scene<J, P> = Scene::new(rt.alloc());
-    play(rt, &mut scene, &mut scratch, text)
+    let played = play(rt, &mut scene, &mut scratch, text);
+    drop(scene);
+    drop(scratch);
+    played
 }
 
 /// Does each line, and adds it to the transcript with its answers.

@@ -1,5 +1,6 @@
 //! A journal of numbered entries in a file.
 use crate::disk::Disk;
+use crate::slot::made;
 use anyhow::{Error, Result, anyhow, bail};
 use mr_journal::{Journal, JournalFault};
 use std::alloc::Global;
@@ -24,18 +25,12 @@ fn batch(alloc: Global, first: u64) -> Result<Vec<Vec<u8>>> {
     Ok(entries)
 }
 
-/// The journal on a disk, and its entries.
-fn opened(alloc: Global, disk: Disk) -> Result<(Journal<Disk>, Vec<Vec<u8>>), JournalFault> {
-    match Journal::open(alloc, disk) {
-        Ok(opened) => Ok(opened),
-        Err((fault, _disk)) => Err(fault),
-    }
-}
-
 /// Adds so many batches, and prints after each how many entries there are.
 pub fn write<R: Print + AllocGlobal>(rt: &R, disk: Disk, count: u64) -> Result<()> {
-    let (mut journal, entries) = opened(rt.alloc(), disk)?;
-    add_all(rt, &mut journal, entries.len() as u64, count)
+    let (mut journal, entries) = made(Journal::open(rt.alloc(), disk))?;
+    let added = add_all(rt, &mut journal, entries.len() as u64, count);
+    drop(journal);
+    added
 }
 
 /// Adds so many batches behind so many entries.
@@ -73,15 +68,21 @@ fn told(journal: &Journal<Disk>, fault: JournalFault) -> Error {
 
 /// Prints how many entries there are, once each is the one that belongs there.
 pub fn read<R: Print + AllocGlobal>(rt: &R, disk: Disk) -> Result<()> {
-    let alloc = rt.alloc();
-    let (_, entries) = opened(alloc, disk)?;
+    let (journal, entries) = made(Journal::open(rt.alloc(), disk))?;
+    drop(journal);
+    let number = checked(rt.alloc(), &entries)?;
+    rt.println(number)?;
+    Ok(())
+}
+
+/// How many entries there are, each of which is the one that belongs there.
+fn checked(alloc: Global, entries: &[Vec<u8>]) -> Result<u64> {
     let mut number = 0u64;
-    for bytes in &entries {
+    for bytes in entries {
         if bytes.as_slice() != entry(alloc, number)?.as_slice() {
             bail!("entry {number} is another");
         }
         number = number.saturating_add(1);
     }
-    rt.println(number)?;
-    Ok(())
+    Ok(number)
 }

@@ -79,13 +79,70 @@ pub fn bytes_in<J: OnDisk>(alloc: Global, slot: &Slot<J>) -> Result<Vec<u8>> {
 
 /// The disk, taken out of its place. What is open on it ends.
 pub fn take_disk<J: OnDisk>(slot: &mut Slot<J>) -> Option<Disk> {
-    if let Some(journal) = slot.journal.take() {
-        return Some(journal.into_disk());
+    if slot.journal.is_some() {
+        return ended(&mut slot.journal);
     }
-    if let Some(replica) = slot.replica.take() {
-        return Some(replica.into_disk());
+    if slot.replica.is_some() {
+        return ended(&mut slot.replica);
     }
     slot.disk.take()
+}
+
+/// Ends what is open there, and gives its disk.
+fn ended<O: OnDisk>(open: &mut Option<O>) -> Option<Disk> {
+    match open.take() {
+        Some(open) => Some(open.into_disk()),
+        None => None,
+    }
+}
+
+/// Puts something in a place. What stood there is gone.
+pub fn put<T: Drop>(place: &mut Option<T>, thing: Option<T>) {
+    *place = thing;
+}
+
+/// Puts what was begun in its place, or the disk back.
+pub fn begun<T: Drop, F: Drop, D: Drop>(
+    open: &mut Option<T>,
+    free: &mut Option<D>,
+    outcome: Result<T, (F, D)>,
+) -> Result<(), F> {
+    match outcome {
+        Ok(thing) => {
+            *open = Some(thing);
+            Ok(())
+        }
+        Err((fault, disk)) => {
+            *free = Some(disk);
+            Err(fault)
+        }
+    }
+}
+
+/// Puts what was opened in its place, and gives what was found there, or puts the disk back.
+pub fn opened<T: Drop, X: Drop, F: Drop, D: Drop>(
+    open: &mut Option<T>,
+    free: &mut Option<D>,
+    outcome: Result<(T, X), (F, D)>,
+) -> Result<X, F> {
+    match outcome {
+        Ok((thing, found)) => {
+            *open = Some(thing);
+            Ok(found)
+        }
+        Err((fault, disk)) => {
+            *free = Some(disk);
+            Err(fault)
+        }
+    }
+}
+
+/// What was made, or the fault. The disk on which nothing was made is gone.
+pub fn made<T: Drop, F: Drop, D: Drop>(outcome: Result<T, (F, D)>) -> Result<T, F> {
+    match outcome {
+        Ok(thing) => Ok(thing),
+        Err((fault, _disk)) => Err(fault),
+    }
 }
 
 /// Puts a disk in the place of this name, or behind the others.
@@ -106,9 +163,9 @@ pub fn put_disk<J: Drop>(
 
 /// What is open there is gone, so that a file is closed, and this disk stands there.
 pub fn set_disk<J: Drop>(slot: &mut Slot<J>, disk: Disk) {
-    slot.journal = None;
-    slot.replica = None;
-    slot.disk = Some(disk);
+    put(&mut slot.journal, None);
+    put(&mut slot.replica, None);
+    put(&mut slot.disk, Some(disk));
 }
 
 fn push_disk<J: Drop>(

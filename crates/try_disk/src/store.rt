@@ -7,8 +7,8 @@ mod fake;
 use anyhow::Result;
 use fake::{Crash, FakeTree};
 use mr_folder::{
-    DiskTree, FilePath, FileTree, FolderPath, Part, StoreFault, adopt, append, begin, end, link,
-    list, replace, stored, sweep, unlink,
+    DiskTree, FilePath, FileTree, FolderPath, Listing, Part, StoreFault, adopt, append, begin, end,
+    link, list, replace, stored, sweep, take_in, unlink,
 };
 use sha2::{Digest, Sha256};
 use std::alloc::{AllocError, Global};
@@ -64,7 +64,9 @@ fn told<R: Files<File = File> + AllocGlobal>(rt: &R, lines: &str) -> Result<Stri
 /// Plays the scenes with no call failing.
 fn play_whole(alloc: Global, lines: &str) -> Result<Run> {
     let mut files = FakeTree::new(alloc, ALL);
-    play_kept(alloc, &mut files, lines)
+    let run = play_kept(alloc, &mut files, lines);
+    drop(files);
+    run
 }
 
 /// Plays the scenes with each call failing in turn, and looks at what crashes then leave.
@@ -87,26 +89,45 @@ fn fail_in_turn(alloc: Global, lines: &str) -> Result<Failing> {
 /// failed.
 fn fail_at(alloc: Global, lines: &str, fuse: u64, failing: &mut Failing) -> Result<bool> {
     let mut files = FakeTree::new(alloc, fuse);
+    let is_whole = play_and_look(alloc, &mut files, lines, failing);
+    drop(files);
+    is_whole
+}
+
+/// Plays the scenes over these files, and looks at what crashes then leave. Tells whether no call failed.
+fn play_and_look(
+    alloc: Global,
+    files: &mut FakeTree,
+    lines: &str,
+    failing: &mut Failing,
+) -> Result<bool> {
     let mut kept = Vec::new(alloc);
-    let run = play(alloc, &mut files, lines, &mut kept)?;
-    for crash in [Crash::LosesPaths, Crash::LosesBytes] {
-        failing.look(alloc, &files, crash, &kept)?;
-    }
+    let run = play(alloc, files, lines, &mut kept)?;
+    failing.look_behind_each(alloc, files, &kept)?;
     Ok(run.is_whole)
 }
 
 impl Failing {
-    /// Looks at what a crash leaves of these files.
-    fn look(
+    /// Looks at what each crash leaves of these files.
+    fn look_behind_each(
         &mut self,
         alloc: Global,
         files: &FakeTree,
-        crash: Crash,
         kept: &[[u8; 32]],
     ) -> Result<()> {
-        let mut left = files.after(crash)?;
+        for crash in [Crash::LosesPaths, Crash::LosesBytes] {
+            let mut left = files.after(crash)?;
+            let looked = self.look(alloc, &mut left, kept);
+            drop(left);
+            looked?;
+        }
+        Ok(())
+    }
+
+    /// Looks at what a crash left.
+    fn look(&mut self, alloc: Global, left: &mut FakeTree, kept: &[[u8; 32]]) -> Result<()> {
         self.wrong = self.wrong.saturating_add(left.wrong()?);
-        self.lost = self.lost.saturating_add(lacking(alloc, &mut left, kept)?);
+        self.lost = self.lost.saturating_add(lacking(alloc, left, kept)?);
         Ok(())
     }
 }
@@ -133,7 +154,9 @@ fn on_disk<R: Files<File = File> + AllocGlobal>(rt: &R, lines: &str) -> Result<S
 fn told_on_disk<R: Files<File = File> + AllocGlobal>(rt: &R, lines: &str) -> Result<String> {
     let alloc = rt.alloc();
     let mut tree = DiskTree::open(rt, String::from_str(alloc, FOLDER)?)?;
-    play_on(alloc, &mut tree, lines)
+    let told = play_on(alloc, &mut tree, lines);
+    drop(tree);
+    told
 }
 
 /// What came of the scenes over this tree, as text.
@@ -174,20 +197,45 @@ fn listed<R: Files<File = File> + AllocGlobal + Clone + Drop>(
     tree: &mut DiskTree<R>,
 ) -> Result<String> {
     let folders = tree.folders(alloc)?;
-    let count = folders.folders.len();
-    let mut parts = tree.parts(&folders.folders);
-    let listing = list(alloc, &mut parts, count.saturating_mul(2))?;
-    let mut text = format!(in alloc; "{count} folders")?;
+    let listed = listed_in(alloc, tree, &folders.folders);
+    drop(folders);
+    listed
+}
+
+/// The names in these folders of a disk.
+fn listed_in<R: Files<File = File> + AllocGlobal + Clone + Drop>(
+    alloc: Global,
+    tree: &DiskTree<R>,
+    folders: &[FolderPath],
+) -> Result<String> {
+    let mut parts = tree.parts(folders);
+    let listing = list(alloc, &mut parts, folders.len().saturating_mul(2));
+    drop(parts);
+    let listing = listing?;
+    let mut text = String::new(alloc);
+    push_listing(&mut text, folders.len(), &listing)?;
+    Ok(text)
+}
+
+/// Adds how many folders there are, and the names of a listing.
+fn push_listing(text: &mut String, count: usize, listing: &Listing) -> Result<(), AllocError> {
+    write!(text, "{count} folders")?;
     for names in listing.names.iter() {
-        for name in names.iter() {
-            text.push(' ')?;
-            text.push_str(name.as_str())?;
-        }
+        push_names(text, names)?;
     }
     if !listing.is_quiet {
         text.push_str(" changed")?;
     }
-    Ok(text)
+    Ok(())
+}
+
+/// Adds names, each behind a space.
+fn push_names(text: &mut String, names: &[String]) -> Result<(), AllocError> {
+    for name in names.iter() {
+        text.push(' ')?;
+        text.push_str(name.as_str())?;
+    }
+    Ok(())
 }
 
 /// Whether a mail that is shown is the store's own file.
@@ -195,13 +243,22 @@ fn same_file<R: Files<File = File> + AllocGlobal + Clone + Drop>(
     alloc: Global,
     tree: &mut DiskTree<R>,
 ) -> Result<bool> {
-    let stored = FilePath::stored(alloc, &Sha256::digest(b"one"))?;
     let Some(shown) = path_of(alloc, "- cur 1:2,S")? else {
         return Ok(false);
     };
-    let kept = tree.mark(&stored)?;
-    let seen = tree.mark(&shown)?;
-    Ok(kept.is_some() && kept == seen)
+    let stored = FilePath::stored(alloc, &Sha256::digest(b"one"))?;
+    are_one(tree, &stored, &shown)
+}
+
+/// Whether one file stands at both paths.
+fn are_one<R: Files<File = File> + AllocGlobal + Clone + Drop>(
+    tree: &mut DiskTree<R>,
+    first: &FilePath,
+    second: &FilePath,
+) -> Result<bool> {
+    let first = tree.mark(first)?;
+    let second = tree.mark(second)?;
+    Ok(first.is_some() && first == second)
 }
 
 /// Plays lines until a call of the files fails. The digests of which it is told that they are in the store come to `kept`.
@@ -250,6 +307,7 @@ fn answer<F: FileTree>(
     let (call, words) = line.split_once(' ').unwrap_or((line, ""));
     match call {
         "take" => take(alloc, files, words, kept),
+        "whole" => whole(alloc, files, words, kept),
         "mixed" => mixed(alloc, files, words),
         "sweep" => sweep_all_but(alloc, files, words, kept),
         "stored" => count(alloc, files),
@@ -300,6 +358,18 @@ fn take<F: FileTree>(
         keep(kept, digest)?;
     }
     Ok(format!(in alloc; "{is_taken}")?)
+}
+
+/// Takes a mail in as a whole.
+fn whole<F: FileTree>(
+    alloc: Global,
+    files: &mut F,
+    text: &str,
+    kept: &mut Vec<[u8; 32]>,
+) -> Result<String, StoreFault> {
+    let digest = take_in(alloc, files, text.as_bytes())?;
+    keep(kept, digest)?;
+    Ok(hex::encode(alloc, &digest[..4])?)
 }
 
 /// Notes that a digest is in the store.

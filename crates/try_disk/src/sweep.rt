@@ -17,7 +17,7 @@ use crate::slot::{bytes_in, slot_of, take_disk};
 use crate::tally::Tally;
 use crate::words::{next_byte, next_number_or, next_word, split_word, words_of};
 use anyhow::{Context, Result};
-use std::alloc::Global;
+use std::alloc::{AllocError, Global};
 use std::fs::File;
 use std::rt::Files;
 use std::str::SplitWhitespace;
@@ -85,18 +85,28 @@ impl Sweep<'_> {
         is_full: bool,
     ) -> Result<String> {
         let mut tally = Tally::new(rt.alloc());
+        let fails = self.count_fails(rt, scratch, is_full, &mut tally)?;
+        let mut text = format!(in rt.alloc(); "fails {fails} times, and then not\n")?;
+        push_crashes(&mut text, &tally)?;
+        Ok(text)
+    }
+
+    /// How often the disk fails, until it doesn't.
+    fn count_fails<J: Keeper, P: Taker, R: Files<File = File> + AllocGlobal>(
+        &self,
+        rt: &R,
+        scratch: &mut Scene<J, P>,
+        is_full: bool,
+        tally: &mut Tally,
+    ) -> Result<u64> {
         let mut fails = 0u64;
         for number in 0..MANY {
-            if !self.fails(rt, scratch, self.limits(is_full, number), &mut tally)? {
+            if !self.fails(rt, scratch, self.limits(is_full, number), tally)? {
                 break;
             }
             fails = fails.saturating_add(1);
         }
-        let mut text = format!(in rt.alloc(); "fails {fails} times, and then not\n")?;
-        for crash in CRASHES {
-            tally.push_lines(&mut text, Some(crash))?;
-        }
-        Ok(text)
+        Ok(fails)
     }
 
     /// The limits of a disk that fails after so many steps, or that has room for so many bytes behind its own.
@@ -119,10 +129,25 @@ impl Sweep<'_> {
     ) -> Result<bool> {
         self.do_all(rt, scratch, limits)?;
         let disk = take_disk(slot_of(&mut scratch.slots, self.name)?).context("the disk is gone")?;
+        let counted = self.count_each(rt, scratch, &disk, tally);
+        let has_failed = disk.calls().failed > 0;
+        drop(disk);
+        counted?;
+        Ok(has_failed)
+    }
+
+    /// Counts what the first line answers on what each way to crash leaves of the disk.
+    fn count_each<J: Keeper, P: Taker, R: Files<File = File> + AllocGlobal>(
+        &self,
+        rt: &R,
+        scratch: &mut Scene<J, P>,
+        disk: &Disk,
+        tally: &mut Tally,
+    ) -> Result<()> {
         for crash in CRASHES {
-            self.count(rt, scratch, &disk, crash, tally)?;
+            self.count(rt, scratch, disk, crash, tally)?;
         }
-        Ok(disk.calls().failed > 0)
+        Ok(())
     }
 
     /// Counts what the first line answers on what this crash leaves of the disk.
@@ -226,6 +251,15 @@ fn next_places(words: &mut SplitWhitespace<'_>, all: usize) -> Result<(usize, us
     Ok((usize::try_from(from)?, usize::try_from(to)?))
 }
 
+/// Adds a line for each outcome behind each way to crash.
+fn push_crashes(text: &mut String, tally: &Tally) -> Result<(), AllocError> {
+    for crash in CRASHES {
+        tally.push_lines(text, Some(crash))?;
+    }
+    Ok(())
+}
+
+/// A line for each outcome behind no crash.
 fn told(alloc: Global, tally: &Tally) -> Result<String> {
     let mut text = String::new(alloc);
     tally.push_lines(&mut text, None)?;

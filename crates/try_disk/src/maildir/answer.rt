@@ -73,7 +73,12 @@ fn folder(alloc: Global, words: &str) -> Result<String> {
 
 fn body(alloc: Global, words: &str) -> Result<String> {
     let text = words.replace(alloc, " / ", "\n")?;
-    let Some(reference) = read_reference(text.as_bytes()) else {
+    body_told(alloc, text.as_bytes())
+}
+
+/// What a body tells.
+fn body_told(alloc: Global, text: &[u8]) -> Result<String> {
+    let Some(reference) = read_reference(text) else {
         return Ok(String::from_str(alloc, "none")?);
     };
     let size = reference.size;
@@ -106,7 +111,14 @@ fn act_of(
     held: Option<&View>,
 ) -> Result<String> {
     let act = next_act(alloc, left, seen, held)?;
-    let word = match &act {
+    let text = act_text(alloc, &act);
+    drop(act);
+    text
+}
+
+/// The text of an act.
+fn act_text(alloc: Global, act: &Act) -> Result<String> {
+    let word = match act {
         Act::Edit(view) => return edit_text(alloc, view),
         Act::Agree => "agree",
         Act::Create => "create",

@@ -118,6 +118,13 @@ pub fn folder_at(alloc: Global, words: &str) -> Result<String> {
 /// What a header has: sender, subject, Message-ID and day.
 pub fn header(alloc: Global, words: &str) -> Result<String> {
     let header = header_of(alloc, words)?;
+    let text = header_text(alloc, &header);
+    drop(header);
+    text
+}
+
+/// The text of a header.
+fn header_text(alloc: Global, header: &Header) -> Result<String> {
     let (from, subject, id) = (
         header.from.as_str(),
         header.subject.as_str(),
@@ -150,8 +157,9 @@ pub fn line(alloc: Global, words: &str) -> Result<String> {
 /// The line of a mail of these, where the header is a text.
 fn line_of(alloc: Global, version: Version, view: &View, day: Day, header: &str) -> Result<String> {
     let header = header_of(alloc, header)?;
-    let line = list_line(alloc, version, view, day, &header)?;
-    Ok(line.as_str().replace(alloc, "\t", " | ")?)
+    let line = list_line(alloc, version, view, day, &header);
+    drop(header);
+    Ok(line?.as_str().replace(alloc, "\t", " | ")?)
 }
 
 /// The text as it is printed.
