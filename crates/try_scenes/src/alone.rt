@@ -3,18 +3,19 @@ ghost use Rattle.std.specs.Prelude.{◌≡◌, [], IfOk};
 ghost use Rattle.mr_threads.specs.Outfit.{IsNewPost};
 
 use crate::device::{Device, replica_of};
+use crate::lists::push_made;
+use crate::replica::SceneReplica;
 use crate::strange::Strange;
 use crate::strange_link::StrangeLink;
 use crate::tell::initial_of;
 use crate::words::{next_count, next_id, next_word, words};
 use crate::work::add_turns;
-use anyhow::Result;
-use mr_forms::Knowledge;
+use anyhow::{Result, bail};
 use mr_lane::{Arrival, Desk, Post, Posts, Spout, Tap, inbox, tap};
 use mr_link::OpenGate;
 use mr_node::{Answer, LinkParts, Turn, run_link};
-use mr_replica::{Event, Replica, Reply};
-use std::alloc::Global;
+use mr_replica::{Event, Reply};
+use std::alloc::{AllocError, Global};
 use std::sync::Wait;
 
 /// How many places each lane has.
@@ -22,17 +23,17 @@ const PLACES: usize = 16;
 
 /// `posts R TURNS N`: what a link of this replica posts in these turns, and whether it did all that it had to, where the
 /// first N of the answers to a pull and to its cut wait already.
-pub fn posts<K: Knowledge, R: Wait + Copy>(
+pub fn posts<C: SceneReplica, L, R: Wait + Copy>(
     rt: &R,
     alloc: Global,
-    devices: &[Device<Replica<K>, R>],
+    devices: &[Device<C, L>],
     line: &str,
 ) -> Result<String> {
     let mut words = words(line);
     let replica = replica_of(devices, next_id(&mut words)?)?;
-    let turns = turns(alloc, next_word(&mut words)?)?;
+    let named = next_word(&mut words)?;
     let answers = answers(alloc, replica, next_count(&mut words)?)?;
-    posted(rt, alloc, turns, answers)
+    posted(rt, alloc, turns(alloc, named)?, answers)
 }
 
 /// The turns that are joined by commas.
@@ -43,10 +44,14 @@ fn turns(alloc: Global, text: &str) -> Result<Vec<Turn>> {
 }
 
 /// The first so many of the answers of this replica to a pull and to its cut.
-fn answers<K: Knowledge>(alloc: Global, replica: &Replica<K>, count: usize) -> Result<Vec<Answer>> {
+fn answers<C: SceneReplica>(
+    alloc: Global,
+    replica: &C,
+    count: usize,
+) -> Result<Vec<Answer>, AllocError> {
     let mut answers = Vec::new(alloc);
     if count > 0 {
-        answers.push(asked(replica)?)?;
+        push_made(&mut answers, asked(replica))?;
     }
     if count > 1 {
         answers.push(Ok(Reply::Done))?;
@@ -55,7 +60,7 @@ fn answers<K: Knowledge>(alloc: Global, replica: &Replica<K>, count: usize) -> R
 }
 
 /// The answer of a copy of this replica to a pull.
-fn asked<K: Knowledge>(replica: &Replica<K>) -> Result<Answer> {
+fn asked<C: SceneReplica>(replica: &C) -> Result<Answer, AllocError> {
     let mut replica = replica.copy()?;
     Ok(replica.step(Event::Pull))
 }
@@ -70,13 +75,11 @@ fn posted<R: Wait + Copy>(
     let tap = answered(rt, alloc, answers)?;
     let (post, mut desk) = new_post(alloc)?;
     let is_whole = run(rt, alloc, post, tap, turns);
-    let letters = letters(rt, alloc, &mut desk)?;
-    let whole = if is_whole { "whole" } else { "not whole" };
-    Ok(format!(in alloc; "{letters} {whole}\n")?)
+    Ok(told(rt, alloc, &mut desk, is_whole)?)
 }
 
 /// A closed tap of these answers.
-fn answered<R: Wait + Copy>(rt: &R, alloc: Global, answers: Vec<Answer>) -> Result<Tap<Answer, R>>
+fn answered<A: Drop, R: Wait + Copy>(rt: &R, alloc: Global, answers: Vec<A>) -> Result<Tap<A, R>>
     ensures { IfOk result (λ tap. tap.passed ≡ []) }
 {
     let (mut spout, tap) = tap(*rt, alloc, PLACES)?;
@@ -85,19 +88,21 @@ fn answered<R: Wait + Copy>(rt: &R, alloc: Global, answers: Vec<Answer>) -> Resu
 }
 
 /// Offers these answers, and closes.
-fn offer_all<R: Wait>(spout: &mut Spout<Answer, R>, answers: Vec<Answer>) -> Result<()> {
+fn offer_all<A: Drop, R: Wait>(spout: &mut Spout<A, R>, answers: Vec<A>) -> Result<()> {
     for answer in answers {
-        spout.offer(answer)?;
+        if spout.offer(answer).is_err() {
+            bail!("the lane is full");
+        }
     }
     spout.close()?;
     Ok(())
 }
 
 /// A link's post, and the desk of its inbox.
-fn new_post(alloc: Global) -> Result<(Post<Event>, Desk<Event>)>
+fn new_post<E: Drop>(alloc: Global) -> Result<(Post<E>, Desk<E>)>
     ensures { IfOk result (λ made. IsNewPost made.0) }
 {
-    let (posts, desk) = inbox::<Event>(alloc, PLACES)?;
+    let (posts, desk) = inbox::<E>(alloc, PLACES)?;
     let Posts { first_link, .. } = posts;
     Ok((first_link, desk))
 }
@@ -119,15 +124,30 @@ fn run<R: Wait + Copy>(
     end.whole
 }
 
-/// The letters that wait, and a point for the end mark.
-fn letters<R: Wait>(rt: &R, alloc: Global, desk: &mut Desk<Event>) -> Result<String> {
+/// The letters that wait, a point for the end mark, and whether the link was whole.
+fn told<R: Wait>(
+    rt: &R,
+    alloc: Global,
+    desk: &mut Desk<Event>,
+    is_whole: bool,
+) -> Result<String, AllocError> {
     let mut text = String::new(alloc);
     for _ in 0..PLACES {
-        match desk.take(rt) {
-            Arrival::Letter(_, letter) => text.push(initial_of(&letter))?,
-            Arrival::End(_) => text.push('.')?,
-            Arrival::Empty => break,
+        let sign = sign_of(&desk.take(rt));
+        match sign {
+            Some(sign) => text.push(sign)?,
+            None => break,
         }
     }
+    text.push_str(if is_whole { " whole\n" } else { " not whole\n" })?;
     Ok(text)
+}
+
+/// A character for a letter, and a point for the end mark.
+fn sign_of(arrival: &Arrival<Event>) -> Option<char> {
+    match arrival {
+        Arrival::Letter(_, letter) => Some(initial_of(letter)),
+        Arrival::End(_) => Some('.'),
+        Arrival::Empty => None,
+    }
 }

@@ -55,8 +55,9 @@ impl Turns {
 /// `letters PLACES N`: two posts of an inbox send N letters each in threads of their own, while its desk takes them.
 pub fn letters<R: Threads + Wait + Sync>(rt: &R, alloc: Global, line: &str) -> Result<String> {
     let mut words = words(line);
-    let (mut posts, desk) = inbox(alloc, next_count(&mut words)?)?;
+    let places = next_count(&mut words)?;
     let count = next_number(&mut words)?;
+    let (mut posts, desk) = inbox(alloc, places)?;
     posts.second_link.finish(rt)?;
     let (posts, desk, turns) = exchange(rt, posts, desk, count);
     let is_settled = desk.settle(posts).is_ok();
@@ -194,8 +195,9 @@ pub fn items<R: Threads + Wait + Sync + Send + Copy>(
     line: &str,
 ) -> Result<String> {
     let mut words = words(line);
-    let (spout, tap) = tap(*rt, alloc, next_count(&mut words)?)?;
+    let places = next_count(&mut words)?;
     let count = next_number(&mut words)?;
+    let (spout, tap) = tap(*rt, alloc, places)?;
     let (spout, (tap, turn)) = flow(rt, spout, tap, count);
     let is_settled = tap_settle(spout, tap);
     let settled = if is_settled { "settled" } else { "not settled" };

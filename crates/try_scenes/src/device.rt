@@ -4,18 +4,18 @@ use crate::work::Work;
 use anyhow::{Context, Result, bail};
 use mr_version::Author;
 
-/// A replica that is alone, what it has to do in the next run, and what came of its last. One whose run came to nothing is
-/// gone.
+/// A replica that is alone, what it has to do in the next run over links of these lanes, and what came of its last. One
+/// whose run came to nothing is gone.
 #[derive(Drop)]
-pub struct Device<C, R> {
+pub struct Device<C, L> {
     pub id: Author,
     pub replica: Option<C>,
-    pub work: Work<R>,
+    pub work: Work<L>,
     pub last: Option<LastRun>,
 }
 
 /// The one of this id.
-pub fn device_of<C, R>(devices: &mut [Device<C, R>], id: Author) -> Result<&mut Device<C, R>> {
+pub fn device_of<C, L>(devices: &mut [Device<C, L>], id: Author) -> Result<&mut Device<C, L>> {
     for device in devices {
         if device.id == id {
             return Ok(device);
@@ -25,7 +25,7 @@ pub fn device_of<C, R>(devices: &mut [Device<C, R>], id: Author) -> Result<&mut 
 }
 
 /// The replica of this id.
-pub fn replica_of<C, R>(devices: &[Device<C, R>], id: Author) -> Result<&C> {
+pub fn replica_of<C, L>(devices: &[Device<C, L>], id: Author) -> Result<&C> {
     for device in devices {
         if device.id == id {
             return device.replica.as_ref().context("a replica is gone");

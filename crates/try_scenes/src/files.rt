@@ -14,12 +14,22 @@ pub fn are_ok<R: Env + Files + Print + AllocGlobal + Threads + Wait + Sync + Sen
     rt: &R,
 ) -> Result<bool> {
     let folder = folder(rt)?;
+    let names = file_names(rt, folder.as_str())?;
+    are_all_ok(rt, folder.as_str(), &names)
+}
+
+/// Whether each of these files that is one of scenes is as it has to be.
+fn are_all_ok<R: Files + Print + AllocGlobal + Threads + Wait + Sync + Send + Copy>(
+    rt: &R,
+    folder: &str,
+    names: &[String],
+) -> Result<bool> {
     let mut files = 0u64;
     let mut differing = 0u64;
-    for file in &file_names(rt, folder.as_str())? {
+    for file in names {
         if let Some(name) = file.strip_suffix(".scene") {
             files = files.saturating_add(1);
-            differing = differing.saturating_add(u64::from(!is_ok(rt, folder.as_str(), name)?));
+            differing = differing.saturating_add(u64::from(!is_ok(rt, folder, name)?));
         }
     }
     println!(rt; "{files} files of scenes, {differing} differ")?;
@@ -51,9 +61,18 @@ fn is_ok<R: Files + Print + AllocGlobal + Threads + Wait + Sync + Send + Copy>(
     name: &str,
 ) -> Result<bool> {
     let wanted = read(rt, folder, name)?;
-    let over_items = is_ok_over::<ItemKnowledge, R>(rt, name, wanted.as_str())?;
-    let over_plain = is_ok_over::<PlainKnowledge, R>(rt, name, wanted.as_str())?;
-    let over_sparing = is_ok_over::<SparingKnowledge, R>(rt, name, wanted.as_str())?;
+    is_ok_over_all(rt, name, wanted.as_str())
+}
+
+/// Whether the transcript over each form of knowledge is the file.
+fn is_ok_over_all<R: Print + AllocGlobal + Threads + Wait + Sync + Send + Copy>(
+    rt: &R,
+    name: &str,
+    wanted: &str,
+) -> Result<bool> {
+    let over_items = is_ok_over::<ItemKnowledge, R>(rt, name, wanted)?;
+    let over_plain = is_ok_over::<PlainKnowledge, R>(rt, name, wanted)?;
+    let over_sparing = is_ok_over::<SparingKnowledge, R>(rt, name, wanted)?;
     let is_ok = over_items && over_plain && over_sparing;
     if is_ok {
         println!(rt; "ok {name}")?;

@@ -8,7 +8,7 @@ use std::alloc::Global;
 use thiserror::Error;
 
 /// Why logs are not joined.
-#[derive(Clone, Copy, Debug, PartialEq, Eq, Error)]
+#[derive(Clone, Copy, Debug, Error)]
 pub enum Unjoined {
     #[error("two have one id")]
     OneIdTwice,
@@ -71,8 +71,5 @@ fn join_by_value<K: OneValue>(alloc: Global, ends: &[Replica<K>]) -> Result<Worl
     if !are_distinct(ends) {
         return Err(Unjoined::OneIdTwice);
     }
-    match join_logs(alloc, ends) {
-        Ok(world) => Ok(world),
-        Err(fault) => Err(Unjoined::Fault(fault)),
-    }
+    join_logs(alloc, ends).map_err(Unjoined::Fault)
 }

@@ -1,77 +1,64 @@
 //! Logs that are joined.
 use crate::device::{Device, replica_of};
-use crate::form::{Form, Unjoined};
+use crate::form::Unjoined;
+use crate::lists::{push_made, put_made};
+use crate::replica::SceneReplica;
 use crate::words::{fault_line, read_id, words};
+use crate::world::Holds;
 use anyhow::Result;
-use mr_forms::Knowledge;
-use mr_replica::Replica;
-use mr_world::World;
 use std::alloc::{AllocError, Global};
 
 /// `join R..`: joins the logs of these. Who is alone goes on as in the joined world.
-pub fn join<K: Form, R: Copy>(
+pub fn join<C: SceneReplica, W: Holds<C>, L>(
     alloc: Global,
-    devices: &mut [Device<Replica<K>, R>],
+    devices: &mut [Device<C, L>],
     ids: &str,
 ) -> Result<String> {
-    let ends = copies(alloc, devices, ids)?;
-    join_ends(alloc, devices, &ends)
-}
-
-/// Joins the logs of these ends.
-fn join_ends<K: Form, R: Copy>(
-    alloc: Global,
-    devices: &mut [Device<Replica<K>, R>],
-    ends: &[Replica<K>],
-) -> Result<String> {
-    match K::join(alloc, ends) {
-        Ok(world) => take_over(alloc, devices, &world),
-        Err(Unjoined::Fault(fault)) => fault_line(alloc, fault.number(), &fault),
-        Err(unjoined) => Err(unjoined.into()),
+    let mut ends = Vec::new(alloc);
+    push_copies(devices, ids, &mut ends)?;
+    match join_ends::<C, W, L>(alloc, devices, &ends)? {
+        None => Ok(String::from_str(alloc, "joined\n")?),
+        Some(Unjoined::Fault(fault)) => fault_line(alloc, fault.number(), &fault),
+        Some(unjoined) => Err(unjoined.into()),
     }
 }
 
-/// The replicas of these ids.
-fn copies<K: Knowledge, R: Copy>(
-    alloc: Global,
-    devices: &[Device<Replica<K>, R>],
+/// Adds the replicas of these ids.
+fn push_copies<C: SceneReplica, L>(
+    devices: &[Device<C, L>],
     ids: &str,
-) -> Result<Vec<Replica<K>>> {
-    let mut copies = Vec::new(alloc);
+    copies: &mut Vec<C>,
+) -> Result<()> {
     for word in words(ids) {
-        push_copy(&mut copies, replica_of(devices, read_id(word)?)?)?;
+        push_made(copies, replica_of(devices, read_id(word)?)?.copy())?;
     }
-    Ok(copies)
-}
-
-/// Adds a copy of it.
-fn push_copy<K: Knowledge>(
-    copies: &mut Vec<Replica<K>>,
-    replica: &Replica<K>,
-) -> Result<(), AllocError> {
-    copies.push(replica.copy()?)?;
     Ok(())
 }
 
-/// Each goes on as in this world, where it has one of its id.
-fn take_over<K: Knowledge, R: Copy>(
+/// Each goes on as in the world that explains the logs of these ends: `None`, or why there is none.
+fn join_ends<C: SceneReplica, W: Holds<C>, L>(
     alloc: Global,
-    devices: &mut [Device<Replica<K>, R>],
-    world: &World<K>,
-) -> Result<String> {
-    for device in devices {
-        if let Some(replica) = world.replica(device.id) {
-            copy_into(&mut device.replica, replica)?;
+    devices: &mut [Device<C, L>],
+    ends: &[C],
+) -> Result<Option<Unjoined>, AllocError> {
+    match &W::join(alloc, ends) {
+        Ok(world) => {
+            take_over(devices, world)?;
+            Ok(None)
         }
+        Err(unjoined) => Ok(Some(*unjoined)),
     }
-    Ok(String::from_str(alloc, "joined\n")?)
 }
 
-/// Puts a copy there.
-fn copy_into<K: Knowledge>(
-    place: &mut Option<Replica<K>>,
-    replica: &Replica<K>,
+/// Each goes on as in this world, where it has one of its id.
+fn take_over<C: SceneReplica, W: Holds<C>, L>(
+    devices: &mut [Device<C, L>],
+    world: &W,
 ) -> Result<(), AllocError> {
-    *place = Some(replica.copy()?);
+    for device in devices {
+        if let Some(replica) = world.replica(device.id) {
+            put_made(&mut device.replica, replica.copy())?;
+        }
+    }
     Ok(())
 }

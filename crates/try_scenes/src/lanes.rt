@@ -5,6 +5,7 @@ ghost use Rattle.mr_link.specs.LaneLink.{SameEnd};
 use crate::strange_link::{receive_over, send_over};
 use crate::words::{fault_line, next_word, read_count, words};
 use anyhow::{Context, Result, bail};
+use mr_lane::LaneFault;
 use mr_link::{LaneLink, Link, LinkFault, lane_link, link_settle};
 use std::alloc::{AllocError, Global};
 use std::str::SplitWhitespace;
@@ -24,14 +25,14 @@ enum Sent {
 
 /// Both ends of a link, where there is one.
 #[derive(Drop)]
-pub struct LaneEnds<R> {
-    here: Option<LaneLink<R>>,
-    there: Option<LaneLink<R>>,
+pub struct LaneEnds<L> {
+    here: Option<L>,
+    there: Option<L>,
 }
 
-impl<R> LaneEnds<R> {
+impl<L> LaneEnds<L> {
     /// No link.
-    pub fn none() -> LaneEnds<R> {
+    pub fn none() -> LaneEnds<L> {
         LaneEnds {
             here: None,
             there: None,
@@ -43,23 +44,30 @@ impl<R> LaneEnds<R> {
 pub fn open<R: Wait + Copy>(
     rt: &R,
     alloc: Global,
-    ends: &mut LaneEnds<R>,
+    ends: &mut LaneEnds<LaneLink<R>>,
     line: &str,
 ) -> Result<String> {
-    match lane_link(*rt, alloc, read_count(line)?) {
-        Ok((here, there)) => {
-            ends.here = Some(here);
-            ends.there = Some(there);
-            Ok(String::new(alloc))
-        }
+    match put_both(ends, lane_link(*rt, alloc, read_count(line)?)) {
+        Ok(()) => Ok(String::new(alloc)),
         Err(fault) => fault_line(alloc, fault.number(), &fault),
     }
+}
+
+/// Puts both ends there, where they were made.
+fn put_both<L: Drop>(
+    ends: &mut LaneEnds<L>,
+    made: Result<(L, L), LaneFault>,
+) -> Result<(), LaneFault> {
+    let (here, there) = made?;
+    ends.here = Some(here);
+    ends.there = Some(there);
+    Ok(())
 }
 
 /// `by here|there sends HEX`, `.. receives`, or `.. hangs`.
 pub fn by<R: Wait + Copy>(
     alloc: Global,
-    ends: &mut LaneEnds<R>,
+    ends: &mut LaneEnds<LaneLink<R>>,
     who: &str,
     mut words: SplitWhitespace<'_>,
 ) -> Result<String> {

@@ -2,7 +2,7 @@
 use mr_node::{Answer, NodeFault, NodeReplies};
 
 /// What came of a node's run.
-#[derive(Clone, Copy, Debug, PartialEq, Eq)]
+#[derive(Clone, Copy)]
 pub enum LastRun {
     /// It ran to its end.
     Ended(Counts),
@@ -14,7 +14,7 @@ pub enum LastRun {
 
 /// How many letters a node had, to how many of them it answered with no refusal, and how many sends and receives the ends of its links
 /// made.
-#[derive(Clone, Copy, Debug, PartialEq, Eq)]
+#[derive(Clone, Copy)]
 pub struct Counts {
     pub letters: usize,
     pub answered: usize,
@@ -46,7 +46,7 @@ impl Counts {
 }
 
 /// Why a node came to nothing: the number of its fault, and how many letters, and turns of each link, were handed back.
-#[derive(Clone, Copy, Debug, PartialEq, Eq)]
+#[derive(Clone, Copy)]
 pub struct Refused {
     pub number: u8,
     pub events: usize,

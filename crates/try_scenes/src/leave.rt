@@ -1,27 +1,25 @@
 //! Replicas that leave their world.
 use crate::device::{Device, device_of};
 use crate::history::History;
+use crate::replica::SceneReplica;
 use crate::words::{read_id, words};
 use crate::work::Work;
+use crate::world::Holds;
 use anyhow::{Context, Result};
-use mr_forms::Knowledge;
-use mr_replica::Replica;
-use mr_script::Interpreter;
 use mr_version::Author;
-use mr_world::World;
 use std::alloc::{AllocError, Global};
 
-/// `leave R..`: these leave as they are now in the world of the history, or else of the script.
-pub fn leave_all<K: Knowledge, R: Copy>(
+/// `leave R..`: these leave as they are now in the world of the history, or else in this one of the script.
+pub fn leave_all<C: SceneReplica, W: Holds<C>, L: Drop>(
     alloc: Global,
-    script: &Interpreter<K>,
-    history: &History<K>,
-    devices: &mut Vec<Device<Replica<K>, R>>,
+    script: Option<&W>,
+    history: &History<W>,
+    devices: &mut Vec<Device<C, L>>,
     ids: &str,
 ) -> Result<()> {
     let world = match &history.world {
         Some(world) => world,
-        None => script.world().context("nothing has happened")?,
+        None => script.context("nothing has happened")?,
     };
     for word in words(ids) {
         leave(alloc, world, devices, read_id(word)?)?;
@@ -30,10 +28,10 @@ pub fn leave_all<K: Knowledge, R: Copy>(
 }
 
 /// This one leaves the world.
-fn leave<K: Knowledge, R: Copy>(
+fn leave<C: SceneReplica, W: Holds<C>, L: Drop>(
     alloc: Global,
-    world: &World<K>,
-    devices: &mut Vec<Device<Replica<K>, R>>,
+    world: &W,
+    devices: &mut Vec<Device<C, L>>,
     id: Author,
 ) -> Result<()> {
     let replica = world.replica(id).context("no such replica")?;
@@ -42,9 +40,9 @@ fn leave<K: Knowledge, R: Copy>(
 }
 
 /// Puts a replica in the place of the one of this id, or behind the others.
-fn put_device<C: Drop, R: Copy>(
+fn put_device<C: Drop, L: Drop>(
     alloc: Global,
-    devices: &mut Vec<Device<C, R>>,
+    devices: &mut Vec<Device<C, L>>,
     id: Author,
     replica: C,
 ) -> Result<(), AllocError> {
@@ -58,9 +56,9 @@ fn put_device<C: Drop, R: Copy>(
 }
 
 /// Adds a replica with nothing to do.
-fn push_device<C: Drop, R: Copy>(
+fn push_device<C: Drop, L: Drop>(
     alloc: Global,
-    devices: &mut Vec<Device<C, R>>,
+    devices: &mut Vec<Device<C, L>>,
     id: Author,
     replica: C,
 ) -> Result<(), AllocError> {

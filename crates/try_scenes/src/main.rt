@@ -36,11 +36,13 @@ mod join;
 mod lanes;
 mod last_run;
 mod leave;
+mod lists;
 mod lone_core;
 mod machine;
 mod node;
 mod parts;
 mod play;
+mod replica;
 mod roster;
 mod scene;
 mod start;
@@ -51,6 +53,7 @@ mod tell;
 mod wire;
 mod words;
 mod work;
+mod world;
 
 use std::process::ExitCode;
 

@@ -10,7 +10,7 @@ use crate::strange_link::StrangeLink;
 use crate::work::{Plan, Waiting, Work, hang_up_all};
 use anyhow::Result;
 use mr_forms::Knowledge;
-use mr_link::{Gate, OpenGate};
+use mr_link::{Gate, LaneLink, OpenGate};
 use mr_node::{LinkTurns, NodeEnd, NodeFault, NodeParts, run_node};
 use mr_replica::Replica;
 use mr_version::Author;
@@ -30,8 +30,8 @@ type Ran<C, R> = Result<
 pub fn run_all<K: Knowledge<Vector: Send> + Send, R: Threads + Wait + Sync + Send + Copy>(
     rt: &R,
     alloc: Global,
-    waiting: &mut Vec<Waiting<R>>,
-    devices: &mut [Device<Replica<K>, R>],
+    waiting: &mut Vec<Waiting<LaneLink<R>>>,
+    devices: &mut [Device<Replica<K>, LaneLink<R>>],
 ) -> Result<String> {
     hang_up_all(waiting);
     run_at_once(rt, alloc, devices);
@@ -42,7 +42,7 @@ pub fn run_all<K: Knowledge<Vector: Send> + Send, R: Threads + Wait + Sync + Sen
 fn run_at_once<K: Knowledge<Vector: Send> + Send, R: Threads + Wait + Sync + Send + Copy>(
     rt: &R,
     alloc: Global,
-    devices: &mut [Device<Replica<K>, R>],
+    devices: &mut [Device<Replica<K>, LaneLink<R>>],
 ) {
     let threads = devices.len();
     let start = Start::new(threads as u64);
@@ -62,40 +62,34 @@ fn run_device<K: Knowledge<Vector: Send> + Send, R: Threads + Wait + Sync + Send
     rt: &R,
     alloc: Global,
     start: &Start,
-    device: &mut Device<Replica<K>, R>,
+    device: &mut Device<Replica<K>, LaneLink<R>>,
 ) {
-    let mut work = mem::replace(&mut device.work, Work::new(alloc));
-    if !start.wait() {
+    let work = mem::replace(&mut device.work, Work::new(alloc));
+    if start.wait() {
+        device.last = run(rt, alloc, &mut device.replica, work);
+    } else {
         device.last = Some(LastRun::NoThread);
-        return;
-    }
-    match device.replica.take() {
-        Some(replica) => {
-            let (replica, last) = run(rt, alloc, replica, work);
-            device.replica = replica;
-            device.last = Some(last);
-        }
-        None => {
-            work.hang_up();
-            device.last = None;
-        }
     }
 }
 
-/// Runs a replica as a node, behind its gate.
+/// Runs a replica as a node, behind its gate, where there is one.
 fn run<K: Knowledge<Vector: Send> + Send, R: Threads + Wait + Sync + Send + Copy>(
     rt: &R,
     alloc: Global,
-    replica: Replica<K>,
-    work: Work<R>,
-) -> (Option<Replica<K>>, LastRun) {
+    place: &mut Option<Replica<K>>,
+    mut work: Work<LaneLink<R>>,
+) -> Option<LastRun> {
+    let Some(replica) = place.take() else {
+        work.hang_up();
+        return None;
+    };
     match work.gate {
-        GateKind::Open => run_behind(rt, alloc, replica, work, &OpenGate),
-        kind => run_behind(rt, alloc, replica, work, &SceneGate::new(kind)),
+        GateKind::Open => Some(run_behind(rt, alloc, place, replica, work, &OpenGate)),
+        kind => Some(run_behind(rt, alloc, place, replica, work, &SceneGate::new(kind))),
     }
 }
 
-/// Runs a replica as a node, behind this gate.
+/// Runs a replica as a node, behind this gate, and puts it back.
 fn run_behind<
     K: Knowledge<Vector: Send> + Send,
     G: Gate + Sync,
@@ -103,19 +97,28 @@ fn run_behind<
 >(
     rt: &R,
     alloc: Global,
+    place: &mut Option<Replica<K>>,
     replica: Replica<K>,
-    work: Work<R>,
+    work: Work<LaneLink<R>>,
     gate: &G,
-) -> (Option<Replica<K>>, LastRun) {
+) -> LastRun {
     let places = work.places;
-    ended(run_node(rt, alloc, parts_of(alloc, replica, work), gate, places))
+    let ran = run_node(rt, alloc, parts_of(alloc, replica, work), gate, places);
+    end(place, ran)
+}
+
+/// Puts the replica of a node that ran back, where there still is one: what came of the run.
+fn end<C: Drop, R: Wait + Copy>(place: &mut Option<C>, ran: Ran<C, R>) -> LastRun {
+    let last = last_of(&ran);
+    *place = replica_of(ran);
+    last
 }
 
 /// The parts of a node.
 fn parts_of<C, R: Copy>(
     alloc: Global,
     replica: C,
-    work: Work<R>,
+    work: Work<LaneLink<R>>,
 ) -> NodeParts<C, StrangeLink<R>, StrangeLink<R>>
     ensures first { result.first_link.link.downs ≡ 0 }
     ensures second { result.second_link.link.downs ≡ 0 }
@@ -136,7 +139,7 @@ fn parts_of<C, R: Copy>(
 }
 
 /// A new link with its turns: where none is planned, one that is down and has none.
-fn link_turns<R>(alloc: Global, plan: Option<Plan<R>>) -> LinkTurns<StrangeLink<R>>
+fn link_turns<R>(alloc: Global, plan: Option<Plan<LaneLink<R>>>) -> LinkTurns<StrangeLink<R>>
     ensures { result.link.downs ≡ 0 }
 {
     match plan {
@@ -149,12 +152,6 @@ fn link_turns<R>(alloc: Global, plan: Option<Plan<R>>) -> LinkTurns<StrangeLink<
             turns: Vec::new(alloc),
         },
     }
-}
-
-/// The replica of a node that ran, where there still is one, and what came of the run.
-fn ended<C: Drop, R: Wait + Copy>(ran: Ran<C, R>) -> (Option<C>, LastRun) {
-    let last = last_of(&ran);
-    (replica_of(ran), last)
 }
 
 /// What came of the run.
@@ -177,7 +174,7 @@ fn replica_of<C: Drop, L: Drop>(ran: Result<(NodeEnd<C>, L, L), NodeFault<C, L, 
 }
 
 /// Each that did not run to an end.
-fn tell_ran<C, R>(alloc: Global, devices: &[Device<C, R>]) -> Result<String> {
+fn tell_ran<C, L>(alloc: Global, devices: &[Device<C, L>]) -> Result<String> {
     let mut text = String::new(alloc);
     for device in devices {
         push_last(&mut text, device.id, device.last)?;

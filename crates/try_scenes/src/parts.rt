@@ -5,13 +5,14 @@ use crate::tap::TapEnds;
 use crate::words::{next_word, words};
 use crate::{inbox, lanes, tap};
 use anyhow::{Context, Result, bail};
+use mr_link::LaneLink;
 use std::alloc::Global;
 use std::sync::Wait;
 
 /// What `by` finds: both ends of a link, an inbox, and a tap.
 #[derive(Drop)]
 pub struct Parts<R> {
-    pub lanes: LaneEnds<R>,
+    pub lanes: LaneEnds<LaneLink<R>>,
     pub inbox: Option<Inbox>,
     pub tap: Option<TapEnds<R>>,
 }

@@ -1,8 +1,9 @@
 //! The transcript of a file of scenes.
 use crate::form::Form;
-use crate::scene::{Scene, answer_of};
+use crate::scene::{Scene, SceneOver, answer_of};
 use crate::words::{split_word, words};
 use anyhow::{Result, bail};
+use mr_script::Interpreter;
 use std::sync::Wait;
 use std::thread::Threads;
 
@@ -12,30 +13,41 @@ pub fn transcript<
     K: Form<Vector: Send> + Send,
     R: AllocGlobal + Threads + Wait + Sync + Send + Copy,
 >(rt: &R, text: &str) -> Result<String> {
-    let mut scene: Scene<K, R> = Scene::new(rt.alloc());
+    let alloc = rt.alloc();
+    let mut scene: SceneOver<K, R> = Scene::new(alloc, Interpreter::new(alloc));
     play(rt, &mut scene, text)
 }
 
-/// Does each line, and adds it to the transcript with its answers.
+/// Does each line, and gives the transcript.
 fn play<K: Form<Vector: Send> + Send, R: AllocGlobal + Threads + Wait + Sync + Send + Copy>(
     rt: &R,
-    scene: &mut Scene<K, R>,
+    scene: &mut SceneOver<K, R>,
     text: &str,
 ) -> Result<String> {
     let mut played = String::new(rt.alloc());
+    push_played(rt, scene, text, &mut played)?;
+    Ok(played)
+}
+
+/// Does each line, and adds it to the transcript with its answers.
+fn push_played<K: Form<Vector: Send> + Send, R: AllocGlobal + Threads + Wait + Sync + Send + Copy>(
+    rt: &R,
+    scene: &mut SceneOver<K, R>,
+    text: &str,
+    played: &mut String,
+) -> Result<()> {
     let mut is_done = true;
     for line in text.lines() {
         if let ("over", forms) = split_word(line) {
             is_done = is_over(forms, K::name())?;
-            push_lines(&mut played, line, "")?;
+            push_lines(played, line, "")?;
         } else if !is_done {
-            push_lines(&mut played, line, "")?;
+            push_lines(played, line, "")?;
         } else if !line.starts_with(' ') {
-            let answer = answer_of(rt, scene, line)?;
-            push_lines(&mut played, line, answer.as_str())?;
+            push_lines(played, line, answer_of(rt, scene, line)?.as_str())?;
         }
     }
-    Ok(played)
+    Ok(())
 }
 
 /// Whether these words name a form of knowledge, or all forms.

@@ -50,38 +50,43 @@ use crate::leave::leave_all;
 use crate::lone_core::core;
 use crate::node::run_all;
 use crate::parts::Parts;
-use crate::tell::{tell_all, tell_counts, tell_steps};
+use crate::tell::tell;
 use crate::words::split_word;
 use crate::work::{Waiting, add_end, ask, set_gate, set_places};
 use crate::{between, inbox, lanes, machine, parts, tap, wire};
 use anyhow::Result;
 use mr_forms::Knowledge;
+use mr_link::LaneLink;
 use mr_replica::Replica;
 use mr_script::Interpreter;
+use mr_world::World;
 use std::alloc::Global;
 use std::sync::Wait;
 use std::thread::Threads;
 
-/// A scene over a form of knowledge.
+/// A scene: a script, worlds, and replicas that go on alone.
 #[derive(Drop)]
-pub struct Scene<K: Knowledge, R> {
+pub struct Scene<S, W, C, R> {
     /// The script with its world.
-    script: Interpreter<K>,
+    script: S,
     /// A run of a world.
-    history: History<K>,
+    history: History<W>,
     /// Those that are alone.
-    devices: Vec<Device<Replica<K>, R>>,
+    devices: Vec<Device<C, LaneLink<R>>>,
     /// The ends of links that have no place yet.
-    waiting: Vec<Waiting<R>>,
+    waiting: Vec<Waiting<LaneLink<R>>>,
     /// Lanes and links by themselves.
     parts: Parts<R>,
 }
 
-impl<K: Knowledge, R> Scene<K, R> {
-    /// Before its first line.
-    pub fn new(alloc: Global) -> Scene<K, R> {
+/// A scene over a form of knowledge.
+pub type SceneOver<K, R> = Scene<Interpreter<K>, World<K>, Replica<K>, R>;
+
+impl<S, W, C, R> Scene<S, W, C, R> {
+    /// Before its first line, with a new script.
+    pub fn new(alloc: Global, script: S) -> Scene<S, W, C, R> {
         Scene {
-            script: Interpreter::new(alloc),
+            script,
             history: History::new(alloc),
             devices: Vec::new(alloc),
             waiting: Vec::new(alloc),
@@ -94,92 +99,94 @@ impl<K: Knowledge, R> Scene<K, R> {
 pub fn answer_of<
     K: Form<Vector: Send> + Send,
     R: AllocGlobal + Threads + Wait + Sync + Send + Copy,
->(rt: &R, scene: &mut Scene<K, R>, line: &str) -> Result<String> {
-    match do_line(rt, scene, line) {
+>(rt: &R, scene: &mut SceneOver<K, R>, line: &str) -> Result<String> {
+    match do_line(rt, rt.alloc(), scene, line) {
         Ok(answer) => Ok(answer),
         Err(fault) => Ok(format!(in rt.alloc(); "fault: {fault}\n")?),
     }
 }
 
 /// Does a line.
-fn do_line<K: Form<Vector: Send> + Send, R: AllocGlobal + Threads + Wait + Sync + Send + Copy>(
+fn do_line<K: Form<Vector: Send> + Send, R: Threads + Wait + Sync + Send + Copy>(
     rt: &R,
-    scene: &mut Scene<K, R>,
+    alloc: Global,
+    scene: &mut SceneOver<K, R>,
     line: &str,
 ) -> Result<String> {
-    let alloc = rt.alloc();
     let (word, rest) = split_word(line);
     match word {
         "history" => scene.history.run(alloc),
         "whole" => scene.history.tell(alloc, rest),
         "run" => run_all(rt, alloc, &mut scene.waiting, &mut scene.devices),
-        "tell" => tell_all(alloc, &scene.devices, rest),
-        "steps" => tell_steps(alloc, &scene.devices, rest),
-        "counts" => tell_counts(alloc, &scene.devices, rest),
-        "join" => join(alloc, &mut scene.devices, rest),
+        "tell" | "steps" | "counts" => tell(alloc, &scene.devices, word, rest),
+        "join" => { join::<Replica<K>, World<K>, LaneLink<R>>(alloc, &mut scene.devices, rest) }
         "posts" => posts(rt, alloc, &scene.devices, rest),
         "core" => core(rt, alloc, &mut scene.devices, rest),
-        _ => match prepare(rt, alloc, scene, word, rest) {
-            Some(done) => done.map(|()| String::new(alloc)),
-            None => do_part(rt, alloc, scene, line, word, rest),
-        },
+        "then" | "leave" | "ask" | "end" | "gate" | "places" => {
+            prepare(rt, alloc, scene, word, rest)?;
+            Ok(String::new(alloc))
+        }
+        "scene" => begin(alloc, scene, Interpreter::new(alloc)),
+        _ => do_part(rt, alloc, &mut scene.script, &mut scene.parts, line),
     }
 }
 
-/// Does what a line says that prints nothing. `None` for another line.
-fn prepare<K: Knowledge, R: Wait + Copy>(
+/// Does what a line says that prints nothing.
+fn prepare<K: Form, R: Wait + Copy>(
     rt: &R,
     alloc: Global,
-    scene: &mut Scene<K, R>,
+    scene: &mut SceneOver<K, R>,
     word: &str,
     rest: &str,
-) -> Option<Result<()>> {
+) -> Result<()> {
     match word {
-        "then" => Some(scene.history.add(alloc, rest)),
-        "leave" => Some(leave_all(
+        "then" => scene.history.add(alloc, rest),
+        "leave" => leave_all(
             alloc,
-            &scene.script,
+            scene.script.world(),
             &scene.history,
             &mut scene.devices,
             rest,
-        )),
-        "ask" => Some(ask(alloc, &scene.script, &mut scene.devices, rest)),
-        "end" => Some(add_end(rt, alloc, &mut scene.waiting, &mut scene.devices, rest)),
-        "gate" => Some(set_gate(&mut scene.devices, rest)),
-        "places" => Some(set_places(&mut scene.devices, rest)),
-        _ => None,
-    }
-}
-
-/// Does a line about lanes, links or machines by themselves, a line of a script, or one that begins anew.
-fn do_part<K: Knowledge, R: Threads + Wait + Sync + Send + Copy>(
-    rt: &R,
-    alloc: Global,
-    scene: &mut Scene<K, R>,
-    line: &str,
-    word: &str,
-    rest: &str,
-) -> Result<String> {
-    match word {
-        "read" => wire::read(rt, alloc, rest),
-        "reads" => wire::reads(rt, alloc, rest),
-        "send" => wire::send(alloc, rest),
-        "lanes" => lanes::open(rt, alloc, &mut scene.parts.lanes, rest),
-        "inbox" => inbox::open(alloc, &mut scene.parts.inbox, rest),
-        "tap" => tap::open(rt, alloc, &mut scene.parts.tap, rest),
-        "by" => parts::by(rt, alloc, &mut scene.parts, rest),
-        "settle" => parts::settle(alloc, &mut scene.parts, rest),
-        "pieces" => lanes::pieces(rt, alloc, rest),
-        "letters" => between::letters(rt, alloc, rest),
-        "items" => between::items(rt, alloc, rest),
-        "machine" => machine::run(rt, alloc, rest),
-        "scene" => begin(alloc, scene),
-        _ => Ok(scene.script.line(line.as_bytes())?),
+        ),
+        "ask" => ask(alloc, &scene.script, &mut scene.devices, rest),
+        "end" => add_end(rt, alloc, &mut scene.waiting, &mut scene.devices, rest),
+        "gate" => set_gate(&mut scene.devices, rest),
+        _ => set_places(&mut scene.devices, rest),
     }
 }
 
 /// All is new.
-fn begin<K: Knowledge, R: Copy>(alloc: Global, scene: &mut Scene<K, R>) -> Result<String> {
-    *scene = Scene::new(alloc);
+fn begin<S: Drop, W: Drop, C: Drop, R: Copy>(
+    alloc: Global,
+    scene: &mut Scene<S, W, C, R>,
+    script: S,
+) -> Result<String> {
+    *scene = Scene::new(alloc, script);
     Ok(String::new(alloc))
+}
+
+/// Does a line about lanes, links or machines by themselves, or a line of a script.
+fn do_part<K: Knowledge, R: Threads + Wait + Sync + Send + Copy>(
+    rt: &R,
+    alloc: Global,
+    script: &mut Interpreter<K>,
+    parts: &mut Parts<R>,
+    line: &str,
+) -> Result<String> {
+    let (word, rest) = split_word(line);
+    match word {
+        "read" => wire::read(rt, alloc, rest),
+        "reads" => wire::reads(rt, alloc, rest),
+        "send" => wire::send(alloc, rest),
+        "lanes" => lanes::open(rt, alloc, &mut parts.lanes, rest),
+        "inbox" => inbox::open(alloc, &mut parts.inbox, rest),
+        "tap" => tap::open(rt, alloc, &mut parts.tap, rest),
+        "by" => parts::by(rt, alloc, parts, rest),
+        "settle" => parts::settle(alloc, parts, rest),
+        "pieces" => lanes::pieces(rt, alloc, rest),
+        "letters" => between::letters(rt, alloc, rest),
+        "items" => between::items(rt, alloc, rest),
+        "machine" => machine::run(rt, alloc, rest),
+        _ => Ok(script.line(line.as_bytes())?),
+    }
 }

@@ -3,7 +3,7 @@ use crate::words::read_number;
 use anyhow::{Context, Result, bail};
 
 /// What a link does.
-#[derive(Clone, Copy, Debug, PartialEq, Eq)]
+#[derive(Clone, Copy)]
 pub enum What {
     /// What it has to do.
     Works,
@@ -20,7 +20,7 @@ pub enum What {
 }
 
 /// When it does so.
-#[derive(Clone, Copy, Debug, PartialEq, Eq)]
+#[derive(Clone, Copy)]
 pub enum When {
     /// At this call, the sends and receives of that end counted from 0.
     Call(u64),
@@ -31,7 +31,7 @@ pub enum When {
 }
 
 /// What a link does strangely.
-#[derive(Clone, Copy, Debug, PartialEq, Eq)]
+#[derive(Clone, Copy)]
 pub struct Strange {
     pub what: What,
     pub when: When,

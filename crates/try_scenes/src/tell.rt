@@ -1,57 +1,46 @@
 //! What replicas that are alone hold and did, as it is told.
 use crate::device::{Device, replica_of};
 use crate::last_run::{Counts, LastRun};
+use crate::replica::SceneReplica;
 use crate::words::{read_id, words};
 use anyhow::{Result, bail};
 use mr_feed::Entry;
-use mr_forms::Knowledge;
-use mr_replica::{Event, Replica, Revision};
+use mr_replica::Event;
 use mr_version::Author;
 use std::alloc::{AllocError, Global};
 
-/// `tell R..`: what these hold.
-pub fn tell_all<K: Knowledge, R: Copy>(
+/// `tell R..`, `steps R..` and `counts R..`: what these hold; what they did, and what came into their feeds; and how much they did
+/// in the last run, and how long their logs are.
+pub fn tell<C: SceneReplica, L>(
     alloc: Global,
-    devices: &[Device<Replica<K>, R>],
+    devices: &[Device<C, L>],
+    what: &str,
     ids: &str,
 ) -> Result<String> {
     let mut text = String::new(alloc);
     for word in words(ids) {
-        push_held(&mut text, replica_of(devices, read_id(word)?)?)?;
+        push_told(&mut text, devices, what, read_id(word)?)?;
     }
     Ok(text)
 }
 
-/// `steps R..`: what these did, and what came into their feeds.
-pub fn tell_steps<K: Knowledge, R: Copy>(
-    alloc: Global,
-    devices: &[Device<Replica<K>, R>],
-    ids: &str,
-) -> Result<String> {
-    let mut text = String::new(alloc);
-    for word in words(ids) {
-        push_steps(&mut text, replica_of(devices, read_id(word)?)?)?;
+/// Adds that of one of them.
+fn push_told<C: SceneReplica, L>(
+    text: &mut String,
+    devices: &[Device<C, L>],
+    what: &str,
+    id: Author,
+) -> Result<()> {
+    let replica = replica_of(devices, id)?;
+    match what {
+        "tell" => Ok(replica.push_held(text)?),
+        "steps" => Ok(push_steps(text, id, replica)?),
+        _ => Ok(push_counts(text, id, counts_of(devices, id)?, replica.log().len())?),
     }
-    Ok(text)
-}
-
-/// `counts R..`: how much these did in the last run, and how long their logs are.
-pub fn tell_counts<K: Knowledge, R: Copy>(
-    alloc: Global,
-    devices: &[Device<Replica<K>, R>],
-    ids: &str,
-) -> Result<String> {
-    let mut text = String::new(alloc);
-    for word in words(ids) {
-        let id = read_id(word)?;
-        let log = replica_of(devices, id)?.log().len();
-        push_counts(&mut text, id, counts_of(devices, id)?, log)?;
-    }
-    Ok(text)
 }
 
 /// What this one did in the last run.
-fn counts_of<C, R>(devices: &[Device<C, R>], id: Author) -> Result<Counts> {
+fn counts_of<C, L>(devices: &[Device<C, L>], id: Author) -> Result<Counts> {
     for device in devices {
         if let (true, Some(LastRun::Ended(counts))) = (device.id == id, device.last) {
             return Ok(counts);
@@ -75,40 +64,17 @@ fn push_counts(
     )
 }
 
-/// What a replica holds, and how many sessions and streams of it are open.
-fn push_held<K: Knowledge>(text: &mut String, replica: &Replica<K>) -> Result<(), AllocError> {
-    let id = replica.id();
-    let sessions = replica.open_sessions()?.len();
-    let streams = replica.open_streams()?.len();
-    let end = if replica.is_retired() {
-        ", retired"
-    } else {
-        ""
-    };
-    write!(text, "{id}: heads")?;
-    push_revisions(text, replica.heads())?;
-    text.push_str("; push-outs")?;
-    push_revisions(text, replica.push_outs())?;
-    write!(text, "; open {sessions} {streams}{end}\n")
-}
-
 /// A character for each event of the log, and the feed.
-fn push_steps<K: Knowledge>(text: &mut String, replica: &Replica<K>) -> Result<(), AllocError> {
-    let id = replica.id();
+fn push_steps<C: SceneReplica>(
+    text: &mut String,
+    id: Author,
+    replica: &C,
+) -> Result<(), AllocError> {
     write!(text, "{id}: ")?;
     push_log(text, replica.log())?;
     text.push_str("; feed")?;
     push_feed(text, replica.feed())?;
     text.push('\n')
-}
-
-/// The versions of the revisions, each behind a space.
-fn push_revisions(text: &mut String, revisions: &[Revision]) -> Result<(), AllocError> {
-    for revision in revisions {
-        let version = revision.version();
-        write!(text, " {version}")?;
-    }
-    Ok(())
 }
 
 /// The entries, each behind a space: `+V` for a version that entered, `-V` for one that left.

@@ -12,8 +12,9 @@ use std::sync::Wait;
 /// `read HEX [WHAT WHEN]`: what the first two reads give over such a link with these bytes.
 pub fn read<R: Wait>(rt: &R, alloc: Global, line: &str) -> Result<String> {
     let mut words = words(line);
-    let bytes = hex::decode(alloc, next_word(&mut words)?)?;
+    let bytes = next_word(&mut words)?;
     let strange = Strange::read(words.next(), words.next())?;
+    let bytes = hex::decode(alloc, bytes)?;
     let mut text = String::new(alloc);
     read_two(rt, alloc, &bytes, strange, &mut text)?;
     Ok(text)
@@ -23,8 +24,9 @@ pub fn read<R: Wait>(rt: &R, alloc: Global, line: &str) -> Result<String> {
 pub fn reads<R: Wait>(rt: &R, alloc: Global, line: &str) -> Result<String> {
     let mut words = words(line);
     let calls = next_number(&mut words)?;
-    let bytes = hex::decode(alloc, next_word(&mut words)?)?;
+    let bytes = next_word(&mut words)?;
     let what = read_what(next_word(&mut words)?)?;
+    let bytes = hex::decode(alloc, bytes)?;
     let mut text = String::new(alloc);
     for call in 0..calls {
         let when = When::Call(call);
@@ -44,10 +46,24 @@ fn read_two<R: Wait>(
     let bytes = Vec::from_slice(alloc, bytes)?;
     let mut wire = Wire::new(alloc, BytesLink::new(alloc, bytes, strange));
     let first = wire.read_frame(rt, alloc);
-    push_read(alloc, text, &first)?;
-    match &first {
-        Err(Snag::BadFrame) => Ok(()),
-        _ => push_read(alloc, text, &wire.read_frame(rt, alloc)),
+    let second = match &first {
+        Err(Snag::BadFrame) => None,
+        _ => Some(wire.read_frame(rt, alloc)),
+    };
+    push_reads(alloc, text, &first, &second)
+}
+
+/// What two reads gave.
+fn push_reads(
+    alloc: Global,
+    text: &mut String,
+    first: &Result<Frame, Snag>,
+    second: &Option<Result<Frame, Snag>>,
+) -> Result<()> {
+    push_read(alloc, text, first)?;
+    match second {
+        Some(second) => push_read(alloc, text, second),
+        None => Ok(()),
     }
 }
 
@@ -76,11 +92,18 @@ fn push_snag(text: &mut String, snag: Snag) -> Result<(), AllocError> {
 /// `send HEX HEX [WHAT WHEN]`: what becomes of two frames that are sent over such a link, and the bytes that were.
 pub fn send(alloc: Global, line: &str) -> Result<String> {
     let mut words = words(line);
-    let first = hex::decode(alloc, next_word(&mut words)?)?;
-    let second = hex::decode(alloc, next_word(&mut words)?)?;
+    let first = next_word(&mut words)?;
+    let second = next_word(&mut words)?;
     let strange = Strange::read(words.next(), words.next())?;
-    let first = decode(alloc, &first)?;
-    let second = decode(alloc, &second)?;
+    let first = hex::decode(alloc, first)?;
+    let second = hex::decode(alloc, second)?;
+    send_frames(alloc, &first, &second, strange)
+}
+
+/// Sends the frames that these bytes are.
+fn send_frames(alloc: Global, first: &[u8], second: &[u8], strange: Strange) -> Result<String> {
+    let first = decode(alloc, first)?;
+    let second = decode(alloc, second)?;
     send_two(alloc, &first.0, &second.0, strange)
 }
 

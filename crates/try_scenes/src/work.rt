@@ -1,13 +1,16 @@
 //! What replicas that are alone have to do in the next run.
 use crate::device::{Device, device_of};
 use crate::gate::GateKind;
+use crate::lists::push_made;
 use crate::strange::Strange;
 use crate::words::{next_count, next_id, next_number, next_word, read_number, words};
 use anyhow::{Context, Result, bail};
 use mr_command::{Command, Roster};
+use mr_lane::LaneFault;
 use mr_link::{LaneLink, Link, lane_link};
+use mr_mail::Message;
 use mr_node::Turn;
-use mr_replica::Event;
+use mr_replica::{Bases, Event};
 use mr_version::Version;
 use mr_world::Act;
 use std::alloc::{AllocError, Global};
@@ -21,24 +24,24 @@ const PLACES: usize = 4;
 
 /// A link to come: its lane, where it isn't always down, what it does strangely, and its turns.
 #[derive(Drop)]
-pub struct Plan<R> {
-    pub lane: Option<LaneLink<R>>,
+pub struct Plan<L> {
+    pub lane: Option<L>,
     pub strange: Strange,
     pub turns: Vec<Turn>,
 }
 
 /// What one has to do: what its user asks, its links, its gate, and the places of its lanes.
 #[derive(Drop)]
-pub struct Work<R> {
+pub struct Work<L> {
     pub events: Vec<Event>,
-    pub links: Vec<Plan<R>>,
+    pub links: Vec<Plan<L>>,
     pub gate: GateKind,
     pub places: usize,
 }
 
-impl<R> Work<R> {
+impl<L> Work<L> {
     /// Nothing.
-    pub fn new(alloc: Global) -> Work<R> {
+    pub fn new(alloc: Global) -> Work<L> {
         Work {
             events: Vec::new(alloc),
             links: Vec::new(alloc),
@@ -48,7 +51,7 @@ impl<R> Work<R> {
     }
 }
 
-impl<R: Wait + Copy> Work<R> {
+impl<R: Wait + Copy> Work<LaneLink<R>> {
     /// Hangs up its links, which nobody runs.
     pub fn hang_up(&mut self) {
         for plan in &mut self.links {
@@ -61,49 +64,54 @@ impl<R: Wait + Copy> Work<R> {
 
 /// The end of a link whose other end has its place already.
 #[derive(Drop)]
-pub struct Waiting<R> {
+pub struct Waiting<L> {
     link: u64,
-    lane: LaneLink<R>,
+    lane: L,
 }
 
 /// `ask LINE`: a letter of a replica's user.
-pub fn ask<S: Roster, C, R: Copy>(
+pub fn ask<S: Roster, C, L>(
     alloc: Global,
     roster: &S,
-    devices: &mut [Device<C, R>],
+    devices: &mut [Device<C, L>],
     line: &str,
 ) -> Result<()> {
     let command = Command::read(alloc, line, roster)?;
-    push_letter(devices, &command)
+    ask_for(devices, &command)
 }
 
 /// What a command asks of a replica is asked of it in the next run.
-fn push_letter<C, R>(devices: &mut [Device<C, R>], command: &Command) -> Result<()> {
+fn ask_for<C, L>(devices: &mut [Device<C, L>], command: &Command) -> Result<()> {
     let Command::Happen(event) = command else {
         bail!("it asks nothing");
     };
     let device = device_of(devices, event.replica)?;
-    device.work.events.push(letter(&event.act)?)?;
+    push_letter(&mut device.work.events, &event.act)
+}
+
+/// Adds the letter of an act that takes no frame.
+fn push_letter(letters: &mut Vec<Event>, act: &Act) -> Result<()> {
+    match act {
+        Act::Create(message) => push_made(letters, message.copy().map(Event::Create))?,
+        Act::Edit(bases, message) => push_made(letters, edit(bases, message))?,
+        Act::Retire => letters.push(Event::Retire)?,
+        Act::Vouch(version) => letters.push(Event::Vouch(*version))?,
+        _ => bail!("no user asks that"),
+    }
     Ok(())
 }
 
-/// The letter of an act that takes no frame.
-fn letter(act: &Act) -> Result<Event> {
-    match act {
-        Act::Create(message) => Ok(Event::Create(message.copy()?)),
-        Act::Edit(bases, message) => Ok(Event::Edit(bases.copy()?, message.copy()?)),
-        Act::Retire => Ok(Event::Retire),
-        Act::Vouch(version) => Ok(Event::Vouch(*version)),
-        _ => bail!("no user asks that"),
-    }
+/// An edit of these bases.
+fn edit(bases: &Bases, message: &Message) -> Result<Event, AllocError> {
+    Ok(Event::Edit(bases.copy()?, message.copy()?))
 }
 
 /// `end L R TURNS [WHAT WHEN]`: an end of link L at this replica.
 pub fn add_end<R: Wait + Copy, C>(
     rt: &R,
     alloc: Global,
-    waiting: &mut Vec<Waiting<R>>,
-    devices: &mut [Device<C, R>],
+    waiting: &mut Vec<Waiting<LaneLink<R>>>,
+    devices: &mut [Device<C, LaneLink<R>>],
     line: &str,
 ) -> Result<()> {
     let mut words = words(line);
@@ -116,21 +124,17 @@ pub fn add_end<R: Wait + Copy, C>(
     }
     // Room first: an end that is lost would let the other one wait.
     device.work.links.reserve(1)?;
-    push_link(
-        alloc,
-        &mut device.work.links,
-        lane_of(rt, alloc, waiting, link)?,
-        strange,
-    )?;
+    let lane = lane_of(rt, alloc, waiting, link)?;
+    push_link(alloc, &mut device.work.links, lane, strange)?;
     let plan = device.work.links.last_mut().context("no link")?;
     add_turns(alloc, &mut plan.turns, turns)
 }
 
 /// Adds a link without turns.
-fn push_link<R: Copy>(
+fn push_link<L: Drop>(
     alloc: Global,
-    links: &mut Vec<Plan<R>>,
-    lane: LaneLink<R>,
+    links: &mut Vec<Plan<L>>,
+    lane: L,
     strange: Strange,
 ) -> Result<(), AllocError> {
     let plan = Plan {
@@ -146,30 +150,37 @@ fn push_link<R: Copy>(
 fn lane_of<R: Wait + Copy>(
     rt: &R,
     alloc: Global,
-    all: &mut Vec<Waiting<R>>,
+    all: &mut Vec<Waiting<LaneLink<R>>>,
     link: u64,
 ) -> Result<LaneLink<R>> {
+    match waiting_end(all, link) {
+        Some(lane) => Ok(lane),
+        None => first_end(all, link, lane_link(*rt, alloc, LINK_PIECES)),
+    }
+}
+
+/// The end of this link that waits.
+fn waiting_end<L: Drop>(all: &mut Vec<Waiting<L>>, link: u64) -> Option<L> {
     if let Some(place) = all.iter().position(|waiting| waiting.link == link) {
         let waiting = all.swap_remove(place);
-        return Ok(waiting.lane);
+        return Some(waiting.lane);
     }
-    let (here, there) = lane_link(*rt, alloc, LINK_PIECES)?;
-    push_waiting(all, link, there)?;
+    None
+}
+
+/// The first end of a new link. The other one waits then.
+fn first_end<L: Drop>(
+    all: &mut Vec<Waiting<L>>,
+    link: u64,
+    made: Result<(L, L), LaneFault>,
+) -> Result<L> {
+    let (here, there) = made?;
+    all.push(Waiting { link, lane: there })?;
     Ok(here)
 }
 
-/// Lets an end wait.
-fn push_waiting<R: Copy>(
-    all: &mut Vec<Waiting<R>>,
-    link: u64,
-    lane: LaneLink<R>,
-) -> Result<(), AllocError> {
-    all.push(Waiting { link, lane })?;
-    Ok(())
-}
-
 /// Hangs up the ends that wait: nobody has their other ends any more.
-pub fn hang_up_all<R: Wait + Copy>(waiting: &mut Vec<Waiting<R>>) {
+pub fn hang_up_all<R: Wait + Copy>(waiting: &mut Vec<Waiting<LaneLink<R>>>) {
     for end in waiting.iter_mut() {
         end.lane.hang_up();
     }
@@ -204,7 +215,7 @@ fn only(alloc: Global, version: Version) -> Result<Vec<Version>, AllocError> {
 }
 
 /// `gate R shuts N` or `gate R crosses`: the gate of a replica.
-pub fn set_gate<C, R>(devices: &mut [Device<C, R>], line: &str) -> Result<()> {
+pub fn set_gate<C, L>(devices: &mut [Device<C, L>], line: &str) -> Result<()> {
     let mut words = words(line);
     let device = device_of(devices, next_id(&mut words)?)?;
     device.work.gate = match next_word(&mut words)? {
@@ -216,7 +227,7 @@ pub fn set_gate<C, R>(devices: &mut [Device<C, R>], line: &str) -> Result<()> {
 }
 
 /// `places R N`: how many places the lanes of a replica's node have.
-pub fn set_places<C, R>(devices: &mut [Device<C, R>], line: &str) -> Result<()> {
+pub fn set_places<C, L>(devices: &mut [Device<C, L>], line: &str) -> Result<()> {
     let mut words = words(line);
     let device = device_of(devices, next_id(&mut words)?)?;
     device.work.places = next_count(&mut words)?;
