@@ -1,18 +1,15 @@
 //! A mail's file in a folder of a Maildir.
 ghost use Rattle.std.specs.Prelude.{◌≡◌, ◌++◌, ◌∷◌, [], if◌then◌else◌, nat_le, length, IfOk, codes, string_bytes, true, false};
-ghost use Rattle.std.specs.Option.{option_copied};
-ghost use Rattle.mr_maildir.specs.Name.{name_text, info_text, IsName};
+ghost use Rattle.mr_maildir.specs.Name.{name_text, IsName};
 ghost use Rattle.mr_maildir.specs.File.{name_of, flags_on, letters_on, path_text};
 
+use crate::info::{INFO_KEY, Info};
 use crate::letters::flags_of;
 use crate::name::read_name;
 use crate::told::behind;
 use mr_mail::{Flags, Label};
 use std::alloc::{AllocError, Global};
 use std::marker::Model;
-
-/// What the letters of a name stand behind.
-pub(crate) const INFO_KEY: &str = ":2,";
 
 /// A file of a mail in a Maildir: the label of the folder that it lies in, whether it stands there in `new` and not in
 /// `cur`, and the parts of its name.
@@ -21,7 +18,7 @@ pub struct MailFile {
     label: Label,
     is_new: bool,
     unique: String,
-    info: String,
+    info: Info,
 }
 
 impl Model for MailFile {
@@ -30,7 +27,7 @@ impl Model for MailFile {
 
     ghost Value = { FileParts };
 
-    ghost view = { λ f. record { label = f.label; is_new = f.is_new; unique = string_bytes f.unique; info = string_bytes f.info } };
+    ghost view = { λ f. record { label = f.label; is_new = f.is_new; unique = string_bytes f.unique; info = f.info } };
 }
 
 impl MailFile {
@@ -51,7 +48,7 @@ impl MailFile {
             label: label.copy()?,
             is_new,
             unique: String::from_str(alloc, parts.unique)?,
-            info: info_of(alloc, parts.letters)?,
+            info: Info::new(alloc, parts.letters)?,
         })
     }
 
@@ -68,7 +65,7 @@ impl MailFile {
             label: label.copy()?,
             is_new: false,
             unique: String::from_str(alloc, unique)?,
-            info: info_of(alloc, Some(letters))?,
+            info: Info::with_letters(alloc, letters)?,
         })
     }
 
@@ -84,11 +81,11 @@ impl MailFile {
             label: label.copy()?,
             is_new: true,
             unique: String::from_str(alloc, unique)?,
-            info: String::new(alloc),
+            info: Info::empty(),
         })
     }
 
-    /// An equal file. Its name takes two pieces of memory.
+    /// An equal file. Its name takes one piece of memory, and one more where it has more than 13 letters.
     pub(crate) fn copy(&self, alloc: Global) -> Result<MailFile, AllocError>
         ensures { IfOk result (λ file. file ≡ self.now) }
     {
@@ -97,7 +94,7 @@ impl MailFile {
             label: self.label.copy()?,
             is_new,
             unique: String::from_str(alloc, self.unique.as_str())?,
-            info: String::from_str(alloc, self.info.as_str())?,
+            info: self.info.copy(alloc)?,
         })
     }
 
@@ -192,16 +189,4 @@ fn part_name(is_new: bool) -> &'static str
     ensures { result.now ≡ (if is_new then codes "new/" else codes "cur/") }
 {
     if is_new { "new/" } else { "cur/" }
-}
-
-/// `:2,` and the letters, or nothing.
-fn info_of(alloc: Global, letters: Option<&str>) -> Result<String, AllocError>
-    ensures { IfOk result (λ info. string_bytes info ≡ info_text (option_copied letters.entry)) }
-{
-    let mut info = String::new(alloc);
-    if let Some(letters) = letters {
-        info.push_str(INFO_KEY)?;
-        info.push_str(letters)?;
-    }
-    Ok(info)
 }

@@ -19,6 +19,7 @@ mod file;
 mod folder;
 mod header;
 mod heads;
+mod info;
 mod layout;
 mod letters;
 mod listing;
