@@ -11,7 +11,8 @@ use Rattle.mr_filter.specs.Grammar.{Reads}
 use Rattle.mr_journal.specs.Device.{LeavesOnly}
 use Rattle.mr_journal.specs.Format.{StandAlike, Stands, contents}
 use Rattle.mr_journal.specs.Journal.{Keeps, device_of}
-use Rattle.mr_journal.proofs.Moments.{widened}
+use Rattle.mr_journal.specs.declared.journal.Journal.{Journal}
+use Rattle.mr_journal.proofs.Moments.{joined, widened}
 use Rattle.mr_entry.specs.Head.{HeadParts}
 use Rattle.mr_entry.specs.Note.{NoteParts}
 use Rattle.mr_entry.specs.Events.{events_of}
@@ -29,7 +30,7 @@ use Rattle.mr_kept.specs.Closing.{AreClosed, IsCut, IsFull, Takes, closers}
 use Rattle.mr_kept.specs.Entries.{AreInOrder, AreSpelled, batch_entries, entries_of, issued_after, notes_of}
 use Rattle.mr_kept.specs.Kept.{IsKept, Tells, entries_waiting, head_of, issued_of, journal_of, kept_of, nothing_waits, notes_waiting, replica_of, waiting}
 use Rattle.mr_kept.specs.Opening.{Begins, GoesOn, HasCut, IsReplayed, Reopens}
-use Rattle.mr_kept.specs.inner.Opening.{IsClosedIn}
+use Rattle.mr_kept.specs.inner.Opening.{IsClosedIn, IsRead}
 use Rattle.mr_kept.proofs.CloseLemmas.{same_setting, setting_on, taken_cuts}
 use Rattle.mr_kept.proofs.EntryLemmas.{bytes_append, events_head}
 use Rattle.mr_kept.proofs.IssuedLemmas.{replayed_issued}
@@ -196,31 +197,6 @@ module _ {K D V : Type 0} {seen : D → List ℕ} {may_leave : D → List ℕ �
       widened {P = λ c. Stands (map entry_bytes entries) c ⊎ Stands (map entry_bytes (entries ++ entries_waiting mid)) c} (HasCut (map entry_bytes entries)) leaves
       (λ c here. cut_left entries (issued_of mid) (waiting mid) c cuts (subst (λ (l : List Entry). Stands (map entry_bytes entries) c ⊎ Stands (map entry_bytes (entries ++ l)) c) same here))
 
--- ---- opened
-
-module _ {K D V : Type 0} {seen : D → List ℕ} {may_leave : D → List ℕ → Type 0} (form : Form K) where
-  pub reopens : (file : List ℕ) (texts : List (List ℕ)) (all : Bool) (notes : List NoteParts) (mid new : Journaled K D V) → Stands texts file → (is : IsReplayed form texts (head_of mid) (replica_of mid) (kept_of mid) (issued_of mid) notes)
-      → head_of new ≡ head_of mid → IsClosedIn seen may_leave (entry.Head (head_of mid) ∷ is.entries) all mid new → Reopens form seen may_leave file all notes new
-  reopens file texts all notes mid new stood is same closed =
-      let s : State K = replica_of mid in
-      let head : HeadParts = head_of mid in
-      let setting = replayed_setting form head.id s.filter head.event_limit (events_of is.entries) s is.replays in
-      let text : Stands (map entry_bytes (entry.Head head ∷ is.entries)) file = subst (λ (l : List (List ℕ)). Stands l file) is.spelled.written stood in
-      let tells : Tells head s = record { id = setting.0; filter = is.filter; event_limit = setting.1 } in
-      record {
-        entries = is.entries;
-        stood = subst (λ (h : HeadParts). Stands (map entry_bytes (entry.Head h ∷ is.entries)) file) (sym same) text;
-        order = is.order;
-        replica = s;
-        tells = subst (λ (h : HeadParts). Tells h s) (sym same) tells;
-        replays = subst (λ (n : ℕ). Replays form n s.filter s.event_limit (events_of is.entries) s) (sym setting.0) (subst (λ (n : ℕ). Replays form head.id s.filter n (events_of is.entries) s) (sym setting.1) is.replays);
-        issued_is = replayed_issued form head.id s.filter head.event_limit (events_of is.entries) s is.replays;
-        notes_are = is.notes_are;
-        closed = closed.closed;
-        kept = subst (λ (h : HeadParts). IsKept seen may_leave ((entry.Head h ∷ is.entries) ++ entries_of (issued_after 0 (events_of is.entries)) closed.closed.more) new) (sym same)
-            (subst (λ (n : ℕ). IsKept seen may_leave ((entry.Head head ∷ is.entries) ++ entries_of n closed.closed.more) new) is.issued_is closed.kept);
-      }
-
 -- ---- begun
 
 pub begins : (file c : List ℕ) (texts batch : List (List ℕ)) (head : HeadParts) → texts ≡ [] → batch ≡ entry_bytes (entry.Head head) ∷ [] → Stands texts file → Stands texts c ⊎ Stands (texts ++ batch) c → StandAlike file c ⊎ Begins file c
@@ -245,3 +221,42 @@ as_going from here = ⊎_elim (λ a. inl a) (λ b. inr (from b)) here
 -- the entries from before, and behind them what closes
 pub goes_cut : (file c : List ℕ) (texts : List (List ℕ)) (entries : List Entry) → texts ≡ map entry_bytes entries → Stands texts file → HasCut (map entry_bytes entries) c → GoesOn file c
 goes_cut file c texts entries is stood cut = (map entry_bytes entries, subst (λ (l : List (List ℕ)). Stands l file) is stood, cut)
+
+-- ---- opened
+
+-- over an opening of the journal alone
+pub moments_alike : {D : Type 0} {moment : D → ℕ} {left_since : D → ℕ → List ℕ → Type 0} (may_leave : D → List ℕ → Type 0) (file : List ℕ) (before after : D) → LeavesOnly moment left_since before after (λ c. may_leave before c ⊎ StandAlike file c)
+    → LeavesOnly moment left_since before after (λ c. may_leave before c ⊎ GoesOn file c)
+moments_alike may_leave file before after leaves = widened {P = λ c. may_leave before c ⊎ StandAlike file c} (λ c. may_leave before c ⊎ GoesOn file c) leaves (λ c here. as_going (goes_on file c) here)
+
+module _ {K D V : Type 0} {form : Form K} {seen : D → List ℕ} {may_leave : D → List ℕ → Type 0} {texts : List (List ℕ)} {notes : List NoteParts} {mid : Journaled K D V} (read : IsRead form seen may_leave texts notes mid) (file : List ℕ) (stood : Stands texts file) where
+  pub reopens : (all : Bool) (new : Journaled K D V) → head_of new ≡ head_of mid → IsClosedIn seen may_leave (entry.Head (head_of mid) ∷ read.replayed.entries) all mid new → Reopens form seen may_leave file all notes new
+  reopens all new same closed =
+      let is = read.replayed in
+      let s : State K = replica_of mid in
+      let head : HeadParts = head_of mid in
+      let setting = replayed_setting form head.id s.filter head.event_limit (events_of is.entries) s is.replays in
+      let text : Stands (map entry_bytes (entry.Head head ∷ is.entries)) file = subst (λ (l : List (List ℕ)). Stands l file) is.spelled.written stood in
+      let tells : Tells head s = record { id = setting.0; filter = is.filter; event_limit = setting.1 } in
+      record {
+        entries = is.entries;
+        stood = subst (λ (h : HeadParts). Stands (map entry_bytes (entry.Head h ∷ is.entries)) file) (sym same) text;
+        order = is.order;
+        replica = s;
+        tells = subst (λ (h : HeadParts). Tells h s) (sym same) tells;
+        replays = subst (λ (n : ℕ). Replays form n s.filter s.event_limit (events_of is.entries) s) (sym setting.0) (subst (λ (n : ℕ). Replays form head.id s.filter n (events_of is.entries) s) (sym setting.1) is.replays);
+        issued_is = replayed_issued form head.id s.filter head.event_limit (events_of is.entries) s is.replays;
+        notes_are = is.notes_are;
+        closed = closed.closed;
+        kept = subst (λ (h : HeadParts). IsKept seen may_leave ((entry.Head h ∷ is.entries) ++ entries_of (issued_after 0 (events_of is.entries)) closed.closed.more) new) (sym same)
+            (subst (λ (n : ℕ). IsKept seen may_leave ((entry.Head head ∷ is.entries) ++ entries_of n closed.closed.more) new) is.issued_is closed.kept);
+      }
+
+  -- over an opening and the commit of what closes
+  pub moments_open : {moment : D → ℕ} {left_since : D → ℕ → List ℕ → Type 0} (journal : Journal D) (before after : D) → journal_of mid ≡ journal → LeavesOnly moment left_since before (device_of journal) (λ c. may_leave before c ⊎ StandAlike file c)
+      → LeavesOnly moment left_since (device_of (journal_of mid)) after (HasCut (map entry_bytes (entry.Head (head_of mid) ∷ read.replayed.entries))) → LeavesOnly moment left_since before after (λ c. may_leave before c ⊎ GoesOn file c)
+  moments_open {moment} {left_since} journal before after same first second =
+      let entries : List Entry = entry.Head (head_of mid) ∷ read.replayed.entries in
+      let on : LeavesOnly moment left_since (device_of journal) after (HasCut (map entry_bytes entries)) = subst (λ (j : Journal D). LeavesOnly moment left_since (device_of j) after (HasCut (map entry_bytes entries))) same second in
+      joined (moments_alike may_leave file before (device_of journal) first)
+      (widened {P = HasCut (map entry_bytes entries)} (λ c. may_leave before c ⊎ GoesOn file c) on (λ c cut. inr (goes_cut file c texts entries read.replayed.spelled.written stood cut)))

@@ -1,5 +1,5 @@
 -- a journal that a replica left is not refused, and gives a replica that is alike
-use Rattle.std.proofs.Common.{◌≡◌, inl, inr, ⊎_elim, ℕ, ◌+◌, ◌≤◌, Bool, List, [], ◌∷◌, ◌++◌, length, Option, Result, Ok, Err, refl, sym, ap, subst, ◌∙◌, arith, append-nil}
+use Rattle.std.proofs.Common.{◌≡◌, ◌⊎◌, inl, inr, ⊎_elim, ℕ, ◌+◌, ◌≤◌, Bool, List, [], ◌∷◌, ◌++◌, length, Option, Result, Ok, Err, refl, sym, ap, subst, ◌∙◌, arith, append-nil}
 use Rattle.std.specs.Prelude.{map}
 use Rattle.std.specs.List.{AllByRecursion}
 use Rattle.std.proofs.lemmas.List.{length-append, append_cancel_left}
@@ -8,7 +8,11 @@ use Rattle.mr_filter.specs.Grammar.{Reads}
 use Rattle.mr_filter.proofs.UniqueLemmas.{Reads-fault, Reads-unique}
 use Rattle.mr_forms.specs.ByMeaning.{IsByMeaning}
 use Rattle.mr_forms.specs.Known.{Form}
+use Rattle.mr_journal.specs.Device.{LeavesOnly}
 use Rattle.mr_journal.specs.Format.{StandAlike, Stands}
+use Rattle.mr_journal.specs.Journal.{device_of}
+use Rattle.mr_journal.specs.declared.journal.Journal.{Journal}
+use Rattle.mr_journal.proofs.Moments.{joined, widened}
 use Rattle.mr_journal.proofs.Unique.{not_refused, one_list}
 use Rattle.mr_entry.specs.Decoding.{decoded}
 use Rattle.mr_entry.specs.Events.{events_of, events_of_entry}
@@ -31,13 +35,14 @@ use Rattle.mr_kept.specs.declared.fault.OpenFault.{OpenFault}
 use Rattle.mr_kept.specs.declared.fault.OpenFault.TheVariants as fault
 use Rattle.mr_kept.specs.declared.journaled.Journaled.{Journaled}
 use Rattle.mr_kept.specs.Entries.{AllBelong, Belongs, issued_after, notes_of}
-use Rattle.mr_kept.specs.Kept.{head_of, replica_of}
+use Rattle.mr_kept.specs.Kept.{head_of, issued_of, journal_of, kept_of, replica_of}
 use Rattle.mr_kept.specs.Opening.{IsOfOther, IsOfPlace, IsReplayed, Reopens}
 use Rattle.mr_kept.specs.Refusing.{IsBehindHead, IsLonger, IsNoFilter, IsNoHead, IsNoReplay, IsOpenFault, IsOutOfOrder, IsRefused, IsUnread, IsWrong, StopsAt}
 use Rattle.mr_kept.specs.Whole.{ComesBack, HasLog, HasLogOf, IsOf, IsOfMachine}
 use Rattle.mr_kept.proofs.EntryLemmas.{events_append, events_cons, issued_append}
 use Rattle.mr_kept.proofs.LogLemmas.{replayed_few}
-use Rattle.mr_kept.proofs.OpenLemmas.{replayed_setting}
+use Rattle.mr_kept.specs.inner.Opening.{IsRead}
+use Rattle.mr_kept.proofs.OpenLemmas.{as_going, replayed_setting}
 
 -- ---- one entry
 
@@ -247,6 +252,23 @@ module _ {K : Type 0} (form : Form K) (meaning : IsByMeaning form) where
             is_its_log = left.is_its_log;
           },
         )
+
+    -- what a crash leaves over an opening of the journal alone
+    pub has_alike : {D : Type 0} {moment : D → ℕ} {left_since : D → ℕ → List ℕ → Type 0} (may_leave : D → List ℕ → Type 0) (before after : D) → LeavesOnly moment left_since before after (λ c. may_leave before c ⊎ StandAlike file c)
+        → LeavesOnly moment left_since before after (λ c. may_leave before c ⊎ HasLog form c head notes)
+    has_alike may_leave before after leaves = widened {P = λ c. may_leave before c ⊎ StandAlike file c} (λ c. may_leave before c ⊎ HasLog form c head notes) leaves (λ c here. as_going (alike_has c) here)
+
+    -- and over the commit of what closes too
+    pub has_open : {D V : Type 0} {seen : D → List ℕ} {may_leave : D → List ℕ → Type 0} {moment : D → ℕ} {left_since : D → ℕ → List ℕ → Type 0} {texts : List (List ℕ)} {told : List NoteParts} {mid : Journaled K D V}
+        (read : IsRead form seen may_leave texts told mid) → Stands texts file → (journal : Journal D) (before after : D) → journal_of mid ≡ journal → LeavesOnly moment left_since before (device_of journal) (λ c. may_leave before c ⊎ StandAlike file c)
+        → (IsOf (head_of mid) (replica_of mid) → LeavesOnly moment left_since (device_of (journal_of mid)) after (λ c. HasLog form c (head_of mid) (notes_of (entry.Head (head_of mid) ∷ read.replayed.entries))))
+        → LeavesOnly moment left_since before after (λ c. may_leave before c ⊎ HasLog form c head notes)
+    has_open {D} {V} {seen} {may_leave} {moment} {left_since} {texts} {told} {mid} read stood journal before after same first closing =
+        let of = of_replayed texts (head_of mid) (replica_of mid) (kept_of mid) (issued_of mid) told stood read.replayed in
+        let Q : List ℕ → Type 0 = λ c. HasLog form c (head_of mid) (notes_of (entry.Head (head_of mid) ∷ read.replayed.entries)) in
+        let on : LeavesOnly moment left_since (device_of journal) after Q = subst (λ (j : Journal D). LeavesOnly moment left_since (device_of j) after Q) same (closing of.1) in
+        joined (has_alike may_leave before (device_of journal) first)
+        (widened {P = Q} (λ c. may_leave before c ⊎ HasLog form c head notes) on (λ c has. inr (subst (λ (h : HeadParts). HasLog form c h notes) of.0 (subst (λ (ns : List NoteParts). HasLog form c (head_of mid) ns) of.2 has))))
 
     -- memory and the device aside, it is opened
     pub opens : (mark : List ℕ) (birth : Option (List ℕ)) (why : OpenFault) → IsOfPlace head mark birth → IsOpenFault form file mark birth why → IsOfMachine why

@@ -3,7 +3,7 @@ ghost use Rattle.std.specs.Prelude.{◌≡◌, ◌⊎◌, [], IfErr, IfOk, IsTru
 ghost use Rattle.mr_filter.specs.Grammar.{Reads};
 ghost use Rattle.mr_journal.specs.Device.{LeavesOnly};
 ghost use Rattle.mr_journal.specs.Format.{contents};
-ghost use Rattle.mr_journal.specs.Journal.{device_of};
+ghost use Rattle.mr_journal.specs.Journal.{Keeps, device_of};
 ghost use Rattle.mr_replica.specs.State.{State};
 ghost use Rattle.mr_entry.specs.Grammar.{Spells};
 ghost use Rattle.mr_entry.specs.Head.{HeadParts};
@@ -80,18 +80,18 @@ fn check_head(head: &Head, mark: &Mark, birth: Option<Birth>) -> Result<(), Open
     }
 }
 
-/// The replica of the events that the entries tell.
+/// The replica of the events that the entries tell. The entries are let go before the events are taken.
 fn replay_of<K: Knowledge>(
     alloc: Global,
-    entries: &[Vec<u8>],
+    entries: Vec<Vec<u8>>,
     mark: &Mark,
     birth: Option<Birth>,
 ) -> Result<Replayed<K>, OpenFault>
-    ensures replayed { IfOk result (λ r. IsReplayed K.form (contents entries.now) r.head r.replica r.kept r.issued r.notes.items) }
+    ensures replayed { IfOk result (λ r. IsReplayed K.form (contents entries.items) r.head r.replica r.kept r.issued r.notes.items) }
     ensures place { IfOk result (λ r. IsOfPlace r.head mark.now birth) }
-    ensures fault { IfErr result (IsRefused K.form (contents entries.now) mark.now birth) }
+    ensures fault { IfErr result (IsRefused K.form (contents entries.items) mark.now birth) }
 {
-    let [first, rest @ ..] = entries else {
+    let [first, rest @ ..] = entries.as_slice() else {
         return Err(OpenFault::NoReplica);
     };
     let head = head_of(alloc, first)?;
@@ -102,6 +102,7 @@ fn replay_of<K: Knowledge>(
         issued,
         notes,
     } = gather(alloc, rest)?;
+    drop(entries);
     match Replica::replay(alloc, head.id(), filter, head.event_limit(), events) {
         Ok(replica) => {
             let log = replica.log();
@@ -120,6 +121,7 @@ fn replay_of<K: Knowledge>(
 
 impl<K: Knowledge, D: Device + Drop> Journaled<K, D> {
     ghost use Rattle.mr_kept.specs.Kept.{head_of, journal_of, leaving, nothing_waits, replica_of};
+    ghost use Rattle.mr_kept.specs.inner.Opening.{IsRead};
 
     /// Brings the replica of a journal back: a fresh one of the id, the filter and the limit that the journal's head tells
     /// takes the events again. What was open is closed, a session by a CutIn and a stream by a CutOut, and that is kept before
@@ -162,17 +164,43 @@ impl<K: Knowledge, D: Device + Drop> Journaled<K, D> {
             Ok(opened) => opened,
             Err((fault, device)) => return Err((OpenFault::Journal(fault), device)),
         };
+        let (mut opened, notes) = match Self::of_entries(alloc, journal, entries, mark, birth) {
+            Ok(found) => found,
+            Err(refused) => return Err(refused),
+        };
+        match opened.close() {
+            Ok(are_closed) => Ok((opened, Opened { notes, are_closed })),
+            Err(fault) => Err((OpenFault::Kept(fault), opened.into_device())),
+        }
+    }
+
+    // The replica that the entries of its journal tell, and their notes. Nothing is closed yet.
+    fn of_entries(
+        alloc: Global,
+        journal: Journal<D>,
+        entries: Vec<Vec<u8>>,
+        mark: &Mark,
+        birth: Option<Birth>,
+    ) -> Result<(Journaled<K, D>, Vec<Note>), (OpenFault, D)>
+        ensures read { Keeps D.seen D.may_leave (contents entries.items) journal
+            → IfOk result (λ r. IsRead K.form D.seen D.may_leave (contents entries.items) r.1.items r.0) }
+        ensures journal { IfOk result (λ r. journal_of r.0 ≡ journal) }
+        ensures place { IfOk result (λ r. IsOfPlace (head_of r.0) mark.now birth) }
+        ensures none_waits { IfOk result (λ r. nothing_waits r.0 ≡ true) }
+        ensures fault { IfErr result (λ e. IsRefused K.form (contents entries.items) mark.now birth e.0) }
+        ensures device { IfErr result (λ e. e.1 ≡ device_of journal) }
+    {
         let Replayed {
             head,
             replica,
             kept,
             issued,
             notes,
-        } = match replay_of(alloc, &entries, mark, birth) {
+        } = match replay_of(alloc, entries, mark, birth) {
             Ok(found) => found,
             Err(fault) => return Err((fault, journal.into_device())),
         };
-        let mut opened = Journaled {
+        let opened = Journaled {
             alloc,
             replica,
             journal,
@@ -182,9 +210,6 @@ impl<K: Knowledge, D: Device + Drop> Journaled<K, D> {
             leaving: Vec::new(alloc),
             notes: Vec::new(alloc),
         };
-        match opened.close() {
-            Ok(are_closed) => Ok((opened, Opened { notes, are_closed })),
-            Err(fault) => Err((OpenFault::Kept(fault), opened.into_device())),
-        }
+        Ok((opened, notes))
     }
 }
