@@ -1,19 +1,19 @@
 -- what one line of a script after another leaves
-use Rattle.std.proofs.Common.{◌≡◌, ◌+◌, ◌-◌, ◌<◌, ◌≤◌, ℕ, List, [], length, Option, Some, None, Ok, Err, IfSome, inl, inr, refl, arith}
+use Rattle.std.proofs.Common.{◌≡◌, ◌+◌, ◌-◌, ◌<◌, ◌≤◌, ℕ, List, [], length, Option, Some, None, Result, Ok, Err, IfSome, ◌⊎◌, inl, inr, refl, arith}
 use Rattle.std.specs.Io.BufRead.{take_through, drop_through}
 use Rattle.std.specs.declared.string.String.{String}
 use Rattle.std.specs.declared.alloc.Global.{Global}
 use Rattle.mr_forms.specs.Known.{Form}
 use Rattle.mr_command.specs.declared.fault.LineFault.{LineFault}
 use Rattle.mr_script.specs.declared.fault.ScriptFault.{ScriptFault}
-use Rattle.mr_script.specs.declared.fault.ScriptFault.TheVariants.{Line}
+use Rattle.mr_script.specs.declared.fault.ScriptFault.TheVariants.{Line, Read, Write}
 use Rattle.mr_script.specs.declared.source.SourceFault.{SourceFault}
 use Rattle.mr_script.specs.declared.source.SourceFault.TheVariants as source
 use Rattle.mr_script.specs.Fault.{fault_of_source}
-use Rattle.mr_script.specs.Leaving.{Leaves, ScriptLeaves}
+use Rattle.mr_script.specs.Leaving.{IsOfOutput, Leaves, LeavesBehind, ScriptLeaves}
 use Rattle.mr_script.specs.inner.Leaving.{ComesTo, NextLeaves}
 use Rattle.mr_script.specs.Leaving.Leaves.{all_run, breaks, too_long, at_fault, goes_on}
-use Rattle.mr_script.specs.Run.{Breaks, LineDoes}
+use Rattle.mr_script.specs.Run.{Breaks, LineDoes, end_of}
 use Rattle.mr_script.specs.Script.{lines_of, looked_at, TakesLine, IsNextLine}
 use Rattle.mr_script.specs.Stage.{Stage}
 use Rattle.mr_script.proofs.LineLemmas.{lines-first}
@@ -54,6 +54,15 @@ pub leaves_unread : {K : Type 0} (form : Form K) (s : Stage K) (script : Option 
 leaves_unread form s None fault broken = tt
 leaves_unread form s (Some bytes) fault broken = breaks broken
 
+pub unread_behind : {K : Type 0} (form : Form K) (s : Stage K) (script : Option (List ℕ)) (fault : ScriptFault) → Breaks 1 fault → IfSome script (λ bytes. LeavesBehind form s bytes (Err fault) s)
+unread_behind form s None fault broken = tt
+unread_behind form s (Some bytes) fault broken = record { end = Some fault; is_end = inr refl; leaves = breaks broken }
+
+-- what was written last doesn't change what is left
+pub written_behind : {K : Type 0} (form : Form K) (first : Stage K) (script : List ℕ) (ran result : Result (Unit {0}) ScriptFault) (last : Stage K) → (result ≡ Err Write) ⊎ (result ≡ ran) → LeavesBehind form first script ran last → LeavesBehind form first script result last
+written_behind form first script ran result last (inl failed) behind = record { end = behind.end; is_end = inl (inl failed); leaves = behind.leaves }
+written_behind form first script ran result last (inr same) behind = rw same behind
+
 module _ {K : Type 0} (form : Form K) (first : Stage K) (script : List ℕ) where
   -- the lines so far have come to s, and the rest is left
   pub record CameTo (s : Stage K) (number taken : ℕ) (left : Option (List ℕ)) : Type 0 where
@@ -77,3 +86,10 @@ module _ {K : Type 0} (form : Form K) (first : Stage K) (script : List ℕ) wher
     -- where the script ends here
     pub came_to_end : (end : Option ScriptFault) (last : Stage K) → IfSome left (λ bytes. Leaves form s number (MAX_SCRIPT_BYTES - taken) (lines_of bytes) end last) → ScriptLeaves form first script end last
     came_to_end end last leaves = came.comes end last (rw came.is_left at leaves)
+
+    pub ended_behind : (result : Result (Unit {0}) ScriptFault) (last : Stage K) → IfSome left (λ bytes. Leaves form s number (MAX_SCRIPT_BYTES - taken) (lines_of bytes) (end_of result) last) → LeavesBehind form first script result last
+    ended_behind result last leaves = record { end = end_of result; is_end = inr refl; leaves = came_to_end (end_of result) last leaves }
+
+    -- where the output ends it here
+    pub cut_behind : (result : Result (Unit {0}) ScriptFault) → IsOfOutput result → LeavesBehind form first script result s
+    cut_behind result of_output = record { end = Some Read; is_end = inl of_output; leaves = came.comes (Some Read) s (breaks (inl refl)) }

@@ -1,12 +1,13 @@
 -- a script from its first line to its end
-use Rattle.std.specs.Prelude.{◌≡◌, ◌<◌, ◌≤◌, ◌+◌, ◌-◌, ◌==◌, ℕ, Bool, true, false, List, [], ◌∷◌, ◌++◌, length, Option, Some, None, Result, Ok, Err, ◌⊎◌}
+use Rattle.std.specs.Prelude.{◌≡◌, ◌<◌, ◌≤◌, ◌+◌, ◌-◌, ◌==◌, ℕ, Bool, true, false, List, [], ◌∷◌, ◌++◌, length, Option, Some, None, Result, Ok, Err, IfErr, IfSome, ◌≢◌, ◌⊎◌}
 use Rattle.std.specs.Str.{IsUtf8}
 use Rattle.std.specs.Io.KnownBytes.{Appends}
 use Rattle.mr_forms.specs.Known.{Form}
 use Rattle.mr_command.specs.declared.fault.LineFault.{LineFault}
 use Rattle.mr_command.specs.declared.fault.LineFault.TheVariants.{NotText, OutOfMemory}
 use Rattle.mr_script.specs.declared.fault.ScriptFault.{ScriptFault}
-use Rattle.mr_script.specs.declared.fault.ScriptFault.TheVariants.{Line, Read, TooLong}
+use Rattle.mr_script.specs.declared.fault.ScriptFault.TheVariants.{Line, Read, TooLong, Write}
+use Rattle.mr_script.specs.Fault.{NumbersItsLine}
 use Rattle.mr_command.specs.Command.{reads_command}
 use Rattle.mr_command.specs.declared.command.Command.{Command}
 use Rattle.mr_script.specs.Script.{lines_of, line_text, looked_at}
@@ -86,3 +87,10 @@ pub record PrintsSoFar {K : Type 0} (form : Form K) (script : List ℕ) (old new
 -- of a script whose bytes are known, a beginning was written of what it prints
 abbrev pub BeginsToPrint : {K : Type 0} → Form K → List ℕ → (old new : Option (List ℕ)) → Type 0
 BeginsToPrint form script old new = (unwritten : List ℕ) × PrintsSoFar form script old new unwritten
+
+-- How a run of a script ends, which may be known, and what it has written then: all that the script prints where no write failed, and a beginning of it wherever one did.
+pub record PrintsAll {K : Type 0} (form : Form K) (script : Option (List ℕ)) (result : Result (Unit {0}) ScriptFault) (old new : Option (List ℕ)) : Type 0 where
+  pub too_long : result ≡ Err TooLong → IfSome script (λ bytes. MAX_SCRIPT_BYTES < length bytes)
+  pub line : IfErr result NumbersItsLine
+  pub prints : result ≢ Err Write → IfSome script (λ bytes. Prints form bytes (end_of result) old new [])
+  pub begins : IfSome script (λ bytes. BeginsToPrint form bytes old new)

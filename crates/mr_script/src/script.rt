@@ -1,10 +1,10 @@
 //! Scripts, run as they are read.
-ghost use Rattle.std.specs.Prelude.{◌≡◌, ◌≢◌, ◌+◌, ◌-◌, ◌<◌, ◌≤◌, ◌++◌, ℕ, List, Option, [], Err, IfOk, IfErr, IfSome, OnOk, OnErr, IsSome, length};
+ghost use Rattle.std.specs.Prelude.{◌≡◌, ◌≢◌, ◌⊎◌, ◌+◌, ◌-◌, ◌<◌, ◌≤◌, ◌++◌, ℕ, List, Option, [], Err, IfOk, IfErr, IfSome, OnOk, OnErr, IsSome, length};
 ghost use Rattle.std.specs.Option.{option_map};
 ghost use Rattle.mr_script.specs.Fault.{fault_of_source, NumbersItsLine};
-ghost use Rattle.mr_script.specs.Leaving.{ScriptLeaves};
+ghost use Rattle.mr_script.specs.Leaving.{LeavesBehind, ScriptLeaves};
 ghost use Rattle.mr_script.specs.inner.Leaving.{NextLeaves};
-ghost use Rattle.mr_script.specs.Run.{BeginsToPrint, Breaks, Prints, PrintsSoFar, end_of};
+ghost use Rattle.mr_script.specs.Run.{Breaks, Prints, PrintsAll, PrintsSoFar, end_of};
 ghost use Rattle.mr_script.specs.inner.Run.{NextAnswer};
 ghost use Rattle.mr_script.specs.Script.{Accounts, looked_at, source_remaining};
 ghost use Rattle.mr_script.specs.inner.Waiting.{MayAsk};
@@ -38,20 +38,16 @@ pub fn run_script<K: Knowledge, R: Read + Drop, W: Write>(
     reader: R,
     writer: &mut W,
 ) -> Result<(), ScriptFault>
-    ensures too_long { result ≡ Err ScriptFault.TooLong
-        → IfSome (R.remaining reader) (λ script. MAX_SCRIPT_BYTES < length script) }
-    ensures line { IfErr result NumbersItsLine }
-    ensures prints { result ≢ Err ScriptFault.Write → IfSome (R.remaining reader)
-        (λ script. Prints K.form script (end_of result) (W.contents writer.old) (W.contents writer.new) []) }
-    ensures begins { IfSome (R.remaining reader)
-        (λ script. BeginsToPrint K.form script (W.contents writer.old) (W.contents writer.new)) }
+    ensures { PrintsAll K.form (R.remaining reader) result (W.contents writer.old) (W.contents writer.new) }
 {
     let mut interpreter = Interpreter::<K>::new(alloc);
     run_script_over(alloc, reader, writer, &mut interpreter)
 }
 
-/// Runs the script as [`run_script`] does, in a new interpreter of the caller's: for a caller who keeps the world that it
-/// makes, or who ends behind it and leaves it to the system to take its memory back.
+/// Runs the script as [`run_script`] does, in a new interpreter of the caller's, which has then what the script leaves: for a caller who keeps the world
+/// that it makes, or who ends behind it and leaves it to the system to take its memory back.
+///
+/// After `Write`, and where there was no memory for an answer, the interpreter has what the lines up to some place leave.
 pub fn run_script_over<K: Knowledge, R: Read + Drop, W: Write>(
     alloc: Global,
     reader: R,
@@ -59,13 +55,8 @@ pub fn run_script_over<K: Knowledge, R: Read + Drop, W: Write>(
     interpreter: &mut Interpreter<K>,
 ) -> Result<(), ScriptFault>
     requires { interpreter.old ≡ opening [] }
-    ensures too_long { result ≡ Err ScriptFault.TooLong
-        → IfSome (R.remaining reader) (λ script. MAX_SCRIPT_BYTES < length script) }
-    ensures line { IfErr result NumbersItsLine }
-    ensures prints { result ≢ Err ScriptFault.Write → IfSome (R.remaining reader)
-        (λ script. Prints K.form script (end_of result) (W.contents writer.old) (W.contents writer.new) []) }
-    ensures begins { IfSome (R.remaining reader)
-        (λ script. BeginsToPrint K.form script (W.contents writer.old) (W.contents writer.new)) }
+    ensures prints { PrintsAll K.form (R.remaining reader) result (W.contents writer.old) (W.contents writer.new) }
+    ensures leaves { IfSome (R.remaining reader) (λ script. LeavesBehind K.form interpreter.old script result interpreter.new) }
 {
     let mut output = Output::new(alloc);
     let ran = run_lines::<K, R, W>(alloc, reader, &mut output, writer, interpreter);
@@ -103,6 +94,7 @@ fn finish<W: Write>(
 ) -> Result<(), ScriptFault>
     ensures settles { Settles (W.contents writer.old) (W.contents writer.new) output.old output.new }
     ensures ran { result ≢ Err ScriptFault.Write → result ≡ ran }
+    ensures or_ran { (result ≡ Err ScriptFault.Write) ⊎ (result ≡ ran) }
     ensures empty { result ≢ Err ScriptFault.Write → output.new ≡ [] }
     ensures left_alone { ran ≡ Err ScriptFault.Write → writer.new ≡ writer.old }
 {
@@ -129,6 +121,7 @@ fn run_lines<K: Knowledge, R: Read + Drop, W: Write>(
         (λ script. Prints K.form script (end_of result) (W.contents writer.old) (W.contents writer.new) output.new) }
     ensures so_far { IfSome (R.remaining reader)
         (λ script. PrintsSoFar K.form script (W.contents writer.old) (W.contents writer.new) output.new) }
+    ensures leaves { IfSome (R.remaining reader) (λ script. LeavesBehind K.form interpreter.old script result interpreter.new) }
 {
     let mut source = first_source(alloc, reader)?;
     let mut line = Vec::new(alloc);

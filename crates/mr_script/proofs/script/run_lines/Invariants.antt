@@ -1,5 +1,6 @@
 use Rattle.std.proofs.Common.{ℕ, ◌+◌, ◌≤◌, List, Option, IfSome}
 use Rattle.mr_script.specs.Script.{Accounts, source_remaining}
+use Rattle.mr_script.proofs.LeaveLemmas.{CameTo}
 use Rattle.mr_script.proofs.SoFar.{SoFar}
 use Rattle.mr_script.proofs.script.run_lines.Given as goal
 use Rattle.mr_script.specs.declared.source.TheConstants.{MAX_SCRIPT_BYTES}
@@ -16,3 +17,5 @@ invariant-loop-number g l =
     × IfSome (g.R.Read.remaining l.fn.reader) (λ script.
     SoFar g.K.Knowledge.form script l.interpreter l.number l.source.taken (source_remaining g.R.Read.remaining l.source)
     (g.W.Write.contents l.fn.writer) (g.W.Write.contents l.writer) l.output)
+    × IfSome (g.R.Read.remaining l.fn.reader) (λ script.
+    CameTo g.K.Knowledge.form l.fn.interpreter script l.interpreter l.number l.source.taken (source_remaining g.R.Read.remaining l.source))
