@@ -5,3 +5,4 @@ pub mod LackingLemmas
 pub mod TakingLemmas
 pub mod SizesLemmas
 pub mod DecidingLemmas
+pub mod PartsLemmas

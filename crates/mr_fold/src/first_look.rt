@@ -1,16 +1,15 @@
 //! What one scan says, and what is done for it as if no folder had changed meanwhile. Each mail is looked at alone, so that it takes no memory for how all
 //! of them are seen.
 use crate::fold_fault::FoldFault;
-use crate::lacking::missing_mails;
 use crate::released::with_released;
 use crate::sides::{left_view, view_seen};
 use crate::targets::held_mail;
 use mr_compare::{Digest, HeldMail, LeftMail, MailAct, Sides, acts_of};
 use mr_itemset::SparingKnowledge;
 use mr_replica::Replica;
-use mr_scan::{Index, Scan};
+use mr_scan::Scan;
 use std::alloc::{AllocError, Global};
-use std::collections::BTreeMap;
+use std::collections::{BTreeMap, BTreeSet};
 use std::slice;
 
 /// What one scan says.
@@ -22,18 +21,18 @@ pub(crate) struct FirstLook {
     pub(crate) acts: Vec<MailAct>,
 }
 
-/// What one scan says of the mails that are held, in rising order of their digests, and of the others, as some were left so.
+/// What one scan says of the mails that are held, in rising order of their digests, and of the others, as some were left so and some lack their
+/// files.
 pub(crate) fn first_look(
     alloc: Global,
     replica: &Replica<SparingKnowledge>,
     left: BTreeMap<Digest, LeftMail>,
     mails: &[HeldMail],
     scan: &Scan,
-    index: &Index,
+    lacking: BTreeSet<Digest>,
 ) -> Result<FirstLook, FoldFault> {
     let others = others_of(alloc, mails, &left, scan)?;
     let left = with_released(alloc, replica, &others, left, scan)?;
-    let lacking = missing_mails(alloc, mails, index)?;
     let mut sides = Sides {
         left,
         seen: BTreeMap::new(alloc),

@@ -8,7 +8,7 @@ use crate::ancestors::ancestors_of;
 use crate::digests::{asked_items, digests_of};
 use crate::lacking::{lacking_items, without_lacking};
 use crate::settling::HeldItems;
-use crate::sizes::sizes_of;
+use crate::sizes::{put_size, sizes_of};
 use mr_compare::{
     Digest, HeldMail, LeftMail, MailAct, Shown, gathered, held_mails, held_of, item_standings,
     left_mails, left_of,
@@ -67,8 +67,8 @@ pub(crate) struct LeftSide {
 }
 
 /// How the Maildir was left with those mails some item of which changed since, as far as it was shown; each that lacked its file
-/// then it was left without. And how large the files of mails are, that what was edited in place is found.
-pub(crate) fn left_side(
+/// then it was left without. How large the files are of those that are held no more.
+fn left_side(
     alloc: Global,
     replica: &Replica<SparingKnowledge>,
     shown: &Shown,
@@ -77,14 +77,15 @@ pub(crate) fn left_side(
     let entries = usize::try_from(shown.entries()).unwrap_or(usize::MAX);
     let left = left_of(alloc, replica.feed(), entries)?;
     let asked = asked_items(alloc, &left, shown.lacking())?;
-    let mut sizes = sizes_of(alloc, replica.heads(), replica.push_outs())?;
+    let mut sizes = BTreeMap::new(alloc);
     let digests = digests_of(alloc, replica, items, &asked, &mut sizes)?;
     let mut mails = left_mails(alloc, &left, &digests, items)?;
     without_lacking(&mut mails, &digests, shown.lacking())?;
     Ok(LeftSide { mails, sizes })
 }
 
-/// How the mails stand that are held, in rising order of their digests, and how the Maildir was left with them.
+/// How the mails stand that are held, in rising order of their digests, and how the Maildir was left with them. The items are let go before all sizes are
+/// in memory.
 pub(crate) fn held_and_left(
     alloc: Global,
     replica: &Replica<SparingKnowledge>,
@@ -92,7 +93,22 @@ pub(crate) fn held_and_left(
 ) -> Result<(Vec<HeldMail>, LeftSide), AllocError> {
     let HeldSide { items, mails } = held_side(alloc, replica)?;
     let left = left_side(alloc, replica, shown, &items)?;
-    Ok((mails, left))
+    drop(items);
+    Ok((mails, with_held_sizes(alloc, replica, left)?))
+}
+
+/// The left side with the sizes of what is held too.
+fn with_held_sizes(
+    alloc: Global,
+    replica: &Replica<SparingKnowledge>,
+    left: LeftSide,
+) -> Result<LeftSide, AllocError> {
+    let LeftSide { mails, sizes: own } = left;
+    let mut sizes = sizes_of(alloc, replica.heads(), replica.push_outs())?;
+    for (digest, size) in own.iter() {
+        put_size(&mut sizes, *digest, *size)?;
+    }
+    Ok(LeftSide { mails, sizes })
 }
 
 /// What is held of the mails for which something is done.

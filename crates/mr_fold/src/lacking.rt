@@ -57,6 +57,16 @@ fn lacking_mails(
     Ok(lacking)
 }
 
+/// Takes those mails out that the index has of the store.
+pub(crate) fn remove_stored(mails: &mut BTreeSet<Digest>, index: &Index)
+    ensures { (digest : List ℕ) → has_digest mails.new.keys digest
+        ≡ (has_digest mails.old.keys digest && not (is_stored (values index.now) digest)) }
+{
+    for stored in index.values() {
+        mails.remove(&stored.digest);
+    }
+}
+
 /// Adds the digest, unless it is known already.
 pub(crate) fn insert_unless(
     digests: &mut BTreeSet<Digest>,

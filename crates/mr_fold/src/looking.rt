@@ -14,7 +14,7 @@ use crate::resting::{
     Stand, empty_notes, is_noted, is_noted_whole, names_digest, note_stand, stand_of,
 };
 use crate::seeing::{Sight, seen};
-use crate::settling::settle;
+use crate::settling::settle_in_parts;
 use crate::targets::targets_of;
 use mr_compare::{Digest, MailAct, Shown, Tally, tally_of};
 use mr_folder::{DiskTree, FilePath, FolderNames, FolderPath, StoreFault, sweep, unlink};
@@ -499,7 +499,7 @@ fn settle_seen<R: Files<File = File> + AllocGlobal + Clone + Drop>(
         created,
         &targets,
     )?;
-    settle(
+    settle_in_parts(
         alloc,
         kept,
         &mut files,

@@ -5,6 +5,7 @@ use crate::deciding::{Decided, decide};
 use crate::first_look::{FirstLook, first_look};
 use crate::fold_fault::FoldFault;
 use crate::held_side::{HeldSide, LeftSide, held_items};
+use crate::lacking::{missing_mails, remove_stored};
 use crate::looking::said;
 use crate::parting::{created_files, moved_first};
 use crate::sides::{first_sides, take_away};
@@ -67,7 +68,8 @@ pub(crate) fn seen<R: Files<File = File> + AllocGlobal + Clone + Drop>(
     Ok(sight_once(alloc, once)?)
 }
 
-/// Scans the folders, and finds what is done as far as one scan says.
+/// Scans the folders, and finds what is done as far as one scan says. Which mails lack their files is found before, while there is no scan in
+/// memory; the scan may take in some of these.
 fn seen_once<R: Files<File = File> + AllocGlobal + Clone + Drop>(
     alloc: Global,
     replica: &Replica<SparingKnowledge>,
@@ -79,8 +81,10 @@ fn seen_once<R: Files<File = File> + AllocGlobal + Clone + Drop>(
     let LeftSide { mails: left, sizes } = left;
     let Indexed { mut index, edited } = indexed(alloc, tree, &sizes)?;
     drop(sizes);
+    let mut lacking = missing_mails(alloc, mails, &index)?;
     let scan = scanned(alloc, tree, table, &mut index)?;
-    let look = first_look(alloc, replica, left, mails, &scan, &index)?;
+    remove_stored(&mut lacking, &index);
+    let look = first_look(alloc, replica, left, mails, &scan, lacking)?;
     Ok(SeenOnce {
         index,
         edited,

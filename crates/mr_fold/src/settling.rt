@@ -6,7 +6,7 @@ ghost use Rattle.mr_journal.specs.Journal.{device_of};
 ghost use Rattle.mr_entry.specs.Spelling.{entry_bytes};
 ghost use Rattle.mr_entry.specs.declared.entry.Entry.{Entry};
 ghost use Rattle.mr_kept.specs.Kept.{IsKept, Noted, entries_waiting, journal_of, nothing_waits, replica_of};
-ghost use Rattle.mr_fold.specs.Settling.{HasAll, IsNoted};
+ghost use Rattle.mr_fold.specs.Settling.{HasAll, HasFirst, IsNoted};
 ghost use Rattle.mr_fold.specs.Shown.{shown_note};
 ghost use Rattle.mr_fold.specs.Telling.{Grows, TellsAll};
 
@@ -37,6 +37,9 @@ pub trait MailFiles {
     fn sync(&mut self, alloc: Global) -> Result<(), SettleFault>
         ensures { OnOk result (are_synced self.new) };
 }
+
+/// How many mails are told in one commit, where no file of theirs has to be moved: what waits for a commit is in memory.
+const MAILS_AT_ONCE: usize = 32_768;
 
 /// What is held of each mail, by its file's digest: the items that it is, by their heads.
 pub type HeldItems = BTreeMap<Digest, Vec<ItemHeads>>;
@@ -84,6 +87,43 @@ pub fn settle<D: Device + Drop, F: MailFiles>(
         return Ok(());
     }
     settle_standing(alloc, kept, files, standing, held, lacking)
+}
+
+/// As [`settle`], part by part, so that what waits for a commit takes no memory for each mail of a large folder: the first call of it has all mails for
+/// which files have to be moved, and at most 32,768 of the others; each call behind it has as many of these, or those that are left.
+///
+/// So each of these calls keeps what is told of its mails at once, with a note that it is shown; of the mails behind it nothing is told yet, and the
+/// next settling goes on with them.
+pub fn settle_in_parts<D: Device + Drop, F: MailFiles>(
+    alloc: Global,
+    kept: &mut Journaled<SparingKnowledge, D>,
+    files: &mut F,
+    moved: &[MailAct],
+    standing: &[MailAct],
+    held: &HeldItems,
+    lacking: &[ItemId],
+) -> Result<(), SettleFault>
+    requires { length lacking.now < 2 ^ 32 }
+    ensures all_kept { OnOk result (nothing_waits kept.new ≡ true) }
+    ensures all_synced { OnOk result (F.are_synced files.new) }
+    ensures told { OnOk result (Grows (TellsAll held.now.entries (moved.now ++ standing.now)) (replica_of kept.old).log (replica_of kept.new).log) }
+    ensures noted { IsTrue D.is_told → (entries : List Entry) → IsKept D.seen D.may_leave entries kept.old
+        → OnOk result (IsNoted D.seen D.may_leave entries kept.new (shown_note (length (replica_of kept.new).feed) lacking.now)) }
+    // Where no file has to be moved, a crash at any moment leaves the journal's entries from before, or those and, of some first ones of the mails, what
+    // is told of them and the note that it is shown.
+    ensures in_parts { moved.now ≡ [] → IsTrue D.is_told → (entries : List Entry) → IsKept D.seen D.may_leave entries kept.old
+        → OnOk result (LeavesOnly D.moment D.left_since (device_of (journal_of kept.old)) (device_of (journal_of kept.new))
+        (λ c. Stands (map entry_bytes entries) c ⊎ HasFirst c entries held.now.entries standing.now lacking.now (replica_of kept.old))) }
+{
+    let (first, after) = standing.split_at(standing.len().min(MAILS_AT_ONCE));
+    settle(alloc, kept, files, moved, first, held, lacking)?;
+    let mut rest = after;
+    while !rest.is_empty() {
+        let (part, after) = rest.split_at(rest.len().min(MAILS_AT_ONCE));
+        settle(alloc, kept, files, &[], part, held, lacking)?;
+        rest = after;
+    }
+    Ok(())
 }
 
 /// Settles mails whose files have to be moved: tells what the user changed, keeps it, has the files stand as the acts say, and notes that
