@@ -8,8 +8,8 @@ mod disk;
 mod node;
 mod replica;
 
-use crate::node::{Side, link, run_all};
-use crate::replica::{begun, join, opened, push_creates, written};
+use crate::node::{Kept, KeptSide, Side, link, run_all};
+use crate::replica::{begun, creates, join, opened, written};
 use anyhow::{Context, Result, bail};
 use std::alloc::Global;
 use std::sync::Wait;
@@ -49,26 +49,42 @@ fn meet<R: Threads + Wait + Sync + Send + Copy>(
     calls: u64,
 ) -> Result<bool> {
     let mut sides = Vec::new(alloc);
-    add(alloc, &mut sides, phone, calls)?;
-    add(alloc, &mut sides, laptop, u64::MAX)?;
-    link(rt, alloc, &mut sides)?;
-    run_all(rt, alloc, &mut sides);
+    let has_stopped = meet_as(rt, alloc, &mut sides, phone, laptop, calls);
+    drop(sides);
+    has_stopped
+}
+
+/// Both sides are made, and run. Tells whether the phone's disk stopped.
+fn meet_as<R: Threads + Wait + Sync + Send + Copy>(
+    rt: &R,
+    alloc: Global,
+    sides: &mut Vec<KeptSide<R>>,
+    phone: &[u8],
+    laptop: &[u8],
+    calls: u64,
+) -> Result<bool> {
+    add(alloc, sides, opened(alloc, phone, calls))?;
+    add(alloc, sides, opened(alloc, laptop, u64::MAX))?;
+    link(rt, alloc, sides)?;
+    run_all(rt, alloc, sides);
     let phone = sides.first().context("there is no phone")?;
     let laptop = sides.last().context("there is no laptop")?;
     come_back(alloc, phone, laptop)
 }
 
-/// Adds the replica of a disk that does so many calls, whose user writes.
-fn add<R: Copy>(alloc: Global, sides: &mut Vec<Side<R>>, bytes: &[u8], calls: u64) -> Result<()> {
-    let mut side = Side::new(alloc);
-    side.kept = Some(opened(alloc, bytes, calls)?);
-    push_creates(alloc, &mut side.events, MESSAGES)?;
-    sides.push(side)?;
+/// Adds the replica that was opened, whose user writes.
+fn add<K: Drop, L: Drop>(
+    alloc: Global,
+    sides: &mut Vec<Side<K, L>>,
+    kept: Result<K>,
+) -> Result<()> {
+    let kept = kept?;
+    sides.push(Side::new(kept, creates(alloc, MESSAGES)?))?;
     Ok(())
 }
 
 /// The phone comes back from what was written and from what was synced. Tells whether its disk stopped.
-fn come_back<R>(alloc: Global, phone: &Side<R>, laptop: &Side<R>) -> Result<bool> {
+fn come_back<L>(alloc: Global, phone: &Side<Kept, L>, laptop: &Side<Kept, L>) -> Result<bool> {
     let kept = phone
         .kept
         .as_ref()
@@ -80,8 +96,25 @@ fn come_back<R>(alloc: Global, phone: &Side<R>, laptop: &Side<R>) -> Result<bool
 }
 
 /// The phone comes back from these bytes.
-fn come_back_from<R>(alloc: Global, bytes: &[u8], phone: &Side<R>, laptop: &Side<R>) -> Result<()> {
+fn come_back_from<L>(
+    alloc: Global,
+    bytes: &[u8],
+    phone: &Side<Kept, L>,
+    laptop: &Side<Kept, L>,
+) -> Result<()> {
     let kept = opened(alloc, bytes, u64::MAX)?;
+    let told = compare(alloc, &kept, phone, laptop);
+    drop(kept);
+    told
+}
+
+/// What came back has all that the phone answered and told, and joins with what the laptop has.
+fn compare<L>(
+    alloc: Global,
+    kept: &Kept,
+    phone: &Side<Kept, L>,
+    laptop: &Side<Kept, L>,
+) -> Result<()> {
     if written(kept.replica()) < phone.answered {
         bail!("the phone has lost what it answered");
     }
