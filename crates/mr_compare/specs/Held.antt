@@ -9,10 +9,12 @@ use Rattle.mr_maildir.specs.Policy.{view_of}
 use Rattle.mr_maildir.specs.Reference.{ReferenceParts, IsReference, reference_text}
 use Rattle.mr_compare.specs.declared.held.Head.{Head}
 
--- the body is a reference to a file of this digest
+-- the body is a reference to a file of this digest, as it is written
 pub record RefersTo (digest body : List ℕ) : Type 0 where
   pub parts : ReferenceParts
   pub digest_is : parts.digest ≡ digest
+  pub is_reference : IsReference parts
+  pub is_text : IsUtf8 body
   pub written : reference_text parts ≡ body
 
 -- the body refers to no file

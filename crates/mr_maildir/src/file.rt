@@ -40,6 +40,7 @@ impl MailFile {
     ) -> Result<MailFile, AllocError>
         ensures label { IfOk result (λ file. file.label ≡ label.now) }
         ensures is_new { IfOk result (λ file. file.is_new ≡ is_new) }
+        ensures written { IfOk result (λ file. file.unique ++ file.info ≡ name.now) }
         ensures named { IfOk result (λ file. name_text (name_of file) ≡ name.now) }
         ensures is_name { IfOk result (λ file. IsName (name_of file)) }
     {

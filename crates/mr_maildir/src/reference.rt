@@ -62,6 +62,7 @@ fn push_line(text: &mut String, key: &str, value: &str) -> Result<(), AllocError
 /// digits of the digest are in lower case, and the size has no leading zeros.
 pub fn read_reference(body: &[u8]) -> Option<MailReference<'_>>
     ensures written { IfSome result (λ reference. reference_text (parts_of reference) ≡ body.now) }
+    ensures is { IfSome result (λ reference. IsReference (parts_of reference) × IsUtf8 body.now) }
     ensures whole { (parts : ReferenceParts) → IsReference parts → IsUtf8 body.now → reference_text parts ≡ body.now
         → MatchOption result ⊥ (λ reference. parts_of reference ≡ parts) }
 {
@@ -74,6 +75,7 @@ pub fn read_reference(body: &[u8]) -> Option<MailReference<'_>>
 /// The reference that a text is.
 fn reference_in(text: &str) -> Option<MailReference<'_>>
     ensures written { IfSome result (λ reference. reference_text (parts_of reference) ≡ text.now) }
+    ensures is { IfSome result (λ reference. IsReference (parts_of reference)) }
     ensures whole { (parts : ReferenceParts) → IsReference parts → reference_text parts ≡ text.now
         → MatchOption result ⊥ (λ reference. parts_of reference ≡ parts) }
 {
@@ -98,6 +100,7 @@ fn read_line<'a>(text: &'a str, key: &str) -> Option<(&'a str, &'a str)>
 
 /// The digest on the first line, and what follows.
 fn read_digest_line(text: &str) -> Option<([u8; 32], &str)>
+    ensures is { IfSome result (λ p. IsDigest p.0) }
     ensures written { IfSome result (λ p. text.now ≡ digest_line p.0 p.1.now) }
     ensures whole { (digest rest : List ℕ) → IsDigest digest → text.now ≡ digest_line digest rest
         → MatchOption result ⊥ (λ p. (p.0 ≡ digest) × (p.1.now ≡ rest)) }
@@ -109,6 +112,7 @@ fn read_digest_line(text: &str) -> Option<([u8; 32], &str)>
 
 /// The size on the first line, and what follows.
 fn read_size_line(text: &str) -> Option<(u64, &str)>
+    ensures is { IfSome result (λ p. p.0 < 2 ^ 64) }
     ensures written { IfSome result (λ p. text.now ≡ size_line p.0 p.1.now) }
     ensures whole { (size : ℕ) (rest : List ℕ) → size < 2 ^ 64 → text.now ≡ size_line size rest
         → MatchOption result ⊥ (λ p. (p.0 ≡ size) × (p.1.now ≡ rest)) }
@@ -120,6 +124,7 @@ fn read_size_line(text: &str) -> Option<(u64, &str)>
 
 /// The digest that 64 digits in lower case write.
 fn read_digest(digits: &str) -> Option<[u8; 32]>
+    ensures is { IfSome result IsDigest }
     ensures written { IfSome result (λ digest. digits.now ≡ encode_lower digest) }
     ensures whole { (digest : List ℕ) → IsDigest digest → digits.now ≡ encode_lower digest → result ≡ Some digest }
 {

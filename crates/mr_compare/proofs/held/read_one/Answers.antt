@@ -1,4 +1,5 @@
 use Rattle.std.proofs.Common.{Some, None, refl, sym, ap, subst, ◌∙◌}
+use Rattle.std.specs.Str.{IsUtf8}
 use Rattle.std.proofs.lemmas.List.{append-nil}
 use Rattle.mr_maildir.specs.Reference.{parts_of}
 use Rattle.mr_compare.specs.Held.{RefersToNone}
@@ -14,6 +15,12 @@ returns-in-None c = record {
 pub returns-in_ok-push_head-in-Some : goal.returns-in_ok-push_head-in-Some
 returns-in_ok-push_head-in-Some c = record {
   told = Some c.in-Some.reference.digest;
-  by_body = record { parts = parts_of c.in-Some.reference; digest_is = refl; written = c.in-Some.ensures.written ∙ (c.body.ensures.value ∙ ap (λ m. m.body) c.message.ensures) };
+  by_body = record {
+    parts = parts_of c.in-Some.reference;
+    digest_is = refl;
+    is_reference = c.in-Some.ensures.is.0;
+    is_text = subst IsUtf8 (c.body.ensures.value ∙ ap (λ m. m.body) c.message.ensures) c.in-Some.ensures.is.1;
+    written = c.in-Some.ensures.written ∙ (c.body.ensures.value ∙ ap (λ m. m.body) c.message.ensures);
+  };
   heads_are = c.in_ok-push_head-in-Some.ensures;
 }
