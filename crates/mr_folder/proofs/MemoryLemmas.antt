@@ -61,6 +61,9 @@ put_there at bytes old = let yes = same_path at in rw yes refl
 pub moved : (from to : List ℕ) (old : List Step) → tree_of (Moves from to ∷ old) to ≡ tree_of old from
 moved from to old = let yes = same_path to in rw yes refl
 
+pub moved_away : (from to : List ℕ) (old : List Step) → from ≢ to → tree_of (Moves from to ∷ old) from ≡ None
+moved_away from to old apart = let no = other_path from to apart in let yes = same_path from in rw (no, yes) refl
+
 pub move_does : (from to : List ℕ) (old : List Step) → MayMove from to (tree_of old) (tree_of (Moves from to ∷ old))
 move_does from to old = record {
   source = elim (bytes_eq from to) as (λ b. ((if b then tree_of old from else (if bytes_eq from from then None else tree_of old from)) ≡ tree_of old from) ⊎ ((if b then tree_of old from else (if bytes_eq from from then None else tree_of old from)) ≡ None)) [

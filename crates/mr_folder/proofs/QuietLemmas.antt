@@ -4,8 +4,8 @@ use Rattle.std.specs.Prelude.{slice_index, map, string_bytes, Vec}
 use Rattle.std.specs.declared.string.String.{String}
 use Rattle.std.specs.declared.alloc.Global.{Global}
 use Rattle.std.proofs.lemmas.Bool.{cases_lt}
-use Rattle.std.proofs.lemmas.List.{get_or_append_left, get_or_push}
-use Rattle.mr_folder.specs.Quiet.{Past, TellsChanges, IsStill, Between, IsSnapshot, texts}
+use Rattle.std.proofs.lemmas.List.{ext_get_or, get_or_append_left, get_or_push}
+use Rattle.mr_folder.specs.Quiet.{Past, TellsChanges, IsStill, KeepTimes, Between, IsSnapshot, texts}
 use Rattle.mr_folder.specs.inner.Quiet.{AreTimes, AreNames}
 
 -- a folder with the same time on both sides was still between them
@@ -15,6 +15,17 @@ still_between past tells folder i j from to i_from to_j same = λ k lo hi.
     let k_j : k ≤ j = omega arith in
     let from_j : from ≤ j = omega arith in
     tells folder i k j i_k k_j same ∙ sym (tells folder i from j i_from from_j same)
+
+-- where no folder had another time, the same times are read twice
+pub same_times : (past : Past) (count o m n e : ℕ) (before after : List ℕ) → KeepTimes past count o e → length before ≡ count → length after ≡ count → o ≤ n → m ≤ e → AreTimes past o m before → AreTimes past n e after → before ≡ after
+same_times past count o m n e before after one long_before long_after o_n m_e first last =
+    ext_get_or 0 before after (long_before ∙ sym long_after) (λ folder lt.
+    let within : folder < count = subst (λ l. folder < l) long_before lt in
+    let b = first folder lt in
+    let a = last folder (subst (λ l. folder < l) (sym long_after) within) in
+    let b_e : b.moment ≤ e = omega (arith, b.no_later, m_e) in
+    let o_a : o ≤ a.moment = omega (arith, a.no_sooner, o_n) in
+    b.holds ∙ (one folder b.moment within b.no_sooner b_e ∙ sym (a.holds ∙ one folder a.moment within o_a a.no_later)))
 
 pub snapshot : (past : Past) → TellsChanges past → (o m n e : ℕ) (before after : List ℕ) (names : List (List (List ℕ))) → before ≡ after → length names ≡ length before → AreTimes past o m before → AreNames past m n names → AreTimes past n e after → IsSnapshot past names m
 snapshot past tells o m n e before after names same long first between last = λ folder lt.

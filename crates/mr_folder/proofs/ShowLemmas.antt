@@ -48,6 +48,10 @@ pub none_from : (o : Option (List ℕ)) → is_some o ≡ false → o ≡ None
 none_from None is = refl
 none_from (Some bytes) is = absurd (false≢true (sym is))
 
+-- where there is room for a file at another path, that is another path
+pub apart_of_room : (from to : List ℕ) (tree : Tree) → HasRoom from to tree → from ≢ to
+apart_of_room from to tree room same = false≢true (sym (ap is_some room.free) ∙ (ap (λ p. is_some (tree p)) (sym same) ∙ room.there))
+
 -- whether there is room, told by two tests
 pub room_from : {E : Type 0} (r : Result Bool E) (from to : List ℕ) (old mid : Tree) → IfOk r (λ is. is ≡ is_some (mid from)) → mid ≡ old → old to ≡ None → IfOk r (λ room. IsTrue room ↔ HasRoom from to old)
 room_from (Ok b) from to old mid is same free = (
@@ -83,3 +87,6 @@ module _ {F : Type 0} {seen : F → Tree} {may_leave : F → Tree → Type 0} {m
     no_more = λ c left. first.no_more c (second.no_more c left);
     moments = joined first.moments (widened (may_leave old) second.moments first.no_more);
   }
+
+  pub step_then : {old mid new : F} (Step : Tree → Tree → Type 0) → Step (seen old) (seen mid) → IsUntouched seen may_leave moment left_since mid new → Step (seen old) (seen new)
+  step_then {old} {mid} {new} Step step untouched = subst (Step (seen old)) (sym untouched.same) step

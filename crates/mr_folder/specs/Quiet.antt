@@ -16,6 +16,10 @@ TellsChanges past = (folder i k j : ℕ) → i ≤ k → k ≤ j → past.time i
 abbrev pub IsStill : Past → ℕ → ℕ → ℕ → Type 0
 IsStill past folder from to = (k : ℕ) → from ≤ k → k ≤ to → past.names k folder ≡ past.names from folder
 
+-- each of so many folders kept its time from one moment to the other
+abbrev pub KeepTimes : Past → ℕ → ℕ → ℕ → Type 0
+KeepTimes past count from to = (folder k : ℕ) → folder < count → from ≤ k → k ≤ to → past.time k folder ≡ past.time from folder
+
 -- at some moment between these two
 pub record Between (from to : ℕ) (P : ℕ → Type 0) : Type 0 where
   pub moment : ℕ

@@ -1,8 +1,11 @@
 -- worked rows
-use Rattle.std.specs.Prelude.{◌≡◌, [], ◌∷◌, codes, refl}
+use Rattle.std.specs.Prelude.{◌≡◌, [], ◌∷◌, Some, codes, refl}
+use Rattle.std.proofs.Common.{inl, inr}
 use Rattle.hex.specs.Hex.{encode_with}
 use Rattle.mr_folder.specs.Fault.{store_fault_number}
 use Rattle.mr_folder.specs.Inside.{joined, first_part, own_folder, draft_path, stored_path, mail_path}
+use Rattle.mr_folder.specs.Quiet.{KeepTimes}
+use Rattle.mr_folder.specs.Store.{SameOr}
 use Rattle.mr_folder.specs.declared.path.Part.TheVariants.{Cur, New}
 use Rattle.mr_folder.specs.declared.store.StoreFault.TheVariants.{OutOfMemory, Failed}
 
@@ -34,6 +37,17 @@ mail_in_folder = refl
 pub stored_digits : stored_path (0 ∷ 171 ∷ 255 ∷ []) ≡ codes ".mailfold/files/00abff"
 unfolding encode_with
 stored_digits = refl
+
+-- a place is as it was, or has the bytes
+pub same_place : SameOr (codes "a") (7 ∷ []) (λ _. Some []) (λ _. Some [])
+same_place = inl refl
+
+pub new_place : SameOr (codes "a") (7 ∷ []) (λ _. Some []) (λ _. Some (7 ∷ []))
+new_place = inr refl
+
+-- two folders, of which each keeps a time of its own
+pub own_times : KeepTimes (record { names = λ moment folder. []; time = λ moment folder. folder }) 2 5 9
+own_times = λ folder k within from to. refl
 
 -- the numbers of faults
 pub memory_is_0 : store_fault_number OutOfMemory ≡ 0

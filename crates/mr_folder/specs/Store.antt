@@ -1,5 +1,5 @@
 -- a store of files by the digests of their bytes
-use Rattle.std.specs.Prelude.{◌≡◌, ◌≢◌, ℕ, List, Some, IfSome}
+use Rattle.std.specs.Prelude.{◌≡◌, ◌≢◌, ◌⊎◌, ℕ, List, Some, IfSome}
 use Rattle.hex.specs.Hex.{IsBytes}
 use Rattle.sha2.specs.Hashers.{Holds256}
 use Rattle.sha2.specs.Sha256.{sha256}
@@ -21,9 +21,13 @@ pub record StaysSound {F : Type 0} (seen : F → Tree) (may_leave : F → Tree �
   pub sound : IsSound seen may_leave new
   pub moments : LeavesOnly moment left_since old new IsStore
 
--- only the store's file of this digest and the draft may be others than they were
+-- only the store's file of this digest and the draft may be others than they were, or gone
 abbrev pub OnlyStored : List ℕ → Tree → Tree → Type 0
 OnlyStored digest old new = (path : List ℕ) → path ≢ stored_path digest → path ≢ draft_path → new path ≡ old path
+
+-- at this path there is what there was, or a file of these bytes
+abbrev pub SameOr : List ℕ → List ℕ → Tree → Tree → Type 0
+SameOr path bytes old new = (new path ≡ old path) ⊎ (new path ≡ Some bytes)
 
 -- the store has a file of this digest
 pub record HasMail (digest : List ℕ) (tree : Tree) : Type 0 where

@@ -25,9 +25,13 @@ pub record MayGo (path : List ℕ) (old new : Tree) : Type 0 where
   pub place : (new path ≡ old path) ⊎ (new path ≡ None)
   pub only : OnlyAt path old new
 
+-- a tree that might have been left before, after a step
+abbrev pub Stepped : (Tree → Tree → Type 0) → (Tree → Type 0) → Tree → Type 0
+Stepped step before c = (d : Tree) × before d × step d c
+
 -- each tree that may be left now is one that might have been left before, after a step
 abbrev pub Follows : (Tree → Tree → Type 0) → (Tree → Type 0) → (Tree → Type 0) → Type 0
-Follows step before now = (c : Tree) → now c → (d : Tree) × before d × step d c
+Follows step before now = (c : Tree) → now c → Stepped step before c
 
 -- whatever a crash leaves, there is no file at this path, or one of these bytes
 abbrev pub NoneOr : List ℕ → Option (List ℕ) → (Tree → Type 0) → Type 0
@@ -55,3 +59,9 @@ pub record IsUntouched {F : Type 0} (seen : F → Tree) (may_leave : F → Tree 
   pub same : seen new ≡ seen old
   pub no_more : (c : Tree) → may_leave new c → may_leave old c
   pub moments : LeavesOnly moment left_since old new (may_leave old)
+
+-- Each tree that a crash leaves in the new state, or left at a moment from the old state to it, is one that it might have left in the old
+-- state, after this step. So a file that the step doesn't change is as safe as it was.
+pub record LeavesAfter {F : Type 0} (step : Tree → Tree → Type 0) (may_leave : F → Tree → Type 0) (moment : F → ℕ) (left_since : F → ℕ → Tree → Type 0) (old new : F) : Type 0 where
+  pub crash : Follows step (may_leave old) (may_leave new)
+  pub moments : LeavesOnly moment left_since old new (Stepped step (may_leave old))

@@ -30,7 +30,8 @@ pub struct FileMark {
 /// A folder of a disk. Its calls fail as the system's do; `error` tells what it said.
 ///
 /// Where a file system makes no hard links, and where a file has as many as it may have, a link is a copy: then the store and
-/// the Maildir have the bytes twice, and an inode doesn't tell that both are one mail.
+/// the Maildir have the bytes twice, and an inode doesn't tell that both are one mail. Where both paths are links of one file, a rename
+/// leaves both, as POSIX has it.
 #[derive(Drop)]
 pub struct DiskTree<R> {
     rt: R,

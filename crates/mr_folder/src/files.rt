@@ -1,5 +1,5 @@
 //! What a store of mail asks of the place where its files are.
-ghost use Rattle.std.specs.Prelude.{◌≡◌, ◌++◌, ℕ, Bool, IsTrue, List, [], Some, OnOk, IfOk, is_some, map, option_map, string_bytes};
+ghost use Rattle.std.specs.Prelude.{◌≡◌, ◌≢◌, ◌++◌, ℕ, Bool, IsTrue, List, [], Some, OnOk, IfOk, is_some, map, option_map, string_bytes};
 ghost use Rattle.mr_folder.specs.Names.{TellsDigests};
 ghost use Rattle.mr_folder.specs.Tree.{Tree, OnlyAt, MayMove, MayLink, MayGo, Follows, NoneOr, HasSame, Passes, IsUntouched};
 
@@ -71,9 +71,10 @@ pub trait FileTree {
         ensures durable { IsTrue is_told → OnOk result (HasSame path.now (seen self.old) (may_leave self.new)) }
         ensures untouched { IsTrue is_told → IsUntouched seen may_leave moment left_since self.old self.new };
 
-    /// Gives a file another path, in place of one that stands there.
+    /// Gives a file another path, in place of one that stands there. At the first path there is none then, unless both are one.
     fn rename(&mut self, from: &FilePath, to: &FilePath) -> Result<(), FilesFailed>
         ensures moved { IsTrue is_told → OnOk result (seen self.new to.now ≡ seen self.old from.now) }
+        ensures gone { IsTrue is_told → from.now ≢ to.now → OnOk result (seen self.new from.now ≡ None) }
         ensures files { IsTrue is_told → MayMove from.now to.now (seen self.old) (seen self.new) }
         ensures crash { IsTrue is_told → Follows (MayMove from.now to.now) (may_leave self.old) (may_leave self.new) }
         ensures time { IsTrue is_told → Passes (moment self.old) (moment self.new) (left_since self.old) (left_since self.new) (may_leave self.new) };

@@ -1,7 +1,7 @@
 //! Listings of folders that other programs may change meanwhile.
 ghost use Rattle.std.specs.Prelude.{◌≡◌, ◌≤◌, ◌++◌, ◌∷◌, [], ℕ, Bool, IsTrue, IfOk, OnOk, length, map, nat_eq, string_bytes};
 ghost use Rattle.std.specs.Cmp.Lexicographic.{pointwise};
-ghost use Rattle.mr_folder.specs.Quiet.{Past, TellsChanges, IsStill, Between, IsSnapshot, texts};
+ghost use Rattle.mr_folder.specs.Quiet.{Past, TellsChanges, IsStill, KeepTimes, Between, IsSnapshot, texts};
 ghost use Rattle.mr_folder.specs.inner.Quiet.{AreTimes, AreNames};
 
 use crate::files::FilesFailed;
@@ -55,6 +55,8 @@ pub fn list<F: Folders>(
 ) -> Result<Listing, FilesFailed>
     ensures snapshot { IsTrue F.is_told → IfOk result (λ listing. IsTrue listing.is_quiet
         → Between (F.moment folders.old) (F.moment folders.new) (IsSnapshot (F.past folders.old) (texts listing.names.items))) }
+    ensures quiet { IsTrue F.is_told → KeepTimes (F.past folders.old) count (F.moment folders.old) (F.moment folders.new)
+        → IfOk result (λ listing. IsTrue listing.is_quiet) }
     ensures count { IfOk result (λ listing. length listing.names.items ≡ count) }
     ensures later { IsTrue F.is_told → F.moment folders.old ≤ F.moment folders.new }
     ensures same { IsTrue F.is_told → F.past folders.new ≡ F.past folders.old }

@@ -26,7 +26,8 @@ pub fn link<F: FileTree>(files: &mut F, from: &FilePath, to: &FilePath) -> Resul
     Ok(true)
 }
 
-/// Gives a file another path. False, and nothing changed, where there is no file or where one stands at that path already.
+/// Gives a file another path in place of the one that it has. False, and nothing changed, where there is no file or where one stands at
+/// that path already.
 ///
 /// It isn't synced, as `link` isn't. Of real files: one that another program puts at that very path between the look and the rename
 /// is overwritten.
@@ -37,6 +38,7 @@ pub fn replace<F: FileTree>(
 ) -> Result<bool, FilesFailed>
     ensures moved { IsTrue F.is_told → IfOk result (λ moved. IsTrue moved ↔ HasRoom from.now to.now (F.seen files.old)) }
     ensures there { IsTrue F.is_told → IfOk result (λ moved. IsTrue moved → F.seen files.new to.now ≡ F.seen files.old from.now) }
+    ensures gone { IsTrue F.is_told → IfOk result (λ moved. IsTrue moved → F.seen files.new from.now ≡ None) }
     ensures files { IsTrue F.is_told → MayMove from.now to.now (F.seen files.old) (F.seen files.new) }
     ensures over { IsTrue F.is_told → IsTrue (is_some (F.seen files.old to.now)) → F.seen files.new ≡ F.seen files.old }
     ensures crash { IsTrue F.is_told → Follows (MayMove from.now to.now) (F.may_leave files.old) (F.may_leave files.new) }

@@ -1,5 +1,5 @@
 //! The store of files by their digests.
-ghost use Rattle.std.specs.Prelude.{◌≡◌, ◌≢◌, ◌↔◌, ◌++◌, ℕ, List, [], Some, IsTrue, IfOk, IfSome, OnOk, is_some, option_map};
+ghost use Rattle.std.specs.Prelude.{◌≡◌, ◌↔◌, ◌++◌, ℕ, List, [], None, Some, false, IsTrue, IfOk, IfSome, OnOk, is_some, option_map};
 ghost use Rattle.hex.specs.Hex.{IsBytes};
 ghost use Rattle.sha2.specs.Hashers.{Holds256};
 ghost use Rattle.sha2.specs.Sha256.{sha256};
@@ -7,8 +7,8 @@ ghost use Rattle.std.specs.Str.{bytes_eq};
 ghost use Rattle.mr_folder.specs.declared.store.StoreFault.TheVariants.{OutOfMemory, Failed};
 ghost use Rattle.mr_folder.specs.Fault.{store_fault_number};
 ghost use Rattle.mr_folder.specs.Inside.{draft_path, stored_path};
-ghost use Rattle.mr_folder.specs.Store.{IsSound, StaysSound, OnlyStored, IsKept, HasCome};
-ghost use Rattle.mr_folder.specs.Tree.{OnlyAt, MayMove, HasSame, NoneOr};
+ghost use Rattle.mr_folder.specs.Store.{IsSound, StaysSound, OnlyStored, SameOr, IsKept, HasCome};
+ghost use Rattle.mr_folder.specs.Tree.{OnlyAt, MayMove, MayLink, HasSame, IsUntouched, LeavesAfter, NoneOr};
 
 use crate::files::{FileTree, FilesFailed};
 use crate::path::FilePath;
@@ -60,9 +60,12 @@ pub struct Incoming {
 }
 
 /// Begins to take a mail in, in place of one that was begun and not ended.
+///
+/// All but the draft is as it was, at each moment of the call and after a crash, also where it fails.
 pub fn begin<F: FileTree>(alloc: Global, files: &mut F) -> Result<Incoming, StoreFault>
     ensures begun { IsTrue F.is_told → IfOk result (λ incoming. HasCome [] incoming (F.seen files.new)) }
     ensures only { IsTrue F.is_told → OnlyAt draft_path (F.seen files.old) (F.seen files.new) }
+    ensures crash { IsTrue F.is_told → LeavesAfter (OnlyAt draft_path) F.may_leave F.moment F.left_since files.old files.new }
     ensures sound { IsTrue F.is_told → IsSound F.seen F.may_leave files.old → StaysSound F.seen F.may_leave F.moment F.left_since files.old files.new }
 {
     let draft = FilePath::draft(alloc)?;
@@ -73,6 +76,8 @@ pub fn begin<F: FileTree>(alloc: Global, files: &mut F) -> Result<Incoming, Stor
 }
 
 /// Takes a piece of the mail in, which follows those that came before.
+///
+/// All but the draft is as it was, at each moment of the call and after a crash, also where it fails.
 pub fn append<F: FileTree>(
     alloc: Global,
     files: &mut F,
@@ -82,6 +87,7 @@ pub fn append<F: FileTree>(
     ensures grown { IsTrue F.is_told → (come : List ℕ) → HasCome come incoming.old (F.seen files.old)
         → OnOk result (HasCome (come ++ bytes.now) incoming.new (F.seen files.new)) }
     ensures only { IsTrue F.is_told → OnlyAt draft_path (F.seen files.old) (F.seen files.new) }
+    ensures crash { IsTrue F.is_told → LeavesAfter (OnlyAt draft_path) F.may_leave F.moment F.left_since files.old files.new }
     ensures sound { IsTrue F.is_told → IsSound F.seen F.may_leave files.old → StaysSound F.seen F.may_leave F.moment F.left_since files.old files.new }
 {
     let draft = FilePath::draft(alloc)?;
@@ -92,6 +98,9 @@ pub fn append<F: FileTree>(
 
 /// Ends to take a mail in. It is in the store exactly where its bytes have this digest: true where they do. Else nothing
 /// changed.
+///
+/// All but the draft and the mail's place is as it was, at each moment of the call and after a crash, also where it fails. Of a mail
+/// that the store had by this digest already that isn't said: a crash within the call may lose it, since the draft comes in its place.
 pub fn end<F: FileTree>(
     alloc: Global,
     files: &mut F,
@@ -103,7 +112,11 @@ pub fn end<F: FileTree>(
         → IfOk result (λ taken. IsTrue taken → F.seen files.new (stored_path digest.now) ≡ Some come) }
     ensures kept { IsTrue F.is_told → (come : List ℕ) → HasCome come incoming (F.seen files.old) → IsSound F.seen F.may_leave files.old
         → IfOk result (λ taken. IsTrue taken → IsKept F.seen F.may_leave digest.now files.new) }
+    ensures refused { IsTrue F.is_told → IfOk result (λ taken. taken ≡ false → IsUntouched F.seen F.may_leave F.moment F.left_since files.old files.new) }
+    ensures place { IsTrue F.is_told → (come : List ℕ) → HasCome come incoming (F.seen files.old)
+        → SameOr (stored_path digest.now) come (F.seen files.old) (F.seen files.new) }
     ensures only { IsTrue F.is_told → OnlyStored digest.now (F.seen files.old) (F.seen files.new) }
+    ensures crash { IsTrue F.is_told → LeavesAfter (OnlyStored digest.now) F.may_leave F.moment F.left_since files.old files.new }
     ensures sound { IsTrue F.is_told → (come : List ℕ) → HasCome come incoming (F.seen files.old) → IsSound F.seen F.may_leave files.old
         → StaysSound F.seen F.may_leave F.moment F.left_since files.old files.new }
 {
@@ -116,6 +129,9 @@ pub fn end<F: FileTree>(
 }
 
 /// Takes a mail in that is here as a whole, in place of one that was begun and not ended. Its digest, by which it is in the store then.
+///
+/// All but the draft and the mail's place is as it was, at each moment of the call and after a crash, also where it fails. Of a mail
+/// that the store had by this digest already that isn't said: a crash within the call may lose it, since the draft comes in its place.
 pub fn take_in<F: FileTree>(
     alloc: Global,
     files: &mut F,
@@ -124,7 +140,9 @@ pub fn take_in<F: FileTree>(
     ensures digest { IfOk result (λ digest. digest ≡ sha256 bytes.now) }
     ensures stored { IsTrue F.is_told → IfOk result (λ digest. F.seen files.new (stored_path digest) ≡ Some bytes.now) }
     ensures kept { IsTrue F.is_told → IsSound F.seen F.may_leave files.old → IfOk result (λ digest. IsKept F.seen F.may_leave digest files.new) }
+    ensures place { IsTrue F.is_told → SameOr (stored_path (sha256 bytes.now)) bytes.now (F.seen files.old) (F.seen files.new) }
     ensures only { IsTrue F.is_told → OnlyStored (sha256 bytes.now) (F.seen files.old) (F.seen files.new) }
+    ensures crash { IsTrue F.is_told → LeavesAfter (OnlyStored (sha256 bytes.now)) F.may_leave F.moment F.left_since files.old files.new }
     ensures sound { IsTrue F.is_told → IsSound F.seen F.may_leave files.old → StaysSound F.seen F.may_leave F.moment F.left_since files.old files.new }
 {
     let digest = Sha256::digest(bytes);
@@ -137,6 +155,7 @@ pub fn take_in<F: FileTree>(
 fn write_draft<F: FileTree>(alloc: Global, files: &mut F, bytes: &[u8]) -> Result<(), StoreFault>
     ensures written { IsTrue F.is_told → OnOk result (F.seen files.new draft_path ≡ Some bytes.now) }
     ensures only { IsTrue F.is_told → OnlyAt draft_path (F.seen files.old) (F.seen files.new) }
+    ensures crash { IsTrue F.is_told → LeavesAfter (OnlyAt draft_path) F.may_leave F.moment F.left_since files.old files.new }
     ensures sound { IsTrue F.is_told → IsSound F.seen F.may_leave files.old → StaysSound F.seen F.may_leave F.moment F.left_since files.old files.new }
 {
     let draft = FilePath::draft(alloc)?;
@@ -157,7 +176,10 @@ fn place<F: FileTree>(alloc: Global, files: &mut F, digest: &[u8; 32]) -> Result
     ensures placed { IsTrue F.is_told → OnOk result (F.seen files.new (stored_path digest.now) ≡ F.seen files.old draft_path) }
     ensures kept { IsTrue F.is_told → (bytes : List ℕ) → F.seen files.old draft_path ≡ Some bytes → sha256 bytes ≡ digest.now
         → IsSound F.seen F.may_leave files.old → OnOk result (IsKept F.seen F.may_leave digest.now files.new) }
+    ensures place { IsTrue F.is_told → (bytes : List ℕ) → F.seen files.old draft_path ≡ Some bytes
+        → SameOr (stored_path digest.now) bytes (F.seen files.old) (F.seen files.new) }
     ensures only { IsTrue F.is_told → OnlyStored digest.now (F.seen files.old) (F.seen files.new) }
+    ensures crash { IsTrue F.is_told → LeavesAfter (OnlyStored digest.now) F.may_leave F.moment F.left_since files.old files.new }
     ensures sound { IsTrue F.is_told → (bytes : List ℕ) → F.seen files.old draft_path ≡ Some bytes → sha256 bytes ≡ digest.now
         → IsSound F.seen F.may_leave files.old → StaysSound F.seen F.may_leave F.moment F.left_since files.old files.new }
 {
@@ -176,6 +198,7 @@ fn move_synced<F: FileTree>(
     ensures moved { IsTrue F.is_told → OnOk result (F.seen files.new stored.now ≡ F.seen files.old draft.now) }
     ensures durable { IsTrue F.is_told → OnOk result (HasSame stored.now (F.seen files.new) (F.may_leave files.new)) }
     ensures only { IsTrue F.is_told → MayMove draft.now stored.now (F.seen files.old) (F.seen files.new) }
+    ensures crash { IsTrue F.is_told → LeavesAfter (MayMove draft.now stored.now) F.may_leave F.moment F.left_since files.old files.new }
     ensures sound { IsTrue F.is_told → (digest bytes : List ℕ) → draft.now ≡ draft_path → stored.now ≡ stored_path digest → IsBytes digest
         → F.seen files.old draft_path ≡ Some bytes → sha256 bytes ≡ digest → IsSound F.seen F.may_leave files.old
         → StaysSound F.seen F.may_leave F.moment F.left_since files.old files.new }
@@ -186,7 +209,10 @@ fn move_synced<F: FileTree>(
 }
 
 /// Takes a file of the Maildir into the store, where it isn't there yet: as a second link, so that its bytes aren't
-/// written again. Its digest; none where there is no file. Nothing else changes.
+/// written again. Its digest; none where there is no file.
+///
+/// All but that place is as it was, at each moment of the call and after a crash, also where it fails. A file that stands there already
+/// stays.
 pub fn adopt<F: FileTree>(
     alloc: Global,
     files: &mut F,
@@ -195,7 +221,11 @@ pub fn adopt<F: FileTree>(
     ensures digest { IsTrue F.is_told → IfOk result (λ digest. digest ≡ option_map sha256 (F.seen files.old path.now)) }
     ensures kept { IsTrue F.is_told → IsSound F.seen F.may_leave files.old
         → IfOk result (λ digest. IfSome digest (λ d. IsKept F.seen F.may_leave d files.new)) }
-    ensures only { IsTrue F.is_told → (other : List ℕ) → ((digest : List ℕ) → other ≢ stored_path digest) → F.seen files.new other ≡ F.seen files.old other }
+    ensures untouched { IsTrue F.is_told → F.seen files.old path.now ≡ None → IsUntouched F.seen F.may_leave F.moment F.left_since files.old files.new }
+    ensures only { IsTrue F.is_told → (bytes : List ℕ) → F.seen files.old path.now ≡ Some bytes
+        → MayLink path.now (stored_path (sha256 bytes)) (F.seen files.old) (F.seen files.new) }
+    ensures crash { IsTrue F.is_told → (bytes : List ℕ) → F.seen files.old path.now ≡ Some bytes
+        → LeavesAfter (MayLink path.now (stored_path (sha256 bytes))) F.may_leave F.moment F.left_since files.old files.new }
     ensures sound { IsTrue F.is_told → IsSound F.seen F.may_leave files.old → StaysSound F.seen F.may_leave F.moment F.left_since files.old files.new }
 {
     let Some(bytes) = files.read(alloc, path)? else {
@@ -215,7 +245,8 @@ fn link_mail<F: FileTree>(
 ) -> Result<(), StoreFault>
     ensures kept { IsTrue F.is_told → (bytes : List ℕ) → F.seen files.old path.now ≡ Some bytes → sha256 bytes ≡ digest.now
         → IsSound F.seen F.may_leave files.old → OnOk result (IsKept F.seen F.may_leave digest.now files.new) }
-    ensures only { IsTrue F.is_told → OnlyAt (stored_path digest.now) (F.seen files.old) (F.seen files.new) }
+    ensures only { IsTrue F.is_told → MayLink path.now (stored_path digest.now) (F.seen files.old) (F.seen files.new) }
+    ensures crash { IsTrue F.is_told → LeavesAfter (MayLink path.now (stored_path digest.now)) F.may_leave F.moment F.left_since files.old files.new }
     ensures sound { IsTrue F.is_told → (bytes : List ℕ) → F.seen files.old path.now ≡ Some bytes → sha256 bytes ≡ digest.now
         → IsSound F.seen F.may_leave files.old → StaysSound F.seen F.may_leave F.moment F.left_since files.old files.new }
 {
@@ -232,7 +263,8 @@ fn link_synced<F: FileTree>(
 ) -> Result<(), FilesFailed>
     ensures linked { IsTrue F.is_told → IsTrue (is_some (F.seen files.old from.now)) → OnOk result (IsTrue (is_some (F.seen files.new to.now))) }
     ensures durable { IsTrue F.is_told → OnOk result (HasSame to.now (F.seen files.new) (F.may_leave files.new)) }
-    ensures only { IsTrue F.is_told → OnlyAt to.now (F.seen files.old) (F.seen files.new) }
+    ensures only { IsTrue F.is_told → MayLink from.now to.now (F.seen files.old) (F.seen files.new) }
+    ensures crash { IsTrue F.is_told → LeavesAfter (MayLink from.now to.now) F.may_leave F.moment F.left_since files.old files.new }
     ensures sound { IsTrue F.is_told → (digest bytes : List ℕ) → to.now ≡ stored_path digest → IsBytes digest
         → F.seen files.old from.now ≡ Some bytes → sha256 bytes ≡ digest → IsSound F.seen F.may_leave files.old
         → StaysSound F.seen F.may_leave F.moment F.left_since files.old files.new }
@@ -245,7 +277,8 @@ fn link_synced<F: FileTree>(
 /// Gives a file one more path, where none stands there yet.
 fn link_once<F: FileTree>(files: &mut F, from: &FilePath, to: &FilePath) -> Result<(), FilesFailed>
     ensures linked { IsTrue F.is_told → IsTrue (is_some (F.seen files.old from.now)) → OnOk result (IsTrue (is_some (F.seen files.new to.now))) }
-    ensures only { IsTrue F.is_told → OnlyAt to.now (F.seen files.old) (F.seen files.new) }
+    ensures only { IsTrue F.is_told → MayLink from.now to.now (F.seen files.old) (F.seen files.new) }
+    ensures crash { IsTrue F.is_told → LeavesAfter (MayLink from.now to.now) F.may_leave F.moment F.left_since files.old files.new }
     ensures sound { IsTrue F.is_told → (digest bytes : List ℕ) → to.now ≡ stored_path digest → IsBytes digest
         → F.seen files.old from.now ≡ Some bytes → NoneOr from.now (Some bytes) (F.may_leave files.old) → sha256 bytes ≡ digest
         → IsSound F.seen F.may_leave files.old → StaysSound F.seen F.may_leave F.moment F.left_since files.old files.new }

@@ -2,7 +2,7 @@ use Rattle.std.proofs.Common.{◌≡◌, length, sym, ◌∙◌, subst, arith}
 use Rattle.std.specs.Cmp.Lexicographic.{bytes_decides}
 use Rattle.mr_folder.specs.Quiet.{texts}
 use Rattle.mr_folder.specs.inner.Quiet.{AreNames, AreTimes}
-use Rattle.mr_folder.proofs.QuietLemmas.{snapshot, length-texts}
+use Rattle.mr_folder.proofs.QuietLemmas.{same_times, snapshot, length-texts}
 use Rattle.mr_folder.proofs.listing.list.Goals as goal
 
 pub returns-clause-snapshot : goal.returns-clause-snapshot
@@ -26,3 +26,18 @@ returns-clause-snapshot g c = λ told quiet.
       no_later = omega (arith, names_later, last_later);
       holds = snapshot past (g.met.F.Folders.tells_changes c.args.folders.now told) o m n e c.in_ok-before.before.items c.in_ok-after.after.items listed same long (c.in_ok-before.ensures.times told) between last;
     }
+
+pub returns-clause-quiet : goal.returns-clause-quiet
+returns-clause-quiet g c = λ told one.
+    let past = g.F.Folders.past c.args.folders.now in
+    let o = g.F.Folders.moment c.args.folders.now in
+    let m = g.F.Folders.moment c.times.new.folders in
+    let n = g.F.Folders.moment c.names.new.folders in
+    let e = g.F.Folders.moment c.times-2.new.folders in
+    let last = subst (λ p. AreTimes p n e c.in_ok-after.after.items) (c.names.ensures.same told ∙ c.times.ensures.same told) (c.in_ok-after.ensures.times told) in
+    let first_later = c.times.ensures.later told in
+    let names_later = c.names.ensures.later told in
+    let last_later = c.times-2.ensures.later told in
+    c.are_same-is_quiet.ensures ∙ (bytes_decides c.in_ok-before.before.items c.in_ok-after.after.items).1
+    (same_times past c.args.count o m n e c.in_ok-before.before.items c.in_ok-after.after.items one c.in_ok-before.ensures.count c.in_ok-after.ensures.count
+    (omega (arith, first_later, names_later)) (omega (arith, names_later, last_later)) (c.in_ok-before.ensures.times told) last)

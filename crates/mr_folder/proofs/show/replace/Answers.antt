@@ -3,7 +3,7 @@ use Rattle.std.proofs.lemmas.Bool.{false≢true}
 use Rattle.mr_folder.specs.Show.{HasRoom}
 use Rattle.mr_folder.specs.Tree.{MayMove}
 use Rattle.mr_folder.proofs.Moments.{sound_untouched, sound_on}
-use Rattle.mr_folder.proofs.ShowLemmas.{move_none, move_keeps, sound_apart, no_step, no_crash, then_step, then_crash}
+use Rattle.mr_folder.proofs.ShowLemmas.{apart_of_room, move_none, move_keeps, sound_apart, no_step, no_crash, then_step, then_crash}
 use Rattle.mr_folder.proofs.show.replace.Goals as goal
 
 pub returns-in_err-has_room-clause-files : goal.returns-in_err-has_room-clause-files
@@ -66,3 +66,6 @@ returns-clause-moved g c = λ told. subst (λ b. IsTrue b ↔ HasRoom c.args.fro
 
 pub returns-clause-there : goal.returns-clause-there
 returns-clause-there g c = λ told yes. c.in_ok-rename.ensures.moved told ∙ ap (λ t. t c.args.from.now) ((c.has_room.ensures.untouched told).same)
+
+pub returns-clause-gone : goal.returns-clause-gone
+returns-clause-gone g c = λ told yes. c.in_ok-rename.ensures.gone told (apart_of_room c.args.from.now c.args.to.now (g.F.FileTree.seen c.args.files.now) ((c.in_ok-has_room.ensures.room told).0 c.if-not-branch.false))

@@ -1,7 +1,7 @@
 use Rattle.std.proofs.Common.{◌++◌, Some, sym}
 use Rattle.mr_folder.specs.Inside.{draft_path}
 use Rattle.mr_folder.proofs.Moments.{sound_still}
-use Rattle.mr_folder.proofs.StoreSteps.{sound_draft, only_at, at_path}
+use Rattle.mr_folder.proofs.StoreSteps.{sound_draft, draft_still, draft_after, only_at, at_path}
 use Rattle.mr_folder.proofs.store.append.Goals as goal
 
 pub returns-in_err-draft-clause-sound : goal.returns-in_err-draft-clause-sound
@@ -24,3 +24,12 @@ returns-clause-only g c = λ told. only_at _ _ c.in_ok-draft.ensures (c.append.e
 
 pub returns-clause-sound : goal.returns-clause-sound
 returns-clause-sound g c = λ told sound. sound_draft _ c.in_ok-draft.ensures (g.met.F.FileTree.only_now _) sound (c.append.ensures.only told) (c.append.ensures.crash told) (c.append.ensures.time told)
+
+pub returns-in_err-draft-clause-crash : goal.returns-in_err-draft-clause-crash
+returns-in_err-draft-clause-crash g c = λ told. draft_still _ (g.met.F.FileTree.only_now _)
+
+pub returns-in_err-append-clause-crash : goal.returns-in_err-append-clause-crash
+returns-in_err-append-clause-crash g c = λ told. draft_after _ c.in_ok-draft.ensures (g.met.F.FileTree.only_now _) (c.append.ensures.crash told) (c.append.ensures.time told)
+
+pub returns-clause-crash : goal.returns-clause-crash
+returns-clause-crash g c = λ told. draft_after _ c.in_ok-draft.ensures (g.met.F.FileTree.only_now _) (c.append.ensures.crash told) (c.append.ensures.time told)

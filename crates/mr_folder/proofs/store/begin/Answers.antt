@@ -1,7 +1,7 @@
 use Rattle.std.proofs.Common.{[], Some}
 use Rattle.mr_folder.specs.Inside.{draft_path}
 use Rattle.mr_folder.proofs.Moments.{sound_still}
-use Rattle.mr_folder.proofs.StoreSteps.{sound_draft, only_at, at_path}
+use Rattle.mr_folder.proofs.StoreSteps.{sound_draft, draft_still, draft_after, only_at, at_path}
 use Rattle.mr_folder.proofs.store.begin.Goals as goal
 
 pub returns-in_err-draft-clause-sound : goal.returns-in_err-draft-clause-sound
@@ -21,3 +21,12 @@ returns-clause-only g c = λ told. only_at _ _ c.in_ok-draft.ensures (c.create.e
 
 pub returns-clause-sound : goal.returns-clause-sound
 returns-clause-sound g c = λ told sound. sound_draft _ c.in_ok-draft.ensures (g.met.F.FileTree.only_now _) sound (c.create.ensures.only told) (c.create.ensures.crash told) (c.create.ensures.time told)
+
+pub returns-in_err-draft-clause-crash : goal.returns-in_err-draft-clause-crash
+returns-in_err-draft-clause-crash g c = λ told. draft_still _ (g.met.F.FileTree.only_now _)
+
+pub returns-in_err-create-clause-crash : goal.returns-in_err-create-clause-crash
+returns-in_err-create-clause-crash g c = λ told. draft_after _ c.in_ok-draft.ensures (g.met.F.FileTree.only_now _) (c.create.ensures.crash told) (c.create.ensures.time told)
+
+pub returns-clause-crash : goal.returns-clause-crash
+returns-clause-crash g c = λ told. draft_after _ c.in_ok-draft.ensures (g.met.F.FileTree.only_now _) (c.create.ensures.crash told) (c.create.ensures.time told)

@@ -1,7 +1,8 @@
-use Rattle.std.proofs.Common.{◌≡◌, sym, ◌∙◌}
+use Rattle.std.proofs.Common.{◌≡◌, inl, refl, sym, ◌∙◌}
 use Rattle.std.proofs.lemmas.Slice.Eq.{bytes_eq-Decides}
 use Rattle.sha2.specs.Sha256.{sha256}
-use Rattle.mr_folder.proofs.Moments.{sound_still}
+use Rattle.mr_folder.proofs.Moments.{sound_still, untouched_still}
+use Rattle.mr_folder.proofs.StoreSteps.{stored_still}
 use Rattle.mr_folder.proofs.store.end.Goals as goal
 
 pub returns-in_ok-place-clause-kept : goal.returns-in_ok-place-clause-kept
@@ -11,3 +12,12 @@ returns-in_ok-place-clause-kept g c = λ told come has sound yes.
 
 pub returns-else-has_digest-clause-sound : goal.returns-else-has_digest-clause-sound
 returns-else-has_digest-clause-sound g c = λ told come has sound. sound_still _ (g.met.F.FileTree.only_now _) sound
+
+pub returns-else-has_digest-clause-refused : goal.returns-else-has_digest-clause-refused
+returns-else-has_digest-clause-refused g c = λ told no. untouched_still _ (g.met.F.FileTree.only_now _)
+
+pub returns-else-has_digest-clause-place : goal.returns-else-has_digest-clause-place
+returns-else-has_digest-clause-place g c = λ told come has. inl refl
+
+pub returns-else-has_digest-clause-crash : goal.returns-else-has_digest-clause-crash
+returns-else-has_digest-clause-crash g c = λ told. stored_still c.args.digest.now _ (g.met.F.FileTree.only_now _)

@@ -1,7 +1,8 @@
-use Rattle.std.proofs.Common.{◌<◌, ℕ, sym, ap, ◌∙◌, subst, arith}
+use Rattle.std.proofs.Common.{◌<◌, inl, ℕ, refl, sym, ap, ◌∙◌, subst, arith}
 use Rattle.std.specs.Prelude.{slice_index, is_some}
 use Rattle.mr_folder.specs.Tree.{HasSame}
 use Rattle.mr_folder.proofs.Moments.{sound_still}
+use Rattle.mr_folder.proofs.StoreSteps.{stored_still, stored_move, moved_place}
 use Rattle.mr_folder.proofs.TreeLemmas.{HasMail-there}
 use Rattle.mr_folder.proofs.store.place.Goals as goal
 
@@ -41,3 +42,27 @@ pub returns-clause-sound : goal.returns-clause-sound
 returns-clause-sound g c = λ told bytes here is sound.
     let fits : (i : ℕ) → slice_index c.args.digest.now i < 256 = λ i. (let f = c.fits-digest i in omega arith) in
     c.move_synced.ensures.sound told c.args.digest.now bytes c.in_ok-draft.ensures c.in_ok-stored.ensures fits here is sound
+
+pub returns-in_err-draft-clause-crash : goal.returns-in_err-draft-clause-crash
+returns-in_err-draft-clause-crash g c = λ told. stored_still c.args.digest.now _ (g.met.F.FileTree.only_now _)
+
+pub returns-in_err-stored-clause-crash : goal.returns-in_err-stored-clause-crash
+returns-in_err-stored-clause-crash g c = λ told. stored_still c.args.digest.now _ (g.met.F.FileTree.only_now _)
+
+pub returns-in_err-move_synced-clause-crash : goal.returns-in_err-move_synced-clause-crash
+returns-in_err-move_synced-clause-crash g c = λ told. stored_move _ _ c.args.digest.now c.in_ok-draft.ensures c.in_ok-stored.ensures (c.move_synced.ensures.crash told)
+
+pub returns-clause-crash : goal.returns-clause-crash
+returns-clause-crash g c = λ told. stored_move _ _ c.args.digest.now c.in_ok-draft.ensures c.in_ok-stored.ensures (c.move_synced.ensures.crash told)
+
+pub returns-in_err-draft-clause-place : goal.returns-in_err-draft-clause-place
+returns-in_err-draft-clause-place g c = λ told bytes here. inl refl
+
+pub returns-in_err-stored-clause-place : goal.returns-in_err-stored-clause-place
+returns-in_err-stored-clause-place g c = λ told bytes here. inl refl
+
+pub returns-in_err-move_synced-clause-place : goal.returns-in_err-move_synced-clause-place
+returns-in_err-move_synced-clause-place g c = λ told bytes here. moved_place _ _ c.args.digest.now bytes _ _ c.in_ok-draft.ensures c.in_ok-stored.ensures here (c.move_synced.ensures.only told)
+
+pub returns-clause-place : goal.returns-clause-place
+returns-clause-place g c = λ told bytes here. moved_place _ _ c.args.digest.now bytes _ _ c.in_ok-draft.ensures c.in_ok-stored.ensures here (c.move_synced.ensures.only told)

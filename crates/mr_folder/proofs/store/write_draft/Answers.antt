@@ -1,7 +1,7 @@
-use Rattle.std.proofs.Common.{Some, [], sym}
+use Rattle.std.proofs.Common.{Some, []}
 use Rattle.mr_folder.specs.Inside.{draft_path}
 use Rattle.mr_folder.proofs.Moments.{sound_on, sound_still}
-use Rattle.mr_folder.proofs.StoreSteps.{sound_draft, at_path}
+use Rattle.mr_folder.proofs.StoreSteps.{sound_draft, draft_still, draft_after, draft_on, at_path}
 use Rattle.mr_folder.proofs.store.write_draft.Goals as goal
 
 pub returns-in_err-draft-clause-sound : goal.returns-in_err-draft-clause-sound
@@ -22,3 +22,15 @@ pub returns-clause-sound : goal.returns-clause-sound
 returns-clause-sound g c = λ told sound.
     let made = sound_draft _ c.in_ok-draft.ensures (g.met.F.FileTree.only_now _) sound (c.create.ensures.only told) (c.create.ensures.crash told) (c.create.ensures.time told) in
     sound_on made (sound_draft _ c.in_ok-draft.ensures (g.met.F.FileTree.only_now _) made.sound (c.append.ensures.only told) (c.append.ensures.crash told) (c.append.ensures.time told))
+
+pub returns-in_err-draft-clause-crash : goal.returns-in_err-draft-clause-crash
+returns-in_err-draft-clause-crash g c = λ told. draft_still _ (g.met.F.FileTree.only_now _)
+
+pub returns-in_err-create-clause-crash : goal.returns-in_err-create-clause-crash
+returns-in_err-create-clause-crash g c = λ told. draft_after _ c.in_ok-draft.ensures (g.met.F.FileTree.only_now _) (c.create.ensures.crash told) (c.create.ensures.time told)
+
+pub returns-in_err-append-clause-crash : goal.returns-in_err-append-clause-crash
+returns-in_err-append-clause-crash g c = λ told. draft_on (draft_after _ c.in_ok-draft.ensures (g.met.F.FileTree.only_now _) (c.create.ensures.crash told) (c.create.ensures.time told)) (draft_after _ c.in_ok-draft.ensures (g.met.F.FileTree.only_now _) (c.append.ensures.crash told) (c.append.ensures.time told))
+
+pub returns-clause-crash : goal.returns-clause-crash
+returns-clause-crash g c = λ told. draft_on (draft_after _ c.in_ok-draft.ensures (g.met.F.FileTree.only_now _) (c.create.ensures.crash told) (c.create.ensures.time told)) (draft_after _ c.in_ok-draft.ensures (g.met.F.FileTree.only_now _) (c.append.ensures.crash told) (c.append.ensures.time told))

@@ -1,8 +1,8 @@
-use Rattle.std.proofs.Common.{◌≡◌}
+use Rattle.std.proofs.Common.{◌≡◌, None}
 use Rattle.mr_folder.specs.Memory.{Moves, steps_of, tree_of}
 use Rattle.mr_folder.specs.Tree.{MayMove}
 use Rattle.mr_folder.proofs.ShowLemmas.{move_none}
-use Rattle.mr_folder.proofs.MemoryLemmas.{write_ok, write_files, write_crash, write_time, move_does, moved}
+use Rattle.mr_folder.proofs.MemoryLemmas.{write_ok, write_files, write_crash, write_time, move_does, moved, moved_away}
 use Rattle.mr_folder.proofs.memory.MemoryTreeFileTree.rename.Goals as goal
 
 pub returns-clause-moved : goal.returns-clause-moved
@@ -16,3 +16,6 @@ returns-clause-crash c = λ told. let old = steps_of c.args.self.now in let new 
 
 pub returns-clause-time : goal.returns-clause-time
 returns-clause-time c = λ told. let old = steps_of c.args.self.now in let new = steps_of c.do_rename.new.self in let r = c.do_rename.result in write_time r (Moves c.args.from.now c.args.to.now) old new c.do_rename.ensures
+
+pub returns-clause-gone : goal.returns-clause-gone
+returns-clause-gone c = λ told apart. let old = steps_of c.args.self.now in let new = steps_of c.do_rename.new.self in let r = c.do_rename.result in write_ok (λ l. tree_of l c.args.from.now ≡ None) r (Moves c.args.from.now c.args.to.now) old new (moved_away c.args.from.now c.args.to.now old apart) c.do_rename.ensures
