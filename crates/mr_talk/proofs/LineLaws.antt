@@ -1,5 +1,6 @@
 -- What reads and feeds leave ahead.
 use Rattle.std.proofs.Common.{◌≡◌, ℕ, List, [], ◌∷◌, ◌++◌, length, take, drop, Option, Some, None, Result, Ok, Err, OnErr, refl, sym, ap, subst, ◌∙◌, append_assoc, take-append-drop}
+use Rattle.std.specs.Prelude.{IfErr, IsErrAnd}
 use Rattle.std.specs.Int.{w32, to_be_bytes}
 use Rattle.std.specs.Io.KnownBytes.{Appends}
 use Rattle.std.proofs.KnownBytes.{Appends-trans}
@@ -41,6 +42,11 @@ spelled_in_pieces m kind long k n = ap (λ (x : ℕ). x ∷ (long ++ m.bytes)) k
 pub holds_on_err : {T E P : Type 0} (r : Result T E) → P → OnErr r P
 holds_on_err (Ok x) p = tt
 holds_on_err (Err e) p = p
+
+-- what holds of the fault that a `?` passes on
+pub if_err : {T E : Type 0} (P : E → Type 0) (r : Result T E) (fault : E) → IsErrAnd r (λ e. e ≡ fault) → P fault → IfErr r P
+if_err P (Ok x) fault is p = absurd is
+if_err P (Err e) fault is p = subst P (sym is) p
 
 -- ---- reading
 

@@ -10,8 +10,9 @@ use Rattle.std.proofs.Math.Seq.{take-add}
 use Rattle.std.proofs.Math.ListN.{drop_of_length-le}
 use Rattle.std.proofs.lemmas.Nat.{be_bytes_4, from_be_bytes-to_be_bytes_4}
 use Rattle.mr_talk.proofs.MessageLaws.{bytes_take}
-use Rattle.mr_talk.specs.Packed.{Token, End, Copy, Literal, Digits, Move, Long, Spelled, IsToken, Tells, Spells, Unpacks, begun, body, head, highest, lowest, says, spell, token_bytes, two_digits}
+use Rattle.mr_talk.specs.Packed.{EndsBadly, IsBlamed, TellsTooMuch, TellsUpTo, size_of, Token, End, Copy, Literal, Digits, Move, Long, Spelled, IsToken, Tells, Spells, Unpacks, begun, body, head, highest, lowest, says, spell, token_bytes, two_digits}
 use Rattle.mr_talk.specs.inner.Packed.{AreDigits, ArePairs, BeginsWith, CanBeWritten, Fits, IsNoToken, IsRunOf, Takes, Writes, moves, place_after, rest_tokens, run_size}
+use Rattle.mr_talk.specs.declared.kind.TheConstants.{MAX_FRAMES_BYTES}
 use Rattle.mr_talk.specs.declared.packing.Run.{Run}
 use Rattle.mr_talk.specs.declared.packing.Run.TheVariants as run
 use Rattle.std.proofs.Common.{Result, Ok, Err}
@@ -258,6 +259,58 @@ all_told bytes at from to past h = tells_end from to (subst (λ (s : List ℕ). 
 pub no_memory : {X : Type 0} (P : X → Type 0) (r : Result X PackedFault) (fault : PackedFault) → IsErrAnd r (λ e. e ≡ fault) → fault ≡ OutOfMemory → MatchResult r P (λ f. f ≡ OutOfMemory)
 no_memory P (Ok x) fault e is = absurd e
 no_memory P (Err f) fault e is = e ∙ is
+
+-- ---- why bytes aren't unpacked
+
+told_up_to : (bytes : List ℕ) (at : ℕ) (from to : Spelled) → Tells (take at bytes) from to → TellsUpTo bytes from to (drop at bytes)
+told_up_to bytes at from to h = record { taken = take at bytes; whole = sym (take-append-drop at bytes); told = h }
+
+-- more bytes than none are not at their end
+not_ended : (bytes : List ℕ) (at : ℕ) → at < length bytes → drop at bytes ≡ [] → ⊥
+not_ended bytes at within e = absurd (omega (arith, ap length e, length-drop at bytes, within))
+
+-- there is no token
+pub bad_end : (bytes slice : List ℕ) (at : ℕ) (from to : Spelled) → slice ≡ drop at bytes → at < length bytes → Tells (take at bytes) from to → length to.told + length to.now ≤ MAX_FRAMES_BYTES → IsNoToken slice → EndsBadly bytes from
+bad_end bytes slice at from to is within h few none = record {
+  to = to;
+  left = drop at bytes;
+  told = told_up_to bytes at from to h;
+  few = few;
+  stops = λ t more token e. absurd (none t more token (is ∙ e));
+  within = λ e after frames same. not_ended bytes at within e;
+}
+
+-- there is one that spells nothing
+pub bad_take : (bytes slice : List ℕ) (at used : ℕ) (t : Token) (from to new : Spelled) (fault : PackedFault) → slice ≡ drop at bytes → BeginsWith slice t used → Tells (take at bytes) from to →
+    length to.told + length to.now ≤ MAX_FRAMES_BYTES → Takes t to (Err fault) new → IsBlamed fault bytes from
+bad_take bytes slice at used t from to new OutOfMemory is b h few takes = tt
+bad_take bytes slice at used t from to new TooLong is b h few takes = absurd takes
+bad_take bytes slice at used t from to new BadToken is b h few takes = record {
+  to = to;
+  left = drop at bytes;
+  told = told_up_to bytes at from to h;
+  few = few;
+  stops = λ u more token e. ap (λ (k : Token). spell k to) (sym (one_token t u (drop used slice) more b.is token (sym b.whole ∙ is ∙ e)).0) ∙ takes;
+  within = λ e after frames same. absurd (omega (arith, ap length (sym b.whole ∙ is ∙ e), length-append (token_bytes t) (drop used slice)));
+}
+
+-- one token more spells too much
+pub too_much : (bytes slice : List ℕ) (at used : ℕ) (t : Token) (start from next : Spelled) → slice ≡ drop at bytes → BeginsWith slice t used → spell t from ≡ Some next → Tells (take at bytes) start from → MAX_FRAMES_BYTES < size_of next →
+    TellsTooMuch bytes start
+too_much bytes slice at used t start from next is b e h more =
+    record { to = next; left = drop (at + used) bytes; told = told_up_to bytes (at + used) start next (taken_more bytes slice at used t start from next is b e h); more = more }
+
+-- the bytes are at their end, within a frame
+pub ends_within : (bytes : List ℕ) (from to : Spelled) (fault : PackedFault) → fault ≡ BadToken → Tells bytes from to → length to.told + length to.now ≤ MAX_FRAMES_BYTES → ((after told : List ℕ) → to ≡ begun after told → ⊥) → IsBlamed fault bytes from
+ends_within bytes from to BadToken is h few within = record {
+  to = to;
+  left = [];
+  told = record { taken = bytes; whole = sym (append-nil bytes); told = h };
+  few = few;
+  stops = λ t more token e. absurd cc;
+  within = λ e after frames same. within after frames same;
+}
+ends_within bytes from to fault is h few within = absurd cc
 
 -- ---- frames as they are packed
 

@@ -1,5 +1,8 @@
 -- frames that are spelled against the one before: what a run of tokens spells
 use Rattle.std.specs.Prelude.{◌≡◌, ◌≤◌, ◌<◌, ◌+◌, ◌-◌, ◌/◌, ◌%◌, ◌^◌, ℕ, nat_lt, if◌then◌else◌, min, List, [], ◌∷◌, ◌++◌, length, take, drop, Option, Some, None}
+use Rattle.mr_talk.specs.declared.kind.TheConstants.{MAX_FRAMES_BYTES}
+use Rattle.mr_talk.specs.declared.packed.PackedFault.{PackedFault}
+use Rattle.mr_talk.specs.declared.packed.PackedFault.TheVariants.{OutOfMemory, BadToken, TooLong}
 use Rattle.std.specs.List.{flat_map, AllByRecursion}
 use Rattle.std.specs.Int.{w32, to_be_bytes}
 
@@ -100,3 +103,35 @@ pub record Tells (bytes : List ℕ) (from to : Spelled) : Type 0 where
 -- The bytes spell these frames, one behind another and each whole, where one frame went before them; behind them another is the last.
 abbrev pub Unpacks : (before bytes frames after : List ℕ) → Type 0
 Unpacks before bytes frames after = Tells bytes (begun before []) (begun after frames)
+
+-- how many bytes were spelled: of whole frames, and of the frame so far
+abbrev pub size_of : Spelled → ℕ
+size_of s = length s.told + length s.now
+
+-- the bytes begin with tokens that spell as much, one after the other, and go on with these
+pub record TellsUpTo (bytes : List ℕ) (from to : Spelled) (left : List ℕ) : Type 0 where
+  pub taken : List ℕ
+  pub whole : bytes ≡ taken ++ left
+  pub told : Tells taken from to
+
+-- some of the bytes at the front spell more than a message has frames
+pub record TellsTooMuch (bytes : List ℕ) (from : Spelled) : Type 0 where
+  pub to : Spelled
+  pub left : List ℕ
+  pub told : TellsUpTo bytes from to left
+  pub more : MAX_FRAMES_BYTES < size_of to
+
+-- What the bytes begin with spells no more than a message has frames. Behind it stands no token that spells anything; or they are at their end, and within a frame.
+pub record EndsBadly (bytes : List ℕ) (from : Spelled) : Type 0 where
+  pub to : Spelled
+  pub left : List ℕ
+  pub told : TellsUpTo bytes from to left
+  pub few : size_of to ≤ MAX_FRAMES_BYTES
+  pub stops : (t : Token) (more : List ℕ) → IsToken t → left ≡ token_bytes t ++ more → spell t to ≡ None
+  pub within : left ≡ [] → (after frames : List ℕ) → to ≡ begun after frames → ⊥
+
+-- why bytes are not unpacked from there on: where there is no memory, they are not to blame
+abbrev pub IsBlamed : PackedFault → List ℕ → Spelled → Type 0
+IsBlamed OutOfMemory bytes from = Unit {0}
+IsBlamed BadToken bytes from = EndsBadly bytes from
+IsBlamed TooLong bytes from = TellsTooMuch bytes from

@@ -1,26 +1,28 @@
 -- worked rows: what the definitions give for small values
-use Rattle.std.specs.Prelude.{◌≡◌, true, false, List, [], ◌∷◌, ◌++◌, map, length, count_by, replicate, Some, None, Ok, Err, refl}
+use Rattle.std.specs.Prelude.{◌≡◌, ℕ, true, false, List, [], ◌∷◌, ◌++◌, map, length, count_by, replicate, Some, None, Ok, Err, refl}
 use Rattle.mr_talk.specs.declared.kind.Kind.{Kind}
 use Rattle.mr_talk.specs.declared.kind.Kind.TheVariants.{Hello, Idle, Ask, Begin, Piece, End, Missing, Records, Wants, PushOuts, Receipts, Turn as Passes, Done, Fault, Whole}
 use Rattle.mr_talk.specs.declared.kind.TheConstants.{HELLO_BYTES, MAX_FRAMES_BYTES, MAX_PACKED_BYTES, MAX_LIST_BYTES, MAX_PIECE_BYTES, MAX_FAULT_BYTES}
-use Rattle.std.proofs.Common.{lit≤, lit<}
+use Rattle.std.proofs.Common.{ap, inl, lit≤, lit<}
 use Rattle.mr_talk.specs.declared.fault.LineFault.TheVariants.{Message, Write}
 use Rattle.mr_talk.specs.declared.fault.MessageFault.TheVariants.{OutOfMemory, Truncated, BadKind, TooLong, Failed}
 use Rattle.mr_talk.specs.declared.talk_fault.TalkFault.TheVariants as talk
 use Rattle.mr_talk.specs.declared.hello.Hello as hello
+use Rattle.mr_talk.specs.declared.hello.HelloFault.TheVariants as hello_fault
 use Rattle.mr_talk.specs.declared.turn.Role.TheVariants.{Caller, Called}
 use Rattle.mr_talk.specs.declared.turn.Turn.TheVariants.{CallerGreets, CalledGreets, CalledAsks, CalledPasses, CallerAsks, CallerTells, CallerTellsFile, CalledTells, CallerSettles, CallerWants, CalledSettles, CallerCloses, Over}
 use Rattle.mr_talk.specs.declared.turn.Turn.TheVariants as turn
 use Rattle.mr_talk.specs.Fault.{talk_fault_number, told_number}
 use Rattle.mr_talk.specs.Kinds.{kind_of_byte}
-use Rattle.mr_talk.specs.Said.{Said, message_bytes}
+use Rattle.mr_talk.specs.Said.{Said, IsMessage, message_bytes}
 use Rattle.mr_talk.specs.Messages.{decoded}
 use Rattle.mr_talk.specs.Reader.{Feeds, Nexts, ending}
 use Rattle.mr_talk.specs.Hello.{hello_bytes}
 use Rattle.mr_talk.specs.Turns.{sender_of, number_of, next_of, IsTalk, Leads}
-use Rattle.mr_talk.specs.Talk.{Talked, BrokeOff, IsToldBy}
+use Rattle.mr_talk.specs.Talk.{Talked, BrokeOff, IsCause, Heard}
 use Rattle.mr_talk.specs.Packed as packed
-use Rattle.mr_talk.specs.Packed.{Copy, Digits, Literal, Move, Unpacks, begun, spell}
+use Rattle.mr_talk.specs.Packed.{Copy, Digits, IsBlamed, Literal, Move, Unpacks, begun, spell}
+use Rattle.mr_talk.specs.declared.packed.PackedFault.TheVariants.{BadToken}
 use Rattle.mr_talk.specs.World.{start, Sends, Receives, happens, after, ends_turn}
 
 -- ---- limits
@@ -192,15 +194,26 @@ cut_short = record {
   came = refl;
 }
 
--- in the place of the caller's hello the called was told a fault
-pub told_at_once : IsToldBy Called (7 ∷ 8 ∷ []) (Some []) (Some []) (Some (message_bytes fault)) (Some [])
-told_at_once = record {
-  turn = CallerGreets;
-  between = Some (message_bytes fault);
+-- what came in the place of the caller's hello
+first_heard : (m : Said) → IsMessage m → Heard Called CallerGreets (Ok m) (Some []) (Some []) (Some (message_bytes m ++ [])) (Some [])
+first_heard m is = record {
+  between = Some (message_bytes m ++ []);
   before = record { messages = []; runs = refl; sent = refl; came = refl };
   sender = refl;
-  heard = ([], refl, record { is = lit≤ tt; whole = refl });
+  heard = ([], refl, record { is = is; whole = refl });
 }
+
+-- the called was told a fault in its place
+pub told_at_once : IsCause (talk.Told (7 ∷ 8 ∷ [])) Called (Some []) (Some []) (Some (message_bytes fault ++ [])) (Some [])
+told_at_once = (CallerGreets, first_heard fault (lit≤ tt))
+
+-- in its place came the wants of no file
+pub out_of_place_at_once : IsCause talk.OutOfPlace Called (Some []) (Some []) (Some (message_bytes wants ++ [])) (Some [])
+out_of_place_at_once = inl (record { turn = CallerGreets; m = wants; heard = first_heard wants (lit≤ tt); place = refl })
+
+-- in its place came one of two bytes, which has no hello's length
+pub bad_hello_at_once : IsCause (talk.Hello hello_fault.Length) Called (Some []) (Some []) (Some (message_bytes greeting ++ [])) (Some [])
+bad_hello_at_once = record { turn = CallerGreets; next = CalledGreets; m = greeting; heard = first_heard greeting (lit≤ tt); place = refl; kind = inl refl; reads = λ e. absurd cc }
 
 -- ---- numbers of faults
 
@@ -248,3 +261,18 @@ moves_on = refl
 -- three bytes of a frame of two are nothing
 pub copies_too_much : spell (Copy 3) (begun (1 ∷ 2 ∷ []) []) ≡ None
 copies_too_much = refl
+
+-- two bytes as they are, with no end of their frame
+pub ends_within_a_frame : IsBlamed BadToken (65 ∷ 7 ∷ 8 ∷ []) (begun [] [])
+ends_within_a_frame = record {
+  to = packed.says (7 ∷ 8 ∷ []) (begun [] []);
+  left = [];
+  told = record {
+    taken = 65 ∷ 7 ∷ 8 ∷ [];
+    whole = refl;
+    told = record { tokens = Literal (7 ∷ 8 ∷ []) ∷ []; are = (record { low = lit≤ tt; high = lit≤ tt; short = lit< tt }, tt); whole = refl; spelled = (_, refl, refl) };
+  };
+  few = lit≤ tt;
+  stops = λ t more is e. absurd cc;
+  within = λ e after frames same. let none : ◌≡◌ {A = List ℕ} (7 ∷ 8 ∷ []) [] = ap (λ (s : packed.Spelled). s.now) same in absurd cc;
+}

@@ -1,9 +1,10 @@
 //! What a side knows of its talk, and what it says and takes for its host.
-ghost use Rattle.std.specs.Prelude.{◌≡◌, false, IfErr, OnOk};
+ghost use Rattle.std.specs.Prelude.{◌≡◌, ◌≢◌, false, None, IfErr, IfOk, OnOk};
 ghost use Rattle.mr_talk.specs.declared.kind.Kind.TheVariants.{Fault};
-ghost use Rattle.mr_talk.specs.declared.turn.Turn.TheVariants.{Over};
-ghost use Rattle.mr_talk.specs.Talk.{IfTold};
-ghost use Rattle.mr_talk.specs.inner.Talk.{IsOwn};
+ghost use Rattle.mr_talk.specs.declared.talk_fault.TalkFault.TheVariants.{OutOfPlace};
+ghost use Rattle.mr_talk.specs.Talk.{IsFixed};
+ghost use Rattle.mr_talk.specs.Turns.{next_of};
+ghost use Rattle.mr_talk.specs.inner.Talk.{IsOfHost, IsLast, IsTelling, IsUngiven, IsUnmade, IsUntaken, Suits, speech_kind};
 
 use crate::fault::MessageFault;
 use crate::hello::{Hello, Short};
@@ -34,29 +35,37 @@ impl Meeting {
         }
     }
 
-    /// What this side says next: what its host has to say, or why that one can't go on.
+    /// What this side says next: what its host has to say, or why that one can't go on. `OutOfPlace` where the host gives a fault
+    /// as a message.
     pub(crate) fn next_message<H: Host>(
         &mut self,
         alloc: Global,
         host: &mut H,
         turn: Turn,
-    ) -> Result<Message, MessageFault> {
+    ) -> Result<Message, TalkFault>
+        ensures broken { IfOk result (λ m. m.kind ≡ Fault → self.new.broken ≢ None) }
+        ensures place { IfOk result (λ m. IsFixed turn → next_of turn m.kind ≢ None) }
+        ensures fault { IfErr result (IsUngiven turn) }
+    {
         if let Some(fault) = &self.broken {
-            return fault_message(alloc, fault);
+            return Ok(fault_message(alloc, fault)?);
         }
         match self.next_speech(host, turn) {
             Ok(speech) => speech.into_message(alloc),
             Err(fault) => {
                 let message = fault_message(alloc, &fault);
                 self.broken = Some(fault);
-                message
+                Ok(message?)
             }
         }
     }
 
-    fn next_speech<H: Host>(&self, host: &mut H, turn: Turn) -> Result<Speech, HostFault> {
+    fn next_speech<H: Host>(&self, host: &mut H, turn: Turn) -> Result<Speech, HostFault>
+        ensures { IfOk result (Suits turn) }
+    {
         match turn {
-            Turn::CallerGreets | Turn::CalledGreets => {
+            Turn::CallerGreets => Ok(Speech::Hello(host.hello(self.theirs.as_ref())?)),
+            Turn::CalledGreets => {
                 let hello = host.hello(self.theirs.as_ref())?;
                 if self.is_idle {
                     Ok(Speech::Idle(hello))
@@ -75,7 +84,8 @@ impl Meeting {
 
     /// Takes what the other side said. A fault ends the talk. Once the host can't go on, nothing else is taken.
     pub(crate) fn take<H: Host>(&mut self, host: &mut H, message: Message) -> Result<(), TalkFault>
-        ensures { IfErr result (λ fault. IfTold fault (λ told. message ≡ record { kind = Fault; bytes = told })) }
+        ensures taken { OnOk result (message.kind ≢ Fault) }
+        ensures fault { IfErr result (IsUntaken message) }
     {
         match message.kind() {
             Kind::Fault => return Err(self.told(message.into_bytes())),
@@ -92,7 +102,7 @@ impl Meeting {
 
     /// Why the talk ended where the other side has told a fault: its own host's comes first.
     fn told(&mut self, bytes: Vec<u8>) -> TalkFault
-        ensures { IfTold result (λ told. told ≡ bytes.items) }
+        ensures { IsTelling bytes.items result }
     {
         match self.broken.take() {
             Some(fault) => TalkFault::Host(fault),
@@ -107,19 +117,18 @@ impl Meeting {
         }
     }
 
-    /// How the talk ended. Where it is over, and the host took all of it, what the host did is kept.
-    pub(crate) fn end<H: Host>(self, host: &mut H, turn: Turn) -> Result<(), TalkFault>
-        ensures over { OnOk result (turn ≡ Over) }
+    /// How a talk ended in which nobody may send any more. Where the host took all of it, what that one did is kept.
+    pub(crate) fn end<H: Host>(self, host: &mut H) -> Result<(), TalkFault>
+        ensures whole { OnOk result (self.broken ≡ None) }
         ensures kept { OnOk result (H.waits host.new ≡ false) }
-        ensures own { IfErr result IsOwn }
+        ensures fault { IfErr result IsOfHost }
     {
-        match (self.broken, turn) {
-            (Some(fault), _) => Err(TalkFault::Host(fault)),
-            (None, Turn::Over) => {
+        match self.broken {
+            Some(fault) => Err(TalkFault::Host(fault)),
+            None => {
                 host.keep()?;
                 Ok(())
             }
-            (None, _) => Err(TalkFault::OutOfPlace),
         }
     }
 }
@@ -138,21 +147,39 @@ enum Speech {
 
 impl Speech {
     /// The message that says it.
-    fn into_message(self, alloc: Global) -> Result<Message, MessageFault> {
+    fn into_message(self, alloc: Global) -> Result<Message, TalkFault>
+        ensures kind { IfOk result (λ m. m.kind ≡ speech_kind self) }
+        ensures own { IfOk result (λ m. m.kind ≢ Fault) }
+        ensures fault { IfErr result (IsUnmade self) }
+    {
         let (kind, bytes) = match self {
             Speech::Hello(hello) => (Kind::Hello, hello.write(alloc)?),
             Speech::Idle(hello) => (Kind::Idle, hello.write(alloc)?),
             Speech::Ask(bytes) => (Kind::Ask, bytes),
-            Speech::Given(message) => return Ok(message),
+            Speech::Given(message) => return given(message),
             Speech::Turn => (Kind::Turn, Vec::new(alloc)),
             Speech::Done(knows) => (Kind::Done, knows.as_slice().to_vec(alloc)?),
         };
-        Message::new(kind, bytes)
+        Ok(Message::new(kind, bytes)?)
     }
 }
 
+/// What the host gives, unless it is a fault: its own it answers, and doesn't give as a message.
+fn given(message: Message) -> Result<Message, TalkFault>
+    ensures same { IfOk result (λ m. m ≡ message) }
+    ensures own { IfOk result (λ m. m.kind ≢ Fault) }
+    ensures fault { IfErr result (λ fault. fault ≡ OutOfPlace) }
+{
+    if message.kind() == Kind::Fault {
+        return Err(TalkFault::OutOfPlace);
+    }
+    Ok(message)
+}
+
 /// The end of a turn: `Done` where the host has nothing open. In the third turn nobody knows that yet.
-fn last_speech<H: Host>(host: &mut H, turn: Turn) -> Result<Speech, HostFault> {
+fn last_speech<H: Host>(host: &mut H, turn: Turn) -> Result<Speech, HostFault>
+    ensures { IfOk result IsLast }
+{
     if turn == Turn::CallerTells {
         return Ok(Speech::Turn);
     }

@@ -1,6 +1,6 @@
 //! Frames that are packed: each spelled by the one before it.
-ghost use Rattle.std.specs.Prelude.{◌≡◌, ◌≤◌, ◌+◌, ℕ, List, [], IfOk, MatchResult, OnErr, OnOk, length};
-ghost use Rattle.mr_talk.specs.Packed.{Unpacks};
+ghost use Rattle.std.specs.Prelude.{◌≡◌, ◌≤◌, ◌+◌, ℕ, List, [], IfErr, IfOk, MatchResult, OnErr, OnOk, length};
+ghost use Rattle.mr_talk.specs.Packed.{IsBlamed, Unpacks, begun};
 ghost use Rattle.mr_talk.specs.declared.packed.PackedFault.TheVariants.{OutOfMemory};
 
 use crate::kind::MAX_FRAMES_BYTES;
@@ -76,13 +76,15 @@ impl LastFrame {
 
     /// The frames that these bytes are, all of them, one behind another.
     ///
-    /// `BadToken` where the bytes aren't those of whole frames; `TooLong` where more than [`MAX_FRAMES_BYTES`] come out: no more memory
-    /// is taken than for as many and for those of one token. After a fault nothing has changed.
+    /// `TooLong` as soon as more than [`MAX_FRAMES_BYTES`] come out of the bytes in front, whatever follows them: no more memory is taken
+    /// than for as many and for those of one token. `BadToken` where no more come out, and then there is no token that stands for
+    /// anything, or the bytes end within a frame. After a fault nothing has changed.
     pub fn unpack(&mut self, alloc: Global, bytes: &[u8]) -> Result<Vec<u8>, PackedFault>
         ensures unpacked { IfOk result (λ frames. Unpacks self.old bytes.now frames.items self.new) }
         ensures most { IfOk result (λ frames. length frames.items ≤ MAX_FRAMES_BYTES) }
         ensures whole { (frames after : List ℕ) → Unpacks self.old bytes.now frames after → length frames ≤ MAX_FRAMES_BYTES
             → MatchResult result (λ found. (found.items ≡ frames) × (self.new ≡ after)) (λ fault. fault ≡ OutOfMemory) }
+        ensures fault { IfErr result (λ fault. IsBlamed fault bytes.now (begun self.old [])) }
         ensures unchanged { OnErr result (self.new ≡ self.old) }
     {
         let mut unpacking = Unpacking::new(alloc, &self.bytes)?;

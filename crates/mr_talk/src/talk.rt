@@ -4,8 +4,8 @@ ghost use Rattle.std.specs.Io.KnownBytes.{Appends};
 ghost use Rattle.mr_talk.specs.declared.turn.Turn.TheVariants.{CallerGreets, Over};
 ghost use Rattle.mr_talk.specs.Line.{Hears, ahead};
 ghost use Rattle.mr_talk.specs.Said.{message_bytes};
-ghost use Rattle.mr_talk.specs.Talk.{BrokeOff, IfTold, IsToldBy, Talked};
-ghost use Rattle.mr_talk.specs.inner.Talk.{IsOwn, IsPartly};
+ghost use Rattle.mr_talk.specs.Talk.{BrokeOff, IsCause, Talked};
+ghost use Rattle.mr_talk.specs.inner.Talk.{IsPartly, IsUnheard, IsUnsaid};
 ghost use Rattle.mr_talk.specs.Turns.{next_of};
 
 use crate::line::Line;
@@ -27,7 +27,7 @@ fn say<R: Read + Drop, W: Write + Drop, H: Host>(
     ensures next { IfOk result (λ next. next_of turn message.now.kind ≡ Some next) }
     ensures sent { OnOk result (Appends (W.contents line.old.output) (W.contents line.new.output) (message_bytes message.now)) }
     ensures part { OnErr result (IsPartly turn message.now (W.contents line.old.output) (W.contents line.new.output)) }
-    ensures own { IfErr result IsOwn }
+    ensures fault { IfErr result (λ fault. IsUnsaid turn message.now.kind fault (W.contents line.old.output) (W.contents line.new.output)) }
     ensures input { line.new.input ≡ line.old.input }
     ensures reader { line.new.reader ≡ line.old.reader }
 {
@@ -49,7 +49,7 @@ fn hear<R: Read + Drop, W: Write + Drop>(
 ) -> Result<(Message, Turn), TalkFault>
     ensures heard { IfOk result (λ heard. (next_of turn heard.0.kind ≡ Some heard.1)
         × Hears (ahead line.old.reader (R.remaining line.old.input)) (Ok heard.0) (ahead line.new.reader (R.remaining line.new.input))) }
-    ensures own { IfErr result IsOwn }
+    ensures fault { IfErr result (λ fault. IsUnheard turn fault (ahead line.old.reader (R.remaining line.old.input)) (ahead line.new.reader (R.remaining line.new.input))) }
     ensures output { line.new.output ≡ line.old.output }
 {
     let message = line.receive()?;
@@ -80,14 +80,14 @@ pub fn run_talk<R: Read + Drop, W: Write + Drop, H: Host>(
     ensures kept { OnOk result (H.waits host.new ≡ false) }
     ensures broke_off { OnErr result (BrokeOff role (W.contents line.old.output) (W.contents line.new.output)
         (ahead line.old.reader (R.remaining line.old.input))) }
-    ensures told { IfErr result (λ fault. IfTold fault (λ told. IsToldBy role told (W.contents line.old.output) (W.contents line.new.output)
-        (ahead line.old.reader (R.remaining line.old.input)) (ahead line.new.reader (R.remaining line.new.input)))) }
+    ensures cause { IfErr result (λ fault. IsCause fault role (W.contents line.old.output) (W.contents line.new.output)
+        (ahead line.old.reader (R.remaining line.old.input)) (ahead line.new.reader (R.remaining line.new.input))) }
 {
     let mut meeting = Meeting::new();
     let mut turn = Turn::CallerGreets;
     'messages: for _ in 0..u64::MAX {
         let Some(sender) = turn.sender() else {
-            return meeting.end(host, turn);
+            return meeting.end(host);
         };
         if sender == role {
             let message = meeting.next_message(alloc, host, turn)?;

@@ -2,12 +2,14 @@
 ghost use Rattle.std.specs.Prelude.{◌≡◌};
 ghost use Rattle.mr_talk.specs.Fault.{talk_fault_number};
 ghost use Rattle.mr_talk.specs.declared.fault.LineFault.TheVariants.{Message};
+ghost use Rattle.mr_talk.specs.declared.fault.MessageFault.TheVariants.{OutOfMemory};
 ghost use Rattle.mr_talk.specs.declared.talk_fault.TalkFault.TheVariants as talk;
 
 use crate::fault::{LineFault, MessageFault};
 use crate::hello::HelloFault;
 use crate::side::HostFault;
 use crate::told_fault::ToldFault;
+use std::alloc::AllocError;
 use thiserror::Error;
 
 /// Why a talk did not come to its end.
@@ -19,7 +21,8 @@ pub enum TalkFault {
     /// What came in the place of a hello.
     #[error("{0}")]
     Hello(HelloFault),
-    /// A message that is out of place came, or the host gave one.
+    /// A message that is out of place came, or the host gave one: a fault is out of place too where a host gives it as a message.
+    /// Or so many messages were said that 64 bits count no more.
     #[error("out of place: a message that may not come there")]
     OutOfPlace,
     /// The host's own. The other side was told, if this one might speak again and what its host did could be kept.
@@ -58,6 +61,14 @@ impl From<MessageFault> for TalkFault {
 
     fn from(fault: MessageFault) -> TalkFault {
         TalkFault::Line(LineFault::Message(fault))
+    }
+}
+
+impl From<AllocError> for TalkFault {
+    ghost from_gives = { λ _ fault. fault ≡ talk.Line (Message OutOfMemory) };
+
+    fn from(_error: AllocError) -> TalkFault {
+        TalkFault::Line(LineFault::Message(MessageFault::OutOfMemory))
     }
 }
 

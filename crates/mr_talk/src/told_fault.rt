@@ -1,5 +1,7 @@
 //! How a host's fault is told to the other side.
-ghost use Rattle.std.specs.Prelude.{◌≡◌, drop, IsUtf8, MatchOption};
+ghost use Rattle.std.specs.Prelude.{◌≡◌, drop, IfErr, IfOk, IsUtf8, MatchOption};
+ghost use Rattle.mr_talk.specs.declared.fault.MessageFault.TheVariants.{OutOfMemory};
+ghost use Rattle.mr_talk.specs.declared.kind.Kind.TheVariants.{Fault};
 ghost use Rattle.mr_talk.specs.Fault.{told_number};
 
 use crate::fault::MessageFault;
@@ -65,7 +67,10 @@ impl fmt::Display for ToldFault {
 impl Error for ToldFault {}
 
 /// The message that tells a host's fault: its number, and as many whole characters of its text as a message has room for.
-pub(crate) fn fault_message(alloc: Global, fault: &HostFault) -> Result<Message, MessageFault> {
+pub(crate) fn fault_message(alloc: Global, fault: &HostFault) -> Result<Message, MessageFault>
+    ensures kind { IfOk result (λ m. m.kind ≡ Fault) }
+    ensures fault { IfErr result (λ fault. fault ≡ OutOfMemory) }
+{
     let text = fault.text.as_str();
     let end = text.floor_char_boundary(MAX_TEXT_BYTES);
     let mut bytes = Vec::new(alloc);

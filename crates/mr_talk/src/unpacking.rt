@@ -1,9 +1,9 @@
 //! How far frames are unpacked.
-ghost use Rattle.std.specs.Prelude.{◌≡◌, ◌≤◌, ◌<◌, ◌+◌, ◌^◌, ◌++◌, ℕ, List, [], Some, IfErr, IfOk, MatchResult, OnOk, length, min};
+ghost use Rattle.std.specs.Prelude.{◌≡◌, ◌≤◌, ◌<◌, ◌+◌, ◌^◌, ◌++◌, ℕ, List, [], Some, IfErr, IfOk, MatchResult, OnErr, OnOk, length, min};
 ghost use Rattle.std.specs.List.{flat_map};
-ghost use Rattle.mr_talk.specs.Packed.{Copy, End, Move, Spelled, Tells, begun, digit, says, spell, two_digits};
+ghost use Rattle.mr_talk.specs.Packed.{Copy, End, IsBlamed, Move, Spelled, Tells, begun, digit, says, spell, two_digits};
 ghost use Rattle.mr_talk.specs.inner.Packed.{Takes, meaning};
-ghost use Rattle.mr_talk.specs.declared.packed.PackedFault.TheVariants.{OutOfMemory};
+ghost use Rattle.mr_talk.specs.declared.packed.PackedFault.TheVariants.{BadToken, OutOfMemory};
 
 use crate::kind::MAX_FRAMES_BYTES;
 use crate::packed::PackedFault;
@@ -52,6 +52,7 @@ impl Unpacking {
         ensures few { OnOk result (length self.new.told + length self.new.now ≤ MAX_FRAMES_BYTES) }
         ensures whole { (to : Spelled) → Tells bytes.now self.old to → length to.told + length to.now ≤ MAX_FRAMES_BYTES
             → MatchResult result (λ _. self.new ≡ to) (λ fault. fault ≡ OutOfMemory) }
+        ensures fault { IfErr result (λ fault. IsBlamed fault bytes.now self.old) }
     {
         let mut at = 0;
         while at < bytes.len() {
@@ -145,7 +146,8 @@ impl Unpacking {
     /// The frames, one behind another, and the last of them. `BadToken` where one isn't whole.
     pub(crate) fn into_frames(self) -> Result<(Vec<u8>, Vec<u8>), PackedFault>
         ensures whole { IfOk result (λ found. self ≡ begun found.1.items found.0.items) }
-        ensures fault { IfErr result (λ fault. (after told : List ℕ) → self ≡ begun after told → ⊥) }
+        ensures within { OnErr result ((after told : List ℕ) → self ≡ begun after told → ⊥) }
+        ensures fault { IfErr result (λ fault. fault ≡ BadToken) }
     {
         if self.place != 0 || !self.now.is_empty() {
             return Err(PackedFault::BadToken);

@@ -1,8 +1,9 @@
-use Rattle.std.proofs.Common.{ℕ, List, arith, ap, subst, sym}
+use Rattle.std.proofs.Common.{◌<◌, ℕ, List, arith, ap, subst, sym}
 use Rattle.std.proofs.lemmas.List.{take_rest}
 use Rattle.mr_talk.specs.declared.kind.TheConstants.{MAX_FRAMES_BYTES}
-use Rattle.mr_talk.specs.Packed.{Tells}
-use Rattle.mr_talk.proofs.PackedLaws.{all_told, left_more, no_memory, none_left, not_long, spelled_size, take_fault, taken_more, used_within}
+use Rattle.mr_talk.specs.Packed.{Tells, size_of}
+use Rattle.mr_talk.proofs.LineLaws.{if_err}
+use Rattle.mr_talk.proofs.PackedLaws.{all_told, bad_end, bad_take, left_more, too_much, no_memory, none_left, not_long, spelled_size, take_fault, taken_more, used_within}
 use Rattle.mr_talk.specs.inner.Packed.{meaning}
 use Rattle.mr_talk.proofs.unpacking.Unpacking.take_all.Goals as goal
 
@@ -26,6 +27,20 @@ returns-then-len-clause-whole c = λ to h few.
       ap spelled_size c.self.view_is,
       not_long c.args.bytes.now _ c.loop-at.at c.in-Some.used MAX_FRAMES_BYTES (meaning c.in-Some.token) c.loop-at.self c.take.new.self to (take_rest c.args.bytes.now c.loop-at.at) c.in-Some.ensures.found c.in_ok-take.ensures (c.loop-at.invariant.left to h) few,
     ))
+
+pub returns-in_default-clause-fault : goal.returns-in_default-clause-fault
+returns-in_default-clause-fault c =
+    bad_end c.args.bytes.now _ c.loop-at.at c.args.self.now c.loop-at.self (take_rest c.args.bytes.now c.loop-at.at) (omega (arith, c.loop-at-test.true)) c.loop-at.invariant.taken c.loop-at.invariant.few c.in_default.ensures.none
+
+pub returns-in_err-take-clause-fault : goal.returns-in_err-take-clause-fault
+returns-in_err-take-clause-fault c =
+    if_err _ c.from_residual.result c.in_err-take.field-0.0 c.from_residual.ensures.1
+    (bad_take c.args.bytes.now _ c.loop-at.at c.in-Some.used (meaning c.in-Some.token) c.args.self.now c.loop-at.self c.take.new.self c.in_err-take.field-0.0 (take_rest c.args.bytes.now c.loop-at.at) c.in-Some.ensures.found c.loop-at.invariant.taken c.loop-at.invariant.few c.in_err-take.ensures)
+
+pub returns-then-len-clause-fault : goal.returns-then-len-clause-fault
+returns-then-len-clause-fault c =
+    let long : MAX_FRAMES_BYTES < size_of c.take.new.self = omega (arith, c.if-len.true, c.len.ensures, c.len-in-loop-at.ensures, ap spelled_size c.self.view_is) in
+    too_much c.args.bytes.now _ c.loop-at.at c.in-Some.used (meaning c.in-Some.token) c.args.self.now c.loop-at.self c.take.new.self (take_rest c.args.bytes.now c.loop-at.at) c.in-Some.ensures.found c.in_ok-take.ensures c.loop-at.invariant.taken long
 
 pub loop-at-preserved : goal.loop-at-preserved
 loop-at-preserved c =
