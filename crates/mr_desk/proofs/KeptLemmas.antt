@@ -6,7 +6,7 @@ use Rattle.mr_kept.specs.Answered.{Answered, IsUnnoted, reply_by}
 use Rattle.mr_kept.specs.Kept.{AtOnce, Later, SameJournal, journal_of, leaving}
 use Rattle.mr_kept.specs.declared.fault.KeptFault.{KeptFault}
 use Rattle.mr_kept.specs.declared.fault.KeptFault.TheVariants as kept
-use Rattle.mr_hosted.specs.Hosted.{SameHost, is_settled, journaled_of, may_show}
+use Rattle.mr_hosted.specs.Hosted.{IsUnhanded, SameHost, is_settled, journaled_of, may_show}
 use Rattle.mr_hosted.specs.declared.fault.HostedFault.{HostedFault}
 use Rattle.mr_hosted.specs.declared.fault.HostedFault.TheVariants as hosted
 use Rattle.mr_hosted.specs.declared.hosted.Hosted.{Hosted}
@@ -109,9 +109,9 @@ module _ {V : Type 0} where
   pub committed : (old new : Hosted Normal V) (answer : Result (Unit {0}) HostedFault) → (is_settled old ≡ false → (answer ≡ unkept hosted.Unsettled) × (new ≡ old)) → answer ≡ Ok tt → Committed old new → KeptCommits old (Ok tt) new
   committed old new answer first is c = (settled-before old new answer first (λ un. subst IsUnsettled is un), c)
 
-  pub uncommitted : (old new : Hosted Normal V) (fault : HostedFault) → (is_settled old ≡ false → (unkept fault ≡ unkept hosted.Unsettled) × (new ≡ old)) → (fault ≡ hosted.Unsettled → is_settled old ≡ false) → Uncommitted old new → KeptCommits old (Err (of_hosted fault)) new
-  uncommitted old new hosted.Unsettled first only u = (only refl, (first (only refl)).1)
-  uncommitted old new (hosted.Kept kept.OutOfMemory) first only u = (settled-before old new (unkept (hosted.Kept kept.OutOfMemory)) first (λ un. un), u)
-  uncommitted old new (hosted.Kept (kept.Refused e)) first only u = (settled-before old new (unkept (hosted.Kept (kept.Refused e))) first (λ un. un), u)
-  uncommitted old new (hosted.Kept kept.Failed) first only u = (settled-before old new (unkept (hosted.Kept kept.Failed)) first (λ un. un), u)
-  uncommitted old new (hosted.Kept kept.TooLarge) first only u = (settled-before old new (unkept (hosted.Kept kept.TooLarge)) first (λ un. un), u)
+  pub uncommitted : (old new : Hosted Normal V) (fault : HostedFault) → (is_settled old ≡ false → (unkept fault ≡ unkept hosted.Unsettled) × (new ≡ old)) → IsUnhanded old fault → Uncommitted old new → KeptCommits old (Err (of_hosted fault)) new
+  uncommitted old new hosted.Unsettled first why u = (why, (first why).1)
+  uncommitted old new (hosted.Kept kept.OutOfMemory) first why u = (why.0, u)
+  uncommitted old new (hosted.Kept (kept.Refused e)) first why u = absurd why.1
+  uncommitted old new (hosted.Kept kept.Failed) first why u = (why.0, u)
+  uncommitted old new (hosted.Kept kept.TooLarge) first why u = (why.0, why.1.1, u)

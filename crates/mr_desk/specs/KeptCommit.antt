@@ -4,6 +4,7 @@ use Rattle.mr_itemset.specs.Normal.{Normal}
 use Rattle.mr_itemset.specs.Sparing.{sparing_form}
 use Rattle.mr_entry.specs.declared.entry.Entry.{Entry}
 use Rattle.mr_journal.specs.Device.{LeavesOnly}
+use Rattle.mr_kept.specs.Commit.{HasRoom}
 use Rattle.mr_kept.specs.Entries.{notes_of}
 use Rattle.mr_kept.specs.Kept.{IsKept, StaysBack, entries_waiting, head_of, leaving, notes_waiting, waiting}
 use Rattle.mr_kept.specs.Whole.{HasLog, HasLogOf, IsOf}
@@ -41,8 +42,11 @@ module _ {V : Type 0} where
     pub host : SameDone old new
     pub left : LeavesOneOfTwo old new
 
-  -- One of these, or the host has acts to do, or one of them failed: then all is as it was.
+  -- One of these; or the host has acts to do, or one of them failed: then all is as it was. It is too large only where the journal has no room for what waits.
   abbrev pub KeptCommits : Hosted Normal V → Result (Unit {0}) Fault → Hosted Normal V → Type 0
   KeptCommits old (Ok done) new = (is_settled old ≡ true) × Committed old new
   KeptCommits old (Err fault.Unsettled) new = (is_settled old ≡ false) × (new ≡ old)
-  KeptCommits old (Err f) new = (is_settled old ≡ true) × Uncommitted old new
+  KeptCommits old (Err fault.TooLarge) new = (is_settled old ≡ true) × (HasRoom (journaled_of old) → ⊥) × Uncommitted old new
+  KeptCommits old (Err fault.OutOfMemory) new = (is_settled old ≡ true) × Uncommitted old new
+  KeptCommits old (Err fault.Failed) new = (is_settled old ≡ true) × Uncommitted old new
+  KeptCommits old (Err f) new = ⊥

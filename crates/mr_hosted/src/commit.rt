@@ -13,7 +13,7 @@ use crate::hosted::Hosted;
 use mr_forms::Knowledge;
 
 impl<K: Knowledge> Hosted<K> {
-    ghost use Rattle.mr_hosted.specs.Hosted.{SameDone, handed_out, is_settled, journaled_of, outbox_of};
+    ghost use Rattle.mr_hosted.specs.Hosted.{IsUnhanded, SameDone, handed_out, is_settled, journaled_of, outbox_of};
 
     /// Has the host keep all events that wait and behind them all notes, as one batch: [`Hosted::acts`] are what it has to do, and what
     /// was held back is handed out once it has.
@@ -21,7 +21,7 @@ impl<K: Knowledge> Hosted<K> {
     /// `Unsettled` where the host has acts to do, or one of them failed; else as [`mr_kept::Journaled::commit`]. Nothing is handed out then.
     pub fn commit(&mut self) -> Result<(), HostedFault>
         ensures unsettled { is_settled self.old ≡ false → (result ≡ Err Unsettled) × (self.new ≡ self.old) }
-        ensures only_then { IfErr result (λ fault. fault ≡ Unsettled → is_settled self.old ≡ false) }
+        ensures fault { IfErr result (IsUnhanded self.old) }
         ensures host { SameDone self.old self.new }
         ensures handed_out { OnOk result (handed_out self.new ≡ leaving (journaled_of self.old)) }
         ensures none_waits { OnOk result ((waiting (journaled_of self.new) ≡ []) × (notes_waiting (journaled_of self.new) ≡ [])) }
