@@ -1,84 +1,78 @@
 -- logs that grow, event by event
-use Rattle.std.proofs.Common.{◌≡◌, ℕ, ◌+◌, ◌<◌, List, [], ◌∷◌, ◌++◌, take, length, get_or, Ok, refl, ap, sym, subst, ◌∙◌, append_assoc, append-nil}
+use Rattle.std.proofs.Common.{◌≡◌, ℕ, ◌+◌, ◌<◌, Some, List, [], ◌∷◌, ◌++◌, take, length, get_or, Ok, refl, ap, sym, subst, ◌∙◌, append_assoc, append-nil}
 use Rattle.std.specs.Global.{Vec}
 use Rattle.mr_version.specs.Name.{Name}
+use Rattle.mr_itemset.specs.Normal.{Normal}
+use Rattle.mr_itemset.specs.Sparing.{sparing_form}
 use Rattle.mr_mail.specs.Mail.{Mail}
-use Rattle.mr_forms.specs.Known.{Form}
 use Rattle.mr_maildir.specs.View.{ViewParts}
+use Rattle.mr_maildir.specs.declared.act.Act.TheVariants as act
+use Rattle.mr_replica.specs.Replay.{Admits}
+use Rattle.mr_replica.specs.State.{State}
 use Rattle.mr_replica.specs.declared.event.Event.{Event}
 use Rattle.mr_replica.specs.declared.event.Event.TheVariants.{Create, Edit}
+use Rattle.mr_replica.specs.declared.event.Reply.{Reply}
 use Rattle.mr_replica.proofs.Replaying.{step_log}
 use Rattle.mr_kept.specs.Answered.{Answered}
 use Rattle.mr_kept.specs.Kept.{journal_of, leaving, replica_of}
-use Rattle.mr_maildir.specs.declared.act.Act.TheVariants as act
-use Rattle.mr_replica.specs.declared.event.Reply.{Reply}
 use Rattle.mr_kept.specs.declared.journaled.Journaled.{Journaled}
 use Rattle.mr_compare.specs.declared.compare.MailAct.{MailAct}
-use Rattle.mr_compare.proofs.ListLemmas.{take_one}
 use Rattle.mr_compare.specs.declared.joining.ItemHeads.{ItemHeads}
-use Rattle.mr_fold.specs.Telling.{AreEdits, TellsAct, TellsAll, items_at, Grows}
-use Rattle.mr_fold.specs.inner.Telling.{GrowsByEdit}
+use Rattle.mr_compare.proofs.ListLemmas.{take_one}
+use Rattle.mr_fold.specs.Telling.{Grows, Telling, TellsAct, TellsAll, TellsEdit, TellsInTurn, TellsMail, edited_to, first_message}
 
--- an event that was admitted is the log's last
-pub later_log : {K D V : Type 0} (form : Form K) (old new : Journaled K D V) (event : Event) →
-    (h : (reply : Reply) × Answered form (journal_of old) (replica_of old) event (Ok reply) (replica_of new) × (leaving new ≡ leaving old ++ reply ∷ [])) → (replica_of new).log ≡ (replica_of old).log ++ event ∷ []
-later_log form old new event h = step_log form (replica_of old) (replica_of new) event (Ok h.0) h.1.1
+-- ---- one event
 
--- a new mail that was told
-pub new_told : (old new : List Event) (message : Mail) → new ≡ old ++ Create message ∷ [] → Grows (TellsAct [] act.Create) old new
-new_told old new message log = record { events = Create message ∷ []; log = log; are = (message, refl) }
+module _ {D V : Type 0} where
+  -- what is known of an event that waits
+  abbrev pub Waits : Event → (old new : Journaled Normal D V) → Type 0
+  Waits event old new = (reply : Reply) × Answered sparing_form (journal_of old) (replica_of old) event (Ok reply) (replica_of new) × (leaving new ≡ leaving old ++ reply ∷ [])
 
--- an edit that was told
-pub edit_told : (old new : List Event) (bases versions : List Name) (message : Mail) (view : ViewParts) → new ≡ old ++ Edit bases message ∷ [] → bases ≡ versions → message.labels ≡ view.labels → message.flags ≡ view.flags → GrowsByEdit view versions old new
-edit_told old new bases versions message view log same labels flags = record {
-  event = Edit bases message;
-  log = log;
-  is_edit = record { message = message; is = ap (λ (bs : List Name). Edit bs message) same; labels = labels; flags = flags };
-}
+  -- it is the log's last
+  waits_last : (event : Event) (old new : Journaled Normal D V) → Waits event old new → (replica_of new).log ≡ (replica_of old).log ++ event ∷ []
+  waits_last event old new h = step_log sparing_form (replica_of old) (replica_of new) event (Ok h.0) h.1.1
 
--- a log that doesn't grow
-pub grows_not : (P : List Event → Type 0) (log : List Event) → P [] → Grows P log log
-grows_not P log nothing = record { events = []; log = sym (append-nil log); are = nothing }
+  -- a new mail that was told
+  pub new_told : (old new : Journaled Normal D V) (message : Mail) → Waits (Create message) old new → Grows (TellsAct [] act.Create) (replica_of old) (replica_of new)
+  new_told old new message h = record { events = Create message ∷ []; log = waits_last (Create message) old new h; are = (message, (refl, (h.0, h.1.1))) }
 
-grouped : (old mid new events more : List Event) → mid ≡ old ++ events → new ≡ mid ++ more → new ≡ old ++ (events ++ more)
-grouped old mid new events more a b = b ∙ ap (λ (es : List Event). es ++ more) a ∙ append_assoc old events more
+  -- an edit that was told
+  pub edit_told : (old new : Journaled Normal D V) (bases versions : List Name) (message : Mail) (view : ViewParts) → Waits (Edit bases message) old new → bases ≡ versions
+      → (was : Mail) × (first_message (replica_of old) versions ≡ Some was) × (message ≡ edited_to view was) → Grows (TellsEdit view versions) (replica_of old) (replica_of new)
+  edit_told old new bases versions message view h same is =
+      let told : Edit bases message ≡ Edit versions (edited_to view is.0) = ap (λ (bs : List Name). Edit bs message) same ∙ ap (λ (m : Mail). Edit versions m) is.2 in
+      record {
+        events = Edit bases message ∷ [];
+        log = waits_last (Edit bases message) old new h;
+        are = (is.0, is.1, (ap (λ (e : Event). e ∷ []) told, subst (λ (e : Event). Admits sparing_form (replica_of old) e (replica_of new)) told (h.0, h.1.1)));
+      }
 
--- one edit more
-pub edits_more : (view : ViewParts) (items : List ItemHeads) (i : ℕ) (x : ItemHeads) (start mid new : List Event) → i < length items → x ≡ get_or items i x → Grows (AreEdits view (take i items)) start mid → GrowsByEdit view x.versions.items mid new → Grows (AreEdits view (take (i + 1) items)) start new
-edits_more view items i x start mid new h e before one = record {
-  events = before.events ++ one.event ∷ [];
-  log = grouped start mid new before.events (one.event ∷ []) before.log one.log;
-  are = subst (λ (xs : List ItemHeads). AreEdits view xs (before.events ++ one.event ∷ [])) (sym (take_one items i x h e)) (zip_push (take i items) before.events before.are);
-}
-  where
-    zip_push : (xs : List ItemHeads) (es : List Event) → AreEdits view xs es → AreEdits view (xs ++ x ∷ []) (es ++ one.event ∷ [])
-    zip_push [] [] all = (one.is_edit, tt)
-    zip_push [] (y ∷ ys) all = absurd all
-    zip_push (a ∷ xs) [] all = absurd all
-    zip_push (a ∷ xs) (y ∷ ys) all = (all.0, zip_push xs ys all.1)
+-- ---- one after the other
 
-tells_push : (held : List (List ℕ × Vec ItemHeads)) (mails : List MailAct) (x : MailAct) (events more : List Event) → TellsAll held mails events → TellsAct (items_at held x.digest) x.act more → TellsAll held (mails ++ x ∷ []) (events ++ more)
-tells_push held [] x events more h one = (more, [], ap (λ (es : List Event). es ++ more) h ∙ sym (append-nil more), one, refl)
-tells_push held (m ∷ mails) x events more h one = (h.0, h.1 ++ more, ap (λ (es : List Event). es ++ more) h.2 ∙ append_assoc h.0 h.1 more, h.3, tells_push held mails x h.1 more h.4 one)
+-- a replica of which nothing is told
+pub grows_not : (Tells : Telling) (s : State Normal) → Tells s [] s → Grows Tells s s
+grows_not Tells s nothing = record { events = []; log = sym (append-nil s.log); are = nothing }
 
--- one mail more
-pub tells_more : (held : List (List ℕ × Vec ItemHeads)) (mails : List MailAct) (i : ℕ) (x : MailAct) (start mid new : List Event) → i < length mails → x ≡ get_or mails i x → Grows (TellsAll held (take i mails)) start mid → Grows (TellsAct (items_at held x.digest) x.act) mid new → Grows (TellsAll held (take (i + 1) mails)) start new
-tells_more held mails i x start mid new h e before one = record {
-  events = before.events ++ one.events;
-  log = grouped start mid new before.events one.events before.log one.log;
-  are = subst (λ (xs : List MailAct). TellsAll held xs (before.events ++ one.events)) (sym (take_one mails i x h e)) (tells_push held (take i mails) x before.events one.events before.are one.are);
-}
+module _ {X : Type 0} (Tells : X → Telling) where
+  turn_then : (xs ys : List X) (s mid new : State Normal) (events more : List Event) → TellsInTurn Tells xs s events mid → TellsInTurn Tells ys mid more new → TellsInTurn Tells (xs ++ ys) s (events ++ more) new
+  turn_then [] ys s mid new events more h after = subst (λ (es : List Event). TellsInTurn Tells ys s (es ++ more) new) (sym h.0) (subst (λ (z : State Normal). TellsInTurn Tells ys z more new) h.1 after)
+  turn_then (x ∷ xs) ys s mid new events more h after =
+      (h.0, h.1, h.2 ++ more, ap (λ (es : List Event). es ++ more) h.3 ∙ append_assoc h.0 h.2 more, h.4, turn_then xs ys h.1 mid new h.2 more h.5 after)
 
--- ---- one part behind the other
+  -- what is told of some, and then of others
+  pub grows_on : (xs ys : List X) (old mid new : State Normal) → Grows (TellsInTurn Tells xs) old mid → Grows (TellsInTurn Tells ys) mid new → Grows (TellsInTurn Tells (xs ++ ys)) old new
+  grows_on xs ys old mid new first second = record {
+    events = first.events ++ second.events;
+    log = second.log ∙ ap (λ (es : List Event). es ++ second.events) first.log ∙ append_assoc old.log first.events second.events;
+    are = turn_then xs ys old mid new first.events second.events first.are second.are;
+  }
 
-tells_append : (held : List (List ℕ × Vec ItemHeads)) (mails more : List MailAct) (events rest : List Event) → TellsAll held mails events → TellsAll held more rest → TellsAll held (mails ++ more) (events ++ rest)
-tells_append held [] more events rest h after = subst (λ (es : List Event). TellsAll held more (es ++ rest)) (sym h) after
-tells_append held (m ∷ mails) more events rest h after = (h.0, h.1 ++ rest, ap (λ (es : List Event). es ++ rest) h.2 ∙ append_assoc h.0 h.1 rest, h.3, tells_append held mails more h.1 rest h.4 after)
+  -- and of one more
+  pub grows_by_one : (xs : List X) (i : ℕ) (x : X) (old mid new : State Normal) → i < length xs → x ≡ get_or xs i x → Grows (TellsInTurn Tells (take i xs)) old mid → Grows (Tells x) mid new → Grows (TellsInTurn Tells (take (i + 1) xs)) old new
+  grows_by_one xs i x old mid new h e before one =
+      subst (λ (ys : List X). Grows (TellsInTurn Tells ys) old new) (sym (take_one xs i x h e))
+      (grows_on (take i xs) (x ∷ []) old mid new before (record { events = one.events; log = one.log; are = (one.events, new, [], sym (append-nil one.events), one.are, (refl, refl)) }))
 
 -- what is told of some mails, and then of others
-pub grows_then : (held : List (List ℕ × Vec ItemHeads)) (mails more : List MailAct) (old mid new : List Event) → Grows (TellsAll held mails) old mid → Grows (TellsAll held more) mid new → Grows (TellsAll held (mails ++ more)) old new
-grows_then held mails more old mid new first second = record {
-  events = first.events ++ second.events;
-  log = grouped old mid new first.events second.events first.log second.log;
-  are = tells_append held mails more first.events second.events first.are second.are;
-}
+pub grows_then : (held : List (List ℕ × Vec ItemHeads)) (mails more : List MailAct) (old mid new : State Normal) → Grows (TellsAll held mails) old mid → Grows (TellsAll held more) mid new → Grows (TellsAll held (mails ++ more)) old new
+grows_then held mails more old mid new first second = grows_on (TellsMail held) mails more old mid new first second

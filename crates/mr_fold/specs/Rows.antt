@@ -2,6 +2,9 @@
 use Rattle.std.specs.Prelude.{◌≡◌, ℕ, true, false, List, [], ◌∷◌, ◌++◌, map, codes, Some, None, Ok, Err, refl}
 use Rattle.std.specs.Fmt.{decimal}
 use Rattle.std.specs.declared.io.Error.{Error}
+use Rattle.mr_version.specs.Name.{Name}
+use Rattle.mr_itemset.specs.Normal.{Normal}
+use Rattle.mr_itemset.specs.Sparing.{sparing_form}
 use Rattle.mr_mail.specs.Mail.{Mail}
 use Rattle.mr_maildir.specs.Reference.{ReferenceParts}
 use Rattle.mr_maildir.specs.View.{ViewParts}
@@ -24,9 +27,11 @@ use Rattle.mr_fold.specs.inner.Settings.{layout_told, settings_text}
 use Rattle.mr_fold.specs.inner.Sizes.{newer_size}
 use Rattle.mr_fold.specs.inner.Straying.{first_place, path_instead, place_of, strays}
 use Rattle.mr_fold.specs.inner.Taking.{takes_away}
+use Rattle.mr_replica.specs.Replay.{Admits}
+use Rattle.mr_replica.specs.State.{State, new_state}
 use Rattle.mr_replica.specs.declared.event.Event.TheVariants.{Create}
 use Rattle.mr_fold.specs.State.{nothing_shown, shown_by, met_by}
-use Rattle.mr_fold.specs.Telling.{TellsAct, TellsAll}
+use Rattle.mr_fold.specs.Telling.{TellsAct, TellsAll, edited_to, first_message}
 
 -- before a note tells it, nothing is shown and nobody was met
 pub no_note : shown_by [] ≡ nothing_shown
@@ -39,23 +44,23 @@ nobody_met = refl
 pub other_kind : shown_by (record { kind = 9; bytes = [] } ∷ []) ≡ nothing_shown
 other_kind = refl
 
--- of a new mail a Create is told
-pub created : (message : Mail) → TellsAct [] act.Create (Create message ∷ [])
-created message = (message, refl)
+-- of a new mail a Create is told, if the replica admits it
+pub created : (s new : State Normal) (message : Mail) → Admits sparing_form s (Create message) new → TellsAct [] act.Create s (Create message ∷ []) new
+created s new message admits = (message, (refl, admits))
 
 -- of what agrees, of what follows and of what goes nothing is told
-pub agreed : TellsAct [] act.Agree []
-agreed = refl
+pub agreed : (s : State Normal) → TellsAct [] act.Agree s [] s
+agreed s = (refl, refl)
 
-pub followed : TellsAct [] act.Follow []
-followed = refl
+pub followed : (s : State Normal) → TellsAct [] act.Follow s [] s
+followed s = (refl, refl)
 
-pub removed : TellsAct [] act.Remove []
-removed = refl
+pub removed : (s : State Normal) → TellsAct [] act.Remove s [] s
+removed s = (refl, refl)
 
 -- nor of no mail
-pub of_none : TellsAll [] [] []
-of_none = refl
+pub of_none : (s : State Normal) → TellsAll [] [] s [] s
+of_none s = (refl, refl)
 
 -- ---- settings
 
@@ -121,6 +126,26 @@ folder_row = refl
 
 pub other_folder_row : folder_lines (codes "x") (inbox_folder ∷ archive ∷ []) in_inbox ≡ codes "x"
 other_folder_row = refl
+
+-- ---- edits
+
+abbrev letter : Mail
+letter = record { from = codes "ann"; subject = codes "hi"; body = codes "b"; labels = codes "f-1" ∷ []; flags = 1; day = 7 }
+
+abbrev version : ℕ → Name
+version counter = record { author = 1; counter = counter }
+
+-- a replica that holds one version of one item
+abbrev one_held : State Normal
+one_held = record (new_state 1 [] 9 (record { all = []; listed = [] })) { heads = record { item = version 1; version = version 1; below = []; message = letter } ∷ [] }
+
+-- an edit leaves all of a message but its labels and flags
+pub edited_row : edited_to in_inbox letter ≡ record { from = codes "ann"; subject = codes "hi"; body = codes "b"; labels = codes "inbox" ∷ []; flags = 0; day = 7 }
+edited_row = refl
+
+-- the first of two versions counts, if it is held
+pub first_row : map (first_message one_held) ((version 1 ∷ version 2 ∷ []) ∷ (version 2 ∷ version 1 ∷ []) ∷ [] ∷ []) ≡ Some letter ∷ None ∷ None ∷ []
+first_row = refl
 
 -- ---- what is taken away
 

@@ -1,5 +1,5 @@
 -- what a folder's journal has of a settling
-use Rattle.std.specs.Prelude.{◌≡◌, ◌++◌, ◌∷◌, [], ℕ, List, length, map}
+use Rattle.std.specs.Prelude.{◌≡◌, ◌≤◌, ◌*◌, ◌++◌, ◌∷◌, [], ℕ, Bool, true, IsTrue, List, length, map}
 use Rattle.std.specs.Global.{Vec}
 use Rattle.mr_journal.specs.Format.{Stands}
 use Rattle.mr_entry.specs.Events.{events_of}
@@ -7,14 +7,20 @@ use Rattle.mr_entry.specs.Note.{NoteParts}
 use Rattle.mr_entry.specs.Spelling.{entry_bytes}
 use Rattle.mr_entry.specs.declared.entry.Entry.{Entry}
 use Rattle.mr_version.specs.Name.{Name}
+use Rattle.mr_itemset.specs.Normal.{Normal}
 use Rattle.mr_replica.specs.State.{State}
 use Rattle.mr_kept.specs.declared.journaled.Journaled.{Journaled}
 use Rattle.mr_kept.specs.Entries.{notes_of}
-use Rattle.mr_kept.specs.Kept.{IsKept, notes_waiting, replica_of}
+use Rattle.mr_kept.specs.Kept.{IsKept, nothing_waits, notes_waiting, replica_of}
 use Rattle.mr_compare.specs.declared.compare.MailAct.{MailAct}
 use Rattle.mr_compare.specs.declared.joining.ItemHeads.{ItemHeads}
+use Rattle.mr_fold.specs.declared.settling.TheConstants.{MAILS_AT_ONCE}
 use Rattle.mr_fold.specs.Shown.{shown_note}
 use Rattle.mr_fold.specs.Telling.{Grows, TellsAll}
+
+-- one note for each of these numbers: that so many entries are shown, but for these items
+abbrev pub shown_notes : List ℕ → List Name → List NoteParts
+shown_notes numbers lacking = map (λ (entries : ℕ). shown_note entries lacking) numbers
 
 module _ {K D V : Type 0} where
   -- Behind these entries the file has those of all events of the log that they lack, and of the notes that waited, and last of this note.
@@ -24,23 +30,45 @@ module _ {K D V : Type 0} where
     pub events : events_of (entries ++ more) ≡ (replica_of new).log
     pub notes : notes_of more ≡ notes_waiting old ++ note ∷ []
 
-  -- The journal has these entries, and behind them others of which the last note is this one.
-  pub record IsNoted (seen : D → List ℕ) (may_leave : D → List ℕ → Type 0) (entries : List Entry) (j : Journaled K D V) (note : NoteParts) : Type 0 where
+  -- The journal has these entries, and behind them others, whose notes are those that waited, then some of how much of the feed was shown,
+  -- and last that all of it is.
+  pub record IsNoted (seen : D → List ℕ) (may_leave : D → List ℕ → Type 0) (entries : List Entry) (waiting : List NoteParts) (j : Journaled K D V) (lacking : List Name) : Type 0 where
     pub more : List Entry
     pub kept : IsKept seen may_leave (entries ++ more) j
-    pub earlier : List NoteParts
-    pub notes : notes_of more ≡ earlier ++ note ∷ []
+    pub parts : List ℕ
+    pub notes : notes_of more ≡ waiting ++ shown_notes (parts ++ length (replica_of j).feed ∷ []) lacking
 
--- Behind these entries the file has those of what is told of the first ones of these mails, and of what waited before; and last of the note that the whole feed is
--- shown, as far as it was told then, but for the items that lack their file.
-pub record HasFirst {K : Type 0} (file : List ℕ) (entries : List Entry) (held : List (List ℕ × Vec ItemHeads)) (mails : List MailAct) (lacking : List Name) (old : State K) : Type 0 where
+module _ {D V : Type 0} where
+  -- These mails are settled: what is told of them is kept, with the note that the whole feed is shown, but for the items that lack their file.
+  pub record Settles {F : Type 0} (seen : D → List ℕ) (may_leave : D → List ℕ → Type 0) (is_told : Bool) (are_synced : F → Type 0) (held : List (List ℕ × Vec ItemHeads)) (mails : List MailAct) (lacking : List Name) (old new : Journaled Normal D V) (files : F) : Type 0 where
+    -- nothing waits for a commit any more
+    pub all_kept : nothing_waits new ≡ true
+    -- what was shown is on the disk
+    pub all_synced : are_synced files
+    -- the log grew by what is told of the mails, one after the other, and by nothing else
+    pub told : Grows (TellsAll held mails) (replica_of old) (replica_of new)
+    -- behind what it had the journal has the notes that waited, and last the one that the whole feed is shown, with all that is told in it
+    pub noted : IsTrue is_told → (entries : List Entry) → IsKept seen may_leave entries old → IsNoted seen may_leave entries (notes_waiting old) new lacking
+
+-- Behind these entries the file has those of all events of the log that they lack, and of the notes that waited, then of some of how much of the
+-- feed was shown, and last of the note that all of it is, but for the items that lack their file.
+pub record HasShown {K : Type 0} (file : List ℕ) (entries : List Entry) (waiting : List NoteParts) (s : State K) (lacking : List Name) : Type 0 where
+  pub more : List Entry
+  pub stands : Stands (map entry_bytes (entries ++ more)) file
+  pub events : events_of (entries ++ more) ≡ s.log
+  pub parts : List ℕ
+  pub notes : notes_of more ≡ waiting ++ shown_notes (parts ++ length s.feed ∷ []) lacking
+
+-- so many mails are some parts, one at least, each of them whole
+abbrev pub AreWholeParts : ℕ → Type 0
+AreWholeParts mails = (parts : ℕ) × (1 ≤ parts) × (mails ≡ parts * MAILS_AT_ONCE)
+
+-- The file has what it had when some first parts of these mails, each of them whole, had been told and shown, and nothing of the others.
+pub record HasFirst (file : List ℕ) (entries : List Entry) (waiting : List NoteParts) (held : List (List ℕ × Vec ItemHeads)) (mails : List MailAct) (lacking : List Name) (old : State Normal) : Type 0 where
   pub first : List MailAct
   pub rest : List MailAct
   pub are : mails ≡ first ++ rest
-  pub then : State K
-  pub told : Grows (TellsAll held first) old.log then.log
-  pub more : List Entry
-  pub stands : Stands (map entry_bytes (entries ++ more)) file
-  pub events : events_of (entries ++ more) ≡ then.log
-  pub earlier : List NoteParts
-  pub notes : notes_of more ≡ earlier ++ shown_note (length then.feed) lacking ∷ []
+  pub whole : AreWholeParts (length first)
+  pub then : State Normal
+  pub told : Grows (TellsAll held first) old then
+  pub has : HasShown file entries waiting then lacking

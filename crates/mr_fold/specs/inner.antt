@@ -9,4 +9,3 @@ pub mod Settings
 pub mod Sizes
 pub mod Straying
 pub mod Taking
-pub mod Telling

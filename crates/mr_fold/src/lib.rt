@@ -64,7 +64,7 @@ pub use message::{day_at, folder_lines, new_mail};
 pub use opening::{
     FolderSetup, Kept, OpenFolder, begin_log, check_made, init, lock, mark_for, open, open_locked,
 };
-pub use settling::{HeldItems, MailFiles, settle, settle_in_parts};
+pub use settling::{HeldItems, MAILS_AT_ONCE, MailFiles, settle, settle_in_parts};
 pub use shown::note_shown;
 pub use state::{meetings_of, shown_of};
 pub use stored_mail::StoredMail;

@@ -5,10 +5,9 @@ ghost use Rattle.mr_journal.specs.Format.{Stands};
 ghost use Rattle.mr_journal.specs.Journal.{device_of};
 ghost use Rattle.mr_entry.specs.Spelling.{entry_bytes};
 ghost use Rattle.mr_entry.specs.declared.entry.Entry.{Entry};
-ghost use Rattle.mr_kept.specs.Kept.{IsKept, Noted, entries_waiting, journal_of, nothing_waits, replica_of};
-ghost use Rattle.mr_fold.specs.Settling.{HasAll, HasFirst, IsNoted};
+ghost use Rattle.mr_kept.specs.Kept.{IsKept, Noted, entries_waiting, journal_of, nothing_waits, notes_waiting, replica_of};
+ghost use Rattle.mr_fold.specs.Settling.{HasAll, HasFirst, HasShown, Settles};
 ghost use Rattle.mr_fold.specs.Shown.{shown_note};
-ghost use Rattle.mr_fold.specs.Telling.{Grows, TellsAll};
 
 use crate::fault::SettleFault;
 use crate::shown::note_shown;
@@ -38,8 +37,8 @@ pub trait MailFiles {
         ensures { OnOk result (are_synced self.new) };
 }
 
-/// How many mails are told in one commit, where no file of theirs has to be moved: what waits for a commit is in memory.
-const MAILS_AT_ONCE: usize = 32_768;
+/// How many mails [`settle_in_parts`] tells in one commit, of those for which no file has to be moved: what waits for a commit is in memory.
+pub const MAILS_AT_ONCE: usize = 32_768;
 
 /// What is held of each mail, by its file's digest: the items that it is, by their heads.
 pub type HeldItems = BTreeMap<Digest, Vec<ItemHeads>>;
@@ -66,13 +65,9 @@ pub fn settle<D: Device + Drop, F: MailFiles>(
     lacking: &[ItemId],
 ) -> Result<(), SettleFault>
     requires { length lacking.now < 2 ^ 32 }
-    ensures all_kept { OnOk result (nothing_waits kept.new ≡ true) }
-    ensures all_synced { OnOk result (F.are_synced files.new) }
-    // The log grew by what is told of the mails, one after the other, and by nothing else.
-    ensures told { OnOk result (Grows (TellsAll held.now.entries (moved.now ++ standing.now)) (replica_of kept.old).log (replica_of kept.new).log) }
-    // The journal's last note is that the whole feed is shown, with all that is told in it.
-    ensures noted { IsTrue D.is_told → (entries : List Entry) → IsKept D.seen D.may_leave entries kept.old
-        → OnOk result (IsNoted D.seen D.may_leave entries kept.new (shown_note (length (replica_of kept.new).feed) lacking.now)) }
+    // Nothing waits, what was shown is on the disk, the log grew by what is told of the mails and by nothing else, and behind the notes that waited
+    // the journal has the note that the whole feed is shown, with all that is told in it.
+    ensures settles { OnOk result (Settles D.seen D.may_leave D.is_told F.are_synced held.now.entries (moved.now ++ standing.now) lacking.now kept.old kept.new files.new) }
     // Where no file has to be moved, a crash at any moment leaves the journal's entries from before, or those and all at once: what waited,
     // what is told, and the note that it is shown.
     ensures at_once { moved.now ≡ [] → IsTrue D.is_told → (entries : List Entry) → IsKept D.seen D.may_leave entries kept.old
@@ -104,16 +99,12 @@ pub fn settle_in_parts<D: Device + Drop, F: MailFiles>(
     lacking: &[ItemId],
 ) -> Result<(), SettleFault>
     requires { length lacking.now < 2 ^ 32 }
-    ensures all_kept { OnOk result (nothing_waits kept.new ≡ true) }
-    ensures all_synced { OnOk result (F.are_synced files.new) }
-    ensures told { OnOk result (Grows (TellsAll held.now.entries (moved.now ++ standing.now)) (replica_of kept.old).log (replica_of kept.new).log) }
-    ensures noted { IsTrue D.is_told → (entries : List Entry) → IsKept D.seen D.may_leave entries kept.old
-        → OnOk result (IsNoted D.seen D.may_leave entries kept.new (shown_note (length (replica_of kept.new).feed) lacking.now)) }
-    // Where no file has to be moved, a crash at any moment leaves the journal's entries from before, or those and, of some first ones of the mails, what
-    // is told of them and the note that it is shown.
+    ensures settles { OnOk result (Settles D.seen D.may_leave D.is_told F.are_synced held.now.entries (moved.now ++ standing.now) lacking.now kept.old kept.new files.new) }
+    // Where no file has to be moved, a crash at any moment leaves the journal's entries from before; or those, and behind them what is told of some first
+    // ones of the mails, so many whole parts, or all that the log has now, with the notes that waited and the note that it is shown.
     ensures in_parts { moved.now ≡ [] → IsTrue D.is_told → (entries : List Entry) → IsKept D.seen D.may_leave entries kept.old
-        → OnOk result (LeavesOnly D.moment D.left_since (device_of (journal_of kept.old)) (device_of (journal_of kept.new))
-        (λ c. Stands (map entry_bytes entries) c ⊎ HasFirst c entries held.now.entries standing.now lacking.now (replica_of kept.old))) }
+        → LeavesOnly D.moment D.left_since (device_of (journal_of kept.old)) (device_of (journal_of kept.new))
+        (λ c. Stands (map entry_bytes entries) c ⊎ (HasFirst c entries (notes_waiting kept.old) held.now.entries standing.now lacking.now (replica_of kept.old) ⊎ HasShown c entries (notes_waiting kept.old) (replica_of kept.new) lacking.now)) }
 {
     let (first, after) = standing.split_at(standing.len().min(MAILS_AT_ONCE));
     settle(alloc, kept, files, moved, first, held, lacking)?;
@@ -137,11 +128,7 @@ fn settle_moved<D: Device + Drop, F: MailFiles>(
     lacking: &[ItemId],
 ) -> Result<(), SettleFault>
     requires { length lacking.now < 2 ^ 32 }
-    ensures all_kept { OnOk result (nothing_waits kept.new ≡ true) }
-    ensures all_synced { OnOk result (F.are_synced files.new) }
-    ensures told { OnOk result (Grows (TellsAll held.now.entries moved.now) (replica_of kept.old).log (replica_of kept.new).log) }
-    ensures noted { IsTrue D.is_told → (entries : List Entry) → IsKept D.seen D.may_leave entries kept.old
-        → OnOk result (IsNoted D.seen D.may_leave entries kept.new (shown_note (length (replica_of kept.new).feed) lacking.now)) }
+    ensures settles { OnOk result (Settles D.seen D.may_leave D.is_told F.are_synced held.now.entries moved.now lacking.now kept.old kept.new files.new) }
 {
     tell(alloc, kept, files, moved, held)?;
     commit(kept)?;
@@ -161,11 +148,7 @@ fn settle_standing<D: Device + Drop, F: MailFiles>(
     lacking: &[ItemId],
 ) -> Result<(), SettleFault>
     requires { length lacking.now < 2 ^ 32 }
-    ensures all_kept { OnOk result (nothing_waits kept.new ≡ true) }
-    ensures all_synced { OnOk result (F.are_synced files.new) }
-    ensures told { OnOk result (Grows (TellsAll held.now.entries standing.now) (replica_of kept.old).log (replica_of kept.new).log) }
-    ensures noted { IsTrue D.is_told → (entries : List Entry) → IsKept D.seen D.may_leave entries kept.old
-        → OnOk result (IsNoted D.seen D.may_leave entries kept.new (shown_note (length (replica_of kept.new).feed) lacking.now)) }
+    ensures settles { OnOk result (Settles D.seen D.may_leave D.is_told F.are_synced held.now.entries standing.now lacking.now kept.old kept.new files.new) }
     ensures at_once { IsTrue D.is_told → (entries : List Entry) → IsKept D.seen D.may_leave entries kept.old
         → LeavesOnly D.moment D.left_since (device_of (journal_of kept.old)) (device_of (journal_of kept.new))
         (λ c. Stands (map entry_bytes entries) c ⊎ HasAll c entries kept.old kept.new (shown_note (length (replica_of kept.new).feed) lacking.now)) }

@@ -1,10 +1,11 @@
 //! What the user did, as events.
-ghost use Rattle.std.specs.Prelude.{◌≡◌, ◌<◌, ◌↔◌, [], Err, IfOk, OnOk, length};
+ghost use Rattle.std.specs.Prelude.{◌≡◌, ◌<◌, ◌↔◌, [], Err, IfOk, None, OnOk, Some, length};
+ghost use Rattle.std.specs.Option.{option_copied};
+ghost use Rattle.mr_mail.specs.Mail.{Mail};
 ghost use Rattle.mr_mail.specs.declared.label.TheConstants.{MAX_LABELS};
 ghost use Rattle.mr_kept.specs.Kept.{SameJournal, replica_of};
 ghost use Rattle.mr_maildir.specs.declared.act.Act.TheVariants as act;
-ghost use Rattle.mr_fold.specs.Telling.{AreEdits, Grows, TellsAct, TellsAll, gone_view, items_at};
-ghost use Rattle.mr_fold.specs.inner.Telling.{GrowsByEdit};
+ghost use Rattle.mr_fold.specs.Telling.{Grows, TellsAct, TellsAll, TellsEdit, TellsEdits, edited_to, first_message, gone_view, items_at};
 
 use crate::fault::SettleFault;
 use crate::settling::{HeldItems, MailFiles};
@@ -26,7 +27,7 @@ pub(crate) fn tell<D: Device + Drop, F: MailFiles>(
     acts: &[MailAct],
     held: &HeldItems,
 ) -> Result<(), SettleFault>
-    ensures told { OnOk result (Grows (TellsAll held.now.entries acts.now) (replica_of kept.old).log (replica_of kept.new).log) }
+    ensures told { OnOk result (Grows (TellsAll held.now.entries acts.now) (replica_of kept.old) (replica_of kept.new)) }
     ensures journal { SameJournal kept.old kept.new }
 {
     for mail in acts {
@@ -55,7 +56,7 @@ fn tell_act<D: Device + Drop, F: MailFiles>(
     act: &Act,
     items: &[ItemHeads],
 ) -> Result<(), SettleFault>
-    ensures told { OnOk result (Grows (TellsAct items.now act.now) (replica_of kept.old).log (replica_of kept.new).log) }
+    ensures told { OnOk result (Grows (TellsAct items.now act.now) (replica_of kept.old) (replica_of kept.new)) }
     ensures journal { SameJournal kept.old kept.new }
 {
     match act {
@@ -75,7 +76,7 @@ fn tell_gone<D: Device + Drop>(
     digest: &Digest,
     items: &[ItemHeads],
 ) -> Result<(), SettleFault>
-    ensures told { OnOk result (Grows (AreEdits gone_view items.now) (replica_of kept.old).log (replica_of kept.new).log) }
+    ensures told { OnOk result (Grows (TellsEdits gone_view items.now) (replica_of kept.old) (replica_of kept.new)) }
     ensures journal { SameJournal kept.old kept.new }
 {
     let view = gone(alloc);
@@ -90,7 +91,7 @@ fn tell_new<D: Device + Drop, F: MailFiles>(
     files: &mut F,
     digest: &Digest,
 ) -> Result<(), SettleFault>
-    ensures told { OnOk result (Grows (TellsAct [] act.Create) (replica_of kept.old).log (replica_of kept.new).log) }
+    ensures told { OnOk result (Grows (TellsAct [] act.Create) (replica_of kept.old) (replica_of kept.new)) }
     ensures journal { SameJournal kept.old kept.new }
 {
     let message = files.new_message(alloc, digest)?;
@@ -113,7 +114,7 @@ fn tell_edits<D: Device + Drop>(
     items: &[ItemHeads],
     view: &View,
 ) -> Result<(), SettleFault>
-    ensures told { OnOk result (Grows (AreEdits view.now items.now) (replica_of kept.old).log (replica_of kept.new).log) }
+    ensures told { OnOk result (Grows (TellsEdits view.now items.now) (replica_of kept.old) (replica_of kept.new)) }
     ensures journal { SameJournal kept.old kept.new }
 {
     for heads in items {
@@ -130,7 +131,7 @@ fn tell_edit<D: Device + Drop>(
     versions: &[Version],
     view: &View,
 ) -> Result<(), SettleFault>
-    ensures told { OnOk result (GrowsByEdit view.now versions.now (replica_of kept.old).log (replica_of kept.new).log) }
+    ensures told { OnOk result (Grows (TellsEdit view.now versions.now) (replica_of kept.old) (replica_of kept.new)) }
     ensures journal { SameJournal kept.old kept.new }
 {
     let message = edited_head(alloc, kept.replica(), digest, versions, view)?;
@@ -148,7 +149,7 @@ fn copied(alloc: Global, versions: &[Version]) -> Result<Bases, SettleFault>
     Ok(Bases::new(bases))
 }
 
-/// The message of the first of these versions, if it is held, with the view's labels and flags.
+/// The message of the first of these versions, if it is held, with the view's labels and flags in place of its own.
 fn edited_head(
     alloc: Global,
     replica: &Replica<SparingKnowledge>,
@@ -156,17 +157,25 @@ fn edited_head(
     versions: &[Version],
     view: &View,
 ) -> Result<Message, SettleFault>
-    ensures labels { IfOk result (λ message. message.labels ≡ view.now.labels) }
-    ensures flags { IfOk result (λ message. message.flags ≡ view.now.flags) }
+    ensures value { IfOk result (λ message. (old : Mail) × (first_message replica.now versions.now ≡ Some old) × (message ≡ edited_to view.now old)) }
+    ensures not_held { first_message replica.now versions.now ≡ None → result ≡ Err SettleFault.NotHeld }
 {
-    let head = match versions.first() {
-        Some(version) => replica.held(*version),
-        None => None,
-    };
-    match head {
-        Some(head) => edited(alloc, digest, head.message(), view),
+    match first_message(replica, versions) {
+        Some(old) => edited(alloc, digest, old, view),
         None => Err(SettleFault::NotHeld),
     }
+}
+
+/// The message of the first of these versions, if it is held.
+fn first_message<'a>(
+    replica: &'a Replica<SparingKnowledge>,
+    versions: &[Version],
+) -> Option<&'a Message>
+    ensures { option_copied result ≡ first_message replica.now versions.now }
+{
+    let version = versions.first()?;
+    let head = replica.held(*version)?;
+    Some(head.message())
 }
 
 /// The message of this mail with the view's labels and flags in place of its own. `TooManyFolders` over 16 labels.
@@ -176,9 +185,7 @@ fn edited(
     old: &Message,
     view: &View,
 ) -> Result<Message, SettleFault>
-    ensures value { IfOk result (λ message. message ≡ record old.now { labels = view.now.labels; flags = view.now.flags }) }
-    ensures labels { IfOk result (λ message. message.labels ≡ view.now.labels) }
-    ensures flags { IfOk result (λ message. message.flags ≡ view.now.flags) }
+    ensures value { IfOk result (λ message. message ≡ edited_to view.now old.now) }
     ensures many { (result ≡ Err (SettleFault.TooManyFolders digest.now)) ↔ (MAX_LABELS < length view.now.labels) }
 {
     if view.labels().len() > MAX_LABELS {

@@ -1,36 +1,29 @@
 use Rattle.std.proofs.Common.{sym, ◌∙◌}
 use Rattle.std.proofs.lemmas.Result.{on_ok_weaker}
-use Rattle.mr_kept.specs.Kept.{replica_of}
-use Rattle.mr_fold.proofs.TellingLemmas.{grows_then}
-use Rattle.mr_fold.proofs.SettlingLemmas.{none_from, noted_behind, some_from, told_alone, told_first}
+use Rattle.mr_fold.proofs.SettlingLemmas.{none_from, settles_alone, settles_first, settles_then, some_from}
 use Rattle.mr_fold.proofs.settling.settle.Goals as goal
 
-pub returns-then-is_empty-clause-told : goal.returns-then-is_empty-clause-told
-returns-then-is_empty-clause-told g c =
+pub returns-then-is_empty-clause-settles : goal.returns-then-is_empty-clause-settles
+returns-then-is_empty-clause-settles g c =
     on_ok_weaker c.settle_standing.result
-    (told_alone c.args.held.now.entries c.args.moved.now c.args.standing.now (replica_of c.args.kept.now).log (replica_of c.settle_standing.new.kept).log (none_from c.args.moved.now (sym c.is_empty.ensures ∙ c.if-is_empty.true)))
-    c.settle_standing.ensures.told
+    (settles_alone c.args.moved.now c.args.standing.now c.args.kept.now c.settle_standing.new.kept c.settle_standing.new.files (none_from c.args.moved.now (sym c.is_empty.ensures ∙ c.if-is_empty.true)))
+    c.settle_standing.ensures.settles
 
 pub returns-in_err-settle_moved-clause-at_once : goal.returns-in_err-settle_moved-clause-at_once
 returns-in_err-settle_moved-clause-at_once g c = λ none. absurd (some_from c.args.moved.now (sym c.is_empty.ensures ∙ c.if-is_empty.false) none)
 
-pub returns-then-is_empty-2-clause-told : goal.returns-then-is_empty-2-clause-told
-returns-then-is_empty-2-clause-told g c =
-    told_first c.args.held.now.entries c.args.moved.now c.args.standing.now (replica_of c.args.kept.now).log (replica_of c.settle_moved.new.kept).log (none_from c.args.standing.now (sym c.is_empty-2.ensures ∙ c.if-is_empty-2.true)) c.in_ok-settle_moved.ensures.told
+pub returns-then-is_empty-2-clause-settles : goal.returns-then-is_empty-2-clause-settles
+returns-then-is_empty-2-clause-settles g c =
+    settles_first c.args.moved.now c.args.standing.now c.args.kept.now c.settle_moved.new.kept c.settle_moved.new.files (none_from c.args.standing.now (sym c.is_empty-2.ensures ∙ c.if-is_empty-2.true)) c.in_ok-settle_moved.ensures.settles
 
 pub returns-then-is_empty-2-clause-at_once : goal.returns-then-is_empty-2-clause-at_once
 returns-then-is_empty-2-clause-at_once g c = λ none. absurd (some_from c.args.moved.now (sym c.is_empty.ensures ∙ c.if-is_empty.false) none)
 
-pub returns-clause-told : goal.returns-clause-told
-returns-clause-told g c =
+pub returns-clause-settles : goal.returns-clause-settles
+returns-clause-settles g c =
     on_ok_weaker c.settle_standing-2.result
-    (grows_then c.args.held.now.entries c.args.moved.now c.args.standing.now (replica_of c.args.kept.now).log (replica_of c.settle_moved.new.kept).log (replica_of c.settle_standing-2.new.kept).log c.in_ok-settle_moved.ensures.told)
-    c.settle_standing-2.ensures.told
+    (settles_then c.args.moved.now c.args.standing.now c.args.kept.now c.settle_moved.new.kept c.settle_standing-2.new.kept c.settle_moved.new.files c.settle_standing-2.new.files c.in_ok-settle_moved.ensures.settles)
+    c.settle_standing-2.ensures.settles
 
 pub returns-clause-at_once : goal.returns-clause-at_once
 returns-clause-at_once g c = λ none. absurd (some_from c.args.moved.now (sym c.is_empty.ensures ∙ c.if-is_empty.false) none)
-
-pub returns-clause-noted : goal.returns-clause-noted
-returns-clause-noted g c = λ told entries kept.
-    let first = c.in_ok-settle_moved.ensures.noted told entries kept in
-    on_ok_weaker c.settle_standing-2.result (noted_behind entries first.more c.settle_standing-2.new.kept _) (c.settle_standing-2.ensures.noted told _ first.kept)

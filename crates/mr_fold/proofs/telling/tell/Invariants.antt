@@ -6,6 +6,6 @@ use Rattle.mr_fold.proofs.telling.tell.Given as goal
 -- the log grew by what is told of the mails so far, and the journal stays
 abbrev pub invariant-loop-mail : goal.invariant-loop-mail
 invariant-loop-mail g l = record {
-  told : Grows (TellsAll l.held.entries (take l.mail-index l.acts)) (replica_of l.fn.kept).log (replica_of l.kept).log;
+  told : Grows (TellsAll l.held.entries (take l.mail-index l.acts)) (replica_of l.fn.kept) (replica_of l.kept);
   journal : SameJournal l.fn.kept l.kept;
 }

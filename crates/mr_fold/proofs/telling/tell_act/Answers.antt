@@ -8,21 +8,21 @@ use Rattle.mr_fold.proofs.telling.tell_act.Goals as goal
 
 pub returns-in-Create-clause-told : goal.returns-in-Create-clause-told
 returns-in-Create-clause-told g c =
-    subst (λ a. OnOk c.tell_new.result (Grows (TellsAct c.args.items.now a) (replica_of c.args.kept.now).log (replica_of c.tell_new.new.kept).log)) (sym c.in-Create.is) c.tell_new.ensures.told
+    subst (λ a. OnOk c.tell_new.result (Grows (TellsAct c.args.items.now a) (replica_of c.args.kept.now) (replica_of c.tell_new.new.kept))) (sym c.in-Create.is) c.tell_new.ensures.told
 
 pub returns-in-Edit-clause-told : goal.returns-in-Edit-clause-told
 returns-in-Edit-clause-told g c =
-    subst (λ a. OnOk c.tell_edits.result (Grows (TellsAct c.args.items.now a) (replica_of c.args.kept.now).log (replica_of c.tell_edits.new.kept).log)) (sym c.in-Edit.is) c.tell_edits.ensures.told
+    subst (λ a. OnOk c.tell_edits.result (Grows (TellsAct c.args.items.now a) (replica_of c.args.kept.now) (replica_of c.tell_edits.new.kept))) (sym c.in-Edit.is) c.tell_edits.ensures.told
 
 pub returns-in-Delete-clause-told : goal.returns-in-Delete-clause-told
 returns-in-Delete-clause-told g c =
-    subst (λ a. OnOk c.tell_gone.result (Grows (TellsAct c.args.items.now a) (replica_of c.args.kept.now).log (replica_of c.tell_gone.new.kept).log)) (sym c.in-Delete.is) c.tell_gone.ensures.told
+    subst (λ a. OnOk c.tell_gone.result (Grows (TellsAct c.args.items.now a) (replica_of c.args.kept.now) (replica_of c.tell_gone.new.kept))) (sym c.in-Delete.is) c.tell_gone.ensures.told
 
 pub returns-in-Agree-clause-told : goal.returns-in-Agree-clause-told
-returns-in-Agree-clause-told g c = subst (λ a. Grows (TellsAct c.args.items.now a) (replica_of c.args.kept.now).log (replica_of c.args.kept.now).log) (sym c.in-Agree.is) (grows_not (TellsAct c.args.items.now act.Agree) (replica_of c.args.kept.now).log refl)
+returns-in-Agree-clause-told g c = subst (λ a. Grows (TellsAct c.args.items.now a) (replica_of c.args.kept.now) (replica_of c.args.kept.now)) (sym c.in-Agree.is) (grows_not (TellsAct c.args.items.now act.Agree) (replica_of c.args.kept.now) (refl, refl))
 
 pub returns-in-Follow-clause-told : goal.returns-in-Follow-clause-told
-returns-in-Follow-clause-told g c = subst (λ a. Grows (TellsAct c.args.items.now a) (replica_of c.args.kept.now).log (replica_of c.args.kept.now).log) (sym c.in-Follow.is) (grows_not (TellsAct c.args.items.now act.Follow) (replica_of c.args.kept.now).log refl)
+returns-in-Follow-clause-told g c = subst (λ a. Grows (TellsAct c.args.items.now a) (replica_of c.args.kept.now) (replica_of c.args.kept.now)) (sym c.in-Follow.is) (grows_not (TellsAct c.args.items.now act.Follow) (replica_of c.args.kept.now) (refl, refl))
 
 pub returns-in-Remove-clause-told : goal.returns-in-Remove-clause-told
-returns-in-Remove-clause-told g c = subst (λ a. Grows (TellsAct c.args.items.now a) (replica_of c.args.kept.now).log (replica_of c.args.kept.now).log) (sym c.in-Remove.is) (grows_not (TellsAct c.args.items.now act.Remove) (replica_of c.args.kept.now).log refl)
+returns-in-Remove-clause-told g c = subst (λ a. Grows (TellsAct c.args.items.now a) (replica_of c.args.kept.now) (replica_of c.args.kept.now)) (sym c.in-Remove.is) (grows_not (TellsAct c.args.items.now act.Remove) (replica_of c.args.kept.now) (refl, refl))
