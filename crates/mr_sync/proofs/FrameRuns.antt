@@ -3,7 +3,7 @@ use Rattle.std.proofs.Common.{◌≡◌, ℕ, ◌+◌, List, [], ◌∷◌, ◌+
 use Rattle.std.proofs.Math.Seq.{take-add}
 use Rattle.mr_wire.specs.Grammar.{Spells}
 use Rattle.mr_wire.specs.declared.frame.Frame.{Frame}
-use Rattle.mr_sync.specs.inner.Taken.{AreFrames}
+use Rattle.mr_sync.specs.Taken.{AreFrames}
 
 -- one frame more
 frames_push : (frames : List Frame) (front text : List ℕ) (f : Frame) (format : ℕ) → AreFrames frames front → Spells format f text → AreFrames (frames ++ f ∷ []) (front ++ text)

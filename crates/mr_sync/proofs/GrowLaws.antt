@@ -1,8 +1,10 @@
 -- logs that grow by some events only
-use Rattle.std.proofs.Common.{◌≡◌, ◌+◌, ◌<◌, ℕ, List, [], ◌∷◌, ◌++◌, length, get_or, take, map, Result, Ok, Err, sym, ap, ◌∙◌, append_assoc, append-nil}
+use Rattle.std.proofs.Common.{◌≡◌, ◌+◌, ◌<◌, ℕ, List, [], ◌∷◌, ◌++◌, length, get_or, take, map, Option, Some, None, Result, Ok, Err, refl, sym, ap, subst, ◌∙◌, append_assoc, append-nil}
+use Rattle.std.specs.Prelude.{option_map}
 use Rattle.std.specs.List.{AllByRecursion}
-use Rattle.std.proofs.lemmas.List.{map-append}
+use Rattle.std.proofs.lemmas.List.{append_cancel_left, map-append}
 use Rattle.mr_forms.specs.Known.{Form}
+use Rattle.mr_itemset.specs.Normal.{Normal}
 use Rattle.mr_journal.specs.declared.journal.Journal.{Journal}
 use Rattle.mr_replica.specs.State.{State}
 use Rattle.mr_replica.specs.declared.event.Event.{Event}
@@ -11,10 +13,13 @@ use Rattle.mr_wire.specs.declared.frame.Frame.{Frame}
 use Rattle.mr_compare.proofs.ListLemmas.{take_one}
 use Rattle.mr_replica.specs.declared.event.Reply.{Reply}
 use Rattle.mr_replica.proofs.Replaying.{step_log}
+use Rattle.mr_replica.proofs.Replies.{step_refused}
 use Rattle.mr_kept.specs.declared.fault.KeptFault.{KeptFault}
 use Rattle.mr_kept.specs.declared.fault.KeptFault.TheVariants.{OutOfMemory, Refused, Failed, TooLarge}
 use Rattle.mr_kept.specs.Answered.{Answered}
-use Rattle.mr_sync.specs.inner.Taken.{GrowsOnlyBy}
+use Rattle.mr_talk.specs.Packed.{Unpacks}
+use Rattle.mr_talk.specs.declared.hello.Hello.{Hello}
+use Rattle.mr_sync.specs.Taken.{AreFrames, GrowsOnlyBy, GrowsOnlyByTheirs, IsRecordOf, TakesRecordOf, TakesRecords}
 
 all_append : (P : Event → Type 0) (xs ys : List Event) → AllByRecursion P xs → AllByRecursion P ys → AllByRecursion P (xs ++ ys)
 all_append P [] ys a b = b
@@ -48,6 +53,13 @@ module _ {K : Type 0} (form : Form K) where
   refused_log journal s event TooLarge new h = ap (λ (z : State K). z.log) h.1
   refused_log journal s event OutOfMemory new h = ap (λ (z : State K). z.log) h
 
+  -- one that is refused leaves the replica as it was
+  pub refused_stays : {D : Type 0} (journal : Journal D) (s : State K) (event : Event) (e : KeptFault) (new : State K) → Answered form journal s event (Err e) new → new ≡ s
+  refused_stays journal s event (Refused e) new h = step_refused form s event e new h.1
+  refused_stays journal s event Failed new h = h.1
+  refused_stays journal s event TooLarge new h = h.1
+  refused_stays journal s event OutOfMemory new h = h
+
   pub answered_grows : {D : Type 0} (P : Event → Type 0) (journal : Journal D) (s : State K) (event : Event) (answer : Result Reply KeptFault) (new : State K) → Answered form journal s event answer new → P event → GrowsOnlyBy P s.log new.log
   answered_grows P journal s event (Ok reply) new h is = grows_one P s.log new.log event (answered_log journal s event reply new h) is
   answered_grows P journal s event (Err e) new h is = grows_not P s.log new.log (refused_log journal s event e new h)
@@ -68,3 +80,56 @@ told_more f xs i x start old new so_far within is log =
     ∙ append_assoc start (map f (take i xs)) (f x ∷ [])
     ∙ ap (λ (es : List Event). start ++ es) (sym (map-append f (take i xs) (x ∷ [])))
     ∙ ap (λ ys. start ++ map f ys) (sym (take_one xs i x within is))
+
+-- ---- by what the other side gave
+
+-- an id that is said is the one that was said
+pub said_id : (theirs : Hello) (other : ℕ) → ◌≡◌ {A = Option ℕ} (Some theirs.id) (Some other) → theirs.id ≡ other
+said_id theirs other e = ap from e
+  where
+    from : Option ℕ → ℕ
+    from None = 0
+    from (Some n) = n
+
+pub said_none : (other : ℕ) → ◌≡◌ {A = Option ℕ} None (Some other) → ⊥
+said_none other e = subst is_none e tt
+  where
+    is_none : Option ℕ → Type 0
+    is_none None = Unit {0}
+    is_none (Some n) = ⊥
+
+-- where the other side said who it is
+pub grows_theirs : (P : ℕ → Event → Type 0) (theirs : Option Hello) (other : ℕ) (old new : List Event) → option_map (λ h. h.id) theirs ≡ Some other → GrowsOnlyBy (P other) old new → GrowsOnlyByTheirs P theirs old new
+grows_theirs P None other old new met grows = absurd (said_none other met)
+grows_theirs P (Some theirs) other old new met grows = subst (λ (id : ℕ). GrowsOnlyBy (P id) old new) (sym (said_id theirs other met)) grows
+
+-- where it didn't
+pub grows_unmet : (P : ℕ → Event → Type 0) (theirs : Option Hello) (old : List Event) → theirs ≡ None → GrowsOnlyByTheirs P theirs old old
+grows_unmet P theirs old none = subst (λ (o : Option Hello). GrowsOnlyByTheirs P o old old) (sym none) refl
+
+-- a log that is then as it was
+pub grows_so : (P : ℕ → Event → Type 0) (theirs : Option Hello) (other : ℕ) (old mid new : List Event) → option_map (λ h. h.id) theirs ≡ Some other → GrowsOnlyBy (P other) old mid → new ≡ mid → GrowsOnlyByTheirs P theirs old new
+grows_so P theirs other old mid new met grows same = grows_theirs P theirs other old new met (subst (λ (l : List Event). GrowsOnlyBy (P other) old l) (sym same) grows)
+
+all_records : (source : ℕ) (frames : List Frame) → AllByRecursion (TakesRecordOf source) (map Receive frames) → AllByRecursion (IsRecordOf source) frames
+all_records source [] h = tt
+all_records source (f ∷ frames) h = (h.0, all_records source frames h.1)
+
+-- what is taken are records of the source
+records_given : (source : ℕ) (frames : List Frame) (old new : List Event) → GrowsOnlyBy (TakesRecordOf source) old new → new ≡ old ++ map Receive frames → AllByRecursion (IsRecordOf source) frames
+records_given source frames old new grows all =
+    all_records source frames (subst (AllByRecursion (TakesRecordOf source)) (append_cancel_left old grows.events (map Receive frames) (sym grows.log ∙ all)) grows.are)
+
+-- so a message of records is taken
+pub takes_records : (theirs : Option Hello) (other : ℕ) (last bytes text mid after : List ℕ) (frames : List Frame) (old taken new : State Normal) → option_map (λ h. h.id) theirs ≡ Some other → Unpacks last bytes text mid → AreFrames frames text →
+    GrowsOnlyBy (TakesRecordOf other) old.log taken.log → taken.log ≡ old.log ++ map Receive frames → after ≡ mid → new ≡ taken → TakesRecords theirs last old bytes after new
+takes_records theirs other last bytes text mid after frames old taken new met unpacked spelled grows all same_last same = record {
+  other = other;
+  met = met;
+  text = text;
+  unpacked = subst (Unpacks last bytes text) (sym same_last) unpacked;
+  frames = frames;
+  spelled = spelled;
+  given = records_given other frames old.log taken.log grows all;
+  log = ap (λ (z : State Normal). z.log) same ∙ all;
+}

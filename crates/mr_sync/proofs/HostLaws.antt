@@ -5,10 +5,11 @@ use Rattle.std.specs.Bool.{then_some}
 use Rattle.std.specs.BTreeMap.{get}
 use Rattle.std.specs.Ordering.{nat_cmp}
 use Rattle.mr_kept.specs.Kept.{head_of, replica_of}
-use Rattle.mr_sync.specs.Hello.{IsHelloOf, Judges, met_by}
-use Rattle.mr_sync.specs.Host.{HasToTell, IsIdle, JudgesOf, journaled_of, lacks_files, meetings_of, theirs_of}
+use Rattle.mr_sync.specs.Hello.{IsHelloOf, IsJudgeFault, Judges, met_by}
+use Rattle.mr_sync.specs.Host.{HasToTell, IsIdle, IsIdleFaultOf, JudgesOf, journaled_of, lacks_files, meetings_of, theirs_of}
 use Rattle.mr_sync.specs.declared.host.FolderHost.{FolderHost}
 use Rattle.mr_sync.specs.declared.idle.Hellos.{Hellos}
+use Rattle.mr_talk.specs.declared.hello.Hello.{Hello}
 use Rattle.mr_talk.specs.declared.side.HostFault.{HostFault}
 use Rattle.mr_sync.specs.declared.fault.SyncFault.{SyncFault}
 use Rattle.mr_sync.specs.Fault.{IsToldFor, sync_fault_number}
@@ -37,3 +38,9 @@ module _ {D F : Type 0} where
   told_or_idle h talk false found is said none mine judges =
       let found_so : JudgesOf h talk.theirs false = subst (λ (lacks : Bool). Judges (head_of (journaled_of h)).birth (replica_of (journaled_of h)) lacks talk.theirs (option_map met_by (get nat_cmp (meetings_of h) talk.theirs.id)) false) (sym none) judges in
       subst (λ (r : Option Hellos). MatchOption r (HasToTell h) (IsIdle h)) (sym is) (inr (inr (talk.theirs, said, found_so)))
+
+  -- nor does it say that it has none, where a hello isn't judged
+  pub idle_fault : (h : FolderHost D F) (theirs : Hello) (fault : SyncFault) → theirs_of h ≡ Some theirs → lacks_files h ≡ false →
+      IsJudgeFault (head_of (journaled_of h)).birth (replica_of (journaled_of h)) false theirs (option_map met_by (get nat_cmp (meetings_of h) theirs.id)) fault → IsIdleFaultOf h fault
+  idle_fault h theirs fault said none is =
+      (none, (theirs, said, subst (λ (lacks : Bool). IsJudgeFault (head_of (journaled_of h)).birth (replica_of (journaled_of h)) lacks theirs (option_map met_by (get nat_cmp (meetings_of h) theirs.id)) fault) (sym none) is))

@@ -1,4 +1,5 @@
 pub mod AskLaws
+pub mod FileLaws
 pub mod FrameRuns
 pub mod GrowLaws
 pub mod HelloLaws
@@ -6,7 +7,9 @@ pub mod HostLaws
 pub mod IdleLaws
 pub mod ListLaws
 pub mod MarkLaws
+pub mod ReleaseLaws
 pub mod SayLaws
 pub mod SendLaws
 pub mod TakeLaws
+pub mod TakenLists
 pub mod PackLaws

@@ -30,6 +30,11 @@ pub on_ok : {X E : Type 0} {P Q : Type 0} (r : Result X E) → OnOk r P → (P �
 on_ok (Ok x) h f = f h
 on_ok (Err e) h f = tt
 
+-- what holds holds where the answer is `Ok`
+pub so_ok : {X E : Type 0} {P : Type 0} (r : Result X E) → P → OnOk r P
+so_ok (Ok x) p = p
+so_ok (Err e) p = tt
+
 -- no frame yet
 pub front_none : (old : List (Vec ℕ)) → FrontIs old [] old
 front_none old = record { front = []; all = refl; are = refl }

@@ -1,66 +1,103 @@
 -- what comes of a request behind its mark
-use Rattle.std.proofs.Common.{◌≡◌, ℕ, List, Option, Some, None, Result, Ok, Err, refl, sym, subst}
-use Rattle.std.specs.Prelude.{IfErr, OnOk, option_map}
+use Rattle.std.proofs.Common.{◌≡◌, ℕ, List, length, Option, Some, None, Result, Ok, Err, refl, sym, ap, subst, inr, ◌∙◌}
+use Rattle.std.specs.Prelude.{IfErr, IfOk, MatchResult, OnOk, option_map}
 use Rattle.std.specs.Result.{IsErrAnd}
 use Rattle.mr_itemset.specs.Normal.{Normal}
+use Rattle.mr_itemset.specs.Sparing.{sparing_form}
+use Rattle.mr_journal.specs.declared.journal.Journal.{Journal}
+use Rattle.mr_kept.specs.Answered.{Answered}
+use Rattle.mr_kept.specs.declared.fault.KeptFault.{KeptFault}
 use Rattle.mr_lookup.specs.Versions.{versions_told}
 use Rattle.mr_replica.specs.State.{State}
+use Rattle.mr_replica.specs.declared.event.Event.TheVariants.{Answer}
 use Rattle.mr_talk.specs.declared.hello.Hello.{Hello}
+use Rattle.mr_wire.specs.Decoding.{Answers as Decodes, decoded}
+use Rattle.mr_wire.specs.Frames.{Question}
+use Rattle.mr_wire.specs.declared.fault.WireFault.{WireFault}
+use Rattle.mr_wire.specs.declared.fault.WireFault.TheVariants as wires
+use Rattle.mr_wire.specs.declared.frame.Frame.{Frame as AnyFrame}
+use Rattle.mr_wire.specs.declared.frame.Frame.TheVariants as frames
 use Rattle.mr_sync.specs.declared.fault.SyncFault.{SyncFault}
-use Rattle.mr_sync.specs.declared.fault.SyncFault.TheVariants.{OutOfMemory, Kept, NotMet, Frame, OtherFrame, OtherSide, BadList, OtherHistory}
-use Rattle.mr_sync.specs.Asking.{Answers, IsAnswerFault, IsAskFault, IsMetAskFault, IsOwnMarked, TakesAsk}
+use Rattle.mr_sync.specs.declared.fault.SyncFault.TheVariants.{OutOfMemory, Kept, NotMet, BadList, OtherHistory}
+use Rattle.mr_sync.specs.Asking.{Answers, IsAnswerFault, IsAskFault, IsAskFrame, IsMetAskFault, IsNoRequestOf, IsOwnMarked, TakesAsk}
+use Rattle.mr_sync.specs.Fault.{fault_of_wire}
 use Rattle.mr_sync.specs.inner.Marks.{IsMarkFault}
+use Rattle.mr_sync.specs.inner.Taken.{IsNoAskOf}
+use Rattle.mr_sync.proofs.GrowLaws.{refused_stays, said_id, said_none}
 
 -- what holds of a fault holds of an answer that passes it on
-pub passed_on : {T : Type 0} (P : SyncFault → Type 0) (fault : SyncFault) (r : Result T SyncFault) → IsErrAnd r (λ e. e ≡ fault) → P fault → IfErr r P
+pub passed_on : {T E : Type 0} (P : E → Type 0) (fault : E) (r : Result T E) → IsErrAnd r (λ e. e ≡ fault) → P fault → IfErr r P
 passed_on P fault (Ok v) exit holds = tt
 passed_on P fault (Err e) exit holds = subst P (sym exit) holds
 
--- where the mark is refused, the replica is as it was
-of_mark : (s : State Normal) (bytes : List ℕ) (fault : SyncFault) → IsMarkFault s.id (versions_told s.id s.log) bytes fault → IsAskFault s bytes s fault
-of_mark s bytes OutOfMemory is = tt
-of_mark s bytes BadList is = (is, refl)
-of_mark s bytes (OtherHistory id) is = (is.0, is.1, refl)
-of_mark s bytes fault is = absurd is
+module _ {D : Type 0} (journal : Journal D) where
+  -- where the mark is refused, the replica is as it was
+  of_mark : (s : State Normal) (target : ℕ) (bytes : List ℕ) (fault : SyncFault) → IsMarkFault s.id (versions_told s.id s.log) bytes fault → IsAskFault journal s target bytes s fault
+  of_mark s target bytes OutOfMemory is = refl
+  of_mark s target bytes BadList is = (is, refl)
+  of_mark s target bytes (OtherHistory id) is = (is.0, is.1, refl)
+  of_mark s target bytes fault is = absurd is
 
--- what a lent replica agrees with, the replica does
+  pub lent_fault : (lent s : State Normal) (target : ℕ) (bytes : List ℕ) (fault : SyncFault) → lent ≡ s → IsMarkFault lent.id (versions_told lent.id lent.log) bytes fault → IsAskFault journal s target bytes s fault
+  lent_fault lent s target bytes fault same is = of_mark s target bytes fault (subst (λ (z : State Normal). IsMarkFault z.id (versions_told z.id z.log) bytes fault) same is)
+
+  behind_mark : (old new : State Normal) (target : ℕ) (bytes rest : List ℕ) (fault : SyncFault) → IsOwnMarked old bytes rest → IsAnswerFault journal old target rest new fault → IsAskFault journal old target bytes new fault
+  behind_mark old new target bytes rest OutOfMemory marked is = is.1
+  behind_mark old new target bytes rest BadList marked is = absurd is.0
+  behind_mark old new target bytes rest (OtherHistory id) marked is = absurd is.0
+  behind_mark old new target bytes rest fault marked is = (rest, marked, is)
+
+  -- each fault of what stands behind a mark with which the log agrees
+  pub faults_behind : {T : Type 0} (old new : State Normal) (target : ℕ) (bytes rest : List ℕ) (r : Result T SyncFault) → IsOwnMarked old bytes rest → IfErr r (IsAnswerFault journal old target rest new) → IfErr r (IsAskFault journal old target bytes new)
+  faults_behind old new target bytes rest (Ok v) marked is = tt
+  faults_behind old new target bytes rest (Err fault) marked is = behind_mark old new target bytes rest fault marked is
+
+  -- bytes that are no request leave the replica as it was
+  pub no_request : (s : State Normal) (target : ℕ) (bytes : List ℕ) (fault : SyncFault) → IsNoRequestOf target bytes fault → IsAnswerFault journal s target bytes s fault
+  no_request s target bytes (Kept e) is = absurd is
+  no_request s target bytes fault is = (is, refl)
+
+  -- so does a request that the replica refuses
+  pub refused_ask : (old new : State Normal) (target : ℕ) (bytes : List ℕ) (question : Question) (e : KeptFault) → IsAskFrame bytes question → question.target ≡ target → Answered sparing_form journal old (Answer question) (Err e) new → IsAnswerFault journal old target bytes new (Kept e)
+  refused_ask old new target bytes question e spelled target_is refused =
+      (record { question = question; spelled = spelled; target_is = target_is; refused = refused }, refused_stays sparing_form journal old (Answer question) e new refused)
+
+  -- one who said who it is was met
+  pub met_faults : {T : Type 0} (theirs : Option Hello) (other : ℕ) (old new : State Normal) (bytes : List ℕ) (r : Result T SyncFault) → option_map (λ h. h.id) theirs ≡ Some other → IfErr r (IsAskFault journal old other bytes new) →
+      IfErr r (IsMetAskFault journal theirs old bytes new)
+  met_faults (Some h) other old new bytes r met is = subst (λ (id : ℕ). IfErr r (IsAskFault journal old id bytes new)) (sym (said_id h other met)) is
+  met_faults None other old new bytes r met is = absurd (said_none other met)
+
+  -- one who didn't was not
+  pub unmet_fault : (theirs : Option Hello) (s : State Normal) (bytes : List ℕ) (fault : SyncFault) → theirs ≡ None → fault ≡ NotMet → IsMetAskFault journal theirs s bytes s fault
+  unmet_fault theirs s bytes fault none is = subst (λ (o : Option Hello). IsMetAskFault journal o s bytes s fault) (sym none) (is, refl)
+
+-- what a replica that is lent agrees with, the replica does
 pub lent_marked : (lent s : State Normal) (bytes rest : List ℕ) → lent ≡ s → IsOwnMarked lent bytes rest → IsOwnMarked s bytes rest
 lent_marked lent s bytes rest same marked = subst (λ (z : State Normal). IsOwnMarked z bytes rest) same marked
 
-pub lent_fault : (lent s : State Normal) (bytes : List ℕ) (fault : SyncFault) → lent ≡ s → IsMarkFault lent.id (versions_told lent.id lent.log) bytes fault → IsAskFault s bytes s fault
-lent_fault lent s bytes fault same is = of_mark s bytes fault (subst (λ (z : State Normal). IsMarkFault z.id (versions_told z.id z.log) bytes fault) same is)
+-- bytes that begin with no frame
+pub no_frame : (target : ℕ) (bytes : List ℕ) (e : WireFault) → Decodes (decoded bytes) (Err e) → IsNoRequestOf target bytes (fault_of_wire e)
+no_frame target bytes wires.OutOfMemory is = tt
+no_frame target bytes wires.Truncated is = is
+no_frame target bytes wires.TooLong is = is
+no_frame target bytes wires.BadFormat is = is
+no_frame target bytes wires.BadKind is = is
+no_frame target bytes wires.BadBody is = is
 
-behind_mark : (old new : State Normal) (bytes rest : List ℕ) (fault : SyncFault) → IsOwnMarked old bytes rest → IsAnswerFault fault → IsAskFault old bytes new fault
-behind_mark old new bytes rest OutOfMemory marked is = tt
-behind_mark old new bytes rest (Kept e) marked is = (is, (rest, marked))
-behind_mark old new bytes rest (Frame e) marked is = (is, (rest, marked))
-behind_mark old new bytes rest OtherFrame marked is = (is, (rest, marked))
-behind_mark old new bytes rest OtherSide marked is = (is, (rest, marked))
-behind_mark old new bytes rest fault marked is = absurd is
+-- a frame that is all of the bytes is a request, or why it is none
+pub ask_or_none : (target : ℕ) (bytes : List ℕ) (f : AnyFrame) (used : ℕ) (r : Result Question SyncFault) → decoded bytes ≡ Ok (f, used) → used ≡ length bytes → MatchResult r (λ q. (f ≡ frames.Ask q) × (q.target ≡ target)) (IsNoAskOf target f) → IfErr r (IsNoRequestOf target bytes)
+ask_or_none target bytes f used (Ok q) begins whole is = tt
+ask_or_none target bytes (frames.Record sent) used (Err fault) begins whole is = subst (IsNoRequestOf target bytes) (sym is) (record { front = frames.Record sent; used = used; begins = begins; otherwise = inr tt })
+ask_or_none target bytes (frames.Receipt r) used (Err fault) begins whole is = subst (IsNoRequestOf target bytes) (sym is) (record { front = frames.Receipt r; used = used; begins = begins; otherwise = inr tt })
+ask_or_none target bytes (frames.Ask q) used (Err fault) begins whole is =
+    subst (IsNoRequestOf target bytes) (sym is.0) (q, begins ∙ ap (λ (n : ℕ). Ok (frames.Ask q, n)) whole, is.1)
 
--- each fault of what stands behind a mark with which the log agrees
-pub faults_behind : {T : Type 0} (old new : State Normal) (bytes rest : List ℕ) (r : Result T SyncFault) → IsOwnMarked old bytes rest → IfErr r IsAnswerFault → IfErr r (IsAskFault old bytes new)
-faults_behind old new bytes rest (Ok v) marked is = tt
-faults_behind old new bytes rest (Err fault) marked is = behind_mark old new bytes rest fault marked is
+pub ask_whole : (target : ℕ) (bytes : List ℕ) (f : AnyFrame) (used : ℕ) (r : Result Question SyncFault) → decoded bytes ≡ Ok (f, used) → used ≡ length bytes → MatchResult r (λ q. (f ≡ frames.Ask q) × (q.target ≡ target)) (IsNoAskOf target f) → IfOk r (IsAskFrame bytes)
+ask_whole target bytes f used (Err fault) begins whole is = tt
+ask_whole target bytes f used (Ok q) begins whole is = begins ∙ ap (λ (n : ℕ). Ok (f, n)) whole ∙ ap (λ (g : AnyFrame). Ok (g, length bytes)) is.0
 
 -- what is answered there is taken
 pub takes_behind : {T : Type 0} (old new : State Normal) (target : ℕ) (bytes rest : List ℕ) (r : Result T SyncFault) → IsOwnMarked old bytes rest → OnOk r (Answers old target rest new) → OnOk r (TakesAsk old target bytes new)
 takes_behind old new target bytes rest (Ok v) marked answers = record { rest = rest; marked = marked; answers = answers }
 takes_behind old new target bytes rest (Err fault) marked answers = tt
-
--- one who said who it is was met
-pub met_faults : {T : Type 0} (theirs : Option Hello) (other : ℕ) (old new : State Normal) (bytes : List ℕ) (r : Result T SyncFault) → option_map (λ h. h.id) theirs ≡ Some other → IfErr r (IsAskFault old bytes new) →
-    IfErr r (IsMetAskFault theirs old bytes new)
-met_faults (Some h) other old new bytes r met is = is
-met_faults None other old new bytes r met is = absurd (none met)
-  where
-    none : ◌≡◌ {A = Option ℕ} None (Some other) → ⊥
-    none e = subst is_none e tt
-      where
-        is_none : Option ℕ → Type 0
-        is_none None = Unit {0}
-        is_none (Some n) = ⊥
-
--- one who didn't was not
-pub unmet_fault : (theirs : Option Hello) (s : State Normal) (bytes : List ℕ) (fault : SyncFault) → theirs ≡ None → fault ≡ NotMet → IsMetAskFault theirs s bytes s fault
-unmet_fault theirs s bytes fault none is = subst (λ (o : Option Hello). IsMetAskFault o s bytes s fault) (sym none) (is, refl)

@@ -3,6 +3,7 @@ use Rattle.std.specs.Prelude.{◌≡◌, ◌⊎◌, ◌==◌, ◌&&◌, ◌||◌
 use Rattle.std.specs.List.{list_any}
 use Rattle.mr_filter.specs.Filter.{ClauseParts}
 use Rattle.mr_forms.specs.Known.{Pairs}
+use Rattle.mr_forms.specs.declared.fault.FormFault.TheVariants.{TooManyHoles}
 use Rattle.mr_itemset.specs.Normal.{Normal, normal_known}
 use Rattle.mr_itemset.specs.Sparing.{sparing_form}
 use Rattle.mr_lookup.specs.Digest.{IsDigestOf}
@@ -13,11 +14,14 @@ use Rattle.mr_version.specs.Name.{Name}
 use Rattle.mr_wire.specs.Spelling.{message_bytes}
 use Rattle.sha2.specs.Sha256.{sha256}
 use Rattle.mr_compare.specs.declared.note.Meeting.{Meeting}
+use Rattle.mr_replica.specs.Fragments.{HasHoleyPart}
 use Rattle.mr_replica.specs.State.{State}
 use Rattle.mr_talk.specs.declared.hello.Hello.{Hello}
 use Rattle.mr_talk.specs.declared.peer.Met.{Met}
 use Rattle.mr_talk.specs.declared.peer.Standing.TheVariants as standing
 use Rattle.mr_talk.specs.Peer.{HasNothingToTell, Stands}
+use Rattle.mr_sync.specs.declared.fault.SyncFault.{SyncFault}
+use Rattle.mr_sync.specs.declared.fault.SyncFault.TheVariants.{OutOfMemory, Knowledge, Itself, SameId, Renewed, PeerIsOldCopy, OldCopy, PeerWentOn}
 use Rattle.mr_sync.specs.Marks.{Tells, TellsNoneOf}
 
 -- a clause with no condition, which each message meets, and a filter that has one, as `all` has
@@ -79,3 +83,32 @@ pub record Judges (birth : List ℕ) (s : State Normal) (lacks : Bool) (theirs :
   pub tip_is : IsTip (versions_told s.id s.log) theirs.id theirs.issued tip
   pub good : Stands mine theirs mine.known tip met standing.Good
   pub idle : MatchBool is_idle (HasNothingToTell mine theirs met) (HasNothingToTell mine theirs met → ⊥)
+
+-- why a replica says no hello: what it knows has a part with too many holes for a fragment, so it can't be told; or memory runs out
+abbrev pub IsHelloFault : State Normal → SyncFault → Type 0
+IsHelloFault s OutOfMemory = Unit {0}
+IsHelloFault s (Knowledge e) = (e ≡ TooManyHoles) × HasHoleyPart (sparing_form.is_part s.knowledge)
+IsHelloFault s fault = ⊥
+
+-- why nothing may be told, and the replica that has to become another
+abbrev pub StandsInTheWay : Hello → Hello → (tip : Option (List ℕ)) → Option Met → SyncFault → Type 0
+StandsInTheWay mine theirs tip met (Itself id) = Stands mine theirs mine.known tip met standing.Itself × (id ≡ mine.id)
+StandsInTheWay mine theirs tip met (SameId id) = Stands mine theirs mine.known tip met standing.SameId × (id ≡ mine.id)
+StandsInTheWay mine theirs tip met (Renewed id) = Stands mine theirs mine.known tip met standing.Renewed × (id ≡ theirs.id)
+StandsInTheWay mine theirs tip met (PeerIsOldCopy id) = Stands mine theirs mine.known tip met standing.PeerIsOldCopy × (id ≡ theirs.id)
+StandsInTheWay mine theirs tip met (OldCopy id) = Stands mine theirs mine.known tip met standing.OldCopy × (id ≡ mine.id)
+StandsInTheWay mine theirs tip met (PeerWentOn id) = Stands mine theirs mine.known tip met standing.PeerWentOn × (id ≡ theirs.id)
+StandsInTheWay mine theirs tip met fault = ⊥
+
+-- how the other side stands to the replica, by the hello that the replica has for it, is why nothing may be told
+pub record MayNotTell (birth : List ℕ) (s : State Normal) (lacks : Bool) (theirs : Hello) (met : Option Met) (fault : SyncFault) : Type 0 where
+  pub mine : Hello
+  pub mine_is : IsHelloOf birth s lacks (Some theirs.id) mine
+  -- what is told here of the other's last version
+  pub tip : Option (List ℕ)
+  pub tip_is : IsTip (versions_told s.id s.log) theirs.id theirs.issued tip
+  pub stands : StandsInTheWay mine theirs tip met fault
+
+-- why the other side isn't judged: nothing may be told to it, or the replica has no hello for it
+abbrev pub IsJudgeFault : (birth : List ℕ) (s : State Normal) (lacks : Bool) (theirs : Hello) (met : Option Met) → SyncFault → Type 0
+IsJudgeFault birth s lacks theirs met fault = MayNotTell birth s lacks theirs met fault ⊎ IsHelloFault s fault

@@ -1,18 +1,25 @@
 -- an open folder as it talks: what it was opened with, and the files that it lacks
 use Rattle.std.specs.Prelude.{◌≡◌, ◌==◌, ◌⊎◌, ℕ, Bool, true, false, not, [], List, length, take, Option, Some, None, option_map}
-use Rattle.std.specs.BTreeMap.{BTreeMap, get}
+use Rattle.std.specs.BTreeMap.{BTreeMap, get, is_at}
 use Rattle.std.specs.BTreeSet.{insert_key}
 use Rattle.std.specs.Cmp.Lexicographic.{slice_cmp}
 use Rattle.std.specs.Ordering.{nat_cmp}
+use Rattle.std.specs.Set.{remove_key}
 use Rattle.mr_compare.specs.declared.note.Meeting.{Meeting}
 use Rattle.mr_concise.specs.declared.vector.AuthorColumn.{AuthorColumn}
 use Rattle.mr_itemset.specs.Normal.{Normal}
-use Rattle.mr_kept.specs.Kept.{head_of, replica_of}
+use Rattle.mr_kept.specs.Kept.{head_of, journal_of, replica_of}
 use Rattle.mr_kept.specs.declared.journaled.Journaled.{Journaled}
+use Rattle.mr_replica.specs.declared.event.Event.{Event}
 use Rattle.mr_talk.specs.declared.hello.Hello.{Hello}
+use Rattle.mr_talk.specs.declared.turn.Turn.{Turn}
+use Rattle.mr_version.specs.Name.{Name}
 use Rattle.mr_sync.specs.Asking.{AsksMet, IsMetAskFault, TakesMetAsk}
-use Rattle.mr_sync.specs.Hello.{IsHelloOf, Judges, met_by}
+use Rattle.mr_sync.specs.Ending.{EndsBy, IsEndFault, MayEnd}
+use Rattle.mr_sync.specs.Hello.{IsHelloFault, IsHelloOf, IsJudgeFault, Judges, met_by}
 use Rattle.mr_sync.specs.Idle.{AreIdle}
+use Rattle.mr_sync.specs.Taken.{TakesReceipts, TakesRecords}
+use Rattle.mr_sync.specs.declared.coming.Coming.{Coming}
 use Rattle.mr_sync.specs.declared.fault.SyncFault.{SyncFault}
 use Rattle.mr_sync.specs.declared.host.FolderHost.{FolderHost}
 use Rattle.mr_sync.specs.declared.idle.Hellos.{Hellos}
@@ -96,12 +103,25 @@ module _ {D F : Type 0} where
   abbrev pub TakesAskOf : FolderHost D F → List ℕ → FolderHost D F → Type 0
   TakesAskOf old bytes new = TakesMetAsk (theirs_of old) (replica_of (journaled_of old)) bytes (replica_of (journaled_of new))
 
+  -- why the bytes by which it asks the folder are refused
   abbrev pub IsAskFaultOf : FolderHost D F → List ℕ → FolderHost D F → SyncFault → Type 0
-  IsAskFaultOf old bytes new = IsMetAskFault (theirs_of old) (replica_of (journaled_of old)) bytes (replica_of (journaled_of new))
+  IsAskFaultOf old bytes new = IsMetAskFault (journal_of (journaled_of old)) (theirs_of old) (replica_of (journaled_of old)) bytes (replica_of (journaled_of new))
 
   -- what the folder finds of the one that said this: nothing stands in the way, and whether there is something to tell
   abbrev pub JudgesOf : FolderHost D F → Hello → Bool → Type 0
   JudgesOf h theirs = Judges (head_of (journaled_of h)).birth (replica_of (journaled_of h)) (lacks_files h) theirs (option_map met_by (get nat_cmp (meetings_of h) theirs.id))
+
+  -- why the folder says no hello
+  abbrev pub IsHelloFaultOf : FolderHost D F → SyncFault → Type 0
+  IsHelloFaultOf h = IsHelloFault (replica_of (journaled_of h))
+
+  -- why the folder doesn't say whether there is something to tell to the one that said this: nothing may be told to it, or the folder has no hello for it
+  abbrev pub IsMeetFaultOf : FolderHost D F → Hello → SyncFault → Type 0
+  IsMeetFaultOf h theirs = IsJudgeFault (head_of (journaled_of h)).birth (replica_of (journaled_of h)) (lacks_files h) theirs (option_map met_by (get nat_cmp (meetings_of h) theirs.id))
+
+  -- the other side said something, the folder lacks no file, and this is why it doesn't say whether there is something to tell
+  abbrev pub IsIdleFaultOf : FolderHost D F → SyncFault → Type 0
+  IsIdleFaultOf h fault = (lacks_files h ≡ false) × ((theirs : Hello) × (theirs_of h ≡ Some theirs) × IsMeetFaultOf h theirs fault)
 
   -- the other side hasn't said anything, the folder lacks a file, or there is something to tell
   abbrev pub HasToTell : FolderHost D F → Type 0
@@ -112,3 +132,57 @@ module _ {D F : Type 0} where
     pub said : theirs_of h ≡ Some talk.theirs
     pub lacks_none : lacks_files h ≡ false
     pub idle : AreIdle (head_of (journaled_of h)).birth (replica_of (journaled_of h)) (meetings_of h) talk
+
+  -- ---- what comes, and the end of a turn
+
+  -- the events of the replica's log
+  abbrev pub log_of : FolderHost D F → List Event
+  log_of h = (replica_of (journaled_of h)).log
+
+  -- the last frame of a record that came
+  abbrev pub last_of : FolderHost D F → List ℕ
+  last_of h = h.talk.arriving.last
+
+  -- the file that comes, if one does
+  abbrev pub coming_of : FolderHost D F → Option Coming
+  coming_of h = h.talk.coming
+
+  -- the digests of the files that are wanted of the other side, each once, in their order; and of those that it wants, as it told them
+  abbrev pub wanted_of : FolderHost D F → List (List ℕ)
+  wanted_of h = h.talk.arriving.wanted.keys
+
+  abbrev pub wants_of : FolderHost D F → List (List ℕ)
+  wants_of h = h.talk.leaving.wants.items
+
+  -- what waits for a receipt at the other side, by its items
+  abbrev pub waiting_of : FolderHost D F → List (Name × Name)
+  waiting_of h = h.talk.waiting.entries
+
+  -- the other side, as it said itself, and what is remembered of those that were met are as they were
+  pub record SameOthers (old new : FolderHost D F) : Type 0 where
+    pub theirs_are : theirs_of new ≡ theirs_of old
+    pub meetings_are : meetings_of new ≡ meetings_of old
+
+  -- the folder takes the records that the bytes are, packed behind the last one that came, all of them
+  abbrev pub TakesRecordsOf : FolderHost D F → List ℕ → FolderHost D F → Type 0
+  TakesRecordsOf old bytes new = TakesRecords (theirs_of old) (last_of old) (replica_of (journaled_of old)) bytes (last_of new) (replica_of (journaled_of new))
+
+  -- the folder takes the receipts that the bytes are, all of them
+  abbrev pub TakesReceiptsOf : FolderHost D F → List ℕ → FolderHost D F → Type 0
+  TakesReceiptsOf old bytes new = TakesReceipts (theirs_of old) (replica_of (journaled_of old)) bytes (replica_of (journaled_of new))
+
+  -- the file of this digest isn't wanted of the other side any more, and all others are that were
+  abbrev pub WantsNoMore : (digest : List ℕ) (old new : FolderHost D F) → Type 0
+  WantsNoMore digest old new = wanted_of new ≡ remove_key (is_at (slice_cmp nat_cmp digest)) (wanted_of old)
+
+  -- the folder may not say at the end of this turn that it has nothing open, and hasn't
+  abbrev pub GoesOnBehind : (turn : Turn) (old new : FolderHost D F) → Type 0
+  GoesOnBehind turn old new = (MayEnd turn old.talk → ⊥) × (mine_of new ≡ mine_of old)
+
+  -- it may, and says these first bytes of the digest of what it knows, which is noted
+  abbrev pub EndsBehind : (turn : Turn) (old new : FolderHost D F) (short : List ℕ) → Type 0
+  EndsBehind turn old new short = MayEnd turn old.talk × EndsBy (replica_of (journaled_of old)).knowledge short (mine_of new)
+
+  -- why the folder doesn't end the turn
+  abbrev pub IsEndFaultOf : Turn → FolderHost D F → SyncFault → Type 0
+  IsEndFaultOf turn h = IsEndFault turn h.talk (replica_of (journaled_of h)).knowledge

@@ -1,9 +1,12 @@
 pub mod Asking
+pub mod Ending
 pub mod Fault
+pub mod Files
 pub mod Hello
 pub mod Host
 pub mod Idle
 pub mod Lists
 pub mod Marks
 pub mod Rows
+pub mod Taken
 pub mod inner

@@ -1,14 +1,22 @@
 -- worked rows: what the definitions give for small values
-use Rattle.std.specs.Prelude.{◌≡◌, [], ◌∷◌, replicate, true, false, None, refl}
+use Rattle.std.specs.Prelude.{◌≡◌, [], ◌∷◌, replicate, true, false, None, Ok, Err, refl}
 use Rattle.std.proofs.Common.{inl, inr, lit<, lit≤}
 use Rattle.mr_mail.specs.Mail.{Mail}
 use Rattle.mr_lookup.specs.Told.{message_at, own_name}
 use Rattle.mr_filter.specs.Filter.{clause_with}
 use Rattle.mr_replica.specs.declared.event.Reply.TheVariants.{Took}
+use Rattle.mr_kept.specs.declared.fault.KeptFault.TheVariants.{Refused, Failed}
+use Rattle.mr_replica.specs.declared.refusal.Refusal.TheVariants.{NotPushedOut}
+use Rattle.mr_talk.specs.declared.kind.Kind.TheVariants.{Piece}
 use Rattle.mr_talk.specs.declared.turn.Turn.TheVariants.{CallerSettles, CalledCloses}
-use Rattle.mr_sync.specs.declared.fault.SyncFault.TheVariants.{OutOfMemory, BadList, PeerWentOn}
+use Rattle.mr_wire.specs.declared.fault.WireFault.TheVariants.{Truncated}
+use Rattle.mr_sync.specs.declared.fault.SyncFault.TheVariants.{OutOfMemory, Kept, Frame, BadList, PeerWentOn}
+use Rattle.mr_sync.specs.Asking.{IsNoRequestOf}
+use Rattle.mr_sync.specs.Files.{GoesWith}
+use Rattle.mr_sync.specs.Taken.{with_waiting}
+use Rattle.mr_sync.specs.inner.Taken.{was_there}
 use Rattle.mr_sync.specs.inner.Asking.{last_asked}
-use Rattle.mr_sync.specs.inner.Ending.{is_last}
+use Rattle.mr_sync.specs.Ending.{is_last}
 use Rattle.mr_sync.specs.Fault.{sync_fault_number}
 use Rattle.mr_sync.specs.Hello.{is_free, keeps_all}
 use Rattle.mr_sync.specs.Lists.{push_out_bytes}
@@ -77,3 +85,22 @@ second_untold m = refl
 -- nineteen bytes have no room for a mark
 pub mark_too_short : IsMarkFault 5 [] (replicate 19 0) BadList
 mark_too_short = lit< tt
+
+-- no bytes are no request, since a frame goes on behind them
+pub nothing_asks_nothing : IsNoRequestOf 5 [] (Frame Truncated)
+nothing_asks_nothing = refl
+
+-- where no file comes, a piece of one has no place
+pub no_piece_of_none : GoesWith Piece [] None None → ⊥
+no_piece_of_none goes = goes
+
+-- of two versions of one item the last waits
+pub last_waits : with_waiting [] (record { item = own_name 3 1; version = own_name 3 1 } ∷ record { item = own_name 3 1; version = own_name 4 1 } ∷ []) ≡ (own_name 3 1, own_name 4 1) ∷ []
+last_waits = refl
+
+-- a receipt that was for nothing is no fault
+pub for_nothing : was_there (Err (Refused NotPushedOut)) ≡ Ok false
+for_nothing = refl
+
+pub not_kept : was_there (Err Failed) ≡ Err (Kept Failed)
+not_kept = refl

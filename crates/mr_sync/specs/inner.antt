@@ -1,6 +1,5 @@
 -- what private functions promise, and what their loops keep: no public contract cites it
 pub mod Asking
-pub mod Ending
 pub mod Hello
 pub mod Lists
 pub mod Marks

@@ -1,9 +1,9 @@
 //! Requests, this side's and the other's.
 ghost use Rattle.std.specs.Prelude.{◌≡◌, ℕ, true, IfErr, IfOk, IfSome, MatchResult, OnOk};
-ghost use Rattle.mr_kept.specs.Kept.{nothing_waits, replica_of};
+ghost use Rattle.mr_kept.specs.Kept.{journal_of, nothing_waits, replica_of};
 ghost use Rattle.mr_wire.specs.FrameSpelling.{frame_bytes};
 ghost use Rattle.mr_wire.specs.Grammar.{Spells};
-ghost use Rattle.mr_sync.specs.Asking.{Answers, IsAnswerFault, IsAskFault, IsMarkedPull, IsPullOf, TakesAsk};
+ghost use Rattle.mr_sync.specs.Asking.{Answers, IsAnswerFault, IsAskFault, IsAskFrame, IsMarkedPull, IsNoRequestOf, IsPullOf, TakesAsk};
 ghost use Rattle.mr_sync.specs.inner.Asking.{last_asked};
 ghost use Rattle.mr_sync.specs.inner.Taken.{IsNoAskOf};
 
@@ -75,7 +75,7 @@ pub(crate) fn take_ask<D: Device + Drop>(
     bytes: &[u8],
 ) -> Result<(), SyncFault>
     ensures taken { OnOk result (TakesAsk (replica_of kept.old) target bytes.now (replica_of kept.new)) }
-    ensures fault { IfErr result (IsAskFault (replica_of kept.old) bytes.now (replica_of kept.new)) }
+    ensures fault { IfErr result (IsAskFault (journal_of kept.old) (replica_of kept.old) target bytes.now (replica_of kept.new)) }
 {
     let frame = own_marked(alloc, kept.replica(), bytes)?;
     answer_ask(alloc, kept, target, leaving, frame)
@@ -90,7 +90,7 @@ fn answer_ask<D: Device + Drop>(
     bytes: &[u8],
 ) -> Result<(), SyncFault>
     ensures answers { OnOk result (Answers (replica_of kept.old) target bytes.now (replica_of kept.new)) }
-    ensures fault { IfErr result IsAnswerFault }
+    ensures fault { IfErr result (IsAnswerFault (journal_of kept.old) (replica_of kept.old) target bytes.now (replica_of kept.new)) }
 {
     let ask = ask_in(alloc, bytes, target)?;
     let asked = asked_of(alloc, &ask)?;
@@ -104,7 +104,8 @@ fn answer_ask<D: Device + Drop>(
 fn ask_in(alloc: Global, bytes: &[u8], target: Author) -> Result<Ask, SyncFault>
     ensures target { IfOk result (λ ask. ask.target ≡ target) }
     ensures spelled { IfOk result (λ ask. (format : ℕ) × Spells format (Frame.Ask ask) bytes.now) }
-    ensures fault { IfErr result IsAnswerFault }
+    ensures exact { IfOk result (IsAskFrame bytes.now) }
+    ensures fault { IfErr result (IsNoRequestOf target bytes.now) }
 {
     let (frame, used) = decode(alloc, bytes)?;
     if used != bytes.len() {

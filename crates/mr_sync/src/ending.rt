@@ -1,17 +1,15 @@
 //! The end of a turn.
-ghost use Rattle.std.specs.Prelude.{◌≡◌, ◌↔◌, IfOk, IsTrue, MatchOption, MatchResult, take};
+ghost use Rattle.std.specs.Prelude.{◌≡◌, ◌↔◌, IfErr, IfOk, IsTrue, MatchOption, MatchResult, take};
 ghost use Rattle.mr_kept.specs.Kept.{replica_of};
-ghost use Rattle.mr_sync.specs.inner.Ending.{HasNothingOpen, IsAllTold, IsUnfinished, MayEnd, is_last};
-ghost use Rattle.mr_sync.specs.Hello.{IsDigestFront};
+ghost use Rattle.mr_sync.specs.Ending.{EndsBy, HasNothingOpen, IsAllTold, IsEndFault, IsUnfinished, MayEnd, is_last};
 
 use crate::fault::SyncFault;
-use crate::hello::short_of;
+use crate::hello::{known_digest, short_of};
 use crate::talk::{Arriving, Talk};
 use mr_compare::{Digest, Meeting};
 use mr_itemset::SparingKnowledge;
 use mr_journal::Device;
 use mr_kept::Journaled;
-use mr_lookup::knowledge_digest;
 use mr_talk::{Hello, Short, Turn};
 use std::alloc::Global;
 
@@ -25,12 +23,15 @@ pub(crate) fn end<D: Device + Drop>(
     talk: &mut Talk,
     turn: Turn,
 ) -> Result<Option<Short>, SyncFault>
-    ensures { IfOk result (λ found. MatchOption found (MayEnd turn talk.old → ⊥) (λ short. MayEnd turn talk.old × IsDigestFront 16 (replica_of kept.now).knowledge short)) }
+    ensures ends { IfOk result (λ found. MatchOption found ((MayEnd turn talk.old → ⊥) × (talk.new.mine ≡ talk.old.mine))
+        (λ short. MayEnd turn talk.old × EndsBy (replica_of kept.now).knowledge short talk.new.mine)) }
+    ensures lacking { talk.new.arriving.lacking.keys ≡ talk.old.arriving.lacking.keys }
+    ensures fault { IfErr result (IsEndFault turn talk.old (replica_of kept.now).knowledge) }
 {
     if !may_end(turn, talk)? {
         return Ok(None);
     }
-    let digest = knowledge_digest(alloc, kept.replica())?;
+    let digest = known_digest(alloc, kept.replica())?;
     talk.mine = Some(digest);
     Ok(Some(short_of(&digest)))
 }

@@ -1,28 +1,21 @@
 //! Files that come, piece by piece.
-ghost use Rattle.std.specs.Prelude.{◌≡◌, ◌+◌, ◌++◌, ℕ, List, [], Some, IsTrue, IfOk, OnOk, length};
+ghost use Rattle.std.specs.Prelude.{◌≡◌, ◌+◌, ◌++◌, ℕ, false, List, [], Some, is_some, IsTrue, IfErr, IfOk, OnOk, length};
 ghost use Rattle.sha2.specs.Sha256.{sha256};
 ghost use Rattle.mr_folder.specs.Inside.{draft_path, stored_path};
 ghost use Rattle.mr_folder.specs.Store.{HasCome, IsKept, IsSound, OnlyStored, StaysSound};
 ghost use Rattle.mr_folder.specs.Tree.{OnlyAt};
+ghost use Rattle.mr_talk.specs.declared.kind.Kind.TheVariants as kinds;
 ghost use Rattle.mr_wire.specs.Spelling.{u64};
+ghost use Rattle.mr_sync.specs.Files.{GoesWith, KeepsFile, Stores};
 
+use crate::coming::Coming;
 use crate::fault::SyncFault;
 use crate::lists::read_begin;
 use crate::talk::Talk;
 use mr_compare::Digest;
-use mr_folder::{FileTree, Incoming, append, begin, end, take_in};
-use mr_talk::{Kind, Message};
+use mr_folder::{FileTree, append, begin, end, take_in};
+use mr_talk::Kind;
 use std::alloc::Global;
-
-/// A file that comes: what of it has come is in the store's draft.
-#[derive(Drop)]
-pub(crate) struct Coming {
-    pub(crate) incoming: Incoming,
-    /// The digest that was told.
-    pub(crate) digest: Digest,
-    /// How many bytes are to come.
-    pub(crate) left: u64,
-}
 
 /// Begins to take the file that the bytes tell. `BadList` where they tell none.
 pub(crate) fn begin_file<F: FileTree>(
@@ -112,37 +105,102 @@ pub(crate) fn take_file_message<F: FileTree>(
     alloc: Global,
     files: &mut F,
     talk: &mut Talk,
-    message: &Message,
-) -> Result<(), SyncFault> {
-    talk.arriving.note_bytes(message.bytes());
-    match message.kind() {
-        Kind::Whole => {
-            if talk.coming.is_some() {
-                return Err(SyncFault::NoFile);
-            }
-            let digest = take_in(alloc, files, message.bytes())?;
-            talk.arriving.note_file(&digest);
-            Ok(())
-        }
-        Kind::Begin => {
-            if talk.coming.is_some() {
-                return Err(SyncFault::NoFile);
-            }
-            talk.coming = Some(begin_file(alloc, files, message.bytes())?);
-            Ok(())
-        }
-        Kind::Piece => match &mut talk.coming {
-            Some(coming) => take_piece(alloc, files, coming, message.bytes()),
-            None => Err(SyncFault::NoFile),
-        },
-        Kind::End => {
-            let Some(coming) = talk.coming.take() else {
-                return Err(SyncFault::NoFile);
-            };
-            let digest = end_file(alloc, files, coming)?;
-            talk.arriving.note_file(&digest);
-            Ok(())
-        }
+    kind: Kind,
+    bytes: &[u8],
+) -> Result<(), SyncFault>
+    ensures goes { OnOk result (GoesWith kind bytes.now talk.old.coming talk.new.coming) }
+    ensures stores { IsTrue F.is_told → OnOk result (Stores kind bytes.now talk.old.coming (F.seen files.old) talk.new.coming (F.seen files.new)) }
+    ensures keeps { IsTrue F.is_told → IsSound F.seen F.may_leave files.old → OnOk result (KeepsFile F.seen F.may_leave kind bytes.now talk.old.coming files.old files.new) }
+    ensures theirs { talk.new.theirs ≡ talk.old.theirs }
+{
+    talk.arriving.note_bytes(bytes);
+    match kind {
+        Kind::Whole => take_whole(alloc, files, talk, bytes),
+        Kind::Begin => take_begin(alloc, files, talk, bytes),
+        Kind::Piece => take_next(alloc, files, talk, bytes),
+        Kind::End => take_end(alloc, files, talk),
         _ => Err(SyncFault::NoFile),
     }
+}
+
+/// Takes a whole file. `NoFile` within another.
+fn take_whole<F: FileTree>(
+    alloc: Global,
+    files: &mut F,
+    talk: &mut Talk,
+    bytes: &[u8],
+) -> Result<(), SyncFault>
+    ensures goes { OnOk result (GoesWith kinds.Whole bytes.now talk.old.coming talk.new.coming) }
+    ensures stores { IsTrue F.is_told → OnOk result (Stores kinds.Whole bytes.now talk.old.coming (F.seen files.old) talk.new.coming (F.seen files.new)) }
+    ensures keeps { IsTrue F.is_told → IsSound F.seen F.may_leave files.old → OnOk result (KeepsFile F.seen F.may_leave kinds.Whole bytes.now talk.old.coming files.old files.new) }
+    ensures theirs { talk.new.theirs ≡ talk.old.theirs }
+{
+    if talk.coming.is_some() {
+        return Err(SyncFault::NoFile);
+    }
+    let digest = take_in(alloc, files, bytes)?;
+    talk.arriving.note_file(&digest);
+    Ok(())
+}
+
+/// Takes what a file begins with. `NoFile` within another.
+fn take_begin<F: FileTree>(
+    alloc: Global,
+    files: &mut F,
+    talk: &mut Talk,
+    bytes: &[u8],
+) -> Result<(), SyncFault>
+    ensures goes { OnOk result (GoesWith kinds.Begin bytes.now talk.old.coming talk.new.coming) }
+    ensures stores { IsTrue F.is_told → OnOk result (Stores kinds.Begin bytes.now talk.old.coming (F.seen files.old) talk.new.coming (F.seen files.new)) }
+    ensures theirs { talk.new.theirs ≡ talk.old.theirs }
+{
+    if talk.coming.is_some() {
+        return Err(SyncFault::NoFile);
+    }
+    let coming = begin_file(alloc, files, bytes)?;
+    talk.coming = Some(coming);
+    Ok(())
+}
+
+/// Takes a piece of the file that comes. `NoFile` where none does.
+fn take_next<F: FileTree>(
+    alloc: Global,
+    files: &mut F,
+    talk: &mut Talk,
+    bytes: &[u8],
+) -> Result<(), SyncFault>
+    ensures goes { OnOk result (GoesWith kinds.Piece bytes.now talk.old.coming talk.new.coming) }
+    ensures stores { IsTrue F.is_told → OnOk result (Stores kinds.Piece bytes.now talk.old.coming (F.seen files.old) talk.new.coming (F.seen files.new)) }
+    ensures theirs { talk.new.theirs ≡ talk.old.theirs }
+{
+    match &mut talk.coming {
+        Some(coming) => take_piece(alloc, files, coming, bytes),
+        None => Err(SyncFault::NoFile),
+    }
+}
+
+/// Takes the end of the file that comes. `NoFile` where none does.
+fn take_end<F: FileTree>(alloc: Global, files: &mut F, talk: &mut Talk) -> Result<(), SyncFault>
+    ensures goes { OnOk result (GoesWith kinds.End [] talk.old.coming talk.new.coming) }
+    ensures stores { IsTrue F.is_told → OnOk result (Stores kinds.End [] talk.old.coming (F.seen files.old) talk.new.coming (F.seen files.new)) }
+    ensures keeps { IsTrue F.is_told → IsSound F.seen F.may_leave files.old → OnOk result (KeepsFile F.seen F.may_leave kinds.End [] talk.old.coming files.old files.new) }
+    ensures theirs { talk.new.theirs ≡ talk.old.theirs }
+{
+    let Some(coming) = talk.coming.take() else {
+        return Err(SyncFault::NoFile);
+    };
+    let digest = end_file(alloc, files, coming)?;
+    talk.arriving.note_file(&digest);
+    Ok(())
+}
+
+/// That no file comes that isn't whole.
+pub(crate) fn check_whole(coming: &Option<Coming>) -> Result<(), SyncFault>
+    ensures whole { OnOk result (is_some coming.now ≡ false) }
+    ensures fault { IfErr result (λ fault. (fault ≡ SyncFault.HalfFile) × IsTrue (is_some coming.now)) }
+{
+    if coming.is_some() {
+        return Err(SyncFault::HalfFile);
+    }
+    Ok(())
 }

@@ -1,15 +1,17 @@
 //! What a folder says of itself, and what the other side is to it.
-ghost use Rattle.std.specs.Prelude.{◌≡◌, ◌==◌, ◌||◌, take, IfOk, MatchBool, MatchResult, Some, None, option_map};
+ghost use Rattle.std.specs.Prelude.{◌≡◌, ◌==◌, ◌||◌, take, IfErr, IfOk, MatchBool, MatchResult, Some, None, option_map};
 ghost use Rattle.std.specs.BTreeMap.{get};
 ghost use Rattle.std.specs.Option.{option_copied};
 ghost use Rattle.std.specs.Ordering.{nat_cmp};
 ghost use Rattle.mr_itemset.specs.Normal.{normal_known};
+ghost use Rattle.mr_itemset.specs.Sparing.{sparing_form};
 ghost use Rattle.mr_kept.specs.Kept.{head_of, replica_of};
+ghost use Rattle.mr_lookup.specs.Digest.{IsDigestOf};
 ghost use Rattle.mr_lookup.specs.Versions.{versions_told};
 ghost use Rattle.mr_talk.specs.Peer.{HasNothingToTell, Stands};
 ghost use Rattle.mr_talk.specs.declared.peer.Standing.TheVariants.{Good};
-ghost use Rattle.mr_sync.specs.Hello.{IsDigestFront, IsHelloOf, IsTip, IsTop, IsTopOf, Judges, is_free, keeps_all, met_by, tip_of};
-ghost use Rattle.mr_sync.specs.inner.Hello.{StandsInTheWay};
+ghost use Rattle.mr_sync.specs.Hello.{IsDigestFront, IsHelloFault, IsHelloOf, IsJudgeFault, IsTip, IsTop, IsTopOf, Judges, StandsInTheWay, is_free, keeps_all, met_by, tip_of};
+ghost use Rattle.mr_sync.specs.inner.Hello.{IsUntold};
 
 use crate::fault::SyncFault;
 use crate::marks::message_told;
@@ -64,7 +66,8 @@ pub(crate) fn folder_hello<D: Device + Drop>(
     lacks: bool,
     theirs: Option<Author>,
 ) -> Result<Hello, SyncFault>
-    ensures { IfOk result (IsHelloOf (head_of kept.now).birth (replica_of kept.now) lacks theirs) }
+    ensures is { IfOk result (IsHelloOf (head_of kept.now).birth (replica_of kept.now) lacks theirs) }
+    ensures fault { IfErr result (IsHelloFault (replica_of kept.now)) }
 {
     let birth = kept.birth();
     let hello = replica_hello(alloc, kept.replica(), birth, lacks, theirs)?;
@@ -79,11 +82,13 @@ fn replica_hello(
     lacks: bool,
     theirs: Option<Author>,
 ) -> Result<Hello, FormFault>
-    ensures { IfOk result (IsHelloOf birth replica.now lacks theirs) }
+    ensures is { IfOk result (IsHelloOf birth replica.now lacks theirs) }
+    ensures fault { IfErr result (IsUntold replica.now.knowledge) }
 {
-    let knows = known_digest(alloc, replica)?;
+    let knows = known_front(alloc, replica)?;
     let issued = highest_of(replica, Some(replica.id()))?;
-    let tip = tip_told(alloc, replica, replica.id(), issued)?.unwrap_or([0u8; 4]);
+    let last = tip_told(alloc, replica, replica.id(), issued)?;
+    let tip = last.unwrap_or([0u8; 4]);
     let known = highest_of(replica, theirs)?;
     Ok(Hello {
         id: replica.id(),
@@ -98,11 +103,23 @@ fn replica_hello(
 }
 
 /// The first bytes of the digest of what is known.
-fn known_digest(alloc: Global, replica: &Replica<SparingKnowledge>) -> Result<Knows, FormFault>
-    ensures { IfOk result (IsDigestFront 12 replica.now.knowledge) }
+fn known_front(alloc: Global, replica: &Replica<SparingKnowledge>) -> Result<Knows, FormFault>
+    ensures front { IfOk result (IsDigestFront 12 replica.now.knowledge) }
+    ensures fault { IfErr result (IsUntold replica.now.knowledge) }
 {
-    let digest = knowledge_digest(alloc, replica)?;
+    let digest = known_digest(alloc, replica)?;
     Ok(knows_of(&digest))
+}
+
+/// The digest of what is known.
+pub(crate) fn known_digest(
+    alloc: Global,
+    replica: &Replica<SparingKnowledge>,
+) -> Result<Digest, FormFault>
+    ensures digest { IfOk result (IsDigestOf sparing_form replica.now.knowledge) }
+    ensures fault { IfErr result (IsUntold replica.now.knowledge) }
+{
+    knowledge_digest(alloc, replica)
 }
 
 /// The first bytes of the digest of the message of this author's version, if the replica's log tells one. It costs a walk over the log.
@@ -132,7 +149,8 @@ fn tip_of(alloc: Global, message: &Message) -> Result<Tip, AllocError>
 
 /// The highest counter that is known among the versions of this author; 0 for none, and for nobody.
 fn highest_of(replica: &Replica<SparingKnowledge>, author: Option<Author>) -> Result<u32, FormFault>
-    ensures { IfOk result (IsTopOf replica.now.knowledge author) }
+    ensures top { IfOk result (IsTopOf replica.now.knowledge author) }
+    ensures fault { IfErr result (IsUntold replica.now.knowledge) }
 {
     match author {
         Some(author) => highest_by(replica, author),
@@ -141,9 +159,11 @@ fn highest_of(replica: &Replica<SparingKnowledge>, author: Option<Author>) -> Re
 }
 
 fn highest_by(replica: &Replica<SparingKnowledge>, author: Author) -> Result<u32, FormFault>
-    ensures { IfOk result (IsTop (normal_known replica.now.knowledge) author) }
+    ensures top { IfOk result (IsTop (normal_known replica.now.knowledge) author) }
+    ensures fault { IfErr result (IsUntold replica.now.knowledge) }
 {
-    match highest_counter(replica, author)? {
+    let highest = highest_counter(replica, author)?;
+    match highest {
         Some(counter) => Ok(counter),
         None => Ok(0),
     }
@@ -226,6 +246,7 @@ pub(crate) fn judge<D: Device + Drop>(
 ) -> Result<(Hello, bool), SyncFault>
     ensures says { IfOk result (λ said. IsHelloOf (head_of kept.now).birth (replica_of kept.now) lacks (Some theirs.now.id) said.0) }
     ensures judges { IfOk result (λ said. Judges (head_of kept.now).birth (replica_of kept.now) lacks theirs.now (option_map met_by (get nat_cmp meetings.now theirs.now.id)) said.1) }
+    ensures fault { IfErr result (IsJudgeFault (head_of kept.now).birth (replica_of kept.now) lacks theirs.now (option_map met_by (get nat_cmp meetings.now theirs.now.id))) }
 {
     let mine = folder_hello(alloc, kept, lacks, Some(theirs.id))?;
     let tip = tip_told(alloc, kept.replica(), theirs.id, theirs.issued)?;

@@ -1,12 +1,14 @@
 //! An open folder as a talk sees it.
-ghost use Rattle.std.specs.Prelude.{◌≡◌, not, is_some, option_map, IfErr, IfOk, IfSome, MatchOption, IsSome, OnErr, OnOk};
+ghost use Rattle.std.specs.Prelude.{◌≡◌, ◌≢◌, ℕ, false, List, length, not, is_some, option_map, Some, Err, IfErr, IfOk, IfSome, IsTrue, MatchOption, IsSome, OnErr, OnOk};
 ghost use Rattle.std.specs.Option.{option_copied};
-ghost use Rattle.mr_kept.specs.Kept.{nothing_waits};
+ghost use Rattle.mr_folder.specs.Store.{IsSound};
+ghost use Rattle.mr_folder.specs.Tree.{IsUntouched};
+ghost use Rattle.mr_kept.specs.Kept.{nothing_waits, replica_of};
 ghost use Rattle.mr_talk.specs.Turns.{next_of};
 
 use crate::ending::{end, meeting_of};
 use crate::fault::{SyncFault, answered};
-use crate::files::take_file_message;
+use crate::files::{check_whole, take_file_message};
 use crate::hello::{folder_hello, id_of, judge};
 use crate::idle::Hellos;
 use crate::receipts::take_receipts_message;
@@ -39,7 +41,7 @@ pub struct FolderHost<D: Device + Drop, F: FileTree + Drop> {
 }
 
 impl<D: Device + Drop, F: FileTree + Drop> FolderHost<D, F> {
-    ghost use Rattle.mr_sync.specs.Host.{HasMet, HasNotMet, HasToTell, IsIdle, IsOpened, LacksToo, SameFolder, files_of, journaled_of};
+    ghost use Rattle.mr_sync.specs.Host.{HasMet, HasNotMet, HasToTell, IsIdle, IsIdleFaultOf, IsOpened, LacksToo, SameFolder, files_of, journaled_of};
     ghost use Rattle.mr_sync.specs.declared.fault.SyncFault.TheVariants.{OutOfMemory};
 
     /// A folder that hasn't talked yet, and what it remembers of those that it met, by their ids.
@@ -87,7 +89,8 @@ impl<D: Device + Drop, F: FileTree + Drop> FolderHost<D, F> {
     /// its own, where the folder lacks files, and where there is something to tell. A fault is why nothing may be told to that side, or
     /// `OutOfMemory`. It costs what a hello costs.
     pub fn idle_hellos(&self) -> Result<Option<Hellos>, SyncFault>
-        ensures { IfOk result (λ found. MatchOption found (HasToTell self.now) (IsIdle self.now)) }
+        ensures found { IfOk result (λ found. MatchOption found (HasToTell self.now) (IsIdle self.now)) }
+        ensures fault { IfErr result (IsIdleFaultOf self.now) }
     {
         let Some(theirs) = self.talk.theirs else {
             return Ok(None);
@@ -124,29 +127,39 @@ impl<D: Device + Drop, F: FileTree + Drop> FolderHost<D, F> {
 
 impl<D: Device + Drop, F: FileTree + Drop> Host for FolderHost<D, F> {
     ghost use Rattle.mr_sync.specs.Fault.{IsToldFor};
-    ghost use Rattle.mr_sync.specs.Host.{AsksOf, IsAskFaultOf, IsHelloFrom, JudgesOf, SameFolder, TakesAskOf};
+    ghost use Rattle.mr_sync.specs.Files.{GoesWith, KeepsFile, Stores};
+    ghost use Rattle.mr_sync.specs.Host.{AsksOf, EndsBehind, GoesOnBehind, IsAskFaultOf, IsEndFaultOf, IsHelloFaultOf, IsHelloFrom, IsMeetFaultOf, JudgesOf, SameFolder, SameOthers, TakesAskOf, TakesReceiptsOf, TakesRecordsOf, WantsNoMore, coming_of, files_of, journaled_of, knows_of, log_of, theirs_of, waiting_of, wants_of};
+    ghost use Rattle.mr_sync.specs.Lists.{IsDigest, IsPushOut, ReadsList, push_out_bytes};
+    ghost use Rattle.mr_sync.specs.Taken.{GrowsOnlyByTheirs, LetsGoFor, TakesPushOuts, TakesRecordOf, TakesWants};
+    ghost use Rattle.mr_sync.specs.declared.fault.SyncFault.TheVariants.{BadList, HalfFile};
 
     ghost waits = { λ h. not (nothing_waits h.kept) };
 
     ghost files_wait = { λ h. is_some h.talk.coming };
 
-    fn keep(&mut self) -> Result<(), HostFault> {
+    fn keep(&mut self) -> Result<(), HostFault>
+        ensures kept { OnOk result (not (nothing_waits (journaled_of self.new)) ≡ false) }
+        ensures replica { replica_of (journaled_of self.new) ≡ replica_of (journaled_of self.old) }
+        ensures files { files_of self.new ≡ files_of self.old }
+        ensures others { SameOthers self.old self.new }
+    {
         let kept = keep_and_say(self.alloc, &mut self.kept, &mut self.talk.leaving.said);
         answered(self.alloc, kept)
     }
 
-    fn keep_files(&mut self) -> Result<(), HostFault> {
-        let whole = if self.talk.coming.is_some() {
-            Err(SyncFault::HalfFile)
-        } else {
-            Ok(())
-        };
+    fn keep_files(&mut self) -> Result<(), HostFault>
+        ensures whole { OnOk result (is_some (coming_of self.new) ≡ false) }
+        ensures unchanged { self.new ≡ self.old }
+        ensures fault { IfErr result (λ fault. IsToldFor (λ of. (of ≡ HalfFile) × IsTrue (is_some (coming_of self.old))) fault.number) }
+    {
+        let whole = check_whole(&self.talk.coming);
         answered(self.alloc, whole)
     }
 
     fn hello(&mut self, theirs: Option<&Hello>) -> Result<Hello, HostFault>
         ensures is { IfOk result (IsHelloFrom self.new (option_map (λ h. h.id) (option_copied theirs.entry))) }
         ensures unchanged { self.new ≡ self.old }
+        ensures fault { IfErr result (λ fault. IsToldFor (IsHelloFaultOf self.old) fault.number) }
     {
         let id = id_of(theirs);
         let hello = folder_hello(self.alloc, &self.kept, self.talk.arriving.lacks(), id);
@@ -156,12 +169,13 @@ impl<D: Device + Drop, F: FileTree + Drop> Host for FolderHost<D, F> {
     fn meet(&mut self, theirs: &Hello) -> Result<bool, HostFault>
         ensures judges { IfOk result (JudgesOf self.new theirs.now) }
         ensures unchanged { SameFolder self.old self.new }
+        ensures fault { IfErr result (λ fault. IsToldFor (IsMeetFaultOf self.old theirs.now) fault.number) }
     {
         self.talk.theirs = Some(*theirs);
         let lacks = self.talk.arriving.lacks();
         let said = judge(self.alloc, &self.kept, &self.meetings, lacks, theirs);
-        let (_mine, is_idle) = answered(self.alloc, said)?;
-        Ok(is_idle)
+        let told = answered(self.alloc, said)?;
+        Ok(told.1)
     }
 
     fn ask(&mut self) -> Result<Vec<u8>, HostFault>
@@ -185,7 +199,11 @@ impl<D: Device + Drop, F: FileTree + Drop> Host for FolderHost<D, F> {
         answered(self.alloc, next)
     }
 
-    fn done(&mut self, turn: Turn) -> Result<Option<Short>, HostFault> {
+    fn done(&mut self, turn: Turn) -> Result<Option<Short>, HostFault>
+        ensures ends { IfOk result (λ found. MatchOption found (GoesOnBehind turn self.old self.new) (EndsBehind turn self.old self.new)) }
+        ensures unchanged { SameFolder self.old self.new }
+        ensures fault { IfErr result (λ fault. IsToldFor (IsEndFaultOf turn self.old) fault.number) }
+    {
         let end = end(self.alloc, &self.kept, &mut self.talk, turn);
         answered(self.alloc, end)
     }
@@ -198,17 +216,36 @@ impl<D: Device + Drop, F: FileTree + Drop> Host for FolderHost<D, F> {
         answered(self.alloc, taken)
     }
 
-    fn take_file(&mut self, message: &Message) -> Result<(), HostFault> {
-        let taken = take_file_message(self.alloc, &mut self.files, &mut self.talk, message);
+    fn take_file(&mut self, message: &Message) -> Result<(), HostFault>
+        ensures goes { OnOk result (GoesWith message.now.kind message.now.bytes (coming_of self.old) (coming_of self.new)) }
+        ensures stores { IsTrue F.is_told → OnOk result (Stores message.now.kind message.now.bytes (coming_of self.old) (F.seen (files_of self.old)) (coming_of self.new) (F.seen (files_of self.new))) }
+        ensures keeps { IsTrue F.is_told → IsSound F.seen F.may_leave (files_of self.old)
+            → OnOk result (KeepsFile F.seen F.may_leave message.now.kind message.now.bytes (coming_of self.old) (files_of self.old) (files_of self.new)) }
+        ensures journaled { journaled_of self.new ≡ journaled_of self.old }
+        ensures others { SameOthers self.old self.new }
+    {
+        let kind = message.kind();
+        let bytes = message.bytes();
+        let taken = take_file_message(self.alloc, &mut self.files, &mut self.talk, kind, bytes);
         answered(self.alloc, taken)
     }
 
-    fn take_missing(&mut self, digest: &[u8]) -> Result<(), HostFault> {
+    fn take_missing(&mut self, digest: &[u8]) -> Result<(), HostFault>
+        ensures taken { OnOk result (WantsNoMore digest.now self.old self.new) }
+        ensures unchanged { SameFolder self.old self.new }
+        ensures fault { IfErr result (λ fault. IsToldFor (λ of. (of ≡ BadList) × ¬ IsDigest digest.now) fault.number) }
+    {
         let taken = take_missing(&mut self.talk, digest);
         answered(self.alloc, taken)
     }
 
-    fn take_records(&mut self, frames: &[u8]) -> Result<(), HostFault> {
+    fn take_records(&mut self, frames: &[u8]) -> Result<(), HostFault>
+        requires { is_some (coming_of self.old) ≡ false }
+        ensures taken { OnOk result (TakesRecordsOf self.old frames.now self.new) }
+        ensures grows { GrowsOnlyByTheirs TakesRecordOf (theirs_of self.old) (log_of self.old) (log_of self.new) }
+        ensures files { IsTrue F.is_told → IsUntouched F.seen F.may_leave F.moment F.left_since (files_of self.old) (files_of self.new) }
+        ensures others { SameOthers self.old self.new }
+    {
         let taken = take_records_message(
             self.alloc,
             &mut self.kept,
@@ -219,24 +256,41 @@ impl<D: Device + Drop, F: FileTree + Drop> Host for FolderHost<D, F> {
         answered(self.alloc, taken)
     }
 
-    fn take_wants(&mut self, digests: &[u8]) -> Result<(), HostFault> {
+    fn take_wants(&mut self, digests: &[u8]) -> Result<(), HostFault>
+        ensures taken { OnOk result (TakesWants (wants_of self.old) digests.now (wants_of self.new)) }
+        ensures unchanged { SameFolder self.old self.new }
+        ensures fault { IfErr result (λ fault. IsToldFor (λ of. ReadsList IsDigest (λ (d : List ℕ). d) digests.now (Err of)) fault.number) }
+    {
         let taken = take_wants(self.alloc, &mut self.talk, digests);
         answered(self.alloc, taken)
     }
 
-    fn take_push_outs(&mut self, versions: &[u8]) -> Result<(), HostFault> {
+    fn take_push_outs(&mut self, versions: &[u8]) -> Result<(), HostFault>
+        ensures taken { OnOk result (TakesPushOuts (waiting_of self.old) versions.now (waiting_of self.new)) }
+        ensures unchanged { SameFolder self.old self.new }
+        ensures fault { IfErr result (λ fault. IsToldFor (λ of. ReadsList IsPushOut push_out_bytes versions.now (Err of)) fault.number) }
+    {
         let taken = take_push_outs(self.alloc, &mut self.talk, versions);
         answered(self.alloc, taken)
     }
 
-    fn take_receipts(&mut self, frames: &[u8]) -> Result<(), HostFault> {
+    fn take_receipts(&mut self, frames: &[u8]) -> Result<(), HostFault>
+        ensures taken { OnOk result (TakesReceiptsOf self.old frames.now self.new) }
+        ensures grows { GrowsOnlyByTheirs LetsGoFor (theirs_of self.old) (log_of self.old) (log_of self.new) }
+        ensures files { files_of self.new ≡ files_of self.old }
+        ensures others { SameOthers self.old self.new }
+    {
         let taken = take_receipts_message(self.alloc, &mut self.kept, &mut self.talk, frames);
         let released = answered(self.alloc, taken)?;
         self.summary.released = self.summary.released.saturating_add(released);
         Ok(())
     }
 
-    fn take_done(&mut self, knows: &[u8]) -> Result<(), HostFault> {
+    fn take_done(&mut self, knows: &[u8]) -> Result<(), HostFault>
+        ensures knows { OnOk result (knows_of self.new ≡ Some knows.now) }
+        ensures unchanged { SameFolder self.old self.new }
+        ensures fault { IfErr result (λ fault. IsToldFor (λ of. (of ≡ BadList) × (length knows.now ≢ 16)) fault.number) }
+    {
         let taken = take_done(&mut self.talk, knows);
         answered(self.alloc, taken)
     }

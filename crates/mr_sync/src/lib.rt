@@ -16,6 +16,7 @@
 #![tactic(auto)]
 
 mod asking;
+mod coming;
 mod ending;
 mod fault;
 mod files;

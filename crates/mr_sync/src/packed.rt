@@ -3,7 +3,7 @@ ghost use Rattle.std.specs.Prelude.{◌≡◌, ◌≤◌, ◌+◌, ◌∷◌, �
 ghost use Rattle.mr_talk.specs.Packed.{Unpacks};
 ghost use Rattle.mr_talk.specs.declared.kind.Kind.TheVariants as kind;
 ghost use Rattle.mr_sync.specs.inner.Packed.{PacksFront, TellsPacked};
-ghost use Rattle.mr_sync.specs.inner.Taken.{AreFrames};
+ghost use Rattle.mr_sync.specs.Taken.{AreFrames};
 
 use crate::fault::SyncFault;
 use crate::records::frames_in;

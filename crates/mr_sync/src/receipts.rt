@@ -1,7 +1,8 @@
 //! Receipts that come.
-ghost use Rattle.std.specs.Prelude.{◌≡◌, MatchResult};
+ghost use Rattle.std.specs.Prelude.{◌≡◌, MatchResult, OnOk};
 ghost use Rattle.mr_kept.specs.Kept.{replica_of};
-ghost use Rattle.mr_sync.specs.inner.Taken.{GrowsOnlyBy, IsNoReceiptOf, LetsGoFor};
+ghost use Rattle.mr_sync.specs.Taken.{GrowsOnlyBy, GrowsOnlyByTheirs, LetsGoFor, ReleasesAll, TakesReceipts};
+ghost use Rattle.mr_sync.specs.inner.Taken.{IsNoReceiptOf, ReleasesOne, was_there};
 
 use crate::fault::SyncFault;
 use crate::records::{frames_in, other_side};
@@ -24,13 +25,13 @@ pub(crate) fn take_receipts<D: Device + Drop>(
     giver: Author,
     frames: Vec<Frame>,
 ) -> Result<u64, SyncFault>
-    ensures { GrowsOnlyBy (LetsGoFor giver) (replica_of kept.old).log (replica_of kept.new).log }
+    ensures grows { GrowsOnlyBy (LetsGoFor giver) (replica_of kept.old).log (replica_of kept.new).log }
+    ensures all { OnOk result (ReleasesAll giver (replica_of kept.old) frames.items (replica_of kept.new)) }
 {
     let mut released = 0u64;
     for frame in frames {
-        if take_receipt(kept, giver, frame)? {
-            released = released.saturating_add(1);
-        }
+        let was_for_some = take_receipt(kept, giver, frame)?;
+        released = released.saturating_add(u64::from(was_for_some));
     }
     Ok(released)
 }
@@ -58,14 +59,17 @@ fn take_receipt<D: Device + Drop>(
     giver: Author,
     frame: Frame,
 ) -> Result<bool, SyncFault>
-    ensures { GrowsOnlyBy (LetsGoFor giver) (replica_of kept.old).log (replica_of kept.new).log }
+    ensures grows { GrowsOnlyBy (LetsGoFor giver) (replica_of kept.old).log (replica_of kept.new).log }
+    ensures released { OnOk result (ReleasesOne giver (replica_of kept.old) frame (replica_of kept.new)) }
 {
     let receipt = receipt_of(frame, giver)?;
     was_there(kept.release(receipt))
 }
 
 /// Whether a receipt was for something.
-fn was_there(answer: Result<(), KeptFault>) -> Result<bool, SyncFault> {
+fn was_there(answer: Result<(), KeptFault>) -> Result<bool, SyncFault>
+    ensures { result ≡ was_there answer }
+{
     match answer {
         Ok(()) => Ok(true),
         Err(KeptFault::Refused(Refusal::NotPushedOut)) => Ok(false),
@@ -79,7 +83,11 @@ pub(crate) fn take_receipts_message<D: Device + Drop>(
     kept: &mut Journaled<SparingKnowledge, D>,
     talk: &mut Talk,
     bytes: &[u8],
-) -> Result<u64, SyncFault> {
+) -> Result<u64, SyncFault>
+    ensures taken { OnOk result (TakesReceipts talk.old.theirs (replica_of kept.old) bytes.now (replica_of kept.new)) }
+    ensures grows { GrowsOnlyByTheirs LetsGoFor talk.old.theirs (replica_of kept.old).log (replica_of kept.new).log }
+    ensures theirs { talk.new.theirs ≡ talk.old.theirs }
+{
     let giver = other_side(&talk.theirs)?;
     let frames = frames_in(alloc, bytes)?;
     let released = take_receipts(kept, giver, frames)?;

@@ -4,7 +4,8 @@ ghost use Rattle.mr_folder.specs.Inside.{stored_path};
 ghost use Rattle.mr_folder.specs.Tree.{IsUntouched};
 ghost use Rattle.mr_kept.specs.Kept.{replica_of};
 ghost use Rattle.mr_replica.specs.declared.event.Event.TheVariants as event;
-ghost use Rattle.mr_sync.specs.inner.Taken.{AreFrames, GrowsOnlyBy, IsNoRecordOf, IsRecordOf, TakesRecordOf};
+ghost use Rattle.mr_sync.specs.Taken.{AreFrames, GrowsOnlyBy, GrowsOnlyByTheirs, IsRecordOf, TakesRecordOf, TakesRecords};
+ghost use Rattle.mr_sync.specs.inner.Taken.{IsNoRecordOf};
 
 use crate::fault::SyncFault;
 use crate::named::file_in_frame;
@@ -53,14 +54,30 @@ pub(crate) fn note_lacking<F: FileTree>(
     files: &mut F,
     frames: &[Frame],
     lacking: &mut BTreeSet<Digest>,
-) -> Result<(), SyncFault> {
+) -> Result<(), SyncFault>
+    ensures untouched { IsTrue F.is_told → IsUntouched F.seen F.may_leave F.moment F.left_since files.old files.new }
+{
     for frame in frames {
-        if let Some(file) = file_in_frame(frame) {
-            let digest = file.digest;
-            if !has_file(alloc, files, &digest)? {
-                lacking.insert(digest)?;
-            }
-        }
+        note_file(alloc, files, frame, lacking)?;
+    }
+    Ok(())
+}
+
+/// Notes the file that this frame's record names, if the store lacks it.
+fn note_file<F: FileTree>(
+    alloc: Global,
+    files: &mut F,
+    frame: &Frame,
+    lacking: &mut BTreeSet<Digest>,
+) -> Result<(), SyncFault>
+    ensures untouched { IsTrue F.is_told → IsUntouched F.seen F.may_leave F.moment F.left_since files.old files.new }
+{
+    let Some(file) = file_in_frame(frame) else {
+        return Ok(());
+    };
+    let digest = file.digest;
+    if !has_file(alloc, files, &digest)? {
+        lacking.insert(digest)?;
     }
     Ok(())
 }
@@ -89,6 +106,7 @@ pub(crate) fn take_records<D: Device + Drop>(
     arriving: &mut Arriving,
 ) -> Result<(), SyncFault>
     ensures grows { GrowsOnlyBy (TakesRecordOf source) (replica_of kept.old).log (replica_of kept.new).log }
+    ensures last { arriving.new.last ≡ arriving.old.last }
     ensures all { OnOk result ((replica_of kept.new).log ≡ (replica_of kept.old).log ++ map event.Receive frames.items) }
 {
     for frame in frames {
@@ -145,7 +163,12 @@ pub(crate) fn take_records_message<D: Device + Drop, F: FileTree>(
     files: &mut F,
     talk: &mut Talk,
     bytes: &[u8],
-) -> Result<(), SyncFault> {
+) -> Result<(), SyncFault>
+    ensures taken { OnOk result (TakesRecords talk.old.theirs talk.old.arriving.last (replica_of kept.old) bytes.now talk.new.arriving.last (replica_of kept.new)) }
+    ensures grows { GrowsOnlyByTheirs TakesRecordOf talk.old.theirs (replica_of kept.old).log (replica_of kept.new).log }
+    ensures theirs { talk.new.theirs ≡ talk.old.theirs }
+    ensures untouched { IsTrue F.is_told → IsUntouched F.seen F.may_leave F.moment F.left_since files.old files.new }
+{
     let source = other_side(&talk.theirs)?;
     let frames = unpacked_frames(alloc, &mut talk.arriving.last, bytes)?;
     note_lacking(alloc, files, &frames, &mut talk.arriving.lacking)?;
@@ -159,7 +182,11 @@ fn keep_much<D: Device + Drop>(
     alloc: Global,
     kept: &mut Journaled<SparingKnowledge, D>,
     talk: &mut Talk,
-) -> Result<(), SyncFault> {
+) -> Result<(), SyncFault>
+    ensures replica { replica_of kept.new ≡ replica_of kept.old }
+    ensures last { talk.new.arriving.last ≡ talk.old.arriving.last }
+    ensures theirs { talk.new.theirs ≡ talk.old.theirs }
+{
     if talk.arriving.unkept < UNKEPT_BYTES {
         return Ok(());
     }

@@ -2,7 +2,7 @@
 ghost use Rattle.std.specs.Prelude.{◌≡◌, ◌==◌, not, [], None};
 ghost use Rattle.std.specs.BTreeSet.{btree_set_len};
 
-use crate::files::Coming;
+use crate::coming::Coming;
 use crate::said::Said;
 use crate::sending::Sending;
 use crate::vouching::Waiting;
@@ -59,12 +59,17 @@ impl Arriving {
     }
 
     /// Notes that these bytes came, of a file or of records.
-    pub(crate) fn note_bytes(&mut self, bytes: &[u8]) {
+    pub(crate) fn note_bytes(&mut self, bytes: &[u8])
+        ensures last { self.new.last ≡ self.old.last }
+        ensures lacking { self.new.lacking ≡ self.old.lacking }
+    {
         self.unkept = self.unkept.saturating_add(bytes.len() as u64);
     }
 
     /// Notes what came of a record, and whether that tells a revision.
-    pub(crate) fn note(&mut self, is_item: bool, received: Received) {
+    pub(crate) fn note(&mut self, is_item: bool, received: Received)
+        ensures { self.new.last ≡ self.old.last }
+    {
         match received {
             Received::Took if is_item => self.taken = self.taken.saturating_add(1),
             Received::Took => {}

@@ -4,6 +4,7 @@ ghost use Rattle.std.specs.BTreeMap.{get};
 ghost use Rattle.mr_kept.specs.Kept.{replica_of};
 ghost use Rattle.mr_replica.specs.declared.event.Event.TheVariants as event;
 ghost use Rattle.mr_version.specs.Name.{name_cmp};
+ghost use Rattle.mr_sync.specs.Taken.{with_waiting};
 ghost use Rattle.mr_sync.specs.inner.Vouching.{is_answer};
 
 use crate::fault::SyncFault;
@@ -23,7 +24,9 @@ use std::collections::BTreeMap;
 pub(crate) type Waiting = BTreeMap<ItemId, Version>;
 
 /// Notes what waits at the other side. Of several versions of an item the last counts.
-pub(crate) fn note_waiting(waiting: &mut Waiting, list: &[PushOut]) -> Result<(), AllocError> {
+pub(crate) fn note_waiting(waiting: &mut Waiting, list: &[PushOut]) -> Result<(), AllocError>
+    ensures { OnOk result (waiting.new.entries ≡ with_waiting waiting.old.entries list.now) }
+{
     for one in list {
         waiting.insert(one.item, one.version)?;
     }

@@ -4,13 +4,19 @@ use Rattle.mr_kept.specs.Answered.{reply_by}
 use Rattle.mr_kept.specs.Kept.{journal_of, replica_of}
 use Rattle.mr_replica.specs.declared.event.Event.TheVariants.{Release}
 use Rattle.mr_replica.specs.declared.event.Reply.TheVariants.{Done}
-use Rattle.mr_sync.specs.inner.Taken.{LetsGoFor}
+use Rattle.mr_sync.specs.Taken.{LetsGoFor}
 use Rattle.mr_sync.proofs.GrowLaws.{grows_not, answered_grows}
+use Rattle.mr_sync.proofs.ReleaseLaws.{released_one}
 use Rattle.mr_sync.proofs.receipts.take_receipt.Goals as goal
 
-pub returns-in_err-receipt : goal.returns-in_err-receipt
-returns-in_err-receipt g c = grows_not (LetsGoFor c.args.giver) _ _ refl
+pub returns-in_err-receipt-clause-grows : goal.returns-in_err-receipt-clause-grows
+returns-in_err-receipt-clause-grows g c = grows_not (LetsGoFor c.args.giver) _ _ refl
 
-pub returns : goal.returns
-returns g c =
+pub returns-clause-grows : goal.returns-clause-grows
+returns-clause-grows g c =
     answered_grows sparing_form (LetsGoFor c.args.giver) (journal_of c.args.kept.now) (replica_of c.args.kept.now) (Release c.in_ok-receipt.receipt) (reply_by (λ _. Done) c.release.result) (replica_of c.release.new.self) c.release.ensures.at_once.0 c.in_ok-receipt.ensures.1
+
+pub returns-clause-released : goal.returns-clause-released
+returns-clause-released g c =
+    released_one (journal_of c.args.kept.now) (replica_of c.args.kept.now) (replica_of c.release.new.self) c.args.giver c.args.frame c.in_ok-receipt.receipt c.release.result c.was_there.result
+    c.was_there.ensures c.in_ok-receipt.ensures.0 c.in_ok-receipt.ensures.1 c.release.ensures.at_once.0

@@ -1,5 +1,5 @@
 use Rattle.std.proofs.Common.{◌≤◌, length, take}
-use Rattle.mr_sync.specs.inner.Taken.{AreFrames}
+use Rattle.mr_sync.specs.Taken.{AreFrames}
 use Rattle.mr_sync.proofs.records.frames_in.Given as goal
 
 abbrev pub invariant-loop : goal.invariant-loop

@@ -1,8 +1,8 @@
-use Rattle.std.proofs.Common.{List, ◌++◌, map, refl, ap}
+use Rattle.std.proofs.Common.{List, ◌++◌, map, refl, ap, ◌∙◌}
 use Rattle.mr_kept.specs.Kept.{replica_of}
 use Rattle.mr_replica.specs.declared.event.Event.TheVariants.{Receive}
 use Rattle.mr_wire.specs.declared.frame.Frame.{Frame}
-use Rattle.mr_sync.specs.inner.Taken.{TakesRecordOf}
+use Rattle.mr_sync.specs.Taken.{TakesRecordOf}
 use Rattle.mr_sync.proofs.GrowLaws.{grows_not, grows_on, taken_more}
 use Rattle.mr_sync.proofs.records.take_records.Goals as goal
 
@@ -10,12 +10,14 @@ pub loop-frame-init : goal.loop-frame-init
 loop-frame-init g c = record {
   grows = grows_not (TakesRecordOf c.args.source) _ _ refl;
   all = ap (λ (fs : List Frame). (replica_of c.args.kept.now).log ++ map Receive fs) c.into_iter-frame-iterator.ensures.into_iter_gives.0;
+  last = refl;
 }
 
 pub loop-frame-preserved : goal.loop-frame-preserved
 loop-frame-preserved g c = record {
   grows = grows_on (TakesRecordOf c.args.source) _ _ _ c.loop-frame.invariant.grows c.take_record.ensures.grows;
   all = taken_more _ _ _ _ _ c.in-Some.frame c.loop-frame.invariant.all c.in-Some.ensures.steps.0 c.in_ok-received.ensures.taken;
+  last = c.note.ensures ∙ c.loop-frame.invariant.last;
 }
 
 pub returns-in_err-received-clause-grows : goal.returns-in_err-received-clause-grows

@@ -2,12 +2,13 @@ use Rattle.std.proofs.Common.{◌≡◌, ◌++◌, map}
 use Rattle.std.specs.Vec.Iter.{into_iter_items}
 use Rattle.mr_kept.specs.Kept.{replica_of}
 use Rattle.mr_replica.specs.declared.event.Event.TheVariants.{Receive}
-use Rattle.mr_sync.specs.inner.Taken.{GrowsOnlyBy, TakesRecordOf}
+use Rattle.mr_sync.specs.Taken.{GrowsOnlyBy, TakesRecordOf}
 use Rattle.mr_sync.proofs.records.take_records.Given as goal
 
--- the log grew by such events only, and what is taken and what is left is all
+-- the log grew by such events only, and what is taken and what is left is all; the last frame is as it was
 abbrev pub invariant-loop-frame : goal.invariant-loop-frame
 invariant-loop-frame g l = record {
   grows : GrowsOnlyBy (TakesRecordOf l.source) (replica_of l.fn.kept).log (replica_of l.kept).log;
   all : (replica_of l.kept).log ++ map Receive (into_iter_items l.frame-iterator) ≡ (replica_of l.fn.kept).log ++ map Receive l.fn.frames.items;
+  last : l.arriving.last ≡ l.fn.arriving.last;
 }

@@ -1,9 +1,6 @@
-use Rattle.mr_kept.specs.Kept.{replica_of}
-use Rattle.mr_sync.specs.Asking.{IsMetAskFault}
 use Rattle.mr_sync.proofs.HostLaws.{told_for}
 use Rattle.mr_sync.proofs.host.FolderHostHost.take_ask.Goals as goal
 
 pub returns-clause-fault : goal.returns-clause-fault
 returns-clause-fault g c =
-    told_for (IsMetAskFault c.args.self.now.talk.theirs (replica_of c.args.self.now.kept) c.args.bytes.now (replica_of c.take_other_ask-taken.new.kept))
-    c.take_other_ask-taken.result c.answered.result c.answered.ensures.fault c.answered.ensures.number c.take_other_ask-taken.ensures.fault
+    told_for _ c.take_other_ask-taken.result c.answered.result c.answered.ensures.fault c.answered.ensures.number c.take_other_ask-taken.ensures.fault
