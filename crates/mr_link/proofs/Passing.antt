@@ -38,6 +38,7 @@ well_on a b c read more gone further h k = record {
   passes = passes_on a b c read more gone further h.rest k.rest h.passes h.unread k.passes;
   unread = k.unread;
   downs = k.downs ∙ h.downs;
+  up = k.up ∙ h.up;
 }
 
 pub down_on : (a b c : WireView) (read more gone further : List Frame) → PassesWell a read gone b → GoesDown b more further c → GoesDown a (read ++ more) (gone ++ further) c
@@ -46,6 +47,7 @@ down_on a b c read more gone further h k = record {
   passes = passes_on a b c read more gone further h.rest k.rest h.passes h.unread k.passes;
   unread = k.unread;
   downs = k.downs ∙ ap (λ n. n + 1) h.downs;
+  up = k.up ∙ h.up;
 }
 
 pub spoilt_on : (a b c : WireView) (read more gone further : List Frame) → PassesWell a read gone b → IsSpoilt b more further c → IsSpoilt a (read ++ more) (gone ++ further) c
@@ -55,6 +57,7 @@ spoilt_on a b c read more gone further h k = record {
   bad = k.bad;
   unread = k.unread;
   downs = k.downs ∙ h.downs;
+  up = k.up ∙ h.up;
 }
 
 -- where bytes are unread, these are the rest
@@ -80,7 +83,7 @@ nothing_came a b received sent =
 
 -- nothing passes between a state and itself
 pub passes_none : (a : WireView) → IsSome a.unread → PassesWell a [] [] a
-passes_none a has = record { rest = bytes_of a.unread; passes = nothing_came a a refl refl; unread = some_unread a.unread has; downs = refl }
+passes_none a has = record { rest = bytes_of a.unread; passes = nothing_came a a refl refl; unread = some_unread a.unread has; downs = refl; up = refl }
 
 pub passes_same : (a b : WireView) → IsSome a.unread → b ≡ a → PassesWell a [] [] b
 passes_same a b has same = subst (λ (z : WireView). PassesWell a [] [] z) (sym same) (passes_none a has)
@@ -96,6 +99,7 @@ passes_bytes a b bytes has link unread = record {
   passes = bytes_came a b bytes (ap (λ (l : LinkView). l.received) link) (ap (λ (l : LinkView). l.sent) link);
   unread = more_unread a.unread b.unread bytes has unread;
   downs = ap (λ (l : LinkView). l.downs) link;
+  up = ap (λ (l : LinkView). l.hung_up) link;
 }
 
 -- the link was down, and nothing passed
@@ -105,6 +109,7 @@ down_now a b has link unread = record {
   passes = nothing_came a b (ap (λ (l : LinkView). l.received) link) (ap (λ (l : LinkView). l.sent) link);
   unread = unread ∙ some_unread a.unread has;
   downs = ap (λ (l : LinkView). l.downs) link;
+  up = ap (λ (l : LinkView). l.hung_up) link;
 }
 
 -- a frame was sent
@@ -121,6 +126,7 @@ frame_sent a b format f bytes has spelled link unread = record {
   };
   unread = unread ∙ some_unread a.unread has;
   downs = ap (λ (l : LinkView). l.downs) link;
+  up = ap (λ (l : LinkView). l.hung_up) link;
 }
 
 -- a frame was read of what was unread
@@ -137,6 +143,7 @@ frame_read a b f rest left has begins link unread = record {
   };
   unread = unread;
   downs = ap (λ (l : LinkView). l.downs) link;
+  up = ap (λ (l : LinkView). l.hung_up) link;
 }
 
 -- what was unread is no frame
@@ -147,4 +154,5 @@ spoilt_now a b rest has bad link unread = record {
   bad = bad;
   unread = unread;
   downs = ap (λ (l : LinkView). l.downs) link;
+  up = ap (λ (l : LinkView). l.hung_up) link;
 }

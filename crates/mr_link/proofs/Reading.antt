@@ -1,5 +1,5 @@
 -- What a wire's calls come to, by what its link and its reader did.
-use Rattle.std.proofs.Common.{◌≡◌, ◌≢◌, ◌++◌, ℕ, List, [], ◌∷◌, Option, Some, None, Result, Ok, Err, IsSome, refl, sym, ap, subst, ◌∙◌, append-nil}
+use Rattle.std.proofs.Common.{◌≡◌, ◌≢◌, ◌<◌, ◌++◌, ◌↔◌, ℕ, List, [], ◌∷◌, length, Option, Some, None, Result, Ok, Err, IsSome, refl, sym, ap, subst, ◌∙◌, append-nil, arith}
 use Rattle.std.specs.Option.{option_map}
 use Rattle.std.specs.Global.{Vec}
 use Rattle.mr_wire.specs.declared.fault.WireFault.{WireFault}
@@ -8,15 +8,18 @@ use Rattle.mr_wire.specs.declared.fault.WireFault.TheVariants as wire
 use Rattle.mr_wire.specs.declared.frame.Frame.{Frame}
 use Rattle.mr_wire.specs.Decoding.{decoded}
 use Rattle.mr_wire.specs.Encoding.{Encodes}
+use Rattle.mr_wire.specs.FrameSpelling.{rest_bytes}
+use Rattle.mr_wire.specs.declared.decoding.TheConstants.{MAX_REST_BYTES}
 use Rattle.mr_wire.specs.Grammar.{Spells}
 use Rattle.mr_frames.specs.Reader.{Feeds, Nexts}
+use Rattle.mr_frames.specs.Calls.{IsDrained}
 use Rattle.mr_frames.specs.declared.fault.FrameFault.{FrameFault}
 use Rattle.mr_frames.specs.declared.fault.FrameFault.TheVariants as reading
 use Rattle.mr_frames.proofs.StreamLaws.{begins_more}
 use Rattle.mr_link.specs.Link.{LinkView, Sends, Receives}
 use Rattle.mr_link.specs.inner.Snag.{snag_of_reader, snag_of_link, snag_of_encoding}
 use Rattle.mr_link.specs.Wire.{WireView, held_bytes, unread_in, wire_of, PassesWell, ReadsFrame, WritesFrame}
-use Rattle.mr_link.specs.inner.Wire.{ReadsPiece, HandsOn, Hands}
+use Rattle.mr_link.specs.inner.Wire.{ReadsPiece, HandsNothing, HandsOn, Hands}
 use Rattle.mr_link.specs.declared.link.LinkFault.{LinkFault}
 use Rattle.mr_link.specs.declared.link.LinkFault.TheVariants as link
 use Rattle.mr_link.specs.declared.snag.Snag.{Snag}
@@ -66,22 +69,39 @@ module _ {L : Type 0} where
     unread = feeds_none a.reader s piece fault has (subst (λ (z : List ℕ). Feeds a.reader z (Err fault) s) same h);
   }
 
+  -- a piece that is handed on finds no link down
+  pub hands_up : (a : Wire L) (piece : Vec ℕ) (r : Result (Unit {0}) Snag) (c : Wire L) → Hands a piece r c → r ≢ Err snag.LinkDown
+  hands_up a piece (Ok u) c h = λ e. cc e
+  hands_up a piece (Err snag.OutOfMemory) c h = λ e. cc e
+  hands_up a piece (Err snag.LinkDown) c h = absurd h
+  hands_up a piece (Err snag.BadFrame) c h = absurd h
+  hands_up a piece (Err snag.TooLong) c h = absurd h
+
+-- a reader that gives no frame has no whole one
+drained_reader : (r s : Option (List ℕ)) → IsSome r → Nexts r (Ok None) s → IsDrained s
+drained_reader None s has h = absurd (cc)
+drained_reader (Some rest) s has h = subst (λ (z : Option (List ℕ)). IsDrained z) (sym h.1) h.0
+
+drained_wire : (s : Option (List ℕ)) → IsDrained s → IsDrained (unread_in s None)
+drained_wire None h = tt
+drained_wire (Some rest) h = subst (λ (z : List ℕ). decoded z ≡ Err Truncated) (sym (append-nil rest)) h
+
 -- ---- over a link
 
 -- what comes of reading on
 pub reads_on : (a b c : WireView) (r : Result Frame Snag) → PassesWell a [] [] b → ReadsFrame b r c → ReadsFrame a r c
 reads_on a b c (Ok f) h k = well_on a b c [] (f ∷ []) [] [] h k
-reads_on a b c (Err snag.LinkDown) h k = down_on a b c [] [] [] [] h k
+reads_on a b c (Err snag.LinkDown) h k = (down_on a b c [] [] [] [] h k.0, k.1)
 reads_on a b c (Err snag.BadFrame) h k = spoilt_on a b c [] [] [] [] h k
 reads_on a b c (Err snag.OutOfMemory) h k = well_on a b c [] [] [] [] h k
 reads_on a b c (Err snag.TooLong) h k = absurd k
 
 -- no more bytes came, and so no frame
-pub piece_fault : (a b : WireView) (s : Snag) → ReadsPiece a (Err s) b → ReadsFrame a (Err s) b
-piece_fault a b snag.OutOfMemory h = h
-piece_fault a b snag.LinkDown h = h
-piece_fault a b snag.BadFrame h = absurd h
-piece_fault a b snag.TooLong h = absurd h
+pub piece_fault : (a b : WireView) (s : Snag) → (s ≡ snag.LinkDown → IsDrained b.unread) → ReadsPiece a (Err s) b → ReadsFrame a (Err s) b
+piece_fault a b snag.OutOfMemory drained h = h
+piece_fault a b snag.LinkDown drained h = (h, drained refl)
+piece_fault a b snag.BadFrame drained h = absurd h
+piece_fault a b snag.TooLong drained h = absurd h
 
 module _ {L : Type 0} (tells : L → LinkView) where
   abbrev pub wired : L → Option (List ℕ) → Option (Vec ℕ) → WireView
@@ -182,6 +202,12 @@ module _ {L : Type 0} (tells : L → LinkView) where
   pub drained : (a b : Wire L) (s : Option (List ℕ)) → PassesWell (wire_of tells a) [] [] (wire_of tells b) → Nexts b.reader (Ok None) s → PassesWell (wire_of tells a) [] [] (wire_of tells (with_reader b s))
   drained a b s h n = well_on (wire_of tells a) (wire_of tells b) (wire_of tells (with_reader b s)) [] [] [] [] h (next_none b.link b.reader s b.held (has_reader a b h) n)
 
+  -- and none comes where nothing is handed to it
+  pub none_left : (a b c : Wire L) (s : Option (List ℕ)) → PassesWell (wire_of tells a) [] [] (wire_of tells b) → Nexts b.reader (Ok None) s → HandsNothing (with_reader b s) c → IsDrained (unread_in c.reader c.held)
+  none_left a b c s h n k =
+      subst (λ (z : Option (Vec ℕ)). IsDrained (unread_in c.reader z)) (sym k.held)
+      (subst (λ (z : Option (List ℕ)). IsDrained (unread_in z None)) (sym k.reader) (drained_wire s (drained_reader b.reader s (has_reader a b h) n)))
+
   still_some : (r s : Option (List ℕ)) → IsSome r → Nexts r (Ok None) s → IsSome s
   still_some None s has h = absurd (cc)
   still_some (Some rest) s has h = subst (λ (z : Option (List ℕ)). IsSome z) (sym h.1) refl
@@ -205,6 +231,15 @@ frame_unsent a f wire.Truncated h = absurd h
 frame_unsent a f wire.BadFormat h = absurd h
 frame_unsent a f wire.BadKind h = absurd h
 frame_unsent a f wire.BadBody h = absurd h
+
+-- it is too long exactly where the snag says so
+pub unsent_too_long : (f : Frame) (fault : WireFault) (r : Result (Unit {0}) Snag) → r ≡ Err (snag_of_encoding fault) → Encodes f (Err fault) → (r ≡ Err snag.TooLong) ↔ (MAX_REST_BYTES < length (rest_bytes 2 f))
+unsent_too_long f wire.TooLong r is h = (λ e. h, λ long. is)
+unsent_too_long f wire.OutOfMemory r is h = (λ e. absurd (cc (e, is)), λ long. absurd (omega (arith, h, long)))
+unsent_too_long f wire.Truncated r is h = absurd h
+unsent_too_long f wire.BadFormat r is h = absurd h
+unsent_too_long f wire.BadKind r is h = absurd h
+unsent_too_long f wire.BadBody r is h = absurd h
 
 -- and not since it is too long
 pub fault_is_short : (fault : WireFault) → fault ≢ wire.TooLong → snag_of_encoding fault ≢ snag.TooLong

@@ -1,5 +1,6 @@
 -- worked rows: what the definitions give for small values
 use Rattle.std.specs.Prelude.{◌≡◌, ℕ, true, false, List, [], ◌∷◌, ◌++◌, Option, Some, None, Ok, Err, map, refl}
+use Rattle.std.proofs.Common.{subst}
 use Rattle.mr_wire.specs.declared.fault.WireFault.TheVariants as wire
 use Rattle.mr_wire.specs.declared.frame.Body.{Body}
 use Rattle.mr_wire.specs.declared.frame.Body.TheVariants.{Start, End}
@@ -8,6 +9,7 @@ use Rattle.mr_wire.specs.declared.frame.Frame.TheVariants.{Record}
 use Rattle.mr_wire.specs.declared.frame.Mode.TheVariants.{Partial}
 use Rattle.mr_frames.specs.declared.fault.FrameFault.TheVariants as reading
 use Rattle.mr_frames.specs.Rows.{two_frames, first_frame}
+use Rattle.mr_frames.specs.Calls.{IsDrained}
 use Rattle.mr_link.specs.declared.link.LinkFault.TheVariants as link
 use Rattle.mr_link.specs.declared.snag.Snag.TheVariants as snag
 use Rattle.mr_link.specs.Link.{LinkView, and_then, with_down, with_hang_up, Sends, Receives}
@@ -116,6 +118,7 @@ two_frames_came = record {
   passes = record { received_bytes = stream_row; received = refl; read_frames = two_frames; sent_bytes = []; sent = refl; sent_frames = refl };
   unread = refl;
   downs = refl;
+  up = refl;
 }
 
 -- the second of two frames that were unread is read next, though no byte comes
@@ -125,16 +128,25 @@ unread_is_read = record {
   passes = record { received_bytes = []; received = refl; read_frames = (end_row ++ rest_row, first_frame, refl); sent_bytes = []; sent = refl; sent_frames = refl };
   unread = refl;
   downs = refl;
+  up = refl;
 }
 
--- a link that is down is so once more
+-- a link that is down is so once more, and what is unread then lacks the end of a frame
 pub down_once_more : ReadsFrame (wire_row (telling None None 5) (Some rest_row)) (Err snag.LinkDown) (wire_row (telling None None 6) (Some rest_row))
-down_once_more = record {
-  rest = rest_row;
-  passes = record { received_bytes = []; received = refl; read_frames = refl; sent_bytes = []; sent = refl; sent_frames = refl };
-  unread = refl;
-  downs = refl;
-}
+down_once_more = (
+  record {
+    rest = rest_row;
+    passes = record { received_bytes = []; received = refl; read_frames = refl; sent_bytes = []; sent = refl; sent_frames = refl };
+    unread = refl;
+    downs = refl;
+    up = refl;
+  },
+  refl,
+)
+
+-- no read finds the link down as long as a whole frame is unread
+pub frame_before_down : (old new : WireView) → new.unread ≡ Some (end_row ++ rest_row) → ¬ ReadsFrame old (Err snag.LinkDown) new
+frame_before_down old new unread h = cc (subst (λ (u : Option (List ℕ)). IsDrained u) unread h.1)
 
 -- where memory runs out nothing was sent
 pub unsent_is_same : (w : WireView) → WritesFrame w (sent 1 End) (Err snag.OutOfMemory) w

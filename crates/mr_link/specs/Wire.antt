@@ -8,6 +8,7 @@ use Rattle.mr_wire.specs.declared.frame.Frame.{Frame}
 use Rattle.mr_wire.specs.Decoding.{decoded}
 use Rattle.mr_wire.specs.FrameSpelling.{rest_bytes}
 use Rattle.mr_frames.specs.Stream.{AreFrames}
+use Rattle.mr_frames.specs.Calls.{IsDrained}
 use Rattle.mr_link.specs.Link.{LinkView, and_then}
 use Rattle.mr_link.specs.declared.wire.Wire.{Wire}
 use Rattle.mr_link.specs.declared.snag.Snag.{Snag}
@@ -57,32 +58,35 @@ pub record Passes (old : WireView) (read gone : List Frame) (rest : List ℕ) (n
   pub sent : new.link.sent ≡ and_then old.link.sent sent_bytes
   pub sent_frames : AreFrames sent_bytes gone []
 
--- frames were read and sent between two states; the rest is still unread, and the link was not down
+-- frames were read and sent between two states; the rest is still unread, and the link was neither down nor hung up
 pub record PassesWell (old : WireView) (read gone : List Frame) (new : WireView) : Type 0 where
   pub rest : List ℕ
   pub passes : Passes old read gone rest new
   pub unread : new.unread ≡ Some rest
   pub downs : new.link.downs ≡ old.link.downs
+  pub up : new.link.hung_up ≡ old.link.hung_up
 
--- frames were read and sent between two states; the rest is still unread, and then the link was down once
+-- frames were read and sent between two states; the rest is still unread, and then the link was down once, but not hung up
 pub record GoesDown (old : WireView) (read gone : List Frame) (new : WireView) : Type 0 where
   pub rest : List ℕ
   pub passes : Passes old read gone rest new
   pub unread : new.unread ≡ Some rest
   pub downs : new.link.downs ≡ old.link.downs + 1
+  pub up : new.link.hung_up ≡ old.link.hung_up
 
--- frames were read and sent between two states; and the rest is no frame
+-- frames were read and sent between two states; the rest is no frame, and the link was neither down nor hung up
 pub record IsSpoilt (old : WireView) (read gone : List Frame) (new : WireView) : Type 0 where
   pub rest : List ℕ
   pub passes : Passes old read gone rest new
   pub bad : IsBad rest
   pub unread : new.unread ≡ None
   pub downs : new.link.downs ≡ old.link.downs
+  pub up : new.link.hung_up ≡ old.link.hung_up
 
--- What comes of reading a frame. Where memory runs out bytes may have come, and are still unread.
+-- What comes of reading a frame. Where the link is down no whole frame is left unread. Where memory runs out bytes may have come, and are still unread.
 abbrev pub ReadsFrame : WireView → Result Frame Snag → WireView → Type 0
 ReadsFrame old (Ok frame) new = PassesWell old (frame ∷ []) [] new
-ReadsFrame old (Err LinkDown) new = GoesDown old [] [] new
+ReadsFrame old (Err LinkDown) new = GoesDown old [] [] new × IsDrained new.unread
 ReadsFrame old (Err BadFrame) new = IsSpoilt old [] [] new
 ReadsFrame old (Err OutOfMemory) new = PassesWell old [] [] new
 ReadsFrame old (Err TooLong) new = ⊥

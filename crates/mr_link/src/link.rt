@@ -37,6 +37,10 @@ pub trait Link: Drop {
     /// What it tells.
     ghost tells: { Self → LinkView };
 
+    /// It told this when it was hung up at this end. Nothing but `hang_up` says so, and no other call keeps it: whoever owes it for
+    /// what the link tells in the end has hung up behind all of that.
+    ghost hung_up_at: { Self → LinkView → Type 0 } = { λ _ _. Unit {0} };
+
     /// Sends all the bytes, or none. Of no bytes it sends nothing.
     fn send(&mut self, alloc: Global, bytes: &[u8]) -> Result<(), LinkFault>
         requires count { (tells self.old).downs + 1 < 2 ^ 64 }
@@ -51,5 +55,7 @@ pub trait Link: Drop {
 
     /// Ends the link, so that nobody waits at its other end. What it sent and received stays the same.
     fn hang_up(&mut self)
-        ensures hung_up { tells self.new ≡ with_hang_up (tells self.old) };
+        ensures hung_up { tells self.new ≡ with_hang_up (tells self.old) }
+        ensures told { hung_up_at self.new (tells self.old) }
+        ensures kept { (l : LinkView) → hung_up_at self.old l → hung_up_at self.new l };
 }

@@ -1,10 +1,12 @@
 //! Frames over a link.
-ghost use Rattle.std.specs.Prelude.{◌≡◌, ◌≢◌, ◌<◌, ◌+◌, ◌^◌, ℕ, [], Some, None, IsSome, Err};
+ghost use Rattle.std.specs.Prelude.{◌≡◌, ◌≢◌, ◌<◌, ◌+◌, ◌^◌, ◌↔◌, ℕ, [], Some, None, IsSome, Err, length};
+ghost use Rattle.mr_wire.specs.declared.decoding.TheConstants.{MAX_REST_BYTES};
+ghost use Rattle.mr_wire.specs.FrameSpelling.{rest_bytes};
 ghost use Rattle.mr_wire.specs.Grammar.{Spells};
 ghost use Rattle.mr_wire.specs.declared.frame.Frame.{Frame};
 ghost use Rattle.mr_wire.specs.declared.frame.Frame.TheVariants as frame;
 ghost use Rattle.mr_link.specs.Wire.{wire_of, ReadsFrame, WritesFrame};
-ghost use Rattle.mr_link.specs.inner.Wire.{ReadsPiece, Hands};
+ghost use Rattle.mr_link.specs.inner.Wire.{ReadsPiece, Hands, HandsNothing};
 
 use crate::link::Link;
 use crate::snag::{Snag, snag_of_encoding, snag_of_link, snag_of_reader};
@@ -16,7 +18,7 @@ use std::sync::Wait;
 /// A link, and the reader of its stream.
 ///
 /// Its calls need a wire that has not come upon bytes that are no frame: a new one, or one of which no read was answered
-/// `BadFrame`.
+/// `BadFrame`. None of them hangs the link up.
 #[derive(Drop)]
 pub struct Wire<L> {
     pub link: L,
@@ -41,8 +43,8 @@ impl<L: Link> Wire<L> {
 
     /// Reads the next frame, and waits until it has come.
     ///
-    /// `LinkDown` where the link was down before it had come whole, `BadFrame` where what came is no frame; after that
-    /// the wire gives none. `OutOfMemory` where memory ran out: nothing is lost then. It costs a copy of what
+    /// `LinkDown` where the link was down before it had come whole: no whole frame is left unread then. `BadFrame` where what
+    /// came is no frame; after that the wire gives none. `OutOfMemory` where memory ran out: nothing is lost then. It costs a copy of what
     /// came, and of the frame.
     pub fn read_frame<R: Wait>(&mut self, rt: &R, alloc: Global) -> Result<Frame, Snag>
         requires count { (L.tells self.old.link).downs + 1 < 2 ^ 64 }
@@ -68,7 +70,8 @@ impl<L: Link> Wire<L> {
     fn receive(&mut self, alloc: Global) -> Result<(), Snag>
         requires count { (L.tells self.old.link).downs + 1 < 2 ^ 64 }
         requires unread { IsSome (wire_of L.tells self.old).unread }
-        ensures { ReadsPiece (wire_of L.tells self.old) result (wire_of L.tells self.new) }
+        ensures reads { ReadsPiece (wire_of L.tells self.old) result (wire_of L.tells self.new) }
+        ensures down { result ≡ Err Snag.LinkDown → HandsNothing self.old self.new }
     {
         match self.held.take() {
             Some(piece) => self.feed(piece),
@@ -99,7 +102,8 @@ impl<L: Link> Wire<L> {
     pub fn send_ask(&mut self, alloc: Global, ask: &Ask) -> Result<(), Snag>
         requires count { (L.tells self.old.link).downs + 1 < 2 ^ 64 }
         requires unread { IsSome (wire_of L.tells self.old).unread }
-        ensures { WritesFrame (wire_of L.tells self.old) (frame.Ask ask.now) result (wire_of L.tells self.new) }
+        ensures written { WritesFrame (wire_of L.tells self.old) (frame.Ask ask.now) result (wire_of L.tells self.new) }
+        ensures too_long { (result ≡ Err Snag.TooLong) ↔ (MAX_REST_BYTES < length (rest_bytes 2 (frame.Ask ask.now))) }
     {
         match encode_ask(alloc, ask) {
             Ok(bytes) => self.send_bytes(alloc, &bytes),

@@ -1,9 +1,10 @@
 -- Turns, one behind the other.
-use Rattle.std.proofs.Common.{◌≡◌, ◌<◌, ◌+◌, ◌^◌, ◌++◌, ℕ, Bool, true, false, cond, List, [], ◌∷◌, Option, Some, Result, IsSome, refl, sym, ap, subst, ◌∙◌, append_assoc, arith, inl, inr, ⊎_elim}
+use Rattle.std.proofs.Common.{◌≡◌, ◌<◌, ◌+◌, ◌^◌, ◌++◌, ◌⊎◌, ℕ, Bool, true, false, cond, List, [], ◌∷◌, Option, Some, Result, IsSome, refl, sym, ap, subst, ◌∙◌, append_assoc, arith, inl, inr, ⊎_elim}
+use Rattle.std.proofs.lemmas.Bool.{false≢true}
 use Rattle.std.proofs.lemmas.List.{append-nil}
 use Rattle.mr_wire.specs.declared.frame.Frame.{Frame}
 use Rattle.mr_link.specs.Link.{LinkView, with_hang_up}
-use Rattle.mr_link.specs.Wire.{WireView, Passes, PassesWell, GoesDown, IsSpoilt, new_wire, unread_in}
+use Rattle.mr_link.specs.Wire.{WireView, PassesWell, IsSpoilt, new_wire, unread_in}
 use Rattle.mr_replica.specs.declared.event.Event.{Event}
 use Rattle.mr_replica.specs.declared.event.Event.TheVariants.{CutIn, CutOut}
 use Rattle.mr_replica.specs.declared.event.Reply.{Reply}
@@ -20,12 +21,11 @@ use Rattle.mr_threads.specs.declared.talk.Talk.{Talk}
 use Rattle.mr_threads.proofs.Saying.{says_none, says-append}
 use Rattle.mr_link.proofs.Passing.{passes_none}
 use Rattle.mr_node.specs.Saying.{Saying, frames_read, frames_given, one_if_receive, receives, are_over, opened_behind, cut_of}
-use Rattle.mr_node.specs.Turn.{IsWhole, AreWhole}
+use Rattle.mr_node.specs.Turn.{reads, IsWhole, AreWhole}
 use Rattle.mr_node.specs.Stop.{Stops, IsThrough, IsStopped, LinkRan, AreLetPass}
 use Rattle.mr_node.specs.inner.Step.{SaysWhole, SaysCut}
-use Rattle.mr_node.specs.Voice.{IsReady, Runs}
-use Rattle.mr_node.specs.inner.Voice.{IsVoiceOf}
-use Rattle.mr_node.specs.Thread.{SaidTurns, SaidInTurn}
+use Rattle.mr_node.specs.inner.Voice.{IsVoiceOf, IsHungUpBehind, IsReady, Runs, HasHungUp}
+use Rattle.mr_node.specs.Thread.{SaidTurns, SaidInTurn, IsHungUpLast}
 use Rattle.mr_node.specs.declared.link_voice.LinkVoice.{LinkVoice}
 use Rattle.mr_node.specs.declared.link_thread.LinkParts.{LinkParts}
 use Rattle.mr_node.specs.declared.link_thread.LinkEnd.{LinkEnd}
@@ -121,86 +121,96 @@ module _ {R : Type 0} (talk talk' : Talk Event (Result Reply Refusal) R) (wire w
 abbrev pub wire_with : LinkView → Option (List ℕ) → WireView
 wire_with link unread = record { link = link; unread = unread }
 
--- ---- a link that was hung up tells what it told
+-- ---- a link that is hung up behind what passed
 
-passes_still : (old : WireView) (read gone : List Frame) (rest : List ℕ) (k : LinkView) (r : Option (List ℕ)) → Passes old read gone rest (wire_with k r) → Passes old read gone rest (wire_with (with_hang_up k) r)
-passes_still old read gone rest k r h = record { received_bytes = h.received_bytes; received = h.received; read_frames = h.read_frames; sent_bytes = h.sent_bytes; sent = h.sent; sent_frames = h.sent_frames }
+-- no turn hangs it up
+stops_up : (may : Bool) (t : Turn) (old : WireView) (read given : List Frame) (why : Stop) (new : WireView) → Stops may t old read given why new → new.link.hung_up ≡ old.link.hung_up
+stops_up may t old read given Refused new h = h.up
+stops_up may t old read given NotSent new h = h.3.up
+stops_up may t old read given NotReceived new h = h.0.up
+stops_up may t old read given BadFrame new h = ⊎_elim (λ (bad : IsSpoilt old read given new). bad.up) (λ (wrong : (f : Frame) × (reads t f ≡ false) × PassesWell old (read ++ f ∷ []) given new). wrong.2.up) h
+stops_up may t old read given Shut new h = h.2.1.up
 
-well_still : (old : WireView) (read gone : List Frame) (k : LinkView) (r : Option (List ℕ)) → PassesWell old read gone (wire_with k r) → PassesWell old read gone (wire_with (with_hang_up k) r)
-well_still old read gone k r h = record { rest = h.rest; passes = passes_still old read gone h.rest k r h.passes; unread = h.unread; downs = h.downs }
+pub ran_up : (closes : ℕ → Bool) (turns : List Turn) (old : WireView) (xs : List Saying) (new : WireView) → LinkRan closes turns old xs new → new.link.hung_up ≡ old.link.hung_up
+ran_up closes turns old xs new h =
+    ⊎_elim (λ (through : IsThrough turns old xs new). through.passes.up)
+    (λ (stopped : IsStopped closes turns old xs new).
+    let all = stopped.said_before ++ stopped.part in
+    stops_up (closes (receives all + 1)) stopped.turn old (frames_read all) (frames_given all) stopped.stop new stopped.why) h
 
-down_still : (old : WireView) (read gone : List Frame) (k : LinkView) (r : Option (List ℕ)) → GoesDown old read gone (wire_with k r) → GoesDown old read gone (wire_with (with_hang_up k) r)
-down_still old read gone k r h = record { rest = h.rest; passes = passes_still old read gone h.rest k r h.passes; unread = h.unread; downs = h.downs }
+abbrev flagged : LinkView → Bool → LinkView
+flagged v b = record v { hung_up = b }
 
-spoilt_still : (old : WireView) (read gone : List Frame) (k : LinkView) (r : Option (List ℕ)) → IsSpoilt old read gone (wire_with k r) → IsSpoilt old read gone (wire_with (with_hang_up k) r)
-spoilt_still old read gone k r h = record { rest = h.rest; passes = passes_still old read gone h.rest k r h.passes; bad = h.bad; unread = h.unread; downs = h.downs }
+same_flag : (v : LinkView) (b : Bool) → v.hung_up ≡ b → flagged v b ≡ v
+same_flag v b is = ap (λ (z : Bool). flagged v z) (sym is)
 
-stops_still : (may : Bool) (t : Turn) (old : WireView) (read given : List Frame) (why : Stop) (k : LinkView) (r : Option (List ℕ)) → Stops may t old read given why (wire_with k r) → Stops may t old read given why (wire_with (with_hang_up k) r)
-stops_still may t old read given Refused k r h = well_still old read given k r h
-stops_still may t old read given NotSent k r h = (h.0, h.1, h.2, down_still old read h.0 k r h.3)
-stops_still may t old read given NotReceived k r h = down_still old read given k r h
-stops_still may t old read given BadFrame k r h =
-    ⊎_elim (λ bad. inl (spoilt_still old read given k r bad)) (λ wrong. inr (wrong.0, wrong.1, well_still old (read ++ wrong.0 ∷ []) given k r wrong.2)) h
-stops_still may t old read given Shut k r h = (h.0, h.1, (h.2.0, well_still old (read ++ h.2.0 ∷ []) given k r h.2.1))
+module _ {L : Type 0} (tells : L → LinkView) (hung_up_at : L → LinkView → Type 0) where
+  -- where it may have been hung up already, it is so once more
+  pub hangs_up_behind : (last : LinkView) (l k : L) → tells k ≡ with_hang_up (tells l) → hung_up_at k (tells l) → ((v : LinkView) → hung_up_at l v → hung_up_at k v)
+      → (tells l ≡ last) ⊎ IsHungUpBehind tells hung_up_at last l → IsHungUpBehind tells hung_up_at last k
+  hangs_up_behind last l k hangs told kept ends =
+      ⊎_elim (λ (is : tells l ≡ last). record { same = hangs ∙ ap (λ v. flagged v true) is; behind = subst (λ (v : LinkView). hung_up_at k v) is told })
+      (λ (was : IsHungUpBehind tells hung_up_at last l). record { same = hangs ∙ ap (λ v. flagged v true) was.same; behind = kept last was.behind }) ends
 
-still : (closes : ℕ → Bool) (turns : List Turn) (wire : WireView) (xs : List Saying) (k : LinkView) (r : Option (List ℕ)) → LinkRan closes turns wire xs (wire_with k r) → LinkRan closes turns wire xs (wire_with (with_hang_up k) r)
-still closes turns wire xs k r h =
-    ⊎_elim (λ (through : IsThrough turns wire xs (wire_with k r)). inl (record { are_whole = through.are_whole; passes = well_still wire (frames_read xs) (frames_given xs) k r through.passes }))
-    (λ (stopped : IsStopped closes turns wire xs (wire_with k r)). inr (record {
-      before = stopped.before;
-      turn = stopped.turn;
-      left = stopped.left;
-      in_order = stopped.in_order;
-      said_before = stopped.said_before;
-      are_whole = stopped.are_whole;
-      part = stopped.part;
-      stop = stopped.stop;
-      cut_short = stopped.cut_short;
-      cut = stopped.cut;
-      cuts = stopped.cuts;
-      all = stopped.all;
-      why = stops_still (closes (receives (stopped.said_before ++ stopped.part) + 1)) stopped.turn wire (frames_read (stopped.said_before ++ stopped.part)) (frames_given (stopped.said_before ++ stopped.part)) stopped.stop k r stopped.why;
-    })) h
+  -- a link that is hung up is what it was, but for that
+  pub is_hung_up : (last : LinkView) (l : L) → (tells l).hung_up ≡ true → (tells l ≡ last) ⊎ IsHungUpBehind tells hung_up_at last l → tells l ≡ with_hang_up last
+  is_hung_up last l up ends =
+      ⊎_elim (λ (is : tells l ≡ last). sym (same_flag (tells l) true up) ∙ ap (λ v. flagged v true) is) (λ (was : IsHungUpBehind tells hung_up_at last l). was.same) ends
 
-pub ran_still : (closes : ℕ → Bool) (turns : List Turn) (wire : WireView) (xs : List Saying) (k l : LinkView) (r : Option (List ℕ)) → l ≡ with_hang_up k → LinkRan closes turns wire xs (wire_with k r) → LinkRan closes turns wire xs (wire_with l r)
-ran_still closes turns wire xs k l r is h = subst (λ (z : LinkView). LinkRan closes turns wire xs (wire_with z r)) (sym is) (still closes turns wire xs k r h)
+  -- and was hung up behind all that passed
+  pub is_hung_up_last : (old : L) (last : LinkView) (l : L) → last.hung_up ≡ (tells old).hung_up → (tells l).hung_up ≡ true → (tells l ≡ last) ⊎ IsHungUpBehind tells hung_up_at last l → IsHungUpLast tells hung_up_at old l
+  is_hung_up_last old last l still up ends = λ unhung.
+      ⊎_elim (λ (is : tells l ≡ last). let same : (tells l).hung_up ≡ false = ap (λ (v : LinkView). v.hung_up) is ∙ (still ∙ unhung) in absurd (false≢true (sym same ∙ up)))
+      (λ (was : IsHungUpBehind tells hung_up_at last l).
+      subst (λ (v : LinkView). hung_up_at l v) (sym (ap (λ v. flagged v false) was.same ∙ same_flag last false (still ∙ unhung))) was.behind) ends
 
 -- a link's conversation, of the parts of its voice
-pub ran_as : (c d : ℕ → Bool) (ts us : List Turn) (k l m n : LinkView) (r : Option (List ℕ)) (unread : Option (List ℕ)) (xs : List Saying)
-    → d ≡ c → us ≡ ts → l ≡ k → r ≡ Some [] → n ≡ m → LinkRan c ts (wire_with k r) xs (wire_with m unread) → LinkRan d us (new_wire l) xs (wire_with n unread)
-ran_as c d ts us k l m n r unread xs closes turns link reader end h =
-    subst (λ (z : ℕ → Bool). LinkRan z us (new_wire l) xs (wire_with n unread)) (sym closes)
-    (subst (λ (z : List Turn). LinkRan c z (new_wire l) xs (wire_with n unread)) (sym turns)
-    (subst (λ (z : LinkView). LinkRan c ts (new_wire z) xs (wire_with n unread)) (sym link)
-    (subst (λ (z : LinkView). LinkRan c ts (new_wire k) xs (wire_with z unread)) (sym end)
-    (subst (λ (z : Option (List ℕ)). LinkRan c ts (wire_with k z) xs (wire_with m unread)) reader h))))
+pub ran_as : (c d : ℕ → Bool) (ts us : List Turn) (k l : LinkView) (r : Option (List ℕ)) (new : WireView) (xs : List Saying)
+    → d ≡ c → us ≡ ts → l ≡ k → r ≡ Some [] → LinkRan c ts (wire_with k r) xs new → LinkRan d us (new_wire l) xs new
+ran_as c d ts us k l r new xs closes turns link reader h =
+    subst (λ (z : ℕ → Bool). LinkRan z us (new_wire l) xs new) (sym closes)
+    (subst (λ (z : List Turn). LinkRan c z (new_wire l) xs new) (sym turns)
+    (subst (λ (z : LinkView). LinkRan c ts (new_wire z) xs new) (sym link)
+    (subst (λ (z : Option (List ℕ)). LinkRan c ts (wire_with k z) xs new) reader h)))
 
-module _ {L G : Type 0} (tells : L → LinkView) (closes : G → Sender → ℕ → Bool) (has_let : G → Sender → ℕ → Type 0) (gate : G) (sender : Sender) (link : L) (turns : Vec Turn) (voice : LinkVoice L G) where
+module _ {L G : Type 0} (tells : L → LinkView) (hung_up_at : L → LinkView → Type 0) (closes : G → Sender → ℕ → Bool) (has_let : G → Sender → ℕ → Type 0) (gate : G) (sender : Sender) (link : L) (turns : Vec Turn) (voice : LinkVoice L G) where
   pub voice_ready : IsVoiceOf gate sender link turns voice → (tells link).downs + 1 < 2 ^ 64 → IsReady tells voice
   voice_ready is count = record { count = subst (λ (l : L). (tells l).downs + 1 < 2 ^ 64) (sym is.link) count; reader = is.reader; held = is.held; posted = is.posted }
 
   -- a link's conversation, of the link and its turns
-  pub voice_ran : (conversation : List Saying) (spoken : LinkVoice L G) (new : L) → IsVoiceOf gate sender link turns voice
-      → Runs tells closes has_let voice conversation spoken → new ≡ spoken.wire.link
-      → LinkRan (closes gate sender) turns.items (new_wire (tells link)) conversation (wire_with (tells new) (unread_in spoken.wire.reader spoken.wire.held))
-  voice_ran conversation spoken new is h same =
-      ran_as (closes voice.guard.gate.now voice.guard.link) (closes gate sender) voice.turns.items turns.items (tells voice.wire.link) (tells link) (tells spoken.wire.link) (tells new) (unread_in voice.wire.reader voice.wire.held) (unread_in spoken.wire.reader spoken.wire.held) conversation
-      (sym (ap (λ g. closes g voice.guard.link) is.gate ∙ ap (λ s. closes gate s) is.sender)) (ap (λ (v : Vec Turn). v.items) (sym is.turns)) (ap tells (sym is.link)) (ap (λ r. unread_in r voice.wire.held) is.reader ∙ ap (λ h. unread_in (Some []) h) is.held) (ap tells same) h.0
+  pub voice_ran : (conversation : List Saying) (spoken : LinkVoice L G) → IsVoiceOf gate sender link turns voice → (h : Runs tells hung_up_at closes has_let voice conversation spoken)
+      → LinkRan (closes gate sender) turns.items (new_wire (tells link)) conversation (wire_with h.last (unread_in spoken.wire.reader spoken.wire.held))
+  voice_ran conversation spoken is h =
+      ran_as (closes voice.guard.gate.now voice.guard.link) (closes gate sender) voice.turns.items turns.items (tells voice.wire.link) (tells link) (unread_in voice.wire.reader voice.wire.held) (wire_with h.last (unread_in spoken.wire.reader spoken.wire.held)) conversation
+      (sym (ap (λ g. closes g voice.guard.link) is.gate ∙ ap (λ s. closes gate s) is.sender)) (ap (λ (v : Vec Turn). v.items) (sym is.turns)) (ap tells (sym is.link)) (ap (λ r. unread_in r voice.wire.held) is.reader ∙ ap (λ h. unread_in (Some []) h) is.held) h.ran
 
-  -- and its gate has let its records pass
-  pub voice_let : (conversation : List Saying) (spoken : LinkVoice L G) → IsVoiceOf gate sender link turns voice → Runs tells closes has_let voice conversation spoken → AreLetPass (has_let gate sender) conversation
+  -- its gate has let its records pass
+  pub voice_let : (conversation : List Saying) (spoken : LinkVoice L G) → IsVoiceOf gate sender link turns voice → Runs tells hung_up_at closes has_let voice conversation spoken → AreLetPass (has_let gate sender) conversation
   voice_let conversation spoken is h =
-      subst (λ (z : G). AreLetPass (has_let z sender) conversation) is.gate (subst (λ (z : Sender). AreLetPass (has_let voice.guard.gate.now z) conversation) is.sender h.1)
+      subst (λ (z : G). AreLetPass (has_let z sender) conversation) is.gate (subst (λ (z : Sender). AreLetPass (has_let voice.guard.gate.now z) conversation) is.sender h.let_pass)
+
+  -- it is what it was behind that, but that it was hung up
+  pub voice_hung_up : (conversation : List Saying) (spoken : LinkVoice L G) (new : L) (h : Runs tells hung_up_at closes has_let voice conversation spoken) → HasHungUp tells spoken → new ≡ spoken.wire.link → tells new ≡ with_hang_up h.last
+  voice_hung_up conversation spoken new h up same = ap tells same ∙ is_hung_up tells hung_up_at h.last spoken.wire.link up h.ends
+
+  pub voice_last : (conversation : List Saying) (spoken : LinkVoice L G) (new : L) → IsVoiceOf gate sender link turns voice → Runs tells hung_up_at closes has_let voice conversation spoken → HasHungUp tells spoken → new ≡ spoken.wire.link
+      → IsHungUpLast tells hung_up_at link new
+  voice_last conversation spoken new is h up same =
+      subst (λ (l : L). IsHungUpLast tells hung_up_at link l) (sym same)
+      (is_hung_up_last tells hung_up_at link h.last spoken.wire.link
+      (ran_up (closes gate sender) turns.items (new_wire (tells link)) conversation (wire_with h.last (unread_in spoken.wire.reader spoken.wire.held)) (voice_ran conversation spoken is h)) up h.ends)
 
 -- what a link's thread comes to
-pub said_turns : {L G R : Type 0} (tells : L → LinkView) (closes : G → Sender → ℕ → Bool) (has_let : G → Sender → ℕ → Type 0) (gate : G) (turns : Vec Turn) (old : LinkParts L R) (speaker : LinkVoice L G) (voice : Voice (LinkVoice L G) Event (Result Reply Refusal) R) (end : LinkEnd L R)
-    → IsVoiceOf gate old.post.sender old.link turns speaker → HasSpoken (Runs tells closes has_let) speaker voice
+pub said_turns : {L G R : Type 0} (tells : L → LinkView) (hung_up_at : L → LinkView → Type 0) (closes : G → Sender → ℕ → Bool) (has_let : G → Sender → ℕ → Type 0) (gate : G) (turns : Vec Turn) (old : LinkParts L R) (speaker : LinkVoice L G) (voice : Voice (LinkVoice L G) Event (Result Reply Refusal) R) (end : LinkEnd L R)
+    → IsVoiceOf gate old.post.sender old.link turns speaker → HasSpoken (Runs tells hung_up_at closes has_let) speaker voice → HasHungUp tells voice.speaker
     → end.post ≡ voice.talk.post → end.tap ≡ voice.talk.tap → end.replies ≡ voice.talk.replies → end.link ≡ voice.speaker.wire.link → SaidTurns tells (closes gate old.post.sender) (has_let gate old.post.sender) turns.items old end
-said_turns tells closes has_let gate turns old speaker voice end is h post tap replies link = record {
+said_turns tells hung_up_at closes has_let gate turns old speaker voice end is h up post tap replies link = record {
   conversation = h.conversation;
   unread = unread_in voice.speaker.wire.reader voice.speaker.wire.held;
-  ran = voice_ran tells closes has_let gate old.post.sender old.link turns speaker h.conversation voice.speaker end.link is h.spoke link;
-  let_pass = voice_let tells closes has_let gate old.post.sender old.link turns speaker h.conversation voice.speaker is h.spoke;
+  last = h.spoke.last;
+  ran = voice_ran tells hung_up_at closes has_let gate old.post.sender old.link turns speaker h.conversation voice.speaker is h.spoke;
+  hangs_up = voice_hung_up tells hung_up_at closes has_let gate old.post.sender old.link turns speaker h.conversation voice.speaker end.link h.spoke up link;
+  let_pass = voice_let tells hung_up_at closes has_let gate old.post.sender old.link turns speaker h.conversation voice.speaker is h.spoke;
   sent = ap (λ (p : PostView Event). p.sent) post ∙ h.sent;
   rest = h.rest;
   passed = ap (λ (e : TapEnd (Result Reply Refusal)). e.passed) tap ∙ h.passed;

@@ -57,7 +57,7 @@ module _ {R : Type 0} (closes : ℕ → Bool) (t : Turn) (xs : List Saying) (tal
       refused may letter comes.0 at h count (subst (λ (a : Result Reply Refusal). Says talk (said letter a ∷ []) talk') comes.1 says) (on ∙ ap (λ a. advanced p a) comes.1) comes.2
   steps_unsaid may letter answer NotSent at h count says on comes = (
     said letter answer ∷ [],
-    orderly-append t [] xs (said letter answer) at.orderly h.0 h.1 comes.0,
+    record { before = xs; last = said letter answer; all = refl; orderly = orderly-append t [] xs (said letter answer) at.orderly h.0 h.1 comes.0; frame = comes.1.0; gives = comes.1.1 },
     says,
     ([], comes.1.0, append-nil (answer_frame answer) ∙ comes.1.1, down_on wire mid wire' (letter_frame letter) [] [] [] h.2 comes.1.2),
     counts (said letter answer) count,

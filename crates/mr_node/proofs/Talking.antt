@@ -88,7 +88,7 @@ stops_on : (may : Bool) (t : Turn) (a b c : WireView) (read more given further :
 stops_on may t a b c read more given further Refused h k = well_on a b c read more given further h k
 stops_on may t a b c read more given further NotSent h k =
     (given ++ k.0, k.1, ap (λ l. given ++ l) k.2 ∙ sym (append_assoc given k.0 (k.1 ∷ [])), down_on a b c read more given k.0 h k.3)
-stops_on may t a b c read more given further NotReceived h k = down_on a b c read more given further h k
+stops_on may t a b c read more given further NotReceived h k = (down_on a b c read more given further h k.0, k.1)
 stops_on may t a b c read more given further BadFrame h k =
     ⊎_elim (λ bad. inl (spoilt_on a b c read more given further h bad))
     (λ wrong. inr (wrong.0, wrong.1, subst (λ (l : List Frame). PassesWell a l (given ++ further) c) (sym (append_assoc read more (wrong.0 ∷ []))) (well_on a b c read (more ++ wrong.0 ∷ []) given further h wrong.2))) k

@@ -3,7 +3,6 @@ pub mod CoreRun
 pub mod Saying
 pub mod Turn
 pub mod Stop
-pub mod Voice
 pub mod Thread
 pub mod Node
 pub mod Rows

@@ -6,7 +6,7 @@ use Rattle.mr_model.specs.Headline.{Cards}
 use Rattle.mr_feed.specs.declared.entry.Entry.{Entry}
 use Rattle.mr_lane.specs.declared.note.Sender.{Sender}
 use Rattle.mr_lane.specs.declared.note.Sender.TheVariants.{User, FirstLink, SecondLink}
-use Rattle.mr_link.specs.Link.{LinkView}
+use Rattle.mr_link.specs.Link.{LinkView, with_hang_up}
 use Rattle.mr_link.specs.Wire.{new_wire}
 use Rattle.mr_replica.specs.State.{State}
 use Rattle.mr_replica.specs.Step.{Steps}
@@ -26,10 +26,12 @@ use Rattle.mr_node.specs.declared.node.NodeEnd.{NodeEnd}
 use Rattle.mr_node.specs.declared.node.NodeFault.{NodeFault}
 use Rattle.mr_node.specs.declared.node.NodeFault.TheVariants.{OutOfMemory, NoCapacity}
 
--- The link had this conversation in its turns, and the gate has let each record pass. What it tells in the end is what passed over it.
+-- The link had this conversation in its turns, and the gate has let each record pass. What it told last is what passed over it, and then it was hung up.
 pub record HadTurns {L : Type 0} (tells : L → LinkView) (closes : ℕ → Bool) (has_let : ℕ → Type 0) (old : LinkTurns L) (conversation : List Saying) (new : L) : Type 0 where
   pub unread : Option (List ℕ)
-  pub ran : LinkRan closes old.turns.items (new_wire (tells old.link)) conversation (record { link = tells new; unread = unread })
+  pub last : LinkView
+  pub ran : LinkRan closes old.turns.items (new_wire (tells old.link)) conversation (record { link = last; unread = unread })
+  pub hangs_up : tells new ≡ with_hang_up last
   pub let_pass : AreLetPass has_let conversation
 
 -- the subscriber shows the fold of these entries, and has applied all of them

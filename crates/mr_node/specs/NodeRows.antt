@@ -6,7 +6,7 @@ use Rattle.std.specs.Global.{Vec}
 use Rattle.mr_feed.specs.declared.entry.Entry.{Entry}
 use Rattle.mr_lane.specs.declared.note.Sender.{Sender}
 use Rattle.mr_lane.specs.declared.note.Sender.TheVariants.{User, FirstLink}
-use Rattle.mr_link.specs.Link.{LinkView}
+use Rattle.mr_link.specs.Link.{LinkView, with_hang_up}
 use Rattle.mr_link.specs.Wire.{new_wire}
 use Rattle.mr_replica.specs.declared.event.Event.{Event}
 use Rattle.mr_replica.specs.declared.event.Event.TheVariants.{Retire, Pull, Receive}
@@ -55,10 +55,11 @@ asked_for_each f passed = passed 0 (lit< tt)
 pub asked_by_number : (f : Frame) → ¬ AreLetPass (λ n. n ≡ 1) (said (Receive f) (Ok Took) ∷ said (Receive f) (Ok Took) ∷ [])
 asked_by_number f passed = absurd (omega (arith, passed 1 (lit< tt)))
 
--- a link without turns says nothing, and is as it was
-pub says_nothing : (turns : Vec Turn) → turns.items ≡ [] → HadTurns (λ l. l) (open_gate FirstLink) (unasked FirstLink) (without_turns turns) [] unused
+-- a link without turns says nothing, and is as it was, but that it is hung up
+pub says_nothing : (turns : Vec Turn) → turns.items ≡ [] → HadTurns (λ l. l) (open_gate FirstLink) (unasked FirstLink) (without_turns turns) [] (with_hang_up unused)
 says_nothing turns none = record {
   unread = Some [];
+  last = unused;
   ran = subst (λ (ts : List Turn). LinkRan (λ _. false) ts (new_wire unused) [] (new_wire unused)) (sym none) (inl (record {
     are_whole = refl;
     passes = record {
@@ -66,8 +67,10 @@ says_nothing turns none = record {
       passes = record { received_bytes = []; received = refl; read_frames = refl; sent_bytes = []; sent = refl; sent_frames = refl };
       unread = refl;
       downs = refl;
+      up = refl;
     };
   }));
+  hangs_up = refl;
   let_pass = λ n below. absurd (omega (arith, below));
 }
 
@@ -92,7 +95,7 @@ end_of n heard unheard took = record {
 
 -- The user says one letter to a machine that has counted five: it has counted six, and the user has its reply.
 pub one_letter : (events : Vec Event) (turns : Vec Turn) (heard unheard : Vec (Result Reply Refusal)) (took : Vec Entry) → events.items ≡ Retire ∷ [] → turns.items ≡ [] → heard.items ≡ Ok Done ∷ [] → unheard.items ≡ [] → took.items ≡ []
-    → NodeRan Counts (λ n. []) (λ l. l) (λ l. l) open_gate unasked (parts_of 5 events turns) (end_of 6 heard unheard took) unused unused
+    → NodeRan Counts (λ n. []) (λ l. l) (λ l. l) open_gate unasked (parts_of 5 events turns) (end_of 6 heard unheard took) (with_hang_up unused) (with_hang_up unused)
 one_letter events turns heard unheard took says quiet hears silent none = record {
   exchanges = exchange User Retire (Ok Done) ∷ [];
   replays = (6, (refl, refl), refl);

@@ -1,5 +1,5 @@
 -- worked rows: what the definitions give for small conversations
-use Rattle.std.specs.Prelude.{◌≡◌, ◌==◌, ℕ, true, false, List, [], ◌∷◌, length, map, Ok, Err, refl}
+use Rattle.std.specs.Prelude.{◌≡◌, ◌==◌, ◌++◌, ℕ, true, false, List, [], ◌∷◌, length, map, Ok, Err, refl}
 use Rattle.std.proofs.Common.{ap, sym, ◌∙◌}
 use Rattle.std.specs.Global.{Vec}
 use Rattle.mr_version.specs.Name.{Name}
@@ -13,10 +13,11 @@ use Rattle.mr_replica.specs.declared.event.Reply.TheVariants.{Asked, Streaming, 
 use Rattle.mr_replica.specs.declared.refusal.Refusal.{Refusal}
 use Rattle.mr_threads.specs.Exchange.{said}
 use Rattle.mr_threads.specs.inner.Exchange.{exchange}
-use Rattle.mr_node.specs.Saying.{Saying, frames_read, frames_given, receives}
-use Rattle.mr_node.specs.Turn.{SaysNext, is_done, is_reading, reads, IsWhole, cut_behind}
+use Rattle.mr_node.specs.Saying.{Saying, answer_frame, frames_read, frames_given, receives}
+use Rattle.mr_node.specs.Turn.{SaysNext, is_done, is_reading, reads, IsWhole, IsCutShort, cut_behind}
 use Rattle.mr_node.specs.inner.Turn.{progress_of}
 use Rattle.mr_node.specs.declared.turn.Turn.TheVariants as turn
+use Rattle.mr_node.specs.declared.turn.Stop.TheVariants.{NotSent}
 use Rattle.mr_node.specs.declared.progress.Opened.{Opened}
 use Rattle.mr_node.specs.declared.progress.Opened.TheVariants.{Session, Stream}
 use Rattle.mr_lane.specs.declared.note.Sender.TheVariants.{User, FirstLink}
@@ -69,6 +70,20 @@ refused_at_once e = refl
 -- a record that is refused leaves the session open
 pub refused_late : (ask : Question) (f : Frame) (e : Refusal) → cut_behind (said Pull (Ok (Asked ask)) ∷ said (Receive f) (Err e) ∷ []) ≡ CutIn ask.session ∷ []
 refused_late ask f e = refl
+
+-- where its request is not sent it has said no more
+pub unsent_request : (ask : Question) → IsCutShort turn.Pull (said Pull (Ok (Asked ask)) ∷ []) NotSent
+unsent_request ask = record { before = []; last = said Pull (Ok (Asked ask)); all = refl; orderly = (refl, refl, refl, tt); frame = frame.Ask ask; gives = refl }
+
+-- not a record that it took behind that
+pub none_behind_unsent : (ask : Question) (f : Frame) → ¬ IsCutShort turn.Pull (half_pull ask f) NotSent
+none_behind_unsent ask f h = cc (ap (λ (x : Saying). answer_frame x.answer) (last_is h.before h.last (said Pull (Ok (Asked ask))) (said (Receive f) (Ok Known)) h.all), h.gives)
+  where
+    last_is : (before : List Saying) (last x y : Saying) → x ∷ y ∷ [] ≡ before ++ last ∷ [] → last ≡ y
+    last_is [] last x y e = absurd (cc)
+    last_is (a ∷ []) last x y e = cc
+    last_is (a ∷ b ∷ []) last x y e = absurd (cc)
+    last_is (a ∷ b ∷ c ∷ before) last x y e = absurd (cc)
 
 -- it reads nothing before it has asked
 pub asks_first : (ask : Question) (f : Frame) → (is_reading turn.Pull [] ≡ false) × (is_reading turn.Pull (half_pull ask f) ≡ true)

@@ -1,6 +1,7 @@
 -- why a link stops, and what passed over it till then
 use Rattle.std.specs.Prelude.{◌≡◌, ◌+◌, ◌++◌, ◌⊎◌, ℕ, Bool, false, IsTrue, List, [], ◌∷◌}
 use Rattle.mr_wire.specs.declared.frame.Frame.{Frame}
+use Rattle.mr_frames.specs.Calls.{IsDrained}
 use Rattle.mr_link.specs.Wire.{WireView, PassesWell, GoesDown, IsSpoilt}
 use Rattle.mr_threads.specs.Exchange.{letters_said}
 use Rattle.mr_node.specs.Saying.{Saying, frames_read, frames_given, receives, HasLet}
@@ -10,11 +11,11 @@ use Rattle.mr_node.specs.declared.turn.Turn.TheVariants as turn
 use Rattle.mr_node.specs.declared.turn.Stop.{Stop}
 use Rattle.mr_node.specs.declared.turn.Stop.TheVariants.{Refused, NotSent, NotReceived, BadFrame, Shut}
 
--- The letters were made of the frames that were read, and their answers gave the frames that were sent. But the last of these was not sent where the link was down; and a frame more was read where the turn doesn't read such a frame, or where the gate, which may close here, did not let it pass.
+-- The letters were made of the frames that were read, and their answers gave the frames that were sent. But the last of these was not sent where the link was down; no whole frame was left unread where none came; and a frame more was read where the turn doesn't read such a frame, or where the gate, which may close here, did not let it pass.
 abbrev pub Stops : (may_close : Bool) → Turn → WireView → (read given : List Frame) → Stop → WireView → Type 0
 Stops may_close t old read given Refused new = PassesWell old read given new
 Stops may_close t old read given NotSent new = (gone : List Frame) × (last : Frame) × (given ≡ gone ++ last ∷ []) × GoesDown old read gone new
-Stops may_close t old read given NotReceived new = GoesDown old read given new
+Stops may_close t old read given NotReceived new = GoesDown old read given new × IsDrained new.unread
 Stops may_close t old read given BadFrame new = IsSpoilt old read given new ⊎ ((f : Frame) × (reads t f ≡ false) × PassesWell old (read ++ f ∷ []) given new)
 Stops may_close t old read given Shut new = (t ≡ turn.Pull) × IsTrue may_close × ((f : Frame) × PassesWell old (read ++ f ∷ []) given new)
 

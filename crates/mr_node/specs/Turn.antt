@@ -10,7 +10,7 @@ use Rattle.mr_replica.specs.declared.event.Event.{Event}
 use Rattle.mr_replica.specs.declared.event.Event.TheVariants.{Pull, Receive, Answer, Next, Vouch, Release}
 use Rattle.mr_replica.specs.declared.refusal.Refusal.{Refusal}
 use Rattle.mr_threads.specs.Exchange.{said}
-use Rattle.mr_node.specs.Saying.{Saying, are_over, opened_by, opened_behind, cut_of}
+use Rattle.mr_node.specs.Saying.{Saying, answer_frame, are_over, opened_by, opened_behind, cut_of}
 use Rattle.mr_node.specs.declared.turn.Turn.{Turn}
 use Rattle.mr_node.specs.declared.turn.Turn.TheVariants as turn
 use Rattle.mr_node.specs.declared.turn.Stop.{Stop}
@@ -81,6 +81,15 @@ pub record IsRefusedLast (t : Turn) (xs : List Saying) : Type 0 where
   pub undone : is_done t before ≡ false
   pub next : SaysNext t before letter
 
+-- the last letter's answer gave a frame, which is the one that was not sent
+pub record IsUnsentLast (t : Turn) (xs : List Saying) : Type 0 where
+  pub before : List Saying
+  pub last : Saying
+  pub all : xs ≡ before ++ last ∷ []
+  pub orderly : IsOrderly t [] xs
+  pub frame : Frame
+  pub gives : answer_frame last.answer ≡ frame ∷ []
+
 -- the turn had to read a frame
 pub record IsReading (t : Turn) (xs : List Saying) : Type 0 where
   pub orderly : IsOrderly t [] xs
@@ -90,7 +99,7 @@ pub record IsReading (t : Turn) (xs : List Saying) : Type 0 where
 -- what a turn has said as it stops for this reason
 abbrev pub IsCutShort : Turn → List Saying → Stop → Type 0
 IsCutShort t xs Refused = IsRefusedLast t xs
-IsCutShort t xs NotSent = IsOrderly t [] xs
+IsCutShort t xs NotSent = IsUnsentLast t xs
 IsCutShort t xs NotReceived = IsReading t xs
 IsCutShort t xs BadFrame = IsReading t xs
 IsCutShort t xs Shut = IsReading t xs

@@ -26,7 +26,6 @@ mod turn;
 mod turning;
 
 pub use link_thread::{LinkEnd, LinkParts, run_link};
-pub use link_voice::LinkVoice;
 pub use machine_node::run_machine_node;
 pub use node::{LinkTurns, NodeEnd, NodeFault, NodeParts, NodeReplies, NodeTaken, run_node};
 pub use progress::Opened;

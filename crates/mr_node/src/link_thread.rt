@@ -1,7 +1,7 @@
 //! A link's thread.
 ghost use Rattle.std.specs.Prelude.{◌≡◌, ◌<◌, ◌+◌, ◌^◌, [], true, IsTrue};
 ghost use Rattle.mr_threads.specs.Outfit.{IsNewPost};
-ghost use Rattle.mr_node.specs.Thread.{SaidTurns, SaidInTurn};
+ghost use Rattle.mr_node.specs.Thread.{SaidTurns, SaidInTurn, IsHungUpLast};
 
 use crate::link_voice::LinkVoice;
 use crate::replica_machine::Answer;
@@ -50,6 +50,7 @@ pub fn run_link<L: Link, G: Gate, R: Wait>(
     requires count { (L.tells parts.link).downs + 1 < 2 ^ 64 }
     ensures said { IsTrue result.whole → SaidTurns L.tells (G.closes gate.now parts.post.sender) (G.has_let gate.now parts.post.sender) turns.items parts result }
     ensures in_turn { SaidInTurn result }
+    ensures hung_up_last { IsTrue result.whole → IsHungUpLast L.tells L.hung_up_at parts.link result.link }
     ensures hung_up { (L.tells result.link).hung_up ≡ true }
     ensures post { result.post.id ≡ parts.post.id }
     ensures sender { result.post.sender ≡ parts.post.sender }

@@ -4,8 +4,7 @@ ghost use Rattle.mr_link.specs.Wire.{wire_of};
 ghost use Rattle.mr_threads.specs.Talk.{Says, SaysInPart, SameLanes};
 ghost use Rattle.mr_node.specs.Saying.{Saying};
 ghost use Rattle.mr_node.specs.Stop.{LinkRan, AreLetPass};
-ghost use Rattle.mr_node.specs.Voice.{HasHungUp, IsReady, Runs};
-ghost use Rattle.mr_node.specs.inner.Voice.{IsVoiceOf};
+ghost use Rattle.mr_node.specs.inner.Voice.{HasHungUp, IsReady, IsVoiceOf, Runs};
 
 use crate::guard::Guard;
 use crate::replica_machine::Answer;
@@ -21,9 +20,9 @@ use std::sync::Wait;
 /// A link that takes its turns: what it says to the replica of its node, where each letter may rest on what came over
 /// the link.
 #[derive(Drop)]
-pub struct LinkVoice<'g, L, G> {
+pub(crate) struct LinkVoice<'g, L, G> {
     alloc: Global,
-    pub(crate) wire: Wire<L>,
+    pub wire: Wire<L>,
     turns: Vec<Turn>,
     guard: Guard<'g, G>,
 }
@@ -64,7 +63,7 @@ impl<'g, L: Link, G: Gate> LinkVoice<'g, L, G> {
 impl<'g, L: Link, G: Gate> Speaker<Event, Answer> for LinkVoice<'g, L, G> {
     ghost is_ready = { IsReady L.tells };
 
-    ghost speaks = { Runs L.tells G.closes G.has_let };
+    ghost speaks = { Runs L.tells L.hung_up_at G.closes G.has_let };
 
     ghost has_hung_up = { HasHungUp L.tells };
 

@@ -2,6 +2,7 @@
 ghost use Rattle.std.specs.Prelude.{◌≡◌, ◌<◌, ◌+◌, ◌^◌, ◌⊎◌, ◌↔◌, true, IfOk, IfErr, Err};
 ghost use Rattle.mr_feed.specs.declared.port.TheConstants.{MAX_CAPACITY};
 ghost use Rattle.mr_node.specs.Node.{NodeRan};
+ghost use Rattle.mr_node.specs.Thread.{IsHungUpLast};
 
 use crate::node::{NodeEnd, NodeFault, NodeParts, run_parts};
 use crate::replica_machine::Answer;
@@ -35,6 +36,7 @@ pub fn run_machine_node<
     requires second_count { (M.tells parts.second_link.link).downs + 1 < 2 ^ 64 }
     ensures ran { IfOk result (λ r. NodeRan C.steps C.feed_of L.tells M.tells (G.closes gate.now) (G.has_let gate.now) parts r.0 r.1 r.2) }
     ensures hung_up { IfOk result (λ r. ((L.tells r.1).hung_up ≡ true) × ((M.tells r.2).hung_up ≡ true)) }
+    ensures hung_up_last { IfOk result (λ r. IsHungUpLast L.tells L.hung_up_at parts.first_link.link r.1 × IsHungUpLast M.tells M.hung_up_at parts.second_link.link r.2) }
     ensures capacity { IfOk result (λ r. r.0.capacity ≡ capacity) }
     ensures no_capacity { (result ≡ Err (NodeFault.NoCapacity parts)) ↔ ((capacity ≡ 0) ⊎ (MAX_CAPACITY < capacity)) }
     ensures fault { IfErr result (λ fault. (fault ≡ NodeFault.OutOfMemory) ⊎ (fault ≡ NodeFault.NoCapacity parts)) }

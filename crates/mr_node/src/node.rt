@@ -7,9 +7,10 @@ ghost use Rattle.mr_subs.specs.Unseen.{ListsUnseen};
 ghost use Rattle.mr_threads.specs.Letters.{SaysLetters};
 ghost use Rattle.mr_threads.specs.Roles.{RolesRan};
 ghost use Rattle.mr_threads.specs.Running.{HaveHungUp};
-ghost use Rattle.mr_node.specs.Voice.{HasHungUp, Runs};
 ghost use Rattle.mr_node.specs.Node.{NodeRan, ReplicaNodeRan, node_number};
+ghost use Rattle.mr_node.specs.Thread.{IsHungUpLast};
 ghost use Rattle.mr_node.specs.inner.Joining.{AreReady, AreRolesOf, IsEndOf};
+ghost use Rattle.mr_node.specs.inner.Voice.{HasHungUp, Runs};
 
 use crate::link_voice::LinkVoice;
 use crate::replica_machine::{Answer, ReplicaMachine};
@@ -140,6 +141,7 @@ pub fn run_node<
     requires second_count { (M.tells parts.second_link.link).downs + 1 < 2 ^ 64 }
     ensures ran { IfOk result (λ r. ReplicaNodeRan K.form L.tells M.tells (G.closes gate.now) (G.has_let gate.now) parts r.0 r.1 r.2) }
     ensures hung_up { IfOk result (λ r. ((L.tells r.1).hung_up ≡ true) × ((M.tells r.2).hung_up ≡ true)) }
+    ensures hung_up_last { IfOk result (λ r. IsHungUpLast L.tells L.hung_up_at parts.first_link.link r.1 × IsHungUpLast M.tells M.hung_up_at parts.second_link.link r.2) }
     ensures capacity { IfOk result (λ r. r.0.capacity ≡ capacity) }
     ensures no_capacity { (result ≡ Err (NodeFault.NoCapacity parts)) ↔ ((capacity ≡ 0) ⊎ (MAX_CAPACITY < capacity)) }
     ensures fault { IfErr result (λ fault. (fault ≡ NodeFault.OutOfMemory) ⊎ (fault ≡ NodeFault.NoCapacity parts)) }
@@ -208,6 +210,7 @@ pub(crate) fn run_parts<
     requires first_count { (L.tells parts.first_link.link).downs + 1 < 2 ^ 64 }
     requires second_count { (M.tells parts.second_link.link).downs + 1 < 2 ^ 64 }
     ensures hung_up { IfSome result (λ r. ((L.tells r.1).hung_up ≡ true) × ((M.tells r.2).hung_up ≡ true)) }
+    ensures hung_up_last { IfSome result (λ r. IsHungUpLast L.tells L.hung_up_at parts.first_link.link r.1 × IsHungUpLast M.tells M.hung_up_at parts.second_link.link r.2) }
     ensures capacity { IfSome result (λ r. r.0.capacity ≡ capacity) }
     ensures ran { IfSome result (λ r. NodeRan C.steps C.feed_of L.tells M.tells (G.closes gate.now) (G.has_let gate.now) parts r.0 r.1 r.2) }
 {
@@ -267,7 +270,7 @@ fn run_in_scope<
     capacity: usize,
 ) -> Option<NodeRolesEnd<'g, C, L, M, G>>
     requires { AreReady L.tells M.tells roles }
-    ensures ran { IfSome result (λ end. RolesRan C.steps C.feed_of SaysLetters (Runs L.tells G.closes G.has_let) (Runs M.tells G.closes G.has_let) HasCards ListsUnseen roles.entry end) }
+    ensures ran { IfSome result (λ end. RolesRan C.steps C.feed_of SaysLetters (Runs L.tells L.hung_up_at G.closes G.has_let) (Runs M.tells M.hung_up_at G.closes G.has_let) HasCards ListsUnseen roles.entry end) }
     ensures hung_up { IfSome result (λ end. HaveHungUp (λ _. Unit {0}) (HasHungUp L.tells) (HasHungUp M.tells) end.user.speaker end.first_link.speaker end.second_link.speaker) }
     ensures capacity { IfSome result (λ end. end.capacity ≡ capacity) }
 {
@@ -279,7 +282,7 @@ fn run_in_scope<
         |scope| -> Option<NodeRolesEnd<'_, C, L, M, G>>
             requires threads { IsSend C.row × IsSend L.row × IsSend M.row × IsSend R.row × IsSync G.row × IsSync R.row }
             requires ready { AreReady L.tells M.tells roles }
-            ensures ran { IfSome result (λ end. RolesRan C.steps C.feed_of SaysLetters (Runs L.tells G.closes G.has_let) (Runs M.tells G.closes G.has_let) HasCards ListsUnseen roles.entry end) }
+            ensures ran { IfSome result (λ end. RolesRan C.steps C.feed_of SaysLetters (Runs L.tells L.hung_up_at G.closes G.has_let) (Runs M.tells M.hung_up_at G.closes G.has_let) HasCards ListsUnseen roles.entry end) }
             ensures hung_up { IfSome result (λ end. HaveHungUp (λ _. Unit {0}) (HasHungUp L.tells) (HasHungUp M.tells) end.user.speaker end.first_link.speaker end.second_link.speaker) }
             ensures capacity { IfSome result (λ end. end.capacity ≡ capacity) }
         {

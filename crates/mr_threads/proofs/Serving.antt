@@ -16,8 +16,8 @@ use Rattle.mr_threads.specs.Lanes.{with_items}
 use Rattle.mr_threads.specs.declared.core_parts.Replies.{Replies}
 use Rattle.mr_threads.specs.declared.core_parts.Feeds.{Feeds}
 use Rattle.mr_threads.specs.declared.core_parts.Core.{Core}
-use Rattle.mr_threads.specs.Core.{GivesAnswers, TellsBoth, TellsPart, ServesPart, RanShort, closed_replies, closed_feeds, letters_with_senders}
-use Rattle.mr_threads.specs.inner.Core.{GivesAnswer, Serves, Serving, ServingPart}
+use Rattle.mr_threads.specs.Core.{GivesAnswers, TellsBoth, TellsPart, Serves, ServesPart, RanShort, closed_replies, closed_feeds, letters_with_senders}
+use Rattle.mr_threads.specs.inner.Core.{GivesAnswer, Serving, ServingPart}
 
 -- ---- lists
 
@@ -91,16 +91,6 @@ tells-append old mid new xs ys h k = record {
   notifier = with_items-append _ _ _ _ _ h.notifier k.notifier;
 }
 
--- some entries, and then a part of others
-tells-part : {R : Type 0} (old mid new : Feeds R) (xs ys : List Entry) → TellsBoth old xs mid → TellsPart mid ys new → TellsPart old (xs ++ ys) new
-tells-part old mid new xs ys h k = record {
-  told = xs ++ k.told;
-  untold = k.untold;
-  left = k.left;
-  in_order = ap (λ l. xs ++ l) k.in_order ∙ sym (append_assoc xs k.told (k.untold ∷ k.left));
-  tells = tells-append old mid new xs k.told h k.tells;
-}
-
 -- the entries before one were told
 pub told_before : {R : Type 0} (old new : Feeds R) (all : List Entry) (n : ℕ) (entry : Entry) → n < length all → entry ≡ get_or all n entry
     → new.indexer ≡ with_items old.indexer (take n all) → new.notifier ≡ with_items old.notifier (take n all) → TellsPart old all new
@@ -120,15 +110,6 @@ module _ {M E A R : Type 0} (steps : M → E → A → M → Type 0) (feed_of : 
     entries = h.entries ++ k.entries;
     grows = k.grows ∙ (ap (λ l. l ++ k.entries) h.grows ∙ append_assoc (feed_of old.machine) h.entries k.entries);
     tells = tells-append old.feeds mid.feeds new.feeds h.entries k.entries h.tells k.tells;
-  }
-
-  serves-part : (old mid new : Core M E A R) (xs ys : List (Exchange E A)) → Serves steps feed_of old xs mid → ServesPart steps feed_of mid ys new → ServesPart steps feed_of old (xs ++ ys) new
-  serves-part old mid new xs ys h k = record {
-    replays = Replays-append steps old.machine mid.machine new.machine xs ys h.replays k.replays;
-    answers = gives-append old.replies mid.replies new.replies xs ys h.answers k.answers;
-    entries = h.entries ++ k.entries;
-    grows = k.grows ∙ (ap (λ l. l ++ k.entries) h.grows ∙ append_assoc (feed_of old.machine) h.entries k.entries);
-    tells = tells-part old.feeds mid.feeds new.feeds h.entries k.entries h.tells k.tells;
   }
 
   -- nothing is served as the desk has taken nothing
@@ -181,24 +162,37 @@ module _ {M E A R : Type 0} (steps : M → E → A → M → Type 0) (feed_of : 
       → mid.desk.taken ≡ core.desk.taken ++ record { sender = sender; piece = Item letter } ∷ [] → new.desk ≡ mid.desk
       → ServesPart steps feed_of mid (exchange sender letter answer ∷ []) new → ServingPart steps feed_of old new
   serving_part old core mid new sender letter answer h same_machine same_replies same_feeds taken same_desk one = record {
-    exchanges = h.exchanges ++ exchange sender letter answer ∷ [];
+    before = h.exchanges;
+    last = exchange sender letter answer;
     letters = letter_more core mid new h.exchanges sender letter answer h.letters taken same_desk;
-    serves = serves-part old mid new h.exchanges (exchange sender letter answer ∷ []) (served_at old core mid h.exchanges h.serves same_machine same_replies same_feeds) one;
+    between = mid;
+    served_before = served_at old core mid h.exchanges h.serves same_machine same_replies same_feeds;
+    serves = one;
   }
 
   -- all spouts were closed behind that, and the letters that came were dropped
   pub ran_short : (old mid new : Core M E A R) (more : List (Note E)) → ServingPart steps feed_of old mid → new.machine ≡ mid.machine
       → new.replies ≡ closed_replies mid.replies → new.feeds ≡ closed_feeds mid.feeds → new.desk.taken ≡ mid.desk.taken ++ more → RanShort steps feed_of old new
   ran_short old mid new more h machine replies feeds taken = record {
-    exchanges = h.exchanges;
+    exchanges = h.before ++ h.last ∷ [];
     unanswered = letters_in more;
     letters = ap letters_in taken ∙ (letters_in-append mid.desk.taken more ∙ ap (λ l. l ++ letters_in more) h.letters);
+    before = h.before;
+    last = h.last;
+    in_order = refl;
+    between = h.between;
+    served_before = h.served_before;
     served = mid;
     serves = h.serves;
     machine = machine;
     replies_closed = replies;
     feeds_closed = feeds;
   }
+
+  -- the machine of a core that ran short was led by all letters that were answered
+  pub replays_short : (old new : Core M E A R) (h : RanShort steps feed_of old new) → Replays steps old.machine h.exchanges h.served.machine
+  replays_short old new h = subst (λ xs. Replays steps old.machine xs h.served.machine) (sym h.in_order)
+      (Replays-append steps old.machine h.between.machine h.served.machine h.before (h.last ∷ []) h.served_before.replays h.serves.replays)
 
   -- the desk took an end mark more
   pub serving_mark : (old core new : Core M E A R) (sender : Sender) → Serving steps feed_of old core

@@ -1,8 +1,8 @@
 //! A sender's talk: it posts a letter at a time, and waits for its answer before the next.
-ghost use Rattle.std.specs.Prelude.{◌≡◌, ◌∷◌, ◌++◌, [], true, false, IsTrue, List, Some, OnOk, OnErr};
+ghost use Rattle.std.specs.Prelude.{◌≡◌, ◌∷◌, ◌++◌, [], true, false, IsTrue, List, Some, OnOk, OnErr, IfErr};
 ghost use Rattle.std.specs.Option.{option_copied};
 ghost use Rattle.mr_threads.specs.Exchange.{Said, said, letters_said};
-ghost use Rattle.mr_threads.specs.Talk.{Says, SaysInPart, SameLanes};
+ghost use Rattle.mr_threads.specs.Talk.{Says, SaysInPart, HaltsAt, HaltsAmong, SameLanes};
 ghost use Rattle.mr_threads.specs.inner.Talk.{HearsOut};
 
 use crate::lanes::{send, take};
@@ -35,6 +35,7 @@ impl<E: Drop, A: Drop, R: Wait> Talk<E, A, R> {
     pub fn say(&mut self, rt: &R, letter: E) -> Result<(), Halt>
         requires { self.old.post.finished ≡ false }
         ensures ok { OnOk result ((answer : A) × Says self.old (said letter answer ∷ []) self.new) }
+        ensures err { IfErr result (λ fault. HaltsAt self.old letter fault self.new) }
         ensures in_turn { OnErr result (SaysInPart self.old self.new) }
         ensures lanes { SameLanes self.old self.new }
     {
@@ -49,10 +50,11 @@ impl<E: Drop, A: Drop, R: Wait> Talk<E, A, R> {
         Ok(())
     }
 
-    /// Posts all letters, in order, each once the one before it was answered.
+    /// Posts all letters, in order, each once the one before it was answered. Where one can't be said, those behind it are left.
     pub fn say_all(&mut self, rt: &R, letters: Vec<E>) -> Result<(), Halt>
         requires { self.old.post.finished ≡ false }
         ensures ok { OnOk result ((xs : List (Said E A)) × (letters_said xs ≡ letters.items) × Says self.old xs self.new) }
+        ensures err { IfErr result (λ fault. HaltsAmong self.old letters.items fault self.new) }
         ensures in_turn { OnErr result (SaysInPart self.old self.new) }
         ensures lanes { SameLanes self.old self.new }
     {

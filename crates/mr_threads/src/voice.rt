@@ -1,4 +1,5 @@
 //! A sender's thread: it speaks, ends its talk, and hears the rest.
+ghost use Rattle.std.specs.Prelude.{◌≡◌, true};
 ghost use Rattle.mr_threads.specs.Ends.{VoiceRan};
 ghost use Rattle.mr_threads.specs.Talk.{IsNew, SpokeInTurn};
 
@@ -22,7 +23,7 @@ pub struct VoiceEnd<S, E, A, R> {
     pub whole: bool,
 }
 
-/// Speaks, finishes its post, hangs up, and takes replies until they are closed.
+/// Speaks, finishes its post, hangs up, and takes replies until they are closed, also where it could not say all.
 pub fn run_voice<E: Drop, A: Drop, S: Speaker<E, A>, R: Wait>(
     rt: &R,
     mut voice: Voice<S, E, A, R>,
@@ -31,6 +32,7 @@ pub fn run_voice<E: Drop, A: Drop, S: Speaker<E, A>, R: Wait>(
     requires new { IsNew voice.talk }
     ensures ran { VoiceRan S.speaks voice result }
     ensures in_turn { SpokeInTurn result.voice.talk }
+    ensures closed { result.voice.talk.tap.closed ≡ true }
     ensures hung_up { S.has_hung_up result.voice.speaker }
 {
     let said = voice.speaker.speak(rt, &mut voice.talk);

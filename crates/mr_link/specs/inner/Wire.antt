@@ -1,5 +1,5 @@
 -- what passes a link, piece by piece
-use Rattle.std.specs.Prelude.{◌≡◌, ℕ, [], Some, Result, Ok, Err}
+use Rattle.std.specs.Prelude.{◌≡◌, ℕ, [], Some, None, Result, Ok, Err}
 use Rattle.std.specs.Global.{Vec}
 use Rattle.mr_link.specs.declared.wire.Wire.{Wire}
 use Rattle.mr_link.specs.declared.snag.Snag.{Snag}
@@ -13,6 +13,11 @@ ReadsPiece old (Err LinkDown) new = GoesDown old [] [] new
 ReadsPiece old (Err OutOfMemory) new = PassesWell old [] [] new
 ReadsPiece old (Err BadFrame) new = ⊥
 ReadsPiece old (Err TooLong) new = ⊥
+
+-- the reader has what it had, and nothing is held
+pub record HandsNothing {L : Type 0} (old new : Wire L) : Type 0 where
+  pub reader : new.reader ≡ old.reader
+  pub held : new.held ≡ None
 
 -- the piece is behind what was unread
 pub record HandsOn {L : Type 0} (old : Wire L) (piece : Vec ℕ) (new : Wire L) : Type 0 where

@@ -10,8 +10,7 @@ use Rattle.mr_threads.specs.declared.roles.Roles.{Roles}
 use Rattle.mr_threads.specs.declared.roles.RolesEnd.{RolesEnd}
 use Rattle.mr_version.specs.Name.{Name}
 use Rattle.mr_mail.specs.Mail.{MailCard}
-use Rattle.mr_node.specs.Voice.{IsReady}
-use Rattle.mr_node.specs.inner.Voice.{IsVoiceOf}
+use Rattle.mr_node.specs.inner.Voice.{IsVoiceOf, IsReady}
 use Rattle.mr_node.specs.declared.link_voice.LinkVoice.{LinkVoice}
 use Rattle.mr_node.specs.declared.node.NodeParts.{NodeParts}
 use Rattle.mr_node.specs.declared.node.NodeEnd.{NodeEnd}
