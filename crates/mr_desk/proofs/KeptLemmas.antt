@@ -1,5 +1,5 @@
 -- events of a replica whose host writes
-use Rattle.std.proofs.Common.{◌≡◌, ◌++◌, ◌∷◌, [], ℕ, List, Option, None, Result, Ok, Err, refl, subst, sym, true, false, Bool}
+use Rattle.std.proofs.Common.{◌≡◌, ◌≢◌, ◌++◌, ◌∷◌, [], ℕ, List, Option, None, Result, Ok, Err, refl, subst, sym, true, false, Bool}
 use Rattle.mr_itemset.specs.Normal.{Normal}
 use Rattle.mr_itemset.specs.Sparing.{sparing_form}
 use Rattle.mr_kept.specs.Answered.{Answered, IsUnnoted, reply_by}
@@ -24,7 +24,7 @@ use Rattle.mr_desk.specs.declared.call.VersionNumbers.{VersionNumbers}
 use Rattle.mr_desk.specs.declared.fault.Fault.{Fault}
 use Rattle.mr_desk.specs.Asked.{call_fault, IsEventOf}
 use Rattle.mr_desk.specs.Fault.{of_hosted, of_kept}
-use Rattle.mr_desk.specs.KeptCommit.{Committed, KeptCommits, Uncommitted}
+use Rattle.mr_desk.specs.KeptCommit.{Committed, HasNoWay, KeptCommits, Uncommitted}
 use Rattle.mr_desk.specs.declared.reply.Told.{Told}
 use Rattle.mr_desk.specs.declared.reply.Told.TheVariants as told
 
@@ -109,9 +109,10 @@ module _ {V : Type 0} where
   pub committed : (old new : Hosted Normal V) (answer : Result (Unit {0}) HostedFault) → (is_settled old ≡ false → (answer ≡ unkept hosted.Unsettled) × (new ≡ old)) → answer ≡ Ok tt → Committed old new → KeptCommits old (Ok tt) new
   committed old new answer first is c = (settled-before old new answer first (λ un. subst IsUnsettled is un), c)
 
-  pub uncommitted : (old new : Hosted Normal V) (fault : HostedFault) → (is_settled old ≡ false → (unkept fault ≡ unkept hosted.Unsettled) × (new ≡ old)) → IsUnhanded old fault → Uncommitted old new → KeptCommits old (Err (of_hosted fault)) new
-  uncommitted old new hosted.Unsettled first why u = (why, (first why).1)
-  uncommitted old new (hosted.Kept kept.OutOfMemory) first why u = (why.0, u)
-  uncommitted old new (hosted.Kept (kept.Refused e)) first why u = absurd why.1
-  uncommitted old new (hosted.Kept kept.Failed) first why u = (why.0, u)
-  uncommitted old new (hosted.Kept kept.TooLarge) first why u = (why.0, why.1.1, u)
+  pub uncommitted : (old new : Hosted Normal V) (fault : HostedFault) → (is_settled old ≡ false → (unkept fault ≡ unkept hosted.Unsettled) × (new ≡ old)) → IsUnhanded old fault → (fault ≡ hosted.Kept kept.Failed → HasNoWay old new) → (fault ≢ hosted.Kept kept.Failed → new ≡ old) → Uncommitted old new
+      → KeptCommits old (Err (of_hosted fault)) new
+  uncommitted old new hosted.Unsettled first why cause same u = (why, (first why).1)
+  uncommitted old new (hosted.Kept kept.OutOfMemory) first why cause same u = (why.0, same (λ is. cc), u)
+  uncommitted old new (hosted.Kept (kept.Refused e)) first why cause same u = absurd why.1
+  uncommitted old new (hosted.Kept kept.Failed) first why cause same u = (why.0, cause refl, u)
+  uncommitted old new (hosted.Kept kept.TooLarge) first why cause same u = (why.0, why.1.1, same (λ is. cc), u)

@@ -12,9 +12,9 @@ use Rattle.mr_entry.specs.Head.{HeadParts}
 use Rattle.mr_entry.specs.Note.{NoteParts}
 use Rattle.mr_entry.specs.declared.entry.Entry.TheVariants as entry
 use Rattle.mr_journal.specs.Format.{StandAlike}
-use Rattle.mr_kept.specs.Beginning.{HasParts}
+use Rattle.mr_kept.specs.Beginning.{HasParts, IsBeginFault}
 use Rattle.mr_kept.specs.Kept.{IsKept, head_of, leaving, nothing_waits}
-use Rattle.mr_kept.specs.Opening.{Begins, IsOfPlace, Reopens}
+use Rattle.mr_kept.specs.Opening.{Begins, GoesOn, IsOfPlace, Reopens}
 use Rattle.mr_kept.specs.Refusing.{IsOpenFault}
 use Rattle.mr_kept.specs.Whole.{ComesBack, HasLog, HasLogOf, IsOfMachine}
 use Rattle.mr_kept.specs.declared.fault.OpenFault.{OpenFault}
@@ -56,14 +56,14 @@ pub record Unopened (file mark : List ℕ) (asked : Option (List ℕ)) (f : Open
   pub why : IsOpenFault sparing_form file mark asked f
   pub machine : (head : HeadParts) (s : State Normal) (ns : List NoteParts) → HasLogOf sparing_form file head s ns → IsOfPlace head mark asked → IsOfMachine f
 
--- why no replica is begun: the first of id, filter, lengths, limit; and then such as want of memory
+-- why no replica is begun: the first of id, filter, lengths, limit; and then why none is in an empty file, as want of memory
 abbrev pub IsUnbegun : (id : ℕ) (text : List ℕ) (event_limit : ℕ) (birth mark : List ℕ) → Fault → Type 0
 IsUnbegun id text event_limit birth mark (fault.Version f) = (f ≡ NoSuchAuthor) × ¬ (id < AUTHORS)
 IsUnbegun id text event_limit birth mark fault.NotText = (id < AUTHORS) × (is_utf8 text ≡ false)
 IsUnbegun id text event_limit birth mark (fault.Filter f) = (id < AUTHORS) × (is_utf8 text ≡ true) × IsFaultOf text f
 IsUnbegun id text event_limit birth mark fault.BadLength = (id < AUTHORS) × ((filter : List ClauseParts) × MeansFilter text filter) × ¬ AreLong birth mark
 IsUnbegun id text event_limit birth mark (fault.Replay f) = AreGiven id text birth mark × (f ≡ BadLimit) × ¬ IsLimit event_limit
-IsUnbegun id text event_limit birth mark (fault.Open f) = AreGiven id text birth mark × IsLimit event_limit
+IsUnbegun id text event_limit birth mark (fault.Open f) = IsLimit event_limit × ((parts : AreGiven id text birth mark) × IsBeginFault [] id parts.filter event_limit birth mark f)
 IsUnbegun id text event_limit birth mark fault.OutOfMemory = id < AUTHORS
 IsUnbegun id text event_limit birth mark f = ⊥
 
@@ -77,7 +77,7 @@ IsUnopened file mark birth f = ⊥
 module _ {V : Type 0} where
   module _ (id : ℕ) (text : List ℕ) (event_limit : ℕ) (birth mark : List ℕ) where
     -- A fresh replica of these, over a file that once the acts are done has its head. In whichever act the host is killed, the file has
-    -- nothing, no entry, or the head.
+    -- nothing, no entry, or a head.
     pub record Begun (h : Hosted Normal V) : Type 0 where
       pub parts : AreGiven id text birth mark
       pub limit_in : IsLimit event_limit
@@ -94,12 +94,14 @@ module _ {V : Type 0} where
     BeginsKept (Err f) = IsUnbegun id text event_limit birth mark f
 
   -- The file has the log of a replica and these notes, and what was open in that is closed once the acts are done. In whichever act the host is
-  -- killed, the file is as it was read, or again one that has the log of a replica, and the same notes.
+  -- killed, the file is as it was read, or has the same entries, with those that close what was open behind them or without: so again the log of
+  -- a replica, and the same notes.
   pub record Reopened (file mark : List ℕ) (asked : Option (List ℕ)) (h : Hosted Normal V) (notes : List NoteParts) : Type 0 where
     pub are_closed : Bool
     pub reopens : Reopens sparing_form file_of may_leave file are_closed notes (journaled_of h)
     pub place : IsOfPlace (head_of (journaled_of h)) mark asked
     pub whole : (head : HeadParts) (s : State Normal) (ns : List NoteParts) → HasLogOf sparing_form file head s ns → IsOfPlace head mark asked → ComesBack sparing_form s are_closed (inside h) × (notes ≡ ns)
+    pub any_moment : (c : List ℕ) → left_since (outbox_of h) 0 c → (c ≡ file) ⊎ GoesOn file c
     pub left : (head : HeadParts) (s : State Normal) (ns : List NoteParts) → HasLogOf sparing_form file head s ns → (c : List ℕ) → left_since (outbox_of h) 0 c → (c ≡ file) ⊎ HasLog sparing_form c head ns
     pub none_waits : (nothing_waits (journaled_of h) ≡ true) × (leaving (journaled_of h) ≡ [])
     pub new : IsNew h

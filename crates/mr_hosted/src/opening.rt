@@ -3,10 +3,10 @@ ghost use Rattle.std.specs.Prelude.{◌≡◌, ◌⊎◌, [], ◌∷◌, ℕ, Li
 ghost use Rattle.mr_entry.specs.Head.{HeadParts};
 ghost use Rattle.mr_entry.specs.Note.{NoteParts};
 ghost use Rattle.mr_entry.specs.declared.entry.Entry.TheVariants as entry;
-ghost use Rattle.mr_kept.specs.Beginning.{HasParts};
+ghost use Rattle.mr_kept.specs.Beginning.{HasParts, IsBeginFault};
 ghost use Rattle.mr_kept.specs.Kept.{IsKept, head_of, leaving, nothing_waits, replica_of};
 ghost use Rattle.mr_journal.specs.Format.{StandAlike};
-ghost use Rattle.mr_kept.specs.Opening.{Begins, IsOfPlace, Reopens};
+ghost use Rattle.mr_kept.specs.Opening.{Begins, GoesOn, IsOfPlace, Reopens};
 ghost use Rattle.mr_kept.specs.Refusing.{IsOpenFault};
 ghost use Rattle.mr_kept.specs.Whole.{ComesBack, HasLog, HasLogOf, IsOfMachine};
 ghost use Rattle.mr_outbox.specs.Outbox.{file_of, left_since, may_leave};
@@ -42,7 +42,8 @@ impl<K: Knowledge> Hosted<K> {
         ensures fresh { IfOk result (λ h. replica_of (journaled_of h) ≡ new_state setup.id setup.filter setup.event_limit (replica_of (journaled_of h)).knowledge) }
         ensures none_waits { IfOk result (λ h. (nothing_waits (journaled_of h) ≡ true) × (leaving (journaled_of h) ≡ [])) }
         ensures new { IfOk result IsNew }
-        // In whichever act the host is killed, the file has nothing, no entry, or the head.
+        ensures fault { IfErr result (IsBeginFault [] setup.id setup.filter setup.event_limit setup.birth setup.mark) }
+        // In whichever act the host is killed, the file has nothing, no entry, or a head.
         ensures left { IfOk result (λ h. (c : List ℕ) → left_since (outbox_of h) 0 c → (c ≡ []) ⊎ (StandAlike [] c ⊎ Begins [] c)) }
     {
         let outbox = Outbox::new(alloc, Vec::new(alloc));
@@ -67,7 +68,10 @@ impl<K: Knowledge> Hosted<K> {
         ensures whole { (head : HeadParts) (s : State K) (notes : List NoteParts) → HasLogOf K.form read.items head s notes → IsOfPlace head mark.now birth
             → MatchResult result (λ r. ComesBack K.form s r.1.are_closed (replica_of (journaled_of r.0)) × (r.1.notes.items ≡ notes)) (λ e. IsOfMachine e) }
         ensures place { IfOk result (λ r. IsOfPlace (head_of (journaled_of r.0)) mark.now birth) }
-        // In whichever act the host is killed, the file is as it was read, or again one that has the log of a replica, and the same notes.
+        // In whichever act the host is killed, the file is as it was read, or has the same entries, with those that close what was open
+        // behind them or without.
+        ensures any_moment { IfOk result (λ r. (c : List ℕ) → left_since (outbox_of r.0) 0 c → (c ≡ read.items) ⊎ GoesOn read.items c) }
+        // So it is as it was read, or again one that has the log of a replica, and the same notes.
         ensures left { (head : HeadParts) (s : State K) (notes : List NoteParts) → HasLogOf K.form read.items head s notes
             → IfOk result (λ r. (c : List ℕ) → left_since (outbox_of r.0) 0 c → (c ≡ read.items) ⊎ HasLog K.form c head notes) }
         ensures none_waits { IfOk result (λ r. (nothing_waits (journaled_of r.0) ≡ true) × (leaving (journaled_of r.0) ≡ [])) }

@@ -1,10 +1,12 @@
 -- one more act behind others
-use Rattle.std.proofs.Common.{◌≡◌, ◌⊎◌, inl, inr, ⊎_elim, ℕ, ◌+◌, ◌-◌, ◌<◌, ◌≤◌, List, [], ◌∷◌, ◌++◌, length, take, drop, get_or, refl, sym, ap, subst, ◌∙◌, arith, length-append, length-drop}
-use Rattle.std.proofs.lemmas.Bool.{cases_lt}
+use Rattle.std.proofs.Common.{◌≡◌, ◌⊎◌, ◌&&◌, true, inl, inr, ⊎_elim, ℕ, ◌+◌, ◌-◌, ◌<◌, ◌≤◌, List, [], ◌∷◌, ◌++◌, length, take, drop, get_or, refl, sym, ap, subst, ◌∙◌, arith, length-append, length-drop}
+use Rattle.std.proofs.lemmas.Bool.{and_parts, cases_lt}
 use Rattle.std.proofs.lemmas.List.{take_all, get_or-take, get_or-drop, get_or_append_left, get_or-append_right, length-take, length-take-le, take-append-le}
+use Rattle.std.proofs.lemmas.List.Folds.{list_all-append}
+use Rattle.std.specs.List.{list_all}
 use Rattle.std.specs.Prelude.{min, Result, Ok, Err, OnOk, OnErr}
 use Rattle.mr_journal.specs.Device.{Cut, IsOldOrWritten, Only, Passes, Torn, overwritten}
-use Rattle.mr_outbox.specs.Acts.{LeftBy, LeftByAll, LeftSince, MayLeave, all_done, done, only_now}
+use Rattle.mr_outbox.specs.Acts.{AreSyncs, LeftBy, LeftByAll, LeftSince, MayLeave, all_done, done, is_sync, only_now}
 use Rattle.mr_outbox.specs.declared.act.Act.{Act}
 use Rattle.mr_outbox.specs.declared.act.Act.TheVariants as act
 
@@ -15,6 +17,12 @@ all_done-append file (x ∷ acts) a = all_done-append (done file x) acts a
 
 pub after : (file : List ℕ) (acts later : List Act) (a : Act) → later ≡ acts ++ a ∷ [] → all_done file later ≡ done (all_done file acts) a
 after file acts later a is = ap (λ (l : List Act). all_done file l) is ∙ all_done-append file acts a
+
+-- with one more act all are syncs only where it is one, and those before it are
+pub all_syncs : (acts later : List Act) (a : Act) → later ≡ acts ++ a ∷ [] → AreSyncs later → AreSyncs acts × (is_sync a ≡ true)
+all_syncs acts later a is syncs =
+    let both = and_parts (list_all is_sync acts) (is_sync a && true) (sym (ap (λ (l : List Act). list_all is_sync l) is ∙ list_all-append is_sync acts (a ∷ [])) ∙ syncs) in
+    (both.0, (and_parts (is_sync a) true both.1).0)
 
 -- what one more act leaves of what those before it left
 splits : (file : List ℕ) (before : List ℕ → Type 0) (acts : List Act) (a : Act) (c : List ℕ) → LeftByAll file before (acts ++ a ∷ []) c → LeftBy (all_done file acts) a (LeftByAll file before acts) c
@@ -110,6 +118,10 @@ module _ {T E : Type 0} (file : List ℕ) (acts later : List Act) where
   pub same_file : (r : Result T E) → OnOk r (later ≡ acts ++ act.Sync ∷ []) → OnErr r (later ≡ acts) → all_done file later ≡ all_done file acts
   same_file (Ok _) is none = after file acts later act.Sync is
   same_file (Err _) none is = ap (λ (l : List Act). all_done file l) is
+
+  pub syncs_before : (r : Result T E) → OnOk r (later ≡ acts ++ act.Sync ∷ []) → OnErr r (later ≡ acts) → AreSyncs later → AreSyncs acts
+  syncs_before (Ok _) is none syncs = (all_syncs acts later act.Sync is syncs).0
+  syncs_before (Err _) none is syncs = subst (λ (l : List Act). AreSyncs l) is syncs
 
   pub durable : (r : Result T E) → OnOk r (later ≡ acts ++ act.Sync ∷ []) → OnOk r (Only (all_done file acts) (MayLeave file later))
   durable (Ok _) is = λ c left. left_by_sync file acts later c is left

@@ -1,5 +1,6 @@
 -- what acts make of a file, and what a crash leaves of them
-use Rattle.std.specs.Prelude.{◌≡◌, ◌≤◌, [], ◌∷◌, ℕ, List, length, take}
+use Rattle.std.specs.Prelude.{◌≡◌, ◌≤◌, [], ◌∷◌, ℕ, Bool, IsTrue, true, false, List, length, take}
+use Rattle.std.specs.List.{list_all}
 use Rattle.std.proofs.Common.{sym, subst, arith}
 use Rattle.std.proofs.lemmas.List.{take_all}
 use Rattle.mr_journal.specs.Device.{Cut, Torn, overwritten}
@@ -16,6 +17,22 @@ done file act.Sync = file
 abbrev pub all_done : List ℕ → List Act → List ℕ
 all_done file [] = file
 all_done file (a ∷ acts) = all_done (done file a) acts
+
+-- whether an act is a sync
+abbrev pub is_sync : Act → Bool
+is_sync (act.Write at bytes) = false
+is_sync (act.Cut len) = false
+is_sync act.Sync = true
+
+-- none of the acts writes or cuts
+abbrev pub AreSyncs : List Act → Type 0
+AreSyncs acts = IsTrue (list_all is_sync acts)
+
+-- an act writes these bytes at this place
+abbrev pub IsWrite : ℕ → List ℕ → Act → Type 0
+IsWrite place written (act.Write at bytes) = (at ≡ place) × (bytes.items ≡ written)
+IsWrite place written (act.Cut len) = ⊥
+IsWrite place written act.Sync = ⊥
 
 -- What a crash may leave once an act was begun, of what it might have left before: a write may be torn and a cut halfway, also when they are
 -- done; a sync that is done leaves the file as it is.

@@ -1,5 +1,5 @@
 -- what an outbox shows
-use Rattle.std.specs.Prelude.{ℕ, Bool, List, length}
+use Rattle.std.specs.Prelude.{◌≡◌, ◌++◌, ◌∷◌, [], ℕ, Bool, List, Result, Ok, Err, length}
 use Rattle.mr_outbox.specs.Acts.{LeftSince, MayLeave, all_done}
 use Rattle.mr_outbox.specs.declared.act.Act.{Act}
 use Rattle.mr_outbox.specs.declared.outbox.Outbox.{Outbox}
@@ -7,6 +7,11 @@ use Rattle.mr_outbox.specs.declared.outbox.Outbox.{Outbox}
 -- what the host has to do
 abbrev pub acts_of : Outbox → List Act
 acts_of outbox = outbox.acts.items
+
+-- Where a call answers, one act such as is meant is to be done behind those from before; where it fails, none.
+abbrev pub Notes : (IsMeant : Act → Type 0) → {T E : Type 0} → Result T E → (old new : Outbox) → Type 0
+Notes IsMeant (Ok _) old new = (a : Act) × IsMeant a × (acts_of new ≡ acts_of old ++ a ∷ [])
+Notes IsMeant (Err _) old new = acts_of new ≡ acts_of old
 
 -- the host's file once it has done all of it
 abbrev pub file_of : Outbox → List ℕ

@@ -1,7 +1,8 @@
 //! A device that notes what a host has to do.
-ghost use Rattle.std.specs.Prelude.{◌≡◌, ◌++◌, ◌∷◌, [], IsTrue, true, false, length, OnOk, OnErr};
-ghost use Rattle.mr_journal.specs.Device.{HasCause, Rests};
-ghost use Rattle.mr_outbox.specs.Acts.{LeftSince, MayLeave, all_done, now_counts, only_now};
+ghost use Rattle.std.specs.Prelude.{◌≡◌, ◌≤◌, ◌+◌, ◌++◌, ◌∷◌, [], IsTrue, true, false, length, take, drop, IfOk, IsOk, OnOk, OnErr};
+ghost use Rattle.mr_journal.specs.Device.{Cut, Follows, HasCause, IsUntouched, Only, Passes, Rests, Torn, overwritten};
+ghost use Rattle.mr_outbox.specs.Acts.{AreSyncs, IsWrite, LeftSince, MayLeave, all_done, now_counts, only_now};
+ghost use Rattle.mr_outbox.specs.declared.act.Act.TheVariants as act;
 
 use crate::act::Act;
 use mr_journal::{Device, DeviceFailed};
@@ -24,6 +25,7 @@ pub struct Outbox {
     failed: bool,
     ghost counted: { len ≡ length (all_done read.items acts.items) },
     ghost same: { IsTrue is_as_read → all_done read.items acts.items ≡ read.items },
+    ghost changed: { AreSyncs acts.items → IsTrue is_as_read },
 }
 
 impl Outbox {
@@ -69,6 +71,8 @@ fn noted(acts: &mut Vec<Act>, act: Act, failed: &mut bool) -> Result<(), DeviceF
 }
 
 impl Device for Outbox {
+    ghost use Rattle.mr_outbox.specs.Outbox.{Notes, acts_of, begun, file_of, left_since, may_leave, outbox_failed};
+
     ghost is_told = { true };
 
     ghost seen = { λ o. all_done o.read.items o.acts.items };
@@ -85,12 +89,25 @@ impl Device for Outbox {
 
     ghost only_now = { λ o c left. only_now o.read.items o.acts.items c left };
 
-    fn len(&mut self) -> Result<u64, DeviceFailed> {
+    fn len(&mut self) -> Result<u64, DeviceFailed>
+        ensures never { IsOk result }
+        ensures len { IfOk result (λ n. n ≡ length (file_of self.old)) }
+        ensures same { self.new ≡ self.old }
+        ensures untouched { IsUntouched file_of may_leave begun left_since self.old self.new }
+        ensures cause { HasCause result (outbox_failed self.old) (outbox_failed self.new) }
+    {
         Ok(self.len)
     }
 
     // The host's file has other bytes once something was written or cut, so no read is answered from then on.
-    fn read_at(&mut self, at: u64, buf: &mut [u8]) -> Result<(), DeviceFailed> {
+    fn read_at(&mut self, at: u64, buf: &mut [u8]) -> Result<(), DeviceFailed>
+        // It fails only where something was written or cut, or where fewer bytes are there.
+        ensures answers { AreSyncs (acts_of self.old) → at + length buf.old ≤ length (file_of self.old) → IsOk result }
+        ensures read { OnOk result (buf.new ≡ take (length buf.old) (drop at (file_of self.old))) }
+        ensures acts { acts_of self.new ≡ acts_of self.old }
+        ensures untouched { IsUntouched file_of may_leave begun left_since self.old self.new }
+        ensures cause { HasCause result (outbox_failed self.old) (outbox_failed self.new) }
+    {
         let at = at as usize;
         if !self.is_as_read || at > self.read.len() || buf.len() > self.read.len() - at {
             self.failed = true;
@@ -100,7 +117,14 @@ impl Device for Outbox {
         Ok(())
     }
 
-    fn write_at(&mut self, at: u64, bytes: &[u8]) -> Result<(), DeviceFailed> {
+    fn write_at(&mut self, at: u64, bytes: &[u8]) -> Result<(), DeviceFailed>
+        ensures notes { Notes (IsWrite at bytes.now) result self.old self.new }
+        ensures no_hole { OnOk result (at ≤ length (file_of self.old)) }
+        ensures written { at ≤ length (file_of self.old) → OnOk result (file_of self.new ≡ overwritten (file_of self.old) at bytes.now) }
+        ensures crash { Follows (Torn at bytes.now) (may_leave self.old) (may_leave self.new) }
+        ensures time { Passes (begun self.old) (begun self.new) (left_since self.old) (left_since self.new) (may_leave self.new) }
+        ensures cause { HasCause result (outbox_failed self.old) (outbox_failed self.new) }
+    {
         if at > self.len || bytes.len() as u64 > u64::MAX - at {
             self.failed = true;
             return Err(DeviceFailed);
@@ -116,14 +140,25 @@ impl Device for Outbox {
         Ok(())
     }
 
-    fn cut(&mut self, len: u64) -> Result<(), DeviceFailed> {
+    fn cut(&mut self, len: u64) -> Result<(), DeviceFailed>
+        ensures notes { Notes (λ a. a ≡ act.Cut len) result self.old self.new }
+        ensures cut { OnOk result (file_of self.new ≡ take len (file_of self.old)) }
+        ensures crash { Follows (Cut len) (may_leave self.old) (may_leave self.new) }
+        ensures time { Passes (begun self.old) (begun self.new) (left_since self.old) (left_since self.new) (may_leave self.new) }
+        ensures cause { HasCause result (outbox_failed self.old) (outbox_failed self.new) }
+    {
         noted(&mut self.acts, Act::Cut { len }, &mut self.failed)?;
         self.len = self.len.min(len);
         self.is_as_read = false;
         Ok(())
     }
 
-    fn sync(&mut self) -> Result<(), DeviceFailed> {
+    fn sync(&mut self) -> Result<(), DeviceFailed>
+        ensures notes { Notes (λ a. a ≡ act.Sync) result self.old self.new }
+        ensures durable { OnOk result (Only (file_of self.old) (may_leave self.new)) }
+        ensures untouched { IsUntouched file_of may_leave begun left_since self.old self.new }
+        ensures cause { HasCause result (outbox_failed self.old) (outbox_failed self.new) }
+    {
         noted(&mut self.acts, Act::Sync, &mut self.failed)
     }
 }

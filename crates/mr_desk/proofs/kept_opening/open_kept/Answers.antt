@@ -14,6 +14,7 @@ returns-in-Ok c =
       reopens = opened.reopens;
       place = opened.place;
       whole = opened.whole;
+      any_moment = opened.any_moment;
       left = opened.left;
       none_waits = opened.none_waits;
       new = opened.new;

@@ -1,6 +1,7 @@
 use Rattle.std.proofs.Common.{◌⊎◌, inl, inr, ⊎_elim, ℕ, List, length, refl, sym, ap, subst, ◌∙◌}
 use Rattle.mr_journal.specs.Format.{StandAlike}
 use Rattle.mr_journal.specs.Journal.{device_of}
+use Rattle.mr_kept.specs.Beginning.{IsBeginFault}
 use Rattle.mr_kept.specs.Kept.{journal_of}
 use Rattle.mr_kept.specs.Opening.{Begins}
 use Rattle.mr_kept.specs.declared.journaled.Journaled.{Journaled}
@@ -20,3 +21,9 @@ returns-in-Ok-clause-left g c = λ file left.
     (λ (was : may_leave outbox file). inl (c.new-outbox.ensures.rests.durable file was ∙ c.new.ensures.items))
     (λ (other : StandAlike (file_of outbox) file ⊎ Begins (file_of outbox) file). inr (subst (λ (f : List ℕ). StandAlike f file ⊎ Begins f file) nothing other))
     ((c.in-Ok.ensures.any_moment refl).each file since_first)
+
+-- The outbox has no byte.
+pub returns-in-Err-clause-fault : goal.returns-in-Err-clause-fault
+returns-in-Err-clause-fault g c =
+    let setup = c.args.setup in
+    subst (λ (f : List ℕ). IsBeginFault f setup.id setup.filter setup.event_limit setup.birth setup.mark c.in-Err.fault) (c.new-outbox.ensures.rests.file_is ∙ c.new.ensures.items) (c.in-Err.ensures.fault refl)

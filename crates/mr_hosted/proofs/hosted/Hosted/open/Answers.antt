@@ -1,7 +1,7 @@
 use Rattle.std.proofs.Common.{inl, inr, ⊎_elim, ℕ, List, length, refl, sym, ap, subst}
 use Rattle.mr_journal.specs.Journal.{device_of}
 use Rattle.mr_kept.specs.Kept.{journal_of, replica_of}
-use Rattle.mr_kept.specs.Opening.{Reopens}
+use Rattle.mr_kept.specs.Opening.{GoesOn, Reopens}
 use Rattle.mr_kept.specs.Refusing.{IsOpenFault}
 use Rattle.mr_kept.specs.Whole.{ComesBack, HasLog, HasLogOf}
 use Rattle.mr_kept.specs.declared.journaled.Journaled.{Journaled}
@@ -22,6 +22,15 @@ returns-in-Ok-clause-left g c = λ head s notes has file left.
     let since = subst (λ (j : Journaled g.row.K.Denot Outbox g.row.K-Vector.Denot). left_since (device_of (journal_of j)) 0 file) c.of.ensures.journaled left in
     let since_first = subst (λ (n : ℕ). left_since (device_of (journal_of c.in-Ok.journaled)) n file) (sym (ap (λ (l : List Act). length l) c.new.ensures.none)) since in
     ⊎_elim (λ (was : may_leave c.new.result file). inl (c.new.ensures.rests.durable file was)) (λ (log : HasLog g.K.Knowledge.form file head notes). inr log) (leaves.each file since_first)
+
+pub returns-in-Ok-clause-any_moment : goal.returns-in-Ok-clause-any_moment
+returns-in-Ok-clause-any_moment g c = λ file left.
+    let since = subst (λ (j : Journaled g.row.K.Denot Outbox g.row.K-Vector.Denot). left_since (device_of (journal_of j)) 0 file) c.of.ensures.journaled left in
+    let since_first = subst (λ (n : ℕ). left_since (device_of (journal_of c.in-Ok.journaled)) n file) (sym (ap (λ (l : List Act). length l) c.new.ensures.none)) since in
+    ⊎_elim
+    (λ (was : may_leave c.new.result file). inl (c.new.ensures.rests.durable file was))
+    (λ (on : GoesOn (file_of c.new.result) file). inr (subst (λ (f : List ℕ). GoesOn f file) c.new.ensures.rests.file_is on))
+    ((c.in-Ok.ensures.any_moment refl).each file since_first)
 
 pub returns-in-Err-clause-whole : goal.returns-in-Err-clause-whole
 returns-in-Err-clause-whole g c = λ head s notes has place.

@@ -1,5 +1,5 @@
 use Rattle.std.proofs.Common.{ap, length, sym, ◌∙◌}
-use Rattle.mr_outbox.proofs.ActLemmas.{adds_none, before_sync, durable, no_fewer, same_file, since_sync}
+use Rattle.mr_outbox.proofs.ActLemmas.{adds_none, before_sync, durable, no_fewer, same_file, since_sync, syncs_before}
 use Rattle.mr_outbox.proofs.outbox.OutboxDevice.sync.Goals as goal
 
 pub invariant_of-self : goal.invariant_of-self
@@ -8,13 +8,14 @@ invariant_of-self c =
     record {
       counted = c.args.self.now.counted ∙ sym (ap length file_is);
       same = λ as_read. file_is ∙ c.args.self.now.same as_read;
+      changed = λ syncs. c.args.self.now.changed (syncs_before c.args.self.now.read.items c.args.self.now.acts.items c.noted.new.acts.items c.noted.result c.noted.ensures.ok c.noted.ensures.err syncs);
     }
 
 pub returns-clause-durable : goal.returns-clause-durable
-returns-clause-durable c = λ told. durable c.args.self.now.read.items c.args.self.now.acts.items c.noted.new.acts.items c.noted.result c.noted.ensures.ok
+returns-clause-durable c = durable c.args.self.now.read.items c.args.self.now.acts.items c.noted.new.acts.items c.noted.result c.noted.ensures.ok
 
 pub returns-clause-untouched : goal.returns-clause-untouched
-returns-clause-untouched c = λ told.
+returns-clause-untouched c =
     let read = c.args.self.now.read.items in
     let acts = c.args.self.now.acts.items in
     let later = c.noted.new.acts.items in
