@@ -6,3 +6,4 @@ pub mod TakingLemmas
 pub mod SizesLemmas
 pub mod DecidingLemmas
 pub mod PartsLemmas
+pub mod SeeingLemmas

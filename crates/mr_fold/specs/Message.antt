@@ -1,15 +1,21 @@
 -- the message of a new mail
-use Rattle.std.specs.Prelude.{ℕ, Bool, not, ◌&&◌, ◌/◌, min, if◌then◌else◌, List, [], fold}
+use Rattle.std.specs.Prelude.{◌≡◌, ◌⊎◌, ℕ, Bool, not, ◌&&◌, ◌/◌, min, if◌then◌else◌, List, [], fold}
 use Rattle.mr_mail.specs.Label.{has_label, text_eq}
 use Rattle.mr_mail.specs.Mail.{Mail, mail_with}
 use Rattle.mr_maildir.specs.Reference.{ReferenceParts, reference_text}
 use Rattle.mr_maildir.specs.Told.{with_folder}
 use Rattle.mr_maildir.specs.View.{ViewParts}
 use Rattle.mr_scan.specs.Folders.{FolderParts}
+use Rattle.mr_fold.specs.declared.fault.SettleFault.{SettleFault}
+use Rattle.mr_fold.specs.declared.fault.SettleFault.TheVariants.{OutOfMemory, TooManyFolders}
 
 -- a message that stands for a file: no sender, no subject, the reference as its body
 abbrev pub new_mail : ReferenceParts → ViewParts → ℕ → Mail
 new_mail reference view day = mail_with [] [] (reference_text reference) (record { labels = view.labels; flags = view.flags; day = day })
+
+-- why a mail's message isn't written: the mail stands in too many folders, or memory ran out
+abbrev pub IsUnwritten : List ℕ → SettleFault → Type 0
+IsUnwritten digest fault = (fault ≡ TooManyFolders digest) ⊎ (fault ≡ OutOfMemory)
 
 -- the day of a time in nanoseconds, at most the last one
 abbrev pub day_at : ℕ → ℕ

@@ -9,3 +9,4 @@ pub mod Settings
 pub mod Sizes
 pub mod Straying
 pub mod Taking
+pub mod Seeing

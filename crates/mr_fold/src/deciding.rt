@@ -5,6 +5,7 @@ ghost use Rattle.mr_compare.specs.Compare.{due_acts};
 ghost use Rattle.mr_compare.specs.Sides.{standings_by};
 ghost use Rattle.mr_compare.specs.Undecided.{IsHeeded, first_undecided};
 ghost use Rattle.mr_fold.specs.inner.Deciding.{AreOthers, IsStoredIfDeleted};
+ghost use Rattle.mr_fold.specs.inner.Seeing.{Says};
 
 use crate::fold_fault::FoldFault;
 use crate::held_side::HeldSide;
@@ -35,6 +36,8 @@ pub(crate) fn decide(
 ) -> Result<Decided, FoldFault>
     ensures others { IfOk result (λ decided. AreOthers held.now.items.entries decided.sides decided.others.items) }
     ensures acts { IfOk result (λ decided. decided.acts.items ≡ due_acts (standings_by decided.sides held.now.mails.items decided.others.items)) }
+    // A mail counts as left just where it did at the first listing, and is seen as the second one has its files.
+    ensures says { IfOk result (λ decided. Says (values index.now) held.now.mails.items sides.left second.now decided.sides) }
     // What the second listing says is certain only where the first one says it too, and both were quiet.
     ensures before { IfOk result (λ decided. decided.sides.seen_before ≡ Some sides.seen) }
     ensures quiet { IfOk result (λ decided. decided.sides.are_quiet ≡ (first.now.is_quiet && second.now.is_quiet)) }

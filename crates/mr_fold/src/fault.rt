@@ -31,7 +31,7 @@ pub enum SettleFault {
     #[error("other mails' files have the names that a mail's file may get")]
     NameTaken,
     /// A file that was seen isn't there any more, or a new one is where none was: another program is at work.
-    #[error("another program changed files meanwhile: settle again")]
+    #[error("another program changed files meanwhile: run it again")]
     Changed,
 }
 

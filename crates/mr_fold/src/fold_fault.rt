@@ -54,10 +54,10 @@ pub enum FoldFault {
     NameTaken,
     /// A file that was seen isn't there any more, or a new one is where none was; or a mail was changed elsewhere, and two scans don't say
     /// that the folder was quiet while it was seen to be changed here.
-    #[error("another program changed files meanwhile: settle again")]
+    #[error("another program changed files meanwhile: run it again")]
     Changed,
     /// What is held was read before it changed.
-    #[error("the versions of a mail are held no more: settle again")]
+    #[error("the versions of a mail are held no more: run it again")]
     NotHeld,
     /// Mails would be deleted that lie in a folder of the Maildir that is passed over.
     #[error("{0}; nothing was done")]

@@ -1,9 +1,9 @@
 //! The message of a new mail.
-ghost use Rattle.std.specs.Prelude.{◌≡◌, ◌<◌, ◌↔◌, Err, IfOk, length, map, string_bytes};
+ghost use Rattle.std.specs.Prelude.{◌≡◌, ◌<◌, ◌↔◌, Err, IfErr, IfOk, length, map, string_bytes};
 ghost use Rattle.mr_mail.specs.declared.label.TheConstants.{MAX_LABELS};
 ghost use Rattle.mr_maildir.specs.Reference.{reference_text};
 ghost use Rattle.mr_scan.specs.Folders.{folder_parts};
-ghost use Rattle.mr_fold.specs.Message.{day_at, folder_lines, new_mail};
+ghost use Rattle.mr_fold.specs.Message.{IsUnwritten, day_at, folder_lines, new_mail};
 ghost use Rattle.mr_fold.specs.Message as specs;
 ghost use Rattle.mr_fold.specs.declared.fault.SettleFault.TheVariants.{TooManyFolders};
 
@@ -31,6 +31,7 @@ pub fn new_mail(
 ) -> Result<Message, SettleFault>
     ensures value { IfOk result (λ message. message ≡ new_mail (record { digest = digest.now; size = size; lines = lines.now }) view day) }
     ensures many { (result ≡ Err (TooManyFolders digest.now)) ↔ (MAX_LABELS < length view.labels) }
+    ensures only { IfErr result (IsUnwritten digest.now) }
 {
     let Some(place) = view.into_place(day) else {
         return Err(SettleFault::TooManyFolders(*digest));

@@ -1,7 +1,7 @@
 //! The note of what the Maildir shows.
 ghost use Rattle.std.specs.Prelude.{◌≡◌, ◌≢◌, ◌<◌, ◌^◌, IfErr, IfOk, OnErr, OnOk, length};
 ghost use Rattle.mr_kept.specs.Answered.{IsUnnoted};
-ghost use Rattle.mr_kept.specs.Kept.{Noted, SameJournal, journal_of, replica_of};
+ghost use Rattle.mr_kept.specs.Kept.{Noted, SameJournal, journal_of, leaving, replica_of};
 ghost use Rattle.mr_fold.specs.Shown.{shown_note};
 
 use mr_compare::{FolderNote, Shown};
@@ -25,7 +25,7 @@ pub fn note_shown<D: Device + Drop>(
     ensures noted { OnOk result (Noted (shown_note (length (replica_of kept.old).feed) lacking.items) kept.old kept.new) }
     // Memory may run out as the note is made, before the journal is asked whether it can keep it.
     ensures fault { IfErr result (λ fault. fault ≢ KeptFault.OutOfMemory → IsUnnoted (journal_of kept.old) (shown_note (length (replica_of kept.old).feed) lacking.items) fault) }
-    ensures unchanged { OnErr result ((replica_of kept.new ≡ replica_of kept.old) × SameJournal kept.old kept.new) }
+    ensures unchanged { OnErr result ((replica_of kept.new ≡ replica_of kept.old) × (leaving kept.new ≡ leaving kept.old) × SameJournal kept.old kept.new) }
 {
     let note = shown_in_feed(alloc, kept.replica().feed().len(), lacking)?;
     kept.note(note)

@@ -1,11 +1,13 @@
 //! What two listings say of the mails, beside what is held of them.
-ghost use Rattle.std.specs.Prelude.{◌≡◌, ◌&&◌, All, false, IfOk, Some};
-ghost use Rattle.std.specs.BTreeMap.{values};
+ghost use Rattle.std.specs.Prelude.{◌≡◌, ◌&&◌, All, false, IfOk, Some, option_map};
+ghost use Rattle.std.specs.BTreeMap.{IsFromIterResult, values};
 ghost use Rattle.std.specs.List.{list_all};
 ghost use Rattle.std.specs.Option.{option_copied};
-ghost use Rattle.mr_mail.specs.Label.{has_label};
+ghost use Rattle.mr_mail.specs.Label.{has_label, text_cmp};
+ghost use Rattle.mr_scan.specs.Seen.{seen_view};
+ghost use Rattle.mr_compare.specs.Sides.{at_digest};
 ghost use Rattle.mr_compare.specs.Tally.{deletes};
-ghost use Rattle.mr_fold.specs.inner.Lacking.{AreMissing};
+ghost use Rattle.mr_fold.specs.inner.Seeing.{AreSeen, Says, held_view, left_view};
 ghost use Rattle.mr_fold.specs.inner.Taking.{leaves_a_folder, takes_away};
 
 use crate::lacking::missing_mails;
@@ -25,7 +27,7 @@ pub(crate) fn first_sides(
     scan: &Scan,
     index: &Index,
 ) -> Result<Sides, AllocError>
-    ensures { IfOk result (λ sides. AreMissing (values index.now) mails.now sides) }
+    ensures { IfOk result (Says (values index.now) mails.now left scan.now) }
 {
     let lacking = missing_mails(alloc, mails, index)?;
     let seen = seen_views(alloc, scan, &left, mails)?;
@@ -47,7 +49,7 @@ pub(crate) fn second_sides(
     second: &Scan,
     index: &Index,
 ) -> Result<Sides, AllocError>
-    ensures missing { IfOk result (λ sides. AreMissing (values index.now) mails.now sides) }
+    ensures says { IfOk result (Says (values index.now) mails.now sides.left second.now) }
     // What is seen is compared with what was seen first.
     ensures before { IfOk result (λ two. two.seen_before ≡ Some sides.seen) }
     ensures quiet { IfOk result (λ two. two.are_quiet ≡ (first.now.is_quiet && second.now.is_quiet)) }
@@ -75,7 +77,9 @@ fn seen_views(
     scan: &Scan,
     left: &BTreeMap<Digest, LeftMail>,
     mails: &[HeldMail],
-) -> Result<BTreeMap<Digest, View>, AllocError> {
+) -> Result<BTreeMap<Digest, View>, AllocError>
+    ensures { IfOk result (λ views. AreSeen scan.now.mails.entries views.entries) }
+{
     let mut views = Vec::with_capacity(alloc, scan.mails.len())?;
     let mut rest = mails;
     for (digest, files) in scan.mails.iter() {
@@ -84,6 +88,16 @@ fn seen_views(
         views.push((*digest, view))?;
         rest = behind_digest(rest, digest);
     }
+    by_digest(alloc, views)
+}
+
+/// The views by the digests of their mails.
+fn by_digest(
+    alloc: Global,
+    views: Vec<(Digest, View)>,
+) -> Result<BTreeMap<Digest, View>, AllocError>
+    ensures { IfOk result (IsFromIterResult text_cmp views.items) }
+{
     views.into_iter().collect(alloc)
 }
 
@@ -93,7 +107,9 @@ pub(crate) fn view_seen(
     scan: &Scan,
     digest: &Digest,
     left: Option<&View>,
-) -> Result<Option<View>, AllocError> {
+) -> Result<Option<View>, AllocError>
+    ensures { IfOk result (λ view. view ≡ option_map (λ files. seen_view (option_copied left.entry) files.items) (at_digest scan.now.mails.entries digest.now)) }
+{
     match scan.mails.get(digest) {
         Some(files) => Ok(Some(seen_view(alloc, left, files)?)),
         None => Ok(None),
@@ -105,13 +121,26 @@ pub(crate) fn left_view<'a>(
     digest: &Digest,
     left: &'a BTreeMap<Digest, LeftMail>,
     first: Option<&'a HeldMail>,
-) -> Option<&'a View> {
+) -> Option<&'a View>
+    ensures { option_copied result ≡ left_view (at_digest left.entry.now.entries digest.entry.now) digest.entry.now (option_copied first.entry) }
+{
     match left.get(digest) {
         Some(mail) => mail.view.as_ref(),
         None => match first {
-            Some(held) if held.digest == *digest => Some(&held.view),
-            _ => None,
+            Some(held) => view_of(digest, held),
+            None => None,
         },
+    }
+}
+
+/// How the mail is held, if it is this one.
+fn view_of<'a>(digest: &Digest, held: &'a HeldMail) -> Option<&'a View>
+    ensures { option_copied result ≡ held_view digest.now (Some held.entry.now) }
+{
+    if held.digest == *digest {
+        Some(&held.view)
+    } else {
+        None
     }
 }
 

@@ -1,11 +1,11 @@
 //! Mails that would be told as deleted, though their files lie in folders that are passed over.
-ghost use Rattle.std.specs.Prelude.{◌≡◌, ◌++◌, IfOk, OnOk, option_map, string_bytes};
+ghost use Rattle.std.specs.Prelude.{◌≡◌, ◌++◌, IfOk, IfSome, OnOk, option_map, string_bytes};
 ghost use Rattle.std.specs.List.{filter_map};
 ghost use Rattle.std.specs.Map.{lookup};
 ghost use Rattle.std.specs.Option.{option_copied, option_to_list};
 ghost use Rattle.std.specs.Ordering.{is_eq};
 ghost use Rattle.mr_mail.specs.Label.{text_cmp};
-ghost use Rattle.mr_fold.specs.inner.Straying.{other_layout, path_instead, place_of, first_place, strays, stray_parts, lying_at};
+ghost use Rattle.mr_fold.specs.inner.Straying.{IsExplained, IsWhy, other_layout, path_instead, place_of, first_place, strays, stray_parts, lying_at};
 ghost use Rattle.mr_fold.specs.Straying as specs;
 ghost use Rattle.mr_fold.specs.inner.Straying as inner;
 
@@ -95,7 +95,8 @@ pub(crate) fn stray_mails(
     acts: &[MailAct],
     table: &BTreeMap<Digest, usize>,
 ) -> Result<Option<StrayMails>, AllocError>
-    ensures { IfOk result (λ stray. option_map stray_parts stray ≡ strays paths.now table.now.entries acts.now) }
+    ensures mails { IfOk result (λ stray. option_map stray_parts stray ≡ strays paths.now table.now.entries acts.now) }
+    ensures why { IfOk result (λ stray. IfSome stray (IsExplained layout)) }
 {
     let places = places_of(alloc, acts, table)?;
     match first_place(&places) {
@@ -111,7 +112,8 @@ fn stray_in(
     folder: Option<&FolderPath>,
     mails: usize,
 ) -> Result<Option<StrayMails>, AllocError>
-    ensures { IfOk result (λ stray. option_map stray_parts stray ≡ option_map (lying_at mails) (option_copied folder.entry)) }
+    ensures mails { IfOk result (λ stray. option_map stray_parts stray ≡ option_map (lying_at mails) (option_copied folder.entry)) }
+    ensures why { IfOk result (λ stray. IfSome stray (IsExplained layout)) }
 {
     let Some(folder) = folder else {
         return Ok(None);
@@ -181,7 +183,9 @@ fn first_place(places: &[usize]) -> Option<(usize, usize)>
 }
 
 /// Why the folder at this path is passed over.
-fn why_passed_over(alloc: Global, layout: Layout, path: &str) -> Result<WhyPassedOver, AllocError> {
+fn why_passed_over(alloc: Global, layout: Layout, path: &str) -> Result<WhyPassedOver, AllocError>
+    ensures { IfOk result (IsWhy layout path.now) }
+{
     match layout.folder_at(alloc, path)? {
         Some(_) => Ok(WhyPassedOver::SameLabel),
         None => {

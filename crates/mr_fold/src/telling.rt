@@ -1,10 +1,11 @@
 //! What the user did, as events.
-ghost use Rattle.std.specs.Prelude.{◌≡◌, ◌<◌, ◌↔◌, [], Err, IfOk, None, OnOk, Some, length};
+ghost use Rattle.std.specs.Prelude.{◌≡◌, ◌<◌, ◌↔◌, ◌⊎◌, [], Err, IfErr, IfOk, None, OnOk, Some, length};
 ghost use Rattle.std.specs.Option.{option_copied};
 ghost use Rattle.mr_mail.specs.Mail.{Mail};
 ghost use Rattle.mr_mail.specs.declared.label.TheConstants.{MAX_LABELS};
 ghost use Rattle.mr_kept.specs.Kept.{SameJournal, replica_of};
 ghost use Rattle.mr_maildir.specs.declared.act.Act.TheVariants as act;
+ghost use Rattle.mr_fold.specs.Message.{IsUnwritten};
 ghost use Rattle.mr_fold.specs.Telling.{Grows, TellsAct, TellsAll, TellsEdit, TellsEdits, edited_to, first_message, gone_view, items_at};
 
 use crate::fault::SettleFault;
@@ -158,7 +159,8 @@ fn edited_head(
     view: &View,
 ) -> Result<Message, SettleFault>
     ensures value { IfOk result (λ message. (old : Mail) × (first_message replica.now versions.now ≡ Some old) × (message ≡ edited_to view.now old)) }
-    ensures not_held { first_message replica.now versions.now ≡ None → result ≡ Err SettleFault.NotHeld }
+    ensures not_held { (result ≡ Err SettleFault.NotHeld) ↔ (first_message replica.now versions.now ≡ None) }
+    ensures only { IfErr result (λ fault. (fault ≡ SettleFault.NotHeld) ⊎ IsUnwritten digest.now fault) }
 {
     match first_message(replica, versions) {
         Some(old) => edited(alloc, digest, old, view),
@@ -187,6 +189,7 @@ fn edited(
 ) -> Result<Message, SettleFault>
     ensures value { IfOk result (λ message. message ≡ edited_to view.now old.now) }
     ensures many { (result ≡ Err (SettleFault.TooManyFolders digest.now)) ↔ (MAX_LABELS < length view.now.labels) }
+    ensures only { IfErr result (IsUnwritten digest.now) }
 {
     if view.labels().len() > MAX_LABELS {
         return Err(SettleFault::TooManyFolders(*digest));

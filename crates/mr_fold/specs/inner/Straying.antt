@@ -1,5 +1,5 @@
 -- mails in folders that are passed over, as they are found
-use Rattle.std.specs.Prelude.{ℕ, ◌==◌, if◌then◌else◌, List, count_by, Option, Some, None, option_map, slice_get, string_bytes}
+use Rattle.std.specs.Prelude.{◌≡◌, ℕ, ◌==◌, IsSome, if◌then◌else◌, List, count_by, Option, Some, None, option_map, slice_get, string_bytes}
 use Rattle.std.specs.List.{filter_map}
 use Rattle.std.specs.Map.{lookup}
 use Rattle.std.specs.Ordering.{is_eq}
@@ -11,6 +11,8 @@ use Rattle.mr_maildir.specs.declared.layout.Layout.TheVariants.{Dots, Plain}
 use Rattle.mr_compare.specs.Tally.{deletes}
 use Rattle.mr_compare.specs.declared.compare.MailAct.{MailAct}
 use Rattle.mr_fold.specs.declared.straying.StrayMails.{StrayMails}
+use Rattle.mr_fold.specs.declared.straying.WhyPassedOver.{WhyPassedOver}
+use Rattle.mr_fold.specs.declared.straying.WhyPassedOver.TheVariants.{NoFolder, SameLabel}
 
 -- where a table has a mail lie that an act deletes
 abbrev pub place_of : List (List ℕ × ℕ) → MailAct → Option ℕ
@@ -47,3 +49,13 @@ path_of layout name = folder_path layout (label_of name) (Some name)
 -- where a layout has the folder that the other one has at a path, if that has one there
 abbrev pub path_instead : Layout → List ℕ → Option (List ℕ)
 path_instead layout path = option_map (path_of layout) (name_at (other_layout layout) path)
+
+-- Why a layout passes the folder at a path over: another one has its label, if the layout has a folder there, and else it has none, but may have it where
+-- the other layout has what lies there.
+abbrev pub IsWhy : Layout → List ℕ → WhyPassedOver → Type 0
+IsWhy layout path SameLabel = IsSome (name_at layout path)
+IsWhy layout path (NoFolder own instead) = (name_at layout path ≡ None) × (own ≡ layout) × (option_map string_bytes instead ≡ path_instead layout path)
+
+-- so it is told of these mails
+abbrev pub IsExplained : Layout → StrayMails → Type 0
+IsExplained layout stray = IsWhy layout (string_bytes stray.folder) stray.why

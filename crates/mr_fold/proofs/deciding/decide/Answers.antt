@@ -13,5 +13,5 @@ pub returns-clause-stored : goal.returns-clause-stored
 returns-clause-stored c =
     let sides = c.in_ok-sides.sides in
     deletes_stored (values c.args.index.now) sides c.args.held.now.mails.items c.in_ok-others.others.items c.in_ok-acts.acts.items
-    (subst (λ mails. AreMissing (values c.args.index.now) mails sides) c.deref.ensures.value c.in_ok-sides.ensures.missing)
+    (subst (λ mails. AreMissing (values c.args.index.now) mails sides) c.deref.ensures.value c.in_ok-sides.ensures.says.missing)
     (c.in_ok-acts.ensures.value ∙ (λ i. due_acts (standings_by sides (c.deref-2.ensures.value i) (c.deref-3.ensures.value i))))
