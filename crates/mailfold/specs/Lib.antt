@@ -1,6 +1,7 @@
 pub mod Ending
 pub mod Advice
 pub mod Fault
+pub mod Late
 pub mod LogNames
 pub mod OldLog
 pub mod Tallies

@@ -12,9 +12,9 @@ both sides is joined, and mail that leaves a folder's filter is taken from there
 
 /// What stands behind the help of the program.
 pub const AFTER: &str = "First use:
-  $ mailfold init Mail --id 0 && mailfold scan Mail     the first folder
-  $ ssh laptop mailfold init Mail --id 1                the second one, with another number
-  $ mailfold-sync Mail ssh laptop mailfold serve Mail
+  $ mailfold init Mail --id 0 && mailfold scan Mail      on the office machine, which has mail
+  $ mailfold init Mail --id 1                            on the laptop: another number, and no scan
+  $ mailfold-sync Mail ssh office mailfold serve Mail    on the laptop; twice, if it had mail too
 
 Exit status:
   0  all was done
@@ -27,8 +27,8 @@ The page docs/MAILFOLD.md says what is done for each mail, and what to do about 
 
 pub const INIT_ABOUT: &str = "Makes a Maildir a folder that can be synced.
 
-DIR is a Maildir, or an empty folder. What the program keeps lies below DIR/.mailfold. No mail is touched:
-the mail that stands there is taken at the first scan or sync.";
+DIR is a Maildir; where there is none, an empty one is made. What the program keeps lies below DIR/.mailfold.
+No mail is touched: the mail that stands there is taken at the first scan or sync.";
 
 pub const INIT_AFTER: &str =
     "FILTER says which mail the folder has. It is `none`, or clauses joined by ` | `. A clause is `all`, or

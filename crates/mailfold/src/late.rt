@@ -1,4 +1,8 @@
 //! A folder that is opened once its talk needs more than what is noted of it.
+ghost use Rattle.std.specs.Prelude.{option_copied};
+ghost use Rattle.mr_talk.specs.Host.{Greets, Meets};
+ghost use Rattle.mailfold.specs.Late.{TalksAsWithin};
+
 use mr_sync::{Hellos, idle_answer};
 use mr_talk::{Hello, Host, HostFault};
 
@@ -50,7 +54,12 @@ impl<H: Host + Drop, O: Opens<H> + Drop> Late<H, O> {
     }
 
     /// What the folder says of itself.
-    pub fn hello(&mut self, theirs: Option<&Hello>) -> Result<Hello, HostFault> {
+    pub fn hello(&mut self, theirs: Option<&Hello>) -> Result<Hello, HostFault>
+        ensures { TalksAsWithin H.steps self.old.host (Greets (option_copied theirs.entry) result) self.new.host }
+    {
+        if let Some(host) = &mut self.host {
+            return host.hello(theirs);
+        }
         match self.noted_hello(theirs) {
             Some(mine) => Ok(mine),
             None => self.opened()?.hello(theirs),
@@ -58,7 +67,12 @@ impl<H: Host + Drop, O: Opens<H> + Drop> Late<H, O> {
     }
 
     /// Whether there is nothing to tell to this side.
-    pub fn meet(&mut self, theirs: &Hello) -> Result<bool, HostFault> {
+    pub fn meet(&mut self, theirs: &Hello) -> Result<bool, HostFault>
+        ensures { TalksAsWithin H.steps self.old.host (Meets theirs.now result) self.new.host }
+    {
+        if let Some(host) = &mut self.host {
+            return host.meet(theirs);
+        }
         if self.noted_hello(Some(theirs)).is_some() {
             self.theirs = Some(*theirs);
             return Ok(true);
@@ -68,9 +82,6 @@ impl<H: Host + Drop, O: Opens<H> + Drop> Late<H, O> {
 
     /// What a folder that isn't open says to the other side, or to one that hasn't said anything yet, if a noted talk tells it.
     fn noted_hello(&self, theirs: Option<&Hello>) -> Option<Hello> {
-        if self.host.is_some() {
-            return None;
-        }
         match theirs {
             Some(theirs) => idle_answer(&self.talks, theirs),
             None => Some(self.talks.first()?.first()),

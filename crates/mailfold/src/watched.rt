@@ -1,5 +1,6 @@
 //! A folder that talks while somebody watches how far it is.
-ghost use Rattle.std.specs.Prelude.{false, option_map, unwrap_or};
+ghost use Rattle.std.specs.Prelude.{◌≡◌, false, option_map, unwrap_or};
+ghost use Rattle.mailfold.specs.Late.{TalksAsWithin};
 
 use crate::late::{Late, Opens};
 use crate::progress::Ticker;
@@ -20,7 +21,8 @@ impl<D: Device + Drop, F: FileTree + Drop> Counts for FolderHost<D, F> {
     }
 }
 
-/// A host that shows how far it is. It talks as the one within, which is opened once it has to be.
+/// A host that shows how far it is. It talks as the one within, which is opened once it has to be. Of a folder that isn't open yet
+/// no contract says what a call does.
 #[derive(Drop)]
 pub struct Watched<'a, R, H: Host + Drop, O: Opens<H> + Drop> {
     pub late: Late<H, O>,
@@ -29,7 +31,9 @@ pub struct Watched<'a, R, H: Host + Drop, O: Opens<H> + Drop> {
 
 impl<R: Eprint + Clock, H: Host + Counts + Drop, O: Opens<H> + Drop> Watched<'_, R, H, O> {
     /// Shows how far the talk is, if it is time to.
-    fn tick(&mut self) {
+    fn tick(&mut self)
+        ensures { self.new.late ≡ self.old.late }
+    {
         if let Some(host) = &self.late.host {
             let counts = host.counts();
             self.ticker.show(&counts);
@@ -38,6 +42,8 @@ impl<R: Eprint + Clock, H: Host + Counts + Drop, O: Opens<H> + Drop> Watched<'_,
 }
 
 impl<R: Eprint + Clock, H: Host + Counts + Drop, O: Opens<H> + Drop> Host for Watched<'_, R, H, O> {
+    ghost steps = { λ w act v. TalksAsWithin H.steps w.late.host act v.late.host };
+
     ghost waits = { λ w. unwrap_or (option_map (λ h. H.waits h) w.late.host) false };
 
     ghost files_wait = { λ w. unwrap_or (option_map (λ h. H.files_wait h) w.late.host) false };
@@ -65,54 +71,90 @@ impl<R: Eprint + Clock, H: Host + Counts + Drop, O: Opens<H> + Drop> Host for Wa
     }
 
     fn ask(&mut self) -> Result<Vec<u8>, HostFault> {
-        self.late.opened()?.ask()
+        match &mut self.late.host {
+            Some(host) => host.ask(),
+            None => self.late.opened()?.ask(),
+        }
     }
 
     fn next_message(&mut self, turn: Turn) -> Result<Option<Message>, HostFault> {
         self.tick();
-        self.late.opened()?.next_message(turn)
+        match &mut self.late.host {
+            Some(host) => host.next_message(turn),
+            None => self.late.opened()?.next_message(turn),
+        }
     }
 
     fn done(&mut self, turn: Turn) -> Result<Option<Short>, HostFault> {
-        self.late.opened()?.done(turn)
+        match &mut self.late.host {
+            Some(host) => host.done(turn),
+            None => self.late.opened()?.done(turn),
+        }
     }
 
     fn take_ask(&mut self, frame: &[u8]) -> Result<(), HostFault> {
-        self.late.opened()?.take_ask(frame)
+        match &mut self.late.host {
+            Some(host) => host.take_ask(frame),
+            None => self.late.opened()?.take_ask(frame),
+        }
     }
 
     fn take_file(&mut self, message: &Message) -> Result<(), HostFault> {
-        let taken = self.late.opened()?.take_file(message);
+        let taken = match &mut self.late.host {
+            Some(host) => host.take_file(message),
+            None => self.late.opened()?.take_file(message),
+        };
         self.tick();
         taken
     }
 
     fn take_missing(&mut self, digest: &[u8]) -> Result<(), HostFault> {
-        self.late.opened()?.take_missing(digest)
+        match &mut self.late.host {
+            Some(host) => host.take_missing(digest),
+            None => self.late.opened()?.take_missing(digest),
+        }
     }
 
     fn take_records(&mut self, frames: &[u8]) -> Result<(), HostFault> {
-        let host = self.late.opened()?;
-        // no file waits, be the folder just opened or not
-        host.keep_files()?;
-        let taken = host.take_records(frames);
+        let taken = match &mut self.late.host {
+            Some(host) => host.take_records(frames),
+            None => take_first_records(self.late.opened()?, frames),
+        };
         self.tick();
         taken
     }
 
     fn take_wants(&mut self, digests: &[u8]) -> Result<(), HostFault> {
-        self.late.opened()?.take_wants(digests)
+        match &mut self.late.host {
+            Some(host) => host.take_wants(digests),
+            None => self.late.opened()?.take_wants(digests),
+        }
     }
 
     fn take_push_outs(&mut self, versions: &[u8]) -> Result<(), HostFault> {
-        self.late.opened()?.take_push_outs(versions)
+        match &mut self.late.host {
+            Some(host) => host.take_push_outs(versions),
+            None => self.late.opened()?.take_push_outs(versions),
+        }
     }
 
     fn take_receipts(&mut self, frames: &[u8]) -> Result<(), HostFault> {
-        self.late.opened()?.take_receipts(frames)
+        match &mut self.late.host {
+            Some(host) => host.take_receipts(frames),
+            None => self.late.opened()?.take_receipts(frames),
+        }
     }
 
     fn take_done(&mut self, knows: &[u8]) -> Result<(), HostFault> {
-        self.late.opened()?.take_done(knows)
+        match &mut self.late.host {
+            Some(host) => host.take_done(knows),
+            None => self.late.opened()?.take_done(knows),
+        }
     }
+}
+
+/// Takes records of a folder that was just opened: no file waits.
+fn take_first_records<H: Host>(host: &mut H, frames: &[u8]) -> Result<(), HostFault> {
+    host.keep_files()?;
+    host.take_records(frames)
 }

@@ -4,6 +4,7 @@ pub mod Fault
 pub mod Files
 pub mod Hello
 pub mod Host
+pub mod Steps
 pub mod Idle
 pub mod Lists
 pub mod Marks

@@ -1,5 +1,5 @@
 //! An open folder as a talk sees it.
-ghost use Rattle.std.specs.Prelude.{◌≡◌, ◌≢◌, ℕ, false, List, length, not, is_some, option_map, Some, Err, IfErr, IfOk, IfSome, IsTrue, MatchOption, IsSome, OnErr, OnOk};
+ghost use Rattle.std.specs.Prelude.{◌≡◌, ◌≢◌, ℕ, true, false, List, length, not, is_some, option_map, Some, Err, IfErr, IfOk, IfSome, IsTrue, MatchOption, IsSome, OnErr, OnOk};
 ghost use Rattle.std.specs.Option.{option_copied};
 ghost use Rattle.mr_folder.specs.Store.{IsSound};
 ghost use Rattle.mr_folder.specs.Tree.{IsUntouched};
@@ -130,15 +130,19 @@ impl<D: Device + Drop, F: FileTree + Drop> Host for FolderHost<D, F> {
     ghost use Rattle.mr_sync.specs.Files.{GoesWith, KeepsFile, Stores};
     ghost use Rattle.mr_sync.specs.Host.{AsksOf, EndsBehind, GoesOnBehind, IsAskFaultOf, IsEndFaultOf, IsHelloFaultOf, IsHelloFrom, IsMeetFaultOf, JudgesOf, SameFolder, SameOthers, TakesAskOf, TakesReceiptsOf, TakesRecordsOf, WantsNoMore, coming_of, files_of, journaled_of, knows_of, log_of, theirs_of, waiting_of, wants_of};
     ghost use Rattle.mr_sync.specs.Lists.{IsDigest, IsPushOut, ReadsList, push_out_bytes};
+    ghost use Rattle.mr_sync.specs.Steps.{FolderSteps};
+    ghost use Rattle.mr_talk.specs.Host.{Takes};
     ghost use Rattle.mr_sync.specs.Taken.{GrowsOnlyByTheirs, LetsGoFor, TakesPushOuts, TakesRecordOf, TakesWants};
     ghost use Rattle.mr_sync.specs.declared.fault.SyncFault.TheVariants.{BadList, HalfFile};
+
+    ghost steps = { FolderSteps F.is_told F.seen };
 
     ghost waits = { λ h. not (nothing_waits h.kept) };
 
     ghost files_wait = { λ h. is_some h.talk.coming };
 
     fn keep(&mut self) -> Result<(), HostFault>
-        ensures kept { OnOk result (not (nothing_waits (journaled_of self.new)) ≡ false) }
+        ensures kept { OnOk result (nothing_waits (journaled_of self.new) ≡ true) }
         ensures replica { replica_of (journaled_of self.new) ≡ replica_of (journaled_of self.old) }
         ensures files { files_of self.new ≡ files_of self.old }
         ensures others { SameOthers self.old self.new }
@@ -168,6 +172,7 @@ impl<D: Device + Drop, F: FileTree + Drop> Host for FolderHost<D, F> {
 
     fn meet(&mut self, theirs: &Hello) -> Result<bool, HostFault>
         ensures judges { IfOk result (JudgesOf self.new theirs.now) }
+        ensures noted { theirs_of self.new ≡ Some theirs.now }
         ensures unchanged { SameFolder self.old self.new }
         ensures fault { IfErr result (λ fault. IsToldFor (IsMeetFaultOf self.old theirs.now) fault.number) }
     {
@@ -223,6 +228,7 @@ impl<D: Device + Drop, F: FileTree + Drop> Host for FolderHost<D, F> {
             → OnOk result (KeepsFile F.seen F.may_leave message.now.kind message.now.bytes (coming_of self.old) (files_of self.old) (files_of self.new)) }
         ensures journaled { journaled_of self.new ≡ journaled_of self.old }
         ensures others { SameOthers self.old self.new }
+        ensures step { FolderSteps F.is_told F.seen self.old (Takes message.now result) self.new }
     {
         let kind = message.kind();
         let bytes = message.bytes();

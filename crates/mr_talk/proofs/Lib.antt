@@ -6,6 +6,9 @@ pub mod Tables
 pub mod TurnLaws
 pub mod ToldLaws
 pub mod LineLaws
+pub mod HostLaws
 pub mod TalkLaws
+pub mod ServedLaws
+pub mod CauseLaws
 pub mod GrammarLaws
 pub mod PackedLaws

@@ -1,26 +1,21 @@
 -- A talk with one message more, and one that breaks off.
 use denote.Enum.Bare.{sameb, same_true, same_false}
-use Rattle.std.proofs.Common.{◌≡◌, ℕ, true, false, Bool, cond, ◌+◌, arith, List, [], ◌∷◌, ◌++◌, inl, inr, Option, Some, None, Ok, refl, sym, ap, subst, ◌∙◌, append_assoc}
+use Rattle.std.proofs.Common.{◌≡◌, ℕ, true, false, ◌+◌, arith, List, [], ◌∷◌, ◌++◌, inl, inr, Option, Some, None, Ok, refl, sym, ap, subst, ◌∙◌, append_assoc}
 use Rattle.std.proofs.KnownBytes.{Appends-trans, Appends-kept, Consumes-trans}
 use Rattle.std.proofs.lemmas.List.{append-nil, length-append}
-use Rattle.std.specs.Io.KnownBytes.{Appends, Consumes, Keeps}
-use Rattle.std.specs.Prelude.{IfErr, OnOk, Result, Err, length}
+use Rattle.std.specs.Io.KnownBytes.{Appends, Consumes}
+use Rattle.std.specs.Prelude.{length}
 use Rattle.mr_talk.specs.contracts.turn.Role.{the_type}
 use Rattle.mr_talk.specs.declared.turn.Role.{Role}
 use Rattle.mr_talk.specs.declared.turn.Role.TheVariants.{Caller, Called}
 use Rattle.mr_talk.specs.declared.turn.Turn.{Turn}
-use Rattle.mr_talk.specs.declared.turn.Turn.TheVariants.{CallerGreets, Over, Failed}
+use Rattle.mr_talk.specs.declared.turn.Turn.TheVariants.{CallerGreets}
 use Rattle.mr_talk.specs.Said.{Said, message_bytes}
 use Rattle.mr_talk.specs.Turns.{sender_of, next_of, Leads}
 use Rattle.mr_talk.specs.World.{received}
 use Rattle.mr_talk.specs.Line.{Hears, IsBegun}
-use Rattle.mr_talk.specs.Talk.{other, if_sender, sent_by, kinds, Talked, BrokeOff, IsCause, IsFixed}
-use Rattle.mr_talk.specs.inner.Talk.{IsOfHost, IsPartly, IsUngiven, IsUnheard, IsUnsaid, IsUntaken}
-use Rattle.mr_talk.specs.declared.kind.Kind.{Kind}
-use Rattle.mr_talk.specs.declared.kind.Kind.TheVariants as kind
-use Rattle.mr_talk.specs.declared.talk_fault.TalkFault.{TalkFault}
-use Rattle.mr_talk.specs.declared.talk_fault.TalkFault.TheVariants as talk
-use Rattle.mr_talk.proofs.Tables.{each_placed, is_kind, is_turn, kind_from, placed_at, turn_at, turn_from}
+use Rattle.mr_talk.specs.Talk.{other, if_sender, sent_by, kinds, Talked, BrokeOff}
+use Rattle.mr_talk.specs.inner.Talk.{IsPartly}
 use Rattle.mr_talk.proofs.LineLaws.{begun_all, begun_behind}
 
 -- ---- the two sides
@@ -105,18 +100,19 @@ talked_heard role from to next o o' i i' i'' m t s n h = record {
 
 -- ---- as many messages
 
-one_more : (ms : List Said) (m : Said) (n : ℕ) → length ms ≡ n → length (ms ++ m ∷ []) ≡ n + 1
+pub one_more : (ms : List Said) (m : Said) (n : ℕ) → length ms ≡ n → length (ms ++ m ∷ []) ≡ n + 1
 one_more ms m n e = omega (arith, length-append ms (m ∷ []), e)
 
-pub said_more : (role : Role) (from to next : Turn) (o o' o'' i i' : Option (List ℕ)) (m : Said) (k : Talked role from to o o' i i') (n : ℕ) → length k.messages ≡ n → sender_of to ≡ Some role → next_of to m.kind ≡ Some next →
-    Appends o' o'' (message_bytes m) → (talk : Talked role from next o o'' i i') × (length talk.messages ≡ n + 1)
+-- with that message at its end
+pub said_more : (role : Role) (from to next : Turn) (o o' o'' i i' : Option (List ℕ)) (m : Said) (k : Talked role from to o o' i i') → sender_of to ≡ Some role → next_of to m.kind ≡ Some next → Appends o' o'' (message_bytes m) →
+    (talk : Talked role from next o o'' i i') × (talk.messages ≡ k.messages ++ m ∷ [])
 unfolding talked_said
-said_more role from to next o o' o'' i i' m k n e s place a = (talked_said role from to next o o' o'' i i' m k s place a, one_more k.messages m n e)
+said_more role from to next o o' o'' i i' m k s place a = (talked_said role from to next o o' o'' i i' m k s place a, refl)
 
-pub heard_more : (role : Role) (from to next : Turn) (o o' i i' i'' : Option (List ℕ)) (m : Said) (k : Talked role from to o o' i i') (n : ℕ) → length k.messages ≡ n → sender_of to ≡ Some (other role) → next_of to m.kind ≡ Some next →
-    Hears i' (Ok m) i'' → (talk : Talked role from next o o' i i'') × (length talk.messages ≡ n + 1)
+pub heard_more : (role : Role) (from to next : Turn) (o o' i i' i'' : Option (List ℕ)) (m : Said) (k : Talked role from to o o' i i') → sender_of to ≡ Some (other role) → next_of to m.kind ≡ Some next → Hears i' (Ok m) i'' →
+    (talk : Talked role from next o o' i i'') × (talk.messages ≡ k.messages ++ m ∷ [])
 unfolding talked_heard
-heard_more role from to next o o' i i' i'' m k n e s place h = (talked_heard role from to next o o' i i' i'' m k s place h, one_more k.messages m n e)
+heard_more role from to next o o' i i' i'' m k s place h = (talked_heard role from to next o o' i i' i'' m k s place h, refl)
 
 -- ---- talks that break off
 
@@ -142,94 +138,3 @@ broke_partly role t o o' o'' i i' m k s (inr (next, n, begun)) = record {
   sent = subst (λ (x : List ℕ). IsBegun o o'' x) (sym (sent_own role CallerGreets k.messages t m k.runs s)) (begun_behind o o' o'' (sent_by role CallerGreets k.messages) (message_bytes m) k.sent begun);
   came = subst (λ (x : List ℕ). Consumes i i' x) (sym (sent_by_this role CallerGreets k.messages t m k.runs s)) k.came;
 }
-
--- ---- why it ends
-
--- only a fault fails a talk, and each does
-abbrev fails : Kind → Turn → Bool
-fails k next = cond (is_turn next Failed) (is_kind k kind.Fault) true
-
-abbrev failed : Kind → Turn → Bool
-failed k next = cond (is_kind k kind.Fault) (is_turn next Failed) true
-
-pub fails_by_fault : (t : Turn) (k : Kind) → next_of t k ≡ Some Failed → k ≡ kind.Fault
-fails_by_fault t k e = kind_from k kind.Fault (placed_at t fails (turn_at (λ (s : Turn). each_placed s fails) refl t) k Failed e)
-
-fault_fails : (t next : Turn) → next_of t kind.Fault ≡ Some next → next ≡ Failed
-fault_fails t next e = turn_from next Failed (placed_at t failed (turn_at (λ (s : Turn). each_placed s failed) refl t) kind.Fault next e)
-
-pub over_or_failed : (t : Turn) → sender_of t ≡ None → (t ≡ Failed → ⊥) → t ≡ Over
-over_or_failed Over e h = refl
-over_or_failed Failed e h = absurd (h refl)
-over_or_failed t e h = absurd cc
-
-not_other : (role : Role) → Some role ≡ Some (other role) → ⊥
-not_other Caller e = absurd cc
-not_other Called e = absurd cc
-
-none_some : (role : Role) → ◌≡◌ {A = Option Role} None (Some role) → ⊥
-none_some role e = absurd cc
-
-talked_kept : (role : Role) (t : Turn) (o o' o'' i i' : Option (List ℕ)) → Talked role CallerGreets t o o' i i' → Keeps o' o'' → Talked role CallerGreets t o o'' i i'
-talked_kept role t o o' o'' i i' k kept = record { messages = k.messages; runs = k.runs; sent = Appends-kept o o' o'' (sent_by role CallerGreets k.messages) k.sent kept; came = k.came }
-
-pub cause_ungiven : (role : Role) (t : Turn) (o o' i i' : Option (List ℕ)) (fault : TalkFault) → Talked role CallerGreets t o o' i i' → sender_of t ≡ Some role → IsUngiven t fault → IsCause fault role o o' i i'
-cause_ungiven role t o o' i i' (talk.Line fault) k s u = (t, inr (o', record { before = k; sender = s }, u))
-cause_ungiven role t o o' i i' talk.OutOfPlace k s u = inr (inl (record { turn = t; may = record { before = k; sender = s }; free = u }))
-cause_ungiven role t o o' i i' (talk.Hello fault) k s u = absurd u
-cause_ungiven role t o o' i i' (talk.Host fault) k s u = absurd u
-cause_ungiven role t o o' i i' (talk.Told bytes) k s u = absurd u
-
-unsaid : (role : Role) (t : Turn) (m : Said) (o o' o'' i i' : Option (List ℕ)) (fault : TalkFault) → Talked role CallerGreets t o o' i i' → sender_of t ≡ Some role → (IsFixed t → next_of t m.kind ≡ None → ⊥) →
-    IsUnsaid t m.kind fault o' o'' → IsCause fault role o o'' i i'
-unsaid role t m o o' o'' i i' (talk.Line fault) k s place u = (t, inr (o', record { before = k; sender = s }, u))
-unsaid role t m o o' o'' i i' talk.OutOfPlace k s place u =
-    inr (inl (record { turn = t; may = record { before = talked_kept role t o o' o'' i i' k u.1; sender = s }; free = λ f. place f u.0 }))
-unsaid role t m o o' o'' i i' (talk.Host fault) k s place u =
-    record { turn = t; talked = talked_kept role t o o' o'' i i' k u; here = λ e. not_other role (sym s ∙ e) }
-unsaid role t m o o' o'' i i' (talk.Hello fault) k s place u = absurd u
-unsaid role t m o o' o'' i i' (talk.Told bytes) k s place u = absurd u
-
-pub cause_unsaid : (role : Role) (t : Turn) (m : Said) (o o' o'' i i' j : Option (List ℕ)) → j ≡ i' → (fault : TalkFault) → Talked role CallerGreets t o o' i i' → sender_of t ≡ Some role → (IsFixed t → next_of t m.kind ≡ None → ⊥) →
-    IsUnsaid t m.kind fault o' o'' → IsCause fault role o o'' i j
-cause_unsaid role t m o o' o'' i i' j same fault k s place u = subst (λ (x : Option (List ℕ)). IsCause fault role o o'' i x) (sym same) (unsaid role t m o o' o'' i i' fault k s place u)
-
-unheard : (role : Role) (t : Turn) (o o' i i' i'' : Option (List ℕ)) (fault : TalkFault) → Talked role CallerGreets t o o' i i' → sender_of t ≡ Some (other role) → IsUnheard t fault i' i'' → IsCause fault role o o' i i''
-unheard role t o o' i i' i'' (talk.Line fault) k s u = (t, inl (record { between = i'; before = k; sender = s; heard = u }))
-unheard role t o o' i i' i'' talk.OutOfPlace k s u =
-    inl (record { turn = t; m = u.0; heard = record { between = i'; before = k; sender = s; heard = u.1 }; place = u.2 })
-unheard role t o o' i i' i'' (talk.Hello fault) k s u = absurd u
-unheard role t o o' i i' i'' (talk.Host fault) k s u = absurd u
-unheard role t o o' i i' i'' (talk.Told bytes) k s u = absurd u
-
-pub cause_unheard : (role : Role) (t : Turn) (o o' p : Option (List ℕ)) → p ≡ o' → (i i' i'' : Option (List ℕ)) (fault : TalkFault) → Talked role CallerGreets t o o' i i' → sender_of t ≡ Some (other role) → IsUnheard t fault i' i'' → IsCause fault role o p i i''
-cause_unheard role t o o' p same i i' i'' fault k s u = subst (λ (x : Option (List ℕ)). IsCause fault role o x i i'') (sym same) (unheard role t o o' i i' i'' fault k s u)
-
-untaken : (role : Role) (t next : Turn) (m : Said) (o o' i i' i'' : Option (List ℕ)) (fault : TalkFault) → Talked role CallerGreets t o o' i i' → sender_of t ≡ Some (other role) → next_of t m.kind ≡ Some next → Hears i' (Ok m) i'' →
-    IsUntaken m fault → IsCause fault role o o' i i''
-untaken role t next m o o' i i' i'' (talk.Hello fault) k s n h u =
-    record { turn = t; next = next; m = m; heard = record { between = i'; before = k; sender = s; heard = h }; place = n; kind = u.0; reads = u.1 }
-untaken role t next m o o' i i' i'' (talk.Host fault) k s n h u =
-    let fails : next ≡ Failed = fault_fails t next (subst (λ (x : Kind). next_of t x ≡ Some next) u n) in
-    record { turn = next; talked = talked_heard role CallerGreets t next o o' i i' i'' m k s n h; here = λ e. none_some (other role) (sym (ap sender_of fails) ∙ e) }
-untaken role t next m o o' i i' i'' (talk.Told bytes) k s n h u =
-    (t, record { between = i'; before = k; sender = s; heard = subst (λ (x : Said). Hears i' (Ok x) i'') u h })
-untaken role t next m o o' i i' i'' (talk.Line fault) k s n h u = absurd u
-untaken role t next m o o' i i' i'' talk.OutOfPlace k s n h u = absurd u
-
-pub cause_untaken : (role : Role) (t next : Turn) (m : Said) (o o' p : Option (List ℕ)) → p ≡ o' → (i i' i'' : Option (List ℕ)) (fault : TalkFault) → Talked role CallerGreets t o o' i i' → sender_of t ≡ Some (other role) → next_of t m.kind ≡ Some next → Hears i' (Ok m) i'' →
-    IsUntaken m fault → IsCause fault role o p i i''
-cause_untaken role t next m o o' p same i i' i'' fault k s n h u = subst (λ (x : Option (List ℕ)). IsCause fault role o x i i'') (sym same) (untaken role t next m o o' i i' i'' fault k s n h u)
-
-pub cause_ended : {T : Type 0} (role : Role) (t : Turn) (o o' i i' : Option (List ℕ)) (r : Result T TalkFault) → Talked role CallerGreets t o o' i i' → sender_of t ≡ None → IfErr r IsOfHost → IfErr r (λ fault. IsCause fault role o o' i i')
-cause_ended role t o o' i i' (Ok x) k s u = tt
-cause_ended role t o o' i i' (Err (talk.Host fault)) k s u = record { turn = t; talked = k; here = λ e. none_some (other role) (sym s ∙ e) }
-cause_ended role t o o' i i' (Err (talk.Line fault)) k s u = absurd u
-cause_ended role t o o' i i' (Err (talk.Hello fault)) k s u = absurd u
-cause_ended role t o o' i i' (Err talk.OutOfPlace) k s u = absurd u
-cause_ended role t o o' i i' (Err (talk.Told bytes)) k s u = absurd u
-
--- a talk in which nobody may send, and whose host has no fault, is over
-pub ends_whole : {T E P : Type 0} (r : Result T E) (role : Role) (t : Turn) (o o' i i' : Option (List ℕ)) → Talked role CallerGreets t o o' i i' → sender_of t ≡ None → (t ≡ Failed → P → ⊥) → OnOk r P → OnOk r (Talked role CallerGreets Over o o' i i')
-ends_whole (Ok x) role t o o' i i' k s h p = subst (λ (x : Turn). Talked role CallerGreets x o o' i i') (over_or_failed t s (λ e. h e p)) k
-ends_whole (Err e) role t o o' i i' k s h p = tt

@@ -11,6 +11,7 @@ pub mod World
 pub mod Peer
 pub mod Told
 pub mod Line
+pub mod Host
 pub mod Talk
 pub mod Rows
 pub mod Grammar

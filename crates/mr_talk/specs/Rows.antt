@@ -3,14 +3,14 @@ use Rattle.std.specs.Prelude.{◌≡◌, ℕ, true, false, List, [], ◌∷◌, 
 use Rattle.mr_talk.specs.declared.kind.Kind.{Kind}
 use Rattle.mr_talk.specs.declared.kind.Kind.TheVariants.{Hello, Idle, Ask, Begin, Piece, End, Missing, Records, Wants, PushOuts, Receipts, Turn as Passes, Done, Fault, Whole}
 use Rattle.mr_talk.specs.declared.kind.TheConstants.{HELLO_BYTES, MAX_FRAMES_BYTES, MAX_PACKED_BYTES, MAX_LIST_BYTES, MAX_PIECE_BYTES, MAX_FAULT_BYTES}
-use Rattle.std.proofs.Common.{ap, inl, lit≤, lit<}
+use Rattle.std.proofs.Common.{ap, inl, inr, lit≤, lit<}
 use Rattle.mr_talk.specs.declared.fault.LineFault.TheVariants.{Message, Write}
 use Rattle.mr_talk.specs.declared.fault.MessageFault.TheVariants.{OutOfMemory, Truncated, BadKind, TooLong, Failed}
 use Rattle.mr_talk.specs.declared.talk_fault.TalkFault.TheVariants as talk
 use Rattle.mr_talk.specs.declared.hello.Hello as hello
 use Rattle.mr_talk.specs.declared.hello.HelloFault.TheVariants as hello_fault
 use Rattle.mr_talk.specs.declared.turn.Role.TheVariants.{Caller, Called}
-use Rattle.mr_talk.specs.declared.turn.Turn.TheVariants.{CallerGreets, CalledGreets, CalledAsks, CalledPasses, CallerAsks, CallerTells, CallerTellsFile, CalledTells, CallerSettles, CallerWants, CalledSettles, CallerCloses, Over}
+use Rattle.mr_talk.specs.declared.turn.Turn.TheVariants.{CallerGreets, CalledGreets, CalledAsks, CalledPasses, CallerAsks, CallerTells, CallerTellsFile, CalledTells, CallerSettles, CallerWants, CalledSettles, CalledCloses, CallerCloses, Over}
 use Rattle.mr_talk.specs.declared.turn.Turn.TheVariants as turn
 use Rattle.mr_talk.specs.Fault.{talk_fault_number, told_number}
 use Rattle.mr_talk.specs.Kinds.{kind_of_byte}
@@ -18,6 +18,7 @@ use Rattle.mr_talk.specs.Said.{Said, IsMessage, message_bytes}
 use Rattle.mr_talk.specs.Messages.{decoded}
 use Rattle.mr_talk.specs.Reader.{Feeds, Nexts, ending}
 use Rattle.mr_talk.specs.Hello.{hello_bytes}
+use Rattle.mr_talk.specs.Host.{Closes, Gives, Greets, Keeps, KeepsFiles, Listens, Plays, Speaks, Takes, nobody, passes}
 use Rattle.mr_talk.specs.Turns.{sender_of, number_of, next_of, IsTalk, Leads}
 use Rattle.mr_talk.specs.Talk.{Talked, BrokeOff, IsCause, Heard}
 use Rattle.mr_talk.specs.Packed as packed
@@ -204,16 +205,49 @@ first_heard m is = record {
 }
 
 -- the called was told a fault in its place
-pub told_at_once : IsCause (talk.Told (7 ∷ 8 ∷ [])) Called (Some []) (Some []) (Some (message_bytes fault ++ [])) (Some [])
+pub told_at_once : IsCause (talk.Told (7 ∷ 8 ∷ [])) Called [] (Some []) (Some []) (Some (message_bytes fault ++ [])) (Some [])
 told_at_once = (CallerGreets, first_heard fault (lit≤ tt))
 
 -- in its place came the wants of no file
-pub out_of_place_at_once : IsCause talk.OutOfPlace Called (Some []) (Some []) (Some (message_bytes wants ++ [])) (Some [])
+pub out_of_place_at_once : IsCause talk.OutOfPlace Called [] (Some []) (Some []) (Some (message_bytes wants ++ [])) (Some [])
 out_of_place_at_once = inl (record { turn = CallerGreets; m = wants; heard = first_heard wants (lit≤ tt); place = refl })
 
 -- in its place came one of two bytes, which has no hello's length
-pub bad_hello_at_once : IsCause (talk.Hello hello_fault.Length) Called (Some []) (Some []) (Some (message_bytes greeting ++ [])) (Some [])
+pub bad_hello_at_once : IsCause (talk.Hello hello_fault.Length) Called [] (Some []) (Some []) (Some (message_bytes greeting ++ [])) (Some [])
 bad_hello_at_once = record { turn = CallerGreets; next = CalledGreets; m = greeting; heard = first_heard greeting (lit≤ tt); place = refl; kind = inl refl; reads = λ e. absurd cc }
+
+-- ---- what a host is asked
+
+-- A caller's host says its hello and meets the other side. Behind a host that has nothing to tell the turn ends.
+pub caller_asks : Speaks nobody CallerGreets (record { kind = Hello; bytes = hello_bytes row }) (Greets None (Ok row) ∷ [])
+caller_asks = (row, refl, refl)
+
+pub ends_its_turn : Speaks nobody CallerTells passes (Gives CallerTells (Ok None) ∷ [])
+ends_its_turn = inr ([], refl, inl (refl, refl, refl))
+
+pub has_nothing_open : Speaks nobody CalledCloses (record { kind = Done; bytes = 5 ∷ [] }) (Gives CalledCloses (Ok None) ∷ Closes CalledCloses (Ok (Some (5 ∷ []))) ∷ [])
+has_nothing_open = inr (_, refl, inr (λ e. absurd cc, (Some (5 ∷ []), refl, refl)))
+
+-- wants are handed over as they come, records once the files are on the disk
+pub hands_over : Listens Wants nobody wants (Takes wants (Ok tt) ∷ []) nobody
+hands_over = (refl, refl)
+
+abbrev records : Said
+records = record { kind = Records; bytes = 7 ∷ [] }
+
+pub hands_records_over : Listens Records nobody records (KeepsFiles (Ok tt) ∷ Takes records (Ok tt) ∷ []) nobody
+hands_records_over = (refl, refl)
+
+-- what this side sends is kept before it is sent, and what comes is handed over: the end of the caller's third turn, and wants in the fourth
+pub plays_two : Plays Caller nobody CallerTells (passes ∷ wants ∷ []) (Gives CallerTells (Ok None) ∷ Keeps (Ok tt) ∷ Takes wants (Ok tt) ∷ []) nobody
+plays_two = (
+  _,
+  Takes wants (Ok tt) ∷ [],
+  nobody,
+  refl,
+  record { answered = Gives CallerTells (Ok None) ∷ []; speaks = ends_its_turn; kept = refl; same = refl },
+  (Takes wants (Ok tt) ∷ [], [], nobody, refl, (refl, refl), (refl, refl)),
+)
 
 -- ---- numbers of faults
 

@@ -10,10 +10,11 @@ use Rattle.mr_talk.specs.declared.kind.Kind.TheVariants as kind
 use Rattle.mr_talk.specs.declared.turn.Role.{Role}
 use Rattle.mr_talk.specs.declared.turn.Role.TheVariants.{Caller, Called}
 use Rattle.mr_talk.specs.declared.turn.Turn.{Turn}
-use Rattle.mr_talk.specs.declared.turn.Turn.TheVariants.{CallerGreets, CalledGreets, CalledAsks, CalledPasses, CallerAsks}
+use Rattle.mr_talk.specs.declared.turn.Turn.TheVariants.{CallerGreets, CalledGreets, CalledAsks, CalledPasses, CallerAsks, Over}
 use Rattle.mr_talk.specs.declared.talk_fault.TalkFault.{TalkFault}
 use Rattle.mr_talk.specs.declared.talk_fault.TalkFault.TheVariants.{Line, Hello, OutOfPlace, Host, Told}
 use Rattle.mr_talk.specs.Hello.{Reads}
+use Rattle.mr_talk.specs.Host.{Act, Acts, HasRefused, Offers, Played}
 use Rattle.mr_talk.specs.Line.{Hears, IsBegun}
 use Rattle.mr_talk.specs.Said.{Said, message_bytes}
 use Rattle.mr_talk.specs.Turns.{sender_of, next_of, Leads}
@@ -105,11 +106,17 @@ pub record HeardOutOfPlace (role : Role) (out_old out_new in_old in_new : Option
   pub heard : Heard role turn (Ok m) out_old out_new in_old in_new
   pub place : next_of turn m.kind ≡ None
 
--- this side was to say what its host gives, and sent nothing of it
-pub record GivenOutOfPlace (role : Role) (out_old out_new in_old in_new : Option (List ℕ)) : Type 0 where
+-- This side was to say what its host answered last. That has no place in the turn, or is a fault, and nothing of it was sent.
+pub record GivenOutOfPlace (role : Role) (acts : List Act) (out_old out_new in_old in_new : Option (List ℕ)) : Type 0 where
   pub turn : Turn
   pub may : MaySpeak role turn out_old out_new in_old in_new
   pub free : IsFixed turn → ⊥
+  pub m : Said
+  pub before : List Act
+  pub answered : List Act
+  pub last : acts ≡ before ++ answered
+  pub offers : Offers turn m answered
+  pub place : (m.kind ≡ kind.Fault) ⊎ (next_of turn m.kind ≡ None)
 
 -- as many messages as are counted in 64 bits were said
 pub record SaidTooMany (role : Role) (out_old out_new in_old in_new : Option (List ℕ)) : Type 0 where
@@ -123,10 +130,18 @@ pub record EndsHere (role : Role) (out_old out_new in_old in_new : Option (List 
   pub talked : Talked role CallerGreets turn out_old out_new in_old in_new
   pub here : sender_of turn ≢ Some (other role)
 
--- Why a talk ended with this fault, by what was sent and what came. Its host's own calls are not seen.
-abbrev pub IsCause : TalkFault → Role → (out_old out_new in_old in_new : Option (List ℕ)) → Type 0
-IsCause (Line fault) role out_old out_new in_old in_new = IsOfLine role fault out_old out_new in_old in_new
-IsCause (Hello fault) role out_old out_new in_old in_new = BadHello role fault out_old out_new in_old in_new
-IsCause OutOfPlace role out_old out_new in_old in_new = HeardOutOfPlace role out_old out_new in_old in_new ⊎ (GivenOutOfPlace role out_old out_new in_old in_new ⊎ SaidTooMany role out_old out_new in_old in_new)
-IsCause (Host fault) role out_old out_new in_old in_new = EndsHere role out_old out_new in_old in_new
-IsCause (Told told) role out_old out_new in_old in_new = (turn : Turn) × Heard role turn (Ok (record { kind = kind.Fault; bytes = told })) out_old out_new in_old in_new
+-- Why a talk ended with this fault, by what its host was asked and answered, what was sent and what came.
+abbrev pub IsCause : TalkFault → Role → List Act → (out_old out_new in_old in_new : Option (List ℕ)) → Type 0
+IsCause (Line fault) role acts out_old out_new in_old in_new = IsOfLine role fault out_old out_new in_old in_new
+IsCause (Hello fault) role acts out_old out_new in_old in_new = BadHello role fault out_old out_new in_old in_new
+IsCause OutOfPlace role acts out_old out_new in_old in_new = HeardOutOfPlace role out_old out_new in_old in_new ⊎ (GivenOutOfPlace role acts out_old out_new in_old in_new ⊎ SaidTooMany role out_old out_new in_old in_new)
+IsCause (Host fault) role acts out_old out_new in_old in_new = EndsHere role out_old out_new in_old in_new × HasRefused fault acts
+IsCause (Told told) role acts out_old out_new in_old in_new = (turn : Turn) × Heard role turn (Ok (record { kind = kind.Fault; bytes = told })) out_old out_new in_old in_new
+
+-- it ended so behind calls of the host that led from the one state to the other
+abbrev pub Ended : {S : Type 0} → (S → Act → S → Type 0) → TalkFault → Role → (old new : S) → (out_old out_new in_old in_new : Option (List ℕ)) → Type 0
+Ended steps fault role old new out_old out_new in_old in_new = (acts : List Act) × Acts steps old acts new × IsCause fault role acts out_old out_new in_old in_new
+
+-- a whole talk, which was played with the host
+abbrev pub TalkedFor : {S : Type 0} → (S → Act → S → Type 0) → Role → (old new : S) → (out_old out_new in_old in_new : Option (List ℕ)) → Type 0
+TalkedFor steps role old new out_old out_new in_old in_new = (talk : Talked role CallerGreets Over out_old out_new in_old in_new) × Played steps role talk.messages old new

@@ -3,4 +3,5 @@ pub mod Hello
 pub mod Line
 pub mod Stream
 pub mod Talk
+pub mod Host
 pub mod Packed

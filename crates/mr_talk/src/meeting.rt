@@ -5,6 +5,8 @@ ghost use Rattle.mr_talk.specs.declared.talk_fault.TalkFault.TheVariants.{OutOfP
 ghost use Rattle.mr_talk.specs.Talk.{IsFixed};
 ghost use Rattle.mr_talk.specs.Turns.{next_of};
 ghost use Rattle.mr_talk.specs.inner.Talk.{IsOfHost, IsLast, IsTelling, IsUngiven, IsUnmade, IsUntaken, Suits, speech_kind};
+ghost use Rattle.mr_talk.specs.Host.{EndsTurn, Speaks};
+ghost use Rattle.mr_talk.specs.inner.Host.{Hands, IsAskedFor, IsEndedFor, IsMet, IsTakenIn, IsVoiced, known_of, speech_message};
 
 use crate::fault::MessageFault;
 use crate::hello::{Hello, Short};
@@ -27,7 +29,9 @@ pub(crate) struct Meeting {
 
 impl Meeting {
     /// Nothing has been said.
-    pub(crate) fn new() -> Meeting {
+    pub(crate) fn new() -> Meeting
+        ensures { result ≡ record { theirs = None; is_idle = false; broken = None } }
+    {
         Meeting {
             theirs: None,
             is_idle: false,
@@ -46,6 +50,7 @@ impl Meeting {
         ensures broken { IfOk result (λ m. m.kind ≡ Fault → self.new.broken ≢ None) }
         ensures place { IfOk result (λ m. IsFixed turn → next_of turn m.kind ≢ None) }
         ensures fault { IfErr result (IsUngiven turn) }
+        ensures voiced { IsVoiced H.steps self.old turn result self.new host.old host.new }
     {
         if let Some(fault) = &self.broken {
             return Ok(fault_message(alloc, fault)?);
@@ -61,7 +66,8 @@ impl Meeting {
     }
 
     fn next_speech<H: Host>(&self, host: &mut H, turn: Turn) -> Result<Speech, HostFault>
-        ensures { IfOk result (Suits turn) }
+        ensures suits { IfOk result (Suits turn) }
+        ensures asked { IsAskedFor H.steps (λ s acts. Speaks (known_of self.now) turn (speech_message s) acts) host.old result host.new }
     {
         match turn {
             Turn::CallerGreets => Ok(Speech::Hello(host.hello(self.theirs.as_ref())?)),
@@ -86,6 +92,7 @@ impl Meeting {
     pub(crate) fn take<H: Host>(&mut self, host: &mut H, message: Message) -> Result<(), TalkFault>
         ensures taken { OnOk result (message.kind ≢ Fault) }
         ensures fault { IfErr result (IsUntaken message) }
+        ensures taken_in { IsTakenIn H.steps self.old message result self.new host.old host.new }
     {
         match message.kind() {
             Kind::Fault => return Err(self.told(message.into_bytes())),
@@ -102,7 +109,7 @@ impl Meeting {
 
     /// Why the talk ended where the other side has told a fault: its own host's comes first.
     fn told(&mut self, bytes: Vec<u8>) -> TalkFault
-        ensures { IsTelling bytes.items result }
+        ensures { IsTelling self.old bytes.items result }
     {
         match self.broken.take() {
             Some(fault) => TalkFault::Host(fault),
@@ -110,7 +117,9 @@ impl Meeting {
         }
     }
 
-    fn meet<H: Host>(&mut self, host: &mut H, theirs: &Hello) {
+    fn meet<H: Host>(&mut self, host: &mut H, theirs: &Hello)
+        ensures { IsMet H.steps self.old theirs.now self.new host.old host.new }
+    {
         match host.meet(theirs) {
             Ok(is_idle) => self.is_idle = is_idle,
             Err(fault) => self.broken = Some(fault),
@@ -122,6 +131,7 @@ impl Meeting {
         ensures whole { OnOk result (self.broken ≡ None) }
         ensures kept { OnOk result (H.waits host.new ≡ false) }
         ensures fault { IfErr result IsOfHost }
+        ensures ended { IsEndedFor H.steps self result host.old host.new }
     {
         match self.broken {
             Some(fault) => Err(TalkFault::Host(fault)),
@@ -148,6 +158,7 @@ enum Speech {
 impl Speech {
     /// The message that says it.
     fn into_message(self, alloc: Global) -> Result<Message, TalkFault>
+        ensures says { IfOk result (λ m. m ≡ speech_message self) }
         ensures kind { IfOk result (λ m. m.kind ≡ speech_kind self) }
         ensures own { IfOk result (λ m. m.kind ≢ Fault) }
         ensures fault { IfErr result (IsUnmade self) }
@@ -168,7 +179,7 @@ impl Speech {
 fn given(message: Message) -> Result<Message, TalkFault>
     ensures same { IfOk result (λ m. m ≡ message) }
     ensures own { IfOk result (λ m. m.kind ≢ Fault) }
-    ensures fault { IfErr result (λ fault. fault ≡ OutOfPlace) }
+    ensures fault { IfErr result (λ fault. (fault ≡ OutOfPlace) × (message.kind ≡ Fault)) }
 {
     if message.kind() == Kind::Fault {
         return Err(TalkFault::OutOfPlace);
@@ -178,7 +189,8 @@ fn given(message: Message) -> Result<Message, TalkFault>
 
 /// The end of a turn: `Done` where the host has nothing open. In the third turn nobody knows that yet.
 fn last_speech<H: Host>(host: &mut H, turn: Turn) -> Result<Speech, HostFault>
-    ensures { IfOk result IsLast }
+    ensures last { IfOk result IsLast }
+    ensures asked { IsAskedFor H.steps (λ s acts. EndsTurn turn (speech_message s) acts) host.old result host.new }
 {
     if turn == Turn::CallerTells {
         return Ok(Speech::Turn);
@@ -190,7 +202,9 @@ fn last_speech<H: Host>(host: &mut H, turn: Turn) -> Result<Speech, HostFault>
 }
 
 /// What the host takes of the other side. The files that came are on the disk before a record is taken.
-fn hand_over<H: Host>(host: &mut H, message: &Message) -> Result<(), HostFault> {
+fn hand_over<H: Host>(host: &mut H, message: &Message) -> Result<(), HostFault>
+    ensures { IsAskedFor H.steps (λ _ acts. Hands message.now.kind message.now acts) host.old result host.new }
+{
     let bytes = message.bytes();
     match message.kind() {
         Kind::Ask => host.take_ask(bytes),

@@ -4,7 +4,8 @@ ghost use Rattle.std.specs.Io.KnownBytes.{Appends};
 ghost use Rattle.mr_talk.specs.declared.turn.Turn.TheVariants.{CallerGreets, Over};
 ghost use Rattle.mr_talk.specs.Line.{Hears, ahead};
 ghost use Rattle.mr_talk.specs.Said.{message_bytes};
-ghost use Rattle.mr_talk.specs.Talk.{BrokeOff, IsCause, Talked};
+ghost use Rattle.mr_talk.specs.Talk.{BrokeOff, Ended, TalkedFor, Talked};
+ghost use Rattle.mr_talk.specs.inner.Host.{IsSentFor};
 ghost use Rattle.mr_talk.specs.inner.Talk.{IsPartly, IsUnheard, IsUnsaid};
 ghost use Rattle.mr_talk.specs.Turns.{next_of};
 
@@ -28,6 +29,7 @@ fn say<R: Read + Drop, W: Write + Drop, H: Host>(
     ensures sent { OnOk result (Appends (W.contents line.old.output) (W.contents line.new.output) (message_bytes message.now)) }
     ensures part { OnErr result (IsPartly turn message.now (W.contents line.old.output) (W.contents line.new.output)) }
     ensures fault { IfErr result (λ fault. IsUnsaid turn message.now.kind fault (W.contents line.old.output) (W.contents line.new.output)) }
+    ensures kept { IsSentFor H.steps result host.old host.new }
     ensures input { line.new.input ≡ line.old.input }
     ensures reader { line.new.reader ≡ line.old.reader }
 {
@@ -62,7 +64,8 @@ fn hear<R: Read + Drop, W: Write + Drop>(
 /// A whole talk over the line, for the host.
 ///
 /// What was sent and what was received is a whole talk where the answer is `Ok`: the other side, which sent and received the
-/// same, has come to the same end. All that the host did is kept then.
+/// same, has come to the same end. Each message that was sent is what the host answered in its turn, each that came was handed
+/// to it, and all that it did is kept.
 ///
 /// A talk that breaks off is a beginning of a whole one: each message was sent in its place, the last maybe in part, and what
 /// was received until then was in its place too. A fault of the host is told to the other side as soon as this one may speak;
@@ -77,10 +80,12 @@ pub fn run_talk<R: Read + Drop, W: Write + Drop, H: Host>(
 ) -> Result<(), TalkFault>
     ensures whole { OnOk result (Talked role CallerGreets Over (W.contents line.old.output) (W.contents line.new.output)
         (ahead line.old.reader (R.remaining line.old.input)) (ahead line.new.reader (R.remaining line.new.input))) }
+    ensures played { OnOk result (TalkedFor H.steps role host.old host.new (W.contents line.old.output) (W.contents line.new.output)
+        (ahead line.old.reader (R.remaining line.old.input)) (ahead line.new.reader (R.remaining line.new.input))) }
     ensures kept { OnOk result (H.waits host.new ≡ false) }
     ensures broke_off { OnErr result (BrokeOff role (W.contents line.old.output) (W.contents line.new.output)
         (ahead line.old.reader (R.remaining line.old.input))) }
-    ensures cause { IfErr result (λ fault. IsCause fault role (W.contents line.old.output) (W.contents line.new.output)
+    ensures cause { IfErr result (λ fault. Ended H.steps fault role host.old host.new (W.contents line.old.output) (W.contents line.new.output)
         (ahead line.old.reader (R.remaining line.old.input)) (ahead line.new.reader (R.remaining line.new.input))) }
 {
     let mut meeting = Meeting::new();

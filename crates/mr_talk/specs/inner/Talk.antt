@@ -3,6 +3,7 @@ use Rattle.std.specs.Prelude.{◌≡◌, ◌≢◌, ◌⊎◌, ℕ, List, Option
 use Rattle.std.specs.Io.KnownBytes.{Keeps}
 use Rattle.mr_talk.specs.declared.kind.Kind.{Kind}
 use Rattle.mr_talk.specs.declared.kind.Kind.TheVariants as kind
+use Rattle.mr_talk.specs.declared.meeting.Meeting.{Meeting}
 use Rattle.mr_talk.specs.declared.meeting.Speech.{Speech}
 use Rattle.mr_talk.specs.declared.meeting.Speech.TheVariants as speech
 use Rattle.mr_talk.specs.declared.turn.Turn.{Turn}
@@ -70,9 +71,9 @@ IsLast speech.Turn = Unit {0}
 IsLast (speech.Done knows) = Unit {0}
 IsLast s = ⊥
 
--- why a speech gives no message: what the host gave is none that a host gives; or there is no memory, or too many bytes
+-- why a speech gives no message: what the host gave is a fault; or there is no memory, or too many bytes
 abbrev pub IsUnmade : Speech → TalkFault → Type 0
-IsUnmade (speech.Given m) fault = fault ≡ OutOfPlace
+IsUnmade (speech.Given m) fault = (fault ≡ OutOfPlace) × (m.kind ≡ kind.Fault)
 IsUnmade s (Line fault) = CannotSay fault
 IsUnmade s fault = ⊥
 
@@ -84,10 +85,10 @@ IsOfHost (Hello fault) = ⊥
 IsOfHost OutOfPlace = ⊥
 IsOfHost (Told bytes) = ⊥
 
--- a fault of a host, or one that was told in these bytes
-abbrev pub IsTelling : List ℕ → TalkFault → Type 0
-IsTelling bytes (Host fault) = Unit {0}
-IsTelling bytes (Told told) = told ≡ bytes
-IsTelling bytes (Line fault) = ⊥
-IsTelling bytes (Hello fault) = ⊥
-IsTelling bytes OutOfPlace = ⊥
+-- the fault that the host has, or one that was told in these bytes
+abbrev pub IsTelling : Meeting → List ℕ → TalkFault → Type 0
+IsTelling meeting bytes (Host fault) = meeting.broken ≡ Some fault
+IsTelling meeting bytes (Told told) = told ≡ bytes
+IsTelling meeting bytes (Line fault) = ⊥
+IsTelling meeting bytes (Hello fault) = ⊥
+IsTelling meeting bytes OutOfPlace = ⊥
