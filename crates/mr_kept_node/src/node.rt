@@ -3,6 +3,7 @@ ghost use Rattle.std.specs.Prelude.{◌≡◌, ◌<◌, ◌+◌, ◌^◌, ◌⊎
 ghost use Rattle.mr_feed.specs.declared.port.TheConstants.{MAX_CAPACITY};
 ghost use Rattle.mr_replica.specs.Replay.{IsItsLog};
 ghost use Rattle.mr_kept.specs.Kept.{nothing_waits, replica_of};
+ghost use Rattle.mr_node.specs.Thread.{IsHungUpLast};
 ghost use Rattle.mr_kept_node.specs.Node.{KeptNodeRan, in_machine};
 
 use crate::machine::KeptMachine;
@@ -50,6 +51,7 @@ pub fn run_kept_node<
     requires all_kept { nothing_waits parts.replica ≡ true }
     ensures ran { IfOk result (λ r. KeptNodeRan K.form D.is_told D.seen D.may_leave D.moment D.left_since D.has_failed L.tells M.tells (G.closes gate.now) (G.has_let gate.now) parts r.0 r.1 r.2) }
     ensures hung_up { IfOk result (λ r. ((L.tells r.1).hung_up ≡ true) × ((M.tells r.2).hung_up ≡ true)) }
+    ensures hung_up_last { IfOk result (λ r. IsHungUpLast L.tells L.hung_up_at parts.first_link.link r.1 × IsHungUpLast M.tells M.hung_up_at parts.second_link.link r.2) }
     ensures capacity { IfOk result (λ r. r.0.capacity ≡ capacity) }
     ensures no_capacity { (result ≡ Err (NodeFault.NoCapacity parts)) ↔ ((capacity ≡ 0) ⊎ (MAX_CAPACITY < capacity)) }
     ensures fault { IfErr result (λ fault. (fault ≡ NodeFault.OutOfMemory) ⊎ (fault ≡ NodeFault.NoCapacity parts)) }

@@ -3,4 +3,5 @@ pub mod HighestLemmas
 pub mod DigestLemmas
 pub mod ToldLemmas
 pub mod VersionLemmas
+pub mod HistoryLemmas
 pub mod Rows

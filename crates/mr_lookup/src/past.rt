@@ -1,6 +1,6 @@
 //! The past of an item, as a log tells it.
 ghost use Rattle.std.specs.Prelude.{◌≡◌, ◌&&◌, not, IfOk, OnOk};
-ghost use Rattle.mr_lookup.specs.History.{history_of, is_edit_of, is_in, is_of_item, is_told, told_more};
+ghost use Rattle.mr_lookup.specs.History.{IsHistory, history_of, is_edit_of, is_in, is_of_item, is_told, told_more};
 
 use crate::told::issued_then;
 use crate::versions::{ToldVersion, told_version};
@@ -21,7 +21,8 @@ pub fn history<'a, K: Knowledge>(
     replica: &'a Replica<K>,
     item: ItemId,
 ) -> Result<Vec<ToldVersion<'a>>, AllocError>
-    ensures { IfOk result (λ past. past.items ≡ history_of replica.now.id item replica.now.log) }
+    ensures means { IfOk result (λ past. IsHistory replica.now.id item replica.now.log past.items) }
+    ensures value { IfOk result (λ past. past.items ≡ history_of replica.now.id item replica.now.log) }
 {
     history_in(alloc, replica.id(), replica.log(), item)
 }

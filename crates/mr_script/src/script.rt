@@ -147,6 +147,7 @@ pub(crate) fn first_source<R: Read + Drop>(
     ensures left { IfOk result (λ source. source_remaining R.remaining source
         ≡ option_map looked_at (R.remaining reader)) }
     ensures fault { IfErr result (λ fault. Breaks 1 fault) }
+    ensures no_read { result ≢ Err ScriptFault.Read }
 {
     match Source::try_new(alloc, reader) {
         Ok(source) => Ok(source),

@@ -1,5 +1,5 @@
 //! The lines of a script, for a caller that takes them one by one.
-ghost use Rattle.std.specs.Prelude.{◌≡◌, ◌≤◌, ◌<◌, ℕ, List, Option, Err, IsTrue, IfOk, IfErr, OnOk, IfSome, length};
+ghost use Rattle.std.specs.Prelude.{◌≡◌, ◌≢◌, ◌≤◌, ◌<◌, ℕ, List, Option, Err, IsTrue, IfOk, IfErr, OnOk, IfSome, length};
 ghost use Rattle.std.specs.Option.{option_map};
 ghost use Rattle.mr_script.specs.Run.{Breaks};
 ghost use Rattle.mr_script.specs.Script.{Accounts, TakesLine, looked_at};
@@ -28,12 +28,14 @@ impl<R: Read + Drop> Model for ScriptLines<R> {
 }
 
 impl<R: Read + Drop> ScriptLines<R> {
-    /// The script that the reader gives, before its first line. `OutOfMemory` of line 1 where there is no memory to read it.
+    /// The script that the reader gives, before its first line. `OutOfMemory` of line 1 where there is no memory to read it, and no
+    /// other fault: no read has failed yet.
     pub fn try_new(alloc: Global, reader: R) -> Result<ScriptLines<R>, ScriptFault>
         ensures counted { IfOk result (λ lines. Accounts (R.remaining reader) lines.left lines.taken) }
         ensures none_taken { IfOk result (λ lines. lines.taken ≡ 0) }
         ensures left { IfOk result (λ lines. lines.left ≡ option_map looked_at (R.remaining reader)) }
         ensures fault { IfErr result (λ fault. Breaks 1 fault) }
+        ensures no_read { result ≢ Err ScriptFault.Read }
     {
         match first_source(alloc, reader) {
             Ok(source) => Ok(ScriptLines { source }),
