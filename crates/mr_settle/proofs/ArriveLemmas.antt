@@ -100,6 +100,7 @@ module _ {K : Type 0} (form : Form K) (stable : IsByMeaning form) where
     ids = way.ids;
     logs = all_places (λ (end : State K). log_in w end.id ≡ end.log) ends (λ i s is. logs i s (position_of form ends w done i s way is) is);
     same = all_places (λ (end : State K). replica_at w.members end.id ≡ Some end) ends (λ i s is. same i s (position_of form ends w done i s way is) is);
+    only = way.only;
   }
     where
       whole : (i : ℕ) (s : State K) (p : ℕ) → slice_get ends i ≡ Some s → slice_get done i ≡ Some p → take p s.log ≡ s.log

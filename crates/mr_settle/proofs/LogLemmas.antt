@@ -1,9 +1,9 @@
 -- What the history says of logs, as it grows by one event.
 use Rattle.std.proofs.Common.{◌≡◌, ◌≢◌, ◌==◌, refl, sym, ap, subst, ◌∙◌, ℕ, Bool, true, false, cond, List, [], ◌∷◌, ◌++◌, Option, Some, None, Ok, eq-eqb, eqb-true, append-nil}
-use Rattle.std.specs.Prelude.{is_none, All}
+use Rattle.std.specs.Prelude.{is_none, is_some, IsSome, All}
 use Rattle.std.specs.List.{filter_map, cons_option}
 use Rattle.std.specs.Option.{option_and_then, option_map}
-use Rattle.std.proofs.lemmas.List.Elements.{filter_map-append, All-head, All-tail, All-nil, All-cons, All-append, All-weaker}
+use Rattle.std.proofs.lemmas.List.Elements.{filter_map-append, All-head, All-tail, All-push, All-weaker}
 use Rattle.mr_mail.specs.Mail.{Mail}
 use Rattle.mr_model.specs.Moment.{numbered}
 use Rattle.mr_model.specs.declared.event.Act.{Act}
@@ -21,8 +21,7 @@ use Rattle.mr_world.specs.declared.task.Task.{Task}
 use Rattle.mr_world.specs.declared.task.Task.TheVariants.{Step}
 use Rattle.mr_settle.specs.inner.Numbers.{Grew}
 use Rattle.mr_settle.proofs.PoolLemmas.{number_stays}
-use Rattle.mr_settle.specs.History.{admitted, admitted_at, log_in}
-use Rattle.mr_settle.specs.inner.Way.{NamesFrames}
+use Rattle.mr_settle.specs.History.{admitted, admitted_at, log_in, OnlyAdmits}
 
 filter_map-same : {A B : Type 0} (f g : A → Option B) (xs : List A) → All (λ x. f x ≡ g x) xs → filter_map f xs ≡ filter_map g xs
 filter_map-same f g [] h = refl
@@ -39,6 +38,12 @@ none_mapped f (Some x) = refl
 made_still : {A B : Type 0} (f : A → B) (xs ys : List A) (n : ℕ) → Grew xs ys → is_none (option_map f (numbered xs n)) ≡ false → option_map f (numbered ys n) ≡ option_map f (numbered xs n)
 made_still f xs ys n grew there = ap (option_map f) (number_stays xs ys n grew (sym (none_mapped f (numbered xs n)) ∙ there))
 
+-- what was admitted was asked for
+was_asked : (mine : Bool) (answer : Answer) (o : Option Task) → IsSome (cond mine (option_and_then (admitted answer) o) None) → is_none o ≡ false
+was_asked mine answer (Some task) is = refl
+was_asked true answer None is = cc (is)
+was_asked false answer None is = cc (is)
+
 module _ {K : Type 0} (w w' : WorldView K) (asks : Grew w.asks w'.asks) (records : Grew w.records w'.records) (receipts : Grew w.receipts w'.receipts) where
   -- an act that asked for something asks for the same
   asks_still : (a : Act Mail) → is_none (asked_in w a) ≡ false → asked_in w' a ≡ asked_in w a
@@ -48,33 +53,37 @@ module _ {K : Type 0} (w w' : WorldView K) (asks : Grew w.asks w'.asks) (records
   asks_still (act.Release n) there = made_still releasing w.receipts w'.receipts n receipts there
   asks_still a there = refl
 
-  names_still : (a : Act Mail) → is_none (asked_in w a) ≡ false → is_none (asked_in w' a) ≡ false
-  names_still a there = ap is_none (asks_still a there) ∙ there
-
-  admitted_still : (q : ℕ) (x : Answered) → is_none (asked_in w x.event.act) ≡ false → admitted_at w' q x ≡ admitted_at w q x
-  admitted_still q x there = ap (λ (o : Option Task). cond (x.event.replica == q) (option_and_then (admitted x.answer) o) None) (asks_still x.event.act there)
+  -- of an event that was admitted, each log has what it had
+  admitted_still : (q : ℕ) (x : Answered) → IsSome (admitted_at w x.event.replica x) → admitted_at w' q x ≡ admitted_at w q x
+  admitted_still q x is =
+      ap (λ (o : Option Task). cond (x.event.replica == q) (option_and_then (admitted x.answer) o) None)
+      (asks_still x.event.act (was_asked (x.event.replica == x.event.replica) x.answer (asked_in w x.event.act) is))
 
   -- the history grows by one event
-  module _ (e : Event Mail) (answer : Answer) (grows : w'.answers ≡ w.answers ++ answered e answer ∷ []) (all : NamesFrames w) (here : is_none (asked_in w e.act) ≡ false) where
-    pub names_on : NamesFrames w'
-    names_on = subst (All (λ x. is_none (asked_in w' x.event.act) ≡ false)) (sym grows)
-        (All-append (λ x. is_none (asked_in w' x.event.act) ≡ false) w.answers (answered e answer ∷ [])
-        (All-weaker (λ x. is_none (asked_in w x.event.act) ≡ false) (λ x. is_none (asked_in w' x.event.act) ≡ false) (λ x there. names_still x.event.act there) w.answers all)
-        (All-cons (λ x. is_none (asked_in w' x.event.act) ≡ false) (answered e answer) [] (names_still e.act here) (All-nil (λ x. is_none (asked_in w' x.event.act) ≡ false))))
-
+  module _ (e : Event Mail) (answer : Answer) (grows : w'.answers ≡ w.answers ++ answered e answer ∷ []) (only : OnlyAdmits w) (here : is_none (asked_in w e.act) ≡ false) where
     log_grows : (q : ℕ) → log_in w' q ≡ log_in w q ++ filter_map (admitted_at w' q) (answered e answer ∷ [])
     log_grows q =
         ap (filter_map (admitted_at w' q)) grows
         ∙ filter_map-append (admitted_at w' q) w.answers (answered e answer ∷ [])
-        ∙ ap (λ (xs : List ReplicaEvent). xs ++ filter_map (admitted_at w' q) (answered e answer ∷ [])) (filter_map-same (admitted_at w' q) (admitted_at w q) w.answers (All-weaker (λ x. is_none (asked_in w x.event.act) ≡ false) (λ x. admitted_at w' q x ≡ admitted_at w q x) (admitted_still q) w.answers all))
+        ∙ ap (λ (xs : List ReplicaEvent). xs ++ filter_map (admitted_at w' q) (answered e answer ∷ [])) (filter_map-same (admitted_at w' q) (admitted_at w q) w.answers (All-weaker (λ x. IsSome (admitted_at w x.event.replica x)) (λ x. admitted_at w' q x ≡ admitted_at w q x) (admitted_still q) w.answers only))
 
-    -- an admitted event is behind the others of its replica
-    pub log_with : (r : ℕ) (asked : ReplicaEvent) (told : Reply) → e.replica ≡ r → asked_in w e.act ≡ Some (Step asked) → answer ≡ Stepped (Ok told) → log_in w' r ≡ log_in w r ++ asked ∷ []
-    log_with r asked told is_for is is_answer =
-        let mine : (e.replica == r) ≡ true = eq-eqb e.replica r is_for in
-        let one : admitted_at w' r (answered e answer) ≡ Some asked = rw (mine, is_answer) (ap (option_and_then (admitted (Stepped (Ok told)))) (asks_still e.act here ∙ is)) in
-        let alone : filter_map (admitted_at w' r) (answered e answer ∷ []) ≡ asked ∷ [] = rw one refl in
-        log_grows r ∙ ap (λ (xs : List ReplicaEvent). log_in w r ++ xs) alone
+    -- the replica was asked for this, and told something
+    module _ (r : ℕ) (asked : ReplicaEvent) (told : Reply) (is_for : e.replica ≡ r) (is : asked_in w e.act ≡ Some (Step asked)) (is_answer : answer ≡ Stepped (Ok told)) where
+      one_more : admitted_at w' r (answered e answer) ≡ Some asked
+      one_more = let mine : (e.replica == r) ≡ true = eq-eqb e.replica r is_for in rw (mine, is_answer) (ap (option_and_then (admitted (Stepped (Ok told)))) (asks_still e.act here ∙ is))
+
+      -- the admitted event is behind the others of its replica
+      pub log_with : log_in w' r ≡ log_in w r ++ asked ∷ []
+      log_with =
+          let alone : filter_map (admitted_at w' r) (answered e answer ∷ []) ≡ asked ∷ [] = rw one_more refl in
+          log_grows r ∙ ap (λ (xs : List ReplicaEvent). log_in w r ++ xs) alone
+
+      -- and nothing but admitted events has happened
+      pub only_on : OnlyAdmits w'
+      only_on = subst (All (λ x. IsSome (admitted_at w' x.event.replica x))) (sym grows)
+          (All-push (λ x. IsSome (admitted_at w' x.event.replica x)) w.answers (answered e answer)
+          (All-weaker (λ x. IsSome (admitted_at w x.event.replica x)) (λ x. IsSome (admitted_at w' x.event.replica x)) (λ x is_admitted. ap (λ (o : Option ReplicaEvent). is_some o) (admitted_still x.event.replica x is_admitted) ∙ is_admitted) w.answers only)
+          (subst (λ (q : ℕ). IsSome (admitted_at w' q (answered e answer))) (sym is_for) (ap (λ (o : Option ReplicaEvent). is_some o) one_more)))
 
     -- the other logs stay
     pub log_without : (q : ℕ) → q ≢ e.replica → log_in w' q ≡ log_in w q

@@ -1,6 +1,6 @@
 -- How a world comes along the logs, event by event.
-use Rattle.std.proofs.Common.{◌≡◌, ◌≢◌, ◌<◌, refl, sym, ap, subst, ◌∙◌, ◌+◌, ◌==◌, arith, ℕ, zero, suc, Bool, true, false, List, [], ◌∷◌, ◌++◌, length, map, take, Option, Some, None, Result, inl, inr, ◌⊎◌, eq-eqb, eqb-true}
-use Rattle.std.specs.Prelude.{slice_set, All, is_none}
+use Rattle.std.proofs.Common.{◌≡◌, ◌≢◌, ◌<◌, refl, sym, ap, subst, ◌∙◌, ◌+◌, ◌==◌, arith, ℕ, zero, suc, Bool, true, false, List, [], ◌∷◌, ◌++◌, length, map, take, Option, Some, None, Result, Ok, inl, inr, ◌⊎◌, eq-eqb, eqb-true}
+use Rattle.std.specs.Prelude.{slice_set, All, IsSome, is_none}
 use Rattle.std.specs.List.{slice_get, AllZip}
 use Rattle.std.specs.Option.{option_map}
 use Rattle.std.proofs.lemmas.List.Elements.{All-nil}
@@ -29,12 +29,12 @@ use Rattle.mr_world.specs.declared.spec.Spec.{Spec}
 use Rattle.mr_settle.proofs.AdmitLemmas.{next_admitted, replays_more}
 use Rattle.mr_settle.specs.inner.Numbers.{Tells, Grew}
 use Rattle.mr_settle.proofs.PoolLemmas.{nothing_told, tells_on}
-use Rattle.mr_settle.specs.History.{log_in, IsSpecOf, IsStartOf, IsWorldOf}
+use Rattle.mr_settle.specs.History.{admitted_at, log_in, OnlyAdmits, IsSpecOf, IsStartOf, IsWorldOf}
 use Rattle.mr_settle.specs.Explains.{AreDistinct}
 use Rattle.mr_settle.specs.inner.Named.{GivenNumbers, nothing_given}
 use Rattle.mr_settle.specs.inner.Ready.{IsNext, IsReady}
 use Rattle.mr_settle.specs.declared.ready.Ready.{Ready}
-use Rattle.mr_settle.specs.inner.Way.{NotesNewest, TellAll, NamesFrames, left_over, HappensSo, IsAt, IsUnderWay}
+use Rattle.mr_settle.specs.inner.Way.{NotesNewest, TellAll, left_over, HappensSo, IsAt, IsUnderWay}
 use Rattle.mr_settle.specs.inner.Carried.{done_of}
 use Rattle.mr_settle.specs.declared.progress.Progress.{Progress}
 use Rattle.mr_settle.proofs.ProgressLemmas.{map_there}
@@ -42,7 +42,7 @@ use Rattle.mr_settle.proofs.ListLemmas.{some_one, get_within, get_set, get_other
 use Rattle.mr_settle.proofs.NamedLemmas.{IsNamed, named, one_ask, one_record, one_receipt}
 use Rattle.mr_settle.proofs.StartLemmas.{eqb-false_of}
 use Rattle.mr_settle.proofs.MoveLemmas.{Turns, turns}
-use Rattle.mr_settle.proofs.LogLemmas.{names_on, log_with, log_without}
+use Rattle.mr_settle.proofs.LogLemmas.{only_on, log_with, log_without}
 
 -- ---- what was given
 
@@ -100,16 +100,25 @@ module _ {K : Type 0} (form : Form K) where
   }
 
 module _ {K : Type 0} (form : Form K) (stable : IsByMeaning form) where
-  -- the end whose turn it is has one more event of its log
-  turned : (w w' : WorldView K) (end : State K) (position : ℕ) (e : ReplicaEvent) (we : Event Mail) (answer : Answer)
-      → IsItsLog form end → IsAt form w end position → slice_get end.log position ≡ Some e → IsNamed w end.id e we → NamesFrames w → Happens form w we answer w' → IsAt form w' end (position + 1)
-  turned w w' end position e we answer its at is_e named frames happens =
-      let t = turns form w w' end.id e we answer named happens in
+  -- the end whose turn it is admits the next event of its log
+  admits_next : (w w' : WorldView K) (end : State K) (position : ℕ) (e : ReplicaEvent) (answer : Answer)
+      → IsItsLog form end → IsAt form w end position → slice_get end.log position ≡ Some e → (t : Turns form w end.id e answer w') → (told : Reply) × (t.outcome ≡ Ok told)
+  admits_next w w' end position e answer its at is_e t =
       let parts = split_at end.log position e is_e in
       let whole = subst (λ (log : List ReplicaEvent). Replays form end.id end.filter end.event_limit log end) parts.1 its in
       let before : t.before ≡ at.replica = some_one t.before at.replica (replica_at w.members end.id) t.was at.there in
+      next_admitted form stable end.id end.filter end.event_limit (take position end.log) parts.0 e end at.replica t.after t.outcome whole at.replays t.has_memory
+      (subst (λ (s : State K). Steps form s e t.outcome t.after) before t.steps)
+
+  -- it has one more event of its log then
+  turned : (w w' : WorldView K) (end : State K) (position : ℕ) (e : ReplicaEvent) (we : Event Mail) (answer : Answer)
+      → IsItsLog form end → IsAt form w end position → slice_get end.log position ≡ Some e → IsNamed w end.id e we → OnlyAdmits w → Happens form w we answer w' → IsAt form w' end (position + 1)
+  turned w w' end position e we answer its at is_e named only happens =
+      let t = turns form w w' end.id e we answer named happens in
+      let parts = split_at end.log position e is_e in
+      let before : t.before ≡ at.replica = some_one t.before at.replica (replica_at w.members end.id) t.was at.there in
       let steps = subst (λ (s : State K). Steps form s e t.outcome t.after) before t.steps in
-      let admitted = next_admitted form stable end.id end.filter end.event_limit (take position end.log) parts.0 e end at.replica t.after t.outcome whole at.replays t.has_memory steps in
+      let admitted = admits_next w w' end position e answer its at is_e t in
       let next : suc position ≡ position + 1 = omega arith in
       let first : take (position + 1) end.log ≡ take position end.log ++ e ∷ [] = ap (λ (n : ℕ). take n end.log) (sym next) ∙ parts.2 in
       let low = get_within end.log position e is_e in
@@ -118,7 +127,7 @@ module _ {K : Type 0} (form : Form K) (stable : IsByMeaning form) where
         there = t.is;
         within = omega (arith, low);
         log =
-            log_with w w' t.asks t.records t.receipts we answer happens.notes frames (happened_asks form w w' we answer happens) end.id e admitted.0 named.is_for named.asks
+            log_with w w' t.asks t.records t.receipts we answer happens.notes only (happened_asks form w w' we answer happens) end.id e admitted.0 named.is_for named.asks
             (t.answer_is ∙ ap (λ (o : Result Reply Refusal). Stepped o) admitted.1)
             ∙ ap (λ (log : List ReplicaEvent). log ++ e ∷ []) at.log ∙ sym first;
         replays = subst (λ (log : List ReplicaEvent). Replays form end.id end.filter end.event_limit log t.after) (sym first)
@@ -128,14 +137,14 @@ module _ {K : Type 0} (form : Form K) (stable : IsByMeaning form) where
 
   -- the others have what they had
   rested : (w w' : WorldView K) (end other : State K) (position : ℕ) (e : ReplicaEvent) (we : Event Mail) (answer : Answer)
-      → other.id ≢ end.id → IsAt form w other position → IsNamed w end.id e we → NamesFrames w → Happens form w we answer w' → IsAt form w' other position
-  rested w w' end other position e we answer ne at named frames happens =
+      → other.id ≢ end.id → IsAt form w other position → IsNamed w end.id e we → OnlyAdmits w → Happens form w we answer w' → IsAt form w' other position
+  rested w w' end other position e we answer ne at named only happens =
       let t = turns form w w' end.id e we answer named happens in
       record {
         replica = at.replica;
         there = t.others other.id at.replica ne at.there;
         within = at.within;
-        log = log_without w w' t.asks t.records t.receipts we answer happens.notes frames (happened_asks form w w' we answer happens) other.id (λ is. ne (is ∙ named.is_for)) ∙ at.log;
+        log = log_without w w' t.asks t.records t.receipts we answer happens.notes only (happened_asks form w w' we answer happens) other.id (λ is. ne (is ∙ named.is_for)) ∙ at.log;
         replays = at.replays;
       }
 
@@ -146,7 +155,9 @@ module _ {K : Type 0} (form : Form K) (stable : IsByMeaning form) where
   goes_on ends w w' given done place position we end e distinct its way tells next named happens = record {
     is_of = is_of_on form ends w w' we happens.0 way.is_of happens.1;
     ids = happens.1.becomes.ids ∙ way.ids;
-    frames = names_on w w' t.asks t.records t.receipts we happens.0 happens.1.notes way.frames (happened_asks form w w' we happens.0 happens.1);
+    only =
+        only_on w w' t.asks t.records t.receipts we happens.0 happens.1.notes way.only (happened_asks form w w' we happens.0 happens.1) end.id e told.0 named.is_for named.asks
+        (t.answer_is ∙ ap (λ (o : Result Reply Refusal). Stepped o) told.1);
     as_long = length_set done place (position + 1) ∙ way.as_long;
     each = each;
   }
@@ -157,16 +168,19 @@ module _ {K : Type 0} (form : Form K) (stable : IsByMeaning form) where
       t : Turns form w end.id e happens.0 w'
       t = turns form w w' end.id e we happens.0 named happens.1
 
+      told : (told : Reply) × (t.outcome ≡ Ok told)
+      told = admits_next w w' end position e happens.0 its at next.event_is t
+
       by : (j : ℕ) (other : State K) (p : ℕ) → (j ≡ place) ⊎ (j ≢ place) → slice_get ends j ≡ Some other → slice_get (slice_set done place (position + 1)) j ≡ Some p → IsAt form w' other p
       by j other p (inl same) is_other is_p =
           let mine : end ≡ other = some_one end other (slice_get ends j) (ap (slice_get ends) same ∙ next.end_is) is_other in
           let number : position + 1 ≡ p = some_one (position + 1) p (slice_get (slice_set done place (position + 1)) j) (ap (slice_get (slice_set done place (position + 1))) same ∙ get_set done place (position + 1) (get_within done place position next.done_is)) is_p in
           subst (λ (n : ℕ). IsAt form w' other n) number
           (subst (λ (s : State K). IsAt form w' s (position + 1)) mine
-          (turned w w' end position e we happens.0 its at next.event_is named way.frames happens.1))
+          (turned w w' end position e we happens.0 its at next.event_is named way.only happens.1))
       by j other p (inr ne) is_other is_p =
           rested w w' end other p e we happens.0 (other_id ends place j end other distinct next.end_is is_other ne)
-          (way.each j other p is_other (sym (get_other done place j (position + 1) ne) ∙ is_p)) named way.frames happens.1
+          (way.each j other p is_other (sym (get_other done place j (position + 1) ne) ∙ is_p)) named way.only happens.1
 
       each : (j : ℕ) (other : State K) (p : ℕ) → slice_get ends j ≡ Some other → slice_get (slice_set done place (position + 1)) j ≡ Some p → IsAt form w' other p
       each j other p is_other is_p = by j other p (same_or (j == place) refl) is_other is_p
@@ -262,7 +276,7 @@ module _ {K : Type 0} (form : Form K) where
   begins ends w done distinct start as_long zeros = record {
     is_of = record { start = w; is_start = start; events = []; leads = refl };
     ids = made_ids ends start.specs w.members start.are start.made.members;
-    frames = subst (All (λ x. is_none (asked_in w x.event.act) ≡ false)) (sym start.made.answers) (All-nil (λ x. is_none (asked_in w x.event.act) ≡ false));
+    only = subst (All (λ x. IsSome (admitted_at w x.event.replica x))) (sym start.made.answers) (All-nil (λ x. IsSome (admitted_at w x.event.replica x)));
     as_long = as_long;
     each = λ i end p is is_p.
         let there = made_there ends start.specs w.members start.are start.made.members distinct i end is in

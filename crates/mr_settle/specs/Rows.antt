@@ -1,5 +1,8 @@
 -- worked rows: what the definitions give for small values
-use Rattle.std.specs.Prelude.{◌≡◌, ℕ, true, false, List, [], ◌∷◌, Some, None, Ok, Err, refl}
+use Rattle.std.specs.Prelude.{◌≡◌, ℕ, true, false, List, [], ◌∷◌, map, Some, None, is_some, IsSome, Ok, Err, refl}
+use Rattle.std.proofs.Common.{arith}
+use Rattle.std.proofs.lemmas.Bool.{false≢true}
+use Rattle.std.proofs.lemmas.List.Elements.{All-nil, All-cons}
 use Rattle.mr_version.specs.Name.{Name}
 use Rattle.mr_mail.specs.Mail.{Mail}
 use Rattle.mr_model.specs.History.{◌does◌}
@@ -17,13 +20,13 @@ use Rattle.mr_wire.specs.declared.frame.Mode.TheVariants.{Full}
 use Rattle.mr_wire.specs.declared.frame.Receipt.{Receipt}
 use Rattle.mr_world.specs.Kept.{WorldView}
 use Rattle.mr_world.specs.Run.{answered, asked_in}
-use Rattle.mr_world.specs.declared.answer.Answer.TheVariants.{Stepped, Truncated, NothingNew}
+use Rattle.mr_world.specs.declared.answer.Answer.TheVariants.{Stepped, Truncated, NothingNew, Done}
 use Rattle.mr_world.specs.declared.answered.Answered.{Answered}
 use Rattle.mr_world.specs.declared.task.Task.TheVariants as task
 use Rattle.mr_settle.specs.inner.Arrived.{lower_of}
 use Rattle.mr_settle.specs.inner.Carried.{carried}
 use Rattle.mr_settle.specs.inner.Explains.{share_id}
-use Rattle.mr_settle.specs.History.{admitted, log_in}
+use Rattle.mr_settle.specs.History.{admitted, admitted_at, log_in, OnlyAdmits}
 use Rattle.mr_settle.specs.inner.Named.{AsksFor}
 use Rattle.mr_settle.specs.inner.Numbers.{found_in, no_numbers}
 use Rattle.mr_settle.specs.Stuck.{HasItsFrame, IsBehind, join_fault_number}
@@ -82,6 +85,19 @@ refuses_pull = refl
 pub admits_no_part : admitted Truncated task.Truncated ≡ None
 admits_no_part = refl
 
+pub admits_no_offer : admitted NothingNew (task.Offer Indexer) ≡ None
+admits_no_offer = refl
+
+pub admits_no_close : admitted Done (task.Close Indexer) ≡ None
+admits_no_close = refl
+
+-- so more has happened in the world than its replicas' logs tell: the part, the second delivery and the offer
+pub which_are_admitted : map (λ x. is_some (admitted_at world x.event.replica x)) history ≡ true ∷ true ∷ true ∷ true ∷ false ∷ true ∷ false ∷ false ∷ []
+which_are_admitted = refl
+
+pub admits_more : ¬ OnlyAdmits world
+admits_more = λ only. false≢true (only 6 (answered (1 does act.Receive 1) (Stepped (Err NoSession))) (omega arith))
+
 -- ---- frames that were given, and one that was not
 
 pub start_was_given : HasItsFrame world (replica.Receive (frame.Record start))
@@ -100,6 +116,10 @@ start_is_asked = refl
 -- the world before replica 1 asked: no frame was given in it
 abbrev begun : WorldView ℕ
 begun = record { members = []; asks = []; records = []; receipts = []; answers = answered (0 does act.Create mail) (Stepped (Ok (reply.Issued first))) ∷ [] }
+
+-- and nothing was refused in it
+pub begun_only_admits : OnlyAdmits begun
+begun_only_admits = All-cons (λ x. IsSome (admitted_at begun x.event.replica x)) (answered (0 does act.Create mail) (Stepped (Ok (reply.Issued first)))) [] refl (All-nil (λ x. IsSome (admitted_at begun x.event.replica x)))
 
 pub none_releases : AsksFor (asked_in begun) (replica.Release receipt) None
 none_releases (act.Release n) = λ is. cc

@@ -22,8 +22,8 @@ use std::alloc::Global;
 ///
 /// Each replica of the world has admitted the events of the end's log, in order, with frames that replicas of
 /// the world gave, and is equal to the end. So what [`World::promise`] says holds of the replicas as they ended,
-/// whatever the links between them did. The world's ports have one place, and nothing went through them. No ends
-/// give the empty world.
+/// whatever the links between them did. Nothing else happened in the world: no event was refused, and nothing went
+/// through its ports, which have one place. No ends give the empty world.
 ///
 /// `Unexplained` where no log can go on: of the ends with events left it names the lowest, and its next event, by
 /// its number from 1, which carries a frame that nobody gave. `OutOfMemory` otherwise. The ends stay as they are.

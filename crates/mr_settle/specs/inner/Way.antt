@@ -1,5 +1,5 @@
 -- A world that has come some way along the logs of some ends.
-use Rattle.std.specs.Prelude.{◌≡◌, ◌≤◌, ◌+◌, ◌-◌, ℕ, false, is_none, Option, Some, List, [], ◌∷◌, length, map, take, All}
+use Rattle.std.specs.Prelude.{◌≡◌, ◌≤◌, ◌+◌, ◌-◌, ℕ, Option, Some, List, [], ◌∷◌, length, map, take}
 use Rattle.std.specs.List.{slice_get}
 use Rattle.mr_forms.specs.Known.{Form}
 use Rattle.mr_mail.specs.Mail.{Mail}
@@ -11,10 +11,10 @@ use Rattle.mr_replica.specs.declared.replica.TheConstants.{MAX_EVENTS}
 use Rattle.mr_wire.specs.declared.frame.Frame.TheVariants as frame
 use Rattle.mr_world.specs.Kept.{WorldView, replica_at}
 use Rattle.mr_world.specs.Pool.{GivesFrame}
-use Rattle.mr_world.specs.Run.{Happens, asked_in, ids_of}
+use Rattle.mr_world.specs.Run.{Happens, ids_of}
 use Rattle.mr_world.specs.declared.answer.Answer.{Answer}
 use Rattle.mr_world.specs.declared.spec.Spec.{Spec}
-use Rattle.mr_settle.specs.History.{log_in, IsWorldOf}
+use Rattle.mr_settle.specs.History.{log_in, OnlyAdmits, IsWorldOf}
 use Rattle.mr_settle.specs.inner.Named.{AreNumbersOf, GivenNumbers}
 use Rattle.mr_settle.specs.inner.Numbers.{KeepsUp}
 
@@ -41,10 +41,6 @@ module _ {K : Type 0} where
   abbrev pub TellAll : WorldView K → GivenNumbers → Type 0
   TellAll w given = AreNumbersOf w.asks w.records w.receipts given
 
-  -- each act of the history asks for something: a frame that it names was given
-  abbrev pub NamesFrames : WorldView K → Type 0
-  NamesFrames w = All (λ x. is_none (asked_in w x.event.act) ≡ false) w.answers
-
   -- how many events of the logs are left
   abbrev pub left_over : List (State K) → List ℕ → ℕ
   left_over [] done = 0
@@ -64,10 +60,10 @@ module _ {K : Type 0} (form : Form K) where
     pub log : log_in w end.id ≡ take position end.log
     pub replays : Replays form end.id end.filter end.event_limit (take position end.log) replica
 
-  -- so many events of each end are done in the world
+  -- so many events of each end are done in the world, and nothing else
   pub record IsUnderWay (ends : List (State K)) (w : WorldView K) (done : List ℕ) : Type 0 where
     pub is_of : IsWorldOf form ends w
     pub ids : ids_of w.members ≡ map (λ end. end.id) ends
-    pub frames : NamesFrames w
+    pub only : OnlyAdmits w
     pub as_long : length done ≡ length ends
     pub each : (place : ℕ) (end : State K) (position : ℕ) → slice_get ends place ≡ Some end → slice_get done place ≡ Some position → IsAt w end position
