@@ -1,4 +1,5 @@
 pub mod ListLemmas
 pub mod HappeningLemmas
 pub mod DotLemmas
+pub mod EndLemmas
 pub mod PictureLemmas

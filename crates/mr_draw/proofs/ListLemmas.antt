@@ -1,6 +1,7 @@
 -- lists that grow by what one element more gives
-use Rattle.std.proofs.Common.{◌≡◌, ℕ, ◌+◌, ◌∙◌, ap, sym, List, [], ◌∷◌, ◌++◌, Option, Some, None, length, refl, take, arith, ◌≤◌, append-nil, append_assoc, flat_map}
-use Rattle.std.proofs.lemmas.List.Elements.{filter_map-append}
+use Rattle.std.proofs.Common.{◌≡◌, ℕ, ◌+◌, ◌∙◌, ap, sym, Bool, true, false, cond, if◌then◌else◌, List, [], ◌∷◌, ◌++◌, Option, Some, None, length, map, filter, refl, take, arith, ◌≤◌, append-nil, append_assoc, flat_map}
+use Rattle.std.proofs.lemmas.List.{map-append}
+use Rattle.std.proofs.lemmas.List.Elements.{filter-append, filter_map-append}
 use Rattle.std.specs.List.{cons_option, filter_map}
 use Rattle.std.specs.Option.{option_to_list}
 
@@ -18,7 +19,7 @@ cons_option-append (Some x) xs ys = refl
 filter_map-more : {A B : Type 0} (f : A → Option B) (xs : List A) (x : A) → filter_map f (xs ++ x ∷ []) ≡ filter_map f xs ++ option_to_list (f x)
 filter_map-more f xs x = filter_map-append f xs (x ∷ []) ∙ ap (λ ys. filter_map f xs ++ ys) (cons_option-nil (f x))
 
-flat_map-more : {A : Type 0} (f : A → List ℕ) (xs : List A) (x : A) → flat_map f (xs ++ x ∷ []) ≡ flat_map f xs ++ f x
+flat_map-more : {A B : Type 0} (f : A → List B) (xs : List A) (x : A) → flat_map f (xs ++ x ∷ []) ≡ flat_map f xs ++ f x
 flat_map-more f [] x = append-nil (f x)
 flat_map-more f (y ∷ ys) x = ap (λ zs. f y ++ zs) (flat_map-more f ys x) ∙ sym (append_assoc (f y) (flat_map f ys) (f x))
 
@@ -28,12 +29,17 @@ pub filter_map-pushed : {A B : Type 0} (f : A → Option B) (all : List A) (i : 
 filter_map-pushed f all i x before after more invariant pushed =
     pushed ∙ ap (λ ys. ys ++ option_to_list (f x)) invariant ∙ sym (filter_map-more f (take i all) x) ∙ ap (filter_map f) (sym more)
 
--- the same for texts
-pub flat_map-pushed : {A : Type 0} (f : A → List ℕ) (start : List ℕ) (all : List A) (i : ℕ) (x : A) (before after : List ℕ) → take (i + 1) all ≡ take i all ++ x ∷ [] →
+-- a list that grew by one gives what that gives too
+pub flat_map-grown : {A B : Type 0} (f : A → List B) (start : List B) (xs longer : List A) (x : A) (before after : List B) → longer ≡ xs ++ x ∷ [] →
+    before ≡ start ++ flat_map f xs → after ≡ before ++ f x → after ≡ start ++ flat_map f longer
+flat_map-grown f start xs longer x before after more invariant pushed =
+    pushed ∙ ap (λ ys. ys ++ f x) invariant ∙ append_assoc start (flat_map f xs) (f x)
+    ∙ ap (λ ys. start ++ ys) (sym (flat_map-more f xs x) ∙ ap (flat_map f) (sym more))
+
+-- the same where an element gives a list
+pub flat_map-pushed : {A B : Type 0} (f : A → List B) (start : List B) (all : List A) (i : ℕ) (x : A) (before after : List B) → take (i + 1) all ≡ take i all ++ x ∷ [] →
     before ≡ start ++ flat_map f (take i all) → after ≡ before ++ f x → after ≡ start ++ flat_map f (take (i + 1) all)
-flat_map-pushed f start all i x before after more invariant pushed =
-    pushed ∙ ap (λ ys. ys ++ f x) invariant ∙ append_assoc start (flat_map f (take i all)) (f x)
-    ∙ ap (λ ys. start ++ ys) (sym (flat_map-more f (take i all) x) ∙ ap (flat_map f) (sym more))
+flat_map-pushed f start all i x before after more invariant pushed = flat_map-grown f start (take i all) (take (i + 1) all) x before after more invariant pushed
 
 -- the same for a list that grew
 pub filter_map-grown : {A B : Type 0} (f : A → Option B) (xs longer : List A) (x : A) (before after : List B) → longer ≡ xs ++ x ∷ [] →
@@ -51,6 +57,25 @@ pub length-filter_map : {A B : Type 0} (f : A → Option B) (xs : List A) → le
 length-filter_map f [] = omega arith
 length-filter_map f (x ∷ xs) =
     let most = length-cons_option (f x) (filter_map f xs) (length xs) (length-filter_map f xs) in omega (arith, most)
+
+-- ---- what is kept of a list
+
+-- one more is kept if it passes
+kept-one : {A B : Type 0} (f : A → B) (p : A → Bool) (x : A) → map f (filter p (x ∷ [])) ≡ (if p x then f x ∷ [] else [])
+kept-one f p x = elim (p x) as (λ b. map f (cond b (x ∷ []) []) ≡ cond b (f x ∷ []) []) [ true ↦ refl | false ↦ refl ]
+
+pub kept-pushed : {A B : Type 0} (f : A → B) (p : A → Bool) (start : List B) (all : List A) (i : ℕ) (x : A) (before after : List B) → take (i + 1) all ≡ take i all ++ x ∷ [] →
+    before ≡ start ++ map f (filter p (take i all)) → after ≡ before ++ (if p x then f x ∷ [] else []) → after ≡ start ++ map f (filter p (take (i + 1) all))
+kept-pushed f p start all i x before after more invariant pushed =
+    let xs = take i all in
+    pushed ∙ ap (λ ys. ys ++ (if p x then f x ∷ [] else [])) invariant ∙ append_assoc start (map f (filter p xs)) (if p x then f x ∷ [] else [])
+    ∙ ap (λ ys. start ++ (map f (filter p xs) ++ ys)) (sym (kept-one f p x))
+    ∙ ap (λ ys. start ++ ys) (sym (map-append f (filter p xs) (filter p (x ∷ []))) ∙ ap (map f) (sym (filter-append p xs (x ∷ [])) ∙ ap (filter p) (sym more)))
+
+-- tests that answer the same keep the same
+pub filter-same : {A : Type 0} (p q : A → Bool) → ((x : A) → p x ≡ q x) → (xs : List A) → filter p xs ≡ filter q xs
+filter-same p q same [] = refl
+filter-same p q same (x ∷ xs) = ap (λ b. cond b (x ∷ filter p xs) (filter p xs)) (same x) ∙ ap (λ ys. cond (q x) (x ∷ ys) ys) (filter-same p q same xs)
 
 -- ---- texts that are put behind one another
 

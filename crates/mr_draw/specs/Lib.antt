@@ -5,10 +5,15 @@ pub mod Happened
 pub mod Happening
 pub mod MarkView
 pub mod Mark
+pub mod Look
+pub mod Words
+pub mod Ends
 pub mod Sign
+pub mod Lanes
+pub mod Lines
+pub mod Contested
 pub mod HeadingView
 pub mod SheetView
 pub mod Sheet
 pub mod Picture
 pub mod Rows
-pub mod inner

@@ -1,26 +1,37 @@
 -- worked rows: what the definitions give for small values
-use Rattle.std.specs.Prelude.{◌≡◌, ℕ, true, [], ◌∷◌, codes, Some, None, Ok, Err, refl}
+use Rattle.std.specs.Prelude.{◌≡◌, ℕ, true, false, List, [], ◌∷◌, codes, Some, None, Ok, Err, refl}
 use Rattle.std.specs.Fmt.{digits}
+use Rattle.std.specs.Str.{chars}
 use Rattle.std.specs.List.{flat_map}
 use Rattle.mr_version.specs.Name.{Name}
 use Rattle.mr_mail.specs.Mail.{Mail}
+use Rattle.mr_madewith.specs.Revision.{Rev}
 use Rattle.mr_model.specs.History.{◌does◌}
+use Rattle.mr_model.specs.declared.event.Act.{Act}
 use Rattle.mr_model.specs.declared.event.Act.TheVariants as act
 use Rattle.mr_model.specs.declared.event.Event.{Event}
 use Rattle.mr_replica.specs.declared.event.Reply.TheVariants.{Issued, Took}
 use Rattle.mr_replica.specs.declared.event.Reply.TheVariants as reply
 use Rattle.mr_replica.specs.declared.refusal.Refusal.TheVariants.{LogFull}
+use Rattle.mr_world.specs.Kept.{WorldView}
 use Rattle.mr_world.specs.declared.answer.Answer.{Answer}
 use Rattle.mr_world.specs.declared.answer.Answer.TheVariants.{Stepped, Full}
 use Rattle.mr_world.specs.declared.answered.Answered.{Answered}
+use Rattle.mr_draw.specs.Contested.{merged_by, rivals}
+use Rattle.mr_draw.specs.Ends.{last_of_stream}
 use Rattle.mr_draw.specs.Escape.{entity}
+use Rattle.mr_draw.specs.Happened.{Happened}
+use Rattle.mr_draw.specs.Lanes.{below}
+use Rattle.mr_draw.specs.Lines.{line_at, lines_of}
+use Rattle.mr_draw.specs.Look.{are_several, leaves_out, look_of, shape_of}
 use Rattle.mr_draw.specs.NoteLists.{NoteLists}
 use Rattle.mr_draw.specs.Happening.{dot_at, dots, happening_at, issued_versions, kind_of}
 use Rattle.mr_draw.specs.Mark.{class_of, column_of, head_of, label_at, line_text, x_at, x_of, y_of}
-use Rattle.mr_draw.specs.Picture.{below, named_from}
+use Rattle.mr_draw.specs.Picture.{label_among, named_from, shortened}
 use Rattle.mr_draw.specs.Sheet.{fault_text, left_out_text, name_y, width_of}
-use Rattle.mr_draw.specs.Sign.{plain, shape_of, sign_at}
-use Rattle.mr_draw.specs.declared.happening.Kind.TheVariants.{Issue, TakeItem, Open, Cut, Retire, Release}
+use Rattle.mr_draw.specs.Sign.{other_lane_of}
+use Rattle.mr_draw.specs.Words.{dot_label, dot_title, sync_label, title_as}
+use Rattle.mr_draw.specs.declared.happening.Kind.TheVariants.{Issue, TakeItem, TakeMoveOut, Open, Cut, Retire, Release}
 use Rattle.mr_draw.specs.declared.mark.Shape.TheVariants as shape
 
 -- ---- texts that were given
@@ -95,15 +106,96 @@ one_dot = refl
 -- ---- marks
 
 -- an arrow comes from its source
-pub signs_record : sign_at 6 (record { lane = 2; kind = TakeItem 0 7 (name 0 1); place = 9 }) ≡ record { row = 6; lane = 2; other_lane = 0; shape = shape.Item }
-signs_record = refl
+pub comes_from_source : other_lane_of (record { lane = 2; kind = TakeItem 0 7 (name 0 1); place = 9 }) ≡ 0
+comes_from_source = refl
 
--- a merge is a version
-pub plain_merge : plain shape.Merge ≡ shape.Version
-plain_merge = refl
+pub cut_is_cut : shape_of Cut ≡ shape.Cut
+cut_is_cut = refl
 
-pub signs_cut : shape_of Cut ≡ shape.Cut
-signs_cut = refl
+-- versions are several where one is not the first
+pub two_are_several : are_several (name 0 1 ∷ name 1 1 ∷ []) ≡ true
+two_are_several = refl
+
+pub one_twice : are_several (name 0 1 ∷ name 0 1 ∷ []) ≡ false
+one_twice = refl
+
+-- a message from x with two labels
+abbrev mail : Mail
+mail = record { from = codes "x"; subject = codes "hi"; body = []; labels = codes "in" ∷ codes "to-do" ∷ []; flags = 0; day = 0 }
+
+-- a filter without clauses leaves out all that is issued, and nothing else
+pub leaves_out_message : leaves_out [] (act.Create mail) ≡ true
+leaves_out_message = refl
+
+pub leaves_out_nothing : leaves_out [] act.Retire ≡ false
+leaves_out_nothing = refl
+
+-- of three heads two are of one item
+abbrev rev : (item version : Name) → Rev
+rev item version = record { item = item; version = version; below = []; message = mail }
+
+pub two_rivals : rivals (rev (name 0 1) (name 0 2) ∷ rev (name 0 1) (name 1 1) ∷ rev (name 2 1) (name 2 1) ∷ []) ≡ name 0 2 ∷ name 1 1 ∷ []
+two_rivals = refl
+
+-- an edit of three versions, which merges them where it issues one
+abbrev edit : Act Mail
+edit = act.Edit (name 0 1 ∷ name 1 1 ∷ name 2 1 ∷ []) mail
+
+pub merges_three : merged_by (answered (0 does edit) (Stepped (Ok (Issued (name 0 2))))) ≡ name 0 1 ∷ name 1 1 ∷ name 2 1 ∷ []
+merges_three = refl
+
+pub merges_none : merged_by (answered (0 does edit) (Stepped (Err LogFull))) ≡ []
+merges_none = refl
+
+-- a merge has a shape of its own, and a ring where it was contested
+abbrev world : WorldView ℕ
+world = record { members = []; asks = []; records = []; receipts = []; answers = answered (0 does edit) (Stepped (Ok (Issued (name 0 2)))) ∷ [] }
+
+pub look_of_merge : look_of world (name 0 2 ∷ []) (record { lane = 0; kind = Issue (name 0 2); place = 0 }) ≡ record { shape = shape.Merge; is_contested = true; is_push_out = false }
+look_of_merge = refl
+
+-- replica 2 takes an item and a move-out of stream 7 of replica 0, which was opened for it, and retires; replica 4 does not
+abbrev shown : List Happened
+shown =
+    record { lane = 0; kind = Open 2 7; place = 1 } ∷ record { lane = 2; kind = TakeItem 0 7 (name 0 1); place = 3 }
+    ∷ record { lane = 2; kind = TakeMoveOut 0 7 (name 0 2); place = 5 } ∷ record { lane = 2; kind = Retire; place = 6 } ∷ []
+
+pub band_ends : last_of_stream 0 7 0 shown ≡ Some 2
+band_ends = refl
+
+-- nothing was taken of another stream
+pub no_band : last_of_stream 0 8 0 shown ≡ None
+no_band = refl
+
+pub lane_retires : lines_of shown 2 ≡ line_at 2 shape.Lane 0 3 ∷ line_at 2 shape.Thin 3 4 ∷ []
+lane_retires = refl
+
+pub lane_goes_on : lines_of shown 4 ≡ line_at 4 shape.Lane 0 4 ∷ line_at 4 shape.Thin 4 4 ∷ []
+lane_goes_on = refl
+
+-- ---- what marks say
+
+-- of three versions that were merged two are named
+pub label_of_edit : dot_label (name 0 3) edit ≡ codes "0.3 for 0.1 1.1 .."
+unfolding digits
+label_of_edit = refl
+
+pub label_of_sync : sync_label shown 0 7 ≡ codes "1 item, 1 move-out"
+label_of_sync = refl
+
+pub label_of_nothing : sync_label shown 0 8 ≡ codes "0 items"
+unfolding digits
+label_of_nothing = refl
+
+pub title_of_new : dot_title (name 0 3) (act.Create mail) ≡ codes "0.3: a new message; in to-do; x: hi"
+unfolding digits
+title_of_new = refl
+
+pub title_of_taken : title_as 2 (act.Receive 4) (TakeItem 0 7 (name 0 1)) ≡ codes "replica 2 takes 0.1 out of stream 7 of replica 0"
+unfolding digits
+title_of_taken = refl
+
+-- ---- where marks stand
 
 -- the lanes 0, 5 and 9 are in the columns 0, 1 and 2
 pub third_column : column_of (0 ∷ 5 ∷ 9 ∷ []) 9 ≡ 2
@@ -163,6 +255,23 @@ widest = refl
 pub two_names : named_from (codes "phone" ∷ []) 0 (5 ∷ 9 ∷ []) ≡ record { lane = 5; name = codes "phone (5)" } ∷ record { lane = 9; name = codes "replica 9" } ∷ []
 unfolding digits
 two_names = refl
+
+-- a long name is cut
+pub whole_name : shortened (codes "phone") ≡ codes "phone"
+unfolding chars lib.Utf8.encode
+whole_name = refl
+
+pub cut_name : shortened (codes "phone in the kitchen") ≡ codes "phone in the kitch.."
+unfolding chars lib.Utf8.encode
+cut_name = refl
+
+-- a filter is written above 12 lanes, and not above 13
+pub filter_written : label_among 12 (codes "all") ≡ codes "all"
+unfolding chars lib.Utf8.encode
+filter_written = refl
+
+pub filter_left_out : label_among 13 (codes "all") ≡ []
+filter_left_out = refl
 
 -- names of few lanes are side by side, and of many the second is below the first, and the fourth beside it
 pub few_names : name_y 12 1 ≡ 22

@@ -1,28 +1,14 @@
 -- what a mark has to be of a happening
-use Rattle.std.specs.Prelude.{ℕ, ◌+◌, List, [], ◌∷◌}
+use Rattle.std.specs.Prelude.{◌≡◌, ℕ, ◌+◌, List, [], ◌∷◌, ⊤}
+use Rattle.mr_version.specs.Name.{Name}
+use Rattle.mr_world.specs.Kept.{WorldView}
+use Rattle.mr_draw.specs.Ends.{EndsAs}
 use Rattle.mr_draw.specs.MarkView.{MarkView}
 use Rattle.mr_draw.specs.Happened.{Happened}
+use Rattle.mr_draw.specs.Look.{look_of}
+use Rattle.mr_draw.specs.Words.{label_of, title_of}
 use Rattle.mr_draw.specs.declared.happening.Kind.{Kind}
-use Rattle.mr_draw.specs.declared.happening.Kind.TheVariants.{Issue, TakeItem, TakeMoveOut, TakeOther, Open}
-use Rattle.mr_draw.specs.declared.happening.Kind.TheVariants as kind
-use Rattle.mr_draw.specs.declared.mark.Shape.{Shape}
-use Rattle.mr_draw.specs.declared.mark.Shape.TheVariants.{Version, Merge, Item, MoveOut, Record, Band, Cut, Retire, Vouch, Release}
-
-abbrev pub shape_of : Kind → Shape
-shape_of (Issue v) = Version
-shape_of (TakeItem source stream v) = Item
-shape_of (TakeMoveOut source stream v) = MoveOut
-shape_of (TakeOther source stream) = Record
-shape_of (Open target stream) = Band
-shape_of kind.Cut = Cut
-shape_of kind.Retire = Retire
-shape_of (kind.Vouch v) = Vouch
-shape_of (kind.Release v) = Release
-
--- a merge is a version
-abbrev pub plain : Shape → Shape
-plain Merge = Version
-plain other = other
+use Rattle.mr_draw.specs.declared.happening.Kind.TheVariants.{TakeItem, TakeMoveOut, TakeOther, Open}
 
 -- an arrow comes from its source, and a sync's band goes to its target
 abbrev pub other_lane_as : ℕ → Kind → ℕ
@@ -35,21 +21,21 @@ other_lane_as lane other = lane
 abbrev pub other_lane_of : Happened → ℕ
 other_lane_of h = other_lane_as h.lane h.kind
 
--- what a mark says by its places and its shape
-pub record Sign : Type 0 where
-  pub row : ℕ
-  pub lane : ℕ
-  pub other_lane : ℕ
-  pub shape : Shape
+-- of a world in which all this happened, of which this is shown, and these versions were contested
+module _ {K : Type 0} (w : WorldView K) (all shown : List Happened) (contested : List Name) where
+  -- the mark of a happening in this row
+  pub record IsMarkOf (row : ℕ) (h : Happened) (m : MarkView) : Type 0 where
+    pub lane : m.lane ≡ h.lane
+    pub row_is : m.row ≡ row
+    pub other_lane : m.other_lane ≡ other_lane_of h
+    pub ends : EndsAs shown row h.lane h.kind m.look.is_push_out m.last_row
+    pub look : m.look ≡ look_of w contested h
+    pub label : m.label ≡ label_of w all h
+    pub title : m.title ≡ title_of w h
 
-abbrev pub sign_of : MarkView → Sign
-sign_of m = record { row = m.row; lane = m.lane; other_lane = m.other_lane; shape = plain m.look.shape }
-
--- the sign of a happening in this row
-abbrev pub sign_at : ℕ → Happened → Sign
-sign_at row h = record { row = row; lane = h.lane; other_lane = other_lane_of h; shape = shape_of h.kind }
-
--- each happening has a row of its own, the first the row n
-abbrev pub signs_from : ℕ → List Happened → List Sign
-signs_from n [] = []
-signs_from n (h ∷ hs) = sign_at n h ∷ signs_from (n + 1) hs
+  -- each happening has a mark in a row of its own, the first in the row n
+  abbrev pub AreMarksOf : ℕ → List Happened → List MarkView → Type 0
+  AreMarksOf n [] [] = ⊤
+  AreMarksOf n [] (m ∷ ms) = ⊥
+  AreMarksOf n (h ∷ hs) [] = ⊥
+  AreMarksOf n (h ∷ hs) (m ∷ ms) = IsMarkOf n h m × AreMarksOf (n + 1) hs ms

@@ -1,51 +1,37 @@
 //! Where the longer marks end.
+ghost use Rattle.std.specs.Prelude.{◌≡◌, ◌≤◌, ◌<◌, IfOk, length, unwrap_or};
+ghost use Rattle.mr_draw.specs.Ends.{IsWithin, is_of_stream, last_of_stream};
+
 use crate::happening::{Happening, Kind};
+use crate::marks::MAX_ROWS;
 use mr_version::{Author, Version};
 use mr_world::{Act, Answered};
 use std::alloc::{AllocError, Global};
 
 /// The row of the last record of the stream that was taken; this row where there is none.
-pub(crate) fn last_row_of_band(
-    shown: &[Happening],
-    row: usize,
-    source: Author,
-    stream: u64,
-) -> u32 {
-    let last = shown
-        .iter()
-        .rposition(|happening| is_of_stream(happening, source, stream));
-    u32::try_from(last.unwrap_or(row)).unwrap_or(0)
+pub(crate) fn last_row_of_band(shown: &[Happening], row: u32, source: Author, stream: u64) -> u32
+    requires { length shown.now ≤ MAX_ROWS }
+    ensures { result ≡ unwrap_or (last_of_stream source stream 0 shown.now) row }
+{
+    let mut last = row;
+    for (at, happening) in shown.iter().enumerate() {
+        if is_of_stream(&happening.kind, source, stream) {
+            last = at as u32;
+        }
+    }
+    last
 }
 
-/// Whether a record of the stream was taken.
-fn is_of_stream(happening: &Happening, source: Author, stream: u64) -> bool {
-    match happening.kind {
-        Kind::TakeItem(by, number, _) => by == source && number == stream,
-        Kind::TakeMoveOut(by, number, _) => by == source && number == stream,
-        Kind::TakeOther(by, number) => by == source && number == stream,
+/// Whether it is a record of the stream that was taken.
+fn is_of_stream(kind: &Kind, source: Author, stream: u64) -> bool
+    ensures { result ≡ is_of_stream source stream kind.now }
+{
+    match kind {
+        Kind::TakeItem(by, number, _) => *by == source && *number == stream,
+        Kind::TakeMoveOut(by, number, _) => *by == source && *number == stream,
+        Kind::TakeOther(by, number) => *by == source && *number == stream,
         _ => false,
     }
-}
-
-/// How many items and how many move-outs of a stream were taken.
-pub(crate) fn counts_of(happenings: &[Happening], source: Author, stream: u64) -> (usize, usize) {
-    let items = happenings
-        .iter()
-        .filter(|happening| is_of_stream(happening, source, stream) && tells_item(happening))
-        .count();
-    let move_outs = happenings
-        .iter()
-        .filter(|happening| is_of_stream(happening, source, stream) && tells_move_out(happening))
-        .count();
-    (items, move_outs)
-}
-
-fn tells_item(happening: &Happening) -> bool {
-    matches!(&happening.kind, Kind::TakeItem(_, _, _))
-}
-
-fn tells_move_out(happening: &Happening) -> bool {
-    matches!(&happening.kind, Kind::TakeMoveOut(_, _, _))
 }
 
 /// The first row below this one in which the push-out that was issued in it was let go of or superseded on its lane;
@@ -54,16 +40,20 @@ pub(crate) fn last_row_of_push_out(
     alloc: Global,
     answers: &[Answered],
     shown: &[Happening],
-    row: usize,
+    row: u32,
     version: Version,
-) -> Result<u32, AllocError> {
+) -> Result<u32, AllocError>
+    requires row { row < length shown.now }
+    requires few { length shown.now ≤ MAX_ROWS }
+    ensures { IfOk result (IsWithin shown.now row) }
+{
     let mut line = vec![in alloc; version]?;
     let mut last = row;
     for (at, happening) in shown.iter().enumerate() {
-        if at <= row {
+        if at as u32 <= row {
             continue;
         }
-        last = at;
+        last = at as u32;
         if let Some(heir) = heir(answers, happening, line.as_slice()) {
             line.push(heir)?;
         }
@@ -71,7 +61,7 @@ pub(crate) fn last_row_of_push_out(
             break;
         }
     }
-    Ok(u32::try_from(last).unwrap_or(0))
+    Ok(last)
 }
 
 /// The version that was issued, if it replaces one of these.

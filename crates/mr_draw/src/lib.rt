@@ -5,9 +5,11 @@
 //! goes downwards, and each replica has a lane. Texts that were given are escaped, and what a colour says, a shape says too.
 #![tactic(auto)]
 
+mod contested;
 mod ends;
 mod escape;
 mod happening;
+mod lines;
 mod mark;
 mod marks;
 mod notes;

@@ -1,6 +1,7 @@
 //! Marks, and their text in an SVG.
 ghost use Rattle.std.specs.Prelude.{◌≡◌, ◌++◌, ◌<◌, ◌≤◌, ◌^◌, ◌==◌, IfSome, OnOk, length, position, string_bytes};
 ghost use Rattle.std.specs.List.{flat_map};
+ghost use Rattle.mr_draw.specs.Look.{plain_look};
 ghost use Rattle.mr_draw.specs.Mark.{class_of, column_of, contested_class, drawn_text, head_of, label_at, label_down_of, label_right_of, line_text, mark_text, opening_text, path_text, pen_of, push_out_class, ring_of, shape_text, x_at, x_of, y_of};
 
 use crate::escape::push_escaped;
@@ -99,6 +100,19 @@ impl Model for Mark {
     ghost Value = { MarkView };
 
     ghost view = { λ m. record { lane = m.lane; row = m.row; other_lane = m.other_lane; last_row = m.last_row; look = m.look; label = string_bytes m.label; title = string_bytes m.title } };
+}
+
+impl Look {
+    /// The shape with no ring, and not hollow.
+    pub(crate) fn plain(shape: Shape) -> Look
+        ensures { result ≡ plain_look shape }
+    {
+        Look {
+            shape,
+            is_contested: false,
+            is_push_out: false,
+        }
+    }
 }
 
 impl Shape {

@@ -1,12 +1,19 @@
 //! The marks of a world's history.
-ghost use Rattle.std.specs.Prelude.{◌≡◌, ◌≤◌, ◌<◌, IfOk, length, map};
-ghost use Rattle.mr_draw.specs.Sign.{other_lane_of, plain, shape_of, sign_of, signs_from};
-ghost use Rattle.mr_draw.specs.inner.Sign.{IsMarkOf};
+ghost use Rattle.std.specs.Prelude.{◌≡◌, ◌≤◌, ◌<◌, IfOk, if◌then◌else◌, length, not, string_bytes};
+ghost use Rattle.std.specs.List.{list_any};
+ghost use Rattle.std.specs.Option.{option_copied};
+ghost use Rattle.mr_version.specs.Name.{name_eq};
+ghost use Rattle.mr_version.specs.Sets.{is_listed};
+ghost use Rattle.mr_draw.specs.Ends.{DotEnds, EndsAs};
+ghost use Rattle.mr_draw.specs.Look.{are_several, dot_look, event_of, is_merge, is_push_out, leaves_out, look_of, shape_of};
+ghost use Rattle.mr_draw.specs.Sign.{AreMarksOf, IsMarkOf, other_lane_of};
+ghost use Rattle.mr_draw.specs.Words.{label_of, title_of};
 
 use crate::ends::{last_row_of_band, last_row_of_push_out};
 use crate::happening::{Happening, Kind};
 use crate::mark::{Look, Mark, Shape};
-use crate::title::{label_of, title_of};
+use crate::title::{label_as, title_as};
+use mr_filter::Filter;
 use mr_forms::Knowledge;
 use mr_version::{Author, Version};
 use mr_world::{Act, Event, World};
@@ -32,11 +39,11 @@ pub(crate) fn marks<K: Knowledge>(
     shown: &[Happening],
 ) -> Result<Vec<Mark>, AllocError>
     requires { length shown.now ≤ MAX_ROWS }
-    ensures { IfOk result (λ marks. map sign_of marks.items ≡ signs_from 0 shown.now) }
+    ensures { IfOk result (λ marks. AreMarksOf scene.now.world.now scene.now.happenings.now shown.now scene.now.contested.now 0 shown.now marks.items) }
 {
     let mut marks = Vec::with_capacity(scene.alloc, shown.len())?;
     for (row, happening) in shown.iter().enumerate() {
-        marks.push(mark_of(scene, shown, row, happening)?)?;
+        marks.push(mark_of(scene, shown, row as u32, happening)?)?;
     }
     Ok(marks)
 }
@@ -45,18 +52,20 @@ pub(crate) fn marks<K: Knowledge>(
 fn mark_of<K: Knowledge>(
     scene: &Scene<K>,
     shown: &[Happening],
-    row: usize,
+    row: u32,
     happening: &Happening,
 ) -> Result<Mark, AllocError>
-    requires { row < MAX_ROWS }
-    ensures { IfOk result (λ mark. IsMarkOf row happening.now mark) }
+    requires row { row < length shown.now }
+    requires few { length shown.now ≤ MAX_ROWS }
+    ensures { IfOk result (IsMarkOf scene.now.world.now scene.now.happenings.now shown.now scene.now.contested.now row happening.now) }
 {
     let look = look_of(scene, happening);
     let last_row = last_row_of(scene, shown, row, happening, look.is_push_out)?;
-    let (label, title) = words(scene, happening)?;
+    let label = label_of(scene, happening)?;
+    let title = title_of(scene, happening)?;
     Ok(Mark {
         lane: happening.lane,
-        row: row as u32,
+        row,
         other_lane: other_lane_of(happening),
         last_row,
         look,
@@ -65,17 +74,40 @@ fn mark_of<K: Knowledge>(
     })
 }
 
-/// What is written at the happening's mark, and what it tells on pointing.
-fn words<K: Knowledge>(
-    scene: &Scene<K>,
-    happening: &Happening,
-) -> Result<(String, String), AllocError> {
-    let Some(answered) = scene.world.answers().get(happening.place) else {
-        return Ok((String::new(scene.alloc), String::new(scene.alloc)));
-    };
-    let act = &answered.event.act;
-    let label = label_of(scene.alloc, scene.happenings, happening, act)?;
-    Ok((label, title_of(scene.alloc, happening, act)?))
+/// The event of which the happening comes.
+fn event_of<'a, K: Knowledge>(scene: &Scene<'a, K>, happening: &Happening) -> Option<&'a Event>
+    ensures { option_copied result ≡ event_of scene.now.world.now happening.now }
+{
+    match scene.world.answers().get(happening.place) {
+        Some(answered) => Some(&answered.event),
+        None => None,
+    }
+}
+
+/// What is written at the happening's mark.
+fn label_of<K: Knowledge>(scene: &Scene<K>, happening: &Happening) -> Result<String, AllocError>
+    ensures { IfOk result (λ label. string_bytes label ≡ label_of scene.now.world.now scene.now.happenings.now happening.now) }
+{
+    match event_of(scene, happening) {
+        Some(event) => label_as(
+            scene.alloc,
+            scene.happenings,
+            happening.lane,
+            &event.act,
+            &happening.kind,
+        ),
+        None => Ok(String::new(scene.alloc)),
+    }
+}
+
+/// What the happening's mark tells on pointing.
+fn title_of<K: Knowledge>(scene: &Scene<K>, happening: &Happening) -> Result<String, AllocError>
+    ensures { IfOk result (λ title. string_bytes title ≡ title_of scene.now.world.now happening.now) }
+{
+    match event_of(scene, happening) {
+        Some(event) => title_as(scene.alloc, happening.lane, &event.act, &happening.kind),
+        None => Ok(String::new(scene.alloc)),
+    }
 }
 
 /// From or to whose lane the mark goes: an arrow comes from the source's, and a sync's band goes to the target's.
@@ -93,29 +125,47 @@ fn other_lane_of(happening: &Happening) -> Author
 
 /// How the happening's mark looks.
 fn look_of<K: Knowledge>(scene: &Scene<K>, happening: &Happening) -> Look
-    ensures { plain result.shape ≡ shape_of happening.now.kind }
+    ensures { result ≡ look_of scene.now.world.now scene.now.contested.now happening.now }
 {
-    let mut look = Look {
-        shape: shape_of(&happening.kind),
-        is_contested: false,
-        is_push_out: false,
-    };
-    if let Kind::Issue(version) = happening.kind {
-        look.is_contested = scene.contested.contains(&version);
-        if let Some(answered) = scene.world.answers().get(happening.place) {
-            look.is_push_out = is_push_out(scene.world, &answered.event);
-            if is_merge(&answered.event.act) {
-                look.shape = Shape::Merge;
-            }
-        }
+    match happening.kind {
+        Kind::Issue(version) => dot_look(scene, event_of(scene, happening), version),
+        _ => Look::plain(shape_of(&happening.kind)),
     }
-    look
+}
+
+/// How a version's dot looks that comes of this event.
+fn dot_look<K: Knowledge>(scene: &Scene<K>, event: Option<&Event>, version: Version) -> Look
+    ensures { result ≡ dot_look scene.now.world.now scene.now.contested.now (option_copied event.entry) version }
+{
+    let is_contested = is_among(scene.contested, version);
+    match event {
+        Some(event) => Look {
+            shape: shape_of_dot(&event.act),
+            is_contested,
+            is_push_out: is_push_out(scene.world, event),
+        },
+        None => Look {
+            shape: Shape::Version,
+            is_contested,
+            is_push_out: false,
+        },
+    }
+}
+
+/// The shape of the version that an act issues.
+fn shape_of_dot(act: &Act) -> Shape
+    ensures { result ≡ (if is_merge act.now then Shape.Merge else Shape.Version) }
+{
+    if is_merge(act) {
+        Shape::Merge
+    } else {
+        Shape::Version
+    }
 }
 
 /// The shape of what happened.
 fn shape_of(kind: &Kind) -> Shape
-    ensures is { result ≡ shape_of kind.now }
-    ensures plain { plain result ≡ result }
+    ensures { result ≡ shape_of kind.now }
 {
     match kind {
         Kind::Issue(_) => Shape::Version,
@@ -130,22 +180,57 @@ fn shape_of(kind: &Kind) -> Shape
     }
 }
 
+/// Whether the version is one of these.
+fn is_among(versions: &[Version], version: Version) -> bool
+    ensures { result ≡ is_listed versions.now version }
+{
+    versions.contains(&version)
+}
+
 /// Whether it is an edit of several versions.
-pub(crate) fn is_merge(act: &Act) -> bool {
+fn is_merge(act: &Act) -> bool
+    ensures { result ≡ is_merge act.now }
+{
     match act {
-        Act::Edit(bases, _) => match bases.as_slice().split_first() {
-            Some((first, others)) => others.iter().any(|version| *version != *first),
-            None => false,
-        },
+        Act::Edit(bases, _) => are_several(bases.as_slice()),
         _ => false,
     }
 }
 
+/// Whether they are not all one version.
+pub(crate) fn are_several(versions: &[Version]) -> bool
+    ensures { result ≡ are_several versions.now }
+{
+    match versions.split_first() {
+        Some((first, others)) => differ_from(others, *first),
+        None => false,
+    }
+}
+
+/// Whether one of the versions is another than this.
+fn differ_from(versions: &[Version], version: Version) -> bool
+    ensures { result ≡ list_any (λ other. not (name_eq other version)) versions.now }
+{
+    versions.iter().any(|other| *other != version)
+}
+
 /// Whether what the event issues is none that its replica's filter selects.
-fn is_push_out<K: Knowledge>(world: &World<K>, event: &Event) -> bool {
-    match (world.replica(event.replica), &event.act) {
-        (Some(replica), Act::Create(message)) => !replica.filter().select(message),
-        (Some(replica), Act::Edit(_, message)) => !replica.filter().select(message),
+fn is_push_out<K: Knowledge>(world: &World<K>, event: &Event) -> bool
+    ensures { result ≡ is_push_out world.now event.now }
+{
+    match world.replica(event.replica) {
+        Some(replica) => leaves_out(replica.filter(), &event.act),
+        None => false,
+    }
+}
+
+/// Whether the filter does not select what the act issues.
+fn leaves_out(filter: &Filter, act: &Act) -> bool
+    ensures { result ≡ leaves_out filter.now act.now }
+{
+    match act {
+        Act::Create(message) => !filter.select(message),
+        Act::Edit(_, message) => !filter.select(message),
         _ => false,
     }
 }
@@ -155,17 +240,36 @@ fn is_push_out<K: Knowledge>(world: &World<K>, event: &Event) -> bool {
 fn last_row_of<K: Knowledge>(
     scene: &Scene<K>,
     shown: &[Happening],
-    row: usize,
+    row: u32,
     happening: &Happening,
     is_push_out: bool,
 ) -> Result<u32, AllocError>
-    requires { row < MAX_ROWS }
+    requires row { row < length shown.now }
+    requires few { length shown.now ≤ MAX_ROWS }
+    ensures { IfOk result (EndsAs shown.now row happening.now.lane happening.now.kind is_push_out) }
 {
     match happening.kind {
         Kind::Open(_, stream) => Ok(last_row_of_band(shown, row, happening.lane, stream)),
-        Kind::Issue(version) if is_push_out => {
-            last_row_of_push_out(scene.alloc, scene.world.answers(), shown, row, version)
-        }
-        _ => Ok(row as u32),
+        Kind::Issue(version) => last_row_of_dot(scene, shown, row, version, is_push_out),
+        _ => Ok(row),
+    }
+}
+
+/// The last row of a version's dot.
+fn last_row_of_dot<K: Knowledge>(
+    scene: &Scene<K>,
+    shown: &[Happening],
+    row: u32,
+    version: Version,
+    is_push_out: bool,
+) -> Result<u32, AllocError>
+    requires row { row < length shown.now }
+    requires few { length shown.now ≤ MAX_ROWS }
+    ensures { IfOk result (DotEnds shown.now row is_push_out) }
+{
+    if is_push_out {
+        last_row_of_push_out(scene.alloc, scene.world.answers(), shown, row, version)
+    } else {
+        Ok(row)
     }
 }

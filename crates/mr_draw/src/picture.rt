@@ -1,17 +1,21 @@
 //! The picture of a world.
 ghost use Rattle.std.specs.Prelude.{◌≡◌, ◌<◌, ◌≤◌, ◌-◌, All, IfOk, length, map, slice_get, string_bytes, take};
+ghost use Rattle.std.specs.List.{flat_map};
 ghost use Rattle.std.specs.Option.{option_map};
-ghost use Rattle.mr_draw.specs.Sign.{sign_of, signs_from};
-ghost use Rattle.mr_draw.specs.Picture.{Draws, HasFilter, IsFilterOf, lane_at, lanes_in, name_of, named_at, named_by, named_from};
+ghost use Rattle.mr_draw.specs.Lanes.{lane_at, lanes_in};
+ghost use Rattle.mr_draw.specs.Lines.{lines_of};
+ghost use Rattle.mr_draw.specs.Sign.{AreMarksOf};
+ghost use Rattle.mr_draw.specs.Picture.{Draws, HasFilter, IsFilterOf, IsWritten, beginning_of, label_among, name_of, named_at, named_by, named_from, shortened};
 
-use crate::happening::{Happening, Kind, happenings};
-use crate::mark::{FEW_LANES, Look, Mark, Shape};
-use crate::marks::{MAX_ROWS, Scene, is_merge, marks};
+use crate::contested::contested;
+use crate::happening::{Happening, happenings};
+use crate::lines::lines;
+use crate::mark::FEW_LANES;
+use crate::marks::{MAX_ROWS, Scene, marks};
 use crate::sheet::{Heading, Sheet, text_of};
 use mr_forms::Knowledge;
-use mr_replica::{Replica, Reply};
-use mr_version::{AUTHORS, Author, Version};
-use mr_world::{Act, Answer, Answered, World};
+use mr_version::{AUTHORS, Author};
+use mr_world::World;
 use std::alloc::{AllocError, Global};
 
 /// How many characters of a name or a filter are written above a lane.
@@ -56,13 +60,15 @@ fn sheet<K: Knowledge>(
     ensures lanes { IfOk result (λ sheet. sheet.lanes ≡ lanes.items) }
     ensures named { IfOk result (λ sheet. map named_by sheet.headings ≡ named_from (map (λ name. name.now) names.now) 0 lanes.items) }
     ensures filters { IfOk result (λ sheet. All (HasFilter scene.now.world.now) sheet.headings) }
-    ensures shown { IfOk result (λ sheet. map sign_of sheet.marks ≡ signs_from 0 (take MAX_ROWS scene.now.happenings.now)) }
+    ensures written { IfOk result (λ sheet. All (IsWritten (length lanes.items)) sheet.headings) }
+    ensures lines { IfOk result (λ sheet. sheet.lines ≡ flat_map (lines_of (take MAX_ROWS scene.now.happenings.now)) lanes.items) }
+    ensures shown { IfOk result (λ sheet. AreMarksOf scene.now.world.now scene.now.happenings.now (take MAX_ROWS scene.now.happenings.now) scene.now.contested.now 0 (take MAX_ROWS scene.now.happenings.now) sheet.marks) }
     ensures left_out { IfOk result (λ sheet. sheet.left_out ≡ length scene.now.happenings.now - MAX_ROWS) }
 {
     let shown = first(scene.happenings);
     Ok(Sheet {
         headings: headings(scene, names, lanes.as_slice())?,
-        lines: lines(scene, lanes.as_slice(), shown)?,
+        lines: lines(scene.alloc, lanes.as_slice(), shown)?,
         marks: marks(scene, shown)?,
         left_out: (scene.happenings.len() - shown.len()) as u64,
         lanes,
@@ -120,33 +126,35 @@ fn headings<K: Knowledge>(
 ) -> Result<Vec<Heading>, AllocError>
     ensures named { IfOk result (λ headings. map named_by headings.items ≡ named_from (map (λ name. name.now) names.now) 0 lanes.now) }
     ensures filters { IfOk result (λ headings. All (HasFilter scene.now.world.now) headings.items) }
+    ensures written { IfOk result (λ headings. All (IsWritten (length lanes.now)) headings.items) }
 {
-    let is_wide = lanes.len() as u64 > FEW_LANES;
     let mut headings = Vec::with_capacity(scene.alloc, lanes.len())?;
     for (column, lane) in lanes.iter().enumerate() {
-        headings.push(heading(scene, names, is_wide, column, *lane)?)?;
+        headings.push(heading(scene, names, lanes.len() as u64, column, *lane)?)?;
     }
     Ok(headings)
 }
 
-/// What stands above the lane in this column.
+/// What stands above the lane in this column, which is one of so many.
 fn heading<K: Knowledge>(
     scene: &Scene<K>,
     names: &[&str],
-    is_wide: bool,
+    lane_count: u64,
     column: usize,
     lane: Author,
 ) -> Result<Heading, AllocError>
     ensures named { IfOk result (λ heading. named_by heading ≡ named_at (map (λ name. name.now) names.now) column lane) }
     ensures filter { IfOk result (λ heading. HasFilter scene.now.world.now heading) }
+    ensures written { IfOk result (IsWritten lane_count) }
 {
     let name = name_of(scene.alloc, name_at(names, column), lane)?;
     let filter_text = filter_text(scene, lane)?;
-    let shown = if is_wide { "" } else { filter_text.as_str() };
+    let caption = shortened(scene.alloc, name.as_str())?;
+    let label = label_among(scene.alloc, lane_count, filter_text.as_str())?;
     Ok(Heading {
         lane,
-        caption: cut(scene.alloc, name.as_str())?,
-        label: cut(scene.alloc, shown)?,
+        caption,
+        label,
         name,
         filter_text,
     })
@@ -179,104 +187,30 @@ fn filter_text<K: Knowledge>(scene: &Scene<K>, lane: Author) -> Result<String, A
     }
 }
 
-/// The text, or its beginning and two dots.
-fn cut(alloc: Global, text: &str) -> Result<String, AllocError> {
-    let end = text.char_indices().nth(MOST_WRITTEN);
-    match end.and_then(|(end, _)| text.get(..end)) {
-        Some(beginning) => format!(in alloc; "{beginning}.."),
-        None => String::from_str(alloc, text),
-    }
-}
-
-/// The lanes themselves: thick as far as the replica admits events, and then thin.
-fn lines<K: Knowledge>(
-    scene: &Scene<K>,
-    lanes: &[Author],
-    shown: &[Happening],
-) -> Result<Vec<Mark>, AllocError>
-    requires { length shown.now ≤ MAX_ROWS }
+/// What is written of the filter above one of so many lanes: nothing where there are many.
+fn label_among(alloc: Global, lane_count: u64, filter_text: &str) -> Result<String, AllocError>
+    ensures { IfOk result (λ label. string_bytes label ≡ label_among lane_count filter_text.now) }
 {
-    let mut lines = Vec::with_capacity(scene.alloc, lanes.len())?;
-    let last = shown.len() as u32;
-    for lane in lanes {
-        let end = row_of_retirement(shown, *lane).unwrap_or(last);
-        lines.push(line(scene.alloc, *lane, Shape::Lane, 0, end)?)?;
-        lines.push(line(scene.alloc, *lane, Shape::Thin, end, last)?)?;
+    if lane_count > FEW_LANES {
+        return Ok(String::new(alloc));
     }
-    Ok(lines)
+    shortened(alloc, filter_text)
 }
 
-/// A line along a lane.
-fn line(
-    alloc: Global,
-    lane: Author,
-    shape: Shape,
-    row: u32,
-    last_row: u32,
-) -> Result<Mark, AllocError> {
-    let look = Look {
-        shape,
-        is_contested: false,
-        is_push_out: false,
-    };
-    Ok(Mark {
-        lane,
-        row,
-        other_lane: lane,
-        last_row,
-        look,
-        label: String::new(alloc),
-        title: format!(in alloc; "replica {lane}")?,
-    })
+/// The first 18 characters of the text, and two dots where it goes on.
+fn shortened(alloc: Global, text: &str) -> Result<String, AllocError>
+    ensures { IfOk result (λ short. string_bytes short ≡ shortened text.now) }
+{
+    let mut short = beginning_of(alloc, text)?;
+    if short.len() < text.len() {
+        short.push_str("..")?;
+    }
+    Ok(short)
 }
 
-/// The row in which the lane's replica retired.
-fn row_of_retirement(shown: &[Happening], lane: Author) -> Option<u32> {
-    let place = shown.iter().position(|happening| happening.lane == lane
-        && matches!(&happening.kind, Kind::Retire))?;
-    u32::try_from(place).ok()
-}
-
-/// The versions that were one of several heads of an item: those that a merge names, and those that are it now.
-fn contested<K: Knowledge>(alloc: Global, world: &World<K>) -> Result<Vec<Version>, AllocError> {
-    let mut contested = Vec::new(alloc);
-    for answered in world.answers() {
-        push_merged(&mut contested, answered)?;
-    }
-    for id in 0..AUTHORS {
-        if let Ok(author) = Author::try_new(id) {
-            if let Some(replica) = world.replica(author) {
-                push_standing(&mut contested, replica)?;
-            }
-        }
-    }
-    Ok(contested)
-}
-
-/// Adds the versions that a merge names.
-fn push_merged(contested: &mut Vec<Version>, answered: &Answered) -> Result<(), AllocError> {
-    let (Act::Edit(bases, _), Answer::Stepped(Ok(Reply::Issued(_)))) = (
-        &answered.event.act,
-        &answered.answer,
-    ) else {
-        return Ok(());
-    };
-    if is_merge(&answered.event.act) {
-        contested.extend_from_slice(bases.as_slice())?;
-    }
-    Ok(())
-}
-
-/// Adds the replica's heads of items that have several.
-fn push_standing<K: Knowledge>(
-    contested: &mut Vec<Version>,
-    replica: &Replica<K>,
-) -> Result<(), AllocError> {
-    let items = replica.conflicts()?;
-    for head in replica.heads() {
-        if items.contains(&head.item()) {
-            contested.push(head.version())?;
-        }
-    }
-    Ok(())
+/// The first 18 characters of the text.
+fn beginning_of(alloc: Global, text: &str) -> Result<String, AllocError>
+    ensures { IfOk result (λ beginning. string_bytes beginning ≡ beginning_of text.now) }
+{
+    text.chars().take(MOST_WRITTEN).collect(alloc)
 }

@@ -1,5 +1,5 @@
 -- two replicas that ended have the ids that the plan gave them
-use Rattle.std.proofs.Common.{◌≡◌, ◌≢◌, ◌<◌, ◌∷◌, List, [], Result, inl, inr, sym, ap, ◌∙◌, arith}
+use Rattle.std.proofs.Common.{◌≡◌, ◌≢◌, ◌<◌, ◌∷◌, ℕ, List, [], Result, inl, inr, sym, ap, ◌∙◌, arith}
 use Rattle.std.proofs.lemmas.List.Elements.{All-push}
 use Rattle.std.proofs.lemmas.List.Kept.{AllPairs-cons}
 use Rattle.mr_forms.specs.Known.{Form}
@@ -20,18 +20,18 @@ module _ {K : Type 0} (form : Form K) where
   replays_keep_id s t [] h = ap (λ (z : State K). z.id) h
   replays_keep_id s t (x ∷ xs) h = replays_keep_id h.0 t xs h.2 ∙ (step_setting form s h.0 x.letter x.answer h.1).id
 
-  ran_keeps_id : (old : State K) (events : List Event) (links : Links) (new : State K) → RanFrom form old events links new → new.id ≡ old.id
-  ran_keeps_id old events links new h =
+  ran_keeps_id : (old : State K) (events : List Event) (links : Links) (places : ℕ) (new : State K) → RanFrom form old events links places new → new.id ≡ old.id
+  ran_keeps_id old events links places new h =
       ap (λ (z : State K). z.id) h.is ∙ (replays_keep_id h.parts.replica h.end.replica h.ran.ran.exchanges h.ran.ran.replays ∙ ap (λ (z : State K). z.id) h.replica)
 
   alone_id : (plan : NodePlan) (new : State K) → RanAlone form plan new → new.id ≡ plan.spec.id
-  alone_id plan new h = ran_keeps_id h.start plan.events.items h.links new h.ran ∙ ap (λ (z : State K). z.id) h.is_new.is
+  alone_id plan new h = ran_keeps_id h.start plan.events.items h.links plan.spec.port_capacity new h.ran ∙ ap (λ (z : State K). z.id) h.is_new.is
 
   -- they differ, as those of the nodes
   pub ended_apart : (nodes : NodePlan × NodePlan) (ended : State K × State K) → nodes.0.spec.id ≢ nodes.1.spec.id → TwoRounds form nodes ended → ended.0.id ≢ ended.1.id
   ended_apart nodes ended apart ran same =
-      let first : ended.0.id ≡ nodes.0.spec.id = ran_keeps_id ran.between.0 [] ran.both.first_links ended.0 ran.both.first ∙ alone_id nodes.0 ran.between.0 ran.first in
-      let second : ended.1.id ≡ nodes.1.spec.id = ran_keeps_id ran.between.1 [] ran.both.second_links ended.1 ran.both.second ∙ alone_id nodes.1 ran.between.1 ran.second in
+      let first : ended.0.id ≡ nodes.0.spec.id = ran_keeps_id ran.between.0 [] ran.both.first_links nodes.0.spec.port_capacity ended.0 ran.both.first ∙ alone_id nodes.0 ran.between.0 ran.first in
+      let second : ended.1.id ≡ nodes.1.spec.id = ran_keeps_id ran.between.1 [] ran.both.second_links nodes.1.spec.port_capacity ended.1 ran.both.second ∙ alone_id nodes.1 ran.between.1 ran.second in
       apart (sym first ∙ (same ∙ second))
 
   lower_distinct : (low high : State K) → low.id < high.id → AreDistinct (low ∷ high ∷ [])

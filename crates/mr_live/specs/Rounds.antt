@@ -59,8 +59,8 @@ abbrev pub had_memory : NodeReplies → Bool
 had_memory replies = list_all has_memory replies.user.items && (list_all has_memory replies.first_link.items && list_all has_memory replies.second_link.items)
 
 module _ {K : Type 0} (form : Form K) where
-  -- A node without a gate ran from this replica to that one, with these links; its user asked these, and no letter was answered out of memory.
-  pub record RanFrom (old : State K) (events : List Event) (links : Links) (new : State K) : Type 0 where
+  -- A node without a gate ran from this replica to that one, with these links, and with so many places in each of its lanes; its user asked these, and no letter was answered out of memory.
+  pub record RanFrom (old : State K) (events : List Event) (links : Links) (places : ℕ) (new : State K) : Type 0 where
     pub parts : NodeParts (State K) LaneEnd LaneEnd
     pub replica : parts.replica ≡ old
     pub asked : parts.events.items ≡ events
@@ -71,6 +71,7 @@ module _ {K : Type 0} (form : Form K) where
     pub second_after : LaneEnd
     pub ran : ReplicaNodeRan form lane_tells lane_tells never always parts end first_after second_after
     pub memory : IsTrue (had_memory end.replies)
+    pub capacity : end.capacity ≡ places
     pub is : new ≡ end.replica
 
   -- a replica that was just made of this, and knows nothing
@@ -78,25 +79,25 @@ module _ {K : Type 0} (form : Form K) where
     pub is : s ≡ new_state spec.id spec.filter spec.event_limit s.knowledge
     pub knows_nothing : AreSame (form.known s.knowledge) (λ _ _. false)
 
-  -- in a round of its own, a new replica was asked all that the plan says
+  -- in a round of its own, with as many places as the plan says, a new replica was asked all that it says
   pub record RanAlone (plan : NodePlan) (new : State K) : Type 0 where
     pub start : State K
     pub is_new : IsNew plan.spec start
     pub links : Links
     pub idle : AreIdle links
-    pub ran : RanFrom start plan.events.items links new
+    pub ran : RanFrom start plan.events.items links plan.spec.port_capacity new
 
-  -- Both were asked nothing more, and each pulled what the other served.
-  pub record RanBoth (old new : State K × State K) : Type 0 where
+  -- Both were asked nothing more, and each pulled what the other served. The lanes of each had so many places.
+  pub record RanBoth (places : ℕ × ℕ) (old new : State K × State K) : Type 0 where
     pub first_links : Links
     pub second_links : Links
     pub cross : Cross first_links second_links
-    pub first : RanFrom old.0 [] first_links new.0
-    pub second : RanFrom old.1 [] second_links new.1
+    pub first : RanFrom old.0 [] first_links places.0 new.0
+    pub second : RanFrom old.1 [] second_links places.1 new.1
 
-  -- each alone, and then both at once
+  -- each alone, and then both at once, with the places of the plans
   pub record TwoRounds (plans : NodePlan × NodePlan) (ended : State K × State K) : Type 0 where
     pub between : State K × State K
     pub first : RanAlone plans.0 between.0
     pub second : RanAlone plans.1 between.1
-    pub both : RanBoth between ended
+    pub both : RanBoth (plans.0.spec.port_capacity, plans.1.spec.port_capacity) between ended

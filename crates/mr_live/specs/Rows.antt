@@ -1,8 +1,9 @@
 -- worked rows: what the definitions give for small values
 use Rattle.std.specs.Prelude.{◌≡◌, ℕ, true, false, [], ◌∷◌, map, Some, None, Ok, Err, codes, refl}
 use Rattle.std.specs.Fmt.{digits}
-use Rattle.std.proofs.Common.{inl, inr, arith}
+use Rattle.std.proofs.Common.{inl, inr, ap, arith}
 use Rattle.mr_command.specs.declared.fault.LineFault.TheVariants.{UnknownCommand}
+use Rattle.mr_forms.specs.Known.{Form}
 use Rattle.mr_mail.specs.Mail.{Mail}
 use Rattle.mr_model.specs.declared.event.Act.TheVariants as act
 use Rattle.mr_replica.specs.State.{State, new_state}
@@ -18,10 +19,11 @@ use Rattle.mr_live.specs.Live.{AreById, Writes}
 use Rattle.mr_live.specs.Plan.{PlanView, CanAllRun, CanRun, Halves, ScriptAsks, TextAsks, no_plan, asked_by, events_for, is_live_line, scene_of}
 use Rattle.mr_live.specs.Plan.TextAsks.{skipped, unknown}
 use Rattle.mr_live.specs.Plan.LinesAsk.{all_read, at_fault, goes_on}
-use Rattle.mr_live.specs.Rounds.{has_memory}
+use Rattle.mr_live.specs.Rounds.{TwoRounds, has_memory}
 use Rattle.mr_live.specs.Telling.{told_text, unexplained_text}
 use Rattle.mr_live.specs.declared.fault.LiveFault.TheVariants.{OutOfMemory, Script, NotTwo}
 use Rattle.mr_live.specs.declared.plan.Asked.{Asked}
+use Rattle.mr_live.specs.declared.plan.NodePlan.{NodePlan}
 
 -- ---- lines
 
@@ -96,6 +98,16 @@ each_its_own = refl
 -- behind an event no replica comes any more
 pub opening_ends : map (λ (p : PlanView). (scene_of p).is_opening) (no_plan ∷ record { specs = []; asked = create 0 ∷ [] } ∷ []) ≡ true ∷ false ∷ []
 opening_ends = refl
+
+-- ---- how they run
+
+-- in both rounds the lanes of each node have the places of its own replica
+pub own_places : {K : Type 0} (form : Form K) (plans : NodePlan × NodePlan) (ended : State K × State K) (ran : TwoRounds form plans ended) → plans.0.spec ≡ spec 0 9 4 → plans.1.spec ≡ spec 1 9 7
+    → ran.first.ran.end.capacity ∷ ran.second.ran.end.capacity ∷ ran.both.first.end.capacity ∷ ran.both.second.end.capacity ∷ [] ≡ 4 ∷ 7 ∷ 4 ∷ 7 ∷ []
+own_places form plans ended ran one other =
+    let first : plans.0.spec.port_capacity ≡ 4 = ap (λ (s : Spec). s.port_capacity) one in
+    let second : plans.1.spec.port_capacity ≡ 7 = ap (λ (s : Spec). s.port_capacity) other in
+    rw (ran.first.ran.capacity, ran.second.ran.capacity, ran.both.first.capacity, ran.both.second.capacity, first, second) refl
 
 -- ---- what is answered
 

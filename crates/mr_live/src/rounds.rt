@@ -68,7 +68,7 @@ fn run_both<K: Knowledge<Vector: Send> + Send, R: Threads + Wait + Sync + Send +
     second: (Replica<K>, usize),
 ) -> Option<(Replica<K>, Replica<K>)>
     requires { ArePlaces first.1 × ArePlaces second.1 }
-    ensures { IfSome result (λ ended. RanBoth K.form (first.0, second.0) ended) }
+    ensures { IfSome result (λ ended. RanBoth K.form (first.1, second.1) (first.0, second.0) ended) }
 {
     let Ok((first_links, second_links)) = crossing_links(rt, alloc) else {
         return None;
@@ -82,7 +82,7 @@ fn run_both<K: Knowledge<Vector: Send> + Send, R: Threads + Wait + Sync + Send +
             requires threads { IsSend K.row × IsSend R.row × IsSync R.row }
             requires links { Cross first.links second.links }
             requires places { ArePlaces first.places × ArePlaces second.places }
-            ensures { IfSome result (λ ended. RanBoth K.form (first.replica, second.replica) ended) }
+            ensures { IfSome result (λ ended. RanBoth K.form (first.places, second.places) (first.replica, second.replica) ended) }
         { run_in_scope(rt, scope, alloc, first, second) },
     )
 }
@@ -114,7 +114,7 @@ struct OwesReplica<K: Knowledge, R> {
 }
 
 impl<K: Knowledge, R> Promise<Option<Replica<K>>> for OwesReplica<K, R> {
-    ghost kept_by = { λ p r. IfSome r (λ new. RanFrom K.form p.node.value.replica [] p.node.value.links new) };
+    ghost kept_by = { λ p r. IfSome r (λ new. RanFrom K.form p.node.value.replica [] p.node.value.links p.node.value.places new) };
 }
 
 /// The thread of a node.
@@ -136,7 +136,7 @@ fn run_in_scope<
 ) -> Option<(Replica<K>, Replica<K>)>
     requires links { Cross first.links second.links }
     requires places { ArePlaces first.places × ArePlaces second.places }
-    ensures { IfSome result (λ ended. RanBoth K.form (first.replica, second.replica) ended) }
+    ensures { IfSome result (λ ended. RanBoth K.form (first.places, second.places) (first.replica, second.replica) ended) }
 {
     let first = start_node(rt, scope, alloc, first)?;
     let second = run_ready(rt, alloc, second);
@@ -164,7 +164,7 @@ fn start_node<
                 requires threads { IsSend K.row × IsSend R.row × IsSync R.row }
                 requires links { AreNew node.links }
                 requires places { ArePlaces node.places }
-                ensures { IfSome result (λ new. RanFrom K.form node.replica [] node.links new) }
+                ensures { IfSome result (λ new. RanFrom K.form node.replica [] node.links node.places new) }
             { run_ready(rt, alloc, node) },
         )
         .ok()
@@ -178,7 +178,7 @@ fn run_ready<K: Knowledge<Vector: Send> + Send, R: Threads + Wait + Sync + Send 
 ) -> Option<Replica<K>>
     requires links { AreNew node.links }
     requires places { ArePlaces node.places }
-    ensures { IfSome result (λ new. RanFrom K.form node.replica [] node.links new) }
+    ensures { IfSome result (λ new. RanFrom K.form node.replica [] node.links node.places new) }
 {
     let ReadyNode {
         replica,
@@ -274,7 +274,7 @@ fn has_memory(answer: &Answer) -> bool
     }
 }
 
-/// Runs a node before which no gate stands: its replica, where it came to an end and answered no letter out of memory.
+/// Runs a node before which no gate stands, with so many places in each of its lanes: its replica, where it came to an end and answered no letter out of memory.
 fn run<K: Knowledge<Vector: Send> + Send, R: Threads + Wait + Sync + Send + Copy>(
     rt: &R,
     alloc: Global,
@@ -285,7 +285,7 @@ fn run<K: Knowledge<Vector: Send> + Send, R: Threads + Wait + Sync + Send + Copy
 ) -> Option<Replica<K>>
     requires links { AreNew links }
     requires places { ArePlaces capacity }
-    ensures { IfSome result (λ new. RanFrom K.form replica events.items links new) }
+    ensures { IfSome result (λ new. RanFrom K.form replica events.items links capacity new) }
 {
     let (first_link, second_link) = links;
     let parts = NodeParts {

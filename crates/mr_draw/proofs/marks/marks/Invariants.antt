@@ -1,7 +1,7 @@
-use Rattle.std.proofs.Common.{◌≡◌, map, take}
-use Rattle.mr_draw.specs.Sign.{sign_of, signs_from}
+use Rattle.std.proofs.Common.{take}
+use Rattle.mr_draw.specs.Sign.{AreMarksOf}
 use Rattle.mr_draw.proofs.marks.marks.Given as goal
 
 -- the happenings so far have their marks
 abbrev pub invariant-loop-row : goal.invariant-loop-row
-invariant-loop-row g l = map sign_of l.marks.items ≡ signs_from 0 (take l.row l.shown)
+invariant-loop-row g l = AreMarksOf l.scene.world.now l.scene.happenings.now l.shown l.scene.contested.now 0 (take l.row l.shown) l.marks.items

@@ -1,7 +1,7 @@
-use Rattle.std.proofs.Common.{◌≡◌, ◌+◌, ◌∙◌, ap, sym, [], ◌∷◌, ◌++◌, map, take, arith}
+use Rattle.std.proofs.Common.{◌≡◌, ◌+◌, ◌∙◌, ap, sym, [], ◌∷◌, ◌++◌, length, map, take, arith}
 use Rattle.std.proofs.lemmas.List.{take_more}
 use Rattle.std.proofs.lemmas.List.Elements.{All-push}
-use Rattle.mr_draw.specs.Picture.{HasFilter}
+use Rattle.mr_draw.specs.Picture.{HasFilter, IsWritten}
 use Rattle.mr_draw.proofs.PictureLemmas.{names-pushed}
 use Rattle.mr_draw.proofs.picture.headings.Goals as goal
 
@@ -13,4 +13,5 @@ loop-column-preserved g c =
     let more : take (i + 1) all ≡ take i all ++ x ∷ [] = take_more all i x (omega (arith, c.loop-column-test.true)) ∙ ap (λ y. take i all ++ y ∷ []) (sym c.index-lanes-column.is) in (
       names-pushed (map (λ name. name.now) c.args.names.now) all i x c.loop-column.headings.items c.push.new.self.items c.in_ok-heading.field-0 (omega (arith, c.loop-column-test.true)) more c.loop-column.invariant.0 c.in_ok-heading.ensures.named c.in_ok-push.ensures.items,
       rw c.in_ok-push.ensures.items (All-push (HasFilter c.args.scene.now.world.now) c.loop-column.headings.items c.in_ok-heading.field-0 c.loop-column.invariant.1 c.in_ok-heading.ensures.filter),
+      rw c.in_ok-push.ensures.items (All-push (IsWritten (length all)) c.loop-column.headings.items c.in_ok-heading.field-0 c.loop-column.invariant.2 c.in_ok-heading.ensures.written),
     )

@@ -1,2 +1,0 @@
--- what private functions promise, and what their loops keep: no public contract cites it
-pub mod Sign
