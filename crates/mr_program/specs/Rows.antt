@@ -1,14 +1,25 @@
 -- worked rows: texts and statuses at which they must come out
-use Rattle.std.specs.Prelude.{◌≡◌, [], codes, refl, true, false, None, Some, Ok, Err}
+use Rattle.std.specs.Prelude.{◌≡◌, ◌++◌, ℕ, List, [], ◌∷◌, codes, refl, true, false, Option, None, Some, Ok, Err}
 use Rattle.std.specs.Fmt.{digits}
+use Rattle.std.proofs.Common.{inl, sym, subst}
+use Rattle.mr_forms.specs.Known.{Form}
 use Rattle.mr_command.specs.declared.fault.LineFault.TheVariants.{BadFilter, BadNumber, MessageRefused}
 use Rattle.mr_script.specs.declared.fault.ScriptFault.TheVariants.{Line, Read, TooLong}
+use Rattle.mr_script.specs.declared.fault.ScriptFault.{ScriptFault}
 use Rattle.mr_script.specs.declared.fault.ScriptFault.TheVariants as script
+use Rattle.mr_script.specs.Frame.{Tells, bytes_of}
+use Rattle.mr_script.specs.Leaving.Leaves.{all_run as leaves_all}
+use Rattle.mr_script.specs.Run.{Runs, bare}
+use Rattle.mr_script.specs.Run.Runs.{all_run, breaks}
+use Rattle.mr_script.specs.Script.{looked_at}
+use Rattle.mr_script.specs.Stage.{Stage}
+use Rattle.mr_draw.specs.Sheet.{blank_text}
 use Rattle.mr_live.specs.declared.fault.LiveFault.TheVariants as live
-use Rattle.mr_program.specs.declared.ending.Fault.TheVariants.{CommandLine, Write, Script}
+use Rattle.mr_program.specs.declared.ending.Fault.TheVariants.{CommandLine, Write, OutOfMemory, Script}
 use Rattle.mr_program.specs.declared.ending.Ending.TheVariants.{Done, Closed, Stopped}
-use Rattle.mr_program.specs.Drawing.{text_under}
+use Rattle.mr_program.specs.Drawing.{EndsPicture, text_under}
 use Rattle.mr_program.specs.Ending.{ending_behind, ending_of, ending_of_live, status_of}
+use Rattle.mr_program.specs.Printing.{BeginsToWrite, EndsFrame, EndsScript}
 use Rattle.mr_program.specs.Text.{fault_text}
 
 -- a faulty line is told with its number
@@ -91,3 +102,59 @@ nothing_under = refl
 pub fault_under : text_under (Stopped (Script (Line 2 BadNumber))) ≡ codes "line 2: bad number"
 unfolding digits
 fault_under = refl
+
+-- ---- what is written where a write fails or memory runs out
+
+-- a beginning comes behind what was there, and may be nothing or all
+pub behind : BeginsToWrite (codes "not hex\n") (Some (codes "> ")) (Some (codes "> not"))
+behind = (codes " hex\n", record { written = codes "not"; are = refl; all = refl })
+
+pub none_of_it : BeginsToWrite (codes "not hex\n") (Some (codes "> ")) (Some (codes "> "))
+none_of_it = (codes "not hex\n", record { written = []; are = refl; all = refl })
+
+pub all_of_it : BeginsToWrite (codes "not hex\n") (Some (codes "> ")) (Some (codes "> not hex\n"))
+all_of_it = ([], record { written = codes "not hex\n"; are = refl; all = refl })
+
+-- another part of it is none, and what was there may not go
+pub no_other_part : ¬ BeginsToWrite (1 ∷ 2 ∷ []) (Some []) (Some (2 ∷ []))
+no_other_part (unwritten, settles) = cc (subst (λ (written : List ℕ). 1 ∷ 2 ∷ [] ≡ written ++ unwritten) (sym settles.are) settles.all)
+
+pub old_stays : ¬ BeginsToWrite (1 ∷ []) (Some (2 ∷ [])) (Some (1 ∷ []))
+old_stays (unwritten, settles) = cc settles.are
+
+-- of a word that spells no bytes
+pub frame_begun : (word : List ℕ) → Tells (bytes_of word) (codes "not hex\n") true → EndsFrame word (Stopped Write) (Some (codes "> ")) (Some (codes "> not"))
+frame_begun word tell = record { lines = codes "not hex\n"; is_fault = true; tell = tell; begins = behind }
+
+-- without memory nothing is told of a word
+pub no_frame : (word : List ℕ) → ¬ EndsFrame word (Stopped OutOfMemory) (Some []) (Some (codes "not"))
+no_frame word is = cc is
+
+module _ {K : Type 0} (form : Form K) where
+  -- a picture may not be begun at all
+  pub picture_not_begun : EndsPicture form [] [] (Stopped Write) (Some (codes "> ")) (Some (codes "> "))
+  unfolding looked_at
+  picture_not_begun = record {
+    end = None;
+    svg = blank_text [];
+    draws = record { last = bare; leaves = leaves_all; draws = refl };
+    begins = (blank_text [], record { written = []; are = refl; all = refl });
+  }
+
+  pub no_picture : ¬ EndsPicture form [] [] (Stopped OutOfMemory) (Some []) (Some (codes "<svg"))
+  no_picture is = cc is
+
+  nothing_printed : (s : Stage K) (number room : ℕ) (end : Option ScriptFault) (output : List ℕ) → Runs form s number room [] end output → output ≡ []
+  nothing_printed s number room end output all_run = refl
+  nothing_printed s number room end output (breaks broken) = refl
+
+  begins_with : (written unwritten : List ℕ) → written ≡ codes "x" → (written ++ unwritten) ++ [] ≡ [] → ⊥
+  begins_with written unwritten is none = cc (subst (λ (text : List ℕ). (text ++ unwritten) ++ [] ≡ []) is none)
+
+  -- an empty script has nothing printed, also where a write fails
+  pub nothing_of_nothing : ¬ EndsScript form [] (Stopped (Script script.Write)) (Some []) (Some (codes "x"))
+  unfolding looked_at
+  nothing_of_nothing is =
+      let begun = is.begins.1 in
+      let none = nothing_printed bare 1 16777216 (Some Read) _ (begun.leads (Some Read) [] (breaks (inl refl))) in
+      begins_with begun.written is.begins.0 (sym begun.are) none

@@ -12,7 +12,8 @@ use std::alloc::{AllocError, Global};
 use std::io::{Read, Write};
 
 /// Runs the script that the reader gives over a form of knowledge, prints the picture of the world that it makes, and says
-/// how the program ends: as the script does, but where there is no memory for the picture, or it can't be written.
+/// how the program ends: as the script does, but where there is no memory for the picture, and nothing is written, or a write fails, and a
+/// beginning of it is.
 ///
 /// These names stand above the lanes from left to right. A fault ends the script as in a run: the picture is of what was done before it, and has the fault's text under it.
 pub fn end_picture<K: Knowledge, R: Read + Drop, W: Write>(
@@ -27,11 +28,12 @@ pub fn end_picture<K: Knowledge, R: Read + Drop, W: Write>(
     let mut interpreter = Interpreter::<K>::new(alloc);
     let ending = ending_of_run(run_script_in(alloc, reader, &mut interpreter));
     let picture = picture(alloc, names, &interpreter, ending);
-    print_picture(picture, ending, output)
+    print_picture(alloc, picture, ending, output)
 }
 
 /// Prints the picture, if there was memory for it, of a script that ran so. Says how the program ends.
 fn print_picture<W: Write>(
+    alloc: Global,
     picture: Result<String, AllocError>,
     ran: Ending,
     output: &mut W,
@@ -41,9 +43,9 @@ fn print_picture<W: Write>(
     let Ok(svg) = picture else {
         return Ending::Stopped(Fault::OutOfMemory);
     };
-    match print_all(svg.as_str(), output) {
+    match print_all(alloc, svg.as_str(), output) {
         Ok(()) => ran,
-        Err(_) => Ending::Stopped(Fault::Write),
+        Err(fault) => Ending::Stopped(fault),
     }
 }
 

@@ -1,9 +1,9 @@
 //! What the program does: runs or draws a script, tells a frame, or says what its command line is.
-ghost use Rattle.std.specs.Prelude.{◌≡◌, ◌≢◌, true, IfSome, OnOk};
-ghost use Rattle.std.specs.Io.KnownBytes.{Appends};
+ghost use Rattle.std.specs.Prelude.{◌≡◌, ◌≢◌, true, IfSome};
 ghost use Rattle.clap.specs.Values.{kind_of};
 ghost use Rattle.mr_program.specs.Ending.{is_status};
 ghost use Rattle.mr_program.specs.Printing.{EndsFrame, EndsScript};
+ghost use Rattle.mr_program.specs.inner.Printing.{PrintsText};
 
 use crate::command_line::{Form, Run, Wanted};
 use crate::draw::end_picture;
@@ -16,7 +16,7 @@ use clap::error::ErrorKind;
 use mr_forms::Knowledge;
 use mr_hints::Commands;
 use mr_itemset::{ItemKnowledge, SparingKnowledge};
-use mr_script::{Interpreter, frame_text, run_script, run_script_over};
+use mr_script::{Interpreter, Output, frame_text, run_script, run_script_over};
 use std::alloc::Global;
 use std::io;
 use std::io::{Read, Write};
@@ -94,8 +94,8 @@ fn end_over<R: Read + Drop, W: Write>(
     }
 }
 
-/// Runs the script that the reader gives over a form of knowledge, prints its answers, and says how the program ends. The
-/// world that the script made stays in memory: the program ends behind it, and the system takes all back at once.
+/// Runs the script that the reader gives over a form of knowledge, prints its answers, and says how the program ends. Where a write fails, a beginning of
+/// them was written. The world that the script made stays in memory: the program ends behind it, and the system takes all back at once.
 pub fn end_script<K: Knowledge, R: Read + Drop, W: Write>(
     alloc: Global,
     reader: R,
@@ -111,15 +111,16 @@ pub fn end_script<K: Knowledge, R: Read + Drop, W: Write>(
     ending_of_run(run_script_over(alloc, reader, output, interpreter))
 }
 
-/// Prints what the frame says that the word spells, and says how the program ends.
+/// Prints what the frame says that the word spells, and says how the program ends. Where a write fails, a beginning of that was written; where
+/// memory runs out, nothing.
 pub fn end_frame<W: Write>(alloc: Global, word: &str, output: &mut W) -> Ending
     ensures { EndsFrame word.now result (W.contents output.old) (W.contents output.new) }
 {
     let Ok(text) = frame_text(alloc, word) else {
         return Ending::Stopped(Fault::OutOfMemory);
     };
-    if print_all(text.lines.as_str(), output).is_err() {
-        return Ending::Stopped(Fault::Write);
+    if let Err(fault) = print_all(alloc, text.lines.as_str(), output) {
+        return Ending::Stopped(fault);
     }
     if text.is_fault {
         Ending::NoFrame
@@ -128,12 +129,19 @@ pub fn end_frame<W: Write>(alloc: Global, word: &str, output: &mut W) -> Ending
     }
 }
 
-/// Prints the text, and flushes the writer.
-pub(crate) fn print_all<W: Write>(text: &str, output: &mut W) -> io::Result<()>
-    ensures { OnOk result (Appends (W.contents output.old) (W.contents output.new) text.now) }
+/// Prints the text, of which a copy waits meanwhile, and flushes the writer. The first write that fails ends it, and a beginning was written then;
+/// nothing was, where there is no memory.
+pub(crate) fn print_all<W: Write>(alloc: Global, text: &str, output: &mut W) -> Result<(), Fault>
+    ensures { PrintsText text.now result (W.contents output.old) (W.contents output.new) }
 {
-    output.write_all(text.as_bytes())?;
-    output.flush()
+    let mut waiting = Output::new(alloc);
+    if waiting.push(text).is_err() {
+        return Err(Fault::OutOfMemory);
+    }
+    match waiting.flush(output) {
+        Ok(()) => Ok(()),
+        Err(_) => Err(Fault::Write),
+    }
 }
 
 /// Prints what the command line is answered with in place of a run: help, the version, or what is wrong with it. Gives
