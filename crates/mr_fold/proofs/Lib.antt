@@ -7,3 +7,4 @@ pub mod SizesLemmas
 pub mod DecidingLemmas
 pub mod PartsLemmas
 pub mod SeeingLemmas
+pub mod MovingLemmas

@@ -1,9 +1,7 @@
 -- a settling in parts
-use Rattle.std.proofs.Common.{◌≡◌, ◌≢◌, ◌≤◌, ◌+◌, ◌⊎◌, inl, inr, ⊎_elim, ℕ, Bool, true, List, [], ◌∷◌, ◌++◌, length, take, refl, sym, ap, subst, ◌∙◌, arith, append_assoc, append-nil, length-append}
-use Rattle.std.specs.Prelude.{IsTrue, map, min, nat_le}
+use Rattle.std.proofs.Common.{◌≡◌, ◌≢◌, ◌≤◌, ◌+◌, ◌⊎◌, inl, inr, ⊎_elim, ℕ, Bool, List, [], ◌∷◌, ◌++◌, length, refl, sym, ap, subst, ◌∙◌, arith, append_assoc, append-nil, length-append}
+use Rattle.std.specs.Prelude.{IsTrue, map, min}
 use Rattle.std.specs.Global.{Vec}
-use Rattle.std.proofs.Math.Seq.{take-length}
-use Rattle.std.proofs.lemmas.Bool.{and_parts, leb-true}
 use Rattle.mr_version.specs.Name.{Name}
 use Rattle.mr_journal.specs.Device.{LeavesOnly}
 use Rattle.mr_journal.specs.Format.{Stands}
@@ -17,7 +15,7 @@ use Rattle.mr_itemset.specs.Normal.{Normal}
 use Rattle.mr_replica.specs.State.{State}
 use Rattle.mr_kept.specs.declared.journaled.Journaled.{Journaled}
 use Rattle.mr_kept.specs.Entries.{notes_of}
-use Rattle.mr_kept.specs.Kept.{IsKept, journal_of, kept_of, nothing_waits, notes_waiting, replica_of}
+use Rattle.mr_kept.specs.Kept.{IsKept, journal_of, notes_waiting, replica_of}
 use Rattle.mr_kept.proofs.EntryLemmas.{notes_append}
 use Rattle.mr_compare.specs.declared.compare.MailAct.{MailAct}
 use Rattle.mr_compare.specs.declared.joining.ItemHeads.{ItemHeads}
@@ -25,7 +23,7 @@ use Rattle.mr_fold.specs.Settling.{AreWholeParts, HasAll, HasFirst, HasShown, Is
 use Rattle.mr_fold.specs.declared.settling.TheConstants.{MAILS_AT_ONCE}
 use Rattle.mr_fold.specs.Shown.{shown_note}
 use Rattle.mr_fold.specs.Telling.{Grows, TellsAll}
-use Rattle.mr_fold.proofs.SettlingLemmas.{none_waits, notes_behind, settles_then}
+use Rattle.mr_fold.proofs.SettlingLemmas.{all_events, none_waits, notes_behind, settles_then}
 
 -- where none stand before them
 alone : (held : List (List ℕ × Vec ItemHeads)) (moved done : List MailAct) (old new : State Normal) → moved ≡ [] → Grows (TellsAll held (moved ++ done)) old new → Grows (TellsAll held done) old new
@@ -76,13 +74,6 @@ module _ {D V F : Type 0} (seen : D → List ℕ) (may_leave : D → List ℕ �
         parts = [];
         notes = all.notes;
       }))) left)
-
-  -- all events of a journal are kept, for which nothing waits
-  all_events : (entries : List Entry) (j : Journaled Normal D V) → IsKept seen may_leave entries j → nothing_waits j ≡ true → events_of entries ≡ (replica_of j).log
-  all_events entries j is none =
-      let few = and_parts (nat_le (length (replica_of j).log) (kept_of j)) _ none in
-      let all : kept_of j ≡ length (replica_of j).log = omega (arith, leb-true (kept_of j) (length (replica_of j).log) is.within, leb-true (length (replica_of j).log) (kept_of j) few.0) in
-      is.events ∙ ap (λ (n : ℕ). take n (replica_of j).log) all ∙ take-length (replica_of j).log
 
   module _ (moved mails still : List MailAct) (old mid new : Journaled Normal D V) (files : F) (so_far : PartsSoFar moved mails still old mid files) (more_left : still ≢ []) (none : moved ≡ []) (entries : List Entry)
       (first : IsNoted seen may_leave entries (notes_waiting old) mid lacking) where

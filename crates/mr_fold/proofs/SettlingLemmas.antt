@@ -1,9 +1,11 @@
 -- what crashes leave of a settling
-use Rattle.std.proofs.Common.{◌≡◌, ◌≢◌, ◌⊎◌, inl, inr, ⊎_elim, ℕ, Bool, true, false, true≢false, List, [], ◌∷◌, ◌++◌, length, take, Ok, Err, refl, sym, ap, subst, ◌∙◌, append_assoc, append-nil}
+use Rattle.std.proofs.Common.{All, ◌≡◌, ◌≢◌, ◌⊎◌, inl, inr, ⊎_elim, ℕ, Bool, true, false, true≢false, arith, List, [], ◌∷◌, ◌++◌, length, take, Ok, Err, refl, sym, ap, subst, ◌∙◌, append_assoc, append-nil}
 use Rattle.std.specs.Prelude.{◌==◌, IsTrue, OnOk, Result, map, nat_le}
 use Rattle.std.specs.Global.{Vec}
-use Rattle.std.proofs.lemmas.Bool.{and_parts, eqb-true}
+use Rattle.std.proofs.Math.Seq.{take-length}
+use Rattle.std.proofs.lemmas.Bool.{and_parts, eqb-true, leb-true}
 use Rattle.std.proofs.lemmas.List.{map-append, nil_from_length, take-append-drop}
+use Rattle.std.proofs.lemmas.List.Elements.{All-weaker}
 use Rattle.mr_version.specs.Name.{Name}
 use Rattle.mr_journal.specs.Device.{LeavesOnly}
 use Rattle.mr_journal.specs.Format.{Stands}
@@ -25,7 +27,7 @@ use Rattle.mr_kept.proofs.RunLemmas.{batch_notes, batch_tells}
 use Rattle.mr_kept.proofs.KeptLemmas.{kept_on, stands_now}
 use Rattle.mr_compare.specs.declared.compare.MailAct.{MailAct}
 use Rattle.mr_compare.specs.declared.joining.ItemHeads.{ItemHeads}
-use Rattle.mr_fold.specs.Settling.{HasAll, IsNoted, Settles, shown_notes}
+use Rattle.mr_fold.specs.Settling.{HasAll, IsNoted, IsToldFirst, Settles, Stay, shown_notes}
 use Rattle.mr_fold.specs.Shown.{shown_note}
 use Rattle.mr_fold.specs.Telling.{Grows, TellsAll}
 use Rattle.mr_fold.proofs.TellingLemmas.{grows_then}
@@ -44,6 +46,19 @@ module _ {K D V : Type 0} where
     issued = second.issued ∙ first.issued;
     notes = second.notes ∙ first.notes;
   }
+
+-- ---- the files stay
+
+module _ {F : Type 0} {are_synced : F → Type 0} {is_shown : F → MailAct → Type 0} where
+  pub stay_still : (files : F) → Stay are_synced is_shown files files
+  stay_still files = record { synced = λ is. is; shown = λ mail is. is }
+
+  pub stay_then : (a b c : F) → Stay are_synced is_shown a b → Stay are_synced is_shown b c → Stay are_synced is_shown a c
+  stay_then a b c first second = record { synced = λ is. second.synced (first.synced is); shown = λ mail is. second.shown mail (first.shown mail is) }
+
+  -- what was shown still is
+  pub all_stay : (mails : List MailAct) (old new : F) → Stay are_synced is_shown old new → All (is_shown old) mails → All (is_shown new) mails
+  all_stay mails old new stay all = All-weaker (is_shown old) (is_shown new) stay.shown mails all
 
 -- ---- in two parts
 
@@ -108,6 +123,13 @@ module _ {K D V : Type 0} {seen : D → List ℕ} {may_leave : D → List ℕ �
   kept_noted entries old noted note kept put =
       kept_on entries old noted [] kept put.journal put.head put.kept put.issued (ap (λ (s : State K). s.log) put.replica ∙ sym (append-nil (replica_of old).log))
 
+  -- all events of a journal are kept, for which nothing waits
+  pub all_events : (entries : List Entry) (j : Journaled K D V) → IsKept seen may_leave entries j → nothing_waits j ≡ true → events_of entries ≡ (replica_of j).log
+  all_events entries j is none =
+      let few = and_parts (nat_le (length (replica_of j).log) (kept_of j)) _ none in
+      let all : kept_of j ≡ length (replica_of j).log = omega (arith, leb-true (kept_of j) (length (replica_of j).log) is.within, leb-true (length (replica_of j).log) (kept_of j) few.0) in
+      is.events ∙ ap (λ (n : ℕ). take n (replica_of j).log) all ∙ take-length (replica_of j).log
+
   -- a commit of the note, and of what waited before it
   pub noted_by : (entries : List Entry) (waited : List NoteParts) (old noted new : Journaled K D V) (lacking : List Name) → notes_waiting old ≡ waited → Noted (shown_note (length (replica_of old).feed) lacking) old noted → replica_of new ≡ replica_of noted
       → IsKept seen may_leave (entries ++ entries_waiting noted) new → IsNoted seen may_leave entries waited new lacking
@@ -148,6 +170,18 @@ module _ {K D V : Type 0} {seen : D → List ℕ} {may_leave : D → List ℕ �
       }
 
 -- ---- settlings
+
+module _ {D V : Type 0} {seen : D → List ℕ} {may_leave : D → List ℕ → Type 0} where
+  -- a commit of what waited, and of what was told
+  pub told_kept : (entries : List Entry) (held : List (List ℕ × Vec ItemHeads)) (mails : List MailAct) (old told new : Journaled Normal D V) → SameJournal old told → Grows (TellsAll held mails) (replica_of old) (replica_of told)
+      → IsKept seen may_leave (entries ++ entries_waiting told) new → nothing_waits new ≡ true → replica_of new ≡ replica_of told → IsToldFirst seen may_leave entries held mails old new
+  told_kept entries held mails old told new same grows kept all_kept replica = record {
+    told = subst (λ (s : State Normal). Grows (TellsAll held mails) (replica_of old) s) (sym replica) grows;
+    all_kept = all_kept;
+    more = entries_waiting told;
+    kept = kept;
+    notes = batch_notes (issued_of told) (waiting told) (notes_waiting told) ∙ same.notes;
+  }
 
 module _ {D V F : Type 0} {seen : D → List ℕ} {may_leave : D → List ℕ → Type 0} {is_told : Bool} (are_synced : F → Type 0) (held : List (List ℕ × Vec ItemHeads)) (lacking : List Name) where
   -- where the last commit does what it has to

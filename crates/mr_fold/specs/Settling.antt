@@ -38,7 +38,20 @@ module _ {K D V : Type 0} where
     pub parts : List ℕ
     pub notes : notes_of more ≡ waiting ++ shown_notes (parts ++ length (replica_of j).feed ∷ []) lacking
 
+-- From one state of the files to another none is moved: what is on the disk stays there, and each mail that was shown still is.
+pub record Stay {F : Type 0} (are_synced : F → Type 0) (is_shown : F → MailAct → Type 0) (old new : F) : Type 0 where
+  pub synced : are_synced old → are_synced new
+  pub shown : (mail : MailAct) → is_shown old mail → is_shown new mail
+
 module _ {D V : Type 0} where
+  -- What is told of these mails is kept, and what waited; and no note more.
+  pub record IsToldFirst (seen : D → List ℕ) (may_leave : D → List ℕ → Type 0) (entries : List Entry) (held : List (List ℕ × Vec ItemHeads)) (mails : List MailAct) (old new : Journaled Normal D V) : Type 0 where
+    pub told : Grows (TellsAll held mails) (replica_of old) (replica_of new)
+    pub all_kept : nothing_waits new ≡ true
+    pub more : List Entry
+    pub kept : IsKept seen may_leave (entries ++ more) new
+    pub notes : notes_of more ≡ notes_waiting old
+
   -- These mails are settled: what is told of them is kept, with the note that the whole feed is shown, but for the items that lack their file.
   pub record Settles {F : Type 0} (seen : D → List ℕ) (may_leave : D → List ℕ → Type 0) (is_told : Bool) (are_synced : F → Type 0) (held : List (List ℕ × Vec ItemHeads)) (mails : List MailAct) (lacking : List Name) (old new : Journaled Normal D V) (files : F) : Type 0 where
     -- nothing waits for a commit any more
@@ -58,6 +71,24 @@ pub record HasShown {K : Type 0} (file : List ℕ) (entries : List Entry) (waiti
   pub events : events_of (entries ++ more) ≡ s.log
   pub parts : List ℕ
   pub notes : notes_of more ≡ waiting ++ shown_notes (parts ++ length s.feed ∷ []) lacking
+
+-- Behind these entries the file has those of what waited, and of what is told of these mails; and no note more.
+pub record HasTold (file : List ℕ) (entries : List Entry) (waiting : List NoteParts) (held : List (List ℕ × Vec ItemHeads)) (mails : List MailAct) (old : State Normal) : Type 0 where
+  pub then : State Normal
+  pub told : Grows (TellsAll held mails) old then
+  pub more : List Entry
+  pub stands : Stands (map entry_bytes (entries ++ more)) file
+  pub events : events_of (entries ++ more) ≡ then.log
+  pub notes : notes_of more ≡ waiting
+
+-- The file has what it had when the moved mails had been told and shown, and some first ones of the others; and nothing of those behind them.
+pub record HasBegun (file : List ℕ) (entries : List Entry) (waiting : List NoteParts) (held : List (List ℕ × Vec ItemHeads)) (moved others : List MailAct) (lacking : List Name) (old : State Normal) : Type 0 where
+  pub first : List MailAct
+  pub rest : List MailAct
+  pub are : others ≡ first ++ rest
+  pub then : State Normal
+  pub told : Grows (TellsAll held (moved ++ first)) old then
+  pub has : HasShown file entries waiting then lacking
 
 -- so many mails are some parts, one at least, each of them whole
 abbrev pub AreWholeParts : ℕ → Type 0

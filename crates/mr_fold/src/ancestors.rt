@@ -13,7 +13,7 @@ use std::collections::{BTreeMap, BTreeSet};
 pub(crate) type HeadsByItem = BTreeMap<MailItem, Vec<Head>>;
 
 /// A version that the log tells, with its item and the place of its event in the log.
-#[derive(Clone, Copy, Debug, PartialEq, Eq)]
+#[derive(Clone, Copy)]
 struct ToldVersion {
     item: ItemId,
     version: Version,
@@ -133,9 +133,12 @@ fn newest_ancestor(
 
 /// Whether each head supersedes the version.
 fn is_below_all(replica: &Replica<SparingKnowledge>, heads: &[Head], version: Version) -> bool {
-    heads
-        .iter()
-        .all(|head| is_below(replica.held(head.version), version))
+    for head in heads {
+        if !is_below(replica.held(head.version), version) {
+            return false;
+        }
+    }
+    true
 }
 
 /// Whether the revision, if there is one, supersedes the version.
@@ -216,7 +219,10 @@ impl ToldVersions {
     /// The item of the first of these versions, if it is one of those that are looked for.
     fn item_of(&self, bases: &Bases) -> Option<ItemId> {
         let first = bases.as_slice().first()?;
-        self.items.get(first).copied()
+        match self.items.get(first) {
+            Some(item) => Some(*item),
+            None => None,
+        }
     }
 
     /// Notes the version, if its item is one of these.

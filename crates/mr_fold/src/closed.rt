@@ -16,7 +16,7 @@ use std::rt::Files;
 const NOTE: &str = "tmp/talks";
 
 /// What was noted of a folder that rests.
-#[derive(Debug, Drop)]
+#[derive(Drop)]
 pub struct AtRest {
     /// What of its Maildir isn't shown.
     pub passed_over: PassedOver,
@@ -51,11 +51,20 @@ pub fn noted_at_rest<R: Files<File = File> + AllocGlobal + Clone + Drop>(
     root: &str,
     log: &DiskFile,
 ) -> Option<AtRest> {
-    let Closed { listed, stand, .. } = closed_at(rt, root, log)?;
-    let sealed = noted(rt, root, NOTE, &stand)?;
-    let bytes = Vec::from_slice(rt.alloc(), unsealed(&sealed)?).ok()?;
-    let passed_over = passed_over(listed, 0);
+    let closed = closed_at(rt, root, log)?;
+    let bytes = bytes_noted(rt, root, &closed.stand)?;
+    let passed_over = passed_over(closed.listed, 0);
     Some(AtRest { passed_over, bytes })
+}
+
+/// The bytes that are noted of a folder that stands so.
+fn bytes_noted<R: Files<File = File> + AllocGlobal>(
+    rt: &R,
+    root: &str,
+    stand: &[u8],
+) -> Option<Vec<u8>> {
+    let sealed = noted(rt, root, NOTE, stand)?;
+    Vec::from_slice(rt.alloc(), unsealed(&sealed)?).ok()
 }
 
 /// What [`settle_if_edited`](crate::settle_if_edited) does in the folder at this path, which is locked by its log's file: nothing, as [`note_seen`] noted.
@@ -69,17 +78,22 @@ pub fn seen_at_rest<R: Files<File = File> + AllocGlobal + Clone + Drop>(
     root: &str,
     log: &DiskFile,
 ) -> Option<Settled> {
-    let Closed {
-        tree,
-        listed,
-        stand,
-    } = closed_at(rt, root, log)?;
-    let seen = noted(rt, root, CLOSED_NOTE, &stand)?;
-    let names = names_digest(rt.alloc(), &tree, listed.table.folders())?;
-    if !has_seen(rt, root, &seen, &names)? {
-        return None;
+    let closed = closed_at(rt, root, log)?;
+    match is_as_seen(rt, root, &closed) {
+        Some(true) => Some(at_rest(closed.listed)),
+        _ => None,
     }
-    Some(at_rest(listed))
+}
+
+/// Whether what was noted to be seen in the folder is what is in it. `None` where nothing was noted.
+fn is_as_seen<R: Files<File = File> + AllocGlobal + Clone + Drop>(
+    rt: &R,
+    root: &str,
+    closed: &Closed<R>,
+) -> Option<bool> {
+    let seen = noted(rt, root, CLOSED_NOTE, &closed.stand)?;
+    let names = names_digest(rt.alloc(), &closed.tree, closed.listed.table.folders())?;
+    has_seen(rt, root, &seen, &names)
 }
 
 /// Notes these bytes of the folder as it stands, in place of what was noted. Where the folder doesn't rest, as
@@ -135,14 +149,26 @@ fn closed_at<R: Files<File = File> + AllocGlobal + Clone + Drop>(
     log: &DiskFile,
 ) -> Option<Closed<R>> {
     let (mut tree, layout) = open_tree(rt, root).ok()?;
-    let listed = listed_at(rt.alloc(), &mut tree, layout).ok()?;
-    let files = files_stand(rt, root, &tree, &listed.table)?;
-    let stand = closed_stand(rt, log, layout, &files)?;
+    let (listed, stand) = listed_and_stand(rt, root, log, &mut tree, layout)?;
     Some(Closed {
         tree,
         listed,
         stand,
     })
+}
+
+/// The folders of these files, which lie so, and how they stand.
+fn listed_and_stand<R: Files<File = File> + AllocGlobal + Clone + Drop>(
+    rt: &R,
+    root: &str,
+    log: &DiskFile,
+    tree: &mut DiskTree<R>,
+    layout: Layout,
+) -> Option<(Listed, Vec<u8>)> {
+    let listed = listed_at(rt.alloc(), tree, layout).ok()?;
+    let files = files_stand(rt, root, tree, &listed.table)?;
+    let stand = closed_stand(rt, log, layout, &files)?;
+    Some((listed, stand))
 }
 
 /// The folder, if it rests.

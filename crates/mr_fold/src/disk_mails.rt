@@ -1,5 +1,5 @@
 //! The files of a folder of a disk. What real files take and give no contract says, so what is here is tested only.
-ghost use Rattle.std.specs.Prelude.{◌≡◌, []};
+ghost use Rattle.std.specs.Prelude.{◌≡◌, [], ⊤};
 
 use crate::fault::SettleFault;
 use crate::message::{day_at, folder_lines, new_mail};
@@ -74,7 +74,9 @@ impl<'a, R: Files<File = File> + AllocGlobal + Clone + Drop> DiskMails<'a, R> {
         digest: &Digest,
         bytes: &[u8],
         time: u64,
-    ) -> Result<Message, SettleFault> {
+    ) -> Result<Message, SettleFault>
+        ensures { self.new.touched ≡ self.old.touched }
+    {
         match self.created.remove(digest) {
             Some(files) => self.message_with(alloc, digest, &files, bytes, time),
             None => self.message_with(alloc, digest, self.seen(digest), bytes, time),
@@ -248,7 +250,9 @@ impl<'a, R: Files<File = File> + AllocGlobal + Clone + Drop> DiskMails<'a, R> {
     }
 
     /// Has each path that was changed on the disk.
-    fn sync_touched(&mut self) -> Result<(), SettleFault> {
+    fn sync_touched(&mut self) -> Result<(), SettleFault>
+        ensures { self.new.touched ≡ self.old.touched }
+    {
         for path in self.touched.values() {
             self.tree.sync_path(path)?;
         }
@@ -284,6 +288,8 @@ fn day_of(alloc: Global, bytes: &[u8], time: u64) -> Result<Day, AllocError> {
 
 impl<'a, R: Files<File = File> + AllocGlobal + Clone + Drop> MailFiles for DiskMails<'a, R> {
     ghost are_synced = { λ mails. mails.touched.entries ≡ [] };
+
+    ghost is_shown = { λ _ _. ⊤ };
 
     fn new_message(&mut self, alloc: Global, digest: &Digest) -> Result<Message, SettleFault> {
         let path = FilePath::stored(alloc, digest)?;

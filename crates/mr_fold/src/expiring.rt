@@ -1,5 +1,5 @@
 //! Files of deleted mail are let go.
-ghost use Rattle.std.specs.Prelude.{◌≡◌, ◌++◌, ◌∷◌, ◌||◌, [], ℕ, List, IfOk, OnOk, count_by, filter, if◌then◌else◌};
+ghost use Rattle.std.specs.Prelude.{◌≡◌, ◌++◌, ◌∷◌, ◌||◌, [], ℕ, List, IfOk, OnOk, filter, if◌then◌else◌};
 ghost use Rattle.std.specs.Cmp.Lexicographic.{slice_cmp};
 ghost use Rattle.std.specs.List.{list_any};
 ghost use Rattle.std.specs.List.Sorted.{IsPermutation, IsSorted};
@@ -53,7 +53,7 @@ pub fn expire_folder<R: Files<File = File> + AllocGlobal + Clone + Drop>(
     insert_all(&mut stays, spared)?;
     let gone = gone_among(alloc, &heads, &stays)?;
     let stored = stored_in(folder)?;
-    let expired = count_among(&stored, &gone) as u64;
+    let expired = among(alloc, &stored, &gone)?.len() as u64;
     let stays = sorted(alloc, &stays)?;
     match sweep(alloc, &mut folder.tree, &stays) {
         Ok(()) => Ok(expired),
@@ -105,16 +105,6 @@ fn push_if(found: &mut Vec<Digest>, digest: Digest, is_wanted: bool) -> Result<(
         found.push(digest)?;
     }
     Ok(())
-}
-
-/// How many of the digests are among these.
-fn count_among(digests: &[Digest], mails: &BTreeSet<Digest>) -> usize
-    ensures { result ≡ count_by (has_digest mails.now.keys) digests.now }
-{
-    digests
-        .iter()
-        .filter(|digest| mails.contains(*digest))
-        .count()
 }
 
 /// The mails whose files the replica needs: those that some head or push-out has stand otherwise than gone.

@@ -21,7 +21,7 @@ use std::alloc::{AllocError, Global};
 use std::collections::{BTreeMap, BTreeSet};
 
 /// What is held of the mails, by their files' digests.
-#[derive(Debug, Drop)]
+#[derive(Drop)]
 pub(crate) struct HeldSide {
     /// The items that each mail is.
     pub(crate) items: HeldItems,

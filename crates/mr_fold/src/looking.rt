@@ -34,7 +34,7 @@ use std::rt::Files;
 const MAX_LACKING: usize = 4_294_967_295;
 
 /// What a settling did, what it found edited, and what of the Maildir it passed over.
-#[derive(Debug, Drop)]
+#[derive(Drop)]
 pub struct Settled {
     pub tally: Tally,
     /// How many mails were edited in place: what their files are now are other mails.
@@ -43,7 +43,7 @@ pub struct Settled {
 }
 
 /// What a settling would do, what it would find edited, and what of the Maildir it would pass over.
-#[derive(Debug, Drop)]
+#[derive(Drop)]
 pub struct Looked {
     pub acts: Vec<MailAct>,
     /// How many mails were edited in place: what their files are now are other mails.
@@ -52,7 +52,7 @@ pub struct Looked {
 }
 
 /// What of a Maildir isn't shown.
-#[derive(Debug, Drop)]
+#[derive(Drop)]
 pub struct PassedOver {
     /// How the folders lie.
     pub layout: Layout,
@@ -100,8 +100,10 @@ pub fn settle_folder<R: Files<File = File> + AllocGlobal + Clone + Drop>(
     most: Option<usize>,
 ) -> Result<Settled, FoldFault> {
     let mut found = found_in(folder, most)?;
-    settle_found(folder, &mut found)?;
-    Ok(settled_of(found))
+    let done = settle_found(folder, &mut found);
+    let settled = settled_of(found);
+    done?;
+    Ok(settled)
 }
 
 /// As [`settle_folder`], but where nothing was changed since a call of it that found nothing to do, no file is looked at, and nothing is
@@ -173,10 +175,13 @@ fn settle_and_note<R: Files<File = File> + AllocGlobal + Clone + Drop>(
 ) -> Result<Settled, FoldFault> {
     let now = empty_notes(rt, root);
     let mut found = found_at(folder, listed, most)?;
-    if settle_found(folder, &mut found)? && is_told(&found.sight.scan) {
-        note_rest(rt, root, folder, &found, before, now);
+    let done = settle_found(folder, &mut found);
+    if let Ok(true) = &done {
+        note_rest(rt, root, folder, &found, &before, now);
     }
-    Ok(settled_of(found))
+    let settled = settled_of(found);
+    done?;
+    Ok(settled)
 }
 
 /// Whether it is noted that the folder stood so.
@@ -206,29 +211,33 @@ fn is_told(scan: &Scan) -> bool
     scan.is_quiet && scan.unreadable == 0
 }
 
-/// Notes that nothing has to be done in a folder that stood so before this time, if it stands so still.
+/// Notes that nothing has to be done in a folder that stood so before this time, if it stands so still and all names in it were told.
 fn note_rest<R: Files<File = File> + AllocGlobal + Clone + Drop>(
     rt: &R,
     root: &str,
     folder: &OpenFolder<R>,
     found: &Found,
-    before: Before,
+    before: &Before,
     now: Option<u64>,
 ) {
-    let Before { stand, names } = before;
+    if !is_told(&found.sight.scan) {
+        return;
+    }
     let after = stand_of(rt, root, folder, &found.listed.table);
-    if let (Some(stand), Some(after), Some(now)) = (stand, after, now) {
-        let seen = seen_before(folder.alloc, names, &found.sight.sizes);
-        note_stand(rt, root, &stand, &after, &seen, now);
+    if let (Some(stand), Some(after), Some(now)) = (&before.stand, &after, now) {
+        let seen = seen_before(folder.alloc, &before.names, &found.sight.sizes);
+        note_stand(rt, root, stand, after, &seen, now);
     }
 }
 
 /// What was seen, as a note has it; nothing where it isn't known, or where a file of the folders isn't in the store.
-fn seen_before(alloc: Global, names: Option<[u8; 32]>, sizes: &Option<Vec<(u64, u64)>>) -> Vec<u8> {
+fn seen_before(
+    alloc: Global,
+    names: &Option<[u8; 32]>,
+    sizes: &Option<Vec<(u64, u64)>>,
+) -> Vec<u8> {
     match (names, sizes) {
-        (Some(names), Some(sizes)) => {
-            seen_bytes(alloc, &names, sizes).unwrap_or(Vec::new(alloc))
-        }
+        (Some(names), Some(sizes)) => seen_bytes(alloc, names, sizes).unwrap_or(Vec::new(alloc)),
         _ => Vec::new(alloc),
     }
 }
@@ -499,7 +508,7 @@ fn settle_seen<R: Files<File = File> + AllocGlobal + Clone + Drop>(
         created,
         &targets,
     )?;
-    settle_in_parts(
+    let told = settle_in_parts(
         alloc,
         kept,
         &mut files,
@@ -507,7 +516,9 @@ fn settle_seen<R: Files<File = File> + AllocGlobal + Clone + Drop>(
         standing,
         &found.concerned.held.items,
         &lacking,
-    )
+    );
+    drop(files);
+    told
 }
 
 /// Has the folder know that all is shown, but for these items.

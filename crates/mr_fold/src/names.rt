@@ -7,21 +7,21 @@ use std::cmp::Ordering;
 use std::collections::BTreeMap;
 
 /// A file of a mail that was seen.
-#[derive(Clone, Copy, Debug)]
+#[derive(Clone, Copy)]
 struct SeenFile<'a> {
     digest: &'a Digest,
     file: &'a MailFile,
 }
 
 /// A file of a mail that was made.
-#[derive(Debug, Drop)]
+#[derive(Drop)]
 struct MadeFile {
     digest: Digest,
     file: MailFile,
 }
 
 /// The files of all mails, by the unique parts of their names, so that no mail's file gets the name of another's.
-#[derive(Debug, Drop)]
+#[derive(Drop)]
 pub(crate) struct FileNames<'a> {
     alloc: Global,
     /// Those that were seen, in the order of the unique parts.

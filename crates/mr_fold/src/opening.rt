@@ -8,8 +8,8 @@ use mr_entry::{Birth, Mark, Note};
 use mr_filter::Filter;
 use mr_folder::{DiskTree, FolderPath};
 use mr_itemset::SparingKnowledge;
-use mr_journal::{DiskFile, Journal, JournalFault};
-use mr_kept::{Journaled, OpenFault, Setup};
+use mr_journal::{DiskFile, Journal};
+use mr_kept::{Journaled, OpenFault, Opened, Setup};
 use mr_maildir::Layout;
 use mr_scan::default_layout;
 use mr_version::Author;
@@ -67,14 +67,23 @@ pub fn init<R: Files<File = File> + AllocGlobal + Clone + Drop>(
     root: &str,
     setup: FolderSetup,
 ) -> Result<(), FoldFault> {
+    let file = made_log(rt, root, setup.layout)?;
+    // the log is on the disk, and whoever needs it opens it
+    begin_log(rt, file, setup).map(drop)
+}
+
+/// The file of the journal, which has no entry yet, in a folder that is made where it is missing, and whose settings tell this layout.
+fn made_log<R: Files<File = File> + AllocGlobal + Clone + Drop>(
+    rt: &R,
+    root: &str,
+    layout: Option<Layout>,
+) -> Result<DiskFile, FoldFault> {
     let alloc = rt.alloc();
     make_folder(rt, root)?;
     let path = log_path(alloc, root)?;
     let file = empty_log(alloc, DiskFile::open(rt, path.as_str())?)?;
-    write_settings(rt, root, setup.layout)?;
-    // the log is on the disk, and whoever needs it opens it
-    let _kept = begin_log(rt, file, setup)?;
-    Ok(())
+    write_settings(rt, root, layout)?;
+    Ok(file)
 }
 
 /// Makes the folder with its parts and `.mailfold`, where they are missing.
@@ -95,7 +104,7 @@ fn make_folder<R: Files<File = File> + AllocGlobal + Clone + Drop>(
 fn empty_log(alloc: Global, file: DiskFile) -> Result<DiskFile, FoldFault> {
     let (journal, entries) = match Journal::open(alloc, file) {
         Ok(opened) => opened,
-        Err((fault, file)) => return Err(unopened(fault, &file)),
+        Err((fault, file)) => return Err(unopened(OpenFault::Journal(fault), &file)),
     };
     if entries.is_empty() {
         Ok(journal.into_device())
@@ -105,8 +114,8 @@ fn empty_log(alloc: Global, file: DiskFile) -> Result<DiskFile, FoldFault> {
 }
 
 /// Why the journal isn't opened, with the system's words.
-fn unopened(fault: JournalFault, file: &DiskFile) -> FoldFault {
-    FoldFault::Journal(OpenFault::Journal(fault).explained(file.error()))
+fn unopened(fault: OpenFault, file: &DiskFile) -> FoldFault {
+    FoldFault::Journal(fault.explained(file.error()))
 }
 
 /// Begins a folder's replica in the journal of this file, which has no entry yet. It touches no other file, so the layout isn't noted.
@@ -131,9 +140,14 @@ pub fn begin_log<R: Files<File = File> + AllocGlobal>(
         birth,
         mark,
     };
-    match Kept::begin(rt.alloc(), file, setup) {
+    begun(Kept::begin(rt.alloc(), file, setup))
+}
+
+/// The replica that was begun, or why none was.
+fn begun<K: Drop>(begun: Result<K, (OpenFault, DiskFile)>) -> Result<K, FoldFault> {
+    match begun {
         Ok(kept) => Ok(kept),
-        Err((fault, file)) => Err(FoldFault::Journal(fault.explained(file.error()))),
+        Err((fault, file)) => Err(unopened(fault, &file)),
     }
 }
 
@@ -168,14 +182,54 @@ pub fn open_locked<R: Files<File = File> + AllocGlobal + Clone + Drop>(
     root: &str,
     log: DiskFile,
 ) -> Result<OpenFolder<R>, FoldFault> {
-    let alloc = rt.alloc();
-    let (kept, notes) = open_log(rt, log)?;
-    let shown = shown_of(alloc, &notes)?;
-    let meetings = meetings_of(alloc, &notes)?;
-    let (tree, layout) = open_tree(rt, root)?;
+    let (kept, beside) = with_beside(rt, root, open_log(rt, log))?;
+    let Beside {
+        tree,
+        layout,
+        shown,
+        meetings,
+    } = beside;
     Ok(OpenFolder {
-        alloc,
+        alloc: rt.alloc(),
         kept,
+        tree,
+        layout,
+        shown,
+        meetings,
+    })
+}
+
+/// What an open folder has beside its replica.
+#[derive(Drop)]
+struct Beside<R> {
+    tree: DiskTree<R>,
+    layout: Layout,
+    shown: Shown,
+    meetings: BTreeMap<u16, Meeting>,
+}
+
+/// The replica that was opened, with what its folder has beside it.
+fn with_beside<K: Drop, R: Files<File = File> + AllocGlobal + Clone + Drop>(
+    rt: &R,
+    root: &str,
+    opened: Result<(K, Vec<Note>), FoldFault>,
+) -> Result<(K, Beside<R>), FoldFault> {
+    let (kept, notes) = opened?;
+    let beside = open_beside(rt, root, &notes)?;
+    Ok((kept, beside))
+}
+
+/// Reads what the journal's notes tell, and opens the files.
+fn open_beside<R: Files<File = File> + AllocGlobal + Clone + Drop>(
+    rt: &R,
+    root: &str,
+    notes: &[Note],
+) -> Result<Beside<R>, FoldFault> {
+    let alloc = rt.alloc();
+    let shown = shown_of(alloc, notes)?;
+    let meetings = meetings_of(alloc, notes)?;
+    let (tree, layout) = open_tree(rt, root)?;
+    Ok(Beside {
         tree,
         layout,
         shown,
@@ -204,10 +258,17 @@ fn open_log<R: Files<File = File> + AllocGlobal>(
     file: DiskFile,
 ) -> Result<(Kept, Vec<Note>), FoldFault> {
     let mark = mark_for(rt, &file)?;
-    match Kept::open(rt.alloc(), file, &mark, None) {
+    with_notes(Kept::open(rt.alloc(), file, &mark, None))
+}
+
+/// The replica that was opened, with the notes of its journal, or why none was.
+fn with_notes<K: Drop>(
+    opened: Result<(K, Opened), (OpenFault, DiskFile)>,
+) -> Result<(K, Vec<Note>), FoldFault> {
+    match opened {
         Ok((kept, opened)) => Ok((kept, opened.notes)),
         Err((OpenFault::NoReplica, _file)) => Err(FoldFault::NotMade),
-        Err((fault, file)) => Err(FoldFault::Journal(fault.explained(file.error()))),
+        Err((fault, file)) => Err(unopened(fault, &file)),
     }
 }
 

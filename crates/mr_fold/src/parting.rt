@@ -10,7 +10,7 @@ use std::alloc::{AllocError, Global};
 use std::collections::{BTreeMap, BTreeSet};
 
 /// Acts in two parts.
-#[derive(Debug, Drop)]
+#[derive(Drop)]
 struct Parted {
     /// Those for which files have to be moved.
     moved: Vec<MailAct>,

@@ -79,11 +79,10 @@ fn seen_once<R: Files<File = File> + AllocGlobal + Clone + Drop>(
     mails: &[HeldMail],
 ) -> Result<SeenOnce, FoldFault> {
     let LeftSide { mails: left, sizes } = left;
-    let Indexed { mut index, edited } = indexed(alloc, tree, &sizes)?;
+    let indexed = indexed(alloc, tree, &sizes)?;
     drop(sizes);
-    let mut lacking = missing_mails(alloc, mails, &index)?;
-    let scan = scanned(alloc, tree, table, &mut index)?;
-    remove_stored(&mut lacking, &index);
+    let Indexed { mut index, edited } = indexed;
+    let (scan, lacking) = scan_and_lacking(alloc, tree, table, &mut index, mails)?;
     let look = first_look(alloc, replica, left, mails, &scan, lacking)?;
     Ok(SeenOnce {
         index,
@@ -91,6 +90,20 @@ fn seen_once<R: Files<File = File> + AllocGlobal + Clone + Drop>(
         scan,
         look,
     })
+}
+
+/// Scans the folders, and finds which of these mails lack their files.
+fn scan_and_lacking<R: Files<File = File> + AllocGlobal + Clone + Drop>(
+    alloc: Global,
+    tree: &mut DiskTree<R>,
+    table: &FolderTable,
+    index: &mut Index,
+    mails: &[HeldMail],
+) -> Result<(Scan, BTreeSet<Digest>), FoldFault> {
+    let mut lacking = missing_mails(alloc, mails, index)?;
+    let scan = scanned(alloc, tree, table, index)?;
+    remove_stored(&mut lacking, index);
+    Ok((scan, lacking))
 }
 
 /// What was seen at one scan, and what is done for it.
@@ -107,13 +120,11 @@ fn sight_once(alloc: Global, once: SeenOnce) -> Result<Sight, AllocError> {
     sight_of(alloc, sides, scan, acts, edited, sizes)
 }
 
-/// What two scans say, and what is done for it.
+/// What was seen at the second scan, and what both say.
 #[derive(Drop)]
 struct SeenTwice {
-    sides: Sides,
-    /// The second scan.
     scan: Scan,
-    acts: Vec<MailAct>,
+    decided: Decided,
 }
 
 /// Scans the folders once more, and finds what is done for what both scans say.
@@ -126,24 +137,29 @@ fn seen_twice<R: Files<File = File> + AllocGlobal + Clone + Drop>(
     mails: Vec<HeldMail>,
     most: Option<usize>,
 ) -> Result<Sight, FoldFault> {
-    let sizes = sizes_of(alloc, &once.index, &once.scan)?;
     let SeenOnce {
         mut index,
         edited,
         scan,
         look,
     } = once;
-    let sides = sides_once(alloc, look, &mails, &scan, &index)?;
+    let sizes = sizes_of(alloc, &index, &scan);
+    let sides = sides_once(alloc, look, &mails, &scan, &index);
     let first = without_mails(alloc, scan);
-    let held = HeldSide {
-        items: held_items(alloc, replica)?,
-        mails,
-    };
-    let twice = scanned_again(alloc, tree, table, &mut index, sides, &held, &first, most)?;
-    drop(held);
+    let held = held_with(alloc, replica, mails);
+    let twice = scanned_again(alloc, tree, table, &mut index, sides, held, &first, most);
     drop(index);
-    let SeenTwice { sides, scan, acts } = twice;
-    Ok(sight_of(alloc, sides, scan, acts, edited, sizes)?)
+    sight_twice(alloc, twice, edited, sizes)
+}
+
+/// The mails, with the items that are held of them.
+fn held_with(
+    alloc: Global,
+    replica: &Replica<SparingKnowledge>,
+    mails: Vec<HeldMail>,
+) -> Result<HeldSide, AllocError> {
+    let items = held_items(alloc, replica)?;
+    Ok(HeldSide { items, mails })
 }
 
 /// Scans the folders once more, of which the first scan says this, and finds what is done for what both scans say.
@@ -152,15 +168,30 @@ fn scanned_again<R: Files<File = File> + AllocGlobal + Clone + Drop>(
     tree: &mut DiskTree<R>,
     table: &FolderTable,
     index: &mut Index,
-    sides: Sides,
-    held: &HeldSide,
+    sides: Result<Sides, AllocError>,
+    held: Result<HeldSide, AllocError>,
     first: &Scan,
     most: Option<usize>,
 ) -> Result<SeenTwice, FoldFault> {
+    let sides = sides?;
+    let held = held?;
     let scan = scanned(alloc, tree, table, index)?;
-    let decided = decide(alloc, sides, held, first, &scan, index)?;
-    let (sides, acts) = allowed(alloc, tree, table, index, held, decided, most)?;
-    Ok(SeenTwice { sides, scan, acts })
+    let decided = decide(alloc, sides, &held, first, &scan, index)?;
+    check_allowed(alloc, tree, table, index, &held, &decided, most)?;
+    Ok(SeenTwice { scan, decided })
+}
+
+/// What was seen at two scans, and what is done for it.
+fn sight_twice(
+    alloc: Global,
+    twice: Result<SeenTwice, FoldFault>,
+    edited: Vec<Digest>,
+    sizes: Result<Option<Vec<(u64, u64)>>, AllocError>,
+) -> Result<Sight, FoldFault> {
+    let sizes = sizes?;
+    let SeenTwice { scan, decided } = twice?;
+    let Decided { sides, acts, .. } = decided;
+    Ok(sight_of(alloc, sides, scan, acts, edited, sizes)?)
 }
 
 /// What the first scan says of all mails.
@@ -219,7 +250,7 @@ fn sight_of(
     edited: Vec<Digest>,
     sizes: Option<Vec<(u64, u64)>>,
 ) -> Result<Sight, AllocError> {
-    let Sides { lacking, .. } = sides;
+    let lacking = lacking_of(sides);
     let (acts, moved) = moved_first(alloc, acts, &scan, &lacking)?;
     let (scan, created) = files_for(alloc, scan, &acts, moved)?;
     Ok(Sight {
@@ -231,6 +262,11 @@ fn sight_of(
         edited,
         sizes,
     })
+}
+
+/// The held mails whose files aren't here.
+fn lacking_of(sides: Sides) -> BTreeSet<Digest> {
+    sides.lacking
 }
 
 /// The scan, and the files of new mails, if no file has to be moved: then the scan needs none.
@@ -259,28 +295,24 @@ fn files_for(
     Ok((scan, created))
 }
 
-/// What two scans say and what is done then, unless it would delete a mail that lies in a folder that is passed over, or too many mails.
-fn allowed<R: Files<File = File> + AllocGlobal + Clone + Drop>(
+/// Refuses what is done then, where it would delete a mail that lies in a folder that is passed over, or too many mails.
+fn check_allowed<R: Files<File = File> + AllocGlobal + Clone + Drop>(
     alloc: Global,
     tree: &mut DiskTree<R>,
     table: &FolderTable,
     index: &Index,
     held: &HeldSide,
-    decided: Decided,
+    decided: &Decided,
     most: Option<usize>,
-) -> Result<(Sides, Vec<MailAct>), FoldFault> {
-    let Decided {
-        sides,
-        others,
-        acts,
-    } = decided;
-    if tally_of(&acts).deleted == 0 {
-        return Ok((sides, acts));
+) -> Result<(), FoldFault> {
+    if tally_of(&decided.acts).deleted == 0 {
+        return Ok(());
     }
-    refuse_strays(alloc, tree, table, index, &acts)?;
+    refuse_strays(alloc, tree, table, index, &decided.acts)?;
     let most = most.unwrap_or(most_deletions(held.mails.len()));
-    let acts = acts_of(alloc, &held.mails, &others, &sides, most)?;
-    Ok((sides, acts))
+    // where they aren't too many, these are the same acts again
+    acts_of(alloc, &held.mails, &decided.others, &decided.sides, most)?;
+    Ok(())
 }
 
 /// Refuses acts that would delete a mail whose file lies in a folder that is passed over.

@@ -1,12 +1,13 @@
 //! Brings a Maildir and its replica together: what the user changed is told, and what was changed elsewhere is shown.
-ghost use Rattle.std.specs.Prelude.{◌≡◌, ◌<◌, ◌^◌, ◌++◌, ◌⊎◌, [], IsTrue, List, true, length, map, OnOk};
+ghost use Rattle.std.specs.Prelude.{◌≡◌, ◌<◌, ◌^◌, ◌++◌, ◌⊎◌, [], All, IsTrue, List, true, length, map, OnErr, OnOk};
 ghost use Rattle.mr_journal.specs.Device.{LeavesOnly};
 ghost use Rattle.mr_journal.specs.Format.{Stands};
 ghost use Rattle.mr_journal.specs.Journal.{device_of};
 ghost use Rattle.mr_entry.specs.Spelling.{entry_bytes};
 ghost use Rattle.mr_entry.specs.declared.entry.Entry.{Entry};
 ghost use Rattle.mr_kept.specs.Kept.{IsKept, Noted, entries_waiting, journal_of, nothing_waits, notes_waiting, replica_of};
-ghost use Rattle.mr_fold.specs.Settling.{HasAll, HasFirst, HasShown, Settles};
+ghost use Rattle.mr_compare.specs.declared.compare.MailAct.{MailAct};
+ghost use Rattle.mr_fold.specs.Settling.{HasAll, HasBegun, HasFirst, HasShown, HasTold, IsToldFirst, Settles, Stay};
 ghost use Rattle.mr_fold.specs.Shown.{shown_note};
 
 use crate::fault::SettleFault;
@@ -26,15 +27,22 @@ pub trait MailFiles {
     /// Whether what was shown is on the disk, so that no crash takes it back.
     ghost are_synced: { Self → Type 0 };
 
-    /// The message of a new mail, as it is seen: its body refers to the file, which is in the store.
-    fn new_message(&mut self, alloc: Global, digest: &Digest) -> Result<Message, SettleFault>;
+    /// Whether the mail's files were made to stand as the act says. Of a real disk no clause can say it, so there it says nothing.
+    ghost is_shown: { Self → MailAct → Type 0 };
+
+    /// The message of a new mail, as it is seen: its body refers to the file, which is in the store. No file is moved for it.
+    fn new_message(&mut self, alloc: Global, digest: &Digest) -> Result<Message, SettleFault>
+        ensures stay { Stay are_synced is_shown self.old self.new };
 
     /// Has the mail's files stand as the act says. It may be cut off at any moment: the next settling goes on.
-    fn show(&mut self, alloc: Global, mail: &MailAct) -> Result<(), SettleFault>;
+    fn show(&mut self, alloc: Global, mail: &MailAct) -> Result<(), SettleFault>
+        ensures shown { OnOk result (is_shown self.new mail.now) }
+        ensures others { (other : MailAct) → is_shown self.old other → is_shown self.new other };
 
-    /// Has what was shown on the disk.
+    /// Has what was shown on the disk. No file is moved for it.
     fn sync(&mut self, alloc: Global) -> Result<(), SettleFault>
-        ensures { OnOk result (are_synced self.new) };
+        ensures synced { OnOk result (are_synced self.new) }
+        ensures stay { Stay are_synced is_shown self.old self.new };
 }
 
 /// How many mails [`settle_in_parts`] tells in one commit, of those for which no file has to be moved: what waits for a commit is in memory.
@@ -73,6 +81,19 @@ pub fn settle<D: Device + Drop, F: MailFiles>(
     ensures at_once { moved.now ≡ [] → IsTrue D.is_told → (entries : List Entry) → IsKept D.seen D.may_leave entries kept.old
         → LeavesOnly D.moment D.left_since (device_of (journal_of kept.old)) (device_of (journal_of kept.new))
         (λ c. Stands (map entry_bytes entries) c ⊎ HasAll c entries kept.old kept.new (shown_note (length (replica_of kept.new).feed) lacking.now)) }
+    // Where files have to be moved, a crash at any moment leaves the entries from before; or those and behind them what is told of these mails, and no note
+    // of it; or that and the note that they are shown, and so of some first ones of the others; or all that the log has now, and that note.
+    ensures moments { IsTrue D.is_told → (entries : List Entry) → IsKept D.seen D.may_leave entries kept.old
+        → LeavesOnly D.moment D.left_since (device_of (journal_of kept.old)) (device_of (journal_of kept.new))
+        (λ c. Stands (map entry_bytes entries) c ⊎ (HasTold c entries (notes_waiting kept.old) held.now.entries moved.now (replica_of kept.old) ⊎ (HasBegun c entries (notes_waiting kept.old) held.now.entries moved.now standing.now lacking.now (replica_of kept.old) ⊎ HasShown c entries (notes_waiting kept.old) (replica_of kept.new) lacking.now))) }
+    // Each mail for which files have to be moved is shown.
+    ensures shown { OnOk result (All (F.is_shown files.new) moved.now) }
+    // Unless what was shown is on the disk, what is told of these mails is kept, and no note of it is. The call that shows a mail may fail each time, so
+    // this holds at each moment at which files are moved.
+    ensures told_first { IsTrue D.is_told → (entries : List Entry) → IsKept D.seen D.may_leave entries kept.old
+        → (F.are_synced files.old → F.are_synced files.new) ⊎ IsToldFirst D.seen D.may_leave entries held.now.entries moved.now kept.old kept.new }
+    // Where no file has to be moved, none is.
+    ensures stay { moved.now ≡ [] → Stay F.are_synced F.is_shown files.old files.new }
 {
     if moved.is_empty() {
         return settle_standing(alloc, kept, files, standing, held, lacking);
@@ -105,6 +126,17 @@ pub fn settle_in_parts<D: Device + Drop, F: MailFiles>(
     ensures in_parts { moved.now ≡ [] → IsTrue D.is_told → (entries : List Entry) → IsKept D.seen D.may_leave entries kept.old
         → LeavesOnly D.moment D.left_since (device_of (journal_of kept.old)) (device_of (journal_of kept.new))
         (λ c. Stands (map entry_bytes entries) c ⊎ (HasFirst c entries (notes_waiting kept.old) held.now.entries standing.now lacking.now (replica_of kept.old) ⊎ HasShown c entries (notes_waiting kept.old) (replica_of kept.new) lacking.now)) }
+    // Where files have to be moved, a crash at any moment leaves the entries from before; or those and behind them what is told of these mails, and no note
+    // of it; or that and the note that they are shown, and so of some first ones of the others; or all that the log has now, and that note.
+    ensures moments { IsTrue D.is_told → (entries : List Entry) → IsKept D.seen D.may_leave entries kept.old
+        → LeavesOnly D.moment D.left_since (device_of (journal_of kept.old)) (device_of (journal_of kept.new))
+        (λ c. Stands (map entry_bytes entries) c ⊎ (HasTold c entries (notes_waiting kept.old) held.now.entries moved.now (replica_of kept.old) ⊎ (HasBegun c entries (notes_waiting kept.old) held.now.entries moved.now standing.now lacking.now (replica_of kept.old) ⊎ HasShown c entries (notes_waiting kept.old) (replica_of kept.new) lacking.now))) }
+    // Each mail for which files have to be moved is shown.
+    ensures shown { OnOk result (All (F.is_shown files.new) moved.now) }
+    // Unless what was shown is on the disk, what is told of these mails is kept, and no note of it is. The call that shows a mail may fail each time, so
+    // this holds at each moment at which files are moved.
+    ensures told_first { IsTrue D.is_told → (entries : List Entry) → IsKept D.seen D.may_leave entries kept.old
+        → (F.are_synced files.old → F.are_synced files.new) ⊎ IsToldFirst D.seen D.may_leave entries held.now.entries moved.now kept.old kept.new }
 {
     let (first, after) = standing.split_at(standing.len().min(MAILS_AT_ONCE));
     settle(alloc, kept, files, moved, first, held, lacking)?;
@@ -129,6 +161,12 @@ fn settle_moved<D: Device + Drop, F: MailFiles>(
 ) -> Result<(), SettleFault>
     requires { length lacking.now < 2 ^ 32 }
     ensures settles { OnOk result (Settles D.seen D.may_leave D.is_told F.are_synced held.now.entries moved.now lacking.now kept.old kept.new files.new) }
+    ensures moments { IsTrue D.is_told → (entries : List Entry) → IsKept D.seen D.may_leave entries kept.old
+        → LeavesOnly D.moment D.left_since (device_of (journal_of kept.old)) (device_of (journal_of kept.new))
+        (λ c. Stands (map entry_bytes entries) c ⊎ (HasTold c entries (notes_waiting kept.old) held.now.entries moved.now (replica_of kept.old) ⊎ HasShown c entries (notes_waiting kept.old) (replica_of kept.new) lacking.now)) }
+    ensures shown { OnOk result (All (F.is_shown files.new) moved.now) }
+    ensures told_first { IsTrue D.is_told → (entries : List Entry) → IsKept D.seen D.may_leave entries kept.old
+        → (F.are_synced files.old → F.are_synced files.new) ⊎ IsToldFirst D.seen D.may_leave entries held.now.entries moved.now kept.old kept.new }
 {
     tell(alloc, kept, files, moved, held)?;
     commit(kept)?;
@@ -152,6 +190,7 @@ fn settle_standing<D: Device + Drop, F: MailFiles>(
     ensures at_once { IsTrue D.is_told → (entries : List Entry) → IsKept D.seen D.may_leave entries kept.old
         → LeavesOnly D.moment D.left_since (device_of (journal_of kept.old)) (device_of (journal_of kept.new))
         (λ c. Stands (map entry_bytes entries) c ⊎ HasAll c entries kept.old kept.new (shown_note (length (replica_of kept.new).feed) lacking.now)) }
+    ensures stay { Stay F.are_synced F.is_shown files.old files.new }
 {
     tell(alloc, kept, files, standing, held)?;
     note(alloc, kept, files, lacking)?;
@@ -182,6 +221,7 @@ fn show<D: Device + Drop, F: MailFiles>(
     acts: &[MailAct],
 ) -> Result<(), SettleFault>
     requires { nothing_waits kept.now ≡ true }
+    ensures { OnOk result (All (F.is_shown files.new) acts.now) }
 {
     // the replica is lent for what is required of it: all is kept
     let _is_kept = kept.is_kept();
@@ -202,6 +242,9 @@ fn note<D: Device + Drop, F: MailFiles>(
     ensures all_synced { OnOk result (F.are_synced files.new) }
     ensures noted { OnOk result (Noted (shown_note (length (replica_of kept.old).feed) lacking.now) kept.old kept.new) }
     ensures journal { journal_of kept.new ≡ journal_of kept.old }
+    ensures stay { Stay F.are_synced F.is_shown files.old files.new }
+    // Before what was shown is on the disk nothing is noted.
+    ensures failed { OnErr result (F.are_synced files.new ⊎ (kept.new ≡ kept.old)) }
 {
     files.sync(alloc)?;
     let lacking = Vec::from_slice(alloc, lacking)?;

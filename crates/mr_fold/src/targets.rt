@@ -8,7 +8,7 @@ use std::alloc::{AllocError, Global};
 use std::collections::BTreeMap;
 
 /// How a mail is to stand in the Maildir.
-#[derive(Debug, Drop)]
+#[derive(Drop)]
 pub(crate) struct Target {
     pub(crate) view: View,
     /// The lines that tell the names of its file and of folders.

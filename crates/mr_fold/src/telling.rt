@@ -6,6 +6,7 @@ ghost use Rattle.mr_mail.specs.declared.label.TheConstants.{MAX_LABELS};
 ghost use Rattle.mr_kept.specs.Kept.{SameJournal, replica_of};
 ghost use Rattle.mr_maildir.specs.declared.act.Act.TheVariants as act;
 ghost use Rattle.mr_fold.specs.Message.{IsUnwritten};
+ghost use Rattle.mr_fold.specs.Settling.{Stay};
 ghost use Rattle.mr_fold.specs.Telling.{Grows, TellsAct, TellsAll, TellsEdit, TellsEdits, edited_to, first_message, gone_view, items_at};
 
 use crate::fault::SettleFault;
@@ -30,6 +31,7 @@ pub(crate) fn tell<D: Device + Drop, F: MailFiles>(
 ) -> Result<(), SettleFault>
     ensures told { OnOk result (Grows (TellsAll held.now.entries acts.now) (replica_of kept.old) (replica_of kept.new)) }
     ensures journal { SameJournal kept.old kept.new }
+    ensures stay { Stay F.are_synced F.is_shown files.old files.new }
 {
     for mail in acts {
         let items = items_of(held, &mail.digest);
@@ -59,6 +61,7 @@ fn tell_act<D: Device + Drop, F: MailFiles>(
 ) -> Result<(), SettleFault>
     ensures told { OnOk result (Grows (TellsAct items.now act.now) (replica_of kept.old) (replica_of kept.new)) }
     ensures journal { SameJournal kept.old kept.new }
+    ensures stay { Stay F.are_synced F.is_shown files.old files.new }
 {
     match act {
         Act::Create => tell_new(alloc, kept, files, digest),
@@ -94,6 +97,7 @@ fn tell_new<D: Device + Drop, F: MailFiles>(
 ) -> Result<(), SettleFault>
     ensures told { OnOk result (Grows (TellsAct [] act.Create) (replica_of kept.old) (replica_of kept.new)) }
     ensures journal { SameJournal kept.old kept.new }
+    ensures stay { Stay F.are_synced F.is_shown files.old files.new }
 {
     let message = files.new_message(alloc, digest)?;
     kept.create(message)?;

@@ -9,7 +9,7 @@ use Rattle.mr_kept.specs.Kept.{journal_of, notes_waiting, replica_of}
 use Rattle.mr_fold.specs.Settling.{HasAll}
 use Rattle.mr_fold.specs.Shown.{shown_note}
 use Rattle.mr_fold.specs.Telling.{Grows, TellsAll}
-use Rattle.mr_fold.proofs.SettlingLemmas.{kept_noted, kept_told, noted_by, settles_if_kept, told_at_once, unwritten}
+use Rattle.mr_fold.proofs.SettlingLemmas.{kept_noted, kept_told, noted_by, settles_if_kept, stay_then, told_at_once, unwritten}
 use Rattle.mr_fold.proofs.settling.settle_standing.Goals as goal
 
 pub returns-clause-settles : goal.returns-clause-settles
@@ -40,3 +40,9 @@ returns-clause-at_once g c = λ told entries kept.
     subst (λ s. LeavesOnly g.D.Device.moment g.D.Device.left_since (device_of (journal_of old)) (device_of (journal_of new)) (λ f. Stands (map entry_bytes entries) f ⊎ HasAll f entries old new (shown_note (length s.feed) c.args.lacking.now)))
     (sym (c.commit.ensures.replica ∙ put.replica))
     (told_at_once entries old c.tell.new.kept c.note.new.kept new _ t.events kept c.tell.ensures.journal t.log put c.commit.ensures.replica (c.commit.ensures.any_moment told entries))
+
+pub returns-in_err-note-clause-stay : goal.returns-in_err-note-clause-stay
+returns-in_err-note-clause-stay g c = stay_then c.args.files.now c.tell.new.files c.note.new.files c.tell.ensures.stay c.note.ensures.stay
+
+pub returns-clause-stay : goal.returns-clause-stay
+returns-clause-stay g c = stay_then c.args.files.now c.tell.new.files c.note.new.files c.tell.ensures.stay c.note.ensures.stay

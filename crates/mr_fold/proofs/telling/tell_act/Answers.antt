@@ -3,6 +3,7 @@ use Rattle.std.specs.Prelude.{OnOk}
 use Rattle.mr_kept.specs.Kept.{replica_of}
 use Rattle.mr_maildir.specs.declared.act.Act.TheVariants as act
 use Rattle.mr_fold.specs.Telling.{TellsAct, Grows}
+use Rattle.mr_fold.proofs.SettlingLemmas.{stay_still}
 use Rattle.mr_fold.proofs.TellingLemmas.{grows_not}
 use Rattle.mr_fold.proofs.telling.tell_act.Goals as goal
 
@@ -26,3 +27,21 @@ returns-in-Follow-clause-told g c = subst (λ a. Grows (TellsAct c.args.items.no
 
 pub returns-in-Remove-clause-told : goal.returns-in-Remove-clause-told
 returns-in-Remove-clause-told g c = subst (λ a. Grows (TellsAct c.args.items.now a) (replica_of c.args.kept.now) (replica_of c.args.kept.now)) (sym c.in-Remove.is) (grows_not (TellsAct c.args.items.now act.Remove) (replica_of c.args.kept.now) (refl, refl))
+
+pub returns-in-Create-clause-stay : goal.returns-in-Create-clause-stay
+returns-in-Create-clause-stay g c = c.tell_new.ensures.stay
+
+pub returns-in-Edit-clause-stay : goal.returns-in-Edit-clause-stay
+returns-in-Edit-clause-stay g c = stay_still c.args.files.now
+
+pub returns-in-Delete-clause-stay : goal.returns-in-Delete-clause-stay
+returns-in-Delete-clause-stay g c = stay_still c.args.files.now
+
+pub returns-in-Agree-clause-stay : goal.returns-in-Agree-clause-stay
+returns-in-Agree-clause-stay g c = stay_still c.args.files.now
+
+pub returns-in-Follow-clause-stay : goal.returns-in-Follow-clause-stay
+returns-in-Follow-clause-stay g c = stay_still c.args.files.now
+
+pub returns-in-Remove-clause-stay : goal.returns-in-Remove-clause-stay
+returns-in-Remove-clause-stay g c = stay_still c.args.files.now
