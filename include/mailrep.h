@@ -1,8 +1,8 @@
 /* mailrep.h: devices that keep one mailbox in step, for C99, C++11 and later.
  *
- * A device is an mr_device, two words that belong to you. mr_open makes a plain one, mr_kept_begin and mr_kept_open make one that is
- * kept, and mr_close gives back what it holds. Every other call that takes one is either an event or a reader. An event does all of
- * what it says, or answers why not and leaves the device as it was. A reader changes nothing.
+ * A device is an mr_device, two words that belong to you. mr_open and mr_replay make a plain one, mr_kept_begin and mr_kept_open one that
+ * is kept, and mr_close gives back what it holds. Most other calls that take one are events or readers. An event does all of what it
+ * says, or answers why not and leaves the device as it was. A reader changes nothing.
  *
  * A plain device is a log that your program writes down. A kept one has a file that your program alone reads and writes: the device says
  * what is to be done to it, act by act, and shows and hands out nothing before that is done ("kept devices", below).
@@ -280,28 +280,30 @@ void mr_close(mr_device *device);
  *   mr_settle(&phone, all_went_well);
  *   for (size_t i = 0; mr_told_at(&phone, i, &told) == MR_OK; i++) .. a version, or a frame by mr_told_frame
  *
- * Killed at any moment, in whichever act and however that write is torn, your program finds a file with all that it committed before the
- * last commit, and of the last one all or nothing; mr_kept_open takes it. What was handed out is in the file.
+ * Killed at any moment once it is begun, in whichever act and however that write is torn, your program finds a file with all that it
+ * committed before the last commit, and of the last one all or nothing; mr_kept_open takes it. What was handed out is in the file.
  *
  * Of its events mr_answer and mr_receive, which show nothing of it to others, tell at once what they tell of a plain device. mr_create,
- * mr_edit, mr_merge and mr_pull write nothing to their last parameter: the version or the session is told by mr_told_at, as is the frame of
- * mr_pull, mr_next and mr_vouch; mr_frame is a plain device's alone. The readers, and mr_merge, which looks at the heads, answer
- * MR_UNSETTLED while an event or a note waits for a commit or an act is left. Behind MR_CLOSED every call answers MR_FAILED once an act has failed: close the device, read the file, open it again. An event
- * may answer MR_TOO_LARGE, of more than 8,388,608 bytes.
+ * mr_edit, mr_merge and mr_pull write nothing to their last parameter: mr_told_at tells the version or the session, and mr_told_frame gives
+ * the frame of mr_pull, mr_next and mr_vouch; mr_frame is a plain device's alone. The readers, and mr_merge, which looks at the heads,
+ * answer MR_UNSETTLED while an event or a note waits for a commit or an act is left. Once an act has failed, every call but those that
+ * open or close answers MR_FAILED: close the device, read the file, open it again. An event may answer MR_TOO_LARGE, of more than
+ * 8,388,608 bytes.
  *
- * birth: 16 random bytes, drawn for this file alone. mark: 32 bytes that tell where the file is, as of its device and inode, so that a copy
- * and a restored backup, which would give versions again, are refused; or zeros, and then they aren't. */
+ * birth: 16 random bytes, drawn for this file alone. mark: 32 bytes that tell where the file is, as of its device and inode, so that a
+ * copy, and a backup that was restored as another file, which would give versions again, are refused; or zeros, and then they aren't. */
 
-/* Begins a device in a file that has no byte. Its acts are to be done first. The others are mr_open's.
+/* Begins a device in a file that has no byte. Its acts are to be done first. id, filter and event_limit are those of mr_open.
  * MR_IN_USE, MR_VERSION_NO_SUCH_AUTHOR, MR_NOT_TEXT, MR_FILTER_.., MR_BAD_LENGTH, MR_REPLAY_BAD_LIMIT, MR_OPEN_BAD_ENTRY of a filter
  * whose text is too long, MR_JOURNAL_FAILED. */
 int32_t mr_kept_begin(mr_device *device, uint16_t id, const uint8_t *filter, size_t filter_len, uint32_t event_limit,
                       const uint8_t *birth, size_t birth_len, const uint8_t *mark, size_t mark_len);
 
 /* Opens a device of the bytes of its file, which was synced before it was read. What a crash left behind is cut off, and sessions and
- * streams that were open are closed: these acts are to be done first. Where birth_len is not 0, the file has to be of that birth. A file
- * that mr_kept_begin and commits left, in whichever act, is never refused, but for memory.
- * MR_IN_USE, MR_BAD_LENGTH, MR_JOURNAL_.., MR_OPEN_.., MR_FILTER_.., MR_REPLAY_REFUSED; MR_FAILED or MR_TOO_LARGE of what closes. */
+ * streams that were open are closed: these acts are to be done first. Where birth_len is not 0, the file has to be of that birth. Once the
+ * acts of mr_kept_begin are done, a file that later ones left, in whichever of them, is never refused, but for memory. An empty one, or one
+ * whose begin was cut off, may be refused by MR_OPEN_NO_REPLICA: empty it and begin.
+ * MR_IN_USE, MR_BAD_LENGTH, MR_JOURNAL_.., MR_OPEN_.., MR_FILTER_.., MR_REPLAY_..; MR_FAILED or MR_TOO_LARGE of what closes. */
 int32_t mr_kept_open(mr_device *device, const uint8_t *file, size_t file_len, const uint8_t *mark, size_t mark_len,
                      const uint8_t *birth, size_t birth_len);
 
@@ -318,7 +320,7 @@ int32_t mr_act_bytes(mr_device *device, size_t place, uint8_t *to, size_t room, 
 /* All acts are done; or, where went_well is 0, one of them failed, and so has the device. MR_CLOSED, MR_FAILED, MR_OTHER_DEVICE. */
 int32_t mr_settle(mr_device *device, uint32_t went_well);
 
-/* What the last commit hands out, by its place in the order of the events, from 0. Read it before the next event.
+/* What the last commit hands out, by its place in the order of the events, from 0. Read it before the next event or note.
  * MR_CLOSED, MR_FAILED, MR_OTHER_DEVICE, MR_UNSETTLED, MR_NOT_THERE. */
 int32_t mr_told_at(mr_device *device, size_t place, mr_told *told);
 
@@ -341,9 +343,9 @@ int32_t mr_note_at(mr_device *device, size_t place, uint8_t *to, size_t room, si
 /* What was drawn when the file was begun: MR_BIRTH bytes. MR_CLOSED, MR_FAILED, MR_OTHER_DEVICE, MR_UNSETTLED, MR_TOO_SMALL. */
 int32_t mr_birth(mr_device *device, uint8_t *to, size_t room, size_t *len);
 
-/* Whether what another device tells goes with this one: ask before you send it anything or take anything of it. highest: of each author
- * that it tells of the highest version that it knows, as mr_highest finds it there; what it tells of this device's id is what counts.
- * births: the files that it has met, each with its device's id, as your program has noted of each device that it met. MR_PEER_OLD_COPY
+/* Whether what another device tells goes with this one: ask before you send it anything or take anything of it. highest: the highest
+ * versions that the other knows, one of each author that it tells of, by mr_highest there; only that of this device's id counts. births:
+ * the files that the other has met, each with its device's id, as the program there has noted them at each meeting. MR_PEER_OLD_COPY
  * where the other knows a version of this id that this device hasn't given: so this is an older state of the device, which would give
  * that version to another message. MR_PEER_OTHER_BIRTH where it has met another file of this id. Then send and take nothing, and begin
  * anew under another id. MR_OK proves nothing of the other device: an old copy that meets only those who know no more of it than it does
@@ -371,8 +373,8 @@ int32_t mr_edit(mr_device *device, const mr_version *bases, size_t bases_len, co
  * head has it; and the message counts as deleted only where each head says so. A head that is deleted and has no label has no say
  * beside others. Where the contents differ nothing is merged: show the heads to the user. Merge on the device that sees the conflict.
  * Of a kept device first MR_FAILED, MR_UNSETTLED: so one merge to a commit. MR_VERSION_.. of the item, MR_MERGE_CONTENTS_DIFFER,
- * MR_MERGE_TOO_MANY_LABELS, MR_NO_CONFLICT where the heads say the same, or there is one or none, MR_REFUSED_ RETIRED, OWN_HEAD_LEFT
- * while a push-out of the item is held, LOG_FULL, TOO_MANY_HOLES, TOO_MANY_ITEMS. */
+ * MR_MERGE_TOO_MANY_LABELS, MR_NO_CONFLICT where the heads say the same (and stay several), or there is one or none, MR_REFUSED_ RETIRED,
+ * OWN_HEAD_LEFT while a push-out of the item is held, LOG_FULL, TOO_MANY_HOLES, TOO_MANY_ITEMS. */
 int32_t mr_merge(mr_device *device, mr_version item, mr_version *version);
 
 /* Writes, asks and takes nothing more; it still answers. MR_REFUSED_ RETIRED, PUSH_OUTS_LEFT while it keeps messages for others. */
@@ -406,10 +408,10 @@ int32_t mr_vouch(mr_device *device, mr_version version);
  * LOG_FULL. */
 int32_t mr_release(mr_device *device, const uint8_t *frame, size_t frame_len);
 
-/* ---- readers: each answers MR_CLOSED first, and of a kept device MR_FAILED and MR_UNSETTLED; none changes the device */
+/* ---- readers: each answers MR_CLOSED first, and but for mr_frame of a kept device MR_FAILED and MR_UNSETTLED; none changes the device */
 
 /* The frame that the last event of a plain device gave that was not refused: of mr_pull, mr_next and mr_vouch, and else none (length
- * 0). It has at most 8,388,612 bytes. MR_OTHER_DEVICE, MR_TOO_SMALL. */
+ * 0). It has at most 8,388,612 bytes. MR_FAILED or else MR_OTHER_DEVICE of each kept device, MR_TOO_SMALL. */
 int32_t mr_frame(mr_device *device, uint8_t *to, size_t room, size_t *len);
 
 /* How much there is. */
@@ -432,7 +434,7 @@ int32_t mr_change(mr_device *device, size_t place, mr_changed *change);
 /* An event of the log, by its place, as the bytes to be kept for mr_replay. MR_NOT_THERE, MR_EVENT_TOO_LONG, MR_TOO_SMALL. */
 int32_t mr_event(mr_device *device, size_t place, uint8_t *to, size_t room, size_t *len);
 
-/* A part of a held message: MR_FROM, MR_SUBJECT or MR_BODY. MR_VERSION_.., MR_NOT_THERE, MR_TOO_SMALL. */
+/* A part of a held message: MR_FROM, MR_SUBJECT or MR_BODY. MR_VERSION_.., MR_NOT_THERE also of another part, MR_TOO_SMALL. */
 int32_t mr_part(mr_device *device, mr_version version, uint32_t part, uint8_t *to, size_t room, size_t *len);
 
 /* Where a held message belongs. MR_VERSION_.., MR_NOT_THERE. */
@@ -458,7 +460,7 @@ int32_t mr_streams(mr_device *device, uint64_t *to, size_t room, size_t *len);
 
 /* ---- frames in a stream of bytes: these take no device */
 
-/* How many bytes the frame takes that these begin, its own length's four among them. MR_WIRE_TRUNCATED: fewer than four bytes are
+/* How many bytes the frame takes that begins with these, by its first four, which count too. MR_WIRE_TRUNCATED: fewer than four are
  * there. MR_WIRE_TOO_LONG: give up the connection. */
 int32_t mr_frame_len(const uint8_t *bytes, size_t bytes_len, size_t *len);
 

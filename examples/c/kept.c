@@ -36,7 +36,7 @@ static size_t len;
 static long acts_until_death = -1;
 static int dies_halfway;
 
-/* Where the child tells what was handed out, and what it announces: the device's id, or that and two. */
+/* Where the child tells what was handed out, by the device's id, and what it announces, by the id and two. */
 static int told_to = -1;
 
 #define MUST(call) must((call), #call)
@@ -98,8 +98,8 @@ static void commit(kept *k) {
   hand_out(k);
 }
 
-/* Announces the changes that nobody has heard of. A note in the file says so before: a program that is killed in between announces
- * them never, and none is announced twice. */
+/* Announces the changes that nobody has heard of. A note in the file says so before: a program that is killed in between never
+ * announces them, and none is announced twice. */
 static void announce(kept *k) {
   mr_count count;
   MUST(mr_counts(&k->device, &count));

@@ -12,7 +12,8 @@ const MAX_OPEN: usize = 8;
 
 /// A device: one end of a mailbox that is kept in step. It may go to another thread, and two threads can't share it.
 ///
-/// Each call that changes it is an event, which happens as a whole or not at all: at an `Err` it is as it was.
+/// Each call that changes it is an event, which happens as a whole or not at all: at an `Err` it is as it was. The lists of errors mostly
+/// leave out `OutOfMemory`.
 #[derive(Debug)]
 pub struct Device {
     pub(crate) device: sys::Device,
@@ -179,7 +180,7 @@ impl Device {
     ///
     /// # Errors
     ///
-    /// `Refused`, while it keeps messages for others.
+    /// `Refused`, as while it keeps messages for others.
     pub fn retire(&mut self) -> Result<()> {
         answer(sys::mr_retire(&mut self.device))
     }
@@ -299,7 +300,7 @@ impl Device {
     }
 
     /// The frame that the last event gave that was not refused, and nothing where it gave none. `pull`, `next` and `vouch` give it
-    /// themselves; it is here for who found no memory to take it.
+    /// themselves; here it is once more.
     ///
     /// # Errors
     ///

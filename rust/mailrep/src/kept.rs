@@ -120,8 +120,8 @@ pub enum HandedOut {
 
 /// A device whose file is written before anything that came of its events is shown or handed out.
 ///
-/// Killed at any moment, also in the middle of a write, the program finds a file that [`KeptDevice::open`] takes: with all that was
-/// committed before the last commit, and of the last one all or nothing. Once the file has failed, every call answers `Failed`.
+/// Killed at any moment once it is begun, also in the middle of a write, the program finds a file that [`KeptDevice::open`] takes: with all
+/// that was committed before the last commit, and of the last one all or nothing. Once the file has failed, every call answers `Failed`.
 #[derive(Debug)]
 pub struct KeptDevice<F: Storage> {
     device: Device,
@@ -139,8 +139,8 @@ impl<F: Storage> KeptDevice<F> {
     /// Begins a device in a file that has no byte.
     ///
     /// `id`, `filter` and `event_limit` are those of [`Device::open`]. `birth`: random bytes, drawn for this file alone. `mark`: bytes that
-    /// tell where the file is, as of its device and inode, so that a copy and a restored backup, which would give versions again, are
-    /// refused; or zeros, and then they aren't.
+    /// tell where the file is, as of its device and inode, so that a copy, and a backup that was restored as another file, which would
+    /// give versions again, are refused; or zeros, and then they aren't.
     ///
     /// # Errors
     ///
@@ -181,8 +181,8 @@ impl<F: Storage> KeptDevice<F> {
     ///
     /// # Errors
     ///
-    /// `Open(NoReplica)` where a begin was cut off: empty the file and begin again. `Journal` and `Open` where the file is none of a
-    /// device, or of another place or, where a birth is given, of another birth; and what the file says.
+    /// `Open(NoReplica)` where the file is empty or a begin was cut off: empty it and begin. `Journal`, `Open`, `Filter` and `Replay` where
+    /// it is none of a device, `Open` also of another place or, where a birth is given, of another birth; and what the file says.
     ///
     /// # Panics
     ///
@@ -258,7 +258,7 @@ impl<F: Storage> KeptDevice<F> {
         Ok(self.handed_out()?)
     }
 
-    /// What the last commit handed out, once more: for who found no memory to take it. `Unsettled` behind the next event or note.
+    /// What the last commit handed out, once more: for whom `commit` had no memory to give it. `Unsettled` behind the next event or note.
     ///
     /// # Errors
     ///
