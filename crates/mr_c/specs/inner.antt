@@ -1,3 +1,2 @@
 -- what private functions promise, and what their loops keep: no public contract cites it
-pub mod Given
 pub mod Opened

@@ -17,10 +17,7 @@ fn called(alloc: Global, handle: &mut Handle, call: &Call<'_>) -> Result<Told, F
     };
     let answer = device.serve(alloc, call);
     handle.put(device);
-    match answer {
-        Ok(told) => Ok(told),
-        Err(fault) => Err(Failure::Desk(fault)),
-    }
+    Ok(answer?)
 }
 
 // The version that was issued, where one was.

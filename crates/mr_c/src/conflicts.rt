@@ -1,9 +1,9 @@
 //! Items of which several heads are held, and how they are merged.
 ghost use Rattle.std.specs.Prelude.{◌≡◌, IfOk, map};
 ghost use Rattle.mr_store.specs.Revisions.{versions_of};
-ghost use Rattle.mr_desk.specs.Device.{DeviceMerges, shown};
+ghost use Rattle.mr_desk.specs.Device.{shown};
 ghost use Rattle.mr_desk.specs.Version.{numbers_of};
-ghost use Rattle.mr_c.specs.Called.{Does, Merges, version_told};
+ghost use Rattle.mr_c.specs.Called.{Merges, version_told};
 ghost use Rattle.mr_c.specs.Code.{code_of};
 ghost use Rattle.mr_c.specs.Conflicts.{FindsConflicts, GivesConflicts, heads_in, heads_of, replica_in};
 ghost use Rattle.mr_c.specs.Given.{built, by_desk, read_in};
@@ -12,9 +12,8 @@ ghost use Rattle.mr_c.specs.Shown.{GivesNumbers, InMemory};
 use crate::calls::tell_version;
 use crate::failure::{Failure, code_of};
 use crate::given::{fill_built, replica_of};
-use crate::handle::Handle;
-use crate::open::version_of;
-use mr_desk::{Device, Told, VersionNumbers};
+use crate::handle::{Handle, act, read};
+use mr_desk::{Device, VersionNumbers};
 use mr_replica::Revision;
 use mr_version::ItemId;
 use std::alloc::{AllocError, Global};
@@ -37,18 +36,6 @@ fn conflicts_in(alloc: Global, device: &Device) -> Result<Vec<VersionNumbers>, F
     Ok(numbers_of(alloc, &items)?)
 }
 
-fn conflicts(alloc: Global, handle: &mut Handle) -> Result<Vec<VersionNumbers>, Failure>
-    ensures unchanged { handle.new.device ≡ handle.old.device }
-    ensures found { FindsConflicts (replica_in handle.old.device) (built result) }
-{
-    let Some(device) = handle.take(alloc) else {
-        return Err(Failure::Closed);
-    };
-    let found = conflicts_in(alloc, &device);
-    handle.put(device);
-    found
-}
-
 /// The items with two or more heads, in rising order.
 ///
 /// After `Closed`, `Unsettled` or `Failed` of a kept device; want of memory; then `TooSmall` where the buffer is shorter than the length that
@@ -63,7 +50,7 @@ pub extern "C" fn mr_conflicts(
     ensures unchanged { handle.new.device ≡ handle.old.device }
     ensures given { GivesConflicts (replica_in handle.old.device) to.old to.new len.old len.new result }
 {
-    let found = conflicts(alloc, handle);
+    let found = read!(alloc, handle, |device| conflicts_in(alloc, &device));
     fill_built(&found, to, len)
 }
 
@@ -92,24 +79,8 @@ fn heads_in(
     ensures { InMemory (read_in (λ s. heads_in s item) device.now) (built result) }
 {
     let replica = replica_of(device)?;
-    let item = ItemId::new(version_of(item)?);
+    let item = ItemId::new(item.version()?);
     Ok(versions_of(alloc, replica.heads(), item)?)
-}
-
-fn heads_of(
-    alloc: Global,
-    handle: &mut Handle,
-    item: VersionNumbers,
-) -> Result<Vec<VersionNumbers>, Failure>
-    ensures unchanged { handle.new.device ≡ handle.old.device }
-    ensures found { InMemory (heads_of handle.old.device item) (built result) }
-{
-    let Some(device) = handle.take(alloc) else {
-        return Err(Failure::Closed);
-    };
-    let found = heads_in(alloc, &device, item);
-    handle.put(device);
-    found
 }
 
 /// The versions of an item that are heads, in version order.
@@ -127,23 +98,8 @@ pub extern "C" fn mr_heads_of(
     ensures unchanged { handle.new.device ≡ handle.old.device }
     ensures given { GivesNumbers (heads_of handle.old.device item) to.old to.new len.old len.new result }
 {
-    let found = heads_of(alloc, handle, item);
+    let found = read!(alloc, handle, |device| heads_in(alloc, &device, item));
     fill_built(&found, to, len)
-}
-
-// The device that the handle owns merges the heads of an item.
-fn merged(alloc: Global, handle: &mut Handle, item: VersionNumbers) -> Result<Told, Failure>
-    ensures { Does (λ old answer new. DeviceMerges old item answer new) handle.old.device result handle.new.device }
-{
-    let Some(mut device) = handle.take(alloc) else {
-        return Err(Failure::Closed);
-    };
-    let answer = device.merge(alloc, item);
-    handle.put(device);
-    match answer {
-        Ok(told) => Ok(told),
-        Err(fault) => Err(Failure::Desk(fault)),
-    }
 }
 
 /// Merges the heads of an item by an edit of all of them, and gives its version.
@@ -159,7 +115,7 @@ pub extern "C" fn mr_merge(
 ) -> i32
     ensures { Merges handle.old.device item handle.new.device (λ answer. (result ≡ code_of answer) × (version.new ≡ version_told answer version.old)) }
 {
-    let answer = merged(alloc, handle, item);
+    let answer = act!(alloc, handle, |device| device.merge(alloc, item));
     tell_version(&answer, version);
     code_of(&answer)
 }

@@ -3,6 +3,7 @@ ghost use Rattle.std.specs.Prelude.{◌≡◌, pos};
 ghost use Rattle.mr_c.specs.Code.{code_of, failure_number};
 
 use mr_desk::Fault;
+use mr_version::VersionFault;
 use std::alloc::AllocError;
 
 /// Why a call by C did nothing.
@@ -65,5 +66,17 @@ impl From<Fault> for Failure {
 
     fn from(fault: Fault) -> Failure {
         Failure::Desk(fault)
+    }
+}
+
+impl From<VersionFault> for Failure {
+    ghost use Rattle.std.specs.Prelude.{◌≡◌};
+    ghost use Rattle.mr_desk.specs.declared.fault.Fault.TheVariants.{Version};
+    ghost use Rattle.mr_c.specs.declared.failure.Failure.TheVariants.{Desk};
+
+    ghost from_gives = { λ fault failure. failure ≡ Desk (Version fault) };
+
+    fn from(fault: VersionFault) -> Failure {
+        Failure::Desk(Fault::Version(fault))
     }
 }

@@ -1,7 +1,7 @@
 //! What was found, into the caller's variables.
-ghost use Rattle.std.specs.Prelude.{◌≡◌, Ok};
+ghost use Rattle.std.specs.Prelude.{◌≡◌, MatchResult, None, Ok, Some, slice_get};
 ghost use Rattle.mr_desk.specs.Device.{lent, shown};
-ghost use Rattle.mr_c.specs.Given.{IsFilled, IsGiven, IsPut, built, by_desk};
+ghost use Rattle.mr_c.specs.Given.{IsFilled, IsGiven, built, by_desk};
 
 use crate::failure::Failure;
 use mr_desk::Device;
@@ -12,9 +12,16 @@ use mr_replica::Replica;
 pub(crate) fn replica_of(device: &Device) -> Result<&Replica<SparingKnowledge>, Failure>
     ensures { lent result ≡ by_desk (shown device.now) }
 {
-    match device.replica() {
-        Ok(replica) => Ok(replica),
-        Err(fault) => Err(Failure::Desk(fault)),
+    Ok(device.replica()?)
+}
+
+/// What is at a place: `NotThere` past the last.
+pub(crate) fn at_place<T>(items: &[T], place: usize) -> Result<&T, Failure>
+    ensures { MatchResult result (λ item. slice_get items.now place ≡ Some item.now) (λ failure. (slice_get items.now place ≡ None) × (failure ≡ Failure.NotThere)) }
+{
+    match items.get(place) {
+        Some(item) => Ok(item),
+        None => Err(Failure::NotThere),
     }
 }
 
@@ -36,7 +43,22 @@ pub(crate) fn fill<T: Copy + Drop>(items: &[T], to: &mut [T], len: &mut usize) -
     ensures { IsFilled (Ok items.now) to.old to.new len.old len.new result }
 {
     *len = items.len();
-    put(items, to)
+    if to.len() < items.len() {
+        return Failure::TooSmall.code();
+    }
+    let (front, _) = to.split_at_mut(items.len());
+    front.copy_from_slice(items);
+    0
+}
+
+/// Copies bytes that were found to the front of the caller's buffer, or tells why there are none.
+pub(crate) fn fill_found(found: &Result<&[u8], Failure>, to: &mut [u8], len: &mut usize) -> i32
+    ensures { IsFilled (lent found.now) to.old to.new len.old len.new result }
+{
+    match found {
+        Ok(bytes) => fill(*bytes, to, len),
+        Err(failure) => failure.code(),
+    }
 }
 
 /// Copies items that were made for it to the front of the caller's buffer, or tells why there are none.
@@ -51,16 +73,4 @@ pub(crate) fn fill_built<T: Copy + Drop>(
         Ok(items) => fill(items.as_slice(), to, len),
         Err(failure) => failure.code(),
     }
-}
-
-/// Copies items to the front of the caller's buffer, if they fit.
-fn put<T: Copy + Drop>(items: &[T], to: &mut [T]) -> i32
-    ensures { IsPut items.now to.old to.new result }
-{
-    if to.len() < items.len() {
-        return Failure::TooSmall.code();
-    }
-    let (front, _) = to.split_at_mut(items.len());
-    front.copy_from_slice(items);
-    0
 }

@@ -78,3 +78,41 @@ impl Handle {
 
 // A handle may go to another thread, since its device may.
 unsafe impl Send for Handle {}
+
+/// What is read of the device that a handle owns, which goes back into it. Where the handle is closed it is that failure, or what is given
+/// for it.
+macro_rules! read {
+    ($alloc:ident, $handle:ident, |$device:ident| $read:expr) => {
+        read!($alloc, $handle, Err(Failure::Closed), |$device| $read)
+    };
+    ($alloc:ident, $handle:ident, $closed:expr, |$device:ident| $read:expr) => {
+        match $handle.take($alloc) {
+            Some($device) => {
+                let found = $read;
+                $handle.put($device);
+                found
+            }
+            None => $closed,
+        }
+    };
+}
+
+/// What the device that a handle owns answers when it does something. It goes back into the handle. Where that is closed it is that failure.
+macro_rules! act {
+    ($alloc:ident, $handle:ident, |$device:ident| $act:expr) => {
+        match $handle.take($alloc) {
+            Some(mut $device) => {
+                let answer = $act;
+                $handle.put($device);
+                match answer {
+                    Ok(told) => Ok(told),
+                    Err(fault) => Err(Failure::Desk(fault)),
+                }
+            }
+            None => Err(Failure::Closed),
+        }
+    };
+}
+
+pub(crate) use act;
+pub(crate) use read;

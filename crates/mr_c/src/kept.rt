@@ -1,15 +1,14 @@
 //! What the host of a kept device does to its file, and what it is handed out then.
 ghost use Rattle.std.specs.Prelude.{◌≡◌};
-ghost use Rattle.mr_desk.specs.Device.{Commits, Settles, acts_of, lent, replies_of};
-ghost use Rattle.mr_desk.specs.Told.{frame_by};
-ghost use Rattle.mr_c.specs.Called.{Does, DoesAs};
-ghost use Rattle.mr_c.specs.Given.{IsFilled, IsGiven, at_place, built, by_desk};
+ghost use Rattle.mr_desk.specs.Device.{Commits, Settles, lent};
+ghost use Rattle.mr_c.specs.Called.{DoesAs};
+ghost use Rattle.mr_c.specs.Given.{IsFilled, IsGiven, built};
 ghost use Rattle.mr_c.specs.Shown.{GivesNumbers, InMemory};
-ghost use Rattle.mr_c.specs.ShownKept.{act_at, act_in, bytes_of, frame_at, frame_in, handed, is_well, reply_at, reply_in, shown_act, shown_reply, written, written_at, written_in};
+ghost use Rattle.mr_c.specs.ShownKept.{act_at, act_in, bytes_of, frame_at, frame_in, handed, is_well, reply_at, reply_in, shown_act, shown_reply, written_at, written_in};
 
 use crate::failure::{Failure, code_of};
-use crate::given::{fill, fill_built, give};
-use crate::handle::Handle;
+use crate::given::{at_place, fill_built, fill_found, give};
+use crate::handle::{Handle, act, read};
 use mr_desk::{Device, VersionNumbers, frame_by};
 use mr_outbox::Act;
 use mr_replica::Reply;
@@ -34,21 +33,6 @@ pub struct HandedOut {
     version: VersionNumbers,
 }
 
-// Has the host of the device that the handle owns keep what waits.
-fn committed(alloc: Global, handle: &mut Handle) -> Result<(), Failure>
-    ensures { Does Commits handle.old.device result handle.new.device }
-{
-    let Some(mut device) = handle.take(alloc) else {
-        return Err(Failure::Closed);
-    };
-    let answer = device.commit();
-    handle.put(device);
-    match answer {
-        Ok(()) => Ok(()),
-        Err(fault) => Err(Failure::Desk(fault)),
-    }
-}
-
 /// Has the host keep all events that wait: its acts are what it has to do, and then what was held back is handed out.
 ///
 /// After `Closed`, `OtherDevice` of a plain device and `Failed` of one that has failed; then as `Device::commit` answers.
@@ -56,22 +40,8 @@ fn committed(alloc: Global, handle: &mut Handle) -> Result<(), Failure>
 pub extern "C" fn mr_commit(alloc: Global, handle: &mut Handle) -> i32
     ensures { DoesAs Commits handle.old.device handle.new.device result }
 {
-    code_of(&committed(alloc, handle))
-}
-
-// The host of the device that the handle owns has done its acts, or one failed.
-fn settled(alloc: Global, handle: &mut Handle, went_well: bool) -> Result<(), Failure>
-    ensures { Does (λ old answer new. Settles old went_well answer new) handle.old.device result handle.new.device }
-{
-    let Some(mut device) = handle.take(alloc) else {
-        return Err(Failure::Closed);
-    };
-    let answer = device.settle(went_well);
-    handle.put(device);
-    match answer {
-        Ok(()) => Ok(()),
-        Err(fault) => Err(Failure::Desk(fault)),
-    }
+    let answer = act!(alloc, handle, |device| device.commit());
+    code_of(&answer)
 }
 
 /// The host has done all acts, or, where the second is 0, one of them failed: then the device has failed for good.
@@ -81,16 +51,8 @@ fn settled(alloc: Global, handle: &mut Handle, went_well: bool) -> Result<(), Fa
 pub extern "C" fn mr_settle(alloc: Global, handle: &mut Handle, went_well: u32) -> i32
     ensures { DoesAs (λ old answer new. Settles old (is_well went_well) answer new) handle.old.device handle.new.device result }
 {
-    code_of(&settled(alloc, handle, went_well != 0))
-}
-
-fn acts_of(device: &Device) -> Result<&[Act], Failure>
-    ensures { lent result ≡ by_desk (acts_of device.now) }
-{
-    match device.acts() {
-        Ok(acts) => Ok(acts),
-        Err(fault) => Err(Failure::Desk(fault)),
-    }
+    let answer = act!(alloc, handle, |device| device.settle(went_well != 0));
+    code_of(&answer)
 }
 
 fn shown_act(act: &Act) -> HostAct
@@ -115,19 +77,10 @@ fn shown_act(act: &Act) -> HostAct
     }
 }
 
-fn act_of(acts: &[Act], place: usize) -> Result<HostAct, Failure>
-    ensures { result ≡ at_place shown_act acts.now place }
-{
-    match acts.get(place) {
-        Some(act) => Ok(shown_act(act)),
-        None => Err(Failure::NotThere),
-    }
-}
-
 fn act_in(device: &Device, place: usize) -> Result<HostAct, Failure>
     ensures { result ≡ act_in device.now place }
 {
-    act_of(acts_of(device)?, place)
+    Ok(shown_act(at_place(device.acts()?, place)?))
 }
 
 /// An act that is left to be done, by its place in their order. After `Closed`, `OtherDevice` or `Failed`; `NotThere` past the last.
@@ -141,11 +94,7 @@ pub extern "C" fn mr_act_at(
     ensures unchanged { handle.new.device ≡ handle.old.device }
     ensures given { IsGiven (act_at handle.old.device place) act.old act.new result }
 {
-    let Some(device) = handle.take(alloc) else {
-        return Failure::Closed.code();
-    };
-    let found = act_in(&device, place);
-    handle.put(device);
+    let found = read!(alloc, handle, |device| act_in(&device, place));
     give(found, act)
 }
 
@@ -158,28 +107,10 @@ fn bytes_of(act: &Act) -> Result<&[u8], Failure>
     }
 }
 
-fn written_of(acts: &[Act], place: usize) -> Result<&[u8], Failure>
-    ensures { lent result ≡ written acts.now place }
-{
-    match acts.get(place) {
-        Some(act) => bytes_of(act),
-        None => Err(Failure::NotThere),
-    }
-}
-
 fn written_in(device: &Device, place: usize) -> Result<&[u8], Failure>
     ensures { lent result ≡ written_in device.now place }
 {
-    written_of(acts_of(device)?, place)
-}
-
-fn fill_written(device: &Device, place: usize, to: &mut [u8], len: &mut usize) -> i32
-    ensures { IsFilled (written_in device.now place) to.old to.new len.old len.new result }
-{
-    match written_in(device, place) {
-        Ok(bytes) => fill(bytes, to, len),
-        Err(failure) => failure.code(),
-    }
+    bytes_of(at_place(device.acts()?, place)?)
 }
 
 /// The bytes that an act writes. The failures are those of `mr_act_at`; `NotThere` also of an act that writes none; then `TooSmall`
@@ -195,21 +126,12 @@ pub extern "C" fn mr_act_bytes(
     ensures unchanged { handle.new.device ≡ handle.old.device }
     ensures given { IsFilled (written_at handle.old.device place) to.old to.new len.old len.new result }
 {
-    let Some(device) = handle.take(alloc) else {
-        return Failure::Closed.code();
-    };
-    let code = fill_written(&device, place, to, len);
-    handle.put(device);
-    code
-}
-
-fn replies_of(device: &Device) -> Result<&[Reply], Failure>
-    ensures { lent result ≡ by_desk (replies_of device.now) }
-{
-    match device.replies() {
-        Ok(replies) => Ok(replies),
-        Err(fault) => Err(Failure::Desk(fault)),
-    }
+    read!(
+        alloc,
+        handle,
+        Failure::Closed.code(),
+        |device| fill_found(&written_in(&device, place), to, len)
+    )
 }
 
 fn handed(kind: u32, number: u64, version: VersionNumbers) -> HandedOut
@@ -238,19 +160,10 @@ fn shown_reply(reply: &Reply) -> HandedOut
     }
 }
 
-fn reply_of(replies: &[Reply], place: usize) -> Result<HandedOut, Failure>
-    ensures { result ≡ at_place shown_reply replies.now place }
-{
-    match replies.get(place) {
-        Some(reply) => Ok(shown_reply(reply)),
-        None => Err(Failure::NotThere),
-    }
-}
-
 fn reply_in(device: &Device, place: usize) -> Result<HandedOut, Failure>
     ensures { result ≡ reply_in device.now place }
 {
-    reply_of(replies_of(device)?, place)
+    Ok(shown_reply(at_place(device.replies()?, place)?))
 }
 
 /// What the last commit hands out, by its place in the order of the events, once the host has done its acts.
@@ -267,39 +180,14 @@ pub extern "C" fn mr_told_at(
     ensures unchanged { handle.new.device ≡ handle.old.device }
     ensures given { IsGiven (reply_at handle.old.device place) told.old told.new result }
 {
-    let Some(device) = handle.take(alloc) else {
-        return Failure::Closed.code();
-    };
-    let found = reply_in(&device, place);
-    handle.put(device);
+    let found = read!(alloc, handle, |device| reply_in(&device, place));
     give(found, told)
-}
-
-fn frame_of(alloc: Global, replies: &[Reply], place: usize) -> Result<Vec<u8>, Failure>
-    ensures { InMemory (at_place frame_by replies.now place) (built result) }
-{
-    match replies.get(place) {
-        Some(reply) => Ok(frame_by(alloc, reply)?),
-        None => Err(Failure::NotThere),
-    }
 }
 
 fn frame_in(alloc: Global, device: &Device, place: usize) -> Result<Vec<u8>, Failure>
     ensures { InMemory (frame_in device.now place) (built result) }
 {
-    frame_of(alloc, replies_of(device)?, place)
-}
-
-fn frame_at(alloc: Global, handle: &mut Handle, place: usize) -> Result<Vec<u8>, Failure>
-    ensures unchanged { handle.new.device ≡ handle.old.device }
-    ensures found { InMemory (frame_at handle.old.device place) (built result) }
-{
-    let Some(device) = handle.take(alloc) else {
-        return Err(Failure::Closed);
-    };
-    let found = frame_in(alloc, &device, place);
-    handle.put(device);
-    found
+    Ok(frame_by(alloc, at_place(device.replies()?, place)?)?)
 }
 
 /// The frame of what is handed out, and no byte of a version. The failures are those of `mr_told_at`; want of memory; then `TooSmall`
@@ -315,6 +203,6 @@ pub extern "C" fn mr_told_frame(
     ensures unchanged { handle.new.device ≡ handle.old.device }
     ensures given { GivesNumbers (frame_at handle.old.device place) to.old to.new len.old len.new result }
 {
-    let found = frame_at(alloc, handle, place);
+    let found = read!(alloc, handle, |device| frame_in(alloc, &device, place));
     fill_built(&found, to, len)
 }

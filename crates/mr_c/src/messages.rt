@@ -1,16 +1,15 @@
 //! The messages that are held, by their versions.
 ghost use Rattle.std.specs.Prelude.{◌≡◌};
 ghost use Rattle.mr_desk.specs.Device.{lent};
-ghost use Rattle.mr_c.specs.Given.{IsFilled, IsGiven, at_place, read_in};
+ghost use Rattle.mr_c.specs.Given.{IsFilled, IsGiven, read_in};
 ghost use Rattle.mr_c.specs.Shown.{card_at, card_in, label_at, label_in, message_of, part_at, part_in, part_of};
 
 use crate::failure::Failure;
-use crate::given::{fill, give, replica_of};
-use crate::handle::Handle;
-use crate::open::version_of;
+use crate::given::{at_place, fill_found, give, replica_of};
+use crate::handle::{Handle, read};
 use mr_desk::{Device, VersionNumbers};
 use mr_itemset::SparingKnowledge;
-use mr_mail::{Label, Message};
+use mr_mail::Message;
 use mr_replica::Replica;
 use std::alloc::Global;
 
@@ -30,7 +29,7 @@ fn message_of(
 ) -> Result<&Message, Failure>
     ensures { lent result ≡ message_of replica.now version }
 {
-    let version = version_of(version)?;
+    let version = version.version()?;
     match replica.held(version) {
         Some(revision) => Ok(revision.message()),
         None => Err(Failure::NotThere),
@@ -54,21 +53,6 @@ fn part_in(device: &Device, version: VersionNumbers, part: u32) -> Result<&[u8],
     part_of(message_of(replica_of(device)?, version)?, part)
 }
 
-fn fill_part(
-    device: &Device,
-    version: VersionNumbers,
-    part: u32,
-    to: &mut [u8],
-    len: &mut usize,
-) -> i32
-    ensures { IsFilled (read_in (λ s. part_in s version part) device.now) to.old to.new len.old len.new result }
-{
-    match part_in(device, version, part) {
-        Ok(bytes) => fill(bytes, to, len),
-        Err(failure) => failure.code(),
-    }
-}
-
 /// A part of a held message: its sender, 0, its subject, 1, or its body, 2.
 ///
 /// After `Closed`, `Unsettled` or `Failed` of a kept device; then why the numbers are no version's; then `NotThere` where it isn't held, or for another part; then `TooSmall`
@@ -85,42 +69,19 @@ pub extern "C" fn mr_part(
     ensures unchanged { handle.new.device ≡ handle.old.device }
     ensures given { IsFilled (part_at handle.old.device version part) to.old to.new len.old len.new result }
 {
-    let Some(device) = handle.take(alloc) else {
-        return Failure::Closed.code();
-    };
-    let code = fill_part(&device, version, part, to, len);
-    handle.put(device);
-    code
-}
-
-fn label_of(labels: &[Label], place: usize) -> Result<&[u8], Failure>
-    ensures { lent result ≡ at_place (λ label. label) labels.now place }
-{
-    match labels.get(place) {
-        Some(label) => Ok(label.as_str().as_bytes()),
-        None => Err(Failure::NotThere),
-    }
+    read!(
+        alloc,
+        handle,
+        Failure::Closed.code(),
+        |device| fill_found(&part_in(&device, version, part), to, len)
+    )
 }
 
 fn label_in(device: &Device, version: VersionNumbers, place: usize) -> Result<&[u8], Failure>
     ensures { lent result ≡ read_in (λ s. label_in s version place) device.now }
 {
-    label_of(message_of(replica_of(device)?, version)?.labels(), place)
-}
-
-fn fill_label(
-    device: &Device,
-    version: VersionNumbers,
-    place: usize,
-    to: &mut [u8],
-    len: &mut usize,
-) -> i32
-    ensures { IsFilled (read_in (λ s. label_in s version place) device.now) to.old to.new len.old len.new result }
-{
-    match label_in(device, version, place) {
-        Ok(bytes) => fill(bytes, to, len),
-        Err(failure) => failure.code(),
-    }
+    let message = message_of(replica_of(device)?, version)?;
+    Ok(at_place(message.labels(), place)?.as_str().as_bytes())
 }
 
 /// A label of a held message, by its place in rising order. The failures are those of a part; `NotThere` past the last.
@@ -136,12 +97,12 @@ pub extern "C" fn mr_label(
     ensures unchanged { handle.new.device ≡ handle.old.device }
     ensures given { IsFilled (label_at handle.old.device version place) to.old to.new len.old len.new result }
 {
-    let Some(device) = handle.take(alloc) else {
-        return Failure::Closed.code();
-    };
-    let code = fill_label(&device, version, place, to, len);
-    handle.put(device);
-    code
+    read!(
+        alloc,
+        handle,
+        Failure::Closed.code(),
+        |device| fill_found(&label_in(&device, version, place), to, len)
+    )
 }
 
 fn card_in(device: &Device, version: VersionNumbers) -> Result<Card, Failure>
@@ -166,10 +127,6 @@ pub extern "C" fn mr_card(
     ensures unchanged { handle.new.device ≡ handle.old.device }
     ensures given { IsGiven (card_at handle.old.device version) card.old card.new result }
 {
-    let Some(device) = handle.take(alloc) else {
-        return Failure::Closed.code();
-    };
-    let found = card_in(&device, version);
-    handle.put(device);
+    let found = read!(alloc, handle, |device| card_in(&device, version));
     give(found, card)
 }

@@ -27,12 +27,11 @@ fn check_closed(alloc: Global, handle: &mut Handle) -> Result<(), Failure>
     Ok(())
 }
 
-// Puts a device into a closed handle, or tells why there is none.
-fn install(alloc: Global, handle: &mut Handle, device: Result<Device, Fault>) -> Result<(), Failure>
+// Puts a device into a closed handle, which stays closed where there is no memory for it.
+fn install(alloc: Global, handle: &mut Handle, device: Device) -> Result<(), Failure>
     requires { handle.old.device ≡ None }
     ensures { Installed device result handle.new.device }
 {
-    let device = device?;
     match Box::new(alloc, device) {
         Ok(device) => {
             handle.put(device);
@@ -42,23 +41,7 @@ fn install(alloc: Global, handle: &mut Handle, device: Result<Device, Fault>) ->
     }
 }
 
-// The device of a log.
-fn replayed(
-    alloc: Global,
-    id: u16,
-    filter: &[u8],
-    event_limit: u32,
-    log: &[u8],
-) -> Result<Device, Fault>
-    ensures { ComesPlain id filter.now event_limit log.now result }
-{
-    match Desk::replay(alloc, id, filter, event_limit, log) {
-        Ok(desk) => Ok(Device::Plain(desk)),
-        Err(fault) => Err(fault),
-    }
-}
-
-// Opens a closed handle. An open one stays as it is.
+// Opens a closed handle, with the device of a log. An open one stays as it is.
 fn opened(
     alloc: Global,
     handle: &mut Handle,
@@ -70,8 +53,8 @@ fn opened(
     ensures { Opened (ComesPlain id filter.now event_limit log.now) handle.old.device result handle.new.device }
 {
     check_closed(alloc, handle)?;
-    let device = replayed(alloc, id, filter, event_limit, log);
-    install(alloc, handle, device)
+    let desk = Desk::replay(alloc, id, filter, event_limit, log)?;
+    install(alloc, handle, Device::Plain(desk))
 }
 
 /// Opens a replica to which nothing has happened.
@@ -87,8 +70,7 @@ pub extern "C" fn mr_open(
 ) -> i32
     ensures { OpensAs (ComesPlain id filter.now event_limit []) handle.old.device handle.new.device result }
 {
-    let answer = opened(alloc, handle, id, filter, event_limit, b"");
-    code_of(&answer)
+    code_of(&opened(alloc, handle, id, filter, event_limit, b""))
 }
 
 /// Opens a replica again, of the bytes of its log. The failures are those of `mr_open`, and then those of the log.
@@ -103,28 +85,7 @@ pub extern "C" fn mr_replay(
 ) -> i32
     ensures { OpensAs (ComesPlain id filter.now event_limit log.now) handle.old.device handle.new.device result }
 {
-    let answer = opened(alloc, handle, id, filter, event_limit, log);
-    code_of(&answer)
-}
-
-// The kept device that is begun.
-fn begun(
-    alloc: Global,
-    id: u16,
-    filter: &[u8],
-    event_limit: u32,
-    birth: &[u8],
-    mark: &[u8],
-) -> Result<Device, Fault>
-    ensures { ComesBegun id filter.now event_limit birth.now mark.now result }
-{
-    match begin_kept(alloc, id, filter, event_limit, birth, mark) {
-        Ok(kept) => Ok(Device::Kept {
-            kept,
-            notes: Vec::new(alloc),
-        }),
-        Err(fault) => Err(fault),
-    }
+    code_of(&opened(alloc, handle, id, filter, event_limit, log))
 }
 
 // Begins a kept device in a closed handle. An open one stays as it is.
@@ -140,7 +101,10 @@ fn kept_begun(
     ensures { Opened (ComesBegun id filter.now event_limit birth.now mark.now) handle.old.device result handle.new.device }
 {
     check_closed(alloc, handle)?;
-    let device = begun(alloc, id, filter, event_limit, birth, mark);
+    let device = Device::Kept {
+        kept: begin_kept(alloc, id, filter, event_limit, birth, mark)?,
+        notes: Vec::new(alloc),
+    };
     install(alloc, handle, device)
 }
 
@@ -159,21 +123,10 @@ pub extern "C" fn mr_kept_begin(
 ) -> i32
     ensures { OpensAs (ComesBegun id filter.now event_limit birth.now mark.now) handle.old.device handle.new.device result }
 {
-    let answer = kept_begun(alloc, handle, id, filter, event_limit, birth, mark);
-    code_of(&answer)
+    code_of(&kept_begun(alloc, handle, id, filter, event_limit, birth, mark))
 }
 
-// The kept device of a file, with the notes that are found there.
-fn brought_back(alloc: Global, file: &[u8], mark: &[u8], birth: &[u8]) -> Result<Device, Fault>
-    ensures { ComesBack file.now mark.now birth.now result }
-{
-    match open_kept(alloc, file, mark, birth) {
-        Ok((kept, notes)) => Ok(Device::Kept { kept, notes }),
-        Err(fault) => Err(fault),
-    }
-}
-
-// Brings a kept device back into a closed handle. An open one stays as it is.
+// Brings a kept device back into a closed handle, with the notes that its file has. An open one stays as it is.
 fn kept_opened(
     alloc: Global,
     handle: &mut Handle,
@@ -184,8 +137,8 @@ fn kept_opened(
     ensures { Opened (ComesBack file.now mark.now birth.now) handle.old.device result handle.new.device }
 {
     check_closed(alloc, handle)?;
-    let device = brought_back(alloc, file, mark, birth);
-    install(alloc, handle, device)
+    let (kept, notes) = open_kept(alloc, file, mark, birth)?;
+    install(alloc, handle, Device::Kept { kept, notes })
 }
 
 /// Opens a device that is kept, of the bytes of its file, which was synced before it was read: its acts are to be done first.
@@ -201,8 +154,7 @@ pub extern "C" fn mr_kept_open(
 ) -> i32
     ensures { OpensAs (ComesBack file.now mark.now birth.now) handle.old.device handle.new.device result }
 {
-    let answer = kept_opened(alloc, handle, file, mark, birth);
-    code_of(&answer)
+    code_of(&kept_opened(alloc, handle, file, mark, birth))
 }
 
 /// Closes the handle and gives back all that it holds; a closed one stays so.

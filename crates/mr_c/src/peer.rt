@@ -1,17 +1,15 @@
 //! What devices tell each other before they sync.
 ghost use Rattle.std.specs.Prelude.{◌≡◌};
 ghost use Rattle.mr_desk.specs.Device.{shown};
-ghost use Rattle.mr_desk.specs.Peer.{birth_of};
-ghost use Rattle.mr_c.specs.Called.{Does, DoesAs};
+ghost use Rattle.mr_c.specs.Called.{DoesAs};
 ghost use Rattle.mr_c.specs.Conflicts.{replica_in};
 ghost use Rattle.mr_c.specs.Given.{IsFilled, by_desk};
 ghost use Rattle.mr_c.specs.Peer.{Checks, FindsCounter, GivesCounter, birth_at};
 
 use crate::failure::{Failure, code_of};
 use crate::given::{fill, give, replica_of};
-use crate::handle::Handle;
+use crate::handle::{Handle, act, read};
 use mr_desk::{Born, Device, VersionNumbers, highest_of};
-use mr_entry::Birth;
 use std::alloc::Global;
 
 fn highest_in(device: &Device, author: u32) -> Result<u32, Failure>
@@ -23,18 +21,6 @@ fn highest_in(device: &Device, author: u32) -> Result<u32, Failure>
         Ok(None) => Err(Failure::NotThere),
         Err(fault) => Err(Failure::Desk(fault)),
     }
-}
-
-fn highest(alloc: Global, handle: &mut Handle, author: u32) -> Result<u32, Failure>
-    ensures unchanged { handle.new.device ≡ handle.old.device }
-    ensures found { FindsCounter (replica_in handle.old.device) author result }
-{
-    let Some(device) = handle.take(alloc) else {
-        return Err(Failure::Closed);
-    };
-    let found = highest_in(&device, author);
-    handle.put(device);
-    found
 }
 
 /// The highest counter of an author's versions that are known, of whatever item.
@@ -51,25 +37,8 @@ pub extern "C" fn mr_highest(
     ensures unchanged { handle.new.device ≡ handle.old.device }
     ensures given { GivesCounter (replica_in handle.old.device) author counter.old counter.new result }
 {
-    give(highest(alloc, handle, author), counter)
-}
-
-fn birth_in(device: &Device) -> Result<Birth, Failure>
-    ensures { result ≡ by_desk (birth_of device.now) }
-{
-    match device.birth() {
-        Ok(birth) => Ok(birth),
-        Err(fault) => Err(Failure::Desk(fault)),
-    }
-}
-
-fn fill_birth(device: &Device, to: &mut [u8], len: &mut usize) -> i32
-    ensures { IsFilled (by_desk (birth_of device.now)) to.old to.new len.old len.new result }
-{
-    match birth_in(device) {
-        Ok(birth) => fill(&birth, to, len),
-        Err(failure) => failure.code(),
-    }
+    let found = read!(alloc, handle, |device| highest_in(&device, author));
+    give(found, counter)
 }
 
 /// What was drawn when the file of a kept device was begun: 16 bytes.
@@ -86,31 +55,14 @@ pub extern "C" fn mr_birth(
     ensures unchanged { handle.new.device ≡ handle.old.device }
     ensures given { IsFilled (birth_at handle.old.device) to.old to.new len.old len.new result }
 {
-    let Some(device) = handle.take(alloc) else {
-        return Failure::Closed.code();
-    };
-    let code = fill_birth(&device, to, len);
-    handle.put(device);
-    code
-}
-
-// Whether what another device tells goes with the one that the handle owns.
-fn checked(
-    alloc: Global,
-    handle: &mut Handle,
-    highest: &[VersionNumbers],
-    births: &[Born],
-) -> Result<(), Failure>
-    ensures { Does (Checks highest.now births.now) handle.old.device result handle.new.device }
-{
-    let Some(device) = handle.take(alloc) else {
-        return Err(Failure::Closed);
-    };
-    let answer = device.check_peer(alloc, highest, births);
-    handle.put(device);
-    match answer {
-        Ok(()) => Ok(()),
-        Err(fault) => Err(Failure::Desk(fault)),
+    match read!(
+        alloc,
+        handle,
+        return Failure::Closed.code(),
+        |device| device.birth()
+    ) {
+        Ok(birth) => fill(&birth, to, len),
+        Err(fault) => Failure::Desk(fault).code(),
     }
 }
 
@@ -127,5 +79,10 @@ pub extern "C" fn mr_check_peer(
 ) -> i32
     ensures { DoesAs (Checks highest.now births.now) handle.old.device handle.new.device result }
 {
-    code_of(&checked(alloc, handle, highest, births))
+    let answer = act!(
+        alloc,
+        handle,
+        |device| device.check_peer(alloc, highest, births)
+    );
+    code_of(&answer)
 }

@@ -4,8 +4,8 @@ ghost use Rattle.mr_c.specs.Given.{IsGiven, at_place, read_in};
 ghost use Rattle.mr_c.specs.Shown.{bit, shown_held, shown_change, head_at, push_out_at, change_at, counts_of, retired};
 
 use crate::failure::Failure;
-use crate::given::{give, replica_of};
-use crate::handle::Handle;
+use crate::given::{at_place, give, replica_of};
+use crate::handle::{Handle, read};
 use mr_desk::{Device, VersionNumbers};
 use mr_feed::Entry;
 use mr_replica::Revision;
@@ -41,13 +41,11 @@ pub struct Counts {
 fn held_at(revisions: &[Revision], place: usize) -> Result<Held, Failure>
     ensures { result ≡ at_place shown_held revisions.now place }
 {
-    match revisions.get(place) {
-        Some(revision) => Ok(Held {
-            item: VersionNumbers::of(revision.item().creator()),
-            version: VersionNumbers::of(revision.version()),
-        }),
-        None => Err(Failure::NotThere),
-    }
+    let revision = at_place(revisions, place)?;
+    Ok(Held {
+        item: VersionNumbers::of(revision.item().creator()),
+        version: VersionNumbers::of(revision.version()),
+    })
 }
 
 fn change_of(entry: &Entry) -> Change
@@ -61,15 +59,6 @@ fn change_of(entry: &Entry) -> Change
         entered,
         item: VersionNumbers::of(entry.item().creator()),
         version: VersionNumbers::of(entry.version()),
-    }
-}
-
-fn change_at(feed: &[Entry], place: usize) -> Result<Change, Failure>
-    ensures { result ≡ at_place shown_change feed.now place }
-{
-    match feed.get(place) {
-        Some(entry) => Ok(change_of(entry)),
-        None => Err(Failure::NotThere),
     }
 }
 
@@ -88,7 +77,7 @@ fn push_out_in(device: &Device, place: usize) -> Result<Held, Failure>
 fn change_in(device: &Device, place: usize) -> Result<Change, Failure>
     ensures { result ≡ read_in (λ s. at_place shown_change s.feed place) device.now }
 {
-    change_at(replica_of(device)?.feed(), place)
+    Ok(change_of(at_place(replica_of(device)?.feed(), place)?))
 }
 
 fn counts_in(device: &Device) -> Result<Counts, Failure>
@@ -116,11 +105,7 @@ pub extern "C" fn mr_counts(alloc: Global, handle: &mut Handle, counts: &mut Cou
     ensures unchanged { handle.new.device ≡ handle.old.device }
     ensures given { IsGiven (counts_of handle.old.device) counts.old counts.new result }
 {
-    let Some(device) = handle.take(alloc) else {
-        return Failure::Closed.code();
-    };
-    let found = counts_in(&device);
-    handle.put(device);
+    let found = read!(alloc, handle, |device| counts_in(&device));
     give(found, counts)
 }
 
@@ -130,11 +115,7 @@ pub extern "C" fn mr_head(alloc: Global, handle: &mut Handle, place: usize, head
     ensures unchanged { handle.new.device ≡ handle.old.device }
     ensures given { IsGiven (head_at handle.old.device place) head.old head.new result }
 {
-    let Some(device) = handle.take(alloc) else {
-        return Failure::Closed.code();
-    };
-    let found = head_in(&device, place);
-    handle.put(device);
+    let found = read!(alloc, handle, |device| head_in(&device, place));
     give(found, head)
 }
 
@@ -149,11 +130,7 @@ pub extern "C" fn mr_push_out(
     ensures unchanged { handle.new.device ≡ handle.old.device }
     ensures given { IsGiven (push_out_at handle.old.device place) push_out.old push_out.new result }
 {
-    let Some(device) = handle.take(alloc) else {
-        return Failure::Closed.code();
-    };
-    let found = push_out_in(&device, place);
-    handle.put(device);
+    let found = read!(alloc, handle, |device| push_out_in(&device, place));
     give(found, push_out)
 }
 
@@ -168,11 +145,7 @@ pub extern "C" fn mr_change(
     ensures unchanged { handle.new.device ≡ handle.old.device }
     ensures given { IsGiven (change_at handle.old.device place) change.old change.new result }
 {
-    let Some(device) = handle.take(alloc) else {
-        return Failure::Closed.code();
-    };
-    let found = change_in(&device, place);
-    handle.put(device);
+    let found = read!(alloc, handle, |device| change_in(&device, place));
     give(found, change)
 }
 
@@ -182,10 +155,6 @@ pub extern "C" fn mr_is_retired(alloc: Global, handle: &mut Handle, is_retired: 
     ensures unchanged { handle.new.device ≡ handle.old.device }
     ensures given { IsGiven (retired handle.old.device) is_retired.old is_retired.new result }
 {
-    let Some(device) = handle.take(alloc) else {
-        return Failure::Closed.code();
-    };
-    let found = retired_in(&device);
-    handle.put(device);
+    let found = read!(alloc, handle, |device| retired_in(&device));
     give(found, is_retired)
 }

@@ -1,7 +1,6 @@
 -- a handle before it is opened, and with the device that it got
 use Rattle.std.specs.Prelude.{◌≡◌, Option, Some, None, Result, Ok, Err}
 use Rattle.mr_desk.specs.declared.device.Device.{Device}
-use Rattle.mr_desk.specs.declared.fault.Fault.{Fault}
 use Rattle.mr_desk.specs.declared.fault.Fault.TheVariants.{OutOfMemory}
 use Rattle.mr_c.specs.declared.failure.Failure.{Failure}
 use Rattle.mr_c.specs.declared.failure.Failure.TheVariants.{InUse, Desk}
@@ -12,13 +11,7 @@ ClosedOnly None (Ok done) new = new ≡ None
 ClosedOnly (Some s) (Err failure) new = (failure ≡ InUse) × (new ≡ Some s)
 ClosedOnly old answer new = ⊥
 
--- A closed handle has the device then, or stays closed: where there is none, or no memory for it.
-abbrev pub Installed : Result Device Fault → Result (Unit {0}) Failure → Option Device → Type 0
-Installed device (Ok done) new = elim device [
-  | Ok d ↦ new ≡ Some d
-  | Err fault ↦ ⊥
-]
-Installed device (Err failure) new = (new ≡ None) × elim device [
-  | Ok d ↦ failure ≡ Desk OutOfMemory
-  | Err fault ↦ failure ≡ Desk fault
-]
+-- A closed handle has the device then, or stays closed, where there is no memory for it.
+abbrev pub Installed : Device → Result (Unit {0}) Failure → Option Device → Type 0
+Installed device (Ok done) new = new ≡ Some device
+Installed device (Err failure) new = (new ≡ None) × (failure ≡ Desk OutOfMemory)
