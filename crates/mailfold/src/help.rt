@@ -1,13 +1,13 @@
 //! The texts of the help.
 
 /// What the program is, in a line.
-pub const SHORT_ABOUT: &str = "Keeps folders of mail alike on several machines";
+pub const SHORT_ABOUT: &str = "Keeps folders of mail in sync across machines";
 
 /// What the program is.
-pub const ABOUT: &str = "Keeps folders of mail alike on several machines.
+pub const ABOUT: &str = "Keeps folders of mail in sync across machines.
 
 A folder is a Maildir, as mutt, aerc, notmuch and Dovecot read it. Each machine has one; two of them talk
-over any two pipes, as of ssh. New mail, moved mail, flags and deletions go both ways. What you changed on
+over any two pipes, such as ssh's. New mail, moved mail, flags and deletions go both ways. What you changed on
 both sides is joined, and mail that leaves a folder's filter is taken from there and from nowhere else.";
 
 /// What stands behind the help of the program.
@@ -32,17 +32,18 @@ No mail is touched: the mail that stands there is taken at the first scan or syn
 
 pub const INIT_AFTER: &str =
     "FILTER says which mail the folder has. It is `none`, or clauses joined by ` | `. A clause is `all`, or
-conditions joined by ` & `: label:L, !label:L, flag:F, !flag:F and since:YYYY-MM-DD. A label is a folder's
-name (`inbox` for the Maildir itself), a flag one of seen, answered, flagged, draft and deleted. One folder of
-those that sync has to have `all`, which is what you get with no --filter.
+conditions joined by ` & `: label:L, !label:L, flag:F, !flag:F and since:YYYY-MM-DD. A label is a folder as
+`ls` prints it (`inbox` for the Maildir itself), a flag one of seen, answered, flagged, draft and deleted. One
+folder of those that sync has to have `all`, which is what you get with no --filter.
 
 Example:
   $ mailfold init Mail --id 1 --filter 'label:inbox & since:2026-01-01 | flag:flagged'";
 
 pub const SCAN_ABOUT: &str = "Takes what other programs changed in the Maildir.
 
-New, changed and deleted mail is noted, for the next sync to tell. A sync scans too: this is for those who
-want to see what it would do, or to let it delete more than it does unasked.";
+New, changed and deleted mail is noted, for the next sync to tell. A sync scans too where some file came, went
+or was renamed: this is for those who want to see what it would do, to let it delete more than it does unasked,
+or to have mail found that a program edited in place.";
 
 pub const SCAN_AFTER: &str =
     "Where more mails are missing than 20 and than a tenth of all, nothing is done: somebody may have moved
@@ -87,7 +88,7 @@ that both have is known and no mail is announced twice; the sync after it tells 
 What both have is joined: a flag or a folder that a mail has on either side, it has then on both, and mail
 that was deleted on one side alone since their last sync is back.
 
-FILTER is as of `init`. It has to be given where the old log can't be read.
+FILTER is written as for `init`. It has to be given where the old log can't be read.
 
 Example:
   $ mailfold renew Mail --id 7
@@ -95,8 +96,8 @@ Example:
 
 pub const MOVED_ABOUT: &str = "Says that the folder was moved here, and not copied.
 
-The log knows its file and the machine. Where one of them is another, as of a folder that was moved to another
-disk or a disk that was put into another machine, each command ends with `copied or restored`. This one notes
+The log knows its file and the machine. Where one of them differs, as after a folder was moved to another
+disk or a disk was put into another machine, each command ends with `copied or restored`. This one notes
 where the log is now, and the folder goes on as the replica that it was.";
 
 pub const MOVED_AFTER: &str =
@@ -117,7 +118,7 @@ folders with commas between them, the day, the sender and the subject. A control
 as `\\x` and its code.";
 
 pub const LIST_AFTER: &str =
-    "FILTER is as of `init`. Deleted mail, which stands in no folder, is listed only where FILTER selects it.
+    "FILTER is written as for `init`. Deleted mail, which stands in no folder, is listed only where FILTER selects it.
 
 Example:
   $ mailfold ls Mail 'label:inbox & !flag:seen'";

@@ -1,4 +1,4 @@
-//! `mailfold`: folders of mail that are kept alike on several machines.
+//! `mailfold`: folders of mail that are kept in sync across machines.
 //!
 //! A folder is a Maildir that shows what a replica holds. The program opens one, lets the layers below do what the command line asks
 //! for, and tells what came of it: a result on standard output, all else on standard error, and an exit status of 0 to 4. Here is what a

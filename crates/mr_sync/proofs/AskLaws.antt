@@ -11,7 +11,7 @@ use Rattle.mr_replica.specs.State.{State}
 use Rattle.mr_replica.specs.Step.{Changes, Steps}
 use Rattle.mr_replica.specs.declared.event.Event.TheVariants.{Pull}
 use Rattle.mr_replica.specs.declared.event.Reply.{Reply}
-use Rattle.mr_replica.specs.declared.event.Reply.TheVariants.{Issued, Done, Asked, Streaming, Gave, Took, Known, Finished, Vouched}
+use Rattle.mr_replica.specs.declared.event.Reply.TheVariants.{Asked}
 use Rattle.mr_replica.proofs.Replies.{step_changes}
 use Rattle.mr_wire.specs.FrameSpelling.{frame_bytes}
 use Rattle.mr_wire.specs.Frames.{Question}
@@ -33,14 +33,7 @@ last_is replies question =
 
 changed : {K : Type 0} (form : Form K) (s : State K) (reply : Reply) (new : State K) → Changes form s Pull reply new → (question : Question) × (reply ≡ Asked question)
 changed form s (Asked question) new h = (question, refl)
-changed form s (Issued v) new h = absurd h
-changed form s Done new h = absurd h
-changed form s (Streaming n) new h = absurd h
-changed form s (Gave sent) new h = absurd h
-changed form s Took new h = absurd h
-changed form s Known new h = absurd h
-changed form s Finished new h = absurd h
-changed form s (Vouched r) new h = absurd h
+changed form s reply new h = absurd h
 
 -- a pull is answered by a request
 pub pulled : {K : Type 0} (form : Form K) (s : State K) (reply : Reply) (new : State K) → Steps form s Pull (Ok reply) new → (question : Question) × (reply ≡ Asked question)

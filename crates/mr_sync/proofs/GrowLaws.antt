@@ -10,6 +10,7 @@ use Rattle.mr_replica.specs.State.{State}
 use Rattle.mr_replica.specs.declared.event.Event.{Event}
 use Rattle.mr_replica.specs.declared.event.Event.TheVariants.{Receive}
 use Rattle.mr_wire.specs.declared.frame.Frame.{Frame}
+use Rattle.mr_wire.proofs.Laws.{some_is}
 use Rattle.mr_compare.proofs.ListLemmas.{take_one}
 use Rattle.mr_replica.specs.declared.event.Reply.{Reply}
 use Rattle.mr_replica.proofs.Replaying.{step_log}
@@ -46,13 +47,6 @@ module _ {K : Type 0} (form : Form K) where
   pub answered_log : {D : Type 0} (journal : Journal D) (s : State K) (event : Event) (reply : Reply) (new : State K) → Answered form journal s event (Ok reply) new → new.log ≡ s.log ++ event ∷ []
   answered_log journal s event reply new h = step_log form s new event (Ok reply) h.1
 
-  -- one that is refused isn't there
-  pub refused_log : {D : Type 0} (journal : Journal D) (s : State K) (event : Event) (e : KeptFault) (new : State K) → Answered form journal s event (Err e) new → new.log ≡ s.log
-  refused_log journal s event (Refused e) new h = step_log form s new event (Err e) h.1 ∙ append-nil s.log
-  refused_log journal s event Failed new h = ap (λ (z : State K). z.log) h.1
-  refused_log journal s event TooLarge new h = ap (λ (z : State K). z.log) h.1
-  refused_log journal s event OutOfMemory new h = ap (λ (z : State K). z.log) h
-
   -- one that is refused leaves the replica as it was
   pub refused_stays : {D : Type 0} (journal : Journal D) (s : State K) (event : Event) (e : KeptFault) (new : State K) → Answered form journal s event (Err e) new → new ≡ s
   refused_stays journal s event (Refused e) new h = step_refused form s event e new h.1
@@ -62,7 +56,7 @@ module _ {K : Type 0} (form : Form K) where
 
   pub answered_grows : {D : Type 0} (P : Event → Type 0) (journal : Journal D) (s : State K) (event : Event) (answer : Result Reply KeptFault) (new : State K) → Answered form journal s event answer new → P event → GrowsOnlyBy P s.log new.log
   answered_grows P journal s event (Ok reply) new h is = grows_one P s.log new.log event (answered_log journal s event reply new h) is
-  answered_grows P journal s event (Err e) new h is = grows_not P s.log new.log (refused_log journal s event e new h)
+  answered_grows P journal s event (Err e) new h is = grows_not P s.log new.log (ap (λ (z : State K). z.log) (refused_stays journal s event e new h))
 
 -- what is taken and what is left is all, one event more
 pub taken_more : (start mid new : List Event) (left rest : List Frame) (f : Frame) → mid ++ map Receive left ≡ start → left ≡ f ∷ rest → new ≡ mid ++ Receive f ∷ [] → new ++ map Receive rest ≡ start
@@ -83,25 +77,14 @@ told_more f xs i x start old new so_far within is log =
 
 -- ---- by what the other side gave
 
--- an id that is said is the one that was said
-pub said_id : (theirs : Hello) (other : ℕ) → ◌≡◌ {A = Option ℕ} (Some theirs.id) (Some other) → theirs.id ≡ other
-said_id theirs other e = ap from e
-  where
-    from : Option ℕ → ℕ
-    from None = 0
-    from (Some n) = n
-
+-- no id is said by nobody
 pub said_none : (other : ℕ) → ◌≡◌ {A = Option ℕ} None (Some other) → ⊥
-said_none other e = subst is_none e tt
-  where
-    is_none : Option ℕ → Type 0
-    is_none None = Unit {0}
-    is_none (Some n) = ⊥
+said_none other e = cc
 
 -- where the other side said who it is
 pub grows_theirs : (P : ℕ → Event → Type 0) (theirs : Option Hello) (other : ℕ) (old new : List Event) → option_map (λ h. h.id) theirs ≡ Some other → GrowsOnlyBy (P other) old new → GrowsOnlyByTheirs P theirs old new
 grows_theirs P None other old new met grows = absurd (said_none other met)
-grows_theirs P (Some theirs) other old new met grows = subst (λ (id : ℕ). GrowsOnlyBy (P id) old new) (sym (said_id theirs other met)) grows
+grows_theirs P (Some theirs) other old new met grows = subst (λ (id : ℕ). GrowsOnlyBy (P id) old new) (sym (some_is theirs.id other met)) grows
 
 -- where it didn't
 pub grows_unmet : (P : ℕ → Event → Type 0) (theirs : Option Hello) (old : List Event) → theirs ≡ None → GrowsOnlyByTheirs P theirs old old

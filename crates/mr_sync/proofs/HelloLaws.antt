@@ -1,17 +1,12 @@
--- first bytes of digests, and why none is told
-use Rattle.std.proofs.Common.{◌≡◌, ◌≢◌, ℕ, List, ◌++◌, length, take, Result, Ok, Err, refl, sym, ap, subst, ◌∙◌}
-use Rattle.std.specs.Prelude.{IfErr, IsErrOf}
+-- first bytes of digests, and why the end of a turn isn't told
+use Rattle.std.proofs.Common.{◌≡◌, ℕ, List, ◌++◌, length, take, refl, sym, ap, subst, ◌∙◌}
 use Rattle.std.proofs.Math.Seq.{take-append_seam}
 use Rattle.mr_forms.specs.declared.fault.FormFault.{FormFault}
 use Rattle.mr_forms.specs.declared.fault.FormFault.TheVariants as form
 use Rattle.mr_itemset.specs.Normal.{Normal}
-use Rattle.mr_itemset.specs.Sparing.{sparing_form}
-use Rattle.mr_replica.specs.Fragments.{HasHoleyPart}
-use Rattle.mr_replica.specs.State.{State}
 use Rattle.mr_talk.specs.declared.turn.Turn.{Turn}
 use Rattle.mr_sync.specs.Ending.{IsEndFault, IsUnfinished, MayEnd}
 use Rattle.mr_sync.specs.Fault.{fault_of_form}
-use Rattle.mr_sync.specs.Hello.{IsHelloFault}
 use Rattle.mr_sync.specs.declared.fault.SyncFault.{SyncFault}
 use Rattle.mr_sync.specs.declared.talk.Talk.{Talk}
 use Rattle.mr_sync.specs.inner.Hello.{IsUntold}
@@ -21,20 +16,7 @@ pub short_again : (xs knows rest : List ℕ) → xs ≡ knows → length knows �
 short_again xs knows rest is long =
     ap (λ (l : List ℕ). take 16 (l ++ rest)) is ∙ subst (λ (n : ℕ). take n (knows ++ rest) ≡ knows) long (take-append_seam knows rest)
 
--- a digest that isn't told, by what each fault comes of
-pub untold : {X : Type 0} (k : Normal) (r : Result X FormFault) → (IsErrOf r form.TooManyHoles → HasHoleyPart (sparing_form.is_part k)) → r ≢ Err form.TooManyItems → IfErr r (IsUntold k)
-untold k (Ok x) holes items = tt
-untold k (Err form.OutOfMemory) holes items = tt
-untold k (Err form.TooManyHoles) holes items = holes refl
-untold k (Err form.TooManyItems) holes items = absurd (items refl)
-
--- so no hello is told
-pub hello_untold : (s : State Normal) (e : FormFault) → IsUntold s.knowledge e → IsHelloFault s (fault_of_form e)
-hello_untold s form.OutOfMemory is = tt
-hello_untold s form.TooManyHoles is = (refl, is)
-hello_untold s form.TooManyItems is = absurd is
-
--- nor the end of a turn
+-- why the end of a turn isn't told
 pub end_untold : (turn : Turn) (talk : Talk) (k : Normal) (e : FormFault) → MayEnd turn talk → IsUntold k e → IsEndFault turn talk k (fault_of_form e)
 end_untold turn talk k form.OutOfMemory may is = may
 end_untold turn talk k form.TooManyHoles may is = (may, refl, is)

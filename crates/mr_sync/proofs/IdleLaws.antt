@@ -1,6 +1,6 @@
 -- lists of pairs of hellos, each spelled in 88 bytes
 use Rattle.std.proofs.Common.{◌≡◌, ◌≢◌, ◌<◌, ◌≤◌, ◌==◌, ◌⊎◌, ℕ, ◌+◌, Bool, true, false, inl, inr, List, [], ◌∷◌, ◌++◌, length, take, drop, Option, Some, None, refl, sym, ap, subst, ◌∙◌, append_assoc, arith}
-use Rattle.std.specs.Prelude.{All, IfOk, IfSome, MatchOption, Result, Ok, Err, slice_index_or}
+use Rattle.std.specs.Prelude.{All, MatchOption, Result, Ok, slice_index_or}
 use Rattle.std.specs.Bool.{then_some}
 use Rattle.std.specs.Global.{Vec}
 use Rattle.std.specs.Int.{w32, to_be_bytes}
@@ -116,16 +116,10 @@ read_all bytes rest talks false found so_far are few ends is_end found_is =
     of written few (x ∷ more) is all rest_is (inr short) = omega (arith, short, ap length rest_is, length-append (hellos_bytes x) (flat_map hellos_bytes more), pair_long x all.0)
 
 -- what is read is what was written
-read_same : (bytes : List ℕ) (found : Option (Vec Hellos)) → MatchOption found ((written : List Hellos) → AreSpelled bytes written → ⊥) (λ talks. AreSpelled bytes talks.items) →
+pub read_same : (bytes : List ℕ) (found : Option (Vec Hellos)) → MatchOption found ((written : List Hellos) → AreSpelled bytes written → ⊥) (λ talks. AreSpelled bytes talks.items) →
     (written : List Hellos) → AreSpelled bytes written → MatchOption found ⊥ (λ talks. talks.items ≡ written)
 read_same bytes None none written spelled = none written spelled
 read_same bytes (Some talks) are written spelled = one_list talks.items written are.are spelled.are (sym are.spelled ∙ spelled.spelled)
-
-pub read_same_if_ok : {E : Type 0} (bytes : List ℕ) (read : Result (Option (Vec Hellos)) E) →
-    IfOk read (λ found. MatchOption found ((written : List Hellos) → AreSpelled bytes written → ⊥) (λ talks. AreSpelled bytes talks.items)) →
-    (written : List Hellos) → AreSpelled bytes written → IfOk read (λ found. MatchOption found ⊥ (λ talks. talks.items ≡ written))
-read_same_if_ok bytes (Ok found) is written spelled = read_same bytes found is written spelled
-read_same_if_ok bytes (Err e) is written spelled = tt
 
 -- the talk at k is the first in which the other side said this
 pub said_at : (talks : List Hellos) (theirs : Hello) (k : ℕ) (talk : Hellos) → k < length talks → talk ≡ slice_index_or talks k talk → talk.theirs ≡ theirs →
@@ -138,7 +132,5 @@ none_more talks theirs k talk lt at none other = AllWithin-more (λ talk. talk.t
     (λ d is. other (ap (λ (t : Hellos). t.theirs) (at ∙ get_or_default talks k talk d lt) ∙ is))
 
 -- what holds of all talks holds of the one that is answered
-pub all_answered : (P : Hellos → Type 0) (talks : List Hellos) (theirs : Hello) (found : Option Hello) → IsAnswer talks theirs found →
-    All P talks → IfSome found (λ mine. P (record { mine = mine; theirs = theirs }))
-all_answered P talks theirs None is all = tt
-all_answered P talks theirs (Some mine) is all = subst P (is.3 (record { mine = mine; theirs = theirs })) (all is.0 (record { mine = mine; theirs = theirs }) is.1)
+pub answered_so : (P : Hellos → Type 0) (talks : List Hellos) (theirs mine : Hello) → IsAnswer talks theirs (Some mine) → All P talks → P (record { mine = mine; theirs = theirs })
+answered_so P talks theirs mine is all = subst P (is.3 (record { mine = mine; theirs = theirs })) (all is.0 (record { mine = mine; theirs = theirs }) is.1)

@@ -1,5 +1,4 @@
 pub mod AskLaws
-pub mod FileLaws
 pub mod FrameRuns
 pub mod GrowLaws
 pub mod HelloLaws
@@ -9,7 +8,6 @@ pub mod ListLaws
 pub mod MarkLaws
 pub mod ReleaseLaws
 pub mod SayLaws
-pub mod SendLaws
 pub mod TakeLaws
 pub mod TakenLists
 pub mod PackLaws

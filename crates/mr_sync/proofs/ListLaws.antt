@@ -95,14 +95,8 @@ reads_push_out =
 pub reads_digest : Reads IsDigest (λ (d : List ℕ). d) digest_at
 reads_digest = reads_like IsDigest (λ (d : List ℕ). d) (reads_bytes 32) (λ d h. h.0) (λ d h. (h, tt)) (λ d. refl)
 
-push_out_size : (p : PushOut) → IsPushOut p → length (push_out_bytes p) ≡ 12
+pub push_out_size : (p : PushOut) → IsPushOut p → length (push_out_bytes p) ≡ 12
 push_out_size p h = refl
-
-pub push_outs_read : (bytes start : List ℕ) (left : ℕ) (found : Option (Option (Vec PushOut))) (rest : List ℕ) (result : Result (Vec PushOut) SyncFault) → start ≡ bytes → Finds (λ v. v.items) (list_at push_out_at (length bytes / 12)) start found rest → left ≡ length rest → result ≡ whole_list_of found left → ReadsList IsPushOut push_out_bytes bytes result
-push_outs_read = reads_list reads_push_out 12 (omega arith) push_out_size
-
-pub digests_read : (bytes start : List ℕ) (left : ℕ) (found : Option (Option (Vec (List ℕ)))) (rest : List ℕ) (result : Result (Vec (List ℕ)) SyncFault) → start ≡ bytes → Finds (λ v. v.items) (list_at digest_at (length bytes / 32)) start found rest → left ≡ length rest → result ≡ whole_list_of found left → ReadsList IsDigest (λ (d : List ℕ). d) bytes result
-digests_read = reads_list reads_digest 32 (omega arith) (λ d h. h)
 
 -- ---- what a file begins with
 

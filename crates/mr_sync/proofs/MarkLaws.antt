@@ -11,6 +11,7 @@ use Rattle.mr_version.specs.Name.{IsVersion, Name}
 use Rattle.mr_mail.specs.Mail.{Mail}
 use Rattle.mr_talk.proofs.MessageLaws.{IsBytes, bytes_take}
 use Rattle.mr_lookup.specs.Told.{message_at}
+use Rattle.mr_wire.proofs.Laws.{some_is}
 use Rattle.mr_sync.specs.declared.marks.Mark.{Mark}
 use Rattle.mr_sync.specs.Marks.{AgreesWith, IsMarked, Tells, TellsNoneOf, message_short}
 
@@ -26,14 +27,6 @@ cut_marked bytes four rest short frame counter are is_four is_rest has_four is_s
     append_assoc (to_be_bytes w32 counter) short frame ∙ ap (λ (l : List ℕ). l ++ (short ++ frame)) spelled ∙ ap (λ (l : List ℕ). take 4 bytes ++ l) behind ∙ take-append-drop 4 bytes in
     record { counter_in = fits; short_long = ap length is_short ∙ length-take-le 16 rest has_short; whole = sym all }
 
--- a replica's own version is told with one message
-same_message : (a b : Mail) (o : Option Mail) → o ≡ Some a → o ≡ Some b → a ≡ b
-same_message a b o e f = ap from (sym e ∙ f)
-  where
-    from : Option Mail → Mail
-    from None = a
-    from (Some m) = m
-
 -- where its message is told, the mark agrees just where it has the first bytes of that one's digest
 pub told_agrees : (id : ℕ) (told : List (Name × Mail)) (mark : Mark) (message : Mail) (short : List ℕ) (is : Bool) → mark.counter ≢ 0 → Tells told id mark.counter message → short ≡ message_short message →
     (IsTrue is ↔ (short ≡ mark.short)) → MatchBool is (AgreesWith id told mark) (AgreesWith id told mark → ⊥)
@@ -42,7 +35,7 @@ told_agrees id told mark message short false some own of test = never
   where
     never : AgreesWith id told mark → ⊥
     never (inl none) = some none
-    never (inr marks) = false≢true (test.1 (of ∙ ap message_short (same_message message marks.message _ own.is_told marks.own.is_told) ∙ sym marks.short_is))
+    never (inr marks) = false≢true (test.1 (of ∙ ap message_short (some_is message marks.message (sym own.is_told ∙ marks.own.is_told)) ∙ sym marks.short_is))
 
 -- where none is told, it does not
 pub untold_differs : (id : ℕ) (told : List (Name × Mail)) (mark : Mark) → mark.counter ≢ 0 → TellsNoneOf told id mark.counter → AgreesWith id told mark → ⊥
@@ -50,11 +43,7 @@ untold_differs id told mark some untold (inl none) = some none
 untold_differs id told mark some untold (inr marks) = untold marks.message marks.own
 
 none≢some : (message : Mail) → ◌≡◌ {A = Option Mail} None (Some message) → ⊥
-none≢some message e = subst is e tt
-  where
-    is : Option Mail → Type 0
-    is None = Unit {0}
-    is (Some m) = ⊥
+none≢some message e = cc
 
 -- a log tells one message of an author's version, or none
 pub told_of : (told : List (Name × Mail)) (author counter : ℕ) (version : Name) → IsVersion author counter → version ≡ (record { author = author; counter = counter }) →

@@ -1,15 +1,12 @@
 -- records that are packed
-use Rattle.std.proofs.Common.{◌≡◌, ℕ, ◌+◌, ◌*◌, ◌≤◌, List, [], ◌∷◌, ◌++◌, length, refl, ap, sym, subst, ◌∙◌, append_assoc, append-nil, arith, length-append}
-use Rattle.std.specs.List.{flat_map}
+use Rattle.std.proofs.Common.{◌≡◌, ℕ, ◌+◌, ◌*◌, ◌≤◌, List, [], ◌∷◌, ◌++◌, length, refl, ap, sym, subst, ◌∙◌, append_assoc, arith, length-append}
 use Rattle.std.specs.Global.{Vec}
-use Rattle.std.proofs.lemmas.Grind.{flat_map-append}
 use Rattle.mr_talk.specs.Packed.{Unpacks}
 use Rattle.mr_talk.specs.declared.kind.TheConstants.{MAX_FRAMES_BYTES, MAX_PACKED_BYTES}
 use Rattle.mr_talk.proofs.PackedLaws.{unpacks_none, unpacks_on}
 use Rattle.mr_sync.specs.inner.Packed.{PacksFront, PacksSoFar}
-
-abbrev flat : List (Vec ℕ) → List ℕ
-flat frames = flat_map (λ (v : Vec ℕ). v.items) frames
+use Rattle.mr_sync.specs.inner.Said.{text_of}
+use Rattle.mr_sync.proofs.SayLaws.{text_more}
 
 -- no frame yet
 pub packs_none : (old : List (Vec ℕ)) (before : List ℕ) → PacksSoFar old before [] old before MAX_PACKED_BYTES
@@ -19,19 +16,18 @@ packs_none old before = record { front = []; all = refl; are = unpacks_none befo
 pub packs_more : (old mid new : List (Vec ℕ)) (f : Vec ℕ) (before last after bytes packed now text : List ℕ) (room left : ℕ) → PacksSoFar old before bytes mid last room → mid ≡ f ∷ new → text ≡ f.items → Unpacks last packed text after →
     length packed ≤ length text + 6 → now ≡ bytes ++ packed → length f.items + 6 ≤ room → left + (length f.items + 6) ≡ room → PacksSoFar old before now new after left
 packs_more old mid new f before last after bytes packed now text room left h e is more short put fits left_is =
-    let all : flat (h.front ++ f ∷ []) ≡ flat h.front ++ f.items =
-    flat_map-append (λ (v : Vec ℕ). v.items) h.front (f ∷ []) ∙ ap (λ (l : List ℕ). flat h.front ++ l) (append-nil f.items) in
-    let both : Unpacks before (bytes ++ packed) (flat h.front ++ f.items) after =
-    unpacks_on before bytes (flat h.front) last packed f.items after h.are (subst (λ (l : List ℕ). Unpacks last packed l after) is more) in
+    let all = text_more h.front f in
+    let both : Unpacks before (bytes ++ packed) (text_of h.front ++ f.items) after =
+    unpacks_on before bytes (text_of h.front) last packed f.items after h.are (subst (λ (l : List ℕ). Unpacks last packed l after) is more) in
     record {
       front = h.front ++ f ∷ [];
       all = h.all ∙ ap (λ (l : List (Vec ℕ)). h.front ++ l) e ∙ sym (append_assoc h.front (f ∷ []) new);
-      are = subst (λ (l : List ℕ). Unpacks before l (flat (h.front ++ f ∷ [])) after) (sym put) (subst (λ (l : List ℕ). Unpacks before (bytes ++ packed) l after) (sym all) both);
-      few = omega (arith, h.few, ap length all, length-append (flat h.front) f.items, length-append h.front (f ∷ []), left_is);
+      are = subst (λ (l : List ℕ). Unpacks before l (text_of (h.front ++ f ∷ [])) after) (sym put) (subst (λ (l : List ℕ). Unpacks before (bytes ++ packed) l after) (sym all) both);
+      few = omega (arith, h.few, ap length all, length-append (text_of h.front) f.items, length-append h.front (f ∷ []), left_is);
       short = omega (arith, h.short, ap length put, length-append bytes packed, short, ap length is, left_is);
     }
 
-few_bytes : (front : List (Vec ℕ)) → length (flat front) + 6 * length front ≤ MAX_PACKED_BYTES → length (flat front) ≤ MAX_FRAMES_BYTES
+few_bytes : (front : List (Vec ℕ)) → length (text_of front) + 6 * length front ≤ MAX_PACKED_BYTES → length (text_of front) ≤ MAX_FRAMES_BYTES
 few_bytes [] h = omega arith
 few_bytes (f ∷ front) h = omega (arith, h)
 

@@ -1,13 +1,13 @@
 -- frames that are said
 use Rattle.std.proofs.Common.{◌≡◌, ℕ, ◌+◌, ◌<◌, List, [], ◌∷◌, ◌++◌, Option, Some, Result, Ok, Err, take, length, get_or, refl, ap, sym, ◌∙◌, append_assoc, append-nil}
 use Rattle.std.specs.Prelude.{OnOk}
-use Rattle.std.specs.List.{cons_option, flat_map, filter_map}
+use Rattle.std.specs.List.{cons_option, filter_map}
 use Rattle.std.specs.Global.{Vec}
 use Rattle.std.proofs.lemmas.List.Elements.{filter_map-append}
 use Rattle.std.proofs.lemmas.Grind.{flat_map-append}
 use Rattle.mr_compare.proofs.ListLemmas.{take_one}
 use Rattle.mr_replica.specs.declared.event.Reply.{Reply}
-use Rattle.mr_sync.specs.inner.Said.{FrontIs}
+use Rattle.mr_sync.specs.inner.Said.{FrontIs, text_of}
 
 -- one reply more
 pub one_more : (f : Reply → Option (List ℕ)) (replies : List Reply) (i : ℕ) (x : Reply) (start old new : List (List ℕ)) → old ≡ start ++ filter_map f (take i replies) → i < length replies → x ≡ get_or replies i x → new ≡ old ++ filter_map f (x ∷ []) → new ≡ start ++ filter_map f (take (i + 1) replies)
@@ -39,10 +39,14 @@ so_ok (Err e) p = tt
 pub front_none : (old : List (Vec ℕ)) → FrontIs old [] old
 front_none old = record { front = []; all = refl; are = refl }
 
+-- the bytes of frames, one frame more
+pub text_more : (front : List (Vec ℕ)) (f : Vec ℕ) → text_of (front ++ f ∷ []) ≡ text_of front ++ f.items
+text_more front f = flat_map-append (λ (v : Vec ℕ). v.items) front (f ∷ []) ∙ ap (λ (l : List ℕ). text_of front ++ l) (append-nil f.items)
+
 -- one frame more
 pub front_more : (old mid new : List (Vec ℕ)) (f : Vec ℕ) (bytes now : List ℕ) → FrontIs old bytes mid → mid ≡ f ∷ new → now ≡ bytes ++ f.items → FrontIs old now new
 front_more old mid new f bytes now h e put = record {
   front = h.front ++ f ∷ [];
   all = h.all ∙ ap (λ (l : List (Vec ℕ)). h.front ++ l) e ∙ sym (append_assoc h.front (f ∷ []) new);
-  are = put ∙ ap (λ (l : List ℕ). l ++ f.items) h.are ∙ sym (flat_map-append (λ (v : Vec ℕ). v.items) h.front (f ∷ []) ∙ ap (λ (l : List ℕ). flat_map (λ (v : Vec ℕ). v.items) h.front ++ l) (append-nil f.items));
+  are = put ∙ ap (λ (l : List ℕ). l ++ f.items) h.are ∙ sym (text_more h.front f);
 }

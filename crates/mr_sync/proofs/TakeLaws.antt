@@ -1,13 +1,12 @@
 -- what comes of a request behind its mark
 use Rattle.std.proofs.Common.{◌≡◌, ℕ, List, length, Option, Some, None, Result, Ok, Err, refl, sym, ap, subst, inr, ◌∙◌}
-use Rattle.std.specs.Prelude.{IfErr, IfOk, MatchResult, OnOk, option_map}
+use Rattle.std.specs.Prelude.{IfErr, IfOk, MatchResult, option_map}
 use Rattle.std.specs.Result.{IsErrAnd}
 use Rattle.mr_itemset.specs.Normal.{Normal}
 use Rattle.mr_itemset.specs.Sparing.{sparing_form}
 use Rattle.mr_journal.specs.declared.journal.Journal.{Journal}
 use Rattle.mr_kept.specs.Answered.{Answered}
 use Rattle.mr_kept.specs.declared.fault.KeptFault.{KeptFault}
-use Rattle.mr_lookup.specs.Versions.{versions_told}
 use Rattle.mr_replica.specs.State.{State}
 use Rattle.mr_replica.specs.declared.event.Event.TheVariants.{Answer}
 use Rattle.mr_talk.specs.declared.hello.Hello.{Hello}
@@ -17,13 +16,13 @@ use Rattle.mr_wire.specs.declared.fault.WireFault.{WireFault}
 use Rattle.mr_wire.specs.declared.fault.WireFault.TheVariants as wires
 use Rattle.mr_wire.specs.declared.frame.Frame.{Frame as AnyFrame}
 use Rattle.mr_wire.specs.declared.frame.Frame.TheVariants as frames
+use Rattle.mr_wire.proofs.Laws.{some_is}
 use Rattle.mr_sync.specs.declared.fault.SyncFault.{SyncFault}
-use Rattle.mr_sync.specs.declared.fault.SyncFault.TheVariants.{OutOfMemory, Kept, NotMet, BadList, OtherHistory}
-use Rattle.mr_sync.specs.Asking.{Answers, IsAnswerFault, IsAskFault, IsAskFrame, IsMetAskFault, IsNoRequestOf, IsOwnMarked, TakesAsk}
+use Rattle.mr_sync.specs.declared.fault.SyncFault.TheVariants.{OutOfMemory, Kept, BadList, OtherHistory}
+use Rattle.mr_sync.specs.Asking.{IsAnswerFault, IsAskFault, IsAskFrame, IsMetAskFault, IsNoRequestOf, IsOwnMarked}
 use Rattle.mr_sync.specs.Fault.{fault_of_wire}
-use Rattle.mr_sync.specs.inner.Marks.{IsMarkFault}
 use Rattle.mr_sync.specs.inner.Taken.{IsNoAskOf}
-use Rattle.mr_sync.proofs.GrowLaws.{refused_stays, said_id, said_none}
+use Rattle.mr_sync.proofs.GrowLaws.{refused_stays, said_none}
 
 -- what holds of a fault holds of an answer that passes it on
 pub passed_on : {T E : Type 0} (P : E → Type 0) (fault : E) (r : Result T E) → IsErrAnd r (λ e. e ≡ fault) → P fault → IfErr r P
@@ -31,16 +30,6 @@ passed_on P fault (Ok v) exit holds = tt
 passed_on P fault (Err e) exit holds = subst P (sym exit) holds
 
 module _ {D : Type 0} (journal : Journal D) where
-  -- where the mark is refused, the replica is as it was
-  of_mark : (s : State Normal) (target : ℕ) (bytes : List ℕ) (fault : SyncFault) → IsMarkFault s.id (versions_told s.id s.log) bytes fault → IsAskFault journal s target bytes s fault
-  of_mark s target bytes OutOfMemory is = refl
-  of_mark s target bytes BadList is = (is, refl)
-  of_mark s target bytes (OtherHistory id) is = (is.0, is.1, refl)
-  of_mark s target bytes fault is = absurd is
-
-  pub lent_fault : (lent s : State Normal) (target : ℕ) (bytes : List ℕ) (fault : SyncFault) → lent ≡ s → IsMarkFault lent.id (versions_told lent.id lent.log) bytes fault → IsAskFault journal s target bytes s fault
-  lent_fault lent s target bytes fault same is = of_mark s target bytes fault (subst (λ (z : State Normal). IsMarkFault z.id (versions_told z.id z.log) bytes fault) same is)
-
   behind_mark : (old new : State Normal) (target : ℕ) (bytes rest : List ℕ) (fault : SyncFault) → IsOwnMarked old bytes rest → IsAnswerFault journal old target rest new fault → IsAskFault journal old target bytes new fault
   behind_mark old new target bytes rest OutOfMemory marked is = is.1
   behind_mark old new target bytes rest BadList marked is = absurd is.0
@@ -65,12 +54,8 @@ module _ {D : Type 0} (journal : Journal D) where
   -- one who said who it is was met
   pub met_faults : {T : Type 0} (theirs : Option Hello) (other : ℕ) (old new : State Normal) (bytes : List ℕ) (r : Result T SyncFault) → option_map (λ h. h.id) theirs ≡ Some other → IfErr r (IsAskFault journal old other bytes new) →
       IfErr r (IsMetAskFault journal theirs old bytes new)
-  met_faults (Some h) other old new bytes r met is = subst (λ (id : ℕ). IfErr r (IsAskFault journal old id bytes new)) (sym (said_id h other met)) is
+  met_faults (Some h) other old new bytes r met is = subst (λ (id : ℕ). IfErr r (IsAskFault journal old id bytes new)) (sym (some_is h.id other met)) is
   met_faults None other old new bytes r met is = absurd (said_none other met)
-
-  -- one who didn't was not
-  pub unmet_fault : (theirs : Option Hello) (s : State Normal) (bytes : List ℕ) (fault : SyncFault) → theirs ≡ None → fault ≡ NotMet → IsMetAskFault journal theirs s bytes s fault
-  unmet_fault theirs s bytes fault none is = subst (λ (o : Option Hello). IsMetAskFault journal o s bytes s fault) (sym none) (is, refl)
 
 -- what a replica that is lent agrees with, the replica does
 pub lent_marked : (lent s : State Normal) (bytes rest : List ℕ) → lent ≡ s → IsOwnMarked lent bytes rest → IsOwnMarked s bytes rest
@@ -79,25 +64,15 @@ lent_marked lent s bytes rest same marked = subst (λ (z : State Normal). IsOwnM
 -- bytes that begin with no frame
 pub no_frame : (target : ℕ) (bytes : List ℕ) (e : WireFault) → Decodes (decoded bytes) (Err e) → IsNoRequestOf target bytes (fault_of_wire e)
 no_frame target bytes wires.OutOfMemory is = tt
-no_frame target bytes wires.Truncated is = is
-no_frame target bytes wires.TooLong is = is
-no_frame target bytes wires.BadFormat is = is
-no_frame target bytes wires.BadKind is = is
-no_frame target bytes wires.BadBody is = is
+no_frame target bytes e is = is
 
 -- a frame that is all of the bytes is a request, or why it is none
 pub ask_or_none : (target : ℕ) (bytes : List ℕ) (f : AnyFrame) (used : ℕ) (r : Result Question SyncFault) → decoded bytes ≡ Ok (f, used) → used ≡ length bytes → MatchResult r (λ q. (f ≡ frames.Ask q) × (q.target ≡ target)) (IsNoAskOf target f) → IfErr r (IsNoRequestOf target bytes)
 ask_or_none target bytes f used (Ok q) begins whole is = tt
-ask_or_none target bytes (frames.Record sent) used (Err fault) begins whole is = subst (IsNoRequestOf target bytes) (sym is) (record { front = frames.Record sent; used = used; begins = begins; otherwise = inr tt })
-ask_or_none target bytes (frames.Receipt r) used (Err fault) begins whole is = subst (IsNoRequestOf target bytes) (sym is) (record { front = frames.Receipt r; used = used; begins = begins; otherwise = inr tt })
 ask_or_none target bytes (frames.Ask q) used (Err fault) begins whole is =
     subst (IsNoRequestOf target bytes) (sym is.0) (q, begins ∙ ap (λ (n : ℕ). Ok (frames.Ask q, n)) whole, is.1)
+ask_or_none target bytes f used (Err fault) begins whole is = subst (IsNoRequestOf target bytes) (sym is) (record { front = f; used = used; begins = begins; otherwise = inr tt })
 
 pub ask_whole : (target : ℕ) (bytes : List ℕ) (f : AnyFrame) (used : ℕ) (r : Result Question SyncFault) → decoded bytes ≡ Ok (f, used) → used ≡ length bytes → MatchResult r (λ q. (f ≡ frames.Ask q) × (q.target ≡ target)) (IsNoAskOf target f) → IfOk r (IsAskFrame bytes)
 ask_whole target bytes f used (Err fault) begins whole is = tt
 ask_whole target bytes f used (Ok q) begins whole is = begins ∙ ap (λ (n : ℕ). Ok (f, n)) whole ∙ ap (λ (g : AnyFrame). Ok (g, length bytes)) is.0
-
--- what is answered there is taken
-pub takes_behind : {T : Type 0} (old new : State Normal) (target : ℕ) (bytes rest : List ℕ) (r : Result T SyncFault) → IsOwnMarked old bytes rest → OnOk r (Answers old target rest new) → OnOk r (TakesAsk old target bytes new)
-takes_behind old new target bytes rest (Ok v) marked answers = record { rest = rest; marked = marked; answers = answers }
-takes_behind old new target bytes rest (Err fault) marked answers = tt

@@ -1,6 +1,8 @@
 -- what a folder says of itself
-use Rattle.std.specs.Prelude.{◌≡◌, ◌⊎◌, ◌==◌, ◌&&◌, ◌||◌, ℕ, Bool, not, List, length, take, replicate, MatchBool, Option, Some, None, unwrap_or}
+use Rattle.std.specs.Prelude.{◌≡◌, ◌⊎◌, ◌==◌, ◌&&◌, ◌||◌, ℕ, Bool, not, List, length, take, replicate, MatchBool, Option, Some, None, option_map, unwrap_or}
+use Rattle.std.specs.BTreeMap.{BTreeMap, get}
 use Rattle.std.specs.List.{list_any}
+use Rattle.std.specs.Ordering.{nat_cmp}
 use Rattle.mr_filter.specs.Filter.{ClauseParts}
 use Rattle.mr_forms.specs.Known.{Pairs}
 use Rattle.mr_forms.specs.declared.fault.FormFault.TheVariants.{TooManyHoles}
@@ -73,6 +75,10 @@ pub record IsHelloOf (birth : List ℕ) (s : State Normal) (lacks : Bool) (their
 -- a meeting as a talk compares it
 abbrev pub met_by : Meeting → Met
 met_by m = record { birth = m.birth; mine = take 12 m.mine; theirs = take 12 m.theirs }
+
+-- what is remembered of the replica with this id, if it was met
+abbrev pub met_at : BTreeMap ℕ Meeting → (id : ℕ) → Option Met
+met_at meetings id = option_map met_by (get nat_cmp meetings id)
 
 -- nothing stands in the way, by the hello that the replica has for the other side, and whether there is something to tell
 pub record Judges (birth : List ℕ) (s : State Normal) (lacks : Bool) (theirs : Hello) (met : Option Met) (is_idle : Bool) : Type 0 where

@@ -1,6 +1,6 @@
 -- an open folder as it talks: what it was opened with, and the files that it lacks
-use Rattle.std.specs.Prelude.{◌≡◌, ◌==◌, ◌⊎◌, ℕ, Bool, true, false, not, [], List, length, take, Option, Some, None, option_map}
-use Rattle.std.specs.BTreeMap.{BTreeMap, get, is_at}
+use Rattle.std.specs.Prelude.{◌≡◌, ◌==◌, ◌⊎◌, ℕ, Bool, true, false, not, [], List, length, take, Option, Some, None}
+use Rattle.std.specs.BTreeMap.{BTreeMap, is_at}
 use Rattle.std.specs.BTreeSet.{insert_key}
 use Rattle.std.specs.Cmp.Lexicographic.{slice_cmp}
 use Rattle.std.specs.Ordering.{nat_cmp}
@@ -16,7 +16,7 @@ use Rattle.mr_talk.specs.declared.turn.Turn.{Turn}
 use Rattle.mr_version.specs.Name.{Name}
 use Rattle.mr_sync.specs.Asking.{AsksMet, IsMetAskFault, TakesMetAsk}
 use Rattle.mr_sync.specs.Ending.{EndsBy, IsEndFault, MayEnd}
-use Rattle.mr_sync.specs.Hello.{IsHelloFault, IsHelloOf, IsJudgeFault, Judges, met_by}
+use Rattle.mr_sync.specs.Hello.{IsHelloFault, IsHelloOf, IsJudgeFault, Judges, met_at}
 use Rattle.mr_sync.specs.Idle.{AreIdle}
 use Rattle.mr_sync.specs.Taken.{TakesReceipts, TakesRecords}
 use Rattle.mr_sync.specs.declared.coming.Coming.{Coming}
@@ -109,7 +109,7 @@ module _ {D F : Type 0} where
 
   -- what the folder finds of the one that said this: nothing stands in the way, and whether there is something to tell
   abbrev pub JudgesOf : FolderHost D F → Hello → Bool → Type 0
-  JudgesOf h theirs = Judges (head_of (journaled_of h)).birth (replica_of (journaled_of h)) (lacks_files h) theirs (option_map met_by (get nat_cmp (meetings_of h) theirs.id))
+  JudgesOf h theirs = Judges (head_of (journaled_of h)).birth (replica_of (journaled_of h)) (lacks_files h) theirs (met_at (meetings_of h) theirs.id)
 
   -- why the folder says no hello
   abbrev pub IsHelloFaultOf : FolderHost D F → SyncFault → Type 0
@@ -117,7 +117,7 @@ module _ {D F : Type 0} where
 
   -- why the folder doesn't say whether there is something to tell to the one that said this: nothing may be told to it, or the folder has no hello for it
   abbrev pub IsMeetFaultOf : FolderHost D F → Hello → SyncFault → Type 0
-  IsMeetFaultOf h theirs = IsJudgeFault (head_of (journaled_of h)).birth (replica_of (journaled_of h)) (lacks_files h) theirs (option_map met_by (get nat_cmp (meetings_of h) theirs.id))
+  IsMeetFaultOf h theirs = IsJudgeFault (head_of (journaled_of h)).birth (replica_of (journaled_of h)) (lacks_files h) theirs (met_at (meetings_of h) theirs.id)
 
   -- the other side said something, the folder lacks no file, and this is why it doesn't say whether there is something to tell
   abbrev pub IsIdleFaultOf : FolderHost D F → SyncFault → Type 0

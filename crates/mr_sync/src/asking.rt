@@ -3,14 +3,15 @@ ghost use Rattle.std.specs.Prelude.{◌≡◌, ℕ, true, IfErr, IfOk, IfSome, M
 ghost use Rattle.mr_kept.specs.Kept.{journal_of, nothing_waits, replica_of};
 ghost use Rattle.mr_wire.specs.FrameSpelling.{frame_bytes};
 ghost use Rattle.mr_wire.specs.Grammar.{Spells};
-ghost use Rattle.mr_sync.specs.Asking.{Answers, IsAnswerFault, IsAskFault, IsAskFrame, IsMarkedPull, IsNoRequestOf, IsPullOf, TakesAsk};
+ghost use Rattle.mr_sync.specs.Asking.{Answers, AsksMet, IsAnswerFault, IsAskFrame, IsMetAskFault, IsNoRequestOf, IsPullOf, TakesMetAsk};
 ghost use Rattle.mr_sync.specs.inner.Asking.{last_asked};
 ghost use Rattle.mr_sync.specs.inner.Taken.{IsNoAskOf};
 
 use crate::fault::SyncFault;
 use crate::marks::{mark_of, marked, own_marked};
+use crate::records::other_side;
 use crate::said::{Said, say_all};
-use crate::talk::Leaving;
+use crate::talk::{Leaving, Talk};
 use mr_itemset::SparingKnowledge;
 use mr_journal::Device;
 use mr_kept::Journaled;
@@ -20,20 +21,21 @@ use mr_version::Author;
 use mr_wire::{Ask, Frame, decode, encode_ask};
 use std::alloc::Global;
 
-/// Opens the next session, keeps that, and gives the request for it: a mark of the history of the one that is asked, and the frame.
+/// Asks the other side: opens the next session, keeps that, and gives the request for it, a mark of the history of the one that is asked, and
+/// the frame. `NotMet` where it hasn't said who it is.
 ///
 /// The frame of a request that a replica makes has at most 8,000,000 bytes of fragments, so a message has room for a mark before it.
 pub(crate) fn ask<D: Device + Drop>(
     alloc: Global,
     kept: &mut Journaled<SparingKnowledge, D>,
-    theirs: Author,
-    said: &mut Said,
+    talk: &mut Talk,
 ) -> Result<Vec<u8>, SyncFault>
     ensures all_kept { OnOk result (nothing_waits kept.new ≡ true) }
-    ensures marked { IfOk result (λ bytes. IsMarkedPull (replica_of kept.old) theirs bytes.items (replica_of kept.new)) }
+    ensures asks { IfOk result (λ bytes. AsksMet talk.old.theirs (replica_of kept.old) bytes.items (replica_of kept.new)) }
 {
+    let theirs = other_side(&talk.theirs)?;
     let mark = mark_of(alloc, kept.replica(), theirs)?;
-    let frame = pull_frame(alloc, kept, said)?;
+    let frame = pull_frame(alloc, kept, &mut talk.leaving.said)?;
     Ok(marked(alloc, &mark, &frame)?)
 }
 
@@ -64,21 +66,21 @@ fn last_ask(alloc: Global, replies: &[Reply]) -> Result<Vec<u8>, SyncFault>
 
 /// Opens a stream for the request of the other side that the bytes spell, behind a mark of this side's history.
 ///
-/// `BadList` where they have no room for a mark; `OtherHistory` where the log doesn't agree with it; `Frame` where they go on
-/// with no frame; `OtherFrame` where it isn't all of them, or no request; `OtherSide` where another replica asks; else as the
-/// replica refuses.
+/// `NotMet` where the other side hasn't said who it is; `BadList` where the bytes have no room for a mark; `OtherHistory` where the
+/// log doesn't agree with it; `Frame` where they go on with no frame; `OtherFrame` where it isn't all of them, or no request;
+/// `OtherSide` where another replica asks; else as the replica refuses.
 pub(crate) fn take_ask<D: Device + Drop>(
     alloc: Global,
     kept: &mut Journaled<SparingKnowledge, D>,
-    target: Author,
-    leaving: &mut Leaving,
+    talk: &mut Talk,
     bytes: &[u8],
 ) -> Result<(), SyncFault>
-    ensures taken { OnOk result (TakesAsk (replica_of kept.old) target bytes.now (replica_of kept.new)) }
-    ensures fault { IfErr result (IsAskFault (journal_of kept.old) (replica_of kept.old) target bytes.now (replica_of kept.new)) }
+    ensures taken { OnOk result (TakesMetAsk talk.old.theirs (replica_of kept.old) bytes.now (replica_of kept.new)) }
+    ensures fault { IfErr result (IsMetAskFault (journal_of kept.old) talk.old.theirs (replica_of kept.old) bytes.now (replica_of kept.new)) }
 {
+    let target = other_side(&talk.theirs)?;
     let frame = own_marked(alloc, kept.replica(), bytes)?;
-    answer_ask(alloc, kept, target, leaving, frame)
+    answer_ask(alloc, kept, target, &mut talk.leaving, frame)
 }
 
 /// Opens a stream for the request of the other side that the bytes spell.

@@ -4,7 +4,7 @@ ghost use Rattle.mr_kept.specs.Kept.{replica_of};
 ghost use Rattle.mr_sync.specs.Ending.{EndsBy, HasNothingOpen, IsAllTold, IsEndFault, IsUnfinished, MayEnd, is_last};
 
 use crate::fault::SyncFault;
-use crate::hello::{known_digest, short_of};
+use crate::hello::{front_of, known_digest};
 use crate::talk::{Arriving, Talk};
 use mr_compare::{Digest, Meeting};
 use mr_itemset::SparingKnowledge;
@@ -33,7 +33,7 @@ pub(crate) fn end<D: Device + Drop>(
     }
     let digest = known_digest(alloc, kept.replica())?;
     talk.mine = Some(digest);
-    Ok(Some(short_of(&digest)))
+    Ok(Some(front_of::<16>(&digest)))
 }
 
 /// Whether this side may say at the end of this turn that it has nothing open.

@@ -1,6 +1,6 @@
 //! Why a folder can't go on with a talk.
-ghost use Rattle.std.specs.Prelude.{◌≡◌, ◌≤◌, Ok, IfOk, IsErr, OnErr, string_len, IfErr};
-ghost use Rattle.mr_sync.specs.Fault.{fault_of_form, fault_of_packed, fault_of_wire, sync_fault_number};
+ghost use Rattle.std.specs.Prelude.{◌≡◌, ◌≤◌, Ok, Err, IfOk, IfErr, string_len};
+ghost use Rattle.mr_sync.specs.Fault.{IsToldFor, fault_of_form, fault_of_packed, fault_of_wire, sync_fault_number};
 ghost use Rattle.mr_sync.specs.declared.fault.SyncFault.TheVariants.{OutOfMemory, Kept, Files};
 
 use mr_folder::{FilesFailed, StoreFault};
@@ -213,8 +213,7 @@ fn text_of(alloc: Global, fault: &SyncFault) -> Result<String, AllocError> {
 /// The answer, with its fault as the other side is told it.
 pub(crate) fn answered<T: Drop>(alloc: Global, answer: Result<T, SyncFault>) -> Result<T, HostFault>
     ensures same { IfOk result (λ value. answer ≡ Ok value) }
-    ensures fault { OnErr result (IsErr answer) }
-    ensures number { IfErr result (λ fault. IfErr answer (λ of. fault.number ≡ sync_fault_number of)) }
+    ensures told { IfErr result (λ fault. IsToldFor (λ of. answer ≡ Err of) fault.number) }
 {
     match answer {
         Ok(value) => Ok(value),

@@ -1,11 +1,10 @@
 //! Files that come, piece by piece.
-ghost use Rattle.std.specs.Prelude.{◌≡◌, ◌+◌, ◌++◌, ℕ, false, List, [], Some, is_some, IsTrue, IfErr, IfOk, OnOk, length};
+ghost use Rattle.std.specs.Prelude.{◌≡◌, ℕ, false, List, [], Some, is_some, option_map, IsTrue, IfErr, IfOk, OnOk};
 ghost use Rattle.sha2.specs.Sha256.{sha256};
 ghost use Rattle.mr_folder.specs.Inside.{draft_path, stored_path};
 ghost use Rattle.mr_folder.specs.Store.{HasCome, IsKept, IsSound, OnlyStored, StaysSound};
 ghost use Rattle.mr_folder.specs.Tree.{OnlyAt};
 ghost use Rattle.mr_talk.specs.declared.kind.Kind.TheVariants as kinds;
-ghost use Rattle.mr_wire.specs.Spelling.{u64};
 ghost use Rattle.mr_sync.specs.Files.{GoesWith, KeepsFile, Stores};
 
 use crate::coming::Coming;
@@ -17,50 +16,57 @@ use mr_folder::{FileTree, append, begin, end, take_in};
 use mr_talk::Kind;
 use std::alloc::Global;
 
-/// Begins to take the file that the bytes tell. `BadList` where they tell none.
-pub(crate) fn begin_file<F: FileTree>(
+/// Begins to take the file that the bytes tell. `NoFile` within another, `BadList` where they tell none.
+fn take_begin<F: FileTree>(
     alloc: Global,
     files: &mut F,
+    coming: &mut Option<Coming>,
     bytes: &[u8],
-) -> Result<Coming, SyncFault>
-    ensures told { IfOk result (λ coming. bytes.now ≡ coming.digest ++ u64 coming.left) }
-    ensures begun { IsTrue F.is_told → IfOk result (λ coming. HasCome [] coming.incoming (F.seen files.new)) }
+) -> Result<(), SyncFault>
+    ensures goes { OnOk result (GoesWith kinds.Begin bytes.now coming.old coming.new) }
+    ensures stores { IsTrue F.is_told → OnOk result (Stores kinds.Begin bytes.now coming.old (F.seen files.old) coming.new (F.seen files.new)) }
     ensures only { IsTrue F.is_told → OnlyAt draft_path (F.seen files.old) (F.seen files.new) }
     ensures sound { IsTrue F.is_told → IsSound F.seen F.may_leave files.old → StaysSound F.seen F.may_leave F.moment F.left_since files.old files.new }
 {
+    if coming.is_some() {
+        return Err(SyncFault::NoFile);
+    }
     let Some(told) = read_begin(bytes) else {
         return Err(SyncFault::BadList);
     };
     let incoming = begin(alloc, files)?;
     let digest = told.0;
     let left = told.1;
-    Ok(Coming {
+    *coming = Some(Coming {
         incoming,
         digest,
         left,
-    })
+    });
+    Ok(())
 }
 
-/// Takes a piece of the file. `OtherFile` where more bytes come than were told.
-pub(crate) fn take_piece<F: FileTree>(
+/// Takes a piece of the file that comes. `NoFile` where none does, `OtherFile` where more bytes come than were told.
+fn take_piece<F: FileTree>(
     alloc: Global,
     files: &mut F,
-    coming: &mut Coming,
+    coming: &mut Option<Coming>,
     bytes: &[u8],
 ) -> Result<(), SyncFault>
-    ensures within { OnOk result (coming.new.left + length bytes.now ≡ coming.old.left) }
-    ensures same { coming.new.digest ≡ coming.old.digest }
-    ensures grown { IsTrue F.is_told → (come : List ℕ) → HasCome come coming.old.incoming (F.seen files.old)
-        → OnOk result (HasCome (come ++ bytes.now) coming.new.incoming (F.seen files.new)) }
+    ensures goes { OnOk result (GoesWith kinds.Piece bytes.now coming.old coming.new) }
+    ensures same { option_map (λ file. file.digest) coming.new ≡ option_map (λ file. file.digest) coming.old }
+    ensures stores { IsTrue F.is_told → OnOk result (Stores kinds.Piece bytes.now coming.old (F.seen files.old) coming.new (F.seen files.new)) }
     ensures only { IsTrue F.is_told → OnlyAt draft_path (F.seen files.old) (F.seen files.new) }
     ensures sound { IsTrue F.is_told → IsSound F.seen F.may_leave files.old → StaysSound F.seen F.may_leave F.moment F.left_since files.old files.new }
 {
+    let Some(file) = coming else {
+        return Err(SyncFault::NoFile);
+    };
     let size = bytes.len() as u64;
-    if size > coming.left {
+    if size > file.left {
         return Err(SyncFault::OtherFile);
     }
-    append(alloc, files, &mut coming.incoming, bytes)?;
-    coming.left -= size;
+    append(alloc, files, &mut file.incoming, bytes)?;
+    file.left -= size;
     Ok(())
 }
 
@@ -116,8 +122,8 @@ pub(crate) fn take_file_message<F: FileTree>(
     talk.arriving.note_bytes(bytes);
     match kind {
         Kind::Whole => take_whole(alloc, files, talk, bytes),
-        Kind::Begin => take_begin(alloc, files, talk, bytes),
-        Kind::Piece => take_next(alloc, files, talk, bytes),
+        Kind::Begin => take_begin(alloc, files, &mut talk.coming, bytes),
+        Kind::Piece => take_piece(alloc, files, &mut talk.coming, bytes),
         Kind::End => take_end(alloc, files, talk),
         _ => Err(SyncFault::NoFile),
     }
@@ -141,42 +147,6 @@ fn take_whole<F: FileTree>(
     let digest = take_in(alloc, files, bytes)?;
     talk.arriving.note_file(&digest);
     Ok(())
-}
-
-/// Takes what a file begins with. `NoFile` within another.
-fn take_begin<F: FileTree>(
-    alloc: Global,
-    files: &mut F,
-    talk: &mut Talk,
-    bytes: &[u8],
-) -> Result<(), SyncFault>
-    ensures goes { OnOk result (GoesWith kinds.Begin bytes.now talk.old.coming talk.new.coming) }
-    ensures stores { IsTrue F.is_told → OnOk result (Stores kinds.Begin bytes.now talk.old.coming (F.seen files.old) talk.new.coming (F.seen files.new)) }
-    ensures theirs { talk.new.theirs ≡ talk.old.theirs }
-{
-    if talk.coming.is_some() {
-        return Err(SyncFault::NoFile);
-    }
-    let coming = begin_file(alloc, files, bytes)?;
-    talk.coming = Some(coming);
-    Ok(())
-}
-
-/// Takes a piece of the file that comes. `NoFile` where none does.
-fn take_next<F: FileTree>(
-    alloc: Global,
-    files: &mut F,
-    talk: &mut Talk,
-    bytes: &[u8],
-) -> Result<(), SyncFault>
-    ensures goes { OnOk result (GoesWith kinds.Piece bytes.now talk.old.coming talk.new.coming) }
-    ensures stores { IsTrue F.is_told → OnOk result (Stores kinds.Piece bytes.now talk.old.coming (F.seen files.old) talk.new.coming (F.seen files.new)) }
-    ensures theirs { talk.new.theirs ≡ talk.old.theirs }
-{
-    match &mut talk.coming {
-        Some(coming) => take_piece(alloc, files, coming, bytes),
-        None => Err(SyncFault::NoFile),
-    }
 }
 
 /// Takes the end of the file that comes. `NoFile` where none does.

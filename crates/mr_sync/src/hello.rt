@@ -1,16 +1,13 @@
 //! What a folder says of itself, and what the other side is to it.
-ghost use Rattle.std.specs.Prelude.{◌≡◌, ◌==◌, ◌||◌, take, IfErr, IfOk, MatchBool, MatchResult, Some, None, option_map};
-ghost use Rattle.std.specs.BTreeMap.{get};
+ghost use Rattle.std.specs.Prelude.{◌≡◌, ◌≤◌, ◌==◌, ◌||◌, take, IfErr, IfOk, MatchBool, MatchResult, Some, None, option_map};
 ghost use Rattle.std.specs.Option.{option_copied};
-ghost use Rattle.std.specs.Ordering.{nat_cmp};
-ghost use Rattle.mr_itemset.specs.Normal.{normal_known};
 ghost use Rattle.mr_itemset.specs.Sparing.{sparing_form};
 ghost use Rattle.mr_kept.specs.Kept.{head_of, replica_of};
 ghost use Rattle.mr_lookup.specs.Digest.{IsDigestOf};
 ghost use Rattle.mr_lookup.specs.Versions.{versions_told};
 ghost use Rattle.mr_talk.specs.Peer.{HasNothingToTell, Stands};
 ghost use Rattle.mr_talk.specs.declared.peer.Standing.TheVariants.{Good};
-ghost use Rattle.mr_sync.specs.Hello.{IsDigestFront, IsHelloFault, IsHelloOf, IsJudgeFault, IsTip, IsTop, IsTopOf, Judges, StandsInTheWay, is_free, keeps_all, met_by, tip_of};
+ghost use Rattle.mr_sync.specs.Hello.{IsDigestFront, IsHelloFault, IsHelloOf, IsJudgeFault, IsTip, IsTopOf, Judges, StandsInTheWay, is_free, keeps_all, met_at, met_by, tip_of};
 ghost use Rattle.mr_sync.specs.inner.Hello.{IsUntold};
 
 use crate::fault::SyncFault;
@@ -24,27 +21,19 @@ use mr_kept::Journaled;
 use mr_lookup::{highest_counter, knowledge_digest, message_digest};
 use mr_mail::Message;
 use mr_replica::Replica;
-use mr_talk::{Hello, Knows, Met, Short, Standing, Tip, nothing_to_tell, standing_of};
+use mr_talk::{Hello, Knows, Met, Standing, Tip, nothing_to_tell, standing_of};
 use mr_version::Author;
 use std::alloc::{AllocError, Global};
 use std::collections::BTreeMap;
 
-/// The first bytes of a digest.
-pub(crate) fn short_of(digest: &Digest) -> Short
-    ensures { result ≡ take 16 digest.now }
+/// So many first bytes of a digest.
+pub(crate) fn front_of<const N: usize>(digest: &Digest) -> [u8; N]
+    requires { N ≤ 32 }
+    ensures { result ≡ take N digest.now }
 {
-    let mut short = [0u8; 16];
-    short.copy_from_slice(&digest[..16]);
-    short
-}
-
-/// The first bytes of a digest of what is known, as a hello tells them.
-fn knows_of(digest: &Digest) -> Knows
-    ensures { result ≡ take 12 digest.now }
-{
-    let mut knows = [0u8; 12];
-    knows.copy_from_slice(&digest[..12]);
-    knows
+    let mut front = [0u8; N];
+    front.copy_from_slice(&digest[..N]);
+    front
 }
 
 /// The id of the one that said this, where somebody did.
@@ -108,7 +97,7 @@ fn known_front(alloc: Global, replica: &Replica<SparingKnowledge>) -> Result<Kno
     ensures fault { IfErr result (IsUntold replica.now.knowledge) }
 {
     let digest = known_digest(alloc, replica)?;
-    Ok(knows_of(&digest))
+    Ok(front_of::<12>(&digest))
 }
 
 /// The digest of what is known.
@@ -142,9 +131,7 @@ fn tip_of(alloc: Global, message: &Message) -> Result<Tip, AllocError>
     ensures { IfOk result (λ tip. tip ≡ tip_of message.now) }
 {
     let digest = message_digest(alloc, message)?;
-    let mut tip = [0u8; 4];
-    tip.copy_from_slice(&digest[..4]);
-    Ok(tip)
+    Ok(front_of::<4>(&digest))
 }
 
 /// The highest counter that is known among the versions of this author; 0 for none, and for nobody.
@@ -152,16 +139,9 @@ fn highest_of(replica: &Replica<SparingKnowledge>, author: Option<Author>) -> Re
     ensures top { IfOk result (IsTopOf replica.now.knowledge author) }
     ensures fault { IfErr result (IsUntold replica.now.knowledge) }
 {
-    match author {
-        Some(author) => highest_by(replica, author),
-        None => Ok(0),
-    }
-}
-
-fn highest_by(replica: &Replica<SparingKnowledge>, author: Author) -> Result<u32, FormFault>
-    ensures top { IfOk result (IsTop (normal_known replica.now.knowledge) author) }
-    ensures fault { IfErr result (IsUntold replica.now.knowledge) }
-{
+    let Some(author) = author else {
+        return Ok(0);
+    };
     let highest = highest_counter(replica, author)?;
     match highest {
         Some(counter) => Ok(counter),
@@ -191,7 +171,7 @@ fn has_no_condition(clause: &Clause) -> bool
 
 /// What is remembered of the replica with this id, as a talk compares it.
 pub(crate) fn remembered(meetings: &BTreeMap<u16, Meeting>, id: Author) -> Option<Met>
-    ensures { result ≡ option_map met_by (get nat_cmp meetings.now id) }
+    ensures { result ≡ met_at meetings.now id }
 {
     match meetings.get(&id.id()) {
         Some(meeting) => Some(met_of(meeting)),
@@ -203,8 +183,8 @@ fn met_of(meeting: &Meeting) -> Met
     ensures { result ≡ met_by meeting.now }
 {
     let birth = meeting.birth;
-    let mine = knows_of(&meeting.mine);
-    let theirs = knows_of(&meeting.theirs);
+    let mine = front_of::<12>(&meeting.mine);
+    let theirs = front_of::<12>(&meeting.theirs);
     Met {
         birth,
         mine,
@@ -245,8 +225,8 @@ pub(crate) fn judge<D: Device + Drop>(
     theirs: &Hello,
 ) -> Result<(Hello, bool), SyncFault>
     ensures says { IfOk result (λ said. IsHelloOf (head_of kept.now).birth (replica_of kept.now) lacks (Some theirs.now.id) said.0) }
-    ensures judges { IfOk result (λ said. Judges (head_of kept.now).birth (replica_of kept.now) lacks theirs.now (option_map met_by (get nat_cmp meetings.now theirs.now.id)) said.1) }
-    ensures fault { IfErr result (IsJudgeFault (head_of kept.now).birth (replica_of kept.now) lacks theirs.now (option_map met_by (get nat_cmp meetings.now theirs.now.id))) }
+    ensures judges { IfOk result (λ said. Judges (head_of kept.now).birth (replica_of kept.now) lacks theirs.now (met_at meetings.now theirs.now.id) said.1) }
+    ensures fault { IfErr result (IsJudgeFault (head_of kept.now).birth (replica_of kept.now) lacks theirs.now (met_at meetings.now theirs.now.id)) }
 {
     let mine = folder_hello(alloc, kept, lacks, Some(theirs.id))?;
     let tip = tip_told(alloc, kept.replica(), theirs.id, theirs.issued)?;

@@ -6,6 +6,7 @@ ghost use Rattle.mr_folder.specs.Tree.{IsUntouched};
 ghost use Rattle.mr_kept.specs.Kept.{nothing_waits, replica_of};
 ghost use Rattle.mr_talk.specs.Turns.{next_of};
 
+use crate::asking::{ask, take_ask};
 use crate::ending::{end, meeting_of};
 use crate::fault::{SyncFault, answered};
 use crate::files::{check_whole, take_file_message};
@@ -15,9 +16,7 @@ use crate::receipts::take_receipts_message;
 use crate::records::take_records_message;
 use crate::said::keep_and_say;
 use crate::summary::Summary;
-use crate::taking::{
-    ask_other, take_done, take_missing, take_other_ask, take_push_outs, take_wants,
-};
+use crate::taking::{take_done, take_missing, take_push_outs, take_wants};
 use crate::talk::Talk;
 use crate::telling::next_said;
 use mr_compare::{Digest, Meeting};
@@ -187,7 +186,7 @@ impl<D: Device + Drop, F: FileTree + Drop> Host for FolderHost<D, F> {
         ensures asks { IfOk result (λ bytes. AsksOf self.old bytes.items self.new) }
     {
         self.summary.is_idle = false;
-        let bytes = ask_other(self.alloc, &mut self.kept, &mut self.talk);
+        let bytes = ask(self.alloc, &mut self.kept, &mut self.talk);
         answered(self.alloc, bytes)
     }
 
@@ -217,7 +216,7 @@ impl<D: Device + Drop, F: FileTree + Drop> Host for FolderHost<D, F> {
         ensures taken { OnOk result (TakesAskOf self.old bytes.now self.new) }
         ensures fault { IfErr result (λ fault. IsToldFor (IsAskFaultOf self.old bytes.now self.new) fault.number) }
     {
-        let taken = take_other_ask(self.alloc, &mut self.kept, &mut self.talk, bytes);
+        let taken = take_ask(self.alloc, &mut self.kept, &mut self.talk, bytes);
         answered(self.alloc, taken)
     }
 
@@ -267,7 +266,7 @@ impl<D: Device + Drop, F: FileTree + Drop> Host for FolderHost<D, F> {
         ensures unchanged { SameFolder self.old self.new }
         ensures fault { IfErr result (λ fault. IsToldFor (λ of. ReadsList IsDigest (λ (d : List ℕ). d) digests.now (Err of)) fault.number) }
     {
-        let taken = take_wants(self.alloc, &mut self.talk, digests);
+        let taken = take_wants(self.alloc, &mut self.talk.leaving.wants, digests);
         answered(self.alloc, taken)
     }
 
@@ -276,7 +275,7 @@ impl<D: Device + Drop, F: FileTree + Drop> Host for FolderHost<D, F> {
         ensures unchanged { SameFolder self.old self.new }
         ensures fault { IfErr result (λ fault. IsToldFor (λ of. ReadsList IsPushOut push_out_bytes versions.now (Err of)) fault.number) }
     {
-        let taken = take_push_outs(self.alloc, &mut self.talk, versions);
+        let taken = take_push_outs(self.alloc, &mut self.talk.waiting, versions);
         answered(self.alloc, taken)
     }
 
@@ -297,7 +296,7 @@ impl<D: Device + Drop, F: FileTree + Drop> Host for FolderHost<D, F> {
         ensures unchanged { SameFolder self.old self.new }
         ensures fault { IfErr result (λ fault. IsToldFor (λ of. (of ≡ BadList) × (length knows.now ≢ 16)) fault.number) }
     {
-        let taken = take_done(&mut self.talk, knows);
+        let taken = take_done(&mut self.talk.knows, knows);
         answered(self.alloc, taken)
     }
 }

@@ -67,12 +67,6 @@ pub fn read_hellos(alloc: Global, bytes: &[u8]) -> Result<Option<Vec<Hellos>>, A
     ensures spelled { IfOk result (λ read. MatchOption read ((talks : List Hellos) → AreSpelled bytes.now talks → ⊥) (λ talks. AreSpelled bytes.now talks.items)) }
     ensures same { (written : List Hellos) → AreSpelled bytes.now written → IfOk result (λ read. MatchOption read ⊥ (λ talks. talks.items ≡ written)) }
 {
-    hellos_in(alloc, bytes)
-}
-
-fn hellos_in(alloc: Global, bytes: &[u8]) -> Result<Option<Vec<Hellos>>, AllocError>
-    ensures { IfOk result (λ read. MatchOption read ((talks : List Hellos) → AreSpelled bytes.now talks → ⊥) (λ talks. AreSpelled bytes.now talks.items)) }
-{
     let mut talks = Vec::new(alloc);
     let mut rest = bytes;
     for _ in 0..MAX_IDLE_TALKS {
@@ -109,12 +103,6 @@ pub fn idle_answer(talks: &[Hellos], theirs: &Hello) -> Option<Hello>
     ensures answer { IsAnswer talks.now theirs.now result }
     ensures idle { (birth : List ℕ) (s : State Normal) (meetings : BTreeMap ℕ Meeting) → All (AreIdle birth s meetings) talks.now
         → IfSome result (λ mine. AreIdle birth s meetings (record { mine = mine; theirs = theirs.now })) }
-{
-    answer_in(talks, theirs)
-}
-
-fn answer_in(talks: &[Hellos], theirs: &Hello) -> Option<Hello>
-    ensures { IsAnswer talks.now theirs.now result }
 {
     for talk in talks {
         if said(talk, theirs) {

@@ -6,7 +6,7 @@ ghost use Rattle.mr_sync.specs.Marks.{AgreesWith, HasOwnMark, IsMarkOf, IsMarked
 ghost use Rattle.mr_sync.specs.inner.Marks.{IsMarkFault};
 
 use crate::fault::SyncFault;
-use crate::hello::short_of;
+use crate::hello::front_of;
 use mr_itemset::SparingKnowledge;
 use mr_lookup::{message_digest, newest_told, told_message};
 use mr_mail::Message;
@@ -51,7 +51,7 @@ fn message_short(alloc: Global, message: &Message) -> Result<Short, AllocError>
     ensures { IfOk result (λ short. short ≡ message_short message.now) }
 {
     let digest = message_digest(alloc, message)?;
-    Ok(short_of(&digest))
+    Ok(front_of::<16>(&digest))
 }
 
 /// The bytes of a mark, and the frame behind them.

@@ -1,5 +1,5 @@
 //! Records as they are packed: each frame against the one before it that went the same way.
-ghost use Rattle.std.specs.Prelude.{◌≡◌, ◌≤◌, ◌+◌, ◌∷◌, ℕ, List, IfNone, IfOk, IfSome, length};
+ghost use Rattle.std.specs.Prelude.{◌≡◌, ◌≤◌, ℕ, List, IfOk, IfSome, length};
 ghost use Rattle.mr_talk.specs.Packed.{Unpacks};
 ghost use Rattle.mr_talk.specs.declared.kind.Kind.TheVariants as kind;
 ghost use Rattle.mr_sync.specs.inner.Packed.{PacksFront, TellsPacked};
@@ -7,6 +7,7 @@ ghost use Rattle.mr_sync.specs.Taken.{AreFrames};
 
 use crate::fault::SyncFault;
 use crate::records::frames_in;
+use crate::said::next_frame;
 use crate::sending::message_of;
 use mr_talk::{Kind, LastFrame, MAX_PACKED_BYTES, Message};
 use mr_wire::Frame;
@@ -52,7 +53,7 @@ fn front_packed(
     let mut bytes = Vec::new(alloc);
     let mut room = MAX_PACKED_BYTES as usize;
     for _ in 0..frames.len().min(most) {
-        let Some(frame) = next_fitting(frames, room) else {
+        let Some(frame) = next_frame(frames, MOST_MORE, room) else {
             break;
         };
         let packed = last.pack(alloc, &frame)?;
@@ -60,19 +61,6 @@ fn front_packed(
         room -= frame.len() + MOST_MORE;
     }
     Ok(bytes)
-}
-
-/// The first frame, which leaves the others, if there is one and it has no more bytes than so many once it is packed.
-fn next_fitting(frames: &mut VecDeque<Vec<u8>>, room: usize) -> Option<Vec<u8>>
-    ensures first { IfSome result (λ frame. frames.old.items ≡ frame ∷ frames.new.items) }
-    ensures short { IfSome result (λ frame. length frame.items + 6 ≤ room) }
-    ensures none { IfNone result (frames.new.items ≡ frames.old.items) }
-{
-    let size = frames.front()?.len();
-    if size + MOST_MORE > room {
-        return None;
-    }
-    frames.pop_front()
 }
 
 /// The frames that the bytes of a message are, unpacked. `BadList` where they are no packed frames, or more of them than a message has;

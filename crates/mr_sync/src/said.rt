@@ -1,5 +1,5 @@
 //! What is to be said once it is kept.
-ghost use Rattle.std.specs.Prelude.{◌≡◌, ◌++◌, ◌≤◌, ◌∷◌, [], true, IfNone, IfOk, IfSome, OnOk, length};
+ghost use Rattle.std.specs.Prelude.{◌≡◌, ◌+◌, ◌++◌, ◌≤◌, ◌∷◌, [], true, IfNone, IfOk, IfSome, OnOk, length};
 ghost use Rattle.mr_kept.specs.Kept.{leaving, nothing_waits, replica_of};
 ghost use Rattle.mr_talk.specs.Kinds.{limit_of};
 ghost use Rattle.mr_sync.specs.inner.Said.{FrontIs, TellsFrames, bytes_of, receipt_frames, record_frames};
@@ -176,7 +176,7 @@ fn front_frames(alloc: Global, frames: &mut VecDeque<Vec<u8>>) -> Result<Vec<u8>
 {
     let mut bytes = Vec::new(alloc);
     for _ in 0..frames.len() {
-        let Some(frame) = next_frame(frames, MAX_FRAMES_BYTES as usize - bytes.len()) else {
+        let Some(frame) = next_frame(frames, 0, MAX_FRAMES_BYTES as usize - bytes.len()) else {
             break;
         };
         bytes.extend_from_slice(&frame)?;
@@ -184,14 +184,19 @@ fn front_frames(alloc: Global, frames: &mut VecDeque<Vec<u8>>) -> Result<Vec<u8>
     Ok(bytes)
 }
 
-/// The first frame, which leaves the others, if there is one and it has no more bytes than so many.
-fn next_frame(frames: &mut VecDeque<Vec<u8>>, room: usize) -> Option<Vec<u8>>
+/// The first frame, which leaves the others, if there is one and so much room has place for it and so many bytes more.
+pub(crate) fn next_frame(
+    frames: &mut VecDeque<Vec<u8>>,
+    more: usize,
+    room: usize,
+) -> Option<Vec<u8>>
     ensures first { IfSome result (λ frame. frames.old.items ≡ frame ∷ frames.new.items) }
-    ensures short { IfSome result (λ frame. length frame.items ≤ room) }
+    ensures short { IfSome result (λ frame. length frame.items + more ≤ room) }
     ensures none { IfNone result (frames.new.items ≡ frames.old.items) }
 {
+    let most = room.checked_sub(more)?;
     let size = frames.front()?.len();
-    if size > room {
+    if size > most {
         return None;
     }
     frames.pop_front()

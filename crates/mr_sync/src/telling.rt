@@ -1,8 +1,7 @@
 //! What is told in a turn.
-ghost use Rattle.std.specs.Prelude.{◌≡◌, IfOk, IfSome, IsSome};
+ghost use Rattle.std.specs.Prelude.{◌≡◌, IfOk, IfSome, IsSome, is_some};
 ghost use Rattle.mr_talk.specs.Turns.{next_of};
 ghost use Rattle.mr_talk.specs.declared.kind.Kind.TheVariants as kind;
-ghost use Rattle.mr_talk.specs.declared.turn.Turn.TheVariants as turn;
 ghost use Rattle.mr_sync.specs.inner.Telling.{IsGiven, IsOfKind, IsOpened, IsWantedFile, TellsRevisions};
 
 use crate::fault::SyncFault;
@@ -32,7 +31,8 @@ const BATCH_BYTES: u64 = 1_048_576;
 /// The most push-outs in a message.
 const MOST_PUSH_OUTS: usize = MAX_LIST_BYTES as usize / PUSH_OUT_BYTES;
 
-/// What is said next in this turn, if there is something: nothing that has no place there.
+/// What is said next in this turn, if there is something: nothing that has no place there. Wants and receipts go behind what the other side
+/// asked for.
 pub(crate) fn next_said<D: Device + Drop, F: FileTree>(
     alloc: Global,
     kept: &mut Journaled<SparingKnowledge, D>,
@@ -42,85 +42,47 @@ pub(crate) fn next_said<D: Device + Drop, F: FileTree>(
 ) -> Result<Option<Message>, SyncFault>
     ensures { IfOk result (λ found. IfSome found (λ message. IsSome (next_of turn message.kind))) }
 {
+    if let Some(message) = next_asked_for(alloc, kept, files, &mut talk.leaving, turn)? {
+        return Ok(Some(message));
+    }
+    if has_place(turn, Kind::Wants)
+        && let Some(message) = wants_message(alloc, &mut talk.arriving)?
+    {
+        return Ok(Some(message));
+    }
+    if !has_place(turn, Kind::Receipts) {
+        return Ok(None);
+    }
+    next_receipts(alloc, kept, files, talk, turn.number())
+}
+
+/// Whether a message of this kind has a place in this turn.
+fn has_place(turn: Turn, kind: Kind) -> bool
+    ensures { result ≡ is_some (next_of turn kind) }
+{
+    turn.next(kind).is_some()
+}
+
+/// What the other side asked for: what is told in the third and the fourth turn, and the files that it wants in the fifth and the sixth, each
+/// within its file piece by piece.
+fn next_asked_for<D: Device + Drop, F: FileTree>(
+    alloc: Global,
+    kept: &mut Journaled<SparingKnowledge, D>,
+    files: &mut F,
+    leaving: &mut Leaving,
+    turn: Turn,
+) -> Result<Option<Message>, SyncFault>
+    ensures { IfOk result (λ found. IfSome found (λ message. IsSome (next_of turn message.kind))) }
+{
     match turn {
-        Turn::CallerTells => next_told(alloc, kept, files, &mut talk.leaving),
-        Turn::CalledTells => next_told_or_settled(alloc, kept, files, talk, turn.number()),
-        Turn::CallerSettles => next_settled(alloc, kept, files, talk, turn.number()),
-        Turn::CallerWants => next_wanted(alloc, kept, files, talk, turn.number()),
-        Turn::CalledSettles => next_closing(alloc, kept, files, talk, turn.number()),
-        Turn::CalledCloses | Turn::CallerCloses => {
-            next_receipts(alloc, kept, files, talk, turn.number())
-        }
+        Turn::CallerTells | Turn::CalledTells => next_told(alloc, kept, files, leaving),
+        Turn::CallerSettles | Turn::CalledSettles => next_wanted_file(alloc, files, leaving),
         Turn::CallerTellsFile
         | Turn::CalledTellsFile
         | Turn::CallerSettlesFile
-        | Turn::CalledSettlesFile => next_of_file(alloc, &mut talk.leaving.sending),
+        | Turn::CalledSettlesFile => next_of_file(alloc, &mut leaving.sending),
         _ => Ok(None),
     }
-}
-
-/// The fourth turn: what is told, then wants and receipts.
-fn next_told_or_settled<D: Device + Drop, F: FileTree>(
-    alloc: Global,
-    kept: &mut Journaled<SparingKnowledge, D>,
-    files: &mut F,
-    talk: &mut Talk,
-    number: u8,
-) -> Result<Option<Message>, SyncFault>
-    ensures { IfOk result (λ found. IfSome found (λ message. IsSome (next_of turn.CalledTells message.kind))) }
-{
-    if let Some(message) = next_told(alloc, kept, files, &mut talk.leaving)? {
-        return Ok(Some(message));
-    }
-    next_wanted(alloc, kept, files, talk, number)
-}
-
-/// The fifth turn: the files that are wanted, then wants and receipts.
-fn next_settled<D: Device + Drop, F: FileTree>(
-    alloc: Global,
-    kept: &mut Journaled<SparingKnowledge, D>,
-    files: &mut F,
-    talk: &mut Talk,
-    number: u8,
-) -> Result<Option<Message>, SyncFault>
-    ensures { IfOk result (λ found. IfSome found (λ message. IsSome (next_of turn.CallerSettles message.kind))) }
-{
-    if let Some(message) = next_wanted_file(alloc, files, &mut talk.leaving)? {
-        return Ok(Some(message));
-    }
-    next_wanted(alloc, kept, files, talk, number)
-}
-
-/// The sixth turn: the files that are wanted, then receipts.
-fn next_closing<D: Device + Drop, F: FileTree>(
-    alloc: Global,
-    kept: &mut Journaled<SparingKnowledge, D>,
-    files: &mut F,
-    talk: &mut Talk,
-    number: u8,
-) -> Result<Option<Message>, SyncFault>
-    ensures { IfOk result (λ found. IfSome found (λ message. IsSome (next_of turn.CalledSettles message.kind))) }
-{
-    if let Some(message) = next_wanted_file(alloc, files, &mut talk.leaving)? {
-        return Ok(Some(message));
-    }
-    next_receipts(alloc, kept, files, talk, number)
-}
-
-/// Wants, then receipts.
-fn next_wanted<D: Device + Drop, F: FileTree>(
-    alloc: Global,
-    kept: &mut Journaled<SparingKnowledge, D>,
-    files: &mut F,
-    talk: &mut Talk,
-    number: u8,
-) -> Result<Option<Message>, SyncFault>
-    ensures { IfOk result (λ found. IfSome found (λ message. IsOfKind kind.Wants kind.Receipts message.kind)) }
-{
-    if let Some(message) = wants_message(alloc, &mut talk.arriving)? {
-        return Ok(Some(message));
-    }
-    next_receipts(alloc, kept, files, talk, number)
 }
 
 /// Receipts. What is held here is vouched for once a turn.

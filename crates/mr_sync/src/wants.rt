@@ -7,10 +7,8 @@ use crate::fault::SyncFault;
 use crate::lists::digest_list;
 use crate::sending::message_of;
 use crate::talk::Arriving;
-use mr_compare::Digest;
 use mr_talk::{Kind, Message};
 use std::alloc::Global;
-use std::collections::BTreeSet;
 
 /// The most digests in a message.
 pub(crate) const MOST_WANTS: usize = 65_536;
@@ -20,22 +18,17 @@ pub(crate) fn wants_message(
     alloc: Global,
     arriving: &mut Arriving,
 ) -> Result<Option<Message>, SyncFault>
-    ensures { IfOk result (λ found. IfSome found (λ message. message.kind ≡ kind.Wants)) }
-{
-    wants_of(alloc, &mut arriving.lacking, &mut arriving.wanted)
-}
-
-fn wants_of(
-    alloc: Global,
-    lacking: &mut BTreeSet<Digest>,
-    wanted: &mut BTreeSet<Digest>,
-) -> Result<Option<Message>, SyncFault>
     ensures kind { IfOk result (λ found. IfSome found (λ message. message.kind ≡ kind.Wants)) }
-    ensures told { IfOk result (TellsFront MOST_WANTS lacking.old.keys lacking.new.keys) }
+    ensures told { IfOk result (TellsFront MOST_WANTS arriving.old.lacking.keys arriving.new.lacking.keys) }
 {
-    if lacking.is_empty() {
+    if arriving.lacking.is_empty() {
         return Ok(None);
     }
-    let bytes = digest_list(alloc, lacking, wanted, MOST_WANTS)?;
+    let bytes = digest_list(
+        alloc,
+        &mut arriving.lacking,
+        &mut arriving.wanted,
+        MOST_WANTS,
+    )?;
     Ok(Some(message_of(Kind::Wants, bytes)))
 }

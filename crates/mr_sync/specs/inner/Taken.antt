@@ -15,20 +15,17 @@ use Rattle.mr_sync.specs.declared.fault.SyncFault.TheVariants.{Kept, OtherFrame,
 -- why a frame is no record that this source gave
 abbrev pub IsNoRecordOf : ℕ → Frame → SyncFault → Type 0
 IsNoRecordOf source (frame.Record sent) fault = (fault ≡ OtherSide) × (sent.header.source ≢ source)
-IsNoRecordOf source (frame.Ask q) fault = fault ≡ OtherFrame
-IsNoRecordOf source (frame.Receipt r) fault = fault ≡ OtherFrame
+IsNoRecordOf source f fault = fault ≡ OtherFrame
 
 -- why a frame is no receipt that this replica gave
 abbrev pub IsNoReceiptOf : ℕ → Frame → SyncFault → Type 0
-IsNoReceiptOf giver (frame.Record sent) fault = fault ≡ OtherFrame
-IsNoReceiptOf giver (frame.Ask q) fault = fault ≡ OtherFrame
 IsNoReceiptOf giver (frame.Receipt r) fault = (fault ≡ OtherSide) × (r.giver ≢ giver)
+IsNoReceiptOf giver f fault = fault ≡ OtherFrame
 
 -- why a frame is no request of this side
 abbrev pub IsNoAskOf : ℕ → Frame → SyncFault → Type 0
-IsNoAskOf target (frame.Record sent) fault = fault ≡ OtherFrame
 IsNoAskOf target (frame.Ask q) fault = (fault ≡ OtherSide) × (q.target ≢ target)
-IsNoAskOf target (frame.Receipt r) fault = fault ≡ OtherFrame
+IsNoAskOf target f fault = fault ≡ OtherFrame
 
 -- whether a receipt was for something, by what the replica answered to it; any other fault is handed on
 abbrev pub was_there : Result (Unit {0}) KeptFault → Result Bool SyncFault

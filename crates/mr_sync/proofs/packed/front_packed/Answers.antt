@@ -11,6 +11,6 @@ loop-init c =
 
 pub loop-preserved : goal.loop-preserved
 loop-preserved c =
-    packs_more c.args.frames.now.items c.loop.frames.items c.next_fitting.new.frames.items c.in-Some.frame c.args.last.now c.loop.last c.pack.new.self c.loop.bytes.items c.in_ok-packed.packed.items c.extend_from_slice.new.self.items _ c.loop.room (c.loop.room - (c.len-in-loop.result + 6))
+    packs_more c.args.frames.now.items c.loop.frames.items c.next_frame.new.frames.items c.in-Some.frame c.args.last.now c.loop.last c.pack.new.self c.loop.bytes.items c.in_ok-packed.packed.items c.extend_from_slice.new.self.items _ c.loop.room (c.loop.room - (c.len-in-loop.result + 6))
     c.loop.invariant c.in-Some.ensures.first c.deref.ensures.value c.in_ok-packed.ensures.packed c.in_ok-packed.ensures.short
     (c.in_ok-extend_from_slice.ensures.items ∙ ap (λ (l : List ℕ). c.loop.bytes.items ++ l) c.deref-in-loop.ensures.value) c.in-Some.ensures.short (omega (arith, c.len-in-loop.ensures, c.in-Some.ensures.short))

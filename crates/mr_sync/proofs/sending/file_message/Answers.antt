@@ -1,6 +1,12 @@
-use Rattle.std.proofs.Common.{ℕ, List, ◌+◌, ◌-◌, ◌++◌, take, drop, ap, ◌∙◌, arith}
-use Rattle.mr_sync.proofs.SendLaws.{goes_piece}
+use Rattle.std.proofs.Common.{◌≡◌, ◌<◌, ◌≤◌, ℕ, List, length, ◌+◌, ◌-◌, ◌++◌, take, drop, ap, subst, sym, ◌∙◌, arith}
+use Rattle.mr_talk.specs.Said.{Said}
+use Rattle.mr_talk.specs.declared.kind.Kind.{Kind}
+use Rattle.mr_talk.specs.declared.kind.Kind.TheVariants as kind
+use Rattle.mr_sync.specs.inner.Sending.{GoesOn, TellsNext}
 use Rattle.mr_sync.proofs.sending.file_message.Goals as goal
+
+goes_piece : (bytes : List ℕ) (told new : ℕ) (m : Said) → m.kind ≡ kind.Piece → told < new → new ≤ length bytes → m.bytes ≡ take (new - told) (drop told bytes) → GoesOn bytes told new m
+goes_piece bytes told new m e more within is = subst (λ (k : Kind). TellsNext k bytes told m.bytes new) (sym e) (more, within, is)
 
 pub returns-clause-goes_on : goal.returns-clause-goes_on
 returns-clause-goes_on c =

@@ -1,7 +1,7 @@
 use Rattle.std.proofs.Common.{◌≡◌, ◌++◌, length}
 use Rattle.std.specs.List.{AllByRecursion, flat_map}
 use Rattle.mr_sync.specs.Idle.{IsHellos, hellos_bytes}
-use Rattle.mr_sync.proofs.idle.hellos_in.Given as goal
+use Rattle.mr_sync.proofs.idle.read_hellos.Given as goal
 
 abbrev pub invariant-loop : goal.invariant-loop
 invariant-loop l = (l.fn.bytes ≡ flat_map hellos_bytes l.talks.items ++ l.rest) × AllByRecursion IsHellos l.talks.items × (length l.talks.items ≡ l.counter)
