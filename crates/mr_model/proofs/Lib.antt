@@ -16,7 +16,5 @@ pub mod Readings
 pub mod EarlierMoments
 pub mod Telling
 pub mod CheckSound
-pub mod RowsComputed
 pub mod RowsHold
-pub mod RefusalsComputed
 pub mod RefusalsHold
