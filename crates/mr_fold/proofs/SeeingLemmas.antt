@@ -1,5 +1,5 @@
 -- mails as they are seen in a scan, one after the other
-use Rattle.std.proofs.Common.{◌≡◌, ℕ, Bool, true, false, cond, List, [], ◌∷◌, ◌++◌, map, Option, Some, None, append_assoc, append-nil, refl, ap, sym, subst, ◌∙◌}
+use Rattle.std.proofs.Common.{◌≡◌, ℕ, Bool, true, false, cond, List, [], ◌∷◌, ◌++◌, map, Option, Some, append_assoc, append-nil, refl, ap, sym, subst, ◌∙◌}
 use Rattle.std.specs.BTreeMap.{BTreeMap, IsFromIterResult, IsOrdered}
 use Rattle.std.specs.Cmp.{eq_by_cmp_equiv}
 use Rattle.std.specs.Cmp.Lexicographic.{nat_list_cmp_total}
@@ -32,9 +32,6 @@ pub record SeenSoFar (all rest : List (List ℕ × Vec FileParts)) (views : List
   pub looked : List Looked
   pub are : all ≡ map entry_of looked ++ rest
   pub seen : views ≡ map seen_of looked
-
-pub none_seen : (all : List (List ℕ × Vec FileParts)) → SeenSoFar all all []
-none_seen all = record { looked = []; are = refl; seen = refl }
 
 -- one entry more
 pub seen_more : (all rest new_rest : List (List ℕ × Vec FileParts)) (views new_views : List (List ℕ × ViewParts)) (digest : List ℕ) (files : Vec FileParts) (left : Option ViewParts) → rest ≡ (digest, files) ∷ new_rest

@@ -1,7 +1,10 @@
 -- what a folder's journal has of a settling
-use Rattle.std.specs.Prelude.{◌≡◌, ◌≤◌, ◌*◌, ◌++◌, ◌∷◌, [], ℕ, Bool, true, IsTrue, List, length, map}
+use Rattle.std.specs.Prelude.{◌≡◌, ◌≤◌, ◌*◌, ◌⊎◌, ◌++◌, ◌∷◌, [], ℕ, true, IsTrue, List, length, map}
 use Rattle.std.specs.Global.{Vec}
+use Rattle.mr_journal.specs.Device.{LeavesOnly}
 use Rattle.mr_journal.specs.Format.{Stands}
+use Rattle.mr_journal.specs.Journal.{device_of}
+use Rattle.mr_journal.specs.declared.device.Device.{Ghosts as DeviceOf}
 use Rattle.mr_entry.specs.Events.{events_of}
 use Rattle.mr_entry.specs.Note.{NoteParts}
 use Rattle.mr_entry.specs.Spelling.{entry_bytes}
@@ -11,7 +14,7 @@ use Rattle.mr_itemset.specs.Normal.{Normal}
 use Rattle.mr_replica.specs.State.{State}
 use Rattle.mr_kept.specs.declared.journaled.Journaled.{Journaled}
 use Rattle.mr_kept.specs.Entries.{notes_of}
-use Rattle.mr_kept.specs.Kept.{IsKept, nothing_waits, notes_waiting, replica_of}
+use Rattle.mr_kept.specs.Kept.{IsKept, journal_of, nothing_waits, notes_waiting, replica_of}
 use Rattle.mr_compare.specs.declared.compare.MailAct.{MailAct}
 use Rattle.mr_compare.specs.declared.joining.ItemHeads.{ItemHeads}
 use Rattle.mr_fold.specs.declared.settling.TheConstants.{MAILS_AT_ONCE}
@@ -53,7 +56,7 @@ module _ {D V : Type 0} where
     pub notes : notes_of more ≡ notes_waiting old
 
   -- These mails are settled: what is told of them is kept, with the note that the whole feed is shown, but for the items that lack their file.
-  pub record Settles {F : Type 0} (seen : D → List ℕ) (may_leave : D → List ℕ → Type 0) (is_told : Bool) (are_synced : F → Type 0) (held : List (List ℕ × Vec ItemHeads)) (mails : List MailAct) (lacking : List Name) (old new : Journaled Normal D V) (files : F) : Type 0 where
+  pub record Settles {F : Type 0} (device : DeviceOf D) (are_synced : F → Type 0) (held : List (List ℕ × Vec ItemHeads)) (mails : List MailAct) (lacking : List Name) (old new : Journaled Normal D V) (files : F) : Type 0 where
     -- nothing waits for a commit any more
     pub all_kept : nothing_waits new ≡ true
     -- what was shown is on the disk
@@ -61,7 +64,13 @@ module _ {D V : Type 0} where
     -- the log grew by what is told of the mails, one after the other, and by nothing else
     pub told : Grows (TellsAll held mails) (replica_of old) (replica_of new)
     -- behind what it had the journal has the notes that waited, and last the one that the whole feed is shown, with all that is told in it
-    pub noted : IsTrue is_told → (entries : List Entry) → IsKept seen may_leave entries old → IsNoted seen may_leave entries (notes_waiting old) new lacking
+    pub noted : IsTrue device.is_told → (entries : List Entry) → IsKept device.seen device.may_leave entries old → IsNoted device.seen device.may_leave entries (notes_waiting old) new lacking
+
+module _ {D V F : Type 0} (device : DeviceOf D) (are_synced : F → Type 0) where
+  -- Unless what was shown is on the disk, what is told of these mails is kept, and no note of it is.
+  abbrev pub TellsFirst : (held : List (List ℕ × Vec ItemHeads)) (mails : List MailAct) (old new : Journaled Normal D V) (before now : F) → Type 0
+  TellsFirst held mails old new before now = IsTrue device.is_told → (entries : List Entry) → IsKept device.seen device.may_leave entries old
+      → (are_synced before → are_synced now) ⊎ IsToldFirst device.seen device.may_leave entries held mails old new
 
 -- Behind these entries the file has those of all events of the log that they lack, and of the notes that waited, then of some of how much of the
 -- feed was shown, and last of the note that all of it is, but for the items that lack their file.
@@ -103,3 +112,34 @@ pub record HasFirst (file : List ℕ) (entries : List Entry) (waiting : List Not
   pub then : State Normal
   pub told : Grows (TellsAll held first) old then
   pub has : HasShown file entries waiting then lacking
+
+-- ---- what a crash leaves: what the file adds to the entries that the journal had
+
+module _ {K D V : Type 0} (device : DeviceOf D) where
+  -- Of a device of which its clauses tell, and whatever entries the journal had: a crash at any moment from the old state to the new one leaves a file that
+  -- adds this to them.
+  abbrev pub Leaves : (old new : Journaled K D V) → ((old new : Journaled K D V) → List Entry → List ℕ → Type 0) → Type 0
+  Leaves old new Adds = IsTrue device.is_told → (entries : List Entry) → IsKept device.seen device.may_leave entries old
+      → LeavesOnly device.moment device.left_since (device_of (journal_of old)) (device_of (journal_of new)) (Adds old new entries)
+
+module _ {K D V : Type 0} (lacking : List Name) where
+  -- nothing, or all at once: what waited, what is told, and the note that it is shown
+  abbrev pub AddsAtOnce : (old new : Journaled K D V) → List Entry → List ℕ → Type 0
+  AddsAtOnce old new entries file = Stands (map entry_bytes entries) file ⊎ HasAll file entries old new (shown_note (length (replica_of new).feed) lacking)
+
+module _ {D V : Type 0} (held : List (List ℕ × Vec ItemHeads)) (lacking : List Name) where
+  -- Nothing; or what is told of the moved mails, and no note of it; or that and the note that they are shown, and so of some first ones of the others; or
+  -- all that the log has then, and that note.
+  abbrev pub AddsInTurn : (moved others : List MailAct) (old new : Journaled Normal D V) → List Entry → List ℕ → Type 0
+  AddsInTurn moved others old new entries file =
+      Stands (map entry_bytes entries) file
+      ⊎ (HasTold file entries (notes_waiting old) held moved (replica_of old)
+      ⊎ (HasBegun file entries (notes_waiting old) held moved others lacking (replica_of old)
+      ⊎ HasShown file entries (notes_waiting old) (replica_of new) lacking))
+
+  -- Nothing; or what is told of some first ones of these mails, so many whole parts; or all that the log has then; each with the note that it is shown.
+  abbrev pub AddsInParts : (mails : List MailAct) (old new : Journaled Normal D V) → List Entry → List ℕ → Type 0
+  AddsInParts mails old new entries file =
+      Stands (map entry_bytes entries) file
+      ⊎ (HasFirst file entries (notes_waiting old) held mails lacking (replica_of old)
+      ⊎ HasShown file entries (notes_waiting old) (replica_of new) lacking)

@@ -6,6 +6,7 @@ pub mod Lacking
 pub mod Released
 pub mod Resting
 pub mod Settings
+pub mod Settling
 pub mod Sizes
 pub mod Straying
 pub mod Taking

@@ -103,7 +103,7 @@ fn view_told(alloc: Global, event: &Event) -> Result<Option<View>, AllocError> {
 }
 
 /// The message of the version that the event tells, if it tells one.
-fn message_told(event: &Event) -> Option<&Message> {
+pub(crate) fn message_told(event: &Event) -> Option<&Message> {
     match event {
         Event::Create(message) => Some(message),
         Event::Edit(_, message) => Some(message),

@@ -1,5 +1,5 @@
 //! Files of deleted mail are let go.
-ghost use Rattle.std.specs.Prelude.{◌≡◌, ◌++◌, ◌∷◌, ◌||◌, [], ℕ, List, IfOk, OnOk, filter, if◌then◌else◌};
+ghost use Rattle.std.specs.Prelude.{◌≡◌, ◌++◌, ◌∷◌, ◌||◌, [], ℕ, List, IfOk, OnOk, count_by, filter, if◌then◌else◌};
 ghost use Rattle.std.specs.Cmp.Lexicographic.{slice_cmp};
 ghost use Rattle.std.specs.List.{list_any};
 ghost use Rattle.std.specs.List.Sorted.{IsPermutation, IsSorted};
@@ -53,7 +53,7 @@ pub fn expire_folder<R: Files<File = File> + AllocGlobal + Clone + Drop>(
     insert_all(&mut stays, spared)?;
     let gone = gone_among(alloc, &heads, &stays)?;
     let stored = stored_in(folder)?;
-    let expired = among(alloc, &stored, &gone)?.len() as u64;
+    let expired = count_among(&stored, &gone) as u64;
     let stays = sorted(alloc, &stays)?;
     match sweep(alloc, &mut folder.tree, &stays) {
         Ok(()) => Ok(expired),
@@ -95,6 +95,16 @@ fn among(
         push_if(&mut found, *digest, mails.contains(digest))?;
     }
     Ok(found)
+}
+
+/// How many of the digests are among these mails.
+fn count_among(digests: &[Digest], mails: &BTreeSet<Digest>) -> usize
+    ensures { result ≡ count_by (has_digest mails.now.keys) digests.now }
+{
+    digests
+        .iter()
+        .filter(|digest| mails.contains(*digest))
+        .count()
 }
 
 /// Appends the digest, if it is wanted.

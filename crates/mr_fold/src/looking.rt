@@ -120,13 +120,12 @@ pub fn settle_if_changed<R: Files<File = File> + AllocGlobal + Clone + Drop>(
     folder: &mut OpenFolder<R>,
     most: Option<usize>,
 ) -> Result<Settled, FoldFault> {
-    let listed = listed_in(folder)?;
-    let stand = stand_of(rt, root, folder, &listed.table);
+    let (listed, stand) = listed_and_stand(rt, root, folder)?;
     if rests(rt, root, &stand) {
         return Ok(at_rest(listed));
     }
-    let names = names_digest(folder.alloc, &folder.tree, listed.table.folders());
-    settle_and_note(rt, root, folder, listed, Before { stand, names }, most)
+    let before = with_names(folder, &listed, stand);
+    settle_and_note(rt, root, folder, listed, before, most)
 }
 
 /// As [`settle_if_changed`], but the names in the folders are listed too, and the sizes of the store's files are looked at, so that a file that was
@@ -138,10 +137,8 @@ pub fn settle_if_edited<R: Files<File = File> + AllocGlobal + Clone + Drop>(
     folder: &mut OpenFolder<R>,
     most: Option<usize>,
 ) -> Result<Settled, FoldFault> {
-    let listed = listed_in(folder)?;
-    let stand = stand_of(rt, root, folder, &listed.table);
-    let names = names_digest(folder.alloc, &folder.tree, listed.table.folders());
-    let before = Before { stand, names };
+    let (listed, stand) = listed_and_stand(rt, root, folder)?;
+    let before = with_names(folder, &listed, stand);
     if rests_whole(rt, root, &before) {
         return Ok(at_rest(listed));
     }
@@ -153,6 +150,27 @@ pub fn settle_if_edited<R: Files<File = File> + AllocGlobal + Clone + Drop>(
 struct Before {
     stand: Option<Stand>,
     names: Option<[u8; 32]>,
+}
+
+/// The folders that are there, and how the folder stands with them.
+fn listed_and_stand<R: Files<File = File> + AllocGlobal + Clone + Drop>(
+    rt: &R,
+    root: &str,
+    folder: &mut OpenFolder<R>,
+) -> Result<(Listed, Option<Stand>), FoldFault> {
+    let listed = listed_in(folder)?;
+    let stand = stand_of(rt, root, folder, &listed.table);
+    Ok((listed, stand))
+}
+
+/// How the folder stands, with a digest of the names in these folders.
+fn with_names<R: Files<File = File> + AllocGlobal + Clone + Drop>(
+    folder: &OpenFolder<R>,
+    listed: &Listed,
+    stand: Option<Stand>,
+) -> Before {
+    let names = names_digest(folder.alloc, &folder.tree, listed.table.folders());
+    Before { stand, names }
 }
 
 /// Nothing was done.
@@ -312,8 +330,7 @@ pub fn look_if_changed<R: Files<File = File> + AllocGlobal + Clone + Drop>(
     root: &str,
     folder: &mut OpenFolder<R>,
 ) -> Result<Looked, FoldFault> {
-    let listed = listed_in(folder)?;
-    let stand = stand_of(rt, root, folder, &listed.table);
+    let (listed, stand) = listed_and_stand(rt, root, folder)?;
     if rests(rt, root, &stand) {
         return Ok(Looked {
             acts: Vec::new(folder.alloc),

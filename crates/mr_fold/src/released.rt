@@ -4,6 +4,7 @@ ghost use Rattle.std.specs.Prelude.{◌≡◌};
 ghost use Rattle.std.specs.Option.{option_copied};
 ghost use Rattle.mr_fold.specs.inner.Released.{is_as_told};
 
+use crate::ancestors::message_told;
 use crate::sides::{has_all, view_seen};
 use mr_compare::{Digest, LeftMail};
 use mr_itemset::SparingKnowledge;
@@ -11,7 +12,6 @@ use mr_mail::Message;
 use mr_maildir::{View, read_reference};
 use mr_replica::{Event, Replica};
 use mr_scan::Scan;
-use mr_wire::{Body, Frame};
 use std::alloc::{AllocError, Global};
 use std::collections::{BTreeMap, BTreeSet};
 
@@ -57,24 +57,11 @@ fn last_told(
 ) -> Result<BTreeMap<Digest, View>, AllocError> {
     let mut told = BTreeMap::new(alloc);
     for event in log {
-        if let Some(message) = message_of(event) {
+        if let Some(message) = message_told(event) {
             note(alloc, &mut told, asked, message)?;
         }
     }
     Ok(told)
-}
-
-/// The message that an event tells, if it tells one.
-fn message_of(event: &Event) -> Option<&Message> {
-    match event {
-        Event::Create(message) => Some(message),
-        Event::Edit(_, message) => Some(message),
-        Event::Receive(Frame::Record(record)) => match record.body() {
-            Body::Item(revision) => Some(revision.message()),
-            _ => None,
-        },
-        _ => None,
-    }
 }
 
 /// Notes how the message has its mail stand, if that is one of these.

@@ -120,6 +120,19 @@ fn sight_once(alloc: Global, once: SeenOnce) -> Result<Sight, AllocError> {
     sight_of(alloc, sides, scan, acts, edited, sizes)
 }
 
+/// What is known where a second scan has to say it too.
+#[derive(Drop)]
+struct Halfway {
+    index: Index,
+    /// The mails that were edited in place.
+    edited: Vec<Digest>,
+    /// What the first scan says.
+    sides: Sides,
+    /// It, without the files that it saw.
+    first: Scan,
+    held: HeldSide,
+}
+
 /// What was seen at the second scan, and what both say.
 #[derive(Drop)]
 struct SeenTwice {
@@ -137,29 +150,44 @@ fn seen_twice<R: Files<File = File> + AllocGlobal + Clone + Drop>(
     mails: Vec<HeldMail>,
     most: Option<usize>,
 ) -> Result<Sight, FoldFault> {
-    let SeenOnce {
+    let sizes = sizes_of(alloc, &once.index, &once.scan)?;
+    let Halfway {
         mut index,
+        edited,
+        sides,
+        first,
+        held,
+    } = found_so_far(alloc, replica, once, mails)?;
+    let twice = scanned_again(alloc, tree, table, &mut index, sides, held, &first, most)?;
+    drop(index);
+    let SeenTwice { scan, decided } = twice;
+    let Decided { sides, acts, .. } = decided;
+    Ok(sight_of(alloc, sides, scan, acts, edited, sizes)?)
+}
+
+/// What the first scan says of all mails, and the items that are held of them. The files that it saw are let go before these are in memory.
+fn found_so_far(
+    alloc: Global,
+    replica: &Replica<SparingKnowledge>,
+    once: SeenOnce,
+    mails: Vec<HeldMail>,
+) -> Result<Halfway, AllocError> {
+    let SeenOnce {
+        index,
         edited,
         scan,
         look,
     } = once;
-    let sizes = sizes_of(alloc, &index, &scan);
-    let sides = sides_once(alloc, look, &mails, &scan, &index);
+    let sides = sides_once(alloc, look, &mails, &scan, &index)?;
     let first = without_mails(alloc, scan);
-    let held = held_with(alloc, replica, mails);
-    let twice = scanned_again(alloc, tree, table, &mut index, sides, held, &first, most);
-    drop(index);
-    sight_twice(alloc, twice, edited, sizes)
-}
-
-/// The mails, with the items that are held of them.
-fn held_with(
-    alloc: Global,
-    replica: &Replica<SparingKnowledge>,
-    mails: Vec<HeldMail>,
-) -> Result<HeldSide, AllocError> {
     let items = held_items(alloc, replica)?;
-    Ok(HeldSide { items, mails })
+    Ok(Halfway {
+        index,
+        edited,
+        sides,
+        first,
+        held: HeldSide { items, mails },
+    })
 }
 
 /// Scans the folders once more, of which the first scan says this, and finds what is done for what both scans say.
@@ -168,30 +196,15 @@ fn scanned_again<R: Files<File = File> + AllocGlobal + Clone + Drop>(
     tree: &mut DiskTree<R>,
     table: &FolderTable,
     index: &mut Index,
-    sides: Result<Sides, AllocError>,
-    held: Result<HeldSide, AllocError>,
+    sides: Sides,
+    held: HeldSide,
     first: &Scan,
     most: Option<usize>,
 ) -> Result<SeenTwice, FoldFault> {
-    let sides = sides?;
-    let held = held?;
     let scan = scanned(alloc, tree, table, index)?;
     let decided = decide(alloc, sides, &held, first, &scan, index)?;
     check_allowed(alloc, tree, table, index, &held, &decided, most)?;
     Ok(SeenTwice { scan, decided })
-}
-
-/// What was seen at two scans, and what is done for it.
-fn sight_twice(
-    alloc: Global,
-    twice: Result<SeenTwice, FoldFault>,
-    edited: Vec<Digest>,
-    sizes: Result<Option<Vec<(u64, u64)>>, AllocError>,
-) -> Result<Sight, FoldFault> {
-    let sizes = sizes?;
-    let SeenTwice { scan, decided } = twice?;
-    let Decided { sides, acts, .. } = decided;
-    Ok(sight_of(alloc, sides, scan, acts, edited, sizes)?)
 }
 
 /// What the first scan says of all mails.

@@ -1,14 +1,11 @@
 //! Brings a Maildir and its replica together: what the user changed is told, and what was changed elsewhere is shown.
-ghost use Rattle.std.specs.Prelude.{◌≡◌, ◌<◌, ◌^◌, ◌++◌, ◌⊎◌, [], All, IsTrue, List, true, length, map, OnErr, OnOk};
-ghost use Rattle.mr_journal.specs.Device.{LeavesOnly};
-ghost use Rattle.mr_journal.specs.Format.{Stands};
-ghost use Rattle.mr_journal.specs.Journal.{device_of};
-ghost use Rattle.mr_entry.specs.Spelling.{entry_bytes};
+ghost use Rattle.std.specs.Prelude.{◌≡◌, ◌<◌, ◌^◌, ◌++◌, ◌⊎◌, [], All, IsTrue, List, true, length, OnErr, OnOk};
 ghost use Rattle.mr_entry.specs.declared.entry.Entry.{Entry};
-ghost use Rattle.mr_kept.specs.Kept.{IsKept, Noted, entries_waiting, journal_of, nothing_waits, notes_waiting, replica_of};
+ghost use Rattle.mr_kept.specs.Kept.{IsKept, Noted, entries_waiting, journal_of, nothing_waits, replica_of};
 ghost use Rattle.mr_compare.specs.declared.compare.MailAct.{MailAct};
-ghost use Rattle.mr_fold.specs.Settling.{HasAll, HasBegun, HasFirst, HasShown, HasTold, IsToldFirst, Settles, Stay};
+ghost use Rattle.mr_fold.specs.Settling.{AddsAtOnce, AddsInParts, AddsInTurn, Leaves, Settles, Stay, TellsFirst};
 ghost use Rattle.mr_fold.specs.Shown.{shown_note};
+ghost use Rattle.mr_fold.specs.inner.Settling.{AddsToldFirst, AddsWaiting};
 
 use crate::fault::SettleFault;
 use crate::shown::note_shown;
@@ -75,23 +72,15 @@ pub fn settle<D: Device + Drop, F: MailFiles>(
     requires { length lacking.now < 2 ^ 32 }
     // Nothing waits, what was shown is on the disk, the log grew by what is told of the mails and by nothing else, and behind the notes that waited
     // the journal has the note that the whole feed is shown, with all that is told in it.
-    ensures settles { OnOk result (Settles D.seen D.may_leave D.is_told F.are_synced held.now.entries (moved.now ++ standing.now) lacking.now kept.old kept.new files.new) }
-    // Where no file has to be moved, a crash at any moment leaves the journal's entries from before, or those and all at once: what waited,
-    // what is told, and the note that it is shown.
-    ensures at_once { moved.now ≡ [] → IsTrue D.is_told → (entries : List Entry) → IsKept D.seen D.may_leave entries kept.old
-        → LeavesOnly D.moment D.left_since (device_of (journal_of kept.old)) (device_of (journal_of kept.new))
-        (λ c. Stands (map entry_bytes entries) c ⊎ HasAll c entries kept.old kept.new (shown_note (length (replica_of kept.new).feed) lacking.now)) }
-    // Where files have to be moved, a crash at any moment leaves the entries from before; or those and behind them what is told of these mails, and no note
-    // of it; or that and the note that they are shown, and so of some first ones of the others; or all that the log has now, and that note.
-    ensures moments { IsTrue D.is_told → (entries : List Entry) → IsKept D.seen D.may_leave entries kept.old
-        → LeavesOnly D.moment D.left_since (device_of (journal_of kept.old)) (device_of (journal_of kept.new))
-        (λ c. Stands (map entry_bytes entries) c ⊎ (HasTold c entries (notes_waiting kept.old) held.now.entries moved.now (replica_of kept.old) ⊎ (HasBegun c entries (notes_waiting kept.old) held.now.entries moved.now standing.now lacking.now (replica_of kept.old) ⊎ HasShown c entries (notes_waiting kept.old) (replica_of kept.new) lacking.now))) }
+    ensures settles { OnOk result (Settles D.Device F.are_synced held.now.entries (moved.now ++ standing.now) lacking.now kept.old kept.new files.new) }
+    // Where no file has to be moved, a crash at any moment leaves nothing of it in the journal, or all at once.
+    ensures at_once { moved.now ≡ [] → Leaves D.Device kept.old kept.new (AddsAtOnce lacking.now) }
+    // Where files have to be moved, what is told of these mails comes first, then the note that they are shown, and then the others.
+    ensures moments { Leaves D.Device kept.old kept.new (AddsInTurn held.now.entries lacking.now moved.now standing.now) }
     // Each mail for which files have to be moved is shown.
     ensures shown { OnOk result (All (F.is_shown files.new) moved.now) }
-    // Unless what was shown is on the disk, what is told of these mails is kept, and no note of it is. The call that shows a mail may fail each time, so
-    // this holds at each moment at which files are moved.
-    ensures told_first { IsTrue D.is_told → (entries : List Entry) → IsKept D.seen D.may_leave entries kept.old
-        → (F.are_synced files.old → F.are_synced files.new) ⊎ IsToldFirst D.seen D.may_leave entries held.now.entries moved.now kept.old kept.new }
+    // What is told of them is kept before one is. The call that shows a mail may fail each time, so this holds at each moment at which files are moved.
+    ensures told_first { TellsFirst D.Device F.are_synced held.now.entries moved.now kept.old kept.new files.old files.new }
     // Where no file has to be moved, none is.
     ensures stay { moved.now ≡ [] → Stay F.are_synced F.is_shown files.old files.new }
 {
@@ -120,23 +109,13 @@ pub fn settle_in_parts<D: Device + Drop, F: MailFiles>(
     lacking: &[ItemId],
 ) -> Result<(), SettleFault>
     requires { length lacking.now < 2 ^ 32 }
-    ensures settles { OnOk result (Settles D.seen D.may_leave D.is_told F.are_synced held.now.entries (moved.now ++ standing.now) lacking.now kept.old kept.new files.new) }
-    // Where no file has to be moved, a crash at any moment leaves the journal's entries from before; or those, and behind them what is told of some first
-    // ones of the mails, so many whole parts, or all that the log has now, with the notes that waited and the note that it is shown.
-    ensures in_parts { moved.now ≡ [] → IsTrue D.is_told → (entries : List Entry) → IsKept D.seen D.may_leave entries kept.old
-        → LeavesOnly D.moment D.left_since (device_of (journal_of kept.old)) (device_of (journal_of kept.new))
-        (λ c. Stands (map entry_bytes entries) c ⊎ (HasFirst c entries (notes_waiting kept.old) held.now.entries standing.now lacking.now (replica_of kept.old) ⊎ HasShown c entries (notes_waiting kept.old) (replica_of kept.new) lacking.now)) }
-    // Where files have to be moved, a crash at any moment leaves the entries from before; or those and behind them what is told of these mails, and no note
-    // of it; or that and the note that they are shown, and so of some first ones of the others; or all that the log has now, and that note.
-    ensures moments { IsTrue D.is_told → (entries : List Entry) → IsKept D.seen D.may_leave entries kept.old
-        → LeavesOnly D.moment D.left_since (device_of (journal_of kept.old)) (device_of (journal_of kept.new))
-        (λ c. Stands (map entry_bytes entries) c ⊎ (HasTold c entries (notes_waiting kept.old) held.now.entries moved.now (replica_of kept.old) ⊎ (HasBegun c entries (notes_waiting kept.old) held.now.entries moved.now standing.now lacking.now (replica_of kept.old) ⊎ HasShown c entries (notes_waiting kept.old) (replica_of kept.new) lacking.now))) }
-    // Each mail for which files have to be moved is shown.
+    ensures settles { OnOk result (Settles D.Device F.are_synced held.now.entries (moved.now ++ standing.now) lacking.now kept.old kept.new files.new) }
+    // Where no file has to be moved, a crash at any moment leaves nothing of it in the journal, some first parts, each of them whole, or all.
+    ensures in_parts { moved.now ≡ [] → Leaves D.Device kept.old kept.new (AddsInParts held.now.entries lacking.now standing.now) }
+    // The others are those of `settle`.
+    ensures moments { Leaves D.Device kept.old kept.new (AddsInTurn held.now.entries lacking.now moved.now standing.now) }
     ensures shown { OnOk result (All (F.is_shown files.new) moved.now) }
-    // Unless what was shown is on the disk, what is told of these mails is kept, and no note of it is. The call that shows a mail may fail each time, so
-    // this holds at each moment at which files are moved.
-    ensures told_first { IsTrue D.is_told → (entries : List Entry) → IsKept D.seen D.may_leave entries kept.old
-        → (F.are_synced files.old → F.are_synced files.new) ⊎ IsToldFirst D.seen D.may_leave entries held.now.entries moved.now kept.old kept.new }
+    ensures told_first { TellsFirst D.Device F.are_synced held.now.entries moved.now kept.old kept.new files.old files.new }
 {
     let (first, after) = standing.split_at(standing.len().min(MAILS_AT_ONCE));
     settle(alloc, kept, files, moved, first, held, lacking)?;
@@ -160,13 +139,10 @@ fn settle_moved<D: Device + Drop, F: MailFiles>(
     lacking: &[ItemId],
 ) -> Result<(), SettleFault>
     requires { length lacking.now < 2 ^ 32 }
-    ensures settles { OnOk result (Settles D.seen D.may_leave D.is_told F.are_synced held.now.entries moved.now lacking.now kept.old kept.new files.new) }
-    ensures moments { IsTrue D.is_told → (entries : List Entry) → IsKept D.seen D.may_leave entries kept.old
-        → LeavesOnly D.moment D.left_since (device_of (journal_of kept.old)) (device_of (journal_of kept.new))
-        (λ c. Stands (map entry_bytes entries) c ⊎ (HasTold c entries (notes_waiting kept.old) held.now.entries moved.now (replica_of kept.old) ⊎ HasShown c entries (notes_waiting kept.old) (replica_of kept.new) lacking.now)) }
+    ensures settles { OnOk result (Settles D.Device F.are_synced held.now.entries moved.now lacking.now kept.old kept.new files.new) }
+    ensures moments { Leaves D.Device kept.old kept.new (AddsToldFirst held.now.entries lacking.now moved.now) }
     ensures shown { OnOk result (All (F.is_shown files.new) moved.now) }
-    ensures told_first { IsTrue D.is_told → (entries : List Entry) → IsKept D.seen D.may_leave entries kept.old
-        → (F.are_synced files.old → F.are_synced files.new) ⊎ IsToldFirst D.seen D.may_leave entries held.now.entries moved.now kept.old kept.new }
+    ensures told_first { TellsFirst D.Device F.are_synced held.now.entries moved.now kept.old kept.new files.old files.new }
 {
     tell(alloc, kept, files, moved, held)?;
     commit(kept)?;
@@ -186,10 +162,8 @@ fn settle_standing<D: Device + Drop, F: MailFiles>(
     lacking: &[ItemId],
 ) -> Result<(), SettleFault>
     requires { length lacking.now < 2 ^ 32 }
-    ensures settles { OnOk result (Settles D.seen D.may_leave D.is_told F.are_synced held.now.entries standing.now lacking.now kept.old kept.new files.new) }
-    ensures at_once { IsTrue D.is_told → (entries : List Entry) → IsKept D.seen D.may_leave entries kept.old
-        → LeavesOnly D.moment D.left_since (device_of (journal_of kept.old)) (device_of (journal_of kept.new))
-        (λ c. Stands (map entry_bytes entries) c ⊎ HasAll c entries kept.old kept.new (shown_note (length (replica_of kept.new).feed) lacking.now)) }
+    ensures settles { OnOk result (Settles D.Device F.are_synced held.now.entries standing.now lacking.now kept.old kept.new files.new) }
+    ensures at_once { Leaves D.Device kept.old kept.new (AddsAtOnce lacking.now) }
     ensures stay { Stay F.are_synced F.is_shown files.old files.new }
 {
     tell(alloc, kept, files, standing, held)?;
@@ -201,9 +175,7 @@ fn settle_standing<D: Device + Drop, F: MailFiles>(
 fn commit<D: Device + Drop>(kept: &mut Journaled<SparingKnowledge, D>) -> Result<(), SettleFault>
     ensures all_kept { OnOk result (nothing_waits kept.new ≡ true) }
     ensures replica { replica_of kept.new ≡ replica_of kept.old }
-    ensures any_moment { IsTrue D.is_told → (entries : List Entry) → IsKept D.seen D.may_leave entries kept.old
-        → LeavesOnly D.moment D.left_since (device_of (journal_of kept.old)) (device_of (journal_of kept.new))
-        (λ c. Stands (map entry_bytes entries) c ⊎ Stands (map entry_bytes (entries ++ entries_waiting kept.old)) c) }
+    ensures any_moment { Leaves D.Device kept.old kept.new AddsWaiting }
     ensures kept { IsTrue D.is_told → (entries : List Entry) → IsKept D.seen D.may_leave entries kept.old
         → OnOk result (IsKept D.seen D.may_leave (entries ++ entries_waiting kept.old) kept.new) }
 {

@@ -39,10 +39,3 @@ pub record Says (stored : List Stored) (mails : List HeldMail) (left : BTreeMap 
   pub left_are : sides.left ≡ left
   pub seen : AreSeen scan.mails.entries sides.seen.entries
   pub missing : AreMissing stored mails sides
-
--- the sides tell nothing else than before, but for how mails are seen
-pub record SeesOnly (old new : Sides) : Type 0 where
-  pub left_are : new.left ≡ old.left
-  pub before : new.seen_before ≡ old.seen_before
-  pub quiet : new.are_quiet ≡ old.are_quiet
-  pub lacking_are : new.lacking ≡ old.lacking

@@ -1,11 +1,7 @@
-use Rattle.std.proofs.Common.{[], ◌++◌, List, append-nil, inl, refl, subst, sym, ◌∙◌}
+use Rattle.std.proofs.Common.{[], inl, refl, sym, ◌∙◌}
 use Rattle.std.proofs.lemmas.List.Elements.{All-nil, All-same}
 use Rattle.std.proofs.lemmas.Result.{on_ok_weaker}
-use Rattle.mr_journal.proofs.Moments.{widened}
-use Rattle.mr_kept.specs.Kept.{replica_of}
-use Rattle.mr_compare.specs.declared.compare.MailAct.{MailAct}
-use Rattle.mr_fold.specs.Telling.{Grows, TellsAll}
-use Rattle.mr_fold.proofs.MovingLemmas.{MayBegin, begins, begins_at_once, begun_then}
+use Rattle.mr_fold.proofs.MovingLemmas.{begins, begins_at_once, begun_then}
 use Rattle.mr_fold.proofs.SettlingLemmas.{all_stay, none_from, settles_alone, settles_first, settles_then, some_from}
 use Rattle.mr_fold.proofs.settling.settle.Goals as goal
 
@@ -14,6 +10,10 @@ returns-then-is_empty-clause-settles g c =
     on_ok_weaker c.settle_standing.result
     (settles_alone c.args.moved.now c.args.standing.now c.args.kept.now c.settle_standing.new.kept c.settle_standing.new.files (none_from c.args.moved.now (sym c.is_empty.ensures ∙ c.if-is_empty.true)))
     c.settle_standing.ensures.settles
+
+pub returns-then-is_empty-clause-moments : goal.returns-then-is_empty-clause-moments
+returns-then-is_empty-clause-moments g c = λ told entries kept.
+    begins_at_once c.args.held.now.entries c.args.lacking.now c.args.moved.now c.args.standing.now c.args.kept.now c.settle_standing.new.kept entries (c.settle_standing.ensures.at_once told entries kept)
 
 pub returns-then-is_empty-clause-shown : goal.returns-then-is_empty-clause-shown
 returns-then-is_empty-clause-shown g c =
@@ -26,6 +26,10 @@ returns-then-is_empty-clause-told_first g c = λ told entries kept. inl c.settle
 pub returns-in_err-settle_moved-clause-at_once : goal.returns-in_err-settle_moved-clause-at_once
 returns-in_err-settle_moved-clause-at_once g c = λ none. absurd (some_from c.args.moved.now (sym c.is_empty.ensures ∙ c.if-is_empty.false) none)
 
+pub returns-in_err-settle_moved-clause-moments : goal.returns-in_err-settle_moved-clause-moments
+returns-in_err-settle_moved-clause-moments g c = λ told entries kept.
+    begins c.args.held.now.entries c.args.lacking.now c.args.moved.now c.args.standing.now c.args.kept.now c.settle_moved.new.kept entries (c.settle_moved.ensures.moments told entries kept)
+
 pub returns-in_err-settle_moved-clause-stay : goal.returns-in_err-settle_moved-clause-stay
 returns-in_err-settle_moved-clause-stay g c = λ none. absurd (some_from c.args.moved.now (sym c.is_empty.ensures ∙ c.if-is_empty.false) none)
 
@@ -35,6 +39,10 @@ returns-then-is_empty-2-clause-settles g c =
 
 pub returns-then-is_empty-2-clause-at_once : goal.returns-then-is_empty-2-clause-at_once
 returns-then-is_empty-2-clause-at_once g c = λ none. absurd (some_from c.args.moved.now (sym c.is_empty.ensures ∙ c.if-is_empty.false) none)
+
+pub returns-then-is_empty-2-clause-moments : goal.returns-then-is_empty-2-clause-moments
+returns-then-is_empty-2-clause-moments g c = λ told entries kept.
+    begins c.args.held.now.entries c.args.lacking.now c.args.moved.now c.args.standing.now c.args.kept.now c.settle_moved.new.kept entries (c.settle_moved.ensures.moments told entries kept)
 
 pub returns-then-is_empty-2-clause-stay : goal.returns-then-is_empty-2-clause-stay
 returns-then-is_empty-2-clause-stay g c = λ none. absurd (some_from c.args.moved.now (sym c.is_empty.ensures ∙ c.if-is_empty.false) none)
@@ -48,6 +56,15 @@ returns-clause-settles g c =
 pub returns-clause-at_once : goal.returns-clause-at_once
 returns-clause-at_once g c = λ none. absurd (some_from c.args.moved.now (sym c.is_empty.ensures ∙ c.if-is_empty.false) none)
 
+pub returns-clause-moments : goal.returns-clause-moments
+returns-clause-moments g c =
+    let old = c.args.kept.now in
+    let mid = c.settle_moved.new.kept in
+    begun_then c.args.moved.now c.args.standing.now [] c.args.standing.now old mid c.settle_standing-2.new.kept c.settle_moved.new.files refl
+    (settles_first c.args.moved.now [] old mid c.settle_moved.new.files refl c.in_ok-settle_moved.ensures.settles)
+    (λ told entries kept. begins c.args.held.now.entries c.args.lacking.now c.args.moved.now c.args.standing.now old mid entries (c.settle_moved.ensures.moments told entries kept))
+    c.settle_standing-2.ensures.at_once
+
 pub returns-clause-shown : goal.returns-clause-shown
 returns-clause-shown g c =
     on_ok_weaker c.settle_standing-2.result
@@ -59,28 +76,3 @@ returns-clause-told_first g c = λ told entries kept. inl (λ _. c.settle_standi
 
 pub returns-clause-stay : goal.returns-clause-stay
 returns-clause-stay g c = λ none. absurd (some_from c.args.moved.now (sym c.is_empty.ensures ∙ c.if-is_empty.false) none)
-
-pub returns-then-is_empty-clause-moments : goal.returns-then-is_empty-clause-moments
-returns-then-is_empty-clause-moments g c = λ told entries kept.
-    let new = c.settle_standing.new.kept in
-    widened (MayBegin c.args.held.now.entries c.args.lacking.now entries c.args.moved.now c.args.standing.now c.args.kept.now new) (c.settle_standing.ensures.at_once told entries kept) (begins_at_once c.args.held.now.entries c.args.lacking.now entries c.args.moved.now c.args.standing.now c.args.kept.now new)
-
-pub returns-in_err-settle_moved-clause-moments : goal.returns-in_err-settle_moved-clause-moments
-returns-in_err-settle_moved-clause-moments g c = λ told entries kept.
-    let new = c.settle_moved.new.kept in
-    widened (MayBegin c.args.held.now.entries c.args.lacking.now entries c.args.moved.now c.args.standing.now c.args.kept.now new) (c.settle_moved.ensures.moments told entries kept) (begins c.args.held.now.entries c.args.lacking.now entries c.args.moved.now c.args.standing.now c.args.kept.now new)
-
-pub returns-then-is_empty-2-clause-moments : goal.returns-then-is_empty-2-clause-moments
-returns-then-is_empty-2-clause-moments g c = λ told entries kept.
-    let new = c.settle_moved.new.kept in
-    widened (MayBegin c.args.held.now.entries c.args.lacking.now entries c.args.moved.now c.args.standing.now c.args.kept.now new) (c.settle_moved.ensures.moments told entries kept) (begins c.args.held.now.entries c.args.lacking.now entries c.args.moved.now c.args.standing.now c.args.kept.now new)
-
-pub returns-clause-moments : goal.returns-clause-moments
-returns-clause-moments g c = λ told entries kept.
-    let mid = c.settle_moved.new.kept in
-    let settled = c.in_ok-settle_moved.ensures.settles in
-    let first = settled.noted told entries kept in
-    begun_then c.args.held.now.entries c.args.lacking.now entries c.args.moved.now c.args.standing.now [] c.args.standing.now c.args.kept.now mid c.settle_standing-2.new.kept refl
-    (subst (λ (acts : List MailAct). Grows (TellsAll c.args.held.now.entries acts) (replica_of c.args.kept.now) (replica_of mid)) (sym (append-nil c.args.moved.now)) settled.told) settled.all_kept first
-    (widened (MayBegin c.args.held.now.entries c.args.lacking.now entries c.args.moved.now c.args.standing.now c.args.kept.now mid) (c.settle_moved.ensures.moments told entries kept) (begins c.args.held.now.entries c.args.lacking.now entries c.args.moved.now c.args.standing.now c.args.kept.now mid))
-    (c.settle_standing-2.ensures.at_once told (entries ++ first.more) first.kept)
