@@ -1,4 +1,5 @@
 -- lemmas
+pub mod ListLemmas
 pub mod HighestLemmas
 pub mod DigestLemmas
 pub mod ToldLemmas

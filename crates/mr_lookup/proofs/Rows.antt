@@ -1,6 +1,6 @@
 -- worked rows that take a proof
-use Rattle.std.proofs.Common.{◌≡◌, ◌≤◌, ℕ, List, [], ◌∷◌, ◌++◌, Some, refl, ap, subst, ◌∙◌, arith}
-use Rattle.std.specs.Prelude.{◌≢◌}
+use Rattle.std.proofs.Common.{◌≡◌, ◌≤◌, ℕ, List, [], ◌∷◌, ◌++◌, Some, get_or, append_assoc, append-nil, refl, ap, sym, subst, arith}
+use Rattle.std.specs.Prelude.{◌≢◌, count_by}
 use Rattle.mr_version.specs.Name.{Name}
 use Rattle.mr_mail.specs.Mail.{Mail}
 use Rattle.mr_wire.specs.declared.frame.Body.TheVariants.{Item}
@@ -8,9 +8,10 @@ use Rattle.mr_wire.specs.declared.frame.Frame.TheVariants.{Record}
 use Rattle.mr_wire.specs.declared.frame.Header.{Header}
 use Rattle.mr_replica.specs.declared.event.Event.{Event}
 use Rattle.mr_replica.specs.declared.event.Event.TheVariants.{Create, Edit, Receive}
-use Rattle.mr_lookup.specs.History.{IsHistory, TellsOf, TellsOf.created, TellsOf.edited, TellsOf.received, TellsVersion}
+use Rattle.mr_lookup.specs.History.{IsHistory, issues}
+use Rattle.mr_lookup.specs.inner.History.{told_more}
 use Rattle.mr_lookup.specs.Versions.{IsNewest, version_told_by}
-use Rattle.mr_lookup.proofs.HistoryLemmas.{finds, history_is, none_yet, same_pair}
+use Rattle.mr_lookup.proofs.HistoryLemmas.{none_yet, one_event, one_history}
 use Rattle.mr_lookup.proofs.VersionLemmas.{found}
 
 abbrev name : (author counter : ℕ) → Name
@@ -26,51 +27,72 @@ older_row m n h = let most : 2 ≤ 1 = h.newest (name 5 2) n refl refl in omega 
 
 -- ---- the past of an item
 
+-- an Item of this version of the item 0.1 was received
+abbrev got : Header → (author counter : ℕ) → Mail → Event
+got h author counter message = Receive (Record (record { header = h; body = Item (record { item = name 0 1; version = name author counter; below = []; message = message }) }))
+
+-- what is found in more events, one after the other
+abbrev found_in : (id : ℕ) (item : Name) (es : List Event) (past : List (Name × Mail)) → (more : List Event) → List (Name × Mail)
+found_in id item es past [] = past
+found_in id item es past (e ∷ more) = found_in id item (es ++ e ∷ []) (told_more item past e (version_told_by id (count_by issues es) e)) more
+
+-- is the history of all
+all_found : (id : ℕ) (item : Name) (es : List Event) (past : List (Name × Mail)) → IsHistory id item es past → (more : List Event) → IsHistory id item (es ++ more) (found_in id item es past more)
+all_found id item es past so_far [] = subst (λ (l : List Event). IsHistory id item l past) (sym (append-nil es)) so_far
+all_found id item es past so_far (e ∷ more) =
+    subst (λ (l : List Event). IsHistory id item l (found_in id item es past (e ∷ more))) (append_assoc es (e ∷ []) more)
+    (all_found id item (es ++ e ∷ []) (told_more item past e (version_told_by id (count_by issues es) e)) (one_event id item es past so_far e) more)
+
+found_from_none : (id : ℕ) (item : Name) (log : List Event) → IsHistory id item log (found_in id item [] [] log)
+found_from_none id item log = all_found id item [] [] (none_yet id item) log
+
+-- replica 0 makes 0.1 and changes it to 0.2, takes 1.1 of that item, and merges the two to 0.4; 0.3 is another item
+merged_row : (h : Header) (m n : Mail) → IsHistory 0 (name 0 1) (Create m ∷ Edit (name 0 1 ∷ []) n ∷ Create n ∷ got h 1 1 m ∷ Edit (name 1 1 ∷ name 0 2 ∷ []) n ∷ [])
+    ((name 0 1, m) ∷ (name 0 2, n) ∷ (name 1 1, m) ∷ (name 0 4, n) ∷ [])
+merged_row h m n = found_from_none 0 (name 0 1) (Create m ∷ Edit (name 0 1 ∷ []) n ∷ Create n ∷ got h 1 1 m ∷ Edit (name 1 1 ∷ name 0 2 ∷ []) n ∷ [])
+
+-- and of that one there is no other version
+other_item_row : (h : Header) (m n : Mail) → IsHistory 0 (name 0 3) (Create m ∷ Edit (name 0 1 ∷ []) n ∷ Create n ∷ got h 1 1 m ∷ []) ((name 0 3, n) ∷ [])
+other_item_row h m n = found_from_none 0 (name 0 3) (Create m ∷ Edit (name 0 1 ∷ []) n ∷ Create n ∷ got h 1 1 m ∷ [])
+
+-- a version that is received again stands once, with its first message
+again_row : (h : Header) (m n : Mail) → IsHistory 0 (name 0 1) (got h 1 1 m ∷ got h 1 2 n ∷ got h 1 1 n ∷ []) ((name 1 1, m) ∷ (name 1 2, n) ∷ [])
+again_row h m n = found_from_none 0 (name 0 1) (got h 1 1 m ∷ got h 1 2 n ∷ got h 1 1 n ∷ [])
+
+-- nothing was told of the item
+no_past_row : (m n : Mail) → IsHistory 5 (name 0 1) (Create m ∷ Edit (name 5 1 ∷ []) n ∷ []) []
+no_past_row m n = found_from_none 5 (name 0 1) (Create m ∷ Edit (name 5 1 ∷ []) n ∷ [])
+
 -- replica 0 makes 0.1 and changes it to 0.2
 abbrev two : (m n : Mail) → List Event
 two m n = Create m ∷ Edit (name 0 1 ∷ []) n ∷ []
 
--- those are the item's versions
+-- those are the item's versions,
 past_row : (m n : Mail) → IsHistory 0 (name 0 1) (two m n) ((name 0 1, m) ∷ (name 0 2, n) ∷ [])
-past_row m n = history_is 0 (name 0 1) (two m n)
+past_row m n = found_from_none 0 (name 0 1) (two m n)
+
+-- and no other list is its history
+only_row : (m n : Mail) (told : List (Name × Mail)) → IsHistory 0 (name 0 1) (two m n) told → told ≡ (name 0 1, m) ∷ (name 0 2, n) ∷ []
+only_row m n told is = one_history 0 (name 0 1) (two m n) told ((name 0 1, m) ∷ (name 0 2, n) ∷ []) is (past_row m n)
 
 -- one of them alone is not all,
 short_row : (m n : Mail) → ¬ IsHistory 0 (name 0 1) (two m n) ((name 0 1, m) ∷ [])
-short_row m n is = absurd (
-    let told = is.all (name 0 2) (record { before = Create m ∷ []; event = Edit (name 0 1 ∷ []) n; after = []; message = n; is_split = refl; tells = edited [] [] (Create m) (name 0 1) m (created refl) refl }) in
-    cc
-    )
+short_row m n is = let only = only_row m n ((name 0 1, m) ∷ []) is in cc
 
 -- one stands once,
 twice_row : (m n : Mail) → ¬ IsHistory 0 (name 0 1) (two m n) ((name 0 1, m) ∷ (name 0 1, m) ∷ (name 0 2, n) ∷ [])
-twice_row m n is = is.once 0 1 (name 0 1, m) (omega arith) (omega arith) refl
+twice_row m n is = let only = only_row m n ((name 0 1, m) ∷ (name 0 1, m) ∷ (name 0 2, n) ∷ []) is in cc
 
--- and 0.2 not before 0.1, which each beginning tells that is not empty
+-- and 0.2 not before 0.1
 swapped_row : (m n : Mail) → ¬ IsHistory 0 (name 0 1) (two m n) ((name 0 2, n) ∷ (name 0 1, m) ∷ [])
-swapped_row m n is = let h = is.in_order 0 1 (name 0 1, m) (omega arith) (omega arith) in cases h.beginning h.rest h.is_split h.tells h.not_yet
-  where
-    cases : (beginning rest : List Event) → two m n ≡ beginning ++ rest → TellsVersion 0 (name 0 1) beginning (name 0 2) → ¬ TellsVersion 0 (name 0 1) beginning (name 0 1) → ⊥
-    cases [] rest split told new = absurd (let no = (none_yet 0 (name 0 1)).all (name 0 2) told in cc)
-    cases (x ∷ more) rest split told new = new (
-        let is_first : Create m ≡ x = cc in
-        record { before = []; event = x; after = more; message = m; is_split = refl; tells = subst (λ (e : Event). TellsOf 0 (name 0 1) [] e (name 0 1) m) is_first (created refl) }
-        )
-
--- version 1.1 of the item 0.1 was received
-abbrev got : Header → Mail → Event
-got h message = Receive (Record (record { header = h; body = Item (record { item = name 0 1; version = name 1 1; below = []; message = message }) }))
+swapped_row m n is =
+    let only = only_row m n ((name 0 2, n) ∷ (name 0 1, m) ∷ []) is in
+    let first : ◌≡◌ {A = ℕ} 2 1 = ap (λ (told : List (Name × Mail)). (get_or told 0 (name 0 1, m)).0.counter) only in
+    absurd (omega (arith, first))
 
 -- of two messages that were received of a version the later one is not told first
-later_row : (h : Header) (m n : Mail) → m ≢ n → ¬ IsHistory 5 (name 0 1) (got h m ∷ got h n ∷ []) ((name 1 1, n) ∷ [])
-later_row h m n other is = let first = is.first 0 (name 1 1, n) (omega arith) in cases first.before first.event first.after first.is_split first.tells first.is_new
-  where
-    cases : (before : List Event) (event : Event) (after : List Event) → got h m ∷ got h n ∷ [] ≡ before ++ event ∷ after → TellsOf 5 (name 0 1) before event (name 1 1) n → ¬ TellsVersion 5 (name 0 1) before (name 1 1) → ⊥
-    cases [] event after split tells new =
-        let told = finds 5 (name 0 1) [] [] (none_yet 5 (name 0 1)) [] event (name 1 1) n tells refl in
-        let is_first : got h m ≡ event = cc in
-        let same = ap (version_told_by 5 0) is_first ∙ told.0 in
-        other (ap (λ (p : Name × Mail). p.1) (same_pair (name 1 1, m) (name 1 1, n) same))
-    cases (x ∷ more) event after split tells new = new (
-        let is_first : got h m ≡ x = cc in
-        record { before = []; event = x; after = more; message = m; is_split = refl; tells = subst (λ (e : Event). TellsOf 5 (name 0 1) [] e (name 1 1) m) is_first (received _ _ refl refl) }
-        )
+later_row : (h : Header) (m n : Mail) → m ≢ n → ¬ IsHistory 5 (name 0 1) (got h 1 1 m ∷ got h 1 1 n ∷ []) ((name 1 1, n) ∷ [])
+later_row h m n other is =
+    let log : List Event = got h 1 1 m ∷ got h 1 1 n ∷ [] in
+    let only = one_history 5 (name 0 1) log ((name 1 1, m) ∷ []) ((name 1 1, n) ∷ []) (found_from_none 5 (name 0 1) log) is in
+    other (ap (λ (told : List (Name × Mail)). (get_or told 0 (name 1 1, m)).1) only)

@@ -1,37 +1,28 @@
 -- what events tell of items, event by event
 use Rattle.std.proofs.Common.{◌≡◌, ℕ, ◌+◌, ◌<◌, ◌≤◌, Bool, true, false, cond, List, [], ◌∷◌, ◌++◌, take, length, get_or, Option, Some, None, append_assoc, refl, ap, sym, subst, ◌∙◌, arith}
-use Rattle.std.specs.Cmp.{eq_by_cmp_equiv}
 use Rattle.std.specs.List.{fold}
+use Rattle.std.specs.Option.{option_or}
 use Rattle.std.specs.Prelude.{◌&&◌, not, is_some}
 use Rattle.std.specs.Ordering.{is_eq}
-use Rattle.std.specs.declared.cmp.Ordering.{Ordering}
-use Rattle.std.specs.declared.cmp.Ordering.TheVariants.{Less, Equal, Greater}
 use Rattle.std.proofs.lemmas.List.{append-nil, take_more}
 use Rattle.std.proofs.lemmas.List.Sums.{fold-append}
 use Rattle.mr_version.specs.Name.{Name, IsVersion, name_cmp, name_eq}
-use Rattle.mr_version.specs.Order.{exact_names, names_total}
+use Rattle.mr_forms.specs.inner.Fresh.{same_name}
+use Rattle.mr_forms.proofs.SetLemmas.{name_eq-symmetric}
 use Rattle.mr_mail.specs.Mail.{Mail}
 use Rattle.mr_replica.specs.declared.event.Event.{Event}
-use Rattle.mr_replica.specs.declared.event.Event.TheVariants.{Create, Edit, Retire, Pull, Receive, CutIn, Answer, Next, CutOut, Vouch, Release}
-use Rattle.mr_lookup.specs.Told.{first_told, issued_with, message_at, own_name, told_after, told_by}
-use Rattle.mr_lookup.specs.inner.Told.{told_with}
+use Rattle.mr_replica.specs.declared.event.Event.TheVariants.{Create, Edit}
+use Rattle.mr_lookup.specs.Told.{HasFirstTold, first_told, issued_with, message_at, own_name, told_after, told_by}
+use Rattle.mr_lookup.specs.inner.Told.{Notes, NotesOfItems, told_with}
 
 -- no event issues two versions
 pub issued_one : (issued : ℕ) (e : Event) → issued_with issued e ≤ issued + 1
 issued_one issued (Create message) = omega arith
 issued_one issued (Edit bases message) = omega arith
-issued_one issued Retire = omega arith
-issued_one issued Pull = omega arith
-issued_one issued (Receive frame) = omega arith
-issued_one issued (CutIn session) = omega arith
-issued_one issued (Answer ask) = omega arith
-issued_one issued (Next stream) = omega arith
-issued_one issued (CutOut stream) = omega arith
-issued_one issued (Vouch version) = omega arith
-issued_one issued (Release receipt) = omega arith
+issued_one issued _ = omega arith
 
 -- one event more
-taken_one : (es : List Event) (i : ℕ) (e : Event) → i < length es → e ≡ get_or es i e → take (i + 1) es ≡ take i es ++ e ∷ []
+pub taken_one : (es : List Event) (i : ℕ) (e : Event) → i < length es → e ≡ get_or es i e → take (i + 1) es ≡ take i es ++ e ∷ []
 taken_one es i e h is = take_more es i e h ∙ ap (λ (x : Event). take i es ++ x ∷ []) (sym is)
 
 pub issued-more : (es : List Event) (i : ℕ) (e : Event) (old new : ℕ) → i < length es → e ≡ get_or es i e → old ≡ fold issued_with 0 (take i es) → new ≡ issued_with old e → new ≡ fold issued_with 0 (take (i + 1) es)
@@ -45,20 +36,16 @@ told_after-more id issued (x ∷ es) e =
 
 -- ---- the first message
 
-abbrev pub or_else : Option Mail → Option Mail → Option Mail
-or_else None more = more
-or_else (Some first) more = Some first
-
-or_if : (b : Bool) (m : Mail) (first more : Option Mail) → cond b (Some m) (or_else first more) ≡ or_else (cond b (Some m) first) more
+or_if : (b : Bool) (m : Mail) (first more : Option Mail) → cond b (Some m) (option_or first more) ≡ option_or (cond b (Some m) first) more
 or_if true m first more = refl
 or_if false m first more = refl
 
-pub message_at-append : (ps qs : List (Name × Mail)) (item : Name) → message_at (ps ++ qs) item ≡ or_else (message_at ps item) (message_at qs item)
+pub message_at-append : (ps qs : List (Name × Mail)) (item : Name) → message_at (ps ++ qs) item ≡ option_or (message_at ps item) (message_at qs item)
 message_at-append [] qs item = refl
 message_at-append (p ∷ ps) qs item =
     ap (λ (o : Option Mail). cond (name_eq item p.0) (Some p.1) o) (message_at-append ps qs item) ∙ or_if (name_eq item p.0) p.1 (message_at ps item) (message_at qs item)
 
-with_more : (wanted : Bool) (first more : Option Mail) → told_with more (cond wanted first None) wanted ≡ cond wanted (or_else first more) None
+with_more : (wanted : Bool) (first more : Option Mail) → told_with more (cond wanted first None) wanted ≡ cond wanted (option_or first more) None
 with_more true None None = refl
 with_more true None (Some message) = refl
 with_more true (Some first) None = refl
@@ -68,9 +55,7 @@ with_more false first (Some message) = refl
 
 -- a table of what is told first, with one event more
 pub told-more : (id : ℕ) (es : List Event) (i : ℕ) (e : Event) (issued : ℕ) (wanted : Name → Bool) (old new : List (Name × Mail)) → i < length es → e ≡ get_or es i e → issued ≡ fold issued_with 0 (take i es) →
-    ((item : Name) → IsVersion item.author item.counter → message_at new item ≡ told_with (message_at (told_by id issued e) item) (message_at old item) (wanted item)) →
-    ((item : Name) → IsVersion item.author item.counter → message_at old item ≡ cond (wanted item) (first_told id (take i es) item) None) →
-    (item : Name) → IsVersion item.author item.counter → message_at new item ≡ cond (wanted item) (first_told id (take (i + 1) es) item) None
+    NotesOfItems (told_by id issued e) wanted old new → HasFirstTold id (take i es) wanted old → HasFirstTold id (take (i + 1) es) wanted new
 told-more id es i e issued wanted old new h is count put known item is_version =
     put item is_version
     ∙ ap (λ o. told_with (message_at (told_by id issued e) item) o (wanted item)) (known item is_version)
@@ -79,28 +64,16 @@ told-more id es i e issued wanted old new h is count put known item is_version =
     ap (λ xs. first_told id xs item) (taken_one es i e h is)
     ∙ ap (λ ps. message_at ps item) (told_after-more id 0 (take i es) e)
     ∙ message_at-append (told_after id 0 (take i es)) (told_by id (fold issued_with 0 (take i es)) e) item
-    ∙ ap (λ n. or_else (first_told id (take i es) item) (message_at (told_by id n e) item)) (sym count)
+    ∙ ap (λ n. option_or (first_told id (take i es) item) (message_at (told_by id n e) item)) (sym count)
     ))
 
 -- ---- one message
 
-equal_of : (o : Ordering) → is_eq o ≡ true → o ≡ Equal
-equal_of Less h = cc
-equal_of Equal h = refl
-equal_of Greater h = cc
-
-pub same_name : (v u : Name) → name_eq v u ≡ true → v ≡ u
-same_name v u h = exact_names v u (equal_of (name_cmp v u) h)
-
-other_way : (item q : Name) → name_eq q item ≡ name_eq item q
-other_way item q = (eq_by_cmp_equiv names_total).symm q item
-
 -- a message is noted of an item that is wanted and has none
 pub noted_first : (wanted : Name → Bool) (item : Name) (message copy : Mail) (old new : List (Name × Mail)) → (wanted item && not (is_some (message_at old item))) ≡ true → copy ≡ message →
-    ((q : Name) → message_at new q ≡ cond (is_eq (name_cmp item q)) (Some copy) (message_at old q)) →
-    (q : Name) → message_at new q ≡ told_with (message_at ((item, message) ∷ []) q) (message_at old q) (wanted q)
+    ((q : Name) → message_at new q ≡ cond (is_eq (name_cmp item q)) (Some copy) (message_at old q)) → Notes ((item, message) ∷ []) wanted old new
 noted_first wanted item message copy old new is same put q =
-    put q ∙ cases (name_eq item q) refl ∙ sym (ap (λ (b : Bool). told_with (cond b (Some message) None) (message_at old q) (wanted q)) (other_way item q))
+    put q ∙ cases (name_eq item q) refl ∙ sym (ap (λ (b : Bool). told_with (cond b (Some message) None) (message_at old q) (wanted q)) (name_eq-symmetric q item))
   where
     here : (w : Bool) (o : Option Mail) → (w && not (is_some o)) ≡ true → Some copy ≡ told_with (Some message) o w
     here true None h = ap Some same
@@ -112,10 +85,9 @@ noted_first wanted item message copy old new is same put q =
     cases false e = refl
 
 -- and of one that isn't, or that has one, none is
-pub unnoted : (wanted : Name → Bool) (item : Name) (message : Mail) (old : List (Name × Mail)) → (wanted item && not (is_some (message_at old item))) ≡ false →
-    (q : Name) → message_at old q ≡ told_with (message_at ((item, message) ∷ []) q) (message_at old q) (wanted q)
+pub unnoted : (wanted : Name → Bool) (item : Name) (message : Mail) (old : List (Name × Mail)) → (wanted item && not (is_some (message_at old item))) ≡ false → Notes ((item, message) ∷ []) wanted old old
 unnoted wanted item message old is q =
-    cases (name_eq item q) refl ∙ sym (ap (λ (b : Bool). told_with (cond b (Some message) None) (message_at old q) (wanted q)) (other_way item q))
+    cases (name_eq item q) refl ∙ sym (ap (λ (b : Bool). told_with (cond b (Some message) None) (message_at old q) (wanted q)) (name_eq-symmetric q item))
   where
     here : (w : Bool) (o : Option Mail) → (w && not (is_some o)) ≡ false → o ≡ told_with (Some message) o w
     here true None h = cc

@@ -1,54 +1,40 @@
 -- the newest of the versions that a log tells of an author, version by version
-use Rattle.std.proofs.Common.{◌≡◌, ◌⊎◌, inl, inr, ⊎_elim, ℕ, ◌<◌, ◌≤◌, Bool, true, false, cond, List, [], ◌∷◌, ◌++◌, Option, Some, None, append_assoc, refl, ap, sym, subst, ◌∙◌, arith}
-use Rattle.std.specs.Prelude.{◌&&◌, ◌==◌, nat_lt, MatchOption}
+use Rattle.std.proofs.Common.{◌≡◌, ◌⊎◌, inl, inr, ⊎_elim, ℕ, ◌<◌, ◌≤◌, Bool, true, false, cond, List, [], ◌∷◌, ◌++◌, Option, Some, None, append_assoc, refl, ap, sym, subst, ◌∙◌, arith, eqb-true, ltb-true, ltb-false}
+use Rattle.std.specs.Option.{option_or}
+use Rattle.std.specs.Prelude.{◌&&◌, ◌==◌, nat_lt}
+use Rattle.std.proofs.lemmas.Bool.{eqb-false}
 use Rattle.std.proofs.lemmas.List.{append-nil}
-use Rattle.std.proofs.lemmas.Bool.Decides.{nat_tests}
 use Rattle.mr_version.specs.Name.{Name, name_eq}
+use Rattle.mr_forms.specs.inner.Fresh.{same_name}
 use Rattle.mr_forms.proofs.PairLemmas.{name_eq-itself}
 use Rattle.mr_mail.specs.Mail.{Mail}
 use Rattle.mr_lookup.specs.Told.{message_at}
-use Rattle.mr_lookup.specs.Versions.{IsNewest, TellsNone}
+use Rattle.mr_lookup.specs.Versions.{IsNewest, IsNewestFound, TellsNone}
 use Rattle.mr_lookup.specs.inner.Versions.{newer_of}
-use Rattle.mr_lookup.proofs.ToldLemmas.{message_at-append, or_else, same_name}
+use Rattle.mr_lookup.proofs.ToldLemmas.{message_at-append}
 
 -- the newest so far, after these are told
 abbrev pub newest_of : (author : ℕ) → Option (Name × Mail) → List (Name × Mail) → Option (Name × Mail)
 newest_of author newest [] = newest
 newest_of author newest (told ∷ more) = newest_of author (newer_of author newest (Some told)) more
 
--- the option is the newest of these
-abbrev pub IsFound : List (Name × Mail) → ℕ → Option (Name × Mail) → Type 0
-IsFound told author newest = MatchOption newest (TellsNone told author) (λ p. IsNewest told author p.0 p.1)
-
 -- ---- one version more
 
-same_of_test : (a b : ℕ) → (a == b) ≡ true → a ≡ b
-same_of_test a b h = grind (arith, nat_tests)
-
-apart_of_test : (a b : ℕ) → (a == b) ≡ false → a ≡ b → ⊥
-apart_of_test a b h same = grind (arith, nat_tests)
-
-less_of_test : (a b : ℕ) → nat_lt a b ≡ true → a < b
-less_of_test a b h = grind (arith, nat_tests)
-
-most_of_test : (a b : ℕ) → nat_lt a b ≡ false → b ≤ a
-most_of_test a b h = grind (arith, nat_tests)
-
 module _ (ps : List (Name × Mail)) (p : Name × Mail) where
-  last : (q : Name) → message_at (ps ++ p ∷ []) q ≡ or_else (message_at ps q) (cond (name_eq q p.0) (Some p.1) None)
+  last : (q : Name) → message_at (ps ++ p ∷ []) q ≡ option_or (message_at ps q) (cond (name_eq q p.0) (Some p.1) None)
   last q = message_at-append ps (p ∷ []) q
 
   -- what was told before stays
   stays : (q : Name) (k : Mail) → message_at ps q ≡ Some k → message_at (ps ++ p ∷ []) q ≡ Some k
-  stays q k h = last q ∙ ap (λ (o : Option Mail). or_else o (cond (name_eq q p.0) (Some p.1) None)) h
+  stays q k h = last q ∙ ap (λ (o : Option Mail). option_or o (cond (name_eq q p.0) (Some p.1) None)) h
 
   -- the version itself is told, if it wasn't before
   itself : message_at ps p.0 ≡ None → message_at (ps ++ p ∷ []) p.0 ≡ Some p.1
-  itself h = last p.0 ∙ ap (λ (o : Option Mail). or_else o (cond (name_eq p.0 p.0) (Some p.1) None)) h ∙ ap (λ (b : Bool). cond b (Some p.1) None) (name_eq-itself p.0)
+  itself h = last p.0 ∙ ap (λ (o : Option Mail). option_or o (cond (name_eq p.0 p.0) (Some p.1) None)) h ∙ ap (λ (b : Bool). cond b (Some p.1) None) (name_eq-itself p.0)
 
   -- and no other one
   none_else : (q : Name) → (q ≡ p.0 → ⊥) → message_at ps q ≡ None → message_at (ps ++ p ∷ []) q ≡ None
-  none_else q other h = last q ∙ ap (λ (o : Option Mail). or_else o (cond (name_eq q p.0) (Some p.1) None)) h ∙ cases (name_eq q p.0) refl
+  none_else q other h = last q ∙ ap (λ (o : Option Mail). option_or o (cond (name_eq q p.0) (Some p.1) None)) h ∙ cases (name_eq q p.0) refl
     where
       cases : (b : Bool) → name_eq q p.0 ≡ b → cond b (Some p.1) None ≡ None
       cases true e = absurd (other (same_name q p.0 e))
@@ -57,7 +43,7 @@ module _ (ps : List (Name × Mail)) (p : Name × Mail) where
   told_in : (q : Name) (k : Mail) → message_at (ps ++ p ∷ []) q ≡ Some k → (message_at ps q ≡ Some k) ⊎ (q ≡ p.0)
   told_in q k told = from (message_at ps q) (name_eq q p.0) refl refl (sym (last q) ∙ told)
     where
-      from : (o : Option Mail) (b : Bool) → message_at ps q ≡ o → name_eq q p.0 ≡ b → or_else o (cond b (Some p.1) None) ≡ Some k → (message_at ps q ≡ Some k) ⊎ (q ≡ p.0)
+      from : (o : Option Mail) (b : Bool) → message_at ps q ≡ o → name_eq q p.0 ≡ b → option_or o (cond b (Some p.1) None) ≡ Some k → (message_at ps q ≡ Some k) ⊎ (q ≡ p.0)
       from (Some j) b e f h = inl (e ∙ h)
       from None true e f h = inr (same_name q p.0 f)
       from None false e f h = absurd cc
@@ -99,25 +85,25 @@ module _ (ps : List (Name × Mail)) (p : Name × Mail) where
           (told_in other older told);
     }
 
-    by_author : TellsNone ps author → (b : Bool) → (p.0.author == author) ≡ b → IsFound (ps ++ p ∷ []) author (cond b (Some p) None)
-    by_author none true e = none_yet (same_of_test p.0.author author e) none
-    by_author none false e = λ q of. none_else q (λ (h : q ≡ p.0). apart_of_test p.0.author author e (sym (ap (λ (v : Name). v.author) h) ∙ of)) (none q of)
+    by_author : TellsNone ps author → (b : Bool) → (p.0.author == author) ≡ b → IsNewestFound (ps ++ p ∷ []) author (cond b (Some p) None)
+    by_author none true e = none_yet (eqb-true p.0.author author e) none
+    by_author none false e = λ q of. none_else q (λ (h : q ≡ p.0). eqb-false p.0.author author e (sym (ap (λ (v : Name). v.author) h) ∙ of)) (none q of)
 
-    by_both : (v : Name) (m : Mail) → IsNewest ps author v m → (b c : Bool) → (p.0.author == author) ≡ b → nat_lt v.counter p.0.counter ≡ c → IsFound (ps ++ p ∷ []) author (cond (b && c) (Some p) (Some (v, m)))
-    by_both v m before true true e f = higher v m before (same_of_test p.0.author author e) (less_of_test v.counter p.0.counter f)
-    by_both v m before true false e f = no_higher v m before (λ of. most_of_test v.counter p.0.counter f)
-    by_both v m before false c e f = no_higher v m before (λ of. absurd (apart_of_test p.0.author author e of))
+    by_both : (v : Name) (m : Mail) → IsNewest ps author v m → (b c : Bool) → (p.0.author == author) ≡ b → nat_lt v.counter p.0.counter ≡ c → IsNewestFound (ps ++ p ∷ []) author (cond (b && c) (Some p) (Some (v, m)))
+    by_both v m before true true e f = higher v m before (eqb-true p.0.author author e) (ltb-true v.counter p.0.counter f)
+    by_both v m before true false e f = no_higher v m before (λ of. ltb-false v.counter p.0.counter f)
+    by_both v m before false c e f = no_higher v m before (λ of. absurd (eqb-false p.0.author author e of))
 
-    found_more : (newest : Option (Name × Mail)) → IsFound ps author newest → IsFound (ps ++ p ∷ []) author (newer_of author newest (Some p))
+    found_more : (newest : Option (Name × Mail)) → IsNewestFound ps author newest → IsNewestFound (ps ++ p ∷ []) author (newer_of author newest (Some p))
     found_more None none = by_author none (p.0.author == author) refl
     found_more (Some b) before = by_both b.0 b.1 before (p.0.author == author) (nat_lt b.0.counter p.0.counter) refl refl
 
-found_all : (ps qs : List (Name × Mail)) (author : ℕ) (newest : Option (Name × Mail)) → IsFound ps author newest → IsFound (ps ++ qs) author (newest_of author newest qs)
-found_all ps [] author newest found = subst (λ (l : List (Name × Mail)). IsFound l author newest) (sym (append-nil ps)) found
+found_all : (ps qs : List (Name × Mail)) (author : ℕ) (newest : Option (Name × Mail)) → IsNewestFound ps author newest → IsNewestFound (ps ++ qs) author (newest_of author newest qs)
+found_all ps [] author newest found = subst (λ (l : List (Name × Mail)). IsNewestFound l author newest) (sym (append-nil ps)) found
 found_all ps (q ∷ qs) author newest found =
-    subst (λ (l : List (Name × Mail)). IsFound l author (newest_of author newest (q ∷ qs))) (append_assoc ps (q ∷ []) qs)
+    subst (λ (l : List (Name × Mail)). IsNewestFound l author (newest_of author newest (q ∷ qs))) (append_assoc ps (q ∷ []) qs)
     (found_all (ps ++ q ∷ []) qs author (newer_of author newest (Some q)) (found_more ps q author newest found))
 
 -- so it is the newest of all
-pub found : (told : List (Name × Mail)) (author : ℕ) (newest : Option (Name × Mail)) → newest ≡ newest_of author None told → IsFound told author newest
-found told author newest is = subst (λ (o : Option (Name × Mail)). IsFound told author o) (sym is) (found_all [] told author None (λ version of. refl))
+pub found : (told : List (Name × Mail)) (author : ℕ) (newest : Option (Name × Mail)) → newest ≡ newest_of author None told → IsNewestFound told author newest
+found told author newest is = subst (λ (o : Option (Name × Mail)). IsNewestFound told author o) (sym is) (found_all [] told author None (λ version of. refl))

@@ -1,18 +1,15 @@
 -- what a log tells of one item: its versions
-use Rattle.std.specs.Prelude.{◌≡◌, ◌≢◌, ℕ, Bool, true, false, not, ◌&&◌, if◌then◌else◌, List, [], ◌∷◌, ◌++◌, Option, Some, None, All, AllPairs, count_by}
+use Rattle.std.specs.Prelude.{◌≡◌, ◌≢◌, ℕ, Bool, true, false, List, ◌∷◌, ◌++◌, Some, All, AllPairs, count_by}
 use Rattle.std.specs.List.{list_any}
 use Rattle.mr_version.specs.Name.{Name, name_eq}
 use Rattle.mr_mail.specs.Mail.{Mail}
 use Rattle.mr_madewith.specs.Revision.{Rev}
 use Rattle.mr_wire.specs.Frames.{Sent}
-use Rattle.mr_wire.specs.declared.frame.Body.{Body}
 use Rattle.mr_wire.specs.declared.frame.Body.TheVariants.{Item}
-use Rattle.mr_wire.specs.declared.frame.Frame.{Frame}
 use Rattle.mr_wire.specs.declared.frame.Frame.TheVariants.{Record}
 use Rattle.mr_replica.specs.declared.event.Event.{Event}
 use Rattle.mr_replica.specs.declared.event.Event.TheVariants.{Create, Edit, Receive}
-use Rattle.mr_lookup.specs.Told.{issued_with}
-use Rattle.mr_lookup.specs.Versions.{next_name, version_told_by}
+use Rattle.mr_lookup.specs.Versions.{next_name}
 
 -- whether a version is among these
 abbrev pub is_told : List (Name × Mail) → Name → Bool
@@ -61,7 +58,7 @@ module _ (id : ℕ) (item : Name) where
     pub tells : TellsVersion beginning first
     pub not_yet : ¬ TellsVersion beginning second
 
-  -- the versions of the item that the log tells, with their messages
+  -- The versions of the item that the log tells, with their messages. At most one list is that: `one_history`, in the proofs.
   pub record IsHistory (log : List Event) (told : List (Name × Mail)) : Type 0 where
     -- all of them
     pub all : (version : Name) → TellsVersion log version → is_told told version ≡ true
@@ -71,40 +68,3 @@ module _ (id : ℕ) (item : Name) where
     pub first : All (λ one. TellsFirst log one.0 one.1) told
     -- in the order in which the log tells them first
     pub in_order : AllPairs (λ one other. TellsEarlier log one.0 other.0) told
-
--- ---- the same list, event by event
-
--- whether an edit with these bases is of the item that these are versions of: its first base is one of them
-abbrev pub is_edit_of : (past : List (Name × Mail)) → (bases : List Name) → Bool
-is_edit_of past [] = false
-is_edit_of past (base ∷ bases) = is_told past base
-
--- whether a record tells of the item
-abbrev pub is_in : Name → Body → Bool
-is_in item (Item r) = name_eq r.item item
-is_in item _ = false
-
-abbrev pub is_in_frame : Name → Frame → Bool
-is_in_frame item (Record sent) = is_in item sent.body
-is_in_frame item _ = false
-
--- whether the version that an event tells is one of the item, of which these are told before
-abbrev pub is_of_item : (item : Name) → (past : List (Name × Mail)) → (version : Name) → Event → Bool
-is_of_item item past version (Create message) = name_eq version item
-is_of_item item past version (Edit bases message) = is_edit_of past bases
-is_of_item item past version (Receive frame) = is_in_frame item frame
-is_of_item item past version _ = false
-
--- the versions of the item that are told, with the one that an event tells, if it is of the item and is not among them
-abbrev pub told_more : (item : Name) → (past : List (Name × Mail)) → Event → Option (Name × Mail) → List (Name × Mail)
-told_more item past e None = past
-told_more item past e (Some told) = if is_of_item item past told.0 e && not (is_told past told.0) then past ++ told ∷ [] else past
-
--- the versions of the item that are told after these events, where these were before
-abbrev pub history_after : (id issued : ℕ) → (item : Name) → (past : List (Name × Mail)) → List Event → List (Name × Mail)
-history_after id issued item past [] = past
-history_after id issued item past (e ∷ es) = history_after id (issued_with issued e) item (told_more item past e (version_told_by id issued e)) es
-
--- the versions of an item that a log tells, each once, where it is told first, and with that message
-abbrev pub history_of : (id : ℕ) → (item : Name) → List Event → List (Name × Mail)
-history_of id item log = history_after id 0 item [] log

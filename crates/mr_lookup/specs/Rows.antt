@@ -6,7 +6,6 @@ use Rattle.mr_madewith.specs.Revision.{Rev}
 use Rattle.mr_lookup.specs.Ancestors.{newest_common}
 use Rattle.mr_lookup.specs.Highest.{HasNone}
 use Rattle.mr_lookup.specs.inner.Highest.{higher_of}
-use Rattle.mr_lookup.specs.History.{history_of}
 use Rattle.mr_lookup.specs.Told.{first_told, message_at}
 use Rattle.mr_lookup.specs.Versions.{TellsNone, next_name, versions_told}
 use Rattle.mr_lookup.specs.inner.Versions.{newer_of}
@@ -113,22 +112,3 @@ same_counter_row m n = refl
 -- and another author's doesn't count
 pub other_author_row : (m n : Mail) → newer_of 5 (Some (name 5 4, m)) (Some (name 6 9, n)) ≡ Some (name 5 4, m)
 other_author_row m n = refl
-
--- ---- the past of an item
-
--- replica 0 makes 0.1 and changes it to 0.2, takes 1.1 of that item, and merges the two to 0.4; 0.3 is another item
-pub past_row : (h : Header) (m n : Mail) → history_of 0 first (Create m ∷ Edit (first ∷ []) n ∷ Create n ∷ got h 1 1 m ∷ Edit (name 1 1 ∷ name 0 2 ∷ []) n ∷ [])
-    ≡ (first, m) ∷ (name 0 2, n) ∷ (name 1 1, m) ∷ (name 0 4, n) ∷ []
-past_row h m n = refl
-
--- and of that one there is no other version
-pub other_item_row : (h : Header) (m n : Mail) → history_of 0 (name 0 3) (Create m ∷ Edit (first ∷ []) n ∷ Create n ∷ got h 1 1 m ∷ []) ≡ (name 0 3, n) ∷ []
-other_item_row h m n = refl
-
--- a version that is received again stands once, with its first message
-pub again_row : (h : Header) (m n : Mail) → history_of 0 first (got h 1 1 m ∷ got h 1 2 n ∷ got h 1 1 n ∷ []) ≡ (name 1 1, m) ∷ (name 1 2, n) ∷ []
-again_row h m n = refl
-
--- nothing was told of the item
-pub no_past_row : (h : Header) (m n : Mail) → history_of 5 first (Create m ∷ Edit (name 5 1 ∷ []) n ∷ []) ≡ []
-no_past_row h m n = refl

@@ -1,8 +1,8 @@
 -- what a log tells first of items
-use Rattle.std.specs.Prelude.{ℕ, ◌+◌, Bool, List, [], ◌∷◌, ◌++◌, Option}
+use Rattle.std.specs.Prelude.{◌≡◌, ℕ, ◌+◌, Bool, if◌then◌else◌, List, [], ◌∷◌, ◌++◌, Option, None}
 use Rattle.std.specs.List.{list_any}
 use Rattle.std.specs.Map.{lookup}
-use Rattle.mr_version.specs.Name.{Name, name_eq}
+use Rattle.mr_version.specs.Name.{IsVersion, Name, name_eq}
 use Rattle.mr_mail.specs.Mail.{Mail}
 use Rattle.mr_wire.specs.declared.frame.Body.{Body}
 use Rattle.mr_wire.specs.declared.frame.Body.TheVariants.{Item}
@@ -52,3 +52,7 @@ first_told id log item = message_at (told_after id 0 log) item
 -- whether a list has an item
 abbrev pub is_among : List Name → Name → Bool
 is_among items item = list_any (λ own. name_eq item own) items
+
+-- of each name that an item can have, the table has the first message that a log tells of it, if it is wanted, and else none
+abbrev pub HasFirstTold : (id : ℕ) → List Event → (wanted : Name → Bool) → (table : List (Name × Mail)) → Type 0
+HasFirstTold id log wanted table = (item : Name) → IsVersion item.author item.counter → message_at table item ≡ (if wanted item then first_told id log item else None)

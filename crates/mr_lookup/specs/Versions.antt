@@ -1,5 +1,5 @@
 -- what a log tells of versions
-use Rattle.std.specs.Prelude.{◌≡◌, ◌≤◌, ℕ, ◌+◌, nat_lt, if◌then◌else◌, List, [], ◌∷◌, Option, Some, None}
+use Rattle.std.specs.Prelude.{◌≡◌, ◌≤◌, ℕ, ◌+◌, nat_lt, if◌then◌else◌, List, [], ◌∷◌, Option, Some, None, MatchOption}
 use Rattle.std.specs.Coded.{Coded, coded×}
 use Rattle.std.specs.List.{cons_option}
 use Rattle.std.specs.Option.{option_map}
@@ -60,3 +60,7 @@ pub record IsNewest (told : List (Name × Mail)) (author : ℕ) (version : Name)
   pub of_author : version.author ≡ author
   pub is_told : message_at told version ≡ Some message
   pub newest : (other : Name) → (older : Mail) → other.author ≡ author → message_at told other ≡ Some older → other.counter ≤ version.counter
+
+-- it is the newest of the author's versions among these, with the first message that is told of it; or none of these is the author's
+abbrev pub IsNewestFound : List (Name × Mail) → (author : ℕ) → Option (Name × Mail) → Type 0
+IsNewestFound told author found = MatchOption found (TellsNone told author) (λ newest. IsNewest told author newest.0 newest.1)

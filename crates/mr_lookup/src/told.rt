@@ -1,8 +1,8 @@
 //! What a log tells first of items.
-ghost use Rattle.std.specs.Prelude.{◌≡◌, ◌+◌, ◌<◌, ◌^◌, ◌&&◌, not, is_some, ◌∷◌, [], if◌then◌else◌, None, IfNone, IfOk, IfSome, OnOk};
-ghost use Rattle.mr_version.specs.Name.{IsVersion, Name};
-ghost use Rattle.mr_lookup.specs.Told.{first_told, is_among, issued_with, message_at, own_name, told_by, told_in};
-ghost use Rattle.mr_lookup.specs.inner.Told.{told_with};
+ghost use Rattle.std.specs.Prelude.{◌≡◌, ◌+◌, ◌<◌, ◌^◌, ◌&&◌, not, is_some, ◌∷◌, [], IfNone, IfOk, IfSome, OnOk};
+ghost use Rattle.mr_version.specs.Name.{IsVersion};
+ghost use Rattle.mr_lookup.specs.Told.{HasFirstTold, is_among, issued_with, message_at, own_name, told_by, told_in};
+ghost use Rattle.mr_lookup.specs.inner.Told.{Notes, NotesOfItems};
 
 use mr_forms::Knowledge;
 use mr_mail::Message;
@@ -21,9 +21,7 @@ pub fn told_messages<K: Knowledge>(
     replica: &Replica<K>,
     items: &BTreeSet<ItemId>,
 ) -> Result<BTreeMap<ItemId, Message>, AllocError>
-    // Of each name that an item can have.
-    ensures { IfOk result (λ told. (item : Name) → IsVersion item.author item.counter → message_at told.entries item
-        ≡ (if is_among items.now.keys item then first_told replica.now.id replica.now.log item else None)) }
+    ensures { IfOk result (λ told. HasFirstTold replica.now.id replica.now.log (is_among items.now.keys) told.entries) }
 {
     told_in_log(alloc, replica.id(), replica.log(), items)
 }
@@ -35,8 +33,7 @@ fn told_in_log(
     log: &[Event],
     items: &BTreeSet<ItemId>,
 ) -> Result<BTreeMap<ItemId, Message>, AllocError>
-    ensures { IfOk result (λ told. (item : Name) → IsVersion item.author item.counter → message_at told.entries item
-        ≡ (if is_among items.now.keys item then first_told id log.now item else None)) }
+    ensures { IfOk result (λ told. HasFirstTold id log.now (is_among items.now.keys) told.entries) }
 {
     let mut told = BTreeMap::new(alloc);
     let mut issued: usize = 0;
@@ -67,8 +64,7 @@ fn note_event(
     event: &Event,
 ) -> Result<(), AllocError>
     requires { issued + 1 < 2 ^ 64 }
-    ensures { OnOk result ((item : Name) → IsVersion item.author item.counter → message_at told.new.entries item
-        ≡ told_with (message_at (told_by id issued event.now) item) (message_at told.old.entries item) (is_among items.now.keys item)) }
+    ensures { OnOk result (NotesOfItems (told_by id issued event.now) (is_among items.now.keys) told.old.entries told.new.entries) }
 {
     match event {
         Event::Create(message) => note_created(told, items, id, issued + 1, message),
@@ -95,8 +91,7 @@ fn note_created(
     counter: usize,
     message: &Message,
 ) -> Result<(), AllocError>
-    ensures { OnOk result ((item : Name) → IsVersion item.author item.counter → message_at told.new.entries item
-        ≡ told_with (message_at ((own_name id counter, message.now) ∷ []) item) (message_at told.old.entries item) (is_among items.now.keys item)) }
+    ensures { OnOk result (NotesOfItems ((own_name id counter, message.now) ∷ []) (is_among items.now.keys) told.old.entries told.new.entries) }
 {
     match own_item(id, counter) {
         Some(item) => {
@@ -113,8 +108,7 @@ fn note_body(
     items: &BTreeSet<ItemId>,
     body: &Body,
 ) -> Result<(), AllocError>
-    ensures { OnOk result ((other : Name) → message_at told.new.entries other
-        ≡ told_with (message_at (told_in body.now) other) (message_at told.old.entries other) (is_among items.now.keys other)) }
+    ensures { OnOk result (Notes (told_in body.now) (is_among items.now.keys) told.old.entries told.new.entries) }
 {
     match body {
         Body::Item(revision) => note_first(told, items, revision.item(), revision.message()),
@@ -129,8 +123,7 @@ fn note_first(
     item: ItemId,
     message: &Message,
 ) -> Result<(), AllocError>
-    ensures { OnOk result ((other : Name) → message_at told.new.entries other
-        ≡ told_with (message_at ((item, message.now) ∷ []) other) (message_at told.old.entries other) (is_among items.now.keys other)) }
+    ensures { OnOk result (Notes ((item, message.now) ∷ []) (is_among items.now.keys) told.old.entries told.new.entries) }
 {
     if is_wanted(told, items, item) {
         told.insert(item, message.copy()?)?;

@@ -1,8 +1,8 @@
 //! What a log tells of versions.
-ghost use Rattle.std.specs.Prelude.{◌≡◌, ◌+◌, ◌<◌, ◌^◌, MatchOption};
+ghost use Rattle.std.specs.Prelude.{◌≡◌, ◌+◌, ◌<◌, ◌^◌};
 ghost use Rattle.std.specs.Option.{option_copied};
 ghost use Rattle.mr_lookup.specs.Told.{message_at};
-ghost use Rattle.mr_lookup.specs.Versions.{IsNewest, TellsNone, issued_next, next_name, version_in, version_told_by, versions_told};
+ghost use Rattle.mr_lookup.specs.Versions.{IsNewestFound, issued_next, next_name, version_in, version_told_by, versions_told};
 ghost use Rattle.mr_lookup.specs.inner.Versions.{is_above, is_newer, message_if, newer_of};
 
 use crate::told::issued_then;
@@ -63,8 +63,7 @@ pub fn told_message<K: Knowledge>(replica: &Replica<K>, version: Version) -> Opt
 ///
 /// It costs a walk over the log.
 pub fn newest_told<K: Knowledge>(replica: &Replica<K>, author: Author) -> Option<ToldVersion<'_>>
-    ensures { MatchOption result (TellsNone (versions_told replica.now.id replica.now.log) author)
-        (λ newest. IsNewest (versions_told replica.now.id replica.now.log) author newest.0 newest.1) }
+    ensures { IsNewestFound (versions_told replica.now.id replica.now.log) author result }
 {
     newest_in(replica.id(), replica.log(), author)
 }
@@ -95,8 +94,7 @@ fn message_if<'a>(version: Version, told: Option<ToldVersion<'a>>) -> Option<&'a
 
 /// The author's version with the highest counter that the log of a replica of this id tells, with its first message.
 fn newest_in(id: Author, log: &[Event], author: Author) -> Option<ToldVersion<'_>>
-    ensures { MatchOption result (TellsNone (versions_told id log.now) author)
-        (λ newest. IsNewest (versions_told id log.now) author newest.0 newest.1) }
+    ensures { IsNewestFound (versions_told id log.now) author result }
 {
     let mut newest = None;
     let mut issued: usize = 0;

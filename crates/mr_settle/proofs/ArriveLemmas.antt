@@ -1,9 +1,11 @@
 -- Where no end can go on: all logs are done, or the history is stuck.
-use Rattle.std.proofs.Common.{◌≡◌, ◌≢◌, ◌≤◌, ◌<◌, refl, sym, ap, subst, ◌∙◌, ◌+◌, ◌==◌, cond, nat_lt, arith, ℕ, zero, suc, Bool, true, false, List, [], ◌∷◌, ◌++◌, length, take, drop, Option, Some, None, Result, Ok, Err, IfOk, inl, inr, ◌⊎◌, eqb-true, eq-eqb}
+use Rattle.std.proofs.Common.{◌≡◌, ◌≤◌, ◌<◌, refl, sym, ap, subst, ◌∙◌, ◌+◌, cond, nat_lt, arith, ℕ, zero, suc, Bool, true, false, List, [], ◌∷◌, ◌++◌, length, take, drop, Option, Some, None, Result, Ok, Err, IfOk, inl, inr, ◌⊎◌, below_more, le_of_eq}
 use Rattle.std.specs.Prelude.{All}
-use Rattle.std.proofs.lemmas.Bool.{cases_lt, ltb-true, ltb-false}
 use Rattle.std.specs.List.{slice_get}
 use Rattle.std.specs.Option.{option_map}
+use Rattle.std.proofs.lemmas.Bool.{cases_lt, ltb-true, ltb-false}
+use Rattle.std.proofs.lemmas.List.{take_all, take-append-drop, length-take-le}
+use Rattle.std.proofs.lemmas.Option.{slice_get-map, slice_get_within}
 use Rattle.mr_forms.specs.Known.{Form}
 use Rattle.mr_mail.specs.Mail.{Mail}
 use Rattle.mr_model.specs.History.{◌does◌}
@@ -11,11 +13,9 @@ use Rattle.mr_model.specs.Rules.{In}
 use Rattle.mr_model.specs.declared.event.Act.{Act}
 use Rattle.mr_model.specs.declared.event.Event.{Event}
 use Rattle.mr_replica.specs.State.{State}
-use Rattle.mr_replica.specs.Alike.{AreAlike}
 use Rattle.mr_replica.specs.Replay.{Replays, IsItsLog}
 use Rattle.mr_replica.specs.declared.event.Event.{Event as ReplicaEvent}
 use Rattle.mr_world.specs.Kept.{WorldView, replica_at}
-use Rattle.mr_replica.specs.One.{AreOneIfAlike}
 use Rattle.mr_forms.specs.ByMeaning.{IsByMeaning}
 use Rattle.mr_replica.proofs.Alike.{alike_replays}
 use Rattle.mr_settle.specs.History.{log_in}
@@ -26,10 +26,9 @@ use Rattle.mr_settle.specs.inner.Ready.{IsNext, IsReady, Rests, IsFirstReady, Fi
 use Rattle.mr_settle.specs.declared.ready.Ready.{Ready}
 use Rattle.mr_settle.specs.inner.Carried.{done_of}
 use Rattle.mr_settle.specs.declared.progress.Progress.{Progress}
-use Rattle.mr_settle.proofs.ProgressLemmas.{get_map}
 use Rattle.mr_settle.specs.inner.Way.{TellAll, IsUnderWay}
 use Rattle.mr_settle.specs.inner.Arrived.{IsLeftAt, HasLeft, AreNoLower, FindsLeftTo, FindsLeftAt, FindsLeft, lower_of, IsOneInWorld}
-use Rattle.mr_settle.proofs.ListLemmas.{some_one, all_places, get_within, get_there, take_all, get_all, first_of, take_drop, length_first}
+use Rattle.mr_settle.proofs.ListLemmas.{some_one, all_places, get_there, get_all, first_of}
 
 -- ---- what is left of a log
 
@@ -46,7 +45,7 @@ module _ {K : Type 0} where
 
 module _ {K : Type 0} (form : Form K) where
   position_of : (ends : List (State K)) (w : WorldView K) (done : List ℕ) (i : ℕ) (s : State K) → IsUnderWay form ends w done → slice_get ends i ≡ Some s → (p : ℕ) × (slice_get done i ≡ Some p)
-  position_of ends w done i s way is = let low = get_within ends i s is in let long = way.as_long in get_there done i (omega (arith, low, long))
+  position_of ends w done i s way is = let low = slice_get_within ends i s is in let long = way.as_long in get_there done i (omega (arith, low, long))
 
   behind : (ends : List (State K)) (w : WorldView K) (given : GivenNumbers) (done : List ℕ) (i : ℕ) (s : State K) → IsUnderWay form ends w done → TellAll w given → FindsReady form ends given done None → slice_get ends i ≡ Some s → IsBehind w s
   behind ends w given done i s way tells rest is =
@@ -54,7 +53,7 @@ module _ {K : Type 0} (form : Form K) where
       let at = way.each i s p.0 is p.1 in
       record {
         left = drop p.0 s.log;
-        log = take_drop s.log p.0 ∙ ap (λ (log : List ReplicaEvent). log ++ drop p.0 s.log) (sym at.log);
+        log = sym (take-append-drop p.0 s.log) ∙ ap (λ (log : List ReplicaEvent). log ++ drop p.0 s.log) (sym at.log);
         waits = waits p.0 p.1 (drop p.0 s.log) refl;
       }
     where
@@ -67,30 +66,29 @@ module _ {K : Type 0} (form : Form K) where
   stuck ends w given done found way tells rest left = record {
     world = w;
     is_of = way.is_of;
+    only = way.only;
     behind = all_places (IsBehind w) ends (λ i s is. behind ends w given done i s way tells rest is);
     first = record {
       end = left.0.end;
       among = in_place ends left.0.place left.0.end left.0.is.end_is;
       id = left.0.id;
       has_left = has left.0.place left.0.end left.0.position left.0.is;
-      next = left.0.next ∙ ap (λ (n : ℕ). n + 1) (sym (ap (λ (r : ℕ). length (log_in w r)) (sym left.0.id) ∙ count left.0.place left.0.end left.0.position left.0.is));
+      next = left.0.next ∙ ap (λ (n : ℕ). n + 1) (sym (ap (λ (r : ℕ). length (log_in w r)) (sym left.0.id) ∙ count left.0.place left.0.end left.0.position left.0.is.end_is left.0.is.done_is));
       lowest = lowest;
     };
   }
     where
-      count : (i : ℕ) (s : State K) (p : ℕ) → IsLeftAt ends done i s p → length (log_in w s.id) ≡ p
-      count i s p is = let at = way.each i s p is.end_is is.done_is in ap (λ (log : List ReplicaEvent). length log) at.log ∙ length_first s.log p at.within
+      count : (i : ℕ) (s : State K) (p : ℕ) → slice_get ends i ≡ Some s → slice_get done i ≡ Some p → length (log_in w s.id) ≡ p
+      count i s p is is_p = let at = way.each i s p is is_p in ap (λ (log : List ReplicaEvent). length log) at.log ∙ length-take-le p s.log at.within
 
       has : (i : ℕ) (s : State K) (p : ℕ) → IsLeftAt ends done i s p → HasEventsLeft w s
-      has i s p is = subst (λ (n : ℕ). n < length s.log) (sym (count i s p is)) is.left
+      has i s p is = subst (λ (n : ℕ). n < length s.log) (sym (count i s p is.end_is is.done_is)) is.left
 
       lowest : (other : State K) → In other ends → HasEventsLeft w other → found.0 ≤ other.id
       lowest other i has_left =
           let place = at_place ends other i in
           let p = position_of ends w done place.0 other way place.1 in
-          let at = way.each place.0 other p.0 place.1 p.1 in
-          let done_ones : length (log_in w other.id) ≡ p.0 = ap (λ (log : List ReplicaEvent). length log) at.log ∙ length_first other.log p.0 at.within in
-          left.1 place.0 other p.0 (get_within ends place.0 other place.1) (record { end_is = place.1; done_is = p.1; left = subst (λ (n : ℕ). n < length other.log) done_ones has_left })
+          left.1 place.0 other p.0 (slice_get_within ends place.0 other place.1) (record { end_is = place.1; done_is = p.1; left = subst (λ (n : ℕ). n < length other.log) (count place.0 other p.0 place.1 p.1) has_left })
 
 module _ {K : Type 0} (form : Form K) (stable : IsByMeaning form) where
   -- all logs are done
@@ -105,8 +103,8 @@ module _ {K : Type 0} (form : Form K) (stable : IsByMeaning form) where
     where
       whole : (i : ℕ) (s : State K) (p : ℕ) → slice_get ends i ≡ Some s → slice_get done i ≡ Some p → take p s.log ≡ s.log
       whole i s p is is_p =
-          let none_left : (p < length s.log) → ⊥ = λ low. none i s p (get_within ends i s is) (record { end_is = is; done_is = is_p; left = low }) in
-          take_all s.log p (omega (arith, none_left))
+          let none_left : (p < length s.log) → ⊥ = λ low. none i s p (slice_get_within ends i s is) (record { end_is = is; done_is = is_p; left = low }) in
+          take_all p s.log (omega (arith, none_left))
 
       logs : (i : ℕ) (s : State K) → (p : ℕ) × (slice_get done i ≡ Some p) → slice_get ends i ≡ Some s → log_in w s.id ≡ s.log
       logs i s p is = (way.each i s p.0 is p.1).log ∙ whole i s p.0 is p.1
@@ -121,29 +119,10 @@ module _ {K : Type 0} (form : Form K) (stable : IsByMeaning form) where
 
 -- ---- what the code finds
 
-module _ {K : Type 0} (form : Form K) where
-  pub one_found : (w : WorldView K) (end r : State K) → IsItsLog form end → replica_at w.members end.id ≡ Some r → AreOneIfAlike form r end → IsOneInWorld form w end
-  one_found w end r its there one = (
-    its,
-    λ s is alike.
-        (let mine : r ≡ s = some_one r s (replica_at w.members end.id) there is in
-        sym mine ∙ one (subst (λ (z : State K). AreAlike form z end) (sym mine) alike)),
-  )
-
-  pub none_found : (w : WorldView K) (end : State K) → IsItsLog form end → replica_at w.members end.id ≡ None → IsOneInWorld form w end
-  none_found w end its none = (its, λ s is. absurd (none_some_replica s (sym none ∙ is)))
-    where
-      none_some_replica : (s : State K) → (let o : Option (State K) = None in o ≡ Some s) → ⊥
-      none_some_replica s e = cc
-
 module _ {K : Type 0} where
   pub rests_more : (ends : List (State K)) (given : GivenNumbers) (done : List ℕ) (from i : ℕ) → ((place : ℕ) → from ≤ place → place < i → Rests ends given done place) → Rests ends given done i
       → (place : ℕ) → from ≤ place → place < i + 1 → Rests ends given done place
-  rests_more ends given done from i before here place low within = by (place == i) refl
-    where
-      by : (b : Bool) → (place == i) ≡ b → Rests ends given done place
-      by true is = subst (Rests ends given done) (sym (eqb-true place i is)) here
-      by false is = let ne : place ≢ i = (λ same. absurd (cc (is, eq-eqb place i same))) in before place low (omega (arith, within, ne))
+  rests_more ends given done from i before here place low within = below_more (λ n. from ≤ n → Rests ends given done n) i (λ n less high. before n high less) (λ _. here) place within low
 
   pub next_found : {E : Type 0} (form : Form K) (ends : List (State K)) (given : GivenNumbers) (done : List ℕ) (from : ℕ) → IsFirstReady form ends given done from (length ends) None
       → (r : Result (Option Ready) E) → IfOk r (IsFirstReady form ends given done 0 from) → IfOk r (FindsReady form ends given done)
@@ -152,7 +131,7 @@ module _ {K : Type 0} where
     where
       by : (place : ℕ) → (place < from) ⊎ (from ≤ place) → Rests ends given done place
       by place (inl low) = h place (omega arith) low
-      by place (inr high) = λ end position event next. first place high (get_within ends place end next.end_is) end position event next
+      by place (inr high) = λ end position event next. first place high (slice_get_within ends place end next.end_is) end position event next
   next_found form ends given done from first (Err e) h = tt
 
 module _ {K : Type 0} (form : Form K) where
@@ -163,7 +142,7 @@ module _ {K : Type 0} (form : Form K) where
 
 -- of what is kept of a place, so many are done
 done_there : (progress : List Progress) (place : ℕ) (p : Progress) → slice_get progress place ≡ Some p → slice_get (done_of progress) place ≡ Some p.done
-done_there progress place p is = get_map (λ (p : Progress). p.done) progress place ∙ ap (option_map (λ (p : Progress). p.done)) is
+done_there progress place p is = slice_get-map (λ (p : Progress). p.done) progress place ∙ ap (option_map (λ (p : Progress). p.done)) is
 
 module _ {K : Type 0} where
   pub left_found : (ends : List (State K)) (progress : List Progress) (place : ℕ) (end : State K) (p : Progress) → slice_get ends place ≡ Some end → slice_get progress place ≡ Some p → p.done < length end.log → IsLeftAt ends (done_of progress) place end p.done
@@ -183,37 +162,14 @@ module _ {K : Type 0} where
   next_there : (ends : List (State K)) (progress : List Progress) (place : ℕ) (end : State K) (p : Progress) (e : ReplicaEvent) → slice_get ends place ≡ Some end → slice_get progress place ≡ Some p → slice_get end.log p.done ≡ Some e → IsNext ends (done_of progress) place end p.done e
   next_there ends progress place end p e is_end is_p is_e = record { end_is = is_end; done_is = done_there progress place p is_p; event_is = is_e }
 
-  rests_at : (ends : List (State K)) (given : GivenNumbers) (progress : List Progress) (place : ℕ) (end : State K) (p : Progress) → slice_get ends place ≡ Some end → slice_get progress place ≡ Some p
-      → ((e : ReplicaEvent) → slice_get end.log p.done ≡ Some e → Names given e None) → Rests ends given (done_of progress) place
-  rests_at ends given progress place end p is_end is_p none other position e next =
-      let same : end ≡ other = some_one end other (slice_get ends place) is_end next.end_is in
-      let number : p.done ≡ position = some_one p.done position (slice_get (done_of progress) place) (done_there progress place p is_p) next.done_is in
-      none e (ap (λ (s : State K). slice_get s.log p.done) same ∙ ap (slice_get other.log) number ∙ next.event_is)
-
   -- where its next event has no act, it rests
   pub rests_unnamed : (ends : List (State K)) (given : GivenNumbers) (progress : List Progress) (place : ℕ) (end : State K) (p : Progress) (e : ReplicaEvent) → slice_get ends place ≡ Some end → slice_get progress place ≡ Some p
       → slice_get end.log p.done ≡ Some e → Names given e None → Rests ends given (done_of progress) place
-  rests_unnamed ends given progress place end p e is_end is_p is_e none =
-      rests_at ends given progress place end p is_end is_p (λ other is. subst (λ (x : ReplicaEvent). Names given x None) (some_one e other (slice_get end.log p.done) is_e is) none)
-
-  -- where its log is done, it rests
-  pub rests_done : (ends : List (State K)) (given : GivenNumbers) (progress : List Progress) (place : ℕ) (end : State K) (p : Progress) → slice_get ends place ≡ Some end → slice_get progress place ≡ Some p
-      → slice_get end.log p.done ≡ None → Rests ends given (done_of progress) place
-  rests_done ends given progress place end p is_end is_p none = rests_at ends given progress place end p is_end is_p (λ e is. absurd (none_event e (sym none ∙ is)))
-    where
-      none_event : (e : ReplicaEvent) → (let o : Option ReplicaEvent = None in o ≡ Some e) → ⊥
-      none_event e is = cc
-
-  -- where nothing is kept of the place, it rests
-  pub rests_past : (ends : List (State K)) (given : GivenNumbers) (progress : List Progress) (place : ℕ) → (slice_get ends place ≡ None) ⊎ (slice_get progress place ≡ None) → Rests ends given (done_of progress) place
-  rests_past ends given progress place (inl none) other position e next = absurd (none_end other (sym none ∙ next.end_is))
-    where
-      none_end : (s : State K) → (let o : Option (State K) = None in o ≡ Some s) → ⊥
-      none_end s is = cc
-  rests_past ends given progress place (inr none) other position e next = absurd (none_done position (sym (get_map (λ (p : Progress). p.done) progress place ∙ ap (option_map (λ (p : Progress). p.done)) none) ∙ next.done_is))
-    where
-      none_done : (n : ℕ) → (let o : Option ℕ = None in o ≡ Some n) → ⊥
-      none_done n is = cc
+  rests_unnamed ends given progress place end p e is_end is_p is_e none other position event next =
+      let same : end ≡ other = some_one end other (slice_get ends place) is_end next.end_is in
+      let number : p.done ≡ position = some_one p.done position (slice_get (done_of progress) place) (done_there progress place p is_p) next.done_is in
+      let is = ap (λ (s : State K). slice_get s.log p.done) same ∙ ap (slice_get other.log) number ∙ next.event_is in
+      subst (λ (x : ReplicaEvent). Names given x None) (some_one e event (slice_get end.log p.done) is_e is) none
 
 module _ {K : Type 0} (form : Form K) where
   -- where it has one, it goes on by that
@@ -238,17 +194,11 @@ module _ {K : Type 0} (ends : List (State K)) (done : List ℕ) where
   same_id i s t p q at bt = ap (λ (z : State K). z.id) (some_one s t (slice_get ends i) at.end_is bt.end_is)
 
   no_lower_more : (i r : ℕ) → AreNoLower ends done i r → ((end : State K) (position : ℕ) → IsLeftAt ends done i end position → r ≤ end.id) → AreNoLower ends done (i + 1) r
-  no_lower_more i r before here place end position low at = by (place == i) refl
-    where
-      by : (b : Bool) → (place == i) ≡ b → r ≤ end.id
-      by true is = here end position (subst (λ (j : ℕ). IsLeftAt ends done j end position) (eqb-true place i is) at)
-      by false is = let ne : place ≢ i = (λ same. absurd (cc (is, eq-eqb place i same))) in before place end position (omega (arith, low, ne)) at
+  no_lower_more i r before here place end position low at =
+      below_more (λ n. (end : State K) (position : ℕ) → IsLeftAt ends done n end position → r ≤ end.id) i (λ n less end position at. before n end position less at) here place low end position at
 
   has_here : (i : ℕ) (y : ℕ × ℕ) → FindsLeftAt ends done i (Some y) → HasLeft ends done y.0 y.1
   has_here i y k = record { place = i; end = k.0; position = k.1; is = k.2; id = k.3; next = k.4 }
-
-  none_left : (i : ℕ) (end : State K) (position : ℕ) → FindsLeftAt ends done i None → IsLeftAt ends done i end position → ⊥
-  none_left i end position k at = k end position at
 
   here_too : (i : ℕ) (y : ℕ × ℕ) → FindsLeftAt ends done i (Some y) → (end : State K) (position : ℕ) → IsLeftAt ends done i end position → y.0 ≡ end.id
   here_too i y k end position at = sym k.3 ∙ same_id i k.0 end k.1 position k.2 at
@@ -257,34 +207,22 @@ module _ {K : Type 0} (ends : List (State K)) (done : List ℕ) where
   two_left i x y true is h k =
       let less = ltb-true y.0 x.0 is in (
         has_here i y k,
-        no_lower_more i y.0 (λ place end position low at. lower place end position low at (h.1 place end position low at) less) (λ end position at. level (here_too i y k end position at)),
+        no_lower_more i y.0 (λ place end position low at. lower place end position low at (h.1 place end position low at) less) (λ end position at. le_of_eq (here_too i y k end position at)),
       )
     where
       lower : (place : ℕ) (end : State K) (position : ℕ) → place < i → IsLeftAt ends done place end position → x.0 ≤ end.id → y.0 < x.0 → y.0 ≤ end.id
       lower place end position low at a b = omega (arith, a, b)
-
-      level : {n : ℕ} → y.0 ≡ n → y.0 ≤ n
-      level e = omega (arith, e)
   two_left i x y false is h k =
       let most = ltb-false y.0 x.0 is in
-      (h.0, no_lower_more i x.0 h.1 (λ end position at. level (here_too i y k end position at) most))
-    where
-      level : {n : ℕ} → y.0 ≡ n → x.0 ≤ y.0 → x.0 ≤ n
-      level e a = omega (arith, e, a)
+      (h.0, no_lower_more i x.0 h.1 (λ end position at. (let same = here_too i y k end position at in omega (arith, same, most))))
 
   pub left_more : (i : ℕ) (a b : Option (ℕ × ℕ)) → FindsLeftTo ends done i a → FindsLeftAt ends done i b → FindsLeftTo ends done (i + 1) (lower_of a b)
   left_more i (Some x) (Some y) h k = two_left i x y (nat_lt y.0 x.0) refl h k
-  left_more i (Some x) None h k = (h.0, no_lower_more i x.0 h.1 (λ end position at. absurd (none_left i end position k at)))
+  left_more i (Some x) None h k = (h.0, no_lower_more i x.0 h.1 (λ end position at. absurd (k end position at)))
   left_more i None (Some y) h k =
-      (has_here i y k, no_lower_more i y.0 (λ place end position low at. absurd (h place end position low at)) (λ end position at. level (here_too i y k end position at)))
-    where
-      level : {n : ℕ} → y.0 ≡ n → y.0 ≤ n
-      level e = omega (arith, e)
-  left_more i None None h k = λ place end position low at. by place end position low at (place == i) refl
-    where
-      by : (place : ℕ) (end : State K) (position : ℕ) → place < i + 1 → IsLeftAt ends done place end position → (b : Bool) → (place == i) ≡ b → ⊥
-      by place end position low at true is = none_left i end position k (subst (λ (j : ℕ). IsLeftAt ends done j end position) (eqb-true place i is) at)
-      by place end position low at false is = let ne : place ≢ i = (λ same. absurd (cc (is, eq-eqb place i same))) in h place end position (omega (arith, low, ne)) at
+      (has_here i y k, no_lower_more i y.0 (λ place end position low at. absurd (h place end position low at)) (λ end position at. le_of_eq (here_too i y k end position at)))
+  left_more i None None h k = λ place end position low at.
+      below_more (λ n. (end : State K) (position : ℕ) → ¬ IsLeftAt ends done n end position) i (λ n less end position at. h n end position less at) k place low end position at
 
   pub left_upto : (i n : ℕ) (o : Option (ℕ × ℕ)) → n ≤ i → FindsLeftTo ends done i o → FindsLeftTo ends done n o
   left_upto i n (Some x) most h = (h.0, λ place end position low at. h.1 place end position (omega (arith, low, most)) at)

@@ -1,6 +1,7 @@
 -- What a world promises holds of replicas that are equal to its own.
 use Rattle.std.proofs.Common.{◌≡◌, ◌≢◌, ◌⊎◌, inl, inr, refl, sym, ap, subst, ◌∙◌, cond, ℕ, Bool, true, false, List, [], ◌∷◌, Option, Some, None, is_none, find, map, ◌==◌, eqb-true}
 use Rattle.std.specs.Prelude.{IsTrue, All, is_some}
+use Rattle.std.proofs.lemmas.Bool.{true≢false}
 use Rattle.std.proofs.lemmas.List.Elements.{All-head, All-tail, All-nil, All-cons}
 use Rattle.mr_version.specs.Name.{Name}
 use Rattle.mr_filter.specs.Filter.{ClauseParts}
@@ -47,10 +48,7 @@ none_held : (rs : List Rev) → ((v : Name) → holds rs v ≡ false) → rs ≡
 none_held [] none = refl
 none_held (r ∷ rs) none = let e : is r.version r.version ≡ true = is_refl r.version in
     let h : is_some (cond (is r.version r.version) (Some r) (revision_of rs r.version)) ≡ false = none r.version in
-    absurd (true-false (sym (ap (λ (b : Bool). is_some (cond b (Some r) (revision_of rs r.version))) e) ∙ h))
-  where
-    true-false : true ≡ false → ⊥
-    true-false e = cc
+    absurd (true≢false (sym (ap (λ (b : Bool). is_some (cond b (Some r) (revision_of rs r.version))) e) ∙ h))
 
 module _ {K : Type 0} (form : Form K) (w : WorldView K) (promised : Promises form w) where
   abbrev headline : HasHeadline w

@@ -1,32 +1,19 @@
 -- Places of lists.
-use Rattle.std.proofs.Common.{◌≡◌, ◌≢◌, ◌≤◌, ◌<◌, refl, sym, ap, subst, ◌∙◌, ◌+◌, arith, ℕ, zero, suc, List, [], ◌∷◌, ◌++◌, length, take, drop, Option, Some, None}
-use Rattle.std.specs.Prelude.{slice_set, All, get_or, replicate}
+use Rattle.std.proofs.Common.{◌≡◌, ◌≢◌, ◌<◌, refl, sym, ap, subst, ◌∙◌, ◌+◌, arith, ℕ, zero, suc, List, [], ◌∷◌, ◌++◌, length, take, drop, Option, Some}
+use Rattle.std.specs.Prelude.{slice_set, All, get_or}
 use Rattle.std.specs.List.{slice_get, AllZip}
 use Rattle.std.proofs.lemmas.List.Elements.{All-nil, All-cons, All-head, All-tail}
+use Rattle.std.proofs.lemmas.Option.{none-some, same_Some}
 
-no_some : {A : Type 0} (x : A) → (let o : Option A = Some x in o ≡ None) → ⊥
-no_some x e = cc
-
+-- an option has one value
 pub some_one : {A : Type 0} (x y : A) (o : Option A) → o ≡ Some x → o ≡ Some y → x ≡ y
-some_one {A} x y o h k = same (sym h ∙ k)
-  where
-    out : Option A → A
-    out (Some z) = z
-    out None = x
-
-    same : (let p : Option A = Some x in p ≡ Some y) → x ≡ y
-    same e = ap out e
+some_one x y o h k = same_Some x y (sym h ∙ k)
 
 module _ {A : Type 0} where
   -- what holds at each place holds of all
   pub all_places : (P : A → Type 0) (xs : List A) → ((i : ℕ) (x : A) → slice_get xs i ≡ Some x → P x) → All P xs
   all_places P [] h = All-nil P
   all_places P (x ∷ xs) h = All-cons P x xs (h 0 x refl) (all_places P xs (λ i y e. h (suc i) y e))
-
-  pub get_within : (xs : List A) (i : ℕ) (x : A) → slice_get xs i ≡ Some x → i < length xs
-  get_within [] i x e = absurd (no_some x (sym e))
-  get_within (y ∷ ys) zero x e = omega arith
-  get_within (y ∷ ys) (suc i) x e = let low = get_within ys i x e in omega (arith, low)
 
   pub get_there : (xs : List A) (i : ℕ) → i < length xs → (x : A) × (slice_get xs i ≡ Some x)
   get_there [] i low = absurd (omega (arith, low))
@@ -45,27 +32,16 @@ module _ {A : Type 0} where
   get_other (y ∷ ys) (suc i) zero x ne = refl
   get_other (y ∷ ys) (suc i) (suc j) x ne = get_other ys i j x (λ e. ne (ap suc e))
 
-  pub length_set : (xs : List A) (i : ℕ) (x : A) → length (slice_set xs i x) ≡ length xs
-  length_set [] i x = refl
-  length_set (y ∷ ys) zero x = refl
-  length_set (y ∷ ys) (suc i) x = ap suc (length_set ys i x)
-
   -- a list from a place on begins with what is there
   pub split_at : (xs : List A) (i : ℕ) (x : A) → slice_get xs i ≡ Some x → (left : List A) × (xs ≡ take i xs ++ x ∷ left) × (take (suc i) xs ≡ take i xs ++ x ∷ [])
-  split_at [] i x e = absurd (no_some x (sym e))
+  split_at [] i x e = absurd (none-some x e)
   split_at (y ∷ ys) zero x e = let is : y ≡ x = some_one y x (Some y) refl e in (ys, ap (λ z. z ∷ ys) is, ap (λ z. z ∷ []) is)
   split_at (y ∷ ys) (suc i) x e =
       let rest = split_at ys i x e in
       (rest.0, ap (λ zs. y ∷ zs) rest.1, ap (λ zs. y ∷ zs) rest.2)
 
-  pub take_all : (xs : List A) (n : ℕ) → length xs ≤ n → take n xs ≡ xs
-  take_all [] zero low = refl
-  take_all [] (suc n) low = refl
-  take_all (y ∷ ys) zero low = absurd (omega (arith, low))
-  take_all (y ∷ ys) (suc n) low = ap (λ zs. y ∷ zs) (take_all ys n (omega (arith, low)))
-
   pub get_all : (P : A → Type 0) (xs : List A) (i : ℕ) (x : A) → All P xs → slice_get xs i ≡ Some x → P x
-  get_all P [] i x all e = absurd (no_some x (sym e))
+  get_all P [] i x all e = absurd (none-some x e)
   get_all P (y ∷ ys) zero x all e = subst P (some_one y x (Some y) refl e) (All-head P y ys all)
   get_all P (y ∷ ys) (suc i) x all e = get_all P ys i x (All-tail P y ys all) e
 
@@ -74,18 +50,6 @@ first_of [] zero x left e = absurd (cc (e))
 first_of [] (suc n) x left e = absurd (cc (e))
 first_of (y ∷ ys) zero x left e = ap (λ zs. slice_get zs 0) e
 first_of (y ∷ ys) (suc n) x left e = first_of ys n x left e
-
-pub take_drop : {X : Type 0} (xs : List X) (n : ℕ) → xs ≡ take n xs ++ drop n xs
-take_drop [] zero = refl
-take_drop [] (suc n) = refl
-take_drop (y ∷ ys) zero = refl
-take_drop (y ∷ ys) (suc n) = ap (λ zs. y ∷ zs) (take_drop ys n)
-
-pub length_first : {X : Type 0} (xs : List X) (n : ℕ) → n ≤ length xs → length (take n xs) ≡ n
-length_first [] zero low = refl
-length_first [] (suc n) low = absurd (omega (arith, low))
-length_first (y ∷ ys) zero low = refl
-length_first (y ∷ ys) (suc n) low = ap suc (length_first ys n (omega (arith, low)))
 
 -- ---- lists so far
 
@@ -101,8 +65,3 @@ module _ {A B : Type 0} (R : A → B → Type 0) (y : B) where
   zip_take_more xs i x ys low is all h =
       let next : suc i ≡ i + 1 = omega arith in
       subst (λ (n : ℕ). AllZip R (take n xs) (ys ++ y ∷ [])) next (zip_more_from xs i x ys low is all h)
-
-pub replicated : (n i p : ℕ) → slice_get (replicate n 0) i ≡ Some p → p ≡ 0
-replicated zero i p e = absurd (no_some p (sym e))
-replicated (suc n) zero p e = sym (some_one 0 p (Some 0) refl e)
-replicated (suc n) (suc i) p e = replicated n i p e

@@ -1,8 +1,9 @@
 -- What the history says of logs, as it grows by one event.
-use Rattle.std.proofs.Common.{◌≡◌, ◌≢◌, ◌==◌, refl, sym, ap, subst, ◌∙◌, ℕ, Bool, true, false, cond, List, [], ◌∷◌, ◌++◌, Option, Some, None, Ok, eq-eqb, eqb-true, append-nil}
+use Rattle.std.proofs.Common.{◌≡◌, ◌≢◌, ◌==◌, refl, sym, ap, subst, ◌∙◌, ℕ, Bool, true, false, cond, List, [], ◌∷◌, ◌++◌, Option, Some, None, Ok, eq-eqb, append-nil}
 use Rattle.std.specs.Prelude.{is_none, is_some, IsSome, All}
 use Rattle.std.specs.List.{filter_map, cons_option}
 use Rattle.std.specs.Option.{option_and_then, option_map}
+use Rattle.std.proofs.lemmas.Bool.{ne_eqb}
 use Rattle.std.proofs.lemmas.List.Elements.{filter_map-append, All-head, All-tail, All-push, All-weaker}
 use Rattle.mr_mail.specs.Mail.{Mail}
 use Rattle.mr_model.specs.Moment.{numbered}
@@ -88,11 +89,7 @@ module _ {K : Type 0} (w w' : WorldView K) (asks : Grew w.asks w'.asks) (records
     -- the other logs stay
     pub log_without : (q : ℕ) → q ≢ e.replica → log_in w' q ≡ log_in w q
     log_without q other =
-        let theirs : (e.replica == q) ≡ false = not_mine (e.replica == q) refl in
+        let theirs : (e.replica == q) ≡ false = ne_eqb e.replica q (λ same. other (sym same)) in
         let none : admitted_at w' q (answered e answer) ≡ None = rw theirs refl in
         let nothing : filter_map (admitted_at w' q) (answered e answer ∷ []) ≡ [] = rw none refl in
         log_grows q ∙ ap (λ (xs : List ReplicaEvent). log_in w q ++ xs) nothing ∙ append-nil (log_in w q)
-      where
-        not_mine : (b : Bool) → (e.replica == q) ≡ b → b ≡ false
-        not_mine true h = absurd (other (sym (eqb-true e.replica q h)))
-        not_mine false h = refl

@@ -1,6 +1,7 @@
 -- Of an id that no replica of a world has, nothing is held in its history.
 use Rattle.std.proofs.Common.{◌≡◌, ◌≢◌, inl, inr, refl, sym, ap, subst, ◌∙◌, cond, ℕ, Bool, true, false, List, [], ◌∷◌, Option, Some, None, is_none, find, ◌==◌}
 use Rattle.std.specs.Prelude.{All}
+use Rattle.std.proofs.lemmas.Bool.{both_ways}
 use Rattle.std.proofs.lemmas.List.Elements.{All-weaker, All-head, All-tail, All-nil, All-cons, All-append}
 use Rattle.mr_version.specs.Name.{Name}
 use Rattle.mr_filter.specs.Filter.{ClauseParts}
@@ -109,11 +110,8 @@ module _ {K : Type 0} (form : Form K) where
   pub nothing_held : (ends : List (State K)) (w : WorldView K) → IsWorldOf form ends w → (q : ℕ) → member_at w.members q ≡ None → (v : Name) → Holds (moment_of w) q v → ⊥
   nothing_held ends w of q none v held = by (ap (λ (h : Holding). h.stored v) still) (ap (λ (h : Holding). h.pushed_out v) still) held
     where
-      differ : {b : Bool} → b ≡ true → b ≡ false → ⊥
-      differ is_true is_false = cc (is_true, is_false)
-
       other : (x : Answered) → is_none (member_at w.members x.event.replica) ≡ false → q ≢ x.event.replica
-      other x there is = differ (sym (ap (λ (r : ℕ). is_none (member_at w.members r)) is) ∙ ap is_none none) there
+      other x there is = both_ways (is_none (member_at w.members x.event.replica)) there (sym (ap (λ (r : ℕ). is_none (member_at w.members r)) is) ∙ ap is_none none)
 
       still : (moment_of w).holding q ≡ (let s : MailMoment = start in s.holding q)
       still = held_still (filters_of w) start w.answers q (All-weaker (λ x. is_none (member_at w.members x.event.replica) ≡ false) (λ x. q ≢ x.event.replica) other w.answers (asked_since ends w of))

@@ -42,39 +42,15 @@ module _ {K : Type 0} where
 
 given_asks : (lists : GivenLists) (outcome : Result Reply Refusal) → Grew lists.asks (with_given lists (Stepped outcome)).asks
 given_asks lists (Ok (reply.Asked question)) = inr (question, refl)
-given_asks lists (Ok (reply.Gave sent)) = inl refl
-given_asks lists (Ok (reply.Vouched receipt)) = inl refl
-given_asks lists (Ok (reply.Issued v)) = inl refl
-given_asks lists (Ok reply.Done) = inl refl
-given_asks lists (Ok (reply.Streaming stream)) = inl refl
-given_asks lists (Ok reply.Took) = inl refl
-given_asks lists (Ok reply.Known) = inl refl
-given_asks lists (Ok reply.Finished) = inl refl
-given_asks lists (Err e) = inl refl
+given_asks lists outcome = inl refl
 
 given_records : (lists : GivenLists) (outcome : Result Reply Refusal) → Grew lists.records (with_given lists (Stepped outcome)).records
 given_records lists (Ok (reply.Gave sent)) = inr (sent, refl)
-given_records lists (Ok (reply.Asked question)) = inl refl
-given_records lists (Ok (reply.Vouched receipt)) = inl refl
-given_records lists (Ok (reply.Issued v)) = inl refl
-given_records lists (Ok reply.Done) = inl refl
-given_records lists (Ok (reply.Streaming stream)) = inl refl
-given_records lists (Ok reply.Took) = inl refl
-given_records lists (Ok reply.Known) = inl refl
-given_records lists (Ok reply.Finished) = inl refl
-given_records lists (Err e) = inl refl
+given_records lists outcome = inl refl
 
 given_receipts : (lists : GivenLists) (outcome : Result Reply Refusal) → Grew lists.receipts (with_given lists (Stepped outcome)).receipts
 given_receipts lists (Ok (reply.Vouched receipt)) = inr (receipt, refl)
-given_receipts lists (Ok (reply.Asked question)) = inl refl
-given_receipts lists (Ok (reply.Gave sent)) = inl refl
-given_receipts lists (Ok (reply.Issued v)) = inl refl
-given_receipts lists (Ok reply.Done) = inl refl
-given_receipts lists (Ok (reply.Streaming stream)) = inl refl
-given_receipts lists (Ok reply.Took) = inl refl
-given_receipts lists (Ok reply.Known) = inl refl
-given_receipts lists (Ok reply.Finished) = inl refl
-given_receipts lists (Err e) = inl refl
+given_receipts lists outcome = inl refl
 
 -- The replica r was asked for this, answered, and is another; the others are as they were, and each pool is as it was or has one more.
 pub record Turns {K : Type 0} (form : Form K) (w : WorldView K) (r : ℕ) (e : ReplicaEvent) (answer : Answer) (w' : WorldView K) : Type 0 where

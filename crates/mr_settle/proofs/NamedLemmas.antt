@@ -18,7 +18,6 @@ use Rattle.mr_wire.specs.declared.frame.Receipt.{Receipt}
 use Rattle.mr_wire.proofs.DecodeLaws.{spelled_once}
 use Rattle.mr_world.specs.Asked.{asked, answering, delivering, receiving, record_len, releasing}
 use Rattle.mr_world.specs.Kept.{WorldView}
-use Rattle.mr_world.specs.Pool.{question_of, sent_of, receipt_of}
 use Rattle.mr_world.specs.Run.{asked_in}
 use Rattle.mr_world.specs.declared.task.Task.{Task}
 use Rattle.mr_world.specs.declared.task.Task.TheVariants as task
@@ -26,19 +25,18 @@ use Rattle.mr_settle.specs.inner.Carried.{HasBytes, carried}
 use Rattle.mr_settle.specs.inner.Named.{AsksFor, GivenNumbers, Names}
 use Rattle.mr_settle.specs.inner.Numbers.{Numbering, Tells, found_in}
 use Rattle.mr_settle.specs.inner.Way.{TellAll}
-use Rattle.mr_settle.proofs.ListLemmas.{some_one}
 use Rattle.mr_settle.proofs.PoolLemmas.{one_spelled}
 
 -- ---- a frame is of one thing
 
 pub one_ask : (x y : Question) → (let f : Frame = frame.Ask x in f ≡ frame.Ask y) → x ≡ y
-one_ask x y e = some_one x y (Some x) refl (ap (λ (f : Frame). question_of (Some f)) e)
+one_ask x y e = cc
 
 pub one_record : (x y : Sent) → (let f : Frame = frame.Record x in f ≡ frame.Record y) → x ≡ y
-one_record x y e = some_one x y (Some x) refl (ap (λ (f : Frame). sent_of (Some f)) e)
+one_record x y e = cc
 
 pub one_receipt : (x y : Receipt) → (let f : Frame = frame.Receipt x in f ≡ frame.Receipt y) → x ≡ y
-one_receipt x y e = some_one x y (Some x) refl (ap (λ (f : Frame). receipt_of (Some f)) e)
+one_receipt x y e = cc
 
 -- ---- a number is of the frame
 

@@ -7,35 +7,24 @@ use Rattle.mr_wire.specs.Grammar.{Spells}
 use Rattle.mr_wire.specs.declared.frame.Frame.{Frame}
 use Rattle.mr_wire.proofs.DecodeLaws.{begins_no_other}
 use Rattle.std.specs.Str.{bytes_eq}
+use Rattle.std.proofs.lemmas.Bool.{both_ways, ne_eqb}
+use Rattle.std.proofs.lemmas.Option.{none-some, same_Some}
 use Rattle.std.proofs.lemmas.Slice.Eq.{bytes_eq-Decides}
 use Rattle.mr_world.specs.Pool.{GivesFrame}
 use Rattle.mr_settle.specs.inner.Numbers.{Numbering, Puts, Tells, KeepsUp, Grew, no_numbers}
-
-not_none : {A : Type 0} (x : A) → (let o : Option A = Some x in o ≡ None) → ⊥
-not_none x e = cc
-
-some_is : {A : Type 0} (o : Option A) → o ≢ None → (x : A) × (o ≡ Some x)
-some_is None h = absurd (h refl)
-some_is (Some x) h = (x, refl)
-
-some_same : (n m : ℕ) → (let o : Option ℕ = Some n in o ≡ Some m) → n ≡ m
-some_same n m e = cc
 
 same_bytes : (a b : List ℕ) → (a ≡ b) ⊎ (a ≢ b)
 same_bytes a b = by (bytes_eq a b) refl
   where
     by : (t : Bool) → bytes_eq a b ≡ t → (a ≡ b) ⊎ (a ≢ b)
     by true e = inl ((bytes_eq-Decides a b).0 e)
-    by false e = inr (λ is. absurd (differ e ((bytes_eq-Decides a b).1 is)))
-      where
-        differ : bytes_eq a b ≡ false → bytes_eq a b ≡ true → ⊥
-        differ x y = cc
+    by false e = inr (λ is. both_ways (bytes_eq a b) e ((bytes_eq-Decides a b).1 is))
 
 module _ {A : Type 0} where
   -- ---- numbers
 
   pub numbered_within : (xs : List A) (n : ℕ) (x : A) → numbered xs n ≡ Some x → n ≤ length xs
-  numbered_within [] n x e = absurd (not_none x (sym e))
+  numbered_within [] n x e = absurd (none-some x e)
   numbered_within (y ∷ older) n x e = by (n == length older + 1) refl e (numbered_within older n x)
     where
       by : (b : Bool) → (n == length older + 1) ≡ b → cond b (Some y) (numbered older n) ≡ Some x → (numbered older n ≡ Some x → n ≤ length older) → n ≤ length (y ∷ older)
@@ -46,12 +35,8 @@ module _ {A : Type 0} where
   pub numbered_front : (y : A) (xs : List A) (n : ℕ) (x : A) → numbered xs n ≡ Some x → numbered (y ∷ xs) n ≡ Some x
   numbered_front y xs n x e =
       let within = numbered_within xs n x e in
-      let other : (n == length xs + 1) ≡ false = by (n == length xs + 1) refl within in
+      let other : (n == length xs + 1) ≡ false = ne_eqb n (length xs + 1) (λ at. absurd (omega (arith, at, within))) in
       rw other e
-    where
-      by : (b : Bool) → (n == length xs + 1) ≡ b → n ≤ length xs → b ≡ false
-      by true is within = let at = eqb-true n (length xs + 1) is in absurd (omega (arith, at, within))
-      by false is within = refl
 
   pub numbered_newest : (x : A) (xs : List A) → numbered (x ∷ xs) (length (x ∷ xs)) ≡ Some x
   numbered_newest x xs = let is : (length (x ∷ xs) == length xs + 1) ≡ true = eq-eqb (length (x ∷ xs)) (length xs + 1) (omega arith) in rw is refl
@@ -75,7 +60,7 @@ module _ {A : Type 0} where
     one_spelled x y bytes h k = value_of x y (begins_no_other 2 2 (frame_of x) (frame_of y) bytes bytes [] [] h k refl).1
 
     pub nothing_told : Tells frame_of [] no_numbers
-    nothing_told = record { found = λ bytes n e. absurd (not_none n (sym e)); all = λ x i. absurd i }
+    nothing_told = record { found = λ bytes n e. absurd (none-some n e); all = λ x i. absurd i }
 
     -- where the newest is one more, the numbers tell of it too
     tells_more : (pool : List A) (x : A) (bytes : List ℕ) (old new : Numbering) → Tells frame_of pool old → Spells 2 (frame_of x) bytes
@@ -95,7 +80,7 @@ module _ {A : Type 0} where
         found : (other : List ℕ) (n : ℕ) → new other ≡ Some n → (y : A) × (numbered (x ∷ pool) n ≡ Some y) × Spells 2 (frame_of y) other
         found other n e = elim (same_bytes other bytes) [
           | inl is ↦ (
-              let number : n ≡ length (x ∷ pool) = some_same n (length (x ∷ pool)) (sym e ∙ ap new is ∙ puts.is) in
+              let number : n ≡ length (x ∷ pool) = same_Some n (length (x ∷ pool)) (sym e ∙ ap new is ∙ puts.is) in
               (x, ap (numbered (x ∷ pool)) number ∙ numbered_newest x pool, subst (Spells 2 (frame_of x)) (sym is) spells))
           | inr ne ↦ (
               let was = tells.found other n (sym (puts.others other ne) ∙ e) in
@@ -103,13 +88,13 @@ module _ {A : Type 0} where
         ]
 
         all : (y : A) → In y (x ∷ pool) → (other : List ℕ) × Spells 2 (frame_of y) other × (new other ≢ None)
-        all y (inl is) = (bytes, subst (λ (z : A). Spells 2 (frame_of z) bytes) is spells, λ none. not_none (length (x ∷ pool)) (sym puts.is ∙ none))
+        all y (inl is) = (bytes, subst (λ (z : A). Spells 2 (frame_of z) bytes) is spells, λ none. none-some (length (x ∷ pool)) (sym none ∙ puts.is))
         all y (inr i) =
             let was = tells.all y i in (
               was.0,
               was.1,
               λ none. elim (same_bytes was.0 bytes) [
-                | inl is ↦ not_none (length (x ∷ pool)) (sym puts.is ∙ ap new (sym is) ∙ none)
+                | inl is ↦ none-some (length (x ∷ pool)) (sym none ∙ ap new is ∙ puts.is)
                 | inr ne ↦ was.2 (sym (puts.others was.0 ne) ∙ none)
               ],
             )
@@ -123,7 +108,7 @@ module _ {A : Type 0} where
         found : (other : List ℕ) (n : ℕ) → new other ≡ Some n → (y : A) × (numbered pool n ≡ Some y) × Spells 2 (frame_of y) other
         found other n e = elim (same_bytes other bytes) [
           | inl is ↦ (
-              let number : n ≡ length pool = some_same n (length pool) (sym e ∙ ap new is ∙ puts.is) in
+              let number : n ≡ length pool = same_Some n (length pool) (sym e ∙ ap new is ∙ puts.is) in
               (x, ap (numbered pool) number ∙ newest, subst (Spells 2 (frame_of x)) (sym is) spells))
           | inr ne ↦ tells.found other n (sym (puts.others other ne) ∙ e)
         ]
@@ -134,7 +119,7 @@ module _ {A : Type 0} where
               was.0,
               was.1,
               λ none. elim (same_bytes was.0 bytes) [
-                | inl is ↦ not_none (length pool) (sym puts.is ∙ ap new (sym is) ∙ none)
+                | inl is ↦ none-some (length pool) (sym none ∙ ap new is ∙ puts.is)
                 | inr ne ↦ was.2 (sym (puts.others was.0 ne) ∙ none)
               ],
             )

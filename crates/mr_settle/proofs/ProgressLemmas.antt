@@ -1,41 +1,29 @@
 -- How far logs have come, place by place.
-use Rattle.std.proofs.Common.{◌≡◌, refl, sym, ap, subst, ◌∙◌, ℕ, zero, suc, List, [], ◌∷◌, length, map, Option, Some, None}
+use Rattle.std.proofs.Common.{◌≡◌, refl, sym, ap, subst, ◌∙◌, ℕ, zero, suc, List, [], ◌∷◌, length, map, Some}
 use Rattle.std.specs.Prelude.{slice_set}
 use Rattle.std.specs.List.{slice_get, AllZip}
-use Rattle.std.specs.Option.{option_map}
+use Rattle.std.proofs.lemmas.List.{map-set}
+use Rattle.std.proofs.lemmas.Option.{none-some}
 use Rattle.mr_replica.specs.State.{State}
 use Rattle.mr_settle.specs.declared.progress.Progress.{Progress}
 use Rattle.mr_settle.specs.inner.Carried.{IsUpToDate, AreAtStart, done_of}
 use Rattle.mr_settle.proofs.ListLemmas.{some_one}
 
-none_some : {A : Type 0} (x : A) → (let o : Option A = None in o ≡ Some x) → ⊥
-none_some x e = cc
-
 module _ {A B : Type 0} (f : A → B) where
-  pub get_map : (xs : List A) (i : ℕ) → slice_get (map f xs) i ≡ option_map f (slice_get xs i)
-  get_map [] i = refl
-  get_map (x ∷ xs) zero = refl
-  get_map (x ∷ xs) (suc i) = get_map xs i
-
-  pub map_set : (xs : List A) (i : ℕ) (x : A) → map f (slice_set xs i x) ≡ slice_set (map f xs) i (f x)
-  map_set [] i x = refl
-  map_set (y ∷ ys) zero x = refl
-  map_set (y ∷ ys) (suc i) x = ap (λ (zs : List B). f y ∷ zs) (map_set ys i x)
-
   pub map_there : (xs : List A) (i : ℕ) (y : B) → slice_get (map f xs) i ≡ Some y → (x : A) × (slice_get xs i ≡ Some x) × (f x ≡ y)
-  map_there [] i y e = absurd (none_some y e)
+  map_there [] i y e = absurd (none-some y e)
   map_there (x ∷ xs) zero y e = (x, refl, some_one (f x) y (Some (f x)) refl e)
   map_there (x ∷ xs) (suc i) y e = map_there xs i y e
 
 module _ {A B : Type 0} (R : A → B → Type 0) where
   pub zip_get : (xs : List A) (ys : List B) (i : ℕ) (x : A) (y : B) → AllZip R xs ys → slice_get xs i ≡ Some x → slice_get ys i ≡ Some y → R x y
-  zip_get [] ys i x y all is_x is_y = absurd (none_some x is_x)
+  zip_get [] ys i x y all is_x is_y = absurd (none-some x is_x)
   zip_get (a ∷ xs) [] i x y all is_x is_y = absurd all
   zip_get (a ∷ xs) (b ∷ ys) zero x y all is_x is_y = subst (λ (z : A). R z y) (some_one a x (Some a) refl is_x) (subst (R a) (some_one b y (Some b) refl is_y) all.0)
   zip_get (a ∷ xs) (b ∷ ys) (suc i) x y all is_x is_y = zip_get xs ys i x y all.1 is_x is_y
 
   pub zip_set : (xs : List A) (ys : List B) (i : ℕ) (x : A) (y : B) → AllZip R xs ys → slice_get xs i ≡ Some x → R x y → AllZip R xs (slice_set ys i y)
-  zip_set [] ys i x y all is_x h = absurd (none_some x is_x)
+  zip_set [] ys i x y all is_x h = absurd (none-some x is_x)
   zip_set (a ∷ xs) [] i x y all is_x h = absurd all
   zip_set (a ∷ xs) (b ∷ ys) zero x y all is_x h = (subst (λ (z : A). R z y) (sym (some_one a x (Some a) refl is_x)) h, all.1)
   zip_set (a ∷ xs) (b ∷ ys) (suc i) x y all is_x h = (all.0, zip_set xs ys i x y all.1 is_x h)
@@ -56,7 +44,7 @@ module _ {K : Type 0} where
   start_long (end ∷ ends) (p ∷ ps) h = ap suc (start_long ends ps h.1)
 
   pub start_zero : (ends : List (State K)) (progress : List Progress) → AreAtStart ends progress → (i n : ℕ) → slice_get (done_of progress) i ≡ Some n → n ≡ 0
-  start_zero ends [] h i n e = absurd (none_some n e)
+  start_zero ends [] h i n e = absurd (none-some n e)
   start_zero [] (p ∷ ps) h i n e = absurd h
   start_zero (end ∷ ends) (p ∷ ps) h zero n e = sym (some_one p.done n (Some p.done) refl e) ∙ h.0.0
   start_zero (end ∷ ends) (p ∷ ps) h (suc i) n e = start_zero ends ps h.1 i n e
@@ -64,4 +52,4 @@ module _ {K : Type 0} where
 -- ---- one goes on
 
 pub done_set : (progress : List Progress) (i n : ℕ) (next : Progress) → next.done ≡ n → done_of (slice_set progress i next) ≡ slice_set (done_of progress) i n
-done_set progress i n next is = map_set (λ (p : Progress). p.done) progress i next ∙ ap (slice_set (done_of progress) i) is
+done_set progress i n next is = map-set (λ (p : Progress). p.done) progress i next ∙ ap (slice_set (done_of progress) i) is

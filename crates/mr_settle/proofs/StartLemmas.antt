@@ -1,8 +1,8 @@
 -- Specifications of replicas that have ids of their own are not refused.
-use Rattle.std.proofs.Common.{◌≡◌, ◌≢◌, refl, sym, ap, ◌∙◌, ◌==◌, ◌||◌, ◌↔◌, arith, ℕ, nat_lt, Bool, true, false, List, [], ◌∷◌, None, IsTrue, not, eqb-true, eq-eqb}
+use Rattle.std.proofs.Common.{◌≡◌, ◌≢◌, refl, sym, ap, ◌∙◌, ◌==◌, ◌||◌, ◌↔◌, arith, ℕ, nat_lt, Bool, true, false, List, [], ◌∷◌, None, IsTrue, not, eqb-true}
 use Rattle.std.specs.Prelude.{All}
 use Rattle.std.specs.List.{list_any, AllZip}
-use Rattle.std.proofs.lemmas.Bool.{le-ltb}
+use Rattle.std.proofs.lemmas.Bool.{eqb-false, le-ltb, ne_eqb}
 use Rattle.std.proofs.lemmas.List.Elements.{All-nil, All-cons, All-head, All-tail}
 use Rattle.std.proofs.lemmas.List.Kept.{AllPairs-cons}
 use Rattle.mr_forms.proofs.PartLemmas.{AllPairs-head, AllPairs-tail}
@@ -16,16 +16,9 @@ use Rattle.mr_settle.specs.Explains.{AreDistinct}
 use Rattle.mr_settle.specs.inner.Explains.{share_id}
 use Rattle.mr_settle.specs.inner.Way.{HasGoodLimit}
 
-pub eqb-false_of : (a b : ℕ) → a ≢ b → (a == b) ≡ false
-eqb-false_of a b ne = by (a == b) refl
-  where
-    by : (t : Bool) → (a == b) ≡ t → t ≡ false
-    by true h = absurd (ne (eqb-true a b h))
-    by false h = refl
-
 limit_good : (spec : Spec) → HasGoodLimit spec → has_bad_limit spec ≡ false
 limit_good spec h =
-    let some : (spec.event_limit == 0) ≡ false = eqb-false_of spec.event_limit 0 (λ e. absurd (omega (arith, e, h.0))) in
+    let some : (spec.event_limit == 0) ≡ false = ne_eqb spec.event_limit 0 (λ e. absurd (omega (arith, e, h.0))) in
     let few : nat_lt MAX_EVENTS spec.event_limit ≡ false = le-ltb MAX_EVENTS spec.event_limit h.1 in
     rw (some, few) refl
 
@@ -40,7 +33,7 @@ module _ {K : Type 0} where
   no_other id (x ∷ xs) [] are all = absurd are
   no_other id (x ∷ xs) (p ∷ ps) are all =
       let ne = All-head (λ (z : State K). id ≢ z.id) x xs all in
-      let first : (p.id == id) ≡ false = eqb-false_of p.id id (λ e. ne (sym e ∙ are.0.id)) in
+      let first : (p.id == id) ≡ false = ne_eqb p.id id (λ e. ne (sym e ∙ are.0.id)) in
       rw first (no_other id xs ps are.1 (All-tail (λ (z : State K). id ≢ z.id) x xs all))
 
   none_same : (xs : List (State K)) (ps : List Spec) → AreDistinct xs → AllZip IsSpecOf xs ps → has_same_id ps ≡ false
@@ -69,12 +62,9 @@ module _ {K : Type 0} where
   none_has id [] h = All-nil (λ (z : State K). id ≢ z.id)
   none_has id (x ∷ xs) h = by (x.id == id) refl h (none_has id xs)
     where
-      differ : x.id ≡ id → (x.id == id) ≡ false → ⊥
-      differ same apart = cc (apart, eq-eqb x.id id same)
-
       by : (b : Bool) → (x.id == id) ≡ b → (b || list_any (λ z. z.id == id) xs) ≡ false → (list_any (λ z. z.id == id) xs ≡ false → All (λ z. id ≢ z.id) xs) → All (λ (z : State K). id ≢ z.id) (x ∷ xs)
       by true is e rest = cc (e)
-      by false is e rest = All-cons (λ (z : State K). id ≢ z.id) x xs (λ same. differ (sym same) is) (rest e)
+      by false is e rest = All-cons (λ (z : State K). id ≢ z.id) x xs (λ same. eqb-false x.id id is (sym same)) (rest e)
 
   some_has : (id : ℕ) (xs : List (State K)) → list_any (λ z. z.id == id) xs ≡ true → All (λ z. id ≢ z.id) xs → ⊥
   some_has id [] h all = cc (h)

@@ -1,9 +1,12 @@
 -- How a world comes along the logs, event by event.
-use Rattle.std.proofs.Common.{◌≡◌, ◌≢◌, ◌<◌, refl, sym, ap, subst, ◌∙◌, ◌+◌, ◌==◌, arith, ℕ, zero, suc, Bool, true, false, List, [], ◌∷◌, ◌++◌, length, map, take, Option, Some, None, Result, Ok, inl, inr, ◌⊎◌, eq-eqb, eqb-true}
+use Rattle.std.proofs.Common.{◌≡◌, ◌≢◌, ◌<◌, refl, sym, ap, subst, ◌∙◌, ◌+◌, ◌==◌, arith, ℕ, zero, suc, true, false, List, [], ◌∷◌, ◌++◌, length, map, take, Option, Some, None, Result, Ok, inl, inr, ◌⊎◌, eq-eqb}
 use Rattle.std.specs.Prelude.{slice_set, All, IsSome, is_none}
 use Rattle.std.specs.List.{slice_get, AllZip}
 use Rattle.std.specs.Option.{option_map}
+use Rattle.std.proofs.lemmas.Bool.{cases_eq, ne_eqb}
+use Rattle.std.proofs.lemmas.List.{length-set}
 use Rattle.std.proofs.lemmas.List.Elements.{All-nil}
+use Rattle.std.proofs.lemmas.Option.{none-some, slice_get_within}
 use Rattle.mr_filter.specs.Filter.{ClauseParts}
 use Rattle.mr_forms.specs.ByMeaning.{IsByMeaning}
 use Rattle.mr_forms.specs.Known.{Form}
@@ -38,9 +41,8 @@ use Rattle.mr_settle.specs.inner.Way.{NotesNewest, TellAll, left_over, HappensSo
 use Rattle.mr_settle.specs.inner.Carried.{done_of}
 use Rattle.mr_settle.specs.declared.progress.Progress.{Progress}
 use Rattle.mr_settle.proofs.ProgressLemmas.{map_there}
-use Rattle.mr_settle.proofs.ListLemmas.{some_one, get_within, get_set, get_other, length_set, split_at, get_all}
+use Rattle.mr_settle.proofs.ListLemmas.{some_one, get_set, get_other, split_at, get_all}
 use Rattle.mr_settle.proofs.NamedLemmas.{IsNamed, named, one_ask, one_record, one_receipt}
-use Rattle.mr_settle.proofs.StartLemmas.{eqb-false_of}
 use Rattle.mr_settle.proofs.MoveLemmas.{Turns, turns}
 use Rattle.mr_settle.proofs.LogLemmas.{only_on, log_with, log_without}
 
@@ -65,10 +67,7 @@ module _ {K : Type 0} where
 
   -- ends at two places have two ids
   pub other_id : (ends : List (State K)) (i j : ℕ) (s t : State K) → AreDistinct ends → slice_get ends i ≡ Some s → slice_get ends j ≡ Some t → j ≢ i → t.id ≢ s.id
-  other_id [] i j s t distinct is jt ne = absurd (none_some s is)
-    where
-      none_some : {A : Type 0} (x : A) → (let o : Option A = None in o ≡ Some x) → ⊥
-      none_some x e = cc
+  other_id [] i j s t distinct is jt ne = absurd (none-some s is)
   other_id (x ∷ xs) zero zero s t distinct is jt ne = absurd (ne refl)
   other_id (x ∷ xs) zero (suc j) s t distinct is jt ne =
       let first : x ≡ s = some_one x s (Some x) refl is in
@@ -121,7 +120,7 @@ module _ {K : Type 0} (form : Form K) (stable : IsByMeaning form) where
       let admitted = admits_next w w' end position e answer its at is_e t in
       let next : suc position ≡ position + 1 = omega arith in
       let first : take (position + 1) end.log ≡ take position end.log ++ e ∷ [] = ap (λ (n : ℕ). take n end.log) (sym next) ∙ parts.2 in
-      let low = get_within end.log position e is_e in
+      let low = slice_get_within end.log position e is_e in
       record {
         replica = t.after;
         there = t.is;
@@ -158,7 +157,7 @@ module _ {K : Type 0} (form : Form K) (stable : IsByMeaning form) where
     only =
         only_on w w' t.asks t.records t.receipts we happens.0 happens.1.notes way.only (happened_asks form w w' we happens.0 happens.1) end.id e told.0 named.is_for named.asks
         (t.answer_is ∙ ap (λ (o : Result Reply Refusal). Stepped o) told.1);
-    as_long = length_set done place (position + 1) ∙ way.as_long;
+    as_long = length-set done place (position + 1) ∙ way.as_long;
     each = each;
   }
     where
@@ -174,7 +173,7 @@ module _ {K : Type 0} (form : Form K) (stable : IsByMeaning form) where
       by : (j : ℕ) (other : State K) (p : ℕ) → (j ≡ place) ⊎ (j ≢ place) → slice_get ends j ≡ Some other → slice_get (slice_set done place (position + 1)) j ≡ Some p → IsAt form w' other p
       by j other p (inl same) is_other is_p =
           let mine : end ≡ other = some_one end other (slice_get ends j) (ap (slice_get ends) same ∙ next.end_is) is_other in
-          let number : position + 1 ≡ p = some_one (position + 1) p (slice_get (slice_set done place (position + 1)) j) (ap (slice_get (slice_set done place (position + 1))) same ∙ get_set done place (position + 1) (get_within done place position next.done_is)) is_p in
+          let number : position + 1 ≡ p = some_one (position + 1) p (slice_get (slice_set done place (position + 1)) j) (ap (slice_get (slice_set done place (position + 1))) same ∙ get_set done place (position + 1) (slice_get_within done place position next.done_is)) is_p in
           subst (λ (n : ℕ). IsAt form w' other n) number
           (subst (λ (s : State K). IsAt form w' s (position + 1)) mine
           (turned w w' end position e we happens.0 its at next.event_is named way.only happens.1))
@@ -183,11 +182,7 @@ module _ {K : Type 0} (form : Form K) (stable : IsByMeaning form) where
           (way.each j other p is_other (sym (get_other done place j (position + 1) ne) ∙ is_p)) named way.only happens.1
 
       each : (j : ℕ) (other : State K) (p : ℕ) → slice_get ends j ≡ Some other → slice_get (slice_set done place (position + 1)) j ≡ Some p → IsAt form w' other p
-      each j other p is_other is_p = by j other p (same_or (j == place) refl) is_other is_p
-        where
-          same_or : (b : Bool) → (j == place) ≡ b → (j ≡ place) ⊎ (j ≢ place)
-          same_or true h = inl (eqb-true j place h)
-          same_or false h = inr (λ is. absurd (cc (h, eq-eqb j place is)))
+      each j other p is_other is_p = by j other p (cases_eq j place) is_other is_p
 
   -- so do the numbers
   pub tells_after : (ends : List (State K)) (w w' : WorldView K) (old new : GivenNumbers) (done : List ℕ) (place position : ℕ) (we : Event Mail) (end : State K) (e : ReplicaEvent)
@@ -228,10 +223,10 @@ module _ {K : Type 0} (form : Form K) where
 
   -- the place is one of the ends, and of how far they have come
   pub ready_among : (ends : List (State K)) (given : GivenNumbers) (done : List ℕ) (ready : Ready) → IsReady form ends given done ready → ready.place < length ends
-  ready_among ends given done ready is = get_within ends ready.place is.end is.next.end_is
+  ready_among ends given done ready is = slice_get_within ends ready.place is.end is.next.end_is
 
   pub ready_in_progress : (ends : List (State K)) (given : GivenNumbers) (progress : List Progress) (ready : Ready) → IsReady form ends given (done_of progress) ready → ready.place < length progress
-  ready_in_progress ends given progress ready is = let p = map_there (λ (p : Progress). p.done) progress ready.place is.position is.next.done_is in get_within progress ready.place p.0 p.1
+  ready_in_progress ends given progress ready is = let p = map_there (λ (p : Progress). p.done) progress ready.place is.position is.next.done_is in slice_get_within progress ready.place p.0 p.1
 
 -- ---- the beginning
 
@@ -257,7 +252,7 @@ module _ {K : Type 0} (form : Form K) where
       let rest = made_there xs ps ms are.1 made.1 (AllPairs-tail (λ (a b : State K). a.id ≢ b.id) x xs distinct) i end is in
       let ne = get_all (λ (z : State K). x.id ≢ z.id) xs i end (AllPairs-head (λ (a b : State K). a.id ≢ b.id) x xs distinct) is in
       let id : m.replica.id ≡ x.id = ap (λ (s : State K). s.id) made.0.replica.is_empty ∙ are.0.id in
-      let other : (m.replica.id == end.id) ≡ false = eqb-false_of m.replica.id end.id (λ same. ne (sym id ∙ same)) in
+      let other : (m.replica.id == end.id) ≡ false = ne_eqb m.replica.id end.id (λ same. ne (sym id ∙ same)) in
       (rest.0, rw other rest.1, rest.2)
 
   pub made_ids : (ends : List (State K)) (specs : List Spec) (members : List (MemberView K)) → AllZip IsSpecOf ends specs → AllZip (IsMadeOf form) specs members → ids_of members ≡ map (λ (end : State K). end.id) ends
@@ -309,7 +304,4 @@ nearer (x ∷ xs) (d ∷ ds) (suc place) position end is is_p low = let rest = n
 pub ready_nearer : {K : Type 0} (form : Form K) (ends : List (State K)) (given : GivenNumbers) (done : List ℕ) (ready : Ready) → IsReady form ends given done ready → left_over ends (slice_set done ready.place ready.after) < left_over ends done
 ready_nearer form ends given done ready is =
     subst (λ (n : ℕ). left_over ends (slice_set done ready.place n) < left_over ends done) (sym is.after)
-    (nearer ends done ready.place is.position is.end is.next.end_is is.next.done_is (get_within is.end.log is.position is.event is.next.event_is))
-
-pub ready_within : {K : Type 0} (form : Form K) (ends : List (State K)) (given : GivenNumbers) (done : List ℕ) (ready : Ready) → IsReady form ends given done ready → ready.place < length done
-ready_within form ends given done ready is = get_within done ready.place is.position is.next.done_is
+    (nearer ends done ready.place is.position is.end is.next.end_is is.next.done_is (slice_get_within is.end.log is.position is.event is.next.event_is))

@@ -25,8 +25,9 @@ use std::alloc::Global;
 /// whatever the links between them did. Nothing else happened in the world: no event was refused, and nothing went
 /// through its ports, which have one place. No ends give the empty world.
 ///
-/// `Unexplained` where no log can go on: of the ends with events left it names the lowest, and its next event, by
-/// its number from 1, which carries a frame that nobody gave. `OutOfMemory` otherwise. The ends stay as they are.
+/// `Unexplained` where no log can go on in such a world, and nothing else happened in it: of the ends with events left
+/// it names the lowest, and its next event, by its number from 1, which carries a frame that nobody gave. `OutOfMemory`
+/// otherwise. The ends stay as they are.
 ///
 /// It costs the steps of all events again, and for each of them a few searches among the frames that were given; and,
 /// as often as another end goes on, a look at the ends between, with a search for each.

@@ -1,8 +1,8 @@
 use Rattle.std.proofs.Common.{take}
 use Rattle.mr_forms.specs.Covered.{all_covered}
 use Rattle.mr_concise.specs.Vector.{vector_has}
-use Rattle.mr_lookup.proofs.HighestLemmas.{IsFound}
+use Rattle.mr_lookup.specs.Highest.{IsHighestFound}
 use Rattle.mr_lookup.proofs.highest.highest_in.Given as goal
 
 abbrev pub invariant-loop-fragment : goal.invariant-loop-fragment
-invariant-loop-fragment l = IsFound (all_covered vector_has (take l.fragment-index l.fragments)) l.author l.highest
+invariant-loop-fragment l = IsHighestFound (all_covered vector_has (take l.fragment-index l.fragments)) l.author l.highest

@@ -1,10 +1,12 @@
-use Rattle.std.proofs.Common.{◌≡◌, ◌≤◌, drop}
-use Rattle.mr_lookup.specs.History.{history_after, history_of}
+use Rattle.std.proofs.Common.{◌≡◌, ◌≤◌, fold, take}
+use Rattle.mr_lookup.specs.Told.{issued_with}
+use Rattle.mr_lookup.specs.History.{IsHistory}
 use Rattle.mr_lookup.proofs.past.history_in.Given as goal
 
--- with what is left, the versions so far give those of the whole log
+-- how many versions the events so far issued, and what they tell of the item
 abbrev pub invariant-loop-event : goal.invariant-loop-event
 invariant-loop-event l = record {
   few : l.issued ≤ l.event-index;
-  left : history_after l.id l.issued l.item l.past.items (drop l.event-index l.log) ≡ history_of l.id l.item l.log;
+  issued : l.issued ≡ fold issued_with 0 (take l.event-index l.log);
+  past : IsHistory l.id l.item (take l.event-index l.log) l.past.items;
 }

@@ -11,19 +11,13 @@ pub returns-in-Some-clause-why : goal.returns-in-Some-clause-why
 returns-in-Some-clause-why g c =
     stuck_at g.K.Knowledge.form c.args.ends.now c.in_ok-way.way.world (given_by c.in_ok-way.way.given) (done_of c.in_ok-way.way.progress.items) (done_of c.deref.result.now) _ _ c.in_ok-way.ensures.under_way c.in_ok-way.ensures.tells c.in_ok-way.ensures.rest (ap done_of c.deref.ensures.value) c.in-Some.ensures
 
-pub returns-in-None-clause-explains : goal.returns-in-None-clause-explains
-returns-in-None-clause-explains g c =
-    explained g.K.Knowledge.form g.met.K.Knowledge.by_meaning c.args.ends.now c.in_ok-way.way.world (done_of c.in_ok-way.way.progress.items) c.in_ok-way.ensures.under_way
-    (subst (λ (ps : List Progress). FindsLeft c.args.ends.now (done_of ps) None) c.deref.ensures.value c.in-None.ensures) c.compare.ensures
-
-pub returns-in-None-clause-kept : goal.returns-in-None-clause-kept
-returns-in-None-clause-kept g c =
-    let explains = explained g.K.Knowledge.form g.met.K.Knowledge.by_meaning c.args.ends.now c.in_ok-way.way.world (done_of c.in_ok-way.way.progress.items) c.in_ok-way.ensures.under_way
-    (subst (λ (ps : List Progress). FindsLeft c.args.ends.now (done_of ps) None) c.deref.ensures.value c.in-None.ensures) c.compare.ensures in
-    ends_keep g.K.Knowledge.form c.in_ok-way.way.world c.promise.ensures c.args.ends.now explains.same c.compare.ensures
-
-pub returns-in-None-clause-together : goal.returns-in-None-clause-together
-returns-in-None-clause-together g c =
-    let explains = explained g.K.Knowledge.form g.met.K.Knowledge.by_meaning c.args.ends.now c.in_ok-way.way.world (done_of c.in_ok-way.way.progress.items) c.in_ok-way.ensures.under_way
-    (subst (λ (ps : List Progress). FindsLeft c.args.ends.now (done_of ps) None) c.deref.ensures.value c.in-None.ensures) c.compare.ensures in
-    ends_keep_together g.K.Knowledge.form c.in_ok-way.way.world c.args.ends.now explains c.promise.ensures
+pub returns-in-None : goal.returns-in-None
+returns-in-None g c =
+    let none = subst (λ (ps : List Progress). FindsLeft c.args.ends.now (done_of ps) None) c.deref.ensures.value c.in-None.ensures in
+    let explains = explained g.K.Knowledge.form g.met.K.Knowledge.by_meaning c.args.ends.now c.in_ok-way.way.world (done_of c.in_ok-way.way.progress.items) c.in_ok-way.ensures.under_way none c.compare.ensures in
+    record {
+      explains = explains;
+      kept = ends_keep g.K.Knowledge.form c.in_ok-way.way.world c.promise.ensures c.args.ends.now explains.same c.compare.ensures;
+      together = ends_keep_together g.K.Knowledge.form c.in_ok-way.way.world c.args.ends.now explains c.promise.ensures;
+      why = tt;
+    }
