@@ -54,7 +54,8 @@ impl<K: Knowledge> Hosted<K> {
     }
 
     /// Brings back the replica of a file that was synced and then read. The faults are those of [`mr_kept::Journaled::open`]; at one the host does
-    /// nothing. A file that a host left, in whichever act, is never refused, but for memory.
+    /// nothing. A file that a host left, in whichever act, is refused for memory alone, or with `NoReplica` where the host was stopped before its
+    /// first act was done: then nothing was told yet, and the file may be begun anew once it is empty.
     pub fn open(
         alloc: Global,
         read: Vec<u8>,
