@@ -126,7 +126,3 @@ module _ {E : Type 0} (r : Result Act E) (mail : Standing) (is : IfOk r (λ act.
   where_lacking =
       IfOk-weaker r (λ act. act ≡ act_for mail) (λ act. mail.has_file ≡ false → standing mail.seen ≡ None → act ≡ Agree)
       (λ act e none unseen. e ∙ lacking mail none unseen) is
-
--- what is made of the views that were lent
-pub judged_is : (mail : Standing) (left seen held : Option ViewParts) (act result : Act) → left ≡ mail.left → seen ≡ mail.seen → held ≡ mail.held → act ≡ act_of left seen held → result ≡ believed mail act → result ≡ act_for mail
-judged_is mail left seen held act result l s h a b = b ∙ ap (believed mail) (a ∙ (λ i. act_of (l i) (s i) (h i)))

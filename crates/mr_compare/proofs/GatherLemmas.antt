@@ -17,18 +17,6 @@ alike {K} {X} {R} total x y same (e ∷ es) =
     ap (λ (o : Ordering). cond (is_eq o) (Some e.1) (lookup (λ k. is_eq (R x k)) es)) (total.congr x y e.0 same)
     ∙ ap (λ (r : Option X). cond (is_eq (R y e.0)) (Some e.1) r) (alike total x y same es)
 
--- a key is taken out, and put in again
-pub put_again : {K V : Type 0} (R : K → K → Ordering) (old mid new : List (K × Vec V)) (key : K) (more : Vec V) →
-    ((q : K) → lookup (λ own. is_eq (R q own)) mid ≡ cond (is_eq (R key q)) None (lookup (λ own. is_eq (R q own)) old)) →
-    ((q : K) → lookup (λ own. is_eq (R q own)) new ≡ cond (is_eq (R key q)) (Some more) (lookup (λ own. is_eq (R q own)) mid)) →
-    (q : K) → values_at R new q ≡ cond (is_eq (R key q)) more.items (values_at R old q)
-put_again {K} {V} R old mid new key more taken put q = ap items_of (put q) ∙ cases (is_eq (R key q)) (taken q)
-  where
-    cases : (b : Bool) → lookup (λ own. is_eq (R q own)) mid ≡ cond b None (lookup (λ own. is_eq (R q own)) old)
-        → items_of (cond b (Some more) (lookup (λ own. is_eq (R q own)) mid)) ≡ cond b more.items (values_at R old q)
-    cases true e = refl
-    cases false e = ap items_of e
-
 -- a key that isn't there is put in with one value
 pub put_first : {K V : Type 0} {R : K → K → Ordering} → IsTotalOrder R → (old new : List (K × Vec V)) (key : K) (value : V) (one : Vec V) → one.items ≡ value ∷ [] →
     lookup (λ own. is_eq (R key own)) old ≡ None →

@@ -79,15 +79,6 @@ pub passed : {X : Type 0} (f : X → Standing) (xs : List X) (i : ℕ) (x : X) (
     → first_undecided (map f xs) ≡ first_undecided (map f (drop i xs)) → first_undecided (map f xs) ≡ first_undecided (map f (drop (i + 1) xs))
 passed f xs i x found h e is other known = known ∙ first_at f xs i x false h e (sym is ∙ other)
 
--- it is this one
-pub found_here : {X : Type 0} (f : X → Standing) (xs : List X) (i : ℕ) (x : X) (found : Bool) → i < length xs → x ≡ get_or xs i x → found ≡ is_undecided (f x) → found ≡ true
-    → first_undecided (map f xs) ≡ first_undecided (map f (drop i xs)) → Some (f x).digest ≡ first_undecided (map f xs)
-found_here f xs i x found h e is here known = sym (known ∙ first_at f xs i x true h e (sym is ∙ here))
-
--- there is none
-pub none_found : {X : Type 0} (f : X → Standing) (xs : List X) (i : ℕ) → length xs ≤ i → first_undecided (map f xs) ≡ first_undecided (map f (drop i xs)) → None ≡ first_undecided (map f xs)
-none_found f xs i end known = sym (known ∙ ap (λ rest. first_undecided (map f rest)) (drop_all i xs end))
-
 -- the first one of some mails is that of them and others
 pub first_of_both : (xs ys : List Standing) (digest : List ℕ) → Some digest ≡ first_undecided xs → Some digest ≡ first_undecided (xs ++ ys)
 first_of_both [] ys digest h = cc

@@ -28,15 +28,8 @@ first_alone a b q v none = let is = column_of-IsColumn 0 a q v in record { apart
 pub second_alone : (a b : List AuthorColumn) (q : ℕ) → IsVectorFrom 0 b → (column_of a q).upto ≤ 0 → IsColumnOf (of_author (both (vector_has a) (vector_has b)) q) (column_of b q)
 second_alone a b q v none = let is = column_of-IsColumn 0 b q v in record { apart = is.apart; in_range = is.in_range; means = λ c. rw (nothing-in (column_of a q) c none) refl }
 
-pub fewer-from_column : (has : ℕ → Bool) (column : Extent) (limit : ℕ) → IsColumnOf has column → length column.holes < limit → HasFewerHoles has limit
-fewer-from_column has column limit is l = record { column = column; is = is; fewer = l }
-
 pub at_least-from_column : (has : ℕ → Bool) (column : Extent) (limit : ℕ) → IsColumnOf has column → limit ≤ length column.holes → HasAtLeastHoles has limit
 at_least-from_column has column limit is l other w = let e = ap (λ (x : Extent). length x.holes) (IsColumnOf-unique has other column w is) in omega arith
-
--- two columns of an author, as a source has them and as the vectors have them
-pub columns-of_two : (a b : List AuthorColumn) (q : ℕ) → of_author (both (in_column q (column_of a q)) (in_column q (column_of b q))) q ≡ of_author (both (vector_has a) (vector_has b)) q
-columns-of_two a b q = let h : (c : ℕ) → of_author (both (in_column q (column_of a q)) (in_column q (column_of b q))) q c ≡ of_author (both (vector_has a) (vector_has b)) q c = λ c. rw (eq-eqb q q refl) refl in λ i c. h c i
 
 -- a set that has a vector has few holes
 pub few-from_vector : (columns : List AuthorColumn) (set : Versions) → IsVectorFrom 0 columns → IsSame (vector_has columns) set → HasTooManyHoles set → ⊥

@@ -163,14 +163,6 @@ Merged-many a b holes from first last w step some full top low =
     let more = found-fewer (has_one a b) holes first last whole.column (Merged-push (has_one a b) holes from first last w step some) step.after whole.is in
     record { column = whole.column; is = whole.is; many = omega arith }
 
--- the same of the two in the other order
-pub HasManyHoles-swap : (a b : Extent) → HasManyHoles (has_one b a) → HasManyHoles (has_one a b)
-HasManyHoles-swap a b many = record {
-  column = many.column;
-  is = record { apart = many.is.apart; in_range = many.is.in_range; means = λ c. many.is.means c ∙ or_comm (column_has b c) (column_has a c) };
-  many = many.many;
-}
-
 -- THE UNION: where an author's columns put together have too many holes, so has what one of two vectors has
 pub many-merged : (a b : List AuthorColumn) (k : ℕ) (x : AuthorColumn) → IsVectorFrom 0 b → k < length b → x ≡ get_or b k x → HasManyHoles (has_one (column_of a x.author) x.column) → HasTooManyHoles (both (vector_has a) (vector_has b))
 many-merged a b k x vb l at many =

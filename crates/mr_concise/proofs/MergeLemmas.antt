@@ -132,11 +132,3 @@ Merged-end a b holes from w top low bound none = record {
     go c (inl l) q = rw (lt-ltb c from l) refl
     go c (inr f) (inl u) = let le : c ≤ a.upto = omega arith in rw (le-ltb c from f, lt-ltb c (a.upto + 1) u) (sym (or_left (column_has a c) (column_has b c) (none c f ∙ le-leb c a.upto le)))
     go c (inr f) (inr g) = rw (le-ltb c from f, le-ltb c (a.upto + 1) g) (sym (out c (omega arith)))
-
--- the same of the two in the other order
-pub IsColumnOf-swap : (a b column : Extent) → IsColumnOf (has_one b a) column → IsColumnOf (has_one a b) column
-IsColumnOf-swap a b column is = record {
-  apart = is.apart;
-  in_range = is.in_range;
-  means = λ c. is.means c ∙ or_comm (column_has b c) (column_has a c);
-}

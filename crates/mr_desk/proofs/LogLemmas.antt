@@ -16,9 +16,6 @@ pub record ReadSoFar (bytes : List ℕ) (events : List Event) (rest : List ℕ) 
   pub each : All HasBytes events
   pub all : bytes ≡ flat_map event_bytes events ++ rest
 
-pub log-begin : (bytes : List ℕ) → ReadSoFar bytes [] bytes
-log-begin bytes = record { each = All-nil HasBytes; all = refl }
-
 -- an event that is spelled has its bytes
 has_bytes : (e : Event) (text : List ℕ) → SpellsEvent e text → HasBytes e
 has_bytes e text s = record { in_grammar = s.in_grammar; few = s.few; written = refl }
@@ -31,17 +28,3 @@ log-more bytes rest events e used so_far s =
       each = All-push HasBytes events e so_far.each (has_bytes e (take used rest) s);
       all = so_far.all ∙ ap (λ r. flat_map event_bytes events ++ r) split ∙ sym (append_assoc (flat_map event_bytes events) (event_bytes e) (drop used rest)) ∙ ap (λ t. t ++ drop used rest) (flat_map_more event_bytes [] events e);
     }
-
--- an event takes a byte at least
-pub log-nearer : (rest : List ℕ) (e : Event) (used : ℕ) → SpellsEvent e (take used rest) → used ≤ length rest → length (drop used rest) < length rest
-log-nearer rest e used s within =
-    let total : length (take used rest) + length (drop used rest) ≡ length rest = sym (length-append (take used rest) (drop used rest)) ∙ ap length (take-append-drop used rest) in
-    let some : length (take used rest) ≡ length (u32 (length (rest_bytes e))) + length (rest_bytes e) = ap length s.written ∙ length-append (u32 (length (rest_bytes e))) (rest_bytes e) in
-    omega (arith, total, some)
-
-pub log-end : (bytes rest : List ℕ) (events : List Event) → ReadSoFar bytes events rest → rest ≡ [] → SpellsLog events bytes
-log-end bytes rest events so_far none = record { each = so_far.each; written = so_far.all ∙ ap (λ r. flat_map event_bytes events ++ r) none ∙ append-nil (flat_map event_bytes events) }
-
-pub log-stop : (bytes rest : List ℕ) (events : List Event) (f : EventFault) → ReadSoFar bytes events rest → event_decoded rest ≡ Err f → StopsIn bytes f
-log-stop bytes rest events f so_far stops =
-    record { events = events; before = flat_map event_bytes events; rest = rest; spelled = record { each = so_far.each; written = refl }; all = so_far.all; stops = stops }

@@ -60,18 +60,6 @@ length-filter_map f (x ∷ xs) =
 
 -- ---- what is kept of a list
 
--- one more is kept if it passes
-kept-one : {A B : Type 0} (f : A → B) (p : A → Bool) (x : A) → map f (filter p (x ∷ [])) ≡ (if p x then f x ∷ [] else [])
-kept-one f p x = elim (p x) as (λ b. map f (cond b (x ∷ []) []) ≡ cond b (f x ∷ []) []) [ true ↦ refl | false ↦ refl ]
-
-pub kept-pushed : {A B : Type 0} (f : A → B) (p : A → Bool) (start : List B) (all : List A) (i : ℕ) (x : A) (before after : List B) → take (i + 1) all ≡ take i all ++ x ∷ [] →
-    before ≡ start ++ map f (filter p (take i all)) → after ≡ before ++ (if p x then f x ∷ [] else []) → after ≡ start ++ map f (filter p (take (i + 1) all))
-kept-pushed f p start all i x before after more invariant pushed =
-    let xs = take i all in
-    pushed ∙ ap (λ ys. ys ++ (if p x then f x ∷ [] else [])) invariant ∙ append_assoc start (map f (filter p xs)) (if p x then f x ∷ [] else [])
-    ∙ ap (λ ys. start ++ (map f (filter p xs) ++ ys)) (sym (kept-one f p x))
-    ∙ ap (λ ys. start ++ ys) (sym (map-append f (filter p xs) (filter p (x ∷ []))) ∙ ap (map f) (sym (filter-append p xs (x ∷ [])) ∙ ap (filter p) (sym more)))
-
 -- tests that answer the same keep the same
 pub filter-same : {A : Type 0} (p q : A → Bool) → ((x : A) → p x ≡ q x) → (xs : List A) → filter p xs ≡ filter q xs
 filter-same p q same [] = refl

@@ -136,9 +136,6 @@ sync_path_untouched (Err e) at old new is = untouched old new is
 pub synced : (at : List ℕ) (old new : List Step) → new ≡ Syncs at ∷ old → NoneOr at (tree_of old at) (MayLeave new)
 synced at old new is = subst (λ l. NoneOr at (tree_of old at) (MayLeave l)) (sym is) (λ c may. may.2.1)
 
-pub synced_path : (at : List ℕ) (old new : List Step) → new ≡ SyncsPath at ∷ old → HasSame at (tree_of old) (MayLeave new)
-synced_path at old new is = subst (λ l. HasSame at (tree_of old) (MayLeave l)) (sym is) (λ c may. may.2.1)
-
 -- what a step does, where the call made it
 pub write_ok : {U E : Type 0} (Q : List Step → Type 0) (r : Result U E) (step : Step) (old new : List Step) → Q (step ∷ old) → new ≡ (if is_ok r then step ∷ old else old) → OnOk r (Q new)
 write_ok Q (Ok u) step old new does is = subst Q (sym is) does

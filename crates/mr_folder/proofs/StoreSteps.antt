@@ -87,9 +87,6 @@ only_at {old} {new} path place same only = subst (λ p. OnlyAt p old new) same o
 pub unmoved : (from to : List ℕ) (old new : Tree) → new ≡ old → MayMove from to old new
 unmoved from to old new same = subst (λ t. MayMove from to old t) (sym same) record { source = inl refl; target = inl refl; only = λ other a b. refl }
 
-pub same_tree : (path : List ℕ) (old new : Tree) → new ≡ old → OnlyAt path old new
-same_tree path old new same = λ other apart. ap (λ t. t other) same
-
 -- a test of bytes tells whether they are one
 pub tells : (b : Bool) (x y : List ℕ) → b ≡ bytes_eq x y → (b ≡ true) ↔ (x ≡ y)
 tells b x y is = (λ yes. (bytes_eq-Decides x y).0 (sym is ∙ yes), λ same. is ∙ (bytes_eq-Decides x y).1 same)

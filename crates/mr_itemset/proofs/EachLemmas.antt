@@ -226,20 +226,6 @@ few_given k items set few = few_of k items set (items ++ items_of k.listed) (λ 
     go q (inl same) = inl same
     go q (inr among) = inr (list_any-append (name_eq q) items (items_of k.listed) ∙ among)
 
-pub few_covered : {limit : ℕ} (k : Normal) (items : List Name) (set : Versions) → IsNormal limit k → Covers (vector_has k.all) set → ListsTooMany limit (with_each (normal_known k) items set) → ⊥
-few_covered k items set normal covers = few_of k items set (items_of k.listed) (λ q. go q (cases_Bool (list_any (name_eq q) (items_of k.listed)))) (let same : length (items_of k.listed) ≡ length k.listed = length-map k.listed (λ x. x.item) in let few = normal.few in omega arith)
-  where
-    nothing_new : (b s a : Bool) → (s ≡ true → a ≡ true) → ((b && s) || a) ≡ a
-    nothing_new true true a h = sym (h refl)
-    nothing_new true false a h = refl
-    nothing_new false s a h = refl
-
-    go : (q : Name) → (list_any (name_eq q) (items_of k.listed) ≡ true) ⊎ (list_any (name_eq q) (items_of k.listed) ≡ false) → IsSame (with_each (normal_known k) items set q) (vector_has k.all) ⊎ (list_any (name_eq q) (items_of k.listed) ≡ true)
-    go q (inl listed) = inr listed
-    go q (inr free) = inl (λ v.
-        ap (λ (c : List AuthorColumn). (list_any (λ item. name_eq item q) items && set v) || vector_has c v) (vector_in-unlisted k.all k.listed q free)
-        ∙ nothing_new (list_any (λ item. name_eq item q) items) (set v) (vector_has k.all v) (covers v))
-
 -- ---- one item after another
 
 pub each_more : (k old new : Name → Name → Bool) (items : List Name) (item : Name) (set : Versions) → AreSame old (with_each k items set) → AreSame new (with_below old item set) → AreSame new (with_each k (items ++ item ∷ []) set)
@@ -266,7 +252,3 @@ nothing_each false s a false h up = refl
 
 pub covered_each : {limit : ℕ} (k : Normal) (items : List Name) (set : Versions) → IsNormal limit k → Covers (vector_has k.all) set → AreSame (normal_known k) (with_each (normal_known k) items set)
 covered_each k items set normal covers i v = nothing_each (list_any (λ item. name_eq item i) items) (set v) (vector_has k.all v) (normal_known k i v) (covers v) (covers_all k i v normal)
-
-pub not_holey_covered : {limit : ℕ} (k : Normal) (items : List Name) (set : Versions) → IsNormal limit k → Covers (vector_has k.all) set → HasHoleyItem (with_each (normal_known k) items set) → ⊥
-not_holey_covered k items set normal covers holey =
-    few-vector (vector_of k holey.item) (with_each (normal_known k) items set holey.item) (vector_of-IsVector k holey.item normal) (covered_each k items set normal covers holey.item) holey.holes

@@ -45,18 +45,6 @@ there_takes most (h ∷ hs) v k g read at = go (cases_Bool (takes most h v)) (λ
     go (inl ours) rest = here k (sym (inside 0 k 0 (rw ours at at))) read ours
     go (inr other) rest = let found = later (place_of most hs v) k (rw other at at) in rest found.0 found.1.0 (there k found.0 found.1.1 read)
 
--- where neither of the noted places is that of a group that takes one, none does
-pub noted_nowhere : (most : ℕ) (gs : List Alike) (slots : List (Option ℕ)) (others : BTreeMap (List AuthorColumn) ℕ) (v : List AuthorColumn) → AreNoted most gs slots others
-    → ((at : ℕ) → get_or slots (slot_of (length slots) v) None ≡ Some at → place_of most gs v ≢ Some at) → ((at : ℕ) → get vector_cmp others v ≡ Some at → place_of most gs v ≢ Some at) → None ≡ place_of most gs v
-noted_nowhere most gs slots others v noted slot other = go (place_of most gs v) refl
-  where
-    go : (p : Option ℕ) → place_of most gs v ≡ p → None ≡ p
-    go None e = refl
-    go (Some k) e = elim (noted v k e) [
-      | inl is ↦ absurd (slot k is e)
-      | inr is ↦ absurd (other k is e)
-    ]
-
 then_was : (most : ℕ) (g : Alike) (gs : List Alike) (x : Listed) (c : List AuthorColumn) (k : ℕ) → place_then most g gs x c ≡ Some k → place_of most gs c ≡ Some k
 then_was most g gs x c k e = go (cases_Bool (nat_lt (suc (length g.items)) most)) (cases_Bool (vector_eq x.vector c))
   where
@@ -81,17 +69,6 @@ noted_alone most gs x slots new others more room none noted here kept c j is = g
         let there : length gs ≡ j = inside (length gs) j 0 (rw same at e) in
         rw (← one, ← there) here
     go (inr other) e = kept c j (λ one. false≢true (sym other ∙ (vectors_Decides x.vector c).1 (sym one))) (noted c j (rw other at e))
-
--- a slot that was empty is that of no place
-pub noted_set : (slots : List (Option ℕ)) (others : BTreeMap (List AuthorColumn) ℕ) (i place : ℕ) (v : List AuthorColumn) (at : ℕ) → get_or slots i None ≡ None → i < length slots → IsNoted slots others v at → IsNoted (set slots i (Some place)) others v at
-noted_set slots others i place v at empty within (inr other) = inr other
-noted_set slots others i place v at empty within (inl is) = inl (rw (length-set slots i (Some place)) (go (slot_of (length slots) v) is))
-  where
-    go : (s : ℕ) → get_or slots s None ≡ Some at → get_or (set slots i (Some place)) s None ≡ Some at
-    go s e = elim (cases_eq s i) [
-      | inl same ↦ absurd (none_is_not at (sym empty ∙ rw same at e))
-      | inr differs ↦ get_or-set_other slots i s (Some place) None differs ∙ e
-    ]
 
 -- under another vector the map has the place that it had
 pub noted_beside : (others more : BTreeMap (List AuthorColumn) ℕ) (key w v : List AuthorColumn) (place at : ℕ) → key ≡ w → v ≢ w → get vector_cmp more v ≡ cond (is_eq (vector_cmp key v)) (Some place) (get vector_cmp others v) → get vector_cmp others v ≡ Some at → get vector_cmp more v ≡ Some at

@@ -269,10 +269,6 @@ module _ (all own told set : ℕ → Bool) (are : (c : ℕ) → (told c ≡ true
       let counted_b : s (a.upto + b.upto) ≡ length b.holes = ap (holes_among set) (add_comm a.upto b.upto) ∙ ap (λ (has : ℕ → Bool). holes_among has (b.upto + a.upto)) (λ i c. sym (is_set c) i) ∙ whole_column b of_b a.upto in
       both_ends (t (a.upto + b.upto)) (s (a.upto + b.upto)) (length a.holes) (length b.holes) (fewer (a.upto + b.upto)).le counted_a counted_b
 
--- A column of what is told has no more holes than one of all that the item has.
-pub told_few : (all own : ℕ → Bool) (a b : Extent) → IsRising 0 (edges a) → IsRising 0 (edges b) → ((c : ℕ) → (column_has a c ≡ true) ↔ IsTold all own c) → ((c : ℕ) → column_has b c ≡ own c) → length a.holes ≤ length b.holes
-told_few all own a b of_a of_b told has = fewest all own (column_has a) own told (λ c mine out. mine) (λ c mine. mine) a b of_a of_b (λ c. refl) has
-
 -- no set that says enough has fewer
 pub has_fewest : (all own told : Versions) → AreTold all own told → HasFewestHoles all own told
 has_fewest all own told are set enough author holes has column is =

@@ -34,15 +34,6 @@ pub record Walked (all own : ℕ → Bool) (holes : List Hole) (upto : ℕ) : Ty
   pub past : (c : ℕ) → upto < c → is_on true (hole_edges holes ++ (upto + 1) ∷ []) c ≡ false
   pub begins : (upto ≡ 0) ⊎ (is_beyond all own upto ≡ true)
 
-pub walked_none : (all own : ℕ → Bool) → Walked all own [] 0
-walked_none all own = record {
-  rising = (omega arith, tt);
-  in_range = omega arith;
-  means = λ c from to. absurd (omega arith);
-  past = λ c above. let out : 1 ≤ c = omega arith in rw (le-ltb c 1 out) refl;
-  begins = inl refl;
-}
-
 bool-raise : (c at e : ℕ) → at ≤ e → (if nat_lt c e then true else false) ≡ (if nat_lt c at then (if nat_lt c at then true else false) else nat_lt c e)
 bool-raise c at e le = grind (arith, nat_tests)
 
@@ -287,14 +278,6 @@ pub record ToldTo (all own : Versions) (columns : List AuthorColumn) (id : ℕ) 
   pub lower : All (λ x. x.author < id) columns
   pub means : (q c : ℕ) → q < id → (column_has (column_of columns q) c ≡ true) ↔ IsToldOfAuthor all own q c
   pub rest : (q c : ℕ) → id ≤ q → column_has (column_of columns q) c ≡ false
-
-pub told_none : (all own : Versions) → ToldTo all own [] 0
-told_none all own = record {
-  vector = tt;
-  lower = All-nil (λ x. x.author < 0);
-  means = λ q c below. absurd (omega arith);
-  rest = λ q c from. column_has-empty c;
-}
 
 -- nothing is told of an author of whom the item has nothing beside
 nothing_told : (all mine : Versions) (q : ℕ) → ((c : ℕ) → of_author mine q c ≡ false) → (c : ℕ) → IsToldOfAuthor all (both all mine) q c → ⊥

@@ -66,9 +66,6 @@ same_front size digest bytes left rest lt bytes_lt first is =
       sym (drop_at (u64 size) digest 8 refl) ∙ ap (λ (l : List ℕ). drop 8 l) behind ∙ drop_at (u64 (length bytes)) (sha256 bytes) 8 refl,
     )
 
-pub nothing_past : (rest : List ℕ) → rest ≡ [] → IsNothing rest
-nothing_past rest is = record { no_gate = λ left e. cc; no_body = λ bytes left lt e. cc }
-
 -- a front that is neither leaves nothing
 pub nothing_broken : (first rest : List ℕ) (count : ℕ) → first ≡ take count rest → count ≡ min 41 (length rest) → 0 < count → ((left : List ℕ) → first ≢ 0 ∷ left) → ((size : ℕ) (digest : List ℕ) → length digest ≡ 32 → first ≢ 1 ∷ (u64 size ++ digest)) → IsNothing rest
 nothing_broken first rest zero first_is count_is some no_gate no_head = absurd (omega arith)
@@ -158,15 +155,6 @@ entry_front bytes entry behind count lt entry_lt first is =
 -- the four bytes that were read are those of the number
 pub spelled_u32 : (bytes number : List ℕ) (count : ℕ) → length number ≡ 4 → number ≡ take 4 bytes → ((i : ℕ) → get_or bytes i 0 < 256) → count ≡ from_be_bytes w32 number → take 4 bytes ≡ u32 count
 spelled_u32 bytes number count four is fits count_is = sym (be_bytes_4 number count four (λ i. rw is (byte_of_part 0 4 bytes fits i)) count_is ∙ is)
-
--- fewer than four bytes begin with no entry
-pub no_entry_short : (bytes entry behind : List ℕ) → length bytes < 4 → bytes ≢ entry_bytes entry ++ behind
-no_entry_short bytes entry behind short e = omega (arith, short, ap length e, length-append (entry_bytes entry) behind, length-append (u32 (length entry)) entry)
-
--- nor do bytes that end before it does
-pub no_entry : (bytes entry behind : List ℕ) (count : ℕ) → count < 2 ^ 32 → length entry < 2 ^ 32 → take 4 bytes ≡ u32 count → length bytes < 4 + count → bytes ≢ entry_bytes entry ++ behind
-no_entry bytes entry behind count lt entry_lt first short e =
-    omega (arith, short, entry_front bytes entry behind count lt entry_lt first e, ap length e, length-append (entry_bytes entry) behind, length-append (u32 (length entry)) entry)
 
 pub is_entry : (bytes entry behind : List ℕ) (count : ℕ) → 4 + count ≤ length bytes → take 4 bytes ≡ u32 count → entry ≡ take count (drop 4 bytes) → behind ≡ drop count (drop 4 bytes) → bytes ≡ entry_bytes entry ++ behind
 is_entry bytes entry behind count le first entry_is behind_is =

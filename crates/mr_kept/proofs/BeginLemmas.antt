@@ -31,16 +31,6 @@ of_setup file id filter limit birth mark why h = h
 pub no_journal_fault : (filter : List ClauseParts) (limit : ℕ) (why : OpenFault) (j : JournalFault) → IsOfSetup filter limit why → why ≡ fault.Journal j → ⊥
 no_journal_fault filter limit why j h is = subst (IsOfSetup filter limit) is h
 
--- a filter with too long a text
-pub head_fault : (filter : List ClauseParts) (limit : ℕ) (head : HeadParts) (why : EntryFault) → IsLimit limit → Reads head.filter filter → Encodes (entry.Head head) (Err why) → why ≢ spelling.OutOfMemory → IsOfSetup filter limit (fault.BadEntry 0 why)
-head_fault filter limit head spelling.OutOfMemory is reads h other = absurd (other refl)
-head_fault filter limit head spelling.TooLong is reads h other = (is, refl, refl, (head.filter, reads, h))
-head_fault filter limit head spelling.Truncated is reads h other = absurd h
-head_fault filter limit head spelling.BadKind is reads h other = absurd h
-head_fault filter limit head (spelling.OtherFormat f) is reads h other = absurd h
-head_fault filter limit head spelling.BadBody is reads h other = absurd h
-head_fault filter limit head (spelling.BadEvent f) is reads h other = absurd h
-
 -- the file is refused
 pub of_open : (file : List ℕ) (head : HeadParts) (why : JournalFault) → IsReason why file → IsOfFile file head why
 of_open file head journal.TooLarge h = absurd h

@@ -147,9 +147,6 @@ pub record GatheredSoFar (texts : List (List ℕ)) (events : List Event) (issued
   pub issued_is : issued ≡ issued_after 0 events
   pub notes_told : notes ≡ notes_of list
 
-pub gathered_none : GatheredSoFar [] [] 0 []
-gathered_none = record { list = []; spelled = record { in_grammar = tt; written = refl }; belong = tt; few = omega arith; events_told = refl; issued_is = refl; notes_told = refl }
-
 gathered_more : (texts : List (List ℕ)) (events after : List Event) (issued now : ℕ) (notes notes_after : List NoteParts) (e : Entry) (text : List ℕ) → GatheredSoFar texts events issued notes → Spells e text
     → after ≡ events ++ events_of_entry e → now ≡ issued_after issued (events_of_entry e) → notes_after ≡ notes ++ notes_of_entry e → Belongs issued e → length after ≤ MAX_EVENTS + 1
     → GatheredSoFar (texts ++ text ∷ []) after now notes_after

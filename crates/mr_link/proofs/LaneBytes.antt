@@ -41,29 +41,12 @@ none_taken spout tap more downs hung_up end is same = ap (λ (z : TapEnd Chunk).
 pub none_offered : (spout tap more : TapEnd Chunk) (downs : ℕ) (hung_up : Bool) (end : LaneEnd) → end_over spout tap downs hung_up ≡ end → more ≡ spout → end_over more tap downs hung_up ≡ end
 none_offered spout tap more downs hung_up end is same = ap (λ (z : TapEnd Chunk). end_over z tap downs hung_up) same ∙ is
 
--- what was taken is a beginning of what was offered, and so are its bytes
-pub bytes_begin : (spout tap : TapEnd Chunk) (received sent : Option (List ℕ)) (more : List Chunk) → spout.passed ≡ tap.passed ++ more → received ≡ Some (bytes_in tap.passed) → sent ≡ Some (bytes_in spout.passed) → IsBeginning received sent
-bytes_begin spout tap received sent more order came went = record {
-  bytes = bytes_in tap.passed;
-  more = bytes_in more;
-  came = came;
-  went = went ∙ ap (λ (z : List ℕ). Some z) (ap bytes_in order ∙ flat_map-append (λ (p : Chunk). p.bytes.items) tap.passed more);
-}
-
 -- an end whose lanes are those of before
 pub same_end : (spout tap more other : TapEnd Chunk) (downs : ℕ) (hung_up : Bool) (end : LaneEnd) → end_over spout tap downs hung_up ≡ end → more.id ≡ spout.id → other.id ≡ tap.id → SameEnd end (end_over more other downs hung_up)
 same_end spout tap more other downs hung_up end is sends receives = record {
   sends_to = sends ∙ ap (λ (z : LaneEnd). z.sends_to) is;
   receives_from = receives ∙ ap (λ (z : LaneEnd). z.receives_from) is;
 }
-
-sent_none : (told : Option (List ℕ)) → told ≡ and_then told []
-sent_none None = refl
-sent_none (Some before) = ap (λ (z : List ℕ). Some z) (sym (append-nil before))
-
--- of no bytes nothing is sent
-pub nothing_sent : (l : LinkView) (bytes : List ℕ) → bytes ≡ [] → l ≡ with_sent l bytes
-nothing_sent l bytes none = ap (λ (z : Option (List ℕ)). record l { sent = z }) (sent_none l.sent) ∙ ap (with_sent l) (sym none)
 
 -- there is one at least
 pub some_bytes : (l bytes : List ℕ) (b : Bool) → l ≡ bytes → b ≡ (length bytes == 0) → b ≡ false → 0 < length l

@@ -240,12 +240,3 @@ unsent_too_long f wire.Truncated r is h = absurd h
 unsent_too_long f wire.BadFormat r is h = absurd h
 unsent_too_long f wire.BadKind r is h = absurd h
 unsent_too_long f wire.BadBody r is h = absurd h
-
--- and not since it is too long
-pub fault_is_short : (fault : WireFault) → fault ≢ wire.TooLong → snag_of_encoding fault ≢ snag.TooLong
-fault_is_short wire.TooLong short e = short refl
-fault_is_short wire.OutOfMemory short e = cc e
-fault_is_short wire.Truncated short e = cc e
-fault_is_short wire.BadFormat short e = cc e
-fault_is_short wire.BadKind short e = cc e
-fault_is_short wire.BadBody short e = cc e

@@ -85,20 +85,6 @@ label_byte_in_path b is =
           | inr dash ↦ let same : b ≡ 45 = eqb-true b 45 dash in omega arith
         ]
 
-no_dot_in_label : (text : List ℕ) → 1 ≤ length text → list_all is_label_byte text ≡ true → (slice_index text 0 == 46) ≡ false
-no_dot_in_label [] some all = absurd (omega arith)
-no_dot_in_label (b ∷ text) some all =
-    elim (b == 46) as (λ t. (b == 46) ≡ t → t ≡ false) [
-      | true ↦ λ is. let wrong : is_label_byte 46 ≡ true = rw (eqb-true b 46 is) at ((and_parts (is_label_byte b) (list_all is_label_byte text) all).0) in absurd (false≢true wrong)
-      | false ↦ λ _. refl
-    ] refl
-
-pub label_is_part : (text : List ℕ) → is_label text ≡ true → IsPathPart text
-label_is_part text is =
-    let two = and_parts (nat_le 1 (length text) && nat_le (length text) 32) (list_all is_label_byte text) is in
-    let some : 1 ≤ length text = leb-true 1 (length text) (and_parts (nat_le 1 (length text)) (nat_le (length text) 32) two.0).0 in
-    part text some (implied is_label_byte is_path_byte label_byte_in_path text two.1) (no_dot_in_label text some two.1)
-
 -- no label of a folder is the name of the program's own
 pub label_of-not_own : (name : List ℕ) → text_eq (label_of name) (codes "mailfold") ≡ false
 label_of-not_own name =

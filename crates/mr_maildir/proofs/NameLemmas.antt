@@ -27,14 +27,6 @@ one_name unique letters parts has is e = go parts.unique parts.letters is e
         let lets : ls ≡ letters = cc in
         λ i. record { unique = us i; letters = Some (lets i) }
 
--- the parts of a name without letters too
-pub one_plain_name : (text : List ℕ) (parts : NameParts) → LacksLetters text → IsName parts → name_text parts ≡ text → parts ≡ record { unique = text; letters = None }
-one_plain_name text parts lacks is e = go parts.unique parts.letters is e
-  where
-    go : (u : List ℕ) (ls : Option (List ℕ)) → AreParts u ls → u ++ info_text ls ≡ text → ◌≡◌ {A = NameParts} (record { unique = u; letters = ls }) (record { unique = text; letters = None })
-    go u None plain same = let us : u ≡ text = sym (append_nothing u) ∙ same in λ i. record { unique = us i; letters = None }
-    go u (Some ls) found same = absurd (lacks u ls found (sym same))
-
 -- what `split_once` finds
 pub before_lacks_colon : (name : List ℕ) (r : Option (Bor (List ℕ) × Bor (List ℕ))) → IsSplitOnceResult 58 name r → IfSome r (λ p. lacks_colon p.0.now ≡ true)
 before_lacks_colon name r cases = go r (split_parts 58 name r cases (lit< tt))

@@ -148,10 +148,6 @@ subset_both (x ∷ xs) (y ∷ ys) sx sy xy yx =
 pub rising-unique : (xs ys : List (List ℕ)) → IsStrictlySortedBy text_cmp xs → IsStrictlySortedBy text_cmp ys → ((q : List ℕ) → has_label xs q ≡ has_label ys q) → xs ≡ ys
 rising-unique xs ys sx sy alike = subset_both xs ys sx sy (λ q any. sym (alike q) ∙ any) (λ q any. alike q ∙ any)
 
--- labels that rise are in order
-pub in_order-rising : (labels : List (List ℕ)) → IsStrictlySortedBy text_cmp labels → in_order labels ≡ labels
-in_order-rising labels rising = rising-unique (in_order labels) labels (rising-in_order labels) rising (has-in_order labels)
-
 -- a sort and a removal of repeats put labels in order
 pub sorted_labels : (given sorted once : List (List ℕ)) → IsPermutation given sorted → IsSorted text_cmp sorted → once ≡ dedup text_eq sorted → once ≡ in_order given
 sorted_labels given sorted once moved rises is =

@@ -31,45 +31,12 @@ said_is xs p is = ap (λ (q : Progress). q.said) is
 over_is : (xs : List Saying) (p : Progress) (b : Bool) → p ≡ progress_of xs → p.over ≡ b → are_over xs ≡ b
 over_is xs p b is over = sym (ap (λ (q : Progress). q.over) is) ∙ over
 
-opened_is : (xs : List Saying) (p : Progress) (o : Opened) → p ≡ progress_of xs → p.opened ≡ o → opened_behind xs ≡ o
-opened_is xs p o is opened = sym (ap (λ (q : Progress). q.opened) is) ∙ opened
-
 none_said : (x : Saying) (xs : List Saying) (p : Progress) → p ≡ progress_of (x ∷ xs) → p.said ≡ 0 → ⊥
 none_said x xs p is zero = let e : length (x ∷ xs) ≡ 0 = sym (said_is (x ∷ xs) p is) ∙ zero in cc e
-
--- a turn that has no more to say
-pub over_pull : (may : Bool) (xs : List Saying) (p : Progress) (old : WireView) → p ≡ progress_of xs → p.over ≡ true → Moves may turn.Pull xs old move.Done old
-over_pull may xs p old is over = (over_is xs p true is over, refl)
-
-pub over_serve : (may : Bool) (xs : List Saying) (p : Progress) (old : WireView) → p ≡ progress_of xs → p.over ≡ true → Moves may turn.Serve xs old move.Done old
-over_serve may xs p old is over = (over_is xs p true is over, refl)
-
-pub done_redeem : (may : Bool) (count : ℕ) (xs : List Saying) (p : Progress) (old : WireView) → p ≡ progress_of xs → (p.said == count) ≡ true → Moves may (turn.Redeem count) xs old move.Done old
-done_redeem may count xs p old is done = (ap (λ n. n == count) (sym (said_is xs p is)) ∙ done, refl)
-
-pub done_grant : (may : Bool) (versions : Vec Name) (xs : List Saying) (p : Progress) (old : WireView) → p ≡ progress_of xs → (p.said == length versions.items) ≡ true → Moves may (turn.Grant versions) xs old move.Done old
-done_grant may versions xs p old is done = (ap (λ n. n == length versions.items) (sym (said_is xs p is)) ∙ done, refl)
-
--- letters that are made of no frame
-pub begins_pull : (may : Bool) (xs : List Saying) (p : Progress) (old : WireView) → p ≡ progress_of xs → p.over ≡ false → p.said ≡ 0 → IsSome old.unread → Moves may turn.Pull xs old (move.Say Pull) old
-begins_pull may [] p old is over zero has = (over_is [] p false is over, refl, passes_none old has)
-begins_pull may (x ∷ xs) p old is over zero has = absurd (none_said x xs p is zero)
-
-pub next_serve : (may : Bool) (xs : List Saying) (p : Progress) (stream : ℕ) (old : WireView) → p ≡ progress_of xs → p.over ≡ false → p.said ≢ 0 → p.opened ≡ Stream stream → IsSome old.unread → Moves may turn.Serve xs old (move.Say (Next stream)) old
-next_serve may [] p stream old is over some opened has = absurd (some (said_is [] p is))
-next_serve may (x ∷ xs) p stream old is over some opened has =
-    (over_is (x ∷ xs) p false is over, (stream, opened_is (x ∷ xs) p (Stream stream) is opened, refl), passes_none old has)
 
 pub next_grant : (may : Bool) (versions : Vec Name) (v : Name) (xs : List Saying) (p : Progress) (old : WireView) → p ≡ progress_of xs → (p.said == length versions.items) ≡ false → slice_get versions.items p.said ≡ Some v → IsSome old.unread → Moves may (turn.Grant versions) xs old (move.Say (Vouch v)) old
 next_grant may versions v xs p old is undone at has =
     (ap (λ n. n == length versions.items) (sym (said_is xs p is)) ∙ undone, (v, ap (slice_get versions.items) (sym (said_is xs p is)) ∙ at, refl), passes_none old has)
-
--- letters that are made of a frame
-pub fetches_pull : (may : Bool) (xs : List Saying) (p : Progress) (old : WireView) (m : Move) (new : WireView) → p ≡ progress_of xs → p.over ≡ false → p.said ≢ 0 → Fetches may turn.Pull old m new → Moves may turn.Pull xs old m new
-fetches_pull may [] p old m new is over some h = absurd (some (said_is [] p is))
-fetches_pull may (x ∷ xs) p old (move.Say letter) new is over some h = (over_is (x ∷ xs) p false is over, h.0, h.1)
-fetches_pull may (x ∷ xs) p old move.Done new is over some h = absurd h
-fetches_pull may (x ∷ xs) p old (move.Stop why) new is over some h = (over_is (x ∷ xs) p false is over, refl, h.0, h.1)
 
 pub fetches_serve : (may : Bool) (xs : List Saying) (p : Progress) (old : WireView) (m : Move) (new : WireView) → p ≡ progress_of xs → p.over ≡ false → p.said ≡ 0 → Fetches may turn.Serve old m new → Moves may turn.Serve xs old m new
 fetches_serve may (x ∷ xs) p old m new is over zero h = absurd (none_said x xs p is zero)
@@ -81,21 +48,6 @@ pub fetches_redeem : (may : Bool) (count : ℕ) (xs : List Saying) (p : Progress
 fetches_redeem may count xs p old (move.Say letter) new is undone h = (ap (λ n. n == count) (sym (said_is xs p is)) ∙ undone, h.0, h.1)
 fetches_redeem may count xs p old move.Done new is undone h = absurd h
 fetches_redeem may count xs p old (move.Stop why) new is undone h = (ap (λ n. n == count) (sym (said_is xs p is)) ∙ undone, refl, h.0, h.1)
-
--- no frame came
-pub unread_so : (may : Bool) (t : Turn) (old new : WireView) (s : Snag) → ReadsFrame old (Err s) new → IfOk (unread s) (λ m. Fetches may t old m new)
-unread_so may t old new snag.OutOfMemory h = tt
-unread_so may t old new snag.LinkDown h = (tt, h)
-unread_so may t old new snag.BadFrame h = (tt, inl h)
-unread_so may t old new snag.TooLong h = tt
-
--- a frame came that the turn doesn't read
-pub wrong_frame : (may : Bool) (t : Turn) (f : Frame) (old new : WireView) → reads t f ≡ false → PassesWell old (f ∷ []) [] new → Fetches may t old (move.Stop BadFrame) new
-wrong_frame may t f old new other h = (tt, inr (f, other, h))
-
--- the gate did not let it pass
-pub not_passed : (may : Bool) (f : Frame) (old new : WireView) → IsTrue may → PassesWell old (f ∷ []) [] new → Fetches may turn.Pull old (move.Stop Shut) new
-not_passed may f old new closes h = (tt, (refl, closes, (f, h)))
 
 -- a test that is false
 never_equal : (a b : ℕ) → a ≢ b → (a == b) ≡ false
@@ -117,11 +69,6 @@ pub redeem_so : (may : Bool) (t : Turn) (count : ℕ) (xs : List Saying) (p : Pr
 redeem_so may t count xs p r old new is at undone h =
     subst (λ (u : Turn). IfOk r (λ m. Moves may u xs old m new)) (sym is)
     (IfOk-weaker r (λ m. Fetches may (turn.Redeem count) old m new) (λ m. Moves may (turn.Redeem count) xs old m new) (λ m k. fetches_redeem may count xs p old m new at (never_equal p.said count undone) k) h)
-
-pub pull_so : (may : Bool) (t : Turn) (xs : List Saying) (p : Progress) (r : Result Move Halt) (old new : WireView) → t ≡ turn.Pull → p ≡ progress_of xs → p.over ≡ false → p.said ≢ 0 → IfOk r (λ m. Fetches may turn.Pull old m new) → IfOk r (λ m. Moves may t xs old m new)
-pull_so may t xs p r old new is at over some h =
-    subst (λ (u : Turn). IfOk r (λ m. Moves may u xs old m new)) (sym is)
-    (IfOk-weaker r (λ m. Fetches may turn.Pull old m new) (λ m. Moves may turn.Pull xs old m new) (λ m k. fetches_pull may xs p old m new at over some k) h)
 
 pub reads_so : (may : Bool) (t : Turn) (r : Result Move Halt) (old new : WireView) → IfOk r (λ m. Fetches may t old m new) → IfOk r (λ m. ReadsLetter old m new)
 reads_so may t r old new h = IfOk-weaker r (λ m. Fetches may t old m new) (λ m. ReadsLetter old m new) (λ m k. fetches_reads may t old m new k) h

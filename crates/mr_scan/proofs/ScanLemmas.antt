@@ -22,18 +22,6 @@ alike {X} x y same (e ∷ table) =
     ap (λ (o : Ordering). cond (is_eq o) (Some e.1) (found x table)) (nat_list_cmp_total.congr x y e.0 same)
     ∙ ap (λ (r : Option X). cond (is_eq (text_cmp y e.0)) (Some e.1) r) (alike x y same table)
 
--- a mail's files are taken out, and put in again
-pub put_again : (old mid new : List (List ℕ × Vec FileParts)) (digest : List ℕ) (more : Vec FileParts) →
-    ((other : List ℕ) → found other mid ≡ cond (is_eq (text_cmp digest other)) None (found other old)) →
-    ((other : List ℕ) → found other new ≡ cond (is_eq (text_cmp digest other)) (Some more) (found other mid)) →
-    (other : List ℕ) → files_at new other ≡ cond (is_eq (text_cmp digest other)) more.items (files_at old other)
-put_again old mid new digest more taken put other = ap items_of (put other) ∙ cases (is_eq (text_cmp digest other)) (taken other)
-  where
-    cases : (b : Bool) → found other mid ≡ cond b None (found other old)
-        → items_of (cond b (Some more) (found other mid)) ≡ cond b more.items (files_at old other)
-    cases true e = refl
-    cases false e = ap items_of e
-
 -- a mail that isn't there is put in with one file
 pub put_first : (old new : List (List ℕ × Vec FileParts)) (digest : List ℕ) (file : FileParts) (one : Vec FileParts) → one.items ≡ file ∷ [] →
     found digest old ≡ None →

@@ -179,10 +179,6 @@ all_back : (P : Name → Type 0) (front back : List Name) → AllByRecursion P (
 all_back P [] back h = h
 all_back P (x ∷ front) back h = all_back P front back h.1
 
-pub order_back : (front back : List Name) → AreInOrder (front ++ back) → AreInOrder back
-order_back [] back h = h
-order_back (x ∷ front) back h = order_back front back (order_tail x (front ++ back) h)
-
 -- what is listed in front is before what follows
 pub listed_before : (front : List Name) (w : Name) (back : List Name) → AreInOrder (front ++ w ∷ back) → (u : Name) → is_listed front u ≡ true → is_before u w ≡ true
 listed_before [] w back order u listed = absurd (cc)

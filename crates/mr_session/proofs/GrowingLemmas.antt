@@ -22,13 +22,6 @@ closes_with columns author column is some author_in =
       below = below_more (author + 1) x columns (omega arith) (below_higher author (author + 1) columns (omega arith) is.below);
     }
 
-pub closes_without : (columns : List AuthorColumn) (author upto : ℕ) (holes : List Hole) → IsGrowth columns author (record { upto = upto; holes = holes }) → upto ≤ 0 → IsClosed columns author (record { upto = upto; holes = holes }) columns
-closes_without columns author upto holes is none = record {
-  vector = is.columns_ok;
-  same = last_empty columns author upto holes none;
-  below = below_higher author (author + 1) columns (omega arith) is.below;
-}
-
 some_from : (n : ℕ) → (n ≡ 0 → ⊥) → 1 ≤ n
 some_from zero h = absurd (h refl)
 some_from (suc n) h = omega arith

@@ -81,9 +81,6 @@ row_up_to rs first p rising within at_first at_last k d lt =
 
 -- ---- their versions
 
-first_on : (v : Name) → counter_on v 0 ≡ v
-first_on v = let c : v.counter + 0 ≡ v.counter = omega arith in λ i. record { author = v.author; counter = c i }
-
 -- the versions of a row
 pub row_names : (rs : List Rev) (first : Name) (n : ℕ) (d : Rev) → n ≤ length rs → IsRow first n rs → map version_of (take n rs) ≡ in_row first n
 row_names rs first zero d within row = refl

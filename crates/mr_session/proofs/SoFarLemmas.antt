@@ -32,12 +32,6 @@ begins columns author upto holes rs grown in_order above none = record {
   has = none;
 }
 
--- the first run of the rest stands above what is
-pub run_above : (columns : List AuthorColumn) (author upto : ℕ) (holes : List Hole) (rs : List Rev) (whole : List Name) (first : Rev) (run : Run) → SoFar columns author upto holes rs whole → slice_get rs 0 ≡ Some first → run.author ≡ first.version.author → run.first ≡ first.version.counter → IsAbove author upto run.author run.first
-run_above columns author upto holes rs whole first run is at author_is first_is =
-    let here : IsAbove author upto first.version.author first.version.counter = subst (IsBelowFirst author upto) (names_from rs first at) is.above in
-    subst (λ (q : ℕ). IsAbove author upto q run.first) (sym author_is) (subst (λ (c : ℕ). IsAbove author upto first.version.author c) (sym first_is) here)
-
 below_first : (author upto : ℕ) (names : List Name) → ((v : Name) (vs : List Name) → names ≡ v ∷ vs → IsAbove author upto v.author v.counter) → IsBelowFirst author upto names
 below_first author upto [] all = tt
 below_first author upto (v ∷ vs) all = all v vs refl
@@ -72,9 +66,3 @@ goes_on c c1 c2 a a1 a2 u u1 u2 h h1 h2 rs whole d v n run is some within row au
 pub ends : (columns : List AuthorColumn) (author upto : ℕ) (holes : List Hole) (rs : List Rev) (whole : List Name) → SoFar columns author upto holes rs whole → slice_get rs 0 ≡ None → IsSame (with_last columns author (extent upto holes)) (is_listed whole)
 ends columns author upto holes [] whole is none w = is.has w ∙ ap (λ (l : List Name). is_listed l w) (sym (append-nil is.done) ∙ is.parts)
 ends columns author upto holes (x ∷ xs) whole is none w = absurd (cc)
-
--- a first version stands above an empty column of its author
-pub first_above : (rs : List Rev) (first : Rev) (v : Name) → slice_get rs 0 ≡ Some first → v ≡ first.version → 1 ≤ v.counter → IsBelowFirst v.author 0 (map version_of rs)
-first_above rs first v at is some =
-    subst (IsBelowFirst v.author 0) (sym (names_from rs first at))
-    (subst (λ (w : Name). IsAbove v.author 0 w.author w.counter) is (omega arith, λ same. omega (arith, some)))

@@ -120,11 +120,6 @@ lists_same : (items : ItemSet) (i : Name) → has_item items i ≡ lists (listed
 lists_same All i = refl
 lists_same (Listed items) i = refl
 
--- what fragments tell is what they cover
-pub told_covered : (fs : List ConciseFragment) (i v : Name) → is_told items_of (λ f. f.vector) fs i v ≡ all_covered vector_has fs i v
-told_covered [] i v = refl
-told_covered (f ∷ fs) i v = ap (λ b. (b && vector_has f.vector v) || is_told items_of (λ g. g.vector) fs i v) (sym (lists_same f.items i)) ∙ ap (λ b. (has_item f.items i && vector_has f.vector v) || b) (told_covered fs i v)
-
 -- ---- those of one item
 
 -- what passes a test and stands together is what the test filters

@@ -79,9 +79,6 @@ long_same a b x y fits too e =
     let long : length a ≡ length b = sym (from_be_bytes-to_be_bytes_4 (length a) fits) ∙ ap (from_be_bytes w32) four.0 ∙ from_be_bytes-to_be_bytes_4 (length b) too in
     same_front a b x y long four.1
 
-no_same : (t u : Token) (x y : List ℕ) → ⊥ → (t ≡ u) × (x ≡ y)
-no_same t u x y h = absurd h
-
 apart : (t u : Token) → IsToken t → IsToken u → head t ≡ head u → highest t < lowest u → ⊥
 apart t u a b e h = absurd (omega (arith, a.low, a.high, b.low, b.high, e, h))
 
@@ -352,12 +349,6 @@ run_small before rest place (run.Copy n) f = (omega (arith, f.1), omega arith, f
 run_small before rest place (run.Literal n) f = (omega (arith, f.1), omega arith, f.2)
 run_small before rest place (run.Digits n) f = (omega (arith, f.1), omega arith, f.2)
 run_small before rest place (run.Move n) f = (omega arith, f, omega arith)
-
-pub run_written : (before rest : List ℕ) (place : ℕ) (r : Run) → Fits before place rest r → CanBeWritten r rest
-run_written before rest place (run.Copy n) f = (f.0, f.1)
-run_written before rest place (run.Literal n) f = f
-run_written before rest place (run.Digits n) f = f
-run_written before rest place (run.Move n) f = f
 
 pub place_inside : (r : Run) (place long : ℕ) → place_after r place long ≤ long
 place_inside (run.Copy n) place long = omega arith

@@ -94,10 +94,6 @@ gained_frames p q answer h all = kept_frames p q h all
 
 -- ---- what frames are comes into the pools
 
--- frames kept twice are kept
-keeps_on : (p q o : PoolList) → KeepsFrames p q → KeepsFrames q o → KeepsFrames p o
-keeps_on p q o h k = record { asks = k.asks ∙ h.asks; records = k.records ∙ h.records; receipts = k.receipts ∙ h.receipts }
-
 -- what the frames of pools are
 abbrev lists : PoolList → GivenLists
 lists p = record { asks = questions_in p.asks.frames; records = sents_in p.records.frames; receipts = receipts_in p.receipts.frames }
