@@ -27,21 +27,6 @@ cut_marked bytes four rest short frame counter are is_four is_rest has_four is_s
     append_assoc (to_be_bytes w32 counter) short frame ∙ ap (λ (l : List ℕ). l ++ (short ++ frame)) spelled ∙ ap (λ (l : List ℕ). take 4 bytes ++ l) behind ∙ take-append-drop 4 bytes in
     record { counter_in = fits; short_long = ap length is_short ∙ length-take-le 16 rest has_short; whole = sym all }
 
--- where its message is told, the mark agrees just where it has the first bytes of that one's digest
-pub told_agrees : (id : ℕ) (told : List (Name × Mail)) (mark : Mark) (message : Mail) (short : List ℕ) (is : Bool) → mark.counter ≢ 0 → Tells told id mark.counter message → short ≡ message_short message →
-    (IsTrue is ↔ (short ≡ mark.short)) → MatchBool is (AgreesWith id told mark) (AgreesWith id told mark → ⊥)
-told_agrees id told mark message short true some own of test = inr (record { message = message; own = own; short_is = sym (test.0 refl) ∙ of })
-told_agrees id told mark message short false some own of test = never
-  where
-    never : AgreesWith id told mark → ⊥
-    never (inl none) = some none
-    never (inr marks) = false≢true (test.1 (of ∙ ap message_short (some_is message marks.message (sym own.is_told ∙ marks.own.is_told)) ∙ sym marks.short_is))
-
--- where none is told, it does not
-pub untold_differs : (id : ℕ) (told : List (Name × Mail)) (mark : Mark) → mark.counter ≢ 0 → TellsNoneOf told id mark.counter → AgreesWith id told mark → ⊥
-untold_differs id told mark some untold (inl none) = some none
-untold_differs id told mark some untold (inr marks) = untold marks.message marks.own
-
 none≢some : (message : Mail) → ◌≡◌ {A = Option Mail} None (Some message) → ⊥
 none≢some message e = cc
 

@@ -5,7 +5,7 @@ use Rattle.mr_talk.specs.Packed.{Unpacks}
 use Rattle.mr_talk.specs.declared.kind.TheConstants.{MAX_FRAMES_BYTES, MAX_PACKED_BYTES}
 use Rattle.mr_talk.proofs.PackedLaws.{unpacks_none, unpacks_on}
 use Rattle.mr_sync.specs.inner.Packed.{PacksFront, PacksSoFar}
-use Rattle.mr_sync.specs.inner.Said.{text_of}
+use Rattle.mr_sync.specs.inner.Said.{joined}
 use Rattle.mr_sync.proofs.SayLaws.{text_more}
 
 -- no frame yet
@@ -17,19 +17,12 @@ pub packs_more : (old mid new : List (Vec ℕ)) (f : Vec ℕ) (before last after
     length packed ≤ length text + 6 → now ≡ bytes ++ packed → length f.items + 6 ≤ room → left + (length f.items + 6) ≡ room → PacksSoFar old before now new after left
 packs_more old mid new f before last after bytes packed now text room left h e is more short put fits left_is =
     let all = text_more h.front f in
-    let both : Unpacks before (bytes ++ packed) (text_of h.front ++ f.items) after =
-    unpacks_on before bytes (text_of h.front) last packed f.items after h.are (subst (λ (l : List ℕ). Unpacks last packed l after) is more) in
+    let both : Unpacks before (bytes ++ packed) (joined h.front ++ f.items) after =
+    unpacks_on before bytes (joined h.front) last packed f.items after h.are (subst (λ (l : List ℕ). Unpacks last packed l after) is more) in
     record {
       front = h.front ++ f ∷ [];
       all = h.all ∙ ap (λ (l : List (Vec ℕ)). h.front ++ l) e ∙ sym (append_assoc h.front (f ∷ []) new);
-      are = subst (λ (l : List ℕ). Unpacks before l (text_of (h.front ++ f ∷ [])) after) (sym put) (subst (λ (l : List ℕ). Unpacks before (bytes ++ packed) l after) (sym all) both);
-      few = omega (arith, h.few, ap length all, length-append (text_of h.front) f.items, length-append h.front (f ∷ []), left_is);
+      are = subst (λ (l : List ℕ). Unpacks before l (joined (h.front ++ f ∷ [])) after) (sym put) (subst (λ (l : List ℕ). Unpacks before (bytes ++ packed) l after) (sym all) both);
+      few = omega (arith, h.few, ap length all, length-append (joined h.front) f.items, length-append h.front (f ∷ []), left_is);
       short = omega (arith, h.short, ap length put, length-append bytes packed, short, ap length is, left_is);
     }
-
-few_bytes : (front : List (Vec ℕ)) → length (text_of front) + 6 * length front ≤ MAX_PACKED_BYTES → length (text_of front) ≤ MAX_FRAMES_BYTES
-few_bytes [] h = omega arith
-few_bytes (f ∷ front) h = omega (arith, h)
-
-pub packs_front : (old : List (Vec ℕ)) (before bytes : List ℕ) (new : List (Vec ℕ)) (after : List ℕ) (room : ℕ) → PacksSoFar old before bytes new after room → PacksFront old before bytes new after
-packs_front old before bytes new after room h = record { front = h.front; all = h.all; are = h.are; few = few_bytes h.front (omega (arith, h.few)) }

@@ -7,7 +7,7 @@ use Rattle.std.proofs.lemmas.List.Elements.{filter_map-append}
 use Rattle.std.proofs.lemmas.Grind.{flat_map-append}
 use Rattle.mr_compare.proofs.ListLemmas.{take_one}
 use Rattle.mr_replica.specs.declared.event.Reply.{Reply}
-use Rattle.mr_sync.specs.inner.Said.{FrontIs, text_of}
+use Rattle.mr_sync.specs.inner.Said.{FrontIs, joined}
 
 -- one reply more
 pub one_more : (f : Reply → Option (List ℕ)) (replies : List Reply) (i : ℕ) (x : Reply) (start old new : List (List ℕ)) → old ≡ start ++ filter_map f (take i replies) → i < length replies → x ≡ get_or replies i x → new ≡ old ++ filter_map f (x ∷ []) → new ≡ start ++ filter_map f (take (i + 1) replies)
@@ -35,13 +35,9 @@ pub so_ok : {X E : Type 0} {P : Type 0} (r : Result X E) → P → OnOk r P
 so_ok (Ok x) p = p
 so_ok (Err e) p = tt
 
--- no frame yet
-pub front_none : (old : List (Vec ℕ)) → FrontIs old [] old
-front_none old = record { front = []; all = refl; are = refl }
-
 -- the bytes of frames, one frame more
-pub text_more : (front : List (Vec ℕ)) (f : Vec ℕ) → text_of (front ++ f ∷ []) ≡ text_of front ++ f.items
-text_more front f = flat_map-append (λ (v : Vec ℕ). v.items) front (f ∷ []) ∙ ap (λ (l : List ℕ). text_of front ++ l) (append-nil f.items)
+pub text_more : (front : List (Vec ℕ)) (f : Vec ℕ) → joined (front ++ f ∷ []) ≡ joined front ++ f.items
+text_more front f = flat_map-append (λ (v : Vec ℕ). v.items) front (f ∷ []) ∙ ap (λ (l : List ℕ). joined front ++ l) (append-nil f.items)
 
 -- one frame more
 pub front_more : (old mid new : List (Vec ℕ)) (f : Vec ℕ) (bytes now : List ℕ) → FrontIs old bytes mid → mid ≡ f ∷ new → now ≡ bytes ++ f.items → FrontIs old now new

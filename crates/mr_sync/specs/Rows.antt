@@ -1,6 +1,10 @@
 -- worked rows: what the definitions give for small values
-use Rattle.std.specs.Prelude.{◌≡◌, [], ◌∷◌, replicate, true, false, None, Ok, Err, refl}
-use Rattle.std.proofs.Common.{inl, inr, lit<, lit≤}
+use Rattle.std.specs.Prelude.{◌≡◌, ℕ, [], ◌∷◌, replicate, true, false, None, Some, Ok, Err, option_map, refl}
+use Rattle.std.specs.BTreeMap.{BTreeMap, is_at}
+use Rattle.std.specs.Map.{lookup}
+use Rattle.std.specs.Ordering.{nat_cmp}
+use Rattle.mr_compare.specs.declared.note.Meeting.{Meeting}
+use Rattle.std.proofs.Common.{ap, inl, inr, lit<, lit≤}
 use Rattle.mr_mail.specs.Mail.{Mail}
 use Rattle.mr_lookup.specs.Told.{message_at, own_name}
 use Rattle.mr_filter.specs.Filter.{clause_with}
@@ -18,7 +22,7 @@ use Rattle.mr_sync.specs.inner.Taken.{was_there}
 use Rattle.mr_sync.specs.inner.Asking.{last_asked}
 use Rattle.mr_sync.specs.Ending.{is_last}
 use Rattle.mr_sync.specs.Fault.{sync_fault_number}
-use Rattle.mr_sync.specs.Hello.{is_free, keeps_all}
+use Rattle.mr_sync.specs.Hello.{is_free, keeps_all, met_at, met_by}
 use Rattle.mr_sync.specs.Lists.{push_out_bytes}
 use Rattle.mr_sync.specs.Marks.{AgreesWith, IsMarkOf, mark_bytes, message_short}
 use Rattle.mr_sync.specs.inner.Marks.{IsMarkFault}
@@ -104,3 +108,10 @@ for_nothing = refl
 
 pub not_kept : was_there (Err Failed) ≡ Err (Kept Failed)
 not_kept = refl
+
+-- where replica 5 alone was met, it is remembered of 5, and nothing of 6
+pub five_was_met : (meetings : BTreeMap ℕ Meeting) (m : Meeting) → meetings.entries ≡ (5, m) ∷ [] → met_at meetings 5 ≡ Some (met_by m)
+five_was_met meetings m only = ap (λ es. option_map met_by (lookup (is_at (nat_cmp 5)) es)) only
+
+pub six_was_not_met : (meetings : BTreeMap ℕ Meeting) (m : Meeting) → meetings.entries ≡ (5, m) ∷ [] → met_at meetings 6 ≡ None
+six_was_not_met meetings m only = ap (λ es. option_map met_by (lookup (is_at (nat_cmp 6)) es)) only

@@ -29,14 +29,14 @@ abbrev pub bytes_of : List (Vec ℕ) → List (List ℕ)
 bytes_of frames = map (λ (v : Vec ℕ). v.items) frames
 
 -- the bytes of all, one frame behind another
-abbrev pub text_of : List (Vec ℕ) → List ℕ
-text_of frames = flat_map (λ (v : Vec ℕ). v.items) frames
+abbrev pub joined : List (Vec ℕ) → List ℕ
+joined frames = flat_map (λ (v : Vec ℕ). v.items) frames
 
 -- the bytes are those of the frames in front, and the others are left
 pub record FrontIs (old : List (Vec ℕ)) (bytes : List ℕ) (new : List (Vec ℕ)) : Type 0 where
   pub front : List (Vec ℕ)
   pub all : old ≡ front ++ new
-  pub are : bytes ≡ text_of front
+  pub are : bytes ≡ joined front
 
 -- a message tells the frames in front, or there are none
 abbrev pub TellsFrames : List (Vec ℕ) → List (Vec ℕ) → Option Said → Type 0
