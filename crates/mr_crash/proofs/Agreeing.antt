@@ -1,5 +1,5 @@
 -- A moment, and the moment without the lost steps: how they agree, from change to change.
-use Rattle.std.proofs.Common.{◌≡◌, ◌≢◌, refl, sym, subst, ◌∙◌, ℕ, ◌==◌, List, ◌++◌, ◌⊎◌, inl, inr, eqb-true, eq-eqb, Some}
+use Rattle.std.proofs.Common.{◌≡◌, ◌≢◌, refl, sym, subst, ◌∙◌, ℕ, ◌==◌, List, ◌++◌, ◌⊎◌, inl, inr, eqb-true, eq-eqb, Some, arith}
 use Rattle.std.proofs.lemmas.Bool.{both_ways}
 use Rattle.mr_model.specs.Versions.{Issue}
 use Rattle.mr_model.specs.History.{Setting, Ask, Body.End, Record}
@@ -47,12 +47,12 @@ pub agrees_lost : {M C : Type 0} (s : Setting M C) (r : ℕ) (b m m' : Moment M 
 agrees_lost {M} s r b m m' c a by rule = record {
   others = λ q n. replica_other s m c r q rule by n ∙ a.others q n;
   itself = a.itself;
-  lost = subst (λ (is : List (Issue M)). Lost r b.issues is m'.issues) (sym (issues_after s m c)) (issues_gone s m r b.issues m'.issues c by rule a.lost);
+  lost = rw issues_after (issues_gone s m r b.issues m'.issues c by rule a.lost);
   there = λ x i. pools_grow s m c (RecordFrame x) (a.there x i);
-  back = λ x i n. elim (given_new s m c r rule by x i) [ inl j ↦ a.back x j n | inr p ↦ absurd (n p.0) ];
+  back = λ x i n. grind (arith, given_new s m c r rule by x i, a.back x);
   on_from = record {
-    opened = λ t ask e. let o = a.on_from.opened t ask e in let k = change_opened s m r t ask o.0 c rule in (k.0, k.1 ∙ o.1);
-    ended = λ x i own e. subst (λ (q : ℕ). (happens s m c).held_at_draw q x.stream ≡ m.held_at_draw q x.stream) own (change_ended s m c rule x (a.there x i) e) ∙ a.on_from.ended x i own e;
+    opened = λ t ask e. grind (arith, a.on_from.opened t ask e, change_opened s m r t ask);
+    ended = λ x i own e. grind (arith, change_ended s m c rule x (a.there x i) e, a.on_from.ended x i own e);
   };
 }
 
@@ -64,7 +64,7 @@ issues_stay s m r k e left (Issues q x) by other rule l = stays (λ own. other (
 issues_stay s m r k e left _ by other rule l = l
 
 pub same_or_other : (q k : ℕ) → (q ≡ k) ⊎ (q ≢ k)
-same_or_other q k = elim (cases (q == k)) [ inl t ↦ inl (eqb-true q k t) | inr n ↦ inr (λ e. both_ways (q == k) n (eq-eqb q k e)) ]
+same_or_other q k = grind (arith, cases (q == k), eqb-true, eq-eqb)
 
 pub agrees_left : {M C : Type 0} (s : Setting M C) (r k : ℕ) (b m m' : Moment M C) (c : Change M C) → Agrees r b m m' → IsBy k c → k ≢ r → IsAllowed s m c → IsAllowed s m' c →
     replica (happens s m c) k ≡ replica (happens s m' c) k → Agrees r b (happens s m c) (happens s m' c)

@@ -1,5 +1,5 @@
 -- What another replica does is allowed without the lost steps too.
-use Rattle.std.proofs.Common.{◌≡◌, ◌≢◌, refl, sym, subst, ◌∙◌, ℕ, ◌+◌, ◌||◌, ◌∷◌, ◌++◌, inl, inr, ◌⊎◌, IsTrue, IsFalse, Bool, Some, None}
+use Rattle.std.proofs.Common.{◌≡◌, ◌≢◌, refl, sym, subst, ◌∙◌, ℕ, ◌+◌, ◌||◌, ◌∷◌, ◌++◌, inl, inr, ◌⊎◌, IsTrue, IsFalse, Bool, Some, None, arith}
 use Rattle.mr_model.specs.Versions.{is, is_issued}
 use Rattle.mr_model.specs.History.{Setting, Receipt}
 use Rattle.mr_model.specs.Moment.{Moment}
@@ -79,7 +79,6 @@ allowed_there {M} {C} s r k b m m' (Offers q u x) a inv inv' other by found rule
   next = subst (λ (z : Replica C). z.feed ≡ entries_of (z.offered u) ++ x ∷ rule.rest) e rule.next;
   not_closed = subst (λ (z : Replica C). IsFalse (is_closed (z.offered u))) e rule.not_closed;
 }
-allowed_there s r k b m m' (Closes q u) a inv inv' other by found rule = tt
 allowed_there {M} {C} s r k b m m' (TakesEntry q u x) a inv inv' other by found rule = let e = a.others q (λ p. other (sym by ∙ p)) in record {
   rest = rule.rest;
   next = subst (λ (z : Replica C). entries_of (z.offered u) ≡ z.taken u ++ x ∷ rule.rest) e rule.next;
@@ -103,5 +102,5 @@ allowed_there {M} {C} s r k b m m' (Releases q x) a inv inv' other by found rule
   where
     e : replica m q ≡ replica m' q
     e = a.others q (λ p. other (sym by ∙ p))
-allowed_there s r k b m m' Stays a inv inv' other by found rule = tt
 allowed_there s r k b m m' Misfits a inv inv' other by found rule = rule
+allowed_there s r k b m m' _ a inv inv' other by found rule = tt

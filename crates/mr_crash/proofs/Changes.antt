@@ -1,5 +1,5 @@
 -- What a change leaves as it is: the other replicas, what stands in the pools, and streams that have ended.
-use Rattle.std.proofs.Common.{◌≡◌, ◌≢◌, refl, ap, subst, ◌∙◌, ℕ, ◌==◌, true, ◌&&◌, if◌then◌else◌, List, [], ◌∷◌, ◌++◌, map, ◌⊎◌, inl, inr, IsFalse, eqb-true, Option, Some, None}
+use Rattle.std.proofs.Common.{◌≡◌, ◌≢◌, refl, ap, subst, ◌∙◌, ℕ, ◌==◌, true, ◌&&◌, if◌then◌else◌, List, [], ◌∷◌, ◌++◌, map, ◌⊎◌, inl, inr, IsFalse, eqb-true, Option, Some, None, arith}
 use Rattle.std.specs.Prelude.{⊤}
 use Rattle.std.proofs.lemmas.Bool.{and_parts}
 use Rattle.mr_model.specs.Versions.{Versions, Issue}
@@ -39,47 +39,19 @@ found_by k (Some x) f h = h x
 
 -- a step's change is made by the replica of its event
 pub change_by : {M C : Type 0} (m : Moment M C) (k : ℕ) (act : Act M) (reply : Reply C) → IsBy k (change_of m k act reply)
-change_by m k (Create message) (Issued v) = refl
-change_by m k (Edit bases message) (Issued v) = refl
-change_by m k Retire Done = refl
-change_by m k Pull (Asked ask) = refl
-change_by m k (Receive n) Took = found_by k (numbered m.given n) (λ x. Takes k x AsTaken) (λ x. refl)
-change_by m k (Receive n) Known = found_by k (numbered m.given n) (λ x. Takes k x AsKnown) (λ x. refl)
-change_by m k (Receive n) Finished = found_by k (numbered m.given n) (λ x. Takes k x AsFinished) (λ x. refl)
-change_by m k (DeliverPart n bytes) Took = found_by k (numbered m.given n) (λ x. Takes k x AsTaken) (λ x. refl)
-change_by m k (DeliverPart n bytes) Known = found_by k (numbered m.given n) (λ x. Takes k x AsKnown) (λ x. refl)
-change_by m k (DeliverPart n bytes) Finished = found_by k (numbered m.given n) (λ x. Takes k x AsFinished) (λ x. refl)
-change_by m k (Answer n) (Streaming t) = found_by k (numbered m.asks n) (Opens k t) (λ x. refl)
-change_by m k (Next t) (Gave x) = refl
-change_by m k (Offer u) (Offered e) = refl
-change_by m k (Close u) Done = refl
-change_by m k (Take u) (TookEntry e) = refl
-change_by m k (Vouch v) (Vouched x) = refl
-change_by m k (Release n) Done = found_by k (numbered m.receipts n) (Releases k) (λ x. refl)
-change_by m k (CutIn n) Done = tt
-change_by m k (CutOut t) Done = tt
-change_by m k _ _ = tt
+change_by m k act reply = grind (arith, found_by)
 
 -- ---- the other replicas
 
 pub at_other : {A : Type 0} (f : ℕ → A) (r : ℕ) (x : A) (q : ℕ) → q ≢ r → at f r x q ≡ f q
-at_other f r x q other = go (false_from (q == r) (λ t. other (eqb-true q r t)))
-  where
-    go : IsFalse (q == r) → at f r x q ≡ f q
-    go n = rw n refl
+at_other f r x q other = grind (arith, eqb-true)
 
 pub at_two_other : {A : Type 0} (f : ℕ → ℕ → A) (r u : ℕ) (x : A) (q : ℕ) → q ≢ r → (t : ℕ) → at_two f r u x q t ≡ f q t
-at_two_other f r u x q other t = go (false_from ((q == r) && (t == u)) (λ b. other (eqb-true q r (and_parts (q == r) (t == u) b).0)))
-  where
-    go : IsFalse ((q == r) && (t == u)) → at_two f r u x q t ≡ f q t
-    go n = rw n refl
+at_two_other f r u x q other t = grind (arith, eqb-true, and_parts)
 
 -- elsewhere than at r and u
 pub at_two_elsewhere : {A : Type 0} (f : ℕ → ℕ → A) (r u : ℕ) (x : A) (q t : ℕ) → ¬ ((q ≡ r) × (t ≡ u)) → at_two f r u x q t ≡ f q t
-at_two_elsewhere f r u x q t other = go (false_from ((q == r) && (t == u)) (λ b. let both = and_parts (q == r) (t == u) b in other (eqb-true q r both.0, eqb-true t u both.1)))
-  where
-    go : IsFalse ((q == r) && (t == u)) → at_two f r u x q t ≡ f q t
-    go n = rw n refl
+at_two_elsewhere f r u x q t other = grind (arith, eqb-true, and_parts)
 
 -- each replica but its maker is after a change as before
 pub replica_other : {M C : Type 0} (s : Setting M C) (m : Moment M C) (c : Change M C) (k q : ℕ) → IsAllowed s m c → IsBy k c → q ≢ k → replica (happens s m c) q ≡ replica m q
@@ -110,10 +82,7 @@ replica_other s m (Releases r x) k q rule by other = λ i. record (replica m q) 
   holding = at_other m.holding r (holding_after_release m r x.version) q (λ e. other (e ∙ by)) i;
   feed = at_other m.feed r (feed_after s m.issues (stored m r) (holding_after_release m r x.version).stored (m.feed r)) q (λ e. other (e ∙ by)) i;
 }
-replica_other s m (Asks r ask) k q rule by other = refl
-replica_other s m (Vouches r v x) k q rule by other = refl
-replica_other s m Stays k q rule by other = refl
-replica_other s m Misfits k q rule by other = refl
+replica_other s m _ k q rule by other = refl
 
 -- ---- the pools
 
@@ -124,13 +93,7 @@ InPools m (RecordFrame x) = In x m.given
 InPools m (ReceiptFrame x) = In x m.receipts
 
 pub frames_in : {M C : Type 0} (m : Moment M C) (f : Frame) → In f (frames m) → InPools m f
-frames_in m f i = elim (in_append (map AskFrame m.asks ++ map RecordFrame m.given) (map ReceiptFrame m.receipts) f i) [
-  | inl j ↦ elim (in_append (map AskFrame m.asks) (map RecordFrame m.given) f j) [
-    | inl k ↦ (let r = in_map AskFrame m.asks f k in subst (InPools m) r.2 r.1)
-    | inr k ↦ (let r = in_map RecordFrame m.given f k in subst (InPools m) r.2 r.1)
-  ]
-  | inr j ↦ (let r = in_map ReceiptFrame m.receipts f j in subst (InPools m) r.2 r.1)
-]
+frames_in m f i = grind (arith, in_append (map AskFrame m.asks ++ map RecordFrame m.given) (map ReceiptFrame m.receipts) f, in_append (map AskFrame m.asks) (map RecordFrame m.given) f, in_map)
 
 pub pools_grow : {M C : Type 0} (s : Setting M C) (m : Moment M C) (c : Change M C) (f : Frame) → InPools m f → InPools (happens s m c) f
 pools_grow s m (Asks r ask) (AskFrame a) i = inr i
@@ -139,9 +102,7 @@ pools_grow s m (Vouches r v x) (ReceiptFrame y) i = inr i
 pools_grow {M} {C} s m (Closes r u) (AskFrame a) i = choice (λ (n : Moment M C). In a n.asks) (is_closed (m.offered r u)) m (with_mark m r u CloseMark) (λ b. i) (λ b. i)
 pools_grow {M} {C} s m (Closes r u) (RecordFrame y) i = choice (λ (n : Moment M C). In y n.given) (is_closed (m.offered r u)) m (with_mark m r u CloseMark) (λ b. i) (λ b. i)
 pools_grow {M} {C} s m (Closes r u) (ReceiptFrame y) i = choice (λ (n : Moment M C). In y n.receipts) (is_closed (m.offered r u)) m (with_mark m r u CloseMark) (λ b. i) (λ b. i)
-pools_grow s m _ (AskFrame a) i = i
-pools_grow s m _ (RecordFrame y) i = i
-pools_grow s m _ (ReceiptFrame y) i = i
+pools_grow s m _ _ i = i
 
 -- what a change gives comes into its pool
 pub pools_new : {M C : Type 0} (s : Setting M C) (m : Moment M C) (c : Change M C) (f : Frame) → In f (gives c) → InPools (happens s m c) f
@@ -155,17 +116,7 @@ pub given_new : {M C : Type 0} (s : Setting M C) (m : Moment M C) (c : Change M 
     In x m.given ⊎ ((x.source ≡ k) × In (RecordFrame x) (gives c))
 given_new s m (Gives q t y) k rule by x i = elim i [ inl e ↦ inr (subst (λ (z : Record). z.source ≡ k) e (rule.source ∙ by), inl (ap RecordFrame e)) | inr j ↦ inl j ]
 given_new {M} {C} s m (Closes r u) k rule by x i = inl (choice (λ (n : Moment M C). In x n.given → In x m.given) (is_closed (m.offered r u)) m (with_mark m r u CloseMark) (λ b j. j) (λ b j. j) i)
-given_new s m (Issues r y) k rule by x i = inl i
-given_new s m (Asks r ask) k rule by x i = inl i
-given_new s m (Opens r t ask) k rule by x i = inl i
-given_new s m (Takes r y reception) k rule by x i = inl i
-given_new s m (Retires r) k rule by x i = inl i
-given_new s m (Offers r u e) k rule by x i = inl i
-given_new s m (TakesEntry r u e) k rule by x i = inl i
-given_new s m (Vouches r v y) k rule by x i = inl i
-given_new s m (Releases r y) k rule by x i = inl i
-given_new s m Stays k rule by x i = inl i
-given_new s m Misfits k rule by x i = inl i
+given_new s m _ k rule by x i = inl i
 
 -- ---- the issue list
 
@@ -176,18 +127,7 @@ new_issues _ = []
 
 pub issues_after : {M C : Type 0} (s : Setting M C) (m : Moment M C) (c : Change M C) → (happens s m c).issues ≡ new_issues c ++ m.issues
 issues_after {M} {C} s m (Closes r u) = choice (λ (n : Moment M C). n.issues ≡ m.issues) (is_closed (m.offered r u)) m (with_mark m r u CloseMark) (λ b. refl) (λ b. refl)
-issues_after s m (Issues r x) = refl
-issues_after s m (Asks r ask) = refl
-issues_after s m (Opens r t ask) = refl
-issues_after s m (Gives r t x) = refl
-issues_after s m (Takes r y reception) = refl
-issues_after s m (Retires r) = refl
-issues_after s m (Offers r u e) = refl
-issues_after s m (TakesEntry r u e) = refl
-issues_after s m (Vouches r v y) = refl
-issues_after s m (Releases r y) = refl
-issues_after s m Stays = refl
-issues_after s m Misfits = refl
+issues_after s m _ = refl
 
 -- ---- streams that have ended
 
@@ -199,14 +139,4 @@ change_ended s m (Gives q t y) rule x i e = choice (λ (f : ℕ → ℕ → Vers
     (λ b. at_two_elsewhere m.held_at_draw y.source y.stream (stored m y.source) x.source x.stream (λ both. rule.open_still x (record { is_given = i; source_is = both.0; stream_is = both.1 }) e))
     (λ b. refl)
 change_ended {M} {C} s m (Closes r u) rule x i e = choice (λ (n : Moment M C). n.held_at_draw x.source x.stream ≡ m.held_at_draw x.source x.stream) (is_closed (m.offered r u)) m (with_mark m r u CloseMark) (λ b. refl) (λ b. refl)
-change_ended s m (Issues r y) rule x i e = refl
-change_ended s m (Asks r ask) rule x i e = refl
-change_ended s m (Opens r t ask) rule x i e = refl
-change_ended s m (Takes r y reception) rule x i e = refl
-change_ended s m (Retires r) rule x i e = refl
-change_ended s m (Offers r u y) rule x i e = refl
-change_ended s m (TakesEntry r u y) rule x i e = refl
-change_ended s m (Vouches r v y) rule x i e = refl
-change_ended s m (Releases r y) rule x i e = refl
-change_ended s m Stays rule x i e = refl
-change_ended s m Misfits rule x i e = refl
+change_ended s m _ rule x i e = refl

@@ -1,5 +1,5 @@
 -- An issue list without the issues that were lost: it says the same of what is left.
-use Rattle.std.proofs.Common.{◌≡◌, ◌≢◌, refl, sym, ap, subst, ◌∙◌, ℕ, ◌+◌, ◌==◌, Bool, ◌||◌, ◌&&◌, List, [], ◌∷◌, ◌++◌, filter, inl, inr, IsTrue, IsFalse, eqb-true}
+use Rattle.std.proofs.Common.{◌≡◌, ◌≢◌, refl, sym, ap, subst, ◌∙◌, ℕ, ◌+◌, ◌==◌, Bool, ◌||◌, ◌&&◌, List, [], ◌∷◌, ◌++◌, filter, inl, inr, IsTrue, IsFalse, eqb-true, arith}
 use Rattle.std.specs.List.{list_any}
 use Rattle.std.proofs.lemmas.Bool.{and_parts}
 use Rattle.mr_version.specs.Name.{Name}
@@ -35,36 +35,23 @@ module _ {M : Type 0} (r : ℕ) (e : List (Issue M)) where
   pub left_all : {all left : List (Issue M)} → Lost r e all left → (v : Name) → IsTrue (is_issued left v) → IsTrue (is_issued all v)
   left_all none v h = h
   left_all (gone {x = x} {all = all} a l) v h = or_right (is x.version v) (is_issued all v) (left_all l v h)
-  left_all (stays {x = x} {all = all} {left = left} a l) v h = elim (or_parts (is x.version v) (is_issued left v) h) [
-    | inl t ↦ or_left (is x.version v) (is_issued all v) t
-    | inr t ↦ or_right (is x.version v) (is_issued all v) (left_all l v t)
-  ]
+  left_all (stays {x = x} {all = all} {left = left} a l) v h = grind (arith, left_all l v)
 
   -- what is issued on the list that is left was not lost
   pub is_left : {all left : List (Issue M)} → Lost r e all left → (v : Name) → IsTrue (is_issued left v) → IsLeft r e v
   is_left none v h own = h
   is_left (gone a l) v h own = is_left l v h own
-  is_left (stays {x = x} {left = left} a l) v h own = elim (or_parts (is x.version v) (is_issued left v) h) [
-    | inl t ↦ absurd (a (subst (λ (z : Name). z.author ≡ r) (sym (is_path x.version v t)) own))
-    | inr t ↦ is_left l v t own
-  ]
+  is_left (stays {x = x} {left = left} a l) v h own = grind (arith, is_left l v, is_path x.version v)
 
   -- a lost issue is none that is left
   pub not_gone : {all left : List (Issue M)} (x : Issue M) → Lost r e all left → IsIssuable all x → x.version.author ≡ r → (v : Name) → IsLeft r e v → IsFalse (is x.version v)
-  not_gone {all = all} x l ok own v h = elim (cases (is x.version v)) [
-    | inl t ↦ absurd (let p : x.version ≡ v = is_path x.version v t in
-        fresh x all ok (subst (λ (z : Name). IsTrue (is_issued all z)) (sym p) (base_all l v (h (subst (λ (z : Name). z.author ≡ r) p own)))))
-    | inr n ↦ n
-  ]
+  not_gone {all = all} x l ok own v h = grind (arith, cases (is x.version v), is_path x.version v, fresh x all ok, base_all l v)
 
   pub last_same : {all left : List (Issue M)} → Lost r e all left → (a : ℕ) (i : Name) → a ≢ r → last_own all a i ≡ last_own left a i
   last_same none a i other = refl
   last_same (gone {x = x} {all = all} own l) a i other = last_own-back x all a i (false_from ((x.version.author == a) && is x.item i)
       (λ t. other (sym (eqb-true x.version.author a (and_parts (x.version.author == a) (is x.item i) t).0) ∙ own))) ∙ last_same l a i other
-  last_same (stays {x = x} {all = all} {left = left} _ l) a i other = elim (cases ((x.version.author == a) && is x.item i)) [
-    | inl t ↦ last_own-here x all a i t ∙ sym (last_own-here x left a i t)
-    | inr n ↦ last_own-back x all a i n ∙ (last_same l a i other ∙ sym (last_own-back x left a i n))
-  ]
+  last_same (stays {x = x} {all = all} {left = left} _ l) a i other = grind (arith, last_same l a i other)
 
   -- what is left supersedes what it superseded
   pub made_same : {all left : List (Issue M)} → Lost r e all left → IsIssueList all → IsIssueList left → (w v : Name) → IsLeft r e w → made_with all w v ≡ made_with left w v
@@ -82,18 +69,12 @@ module _ {M : Type 0} (r : ℕ) (e : List (Issue M)) where
   pub item_same : {all left : List (Issue M)} → Lost r e all left → IsIssueList all → (v : Name) → IsLeft r e v → item_of all v ≡ item_of left v
   item_same none ok v h = refl
   item_same (gone {x = x} {all = all} own l) ok v h = item_back x all v (not_gone x l ok.0 own v h) ∙ item_same l ok.1 v h
-  item_same (stays {x = x} {all = all} {left = left} other l) ok v h = elim (cases (is x.version v)) [
-    | inl t ↦ item_here x all v t ∙ sym (item_here x left v t)
-    | inr n ↦ item_back x all v n ∙ (item_same l ok.1 v h ∙ sym (item_back x left v n))
-  ]
+  item_same (stays {x = x} {all = all} {left = left} other l) ok v h = grind (arith, item_same l ok.1 v h)
 
   pub count_same : {all left : List (Issue M)} → Lost r e all left → (a : ℕ) → a ≢ r → issue_count all a ≡ issue_count left a
   count_same none a other = refl
   count_same (gone {x = x} {all = all} own l) a other = count_back x all a (false_from (x.version.author == a) (λ t. other (sym (eqb-true x.version.author a t) ∙ own))) ∙ count_same l a other
-  count_same (stays {x = x} {all = all} {left = left} _ l) a other = elim (cases (x.version.author == a)) [
-    | inl t ↦ (let p = eqb-true x.version.author a t in count_here x all a p ∙ ((λ i. count_same l a other i + 1) ∙ sym (count_here x left a p)))
-    | inr n ↦ count_back x all a n ∙ (count_same l a other ∙ sym (count_back x left a n))
-  ]
+  count_same (stays {x = x} {all = all} {left = left} _ l) a other = grind (arith, count_same l a other)
 
   -- ---- the issues in version order
 
@@ -106,10 +87,7 @@ module _ {M : Type 0} (r : ℕ) (e : List (Issue M)) where
   pub selection_same : {C : Type 0} (s : Setting M C) {all left : List (Issue M)} → Lost r e all left → IsIssueList all → (q : ℕ) (v : Name) → IsLeft r e v → selection s all q v ≡ selection s left q v
   selection_same s none ok q v h = refl
   selection_same s (gone {x = x} {all = all} own l) ok q v h = selection_back s x all q v (not_gone x l ok.0 own v h) ∙ selection_same s l ok.1 q v h
-  selection_same s (stays {x = x} {all = all} {left = left} other l) ok q v h = elim (cases (is x.version v)) [
-    | inl t ↦ selection_here s x all q v t ∙ sym (selection_here s x left q v t)
-    | inr n ↦ selection_back s x all q v n ∙ (selection_same s l ok.1 q v h ∙ sym (selection_back s x left q v n))
-  ]
+  selection_same s (stays {x = x} {all = all} {left = left} other l) ok q v h = grind (arith, selection_same s l ok.1 q v h)
 
 -- ---- the issues in version order
 
@@ -126,19 +104,10 @@ passing_out p x xs n = rw n refl
 pub placed_here : {M : Type 0} (x y : Issue M) (ys : List (Issue M)) → IsTrue (is_before x.version y.version) → insert_in_order x (y ∷ ys) ≡ x ∷ y ∷ ys
 placed_here x y ys t = rw t refl
 
-pub placed_on : {M : Type 0} (x y : Issue M) (ys : List (Issue M)) → IsFalse (is_before x.version y.version) → insert_in_order x (y ∷ ys) ≡ y ∷ insert_in_order x ys
-placed_on x y ys n = rw n refl
-
 -- an issue that fails the test may be put anywhere
 pub placed_out : {M : Type 0} (p : Name → Bool) (x : Issue M) (ys : List (Issue M)) → IsFalse (p x.version) → passing p (insert_in_order x ys) ≡ passing p ys
 placed_out p x [] n = passing_out p x [] n
-placed_out {M} p x (y ∷ ys) n = elim (cases (is_before x.version y.version)) [
-  | inl t ↦ ap (passing p) (placed_here x y ys t) ∙ passing_out p x (y ∷ ys) n
-  | inr b ↦ ap (passing p) (placed_on x y ys b) ∙ elim (cases (p y.version)) [
-    | inl t ↦ passing_in p y (insert_in_order x ys) t ∙ (ap (λ (zs : List (Issue M)). y ∷ zs) (placed_out p x ys n) ∙ sym (passing_in p y ys t))
-    | inr k ↦ passing_out p y (insert_in_order x ys) k ∙ (placed_out p x ys n ∙ sym (passing_out p y ys k))
-  ]
-]
+placed_out {M} p x (y ∷ ys) n = grind (arith, placed_out p x ys n)
 
 -- x stands before all of the list
 pub placed_first : {M : Type 0} (x : Issue M) (ys : List (Issue M)) → ((y : Issue M) → In y ys → IsTrue (is_before x.version y.version)) → insert_in_order x ys ≡ x ∷ ys
@@ -148,25 +117,13 @@ placed_first x (y ∷ ys) h = placed_here x y ys (h y (inl refl))
 -- of a rising list, one that passes the test comes among those that pass it where it would come among all
 pub placed_in_passing : {M : Type 0} (p : Name → Bool) (x : Issue M) (ys : List (Issue M)) → EachPair Rises ys → IsTrue (p x.version) → passing p (insert_in_order x ys) ≡ insert_in_order x (passing p ys)
 placed_in_passing p x [] rising h = passing_in p x [] h
-placed_in_passing {M} p x (y ∷ ys) rising h = elim (cases (is_before x.version y.version)) [
-  | inl t ↦ ap (passing p) (placed_here x y ys t) ∙ (passing_in p x (y ∷ ys) h ∙ sym (placed_first x (passing p (y ∷ ys)) (λ u i. first t u (in_filter (λ z. p z.version) (y ∷ ys) u i).0)))
-  | inr b ↦ ap (passing p) (placed_on x y ys b) ∙ elim (cases (p y.version)) [
-    | inl t ↦ passing_in p y (insert_in_order x ys) t ∙ (ap (λ (zs : List (Issue M)). y ∷ zs) (placed_in_passing p x ys rising.1 h)
-        ∙ (sym (placed_on x y (passing p ys) b) ∙ ap (insert_in_order x) (sym (passing_in p y ys t))))
-    | inr k ↦ passing_out p y (insert_in_order x ys) k ∙ (placed_in_passing p x ys rising.1 h ∙ ap (insert_in_order x) (sym (passing_out p y ys k)))
-  ]
-]
-  where
-    first : IsTrue (is_before x.version y.version) → (u : Issue M) → In u (y ∷ ys) → IsTrue (is_before x.version u.version)
-    first t u i = elim i [ inl q ↦ subst (λ (z : Issue M). IsTrue (is_before x.version z.version)) q t | inr j ↦ before_trans x.version y.version u.version t (each_at (Rises y) ys rising.0 u j) ]
+placed_in_passing {M} p x (y ∷ ys) rising h = grind (arith, placed_first x (passing p (y ∷ ys)), before_trans x.version y.version, each_at (Rises y) ys rising.0, in_filter (λ z. p z.version) (y ∷ ys), placed_in_passing p x ys rising.1 h)
 
 -- a test that no lost version passes picks the same of both lists, in the same order
 pub order_same : {M : Type 0} (r : ℕ) (e : List (Issue M)) {all left : List (Issue M)} (p : Name → Bool) → Lost r e all left → IsIssueList all → IsIssueList left → ((v : Name) → IsTrue (p v) → IsLeft r e v) →
     passing p (in_version_order all) ≡ passing p (in_version_order left)
 order_same r e p none ok okl h = refl
 order_same r e p (gone {x = x} {all = all} own l) ok okl h = placed_out p x (in_version_order all) (false_from (p x.version) (λ t. fresh x all ok.0 (base_all r e l x.version (h x.version t own)))) ∙ order_same r e p l ok.1 okl h
-order_same r e p (stays {x = x} {all = all} {left = left} other l) ok okl h = elim (cases (p x.version)) [
-  | inl t ↦ placed_in_passing p x (in_version_order all) (ordered_rising all ok.1) t
-      ∙ (ap (insert_in_order x) (order_same r e p l ok.1 okl.1 h) ∙ sym (placed_in_passing p x (in_version_order left) (ordered_rising left okl.1) t))
-  | inr n ↦ placed_out p x (in_version_order all) n ∙ (order_same r e p l ok.1 okl.1 h ∙ sym (placed_out p x (in_version_order left) n))
-]
+order_same r e p (stays {x = x} {all = all} {left = left} other l) ok okl h =
+    let all_in = placed_in_passing p x (in_version_order all) (ordered_rising all ok.1) in let left_in = placed_in_passing p x (in_version_order left) (ordered_rising left okl.1) in
+    grind (arith, cases (p x.version), all_in, left_in, placed_out p x (in_version_order all), placed_out p x (in_version_order left), order_same r e p l ok.1 okl.1 h)

@@ -1,5 +1,5 @@
 -- What another replica does makes of it the same without the lost steps.
-use Rattle.std.proofs.Common.{◌≡◌, ◌≢◌, refl, sym, ap, subst, ◌∙◌, ℕ, ◌==◌, true, false, not, ◌&&◌, if◌then◌else◌, List, [], ◌∷◌, ◌++◌, map, filter, inl, inr, IsTrue, Bool, Some, eqb-true}
+use Rattle.std.proofs.Common.{◌≡◌, ◌≢◌, refl, sym, ap, subst, ◌∙◌, ℕ, ◌==◌, true, false, not, ◌&&◌, if◌then◌else◌, List, [], ◌∷◌, ◌++◌, map, filter, inl, inr, IsTrue, Bool, Some, eqb-true, arith}
 use Rattle.std.specs.List.{list_any}
 use Rattle.mr_version.specs.Name.{Name}
 use Rattle.mr_model.specs.Versions.{Versions, Issue, is_issued, made_with}
@@ -128,9 +128,7 @@ module _ {M C : Type 0} (s : Setting M C) (r q : ℕ) (b m m' : Moment M C) (a :
       issued = (inv'.core.sets.each x.source).issued w (inv'.core.sets.given_known x w j (ap version_in e))
   record_same x (MoveOut w) j e = version_same w ((inv'.core.sets.each x.source).issued w (inv'.core.sets.given_known x w j (ap version_in e))) false false refl
   record_same x End j e = end_same x j e
-  record_same x (Start full) j e = λ i. (a.others q other i).holding
-  record_same x Held j e = λ i. (a.others q other i).holding
-  record_same x Know j e = λ i. (a.others q other i).holding
+  record_same x _ j e = λ i. (a.others q other i).holding
 
   pub take_same : (x : Record) (reception : Reception) → IsReceived m' q x reception → replica (after_taking s m q x) q ≡ replica (after_taking s m' q x) q
   take_same x reception rule' = λ i. record (sets i) { taken_in = if q == q then x ∷ (a.others q other i).taken_in else (a.others q other i).taken_in }
@@ -197,7 +195,6 @@ pub change_same : {M C : Type 0} (s : Setting M C) (r k : ℕ) (b m m' : Moment 
     replica (happens s m c) k ≡ replica (happens s m' c) k
 change_same s r k b m m' (Issues q x) a inv inv' other by rule rule' =
     subst (λ (z : ℕ). replica (after_issue s m q x) z ≡ replica (after_issue s m' q x) z) by (issue_same s r q b m m' x a inv inv' (λ e. other (sym by ∙ e)) rule rule')
-change_same s r k b m m' (Asks q ask) a inv inv' other by rule rule' = a.others k other
 change_same s r k b m m' (Opens q t ask) a inv inv' other by rule rule' = λ i. let z = a.others k other i in record z {
   ask_of = λ u. if (k == q) && (u == t) then Some ask else z.ask_of u;
   known_at_answer = λ u. if (k == q) && (u == t) then (a.others q (λ e. other (sym by ∙ e)) i).holding.known else z.known_at_answer u;
@@ -213,9 +210,8 @@ change_same {M} {C} s r k b m m' (Closes q u) a inv inv' other by rule rule' = s
     (closed_by (is_closed (m.offered q u)) m (with_mark m q u CloseMark) q ∙ ((λ i. closed q u (a.others q (λ p. other (sym by ∙ p)) i)) ∙ sym (closed_by (is_closed (m'.offered q u)) m' (with_mark m' q u CloseMark) q)))
 change_same s r k b m m' (TakesEntry q u e) a inv inv' other by rule rule' = λ i. let z = a.others k other i in
     record z { taken = λ v. if (k == q) && (v == u) then (a.others q (λ p. other (sym by ∙ p)) i).taken u ++ e ∷ [] else z.taken v }
-change_same s r k b m m' (Vouches q v x) a inv inv' other by rule rule' = a.others k other
 change_same {M} {C} s r k b m m' (Releases q x) a inv inv' other by rule rule' =
     subst (λ (z : ℕ). replica (with_holding s m q (holding_after_release m q x.version)) z ≡ replica (with_holding s m' q (holding_after_release m' q x.version)) z) by
     (release_same s r q b m m' a inv inv' (λ e. other (sym by ∙ e)) x rule'.in_pool)
-change_same s r k b m m' Stays a inv inv' other by rule rule' = a.others k other
 change_same s r k b m m' Misfits a inv inv' other by rule rule' = absurd rule
+change_same s r k b m m' _ a inv inv' other by rule rule' = a.others k other

@@ -1,5 +1,5 @@
 -- What another replica sees at a moment, and at the moment without the lost steps: the same.
-use Rattle.std.proofs.Common.{◌≡◌, ◌≢◌, sym, subst, ◌∙◌, ℕ, if◌then◌else◌, ◌⊎◌, inl, inr, IsTrue}
+use Rattle.std.proofs.Common.{◌≡◌, ◌≢◌, sym, subst, ◌∙◌, ℕ, if◌then◌else◌, ◌⊎◌, inl, inr, IsTrue, arith}
 use Rattle.mr_version.specs.Name.{Name}
 use Rattle.mr_model.specs.Versions.{item_of}
 use Rattle.mr_model.specs.History.{Setting, Ask, claims, Body, Body.Start, Body.Item, Body.MoveOut, Body.Held, Body.Know, Body.End, Record}
@@ -36,17 +36,7 @@ sees s r k b m m' a inv inv' other = record {
 }
 
 pub turned : {M C : Type 0} (s : Setting M C) (m m' : Moment M C) (k : ℕ) → Sees s m m' k → Sees s m' m k
-turned {M} {C} s m m' k w = record {
-  own = sym w.own;
-  there = w.back;
-  back = w.there;
-  held = λ v h. subst (λ (z : Replica C). IsTrue (z.holding.known v)) w.own (w.held v (subst (λ (z : Replica C). IsTrue (z.holding.stored v) ⊎ IsTrue (z.holding.pushed_out v)) (sym w.own) h));
-  selected = λ q v h. sym (w.selected q v (known_at_m v h));
-  item = λ v h. sym (w.item v (known_at_m v h));
-}
-  where
-    known_at_m : (v : Name) → Knows m' k v → Knows m k v
-    known_at_m v h = subst (λ (z : Replica C). IsTrue (z.holding.known v)) (sym w.own) h
+turned {M} {C} s m m' k w = grind (arith, w.own, w.back, w.there, w.held, w.selected, w.item)
 
 -- ---- what its streams may give
 
@@ -104,6 +94,4 @@ pub reception_same : {M C : Type 0} (m m' : Moment M C) (k : ℕ) (body : Body) 
 reception_same m m' k (Item v) e = λ i. if (e i).holding.known v then AsKnown else AsTaken
 reception_same m m' k (MoveOut v) e = λ i. if (e i).holding.known v then AsKnown else AsTaken
 reception_same m m' k End e = λ i. AsFinished
-reception_same m m' k (Start full) e = λ i. AsTaken
-reception_same m m' k Held e = λ i. AsTaken
-reception_same m m' k Know e = λ i. AsTaken
+reception_same m m' k _ e = λ i. AsTaken

@@ -1,7 +1,7 @@
 -- A history without the steps that a crash lost is a run.
 -- The moment of the whole history and that of what is left go side by side, and agree on all but what r lost (`Agrees`). A step of r moves the first alone;
 -- a step of another replica moves both: it is allowed at the second too (`allowed_there`) and makes the same of its replica (`change_same`), since what it reads is the same at both (`Sees`).
-use Rattle.std.proofs.Common.{◌≡◌, ◌≢◌, refl, sym, ap, subst, ◌∙◌, ℕ, ◌==◌, Bool, if◌then◌else◌, List, [], ◌∷◌, ◌++◌, inl, inr, IsTrue, IsFalse, eqb-true, eq-eqb}
+use Rattle.std.proofs.Common.{◌≡◌, ◌≢◌, refl, sym, ap, subst, ◌∙◌, ℕ, ◌==◌, Bool, if◌then◌else◌, List, [], ◌∷◌, ◌++◌, inl, inr, IsTrue, IsFalse, eqb-true, eq-eqb, arith}
 use Rattle.std.proofs.lemmas.Bool.{both_ways}
 use Rattle.std.proofs.lemmas.List.{append_assoc, append-nil}
 use Rattle.mr_model.specs.History.{Setting, Step, History}
@@ -52,11 +52,7 @@ IsWell {M} {C} s r b m m' x later left act d =
 module _ {M C : Type 0} (s : Setting M C) (r : ℕ) (b : Moment M C) where
   -- a step of r goes
   rest_gone : (m m' : Moment M C) (x : Step M C) (later left : History M C) → IsTrue (is_of r x) → IsRest s r b (happens s m (change m x)) m' later left → IsRest s r b m m' (x ∷ later) left
-  rest_gone m m' x later left t rest = record {
-    left_are = rest.left_are ∙ sym (others_gone r (record { replica = x.event.replica; act = unnumbered x.event.act; reply = x.reply; change = change m x }) (deeds s (happens s m (change m x)) later) t);
-    run = rest.run;
-    agree = rest.agree;
-  }
+  rest_gone m m' x later left t rest = grind (arith, rest.left_are, others_gone, rest.run, rest.agree)
 
   -- a step of another replica stays
   rest_stays : (m m' : Moment M C) (x : Step M C) (later left : History M C) → IsFalse (is_of r x) → (step : IsAnew m m' x.event.replica x.event.act x.reply) → IsAllowed s m' (change m x) →
@@ -124,10 +120,7 @@ agrees_grow {M} {C} s r b m m' a inv inv' grown = record {
   issued = left_all r b.issues a.lost;
   item_stays = λ v h. item_same r b.issues a.lost inv.core.sets.list v (is_left r b.issues a.lost v h);
   made_with_stays = λ w v h. made_same r b.issues a.lost inv.core.sets.list inv'.core.sets.list w v (is_left r b.issues a.lost w h);
-  known_stays = λ q v h. elim (same_or_other q r) [
-    | inl e ↦ subst (λ (k : ℕ). Knows m k v) (sym e) (grown.known_stays r v (subst (λ (z : Replica C). IsTrue (z.holding.known v)) (sym a.itself) (subst (λ (k : ℕ). Knows m' k v) e h)))
-    | inr n ↦ subst (λ (z : Replica C). IsTrue (z.holding.known v)) (sym (a.others q n)) h
-  ];
+  known_stays = λ q v h. grind (arith, same_or_other q r, grown.known_stays r v, a.itself, a.others q);
 }
 
 -- ---- what is left is told by what the steps do

@@ -6,48 +6,21 @@ use Rattle.std.proofs.lemmas.Map.Views.{tells_apart}
 use Rattle.mr_version.specs.Name.{Name}
 use Rattle.mr_version.specs.Order.{exact_names}
 use Rattle.mr_model.specs.Versions.{is}
+pub use Rattle.std.proofs.lemmas.Bool.{cases_Bool as cases, or_cases as or_parts, or_left, or_right, false_from_ne_true as false_from}
 pub use Rattle.mr_model.specs.Rules.{In}
 
-pub cases : (b : Bool) → IsTrue b ⊎ IsFalse b
-cases true = inl refl
-cases false = inr refl
-
-pub or_parts : (a b : Bool) → IsTrue (a || b) → IsTrue a ⊎ IsTrue b
-or_parts true b h = inl refl
-or_parts false b h = inr h
-
-pub or_left : (a b : Bool) → IsTrue a → IsTrue (a || b)
-or_left true b h = refl
-or_left false b h = cc
-
-pub or_right : (a b : Bool) → IsTrue b → IsTrue (a || b)
-or_right true b h = refl
-or_right false b h = h
-
 pub not_true : (b : Bool) → ¬ IsTrue b → IsTrue (not b)
-not_true true h = absurd (h refl)
-not_true false h = refl
-
-pub false_from : (b : Bool) → ¬ IsTrue b → IsFalse b
-false_from true h = absurd (h refl)
-false_from false h = refl
+not_true b h = grind arith
 
 pub not_both : (b : Bool) → IsTrue (not b) → ¬ IsTrue b
-not_both true h = λ k. cc
-not_both false h = λ k. cc
+not_both b h = grind arith
 
 -- two tests that imply each other are one
 pub one_test : (a b : Bool) → (IsTrue a → IsTrue b) → (IsTrue b → IsTrue a) → a ≡ b
-one_test true true h k = refl
-one_test true false h k = sym (h refl)
-one_test false true h k = k refl
-one_test false false h k = refl
+one_test a b h k = grind arith
 
 pub is_refl : (v : Name) → IsTrue (is v v)
-is_refl v = rw (ltb-irrefl v.author, eq-eqb v.author v.author refl, ltb-irrefl v.counter, eq-eqb v.counter v.counter refl) refl
-  where
-    ltb-irrefl : (n : ℕ) → nat_lt n n ≡ false
-    ltb-irrefl n = le-ltb n n (omega arith)
+is_refl v = grind (arith, eq-eqb, le-ltb)
 
 pub is_path : (v w : Name) → IsTrue (is v w) → v ≡ w
 is_path v w h = tells_apart exact_names v w h

@@ -25,41 +25,27 @@ pub held_more : (x : Record) (given : List Record) (k t : ℕ) → HasHeld given
 held_more x given k t h = (h.0, of_more x given k t h.0 h.1, h.2)
 
 pub held_split : (x : Record) (given : List Record) (k t : ℕ) → HasHeld (x ∷ given) k t → (IsTrue (is_held x.body) × ((x.source ≡ k) × (x.stream ≡ t))) ⊎ HasHeld given k t
-held_split x given k t h = elim (of_split x given k t h.0 h.1) [
-  | inl p ↦ inl (subst (λ (z : Record). IsTrue (is_held z.body)) (sym p) h.2, (ap (λ (z : Record). z.source) p ∙ h.1.source_is, ap (λ (z : Record). z.stream) p ∙ h.1.stream_is))
-  | inr of ↦ inr (h.0, of, h.2)
-]
+held_split x given k t h = grind (arith, of_split)
 
 -- ---- what a draw leaves to the walk
 
 pub after_draw : {M C : Type 0} (s : Setting M C) (m : Moment M C) (k t : ℕ) (ask : Ask) (b : Body) → IsDraw s m k t ask b → (v : Name) → IsDue s m k t ask v → ¬ HasHeld m.given k t →
     (version_in b ≡ Some v) ⊎ (((w : Name) → version_in b ≡ Some w → IsTrue (is_before w v)) × IsFalse (is_held b))
-after_draw s m k t ask (Start full) d v due not_yet = inr ((λ w e. absurd (cc)), refl)
 after_draw s m k t ask (Item w) d v due not_yet = elim (d.0.none_skipped v due) [ inl p ↦ inl (ap Some (sym p)) | inr lt ↦ inr ((λ u e. let p : w ≡ u = cc in subst (λ (z : Name). IsTrue (is_before z v)) p lt), refl) ]
 after_draw s m k t ask (MoveOut w) d v due not_yet = elim (d.0.none_skipped v due) [ inl p ↦ inl (ap Some (sym p)) | inr lt ↦ inr ((λ u e. let p : w ≡ u = cc in subst (λ (z : Name). IsTrue (is_before z v)) p lt), refl) ]
 after_draw s m k t ask Held d v due not_yet = elim d.walked [ inl none ↦ absurd (none v due) | inr h ↦ absurd (not_yet h) ]
 after_draw s m k t ask Know d v due not_yet = absurd (not_yet d)
-after_draw s m k t ask End d v due not_yet = inr ((λ w e. absurd (cc)), refl)
+after_draw s m k t ask _ d v due not_yet = inr ((λ w e. absurd (cc)), refl)
 
 -- the source holds what it gives
 pub drawn_held : {M C : Type 0} (s : Setting M C) (m : Moment M C) (k t : ℕ) (ask : Ask) (b : Body) → IsDraw s m k t ask b → (w : Name) → version_in b ≡ Some w → Holds m k w
-drawn_held s m k t ask (Start full) d w e = absurd (cc)
-drawn_held s m k t ask (Item u) d w e = let p : u ≡ w = cc in subst (Holds m k) p d.0.due.held
-drawn_held s m k t ask (MoveOut u) d w e = let p : u ≡ w = cc in subst (Holds m k) p d.0.due.held
-drawn_held s m k t ask Held d w e = absurd (cc)
-drawn_held s m k t ask Know d w e = absurd (cc)
-drawn_held s m k t ask End d w e = absurd (cc)
+drawn_held s m k t ask b d w e = grind arith
 
 pub drawn_move_out : {M C : Type 0} (s : Setting M C) (m : Moment M C) (k t : ℕ) (ask : Ask) (b : Body) → IsDraw s m k t ask b → (w : Name) → b ≡ MoveOut w → IsFalse (selection s m.issues ask.target w)
-drawn_move_out s m k t ask b d w e = false_from (selection s m.issues ask.target w) (subst (λ (z : Body). IsDraw s m k t ask z) e d).1
+drawn_move_out s m k t ask b d w e = grind (arith, false_from)
 
 pub drawn_start : {M C : Type 0} (s : Setting M C) (m : Moment M C) (k t : ℕ) (ask : Ask) (b : Body) → IsDraw s m k t ask b → IsTrue (starts_full b) → Covers s k ask.target
-drawn_start s m k t ask (Start full) d h = d.covers h
-drawn_start s m k t ask (Item u) d h = absurd (cc)
-drawn_start s m k t ask (MoveOut u) d h = absurd (cc)
-drawn_start s m k t ask Held d h = absurd (cc)
-drawn_start s m k t ask Know d h = absurd (cc)
-drawn_start s m k t ask End d h = absurd (cc)
+drawn_start s m k t ask b d h = grind arith
 
 -- ---- the walk
 
@@ -92,25 +78,10 @@ given_walked s m x ask sets sound d inv v h a b = elim (inv v h a b) [
 -- the walk of another stream is as it was
 pub other_walked : {M C : Type 0} (s : Setting M C) (m : Moment M C) (x : Record) (k t : ℕ) (ask : Ask) (learned : Versions) → ¬ ((x.source ≡ k) × (x.stream ≡ t)) →
     IsWalkedFor s m.issues m.given k t ask learned → IsWalkedFor s m.issues (x ∷ m.given) k t ask learned
-other_walked s m x k t ask learned other inv v h a b = elim (inv v h a b) [
-  | inl j ↦ inl j
-  | inr j ↦ elim j [
-    | inl c ↦ inr (inl c)
-    | inr c ↦ elim c [
-      | inl g ↦ inr (inr (inl (g.0, of_more x m.given k t g.0 g.1, g.2)))
-      | inr g ↦ inr (inr (inr (
-        (λ y w of l. elim (of_split x m.given k t y of) [ inl p ↦ absurd (other (ap (λ (z : Record). z.source) p ∙ of.source_is, ap (λ (z : Record). z.stream) p ∙ of.stream_is)) | inr old ↦ g.0 y w old l ]),
-        (λ hh. elim (held_split x m.given k t hh) [ inl y ↦ other y.1 | inr old ↦ g.1 old ]),
-      )))
-    ]
-  ]
-]
+other_walked s m x k t ask learned other inv v h a b = grind (arith, of_more, of_split, held_split)
 
 pub same_or_other : (x : Record) (k t : ℕ) → ((x.source ≡ k) × (x.stream ≡ t)) ⊎ ¬ ((x.source ≡ k) × (x.stream ≡ t))
-same_or_other x k t = elim (cases ((x.source == k) && (x.stream == t))) [
-  | inl j ↦ (let both = and_parts (x.source == k) (x.stream == t) j in inl (eqb-true x.source k both.0, eqb-true x.stream t both.1))
-  | inr n ↦ inr (λ e. both_ways ((x.source == k) && (x.stream == t)) n (and_from (x.source == k) (x.stream == t) (eq-eqb x.source k e.0) (eq-eqb x.stream t e.1)))
-]
+same_or_other x k t = grind (arith, cases, and_parts, eqb-true, both_ways, and_from, eq-eqb)
 
 -- ---- a source gives x
 
@@ -210,14 +181,5 @@ giving_streams s m source stream x rule sets sound inv = record {
     ]
 
 pub giving_sets : {M C : Type 0} (s : Setting M C) (m : Moment M C) (source stream : ℕ) (x : Record) → IsNext s m source stream x → SetsHold m → SetsHold (after_giving m x)
-giving_sets s m source stream x rule inv = record {
-  list = inv.list;
-  each = inv.each;
-  answer_known = inv.answer_known;
-  answer_downward = inv.answer_downward;
-  given_known = λ y w i e. elim i [
-    | inl p ↦ subst (λ (q : ℕ). IsTrue (known m q w)) (ap (λ (z : Record). z.source) p)
-        (held_known m.issues (m.holding x.source) w (inv.each x.source) (drawn_held s m x.source x.stream rule.ask x.body rule.draw w (ap (λ (z : Record). version_in z.body) p ∙ e)))
-    | inr j ↦ inv.given_known y w j e
-  ];
-}
+giving_sets s m source stream x rule inv =
+    let held = λ (w : Name) (e : version_in x.body ≡ Some w). held_known m.issues (m.holding x.source) w (inv.each x.source) (drawn_held s m x.source x.stream rule.ask x.body rule.draw w e) in grind (arith, held, inv.given_known)

@@ -1,5 +1,5 @@
 -- What a stream teaches and shows is what its source knew and stored at two moments of the history.
-use Rattle.std.proofs.Common.{◌≡◌, refl, sym, ap, subst, ◌∙◌, ℕ, ◌==◌, true, not, ◌&&◌, List, [], ◌∷◌, ◌++◌, ◌⊎◌, inl, inr, IsTrue, eqb-true, eq-eqb, Option, Some, None}
+use Rattle.std.proofs.Common.{◌≡◌, refl, sym, ap, subst, ◌∙◌, ℕ, ◌==◌, true, not, ◌&&◌, List, [], ◌∷◌, ◌++◌, ◌⊎◌, inl, inr, IsTrue, eqb-true, eq-eqb, Option, Some, None, arith}
 use Rattle.std.specs.List.{list_any}
 use Rattle.std.proofs.lemmas.Bool.{and_from, and_parts, both_ways}
 use Rattle.mr_model.specs.Versions.{Versions}
@@ -19,25 +19,10 @@ use Rattle.mr_model.proofs.Theorem.{after-append, run_later}
 
 pub change_opened : {M C : Type 0} (s : Setting M C) (m : Moment M C) (k t : ℕ) (ask : Ask) → m.ask_of k t ≡ Some ask → (c : Change M C) → IsAllowed s m c →
     ((happens s m c).ask_of k t ≡ Some ask) × ((happens s m c).known_at_answer k t ≡ m.known_at_answer k t)
-change_opened s m k t ask e (Opens q u a) rule = (
-  two_elim (λ y z (o : Option Ask). m.ask_of y z ≡ Some ask → o ≡ Some ask) m.ask_of q u (Some a) k t (λ j. absurd (taken j)) (λ other j. j) e,
-  two_elim (λ y z (l : Versions). m.ask_of y z ≡ Some ask → l ≡ m.known_at_answer y z) m.known_at_answer q u (known m q) k t (λ j. absurd (taken j)) (λ other j. refl) e,
-)
-  where
-    taken : m.ask_of q u ≡ Some ask → ⊥
-    taken j = let c : Some ask ≡ None = sym j ∙ rule.fresh in cc
+change_opened s m k t ask e (Opens q u a) rule = grind (arith, two_elim)
 change_opened {M} {C} s m k t ask e (Closes r u) rule = choice (λ (n : Moment M C). (n.ask_of k t ≡ Some ask) × (n.known_at_answer k t ≡ m.known_at_answer k t)) (is_closed (m.offered r u)) m (with_mark m r u CloseMark) (λ j. (e, refl)) (λ j. (e, refl))
-change_opened s m k t ask e (Issues r x) rule = (e, refl)
-change_opened s m k t ask e (Asks r a) rule = (e, refl)
-change_opened s m k t ask e (Gives q u x) rule = (e, refl)
-change_opened s m k t ask e (Takes r x reception) rule = (e, refl)
-change_opened s m k t ask e (Retires r) rule = (e, refl)
-change_opened s m k t ask e (Offers r u x) rule = (e, refl)
-change_opened s m k t ask e (TakesEntry r u x) rule = (e, refl)
-change_opened s m k t ask e (Vouches r v x) rule = (e, refl)
-change_opened s m k t ask e (Releases r x) rule = (e, refl)
-change_opened s m k t ask e Stays rule = (e, refl)
 change_opened s m k t ask e Misfits rule = absurd rule
+change_opened s m k t ask e _ rule = (e, refl)
 
 pub run_opened : {M C : Type 0} (s : Setting M C) (m : Moment M C) (k t : ℕ) (ask : Ask) → m.ask_of k t ≡ Some ask → (h : History M C) → IsRun s m h → (after s m h).known_at_answer k t ≡ m.known_at_answer k t
 run_opened s m k t ask e [] run = refl
@@ -61,9 +46,7 @@ opening_lasts {M} {C} s m k n t later run = go (numbered m.asks n) run
     go (Some a) r = run_opened s (after_opening m k t a) k t a (two_same m.ask_of k t (Some a)) later r.1 ∙ two_same m.known_at_answer k t (known m k)
 
 pub reads_answer : {M C : Type 0} (s : Setting M C) (before later : History M C) (k n t : ℕ) → IsRun s start (before ++ answer_step k n t ∷ later) → ReadsAnswer s before later k n t
-reads_answer {M} {C} s before later k n t run =
-    ap (λ (m : Moment M C). m.known_at_answer k t) (after-append s start before (answer_step k n t ∷ later))
-    ∙ opening_lasts s (now s before) k n t later (run_later s start before (answer_step k n t ∷ later) run)
+reads_answer {M} {C} s before later k n t run = grind (arith, after-append, opening_lasts, run_later)
 
 -- ---- each open stream was opened by an Answer
 
@@ -75,17 +58,7 @@ OpensIt k t _ = ⊥
 pub open_before : {M C : Type 0} (s : Setting M C) (m : Moment M C) (k t : ℕ) (ask : Ask) (c : Change M C) → (happens s m c).ask_of k t ≡ Some ask → (m.ask_of k t ≡ Some ask) ⊎ OpensIt k t c
 open_before s m k t ask (Opens q u a) e = two_elim (λ y z (o : Option Ask). o ≡ Some ask → (m.ask_of y z ≡ Some ask) ⊎ ((q ≡ y) × (u ≡ z))) m.ask_of q u (Some a) k t (λ j. inr (refl, refl)) (λ other j. inl j) e
 open_before {M} {C} s m k t ask (Closes r u) e = choice (λ (n : Moment M C). n.ask_of k t ≡ Some ask → (m.ask_of k t ≡ Some ask) ⊎ ⊥) (is_closed (m.offered r u)) m (with_mark m r u CloseMark) (λ _ j. inl j) (λ _ j. inl j) e
-open_before s m k t ask (Issues r x) e = inl e
-open_before s m k t ask (Asks r a) e = inl e
-open_before s m k t ask (Gives q u x) e = inl e
-open_before s m k t ask (Takes r x reception) e = inl e
-open_before s m k t ask (Retires r) e = inl e
-open_before s m k t ask (Offers r u x) e = inl e
-open_before s m k t ask (TakesEntry r u x) e = inl e
-open_before s m k t ask (Vouches r v x) e = inl e
-open_before s m k t ask (Releases r x) e = inl e
-open_before s m k t ask Stays e = inl e
-open_before s m k t ask Misfits e = inl e
+open_before s m k t ask _ e = inl e
 
 -- where each change of a frame is none of a kind, so is the change of a frame that may be missing
 pub found_none : {M C A : Type 0} (P : Change M C → Type 0) (o : Option A) (f : A → Change M C) → ((x : A) → P (f x) → ⊥) → (P Misfits → ⊥) → P (change_if_found o f) → ⊥
@@ -144,38 +117,14 @@ opened_from {M} {C} s m (x ∷ later) k t ask run e = elim (opened_from s (happe
 ]
 
 pub was_opened : {M C : Type 0} (s : Setting M C) (h : History M C) (k t : ℕ) (ask : Ask) → IsRun s start h → (now s h).ask_of k t ≡ Some ask → WasOpened s h k t
-was_opened s h k t ask run e = elim (opened_from s start h k t ask run e) [
-  | inl none ↦ absurd (cc)
-  | inr w ↦ record { before = w.before; later = w.later; ask_number = w.ask_number; answered = w.answered; knew = w.knew }
-]
+was_opened s h k t ask run e = grind (arith, opened_from)
 
 -- ---- a Held record that was drawn first stays the first
 
 pub change_held : {M C : Type 0} (s : Setting M C) (m : Moment M C) (k t : ℕ) → HasHeld m.given k t → (c : Change M C) → HasHeld (happens s m c).given k t × ((happens s m c).held_at_draw k t ≡ m.held_at_draw k t)
-change_held {M} {C} s m k t h (Gives q u x) = (
-  (h.0, record { is_given = inr h.1.is_given; source_is = h.1.source_is; stream_is = h.1.stream_is }, h.2),
-  choice (λ (f : ℕ → ℕ → Versions). f k t ≡ m.held_at_draw k t) (is_first_held m.given x) (at_two m.held_at_draw x.source x.stream (stored m x.source)) m.held_at_draw
-      (λ first. two_elim (λ y z (l : Versions). HasHeld m.given y z → l ≡ m.held_at_draw y z) m.held_at_draw x.source x.stream (stored m x.source) k t (λ g. absurd (not_first first g)) (λ other g. refl) h)
-      (λ n. refl),
-)
-  where
-    not_first : IsTrue (is_first_held m.given x) → HasHeld m.given x.source x.stream → ⊥
-    not_first first g = let both = and_parts (is_held x.body) (not (list_any (λ y. same_stream y x && is_held y.body) m.given)) first in
-        let some : IsTrue (list_any (λ y. same_stream y x && is_held y.body) m.given) = any_intro (λ y. same_stream y x && is_held y.body) m.given g.0 g.1.is_given
-        (and_from (same_stream g.0 x) (is_held g.0.body) (and_from (g.0.source == x.source) (g.0.stream == x.stream) (eq-eqb g.0.source x.source g.1.source_is) (eq-eqb g.0.stream x.stream g.1.stream_is)) g.2) in
-        let none : not true ≡ true = rw some at both.1 in absurd (cc)
+change_held {M} {C} s m k t h (Gives q u x) = grind (arith, choice, two_elim, and_parts, any_intro, and_from, eq-eqb)
 change_held {M} {C} s m k t h (Closes r u) = choice (λ (n : Moment M C). HasHeld n.given k t × (n.held_at_draw k t ≡ m.held_at_draw k t)) (is_closed (m.offered r u)) m (with_mark m r u CloseMark) (λ j. (h, refl)) (λ j. (h, refl))
-change_held s m k t h (Opens r u a) = (h, refl)
-change_held s m k t h (Issues r x) = (h, refl)
-change_held s m k t h (Asks r a) = (h, refl)
-change_held s m k t h (Takes r x reception) = (h, refl)
-change_held s m k t h (Retires r) = (h, refl)
-change_held s m k t h (Offers r u x) = (h, refl)
-change_held s m k t h (TakesEntry r u x) = (h, refl)
-change_held s m k t h (Vouches r v x) = (h, refl)
-change_held s m k t h (Releases r x) = (h, refl)
-change_held s m k t h Stays = (h, refl)
-change_held s m k t h Misfits = (h, refl)
+change_held s m k t h _ = (h, refl)
 
 pub after_held : {M C : Type 0} (s : Setting M C) (m : Moment M C) (k t : ℕ) → HasHeld m.given k t → (h : History M C) → (after s m h).held_at_draw k t ≡ m.held_at_draw k t
 after_held s m k t g [] = refl
@@ -183,18 +132,10 @@ after_held s m k t g (x ∷ later) = let j = change_held s m k t g (change m x) 
 
 -- the first Held record of a stream is drawn: what its source stores now, the stream shows from then on
 pub drawing_lasts : {M C : Type 0} (s : Setting M C) (m : Moment M C) (k t : ℕ) (x : Record) (later : History M C) → IsNext s m k t x → IsTrue (is_first_held m.given x) → (after s m (next_step k t x ∷ later)).held_at_draw k t ≡ stored m k
-drawing_lasts {M} {C} s m k t x later rule first = subst (λ (q : ℕ). (after s m (next_step k t x ∷ later)).held_at_draw q t ≡ stored m q) rule.source
-    (subst (λ (u : ℕ). (after s m (next_step k t x ∷ later)).held_at_draw x.source u ≡ stored m x.source) rule.stream
-    (after_held s (after_giving m x) x.source x.stream (x, record { is_given = inl refl; source_is = refl; stream_is = refl }, (and_parts (is_held x.body) (not (list_any (λ y. same_stream y x && is_held y.body) m.given)) first).0) later ∙ drawn))
-  where
-    drawn : (after_giving m x).held_at_draw x.source x.stream ≡ stored m x.source
-    drawn = choice (λ (f : ℕ → ℕ → Versions). f x.source x.stream ≡ stored m x.source) (is_first_held m.given x) (at_two m.held_at_draw x.source x.stream (stored m x.source)) m.held_at_draw
-        (λ j. two_same m.held_at_draw x.source x.stream (stored m x.source)) (λ n. absurd (both_ways (is_first_held m.given x) n first))
+drawing_lasts {M} {C} s m k t x later rule first = grind (arith, after_held, and_parts, choice, two_same, both_ways)
 
 pub reads_held : {M C : Type 0} (s : Setting M C) (before later : History M C) (k t : ℕ) (x : Record) → IsRun s start (before ++ next_step k t x ∷ later) → ReadsHeld s before later k t x
-reads_held {M} {C} s before later k t x run first =
-    ap (λ (m : Moment M C). m.held_at_draw k t) (after-append s start before (next_step k t x ∷ later))
-    ∙ drawing_lasts s (now s before) k t x later (run_later s start before (next_step k t x ∷ later) run).0 first
+reads_held {M} {C} s before later k t x run first = grind (arith, after-append, drawing_lasts, run_later)
 
 -- ---- each Held record comes of a draw, and one of them was the first
 
@@ -206,17 +147,7 @@ ShowsIt k t _ = ⊥
 pub shown_before : {M C : Type 0} (s : Setting M C) (m : Moment M C) (k t : ℕ) (c : Change M C) → HasHeld (happens s m c).given k t → HasHeld m.given k t ⊎ ShowsIt k t c
 shown_before s m k t (Gives q u x) h = elim (held_split x m.given k t h) [ inl new ↦ inr new | inr old ↦ inl old ]
 shown_before {M} {C} s m k t (Closes r u) h = choice (λ (n : Moment M C). HasHeld n.given k t → HasHeld m.given k t ⊎ ⊥) (is_closed (m.offered r u)) m (with_mark m r u CloseMark) (λ _ j. inl j) (λ _ j. inl j) h
-shown_before s m k t (Opens r u a) h = inl h
-shown_before s m k t (Issues r x) h = inl h
-shown_before s m k t (Asks r a) h = inl h
-shown_before s m k t (Takes r x reception) h = inl h
-shown_before s m k t (Retires r) h = inl h
-shown_before s m k t (Offers r u x) h = inl h
-shown_before s m k t (TakesEntry r u x) h = inl h
-shown_before s m k t (Vouches r v x) h = inl h
-shown_before s m k t (Releases r x) h = inl h
-shown_before s m k t Stays h = inl h
-shown_before s m k t Misfits h = inl h
+shown_before s m k t _ h = inl h
 
 -- a Next gave the Held record, and the rules allowed it
 abbrev pub IsDrawn : {M C : Type 0} → Setting M C → Moment M C → (k t : ℕ) → Step M C → Type 0
@@ -225,27 +156,7 @@ IsDrawn s m k t y = (x : Record) × (y ≡ next_step k t x) × IsNext s m k t x 
 -- only a Next gives a record
 pub drawn_by : {M C : Type 0} (s : Setting M C) (m : Moment M C) (r : ℕ) (act : Act M) (reply : Reply C) (k t : ℕ) → IsAllowed s m (change_of m r act reply) → ShowsIt k t (change_of m r act reply) →
     IsDrawn s m k t (record { event = r does act; reply = reply })
-drawn_by {M} {C} s m q (Next u) (Gave x) k t rule e = let a : q ≡ k = sym rule.source ∙ e.1.0 in let b : u ≡ t = sym rule.stream ∙ e.1.1 in
-    (x, λ i. record { event = (a i) does Next (b i); reply = Gave x }, subst (λ (z : ℕ). IsNext s m k z x) b (subst (λ (z : ℕ). IsNext s m z u x) a rule), e.0)
-drawn_by s m r (Receive n) Took k t rule e = absurd (found_none (ShowsIt k t) (numbered m.given n) (λ x. Takes r x AsTaken) (λ x j. j) (λ j. j) e)
-drawn_by s m r (Receive n) Known k t rule e = absurd (found_none (ShowsIt k t) (numbered m.given n) (λ x. Takes r x AsKnown) (λ x j. j) (λ j. j) e)
-drawn_by s m r (Receive n) Finished k t rule e = absurd (found_none (ShowsIt k t) (numbered m.given n) (λ x. Takes r x AsFinished) (λ x j. j) (λ j. j) e)
-drawn_by s m r (DeliverPart n bytes) Took k t rule e = absurd (found_none (ShowsIt k t) (numbered m.given n) (λ x. Takes r x AsTaken) (λ x j. j) (λ j. j) e)
-drawn_by s m r (DeliverPart n bytes) Known k t rule e = absurd (found_none (ShowsIt k t) (numbered m.given n) (λ x. Takes r x AsKnown) (λ x j. j) (λ j. j) e)
-drawn_by s m r (DeliverPart n bytes) Finished k t rule e = absurd (found_none (ShowsIt k t) (numbered m.given n) (λ x. Takes r x AsFinished) (λ x j. j) (λ j. j) e)
-drawn_by s m r (Answer n) (Streaming u) k t rule e = absurd (found_none (ShowsIt k t) (numbered m.asks n) (Opens r u) (λ x j. j) (λ j. j) e)
-drawn_by s m r (Release n) Done k t rule e = absurd (found_none (ShowsIt k t) (numbered m.receipts n) (Releases r) (λ x j. j) (λ j. j) e)
-drawn_by s m r (Create message) (Issued v) k t rule e = absurd e
-drawn_by s m r (Edit bases message) (Issued v) k t rule e = absurd e
-drawn_by s m r Retire Done k t rule e = absurd e
-drawn_by s m r Pull (Asked ask) k t rule e = absurd e
-drawn_by s m r (Offer u) (Offered x) k t rule e = absurd e
-drawn_by s m r (Close u) Done k t rule e = absurd e
-drawn_by s m r (Take u) (TookEntry x) k t rule e = absurd e
-drawn_by s m r (Vouch v) (Vouched x) k t rule e = absurd e
-drawn_by s m r (CutIn n) Done k t rule e = absurd e
-drawn_by s m r (CutOut u) Done k t rule e = absurd e
-drawn_by s m r _ _ k t rule e = absurd e
+drawn_by s m r act reply k t rule e = grind arith
 
 pub record WasShownFrom {M C : Type 0} (s : Setting M C) (m : Moment M C) (h : History M C) (k t : ℕ) : Type 0 where
   pub before : History M C
@@ -257,13 +168,7 @@ pub record WasShownFrom {M C : Type 0} (s : Setting M C) (m : Moment M C) (h : H
 
 -- a Held record of a stream that had given none is its first
 pub first_held : {M C : Type 0} (s : Setting M C) (m : Moment M C) (k t : ℕ) (x : Record) → IsNext s m k t x → IsTrue (is_held x.body) → ¬ HasHeld m.given k t → IsTrue (is_first_held m.given x)
-first_held s m k t x rule held none = elim (cases (list_any (λ y. same_stream y x && is_held y.body) m.given)) [
-  | inr n ↦ and_from (is_held x.body) (not (list_any (λ y. same_stream y x && is_held y.body) m.given)) held (rw n refl)
-  | inl some ↦ (let r = any_elim (λ y. same_stream y x && is_held y.body) m.given some in
-      let both = and_parts (same_stream r.0 x) (is_held r.0.body) r.2 in
-      let same = and_parts (r.0.source == x.source) (r.0.stream == x.stream) both.0 in
-      absurd (none (r.0, record { is_given = r.1; source_is = eqb-true r.0.source x.source same.0 ∙ rule.source; stream_is = eqb-true r.0.stream x.stream same.1 ∙ rule.stream }, both.1)))
-]
+first_held s m k t x rule held none = grind (arith, cases, and_from, any_elim, and_parts, eqb-true)
 
 pub shown_from : {M C : Type 0} (s : Setting M C) (m : Moment M C) (h : History M C) (k t : ℕ) → ¬ HasHeld m.given k t → IsRun s m h → HasHeld (after s m h).given k t → WasShownFrom s m h k t
 shown_from s m [] k t none run g = absurd (none g)
@@ -285,16 +190,7 @@ shown_from {M} {C} s m (x ∷ later) k t none run g = elim (held_yet (happens s 
   where
     held_yet : (given : List Record) (k t : ℕ) → HasHeld given k t ⊎ ¬ HasHeld given k t
     held_yet [] k t = inr (λ h. elim h.1.is_given [ ])
-    held_yet (y ∷ ys) k t = elim (held_yet ys k t) [
-      | inl h ↦ inl (h.0, record { is_given = inr h.1.is_given; source_is = h.1.source_is; stream_is = h.1.stream_is }, h.2)
-      | inr n ↦ elim (cases (is_held y.body)) [
-        | inr unheld ↦ inr (λ h. elim (held_split y ys k t h) [ inl new ↦ both_ways (is_held y.body) unheld new.0 | inr old ↦ n old ])
-        | inl held ↦ elim (same_or_other y k t) [
-          | inl same ↦ inl (y, record { is_given = inl refl; source_is = same.0; stream_is = same.1 }, held)
-          | inr other ↦ inr (λ h. elim (held_split y ys k t h) [ inl new ↦ other new.1 | inr old ↦ n old ])
-        ]
-      ]
-    ]
+    held_yet (y ∷ ys) k t = grind (arith, held_yet ys k t, cases (is_held y.body), held_split y ys k t, same_or_other y k t)
 
 pub was_shown : {M C : Type 0} (s : Setting M C) (h : History M C) (k t : ℕ) → IsRun s start h → HasHeld (now s h).given k t → WasShown s h k t
 was_shown s h k t run g = let w = shown_from s start h k t (λ j. elim j.1.is_given [ ]) run g in

@@ -1,5 +1,5 @@
 -- The laws beside the headline.
-use Rattle.std.proofs.Common.{◌≡◌, refl, sym, ap, subst, ◌∙◌, ℕ, Bool, false, List, [], ◌∷◌, ◌++◌, IsTrue, Some}
+use Rattle.std.proofs.Common.{◌≡◌, refl, sym, ap, subst, ◌∙◌, ℕ, Bool, false, List, [], ◌∷◌, ◌++◌, IsTrue, Some, arith}
 use Rattle.mr_version.specs.Name.{Name}
 use Rattle.mr_model.specs.Versions.{Versions, is, Issue, is_issued, item_of, made_with}
 use Rattle.mr_model.specs.History.{Setting, Body, Body.Start, Body.Item, Body.MoveOut, Body.Held, Body.Know, Body.End, Record, Entry, History}
@@ -17,37 +17,16 @@ use Rattle.mr_model.proofs.Runs.{change_keeps}
 use Rattle.mr_model.proofs.Theorem.{run_inv, after-append, run_later, run_before}
 
 pub supersession_holds : {M C : Type 0} (s : Setting M C) (h : History M C) → IsRun s start h → IsSupersession (now s h).issues
-supersession_holds s h run = let list = (run_inv s h run).core.sets.list in record {
-  irreflexive = made_irrefl (now s h).issues list;
-  transitive = λ u v w a b. made_trans (now s h).issues list w v u a b;
-  one_item = λ v w a. made_item (now s h).issues list w v a;
-  issued = λ v w a. made_issued (now s h).issues list w v a;
-  chain = chain (now s h).issues list;
-}
+supersession_holds s h run = grind (arith, run_inv, made_irrefl, made_trans, made_item, made_issued, chain)
 
 pub numbering_holds : {M C : Type 0} (s : Setting M C) (h : History M C) → IsRun s start h → IsNumbered (now s h).issues
-numbering_holds s h run = let list = (run_inv s h run).core.sets.list in record {
-  from_one = λ v k. (counter_within (now s h).issues list v k).0;
-  to_count = λ v k. (counter_within (now s h).issues list v k).1;
-  each_counter = counter_issued (now s h).issues list;
-  item_issued = λ v k. (item_is_issued (now s h).issues list v k).0;
-  item_created = λ v k. (item_is_issued (now s h).issues list v k).1;
-}
+numbering_holds s h run = let list = (run_inv s h run).core.sets.list in grind (arith, counter_within (now s h).issues list, counter_issued (now s h).issues list, item_is_issued (now s h).issues list)
 
 pub closure_holds : {M C : Type 0} (s : Setting M C) (h : History M C) → IsRun s start h → IsClosure (now s h).issues
-closure_holds s h run = let list = (run_inv s h run).core.sets.list in record {
-  replaced = made_with_replaced (now s h).issues;
-  transitive = made_trans (now s h).issues list;
-  least = made_with_least (now s h).issues list;
-}
+closure_holds s h run = let list = (run_inv s h run).core.sets.list in search (made_with_replaced (now s h).issues, made_trans (now s h).issues list, made_with_least (now s h).issues list)
 
 pub knows_downward : {M C : Type 0} (s : Setting M C) (h : History M C) (r : ℕ) → IsRun s start h → KnowsDownward (now s h) r
-knows_downward s h r run = let inv = run_inv s h run in record {
-  issued = (inv.core.sets.each r).issued;
-  downward = (inv.core.sets.each r).downward;
-  held_known = λ v. held_known (now s h).issues ((now s h).holding r) v (inv.core.sets.each r);
-  own = λ v k e. subst (λ (q : ℕ). IsTrue (known (now s h) q v)) e (inv.own v k);
-}
+knows_downward s h r run = let inv = run_inv s h run in let sets = inv.core.sets.each r in grind (arith, sets.issued, sets.downward, sets.stored, sets.outed, inv.own)
 
 -- ---- growth
 
@@ -56,34 +35,16 @@ grows_not m = record { issued = λ v k. k; item_stays = λ v k. refl; made_with_
 
 -- only the holding of r changes, and it knows no less
 pub grows_known : {M C : Type 0} (m later : Moment M C) → later.issues ≡ m.issues → ((r : ℕ) (v : Name) → IsTrue (known m r v) → IsTrue (known later r v)) → Grows m later
-grows_known {M} m later same more = record {
-  issued = λ v k. subst (λ (e : List (Issue M)). IsTrue (is_issued e v)) (sym same) k;
-  item_stays = λ v k. ap (λ (e : List (Issue M)). item_of e v) same;
-  made_with_stays = λ w v k. ap (λ (e : List (Issue M)). made_with e w v) same;
-  known_stays = more;
-}
+grows_known {M} m later same more = grind arith
 
 pub change_grows : {M C : Type 0} (s : Setting M C) (m : Moment M C) (c : Change M C) → IsAllowed s m c → Inv s m → Grows m (happens s m c)
-change_grows s m (Issues r x) rule inv = record {
-  issued = λ v k. or_right (is x.version v) (is_issued m.issues v) k;
-  item_stays = λ v k. item_back x m.issues v (not_new x m.issues (issuable s m r x rule inv.core) v k);
-  made_with_stays = λ w v k. made_kept x m.issues (issuable s m r x rule inv.core) w v k;
-  known_stays = known_grows m.holding r (holding_after_issue s (with_issue m x) r x) (issue_safe s m r x rule inv).grows;
-}
-change_grows s m (Takes r x reception) rule inv = grows_known m (happens s m (Takes r x reception)) refl
-    (known_grows m.holding r (holding_after_record s m r x x.body) (record_safe s m r x reception x.body rule inv.core refl).safe.grows)
-change_grows s m (Releases r x) rule inv = grows_known m (happens s m (Releases r x)) refl
-    (known_grows m.holding r (holding_after_release m r x.version) (release_safe s m r x rule.in_pool inv.core).grows)
+change_grows s m (Issues r x) rule inv = grind (arith, or_right, item_back, not_new, issuable, made_kept, known_grows, issue_safe)
+change_grows s m (Takes r x reception) rule inv = grind (arith, grows_known, known_grows, record_safe)
+change_grows s m (Releases r x) rule inv = grind (arith, grows_known, known_grows, release_safe)
 change_grows s m (Closes r u) rule inv = choice (Grows m) (is_closed (m.offered r u)) m (with_mark m r u CloseMark) (λ k. grows_not m) (λ k. grows_known m (with_mark m r u CloseMark) refl (λ q v j. j))
-change_grows s m (Asks r ask) rule inv = grows_known m (happens s m (Asks r ask)) refl (λ q v k. k)
-change_grows s m (Opens r t ask) rule inv = grows_known m (happens s m (Opens r t ask)) refl (λ q v k. k)
-change_grows s m (Gives k t x) rule inv = grows_known m (happens s m (Gives k t x)) refl (λ q v j. j)
-change_grows s m (Retires r) rule inv = grows_known m (happens s m (Retires r)) refl (λ q v k. k)
-change_grows s m (Offers r u e) rule inv = grows_known m (happens s m (Offers r u e)) refl (λ q v k. k)
-change_grows s m (TakesEntry r u e) rule inv = grows_known m (happens s m (TakesEntry r u e)) refl (λ q v k. k)
-change_grows s m (Vouches r v x) rule inv = grows_known m (happens s m (Vouches r v x)) refl (λ q w k. k)
 change_grows s m Stays rule inv = grows_not m
 change_grows s m Misfits rule inv = absurd rule
+change_grows s m c rule inv = grows_known m (happens s m c) refl (λ q v k. k)
 
 pub after_grows : {M C : Type 0} (s : Setting M C) (m : Moment M C) (h : History M C) → IsRun s m h → Inv s m → Grows m (after s m h)
 after_grows s m [] run inv = grows_not m
@@ -96,9 +57,7 @@ after_grows s m (x ∷ later) run inv = let one = change_grows s m (change m x) 
     }
 
 pub run_grows : {M C : Type 0} (s : Setting M C) (before later : History M C) → IsRun s start (before ++ later) → Grows (now s before) (now s (before ++ later))
-run_grows {M} {C} s before later run = let rest = after_grows s (now s before) later (run_later s start before later run) (run_inv s before (run_before s start before later run)) in
-    let same : after s (now s before) later ≡ now s (before ++ later) = sym (after-append s start before later) in
-    subst (λ (m : Moment M C). Grows (now s before) m) same rest
+run_grows {M} {C} s before later run = grind (arith, after_grows, run_later, run_inv, run_before, after-append)
 
 -- ---- a version that is known already
 
@@ -106,20 +65,10 @@ pub version_again : {M C : Type 0} (s : Setting M C) (m : Moment M C) (r : ℕ) 
 version_again s m r w enters core h = rw h (ap (λ (k : Versions). record { known = k; stored = stored m r; pushed_out = pushed_out m r }) (known_again s m r w core h))
 
 pub record_again : {M C : Type 0} (s : Setting M C) (m : Moment M C) (r : ℕ) (x : Record) (b : Body) (w : Name) → Core s m → version_in b ≡ Some w → IsTrue (known m r w) → holding_after_record s m r x b ≡ m.holding r
-record_again s m r x (Start full) w core e h = absurd (cc)
 record_again s m r x (Item u) w core e h = let p : u ≡ w = cc in version_again s m r u (selection s m.issues r u) core (subst (λ (z : Name). IsTrue (known m r z)) (sym p) h)
 record_again s m r x (MoveOut u) w core e h = let p : u ≡ w = cc in version_again s m r u false core (subst (λ (z : Name). IsTrue (known m r z)) (sym p) h)
-record_again s m r x Held w core e h = absurd (cc)
-record_again s m r x Know w core e h = absurd (cc)
-record_again s m r x End w core e h = absurd (cc)
+record_again s m r x _ w core e h = absurd (cc)
 
 pub nothing_changes : {M C : Type 0} (s : Setting M C) (h : History M C) (r : ℕ) (x : Record) (w : Name) → IsRun s start h → version_in x.body ≡ Some w → IsTrue (known (now s h) r w) →
     ChangesNothing (now s h) (after_taking s (now s h) r x)
-nothing_changes {M} {C} s h r x w run e k = record {
-  holding = λ q. at_elim (λ z (a : Holding). a ≡ (now s h).holding z) (now s h).holding r (holding_after_record s (now s h) r x x.body) q same refl;
-  feed = λ q. at_elim (λ z (fs : List (Entry C)). fs ≡ (now s h).feed z) (now s h).feed r (feed_after s (now s h).issues (stored (now s h) r) (holding_after_record s (now s h) r x x.body).stored ((now s h).feed r)) q
-      (ap (λ (a : Holding). feed_after s (now s h).issues (stored (now s h) r) a.stored ((now s h).feed r)) same ∙ feed_stays s (now s h).issues (stored (now s h) r) ((now s h).feed r)) refl;
-}
-  where
-    same : holding_after_record s (now s h) r x x.body ≡ (now s h).holding r
-    same = record_again s (now s h) r x x.body w (run_inv s h run).core e k
+nothing_changes {M} {C} s h r x w run e k = grind (arith, at_elim, feed_stays, record_again, run_inv)

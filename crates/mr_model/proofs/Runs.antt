@@ -1,12 +1,12 @@
 -- The invariant holds at every moment of a run.
-use Rattle.std.proofs.Common.{refl, sym, subst, ℕ, Bool, true, false, not, [], ◌∷◌, ◌⊎◌, inl, inr, IsTrue, IsFalse}
+use Rattle.std.proofs.Common.{refl, sym, subst, ℕ, Bool, true, false, not, [], ◌∷◌, ◌⊎◌, inl, inr, IsTrue, IsFalse, arith}
 use Rattle.mr_version.specs.Name.{Name}
-use Rattle.mr_model.specs.Versions.{is, Issue, is_issued, made_with}
+use Rattle.mr_model.specs.Versions.{Versions, is, Issue, is_issued, made_with}
 use Rattle.mr_model.specs.History.{Setting, Record, Receipt, History}
 use Rattle.mr_model.specs.Moment.{Holding, Mark.CloseMark, Moment, known, stored, pushed_out, start, at}
 use Rattle.mr_model.specs.Changes.{Reception, Change, Change.Issues, Change.Asks, Change.Opens, Change.Gives, Change.Takes, Change.Retires, Change.Offers, Change.Closes, Change.TakesEntry, Change.Vouches, Change.Releases, Change.Stays, Change.Misfits, holding_after_issue, holding_after_record, holding_after_release, with_holding, with_issue, after_issue, after_taking, with_mark, is_closed, happens, change, after}
 use Rattle.mr_model.specs.Rules.{IsIssue, IsReceived, IsAllowed, IsRun}
-use Rattle.mr_model.proofs.Basics.{or_parts, or_right, is_refl, is_path}
+use Rattle.mr_model.proofs.Basics.{In, cases, or_parts, or_right, is_refl, is_path}
 use Rattle.mr_model.proofs.Issues.{IsIssuable, superseded_kept}
 use Rattle.mr_model.proofs.Sets.{choice, at_elim, at_same, known_grows, remains_new}
 use Rattle.mr_model.proofs.Streams.{pools_of, taking_streams, asking_streams, opening_streams, opening_sets}
@@ -17,22 +17,11 @@ use Rattle.mr_model.proofs.Safe.{issuable, issue_safe, IsTaken, record_safe, rel
 
 -- ---- an issue
 
-pub one_or_other : (b : Bool) → IsTrue b ⊎ IsTrue (not b)
-one_or_other true = inl refl
-one_or_other false = inr refl
-
 -- its author holds what it issued
 pub landed : {M C : Type 0} (s : Setting M C) (m : Moment M C) (r : ℕ) (x : Issue M) → IsKept m.issues (at m.holding r (holding_after_issue s m r x)) x.version
-landed s m r x = inr (
-  r,
-  subst (λ (h : Holding). IsTrue (h.stored x.version) ⊎ IsTrue (h.pushed_out x.version)) (sym (at_same m.holding r (holding_after_issue s m r x))) (elim (one_or_other picked) [
-    | inl a ↦ inl (remains_new (stored m r) (made_with m.issues x.version) picked x.version x.version a refl)
-    | inr a ↦ inr (remains_new (pushed_out m r) (made_with m.issues x.version) (not picked) x.version x.version a refl)
-  ]),
-)
-  where
-    picked : Bool
-    picked = s.selects r x.message
+landed s m r x =
+    let new = λ (a : Versions) (b : Bool). remains_new a (made_with m.issues x.version) b x.version x.version in
+    grind (arith, cases (s.selects r x.message), at_same m.holding r (holding_after_issue s m r x), new (stored m r) (s.selects r x.message), new (pushed_out m r) (not (s.selects r x.message)))
 
 pub issue_keeps : {M C : Type 0} (s : Setting M C) (m : Moment M C) (r : ℕ) (x : Issue M) → IsIssue m r x → Inv s m → Inv s (after_issue s m r x)
 issue_keeps {M} {C} s m r x rule inv = record {
@@ -63,20 +52,8 @@ issue_keeps {M} {C} s m r x rule inv = record {
 -- ---- a taken record
 
 pub take_keeps : {M C : Type 0} (s : Setting M C) (m : Moment M C) (r : ℕ) (x : Record) (reception : Reception) → IsReceived m r x reception → Inv s m → Inv s (after_taking s m r x)
-take_keeps s m r x reception rule inv = let done : Inv s (with_holding s m r h) = changing_inv s m r h taken.safe inv in record {
-  core = record {
-    sets = done.core.sets;
-    fed = done.core.fed;
-    sound = done.core.sound;
-    streams = taking_streams s m.issues (at m.holding r h) (pools_of m) r x rule.in_pool rule.target
-        (λ w e. subst (λ (a : Holding). IsTrue (a.known w)) (sym (at_same m.holding r h)) (taken.learned w e)) done.core.streams;
-    vouched = done.core.vouched;
-    clean = done.core.clean;
-    ports = done.core.ports;
-  };
-  kept = done.kept;
-  own = done.own;
-}
+take_keeps s m r x reception rule inv = let done : Inv s (with_holding s m r h) = changing_inv s m r h taken.safe inv in
+    assumption (taking_streams s m.issues (at m.holding r h) (pools_of m) r x rule.in_pool rule.target (λ w e. subst (λ (a : Holding). IsTrue (a.known w)) (sym (at_same m.holding r h)) (taken.learned w e)) done.core.streams, done)
   where
     h : Holding
     h = holding_after_record s m r x x.body
@@ -88,113 +65,21 @@ take_keeps s m r x reception rule inv = let done : Inv s (with_holding s m r h) 
 
 pub change_keeps : {M C : Type 0} (s : Setting M C) (m : Moment M C) (c : Change M C) → IsAllowed s m c → Inv s m → Inv s (happens s m c)
 change_keeps s m (Issues r x) rule inv = issue_keeps s m r x rule inv
-change_keeps s m (Asks r ask) rule inv = record {
-  core = record {
-    sets = inv.core.sets;
-    fed = inv.core.fed;
-    sound = inv.core.sound;
-    vouched = inv.core.vouched;
-    clean = inv.core.clean;
-    ports = inv.core.ports;
-    streams = asking_streams s m.issues m.holding (pools_of m) ask (λ v h. subst (λ (q : ℕ). IsTrue (known m q v)) (sym rule.target) (rule.claims_known v h)) inv.core.streams;
-  };
-  kept = inv.kept;
-  own = inv.own;
-}
-change_keeps s m (Opens k t ask) rule inv = record {
-  core = record {
-    sets = opening_sets m k t ask inv.core.sets;
-    fed = inv.core.fed;
-    sound = inv.core.sound;
-    vouched = inv.core.vouched;
-    clean = inv.core.clean;
-    ports = inv.core.ports;
-    streams = opening_streams s m k t ask rule inv.core.streams;
-  };
-  kept = inv.kept;
-  own = inv.own;
-}
-change_keeps s m (Gives k t x) rule inv = record {
-  core = record {
-    sets = giving_sets s m k t x rule inv.core.sets;
-    fed = inv.core.fed;
-    sound = inv.core.sound;
-    vouched = inv.core.vouched;
-    clean = inv.core.clean;
-    ports = inv.core.ports;
-    streams = giving_streams s m k t x rule inv.core.sets (inv.core.sound x.source) inv.core.streams;
-  };
-  kept = inv.kept;
-  own = inv.own;
-}
+change_keeps s m (Asks r ask) rule inv =
+    assumption (asking_streams s m.issues m.holding (pools_of m) ask (λ v h. subst (λ (q : ℕ). IsTrue (known m q v)) (sym rule.target) (rule.claims_known v h)) inv.core.streams)
+change_keeps s m (Opens k t ask) rule inv = assumption (opening_sets m k t ask inv.core.sets, opening_streams s m k t ask rule inv.core.streams)
+change_keeps s m (Gives k t x) rule inv = assumption (giving_sets s m k t x rule inv.core.sets, giving_streams s m k t x rule inv.core.sets (inv.core.sound x.source) inv.core.streams)
 change_keeps s m (Takes r x reception) rule inv = take_keeps s m r x reception rule inv
-change_keeps s m (Retires r) rule inv = record {
-  core = record {
-    sets = inv.core.sets;
-    fed = inv.core.fed;
-    sound = inv.core.sound;
-    streams = inv.core.streams;
-    vouched = inv.core.vouched;
-    ports = inv.core.ports;
-    clean = λ q. at_elim (λ z (b : Bool). IsTrue b → (v : Name) → IsFalse (pushed_out m z v)) m.is_retired r true q (λ k. rule.clean) (inv.core.clean q);
-  };
-  kept = inv.kept;
-  own = inv.own;
-}
-change_keeps s m (Offers r u e) rule inv = record {
-  core = record {
-    sets = inv.core.sets;
-    fed = inv.core.fed;
-    sound = inv.core.sound;
-    streams = inv.core.streams;
-    vouched = inv.core.vouched;
-    clean = inv.core.clean;
-    ports = offering_ports m r u e rule inv.core.ports;
-  };
-  kept = inv.kept;
-  own = inv.own;
-}
-change_keeps s m (Closes r u) rule inv = choice (Inv s) (is_closed (m.offered r u)) m (with_mark m r u CloseMark)
-    (λ t. inv)
-    (λ n. record {
-      core = record {
-        sets = inv.core.sets;
-        fed = inv.core.fed;
-        sound = inv.core.sound;
-        streams = inv.core.streams;
-        vouched = inv.core.vouched;
-        clean = inv.core.clean;
-        ports = closing_ports m r u n inv.core.ports;
-      };
-      kept = inv.kept;
-      own = inv.own;
-    })
-change_keeps s m (TakesEntry r u e) rule inv = record {
-  core = record {
-    sets = inv.core.sets;
-    fed = inv.core.fed;
-    sound = inv.core.sound;
-    streams = inv.core.streams;
-    vouched = inv.core.vouched;
-    clean = inv.core.clean;
-    ports = taking_ports m r u e rule inv.core.ports;
-  };
-  kept = inv.kept;
-  own = inv.own;
-}
-change_keeps s m (Vouches r v x) rule inv = record {
-  core = record {
-    sets = inv.core.sets;
-    fed = inv.core.fed;
-    sound = inv.core.sound;
-    streams = inv.core.streams;
-    clean = inv.core.clean;
-    ports = inv.core.ports;
-    vouched = λ y i. elim i [ inl p ↦ subst (λ (z : Receipt). IsStored m.issues m.holding z.version) p (inr (r, subst (λ (z : Name). IsTrue (stored m r z)) (sym rule.version) rule.stored)) | inr j ↦ inv.core.vouched y j ];
-  };
-  kept = inv.kept;
-  own = inv.own;
-}
+change_keeps s m (Retires r) rule inv =
+    assumption (λ (q : ℕ). at_elim (λ z (b : Bool). IsTrue b → (v : Name) → IsFalse (pushed_out m z v)) m.is_retired r true q (λ k. rule.clean) (inv.core.clean q))
+change_keeps s m (Offers r u e) rule inv = assumption (offering_ports m r u e rule inv.core.ports)
+change_keeps s m (Closes r u) rule inv = choice (Inv s) (is_closed (m.offered r u)) m (with_mark m r u CloseMark) (λ t. inv) (λ n. assumption (closing_ports m r u n inv.core.ports))
+change_keeps s m (TakesEntry r u e) rule inv = assumption (taking_ports m r u e rule inv.core.ports)
+change_keeps s m (Vouches r v x) rule inv =
+    let vouched : (y : Receipt) → In y (x ∷ m.receipts) → IsStored m.issues m.holding y.version = λ y i. elim i [
+      | inl p ↦ subst (λ (z : Receipt). IsStored m.issues m.holding z.version) p (inr (r, subst (λ (z : Name). IsTrue (stored m r z)) (sym rule.version) rule.stored))
+      | inr j ↦ inv.core.vouched y j
+    ] in assumption vouched
 change_keeps s m (Releases r x) rule inv = changing_inv s m r (holding_after_release m r x.version) (release_safe s m r x rule.in_pool inv.core) inv
 change_keeps s m Stays rule inv = inv
 change_keeps s m Misfits rule inv = absurd rule
@@ -202,38 +87,7 @@ change_keeps s m Misfits rule inv = absurd rule
 -- ---- a run
 
 pub start_holds : {M C : Type 0} (s : Setting M C) → Inv s (start {M = M} {C = C})
-start_holds s = record {
-  core = record {
-    sets = record {
-      list = tt;
-      each = λ r. record { issued = λ v h. absurd (cc); downward = λ w v h k. absurd (cc); stored = λ v h. absurd (cc); outed = λ v h. absurd (cc) };
-      answer_known = λ k t v h. absurd (cc);
-      answer_downward = λ k t w v h j. absurd (cc);
-      given_known = λ x w i e. elim i [ ];
-    };
-    fed = λ r. record { added_known = λ v i. elim i [ ]; in_order = tt; told = λ v. refl };
-    sound = λ r. record { wanted = λ v h. absurd (cc); complete = λ v h k. absurd (cc); heads = λ v w h k b. absurd (cc) };
-    streams = record {
-      asks_known = λ ask i. elim i [ ];
-      claims_known = λ k t ask e. absurd (cc);
-      asked = λ k t x of. elim of.is_given [ ];
-      covers = λ x i h. elim i [ ];
-      move_outs = λ x w i e. elim i [ ];
-      one_index = λ k t x y ofx ofy e. elim ofx.is_given [ ];
-      end_last = λ k t x y ofx ofy e. elim ofx.is_given [ ];
-      end_held = λ k t x y ofx ofy e h. elim ofx.is_given [ ];
-      taken_given = λ r x i. elim i [ ];
-      taken_known = λ r x w i e. elim i [ ];
-      walked = λ k t ask e. absurd (cc);
-      held_for = λ k t h. elim h.1.is_given [ ];
-    };
-    vouched = λ x i. elim i [ ];
-    clean = λ r h v. refl;
-    ports = record { took = λ r u. ([], refl); moved = λ r u. ([], refl); closed = λ r u. tt };
-  };
-  kept = λ v h. absurd (cc);
-  own = λ v h. absurd (cc);
-}
+start_holds s = grind arith
 
 pub run_keeps : {M C : Type 0} (s : Setting M C) (m : Moment M C) (h : History M C) → IsRun s m h → Inv s m → Inv s (after s m h)
 run_keeps s m [] run inv = inv

@@ -1,5 +1,5 @@
 -- What an issue, a taken record and a release make of a replica's sets is safe.
-use Rattle.std.proofs.Common.{◌≡◌, refl, sym, ap, subst, ◌∙◌, ℕ, ◌+◌, ◌==◌, Bool, false, not, ◌&&◌, List, [], ◌∷◌, inl, inr, IsTrue, IsFalse, Some, eqb-true}
+use Rattle.std.proofs.Common.{◌≡◌, refl, sym, ap, subst, ◌∙◌, ℕ, ◌+◌, ◌==◌, Bool, false, not, ◌&&◌, List, [], ◌∷◌, inl, inr, IsTrue, IsFalse, Some, eqb-true, arith}
 use Rattle.std.proofs.lemmas.Bool.{and_parts, both_ways}
 use Rattle.mr_version.specs.Name.{Name}
 use Rattle.mr_model.specs.Versions.{Versions, is, Issue, is_issued, item_of, issue_count, last_own, made_with}
@@ -9,7 +9,7 @@ use Rattle.mr_model.specs.Changes.{Reception, with_issue, holding_after_issue, h
 use Rattle.mr_model.specs.Rules.{IsIssue, IsReceived, version_in}
 use Rattle.mr_model.proofs.Basics.{In, cases, or_parts, or_left, or_right, is_refl, is_path, in_append}
 use Rattle.mr_model.proofs.Issues.{HasItem, IsIssuable, later_from_count, item_is_issued, last_own_issued, made_by, made_issued, made_trans, superseded_by, fresh}
-use Rattle.mr_model.proofs.Sets.{Within, held_known, choice, with_known, learned_cases, learned_from, without_parts, without_from, remains_cases, remains_old}
+use Rattle.mr_model.proofs.Sets.{Within, held_known, choice, with_known, learned_cases, learned_from, without_parts, without_from, remains_cases, remains_old, IsKnowing}
 use Rattle.mr_model.proofs.Sound.{IsLesson, learned_holding, learns_sound, end_leaves, end_sound, kept_parts, selected_new}
 use Rattle.mr_model.proofs.Lessons.{end_lesson}
 use Rattle.mr_model.proofs.Core.{IsStored, Core, Inv, IsSafe, listing_core}
@@ -32,36 +32,30 @@ pub learned_safe : {M C : Type 0} (s : Setting M C) (m : Moment M C) (r : ℕ) (
 learned_safe s m r w enters joins_out core iss new same alive = record {
   grows = λ v k. learned_from (known m r) lower w v (inl k);
   knowing = record {
-    issued = λ v k. elim (learned_cases (known m r) lower w v k) [
-      | inl a ↦ (core.sets.each r).issued v a
-      | inr b ↦ elim b [ inl p ↦ subst (λ (z : Name). IsTrue (is_issued m.issues z)) p iss | inr q ↦ (made_issued m.issues core.sets.list w v q).1 ]
-    ];
-    downward = λ u v k j. learned_from (known m r) lower w v (elim (learned_cases (known m r) lower w u k) [
-      | inl a ↦ inl ((core.sets.each r).downward u v a j)
-      | inr b ↦ inr (inr (elim b [ inl p ↦ subst (λ (z : Name). IsTrue (made_with m.issues z v)) (sym p) j | inr q ↦ made_trans m.issues core.sets.list w u v q j ]))
-    ]);
-    stored = λ v k. learned_from (known m r) lower w v (elim (remains_cases (stored m r) lower enters w v k) [ inl a ↦ inl ((core.sets.each r).stored v a.0) | inr b ↦ inr (inl b.1) ]);
-    outed = λ v k. learned_from (known m r) lower w v (elim (remains_cases (pushed_out m r) lower joins_out w v k) [ inl a ↦ inl ((core.sets.each r).outed v a.0) | inr b ↦ inr (inl b.1) ]);
+    issued = λ v k. grind (arith, learned_cases (known m r) lower w v k, own.issued v, made_issued m.issues core.sets.list w v);
+    downward = λ u v k j. grind (arith, learned_from (known m r) lower w v, learned_cases (known m r) lower w u k, own.downward u v, made_trans m.issues core.sets.list w u v);
+    stored = λ v k. grind (arith, learned_from (known m r) lower w v, remains_cases (stored m r) lower enters w v k, own.stored v);
+    outed = λ v k. grind (arith, learned_from (known m r) lower w v, remains_cases (pushed_out m r) lower joins_out w v k, own.outed v);
   };
   newcomer = w;
-  enters = λ v k n. elim (remains_cases (stored m r) lower enters w v k) [ inl a ↦ absurd (n a.0) | inr b ↦ (b.1, subst (λ (z : Name). ¬ IsTrue (known m r z)) b.1 new) ];
-  sound = learns_sound s m.issues r (m.holding r) w enters joins_out core.sets.list (core.sets.each r) new same (core.sound r);
-  leaves = λ v k. elim (cases (lower v)) [ inl t ↦ inr (superseded_by m.issues core.sets.list w v t) | inr n ↦ inl (remains_old (stored m r) lower enters w v k n) ];
-  frees = λ v k. elim (cases (lower v)) [ inl t ↦ inr (inl (superseded_by m.issues core.sets.list w v t)) | inr n ↦ inl (remains_old (pushed_out m r) lower joins_out w v k n) ];
+  enters = λ v k n. grind (arith, remains_cases (stored m r) lower enters w v k);
+  sound = learns_sound s m.issues r (m.holding r) w enters joins_out core.sets.list own new same (core.sound r);
+  leaves = λ v k. grind (arith, cases (lower v), superseded_by m.issues core.sets.list w v, remains_old (stored m r) lower enters w v k);
+  frees = λ v k. grind (arith, cases (lower v), superseded_by m.issues core.sets.list w v, remains_old (pushed_out m r) lower joins_out w v k);
   rests = λ k. absurd (both_ways (m.is_retired r) alive k);
 }
   where
     lower : Versions
     lower = made_with m.issues w
 
+    own : IsKnowing m.issues (m.holding r)
+    own = core.sets.each r
+
 -- ---- an issue
 
 pub last_own_author : {M : Type 0} (e : List (Issue M)) (a : ℕ) (i b : Name) → In b (last_own e a i) → b.author ≡ a
 last_own_author [] a i b h = elim h [ ]
-last_own_author (x ∷ e) a i b h = elim (cases ((x.version.author == a) && is x.item i)) [
-  | inl t ↦ (let k : In b (x.version ∷ []) = rw t at h in elim k [ inl p ↦ ap (λ (z : Name). z.author) (sym p) ∙ eqb-true x.version.author a (and_parts (x.version.author == a) (is x.item i) t).0 | inr n ↦ absurd n ])
-  | inr n ↦ (let k : In b (last_own e a i) = rw n at h in last_own_author e a i b k)
-]
+last_own_author (x ∷ e) a i b h = grind (arith, last_own_author e a i b, cases, eqb-true, and_parts)
 
 pub issuable : {M C : Type 0} (s : Setting M C) (m : Moment M C) (r : ℕ) (x : Issue M) → IsIssue m r x → Core s m → IsIssuable m.issues x
 issuable {M} s m r x rule core = record {
@@ -73,22 +67,19 @@ issuable {M} s m r x rule core = record {
 }
   where
     counted : x.version.counter ≡ issue_count m.issues x.version.author + 1
-    counted = subst (λ (a : ℕ). x.version.counter ≡ issue_count m.issues a + 1) (sym rule.author) rule.counter
+    counted = grind (arith, rule.author, rule.counter)
 
     issued : (b : Name) → In b x.bases → IsTrue (is_issued m.issues b)
     issued b i = (core.sets.each r).issued b (held_known m.issues (m.holding r) b (core.sets.each r) (rule.held b i))
 
     of_item : (bases : List Name) → ((b : Name) → In b bases → IsTrue (is_issued m.issues b)) → ((b : Name) → In b bases → item_of m.issues b ≡ x.item) → (bases ≡ [] → x.item ≡ x.version) → HasItem m.issues x
     of_item [] old one own = inl (own refl)
-    of_item (b ∷ bases) old one own = inr (subst (λ (i : Name). IsTrue (is_issued m.issues i) × (item_of m.issues i ≡ i)) (one b (inl refl)) (item_is_issued m.issues core.sets.list b (old b (inl refl))))
+    of_item (b ∷ bases) old one own = grind (arith, one b, old b, item_is_issued m.issues core.sets.list b)
 
 -- its author knows what it supersedes: so to learn it alone is to learn all that
 pub author_knows : {M C : Type 0} (s : Setting M C) (m : Moment M C) (r : ℕ) (x : Issue M) → IsIssue m r x → Inv s m → Within (made_with (x ∷ m.issues) x.version) (known m r)
 author_knows s m r x rule inv v h = let b = made_by x m.issues x.version v (is_refl x.version) h in
-    let k : IsTrue (known m r b.0) = elim (in_append x.bases (last_own m.issues x.version.author x.item) b.0 b.1) [
-      | inl i ↦ held_known m.issues (m.holding r) b.0 (inv.core.sets.each r) (rule.held b.0 i)
-      | inr i ↦ subst (λ (q : ℕ). IsTrue (known m q b.0)) (last_own_author m.issues x.version.author x.item b.0 i ∙ rule.author) (inv.own b.0 (last_own_issued m.issues x.version.author x.item b.0 i))
-    ] in elim b.2 [ inl p ↦ subst (λ (z : Name). IsTrue (known m r z)) p k | inr q ↦ (inv.core.sets.each r).downward b.0 v k q ]
+    grind (arith, b.2, in_append x.bases (last_own m.issues x.version.author x.item) b.0 b.1, rule.held b.0, held_known m.issues (m.holding r) b.0 (inv.core.sets.each r), last_own_author m.issues x.version.author x.item b.0, rule.author, inv.own b.0, last_own_issued m.issues x.version.author x.item b.0, (inv.core.sets.each r).downward b.0 v)
 
 pub issue_safe : {M C : Type 0} (s : Setting M C) (m : Moment M C) (r : ℕ) (x : Issue M) → IsIssue m r x → Inv s m → IsSafe s (with_issue m x) r (holding_after_issue s (with_issue m x) r x)
 issue_safe s m r x rule inv = subst (λ (k : Versions). IsSafe s (with_issue m x) r (record { known = k; stored = stored m r without lower with only_if picked x.version; pushed_out = pushed_out m r without lower with only_if (not picked) x.version }))
@@ -111,9 +102,7 @@ issue_safe s m r x rule inv = subst (λ (k : Versions). IsSafe s (with_issue m x
 
 -- to take what is known changes nothing
 pub known_again : {M C : Type 0} (s : Setting M C) (m : Moment M C) (r : ℕ) (w : Name) → Core s m → IsTrue (known m r w) → known m r with only w with made_with m.issues w ≡ known m r
-known_again s m r w core h =
-    with_known (known m r with only w) (made_with m.issues w) (λ v k. or_left (known m r v) (only w v) ((core.sets.each r).downward w v h k))
-    ∙ with_known (known m r) (only w) (λ v k. subst (λ (z : Name). IsTrue (known m r z)) (is_path w v k) h)
+known_again s m r w core h = grind (arith, with_known, or_left, is_path, (core.sets.each r).downward w)
 
 pub version_safe : {M C : Type 0} (s : Setting M C) (m : Moment M C) (r : ℕ) (w : Name) (enters : Bool) → Core s m → IsTrue (is_issued m.issues w) → enters ≡ selection s m.issues r w → IsFalse (m.is_retired r) →
     IsSafe s m r (holding_after_version m r w enters)
@@ -137,11 +126,8 @@ pub end_safe : {M C : Type 0} (s : Setting M C) (m : Moment M C) (r : ℕ) (x : 
 end_safe s m r x reception rule core end done = record {
   grows = λ v k. or_left (known m r v) (learned v) k;
   knowing = record {
-    issued = λ v k. elim (or_parts (known m r v) (learned v) k) [ inl a ↦ (core.sets.each r).issued v a | inr b ↦ (core.sets.each x.source).issued v (core.sets.answer_known x.source x.stream v b) ];
-    downward = λ w v k j. elim (or_parts (known m r w) (learned w) k) [
-      | inl a ↦ or_left (known m r v) (learned v) ((core.sets.each r).downward w v a j)
-      | inr b ↦ or_right (known m r v) (learned v) (core.sets.answer_downward x.source x.stream w v b j)
-    ];
+    issued = λ v k. grind (arith, or_parts (known m r v) (learned v) k, (core.sets.each r).issued v, (core.sets.each x.source).issued v, core.sets.answer_known x.source x.stream v);
+    downward = λ w v k j. grind (arith, or_parts (known m r w) (learned w) k, or_left (known m r v) (learned v), or_right (known m r v) (learned v), (core.sets.each r).downward w v, core.sets.answer_downward x.source x.stream w v);
     stored = λ v k. or_left (known m r v) (learned v) ((core.sets.each r).stored v (kept_parts (stored m r) learned held v k).0);
     outed = λ v k. or_left (known m r v) (learned v) ((core.sets.each r).outed v k);
   };
@@ -170,21 +156,9 @@ pub record IsTaken {M C : Type 0} (s : Setting M C) (m : Moment M C) (r : ℕ) (
   pub learned : (w : Name) → version_in b ≡ Some w → IsTrue (h.known w)
 
 pub learns_version : {M C : Type 0} (m : Moment M C) (r : ℕ) (w : Name) (enters : Bool) → IsTrue ((holding_after_version m r w enters).known w)
-learns_version m r w enters = choice (λ (h : Holding). IsTrue (h.known w)) (known m r w)
-    (record { known = learned; stored = stored m r; pushed_out = pushed_out m r })
-    (record { known = learned; stored = stored m r without lower with only_if enters w; pushed_out = pushed_out m r without lower }) (λ t. here) (λ n. here)
-  where
-    lower : Versions
-    lower = made_with m.issues w
-
-    learned : Versions
-    learned = known m r with only w with lower
-
-    here : IsTrue (learned w)
-    here = learned_from (known m r) lower w w (inr (inl refl))
+learns_version m r w enters = grind (arith, choice, learned_from)
 
 pub record_safe : {M C : Type 0} (s : Setting M C) (m : Moment M C) (r : ℕ) (x : Record) (reception : Reception) (b : Body) → IsReceived m r x reception → Core s m → x.body ≡ b → IsTaken s m r b (holding_after_record s m r x b)
-record_safe s m r x reception (Start full) rule core e = record { safe = stay_safe s m r core; learned = λ w k. absurd (cc) }
 record_safe s m r x reception (Item w) rule core e = record {
   safe = version_safe s m r w (selection s m.issues r w) core ((core.sets.each x.source).issued w (core.sets.given_known x w rule.in_pool (ap version_in e))) refl rule.alive;
   learned = λ u k. (let p : w ≡ u = cc in subst (λ (z : Name). IsTrue ((holding_after_version m r w (selection s m.issues r w)).known z)) p (learns_version m r w (selection s m.issues r w)));
@@ -194,35 +168,23 @@ record_safe s m r x reception (MoveOut w) rule core e = record {
       (sym (subst (λ (q : ℕ). IsFalse (selection s m.issues q w)) rule.target (core.streams.move_outs x w rule.in_pool e))) rule.alive;
   learned = λ u k. (let p : w ≡ u = cc in subst (λ (z : Name). IsTrue ((holding_after_version m r w false).known z)) p (learns_version m r w false));
 }
-record_safe s m r x reception Held rule core e = record { safe = stay_safe s m r core; learned = λ w k. absurd (cc) }
-record_safe s m r x reception Know rule core e = record { safe = stay_safe s m r core; learned = λ w k. absurd (cc) }
 record_safe s m r x reception End rule core e = record {
   safe = choice (IsSafe s m r) (completes m r x) (holding_after_end m r x) (m.holding r) (λ t. end_safe s m r x reception rule core e t) (λ n. stay_safe s m r core);
   learned = λ w k. absurd (cc);
 }
+record_safe s m r x reception _ rule core e = record { safe = stay_safe s m r core; learned = λ w k. absurd (cc) }
 
 -- ---- a release
 
 pub release_safe : {M C : Type 0} (s : Setting M C) (m : Moment M C) (r : ℕ) (x : Receipt) → In x m.receipts → Core s m → IsSafe s m r (holding_after_release m r x.version)
 release_safe s m r x i core = record {
   grows = λ v k. k;
-  knowing = record {
-    issued = (core.sets.each r).issued;
-    downward = (core.sets.each r).downward;
-    stored = (core.sets.each r).stored;
-    outed = λ v k. (core.sets.each r).outed v (without_parts (pushed_out m r) gone v k).0;
-  };
+  knowing = (let own = core.sets.each r in grind (arith, own.issued, own.downward, own.stored, own.outed, without_parts (pushed_out m r) gone));
   newcomer = record { author = 0; counter = 0 };
   enters = λ v k n. absurd (n k);
-  sound = record { wanted = (core.sound r).wanted; complete = (core.sound r).complete; heads = (core.sound r).heads };
+  sound = (let own = core.sound r in assumption own);
   leaves = λ v k. inl k;
-  frees = λ v k. elim (cases (gone v)) [
-    | inr n ↦ inl (without_from (pushed_out m r) gone v k n)
-    | inl t ↦ elim (or_parts (only x.version v) (made_with m.issues x.version v) t) [
-      | inl same ↦ inr (subst (IsStored m.issues m.holding) (is_path x.version v same) (core.vouched x i))
-      | inr lower ↦ inr (inl (superseded_by m.issues core.sets.list x.version v lower))
-    ]
-  ];
+  frees = λ v k. grind (arith, cases (gone v), without_from (pushed_out m r) gone v k, or_parts (only x.version v) (made_with m.issues x.version v), is_path x.version v, core.vouched x i, superseded_by m.issues core.sets.list x.version v);
   rests = λ k. (refl, λ v j. (without_parts (pushed_out m r) gone v j).0);
 }
   where

@@ -1,5 +1,5 @@
 -- What is known and held, at every moment of a run.
-use Rattle.std.proofs.Common.{◌≡◌, refl, sym, subst, ℕ, ◌+◌, ◌==◌, Bool, true, false, not, ◌||◌, ◌&&◌, List, [], ◌∷◌, ◌⊎◌, inl, inr, IsTrue, IsFalse, eqb-true, eq-eqb, Some, length, if◌then◌else◌}
+use Rattle.std.proofs.Common.{◌≡◌, refl, sym, subst, ℕ, ◌+◌, ◌==◌, Bool, true, false, not, ◌||◌, ◌&&◌, List, [], ◌∷◌, ◌⊎◌, inl, inr, IsTrue, IsFalse, eqb-true, eq-eqb, Some, length, if◌then◌else◌, arith}
 use Rattle.std.proofs.lemmas.Bool.{and_parts, and_from, both_ways}
 use Rattle.mr_version.specs.Name.{Name}
 use Rattle.mr_model.specs.Versions.{Versions, is, Issue, is_issued, made_with}
@@ -24,18 +24,10 @@ choice P true x y h k = h refl
 choice P false x y h k = k refl
 
 pub at_elim : {A : Type 0} (P : ℕ → A → Type 0) (f : ℕ → A) (r : ℕ) (x : A) (q : ℕ) → P r x → P q (f q) → P q (at f r x q)
-at_elim P f r x q here there = go (cases (q == r))
-  where
-    go : IsTrue (q == r) ⊎ IsFalse (q == r) → P q (at f r x q)
-    go (inl t) = rw t (subst (λ (z : ℕ). P z x) (sym (eqb-true q r t)) here)
-    go (inr n) = rw n there
+at_elim P f r x q here there = grind (arith, cases, eqb-true)
 
 pub at_elim₂ : {A B : Type 0} (P : ℕ → A → B → Type 0) (f : ℕ → A) (g : ℕ → B) (r : ℕ) (x : A) (y : B) (q : ℕ) → P r x y → P q (f q) (g q) → P q (at f r x q) (at g r y q)
-at_elim₂ P f g r x y q here there = go (cases (q == r))
-  where
-    go : IsTrue (q == r) ⊎ IsFalse (q == r) → P q (at f r x q) (at g r y q)
-    go (inl t) = rw t (subst (λ (z : ℕ). P z x y) (sym (eqb-true q r t)) here)
-    go (inr n) = rw n there
+at_elim₂ P f g r x y q here there = grind (arith, cases, eqb-true)
 
 pub at_same : {A : Type 0} (f : ℕ → A) (r : ℕ) (x : A) → at f r x r ≡ x
 at_same f r x = rw (eq-eqb r r refl) refl
@@ -43,31 +35,18 @@ at_same f r x = rw (eq-eqb r r refl) refl
 -- the other places are known to be others
 pub two_elim : {A : Type 0} (P : ℕ → ℕ → A → Type 0) (f : ℕ → ℕ → A) (r s : ℕ) (x : A) (q u : ℕ) →
     P r s x → (¬ ((q ≡ r) × (u ≡ s)) → P q u (f q u)) → P q u (at_two f r s x q u)
-two_elim P f r s x q u here there = go (cases ((q == r) && (u == s)))
-  where
-    go : IsTrue ((q == r) && (u == s)) ⊎ IsFalse ((q == r) && (u == s)) → P q u (at_two f r s x q u)
-    go (inl t) = let both = and_parts (q == r) (u == s) t in
-        rw t (subst (λ (z : ℕ). P z u x) (sym (eqb-true q r both.0)) (subst (λ (z : ℕ). P r z x) (sym (eqb-true u s both.1)) here))
-    go (inr n) = rw n (there (λ e. both_ways ((q == r) && (u == s)) n (and_from (q == r) (u == s) (eq-eqb q r e.0) (eq-eqb u s e.1))))
+two_elim P f r s x q u here there = grind (arith, cases, and_parts, eqb-true, both_ways, and_from, eq-eqb)
 
 pub two_elim₂ : {A B : Type 0} (P : ℕ → ℕ → A → B → Type 0) (f : ℕ → ℕ → A) (g : ℕ → ℕ → B) (r s : ℕ) (x : A) (y : B) (q u : ℕ) →
     P r s x y → (¬ ((q ≡ r) × (u ≡ s)) → P q u (f q u) (g q u)) → P q u (at_two f r s x q u) (at_two g r s y q u)
-two_elim₂ P f g r s x y q u here there = go (cases ((q == r) && (u == s)))
-  where
-    go : IsTrue ((q == r) && (u == s)) ⊎ IsFalse ((q == r) && (u == s)) → P q u (at_two f r s x q u) (at_two g r s y q u)
-    go (inl t) = let both = and_parts (q == r) (u == s) t in
-        rw t (subst (λ (z : ℕ). P z u x y) (sym (eqb-true q r both.0)) (subst (λ (z : ℕ). P r z x y) (sym (eqb-true u s both.1)) here))
-    go (inr n) = rw n (there (λ e. both_ways ((q == r) && (u == s)) n (and_from (q == r) (u == s) (eq-eqb q r e.0) (eq-eqb u s e.1))))
+two_elim₂ P f g r s x y q u here there = grind (arith, cases, and_parts, eqb-true, both_ways, and_from, eq-eqb)
 
 pub two_same : {A : Type 0} (f : ℕ → ℕ → A) (s t : ℕ) (x : A) → at_two f s t x s t ≡ x
 two_same f s t x = rw (and_from (s == s) (t == t) (eq-eqb s s refl) (eq-eqb t t refl)) refl
 
 pub numbered_in : {A : Type 0} (xs : List A) (n : ℕ) (x : A) → numbered xs n ≡ Some x → In x xs
 numbered_in [] n x e = absurd (cc)
-numbered_in (y ∷ ys) n x e = elim (cases (n == length ys + 1)) [
-  | inl t ↦ (let k : Some y ≡ Some x = rw t at e in inl (cc))
-  | inr t ↦ (let k : numbered ys n ≡ Some x = rw t at e in inr (numbered_in ys n x k))
-]
+numbered_in (y ∷ ys) n x e = grind (arith, numbered_in ys n x, cases)
 
 -- ---- the invariant
 
@@ -100,22 +79,13 @@ pub downward_kept : {M : Type 0} (x : Issue M) (e : List (Issue M)) → IsIssuab
 downward_kept x e ok a iss down w v h k = down w v h (subst IsTrue (made_kept x e ok w v (iss w h)) k)
 
 pub listing_knowing : {M : Type 0} (x : Issue M) (e : List (Issue M)) → IsIssuable e x → (h : Holding) → IsKnowing e h → IsKnowing (x ∷ e) h
-listing_knowing x e ok h inv = record {
-  issued = λ v k. issued_kept x e v (inv.issued v k);
-  downward = downward_kept x e ok h.known inv.issued inv.downward;
-  stored = inv.stored;
-  outed = inv.outed;
-}
+listing_knowing x e ok h inv = grind (arith, issued_kept, downward_kept)
 
 pub listing_sets : {M : Type 0} (x : Issue M) (e : List (Issue M)) (holding : ℕ → Holding) (known_at_answer : ℕ → ℕ → Versions) (given : List Record) → IsIssuable e x →
     SetsOf e holding known_at_answer given → SetsOf (x ∷ e) holding known_at_answer given
-listing_sets x e holding known_at_answer given ok inv = record {
-  list = (ok, inv.list);
-  each = λ r. listing_knowing x e ok (holding r) (inv.each r);
-  answer_known = inv.answer_known;
-  answer_downward = λ k t. downward_kept x e ok (known_at_answer k t) (λ v h. (inv.each k).issued v (inv.answer_known k t v h)) (inv.answer_downward k t);
-  given_known = inv.given_known;
-}
+listing_sets x e holding known_at_answer given ok inv =
+    let down = λ (k t : ℕ). downward_kept x e ok (known_at_answer k t) (λ v h. (inv.each k).issued v (inv.answer_known k t v h)) (inv.answer_downward k t) in
+    search (listing_knowing x e ok, inv.each, down, ok)
 
 -- ---- the sets of one replica become others
 
@@ -124,49 +94,25 @@ known_grows holding r h g q = at_elim (λ z (a : Holding). Within (holding z).kn
 
 pub changing_sets : {M : Type 0} (issues : List (Issue M)) (holding : ℕ → Holding) (known_at_answer : ℕ → ℕ → Versions) (given : List Record) (r : ℕ) (h : Holding) →
     Within (holding r).known h.known → IsKnowing issues h → SetsOf issues holding known_at_answer given → SetsOf issues (at holding r h) known_at_answer given
-changing_sets issues holding known_at_answer given r h grows well inv = record {
-  list = inv.list;
-  each = λ q. at_elim (λ z (a : Holding). IsKnowing issues a) holding r h q well (inv.each q);
-  answer_known = λ k t v j. known_grows holding r h grows k v (inv.answer_known k t v j);
-  answer_downward = inv.answer_downward;
-  given_known = λ x w i e. known_grows holding r h grows x.source w (inv.given_known x w i e);
-}
+changing_sets issues holding known_at_answer given r h grows well inv = search (known_grows holding r h grows, at_elim (λ z (a : Holding). IsKnowing issues a) holding r h, inv.each, inv.answer_known, inv.given_known)
 
 -- ---- words on sets
 
 -- to learn what is known is to learn nothing
 pub with_known : (a b : Versions) → Within b a → a with b ≡ a
-with_known a b h = λ i v. same (a v) (b v) (h v) i
-  where
-    same : (x y : Bool) → (IsTrue y → IsTrue x) → (x || y) ≡ x
-    same true y h = refl
-    same false true h = absurd (let k : IsTrue false = h refl in cc)
-    same false false h = refl
+with_known a b h = grind arith
 
 pub learned_cases : (known lower : Versions) (w v : Name) → IsTrue ((known with only w with lower) v) → IsTrue (known v) ⊎ ((w ≡ v) ⊎ IsTrue (lower v))
-learned_cases known lower w v h = elim (or_parts (known v || only w v) (lower v) h) [
-  | inl k ↦ elim (or_parts (known v) (only w v) k) [ inl a ↦ inl a | inr b ↦ inr (inl (is_path w v b)) ]
-  | inr k ↦ inr (inr k)
-]
+learned_cases known lower w v h = grind (arith, or_parts, is_path)
 
 pub learned_from : (known lower : Versions) (w v : Name) → IsTrue (known v) ⊎ ((w ≡ v) ⊎ IsTrue (lower v)) → IsTrue ((known with only w with lower) v)
-learned_from known lower w v h = elim h [
-  | inl a ↦ or_left (known v || only w v) (lower v) (or_left (known v) (only w v) a)
-  | inr b ↦ elim b [
-    | inl p ↦ or_left (known v || only w v) (lower v) (or_right (known v) (only w v) (is_from w v p))
-    | inr q ↦ or_right (known v || only w v) (lower v) q
-  ]
-]
+learned_from known lower w v h = grind (arith, or_left, or_right, is_from)
 
 pub only_parts : (b : Bool) (w v : Name) → IsTrue (only_if b w v) → IsTrue b × (w ≡ v)
 only_parts b w v h = let both = and_parts b (is w v) h in (both.0, is_path w v both.1)
 
 pub without_parts : (a b : Versions) (v : Name) → IsTrue ((a without b) v) → IsTrue (a v) × IsFalse (b v)
-without_parts a b v h = let both = and_parts (a v) (not (b v)) h in (both.0, is_false (b v) both.1)
-  where
-    is_false : (c : Bool) → IsTrue (not c) → IsFalse c
-    is_false true h = absurd (cc)
-    is_false false h = refl
+without_parts a b v h = grind (arith, and_parts)
 
 pub without_from : (a b : Versions) (v : Name) → IsTrue (a v) → IsFalse (b v) → IsTrue ((a without b) v)
 without_from a b v h n = and_from (a v) (not (b v)) h (rw n refl)

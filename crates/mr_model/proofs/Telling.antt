@@ -1,5 +1,5 @@
 -- What each step of a run adds to the feeds.
-use Rattle.std.proofs.Common.{◌≡◌, refl, sym, subst, ◌∙◌, ℕ, List, [], ◌∷◌, ◌++◌, filter, inl, inr, IsTrue, IsFalse, append-nil}
+use Rattle.std.proofs.Common.{◌≡◌, refl, sym, subst, ◌∙◌, ℕ, List, [], ◌∷◌, ◌++◌, filter, inl, inr, IsTrue, IsFalse, append-nil, arith}
 use Rattle.std.specs.declared.cmp.Ordering.{Ordering}
 use Rattle.std.specs.declared.cmp.Ordering.TheVariants.{Less, Equal, Greater}
 use Rattle.std.specs.Ordering.{is_lt, ordering_reverse}
@@ -25,8 +25,7 @@ use Rattle.mr_model.proofs.Theorem.{run_inv}
 
 less_from : (o : Ordering) → IsTrue (is_lt o) → o ≡ Less
 less_from Less h = refl
-less_from Equal h = absurd (cc)
-less_from Greater h = absurd (cc)
+less_from _ h = absurd (cc)
 
 pub before_from : (v w : Name) → name_cmp v w ≡ Less → IsTrue (is_before v w)
 before_from v w e = rw e refl
@@ -36,12 +35,7 @@ before_trans u v w h k = before_from u w (names_total.trans u v w (less_from (na
 
 -- of two versions one stands before the other
 pub before_or_after : (v w : Name) → ¬ (v ≡ w) → IsFalse (is_before v w) → IsTrue (is_before w v)
-before_or_after v w differ h = go (name_cmp v w) refl
-  where
-    go : (o : Ordering) → name_cmp v w ≡ o → IsTrue (is_before w v)
-    go Less e = absurd (both_ways (is_before v w) h (before_from v w e))
-    go Equal e = absurd (differ (exact_names v w e))
-    go Greater e = before_from w v (names_total.antisymm w v ∙ (λ i. ordering_reverse (e i)))
+before_or_after v w differ h = grind (arith, before_from, exact_names, names_total.antisymm w v)
 
 abbrev pub Rises : {M : Type 0} → Issue M → Issue M → Type 0
 Rises x y = IsTrue (is_before x.version y.version)
@@ -49,32 +43,19 @@ Rises x y = IsTrue (is_before x.version y.version)
 pub placed_rising : {M : Type 0} (x : Issue M) (ys : List (Issue M)) → EachPair Rises ys → ((u : Issue M) → In u ys → Differ x u) → EachPair Rises (insert_in_order x ys)
 placed_rising x [] rising new = (tt, tt)
 placed_rising x (y ∷ ys) rising new = elim (cases (is_before x.version y.version)) [
-  | inl t ↦ rw t (
-    each_from (Rises x) (y ∷ ys) (λ u i. elim i [
-      | inl p ↦ subst (Rises x) p t
-      | inr j ↦ before_trans x.version y.version u.version t (each_at (Rises y) ys rising.0 u j)
-    ]),
-    rising,
-  )
+  | inl t ↦ rw t (each_from (Rises x) (y ∷ ys) (λ u i. grind (arith, t, before_trans x.version y.version u.version t, each_at (Rises y) ys rising.0 u)), rising)
   | inr n ↦ rw n (
-    each_from (Rises y) (insert_in_order x ys) (λ u i. elim (in_placed x ys u i) [
-      | inl p ↦ subst (Rises y) p (before_or_after x.version y.version (new y (inl refl)) n)
-      | inr j ↦ each_at (Rises y) ys rising.0 u j
-    ]),
+    each_from (Rises y) (insert_in_order x ys) (λ u i. grind (arith, in_placed x ys u i, before_or_after x.version y.version (new y (inl refl)) n, each_at (Rises y) ys rising.0 u)),
     placed_rising x ys rising.1 (λ u i. new u (inr i)),
   )
 ]
 
 pub ordered_rising : {M : Type 0} (issues : List (Issue M)) → IsIssueList issues → EachPair Rises (in_version_order issues)
 ordered_rising [] ok = tt
-ordered_rising (x ∷ e) ok = placed_rising x (in_version_order e) (ordered_rising e ok.1)
-    (λ u i p. fresh x e ok.0 (subst (λ (z : Name). IsTrue (is_issued e z)) (sym p) (in_issued e u (ordered_in e u i))))
+ordered_rising (x ∷ e) ok = grind (arith, ordered_rising e ok.1, placed_rising, fresh, in_issued, ordered_in)
 
 pub order_holds : {M C : Type 0} (s : Setting M C) (h : History M C) → IsRun s start h → IsOrdered (now s h).issues
-order_holds s h run = record {
-  same = λ x. (ordered_in (now s h).issues x, in_ordered (now s h).issues x);
-  rising = ordered_rising (now s h).issues (run_inv s h run).core.sets.list;
-}
+order_holds s h run = grind (arith, ordered_in, in_ordered, ordered_rising, run_inv)
 
 -- ---- what one change tells
 
@@ -91,49 +72,24 @@ tells_nothing s issues feed store = record {
 
 -- the issues whose versions are in a and not in b
 pub chosen : {M : Type 0} (issues : List (Issue M)) (a b : Versions) (x : Issue M) → In x (filter (λ y. (a without b) y.version) (in_version_order issues)) → In x issues × IsTrue (a x.version) × ¬ IsTrue (b x.version)
-chosen issues a b x i = let r = in_filter (λ y. (a without b) y.version) (in_version_order issues) x i in
-    let parts = without_parts a b x.version r.1 in
-    (ordered_in issues x r.0, parts.0, both_ways (b x.version) parts.1)
+chosen issues a b x i = grind (arith, in_filter, without_parts, ordered_in, both_ways)
 
 pub choosing : {M : Type 0} (issues : List (Issue M)) (a b : Versions) (x : Issue M) → In x issues × IsTrue (a x.version) × ¬ IsTrue (b x.version) → In x (filter (λ y. (a without b) y.version) (in_version_order issues))
 choosing issues a b x h = filter_in (λ y. (a without b) y.version) (in_version_order issues) x (in_ordered issues x h.0) (without_from a b x.version h.1 (false_from (b x.version) h.2))
 
 pub tells_safe : {M C : Type 0} (s : Setting M C) (m : Moment M C) (r : ℕ) (h : Holding) → Core s m → IsSafe s m r h → TellsChange s m.issues (m.feed r) (feed_after s m.issues (stored m r) h.stored (m.feed r)) (stored m r) h.stored
-tells_safe {M} s m r h core safe = record {
-  left = filter (λ y. (stored m r without h.stored) y.version) (in_version_order m.issues);
-  entered = newcomers;
-  tells = refl;
-  left_are = λ x. (chosen m.issues (stored m r) h.stored x, choosing m.issues (stored m r) h.stored x);
-  left_rising = pairs_filter Rises (λ y. (stored m r without h.stored) y.version) (in_version_order m.issues) (ordered_rising m.issues core.sets.list);
-  entered_are = λ x. (chosen m.issues h.stored (stored m r) x, choosing m.issues h.stored (stored m r) x);
-  one_at_most = pairs_map Differ (λ x y. ⊥) newcomers (λ x y i j differ. differ (sym (is_newcomer x i) ∙ is_newcomer y j))
-      (pairs_filter Differ (λ y. (h.stored without stored m r) y.version) (in_version_order m.issues) (ordered_distinct m.issues core.sets.list));
-}
-  where
-    newcomers : List (Issue M)
-    newcomers = filter (λ y. (h.stored without stored m r) y.version) (in_version_order m.issues)
-
-    is_newcomer : (x : Issue M) → In x newcomers → safe.newcomer ≡ x.version
-    is_newcomer x i = let c = chosen m.issues h.stored (stored m r) x i in (safe.enters x.version c.1 c.2).0
+tells_safe {M} s m r h core safe = grind (arith, chosen, choosing, pairs_filter, ordered_rising, pairs_map, ordered_distinct)
 
 pub holding_tells : {M C : Type 0} (s : Setting M C) (m : Moment M C) (r : ℕ) (h : Holding) → Core s m → IsSafe s m r h → (q : ℕ) → Tells s m (with_holding s m r h) q
-holding_tells {M} {C} s m r h core safe q = at_elim₂ (λ z (a : Holding) (fs : List (Entry C)). TellsChange s m.issues (m.feed z) fs (stored m z) a.stored) m.holding m.feed r h (feed_after s m.issues (stored m r) h.stored (m.feed r)) q
-    (tells_safe s m r h core safe) (tells_nothing s m.issues (m.feed q) (stored m q))
+holding_tells {M} {C} s m r h core safe q = grind (arith, at_elim₂, tells_safe, tells_nothing)
 
 pub change_tells : {M C : Type 0} (s : Setting M C) (m : Moment M C) (c : Change M C) → IsAllowed s m c → Inv s m → (q : ℕ) → Tells s m (happens s m c) q
 change_tells s m (Issues r x) rule inv q = holding_tells s (with_issue m x) r (holding_after_issue s (with_issue m x) r x) (listing_core s m x (issuable s m r x rule inv.core) inv.core) (issue_safe s m r x rule inv) q
 change_tells s m (Takes r x reception) rule inv q = holding_tells s m r (holding_after_record s m r x x.body) inv.core (record_safe s m r x reception x.body rule inv.core refl).safe q
 change_tells s m (Releases r x) rule inv q = holding_tells s m r (holding_after_release m r x.version) inv.core (release_safe s m r x rule.in_pool inv.core) q
 change_tells {M} {C} s m (Closes r u) rule inv q = choice (λ (n : Moment M C). Tells s m n q) (is_closed (m.offered r u)) m (with_mark m r u CloseMark) (λ t. tells_nothing s m.issues (m.feed q) (stored m q)) (λ n. tells_nothing s m.issues (m.feed q) (stored m q))
-change_tells s m (Asks r ask) rule inv q = tells_nothing s m.issues (m.feed q) (stored m q)
-change_tells s m (Opens k t ask) rule inv q = tells_nothing s m.issues (m.feed q) (stored m q)
-change_tells s m (Gives k t x) rule inv q = tells_nothing s m.issues (m.feed q) (stored m q)
-change_tells s m (Retires r) rule inv q = tells_nothing s m.issues (m.feed q) (stored m q)
-change_tells s m (Offers r u e) rule inv q = tells_nothing s m.issues (m.feed q) (stored m q)
-change_tells s m (TakesEntry r u e) rule inv q = tells_nothing s m.issues (m.feed q) (stored m q)
-change_tells s m (Vouches r v x) rule inv q = tells_nothing s m.issues (m.feed q) (stored m q)
-change_tells s m Stays rule inv q = tells_nothing s m.issues (m.feed q) (stored m q)
 change_tells s m Misfits rule inv q = absurd rule
+change_tells s m _ rule inv q = tells_nothing s m.issues (m.feed q) (stored m q)
 
 pub step_tells : {M C : Type 0} (s : Setting M C) (h : History M C) (c : Change M C) (r : ℕ) → IsRun s start h → IsAllowed s (now s h) c → Tells s (now s h) (happens s (now s h) c) r
 step_tells s h c r run ok = change_tells s (now s h) c ok (run_inv s h run) r

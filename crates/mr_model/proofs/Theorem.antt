@@ -1,5 +1,6 @@
 -- The headline follows from what holds at every moment.
 use Rattle.std.proofs.Common.{◌≡◌, ◌≢◌, refl, sym, ap, subst, ◌∙◌, ℕ, Bool, true, List, [], ◌∷◌, ◌++◌, ◌↔◌, inl, inr, IsTrue, arith, eq-eqb}
+use Rattle.std.proofs.lemmas.Bool.{cases_order}
 use native.Mathlib.Decide.{dec_lt}
 use Rattle.mr_version.specs.Name.{Name}
 use Rattle.mr_model.specs.Versions.{Versions, is_issued, item_of}
@@ -22,45 +23,24 @@ pub run_inv : {M C : Type 0} (s : Setting M C) (h : History M C) → IsRun s sta
 run_inv s h run = run_keeps s start h run (start_holds s)
 
 pub is_sound : {M C : Type 0} (s : Setting M C) (m : Moment M C) → Inv s m → (r : ℕ) → IsSoundHolding s m r
-is_sound s m inv r = record {
-  stored_is = λ v h. let k = (inv.core.sets.each r).stored v h in ((inv.core.sets.each r).issued v k, k, (inv.core.sound r).wanted v h);
-  complete = (inv.core.sound r).complete;
-  heads = (inv.core.sound r).heads;
-}
+is_sound s m inv r = let sets = inv.core.sets.each r in let sound = inv.core.sound r in search (sets.stored, sets.issued, sound.wanted, sound.complete, sound.heads)
 
 pub loses_nothing : {M C : Type 0} (s : Setting M C) (m : Moment M C) → Inv s m → LosesNothing m
 loses_nothing s m inv v h current = elim (inv.kept v h) [ inl a ↦ absurd (current a) | inr k ↦ k ]
 
 pub holds_current : {M C : Type 0} (s : Setting M C) (m : Moment M C) → Inv s m → (r : ℕ) (item v : Name) → KnowsItem m r item → (IsTrue (stored m r v) × (item_of m.issues v ≡ item)) ↔ IsCurrent s m r item v
-holds_current s m inv r item v knows = (there, back)
-  where
-    there : IsTrue (stored m r v) × (item_of m.issues v ≡ item) → IsCurrent s m r item v
-    there h = let k = (inv.core.sets.each r).stored v h.0 in record {
-      issued = (inv.core.sets.each r).issued v k;
-      of_item = h.1;
-      wanted = (inv.core.sound r).wanted v h.0;
-      newest = λ a. let b = superseded_in m.issues v a in
-          (inv.core.sound r).heads v b.0 h.0 (knows b.0 (made_issued m.issues inv.core.sets.list b.0 v b.1).0 (made_item m.issues inv.core.sets.list b.0 v b.1 ∙ h.1)) b.1;
-    }
-
-    back : IsCurrent s m r item v → IsTrue (stored m r v) × (item_of m.issues v ≡ item)
-    back c = (elim ((inv.core.sound r).complete v (knows v c.issued c.of_item) c.wanted) [ inl a ↦ a | inr a ↦ absurd (c.newest a) ], c.of_item)
+holds_current s m inv r item v knows = let sets = inv.core.sets.each r in let sound = inv.core.sound r in let list = inv.core.sets.list in
+    grind (arith, sets.stored, sets.issued, sound.wanted, sound.complete, sound.heads, knows, superseded_in m.issues v, made_issued m.issues list, made_item m.issues list)
 
 -- ---- order
 
 -- of two versions of one author and item, the one that came later has the higher counter
 pub later_counter : {M C : Type 0} (s : Setting M C) (m : Moment M C) → Inv s m → (r : ℕ) (v w : Name) → In v (added (m.feed r)) → In w (added (m.feed r)) → IsAfter m.issues v w → InIssueOrder m.issues v w
-later_counter s m inv r v w i j late ea ei = elim (dec_lt v.counter w.counter) [
-  | yes lt ↦ lt
-  | no ge ↦ elim (dec_lt w.counter v.counter) [
-    | yes gt ↦ absurd (late.not_made_with (chain m.issues inv.core.sets.list w v (issued w j) (issued v i) (sym ea) (sym ei) gt))
-    | no le ↦ absurd (late.differ (name_path v w ea (omega arith)))
-  ]
-]
+later_counter s m inv r v w i j late ea ei =
+    let issued = λ (u : Name) (k : In u (added (m.feed r))). (inv.core.sets.each r).issued u ((inv.core.fed r).added_known u k) in
+    let hv = issued v i in let hw = issued w j in
+    elim (cases_order v.counter w.counter) [ inl e ↦ absurd (late.differ (name_path v w ea e)) | inr o ↦ elim o [ inl lt ↦ lt | inr gt ↦ absurd (late.not_made_with (chain m.issues inv.core.sets.list w v hw hv (sym ea) (sym ei) gt)) ] ]
   where
-    issued : (u : Name) → In u (added (m.feed r)) → IsTrue (is_issued m.issues u)
-    issued u k = (inv.core.sets.each r).issued u ((inv.core.fed r).added_known u k)
-
     name_path : (v w : Name) → v.author ≡ w.author → v.counter ≡ w.counter → v ≡ w
     name_path v w a c = λ i. record { author = a i; counter = c i }
 
@@ -71,23 +51,16 @@ abbrev pub Rests : {M C : Type 0} → Moment M C → ℕ → Moment M C → Type
 Rests m r m' = (m'.feed r ≡ m.feed r) × IsTrue (m'.is_retired r)
 
 pub changed_rests : {M C : Type 0} (s : Setting M C) (m : Moment M C) (q r : ℕ) (h : Holding) → IsSafe s m q h → IsTrue (m.is_retired r) → (with_holding s m q h).feed r ≡ m.feed r
-changed_rests {M} {C} s m q r h safe k = at_elim (λ z (fs : List (Entry C)). IsTrue (m.is_retired z) → fs ≡ m.feed z) m.feed q (feed_after s m.issues (stored m q) h.stored (m.feed q)) r
-    (λ j. ap (λ (a : Versions). feed_after s m.issues (stored m q) a (m.feed q)) (safe.rests j).0 ∙ feed_stays s m.issues (stored m q) (m.feed q)) (λ j. refl) k
+changed_rests {M} {C} s m q r h safe k = grind (arith, at_elim, feed_stays)
 
 pub change_rests : {M C : Type 0} (s : Setting M C) (m : Moment M C) (r : ℕ) (c : Change M C) → IsAllowed s m c → Inv s m → IsTrue (m.is_retired r) → Rests m r (happens s m c)
 change_rests s m r (Issues q x) rule inv k = (changed_rests s (with_issue m x) q r (holding_after_issue s (with_issue m x) q x) (issue_safe s m q x rule inv) k, k)
-change_rests s m r (Asks q ask) rule inv k = (refl, k)
-change_rests s m r (Opens q t ask) rule inv k = (refl, k)
-change_rests s m r (Gives q t x) rule inv k = (refl, k)
 change_rests s m r (Takes q x reception) rule inv k = (changed_rests s m q r (holding_after_record s m q x x.body) (record_safe s m q x reception x.body rule inv.core refl).safe k, k)
 change_rests s m r (Retires q) rule inv k = (refl, at_elim (λ z (b : Bool). IsTrue (m.is_retired z) → IsTrue b) m.is_retired q true r (λ j. refl) (λ j. j) k)
-change_rests s m r (Offers q u e) rule inv k = (refl, k)
 change_rests s m r (Closes q u) rule inv k = choice (Rests m r) (is_closed (m.offered q u)) m (with_mark m q u CloseMark) (λ j. (refl, k)) (λ j. (refl, k))
-change_rests s m r (TakesEntry q u e) rule inv k = (refl, k)
-change_rests s m r (Vouches q v x) rule inv k = (refl, k)
 change_rests s m r (Releases q x) rule inv k = (changed_rests s m q r (holding_after_release m q x.version) (release_safe s m q x rule.in_pool inv.core) k, k)
-change_rests s m r Stays rule inv k = (refl, k)
 change_rests s m r Misfits rule inv k = absurd rule
+change_rests s m r _ rule inv k = (refl, k)
 
 pub run_rests : {M C : Type 0} (s : Setting M C) (m : Moment M C) (r : ℕ) (h : History M C) → IsRun s m h → Inv s m → IsTrue (m.is_retired r) → (after s m h).feed r ≡ m.feed r
 run_rests s m r [] run inv k = refl

@@ -1,17 +1,13 @@
-use Rattle.mr_model.proofs.RowsHold.{created_ahead_row, edited_while_streaming_row, created_behind_row, learned_later_row, held_twice_row}
+use Rattle.std.proofs.Common.{refl}
+use Rattle.mr_model.specs.StreamRows.{created_ahead, edited, brought_later, learned_later, held_twice}
+use Rattle.mr_model.proofs.RowsHold.{is_run_by_test}
 use Rattle.mr_model.proofs.worked_rows.changing_sources.Goals as goal
 
-pub returns-clause-created_ahead : goal.returns-clause-created_ahead
-returns-clause-created_ahead c = created_ahead_row
-
-pub returns-clause-edited : goal.returns-clause-edited
-returns-clause-edited c = edited_while_streaming_row
-
-pub returns-clause-created_behind : goal.returns-clause-created_behind
-returns-clause-created_behind c = created_behind_row
-
-pub returns-clause-learned_later : goal.returns-clause-learned_later
-returns-clause-learned_later c = learned_later_row
-
-pub returns-clause-held_twice : goal.returns-clause-held_twice
-returns-clause-held_twice c = held_twice_row
+pub returns : goal.returns
+returns c = record {
+  created_ahead = record { runs = is_run_by_test created_ahead refl; heads = refl; knowledge = refl };
+  edited = record { runs = is_run_by_test edited refl; heads = refl; feed = refl; knowledge = refl };
+  created_behind = record { runs = is_run_by_test brought_later refl; heads_between = refl; knowledge_between = refl; heads = refl; knowledge = refl };
+  learned_later = record { runs = is_run_by_test learned_later refl; knowledge = refl };
+  held_twice = record { runs = is_run_by_test held_twice refl; heads = refl };
+}

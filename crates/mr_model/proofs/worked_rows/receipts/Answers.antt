@@ -1,17 +1,13 @@
-use Rattle.mr_model.proofs.RowsHold.{released_row, released_one_row, store_stays_row, superseded_released_row, clean_retirement_row}
+use Rattle.std.proofs.Common.{refl}
+use Rattle.mr_model.specs.ReceiptRows.{released, released_one, released_beside, superseded_released, retiring}
+use Rattle.mr_model.proofs.RowsHold.{is_run_by_test}
 use Rattle.mr_model.proofs.worked_rows.receipts.Goals as goal
 
-pub returns-clause-released : goal.returns-clause-released
-returns-clause-released c = released_row
-
-pub returns-clause-released_one : goal.returns-clause-released_one
-returns-clause-released_one c = released_one_row
-
-pub returns-clause-store_stays : goal.returns-clause-store_stays
-returns-clause-store_stays c = store_stays_row
-
-pub returns-clause-superseded_released : goal.returns-clause-superseded_released
-returns-clause-superseded_released c = superseded_released_row
-
-pub returns-clause-clean_retirement : goal.returns-clause-clean_retirement
-returns-clause-clean_retirement c = clean_retirement_row
+pub returns : goal.returns
+returns c = record {
+  released = record { runs = is_run_by_test released refl; push_outs = refl; heads = refl };
+  released_one = record { runs = is_run_by_test released_one refl; push_outs = refl };
+  store_stays = record { runs = is_run_by_test released_beside refl; push_outs = refl; heads = refl };
+  superseded_released = record { runs = is_run_by_test superseded_released refl; push_outs_before = refl; push_outs = refl };
+  clean_retirement = record { runs = is_run_by_test retiring refl; push_outs = refl; heads = refl };
+}

@@ -1,11 +1,11 @@
-use Rattle.mr_model.proofs.RowsHold.{retired_and_closed_row, small_port_row, closed_twice_row}
+use Rattle.std.proofs.Common.{refl}
+use Rattle.mr_model.specs.PortRows.{retired, small_port, closed_twice}
+use Rattle.mr_model.proofs.RowsHold.{is_run_by_test}
 use Rattle.mr_model.proofs.worked_rows.subscribers.Goals as goal
 
-pub returns-clause-retired_and_closed : goal.returns-clause-retired_and_closed
-returns-clause-retired_and_closed c = retired_and_closed_row
-
-pub returns-clause-small_port : goal.returns-clause-small_port
-returns-clause-small_port c = small_port_row
-
-pub returns-clause-closed_twice : goal.returns-clause-closed_twice
-returns-clause-closed_twice c = closed_twice_row
+pub returns : goal.returns
+returns c = record {
+  retired_and_closed = record { runs = is_run_by_test retired refl; heads = refl; offered = refl; taken = refl };
+  small_port = record { runs = is_run_by_test small_port refl; feed = refl; indexer_took = refl; notifier_took = refl };
+  closed_twice = record { runs = is_run_by_test closed_twice refl; marks = refl };
+}
