@@ -1,5 +1,5 @@
 -- A version that is learned for its item alone, with a set below it: the version first, and then both.
-use Rattle.std.proofs.Common.{ℕ, ◌≡◌, ◌≢◌, ◌||◌, ◌&&◌, Bool, true, false, IsErrOf, IsErrAnd, Result, Ok, Err, refl, subst, inl, inr, ◌↔◌, ◌∙◌}
+use Rattle.std.proofs.Common.{ℕ, ◌≡◌, ◌≢◌, ◌||◌, ◌&&◌, Bool, false, IsErrOf, IsErrAnd, Result, Ok, Err, subst, inl, inr, ◌↔◌, ◌∙◌, arith}
 use Rattle.std.proofs.lemmas.Result.{err_from_is_err_and}
 use Rattle.mr_version.specs.Name.{Name, name_eq}
 use Rattle.mr_forms.specs.Sets.{Versions, both}
@@ -11,9 +11,7 @@ use Rattle.mr_itemset.proofs.FoldedLemmas.{same_pairs}
 use Rattle.mr_itemset.proofs.RefusalLemmas.{passed, refuses_otherwise}
 
 split_or : (a s n o : Bool) → ((a && (s || n)) || o) ≡ ((a && s) || ((a && n) || o))
-split_or true true n o = refl
-split_or true false n o = refl
-split_or false s n o = refl
+split_or a s n o = grind arith
 
 -- a version and a set, for the item alone, as one set
 abbrev pub together : Pairs → Name → Name → Versions → Pairs
@@ -32,9 +30,7 @@ module _ (old : Pairs) (item version : Name) (set : Versions) where
     fits = (passed _ _ holes, λ many. passed _ _ items (many, passed _ _ holes))
 
     pub alone_holes : {P : Type 0} → P ↔ HasHoleyItem (together old item version set) → P ↔ IsOverHolesInTurn (items_form limit) (with_learned false old item version) (with_learned_below false old item version set)
-    alone_holes {P = P} by =
-        let second : P ↔ HasHoleyItem (with_learned_below false old item version set) = subst (λ (p : Pairs). P ↔ HasHoleyItem p) alone_twice by in
-        (λ p. inr (fits, second.0 p), λ over. elim over [ inl holey ↦ absurd (fits.0 holey) | inr both_of ↦ second.1 both_of.1 ])
+    alone_holes by = grind (arith, alone_twice, fits)
 
     pub alone_items : {P : Type 0} → P ↔ IsOnlyOverItems (items_form limit) (together old item version set) → P ↔ IsOverItemsInTurn (items_form limit) (with_learned false old item version) (with_learned_below false old item version set)
     alone_items {P = P} by =
@@ -43,9 +39,7 @@ module _ (old : Pairs) (item version : Name) (set : Versions) where
 
 module _ {limit : ℕ} {first second : Pairs} where
   refused : (e : FormFault) (r : Result (Unit {0}) FormFault) → r ≡ Err e → r ≢ Err fault.OutOfMemory → IsErrOf r fault.TooManyHoles ↔ HasHoleyItem first → IsErrOf r fault.TooManyItems ↔ IsOnlyOverItems (items_form limit) first → IsErrOf {T = Unit {0}} (Err e) fault.TooManyItems ↔ IsOverItemsInTurn (items_form limit) first second
-  refused fault.TooManyItems r is memory holes items = (λ _. inl (items.0 is), λ _. refl)
-  refused fault.TooManyHoles r is memory holes items = refuses_otherwise _ _ (λ same. cc) (λ over. elim over [ inl only ↦ only.1 (holes.0 is) | inr both_of ↦ both_of.0.0 (holes.0 is) ])
-  refused fault.OutOfMemory r is memory holes items = absurd (memory is)
+  refused e r is memory holes items = grind (arith, refuses_otherwise)
 
   -- where it is refused, so are both
   pub alone_refused : (e : FormFault) (r result : Result (Unit {0}) FormFault) → IsErrAnd result (λ y. y ≡ e) → r ≡ Err e → r ≢ Err fault.OutOfMemory → IsErrOf r fault.TooManyHoles ↔ HasHoleyItem first → IsErrOf r fault.TooManyItems ↔ IsOnlyOverItems (items_form limit) first → IsErrOf result fault.TooManyItems ↔ IsOverItemsInTurn (items_form limit) first second

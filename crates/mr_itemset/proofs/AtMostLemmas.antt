@@ -1,4 +1,4 @@
-use Rattle.std.proofs.Common.{◌≡◌, ◌≤◌, ◌+◌, ◌⊎◌, ◌||◌, ◌&&◌, ℕ, zero, suc, Bool, true, false, nat_le, List, length, refl, ap, sym, ◌∙◌, arith, inl, inr}
+use Rattle.std.proofs.Common.{◌≡◌, ◌≤◌, ◌+◌, ◌⊎◌, ◌||◌, ◌&&◌, ℕ, Bool, true, false, nat_le, List, length, refl, ap, sym, ◌∙◌, arith, inl, inr}
 use Rattle.std.proofs.lemmas.Bool.{true≢false, cases_Bool, cases_lt, le-leb}
 use Rattle.mr_version.specs.declared.version.TheConstants.{MAX_COUNTER}
 use Rattle.mr_forms.specs.Sets.{Versions, IsSame, both}
@@ -7,12 +7,12 @@ use Rattle.mr_concise.specs.declared.column.TheConstants.{MAX_HOLES}
 use Rattle.mr_concise.specs.declared.vector.AuthorColumn.{AuthorColumn}
 use Rattle.mr_concise.specs.Column.{Extent, column_has}
 use Rattle.mr_concise.specs.Source.{IsColumnOf, HasAtMostHoles, ColumnsHaveAtMost}
-use Rattle.mr_concise.specs.Vector.{column_of, vector_has, IsVectorFrom, HasTooManyHoles}
+use Rattle.mr_concise.specs.Vector.{column_of, vector_has, IsVectorFrom, IsVectorOf, HasTooManyHoles}
 use Rattle.mr_concise.proofs.LastLemmas.{column_has-above}
 use Rattle.mr_concise.proofs.SweepLemmas.{IsColumnOf-unique, at_most-from_holes, few-of_authors}
 use Rattle.mr_concise.proofs.UnionLemmas.{column_of-IsColumn}
-use Rattle.mr_itemset.specs.Folded.{column_upto, folded, IsKept, HasAtMost}
-use Rattle.mr_itemset.specs.Normal.{Normal, normal_known, vector_of}
+use Rattle.mr_itemset.specs.Folded.{column_upto, folded, IsKept, IsSparse, HasAtMost}
+use Rattle.mr_itemset.specs.Normal.{Normal, IsNormal, normal_known, vector_of}
 use Rattle.mr_itemset.specs.ItemForm.{with_all, HasHoleyItem}
 use Rattle.mr_itemset.proofs.FoldedLemmas.{folded_known}
 use Rattle.mr_itemset.proofs.ItemLemmas.{vector_of-IsVector}
@@ -20,11 +20,7 @@ use Rattle.mr_itemset.proofs.ColumnsLemmas.{upto_low, both_within, upto_means}
 
 -- what a column has is from 1 to its bound
 column_in : (column : Extent) (c : ℕ) → column_has column c ≡ true → (1 ≤ c) × (c ≤ column.upto)
-column_in column zero is_in = absurd (true≢false (sym is_in))
-column_in column (suc c) is_in = elim (cases_lt column.upto (suc c)) [
-  | inl past ↦ absurd (true≢false (sym is_in ∙ column_has-above column (suc c) past))
-  | inr within ↦ (omega arith, within)
-]
+column_in column c is_in = grind (arith, true≢false, cases_lt, column_has-above)
 
 -- a set of counters from 1 to a bound has a column
 upto_is : (has : ℕ → Bool) (n : ℕ) → n ≤ MAX_COUNTER → ((c : ℕ) → has c ≡ true → (1 ≤ c) × (c ≤ n)) → IsColumnOf has (column_upto has n)
@@ -43,12 +39,10 @@ upto_is has n bound within = record {
     go c (inr is_out) = rw is_out (and_false (nat_le 1 c && nat_le c n))
 
 or_first : (a b : Bool) → a ≡ true → (a || b) ≡ true
-or_first true b e = refl
-or_first false b e = absurd (true≢false (sym e))
+or_first a b e = grind (arith, true≢false)
 
 or_second : (a b : Bool) → b ≡ true → (a || b) ≡ true
-or_second true b e = refl
-or_second false b e = e
+or_second a b e = grind arith
 
 -- THE HOLES OF BOTH are no more than those of the one and of the other
 at_most-both : (f g : ℕ → Bool) (m n : ℕ) → HasAtMostHoles f m → HasAtMostHoles g n → HasAtMostHoles (λ c. f c || g c) (m + n)
@@ -70,13 +64,7 @@ at_most-vector columns q ok =
     (record { column = column_of columns q; is = record { apart = own.apart; in_range = own.in_range; means = λ c. refl }; count_is = refl }) (omega arith)
 
 regroup : (s o v p : Bool) → ((s || o) || (v || p)) ≡ (s || ((v || p) || o))
-regroup true o v p = refl
-regroup false true true p = refl
-regroup false true false true = refl
-regroup false true false false = refl
-regroup false false true p = refl
-regroup false false false true = refl
-regroup false false false false = refl
+regroup s o v p = grind arith
 
 at_most-columns : (columns : List AuthorColumn) (few q : ℕ) → IsVectorFrom 0 columns → HasAtMost few columns → HasAtMostHoles (of_author (vector_has columns) q) few
 at_most-columns columns few q ok has = at_most-same (of_author (vector_has columns) q) (of_author (vector_has columns) q) (length (column_of columns q).holes) few (λ c. refl) (has q) (at_most-vector columns q ok)
@@ -91,26 +79,23 @@ few_with pending learned set own most waiting added ok few few_pending few_learn
     (at_most-both (of_author learned q) (of_author (vector_has pending) q) added waiting (few_learned q) (at_most-columns pending waiting q ok few_pending))))
 
 or_swapped : (a b : Bool) → (a || b) ≡ (b || a)
-or_swapped true true = refl
-or_swapped true false = refl
-or_swapped false true = refl
-or_swapped false false = refl
+or_swapped a b = grind arith
 
 -- what is united of what waits and of versions, as of versions and what waits
 pub united_same : (new pending vector : List AuthorColumn) (learned : Versions) → IsSame (vector_has new) (both (vector_has pending) (vector_has vector)) → IsSame (vector_has vector) learned → IsSame (vector_has new) (both learned (vector_has pending))
 united_same new pending vector learned united has v = united v ∙ ap (λ (b : Bool). vector_has pending v || b) (has v) ∙ or_swapped (vector_has pending v) (learned v)
 
 -- WHERE THE HOLES FIT TOGETHER these versions may wait with the others
-pub united_kept : {limit : ℕ} (settled : Normal) (pending new : List AuthorColumn) (most waiting added : ℕ) (learned : Versions) → IsKept limit settled pending most → IsVectorFrom 0 new → IsSame (vector_has new) (both learned (vector_has pending)) → HasAtMost waiting pending → ColumnsHaveAtMost learned added → (most + waiting) + added ≤ MAX_HOLES → IsKept limit settled new most
-united_kept settled pending new most waiting added learned kept ok has few_pending few_learned room = record {
-  normal = kept.normal;
-  vector_ok = ok;
-  few = kept.few;
+pub pending_kept : {limit : ℕ} (settled : Normal) (pending new : List AuthorColumn) (most waiting added : ℕ) (learned : Versions) → IsNormal limit settled → IsSparse settled most → IsVectorFrom 0 pending → IsVectorOf (both learned (vector_has pending)) new → HasAtMost waiting pending → ColumnsHaveAtMost learned added → (most + waiting) + added ≤ MAX_HOLES → IsKept limit settled new most
+pending_kept settled pending new most waiting added learned normal sparse ok is few_pending few_learned room = record {
+  normal = normal;
+  vector_ok = is.columns_ok;
+  few = sparse;
   room = λ q.
-      let own = column_of-IsColumn 0 new q ok in
+      let own = column_of-IsColumn 0 new q is.columns_ok in
       let few : length (column_of new q).holes ≤ added + waiting =
-      at_most-both (of_author learned q) (of_author (vector_has pending) q) added waiting (few_learned q) (at_most-columns pending waiting q kept.vector_ok few_pending) (column_of new q)
-      (record { apart = own.apart; in_range = own.in_range; means = λ c. has (record { author = q; counter = c }) }) in
+      at_most-both (of_author learned q) (of_author (vector_has pending) q) added waiting (few_learned q) (at_most-columns pending waiting q ok few_pending) (column_of new q)
+      (record { apart = own.apart; in_range = own.in_range; means = λ c. is.has (record { author = q; counter = c }) }) in
       omega arith;
 }
 

@@ -1,15 +1,12 @@
-use Rattle.std.proofs.Common.{◌≡◌, ◌<◌, ◌≤◌, ◌+◌, ◌-◌, ◌⊎◌, ◌==◌, ◌||◌, ◌&&◌, ℕ, zero, suc, Bool, true, false, nat_lt, nat_le, if◌then◌else◌, List, [], ◌∷◌, length, length-append, refl, ap, sym, ◌∙◌, arith, inl, inr}
+use Rattle.std.proofs.Common.{◌≡◌, ◌<◌, ◌≤◌, ◌+◌, ◌⊎◌, ◌==◌, ◌||◌, ◌&&◌, ℕ, zero, suc, Bool, true, false, nat_lt, nat_le, if◌then◌else◌, List, [], ◌∷◌, length, length-append, refl, ap, sym, ◌∙◌, arith, inl, inr}
 use Rattle.std.proofs.lemmas.Bool.Decides.{nat_tests}
-use Rattle.std.specs.List.{list_any}
-use Rattle.std.specs.Prelude.{not}
 use Rattle.std.proofs.lemmas.Bool.{cases_Bool, cases_lt, cases_eq, le-leb, lt-leb, lt-ltb, le-ltb, eq-eqb, ne_eqb}
 use Rattle.mr_forms.proofs.SetLemmas.{or_comm}
-use Rattle.mr_version.specs.declared.version.TheConstants.{MAX_COUNTER}
 use Rattle.mr_forms.specs.Sets.{IsSame, both}
 use Rattle.mr_concise.specs.declared.column.TheConstants.{MAX_HOLES}
 use Rattle.mr_concise.specs.declared.vector.AuthorColumn.{AuthorColumn}
 use Rattle.mr_concise.specs.Edges.{IsRising}
-use Rattle.mr_concise.specs.Column.{Extent, hole_has, edges, column_has, empty_column, with_counter, IsColumn}
+use Rattle.mr_concise.specs.Column.{Extent, edges, column_has, empty_column, with_counter, IsColumn}
 use Rattle.mr_concise.specs.Vector.{column_of, vector_has, with_column, IsVectorFrom}
 use Rattle.mr_concise.proofs.ColumnLemmas.{column_unique}
 use Rattle.mr_concise.proofs.InsertLemmas.{with_counter-means}
@@ -22,27 +19,14 @@ use Rattle.mr_itemset.specs.inner.Folded.{Fits}
 
 pub upto_low : (has : ℕ → Bool) (n : ℕ) → (column_upto has n).upto ≤ n
 upto_low has zero = omega arith
-upto_low has (suc n) = go (cases_Bool (has (suc n))) (upto_low has n)
-  where
-    go : (has (suc n) ≡ true) ⊎ (has (suc n) ≡ false) → (column_upto has n).upto ≤ n → (column_upto has (suc n)).upto ≤ suc n
-    go (inl is_in) low = let less : (column_upto has n).upto < suc n = omega arith in rw (is_in, lt-ltb (column_upto has n).upto (suc n) less) (omega arith)
-    go (inr is_out) low = rw is_out (omega arith)
+upto_low has (suc n) = grind (arith, upto_low has n, cases_Bool, lt-ltb)
 
 -- the next column has one hole more, unless the counter n was in it
 abbrev IsNext : ℕ → Extent → Extent → Type 0
 IsNext n column next = (next.upto ≡ suc n) × (((column.upto ≡ n) × (length next.holes ≡ length column.holes)) ⊎ ((column.upto < n) × (length next.holes ≡ length column.holes + 1)))
 
 next_counter : (column : Extent) (n : ℕ) → column.upto ≤ n → IsNext n column (with_counter column (suc n))
-next_counter column n low = elim (cases_lt column.upto n) [
-  | inl less ↦
-      let past : column.upto < suc n = omega arith in
-      let some : column.upto + 1 ≤ suc n - 1 = omega arith in
-      rw (lt-ltb column.upto (suc n) past, le-leb (column.upto + 1) (suc n - 1) some) (refl, inr (less, length-append column.holes ((record { first = column.upto + 1; last = suc n - 1 }) ∷ [])))
-  | inr same ↦
-      let past : column.upto < suc n = omega arith in
-      let none : suc n - 1 < column.upto + 1 = omega arith in
-      rw (lt-ltb column.upto (suc n) past, lt-leb (column.upto + 1) (suc n - 1) none) (refl, inl (omega arith, (let e = length-append column.holes [] in omega arith)))
-]
+next_counter column n low = grind (arith, cases_lt, lt-ltb, le-leb, length-append, lt-leb)
 
 -- the third column reaches as far as the first two, and has no more holes than they
 abbrev IsWithin : Extent → Extent → Extent → Type 0
@@ -68,10 +52,7 @@ within_all n a b c na nb nc w (x, inr p) (y, q) (z, inr r) = (omega arith, omega
 
 -- the counter is in the first alone
 within_one : (n : ℕ) (a b c na nc : Extent) → b.upto ≤ n → IsWithin a b c → IsNext n a na → IsNext n c nc → IsWithin na b nc
-within_one n a b c na nc low w (x, inl p) (z, inl r) = (omega arith, omega arith, let l = w.2 in let e = p.1 in let g = r.1 in omega arith)
-within_one n a b c na nc low w (x, inl p) (z, inr r) = let l = w.0 in let e = p.0 in let f = r.0 in absurd (omega arith)
-within_one n a b c na nc low w (x, inr p) (z, inl r) = (omega arith, omega arith, let l = w.2 in let e = p.1 in let g = r.1 in omega arith)
-within_one n a b c na nc low w (x, inr p) (z, inr r) = (omega arith, omega arith, let l = w.2 in let e = p.1 in let g = r.1 in omega arith)
+within_one n a b c na nc low w h k = grind arith
 
 within_swap : (a b c : Extent) → IsWithin a b c → IsWithin b a c
 within_swap a b c w = (w.1, w.0, let l = w.2 in omega arith)
@@ -119,11 +100,7 @@ bool_upto c upto n x none past low = grind (arith, nat_tests)
 
 -- past its bound a column has nothing
 none_past : (column : Extent) (c : ℕ) → column.upto < c → column_has column c ≡ false
-none_past column c past = rw (lt-leb c column.upto past) (and_nothing (nat_le 1 c) (not (list_any (λ hole. hole_has hole c) column.holes)))
-  where
-    and_nothing : (a b : Bool) → ((a && false) && b) ≡ false
-    and_nothing true b = refl
-    and_nothing false b = refl
+none_past column c past = grind (arith, lt-leb, nat_le)
 
 -- a column is that of its counters
 upto_itself : (column : Extent) (n : ℕ) → IsRising 0 (edges column) → column.upto ≤ n → column_upto (column_has column) n ≡ column
@@ -132,10 +109,7 @@ upto_itself column n rising low =
     column_unique (column_upto (column_has column) n) column means.0 rising (λ c. means.1 c ∙ sym (bool_upto c column.upto n (column_has column c) (λ e. rw e refl) (λ past. none_past column c past) low))
 
 higher : (a b : ℕ) → (a ≤ (if nat_lt a b then b else a)) × (b ≤ (if nat_lt a b then b else a)) × ((m : ℕ) → a ≤ m → b ≤ m → (if nat_lt a b then b else a) ≤ m)
-higher a b = elim (cases_lt a b) [
-  | inl less ↦ rw (lt-ltb a b less) (omega arith, omega arith, λ m x y. y)
-  | inr more ↦ rw (le-ltb a b more) (omega arith, omega arith, λ m x y. x)
-]
+higher a b = grind (arith, cases_lt, lt-ltb, le-ltb)
 
 pub both_columns-within : (a b : Extent) → IsRising 0 (edges a) → IsRising 0 (edges b) → IsWithin a b (both_columns a b)
 both_columns-within a b ra rb =
@@ -151,14 +125,7 @@ both_columns-has a b c =
     (λ past. rw (none_past a c (let x = h.0 in omega arith), none_past b c (let y = h.1 in omega arith)) refl) (omega arith))
 
 pub both_columns-IsColumn : (a b : Extent) → IsColumn a → IsColumn b → length a.holes + length b.holes ≤ MAX_HOLES → IsColumn (both_columns a b)
-both_columns-IsColumn a b ca cb few = record {
-  apart = (upto_means (λ k. column_has a k || column_has b k) (if nat_lt a.upto b.upto then b.upto else a.upto)).0;
-  in_range =
-      let low = upto_low (λ k. column_has a k || column_has b k) (if nat_lt a.upto b.upto then b.upto else a.upto) in
-      let high = (higher a.upto b.upto).2 MAX_COUNTER ca.in_range cb.in_range in
-      omega arith;
-  few = let within = both_columns-within a b ca.apart cb.apart in let holes = within.2 in omega arith;
-}
+both_columns-IsColumn a b ca cb few = grind (arith, upto_means, upto_low, higher, both_columns-within)
 
 -- ---- the vector of both
 
@@ -171,8 +138,7 @@ abbrev IsUnited : List AuthorColumn → List AuthorColumn → List AuthorColumn 
 IsUnited a b new = IsVectorFrom 0 new × ((q : ℕ) → ((c : ℕ) → column_has (column_of new q) c ≡ (column_has (column_of a q) c || column_has (column_of b q) c)) × (length (column_of new q).holes ≤ length (column_of a q).holes + length (column_of b q).holes))
 
 or_none : (b : Bool) → b ≡ (b || false)
-or_none true = refl
-or_none false = refl
+or_none b = grind arith
 
 -- the columns with one of the added columns
 abbrev with_added : List AuthorColumn → AuthorColumn → List AuthorColumn
@@ -201,11 +167,7 @@ none_left : (low : ℕ) (x : AuthorColumn) (xs : List AuthorColumn) (q : ℕ) �
 none_left low x xs q vb e = none_below (x.author + 1) xs q vb.3 (omega arith)
 
 added_ok : (low : ℕ) (a : List AuthorColumn) (x : AuthorColumn) (xs : List AuthorColumn) → IsVectorFrom 0 a → IsVectorFrom low (x ∷ xs) → Fits a (x ∷ xs) → IsVectorFrom 0 (with_added a x)
-added_ok low a x xs va vb fits =
-    let mine = column_of-IsColumn 0 a x.author va in
-    let within = both_columns-within (column_of a x.author) x.column mine.apart vb.2.apart in
-    let this : length (column_of a x.author).holes + length x.column.holes ≤ MAX_HOLES = (let f = fits x.author in let e = ap (λ (c : Extent). length c.holes) (first_of x xs x.author refl) in omega arith) in
-    IsVectorFrom-with_column 0 (record { author = x.author; column = both_columns (column_of a x.author) x.column }) a va (omega arith) (let u = within.1 in let o = vb.1 in omega arith) (both_columns-IsColumn (column_of a x.author) x.column mine vb.2 this) vb.4
+added_ok low a x xs va vb fits = grind (arith, column_of-IsColumn, both_columns-within, first_of, IsVectorFrom-with_column, both_columns-IsColumn)
 
 added_fits : (low : ℕ) (a : List AuthorColumn) (x : AuthorColumn) (xs : List AuthorColumn) → IsVectorFrom 0 a → IsVectorFrom low (x ∷ xs) → Fits a (x ∷ xs) → Fits (with_added a x) xs
 added_fits low a x xs va vb fits q = go (cases_eq x.author q)

@@ -8,7 +8,7 @@ use Rattle.mr_concise.specs.Vector.{vector_has, IsVectorFrom}
 use Rattle.mr_concise.specs.Equal.{vector_eq}
 use Rattle.mr_concise.proofs.EqualLemmas.{vector_eq-same}
 use Rattle.mr_itemset.specs.declared.knowledge.Listed.{Listed}
-use Rattle.mr_itemset.specs.Normal.{Normal, HasMore, IsNormal}
+use Rattle.mr_itemset.specs.Normal.{Normal, IsNormal}
 use Rattle.mr_itemset.specs.inner.Lacking.{Lacks}
 use Rattle.mr_itemset.specs.Folded.{united, gained, folded}
 use Rattle.mr_itemset.specs.inner.Folded.{Fits}
@@ -26,11 +26,7 @@ stays added all vector = not (vector_eq (united vector added) all)
 -- the listed items of which that is so
 pub gained_count : (added all : List AuthorColumn) (xs : List Listed) → length (filter (stays added all) (vectors_of xs)) ≡ length (gained added all xs)
 gained_count added all [] = refl
-gained_count added all (x ∷ xs) = go (cases_Bool (vector_eq (united x.vector added) all)) (gained_count added all xs)
-  where
-    go : (vector_eq (united x.vector added) all ≡ true) ⊎ (vector_eq (united x.vector added) all ≡ false) → length (filter (stays added all) (vectors_of xs)) ≡ length (gained added all xs) → length (filter (stays added all) (vectors_of (x ∷ xs))) ≡ length (gained added all (x ∷ xs))
-    go (inl e) rest = rw e (omega arith)
-    go (inr n) rest = rw n (omega arith)
+gained_count added all (x ∷ xs) = grind (arith, gained_count added all xs, cases_Bool)
 
 pub gained_few : (added all : List AuthorColumn) (xs : List Listed) → length (gained added all xs) ≤ length xs
 gained_few added all [] = omega arith
@@ -56,17 +52,7 @@ stays_yes added before vector va vb vx fb fx lacks = go (cases_Bool (vector_eq (
 
 -- and no longer where all then have all of it
 pub stays_no : (added before vector : List AuthorColumn) → IsVectorFrom 0 added → IsVectorFrom 0 before → IsVectorFrom 0 vector → Fits before added → Fits vector added → Covers (vector_has vector) (vector_has before) → Covers (both (vector_has added) (vector_has before)) (vector_has vector) → stays added (united before added) vector ≡ false
-stays_no added before vector va vb vx fb fx more covers = rw alike refl
-  where
-    within : (a p y : Bool) → (y ≡ true → (p || a) ≡ true) → (a ≡ true → y ≡ true) → (p || y) ≡ (p || a)
-    within a true y up down = refl
-    within a false true up down = sym (up refl)
-    within true false false up down = down refl
-    within false false false up down = refl
-
-    alike : vector_eq (united vector added) (united before added) ≡ true
-    alike = (vector_eq-same (united vector added) (united before added) (united-vector vector added vx va fx) (united-vector before added vb va fb)).1
-        (λ v. united-has vector added vx va fx v ∙ within (vector_has before v) (vector_has added v) (vector_has vector v) (covers v) (more v) ∙ sym (united-has before added vb va fb v))
+stays_no added before vector va vb vx fb fx more covers = grind (arith, vector_eq-same, united-vector, united-has)
 
 -- the vector of a listed item
 abbrev IsListed : Normal → List AuthorColumn → Type 0
@@ -74,13 +60,7 @@ IsListed k vector = (x : Listed) × (Contains k.listed x × (x.vector ≡ vector
 
 -- one more of the vectors that are left
 pub counted_one : {limit : ℕ} (k : Normal) (added vector : List AuthorColumn) (vectors rest : List (List AuthorColumn)) → IsNormal limit k → IsVectorFrom 0 added → Fits k.all added → All (λ x. Fits x.vector added) k.listed → IsListed k vector → vectors ≡ vector ∷ rest → Lacks (both (vector_has added) (vector_has k.all)) (vector_has vector) → length (filter (stays added (united k.all added)) vectors) ≡ length (filter (stays added (united k.all added)) rest) + 1
-counted_one k added vector vectors rest normal va fits each listed next lacks =
-    let more : HasMore k.all listed.0 = All-contains (HasMore k.all) k.listed listed.0 normal.more listed.1.0 in
-    let fit : Fits listed.0.vector added = All-contains (λ x. Fits x.vector added) k.listed listed.0 each listed.1.0 in
-    rw (next, stays_yes added k.all vector va normal.all_ok (rw listed.1.1 at more.vector_ok) fits (rw listed.1.1 at fit) lacks) (omega arith)
+counted_one k added vector vectors rest normal va fits each listed next lacks = grind (arith, All-contains, stays_yes)
 
 pub counted_none : {limit : ℕ} (k : Normal) (added vector : List AuthorColumn) (vectors rest : List (List AuthorColumn)) → IsNormal limit k → IsVectorFrom 0 added → Fits k.all added → All (λ x. Fits x.vector added) k.listed → IsListed k vector → vectors ≡ vector ∷ rest → Covers (both (vector_has added) (vector_has k.all)) (vector_has vector) → length (filter (stays added (united k.all added)) vectors) ≡ length (filter (stays added (united k.all added)) rest)
-counted_none k added vector vectors rest normal va fits each listed next covers =
-    let more : HasMore k.all listed.0 = All-contains (HasMore k.all) k.listed listed.0 normal.more listed.1.0 in
-    let fit : Fits listed.0.vector added = All-contains (λ x. Fits x.vector added) k.listed listed.0 each listed.1.0 in
-    rw (next, stays_no added k.all vector va normal.all_ok (rw listed.1.1 at more.vector_ok) fits (rw listed.1.1 at fit) (rw listed.1.1 at more.covers) covers) (omega arith)
+counted_none k added vector vectors rest normal va fits each listed next covers = grind (arith, All-contains, stays_no)

@@ -29,8 +29,7 @@ use Rattle.mr_itemset.proofs.ItemLemmas.{same_tests, vector_of-IsVector, covers_
 use Rattle.mr_itemset.proofs.RoomLemmas.{none_by_recursion, items_distinct}
 
 or_right : (a b : Bool) → b ≡ true → (a || b) ≡ true
-or_right true b e = refl
-or_right false b e = e
+or_right a b e = grind arith
 
 -- an item is among the first or the others
 pub among_listed : (a b : Bool) → b ≡ true → (a || b) ≡ true
@@ -50,11 +49,7 @@ any_flip (j ∷ js) i = ap (λ (b : Bool). b || list_any (λ item. name_eq item 
 
 any_contained : (q : Name) (ys : List Name) → Contains ys q → list_any (name_eq q) ys ≡ true
 any_contained q [] there = let within = there.1 in absurd (omega arith)
-any_contained q (y ∷ ys) there = go (Contains-cases y q ys there) (λ rest. any_contained q ys rest)
-  where
-    go : (y ≡ q) ⊎ Contains ys q → (Contains ys q → list_any (name_eq q) ys ≡ true) → list_any (name_eq q) (y ∷ ys) ≡ true
-    go (inl e) rest = or_left (name_eq q y) (list_any (name_eq q) ys) (ap (λ (z : Name). name_eq q z) e ∙ name_eq-itself q)
-    go (inr inside) rest = or_right (name_eq q y) (list_any (name_eq q) ys) (rest inside)
+any_contained q (y ∷ ys) there = grind (arith, any_contained q ys, Contains-cases, or_left, name_eq-itself, or_right)
 
 -- the listed item of this name
 pub listed_item : (q : Name) (xs : List Listed) → list_any (name_eq q) (items_of xs) ≡ true → (x : Listed) × (Contains xs x × (q ≡ x.item))
@@ -127,35 +122,12 @@ counts_one k items item n fresh free c = record {
     exchange false false c = refl
 
 pub counts_known : (k : Normal) (items : List Name) (item : Name) (n : ℕ) → (list_any (name_eq item) items || list_any (name_eq item) (items_of k.listed)) ≡ true → CountsNew k items n → CountsNew k (items ++ item ∷ []) n
-counts_known k items item n known c = record {
-  together = c.together;
-  distinct = c.distinct;
-  members = λ q. c.members q ∙ same q (cases_Bool (name_eq q item)) ∙ sym (ap (λ (b : Bool). b || list_any (name_eq q) (items_of k.listed)) (any_push q item items));
-  many = c.many;
-}
-  where
-    with_true : (b c : Bool) → ((b || (true || false)) || c) ≡ true
-    with_true true c = refl
-    with_true false c = refl
-
-    with_false : (b c : Bool) → (b || c) ≡ ((b || (false || false)) || c)
-    with_false true c = refl
-    with_false false c = refl
-
-    same : (q : Name) → (name_eq q item ≡ true) ⊎ (name_eq q item ≡ false) → (list_any (name_eq q) items || list_any (name_eq q) (items_of k.listed)) ≡ ((list_any (name_eq q) items || (name_eq q item || false)) || list_any (name_eq q) (items_of k.listed))
-    same q (inl here) =
-        ap (λ (z : Name). list_any (name_eq z) items || list_any (name_eq z) (items_of k.listed)) (same_name q item here) ∙ known
-        ∙ sym (ap (λ (b : Bool). (list_any (name_eq q) items || (b || false)) || list_any (name_eq q) (items_of k.listed)) here ∙ with_true (list_any (name_eq q) items) (list_any (name_eq q) (items_of k.listed)))
-    same q (inr other) =
-        with_false (list_any (name_eq q) items) (list_any (name_eq q) (items_of k.listed))
-        ∙ sym (ap (λ (b : Bool). (list_any (name_eq q) items || (b || false)) || list_any (name_eq q) (items_of k.listed)) other)
+counts_known k items item n known c = grind (arith, cases_Bool, any_push, same_name)
 
 -- ---- too many items
 
 same_both : (x a : Bool) → (x ≡ true → a ≡ true) → (a ≡ true → x ≡ true) → x ≡ a
-same_both true a up down = sym (up refl)
-same_both false true up down = down refl
-same_both false false up down = refl
+same_both x a up down = grind arith
 
 pub many_each : {limit : ℕ} (k : Normal) (items : List Name) (set : Versions) (n : ℕ) → IsNormal limit k → Lacks (vector_has k.all) set → CountsNew k items n → limit < length k.listed + n → ListsTooMany limit (with_each (normal_known k) items set)
 many_each k items set n normal lacks c over = record {
@@ -229,26 +201,12 @@ few_given k items set few = few_of k items set (items ++ items_of k.listed) (λ 
 -- ---- one item after another
 
 pub each_more : (k old new : Name → Name → Bool) (items : List Name) (item : Name) (set : Versions) → AreSame old (with_each k items set) → AreSame new (with_below old item set) → AreSame new (with_each k (items ++ item ∷ []) set)
-each_more k old new items item set before after i v =
-    after i v ∙ ap (λ (b : Bool). (name_eq item i && set v) || b) (before i v)
-    ∙ spread (name_eq item i) (list_any (λ j. name_eq j i) items) (set v) (k i v)
-    ∙ sym (ap (λ (b : Bool). (b && set v) || k i v) (list_any-append (λ j. name_eq j i) items (item ∷ [])))
-  where
-    spread : (a b s o : Bool) → ((a && s) || ((b && s) || o)) ≡ (((b || (a || false)) && s) || o)
-    spread true true true o = refl
-    spread true true false o = refl
-    spread true false true o = refl
-    spread true false false o = refl
-    spread false true s o = refl
-    spread false false s o = refl
+each_more k old new items item set before after i v = grind (arith, list_any-append)
 
 -- ---- where all items have the set
 
 nothing_each : (b s a o : Bool) → (s ≡ true → a ≡ true) → (a ≡ true → o ≡ true) → o ≡ ((b && s) || o)
-nothing_each b s a true h up = sym (or_right (b && s) true refl)
-nothing_each true true a false h up = up (h refl)
-nothing_each true false a false h up = refl
-nothing_each false s a false h up = refl
+nothing_each b s a o h up = grind (arith, or_right)
 
 pub covered_each : {limit : ℕ} (k : Normal) (items : List Name) (set : Versions) → IsNormal limit k → Covers (vector_has k.all) set → AreSame (normal_known k) (with_each (normal_known k) items set)
 covered_each k items set normal covers i v = nothing_each (list_any (λ item. name_eq item i) items) (set v) (vector_has k.all v) (normal_known k i v) (covers v) (covers_all k i v normal)

@@ -1,6 +1,4 @@
-use Rattle.std.proofs.Common.{◌≡◌, ◌⊎◌, true, false, List, [], ◌∷◌, ◌++◌, Some, length, All, refl, ap, sym, ◌∙◌, inl, inr}
-use Rattle.std.specs.declared.cmp.Ordering.TheVariants.{Less, Equal, Greater}
-use Rattle.std.specs.Ordering.{ordering_reverse}
+use Rattle.std.proofs.Common.{◌≡◌, ◌⊎◌, true, false, List, [], ◌∷◌, ◌++◌, Some, length, All, refl, ap, ◌∙◌, inl, inr, arith}
 use Rattle.std.specs.Option.{unwrap_or, is_some}
 use Rattle.std.specs.List.{list_any}
 use Rattle.std.specs.Map.{lookup, values_of}
@@ -34,16 +32,7 @@ listed_of-values (e ∷ es) = ap (λ (cs : List (List AuthorColumn)). e.1 ∷ cs
 -- an entry is put where the item has its place
 pub listed_of-insert : (new : Listed) (es : List (Name × List AuthorColumn)) → listed_of (insert_entry name_cmp es new.item new.vector) ≡ placed new (listed_of es)
 listed_of-insert new [] = refl
-listed_of-insert new (e ∷ es) = go (name_cases new.item e.0 (name_cmp new.item e.0) refl) (listed_of-insert new es)
-  where
-    go : (name_cmp new.item e.0 ≡ Less) ⊎ ((new.item ≡ e.0) ⊎ (name_cmp e.0 new.item ≡ Less)) → listed_of (insert_entry name_cmp es new.item new.vector) ≡ placed new (listed_of es) → listed_of (insert_entry name_cmp (e ∷ es) new.item new.vector) ≡ placed new (listed_of (e ∷ es))
-    go (inl less) rest = rw (less, not_lt-more e.0 new.item less, other_test e.0 new.item less) refl
-    go (inr (inl same)) rest =
-        let tied : name_cmp new.item e.0 ≡ Equal = ap (λ (i : Name). name_cmp new.item i) (sym same) ∙ tied_itself names_total new.item in
-        rw (tied, not_lt-same e.0 new.item (sym same), same_test e.0 new.item (sym same)) (ap (λ (i : Name). listed_as i new.vector ∷ listed_of es) (sym same))
-    go (inr (inr more)) rest =
-        let over : name_cmp new.item e.0 ≡ Greater = names_total.antisymm new.item e.0 ∙ ap ordering_reverse more in
-        rw (over, more) (ap (λ (xs : List Listed). listed_as e.0 e.1 ∷ xs) rest)
+listed_of-insert new (e ∷ es) = grind (arith, listed_of-insert new es, name_cases, not_lt-more, other_test, tied_itself, names_total, not_lt-same, same_test)
 
 -- behind lower ones an item stands last
 pub placed-last : (new : Listed) (xs : List Listed) → All (λ y. IsBefore y new) xs → placed new xs ≡ xs ++ new ∷ []

@@ -1,11 +1,10 @@
-use Rattle.std.proofs.Common.{ℕ, ◌≡◌, Bool, ap, sym, ◌∙◌, List}
+use Rattle.std.proofs.Common.{ℕ, ◌≡◌, Bool, ap, ◌∙◌, List, arith}
 use Rattle.std.specs.Bool.{Decides}
 use Rattle.std.specs.Cmp.Lexicographic.{pointwise, pointwise_decides}
 use Rattle.std.specs.Cmp.Derive.{both_true}
 use Rattle.std.specs.Prelude.{◌↔◌, IsTrue}
 use Rattle.std.proofs.lemmas.Bool.{and_parts}
 use Rattle.std.proofs.lemmas.Bool.Decides.{same_from_decides}
-use Rattle.mr_version.specs.Name.{Name, name_eq}
 use Rattle.mr_forms.specs.Known.{AreSame}
 use Rattle.mr_forms.proofs.PairLemmas.{name_eq-itself}
 use Rattle.mr_concise.specs.declared.vector.AuthorColumn.{AuthorColumn}
@@ -17,12 +16,7 @@ use Rattle.mr_itemset.specs.Equal.{listed_eq, normal_eq}
 use Rattle.mr_itemset.proofs.NormalLemmas.{same_name, normal_unique}
 
 listed_Decides : (a b : Listed) → Decides (listed_eq a b) (a ≡ b)
-listed_Decides a b = (
-  λ t.
-      let p = and_parts (name_eq a.item b.item) (vector_eq a.vector b.vector) t in
-      ap (λ (i : Name). record { item = i; vector = a.vector }) (same_name a.item b.item p.0) ∙ ap (λ (c : List AuthorColumn). record { item = b.item; vector = c }) ((vectors_Decides a.vector b.vector).0 p.1),
-  λ e. both_true (ap (λ (z : Listed). name_eq a.item z.item) (sym e) ∙ name_eq-itself a.item) ((vectors_Decides a.vector b.vector).1 (ap (λ (z : Listed). z.vector) e)),
-)
+listed_Decides a b = grind (arith, and_parts, same_name, vectors_Decides, name_eq-itself)
 
 -- the test part by part decides whether the same is known
 pub normals_Decide : {limit : ℕ} (a b : Normal) → IsNormal limit a → IsNormal limit b → Decides (normal_eq a b) (AreSame (normal_known a) (normal_known b))

@@ -27,13 +27,7 @@ use Rattle.mr_itemset.proofs.ColumnsLemmas.{united-vector, united-has}
 -- ---- the listed items with the added versions
 
 grown_none : (set : Versions) (all : List AuthorColumn) → IsGrown set all [] []
-grown_none set all = record {
-  rising = λ i j d less within. absurd (omega arith);
-  more = All-nil (HasMore all);
-  few = omega arith;
-  from_old = λ y there. let within = there.1 in absurd (omega arith);
-  of_old = λ x there. let within = there.1 in absurd (omega arith);
-}
+grown_none set all = grind (arith, All-nil)
 
 -- an item before the others that has gained the set
 grown_first : (set : Versions) (all : List AuthorColumn) (x y : Listed) (old new : List Listed) → All (IsBefore x) old → HasGained set x y → HasMore all y → IsGrown set all old new → IsGrown set all (x ∷ old) (y ∷ new)
@@ -77,8 +71,7 @@ grown_gone set all x old new same grown = record {
     went z (inr there) = grown.of_old z there
 
 covers_both : (set : Versions) (old x all : Bool) (s : Bool) → all ≡ (s || old) → (old ≡ true → x ≡ true) → all ≡ true → (s || x) ≡ true
-covers_both set old x all true e covers has = refl
-covers_both set old x all false e covers has = covers (sym e ∙ has)
+covers_both set old x all s e covers has = grind arith
 
 gained_is : (added all before : List AuthorColumn) (xs : List Listed) → IsVectorFrom 0 added → IsVectorFrom 0 all → IsSame (vector_has all) (both (vector_has added) (vector_has before)) → AllPairs IsBefore xs → All (HasMore before) xs → All (λ x. Fits x.vector added) xs → IsGrown (vector_has added) all xs (gained added all xs)
 gained_is added all before [] va vall same rising more fits = grown_none (vector_has added) all

@@ -34,11 +34,7 @@ use Rattle.mr_itemset.proofs.PieceLemmas.{items_in, joined, joined_has, has_join
 -- what stands behind a lower item is above it
 behind : (x : Name) (xs : List Name) (i : Name) → AllByRecursion (λ z. name_cmp x z ≡ Less) xs → list_any (name_eq i) xs ≡ true → name_cmp x i ≡ Less
 behind x [] i above any = absurd (false≢true any)
-behind x (z ∷ zs) i above any = go (or_cases (name_eq i z) (list_any (name_eq i) zs) any) (behind x zs i above.1)
-  where
-    go : (name_eq i z ≡ true) ⊎ (list_any (name_eq i) zs ≡ true) → (list_any (name_eq i) zs ≡ true → name_cmp x i ≡ Less) → name_cmp x i ≡ Less
-    go (inl here) rest = rw (same_name i z here) above.0
-    go (inr there) rest = rest there
+behind x (z ∷ zs) i above any = grind (arith, behind x zs i above.1, or_cases, same_name)
 
 not_twice : (a b : Name) → name_cmp a b ≡ Less → name_cmp b a ≡ Less → ⊥
 not_twice a b ab ba = let round = names_total.trans a b a ab ba in let same = tied_itself names_total a in cc
@@ -77,8 +73,7 @@ any_both [] i = refl
 any_both (j ∷ js) i = rw (name_eq-symmetric j i, any_both js i) refl
 
 or_no : (b : Bool) → (b || false) ≡ b
-or_no true = refl
-or_no false = refl
+or_no b = grind arith
 
 -- parts that lack the item say nothing of it
 said_none : (ps : List Part) (i v : Name) → list_any (λ p. is_of p.items i) ps ≡ false → said ps i v ≡ false
@@ -143,8 +138,7 @@ abbrev nth : ℕ → Name
 nth n = record { author = 0; counter = n }
 
 free_item : (items : Option (List Name)) (n : ℕ) → ComesFirst None items → top_of items < n → is_of items (nth n) ≡ false
-free_item None n listed above = absurd listed
-free_item (Some items) n listed above = any_both items (nth n) ∙ free-above n items above
+free_item items n listed above = grind (arith, any_both, free-above)
 
 free_parts : (ps : List Part) (n : ℕ) → All (λ p. ComesFirst None p.items) ps → tops ps < n → list_any (λ p. is_of p.items (nth n)) ps ≡ false
 free_parts [] n listed above = refl
@@ -204,9 +198,7 @@ abbrev has_vector : Normal → List AuthorColumn → Part → Bool
 has_vector k vector p = vector_eq (vector_of k (first_of p.items)) vector
 
 first_is_of : (items : Option (List Name)) → IfSome items AreListable → ComesFirst None items → is_of items (first_of items) ≡ true
-first_is_of None listable first = absurd first
-first_is_of (Some []) listable first = absurd (listable.some refl)
-first_is_of (Some (i ∷ is)) listable first = rw (name_eq-itself i) refl
+first_is_of items listable first = grind (arith, name_eq-itself)
 
 first_known : (k : Normal) (all : Versions) (ps : List Part) → Facts k all ps → (q : Part) → Contains ps q → vector_has (vector_of k (first_of q.items)) ≡ q.versions
 first_known k all ps facts q has =
@@ -221,9 +213,7 @@ says_vector k all ps facts vector q has ok e =
     (vectors_Decides (vector_of k (first_of q.items)) vector).1 (vectors_same (vector_of k (first_of q.items)) vector (facts.vectors (first_of q.items)) ok (λ v. ap (λ (s : Versions). s v) (first_known k all ps facts q has ∙ e)))
 
 filled : (a b : Option (List Name)) → IsFullBefore MAX_ITEMS a b → FillsBefore MAX_ITEMS (items_in a) (items_in b)
-filled None b full = absurd full
-filled (Some a) None full = absurd full
-filled (Some a) (Some b) full = full
+filled a b full = grind arith
 
 in_turn : (k : Normal) (all : Versions) (ps : List Part) → Facts k all ps → (vector : List AuthorColumn) → AllPairs (Turn MAX_ITEMS (has_vector k vector)) ps
 in_turn k all ps facts vector i j d less within mine yours =
@@ -250,8 +240,7 @@ rising_in k all ps facts n d within = go (get_or ps n d).items (facts.listable n
     go (Some items) listable = listable.rising
 
 among_items : (items : Option (List Name)) (i : Name) → ComesFirst None items → is_of items i ≡ list_any (name_eq i) (items_in items)
-among_items None i first = absurd first
-among_items (Some items) i first = any_both items i
+among_items items i first = grind (arith, any_both)
 
 -- together they have all items of which just these versions are known
 all_with : (k : Normal) (all : Versions) (ps : List Part) → Facts k all ps → (vector : List AuthorColumn) → IsVectorFrom 0 vector → vector_has vector ≢ vector_has k.all → AreAllWith (normal_known k) (vector_has vector) (joined (has_vector k vector) ps)
@@ -296,8 +285,7 @@ listed_is_part k all ps facts q has = go q.items (All-contains (λ p. IfSome p.i
 
 -- all items with the versions, in rising order, are one list
 all_with-unique : (pairs : Pairs) (versions : Versions) (a b : List Name) → AreAllWith pairs versions a → AreAllWith pairs versions b → a ≡ b
-all_with-unique pairs versions a b of_a of_b =
-    names_unique a b of_a.rising of_b.rising (λ i any. (of_b.all i).1 ((of_a.all i).0 any)) (λ i any. (of_a.all i).1 ((of_b.all i).0 any))
+all_with-unique pairs versions a b of_a of_b = grind (arith, names_unique)
 
 -- a part that the form has for the knowledge is one of these
 part_is_listed : (k : Normal) (all : Versions) (ps : List Part) → Facts k all ps → (p : Part) → IsNormalPart k p → Contains (first_part all ∷ ps) p

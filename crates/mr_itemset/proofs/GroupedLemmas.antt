@@ -65,18 +65,13 @@ sorted_more (y ∷ ys) x sorted below = (
 )
 
 first_last : (g h : List Name) (x : Name) → ComesFirst (Some g) (Some h) → ComesFirst (Some g) (Some (h ++ x ∷ []))
-first_last [] h x before = before
-first_last (i ∷ is) [] x before = absurd before
-first_last (i ∷ is) (j ∷ js) x before = before
+first_last g h x before = grind arith
 
 first_stays : (g h : List Name) (x : Name) → ComesFirst (Some g) (Some h) → ComesFirst (Some (g ++ x ∷ [])) (Some h)
-first_stays [] h x before = absurd before
-first_stays (i ∷ is) [] x before = before
-first_stays (i ∷ is) (j ∷ js) x before = before
+first_stays g h x before = grind arith
 
 first_before : (g : List Name) (x : Name) → g ≢ [] → All (λ i. name_cmp i x ≡ Less) g → ComesFirst (Some g) (Some (x ∷ []))
-first_before [] x some below = some refl
-first_before (i ∷ is) x some below = All-head (λ j. name_cmp j x ≡ Less) i is below
+first_before g x some below = grind (arith, All-head)
 
 -- a lower item is not this one
 not_among : (g : List Name) (x : Name) → All (λ i. name_cmp i x ≡ Less) g → list_any (λ item. name_eq item x) g ≡ false
@@ -84,18 +79,10 @@ not_among [] x below = refl
 not_among (i ∷ is) x below = rw (All-head (λ j. name_cmp j x ≡ Less) i is below) (not_among is x (All-tail (λ j. name_cmp j x ≡ Less) i is below))
 
 is_of-push : (g : List Name) (x i : Name) → is_of (Some (g ++ x ∷ [])) i ≡ (is_of (Some g) i || name_eq x i)
-is_of-push g x i = list_any-append (λ item. name_eq item i) g (x ∷ []) ∙ ap (λ b. is_of (Some g) i || b) (or_no (name_eq x i))
-  where
-    or_no : (b : Bool) → (b || false) ≡ b
-    or_no true = refl
-    or_no false = refl
+is_of-push g x i = grind (arith, list_any-append)
 
 apart_last : (g h : List Name) (x : Name) → All (λ i. name_cmp i x ≡ Less) g → AreApart (Some g) (Some h) → AreApart (Some g) (Some (h ++ x ∷ []))
-apart_last g h x below apart i among = is_of-push h x i ∙ go (cases_Bool (name_eq x i))
-  where
-    go : (name_eq x i ≡ true) ⊎ (name_eq x i ≡ false) → (is_of (Some h) i || name_eq x i) ≡ false
-    go (inl same) = absurd (false≢true (sym (not_among g x below) ∙ ap (λ (j : Name). is_of (Some g) j) (same_name x i same) ∙ among))
-    go (inr other) = rw (other, apart i among) refl
+apart_last g h x below apart i among = grind (arith, is_of-push, cases_Bool, false≢true, not_among, same_name)
 
 apart_first : (g h : List Name) (x : Name) → All (λ i. name_cmp i x ≡ Less) h → AreApart (Some g) (Some h) → AreApart (Some (g ++ x ∷ [])) (Some h)
 apart_first g h x below apart i among = go (or_cases (is_of (Some g) i) (name_eq x i) (sym (is_of-push g x i) ∙ among))
@@ -185,41 +172,21 @@ all_groups all most gs (x ∷ xs) room are rising more below =
     (λ k d within. next_below most gs x (get_or xs k d) (AllPairs-head IsBefore x xs rising k d within) (All-head (λ y. All (EndsBefore y.item) gs) x xs below))
 
 pub no_groups : (all : List AuthorColumn) (most : ℕ) → AreGroups all most []
-no_groups all most = record {
-  some = All-nil (λ g. g.items ≢ []);
-  few = All-nil (λ g. length g.items ≤ most);
-  rising = All-nil (λ g. IsStrictlySortedBy name_cmp g.items);
-  greater = All-nil (λ g. (item : Name) → HasMore all (record { item = item; vector = g.vector }));
-  by_first = λ i j d less within. absurd (omega arith);
-  pieces = λ i j d less within. absurd (omega arith);
-  apart = λ i j d less within. absurd (omega arith);
-}
+no_groups all most = grind (arith, All-nil)
 
 -- ---- what the groups say
 
 with_or : (a b c r : Bool) → (((a || b) && c) || r) ≡ ((b && c) || ((a && c) || r))
-with_or true true true r = refl
-with_or true true false r = refl
-with_or true false true r = refl
-with_or true false false r = refl
-with_or false true true r = refl
-with_or false true false r = refl
-with_or false false c r = refl
+with_or a b c r = grind arith
 
 or_turn : (p q r : Bool) → (p || (q || r)) ≡ (q || (p || r))
-or_turn true true r = refl
-or_turn true false r = refl
-or_turn false q r = refl
+or_turn p q r = grind arith
 
 or_join : (s q r : Bool) → (s || (q || r)) ≡ ((q || s) || r)
-or_join true true r = refl
-or_join true false r = refl
-or_join false true r = refl
-or_join false false r = refl
+or_join s q r = grind arith
 
 one_says : (a b : Bool) → (((a || false) && b) || false) ≡ ((a && b) || false)
-one_says true b = refl
-one_says false b = refl
+one_says a b = grind arith
 
 said_grouped : (most : ℕ) (gs : List Alike) (x : Listed) (i v : Name) → said (map part_of_group (grouped most gs x)) i v ≡ ((name_eq x.item i && vector_has x.vector v) || said (map part_of_group gs) i v)
 said_grouped most [] x i v = one_says (name_eq x.item i) (vector_has x.vector v)

@@ -1,9 +1,9 @@
 -- What is told of items, grouped one after the other.
-use Rattle.std.proofs.Common.{◌≡◌, ◌⊎◌, List, [], ◌∷◌, ◌++◌, ℕ, refl, ap, sym, inl, inr, ◌∙◌, subst}
+use Rattle.std.proofs.Common.{◌≡◌, List, [], ◌∷◌, ◌++◌, ℕ, refl, inl, inr}
 use Rattle.mr_concise.specs.declared.vector.AuthorColumn.{AuthorColumn}
 use Rattle.mr_forms.specs.declared.fragment.TheConstants.{MAX_ITEMS}
 use Rattle.mr_itemset.specs.declared.knowledge.Listed.{Listed}
-use Rattle.mr_itemset.specs.declared.moved.Grouping.{Grouping}
+use Rattle.mr_itemset.specs.declared.groups.Grouping.{Grouping}
 use Rattle.mr_itemset.specs.Groups.{Alike, grouped, all_grouped}
 use Rattle.mr_itemset.specs.inner.Grouping.{GroupsTold, IsGrouping}
 use Rattle.mr_itemset.specs.inner.Told.{AreToldItems}

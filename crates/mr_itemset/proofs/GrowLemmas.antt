@@ -32,20 +32,7 @@ gains_pushed set all x old vector before vector_ok has covers more = record {
 
 -- where all items have what is added and what the item has, it is not listed
 pub gains_nothing : (set : Versions) (all : List AuthorColumn) (x : Listed) (old : List Listed) → Covers (vector_has all) set → Covers (vector_has all) (vector_has x.vector) → ((v : Name) → vector_has all v ≡ true → both set (vector_has x.vector) v ≡ true) → GainsListed set all x old old
-gains_nothing set all x old added mine covers = record {
-  rising = λ rising. rising;
-  more = λ each. each;
-  few = omega arith;
-  items = λ y there. inl there;
-  stays = λ y there. there;
-  gains = inr (λ v. same (vector_has all v) (set v) (vector_has x.vector v) (covers v) (added v) (mine v));
-}
-  where
-    same : (a s y : Bool) → (a ≡ true → (s || y) ≡ true) → (s ≡ true → a ≡ true) → (y ≡ true → a ≡ true) → a ≡ (s || y)
-    same true s y has from_set from_mine = sym (has refl)
-    same false true y has from_set from_mine = from_set refl
-    same false false true has from_set from_mine = from_mine refl
-    same false false false has from_set from_mine = refl
+gains_nothing set all x old added mine covers = grind arith
 
 -- what all items have and the item has is what is added and the item has
 pub united_gained : (set : Versions) (all vector : List AuthorColumn) (x : Listed) → Covers (vector_has all) set → ((v : Name) → vector_has all v ≡ true → both set (vector_has x.vector) v ≡ true) → IsSame (vector_has vector) (both (vector_has all) (vector_has x.vector)) → IsSame (vector_has vector) (both set (vector_has x.vector))
@@ -58,8 +45,7 @@ united_gained set all vector x added covers has v = has v ∙ same (vector_has a
 
 -- what all items lack of an item they lack of it with the set too
 pub lacks_grown : (set : Versions) (all vector : List AuthorColumn) (x : Listed) → Lacks (vector_has all) (vector_has x.vector) → IsSame (vector_has vector) (both set (vector_has x.vector)) → IsSame (vector_has vector) (vector_has all) → ⊥
-lacks_grown set all vector x lacks has same =
-    false≢true (sym lacks.is_out ∙ sym (same lacks.version) ∙ has lacks.version ∙ or_right (set lacks.version) (vector_has x.vector lacks.version) lacks.is_in)
+lacks_grown set all vector x lacks has same = grind (arith, false≢true, or_right)
 
 -- one item more has grown
 pub grown_more : (set : Versions) (all : List AuthorColumn) (old new next : List Listed) (x : Listed) → IsGrown set all old new → GainsListed set all x new next → IsGrown set all (old ++ x ∷ []) next
@@ -128,8 +114,4 @@ grown_known set k new normal grown all i v = go (vector_in-cases new.all new.lis
 
 -- what all have then, the item has with what is added
 pub covers_grown : (set : Versions) (all before : List AuthorColumn) (x : Listed) → IsSame (vector_has all) (both set (vector_has before)) → HasMore before x → (v : Name) → vector_has all v ≡ true → both set (vector_has x.vector) v ≡ true
-covers_grown set all before x has more v there = within (set v) (vector_has before v) (vector_has x.vector v) (more.covers v) (sym (has v) ∙ there)
-  where
-    within : (s b y : Bool) → (b ≡ true → y ≡ true) → (s || b) ≡ true → (s || y) ≡ true
-    within true b y covers is_in = refl
-    within false b y covers is_in = covers is_in
+covers_grown set all before x has more v there = grind arith

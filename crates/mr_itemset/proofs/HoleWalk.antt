@@ -1,5 +1,5 @@
 -- Holes by where they begin, a counter in one of them, and an author's column among others.
-use Rattle.std.proofs.Common.{◌≡◌, ◌<◌, ◌≤◌, ◌+◌, ◌-◌, ◌&&◌, ◌||◌, ℕ, zero, suc, Bool, true, false, not, nat_le, List, [], ◌∷◌, ◌++◌, length, get_or, drop, Contains, refl, ap, sym, ◌∙◌, arith, inl, inr}
+use Rattle.std.proofs.Common.{◌≡◌, ◌<◌, ◌≤◌, ◌+◌, ◌-◌, ◌&&◌, ◌||◌, ℕ, zero, suc, Bool, true, false, not, nat_le, List, [], ◌∷◌, ◌++◌, length, get_or, drop, Contains, refl, arith}
 use Rattle.std.specs.Prelude.{min, max}
 use Rattle.std.specs.List.{list_any}
 use Rattle.std.specs.List.Sorted.{IsNonDecreasingBy}
@@ -33,8 +33,7 @@ hole-ordered low (h ∷ hs) end zero d r l = let a = r.1.0 in omega arith
 hole-ordered low (h ∷ hs) end (suc j) d r l = hole-ordered (h.last + 1) hs end j d r.1.1 (omega arith)
 
 or-right : (b : Bool) → (b || true) ≡ true
-or-right true = refl
-or-right false = refl
+or-right b = grind arith
 
 in-hole : (hs : List Hole) (j c : ℕ) (d : Hole) → j < length hs → (get_or hs j d).first ≤ c → c ≤ (get_or hs j d).last → list_any (λ hole. hole_has hole c) hs ≡ true
 in-hole [] j c d l a b = absurd (omega arith)
@@ -42,8 +41,7 @@ in-hole (h ∷ hs) zero c d l a b = rw (le-leb h.first c a, le-leb c h.last b) r
 in-hole (h ∷ hs) (suc j) c d l a b = rw (in-hole hs j c d (omega arith) a b) (or-right (hole_has h c))
 
 and-not-true : (b : Bool) → (b && not true) ≡ false
-and-not-true true = refl
-and-not-true false = refl
+and-not-true b = grind arith
 
 -- a counter in a hole is not covered
 hole-lacks : (column : Extent) (j c : ℕ) (d : Hole) → j < length column.holes → (get_or column.holes j d).first ≤ c → c ≤ (get_or column.holes j d).last → column_has column c ≡ false
@@ -51,39 +49,17 @@ hole-lacks column j c d l a b = rw (in-hole column.holes j c d l a b) (and-not-t
 
 -- nor is one above the bound
 pub above_lacks : (column : Extent) (c : ℕ) → column.upto < c → column_has column c ≡ false
-above_lacks column c above = rw (lt-leb c column.upto above) (out (nat_le 1 c) (list_any (λ hole. hole_has hole c) column.holes))
-  where
-    out : (b x : Bool) → ((b && false) && not x) ≡ false
-    out true x = refl
-    out false x = refl
+above_lacks column c above = grind (arith, lt-leb, nat_le)
 
 -- the last counter of a hole, but before an end, and no lower than one that is not covered
 pub last_lacks : (column : Extent) (hole : Hole) (first end r : ℕ) → IsColumn column → Contains column.holes hole → hole.first < end → column_has column first ≡ false → r ≡ max (min hole.last (end - 1)) first → column_has column r ≡ false
-last_lacks column hole first end r normal there begun lacks is = elim (cases_lt (min hole.last (end - 1)) first) [
-  | inl lower ↦ let same : r ≡ first = omega arith in ap (column_has column) same ∙ lacks
-  | inr higher ↦
-      let ordered : (get_or column.holes there.0 hole).first ≤ (get_or column.holes there.0 hole).last = hole-ordered 0 column.holes (column.upto + 1) there.0 hole normal.apart there.1 in
-      let first_is : (get_or column.holes there.0 hole).first ≡ hole.first = ap (λ (h : Hole). h.first) there.2 in
-      let last_is : (get_or column.holes there.0 hole).last ≡ hole.last = ap (λ (h : Hole). h.last) there.2 in
-      let from : (get_or column.holes there.0 hole).first ≤ r = omega arith in
-      let to : r ≤ (get_or column.holes there.0 hole).last = omega arith in
-      hole-lacks column there.0 r hole there.1 from to
-]
+last_lacks column hole first end r normal there begun lacks is = grind (arith, cases_lt, hole-ordered, hole-lacks)
 
 -- ---- columns that begin alike
 
 -- behind a hole that two columns share they may differ
 behind_same : (h : Hole) (xs ys : List ℕ) (c : ℕ) → (h.last + 1 ≤ c → is_on true xs c ≡ is_on true ys c) → is_on true (h.first ∷ (h.last + 1) ∷ xs) c ≡ is_on true (h.first ∷ (h.last + 1) ∷ ys) c
-behind_same h xs ys c rest = elim (cases_lt c h.first) [
-  | inl before ↦ is_on-stay true h.first ((h.last + 1) ∷ xs) c before ∙ sym (is_on-stay true h.first ((h.last + 1) ∷ ys) c before)
-  | inr from ↦ is_on-turn true h.first ((h.last + 1) ∷ xs) c from ∙ (inside ∙ sym (is_on-turn true h.first ((h.last + 1) ∷ ys) c from))
-]
-  where
-    inside : is_on false ((h.last + 1) ∷ xs) c ≡ is_on false ((h.last + 1) ∷ ys) c
-    inside = elim (cases_lt c (h.last + 1)) [
-      | inl within ↦ is_on-stay false (h.last + 1) xs c within ∙ sym (is_on-stay false (h.last + 1) ys c within)
-      | inr past ↦ is_on-turn false (h.last + 1) xs c past ∙ (rest past ∙ sym (is_on-turn false (h.last + 1) ys c past))
-    ]
+behind_same h xs ys c rest = grind (arith, cases_lt, is_on-stay, is_on-turn)
 
 -- up to the last of the holes that they share they are the same
 alike_to : (hs gs : List Hole) (xs ys : List ℕ) (n : ℕ) (d : Hole) (c : ℕ) → n < length hs → n < length gs → ((k : ℕ) (e : Hole) → k ≤ n → get_or hs k e ≡ get_or gs k e) → c ≤ (get_or hs n d).last
@@ -98,26 +74,20 @@ alike_to (h ∷ hs) (g ∷ gs) xs ys (suc n) d c in_hs in_gs same up =
 -- so they have the same counters up to there
 pub columns_alike : (all own : Extent) (n : ℕ) (d : Hole) (c : ℕ) → IsColumn all → IsColumn own → n < length all.holes → n < length own.holes → ((k : ℕ) (e : Hole) → k ≤ n → get_or all.holes k e ≡ get_or own.holes k e) → c ≤ (get_or all.holes n d).last
     → column_has all c ≡ column_has own c
-columns_alike all own n d zero of_all of_own in_all in_own same up = refl
-columns_alike all own n d (suc c) of_all of_own in_all in_own same up =
-    column_has-edges all (suc c) of_all.apart (omega arith)
-    ∙ (alike_to all.holes own.holes ((all.upto + 1) ∷ []) ((own.upto + 1) ∷ []) n d (suc c) in_all in_own same up
-    ∙ sym (column_has-edges own (suc c) of_own.apart (omega arith)))
+columns_alike all own n d c of_all of_own in_all in_own same up = grind (arith, column_has-edges, alike_to)
 
 -- ---- an author's column
 
 -- it is not the column of another author
 pub column_passed : (xs : List AuthorColumn) (i author : ℕ) (x : AuthorColumn) → i < length xs → x ≡ get_or xs i x → (x.author ≡ author → ⊥) → column_of (drop i xs) author ≡ column_of (drop (suc i) xs) author
 column_passed [] i author x within is other = absurd (omega arith)
-column_passed (y ∷ ys) zero author x within is other =
-    rw (ne_eqb y.author author (λ same. other (ap (λ (z : AuthorColumn). z.author) is ∙ same))) refl
+column_passed (y ∷ ys) zero author x within is other = grind (arith, ne_eqb)
 column_passed (y ∷ ys) (suc i) author x within is other = column_passed ys i author x (omega arith) is other
 
 -- it is that of the author
 pub column_found : (xs : List AuthorColumn) (i author : ℕ) (x : AuthorColumn) → i < length xs → x ≡ get_or xs i x → x.author ≡ author → column_of (drop i xs) author ≡ x.column
 column_found [] i author x within is same = absurd (omega arith)
-column_found (y ∷ ys) zero author x within is same =
-    rw (eq-eqb y.author author (ap (λ (z : AuthorColumn). z.author) (sym is) ∙ same)) (ap (λ (z : AuthorColumn). z.column) (sym is))
+column_found (y ∷ ys) zero author x within is same = grind (arith, eq-eqb)
 column_found (y ∷ ys) (suc i) author x within is same = column_found ys i author x (omega arith) is same
 
 -- behind all of them there is none
@@ -131,7 +101,4 @@ column_none (y ∷ ys) (suc i) author past = column_none ys i author (omega arit
 
 -- it goes on past a counter that the item has
 pub row_end : (own : ℕ → Bool) (first end : ℕ) → own first ≡ true → IsNextOut own first end → first < end
-row_end own first end has out = let above = out.above in elim (cases_eq first end) [
-  | inl same ↦ absurd (false≢true (sym out.is_out ∙ ap own (sym same) ∙ has))
-  | inr other ↦ omega arith
-]
+row_end own first end has out = grind (arith, cases_eq, false≢true)

@@ -1,5 +1,5 @@
 -- A column as it has to be has as many holes as its counters say.
-use Rattle.std.proofs.Common.{◌≡◌, ◌<◌, ◌≤◌, ◌+◌, ◌&&◌, ◌⊎◌, Bool, true, false, not, if◌then◌else◌, ℕ, zero, suc, nat_le, nat_lt, List, [], ◌∷◌, ◌++◌, length, refl, ap, sym, ◌∙◌, arith, inl, inr}
+use Rattle.std.proofs.Common.{◌≡◌, ◌<◌, ◌≤◌, ◌+◌, ◌&&◌, ◌⊎◌, Bool, false, not, if◌then◌else◌, ℕ, zero, suc, nat_le, nat_lt, List, [], ◌∷◌, ◌++◌, length, refl, ap, sym, ◌∙◌, arith, inl, inr}
 use Rattle.std.specs.List.{list_any}
 use Rattle.std.proofs.lemmas.Bool.{cases_lt, le-leb, lt-leb, lt-ltb, le-ltb}
 use Rattle.mr_concise.specs.declared.column.Hole.{Hole}
@@ -42,12 +42,10 @@ all_ended low upto (h ∷ hs) r =
     rw (lt-ltb h.last upto before) (ap (λ (n : ℕ). suc n) (all_ended (h.last + 1) upto hs r.1.1))
 
 if-none : (b : Bool) (n : ℕ) → (if b && false then suc n else n) ≡ n
-if-none true n = refl
-if-none false n = refl
+if-none b n = grind arith
 
 if-suc : (b : Bool) (n : ℕ) → (if b then suc (suc n) else suc n) ≡ suc (if b then suc n else n)
-if-suc true n = refl
-if-suc false n = refl
+if-suc b n = grind arith
 
 -- Whether one counter more ends a hole: it is in none, and the one before it is in one.
 abbrev OneMore : ℕ → List Hole → Type 0
@@ -56,54 +54,20 @@ OneMore n hs = (if not (in_holes hs (suc n)) && in_holes hs n then suc (ended n 
 -- where the counter stands to the first hole
 module _ (e n : ℕ) (h : Hole) (hs : List Hole) (ordered : h.first < h.last + 1) (rest : IsRising (h.last + 1) (hole_edges hs ++ e ∷ [])) where
   one_before : n < h.first → OneMore n (h ∷ hs)
-  one_before below =
-      let late : n ≤ h.last = omega arith in
-      let later : suc n ≤ h.last = omega arith in
-      rw (
-        lt-leb h.first n below,
-        none_before (h.last + 1) e n hs rest (omega arith),
-        le-ltb h.last n late,
-        le-ltb h.last (suc n) later,
-        none_ended (h.last + 1) e n hs rest (omega arith),
-        none_ended (h.last + 1) e (suc n) hs rest (omega arith),
-      ) (if-none (not (in_holes (h ∷ hs) (suc n))) 0)
+  one_before below = grind (arith, lt-leb, none_before, le-ltb, none_ended, if-none)
 
   one_inside : h.first ≤ n → n < h.last → OneMore n (h ∷ hs)
-  one_inside from inside =
-      let late : n ≤ h.last = omega arith in
-      let later : suc n ≤ h.last = omega arith in
-      let behind : h.first ≤ suc n = omega arith in
-      rw (
-        le-leb h.first (suc n) behind,
-        le-leb (suc n) h.last later,
-        le-ltb h.last n late,
-        le-ltb h.last (suc n) later,
-        none_ended (h.last + 1) e n hs rest (omega arith),
-        none_ended (h.last + 1) e (suc n) hs rest (omega arith),
-      ) refl
+  one_inside from inside = grind (arith, le-leb, le-ltb, none_ended)
 
   -- from its last counter on, the next counter is past it
   one_over : h.first ≤ n → h.last ≤ n → (if not (in_holes hs (suc n)) && in_holes (h ∷ hs) n then suc (ended n (h ∷ hs)) else ended n (h ∷ hs)) ≡ suc (ended (suc n) hs) → OneMore n (h ∷ hs)
-  one_over from to more =
-      let behind : h.first ≤ suc n = omega arith in
-      let over : h.last < suc n = omega arith in
-      rw (le-leb h.first (suc n) behind, lt-leb (suc n) h.last over, lt-ltb h.last (suc n) over) more
+  one_over from to more = grind (arith, le-leb, lt-leb, lt-ltb)
 
   one_at : h.first ≤ n → h.last ≤ n → n ≤ h.last → OneMore n (h ∷ hs)
-  one_at from to at = one_over from to (rw (
-    le-leb h.first n from,
-    le-leb n h.last at,
-    le-ltb h.last n at,
-    none_before (h.last + 1) e (suc n) hs rest (omega arith),
-    none_ended (h.last + 1) e n hs rest (omega arith),
-    none_ended (h.last + 1) e (suc n) hs rest (omega arith),
-  ) refl)
+  one_at from to at = grind (arith, one_over, le-leb, le-ltb, none_before, none_ended)
 
   one_past : h.last < n → OneMore n hs → OneMore n (h ∷ hs)
-  one_past past more =
-      let from : h.first ≤ n = omega arith in
-      one_over from (omega arith)
-      (rw (le-leb h.first n from, lt-leb n h.last past, lt-ltb h.last n past) (if-suc (not (in_holes hs (suc n)) && in_holes hs n) (ended n hs) ∙ ap (λ (m : ℕ). suc m) more))
+  one_past past more = grind (arith, one_over, le-leb, lt-leb, lt-ltb, if-suc)
 
 one_more : (low e n : ℕ) (hs : List Hole) → IsRising low (hole_edges hs ++ e ∷ []) → OneMore n hs
 one_more low e n [] r = refl
@@ -118,22 +82,11 @@ one_more low e n (h ∷ hs) r = go (cases_lt n h.first) (cases_lt n h.last) (cas
 module _ (column : Extent) (apart : IsRising 0 (edges column)) where
   -- a counter that is missing is in a hole
   missing : (c : ℕ) → c ≤ column.upto → (nat_le 1 c && not (column_has column c)) ≡ in_holes column.holes c
-  missing zero le = sym (none_before 0 (column.upto + 1) 0 column.holes apart (omega arith))
-  missing (suc c) le =
-      let from : 1 ≤ suc c = omega arith in
-      rw (le-leb (suc c) column.upto le, le-leb 1 (suc c) from) (double (in_holes column.holes (suc c)))
-    where
-      double : (b : Bool) → not (not b) ≡ b
-      double true = refl
-      double false = refl
+  missing c le = grind (arith, none_before, le-leb)
 
   counted : (n : ℕ) → n ≤ column.upto → holes_among (column_has column) n ≡ ended n column.holes
   counted zero le = sym (none_ended 0 (column.upto + 1) 0 column.holes apart (omega arith))
-  counted (suc n) le =
-      let from : 1 ≤ suc n = omega arith in
-      let had : column_has column (suc n) ≡ not (in_holes column.holes (suc n)) = rw (le-leb (suc n) column.upto le, le-leb 1 (suc n) from) refl in
-      let before = missing n (omega arith) in
-      rw (had, before, counted n (omega arith)) (one_more 0 (column.upto + 1) n column.holes apart)
+  counted (suc n) le = grind (arith, counted n, le-leb, missing, one_more)
 
   -- THE HOLES of a column are those that its counters say
   pub holes_counted : holes_among (column_has column) column.upto ≡ length column.holes

@@ -1,6 +1,6 @@
 use Rattle.std.proofs.Common.{ℕ, ◌≡◌, ◌≤◌, ◌⊎◌, suc, Bool, true, false, cond, ◌||◌, ◌&&◌, List, [], ◌∷◌, length, All, AllPairs, Contains, refl, ap, sym, ◌∙◌, subst, arith, inl, inr}
 use Rattle.std.specs.declared.cmp.Ordering.{Ordering}
-use Rattle.std.specs.declared.cmp.Ordering.TheVariants.{Less, Equal, Greater}
+use Rattle.std.specs.declared.cmp.Ordering.TheVariants.{Less}
 use Rattle.std.specs.Ordering.{is_eq, is_lt}
 use Rattle.std.specs.List.{list_any}
 use Rattle.std.proofs.lemmas.Bool.{false≢true, cases_Bool, or_cases, or_parts}
@@ -28,11 +28,7 @@ use Rattle.mr_itemset.proofs.PlaceLemmas.{name_cases, All-placed, rising-placed,
 
 -- each item's vector is one, and has all that all items have
 pub vector_of-IsVector : {limit : ℕ} (k : Normal) (i : Name) → IsNormal limit k → IsVectorFrom 0 (vector_of k i)
-vector_of-IsVector k i normal = go (vector_in-cases k.all k.listed i)
-  where
-    go : (vector_in k.all k.listed i ≡ k.all) ⊎ ((x : Listed) × (Contains k.listed x × ((x.item ≡ i) × (vector_in k.all k.listed i ≡ x.vector)))) → IsVectorFrom 0 (vector_of k i)
-    go (inl e) = subst (IsVectorFrom 0) (sym e) normal.all_ok
-    go (inr x) = subst (IsVectorFrom 0) (sym x.1.1.1) (All-contains (HasMore k.all) k.listed x.0 normal.more x.1.0).vector_ok
+vector_of-IsVector k i normal = grind (arith, vector_in-cases, All-contains)
 
 pub covers_all : {limit : ℕ} (k : Normal) (i v : Name) → IsNormal limit k → vector_has k.all v ≡ true → vector_has (vector_of k i) v ≡ true
 covers_all k i v normal has = go (vector_in-cases k.all k.listed i)
@@ -42,14 +38,10 @@ covers_all k i v normal has = go (vector_in-cases k.all k.listed i)
     go (inr x) = ap (λ (c : List AuthorColumn). vector_has c v) x.1.1.1 ∙ (All-contains (HasMore k.all) k.listed x.0 normal.more x.1.0).covers v has
 
 or_true : (a b : Bool) → b ≡ true → (a || b) ≡ true
-or_true true b e = refl
-or_true false b e = e
+or_true a b e = grind arith
 
 absorbed : (set old grown all : Bool) → grown ≡ (set || old) → grown ≡ all → (all ≡ true → old ≡ true) → old ≡ (set || old)
-absorbed set true grown all is same covers = sym (or_true set true refl)
-absorbed true false grown true is same covers = covers refl
-absorbed true false grown false is same covers = let wrong : false ≡ true = sym same ∙ is in absurd (false≢true wrong)
-absorbed false false grown all is same covers = refl
+absorbed set old grown all is same covers = grind (arith, or_true, false≢true)
 
 -- where the item then has no more than all, nothing changes
 pub item_kept : {limit : ℕ} (k : Normal) (set : Versions) (item : Name) (vector : List AuthorColumn) → IsNormal limit k → IsSame (vector_has vector) (both set (vector_has (vector_of k item))) → IsSame (vector_has vector) (vector_has k.all) → AreSame (normal_known k) (with_below (normal_known k) item set)
@@ -82,9 +74,7 @@ free_below n (x ∷ xs) above =
     rw (ap is_eq (All-head (λ y. name_cmp n y.item ≡ Less) x xs above)) (free_below n xs (All-tail (λ y. name_cmp n y.item ≡ Less) x xs above))
 
 lt_not_eq : (o : Ordering) → is_lt o ≡ true → is_eq o ≡ false
-lt_not_eq Less less = refl
-lt_not_eq Equal less = absurd (false≢true less)
-lt_not_eq Greater less = refl
+lt_not_eq o less = grind (arith, false≢true)
 
 -- an item that is listed takes its own place
 pub length-placed-listed : (new : Listed) (xs : List Listed) → AllPairs IsBefore xs → list_any (name_eq new.item) (items_of xs) ≡ true → length (placed new xs) ≤ length xs
@@ -157,8 +147,4 @@ more_than_all k set item vector normal lacks grown same =
 
 -- what is in neither of two sets is not in the second
 pub lacks_second : (first second set : Versions) → Lacks (both first second) set → Lacks second set
-lacks_second first second set lacks = record {
-  version = lacks.version;
-  is_out = (or_parts (first lacks.version) (second lacks.version) lacks.is_out).1;
-  is_in = lacks.is_in;
-}
+lacks_second first second set lacks = grind (arith, or_parts)

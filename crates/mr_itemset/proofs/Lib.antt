@@ -1,5 +1,4 @@
 pub mod NormalLemmas
-pub mod NotedLemmas
 pub mod ColumnsLemmas
 pub mod EqualLemmas
 pub mod LimitLemmas
@@ -35,6 +34,5 @@ pub mod HoleWalk
 pub mod ToldWalk
 pub mod ToldParts
 pub mod ToldItems
-pub mod MoreLemmas
 pub mod OnlyLemmas
 mod Rows

@@ -1,9 +1,9 @@
 -- what items and all items have already, and counts where nothing waits
-use Rattle.std.proofs.Common.{◌≡◌, ◌<◌, ◌≤◌, ◌↔◌, ◌⊎◌, OnOk, IsErrOf, IsErrAnd, Result, Ok, Err, get_or, ◌||◌, ℕ, suc, Bool, true, false, List, [], ◌∷◌, length, take, drop, All, refl, ap, sym, ◌∙◌, subst, arith, inl, inr}
+use Rattle.std.proofs.Common.{◌≡◌, ◌<◌, ◌≤◌, ◌↔◌, ◌⊎◌, OnOk, IsErrOf, IsErrAnd, Result, Ok, Err, get_or, ◌||◌, ℕ, suc, Bool, true, false, List, [], ◌∷◌, length, take, drop, All, refl, sym, subst, arith, inl, inr}
 use Rattle.std.proofs.lemmas.Bool.{cases_Bool}
 use Rattle.std.proofs.lemmas.List.Elements.{All-head, All-tail}
 use Rattle.std.proofs.lemmas.Result.{err_from_is_err_and}
-use Rattle.mr_version.specs.Name.{Name, name_eq}
+use Rattle.mr_version.specs.Name.{Name}
 use Rattle.mr_forms.specs.Sets.{Versions, Covers}
 use Rattle.mr_forms.specs.declared.fragment.Fragment.{Fragment}
 use Rattle.mr_forms.specs.declared.fault.FormFault.{FormFault}
@@ -24,16 +24,11 @@ use Rattle.mr_itemset.proofs.NormalLemmas.{same_name}
 use Rattle.mr_itemset.proofs.ItemLemmas.{covers_all}
 
 nothing_new : (s o : Bool) → (s ≡ true → o ≡ true) → o ≡ (s || o)
-nothing_new true o h = h refl
-nothing_new false o h = refl
+nothing_new s o h = grind arith
 
 -- an item that has the set learns nothing of it
 pub item_has : (k : Pairs) (item : Name) (set : Versions) → Covers (k item) set → AreSame k (with_below k item set)
-item_has k item set covers i v = go (cases_Bool (name_eq item i))
-  where
-    go : (name_eq item i ≡ true) ⊎ (name_eq item i ≡ false) → k i v ≡ with_below k item set i v
-    go (inl here) = rw here (nothing_new (set v) (k i v) (λ is_in. ap (λ (j : Name). k j v) (sym (same_name item i here)) ∙ covers v is_in))
-    go (inr other) = rw other refl
+item_has k item set covers i v = grind (arith, cases_Bool, nothing_new, same_name)
 
 -- and all items learn nothing where what is known for all has the set
 pub all_have : {limit : ℕ} (k : Normal) (set : Versions) → IsNormal limit k → Covers (vector_has k.all) set → AreSame (normal_known k) (with_all (normal_known k) set)

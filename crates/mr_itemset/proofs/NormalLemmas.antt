@@ -1,6 +1,6 @@
 use Rattle.std.proofs.Common.{◌≡◌, ◌<◌, ◌+◌, ◌⊎◌, ℕ, suc, Bool, true, false, List, [], ◌∷◌, AllPairs, Contains, refl, ap, sym, ◌∙◌, arith, inl, inr}
 use Rattle.std.specs.declared.cmp.Ordering.{Ordering}
-use Rattle.std.specs.declared.cmp.Ordering.TheVariants.{Less, Equal, Greater}
+use Rattle.std.specs.declared.cmp.Ordering.TheVariants.{Less, Equal}
 use Rattle.std.specs.Ordering.{is_eq}
 use Rattle.std.specs.List.{list_any}
 use Rattle.std.proofs.lemmas.Bool.{false≢true, cases_Bool, or_parts}
@@ -26,9 +26,7 @@ name_eq-less : (a b : Name) → name_cmp a b ≡ Less → name_eq a b ≡ false
 name_eq-less a b less = ap is_eq less
 
 equal_from_test : (o : Ordering) → is_eq o ≡ true → o ≡ Equal
-equal_from_test Less e = absurd (false≢true e)
-equal_from_test Equal e = refl
-equal_from_test Greater e = absurd (false≢true e)
+equal_from_test o e = grind (arith, false≢true)
 
 pub same_name : (a b : Name) → name_eq a b ≡ true → a ≡ b
 same_name a b e = exact_names a b (equal_from_test (name_cmp a b) e)
@@ -52,9 +50,7 @@ vector_in-has all (y ∷ ys) x sorted has = go (Contains-cases y x ys has) (λ t
 -- an item that is not listed has what is known for all
 pub vector_in-unlisted : (all : List AuthorColumn) (xs : List Listed) (i : Name) → list_any (name_eq i) (items_of xs) ≡ false → vector_in all xs i ≡ all
 vector_in-unlisted all [] i free = refl
-vector_in-unlisted all (x ∷ xs) i free =
-    let parts = or_parts (name_eq i x.item) (list_any (name_eq i) (items_of xs)) free in
-    rw (name_eq-symmetric x.item i ∙ parts.0) (vector_in-unlisted all xs i parts.1)
+vector_in-unlisted all (x ∷ xs) i free = grind (arith, vector_in-unlisted all xs i, or_parts, name_eq-symmetric)
 
 -- either an item is listed, or it has what is known for all
 pub vector_in-cases : (all : List AuthorColumn) (xs : List Listed) (i : Name) → (vector_in all xs i ≡ all) ⊎ ((x : Listed) × (Contains xs x × ((x.item ≡ i) × (vector_in all xs i ≡ x.vector))))
@@ -73,14 +69,11 @@ top [] = 0
 top (j ∷ js) = j.counter + top js
 
 not_in : (b : Bool) → (b ≡ true → ⊥) → b ≡ false
-not_in true h = absurd (h refl)
-not_in false h = refl
+not_in b h = grind arith
 
 pub free-above : (n : ℕ) (js : List Name) → top js < n → list_any (name_eq (record { author = 0; counter = n })) js ≡ false
 free-above n [] above = refl
-free-above n (j ∷ js) above =
-    let other : name_eq (record { author = 0; counter = n }) j ≡ false = not_in (name_eq (record { author = 0; counter = n }) j) (λ same. let is : n ≡ j.counter = ap (λ (a : Name). a.counter) (same_name (record { author = 0; counter = n }) j same) in absurd (omega arith)) in
-    rw other (free-above n js (omega arith))
+free-above n (j ∷ js) above = grind (arith, free-above n js, not_in, same_name)
 
 -- ---- one form
 

@@ -50,15 +50,7 @@ joined mine (p ∷ ps) = if mine p then items_in p.items ++ joined mine ps else 
 
 pub joined_has : (mine : Part → Bool) (ps : List Part) (i : Name) → list_any (name_eq i) (joined mine ps) ≡ true → (q : Part) × (Contains ps q × ((mine q ≡ true) × (list_any (name_eq i) (items_in q.items) ≡ true)))
 joined_has mine [] i any = absurd (false≢true any)
-joined_has mine (p ∷ ps) i any = go (cases_Bool (mine p)) (λ there. joined_has mine ps i there)
-  where
-    go : (mine p ≡ true) ⊎ (mine p ≡ false) → (list_any (name_eq i) (joined mine ps) ≡ true → (q : Part) × (Contains ps q × ((mine q ≡ true) × (list_any (name_eq i) (items_in q.items) ≡ true)))) → (q : Part) × (Contains (p ∷ ps) q × ((mine q ≡ true) × (list_any (name_eq i) (items_in q.items) ≡ true)))
-    go (inl ours) rest = split (or_cases (list_any (name_eq i) (items_in p.items)) (list_any (name_eq i) (joined mine ps)) (sym (list_any-append (name_eq i) (items_in p.items) (joined mine ps)) ∙ (rw ours at any)))
-      where
-        split : (list_any (name_eq i) (items_in p.items) ≡ true) ⊎ (list_any (name_eq i) (joined mine ps) ≡ true) → (q : Part) × (Contains (p ∷ ps) q × ((mine q ≡ true) × (list_any (name_eq i) (items_in q.items) ≡ true)))
-        split (inl here) = (p, (Contains-here p ps, (ours, here)))
-        split (inr there) = let r = rest there in (r.0, (Contains-there p r.0 ps r.1.0, r.1.1))
-    go (inr lack) rest = let r = rest (rw lack at any) in (r.0, (Contains-there p r.0 ps r.1.0, r.1.1))
+joined_has mine (p ∷ ps) i any = grind (arith, joined_has mine ps i, cases_Bool, or_cases, list_any-append, Contains-here, Contains-there)
 
 pub has_joined : (mine : Part → Bool) (ps : List Part) (q : Part) (i : Name) → Contains ps q → mine q ≡ true → list_any (name_eq i) (items_in q.items) ≡ true → list_any (name_eq i) (joined mine ps) ≡ true
 has_joined mine [] q i has yours any = let within = has.1 in absurd (omega arith)
@@ -91,12 +83,10 @@ joined_rising most mine (p ∷ ps) rising turn =
 -- ---- its pieces
 
 drop_nil : (n : ℕ) → drop n (let xs : List Name = [] in xs) ≡ []
-drop_nil zero = refl
-drop_nil (suc n) = refl
+drop_nil n = grind arith
 
 take_nil : (n : ℕ) → take n (let xs : List Name = [] in xs) ≡ []
-take_nil zero = refl
-take_nil (suc n) = refl
+take_nil n = grind arith
 
 -- the first piece
 first_piece : (most : ℕ) (whole : List Name) → take most (drop (0 * most) whole) ≡ take most whole
@@ -119,8 +109,7 @@ full_or_last most mine p (q ∷ qs) ours turn = go (cases_Bool (mine q)) (full_o
 
 -- what stands first is the first piece
 first_taken : (most : ℕ) (xs ys : List Name) → length xs ≤ most → (length xs ≡ most) ⊎ (ys ≡ []) → take most (xs ++ ys) ≡ xs
-first_taken most xs ys few (inl full) = take_at xs ys most full
-first_taken most xs ys few (inr none) = rw (none, append-nil xs) (take_all most xs few)
+first_taken most xs ys few h = grind (arith, take_at, append-nil, take_all)
 
 abbrev Few : ℕ → Part → Type 0
 Few most p = length (items_in p.items) ≤ most

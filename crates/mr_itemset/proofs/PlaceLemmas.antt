@@ -1,6 +1,6 @@
-use Rattle.std.proofs.Common.{◌≡◌, ◌≤◌, ◌+◌, ◌⊎◌, zero, suc, Bool, true, false, cond, List, [], ◌∷◌, length, All, AllPairs, refl, ap, sym, ◌∙◌, arith, inl, inr}
+use Rattle.std.proofs.Common.{◌≡◌, ◌≤◌, ◌+◌, ◌⊎◌, suc, Bool, true, false, cond, List, [], ◌∷◌, length, All, AllPairs, refl, ap, sym, ◌∙◌, arith, inl, inr}
 use Rattle.std.specs.declared.cmp.Ordering.{Ordering}
-use Rattle.std.specs.declared.cmp.Ordering.TheVariants.{Less, Equal, Greater}
+use Rattle.std.specs.declared.cmp.Ordering.TheVariants.{Less}
 use Rattle.std.specs.Ordering.{is_eq, is_lt, ordering_reverse}
 use Rattle.std.proofs.lemmas.Bool.{cases_Bool, false≢true}
 use Rattle.std.proofs.lemmas.List.Elements.{All-nil, All-cons, All-head, All-tail, All-weaker}
@@ -18,27 +18,13 @@ use Rattle.mr_itemset.proofs.NormalLemmas.{same_name}
 -- ---- two names
 
 pub name_cases : (a b : Name) (o : Ordering) → name_cmp a b ≡ o → (name_cmp a b ≡ Less) ⊎ ((a ≡ b) ⊎ (name_cmp b a ≡ Less))
-name_cases a b Less e = inl e
-name_cases a b Equal e = inr (inl (exact_names a b e))
-name_cases a b Greater e = inr (inr (names_total.antisymm b a ∙ ap ordering_reverse e))
+name_cases a b o e = grind (arith, exact_names, names_total)
 
 pub not_lt-more : (a b : Name) → name_cmp b a ≡ Less → is_lt (name_cmp a b) ≡ false
 not_lt-more a b more = ap is_lt (names_total.antisymm a b ∙ ap ordering_reverse more)
 
 pub not_lt-same : (a b : Name) → a ≡ b → is_lt (name_cmp a b) ≡ false
-not_lt-same a b e = ap (λ (z : Name). is_lt (name_cmp a z)) (sym e) ∙ not_lt-itself a
-  where
-    not_lt-itself : (a : Name) → is_lt (name_cmp a a) ≡ false
-    not_lt-itself a = go (cases_Bool (is_lt (name_cmp a a)))
-      where
-        go : (is_lt (name_cmp a a) ≡ true) ⊎ (is_lt (name_cmp a a) ≡ false) → is_lt (name_cmp a a) ≡ false
-        go (inl less) = absurd (impossible (name_cmp a a) refl less)
-          where
-            impossible : (o : Ordering) → name_cmp a a ≡ o → is_lt o ≡ true → ⊥
-            impossible Less e t = let same = name_eq-itself a in let wrong : is_eq Less ≡ true = ap is_eq (sym e) ∙ same in false≢true wrong
-            impossible Equal e t = false≢true t
-            impossible Greater e t = false≢true t
-        go (inr not_less) = not_less
+not_lt-same a b e = grind (arith, cases_Bool, name_eq-itself, false≢true)
 
 pub same_test : (a b : Name) → a ≡ b → name_eq a b ≡ true
 same_test a b e = ap (λ (z : Name). name_eq a z) (sym e) ∙ name_eq-itself a
@@ -49,10 +35,7 @@ other_test a b more = name_eq-symmetric a b ∙ ap is_eq more
 -- ---- what holds of the placed ones
 
 AllPairs-cons : (R : Listed → Listed → Type 0) (x : Listed) (xs : List Listed) → All (R x) xs → AllPairs R xs → AllPairs R (x ∷ xs)
-AllPairs-cons R x xs first rest zero zero d less within = absurd (omega arith)
-AllPairs-cons R x xs first rest zero (suc j) d less within = first j d (omega arith)
-AllPairs-cons R x xs first rest (suc i) zero d less within = absurd (omega arith)
-AllPairs-cons R x xs first rest (suc i) (suc j) d less within = rest i j d (omega arith) (omega arith)
+AllPairs-cons R x xs first rest h k d less within = grind arith
 
 pub All-placed : (P : Listed → Type 0) (new : Listed) (xs : List Listed) → All P xs → P new → All P (placed new xs)
 All-placed P new [] all here = All-cons P new [] here all

@@ -2,8 +2,8 @@
 use Rattle.std.proofs.Common.{ℕ, ◌≡◌, ◌↔◌, Ok, Err, inl, inr}
 use Rattle.std.specs.Prelude.{IsErrOf}
 use Rattle.mr_forms.specs.declared.fault.FormFault.{FormFault}
-use Rattle.mr_forms.specs.Known.{Pairs, HasValue, IsOverHolesInTurn, IsOverItemsInTurn}
-use Rattle.mr_itemset.specs.ItemForm.{items_form}
+use Rattle.mr_forms.specs.Known.{Pairs, HasValue, IsOnlyOverItems, IsOverHolesInTurn, IsOverItemsInTurn}
+use Rattle.mr_itemset.specs.ItemForm.{items_form, HasHoleyItem}
 
 module _ {T P : Type 0} where
   -- what passes a test is nothing to refuse
@@ -25,3 +25,19 @@ no_holes_in_turn first second a b over = elim over [ inl holes ↦ a.0 holes | i
 -- and none lists too many items
 pub no_items_in_turn : {limit : ℕ} (first second : Pairs) → HasValue (items_form limit) first → HasValue (items_form limit) second → ¬ IsOverItemsInTurn (items_form limit) first second
 no_items_in_turn first second a b over = elim over [ inl items ↦ a.1 items.0 | inr both ↦ b.1 both.1.0 ]
+
+-- of one value twice in turn it is the one that tells
+module _ {limit : ℕ} {P : Type 0} (one : Pairs) where
+  pub once_holes : P ↔ IsOverHolesInTurn (items_form limit) one one → P ↔ HasHoleyItem one
+  once_holes by = (λ p. elim (by.0 p) [ inl holes ↦ holes | inr both ↦ both.1 ], λ holes. by.1 (inl holes))
+
+  pub once_items : P ↔ IsOverItemsInTurn (items_form limit) one one → P ↔ IsOnlyOverItems (items_form limit) one
+  once_items by = (λ p. elim (by.0 p) [ inl items ↦ items | inr both ↦ both.1 ], λ items. by.1 (inl items))
+
+-- and where the first has a value, the second
+module _ {limit : ℕ} {P : Type 0} (first second : Pairs) (value : HasValue (items_form limit) first) where
+  pub second_holes : P ↔ IsOverHolesInTurn (items_form limit) first second → P ↔ HasHoleyItem second
+  second_holes by = (λ p. elim (by.0 p) [ inl holes ↦ absurd (value.0 holes) | inr both ↦ both.1 ], λ holes. by.1 (inr (value, holes)))
+
+  pub second_items : P ↔ IsOverItemsInTurn (items_form limit) first second → P ↔ IsOnlyOverItems (items_form limit) second
+  second_items by = (λ p. elim (by.0 p) [ inl items ↦ absurd (value.1 items.0) | inr both ↦ both.1 ], λ items. by.1 (inr (value, items)))

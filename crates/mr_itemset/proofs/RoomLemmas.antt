@@ -33,11 +33,7 @@ or_right false b e = e
 
 pub listed_contained : (x : Listed) (ys : List Listed) → Contains ys x → list_any (name_eq x.item) (items_of ys) ≡ true
 listed_contained x [] there = let within = there.1 in absurd (omega arith)
-listed_contained x (y ∷ ys) there = go (Contains-cases y x ys there) (λ rest. listed_contained x ys rest)
-  where
-    go : (y ≡ x) ⊎ Contains ys x → (Contains ys x → list_any (name_eq x.item) (items_of ys) ≡ true) → list_any (name_eq x.item) (items_of (y ∷ ys)) ≡ true
-    go (inl e) rest = rw (ap (λ (z : Listed). name_eq x.item z.item) e ∙ name_eq-itself x.item) refl
-    go (inr inside) rest = or_right (name_eq x.item y.item) (list_any (name_eq x.item) (items_of ys)) (rest inside)
+listed_contained x (y ∷ ys) there = grind (arith, listed_contained x ys, Contains-cases, name_eq-itself, or_right)
 
 pub other_items : (item : Name) (xs : List Listed) (x : Listed) → list_any (name_eq item) (items_of xs) ≡ false → Contains xs x → name_eq item x.item ≡ false
 other_items item xs x free has = go (cases_Bool (name_eq item x.item))
@@ -47,5 +43,4 @@ other_items item xs x free has = go (cases_Bool (name_eq item x.item))
     go (inr other) = other
 
 pub not_false : (b : Bool) → not b ≡ false → b ≡ true
-not_false true e = refl
-not_false false e = sym e
+not_false b e = grind arith

@@ -1,11 +1,10 @@
-use Rattle.std.proofs.Common.{◌≡◌, ◌≢◌, ℕ, List, [], ◌∷◌, None, All, IfSome, map, refl, ap, sym, ◌∙◌}
+use Rattle.std.proofs.Common.{◌≡◌, ◌≢◌, ℕ, List, [], ◌∷◌, None, All, IfSome, map, refl, ap, sym, ◌∙◌, arith}
 use Rattle.std.specs.List.{flat_map, join_by}
 use Rattle.std.proofs.lemmas.Simd.{map-map}
 use Rattle.std.proofs.lemmas.List.Elements.{All-nil, All-cons, All-head, All-tail}
 use Rattle.std.proofs.lemmas.List.Folds.{flat_map-map}
 use Rattle.mr_version.specs.Name.{Name}
 use Rattle.mr_forms.specs.declared.fragment.ItemSet.{ItemSet}
-use Rattle.mr_forms.specs.declared.fragment.ItemSet.TheVariants.{All as AllItems, Listed}
 use Rattle.mr_forms.specs.declared.fragment.TheConstants.{MAX_ITEMS}
 use Rattle.mr_forms.specs.Known.{AreSame, Part}
 use Rattle.mr_forms.specs.Covered.{has_item, listed_items, HasItems, all_covered}
@@ -38,8 +37,7 @@ pub shown_parts : {limit : ℕ} (k : Normal) (fs : List ConciseFragment) → IsN
 shown_parts k fs normal are = normal_parts_that k (map (part_of vector_has) fs) normal (shown_normal k fs normal are)
 
 has_item-is_of : (items : ItemSet) (i : Name) → is_of (listed_items items) i ≡ has_item items i
-has_item-is_of AllItems i = refl
-has_item-is_of (Listed items) i = refl
+has_item-is_of items i = grind arith
 
 pub said_covered : (fs : List ConciseFragment) (i v : Name) → said (map (part_of vector_has) fs) i v ≡ all_covered vector_has fs i v
 said_covered [] i v = refl
@@ -50,8 +48,7 @@ pub shown_known : {limit : ℕ} (k : Normal) (fs : List ConciseFragment) → IsN
 shown_known k fs normal are i v = (shown_normal k fs normal are).same i v ∙ said_covered fs i v
 
 has_items : (items : ItemSet) → IfSome (listed_items items) AreListable → HasItems items
-has_items AllItems listable = tt
-has_items (Listed items) listable = listable.some
+has_items items listable = grind arith
 
 pub each_has_items : (fs : List ConciseFragment) → All (λ p. IfSome p.items AreListable) (map (part_of vector_has) fs) → All (λ f. HasItems f.items) fs
 each_has_items [] listable = All-nil (λ f. HasItems f.items)
@@ -66,8 +63,7 @@ shown_has_items k fs normal are = each_has_items fs (shown_normal k fs normal ar
 -- ---- the text
 
 items_shown : (items : ItemSet) → items_text items ≡ shown_items (listed_items items)
-items_shown AllItems = refl
-items_shown (Listed items) = refl
+items_shown items = grind arith
 
 each_text : (fs : List ConciseFragment) → flat_map (λ f. 59 ∷ 32 ∷ fragment_text f) fs ≡ flat_map (λ f. 59 ∷ 32 ∷ shown_text (shown f)) fs
 each_text [] = refl
@@ -79,5 +75,4 @@ joined (f ∷ fs) some = rw (items_shown f.items, each_text fs, flat_map-map (λ
 
 -- THE TEXT of the fragments is that of the knowledge
 pub text_shown : (k : Normal) (fs : List ConciseFragment) → map shown fs ≡ fragments_in k → knowledge_text fs ≡ normal_text k
-text_shown k [] are = cc
-text_shown k (f ∷ fs) are = joined (f ∷ fs) (λ e. cc) ∙ ap (join_by shown_text (59 ∷ 32 ∷ [])) are
+text_shown k fs are = grind (arith, joined)

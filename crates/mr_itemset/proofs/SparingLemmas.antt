@@ -1,5 +1,5 @@
 -- What all items know, and whether an author's column of it has holes to spare, told by what is settled and what is pending.
-use Rattle.std.proofs.Common.{◌≡◌, ◌<◌, ◌≤◌, ◌⊎◌, ◌||◌, ◌&&◌, ◌↔◌, Bool, true, false, ℕ, nat_lt, List, length, refl, ap, sym, subst, ◌∙◌, arith, inl, inr}
+use Rattle.std.proofs.Common.{◌≡◌, ◌<◌, ◌≤◌, ◌⊎◌, ◌||◌, ◌&&◌, ◌↔◌, Bool, true, false, ℕ, nat_lt, List, length, ap, sym, subst, ◌∙◌, arith, inl, inr}
 use Rattle.std.proofs.lemmas.Bool.{cases_Bool, lt-ltb, le-ltb}
 use Rattle.mr_version.specs.Name.{Name, name_eq}
 use Rattle.mr_forms.specs.Sets.{Versions, IsSame, both}
@@ -48,14 +48,10 @@ holes_as_known k author normal = holes_counted (column_of k.all author) (column_
 -- ---- what is learned, by what goes to all
 
 after : (a b c : Bool) → (a || (b || c)) ≡ ((a || b) || c)
-after true b c = refl
-after false b c = refl
+after a b c = grind arith
 
 pub spread_all : (k : Normal) (item version : Name) (set first : Versions) → spreads k item version set ≡ true → IsSame first (λ v. (goes_to_all k item && set item) && name_eq item v) → learned_of sparing_form k item version set ≡ with_all (normal_known k) (both first (name_eq version))
-spread_all k item version set first goes has =
-    rw goes
-    (same_pairs (λ i v. ((goes_to_all k item && set item) && name_eq item v) || (name_eq version v || normal_known k i v)) (with_all (normal_known k) (both first (name_eq version)))
-    (λ i v. ap (λ (b : Bool). b || (name_eq version v || normal_known k i v)) (sym (has v)) ∙ after (first v) (name_eq version v) (normal_known k i v)))
+spread_all k item version set first goes has = grind (arith, same_pairs, after)
 
 -- what is told of the one is told of the other
 module _ (item : Name) (set : Versions) {told learned : Pairs} (same : told ≡ learned) where

@@ -5,7 +5,7 @@ use Rattle.std.proofs.lemmas.Bool.{false≢true, cases_Bool}
 use Rattle.std.proofs.lemmas.List.Elements.{All-contains, All-contains_itself, All-weaker}
 use Rattle.mr_version.specs.Name.{Name, name_eq}
 use Rattle.mr_forms.specs.Sets.{Versions, IsSame, Covers, both}
-use Rattle.mr_forms.specs.Known.{Pairs, AreSame, with_below}
+use Rattle.mr_forms.specs.Known.{Pairs, AreSame}
 use Rattle.mr_concise.specs.declared.vector.AuthorColumn.{AuthorColumn}
 use Rattle.mr_concise.specs.Vector.{vector_has}
 use Rattle.mr_itemset.specs.declared.knowledge.Listed.{Listed}
@@ -24,15 +24,11 @@ pub split_is : {limit : ℕ} (settled : Normal) (pending : List AuthorColumn) (m
 split_is settled pending most kept = record { normal = folded_normal settled pending most kept; settled_ok = kept.normal; known = folded_pairs settled pending most kept }
 
 assoc : (a b c : Bool) → (a || (b || c)) ≡ ((a || b) || c)
-assoc true b c = refl
-assoc false b c = refl
+assoc a b c = grind arith
 
 -- what all items learn, and what is pending
 pub all_twice : (known settled : Pairs) (pending set : Versions) → known ≡ with_all settled pending → with_all known set ≡ with_all settled (both set pending)
 all_twice known settled pending set e = same_pairs (with_all known set) (with_all settled (both set pending)) (λ i v. ap (λ (k : Pairs). set v || k i v) e ∙ assoc (set v) (pending v) (settled i v))
-
-pub below_twice : (known settled : Pairs) (pending set : Versions) (item : Name) → known ≡ with_all settled pending → with_below known item set ≡ with_below (with_all settled pending) item set
-below_twice known settled pending set item e = ap (λ (k : Pairs). with_below k item set) e
 
 -- what is known of an item
 pub split_at : {limit : ℕ} (k settled : Normal) (pending : List AuthorColumn) (i v : Name) → IsSplit limit k settled pending → normal_known k i v ≡ (vector_has pending v || normal_known settled i v)
@@ -54,8 +50,7 @@ covers_same s t set same covers v is_in = same v ∙ covers v is_in
 -- ---- what one knowledge has of another
 
 or_split : (a b : Bool) → (a || b) ≡ true → (a ≡ true) ⊎ (b ≡ true)
-or_split true b e = inl refl
-or_split false b e = inr e
+or_split a b e = grind arith
 
 or_first : (a b : Bool) → a ≡ true → (a || b) ≡ true
 or_first a b e = rw e refl
@@ -95,12 +90,7 @@ covers_listed-from k other settled pending split covers =
 
 -- the same is known where each has what the other has
 pub same_from_covers : (k other : Normal) → ((i : Name) → Covers (normal_known k i) (normal_known other i)) → ((i : Name) → Covers (normal_known other i) (normal_known k i)) → AreSame (normal_known k) (normal_known other)
-same_from_covers k other there back i v = both_ways (normal_known k i v) (normal_known other i v) (back i v) (there i v)
-  where
-    both_ways : (a b : Bool) → (a ≡ true → b ≡ true) → (b ≡ true → a ≡ true) → a ≡ b
-    both_ways true b up down = sym (up refl)
-    both_ways false true up down = down refl
-    both_ways false false up down = refl
+same_from_covers k other there back i v = grind arith
 
 pub covers_from_same : (k other : Normal) → AreSame (normal_known k) (normal_known other) → (i : Name) → Covers (normal_known k i) (normal_known other i)
 covers_from_same k other same i v is_in = same i v ∙ is_in
@@ -138,8 +128,7 @@ listed_no k settled pending item split covers = go (cases_Bool (list_any (name_e
 -- ---- what one has of the other for all items
 
 pub flipped : (a b : Bool) → not a ≡ b → a ≡ not b
-flipped true b e = ap not e
-flipped false b e = ap not e
+flipped a b e = grind arith
 
 pub covers_split : {limit : ℕ} (k other settled : Normal) (pending : List AuthorColumn) → IsSplit limit other settled pending → Covers (vector_has k.all) (vector_has pending) → Covers (vector_has k.all) (vector_has settled.all) → Covers (vector_has k.all) (vector_has other.all)
 covers_split k other settled pending split mine all v is_in = go (or_split (vector_has pending v) (vector_has settled.all v) (sym (split_all other settled pending split v) ∙ is_in))

@@ -37,16 +37,7 @@ some_from told e none = false≢true (sym e ∙ ap (λ (ts : List AuthorColumn).
 
 -- where nothing is told, all items have what the item has
 pub told_nothing : (all own told : List AuthorColumn) → AreTold (vector_has all) (both (vector_has all) (vector_has own)) (vector_has told) → told ≡ [] → Covers (vector_has all) (vector_has own)
-told_nothing all own told are none v is = go (cases_Bool (vector_has all v))
-  where
-    go : (vector_has all v ≡ true) ⊎ (vector_has all v ≡ false) → vector_has all v ≡ true
-    go (inl has) = has
-    go (inr lacks) =
-        let a = of_author (vector_has all) v.author in
-        let o = of_author (vector_has own) v.author in
-        let beyond = beyond_with a o v.counter (beyond_from a o v.counter is lacks) in
-        let says : vector_has told v ≡ true = (are v).1 (told_beyond a (joined a o) v.counter beyond) in
-        absurd (false≢true (sym (column_has-empty v.counter) ∙ ap (λ (c : List AuthorColumn). vector_has c v) (sym none) ∙ says))
+told_nothing all own told are h v is = grind (arith, cases_Bool, beyond_with, beyond_from, told_beyond, joined, false≢true, column_has-empty)
 
 -- and where something is told, they lack it
 pub told_something : (all own told : List AuthorColumn) → IsVectorFrom 0 told → AreTold (vector_has all) (both (vector_has all) (vector_has own)) (vector_has told) → (told ≡ [] → ⊥) → Lacks (vector_has all) (vector_has own)
@@ -104,8 +95,7 @@ or-covers a p false x is covers = rw is (go p x)
     go false x = refl
 
 or-has : (p x a b : Bool) → a ≡ (p || b) → (b ≡ true → x ≡ true) → a ≡ true → (p || x) ≡ true
-or-has true x a b is covers has = refl
-or-has false x a b is covers has = covers (sym is ∙ has)
+or-has p x a b is covers has = grind arith
 
 module _ (before added : List AuthorColumn) (va : IsVectorFrom 0 added) (vb : IsVectorFrom 0 before) (fits : Fits before added) where
   abbrev then_all : List AuthorColumn
@@ -133,12 +123,10 @@ module _ (before added : List AuthorColumn) (va : IsVectorFrom 0 added) (vb : Is
   covers_before set covers v is = sym (all_has v) ∙ covers v is
 
   flip-false : (b : Bool) → not b ≡ true → b ≡ false
-  flip-false true e = absurd (false≢true e)
-  flip-false false e = refl
+  flip-false b e = grind (arith, false≢true)
 
   flip-true : (b : Bool) → not b ≡ false → b ≡ true
-  flip-true true e = refl
-  flip-true false e = absurd (false≢true (sym e))
+  flip-true b e = grind (arith, false≢true)
 
   -- THE LISTED ITEMS of the normal form are those of which something is told
   pub told_gained : (xs ts : List Listed) → All (HasMore before) xs → All (λ x. Fits x.vector added) xs → AreToldItems then_all xs ts → AllZip (TellsWhole then_all) (gained added then_all xs) ts
@@ -170,9 +158,7 @@ pub record AreAlike (all : List AuthorColumn) (g h : Alike) : Type 0 where
   pub tells : AreTold (vector_has all) (vector_has g.vector) (vector_has h.vector)
 
 both_or_none : (a b : Bool) → (a ≡ true → b ≡ true) → (b ≡ true → a ≡ true) → b ≡ a
-both_or_none true b up down = up refl
-both_or_none false true up down = sym (down refl)
-both_or_none false false up down = refl
+both_or_none a b up down = grind arith
 
 module _ (all : List AuthorColumn) (g h : Alike) (x t : Listed) (alike : AreAlike all g h) (whole : TellsWhole all x t) where
   -- where they have the same, the same is told
@@ -193,30 +179,16 @@ module _ (all : List AuthorColumn) (g h : Alike) (x t : Listed) (alike : AreAlik
           ∙ told_same (vector_has all) (vector_has x.vector) (vector_has t.vector) whole.tells v lacks
 
   eq_alike : vector_eq h.vector t.vector ≡ vector_eq g.vector x.vector
-  eq_alike = both_or_none (vector_eq g.vector x.vector) (vector_eq h.vector t.vector)
-      (λ e. (vector_eq-same h.vector t.vector alike.vector_ok whole.vector_ok).1 (told_alike ((vector_eq-same g.vector x.vector alike.whole_ok whole.whole_ok).0 e)))
-      (λ e. (vector_eq-same g.vector x.vector alike.whole_ok whole.whole_ok).1 (have_alike ((vector_eq-same h.vector t.vector alike.vector_ok whole.vector_ok).0 e)))
+  eq_alike = grind (arith, both_or_none, vector_eq-same, told_alike, have_alike)
 
   takes_alike : (most : ℕ) → takes most h t.vector ≡ takes most g x.vector
   takes_alike most = rw (eq_alike, alike.items) refl
 
   with_alike : AreAlike all (with_item g x.item) (with_item h t.item)
-  with_alike = record {
-    items = ap (λ (is : List Name). is ++ t.item ∷ []) alike.items ∙ ap (λ (i : Name). g.items ++ i ∷ []) whole.item;
-    whole_ok = alike.whole_ok;
-    covers = alike.covers;
-    vector_ok = alike.vector_ok;
-    tells = alike.tells;
-  }
+  with_alike = grind arith
 
 alone_alike : (all : List AuthorColumn) (x t : Listed) → TellsWhole all x t → AreAlike all (alone x) (alone t)
-alone_alike all x t whole = record {
-  items = ap (λ (i : Name). i ∷ []) whole.item;
-  whole_ok = whole.whole_ok;
-  covers = whole.covers;
-  vector_ok = whole.vector_ok;
-  tells = whole.tells;
-}
+alone_alike all x t whole = grind arith
 
 grouped_alike : (all : List AuthorColumn) (most : ℕ) (gs hs : List Alike) (x t : Listed) → AllZip (AreAlike all) gs hs → TellsWhole all x t → AllZip (AreAlike all) (grouped most gs x) (grouped most hs t)
 grouped_alike all most [] [] x t zip whole = (alone_alike all x t whole, tt)

@@ -27,15 +27,7 @@ told_within all own c told = told.has c told.above told.below
 
 -- what not all items have is told
 pub told_beyond : (all own : ℕ → Bool) (c : ℕ) → is_beyond all own c ≡ true → IsTold all own c
-told_beyond all own c beyond = record {
-  first = c;
-  last = c;
-  above = omega arith;
-  below = omega arith;
-  begins = inr beyond;
-  ends = beyond;
-  has = λ n from to. let same : n ≡ c = omega arith in rw same (beyond_parts all own c beyond).0;
-}
+told_beyond all own c beyond = grind (arith, beyond_parts)
 
 -- just one set is told
 pub told_unique : (all own a b : Versions) → AreTold all own a → AreTold all own b → a ≡ b
@@ -43,12 +35,7 @@ told_unique all own a b of_a of_b = λ t v. same_from_decides {P = IsToldOfAutho
 
 -- beside what all items have, what is told says just what the item has
 pub told_same : (all own told : Versions) → AreTold all own told → (v : Name) → all v ≡ false → told v ≡ own v
-told_same all own told are v lacks = go (cases_Bool (own v)) (cases_Bool (told v))
-  where
-    go : (own v ≡ true) ⊎ (own v ≡ false) → (told v ≡ true) ⊎ (told v ≡ false) → told v ≡ own v
-    go (inl has) t = (are v).1 (told_beyond (of_author all v.author) (of_author own v.author) v.counter (beyond_from (of_author all v.author) (of_author own v.author) v.counter has lacks)) ∙ sym has
-    go (inr out) (inr none) = none ∙ sym out
-    go (inr out) (inl says) = absurd (false≢true (sym out ∙ told_within (of_author all v.author) (of_author own v.author) v.counter ((are v).0 says)))
+told_same all own told are v lacks = grind (arith, cases_Bool, told_beyond, beyond_from, false≢true, told_within)
 
 -- ---- how holes are counted
 
@@ -87,16 +74,10 @@ both_ends : (a b c d : ℕ) → a ≤ b → a ≡ c → b ≡ d → c ≤ d
 both_ends a b c d le e f = omega arith
 
 grows : (has : ℕ → Bool) (n : ℕ) → holes_among has n ≤ holes_among has (suc n)
-grows has n = elim (cases_Bool (starts has n)) [
-  | inl start ↦ from_more (holes_among has n) (holes_among has (suc n)) (one_more has n start)
-  | inr none ↦ from_same (holes_among has n) (holes_among has (suc n)) (no_more has n none)
-]
+grows has n = grind (arith, cases_Bool, from_more, one_more, from_same, no_more)
 
 start_parts : (has : ℕ → Bool) (n : ℕ) → starts has n ≡ true → (has (suc n) ≡ true) × ((1 ≤ n) × (has n ≡ false))
-start_parts has n start =
-    let both = and_parts (has (suc n)) (nat_le 1 n && not (has n)) start in
-    let rest = and_parts (nat_le 1 n) (not (has n)) both.1 in
-    (both.0, (leb-true 1 n rest.0, not-true (has n) rest.1))
+start_parts has n start = grind (arith, and_parts, nat_le, leb-true, not-true)
 
 start_from : (has : ℕ → Bool) (n : ℕ) → has (suc n) ≡ true → 1 ≤ n → has n ≡ false → starts has n ≡ true
 start_from has n next one here = rw (next, le-leb 1 n one, here) refl
@@ -233,14 +214,7 @@ module _ (all own told set : ℕ → Bool) (are : (c : ℕ) → (told c ≡ true
   not_started n none = false_from_ne_true (starts told n) (λ start. false≢true (sym none ∙ (begun n start).0))
 
   still_broken : (n : ℕ) → Fewer n → set (suc n) ≡ true → (b : Broken all own (suc n)) → b.at ≤ n → suc (holes_among told (suc n)) ≤ holes_among set (suc n)
-  still_broken n f has b low =
-      let one = b.one in
-      let same : t (suc n) ≡ t n = no_more told n (not_started n (b.none (suc n) (omega arith) (omega arith))) in
-      let before : Broken all own n = record { at = b.at; one = one; up = low; out = b.out; none = λ c from to. b.none c from (omega arith) } in
-      elim (f.since before) [
-        | inl out ↦ more_second (t n) (s n) (t (suc n)) (s (suc n)) f.le same (one_more set n (start_from set n has (omega arith) out))
-        | inr less ↦ still_less (t n) (s n) (t (suc n)) (s (suc n)) less same (grows set n)
-      ]
+  still_broken n f has b low = grind (arith, no_more, not_started, more_second, one_more, start_from, still_less, grows)
 
   fewer_since : (n : ℕ) → Fewer n → Broken all own (suc n) → (set (suc n) ≡ false) ⊎ (suc (holes_among told (suc n)) ≤ holes_among set (suc n))
   fewer_since n f b = go (cases_Bool (set (suc n))) (cases_eq b.at (suc n))

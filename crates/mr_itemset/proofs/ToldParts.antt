@@ -1,5 +1,5 @@
 -- The fragments that tell what not all items have are the parts of their form, and mean what is known.
-use Rattle.std.proofs.Common.{◌≡◌, ◌<◌, ◌⊎◌, ℕ, true, false, List, [], ◌∷◌, length, get_or, Option, Some, None, IfSome, All, Contains, map, refl, ap, sym, ◌∙◌, subst, arith, inl, inr}
+use Rattle.std.proofs.Common.{◌≡◌, ◌<◌, ℕ, false, List, [], ◌∷◌, length, get_or, Option, Some, None, IfSome, All, Contains, map, refl, ap, sym, ◌∙◌, subst, arith}
 use Rattle.std.specs.List.{AllZip}
 use Rattle.std.proofs.lemmas.Bool.{cases_Bool}
 use Rattle.std.proofs.lemmas.Simd.{map-map}
@@ -30,8 +30,7 @@ TellsPart all p t = (t.items ≡ p.items) × Tells all p.items p.versions t.vers
 
 -- just one set says it
 tells_unique : (all own a b : Versions) (items : Option (List Name)) → Tells all items own a → Tells all items own b → a ≡ b
-tells_unique all own a b None of_a of_b = of_a ∙ sym of_b
-tells_unique all own a b (Some items) of_a of_b = told_unique all own a b of_a of_b
+tells_unique all own a b items of_a of_b = grind (arith, told_unique)
 
 module _ (k : Normal) (ps ts : List Part) (tell : AllZip (TellsPart (vector_has k.all)) ps ts) where
   same_length : length ps ≡ length ts
@@ -74,34 +73,23 @@ module _ (k : Normal) (ps ts : List Part) (tell : AllZip (TellsPart (vector_has 
 
   -- THE PARTS are those of the form
   pub told_parts : ArePartsThat (IsNormalPart k) ps → ArePartsThat (IsToldPart k) ts
-  told_parts are = record {
-    in_order = told_order are.in_order;
-    are = told_is_part are.are;
-    has_all = told_has_all are.has_all;
-  }
+  told_parts are = grind (arith, told_order, told_is_part, told_has_all)
 
 -- ---- the meaning
 
 one_said : (all own says : Versions) (items : Option (List Name)) (v : Name) → Tells all items own says → all v ≡ false → says v ≡ own v
-one_said all own says None v tells lacks = ap (λ (s : Versions). s v) tells
-one_said all own says (Some items) v tells lacks = told_same all own says tells v lacks
+one_said all own says items v tells lacks = grind (arith, told_same)
 
 -- of a version that not all items have the parts say the same
 said_same : (all : Versions) (ps ts : List Part) (i v : Name) → AllZip (TellsPart all) ps ts → all v ≡ false → said ts i v ≡ said ps i v
 said_same all [] [] i v tell lacks = refl
 said_same all [] (t ∷ ts) i v tell lacks = absurd tell
 said_same all (p ∷ ps) [] i v tell lacks = absurd tell
-said_same all (p ∷ ps) (t ∷ ts) i v tell lacks =
-    rw (tell.0.0, one_said all p.versions t.versions p.items v tell.0.1 lacks, said_same all ps ts i v tell.1 lacks) refl
+said_same all (p ∷ ps) (t ∷ ts) i v tell lacks = grind (arith, said_same all ps ts i v tell.1 lacks, one_said)
 
 -- and so they do of one that all have, since the first part says it of all
 all_said : (all : Versions) (ps ts : List Part) (i v : Name) → AllZip (TellsPart all) ((record { items = None; versions = all }) ∷ ps) ts → said ts i v ≡ said ((record { items = None; versions = all }) ∷ ps) i v
-all_said all ps [] i v tell = absurd tell
-all_said all ps (t ∷ ts) i v tell = go (cases_Bool (all v))
-  where
-    go : (all v ≡ true) ⊎ (all v ≡ false) → said (t ∷ ts) i v ≡ said ((record { items = None; versions = all }) ∷ ps) i v
-    go (inl has) = rw (tell.0.0, tell.0.1, has) refl
-    go (inr lacks) = said_same all ((record { items = None; versions = all }) ∷ ps) (t ∷ ts) i v tell lacks
+all_said all ps ts i v tell = grind (arith, cases_Bool, said_same)
 
 -- ---- the fragments
 

@@ -3,7 +3,7 @@ use Rattle.std.proofs.Common.{◌≡◌, ◌<◌, ◌≤◌, ◌+◌, ◌-◌, �
 use Rattle.std.specs.Prelude.{if◌then◌else◌}
 use Rattle.std.proofs.lemmas.Bool.{false≢true, cases_lt, cases_eq, lt-ltb, le-ltb, eq-eqb, ne_eqb}
 use Rattle.std.proofs.lemmas.Bool.Decides.{nat_tests}
-use Rattle.std.proofs.lemmas.List.Elements.{All-nil, All-push}
+use Rattle.std.proofs.lemmas.List.Elements.{All-push}
 use Rattle.mr_forms.specs.Sets.{Versions, both}
 use Rattle.mr_forms.specs.Runs.{of_author, IsNextAuthor, HasNoAuthorFrom}
 use Rattle.mr_concise.specs.declared.column.Hole.{Hole}
@@ -18,7 +18,6 @@ use Rattle.mr_concise.specs.Vector.{column_of, vector_has, IsVectorFrom, with_co
 use Rattle.mr_concise.proofs.ColumnLemmas.{column_has-edges}
 use Rattle.mr_concise.proofs.LastLemmas.{column_has-above}
 use Rattle.mr_concise.proofs.SweepLemmas.{extend}
-use Rattle.mr_concise.proofs.UnionLemmas.{column_has-empty}
 use Rattle.mr_concise.proofs.VectorLemmas.{IsVectorFrom-with_column, column_of-with_column, with_column-insert}
 use Rattle.mr_itemset.specs.Told.{is_beyond, IsTold, IsToldOfAuthor, AreTold}
 use Rattle.mr_itemset.specs.inner.Told.{Skips}
@@ -70,15 +69,7 @@ if_false b x y e = rw e refl
 
 module _ (all own : ℕ → Bool) (holes : List Hole) (upto first last : ℕ) (w : Walked all own holes upto) (next : IsNextIn (is_beyond all own) (upto + 1) first) (further : first ≤ last) (last_beyond : is_beyond all own last ≡ true) (row : (c : ℕ) → first ≤ c → c ≤ last → own c ≡ true) (bound : last < COUNTERS_END) where
   from_here : (c : ℕ) → first ≤ c → c < last + 1 → IsTold all own c
-  from_here c from to = record {
-    first = first;
-    last = last;
-    above = from;
-    below = omega arith;
-    begins = inr next.is_in;
-    ends = last_beyond;
-    has = row;
-  }
+  from_here c from to = grind arith
 
   -- the step, where the holes are then these
   made : (new : List Hole) → IsRising 0 (hole_edges new ++ (last + 1) ∷ []) → ((c : ℕ) → 1 ≤ c → c < last + 1 → (on new (last + 1) c ≡ true) ↔ IsTold all own c) → ((c : ℕ) → last + 1 ≤ c → on new (last + 1) c ≡ false) → Walked all own new last
@@ -92,21 +83,7 @@ module _ (all own : ℕ → Bool) (holes : List Hole) (upto first last : ℕ) (w
 
   -- a hole is between
   skipped : (at : ℕ) → upto + 1 ≤ at → at < first → own at ≡ false → (c : ℕ) → upto < c → c < first → IsTold all own c → ⊥
-  skipped at low high lacks c from to told =
-      let above = told.above in
-      let below = told.below in
-      let ends : first ≤ told.last = elim (cases_lt told.last first) [
-        | inl before ↦ absurd (false≢true (sym (next.between told.last (omega arith) before) ∙ told.ends))
-        | inr behind ↦ behind
-      ] in
-      let begins : told.first ≤ upto + 1 = elim told.begins [
-        | inl one ↦ omega arith
-        | inr beyond ↦ elim (cases_lt told.first (upto + 1)) [
-          | inl before ↦ omega arith
-          | inr behind ↦ absurd (false≢true (sym (next.between told.first behind (omega arith)) ∙ beyond))
-        ]
-      ] in
-      false≢true (sym lacks ∙ told.has at (omega arith) (omega arith))
+  skipped at low high lacks c from to told = grind (arith, cases_lt, false≢true)
 
   abbrev hole : Hole
   hole = record { first = upto + 1; last = first - 1 }
@@ -199,8 +176,7 @@ module _ (all own : ℕ → Bool) (holes : List Hole) (upto first last : ℕ) (w
 
   -- one step of the walk
   pub walked_more : (new : List Hole) → Skips own (upto + 1) first holes new → Walked all own new last
-  walked_more new (inl has) = subst (λ (hs : List Hole). Walked all own hs last) (sym has.0) (walked_on has.1)
-  walked_more new (inr left) = subst (λ (hs : List Hole). Walked all own hs last) (sym left.0) (walked_hole left.1.0 left.1.1.0 left.1.1.1.0 left.1.1.1.1)
+  walked_more new h = grind (arith, walked_on, walked_hole)
 
 -- where nothing is left, the column has what is told
 pub walked_end : (all own : ℕ → Bool) (holes : List Hole) (upto : ℕ) → Walked all own holes upto → own 0 ≡ false → HasNoneFrom (is_beyond all own) (upto + 1) → (c : ℕ) → (column_has (record { upto = upto; holes = holes }) c ≡ true) ↔ IsTold all own c
@@ -219,12 +195,7 @@ walked_end all own holes upto w zero_out none c = go (cases_lt c 1) (cases_lt up
 
 -- what the item has beside is beyond, with what all have or without
 beside_beyond : (a o : Bool) → ((a || o) && not a) ≡ (o && not a)
-beside_beyond true o = sym (and_false o)
-  where
-    and_false : (b : Bool) → (b && false) ≡ false
-    and_false true = refl
-    and_false false = refl
-beside_beyond false o = refl
+beside_beyond a o = grind arith
 
 or_second : (a o : Bool) → o ≡ true → (a || o) ≡ true
 or_second true o has = refl
@@ -242,11 +213,7 @@ module _ (all own : ℕ → Bool) where
   beyond_beside c is = sym (beside_beyond (all c) (own c)) ∙ is
 
   pub next_with : (from at : ℕ) → IsNextIn (is_beyond all own) from at → IsNextIn (is_beyond all (joined all own)) from at
-  next_with from at next = record {
-    above = next.above;
-    is_in = beyond_with at next.is_in;
-    between = λ c low high. beside_beyond (all c) (own c) ∙ next.between c low high;
-  }
+  next_with from at next = grind (arith, beyond_with, beside_beyond)
 
   pub none_with : (from : ℕ) → HasNoneFrom (is_beyond all own) from → HasNoneFrom (is_beyond all (joined all own)) from
   none_with from none c low = beside_beyond (all c) (own c) ∙ none c low
@@ -281,12 +248,10 @@ pub record ToldTo (all own : Versions) (columns : List AuthorColumn) (id : ℕ) 
 
 -- nothing is told of an author of whom the item has nothing beside
 nothing_told : (all mine : Versions) (q : ℕ) → ((c : ℕ) → of_author mine q c ≡ false) → (c : ℕ) → IsToldOfAuthor all (both all mine) q c → ⊥
-nothing_told all mine q none c told =
-    false≢true (sym (none told.last) ∙ (beyond_parts (of_author all q) (of_author mine q) told.last (beyond_beside (of_author all q) (of_author mine q) told.last told.ends)).0)
+nothing_told all mine q h c told = grind (arith, false≢true, beyond_parts, beyond_beside)
 
 none_in : (column : Extent) → column.upto ≤ 0 → (c : ℕ) → column_has column c ≡ false
-none_in column none zero = refl
-none_in column none (suc c) = column_has-above column (suc c) (omega arith)
+none_in column h c = grind (arith, column_has-above)
 
 module _ (all mine : Versions) (columns : List AuthorColumn) (id author : ℕ) (column : Extent) (w : ToldTo all (both all mine) columns id) (next : IsNextAuthor mine id author) (told : (c : ℕ) → (column_has column c ≡ true) ↔ IsToldOfAuthor all (both all mine) author c) where
   abbrev own : Versions

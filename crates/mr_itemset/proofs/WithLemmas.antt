@@ -108,8 +108,7 @@ not_many k learned set item many q same = go (cases_Bool (list_any (name_eq q) m
 
 -- another item that is not listed has just that
 unlisted_same : (k : Normal) (learned set : Versions) (item q : Name) → name_eq item q ≡ false → list_any (name_eq q) (items_of k.listed) ≡ false → IsSame (grown_with k learned item set q) (both learned (vector_has k.all))
-unlisted_same k learned set item q other free v =
-    ap (λ (b : Bool). (b && set v) || (learned v || normal_known k q v)) other ∙ ap (λ (c : List AuthorColumn). learned v || vector_has c v) (vector_in-unlisted k.all k.listed q free)
+unlisted_same k learned set item q other free v = grind (arith, vector_in-unlisted)
 
 -- the many are listed, or the item
 listed_or_item : {limit : ℕ} (k : Normal) (learned set : Versions) (item : Name) (many : ListsTooMany limit (grown_with k learned item set)) (q : Name) → list_any (name_eq q) many.items ≡ true → list_any (name_eq q) (item ∷ items_of k.listed) ≡ true
@@ -130,10 +129,7 @@ listed_alone k learned set item many known q any = go (or_cases (name_eq q item)
     go (inl here) (inr none) = absurd (false≢true (sym none ∙ ap (λ (z : Name). list_any (name_eq z) many.items) (sym (same_name q item here)) ∙ any))
 
 covered_same : (l x a : Bool) → (x ≡ true → (l || a) ≡ true) → (a ≡ true → x ≡ true) → (l || x) ≡ (l || a)
-covered_same true x a up down = refl
-covered_same false true a up down = sym (up refl)
-covered_same false false true up down = down refl
-covered_same false false false up down = refl
+covered_same l x a up down = grind arith
 
 nothing_new : (s a : Bool) → (s ≡ true → a ≡ true) → (s || a) ≡ a
 nothing_new true a h = sym (h refl)

@@ -15,7 +15,7 @@ use Rattle.mr_itemset.specs.inner.Entries.{listed_as}
 use Rattle.mr_itemset.specs.Equal.{normal_eq}
 use Rattle.mr_itemset.specs.Folded.{both_columns, united, gained, folded}
 use Rattle.mr_itemset.specs.Groups.{Alike, takes, all_grouped}
-use Rattle.mr_itemset.specs.inner.Groups.{place_of, FillInTurn}
+use Rattle.mr_itemset.specs.inner.Groups.{FillInTurn, TakesAt}
 use Rattle.mr_itemset.specs.ItemForm.{with_all}
 use Rattle.mr_itemset.specs.Normal.{Normal, vector_of, normal_known, IsNormal}
 use Rattle.mr_itemset.specs.NormalForm.{is_of}
@@ -135,13 +135,6 @@ folded_other = refl
 pub groups : all_grouped MAX_ITEMS [] known.listed ≡ alike (first 5) (name 1 1 ∷ name 1 3 ∷ []) ∷ alike (first 6) (name 1 2 ∷ []) ∷ []
 groups = refl
 
--- groups are counted from 0
-pub second_group : place_of MAX_ITEMS (all_grouped MAX_ITEMS [] known.listed) (first 6) ≡ Some 1
-second_group = refl
-
-pub no_group : place_of MAX_ITEMS (all_grouped MAX_ITEMS [] known.listed) (first 3) ≡ None
-no_group = refl
-
 -- of two items at most a group with one takes another of its vector, but of no other
 pub takes_second : takes 2 (alike (first 5) (name 1 1 ∷ [])) (first 5) ≡ true
 takes_second = refl
@@ -159,12 +152,12 @@ in_twos = all_grouped 2 [] (listed_as (name 1 1) (first 5) ∷ listed_as (name 1
 pub begins_anew : in_twos ≡ alike (first 5) (name 1 1 ∷ name 1 3 ∷ []) ∷ alike (first 6) (name 1 2 ∷ []) ∷ alike (first 5) (name 1 4 ∷ []) ∷ []
 begins_anew = refl
 
--- which takes the fourth; none takes one where each is full
-pub place_behind_full : place_of 2 in_twos (first 5) ≡ Some 2
-place_behind_full = refl
+-- the first group takes a third item of its vector, and the second one none of it
+pub takes_at_first : TakesAt (all_grouped MAX_ITEMS [] known.listed) (first 5) 0
+takes_at_first = (omega arith, λ d. refl)
 
-pub no_place_in_full : place_of 2 (all_grouped 2 [] known.listed) (first 5) ≡ None
-no_place_in_full = refl
+pub takes_not_at_second : ¬ TakesAt (all_grouped MAX_ITEMS [] known.listed) (first 5) 1
+takes_not_at_second there = let takes = there.1 (alike [] []) in cc
 
 -- no group comes before one with its vector that still takes items
 pub half_full_before : ¬ FillInTurn 2 (alike (first 5) (name 1 1 ∷ []) ∷ alike (first 5) (name 1 3 ∷ []) ∷ [])

@@ -15,7 +15,7 @@ use crate::knowledge::ItemsUpTo;
 use crate::settled::Settled;
 use mr_concise::Source;
 use mr_forms::FormFault;
-use mr_version::ItemId;
+use mr_version::{ItemId, Version};
 use std::alloc::AllocError;
 
 /// Whether each item is higher than the one before it.
@@ -65,8 +65,9 @@ impl<const LIMIT: usize> ItemsUpTo<LIMIT> {
         requires { IsNormal LIMIT self.now }
         ensures { (result ≡ true) ↔ HasHoleyItem (with_each (normal_known self.now) items.now (S.has set.now)) }
     {
+        let nothing: Option<Version> = None;
         for item in items {
-            if self.would_be_holey_at(*item, set) {
+            if self.would_be_holey_more(*item, &nothing, set) {
                 return true;
             }
         }

@@ -1,66 +1,28 @@
-//! Knowledge as fragments, in normal form, and its text.
-ghost use Rattle.std.specs.Prelude.{◌≡◌, ◌++◌, All, IfOk, OnOk, OnErr, Err, map, string_bytes};
-ghost use Rattle.mr_forms.specs.Known.{AreSame};
-ghost use Rattle.mr_forms.specs.Covered.{all_covered, HasItems};
-ghost use Rattle.mr_forms.specs.Parts.{part_of, ArePartsThat};
-ghost use Rattle.mr_concise.specs.Vector.{vector_has};
-ghost use Rattle.mr_itemset.specs.Normal.{normal_known};
-ghost use Rattle.mr_itemset.specs.ItemForm.{IsNormalPart};
-ghost use Rattle.mr_itemset.specs.NormalForm.{AreNormal};
-ghost use Rattle.mr_itemset.specs.Shown.{shown, shown_group, fragments_in, normal_text};
+//! Groups as fragments.
+ghost use Rattle.std.specs.Prelude.{◌≡◌, ◌∷◌, None, IfOk, OnErr, Err, map};
+ghost use Rattle.mr_itemset.specs.Shown.{shown, shown_group};
 
-use crate::groups::{Group, groups_of};
-use crate::settled::Settled;
-use mr_concise::{ConciseVector, knowledge_text};
-use mr_forms::{FormFault, Fragment, ItemSet, VersionSet};
+use crate::groups::OwnGroup;
+use mr_concise::ConciseVector;
+use mr_forms::{FormFault, Fragment, ItemSet};
+use std::alloc::Global;
 
-/// Puts a fragment of each group behind the others.
-pub(crate) fn push_groups(
-    fragments: &mut Vec<Fragment<ConciseVector>>,
-    groups: Vec<Group<'_>>,
-) -> Result<(), FormFault>
-    ensures ok { OnOk result (map shown fragments.new.items ≡ map shown fragments.old.items ++ map shown_group groups.entry.items) }
+/// A fragment of all items, whose vector may be empty, and behind it one of each group.
+pub(crate) fn fragments_of(
+    alloc: Global,
+    all: ConciseVector,
+    groups: Vec<OwnGroup>,
+) -> Result<Vec<Fragment<ConciseVector>>, FormFault>
+    ensures ok { IfOk result (λ fragments. map shown fragments.items ≡ (record { items = None; vector = all }) ∷ map shown_group groups.items) }
     ensures memory { OnErr result (result ≡ Err FormFault.OutOfMemory) }
 {
+    let mut fragments = Vec::with_capacity(alloc, groups.len() + 1)?;
+    fragments.push(Fragment {
+        items: ItemSet::All,
+        vector: all,
+    })?;
     for group in groups {
-        fragments.push(group.into_fragment()?)?;
+        fragments.push(group.into_fragment())?;
     }
-    Ok(())
-}
-
-impl<const LIMIT: usize> Settled<LIMIT> {
-    /// The knowledge as fragments, in normal form. That of all items comes first, and its vector may be
-    /// empty. Each listed item is in one of the others, with a vector that has all that all items have,
-    /// and more. Items of one vector are in one fragment, or, where they are more than `MAX_ITEMS`, in
-    /// several: the lowest `MAX_ITEMS` in the first, and so on. Fragments come by their first items, and
-    /// the items of each rise. `OutOfMemory` is the only fault. For n listed items it takes about n log n
-    /// comparisons of vectors.
-    pub(crate) fn fragments(&self) -> Result<Vec<Fragment<ConciseVector>>, FormFault>
-        ensures are { IfOk result (λ fragments. map shown fragments.items ≡ fragments_in self.now) }
-        ensures normal { IfOk result (λ fragments. AreNormal (map (part_of vector_has) fragments.items)) }
-        ensures ok { IfOk result (λ fragments. AreSame (normal_known self.now) (all_covered vector_has fragments.items)) }
-        ensures items { IfOk result (λ fragments. All (λ fragment. HasItems fragment.items) fragments.items) }
-        ensures parts { IfOk result (λ fragments. ArePartsThat (IsNormalPart self.now) (map (part_of vector_has) fragments.items)) }
-        ensures memory { OnErr result (result ≡ Err FormFault.OutOfMemory) }
-    {
-        let alloc = self.allocator();
-        let mut fragments = Vec::new(alloc);
-        fragments.push(Fragment {
-            items: ItemSet::All,
-            vector: self.for_all().copy()?,
-        })?;
-        let groups = groups_of(self.listed(), alloc)?;
-        push_groups(&mut fragments, groups)?;
-        Ok(fragments)
-    }
-
-    /// The text of the knowledge: `all` or items with commas between them, a space and the vector's text,
-    /// for each fragment, and `; ` between the fragments, as `all 0:4; 0.3,0.5 0:9!2!5..7`.
-    pub(crate) fn text(&self) -> Result<String, FormFault>
-        ensures ok { IfOk result (λ text. string_bytes text ≡ normal_text self.now) }
-        ensures memory { OnErr result (result ≡ Err FormFault.OutOfMemory) }
-    {
-        let fragments = self.fragments()?;
-        Ok(knowledge_text(self.allocator(), &fragments)?)
-    }
+    Ok(fragments)
 }

@@ -2,19 +2,20 @@
 ghost use Rattle.std.specs.Prelude.{◌≡◌, IsSome, OnOk, OnErr};
 ghost use Rattle.std.specs.BTreeMap.{get, Updates, IsOrdered};
 ghost use Rattle.mr_version.specs.Name.{name_cmp};
-ghost use Rattle.mr_forms.specs.Sets.{IsSame, with_version};
+ghost use Rattle.mr_forms.specs.Sets.{both};
 ghost use Rattle.mr_forms.specs.Known.{AreSame, with_below};
-ghost use Rattle.mr_concise.specs.Vector.{vector_has};
+ghost use Rattle.mr_concise.specs.Vector.{vector_has, IsVectorOf};
 ghost use Rattle.mr_itemset.specs.Normal.{normal_known};
 ghost use Rattle.mr_itemset.specs.inner.Entries.{listed_of};
 ghost use Rattle.mr_itemset.specs.inner.Placed.{placed, HasRoom};
 
 use crate::knowledge::Listed;
+use crate::pending::only_version;
 use crate::settled::{Settled, Vectors};
 use mr_concise::{ConciseVector, Source};
 use mr_forms::VersionSet;
-use mr_version::{ItemId, Version};
-use std::alloc::AllocError;
+use mr_version::ItemId;
+use std::alloc::{AllocError, Global};
 
 /// Puts an item in its place.
 pub(crate) fn put_in(listed: &mut Vectors, new: Listed) -> Result<(), AllocError>
@@ -43,20 +44,50 @@ fn put_back(listed: &mut Vectors, item: ItemId, before: Option<ConciseVector>)
     }
 }
 
-/// Puts an item in its place, and adds the version to those that are pending: both or neither.
-pub(crate) fn put_in_with(
+/// Adds versions to a vector. It costs a search for one version; for more, a walk through them and through what the
+/// vector has of their authors.
+pub(crate) fn add_all<A: Source>(
+    vector: &mut ConciseVector,
+    alloc: Global,
+    learned: &A,
+) -> Result<(), AllocError>
+    ensures ok { OnOk result (IsVectorOf (both (A.has learned.now) (vector_has vector.old)) vector.new) }
+    ensures err { OnErr result (vector.new ≡ vector.old) }
+{
+    if let Some(version) = only_version(learned) {
+        let Ok(()) = vector.insert(version) else {
+            return Err(AllocError);
+        };
+        // a vector's columns are as they have to be
+        let _columns = vector.author_columns();
+        return Ok(());
+    }
+    let Ok(more) = ConciseVector::gather(alloc, learned) else {
+        return Err(AllocError);
+    };
+    let Ok(()) = vector.union(&more) else {
+        return Err(AllocError);
+    };
+    // the united columns are as they have to be
+    let _united = vector.author_columns();
+    Ok(())
+}
+
+/// Puts an item in its place, and adds versions to those that are pending: both or neither.
+pub(crate) fn put_in_with<A: Source>(
     listed: &mut Vectors,
     new: Listed,
     pending: &mut ConciseVector,
-    version: Version,
+    alloc: Global,
+    learned: &A,
 ) -> Result<(), AllocError>
     ensures ok { OnOk result (listed_of listed.new.entries ≡ placed new (listed_of listed.old.entries)) }
-    ensures pending { OnOk result (IsSame (vector_has pending.new) (with_version (vector_has pending.old) version)) }
+    ensures pending { OnOk result (IsVectorOf (both (A.has learned.now) (vector_has pending.old)) pending.new) }
     ensures err { OnErr result ((listed.new.entries ≡ listed.old.entries) × (pending.new ≡ pending.old)) }
 {
     let item = new.item;
     let before = listed.insert(item, new.vector)?;
-    let Ok(()) = pending.insert(version) else {
+    let Ok(()) = add_all(pending, alloc, learned) else {
         put_back(listed, item, before);
         return Err(AllocError);
     };

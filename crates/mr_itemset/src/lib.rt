@@ -30,7 +30,6 @@
 #![tactic(auto)]
 
 mod below;
-mod checks;
 mod each;
 mod equal;
 mod form;
@@ -46,10 +45,8 @@ mod listing;
 mod merge;
 mod merging;
 mod more;
-mod moved;
 mod pending;
 mod rule;
-mod settle;
 mod settled;
 mod sparing;
 mod steps;

@@ -10,22 +10,6 @@ use mr_concise::OfSet;
 use mr_forms::{FormFault, Fragment, ItemSet, VersionSet};
 
 impl<const LIMIT: usize> ItemsUpTo<LIMIT> {
-    /// The fault that `learn_for_all` would answer where memory is there. It allocates nothing.
-    fn may_learn_for_all<S: VersionSet>(&self, set: &S) -> Result<(), FormFault>
-        ensures holes { IsErrOf result FormFault.TooManyHoles ↔ HasHoleyItem (with_all (normal_known self.now) (S.has set.now)) }
-        ensures items { IsErrOf result FormFault.TooManyItems ↔ IsOnlyOverItems (items_form LIMIT) (with_all (normal_known self.now) (S.has set.now)) }
-        ensures few { result ≢ Err FormFault.TooManyItems }
-        ensures memory { result ≢ Err FormFault.OutOfMemory }
-    {
-        if !self.all_lack(&OfSet { set }) {
-            return Ok(());
-        }
-        if self.would_be_holey_for_more(&OfSet { set }) {
-            return Err(FormFault::TooManyHoles);
-        }
-        Ok(())
-    }
-
     /// Adds all versions of a set for all items. It lists no item, so `TooManyItems` never comes. It costs
     /// a walk through the set, and through what waits of its authors; where holes may come near their limit,
     /// a copy of each listed vector. Where all items have the set already nothing is copied.
@@ -36,15 +20,10 @@ impl<const LIMIT: usize> ItemsUpTo<LIMIT> {
         ensures none { result ≢ Err FormFault.TooManyItems }
         ensures err { OnErr result (self.new ≡ self.old) }
     {
-        self.may_learn_for_all(set)?;
         if !self.all_lack(&OfSet { set }) {
             return Ok(());
         }
-        if self.try_learn_for_all(&OfSet { set })? {
-            return Ok(());
-        }
-        self.settle_all(&OfSet { set })?;
-        Ok(())
+        self.grow(&None, &OfSet { set }, &OfSet { set })
     }
 
     /// The fault that `merge` would answer where memory is there. It allocates nothing.
@@ -53,14 +32,12 @@ impl<const LIMIT: usize> ItemsUpTo<LIMIT> {
         ensures items { IsErrOf result FormFault.TooManyItems ↔ IsOnlyOverItems (items_form LIMIT) (with_pairs (normal_known self.now) (covered S.has fragment.now)) }
         ensures memory { result ≢ Err FormFault.OutOfMemory }
     {
+        let set = OfSet {
+            set: &fragment.vector,
+        };
         match &fragment.items {
-            ItemSet::All => self.may_learn_for_all(&fragment.vector),
-            ItemSet::Listed(items) => self.may_learn_for_each(
-                items,
-                &OfSet {
-                    set: &fragment.vector,
-                },
-            ),
+            ItemSet::All => self.may_grow(&None, &set, &set),
+            ItemSet::Listed(items) => self.may_learn_for_each(items, &set),
         }
     }
 

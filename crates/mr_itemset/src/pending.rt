@@ -1,24 +1,21 @@
 //! What tells without a look at the listed items that no limit is near.
-ghost use Rattle.std.specs.Prelude.{◌≡◌, ◌≤◌, ◌+◌, ℕ, true, false, length, IfOk, IfSome, OnErr};
+ghost use Rattle.std.specs.Prelude.{◌≡◌, ◌≤◌, ◌+◌, ℕ, true, IfOk, IfSome};
 ghost use Rattle.mr_version.specs.Name.{name_eq};
-ghost use Rattle.mr_forms.specs.Sets.{IsSame, both, with_version};
+ghost use Rattle.mr_forms.specs.Sets.{IsSame, both};
 ghost use Rattle.mr_forms.specs.Known.{AreSame, with_below};
 ghost use Rattle.mr_concise.specs.declared.column.TheConstants.{MAX_HOLES};
-ghost use Rattle.mr_concise.specs.Vector.{column_of, vector_has, IsVectorOf};
+ghost use Rattle.mr_concise.specs.Vector.{vector_has, IsVectorOf};
 ghost use Rattle.mr_itemset.specs.Normal.{normal_known, vector_of, IsNormal};
-ghost use Rattle.mr_itemset.specs.ItemForm.{with_all};
 ghost use Rattle.mr_itemset.specs.Folded.{HasAtMost, IsSparse};
-ghost use Rattle.mr_itemset.specs.inner.Folded.{HasLeeway};
 ghost use Rattle.mr_itemset.specs.inner.Lacking.{Lacks};
 ghost use Rattle.mr_itemset.specs.inner.Placed.{placed, HasRoom};
 
 use crate::knowledge::Listed;
-use crate::limits::lacks;
 use crate::settled::Settled;
 use mr_concise::{ConciseVector, MAX_HOLES, Source};
-use mr_forms::{FormFault, VersionSet};
+use mr_forms::FormFault;
 use mr_version::{ItemId, Version};
-use std::alloc::{AllocError, Global};
+use std::alloc::AllocError;
 
 /// The higher of two numbers.
 fn higher(a: usize, b: usize) -> usize
@@ -39,22 +36,6 @@ pub(crate) fn most_holes(vector: &ConciseVector) -> usize
         most = higher(most, x.column.holes().len());
     }
     most
-}
-
-/// Whether a column may have these holes, those of the vector's, and one more.
-pub(crate) fn leaves_room(vector: &ConciseVector, most: usize) -> bool
-    requires { most ≤ MAX_HOLES }
-    ensures { result ≡ true → HasLeeway vector.now most }
-{
-    most + most_holes(vector) < MAX_HOLES
-}
-
-/// Whether a column may have these holes and those of the vector's.
-fn has_room_beside(vector: &ConciseVector, most: usize) -> bool
-    requires { most ≤ MAX_HOLES }
-    ensures { result ≡ true → (q : ℕ) → most + length (column_of vector.now q).holes ≤ MAX_HOLES }
-{
-    most + most_holes(vector) <= MAX_HOLES
 }
 
 /// Whether a column may have all these holes together.
@@ -85,41 +66,6 @@ pub(crate) fn only_version<S: Source>(source: &S) -> Option<Version>
         Ok(version) => Some(version),
         Err(_) => None,
     }
-}
-
-/// The vector of a source. `None` where it would have too many holes.
-pub(crate) fn gathered<S: Source>(
-    alloc: Global,
-    source: &S,
-) -> Result<Option<ConciseVector>, AllocError>
-    ensures { IfOk result (λ vector. IfSome vector (IsVectorOf (S.has source.now))) }
-{
-    match ConciseVector::gather(alloc, source) {
-        Ok(vector) => Ok(Some(vector)),
-        Err(FormFault::OutOfMemory) => Err(AllocError),
-        Err(_) => Ok(None),
-    }
-}
-
-/// A vector with two versions more. It costs a copy of it, and two searches.
-pub(crate) fn with_two(
-    vector: &ConciseVector,
-    two: &(Version, Version),
-) -> Result<ConciseVector, AllocError>
-    ensures { IfOk result (IsVectorOf (both (both (name_eq two.now.0) (name_eq two.now.1)) (vector_has vector.now))) }
-{
-    let Ok(mut more) = vector.copy() else {
-        return Err(AllocError);
-    };
-    let Ok(()) = more.insert(two.0) else {
-        return Err(AllocError);
-    };
-    let Ok(()) = more.insert(two.1) else {
-        return Err(AllocError);
-    };
-    // a vector's columns are as they have to be
-    let _columns = more.author_columns();
-    Ok(more)
 }
 
 impl<const LIMIT: usize> Settled<LIMIT> {
@@ -159,7 +105,7 @@ impl<const LIMIT: usize> Settled<LIMIT> {
 
     /// The item with these versions, to be listed, and the most holes of a column of any item then, where they
     /// were so many before. `None` where its vector would have too many holes, or may not be listed.
-    fn grown_item<S: Source>(
+    pub(crate) fn grown_item<S: Source>(
         &self,
         most: usize,
         item: ItemId,
@@ -181,95 +127,4 @@ impl<const LIMIT: usize> Settled<LIMIT> {
         let holes = higher(most_holes(&vector), most);
         Ok(Some((Listed { item, vector }, holes)))
     }
-}
-
-/// Lists the versions for the item, where it may be listed and the holes of its columns leave room for those
-/// that are pending. `false` where they don't.
-fn try_list<S: Source, const LIMIT: usize>(
-    settled: &mut Settled<LIMIT>,
-    most: &mut usize,
-    pending: &ConciseVector,
-    item: ItemId,
-    set: &S,
-) -> Result<bool, AllocError>
-    requires sparse { IsSparse settled.old most.old }
-    requires bound { most.old ≤ MAX_HOLES }
-    requires lacks { Lacks (vector_has (vector_of settled.old item)) (S.has set.now) }
-    ensures done { IfOk result (λ done. done ≡ true → AreSame (normal_known settled.new) (with_below (normal_known settled.old) item (S.has set.now))) }
-    ensures sparse { IsSparse settled.new most.new }
-    ensures normal { IsNormal LIMIT settled.new }
-    ensures room { ((q : ℕ) → most.old + length (column_of pending.now q).holes ≤ MAX_HOLES) → (q : ℕ) → most.new + length (column_of pending.now q).holes ≤ MAX_HOLES }
-    ensures not { IfOk result (λ done. done ≡ false → (settled.new ≡ settled.old) × (most.new ≡ most.old)) }
-    ensures err { OnErr result ((settled.new ≡ settled.old) × (most.new ≡ most.old)) }
-{
-    let Some((new, holes)) = settled.grown_item(*most, item, set)? else {
-        return Ok(false);
-    };
-    if !has_room_beside(pending, holes) {
-        return Ok(false);
-    }
-    settled.list(new)?;
-    // what is settled is in its normal form
-    let _listed = settled.listed();
-    *most = holes;
-    Ok(true)
-}
-
-/// Lists the versions for the item and adds the version to those that are pending, where the item may be
-/// listed and the holes of its columns leave room. `false` where they don't.
-pub(crate) fn try_list_with<S: Source, const LIMIT: usize>(
-    settled: &mut Settled<LIMIT>,
-    most: &mut usize,
-    pending: &mut ConciseVector,
-    item: ItemId,
-    version: Version,
-    set: &S,
-) -> Result<bool, AllocError>
-    requires sparse { IsSparse settled.old most.old }
-    requires bound { most.old ≤ MAX_HOLES }
-    requires lacks { Lacks (vector_has (vector_of settled.old item)) (S.has set.now) }
-    ensures done { IfOk result (λ done. done ≡ true → AreSame (normal_known settled.new) (with_below (normal_known settled.old) item (S.has set.now))) }
-    ensures pending { IfOk result (λ done. done ≡ true → IsSame (vector_has pending.new) (with_version (vector_has pending.old) version)) }
-    ensures leeway { IfOk result (λ done. done ≡ true → HasLeeway pending.old most.new) }
-    ensures more { most.old ≤ most.new }
-    ensures sparse { IsSparse settled.new most.new }
-    ensures normal { IsNormal LIMIT settled.new }
-    ensures not { IfOk result (λ done. done ≡ false → (settled.new ≡ settled.old) × (pending.new ≡ pending.old) × (most.new ≡ most.old)) }
-    ensures err { OnErr result ((settled.new ≡ settled.old) × (pending.new ≡ pending.old) × (most.new ≡ most.old)) }
-{
-    let Some((new, holes)) = settled.grown_item(*most, item, set)? else {
-        return Ok(false);
-    };
-    if !leaves_room(pending, holes) {
-        return Ok(false);
-    }
-    settled.list_with(new, pending, version)?;
-    // what is settled is in its normal form
-    let _listed = settled.listed();
-    *most = holes;
-    Ok(true)
-}
-
-/// Adds the versions for the item, of which those that are pending need not be listed. `false` where a limit
-/// may be near.
-pub(crate) fn try_below<S: Source, const LIMIT: usize>(
-    settled: &mut Settled<LIMIT>,
-    most: &mut usize,
-    pending: &ConciseVector,
-    item: ItemId,
-    set: &S,
-) -> Result<bool, AllocError>
-    requires sparse { IsSparse settled.old most.old }
-    requires bound { most.old ≤ MAX_HOLES }
-    ensures done { IfOk result (λ done. done ≡ true → AreSame (with_all (normal_known settled.new) (vector_has pending.now)) (with_below (with_all (normal_known settled.old) (vector_has pending.now)) item (S.has set.now))) }
-    ensures sparse { IsSparse settled.new most.new }
-    ensures normal { IsNormal LIMIT settled.new }
-    ensures room { ((q : ℕ) → most.old + length (column_of pending.now q).holes ≤ MAX_HOLES) → (q : ℕ) → most.new + length (column_of pending.now q).holes ≤ MAX_HOLES }
-    ensures not { IfOk result (λ done. done ≡ false → (settled.new ≡ settled.old) × (most.new ≡ most.old)) }
-    ensures err { OnErr result ((settled.new ≡ settled.old) × (most.new ≡ most.old)) }
-{
-    if !lacks(&(pending, settled.vector_of(item)), set) {
-        return Ok(true);
-    }
-    try_list(settled, most, pending, item, set)
 }

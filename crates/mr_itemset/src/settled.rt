@@ -1,15 +1,19 @@
 //! Knowledge in its normal form.
-ghost use Rattle.std.specs.Prelude.{◌≡◌, OnOk, OnErr};
-ghost use Rattle.mr_forms.specs.Sets.{IsSame, with_version};
-ghost use Rattle.mr_concise.specs.Vector.{vector_has};
+ghost use Rattle.std.specs.Prelude.{◌≡◌, IfOk, OnOk, OnErr, Err, map};
+ghost use Rattle.mr_forms.specs.Sets.{both};
+ghost use Rattle.mr_concise.specs.Vector.{vector_has, IsVectorOf};
 ghost use Rattle.mr_itemset.specs.Normal.{Normal, IsNormal, vector_of};
 ghost use Rattle.mr_itemset.specs.inner.Entries.{listed_of, vectors_of};
 ghost use Rattle.mr_itemset.specs.inner.Placed.{placed};
+ghost use Rattle.mr_itemset.specs.Shown.{shown, fragments_in};
 
+use crate::fragments::fragments_of;
+use crate::groups::groups_of;
 use crate::item::{put_in, put_in_with};
 use crate::knowledge::Listed;
-use mr_concise::ConciseVector;
-use mr_version::{ItemId, Version};
+use mr_concise::{ConciseVector, Source};
+use mr_forms::{FormFault, Fragment};
+use mr_version::ItemId;
 use std::alloc::{AllocError, Global};
 use std::collections::BTreeMap;
 use std::collections::btree_map::Values;
@@ -86,20 +90,20 @@ impl<const LIMIT: usize> Settled<LIMIT> {
         put_in(&mut self.listed, new)
     }
 
-    /// Lists the item with all that is known of it, in place of what was, and adds the version to those
+    /// Lists the item with all that is known of it, in place of what was, and adds versions to those
     /// that are pending: both or neither.
-    pub(crate) fn list_with(
+    pub(crate) fn list_with<A: Source>(
         &mut self,
         new: Listed,
         pending: &mut ConciseVector,
-        version: Version,
+        learned: &A,
     ) -> Result<(), AllocError>
         requires { IsNormal LIMIT (record { all = self.old.all; listed = placed new self.old.listed }) }
         ensures ok { OnOk result (self.new ≡ record { all = self.old.all; listed = placed new self.old.listed }) }
-        ensures pending { OnOk result (IsSame (vector_has pending.new) (with_version (vector_has pending.old) version)) }
+        ensures pending { OnOk result (IsVectorOf (both (A.has learned.now) (vector_has pending.old)) pending.new) }
         ensures err { OnErr result ((self.new ≡ self.old) × (pending.new ≡ pending.old)) }
     {
-        put_in_with(&mut self.listed, new, pending, version)
+        put_in_with(&mut self.listed, new, pending, self.alloc, learned)
     }
 
     /// What is known of the item.
@@ -111,5 +115,15 @@ impl<const LIMIT: usize> Settled<LIMIT> {
             Some(vector) => vector,
             None => &self.all,
         }
+    }
+
+    /// The knowledge as fragments, in normal form. It costs no copy of a vector, but for those that share a slot.
+    pub(crate) fn into_fragments(self) -> Result<Vec<Fragment<ConciseVector>>, FormFault>
+        ensures are { IfOk result (λ fragments. map shown fragments.items ≡ fragments_in self.entry) }
+        ensures memory { OnErr result (result ≡ Err FormFault.OutOfMemory) }
+    {
+        let Settled { alloc, all, listed } = self;
+        let groups = groups_of(alloc, listed)?;
+        Ok(fragments_of(alloc, all, groups)?)
     }
 }

@@ -202,7 +202,7 @@ impl SparingKnowledge {
     {
         let set = OfSet { set: below };
         match self.spread(item, version, below) {
-            Some(learned) => self.items.may_learn_more(item, &learned, &set),
+            Some(learned) => self.items.may_grow(&Some(item), &learned, &set),
             None => self.items.may_learn_alone_with(item, version, &set),
         }
     }
@@ -226,7 +226,7 @@ impl SparingKnowledge {
     {
         let set = OfSet { set: below };
         match self.spread(item, version, below) {
-            Some(learned) => self.items.learn_more(item, &learned, &set),
+            Some(learned) => self.items.grow(&Some(item), &learned, &set),
             None => self.items.learn_alone_with(item, version, &set),
         }
     }

@@ -16,10 +16,7 @@ impl<const LIMIT: usize> ItemsUpTo<LIMIT> {
         ensures items { IsErrOf result FormFault.TooManyItems ↔ IsOnlyOverItems (items_form LIMIT) (with_learned true (normal_known self.now) item version) }
         ensures memory { result ≢ Err FormFault.OutOfMemory }
     {
-        if self.would_be_holey_for_all(version) {
-            return Err(FormFault::TooManyHoles);
-        }
-        Ok(())
+        self.may_grow(&None, &version, &version)
     }
 
     /// Adds the version for all items. It costs a search in what waits; where holes may come near their
@@ -30,12 +27,7 @@ impl<const LIMIT: usize> ItemsUpTo<LIMIT> {
         ensures items { IsErrOf result FormFault.TooManyItems ↔ IsOnlyOverItems (items_form LIMIT) (with_learned true (normal_known self.old) item version) }
         ensures err { OnErr result (self.new ≡ self.old) }
     {
-        self.may_learn(item, version)?;
-        if self.try_learn(version)? {
-            return Ok(());
-        }
-        self.settle_all(&version)?;
-        Ok(())
+        self.grow(&None, &version, &version)
     }
 
     /// The fault that `learn_below` would answer where memory is there. It allocates nothing.
@@ -44,13 +36,10 @@ impl<const LIMIT: usize> ItemsUpTo<LIMIT> {
         ensures items { IsErrOf result FormFault.TooManyItems ↔ IsOnlyOverItems (items_form LIMIT) (with_below (normal_known self.now) item (S.has set.now)) }
         ensures memory { result ≢ Err FormFault.OutOfMemory }
     {
-        if self.would_be_holey_at(item, set) {
-            return Err(FormFault::TooManyHoles);
-        }
-        if !self.has_room_at(item, set) {
-            return Err(FormFault::TooManyItems);
-        }
-        Ok(())
+        // what is settled is in its normal form
+        let _parts = self.parts();
+        let nothing: Option<Version> = None;
+        self.may_grow(&Some(item), &nothing, set)
     }
 
     /// Adds all versions of a set, of any form, for the item, and nothing else. It costs a search for the
@@ -61,16 +50,10 @@ impl<const LIMIT: usize> ItemsUpTo<LIMIT> {
         ensures items { IsErrOf result FormFault.TooManyItems ↔ IsOnlyOverItems (items_form LIMIT) (with_below (normal_known self.old) item (S.has set.now)) }
         ensures err { OnErr result (self.new ≡ self.old) }
     {
-        let Ok(done) = self.try_learn_below(item, set) else {
-            self.may_learn_below(item, set)?;
-            return Err(FormFault::OutOfMemory);
-        };
-        if done {
-            return Ok(());
-        }
-        self.may_learn_below(item, set)?;
-        self.settle_below(item, set)?;
-        Ok(())
+        // what is settled is in its normal form
+        let _parts = self.parts();
+        let nothing: Option<Version> = None;
+        self.grow(&Some(item), &nothing, set)
     }
 
     /// The fault that `learn_with` would answer where memory is there. It allocates nothing. It costs a
@@ -88,7 +71,7 @@ impl<const LIMIT: usize> ItemsUpTo<LIMIT> {
         ensures items { IsErrOf result FormFault.TooManyItems ↔ IsOverItemsInTurn (items_form LIMIT) (with_learned true (normal_known self.now) item version) (with_learned_below true (normal_known self.now) item version (S.has below.now)) }
         ensures memory { result ≢ Err FormFault.OutOfMemory }
     {
-        self.may_learn_more(item, &version, below)
+        self.may_grow(&Some(item), &version, below)
     }
 
     /// Learns a version that came with the set of versions below it: the version for all items, and
@@ -105,6 +88,6 @@ impl<const LIMIT: usize> ItemsUpTo<LIMIT> {
         ensures items { IsErrOf result FormFault.TooManyItems ↔ IsOverItemsInTurn (items_form LIMIT) (with_learned true (normal_known self.old) item version) (with_learned_below true (normal_known self.old) item version (S.has below.now)) }
         ensures err { OnErr result (self.new ≡ self.old) }
     {
-        self.learn_more(item, &(None, version), below)
+        self.grow(&Some(item), &version, below)
     }
 }

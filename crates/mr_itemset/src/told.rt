@@ -15,11 +15,12 @@ ghost use Rattle.mr_itemset.specs.Told.{IsToldOfAuthor, AreTold, IsToldOf};
 ghost use Rattle.mr_itemset.specs.inner.Grouping.{AreGroupsTold, GroupsTold, IsGrouping};
 ghost use Rattle.mr_itemset.specs.inner.Told.{beyond, Skips};
 
+use crate::fragments::fragments_of;
+use crate::groups::{Grouping, OwnGroup};
 use crate::knowledge::Listed;
-use crate::moved::{Grouping, OwnGroup, push_own_groups};
 use crate::settled::Settled;
 use mr_concise::{AuthorColumn, Column, ConciseVector, Hole, Source};
-use mr_forms::{FormFault, Fragment, ItemSet};
+use mr_forms::{FormFault, Fragment};
 use mr_version::{Author, ItemId, MAX_COUNTER};
 use std::alloc::{AllocError, Global};
 
@@ -283,12 +284,6 @@ impl<const LIMIT: usize> Settled<LIMIT> {
             return Err(FormFault::OutOfMemory);
         };
         let groups = self.told_groups(&all)?;
-        let mut fragments = Vec::with_capacity(alloc, groups.len() + 1)?;
-        fragments.push(Fragment {
-            items: ItemSet::All,
-            vector: all,
-        })?;
-        push_own_groups(&mut fragments, groups)?;
-        Ok(fragments)
+        Ok(fragments_of(alloc, all, groups)?)
     }
 }

@@ -11,7 +11,7 @@ ghost use Rattle.mr_itemset.specs.Shown.{shown, fragments_in, normal_text};
 
 use crate::knowledge::ItemsUpTo;
 use crate::settled::Settled;
-use mr_concise::ConciseVector;
+use mr_concise::{ConciseVector, knowledge_text};
 use mr_forms::{FormFault, Fragment, VersionSet};
 use mr_version::{ItemId, Version};
 use std::alloc::Global;
@@ -55,7 +55,7 @@ impl<const LIMIT: usize> ItemsUpTo<LIMIT> {
         ensures parts { IfOk result (λ fragments. ArePartsThat (IsNormalPart self.now) (map (part_of vector_has) fragments.items)) }
         ensures memory { OnErr result (result ≡ Err FormFault.OutOfMemory) }
     {
-        self.folded()?.fragments()
+        Ok(self.folded()?.into_fragments()?)
     }
 
     /// The text of the knowledge: `all` or items with commas between them, a space and the vector's text,
@@ -64,6 +64,7 @@ impl<const LIMIT: usize> ItemsUpTo<LIMIT> {
         ensures ok { IfOk result (λ text. string_bytes text ≡ normal_text self.now) }
         ensures memory { OnErr result (result ≡ Err FormFault.OutOfMemory) }
     {
-        self.folded()?.text()
+        let fragments = self.fragments()?;
+        Ok(knowledge_text(self.parts().settled.allocator(), &fragments)?)
     }
 }

@@ -1,9 +1,11 @@
 //! A set that is learned for one item, while all items learn some versions too.
-ghost use Rattle.std.specs.Prelude.{◌≡◌, true, false, All, IfOk};
+ghost use Rattle.std.specs.Prelude.{◌≡◌, true, false, None, Some, All, IfOk, IfSome};
 ghost use Rattle.mr_forms.specs.Sets.{Covers, both};
 ghost use Rattle.mr_forms.specs.Known.{AreSame, with_below};
+ghost use Rattle.mr_itemset.specs.inner.Growth.{with_some_below};
+ghost use Rattle.mr_itemset.specs.inner.Lacking.{Lacks};
 ghost use Rattle.mr_concise.specs.Vector.{vector_has};
-ghost use Rattle.mr_itemset.specs.Normal.{normal_known, IsNormal};
+ghost use Rattle.mr_itemset.specs.Normal.{normal_known, vector_of, IsNormal};
 ghost use Rattle.mr_itemset.specs.ItemForm.{ListsTooMany, with_all};
 ghost use Rattle.mr_itemset.specs.inner.Room.{Drops, HasRoomWith};
 
@@ -52,17 +54,40 @@ impl<const LIMIT: usize> Settled<LIMIT> {
         self.would_drop(learned)
     }
 
-    /// The knowledge with what all items learn, and the set for this one.
+    /// The item, if the set has something new for it, once all items have what they learn.
+    pub(crate) fn gaining<A: Source, S: Source>(
+        &self,
+        item: &Option<ItemId>,
+        learned: &A,
+        below: &S,
+    ) -> Option<ItemId>
+        ensures is { IfSome result (λ i. item.now ≡ Some i) }
+        ensures lacks { IfSome result (λ i. Lacks (both (A.has learned.now) (vector_has (vector_of self.now i))) (S.has below.now)) }
+        ensures none { result ≡ None → AreSame (with_all (normal_known self.now) (A.has learned.now)) (with_some_below (with_all (normal_known self.now) (A.has learned.now)) item.now (S.has below.now)) }
+    {
+        let Some(item) = item else {
+            return None;
+        };
+        if lacks(&(learned, self.vector_of(*item)), below) {
+            return Some(*item);
+        }
+        None
+    }
+
+    /// The knowledge with what all items learn, and the set for this one if there is one.
     pub(crate) fn with_learned_below<A: Source, S: Source>(
         &self,
-        item: ItemId,
+        item: &Option<ItemId>,
         learned: &A,
         below: &S,
     ) -> Result<Settled<LIMIT>, AllocError>
-        ensures { IfOk result (λ k. AreSame (normal_known k) (with_below (with_all (normal_known self.now) (A.has learned.now)) item (S.has below.now))) }
+        ensures { IfOk result (λ k. AreSame (normal_known k) (with_some_below (with_all (normal_known self.now) (A.has learned.now)) item.now (S.has below.now))) }
     {
         let mut grown = self.with_all(learned)?;
-        grown.learn_below(item, below)?;
+        let Some(item) = item else {
+            return Ok(grown);
+        };
+        grown.learn_below(*item, below)?;
         Ok(grown)
     }
 }

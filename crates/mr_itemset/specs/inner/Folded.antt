@@ -10,10 +10,6 @@ use Rattle.mr_itemset.specs.ItemForm.{with_all}
 abbrev pub Fits : List AuthorColumn → List AuthorColumn → Type 0
 Fits a b = (q : ℕ) → length (column_of a q).holes + length (column_of b q).holes ≤ MAX_HOLES
 
--- each author's column, with so many holes more and one, has no more than MAX_HOLES
-abbrev pub HasLeeway : List AuthorColumn → ℕ → Type 0
-HasLeeway columns most = (q : ℕ) → most + length (column_of columns q).holes + 1 ≤ MAX_HOLES
-
 -- the knowledge is what is settled, with the pending versions for all items
 pub record IsSplit (limit : ℕ) (k settled : Normal) (pending : List AuthorColumn) : Type 0 where
   pub normal : IsNormal limit k

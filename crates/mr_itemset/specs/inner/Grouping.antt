@@ -1,11 +1,11 @@
 -- listed items as they are grouped, and the groups of what is told of them
-use Rattle.std.specs.Prelude.{◌≡◌, ◌≤◌, ◌⊎◌, ℕ, List, [], length}
+use Rattle.std.specs.Prelude.{◌≡◌, ◌≤◌, ◌⊎◌, List, [], length}
 use Rattle.mr_concise.specs.declared.vector.AuthorColumn.{AuthorColumn}
 use Rattle.mr_concise.specs.Vector.{vector_has}
 use Rattle.mr_forms.specs.Sets.{Covers}
 use Rattle.mr_forms.specs.declared.fragment.TheConstants.{MAX_ITEMS}
 use Rattle.mr_itemset.specs.declared.knowledge.Listed.{Listed}
-use Rattle.mr_itemset.specs.declared.moved.Grouping.{Grouping}
+use Rattle.mr_itemset.specs.declared.groups.Grouping.{Grouping}
 use Rattle.mr_itemset.specs.Groups.{Alike, all_grouped, grouped}
 use Rattle.mr_itemset.specs.inner.Groups.{AreNoted, FillInTurn}
 use Rattle.mr_itemset.specs.inner.Lacking.{Lacks}
@@ -15,7 +15,7 @@ use Rattle.mr_itemset.specs.inner.Told.{AreToldItems, IsToldItem}
 pub record IsGrouping (gs : List Alike) (grouping : Grouping) : Type 0 where
   pub groups : grouping.groups.items ≡ gs
   pub in_turn : FillInTurn MAX_ITEMS gs
-  pub noted : AreNoted MAX_ITEMS gs grouping.slots.items grouping.others
+  pub noted : AreNoted gs grouping.slots.items grouping.others
   pub some : 1 ≤ length grouping.slots.items
 
 -- all items have what the item has, and nothing is told; or what is told of it is in its group

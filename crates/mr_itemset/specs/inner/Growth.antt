@@ -1,9 +1,12 @@
-use Rattle.std.specs.Prelude.{◌≡◌, ◌≤◌, ◌+◌, ◌⊎◌, List, All, AllPairs, Contains, length}
+use Rattle.std.specs.Prelude.{◌≡◌, ◌≤◌, ◌+◌, ◌⊎◌, ℕ, List, Option, Some, None, All, AllPairs, Contains, length}
+use Rattle.mr_version.specs.Name.{Name}
 use Rattle.mr_forms.specs.Sets.{Versions, IsSame, both}
+use Rattle.mr_forms.specs.Known.{Pairs, AreSame, HasValue, with_below}
 use Rattle.mr_concise.specs.declared.vector.AuthorColumn.{AuthorColumn}
 use Rattle.mr_concise.specs.Vector.{vector_has}
 use Rattle.mr_itemset.specs.declared.knowledge.Listed.{Listed}
-use Rattle.mr_itemset.specs.Normal.{IsBefore, HasMore}
+use Rattle.mr_itemset.specs.Normal.{Normal, IsBefore, HasMore, normal_known}
+use Rattle.mr_itemset.specs.ItemForm.{items_form, with_all}
 
 -- one listed item became another: its item is the same, and its vector has gained the set
 pub record HasGained (set : Versions) (x y : Listed) : Type 0 where
@@ -26,3 +29,14 @@ pub record IsGrown (set : Versions) (all : List AuthorColumn) (old new : List Li
   pub few : length new ≤ length old
   pub from_old : (y : Listed) → Contains new y → (x : Listed) × (Contains old x × HasGained set x y)
   pub of_old : (x : Listed) → Contains old x → ((y : Listed) × (Contains new y × HasGained set x y)) ⊎ IsSame (vector_has all) (both set (vector_has x.vector))
+
+-- the pairs with all of a set for an item, if there is one
+abbrev pub with_some_below : Pairs → Option Name → Versions → Pairs
+with_some_below old None set = old
+with_some_below old (Some item) set = with_below old item set
+
+-- All items have learned the versions, and the item the set, if there is one. Each of the two steps has a value.
+pub record HasLearned (limit : ℕ) (old new : Normal) (learned : Versions) (item : Option Name) (set : Versions) : Type 0 where
+  pub known : AreSame (normal_known new) (with_some_below (with_all (normal_known old) learned) item set)
+  pub first : HasValue (items_form limit) (with_all (normal_known old) learned)
+  pub second : HasValue (items_form limit) (with_some_below (with_all (normal_known old) learned) item set)

@@ -12,7 +12,7 @@ loop-item-preserved g c =
     (each_more (normal_known c.args.self.now) (normal_known c.loop-item.grown) (normal_known c.learn_below.new.self) (take c.loop-item.item-index c.args.items.now) c.item-item.result (g.S.Source.has c.args.set.now) c.loop-item.invariant c.in_ok-learn_below.ensures.ok)
 
 pub loop-item-init : goal.loop-item-init
-loop-item-init g c i v = ap (λ k. normal_known k i v) c.in_ok-grown.ensures
+loop-item-init g c i v = ap (λ k. normal_known k i v) c.in_ok-grown.ensures.is
 
 pub returns : goal.returns
 returns g c = rw (take_all c.loop-item.item-index c.args.items.now c.loop-item-test.false) at c.loop-item.invariant

@@ -43,7 +43,7 @@ returns-clause-ok g c i v =
     let has = g.S.VersionSet.has in
     let known = normal_known c.args.self.now in
     let all = take_all c.loop-fragment.fragment-index c.args.fragments.now (omega (arith, c.loop-fragment-test.false)) in
-    ap (λ (k : Normal). normal_known k i v) (c.of.ensures ∙ c.in-Ok-folded.ensures)
+    ap (λ (k : Normal). normal_known k i v) (c.of.ensures ∙ c.in-Ok-folded.ensures.is)
     ∙ c.loop-fragment.invariant.is i v ∙ ap (λ (gs : List (Fragment g.row.S.Denot)). after_all has known gs i v) all ∙ after_all-same has known c.args.fragments.now i v
 
 pub returns-clause-value : goal.returns-clause-value

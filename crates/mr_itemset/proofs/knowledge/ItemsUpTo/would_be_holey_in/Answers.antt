@@ -5,19 +5,20 @@ use Rattle.std.proofs.lemmas.List.Elements.{All-more}
 use Rattle.mr_forms.specs.Known.{with_below}
 use Rattle.mr_itemset.specs.Normal.{normal_known}
 use Rattle.mr_itemset.specs.ItemForm.{HasHoleyItem}
+use Rattle.mr_itemset.proofs.FoldedLemmas.{normal_few}
 use Rattle.mr_itemset.proofs.EachLemmas.{holey_each, not_holey_each}
 use Rattle.mr_itemset.proofs.knowledge.ItemsUpTo.would_be_holey_in.Goals as goal
 
-pub returns-then-would_be_holey_at : goal.returns-then-would_be_holey_at
-returns-then-would_be_holey_at g c = (
-  λ _. holey_each c.args.self.now c.args.items.now (g.S.Source.has c.args.set.now) c.item-item.result c.requires (c.loop-item.item-index, omega arith, sym c.item-item.is) (c.would_be_holey_at.ensures.holey.0 c.if-would_be_holey_at.true),
+pub returns-then-would_be_holey_more : goal.returns-then-would_be_holey_more
+returns-then-would_be_holey_more g c = (
+  λ _. holey_each c.args.self.now c.args.items.now (g.S.Source.has c.args.set.now) c.item-item.result c.requires (c.loop-item.item-index, omega arith, sym c.item-item.is) (c.would_be_holey_more.ensures.yes c.if-would_be_holey_more.true),
   λ _. refl,
 )
 
 pub loop-item-preserved : goal.loop-item-preserved
 loop-item-preserved g c =
     All-more (λ item. ¬ HasHoleyItem (with_below (normal_known c.args.self.now) item (g.S.Source.has c.args.set.now))) c.args.items.now c.loop-item.item-index c.item-item.result (omega arith) c.loop-item.invariant
-    (λ holey. false≢true (sym c.if-would_be_holey_at.false ∙ c.would_be_holey_at.ensures.holey.1 (rw (← c.item-item.is) at holey)))
+    (λ holey. normal_few c.args.self.now c.requires (c.would_be_holey_more.ensures.no c.if-would_be_holey_more.false (rw (← c.item-item.is) at holey)))
 
 pub returns : goal.returns
 returns g c =

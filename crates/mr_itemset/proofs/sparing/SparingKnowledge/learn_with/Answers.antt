@@ -8,8 +8,8 @@ returns-in-None g c = rw (c.spread.ensures.alone c.in-None.is, ← c.self.view_i
 
 pub returns-in-Some : goal.returns-in-Some
 returns-in-Some g c = record {
-  ok = on_ok_weaker c.learn_more.result (known_told c.args.item (g.S.VersionSet.has c.args.below.now) c.in-Some.ensures.all) (rw c.self.view_is at c.learn_more.ensures.ok);
-  holes = holes_told c.args.item (g.S.VersionSet.has c.args.below.now) c.in-Some.ensures.all (rw c.self.view_is at c.learn_more.ensures.holes);
-  items = items_told c.args.item (g.S.VersionSet.has c.args.below.now) c.in-Some.ensures.all (rw c.self.view_is at c.learn_more.ensures.items);
-  err = rw (← c.self.view_is) c.learn_more.ensures.err;
+  ok = on_ok_weaker c.grow.result (known_told c.args.item (g.S.VersionSet.has c.args.below.now) c.in-Some.ensures.all) (rw c.self.view_is at c.grow.ensures.ok);
+  holes = holes_told c.args.item (g.S.VersionSet.has c.args.below.now) c.in-Some.ensures.all (rw c.self.view_is at c.grow.ensures.holes);
+  items = items_told c.args.item (g.S.VersionSet.has c.args.below.now) c.in-Some.ensures.all (rw c.self.view_is at c.grow.ensures.items);
+  err = rw (← c.self.view_is) c.grow.ensures.err;
 }

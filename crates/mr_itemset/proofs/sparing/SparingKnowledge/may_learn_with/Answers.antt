@@ -7,7 +7,7 @@ returns-in-None g c = rw (c.spread.ensures.alone c.in-None.is, ← c.self.view_i
 
 pub returns-in-Some : goal.returns-in-Some
 returns-in-Some g c = record {
-  holes = holes_told c.args.item (g.S.VersionSet.has c.args.below.now) c.in-Some.ensures.all (rw c.self.view_is at c.may_learn_more.ensures.holes);
-  items = items_told c.args.item (g.S.VersionSet.has c.args.below.now) c.in-Some.ensures.all (rw c.self.view_is at c.may_learn_more.ensures.items);
-  memory = c.may_learn_more.ensures.memory;
+  holes = holes_told c.args.item (g.S.VersionSet.has c.args.below.now) c.in-Some.ensures.all (rw c.self.view_is at c.may_grow.ensures.holes);
+  items = items_told c.args.item (g.S.VersionSet.has c.args.below.now) c.in-Some.ensures.all (rw c.self.view_is at c.may_grow.ensures.items);
+  memory = c.may_grow.ensures.memory;
 }

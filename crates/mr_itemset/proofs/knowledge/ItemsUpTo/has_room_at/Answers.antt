@@ -1,8 +1,0 @@
-use Rattle.mr_itemset.proofs.SplitLimitLemmas.{room_at-yes, room_at-no}
-use Rattle.mr_itemset.proofs.knowledge.ItemsUpTo.has_room_at.Goals as goal
-
-pub returns-clause-yes : goal.returns-clause-yes
-returns-clause-yes g c t many = room_at-yes c.args.self.now c.parts-parts.result.settled.now c.parts-parts.result.pending.now c.args.item (g.S.Source.has c.args.set.now) c.parts-parts.ensures (c.has_room_with.ensures.yes t) many
-
-pub returns-clause-no : goal.returns-clause-no
-returns-clause-no g c f = room_at-no c.args.self.now c.parts-parts.result.settled.now c.parts-parts.result.pending.now c.args.item (g.S.Source.has c.args.set.now) c.parts-parts.ensures (c.has_room_with.ensures.no f)
