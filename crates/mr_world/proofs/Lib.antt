@@ -1,3 +1,4 @@
+pub mod Names
 pub mod Groundwork
 pub mod Agreement
 pub mod Drawing

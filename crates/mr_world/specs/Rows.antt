@@ -1,5 +1,5 @@
 -- worked rows: what the definitions give for small values
-use Rattle.std.specs.Prelude.{◌≡◌, ◌-◌, ℕ, true, false, [], ◌∷◌, Option, Some, None, Ok, Err, refl}
+use Rattle.std.specs.Prelude.{◌≡◌, ◌-◌, ℕ, true, false, [], ◌∷◌, map, Option, Some, None, Ok, Err, refl}
 use Rattle.mr_mail.specs.Mail.{Mail}
 use Rattle.mr_model.specs.History.{◌does◌}
 use Rattle.mr_model.specs.declared.event.Act.{Act}
@@ -33,59 +33,27 @@ use Rattle.mr_world.specs.declared.task.Task.TheVariants.{Step, Truncated}
 abbrev spec : (id limit capacity : ℕ) → Spec
 spec id limit capacity = record { id = id; filter = []; event_limit = limit; port_capacity = capacity }
 
--- no replicas have no id twice
-pub none_of_no_specs : has_same_id [] ≡ false
-none_of_no_specs = refl
+-- no replicas have no id twice; two with one id need not be next to each other
+pub same_ids : map has_same_id ([] ∷ (spec 1 1 1 ∷ spec 2 1 1 ∷ spec 1 2 2 ∷ []) ∷ (spec 1 1 1 ∷ spec 2 1 1 ∷ spec 3 1 1 ∷ []) ∷ []) ≡ false ∷ true ∷ false ∷ []
+same_ids = refl
 
--- two with one id need not be next to each other
-pub far_apart : has_same_id (spec 1 1 1 ∷ spec 2 1 1 ∷ spec 1 2 2 ∷ []) ≡ true
-far_apart = refl
+-- a world may have no replica; a limit and a capacity of 1 are the least, and a capacity of 4,096 is the greatest
+pub made_of : map spec_refusal ([] ∷ (spec 0 1 1 ∷ []) ∷ (spec 0 1 4096 ∷ []) ∷ []) ≡ None ∷ None ∷ None ∷ []
+made_of = refl
 
-pub all_apart : has_same_id (spec 1 1 1 ∷ spec 2 1 1 ∷ spec 3 1 1 ∷ []) ≡ false
-all_apart = refl
-
--- a world may have no replica
-pub empty_world : spec_refusal [] ≡ None
-empty_world = refl
-
--- a limit and a capacity of 1 are the least
-pub least_spec : spec_refusal (spec 0 1 1 ∷ []) ≡ None
-least_spec = refl
-
-pub no_events : spec_refusal (spec 0 0 1 ∷ []) ≡ Some BadLimit
-no_events = refl
-
-pub no_places : spec_refusal (spec 0 1 0 ∷ []) ≡ Some NoCapacity
-no_places = refl
-
--- a capacity of 4,096 is the greatest
-pub most_places : spec_refusal (spec 0 1 4096 ∷ []) ≡ None
-most_places = refl
-
-pub too_many_places : spec_refusal (spec 0 1 4097 ∷ []) ≡ Some NoCapacity
-too_many_places = refl
+-- no events, no places, and one place too many
+pub refused : map spec_refusal ((spec 0 0 1 ∷ []) ∷ (spec 0 1 0 ∷ []) ∷ (spec 0 1 4097 ∷ []) ∷ []) ≡ Some BadLimit ∷ Some NoCapacity ∷ Some NoCapacity ∷ []
+refused = refl
 
 -- that two have one id is told before a bad limit, and that before a bad capacity, whichever replica has it
-pub same_id_first : spec_refusal (spec 1 0 0 ∷ spec 1 0 0 ∷ []) ≡ Some SameReplica
-same_id_first = refl
-
-pub limit_before_capacity : spec_refusal (spec 1 1 0 ∷ spec 2 0 1 ∷ []) ≡ Some BadLimit
-limit_before_capacity = refl
+pub refused_first : map spec_refusal ((spec 1 0 0 ∷ spec 1 0 0 ∷ []) ∷ (spec 1 1 0 ∷ spec 2 0 1 ∷ []) ∷ []) ≡ Some SameReplica ∷ Some BadLimit ∷ []
+refused_first = refl
 
 -- ---- pools
 
--- frames are numbered from 1, the oldest
-pub no_number_0 : at_number {A = ℕ} (8 ∷ 9 ∷ []) 0 ≡ None
-no_number_0 = refl
-
-pub oldest : at_number {A = ℕ} (8 ∷ 9 ∷ []) 1 ≡ Some 8
-oldest = refl
-
-pub newest : at_number {A = ℕ} (8 ∷ 9 ∷ []) 2 ≡ Some 9
-newest = refl
-
-pub past_the_newest : at_number {A = ℕ} (8 ∷ 9 ∷ []) 3 ≡ None
-past_the_newest = refl
+-- frames are numbered from 1, the oldest, to the newest
+pub numbers : map (at_number {A = ℕ} (8 ∷ 9 ∷ [])) (0 ∷ 1 ∷ 2 ∷ 3 ∷ []) ≡ None ∷ Some 8 ∷ Some 9 ∷ None ∷ []
+numbers = refl
 
 abbrev question : (session : ℕ) → Question
 question session = record { target = 3; session = session; filter = []; fragments = [] }
@@ -105,15 +73,9 @@ finds_ask = refl
 pub finds_record : some_asked (Receive 1) ≡ Some (Step (replica.Receive (frame.Record end_of_stream)))
 finds_record = refl
 
-pub lacks_ask : some_asked (AnswerAsk 2) ≡ None
-lacks_ask = refl
-
-pub lacks_receipt : some_asked (Release 1) ≡ None
-lacks_receipt = refl
-
--- a part of no record is lacking too, even one of no bytes
-pub lacks_part : some_asked (DeliverPart 2 0) ≡ None
-lacks_part = refl
+-- a request, a receipt and a record are lacking; a part of no record is lacking too, even one of no bytes
+pub lacks : map some_asked (AnswerAsk 2 ∷ Release 1 ∷ DeliverPart 2 0 ∷ []) ≡ None ∷ None ∷ None ∷ []
+lacks = refl
 
 -- of a record some bytes are a part, and all that it has are the record
 pub finds_part : some_asked (DeliverPart 1 (record_len end_of_stream - 1)) ≡ Some Truncated
@@ -165,23 +127,13 @@ kept = record { members = member 7 ∷ member 3 ∷ []; asks = []; records = [];
 abbrev whole : World ℕ
 whole = world_of (λ id. record { replica = new_state id [] 0 0; indexer = new_port 4; notifier = new_port 5 }) (new_port 9) kept
 
--- a member's replica is at its id
-pub replica_of_member : whole.replicas 3 ≡ new_state 3 [] 1 0
-replica_of_member = refl
+-- a member's replica is at its id, and an id of no member has the unused one
+pub replicas_of : map whole.replicas (3 ∷ 1 ∷ []) ≡ new_state 3 [] 1 0 ∷ new_state 1 [] 0 0 ∷ []
+replicas_of = refl
 
--- an id of no member has the unused one
-pub replica_of_no_member : whole.replicas 1 ≡ new_state 1 [] 0 0
-replica_of_no_member = refl
-
--- a number of no subscriber has the third port, at a member's id and at any other
-pub third_of_member : whole.ports 3 2 ≡ new_port 9
-third_of_member = refl
-
-pub third_of_no_member : whole.ports 1 2 ≡ new_port 9
-third_of_no_member = refl
-
-pub notifier_of_no_member : whole.ports 1 1 ≡ new_port 5
-notifier_of_no_member = refl
+-- a number of no subscriber has the third port, at a member's id and at any other, whose notifier has the unused one
+pub ports_of : whole.ports 3 2 ∷ whole.ports 1 2 ∷ whole.ports 1 1 ∷ [] ≡ new_port 9 ∷ new_port 9 ∷ new_port 5 ∷ []
+ports_of = refl
 
 -- what is given is the newest of its pool
 abbrev given_twice : GivenLists
@@ -198,11 +150,8 @@ refusal_gives_nothing = refl
 abbrev changed : World ℕ
 changed = with_member whole 3 (member 5) (Stepped (Err LogFull))
 
-pub new_member : member_of changed 3 ≡ member 5
-new_member = refl
-
-pub other_member_stays : member_of changed 7 ≡ member 7
-other_member_stays = refl
+pub members_then : map (member_of changed) (3 ∷ 7 ∷ []) ≡ member 5 ∷ member 7 ∷ []
+members_then = refl
 
 pub third_port_stays : changed.ports 3 2 ≡ new_port 9
 third_port_stays = refl

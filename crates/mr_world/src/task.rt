@@ -1,12 +1,10 @@
 //! What an act asks of its replica, or of one of the replica's ports.
-ghost use Rattle.std.specs.Prelude.{IfOk, All};
+ghost use Rattle.std.specs.Prelude.{All};
 ghost use Rattle.std.specs.Option.{option_map};
 ghost use Rattle.mr_model.specs.Moment.{numbered};
-ghost use Rattle.mr_wire.specs.Grammar.{Spells};
-ghost use Rattle.mr_wire.specs.declared.frame.Frame.{Frame};
 ghost use Rattle.mr_world.specs.Asked.{receiving, delivering, answering, releasing};
-ghost use Rattle.mr_world.specs.inner.Asked.{asked_of, Finds};
-ghost use Rattle.mr_world.specs.Pool.{AreFrames, IsAskFrame, IsRecordFrame, IsReceiptFrame, questions_in, sents_in, receipts_in};
+ghost use Rattle.mr_world.specs.inner.Asked.{asked_of, Finds, FindsFrame};
+ghost use Rattle.mr_world.specs.Pool.{AreFrames, at_number, IsAskFrame, IsRecordFrame, IsReceiptFrame, questions_in, sents_in, receipts_in};
 
 use crate::event::Act;
 use crate::fault::WorldFault;
@@ -15,7 +13,7 @@ use crate::pools::Pools;
 use mr_model::Subscriber;
 use mr_replica::Event as ReplicaEvent;
 use mr_wire::{Frame, decode};
-use std::alloc::{AllocError, Global};
+use std::alloc::Global;
 
 /// What an act asks for, with all that it needs of the pools.
 #[derive(Drop)]
@@ -62,10 +60,8 @@ fn receive(alloc: Global, records: &Pool, number: u64) -> Result<Task, WorldFaul
     requires { All IsRecordFrame records.now.frames }
     ensures { Finds (option_map receiving (numbered (sents_in records.now.frames) number)) result }
 {
-    match records.get(number) {
-        Some(bytes) => Ok(Task::Step(ReplicaEvent::Receive(frame_of(alloc, bytes)?))),
-        None => Err(WorldFault::NoSuchFrame),
-    }
+    let frame = frame_at(alloc, records, number)?;
+    Ok(Task::Step(ReplicaEvent::Receive(frame)))
 }
 
 // So many bytes of the record of this number come to the replica: it all, where it has no more.
@@ -75,7 +71,7 @@ fn deliver_part(alloc: Global, records: &Pool, number: u64, bytes: u64) -> Resul
 {
     match records.get(number) {
         Some(frame) if bytes < frame.len() as u64 => Ok(Task::Truncated),
-        Some(frame) => Ok(Task::Step(ReplicaEvent::Receive(frame_of(alloc, frame)?))),
+        Some(_) => receive(alloc, records, number),
         None => Err(WorldFault::NoSuchFrame),
     }
 }
@@ -85,12 +81,9 @@ fn answer(alloc: Global, asks: &Pool, number: u64) -> Result<Task, WorldFault>
     requires { All IsAskFrame asks.now.frames }
     ensures { Finds (option_map answering (numbered (questions_in asks.now.frames) number)) result }
 {
-    match asks.get(number) {
-        Some(bytes) => match frame_of(alloc, bytes)? {
-            Frame::Ask(ask) => Ok(Task::Step(ReplicaEvent::Answer(ask))),
-            _ => unreachable!(),
-        },
-        None => Err(WorldFault::NoSuchFrame),
+    match frame_at(alloc, asks, number)? {
+        Frame::Ask(ask) => Ok(Task::Step(ReplicaEvent::Answer(ask))),
+        _ => unreachable!(),
     }
 }
 
@@ -99,22 +92,21 @@ fn release(alloc: Global, receipts: &Pool, number: u64) -> Result<Task, WorldFau
     requires { All IsReceiptFrame receipts.now.frames }
     ensures { Finds (option_map releasing (numbered (receipts_in receipts.now.frames) number)) result }
 {
-    match receipts.get(number) {
-        Some(bytes) => match frame_of(alloc, bytes)? {
-            Frame::Receipt(receipt) => Ok(Task::Step(ReplicaEvent::Release(receipt))),
-            _ => unreachable!(),
-        },
-        None => Err(WorldFault::NoSuchFrame),
+    match frame_at(alloc, receipts, number)? {
+        Frame::Receipt(receipt) => Ok(Task::Step(ReplicaEvent::Release(receipt))),
+        _ => unreachable!(),
     }
 }
 
-// The frame that the bytes are.
-fn frame_of(alloc: Global, bytes: &[u8]) -> Result<Frame, AllocError>
-    requires { (f : Frame) × Spells 2 f bytes.now }
-    ensures { IfOk result (λ frame. Spells 2 frame bytes.now) }
+// The frame of this number in the pool.
+fn frame_at(alloc: Global, pool: &Pool, number: u64) -> Result<Frame, WorldFault>
+    ensures { FindsFrame (at_number pool.now.frames number) result }
 {
-    match decode(alloc, bytes) {
-        Ok(found) => Ok(found.0),
-        Err(_) => Err(AllocError),
+    match pool.get(number) {
+        Some(bytes) => match decode(alloc, bytes) {
+            Ok(found) => Ok(found.0),
+            Err(_) => Err(WorldFault::OutOfMemory),
+        },
+        None => Err(WorldFault::NoSuchFrame),
     }
 }

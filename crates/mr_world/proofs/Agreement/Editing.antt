@@ -1,59 +1,38 @@
 -- Create and Edit: the below of the new revision is the closure, and the rules allow the answer.
 use Rattle.std.proofs.Common.{◌≡◌, refl, sym, ap, subst, ◌∙◌, ℕ, ◌≤◌, ◌==◌, nat_le, nat_lt, ◌+◌, ◌<◌, Bool, true, false, not, ◌||◌, ◌&&◌, List, [], ◌∷◌, ◌++◌, ◌⊎◌, inl, inr, IsTrue, IsFalse, arith, eqb-true, Option, Some, None}
-use Rattle.std.specs.Prelude.{is_none}
-use Rattle.std.specs.List.{list_any, filter_map, cons_option}
-use Rattle.std.specs.Option.{option_map_or, option_map}
-use Rattle.std.proofs.lemmas.Bool.{and_parts, leb-true, ltb-true}
-use Rattle.mr_version.specs.Name.{Name}
-use Rattle.mr_forms.specs.Known.{Form}
-use Rattle.mr_forms.specs.Sets.{IsSame}
-use Rattle.mr_concise.specs.declared.vector.AuthorColumn.{AuthorColumn}
+use Rattle.std.specs.List.{cons_option}
+use Rattle.mr_world.proofs.Names.Lists.{and_parts, filter_map, is_none, leb-true, list_any, ltb-true, option_map, option_map_or}
+use Rattle.mr_world.proofs.Names.Replica.{Event, Issues, MixedItems, NotHeld, OwnHeadLeft, Refusal, State, are_all_of, below_for, edit_refusal, held}
+use Rattle.mr_world.proofs.Names.Replica.{item_of_held, item_refusal, log_full, map_none, next_version, not_held, not_refused, own_left, refused_if}
+use Rattle.mr_world.proofs.Names.Replica.{retired, ◌orelse◌}
+use Rattle.mr_world.proofs.Names.Model.{Holds, In, IsIssue, Issue, after_issue, is, is_issued, issue_count, item_of, last_own, made_with, pushed_out}
+use Rattle.mr_world.proofs.Names.Model.{replacements, stored}
+use Rattle.mr_world.proofs.Names.Laws.{Inv, IsIssuable, Reaches, any_elim, any_intro, append_left, append_right, chain, counter_issued, false_from}
+use Rattle.mr_world.proofs.Names.Laws.{in_append, is_from, is_path, is_refl, item_here, item_is_issued, last_own_issued, last_own_item}
+use Rattle.mr_world.proofs.Names.Laws.{later_from_count, made_by, made_from, made_issued, made_item, one_test, or_left, or_parts, or_right}
+use Rattle.mr_world.proofs.Names.Mails.{AuthorColumn, ClauseParts, Form, IsSame, Mail, Name, Rev, by_base, last_of, vector_has}
+use Rattle.mr_world.proofs.Names.World.{Agrees, HoldingsAgree, IsBelow, IsTrueRevision, MailMoment, World, setting_of, version_alone}
 use Rattle.mr_concise.specs.Source.{in_some}
-use Rattle.mr_concise.specs.Vector.{vector_has}
-use Rattle.mr_filter.specs.Filter.{ClauseParts}
-use Rattle.mr_mail.specs.Mail.{Mail}
 use Rattle.mr_madewith.specs.MadeWith.{own_before}
-use Rattle.mr_madewith.specs.Revision.{Rev, by_base}
-use Rattle.mr_madewith.specs.Trail.{last_of}
-use Rattle.mr_model.specs.Changes.{after_issue}
-use Rattle.mr_model.specs.Moment.{Holds, pushed_out, stored}
-use Rattle.mr_model.specs.Rules.{In, IsIssue}
-use Rattle.mr_model.specs.Versions.{Issue, is, is_issued, issue_count, item_of, last_own, made_with, replacements}
-use Rattle.mr_model.proofs.Basics.{any_elim, any_intro, append_left, append_right, false_from, in_append, is_from, is_path, is_refl, one_test, or_left, or_parts, or_right}
-use Rattle.mr_model.proofs.Core.{Inv}
-use Rattle.mr_model.proofs.Issues.{IsIssuable, Reaches, chain, counter_issued, item_here, item_is_issued, last_own_issued, last_own_item, later_from_count, made_by, made_from, made_issued, made_item}
 use Rattle.mr_model.proofs.Safe.{issuable}
-use Rattle.mr_replica.specs.Admission.{log_full, retired}
 use Rattle.mr_replica.specs.Create.{create_refusal}
-use Rattle.mr_replica.specs.Edit.{are_all_of, edit_refusal, item_refusal, not_held, own_left}
-use Rattle.mr_replica.specs.Issue.{Issues, below_for}
-use Rattle.mr_replica.specs.Refusal.{refused_if, ◌orelse◌}
-use Rattle.mr_replica.specs.State.{State, held, item_of_held, next_version}
-use Rattle.mr_replica.specs.declared.event.Event.{Event}
 use Rattle.mr_replica.specs.declared.event.Event.TheVariants.{Create, Edit}
-use Rattle.mr_replica.specs.declared.refusal.Refusal.{Refusal}
-use Rattle.mr_replica.specs.declared.refusal.Refusal.TheVariants.{MixedItems, NotHeld, OwnHeadLeft, Retired}
-use Rattle.mr_world.specs.Agrees.{Agrees, HoldingsAgree, version_alone}
-use Rattle.mr_world.specs.Issued.{IsBelow, IsTrueRevision}
-use Rattle.mr_world.specs.Seen.{MailMoment, setting_of}
-use Rattle.mr_world.specs.World.{World}
+use Rattle.mr_replica.specs.declared.refusal.Refusal.TheVariants.{Retired}
 use Rattle.mr_world.proofs.Moving.ByParts.{with_replica}
 use Rattle.mr_world.proofs.Agreement.Issuing.{issue_agrees}
 use Rattle.mr_world.proofs.Agreement.OneMore.{issued_more, item_more}
 use Rattle.mr_world.proofs.Groundwork.Orders.{in_held}
-use Rattle.mr_world.proofs.Groundwork.Tools.{all_elim, find_in, find_none, map_none, not_refused, orelse_none, to_true}
+use Rattle.mr_model.proofs.CheckSound.{all_elim}
+use Rattle.mr_world.proofs.Groundwork.Tools.{find_in, find_none, orelse_none, to_true}
 
 not_none : {A : Type 0} (o : Option A) → IsFalse (is_none o) → (x : A) × (o ≡ Some x)
-not_none None h = absurd (cc)
-not_none (Some x) h = (x, refl)
+not_none o h = grind arith
 
 cons_in : {B : Type 0} (o : Option B) (ys : List B) (y : B) → In y (cons_option o ys) → (o ≡ Some y) ⊎ In y ys
-cons_in None ys y i = inr i
-cons_in (Some z) ys y i = elim i [ inl p ↦ inl (ap Some p) | inr j ↦ inr j ]
+cons_in o ys y i = grind arith
 
 in_cons : {B : Type 0} (o : Option B) (ys : List B) (y : B) → (o ≡ Some y) ⊎ In y ys → In y (cons_option o ys)
-in_cons None ys y h = elim h [ inl e ↦ absurd (cc) | inr j ↦ j ]
-in_cons (Some z) ys y h = elim h [ inl e ↦ inl (cc) | inr j ↦ inr j ]
+in_cons o ys y h = grind arith
 
 -- what is among the found
 filter_map_in : {A B : Type 0} (f : A → Option B) (xs : List A) (y : B) → In y (filter_map f xs) → (x : A) × In x xs × (f x ≡ Some y)
@@ -114,18 +93,10 @@ module _ {K : Type 0} (form : Form K) (filters : ℕ → List ClauseParts) (w : 
     create_is alive = record { alive = hold.is_retired ∙ alive; author = hold.id; counter = counter_is; held = λ b i. elim i [ ]; one_item = λ b i. elim i [ ]; own_item = λ e. refl }
 
     none_below : (u : Name) → ¬ IsTrue (made_with (created ∷ m.issues) v u)
-    none_below u t =
-        let b = made_by created m.issues v u (is_refl v) t in
-        let i = last_own_item m.issues inv.core.sets.list v.author v b.0 b.1 in
-        not_issued (subst (λ (z : Name). IsTrue (is_issued m.issues z)) i (item_is_issued m.issues inv.core.sets.list b.0 (last_own_issued m.issues v.author v b.0 b.1)).0)
+    none_below u t = grind (arith, made_by, is_refl, last_own_item, not_issued, is_issued, item_is_issued, last_own_issued)
 
     created_below : (columns : List AuthorColumn) → IsSame (vector_has columns) (below_for (w.replicas r) v []) → IsBelow (created ∷ m.issues) v v columns
-    created_below columns same = record {
-      is_one = or_left (is v v) (is_issued m.issues v) (is_refl v);
-      of_item = item_here created m.issues v (is_refl v);
-      issued = λ u h. (let c : false ≡ true = sym (same u) ∙ h in absurd (cc));
-      same = λ u h i. same u ∙ sym (false_from (made_with (created ∷ m.issues) v u) (none_below u));
-    }
+    created_below columns same = grind (arith, or_left, is, is_issued, is_refl, item_here, false_from, made_with, none_below)
 
     pub create_agrees : (u : Name) (new : State K) → create_refusal (w.replicas r) ≡ None → Issues form (w.replicas r) (record { item = v; bases = []; message = message }) u (Create message) new →
         IsIssue m r created × Agrees form filters (with_replica w r new) (after_issue (setting_of filters) m r created)
@@ -142,11 +113,7 @@ module _ {K : Type 0} (form : Form K) (filters : ℕ → List ClauseParts) (w : 
     rest_refusal = option_map OwnHeadLeft (own_left (w.replicas r) (item_of_held (w.replicas r) b) bases) orelse log_full (w.replicas r)
 
     refusals : (retired (w.replicas r) ≡ None) × (not_held (w.replicas r) bases ≡ None) × IsTrue (are_all_of (w.replicas r) (item_of_held (w.replicas r) b) bases)
-    refusals =
-        let one = orelse_none (retired (w.replicas r)) (item_refusal (w.replicas r) bases orelse rest_refusal) none in
-        let two = orelse_none (item_refusal (w.replicas r) bases) rest_refusal one.1 in
-        let three = orelse_none (option_map NotHeld (not_held (w.replicas r) bases)) (refused_if (not (are_all_of (w.replicas r) (item_of_held (w.replicas r) b) bases)) MixedItems) two.0 in
-        (one.0, map_none NotHeld (not_held (w.replicas r) bases) three.0, to_true (are_all_of (w.replicas r) (item_of_held (w.replicas r) b) bases) (not_refused (not (are_all_of (w.replicas r) (item_of_held (w.replicas r) b) bases)) MixedItems three.1))
+    refusals = grind (arith, orelse_none, retired, item_refusal, option_map, not_held, refused_if, are_all_of, item_of_held, map_none, to_true, not_refused)
 
     -- each base is held, and is of the first one's item
     base_is : (c : Name) → In c bases → (x : Rev) × (held (w.replicas r) c ≡ Some x)
@@ -159,8 +126,7 @@ module _ {K : Type 0} (form : Form K) (filters : ℕ → List ClauseParts) (w : 
     item_same = let x = base_is b (inl refl) in item_is b x.0 x.1
 
     one_item : (c : Name) → In c bases → item_of m.issues c ≡ item
-    one_item c i = let x = base_is c i in sym (item_is c x.0 x.1)
-        ∙ (is_path (item_of_held (w.replicas r) c) (item_of_held (w.replicas r) b) (all_elim (λ c. is (item_of_held (w.replicas r) c) (item_of_held (w.replicas r) b)) bases refusals.2 c i) ∙ item_same)
+    one_item c i = grind (arith, base_is, item_is, is_path, item_of_held, all_elim, is, refusals, item_same)
 
     abbrev pub edited : Issue Mail
     edited = issue_of item bases message
@@ -245,10 +211,7 @@ module _ {K : Type 0} (form : Form K) (filters : ℕ → List ClauseParts) (w : 
 
     -- and what the new version supersedes is in it
     reached : (c u : Name) (below : List AuthorColumn) → IsBelow m.issues item c below → Reaches m.issues c u → IsTrue (is c u || vector_has below u)
-    reached c u below isb h = elim h [
-      | inl p ↦ or_left (is c u) (vector_has below u) (is_from c u p)
-      | inr q ↦ or_right (is c u) (vector_has below u) (isb.same u (made_issued m.issues inv.core.sets.list c u q).1 (sym (made_item m.issues inv.core.sets.list c u q) ∙ isb.of_item) ∙ q)
-    ]
+    reached c u below isb h = grind (arith, or_left, is, vector_has, is_from, or_right, made_issued, made_item)
 
     back : (u : Name) → IsTrue (made_with (edited ∷ m.issues) v u) → IsTrue (below_for (w.replicas r) item bases u)
     back u t =

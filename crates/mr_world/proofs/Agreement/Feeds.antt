@@ -1,27 +1,14 @@
 -- The feed of a replica is that of the history.
-use Rattle.std.proofs.Common.{◌≡◌, append_assoc, refl, sym, ap, subst, ◌∙◌, ℕ, List, [], ◌∷◌, ◌++◌, map, filter, inl, inr, IsTrue, Some}
-use Rattle.std.specs.Prelude.{⊤}
-use Rattle.mr_version.specs.Name.{Name}
-use Rattle.mr_mail.specs.Mail.{Mail, MailCard, card_of}
-use Rattle.mr_feed.specs.Entry.{told, told_entry}
-use Rattle.mr_feed.specs.declared.entry.Entry.{Entry}
-use Rattle.mr_madewith.specs.Revision.{Rev}
-use Rattle.mr_model.specs.Changes.{added_entry, dropped_entry, feed_after}
-use Rattle.mr_model.specs.Headline.{EachPair}
-use Rattle.mr_model.specs.History.{Entry as SeenEntry, Entry.Added as SeenAdded, Entry.Dropped as SeenDropped}
-use Rattle.mr_model.specs.Moment.{◌without◌}
-use Rattle.mr_model.specs.Rules.{In}
-use Rattle.mr_model.specs.Versions.{Issue, Versions, in_version_order, is_before, item_of}
-use Rattle.mr_model.proofs.Basics.{is_from}
-use Rattle.mr_model.proofs.Issues.{IsIssueList, issue_in, item_back, item_here, not_new}
-use Rattle.mr_model.proofs.Lists.{each_at, filter_in, in_filter, in_issued, in_ordered, ordered_in, pairs_filter}
-use Rattle.mr_model.proofs.Telling.{before_trans, ordered_rising}
-use Rattle.mr_world.specs.Agrees.{HoldsAs}
-use Rattle.mr_world.specs.Issued.{IsTrueRevision, message_of}
-use Rattle.mr_world.specs.Seen.{setting_of}
-use Rattle.mr_replica.specs.Issue.{added, dropped, told_more}
-use Rattle.mr_store.specs.Revisions.{AreInVersionOrder, version_of}
-use Rattle.mr_filter.specs.Filter.{ClauseParts}
+use Rattle.std.proofs.Common.{◌≡◌, append_assoc, refl, sym, ap, subst, ◌∙◌, ℕ, List, [], ◌∷◌, ◌++◌, map, filter, inl, inr, IsTrue, Some, arith}
+use Rattle.mr_world.proofs.Names.Lists.{⊤}
+use Rattle.mr_world.proofs.Names.Replica.{added, dropped, told_more}
+use Rattle.mr_world.proofs.Names.Model.{EachPair, Entry as SeenEntry, In, Issue, Versions, added_entry, dropped_entry, feed_after, in_version_order}
+use Rattle.mr_world.proofs.Names.Model.{is_before, item_of, ◌without◌}
+use Rattle.mr_world.proofs.Names.Laws.{IsIssueList, before_trans, each_at, filter_in, in_filter, in_issued, in_ordered, is_from, issue_in, item_back}
+use Rattle.mr_world.proofs.Names.Laws.{item_here, not_new, ordered_in, ordered_rising, pairs_filter}
+use Rattle.mr_world.proofs.Names.Mails.{AreInVersionOrder, ClauseParts, Entry, Mail, MailCard, Name, Rev, card_of, told, told_entry, version_of}
+use Rattle.mr_world.proofs.Names.World.{HoldsAs, IsTrueRevision, message_of, setting_of}
+use Rattle.mr_model.specs.History.{Entry.Added as SeenAdded, Entry.Dropped as SeenDropped}
 use Rattle.mr_world.proofs.Groundwork.Orders.{before_irrefl, first_before, held_in, in_held, rest_in_order}
 
 pub told_append : (xs ys : List Entry) → told (xs ++ ys) ≡ told xs ++ told ys
@@ -128,15 +115,7 @@ module _ (filters : ℕ → List ClauseParts) where
   -- revisions of a set of versions are of the issues of the set
   pub revisions_are : (issues : List (Issue Mail)) → IsIssueList issues → (rs : List Rev) (set : Versions) → HoldsAs issues rs set →
       MatchIssues (filter (λ x. set x.version) (in_version_order issues)) rs
-  revisions_are issues ok rs set h = same_places issues ok (filter (λ x. set x.version) (in_version_order issues)) rs
-      (pairs_filter (λ (x y : Issue Mail). IsTrue (is_before x.version y.version)) (λ x. set x.version) (in_version_order issues) (ordered_rising issues ok)) h.in_order
-      (λ x i. ordered_in issues x (in_filter (λ x. set x.version) (in_version_order issues) x i).0) h.each
-      (λ x i. held_in rs x.version (h.same x.version ∙ (in_filter (λ (x : Issue Mail). set x.version) (in_version_order issues) x i).1))
-      (λ r i. let x = issue_in issues r.version (h.each r i).below.is_one in (
-        x.0,
-        filter_in (λ (x : Issue Mail). set x.version) (in_version_order issues) x.0 (in_ordered issues x.0 x.1) (subst (λ (z : Name). IsTrue (set z)) (sym x.2) (sym (h.same r.version) ∙ in_held rs r i)),
-        x.2,
-      ))
+  revisions_are issues ok rs set h = grind (arith, same_places, in_version_order, pairs_filter, is_before, ordered_rising, ordered_in, in_filter, held_in, issue_in, filter_in, in_ordered, in_held)
 
   -- what left and what came
   pub feed_is : (issues : List (Issue Mail)) → IsIssueList issues → (old new : Versions) (feed : List Entry) (gone come : List Rev) →

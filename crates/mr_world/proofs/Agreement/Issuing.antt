@@ -1,35 +1,15 @@
 -- A replica issues a version: what it holds, and what all the others hold, is what the history says.
-use Rattle.std.proofs.Common.{◌≡◌, ◌≢◌, refl, sym, ap, subst, ◌∙◌, ℕ, ◌+◌, ◌==◌, Bool, true, false, not, ◌&&◌, if◌then◌else◌, List, ◌∷◌, filter, inl, inr, IsTrue, eqb-true, eq-eqb, Option, Some, None}
-use Rattle.std.proofs.lemmas.Bool.{and_from, and_parts, both_ways, eqb-false}
-use Rattle.mr_version.specs.Name.{Name}
-use Rattle.mr_forms.specs.Known.{AreSame, Form, learned}
-use Rattle.mr_concise.specs.declared.vector.AuthorColumn.{AuthorColumn}
-use Rattle.mr_filter.specs.Filter.{ClauseParts}
-use Rattle.mr_filter.specs.Meaning.{selects}
-use Rattle.mr_mail.specs.Mail.{Mail, MailCard, card_of}
-use Rattle.mr_madewith.specs.Revision.{Rev}
-use Rattle.mr_madewith.specs.Trail.{last_of, noted}
-use Rattle.mr_model.specs.Changes.{after_issue, feed_after, with_holding, with_issue}
-use Rattle.mr_model.specs.History.{Entry as SeenEntry}
-use Rattle.mr_model.specs.Moment.{Holding, at, known, only, only_if, pushed_out, stored, ◌without◌, ◌with◌}
-use Rattle.mr_model.specs.Versions.{Issue, Versions, is, last_own, made_with}
-use Rattle.mr_model.proofs.Basics.{cases, false_from, is_path, is_refl}
-use Rattle.mr_model.proofs.Core.{Inv}
-use Rattle.mr_model.proofs.Issues.{IsIssuable, IsIssueList, count_back, count_here, fresh, last_own-back, last_own-here, made_irrefl}
-use Rattle.mr_model.proofs.Sets.{Within, at_elim}
-use Rattle.mr_feed.specs.Entry.{told}
-use Rattle.mr_concise.specs.Vector.{vector_has}
-use Rattle.mr_replica.specs.Issue.{entered_if, if_so, issuing, logged, told_more}
-use Rattle.mr_replica.specs.Receive.{arrival_alone, arrived}
-use Rattle.mr_replica.specs.State.{State}
-use Rattle.mr_replica.specs.declared.event.Event.{Event}
-use Rattle.mr_store.specs.Revisions.{left_by, supersedes}
-use Rattle.mr_world.specs.Agrees.{Agrees, HoldingsAgree, HoldsAs, version_alone}
-use Rattle.mr_world.specs.Issued.{IsBelow, IsTrueRevision}
-use Rattle.mr_world.specs.Seen.{MailMoment, setting_of}
-use Rattle.mr_world.specs.Sessions.{SessionsAgree}
-use Rattle.mr_world.specs.Streams.{StreamsAgree}
-use Rattle.mr_world.specs.World.{World}
+use Rattle.std.proofs.Common.{◌≡◌, ◌≢◌, refl, sym, ap, subst, ◌∙◌, ℕ, ◌+◌, ◌==◌, Bool, true, false, not, ◌&&◌, if◌then◌else◌, List, ◌∷◌, filter, inl, inr, IsTrue, eqb-true, eq-eqb, Option, Some, None, arith}
+use Rattle.mr_world.proofs.Names.Lists.{and_from, and_parts, both_ways, eqb-false}
+use Rattle.mr_world.proofs.Names.Replica.{Event, State, arrival_alone, arrived, entered_if, if_so, issuing, logged, told_more}
+use Rattle.mr_world.proofs.Names.Model.{Entry as SeenEntry, Holding, Issue, Versions, after_issue, at, feed_after, is, known, last_own, made_with}
+use Rattle.mr_world.proofs.Names.Model.{only, only_if, pushed_out, stored, with_holding, with_issue, ◌without◌, ◌with◌}
+use Rattle.mr_world.proofs.Names.Laws.{Inv, IsIssuable, IsIssueList, Within, at_elim, cases, count_back, count_here, false_from, fresh, is_path}
+use Rattle.mr_world.proofs.Names.Laws.{is_refl, last_own-back, last_own-here, made_irrefl}
+use Rattle.mr_world.proofs.Names.Mails.{AreSame, AuthorColumn, ClauseParts, Form, Mail, MailCard, Name, Rev, card_of, last_of, learned, left_by}
+use Rattle.mr_world.proofs.Names.Mails.{noted, selects, supersedes, told, vector_has}
+use Rattle.mr_world.proofs.Names.World.{Agrees, HoldingsAgree, HoldsAs, IsBelow, IsTrueRevision, MailMoment, SessionsAgree, StreamsAgree, World}
+use Rattle.mr_world.proofs.Names.World.{setting_of, version_alone}
 use Rattle.mr_world.proofs.Moving.ByParts.{with_replica}
 use Rattle.mr_world.proofs.Agreement.Learning.{Comes, feed_learned, held_learned, shows_version}
 use Rattle.mr_world.proofs.Agreement.OneMore.{asks_more, below_more, holds_more, receipts_more, records_more, shows_more, stream_more}
@@ -40,12 +20,10 @@ abbrev pub comer_if : Bool → Rev → Option Rev
 comer_if b r = if b then Some r else None
 
 pub arrived_if : (b : Bool) (r : Rev) (rs : List Rev) → arrived (comer_if b r) rs ≡ entered_if b r rs
-arrived_if true r rs = refl
-arrived_if false r rs = refl
+arrived_if b r rs = grind arith
 
 pub alone_if : (b : Bool) (r : Rev) → arrival_alone (comer_if b r) ≡ if_so b r
-alone_if true r = refl
-alone_if false r = refl
+alone_if b r = grind arith
 
 module _ {K : Type 0} (form : Form K) (filters : ℕ → List ClauseParts) (w : World K) (m : MailMoment) (inv : Inv (setting_of filters) m) (a : Agrees form filters w m) (r : ℕ) (x : Issue Mail)
     (author : x.version.author ≡ r) (ok : IsIssuable m.issues x) (columns : List AuthorColumn) (isb : IsBelow (x ∷ m.issues) x.item x.version columns) where
@@ -97,8 +75,7 @@ module _ {K : Type 0} (form : Form K) (filters : ℕ → List ClauseParts) (w : 
   after knowledge event = logged (issuing (w.replicas r) knowledge revision) event
 
   comes : (b : Bool) → Comes (x ∷ m.issues) list x.item x.version columns isb b (comer_if b revision)
-  comes true = (revision_true, refl)
-  comes false = tt
+  comes b = grind (arith, revision_true)
 
   -- what is held after it, of the heads or of the push-outs
   held_after : (rs : List Rev) (set : Versions) (b : Bool) → HoldsAs m.issues rs set → Within set (known m r) →

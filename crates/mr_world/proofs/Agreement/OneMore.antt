@@ -1,59 +1,21 @@
 -- One more issue leaves what agrees.
-use Rattle.std.proofs.Common.{◌≡◌, refl, sym, ap, subst, ◌∙◌, ℕ, ◌≤◌, Bool, true, ◌||◌, List, [], ◌∷◌, ◌⊎◌, inl, inr, IsTrue, IsFalse, Option, Some}
-use Rattle.mr_version.specs.Name.{Name}
-use Rattle.mr_forms.specs.Known.{Pairs}
-use Rattle.mr_concise.specs.declared.vector.AuthorColumn.{AuthorColumn}
-use Rattle.mr_concise.specs.Vector.{vector_has}
-use Rattle.mr_filter.specs.Filter.{ClauseParts}
-use Rattle.mr_mail.specs.Mail.{Mail}
-use Rattle.mr_madewith.specs.Revision.{Rev}
-use Rattle.mr_model.specs.History.{Ask, Record, claims}
-use Rattle.mr_model.specs.Rules.{In}
-use Rattle.mr_model.specs.Versions.{Issue, Versions, is, is_issued, item_of, made_with}
-use Rattle.mr_model.proofs.Basics.{false_from, is_path, or_parts, or_right}
-use Rattle.mr_model.proofs.Issues.{IsIssuable, IsIssueList, fresh, item_back, made_issued, made_kept, not_new}
-use Rattle.mr_model.proofs.Sets.{Within}
-use Rattle.mr_replica.specs.Answer.{asked_of}
-use Rattle.mr_session.specs.Session.{is_full_mode}
-use Rattle.mr_session.specs.Stream.{Asked, Stream, claimed}
-use Rattle.mr_wire.specs.Frames.{Question, Sent}
-use Rattle.mr_wire.specs.declared.frame.Body.{Body}
-use Rattle.mr_wire.specs.declared.frame.Body.TheVariants.{Start, Item, MoveOut, Held, Know, End}
-use Rattle.mr_wire.specs.declared.frame.Receipt.{Receipt}
-use Rattle.mr_world.specs.Agrees.{HoldsAs}
-use Rattle.mr_world.specs.Issued.{AreOfIssues, IsBelow, IsTrueRevision, Shows, message_of}
-use Rattle.mr_world.specs.Shared.{ReceiptsAgree, SeesAsk, SeesAsks}
-use Rattle.mr_world.specs.Streams.{StreamAgrees, left_to_show}
-use Rattle.mr_world.specs.Told.{IsTrueBody, RecordsAgree, told_pairs}
+use Rattle.std.proofs.Common.{◌≡◌, refl, sym, ap, subst, ◌∙◌, ℕ, ◌≤◌, Bool, true, ◌||◌, List, [], ◌∷◌, ◌⊎◌, inl, inr, IsTrue, IsFalse, Option, Some, arith}
+use Rattle.mr_world.proofs.Names.Wire.{Body, End, Held, Item, Know, MoveOut, Question, Receipt, Sent, Start}
+use Rattle.mr_world.proofs.Names.Replica.{asked_of}
+use Rattle.mr_world.proofs.Names.Sessions.{Asked, Stream, claimed, is_full_mode}
+use Rattle.mr_world.proofs.Names.Model.{Ask, In, Issue, Record, Versions, claims, is, is_issued, item_of, made_with}
+use Rattle.mr_world.proofs.Names.Laws.{IsIssuable, IsIssueList, Within, false_from, fresh, is_path, item_back, made_issued, made_kept, not_new}
+use Rattle.mr_world.proofs.Names.Laws.{or_parts, or_right}
+use Rattle.mr_world.proofs.Names.Mails.{AuthorColumn, ClauseParts, Mail, Name, Pairs, Rev, vector_has}
+use Rattle.mr_world.proofs.Names.World.{AreOfIssues, HoldsAs, IsBelow, IsTrueBody, IsTrueRevision, ReceiptsAgree, RecordsAgree, SeesAsk, SeesAsks}
+use Rattle.mr_world.proofs.Names.World.{Shows, StreamAgrees, left_to_show, message_of, told_pairs}
 
 -- What agrees of an open stream, once other issues, another request or another knowledge stand there: what it gave stays.
 pub stream_kept : (issues issues' : List (Issue Mail)) (filters : ℕ → List ClauseParts) (records : List Sent) (given : List Record) (r opened opened' number : ℕ) (ask ask' : Option Ask) (known known' held : Versions) (k : Stream)
     (a : StreamAgrees issues filters records given r opened number ask known held k) → number ≤ opened' → ask' ≡ Some a.ask → SeesAsk issues' filters a.ask k.asked → AreOfIssues issues' (left_to_show k.held) →
     (is_full_mode k.mode ≡ true → Shows issues' (λ i v. told_pairs records r number k.next i v || claimed k.know i v) known') → ((i : Name) → AreOfIssues issues' (claimed k.know i)) →
     StreamAgrees issues' filters records given r opened' number ask' known' held k
-stream_kept issues issues' filters records given r opened opened' number ask ask' known known' held k a old asked sees held_issued knows know_issued = record {
-  old = old;
-  ask = a.ask;
-  asked = asked;
-  sees = sees;
-  covers = a.covers;
-  below_next = a.below_next;
-  begun = a.begun;
-  no_end = a.no_end;
-  starts = a.starts;
-  past = a.past;
-  behind = a.behind;
-  walking = a.walking;
-  showing = a.showing;
-  shows_full = a.shows_full;
-  unbegun = a.unbegun;
-  held = a.held;
-  none_shown = a.none_shown;
-  held_issued = held_issued;
-  knows = knows;
-  know_issued = know_issued;
-  listed = a.listed;
-}
+stream_kept issues issues' filters records given r opened opened' number ask ask' known known' held k a old asked sees held_issued knows know_issued = grind arith
 
 module _ (x : Issue Mail) (e : List (Issue Mail)) (ok : IsIssuable e x) (list : IsIssueList e) where
   pub issued_more : (v : Name) → IsTrue (is_issued e v) → IsTrue (is_issued (x ∷ e) v)
@@ -70,24 +32,10 @@ module _ (x : Issue Mail) (e : List (Issue Mail)) (ok : IsIssuable e x) (list : 
   not_named b v h p = false_from b (λ t. fresh x e ok (subst (λ (z : Name). IsTrue (is_issued e z)) (sym p) (h t)))
 
   pub shows_more : (pairs : Pairs) (set : Versions) → Within set (is_issued e) → Shows e pairs set → Shows (x ∷ e) pairs set
-  shows_more pairs set within s = record {
-    issued = λ i v h. issued_more v (s.issued i v h);
-    same = λ v h. elim (issued_split v h) [
-      | inr old ↦ ap (λ (i : Name). pairs i v) (item_more v old) ∙ s.same v old
-      | inl p ↦ not_named (pairs (item_of (x ∷ e) v) v) v (s.issued (item_of (x ∷ e) v) v) p ∙ sym (not_named (set v) v (within v) p)
-    ];
-  }
+  shows_more pairs set within s = grind (arith, issued_more, issued_split, item_more, not_named, item_of)
 
   pub below_more : (item version : Name) (b : List AuthorColumn) → IsBelow e item version b → IsBelow (x ∷ e) item version b
-  below_more item version b s = record {
-    is_one = issued_more version s.is_one;
-    of_item = item_more version s.is_one ∙ s.of_item;
-    issued = λ v h. issued_more v (s.issued v h);
-    same = λ v h i. elim (issued_split v h) [
-      | inr old ↦ s.same v old (sym (item_more v old) ∙ i) ∙ sym (made_kept x e ok version v s.is_one)
-      | inl p ↦ not_named (vector_has b v) v (s.issued v) p ∙ sym (made_kept x e ok version v s.is_one ∙ not_named (made_with e version v) v (λ t. (made_issued e list version v t).1) p)
-    ];
-  }
+  below_more item version b s = grind (arith, issued_more, item_more, issued_split, made_kept, not_named, vector_has, made_with, made_issued)
 
   pub message_more : (v : Name) → IsTrue (is_issued e v) → message_of (x ∷ e) v ≡ message_of e v
   message_more v h = rw (not_new x e ok v h) refl
@@ -129,6 +77,4 @@ module _ (x : Issue Mail) (e : List (Issue Mail)) (ok : IsIssuable e x) (list : 
   pub stream_more : (filters : ℕ → List ClauseParts) (records : List Sent) (given : List Record) (r opened number : ℕ) (ask_of : Option Ask) (known_at held_at : Versions) (k : Stream) →
       ((a : Ask) → ask_of ≡ Some a → Within (claims a) (is_issued e)) → Within known_at (is_issued e) →
       StreamAgrees e filters records given r opened number ask_of known_at held_at k → StreamAgrees (x ∷ e) filters records given r opened number ask_of known_at held_at k
-  stream_more filters records given r opened number ask_of known_at held_at k claims_issued within a =
-      stream_kept e (x ∷ e) filters records given r opened opened number ask_of ask_of known_at known_at held_at k a a.old a.asked (ask_more filters a.ask k.asked (claims_issued a.ask a.asked) a.sees) (λ v h. issued_more v (a.held_issued v h))
-      (λ full. shows_more (λ i v. told_pairs records r number k.next i v || claimed k.know i v) known_at within (a.knows full)) (λ i v h. issued_more v (a.know_issued i v h))
+  stream_more filters records given r opened number ask_of known_at held_at k claims_issued within a = grind (arith, stream_kept, ask_more, issued_more, shows_more, told_pairs, claimed)

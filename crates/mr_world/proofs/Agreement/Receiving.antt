@@ -1,71 +1,37 @@
 -- Receive, whole.
-use Rattle.std.proofs.Common.{◌≡◌, refl, sym, ap, subst, ◌∙◌, ℕ, ◌==◌, Bool, true, false, not, ◌||◌, ◌&&◌, List, [], ◌∷◌, filter, inl, inr, IsTrue, IsFalse, eqb-true, if◌then◌else◌, Option, Some, None}
-use Rattle.std.specs.List.{list_any}
-use Rattle.std.proofs.lemmas.Bool.{and_from, and_parts, both_ways}
-use Rattle.mr_version.specs.Name.{Name}
-use Rattle.mr_forms.specs.Known.{AreSame, Form, with_pairs}
-use Rattle.mr_concise.specs.Vector.{vector_has}
-use Rattle.mr_feed.specs.declared.entry.Entry.{Entry}
-use Rattle.mr_filter.specs.Filter.{ClauseParts}
-use Rattle.mr_filter.specs.Meaning.{selects}
-use Rattle.mr_mail.specs.Mail.{Mail, MailCard, card_of}
-use Rattle.mr_madewith.specs.Revision.{Rev}
-use Rattle.mr_model.specs.Changes.{Change.Takes, Reception, Reception.AsFinished, Reception.AsKnown, Reception.AsTaken, after_taking, change_by_reply, change_if_found, feed_after, holding_after_end, holding_after_record, holding_after_version, with_holding}
-use Rattle.mr_model.specs.History.{Body as SeenBody, Entry as SeenEntry, Record}
-use Rattle.mr_model.specs.Moment.{Holding, completes, in_session, known, numbered, only, only_if, pushed_out, selection, starts_full, stored, at, ◌without◌, ◌with◌}
-use Rattle.mr_model.specs.Rules.{In, IsReceived, reception_of}
-use Rattle.mr_model.specs.Versions.{Issue, Versions, is, item_of, made_with}
-use Rattle.mr_model.proofs.Basics.{any_elim, cases, false_from, one_test, or_parts}
-use Rattle.mr_model.proofs.Core.{Inv}
-use Rattle.mr_model.proofs.Feeds.{feed_stays}
-use Rattle.mr_model.proofs.Issues.{IsIssueList, made_irrefl}
+use Rattle.std.proofs.Common.{◌≡◌, refl, sym, ap, subst, ◌∙◌, ℕ, ◌==◌, Bool, true, false, not, ◌&&◌, List, [], ◌∷◌, filter, inl, inr, IsTrue, IsFalse, arith, eqb-true, if◌then◌else◌, Option, Some, None}
+use Rattle.mr_world.proofs.Names.Lists.{both_ways, list_any}
+use Rattle.mr_world.proofs.Names.Wire.{Body, DescentParts, End, Full, Held, Item, Know, MoveOut, Sent, Start}
+use Rattle.mr_world.proofs.Names.Replica.{Ends, EndsSession, Event, Refusal, Reply, State, TakesBody, TakesFrame, TakesLine, ending, entering}
+use Rattle.mr_world.proofs.Names.Replica.{finished, is_forged, is_selected, is_unheld, learning, line_learned, line_of, log_full, map_none, moved_on}
+use Rattle.mr_world.proofs.Names.Replica.{not_refused, receive_refusal, record_refusal, refusal_of_session, refused_if, retired, session_refusal}
+use Rattle.mr_world.proofs.Names.Replica.{◌orelse◌}
+use Rattle.mr_world.proofs.Names.Sessions.{Session, Table, claimed, first_fault, is_full, is_start, open_at, with_closed, with_taken}
+use Rattle.mr_world.proofs.Names.Model.{Body as SeenBody, Entry as SeenEntry, Holding, In, IsReceived, Issue, Reception, Record, Versions}
+use Rattle.mr_world.proofs.Names.Model.{after_taking, at, change_by_reply, change_if_found, completes, feed_after, holding_after_end}
+use Rattle.mr_world.proofs.Names.Model.{holding_after_record, holding_after_version, in_session, is, item_of, known, made_with, nothing, numbered}
+use Rattle.mr_world.proofs.Names.Model.{only, only_if, pushed_out, reception_of, selection, starts_full, stored, with_holding, ◌without◌, ◌with◌}
+use Rattle.mr_world.proofs.Names.Laws.{Inv, IsIssueList, any_elim, cases, feed_stays, in_filter, in_map, made_irrefl, numbered_in, version_again}
+use Rattle.mr_world.proofs.Names.Mails.{AreSame, ClauseParts, Entry, Form, Mail, MailCard, Name, Rev, card_of, selects, vector_has, with_pairs}
+use Rattle.mr_world.proofs.Names.World.{Agrees, AreAtOnePlace, HoldingsAgree, HoldsAs, IsBelow, IsToldWhole, IsTrueBody, IsTrueLine, IsTrueRevision}
+use Rattle.mr_world.proofs.Names.World.{MailMoment, MailSetting, SessionsAgree, Shows, World, message_of, seen_body, seen_record, seen_reply}
+use Rattle.mr_world.proofs.Names.World.{setting_of}
+use Rattle.mr_model.specs.Changes.{Change.Takes, Reception.AsFinished, Reception.AsKnown, Reception.AsTaken}
 use Rattle.mr_model.proofs.Lessons.{whole_stream}
-use Rattle.mr_model.proofs.Lists.{filter_in, in_filter, in_map}
-use Rattle.mr_model.proofs.Readings.{version_again}
-use Rattle.mr_model.proofs.Sets.{at_elim, at_elim₂, numbered_in, without_from, without_parts}
-use Rattle.mr_replica.specs.Admission.{log_full, retired}
-use Rattle.mr_replica.specs.Forged.{is_forged, line_of}
-use Rattle.mr_replica.specs.Issue.{is_selected}
-use Rattle.mr_replica.specs.Receive.{Ends, EndsSession, TakesBody, TakesFrame, TakesLine, ending, entering, finished, is_unheld, learning, line_learned, moved_on, receive_refusal, record_refusal, session_refusal}
-use Rattle.mr_replica.specs.Refusal.{refusal_of_session, refused_if, ◌orelse◌}
-use Rattle.mr_replica.specs.State.{State}
-use Rattle.mr_replica.specs.declared.event.Event.{Event}
-use Rattle.mr_replica.specs.declared.event.Reply.{Reply}
 use Rattle.mr_replica.specs.declared.event.Reply.TheVariants as reply
-use Rattle.mr_replica.specs.declared.refusal.Refusal.{Refusal}
 use Rattle.mr_replica.specs.declared.refusal.Refusal.TheVariants as refusal
-use Rattle.mr_session.specs.Session.{Session, first_fault, is_full, is_start, with_taken}
-use Rattle.mr_session.specs.Stream.{claimed}
-use Rattle.mr_session.specs.Table.{Table, open_at, with_closed}
-use Rattle.mr_store.specs.Revisions.{holds}
-use Rattle.mr_wire.specs.Frames.{Sent}
-use Rattle.mr_wire.specs.Values.{DescentParts}
-use Rattle.mr_wire.specs.declared.frame.Body.{Body}
-use Rattle.mr_wire.specs.declared.frame.Body.TheVariants.{Start, Item, MoveOut, Held, Know, End}
 use Rattle.mr_wire.specs.declared.frame.Frame.TheVariants as frame
-use Rattle.mr_wire.specs.declared.frame.Mode.TheVariants.{Full}
-use Rattle.mr_world.specs.Agrees.{Agrees, HoldingsAgree, HoldsAs}
-use Rattle.mr_world.specs.Issued.{IsBelow, IsTrueLine, IsTrueRevision, Shows, message_of}
-use Rattle.mr_world.specs.Seen.{MailMoment, MailSetting, seen_body, seen_record, seen_reply, setting_of}
-use Rattle.mr_world.specs.Sessions.{SessionsAgree}
-use Rattle.mr_world.specs.Streams.{StreamsAgree}
-use Rattle.mr_world.specs.Told.{AreAtOnePlace, IsToldWhole, IsTrueBody}
-use Rattle.mr_world.specs.World.{World}
 use Rattle.mr_world.proofs.Moving.ByParts.{with_replica}
 use Rattle.mr_world.proofs.Agreement.Feeds.{feed_is}
-use Rattle.mr_world.proofs.Agreement.Learning.{Comes, feed_learned, held_learned, out_learned, shows_revision}
-use Rattle.mr_world.proofs.Agreement.Staying.{tables_hold}
-use Rattle.mr_world.proofs.Groundwork.Orders.{held_in, in_held, none_in_order, some_in_order}
+use Rattle.mr_world.proofs.Agreement.Learning.{Comes, feed_learned, held_learned, hold_same, none_hold, out_learned, shows_revision, shows_with, some_hold}
+use Rattle.mr_world.proofs.Agreement.Staying.{own_agrees, tables_hold}
 use Rattle.mr_world.proofs.Agreement.Taking.{IsNextOf, full_is, next_of, session_goes_on, sessions_closed, sessions_taken}
-use Rattle.mr_world.proofs.Groundwork.Tools.{at_elim₃, map_none, not_refused, numbered_map, or_swap, orelse_none, to_true}
+use Rattle.mr_world.proofs.Groundwork.Tools.{at_self, numbered_map, orelse_none, to_true}
 
 -- an issued version is selected by its message
 pub selected_message : (s : MailSetting) (issues : List (Issue Mail)) (r : ℕ) (v : Name) (message : Mail) → message_of issues v ≡ Some message → selection s issues r v ≡ s.selects r message
 selected_message s [] r v message h = absurd (cc)
-selected_message s (x ∷ e) r v message h = elim (cases (is x.version v)) [
-  | inl t ↦ (let k : Some x.message ≡ Some message = rw t at h in let p : x.message ≡ message = cc in rw t (ap (s.selects r) p))
-  | inr n ↦ (let k : message_of e v ≡ Some message = rw n at h in rw n (selected_message s e r v message k))
-]
+selected_message s (x ∷ e) r v message h = grind (arith, selected_message s e r v message, cases, is, at, selects, message_of)
 
 -- the reply is that of the reception
 abbrev pub Replies : Reply → Reception → Type 0
@@ -80,13 +46,12 @@ taken_change : (m : MailMoment) (r n : ℕ) (x : Record) (given : Reply) (recept
 taken_change m r n x reply.Took AsTaken e h = ap (λ (o : Option Record). change_if_found o (λ y. Takes r y AsTaken)) e
 taken_change m r n x reply.Known AsKnown e h = ap (λ (o : Option Record). change_if_found o (λ y. Takes r y AsKnown)) e
 taken_change m r n x reply.Finished AsFinished e h = ap (λ (o : Option Record). change_if_found o (λ y. Takes r y AsFinished)) e
-taken_change m r n x given reception e h = absurd h
+taken_change m r n x given reception e h = grind (arith, change_if_found)
 
 -- what holds an arrived revision
 comes_selected : (issues : List (Issue Mail)) (list : IsIssueList issues) (y : Rev) (isb : IsBelow issues y.item y.version y.below) (selected : Bool) → IsTrueRevision issues y →
     Comes issues list y.item y.version y.below isb selected (if selected then Some y else None)
-comes_selected issues list y isb true t = (t, refl)
-comes_selected issues list y isb false t = tt
+comes_selected issues list y isb selected t = grind arith
 
 module _ {K : Type 0} (form : Form K) (filters : ℕ → List ClauseParts) (w : World K) (m : MailMoment) (inv : Inv (setting_of filters) m) (a : Agrees form filters w m) (r : ℕ)
     (x : Sent) (i : In x w.records) (k : Session) (found : open_at (w.replicas r).sessions x.header.session ≡ Some k) (target : x.header.target ≡ r) (ok : first_fault k.origin k.next x ≡ None) where
@@ -126,20 +91,7 @@ module _ {K : Type 0} (form : Form K) (filters : ℕ → List ClauseParts) (w : 
   changes : (sessions : Table Session) → SessionsAgree w.records (seen_record x ∷ m.taken_in r) sessions → (h : Holding) (knowledge : K) (heads push_outs : List Rev) (feed push_out_feed : List Entry) (log : List Event) →
       HoldingsAgree form m.issues filters r h (told_of h.stored) (m.is_retired r) (with_holdings knowledge heads push_outs feed push_out_feed sessions log) →
       Agrees form filters (with_replica w r (with_holdings knowledge heads push_outs feed push_out_feed sessions log)) (taking h)
-  changes sessions agree h knowledge heads push_outs feed push_out_feed log new = record {
-    asks = a.asks;
-    given = a.given;
-    records = a.records;
-    vouched = a.vouched;
-    receipts = a.receipts;
-    ports = a.ports;
-    holdings = λ q. at_elim₃ (λ (z : ℕ) (ho : Holding) (fe : List (SeenEntry MailCard)) (st : State K). HoldingsAgree form m.issues filters z ho fe (m.is_retired z) st) m.holding m.feed w.replicas
-        r h (told_of h.stored) (with_holdings knowledge heads push_outs feed push_out_feed sessions log) q new (a.holdings q);
-    sessions = λ q. at_elim₂ (λ (z : ℕ) (u : List Record) (st : State K). SessionsAgree w.records u st.sessions) m.taken_in w.replicas r (seen_record x ∷ m.taken_in r) (with_holdings knowledge heads push_outs feed push_out_feed sessions log) q
-        agree (a.sessions q);
-    streams = λ q. at_elim (λ (z : ℕ) (st : State K). StreamsAgree m.issues filters w.records m.given z (m.ask_of z) (m.known_at_answer z) (m.held_at_draw z) st.streams) w.replicas r
-        (with_holdings knowledge heads push_outs feed push_out_feed sessions log) q (a.streams r) (a.streams q);
-  }
+  changes sessions agree h knowledge heads push_outs feed push_out_feed log new = grind (arith, with_replica, at_self, own_agrees, stored, seen_record)
 
   -- the sets are as they were
   quiet : (sessions : Table Session) → SessionsAgree w.records (seen_record x ∷ m.taken_in r) sessions → (log : List Event) →
@@ -210,7 +162,7 @@ module _ {K : Type 0} (form : Form K) (filters : ℕ → List ClauseParts) (w : 
     line_taken : (given : Reply) (new : State K) → TakesLine form (w.replicas r) x line comer given new → Versioned line.version enters given new
     line_taken reply.Known new step = version_known new step.0 step.1
     line_taken reply.Took new step = version_new new step.0 step.1 step.2
-    line_taken given new step = absurd step
+    line_taken given new step = grind (arith, version_known, version_new)
 
   -- ---- an End
 
@@ -255,44 +207,22 @@ module _ {K : Type 0} (form : Form K) (filters : ℕ → List ClauseParts) (w : 
       stays y = not (is_unheld k y)
 
       heads_left : HoldsAs m.issues (filter stays (w.replicas r).heads) (stored m r without (taught without shown_then))
-      heads_left = record {
-        each = λ y l. hold.heads.each y (in_filter stays (w.replicas r).heads y l).0;
-        in_order = some_in_order stays (w.replicas r).heads hold.heads.in_order;
-        same = λ v. one_test (holds (filter stays (w.replicas r).heads) v) ((stored m r without (taught without shown_then)) v)
-            (λ h. let y = held_in (filter stays (w.replicas r).heads) v h in let d = in_filter stays (w.replicas r).heads y.0 y.1 in
-            and_from (stored m r v) (not ((taught without shown_then) v)) (sym (hold.heads.same v) ∙ subst (λ (z : Name). IsTrue (holds (w.replicas r).heads z)) y.2 (in_held (w.replicas r).heads y.0 d.0))
-            (subst (λ (z : Name). IsTrue (not ((taught without shown_then) z))) y.2 (ap not (sym (unheld_is y.0 (hold.heads.each y.0 d.0))) ∙ d.1)))
-            (λ h. let both = and_parts (stored m r v) (not ((taught without shown_then) v)) h in let y = held_in (w.replicas r).heads v (hold.heads.same v ∙ both.0) in
-            subst (λ (z : Name). IsTrue (holds (filter stays (w.replicas r).heads) z)) y.2 (in_held (filter stays (w.replicas r).heads) y.0 (filter_in stays (w.replicas r).heads y.0 y.1
-            (ap not (unheld_is y.0 (hold.heads.each y.0 y.1)) ∙ subst (λ (z : Name). IsTrue (not ((taught without shown_then) z))) (sym y.2) both.1))));
-      }
+      heads_left = some_hold m.issues (w.replicas r).heads (stored m r) (λ v. not ((taught without shown_then) v)) stays hold.heads (λ y t. ap not (unheld_is y t))
 
       -- what leaves
       heads_gone : HoldsAs m.issues (filter (is_unheld k) (w.replicas r).heads) (stored m r without (stored m r without (taught without shown_then)))
-      heads_gone = record {
-        each = λ y l. hold.heads.each y (in_filter (is_unheld k) (w.replicas r).heads y l).0;
-        in_order = some_in_order (is_unheld k) (w.replicas r).heads hold.heads.in_order;
-        same = λ v. one_test (holds (filter (is_unheld k) (w.replicas r).heads) v) ((stored m r without (stored m r without (taught without shown_then))) v)
-            (λ h. let y = held_in (filter (is_unheld k) (w.replicas r).heads) v h in let d = in_filter (is_unheld k) (w.replicas r).heads y.0 y.1 in
-            let u : IsTrue ((taught without shown_then) v) = subst (λ (z : Name). IsTrue ((taught without shown_then) z)) y.2 (sym (unheld_is y.0 (hold.heads.each y.0 d.0)) ∙ d.1) in
-            let st : IsTrue (stored m r v) = sym (hold.heads.same v) ∙ subst (λ (z : Name). IsTrue (holds (w.replicas r).heads z)) y.2 (in_held (w.replicas r).heads y.0 d.0) in
-            without_from (stored m r) (stored m r without (taught without shown_then)) v st (false_from ((stored m r without (taught without shown_then)) v) (λ k. both_ways ((taught without shown_then) v) (without_parts (stored m r) (taught without shown_then) v k).1 u)))
-            (λ h. let both = without_parts (stored m r) (stored m r without (taught without shown_then)) v h in let y = held_in (w.replicas r).heads v (hold.heads.same v ∙ both.0) in
-            subst (λ (z : Name). IsTrue (holds (filter (is_unheld k) (w.replicas r).heads) z)) y.2 (in_held (filter (is_unheld k) (w.replicas r).heads) y.0 (filter_in (is_unheld k) (w.replicas r).heads y.0 y.1
-            (unheld_is y.0 (hold.heads.each y.0 y.1) ∙ subst (λ (z : Name). IsTrue ((taught without shown_then) z)) (sym y.2) (elim (cases ((taught without shown_then) v)) [
-              | inl t ↦ t
-              | inr n ↦ absurd (both_ways ((stored m r without (taught without shown_then)) v) both.1 (without_from (stored m r) (taught without shown_then) v both.0 n))
-            ])))));
-      }
+      heads_gone = hold_same m.issues (filter (is_unheld k) (w.replicas r).heads) (λ v. stored m r v && (taught without shown_then) v) (stored m r without (stored m r without (taught without shown_then)))
+          (some_hold m.issues (w.replicas r).heads (stored m r) (taught without shown_then) (is_unheld k) hold.heads unheld_is) (λ v. left (stored m r v) ((taught without shown_then) v))
+        where
+          left : (a c : Bool) → (a && c) ≡ (a && not (a && not c))
+          left a c = grind arith
 
       -- and nothing comes
       none_come : HoldsAs m.issues [] ((stored m r without (taught without shown_then)) without stored m r)
-      none_come = record {
-        each = λ y l. elim l [ ];
-        in_order = none_in_order;
-        same = λ v. sym (false_from (((stored m r without (taught without shown_then)) without stored m r) v) (λ h. let out = without_parts (stored m r without (taught without shown_then)) (stored m r) v h in
-            both_ways (stored m r v) out.1 (without_parts (stored m r) (taught without shown_then) v out.0).0));
-      }
+      none_come = hold_same m.issues [] nothing ((stored m r without (taught without shown_then)) without stored m r) (none_hold m.issues) (λ v. none (stored m r v) ((taught without shown_then) v))
+        where
+          none : (a c : Bool) → false ≡ ((a && not c) && not a)
+          none a c = grind arith
 
       abbrev ended : K → State K
       ended knowledge = finished (ending (w.replicas r) knowledge k) x
@@ -303,10 +233,7 @@ module _ {K : Type 0} (form : Form K) (filters : ℕ → List ClauseParts) (w : 
         id = hold.id;
         filter = hold.filter;
         is_retired = hold.is_retired;
-        knows = record {
-          issued = λ c v h. elim (or_parts (claimed k.know c v) (form.known (w.replicas r).knowledge c v) (sym (merged c v) ∙ h)) [ inl l ↦ covers_taught.issued c v l | inr l ↦ hold.knows.issued c v l ];
-          same = λ v h. merged (item_of m.issues v) v ∙ ((λ z. covers_taught.same v h z || hold.knows.same v h z) ∙ or_swap (taught v) (known m r v));
-        };
+        knows = shows_with m.issues (form.known (w.replicas r).knowledge) (claimed k.know) (form.known knowledge) (known m r) taught hold.knows covers_taught merged;
         heads = heads_left;
         push_outs = hold.push_outs;
         entries = ap (λ (fe : List (SeenEntry MailCard)). feed_after (setting_of filters) m.issues (stored m r) (stored m r without (taught without shown_then)) fe) hold.entries
@@ -377,11 +304,7 @@ module _ {K : Type 0} (form : Form K) (filters : ℕ → List ClauseParts) (w : 
   target = eqb-true x.header.target (w.replicas r).id (to_true (x.header.target == (w.replicas r).id) (not_refused (not (x.header.target == (w.replicas r).id)) refusal.NotForMe rest.0)) ∙ (a.holdings r).id
 
   session_found : (k : Session) × (open_at (w.replicas r).sessions x.header.session ≡ Some k) × (first_fault k.origin k.next x ≡ None)
-  session_found = go (open_at (w.replicas r).sessions x.header.session) refl (orelse_none session_part forged_part rest.1).0
-    where
-      go : (o : Option Session) → open_at (w.replicas r).sessions x.header.session ≡ o → session_refusal o x ≡ None → (k : Session) × (open_at (w.replicas r).sessions x.header.session ≡ Some k) × (first_fault k.origin k.next x ≡ None)
-      go None e h = absurd (cc)
-      go (Some k) e h = (k, e, map_none refusal_of_session (first_fault k.origin k.next x) h)
+  session_found = grind (arith, open_at, orelse_none, rest, session_refusal, first_fault, next, map_none, refusal_of_session)
 
   pub receive_agrees : (n : ℕ) (given : Reply) (new : State K) → numbered w.records n ≡ Some x → TakesFrame form (w.replicas r) (frame.Record x) given new →
       (change_by_reply m r n (seen_reply m.issues given) ≡ Takes r (seen_record x) (reception_of m r (seen_body x.body))) ×

@@ -1,25 +1,14 @@
 -- Parts of the agreement that a change leaves as they are.
-use Rattle.std.proofs.Common.{◌≡◌, sym, ap, ◌∙◌, ℕ, Bool, List, ◌∷◌, inl, inr, Option, Some}
-use Rattle.mr_forms.specs.Known.{Form}
-use Rattle.mr_filter.specs.Filter.{ClauseParts}
-use Rattle.mr_mail.specs.Mail.{Mail, MailCard}
-use Rattle.mr_model.specs.History.{Ask, Entry, Record}
-use Rattle.mr_model.specs.Moment.{Holding}
-use Rattle.mr_model.specs.Rules.{IsOf}
-use Rattle.mr_model.specs.Versions.{Issue, Versions, item_of}
-use Rattle.mr_model.proofs.Draws.{held_more, held_split, of_more, of_split}
-use Rattle.mr_replica.specs.State.{State}
-use Rattle.mr_replica.specs.declared.event.Event.{Event}
-use Rattle.mr_session.specs.Session.{Session}
-use Rattle.mr_session.specs.Stream.{Stream}
-use Rattle.mr_session.specs.Table.{Table}
-use Rattle.mr_session.specs.declared.origin.Origin.{Origin}
-use Rattle.mr_wire.specs.Frames.{Sent}
-use Rattle.mr_world.specs.Agrees.{HoldingsAgree}
-use Rattle.mr_world.specs.Seen.{seen_record}
-use Rattle.mr_world.specs.Sessions.{SessionAgrees}
-use Rattle.mr_world.specs.Streams.{StreamAgrees}
-use Rattle.mr_world.specs.Told.{shown_by, told_by}
+use Rattle.std.proofs.Common.{◌≡◌, sym, ap, ◌∙◌, ℕ, Bool, List, ◌∷◌, inl, inr, Option, Some, arith}
+use Rattle.mr_world.proofs.Names.Wire.{Sent}
+use Rattle.mr_world.proofs.Names.Replica.{Event, State}
+use Rattle.mr_world.proofs.Names.Sessions.{Origin, Session, Stream, Table}
+use Rattle.mr_world.proofs.Names.Model.{Ask, Entry, Holding, IsOf, Issue, Record, Versions, at, item_of}
+use Rattle.mr_world.proofs.Names.Laws.{at_elim, at_elim₂, held_more, held_split, of_more, of_split}
+use Rattle.mr_world.proofs.Names.Mails.{ClauseParts, Form, Mail, MailCard}
+use Rattle.mr_world.proofs.Names.World.{Agrees, HoldingsAgree, MailMoment, SessionAgrees, SessionsAgree, StreamAgrees, StreamsAgree, World}
+use Rattle.mr_world.proofs.Names.World.{seen_record, shown_by, told_by}
+use Rattle.mr_world.proofs.Groundwork.Tools.{at_elim₄}
 use Rattle.mr_world.proofs.Agreement.Parts.{IsAt, parts_other}
 
 -- one more record is given, of no stream that the session is bound to, or past its next index
@@ -85,15 +74,10 @@ module _ {K : Type 0} (form : Form K) where
   pub tables_hold : (issues : List (Issue Mail)) (filters : ℕ → List ClauseParts) (r : ℕ) (holding : Holding) (feed : List (Entry MailCard)) (retired : Bool) (s : State K)
       (log : List Event) (sessions : Table Session) (streams : Table Stream) →
       HoldingsAgree form issues filters r holding feed retired s → HoldingsAgree form issues filters r holding feed retired (with_tables s log sessions streams)
-  tables_hold issues filters r holding feed retired s log sessions streams h = record {
-    id = h.id;
-    filter = h.filter;
-    is_retired = h.is_retired;
-    knows = h.knows;
-    heads = h.heads;
-    push_outs = h.push_outs;
-    entries = h.entries;
-    count = h.count;
-    last = h.last;
-    last_below = h.last_below;
-  }
+  tables_hold issues filters r holding feed retired s log sessions streams h = grind arith
+
+  -- r is another, and so are its own sets
+  pub own_agrees : (filters : ℕ → List ClauseParts) (w : World K) (m : MailMoment) → Agrees form filters w m → (r : ℕ) (new : State K) (h : Holding) (feed : List (Entry MailCard)) (retired : Bool) (taken : List Record) →
+      HoldingsAgree form m.issues filters r h feed retired new → SessionsAgree w.records taken new.sessions → StreamsAgree m.issues filters w.records m.given r (m.ask_of r) (m.known_at_answer r) (m.held_at_draw r) new.streams →
+      Agrees form filters (record w { replicas = at w.replicas r new }) (record m { holding = at m.holding r h; feed = at m.feed r feed; is_retired = at m.is_retired r retired; taken_in = at m.taken_in r taken })
+  own_agrees filters w m a r new h feed retired taken holdings sessions streams = grind (arith, at_elim₄, at_elim₂, at_elim)

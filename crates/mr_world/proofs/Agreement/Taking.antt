@@ -1,63 +1,36 @@
 -- A session takes a record.
 use Rattle.std.proofs.Common.{◌≡◌, ◌≢◌, refl, sym, ap, subst, ◌∙◌, ℕ, ◌+◌, ◌≤◌, ◌<◌, ◌==◌, nat_lt, Bool, true, false, not, ◌||◌, ◌&&◌, if◌then◌else◌, List, [], ◌∷◌, ◌++◌, filter, inl, inr, IsTrue, IsFalse, arith, eqb-true, eq-eqb, Option, Some, None}
-use Rattle.std.specs.List.{list_any}
-use Rattle.std.proofs.lemmas.Bool.{and_from, and_parts, ltb-false}
-use Rattle.mr_version.specs.Name.{Name}
-use Rattle.mr_concise.specs.AnyOf.{in_any}
-use Rattle.mr_concise.specs.declared.vector.AuthorColumn.{AuthorColumn}
-use Rattle.mr_concise.specs.Vector.{vector_has}
-use Rattle.mr_model.specs.History.{Record}
-use Rattle.mr_model.specs.Moment.{in_session, is_start as is_start_seen, is_whole, same_stream, starts_full}
-use Rattle.mr_model.specs.Rules.{In}
-use Rattle.mr_model.proofs.Basics.{cases}
-use Rattle.mr_session.specs.Session.{Session, after_record, first_fault, if_so, is_full, is_full_mode, is_of, is_start, new_session, with_body, with_taken}
-use Rattle.mr_session.specs.Stream.{claimed}
-use Rattle.mr_session.specs.Table.{Table, open_at, with_closed}
-use Rattle.mr_session.specs.declared.fault.SessionFault.{SessionFault}
+use Rattle.mr_world.proofs.Names.Lists.{and_from, and_parts, list_any, ltb-false}
+use Rattle.mr_world.proofs.Names.Wire.{Body, End, Full, Held, Item, Know, Mode, MoveOut, Partial, Piece, Sent, Start}
+use Rattle.mr_world.proofs.Names.Replica.{some_same}
+use Rattle.mr_world.proofs.Names.Sessions.{Origin, Session, SessionFault, Table, after_record, claimed, first_fault, if_so, is_full, is_full_mode}
+use Rattle.mr_world.proofs.Names.Sessions.{is_of, is_start, new_session, open_at, with_body, with_closed, with_taken}
+use Rattle.mr_world.proofs.Names.Model.{In, Record, in_session, is_start as is_start_seen, is_whole, same_stream, starts_full}
+use Rattle.mr_world.proofs.Names.Laws.{cases}
+use Rattle.mr_world.proofs.Names.Mails.{AuthorColumn, Name, in_any, vector_has}
+use Rattle.mr_world.proofs.Names.World.{AreAtOnePlace, Follows, KeepsTold, SessionAgrees, SessionsAgree, seen_body, seen_record, shown, shown_by}
+use Rattle.mr_world.proofs.Names.World.{told_by, told_pairs}
 use Rattle.mr_session.specs.declared.fault.SessionFault.TheVariants.{NotStart, OtherStream, Repeated, Gap}
-use Rattle.mr_session.specs.declared.origin.Origin.{Origin}
-use Rattle.mr_wire.specs.Frames.{Sent}
-use Rattle.mr_wire.specs.Values.{Piece}
-use Rattle.mr_wire.specs.declared.frame.Body.{Body}
-use Rattle.mr_wire.specs.declared.frame.Body.TheVariants.{Start, Item, MoveOut, Held, Know, End}
-use Rattle.mr_wire.specs.declared.frame.Mode.{Mode}
-use Rattle.mr_wire.specs.declared.frame.Mode.TheVariants.{Full, Partial}
-use Rattle.mr_world.specs.Seen.{seen_body, seen_record}
-use Rattle.mr_world.specs.Sessions.{Follows, KeepsTold, SessionAgrees, SessionsAgree}
-use Rattle.mr_world.specs.Told.{AreAtOnePlace, shown, shown_by, told_by, told_pairs}
 use Rattle.mr_world.proofs.Agreement.Parts.{parts_none, parts_taken}
 use Rattle.mr_world.proofs.Groundwork.Tables.{changed_found, closed_found}
-use Rattle.mr_world.proofs.Groundwork.Tools.{any_append, or_none, some_path, to_true}
+use Rattle.mr_world.proofs.Groundwork.Tools.{any_append, or_none, to_true}
 
 -- a Start is seen as one
 pub start_seen : (b : Body) → is_start_seen (seen_body b) ≡ is_start b
-start_seen (Start mode) = refl
-start_seen (Item r) = refl
-start_seen (MoveOut line) = refl
-start_seen (Held vector) = refl
-start_seen (Know piece) = refl
-start_seen End = refl
+start_seen b = grind arith
 
 -- another record starts no full stream
 pub starts_none : (b : Body) → is_start b ≡ false → starts_full (seen_body b) ≡ false
-starts_none (Start mode) h = absurd (cc)
-starts_none (Item r) h = refl
-starts_none (MoveOut line) h = refl
-starts_none (Held vector) h = refl
-starts_none (Know piece) h = refl
-starts_none End h = refl
+starts_none b h = grind arith
 
 pub full_is : (mode : Mode) → is_full_mode mode ≡ true → mode ≡ Full
-full_is Full h = refl
-full_is Partial h = absurd (cc)
+full_is mode h = grind arith
 
 no_fault : (b : Bool) (fault : SessionFault) (rest : Option SessionFault) → (if b then Some fault else rest) ≡ None → IsFalse b × (rest ≡ None)
-no_fault true fault rest e = absurd (cc)
-no_fault false fault rest e = (refl, e)
+no_fault b fault rest e = grind arith
 
 no_start_fault : (b : Bool) → (if b then None else Some NotStart) ≡ None → IsTrue b
-no_start_fault true e = refl
-no_start_fault false e = absurd (cc)
+no_start_fault b e = grind arith
 
 -- What was taken in the session, and the record that it takes next. A Start comes first, and nothing else does.
 pub record IsNextOf (given : List Sent) (before : List Record) (k : Session) (x : Sent) : Type 0 where
@@ -136,7 +109,7 @@ module _ (given : List Sent) (taken : List Record) (opened n : ℕ) (k : Session
       whole = subst (λ (ts : List Record). IsTrue (is_whole (seen_record x) ts)) none next.whole;
       full = sym (ap (λ (b : Body). starts_full (seen_body b) || false) e ∙ or_none (is_full_mode mode));
     });
-    keeps = λ o p full. (let q : record { source = x.header.source; stream = x.header.stream; mode = mode } ≡ o = some_path (record { source = x.header.source; stream = x.header.stream; mode = mode }) o p in
+    keeps = λ o p full. (let q : record { source = x.header.source; stream = x.header.stream; mode = mode } ≡ o = some_same (record { source = x.header.source; stream = x.header.stream; mode = mode }) o p in
         subst (KeepsTold given (record new_session { origin = Some (record { source = x.header.source; stream = x.header.stream; mode = mode }); next = x.header.index + 1 })) q (record {
           held = λ v. sym (shown_now v ∙ (λ z. shown_first v z || shown_by (e z) v));
           know = λ j v. sym (told_now j v ∙ (λ z. told_first j v z || told_by (e z) j v));
@@ -169,7 +142,7 @@ module _ (given : List Sent) (taken : List Record) (opened n : ℕ) (k : Session
       whole = next.whole;
       full = sym (ap is_full bound.1) ∙ (next.full differs ∙ sym (ap (λ (b : Bool). b || list_any (λ y. starts_full y.body) before) (starts_none x.body differs)));
     });
-    keeps = λ o p full. (let q : record { source = x.header.source; stream = x.header.stream; mode = bound.0 } ≡ o = some_path (record { source = x.header.source; stream = x.header.stream; mode = bound.0 }) o (sym bound.1 ∙ p) in
+    keeps = λ o p full. (let q : record { source = x.header.source; stream = x.header.stream; mode = bound.0 } ≡ o = some_same (record { source = x.header.source; stream = x.header.stream; mode = bound.0 }) o (sym bound.1 ∙ p) in
         let is : is_full k.origin ≡ true = ap is_full p ∙ ap is_full_mode full in
         subst (KeepsTold given (record k { next = x.header.index + 1; held = held; know = know })) q (record {
           held = λ v. hh is v ∙ (ap (λ (b : Bool). b || shown_by x.body v) (next.held is v) ∙ sym (shown_now v));
@@ -210,19 +183,13 @@ module _ (given : List Sent) (taken : List Record) (opened n : ℕ) (k : Session
 
 -- a session of another number
 pub session_aside : (given : List Sent) (taken : List Record) (opened n : ℕ) (k : Session) (x : Record) → x.session ≢ n → SessionAgrees given taken opened n k → SessionAgrees given (x ∷ taken) opened n k
-session_aside given taken opened n k x other a = record { old = a.old; follows = subst (Follows k) (sym skipped) a.follows; keeps = a.keeps }
-  where
-    skipped : filter (in_session n) (x ∷ taken) ≡ filter (in_session n) taken
-    skipped = elim (cases (x.session == n)) [ inl t ↦ absurd (other (eqb-true x.session n t)) | inr f ↦ rw f refl ]
+session_aside given taken opened n k x other a = grind (arith, in_session, cases, eqb-true)
 
 -- ---- the table after it
 
 module _ (given : List Sent) (taken : List Record) (sessions : Table Session) (x : Sent) (agree : SessionsAgree given taken sessions) (k : Session) (found : open_at sessions x.header.session ≡ Some k) where
   fresh_after : (n : ℕ) → sessions.opened < n → filter (in_session n) (seen_record x ∷ taken) ≡ []
-  fresh_after n lt = elim (cases (x.header.session == n)) [
-    | inl t ↦ (let e : x.header.session ≡ n = eqb-true x.header.session n t in let old = (agree.each x.header.session k found).old in absurd (omega arith))
-    | inr t ↦ rw t (agree.fresh n lt)
-  ]
+  fresh_after n lt = grind (arith, cases, eqb-true)
 
   -- the session is closed
   pub sessions_closed : SessionsAgree given (seen_record x ∷ taken) (with_closed sessions x.header.session)
@@ -235,7 +202,7 @@ module _ (given : List Sent) (taken : List Record) (sessions : Table Session) (x
   pub sessions_taken : SessionAgrees given (seen_record x ∷ taken) sessions.opened x.header.session (after_record x k) → SessionsAgree given (seen_record x ∷ taken) (with_taken x sessions)
   sessions_taken on = record {
     each = λ n c e. elim (changed_found sessions x.header.session (after_record x) n c e) [
-      | inl here ↦ (let same : k ≡ here.1 = some_path k here.1 (sym found ∙ here.2) in
+      | inl here ↦ (let same : k ≡ here.1 = some_same k here.1 (sym found ∙ here.2) in
           subst (λ (q : ℕ). SessionAgrees given (seen_record x ∷ taken) sessions.opened q c) here.0 (subst (SessionAgrees given (seen_record x ∷ taken) sessions.opened x.header.session) (ap (after_record x) same ∙ here.3) on))
       | inr there ↦ session_aside given taken sessions.opened n c (seen_record x) there.0 (agree.each n c there.1)
     ];

@@ -1,14 +1,7 @@
 -- The vectors that versions are cut into have just these versions.
-use Rattle.std.proofs.Common.{◌≡◌, refl, sym, ap, ◌∙◌, Bool, ◌||◌, List, [], ◌∷◌, map, inl, inr}
-use Rattle.mr_version.specs.Name.{Name, name_eq}
-use Rattle.mr_version.specs.Sets.{is_listed}
-use Rattle.mr_concise.specs.AnyOf.{in_any}
-use Rattle.mr_concise.specs.Vector.{vector_has}
-use Rattle.mr_concise.specs.declared.vector.AuthorColumn.{AuthorColumn}
-use Rattle.mr_madewith.specs.Revision.{Rev}
-use Rattle.mr_madewith.proofs.Rising.{name_eq-swap, sides_of}
-use Rattle.mr_session.specs.Held.{AreCut}
-use Rattle.mr_store.specs.Revisions.{holds, version_of}
+use Rattle.std.proofs.Common.{◌≡◌, refl, sym, ap, ◌∙◌, Bool, ◌||◌, List, [], ◌∷◌, map, inl, inr, arith}
+use Rattle.mr_world.proofs.Names.Sessions.{AreCut}
+use Rattle.mr_world.proofs.Names.Mails.{AuthorColumn, Name, Rev, holds, in_any, is_listed, name_eq, name_eq-swap, sides_of, vector_has, version_of}
 use Rattle.mr_world.proofs.Groundwork.Tools.{any_append, or_none}
 
 pub cut_has : (versions : List Name) (vs : List (List AuthorColumn)) → AreCut versions vs → (w : Name) → in_any vector_has vs w ≡ is_listed versions w
@@ -23,11 +16,7 @@ cut_has versions (v ∷ x ∷ vs) cut w =
 
 pub listed_heads : (rs : List Rev) (w : Name) → is_listed (map version_of rs) w ≡ holds rs w
 listed_heads [] w = refl
-listed_heads (r ∷ rs) w =
-    elim (sides_of (name_eq r.version w)) [
-      | inl is ↦ rw is (rw (name_eq-swap w r.version ∙ is) refl)
-      | inr not_it ↦ rw not_it (rw (name_eq-swap w r.version ∙ not_it) (listed_heads rs w))
-    ]
+listed_heads (r ∷ rs) w = grind (arith, listed_heads rs w, sides_of, name_eq, name_eq-swap)
 
 -- heads cut into vectors
 pub cut_heads : (rs : List Rev) (vs : List (List AuthorColumn)) → AreCut (map version_of rs) vs → (w : Name) → in_any vector_has vs w ≡ holds rs w

@@ -1,37 +1,17 @@
 -- Next: what is drawn is what the rules allow.
 use Rattle.std.proofs.Common.{◌≡◌, ◌≢◌, refl, sym, ap, subst, ◌∙◌, ℕ, ◌<◌, ◌==◌, Bool, true, false, not, ◌||◌, List, [], ◌∷◌, map, ◌⊎◌, inl, inr, IsTrue, arith, eqb-true, Option, Some, None}
-use Rattle.std.proofs.lemmas.Bool.{and_from, and_parts, both_ways, eqb-false}
-use Rattle.mr_version.specs.Name.{Name}
-use Rattle.mr_forms.specs.Known.{Form}
-use Rattle.mr_concise.specs.declared.vector.AuthorColumn.{AuthorColumn}
-use Rattle.mr_filter.specs.Filter.{ClauseParts}
-use Rattle.mr_filter.specs.Meaning.{selects}
+use Rattle.mr_world.proofs.Names.Lists.{and_from, and_parts, both_ways, eqb-false}
+use Rattle.mr_world.proofs.Names.Wire.{Body, End, Full, Held, Know, Mode, Partial, Piece, Sent, Start}
+use Rattle.mr_world.proofs.Names.Replica.{State, held_now}
+use Rattle.mr_world.proofs.Names.Sessions.{AreCut, Draws, DrawsAfterWalk, DrawsAt, DrawsKnow, DrawsRest, DrawsWalk, Stream, claimed, due, header_of}
+use Rattle.mr_world.proofs.Names.Sessions.{is_ahead, is_due, is_full_mode, is_item, is_move_out, is_wanted, told}
+use Rattle.mr_world.proofs.Names.Model.{HasFullStart, HasStart, Holds, In, IsDraw, IsDue, IsNext, IsWalked, NoneDue, claims, is, is_before}
+use Rattle.mr_world.proofs.Names.Model.{is_start as is_start_seen, item_of, selection, starts_full}
+use Rattle.mr_world.proofs.Names.Laws.{IsIssueList, before_trans, cases, is_from, is_path, item_is_issued, not_both, not_true, or_left, or_parts}
+use Rattle.mr_world.proofs.Names.Laws.{or_right}
+use Rattle.mr_world.proofs.Names.Mails.{AuthorColumn, ClauseParts, Form, Name, Rev, card_of, selects, version_of}
+use Rattle.mr_world.proofs.Names.World.{HoldingsAgree, IsTrueRevision, MailMoment, StreamAgrees, seen_body, seen_record, setting_of}
 use Rattle.mr_filter.proofs.MeaningLemmas.{covers-sound}
-use Rattle.mr_mail.specs.Mail.{card_of}
-use Rattle.mr_madewith.specs.Revision.{Rev}
-use Rattle.mr_model.specs.History.{claims}
-use Rattle.mr_model.specs.Moment.{Holds, is_start as is_start_seen, selection, starts_full}
-use Rattle.mr_model.specs.Rules.{HasFullStart, HasStart, In, IsDraw, IsDue, IsNext, IsWalked, NoneDue}
-use Rattle.mr_model.specs.Versions.{is, is_before, item_of}
-use Rattle.mr_model.proofs.Basics.{cases, is_from, is_path, not_both, not_true, or_left, or_parts, or_right}
-use Rattle.mr_model.proofs.Issues.{IsIssueList, item_is_issued}
-use Rattle.mr_model.proofs.Telling.{before_trans}
-use Rattle.mr_replica.specs.Next.{held_now}
-use Rattle.mr_replica.specs.State.{State}
-use Rattle.mr_session.specs.Held.{AreCut}
-use Rattle.mr_session.specs.Session.{is_full_mode}
-use Rattle.mr_session.specs.Stream.{Draws, DrawsAfterWalk, DrawsAt, DrawsKnow, DrawsRest, DrawsWalk, Stream, claimed, due, header_of, is_ahead, is_due, is_item, is_move_out, is_wanted, told}
-use Rattle.mr_store.specs.Revisions.{version_of}
-use Rattle.mr_wire.specs.Frames.{Sent}
-use Rattle.mr_wire.specs.Values.{Piece}
-use Rattle.mr_wire.specs.declared.frame.Body.{Body}
-use Rattle.mr_wire.specs.declared.frame.Body.TheVariants.{Start, Held, Know, End}
-use Rattle.mr_wire.specs.declared.frame.Mode.{Mode}
-use Rattle.mr_wire.specs.declared.frame.Mode.TheVariants.{Full, Partial}
-use Rattle.mr_world.specs.Agrees.{HoldingsAgree}
-use Rattle.mr_world.specs.Issued.{IsTrueRevision}
-use Rattle.mr_world.specs.Seen.{MailMoment, seen_body, seen_record, setting_of}
-use Rattle.mr_world.specs.Streams.{StreamAgrees}
 use Rattle.mr_world.proofs.Drawing.Due.{lower_first, lower_none}
 use Rattle.mr_world.proofs.Groundwork.Orders.{held_in, in_held, placing}
 use Rattle.mr_world.proofs.Agreement.Receiving.{selected_message}
@@ -106,9 +86,7 @@ module _ {K : Type 0} (form : Form K) where
     claims_is x t = ap (λ (i : Name). claimed k.asked.claims i x.version) (sym t.below.of_item) ∙ a.stream.sees.shows.same x.version t.below.is_one
 
     creator_is : (x : Rev) → IsTrueRevision m.issues x → claimed k.asked.claims x.item x.item ≡ claims a.stream.ask (item_of m.issues x.version)
-    creator_is x t = let c = item_is_issued m.issues a.list x.version t.below.is_one in
-        ap (λ (i : Name). claimed k.asked.claims i i) (sym t.below.of_item)
-        ∙ (ap (λ (i : Name). claimed k.asked.claims i (item_of m.issues x.version)) (sym c.1) ∙ a.stream.sees.shows.same (item_of m.issues x.version) c.0)
+    creator_is x t = grind (arith, item_is_issued, claimed, claims, item_of)
 
     wants_is : (x : Rev) → IsTrueRevision m.issues x → selection (setting_of filters) m.issues a.stream.ask.target x.version ≡ is_item k.asked x
     wants_is x t = selected_message (setting_of filters) m.issues a.stream.ask.target x.version x.message t.message

@@ -1,43 +1,23 @@
 -- Next: what agrees still agrees.
 use Rattle.std.proofs.Common.{◌≡◌, ◌≢◌, refl, sym, ap, subst, ◌∙◌, ℕ, ◌+◌, ◌<◌, ◌==◌, Bool, true, false, not, ◌||◌, ◌&&◌, List, [], ◌∷◌, map, ◌⊎◌, inl, inr, IsTrue, IsFalse, arith, eqb-true, eq-eqb, Option, Some, None}
-use Rattle.std.specs.List.{list_any}
-use Rattle.std.proofs.lemmas.Bool.{and_from, and_parts, both_ways}
-use Rattle.mr_version.specs.Name.{Name, name_eq}
-use Rattle.mr_forms.specs.Known.{Form}
-use Rattle.mr_concise.specs.AnyOf.{in_any}
-use Rattle.mr_concise.specs.declared.vector.AuthorColumn.{AuthorColumn}
-use Rattle.mr_concise.specs.Vector.{vector_has}
-use Rattle.mr_filter.specs.Filter.{ClauseParts}
-use Rattle.mr_madewith.specs.Revision.{Rev}
-use Rattle.mr_model.specs.Changes.{after_giving}
-use Rattle.mr_model.specs.History.{Body.End as SeenEnd, Body.Start as SeenStart, Record}
-use Rattle.mr_model.specs.Moment.{at_two, is_held as is_held_seen, same_stream, starts_full, stored}
-use Rattle.mr_model.specs.Rules.{HasHeld, In, IsOf, version_in}
-use Rattle.mr_model.specs.Versions.{Versions, is, is_before, is_issued, item_of}
-use Rattle.mr_model.proofs.Basics.{any_elim, any_intro, cases, is_refl, or_left, or_right}
-use Rattle.mr_model.proofs.Draws.{held_more, held_split, of_more, of_split}
-use Rattle.mr_model.proofs.Sets.{choice, two_same}
-use Rattle.mr_model.proofs.Telling.{before_trans}
-use Rattle.mr_replica.specs.Forged.{line_of}
-use Rattle.mr_replica.specs.State.{State}
-use Rattle.mr_session.specs.Session.{is_full_mode, is_start}
-use Rattle.mr_session.specs.Stream.{Asked, Stream, claimed, is_ahead, is_due, is_end, is_item, is_wanted, lists, told}
-use Rattle.mr_wire.specs.Frames.{Sent}
-use Rattle.mr_wire.specs.Values.{Piece}
-use Rattle.mr_wire.specs.declared.frame.Body.{Body}
-use Rattle.mr_wire.specs.declared.frame.Body.TheVariants.{Start, Item, MoveOut, Held, Know, End}
-use Rattle.mr_wire.specs.declared.frame.Mode.TheVariants.{Full}
-use Rattle.mr_world.specs.Issued.{AreOfIssues, IsTrueRevision}
-use Rattle.mr_world.specs.Seen.{MailMoment, seen_body, seen_record}
-use Rattle.mr_world.specs.Streams.{StreamAgrees, left_to_show}
-use Rattle.mr_world.specs.Told.{IsToldWhole, IsTrueBody, RecordsAgree, shown, shown_by, told_by, told_pairs}
-use Rattle.mr_world.proofs.Groundwork.AtPlaces.{two_other}
+use Rattle.mr_world.proofs.Names.Lists.{and_from, and_parts, both_ways, list_any}
+use Rattle.mr_world.proofs.Names.Wire.{Body, End, Full, Held, Item, Know, MoveOut, Piece, Sent, Start}
+use Rattle.mr_world.proofs.Names.Replica.{State, line_of}
+use Rattle.mr_world.proofs.Names.Sessions.{Asked, Stream, claimed, is_ahead, is_due, is_end, is_full_mode, is_item, is_start, is_wanted, lists, told}
+use Rattle.mr_world.proofs.Names.Model.{HasHeld, In, IsOf, Record, Versions, after_giving, at_two, is, is_before, is_held as is_held_seen, is_issued}
+use Rattle.mr_world.proofs.Names.Model.{item_of, same_stream, starts_full, stored, version_in}
+use Rattle.mr_world.proofs.Names.Laws.{any_elim, any_intro, before_trans, cases, choice, held_more, held_split, is_refl, of_more, of_split, or_left}
+use Rattle.mr_world.proofs.Names.Laws.{or_right, two_same}
+use Rattle.mr_world.proofs.Names.Mails.{AuthorColumn, ClauseParts, Form, Name, Rev, in_any, name_eq, vector_has}
+use Rattle.mr_world.proofs.Names.World.{AreOfIssues, IsToldWhole, IsTrueBody, IsTrueRevision, MailMoment, RecordsAgree, StreamAgrees, left_to_show}
+use Rattle.mr_world.proofs.Names.World.{seen_body, seen_record, shown, shown_by, told_by, told_pairs}
+use Rattle.mr_model.specs.History.{Body.End as SeenEnd, Body.Start as SeenStart}
 use Rattle.mr_world.proofs.Drawing.Cuts.{cut_heads}
 use Rattle.mr_world.proofs.Drawing.Drawn.{Drawn, Drawn.Ends_fully, Drawn.Ends_partly, Drawn.Shows_first, Drawn.Shows_more, Drawn.Starts, Drawn.Tells, Drawn.Walks, Source, record_of, revision_held}
 use Rattle.mr_world.proofs.Drawing.Due.{lower_first}
 use Rattle.mr_world.proofs.Groundwork.Orders.{before_irrefl, held_in}
 use Rattle.mr_world.proofs.Agreement.Parts.{IsAt, parts_next, parts_other}
-use Rattle.mr_world.proofs.Groundwork.Tools.{map_in, or_none}
+use Rattle.mr_world.proofs.Groundwork.Tools.{map_in, or_none, two_other}
 
 -- ---- held_at_draw after a Next
 
@@ -49,26 +29,13 @@ abbrev has_shown : MailMoment → Record → Bool
 has_shown m x = list_any (λ y. same_stream y x && is_held_seen y.body) m.given
 
 pub hd_other : (m : MailMoment) (x : Record) (s t : ℕ) → ¬ ((x.source ≡ s) × (x.stream ≡ t)) → (after_giving m x).held_at_draw s t ≡ m.held_at_draw s t
-hd_other m x s t other = choice (λ (h : ℕ → ℕ → Versions). h s t ≡ m.held_at_draw s t) (is_held_seen x.body && not (has_shown m x)) (at_two m.held_at_draw x.source x.stream (stored m x.source)) m.held_at_draw
-    (λ k. two_other m.held_at_draw x.source x.stream (stored m x.source) s t (λ e. other (sym e.0, sym e.1))) (λ k. refl)
+hd_other m x s t other = grind (arith, choice, is_held_seen, at_two, stored, two_other)
 
 pub hd_later : (m : MailMoment) (x : Record) → HasHeld m.given x.source x.stream → (after_giving m x).held_at_draw ≡ m.held_at_draw
-hd_later m x h = let t : IsTrue (has_shown m x) =
-    any_intro (λ y. same_stream y x && is_held_seen y.body) m.given h.0 h.1.is_given (and_from (same_stream h.0 x) (is_held_seen h.0.body) (and_from (h.0.source == x.source) (h.0.stream == x.stream) (eq-eqb h.0.source x.source h.1.source_is) (eq-eqb h.0.stream x.stream h.1.stream_is)) h.2) in
-    choice (λ (h : ℕ → ℕ → Versions). h ≡ m.held_at_draw) (is_held_seen x.body && not (has_shown m x)) (at_two m.held_at_draw x.source x.stream (stored m x.source)) m.held_at_draw
-    (λ k. let f : not true ≡ true = rw t at (and_parts (is_held_seen x.body) (not (has_shown m x)) k).1 in absurd (cc)) (λ k. refl)
+hd_later m x h = grind (arith, any_intro, same_stream, is_held_seen, and_from, eq-eqb, choice, at_two, stored, and_parts)
 
 pub hd_first : (m : MailMoment) (x : Record) → IsTrue (is_held_seen x.body) → ¬ HasHeld m.given x.source x.stream → (after_giving m x).held_at_draw x.source x.stream ≡ stored m x.source
-hd_first m x h none = choice (λ (h : ℕ → ℕ → Versions). h x.source x.stream ≡ stored m x.source) (is_held_seen x.body && not (has_shown m x)) (at_two m.held_at_draw x.source x.stream (stored m x.source)) m.held_at_draw
-    (λ k. two_same m.held_at_draw x.source x.stream (stored m x.source))
-    (λ k. absurd (both_ways (is_held_seen x.body && not (has_shown m x)) k (and_from (is_held_seen x.body) (not (has_shown m x)) h (none_such (cases (has_shown m x))))))
-  where
-    none_such : IsTrue (has_shown m x) ⊎ IsFalse (has_shown m x) → IsTrue (not (has_shown m x))
-    none_such (inr n) = rw n refl
-    none_such (inl t) = let r = any_elim (λ y. same_stream y x && is_held_seen y.body) m.given t in
-        let both = and_parts (same_stream r.0 x) (is_held_seen r.0.body) r.2 in
-        let same = and_parts (r.0.source == x.source) (r.0.stream == x.stream) both.0 in
-        absurd (none (r.0, record { is_given = r.1; source_is = eqb-true r.0.source x.source same.0; stream_is = eqb-true r.0.stream x.stream same.1 }, both.1))
+hd_first m x h k = grind (arith, choice, stored, is_held_seen, at_two, two_same, both_ways, and_from, cases, any_elim, same_stream, and_parts, eqb-true)
 
 -- a piece lists an item, unless it lists none
 some_item : (items : Option (List Name)) → items ≢ Some [] → (i : Name) × IsTrue (lists items i)
@@ -335,13 +302,7 @@ module _ {K : Type 0} (form : Form K) (filters : ℕ → List ClauseParts) (m : 
   not_start n = elim (cases (k.next == 0)) [ inl t ↦ absurd (n (eqb-true k.next 0 t)) | inr f ↦ sym f ]
 
   starts_drawn : (left : Stream) → Drawn s k b left → is_start b ≡ (k.next == 0)
-  starts_drawn left (Starts n eb e) = ap is_start eb ∙ sym (eq-eqb k.next 0 n)
-  starts_drawn left (Walks n h y found eb e) = ap is_start eb ∙ (told_no_start k.asked y ∙ not_start n)
-  starts_drawn left (Shows_first n h none full v vs cut eb e) = ap is_start eb ∙ not_start n
-  starts_drawn left (Ends_partly n h none part eb) = ap is_start eb ∙ not_start n
-  starts_drawn left (Shows_more n v vs h eb e) = ap is_start eb ∙ not_start n
-  starts_drawn left (Tells n h f fs known eb e) = ap is_start eb ∙ not_start n
-  starts_drawn left (Ends_fully n h none eb) = ap is_start eb ∙ not_start n
+  starts_drawn left h = grind (arith, is_start, eq-eqb, told_no_start, not_start)
 
   body_true : (left : Stream) → Drawn s k b left → IsTrueBody m.issues b
   body_true left (Starts n eb e) = subst (IsTrueBody m.issues) (sym eb) tt
@@ -362,23 +323,7 @@ module _ {K : Type 0} (form : Form K) (filters : ℕ → List ClauseParts) (m : 
 
   -- the End of a full stream: all was given
   whole_drawn : (left : Stream) → Drawn s k b left → b ≡ End → is_full_mode k.mode ≡ true → IsToldWhole m.issues (x ∷ records) m.known_at_answer held_then x
-  whole_drawn left (Starts n eb e) q full = let c : Start k.mode ≡ End = sym eb ∙ q in absurd (cc)
-  whole_drawn left (Walks n h y found eb e) q full = absurd (told_not_end k.asked y (sym eb ∙ q))
-  whole_drawn left (Shows_first n h none f v vs cut eb e) q full = let c : Held v ≡ End = sym eb ∙ q in absurd (cc)
-  whole_drawn left (Ends_partly n h none part eb) q full = absurd (both_ways (is_full_mode k.mode) (ap is_full_mode part) full)
-  whole_drawn left (Shows_more n v vs h eb e) q full = let c : Held v ≡ End = sym eb ∙ q in absurd (cc)
-  whole_drawn left (Tells n h f fs known eb e) q full = let c : Know f ≡ End = sym eb ∙ q in absurd (cc)
-  whole_drawn left (Ends_fully n h none eb) q full = record {
-    held = λ v. parts_other (λ b. shown_by b v) x records r number k.next self_not ∙ (sym (or_none (shown records r number k.next v)) ∙ (ap (λ (z : Option (List (List AuthorColumn))). shown records r number k.next v || left_to_show z v) (sym h)
-        ∙ (a.stream.held (λ z. let c : Some [] ≡ None = sym h ∙ z in absurd (cc)) v ∙ sym (hd_is_old (ap (λ (z : Body). is_held_seen (seen_body z)) eb) v))));
-    knows = (let t = a.stream.knows full in record {
-      issued = λ i v j. t.issued i v (sym (all i v) ∙ j);
-      same = λ v j. all (item_of m.issues v) v ∙ t.same v j;
-    });
-  }
-    where
-      all : (i v : Name) → told_pairs (x ∷ records) r number k.next i v ≡ (told_pairs records r number k.next i v || claimed k.know i v)
-      all i v = parts_other (λ b. told_by b i v) x records r number k.next self_not ∙ (sym (or_none (told_pairs records r number k.next i v)) ∙ ap (λ (z : List Piece). told_pairs records r number k.next i v || claimed z i v) (sym none))
+  whole_drawn left h q full = grind (arith, told_not_end, both_ways, is_full_mode, parts_other, shown_by, self_not, or_none, shown, left_to_show, hd_is_old, is_held_seen, seen_body, item_of, told_pairs, claimed, told_by)
 
   of_pool : (y : Sent) → In y records → y.header.source ≡ r → y.header.stream ≡ number → IsOf m.given r number (seen_record y)
   of_pool y i e e' = record { is_given = subst (In (seen_record y)) (sym given) (map_in seen_record records y i); source_is = e; stream_is = e' }

@@ -1,52 +1,27 @@
 -- Next, whole.
 use Rattle.std.proofs.Common.{◌≡◌, refl, sym, ap, subst, ◌∙◌, ℕ, ◌+◌, ◌<◌, List, [], ◌∷◌, filter, inl, inr, IsFalse, arith, if◌then◌else◌, Some, None}
-use Rattle.std.specs.Prelude.{Ok}
-use Rattle.mr_forms.specs.Known.{Form}
-use Rattle.mr_filter.specs.Filter.{ClauseParts}
-use Rattle.mr_model.specs.Changes.{after_giving}
-use Rattle.mr_model.specs.History.{Record}
-use Rattle.mr_model.specs.Moment.{at, in_session}
-use Rattle.mr_model.specs.Rules.{In, IsNext}
-use Rattle.mr_model.specs.Versions.{Versions}
-use Rattle.mr_model.proofs.Core.{Inv}
-use Rattle.mr_model.proofs.Lists.{in_filter}
-use Rattle.mr_model.proofs.Sets.{at_elim, at_same, choice}
-use Rattle.mr_replica.specs.Issue.{logged}
-use Rattle.mr_replica.specs.Next.{GivesNext}
-use Rattle.mr_replica.specs.State.{State}
-use Rattle.mr_replica.specs.Step.{Changes, first_refusal}
+use Rattle.mr_world.proofs.Names.Wire.{Body, Sent}
+use Rattle.mr_world.proofs.Names.Replica.{Gave, GivesNext, State, logged}
+use Rattle.mr_world.proofs.Names.Sessions.{Origin, Session, Stream, Table, header_of, is_end, open_at, with_changed, with_closed}
+use Rattle.mr_world.proofs.Names.Model.{In, IsNext, Record, Versions, after_giving, at, in_session}
+use Rattle.mr_world.proofs.Names.Laws.{Inv, at_elim, at_same, choice, in_filter}
+use Rattle.mr_world.proofs.Names.Mails.{ClauseParts, Form}
+use Rattle.mr_world.proofs.Names.World.{Agrees, Follows, HoldingsAgree, MailMoment, SessionsAgree, StreamAgrees, StreamsAgree, World, seen_record}
+use Rattle.mr_world.proofs.Names.World.{setting_of}
 use Rattle.mr_replica.specs.declared.event.Event.TheVariants as replica
-use Rattle.mr_replica.specs.declared.event.Reply.{Reply}
-use Rattle.mr_replica.specs.declared.event.Reply.TheVariants.{Gave}
-use Rattle.mr_session.specs.Session.{Session}
-use Rattle.mr_session.specs.Stream.{Stream, header_of, is_end}
-use Rattle.mr_session.specs.Table.{Table, open_at, with_changed, with_closed}
-use Rattle.mr_session.specs.declared.origin.Origin.{Origin}
-use Rattle.mr_wire.specs.Frames.{Sent}
-use Rattle.mr_wire.specs.declared.frame.Body.{Body}
-use Rattle.mr_world.specs.Agrees.{Agrees, HoldingsAgree}
-use Rattle.mr_world.specs.Seen.{MailMoment, seen_record, setting_of}
-use Rattle.mr_world.specs.Sessions.{Follows, SessionsAgree}
-use Rattle.mr_world.specs.Streams.{StreamAgrees, StreamsAgree}
-use Rattle.mr_world.specs.World.{World}
-use Rattle.mr_world.specs.declared.answer.Answer.{Answer}
-use Rattle.mr_world.specs.declared.answer.Answer.TheVariants.{Stepped}
-use Rattle.mr_world.proofs.Moving.ByParts.{StepsAt, with_given, with_replica}
+use Rattle.mr_world.proofs.Groundwork.Tools.{at_other, same_place}
+use Rattle.mr_world.proofs.Moving.ByParts.{with_replica}
 use Rattle.mr_model.specs.declared.event.Act.TheVariants as act
-use Rattle.mr_world.proofs.Groundwork.AtPlaces.{at_other, same_place}
 use Rattle.mr_world.proofs.Drawing.Drawn.{Drawn, Source, drawn, next_allowed, record_of}
 use Rattle.mr_world.proofs.Agreement.Staying.{session_given, stream_given, tables_hold}
 use Rattle.mr_world.proofs.Drawing.NextKeeps.{hd_other, records_drawn, stream_drawn}
 use Rattle.mr_world.proofs.Agreement.Parts.{IsAt}
-use Rattle.mr_world.proofs.Moving.Refines.{Refines, by_steps}
+use Rattle.mr_world.proofs.Moving.Refines.{Replies}
 use Rattle.mr_world.proofs.Groundwork.Tables.{changed_found, closed_found}
 
 -- the last record that was taken in a bound session
 pub bound_top : (k : Session) (taken : List Record) → Follows k taken → (o : Origin) → k.origin ≡ Some o → (y : Record) × In y taken × (y.source ≡ o.source) × (y.stream ≡ o.stream) × (k.next ≡ y.index + 1)
-bound_top k [] f o e = let c : None ≡ Some o = ap (λ (z : Session). z.origin) (sym f) ∙ e in absurd (cc)
-bound_top k (y ∷ before) f o e = let c : Some (record { source = y.source; stream = y.stream; mode = f.mode }) ≡ Some o = sym f.origin ∙ e in
-    let p : record { source = y.source; stream = y.stream; mode = f.mode } ≡ o = cc in
-    (y, inl refl, ap (λ (z : Origin). z.source) p, ap (λ (z : Origin). z.stream) p, f.next)
+bound_top k taken f o e = grind arith
 
 module _ {K : Type 0} (form : Form K) (filters : ℕ → List ClauseParts) (w : World K) (m : MailMoment) (inv : Inv (setting_of filters) m) (a : Agrees form filters w m) where
   -- a record of the stream is drawn
@@ -145,9 +120,6 @@ module _ {K : Type 0} (form : Form K) (filters : ℕ → List ClauseParts) (w : 
       subst (λ (st : State K). IsNext (setting_of filters) m r number (seen_record sent) × Agrees form filters (record (with_replica w r st) { records = sent ∷ w.records }) (after_giving m (seen_record sent))) (sym is_new)
       (subst (λ (y : Sent). IsNext (setting_of filters) m r number (seen_record y) × Agrees form filters (record (with_replica w r (drawn_state r number k sent.body gives.0 in_table.2 (drawn (w.replicas r) k sent.body gives.0 gives.1))) { records = y ∷ w.records }) (after_giving m (seen_record y))) is_sent core)
 
-  pub nexts : (r number : ℕ) (answer : Answer) (w' : World K) → StepsAt form w r (replica.Next number) answer w' → Refines form filters w m r (act.Next number) answer w'
-  nexts r number answer w' move = by_steps form filters w m a r (act.Next number) (replica.Next number) answer w' move go
-    where
-      go : (reply : Reply) (new : State K) → first_refusal (w.replicas r) (replica.Next number) ≡ None → Changes form (w.replicas r) (replica.Next number) reply new → Refines form filters w m r (act.Next number) (Stepped (Ok reply)) (with_given (with_replica w r new) (Ok reply))
-      go (Gave sent) new none step = next_agrees r number sent new step
-      go reply new none step = absurd step
+  pub nexts : (r number : ℕ) → Replies form filters w m r (act.Next number) (replica.Next number)
+  nexts r number (Gave sent) new none step = next_agrees r number sent new step
+  nexts r number reply new none step = absurd step

@@ -1,8 +1,8 @@
 -- What is open in a table once it has changed.
-use Rattle.std.proofs.Common.{◌≡◌, ◌≢◌, refl, ◌∙◌, ℕ, ◌+◌, List, [], ◌∷◌, ◌++◌, ◌⊎◌, inl, inr, Option, Some, None}
-use Rattle.std.specs.Option.{option_map}
+use Rattle.std.proofs.Common.{◌≡◌, ◌≢◌, refl, ◌∙◌, ℕ, ◌+◌, List, [], ◌∷◌, ◌++◌, ◌⊎◌, inl, inr, Option, Some, None, arith}
+use Rattle.mr_world.proofs.Names.Lists.{option_map}
 use Rattle.std.proofs.lemmas.Bool.Decides.{eqb_tells}
-use Rattle.mr_session.specs.Table.{Numbered, Table, at, open_at, with_changed, with_closed, with_opened}
+use Rattle.mr_world.proofs.Names.Sessions.{Numbered, Table, at, open_at, with_changed, with_closed, with_opened}
 use Rattle.mr_session.proofs.TableLemmas.{at-changed, at-others}
 
 module _ {T : Type 0} where

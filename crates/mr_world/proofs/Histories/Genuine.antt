@@ -1,70 +1,32 @@
 -- No run of a world answers Forged.
-use Rattle.std.proofs.Common.{◌≡◌, ◌≢◌, refl, sym, ap, subst, ◌∙◌, ℕ, List, [], ◌∷◌, ◌++◌, inl, inr, IsTrue, ◌⊎◌, Some}
-use Rattle.std.specs.Prelude.{Result, Ok, Err}
-use Rattle.std.proofs.lemmas.Bool.{both_ways}
-use Rattle.mr_version.specs.Name.{Name}
-use Rattle.mr_forms.specs.Known.{Form}
-use Rattle.mr_forms.specs.Listing.{ListsMore}
-use Rattle.mr_filter.specs.Filter.{ClauseParts}
-use Rattle.mr_mail.specs.Mail.{Mail, MailCard}
-use Rattle.mr_madewith.specs.Revision.{Rev}
-use Rattle.mr_model.specs.Changes.{Change, Change.Closes, Change.Issues, change, happens, is_closed, now, with_mark}
-use Rattle.mr_model.specs.Moment.{Mark.CloseMark, start}
-use Rattle.mr_model.specs.Rules.{In}
-use Rattle.mr_model.specs.Versions.{is, is_issued}
-use Rattle.mr_model.proofs.Basics.{or_right}
-use Rattle.mr_model.proofs.Core.{Inv}
-use Rattle.mr_model.proofs.Issues.{item_is_issued}
-use Rattle.mr_model.specs.History.{History}
-use Rattle.mr_model.specs.Rules.{IsRun}
-use Rattle.mr_model.proofs.Runs.{change_keeps, start_holds}
-use Rattle.mr_model.proofs.Theorem.{after-append, run_inv}
-use Rattle.mr_model.proofs.Sets.{at_elim, at_same, choice}
-use Rattle.mr_replica.specs.Forged.{line_of}
-use Rattle.mr_replica.specs.Replay.{IsFresh}
-use Rattle.mr_replica.specs.State.{State}
-use Rattle.mr_replica.specs.inner.Taking.{told_line}
-use Rattle.mr_replica.specs.declared.event.Event.{Event as ReplicaEvent}
-use Rattle.mr_replica.specs.declared.event.Reply.{Reply}
-use Rattle.mr_replica.specs.declared.event.Reply.TheVariants.{Asked, Gave, Vouched}
-use Rattle.mr_replica.specs.declared.refusal.Refusal.{Refusal}
+use Rattle.std.proofs.Common.{◌≡◌, ◌≢◌, sym, subst, ℕ, List, [], ◌∷◌, ◌++◌, inl, inr, IsTrue, ◌⊎◌, Some, arith}
+use Rattle.mr_world.proofs.Names.Lists.{Err, both_ways}
+use Rattle.mr_world.proofs.Names.Wire.{Body, DescentParts, Item, MoveOut, Sent}
+use Rattle.mr_world.proofs.Names.Replica.{IsFresh, State, line_of, step_changes, told_line}
+use Rattle.mr_world.proofs.Names.Model.{Change, Event, History, In, IsRun, happens, is, is_closed, is_issued, now, start, with_mark}
+use Rattle.mr_world.proofs.Names.Laws.{Inv, after-append, change_keeps, choice, item_is_issued, or_right, run_inv, start_holds}
+use Rattle.mr_world.proofs.Names.Mails.{ClauseParts, Form, ListsMore, Mail, MailCard, Name, Rev}
+use Rattle.mr_world.proofs.Names.World.{Agrees, Answer, HoldingsAgree, IsFreshWorld, IsGenuine, IsListedReplica, IsListedWorld, IsNormalReplica}
+use Rattle.mr_world.proofs.Names.World.{IsTrueBody, IsTrueLine, IsTrueRevision, ListsIssued, MailMoment, MailSetting, Runs, World, seen_answer}
+use Rattle.mr_world.proofs.Names.World.{seen_step, setting_of}
+use Rattle.mr_model.specs.Changes.{Change.Closes, Change.Issues, change}
+use Rattle.mr_model.specs.Moment.{Mark.CloseMark}
 use Rattle.mr_replica.specs.declared.refusal.Refusal.TheVariants as refusal
-use Rattle.mr_wire.specs.Frames.{Sent}
-use Rattle.mr_wire.specs.Values.{DescentParts}
-use Rattle.mr_wire.specs.declared.frame.Body.{Body}
-use Rattle.mr_wire.specs.declared.frame.Body.TheVariants.{Item, MoveOut}
-use Rattle.mr_world.specs.Agrees.{Agrees, HoldingsAgree}
-use Rattle.mr_world.specs.Issued.{IsTrueLine, IsTrueRevision}
-use Rattle.mr_world.specs.ListedItems.{IsGenuine, IsListedReplica, IsListedWorld, ListsIssued}
-use Rattle.mr_world.specs.Normal.{IsNormalReplica}
-use Rattle.mr_world.specs.Runs.{IsFreshWorld, Runs, seen_step}
-use Rattle.mr_world.specs.Seen.{MailMoment, MailSetting, seen_answer, setting_of}
-use Rattle.mr_world.specs.Told.{IsTrueBody}
-use Rattle.mr_world.specs.World.{World}
-use Rattle.mr_world.specs.declared.answer.Answer.{Answer}
 use Rattle.mr_world.specs.declared.answer.Answer.TheVariants as answer
 use Rattle.mr_world.specs.declared.answered.Answered.{Answered}
-use Rattle.mr_world.proofs.Moving.ByParts.{MovesAt, StepsAt, by_parts, with_given, with_replica}
-use Rattle.mr_model.specs.declared.event.Event.{Event}
-use Rattle.mr_world.proofs.Keeping.ListedItems.{IsIssuedEvent, IsIssuedReply, lists_more, replica_more, step_listed}
+use Rattle.mr_world.proofs.Moving.ByParts.{MovesAt, by_parts}
+use Rattle.mr_world.proofs.Keeping.ListedItems.{lists_more, replica_more, step_listed}
 use Rattle.mr_world.proofs.Keeping.NeverForged.{never_forged}
 use Rattle.mr_world.proofs.Keeping.NormalForm.{moves_normal}
-use Rattle.mr_world.proofs.Moving.ByReplica.{Mover, Mover.A_port, Mover.A_replica, Mover.None_at_all, mover}
+use Rattle.mr_world.proofs.Moving.ByReplica.{Hold, keeps, mover}
 use Rattle.mr_world.proofs.Moving.Refinement.{refines}
-use Rattle.mr_replica.proofs.Replies.{step_refused, step_replied}
 use Rattle.mr_world.proofs.Histories.WholeRuns.{fresh_agrees}
 
 -- what was issued stays so
 issued_stays : (s : MailSetting) (m : MailMoment) (c : Change Mail MailCard) (v : Name) → IsTrue (is_issued m.issues v) → IsTrue (is_issued (happens s m c).issues v)
 issued_stays s m (Issues r x) v h = or_right (is x.version v) (is_issued m.issues v) h
 issued_stays s m (Closes r u) v h = choice (λ (z : MailMoment). IsTrue (is_issued z.issues v)) (is_closed (m.offered r u)) m (with_mark m r u CloseMark) (λ t. h) (λ n. h)
-issued_stays s m c v h = h
-
-module _ {K : Type 0} where
-  -- what is given comes into the pools alone
-  pub given_replicas : (w : World K) (o : Result Reply Refusal) → (with_given w o).replicas ≡ w.replicas
-  given_replicas w (Ok (Asked question)) = refl
-  given_replicas w o = refl
+issued_stays s m c v h = grind (arith, or_right, is, is_issued, choice, is_closed, with_mark)
 
 module _ {K : Type 0} (form : Form K) (filters : ℕ → List ClauseParts) where
   pub fresh_genuine : (w : World K) → IsFreshWorld form filters w → IsGenuine form [] w
@@ -95,25 +57,6 @@ module _ {K : Type 0} (form : Form K) (filters : ℕ → List ClauseParts) (form
     listed_later : IsListedWorld form m'.issues w
     listed_later = record { replicas = λ r. replica_more m.issues m'.issues more form (w.replicas r) (listed.replicas r); records = λ sent i. lists_more m.issues m'.issues more sent.body (listed.records sent i) }
 
-    replaced_listed : (r : ℕ) (new : State K) → IsListedReplica form m'.issues new → IsListedWorld form m'.issues (with_replica w r new)
-    replaced_listed r new h = record { replicas = λ q. at_elim (λ (z : ℕ) (st : State K). IsListedReplica form m'.issues st) w.replicas r new q h (listed_later.replicas q); records = listed_later.records }
-
-    given_listed : (r : ℕ) (new : State K) (reply : Reply) → IsListedReplica form m'.issues new → IsIssuedReply m'.issues reply → IsListedWorld form m'.issues (with_given (with_replica w r new) (Ok reply))
-    given_listed r new (Gave sent) h body = let old = replaced_listed r new h in record { replicas = old.replicas; records = λ z i. elim i [ inl e ↦ subst (λ (y : Sent). ListsIssued m'.issues y.body) e (body sent refl) | inr j ↦ listed_later.records z j ] }
-    given_listed r new (Asked question) h body = let old = replaced_listed r new h in record { replicas = old.replicas; records = old.records }
-    given_listed r new (Vouched receipt) h body = let old = replaced_listed r new h in record { replicas = old.replicas; records = old.records }
-    given_listed r new reply h body = replaced_listed r new h
-
-    steps_listed : (r : ℕ) (there : ReplicaEvent) (reply : Answer) → IsIssuedEvent m'.issues there → StepsAt form w r there reply w' → IsListedWorld form m'.issues w'
-    steps_listed r there (answer.Stepped (Ok reply)) in_form move =
-        let h = step_replied form (w.replicas r) there reply move.1 move.2 in
-        let same : w'.replicas r ≡ move.1 = ap (λ (z : World K). z.replicas r) move.3 ∙ (ap (λ (f : ℕ → State K). f r) (given_replicas (with_replica w r move.1) (Ok reply)) ∙ at_same w.replicas r move.1) in
-        let made = step_listed form form_lists m'.issues (w.replicas r) (listed_later.replicas r) there reply move.1 in_form (held_issued r move.1 same) h.1 in
-        subst (IsListedWorld form m'.issues) (sym move.3) (given_listed r move.1 reply made.0 made.1)
-    steps_listed r there (answer.Stepped (Err x)) in_form move =
-        subst (IsListedWorld form m'.issues) (sym move.3) (replaced_listed r move.1 (subst (IsListedReplica form m'.issues) (sym (step_refused form (w.replicas r) there x move.1 move.2)) (listed_later.replicas r)))
-    steps_listed r there reply in_form move = absurd move
-
     -- a record of the pool tells of issued items
     line_issued : (line : DescentParts) → IsTrueLine m.issues line → IsTrue (is_issued m'.issues line.item)
     line_issued line t = more line.item (subst (λ (z : Name). IsTrue (is_issued m.issues z)) t.of_item (item_is_issued m.issues inv.core.sets.list line.version t.is_one).0)
@@ -121,18 +64,18 @@ module _ {K : Type 0} (form : Form K) (filters : ℕ → List ClauseParts) (form
     body_issued : (b : Body) → IsTrueBody m.issues b → (line : DescentParts) → told_line b ≡ Some line → IsTrue (is_issued m'.issues line.item)
     body_issued (Item x) t line e = line_issued line (subst (IsTrueLine m.issues) (let same : line_of x ≡ line = cc in same) t.below)
     body_issued (MoveOut other) t line e = line_issued line (subst (IsTrueLine m.issues) (let same : other ≡ line = cc in same) t)
-    body_issued b t line e = absurd (cc)
+    body_issued b t line e = grind (arith, line_issued, line_of)
 
     pool_issued : (sent : Sent) → In sent w.records → ListsIssued m'.issues sent.body × ((line : DescentParts) → told_line sent.body ≡ Some line → IsTrue (is_issued m'.issues line.item))
     pool_issued sent i = (listed_later.records sent i, body_issued sent.body (a.records.each sent i))
 
-    by_mover : (reply : Answer) → Mover form w reply w' → IsListedWorld form m'.issues w'
-    by_mover reply (A_replica r there pool step) = steps_listed r there reply (λ sent e. pool_issued sent (pool sent e)) step
-    by_mover reply (A_port r u port is none) = subst (IsListedWorld form m'.issues) (sym is) (record { replicas = listed_later.replicas; records = listed_later.records })
-    by_mover reply (None_at_all is none) = subst (IsListedWorld form m'.issues) (sym is) listed_later
-
     moves_listed : (e : Event Mail) (reply : Answer) → MovesAt form w e reply w' → IsListedWorld form m'.issues w'
-    moves_listed e reply move = by_mover reply (mover form w e reply w' move)
+    moves_listed e reply move =
+        let old : Hold form w (λ (r : ℕ) (s : State K). IsListedReplica form m'.issues s) (ListsIssued m'.issues) w = record { replicas = listed_later.replicas; records = listed_later.records } in
+        let new = keeps form w (λ (r : ℕ) (s : State K). IsListedReplica form m'.issues s) (ListsIssued m'.issues) reply w' old
+        (λ r there told new pool same step. step_listed form form_lists m'.issues (w.replicas r) (listed_later.replicas r) there told new (λ sent e. pool_issued sent (pool sent e)) (held_issued r new same) (step_changes form (w.replicas r) there told new step))
+        (mover form w e reply w' move) in
+        record { replicas = new.replicas; records = new.records }
 
   -- ---- one event
 

@@ -1,46 +1,22 @@
 -- A world keeps the rules from its first event on, and what holds of it then.
-use Rattle.std.proofs.Common.{◌≡◌, ◌≢◌, refl, sym, ap, subst, ◌∙◌, ℕ, ◌==◌, false, List, [], ◌∷◌, ◌++◌, inl, inr, eqb-true, Option, Some, None}
-use Rattle.std.specs.Prelude.{Err, Ok, Result}
-use Rattle.std.specs.List.{AllZip}
-use Rattle.std.specs.Option.{option_map, option_map_or}
-use Rattle.mr_forms.specs.Known.{AreSame, Form}
-use Rattle.mr_forms.specs.Listing.{ListsMore}
-use Rattle.mr_filter.specs.Filter.{ClauseParts}
-use Rattle.mr_mail.specs.Mail.{Mail, MailCard}
-use Rattle.mr_model.specs.Changes.{after, change, happens, now}
-use Rattle.mr_model.specs.History.{History}
-use Rattle.mr_model.specs.Moment.{start}
-use Rattle.mr_model.specs.Rules.{In, IsRun}
-use Rattle.mr_model.proofs.Basics.{cases, in_append}
-use Rattle.mr_model.proofs.Core.{Inv}
-use Rattle.mr_model.proofs.Readings.{knows_downward}
-use Rattle.mr_model.proofs.Theorem.{headline_holds, is_sound, loses_nothing, run_inv}
-use Rattle.mr_replica.specs.Replay.{IsFresh}
-use Rattle.mr_replica.specs.State.{State, new_state}
+use Rattle.std.proofs.Common.{◌≡◌, ◌≢◌, refl, sym, ap, subst, ◌∙◌, ℕ, ◌==◌, false, List, [], ◌∷◌, ◌++◌, inl, inr, eqb-true, Option, Some, None, arith}
+use Rattle.mr_world.proofs.Names.Lists.{AllZip, Err, Ok, Result, option_map, option_map_or}
+use Rattle.mr_world.proofs.Names.Replica.{IsFresh, State, new_state, some_same}
+use Rattle.mr_world.proofs.Names.Model.{Event, History, In, IsRun, after, happens, now, start}
+use Rattle.mr_world.proofs.Names.Laws.{Inv, cases, headline_holds, in_append, is_sound, knows_downward, loses_nothing, run_inv}
+use Rattle.mr_world.proofs.Names.Mails.{AreSame, ClauseParts, Form, ListsMore, Mail, MailCard}
+use Rattle.mr_world.proofs.Names.World.{Agrees, Answer, AreBySets, AskedTooLong, Happens, HoldingsAgree, IsBySets, IsFreshWorld, IsGenuine, IsMadeOf}
+use Rattle.mr_world.proofs.Names.World.{IsMadeWorld, Leads, MailMoment, Meets, MemberView, Spec, Stepped, WorldFault, WorldView, answered, found_or}
+use Rattle.mr_world.proofs.Names.World.{history, history_from, member_at, new_port, port_numbered, replica_at, seen_step, setting_of}
+use Rattle.mr_model.specs.Changes.{change}
 use Rattle.mr_replica.specs.declared.refusal.Refusal.TheVariants as refusal
-use Rattle.mr_world.specs.Agrees.{Agrees, HoldingsAgree}
-use Rattle.mr_world.specs.Kept.{MemberView, WorldView, member_at, replica_at}
-use Rattle.mr_world.specs.World.{found_or, port_numbered}
-use Rattle.mr_world.specs.ListedItems.{IsGenuine}
-use Rattle.mr_world.specs.Replies.{AreBySets, AskedTooLong, IsBySets}
-use Rattle.mr_world.specs.Made.{IsMadeOf, IsMadeWorld}
 use Rattle.mr_world.specs.Promise.{FindsNoneForged, HoldsAsSeen, KeepsRules, Promises, filters_of, history_of, moment_of, setting_in, unused_member, whole_world}
-use Rattle.mr_world.specs.Run.{Happens, Leads, Meets, answered}
-use Rattle.mr_world.specs.Runs.{IsFreshWorld, history, history_from, seen_step}
-use Rattle.mr_world.specs.Seen.{MailMoment, setting_of}
-use Rattle.mr_world.specs.Ports.{new_port}
-use Rattle.mr_world.specs.declared.answer.Answer.{Answer}
-use Rattle.mr_world.specs.declared.answer.Answer.TheVariants.{Stepped}
 use Rattle.mr_world.specs.declared.answered.Answered.{Answered}
-use Rattle.mr_model.specs.declared.event.Event.{Event}
-use Rattle.mr_world.specs.declared.fault.WorldFault.{WorldFault}
-use Rattle.mr_world.specs.declared.spec.Spec.{Spec}
 use Rattle.mr_world.proofs.Moving.ByParts.{MovesAt, by_parts}
 use Rattle.mr_world.proofs.Histories.BySets.{ShowsTooLong, by_sets_later, is_by_sets, more_by_sets, none_by_sets}
 use Rattle.mr_world.proofs.Histories.GoingOn.{GoesOn, all_go_on, found_is, fresh_log, has_asked, is_there, still_there}
 use Rattle.mr_world.proofs.Histories.Genuine.{fresh_genuine, one_more_genuine}
-use Rattle.mr_world.proofs.Moving.Refinement.{refines}
-use Rattle.mr_world.proofs.Groundwork.Tools.{find_in, some_path}
+use Rattle.mr_world.proofs.Groundwork.Tools.{find_in}
 use Rattle.mr_world.proofs.Running.Moved.{moves}
 use Rattle.mr_world.proofs.Histories.WholeRuns.{fresh_agrees, one_more}
 
@@ -57,11 +33,7 @@ module _ {K : Type 0} (form : Form K) where
 
   -- a world's filters are those of its replicas over all ids
   filter_there : (nothing : K) (w : WorldView K) (r : ℕ) → ((whole_world form nothing w).replicas r).filter ≡ filters_of w r
-  filter_there nothing w r = go (member_at w.members r)
-    where
-      go : (o : Option (MemberView K)) → (found_or (unused_member form nothing r) o).replica.filter ≡ option_map_or (λ m. m.replica.filter) o []
-      go None = refl
-      go (Some m) = refl
+  filter_there nothing w r = grind (arith, member_at, found_or, option_map_or)
 
   -- ---- a world as it is made
 
@@ -74,16 +46,7 @@ module _ {K : Type 0} (form : Form K) where
     made_member (s ∷ ss) (n ∷ ms) all m i = elim i [ inl e ↦ (s, subst (IsMadeOf form s) e all.0) | inr j ↦ made_member ss ms all.1 m j ]
 
     fresh_member : (r : ℕ) (m : MemberView K) (spec : Spec) → IsMadeOf form spec m → m.replica.id ≡ r → m.replica.filter ≡ filters_of w r → IsFresh form r (filters_of w r) spec.event_limit m.replica
-    fresh_member r m spec of here same = record {
-      is_empty = of.replica.is_empty ∙ (λ i. new_state (id i) (filter i) spec.event_limit m.replica.knowledge);
-      knows_nothing = of.replica.knows_nothing;
-    }
-      where
-        id : spec.id ≡ r
-        id = sym (ap (λ (s : State K). s.id) of.replica.is_empty) ∙ here
-
-        filter : spec.filter ≡ filters_of w r
-        filter = sym (ap (λ (s : State K). s.filter) of.replica.is_empty) ∙ same
+    fresh_member r m spec of here same = grind (arith, new_state)
 
     fresh_there : (r : ℕ) → (event_limit : ℕ) × IsFresh form r (filters_of w r) event_limit ((whole_world form nothing w).replicas r)
     fresh_there r = go (member_at w.members r) refl
@@ -163,9 +126,7 @@ module _ {K : Type 0} (form : Form K) where
         )
 
     by_sets : IsBySets form (replica_at w'.members) (moment_of w) e.replica e.act answer
-    by_sets =
-        let allowed = refines form (filters_of w) (whole_world form k.nothing w) (moment_of w) (run_inv (setting_in w) (history_of w) k.run) k.agrees e answer (whole_world form k.nothing w') move in
-        is_by_sets form (filters_of w) (whole_world form k.nothing w) (whole_world form k.nothing w') (moment_of w) k.agrees (replica_at w'.members) e.replica e.act answer shows_too_long allowed.0 move
+    by_sets = is_by_sets form (filters_of w) (whole_world form k.nothing w) (whole_world form k.nothing w') (moment_of w) k.agrees (replica_at w'.members) e.replica e.act answer shows_too_long move
 
     all_by_sets : AreBySets form (replica_at w'.members) (filters_of w) (w.answers ++ x ∷ [])
     all_by_sets = more_by_sets form (filters_of w) (replica_at w'.members) w.answers x (by_sets_later form (filters_of w) (replica_at w.members) (replica_at w'.members) members_go_on w.answers k.by_sets) by_sets
@@ -219,24 +180,7 @@ module _ {K : Type 0} (form : Form K) where
     inv = run_inv (setting_in w) (history_of w) k.run
 
     holds_as_seen : HoldsAsSeen form w
-    holds_as_seen r s e = subst (HoldingsAgree form (moment_of w).issues (filters_of w) r ((moment_of w).holding r) ((moment_of w).feed r) ((moment_of w).is_retired r)) (there (member_at w.members r) e) (k.agrees.holdings r)
-      where
-        there : (o : Option (MemberView K)) → option_map (λ m. m.replica) o ≡ Some s → (found_or (unused_member form k.nothing r) o).replica ≡ s
-        there None e = absurd (cc)
-        there (Some m) e = some_path m.replica s e
+    holds_as_seen r s e = grind (arith, member_at, option_map, found_or, some_same)
 
     pub promises : Promises form w
-    promises = record {
-      rules = k.run;
-      headline = headline_holds (setting_in w) (history_of w) k.run;
-      sound = is_sound (setting_in w) (moment_of w) inv;
-      made_with = λ r. knows_downward (setting_in w) (history_of w) r k.run;
-      no_loss = loses_nothing (setting_in w) (moment_of w) inv;
-      clean = inv.core.clean;
-      as_seen = holds_as_seen;
-      true_records = k.agrees.records.each;
-      true_receipts = k.agrees.receipts;
-      by_sets = k.by_sets;
-      whole = k.agrees.records.whole;
-      none_forged = k.none_forged;
-    }
+    promises = grind (arith, headline_holds, is_sound, inv, knows_downward, loses_nothing, holds_as_seen, by_sets, none_forged)

@@ -1,48 +1,24 @@
 -- The replies of a world that agrees with a moment are those of sets.
 use Rattle.std.proofs.Common.{◌≡◌, refl, sym, ap, subst, ◌∙◌, ℕ, ◌≤◌, nat_le, Bool, true, false, List, map, length, take, inl, inr, ◌⊎◌, IsTrue, IsFalse, arith, Option, Some, None}
-use Rattle.std.specs.Prelude.{Ok}
-use Rattle.std.proofs.lemmas.Bool.{leb-true, leb-false}
-use Rattle.std.proofs.lemmas.List.{take_all}
-use Rattle.std.specs.Option.{option_map}
-use Rattle.mr_version.specs.Name.{Name}
-use Rattle.mr_forms.specs.Known.{Form}
-use Rattle.mr_filter.specs.Filter.{ClauseParts}
-use Rattle.mr_madewith.specs.Revision.{Rev}
-use Rattle.mr_model.specs.History.{◌does◌}
-use Rattle.mr_model.specs.Moment.{known, numbered}
-use Rattle.mr_model.specs.Rules.{version_in}
-use Rattle.mr_model.specs.Versions.{is_issued, item_of}
-use Rattle.mr_model.proofs.Basics.{cases}
-use Rattle.mr_model.proofs.Sets.{numbered_in}
-use Rattle.mr_replica.specs.Forged.{line_of}
-use Rattle.mr_replica.specs.Pull.{IsAskOf}
+use Rattle.mr_world.proofs.Names.Lists.{Ok, leb-false, leb-true, option_map, take_all}
+use Rattle.mr_world.proofs.Names.Wire.{Body, DescentParts, End, Held, Item, Know, MoveOut, Piece, Question, Sent, Start, piece_of}
+use Rattle.mr_world.proofs.Names.Replica.{Asked, IsAskOf, Known, Reply, State, TakesBody, TakesLine, Took, all_claimed, entering, line_of}
+use Rattle.mr_world.proofs.Names.Replica.{step_replied}
+use Rattle.mr_world.proofs.Names.Sessions.{claimed}
+use Rattle.mr_world.proofs.Names.Model.{Record, is_issued, item_of, known, numbered, version_in, ◌does◌}
+use Rattle.mr_world.proofs.Names.Laws.{cases, numbered_in}
+use Rattle.mr_world.proofs.Names.Mails.{ClauseParts, Form, Name, Rev}
+use Rattle.mr_world.proofs.Names.World.{Agrees, AskedTooLong, ClaimsKnown, IsTooLong, IsTrueBody, IsTrueLine, MailMoment, Stepped, TellsWhetherKnown}
+use Rattle.mr_world.proofs.Names.World.{World, receiving, seen_body, seen_record}
 use Rattle.mr_wire.specs.declared.frame.TheConstants.{MAX_ASKED_BYTES}
-use Rattle.mr_replica.specs.Receive.{TakesBody, TakesLine, entering}
-use Rattle.mr_replica.specs.State.{State}
 use Rattle.mr_replica.specs.declared.event.Event.TheVariants as replica
-use Rattle.mr_replica.specs.declared.event.Reply.{Reply}
-use Rattle.mr_replica.specs.declared.event.Reply.TheVariants.{Asked, Known, Took}
-use Rattle.mr_replica.proofs.Merging.{all_claimed}
-use Rattle.mr_session.specs.Stream.{claimed}
 use Rattle.mr_wire.specs.Encoding.{total_len}
-use Rattle.mr_wire.specs.Frames.{Question, Sent}
-use Rattle.mr_wire.specs.Values.{DescentParts, Piece, piece_of}
-use Rattle.mr_wire.specs.declared.frame.Body.{Body}
-use Rattle.mr_wire.specs.declared.frame.Body.TheVariants.{Start, Item, MoveOut, Held, Know, End}
 use Rattle.mr_wire.specs.declared.frame.Frame.TheVariants as frame
-use Rattle.mr_world.specs.Agrees.{Agrees}
-use Rattle.mr_world.specs.Issued.{IsTrueLine}
-use Rattle.mr_world.specs.Asked.{receiving}
-use Rattle.mr_world.specs.Replies.{AskedTooLong, ClaimsKnown, IsTooLong}
-use Rattle.mr_world.specs.Seen.{MailMoment, seen_body}
-use Rattle.mr_world.specs.Told.{IsTrueBody}
-use Rattle.mr_world.specs.World.{World}
-use Rattle.mr_world.specs.declared.answer.Answer.TheVariants.{Stepped}
-use Rattle.mr_world.proofs.Moving.ByParts.{MovesAt}
+use Rattle.mr_world.proofs.Moving.ByParts.{MovesAt, StepsAt}
 use Rattle.mr_model.specs.declared.event.Act.TheVariants as act
 use Rattle.mr_world.proofs.Moving.Opening.{asks_known as asks_no_more}
-use Rattle.mr_replica.proofs.Replies.{step_replied}
 use Rattle.mr_world.proofs.Moving.Asking.{step_of}
+use Rattle.mr_world.proofs.Groundwork.Tools.{numbered_map}
 
 -- ---- requests
 
@@ -76,17 +52,7 @@ module _ {K : Type 0} (form : Form K) (filters : ℕ → List ClauseParts) (w w'
 
   pub claims_known : (ends : ℕ → Option (State K)) (q : Question) → MovesAt form w (r does act.Pull) (Stepped (Ok (Asked q))) w'
       → (IsAskOf form (w.replicas r) q → IsTooLong form (w.replicas r).knowledge → (end : State K) × (ends r ≡ Some end) × AskedTooLong form m r end q) → ClaimsKnown form ends m r q
-  claims_known ends q move too_long =
-      let there = step_of form w (r does act.Pull) replica.Pull (Stepped (Ok (Asked q))) w' refl move in
-      let step = step_replied form (w.replicas r) replica.Pull (Asked q) there.1 there.2 in
-      let knows = (a.holdings r).knows in
-      record {
-        no_more = λ v issued h. sym (knows.same v issued) ∙ asks_no_more form (w.replicas r) q step.1.0 (item_of m.issues v) v h;
-        all = elim (asks_all form (w.replicas r) q step.1.0) [
-          | inl same ↦ inl (λ v issued h. same (item_of m.issues v) v ∙ (knows.same v issued ∙ h))
-          | inr long ↦ inr (too_long step.1.0 long)
-        ];
-      }
+  claims_known ends q move too_long = grind (arith, step_of, step_replied, asks_no_more, item_of, asks_all)
 
   -- ---- records
 
@@ -95,7 +61,7 @@ module _ {K : Type 0} (form : Form K) (filters : ℕ → List ClauseParts) (w w'
   line_known line t b h = sym ((a.holdings r).knows.same line.version t.is_one) ∙ (ap (λ (i : Name). form.known (w.replicas r).knowledge i line.version) t.of_item ∙ h)
 
   -- a version is answered as known where it is
-  abbrev IsAnswer : Reply → Name → Type 0
+  abbrev pub IsAnswer : Reply → Name → Type 0
   IsAnswer Known v = IsTrue (known m r v)
   IsAnswer Took v = IsFalse (known m r v)
   IsAnswer reply v = ⊥
@@ -103,25 +69,25 @@ module _ {K : Type 0} (form : Form K) (filters : ℕ → List ClauseParts) (w w'
   line_answer : (sent : Sent) (line : DescentParts) (comer : Option Rev) (reply : Reply) (new : State K) → IsTrueLine m.issues line → TakesLine form (w.replicas r) sent line comer reply new → IsAnswer reply line.version
   line_answer sent line comer Known new t step = line_known line t true step.0
   line_answer sent line comer Took new t step = line_known line t false step.0
-  line_answer sent line comer reply new t step = absurd step
+  line_answer sent line comer reply new t step = grind (arith, line_known)
 
   body_answer : (sent : Sent) (b : Body) (reply : Reply) (new : State K) (v : Name) → IsTrueBody m.issues b → version_in (seen_body b) ≡ Some v → TakesBody form (w.replicas r) sent b reply new → IsAnswer reply v
-  body_answer sent (Item x) reply new v t e step = let same : x.version ≡ v = cc in subst (IsAnswer reply) same (line_answer sent (line_of x) (entering (w.replicas r) (Item x)) reply new t.below step)
-  body_answer sent (MoveOut line) reply new v t e step = let same : line.version ≡ v = cc in subst (IsAnswer reply) same (line_answer sent line None reply new t step)
-  body_answer sent (Start mode) reply new v t e step = absurd (cc)
-  body_answer sent (Held vector) reply new v t e step = absurd (cc)
-  body_answer sent (Know piece) reply new v t e step = absurd (cc)
-  body_answer sent End reply new v t e step = absurd (cc)
+  body_answer sent b reply new v t e step = grind (arith, line_answer, line_of, entering)
 
-  record_answer : (n : ℕ) (reply : Reply) → MovesAt form w (r does act.Receive n) (Stepped (Ok reply)) w' → (sent : Sent) → numbered w.records n ≡ Some sent → (v : Name) → version_in (seen_body sent.body) ≡ Some v → IsAnswer reply v
-  record_answer n reply move sent pool v e =
-      let there = step_of form w (r does act.Receive n) (replica.Receive (frame.Record sent)) (Stepped (Ok reply)) w' (ap (λ (o : Option Sent). option_map receiving o) pool) move in
-      let step = step_replied form (w.replicas r) (replica.Receive (frame.Record sent)) reply there.1 there.2 in
-      body_answer sent sent.body reply there.1 v (a.records.each sent (numbered_in w.records n sent pool)) e step.1
+  record_answer : (n : ℕ) (sent : Sent) → numbered w.records n ≡ Some sent → (reply : Reply) → StepsAt form w r (replica.Receive (frame.Record sent)) (Stepped (Ok reply)) w' → (v : Name) → version_in (seen_body sent.body) ≡ Some v → IsAnswer reply v
+  record_answer n sent pool reply there v e =
+      body_answer sent sent.body reply there.1 v (a.records.each sent (numbered_in w.records n sent pool)) e (step_replied form (w.replicas r) (replica.Receive (frame.Record sent)) reply there.1 there.2).1
 
   -- Known is answered of a version that is known, and Took of one that is not
-  pub known_known : (n : ℕ) → MovesAt form w (r does act.Receive n) (Stepped (Ok Known)) w' → (sent : Sent) → numbered w.records n ≡ Some sent → (v : Name) → version_in (seen_body sent.body) ≡ Some v → IsTrue (known m r v)
-  known_known n move sent pool v e = record_answer n Known move sent pool v e
+  pub received : (n : ℕ) (reply : Reply) → MovesAt form w (r does act.Receive n) (Stepped (Ok reply)) w' → (sent : Sent) → numbered w.records n ≡ Some sent → (v : Name) → version_in (seen_body sent.body) ≡ Some v → IsAnswer reply v
+  received n reply move sent pool v e =
+      record_answer n sent pool reply (step_of form w (r does act.Receive n) (replica.Receive (frame.Record sent)) (Stepped (Ok reply)) w' (ap (λ (o : Option Sent). option_map receiving o) pool) move) v e
 
-  pub took_unknown : (n : ℕ) → MovesAt form w (r does act.Receive n) (Stepped (Ok Took)) w' → (sent : Sent) → numbered w.records n ≡ Some sent → (v : Name) → version_in (seen_body sent.body) ≡ Some v → IsFalse (known m r v)
-  took_unknown n move sent pool v e = record_answer n Took move sent pool v e
+  pub tells_known : (n : ℕ) (sent : Sent) → numbered w.records n ≡ Some sent → (reply : Reply) → StepsAt form w r (replica.Receive (frame.Record sent)) (Stepped (Ok reply)) w' → TellsWhetherKnown m r reply (numbered m.given n)
+  tells_known n sent pool reply there =
+      subst (TellsWhetherKnown m r reply) (sym (ap (λ (xs : List Record). numbered xs n) a.given ∙ numbered_map seen_record w.records n sent pool)) (tells reply (record_answer n sent pool reply there))
+    where
+      tells : (reply : Reply) → ((v : Name) → version_in (seen_body sent.body) ≡ Some v → IsAnswer reply v) → TellsWhetherKnown m r reply (Some (seen_record sent))
+      tells Known h = h
+      tells Took h = h
+      tells reply h = tt

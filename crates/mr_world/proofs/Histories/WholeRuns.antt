@@ -1,39 +1,21 @@
 -- A run of a world is a run of the rules, so it has the headline.
-use Rattle.std.proofs.Common.{◌≡◌, refl, sym, ap, subst, ◌∙◌, ℕ, true, false, List, [], ◌∷◌, ◌++◌, map, Some, None}
-use Rattle.mr_forms.specs.Known.{Form}
-use Rattle.mr_filter.specs.Filter.{ClauseParts}
-use Rattle.mr_mail.specs.Mail.{Mail, MailCard}
-use Rattle.mr_model.specs.Changes.{after, change, happens, now}
-use Rattle.mr_model.specs.Headline.{Headline}
-use Rattle.mr_model.specs.History.{History}
-use Rattle.mr_model.specs.Moment.{start}
-use Rattle.mr_model.specs.Rules.{IsRun}
-use Rattle.mr_model.specs.Versions.{nothing}
-use Rattle.mr_model.proofs.Core.{Inv}
-use Rattle.mr_model.proofs.Runs.{change_keeps, start_holds}
-use Rattle.mr_model.proofs.Theorem.{after-append, headline_holds, run_inv, run_more}
-use Rattle.mr_replica.specs.Replay.{IsFresh}
-use Rattle.mr_replica.specs.State.{State}
-use Rattle.mr_session.specs.Table.{empty_table}
-use Rattle.mr_wire.specs.Frames.{Sent}
-use Rattle.mr_world.specs.Agrees.{Agrees, HoldingsAgree, HoldsAs}
-use Rattle.mr_world.specs.Runs.{IsFreshWorld, Runs, history, history_from, seen_step}
-use Rattle.mr_world.specs.Seen.{MailMoment, seen_receipt, seen_record, setting_of}
-use Rattle.mr_world.specs.Sessions.{SessionsAgree}
-use Rattle.mr_world.specs.Shared.{PortAgrees, ReceiptsAgree, SeesAsks}
-use Rattle.mr_world.specs.Streams.{StreamsAgree}
-use Rattle.mr_world.specs.Told.{RecordsAgree}
-use Rattle.mr_world.specs.Ports.{Port, new_port}
-use Rattle.mr_world.specs.World.{World}
+use Rattle.std.proofs.Common.{◌≡◌, refl, sym, ap, subst, ◌∙◌, ℕ, true, false, List, [], ◌∷◌, ◌++◌, map, Some, None, arith}
+use Rattle.mr_world.proofs.Names.Wire.{Sent}
+use Rattle.mr_world.proofs.Names.Replica.{IsFresh, State}
+use Rattle.mr_world.proofs.Names.Sessions.{empty_table}
+use Rattle.mr_world.proofs.Names.Model.{Headline, History, IsRun, after, happens, nothing, now, start}
+use Rattle.mr_world.proofs.Names.Laws.{Inv, after-append, change_keeps, headline_holds, run_inv, run_more, start_holds}
+use Rattle.mr_world.proofs.Names.Mails.{ClauseParts, Form, Mail, MailCard}
+use Rattle.mr_world.proofs.Names.World.{Agrees, HoldingsAgree, IsFreshWorld, MailMoment, Port, PortAgrees, ReceiptsAgree, RecordsAgree, Runs}
+use Rattle.mr_world.proofs.Names.World.{SeesAsks, SessionsAgree, StreamsAgree, World, history, history_from, new_port, seen_receipt, seen_record}
+use Rattle.mr_world.proofs.Names.World.{seen_step, setting_of}
+use Rattle.mr_model.specs.Changes.{change}
 use Rattle.mr_world.specs.declared.answered.Answered.{Answered}
 use Rattle.mr_world.proofs.Moving.ByParts.{MovesAt, by_parts}
-use Rattle.mr_world.proofs.Groundwork.Orders.{none_in_order}
+use Rattle.mr_world.proofs.Agreement.Learning.{none_hold}
 use Rattle.mr_world.proofs.Moving.Refinement.{refines}
 
 -- ---- a world in which nothing happened
-
-holds_none : HoldsAs [] [] nothing
-holds_none = record { each = λ r i. elim i [ ]; same = λ v. refl; in_order = none_in_order }
 
 no_records : RecordsAgree [] [] (λ s t. nothing) (λ s t. nothing)
 no_records = record { each = λ x i. elim i [ ]; starts = λ x i. elim i [ ]; one_place = λ x y i. elim i [ ]; whole = λ x y i. elim i [ ] }
@@ -58,8 +40,8 @@ module _ {K : Type 0} (form : Form K) (filters : ℕ → List ClauseParts) where
     filter = refl;
     is_retired = refl;
     knows = record { issued = λ i v h. (let c : false ≡ true = sym (f.knows_nothing i v) ∙ h in absurd (cc)); same = λ v h. absurd (cc) };
-    heads = holds_none;
-    push_outs = holds_none;
+    heads = none_hold [];
+    push_outs = none_hold [];
     entries = refl;
     count = refl;
     last = λ i. refl;

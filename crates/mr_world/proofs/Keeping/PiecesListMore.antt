@@ -1,24 +1,18 @@
 -- Fragments of a knowledge list an item only where more is known for it than for all items.
 use Rattle.std.proofs.Common.{◌≡◌, refl, sym, ap, subst, ◌∙◌, ◌&&◌, List, [], ◌∷◌, inl, inr, arith, Option, Some, None, IfSome}
-use Rattle.std.specs.List.{All, AllZip}
-use Rattle.std.specs.Prelude.{Contains}
-use Rattle.std.proofs.lemmas.Bool.{and_from}
+use Rattle.mr_world.proofs.Names.Lists.{All, AllZip, Contains, and_from}
 use Rattle.std.proofs.lemmas.List.Elements.{All-head, All-tail}
-use Rattle.mr_version.specs.Name.{Name}
-use Rattle.mr_forms.specs.Known.{Form, Part}
-use Rattle.mr_forms.specs.Listing.{HasMoreFor, ListsMore, SaysKnownForAll}
+use Rattle.mr_world.proofs.Names.Wire.{Full, Piece}
+use Rattle.mr_world.proofs.Names.Replica.{Keeps}
+use Rattle.mr_world.proofs.Names.Sessions.{lists}
+use Rattle.mr_world.proofs.Names.Model.{In}
+use Rattle.mr_world.proofs.Names.Laws.{any_intro}
+use Rattle.mr_world.proofs.Names.Mails.{Form, HasMoreFor, ListsMore, Name, Part, SaysKnownForAll, vector_has}
 use Rattle.mr_forms.proofs.PartLemmas.{Contains-cases}
-use Rattle.mr_concise.specs.Vector.{vector_has}
-use Rattle.mr_model.specs.Rules.{In}
-use Rattle.mr_model.proofs.Basics.{any_intro}
-use Rattle.mr_replica.specs.Answer.{Keeps}
 use Rattle.mr_replica.specs.Pieces.{IsPieceOf}
-use Rattle.mr_session.specs.Stream.{lists}
-use Rattle.mr_wire.specs.Values.{Piece}
-use Rattle.mr_wire.specs.declared.frame.Mode.TheVariants.{Full}
 
 -- each piece is of a part, and each part has a piece
-piece_part : (P : Part → Type 0) (parts : List Part) (pieces : List Piece) → AllZip IsPieceOf parts pieces → All P parts → (piece : Piece) → In piece pieces → (p : Part) × P p × IsPieceOf p piece
+pub piece_part : (P : Part → Type 0) (parts : List Part) (pieces : List Piece) → AllZip IsPieceOf parts pieces → All P parts → (piece : Piece) → In piece pieces → (p : Part) × P p × IsPieceOf p piece
 piece_part P [] [] are all piece i = elim i [ ]
 piece_part P [] (y ∷ ys) are all piece i = absurd are
 piece_part P (p ∷ ps) [] are all piece i = elim i [ ]
@@ -31,10 +25,7 @@ part_piece : (parts : List Part) (pieces : List Piece) → AllZip IsPieceOf part
 part_piece [] [] are p has = let lt = has.1 in absurd (omega arith)
 part_piece [] (y ∷ ys) are p has = absurd are
 part_piece (q ∷ ps) [] are p has = absurd are
-part_piece (q ∷ ps) (y ∷ ys) are p has = elim (Contains-cases q p ps has) [
-  | inl e ↦ (y, inl refl, subst (λ (z : Part). IsPieceOf z y) e are.0)
-  | inr later ↦ (let r = part_piece ps ys are.1 p later in (r.0, inr r.1, r.2))
-]
+part_piece (q ∷ ps) (y ∷ ys) are p has = grind (arith, part_piece ps ys are.1 p, Contains-cases)
 
 all_in : {X : Type 0} (P : X → Type 0) (xs : List X) → All P xs → (x : X) → In x xs → P x
 all_in P [] all x i = elim i [ ]

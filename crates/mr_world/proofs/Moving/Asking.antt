@@ -1,35 +1,25 @@
 -- What a move is, by what its act asks.
-use Rattle.std.proofs.Common.{◌≡◌, refl, sym, subst, ◌∙◌, ℕ, Bool, true, false, cond, Option, Some, None}
-use Rattle.std.specs.Prelude.{nat_lt}
-use Rattle.std.specs.Option.{option_map}
-use Rattle.mr_forms.specs.Known.{Form}
-use Rattle.mr_mail.specs.Mail.{Mail}
-use Rattle.mr_model.specs.History.{◌does◌}
-use Rattle.mr_model.specs.Moment.{numbered}
-use Rattle.mr_model.specs.Rules.{In}
-use Rattle.mr_model.specs.declared.event.Act.{Act}
+use Rattle.std.proofs.Common.{◌≡◌, refl, sym, subst, ◌∙◌, ℕ, Bool, true, false, cond, Option, Some, None, arith}
+use Rattle.mr_world.proofs.Names.Lists.{Result, nat_lt, option_map}
+use Rattle.mr_world.proofs.Names.Wire.{Question, Receipt, Sent}
+use Rattle.mr_world.proofs.Names.Replica.{Event as ReplicaEvent, Refusal, Reply, some_same}
+use Rattle.mr_world.proofs.Names.Model.{Act, Event, In, numbered, ◌does◌}
+use Rattle.mr_world.proofs.Names.Laws.{numbered_in}
+use Rattle.mr_world.proofs.Names.Mails.{Form, Mail}
+use Rattle.mr_world.proofs.Names.World.{Answer, Task, World, answering, asked, delivering, receiving, record_len, releasing}
 use Rattle.mr_model.specs.declared.event.Act.TheVariants as act
-use Rattle.mr_model.specs.declared.event.Event.{Event}
-use Rattle.mr_model.proofs.Sets.{numbered_in}
-use Rattle.mr_replica.specs.declared.event.Event.{Event as ReplicaEvent}
 use Rattle.mr_replica.specs.declared.event.Event.TheVariants as replica
-use Rattle.mr_wire.specs.Frames.{Question, Sent}
 use Rattle.mr_wire.specs.declared.frame.Frame.TheVariants as frame
-use Rattle.mr_wire.specs.declared.frame.Receipt.{Receipt}
-use Rattle.mr_world.specs.Asked.{asked, record_len, receiving, delivering, answering, releasing}
-use Rattle.mr_world.specs.World.{World}
-use Rattle.mr_world.specs.declared.answer.Answer.{Answer}
-use Rattle.mr_world.specs.declared.task.Task.{Task}
+use Rattle.mr_world.specs.declared.answer.Answer.TheVariants as answer
 use Rattle.mr_world.specs.declared.task.Task.TheVariants as task
+-- mr_script's proofs cite it by this name
+pub use Rattle.mr_replica.proofs.Choice.{some_same as some_is}
 use Rattle.mr_world.proofs.Moving.ByParts.{DoesAt, MovesAt, StepsAt}
-
-pub some_is : {A : Type 0} (x y : A) → Some x ≡ Some y → x ≡ y
-some_is x y e = cc
 
 -- what is made of something is made of what is there
 pub found : {A B : Type 0} (f : A → B) (o : Option A) (t : B) → option_map f o ≡ Some t → (x : A) × (o ≡ Some x) × (f x ≡ t)
 found f None t e = absurd (cc)
-found f (Some x) t e = (x, refl, some_is (f x) t e)
+found f (Some x) t e = (x, refl, some_same (f x) t e)
 
 -- so many bytes of a record come as a part, or as the record
 pub data IsPartOf (bytes : ℕ) (sent : Sent) (t : Task) : Type 0 where
@@ -37,24 +27,29 @@ pub data IsPartOf (bytes : ℕ) (sent : Sent) (t : Task) : Type 0 where
   All_bytes : nat_lt bytes (record_len sent) ≡ false → t ≡ receiving sent → IsPartOf bytes sent t
 
 pub part_or_whole : (bytes : ℕ) (sent : Sent) (t : Task) → delivering bytes sent ≡ t → IsPartOf bytes sent t
-part_or_whole bytes sent t e = go (nat_lt bytes (record_len sent)) refl e
-  where
-    go : (b : Bool) → nat_lt bytes (record_len sent) ≡ b → cond b task.Truncated (receiving sent) ≡ t → IsPartOf bytes sent t
-    go true few e = Some_bytes few (sym e)
-    go false few e = All_bytes few (sym e)
+part_or_whole bytes sent t e = grind (arith, record_len, receiving)
 
 module _ {K : Type 0} (form : Form K) (w : World K) where
   -- what the act asks is done
   pub done : (e : Event Mail) (t : Task) (given : Answer) (w' : World K) → asked w.asks w.records w.receipts e.act ≡ Some t → MovesAt form w e given w' → DoesAt form w e.replica t given w'
-  done e t given w' is move = subst (λ (u : Task). DoesAt form w e.replica u given w') (some_is move.0 t (sym move.1 ∙ is)) move.2
+  done e t given w' is move = subst (λ (u : Task). DoesAt form w e.replica u given w') (some_same move.0 t (sym move.1 ∙ is)) move.2
 
   -- where it is an event of the replica, that is answered
   pub step_of : (e : Event Mail) (there : ReplicaEvent) (given : Answer) (w' : World K) → asked w.asks w.records w.receipts e.act ≡ Some (task.Step there) → MovesAt form w e given w' → StepsAt form w e.replica there given w'
   step_of e there given w' is move = done e (task.Step there) given w' is move
 
-  -- the record that a Receive names is taken
+  -- the record of a Receive is taken
   pub receives_one : (r n : ℕ) (given : Answer) (w' : World K) → MovesAt form w (r does act.Receive n) given w' → (sent : Sent) × (numbered w.records n ≡ Some sent) × StepsAt form w r (replica.Receive (frame.Record sent)) given w'
   receives_one r n given w' move = let x = found receiving (numbered w.records n) move.0 move.1 in (x.0, x.1, subst (λ (u : Task). DoesAt form w r u given w') (sym x.2) move.2)
+
+  -- and that of a DeliverPart, where its replica replies
+  pub delivers_one : (r n bytes : ℕ) (told : Result Reply Refusal) (w' : World K) → MovesAt form w (r does act.DeliverPart n bytes) (answer.Stepped told) w' →
+      (sent : Sent) × (numbered w.records n ≡ Some sent) × StepsAt form w r (replica.Receive (frame.Record sent)) (answer.Stepped told) w'
+  delivers_one r n bytes told w' move = let x = found (delivering bytes) (numbered w.records n) move.0 move.1 in (x.0, x.1, whole x.0 (part_or_whole bytes x.0 move.0 x.2))
+    where
+      whole : (sent : Sent) → IsPartOf bytes sent move.0 → StepsAt form w r (replica.Receive (frame.Record sent)) (answer.Stepped told) w'
+      whole sent (Some_bytes few is) = let cut : DoesAt form w r task.Truncated (answer.Stepped told) w' = subst (λ (u : Task). DoesAt form w r u (answer.Stepped told) w') is move.2 in let none = cut.0 in absurd (cc)
+      whole sent (All_bytes few is) = subst (λ (u : Task). DoesAt form w r u (answer.Stepped told) w') is move.2
 
 -- ---- records of the pool
 
@@ -67,8 +62,7 @@ module _ {K : Type 0} (w : World K) where
   there_is n x there at is sent e = let same : x ≡ sent = cc (is, e) in subst (λ (z : Sent). In z w.records) same (numbered_in w.records n x at)
 
   part_is : (n bytes : ℕ) (x : Sent) (there : ReplicaEvent) → numbered w.records n ≡ Some x → IsPartOf bytes x (task.Step there) → IsOfPool there
-  part_is n bytes x there at (Some_bytes few e) = absurd (cc e)
-  part_is n bytes x there at (All_bytes few e) = there_is n x there at (sym e)
+  part_is n bytes x there at h = grind (arith, there_is)
 
   -- whatever an act asks of a replica
   pub of_pool : (a : Act Mail) (there : ReplicaEvent) → asked w.asks w.records w.receipts a ≡ Some (task.Step there) → IsOfPool there
@@ -83,4 +77,4 @@ module _ {K : Type 0} (w : World K) where
     where
       no_release : (receipt : Receipt) (sent : Sent) → releasing receipt ≡ task.Step there → there ≡ replica.Receive (frame.Record sent) → ⊥
       no_release receipt sent a b = cc
-  of_pool a there is = λ sent e. absurd (cc)
+  of_pool a there is = grind (arith, found, receiving, numbered, there_is, delivering, part_is, part_or_whole, answering, releasing)

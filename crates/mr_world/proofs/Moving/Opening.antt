@@ -1,82 +1,41 @@
 -- Pull and Answer, the cuts, and Retire.
 use Rattle.std.proofs.Common.{◌≡◌, ◌≢◌, refl, sym, ap, subst, ◌∙◌, ℕ, zero, suc, ◌+◌, ◌≤◌, ◌==◌, nat_le, Bool, true, false, ◌||◌, ◌&&◌, List, [], ◌∷◌, filter, map, length, take, inl, inr, IsTrue, IsFalse, arith, eq-eqb, if◌then◌else◌, Option, Some, None}
-use Rattle.std.specs.Prelude.{Ok}
-use Rattle.std.specs.List.{All, AllZip, list_any}
-use Rattle.std.specs.Option.{IfSome}
-use Rattle.std.proofs.lemmas.Bool.{both_ways}
-use Rattle.std.proofs.lemmas.List.Elements.{All-head, All-tail}
-use Rattle.mr_version.specs.Name.{Name}
-use Rattle.mr_forms.specs.Known.{Form, Part}
+use Rattle.mr_world.proofs.Names.Lists.{IfSome, Ok, both_ways, list_any}
+use Rattle.mr_world.proofs.Names.Wire.{Full, Mode, Partial, Piece, Question, Sent, piece_of}
+use Rattle.mr_world.proofs.Names.Replica.{Asked, Done, IsAskOf, Keeps, OwnAsk, PushOutsLeft, State, Streaming, TooManySessions, TooManyStreams}
+use Rattle.mr_world.proofs.Names.Replica.{all_claimed, answering, asked_of, log_full, logged, mode_for, not_refused, pulling, refused_if, ◌orelse◌}
+use Rattle.mr_world.proofs.Names.Sessions.{Session, Stream, claimed, is_full_mode, lists, new_session, new_stream, open_at}
+use Rattle.mr_world.proofs.Names.Model.{Ask, In, IsAsk, IsOf, IsOpened, Issue, Record, Versions, after_opening, at, change_if_found, claims}
+use Rattle.mr_world.proofs.Names.Model.{in_version_order, is, is_issued, item_of, known, numbered}
+use Rattle.mr_world.proofs.Names.Laws.{Inv, any_elim, any_intro, at_elim, at_same, cases, filter_in, in_filter, in_issued, in_map, in_ordered}
+use Rattle.mr_world.proofs.Names.Laws.{is_path, is_refl, issue_in, numbered_in, one_test, or_left, or_parts, or_right, ordered_in, two_same}
+use Rattle.mr_world.proofs.Names.Mails.{ClauseParts, Form, Mail, MailCard, Name, Part, Rev, covers, holds, vector_has}
+use Rattle.mr_world.proofs.Names.World.{Agrees, Follows, HoldingsAgree, MailMoment, SeesAsk, SeesAsks, SessionAgrees, SessionsAgree, Shows, Stepped}
+use Rattle.mr_world.proofs.Names.World.{StreamAgrees, StreamsAgree, World, seen_ask, seen_record, setting_of, told_pairs, versions_in_order}
 use Rattle.mr_forms.specs.Parts.{AreListable}
-use Rattle.mr_concise.specs.Vector.{vector_has}
-use Rattle.mr_filter.specs.Filter.{ClauseParts}
-use Rattle.mr_filter.specs.Meaning.{covers}
-use Rattle.mr_mail.specs.Mail.{Mail, MailCard}
-use Rattle.mr_model.specs.Changes.{Change, after_opening, change_if_found}
-use Rattle.mr_model.specs.History.{Ask, Record, claims}
-use Rattle.mr_model.specs.Moment.{at, known, numbered}
-use Rattle.mr_model.specs.Rules.{In, IsAsk, IsOf, IsOpened}
-use Rattle.mr_model.specs.Versions.{Issue, Versions, in_version_order, is, is_issued, item_of}
-use Rattle.mr_model.proofs.Basics.{any_elim, any_intro, cases, is_path, is_refl, one_test, or_left, or_parts, or_right}
-use Rattle.mr_model.proofs.Core.{Inv}
-use Rattle.mr_model.proofs.Issues.{issue_in}
-use Rattle.mr_model.proofs.Lists.{filter_in, in_filter, in_issued, in_map, in_ordered, ordered_in}
-use Rattle.mr_model.proofs.Sets.{at_elim, at_elim₂, at_same, numbered_in, two_same}
-use Rattle.mr_replica.specs.Admission.{log_full}
-use Rattle.mr_replica.specs.Answer.{Keeps, answering, asked_of, mode_for}
 use Rattle.mr_replica.specs.CutIn.{cutting_in}
 use Rattle.mr_replica.specs.CutOut.{cutting_out}
-use Rattle.mr_replica.specs.Issue.{logged}
-use Rattle.mr_replica.specs.Pieces.{IsPieceOf}
-use Rattle.mr_replica.specs.Pull.{IsAskOf, pulling}
-use Rattle.mr_replica.specs.Refusal.{refused_if, ◌orelse◌}
 use Rattle.mr_replica.specs.Retire.{has_any, retiring}
-use Rattle.mr_replica.specs.State.{State}
-use Rattle.mr_replica.specs.Step.{Changes, first_refusal}
 use Rattle.mr_replica.specs.declared.event.Event.TheVariants as replica
-use Rattle.mr_replica.specs.declared.event.Reply.{Reply}
-use Rattle.mr_replica.specs.declared.event.Reply.TheVariants.{Asked, Done, Streaming}
-use Rattle.mr_replica.specs.declared.refusal.Refusal.TheVariants.{OwnAsk, PushOutsLeft, TooManySessions, TooManyStreams}
-use Rattle.mr_replica.proofs.Merging.{all_claimed}
-use Rattle.mr_session.specs.Session.{Session, is_full_mode, new_session}
-use Rattle.mr_session.specs.Stream.{Stream, claimed, lists, new_stream}
-use Rattle.mr_session.specs.Table.{open_at}
 use Rattle.mr_session.specs.declared.limits.TheConstants.{MAX_OPEN}
-use Rattle.mr_store.specs.Revisions.{holds}
-use Rattle.mr_wire.specs.Frames.{Question, Sent}
-use Rattle.mr_wire.specs.Values.{Piece, piece_of}
-use Rattle.mr_wire.specs.declared.frame.Mode.{Mode}
-use Rattle.mr_wire.specs.declared.frame.Mode.TheVariants.{Full, Partial}
-use Rattle.mr_madewith.specs.Revision.{Rev}
-use Rattle.mr_world.specs.Agrees.{Agrees, HoldingsAgree}
-use Rattle.mr_world.specs.Issued.{Shows}
-use Rattle.mr_world.specs.Seen.{MailMoment, seen_ask, seen_record, setting_of, versions_in_order}
-use Rattle.mr_world.specs.Sessions.{Follows, SessionAgrees, SessionsAgree}
-use Rattle.mr_world.specs.Shared.{SeesAsk, SeesAsks}
-use Rattle.mr_world.specs.Streams.{StreamAgrees, StreamsAgree}
-use Rattle.mr_world.specs.Told.{told_pairs}
-use Rattle.mr_world.specs.World.{World}
-use Rattle.mr_world.specs.declared.answer.Answer.{Answer}
-use Rattle.mr_world.specs.declared.answer.Answer.TheVariants.{Stepped}
-use Rattle.mr_world.proofs.Moving.ByParts.{StepsAt, with_given, with_replica}
+use Rattle.mr_world.proofs.Moving.ByParts.{with_given, with_replica}
+use Rattle.mr_model.specs.Changes.{Change}
 use Rattle.mr_model.specs.declared.event.Act.TheVariants as act
-use Rattle.mr_world.proofs.Groundwork.AtPlaces.{at_other, same_place, two_other}
 use Rattle.mr_world.proofs.Agreement.OneMore.{stream_kept}
-use Rattle.mr_world.proofs.Agreement.Staying.{tables_hold}
+use Rattle.mr_world.proofs.Agreement.Staying.{own_agrees, tables_hold}
 use Rattle.mr_world.proofs.Agreement.Parts.{parts_none}
-use Rattle.mr_world.proofs.Moving.Refines.{Refines, alive, by_change, by_steps}
+use Rattle.mr_world.proofs.Moving.Refines.{Refines, Replies, alive, by_change}
+use Rattle.mr_world.proofs.Keeping.PiecesListMore.{piece_part}
 use Rattle.mr_world.proofs.Groundwork.Tables.{closed_found, opened_found}
-use Rattle.mr_world.proofs.Groundwork.Tools.{map_in, not_refused, orelse_none}
+use Rattle.mr_world.proofs.Groundwork.Tools.{at_other, at_self, map_in, orelse_none, same_place, two_other}
 
 -- ---- what was issued, in order
 
 pub ordered_issued : (issues : List (Issue Mail)) (v : Name) → In v (versions_in_order issues) → IsTrue (is_issued issues v)
-ordered_issued issues v i = let x = in_map (λ (x : Issue Mail). x.version) (in_version_order issues) v i in
-    subst (λ (z : Name). IsTrue (is_issued issues z)) x.2 (in_issued issues x.0 (ordered_in issues x.0 x.1))
+ordered_issued issues v i = grind (arith, in_map, in_version_order, is_issued, in_issued, ordered_in)
 
 pub issued_ordered : (issues : List (Issue Mail)) (v : Name) → IsTrue (is_issued issues v) → In v (versions_in_order issues)
-issued_ordered issues v h = let x = issue_in issues v h in
-    subst (λ (z : Name). In z (versions_in_order issues)) x.2 (map_in (λ (x : Issue Mail). x.version) (in_version_order issues) x.0 (in_ordered issues x.0 x.1))
+issued_ordered issues v h = grind (arith, issue_in, versions_in_order, map_in, in_version_order, in_ordered)
 
 -- ---- requests
 
@@ -92,20 +51,13 @@ pub sees_numbered : (issues : List (Issue Mail)) (filters : ℕ → List ClauseP
 sees_numbered issues filters [] [] h n q e = absurd (cc)
 sees_numbered issues filters [] (y ∷ qs) h n q e = absurd h
 sees_numbered issues filters (a ∷ seen) [] h n q e = absurd h
-sees_numbered issues filters (a ∷ seen) (y ∷ qs) h n q e = elim (cases (n == length qs + 1)) [
-  | inl t ↦ (let k : Some y ≡ Some q = rw t at e in let p : y ≡ q = cc in let t' : IsTrue (n == length seen + 1) = rw (sees_length issues filters seen qs h.1) t in (a, rw t' refl, subst (λ (z : Question). SeesAsk issues filters a (asked_of z)) p h.0))
-  | inr t ↦ (let k : numbered qs n ≡ Some q = rw t at e in let t' : IsFalse (n == length seen + 1) = rw (sees_length issues filters seen qs h.1) t in let r = sees_numbered issues filters seen qs h.1 n q k in (r.0, rw t' r.1, r.2))
-]
+sees_numbered issues filters (a ∷ seen) (y ∷ qs) h n q e = grind (arith, sees_numbered issues filters seen qs h.1 n q, cases, at, sees_length, asked_of, numbered)
 
 pub claims_seen : (issues : List (Issue Mail)) (q : Question) (v : Name) → IsTrue (is_issued issues v) → claimed q.fragments (item_of issues v) v ≡ claims (seen_ask issues q) v
-claims_seen issues q v h = one_test (claimed q.fragments (item_of issues v) v) (claims (seen_ask issues q) v)
-    (λ k. any_intro (λ u. is u v) (filter (λ u. claimed q.fragments (item_of issues u) u) (versions_in_order issues)) v (filter_in (λ u. claimed q.fragments (item_of issues u) u) (versions_in_order issues) v (issued_ordered issues v h) k) (is_refl v))
-    (λ k. let r = any_elim (λ u. is u v) (filter (λ u. claimed q.fragments (item_of issues u) u) (versions_in_order issues)) k in
-    let d = in_filter (λ u. claimed q.fragments (item_of issues u) u) (versions_in_order issues) r.0 r.1 in subst (λ (z : Name). IsTrue (claimed q.fragments (item_of issues z) z)) (is_path r.0 v r.2) d.1)
+claims_seen issues q v h = grind (arith, one_test, claimed, item_of, claims, seen_ask, any_intro, is, versions_in_order, filter_in, issued_ordered, is_refl, any_elim, in_filter, is_path)
 
 pub claims_issued : (issues : List (Issue Mail)) (q : Question) (v : Name) → IsTrue (claims (seen_ask issues q) v) → IsTrue (is_issued issues v)
-claims_issued issues q v h = let x = any_elim (λ u. is u v) (filter (λ u. claimed q.fragments (item_of issues u) u) (versions_in_order issues)) h in
-    subst (λ (z : Name). IsTrue (is_issued issues z)) (is_path x.0 v x.2) (ordered_issued issues x.0 (in_filter (λ u. claimed q.fragments (item_of issues u) u) (versions_in_order issues) x.0 x.1).0)
+claims_issued issues q v h = grind (arith, any_elim, is, claimed, item_of, versions_in_order, is_issued, is_path, ordered_issued, in_filter)
 
 any_take : {A : Type 0} (p : A → Bool) (n : ℕ) (xs : List A) → IsTrue (list_any p (take n xs)) → IsTrue (list_any p xs)
 any_take p zero xs h = absurd (cc)
@@ -122,31 +74,19 @@ asks_known form s q ask i v h =
 -- ---- what a stream keeps
 
 full_if : (b : Bool) → is_full_mode (if b then Full else Partial) ≡ b
-full_if true = refl
-full_if false = refl
-
--- the pieces of parts list some item, if they list any
-pieces_listed : (parts : List Part) (pieces : List Piece) → AllZip IsPieceOf parts pieces → All (λ p. IfSome p.items AreListable) parts → (piece : Piece) → In piece pieces → piece.items ≢ Some []
-pieces_listed [] [] are listable piece i = elim i [ ]
-pieces_listed [] (y ∷ ys) are listable piece i = absurd are
-pieces_listed (p ∷ ps) [] are listable piece i = elim i [ ]
-pieces_listed (p ∷ ps) (y ∷ ys) are listable piece i = elim i [
-  | inl e ↦ (λ none. let lists_none : IfSome (Some []) AreListable = subst (λ (o : Option (List Name)). IfSome o AreListable) (sym are.0.items ∙ (ap (λ (z : Piece). z.items) e ∙ none)) (All-head (λ (p : Part). IfSome p.items AreListable) p ps listable) in lists_none.some refl)
-  | inr j ↦ pieces_listed ps ys are.1 (All-tail (λ (p : Part). IfSome p.items AreListable) p ps listable) piece j
-]
+full_if b = grind arith
 
 module _ {K : Type 0} (form : Form K) (knowledge : K) (know : List Piece) where
   kept_known : (mode : Mode) → Keeps form mode knowledge know → (i v : Name) → IsTrue (claimed know i v) → IsTrue (form.known knowledge i v)
-  kept_known Full keeps i v h = keeps.1 i v ∙ h
-  kept_known Partial keeps i v h = let none : IsTrue (claimed [] i v) = subst (λ (ps : List Piece). IsTrue (claimed ps i v)) keeps h in absurd (cc)
+  kept_known mode keeps i v h = grind (arith, claimed)
 
   kept_listed : (mode : Mode) → Keeps form mode knowledge know → (piece : Piece) → In piece know → piece.items ≢ Some []
-  kept_listed Full keeps piece i = pieces_listed keeps.0.parts know keeps.0.by_part keeps.0.are_parts.in_order.listable piece i
+  kept_listed Full keeps piece i = λ none. (let x = piece_part (λ (p : Part). IfSome p.items AreListable) keeps.0.parts know keeps.0.by_part keeps.0.are_parts.in_order.listable piece i in
+      let lists_none : IfSome (Some []) AreListable = subst (λ (o : Option (List Name)). IfSome o AreListable) (sym x.2.items ∙ none) x.1 in lists_none.some refl)
   kept_listed Partial keeps piece i = elim (subst (λ (ps : List Piece). In piece ps) keeps i) [ ]
 
   kept_whole : (mode : Mode) → is_full_mode mode ≡ true → Keeps form mode knowledge know → (i v : Name) → claimed know i v ≡ form.known knowledge i v
-  kept_whole Full full keeps i v = sym (keeps.1 i v)
-  kept_whole Partial full keeps i v = absurd (cc)
+  kept_whole mode full keeps i v = grind arith
 
 pub session_older : (records : List Sent) (taken : List Record) (opened opened' number : ℕ) (k : Session) → opened ≤ opened' → SessionAgrees records taken opened number k → SessionAgrees records taken opened' number k
 session_older records taken opened opened' number k le a = record { old = (let o = a.old in omega arith); follows = a.follows; keeps = a.keeps }
@@ -154,25 +94,13 @@ session_older records taken opened opened' number k le a = record { old = (let o
 pub stream_older : (issues : List (Issue Mail)) (filters : ℕ → List ClauseParts) (records : List Sent) (given : List Record) (r opened opened' number : ℕ) (ask ask' : Option Ask) (known known' held : Versions) (k : Stream) →
     opened ≤ opened' → ask' ≡ ask → known' ≡ known →
     StreamAgrees issues filters records given r opened number ask known held k → StreamAgrees issues filters records given r opened' number ask' known' held k
-stream_older issues filters records given r opened opened' number ask ask' known known' held k le ea ek a =
-    stream_kept issues issues filters records given r opened opened' number ask ask' known known' held k a (let o = a.old in omega arith) (ea ∙ a.asked) a.sees a.held_issued
-    (λ full. subst (Shows issues (λ i v. told_pairs records r number k.next i v || claimed k.know i v)) (sym ek) (a.knows full)) a.know_issued
+stream_older issues filters records given r opened opened' number ask ask' known known' held k le ea ek a = grind (arith, stream_kept, told_pairs, claimed)
 
 module _ {K : Type 0} (form : Form K) (filters : ℕ → List ClauseParts) (w : World K) (m : MailMoment) (inv : Inv (setting_of filters) m) (a : Agrees form filters w m) where
   -- r's tables and log become others
   tables_agree : (r : ℕ) (new : State K) → HoldingsAgree form m.issues filters r (m.holding r) (m.feed r) (m.is_retired r) new → SessionsAgree w.records (m.taken_in r) new.sessions →
       StreamsAgree m.issues filters w.records m.given r (m.ask_of r) (m.known_at_answer r) (m.held_at_draw r) new.streams → Agrees form filters (with_replica w r new) m
-  tables_agree r new holdings sessions streams = record {
-    asks = a.asks;
-    given = a.given;
-    vouched = a.vouched;
-    receipts = a.receipts;
-    ports = a.ports;
-    records = a.records;
-    holdings = λ z. at_elim (λ (u : ℕ) (st : State K). HoldingsAgree form m.issues filters u (m.holding u) (m.feed u) (m.is_retired u) st) w.replicas r new z holdings (a.holdings z);
-    sessions = λ z. at_elim (λ (u : ℕ) (st : State K). SessionsAgree w.records (m.taken_in u) st.sessions) w.replicas r new z sessions (a.sessions z);
-    streams = λ z. at_elim (λ (u : ℕ) (st : State K). StreamsAgree m.issues filters w.records m.given u (m.ask_of u) (m.known_at_answer u) (m.held_at_draw u) st.streams) w.replicas r new z streams (a.streams z);
-  }
+  tables_agree r new holdings sessions streams = grind (arith, with_replica, at_self, own_agrees)
 
   -- ---- Pull
 
@@ -232,14 +160,11 @@ module _ {K : Type 0} (form : Form K) (filters : ℕ → List ClauseParts) (w : 
         opened = tables_agree r pulled (tables_hold form m.issues filters r (m.holding r) (m.feed r) (m.is_retired r) (w.replicas r) pulled.log pulled.sessions pulled.streams (a.holdings r))
             (record { each = each; fresh = λ n lt. (a.sessions r).fresh n (omega arith) }) (a.streams r)
 
-  pub pulls : (r : ℕ) (answer : Answer) (w' : World K) → StepsAt form w r replica.Pull answer w' → Refines form filters w m r act.Pull answer w'
-  pulls r answer w' move = by_steps form filters w m a r act.Pull replica.Pull answer w' move go
-    where
-      go : (reply : Reply) (new : State K) → first_refusal (w.replicas r) replica.Pull ≡ None → Changes form (w.replicas r) replica.Pull reply new → Refines form filters w m r act.Pull (Stepped (Ok reply)) (with_given (with_replica w r new) (Ok reply))
-      go (Asked q) new none step =
-          let living = alive form (w.replicas r) (refused_if (nat_le MAX_OPEN (length (w.replicas r).sessions.open_ones)) TooManySessions orelse log_full (w.replicas r)) none in
-          subst (λ (s : State K). Refines form filters w m r act.Pull (Stepped (Ok (Asked q))) (with_given (with_replica w r s) (Ok (Asked q)))) (sym step.1) (pull_agrees r q living step.0)
-      go reply new none step = absurd step
+  pub pulls : (r : ℕ) → Replies form filters w m r act.Pull replica.Pull
+  pulls r (Asked q) new none step =
+      let living = alive form (w.replicas r) (refused_if (nat_le MAX_OPEN (length (w.replicas r).sessions.open_ones)) TooManySessions orelse log_full (w.replicas r)) none in
+      subst (λ (s : State K). Refines form filters w m r act.Pull (Stepped (Ok (Asked q))) (with_given (with_replica w r s) (Ok (Asked q)))) (sym step.1) (pull_agrees r q living step.0)
+  pulls r reply new none step = absurd step
 
   -- ---- Answer
 
@@ -354,74 +279,55 @@ module _ {K : Type 0} (form : Form K) (filters : ℕ → List ClauseParts) (w : 
       },
     )
 
-  pub answers : (r n : ℕ) (q : Question) → numbered w.asks n ≡ Some q → (answer : Answer) (w' : World K) → StepsAt form w r (replica.Answer q) answer w' → Refines form filters w m r (act.Answer n) answer w'
-  answers r n q pool answer w' move = by_steps form filters w m a r (act.Answer n) (replica.Answer q) answer w' move go
-    where
-      go : (reply : Reply) (new : State K) → first_refusal (w.replicas r) (replica.Answer q) ≡ None → Changes form (w.replicas r) (replica.Answer q) reply new → Refines form filters w m r (act.Answer n) (Stepped (Ok reply)) (with_given (with_replica w r new) (Ok reply))
-      go (Streaming t) new none step =
-          let own = not_refused (q.target == (w.replicas r).id) OwnAsk (orelse_none (refused_if (q.target == (w.replicas r).id) OwnAsk) (refused_if (nat_le MAX_OPEN (length (w.replicas r).streams.open_ones)) TooManyStreams orelse log_full (w.replicas r)) none).0 in
-          let seen = sees r n q pool step.1 step.2 in
-          subst (λ (s : State K). Refines form filters w m r (act.Answer n) (Stepped (Ok (Streaming t))) (with_replica w r s)) (sym step.3)
-          (subst (λ (u : ℕ). Refines form filters w m r (act.Answer n) (Stepped (Ok (Streaming u))) (with_replica w r (logged (answering (w.replicas r) q step.1) (replica.Answer q)))) (sym step.0)
-          (by_change form filters w m r (act.Answer n) (Stepped (Ok (Streaming ((w.replicas r).streams.opened + 1)))) (with_replica w r (logged (answering (w.replicas r) q step.1) (replica.Answer q)))
-          (Change.Opens r ((w.replicas r).streams.opened + 1) seen.0) (ap (λ (o : Option Ask). change_if_found {C = MailCard} o (Change.Opens r ((w.replicas r).streams.opened + 1))) seen.1)
-          (answer_agrees r n q pool step.1 step.2 (λ e. both_ways (q.target == (w.replicas r).id) own (eq-eqb q.target (w.replicas r).id e)))))
-      go reply new none step = absurd step
+  pub answers : (r n : ℕ) (q : Question) → numbered w.asks n ≡ Some q → Replies form filters w m r (act.Answer n) (replica.Answer q)
+  answers r n q pool (Streaming t) new none step =
+      let own = not_refused (q.target == (w.replicas r).id) OwnAsk (orelse_none (refused_if (q.target == (w.replicas r).id) OwnAsk) (refused_if (nat_le MAX_OPEN (length (w.replicas r).streams.open_ones)) TooManyStreams orelse log_full (w.replicas r)) none).0 in
+      let seen = sees r n q pool step.1 step.2 in
+      subst (λ (s : State K). Refines form filters w m r (act.Answer n) (Stepped (Ok (Streaming t))) (with_replica w r s)) (sym step.3)
+      (subst (λ (u : ℕ). Refines form filters w m r (act.Answer n) (Stepped (Ok (Streaming u))) (with_replica w r (logged (answering (w.replicas r) q step.1) (replica.Answer q)))) (sym step.0)
+      (by_change form filters w m r (act.Answer n) (Stepped (Ok (Streaming ((w.replicas r).streams.opened + 1)))) (with_replica w r (logged (answering (w.replicas r) q step.1) (replica.Answer q)))
+      (Change.Opens r ((w.replicas r).streams.opened + 1) seen.0) (ap (λ (o : Option Ask). change_if_found {C = MailCard} o (Change.Opens r ((w.replicas r).streams.opened + 1))) seen.1)
+      (answer_agrees r n q pool step.1 step.2 (λ e. both_ways (q.target == (w.replicas r).id) own (eq-eqb q.target (w.replicas r).id e)))))
+  answers r n q pool reply new none step = absurd step
 
   -- ---- the cuts
 
-  pub cuts_in : (r session : ℕ) (answer : Answer) (w' : World K) → StepsAt form w r (replica.CutIn session) answer w' → Refines form filters w m r (act.CutIn session) answer w'
-  cuts_in r session answer w' move = by_steps form filters w m a r (act.CutIn session) (replica.CutIn session) answer w' move go
+  pub cuts_in : (r session : ℕ) → Replies form filters w m r (act.CutIn session) (replica.CutIn session)
+  cuts_in r session Done new none step = (
+    tt,
+    subst (λ (s : State K). Agrees form filters (with_replica w r s) m) (sym step) (tables_agree r cut
+        (tables_hold form m.issues filters r (m.holding r) (m.feed r) (m.is_retired r) (w.replicas r) cut.log cut.sessions cut.streams (a.holdings r)) fewer (a.streams r)),
+  )
     where
       cut : State K
       cut = logged (cutting_in (w.replicas r) session) (replica.CutIn session)
 
       fewer : SessionsAgree w.records (m.taken_in r) cut.sessions
       fewer = record { each = λ number k e. (a.sessions r).each number k (closed_found (w.replicas r).sessions session number k e).1; fresh = (a.sessions r).fresh }
+  cuts_in r session reply new none step = absurd step
 
-      go : (reply : Reply) (new : State K) → first_refusal (w.replicas r) (replica.CutIn session) ≡ None → Changes form (w.replicas r) (replica.CutIn session) reply new → Refines form filters w m r (act.CutIn session) (Stepped (Ok reply)) (with_given (with_replica w r new) (Ok reply))
-      go Done new none step = (
-        tt,
-        subst (λ (s : State K). Agrees form filters (with_replica w r s) m) (sym step)
-            (tables_agree r cut (tables_hold form m.issues filters r (m.holding r) (m.feed r) (m.is_retired r) (w.replicas r) cut.log cut.sessions cut.streams (a.holdings r)) fewer (a.streams r)),
-      )
-      go reply new none step = absurd step
-
-  pub cuts_out : (r stream : ℕ) (answer : Answer) (w' : World K) → StepsAt form w r (replica.CutOut stream) answer w' → Refines form filters w m r (act.CutOut stream) answer w'
-  cuts_out r stream answer w' move = by_steps form filters w m a r (act.CutOut stream) (replica.CutOut stream) answer w' move go
+  pub cuts_out : (r number : ℕ) → Replies form filters w m r (act.CutOut number) (replica.CutOut number)
+  cuts_out r number Done new none step = (
+    tt,
+    subst (λ (s : State K). Agrees form filters (with_replica w r s) m) (sym step) (tables_agree r cut
+        (tables_hold form m.issues filters r (m.holding r) (m.feed r) (m.is_retired r) (w.replicas r) cut.log cut.sessions cut.streams (a.holdings r)) (a.sessions r) fewer),
+  )
     where
       cut : State K
-      cut = logged (cutting_out (w.replicas r) stream) (replica.CutOut stream)
+      cut = logged (cutting_out (w.replicas r) number) (replica.CutOut number)
 
       fewer : StreamsAgree m.issues filters w.records m.given r (m.ask_of r) (m.known_at_answer r) (m.held_at_draw r) cut.streams
-      fewer = record { each = λ number k e. (a.streams r).each number k (closed_found (w.replicas r).streams stream number k e).1; fresh = (a.streams r).fresh }
-
-      go : (reply : Reply) (new : State K) → first_refusal (w.replicas r) (replica.CutOut stream) ≡ None → Changes form (w.replicas r) (replica.CutOut stream) reply new → Refines form filters w m r (act.CutOut stream) (Stepped (Ok reply)) (with_given (with_replica w r new) (Ok reply))
-      go Done new none step = (
-        tt,
-        subst (λ (s : State K). Agrees form filters (with_replica w r s) m) (sym step)
-            (tables_agree r cut (tables_hold form m.issues filters r (m.holding r) (m.feed r) (m.is_retired r) (w.replicas r) cut.log cut.sessions cut.streams (a.holdings r)) (a.sessions r) fewer),
-      )
-      go reply new none step = absurd step
+      fewer = record { each = λ n k e. (a.streams r).each n k (closed_found (w.replicas r).streams number n k e).1; fresh = (a.streams r).fresh }
+  cuts_out r number reply new none step = absurd step
 
   -- ---- Retire
 
   retire_agrees : (r : ℕ) → Agrees form filters (with_replica w r (logged (retiring (w.replicas r)) replica.Retire)) (record m { is_retired = at m.is_retired r true })
-  retire_agrees r = record {
-    asks = a.asks;
-    given = a.given;
-    vouched = a.vouched;
-    receipts = a.receipts;
-    ports = a.ports;
-    records = a.records;
-    holdings = λ z. at_elim₂ (λ (u : ℕ) (b : Bool) (st : State K). HoldingsAgree form m.issues filters u (m.holding u) (m.feed u) b st) m.is_retired w.replicas r true retired z
-        (let h = a.holdings r in record { id = h.id; filter = h.filter; is_retired = refl; knows = h.knows; heads = h.heads; push_outs = h.push_outs; entries = h.entries; count = h.count; last = h.last; last_below = h.last_below }) (a.holdings z);
-    sessions = λ z. at_elim (λ (u : ℕ) (st : State K). SessionsAgree w.records (m.taken_in u) st.sessions) w.replicas r retired z (a.sessions r) (a.sessions z);
-    streams = λ z. at_elim (λ (u : ℕ) (st : State K). StreamsAgree m.issues filters w.records m.given u (m.ask_of u) (m.known_at_answer u) (m.held_at_draw u) st.streams) w.replicas r retired z (a.streams r) (a.streams z);
-  }
-    where
-      retired : State K
-      retired = logged (retiring (w.replicas r)) replica.Retire
+  retire_agrees r = subst (Agrees form filters (with_replica w r (logged (retiring (w.replicas r)) replica.Retire)))
+      (λ i. record m { holding = at_self m.holding r i; feed = at_self m.feed r i; is_retired = at m.is_retired r true; taken_in = at_self m.taken_in r i })
+      (own_agrees form filters w m a r (logged (retiring (w.replicas r)) replica.Retire) (m.holding r) (m.feed r) true (m.taken_in r)
+      (let h = a.holdings r in record { id = h.id; filter = h.filter; is_retired = refl; knows = h.knows; heads = h.heads; push_outs = h.push_outs; entries = h.entries; count = h.count; last = h.last; last_below = h.last_below })
+      (a.sessions r) (a.streams r))
 
   -- without push-outs the model has none either
   clean : (r : ℕ) → IsFalse (has_any (w.replicas r).push_outs) → (v : Name) → IsFalse ((m.holding r).pushed_out v)
@@ -431,16 +337,10 @@ module _ {K : Type 0} (form : Form K) (filters : ℕ → List ClauseParts) (w : 
       go [] e h = sym ((a.holdings r).push_outs.same v) ∙ ap (λ (z : List Rev). holds z v) e
       go (y ∷ ys) e h = absurd (cc)
 
-  pub retires : (r : ℕ) (answer : Answer) (w' : World K) → StepsAt form w r replica.Retire answer w' → Refines form filters w m r act.Retire answer w'
-  retires r answer w' move = by_steps form filters w m a r act.Retire replica.Retire answer w' move go
-    where
-      go : (reply : Reply) (new : State K) → first_refusal (w.replicas r) replica.Retire ≡ None → Changes form (w.replicas r) replica.Retire reply new → Refines form filters w m r act.Retire (Stepped (Ok reply)) (with_given (with_replica w r new) (Ok reply))
-      go Done new none step =
-          let left = refused_if (has_any (w.replicas r).push_outs) PushOutsLeft in (
-            record {
-              alive = (a.holdings r).is_retired ∙ alive form (w.replicas r) left none;
-              clean = clean r (not_refused (has_any (w.replicas r).push_outs) PushOutsLeft (orelse_none _ left none).1);
-            },
-            subst (λ (s : State K). Agrees form filters (with_replica w r s) (record m { is_retired = at m.is_retired r true })) (sym step) (retire_agrees r),
-          )
-      go reply new none step = absurd step
+  pub retires : (r : ℕ) → Replies form filters w m r act.Retire replica.Retire
+  retires r Done new none step =
+      let left = refused_if (has_any (w.replicas r).push_outs) PushOutsLeft in (
+        record { alive = (a.holdings r).is_retired ∙ alive form (w.replicas r) left none; clean = clean r (not_refused (has_any (w.replicas r).push_outs) PushOutsLeft (orelse_none _ left none).1) },
+        subst (λ (s : State K). Agrees form filters (with_replica w r s) (record m { is_retired = at m.is_retired r true })) (sym step) (retire_agrees r),
+      )
+  retires r reply new none step = absurd step

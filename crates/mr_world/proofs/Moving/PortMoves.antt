@@ -1,33 +1,18 @@
 -- Offer, Take and Close.
-use Rattle.std.proofs.Common.{◌≡◌, refl, sym, ap, subst, ◌∙◌, ℕ, ◌+◌, true, false, List, [], ◌∷◌, ◌++◌, length, append_assoc, append-nil, inl, inr, if◌then◌else◌, Some}
-use Rattle.std.specs.List.{slice_get}
-use Rattle.std.proofs.lemmas.List.{length_push}
-use Rattle.mr_forms.specs.Known.{Form}
-use Rattle.mr_feed.specs.Entry.{told, told_entry}
-use Rattle.mr_feed.specs.declared.entry.Entry.{Entry}
-use Rattle.mr_filter.specs.Filter.{ClauseParts}
-use Rattle.mr_mail.specs.Mail.{MailCard}
-use Rattle.mr_model.specs.Changes.{entries_of, is_closed, with_mark}
+use Rattle.std.proofs.Common.{◌≡◌, refl, sym, ap, subst, ◌∙◌, ℕ, ◌+◌, true, false, List, [], ◌∷◌, ◌++◌, length, append_assoc, append-nil, inl, inr, if◌then◌else◌, Some, arith}
+use Rattle.mr_world.proofs.Names.Lists.{length_push, slice_get}
+use Rattle.mr_world.proofs.Names.Model.{IsOffer, IsTake, Mark, Subscriber, at_two, entries_of, is_closed, subscriber_number, with_mark}
+use Rattle.mr_world.proofs.Names.Laws.{Inv, cases, two_elim, two_elim₂}
+use Rattle.mr_world.proofs.Names.Mails.{ClauseParts, Entry, Form, MailCard, told, told_entry}
+use Rattle.mr_world.proofs.Names.World.{Agrees, Answer, MailMoment, Port, PortAgrees, World, setting_of, with_close, with_offered, with_waiting}
 use Rattle.mr_model.specs.History as model
-use Rattle.mr_model.specs.History.{subscriber_number}
-use Rattle.mr_model.specs.Moment.{Mark, Mark.CloseMark, Mark.Moved, at_two}
-use Rattle.mr_model.specs.Rules.{IsOffer, IsTake}
-use Rattle.mr_model.proofs.Basics.{cases}
-use Rattle.mr_model.proofs.Core.{Inv}
+use Rattle.mr_model.specs.Moment.{Mark.CloseMark, Mark.Moved}
 use Rattle.mr_model.proofs.Ports.{entries-append}
-use Rattle.mr_model.proofs.Sets.{two_elim, two_elim₂}
-use Rattle.mr_world.specs.Agrees.{Agrees}
-use Rattle.mr_world.specs.Ports.{with_close, with_offered, with_waiting, Port}
-use Rattle.mr_world.specs.Seen.{MailMoment, setting_of}
-use Rattle.mr_world.specs.Shared.{PortAgrees}
-use Rattle.mr_world.specs.World.{World}
-use Rattle.mr_world.specs.declared.answer.Answer.{Answer}
 use Rattle.mr_world.specs.declared.answer.Answer.TheVariants as answer
 use Rattle.mr_model.specs.declared.event.Act.TheVariants as act
-use Rattle.mr_model.specs.declared.event.Subscriber.{Subscriber}
 use Rattle.mr_world.specs.declared.task.Task.TheVariants as task
+use Rattle.mr_world.proofs.Groundwork.Tools.{two_self}
 use Rattle.mr_world.proofs.Moving.ByParts.{DoesAt, with_port}
-use Rattle.mr_world.proofs.Groundwork.AtPlaces.{two_self}
 use Rattle.mr_world.proofs.Agreement.Feeds.{told_append}
 use Rattle.mr_world.proofs.Moving.Refines.{Refines, stays}
 
@@ -56,17 +41,7 @@ module _ {K : Type 0} (form : Form K) (filters : ℕ → List ClauseParts) (w : 
   -- the ports become others
   with_ports : (offered : ℕ → ℕ → List (Mark MailCard)) (taken : ℕ → ℕ → List (model.Entry MailCard)) (ports : ℕ → ℕ → Port) → ((r u : ℕ) → PortAgrees (offered r u) (taken r u) (ports r u)) →
       Agrees form filters (record w { ports = ports }) (record m { offered = offered; taken = taken })
-  with_ports offered taken ports new = record {
-    asks = a.asks;
-    given = a.given;
-    records = a.records;
-    vouched = a.vouched;
-    receipts = a.receipts;
-    holdings = a.holdings;
-    sessions = a.sessions;
-    streams = a.streams;
-    ports = new;
-  }
+  with_ports offered taken ports new = grind arith
 
   -- a port that stays as it was
   port_stays : (r u : ℕ) (w' : World K) (new : Port) → w' ≡ with_port w r u new → new ≡ w.ports r u → Agrees form filters w' m
@@ -105,13 +80,7 @@ module _ {K : Type 0} (form : Form K) (filters : ℕ → List ClauseParts) (w : 
 
     take_agrees : (e : Entry) (rest : List Entry) → p.view.waiting ≡ e ∷ rest →
         IsTake m r u (told_entry e) × Agrees form filters (with_port w r u (with_waiting p rest)) (record m { taken = at_two m.taken r u (m.taken r u ++ told_entry e ∷ []) })
-    take_agrees e rest waits =
-        let next : entries_of offered_before ≡ m.taken r u ++ told_entry e ∷ told rest = old.waits ∙ ap (λ (l : List Entry). m.taken r u ++ told l) waits in (
-          record { rest = told rest; next = next },
-          with_ports m.offered (at_two m.taken r u (m.taken r u ++ told_entry e ∷ [])) (at_two w.ports r u (with_waiting p rest))
-              (λ q t. two_elim₂ (λ (z y : ℕ) (ts : List (model.Entry MailCard)) (pp : Port). PortAgrees (m.offered z y) ts pp) m.taken w.ports r u (m.taken r u ++ told_entry e ∷ []) (with_waiting p rest) q t
-              (record { count = old.count; waits = next ∙ sym (append_assoc (m.taken r u) (told_entry e ∷ []) (told rest)); closes = old.closes }) (λ other. a.ports q t)),
-        )
+    take_agrees e rest waits = grind (arith, entries_of, told_entry, told, old, with_ports, at_two, with_waiting, two_elim₂, append_assoc)
 
     close_agrees : Agrees form filters (with_port w r u (with_close p)) (if is_closed (m.offered r u) then m else with_mark m r u CloseMark)
     close_agrees = elim (cases (is_closed (m.offered r u))) [
@@ -134,7 +103,7 @@ module _ {K : Type 0} (form : Form K) (filters : ℕ → List ClauseParts) (w : 
   offers r u answer.Closed w' move = stays form filters w m r (act.Offer u) w' (port_stays r (subscriber_number u) w' move.0 move.2 move.1.1)
   offers r u answer.NothingNew w' move = stays form filters w m r (act.Offer u) w' (port_stays r (subscriber_number u) w' move.0 move.2 move.1.2)
   offers r u answer.Full w' move = stays form filters w m r (act.Offer u) w' (port_stays r (subscriber_number u) w' move.0 move.2 move.1.3)
-  offers r u reply w' move = absurd move.1
+  offers r u reply w' move = grind (arith, subscriber_number, with_port, offer_agrees, stays, port_stays)
 
   pub takes : (r : ℕ) (u : Subscriber) (reply : Answer) (w' : World K) → DoesAt form w r (task.Take u) reply w' → Refines form filters w m r (act.Take u) reply w'
   takes r u (answer.TookEntry e) w' move =
@@ -143,10 +112,10 @@ module _ {K : Type 0} (form : Form K) (filters : ℕ → List ClauseParts) (w : 
       subst (Refines form filters w m r (act.Take u) (answer.TookEntry e)) (sym (move.2 ∙ ap (λ (z : Port). with_port w r n z) may.2)) (take_agrees r n e may.0 may.1)
   takes r u answer.Closed w' move = stays form filters w m r (act.Take u) w' (port_stays r (subscriber_number u) w' move.0 move.2 move.1.2)
   takes r u answer.Empty w' move = stays form filters w m r (act.Take u) w' (port_stays r (subscriber_number u) w' move.0 move.2 move.1.2)
-  takes r u reply w' move = absurd move.1
+  takes r u reply w' move = grind (arith, subscriber_number, with_port, take_agrees, stays, port_stays)
 
   pub closes : (r : ℕ) (u : Subscriber) (reply : Answer) (w' : World K) → DoesAt form w r (task.Close u) reply w' → Refines form filters w m r (act.Close u) reply w'
   closes r u answer.Done w' move =
       let n = subscriber_number u in
       subst (Refines form filters w m r (act.Close u) answer.Done) (sym (move.2 ∙ ap (λ (z : Port). with_port w r n z) move.1)) (tt, close_agrees r n)
-  closes r u reply w' move = absurd move.1
+  closes r u reply w' move = grind (arith, subscriber_number, with_port, close_agrees)

@@ -1,15 +1,9 @@
 -- Loops that go on by one: members of specifications, and events that are answered.
 use Rattle.std.proofs.Common.{◌≡◌, ℕ, ◌+◌, List, [], ◌∷◌, ◌++◌, length, Err, sym, ap, ◌∙◌, arith, append_assoc, append-nil, length-append}
-use Rattle.std.specs.List.{AllZip}
-use Rattle.mr_forms.specs.Known.{Form}
-use Rattle.mr_mail.specs.Mail.{Mail}
-use Rattle.mr_world.specs.Kept.{MemberView, WorldView}
-use Rattle.mr_world.specs.Made.{IsMadeOf}
-use Rattle.mr_world.specs.Run.{Happens, Leads, Meets, StopsAt}
-use Rattle.mr_world.specs.declared.answer.Answer.{Answer}
-use Rattle.mr_model.specs.declared.event.Event.{Event}
-use Rattle.mr_world.specs.declared.fault.WorldFault.{WorldFault}
-use Rattle.mr_world.specs.declared.spec.Spec.{Spec}
+use Rattle.mr_world.proofs.Names.Lists.{AllZip}
+use Rattle.mr_world.proofs.Names.Model.{Event}
+use Rattle.mr_world.proofs.Names.Mails.{Form, Mail}
+use Rattle.mr_world.proofs.Names.World.{Answer, Happens, IsMadeOf, Leads, Meets, MemberView, Spec, StopsAt, WorldFault, WorldView}
 use Rattle.mr_world.proofs.Running.Happening.{leads_more}
 
 zip_more : {A B : Type 0} (R : A → B → Type 0) (xs : List A) (ys : List B) (x : A) (y : B) → AllZip R xs ys → R x y → AllZip R (xs ++ x ∷ []) (ys ++ y ∷ [])
@@ -28,10 +22,7 @@ module _ {K : Type 0} (form : Form K) where
   members_begin all left e = record { whole = sym e; each = tt }
 
   pub members_more : (all yielded left next : List Spec) (members : List (MemberView K)) (spec : Spec) (m : MemberView K) → MembersSoFar all yielded left members → left ≡ spec ∷ next → IsMadeOf form spec m → MembersSoFar all (yielded ++ spec ∷ []) next (members ++ m ∷ [])
-  members_more all yielded left next members spec m so taken is = record {
-    whole = so.whole ∙ (ap (λ rest. yielded ++ rest) taken ∙ sym (append_assoc yielded (spec ∷ []) next));
-    each = zip_more (IsMadeOf form) yielded members spec m so.each is;
-  }
+  members_more all yielded left next members spec m so taken is = grind (arith, append_assoc, zip_more)
 
   pub members_end : (all yielded left : List Spec) (members : List (MemberView K)) → MembersSoFar all yielded left members → left ≡ [] → AllZip (IsMadeOf form) all members
   members_end all yielded left members so none = rw (so.whole, none, append-nil yielded) so.each
@@ -54,12 +45,4 @@ module _ {K : Type 0} (form : Form K) where
   -- the event at hand was not answered
   pub events_stopped : (w now new : WorldView K) (all yielded left next : List (Event Mail)) (at : ℕ) (e : Event Mail) (fault : WorldFault)
       → EventsSoFar w all yielded left at now → left ≡ e ∷ next → Meets form now e (Err fault) new → StopsAt form w all at fault new
-  events_stopped w now new all yielded left next at e fault so taken h = rw h.1 (record {
-    before = yielded;
-    event = e;
-    left = next;
-    all = so.whole ∙ ap (λ rest. yielded ++ rest) taken;
-    place = sym so.count;
-    leads = so.leads;
-    faulty = h.0;
-  })
+  events_stopped w now new all yielded left next at e fault so taken h = grind arith

@@ -1,15 +1,11 @@
 -- A member stands at its place in the list, and one that goes back there is another of its id alone.
-use Rattle.std.proofs.Common.{◌≡◌, ◌≢◌, ◌<◌, ◌≤◌, ◌==◌, ◌&&◌, ℕ, zero, suc, Bool, true, false, cond, List, [], ◌∷◌, length, get_or, arith, Option, Some, None, refl, sym, ap, subst, ◌∙◌, eqb-true, eq-eqb}
-use Rattle.std.specs.Prelude.{nat_lt, slice_set, slice_get}
-use Rattle.std.specs.List.{position, position_or_len}
-use Rattle.std.proofs.lemmas.Bool.{ltb-true, ltb-false}
-use Rattle.std.proofs.lemmas.List.{set-get_or, map-set}
+use Rattle.std.proofs.Common.{◌≡◌, ◌≢◌, ◌<◌, ◌≤◌, ◌==◌, ℕ, zero, suc, Bool, true, false, cond, List, [], ◌∷◌, length, get_or, arith, Option, Some, None, refl, sym, ap, subst, ◌∙◌, eqb-true, eq-eqb}
+use Rattle.mr_world.proofs.Names.Lists.{ltb-false, ltb-true, map-set, nat_lt, option_map, position, position_or_len, set-get_or, slice_set}
+use Rattle.std.specs.Prelude.{slice_get}
 use Rattle.std.proofs.lemmas.List.Folds.{find_at, find-set, find_past}
 use Rattle.std.proofs.lemmas.List.Sums.{passes_at_first}
 use Rattle.std.proofs.lemmas.Option.{slice_get-get_or, get_or_from_slice_get, cond_some, slice_get_past}
-use Rattle.std.specs.Option.{option_map}
-use Rattle.mr_world.specs.Kept.{MemberView, member_at, replica_at}
-use Rattle.mr_world.specs.Run.{Becomes, ids_of}
+use Rattle.mr_world.proofs.Names.World.{Becomes, MemberView, ids_of, member_at, replica_at}
 use Rattle.mr_world.proofs.Groundwork.Tools.{differs}
 
 none_here : {A : Type 0} (xs : List A) (i : ℕ) → slice_get xs i ≡ None → i < length xs → ⊥
@@ -30,28 +26,11 @@ module _ {K : Type 0} where
     pub id : m.replica.id ≡ r
 
   pub place_found : (ms : List (MemberView K)) (r place : ℕ) (m : MemberView K) → position (λ m. m.replica.id == r) ms ≡ Some place → m ≡ get_or ms place m → IsPlace ms r place m
-  place_found ms r place m at there =
-      let first = position_or_len (has_id r) ms in
-      let parts = cond_some (nat_lt first (length ms)) first place at in
-      let within : first < length ms = ltb-true _ _ parts.0 in
-      let here : get_or ms first m ≡ m = ap (λ (i : ℕ). get_or ms i m) parts.1 ∙ sym there in
-      record {
-        found = find_at (has_id r) ms ∙ slice_get-get_or ms first m within ∙ ap Some here;
-        first = sym parts.1;
-        within = subst (λ (i : ℕ). i < length ms) parts.1 within;
-        there = there;
-        id = eqb-true m.replica.id r (ap (has_id r) (sym here) ∙ passes_at_first (has_id r) ms m within);
-      }
+  place_found ms r place m at there = grind (arith, position_or_len, cond_some, ltb-true, find_at, slice_get-get_or, eqb-true, passes_at_first)
 
   -- no place, no member
   pub not_found : (ms : List (MemberView K)) (r : ℕ) → position (λ m. m.replica.id == r) ms ≡ None → member_at ms r ≡ None
-  not_found ms r h =
-      let first = position_or_len (has_id r) ms in
-      find_at (has_id r) ms ∙ slice_get_past ms first (past (nat_lt first (length ms)) refl h)
-    where
-      past : (b : Bool) → nat_lt (position_or_len (has_id r) ms) (length ms) ≡ b → cond b (Some (position_or_len (has_id r) ms)) None ≡ None → length ms ≤ position_or_len (has_id r) ms
-      past true e k = absurd (cc k)
-      past false e k = ltb-false _ _ e
+  not_found ms r h = grind (arith, position_or_len, find_at, slice_get_past, ltb-false)
 
   -- ---- another goes back to the place
 
@@ -59,9 +38,7 @@ module _ {K : Type 0} where
   found_changed ms r place m new p h = find-set (has_id r) ms place new p.first p.within (eq-eqb new.replica.id r h)
 
   found_other : (ms : List (MemberView K)) (r q place : ℕ) (m new : MemberView K) → IsPlace ms r place m → new.replica.id ≡ r → q ≢ r → member_at (slice_set ms place new) q ≡ member_at ms q
-  found_other ms r q place m new p h ne =
-      let not_q : (n : MemberView K) → n.replica.id ≡ r → has_id q n ≡ false = λ n e. differs n.replica.id q (λ k. ne (sym k ∙ e)) in
-      find_past (has_id q) ms place new m (not_q (get_or ms place m) (ap (λ (n : MemberView K). n.replica.id) (sym p.there) ∙ p.id)) (not_q new h)
+  found_other ms r q place m new p h ne = grind (arith, differs, find_past)
 
   -- what goes back as it was changes nothing
   pub goes_back : (ms : List (MemberView K)) (r place : ℕ) (m : MemberView K) → IsPlace ms r place m → slice_set ms place m ≡ ms
@@ -75,18 +52,11 @@ module _ {K : Type 0} where
 
   -- the member of the id has become another
   pub becomes : (ms : List (MemberView K)) (r place : ℕ) (m new : MemberView K) → IsPlace ms r place m → new.replica.id ≡ m.replica.id → Becomes r m new ms (slice_set ms place new)
-  becomes ms r place m new p h = record {
-    was = p.found;
-    is = found_changed ms r place m new p (h ∙ p.id);
-    others = λ q ne. found_other ms r q place m new p (h ∙ p.id) ne;
-    ids = ids_stay ms r place m new p h;
-  }
+  becomes ms r place m new p h = grind (arith, found_changed, found_other, ids_stay)
 
   -- a place that was found is one of them
   pub place_within : (ms : List (MemberView K)) (r place : ℕ) → position (λ m. m.replica.id == r) ms ≡ Some place → place < length ms
-  place_within ms r place at =
-      let parts = cond_some (nat_lt (position_or_len (has_id r) ms) (length ms)) (position_or_len (has_id r) ms) place at in
-      subst (λ (i : ℕ). i < length ms) parts.1 (ltb-true _ _ parts.0)
+  place_within ms r place at = grind (arith, cond_some, position_or_len, ltb-true)
 
   -- there is a member at the place
   pub place_there : (ms : List (MemberView K)) (r place : ℕ) → position (λ m. m.replica.id == r) ms ≡ Some place → (m : MemberView K) × IsPlace ms r place m

@@ -1,32 +1,22 @@
 -- Specifications that are not refused.
 use Rattle.std.proofs.Common.{◌≡◌, sym, subst, ℕ, ◌≤◌, ◌==◌, nat_lt, Bool, true, false, ◌||◌, List, ◌∷◌, ◌++◌, inl, refl, if◌then◌else◌, arith, Some, None}
-use Rattle.std.specs.List.{list_any}
-use Rattle.std.proofs.lemmas.Bool.{both_ways, eqb-false, ltb-false}
+use Rattle.mr_world.proofs.Names.Lists.{both_ways, eqb-false, list_any, ltb-false}
+use Rattle.mr_world.proofs.Names.Laws.{any_intro, append_right, false_from}
+use Rattle.mr_world.proofs.Names.World.{Spec, has_bad_capacity, has_bad_limit, has_same_id, spec_refusal}
 use Rattle.mr_feed.specs.declared.port.TheConstants.{MAX_CAPACITY}
 use Rattle.mr_replica.specs.declared.replica.TheConstants.{MAX_EVENTS}
-use Rattle.mr_model.proofs.Basics.{any_intro, append_right, false_from}
-use Rattle.mr_world.specs.Made.{has_bad_capacity, has_bad_limit, has_same_id, spec_refusal}
 use Rattle.mr_world.specs.declared.fault.SpecFault.TheVariants.{BadLimit, NoCapacity, SameReplica}
-use Rattle.mr_world.specs.declared.spec.Spec.{Spec}
 
 -- none of the cases holds
 none_bad : (same limit capacity : Bool) → (if same then Some SameReplica else (if limit then Some BadLimit else (if capacity then Some NoCapacity else None))) ≡ None → (limit ≡ false) × (capacity ≡ false)
-none_bad true limit capacity e = absurd (cc)
-none_bad false true capacity e = absurd (cc)
-none_bad false false true e = absurd (cc)
-none_bad false false false e = (refl, refl)
+none_bad same limit capacity e = grind arith
 
 neither : (a b : Bool) → (a || b) ≡ false → (a ≡ false) × (b ≡ false)
-neither true b e = absurd (cc)
-neither false b e = (refl, e)
+neither a b e = grind arith
 
 -- a number that is neither 0 nor past the limit
 in_range : (n most : ℕ) → ((n == 0) || nat_lt most n) ≡ false → (1 ≤ n) × (n ≤ most)
-in_range n most e =
-    let no = neither (n == 0) (nat_lt most n) e in
-    let some : ¬ (n ≡ 0) = eqb-false n 0 no.0 in
-    let few = ltb-false most n no.1 in
-    (omega (arith, some), omega (arith, few))
+in_range n most e = grind (arith, neither, eqb-false, ltb-false)
 
 module _ (all before after : List Spec) (spec : Spec) (whole : all ≡ before ++ spec ∷ after) (fine : spec_refusal all ≡ None) where
   not_so : (p : Spec → Bool) → list_any p all ≡ false → p spec ≡ false

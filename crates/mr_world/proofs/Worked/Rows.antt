@@ -1,23 +1,14 @@
 -- Worked rows of the definitions, computed.
-use Rattle.std.proofs.Common.{◌≡◌, arith, ap, refl, true, false, ℕ, List, [], ◌∷◌, Some, None}
-use Rattle.mr_version.specs.Name.{Name}
-use Rattle.mr_feed.specs.Entry.{entry_version}
-use Rattle.mr_feed.specs.declared.entry.Entry.{Entry}
+use Rattle.std.proofs.Common.{◌≡◌, arith, ap, refl, true, false, ℕ, List, [], ◌∷◌, map, Some, None}
+use Rattle.mr_world.proofs.Names.Wire.{Body, End, Full, Held, Know, Partial, Piece, Sent, Start}
+use Rattle.mr_world.proofs.Names.Replica.{some_same}
+use Rattle.mr_world.proofs.Names.Sessions.{after_record, new_session}
+use Rattle.mr_world.proofs.Names.Mails.{Entry, Name, entry_version}
+use Rattle.mr_world.proofs.Names.World.{Closed, Closes, Done, Empty, Follows, Full as PortFull, NothingNew, Offered, Offers, Port, Takes, TookEntry}
+use Rattle.mr_world.proofs.Names.World.{Truncated, new_port, record_len, seen_answer, seen_body, seen_record, shown, told_pairs, with_close}
+use Rattle.mr_world.proofs.Names.World.{with_offered, with_waiting}
 use Rattle.mr_feed.specs.declared.entry.Entry.TheVariants.{Dropped}
 use Rattle.mr_model.specs.History as model
-use Rattle.mr_session.specs.Session.{after_record, new_session}
-use Rattle.mr_wire.specs.Frames.{Sent}
-use Rattle.mr_wire.specs.Values.{Piece}
-use Rattle.mr_wire.specs.declared.frame.Body.{Body}
-use Rattle.mr_wire.specs.declared.frame.Body.TheVariants.{Start, Held, Know, End}
-use Rattle.mr_wire.specs.declared.frame.Mode.TheVariants.{Full, Partial}
-use Rattle.mr_world.specs.Ports.{Closes, Offers, Takes, with_close, with_offered, with_waiting, Port, new_port}
-use Rattle.mr_world.specs.Asked.{record_len}
-use Rattle.mr_world.specs.Seen.{seen_answer, seen_body, seen_record}
-use Rattle.mr_world.specs.Sessions.{Follows}
-use Rattle.mr_world.specs.Told.{shown, told_pairs}
-use Rattle.mr_world.specs.declared.answer.Answer.TheVariants.{Truncated, Offered, NothingNew, Full as PortFull, TookEntry, Empty, Closed, Done}
-use Rattle.mr_world.proofs.Groundwork.Tools.{some_path}
 
 abbrev one : Name
 one = record { author = 0; counter = 1 }
@@ -47,10 +38,7 @@ offers_first : Offers feed (new_port 1) (Offered first) holding_first
 offers_first = (refl, refl, (λ (full : 0 ≡ 1). absurd (omega arith)), refl)
 
 not_second : (p : Port) → ¬ Offers feed (new_port 1) (Offered second) p
-not_second p offers = apart 1 (ap (λ (e : Entry). (entry_version e).counter) (some_path first second offers.1)) refl
-  where
-    apart : (a : ℕ) → a ≡ 2 → a ≡ 1 → ⊥
-    apart a e f = omega arith
+not_second p offers = grind (arith, entry_version, some_same)
 
 not_at_end : (p : Port) → ¬ Offers feed (new_port 1) NothingNew p
 not_at_end p offers = let none : Some first ≡ None = offers.1 in absurd (cc)
@@ -83,17 +71,9 @@ closed_twice = refl
 
 -- ---- what a history sees
 
-truncated_row : seen_answer [] Truncated ≡ model.Refused
-truncated_row = refl
-
-closed_seen : seen_answer [] Closed ≡ model.Refused
-closed_seen = refl
-
-done_seen : seen_answer [] Done ≡ model.Done
-done_seen = refl
-
-taken_seen : seen_answer [] (TookEntry first) ≡ model.TookEntry (model.Dropped one one)
-taken_seen = refl
+-- a frame that is cut and a closed port are refusals, a close is done, and an entry that is taken is told
+answers_seen : map (seen_answer []) (Truncated ∷ Closed ∷ Done ∷ TookEntry first ∷ []) ≡ model.Refused ∷ model.Refused ∷ model.Done ∷ model.TookEntry (model.Dropped one one) ∷ []
+answers_seen = refl
 
 -- ---- records of one stream: a Start, a fragment of what is known, and the end
 
@@ -101,11 +81,8 @@ abbrev sent : (index : ℕ) → Body → Sent
 sent index body = record { header = record { source = 0; stream = 1; target = 1; session = 1; index = index }; body = body }
 
 -- a frame of a Start has one byte more than one of an End: its mode
-start_len : record_len (sent 0 (Start Full)) ≡ 31
-start_len = refl
-
-end_len : record_len (sent 4 End) ≡ 30
-end_len = refl
+lengths : record_len (sent 0 (Start Full)) ∷ record_len (sent 4 End) ∷ [] ≡ 31 ∷ 30 ∷ []
+lengths = refl
 
 start_seen : seen_body (Start Partial) ≡ model.Start false
 start_seen = refl
@@ -117,24 +94,12 @@ known_one = record { items = Some (one ∷ []); vector = record { author = 0; co
 abbrev given : List Sent
 given = sent 2 End ∷ sent 1 (Know known_one) ∷ sent 0 (Start Full) ∷ []
 
--- the first two records tell it, the first one alone does not, nor does another stream
-told_row : told_pairs given 0 1 2 one one ≡ true
+-- the first two records tell it of one, the first one alone does not, nor does another stream, and none tells two
+told_row : told_pairs given 0 1 2 one one ∷ told_pairs given 0 1 1 one one ∷ told_pairs given 0 2 2 one one ∷ told_pairs given 0 1 2 one two ∷ [] ≡ true ∷ false ∷ false ∷ false ∷ []
 told_row = refl
 
-not_told_before : told_pairs given 0 1 1 one one ≡ false
-not_told_before = refl
-
-other_stream : told_pairs given 0 2 2 one one ≡ false
-other_stream = refl
-
-not_told : told_pairs given 0 1 2 one two ≡ false
-not_told = refl
-
--- a fragment is not shown as held
-not_shown : shown given 0 1 2 one ≡ false
-not_shown = refl
-
-shown_row : shown (sent 1 (Held known_one.vector) ∷ given) 0 1 2 one ≡ true
+-- a fragment is not shown as held, and a vector of Held is
+shown_row : shown given 0 1 2 one ∷ shown (sent 1 (Held known_one.vector) ∷ given) 0 1 2 one ∷ [] ≡ false ∷ true ∷ []
 shown_row = refl
 
 -- a session that took a Start is bound to its stream, and takes index 1 next

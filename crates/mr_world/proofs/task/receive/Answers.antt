@@ -1,28 +1,10 @@
-use Rattle.std.proofs.Common.{ap, sym, ◌∙◌, Option, Some, Err}
-use Rattle.std.specs.Option.{option_map}
-use Rattle.std.proofs.lemmas.Result.{err_from_is_err_and}
-use Rattle.mr_replica.specs.declared.event.Event.TheVariants as replica
-use Rattle.mr_wire.specs.Frames.{Sent}
-use Rattle.mr_wire.specs.declared.frame.Frame.{Frame}
-use Rattle.mr_wire.specs.declared.frame.Frame.TheVariants as frame
 use Rattle.mr_world.specs.Asked.{receiving}
-use Rattle.mr_world.specs.Pool.{IsRecordFrame}
-use Rattle.mr_world.specs.declared.task.Task.TheVariants as task
-use Rattle.mr_world.proofs.Running.Tasks.{holds_of, is_there, no_record, record_at, record_found}
+use Rattle.mr_world.proofs.Running.Pools.{records}
+use Rattle.mr_world.proofs.Running.Tasks.{found, lost}
 use Rattle.mr_world.proofs.task.receive.Goals as goal
 
-pub frame_of-requires : goal.frame_of-requires
-frame_of-requires c = let x = holds_of IsRecordFrame c.args.records.now.frames c.args.number c.in-Some.bytes.now c.requires c.in-Some.ensures in (frame.Record x.0, x.1)
+pub returns : goal.returns
+returns c = let x = found records c.args.records.now.frames c.args.number c.requires _ c.in_ok-frame.ensures in let same = x.2 in rw x.1 (cc)
 
-pub returns-in_err-frame_of-in-Some : goal.returns-in_err-frame_of-in-Some
-returns-in_err-frame_of-in-Some c =
-    let p = err_from_is_err_and c.from_residual.result c.from_residual.ensures.1 in
-    rw (p.1 ∙ ap Err p.2) (is_there receiving _ _ (record_at c.args.records.now.frames c.args.number c.in-Some.bytes.now c.requires c.in-Some.ensures).1)
-
-pub returns-in_ok-frame_of-in-Some : goal.returns-in_ok-frame_of-in-Some
-returns-in_ok-frame_of-in-Some c =
-    let x = record_found c.args.records.now.frames c.args.number c.in-Some.bytes.now _ c.requires c.in-Some.ensures c.in_ok-frame_of-in-Some.ensures in
-    ap (λ (o : Option Sent). option_map receiving o) x.1 ∙ ap (λ (f : Frame). Some (task.Step (replica.Receive f))) (sym x.2)
-
-pub returns-in-None : goal.returns-in-None
-returns-in-None c = ap (λ (o : Option Sent). option_map receiving o) (no_record c.args.records.now.frames c.args.number c.requires c.in-None.ensures)
+pub returns-in_err-frame : goal.returns-in_err-frame
+returns-in_err-frame c = lost records c.args.records.now.frames c.args.number c.requires receiving _ c.from_residual.result c.from_residual.ensures.1 c.in_err-frame.ensures
