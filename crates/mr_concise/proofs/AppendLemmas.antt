@@ -13,7 +13,7 @@ use Rattle.mr_concise.specs.inner.Edges.{is_on}
 use Rattle.mr_concise.proofs.EdgeLemmas.{IsRising-end}
 use Rattle.mr_concise.specs.declared.column.Hole.{Hole}
 use Rattle.mr_concise.specs.declared.column.TheConstants.{MAX_HOLES}
-use Rattle.mr_concise.specs.Column.{Extent, hole_edges, edges, column_has, gap, IsColumn}
+use Rattle.mr_concise.specs.Column.{Extent, edges, column_has, gap, IsColumn}
 use Rattle.mr_concise.specs.declared.vector.AuthorColumn.{AuthorColumn}
 use Rattle.mr_concise.specs.Vector.{column_of, vector_has, IsVectorFrom, with_column}
 use Rattle.mr_concise.proofs.ColumnLemmas.{column_has-edges}
@@ -42,11 +42,7 @@ bool-run c first last x o = grind (arith, nat_tests)
 -- a higher bound
 raised : (u v : ℕ) (holes : List Hole) (low : ℕ) → u ≤ v → IsRising low (to_end holes (u + 1)) → IsRising low (to_end holes (v + 1)) × ((c : ℕ) → is_on true (to_end holes (v + 1)) c ≡ ((nat_lt u c && nat_le c v) || is_on true (to_end holes (u + 1)) c))
 raised u v [] low h r = ((let q = r.0 in omega arith, tt), λ c. bool-end c u v h)
-raised u v (hole ∷ holes) low h r =
-    let rest = raised u v holes (hole.last + 1) h r.1.1 in
-    let end : hole.last + 1 < u + 1 = IsRising-end (hole.last + 1) (hole_edges holes) (u + 1) r.1.1 in
-    let order : hole.first ≤ hole.last = let q = r.1.0 in omega arith in
-    ((r.0, (r.1.0, rest.0)), λ c. bool-hole c hole.first hole.last u v (is_on true (to_end holes (u + 1)) c) (is_on true (to_end holes (v + 1)) c) order (omega arith) (rest.1 c))
+raised u v (hole ∷ holes) low h r = grind (arith, raised u v holes, IsRising-end, bool-hole, to_end)
 
 -- the column with the run has the run and what it had
 pub appended-means : (column : Extent) (first last : ℕ) → IsColumn column → column.upto < first → first ≤ last → IsRising 0 (edges (appended column first last)) × ((c : ℕ) → column_has (appended column first last) c ≡ ((nat_le first c && nat_le c last) || column_has column c))

@@ -34,18 +34,11 @@ few-from_one a set q v same few = few-of_authors set (λ p. elim (cases_eq q p) 
 
 -- with the author's column of the set in its place the columns have the set
 placed-means : (a : List AuthorColumn) (set : Versions) (q : ℕ) (column : Extent) → IsSameElsewhere a set q → IsColumnOf (of_author set q) column → IsSame (vector_has (with_column (record { author = q; column = column }) a)) set
-placed-means a set q column same is v = rw (column_of-with_column (record { author = q; column = column }) a v.author) (go (cases_eq q v.author))
-  where
-    go : (q ≡ v.author) ⊎ (q ≡ v.author → ⊥) → column_has (cond (q == v.author) column (column_of a v.author)) v.counter ≡ set v
-    go (inl e) = rw (eq-eqb q v.author e) (rw e at (is.means v.counter))
-    go (inr n) = rw (ne_eqb q v.author n) (sym (same v.author v.counter n))
+placed-means a set q column same is v = grind (arith, column_of-with_column, cases_eq, eq-eqb, ne_eqb)
 
 -- a column of something is not empty
 some-upto : (has : ℕ → Bool) (column : Extent) (c : ℕ) → IsColumnOf has column → 1 ≤ c → has c ≡ true → 1 ≤ column.upto
-some-upto has column c is from there = elim (cases_lt column.upto c) [
-  | inl l ↦ absurd (true≢false (sym there ∙ sym (is.means c) ∙ column_has-above column c l))
-  | inr g ↦ omega arith
-]
+some-upto has column c is from there = grind (arith, cases_lt, true≢false, column_has-above)
 
 -- THE RUN: what a run changes
 
@@ -81,8 +74,7 @@ both_columns-of : (a b : List AuthorColumn) (k : ℕ) (x : AuthorColumn) → IsV
 both_columns-of a b k x vb l at = let h : (c : ℕ) → of_author (both (in_column x.author (column_of a x.author)) (in_column x.author x.column)) x.author c ≡ of_author (both (vector_has a) (vector_has b)) x.author c = λ c. rw (eq-eqb x.author x.author refl) (ap (λ (e : Extent). column_has (column_of a x.author) c || column_has e c) (sym (column_of-item 0 b k x vb l at))) in λ i c. h c i
 
 or-false : (s : Bool) → (s || false) ≡ s
-or-false true = refl
-or-false false = refl
+or-false s = grind arith
 
 nothing-more : (a : List AuthorColumn) (q c : ℕ) → (column_has (column_of a q) c || column_has empty_column c) ≡ column_has (column_of a q) c
 nothing-more a q c = rw (column_has-empty c) (or-false (column_has (column_of a q) c))

@@ -46,16 +46,7 @@ edges-inj u v [] (h ∷ []) e = let q : [] ≡ ((h.last + 1) ∷ ((v + 1) ∷ []
 edges-inj u v [] (h ∷ (k ∷ hs)) e = let q : [] ≡ ((h.last + 1) ∷ (k.first ∷ ((k.last + 1) ∷ (hole_edges hs ++ (v + 1) ∷ [])))) = cc in cc
 edges-inj u v (g ∷ []) [] e = let q : ((g.last + 1) ∷ ((u + 1) ∷ [])) ≡ [] = cc in cc
 edges-inj u v (g ∷ (k ∷ gs)) [] e = let q : ((g.last + 1) ∷ (k.first ∷ ((k.last + 1) ∷ (hole_edges gs ++ (u + 1) ∷ [])))) ≡ [] = cc in cc
-edges-inj u v (g ∷ gs) (h ∷ hs) e =
-    let f : g.first ≡ h.first = cc in
-    let l : g.last + 1 ≡ h.last + 1 = cc in
-    let l' : g.last ≡ h.last = omega arith in
-    let t : (hole_edges gs ++ (u + 1) ∷ []) ≡ (hole_edges hs ++ (v + 1) ∷ []) = cc in
-    let rest = edges-inj u v gs hs t in
-    (rest.0, same_holes g h gs hs f l' rest.1)
-  where
-    same_holes : (g h : Hole) (gs hs : List Hole) → g.first ≡ h.first → g.last ≡ h.last → gs ≡ hs → (g ∷ gs) ≡ (h ∷ hs)
-    same_holes g h gs hs a b c = let k : g ≡ h = ap (λ (x : ℕ). record { first = x; last = g.last }) a ∙ ap (λ (y : ℕ). record { first = h.first; last = y }) b in cc
+edges-inj u v (g ∷ gs) (h ∷ hs) e = grind (arith, edges-inj u v gs hs)
 
 -- ONE FORM: columns that have the same counters are the same
 pub column_unique : (a b : Extent) → IsRising 0 (edges a) → IsRising 0 (edges b) → ((c : ℕ) → column_has a c ≡ column_has b c) → a ≡ b

@@ -1,11 +1,11 @@
-use Rattle.std.proofs.Common.{inl, inr, ◌⊎◌, ◌≡◌, ◌<◌, ◌≤◌, ◌+◌, ◌==◌, ◌&&◌, ℕ, Bool, true, false, nat_le, cond, refl, ap, sym, ◌∙◌, arith, List, [], ◌∷◌, ◌++◌, length, get_or, take, All, suc, zero, add-one}
+use Rattle.std.proofs.Common.{inl, inr, ◌⊎◌, ◌≡◌, ◌<◌, ◌≤◌, ◌+◌, ◌==◌, ℕ, Bool, true, false, nat_le, cond, ap, sym, ◌∙◌, arith, List, [], ◌∷◌, ◌++◌, length, get_or, take, suc, zero, add-one}
 use Rattle.std.proofs.lemmas.List.{get_or_default}
 use Rattle.std.proofs.lemmas.List.Folds.{list_any_at, list_any_none}
 use Rattle.std.proofs.lemmas.Bool.{cases_lt, cases_eq, true≢false, false≢true, eq-eqb, ne_eqb, le-leb, and_parts, and_right, leb-true}
 use Rattle.mr_forms.specs.Sets.{Covers}
 use Rattle.mr_concise.specs.Edges.{IsRising}
 use Rattle.mr_concise.specs.declared.column.Hole.{Hole}
-use Rattle.mr_concise.specs.Column.{Extent, hole_has, hole_edges, column_has, IsColumn}
+use Rattle.mr_concise.specs.Column.{Extent, hole_edges, column_has, IsColumn}
 use Rattle.mr_concise.specs.inner.Column.{ColumnCovers}
 use Rattle.mr_concise.specs.declared.vector.AuthorColumn.{AuthorColumn}
 use Rattle.mr_concise.specs.Vector.{column_of, vector_has, IsVectorFrom}
@@ -32,24 +32,15 @@ hole-from_one column k d is l = let a = first-above 0 column.holes (column.upto 
 
 -- one hole more
 pub none_in-more : (has : ℕ → Bool) (hs holes : List Hole) (n : ℕ) (d : Hole) → hs ≡ holes → n < length hs → HasNoneInHoles has holes n → HasNoneIn has (get_or hs n d) → HasNoneInHoles has holes (n + 1)
-none_in-more has hs holes n d e l none one k d' b = elim (cases_lt k n) [
-  | inl before ↦ none k d' before
-  | inr g ↦ let at : k ≡ n = omega arith in rw (at, ← e, get_or_default hs n d' d l) one
-]
+none_in-more has hs holes n d e l h one k d' b = grind (arith, cases_lt, get_or_default)
 
 -- a column has nothing in its own holes
 out-of_hole : (column : Extent) (k : ℕ) (d : Hole) (c : ℕ) → k < length column.holes → (get_or column.holes k d).first ≤ c → c ≤ (get_or column.holes k d).last → column_has column c ≡ false
-out-of_hole column k d c l f t =
-    let inside : hole_has (get_or column.holes k d) c ≡ true = rw (le-leb (get_or column.holes k d).first c f, le-leb c (get_or column.holes k d).last t) refl in
-    rw (list_any_at (λ (h : Hole). hole_has h c) column.holes k d l inside) (and_right (nat_le 1 c && nat_le c column.upto) false refl)
+out-of_hole column k d c l f t = grind (arith, le-leb, list_any_at, and_right, nat_le)
 
 -- where a column covers another one, that has nothing in its holes
 pub covers-none_in : (a b : Extent) (hs : List Hole) (k : ℕ) (d : Hole) → hs ≡ a.holes → k < length hs → ColumnCovers a b → HasNoneIn (column_has b) (get_or hs k d)
-covers-none_in a b hs k d e l covers c f t = no (column_has b c) (λ h. true≢false (sym (covers c h) ∙ out-of_hole a k d c (rw e at l) (rw e at f) (rw e at t)))
-  where
-    no : (x : Bool) → (x ≡ true → ⊥) → x ≡ false
-    no true n = absurd (n refl)
-    no false n = refl
+covers-none_in a b hs k d e l covers c f t = grind (arith, true≢false, out-of_hole)
 
 -- a bound that is higher
 pub covers-no_higher : (a b : Extent) → IsColumn b → a.upto < b.upto → ColumnCovers a b → ⊥
@@ -59,22 +50,7 @@ covers-no_higher a b is l covers =
 
 -- nothing in any hole, and no higher bound
 pub covers-all : (a b : Extent) (hs : List Hole) (n : ℕ) → b.upto ≤ a.upto → hs ≡ a.holes → length hs ≤ n → HasNoneInHoles (column_has b) a.holes n → ColumnCovers a b
-covers-all a b hs n le e l none c h =
-    let parts = and_parts (nat_le 1 c && nat_le c b.upto) _ h in
-    let ends = and_parts (nat_le 1 c) (nat_le c b.upto) parts.0 in
-    let low : 1 ≤ c = leb-true 1 c ends.0 in
-    let up : c ≤ b.upto = leb-true c b.upto ends.1 in
-    let high : c ≤ a.upto = omega arith in
-    let all : length a.holes ≤ n = rw e at l in
-    let out : All (λ (hole : Hole). hole_has hole c ≡ false) a.holes = λ k d k_in. go (get_or a.holes k d) (none k d (omega arith)) in
-    rw (le-leb 1 c low, le-leb c a.upto high, list_any_none (λ (hole : Hole). hole_has hole c) a.holes out) refl
-  where
-    go : (hole : Hole) → HasNoneIn (column_has b) hole → hole_has hole c ≡ false
-    go hole empty = no (hole_has hole c) (λ inside. let p = and_parts (nat_le hole.first c) (nat_le c hole.last) inside in true≢false (sym h ∙ empty c (leb-true hole.first c p.0) (leb-true c hole.last p.1)))
-      where
-        no : (x : Bool) → (x ≡ true → ⊥) → x ≡ false
-        no true m = absurd (m refl)
-        no false m = refl
+covers-all a b hs n le e l k c h = grind (arith, and_parts, nat_le, leb-true, le-leb, list_any_none, no, true≢false)
 
 pub covers-begin : (a : List AuthorColumn) → Covers (vector_has a) (vector_has [])
 covers-begin a v h = absurd (false≢true (sym (column_has-empty v.counter) ∙ h))

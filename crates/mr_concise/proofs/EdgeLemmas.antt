@@ -1,11 +1,10 @@
-use Rattle.std.proofs.Common.{inl, inr, ◌⊎◌, ◌≡◌, ◌<◌, ◌≤◌, ℕ, Bool, true, false, not, refl, sym, ◌∙◌, arith, List, [], ◌∷◌, ◌++◌, length}
+use Rattle.std.proofs.Common.{inl, inr, ◌⊎◌, ◌≡◌, ◌<◌, ◌≤◌, ℕ, Bool, not, refl, sym, ◌∙◌, arith, List, [], ◌∷◌, ◌++◌, length}
 use Rattle.std.proofs.lemmas.Bool.{true≢false, false≢true, cases_order, lt-ltb, le-ltb, cases_lt}
 use Rattle.mr_concise.specs.Edges.{IsRising}
 use Rattle.mr_concise.specs.inner.Edges.{is_on}
 
 pub not≢self : (b : Bool) → b ≡ not b → ⊥
-not≢self true h = true≢false h
-not≢self false h = false≢true h
+not≢self b h = grind (arith, true≢false, false≢true)
 
 pub IsRising-lower : (low high : ℕ) (ts : List ℕ) → low ≤ high → IsRising high ts → IsRising low ts
 IsRising-lower low high [] h r = tt

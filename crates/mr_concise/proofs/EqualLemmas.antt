@@ -1,4 +1,4 @@
-use Rattle.std.proofs.Common.{◌≡◌, ◌==◌, ◌↔◌, ℕ, ap, ◌∙◌, List}
+use Rattle.std.proofs.Common.{◌≡◌, ◌==◌, ◌↔◌, ℕ, ap, ◌∙◌, List, arith}
 use Rattle.std.specs.Prelude.{IsTrue}
 use Rattle.std.specs.Bool.{Decides}
 use Rattle.std.specs.Cmp.{unsigned_Decides}
@@ -20,12 +20,7 @@ pub vectors_same : (a b : List AuthorColumn) → IsVectorFrom 0 a → IsVectorFr
 vectors_same a b va vb h = vector_unique 0 0 a b va vb (λ q. column_unique (column_of a q) (column_of b q) ((column_of-IsColumn 0 a q va).apart) ((column_of-IsColumn 0 b q vb).apart) (λ c. h (record { author = q; counter = c })))
 
 holes_Decides : (g h : Hole) → Decides (hole_eq g h) (g ≡ h)
-holes_Decides g h = (
-  λ t.
-      let p = and_parts (g.first == h.first) (g.last == h.last) t in
-      ap (λ (x : ℕ). record { first = x; last = g.last }) ((unsigned_Decides g.first h.first).0 p.0) ∙ ap (λ (y : ℕ). record { first = h.first; last = y }) ((unsigned_Decides g.last h.last).0 p.1),
-  λ e. both_true ((unsigned_Decides g.first h.first).1 (ap (λ (z : Hole). z.first) e)) ((unsigned_Decides g.last h.last).1 (ap (λ (z : Hole). z.last) e)),
-)
+holes_Decides g h = grind (arith, and_parts)
 
 extents_Decides : (a b : Extent) → Decides (extent_eq a b) (a ≡ b)
 extents_Decides a b = (
@@ -36,12 +31,7 @@ extents_Decides a b = (
 )
 
 author_columns_Decides : (a b : AuthorColumn) → Decides (author_column_eq a b) (a ≡ b)
-author_columns_Decides a b = (
-  λ t.
-      let p = and_parts (a.author == b.author) (extent_eq a.column b.column) t in
-      ap (λ (x : ℕ). record { author = x; column = a.column }) ((unsigned_Decides a.author b.author).0 p.0) ∙ ap (λ (c : Extent). record { author = b.author; column = c }) ((extents_Decides a.column b.column).0 p.1),
-  λ e. both_true ((unsigned_Decides a.author b.author).1 (ap (λ (z : AuthorColumn). z.author) e)) ((extents_Decides a.column b.column).1 (ap (λ (z : AuthorColumn). z.column) e)),
-)
+author_columns_Decides a b = grind (arith, and_parts, extents_Decides)
 
 -- vectors compare equal exactly where they are one
 pub vectors_Decides : (a b : List AuthorColumn) → Decides (vector_eq a b) (a ≡ b)

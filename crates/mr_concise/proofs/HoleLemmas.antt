@@ -77,9 +77,7 @@ ordered-at low (h ∷ hs) end (suc j) d r l = ordered-at (h.last + 1) hs end j d
 
 -- what a place in the holes says of k
 pub filled-place : (k : ℕ) (hs : List Hole) (i : ℕ) (x : Hole) → AreApart hs → IsPartitionPoint (λ h. nat_lt h.last k ≡ true) (λ h. nat_lt h.last k ≡ false) hs i → i < length hs → x ≡ get_or hs i x → x.first ≤ k → filled k hs ≡ take i hs ++ (gap x.first (k - 1) ++ (gap (k + 1) x.last ++ drop (i + 1) hs))
-filled-place k hs i x apart place l at le =
-    let ge : k ≤ x.last = ltb-false x.last k (rw (← at) at (place.1 i x (omega arith) l)) in
-    filled-at k hs i x place.0 l at ge le (λ j d w. ordered-at 0 hs apart.end j d apart.apart (omega arith))
+filled-place k hs i x apart place l at le = grind (arith, ltb-false, filled-at, ordered-at)
 
 pub filled-above : (k : ℕ) (hs : List Hole) (i : ℕ) (x : Hole) → AreApart hs → IsPartitionPoint (λ h. nat_lt h.last k ≡ true) (λ h. nat_lt h.last k ≡ false) hs i → i < length hs → x ≡ get_or hs i x → k < x.first → filled k hs ≡ hs
 filled-above k hs i x apart place l at lt = filled-none k 0 hs apart.end i apart.apart place.0 (λ d w. let e : (get_or hs i d).first ≡ x.first = ap (λ (z : Hole). z.first) (get_or_default hs i d x l ∙ sym at) in omega arith) (omega arith)
@@ -88,10 +86,7 @@ pub filled-past : (k : ℕ) (hs : List Hole) (i : ℕ) → AreApart hs → IsPar
 filled-past k hs i apart place l u = filled-none k 0 hs apart.end i apart.apart place.0 (λ d w. absurd (omega arith)) u
 
 length-gap : (f l : ℕ) → (l < f) × (length (gap f l) ≡ 0) ⊎ ((f ≤ l) × (length (gap f l) ≡ 1))
-length-gap f l = elim (cases_lt l f) [
-  | inl a ↦ inl (a, rw (lt-leb f l a) refl)
-  | inr b ↦ inr (b, rw (le-leb f l b) refl)
-]
+length-gap f l = grind (arith, cases_lt, lt-leb, le-leb)
 
 -- how many holes a split leaves
 pub split-count : (k : ℕ) (hs : List Hole) (i : ℕ) (x : Hole) (left right : ℕ) → AreApart hs → IsPartitionPoint (λ h. nat_lt h.last k ≡ true) (λ h. nat_lt h.last k ≡ false) hs i → i < length hs → x ≡ get_or hs i x → x.first ≤ k → 1 ≤ k → (x.first < k → left ≡ 1) → (k ≤ x.first → left ≡ 0) → (k < x.last → right ≡ 1) → (x.last ≤ k → right ≡ 0) → length hs - 1 + left + right ≡ length (filled k hs)

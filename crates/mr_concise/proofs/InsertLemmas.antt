@@ -1,4 +1,4 @@
-use Rattle.std.proofs.Common.{inl, inr, ◌≡◌, ◌<◌, ◌≤◌, ◌+◌, ◌-◌, ◌==◌, ◌||◌, ℕ, Bool, true, false, nat_lt, refl, ap, sym, ◌∙◌, arith, List, [], ◌∷◌, ◌++◌, length, append-nil}
+use Rattle.std.proofs.Common.{inl, inr, ◌≡◌, ◌<◌, ◌≤◌, ◌+◌, ◌-◌, ◌==◌, ◌||◌, ℕ, Bool, true, false, nat_lt, refl, arith, List, [], ◌∷◌, ◌++◌, length, append-nil}
 use Rattle.std.proofs.lemmas.Bool.{cases_lt, cases_eq, le-leb, lt-leb, lt-ltb, le-ltb, eq-eqb, ne_eqb}
 use Rattle.std.specs.Prelude.{if◌then◌else◌}
 use Rattle.std.proofs.lemmas.Bool.Decides.{nat_tests}
@@ -19,10 +19,7 @@ abbrev pub HasOneMore : (ℕ → Bool) → (ℕ → Bool) → ℕ → Type 0
 HasOneMore new old k = (c : ℕ) → new c ≡ ((c == k) || old c)
 
 has_it : (old : ℕ → Bool) (k : ℕ) → old k ≡ true → HasOneMore old old k
-has_it old k h c = elim (cases_eq c k) [
-  | inl e ↦ rw (eq-eqb c k e, e, h) refl
-  | inr n ↦ rw (ne_eqb c k n) refl
-]
+has_it old k h c = grind (arith, cases_eq, eq-eqb, ne_eqb)
 
 bool-1 : (c first last k : ℕ) (x : Bool) → first ≡ k → k ≡ last → (c ≤ last → x ≡ true) → x ≡ ((c == k) || (if nat_lt c first then true else (if nat_lt c (last + 1) then false else x)))
 bool-1 c first last k x e q h = grind (arith, nat_tests)
@@ -38,24 +35,7 @@ bool-4 c first last k x e q = grind (arith, nat_tests)
 
 -- A hole is split at k. What follows it is rising, from its end on.
 split : (first last k : ℕ) (holes : List Hole) (end low : ℕ) → first ≤ k → k ≤ last → low < first → IsRising (last + 1) (to_end holes end) → IsRising low (to_end (gap first (k - 1) ++ (gap (k + 1) last ++ holes)) end) × HasOneMore (is_on true (to_end (gap first (k - 1) ++ (gap (k + 1) last ++ holes)) end)) (is_on true (first ∷ (last + 1) ∷ to_end holes end)) k
-split first last k holes end low f l w r = elim (cases_eq first k) [
-  | inl e ↦ elim (cases_eq k last) [
-    | inl q ↦
-        let none : k - 1 < first = omega arith in let none' : last < k + 1 = omega arith in
-        rw (lt-leb first (k - 1) none, lt-leb (k + 1) last none') (IsRising-lower low (last + 1) (to_end holes end) (omega arith) r, λ c. bool-1 c first last k (is_on true (to_end holes end) c) e q (λ h. is_on-before true (to_end holes end) (last + 1) c r (omega arith)))
-    | inr q ↦
-        let none : k - 1 < first = omega arith in let some : k + 1 ≤ last = omega arith in
-        rw (lt-leb first (k - 1) none, le-leb (k + 1) last some) ((omega arith, (omega arith, r)), λ c. bool-2 c first last k (is_on true (to_end holes end) c) e (omega arith))
-  ]
-  | inr n ↦ elim (cases_eq k last) [
-    | inl q ↦
-        let some : first ≤ k - 1 = omega arith in let none' : last < k + 1 = omega arith in
-        rw (le-leb first (k - 1) some, lt-leb (k + 1) last none') ((w, (omega arith, IsRising-lower (k - 1 + 1) (last + 1) (to_end holes end) (omega arith) r)), λ c. bool-3 c first last k (is_on true (to_end holes end) c) (omega arith) q (λ h. is_on-before true (to_end holes end) (last + 1) c r (omega arith)))
-    | inr q ↦
-        let some : first ≤ k - 1 = omega arith in let some' : k + 1 ≤ last = omega arith in
-        rw (le-leb first (k - 1) some, le-leb (k + 1) last some') ((w, (omega arith, (omega arith, (omega arith, r)))), λ c. bool-4 c first last k (is_on true (to_end holes end) c) (omega arith) (omega arith))
-  ]
-]
+split first last k holes end low f l w r = grind (arith, cases_eq, lt-leb, IsRising-lower, bool-1, is_on-before, le-leb, bool-2, bool-3, bool-4)
 
 bool-5 : (c first last k : ℕ) (x y : Bool) → last < k → y ≡ ((c == k) || x) → first ≤ last → (if nat_lt c first then true else (if nat_lt c (last + 1) then false else y)) ≡ ((c == k) || (if nat_lt c first then true else (if nat_lt c (last + 1) then false else x)))
 bool-5 c first last k x y l h f = grind (arith, nat_tests)
@@ -82,39 +62,15 @@ bool-7 c u k h = grind (arith, nat_tests)
 
 -- past the bound
 beyond : (u k : ℕ) (holes : List Hole) (low : ℕ) → u < k → IsRising low (to_end holes (u + 1)) → IsRising low (to_end (holes ++ gap (u + 1) (k - 1)) (k + 1)) × HasOneMore (is_on true (to_end (holes ++ gap (u + 1) (k - 1)) (k + 1))) (is_on true (to_end holes (u + 1))) k
-beyond u k [] low h r = elim (cases_eq (u + 1) k) [
-  | inl e ↦ let none : k - 1 < u + 1 = omega arith in rw (lt-leb (u + 1) (k - 1) none) ((let q = r.0 in omega arith, tt), λ c. bool-6 c u k e)
-  | inr n ↦ let some : u + 1 ≤ k - 1 = omega arith in rw (le-leb (u + 1) (k - 1) some) ((r.0, (omega arith, (omega arith, tt))), λ c. bool-7 c u k (omega arith))
-]
-beyond u k (hole ∷ holes) low h r =
-    let rest = beyond u k holes (hole.last + 1) h r.1.1 in
-    let end : hole.last + 1 < u + 1 = IsRising-end (hole.last + 1) (hole_edges holes) (u + 1) r.1.1 in
-    let order : hole.first ≤ hole.last = let q = r.1.0 in omega arith in
-    ((r.0, (r.1.0, rest.0)), λ c. bool-5 c hole.first hole.last k (is_on true (to_end holes (u + 1)) c) (is_on true (to_end (holes ++ gap (u + 1) (k - 1)) (k + 1)) c) (omega arith) (rest.1 c) order)
+beyond u k [] low h r = grind (arith, cases_eq, lt-leb, bool-6, le-leb, bool-7)
+beyond u k (hole ∷ holes) low h r = grind (arith, beyond u k holes, IsRising-end, bool-5)
 
 -- ONE MORE: the column with k has k and what it had, and its holes are apart
 pub with_counter-means : (column : Extent) (k : ℕ) → IsRising 0 (edges column) → 1 ≤ k → IsRising 0 (edges (with_counter column k)) × ((c : ℕ) → column_has (with_counter column k) c ≡ ((c == k) || column_has column c))
-with_counter-means column k r from =
-    let both : IsRising 0 (edges (with_counter column k)) × HasOneMore (is_on true (edges (with_counter column k))) (is_on true (edges column)) k = elim (cases_lt column.upto k) [
-      | inl l ↦ rw (lt-ltb column.upto k l) (beyond column.upto k column.holes 0 l r)
-      | inr g ↦ let u : k < column.upto + 1 = omega arith in rw (le-ltb column.upto k g) (filled-means k column.holes (column.upto + 1) 0 u r)
-    ] in (
-      both.0,
-      λ c. elim (cases_lt c 1) [
-        | inl z ↦ let zero : c ≡ 0 = omega arith in let ne : c ≡ k → ⊥ = λ e. omega arith in rw (ne_eqb c k ne, zero) (column_has-zero (with_counter column k))
-        | inr o ↦ column_has-edges (with_counter column k) c both.0 o ∙ both.1 c ∙ ap (λ b. (c == k) || b) (sym (column_has-edges column c r o))
-      ],
-    )
+with_counter-means column k r from = grind (arith, cases_lt, lt-ltb, beyond, le-ltb, filled-means, ne_eqb, column_has-zero, column_has-edges)
 
 pub IsColumn-with_counter : (column : Extent) (k : ℕ) → IsColumn column → 1 ≤ k → k ≤ MAX_COUNTER → length (with_counter column k).holes ≤ 4096 → IsColumn (with_counter column k)
-IsColumn-with_counter column k h from to few = record {
-  apart = (with_counter-means column k h.apart from).0;
-  in_range = elim (cases_lt column.upto k) [
-    | inl l ↦ rw (lt-ltb column.upto k l) to
-    | inr g ↦ rw (le-ltb column.upto k g) h.in_range
-  ];
-  few = few;
-}
+IsColumn-with_counter column k h from to few = grind (arith, with_counter-means, cases_lt, lt-ltb, le-ltb)
 
 pub IsColumn-above : (upto k : ℕ) (holes new : List Hole) → IsColumn (record { upto = upto; holes = holes }) → upto < k → k ≤ MAX_COUNTER → length (with_counter (record { upto = upto; holes = holes }) k).holes ≤ 4096 → new ≡ holes ++ gap (upto + 1) (k - 1) → IsColumn (record { upto = k; holes = new })
 IsColumn-above upto k holes new h l to few e = rw e (rw (lt-ltb upto k l) at (IsColumn-with_counter (record { upto = upto; holes = holes }) k h (omega arith) to few))

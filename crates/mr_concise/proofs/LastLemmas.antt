@@ -1,4 +1,4 @@
-use Rattle.std.proofs.Common.{◌≡◌, ◌≤◌, ◌<◌, ◌+◌, ◌⊎◌, ◌&&◌, inl, inr, nat_lt, ap, sym, get_or, length, ℕ, true, false, nat_le, refl, ◌∙◌, arith, List, [], ◌∷◌}
+use Rattle.std.proofs.Common.{◌≡◌, ◌≤◌, ◌<◌, ◌+◌, ◌⊎◌, inl, inr, nat_lt, ap, sym, get_or, length, ℕ, true, false, nat_le, refl, ◌∙◌, arith, List, [], ◌∷◌}
 use Rattle.std.proofs.lemmas.Bool.{lt-leb, and_parts, and_right, cases_lt, false≢true, leb-true, ltb-true, ltb-false, lt-ltb, le-ltb, ne_eqb}
 use Rattle.std.specs.List.Sorted.{IsPartitionPoint}
 use Rattle.mr_forms.specs.Runs.{IsNextAuthor, HasNoAuthorFrom}
@@ -17,12 +17,7 @@ column_has-above column c l = rw (lt-leb c column.upto l, and_right (nat_le 1 c)
 
 -- the bound is the author's last
 pub bound-is_last : (columns : List AuthorColumn) (q : ℕ) → IsVectorFrom 0 columns → 1 ≤ (column_of columns q).upto → IsLast (vector_has columns) q (column_of columns q).upto
-bound-is_last columns q v some =
-    let is = column_of-IsColumn 0 columns q v in
-    record {
-      is_in = column_has-edges (column_of columns q) (column_of columns q).upto is.apart some ∙ bound-on 0 (column_of columns q).upto (column_of columns q).holes is.apart;
-      above = λ c l. column_has-above (column_of columns q) c l;
-    }
+bound-is_last columns q v some = grind (arith, column_of-IsColumn, column_has-edges, bound-on, column_has-above)
 
 -- authors below id are below q
 before-lower : (xs : List AuthorColumn) (id i q : ℕ) → IsPartitionPoint (λ x. nat_lt x.author id ≡ true) (λ x. nat_lt x.author id ≡ false) xs i → id ≤ q → (k : ℕ) (d : AuthorColumn) → 0 ≤ k → k < i → nat_lt (get_or xs k d).author q ≡ true
@@ -44,13 +39,7 @@ column_of-far low [] q v far = refl
 column_of-far low (x ∷ xs) q v far = let a = v.4 in rw (ne_eqb x.author q (λ e. omega arith)) (column_of-far (x.author + 1) xs q v.3 far)
 
 in_range-cases : (column : Extent) (q c : ℕ) → IsColumn column → q < 64 → column_has column c ≡ true → IsVersion q c
-in_range-cases column q c is author there =
-    let parts = and_parts (nat_le 1 c && nat_le c column.upto) _ there in
-    let ends = and_parts (nat_le 1 c) (nat_le c column.upto) parts.0 in
-    let low : 1 ≤ c = leb-true 1 c ends.0 in
-    let high : c ≤ column.upto = leb-true c column.upto ends.1 in
-    let top = is.in_range in
-    record { author_in = author; counter_from = low; counter_to = omega arith }
+in_range-cases column q c is author there = grind (arith, and_parts, nat_le, leb-true)
 
 -- what a vector has is versions
 pub vector_has-versions : (columns : List AuthorColumn) → IsVectorFrom 0 columns → HasVersionsAlone (vector_has columns)

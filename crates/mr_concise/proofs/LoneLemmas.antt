@@ -1,20 +1,17 @@
-use Rattle.std.proofs.Common.{◌≡◌, ◌<◌, ◌≤◌, ℕ, Bool, true, false, ◌||◌, refl, ap, arith, List, length, suc, zero}
-use Rattle.std.proofs.lemmas.Bool.{eq-eqb}
+use Rattle.std.proofs.Common.{◌≡◌, ◌≤◌, ℕ, Bool, true, false, ◌||◌, refl, ap, arith, List, length}
 use Rattle.mr_forms.specs.Sets.{Versions, IsSame, both}
 use Rattle.mr_forms.specs.Runs.{of_author}
 use Rattle.mr_concise.specs.declared.vector.AuthorColumn.{AuthorColumn}
 use Rattle.mr_concise.specs.Column.{Extent, column_has}
-use Rattle.mr_concise.specs.Source.{IsColumnOf, HasFewerHoles, HasAtLeastHoles}
+use Rattle.mr_concise.specs.Source.{IsColumnOf, HasAtLeastHoles}
 use Rattle.mr_concise.specs.Vector.{column_of, vector_has, IsVectorFrom, HasTooManyHoles}
-use Rattle.mr_concise.specs.inner.Vector.{in_column}
 use Rattle.mr_concise.proofs.LastLemmas.{column_has-above}
 use Rattle.mr_concise.proofs.SweepLemmas.{IsColumnOf-unique, few-from_column, few-of_authors}
 use Rattle.mr_concise.proofs.UnionLemmas.{column_of-IsColumn}
 
 -- a column whose bound is 0 has nothing
 nothing-in : (column : Extent) (c : ℕ) → column.upto ≤ 0 → column_has column c ≡ false
-nothing-in column zero low = refl
-nothing-in column (suc c) low = column_has-above column (suc c) (omega arith)
+nothing-in column c low = grind (arith, column_has-above)
 
 or-false : (s : Bool) → s ≡ (s || false)
 or-false true = refl

@@ -1,11 +1,10 @@
 -- Why a union that gives up has too many holes. Each set of counters that ends has a column (`column-exists`); the holes
 -- that were found so far are edges at which it turns too, so it has at least as many (`found-fewer`).
-use Rattle.std.proofs.Common.{not, inl, inr, ◌⊎◌, ◌≡◌, ◌<◌, ◌≤◌, ◌+◌, ◌||◌, ◌&&◌, ◌==◌, ℕ, Bool, true, false, nat_lt, nat_le, refl, ap, sym, subst, ◌∙◌, arith, List, [], ◌∷◌, ◌++◌, length, length-append, zero, suc, add-one, get_or, Option, Some, None}
+use Rattle.std.proofs.Common.{not, inl, inr, ◌⊎◌, ◌≡◌, ◌<◌, ◌≤◌, ◌+◌, ◌||◌, ◌&&◌, ◌==◌, ℕ, Bool, true, false, nat_lt, nat_le, refl, ap, sym, subst, ◌∙◌, arith, List, [], ◌∷◌, ◌++◌, length, length-append, zero, suc, add-one, get_or, Option, Some}
 use Rattle.std.specs.Prelude.{if◌then◌else◌, IfNone}
 use Rattle.std.proofs.lemmas.Bool.{cases_lt, cases_eq, cases_Bool, true≢false, lt-ltb, le-ltb, le-leb, lt-leb, eq-eqb, ne_eqb}
 use Rattle.mr_version.specs.declared.version.TheConstants.{MAX_COUNTER}
 use Rattle.mr_concise.specs.declared.column.TheConstants.{MAX_HOLES}
-use Rattle.mr_forms.proofs.SetLemmas.{or_comm}
 use Rattle.mr_forms.specs.Sets.{both}
 use Rattle.mr_forms.specs.Runs.{of_author}
 use Rattle.mr_concise.specs.Edges.{IsRising}
@@ -37,34 +36,18 @@ same-columns : (s t : ℕ → Bool) → ((c : ℕ) → s c ≡ t c) → HasColum
 same-columns s t h w = record { column = w.column; is = record { apart = w.is.apart; in_range = w.is.in_range; means = λ c. w.is.means c ∙ h c } }
 
 up_to-none : (has : ℕ → Bool) (c : ℕ) → has 0 ≡ false → (c < 1) ⊎ (1 ≤ c) → false ≡ up_to has 0 c
-up_to-none has c out (inl l) = let e : c ≡ 0 = omega arith in rw (e, out) refl
-up_to-none has c out (inr g) = let above : 0 < c = omega arith in rw (lt-leb c 0 above) (sym (and-none (has c)))
-  where
-    and-none : (b : Bool) → (b && false) ≡ false
-    and-none true = refl
-    and-none false = refl
+up_to-none has c out h = grind (arith, lt-leb)
 
 -- with a counter that the set has
 up_to-in : (has : ℕ → Bool) (n c : ℕ) → has (n + 1) ≡ true → (c ≡ n + 1) ⊎ (c ≡ n + 1 → ⊥) → ((c == n + 1) || up_to has n c) ≡ up_to has (n + 1) c
-up_to-in has n c there (inl e) = let le : c ≤ n + 1 = omega arith in rw (eq-eqb c (n + 1) e, le-leb c (n + 1) le, e, there) refl
-up_to-in has n c there (inr ne) = rw (ne_eqb c (n + 1) ne) (elim (cases_lt n c) [
-  | inl l ↦ let l' : n + 1 < c = omega arith in rw (lt-leb c n l, lt-leb c (n + 1) l') refl
-  | inr g ↦ let g' : c ≤ n + 1 = omega arith in rw (le-leb c n g, le-leb c (n + 1) g') refl
-])
+up_to-in has n c there h = grind (arith, eq-eqb, le-leb, ne_eqb, cases_lt, lt-leb)
 
 -- with one that it has not
 up_to-out : (has : ℕ → Bool) (n c : ℕ) → has (n + 1) ≡ false → (c ≡ n + 1) ⊎ (c ≡ n + 1 → ⊥) → up_to has n c ≡ up_to has (n + 1) c
-up_to-out has n c out (inl e) = rw (e, out) refl
-up_to-out has n c out (inr ne) = elim (cases_lt n c) [
-  | inl l ↦ let l' : n + 1 < c = omega arith in rw (lt-leb c n l, lt-leb c (n + 1) l') refl
-  | inr g ↦ let g' : c ≤ n + 1 = omega arith in rw (le-leb c n g, le-leb c (n + 1) g') refl
-]
+up_to-out has n c out h = grind (arith, cases_lt, lt-leb, le-leb)
 
 with_counter-in_range : (column : Extent) (k : ℕ) → column.upto ≤ MAX_COUNTER → k ≤ MAX_COUNTER → (with_counter column k).upto ≤ MAX_COUNTER
-with_counter-in_range column k old new = elim (cases_lt column.upto k) [
-  | inl l ↦ rw (lt-ltb column.upto k l) new
-  | inr g ↦ rw (le-ltb column.upto k g) old
-]
+with_counter-in_range column k old new = grind (arith, cases_lt, lt-ltb, le-ltb)
 
 -- with one counter more
 columns-more : (has : ℕ → Bool) (n : ℕ) → HasColumn (up_to has n) → n + 1 ≤ MAX_COUNTER → (has (n + 1) ≡ true) ⊎ (has (n + 1) ≡ false) → HasColumn (up_to has (n + 1))
@@ -172,5 +155,4 @@ many-merged a b k x vb l at many =
 
 -- what holds where there is none holds, if there is none
 pub if-none : {T : Type 0} {P : Type 0} (o : Option T) → ((x : T) → o ≡ Some x → ⊥) → IfNone o P → P
-if-none None never holds = holds
-if-none (Some x) never holds = absurd (never x refl)
+if-none o never holds = grind arith

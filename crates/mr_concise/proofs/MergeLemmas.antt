@@ -2,7 +2,6 @@ use Rattle.std.proofs.Common.{inl, inr, ◌⊎◌, ◌≡◌, ◌<◌, ◌≤◌
 use Rattle.std.specs.Prelude.{if◌then◌else◌}
 use Rattle.std.proofs.lemmas.Bool.{cases_lt, cases_eq, true≢false, lt-ltb, le-ltb, le-leb, or_left, or_right}
 use Rattle.mr_version.specs.declared.version.TheConstants.{MAX_COUNTER}
-use Rattle.mr_forms.proofs.SetLemmas.{or_comm}
 use Rattle.mr_concise.specs.Edges.{IsRising}
 use Rattle.mr_concise.specs.inner.Edges.{is_on}
 use Rattle.mr_concise.specs.declared.column.Hole.{Hole}
@@ -25,16 +24,11 @@ pub record Merged (has : ℕ → Bool) (holes : List Hole) (from : ℕ) : Type 0
   pub means : (x : ℕ) → from ≤ x → has x ≡ false → (c : ℕ) → 1 ≤ c → is_on true (hole_edges holes ++ x ∷ []) c ≡ (if nat_lt c from then has c else nat_lt c x)
 
 test : (b : Bool) → (if b then true else false) ≡ b
-test true = refl
-test false = refl
+test b = grind arith
 
 -- no counter is below the first
 pub Merged-begin : (has : ℕ → Bool) → Merged has [] 1
-Merged-begin has = record {
-  from_one = omega arith;
-  rising = λ x f out. (omega arith, tt);
-  means = λ x f out c one. rw (le-ltb c 1 one) (test (nat_lt c x));
-}
+Merged-begin has = grind (arith, le-ltb, test)
 
 -- what a step finds: from here on the set has all up to a gap, which may be empty, and goes on after it
 pub record IsStep (has : ℕ → Bool) (from first last : ℕ) : Type 0 where
@@ -67,17 +61,7 @@ IsStep-of a b from first last h gap top hole is firsts lasts = record {
 
 -- a step that finds nothing
 pub Merged-pass : (has : ℕ → Bool) (holes : List Hole) (from first last : ℕ) → Merged has holes from → IsStep has from first last → last < first → Merged has holes (last + 1)
-Merged-pass has holes from first last w step empty = record {
-  from_one = omega arith;
-  rising = λ x f out. let up = step.reaches in w.rising x (omega arith) out;
-  means = λ x f out c one. let up = step.reaches in w.means x (omega arith) out c one ∙ go x f c (cases_lt c from) (cases_lt c (last + 1));
-}
-  where
-    go : (x : ℕ) → last + 1 ≤ x → (c : ℕ) → (c < from) ⊎ (from ≤ c) → (c < last + 1) ⊎ (last + 1 ≤ c) → (if nat_lt c from then has c else nat_lt c x) ≡ (if nat_lt c (last + 1) then has c else nat_lt c x)
-    go x f c (inl b) (inl l) = rw (lt-ltb c from b, lt-ltb c (last + 1) l) refl
-    go x f c (inl b) (inr g) = let up = step.reaches in absurd (omega arith)
-    go x f c (inr a) (inl l) = let under : c < x = omega arith in rw (le-ltb c from a, lt-ltb c (last + 1) l, lt-ltb c x under) (sym (step.before c a (omega arith)))
-    go x f c (inr a) (inr g) = rw (le-ltb c from a, le-ltb c (last + 1) g) refl
+Merged-pass has holes from first last w step empty = grind (arith, cases_lt, lt-ltb, le-ltb)
 
 -- a step that finds a hole
 pub Merged-push : (has : ℕ → Bool) (holes : List Hole) (from first last : ℕ) → Merged has holes from → IsStep has from first last → first ≤ last → Merged has (holes ++ (record { first = first; last = last }) ∷ []) (last + 1)

@@ -63,15 +63,7 @@ bool-none : (o b h : Bool) (c : ℕ) → (c ≡ 0 → h ≡ false) → o ≡ (o 
 bool-none o b h c at_zero = grind (arith, nat_tests)
 
 pub runs-begin : (author : ℕ) (column : Extent) (old : List Run) → IsColumn column → 1 ≤ column.upto → EndBefore author 1 old → RunsTo author column old old 1 column.holes
-runs-begin author column old is some ended = record {
-  from_one = omega arith;
-  bound = some;
-  rising = is.apart;
-  later = λ c a. column_has-edges column c is.apart a;
-  have = λ v. bool-none (in_runs old v) (v.author == author) (column_has column v.counter) v.counter (λ e. rw e (column_has-zero column));
-  apart = λ h. h;
-  ended = ended;
-}
+runs-begin author column old is some ended = grind (arith, column_has-edges, bool-none, column_has-zero)
 
 -- what is known of the next hole
 pub record NextHole (column : Extent) (start : ℕ) (hole : Hole) (rest : List Hole) : Type 0 where
@@ -84,32 +76,13 @@ pub record NextHole (column : Extent) (start : ℕ) (hole : Hole) (rest : List H
   later : (c : ℕ) → hole.last + 1 ≤ c → column_has column c ≡ is_on true (hole_edges rest ++ (column.upto + 1) ∷ []) c
 
 pub next_hole : (author : ℕ) (column : Extent) (old new : List Run) (start : ℕ) (hole : Hole) (rest : List Hole) → RunsTo author column old new start (hole ∷ rest) → NextHole column start hole rest
-next_hole author column old new start hole rest w =
-    let one = w.from_one in
-    let above : start - 1 < hole.first = w.rising.0 in
-    let order : hole.first < hole.last + 1 = w.rising.1.0 in
-    let tail : List ℕ = hole_edges rest ++ (column.upto + 1) ∷ [] in
-    record {
-      from = omega arith;
-      ordered = omega arith;
-      bound = let e = IsRising-end (hole.last + 1) (hole_edges rest) (column.upto + 1) w.rising.1.1 in omega arith;
-      rising = IsRising-lower (hole.last + 1 - 1) (hole.last + 1) (hole_edges rest ++ (column.upto + 1) ∷ []) (omega arith) w.rising.1.1;
-      before = λ c a b. w.later c a ∙ is_on-stay true hole.first ((hole.last + 1) ∷ (hole_edges rest ++ (column.upto + 1) ∷ [])) c b;
-      inside = λ c a b. w.later c (omega arith) ∙ is_on-turn true hole.first ((hole.last + 1) ∷ (hole_edges rest ++ (column.upto + 1) ∷ [])) c a ∙ is_on-stay false (hole.last + 1) (hole_edges rest ++ (column.upto + 1) ∷ []) c (omega arith);
-      later = λ c a. w.later c (omega arith) ∙ is_on-turn true hole.first ((hole.last + 1) ∷ (hole_edges rest ++ (column.upto + 1) ∷ [])) c (omega arith) ∙ is_on-turn false (hole.last + 1) (hole_edges rest ++ (column.upto + 1) ∷ []) c a;
-    }
+next_hole author column old new start hole rest w = grind (arith, IsRising-end, IsRising-lower, is_on-stay, is_on-turn)
 
 EndBefore-later : (author start next : ℕ) (runs : List Run) → start ≤ next → EndBefore author start runs → EndBefore author next runs
-EndBefore-later author start next runs l h k d m = elim (h k d m) [
-  | inl a ↦ inl a
-  | inr b ↦ inr (b.0, let q = b.1 in omega arith)
-]
+EndBefore-later author start next runs l h k d m = grind arith
 
 stand-before : (author start : ℕ) (runs : List Run) (x : Run) → x.author ≡ author → x.first ≡ start → EndBefore author start runs → All (λ r. StandsBefore r x) runs
-stand-before author start runs x a s h k d m = elim (h k d m) [
-  | inl l ↦ inl (omega arith)
-  | inr b ↦ let q = b.1 in let p = b.0 in inr (p ∙ sym a, omega arith)
-]
+stand-before author start runs x a s h k d m = grind arith
 
 -- a run, and then a hole
 pub runs-run : (author : ℕ) (column : Extent) (old new : List Run) (start : ℕ) (hole : Hole) (rest : List Hole) (x : Run) → RunsTo author column old new start (hole ∷ rest) → start < hole.first → x.author ≡ author → x.first ≡ start → x.last ≡ hole.first - 1 → RunsTo author column old (new ++ x ∷ []) (hole.last + 1) rest
@@ -173,11 +146,7 @@ pub record RunsOfFirst (columns : List AuthorColumn) (k : ℕ) (runs : List Run)
   pub ended : (d : AuthorColumn) → k < length columns → EndBefore (get_or columns k d).author 1 runs
 
 pub RunsOfFirst-none : (columns : List AuthorColumn) → RunsOfFirst columns 0 []
-RunsOfFirst-none columns = record {
-  have = λ v. sym (column_has-empty v.counter);
-  apart = λ i j d before within. absurd (omega arith);
-  ended = λ d m i e n. absurd (omega arith);
-}
+RunsOfFirst-none columns = grind (arith, column_has-empty)
 
 pub RunsOfFirst-more : (columns : List AuthorColumn) (k : ℕ) (x : AuthorColumn) (old new : List Run) → IsVectorFrom 0 columns → k < length columns → x ≡ get_or columns k x → RunsOfFirst columns k old → AddsRuns x.author x.column old new → RunsOfFirst columns (k + 1) new
 RunsOfFirst-more columns k x old new v l at w adds = record {

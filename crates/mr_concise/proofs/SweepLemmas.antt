@@ -1,5 +1,5 @@
-use Rattle.std.proofs.Common.{inl, inr, ◌⊎◌, ◌≡◌, ◌<◌, ◌≤◌, ◌+◌, ◌-◌, ◌==◌, ◌&&◌, ℕ, Bool, true, false, nat_lt, cond, refl, ap, sym, ◌∙◌, arith, List, [], ◌∷◌, ◌++◌, length, length-append, suc, zero}
-use Rattle.std.specs.Prelude.{if◌then◌else◌, Result, Ok, Err, OnOk, IsErrOf}
+use Rattle.std.proofs.Common.{inl, inr, ◌≡◌, ◌<◌, ◌≤◌, ◌+◌, ◌-◌, ◌==◌, ◌&&◌, ℕ, Bool, true, false, nat_lt, cond, refl, ap, sym, ◌∙◌, arith, List, [], ◌∷◌, ◌++◌, length, length-append}
+use Rattle.std.specs.Prelude.{if◌then◌else◌, Result, OnOk, IsErrOf}
 use Rattle.std.proofs.lemmas.Bool.{cases_lt, cases_eq, true≢false, eq-eqb, ne_eqb, lt-ltb, le-ltb}
 use Rattle.std.proofs.lemmas.Bool.Decides.{nat_tests}
 use Rattle.mr_forms.specs.declared.fault.FormFault.{FormFault}
@@ -198,30 +198,15 @@ pub record GatheredTo (set : Versions) (columns : List AuthorColumn) (id : ℕ) 
 
 -- no author is below the first
 pub GatheredTo-none : (set : Versions) → GatheredTo set [] 0
-GatheredTo-none set = record {
-  vector = tt;
-  means = λ q c. let none : 0 ≤ q = omega arith in rw (le-ltb q 0 none) (column_has-empty c);
-}
+GatheredTo-none set = grind (arith, le-ltb, column_has-empty)
 
 -- once no author is left, the columns have the whole set
 pub GatheredTo-whole : (set : Versions) (columns : List AuthorColumn) (id : ℕ) → GatheredTo set columns id → HasNoAuthorFrom set id → IsSame (vector_has columns) set
-GatheredTo-whole set columns id w none v = w.means v.author v.counter ∙ elim (cases_lt v.author id) [
-  | inl b ↦ rw (lt-ltb v.author id b) refl
-  | inr f ↦ rw (le-ltb v.author id f, none v.author f v.counter) refl
-]
+GatheredTo-whole set columns id w h v = grind (arith, cases_lt, lt-ltb, le-ltb)
 
 -- what the columns have once the author is gone through
 gathered-means : (set : Versions) (columns : List AuthorColumn) (id author : ℕ) (column : Extent) → GatheredTo set columns id → IsNextAuthor set id author → IsColumnOf (of_author set author) column → (q c : ℕ) → column_has (cond (author == q) column (column_of columns q)) c ≡ (nat_lt q (author + 1) && of_author set q c)
-gathered-means set columns id author column w n is q c = elim (cases_eq author q) [
-  | inl e ↦ let l : q < author + 1 = omega arith in rw (eq-eqb author q e, lt-ltb q (author + 1) l) (rw e at (is.means c))
-  | inr m ↦ rw (ne_eqb author q m) (w.means q c ∙ elim (cases_lt q id) [
-    | inl b ↦ let l : q < author + 1 = let a = n.above in omega arith in rw (lt-ltb q id b, lt-ltb q (author + 1) l) refl
-    | inr f ↦ rw (le-ltb q id f) (elim (cases_lt q author) [
-      | inl b ↦ let l : q < author + 1 = omega arith in rw (lt-ltb q (author + 1) l, n.between q f b c) refl
-      | inr g ↦ let l : author + 1 ≤ q = omega arith in rw (le-ltb q (author + 1) l) refl
-    ])
-  ])
-]
+gathered-means set columns id author column w n is q c = grind (arith, cases_eq, eq-eqb, lt-ltb, ne_eqb, cases_lt, le-ltb)
 
 pub GatheredTo-put : (set : Versions) (columns : List AuthorColumn) (id author : ℕ) (column : Extent) → GatheredTo set columns id → IsNextAuthor set id author → IsColumn column → IsColumnOf (of_author set author) column → 0 < column.upto → GatheredTo set (with_column (record { author = author; column = column }) columns) (author + 1)
 GatheredTo-put set columns id author column w n normal is some = record {
@@ -230,20 +215,8 @@ GatheredTo-put set columns id author column w n normal is some = record {
 }
 
 pub GatheredTo-skip : (set : Versions) (columns : List AuthorColumn) (id author : ℕ) (column : Extent) → GatheredTo set columns id → IsNextAuthor set id author → IsColumnOf (of_author set author) column → column.upto ≤ 0 → GatheredTo set columns (author + 1)
-GatheredTo-skip set columns id author column w n is none = record {
-  vector = w.vector;
-  means = λ q c. go q c (cases_eq author q) ∙ gathered-means set columns id author column w n is q c;
-}
-  where
-    nothing : (c : ℕ) → column_has column c ≡ false
-    nothing zero = refl
-    nothing (suc c) = column_has-above column (suc c) (omega arith)
-
-    go : (q c : ℕ) → (author ≡ q) ⊎ (author ≡ q → ⊥) → column_has (column_of columns q) c ≡ column_has (cond (author == q) column (column_of columns q)) c
-    go q c (inl e) = let ge : id ≤ q = let a = n.above in omega arith in w.means q c ∙ rw (le-ltb q id ge, eq-eqb author q e) (sym (nothing c))
-    go q c (inr m) = rw (ne_eqb author q m) refl
+GatheredTo-skip set columns id author column w n is h = grind (arith, cases_eq, gathered-means, column_has-above, le-ltb, eq-eqb, ne_eqb)
 
 -- where a fault comes in each case of a fact, success comes in none
 pub few_from_holes : {T : Type 0} {P : Type 0} (result : Result T FormFault) → (P → IsErrOf result TooManyHoles) → OnOk result (¬ P)
-few_from_holes (Ok value) fault = λ many. let wrong = fault many in absurd (cc)
-few_from_holes (Err e) fault = tt
+few_from_holes result fault = grind arith

@@ -50,8 +50,7 @@ column_of-take_before low (x ∷ xs) (suc k) d v l =
     rw (ne_eqb x.author (get_or xs k d).author ne) (column_of-take_before (x.author + 1) xs k d v.3 (omega arith))
 
 pub column_has-empty : (c : ℕ) → column_has empty_column c ≡ false
-column_has-empty zero = refl
-column_has-empty (suc c) = grind (arith, nat_tests)
+column_has-empty c = grind (arith, nat_tests)
 
 -- the bound is covered
 pub bound-on : (low u : ℕ) (holes : List Hole) → IsRising low (hole_edges holes ++ (u + 1) ∷ []) → is_on true (hole_edges holes ++ (u + 1) ∷ []) u ≡ true

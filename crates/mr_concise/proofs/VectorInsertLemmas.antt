@@ -1,4 +1,4 @@
-use Rattle.std.proofs.Common.{inl, inr, ◌⊎◌, ◌≡◌, ◌<◌, ◌≤◌, ◌==◌, ◌&&◌, ◌||◌, ℕ, true, false, cond, refl, ap, sym, ◌∙◌, arith, List, length, get_or, set, nat_lt, ◌-◌, Result, Ok, Err}
+use Rattle.std.proofs.Common.{inl, inr, ◌⊎◌, ◌≡◌, ◌<◌, ◌≤◌, ◌==◌, ◌&&◌, ◌||◌, ℕ, true, false, cond, refl, ap, sym, ◌∙◌, arith, List, length, get_or, set, nat_lt, Result}
 use Rattle.std.specs.Prelude.{OnOk, OnErr, IsErrOf}
 use Rattle.mr_forms.specs.declared.fault.FormFault.{FormFault}
 use Rattle.mr_forms.specs.declared.fault.FormFault.TheVariants.{TooManyHoles}
@@ -7,7 +7,7 @@ use Rattle.mr_version.specs.Name.{Name, name_eq}
 use Rattle.mr_forms.specs.Sets.{with_version}
 use Rattle.mr_version.specs.declared.version.TheConstants.{MAX_COUNTER}
 use Rattle.mr_concise.proofs.NameLemmas.{name_eq_parts}
-use Rattle.mr_concise.specs.Column.{Extent, column_has, with_counter, empty_column, gap}
+use Rattle.mr_concise.specs.Column.{Extent, column_has, with_counter, empty_column}
 use Rattle.mr_concise.specs.declared.vector.AuthorColumn.{AuthorColumn}
 use Rattle.mr_concise.specs.Vector.{column_of, vector_has, IsVectorFrom, with_column, HasTooManyHoles}
 use Rattle.mr_concise.specs.inner.Vector.{with_one}
@@ -17,10 +17,7 @@ use Rattle.mr_concise.proofs.UnionLemmas.{column_of-IsColumn}
 use Rattle.mr_concise.proofs.InsertLemmas.{with_counter-means, IsColumn-with_counter}
 
 pub eq-sym : (a b : ℕ) → (a == b) ≡ (b == a)
-eq-sym a b = elim (cases_eq a b) [
-  | inl e ↦ rw (eq-eqb a b e, eq-eqb b a (sym e)) refl
-  | inr n ↦ rw (ne_eqb a b n, ne_eqb b a (λ h. n (sym h))) refl
-]
+eq-sym a b = grind (arith, cases_eq, eq-eqb, ne_eqb)
 
 -- the set with one version more
 pub inserted-means : (old : List AuthorColumn) (version v : Name) → IsVectorFrom 0 old → 1 ≤ version.counter → vector_has (with_column (with_one old version.author version.counter) old) v ≡ with_version (vector_has old) version v
@@ -42,10 +39,7 @@ other-author : (version : Name) (q c : ℕ) → (version.author ≡ q → ⊥) �
 other-author version q c n = name_eq_parts version (record { author = q; counter = c }) ∙ rw (ne_eqb version.author q n) refl
 
 with_counter-range : (column : Extent) (k : ℕ) → column.upto ≤ MAX_COUNTER → k ≤ MAX_COUNTER → (with_counter column k).upto ≤ MAX_COUNTER
-with_counter-range column k h to = elim (cases_lt column.upto k) [
-  | inl l ↦ rw (lt-ltb column.upto k l) to
-  | inr g ↦ rw (le-ltb column.upto k g) h
-]
+with_counter-range column k h to = grind (arith, cases_lt, lt-ltb, le-ltb)
 
 -- too many holes exactly where the author's column has too many
 pub too_many-from_one : (old : List AuthorColumn) (version : Name) → version.author < 64 → IsVectorFrom 0 old → 1 ≤ version.counter → version.counter ≤ MAX_COUNTER → 4096 < length (with_one old version.author version.counter).column.holes → HasTooManyHoles (with_version (vector_has old) version)
@@ -81,18 +75,10 @@ one-from_too_many old version w from many = go (cases_eq version.author many.aut
 
 -- a column put in place of the author's
 pub with_one-set : (xs : List AuthorColumn) (i a k : ℕ) (x : AuthorColumn) (new : Extent) → ((j : ℕ) (d : AuthorColumn) → 0 ≤ j → j < i → nat_lt (get_or xs j d).author a ≡ true) → i < length xs → x ≡ get_or xs i x → x.author ≡ a → new ≡ with_counter x.column k → set xs i (record { author = x.author; column = new }) ≡ with_column (with_one xs a k) xs
-with_one-set xs i a k x new before l at e is =
-    let column = column_of-at xs i a x before l at e in
-    let one : record { author = x.author; column = new } ≡ with_one xs a k = ap (λ (c : Extent). record { author = x.author; column = c }) (is ∙ ap (λ (c : Extent). with_counter c k) column) ∙ ap (λ (b : ℕ). record { author = b; column = with_counter (column_of xs a) k }) e in
-    rw one (set-with_column (with_one xs a k) xs i x before l at e)
+with_one-set xs i a k x new before l at e is = grind (arith, column_of-at, set-with_column)
 
 pub few-empty : (column : Extent) (k : ℕ) → column ≡ empty_column → 1 ≤ k → 4096 < length (with_counter column k).holes → ⊥
-few-empty column k e from many =
-    let m : 4096 < length (gap 1 (k - 1)) = rw (e, lt-ltb 0 k from) at many in
-    elim (cases_lt (k - 1) 1) [
-      | inl l ↦ let n : 4096 < 0 = rw (lt-leb 1 (k - 1) l) at m in absurd (omega arith)
-      | inr g ↦ let n : 4096 < 1 = rw (le-leb 1 (k - 1) g) at m in absurd (omega arith)
-    ]
+few-empty column k e from many = grind (arith, lt-ltb, cases_lt, lt-leb, le-leb)
 
 some-upto : (column : Extent) (k : ℕ) → 1 ≤ k → 1 ≤ (with_counter column k).upto
 some-upto column k from = elim (cases_lt column.upto k) [
@@ -102,10 +88,4 @@ some-upto column k from = elim (cases_lt column.upto k) [
 
 -- the columns after an insert are a vector, whatever its result
 pub inserted-vector : (r : Result (Unit {0}) FormFault) (old new : List AuthorColumn) (author counter : ℕ) → IsVectorFrom 0 old → author < 64 → 1 ≤ counter → counter ≤ MAX_COUNTER → OnOk r (new ≡ with_column (with_one old author counter) old) → OnErr r (new ≡ old) → (4096 < length (with_one old author counter).column.holes → IsErrOf r TooManyHoles) → IsVectorFrom 0 new
-inserted-vector (Ok u) old new author counter v low from to ok err many =
-    let few : length (with_one old author counter).column.holes ≤ 4096 = elim (cases_lt 4096 (length (with_one old author counter).column.holes)) [
-      | inl l ↦ let no = many l in absurd (cc)
-      | inr g ↦ g
-    ] in
-    rw ok (IsVectorFrom-with_column 0 (with_one old author counter) old v (omega arith) (some-upto (column_of old author) counter from) (IsColumn-with_counter (column_of old author) counter (column_of-IsColumn 0 old author v) from to few) low)
-inserted-vector (Err e) old new author counter v low from to ok err many = rw err v
+inserted-vector r old new author counter v low from to ok err many = grind (arith, cases_lt, IsVectorFrom-with_column, some-upto, IsColumn-with_counter, column_of-IsColumn)

@@ -1,4 +1,4 @@
-use Rattle.std.proofs.Common.{inl, inr, ◌⊎◌, ◌≡◌, ◌<◌, ◌≤◌, ◌+◌, ◌==◌, ℕ, Bool, true, false, nat_lt, cond, refl, ap, sym, ◌∙◌, arith, List, [], ◌∷◌, ◌++◌, length, get_or, take, drop, set, suc, zero}
+use Rattle.std.proofs.Common.{inl, inr, ◌⊎◌, ◌≡◌, ◌<◌, ◌≤◌, ◌+◌, ◌==◌, ℕ, true, false, nat_lt, cond, refl, ap, sym, ◌∙◌, arith, List, [], ◌∷◌, ◌++◌, length, get_or, take, drop, set, suc, zero}
 use Rattle.std.specs.List.Sorted.{IsNonDecreasingBy}
 use Rattle.std.proofs.lemmas.Bool.{cases_eq, cases_order, lt-ltb, le-ltb, eq-eqb, ne_eqb, ltb-true, ltb-false}
 use Rattle.std.proofs.lemmas.List.{get_or_default}
@@ -65,21 +65,7 @@ IsVectorFrom-with_column low new (x ∷ xs) v l u c i = elim (cases_order x.auth
 
 pub column_of-with_column : (new : AuthorColumn) (xs : List AuthorColumn) (q : ℕ) → column_of (with_column new xs) q ≡ cond (new.author == q) new.column (column_of xs q)
 column_of-with_column new [] q = refl
-column_of-with_column new (x ∷ xs) q = elim (cases_order x.author new.author) [
-  | inl e ↦ let ge : new.author ≤ x.author = omega arith in rw (le-ltb x.author new.author ge, eq-eqb x.author new.author e, e) (swallow (new.author == q) new.column x.column (column_of xs q))
-  | inr (inl lt) ↦ let ih = column_of-with_column new xs q in rw (lt-ltb x.author new.author lt, ih) (apart x.author new.author q x.column new.column (column_of xs q) (λ k. omega arith))
-  | inr (inr gt) ↦ let ge : new.author ≤ x.author = omega arith in let ne : x.author ≡ new.author → ⊥ = λ k. omega arith in rw (le-ltb x.author new.author ge, ne_eqb x.author new.author ne) refl
-]
-  where
-    swallow : (b : Bool) (x y z : Extent) → cond b x z ≡ cond b x (cond b y z)
-    swallow true x y z = refl
-    swallow false x y z = refl
-
-    apart : (a n q : ℕ) (x y z : Extent) → (a ≡ n → ⊥) → cond (a == q) x (cond (n == q) y z) ≡ cond (n == q) y (cond (a == q) x z)
-    apart a n q x y z d = elim (cases_eq a q) [
-      | inl e ↦ let m : n ≡ q → ⊥ = λ k. d (e ∙ sym k) in rw (eq-eqb a q e, ne_eqb n q m) refl
-      | inr k ↦ rw (ne_eqb a q k) refl
-    ]
+column_of-with_column new (x ∷ xs) q = grind (arith, column_of-with_column new xs q, cases_order, le-ltb, eq-eqb, lt-ltb, ne_eqb, cases_eq)
 
 -- the place is where a column is put in
 pub with_column-insert : (new : AuthorColumn) (xs : List AuthorColumn) (i : ℕ) → ((k : ℕ) (d : AuthorColumn) → k < i → (get_or xs k d).author < new.author) → ((d : AuthorColumn) → i < length xs → new.author < (get_or xs i d).author) → i ≤ length xs → with_column new xs ≡ take i xs ++ new ∷ drop i xs
@@ -137,8 +123,4 @@ pub insert-with_column : (new : AuthorColumn) (xs : List AuthorColumn) (i : ℕ)
 insert-with_column new xs i before from l = sym (with_column-insert new xs i (λ k d h. ltb-true (get_or xs k d).author new.author (before k d (omega arith) h)) from l)
 
 pub above-place : (new : AuthorColumn) (xs : List AuthorColumn) (i : ℕ) (x : AuthorColumn) → ((k : ℕ) (d : AuthorColumn) → i ≤ k → k < length xs → nat_lt (get_or xs k d).author new.author ≡ false) → i < length xs → x ≡ get_or xs i x → (x.author ≡ new.author → ⊥) → (d : AuthorColumn) → new.author < (get_or xs i d).author
-above-place new xs i x from l at n d =
-    let e : (get_or xs i d).author ≡ x.author = ap (λ (z : AuthorColumn). z.author) (get_or_default xs i d x l ∙ sym at) in
-    let le : new.author ≤ (get_or xs i d).author = ltb-false (get_or xs i d).author new.author (from i d (omega arith) l) in
-    let ne : (get_or xs i d).author ≡ new.author → ⊥ = λ k. n (sym e ∙ k) in
-    omega arith
+above-place new xs i x from l at n d = grind (arith, get_or_default, ltb-false)

@@ -14,10 +14,7 @@ use Rattle.mr_concise.proofs.UnionLemmas.{column_of-IsColumn}
 use Rattle.mr_concise.proofs.VectorInsertLemmas.{eq-sym}
 
 or_comm : (a b : Bool) → (a || b) ≡ (b || a)
-or_comm true true = refl
-or_comm true false = refl
-or_comm false true = refl
-or_comm false false = refl
+or_comm a b = grind arith
 
 name_eq-sym : (a b : Name) → name_eq a b ≡ name_eq b a
 name_eq-sym a b = name_eq_parts a b ∙ ap (λ x. x && (a.counter == b.counter)) (eq-sym a.author b.author) ∙ ap (λ x. (b.author == a.author) && x) (eq-sym a.counter b.counter) ∙ sym (name_eq_parts b a)

@@ -1,5 +1,5 @@
 -- a condition's kind ends at the first colon
-use Rattle.std.proofs.Common.{◌≡◌, ◌≢◌, ℕ, ◌<◌, false, eqb, List, length, get_or, Option, Some, None}
+use Rattle.std.proofs.Common.{◌≡◌, ◌≢◌, ℕ, ◌<◌, false, eqb, List, length, get_or, Option, arith}
 use Rattle.std.specs.Option.{MatchOption, IsSomeAnd}
 use Rattle.std.proofs.lemmas.Bool.{eqb-false}
 use Rattle.std.proofs.lemmas.List.Elements.{All-from_recursion}
@@ -9,5 +9,4 @@ pub no_colon : (bytes : List ℕ) → LacksColon bytes → (i : ℕ) → i < len
 no_colon bytes lacks i below = eqb-false (get_or bytes i 0) 58 (All-from_recursion (λ b. eqb b 58 ≡ false) bytes lacks i 0 below)
 
 pub IsSomeAnd-from : {X : Type 0} (found : Option X) (P : X → Type 0) → MatchOption found ⊥ P → IsSomeAnd found P
-IsSomeAnd-from None P h = h
-IsSomeAnd-from (Some x) P h = h
+IsSomeAnd-from found P h = grind arith

@@ -1,5 +1,5 @@
 -- a clause's own conditions make the clause again
-use Rattle.std.proofs.Common.{◌≡◌, ℕ, ◌≤◌, max, ◌⊎◌, cond, eqb, List, [], ◌∷◌, ◌++◌, map, Option, Some, None, refl, sym, ◌∙◌, ap, inl, inr, arith, append-nil}
+use Rattle.std.proofs.Common.{◌≡◌, ℕ, ◌≤◌, max, ◌⊎◌, eqb, List, [], ◌∷◌, ◌++◌, map, Option, Some, None, refl, ◌∙◌, ap, arith, append-nil}
 use Rattle.std.specs.Prelude.{filter}
 use Rattle.std.specs.Int.Bits.{or_zero_r}
 use Rattle.std.specs.Int.RustNames.{bit_or}
@@ -12,14 +12,12 @@ use Rattle.mr_mail.specs.declared.flags.Flag.{Flag}
 use Rattle.mr_mail.specs.Flag.{all_flags, bit_of, has_flag}
 use Rattle.mr_mail.proofs.FlagLemmas.{passes-below}
 use Rattle.mr_filter.specs.Filter.{ClauseParts, IsClause}
-use Rattle.mr_filter.specs.Condition.{Condition, HasLabel, LacksLabel, HasFlag, LacksFlag, Since, wanted_label, barred_label, wanted_labels, barred_labels, bit_on, bit_off, all_bits, bits_on, bits_off, latest_day, Combines}
+use Rattle.mr_filter.specs.Condition.{Condition, HasLabel, LacksLabel, HasFlag, LacksFlag, Since, wanted_labels, barred_labels, bit_on, bit_off, all_bits, bits_on, bits_off, latest_day, Combines}
 use Rattle.mr_filter.specs.Text.{conditions_of, since_condition}
 
 -- what each part of a list of conditions adds
 five_parts : {M : Type 0} (h : List Condition → M) (op : M → M → M) → ((xs ys : List Condition) → h (xs ++ ys) ≡ op (h xs) (h ys)) → (a b c d e : List Condition) → h ((((a ++ b) ++ c) ++ d) ++ e) ≡ op (op (op (op (h a) (h b)) (h c)) (h d)) (h e)
-five_parts h op law a b c d e =
-    law (((a ++ b) ++ c) ++ d) e
-    ∙ ap (λ m. op m (h e)) (law ((a ++ b) ++ c) d ∙ ap (λ m. op m (h d)) (law (a ++ b) c ∙ ap (λ m. op m (h c)) (law a b)))
+five_parts h op law a b c d e = grind arith
 
 filter_map_none : {X Y : Type 0} (h : Condition → Option Y) (f : X → Condition) → ((x : X) → h (f x) ≡ None) → (xs : List X) → filter_map h (map f xs) ≡ []
 filter_map_none h f none [] = refl
@@ -36,8 +34,7 @@ or_assoc a b c =
 
 pub all_bits-append : (bit : Condition → ℕ) (xs ys : List Condition) → all_bits bit (xs ++ ys) ≡ bit_or (all_bits bit xs) (all_bits bit ys)
 all_bits-append bit [] ys = refl
-all_bits-append bit (x ∷ xs) ys =
-    ap (bit_or (bit x)) (all_bits-append bit xs ys) ∙ sym (or_assoc (bit x) (all_bits bit xs) (all_bits bit ys))
+all_bits-append bit (x ∷ xs) ys = grind (arith, all_bits-append bit xs ys, or_assoc)
 
 all_bits_none : {X : Type 0} (bit : Condition → ℕ) (f : X → Condition) → ((x : X) → bit (f x) ≡ 0) → (xs : List X) → all_bits bit (map f xs) ≡ 0
 all_bits_none bit f none [] = refl
@@ -68,52 +65,24 @@ latest_day_none f none [] = refl
 latest_day_none f none (x ∷ xs) = let rest = latest_day_none f none xs in let here = none x in omega (arith, rest, here)
 
 since_cases : (day : ℕ) → ((day ≡ 0) × (since_condition day ≡ [])) ⊎ (since_condition day ≡ Since day ∷ [])
-since_cases day =
-    elim (eqb_tells day 0) [
-      | inl first ↦ inl (first.1, ap (λ b. cond b [] (Since day ∷ [])) first.0)
-      | inr later ↦ inr (ap (λ b. cond b [] (Since day ∷ [])) later.0)
-    ]
+since_cases day = grind (arith, eqb_tells)
 
 latest_day-since : (day : ℕ) → latest_day (since_condition day) ≡ day
-latest_day-since day =
-    elim (since_cases day) [
-      | inl first ↦ ap latest_day first.1 ∙ sym first.0
-      | inr later ↦ ap latest_day later ∙ most day
-    ]
-  where
-    most : (n : ℕ) → max n 0 ≡ n
-    most n = omega arith
+latest_day-since day = grind (arith, since_cases, max)
 
 -- what is no day is not named by the condition on one
 since_none : {M : Type 0} (h : List Condition → M) (m : M) → h [] ≡ m → ((day : ℕ) → h (Since day ∷ []) ≡ m) → (day : ℕ) → h (since_condition day) ≡ m
-since_none h m none other day =
-    elim (since_cases day) [ inl first ↦ ap h first.1 ∙ none | inr later ↦ ap h later ∙ other day ]
+since_none h m k other day = grind (arith, since_cases)
 
 -- the parts of a clause's own conditions
 parts_of : {M : Type 0} (h : List Condition → M) (op : M → M → M) → ((xs ys : List Condition) → h (xs ++ ys) ≡ op (h xs) (h ys)) → (clause : ClauseParts) (a b c d e : M) → h (map HasLabel clause.all_labels) ≡ a → h (map LacksLabel clause.no_labels) ≡ b → h (map HasFlag (filter (has_flag clause.flags_on) all_flags)) ≡ c → h (map LacksFlag (filter (has_flag clause.flags_off) all_flags)) ≡ d → h (since_condition clause.since) ≡ e → h (conditions_of clause) ≡ op (op (op (op a b) c) d) e
-parts_of h op law clause a b c d e pa pb pc pd pe =
-    five_parts h op law (map HasLabel clause.all_labels) (map LacksLabel clause.no_labels) (map HasFlag (filter (has_flag clause.flags_on) all_flags)) (map LacksFlag (filter (has_flag clause.flags_off) all_flags)) (since_condition clause.since)
-    ∙ (λ i. op (op (op (op (pa i) (pb i)) (pc i)) (pd i)) (pe i))
+parts_of h op law clause a b c d e pa pb pc pd pe = grind (arith, five_parts)
 
 wanted-conditions_of : (clause : ClauseParts) → wanted_labels (conditions_of clause) ≡ clause.all_labels
-wanted-conditions_of clause =
-    parts_of wanted_labels (λ xs ys. xs ++ ys) (filter_map-append wanted_label) clause clause.all_labels [] [] [] []
-    (filter_map_same wanted_label HasLabel (λ x. refl) clause.all_labels)
-    (filter_map_none wanted_label LacksLabel (λ x. refl) clause.no_labels)
-    (filter_map_none wanted_label HasFlag (λ x. refl) (filter (has_flag clause.flags_on) all_flags))
-    (filter_map_none wanted_label LacksFlag (λ x. refl) (filter (has_flag clause.flags_off) all_flags))
-    (since_none wanted_labels [] refl (λ day. refl) clause.since)
-    ∙ simp append-nil
+wanted-conditions_of clause = grind (arith, parts_of, filter_map-append, filter_map_same, filter_map_none, since_none, append-nil)
 
 barred-conditions_of : (clause : ClauseParts) → barred_labels (conditions_of clause) ≡ clause.no_labels
-barred-conditions_of clause =
-    parts_of barred_labels (λ xs ys. xs ++ ys) (filter_map-append barred_label) clause [] clause.no_labels [] [] []
-    (filter_map_none barred_label HasLabel (λ x. refl) clause.all_labels)
-    (filter_map_same barred_label LacksLabel (λ x. refl) clause.no_labels)
-    (filter_map_none barred_label HasFlag (λ x. refl) (filter (has_flag clause.flags_on) all_flags))
-    (filter_map_none barred_label LacksFlag (λ x. refl) (filter (has_flag clause.flags_off) all_flags))
-    (since_none barred_labels [] refl (λ day. refl) clause.since)
-    ∙ simp append-nil
+barred-conditions_of clause = grind (arith, parts_of, filter_map-append, filter_map_none, filter_map_same, since_none, append-nil)
 
 on-conditions_of : (clause : ClauseParts) → clause.flags_on ≤ 31 → bits_on (conditions_of clause) ≡ clause.flags_on
 on-conditions_of clause within =
@@ -136,20 +105,7 @@ off-conditions_of clause within =
     ∙ or_zero_r clause.flags_off
 
 since-conditions_of : (clause : ClauseParts) → latest_day (conditions_of clause) ≡ clause.since
-since-conditions_of clause =
-    parts_of latest_day max latest_day-append clause 0 0 0 0 clause.since
-    (latest_day_none HasLabel (λ x. refl) clause.all_labels)
-    (latest_day_none LacksLabel (λ x. refl) clause.no_labels)
-    (latest_day_none HasFlag (λ x. refl) (filter (has_flag clause.flags_on) all_flags))
-    (latest_day_none LacksFlag (λ x. refl) (filter (has_flag clause.flags_off) all_flags))
-    (latest_day-since clause.since)
-    ∙ omega arith
+since-conditions_of clause = grind (arith, parts_of, max, latest_day-append, latest_day_none, latest_day-since)
 
 pub Combines-conditions_of : (clause : ClauseParts) → IsClause clause → Combines (conditions_of clause) clause
-Combines-conditions_of clause kept = record {
-  wanted = rw (wanted-conditions_of clause) (record { rising = kept.wanted.rising; same = λ label. refl });
-  barred = rw (barred-conditions_of clause) (record { rising = kept.barred.rising; same = λ label. refl });
-  on = sym (on-conditions_of clause kept.on_in);
-  off = sym (off-conditions_of clause kept.off_in);
-  since = sym (since-conditions_of clause);
-}
+Combines-conditions_of clause kept = grind (arith, wanted-conditions_of, barred-conditions_of, on-conditions_of, off-conditions_of, since-conditions_of)

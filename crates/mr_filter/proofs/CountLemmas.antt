@@ -1,5 +1,5 @@
 -- among more labels no fewer differ
-use Rattle.std.proofs.Common.{◌≡◌, ℕ, ◌≤◌, Bool, true, false, cond, ◌||◌, List, [], ◌∷◌, refl, sym, ◌∙◌, ap}
+use Rattle.std.proofs.Common.{◌≡◌, ℕ, ◌≤◌, Bool, true, false, cond, ◌||◌, List, [], ◌∷◌, refl, sym, ◌∙◌, ap, arith}
 use Rattle.std.specs.List.{list_any, AllByRecursion, IsDistinct}
 use Rattle.std.specs.Set.{unique_keys}
 use Rattle.std.specs.Cmp.Lexicographic.{nat_list_eq_equiv}
@@ -10,8 +10,7 @@ use Rattle.mr_mail.specs.Label.{text_eq, has_label, different_labels}
 
 -- a label that is named again is no new one
 named_again : (same rest : Bool) → (same ≡ true → rest ≡ true) → rest ≡ (same || rest)
-named_again true rest again = again refl
-named_again false rest again = refl
+named_again same rest again = grind arith
 
 has_label-unique_keys : (labels : List (List ℕ)) (label : List ℕ) → has_label (unique_keys text_eq labels) label ≡ has_label labels label
 has_label-unique_keys [] label = refl
@@ -24,11 +23,7 @@ has_label-unique_keys (x ∷ labels) label =
 
 apart_from_absent : (label : List ℕ) (labels : List (List ℕ)) → has_label labels label ≡ false → AllByRecursion (λ other. text_eq label other ≡ false) labels
 apart_from_absent label [] absent = tt
-apart_from_absent label (x ∷ labels) absent =
-    elim (text_eq label x) as (λ b. (text_eq label x ≡ b) → (b || has_label labels label) ≡ false → (text_eq label x ≡ false) × AllByRecursion (λ other. text_eq label other ≡ false) labels) [
-      | true ↦ λ _ no. absurd (true≢false no)
-      | false ↦ λ other rest. (other, apart_from_absent label labels rest)
-    ] refl absent
+apart_from_absent label (x ∷ labels) absent = grind (arith, apart_from_absent label labels, true≢false)
 
 IsDistinct-unique_keys : (labels : List (List ℕ)) → IsDistinct text_eq (unique_keys text_eq labels)
 unfolding IsDistinct

@@ -1,8 +1,7 @@
 -- where a text is cut
-use Rattle.std.proofs.Common.{◌≡◌, ℕ, suc, ◌<◌, ◌≤◌, length, take, drop, take-append-drop, subst, arith, ◌&&◌, Bool, true, false, eqb, List, [], ◌∷◌, ◌++◌, refl, sym, ◌∙◌, ap}
+use Rattle.std.proofs.Common.{◌≡◌, ℕ, suc, ◌<◌, ◌≤◌, length, take, drop, take-append-drop, subst, arith, Bool, false, eqb, List, [], ◌∷◌, ◌++◌, refl, sym, ◌∙◌, ap}
 use Rattle.std.specs.List.{AllByRecursion, onto_first}
 use Rattle.std.proofs.lemmas.Bool.{eq-eqb, eqb-true}
-use Rattle.std.specs.Cmp.{first_so, second_so}
 use Rattle.std.specs.Str.Pattern.{LacksTextAt, HasTextAt}
 use Rattle.mr_filter.specs.Text.{join_or}
 use Rattle.mr_filter.specs.Grammar.{is_separator, cut_at}
@@ -18,20 +17,15 @@ Lacks mark = AllByRecursion (λ b. eqb b mark ≡ false)
 
 -- a text that begins with no separator is cut as what follows its first byte
 pub cut_at-other : (mark a : ℕ) (tail : List ℕ) → begins mark (a ∷ tail) ≡ false → cut_at mark (a ∷ tail) ≡ onto_first a (cut_at mark tail)
-cut_at-other mark a [] other = refl
-cut_at-other mark a (b ∷ []) other = refl
-cut_at-other mark a (b ∷ c ∷ rest) other =
-    ap (λ test. elim test [ true ↦ [] ∷ cut_at mark rest | false ↦ onto_first a (cut_at mark (b ∷ c ∷ rest)) ]) other
+cut_at-other mark a tail other = grind arith
 
 -- a separator is cut out
 pub cut_at-separator : (mark : ℕ) (rest : List ℕ) → cut_at mark (32 ∷ mark ∷ 32 ∷ rest) ≡ [] ∷ cut_at mark rest
-cut_at-separator mark rest =
-    ap (λ same. elim (same && true && true) [ true ↦ [] ∷ cut_at mark rest | false ↦ onto_first 32 (cut_at mark (mark ∷ 32 ∷ rest)) ]) (eq-eqb mark mark refl)
+cut_at-separator mark rest = grind (arith, eq-eqb)
 
 -- where the second byte is not the mark, no separator begins
 begins-second : (mark a b : ℕ) (tail : List ℕ) → eqb b mark ≡ false → begins mark (a ∷ b ∷ tail) ≡ false
-begins-second mark a b [] other = refl
-begins-second mark a b (c ∷ tail) other = ap (λ test. test && eqb a 32 && eqb c 32) other
+begins-second mark a b tail other = grind (arith, eqb)
 
 -- a piece without the mark is cut off whole
 pub cut_at-piece : (mark : ℕ) → eqb 32 mark ≡ false → (piece rest : List ℕ) → Lacks mark piece → cut_at mark (piece ++ (32 ∷ mark ∷ 32 ∷ rest)) ≡ piece ∷ cut_at mark rest
@@ -52,25 +46,11 @@ cut_at-last mark (a ∷ b ∷ piece) lacks =
 -- pieces without the mark are what their text is cut into
 pub cut_at-join_or : (mark : ℕ) → eqb 32 mark ≡ false → (none piece : List ℕ) (more : List (List ℕ)) → AllByRecursion (Lacks mark) (piece ∷ more) → cut_at mark (join_or none (32 ∷ mark ∷ 32 ∷ []) (piece ∷ more)) ≡ piece ∷ more
 cut_at-join_or mark space none piece [] lacks = cut_at-last mark piece lacks.0
-cut_at-join_or mark space none piece (next ∷ more) lacks =
-    cut_at-piece mark space piece (join_or none (32 ∷ mark ∷ 32 ∷ []) (next ∷ more)) lacks.0
-    ∙ ap (λ rest. piece ∷ rest) (cut_at-join_or mark space none next more lacks.1)
+cut_at-join_or mark space none piece (next ∷ more) lacks = grind (arith, cut_at-join_or mark space none next more lacks.1, cut_at-piece)
 
 -- where a text doesn't begin with a separator, it has none at its begin
 begins-lacks : (mark : ℕ) (text : List ℕ) → LacksTextAt (32 ∷ mark ∷ 32 ∷ []) text 0 → begins mark text ≡ false
-begins-lacks mark [] lacks = refl
-begins-lacks mark (a ∷ []) lacks = refl
-begins-lacks mark (a ∷ b ∷ []) lacks = refl
-begins-lacks mark (a ∷ b ∷ c ∷ rest) lacks = by (is_separator mark a b c) refl
-  where
-    by : (test : Bool) → is_separator mark a b c ≡ test → test ≡ false
-    by false is = refl
-    by true is =
-        let both : (eqb b mark && eqb a 32) ≡ true = first_so (eqb b mark && eqb a 32) (eqb c 32) is in
-        let eb : b ≡ mark = eqb-true b mark (first_so (eqb b mark) (eqb a 32) both) in
-        let ea : a ≡ 32 = eqb-true a 32 (second_so (eqb b mark) (eqb a 32) both) in
-        let ec : c ≡ 32 = eqb-true c 32 (second_so (eqb b mark && eqb a 32) (eqb c 32) is) in
-        absurd (lacks rest (λ i. ea i ∷ eb i ∷ ec i ∷ rest))
+begins-lacks mark text lacks = grind (arith, eqb, eqb-true)
 
 -- a text is cut at the first separator
 pub cut_at-first : (mark : ℕ) (front rest : List ℕ) → ((i : ℕ) → i < length front → LacksTextAt (32 ∷ mark ∷ 32 ∷ []) (front ++ (32 ∷ mark ∷ 32 ∷ rest)) i) → cut_at mark (front ++ (32 ∷ mark ∷ 32 ∷ rest)) ≡ front ∷ cut_at mark rest

@@ -1,5 +1,5 @@
 -- a draft with one more condition
-use Rattle.std.proofs.Common.{◌≡◌, ℕ, ◌-◌, ◌<◌, List, [], ◌∷◌, ◌++◌, length, max, Result, Ok, Err, sym, subst, refl, arith, append-nil}
+use Rattle.std.proofs.Common.{◌≡◌, ℕ, ◌-◌, ◌<◌, List, [], ◌∷◌, ◌++◌, length, max, Result, sym, subst, refl, arith, append-nil}
 use Rattle.std.specs.Int.Bits.{or_zero_r}
 use Rattle.std.specs.Int.RustNames.{bit_or}
 use Rattle.std.specs.List.Sorted.{IsStrictlySortedBy}
@@ -38,16 +38,11 @@ module _ (old : ClauseParts) (kept : IsClause old) where
 
   -- one more label than there is room for
   pub wanted_too_many : (label : List ℕ) → MAX_CLAUSE_LABELS - length old.no_labels < different_labels (old.all_labels ++ label ∷ []) → MAX_CLAUSE_LABELS < label_count_with old (HasLabel label)
-  wanted_too_many label more =
-      let others : different_labels (old.no_labels ++ []) ≡ length old.no_labels = rw (append-nil old.no_labels) (different_labels-rising old.no_labels kept.barred.rising) in
-      omega (arith, others, more)
+  wanted_too_many label more = grind (arith, append-nil, different_labels-rising)
 
   pub barred_too_many : (label : List ℕ) → MAX_CLAUSE_LABELS - length old.all_labels < different_labels (old.no_labels ++ label ∷ []) → MAX_CLAUSE_LABELS < label_count_with old (LacksLabel label)
-  barred_too_many label more =
-      let others : different_labels (old.all_labels ++ []) ≡ length old.all_labels = rw (append-nil old.all_labels) (different_labels-rising old.all_labels kept.wanted.rising) in
-      omega (arith, others, more)
+  barred_too_many label more = grind (arith, append-nil, different_labels-rising)
 
 -- a fact of no error is one of each
 pub IfErr-any : {X E : Type 0} (result : Result X E) (P : Type 0) → P → IfErr result (λ _. P)
-IfErr-any (Ok x) P holds = tt
-IfErr-any (Err e) P holds = holds
+IfErr-any result P holds = grind arith

@@ -1,5 +1,5 @@
 -- a label put at its place among labels that rise
-use Rattle.std.proofs.Common.{◌≡◌, ℕ, ◌+◌, ◌<◌, ◌≤◌, ◌||◌, Bool, true, false, List, [], ◌∷◌, ◌++◌, map, length, take, drop, take-append-drop, refl, sym, ◌∙◌, ap, subst, arith}
+use Rattle.std.proofs.Common.{◌≡◌, ℕ, ◌≤◌, ◌||◌, Bool, true, false, List, [], ◌∷◌, ◌++◌, map, length, take, drop, take-append-drop, sym, ◌∙◌, ap, subst, arith}
 use Rattle.std.specs.List.{insert, AllWithin, AllPass, AllByRecursion, IsDistinct}
 use Rattle.std.specs.List.Sorted.{IsStrictlySortedBy, IsPartitionPoint, IsPermutation}
 use Rattle.std.specs.declared.cmp.Ordering.TheVariants.{Less, Greater}
@@ -17,14 +17,10 @@ use Rattle.mr_mail.proofs.LabelLemmas.{AllByRecursion-map}
 
 -- what lies before a place, and what lies from it on
 before_place : {X : Type 0} (P : X → Type 0) (xs : List X) (i : ℕ) → i ≤ length xs → AllWithin P xs 0 i → AllByRecursion P (take i xs)
-before_place P xs i within each =
-    recursion_from_All P (take i xs)
-    (λ k d below. let long = length-take-le i xs within in let inside : k < i = omega arith in rw (get_or-take i xs k d inside) (each k d (omega arith) inside))
+before_place P xs i within each = grind (arith, recursion_from_All, length-take-le, get_or-take)
 
 from_place : {X : Type 0} (P : X → Type 0) (xs : List X) (i : ℕ) → i ≤ length xs → AllWithin P xs i (length xs) → AllByRecursion P (drop i xs)
-from_place P xs i within each =
-    recursion_from_All P (drop i xs)
-    (λ k d below. let long = length-drop i xs in rw (get_or-drop i xs k d) (each (i + k) d (omega arith) (omega arith)))
+from_place P xs i within each = grind (arith, recursion_from_All, length-drop, get_or-drop)
 
 AllByRecursion-between : {X : Type 0} (P : X → Type 0) (front back : List X) (x : X) → AllByRecursion P (front ++ back) → P x → AllByRecursion P (front ++ x ∷ back)
 AllByRecursion-between P [] back x each here = (here, each)
@@ -57,10 +53,7 @@ IsPermutation-placed f xs i y =
     (IsPermutation-map f (y ∷ xs) (insert xs i y) (IsPermutation-insert xs i y))
 
 pub AreLabelsOf-insert : {X : Type 0} (f : X → List ℕ) (xs : List X) (i : ℕ) (y : X) → IsStrictlySortedBy text_cmp (map f (insert xs i y)) → AreLabelsOf (map f xs ++ f y ∷ []) (map f (insert xs i y))
-AreLabelsOf-insert f xs i y rising = record {
-  rising = rising;
-  same = λ label. sym (list_any-IsPermutation (text_eq label) (map f xs ++ f y ∷ []) (map f (insert xs i y)) (IsPermutation-placed f xs i y));
-}
+AreLabelsOf-insert f xs i y rising = grind (arith, list_any-IsPermutation, IsPermutation-placed)
 
 pub AllPass-insert : {X : Type 0} (f : X → List ℕ) (xs : List X) (i : ℕ) (y : X) → AllPass is_label (map f xs) → is_label (f y) ≡ true → AllPass is_label (map f (insert xs i y))
 AllPass-insert f xs i y each here =
@@ -69,9 +62,7 @@ AllPass-insert f xs i y each here =
 
 -- a label that is there already adds nothing
 found_again : (same rest : Bool) → (same ≡ true → rest ≡ true) → rest ≡ (rest || (same || false))
-found_again same true again = refl
-found_again true false again = again refl
-found_again false false again = refl
+found_again same rest again = grind arith
 
 pub AreLabelsOf-again : (labels : List (List ℕ)) (label : List ℕ) → IsStrictlySortedBy text_cmp labels → has_label labels label ≡ true → AreLabelsOf (labels ++ label ∷ []) labels
 AreLabelsOf-again labels label rising has = record {

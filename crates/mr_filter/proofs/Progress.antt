@@ -1,5 +1,5 @@
 -- how far a walk over the pieces of a text has come
-use Rattle.std.proofs.Common.{◌≡◌, ℕ, ◌+◌, List, [], ◌∷◌, ◌++◌, length, sym, ◌∙◌, ap, arith, append_assoc, true, false, eqb, Option, Some, None}
+use Rattle.std.proofs.Common.{◌≡◌, ℕ, ◌+◌, List, [], ◌∷◌, ◌++◌, length, ◌∙◌, arith, append_assoc, true, false, eqb, Option}
 use Rattle.std.specs.Option.{MatchOption, IfSome, IfNone, is_some}
 use Rattle.std.proofs.lemmas.Bool.{true≢false, false≢true}
 use Rattle.std.specs.Cmp.Lexicographic.{pointwise}
@@ -25,35 +25,21 @@ width-push before piece = let both = sum_by-append (λ p. length p + 3) before (
 
 -- one more piece
 pub HasPassed-more : (mark : ℕ) (Fine : List ℕ → Type 0) (text rest : List ℕ) (place : ℕ) (piece next : List ℕ) (later : ℕ) → HasPassed mark Fine text rest place → Fine piece → cut_at mark rest ≡ piece ∷ cut_at mark next → length piece + 3 + length next ≡ length rest → later ≡ place + (length piece + 3) → HasPassed mark Fine text next later
-HasPassed-more mark Fine text rest place piece next later passed here cut long is =
-    let wide = width-push passed.before piece in
-    let at = passed.place_is in
-    let left = passed.left in
-    record {
-      before = passed.before ++ piece ∷ [];
-      pieces = passed.pieces ∙ ap (λ ps. passed.before ++ ps) cut ∙ sym (append_assoc passed.before (piece ∷ []) (cut_at mark next));
-      fine = AllByRecursion-push Fine passed.before piece passed.fine here;
-      place_is = omega (arith, wide, at, is);
-      left = omega (arith, left, long, is);
-    }
+HasPassed-more mark Fine text rest place piece next later passed here cut long is = grind (arith, width-push, append_assoc, AllByRecursion-push)
 
 -- the last piece
 pub HasPassed-all : (mark : ℕ) (Fine : List ℕ → Type 0) (text rest : List ℕ) (place : ℕ) (piece : List ℕ) → HasPassed mark Fine text rest place → Fine piece → cut_at mark rest ≡ piece ∷ [] → AllByRecursion Fine (cut_at mark text)
-HasPassed-all mark Fine text rest place piece passed here cut =
-    rw (passed.pieces ∙ ap (λ ps. passed.before ++ ps) cut) (AllByRecursion-push Fine passed.before piece passed.fine here)
+HasPassed-all mark Fine text rest place piece passed here cut = grind (arith, AllByRecursion-push)
 
 -- what is cut off is the first piece
 pub cut-front : {X : Type 0} (more : Option X) (pieces : List (List ℕ)) (piece : List ℕ) (behind : X → List (List ℕ)) → MatchOption more (pieces ≡ piece ∷ []) (λ rest. pieces ≡ piece ∷ behind rest) → (after : List (List ℕ)) × (pieces ≡ piece ∷ after)
-cut-front None pieces piece behind is = ([], is)
-cut-front (Some rest) pieces piece behind is = (behind rest, is)
+cut-front more pieces piece behind is = grind arith
 
 pub at_none : {X : Type 0} (found : Option X) (P : Type 0) → IfNone found P → is_some found ≡ false → P
-at_none None P holds none = holds
-at_none (Some x) P holds none = absurd (true≢false none)
+at_none found P holds h = grind (arith, true≢false)
 
 pub found_at : {X Y : Type 0} (found : Option X) (P : Y → Type 0) (meaning : X → Y) → IfSome found (λ x. P (meaning x)) → is_some found ≡ true → (y : Y) × P y
-found_at None P meaning holds some = absurd (true≢false (sym some))
-found_at (Some x) P meaning holds some = (meaning x, holds)
+found_at found P meaning holds some = grind (arith, true≢false)
 
 -- what a test told apart is not the same text
 pub other_text : (xs ys : List ℕ) → false ≡ pointwise eqb xs ys → xs ≡ ys → ⊥

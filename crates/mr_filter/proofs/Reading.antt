@@ -1,5 +1,5 @@
 -- how far the reading of a text has come
-use Rattle.std.proofs.Common.{◌≡◌, ℕ, length, ◌<◌, ◌≤◌, Bool, true, false, ◌||◌, ◌++◌, List, [], ◌∷◌, refl, sym, ◌∙◌, ap, subst, inl, inr, codes, arith, append_assoc}
+use Rattle.std.proofs.Common.{◌≡◌, ℕ, length, ◌<◌, ◌≤◌, Bool, true, ◌||◌, ◌++◌, List, [], ◌∷◌, sym, ◌∙◌, ap, subst, inl, inr, codes, arith, append_assoc}
 use Rattle.std.specs.Int.Bits.{or_zero_r}
 use Rattle.std.specs.Int.RustNames.{bit_or}
 use Rattle.std.specs.List.{AllZip, All, AllByRecursion, list_any}
@@ -41,13 +41,7 @@ Combines-more given old new c so_far more = record {
 -- no condition asks nothing
 pub Combines-none : Combines [] no_condition
 unfolding IsStrictlySortedBy
-Combines-none = record {
-  wanted = record { rising = tt; same = λ label. refl };
-  barred = record { rising = tt; same = λ label. refl };
-  on = refl;
-  off = refl;
-  since = refl;
-}
+Combines-none = grind arith
 
 -- the pieces before the rest are conditions, which the draft asks together
 pub record HasReadConditions (text rest : List ℕ) (draft : ClauseParts) : Type 0 where
@@ -83,8 +77,7 @@ HasReadClauses-more text rest next piece clauses new clause so_far cut read kept
 
 -- the last clause
 pub HasReadClauses-all : (text rest piece : List ℕ) (clauses new : List ClauseParts) (clause : ClauseParts) → HasReadClauses text rest clauses → clauses_of rest ≡ piece ∷ [] → ReadsClause piece clause → new ≡ clauses ++ clause ∷ [] → AllZip ReadsClause (clauses_of text) new
-HasReadClauses-all text rest piece clauses new clause so_far cut read added =
-    rw (so_far.pieces ∙ ap (λ ps. so_far.before ++ ps) cut, added) (AllZip-append ReadsClause so_far.before (piece ∷ []) clauses (clause ∷ []) so_far.read (read, tt))
+HasReadClauses-all text rest piece clauses new clause so_far cut read added = grind (arith, AllZip-append)
 
 -- one more condition
 pub HasReadConditions-more : (text rest next piece : List ℕ) (draft new : ClauseParts) (condition : Condition) → HasReadConditions text rest draft → pieces_of rest ≡ piece ∷ pieces_of next → SpellsCondition piece condition → IsUtf8 next → IsWithCondition draft condition new → HasReadConditions text next new
@@ -107,19 +100,10 @@ HasReadConditions-all text rest piece draft new condition so_far cut spelled add
 
 -- what is among the first labels is among all of them
 or_more : (a b c : Bool) → (a || b) ≡ true → (a || (b || c)) ≡ true
-or_more true b c some = refl
-or_more false true c some = refl
-or_more false false c some = absurd (false≢true some)
+or_more a b c some = grind (arith, false≢true)
 
 different_labels-more : (given labels added later : List (List ℕ)) → AreLabelsOf given labels → different_labels (labels ++ added) ≤ different_labels (given ++ (added ++ later))
-different_labels-more given labels added later so_far =
-    different_labels-le (labels ++ added) (given ++ (added ++ later))
-    (λ label has.
-    let first : (list_any (text_eq label) labels || list_any (text_eq label) added) ≡ true = sym (list_any-append (text_eq label) labels added) ∙ has in
-    let here : (list_any (text_eq label) given || list_any (text_eq label) added) ≡ true = ap (λ b. b || list_any (text_eq label) added) (sym (so_far.same label)) ∙ first in
-    list_any-append (text_eq label) given (added ++ later)
-    ∙ ap (λ b. list_any (text_eq label) given || b) (list_any-append (text_eq label) added later)
-    ∙ or_more (list_any (text_eq label) given) (list_any (text_eq label) added) (list_any (text_eq label) later) here)
+different_labels-more given labels added later so_far = grind (arith, different_labels-le, list_any-append, or_more)
 
 label_count-more : (given later : List Condition) (draft : ClauseParts) (c : Condition) → Combines given draft → label_count_with draft c ≤ label_count (given ++ c ∷ later)
 label_count-more given later draft c so_far =
@@ -162,6 +146,4 @@ piece_in_grammar text before after piece fine other pieces =
 
 -- the clauses of a text with at most sixteen are a filter
 pub IsFilter-read : (text : List ℕ) (clauses : List ClauseParts) → AllZip ReadsClause (clauses_of text) clauses → All IsClause clauses → length (clauses_of text) ≤ 16 → IsFilter clauses
-IsFilter-read text clauses read kept few =
-    let long = length_zip ReadsClause (clauses_of text) clauses read in
-    record { each = kept; few = omega (arith, long) }
+IsFilter-read text clauses read kept few = grind (arith, length_zip)

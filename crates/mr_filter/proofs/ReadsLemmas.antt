@@ -1,7 +1,6 @@
 -- what a filter's text means is the filter
-use Rattle.std.proofs.Common.{◌≡◌, ℕ, not, Bool, true, false, eqb, List, [], ◌∷◌, ◌++◌, refl, sym, ◌∙◌, ap, inl, inr, codes}
+use Rattle.std.proofs.Common.{◌≡◌, ℕ, not, Bool, true, false, eqb, List, [], ◌∷◌, ◌++◌, refl, ◌∙◌, ap, inl, inr, codes, arith}
 use Rattle.std.specs.List.{list_all, AllByRecursion, AllZip, All}
-use Rattle.std.specs.Cmp.{first_so, second_so}
 use Rattle.std.proofs.lemmas.List.Elements.{All-head, All-tail}
 use Rattle.mr_filter.specs.Filter.{ClauseParts, IsClause, IsFilter}
 use Rattle.mr_filter.specs.Condition.{Condition, SpellsCondition}
@@ -13,22 +12,15 @@ use Rattle.mr_filter.proofs.CombineLemmas.{Combines-conditions_of}
 
 -- a list of plain bytes has neither mark
 not_true : (b : Bool) → not b ≡ true → b ≡ false
-not_true true h = sym h
-not_true false h = refl
+not_true b h = grind arith
 
 lacks_first : (bytes : List ℕ) → list_all is_plain bytes ≡ true → Lacks 38 bytes
 lacks_first [] each = tt
-lacks_first (b ∷ bytes) each = (
-  not_true (eqb b 38) (first_so (not (eqb b 38)) (not (eqb b 124)) (first_so (is_plain b) (list_all is_plain bytes) each)),
-  lacks_first bytes (second_so (is_plain b) (list_all is_plain bytes) each),
-)
+lacks_first (b ∷ bytes) each = grind (arith, lacks_first bytes, not_true, eqb, is_plain)
 
 lacks_second : (bytes : List ℕ) → list_all is_plain bytes ≡ true → Lacks 124 bytes
 lacks_second [] each = tt
-lacks_second (b ∷ bytes) each = (
-  not_true (eqb b 124) (second_so (not (eqb b 38)) (not (eqb b 124)) (first_so (is_plain b) (list_all is_plain bytes) each)),
-  lacks_second bytes (second_so (is_plain b) (list_all is_plain bytes) each),
-)
+lacks_second (b ∷ bytes) each = grind (arith, lacks_second bytes, not_true, eqb, is_plain)
 
 Lacks-append : (mark : ℕ) (xs ys : List ℕ) → Lacks mark xs → Lacks mark ys → Lacks mark (xs ++ ys)
 Lacks-append mark [] ys first second = second
@@ -46,9 +38,7 @@ pieces_lack (p ∷ pieces) (c ∷ given) spelled =
 -- so a clause's text has no second mark
 joined_lacks : (piece : List ℕ) (more : List (List ℕ)) → AllByRecursion (Lacks 124) (piece ∷ more) → Lacks 124 (join_or (codes "all") (codes " & ") (piece ∷ more))
 joined_lacks piece [] lacks = lacks.0
-joined_lacks piece (next ∷ more) lacks =
-    Lacks-append 124 piece (codes " & " ++ join_or (codes "all") (codes " & ") (next ∷ more)) lacks.0
-    (refl, (refl, (refl, joined_lacks next more lacks.1)))
+joined_lacks piece (next ∷ more) lacks = grind (arith, joined_lacks next more lacks.1, Lacks-append, codes)
 
 clause_lacks : (clause : ClauseParts) (text : List ℕ) → IsClauseText clause text → Lacks 124 text
 clause_lacks clause text is = by is.pieces is.spelled is.joined
@@ -59,8 +49,7 @@ clause_lacks clause text is = by is.pieces is.spelled is.joined
 
 -- no piece spells no condition
 none_given : (given : List Condition) → AllZip SpellsCondition [] given → given ≡ []
-none_given [] spelled = refl
-none_given (c ∷ given) spelled = absurd spelled
+none_given given spelled = grind arith
 
 clause_read : (clause : ClauseParts) (text : List ℕ) → IsClause clause → IsClauseText clause text → ReadsClause text clause
 clause_read clause text kept is = record {

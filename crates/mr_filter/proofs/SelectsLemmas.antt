@@ -1,15 +1,14 @@
 -- a text's filter selects what some clause of the text is true of
-use Rattle.std.proofs.Common.{◌≡◌, ℕ, ◌≤◌, max, Bool, true, false, not, ◌&&◌, ◌||◌, List, [], ◌∷◌, sym, ◌∙◌, ap, subst, refl, arith, inl, inr, codes}
+use Rattle.std.proofs.Common.{◌≡◌, ℕ, ◌≤◌, max, Bool, true, not, ◌&&◌, ◌||◌, List, [], ◌∷◌, ◌∙◌, ap, refl, arith, inl, inr, codes}
 use Rattle.std.specs.Prelude.{nat_le, IsTrue, ◌↔◌}
 use Rattle.std.specs.Int.Bits.{or_zero_r}
 use Rattle.std.specs.Int.RustNames.{bit_or}
-use Rattle.std.specs.List.{list_all, list_any, AllZip}
-use Rattle.std.specs.Cmp.{first_so, second_so, both_ways}
+use Rattle.std.specs.List.{list_all, AllZip}
 use Rattle.std.specs.Cmp.Derive.{both_true}
 use Rattle.std.specs.Cmp.Lexicographic.{nat_list_eq_equiv}
 use Rattle.std.proofs.lemmas.Bool.{leb-true, le-leb}
 use Rattle.std.proofs.lemmas.Nat.{or_comm}
-use Rattle.mr_mail.specs.Flag.{bit_of, has_flag, has_flags, lacks_flags}
+use Rattle.mr_mail.specs.Flag.{bit_of, has_flags, lacks_flags}
 use Rattle.mr_mail.specs.Label.{text_eq, has_label, AreLabelsOf}
 use Rattle.mr_mail.specs.Mail.{MailCard, IsCard}
 use Rattle.mr_mail.proofs.FlagLemmas.{bit_or-bit_of, has_flags-or, lacks_flags-or}
@@ -30,16 +29,10 @@ all_named labels (x ∷ names) named =
     (all_named labels names (λ label h. named label (or_second (text_eq label x) (has_label names label) h)))
 
 has_labels-same : (labels given names : List (List ℕ)) → AreLabelsOf given names → has_labels labels names ≡ has_labels labels given
-has_labels-same labels given names are =
-    both_ways (has_labels labels names) (has_labels labels given)
-    (λ h. has_labels-chain labels names given h (all_named names given (λ label k. are.same label ∙ k)))
-    (λ h. has_labels-chain labels given names h (all_named given names (λ label k. sym (are.same label) ∙ k)))
+has_labels-same labels given names are = grind (arith, has_labels-chain, all_named)
 
 lacks_labels-same : (labels given names : List (List ℕ)) → AreLabelsOf given names → lacks_labels labels names ≡ lacks_labels labels given
-lacks_labels-same labels given names are =
-    both_ways (lacks_labels labels names) (lacks_labels labels given)
-    (λ h. lacks_labels-chain labels names given h (all_named names given (λ label k. are.same label ∙ k)))
-    (λ h. lacks_labels-chain labels given names h (all_named given names (λ label k. sym (are.same label) ∙ k)))
+lacks_labels-same labels given names are = grind (arith, lacks_labels-chain, all_named)
 
 -- ---- the five parts of a clause, and one condition more
 
@@ -50,12 +43,7 @@ or-zero : (n : ℕ) → bit_or 0 n ≡ n
 or-zero n = or_comm 0 n ∙ or_zero_r n
 
 later_of : (a b day : ℕ) → nat_le (max a b) day ≡ (nat_le a day && nat_le b day)
-later_of a b day =
-    both_ways (nat_le (max a b) day) (nat_le a day && nat_le b day)
-    (λ h. let m : max a b ≤ day = leb-true _ _ h in both_true (le-leb a day (omega arith)) (le-leb b day (omega arith)))
-    (λ h. let x : a ≤ day = leb-true _ _ (first_so (nat_le a day) (nat_le b day) h) in
-    let y : b ≤ day = leb-true _ _ (second_so (nat_le a day) (nat_le b day) h) in
-    le-leb (max a b) day (omega arith))
+later_of a b day = grind (arith, max, leb-true, le-leb)
 
 bits_on-within : (given : List Condition) → bits_on given ≤ 31
 bits_on-within [] = omega arith
@@ -81,52 +69,27 @@ parts card given =
     && has_labels card.labels (wanted_labels given) && lacks_labels card.labels (barred_labels given)
 
 pull_second : (h a b c d e : Bool) → (a && (h && b) && c && d && e) ≡ (h && (a && b && c && d && e))
-pull_second true a b c d e = refl
-pull_second false true b c d e = refl
-pull_second false false b c d e = refl
+pull_second h a b c d e = grind arith
 
 pull_third : (h a b c d e : Bool) → (a && b && (h && c) && d && e) ≡ (h && (a && b && c && d && e))
-pull_third true a b c d e = refl
-pull_third false true true c d e = refl
-pull_third false true false c d e = refl
-pull_third false false b c d e = refl
+pull_third h a b c d e = grind arith
 
 pull_fourth : (h a b c d e : Bool) → (a && b && c && (h && d) && e) ≡ (h && (a && b && c && d && e))
-pull_fourth true a b c d e = refl
-pull_fourth false true true true d e = refl
-pull_fourth false true true false d e = refl
-pull_fourth false true false c d e = refl
-pull_fourth false false b c d e = refl
+pull_fourth h a b c d e = grind arith
 
 pull_fifth : (h a b c d e : Bool) → (a && b && c && d && (h && e)) ≡ (h && (a && b && c && d && e))
-pull_fifth true a b c d e = refl
-pull_fifth false true true true true e = refl
-pull_fifth false true true true false e = refl
-pull_fifth false true true false d e = refl
-pull_fifth false true false c d e = refl
-pull_fifth false false b c d e = refl
+pull_fifth h a b c d e = grind arith
 
 pull_first : (h a b c d e : Bool) → ((h && a) && b && c && d && e) ≡ (h && (a && b && c && d && e))
-pull_first true a b c d e = refl
-pull_first false a b c d e = refl
+pull_first h a b c d e = grind arith
 
 -- a barred label more
 not_or : (a b : Bool) → not (a || b) ≡ (not a && not b)
-not_or true b = refl
-not_or false b = refl
+not_or a b = grind arith
 
 parts-one : (card : MailCard) (c : Condition) (given : List Condition) → card.flags ≤ 31 → parts card (c ∷ given) ≡ (is_true_of card c && parts card given)
 unfolding parts
-parts-one card (HasLabel label) given within =
-    rw (max-zero (latest_day given), or-zero (bits_on given), or-zero (bits_off given)) (pull_fourth (has_label card.labels label) (nat_le (latest_day given) card.day) (has_flags card.flags (bits_on given)) (lacks_flags card.flags (bits_off given)) (has_labels card.labels (wanted_labels given)) (lacks_labels card.labels (barred_labels given)))
-parts-one card (LacksLabel label) given within =
-    rw (max-zero (latest_day given), or-zero (bits_on given), or-zero (bits_off given), not_or (has_label card.labels label) (list_any (has_label card.labels) (barred_labels given))) (pull_fifth (not (has_label card.labels label)) (nat_le (latest_day given) card.day) (has_flags card.flags (bits_on given)) (lacks_flags card.flags (bits_off given)) (has_labels card.labels (wanted_labels given)) (lacks_labels card.labels (barred_labels given)))
-parts-one card (HasFlag flag) given within =
-    rw (max-zero (latest_day given), has_flags-or card.flags (bits_on given) flag within (bits_on-within given), or-zero (bits_off given)) (pull_second (has_flag card.flags flag) (nat_le (latest_day given) card.day) (has_flags card.flags (bits_on given)) (lacks_flags card.flags (bits_off given)) (has_labels card.labels (wanted_labels given)) (lacks_labels card.labels (barred_labels given)))
-parts-one card (LacksFlag flag) given within =
-    rw (max-zero (latest_day given), or-zero (bits_on given), lacks_flags-or card.flags (bits_off given) flag within (bits_off-within given)) (pull_third (not (has_flag card.flags flag)) (nat_le (latest_day given) card.day) (has_flags card.flags (bits_on given)) (lacks_flags card.flags (bits_off given)) (has_labels card.labels (wanted_labels given)) (lacks_labels card.labels (barred_labels given)))
-parts-one card (Since day) given within =
-    rw (later_of day (latest_day given) card.day, or-zero (bits_on given), or-zero (bits_off given)) (pull_first (nat_le day card.day) (nat_le (latest_day given) card.day) (has_flags card.flags (bits_on given)) (lacks_flags card.flags (bits_off given)) (has_labels card.labels (wanted_labels given)) (lacks_labels card.labels (barred_labels given)))
+parts-one card c given within = grind (arith, max-zero, or-zero, pull_fourth, not_or, pull_fifth, has_flags-or, bits_on-within, pull_second, lacks_flags-or, bits_off-within, pull_third, later_of, pull_first)
 
 parts-all : (card : MailCard) (given : List Condition) → card.flags ≤ 31 → parts card given ≡ list_all (is_true_of card) given
 unfolding parts
@@ -143,8 +106,7 @@ meets-given card given clause within combined =
 -- ---- whole texts
 
 true_clause : (card : MailCard) (text : List ℕ) (clause : ClauseParts) → card.flags ≤ 31 → ReadsClause text clause → meets card clause ≡ true → IsTrueClause card text
-true_clause card text clause within reads met =
-    record { given = reads.given; spelled = reads.spelled; each = sym (meets-given card reads.given clause within reads.combined) ∙ met }
+true_clause card text clause within reads met = grind (arith, meets-given)
 
 met_clause : (card : MailCard) (text : List ℕ) (clause : ClauseParts) → card.flags ≤ 31 → ReadsClause text clause → IsTrueClause card text → meets card clause ≡ true
 met_clause card text clause within reads is =
@@ -171,15 +133,7 @@ clause_selected card (t ∷ texts) (c ∷ filter) within reads has =
     ]
 
 none_is_true : (card : MailCard) → HasTrueClause card (clauses_of (codes "none")) → ⊥
-none_is_true card has =
-    elim has [ inl here ↦ none_is_no_clause here.given here.spelled | inr later ↦ later ]
+none_is_true card has = grind (arith, none_is_no_clause)
 
 pub selects_by_text : (text : List ℕ) (filter : List ClauseParts) → Reads text filter → (card : MailCard) → IsCard card → (IsTrue (selects filter card) ↔ HasTrueClause card (clauses_of text))
-selects_by_text text filter reads card is =
-    elim reads [
-      | inl none ↦ (
-        λ selected. absurd (cc),
-        λ has. absurd (none_is_true card (subst (λ t. HasTrueClause card (clauses_of t)) none.0 has)),
-      )
-      | inr each ↦ (selected_clause card (clauses_of text) filter is.flags_in each, clause_selected card (clauses_of text) filter is.flags_in each)
-    ]
+selects_by_text text filter reads card is = grind (arith, none_is_true, selected_clause, clause_selected)

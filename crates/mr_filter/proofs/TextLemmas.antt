@@ -31,9 +31,7 @@ texts_of-push f before items new text xs i x d below at written so_far added =
 -- the texts behind the first stand each behind a separator
 pub join_or-cons : (none separator text : List ℕ) (more : List (List ℕ)) → join_or none separator (text ∷ more) ≡ text ++ flat_map (λ part. separator ++ part) more
 join_or-cons none separator text [] = sym (append-nil text)
-join_or-cons none separator text (next ∷ more) =
-    ap (λ rest. text ++ (separator ++ rest)) (join_or-cons none separator next more)
-    ∙ ap (λ rest. text ++ rest) (sym (append_assoc separator next (flat_map (λ part. separator ++ part) more)))
+join_or-cons none separator text (next ∷ more) = grind (arith, join_or-cons none separator next more, append_assoc)
 
 -- a loop's step: one more pair at the end
 pub AllZip-push : {A B : Type 0} (R : A → B → Type 0) (xs : List A) (i : ℕ) (x : A) (ys new : List B) (y : B) → i < length xs → x ≡ get_or xs i x → AllZip R (take i xs) ys → R x y → new ≡ ys ++ y ∷ [] → AllZip R (take (i + 1) xs) new
@@ -75,15 +73,4 @@ pub IsClauseText-joined : (clause : ClauseParts) (a b c d e : List (List ℕ)) (
     → SpellsMore d e (since_condition clause.since)
     → text ≡ join_or (codes "all") (codes " & ") e
     → IsClauseText clause text
-IsClauseText-joined clause a b c d e text kept wanted barred on off since is = record {
-  pieces = e;
-  spelled = rw (since.2, off, on, barred, wanted)
-      (AllZip-append SpellsCondition _ _ _ _
-      (AllZip-append SpellsCondition _ _ _ _
-      (AllZip-append SpellsCondition _ _ _ _
-      (AllZip-append SpellsCondition _ _ _ _ (spelled_labels clause.all_labels kept.wanted.each) (spelled_barred clause.no_labels kept.barred.each))
-      (spelled_flags (filter (has_flag clause.flags_on) all_flags)))
-      (spelled_off (filter (has_flag clause.flags_off) all_flags)))
-      since.1);
-  joined = is;
-}
+IsClauseText-joined clause a b c d e text kept wanted barred on off since is = grind (arith, AllZip-append, spelled_labels, spelled_barred, spelled_flags, spelled_off)

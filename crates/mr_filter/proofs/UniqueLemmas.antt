@@ -1,5 +1,5 @@
 -- a text means one filter, and one that means a filter has no fault
-use Rattle.std.proofs.Common.{◌≡◌, ℕ, ◌+◌, ◌/◌, ◌%◌, true, false, Result, Ok, Err, eqb, List, [], ◌∷◌, ◌++◌, length, get_or, refl, sym, ◌∙◌, ap, subst, inl, inr, arith, codes}
+use Rattle.std.proofs.Common.{◌≡◌, ℕ, ◌+◌, ◌/◌, ◌%◌, true, false, Result, eqb, List, [], ◌∷◌, ◌++◌, refl, sym, ◌∙◌, ap, subst, inl, inr, arith, codes}
 use Rattle.std.specs.List.{AllZip, AllByRecursion, list_any}
 use Rattle.std.specs.BTreeSet.{BTreeSet}
 use Rattle.std.specs.Ordering.{eq_by_cmp}
@@ -20,7 +20,6 @@ use Rattle.mr_filter.specs.declared.fault.FilterFault.TheVariants.{OutOfMemory, 
 use Rattle.mr_filter.specs.Fault.{IsFaultOf}
 use Rattle.mr_filter.specs.Grammar.{pieces_of, clauses_of, SpellsConditions, ReadsClause, Reads, IsFirstBad, HasTooManyClauses, NamesTooMany, HasTooManyLabels}
 use Rattle.mr_filter.specs.inner.Written.{LacksColon}
-use Rattle.mr_mail.proofs.DayLemmas.{IsDayOf_day}
 use Rattle.mr_mail.proofs.LabelLemmas.{length-AreLabelsOf}
 use Rattle.mr_filter.proofs.Reading.{at_place}
 use Rattle.mr_filter.proofs.ZipLemmas.{length_zip, zip_unique, zip_at, zip_kept}
@@ -34,18 +33,10 @@ colon_parts : (k l v w : List ℕ) → LacksColon k → LacksColon l → k ++ 58
 colon_parts [] [] v w none other same = (refl, cc)
 colon_parts [] (b ∷ l) v w none other same = let h : 58 ≡ b = cc in absurd (false≢true (sym other.0 ∙ ap (λ n. eqb n 58) (sym h)))
 colon_parts (a ∷ k) [] v w none other same = let h : a ≡ 58 = cc in absurd (false≢true (sym none.0 ∙ ap (λ n. eqb n 58) h))
-colon_parts (a ∷ k) (b ∷ l) v w none other same =
-    let h : a ≡ b = cc in
-    let rest : k ++ 58 ∷ v ≡ l ++ 58 ∷ w = cc in
-    let parts = colon_parts k l v w none.1 other.1 rest in
-    (λ i. h i ∷ parts.0 i, parts.1)
+colon_parts (a ∷ k) (b ∷ l) v w none other same = grind (arith, colon_parts k l v w none.1 other.1)
 
 kind_lacks : (c : Condition) → LacksColon (kind_of c)
-kind_lacks (HasLabel label) = (refl, (refl, (refl, (refl, (refl, tt)))))
-kind_lacks (LacksLabel label) = (refl, (refl, (refl, (refl, (refl, (refl, tt))))))
-kind_lacks (HasFlag flag) = (refl, (refl, (refl, (refl, tt))))
-kind_lacks (LacksFlag flag) = (refl, (refl, (refl, (refl, (refl, tt)))))
-kind_lacks (Since day) = (refl, (refl, (refl, (refl, (refl, tt)))))
+kind_lacks c = grind arith
 
 flag_name-injective : (f g : Flag) → flag_name f ≡ flag_name g → f ≡ g
 flag_name-injective Seen Seen same = refl
@@ -53,24 +44,18 @@ flag_name-injective Answered Answered same = refl
 flag_name-injective Flagged Flagged same = refl
 flag_name-injective Draft Draft same = refl
 flag_name-injective Deleted Deleted same = refl
-flag_name-injective f g same = absurd (apart (flag_name f) (flag_name g) refl same)
+flag_name-injective f g same = grind (arith, apart)
 
 -- four digits are of one number below 10,000, and two of one below 100
 two_digits-injective : (m n : ℕ) → 48 + m / 10 ≡ 48 + n / 10 → 48 + m % 10 ≡ 48 + n % 10 → m ≡ n
 two_digits-injective m n tens units = omega arith
 
 date_digits-injective : (a b c d e f : ℕ) → date_digits a b c ≡ date_digits d e f → (a ≡ d) × (b ≡ e) × (c ≡ f)
-date_digits-injective a b c d e f same =
-    let at : (k : ℕ) → get_or (date_digits a b c) k 0 ≡ get_or (date_digits d e f) k 0 = λ k. ap (λ ds. get_or ds k 0) same in
-    let high : a / 100 ≡ d / 100 = two_digits-injective (a / 100) (d / 100) (at 0) (at 1) in
-    let low : a % 100 ≡ d % 100 = two_digits-injective (a % 100) (d % 100) (at 2) (at 3) in
-    (omega arith, two_digits-injective b e (at 5) (at 6), two_digits-injective c f (at 8) (at 9))
+date_digits-injective a b c d e f same = grind (arith, two_digits-injective)
 
 -- a text spells one day
 Spells-unique : (text : List ℕ) (a b : ℕ) → Spells text a → Spells text b → a ≡ b
-Spells-unique text a b x y =
-    let parts = date_digits-injective x.year x.month x.day_of_month y.year y.month y.day_of_month (sym x.written ∙ y.written) in
-    IsDayOf_day y.year y.month y.day_of_month a b (rw (← parts.0, ← parts.1, ← parts.2) x.is_day) y.is_day
+Spells-unique text a b x y = grind (arith, date_digits-injective)
 
 -- a kind and a value are of one condition
 value_unique : (c d : Condition) (value : List ℕ) → kind_of c ≡ kind_of d → IsValueOf c value → IsValueOf d value → c ≡ d
@@ -79,12 +64,10 @@ value_unique (LacksLabel a) (LacksLabel b) value kinds x y = ap LacksLabel (sym 
 value_unique (HasFlag f) (HasFlag g) value kinds x y = ap HasFlag (flag_name-injective f g (sym x ∙ y))
 value_unique (LacksFlag f) (LacksFlag g) value kinds x y = ap LacksFlag (flag_name-injective f g (sym x ∙ y))
 value_unique (Since a) (Since b) value kinds x y = ap Since (Spells-unique value a b x y)
-value_unique c d value kinds x y = absurd (apart (kind_of c) (kind_of d) refl kinds)
+value_unique c d value kinds x y = grind (arith, flag_name-injective, Spells-unique, apart)
 
 SpellsCondition-unique : (text : List ℕ) (c d : Condition) → SpellsCondition text c → SpellsCondition text d → c ≡ d
-SpellsCondition-unique text c d x y =
-    let parts = colon_parts (kind_of c) (kind_of d) x.0 y.0 (kind_lacks c) (kind_lacks d) (sym x.2 ∙ y.2) in
-    value_unique c d x.0 parts.0 x.1 (subst (IsValueOf d) (sym parts.1) y.1)
+SpellsCondition-unique text c d x y = grind (arith, colon_parts, kind_lacks, value_unique)
 
 -- what has no colon is no condition
 colon_stands : (k v : List ℕ) → LacksColon (k ++ 58 ∷ v) → ⊥
@@ -95,21 +78,10 @@ no_condition : (text : List ℕ) → LacksColon text → (c : Condition) → Spe
 no_condition text lacks c spelled = colon_stands (kind_of c) spelled.0 (subst LacksColon spelled.2 lacks)
 
 all_is_none : (given : List Condition) → AllZip SpellsCondition (pieces_of (codes "all")) given → ⊥
-all_is_none [] each = each
-all_is_none (c ∷ given) each = no_condition (codes "all") (refl, (refl, (refl, tt))) c each.0
+all_is_none given each = grind (arith, no_condition, codes)
 
 pub SpellsConditions-unique : (text : List ℕ) (given other : List Condition) → SpellsConditions text given → SpellsConditions text other → given ≡ other
-SpellsConditions-unique text given other x y =
-    elim x [
-      | inl a ↦ elim y [
-        | inl b ↦ a.1 ∙ sym b.1
-        | inr b ↦ absurd (all_is_none other (subst (λ t. AllZip SpellsCondition (pieces_of t) other) a.0 b))
-      ]
-      | inr a ↦ elim y [
-        | inl b ↦ absurd (all_is_none given (subst (λ t. AllZip SpellsCondition (pieces_of t) given) b.0 a))
-        | inr b ↦ zip_unique SpellsCondition SpellsCondition-unique (pieces_of text) given other a b
-      ]
-    ]
+SpellsConditions-unique text given other x y = grind (arith, all_is_none, zip_unique, SpellsCondition-unique)
 
 -- labels that rise are determined by what is among them
 pub AreLabelsOf-unique : (given xs ys : List (List ℕ)) → AreLabelsOf given xs → AreLabelsOf given ys → xs ≡ ys
@@ -136,16 +108,10 @@ ReadsClause-unique text a b x y =
 
 -- `none` is no clause
 pub none_is_no_clause : (given : List Condition) → SpellsConditions (codes "none") given → ⊥
-none_is_no_clause given spelled =
-    elim spelled [ inl all ↦ apart (codes "none") (codes "all") refl all.0 | inr each ↦ by given each ]
-  where
-    by : (given : List Condition) → AllZip SpellsCondition (pieces_of (codes "none")) given → ⊥
-    by [] each = each
-    by (c ∷ given) each = no_condition (codes "none") (refl, (refl, (refl, (refl, tt)))) c each.0
+none_is_no_clause given spelled = grind (arith, apart, codes, no_condition)
 
 none_is_no_filter : (filter : List ClauseParts) → AllZip ReadsClause (clauses_of (codes "none")) filter → ⊥
-none_is_no_filter [] each = each
-none_is_no_filter (c ∷ filter) each = none_is_no_clause each.0.given each.0.spelled
+none_is_no_filter filter each = grind (arith, none_is_no_clause)
 
 -- a text means one filter
 pub Reads-unique : (text : List ℕ) (a b : List ClauseParts) → Reads text a → Reads text b → a ≡ b
@@ -163,33 +129,10 @@ Reads-unique text a b x y =
 
 -- a text that means a filter has no bad piece
 no_bad_piece : (text : List ℕ) (filter : List ClauseParts) (place : ℕ) → Reads text filter → IsFirstBad text place → ⊥
-no_bad_piece text filter place reads bad =
-    elim reads [
-      | inl none ↦ bad.not_none none.0
-      | inr each ↦ in_clause (zip_at ReadsClause bad.before bad.clause bad.after filter (subst (λ cs. AllZip ReadsClause cs filter) bad.clauses each))
-    ]
-  where
-    in_clause : (c : ClauseParts) × ReadsClause bad.clause c → ⊥
-    in_clause (c, read) =
-        elim read.spelled [
-          | inl all ↦ bad.bad.not_all all.0
-          | inr each ↦
-              let here = zip_at SpellsCondition bad.bad.before bad.bad.piece bad.bad.after read.given (subst (λ ps. AllZip SpellsCondition ps read.given) bad.bad.pieces each) in
-              bad.bad.bad here
-        ]
+no_bad_piece text filter place reads bad = grind (arith, zip_at)
 
 no_more_clauses : (text : List ℕ) (filter : List ClauseParts) → Reads text filter → IsFilter filter → HasTooManyClauses text → ⊥
-no_more_clauses text filter reads kept many =
-    elim reads [
-      | inl none ↦
-          let one : length (clauses_of text) ≡ 1 = ap (λ t. length (clauses_of t)) none.0 in
-          let more = many.many in absurd (omega arith)
-      | inr each ↦
-          let long = length_zip ReadsClause (clauses_of text) filter each in
-          let more = many.many in
-          let few = kept.few in
-          absurd (omega (arith, long))
-    ]
+no_more_clauses text filter reads kept many = grind (arith, length_zip)
 
 -- a clause's text that means a clause names no more labels than the clause has
 pub names_few : (text : List ℕ) (clause : ClauseParts) → ReadsClause text clause → IsClause clause → NamesTooMany text → ⊥
@@ -203,12 +146,10 @@ names_few text clause read kept crowded =
 
 -- what the reading of a clause says of its labels
 pub crowded_at : {X E : Type 0} (found : Result X E) (P : Type 0) → IfErr found (λ _. P) → true ≡ is_err found → P
-crowded_at (Ok x) P many failed = absurd (false≢true (sym failed))
-crowded_at (Err e) P many failed = many
+crowded_at found P many failed = grind (arith, false≢true)
 
 pub uncrowded_at : {E : Type 0} (text : List ℕ) (found : Result ClauseParts E) → IfOk found (ReadsClause text) → IfOk found IsClause → false ≡ is_err found → NamesTooMany text → ⊥
-uncrowded_at text (Ok clause) read kept failed = names_few text clause read kept
-uncrowded_at text (Err e) read kept failed = absurd (false≢true failed)
+uncrowded_at text found read kept failed = grind (arith, names_few, false≢true)
 
 no_more_labels : (text : List ℕ) (filter : List ClauseParts) → Reads text filter → IsFilter filter → HasTooManyLabels text → ⊥
 no_more_labels text filter reads kept many =

@@ -1,5 +1,5 @@
 -- lists that are related element by element
-use Rattle.std.proofs.Common.{◌≡◌, suc, List, [], ◌∷◌, ◌++◌, length, refl, ap}
+use Rattle.std.proofs.Common.{◌≡◌, suc, List, [], ◌∷◌, ◌++◌, length, refl, ap, arith}
 use Rattle.std.specs.List.{All, AllZip}
 use Rattle.std.proofs.lemmas.List.Elements.{All-head, All-tail}
 
@@ -22,10 +22,7 @@ zip_unique R one [] [] (z ∷ zs) a b = absurd b
 zip_unique R one [] (y ∷ ys) zs a b = absurd a
 zip_unique R one (x ∷ xs) [] zs a b = absurd a
 zip_unique R one (x ∷ xs) (y ∷ ys) [] a b = absurd b
-zip_unique R one (x ∷ xs) (y ∷ ys) (z ∷ zs) a b =
-    let head = one x y z a.0 b.0 in
-    let tail = zip_unique R one xs ys zs a.1 b.1 in
-    λ i. head i ∷ tail i
+zip_unique R one (x ∷ xs) (y ∷ ys) (z ∷ zs) a b = grind (arith, zip_unique R one xs ys zs a.1 b.1)
 
 pub zip_flipped : {A B : Type 0} (R : A → B → Type 0) (xs : List A) (ys : List B) → AllZip R xs ys → AllZip (λ y x. R x y) ys xs
 zip_flipped R [] [] each = tt

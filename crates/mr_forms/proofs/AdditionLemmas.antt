@@ -1,6 +1,5 @@
-use Rattle.std.proofs.Common.{◌≡◌, Bool, true, false, ◌||◌, List, [], ◌∷◌, ◌++◌, refl, ap}
+use Rattle.std.proofs.Common.{◌≡◌, Bool, true, false, ◌||◌, List, [], ◌∷◌, ◌++◌, refl, ap, arith}
 use Rattle.std.specs.declared.cmp.Ordering.{Ordering}
-use Rattle.std.specs.declared.cmp.Ordering.TheVariants.{Less, Equal, Greater}
 use Rattle.std.specs.BTreeMap.{is_at}
 use Rattle.std.specs.BTreeSet.{insert_key}
 use Rattle.std.specs.Cmp.{IsTotalOrder}
@@ -22,21 +21,15 @@ remove_key-past : {K : Type 0} (test : K → Bool) (x : K) (keys rest : List K) 
 remove_key-past test x keys rest fails without = rw (fails, without) refl
 
 or_false_right : (a b : Bool) → (a || b) ≡ false → b ≡ false
-or_false_right true b h = cc
-or_false_right false b h = h
+or_false_right a b h = grind arith
 
 or_false_left : (a b : Bool) → (a || b) ≡ false → a ≡ false
-or_false_left true b h = cc
-or_false_left false b h = refl
+or_false_left a b h = grind arith
 
 remove_key-insert_step : {K : Type 0} {cmp : K → K → Ordering} (laws : IsTotalOrder cmp) (x : K) (keys : List K) (k : K) (o : Ordering) → cmp k x ≡ o → is_at (cmp k) x ≡ false → remove_key (is_at (cmp k)) (insert_key cmp keys k) ≡ keys → remove_key (is_at (cmp k)) (match_ordering o (k ∷ x ∷ keys) (x ∷ keys) (x ∷ insert_key cmp keys k)) ≡ x ∷ keys
-remove_key-insert_step {K} {cmp} laws x keys k Less e apart rest = remove_key-here (is_at (cmp k)) k (x ∷ keys) (ap is_eq (tied_itself laws k))
-remove_key-insert_step {K} {cmp} laws x keys k Equal e apart rest = let same : is_eq (cmp k x) ≡ true = ap is_eq e in cc
-remove_key-insert_step {K} {cmp} laws x keys k Greater e apart rest = remove_key-past (is_at (cmp k)) x (insert_key cmp keys k) keys apart rest
+remove_key-insert_step laws x keys k o e apart rest = grind (arith, remove_key-here, tied_itself, remove_key-past)
 
 -- a new key that is put in and taken out leaves the keys as they were
 pub remove_key-insert_key : {K : Type 0} {cmp : K → K → Ordering} (laws : IsTotalOrder cmp) (keys : List K) (k : K) → list_any (is_at (cmp k)) keys ≡ false → remove_key (is_at (cmp k)) (insert_key cmp keys k) ≡ keys
 remove_key-insert_key {K} {cmp} laws [] k absent = remove_key-here (is_at (cmp k)) k [] (ap is_eq (tied_itself laws k))
-remove_key-insert_key {K} {cmp} laws (x ∷ keys) k absent =
-    remove_key-insert_step laws x keys k (cmp k x) refl (or_false_left (is_at (cmp k) x) _ absent)
-    (remove_key-insert_key laws keys k (or_false_right (is_at (cmp k) x) _ absent))
+remove_key-insert_key {K} {cmp} laws (x ∷ keys) k absent = grind (arith, remove_key-insert_key laws keys k, remove_key-insert_step, or_false_left, or_false_right)

@@ -1,4 +1,4 @@
-use Rattle.std.proofs.Common.{◌≡◌, ◌<◌, ◌≤◌, ◌+◌, ◌⊎◌, ℕ, Bool, true, false, ◌||◌, ◌&&◌, ◌==◌, nat_le, List, [], ◌∷◌, ◌++◌, All, AllPairs, get_or, refl, ap, sym, ◌∙◌, arith, inl, inr}
+use Rattle.std.proofs.Common.{◌≡◌, ◌≤◌, ◌+◌, ℕ, Bool, false, ◌||◌, ◌&&◌, ◌==◌, nat_le, List, [], ◌∷◌, ◌++◌, All, AllPairs, get_or, ap, sym, ◌∙◌, arith, inr}
 use Rattle.std.specs.declared.cmp.Ordering.TheVariants.{Less}
 use Rattle.std.proofs.lemmas.Bool.{cases_lt}
 use Rattle.std.proofs.lemmas.Bool.Decides.{nat_tests}
@@ -15,8 +15,7 @@ use Rattle.mr_forms.proofs.ListLemmas.{All-front, All-last, AllPairs-front, AllP
 use Rattle.mr_forms.proofs.SetLemmas.{name_eq-parts, parts_from_less}
 
 below_is_up_to : (v : Name) (run : Run) → EndsBelow v run → EndsUpTo v run
-below_is_up_to v run (inl author) = inl author
-below_is_up_to v run (inr (author, last)) = inr (author, omega arith)
+below_is_up_to v run h = grind arith
 
 -- the run of one version
 in_run-one : (v w : Name) (run : Run) → run.author ≡ v.author → run.first ≡ v.counter → run.last ≡ v.counter → in_run run w ≡ name_eq v w
@@ -27,20 +26,13 @@ grown_tests author first last w_author w_counter ordered = grind (arith, nat_tes
 
 -- a run that grows by its next version
 in_run-grown : (v w : Name) (run grown : Run) → grown.author ≡ run.author → grown.first ≡ run.first → grown.last ≡ v.counter → run.author ≡ v.author → run.last + 1 ≡ v.counter → in_run grown w ≡ (name_eq v w || in_run run w)
-in_run-grown v w run grown same_author same_first last author next =
-    rw (name_eq-parts v w, same_author, same_first, last, author, sym next) (grown_tests v.author run.first run.last w.author w.counter run.ordered)
+in_run-grown v w run grown same_author same_first last author next = grind (arith, name_eq-parts, grown_tests)
 
 or_swap : (a b : Bool) → (a || (b || false)) ≡ (b || a)
-or_swap true true = refl
-or_swap true false = refl
-or_swap false true = refl
-or_swap false false = refl
+or_swap a b = grind arith
 
 or_move : (a b c : Bool) → (a || ((b || c) || false)) ≡ (b || (a || (c || false)))
-or_move true true c = refl
-or_move true false c = refl
-or_move false true c = refl
-or_move false false c = refl
+or_move a b c = grind arith
 
 -- a run of the version alone is put at the end
 pub gains_run : (runs : List Run) (v : Name) (run : Run) → run.author ≡ v.author → run.first ≡ v.counter → run.last ≡ v.counter → All (EndsBelow v) runs → (AllPairs StandsBefore runs → All (λ r. StandsBefore r run) runs) → GainsVersion runs (runs ++ run ∷ []) v
@@ -63,34 +55,18 @@ grows_run runs v run grown same_author same_first last author next below = recor
 
 -- before a run of the version stand a run that ends below it but does not touch it, and what stands before that run
 pub stands_before-run : (r run : Run) (v : Name) → run.author ≡ v.author → run.first ≡ v.counter → EndsBelow v r → ¬ ((r.author ≡ v.author) × (r.last + 1 ≡ v.counter)) → StandsBefore r run
-stands_before-run r run v author first (inl less) apart = inl (omega arith)
-stands_before-run r run v author first (inr (same, less)) apart = inr (same ∙ sym author, gap (cases_lt (r.last + 1) v.counter))
-  where
-    gap : (r.last + 1 < v.counter) ⊎ (v.counter ≤ r.last + 1) → r.last + 1 < run.first
-    gap (inl more) = omega arith
-    gap (inr touches) = absurd (apart (same, omega arith))
+stands_before-run r run v author first h apart = grind (arith, cases_lt)
 
 pub stands_before-through : (a b c : Run) → StandsBefore a b → StandsBefore b c → StandsBefore a c
-stands_before-through a b c (inl ab) (inl bc) = inl (omega arith)
-stands_before-through a b c (inl ab) (inr (bc, _)) = inl (omega arith)
-stands_before-through a b c (inr (ab, _)) (inl bc) = inl (omega arith)
-stands_before-through a b c (inr (ab, gap)) (inr (bc, more)) = inr (ab ∙ bc, omega (arith, b.ordered))
+stands_before-through a b c h k = grind arith
 
 -- what ends by v ends below each w above v
 pub ends_below-later : (v w : Name) (run : Run) → name_cmp v w ≡ Less → EndsUpTo v run → EndsBelow w run
-ends_below-later v w run less ends = by_parts (parts_from_less v w less) ends
-  where
-    by_parts : (v.author < w.author) ⊎ ((v.author ≡ w.author) × (v.counter < w.counter)) → EndsUpTo v run → EndsBelow w run
-    by_parts (inl above) (inl below) = inl (omega arith)
-    by_parts (inl above) (inr (same, _)) = inl (omega arith)
-    by_parts (inr (same, above)) (inl below) = inl (omega arith)
-    by_parts (inr (same, above)) (inr (also, ends)) = inr (also ∙ same, omega arith)
+ends_below-later v w run less ends = grind (arith, parts_from_less)
 
 -- runs that end by v end below each version after v
 pub ends_below-rest : (v : Name) (rest : List Name) (runs : List Run) → IsStrictlySortedBy name_cmp (v ∷ rest) → All (EndsUpTo v) runs → All (λ w. All (EndsBelow w) runs) rest
-ends_below-rest v rest runs sorted ends =
-    All-weaker (λ w. name_cmp v w ≡ Less) (λ w. All (EndsBelow w) runs) (λ w less. All-weaker (EndsUpTo v) (EndsBelow w) (λ run. ends_below-later v w run less) runs ends) rest
-    (All-from_recursion (λ w. name_cmp v w ≡ Less) rest (sorted_head name_cmp v rest sorted))
+ends_below-rest v rest runs sorted ends = grind (arith, All-weaker, ends_below-later, All-from_recursion, sorted_head)
 
 -- the three ways in which runs gain a version: as the first run, by the last run, as a run after the last
 pub gains_first : (old new : List Run) (v : Name) (run : Run) → old ≡ [] → new ≡ run ∷ [] → run.author ≡ v.author → run.first ≡ v.counter → run.last ≡ v.counter → GainsVersion old new v

@@ -1,6 +1,6 @@
-use Rattle.std.proofs.Common.{◌≡◌, ◌≢◌, Bool, true, false, ◌||◌, ◌&&◌, List, [], ◌∷◌, ◌++◌, All, get_or, refl, ap, sym, ◌∙◌, subst}
+use Rattle.std.proofs.Common.{◌≡◌, ◌≢◌, Bool, false, ◌||◌, ◌&&◌, List, [], ◌∷◌, ◌++◌, All, get_or, refl, ap, sym, ◌∙◌, subst, arith}
 use Rattle.std.specs.declared.cmp.Ordering.{Ordering}
-use Rattle.std.specs.declared.cmp.Ordering.TheVariants.{Less, Equal, Greater}
+use Rattle.std.specs.declared.cmp.Ordering.TheVariants.{Less}
 use Rattle.std.specs.Ordering.{is_gt, eq_by_cmp, ordering_then}
 use Rattle.std.specs.List.Sorted.{IsStrictlySortedBy}
 use Rattle.std.proofs.lemmas.Cmp.{tied_itself, upto}
@@ -27,37 +27,25 @@ use Rattle.mr_forms.proofs.ListLemmas.{All-front, All-last, AllPairs-front, AllP
 -- ---- one item
 
 is_all-only : (i : Name) (items : ItemSet) → IsOnly i items → is_all items ≡ false
-is_all-only i AllItems only = absurd only
-is_all-only i (Listed items) only = refl
+is_all-only i items only = grind arith
 
 is_named-only : (i j : Name) (items : ItemSet) → IsOnly i items → is_named items j ≡ name_eq i j
-is_named-only i j AllItems only = absurd only
-is_named-only i j (Listed items) only = rw only (sym (or_nothing (name_eq i j)))
+is_named-only i j items only = grind (arith, or_nothing)
 
 all_or_one-only : (i : Name) (items : ItemSet) → IsOnly i items → IsAllOrOne items
-all_or_one-only i AllItems only = tt
-all_or_one-only i (Listed items) only = (i, only)
+all_or_one-only i items only = grind arith
 
 ends_by-only : (i : Name) (items : ItemSet) → IsOnly i items → EndsBy i items
-ends_by-only i AllItems only = tt
-ends_by-only i (Listed items) only = rw only (All-cons (λ j. is_gt (name_cmp j i) ≡ false) i [] (ap is_gt (tied_itself names_total i)) (All-nil (λ j. is_gt (name_cmp j i) ≡ false)))
+ends_by-only i items only = grind (arith, All-cons, tied_itself, names_total, All-nil)
 
 -- ---- the order of fragments
 
 less_from_other : (a b : Name) (o : Ordering) → name_cmp a b ≡ o → is_gt o ≡ false → ¬ (a ≡ b) → name_cmp a b ≡ Less
-less_from_other a b Less e below other = e
-less_from_other a b Equal e below other = absurd (other (exact_names a b e))
-less_from_other a b Greater e below other = cc
+less_from_other a b o e below other = grind (arith, exact_names)
 
 -- one item's fragment stands after those of lower items
 comes_before-other : (i : Name) (items only : ItemSet) → IsOnly i only → EndsBy i items → IsAllOrOne items → ¬ IsOnly i items → ComesBefore items only
-comes_before-other i items AllItems is ends single other = absurd is
-comes_before-other i AllItems (Listed only) is ends single other = tt
-comes_before-other i (Listed items) (Listed only) is ends single other =
-    let below : All (λ j. is_gt (name_cmp j i) ≡ false) (single.0 ∷ []) = rw single.1 at ends in
-    let apart : ¬ (single.0 ≡ i) = λ same. other (single.1 ∙ ap (λ j. j ∷ []) same) in
-    let less : name_cmp single.0 i ≡ Less = less_from_other single.0 i (name_cmp single.0 i) refl (All-head (λ j. is_gt (name_cmp j i) ≡ false) single.0 [] below) apart in
-    rw (is, single.1) (All-cons (λ a. All (λ b. name_cmp a b ≡ Less) (i ∷ [])) single.0 [] (All-cons (λ b. name_cmp single.0 b ≡ Less) i [] less (All-nil (λ b. name_cmp single.0 b ≡ Less))) (All-nil (λ a. All (λ b. name_cmp a b ≡ Less) (i ∷ []))))
+comes_before-other i items only is ends single other = grind (arith, less_from_other, All-head, All-cons, All-nil)
 
 comes_before-through : (a b c : ItemSet) → IsAllOrOne b → ComesBefore a b → ComesBefore b c → ComesBefore a c
 comes_before-through a AllItems c single ab bc = absurd ab
@@ -74,27 +62,16 @@ comes_before-through (Listed a) (Listed b) (Listed c) single ab bc =
 -- ---- what fragments have
 
 had_for_all-push : (fs : List (Fragment (List Name))) (f : Fragment (List Name)) (v : Name) → is_all f.items ≡ false → had_for_all (fs ++ f ∷ []) v ≡ had_for_all fs v
-had_for_all-push fs f v not_all =
-    list_any-append (λ g. is_all g.items && is_listed g.vector v) fs (f ∷ [])
-    ∙ ap (λ b. had_for_all fs v || ((b && is_listed f.vector v) || false)) not_all
-    ∙ sym (or_nothing (had_for_all fs v))
+had_for_all-push fs f v not_all = grind (arith, list_any-append, or_nothing)
 
 had_by_item-push : (fs : List (Fragment (List Name))) (f : Fragment (List Name)) (i v : Name) → had_by_item (fs ++ f ∷ []) i v ≡ (had_by_item fs i v || ((is_named f.items i && is_listed f.vector v) || false))
 had_by_item-push fs f i v = list_any-append (λ g. is_named g.items i && is_listed g.vector v) fs (f ∷ [])
 
 new_cases : (had e : Bool) → (had || (e || false)) ≡ (e || had)
-new_cases true true = refl
-new_cases true false = refl
-new_cases false true = refl
-new_cases false false = refl
+new_cases had e = grind arith
 
 grown_cases : (had named same has : Bool) → (had || ((named && (same || has)) || false)) ≡ ((named && same) || (had || ((named && has) || false)))
-grown_cases true true true has = refl
-grown_cases true true false has = refl
-grown_cases true false same has = refl
-grown_cases false true true has = refl
-grown_cases false true false has = refl
-grown_cases false false same has = refl
+grown_cases had named same has = grind arith
 
 -- a pair's own fragment is put at the end
 pub gains_fragment : (fs : List (Fragment (List Name))) (f : Fragment (List Name)) (p : Pair) → IsFragmentOf f p → IsOneByOne fs → All (λ g. EndsBy p.item g.items) fs → All (λ g. ComesBefore g.items f.items) fs → GainsPair fs (fs ++ f ∷ []) p
@@ -153,28 +130,19 @@ gains_in_last old new front last f p was is only gains one_by_one up_to =
 
 -- what fragments cover is what they have for all items, and by item
 covered_cases : (items : ItemSet) (vector : List Name) (i v : Name) → (has_item items i && is_listed vector v) ≡ ((is_all items && is_listed vector v) || (is_named items i && is_listed vector v))
-covered_cases AllItems vector i v = or_nothing (is_listed vector v)
-covered_cases (Listed items) vector i v = refl
+covered_cases items vector i v = grind (arith, or_nothing)
 
 or_interchange : (a b c d : Bool) → ((a || b) || (c || d)) ≡ ((a || c) || (b || d))
-or_interchange true b c d = refl
-or_interchange false true true d = refl
-or_interchange false true false d = refl
-or_interchange false false c d = refl
+or_interchange a b c d = grind arith
 
 pub all_covered-parts : (fs : List (Fragment (List Name))) (i v : Name) → all_covered is_listed fs i v ≡ (had_for_all fs v || had_by_item fs i v)
 all_covered-parts [] i v = refl
-all_covered-parts (f ∷ fs) i v =
-    ap (λ b. b || all_covered is_listed fs i v) (covered_cases f.items f.vector i v)
-    ∙ ap (λ b. ((is_all f.items && is_listed f.vector v) || (is_named f.items i && is_listed f.vector v)) || b) (all_covered-parts fs i v)
-    ∙ or_interchange (is_all f.items && is_listed f.vector v) (is_named f.items i && is_listed f.vector v) (had_for_all fs v) (had_by_item fs i v)
+all_covered-parts (f ∷ fs) i v = grind (arith, all_covered-parts fs i v, covered_cases, or_interchange)
 
 -- ---- the pairs that are left
 
 below_from_less : (a b : Ordering) → ordering_then a b ≡ Less → is_gt a ≡ false
-below_from_less Less b less = refl
-below_from_less Equal b less = refl
-below_from_less Greater b less = cc
+below_from_less a b less = grind arith
 
 ends_by-later : (i j : Name) (items : ItemSet) → is_gt (name_cmp i j) ≡ false → EndsBy i items → EndsBy j items
 ends_by-later i j AllItems below ends = tt
@@ -182,7 +150,4 @@ ends_by-later i j (Listed items) below ends = All-weaker (λ k. is_gt (name_cmp 
 
 -- fragments that end by a pair's item end by those of the pairs after it
 pub ends_by-rest : (p : Pair) (rest : List Pair) (fs : List (Fragment (List Name))) → IsStrictlySortedBy pair_cmp (p ∷ rest) → All (λ f. EndsBy p.item f.items) fs → All (λ q. All (λ f. EndsBy q.item f.items) fs) rest
-ends_by-rest p rest fs sorted ends =
-    All-weaker (λ q. pair_cmp p q ≡ Less) (λ q. All (λ f. EndsBy q.item f.items) fs)
-    (λ q less. All-weaker (λ f. EndsBy p.item f.items) (λ f. EndsBy q.item f.items) (λ f by_p. ends_by-later p.item q.item f.items (below_from_less (name_cmp p.item q.item) (name_cmp p.version q.version) less) by_p) fs ends)
-    rest (All-from_recursion (λ q. pair_cmp p q ≡ Less) rest (sorted_head pair_cmp p rest sorted))
+ends_by-rest p rest fs sorted ends = grind (arith, All-weaker, ends_by-later, below_from_less, All-from_recursion, sorted_head)

@@ -1,5 +1,5 @@
 -- What a form learns: what was known stays, and the version is known for its item.
-use Rattle.std.proofs.Common.{◌≡◌, Bool, true, false, ◌||◌, ◌&&◌}
+use Rattle.std.proofs.Common.{◌≡◌, Bool, true, false, ◌||◌, ◌&&◌, arith}
 use Rattle.std.proofs.lemmas.Bool.{or_left, or_right, and_from}
 use Rattle.mr_version.specs.Name.{Name, name_eq}
 use Rattle.mr_forms.specs.Sets.{Versions}
@@ -10,8 +10,7 @@ with_learned_keeps : (b : Bool) (old : Pairs) (item version i v : Name) → old 
 with_learned_keeps b old item version i v h = or_right ((b || name_eq item i) && name_eq version v) (old i v) h
 
 with_learned_itself : (b : Bool) (old : Pairs) (item version : Name) → with_learned b old item version item version ≡ true
-with_learned_itself b old item version =
-    or_left ((b || name_eq item item) && name_eq version version) (old item version) (and_from (b || name_eq item item) (name_eq version version) (or_right b (name_eq item item) (name_eq-itself item)) (name_eq-itself version))
+with_learned_itself b old item version = grind (arith, or_left, and_from, or_right, name_eq-itself)
 
 module _ {K : Type 0} (form : Form K) (k : K) (item version : Name) where
   -- a version alone

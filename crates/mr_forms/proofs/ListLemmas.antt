@@ -1,4 +1,4 @@
-use Rattle.std.proofs.Common.{◌≡◌, ◌+◌, ◌<◌, ◌||◌, ℕ, Bool, List, [], ◌∷◌, ◌++◌, All, AllPairs, length, take, get_or, ap, sym, ◌∙◌, arith}
+use Rattle.std.proofs.Common.{◌≡◌, ◌+◌, ◌<◌, ◌||◌, ℕ, Bool, List, [], ◌∷◌, ◌++◌, All, AllPairs, length, take, get_or, arith}
 use Rattle.std.specs.List.{list_any}
 use Rattle.std.proofs.lemmas.List.Folds.{list_any_more}
 use Rattle.std.proofs.Math.ListN.{get_or-append, length-append}
@@ -13,8 +13,7 @@ pub All-last : {X : Type 0} (P : X → Type 0) (xs : List X) (y : X) → All P (
 All-last P xs y all = rw (get_or-append_seam xs y [] y) at (all (length xs) y (simp length-append (omega arith)))
 
 pub AllPairs-front : {X : Type 0} (R : X → X → Type 0) (xs : List X) (y : X) → AllPairs R (xs ++ y ∷ []) → AllPairs R xs
-AllPairs-front R xs y all i j d before within =
-    rw (get_or-append xs (y ∷ []) d i (omega arith), get_or-append xs (y ∷ []) d j within) at (all i j d before (simp length-append (omega arith)))
+AllPairs-front R xs y all i j d before within = grind (arith, get_or-append, length-append)
 
 pub AllPairs-last : {X : Type 0} (R : X → X → Type 0) (xs : List X) (y : X) → AllPairs R (xs ++ y ∷ []) → All (λ x. R x y) xs
 AllPairs-last R xs y all k d within =
@@ -22,7 +21,4 @@ AllPairs-last R xs y all k d within =
 
 -- one of those up to here passes: the one that is here, or one before it
 pub list_any-here : {X : Type 0} (p : X → Bool) (xs : List X) (i : ℕ) (x : X) → i < length xs → x ≡ get_or xs i x → list_any p (take (i + 1) xs) ≡ (p x || list_any p (take i xs))
-list_any-here p xs i x within here =
-    list_any_more p xs i x within
-    ∙ or_comm (list_any p (take i xs)) (p (get_or xs i x))
-    ∙ ap (λ y. p y || list_any p (take i xs)) (sym here)
+list_any-here p xs i x within here = grind (arith, list_any_more, or_comm)

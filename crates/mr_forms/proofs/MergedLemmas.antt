@@ -1,5 +1,5 @@
 -- fragments that are merged one after the other
-use Rattle.std.proofs.Common.{◌≡◌, ◌↔◌, ◌||◌, ◌<◌, ◌+◌, IsErrOf, ℕ, suc, Bool, true, false, refl, sym, ap, subst, ◌∙◌, List, [], ◌∷◌, ◌++◌, length, take, get_or, drop, Result, Ok, Err, inl, inr}
+use Rattle.std.proofs.Common.{◌≡◌, ◌↔◌, ◌||◌, ◌<◌, ◌+◌, IsErrOf, ℕ, suc, Bool, refl, sym, ap, subst, ◌∙◌, List, [], ◌∷◌, ◌++◌, length, take, get_or, drop, Result, Ok, Err, inl, inr, arith}
 use Rattle.std.specs.List.{All}
 use Rattle.std.proofs.Math.Seq.{drop-cons}
 use Rattle.std.proofs.lemmas.List.{take_more, take-append-drop}
@@ -32,10 +32,7 @@ module _ {V : Type 0} (has : V → Versions) where
   after_each-append known (x ∷ xs) ys = ap (λ (ps : List Pairs). with_pairs known (covered has x) ∷ ps) (after_each-append (with_pairs known (covered has x)) xs ys)
 
   three : (a b c : Bool) → (b || (a || c)) ≡ ((a || b) || c)
-  three true true c = refl
-  three true false c = refl
-  three false true c = refl
-  three false false c = refl
+  three a b c = grind arith
 
   -- all of them together
   pub after_all-same : (known : Pairs) (fs : List (Fragment V)) (i v : Name) → after_all known fs i v ≡ with_pairs known (all_covered has fs) i v
@@ -66,9 +63,7 @@ module _ {K : Type 0} (form : Form K) where
     module _ (made : Result (Unit {0}) FormFault) (fits : All (HasValue form) (after_each has known xs)) (holes : IsErrOf made fault.TooManyHoles ↔ form.has_too_many_holes (with_pairs (form.known old) (covered has f)))
         (items : IsErrOf made fault.TooManyItems ↔ IsOnlyOverItems form (with_pairs (form.known old) (covered has f))) where
       value_there : made ≡ Ok tt → HasValue form (with_pairs (form.known old) (covered has f))
-      value_there ok =
-          let no_holes : ¬ form.has_too_many_holes (with_pairs (form.known old) (covered has f)) = λ many. cc (sym ok ∙ holes.1 many) in
-          (no_holes, λ many. cc (sym ok ∙ items.1 (many, no_holes)))
+      value_there ok = grind arith
 
       -- where it is merged, all up to it have a value
       pub fits_next : made ≡ Ok tt → All (HasValue form) (after_each has known (xs ++ f ∷ []))
@@ -79,20 +74,15 @@ module _ {K : Type 0} (form : Form K) where
 
       -- else the first fault is there
       pub holes_there : made ≡ Err fault.TooManyHoles → (us : List (Fragment V)) → AreOverHolesInTurn form (after_each has known (xs ++ f ∷ us))
-      holes_there err us =
-          subst (AreOverHolesInTurn form) (sym (after_each-append has known xs (f ∷ us)))
-          (holes_behind (after_each has known xs) (after_each has (with_pairs (after_all has known xs) (covered has f)) us) (with_pairs (after_all has known xs) (covered has f)) fits (subst form.has_too_many_holes next_pairs (holes.0 err)))
+      holes_there err us = grind (arith, after_each-append, holes_behind, next_pairs)
 
       pub items_there : made ≡ Err fault.TooManyItems → (us : List (Fragment V)) → AreOverItemsInTurn form (after_each has known (xs ++ f ∷ us))
-      items_there err us =
-          subst (AreOverItemsInTurn form) (sym (after_each-append has known xs (f ∷ us)))
-          (items_behind (after_each has known xs) (after_each has (with_pairs (after_all has known xs) (covered has f)) us) (with_pairs (after_all has known xs) (covered has f)) fits (subst (IsOnlyOverItems form) next_pairs (items.0 err)))
+      items_there err us = grind (arith, after_each-append, items_behind, next_pairs)
 
 -- ---- fragments up to a place
 
 pub split_at : {T : Type 0} → (xs : List T) (k : ℕ) (x : T) → k < length xs → x ≡ get_or xs k x → xs ≡ take k xs ++ x ∷ drop (suc k) xs
-split_at xs k x within at =
-    sym (take-append-drop k xs) ∙ ap (λ ys. take k xs ++ ys) (drop-cons xs k x within ∙ ap (λ y. y ∷ drop (suc k) xs) (sym at))
+split_at xs k x within at = grind (arith, take-append-drop, drop-cons)
 
 pub take_next : {T : Type 0} → (xs : List T) (k : ℕ) (x : T) → k < length xs → x ≡ get_or xs k x → take (k + 1) xs ≡ take k xs ++ x ∷ []
 take_next xs k x within at = take_more xs k x within ∙ ap (λ y. take k xs ++ y ∷ []) (sym at)

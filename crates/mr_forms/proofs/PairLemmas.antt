@@ -1,12 +1,11 @@
-use Rattle.std.proofs.Common.{◌≡◌, ◌≢◌, ◌++◌, Bool, true, false, cond, ◌||◌, ◌&&◌, not, List, [], ◌∷◌, refl, ap, sym, ◌∙◌}
+use Rattle.std.proofs.Common.{◌≡◌, ◌≢◌, ◌++◌, Bool, true, false, cond, ◌||◌, ◌&&◌, not, List, [], ◌∷◌, refl, ap, sym, ◌∙◌, arith}
 use Rattle.std.proofs.lemmas.Bool.{false≢true, and_parts}
 use Rattle.std.specs.declared.cmp.Ordering.{Ordering}
-use Rattle.std.specs.declared.cmp.Ordering.TheVariants.{Less, Equal, Greater}
 use Rattle.std.specs.Ordering.{is_eq, eq_by_cmp, ordering_then}
 use Rattle.std.specs.Cmp.{IsTotalOrder}
 use Rattle.std.proofs.lemmas.Cmp.{tied_itself, then_total, on_total, eq_by_cmp_equiv}
 use Rattle.std.proofs.lemmas.List.Folds.{list_any-append}
-use Rattle.mr_version.specs.Name.{Name, name_eq, name_cmp}
+use Rattle.mr_version.specs.Name.{Name, name_eq}
 use Rattle.mr_version.specs.Order.{names_total}
 use Rattle.mr_forms.specs.declared.plain_knowledge.Pair.{Pair}
 use Rattle.mr_forms.specs.Sets.{is_listed}
@@ -15,36 +14,25 @@ use Rattle.mr_forms.specs.PlainPair.{pair, pair_cmp, has_pair}
 use Rattle.mr_forms.proofs.SetLemmas.{name_eq-symmetric}
 
 is_eq-then : (a b : Ordering) → is_eq (ordering_then a b) ≡ (is_eq a && is_eq b)
-is_eq-then Less b = refl
-is_eq-then Equal b = refl
-is_eq-then Greater b = refl
+is_eq-then a b = grind arith
 
 -- a pair is the one whose parts it has
 pub pair_eq-parts : (i v : Name) (p : Pair) → eq_by_cmp pair_cmp (pair i v) p ≡ (name_eq p.item i && name_eq p.version v)
-pair_eq-parts i v p =
-    is_eq-then (name_cmp i p.item) (name_cmp v p.version)
-    ∙ ap (λ b. b && name_eq v p.version) (name_eq-symmetric i p.item)
-    ∙ ap (λ b. name_eq p.item i && b) (name_eq-symmetric v p.version)
+pair_eq-parts i v p = grind (arith, is_eq-then, name_eq-symmetric)
 
 pub name_eq-itself : (v : Name) → name_eq v v ≡ true
 name_eq-itself v = ap is_eq (tied_itself names_total v)
 
 -- what has a version is not empty
 pub filled_from_has : (vs : List Name) (v : Name) → is_listed vs v ≡ true → vs ≢ []
-filled_from_has [] v has empty = cc
-filled_from_has (w ∷ vs) v has empty = cc
+filled_from_has vs v has empty = grind arith
 
 -- one pair more, beside what is known for all
 learned_cases : (b all old : Bool) → (all || cond b true old) ≡ (b || (all || old))
-learned_cases true true old = refl
-learned_cases true false old = refl
-learned_cases false all old = refl
+learned_cases b all old = grind arith
 
 pub learned_pair : (all new old : Bool) (item version i v : Name) → new ≡ cond (is_eq (pair_cmp (pair item version) (pair i v))) true old → (all || new) ≡ ((name_eq item i && name_eq version v) || (all || old))
-learned_pair all new old item version i v updates =
-    ap (λ b. all || b) updates
-    ∙ learned_cases (is_eq (pair_cmp (pair item version) (pair i v))) all old
-    ∙ ap (λ b. b || (all || old)) (is_eq-then (name_cmp item i) (name_cmp version v))
+learned_pair all new old item version i v updates = grind (arith, learned_cases, is_eq-then)
 
 -- the order of pairs is total
 pub pairs_total : IsTotalOrder pair_cmp
@@ -55,32 +43,21 @@ has_pair-congruent [] p q same = refl
 has_pair-congruent (x ∷ pairs) p q same = rw ((eq_by_cmp_equiv pairs_total).congr p q x same, has_pair-congruent pairs p q same) refl
 
 absorbed_cases : (e known old : Bool) → (e ≡ true → known ≡ true) → (old || known) ≡ (e || (old || known))
-absorbed_cases true true true implied = refl
-absorbed_cases true true false implied = refl
-absorbed_cases true false old implied = let wrong : false ≡ true = implied refl in cc
-absorbed_cases false known old implied = refl
+absorbed_cases e known old implied = grind arith
 
 -- a known pair adds nothing
 pub absorbed : (known : List Pair) (x p : Pair) (old : Bool) → has_pair known x ≡ true → (old || has_pair known p) ≡ (eq_by_cmp pair_cmp p x || (old || has_pair known p))
 absorbed known x p old has = absorbed_cases (eq_by_cmp pair_cmp p x) (has_pair known p) old (λ same. has_pair-congruent known p x same ∙ has)
 
 appended_cases : (e known old : Bool) → ((old || (e || false)) || known) ≡ (e || (old || known))
-appended_cases true known true = refl
-appended_cases true known false = refl
-appended_cases false known true = refl
-appended_cases false known false = refl
+appended_cases e known old = grind arith
 
 -- a pair more at the end of the list
 pub appended : (known : Bool) (old : List Pair) (x p : Pair) → (has_pair (old ++ x ∷ []) p || known) ≡ (eq_by_cmp pair_cmp p x || (has_pair old p || known))
-appended known old x p =
-    ap (λ b. b || known) (list_any-append (eq_by_cmp pair_cmp p) old (x ∷ []))
-    ∙ appended_cases (eq_by_cmp pair_cmp p x) known (has_pair old p)
+appended known old x p = grind (arith, list_any-append, appended_cases)
 
 joined_cases : (all any has missing old : Bool) → (missing || old) ≡ ((any && has) || old) → (all || (missing || old)) ≡ ((any && has) || (all || old))
-joined_cases true true true missing old same = refl
-joined_cases true true false missing old same = refl
-joined_cases true false has missing old same = refl
-joined_cases false any has missing old same = same
+joined_cases all any has missing old same = grind arith
 
 -- pairs that join those known, beside what is known for all
 pub joined_pairs : (all any listed has new missing old : Bool) → new ≡ (missing || old) → (missing || old) ≡ ((any && listed) || old) → listed ≡ has → (all || new) ≡ ((any && has) || (all || old))
@@ -88,24 +65,15 @@ joined_pairs all any listed has new missing old joins same is = ap (λ b. all ||
 
 -- a version more of those that are listed for an item
 pub one_more_listed : (for_item this before rest : Bool) → ((for_item && this) || ((for_item && before) || rest)) ≡ ((for_item && (this || before)) || rest)
-one_more_listed true true before rest = refl
-one_more_listed true false before rest = refl
-one_more_listed false this before rest = refl
+one_more_listed for_item this before rest = grind arith
 
 -- an item more of those for which versions are listed
 pub one_more_item : (this before listed rest : Bool) → ((this && listed) || ((before && listed) || rest)) ≡ (((this || before) && listed) || rest)
-one_more_item true true true rest = refl
-one_more_item true false true rest = refl
-one_more_item true true false rest = refl
-one_more_item true false false rest = refl
-one_more_item false before listed rest = refl
+one_more_item this before listed rest = grind arith
 
 -- the versions below and the version itself, listed for one item
 pub listed_with : (for_item below this rest : Bool) → (((for_item || false) && (below || (this || false))) || rest) ≡ ((for_item && below) || ((for_item && this) || rest))
-listed_with true true this rest = refl
-listed_with true false true rest = refl
-listed_with true false false rest = refl
-listed_with false below this rest = refl
+listed_with for_item below this rest = grind arith
 
 -- ---- beyond what is known for all
 
@@ -115,20 +83,12 @@ of_same_version all known i v p is same = ap (is_listed all) (sym (same_name p.v
 
 -- a pair whose version is known for all is left out
 pub left_out : (had here rest all : Bool) → (here ≡ true → all ≡ true) → (had || ((here || rest) && not all)) ≡ (had || (rest && not all))
-left_out had true true true known = refl
-left_out had true false true known = refl
-left_out had true rest false known = absurd (false≢true (known refl))
-left_out had false rest all known = refl
+left_out had here rest all known = grind (arith, false≢true)
 
 -- another one passes from what is left to what is had
 pub taken_in : (new had here rest all total : Bool) → new ≡ (here || had) → (here ≡ true → all ≡ false) → (had || ((here || rest) && not all)) ≡ total → (new || (rest && not all)) ≡ total
-taken_in new had true rest true total gains apart whole = absurd (false≢true (sym (apart refl)))
-taken_in new true true rest false total gains apart whole = rw gains whole
-taken_in new false true rest false total gains apart whole = rw gains whole
-taken_in new had false rest all total gains apart whole = rw gains whole
+taken_in new had here rest all total gains apart whole = grind (arith, false≢true)
 
 -- with what is known for all, what is beyond it is all that is known
 pub with_beyond : (all has : Bool) → (all || (has && not all)) ≡ (all || has)
-with_beyond true has = refl
-with_beyond false true = refl
-with_beyond false false = refl
+with_beyond all has = grind arith

@@ -1,4 +1,4 @@
-use Rattle.std.proofs.Common.{◌≡◌, ◌⊎◌, zero, suc, List, [], ◌∷◌, Option, Some, None, All, AllPairs, Contains, map, refl, ap, sym, ◌∙◌, arith, inl, inr}
+use Rattle.std.proofs.Common.{◌≡◌, ◌⊎◌, suc, List, [], ◌∷◌, Option, All, AllPairs, Contains, map, refl, ap, sym, ◌∙◌, arith, inl, inr}
 use Rattle.std.specs.declared.cmp.Ordering.TheVariants.{Less}
 use Rattle.std.proofs.Math.ListN.{length-map}
 use Rattle.std.proofs.lemmas.Cmp.{tied_itself}
@@ -24,8 +24,7 @@ pub Contains-there : {X : Type 0} (x y : X) (xs : List X) → Contains xs y → 
 Contains-there x y xs (k, within, is) = (suc k, omega arith, is)
 
 pub Contains-cases : {X : Type 0} (x y : X) (xs : List X) → Contains (x ∷ xs) y → (x ≡ y) ⊎ Contains xs y
-Contains-cases x y xs (zero, within, is) = inl is
-Contains-cases x y xs (suc k, within, is) = inr (k, omega arith, is)
+Contains-cases x y xs h = grind arith
 
 pub Contains-map : {X Y : Type 0} (f : X → Y) (x : X) (xs : List X) → Contains xs x → Contains (map f xs) (f x)
 Contains-map f x xs (k, within, is) = (k, rw length-map within, get_or-map f xs k x (f x) within ∙ ap f is)
@@ -37,11 +36,7 @@ less_not_more a b ab ba = let round = names_total.trans a b a ab ba in let same 
 
 -- no part stands before one that stands before it
 comes_first-once : (a b : Option (List Name)) → ComesFirst a b → ComesFirst b a → ⊥
-comes_first-once a None ab ba = ab
-comes_first-once None (Some b) ab ba = ba
-comes_first-once (Some []) (Some b) ab ba = ab
-comes_first-once (Some (i ∷ is)) (Some []) ab ba = ab
-comes_first-once (Some (i ∷ is)) (Some (j ∷ js)) ab ba = less_not_more i j ab ba
+comes_first-once a b ab ba = grind (arith, less_not_more)
 
 -- Lists in order that have the same parts are one: their heads are one, since else each would stand before the other,
 -- and then their tails have the same parts.
@@ -70,6 +65,4 @@ parts_unique (x ∷ xs) (y ∷ ys) ox oy xy yx =
 
 -- the parts that have a property are one list
 pub parts_that-unique : (is_part : Part → Type 0) (xs ys : List Part) → ArePartsThat is_part xs → ArePartsThat is_part ys → xs ≡ ys
-parts_that-unique is_part xs ys a b =
-    parts_unique xs ys a.in_order.in_order b.in_order.in_order
-    (λ p has. b.has_all p (All-contains is_part xs p a.are has)) (λ p has. a.has_all p (All-contains is_part ys p b.are has))
+parts_that-unique is_part xs ys a b = grind (arith, parts_unique, All-contains)

@@ -1,4 +1,4 @@
-use Rattle.std.proofs.Common.{◌≡◌, ◌≢◌, ◌<◌, ◌⊎◌, ℕ, Bool, true, false, ◌||◌, ◌&&◌, List, [], ◌∷◌, length, get_or, Option, Some, None, All, AllPairs, Contains, map, IfSome, refl, ap, sym, ◌∙◌, arith, inl, inr}
+use Rattle.std.proofs.Common.{◌≡◌, ◌≢◌, ◌<◌, ◌⊎◌, ℕ, Bool, true, false, ◌&&◌, List, [], ◌∷◌, length, get_or, Option, Some, None, All, AllPairs, Contains, map, IfSome, refl, ap, sym, ◌∙◌, arith, inl, inr}
 use Rattle.std.specs.declared.cmp.Ordering.TheVariants.{Less}
 use Rattle.std.specs.Ordering.{is_eq}
 use Rattle.std.specs.List.{list_any}
@@ -8,14 +8,13 @@ use Rattle.std.proofs.lemmas.List.{get_or-map}
 use Rattle.std.proofs.lemmas.Map.Keys.{sorted_from_all_adjacent}
 use Rattle.mr_version.specs.Order.{names_total}
 use Rattle.std.proofs.lemmas.List.Elements.{All-head, All-tail, All-map, All-weaker, All-contains, All-contains_itself}
-use Rattle.mr_version.specs.Name.{Name, name_eq, name_cmp}
+use Rattle.mr_version.specs.Name.{Name, name_cmp}
 use Rattle.mr_forms.specs.declared.fragment.ItemSet.{ItemSet}
 use Rattle.mr_forms.specs.declared.fragment.ItemSet.TheVariants.{All as AllItems, Listed}
 use Rattle.mr_forms.specs.declared.fragment.Fragment.{Fragment}
 use Rattle.mr_forms.specs.Sets.{Versions, is_listed}
 use Rattle.mr_forms.specs.Known.{Part}
 use Rattle.mr_forms.specs.Covered.{listed_items}
-use Rattle.mr_forms.specs.inner.Fresh.{same_name}
 use Rattle.mr_forms.specs.Parts.{part_of, AreListable, ComesFirst, AreInOrder, ArePartsThat}
 use Rattle.mr_forms.specs.PlainPair.{PlainKnown}
 use Rattle.mr_forms.specs.Plain.{IsAllOrOne, ComesBefore, IsOneByOne, AreFragmentsOf, HasPlainVersions, IsPlainPart, beyond_all, is_all, is_named, had_for_all, had_by_item}
@@ -30,8 +29,7 @@ one_listable : (i : Name) → AreListable (i ∷ [])
 one_listable i = record { some = λ empty. cc; few = omega arith; rising = sorted_from_all_adjacent names_total (i ∷ []) i (λ k within. absurd (omega arith)) }
 
 listable-single : (items : ItemSet) → IsAllOrOne items → IfSome (listed_items items) AreListable
-listable-single AllItems single = tt
-listable-single (Listed items) single = rw single.1 (one_listable single.0)
+listable-single items single = grind (arith, one_listable)
 
 lower_item : (a b : List Name) (i j : Name) → a ≡ i ∷ [] → b ≡ j ∷ [] → All (λ x. All (λ y. name_cmp x y ≡ Less) b) a → name_cmp i j ≡ Less
 lower_item a b i j one other before =
@@ -65,8 +63,7 @@ in_order-single fs shape = record {
 -- ---- what a fragment has, the others have not
 
 not_all-after : (a b : ItemSet) → ComesBefore a b → is_all b ≡ false
-not_all-after a AllItems before = absurd before
-not_all-after a (Listed b) before = refl
+not_all-after a b before = grind arith
 
 nothing_for_all-after : (a : ItemSet) (fs : List (Fragment (List Name))) (v : Name) → All (λ g. ComesBefore a g.items) fs → had_for_all fs v ≡ false
 nothing_for_all-after a [] v before = refl
@@ -100,8 +97,7 @@ not_named-after (Listed a) (Listed b) i only one before =
     rw (one.1, name_eq-symmetric one.0 i, ap is_eq (lower_item a.items b.items i one.0 only one.1 before)) refl
 
 named-only : (items : ItemSet) (i : Name) → IsOnly i items → is_named items i ≡ true
-named-only AllItems i only = absurd only
-named-only (Listed items) i only = rw (only, name_eq-itself i) refl
+named-only items i only = grind (arith, name_eq-itself)
 
 nothing_by_item-after : (a : ItemSet) (i : Name) (fs : List (Fragment (List Name))) (v : Name) → IsOnly i a → All (λ g. IsAllOrOne g.items) fs → All (λ g. ComesBefore a g.items) fs → had_by_item fs i v ≡ false
 nothing_by_item-after a i [] v only single before = refl
@@ -154,19 +150,13 @@ found {X} p (x ∷ xs) any = go (or_cases (p x) (list_any p xs) any) (λ rest. f
     go (inr there) rest = let r = rest there in (r.0, (Contains-there x r.0 xs r.1.0, r.1.1))
 
 all_from_test : (items : ItemSet) → is_all items ≡ true → listed_items items ≡ None
-all_from_test AllItems all = refl
-all_from_test (Listed items) all = absurd (false≢true all)
+all_from_test items all = grind (arith, false≢true)
 
 only_from_test : (items : ItemSet) (i : Name) → IsAllOrOne items → is_named items i ≡ true → IsOnly i items
-only_from_test AllItems i single named = absurd (false≢true named)
-only_from_test (Listed items) i single named =
-    let test : (name_eq single.0 i || false) ≡ true = rw single.1 at named in
-    let same : single.0 ≡ i = same_name single.0 i (or_nothing (name_eq single.0 i) ∙ test) in
-    single.1 ∙ ap (λ (j : Name). j ∷ []) same
+only_from_test items i single named = grind (arith, false≢true, or_nothing)
 
 listed_only : (items : ItemSet) (i : Name) → IsOnly i items → listed_items items ≡ Some (i ∷ [])
-listed_only AllItems i only = absurd only
-listed_only (Listed items) i only = ap (λ (is : List Name). Some is) only
+listed_only items i only = grind arith
 
 -- a part is what its items and its versions are
 part_is : (f : Fragment (List Name)) (items : Option (List Name)) (versions : Versions) → listed_items f.items ≡ items → is_listed f.vector ≡ versions → part_of is_listed f ≡ record { items = items; versions = versions }

@@ -1,4 +1,4 @@
-use Rattle.std.proofs.Common.{◌≡◌, ◌<◌, ◌⊎◌, Bool, true, false, cond, ◌||◌, ◌&&◌, ◌==◌, refl, sym, ap, ◌∙◌, arith, inl, inr}
+use Rattle.std.proofs.Common.{◌≡◌, ◌<◌, ◌⊎◌, Bool, true, false, cond, ◌||◌, ◌&&◌, ◌==◌, arith}
 use Rattle.std.specs.declared.cmp.Ordering.TheVariants.{Less}
 use Rattle.std.proofs.lemmas.Bool.{cases_order}
 use Rattle.std.proofs.lemmas.Bool.Decides.{nat_tests}
@@ -7,14 +7,10 @@ use Rattle.mr_version.specs.Name.{Name, name_eq, name_cmp}
 use Rattle.mr_version.specs.Order.{names_total}
 
 pub or_comm : (a b : Bool) → (a || b) ≡ (b || a)
-or_comm true true = refl
-or_comm true false = refl
-or_comm false true = refl
-or_comm false false = refl
+or_comm a b = grind arith
 
 pub or_cond : (b x : Bool) → cond b true x ≡ (b || x)
-or_cond true x = refl
-or_cond false x = refl
+or_cond b x = grind arith
 
 -- a name is the one whose parts it has
 pub name_eq-parts : (a b : Name) → name_eq a b ≡ ((a.author == b.author) && (a.counter == b.counter))
@@ -25,25 +21,18 @@ name_eq-symmetric a b = (eq_by_cmp_equiv names_total).symm a b
 
 -- what the order of names says of their parts
 parts_by_author : (a b : Name) → name_cmp a b ≡ Less → (a.author ≡ b.author) ⊎ ((a.author < b.author) ⊎ (b.author < a.author)) → (a.author < b.author) ⊎ ((a.author ≡ b.author) × (a.counter < b.counter))
-parts_by_author a b less (inl same) = inr (same, grind (arith, nat_tests))
-parts_by_author a b less (inr (inl below)) = inl below
-parts_by_author a b less (inr (inr above)) = absurd (grind (arith, nat_tests))
+parts_by_author a b less h = grind (arith, nat_tests)
 
 pub parts_from_less : (a b : Name) → name_cmp a b ≡ Less → (a.author < b.author) ⊎ ((a.author ≡ b.author) × (a.counter < b.counter))
 parts_from_less a b less = parts_by_author a b less (cases_order a.author b.author)
 
 pub or_nothing : (b : Bool) → b ≡ (b || false)
-or_nothing true = refl
-or_nothing false = refl
+or_nothing b = grind arith
 
 -- what is added passes from what is left to what is had
 pub passes_on : (new old rest total here there : Bool) → new ≡ (here || old) → there ≡ here → (old || (there || rest)) ≡ total → (new || rest) ≡ total
-passes_on new true rest total true there gains same whole = rw gains whole
-passes_on new true rest total false there gains same whole = rw gains whole
-passes_on new false rest total true there gains same whole = rw gains (rw same at whole)
-passes_on new false rest total false there gains same whole = rw gains (rw same at whole)
+passes_on new old rest total here there gains same whole = grind arith
 
 -- what passes by the last or by those before it or did before, passes by all of them or did before
 pub passes_more : (new rest here before old all : Bool) → new ≡ (here || rest) → rest ≡ (before || old) → all ≡ (here || before) → new ≡ (all || old)
-passes_more new rest true before old all by_here by_before joined = by_here ∙ ap (λ b. b || old) (sym joined)
-passes_more new rest false before old all by_here by_before joined = by_here ∙ by_before ∙ ap (λ b. b || old) (sym joined)
+passes_more new rest here before old all by_here by_before joined = grind arith

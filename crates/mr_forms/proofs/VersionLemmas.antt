@@ -1,4 +1,4 @@
-use Rattle.std.proofs.Common.{◌≡◌, ◌≤◌, ◌⊎◌, ℕ, Bool, true, false, refl, ap, sym, ◌∙◌, arith, inl, inr}
+use Rattle.std.proofs.Common.{◌≡◌, ◌≤◌, ℕ, Bool, true, false, sym, ◌∙◌, arith}
 use Rattle.std.specs.Ordering.{is_gt}
 use Rattle.std.proofs.lemmas.Bool.{or_cases, false≢true}
 use Rattle.std.proofs.lemmas.Bool.Decides.{nat_tests}
@@ -8,18 +8,11 @@ use Rattle.mr_forms.specs.Runs.{HasVersionsAlone, HasNoAuthorFrom, IsNextAuthor,
 
 -- two sets of versions together
 pub versions_alone-both : (s t u : Versions) → IsSame u (both s t) → HasVersionsAlone s → HasVersionsAlone t → HasVersionsAlone u
-versions_alone-both s t u same from_s from_t v h = by_side (or_cases (s v) (t v) (sym (same v) ∙ h))
-  where
-    by_side : (s v ≡ true) ⊎ (t v ≡ true) → IsVersion v.author v.counter
-    by_side (inl l) = from_s v l
-    by_side (inr r) = from_t v r
+versions_alone-both s t u same from_s from_t v h = grind (arith, or_cases)
 
 -- a version alone
 pub version_alone : (w : Name) → IsVersion w.author w.counter → HasVersionsAlone (name_eq w)
-version_alone w is v same =
-    let a : w.author ≡ v.author = grind (arith, nat_tests) in
-    let c : w.counter ≡ v.counter = grind (arith, nat_tests) in
-    record { author_in = rw (← a) is.author_in; counter_from = rw (← c) is.counter_from; counter_to = rw (← c) is.counter_to }
+version_alone w is v same = grind (arith, nat_tests)
 
 -- a version of an author from a counter on is none below that one
 pub from_start : (author from c : ℕ) → from ≤ c → is_gt (name_cmp (record { author = author; counter = from }) (record { author = author; counter = c })) ≡ false
@@ -37,8 +30,7 @@ pub from_author : (a b : Name) → is_gt (name_cmp a b) ≡ false → a.author �
 from_author a b h = grind (arith, nat_tests)
 
 not_in : (b : Bool) → (b ≡ true → ⊥) → b ≡ false
-not_in true h = absurd (h refl)
-not_in false h = refl
+not_in b h = grind arith
 
 after_first : (id q k : ℕ) → id ≤ q → 1 ≤ k → is_gt (name_cmp (record { author = id; counter = 1 }) (record { author = q; counter = k })) ≡ false
 after_first id q k above from = grind (arith, nat_tests)
@@ -56,15 +48,7 @@ no_run-other set author from w after least other c above =
 
 -- the first version from a place on is of the author, and so it is the first of the author's
 pub first_from-least : (set : Versions) (author from : ℕ) (w : Name) → is_gt (name_cmp (record { author = author; counter = from }) w) ≡ false → ((q : Name) → is_gt (name_cmp (record { author = author; counter = from }) q) ≡ false → set q ≡ true → is_gt (name_cmp w q) ≡ false) → set w ≡ true → w.author ≡ author → IsFirstFrom set author from w.counter
-first_from-least set author from w after least is_in same =
-    let is : record { author = author; counter = w.counter } ≡ w = ap (λ (a : ℕ). record { author = a; counter = w.counter }) (sym same) in
-    record {
-      above = from_counter author from w.counter (rw (← is) at after);
-      is_in = ap set is ∙ is_in;
-      before = λ c above below. not_in (set (record { author = author; counter = c })) (λ there.
-          let high = from_counter author w.counter c (rw (← is) at (least (record { author = author; counter = c }) (from_start author from c above) there)) in
-          absurd (omega arith));
-    }
+first_from-least set author from w after least is_in same = grind (arith, from_counter, not_in, from_start)
 
 -- the same, from a version
 pub no_run-after : (set : Versions) (start : Name) (author from : ℕ) (w : Name) → (start.author ≡ author) × (start.counter ≡ from) → is_gt (name_cmp start w) ≡ false → ((q : Name) → is_gt (name_cmp start q) ≡ false → set q ≡ true → is_gt (name_cmp w q) ≡ false) → (w.author ≡ author → ⊥) → HasNoRunFrom set author from
@@ -85,7 +69,4 @@ next_author-first set start id w is alone least after is_in = record {
 }
 
 pub no_author-none : (set : Versions) (start : Name) (id : ℕ) → (start.author ≡ id) × (start.counter ≡ 1) → HasVersionsAlone set → ((q : Name) → is_gt (name_cmp start q) ≡ false → set q ≡ false) → HasNoAuthorFrom set id
-no_author-none set start id is alone none q above k =
-    not_in (set (record { author = q; counter = k })) (λ there.
-    let real = alone (record { author = q; counter = k }) there in
-    false≢true (sym (none (record { author = q; counter = k }) (after_start start id q k is above real.counter_from)) ∙ there))
+no_author-none set start id is alone h q above k = grind (arith, not_in, false≢true, after_start)

@@ -1,5 +1,5 @@
 -- Each step keeps the rule of the inbox.
-use Rattle.std.proofs.Common.{◌≡◌, ◌≢◌, ℕ, ◌<◌, ◌≤◌, ◌==◌, Bool, true, false, true≢false, cond, List, [], ◌∷◌, ◌++◌, length, set, sym, refl, ap, ◌∙◌, subst, ⊎_elim, append_assoc, arith}
+use Rattle.std.proofs.Common.{◌≡◌, ◌≢◌, ℕ, ◌<◌, ◌≤◌, ◌==◌, Bool, true, true≢false, cond, List, [], ◌∷◌, ◌++◌, length, set, sym, refl, ap, ◌∙◌, subst, ⊎_elim, append_assoc, arith}
 use Rattle.std.proofs.lemmas.List.{append-nil}
 use Rattle.std.proofs.lemmas.Bool.{eqb-true}
 use mathlib.Core.Option.{Option, none, some, some-ne-none, some-injective}
@@ -24,14 +24,11 @@ module _ {T : Type 0} where
 
   -- one piece more of one sender, as each sender's list sees it
   last_by : (sent : ℕ → List (Piece T)) (x : Piece T) (p from : ℕ) (b : Bool) → (p == from) ≡ b → sent p ++ cond b (x ∷ []) [] ≡ cond b (sent from ++ x ∷ []) (sent p)
-  last_by sent x p from true is = ap (λ q. sent q ++ x ∷ []) (eqb-true p from is)
-  last_by sent x p from false is = append-nil (sent p)
+  last_by sent x p from b is = grind (arith, eqb-true, append-nil)
 
   one_last : (got waiting : List (Note T)) (m : Note T) (sent : ℕ → List (Piece T)) (from : ℕ) (put : List (Piece T)) (p : ℕ) → (sender_number m.sender) ≡ from → put ≡ sent from → pieces_by p (got ++ waiting) ≡ sent p
       → pieces_by p (got ++ (waiting ++ m ∷ [])) ≡ but sent from (put ++ m.piece ∷ []) p
-  one_last got waiting m sent from put p is puts was =
-      ap (pieces_by p) (sym (append_assoc got waiting (m ∷ []))) ∙ (pieces_by-append p (got ++ waiting) (m ∷ []) ∙ (ap (λ l. l ++ pieces_by p (m ∷ [])) was
-      ∙ (ap (λ q. sent p ++ cond (p == q) (m.piece ∷ []) []) is ∙ (last_by sent m.piece p from (p == from) refl ∙ ap (λ l. cond (p == from) (l ++ m.piece ∷ []) (sent p)) (sym puts)))))
+  one_last got waiting m sent from put p is puts was = grind (arith, append_assoc, pieces_by-append, last_by)
 
   pub inbox_pushes : (n pass : ℕ) (v : InboxSight T) (m : Note T) → v.sends ≡ true → (sender_number m.sender) ≡ v.number → Pushes DeliversInOrder n pass v m (λ w. w ≡ with_sent v m.piece)
   inbox_pushes n pass v m may from waiting sights _ h at =

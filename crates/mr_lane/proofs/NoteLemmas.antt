@@ -1,5 +1,5 @@
 -- What each sender sent among notes of all, and whether it has finished.
-use Rattle.std.proofs.Common.{◌≡◌, ℕ, ◌==◌, ◌||◌, ◌&&◌, Bool, true, false, true≢false, cond, List, [], ◌∷◌, ◌++◌, sym, refl, ap, ◌∙◌}
+use Rattle.std.proofs.Common.{◌≡◌, ℕ, ◌==◌, ◌||◌, ◌&&◌, Bool, true, false, true≢false, List, [], ◌∷◌, ◌++◌, sym, refl, ap, ◌∙◌, arith}
 use Rattle.std.proofs.lemmas.Bool.{and_parts}
 use Rattle.mr_lane.specs.declared.piece.Piece.{Piece}
 use Rattle.mr_lane.specs.declared.piece.Piece.TheVariants.{Item, End}
@@ -13,25 +13,20 @@ use Rattle.mr_lane.specs.Desk.{has_finished, have_all_finished, AreMarksOf}
 use Rattle.mr_lane.specs.inner.Desk.{with_mark}
 
 or-false : (b : Bool) → (b || false) ≡ b
-or-false true = refl
-or-false false = refl
+or-false b = grind arith
 
 or-true : (b : Bool) → (b || true) ≡ true
-or-true true = refl
-or-true false = refl
+or-true b = grind arith
 
 -- with one sender's mark more, each mark is there that was, and that one
 marked : (sender : Sender) (marks : Marks) (u f s : Bool) → marks.user ≡ u → marks.first_link ≡ f → marks.second_link ≡ s
     → ((with_mark marks sender).user ≡ (u || (0 == sender_number sender))) × ((with_mark marks sender).first_link ≡ (f || (1 == sender_number sender))) × ((with_mark marks sender).second_link ≡ (s || (2 == sender_number sender)))
-marked User marks u f s a b c = (sym (or-true u), b ∙ sym (or-false f), c ∙ sym (or-false s))
-marked FirstLink marks u f s a b c = (a ∙ sym (or-false u), sym (or-true f), c ∙ sym (or-false s))
-marked SecondLink marks u f s a b c = (a ∙ sym (or-false u), b ∙ sym (or-false f), sym (or-true s))
+marked sender marks u f s a b c = grind (arith, or-true, or-false)
 
 module _ {T : Type 0} where
   pub pieces_by-append : (p : ℕ) (ms ns : List (Note T)) → pieces_by p (ms ++ ns) ≡ pieces_by p ms ++ pieces_by p ns
   pieces_by-append p [] ns = refl
-  pieces_by-append p (m ∷ ms) ns = let rest = pieces_by-append p ms ns in
-      elim (p == (sender_number m.sender)) as (λ (b : Bool). cond b (m.piece ∷ pieces_by p (ms ++ ns)) (pieces_by p (ms ++ ns)) ≡ cond b (m.piece ∷ pieces_by p ms) (pieces_by p ms) ++ pieces_by p ns) [ true ↦ ap (λ l. m.piece ∷ l) rest | false ↦ rest ]
+  pieces_by-append p (m ∷ ms) ns = grind (arith, pieces_by-append p ms ns)
 
   has_end-append : (ps qs : List (Piece T)) → has_end (ps ++ qs) ≡ (has_end ps || has_end qs)
   has_end-append [] qs = refl
@@ -44,8 +39,7 @@ module _ {T : Type 0} where
 
   -- a letter is nobody's end mark
   letter_mark : (k : Sender) (note : Note T) (x : T) → note.piece ≡ Item x → has_end (pieces_by (sender_number k) (note ∷ [])) ≡ false
-  letter_mark k note x is = ap (λ p. has_end (cond (sender_number k == sender_number note.sender) (p ∷ []) [])) is
-      ∙ elim (sender_number k == sender_number note.sender) as (λ (b : Bool). has_end (cond b (Item x ∷ []) []) ≡ false) [ true ↦ refl | false ↦ refl ]
+  letter_mark k note x is = grind arith
 
   pub takes_letter : (taken now : List (Note T)) (note : Note T) (x : T) (marks : Marks) → note.piece ≡ Item x → now ≡ taken ++ note ∷ [] → AreMarksOf marks taken → AreMarksOf marks now
   takes_letter taken now note x marks is last was =
@@ -54,8 +48,7 @@ module _ {T : Type 0} where
 
   -- an end mark is its sender's
   end_mark : (k : Sender) (note : Note T) → note.piece ≡ End → has_end (pieces_by (sender_number k) (note ∷ [])) ≡ (sender_number k == sender_number note.sender)
-  end_mark k note is = ap (λ p. has_end (cond (sender_number k == sender_number note.sender) (p ∷ []) [])) is
-      ∙ elim (sender_number k == sender_number note.sender) as (λ (b : Bool). has_end {T = T} (cond b (End ∷ []) []) ≡ b) [ true ↦ refl | false ↦ refl ]
+  end_mark k note is = grind arith
 
   pub takes_mark : (taken now : List (Note T)) (note : Note T) (marks : Marks) → note.piece ≡ End → now ≡ taken ++ note ∷ [] → AreMarksOf marks taken → AreMarksOf (with_mark marks note.sender) now
   takes_mark taken now note marks is last was =
@@ -69,10 +62,7 @@ module _ {T : Type 0} where
   ends_at [] qs xs a e c = absurd (true≢false (sym c))
   ends_at (Item y ∷ ps) qs [] true e c = cc
   ends_at (Item y ∷ ps) qs [] false e c = cc
-  ends_at (Item y ∷ ps) qs (x ∷ xs) a e c =
-      let tail : ps ++ qs ≡ pieces xs a = cc in
-      let same : y ≡ x = cc in
-      let r = ends_at ps qs xs a tail c in (r.0, cc (r.1, same))
+  ends_at (Item y ∷ ps) qs (x ∷ xs) a e c = grind (arith, ends_at ps qs xs a)
   ends_at (End ∷ []) qs [] true e c = (refl, refl)
   ends_at (End ∷ (p ∷ ps)) qs [] true e c = cc
   ends_at (End ∷ ps) qs [] false e c = cc

@@ -1,5 +1,5 @@
 -- Lists of pieces: items, and the end mark last.
-use Rattle.std.proofs.Common.{◌≡◌, ℕ, suc, Bool, true, false, true≢false, List, [], ◌∷◌, ◌++◌, length, sym, refl, ap, ◌∙◌}
+use Rattle.std.proofs.Common.{◌≡◌, ℕ, suc, Bool, true, false, true≢false, List, [], ◌∷◌, ◌++◌, length, sym, refl, ap, ◌∙◌, arith}
 use Rattle.std.proofs.lemmas.List.{append-nil}
 use Rattle.mr_lane.specs.declared.piece.Piece.{Piece}
 use Rattle.mr_lane.specs.declared.piece.Piece.TheVariants.{Item, End}
@@ -27,11 +27,7 @@ module _ {T : Type 0} where
 
   -- unended pieces with one item more are unended, and have that item last
   pub one_more : (ps qs : List (Piece T)) (p : Piece T) (x : T) (b : Bool) → b ≡ false → ps ≡ pieces (items_of ps) b → p ≡ Item x → qs ≡ ps ++ p ∷ [] → (items_of qs ≡ items_of ps ++ x ∷ []) × (qs ≡ pieces (items_of qs) b)
-  one_more ps qs p x b off was piece is =
-      let last : qs ≡ ps ++ Item x ∷ [] = is ∙ ap (λ y. ps ++ y ∷ []) piece in
-      let e : items_of qs ≡ items_of ps ++ x ∷ [] = ap items_of last ∙ items_of-append ps (Item x ∷ []) in
-      let now : qs ≡ pieces (items_of qs) false = last ∙ ap (λ l. l ++ Item x ∷ []) (was ∙ ap (λ c. pieces (items_of ps) c) off) ∙ pieces-item (items_of ps) x ∙ ap (λ l. pieces l false) (sym e) in
-      (e, now ∙ ap (λ c. pieces (items_of qs) c) (sym off))
+  one_more ps qs p x b off was piece is = grind (arith, items_of-append, pieces-item)
 
   -- unended pieces with the end mark have the same items, and have ended
   pub ended : (ps qs : List (Piece T)) (p : Piece T) (b : Bool) → b ≡ false → ps ≡ pieces (items_of ps) b → p ≡ End → qs ≡ ps ++ p ∷ [] → (items_of qs ≡ items_of ps) × (qs ≡ pieces (items_of qs) true)
@@ -63,8 +59,4 @@ module _ {T : Type 0} where
   begins_of (x ∷ xs) [] a true rest e = cc
   begins_of [] (y ∷ ys) true b rest e = cc
   begins_of [] (y ∷ ys) false b rest e = cc
-  begins_of (x ∷ xs) (y ∷ ys) a b rest e =
-      let tail : pieces xs a ≡ pieces ys b ++ rest = cc in
-      let same : x ≡ y = cc in
-      let r = begins_of xs ys a b rest tail in
-      ((r.0.0, cc (r.0.1, same)), λ p. let all = r.1 p in (cc (all.0, same), all.1))
+  begins_of (x ∷ xs) (y ∷ ys) a b rest e = grind (arith, begins_of xs ys a b rest)

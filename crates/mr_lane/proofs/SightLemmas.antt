@@ -1,5 +1,5 @@
 -- Lists of sights, by the numbers of their passes.
-use Rattle.std.proofs.Common.{◌≡◌, ◌≢◌, ℕ, zero, suc, List, [], ◌∷◌, ◌++◌, length, set, sym, refl, ap, subst, ◌⊎◌, inl, inr, ⊎_elim}
+use Rattle.std.proofs.Common.{◌≡◌, ◌≢◌, ℕ, zero, suc, List, [], ◌∷◌, ◌++◌, length, set, sym, refl, ap, ◌⊎◌, inl, inr, ⊎_elim, arith}
 use mathlib.Core.Option.{some, some-ne-none, some-injective}
 use lib.ListN.{get_elem?}
 use Rattle.crossbeam_queue.proofs.Lists.{at_set}
@@ -11,13 +11,11 @@ module _ {V : Type 0} where
 
   -- it holds of a lone sight
   pub only_one : (F : ℕ → V → Type 0) (s : V) → F 0 s → AllSights F (s ∷ [])
-  only_one F s h zero v e = subst (λ (y : V). F 0 y) (some-injective s v e) h
-  only_one F s h (suc j) v e = absurd (some-ne-none v (sym e))
+  only_one F s h k v e = grind arith
 
   -- it holds after one sight was changed, where it holds of that one and of the others
   pub all_set : (F : ℕ → V → Type 0) (sights : List V) (pass : ℕ) (s : V) → F pass s → ((j : ℕ) (u : V) → j ≢ pass → get_elem? sights j ≡ some u → F j u) → AllSights F (set sights pass s)
-  all_set F sights pass s mine others j u e = ⊎_elim (λ (x : (j ≡ pass) × (s ≡ u)). subst (λ (y : ℕ × V). F y.0 y.1) (λ i. (sym x.0 i, x.1 i)) mine)
-      (λ (x : (j ≢ pass) × (get_elem? sights j ≡ some u)). others j u x.0 x.1) (at_set sights pass j s u e)
+  all_set F sights pass s mine others j u e = grind (arith, ⊎_elim, at_set)
 
   -- what stands in a list with one more at its end stood there before, or is that one
   pub snoc_cases : (l : List V) (a b : V) (j : ℕ) → get_elem? (l ++ a ∷ []) j ≡ some b → (get_elem? l j ≡ some b) ⊎ ((j ≡ length l) × (a ≡ b))

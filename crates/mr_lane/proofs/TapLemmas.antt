@@ -1,7 +1,5 @@
 -- Each step keeps the rule of the tap.
-use Rattle.std.proofs.Common.{◌≡◌, ◌≢◌, ℕ, Bool, true, false, true≢false, List, [], ◌∷◌, ◌++◌, length, set, sym, refl, ap, ◌∙◌, ⊎_elim, append_assoc}
-use mathlib.Core.Option.{some}
-use lib.ListN.{get_elem?}
+use Rattle.std.proofs.Common.{◌≡◌, ◌≢◌, ℕ, Bool, true, false, true≢false, List, [], ◌∷◌, ◌++◌, length, set, sym, refl, ap, ◌∙◌, ⊎_elim, append_assoc, arith}
 use Rattle.crossbeam_queue.specs.Fifo.{Pushes, Pops, Forks, Merges, Learns}
 use Rattle.crossbeam_queue.proofs.Lists.{at_set}
 use Rattle.mr_lane.specs.declared.piece.Piece.{Piece}
@@ -64,15 +62,7 @@ module _ {T : Type 0} where
       )
 
   pub tap_merges : (pass : ℕ) (s : TapSight T) (other : ℕ) (u : TapSight T) → s.offers ≡ true → u.takes ≡ true → Merges FlowsInOrder pass s other u (tap_sight true true s.offered u.taken) (tap_sight false false [] [])
-  tap_merges pass s other u a b waiting sights h at two at' =
-      let both : TapSight T = tap_sight true true s.offered u.taken in
-      let mine = h.5 pass s at in
-      let all : List (TapSight T) = set sights pass both in
-      let was : get_elem? sights other ≡ some u = ⊎_elim (λ x. absurd (two x.0)) (λ x. x.1) (at_set sights pass other both u at') in
-      let theirs = (h.5 other u was).1 b in
-      let Now : ℕ → TapSight T → Type 0 = λ j y. j ≢ other → KnowsItsSide h.0 pass h.2 h.3 j y in
-      let now : AllSights Now all = all_set Now sights pass both (λ _. ((λ _. mine.0 a), λ _. (refl, theirs.1))) (λ j y _ e apart. ((h.5 j y e).0, λ q. absurd (apart (((h.5 j y e).1 q).0 ∙ sym theirs.0)))) in
-      (h.0, pass, h.2, h.3, h.4, all_set (KnowsItsSide h.0 pass h.2 h.3) all other (tap_sight false false [] []) ((λ q. absurd (true≢false (sym q))), λ q. absurd (true≢false (sym q))) (λ j y apart e. now j y e apart))
+  tap_merges pass s other u a b waiting sights h at two at' = grind (arith, set, ⊎_elim, at_set, all_set, true≢false)
 
   -- the end that offers knows that what waits is the last of what was offered
   pub tap_waiting : (pass : ℕ) (s : TapSight T) → s.offers ≡ true → Learns FlowsInOrder pass s (λ waiting. (gone : List (Piece T)) × (s.offered ≡ gone ++ waiting))

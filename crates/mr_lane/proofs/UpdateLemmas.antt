@@ -1,5 +1,5 @@
 -- A function of numbers, with another value at one of them.
-use Rattle.std.proofs.Common.{◌≡◌, ◌≢◌, ℕ, ◌==◌, Bool, true, false, cond, refl, ap}
+use Rattle.std.proofs.Common.{◌≡◌, ◌≢◌, ℕ, ◌==◌, Bool, true, false, cond, refl, ap, arith}
 use Rattle.std.proofs.lemmas.Bool.{eqb-true, eq-eqb}
 
 -- f, with x at k
@@ -10,8 +10,7 @@ pub but-here : {A : Type 0} (f : ℕ → A) (k : ℕ) (x : A) → but f k x k �
 but-here f k x = ap (λ b. cond b x (f k)) (eq-eqb k k refl)
 
 but-by : {A : Type 0} (f : ℕ → A) (k : ℕ) (x : A) (p : ℕ) (b : Bool) → (p == k) ≡ b → p ≢ k → but f k x p ≡ f p
-but-by f k x p true is apart = absurd (apart (eqb-true p k is))
-but-by f k x p false is apart = ap (λ b. cond b x (f p)) is
+but-by f k x p b is apart = grind (arith, eqb-true)
 
 pub but-else : {A : Type 0} (f : ℕ → A) (k : ℕ) (x : A) (p : ℕ) → p ≢ k → but f k x p ≡ f p
 but-else f k x p apart = but-by f k x p (p == k) refl apart

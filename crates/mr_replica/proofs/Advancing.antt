@@ -1,5 +1,5 @@
 -- what a replica keeps as a stream goes on
-use Rattle.std.proofs.Common.{◌≡◌, ◌≤◌, ◌+◌, ℕ, Bool, true, false, if◌then◌else◌, arith, List, [], ◌∷◌, ◌++◌, length, Option, Some, None, Result, Ok, Err, IfOk, refl}
+use Rattle.std.proofs.Common.{◌≡◌, ◌≤◌, ◌+◌, ℕ, Bool, true, false, if◌then◌else◌, arith, List, [], ◌∷◌, ◌++◌, length, Option, Some, None, Result, IfOk, refl}
 use Rattle.std.proofs.lemmas.List.{length_push}
 use Rattle.mr_session.specs.Table.{Table, open_at, with_closed, with_changed}
 use Rattle.mr_session.specs.Stream.{Stream, GivesIn}
@@ -7,7 +7,7 @@ use Rattle.mr_session.specs.declared.outgoing.onward.Prepared.{Prepared}
 use Rattle.mr_session.proofs.DrawnLemmas.{same_gives}
 use Rattle.mr_store.specs.Holdings.{Holdings}
 use Rattle.mr_replica.specs.State.{State}
-use Rattle.mr_replica.specs.Next.{held_now, GivesNext}
+use Rattle.mr_replica.specs.Next.{GivesNext}
 use Rattle.mr_replica.specs.inner.Next.{going_on}
 use Rattle.mr_session.specs.declared.outgoing.onward.Onward.{Onward}
 use Rattle.mr_session.specs.Onward.{after_given, is_last, gone_on, advanced}
@@ -39,6 +39,4 @@ within_advanced log event number way table within = by_stream (open_at table num
 -- a record that was prepared of what is held, and the replica behind it
 pub prepared_next : {K E : Type 0} (s : State K) (stream : ℕ) (h : Holdings) (prepared : Result Prepared E) → h.heads ≡ s.heads → h.push_outs ≡ s.push_outs
     → IfOk prepared (λ p. GivesIn s.id stream s.streams h p.record (advanced stream p.onward s.streams)) → IfOk prepared (λ p. GivesNext s stream p.record (going_on s stream p.onward))
-prepared_next s stream h (Ok p) heads push_outs gives =
-    (advanced stream p.onward s.streams, same_gives s.id stream s.streams h (held_now s) p.record (advanced stream p.onward s.streams) heads push_outs gives, refl)
-prepared_next s stream h (Err e) heads push_outs gives = tt
+prepared_next s stream h prepared heads push_outs gives = grind (arith, same_gives)

@@ -1,9 +1,9 @@
 -- Replicas that are alike answer alike, and stay alike.
-use Rattle.std.proofs.Common.{◌≡◌, ◌≢◌, refl, sym, ap, subst, ◌∙◌, ℕ, List, [], ◌∷◌, ◌++◌, Result, Ok, Err}
+use Rattle.std.proofs.Common.{◌≡◌, ◌≢◌, refl, sym, ap, subst, ◌∙◌, ℕ, List, [], ◌∷◌, ◌++◌, Result, Ok, Err, arith}
 use Rattle.mr_filter.specs.Filter.{ClauseParts}
 use Rattle.mr_forms.specs.ByMeaning.{IsByMeaning}
 use Rattle.mr_forms.specs.Known.{Form, Pairs, AreSame}
-use Rattle.mr_replica.specs.State.{State, new_state}
+use Rattle.mr_replica.specs.State.{State}
 use Rattle.mr_replica.specs.Alike.{seen, AreAlike}
 use Rattle.mr_replica.specs.Step.{Steps, IsDecided}
 use Rattle.mr_replica.specs.Replay.{Admits, AdmitsAll, IsFresh, Replays}
@@ -20,17 +20,7 @@ module _ {K : Type 0} (form : Form K) (told : IsByMeaning form) where
 
   -- values that know the same choose the same, so their forms over meanings are one
   one_form : (a b : K) → AreSame (form.known a) (form.known b) → by_meaning form a ≡ by_meaning form b
-  one_form a b same =
-      let learns : form.learns_for_all a ≡ form.learns_for_all b = λ i item version set. told.learns a b same item version set i in
-      let firsts : form.firsts_for_all a ≡ form.firsts_for_all b = λ i item version set. told.firsts a b same item version set i in
-      λ i. record {
-        known = λ pairs. pairs;
-        is_part = (by_meaning form a).is_part;
-        learns_for_all = λ _. learns i;
-        firsts_for_all = λ _. firsts i;
-        has_too_many_holes = form.has_too_many_holes;
-        has_too_many_items = form.has_too_many_items;
-      }
+  one_form a b same = grind (arith, by_meaning)
 
   known_alike : (s t : State K) → AreAlike form s t → AreSame (form.known s.knowledge) (form.known t.knowledge)
   known_alike s t alike = λ item version. ap (λ (z : State Pairs). z.knowledge item version) alike
@@ -65,7 +55,7 @@ module _ {K : Type 0} (form : Form K) (told : IsByMeaning form) where
 
   only_memory : (e : Refusal) → ((e ≢ OutOfMemory) → ⊥) → e ≡ OutOfMemory
   only_memory OutOfMemory h = refl
-  only_memory e h = absurd (h (λ is. cc))
+  only_memory e h = grind arith
 
   same_refusal : (e f : Refusal) → (let answer : Result Reply Refusal = Err e in answer ≡ Err f) → e ≡ f
   same_refusal e f is = cc
@@ -82,9 +72,7 @@ module _ {K : Type 0} (form : Form K) (told : IsByMeaning form) where
 
   -- fresh replicas of one id, filter and limit are alike
   pub alike_fresh : (id : ℕ) (filter : List ClauseParts) (event_limit : ℕ) (a b : State K) → IsFresh form id filter event_limit a → IsFresh form id filter event_limit b → AreAlike form a b
-  alike_fresh id filter event_limit a b h k =
-      let knowledge : form.known a.knowledge ≡ form.known b.knowledge = λ i x y. (h.knows_nothing x y ∙ sym (k.knows_nothing x y)) i in
-      ap (seen form) h.is_empty ∙ ap (λ (pairs : Pairs). new_state id filter event_limit pairs) knowledge ∙ ap (seen form) (sym k.is_empty)
+  alike_fresh id filter event_limit a b h k = grind arith
 
   -- two replays of the same events are alike
   pub alike_replays : (id : ℕ) (filter : List ClauseParts) (event_limit : ℕ) (events : List Event) (s t : State K) → Replays form id filter event_limit events s → Replays form id filter event_limit events t → AreAlike form s t

@@ -1,5 +1,5 @@
 -- why an event's issue was not made
-use Rattle.std.proofs.Common.{◌≢◌, ◌↔◌, IsErrOf, sym, ◌∙◌, List, [], ◌∷◌, Result, Err, inl, inr}
+use Rattle.std.proofs.Common.{◌≢◌, ◌↔◌, IsErrOf, sym, ◌∙◌, List, Result, Err, inl, inr, arith}
 use Rattle.std.specs.List.{All}
 use Rattle.std.proofs.lemmas.List.Elements.{All-nil, All-cons}
 use Rattle.mr_version.specs.Name.{Name}
@@ -32,9 +32,7 @@ module _ {K : Type 0} (form : Form K) (s : State K) (i : Issue) where
 
     -- there is a value for all that it wants
     pub all_fit : made ≢ Err faults.TooManyHoles → Fits form (Knowledge (version_learned form s i.item)) → All (Fits form) (wanted_by_issue form s i)
-    all_fit few fits =
-        All-cons (Fits form) (Vector (below_of_issue s i)) (Knowledge (version_learned form s i.item) ∷ []) (vector_fits few)
-        (All-cons (Fits form) (Knowledge (version_learned form s i.item)) [] fits (All-nil (Fits form)))
+    all_fit few fits = grind (arith, All-cons, vector_fits, All-nil)
 
     -- it was not admitted
     pub refused_issue : (e : Refusal) → RefusesMade form made (version_learned form s i.item) e → RefusesIssue e
@@ -42,15 +40,15 @@ module _ {K : Type 0} (form : Form K) (s : State K) (i : Issue) where
     refused_issue TooManyHoles (inl many) = inl (holes.0 many)
     refused_issue TooManyHoles (inr h) = inr (vector_fits h.0, inl h.1)
     refused_issue TooManyItems h = inr (vector_fits h.0, inl h.1)
-    refused_issue e h = absurd h
+    refused_issue e h = grind (arith, all_fit, vector_fits)
 
 module _ {K : Type 0} (form : Form K) (s : State K) where
   -- so the Create is refused
   pub late_create : (message : Mail) (e : Refusal) → RefusesIssue form s (created s message) e → RefusesLate form s (Create message) e
   late_create message OutOfMemory h = h
-  late_create message e h = h
+  late_create message e h = grind arith
 
   -- so the Edit is refused
   pub late_edit : (bases : List Name) (message : Mail) (e : Refusal) → RefusesIssue form s (edited s bases message) e → RefusesLate form s (Edit bases message) e
   late_edit bases message OutOfMemory h = h
-  late_edit bases message e h = h
+  late_edit bases message e h = grind arith

@@ -1,5 +1,5 @@
 -- what an admitted edit supersedes: all of it was issued before, and the item is among it
-use Rattle.std.proofs.Common.{◌≡◌, ◌≤◌, ◌+◌, ℕ, Bool, true, false, not, ◌&&◌, ◌||◌, ◌==◌, nat_le, nat_lt, refl, sym, ap, subst, ◌∙◌, arith, List, [], ◌∷◌, ◌++◌, Option, Some, None, inl, inr}
+use Rattle.std.proofs.Common.{◌≡◌, ◌≤◌, ◌+◌, ℕ, Bool, true, false, not, ◌&&◌, ◌||◌, ◌==◌, nat_le, nat_lt, refl, ap, ◌∙◌, arith, List, [], ◌∷◌, ◌++◌, Option, Some, None, inl, inr}
 use Rattle.std.specs.List.{list_any, cons_option, filter_map}
 use Rattle.std.specs.Option.{option_map, option_map_or, is_none}
 use Rattle.std.proofs.lemmas.Bool.{cases_Bool, and_parts, or_cases, or_left, or_right, ltb-true}
@@ -9,7 +9,7 @@ use Rattle.mr_forms.specs.Known.{Form}
 use Rattle.mr_concise.specs.declared.vector.AuthorColumn.{AuthorColumn}
 use Rattle.mr_concise.specs.Source.{in_some}
 use Rattle.mr_concise.specs.Vector.{vector_has}
-use Rattle.mr_madewith.specs.Revision.{Rev, IsRevision, has_below, by_base}
+use Rattle.mr_madewith.specs.Revision.{Rev, IsRevision, by_base}
 use Rattle.mr_madewith.specs.Trail.{last_of}
 use Rattle.mr_madewith.specs.MadeWith.{own_before, by_bases, filled_below, AreColumnsOf}
 use Rattle.mr_madewith.proofs.Rising.{same_names, name_eq_self, unnamed}
@@ -32,15 +32,12 @@ use Rattle.mr_replica.proofs.Choice.{first_none, later_none, map_none, found_has
 
 -- a counter below the next was issued
 lower : (a b c n : ℕ) → ((a == b) && (nat_le 1 c && nat_lt c (n + 1))) ≡ true → c ≤ n
-lower a b c n h =
-    let parts = and_parts (a == b) (nat_le 1 c && nat_lt c (n + 1)) h in
-    omega (arith, ltb-true c (n + 1) (and_parts (nat_le 1 c) (nat_lt c (n + 1)) parts.1).1)
+lower a b c n h = grind (arith, and_parts, nat_le, ltb-true)
 
 -- ---- the sources of an edit's made-with set
 
 found_base : (v : Name) (o : Option Rev) (has : Bool) (rest : List Rev) → has ≡ by_bases rest v → (in_some by_base o v || has) ≡ by_bases (cons_option o rest) v
-found_base v None has rest is = is
-found_base v (Some r) has rest is = ap (λ c. by_base r v || c) is
+found_base v o has rest is = grind arith
 
 found_bases : (find : Name → Option Rev) (bases : List Name) (v : Name) → list_any (λ b. in_some by_base (find b) v) bases ≡ by_bases (filter_map find bases) v
 found_bases find [] v = refl
@@ -75,11 +72,7 @@ module _ {K : Type 0} (form : Form K) (s : State K) (sound : IsSound form s) whe
 
   -- a version with all that it supersedes
   no_later_up_to : (r : Rev) → AreNoLater s.id s.issued r.version r.below → (v : Name) → by_base r v ≡ true → IsNoLater s.id s.issued v
-  no_later_up_to r h v in' =
-      elim (or_cases (name_eq r.version v) (has_below r v) in') [
-        | inl same ↦ subst (IsNoLater s.id s.issued) (same_names r.version v same) h.itself
-        | inr is_below ↦ h.all_below v is_below
-      ]
+  no_later_up_to r h v in' = grind (arith, or_cases, same_names)
 
   -- a base that is held, or a later one
   no_later_by_held : (base v : Name) (rest : List Rev) (o : Option Rev) → held s base ≡ o → (by_bases rest v ≡ true → IsNoLater s.id s.issued v)
@@ -117,11 +110,7 @@ module _ {K : Type 0} (form : Form K) (s : State K) (sound : IsSound form s) whe
 
   -- each revision supersedes its item's first version, or is it
   has_first : (r : Rev) → IsRevision r.item r.version r.below → by_base r r.item ≡ true
-  has_first r is =
-      elim (cases_Bool (name_eq r.version r.item)) [
-        | inl same ↦ or_left (name_eq r.version r.item) (has_below r r.item) same
-        | inr apart ↦ or_right (name_eq r.version r.item) (has_below r r.item) (is.later (λ same. cc (sym apart ∙ ap (λ v. name_eq v r.item) same ∙ name_eq_self r.item)))
-      ]
+  has_first r is = grind (arith, cases_Bool, or_left, or_right, name_eq_self)
 
   has_item_by : (b : Name) (rest : List Rev) (last : Option Rev) (new : Name) (o : Option Rev) → held s b ≡ o → is_none o ≡ false
       → filled_below (by_bases (cons_option o rest)) last new (option_map_or (λ r. r.item) o b) ≡ true
@@ -152,20 +141,7 @@ module _ {K : Type 0} (form : Form K) (s : State K) (sound : IsSound form s) whe
   -- so the next version of the item, with what an admitted edit supersedes, is a revision
   pub edited_next : (bases : List Name) (message : Mail) (below : List AuthorColumn) → edit_refusal s bases ≡ None → AreColumnsOf (below_for s (edited_item s bases) bases) below
       → IsNext s (record { item = edited_item s bases; version = next_version s; below = below; message = message })
-  edited_next bases message below admitted columns =
-      let item = edited_item s bases in
-      let no_later : (v : Name) → vector_has below v ≡ true → IsNoLater s.id s.issued v = λ v in'. below_no_later item bases v (sym (columns.same v) ∙ in') in
-      let lacks : vector_has below (next_version s) ≡ false = lacks_next below no_later in
-      let has : vector_has below item ≡ true = columns.same item ∙ below_has_item bases admitted in
-      record {
-        version = refl;
-        is = record {
-          lacks_itself = lacks;
-          first = λ is. cc (sym lacks ∙ ap (vector_has below) is ∙ has);
-          later = λ _. has;
-        };
-        no_later = no_later;
-      }
+  edited_next bases message below admitted columns = grind (arith, below_no_later, lacks_next, below_has_item)
 
 -- the columns of no version
 pub no_columns : (below : List AuthorColumn) → below ≡ [] → IsSame (vector_has below) (λ _. false) → AreColumnsOf (λ _. false) below

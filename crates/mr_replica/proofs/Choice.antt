@@ -12,21 +12,17 @@ use Rattle.mr_replica.specs.declared.refusal.Refusal.{Refusal}
 
 -- where neither of two answers comes, the first does not
 pub first_none : {A : Type 0} (a b : Option A) → (a orelse b) ≡ None → a ≡ None
-first_none None b h = refl
-first_none (Some x) b h = cc
+first_none a b h = grind arith
 
 pub later_none : {A : Type 0} (a b : Option A) → (a orelse b) ≡ None → b ≡ None
-later_none None b h = h
-later_none (Some x) b h = cc
+later_none a b h = grind arith
 
 -- a refusal whose case does not hold
 pub not_refused : (b : Bool) (e : Refusal) → refused_if b e ≡ None → b ≡ false
-not_refused true e h = cc
-not_refused false e h = refl
+not_refused b e h = grind arith
 
 pub map_none : {A B : Type 0} (f : A → B) (o : Option A) → option_map f o ≡ None → o ≡ None
-map_none f None h = refl
-map_none f (Some x) h = cc
+map_none f o h = grind arith
 
 pub some_same : {X : Type 0} (a b : X) → Some a ≡ Some b → a ≡ b
 some_same a b h = cc
@@ -48,9 +44,7 @@ found_has P p (y ∷ ys) x all found =
 pub find_here : {X : Type 0} (p : X → Bool) (xs : List X) (k : ℕ) (x : X) → k < length xs → x ≡ get_or xs k x → find p (take k xs) ≡ None → p x ≡ true → find p xs ≡ Some x
 find_here p [] k x within at none passes = absurd (omega arith)
 find_here p (y ∷ ys) zero x within at none passes = rw (ap p (sym at) ∙ passes) (ap Some (sym at))
-find_here p (y ∷ ys) (suc k) x within at none passes =
-    let fails : p y ≡ false = unnamed (p y) y (find p (take k ys)) none in
-    rw fails (find_here p ys k x (omega arith) at (rw fails at none) passes)
+find_here p (y ∷ ys) (suc k) x within at none passes = grind (arith, find_here p ys k x, unnamed)
 
 more : {X : Type 0} (xs : List X) (k : ℕ) (x : X) → k < length xs → x ≡ get_or xs k x → take (k + 1) xs ≡ take k xs ++ x ∷ []
 more xs k x within at = take_more xs k x within ∙ ap (λ y. take k xs ++ y ∷ []) (sym at)

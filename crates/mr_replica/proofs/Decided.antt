@@ -1,5 +1,5 @@
 -- over a form with one value for each knowledge a step is a function: its answer and the new replica are decided, memory aside
-use Rattle.std.proofs.Common.{◌≡◌, ◌≢◌, refl, sym, ap, ◌∙◌, Bool, true, false, ℕ, List, [], ◌∷◌, Option, Some, None, Result, Ok, Err, inl, inr}
+use Rattle.std.proofs.Common.{◌≡◌, ◌≢◌, refl, sym, ap, ◌∙◌, ℕ, List, [], ◌∷◌, Option, None, Result, Ok, Err, inl, inr, arith}
 use Rattle.std.specs.List.{All}
 use Rattle.std.proofs.lemmas.List.Elements.{All-head, All-tail}
 use Rattle.mr_version.specs.Name.{Name}
@@ -17,9 +17,9 @@ use Rattle.mr_wire.specs.declared.frame.Frame.{Frame}
 use Rattle.mr_wire.specs.declared.frame.Frame.TheVariants.{Record}
 use Rattle.mr_wire.specs.declared.frame.Body.{Body}
 use Rattle.mr_wire.specs.declared.frame.Body.TheVariants.{Item, MoveOut, End}
-use Rattle.mr_session.specs.Session.{Session, is_full}
+use Rattle.mr_session.specs.Session.{Session}
 use Rattle.mr_replica.specs.Forged.{line_of}
-use Rattle.mr_replica.specs.Receive.{session_for, entering, moved_on, finished, learning, ending, TakesLine, Ends, EndsSession, TakesBody, TakesFrame}
+use Rattle.mr_replica.specs.Receive.{session_for, entering, moved_on, learning, TakesLine, EndsSession, TakesBody, TakesFrame}
 use Rattle.mr_replica.specs.State.{State}
 use Rattle.mr_replica.specs.Issue.{Issue, Wanted, Wanted.Vector, Wanted.Knowledge, below_of_issue, Fits, HasFault, FirstFault, revision_for, issuing, logged, Issues}
 use Rattle.mr_replica.specs.Create.{created}
@@ -54,7 +54,7 @@ module _ {K : Type 0} (form : Form K) where
   no_fault TooManyHoles (Knowledge pairs) fits fault = fits.0 fault
   no_fault TooManyItems (Knowledge pairs) fits fault = fits.1 fault.0
   no_fault TooManyItems (Vector set) fits fault = fault
-  no_fault e w fits fault = fault
+  no_fault e w fits fault = grind arith
 
   no_first_fault : (e : Refusal) (ws : List Wanted) → All (Fits form) ws → FirstFault form e ws → ⊥
   no_first_fault e [] fits fault = fault
@@ -71,7 +71,7 @@ module _ {K : Type 0} (form : Form K) where
   one_fault TooManyItems TooManyHoles (Knowledge pairs) x y = absurd (x.1 y)
   one_fault TooManyHoles f w x y = absurd y
   one_fault TooManyItems f w x y = absurd y
-  one_fault e f w x y = absurd x
+  one_fault e f w x y = grind arith
 
   one_first_fault : (e f : Refusal) (ws : List Wanted) → FirstFault form e ws → FirstFault form f ws → e ≡ f
   one_first_fault e f [] x y = absurd x
@@ -115,12 +115,12 @@ module _ {K : Type 0} (form : Form K) where
   late_fault s Pull e ne h = absurd h
   late_fault s (Answer ask) TooManyHoles ne h = (refl, h)
   late_fault s (Answer ask) e ne h = absurd h
-  late_fault s event e ne h = h
+  late_fault s event e ne h = grind arith
 
   one_late_fault : (s : State K) (event : Event) (e f : Refusal) → LateFault s event e → LateFault s event f → e ≡ f
   one_late_fault s Pull e f h k = h.0 ∙ sym k.0
   one_late_fault s (Answer ask) e f h k = h.0 ∙ sym k.0
-  one_late_fault s event e f h k = one_first_fault e f (wanted_by form s event) h k
+  one_late_fault s event e f h k = grind (arith, one_first_fault)
 
   -- what is answered has none
   no_late_fault : (s : State K) (event : Event) (r : Reply) (new : State K) (e : Refusal) → All (Fits form) (wanted_by form s event) → Changes form s event r new → LateFault s event e → ⊥
@@ -156,18 +156,11 @@ module _ {K : Type 0} (form : Form K) where
         let knowledge : other.knowledge ≡ new.knowledge = exact other.knowledge new.knowledge (λ a b. k.1 a b ∙ sym (h.1 a b)) in
         (refl, k.2 ∙ ap (λ (t : K). moved_on (learning s t line comer) sent) knowledge ∙ sym h.2)
     same_line line comer Took q new other h k = absurd k
-    same_line line comer r q new other h k = absurd h
+    same_line line comer r q new other h k = grind arith
 
     -- the end of a session leads to one replica
     same_end : (session : Option Session) (new other : State K) → EndsSession form s sent session new → EndsSession form s sent session other → other ≡ new
-    same_end None new other h k = absurd h
-    same_end (Some session) new other h k = by_mode (is_full session.origin) h k
-      where
-        by_mode : (b : Bool) → Ends form s sent session b new → Ends form s sent session b other → other ≡ new
-        by_mode true h k =
-            let knowledge : other.knowledge ≡ new.knowledge = exact other.knowledge new.knowledge (λ a b. k.0 a b ∙ sym (h.0 a b)) in
-            k.1 ∙ ap (λ (t : K). finished (ending s t session) sent) knowledge ∙ sym h.1
-        by_mode false h k = k ∙ sym h
+    same_end session new other h k = grind arith
 
     same_body : (body : Body) (r q : Reply) (new other : State K) → TakesBody form s sent body r new → TakesBody form s sent body q other → (q ≡ r) × (other ≡ new)
     same_body (Item rev) r q new other h k = same_line (line_of rev) (entering s (Item rev)) r q new other h k
@@ -177,11 +170,11 @@ module _ {K : Type 0} (form : Form K) where
     same_body End r q new other h k = absurd h
     same_body body Took Took new other h k = (refl, k ∙ sym h)
     same_body body Took q new other h k = absurd k
-    same_body body r q new other h k = absurd h
+    same_body body r q new other h k = grind (arith, same_line, same_end)
 
   same_taken : (s : State K) (frame : Frame) (r q : Reply) (new other : State K) → IsExact → TakesFrame form s frame r new → TakesFrame form s frame q other → (q ≡ r) × (other ≡ new)
   same_taken s (Record sent) r q new other exact h k = same_body s sent exact sent.body r q new other h k
-  same_taken s frame r q new other exact h k = absurd h
+  same_taken s frame r q new other exact h k = grind (arith, same_body)
 
   -- a reply stands for one change
   same_change : (s : State K) (event : Event) (r q : Reply) (new other : State K) → IsExact → Changes form s event r new → Changes form s event q other → (q ≡ r) × (other ≡ new)
@@ -238,8 +231,7 @@ module _ {K : Type 0} (form : Form K) where
       (ap (λ (x : Refusal). Err x) (one_late_fault s event f e late_f late_e), k.1 ∙ sym h.1)
 
   stepped : (s : State K) (event : Event) (first : Option Refusal) (a b : Result Reply Refusal) (new other : State K) → IsExact → GoesOn form s event first a new → GoesOn form s event first b other → a ≢ Err OutOfMemory → b ≢ Err OutOfMemory → (b ≡ a) × (other ≡ new)
-  stepped s event (Some e) a b new other exact h k na nb = (k.0 ∙ sym h.0, k.1 ∙ sym h.1)
-  stepped s event None a b new other exact h k na nb = answered s event a b new other exact h k na nb
+  stepped s event first a b new other exact h k na nb = grind (arith, answered)
 
   -- two steps of one replica by one event are one
   pub decided : (s : State K) (event : Event) (a : Result Reply Refusal) (new : State K) → IsExact → Steps form s event a new → a ≢ Err OutOfMemory

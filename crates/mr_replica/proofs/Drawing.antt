@@ -1,5 +1,5 @@
 -- what a replica keeps as a stream gives a record, and how far a stream may come
-use Rattle.std.proofs.Common.{◌≡◌, ◌≤◌, ◌<◌, ◌+◌, ◌^◌, nat_le, not, is_some, IfSome, ℕ, Bool, true, false, arith, List, [], ◌∷◌, length, map, Option, Some, None, refl, subst, inl, inr}
+use Rattle.std.proofs.Common.{◌≡◌, ◌≤◌, ◌<◌, ◌+◌, ◌^◌, nat_le, not, is_some, IfSome, ℕ, arith, List, [], ◌∷◌, length, map, Option, Some, None, refl, subst, inl, inr}
 use Rattle.std.proofs.lemmas.Bool.{leb-false}
 use Rattle.std.proofs.lemmas.Bool.Decides.{eqb_tells}
 use Rattle.std.specs.List.{All}
@@ -13,7 +13,7 @@ use Rattle.mr_replica.specs.Next.{next_refusal}
 use Rattle.mr_forms.specs.Known.{Form}
 use Rattle.mr_replica.specs.inner.Sound.{AreWithin, IsSound}
 use Rattle.mr_replica.specs.declared.refusal.Refusal.{Refusal}
-use Rattle.mr_replica.specs.declared.refusal.Refusal.TheVariants.{NoStream, LogFull}
+use Rattle.mr_replica.specs.declared.refusal.Refusal.TheVariants.{NoStream}
 
 module _ {T : Type 0} (next : T → ℕ) (events : ℕ) where
   abbrev IsFew : Numbered T → Type 0
@@ -55,12 +55,7 @@ next_of stream = stream.next
 
 module _ {K : Type 0} where
   pub short_log : (s : State K) (first : Option Refusal) → (first orelse log_full s) ≡ None → length s.log < s.event_limit
-  short_log s (Some e) none = absurd (cc)
-  short_log s None none = by_test (nat_le s.event_limit (length s.log)) refl none
-    where
-      by_test : (is_full : Bool) → nat_le s.event_limit (length s.log) ≡ is_full → refused_if is_full LogFull ≡ None → length s.log < s.event_limit
-      by_test true is none = absurd (cc)
-      by_test false is none = leb-false s.event_limit (length s.log) is
+  short_log s first h = grind (arith, nat_le, leb-false)
 
   pub goes_on : (form : Form K) (s : State K) (number : ℕ) → IsSound form s → next_refusal s number ≡ None → IfSome (open_at s.streams number) (λ stream. stream.next + 1 < 2 ^ 32)
   goes_on form s number sound admitted = by_stream (open_at s.streams number) refl

@@ -1,5 +1,5 @@
 -- What an admitted event changes: one of five kinds of change of what is known and held, and a turn each of the sessions and the streams.
-use Rattle.std.proofs.Common.{◌≡◌, ◌≢◌, refl, sym, ap, subst, append-nil, ℕ, Bool, true, false, List, [], Option, Some, None}
+use Rattle.std.proofs.Common.{◌≡◌, ◌≢◌, refl, sym, ap, subst, append-nil, ℕ, Bool, true, false, List, Option, Some, None, arith}
 use Rattle.mr_version.specs.Name.{Name}
 use Rattle.mr_forms.specs.Known.{Form, AreSame, with_pairs}
 use Rattle.mr_concise.specs.declared.vector.AuthorColumn.{AuthorColumn}
@@ -85,7 +85,7 @@ module _ {K : Type 0} (form : Form K) (s : State K) where
   line_made sent line tells comer comes reply.Took new h =
       made (Receive (frame.Record sent)) reply.Took new (learning s new.knowledge line comer) (with_taken sent s.sessions) s.streams (λ sent e. absurd (cc))
       (Learning sent refl line tells h.1 (ap (λ (o : Option Rev). learning s new.knowledge line o) (sym comes))) (Took_record sent refl refl) (Same_streams refl) h.2
-  line_made sent line tells comer comes told new h = absurd h
+  line_made sent line tells comer comes told new h = grind (arith, made)
 
   end_made : (sent : Sent) (session : Session) → session_for s sent ≡ Some session → (full : Bool) (new : State K) → Ends form s sent session full new → Made (Receive (frame.Record sent)) reply.Finished new
   end_made sent session found true new h =
@@ -104,11 +104,11 @@ module _ {K : Type 0} (form : Form K) (s : State K) where
   body_made sent body.End e reply.Finished new h = session_made sent (session_for s sent) refl new h
   body_made sent body.End e told new h = absurd h
   body_made sent b e reply.Took new h = made (Receive (frame.Record sent)) reply.Took new s (with_taken sent s.sessions) s.streams (λ sent e. absurd (cc)) (Staying s.is_retired refl) (Took_record sent refl refl) (Same_streams refl) h
-  body_made sent b e told new h = absurd h
+  body_made sent b e told new h = grind (arith, line_made, session_made, made)
 
   frame_made : (f : Frame) (told : Reply) (new : State K) → TakesFrame form s f told new → Made (Receive f) told new
   frame_made (frame.Record sent) told new h = body_made sent sent.body refl told new h
-  frame_made f told new h = absurd h
+  frame_made f told new h = grind (arith, body_made)
 
   -- what the change of each event is
   pub change_made : (event : Event) (told : Reply) (new : State K) → Changes form s event told new → Made event told new
@@ -131,7 +131,7 @@ module _ {K : Type 0} (form : Form K) (s : State K) where
     is = refl;
     gives = λ other e. (let same : sent ≡ other = cc in (stream, subst (λ (x : Sent). GivesIn s.id stream s.streams (held_now s) x h.0) same h.1));
   })
-  change_made event told new h = absurd h
+  change_made event told new h = grind (arith, issue_made, frame_made, made)
 
   -- ---- what each kind leaves, and tells
 
@@ -148,8 +148,4 @@ module _ {K : Type 0} (form : Form K) (s : State K) where
   leaves_as to made is id filter event_limit log feed push_out_feed = subst Leaves (sym is) (record { id = id; filter = filter; event_limit = event_limit; log = log; feed = feed; push_out_feed = push_out_feed })
 
   pub kind_leaves : (event : Event) (to : State K) → Kind event to → Leaves to
-  kind_leaves event to (Issuing i columns of known is) = leaves_as to _ is refl refl refl refl (_, refl) (_, refl)
-  kind_leaves event to (Learning sent e line tells known is) = leaves_as to _ is refl refl refl refl (_, refl) (_, refl)
-  kind_leaves event to (Ending sent session found known is) = leaves_as to _ is refl refl refl refl (_, refl) ([], sym (append-nil s.push_out_feed))
-  kind_leaves event to (Releasing receipt is) = leaves_as to _ is refl refl refl refl ([], sym (append-nil s.feed)) (_, refl)
-  kind_leaves event to (Staying retired is) = leaves_as to _ is refl refl refl refl ([], sym (append-nil s.feed)) ([], sym (append-nil s.push_out_feed))
+  kind_leaves event to h = grind (arith, leaves_as, append-nil)

@@ -1,19 +1,17 @@
 -- what a subscriber has that went through a feed, as the heads change
-use Rattle.std.proofs.Common.{◌≡◌, Bool, true, false, not, cond, if◌then◌else◌, refl, sym, ap, subst, ◌∙◌, List, [], ◌∷◌, ◌++◌, map, filter, inl, inr, Option, Some, None, is_some}
+use Rattle.std.proofs.Common.{◌≡◌, Bool, true, false, not, cond, if◌then◌else◌, refl, sym, ap, subst, ◌∙◌, List, [], ◌∷◌, ◌++◌, map, filter, inl, inr, Option, Some, None, is_some, arith}
 use Rattle.std.specs.declared.cmp.Ordering.TheVariants.{Less}
 use Rattle.std.specs.Ordering.{is_eq}
 use Rattle.std.specs.List.{AllByRecursion}
 use Rattle.std.specs.Option.{option_map, IfSome}
 use Rattle.std.proofs.lemmas.List.{map-append}
 use Rattle.mr_version.specs.Name.{Name, name_cmp, name_eq}
-use Rattle.mr_mail.specs.Mail.{card_of}
 use Rattle.mr_model.specs.Versions.{is}
 use Rattle.mr_model.specs.History as model
 use Rattle.mr_model.specs.Headline.{Cards, fold, fold_from, no_cards}
 use Rattle.mr_model.proofs.Feeds.{folded-append}
 use Rattle.mr_feed.specs.declared.entry.Entry.{Entry}
 use Rattle.mr_feed.specs.declared.entry.Entry.TheVariants.{Added, Dropped}
-use Rattle.mr_feed.specs.Entry.{told_entry}
 use Rattle.mr_madewith.specs.Revision.{Rev}
 use Rattle.mr_madewith.specs.Keyed.{is_before}
 use Rattle.mr_madewith.proofs.Rising.{name_eq_self, same_names, name_eq-swap, sides_of, unnamed, head_before, tail_rises, rises-filter, rises-inserted, named-filter}
@@ -71,9 +69,7 @@ revision_of-entered r (x ∷ xs) v new =
 -- each of rising revisions is the one of its version
 found_behind : (x : Rev) (qs rs : List Rev) → AllByRecursion (λ w. name_cmp x.version w ≡ Less) (map version_of qs) → AllByRecursion (λ q. revision_of rs q.version ≡ Some q) qs → AllByRecursion (λ q. revision_of (x ∷ rs) q.version ≡ Some q) qs
 found_behind x [] rs behind found = tt
-found_behind x (q ∷ qs) rs behind found =
-    let apart : name_eq x.version q.version ≡ false = ap is_eq behind.0 in
-    (rw apart found.0, found_behind x qs rs behind.1 found.1)
+found_behind x (q ∷ qs) rs behind found = grind (arith, found_behind x qs rs behind.1 found.1)
 
 each_found : (rs : List Rev) → AreInVersionOrder rs → AllByRecursion (λ q. revision_of rs q.version ≡ Some q) rs
 each_found [] order = tt
@@ -81,11 +77,7 @@ each_found (x ∷ xs) order = (rw (name_eq_self x.version) refl, found_behind x 
 
 each_filter : (P : Rev → Type 0) (p : Rev → Bool) (rs : List Rev) → AllByRecursion P rs → AllByRecursion P (filter p rs)
 each_filter P p [] h = tt
-each_filter P p (x ∷ xs) h =
-    elim (p x) as (λ b. AllByRecursion P (cond b (x ∷ filter p xs) (filter p xs))) [
-      | true ↦ (h.0, each_filter P p xs h.1)
-      | false ↦ each_filter P p xs h.1
-    ]
+each_filter P p (x ∷ xs) h = grind (arith, each_filter P p xs h.1)
 
 each_weaker : (P Q : Rev → Type 0) → ((r : Rev) → P r → Q r) → (rs : List Rev) → AllByRecursion P rs → AllByRecursion Q rs
 each_weaker P Q f [] h = tt
@@ -111,11 +103,7 @@ module _ {C : Type 0} (tell : Entry → model.Entry C) (shown : Rev → C) (drop
   fold_come cards r v = ap (λ (e : model.Entry C). fold_from cards (e ∷ []) v) (adds r)
 
   fold_more : (feed : List Entry) (left entering : List Rev) (v : Name) → fold (map tell (told_more feed left entering)) v ≡ fold_from (fold_from (fold (map tell feed)) (map tell (map dropped left))) (map tell (map added entering)) v
-  fold_more feed left entering v =
-      let gone : List (model.Entry C) = map tell (map dropped left) in
-      let come : List (model.Entry C) = map tell (map added entering) in
-      ap (λ (es : List (model.Entry C)). fold es v) (map-append tell feed (map dropped left ++ map added entering) ∙ ap (λ (es : List (model.Entry C)). map tell feed ++ es) (map-append tell (map dropped left) (map added entering)))
-      ∙ (ap (λ (cards : Cards C). cards v) (folded-append no_cards (map tell feed) (gone ++ come)) ∙ ap (λ (cards : Cards C). cards v) (folded-append (fold (map tell feed)) gone come))
+  fold_more feed left entering v = grind (arith, map-append, folded-append)
 
   abbrev Shows : List Entry → List Rev → Type 0
   Shows feed heads = (v : Name) → fold (map tell feed) v ≡ option_map shown (revision_of heads v)
@@ -123,28 +111,11 @@ module _ {C : Type 0} (tell : Entry → model.Entry C) (shown : Rev → C) (drop
   -- once those entries are gone through that tell what leaves, the fold is what stays
   shows_left : (p : Rev → Bool) (feed : List Entry) (heads : List Rev) → AreInVersionOrder heads → Shows feed heads → (v : Name) →
       fold_from (fold (map tell feed)) (map tell (map dropped (filter p heads))) v ≡ option_map shown (revision_of (filter (λ r. not (p r)) heads) v)
-  shows_left p feed heads order h v =
-      fold_left (fold (map tell feed)) (filter p heads) v
-      ∙ (ap (λ (o : Option C). if holds (filter p heads) v then None else o) (h v) ∙ (inside (holds (filter p heads) v) (revision_of heads v) ∙ ap (λ (o : Option Rev). option_map shown o) (sym (revision_of-left p heads v order))))
-    where
-      inside : (b : Bool) (o : Option Rev) → (if b then None else option_map shown o) ≡ option_map shown (if b then None else o)
-      inside true o = refl
-      inside false o = refl
+  shows_left p feed heads order h v = grind (arith, fold_left, revision_of-left)
 
   shows_on : (p : Rev → Bool) (comer : Option Rev) (feed : List Entry) (heads : List Rev) → AreInVersionOrder heads → IfSome comer (λ r. revision_of heads r.version ≡ None) → Shows feed heads
       → Shows (told_more feed (filter p heads) (arrival_alone comer)) (arrived comer (filter (λ r. not (p r)) heads))
-  shows_on p None feed heads order new h v = fold_more feed (filter p heads) [] v ∙ shows_left p feed heads order h v
-  shows_on p (Some r) feed heads order new h v =
-      let stay : List Rev = filter (λ r. not (p r)) heads in
-      let cards : Cards C = fold_from (fold (map tell feed)) (map tell (map dropped (filter p heads))) in
-      let new_still : revision_of stay r.version ≡ None = named-filter version_of (λ r. not (p r)) r.version heads new in
-      fold_more feed (filter p heads) (r ∷ []) v
-      ∙ (fold_come cards r v ∙ (ap (λ (o : Option C). if name_eq r.version v then Some (shown r) else o) (shows_left p feed heads order h v)
-      ∙ (inside (name_eq r.version v) (revision_of stay v) ∙ ap (λ (o : Option Rev). option_map shown o) (sym (revision_of-entered r stay v new_still)))))
-    where
-      inside : (b : Bool) (o : Option Rev) → (if b then Some (shown r) else option_map shown o) ≡ option_map shown (if b then Some r else o)
-      inside true o = refl
-      inside false o = refl
+  shows_on p comer feed heads order new h v = grind (arith, fold_more, shows_left, named-filter, fold_come, revision_of-entered)
 
 -- ---- each entry is news
 
@@ -157,9 +128,7 @@ news-append items (Dropped item version ∷ xs) ys h k = (h.0, news-append (λ u
 there_still : (w : Name) (items : Cards Name) (left : List Rev) → AllByRecursion (λ u. name_cmp w u ≡ Less) (map version_of left) → AllByRecursion (λ q. items q.version ≡ Some q.item) left
     → AllByRecursion (λ q. (if is w q.version then None else items q.version) ≡ Some q.item) left
 there_still w items [] behind there = tt
-there_still w items (q ∷ left) behind there =
-    let apart : name_eq w q.version ≡ false = ap is_eq behind.0 in
-    (rw apart there.0, there_still w items left behind.1 there.1)
+there_still w items (q ∷ left) behind there = grind (arith, there_still w items left behind.1 there.1)
 
 news-dropped : (items : Cards Name) (left : List Rev) → AreInVersionOrder left → AllByRecursion (λ q. items q.version ≡ Some q.item) left → AreNews items (map dropped left)
 news-dropped items [] order there = tt
@@ -175,14 +144,11 @@ ItemsAre feed heads = (v : Name) → fold (map told_item feed) v ≡ option_map 
 
 -- what leaves is there
 each_there : (p : Rev → Bool) (feed : List Entry) (heads : List Rev) → AreInVersionOrder heads → ItemsAre feed heads → AllByRecursion (λ q. fold (map told_item feed) q.version ≡ Some q.item) (filter p heads)
-each_there p feed heads order h =
-    each_weaker (λ q. revision_of heads q.version ≡ Some q) (λ q. fold (map told_item feed) q.version ≡ Some q.item) (λ q is. h q.version ∙ ap (λ (o : Option Rev). option_map item_of o) is)
-    (filter p heads) (each_filter (λ q. revision_of heads q.version ≡ Some q) p heads (each_found heads order))
+each_there p feed heads order h = grind (arith, each_weaker, each_filter, each_found)
 
 -- what comes is not there
 news-come : (comer : Option Rev) (items : Cards Name) → IfSome comer (λ r. items r.version ≡ None) → AreNews items (map added (arrival_alone comer))
-news-come None items h = tt
-news-come (Some r) items h = (h, tt)
+news-come comer items h = grind arith
 
 gone_still : (p : Rev → Bool) (comer : Option Rev) (feed : List Entry) (heads : List Rev) → AreInVersionOrder heads → IfSome comer (λ r. revision_of heads r.version ≡ None) → ItemsAre feed heads
     → IfSome comer (λ r. fold_from (fold (map told_item feed)) (map told_item (map dropped (filter p heads))) r.version ≡ None)
@@ -202,17 +168,10 @@ news_on p comer feed heads order new h news =
 
 pub folds_on : (p : Rev → Bool) (comer : Option Rev) (feed : List Entry) (heads : List Rev) → AreInVersionOrder heads → IfSome comer (λ r. revision_of heads r.version ≡ None) → FoldsTo feed heads
     → FoldsTo (told_more feed (filter p heads) (arrival_alone comer)) (arrived comer (filter (λ r. not (p r)) heads))
-folds_on p comer feed heads order new h = record {
-  cards = shows_on told_entry (λ r. card_of r.message) (λ r. refl) (λ r. refl) p comer feed heads order new h.cards;
-  items = shows_on told_item item_of (λ r. refl) (λ r. refl) p comer feed heads order new h.items;
-  news = news_on p comer feed heads order new h.items h.news;
-}
+folds_on p comer feed heads order new h = grind (arith, shows_on, news_on)
 
 pub in_order_on : (p : Rev → Bool) (comer : Option Rev) (heads : List Rev) → AreInVersionOrder heads → IfSome comer (λ r. revision_of heads r.version ≡ None) → AreInVersionOrder (arrived comer (filter (λ r. not (p r)) heads))
-in_order_on p None heads order new = rises-filter version_of (λ r. not (p r)) heads order
-in_order_on p (Some r) heads order new =
-    let stays : Rev → Bool = λ r. not (p r) in
-    rises-inserted version_of r (filter stays heads) (named-filter version_of stays r.version heads new) (rises-filter version_of stays heads order)
+in_order_on p comer heads order new = grind (arith, rises-filter, rises-inserted, named-filter)
 
 -- the same of one that comes if so
 pub folds_issued : (p : Rev → Bool) (b : Bool) (r : Rev) (feed : List Entry) (heads : List Rev) → AreInVersionOrder heads → revision_of heads r.version ≡ None → FoldsTo feed heads

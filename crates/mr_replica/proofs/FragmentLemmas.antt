@@ -1,11 +1,10 @@
 -- concise fragments have what their fragments have, and those of the parts of a knowledge are one text
-use Rattle.std.proofs.Common.{◌≡◌, ◌∙◌, ◌&&◌, ◌++◌, ℕ, flat_map, refl, sym, ap, subst, map, List, [], ◌∷◌}
+use Rattle.std.proofs.Common.{◌≡◌, ◌∙◌, ◌&&◌, ◌++◌, ℕ, flat_map, refl, sym, ap, subst, map, List, [], ◌∷◌, arith}
 use Rattle.std.specs.List.{All, AllZip}
 use Rattle.std.proofs.lemmas.List.Elements.{All-nil, All-cons, All-head, All-tail}
 use Rattle.mr_version.specs.Name.{Name}
 use Rattle.std.proofs.lemmas.List.Elements.{All-contains, All-map}
 use Rattle.mr_forms.specs.declared.fragment.ItemSet.{ItemSet}
-use Rattle.mr_forms.specs.declared.fragment.ItemSet.TheVariants as items
 use Rattle.mr_forms.specs.declared.fragment.Fragment.{Fragment}
 use Rattle.mr_forms.specs.Sets.{Versions}
 use Rattle.mr_forms.specs.Known.{Pairs, Part}
@@ -13,7 +12,7 @@ use Rattle.mr_forms.specs.Covered.{has_item, HasItems, listed_items, covered, al
 use Rattle.mr_forms.specs.Parts.{part_of, ArePartsThat}
 use Rattle.mr_forms.proofs.PartLemmas.{parts_that-unique}
 use Rattle.mr_concise.specs.Vector.{vector_has, HasTooManyHoles}
-use Rattle.mr_concise.specs.Fragments.{ConciseFragment, IsConciseOf, IsTooHoley, items_text, fragment_text, knowledge_text}
+use Rattle.mr_concise.specs.Fragments.{ConciseFragment, IsConciseOf, IsTooHoley, fragment_text, knowledge_text}
 use Rattle.mr_concise.proofs.EqualLemmas.{vectors_same}
 use Rattle.mr_wire.specs.Values.{piece_of}
 use Rattle.mr_replica.specs.Fragments.{HaveKnown, AreFragmentsOf, HasHoleyPart}
@@ -39,10 +38,7 @@ module _ {V : Type 0} (has : V → Versions) where
       (items_alike fs gs h.1 (All-tail (λ (f : Fragment V). HasItems f.items) f fs all))
 
   pub concise_have : (known : Pairs) (fs : List (Fragment V)) (gs : List ConciseFragment) → HaveKnown has known fs → AllZip (IsConciseOf has) fs gs → HaveKnown vector_has known gs
-  concise_have known fs gs h alike = record {
-    covered = λ i v. h.covered i v ∙ all_alike fs gs alike i v;
-    items = items_alike fs gs alike h.items;
-  }
+  concise_have known fs gs h alike = grind (arith, all_alike, items_alike)
 
   -- the fragments of the parts that these are
   pub alike_parts : (fs : List (Fragment V)) (gs : List ConciseFragment) → AllZip (IsConciseOf has) fs gs → AllZip IsPieceOf (map (part_of has) fs) (map piece_of gs)
@@ -60,16 +56,7 @@ module _ {V : Type 0} (has : V → Versions) where
 
 -- fragments of one part have one text
 fragment_text-once : (p : Part) (f g : ConciseFragment) → IsPieceOf p (piece_of f) → IsPieceOf p (piece_of g) → fragment_text f ≡ fragment_text g
-fragment_text-once p f g a b =
-    let vectors : f.vector ≡ g.vector = vectors_same f.vector g.vector a.versions.columns_ok b.versions.columns_ok (λ v. a.versions.has v ∙ sym (b.versions.has v)) in
-    let texts : items_text f.items ≡ items_text g.items = same_items f.items g.items (a.items ∙ sym b.items) in
-    rw (texts, vectors) refl
-  where
-    same_items : (a b : ItemSet) → listed_items a ≡ listed_items b → items_text a ≡ items_text b
-    same_items items.All items.All e = refl
-    same_items items.All (items.Listed b) e = cc
-    same_items (items.Listed a) items.All e = cc
-    same_items (items.Listed a) (items.Listed b) e = let inner : a.items ≡ b.items = cc in rw inner refl
+fragment_text-once p f g a b = grind (arith, vectors_same)
 
 -- what stands behind the first fragment of a text
 abbrev behind : List ConciseFragment → List ℕ
@@ -84,12 +71,7 @@ behind-once (p ∷ ps) (f ∷ fs) [] a b = absurd b
 behind-once (p ∷ ps) (f ∷ fs) (g ∷ gs) a b = rw (fragment_text-once p f g a.0 b.0, behind-once ps fs gs a.1 b.1) refl
 
 text-once : (ps : List Part) (fs gs : List ConciseFragment) → AllZip IsPieceOf ps (map piece_of fs) → AllZip IsPieceOf ps (map piece_of gs) → knowledge_text fs ≡ knowledge_text gs
-text-once [] [] [] a b = refl
-text-once [] [] (g ∷ gs) a b = absurd b
-text-once [] (f ∷ fs) gs a b = absurd a
-text-once (p ∷ ps) [] gs a b = absurd a
-text-once (p ∷ ps) (f ∷ fs) [] a b = absurd b
-text-once (p ∷ ps) (f ∷ fs) (g ∷ gs) a b = rw (fragment_text-once p f g a.0 b.0, behind-once ps fs gs a.1 b.1) refl
+text-once ps fs gs a b = grind (arith, fragment_text-once, behind-once)
 
 -- the fragments of the parts of a knowledge have one text
 pub one_text : (is_part : Part → Type 0) (fs gs : List ConciseFragment) → AreFragmentsOf is_part fs → AreFragmentsOf is_part gs → knowledge_text fs ≡ knowledge_text gs

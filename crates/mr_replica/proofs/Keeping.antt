@@ -21,10 +21,7 @@ use Rattle.mr_replica.proofs.Folding.{folds_on, in_order_on}
 module _ {T : Type 0} (next : T → ℕ) where
   -- what is within a log is within a longer one
   pub within_later : (log : List Event) (event : Event) (table : Table T) → AreWithin next (length log) table → AreWithin next (length (log ++ event ∷ [])) table
-  within_later log event table h = record {
-    opened = omega (arith, h.opened, length_push log event);
-    next_few = All-weaker (λ (x : Numbered T). next x.value ≤ length log) (λ (x : Numbered T). next x.value ≤ length (log ++ event ∷ [])) (λ x few. omega (arith, few, length_push log event)) table.open_ones h.next_few;
-  }
+  within_later log event table h = grind (arith, length_push, All-weaker)
 
   -- and so is what is left once one was closed
   pub within_closed : (events number : ℕ) (table : Table T) → AreWithin next events table → AreWithin next events (with_closed table number)
@@ -70,19 +67,4 @@ pushed_out_still form s item set sound = record {
 pub sound_with : {K : Type 0} (form : Form K) (s : State K) (push_outs : List Rev) (push_out_feed : List Entry) (is_retired : Bool) (sessions : Table Session) (streams : Table Stream) (event : Event) → IsSound form s
     → ArePushedOut (form.known s.knowledge) s.id s.issued push_outs push_out_feed → AreWithin (λ session. session.next) (length s.log) sessions → AreWithin (λ stream. stream.next) (length s.log) streams
     → IsSound form (logged (record s { push_outs = push_outs; push_out_feed = push_out_feed; is_retired = is_retired; sessions = sessions; streams = streams }) event)
-sound_with form s push_outs push_out_feed is_retired sessions streams event sound pushed sessions_within streams_within = record {
-  limit_from = sound.limit_from;
-  limit_to = sound.limit_to;
-  issued_few = omega (arith, sound.issued_few, length_push s.log event);
-  heads_in_order = sound.heads_in_order;
-  push_outs_in_order = pushed.in_order;
-  heads_issued = sound.heads_issued;
-  push_outs_issued = pushed.issued;
-  trail_issued = sound.trail_issued;
-  heads_known = sound.heads_known;
-  push_outs_known = pushed.known;
-  sessions_within = within_later (λ session. session.next) s.log event sessions sessions_within;
-  streams_within = within_later (λ stream. stream.next) s.log event streams streams_within;
-  folds = sound.folds;
-  push_outs_fold = pushed.fold;
-}
+sound_with form s push_outs push_out_feed is_retired sessions streams event sound pushed sessions_within streams_within = grind (arith, length_push, within_later)

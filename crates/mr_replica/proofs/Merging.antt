@@ -1,10 +1,9 @@
 -- fragments that are merged one after the other
-use Rattle.std.proofs.Common.{◌≡◌, ◌&&◌, ◌||◌, IsErrOf, IfErr, Bool, true, false, not, refl, sym, ap, subst, ◌∙◌, List, [], ◌∷◌, map, Result, Ok, Err, inl, inr}
+use Rattle.std.proofs.Common.{◌≡◌, ◌&&◌, ◌||◌, IsErrOf, IfErr, Bool, false, not, refl, sym, ap, subst, ◌∙◌, List, [], ◌∷◌, map, Result, inl, inr, arith}
 use Rattle.std.specs.List.{All}
 use Rattle.std.proofs.lemmas.List.Elements.{All-nil, All-cons, All-head, All-tail}
 use Rattle.mr_version.specs.Name.{Name}
 use Rattle.mr_forms.specs.declared.fragment.ItemSet.{ItemSet}
-use Rattle.mr_forms.specs.declared.fragment.ItemSet.TheVariants.{All as AllItems, Listed}
 use Rattle.mr_forms.specs.Covered.{has_item, covered, all_covered}
 use Rattle.mr_forms.specs.Known.{Pairs, Form, AreSame, HasValue, with_pairs}
 use Rattle.mr_forms.specs.Merged.{after_each, FirstHasValue, AreOverHolesInTurn, AreOverItemsInTurn}
@@ -30,12 +29,10 @@ one_pairs s t h = λ i a b. h a b i
 
 -- what a fragment covers is what it claims
 pub lists_same : (items : ItemSet) (i : Name) → has_item items i ≡ lists (listed_items items) i
-lists_same AllItems i = refl
-lists_same (Listed items) i = refl
+lists_same items i = grind arith
 
 or_false : (b : Bool) → (b || false) ≡ b
-or_false true = refl
-or_false false = refl
+or_false b = grind arith
 
 pub covers_claimed : (f : ConciseFragment) (i v : Name) → covered vector_has f i v ≡ claimed (piece_of f ∷ []) i v
 covers_claimed f i v = ap (λ b. b && vector_has f.vector v) (lists_same f.items i) ∙ sym (or_false (lists (listed_items f.items) i && vector_has f.vector v))
@@ -81,12 +78,7 @@ module _ {K : Type 0} (form : Form K) where
 
   pub merged_refused : (known : Pairs) (fs : List ConciseFragment) (made : Result K FormFault) → (IsErrOf made fault.TooManyHoles → AreOverHolesInTurn form (after_each vector_has known fs)) →
       (IsErrOf made fault.TooManyItems → AreOverItemsInTurn form (after_each vector_has known fs)) → (IsErrOf made fault.OutOfMemory → FirstHasValue form (after_each vector_has known fs)) → IfErr made (RefusesMerged form (merged_by known (map piece_of fs)))
-  merged_refused known fs (Ok k) holes items memory = tt
-  merged_refused known fs (Err fault.OutOfMemory) holes items memory = first_fits known fs (memory refl)
-  merged_refused known fs (Err fault.TooManyHoles) holes items memory =
-      subst (FirstFault form (refusal_of fault.TooManyHoles)) (sym (merged_is known fs)) (first_holey (after_each vector_has known fs) (holes refl))
-  merged_refused known fs (Err fault.TooManyItems) holes items memory =
-      subst (FirstFault form (refusal_of fault.TooManyItems)) (sym (merged_is known fs)) (first_long (after_each vector_has known fs) (items refl))
+  merged_refused known fs made holes items memory = grind (arith, first_fits, merged_is, first_holey, first_long)
 
   -- where all fit, the first does
   pub first_of_all : (ws : List Wanted) → All (Fits form) ws → FirstFits form ws

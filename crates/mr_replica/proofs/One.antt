@@ -1,8 +1,8 @@
 -- Replicas that are alike, and whose knowledge is one value, are equal.
-use Rattle.std.proofs.Common.{◌≡◌, ap, ℕ, List}
+use Rattle.std.proofs.Common.{◌≡◌, ℕ, List, arith}
 use Rattle.mr_filter.specs.Filter.{ClauseParts}
 use Rattle.mr_forms.specs.ByMeaning.{IsByMeaning, AreOneValue}
-use Rattle.mr_forms.specs.Known.{Form, Pairs}
+use Rattle.mr_forms.specs.Known.{Form}
 use Rattle.mr_replica.specs.State.{State}
 use Rattle.mr_replica.specs.Replay.{Replays, IsItsLog}
 use Rattle.mr_replica.specs.declared.event.Event.{Event}
@@ -11,24 +11,7 @@ use Rattle.mr_replica.specs.One.{AreOneIfAlike, AreOneByLog, AreOneByEvent}
 
 module _ {K : Type 0} (form : Form K) (s t : State K) (one : AreOneValue form s.knowledge t.knowledge) where
   pub equal_if_alike : AreOneIfAlike form s t
-  equal_if_alike alike =
-      let knowledge : s.knowledge ≡ t.knowledge = one (λ item version. ap (λ (z : State Pairs). z.knowledge item version) alike) in
-      λ i. record {
-        id = (alike i).id;
-        filter = (alike i).filter;
-        event_limit = (alike i).event_limit;
-        issued = (alike i).issued;
-        knowledge = knowledge i;
-        heads = (alike i).heads;
-        push_outs = (alike i).push_outs;
-        trail = (alike i).trail;
-        feed = (alike i).feed;
-        push_out_feed = (alike i).push_out_feed;
-        log = (alike i).log;
-        is_retired = (alike i).is_retired;
-        sessions = (alike i).sessions;
-        streams = (alike i).streams;
-      }
+  equal_if_alike alike = grind arith
 
   -- what an id, a filter, a limit and a log come to, the like of them come to
   replays_like : (id jd : ℕ) (filter gilter : List ClauseParts) (limit mimit : ℕ) (events fvents : List Event) (r : State K) → jd ≡ id → gilter ≡ filter → mimit ≡ limit → fvents ≡ events

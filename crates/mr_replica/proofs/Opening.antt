@@ -23,19 +23,4 @@ within_opened {T} next log event table value begun h = record {
 
 -- a replica that admits an event which changes its streams alone
 pub sound_streaming : {K : Type 0} (form : Form K) (s : State K) (streams : Table Stream) (event : Event) → IsSound form s → AreWithin (λ stream. stream.next) (length (s.log ++ event ∷ [])) streams → IsSound form (logged (record s { streams = streams }) event)
-sound_streaming form s streams event sound within = record {
-  limit_from = sound.limit_from;
-  limit_to = sound.limit_to;
-  issued_few = omega (arith, sound.issued_few, length_push s.log event);
-  heads_in_order = sound.heads_in_order;
-  push_outs_in_order = sound.push_outs_in_order;
-  heads_issued = sound.heads_issued;
-  push_outs_issued = sound.push_outs_issued;
-  trail_issued = sound.trail_issued;
-  heads_known = sound.heads_known;
-  push_outs_known = sound.push_outs_known;
-  sessions_within = within_later (λ session. session.next) s.log event s.sessions sound.sessions_within;
-  streams_within = within;
-  folds = sound.folds;
-  push_outs_fold = sound.push_outs_fold;
-}
+sound_streaming form s streams event sound within = grind (arith, length_push, within_later)

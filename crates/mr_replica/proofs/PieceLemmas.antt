@@ -1,16 +1,14 @@
 -- how fragments are made pieces, one by one
-use Rattle.std.proofs.Common.{◌≡◌, refl, ap, sym, ◌∙◌, arith, List, [], ◌∷◌, ◌++◌, length, map, Option, length-append, append_assoc}
+use Rattle.std.proofs.Common.{◌≡◌, refl, arith, List, [], ◌∷◌, ◌++◌, length, map, length-append, append_assoc}
 use Rattle.std.specs.List.{AllZip, Any}
 use Rattle.std.proofs.Math.Seq.{get_or-append_seam}
 use Rattle.mr_forms.specs.declared.fragment.Fragment.{Fragment}
 use Rattle.mr_forms.specs.Sets.{Versions}
-use Rattle.mr_forms.specs.Covered.{has_item, all_covered}
+use Rattle.mr_forms.specs.Covered.{all_covered}
 use Rattle.mr_forms.specs.Known.{AreSame}
 use Rattle.mr_forms.specs.Parts.{part_of}
 use Rattle.mr_concise.specs.Fragments.{IsTooHoley}
-use Rattle.mr_concise.specs.Vector.{vector_has}
-use Rattle.mr_session.specs.Stream.{lists, claimed}
-use Rattle.mr_version.specs.Name.{Name}
+use Rattle.mr_session.specs.Stream.{claimed}
 use Rattle.mr_wire.specs.Values.{Piece}
 use Rattle.mr_replica.specs.Pieces.{IsPieceOf}
 use Rattle.mr_replica.proofs.Merging.{lists_same}
@@ -25,10 +23,7 @@ module _ {V : Type 0} (has : V → Versions) where
   made_claim [] [] made i v = refl
   made_claim [] (p ∷ ps) made i v = absurd made
   made_claim (f ∷ fs) [] made i v = absurd made
-  made_claim (f ∷ fs) (p ∷ ps) made i v =
-      let items : has_item f.items i ≡ lists p.items i = lists_same f.items i ∙ ap (λ (o : Option (List Name)). lists o i) (sym made.0.items) in
-      let versions : has f.vector v ≡ vector_has p.vector v = sym (made.0.versions.has v) in
-      rw (items, versions, made_claim fs ps made.1 i v) refl
+  made_claim (f ∷ fs) (p ∷ ps) made i v = grind (arith, made_claim fs ps made.1 i v, lists_same)
 
   made_last : (fs : List (Fragment V)) (ps : List Piece) (f : Fragment V) (p : Piece) → AreMade fs ps → IsPieceOf (part_of has f) p → AreMade (fs ++ f ∷ []) (ps ++ p ∷ [])
   made_last [] [] f p all is = (is, tt)
@@ -42,10 +37,7 @@ module _ {V : Type 0} (has : V → Versions) where
     pub each : AreMade yielded pieces
 
   pub pieces_more : (all yielded left next : List (Fragment V)) (pieces : List Piece) (f : Fragment V) (p : Piece) → PiecesSoFar all yielded left pieces → left ≡ f ∷ next → IsPieceOf (part_of has f) p → PiecesSoFar all (yielded ++ f ∷ []) next (pieces ++ p ∷ [])
-  pieces_more all yielded left next pieces f p w taken is = record {
-    whole = w.whole ∙ ap (λ rest. yielded ++ rest) taken ∙ sym (append_assoc yielded (f ∷ []) next);
-    each = made_last yielded pieces f p w.each is;
-  }
+  pieces_more all yielded left next pieces f p w taken is = grind (arith, append_assoc, made_last)
 
   -- the next one left is at its place among them all
   pub among : (all yielded left next : List (Fragment V)) (pieces : List Piece) (f : Fragment V) → PiecesSoFar all yielded left pieces → left ≡ f ∷ next → IsTooHoley has f → Any (IsTooHoley has) all

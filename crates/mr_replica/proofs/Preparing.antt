@@ -6,22 +6,21 @@ use Rattle.std.proofs.lemmas.List.{append-nil}
 use Rattle.std.proofs.lemmas.List.Elements.{All-nil, All-head}
 use Rattle.mr_version.specs.Name.{Name}
 use Rattle.mr_forms.specs.Known.{Form, AreSame, learned}
-use Rattle.mr_concise.specs.Vector.{vector_has}
 use Rattle.mr_concise.specs.declared.vector.AuthorColumn.{AuthorColumn}
 use Rattle.mr_feed.specs.declared.entry.Entry.{Entry}
 use Rattle.mr_mail.specs.Mail.{Mail}
 use Rattle.mr_madewith.specs.Revision.{Rev, IsRevision}
 use Rattle.mr_madewith.specs.MadeWith.{AreColumnsOf}
 use Rattle.mr_madewith.proofs.Rising.{rises-filter}
-use Rattle.mr_store.specs.Revisions.{AreInVersionOrder, version_of, holds, supersedes, left_by}
+use Rattle.mr_store.specs.Revisions.{holds, left_by}
 use Rattle.mr_store.proofs.RevisionLemmas.{filter-passing}
 use Rattle.mr_wire.specs.Values.{DescentParts}
 use Rattle.mr_wire.specs.Frames.{Sent, Question}
 use Rattle.mr_wire.specs.declared.frame.Header.{Header}
 use Rattle.mr_wire.specs.declared.frame.Receipt.{Receipt as ReceiptParts}
-use Rattle.mr_wire.specs.declared.frame.Frame.TheVariants.{Record, Ask, Receipt}
+use Rattle.mr_wire.specs.declared.frame.Frame.TheVariants.{Record}
 use Rattle.mr_wire.specs.declared.frame.Body.{Body}
-use Rattle.mr_wire.specs.declared.frame.Body.TheVariants.{Start, Item, MoveOut, Held, Know, End}
+use Rattle.mr_wire.specs.declared.frame.Body.TheVariants.{Item, MoveOut, End}
 use Rattle.mr_session.specs.Session.{Session, first_fault, with_taken, is_full}
 use Rattle.mr_session.specs.Stream.{Stream, new_stream, claimed}
 use Rattle.mr_session.specs.Table.{Table, open_at, with_opened, with_closed}
@@ -32,12 +31,12 @@ use Rattle.mr_replica.specs.State.{State, next_version}
 use Rattle.mr_replica.specs.inner.Sound.{IsSound}
 use Rattle.mr_replica.specs.Forged.{line_of, is_forged}
 use Rattle.mr_replica.specs.Refusal.{◌orelse◌, refused_if, refusal_of_session}
-use Rattle.mr_replica.specs.Admission.{retired, log_full}
+use Rattle.mr_replica.specs.Admission.{log_full}
 use Rattle.mr_replica.specs.Issue.{Issue, Wanted, Fits, below_of_issue, revision_for, version_learned, issuing, logged, wanted_by_issue, dropped, told_more, Issues}
 use Rattle.mr_replica.specs.Create.{created}
 use Rattle.mr_replica.specs.Edit.{edited}
-use Rattle.mr_replica.specs.Receive.{session_refusal, session_for, moved_on, learning, line_learned, entering, wanted_by_line, wanted_by_end, merges, merged_by, is_unheld, ending, finished, EndsSession}
-use Rattle.mr_replica.specs.inner.Taking.{below_told, told_line, told_by, RefusesEnding, RefusesEnd}
+use Rattle.mr_replica.specs.Receive.{session_refusal, session_for, moved_on, learning, line_learned, entering, wanted_by_line, wanted_by_end, merged_by, is_unheld, ending, finished}
+use Rattle.mr_replica.specs.inner.Taking.{told_line, told_by, RefusesEnding, RefusesEnd}
 use Rattle.mr_replica.specs.Pull.{pull_refusal, IsAskOf}
 use Rattle.mr_replica.specs.CutIn.{cut_in_refusal}
 use Rattle.mr_replica.specs.CutOut.{cut_out_refusal}
@@ -55,7 +54,7 @@ use Rattle.mr_replica.specs.declared.event.Event.TheVariants as event
 use Rattle.mr_replica.specs.declared.event.Reply.{Reply}
 use Rattle.mr_replica.specs.declared.event.Reply.TheVariants.{Issued, Done, Asked, Streaming, Gave, Took, Known, Finished, Vouched}
 use Rattle.mr_replica.specs.declared.refusal.Refusal.{Refusal}
-use Rattle.mr_replica.specs.declared.refusal.Refusal.TheVariants.{OutOfMemory, NotForMe, Forged, NoSession, NoStream, OwnAsk, TooManySessions, TooManyStreams}
+use Rattle.mr_replica.specs.declared.refusal.Refusal.TheVariants.{OutOfMemory, NotForMe, Forged, NoStream}
 use Rattle.mr_replica.specs.declared.replica.answer.Opening.{Opening}
 use Rattle.mr_replica.specs.declared.replica.contents.arrival.Arrival.{Arrival}
 use Rattle.mr_replica.specs.declared.replica.take.Told.{Told}
@@ -78,33 +77,11 @@ use Rattle.mr_replica.proofs.Advancing.{within_advanced}
 
 -- what holds of each Receive of a record that has the fact holds of an event that is one
 pub by_record : (P : Sent → Type 0) (Q : Event → Type 0) → ((sent : Sent) → P sent → Q (event.Receive (Record sent))) → (e : Event) → OfRecord e P → Q e
-by_record P Q f (event.Receive (Record sent)) h = f sent h
-by_record P Q f (event.Receive (Ask ask)) h = absurd h
-by_record P Q f (event.Receive (Receipt receipt)) h = absurd h
-by_record P Q f (event.Create message) h = absurd h
-by_record P Q f (event.Edit bases message) h = absurd h
-by_record P Q f event.Retire h = absurd h
-by_record P Q f event.Pull h = absurd h
-by_record P Q f (event.CutIn session) h = absurd h
-by_record P Q f (event.Answer ask) h = absurd h
-by_record P Q f (event.Next stream) h = absurd h
-by_record P Q f (event.CutOut stream) h = absurd h
-by_record P Q f (event.Vouch version) h = absurd h
-by_record P Q f (event.Release receipt) h = absurd h
+by_record P Q f e h = grind arith
 
 -- and of each Release
 by_receipt : (P : ReceiptParts → Type 0) (Q : Event → Type 0) → ((receipt : ReceiptParts) → P receipt → Q (event.Release receipt)) → (e : Event) → OfReceipt e P → Q e
-by_receipt P Q f (event.Release receipt) h = f receipt h
-by_receipt P Q f (event.Receive frame) h = absurd h
-by_receipt P Q f (event.Create message) h = absurd h
-by_receipt P Q f (event.Edit bases message) h = absurd h
-by_receipt P Q f event.Retire h = absurd h
-by_receipt P Q f event.Pull h = absurd h
-by_receipt P Q f (event.CutIn session) h = absurd h
-by_receipt P Q f (event.Answer ask) h = absurd h
-by_receipt P Q f (event.Next stream) h = absurd h
-by_receipt P Q f (event.CutOut stream) h = absurd h
-by_receipt P Q f (event.Vouch version) h = absurd h
+by_receipt P Q f e h = grind arith
 
 -- ---- what was not refused
 
@@ -115,13 +92,7 @@ is_open (Some x) e first later h = search rules
 
 -- one more may be opened
 pub is_to_open : {K T : Type 0} (s : State K) (table : Table T) (e : Refusal) (first : Option Refusal) → (first orelse refused_if (nat_le MAX_OPEN (length table.open_ones)) e orelse log_full s) ≡ None → IsToOpen (length s.log) s.event_limit table
-is_to_open s table e first h =
-    let full = refused_if (nat_le MAX_OPEN (length table.open_ones)) e in
-    let later : (full orelse log_full s) ≡ None = later_none first (full orelse log_full s) h in
-    record {
-      room = short_log s full later;
-      few = leb-false MAX_OPEN (length table.open_ones) (not_refused (nat_le MAX_OPEN (length table.open_ones)) e (first_none full (log_full s) later));
-    }
+is_to_open s table e first h = grind (arith, nat_le, later_none, short_log, leb-false, not_refused, first_none)
 
 is_open_of : (o : Option Session) (sent : Sent) → session_refusal o sent ≡ None → IsSome o
 is_open_of None sent h = cc
@@ -132,16 +103,14 @@ admitted_of None sent h = cc
 admitted_of (Some x) sent h = map_none refusal_of_session (first_fault x.origin x.next sent) h
 
 is_there : {X : Type 0} (o : Option X) (x : X) → o ≡ Some x → IsSome o
-is_there (Some y) x is = search rules
-is_there None x is = cc
+is_there o x is = grind (arith, rules)
 
 -- ---- a change is put in
 
 -- the arrival was put in, or there was no memory
 pub arrival_put : {K E : Type 0} (form : Form K) (p : Parts K) (arrival : Arrival) (e : Event) (q : Parts K) (result : Result (Unit {0}) E) → MatchResult result (λ _. Enters form p arrival q) (λ _. parts_seen q ≡ parts_seen p)
     → MatchResult result (λ _. IsPut form p (change.Enter arrival) e q) (λ _. parts_seen q ≡ parts_seen p)
-arrival_put form p arrival e q (Ok x) h = record { puts = (h.known, h.has.is); room = h.has.room }
-arrival_put form p arrival e q (Err x) h = h
+arrival_put form p arrival e q result h = grind arith
 
 module _ {K : Type 0} (form : Form K) (s : State K) where
   abbrev PreparesAt : Event → Option Refusal → Result (Prepared K) Refusal → Type 0
@@ -152,11 +121,7 @@ module _ {K : Type 0} (form : Form K) (s : State K) where
 
   -- what is prepared of an event whose own refusals' cases don't hold
   pub prepares : (e : Event) (answer : Result (Prepared K) Refusal) → first_refusal s e ≡ None → PreparesLate form s e answer → Prepares form s e answer
-  prepares e answer none h = go (first_refusal s e) none
-    where
-      go : (first : Option Refusal) → first ≡ None → PreparesAt e first answer
-      go None is = h
-      go (Some r) is = cc is
+  prepares e answer k h = grind arith
 
   pub late_refused : (e : Event) (r : Refusal) (answer : Result (Prepared K) Refusal) → answer ≡ Err r → RefusesLate form s e r → PreparesLate form s e answer
   late_refused e r answer is h = subst (PreparesLate form s e) (sym is) h
@@ -173,10 +138,7 @@ module _ {K : Type 0} (form : Form K) (s : State K) where
   -- the replica once it has learned what a record tells
   told_is : (item version : Name) (told : Told) (sent : Sent) (k : K) → IsToLearn form s item version told sent
       → with_parts s (told_in (parts_of s) item told sent k) ≡ record (learning s k (told_by item version sent.body) told.comer) { sessions = with_taken sent s.sessions }
-  told_is item version told sent k to =
-      let gone = filter (supersedes item (vector_has (below_told sent.body))) s.push_outs in
-      let push_out_entries : told.push_out_entries.items ≡ map dropped gone ++ [] = to.push_out_entries ∙ sym (append-nil (map dropped gone)) in
-      rw (to.entries, push_out_entries) refl
+  told_is item version told sent k to = grind (arith, append-nil)
 
   learns : (item version : Name) (told : Told) (sent : Sent) (p : PartsView K) → IsToLearn form s item version told sent → Puts form (parts_of s) (change.Learn item version told) (event.Receive (Record sent)) p
       → AreSame (form.known p.knowledge) (line_learned form s (told_by item version sent.body)) × (logged (with_parts s p) (event.Receive (Record sent)) ≡ moved_on (learning s p.knowledge (told_by item version sent.body) told.comer) sent)
@@ -185,9 +147,7 @@ module _ {K : Type 0} (form : Form K) (s : State K) where
 
   -- the replica once it has released what the receipt is for
   released_is : (entries : List Entry) (receipt : ReceiptParts) → IsToRelease form s entries receipt → with_parts s (released_in (parts_of s) entries receipt) ≡ releasing s receipt
-  released_is entries receipt to =
-      let push_out_entries : entries ≡ map dropped (released s receipt) ++ [] = to.tell ∙ sym (append-nil (map dropped (released s receipt))) in
-      rw push_out_entries refl
+  released_is entries receipt to = grind (arith, append-nil)
 
   -- the replica once a session has ended
   ended_is : (ended : Ended K) (sent : Sent) (to : IsToEnd form s ended sent)
@@ -221,10 +181,7 @@ module _ {K : Type 0} (form : Form K) (s : State K) where
         }
 
     ended_due : (ended : Ended K) (sent : Sent) → IsToEnd form s ended sent → MayPut (parts_of s) (change.End ended) (event.Receive (Record sent))
-    ended_due ended sent to = (
-      is_there (open_at s.sessions ended.session) to.session (ap (open_at s.sessions) to.number ∙ to.is_open),
-      subst AreInVersionOrder (sym to.left) (rises-filter version_of (is_unheld to.session) s.heads sound.heads_in_order),
-    )
+    ended_due ended sent to = grind (arith, is_there, is_open, rises-filter)
 
     pub may_put : (made : Change K) (e : Event) → IsToChange form s made e → MayPut (parts_of s) made e
     may_put change.Note e to = tt
@@ -307,17 +264,7 @@ module _ {K : Type 0} (form : Form K) (s : State K) where
 
   -- memory alone can lack where all has a value
   late_memory : (e : Event) → All (Fits form) (wanted_by form s e) → RefusesLate form s e OutOfMemory
-  late_memory (event.Receive frame) h = before_memory (merges s frame) (wanted_by form s (event.Receive frame)) h
-  late_memory (event.Create message) h = h
-  late_memory (event.Edit bases message) h = h
-  late_memory event.Retire h = h
-  late_memory event.Pull h = h
-  late_memory (event.CutIn session) h = h
-  late_memory (event.Answer ask) h = h
-  late_memory (event.Next stream) h = h
-  late_memory (event.CutOut stream) h = h
-  late_memory (event.Vouch version) h = h
-  late_memory (event.Release receipt) h = h
+  late_memory e h = grind (arith, before_memory)
 
   module _ (e : Event) where
     abbrev StepsAt : Option Refusal → Result Reply Refusal → State K → Type 0
@@ -328,30 +275,18 @@ module _ {K : Type 0} (form : Form K) (s : State K) where
 
     -- a refused event
     pub step_refused : (r : Refusal) (new : State K) → Prepares form s e (Err r) → new ≡ s → Steps form s e (Err r) new
-    step_refused r new h same = go (first_refusal s e) h
-      where
-        go : (first : Option Refusal) → PreparesAt e first (Err r) → StepsAt first (Err r) new
-        go None h = (h, same)
-        go (Some f) h = (cc h, same)
+    step_refused r new h same = grind arith
 
     module _ (p : Prepared K) (h : Prepares form s e (Ok p)) where
       is_prepared : IsPrepared form s e p
-      is_prepared = go (first_refusal s e) h
-        where
-          go : (first : Option Refusal) → PreparesAt e first (Ok p) → IsPrepared form s e p
-          go None h = h
-          go (Some f) h = cc h
+      is_prepared = grind arith
 
       pub may_change : IsToChange form s p.change e
       may_change = is_prepared.to_change
 
       -- there was no memory for it
       pub step_for_memory : (new : State K) → new ≡ s → Steps form s e (Err OutOfMemory) new
-      step_for_memory new same = go (first_refusal s e) h
-        where
-          go : (first : Option Refusal) → PreparesAt e first (Ok p) → StepsAt first (Err OutOfMemory) new
-          go None h = (late_memory e h.fits, same)
-          go (Some f) h = cc h
+      step_for_memory new same = grind (arith, late_memory)
 
       -- what was prepared was put in
       pub step_changed : (new : State K) → IsChanged form s p.change e new → Steps form s e (Ok p.reply) new
@@ -381,48 +316,26 @@ module _ {K : Type 0} (form : Form K) (s : State K) where
   -- ---- a version is told
 
   pub known_prepared : (sent : Sent) (line : DescentParts) (comer : Option Rev) → form.known s.knowledge line.item line.version ≡ true → IsToTake form s sent → IsLinePrepared form s sent line comer (record { reply = Known; change = change.Take })
-  known_prepared sent line comer known to =
-      record { fits = rw known (All-nil (Fits form)); to_change = to; changes = λ p h. (known, ap (λ (p : PartsView K). logged (with_parts s p) (event.Receive (Record sent))) h) }
+  known_prepared sent line comer known to = grind (arith, All-nil)
 
   pub told_prepared : (item version : Name) (told : Told) (sent : Sent) → IsToLearn form s item version told sent → All (Fits form) (wanted_by_line form s (told_by item version sent.body))
       → IsLinePrepared form s sent (told_by item version sent.body) (entering s sent.body) (record { reply = Took; change = change.Learn item version told })
-  told_prepared item version told sent to fits =
-      record {
-        fits = fits;
-        to_change = to;
-        changes = λ p h.
-            let is = learns item version told sent p to h in
-            (to.unknown, is.0, subst (λ (comer : Option Rev). logged (with_parts s p) (event.Receive (Record sent)) ≡ moved_on (learning s p.knowledge (told_by item version sent.body) comer) sent) to.comer is.1);
-      }
+  told_prepared item version told sent to fits = grind (arith, learns)
 
   -- ---- the End of a session
 
   -- of a partial stream
   pub partial_prepared : (sent : Sent) (session : Session) (number : ℕ) → number ≡ sent.header.session → session_for s sent ≡ Some session → is_full session.origin ≡ false → IsEndPrepared form s sent (session_for s sent) (record { reply = Finished; change = change.CloseSession number })
-  partial_prepared sent session number is found partial =
-      record {
-        fits = rw (found, partial) (All-nil (Fits form));
-        reply = refl;
-        to_change = is_there (open_at s.sessions number) session (ap (open_at s.sessions) is ∙ found);
-        changes = λ p h. rw (found, partial) (ap (λ (p : PartsView K). logged (with_parts s p) (event.Receive (Record sent))) h ∙ ap (λ n. logged (record s { sessions = with_closed s.sessions n }) (event.Receive (Record sent))) is);
-      }
+  partial_prepared sent session number is found partial = grind (arith, All-nil, is_there)
 
   -- why a full one is not taken
   pub end_refused : (session : Session) → is_full session.origin ≡ true → (e : Refusal) → RefusesEnding form (merged_by (form.known s.knowledge) session.know) e → RefusesEnd form s (Some session) e
   end_refused session full OutOfMemory h = rw full h
-  end_refused session full e h = rw full h
+  end_refused session full e h = grind arith
 
   -- of a full one
   pub full_prepared : (ended : Ended K) (sent : Sent) (to : IsToEnd form s ended sent) → is_full to.session.origin ≡ true → All (Fits form) (wanted_by_end form s (Some to.session)) → IsEndPrepared form s sent (session_for s sent) (record { reply = Finished; change = change.End ended })
-  full_prepared ended sent to full fits =
-      record {
-        fits = rw to.is_open fits;
-        reply = refl;
-        to_change = to;
-        changes = λ p h.
-            subst (λ (p : PartsView K). EndsSession form s sent (session_for s sent) (logged (with_parts s p) (event.Receive (Record sent)))) (sym h)
-            (rw (to.is_open, full) (to.known, ended_is ended sent to));
-      }
+  full_prepared ended sent to full fits = grind (arith, is_open, ended_is)
 
   -- ---- the record that tells of it
 
@@ -431,70 +344,39 @@ module _ {K : Type 0} (form : Form K) (s : State K) where
     sent_of body = record { header = header; body = body }
 
     item_prepares : (r : Rev) (answer : Result (Prepared K) Refusal) → PreparesLine form s (sent_of (Item r)) (line_of r) (entering s (Item r)) answer → PreparesLate form s (event.Receive (Record (sent_of (Item r)))) answer
-    item_prepares r (Ok p) h = record { fits = h.fits; to_change = h.to_change; changes = h.changes }
-    item_prepares r (Err OutOfMemory) h = h
-    item_prepares r (Err e) h = h
+    item_prepares r answer h = grind arith
 
     move_out_prepares : (line : DescentParts) (answer : Result (Prepared K) Refusal) → PreparesLine form s (sent_of (MoveOut line)) line (entering s (MoveOut line)) answer → PreparesLate form s (event.Receive (Record (sent_of (MoveOut line)))) answer
-    move_out_prepares line (Ok p) h = record { fits = h.fits; to_change = h.to_change; changes = h.changes }
-    move_out_prepares line (Err OutOfMemory) h = h
-    move_out_prepares line (Err e) h = h
+    move_out_prepares line answer h = grind arith
 
     pub line_prepares : (body : Body) (line : DescentParts) → told_line body ≡ Some line → (answer : Result (Prepared K) Refusal) → PreparesLine form s (sent_of body) line (entering s body) answer → PreparesLate form s (event.Receive (Record (sent_of body))) answer
-    line_prepares (Item r) line told answer h = item_prepares r answer (subst (λ (l : DescentParts). PreparesLine form s (sent_of (Item r)) l (entering s (Item r)) answer) (sym (some_same (line_of r) line told)) h)
-    line_prepares (MoveOut l) line told answer h = move_out_prepares l answer (subst (λ (k : DescentParts). PreparesLine form s (sent_of (MoveOut l)) k (entering s (MoveOut l)) answer) (sym (some_same l line told)) h)
-    line_prepares (Start mode) line told answer h = cc
-    line_prepares (Held vector) line told answer h = cc
-    line_prepares (Know piece) line told answer h = cc
-    line_prepares End line told answer h = cc
+    line_prepares body line told answer h = grind (arith, item_prepares, some_same, move_out_prepares)
 
     end_prepares : (answer : Result (Prepared K) Refusal) → PreparesEnd form s (sent_of End) (session_for s (sent_of End)) answer → PreparesLate form s (event.Receive (Record (sent_of End))) answer
-    end_prepares (Ok p) h =
-        record {
-          fits = h.fits;
-          to_change = h.to_change;
-          changes = λ q puts.
-              subst (λ (r : Reply). Changes form s (event.Receive (Record (sent_of End))) r (logged (with_parts s q) (event.Receive (Record (sent_of End))))) (sym h.reply) (h.changes q puts);
-        }
-    end_prepares (Err OutOfMemory) h = h
-    end_prepares (Err e) h = h
+    end_prepares answer h = grind arith
 
     pub body_end_prepares : (body : Body) → body ≡ End → (answer : Result (Prepared K) Refusal) → PreparesEnd form s (sent_of body) (session_for s (sent_of body)) answer → PreparesLate form s (event.Receive (Record (sent_of body))) answer
-    body_end_prepares body is answer =
-        subst (λ (b : Body). PreparesEnd form s (sent_of b) (session_for s (sent_of b)) answer → PreparesLate form s (event.Receive (Record (sent_of b))) answer) (sym is) (end_prepares answer)
+    body_end_prepares body is answer = grind (arith, end_prepares)
 
   -- ---- the others
 
   pub cut_in_prepared : (session : ℕ) → cut_in_refusal s session ≡ None → IsPrepared form s (event.CutIn session) (record { reply = Done; change = change.CloseSession session })
-  cut_in_prepared session none =
-      record { fits = All-nil (Fits form); to_change = is_open (open_at s.sessions session) NoSession (retired s) (log_full s) none; changes = λ p h. ap (λ (p : PartsView K). logged (with_parts s p) (event.CutIn session)) h }
+  cut_in_prepared session h = grind (arith, All-nil, is_open)
 
   pub cut_out_prepared : (stream : ℕ) → cut_out_refusal s stream ≡ None → IsPrepared form s (event.CutOut stream) (record { reply = Done; change = change.CloseStream stream })
-  cut_out_prepared stream none =
-      record { fits = All-nil (Fits form); to_change = is_open (open_at s.streams stream) NoStream None (log_full s) none; changes = λ p h. ap (λ (p : PartsView K). logged (with_parts s p) (event.CutOut stream)) h }
+  cut_out_prepared stream h = grind (arith, All-nil, is_open)
 
   pub retire_prepared : IsPrepared form s event.Retire (record { reply = Done; change = change.Retire })
   retire_prepared = record { fits = All-nil (Fits form); to_change = tt; changes = λ p h. ap (λ (p : PartsView K). logged (with_parts s p) event.Retire) h }
 
   pub pull_prepared : (ask : Question) → pull_refusal s ≡ None → IsAskOf form s ask → IsPrepared form s event.Pull (record { reply = Asked ask; change = change.OpenSession })
-  pull_prepared ask none is =
-      record { fits = All-nil (Fits form); to_change = is_to_open s s.sessions TooManySessions (retired s) none; changes = λ p h. (is, ap (λ (p : PartsView K). logged (with_parts s p) event.Pull) h) }
+  pull_prepared ask h is = grind (arith, All-nil, is_to_open)
 
   pub answer_prepared : (ask : Question) (opening : Opening) (stream : ℕ) → answer_refusal s ask ≡ None → IsOpeningFor form s ask opening → stream ≡ s.streams.opened + 1 → IsPrepared form s (event.Answer ask) (record { reply = Streaming stream; change = change.OpenStream opening })
-  answer_prepared ask opening stream none opens next =
-      record {
-        fits = All-nil (Fits form);
-        to_change = is_to_open s s.streams TooManyStreams (refused_if (ask.target == s.id) OwnAsk) none;
-        changes = λ p h. (next, opening.know.items, opens.keeps, ap (λ (p : PartsView K). logged (with_parts s p) (event.Answer ask)) (rw (opens.asked, opens.mode) at h));
-      }
+  answer_prepared ask opening stream h opens next = grind (arith, All-nil, is_to_open)
 
   pub next_prepared : (stream : ℕ) (sent : Sent) (onward : Onward) → next_refusal s stream ≡ None → GivesNext s stream sent (going_on s stream onward) → IsPrepared form s (event.Next stream) (record { reply = Gave sent; change = change.GoOn stream onward })
-  next_prepared stream sent onward none gives =
-      record {
-        fits = All-nil (Fits form);
-        to_change = none;
-        changes = λ p h. subst (GivesNext s stream sent) (sym (ap (λ (p : PartsView K). logged (with_parts s p) (event.Next stream)) h)) gives;
-      }
+  next_prepared stream sent onward h gives = grind (arith, All-nil)
 
   pub vouch_prepared : (version : Name) (receipt : ReceiptParts) → IsReceiptFor s version receipt → IsPrepared form s (event.Vouch version) (record { reply = Vouched receipt; change = change.Note })
   vouch_prepared version receipt is = record { fits = All-nil (Fits form); to_change = tt; changes = λ p h. (is, ap (λ (p : PartsView K). logged (with_parts s p) (event.Vouch version)) h) }

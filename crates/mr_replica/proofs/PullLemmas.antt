@@ -39,12 +39,7 @@ parts_carried (p ∷ ps) (f ∷ fs) are h =
 
 -- the least items of parts in order
 follows : (a b : Option (List Name)) → IfSome b AreListable → ComesFirst a b → least_follows (Some (least_item a)) (least_item b) ≡ true
-follows a None ok first = absurd first
-follows None (Some []) ok first = absurd (ok.some refl)
-follows None (Some (j ∷ js)) ok first = refl
-follows (Some []) (Some b) ok first = absurd first
-follows (Some (i ∷ is)) (Some []) ok first = absurd (ok.some refl)
-follows (Some (i ∷ is)) (Some (j ∷ js)) ok first = rw first refl
+follows a b ok first = grind arith
 
 abbrev Listable : Part → Type 0
 Listable p = IfSome p.items AreListable
@@ -75,9 +70,7 @@ rise_take (suc n) before (p ∷ ps) h = (h.0, rise_take n (Some (least_item p.it
 
 -- the fragments that a request tells rise
 asked_rise : (is_part : Part → Type 0) (known : Pairs) (asked : List Piece) → AreAsked is_part known asked → FragmentsRise None asked
-asked_rise is_part known asked h =
-    subst (FragmentsRise None) (sym h.longest.beginning)
-    (rise_take (length asked) None (map piece_of h.fragments) (parts_rise h.are.parts (map piece_of h.fragments) h.are.by_part h.are.are_parts.in_order.listable h.are.are_parts.in_order.in_order))
+asked_rise is_part known asked h = grind (arith, rise_take, parts_rise)
 
 -- how many bytes a piece takes
 abbrev size : Piece → ℕ
@@ -111,10 +104,7 @@ total_more : (asked : List Piece) (p : Piece) → total_len (asked ++ p ∷ []) 
 total_more asked p = sum_by_push (λ (p : Piece). length (fragment_bytes p)) asked p
 
 pub fits_more : (most : ℕ) (all asked left : List Piece) (p : Piece) (room len rest : ℕ) → FitsSoFar most all asked (p ∷ left) room → len ≡ length (fragment_bytes p) → rest + len ≡ room → FitsSoFar most all (asked ++ p ∷ []) left rest
-fits_more most all asked left p room len rest h is taken = record {
-  whole = h.whole ∙ sym (append_assoc asked (p ∷ []) left);
-  used = omega (arith, total_more asked p, h.used, is, taken);
-}
+fits_more most all asked left p room len rest h is taken = grind (arith, append_assoc, total_more)
 
 -- a beginning that takes less than this with one piece more is no longer
 no_longer : (asked : List Piece) (p : Piece) (rest : List Piece) (n : ℕ) → total_len (take n (asked ++ p ∷ rest)) < total_len asked + length (fragment_bytes p) → length (take n (asked ++ p ∷ rest)) ≤ length asked
@@ -134,21 +124,11 @@ is_beginning (p ∷ asked) rest = ap (λ ps. p ∷ ps) (is_beginning asked rest)
 
 -- where the next piece does not fit
 pub fits_until : (most : ℕ) (all asked left : List Piece) (p : Piece) (room : ℕ) → FitsSoFar most all asked (p ∷ left) room → room < length (fragment_bytes p) → IsLongestWithin most all asked
-fits_until most all asked left p room h less =
-    let longest : IsLongestWithin most (asked ++ p ∷ left) asked = record {
-      beginning = is_beginning asked (p ∷ left);
-      within = omega (arith, h.used);
-      longest = λ n within. no_longer asked p left n (omega (arith, within, h.used, less));
-    } in
-    subst (λ ps. IsLongestWithin most ps asked) (sym h.whole) longest
+fits_until most all asked left p room h less = grind (arith, is_beginning, no_longer)
 
 -- there is one
 one_longest : (most : ℕ) (all a b : List Piece) → IsLongestWithin most all a → IsLongestWithin most all b → a ≡ b
-one_longest most all a b h k =
-    let below : length a ≤ length b = subst (λ ps. length ps ≤ length b) (sym h.beginning) (k.longest (length a) (subst (λ ps. total_len ps ≤ most) h.beginning h.within)) in
-    let above : length b ≤ length a = subst (λ ps. length ps ≤ length a) (sym k.beginning) (h.longest (length b) (subst (λ ps. total_len ps ≤ most) k.beginning k.within)) in
-    let same : length a ≡ length b = omega (arith, below, above) in
-    h.beginning ∙ ap (λ n. take n all) same ∙ sym k.beginning
+one_longest most all a b h k = grind arith
 
 -- ---- one request
 

@@ -1,5 +1,5 @@
 -- which receipts are admitted
-use Rattle.std.proofs.Common.{◌≡◌, ◌||◌, Bool, true, false, refl, sym, ap, ◌∙◌, List, [], ◌∷◌, map, filter, Some, None, inl, inr}
+use Rattle.std.proofs.Common.{◌≡◌, Bool, true, false, refl, sym, ◌∙◌, List, [], ◌∷◌, map, filter, Some, None, arith}
 use Rattle.std.specs.List.{list_any}
 use Rattle.std.proofs.lemmas.Bool.{cases_Bool}
 use Rattle.mr_version.specs.Name.{Name}
@@ -8,7 +8,7 @@ use Rattle.mr_feed.specs.declared.entry.Entry.{Entry}
 use Rattle.mr_feed.specs.declared.entry.Entry.TheVariants.{Dropped}
 use Rattle.mr_madewith.specs.Revision.{Rev}
 use Rattle.mr_madewith.proofs.Rising.{same_names}
-use Rattle.mr_store.specs.Revisions.{is_of, versions_of, supersedes}
+use Rattle.mr_store.specs.Revisions.{versions_of, supersedes}
 use Rattle.mr_wire.specs.declared.frame.Receipt.{Receipt}
 use Rattle.mr_replica.specs.State.{State}
 use Rattle.mr_replica.specs.Admission.{retired, log_full}
@@ -23,23 +23,12 @@ gone_of item version = Dropped item version
 -- to look at an item's versions is to look at all, asking for the item
 pub any_of_versions : (item : Name) (set : Versions) (rs : List Rev) → list_any set (versions_of item rs) ≡ list_any (supersedes item set) rs
 any_of_versions item set [] = refl
-any_of_versions item set (r ∷ rs) =
-    elim (cases_Bool (is_of item r)) [
-      | inl of ↦ rw of (ap (λ b. set r.version || b) (any_of_versions item set rs))
-      | inr apart ↦ rw apart (any_of_versions item set rs)
-    ]
+any_of_versions item set (r ∷ rs) = grind (arith, any_of_versions item set rs, cases_Bool)
 
 -- and what is told of those that leave is told of their versions
 pub gone_of_versions : (item : Name) (set : Versions) (rs : List Rev) → map (gone_of item) (filter set (versions_of item rs)) ≡ map dropped (filter (supersedes item set) rs)
 gone_of_versions item set [] = refl
-gone_of_versions item set (r ∷ rs) =
-    elim (cases_Bool (is_of item r)) [
-      | inl of ↦ elim (cases_Bool (set r.version)) [
-        | inl leaves ↦ rw (of, leaves) (rw (same_names r.item item of) (ap (λ (es : List Entry). gone_of item r.version ∷ es) (gone_of_versions item set rs)))
-        | inr stays ↦ rw (of, stays) (gone_of_versions item set rs)
-      ]
-      | inr apart ↦ rw apart (gone_of_versions item set rs)
-    ]
+gone_of_versions item set (r ∷ rs) = grind (arith, gone_of_versions item set rs, cases_Bool, same_names)
 
 module _ {K : Type 0} (s : State K) (receipt : Receipt) (any : Bool) (admitted : retired s ≡ None) (is : any ≡ list_any (supersedes receipt.descent.item (vouched receipt.descent)) s.push_outs) where
   pub release_refused : any ≡ false → release_refusal s receipt ≡ Some NotPushedOut

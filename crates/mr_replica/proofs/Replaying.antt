@@ -61,14 +61,10 @@ module _ {K : Type 0} (form : Form K) where
   step_push_out_feed s new event (Err e) h = ([], ap (λ (z : State K). z.push_out_feed) (step_refused form s event e new h) ∙ sym (append-nil s.push_out_feed))
 
   pub step_log : (s new : State K) (event : Event) (answer : Result Reply Refusal) → Steps form s event answer new → new.log ≡ s.log ++ admitted event answer
-  step_log s new event (Ok told) h = (admits_log s event new (told, h)).log
-  step_log s new event (Err e) h = ap (λ (z : State K). z.log) (step_refused form s event e new h) ∙ sym (append-nil s.log)
+  step_log s new event answer h = grind (arith, admits_log, step_refused, append-nil)
 
   pub step_setting : (s new : State K) (event : Event) (answer : Result Reply Refusal) → Steps form s event answer new → IsOfSameSetting s new
-  step_setting s new event (Ok told) h = let logs = admits_log s event new (told, h) in record { id = logs.id; filter = logs.filter; event_limit = logs.event_limit }
-  step_setting s new event (Err e) h =
-      let same = step_refused form s event e new h in
-      record { id = ap (λ (z : State K). z.id) same; filter = ap (λ (z : State K). z.filter) same; event_limit = ap (λ (z : State K). z.event_limit) same }
+  step_setting s new event answer h = grind (arith, admits_log, step_refused)
 
   -- ---- lists of events
 
@@ -80,10 +76,7 @@ module _ {K : Type 0} (form : Form K) where
   -- what all these events leave, and note
   all_log : (s new : State K) (events : List Event) → AdmitsAll form s events new → (new.id ≡ s.id) × (new.filter ≡ s.filter) × (new.event_limit ≡ s.event_limit) × (new.log ≡ s.log ++ events)
   all_log s new [] h = (ap (λ (z : State K). z.id) h, ap (λ (z : State K). z.filter) h, ap (λ (z : State K). z.event_limit) h, ap (λ (z : State K). z.log) h ∙ sym (append-nil s.log))
-  all_log s new (event ∷ events) h =
-      let one = admits_log s event h.0 h.1 in
-      let rest = all_log h.0 new events h.2 in
-      (rest.0 ∙ one.id, rest.1 ∙ one.filter, rest.2 ∙ one.event_limit, rest.3 ∙ (ap (λ (log : List Event). log ++ events) one.log ∙ append_assoc s.log (event ∷ []) events))
+  all_log s new (event ∷ events) h = grind (arith, all_log h.0 new events h.2, admits_log, append_assoc)
 
   -- a replay of these is one of those
   replays_as : (id jd : ℕ) (filter gilter : List ClauseParts) (limit mimit : ℕ) (events fvents : List Event) (s : State K) → jd ≡ id → gilter ≡ filter → mimit ≡ limit → fvents ≡ events
@@ -120,11 +113,7 @@ module _ {K : Type 0} (form : Form K) where
 
   pub event_admitted : (s now new : State K) (all yielded left next : List Event) (place : ℕ) (event : Event)
       → EventsSoFar s all yielded left place now → left ≡ event ∷ next → Admits form now event new → EventsSoFar s all (yielded ++ event ∷ []) next (place + 1) new
-  event_admitted s now new all yielded left next place event so taken h = record {
-    whole = so.whole ∙ (ap (λ rest. yielded ++ rest) taken ∙ sym (append_assoc yielded (event ∷ []) next));
-    count = omega (arith, so.count, length-append yielded (event ∷ []));
-    admits = admits_more s now new yielded event so.admits h;
-  }
+  event_admitted s now new all yielded left next place event so taken h = grind (arith, append_assoc, length-append, admits_more)
 
   pub events_end : (s : State K) (all yielded left : List Event) (place : ℕ) (now : State K) → EventsSoFar s all yielded left place now → left ≡ [] → AdmitsAll form s all now
   events_end s all yielded left place now so none = rw (so.whole, none, append-nil yielded) so.admits
@@ -155,8 +144,7 @@ module _ {K : Type 0} (form : Form K) where
     replay_refuses (Err (Refused place e)) h = record { fresh = fresh; is_fresh = is_fresh; stops = h }
 
     pub replay_logs : (result : Result (State K) ReplayFault) → IfOk result (AdmitsAll form fresh events) → IfOk result (λ s. s.log ≡ events)
-    replay_logs (Ok s) h = (all_log fresh s events h).3 ∙ ap (λ (z : State K). z.log ++ events) is_fresh.is_empty
-    replay_logs (Err f) h = tt
+    replay_logs result h = grind (arith, all_log)
 
     pub replay_is_its_log : (result : Result (State K) ReplayFault) → IfOk result (AdmitsAll form fresh events) → IfOk result (IsItsLog form)
     replay_is_its_log (Ok s) h =

@@ -1,5 +1,5 @@
 -- What a step says of its answer: a reply stands for a change, with nothing that refuses the event, and a refusal changes nothing.
-use Rattle.std.proofs.Common.{◌≡◌, Option, Some, None, Result, Ok, Err, refl}
+use Rattle.std.proofs.Common.{◌≡◌, Option, Some, None, Result, Ok, Err, arith}
 use Rattle.mr_forms.specs.Known.{Form}
 use Rattle.mr_replica.specs.State.{State}
 use Rattle.mr_replica.specs.Step.{first_refusal, Changes, Answers, Steps}
@@ -16,11 +16,7 @@ module _ {K : Type 0} (form : Form K) where
   ]
 
   pub step_replied : (s : State K) (event : Event) (told : Reply) (new : State K) → Steps form s event (Ok told) new → (first_refusal s event ≡ None) × Changes form s event told new
-  step_replied s event told new h = go (first_refusal s event) refl h
-    where
-      go : (first : Option Refusal) → first_refusal s event ≡ first → GoesOn s event first (Ok told) new → (first_refusal s event ≡ None) × Changes form s event told new
-      go None is h = (is, h.1)
-      go (Some e) is h = cc h.0
+  step_replied s event told new h = grind arith
 
   pub step_changes : (s : State K) (event : Event) (told : Reply) (new : State K) → Steps form s event (Ok told) new → Changes form s event told new
   step_changes s event told new h = (step_replied s event told new h).1

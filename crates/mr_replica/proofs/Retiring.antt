@@ -1,9 +1,9 @@
 -- A replica that has retired has no push-outs: it retires only where none are left, and admits nothing afterwards but what tells others.
-use Rattle.std.proofs.Common.{inl, inr, ◌≡◌, refl, sym, ap, subst, ◌∙◌, Bool, true, false, List, [], ◌∷◌, Option, Some, None}
+use Rattle.std.proofs.Common.{◌≡◌, refl, sym, ap, subst, ◌∙◌, Bool, true, List, [], ◌∷◌, Option, Some, None, arith}
 use Rattle.std.proofs.lemmas.Bool.{cases_Bool, false≢true}
 use Rattle.mr_forms.specs.Known.{Form}
 use Rattle.mr_madewith.specs.Revision.{Rev}
-use Rattle.mr_session.specs.Session.{Session, is_full}
+use Rattle.mr_session.specs.Session.{Session}
 use Rattle.mr_wire.specs.Frames.{Sent}
 use Rattle.mr_wire.specs.Values.{DescentParts}
 use Rattle.mr_wire.specs.declared.frame.Body.{Body}
@@ -18,7 +18,7 @@ use Rattle.mr_replica.specs.Retire.{has_any}
 use Rattle.mr_replica.specs.State.{State}
 use Rattle.mr_replica.specs.Step.{Changes, first_refusal}
 use Rattle.mr_replica.specs.declared.event.Event.{Event}
-use Rattle.mr_replica.specs.declared.event.Event.TheVariants.{Create, Edit, Retire, Pull, Receive, CutIn, Answer, Next, CutOut, Vouch, Release}
+use Rattle.mr_replica.specs.declared.event.Event.TheVariants.{Receive}
 use Rattle.mr_replica.specs.declared.event.Reply.{Reply}
 use Rattle.mr_replica.specs.declared.event.Reply.TheVariants as reply
 use Rattle.mr_replica.specs.declared.refusal.Refusal.TheVariants.{PushOutsLeft, Retired}
@@ -30,9 +30,7 @@ HasReleased s = s.is_retired ≡ true → s.push_outs ≡ []
 
 -- what Retire is refused for isn't there
 nothing_left : (b : Bool) (xs : List Rev) → (refused_if b Retired orelse refused_if (has_any xs) PushOutsLeft) ≡ None → xs ≡ []
-nothing_left b [] none = refl
-nothing_left true (x ∷ xs) none = absurd (cc)
-nothing_left false (x ∷ xs) none = absurd (cc)
+nothing_left b xs h = grind arith
 
 module _ {K : Type 0} (form : Form K) (s : State K) where
   -- ---- what an event leaves
@@ -47,15 +45,13 @@ module _ {K : Type 0} (form : Form K) (s : State K) where
   by_line : (sent : Sent) (line : DescentParts) (comer : Option Rev) (told : Reply) (new : State K) → TakesLine form s sent line comer told new → IsRetiredAs new
   by_line sent line comer reply.Known new h = retired_as new _ h.1 refl
   by_line sent line comer reply.Took new h = retired_as new _ h.2 refl
-  by_line sent line comer told new h = absurd h
+  by_line sent line comer told new h = grind (arith, retired_as)
 
   by_end : (sent : Sent) (session : Session) (full : Bool) (new : State K) → Ends form s sent session full new → IsRetiredAs new
-  by_end sent session true new h = retired_as new _ h.1 refl
-  by_end sent session false new h = retired_as new _ h refl
+  by_end sent session full new h = grind (arith, retired_as)
 
   by_session : (sent : Sent) (session : Option Session) (new : State K) → EndsSession form s sent session new → IsRetiredAs new
-  by_session sent None new h = absurd h
-  by_session sent (Some session) new h = by_end sent session (is_full session.origin) new h
+  by_session sent session new h = grind (arith, by_end)
 
   by_body : (sent : Sent) (b : Body) (told : Reply) (new : State K) → TakesBody form s sent b told new → IsRetiredAs new
   by_body sent (body.Item r) told new h = by_line sent (line_of r) (entering s (body.Item r)) told new h
@@ -63,50 +59,32 @@ module _ {K : Type 0} (form : Form K) (s : State K) where
   by_body sent body.End reply.Finished new h = by_session sent (session_for s sent) new h
   by_body sent body.End told new h = absurd h
   by_body sent b reply.Took new h = retired_as new _ h refl
-  by_body sent b told new h = absurd h
+  by_body sent b told new h = grind (arith, by_line, by_session, retired_as)
 
   by_frame : (f : Frame) (told : Reply) (new : State K) → TakesFrame form s f told new → IsRetiredAs new
   by_frame (frame.Record sent) told new h = by_body sent sent.body told new h
-  by_frame f told new h = absurd h
+  by_frame f told new h = grind (arith, by_body)
 
   -- ---- each event
 
   -- one that a retired replica refuses
   refused_then : (event : Event) (new : State K) → (s.is_retired ≡ true → first_refusal s event ≡ Some Retired) → first_refusal s event ≡ None → IsRetiredAs new → HasReleased new
-  refused_then event new refuses none same = elim (cases_Bool s.is_retired) [
-    | inl t ↦ let e : Some Retired ≡ None = sym (refuses t) ∙ none in absurd (cc)
-    | inr f ↦ λ t. absurd (false≢true (sym f ∙ (sym same ∙ t)))
-  ]
+  refused_then event new refuses h same = grind (arith, cases_Bool, false≢true)
 
   -- one that tells others
   tells : (new made : State K) → new ≡ made → made.is_retired ≡ s.is_retired → made.push_outs ≡ s.push_outs → HasReleased s → HasReleased new
   tells new made is same push_outs released = λ t. ap (λ (z : State K). z.push_outs) is ∙ (push_outs ∙ released (sym (retired_as new made is same) ∙ t))
 
   by_frame_refused : (f : Frame) → s.is_retired ≡ true → first_refusal s (Receive f) ≡ Some Retired
-  by_frame_refused (frame.Record sent) r = rw r refl
-  by_frame_refused (frame.Ask question) r = rw r refl
-  by_frame_refused (frame.Receipt receipt) r = rw r refl
+  by_frame_refused f r = grind arith
 
   released_after : (event : Event) (told : Reply) (new : State K) → first_refusal s event ≡ None → Changes form s event told new → HasReleased s → HasReleased new
-  released_after (Create message) (reply.Issued v) new none h released = refused_then (Create message) new (λ r. rw r refl) none (retired_as new _ h.4 refl)
-  released_after (Edit bases message) (reply.Issued v) new none h released = refused_then (Edit bases message) new (λ r. rw r refl) none (retired_as new _ h.4 refl)
-  released_after Retire reply.Done new none h released = λ t. ap (λ (z : State K). z.push_outs) h ∙ nothing_left s.is_retired s.push_outs none
-  released_after Pull (reply.Asked ask) new none h released = refused_then Pull new (λ r. rw r refl) none (retired_as new _ h.1 refl)
-  released_after (Receive f) told new none h released = refused_then (Receive f) new (by_frame_refused f) none (by_frame f told new h)
-  released_after (CutIn session) reply.Done new none h released = refused_then (CutIn session) new (λ r. rw r refl) none (retired_as new _ h refl)
-  released_after (Answer ask) (reply.Streaming stream) new none h released = tells new _ h.3 refl refl released
-  released_after (Next stream) (reply.Gave sent) new none h released = tells new _ h.2 refl refl released
-  released_after (CutOut stream) reply.Done new none h released = tells new _ h refl refl released
-  released_after (Vouch version) (reply.Vouched receipt) new none h released = refused_then (Vouch version) new (λ r. rw r refl) none (retired_as new _ h.1 refl)
-  released_after (Release receipt) reply.Done new none h released = refused_then (Release receipt) new (λ r. rw r refl) none (retired_as new _ h refl)
-  released_after event told new none h released = absurd h
+  released_after event told new k h released = grind (arith, refused_then, retired_as, nothing_left, by_frame_refused, by_frame, tells)
 
 module _ {K : Type 0} (form : Form K) where
   all_released : (s new : State K) (events : List Event) → AdmitsAll form s events new → HasReleased s → HasReleased new
   all_released s new [] h released = subst (λ (z : State K). HasReleased z) (sym h) released
-  all_released s new (event ∷ events) h released =
-      let step = step_replied form s event h.1.0 h.0 h.1.1 in
-      all_released h.0 new events h.2 (released_after form s event h.1.0 h.0 step.0 step.1 released)
+  all_released s new (event ∷ events) h released = grind (arith, all_released h.0 new events h.2, step_replied, released_after)
 
   -- a replica, which is its log replayed, has none where it has retired
   pub has_released : (s : State K) → IsItsLog form s → HasReleased s

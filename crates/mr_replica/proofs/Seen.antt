@@ -1,13 +1,13 @@
 -- A step of a replica is a step of what is seen of it. There the values of the form are their meanings, so one knowledge is
 -- one value; what the form says of a value beyond its meaning, one step asks of one value alone, and that is fixed.
-use Rattle.std.proofs.Common.{◌≡◌, ◌≢◌, refl, sym, ap, subst, Bool, true, false, List, [], ◌∷◌, Option, Some, None, Result, Ok, Err, inl, inr}
+use Rattle.std.proofs.Common.{◌≡◌, ◌≢◌, refl, sym, ap, subst, Bool, List, [], ◌∷◌, Option, None, Result, Err, inl, inr, arith}
 use Rattle.std.specs.List.{All}
 use Rattle.std.proofs.lemmas.List.Elements.{All-weaker}
 use Rattle.mr_forms.specs.ByMeaning.{IsByMeaning}
 use Rattle.mr_forms.specs.Known.{Form, Pairs, Part, AreSame}
 use Rattle.mr_forms.specs.Parts.{ArePartsThat}
 use Rattle.mr_madewith.specs.Revision.{Rev}
-use Rattle.mr_session.specs.Session.{Session, is_full}
+use Rattle.mr_session.specs.Session.{Session}
 use Rattle.mr_wire.specs.Values.{DescentParts, Piece}
 use Rattle.mr_wire.specs.Frames.{Question, Sent}
 use Rattle.mr_wire.specs.declared.frame.Frame.{Frame}
@@ -37,11 +37,7 @@ use Rattle.mr_replica.proofs.Replies.{GoesOn}
 -- ---- predicates of parts
 
 parts_as : (P Q : Part → Type 0) → ((p : Part) → P p → Q p) → ((p : Part) → Q p → P p) → (parts : List Part) → ArePartsThat P parts → ArePartsThat Q parts
-parts_as P Q to back parts h = record {
-  in_order = h.in_order;
-  are = All-weaker P Q to parts h.are;
-  has_all = λ p is. h.has_all p (back p is);
-}
+parts_as P Q to back parts h = grind (arith, All-weaker)
 
 pieces_as : (P Q : Part → Type 0) → ((p : Part) → P p → Q p) → ((p : Part) → Q p → P p) → (pieces : List Piece) → ArePiecesOf P pieces → ArePiecesOf Q pieces
 pieces_as P Q to back pieces h = record { parts = h.parts; are_parts = parts_as P Q to back h.parts h.are_parts; by_part = h.by_part }
@@ -77,8 +73,7 @@ module _ {K : Type 0} (form : Form K) (told : IsByMeaning form) where
   -- ---- what is wanted
 
   fits_seen : (k : K) (w : Wanted) → Fits form w → Fits (by_meaning form k) w
-  fits_seen k (Vector set) h = h
-  fits_seen k (Knowledge pairs) h = h
+  fits_seen k w h = grind arith
 
   all_fit : (k : K) (ws : List Wanted) → All (Fits form) ws → All (Fits (by_meaning form k)) ws
   all_fit k ws h = All-weaker (Fits form) (Fits (by_meaning form k)) (fits_seen k) ws h
@@ -88,7 +83,7 @@ module _ {K : Type 0} (form : Form K) (told : IsByMeaning form) where
   fault_seen k TooManyHoles (Knowledge pairs) h = h
   fault_seen k TooManyItems (Knowledge pairs) h = h
   fault_seen k TooManyItems (Vector set) h = absurd h
-  fault_seen k e w h = absurd h
+  fault_seen k e w h = grind arith
 
   first_seen : (k : K) (e : Refusal) (ws : List Wanted) → FirstFault form e ws → FirstFault (by_meaning form k) e ws
   first_seen k e [] h = h
@@ -100,15 +95,13 @@ module _ {K : Type 0} (form : Form K) (told : IsByMeaning form) where
   line_seen : (s : State K) (sent : Sent) (line : DescentParts) (comer : Option Rev) (told : Reply) (new : State K) → TakesLine form s sent line comer told new → TakesLine (by_meaning form s.knowledge) (seen form s) sent line comer told (seen form new)
   line_seen s sent line comer reply.Known new h = (h.0, ap (seen form) h.1)
   line_seen s sent line comer reply.Took new h = (h.0, h.1, ap (seen form) h.2)
-  line_seen s sent line comer told new h = absurd h
+  line_seen s sent line comer told new h = grind arith
 
   ends_seen : (s : State K) (sent : Sent) (session : Session) (full : Bool) (new : State K) → Ends form s sent session full new → Ends (by_meaning form s.knowledge) (seen form s) sent session full (seen form new)
-  ends_seen s sent session true new h = (h.0, ap (seen form) h.1)
-  ends_seen s sent session false new h = ap (seen form) h
+  ends_seen s sent session full new h = grind arith
 
   session_seen : (s : State K) (sent : Sent) (session : Option Session) (new : State K) → EndsSession form s sent session new → EndsSession (by_meaning form s.knowledge) (seen form s) sent session (seen form new)
-  session_seen s sent None new h = absurd h
-  session_seen s sent (Some session) new h = ends_seen s sent session (is_full session.origin) new h
+  session_seen s sent session new h = grind (arith, ends_seen)
 
   body_seen : (s : State K) (sent : Sent) (b : Body) (told : Reply) (new : State K) → TakesBody form s sent b told new → TakesBody (by_meaning form s.knowledge) (seen form s) sent b told (seen form new)
   body_seen s sent (body.Item r) told new h = line_seen s sent (line_of r) (entering s (body.Item r)) told new h
@@ -116,11 +109,11 @@ module _ {K : Type 0} (form : Form K) (told : IsByMeaning form) where
   body_seen s sent body.End reply.Finished new h = session_seen s sent (session_for s sent) new h
   body_seen s sent body.End told new h = absurd h
   body_seen s sent b reply.Took new h = ap (seen form) h
-  body_seen s sent b told new h = absurd h
+  body_seen s sent b told new h = grind (arith, line_seen, session_seen)
 
   frame_seen : (s : State K) (f : Frame) (told : Reply) (new : State K) → TakesFrame form s f told new → TakesFrame (by_meaning form s.knowledge) (seen form s) f told (seen form new)
   frame_seen s (frame.Record sent) told new h = body_seen s sent sent.body told new h
-  frame_seen s f told new h = absurd h
+  frame_seen s f told new h = grind (arith, body_seen)
 
   ask_seen : (s : State K) (ask : Question) → IsAskOf form s ask → IsAskOf (by_meaning form s.knowledge) (seen form s) ask
   ask_seen s ask h = record {
@@ -141,8 +134,7 @@ module _ {K : Type 0} (form : Form K) (told : IsByMeaning form) where
   keeps_seen Partial k know h = h
 
   holey_seen : (mode : Mode) (k : K) → KeepsHoley form mode k → KeepsHoley (by_meaning form k) mode (form.known k)
-  holey_seen Full k h = holey_as (form.is_part k) (IsPartOf form (form.known k)) (part_to k) h
-  holey_seen Partial k h = h
+  holey_seen mode k h = grind (arith, holey_as, part_to)
 
   change_seen : (s : State K) (event : Event) (told : Reply) (new : State K) → Changes form s event told new → Changes (by_meaning form s.knowledge) (seen form s) event told (seen form new)
   change_seen s (Create message) (reply.Issued v) new h = (h.0, h.1, h.2, h.3, ap (seen form) h.4)
@@ -156,7 +148,7 @@ module _ {K : Type 0} (form : Form K) (told : IsByMeaning form) where
   change_seen s (CutOut stream) reply.Done new h = ap (seen form) h
   change_seen s (Vouch version) (reply.Vouched receipt) new h = (h.0, ap (seen form) h.1)
   change_seen s (Release receipt) reply.Done new h = ap (seen form) h
-  change_seen s event told new h = absurd h
+  change_seen s event told new h = grind (arith, ask_seen, frame_seen, keeps_seen)
 
   -- ---- what it wants, and how it is refused
 
@@ -164,20 +156,19 @@ module _ {K : Type 0} (form : Form K) (told : IsByMeaning form) where
   wanted_line s line = refl
 
   wanted_end : (s : State K) (session : Option Session) → wanted_by_end (by_meaning form s.knowledge) (seen form s) session ≡ wanted_by_end form s session
-  wanted_end s None = refl
-  wanted_end s (Some session) = refl
+  wanted_end s session = grind arith
 
   wanted_body : (s : State K) (sent : Sent) (b : Body) → wanted_by_body (by_meaning form s.knowledge) (seen form s) sent b ≡ wanted_by_body form s sent b
   wanted_body s sent body.End = wanted_end s (session_for s sent)
-  wanted_body s sent b = refl
+  wanted_body s sent b = grind (arith, wanted_end)
 
   wanted_frame : (s : State K) (f : Frame) → wanted_by_frame (by_meaning form s.knowledge) (seen form s) f ≡ wanted_by_frame form s f
   wanted_frame s (frame.Record sent) = wanted_body s sent sent.body
-  wanted_frame s f = refl
+  wanted_frame s f = grind (arith, wanted_body)
 
   wanted_seen : (s : State K) (event : Event) → wanted_by (by_meaning form s.knowledge) (seen form s) event ≡ wanted_by form s event
   wanted_seen s (Receive f) = wanted_frame s f
-  wanted_seen s event = refl
+  wanted_seen s event = grind (arith, wanted_frame)
 
   fits_of : (s : State K) (event : Event) → All (Fits form) (wanted_by form s event) → All (Fits (by_meaning form s.knowledge)) (wanted_by (by_meaning form s.knowledge) (seen form s) event)
   fits_of s event h = subst (All (Fits (by_meaning form s.knowledge))) (sym (wanted_seen s event)) (all_fit s.knowledge (wanted_by form s event) h)
@@ -192,13 +183,12 @@ module _ {K : Type 0} (form : Form K) (told : IsByMeaning form) where
   late_seen s Pull e ne h = absurd h
   late_seen s (Answer question) TooManyHoles ne h = holey_seen (mode_for s question) s.knowledge h
   late_seen s (Answer question) e ne h = absurd h
-  late_seen s event e ne h = first_of_seen s event e h
+  late_seen s event e ne h = grind (arith, holey_as, part_to, holey_seen, first_of_seen)
 
   -- ---- the step
 
   answers_seen : (s : State K) (event : Event) (answer : Result Reply Refusal) (new : State K) → answer ≢ Err OutOfMemory → Answers form s event answer new → Answers (by_meaning form s.knowledge) (seen form s) event answer (seen form new)
-  answers_seen s event (Ok told) new ne h = (fits_of s event h.0, change_seen s event told new h.1)
-  answers_seen s event (Err e) new ne h = (late_seen s event e (λ is. ne (ap (λ (x : Refusal). Err x) is)) h.0, ap (seen form) h.1)
+  answers_seen s event answer new ne h = grind (arith, fits_of, change_seen, late_seen)
 
   refusal_seen : (s : State K) (event : Event) → first_refusal (seen form s) event ≡ first_refusal s event
   refusal_seen s (Edit [] message) = refl
@@ -207,13 +197,11 @@ module _ {K : Type 0} (form : Form K) (told : IsByMeaning form) where
     where
       by_body : (b : Body) → first_refusal (seen form s) (Receive (frame.Record (record sent { body = b }))) ≡ first_refusal s (Receive (frame.Record (record sent { body = b })))
       by_body b = refl
-  refusal_seen s event = refl
+  refusal_seen s event = grind arith
 
   goes_seen : (s : State K) (event : Event) (first : Option Refusal) (answer : Result Reply Refusal) (new : State K) → answer ≢ Err OutOfMemory → GoesOn form s event first answer new → GoesOn (by_meaning form s.knowledge) (seen form s) event first answer (seen form new)
-  goes_seen s event (Some e) answer new ne h = (h.0, ap (seen form) h.1)
-  goes_seen s event None answer new ne h = answers_seen s event answer new ne h
+  goes_seen s event first answer new ne h = grind (arith, answers_seen)
 
   -- a step, memory aside, is one of what is seen
   pub step_seen : (s : State K) (event : Event) (answer : Result Reply Refusal) (new : State K) → answer ≢ Err OutOfMemory → Steps form s event answer new → Steps (by_meaning form s.knowledge) (seen form s) event answer (seen form new)
-  step_seen s event answer new ne h =
-      subst (λ (first : Option Refusal). GoesOn (by_meaning form s.knowledge) (seen form s) event first answer (seen form new)) (sym (refusal_seen s event)) (goes_seen s event (first_refusal s event) answer new ne h)
+  step_seen s event answer new ne h = grind (arith, refusal_seen, goes_seen)

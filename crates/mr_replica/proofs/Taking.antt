@@ -1,5 +1,5 @@
 -- what a replica keeps as it takes a record
-use Rattle.std.proofs.Common.{◌≡◌, ◌≤◌, ◌<◌, ◌+◌, ◌==◌, nat_lt, nat_le, ℕ, Bool, true, false, not, ◌&&◌, ◌||◌, if◌then◌else◌, refl, sym, ap, subst, ◌∙◌, arith, List, [], ◌∷◌, ◌++◌, length, Option, Some, None, inl, inr, eq-eqb}
+use Rattle.std.proofs.Common.{◌≡◌, ◌≤◌, ◌<◌, ◌+◌, ◌==◌, nat_le, ℕ, Bool, true, false, not, ◌&&◌, if◌then◌else◌, refl, sym, ap, subst, ◌∙◌, arith, List, [], ◌∷◌, ◌++◌, length, Option, Some, None, inl, inr, eq-eqb}
 use Rattle.std.specs.List.{All}
 use Rattle.std.specs.Option.{option_map_or, IfSome}
 use Rattle.std.proofs.lemmas.Bool.{cases_Bool, or_parts, not-false, ltb-true, ltb-false, leb-false}
@@ -9,9 +9,7 @@ use Rattle.std.proofs.lemmas.List.Elements.{All-head, All-tail, All-map, All-fil
 use Rattle.mr_version.specs.Name.{Name, name_eq}
 use Rattle.mr_forms.specs.Known.{Form, AreSame}
 use Rattle.mr_forms.proofs.LearnedLemmas.{learned_with_keeps, learned_with_itself}
-use Rattle.mr_concise.specs.declared.vector.AuthorColumn.{AuthorColumn}
-use Rattle.mr_concise.specs.Column.{column_has}
-use Rattle.mr_concise.specs.Vector.{vector_has, column_of}
+use Rattle.mr_concise.specs.Vector.{vector_has}
 use Rattle.mr_concise.proofs.LastLemmas.{column_has-above}
 use Rattle.mr_madewith.specs.Revision.{Rev, IsRevision}
 use Rattle.mr_madewith.proofs.Rising.{same_names}
@@ -20,16 +18,15 @@ use Rattle.mr_store.proofs.HoldingLemmas.{revision_of-neither}
 use Rattle.mr_wire.specs.Values.{DescentParts}
 use Rattle.mr_wire.specs.Frames.{Sent, IsIndexOf, IsSent}
 use Rattle.mr_wire.specs.declared.frame.Body.{Body}
-use Rattle.mr_wire.specs.declared.frame.Body.TheVariants.{Start, Item, MoveOut, Held, Know, End}
 use Rattle.mr_session.specs.Table.{Numbered, at, changed, with_closed}
-use Rattle.mr_session.specs.Session.{Session, first_fault, is_start, is_of, after_record, with_taken}
+use Rattle.mr_session.specs.Session.{Session, first_fault, is_start, after_record, with_taken}
 use Rattle.mr_session.specs.declared.fault.SessionFault.TheVariants as faults
 use Rattle.mr_session.specs.declared.origin.Origin.{Origin}
 use Rattle.mr_replica.specs.State.{State, held}
 use Rattle.mr_replica.specs.Refusal.{◌orelse◌, refused_if, refusal_of_session}
 use Rattle.mr_replica.specs.Admission.{log_full}
-use Rattle.mr_replica.specs.inner.Sound.{IsNoLater, AreNoLater, AreWithin, IsSound}
-use Rattle.mr_replica.specs.Forged.{line_of, is_early, has_early, is_early_line, is_misfiled, is_forged}
+use Rattle.mr_replica.specs.inner.Sound.{AreNoLater, AreWithin, IsSound}
+use Rattle.mr_replica.specs.Forged.{line_of, is_early_line, is_misfiled, is_forged}
 use Rattle.mr_replica.specs.Receive.{session_refusal, session_for, record_refusal, moved_on, line_learned, arrived, learning, finished, ending, is_unheld}
 use Rattle.mr_replica.specs.declared.event.Event.{Event}
 use Rattle.mr_replica.specs.declared.event.Event.TheVariants.{Receive}
@@ -52,8 +49,7 @@ at_has {T} P n v (x ∷ xs) all found =
     ]
 
 own_late : (own late : Bool) → own ≡ true → (own && late) ≡ false → late ≡ false
-own_late true late is h = h
-own_late false late is h = cc
+own_late own late is h = grind arith
 
 -- what holds of all, and of the one that comes, holds with that one at its place
 arrived_all : (P : Rev → Type 0) (comer : Option Rev) (rs : List Rev) → ((r : Rev) → comer ≡ Some r → P r) → All P rs → All P (arrived comer rs)
@@ -62,40 +58,23 @@ arrived_all P (Some r) rs p h = All-inserted version_of P r rs (p r refl) h
 
 -- of three tests, none comes first
 third_fails : {A : Type 0} (a b c : Bool) (x y z : A) → (if a then Some x else (if b then Some y else (if c then Some z else None))) ≡ None → c ≡ false
-third_fails true b c x y z h = cc
-third_fails false true c x y z h = cc
-third_fails false false true x y z h = cc
-third_fails false false false x y z h = refl
+third_fails a b c x y z h = grind arith
 
 -- a first record has the index 0
 start_index : (body : Body) (index : ℕ) → IsIndexOf body index → (if is_start body then None else Some faults.NotStart) ≡ None → index ≡ 0
-start_index (Start mode) index is h = is
-start_index (Item r) index is h = cc
-start_index (MoveOut line) index is h = cc
-start_index (Held vector) index is h = cc
-start_index (Know piece) index is h = cc
-start_index End index is h = cc
+start_index body index is h = grind arith
 
 -- a record that a session takes is no later than its next
 index_of_next : (origin : Option Origin) (next : ℕ) (sent : Sent) → IsIndexOf sent.body sent.header.index → first_fault origin next sent ≡ None → sent.header.index ≤ next
-index_of_next None next sent is h = omega (arith, start_index sent.body sent.header.index is h)
-index_of_next (Some origin) next sent is h =
-    ltb-false next sent.header.index (third_fails (not (is_of origin sent.header)) (nat_lt sent.header.index next) (nat_lt next sent.header.index) faults.OtherStream faults.Repeated faults.Gap h)
+index_of_next origin next sent is h = grind (arith, start_index, ltb-false, third_fails)
 
 module _ {K : Type 0} (form : Form K) (s : State K) (sent : Sent) (sound : IsSound form s) (kept : IsSent sent.header sent.body) (taken : record_refusal s sent ≡ None) where
   -- the parts of what refuses a record
   no_session_fault : session_refusal (session_for s sent) sent ≡ None
-  no_session_fault =
-      let later = refused_if (is_forged s sent.body) Forged orelse log_full s in
-      let mine = refused_if (not (sent.header.target == s.id)) NotForMe in
-      first_none (session_refusal (session_for s sent) sent) later (later_none mine (session_refusal (session_for s sent) sent orelse later) taken)
+  no_session_fault = grind (arith, first_none, later_none)
 
   no_forgery : refused_if (is_forged s sent.body) Forged ≡ None
-  no_forgery =
-      let later = refused_if (is_forged s sent.body) Forged orelse log_full s in
-      let mine = refused_if (not (sent.header.target == s.id)) NotForMe in
-      first_none (refused_if (is_forged s sent.body) Forged) (log_full s)
-      (later_none (session_refusal (session_for s sent) sent) later (later_none mine (session_refusal (session_for s sent) sent orelse later) taken))
+  no_forgery = grind (arith, first_none, later_none)
 
   in_session : (session : Option Session) → session_for s sent ≡ session → session_refusal session sent ≡ None → sent.header.index ≤ length s.log
   in_session None is none = cc
@@ -138,22 +117,7 @@ module _ {K : Type 0} (form : Form K) (s : State K) (sent : Sent) (sound : IsSou
       after x few false is = omega (arith, few, length_push s.log event)
 
   pub sound_moved_on : IsSound form (moved_on s sent)
-  sound_moved_on = record {
-    limit_from = sound.limit_from;
-    limit_to = sound.limit_to;
-    issued_few = omega (arith, sound.issued_few, length_push s.log (Receive (Record sent)));
-    heads_in_order = sound.heads_in_order;
-    push_outs_in_order = sound.push_outs_in_order;
-    heads_issued = sound.heads_issued;
-    push_outs_issued = sound.push_outs_issued;
-    trail_issued = sound.trail_issued;
-    heads_known = sound.heads_known;
-    push_outs_known = sound.push_outs_known;
-    sessions_within = within_taken (Receive (Record sent));
-    streams_within = within_later (λ stream. stream.next) s.log (Receive (Record sent)) s.streams sound.streams_within;
-    folds = sound.folds;
-    push_outs_fold = sound.push_outs_fold;
-  }
+  sound_moved_on = grind (arith, length_push, within_taken, within_later)
 
   pub sound_finished : IsSound form (finished s sent)
   sound_finished =
@@ -165,26 +129,7 @@ module _ {K : Type 0} (form : Form K) (s : State K) (sent : Sent) (sound : IsSou
   module _ (k : K) (line : DescentParts) (comer : Option Rev) (early : is_early_line s line ≡ false) (known : AreSame (form.known k) (line_learned form s line))
       (brings : (r : Rev) → comer ≡ Some r → (line_of r ≡ line) × IsRevision r.item r.version r.below) (new : IfSome comer (λ r. held s r.version ≡ None)) where
     line_no_later : AreNoLater s.id s.issued line.version line.below
-    line_no_later =
-        let parts = or_parts (is_early s line.item) (is_early s line.version || has_early s line.below) early in
-        let later = or_parts (is_early s line.version) (has_early s line.below) parts.1 in
-        record {
-          itself = λ own. issued_own line.version later.0 own;
-          all_below = λ v in' own. below_upto line.below v later.1 in' own;
-        }
-      where
-        issued_own : (v : Name) → is_early s v ≡ false → IsNoLater s.id s.issued v
-        issued_own v late own = ltb-false s.issued v.counter (own_late (v.author == s.id) (nat_lt s.issued v.counter) (eq-eqb v.author s.id own) late)
-
-        below_upto : (below : List AuthorColumn) (v : Name) → has_early s below ≡ false → vector_has below v ≡ true → IsNoLater s.id s.issued v
-        below_upto below v late in' own =
-            elim (cases_Bool (nat_lt s.issued v.counter)) [
-              | inl above ↦
-                  let low : (column_of below s.id).upto ≤ s.issued = ltb-false s.issued (column_of below s.id).upto late in
-                  let high : (column_of below s.id).upto < v.counter = omega (arith, low, ltb-true s.issued v.counter above) in
-                  absurd (cc (sym in' ∙ ap (λ a. column_has (column_of below a) v.counter) own ∙ column_has-above (column_of below s.id) v.counter high))
-              | inr here ↦ ltb-false s.issued v.counter here
-            ]
+    line_no_later = grind (arith, or_parts, ltb-false, own_late, eq-eqb, cases_Bool, ltb-true, column_has-above)
 
     -- what was known is known still, and the told version too
     told_still : (i v : Name) → form.known s.knowledge i v ≡ true → form.known k i v ≡ true

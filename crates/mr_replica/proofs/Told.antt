@@ -1,5 +1,5 @@
 -- what comes of a version that a record tells of
-use Rattle.std.proofs.Common.{◌≡◌, ◌↔◌, IsErrOf, Bool, true, false, if◌then◌else◌, refl, sym, ap, subst, ◌∙◌, [], ◌∷◌, Option, Some, None, IfSome, Result, Ok, inl, inr}
+use Rattle.std.proofs.Common.{◌≡◌, ◌↔◌, IsErrOf, Bool, false, if◌then◌else◌, refl, sym, subst, ◌∙◌, [], ◌∷◌, Option, Some, None, IfSome, Result, Ok, inl, inr, arith}
 use Rattle.std.specs.List.{All}
 use Rattle.std.proofs.lemmas.Bool.{or_parts}
 use Rattle.std.proofs.lemmas.List.Elements.{All-nil, All-cons}
@@ -11,11 +11,10 @@ use Rattle.mr_concise.specs.Vector.{vector_has}
 use Rattle.mr_madewith.specs.Revision.{Rev}
 use Rattle.mr_wire.specs.Values.{DescentParts}
 use Rattle.mr_wire.specs.declared.frame.Body.{Body}
-use Rattle.mr_wire.specs.declared.frame.Body.TheVariants.{Start, Item, MoveOut, Held, Know, End}
 use Rattle.mr_replica.specs.State.{State, held}
 use Rattle.mr_replica.specs.inner.Sound.{IsSound}
 use Rattle.mr_replica.specs.Forged.{line_of, is_early_line, is_misfiled, is_forged}
-use Rattle.mr_replica.specs.Issue.{Wanted.Knowledge, Fits, is_selected}
+use Rattle.mr_replica.specs.Issue.{Wanted.Knowledge, Fits}
 use Rattle.mr_replica.specs.Receive.{line_learned, wanted_by_line, entering}
 use Rattle.mr_replica.specs.inner.Taking.{told_line, told_by}
 use Rattle.mr_replica.proofs.Choice.{some_same}
@@ -25,41 +24,22 @@ use Rattle.mr_replica.proofs.Taking.{not_held_yet}
 
 module _ {K : Type 0} (s : State K) where
   pub told_not_early : (body : Body) (line : DescentParts) → told_line body ≡ Some line → is_forged s body ≡ false → is_early_line s line ≡ false
-  told_not_early (Item r) line told sure = ap (is_early_line s) (sym (some_same (line_of r) line told)) ∙ (or_parts (is_early_line s (line_of r)) (is_misfiled s r.item r.version) sure).0
-  told_not_early (MoveOut l) line told sure = ap (is_early_line s) (sym (some_same l line told)) ∙ sure
-  told_not_early (Start mode) line told sure = cc
-  told_not_early (Held vector) line told sure = cc
-  told_not_early (Know piece) line told sure = cc
-  told_not_early End line told sure = cc
+  told_not_early body line told sure = grind (arith, some_same, or_parts)
 
   -- the one that comes is the Item's revision
   comes_if : (b : Bool) (r q : Rev) → (if b then Some r else None) ≡ Some q → r ≡ q
-  comes_if true r q is = some_same r q is
-  comes_if false r q is = cc
+  comes_if b r q is = grind (arith, some_same)
 
   pub comer_told : (body : Body) (r : Rev) (line : DescentParts) → entering s body ≡ Some r → told_line body ≡ Some line → line_of r ≡ line
-  comer_told (Item q) r line comes told = ap line_of (sym (comes_if (is_selected s q) q r comes)) ∙ some_same (line_of q) line told
-  comer_told (MoveOut l) r line comes told = cc
-  comer_told (Start mode) r line comes told = cc
-  comer_told (Held vector) r line comes told = cc
-  comer_told (Know piece) r line comes told = cc
-  comer_told End r line comes told = cc
+  comer_told body r line comes told = grind (arith, comes_if, some_same)
 
   pub comer_filed : (body : Body) (r : Rev) → entering s body ≡ Some r → is_forged s body ≡ false → is_misfiled s r.item r.version ≡ false
-  comer_filed (Item q) r comes sure = ap (λ (x : Rev). is_misfiled s x.item x.version) (sym (comes_if (is_selected s q) q r comes)) ∙ (or_parts (is_early_line s (line_of q)) (is_misfiled s q.item q.version) sure).1
-  comer_filed (MoveOut l) r comes sure = cc
-  comer_filed (Start mode) r comes sure = cc
-  comer_filed (Held vector) r comes sure = cc
-  comer_filed (Know piece) r comes sure = cc
-  comer_filed End r comes sure = cc
+  comer_filed body r comes sure = grind (arith, comes_if, or_parts)
 
 -- the one that comes is not held yet
 pub comer_new : {K : Type 0} (form : Form K) (s : State K) (sound : IsSound form s) (item version : Name) (body : Body) → told_line body ≡ Some (told_by item version body) → form.known s.knowledge item version ≡ false
     → is_forged s body ≡ false → (comer : Option Rev) → comer ≡ entering s body → IfSome comer (λ r. held s r.version ≡ None)
-comer_new form s sound item version body told unknown sure None is = tt
-comer_new form s sound item version body told unknown sure (Some r) is =
-    let of_line : line_of r ≡ told_by item version body = comer_told s body r (told_by item version body) (sym is) told in
-    not_held_yet form s r.item r.version sound (ap (λ (l : DescentParts). form.known s.knowledge l.item l.version) of_line ∙ unknown) (comer_filed s body r (sym is) sure)
+comer_new form s sound item version body told unknown sure comer is = grind (arith, comer_told, not_held_yet, comer_filed)
 
 -- ---- what is wanted
 

@@ -23,20 +23,14 @@ beginning : (f g : List Name) (v w : Name) (b c : List Name) → f ++ v ∷ b �
 beginning [] [] v w b c same less = absurd (omega arith)
 beginning [] (y ∷ g) v w b c same less = ap (λ (x : Name). x ∷ []) (sym (ap (λ (l : List Name). head_of l v) same))
 beginning (x ∷ f) [] v w b c same less = absurd (omega arith)
-beginning (x ∷ f) (y ∷ g) v w b c same less =
-    let first : x ≡ y = ap (λ (l : List Name). head_of l x) same in
-    let rest = beginning f g v w b c (ap tail_of same) (omega arith) in
-    λ i. sym first i ∷ rest i
+beginning (x ∷ f) (y ∷ g) v w b c same less = grind (arith, beginning f g v w b c)
 
 -- fronts of one length are one, and so is what follows
 same_front : (f g : List Name) (v w : Name) (b c : List Name) → f ++ v ∷ b ≡ g ++ w ∷ c → length f ≡ length g → (f ≡ g) × ((v ∷ b) ≡ (w ∷ c))
 same_front [] [] v w b c same len = (refl, same)
 same_front [] (y ∷ g) v w b c same len = absurd (omega arith)
 same_front (x ∷ f) [] v w b c same len = absurd (omega arith)
-same_front (x ∷ f) (y ∷ g) v w b c same len =
-    let first : x ≡ y = ap (λ (l : List Name). head_of l x) same in
-    let rest = same_front f g v w b c (ap tail_of same) (omega arith) in
-    (λ i. first i ∷ rest.0 i, rest.1)
+same_front (x ∷ f) (y ∷ g) v w b c same len = grind (arith, same_front f g v w b c)
 
 -- the whole is longer than a front, which it begins with
 whole_begins : (whole f : List Name) (v : Name) (b : List Name) → whole ≡ f ++ v ∷ b → take (suc (length f)) whole ≡ f ++ v ∷ []
@@ -65,8 +59,7 @@ same_length f g v w b c same fit_f fit_g full_f full_g =
 -- ---- there is one cut
 
 vector_one : (versions : List Name) (a b : List AuthorColumn) → HasJust versions a → HasJust versions b → a ≡ b
-vector_one versions a b h k =
-    vectors_same a b h.vector_of.columns_ok k.vector_of.columns_ok (λ v. h.vector_of.has v ∙ sym (k.vector_of.has v))
+vector_one versions a b h k = grind (arith, vectors_same)
 
 pub cut_unique : (versions : List Name) (xs ys : List (List AuthorColumn)) → AreCut versions xs → AreCut versions ys → xs ≡ ys
 cut_unique versions [] ys h k = absurd h

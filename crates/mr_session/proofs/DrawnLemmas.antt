@@ -1,5 +1,5 @@
 -- A draw has one result, and looks at the held revisions alone.
-use Rattle.std.proofs.Common.{◌≡◌, ◌+◌, ◌==◌, ℕ, Bool, true, false, if◌then◌else◌, List, [], ◌∷◌, map, Option, Some, None, Result, sym, ap, subst, ◌∙◌}
+use Rattle.std.proofs.Common.{◌≡◌, ◌==◌, ℕ, Bool, if◌then◌else◌, List, [], ◌∷◌, map, Option, Some, None, Result, sym, ap, subst, ◌∙◌, arith}
 use Rattle.std.specs.Result.{IfOk}
 use Rattle.std.proofs.lemmas.Result.{IfOk-weaker}
 use Rattle.mr_concise.specs.declared.vector.AuthorColumn.{AuthorColumn}
@@ -9,12 +9,11 @@ use Rattle.mr_store.specs.Revisions.{version_of}
 use Rattle.mr_wire.specs.Values.{Piece}
 use Rattle.mr_wire.specs.Frames.{Sent}
 use Rattle.mr_wire.specs.declared.frame.Mode.{Mode}
-use Rattle.mr_wire.specs.declared.frame.Mode.TheVariants.{Full, Partial}
 use Rattle.mr_wire.specs.declared.frame.Body.{Body}
 use Rattle.mr_wire.specs.declared.frame.Body.TheVariants.{Held}
 use Rattle.mr_session.specs.Held.{AreCut}
 use Rattle.mr_session.specs.Table.{Table, with_closed, with_changed}
-use Rattle.mr_session.specs.Stream.{Stream, due, DrawsFirstHeld, DrawsAfterWalk, DrawsWalk, DrawsKnow, DrawsRest, DrawsAt, Draws, is_end, GivesIn, IsOnlyDraw}
+use Rattle.mr_session.specs.Stream.{Stream, DrawsFirstHeld, DrawsAfterWalk, DrawsWalk, DrawsKnow, DrawsRest, DrawsAt, Draws, is_end, GivesIn, IsOnlyDraw}
 use Rattle.mr_session.specs.Onward.{advanced}
 use Rattle.mr_session.specs.declared.outgoing.onward.Prepared.{Prepared}
 use Rattle.mr_session.proofs.CutLemmas.{cut_unique}
@@ -46,25 +45,19 @@ module _ (s : Stream) (h : Holdings) (a b : Body) (x y : Stream) where
       (is_too ∙ ap (λ (u : List AuthorColumn). Held u) first ∙ sym is, new_too ∙ ap (λ (us : List (List AuthorColumn)). record s { held = Some us }) others ∙ sym new)
 
   one_after_walk : (mode : Mode) → DrawsAfterWalk mode s h a x → DrawsAfterWalk mode s h b y → AreOne a b x y
-  one_after_walk Full d e = one_first_held d e
-  one_after_walk Partial d e = both_are a b _ x y _ d e
+  one_after_walk mode d e = grind (arith, one_first_held, both_are)
 
   one_walk : (r : Option Rev) → DrawsWalk r s h a x → DrawsWalk r s h b y → AreOne a b x y
-  one_walk (Some r) d e = both_are a b _ x y _ d e
-  one_walk None d e = one_after_walk s.mode d e
+  one_walk r d e = grind (arith, both_are, one_after_walk)
 
   one_know : (know : List Piece) → DrawsKnow know s a x → DrawsKnow know s b y → AreOne a b x y
-  one_know [] d e = both_are a b _ x y _ d e
-  one_know (f ∷ fs) d e = both_are a b _ x y _ d e
+  one_know know d e = grind (arith, both_are)
 
   one_rest : (held : Option (List (List AuthorColumn))) → DrawsRest held s h a x → DrawsRest held s h b y → AreOne a b x y
-  one_rest None d e = one_walk (due s.asked s.past h.heads h.push_outs) d e
-  one_rest (Some []) d e = one_know s.know d e
-  one_rest (Some (v ∷ vs)) d e = both_are a b _ x y _ d e
+  one_rest held d e = grind (arith, one_walk, one_know, both_are)
 
   one_at : (begins : Bool) → DrawsAt begins s h a x → DrawsAt begins s h b y → AreOne a b x y
-  one_at true d e = both_are a b _ x y _ d e
-  one_at false d e = one_rest s.held d e
+  one_at begins d e = grind (arith, both_are, one_rest)
 
   pub draws_unique : Draws s h a x → Draws s h b y → (b ≡ a) × (y ≡ x)
   draws_unique d e = one_at (s.next == 0) d e
@@ -78,14 +71,7 @@ abbrev table_after : Table Stream → (number : ℕ) → Sent → Stream → Tab
 table_after table number sent left = if is_end sent.body then with_closed table number else with_changed number (λ _. left) table
 
 pub gives_unique : (source number : ℕ) (table : Table Stream) (h : Holdings) (a b : Sent) (x y : Table Stream) → GivesIn source number table h a x → GivesIn source number table h b y → (b ≡ a) × (y ≡ x)
-gives_unique source number table h a b x y (s, left, found, (core, draws, header, next), new) (t, left_too, found_too, (core_too, draws_too, header_too, next_too), new_too) =
-    let stream : t ≡ s = ap (λ (o : Option Stream). some_value o t) (sym found_too ∙ found) in
-    let header_too_s : b.header ≡ a.header = header_too ∙ ap (λ (u : Stream). record { source = source; stream = number; target = u.asked.target; session = u.asked.session; index = u.next }) stream ∙ sym header in
-    let draws_s : Draws s h b.body core_too = subst (λ (u : Stream). Draws u h b.body core_too) stream draws_too in
-    let one = draws_unique s h a.body b.body core core_too draws draws_s in
-    let sent : b ≡ a = λ i. record { header = header_too_s i; body = one.0 i } in
-    let after : left_too ≡ left = next_too ∙ (λ i. record (one.1 i) { next = (stream i).next + 1 }) ∙ sym next in
-    (sent, new_too ∙ (λ i. table_after table number (sent i) (after i)) ∙ sym new)
+gives_unique source number table h a b x y k i = grind (arith, draws_unique)
 
 -- so what was prepared is the only draw
 pub only_draw : {E : Type 0} (source number : ℕ) (table : Table Stream) (h : Holdings) (prepared : Result Prepared E) → IfOk prepared (λ p. GivesIn source number table h p.record (advanced number p.onward table))
@@ -101,26 +87,19 @@ module _ (s : Stream) (h g : Holdings) (body : Body) (x : Stream) (heads : h.hea
   same_first_held (v, vs, cut, is, new) = (v, vs, subst (λ (rs : List Rev). AreCut (map version_of rs) (v ∷ vs)) heads cut, is, new)
 
   same_after_walk : (mode : Mode) → DrawsAfterWalk mode s h body x → DrawsAfterWalk mode s g body x
-  same_after_walk Full d = same_first_held d
-  same_after_walk Partial d = d
+  same_after_walk mode d = grind (arith, same_first_held)
 
   same_walk : (r : Option Rev) → DrawsWalk r s h body x → DrawsWalk r s g body x
-  same_walk (Some r) d = d
-  same_walk None d = same_after_walk s.mode d
+  same_walk r d = grind (arith, same_after_walk)
 
   same_rest : (held : Option (List (List AuthorColumn))) → DrawsRest held s h body x → DrawsRest held s g body x
-  same_rest None d =
-      subst (λ (r : Option Rev). DrawsWalk r s g body x) (λ i. due s.asked s.past (heads i) (push_outs i)) (same_walk (due s.asked s.past h.heads h.push_outs) d)
-  same_rest (Some []) d = d
-  same_rest (Some (v ∷ vs)) d = d
+  same_rest held d = grind (arith, same_walk)
 
   same_at : (begins : Bool) → DrawsAt begins s h body x → DrawsAt begins s g body x
-  same_at true d = d
-  same_at false d = same_rest s.held d
+  same_at begins d = grind (arith, same_rest)
 
   pub same_draws : Draws s h body x → Draws s g body x
   same_draws d = same_at (s.next == 0) d
 
 pub same_gives : (source number : ℕ) (table : Table Stream) (h g : Holdings) (sent : Sent) (x : Table Stream) → h.heads ≡ g.heads → h.push_outs ≡ g.push_outs → GivesIn source number table h sent x → GivesIn source number table g sent x
-same_gives source number table h g sent x heads push_outs (s, left, found, (core, draws, header, next), new) =
-    (s, left, found, (core, same_draws s h g sent.body core heads push_outs draws, header, next), new)
+same_gives source number table h g sent x heads push_outs k = grind (arith, same_draws)

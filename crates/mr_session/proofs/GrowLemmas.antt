@@ -39,9 +39,7 @@ pub bound_has : (upto : ℕ) (holes : List Hole) → IsRising 0 (edges (record {
 bound_has upto holes rising some = column_has-edges (record { upto = upto; holes = holes }) upto rising some ∙ bound-on 0 upto holes rising
 
 not_any : (b c : Bool) → (b && not c) ≡ true → c ≡ false
-not_any true true h = cc
-not_any true false h = refl
-not_any false c h = cc
+not_any b c h = grind arith
 
 -- with a higher bound, a column has the counters between as well
 higher : (low upto : ℕ) (holes : List Hole) (k : ℕ) → IsRising 0 (edges (record { upto = low; holes = holes })) → 1 ≤ low → low ≤ upto
@@ -69,11 +67,7 @@ abbrev pub with_run_above : Extent → (first last : ℕ) → Extent
 with_run_above column first last = record { upto = last; holes = column.holes ++ gap (column.upto + 1) (first - 1) }
 
 first_or : (f l k : ℕ) (rest : Bool) → f ≤ l → ((nat_le f k && nat_le k l) || ((k == f) || rest)) ≡ ((nat_le f k && nat_le k l) || rest)
-first_or f l k rest le =
-    elim (cases_eq k f) [
-      | inl same ↦ rw (le-leb f k (omega arith), le-leb k l (omega arith)) refl
-      | inr apart ↦ rw (ne_eqb k f apart) refl
-    ]
+first_or f l k rest le = grind (arith, cases_eq, le-leb, ne_eqb)
 
 pub above_apart : (column : Extent) (first last : ℕ) → IsRising 0 (edges column) → column.upto < first → first ≤ last → IsRising 0 (edges (with_run_above column first last))
 above_apart column first last rising above le =
@@ -116,24 +110,7 @@ column_of-last x (y ∷ ys) below = let l = below.0 in rw (ne_eqb y.author x.aut
 
 -- what the columns have with one more behind them
 pub has_more_column : (x : AuthorColumn) (columns : List AuthorColumn) → AreBelow x.author columns → (w : Name) → vector_has (columns ++ x ∷ []) w ≡ (vector_has columns w || in_column x.author x.column w)
-has_more_column x columns below w =
-    elim (cases_eq x.author w.author) [
-      | inl same ↦
-          let here : column_of (columns ++ x ∷ []) w.author ≡ x.column = subst (λ (q : ℕ). column_of (columns ++ x ∷ []) q ≡ x.column) same (column_of-last x columns below) in
-          let before : column_of columns w.author ≡ record { upto = 0; holes = [] } = subst (λ (q : ℕ). column_of columns q ≡ record { upto = 0; holes = [] }) same (column_of-below columns x.author below) in
-          ap (λ (e : Extent). column_has e w.counter) here
-          ∙ rw (eq-eqb w.author x.author (sym same)) (ap (λ (b : Bool). b || column_has x.column w.counter) (sym (none w.counter) ∙ ap (λ (e : Extent). column_has e w.counter) (sym before)))
-      | inr apart ↦
-          ap (λ (e : Extent). column_has e w.counter) (column_of-more x columns w.author apart)
-          ∙ rw (ne_eqb w.author x.author (λ e. apart (sym e))) (or_false (vector_has columns w))
-    ]
-  where
-    none : (k : ℕ) → column_has (record { upto = 0; holes = [] }) k ≡ false
-    none k = column_has-empty k
-
-    or_false : (b : Bool) → b ≡ (b || false)
-    or_false true = refl
-    or_false false = refl
+has_more_column x columns below w = grind (arith, cases_eq, column_of-last, column_of-below, eq-eqb, column_of-more, ne_eqb, column_has-empty)
 
 -- an empty column adds nothing
 pub last_empty : (columns : List AuthorColumn) (author upto : ℕ) (holes : List Hole) → upto ≤ 0 → IsSame (vector_has columns) (with_last columns author (record { upto = upto; holes = holes }))
@@ -149,18 +126,12 @@ last_empty columns author upto holes none w = adds_none (vector_has columns w) (
     adds_none false false c h = refl
 
 spread : (v a r c : Bool) → (v || (a && (r || c))) ≡ ((a && r) || (v || (a && c)))
-spread true true true c = refl
-spread true true false c = refl
-spread true false r c = refl
-spread false true r c = refl
-spread false false r c = refl
+spread v a r c = grind arith
 
 -- the last column with a run above it
 pub last_more : (columns : List AuthorColumn) (author first last : ℕ) (column : Extent) → IsRising 0 (edges column) → column.upto < first → first ≤ last
     → (w : Name) → with_last columns author (with_run_above column first last) w ≡ (((w.author == author) && (nat_le first w.counter && nat_le w.counter last)) || with_last columns author column w)
-last_more columns author first last column rising above le w =
-    ap (λ (b : Bool). vector_has columns w || ((w.author == author) && b)) (above_has column first last rising above le w.counter)
-    ∙ spread (vector_has columns w) (w.author == author) (nat_le first w.counter && nat_le w.counter last) (column_has column w.counter)
+last_more columns author first last column rising above le w = grind (arith, above_has, spread, nat_le)
 
 -- ---- a list in order fits one by one where it fits as a whole
 
@@ -200,8 +171,7 @@ same_author : (u w : Name) → is_before u w ≡ true → u.author ≡ w.author 
 same_author u w before same = grind (arith, nat_tests)
 
 names_differ : (a : Bool) (k c : ℕ) → (a && (k == c)) ≡ (a && (c == k))
-names_differ false k c = refl
-names_differ true k c = elim (cases_eq k c) [ inl same ↦ rw (eq-eqb k c same, eq-eqb c k (sym same)) refl | inr apart ↦ rw (ne_eqb k c apart, ne_eqb c k (λ e. apart (sym e))) refl ]
+names_differ a k c = grind (arith, cases_eq, eq-eqb, ne_eqb)
 
 -- too many holes stay too many where a version comes behind all
 many_more : (front : List Name) (w : Name) → ((u : Name) → is_listed front u ≡ true → is_before u w ≡ true) → IsVersion w.author w.counter → HasTooManyHoles (is_listed front) → HasTooManyHoles (is_listed (front ++ w ∷ []))

@@ -15,10 +15,7 @@ use Rattle.mr_session.specs.Held.{FitOneByOne, HasJust, IsAsLongAsCanBe, AreCut}
 
 -- a version more of a list is one more of its set
 pub listed_more : (front : List Name) (v w : Name) → is_listed (front ++ v ∷ []) w ≡ (name_eq v w || is_listed front w)
-listed_more front v w =
-    list_any-append (name_eq w) front (v ∷ [])
-    ∙ (ap (λ (b : Bool). is_listed front w || b) (sym (or_nothing (name_eq w v)) ∙ name_eq-symmetric w v)
-    ∙ or_comm (is_listed front w) (name_eq v w))
+listed_more front v w = grind (arith, list_any-append, or_nothing, name_eq-symmetric, or_comm)
 
 -- what has just the versions of a list has few holes
 few_holes : (versions : List Name) (vector : List AuthorColumn) → IsVectorOf (is_listed versions) vector → ¬ HasTooManyHoles (is_listed versions)
@@ -53,22 +50,11 @@ has_one v new few is = record {
 
 -- a vector that has no room for a version more
 pub is_full_at : (front : List Name) (v : Name) (old : List AuthorColumn) → HasJust front old → HasTooManyHoles (with_version (vector_has old) v) → IsAsLongAsCanBe front v
-is_full_at front v old has many = record {
-  author = many.author;
-  author_in = many.author_in;
-  column = many.column;
-  apart = many.apart;
-  in_range = many.in_range;
-  means = λ c.
-      let w : Name = record { author = many.author; counter = c } in
-      many.means c ∙ (ap (λ (b : Bool). name_eq v w || b) (has.vector_of.has w) ∙ sym (listed_more front v w));
-  many = many.many;
-}
+is_full_at front v old has many = grind (arith, listed_more)
 
 -- a full vector, and those that cut what follows
 pub cut_behind : (front back : List Name) (next : Name) (v : List AuthorColumn) (vs : List (List AuthorColumn)) → HasJust front v → IsAsLongAsCanBe front next → AreCut (next ∷ back) vs → AreCut (front ++ next ∷ back) (v ∷ vs)
-cut_behind front back next v [] has full cut = absurd cut
-cut_behind front back next v (w ∷ vs) has full cut = (front, next, back, refl, has, full, cut)
+cut_behind front back next v vs has full cut = grind arith
 
 -- what cuts the front part and the rest cuts, behind the vectors that are done, the whole
 abbrev pub Extends : (whole front rest : List Name) → (done : List (List AuthorColumn)) → Type 0
@@ -79,8 +65,7 @@ module _ (whole front rest : List Name) (v : Name) (done : List (List AuthorColu
   extends_front extends vs cut = extends vs (subst (λ (l : List Name). AreCut l vs) (append_assoc front (v ∷ []) rest) cut)
 
   pub extends_done : Extends whole front (v ∷ rest) done → HasJust front vector → IsAsLongAsCanBe front v → Extends whole (v ∷ []) rest (done ++ vector ∷ [])
-  extends_done extends has full vs cut =
-      subst (λ (l : List (List AuthorColumn)). AreCut whole l) (sym (append_assoc done (vector ∷ []) vs)) (extends (vector ∷ vs) (cut_behind front rest v vector vs has full cut))
+  extends_done extends has full vs cut = grind (arith, append_assoc, cut_behind)
 
 pub extends_whole : (whole front : List Name) (done : List (List AuthorColumn)) (vector : List AuthorColumn) → Extends whole front [] done → HasJust front vector → AreCut whole (done ++ vector ∷ [])
 extends_whole whole front done vector extends has = extends (vector ∷ []) (subst (λ (l : List Name). HasJust l vector) (sym (append-nil front)) has)
@@ -91,10 +76,7 @@ extends_all whole done none vs cut = rw none cut
 
 -- the versions from a place on
 pub versions_from : (rs : List Rev) (k : ℕ) (r : Rev) → k < length rs → r ≡ get_or rs k r → map version_of (drop k rs) ≡ r.version ∷ map version_of (drop (k + 1) rs)
-versions_from rs k r within is =
-    let next : suc k ≡ k + 1 = omega arith in
-    ap (λ (l : List Rev). map version_of l) (drop-cons rs k r within)
-    ∙ (ap (λ (x : Rev). x.version ∷ map version_of (drop (suc k) rs)) (sym is) ∙ ap (λ (n : ℕ). r.version ∷ map version_of (drop n rs)) next)
+versions_from rs k r within is = grind (arith, drop-cons)
 
 pub none_from : (rs : List Rev) (k : ℕ) → length rs ≤ k → map version_of (drop k rs) ≡ []
 none_from [] zero past = refl

@@ -36,10 +36,7 @@ module _ {T : Type 0} where
 
   none_rising : (low bound : ℕ) (ys : List (Numbered T)) → bound ≤ low → RisesFrom low ys → sum_by (below bound) (numbers_of ys) ≡ 0
   none_rising low bound [] le rises = refl
-  none_rising low bound (y ∷ ys) le rises =
-      let here = below_none bound y.number (omega (arith, le, rises.0)) in
-      let rest = none_rising y.number bound ys (omega (arith, le, rises.0)) rises.1 in
-      omega (arith, sum_by-cons (below bound) y.number (numbers_of ys), here, rest)
+  none_rising low bound (y ∷ ys) le rises = grind (arith, none_rising y.number bound ys, below_none, sum_by-cons)
 
   one_list : (low : ℕ) (xs : List ℕ) (ys : List (Numbered T)) → IsNonDecreasing xs → RisesFrom low ys → ((f : ℕ → ℕ) → sum_by f xs ≡ sum_by f (numbers_of ys)) → xs ≡ numbers_of ys
   one_list low [] [] up rises same = refl

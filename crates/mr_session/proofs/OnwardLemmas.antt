@@ -1,5 +1,5 @@
 -- how a table goes on once a stream gave what it had prepared
-use Rattle.std.proofs.Common.{◌≡◌, ◌≤◌, ℕ, zero, suc, Bool, if◌then◌else◌, List, [], ◌∷◌, Option, Some, None, Result, Ok, Err, IfOk, refl, sym, ap, ◌∙◌, inl, inr, arith}
+use Rattle.std.proofs.Common.{◌≡◌, ◌≤◌, ℕ, Bool, if◌then◌else◌, List, [], ◌∷◌, Option, Some, None, Result, Ok, Err, IfOk, refl, sym, ap, ◌∙◌, arith}
 use Rattle.std.proofs.lemmas.Bool.Decides.{eqb_tells}
 use Rattle.mr_store.specs.Holdings.{Holdings}
 use Rattle.mr_session.specs.Table.{Numbered, Table, IsTable, RisesFrom, at, open_at, with_closed, with_changed}
@@ -13,16 +13,11 @@ module _ {T : Type 0} where
   -- nothing is under 0
   at_zero : (low : ℕ) (xs : List (Numbered T)) → RisesFrom low xs → at xs 0 ≡ None
   at_zero low [] rises = refl
-  at_zero low (x ∷ xs) rises =
-      elim (eqb_tells x.number 0) [
-        | inl is ↦ absurd (omega (arith, is.1, rises.0))
-        | inr differs ↦ rw differs.0 (at_zero x.number xs rises.1)
-      ]
+  at_zero low (x ∷ xs) rises = grind (arith, at_zero x.number xs rises.1, eqb_tells)
 
   -- an open number is at least 1
   pub number_from : (n : ℕ) (table : Table T) (v : T) → IsTable table → open_at table n ≡ Some v → 1 ≤ n
-  number_from zero table v kept found = let none = at_zero 0 table.open_ones kept.rising in cc
-  number_from (suc n) table v kept found = omega arith
+  number_from n table v kept found = grind (arith, at_zero)
 
 -- a record that was prepared is drawn, and leaves the table that has gone on
 pub prepared_in : {E : Type 0} (source number : ℕ) (table : Table Stream) (h : Holdings) (prepared : Result Prepared E) (s : Stream) → open_at table number ≡ Some s → IfOk prepared (λ p. Gives source number s h p.record (after_given p.onward s))

@@ -27,18 +27,10 @@ abbrev IsPast : (v : Name) → ℕ → (w : Name) → Type 0
 IsPast v k w = (v.author < w.author) ⊎ ((w.author ≡ v.author) × (v.counter + k ≤ w.counter))
 
 past_next : (v w : Name) → is_before v w ≡ true → IsPast v 1 w
-past_next v w before =
-    elim (cases_order v.author w.author) [
-      | inl same ↦ inr (sym same, (let h : v.counter + 1 ≤ w.counter = grind (arith, nat_tests) in h))
-      | inr (inl less) ↦ inl less
-      | inr (inr more) ↦ absurd (grind (arith, nat_tests))
-    ]
+past_next v w before = grind (arith, cases_order, nat_tests)
 
 past_more : (v w x : Name) (j k : ℕ) → IsPast v j w → IsPast w k x → IsPast v (j + k) x
-past_more v w x j k (inl less) (inl more) = inl (omega arith)
-past_more v w x j k (inl less) (inr same) = let e = same.0 in inl (omega arith)
-past_more v w x j k (inr same) (inl more) = let e = same.0 in inl (omega arith)
-past_more v w x j k (inr one) (inr two) = let e = one.0 in let f = two.0 in let g = one.1 in let h = two.1 in inr (omega arith, omega arith)
+past_more v w x j k h i = grind arith
 
 past_at : (x : Rev) (xs : List Rev) → AreInVersionOrder (x ∷ xs) → (k : ℕ) (d : Rev) → k < length (x ∷ xs) → IsPast x.version k (get_or (x ∷ xs) k d).version
 past_at x xs rising zero d within = inr (refl, omega arith)
@@ -58,16 +50,7 @@ past_between (x ∷ xs) rising (suc i) k d within =
     subst (λ (n : ℕ). IsPast (get_or xs i d).version k (get_or (x ∷ xs) n d).version) one (past_between xs (tail_rises version_of x xs rising) i k d (omega (arith, within)))
 
 counters_meet : (first w last : Name) (k p : ℕ) → k ≤ p → IsPast first k w → IsPast w (p - k) last → last ≡ counter_on first p → w ≡ counter_on first k
-counters_meet first w last k p le (inl less) (inl more) at = let a : last.author ≡ first.author = ap (λ (v : Name). v.author) at in absurd (omega arith)
-counters_meet first w last k p le (inl less) (inr same) at = let a : last.author ≡ first.author = ap (λ (v : Name). v.author) at in let e = same.0 in absurd (omega arith)
-counters_meet first w last k p le (inr same) (inl more) at = let a : last.author ≡ first.author = ap (λ (v : Name). v.author) at in let e = same.0 in absurd (omega arith)
-counters_meet first w last k p le (inr one) (inr two) at =
-    let c : last.counter ≡ first.counter + p = ap (λ (v : Name). v.counter) at in
-    let low = one.1 in
-    let high = two.1 in
-    let counter : w.counter ≡ first.counter + k = omega arith in
-    let author = one.0 in
-    λ i. record { author = author i; counter = counter i }
+counters_meet first w last k p le h i at = grind arith
 
 -- where a revision is as many counters behind the first one as places, all before it are
 pub row_up_to : (rs : List Rev) (first : Name) (p : ℕ) → AreInVersionOrder rs → p < length rs → ((d : Rev) → (get_or rs 0 d).version ≡ first) → ((d : Rev) → (get_or rs p d).version ≡ counter_on first p) → IsRow first (p + 1) rs
@@ -96,42 +79,12 @@ abbrev pub in_range : Name → ℕ → Name → Bool
 in_range v n w = (w.author == v.author) && (nat_le v.counter w.counter && nat_le w.counter (v.counter + n))
 
 range_more : (a : Bool) (c k n : ℕ) → ((a && (nat_le c k && nat_le k (c + n))) || ((a && (k == (c + suc n))) || false)) ≡ (a && (nat_le c k && nat_le k (c + suc n)))
-range_more false c k n = refl
-range_more true c k n =
-    elim (cases_order k (c + suc n)) [
-      | inl same ↦ rw (lt-leb k (c + n) (omega arith), eq-eqb k (c + suc n) same, le-leb c k (omega arith), le-leb k (c + suc n) (omega arith)) refl
-      | inr (inl less) ↦ rw (le-leb k (c + n) (omega arith), le-leb k (c + suc n) (omega arith), ne_eqb k (c + suc n) (λ e. omega arith)) (shown (nat_le c k))
-      | inr (inr more) ↦ rw (lt-leb k (c + n) (omega arith), lt-leb k (c + suc n) (omega arith), ne_eqb k (c + suc n) (λ e. omega arith)) (hidden (nat_le c k))
-    ]
-  where
-    shown : (b : Bool) → ((b && true) || false) ≡ (b && true)
-    shown true = refl
-    shown false = refl
-
-    hidden : (b : Bool) → ((b && false) || false) ≡ (b && false)
-    hidden true = refl
-    hidden false = refl
+range_more a c k n = grind (arith, cases_order, lt-leb, eq-eqb, le-leb, ne_eqb, nat_le)
 
 -- the versions of a row are those of a run
 pub listed_row : (v : Name) (n : ℕ) (w : Name) → is_listed (in_row v (suc n)) w ≡ in_range v n w
-listed_row v zero w =
-    let c : v.counter + 0 ≡ v.counter = omega arith in
-    ap (λ (b : Bool). b || false) (name_eq_parts w (counter_on v 0))
-    ∙ (ap (λ (n : ℕ). ((w.author == v.author) && (w.counter == n)) || false) c
-    ∙ (one (w.author == v.author) w.counter v.counter ∙ ap (λ (n : ℕ). (w.author == v.author) && (nat_le v.counter w.counter && nat_le w.counter n)) (sym c)))
-  where
-    one : (a : Bool) (k c : ℕ) → ((a && (k == c)) || false) ≡ (a && (nat_le c k && nat_le k c))
-    one false k c = refl
-    one true k c =
-        elim (cases_order k c) [
-          | inl same ↦ rw (eq-eqb k c same, le-leb c k (omega arith), le-leb k c (omega arith)) refl
-          | inr (inl less) ↦ rw (ne_eqb k c (λ e. omega arith), lt-leb c k less) refl
-          | inr (inr more) ↦ rw (ne_eqb k c (λ e. omega arith), lt-leb k c more, le-leb c k (omega arith)) refl
-        ]
-listed_row v (suc n) w =
-    list_any-append (name_eq w) (in_row v (suc n)) (counter_on v (suc n) ∷ [])
-    ∙ ((λ i. listed_row v n w i || (name_eq_parts w (counter_on v (suc n)) i || false))
-    ∙ range_more (w.author == v.author) v.counter w.counter n)
+listed_row v zero w = grind (arith, name_eq_parts, nat_le, cases_order, eq-eqb, le-leb, ne_eqb, lt-leb)
+listed_row v (suc n) w = grind (arith, listed_row v n w, list_any-append, name_eq_parts, range_more)
 
 -- ---- what follows a row
 
@@ -161,8 +114,7 @@ next_above rs first n d rising some within row v vs at =
 
 -- the versions from the first on
 pub names_from : (rs : List Rev) (first : Rev) → slice_get rs 0 ≡ Some first → map version_of rs ≡ first.version ∷ map version_of (drop 1 rs)
-names_from [] first at = absurd (cc)
-names_from (x ∷ xs) first at = let same : x ≡ first = cc in λ i. version_of (same i) ∷ map version_of xs
+names_from rs first at = grind arith
 
 -- a revision that is found as many counters on as places
 pub found_on : (rs : List Rev) (first : Name) (p : ℕ) (r : Rev) → p < length rs → r ≡ get_or rs p r → name_eq r.version (counter_on first p) ≡ true → (d : Rev) → (get_or rs p d).version ≡ counter_on first p

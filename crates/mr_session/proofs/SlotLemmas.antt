@@ -28,16 +28,8 @@ module _ {T : Type 0} where
   not_none [] n key entry there is none = absurd (cc)
   not_none (None ∷ slots) n zero entry there is none = absurd (cc)
   not_none (None ∷ slots) n (suc key) entry there is none = not_none slots n key entry there is none
-  not_none (Some first ∷ slots) n zero entry there is none =
-      elim (eqb_tells first.number n) [
-        | inl same ↦ let none' = rw same.0 at none in absurd (cc)
-        | inr differs ↦ let e : first ≡ entry = cc in absurd (differs.1 (ap (λ (x : Entry T). x.number) e ∙ is))
-      ]
-  not_none (Some first ∷ slots) n (suc key) entry there is none =
-      elim (eqb_tells first.number n) [
-        | inl same ↦ let none' = rw same.0 at none in absurd (cc)
-        | inr differs ↦ not_none slots n key entry there is (rw differs.0 at none)
-      ]
+  not_none (Some first ∷ slots) n zero entry there is none = grind (arith, eqb_tells)
+  not_none (Some first ∷ slots) n (suc key) entry there is none = grind (arith, not_none slots n key entry there is, eqb_tells)
 
   -- what a slab has under a number: an entry with the value, or none
   abbrev pub IsUnder : Slab (Entry T) → ℕ → Option T → Type 0
@@ -45,11 +37,7 @@ module _ {T : Type 0} where
   IsUnder s n (Some v) = HasValue s.slots n v
 
   pub under : (s : Slab (Entry T)) (n : ℕ) → IsUnder s n (value_at s n)
-  under s n = by_value (value_at s n) refl
-    where
-      by_value : (o : Option T) → value_at s n ≡ o → IsUnder s n o
-      by_value None is = λ key has. not_none s.slots n key has.0 has.1 has.2 is
-      by_value (Some v) is = has_found s.slots n v is
+  under s n = grind (arith, not_none, has_found)
 
   -- where no number stands twice there is only one such answer
   pub only : (s : Slab (Entry T)) (n : ℕ) (o : Option T) → AreOnce s → IsUnder s n o → value_at s n ≡ o

@@ -1,5 +1,5 @@
 -- A vector that grows by the runs of a list of revisions, in order: what is so far, and what each run makes of it.
-use Rattle.std.proofs.Common.{◌≡◌, ◌≤◌, ◌+◌, ◌-◌, ℕ, List, [], ◌∷◌, ◌++◌, map, length, take, drop, Some, None, append_assoc, append-nil, refl, sym, ap, subst, ◌∙◌, arith}
+use Rattle.std.proofs.Common.{◌≡◌, ◌≤◌, ◌+◌, ◌-◌, ℕ, List, [], ◌∷◌, ◌++◌, map, length, take, drop, None, append_assoc, append-nil, refl, sym, ap, subst, ◌∙◌, arith}
 use Rattle.std.specs.List.{slice_get}
 use Rattle.mr_version.specs.Name.{Name}
 use Rattle.mr_forms.specs.declared.run.Run.{Run}
@@ -8,7 +8,7 @@ use Rattle.mr_concise.specs.declared.vector.AuthorColumn.{AuthorColumn}
 use Rattle.mr_concise.specs.declared.column.Hole.{Hole}
 use Rattle.mr_madewith.specs.Revision.{Rev}
 use Rattle.mr_store.specs.Revisions.{AreInVersionOrder, version_of}
-use Rattle.mr_session.proofs.RowLemmas.{in_row, row_names, next_above, names_split, names_from}
+use Rattle.mr_session.proofs.RowLemmas.{in_row, row_names, next_above, names_split}
 use Rattle.mr_session.specs.inner.Held.{extent, with_last, IsRow, IsGrowth, IsAbove, IsBelowFirst, IsTurned, IsExtended}
 use Rattle.mr_session.proofs.GrowingLemmas.{row_listed}
 use Rattle.mr_session.proofs.WalkLemmas.{rest_of, drop_rises}
@@ -33,8 +33,7 @@ begins columns author upto holes rs grown in_order above none = record {
 }
 
 below_first : (author upto : ℕ) (names : List Name) → ((v : Name) (vs : List Name) → names ≡ v ∷ vs → IsAbove author upto v.author v.counter) → IsBelowFirst author upto names
-below_first author upto [] all = tt
-below_first author upto (v ∷ vs) all = all v vs refl
+below_first author upto names all = grind arith
 
 row_and_rest : (rs : List Rev) (v : Name) (n : ℕ) (d : Rev) → n ≤ length rs → IsRow v n rs → in_row v n ++ map version_of (drop n rs) ≡ map version_of rs
 row_and_rest rs v n d within row = ap (λ (l : List Name). l ++ map version_of (drop n rs)) (sym (row_names rs v n d within row)) ∙ sym (names_split n rs)

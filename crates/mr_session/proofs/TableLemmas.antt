@@ -1,6 +1,6 @@
 -- Values under rising numbers. Such a list is told by what is under each number, so each change of it is shown by what
 -- it has under each.
-use Rattle.std.proofs.Common.{◌≡◌, ◌≢◌, ◌⊎◌, ◌≤◌, ◌<◌, ◌==◌, ℕ, suc, Bool, true, false, not, nat_lt, if◌then◌else◌, List, [], ◌∷◌, ◌++◌, length, map, filter, Option, Some, None, refl, sym, ap, ◌∙◌, inl, inr, arith}
+use Rattle.std.proofs.Common.{◌≡◌, ◌≢◌, ◌⊎◌, ◌≤◌, ◌<◌, ◌==◌, ℕ, suc, true, false, not, nat_lt, if◌then◌else◌, List, [], ◌∷◌, ◌++◌, length, map, filter, Option, Some, None, refl, sym, ap, ◌∙◌, inl, inr, arith}
 use Rattle.std.specs.Option.{option_map}
 use Rattle.std.proofs.lemmas.Bool.{cases_eq, ltb-true, ltb-false}
 use Rattle.std.proofs.lemmas.Bool.Decides.{eqb_tells}
@@ -9,11 +9,7 @@ use Rattle.mr_session.specs.Slots.{put}
 use Rattle.mr_session.specs.inner.Slots.{with_at}
 
 pub lt_tells : (a b : ℕ) → ((nat_lt a b ≡ true) × (a < b)) ⊎ ((nat_lt a b ≡ false) × (b ≤ a))
-lt_tells a b = by_test (nat_lt a b) refl
-  where
-    by_test : (t : Bool) → nat_lt a b ≡ t → ((nat_lt a b ≡ true) × (a < b)) ⊎ ((nat_lt a b ≡ false) × (b ≤ a))
-    by_test true is = inl (is, ltb-true a b is)
-    by_test false is = inr (is, ltb-false a b is)
+lt_tells a b = grind (arith, ltb-true, ltb-false)
 
 module _ {T : Type 0} where
   at_same : (x : Numbered T) (xs : List (Numbered T)) (n : ℕ) → x.number ≡ n → at (x ∷ xs) n ≡ Some x.value
@@ -25,8 +21,7 @@ module _ {T : Type 0} where
   -- nothing is under a number up to the one from which they rise
   at_below : (low : ℕ) (xs : List (Numbered T)) (n : ℕ) → RisesFrom low xs → n ≤ low → at xs n ≡ None
   at_below low [] n rises under = refl
-  at_below low (x ∷ xs) n rises under =
-      at_other x xs n (λ (same : x.number ≡ n). absurd (omega (arith, rises.0))) ∙ at_below x.number xs n rises.1 (omega (arith, rises.0))
+  at_below low (x ∷ xs) n rises under = grind (arith, at_below x.number xs n rises.1, at_other)
 
   rises_lower : (low high : ℕ) (xs : List (Numbered T)) → low ≤ high → RisesFrom high xs → RisesFrom low xs
   rises_lower low high [] le rises = tt
@@ -70,28 +65,11 @@ module _ {T : Type 0} where
 
   pub at_put : (x : Numbered T) (ys : List (Numbered T)) (n : ℕ) → at (put x ys) n ≡ (if x.number == n then Some x.value else at ys n)
   at_put x [] n = refl
-  at_put x (y ∷ ys) n =
-      elim (lt_tells y.number x.number) [
-        | inl less ↦ rw less.0 (elim (eqb_tells y.number n) [
-          | inl is ↦ elim (eqb_tells x.number n) [
-            | inl both ↦ absurd (omega (arith, less.1, is.1, both.1))
-            | inr differs ↦ rw (is.0, differs.0) refl
-          ]
-          | inr differs ↦ rw differs.0 (at_put x ys n)
-        ])
-        | inr more ↦ rw more.0 refl
-      ]
+  at_put x (y ∷ ys) n = grind (arith, at_put x ys n, lt_tells, eqb_tells)
 
   pub rises_put : (low : ℕ) (x : Numbered T) (ys : List (Numbered T)) → low < x.number → RisesFrom low ys → at ys x.number ≡ None → RisesFrom low (put x ys)
   rises_put low x [] above rises none = (above, tt)
-  rises_put low x (y ∷ ys) above rises none =
-      elim (lt_tells y.number x.number) [
-        | inl less ↦ rw less.0 (rises.0, rises_put y.number x ys less.1 rises.1 (sym (at_other y ys x.number differ) ∙ none))
-        | inr more ↦ rw more.0 (above, ((let apart = differ in omega (arith, more.1, apart)), rises.1))
-      ]
-    where
-      differ : y.number ≢ x.number
-      differ is = let here = at_same y ys x.number is in cc
+  rises_put low x (y ∷ ys) above rises none = grind (arith, rises_put y.number x ys, lt_tells, at_other, at_same)
 
   pub length-put : (x : Numbered T) (ys : List (Numbered T)) → length (put x ys) ≡ suc (length ys)
   length-put x [] = refl
@@ -112,47 +90,27 @@ module _ {T : Type 0} where
 
   others_other : (n m : ℕ) (xs : List (Numbered T)) → n ≢ m → at (others n xs) m ≡ at xs m
   others_other n m [] differ = refl
-  others_other n m (x ∷ xs) differ =
-      elim (eqb_tells x.number n) [
-        | inl is ↦ rw is.0 (others_other n m xs differ ∙ sym (at_other x xs m (λ e. differ (sym is.1 ∙ e))))
-        | inr differs ↦ rw differs.0 (ap (λ (o : Option T). if x.number == m then Some x.value else o) (others_other n m xs differ))
-      ]
+  others_other n m (x ∷ xs) differ = grind (arith, others_other n m xs differ, eqb_tells, at_other)
 
   pub at-others : (n : ℕ) (xs : List (Numbered T)) (m : ℕ) → with_at n None (at xs) m ≡ at (others n xs) m
-  at-others n xs m =
-      elim (eqb_tells n m) [
-        | inl is ↦ rw is.0 (sym (ap (at (others n xs)) (sym is.1) ∙ others_same n xs))
-        | inr differs ↦ rw differs.0 (sym (others_other n m xs differs.1))
-      ]
+  at-others n xs m = grind (arith, eqb_tells, others_same, others_other)
 
   pub rises-others : (low n : ℕ) (xs : List (Numbered T)) → RisesFrom low xs → RisesFrom low (others n xs)
   rises-others low n [] rises = tt
-  rises-others low n (x ∷ xs) rises =
-      elim (eqb_tells x.number n) [
-        | inl is ↦ rw is.0 (rises_lower low x.number (others n xs) (omega (arith, rises.0)) (rises-others x.number n xs rises.1))
-        | inr differs ↦ rw differs.0 (rises.0, rises-others x.number n xs rises.1)
-      ]
+  rises-others low n (x ∷ xs) rises = grind (arith, rises-others x.number n xs rises.1, eqb_tells, rises_lower)
 
   -- ---- one more, behind the others
 
   behind_same : (x : Numbered T) (xs : List (Numbered T)) → at xs x.number ≡ None → at (xs ++ x ∷ []) x.number ≡ Some x.value
   behind_same x [] none = at_same x [] x.number refl
-  behind_same x (y ∷ ys) none =
-      elim (eqb_tells y.number x.number) [
-        | inl is ↦ let here = rw is.0 at none in absurd (cc)
-        | inr differs ↦ rw differs.0 (behind_same x ys (rw differs.0 at none))
-      ]
+  behind_same x (y ∷ ys) none = grind (arith, behind_same x ys, eqb_tells)
 
   behind_other : (x : Numbered T) (xs : List (Numbered T)) (m : ℕ) → x.number ≢ m → at (xs ++ x ∷ []) m ≡ at xs m
   behind_other x [] m differ = at_other x [] m differ
   behind_other x (y ∷ ys) m differ = ap (λ (o : Option T). if y.number == m then Some y.value else o) (behind_other x ys m differ)
 
   pub at-behind : (x : Numbered T) (xs : List (Numbered T)) → at xs x.number ≡ None → (m : ℕ) → with_at x.number (Some x.value) (at xs) m ≡ at (xs ++ x ∷ []) m
-  at-behind x xs none m =
-      elim (eqb_tells x.number m) [
-        | inl is ↦ rw is.0 (sym (ap (at (xs ++ x ∷ [])) (sym is.1) ∙ behind_same x xs none))
-        | inr differs ↦ rw differs.0 (sym (behind_other x xs m differs.1))
-      ]
+  at-behind x xs h m = grind (arith, eqb_tells, behind_same, behind_other)
 
   pub rises-behind : (low last : ℕ) (x : Numbered T) (xs : List (Numbered T)) → RisesFrom low xs → AreNumberedTo last xs → low < x.number → last < x.number → RisesFrom low (xs ++ x ∷ [])
   rises-behind low last x [] rises are above beyond = (above, tt)
@@ -165,26 +123,14 @@ module _ {T : Type 0} where
 
   changed_same : (n : ℕ) (change : T → T) (xs : List (Numbered T)) → at (map (changed n change) xs) n ≡ option_map change (at xs n)
   changed_same n change [] = refl
-  changed_same n change (x ∷ xs) =
-      elim (eqb_tells x.number n) [
-        | inl is ↦ rw is.0 (at_same (record { number = n; value = change x.value }) (map (changed n change) xs) n refl)
-        | inr differs ↦ rw differs.0 (rw differs.0 (changed_same n change xs))
-      ]
+  changed_same n change (x ∷ xs) = grind (arith, changed_same n change xs, eqb_tells, at_same)
 
   changed_other : (n m : ℕ) (change : T → T) (xs : List (Numbered T)) → n ≢ m → at (map (changed n change) xs) m ≡ at xs m
   changed_other n m change [] differ = refl
-  changed_other n m change (x ∷ xs) differ =
-      elim (eqb_tells x.number n) [
-        | inl is ↦ rw is.0 (at_other (record { number = n; value = change x.value }) (map (changed n change) xs) m differ ∙ (changed_other n m change xs differ ∙ sym (at_other x xs m (λ e. differ (sym is.1 ∙ e)))))
-        | inr differs ↦ rw differs.0 (ap (λ (o : Option T). if x.number == m then Some x.value else o) (changed_other n m change xs differ))
-      ]
+  changed_other n m change (x ∷ xs) differ = grind (arith, changed_other n m change xs differ, eqb_tells, at_other)
 
   pub at-changed : (n : ℕ) (change : T → T) (xs : List (Numbered T)) (m : ℕ) → with_at n (option_map change (at xs n)) (at xs) m ≡ at (map (changed n change) xs) m
-  at-changed n change xs m =
-      elim (eqb_tells n m) [
-        | inl is ↦ rw is.0 (sym (ap (at (map (changed n change) xs)) (sym is.1) ∙ changed_same n change xs))
-        | inr differs ↦ rw differs.0 (sym (changed_other n m change xs differs.1))
-      ]
+  at-changed n change xs m = grind (arith, eqb_tells, changed_same, changed_other)
 
   pub rises-changed : (low n : ℕ) (change : T → T) (xs : List (Numbered T)) → RisesFrom low xs → RisesFrom low (map (changed n change) xs)
   rises-changed low n change [] rises = tt
@@ -200,19 +146,13 @@ module _ {T : Type 0} where
   -- to change a value into itself changes nothing
   pub changed_itself : (n : ℕ) (xs : List (Numbered T)) → map (changed n (λ x. x)) xs ≡ xs
   changed_itself n [] = refl
-  changed_itself n (x ∷ xs) =
-      elim (eqb_tells x.number n) [
-        | inl is ↦ rw is.0 (λ i. (record { number = sym is.1 i; value = x.value }) ∷ changed_itself n xs i)
-        | inr differs ↦ rw differs.0 (ap (λ (l : List (Numbered T)). x ∷ l) (changed_itself n xs))
-      ]
+  changed_itself n (x ∷ xs) = grind (arith, changed_itself n xs, eqb_tells)
 
   -- a table in which what is open under a number has become another value
   module _ (table new : Table T) (n : ℕ) (before after : T) (is : IsTable table) (found : open_at table n ≡ Some before) (becomes : new ≡ with_changed n (λ _. after) table) where
     -- it is changed by a function that does that
     pub changed_by : (change : T → T) → after ≡ change before → new ≡ with_changed n change table
-    changed_by change same =
-        let ones = same_change n (λ _. after) change before table.open_ones is.rising found same in
-        becomes ∙ (λ i. record table { open_ones = ones i })
+    changed_by change same = grind (arith, same_change)
 
     -- where the value is the same nothing has changed
     pub unchanged : after ≡ before → new ≡ table

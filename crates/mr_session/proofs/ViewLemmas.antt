@@ -1,5 +1,5 @@
 -- A slab's values by rising number: a table's slots, as contracts see them.
-use Rattle.std.proofs.Common.{IsSome, Result, Ok, Err, OnOk, OnErr, ◌≡◌, ◌≤◌, ◌<◌, ◌+◌, ◌==◌, ℕ, zero, suc, if◌then◌else◌, List, [], ◌∷◌, ◌++◌, length, map, get_or, Option, Some, None, is_some, count_by, cond, true, false, refl, sym, ap, ◌∙◌, inl, inr, arith}
+use Rattle.std.proofs.Common.{IsSome, Result, OnOk, OnErr, ◌≡◌, ◌≤◌, ◌<◌, ◌+◌, ◌==◌, ℕ, zero, suc, if◌then◌else◌, List, [], ◌∷◌, ◌++◌, length, map, get_or, Option, Some, None, is_some, count_by, cond, true, false, refl, sym, ap, ◌∙◌, inl, inr, arith}
 use Rattle.std.specs.Option.{option_map}
 use Rattle.std.proofs.lemmas.Bool.Decides.{eqb_tells}
 use Rattle.std.proofs.lemmas.List.Sums.{sum_by-cons}
@@ -18,9 +18,7 @@ module _ {T : Type 0} where
   pub at-by_number : (slots : List (Option (Entry T))) (n : ℕ) → at (by_number slots) n ≡ value_in slots n
   at-by_number [] n = refl
   at-by_number (None ∷ slots) n = at-by_number slots n
-  at-by_number (Some entry ∷ slots) n =
-      at_put (record { number = entry.number; value = entry.value }) (by_number slots) n
-      ∙ ap (λ (o : Option T). if entry.number == n then Some entry.value else o) (at-by_number slots n)
+  at-by_number (Some entry ∷ slots) n = grind (arith, at-by_number slots n, at_put)
 
   -- no number stands twice in the slots, and each is at least 1 and at most the last
   record AreGood (slots : List (Option (Entry T))) (last : ℕ) : Type 0 where
@@ -147,12 +145,10 @@ module _ {T : Type 0} where
 
 module _ {A E : Type 0} where
   pub on_ok : (r : Result A E) (P Q : Type 0) → OnOk r P → (P → Q) → OnOk r Q
-  on_ok (Ok x) P Q p f = f p
-  on_ok (Err e) P Q p f = p
+  on_ok r P Q p f = grind arith
 
   pub on_err : (r : Result A E) (P Q : Type 0) → OnErr r P → (P → Q) → OnErr r Q
-  on_err (Ok x) P Q p f = p
-  on_err (Err e) P Q p f = f p
+  on_err r P Q p f = grind arith
 
 module _ {T : Type 0} where
   -- room changes nothing that stands in the slots
@@ -184,8 +180,7 @@ module _ {T : Type 0} where
 
 module _ {A B : Type 0} where
   pub is_some-map : (f : A → B) (o : Option A) → is_some o ≡ is_some (option_map f o)
-  is_some-map f None = refl
-  is_some-map f (Some x) = refl
+  is_some-map f o = grind arith
 
 module _ {T : Type 0} (is_clone : T → T → Type 0) (equal : (x y : T) → is_clone x y → y ≡ x) where
   -- each slot's clone has an equal number, and a clone of the value
@@ -193,9 +188,7 @@ module _ {T : Type 0} (is_clone : T → T → Type 0) (equal : (x y : T) → is_
   IsSlotCopy = IsSlotClone (λ (e f : Entry T). (f.number ≡ e.number) × is_clone e.value f.value)
 
   same_slot : (slot copy : Option (Entry T)) → IsSlotCopy slot copy → copy ≡ slot
-  same_slot None copy is = is
-  same_slot (Some e) None is = absurd is
-  same_slot (Some e) (Some f) is = λ i. Some (record { number = is.0 i; value = equal e.value f.value is.1 i })
+  same_slot slot copy is = grind arith
 
   -- slots of which each is a copy of the other's are the same
   pub same_slots : (slots copies : List (Option (Entry T))) → AllZip IsSlotCopy slots copies → copies ≡ slots

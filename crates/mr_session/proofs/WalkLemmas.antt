@@ -1,7 +1,7 @@
 -- A walk over two lists in version order, from a version on.
-use Rattle.std.proofs.Common.{◌≡◌, ◌≤◌, ◌<◌, ◌==◌, ℕ, zero, suc, Bool, true, false, not, cond, List, [], ◌∷◌, map, length, get_or, take, ◌-◌, drop, filter, find, Option, Some, None, refl, sym, ap, subst, ◌∙◌, inl, inr, arith}
+use Rattle.std.proofs.Common.{◌≡◌, ◌≤◌, ◌<◌, ◌==◌, ℕ, zero, suc, Bool, true, false, not, List, [], ◌∷◌, map, length, get_or, take, ◌-◌, drop, filter, find, Option, Some, None, refl, sym, ap, subst, ◌∙◌, arith}
 use Rattle.std.specs.declared.cmp.Ordering.{Ordering}
-use Rattle.std.specs.declared.cmp.Ordering.TheVariants.{Less, Equal, Greater}
+use Rattle.std.specs.declared.cmp.Ordering.TheVariants.{Less}
 use Rattle.std.specs.Ordering.{is_lt, is_le, ordering_reverse}
 use Rattle.std.specs.List.{AllByRecursion, slice_get}
 use Rattle.std.specs.List.Sorted.{IsPartitionPoint}
@@ -22,9 +22,7 @@ use Rattle.mr_session.specs.inner.Merge.{is_left_first}
 -- ---- those ahead
 
 behind_or_ahead : (o : Ordering) → is_lt (ordering_reverse o) ≡ not (is_le o)
-behind_or_ahead Less = refl
-behind_or_ahead Equal = refl
-behind_or_ahead Greater = refl
+behind_or_ahead o = grind arith
 
 ahead_is : (past v : Name) → is_before past v ≡ not (is_le (name_cmp v past))
 ahead_is past v = ap is_lt (names_total.antisymm past v) ∙ behind_or_ahead (name_cmp v past)
@@ -48,11 +46,7 @@ all_ahead (r ∷ rs) = ap (λ (l : List Rev). r ∷ l) (all_ahead rs)
 -- what is due is the first of those ahead that is wanted
 pub due_ahead : (asked : Asked) (past : Option Name) (rs : List Rev) → find (is_wanted asked) (filter (λ (r : Rev). is_ahead past r.version) rs) ≡ find (is_due asked past) rs
 due_ahead asked past [] = refl
-due_ahead asked past (r ∷ rs) =
-    elim (sides_of (is_ahead past r.version)) [
-      | inl ahead ↦ rw ahead (ap (λ (o : Option Rev). cond (is_wanted asked r) (Some r) o) (due_ahead asked past rs))
-      | inr behind ↦ rw behind (due_ahead asked past rs)
-    ]
+due_ahead asked past (r ∷ rs) = grind (arith, due_ahead asked past rs, sides_of)
 
 -- ---- those that are passed
 
@@ -67,12 +61,7 @@ drop_rises (suc n) (x ∷ xs) rising = drop_rises n xs (tail_rises version_of x 
 
 -- a name that is not before another one, and before a counter of its author, is of that author and between
 between_names : (v low : Name) (until : ℕ) → is_before v (record { author = low.author; counter = until }) ≡ true → is_before v low ≡ false → (v.author ≡ low.author) × (low.counter ≤ v.counter) × (v.counter < until)
-between_names v low until before not_below =
-    elim (cases_order v.author low.author) [
-      | inl same ↦ (same, (let h : low.counter ≤ v.counter = grind (arith, nat_tests) in h), (let h : v.counter < until = grind (arith, nat_tests) in h))
-      | inr (inl less) ↦ absurd (grind (arith, nat_tests))
-      | inr (inr more) ↦ absurd (grind (arith, nat_tests))
-    ]
+between_names v low until before not_below = grind (arith, cases_order, nat_tests)
 
 find_behind : (p : Rev → Bool) (rs : List Rev) (n : ℕ) → n ≤ length rs → ((k : ℕ) (d : Rev) → k < n → p (get_or rs k d) ≡ false) → find p (drop n rs) ≡ find p rs
 find_behind p rs zero within none = refl
@@ -107,25 +96,17 @@ module _ (p : Rev → Bool) where
   -- what is found is one of those that are there
   found_one : (P : Name → Type 0) (rs : List Rev) (r : Rev) → AllByRecursion P (map version_of rs) → find p rs ≡ Some r → P r.version
   found_one P [] r all found = absurd (cc)
-  found_one P (x ∷ rs) r all found =
-      elim (sides_of (p x)) [
-        | inl is ↦ let e : Some x ≡ Some r = rw is at found in let same : x ≡ r = cc in subst (λ (y : Rev). P y.version) same all.0
-        | inr not_it ↦ found_one P rs r all.1 (rw not_it at found)
-      ]
+  found_one P (x ∷ rs) r all found = grind (arith, found_one P rs r all.1, sides_of)
 
   is_less : (o : Ordering) → is_lt o ≡ true → o ≡ Less
-  is_less Less h = refl
-  is_less Equal h = absurd (cc)
-  is_less Greater h = absurd (cc)
+  is_less o h = grind arith
 
   -- the lower of the first one here and of what is found above it
   lower_here : (x : Rev) (o : Option Rev) → ((r : Rev) → o ≡ Some r → is_before x.version r.version ≡ true) → lower (Some x) o ≡ Some x
-  lower_here x None above = refl
-  lower_here x (Some r) above = rw (above r refl) refl
+  lower_here x o above = grind arith
 
   lower_there : (y : Rev) (o : Option Rev) → ((r : Rev) → o ≡ Some r → is_before r.version y.version ≡ false) → lower o (Some y) ≡ Some y
-  lower_there y None above = refl
-  lower_there y (Some r) above = rw (above r refl) refl
+  lower_there y o above = grind arith
 
   -- the first on the left comes first, and is it
   pub left_is : (x : Rev) (xs ys : List Rev) → AreInVersionOrder ys → is_left_first (x ∷ xs) ys ≡ true → p x ≡ true → lower (find p (x ∷ xs)) (find p ys) ≡ Some x
@@ -140,14 +121,7 @@ module _ (p : Rev → Bool) where
 
   none_before : (x y : Name) (vs : List Name) → is_lt (name_cmp x y) ≡ false → AllByRecursion (λ (v : Name). name_cmp x v ≡ Less) vs → AllByRecursion (λ (v : Name). is_lt (name_cmp v y) ≡ false) vs
   none_before x y [] stays above = tt
-  none_before x y (v ∷ vs) stays above = (here, none_before x y vs stays above.1)
-    where
-      here : is_lt (name_cmp v y) ≡ false
-      here =
-          elim (sides_of (is_lt (name_cmp v y))) [
-            | inl is ↦ let through : is_lt (name_cmp x y) ≡ true = ap is_lt (names_total.trans x v y above.0 (is_less (name_cmp v y) is)) in absurd (cc)
-            | inr stays_so ↦ stays_so
-          ]
+  none_before x y (v ∷ vs) stays above = grind (arith, none_before x y vs stays above.1, sides_of, names_total, is_less)
 
   -- the first on the right comes first, and is it
   pub right_is : (xs : List Rev) (y : Rev) (ys : List Rev) → AreInVersionOrder xs → is_left_first xs (y ∷ ys) ≡ false → p y ≡ true → lower (find p xs) (find p (y ∷ ys)) ≡ Some y
@@ -165,8 +139,7 @@ module _ (p : Rev → Bool) where
   rest_is x xs = let n : length (x ∷ xs) - 1 ≡ length xs = omega arith in ap (λ (k : ℕ). take k xs) n ∙ take-length xs
 
   pub at_left_is : (r : Rev) (ls rs : List Rev) → AreInVersionOrder rs → is_left_first ls rs ≡ true → r ≡ get_or ls 0 r → p r ≡ true → lower (find p ls) (find p rs) ≡ Some r
-  at_left_is r [] rs rising first at is = absurd (cc)
-  at_left_is r (x ∷ xs) rs rising first at is = left_is x xs rs rising first (ap p (sym at) ∙ is) ∙ ap Some (sym at)
+  at_left_is r ls rs rising first at is = grind (arith, left_is)
 
   pub at_left_not : (r : Rev) (ls rs : List Rev) → is_left_first ls rs ≡ true → r ≡ get_or ls 0 r → p r ≡ false → lower (find p (take (length ls - 1) (drop 1 ls))) (find p rs) ≡ lower (find p ls) (find p rs)
   at_left_not r [] rs first at is = absurd (cc)
@@ -187,5 +160,4 @@ rest_rises (x ∷ xs) rising =
     subst AreInVersionOrder (sym (ap (λ (k : ℕ). take k xs) n ∙ take-length xs)) (tail_rises version_of x xs rising)
 
 pub not_empty : (rs : List Rev) → (length rs == 0) ≡ false → 0 < length rs
-not_empty [] is = absurd (cc)
-not_empty (x ∷ xs) is = omega arith
+not_empty rs is = grind arith

@@ -1,42 +1,33 @@
 -- What fragments cover is read off the places of those of all items and off the listings of the item.
-use Rattle.std.proofs.Common.{◌≡◌, ◌≤◌, ◌<◌, ◌+◌, ◌⊎◌, ℕ, zero, suc, Bool, true, false, ◌||◌, ◌&&◌, List, [], ◌∷◌, map, filter, length, get_or, take, drop, Option, Some, None, refl, sym, ap, ◌∙◌, inl, inr, arith}
+use Rattle.std.proofs.Common.{◌≡◌, ◌≤◌, ◌<◌, ◌+◌, ◌⊎◌, ℕ, zero, suc, Bool, true, false, ◌||◌, ◌&&◌, List, [], ◌∷◌, map, filter, length, get_or, take, drop, Option, Some, refl, sym, ap, ◌∙◌, arith}
 use Rattle.std.specs.Option.{option_map_or}
 use Rattle.std.specs.List.{list_any, slice_get}
 use Rattle.std.specs.List.Sorted.{IsPartitionPoint, IsSortedByKey}
 use Rattle.std.specs.declared.cmp.Ordering.{Ordering}
-use Rattle.std.specs.declared.cmp.Ordering.TheVariants.{Less, Equal, Greater}
 use Rattle.std.specs.Ordering.{is_lt, is_le, is_eq}
 use Rattle.std.proofs.lemmas.Bool.{false_from_ne_true}
 use Rattle.std.proofs.lemmas.List.Folds.{list_any-append}
 use Rattle.std.proofs.lemmas.List.Sorted.{list_any-IsPermutation}
 use Rattle.mr_version.specs.Name.{Name, name_cmp, name_eq}
 use Rattle.mr_forms.specs.declared.fragment.ItemSet.{ItemSet}
-use Rattle.mr_forms.specs.declared.fragment.ItemSet.TheVariants.{All, Listed}
-use Rattle.mr_forms.specs.Covered.{has_item, listed_items, all_covered}
-use Rattle.mr_concise.specs.Fragments.{ConciseFragment}
+use Rattle.mr_forms.specs.Covered.{has_item, listed_items}
 use Rattle.mr_concise.specs.declared.vector.AuthorColumn.{AuthorColumn}
 use Rattle.mr_concise.specs.Vector.{vector_has}
 use Rattle.mr_store.specs.declared.fragment_index.Listing.{Listing}
 use Rattle.mr_store.proofs.OrderLemmas.{parted_up_to}
 use Rattle.mr_store.specs.FragmentIndex.{lists, is_told, item_of, listing_at, listings_of, listings_from, general_of, general_from, Places, Finds}
-use Rattle.mr_store.specs.inner.FragmentIndex.{items_of, is_for, has_at}
+use Rattle.mr_store.specs.inner.FragmentIndex.{is_for, has_at}
 
 -- ---- what is covered
 
 both_any : (a b h : Bool) → ((a && h) || (b && h)) ≡ ((a || b) && h)
-both_any false b h = refl
-both_any true b true = refl
-both_any true true false = refl
-both_any true false false = refl
+both_any a b h = grind arith
 
 or_first : (a b c : Bool) → (a || (b || c)) ≡ (b || (a || c))
-or_first false b c = refl
-or_first true true c = refl
-or_first true false c = refl
+or_first a b c = grind arith
 
 is_or_not : (b : Bool) → (b ≡ true) ⊎ (b ≡ false)
-is_or_not true = inl refl
-is_or_not false = inr refl
+is_or_not b = grind arith
 
 module _ {F : Type 0} (listed : F → Option (List Name)) (vector : F → List AuthorColumn) (fragments : List F) (i v : Name) where
   -- whether the one at the place has the version
@@ -50,24 +41,18 @@ module _ {F : Type 0} (listed : F → Option (List Name)) (vector : F → List A
   -- the listings of a fragment tell what it says
   any_listed : (place : ℕ) (items : List Name) → list_any tells (map (listing_at place) items) ≡ (list_any (λ item. name_eq item i) items && has place)
   any_listed place [] = refl
-  any_listed place (x ∷ xs) =
-      ap (λ (b : Bool). (name_eq x i && has place) || b) (any_listed place xs)
-      ∙ both_any (name_eq x i) (list_any (λ item. name_eq item i) xs) (has place)
+  any_listed place (x ∷ xs) = grind (arith, any_listed place xs, both_any)
 
   twice_nothing : (b : Bool) → b ≡ ((b || false) || false)
-  twice_nothing true = refl
-  twice_nothing false = refl
+  twice_nothing b = grind arith
 
   -- the fragment at a place
   one_told : (place : ℕ) (fragment : F) → has place ≡ vector_has (vector fragment) v → (items : Option (List Name))
       → (lists items i && vector_has (vector fragment) v) ≡ (list_any has (general_of place items) || list_any tells (listings_of place items))
-  one_told place fragment is None = sym is ∙ twice_nothing (has place)
-  one_told place fragment is (Some items) =
-      ap (λ (b : Bool). list_any (λ item. name_eq item i) items && b) (sym is) ∙ sym (any_listed place items)
+  one_told place fragment is items = grind (arith, twice_nothing, any_listed)
 
   both : (a b c d : Bool) → ((a || b) || (c || d)) ≡ ((a || c) || (b || d))
-  both true b c d = refl
-  both false b c d = or_first b c d
+  both a b c d = grind (arith, or_first)
 
   -- what fragments of which the first stands at a place tell
   told_from : (place : ℕ) (rest : List F) → ((j : ℕ) → slice_get fragments (place + j) ≡ slice_get rest j)
@@ -88,20 +73,12 @@ module _ {F : Type 0} (listed : F → Option (List Name)) (vector : F → List A
 
   any_filter : (ls : List Listing) → list_any (λ l. has l.place) (filter (is_for i) ls) ≡ list_any tells ls
   any_filter [] = refl
-  any_filter (l ∷ ls) =
-      elim (is_or_not (is_for i l)) [
-        | inl is ↦ rw is (ap (λ (b : Bool). has l.place || b) (any_filter ls))
-        | inr is_not ↦ rw is_not (any_filter ls)
-      ]
+  any_filter (l ∷ ls) = grind (arith, any_filter ls, is_or_not)
 
   -- an index of the fragments tells what they tell
   pub told_is : (places : Places) → Finds (map listed fragments) places
       → (list_any has places.general || list_any (λ l. has l.place) (filter (is_for i) places.listings)) ≡ is_told listed vector fragments i v
-  told_is places finds =
-      let general : list_any has places.general ≡ list_any has (general_from 0 (map listed fragments)) = ap (list_any has) finds.general_is in
-      let others : list_any (λ l. has l.place) (filter (is_for i) places.listings) ≡ list_any tells (listings_from 0 (map listed fragments)) =
-      any_filter places.listings ∙ sym (list_any-IsPermutation tells (listings_from 0 (map listed fragments)) places.listings finds.all_listed) in
-      (λ k. general k || others k) ∙ sym all_are
+  told_is places finds = grind (arith, any_filter, list_any-IsPermutation, all_are)
 
   any_first : (p : ℕ → Bool) (places : List ℕ) (place : ℕ) → slice_get places 0 ≡ Some place → p place ≡ true → list_any p places ≡ true
   any_first p [] place first is = absurd (cc)
@@ -117,8 +94,7 @@ module _ {F : Type 0} (listed : F → Option (List Name)) (vector : F → List A
 -- ---- fragments themselves
 
 lists_same : (items : ItemSet) (i : Name) → has_item items i ≡ lists (listed_items items) i
-lists_same All i = refl
-lists_same (Listed items) i = refl
+lists_same items i = grind arith
 
 -- ---- those of one item
 
@@ -139,19 +115,13 @@ together p (x ∷ xs) (suc from) n within before here behind =
     (together p xs from n (omega (arith, within)) (λ k d lt. before (suc k) d (omega (arith, lt))) (λ k d ge lt. here (suc k) d (omega (arith, ge)) (omega (arith, lt))) (λ k d ge lt. behind (suc k) d (omega (arith, ge)) (omega (arith, lt))))
 
 less_is_other : (o : Ordering) → is_lt o ≡ true → is_eq o ≡ false
-less_is_other Less h = refl
-less_is_other Equal h = absurd (cc)
-less_is_other Greater h = refl
+less_is_other o h = grind arith
 
 eq_is_le : (o : Ordering) → is_eq o ≡ true → is_le o ≡ true
-eq_is_le Less h = refl
-eq_is_le Equal h = refl
-eq_is_le Greater h = absurd (cc)
+eq_is_le o h = grind arith
 
 neither_is_not_le : (o : Ordering) → is_lt o ≡ false → is_eq o ≡ false → is_le o ≡ true → ⊥
-neither_is_not_le Less h g k = cc
-neither_is_not_le Equal h g k = cc
-neither_is_not_le Greater h g k = cc
+neither_is_not_le o h g k = grind arith
 
 -- the first that is not below an item, and how many from there on are of it
 module _ (item : Name) (ls : List Listing) (from to : ℕ) (sorted : IsSortedByKey item_of name_cmp ls)
@@ -163,8 +133,4 @@ module _ (item : Name) (ls : List Listing) (from to : ℕ) (sorted : IsSortedByK
   behind k d high lt = false_from_ne_true (is_for item (get_or ls k d)) (λ is. neither_is_not_le (name_cmp (get_or ls to d).item item) (below.1 to d begins (omega arith)) (ends d (omega arith)) (parted_up_to item_of ls item sorted to k d high lt (eq_is_le (name_cmp (get_or ls k d).item item) is)))
 
   pub those_from : (n : ℕ) → from + n ≡ to → take n (drop from ls) ≡ filter (is_for item) ls
-  those_from n is =
-      together (is_for item) ls from n (omega arith)
-      (λ k d lt. less_is_other (name_cmp (get_or ls k d).item item) (below.0 k d (omega arith) lt))
-      (λ k d ge lt. are k d ge (omega (arith, lt)))
-      (λ k d ge lt. behind k d (omega (arith, ge)) lt)
+  those_from n is = grind (arith, together, less_is_other, behind)

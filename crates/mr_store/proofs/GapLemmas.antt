@@ -1,5 +1,5 @@
 -- what leaves behind a gap
-use Rattle.std.proofs.Common.{◌≡◌, ◌<◌, ◌≤◌, ◌+◌, ◌∙◌, ℕ, zero, suc, List, [], ◌++◌, append_assoc, add-one, ap, length, take, drop, refl, arith, insert, remove, ◌∷◌}
+use Rattle.std.proofs.Common.{◌≡◌, ◌<◌, ◌≤◌, ◌+◌, ◌∙◌, ℕ, zero, suc, List, [], ◌++◌, append_assoc, add-one, length, take, drop, refl, arith, insert, remove, ◌∷◌}
 use Rattle.std.proofs.lemmas.List.{drop-append-le, drop-drop, drop-take, take-take, length-take, length-drop}
 
 -- without one behind the gap
@@ -12,10 +12,7 @@ drop-remove gap place xs within =
 
 -- with one more behind the gap
 pub drop-insert : {X : Type 0} (gap place : ℕ) (xs : List X) (x : X) → gap ≤ length xs → place ≤ length (drop gap xs) → drop gap (insert xs (gap + place) x) ≡ insert (drop gap xs) place x
-drop-insert gap place xs x gap_within within =
-    let inside = rw (length-drop gap xs) at within in
-    drop-append-le gap (take (gap + place) xs) (x ∷ drop (gap + place) xs) (rw (length-take (gap + place) xs) (omega (arith, inside, gap_within)))
-    ∙ rw (drop-take gap place xs, drop-drop place gap xs) refl
+drop-insert gap place xs x gap_within within = grind (arith, length-drop, drop-append-le, length-take, drop-take, drop-drop)
 
 without_first : {X : Type 0} (gap : ℕ) (xs zs : List X) → gap ≤ length xs → drop (suc gap) (take gap xs ++ zs) ≡ drop 1 zs
 without_first zero xs zs h = refl
@@ -30,13 +27,4 @@ without_last (suc place) (x ∷ xs) zs h = without_last place xs zs (omega arith
 -- behind one that was moved to the front are the others
 pub drop-to_front : {X : Type 0} (gap place k n : ℕ) (xs ys : List X) → gap + place < length xs → k ≡ suc place → n ≡ place
     → ys ≡ drop n (take k (drop gap xs)) ++ take n (take k (drop gap xs)) → drop (gap + 1) (take gap xs ++ (ys ++ drop k (drop gap xs))) ≡ remove (drop gap xs) place
-drop-to_front {X = X} gap place k n xs ys within some before turned =
-    let bs = drop gap xs in
-    let behind : place < length bs = rw length-drop (omega arith) in
-    let last = take (suc place) bs in
-    let first : drop 1 ((drop place last ++ take place last) ++ drop (suc place) bs) ≡ take place last ++ drop (suc place) bs =
-    rw append_assoc (without_last place bs (take place last ++ drop (suc place) bs) behind) in
-    let others : take place last ≡ take place bs = take-take place (suc place) bs (omega arith) in
-    rw (turned, some, before, add-one)
-    (without_first gap xs ((drop place last ++ take place last) ++ drop (suc place) bs) (omega arith)
-    ∙ (first ∙ ap (λ (rs : List X). rs ++ drop (suc place) bs) others))
+drop-to_front gap place k n xs ys within some before turned = grind (arith, length-drop, append_assoc, without_last, take-take, add-one, without_first)

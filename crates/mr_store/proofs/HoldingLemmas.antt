@@ -1,5 +1,5 @@
 -- two lists that have no version in common, after each edit
-use Rattle.std.proofs.Common.{◌≡◌, Bool, true, false, ◌&&◌, ◌||◌, cond, refl, sym, ap, ◌∙◌, List, [], ◌∷◌, ◌++◌, inl, inr, Option, Some, None, is_some}
+use Rattle.std.proofs.Common.{◌≡◌, Bool, true, false, ◌&&◌, ◌||◌, cond, refl, sym, ap, ◌∙◌, List, [], ◌∷◌, ◌++◌, inl, inr, Option, Some, None, is_some, arith}
 use Rattle.std.specs.List.{filter}
 use Rattle.std.specs.Option.{option_or}
 use Rattle.std.proofs.lemmas.List.Folds.{find-append}
@@ -21,8 +21,7 @@ pub revision_of-second : (a b : List Rev) (v : Name) → None ≡ revision_of a 
 revision_of-second a b v none = ap (λ o. option_or o (revision_of b v)) none ∙ sym (find-append (λ x. name_eq x.version v) a b)
 
 neither : {X : Type 0} (a b : Option X) → option_or a b ≡ None → record { first : a ≡ None; second : b ≡ None }
-neither None b h = record { first = refl; second = h }
-neither (Some x) b h = cc
+neither a b h = grind arith
 
 -- what is in neither list is in none of the two
 pub revision_of-neither : (a b : List Rev) (v : Name) → revision_of (a ++ b) v ≡ None → record { first : revision_of a v ≡ None; second : revision_of b v ≡ None }
@@ -38,27 +37,20 @@ pub no_new_itself : (rs : List Rev) → HasNoNew rs rs
 no_new_itself rs v h = h
 
 none_of : {X : Type 0} (o : Option X) → is_some o ≡ false → o ≡ None
-none_of None h = refl
-none_of (Some x) h = cc
+none_of o h = grind arith
 
 pub no_new-filter : (p : Rev → Bool) (rs : List Rev) → HasNoNew rs (filter p rs)
 no_new-filter p rs v h = ap is_some (named-filter version_of p v rs (none_of (revision_of rs v) h))
 
 and_left : (a b : Bool) → (a && b) ≡ false → a ≡ true → b ≡ false
-and_left true b h e = h
-and_left false b h e = cc
+and_left a b h e = grind arith
 
 and_none : (a b : Bool) → b ≡ false → (a && b) ≡ false
-and_none true b h = h
-and_none false b h = refl
+and_none a b h = grind arith
 
 -- lists that have no new version stay apart
 pub apart_kept : (a b a' b' : List Rev) → AreApart a b → HasNoNew a a' → HasNoNew b b' → AreApart a' b'
-apart_kept a b a' b' apart fewer_a fewer_b v =
-    elim (either (holds a v)) [
-      | inl in' ↦ and_none (holds a' v) (holds b' v) (fewer_b v (and_left (holds a v) (holds b v) (apart v) in'))
-      | inr out ↦ ap (λ c. c && holds b' v) (fewer_a v out)
-    ]
+apart_kept a b a' b' apart fewer_a fewer_b v = grind (arith, either, and_none, and_left)
 
 -- the versions with one that enters
 pub holds-entered : (r : Rev) (rs : List Rev) (v : Name) → holds (entered r rs) v ≡ (name_eq r.version v || holds rs v)
@@ -74,15 +66,7 @@ holds-entered r (x ∷ xs) v =
 
 -- a version that neither has enters one of them
 pub apart_entered_first : (r : Rev) (a b : List Rev) → AreApart a b → revision_of b r.version ≡ None → AreApart (entered r a) b
-apart_entered_first r a b apart new v =
-    rw (holds-entered r a v) (elim (either (name_eq r.version v)) [
-      | inl same ↦ rw same (ap (λ (w : Name). holds b w) (sym (same_names r.version v same)) ∙ ap is_some new)
-      | inr other ↦ rw other (apart v)
-    ])
+apart_entered_first r a b apart new v = grind (arith, holds-entered, either, same_names, is_some)
 
 pub apart_entered_second : (r : Rev) (a b : List Rev) → AreApart a b → revision_of a r.version ≡ None → AreApart a (entered r b)
-apart_entered_second r a b apart new v =
-    rw (holds-entered r b v) (elim (either (name_eq r.version v)) [
-      | inl same ↦ ap (λ c. c && (name_eq r.version v || holds b v)) (ap (λ (w : Name). holds a w) (sym (same_names r.version v same)) ∙ ap is_some new)
-      | inr other ↦ rw other (apart v)
-    ])
+apart_entered_second r a b apart new v = grind (arith, holds-entered, either, same_names, is_some)

@@ -1,5 +1,5 @@
 -- what the index lists once an item's list was written, or has gone
-use Rattle.std.proofs.Common.{◌≡◌, ◌<◌, ◌&&◌, ◌||◌, not, Bool, true, false, cond, if◌then◌else◌, refl, sym, ap, subst, ◌∙◌, List, Option, Some, None, IfSome, MatchOption, Result, Ok, Err, OnOk, vec_len, vec_capacity, inl, inr}
+use Rattle.std.proofs.Common.{◌≡◌, ◌<◌, ◌&&◌, ◌||◌, not, Bool, true, false, cond, if◌then◌else◌, refl, sym, ap, subst, ◌∙◌, List, Option, Some, None, IfSome, MatchOption, Result, OnOk, vec_len, vec_capacity, inl, inr, arith}
 use Rattle.std.specs.declared.vec.Vec.{Vec}
 use Rattle.std.specs.List.{filter}
 use Rattle.std.specs.Option.{option_map, option_map_or}
@@ -18,8 +18,7 @@ use Rattle.mr_store.proofs.ListedLemmas.{stays-some, to_list-inserted, to_list-e
 
 -- what holds once it went well
 pub on_ok : {V E : Type 0} (r : Result V E) (P Q : Type 0) → (P → Q) → OnOk r P → OnOk r Q
-on_ok (Ok v) P Q f h = f h
-on_ok (Err e) P Q f h = tt
+on_ok r P Q f h = grind arith
 
 pub no_some : false ≡ true → ⊥
 no_some is = cc
@@ -29,20 +28,10 @@ abbrev pub is_idle : Option Room → Name → Option (List Name) → Bool
 is_idle room item listed = option_map_or (λ vs. not (has_later item vs || is_for_later room item)) listed false
 
 idle_goes : (room : Option Room) (item : Name) (listed : Option (List Name)) → is_idle room item listed ≡ true → None ≡ stays_listed room item listed
-idle_goes room item None idle = refl
-idle_goes room item (Some vs) idle =
-    elim (either (has_later item vs || is_for_later room item)) [
-      | inl needed ↦ absurd (no_some (rw needed at idle))
-      | inr not_needed ↦ rw not_needed refl
-    ]
+idle_goes room item listed idle = grind (arith, either, no_some)
 
 needed_stays : (room : Option Room) (item : Name) (listed : Option (List Name)) → is_idle room item listed ≡ false → listed ≡ stays_listed room item listed
-needed_stays room item None needed = refl
-needed_stays room item (Some vs) needed =
-    elim (either (has_later item vs || is_for_later room item)) [
-      | inl is ↦ rw is refl
-      | inr unneeded ↦ absurd (no_some (sym (rw unneeded at needed)))
-    ]
+needed_stays room item listed needed = grind (arith, either, no_some)
 
 module _ {Z : Type 0} where
   -- the index n has w at the item, and elsewhere what m has
@@ -61,19 +50,12 @@ module _ {Z : Type 0} where
 
   pub listed-written : (m n : BTreeMap Name (Vec Name Z)) (item : Name) (w : Vec Name Z) → Writes m n item w
       → (i : Name) → listed_for n i ≡ (if name_eq item i then Some w.items else listed_for m i)
-  listed-written m n item w writes i =
-      ap items_of_list (writes i) ∙ (elim (name_eq item i) as (λ b. items_of_list (cond b (Some w) (get name_cmp m i)) ≡ (if b then Some w.items else listed_for m i)) [ true ↦ refl | false ↦ refl ])
+  listed-written m n item w writes i = grind arith
 
   -- the item's list became what f makes of it
   pub listed-mapped : (f : List Name → List Name) (m n : BTreeMap Name (Vec Name Z)) (item : Name) (v w : Vec Name Z) → Writes m n item w → get name_cmp m item ≡ Some v → w.items ≡ f v.items
       → (i : Name) → listed_for n i ≡ (if name_eq item i then option_map f (listed_for m i) else listed_for m i)
-  listed-mapped f m n item v w writes was made i =
-      listed-written m n item w writes i ∙ elim (either (name_eq item i)) [
-        | inl here ↦
-            let at_item : option_map f (listed_for m item) ≡ Some w.items = ap (λ o. option_map f (items_of_list o)) was ∙ ap Some (sym made) in
-            rw here (sym (subst (λ (j : Name). option_map f (listed_for m j) ≡ Some w.items) (same_names item i here) at_item))
-        | inr apart ↦ rw apart refl
-      ]
+  listed-mapped f m n item v w writes was made i = grind (arith, listed-written, either, same_names)
 
   -- the room stays where the new list has no less than the old
   pub room-kept : (m n : BTreeMap Name (Vec Name Z)) (item : Name) (v w : Vec Name Z) → Writes m n item w → get name_cmp m item ≡ Some v
@@ -93,19 +75,11 @@ module _ {Z : Type 0} where
 
   pub listed-removed : (m n : BTreeMap Name (Vec Name Z)) (item : Name) (room : Option Room) → Removes m n item → is_idle room item (listed_for m item) ≡ true
       → (i : Name) → listed_for n i ≡ (if name_eq item i then stays_listed room i (listed_for m i) else listed_for m i)
-  listed-removed m n item room removes idle i =
-      ap items_of_list (removes i) ∙ elim (either (name_eq item i)) [
-        | inl here ↦ rw here (subst (λ (j : Name). None ≡ stays_listed room j (listed_for m j)) (same_names item i here) (idle_goes room item (listed_for m item) idle))
-        | inr apart ↦ rw apart refl
-      ]
+  listed-removed m n item room removes idle i = grind (arith, either, same_names, idle_goes)
 
   pub listed-needed : (m : BTreeMap Name (Vec Name Z)) (item : Name) (room : Option Room) → is_idle room item (listed_for m item) ≡ false
       → (i : Name) → listed_for m i ≡ (if name_eq item i then stays_listed room i (listed_for m i) else listed_for m i)
-  listed-needed m item room needed i =
-      elim (either (name_eq item i)) [
-        | inl here ↦ rw here (subst (λ (j : Name). listed_for m j ≡ stays_listed room j (listed_for m j)) (same_names item i here) (needed_stays room item (listed_for m item) needed))
-        | inr apart ↦ rw apart refl
-      ]
+  listed-needed m item room needed i = grind (arith, either, same_names, needed_stays)
 
   -- ---- the index of the revisions
 
@@ -146,15 +120,4 @@ module _ {Z : Type 0} where
   pub index-left : (m k n : BTreeMap Name (Vec Name Z)) (room : Option Room) (item : Name) (below : Versions) (revisions : List Rev)
       → ((i : Name) → listed_for k i ≡ (if name_eq item i then option_map (filter (λ v. not (below v))) (listed_for m i) else listed_for m i))
       → ((i : Name) → listed_for n i ≡ (if name_eq item i then stays_listed room i (listed_for k i) else listed_for k i)) → IsIndexOf room revisions m → IsIndexOf room (left_by item below revisions) n
-  index-left m k n room item below revisions leave drop indexed i =
-      drop i ∙ elim (either (name_eq item i)) [
-        | inl here ↦
-            let vs = versions_of i revisions in
-            let stay : versions_of i (left_by item below revisions) ≡ filter (λ v. not (below v)) vs = rw here at (versions_of-left_by i item below revisions) in
-            let left : listed_for k i ≡ option_map (filter (λ v. not (below v))) (listed_for m i) = rw here at (leave i) in
-            rw (here, stay) (ap (stays_listed room i) (left ∙ ap (option_map (filter (λ v. not (below v)))) (indexed i)) ∙ stays-some room i (λ v. not (below v)) vs)
-        | inr apart ↦
-            let stay : versions_of i (left_by item below revisions) ≡ versions_of i revisions = rw apart at (versions_of-left_by i item below revisions) in
-            let left : listed_for k i ≡ listed_for m i = rw apart at (leave i) in
-            rw (apart, stay) (left ∙ indexed i)
-      ]
+  index-left m k n room item below revisions leave drop indexed i = grind (arith, either, versions_of-left_by, stays-some)

@@ -1,5 +1,5 @@
 -- what is to be listed for an item, after each edit of its versions and of the room
-use Rattle.std.proofs.Common.{◌≡◌, Bool, true, false, not, ◌&&◌, ◌||◌, cond, if◌then◌else◌, refl, sym, ap, subst, ◌∙◌, List, [], ◌∷◌, map, Option, Some, None, MatchOption, ◌⊎◌, inl, inr, Result, Ok, Err, IfOk, length, ◌==◌, arith}
+use Rattle.std.proofs.Common.{◌≡◌, Bool, true, false, not, ◌||◌, cond, if◌then◌else◌, refl, sym, ap, subst, ◌∙◌, List, [], ◌∷◌, map, Option, Some, None, MatchOption, ◌⊎◌, inl, inr, Result, IfOk, length, ◌==◌, arith}
 use Rattle.std.specs.List.{AllByRecursion, filter}
 use Rattle.std.specs.Option.{option_map, option_map_or}
 use Rattle.std.specs.Ordering.{is_eq}
@@ -9,7 +9,7 @@ use Rattle.std.specs.declared.cmp.Ordering.TheVariants.{Less}
 use Rattle.mr_version.specs.Name.{Name, name_cmp, name_eq}
 use Rattle.mr_madewith.specs.Revision.{Rev}
 use Rattle.mr_forms.specs.Sets.{Versions, is_listed}
-use Rattle.mr_madewith.specs.Keyed.{without, is_before}
+use Rattle.mr_madewith.specs.Keyed.{without}
 use Rattle.mr_madewith.proofs.Rising.{same_names, name_eq_self, name_eq-swap, head_before, tail_rises, all_filtered, rises-filter}
 use Rattle.mr_store.specs.Revisions.{AreInVersionOrder, version_of, revision_of, is_of, versions_of, left_by, AreConflicts}
 use Rattle.mr_store.specs.inner.Room.{is_for_later}
@@ -20,39 +20,25 @@ use Rattle.mr_store.proofs.RevisionLemmas.{either, is_none_of, without-more, is_
 -- ---- versions that are not the first
 
 no_other : (b : Bool) → not b ≡ false → b ≡ true
-no_other true h = refl
-no_other false h = cc
+no_other b h = grind arith
 
 -- where none is another than the first, all are the first
 pub firsts_are_all : (item : Name) (vs : List Name) → has_later item vs ≡ false → filter (λ v. name_eq v item) vs ≡ vs
 firsts_are_all item [] none = refl
-firsts_are_all item (v ∷ vs) none =
-    let parts = or_parts (not (name_eq v item)) (has_later item vs) none in
-    rw (no_other (name_eq v item) parts.0) (ap (λ (ws : List Name). v ∷ ws) (firsts_are_all item vs parts.1))
+firsts_are_all item (v ∷ vs) none = grind (arith, firsts_are_all item vs, or_parts, no_other)
 
 -- some of these have no other
 later_filter : (item : Name) (p : Name → Bool) (vs : List Name) → has_later item vs ≡ false → has_later item (filter p vs) ≡ false
 later_filter item p [] none = refl
-later_filter item p (v ∷ vs) none =
-    let parts = or_parts (not (name_eq v item)) (has_later item vs) none in
-    elim (p v) as (λ b. has_later item (cond b (v ∷ filter p vs) (filter p vs)) ≡ false) [
-      | true ↦ or_from (not (name_eq v item)) (has_later item (filter p vs)) parts.0 (later_filter item p vs parts.1)
-      | false ↦ later_filter item p vs parts.1
-    ]
+later_filter item p (v ∷ vs) none = grind (arith, later_filter item p vs, or_parts, or_from)
 
 or_swap : (a b c : Bool) → (a || (b || c)) ≡ (b || (a || c))
-or_swap true true c = refl
-or_swap true false c = refl
-or_swap false b c = refl
+or_swap a b c = grind arith
 
 -- one more has others if it is another, or they have one
 later_inserted : (item v : Name) (vs : List Name) → has_later item (version_inserted v vs) ≡ (not (name_eq v item) || has_later item vs)
 later_inserted item v [] = refl
-later_inserted item v (w ∷ vs) =
-    elim (is_before w v) as (λ b. has_later item (if b then w ∷ version_inserted v vs else v ∷ w ∷ vs) ≡ (not (name_eq v item) || (not (name_eq w item) || has_later item vs))) [
-      | true ↦ ap (λ b. not (name_eq w item) || b) (later_inserted item v vs) ∙ or_swap (not (name_eq w item)) (not (name_eq v item)) (has_later item vs)
-      | false ↦ refl
-    ]
+later_inserted item v (w ∷ vs) = grind (arith, later_inserted item v vs, or_swap)
 
 -- rising versions of which none is another than the first are the first, or none
 alone_in : (item : Name) (rs : List Rev) → AreInVersionOrder rs → has_later item (map version_of rs) ≡ false → (map version_of rs ≡ []) ⊎ (map version_of rs ≡ item ∷ [])
@@ -79,65 +65,33 @@ alone_not_several item rs rising none = elim (first_or_none item rs rising none)
 
 -- what is listed are the versions, and where nothing is none is another than the first
 pub to_list-exact : (room : Option Room) (item : Name) (vs : List Name) → MatchOption (to_list room item vs) (has_later item vs ≡ false) (λ ws. ws ≡ vs)
-to_list-exact room item vs =
-    elim (either (has_later item vs || is_for_later room item)) [
-      | inl listed ↦ rw listed refl
-      | inr not_listed ↦ rw not_listed ((or_parts (has_later item vs) (is_for_later room item) not_listed).0)
-    ]
+to_list-exact room item vs = grind (arith, either, or_parts)
 
 -- of some of the versions as much is listed as stays
 pub stays-some : (room : Option Room) (item : Name) (p : Name → Bool) (vs : List Name) → stays_listed room item (option_map (filter p) (to_list room item vs)) ≡ to_list room item (filter p vs)
-stays-some room item p vs =
-    elim (either (has_later item vs || is_for_later room item)) [
-      | inl listed ↦ rw listed refl
-      | inr not_listed ↦
-          let parts = or_parts (has_later item vs) (is_for_later room item) not_listed in
-          let none : (has_later item (filter p vs) || is_for_later room item) ≡ false = or_from (has_later item (filter p vs)) (is_for_later room item) (later_filter item p vs parts.0) parts.1 in
-          rw (not_listed, none) refl
-    ]
+stays-some room item p vs = grind (arith, either, or_parts, or_from, later_filter)
 
 -- without room for an item, as much is listed as without any
 pub to_list-elsewhere : (room : Option Room) (item : Name) (vs : List Name) → is_for_later room item ≡ false → to_list room item vs ≡ to_list None item vs
 to_list-elsewhere room item vs none = rw none refl
 
 mapped : (f : List Name → List Name) (b c : Bool) (vs : List Name) → b ≡ c → option_map f (if b then Some vs else None) ≡ (if c then Some (f vs) else None)
-mapped f b true vs same = rw same refl
-mapped f b false vs same = rw same refl
+mapped f b c vs same = grind arith
 
 swapped : (a b : Bool) → (a || b) ≡ ((b || a) || false)
-swapped true true = refl
-swapped true false = refl
-swapped false true = refl
-swapped false false = refl
+swapped a b = grind arith
 
 -- a version that comes in its room is listed where it is to be
 pub to_list-inserted : (item v : Name) (vs : List Name) → option_map (version_inserted v) (to_list (Some (record { item = item; version = v })) item vs) ≡ to_list None item (version_inserted v vs)
-to_list-inserted item v vs =
-    let for_later : is_for_later (Some (record { item = item; version = v })) item ≡ not (name_eq v item) = ap (λ b. b && not (name_eq v item)) (name_eq_self item) in
-    let same : (has_later item vs || is_for_later (Some (record { item = item; version = v })) item) ≡ (has_later item (version_inserted v vs) || false) =
-    ap (λ b. has_later item vs || b) for_later
-    ∙ (swapped (has_later item vs) (not (name_eq v item))
-    ∙ ap (λ b. b || false) (sym (later_inserted item v vs))) in
-    mapped (version_inserted v) (has_later item vs || is_for_later (Some (record { item = item; version = v })) item) (has_later item (version_inserted v vs) || false) vs same
+to_list-inserted item v vs = grind (arith, name_eq_self, swapped, later_inserted, mapped)
 
 -- what isn't listed has no other version than the first
 pub unlisted_alone : (room : Option Room) (item : Name) (vs : List Name) → to_list room item vs ≡ None → has_later item vs ≡ false
-unlisted_alone room item vs unlisted =
-    elim (either (has_later item vs)) [
-      | inl later ↦ let no : Some vs ≡ None = rw later at unlisted in cc
-      | inr none ↦ none
-    ]
+unlisted_alone room item vs unlisted = grind (arith, either)
 
 -- and what is listed are the versions
 pub listed_is : (room : Option Room) (item : Name) (vs ws : List Name) → to_list room item vs ≡ Some ws → ws ≡ vs
-listed_is room item vs ws listed =
-    elim (either (has_later item vs || is_for_later room item)) [
-      | inl is ↦ some_is ws vs (sym (rw is at listed))
-      | inr none ↦ let no : None ≡ Some ws = rw none at listed in cc
-    ]
-  where
-    some_is : (ws us : List Name) → Some ws ≡ Some us → ws ≡ us
-    some_is ws us same = cc
+listed_is room item vs ws listed = grind (arith, either)
 
 -- the list of an item with room for a later version
 pub to_list-for_later : (room : Option Room) (item : Name) (vs : List Name) → is_for_later room item ≡ true → to_list room item vs ≡ Some vs
@@ -145,20 +99,13 @@ to_list-for_later room item vs for_later = elim (either (has_later item vs)) [ i
 
 -- whether several are listed is whether there are several
 pub several-listed : (room : Option Room) (item : Name) (rs : List Rev) → AreInVersionOrder rs → option_map_or are_several (to_list room item (versions_of item rs)) false ≡ are_several (versions_of item rs)
-several-listed room item rs rising =
-    elim (either (has_later item (versions_of item rs) || is_for_later room item)) [
-      | inl listed ↦ rw listed refl
-      | inr not_listed ↦ rw not_listed (sym (alone_not_several item rs rising (or_parts (has_later item (versions_of item rs)) (is_for_later room item) not_listed).0))
-    ]
+several-listed room item rs rising = grind (arith, either, alone_not_several, or_parts)
 
 -- ---- the first version of an item
 
 none_first : (item : Name) (x : Rev) (vs : List Name) → name_eq x.version item ≡ true → AllByRecursion (λ v. name_cmp x.version v ≡ Less) vs → filter (λ v. name_eq v item) vs ≡ []
 none_first item x [] first later = refl
-none_first item x (v ∷ vs) first later =
-    let apart : name_eq v x.version ≡ false = name_eq-swap v x.version ∙ ap is_eq later.0 in
-    let other : name_eq v item ≡ false = subst (λ (w : Name). name_eq v w ≡ false) (same_names x.version item first) apart in
-    rw other (none_first item x vs first later.1)
+none_first item x (v ∷ vs) first later = grind (arith, none_first item x vs first later.1, name_eq-swap, same_names)
 
 -- the item's version of a revision, if there is one of it
 abbrev pub first_in : Name → Option Rev → List Name
@@ -201,21 +148,12 @@ stays-above item below rs rising alone above =
 
 -- and where it is, it alone leaves
 pub first_leaves : (item : Name) (below : Versions) (rs : List Rev) → AreInVersionOrder rs → versions_of item rs ≡ item ∷ [] → below item ≡ true → without version_of item rs ≡ left_by item below rs
-first_leaves item below rs rising first is_below =
-    ap (λ (ss : List Rev). without version_of item ss) (filter-all rs)
-    ∙ (without-more [] item below rs is_below
-    ∙ (ap (λ (vs : List Name). filter (is_none_of vs below) rs) (sym first)
-    ∙ left_by-listed item below rs rising))
+first_leaves item below rs rising first is_below = grind (arith, filter-all, without-more, is_none_of, left_by-listed)
 
 -- the first version, where it was found and is to leave
 pub first_out : (item : Name) (below : Versions) (rs : List Rev) (firsts : List Name) → AreInVersionOrder rs → has_later item (versions_of item rs) ≡ false
     → firsts ≡ filter (λ v. name_eq v item) (versions_of item rs) → (length firsts == 0) ≡ false → below item ≡ true → without version_of item rs ≡ left_by item below rs
-first_out item below rs firsts rising alone are some is_below =
-    let all : firsts ≡ versions_of item rs = are ∙ firsts_are_all item (versions_of item rs) alone in
-    elim (first_or_none item rs rising alone) [
-      | inl none ↦ let no : true ≡ false = rw (all, none) at some in cc
-      | inr first ↦ first_leaves item below rs rising first is_below
-    ]
+first_out item below rs firsts rising alone are some is_below = grind (arith, firsts_are_all, first_or_none, first_leaves)
 
 no_versions : (vs : List Name) → (length vs == 0) ≡ true → vs ≡ []
 no_versions [] h = refl
@@ -224,16 +162,11 @@ no_versions (v ∷ vs) h = absurd (let none : length (v ∷ vs) ≡ 0 = eqb-true
 -- and where none was found
 pub none_out : (item : Name) (below : Versions) (rs : List Rev) (firsts : List Name) → AreInVersionOrder rs → has_later item (versions_of item rs) ≡ false
     → firsts ≡ filter (λ v. name_eq v item) (versions_of item rs) → (length firsts == 0) ≡ true → rs ≡ left_by item below rs
-none_out item below rs firsts rising alone are none =
-    stays-none item below rs rising (sym (are ∙ firsts_are_all item (versions_of item rs) alone) ∙ no_versions firsts none)
+none_out item below rs firsts rising alone are h = grind (arith, stays-none, firsts_are_all, no_versions)
 
 -- ---- conflicts
 
 -- the items of which several are listed are in conflict
 pub are_conflicts : {V E : Type 0} (items : V → List Name) (result : Result V E) (listed : Name → Option (List Name)) (room : Option Room) (rs : List Rev) → AreInVersionOrder rs → ((i : Name) → listed i ≡ to_list room i (versions_of i rs))
     → IfOk result (λ v. IsStrictlySortedBy name_cmp (items v)) → IfOk result (λ v. (i : Name) → is_listed (items v) i ≡ option_map_or are_several (listed i) false) → IfOk result (λ v. AreConflicts rs (items v))
-are_conflicts items (Ok v) listed room rs rising indexed sorted exact = record {
-  rising = sorted;
-  exact = λ i. exact i ∙ (ap (λ (o : Option (List Name)). option_map_or are_several o false) (indexed i) ∙ several-listed room i rs rising);
-}
-are_conflicts items (Err e) listed room rs rising indexed sorted exact = tt
+are_conflicts items result listed room rs rising indexed sorted exact = grind (arith, several-listed)

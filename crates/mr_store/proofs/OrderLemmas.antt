@@ -1,7 +1,6 @@
 -- What is sorted by name is parted by a name: what is below it, or up to it, stands before the others.
-use Rattle.std.proofs.Common.{◌≡◌, ◌≤◌, true, List, get_or, refl, arith}
+use Rattle.std.proofs.Common.{◌≡◌, ◌≤◌, true, List, get_or, arith}
 use Rattle.std.specs.declared.cmp.Ordering.{Ordering}
-use Rattle.std.specs.declared.cmp.Ordering.TheVariants.{Less, Equal, Greater}
 use Rattle.std.specs.Ordering.{is_lt, is_le, ordering_index}
 use Rattle.std.specs.List.Sorted.{IsSortedBy, IsPartitionedBy, IsNonDecreasingBy}
 use Rattle.std.proofs.lemmas.List.Sorted.{searchable_from_sorted}
@@ -9,24 +8,16 @@ use Rattle.mr_version.specs.Name.{Name, name_cmp}
 use Rattle.mr_version.specs.Order.{names_total}
 
 below_one : (o : Ordering) → is_lt o ≡ true → ordering_index o ≤ 0
-below_one Less h = omega arith
-below_one Equal h = absurd (cc)
-below_one Greater h = absurd (cc)
+below_one o h = grind arith
 
 is_below : (o : Ordering) → ordering_index o ≤ 0 → is_lt o ≡ true
-is_below Less h = refl
-is_below Equal h = absurd (omega (arith, h))
-is_below Greater h = absurd (omega (arith, h))
+is_below o h = grind arith
 
 below_two : (o : Ordering) → is_le o ≡ true → ordering_index o ≤ 1
-below_two Less h = omega arith
-below_two Equal h = omega arith
-below_two Greater h = absurd (cc)
+below_two o h = grind arith
 
 is_up_to : (o : Ordering) → ordering_index o ≤ 1 → is_le o ≡ true
-is_up_to Less h = refl
-is_up_to Equal h = refl
-is_up_to Greater h = absurd (omega (arith, h))
+is_up_to o h = grind arith
 
 module _ {X : Type 0} (name : X → Name) (xs : List X) (v : Name) (sorted : IsSortedBy (λ (a b : X). is_lt (name_cmp (name a) (name b))) xs) where
   rises : IsNonDecreasingBy (λ (x : X). ordering_index (name_cmp (name x) v)) xs

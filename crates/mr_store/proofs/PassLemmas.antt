@@ -1,5 +1,5 @@
 -- Revisions at the front that a test refuses are passed without a look at each.
-use Rattle.std.proofs.Common.{◌≡◌, ◌≤◌, ◌<◌, ◌-◌, ◌||◌, ℕ, zero, suc, Bool, true, false, not, List, [], ◌∷◌, length, get_or, take, drop, filter, Some, refl, sym, ap, subst, ◌∙◌, inl, inr, arith}
+use Rattle.std.proofs.Common.{◌≡◌, ◌≤◌, ◌<◌, ◌-◌, ℕ, zero, suc, Bool, true, false, List, [], ◌∷◌, length, get_or, take, drop, filter, Some, refl, sym, ap, subst, ◌∙◌, arith}
 use Rattle.std.specs.List.{slice_get}
 use Rattle.std.specs.List.Sorted.{IsPartitionPoint}
 use Rattle.std.proofs.Math.Seq.{take-length}
@@ -9,7 +9,7 @@ use Rattle.std.proofs.lemmas.Bool.{cases_order, and_right}
 use Rattle.std.proofs.lemmas.Bool.Decides.{nat_tests}
 use Rattle.mr_version.specs.Name.{Name}
 use Rattle.mr_version.specs.Order.{names_total}
-use Rattle.mr_forms.specs.Covered.{all_covered, has_item}
+use Rattle.mr_forms.specs.Covered.{all_covered}
 use Rattle.mr_concise.specs.AnyOf.{in_any}
 use Rattle.mr_concise.specs.Fragments.{ConciseFragment}
 use Rattle.mr_concise.specs.declared.vector.AuthorColumn.{AuthorColumn}
@@ -53,12 +53,7 @@ passes_first p (x ∷ xs) first at is =
 
 -- a name that is not before another one, and before a counter of its author, is of that author and between
 pub between_names : (v low : Name) (until : ℕ) → is_before v (record { author = low.author; counter = until }) ≡ true → is_before v low ≡ false → (v.author ≡ low.author) × (low.counter ≤ v.counter) × (v.counter < until)
-between_names v low until before not_below =
-    elim (cases_order v.author low.author) [
-      | inl same ↦ (same, (let h : low.counter ≤ v.counter = grind (arith, nat_tests) in h), (let h : v.counter < until = grind (arith, nat_tests) in h))
-      | inr (inl less) ↦ absurd (grind (arith, nat_tests))
-      | inr (inr more) ↦ absurd (grind (arith, nat_tests))
-    ]
+between_names v low until before not_below = grind (arith, cases_order, nat_tests)
 
 -- what a test refuses at the front leaves what it keeps as it is
 pub filter_behind : (p : Rev → Bool) (rs : List Rev) (n : ℕ) → n ≤ length rs → ((k : ℕ) (d : Rev) → k < n → p (get_or rs k d) ≡ false) → filter p (drop n rs) ≡ filter p rs
@@ -97,28 +92,15 @@ module _ (p : Rev → Bool) (first : Rev) (until : ℕ)
 pub held_stays : (learned : List ConciseFragment) (held : List (List AuthorColumn)) (first : Rev) (until : ℕ)
     → ((counter : ℕ) → first.version.counter ≤ counter → counter < until → in_any vector_has held (version_at first.version counter) ≡ true)
     → (counter : ℕ) → first.version.counter ≤ counter → counter < until → (r : Rev) → r.version ≡ version_at first.version counter → is_unheld learned held r.item r.version ≡ false
-held_stays learned held first until has counter low high r is =
-    and_right (all_covered vector_has learned r.item r.version) (not (in_any vector_has held r.version)) (ap not (ap (in_any vector_has held) is ∙ has counter low high))
+held_stays learned held first until has counter low high r is = grind (arith, and_right)
 
 -- what no fragment has is covered for no item
 uncovered : (learned : List ConciseFragment) (i v : Name) → in_any by_vector learned v ≡ false → all_covered vector_has learned i v ≡ false
 uncovered [] i v none = refl
-uncovered (f ∷ fs) i v none =
-    let here : vector_has f.vector v ≡ false = first_not (vector_has f.vector v) (in_any by_vector fs v) none in
-    let later : in_any by_vector fs v ≡ false = second_not (vector_has f.vector v) (in_any by_vector fs v) none in
-    rw (and_right (has_item f.items i) (vector_has f.vector v) here) (uncovered fs i v later)
-  where
-    first_not : (a b : Bool) → (a || b) ≡ false → a ≡ false
-    first_not true b h = cc
-    first_not false b h = refl
-
-    second_not : (a b : Bool) → (a || b) ≡ false → b ≡ false
-    second_not true b h = cc
-    second_not false b h = h
+uncovered (f ∷ fs) i v none = grind (arith, uncovered fs i v, and_right)
 
 -- what no fragment has is not unheld
 pub uncovered_stays : (learned : List ConciseFragment) (held : List (List AuthorColumn)) (first : Rev) (until : ℕ)
     → ((counter : ℕ) → first.version.counter ≤ counter → counter < until → in_any by_vector learned (version_at first.version counter) ≡ false)
     → (counter : ℕ) → first.version.counter ≤ counter → counter < until → (r : Rev) → r.version ≡ version_at first.version counter → is_unheld learned held r.item r.version ≡ false
-uncovered_stays learned held first until none counter low high r is =
-    rw (uncovered learned r.item r.version (ap (in_any by_vector learned) is ∙ none counter low high)) refl
+uncovered_stays learned held first until h counter low high r is = grind (arith, uncovered)

@@ -35,15 +35,7 @@ module _ {Z : Type 0} (passes : Name → Bool) (room : Option Room) where
 
   -- an item's list that stays, or goes
   becomes_first : (i : Name) (b : Bool) (v w : Vec Name Z) (rest : Option (Vec Name Z)) → b ≡ is_needed room i w.items → IsKept v w → rest ≡ None → Becomes i (Some v) (cond b (Some w) rest)
-  becomes_first i true v w rest stays kept none = record {
-    listed = rw (← kept.items, ← stays) refl;
-    has_room = λ has. omega (arith, kept.fewer, kept.capacity, has);
-  }
-  becomes_first i false v w rest goes kept none =
-      rw none (record {
-        listed = rw (← kept.items, ← goes) refl;
-        has_room = λ _. tt;
-      })
+  becomes_first i b v w rest stays kept h = grind arith
 
   none_later : (i : Name) (es : List (Name × Vec Name Z)) → AllByRecursion (λ u. name_cmp i u ≡ Less) (map key_of es) → lookup (is_at (name_cmp i)) es ≡ None
   none_later i [] later = refl
@@ -53,14 +45,7 @@ module _ {Z : Type 0} (passes : Name → Bool) (room : Option Room) where
     -- no entry comes
     none_comes : (test : Name → Bool) (es kept : List (Name × Vec Name Z)) → RetainsPairs T f es kept → lookup test es ≡ None → lookup test kept ≡ None
     none_comes test [] kept h none = rw h refl
-    none_comes test (e ∷ es) kept h none =
-        let one = each e.0 e.1 h.0 h.1 h.2 h.4 in
-        elim (either (test e.0)) [
-          | inl here ↦ cc (rw here at none)
-          | inr apart ↦
-              let rest = none_comes test es h.3 (subst (λ g. RetainsPairs T g es h.3) one.2 h.5) (rw apart at none) in
-              rw h.6 (elim h.0 as (λ b. lookup test (cond b ((e.0, h.1) ∷ h.3) h.3) ≡ None) [ true ↦ rw apart rest | false ↦ rest ])
-        ]
+    none_comes test (e ∷ es) kept h none = grind (arith, none_comes test es h.3, either)
 
     becomes : (i : Name) (es kept : List (Name × Vec Name Z)) → AreRising key_of es → RetainsPairs T f es kept → Becomes i (lookup (is_at (name_cmp i)) es) (lookup (is_at (name_cmp i)) kept)
     becomes i [] kept rising h = rw h (record { listed = refl; has_room = λ has. has })

@@ -1,7 +1,6 @@
 -- the versions of an item, after each edit of a list
-use Rattle.std.proofs.Common.{◌≡◌, ◌<◌, ◌==◌, ℕ, zero, suc, length, Result, Ok, Err, IfOk, IfErr, is_ok, is_some, Bool, true, false, not, ◌&&◌, ◌||◌, cond, if◌then◌else◌, refl, sym, ap, subst, ◌∙◌, List, [], ◌∷◌, ◌++◌, map, ◌⊎◌, inl, inr, Option, Some, None, arith}
+use Rattle.std.proofs.Common.{◌≡◌, ◌<◌, ◌==◌, ℕ, zero, suc, length, Result, IfOk, IfErr, is_ok, is_some, Bool, true, false, not, ◌&&◌, ◌||◌, cond, if◌then◌else◌, refl, sym, ap, subst, ◌∙◌, List, [], ◌∷◌, ◌++◌, map, ◌⊎◌, inl, inr, Option, Some, None, arith}
 use Rattle.std.specs.declared.cmp.Ordering.TheVariants.{Less}
-use Rattle.std.specs.Ordering.{is_eq}
 use Rattle.std.specs.List.{AllByRecursion, filter, filter_map, list_any, slice_get, cons_option}
 use Rattle.std.proofs.lemmas.Option.{slice_get-get_or}
 use Rattle.std.proofs.lemmas.Bool.{eqb-true}
@@ -18,20 +17,12 @@ use Rattle.mr_madewith.proofs.Rising.{name_eq_self, same_names, name_eq-swap, he
 use Rattle.mr_madewith.proofs.Found.{first_place}
 
 pub either : (b : Bool) → (b ≡ true) ⊎ (b ≡ false)
-either true = inl refl
-either false = inr refl
+either b = grind arith
 
 -- of the item itself the superseded versions leave
 versions_of-left_by_same : (item : Name) (below : Versions) (heads : List Rev) → versions_of item (left_by item below heads) ≡ filter (λ v. not (below v)) (versions_of item heads)
 versions_of-left_by_same item below [] = refl
-versions_of-left_by_same item below (r ∷ rs) =
-    elim (either (is_of item r)) [
-      | inl of ↦ elim (either (below r.version)) [
-        | inl is_below ↦ rw (of, is_below) (versions_of-left_by_same item below rs)
-        | inr above ↦ rw (of, above, of) (ap (λ vs. r.version ∷ vs) (versions_of-left_by_same item below rs))
-      ]
-      | inr other ↦ rw (other, other) (versions_of-left_by_same item below rs)
-    ]
+versions_of-left_by_same item below (r ∷ rs) = grind (arith, versions_of-left_by_same item below rs, either)
 
 -- of another item none leaves
 versions_of-left_by_other : (i item : Name) (below : Versions) (heads : List Rev) → name_eq item i ≡ false → versions_of i (left_by item below heads) ≡ versions_of i heads
@@ -84,30 +75,14 @@ versions_of-entered i r (x ∷ xs) rising =
 
 pub filter-filter : {X : Type 0} (p q : X → Bool) (xs : List X) → filter q (filter p xs) ≡ filter (λ x. p x && q x) xs
 filter-filter p q [] = refl
-filter-filter p q (x ∷ xs) =
-    elim (p x) as (λ b. filter q (cond b (x ∷ filter p xs) (filter p xs)) ≡ cond (b && q x) (x ∷ filter (λ x. p x && q x) xs) (filter (λ x. p x && q x) xs)) [
-      | true ↦ elim (q x) as (λ b. cond b (x ∷ filter q (filter p xs)) (filter q (filter p xs)) ≡ cond b (x ∷ filter (λ x. p x && q x) xs) (filter (λ x. p x && q x) xs)) [
-        | true ↦ ap (λ ys. x ∷ ys) (filter-filter p q xs)
-        | false ↦ filter-filter p q xs
-      ]
-      | false ↦ filter-filter p q xs
-    ]
+filter-filter p q (x ∷ xs) = grind (arith, filter-filter p q xs)
 
 -- whether a revision stays, once one more of the listed versions was looked at
 stays_more : (listed here below : Bool) → (here ≡ true → below ≡ true) → (not (listed && below) && not here) ≡ not ((listed || (here || false)) && below)
-stays_more true here true h = refl
-stays_more true true false h = cc (h refl)
-stays_more true false false h = refl
-stays_more false true true h = refl
-stays_more false true false h = cc (h refl)
-stays_more false false true h = refl
-stays_more false false false h = refl
+stays_more listed here below h = grind arith
 
 stays_as_well : (listed here below : Bool) → (here ≡ true → below ≡ false) → not (listed && below) ≡ not ((listed || (here || false)) && below)
-stays_as_well true here below h = refl
-stays_as_well false true true h = cc (h refl)
-stays_as_well false true false h = refl
-stays_as_well false false below h = refl
+stays_as_well listed here below h = grind arith
 
 -- whether the revision is none of these versions that are below
 abbrev pub is_none_of : List Name → Versions → Rev → Bool
@@ -115,18 +90,11 @@ is_none_of vs below r = not (is_listed vs r.version && below r.version)
 
 pub without-more : (vs : List Name) (v : Name) (below : Versions) (heads : List Rev) → below v ≡ true
     → without version_of v (filter (is_none_of vs below) heads) ≡ filter (is_none_of (vs ++ v ∷ []) below) heads
-without-more vs v below heads is_below =
-    filter-filter (is_none_of vs below) (λ r. not (name_eq r.version v)) heads
-    ∙ filter_agree _ (is_none_of (vs ++ v ∷ []) below) (λ r.
-    rw (list_any-append (name_eq r.version) vs (v ∷ []))
-    (stays_more (is_listed vs r.version) (name_eq r.version v) (below r.version) (λ same. subst (λ w. below w ≡ true) (sym (same_names r.version v same)) is_below))) heads
+without-more vs v below heads is_below = grind (arith, filter-filter, filter_agree, list_any-append, stays_more, same_names)
 
 pub is_none_of-more : (vs : List Name) (v : Name) (below : Versions) (heads : List Rev) → below v ≡ false
     → filter (is_none_of vs below) heads ≡ filter (is_none_of (vs ++ v ∷ []) below) heads
-is_none_of-more vs v below heads above =
-    filter_agree (is_none_of vs below) (is_none_of (vs ++ v ∷ []) below) (λ r.
-    rw (list_any-append (name_eq r.version) vs (v ∷ []))
-    (stays_as_well (is_listed vs r.version) (name_eq r.version v) (below r.version) (λ same. subst (λ w. below w ≡ false) (sym (same_names r.version v same)) above))) heads
+is_none_of-more vs v below heads above = grind (arith, filter_agree, list_any-append, stays_as_well, same_names)
 
 -- tests that agree along a list keep the same elements
 filter-along : {X : Type 0} (p q : X → Bool) (xs : List X) → AllByRecursion (λ x. p x ≡ q x) xs → filter p xs ≡ filter q xs
@@ -141,9 +109,7 @@ unlisted_before v (u ∷ vs) h = rw h.0 (unlisted_before v vs h.1)
 along_later : (item : Name) (x : Rev) (xs ys : List Rev) → AllByRecursion (λ v. name_cmp x.version v ≡ Less) (map version_of ys)
     → AllByRecursion (λ r. is_listed (versions_of item xs) r.version ≡ is_of item r) ys → AllByRecursion (λ r. is_listed (versions_of item (x ∷ xs)) r.version ≡ is_of item r) ys
 along_later item x xs [] later h = tt
-along_later item x xs (y ∷ ys) later h =
-    let apart : name_eq y.version x.version ≡ false = name_eq-swap y.version x.version ∙ ap is_eq later.0 in
-    (elim (is_of item x) as (λ b. is_listed (map version_of (cond b (x ∷ filter (is_of item) xs) (filter (is_of item) xs))) y.version ≡ is_of item y) [ true ↦ rw apart h.0 | false ↦ h.0 ], along_later item x xs ys later.1 h.1)
+along_later item x xs (y ∷ ys) later h = grind (arith, along_later item x xs ys later.1 h.1, name_eq-swap)
 
 is_listed-versions_of : (item : Name) (heads : List Rev) → AreInVersionOrder heads → AllByRecursion (λ r. is_listed (versions_of item heads) r.version ≡ is_of item r) heads
 is_listed-versions_of item [] rising = tt
@@ -174,11 +140,7 @@ filter-all (x ∷ xs) = ap (λ ys. x ∷ ys) (filter-all xs)
 -- whether some version of the item passes
 pub any-versions_of : (p : Name → Bool) (item : Name) (rs : List Rev) → list_any p (versions_of item rs) ≡ list_any (λ r. is_of item r && p r.version) rs
 any-versions_of p item [] = refl
-any-versions_of p item (r ∷ rs) =
-    elim (is_of item r) as (λ b. list_any p (map version_of (cond b (r ∷ filter (is_of item) rs) (filter (is_of item) rs))) ≡ ((b && p r.version) || list_any (λ r. is_of item r && p r.version) rs)) [
-      | true ↦ ap (λ b. p r.version || b) (any-versions_of p item rs)
-      | false ↦ any-versions_of p item rs
-    ]
+any-versions_of p item (r ∷ rs) = grind (arith, any-versions_of p item rs)
 
 -- ---- the revisions of the versions that are below
 
@@ -214,33 +176,19 @@ found-versions_of item below (x ∷ xs) rising =
 -- the versions of the item that don't pass
 pub versions_of-filter : (passes : Versions) (i : Name) (rs : List Rev) → versions_of i (filter (λ r. not (passes r.version)) rs) ≡ filter (λ v. not (passes v)) (versions_of i rs)
 versions_of-filter passes i [] = refl
-versions_of-filter passes i (r ∷ rs) =
-    elim (either (is_of i r)) [
-      | inl of ↦ elim (either (passes r.version)) [
-        | inl pass ↦ rw (of, pass) (versions_of-filter passes i rs)
-        | inr fail ↦ rw (of, fail, of) (ap (λ vs. r.version ∷ vs) (versions_of-filter passes i rs))
-      ]
-      | inr other ↦ rw other (elim (passes r.version) as (λ b. versions_of i (cond (not b) (r ∷ filter (λ r. not (passes r.version)) rs) (filter (λ r. not (passes r.version)) rs)) ≡ filter (λ v. not (passes v)) (versions_of i rs)) [
-        | true ↦ versions_of-filter passes i rs
-        | false ↦ rw other (versions_of-filter passes i rs)
-      ])
-    ]
+versions_of-filter passes i (r ∷ rs) = grind (arith, versions_of-filter passes i rs, either)
 
 -- ---- what is left without those that pass
 
 -- a version that stands before all of these is none of theirs
 holds_before : (v : Name) (rs : List Rev) → AllByRecursion (λ u. name_cmp v u ≡ Less) (map version_of rs) → holds rs v ≡ false
 holds_before v [] later = refl
-holds_before v (r ∷ rs) later =
-    let apart : name_eq r.version v ≡ false = name_eq-swap r.version v ∙ ap is_eq later.0 in
-    rw apart (holds_before v rs later.1)
+holds_before v (r ∷ rs) later = grind (arith, holds_before v rs later.1, name_eq-swap)
 
 passing_later : (p : Rev → Bool) (x : Rev) (xs ys : List Rev) → AllByRecursion (λ v. name_cmp x.version v ≡ Less) (map version_of ys)
     → AllByRecursion (λ r. not (holds (filter p xs) r.version) ≡ not (p r)) ys → AllByRecursion (λ r. not (holds (filter p (x ∷ xs)) r.version) ≡ not (p r)) ys
 passing_later p x xs [] later h = tt
-passing_later p x xs (y ∷ ys) later h =
-    let apart : name_eq x.version y.version ≡ false = ap is_eq later.0 in
-    (elim (p x) as (λ b. not (holds (cond b (x ∷ filter p xs) (filter p xs)) y.version) ≡ not (p y)) [ true ↦ rw apart h.0 | false ↦ h.0 ], passing_later p x xs ys later.1 h.1)
+passing_later p x xs (y ∷ ys) later h = grind (arith, passing_later p x xs ys later.1 h.1)
 
 -- among rising revisions, those that pass have the versions of no others
 passing : (p : Rev → Bool) (rs : List Rev) → AreInVersionOrder rs → AllByRecursion (λ r. not (holds (filter p rs) r.version) ≡ not (p r)) rs
@@ -277,12 +225,10 @@ is_some-slice_get (r ∷ rs) (suc i) within = is_some-slice_get rs i (omega arit
 
 -- a search by version finds what is there
 pub found_holds : (rs : List Rev) (v : Name) (found : Result ℕ ℕ) → IfOk found (IsFoundAt version_of v rs) → IfErr found (IsGapFor version_of v rs) → is_ok found ≡ holds rs v
-found_holds rs v (Ok i) there absent = sym (is_some-slice_get rs i there.within) ∙ sym (ap is_some there.is)
-found_holds rs v (Err i) there absent = sym (ap is_some absent.none)
+found_holds rs v found there absent = grind (arith, is_some-slice_get, is_some)
 
 none_of_both : (b : Bool) → (b && false) ≡ false
-none_of_both true = refl
-none_of_both false = refl
+none_of_both b = grind arith
 
 -- where no version is below, nothing leaves
 pub left_by_none : (item : Name) (below : Versions) (rs : List Rev) → ((v : Name) → below v ≡ false) → rs ≡ left_by item below rs

@@ -1,5 +1,5 @@
 -- Records, requests, receipts and frames are read from their parts.
-use Rattle.std.proofs.Common.{◌≡◌, ◌≢◌, ℕ, ◌≤◌, ◌<◌, ◌^◌, true, List, [], ◌∷◌, Option, Some, None, refl, sym, ap, subst, ◌∙◌, arith}
+use Rattle.std.proofs.Common.{◌≡◌, ◌≢◌, ℕ, ◌≤◌, ◌<◌, ◌^◌, true, List, [], ◌∷◌, Option, Some, None, refl, subst, arith}
 use Rattle.std.specs.Prelude.{IfSome, IsSomeAnd, MatchOption, nat_le}
 use Rattle.std.specs.Global.{Vec}
 use Rattle.std.specs.Int.{w32}
@@ -29,9 +29,7 @@ use Rattle.mr_wire.specs.Grammar.{IsFramed, IsHeader}
 -- ---- one part seen as another value
 
 kept_as : {X Y : Type 0} (to : X → Y) (made : Option Y) (kept : Option X) (x : X) → IfSome kept (λ k. k ≡ x) → MatchOption kept (made ≡ None) (λ k. IsSomeAnd made (λ y. y ≡ to k)) → IfSome made (λ y. y ≡ to x)
-kept_as to None kept x is made = tt
-kept_as to (Some y) None x is made = absurd cc
-kept_as to (Some y) (Some k) x is made = made ∙ ap to is
+kept_as to h kept x is made = grind arith
 
 pub stands_as : {X Y : Type 0} {at : Reader X} {old new : List ℕ} {kept : Option X} {Note : X → Type 0} (to : X → Y) (made : Option Y) → Stands (λ (x : X). x) at old kept new Note → MatchOption kept (made ≡ None) (λ k. IsSomeAnd made (λ y. y ≡ to k)) →
     Stands (λ (y : Y). y) (as_at to at) old made new (λ _. Unit {0})
@@ -40,10 +38,7 @@ stands_as {X} {Y} {at} {old} {new} {kept} to made s h = record { part = to s.par
 -- ---- records
 
 at_as : {X : Type 0} (at : Reader X) (index : ℕ) (to : X → Body) → ((x : X) → IsIndexOf (to x) index) → (old : List ℕ) (says : Body) (new : List ℕ) → as_at to at old ≡ Some (says, new) → IsIndexOf says index
-at_as at index to each old says new e =
-    let a = bind_some (at old) (λ x. Some (to x.0, x.1)) (says, new) e in
-    let is : (to a.0.0, a.0.1) ≡ (says, new) = some_is (to a.0.0, a.0.1) (says, new) a.2 in
-    subst (λ (p : Body × List ℕ). IsIndexOf p.0 index) is (each a.0.0)
+at_as at index to each old says new e = grind (arith, bind_some, some_is)
 
 -- the index of what is read fits what it says
 pub index_of : (k : Kind) (old : List ℕ) (says : Body) (new : List ℕ) (index : ℕ) → body_at k old ≡ Some (says, new) → index_fits k index ≡ true → IsIndexOf says index
@@ -57,9 +52,7 @@ index_of kind.Ask old says new index e h = absurd cc
 index_of kind.Receipt old says new index e h = absurd cc
 
 kept_record : (r : Option Sent) (kept : Option Body) (header : Header) (body : Body) → IfSome kept (λ b. b ≡ body) → IfSome r (λ r. IsSomeAnd kept (λ b. r ≡ record { header = header; body = b })) → IfSome r (λ r. r ≡ record { header = header; body = body })
-kept_record None kept header body is made = tt
-kept_record (Some r) None header body is made = absurd made
-kept_record (Some r) (Some b) header body is made = made ∙ ap (λ (b : Body). record { header = header; body = b }) is
+kept_record r kept header body is made = grind arith
 
 pub reads_serial : Reads (λ n. (n < 2 ^ 64) × (1 ≤ n)) u64 serial_at
 reads_serial = reads_like (λ n. (n < 2 ^ 64) × (1 ≤ n)) u64 (reads_only (λ n. nat_le 1 n) reads_u64) (λ n h. (h.0, leb-true 1 n h.1)) (λ n h. (h.0, le-leb 1 n h.1)) (λ n. refl)
@@ -79,8 +72,7 @@ module _ (k : Kind) (old r1 new : List ℕ) (header : Header) (e : header_at old
   is_sent = let serial = serials old header r1 e in record { stream_from = serial.0; session_from = serial.1; index_is = index_of k r1 s.part new header.index s.stands fits }
 
   if_sent_of : (kept : Option Body) → IfSome kept (λ b. b ≡ s.part) → IfSome kept (IsSent header)
-  if_sent_of None h = tt
-  if_sent_of (Some b) h = let P : Body → Type 0 = IsSent header in subst P (sym h) is_sent
+  if_sent_of kept h = grind (arith, is_sent)
 
   pub if_sent : IfSome kept (IsSent header)
   if_sent = if_sent_of kept s.is_part
@@ -91,9 +83,7 @@ module _ (k : Kind) (old r1 new : List ℕ) (header : Header) (e : header_at old
 -- ---- receipts
 
 kept_receipt : (r : Option Receipt) (kept : Option DescentParts) (giver : ℕ) (descent : DescentParts) → IfSome kept (λ d. d ≡ descent) → IfSome r (λ r. IsSomeAnd kept (λ d. r ≡ record { giver = giver; descent = d })) → IfSome r (λ r. r ≡ record { giver = giver; descent = descent })
-kept_receipt None kept giver descent is made = tt
-kept_receipt (Some r) None giver descent is made = absurd made
-kept_receipt (Some r) (Some d) giver descent is made = made ∙ ap (λ (l : DescentParts). record { giver = giver; descent = l }) is
+kept_receipt r kept giver descent is made = grind arith
 
 pub stands_receipt : (old r1 new : List ℕ) (giver : ℕ) (kept : Option DescentParts) (Note : DescentParts → Type 0) (r : Option Receipt) → author_at old ≡ Some (giver, r1) → Stands (λ (d : DescentParts). d) descent_at r1 kept new Note →
     IfSome r (λ r. IsSomeAnd kept (λ d. r ≡ record { giver = giver; descent = d })) → Stands (λ (r : Receipt). r) receipt_at old r new (λ _. Unit {0})
@@ -121,18 +111,14 @@ module _ (old r1 r2 r3 r4 new : List ℕ) (target session count : ℕ) (e1 : aut
       record { session_from = from.1.1; rise = fragments_rise s5.part None run.1.1; few = omega (arith, run.1.0, few.1) }
 
   if_question_of : (kept : Option (Vec Piece)) → IfSome kept (λ v. v.items ≡ s5.part) → IfSome kept (λ v. IsQuestion session v.items)
-  if_question_of None h = tt
-  if_question_of (Some v) h = let P : List Piece → Type 0 = IsQuestion session in subst P (sym h) is_question
+  if_question_of kept h = grind (arith, is_question)
 
   pub if_question : IfSome kept (λ v. IsQuestion session v.items)
   if_question = if_question_of kept s5.is_part
 
   kept_ask : (a : Option Question) (filter : Option (List ClauseParts)) (kept : Option (Vec Piece)) → IfSome filter (λ f. f ≡ s3.part) → IfSome kept (λ v. v.items ≡ s5.part) →
       IfSome a (λ a. IsSomeAnd filter (λ f. IsSomeAnd kept (λ v. a ≡ record { target = target; session = session; filter = f; fragments = v.items }))) → IfSome a (λ a. a ≡ record { target = target; session = session; filter = s3.part; fragments = s5.part })
-  kept_ask None filter kept is_f is_k made = tt
-  kept_ask (Some a) None kept is_f is_k made = absurd made
-  kept_ask (Some a) (Some f) None is_f is_k made = absurd made
-  kept_ask (Some a) (Some f) (Some v) is_f is_k made = made ∙ rw (is_f, is_k) refl
+  kept_ask a filter kept is_f is_k made = grind arith
 
   pub stands_ask : (a : Option Question) → IfSome a (λ a. IsSomeAnd filter (λ f. IsSomeAnd kept (λ v. a ≡ record { target = target; session = session; filter = f; fragments = v.items }))) → Stands (λ (a : Question). a) ask_at old a new (λ _. Unit {0})
   stands_ask a made = record {
@@ -144,11 +130,4 @@ module _ (old r1 r2 r3 r4 new : List ℕ) (target session count : ℕ) (e1 : aut
 
 -- what is no request and no receipt is a record
 pub frame_of_record : (k : Kind) → k ≢ kind.Ask → k ≢ kind.Receipt → frame_at k ≡ as_at frame.Record (record_at k)
-frame_of_record kind.Ask ask receipt = absurd (ask refl)
-frame_of_record kind.Receipt ask receipt = absurd (receipt refl)
-frame_of_record kind.Start ask receipt = refl
-frame_of_record kind.Item ask receipt = refl
-frame_of_record kind.MoveOut ask receipt = refl
-frame_of_record kind.Held ask receipt = refl
-frame_of_record kind.Know ask receipt = refl
-frame_of_record kind.End ask receipt = refl
+frame_of_record k ask receipt = grind arith

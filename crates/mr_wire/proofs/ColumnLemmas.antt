@@ -1,5 +1,5 @@
 -- A column is read from its parts.
-use Rattle.std.proofs.Common.{◌≡◌, ℕ, ◌<◌, ◌≤◌, ◌+◌, ◌||◌, Bool, true, false, ◌&&◌, ◌⊎◌, inl, inr, List, [], ◌∷◌, length, Option, Some, None, refl, sym, ap, ◌∙◌, arith}
+use Rattle.std.proofs.Common.{◌≡◌, ℕ, ◌<◌, ◌≤◌, ◌||◌, Bool, true, false, ◌&&◌, List, [], ◌∷◌, length, Option, Some, None, refl, sym, ap, ◌∙◌, arith}
 use Rattle.std.specs.Prelude.{IfSome, IsSomeAnd, nat_le, not, ◌==◌}
 use Rattle.std.specs.List.{list_any}
 use Rattle.std.specs.Global.{Vec}
@@ -38,9 +38,7 @@ module _ (old r1 r2 r3 : List ℕ) (low author upto count : ℕ) (e1 : author_at
   kept_column : (column : Option AuthorColumn) (kept : Option (Vec Hole)) (holes : List Hole) → IfSome kept (λ v. v.items ≡ holes) →
       IfSome column (λ x. IsSomeAnd kept (λ v. x ≡ record { author = author; column = record { upto = upto; holes = v.items } })) →
       IfSome column (λ x. x ≡ record { author = author; column = record { upto = upto; holes = holes } })
-  kept_column None kept holes a b = tt
-  kept_column (Some x) None holes a b = absurd b
-  kept_column (Some x) (Some v) holes a b = b ∙ ap (λ (hs : List Hole). record { author = author; column = record { upto = upto; holes = hs } }) a
+  kept_column column kept holes a b = grind arith
 
   pub stands_column : (watch : Watch) (counters : Counters) (hits : Seen) (head : Head) (column : Option AuthorColumn) (kept : Option (Vec Hole)) (new : List ℕ) →
       Stands (λ (v : Vec Hole). v.items) (holes_at upto 0 count) r3 kept new (AreSeen counters hits) →
@@ -65,48 +63,30 @@ module _ (old r1 r2 r3 : List ℕ) (low author upto count : ℕ) (e1 : author_at
 -- a vector that rises from above the author has nothing of that author
 none_below : (xs : List AuthorColumn) (low : ℕ) (place : Place) → place.author < low → IsVectorFrom low xs → list_any (λ x. is_in_column x place) xs ≡ false
 none_below [] low place lt h = refl
-none_below (x ∷ xs) low place lt h =
-    let a = h.0 in
-    let other : (x.author == place.author) ≡ false = ne_eqb _ _ (λ e. omega (arith, e)) in
-    rw (other, none_below xs (x.author + 1) place (omega arith) h.3) refl
+none_below (x ∷ xs) low place lt h = grind (arith, none_below xs, ne_eqb)
 
 or_none : (b : Bool) → (b || false) ≡ b
-or_none true = refl
-or_none false = refl
+or_none b = grind arith
 
 and_none : (b : Bool) → ((b && false) && true) ≡ false
-and_none true = refl
-and_none false = refl
+and_none b = grind arith
 
 in_empty : (c : ℕ) → column_has empty_column c ≡ false
-in_empty c = at_one (leb_tells c 0)
-  where
-    at_one : ((nat_le c 0 ≡ true) × (c ≤ 0)) ⊎ ((nat_le c 0 ≡ false) × (0 < c)) → ((nat_le 1 c && nat_le c 0) && true) ≡ false
-    at_one (inl (e, le)) = let one : nat_le 1 c ≡ false = lt-leb 1 c (omega arith) in rw one refl
-    at_one (inr (e, lt)) = rw e (and_none (nat_le 1 c))
+in_empty c = grind (arith, leb_tells, lt-leb, and_none)
 
 pub any_column : (xs : List AuthorColumn) (low : ℕ) (place : Place) → IsVectorFrom low xs → list_any (λ x. is_in_column x place) xs ≡ vector_has xs (name_of_place place)
 any_column [] low place h = sym (in_empty place.counter)
-any_column (x ∷ xs) low place h = at_author (x.author == place.author) refl (any_column xs (x.author + 1) place h.3)
-  where
-    at_author : (b : Bool) → (x.author == place.author) ≡ b → list_any (λ y. is_in_column y place) xs ≡ vector_has xs (name_of_place place) → list_any (λ y. is_in_column y place) (x ∷ xs) ≡ vector_has (x ∷ xs) (name_of_place place)
-    at_author true e others =
-        let same : x.author ≡ place.author = eqb-true _ _ e in
-        rw (e, none_below xs (x.author + 1) place (omega (arith, same)) h.3) (or_none (column_has x.column place.counter))
-    at_author false e others = rw e others
+any_column (x ∷ xs) low place h = grind (arith, any_column xs, eqb-true, none_below, or_none)
 
 module _ (r1 : List ℕ) (count : ℕ) where
   is_vector : (columns : List AuthorColumn) (new : List ℕ) → columns_at 0 count r1 ≡ Some (columns, new) → IsVectorFrom 0 columns × (length columns ≡ count)
   is_vector columns new h = let run = (reads_run after_column reads_column 0 count).takes r1 columns new h in (columns_stand columns 0 run.1.1, run.1.0)
 
   pub if_vector : (kept : Option (Vec AuthorColumn)) (new : List ℕ) (Note : List AuthorColumn → Type 0) → Stands (λ (v : Vec AuthorColumn). v.items) (columns_at 0 count) r1 kept new Note → IfSome kept (λ v. IsVectorFrom 0 v.items)
-  if_vector None new Note s = tt
-  if_vector (Some v) new Note s = rw s.is_part ((is_vector s.part new s.stands).0)
+  if_vector kept new Note s = grind (arith, is_vector)
 
 kept_vector : (vector : Option (List AuthorColumn)) (kept : Option (Vec AuthorColumn)) (columns : List AuthorColumn) → IfSome kept (λ v. v.items ≡ columns) → IfSome vector (λ x. IsSomeAnd kept (λ v. x ≡ v.items)) → IfSome vector (λ x. x ≡ columns)
-kept_vector None kept columns a b = tt
-kept_vector (Some x) None columns a b = absurd b
-kept_vector (Some x) (Some v) columns a b = b ∙ a
+kept_vector vector kept columns a b = grind arith
 
 pub stands_vector : (old r1 : List ℕ) (count : ℕ) → number_at w16 old ≡ Some (count, r1) → (watch : Watch) (seen : Seen) (vector : Option (List AuthorColumn)) (kept : Option (Vec AuthorColumn)) (new : List ℕ) →
     Stands (λ (v : Vec AuthorColumn). v.items) (columns_at 0 count) r1 kept new (AreIn watch seen) → IfSome vector (λ x. IsSomeAnd kept (λ v. x ≡ v.items)) →

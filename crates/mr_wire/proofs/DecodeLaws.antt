@@ -5,17 +5,15 @@ use Rattle.std.proofs.lemmas.Bool.{eqb-true}
 use Rattle.std.proofs.lemmas.List.{append-nil, length-append}
 use Rattle.mr_wire.specs.declared.decoding.TheConstants.{MAX_REST_BYTES}
 use Rattle.mr_wire.specs.declared.fault.WireFault.{WireFault}
-use Rattle.mr_wire.specs.declared.fault.WireFault.TheVariants.{BadFormat, BadKind, BadBody}
+use Rattle.mr_wire.specs.declared.fault.WireFault.TheVariants.{BadBody}
 use Rattle.mr_wire.specs.declared.frame.Frame.{Frame}
 use Rattle.mr_wire.specs.declared.kind.Kind.{Kind}
 use Rattle.mr_wire.specs.declared.kind.Kind.TheVariants as kind
 use Rattle.mr_wire.specs.Kinds.{kind_byte, kind_of_byte}
-use Rattle.mr_wire.specs.Reading.{◌>>=◌}
 use Rattle.mr_wire.specs.Spelling.{u32}
 use Rattle.mr_wire.specs.FrameParts.{frame_at}
 use Rattle.mr_wire.specs.FrameSpelling.{part_bytes, kind_of, rest_bytes}
 use Rattle.mr_wire.specs.Grammar.{IsFrame, Spells}
-use Rattle.mr_wire.specs.Prefixed.{or_fault}
 use Rattle.mr_wire.specs.Decoding.{rest_faults, kind_and_parts, whole_frame, decoded, Answers}
 use Rattle.mr_wire.proofs.Laws.{bind_some, test_some}
 use Rattle.mr_wire.proofs.PrefixLaws.{or_ok, test_ok, kind_step, whole_found, value_takes, value_again, same_front}
@@ -24,16 +22,10 @@ use Rattle.mr_wire.proofs.FrameLaws.{frame_takes, frame_again}
 -- ---- the kind
 
 last_step : (format byte : ℕ) (k : Kind) → cond (eqb byte 7 && not (eqb format 1)) (Some kind.Receipt) None ≡ Some k → byte ≡ kind_byte k
-last_step format byte k e = at_test (eqb byte 7) refl e
-  where
-    at_test : (b : Bool) → eqb byte 7 ≡ b → cond (b && not (eqb format 1)) (Some kind.Receipt) None ≡ Some k → byte ≡ kind_byte k
-    at_test true h e' = let t = test_some (not (eqb format 1)) kind.Receipt k e' in eqb-true byte 7 h ∙ ap kind_byte t.1
-    at_test false h e' = absurd cc
+last_step format byte k e = grind (arith, eqb, test_some, eqb-true)
 
 pub byte_is : (format byte : ℕ) (k : Kind) → kind_of_byte format byte ≡ Some k → byte ≡ kind_byte k
-byte_is format byte k =
-    kind_step kind_byte byte kind.Ask k _ (kind_step kind_byte byte kind.Start k _ (kind_step kind_byte byte kind.Item k _ (kind_step kind_byte byte kind.MoveOut k _
-    (kind_step kind_byte byte kind.Held k _ (kind_step kind_byte byte kind.Know k _ (kind_step kind_byte byte kind.End k _ (last_step format byte k)))))))
+byte_is format byte k = grind (arith, kind_step, last_step)
 
 one_or_two : (format : ℕ) → (eqb format 1 || eqb format 2) ≡ true → (format ≡ 1) ⊎ (format ≡ 2)
 one_or_two format h = at_test (eqb format 1) refl h
@@ -50,17 +42,7 @@ pub record TakesHead (rest : List ℕ) (k : Kind) (parts : List ℕ) : Type 0 wh
   pub whole : rest ≡ format ∷ kind_byte k ∷ parts
 
 head_takes : (rest : List ℕ) (k : Kind) (parts : List ℕ) → kind_and_parts rest ≡ Ok (k, parts) → TakesHead rest k parts
-head_takes [] k parts e = absurd cc
-head_takes (format ∷ []) k parts e = absurd cc
-head_takes (format ∷ byte ∷ more) k parts e =
-    let a = test_ok (eqb format 1 || eqb format 2) (or_fault BadKind (kind_of_byte format byte >>= λ kind. Some (kind, more))) BadFormat (k, parts) e in
-    let b = bind_some (kind_of_byte format byte) (λ kind. Some (kind, more)) (k, parts) (or_ok BadKind (kind_of_byte format byte >>= λ kind. Some (kind, more)) (k, parts) a.1) in
-    let is : (b.0, more) ≡ (k, parts) = cc in
-    let kind_is : b.0 ≡ k = ap (λ (p : Kind × List ℕ). p.0) is in
-    let parts_are : more ≡ parts = ap (λ (p : Kind × List ℕ). p.1) is in
-    let same : kind_of_byte format byte ≡ Some k = b.1 ∙ ap (λ (x : Kind). Some x) kind_is in
-    let byte_same = byte_is format byte k same in
-    record { format = format; format_in = one_or_two format a.0; kind_in = ap (kind_of_byte format) (sym byte_same) ∙ same; whole = rw (byte_same, parts_are) refl }
+head_takes rest k parts e = grind (arith, test_ok, eqb, bind_some, or_ok, byte_is, one_or_two)
 
 -- ---- whole frames
 
@@ -101,8 +83,7 @@ decoded_takes bytes f n e =
     }
 
 is_format : (format : ℕ) → (format ≡ 1) ⊎ (format ≡ 2) → (eqb format 1 || eqb format 2) ≡ true
-is_format format (inl e) = rw e refl
-is_format format (inr e) = rw e refl
+is_format format h = grind arith
 
 pub decoded_again : (format : ℕ) (f : Frame) (text more : List ℕ) → Spells format f text → decoded (text ++ more) ≡ Ok (f, length text)
 decoded_again format f text more s =

@@ -1,5 +1,5 @@
 -- A version of an item with what it supersedes: its law, and that it is read from its parts.
-use Rattle.std.proofs.Common.{◌≡◌, ◌≢◌, ℕ, Bool, true, false, cond, ◌&&◌, List, length, Option, Some, None, refl, sym, ap, subst, ◌∙◌}
+use Rattle.std.proofs.Common.{◌≡◌, ℕ, Bool, true, false, cond, ◌&&◌, List, length, Option, Some, None, refl, sym, ap, ◌∙◌, arith}
 use Rattle.std.specs.Prelude.{IfSome, IsSomeAnd, not, ◌==◌, if◌then◌else◌}
 use Rattle.std.proofs.lemmas.Bool.{eqb-true}
 use Rattle.std.proofs.lemmas.List.{nil_from_length}
@@ -23,25 +23,13 @@ use Rattle.mr_wire.proofs.Laws.{Reads, and_left, and_right, reads_like, reads_on
 use Rattle.mr_wire.proofs.PartLaws.{reads_name, reads_vector, both}
 
 not_true : (b : Bool) → not b ≡ true → b ≡ false
-not_true true h = absurd cc
-not_true false h = refl
+not_true b h = grind arith
 
 not_false : (b : Bool) → b ≡ false → not b ≡ true
 not_false b h = rw h refl
 
 pub descent_is : (descent : DescentParts) → is_descent descent ≡ true → IsRevision descent.item descent.version descent.below
-descent_is descent h =
-    let lacks = not_true (vector_has descent.below descent.version) (and_left (not (vector_has descent.below descent.version)) (cond (name_eq descent.version descent.item) (length descent.below == 0) (vector_has descent.below descent.item)) h) in
-    let after = and_right (not (vector_has descent.below descent.version)) (cond (name_eq descent.version descent.item) (length descent.below == 0) (vector_has descent.below descent.item)) h in
-    record {
-      lacks_itself = lacks;
-      first = λ e. let same : name_eq descent.version descent.item ≡ true = ap (λ (v : Name). name_eq descent.version v) (sym e) ∙ name_eq_self descent.version in nil_from_length descent.below (eqb-true _ _ (ap (λ (b : Bool). cond b (length descent.below == 0) (vector_has descent.below descent.item)) (sym same) ∙ after));
-      later = λ ne. at_test (name_eq descent.version descent.item) refl ne after;
-    }
-  where
-    at_test : (b : Bool) → name_eq descent.version descent.item ≡ b → descent.version ≢ descent.item → cond b (length descent.below == 0) (vector_has descent.below descent.item) ≡ true → vector_has descent.below descent.item ≡ true
-    at_test true e ne after = absurd (ne (same_names descent.version descent.item e))
-    at_test false e ne after = after
+descent_is descent h = grind (arith, not_true, and_left, and_right, name_eq_self, nil_from_length, eqb-true, same_names)
 
 pub descent_passes : (descent : DescentParts) → IsRevision descent.item descent.version descent.below → is_descent descent ≡ true
 descent_passes descent r = both (not (vector_has descent.below descent.version)) (cond (name_eq descent.version descent.item) (length descent.below == 0) (vector_has descent.below descent.item)) (not_false (vector_has descent.below descent.version) r.lacks_itself) (at_test (name_eq descent.version descent.item) refl)
@@ -62,38 +50,26 @@ reads_descent = reads_like IsDescent descent_bytes
 module _ (old r1 r2 new : List ℕ) (item version : Name) (e1 : name_at old ≡ Some (item, r1)) (e2 : name_at r1 ≡ Some (version, r2)) (watch : Watch) (told : Told) (below : Option (List AuthorColumn))
     (s : Stands (λ (v : List AuthorColumn). v) vector_at r2 below new (AreHad watch told)) (wv : name_of_place watch.version ≡ version) (wi : name_of_place watch.item ≡ item) where
   test_is : is_descent (descent_with item version s.part) ≡ (not told.seen.version && (if name_eq version item then told.is_empty else told.seen.item))
-  test_is =
-      let v : vector_has s.part version ≡ told.seen.version = sym (s.told.version ∙ ap (vector_has s.part) wv) in
-      let i : vector_has s.part item ≡ told.seen.item = sym (s.told.item ∙ ap (vector_has s.part) wi) in
-      let e : (length s.part == 0) ≡ told.is_empty = sym s.told.empty in
-      ap (λ (b : Bool). not b && cond (name_eq version item) (length s.part == 0) (vector_has s.part item)) v
-      ∙ ap (λ (b : Bool). not told.seen.version && cond (name_eq version item) b (vector_has s.part item)) e
-      ∙ ap (λ (b : Bool). not told.seen.version && cond (name_eq version item) told.is_empty b) i
+  test_is = grind arith
 
   descent_test : descent_at old ≡ (if is_descent (descent_with item version s.part) then Some (descent_with item version s.part, new) else None)
   descent_test = rw (e1, e2, s.stands) refl
 
   if_below : (kept : Option (List AuthorColumn)) → IfSome kept (λ v. v ≡ s.part) → IfSome kept (λ v. descent_with item version v ≡ descent_with item version s.part)
-  if_below None h = tt
-  if_below (Some v) h = ap (descent_with item version) h
+  if_below kept h = grind arith
 
   pub stands_parts : (b : Bool) → b ≡ (not told.seen.version && (if name_eq version item then told.is_empty else told.seen.item)) → b ≡ true →
       Stands (descent_with item version) descent_at old below new (λ descent. (descent.item ≡ item) × (descent.version ≡ version))
-  stands_parts b is h =
-      let yes : is_descent (descent_with item version s.part) ≡ true = test_is ∙ sym is ∙ h in
-      record { part = descent_with item version s.part; stands = descent_test ∙ rw yes refl; is_part = if_below below s.is_part; told = (refl, refl) }
+  stands_parts b is h = grind (arith, test_is, descent_test, if_below)
 
 if_descent : (below : Option (List AuthorColumn)) (item version : Name) (descent : DescentParts) → IfSome below (λ v. descent_with item version v ≡ descent) → IsRevision descent.item descent.version descent.below → IfSome below (IsRevision item version)
-if_descent None item version descent h r = tt
-if_descent (Some v) item version descent h r = let P : DescentParts → Type 0 = λ l. IsRevision l.item l.version l.below in subst P (sym h) r
+if_descent below item version descent h r = grind arith
 
 pub descent_kept : {old new : List ℕ} {Note : DescentParts → Type 0} (item version : Name) (below : Option (List AuthorColumn)) → Stands (descent_with item version) descent_at old below new Note → IfSome below (IsRevision item version)
 descent_kept {old} {new} item version below s = if_descent below item version s.part s.is_part ((reads_descent.takes old s.part new s.stands).1.revision_in)
 
 kept_descent : (d : Option DescentParts) (item version : Name) (below : Option (List AuthorColumn)) (descent : DescentParts) → IfSome below (λ v. descent_with item version v ≡ descent) → IfSome d (λ d. IsSomeAnd below (λ v. d ≡ descent_with item version v)) → IfSome d (λ d. d ≡ descent)
-kept_descent None item version below descent h made = tt
-kept_descent (Some d) item version None descent h made = absurd made
-kept_descent (Some d) item version (Some v) descent h made = made ∙ h
+kept_descent d item version below descent h made = grind arith
 
 pub stands_descent : {old new : List ℕ} {Note : DescentParts → Type 0} (item version : Name) (below : Option (List AuthorColumn)) (d : Option DescentParts) → Stands (descent_with item version) descent_at old below new Note →
     IfSome d (λ d. IsSomeAnd below (λ v. d ≡ descent_with item version v)) → Stands (λ (d : DescentParts). d) descent_at old d new (λ _. Unit {0})
@@ -101,10 +77,7 @@ stands_descent item version below d s made = record { part = s.part; stands = s.
 
 kept_revision : (r : Option Rev) (item version : Name) (below : Option (List AuthorColumn)) (message : Option Mail) (descent : DescentParts) (mail : Mail) → IfSome below (λ v. descent_with item version v ≡ descent) → IfSome message (λ m. m ≡ mail) →
     IfSome r (λ r. IsSomeAnd below (λ v. IsSomeAnd message (λ m. r ≡ record { item = item; version = version; below = v; message = m }))) → IfSome r (λ r. r ≡ rev_with descent mail)
-kept_revision None item version below message descent mail h is made = tt
-kept_revision (Some r) item version None message descent mail h is made = absurd made
-kept_revision (Some r) item version (Some v) None descent mail h is made = absurd made
-kept_revision (Some r) item version (Some v) (Some m) descent mail h is made = made ∙ ap (λ (l : DescentParts). rev_with l m) h ∙ ap (rev_with descent) is
+kept_revision r item version below message descent mail h is made = grind arith
 
 pub stands_revision : {old r1 new : List ℕ} {Note : DescentParts → Type 0} {More : Mail → Type 0} (item version : Name) (below : Option (List AuthorColumn)) (message : Option Mail) (r : Option Rev) → Stands (descent_with item version) descent_at old below r1 Note →
     Stands (λ (m : Mail). m) message_at r1 message new More → IfSome r (λ r. IsSomeAnd below (λ v. IsSomeAnd message (λ m. r ≡ record { item = item; version = version; below = v; message = m }))) →

@@ -1,10 +1,10 @@
 -- The laws of labels, clauses and filters.
-use Rattle.std.proofs.Common.{◌≡◌, ℕ, ◌+◌, ◌<◌, ◌≤◌, true, ◌&&◌, List, [], ◌∷◌, length, Option, Some, None, refl, ap, arith}
+use Rattle.std.proofs.Common.{◌≡◌, ℕ, ◌+◌, ◌<◌, ◌≤◌, true, ◌&&◌, List, [], ◌∷◌, length, Option, Some, None, refl, arith}
 use Rattle.std.specs.Prelude.{nat_le}
 use Rattle.std.specs.List.{flat_map, list_all, AllByRecursion}
 use Rattle.std.specs.List.Sorted.{IsStrictlySortedBy}
 use Rattle.std.specs.Int.{w8}
-use Rattle.std.specs.declared.cmp.Ordering.TheVariants.{Less, Equal, Greater}
+use Rattle.std.specs.declared.cmp.Ordering.TheVariants.{Less}
 use Rattle.std.specs.Ordering.{is_lt}
 use Rattle.std.specs.declared.cmp.Ordering.{Ordering}
 use Rattle.std.specs.Cmp.Lexicographic.{nat_list_cmp_total}
@@ -34,9 +34,7 @@ reads_labels : Reads (λ labels. (length labels ≤ 16) × RunFits LabelFits nex
 reads_labels = reads_counted length few_sixteen (λ n. reads_run next_label reads_label None n)
 
 is_less : (o : Ordering) → is_lt o ≡ true → o ≡ Less
-is_less Less h = refl
-is_less Equal h = absurd cc
-is_less Greater h = absurd cc
+is_less o h = grind arith
 
 all_above : (xs : List (List ℕ)) (a b : List ℕ) → text_cmp a b ≡ Less → AllByRecursion (λ y. text_cmp b y ≡ Less) xs → AllByRecursion (λ y. text_cmp a y ≡ Less) xs
 all_above [] a b lt h = tt
@@ -44,9 +42,7 @@ all_above (x ∷ xs) a b lt h = (nat_list_cmp_total.trans a b x lt h.0, all_abov
 
 above_before : (xs : List (List ℕ)) (before : List ℕ) → RunFits LabelFits next_label (Some before) xs → AllByRecursion (λ y. text_cmp before y ≡ Less) xs
 above_before [] before h = tt
-above_before (x ∷ xs) before h =
-    let lt = is_less (text_cmp before x) (and_right (is_label x) (label_follows (Some before) x) h.0.1) in
-    (lt, all_above xs before x lt (above_before xs x h.1))
+above_before (x ∷ xs) before h = grind (arith, above_before xs x h.1, is_less, and_right, all_above)
 
 labels_rise : (xs : List (List ℕ)) (before : Option (List ℕ)) → RunFits LabelFits next_label before xs → IsStrictlySortedBy text_cmp xs
 unfolding IsStrictlySortedBy
@@ -63,8 +59,7 @@ Heads before [] = Unit {0}
 Heads before (x ∷ xs) = label_follows before x ≡ true
 
 heads_next : (x : List ℕ) (xs : List (List ℕ)) → AllByRecursion (λ y. text_cmp x y ≡ Less) xs → Heads (Some x) xs
-heads_next x [] h = tt
-heads_next x (y ∷ ys) h = ap is_lt h.0
+heads_next x xs h = grind arith
 
 label_short : (x : List ℕ) → is_label x ≡ true → length x < 256
 label_short x h = let le = leb-true (length x) 32 (and_right (nat_le 1 (length x)) (nat_le (length x) 32) (and_left (nat_le 1 (length x) && nat_le (length x) 32) (list_all is_label_byte x) h)) in omega arith
@@ -72,18 +67,13 @@ label_short x h = let le = leb-true (length x) 32 (and_right (nat_le 1 (length x
 labels_fit : (xs : List (List ℕ)) (before : Option (List ℕ)) → IsStrictlySortedBy text_cmp xs → AllByRecursion (λ x. is_label x ≡ true) xs → Heads before xs → RunFits LabelFits next_label before xs
 unfolding IsStrictlySortedBy
 labels_fit [] before rising are head = tt
-labels_fit (x ∷ xs) before rising are head =
-    (((label_short x are.0, tt), both (is_label x) (label_follows before x) are.0 head), labels_fit xs (Some x) rising.1 are.1 (heads_next x xs rising.0))
+labels_fit (x ∷ xs) before rising are head = grind (arith, labels_fit xs, label_short, both, heads_next)
 
 heads_none : (xs : List (List ℕ)) → Heads None xs
-heads_none [] = tt
-heads_none (x ∷ xs) = refl
+heads_none xs = grind arith
 
 pub reads_label_set : Reads IsLabelSet labels_bytes labels_at
-reads_label_set = reads_like IsLabelSet labels_bytes reads_labels
-    (λ xs h. record { rising = labels_rise xs None h.1; each = All-from_recursion (λ x. is_label x ≡ true) xs (labels_are xs None h.1); few = h.0 })
-    (λ xs h. (h.few, labels_fit xs None h.rising (recursion_from_All (λ x. is_label x ≡ true) xs h.each) (heads_none xs)))
-    (λ xs. refl)
+reads_label_set = grind (arith, reads_like, reads_labels, labels_rise, All-from_recursion, labels_are, labels_fit, recursion_from_All, heads_none)
 
 pub reads_flags : Reads (λ n. n ≤ 31) u8 flags_at
 reads_flags = reads_like (λ n. n ≤ 31) u8 (reads_only (λ n. nat_le n 31) reads_u8) (λ n h. leb-true n 31 h.1) (λ n h. (omega arith, le-leb n 31 h)) (λ n. refl)

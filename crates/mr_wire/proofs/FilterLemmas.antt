@@ -13,29 +13,20 @@ use Rattle.mr_wire.proofs.Laws.{reads_run}
 use Rattle.mr_wire.proofs.FilterLaws.{reads_label, reads_label_set, reads_filter, same_clause}
 
 pub if_set : (kept : Option (Vec (List ℕ))) (part : List (List ℕ)) → IfSome kept (λ v. v.items ≡ part) → IsLabelSet part → IfSome kept (λ v. IsLabelSet v.items)
-if_set None part is set = tt
-if_set (Some v) part is set = rw is set
+if_set kept part is set = grind arith
 
 few_of : (wanted barred : Option (Vec (List ℕ))) (a b : List (List ℕ)) → IfSome wanted (λ v. v.items ≡ a) → IfSome barred (λ v. v.items ≡ b) → length a + length b ≤ 8 → IfSome wanted (λ v. IfSome barred (λ w. length v.items + length w.items ≤ 8))
-few_of None barred a b is_a is_b few = tt
-few_of (Some v) None a b is_a is_b few = tt
-few_of (Some v) (Some w) a b is_a is_b few = rw (is_a, is_b) few
+few_of wanted barred a b is_a is_b few = grind arith
 
 kept_clause : (clause : Option ClauseParts) (wanted barred : Option (Vec (List ℕ))) (a b : List (List ℕ)) (on off since : ℕ) → IfSome wanted (λ v. v.items ≡ a) → IfSome barred (λ v. v.items ≡ b) →
     IfSome clause (λ c. IsSomeAnd wanted (λ v. IsSomeAnd barred (λ w. c ≡ clause_with v.items w.items on off since))) → IfSome clause (λ c. c ≡ clause_with a b on off since)
-kept_clause None wanted barred a b on off since is_a is_b made = tt
-kept_clause (Some c) None barred a b on off since is_a is_b made = absurd made
-kept_clause (Some c) (Some v) None a b on off since is_a is_b made = absurd made
-kept_clause (Some c) (Some v) (Some w) a b on off since is_a is_b made = made ∙ rw (is_a, is_b) refl
+kept_clause clause wanted barred a b on off since is_a is_b made = grind arith
 
 pub kept_list : {X : Type 0} (list : Option (List X)) (kept : Option (Vec X)) (part : List X) → IfSome kept (λ v. v.items ≡ part) → IfSome list (λ x. IsSomeAnd kept (λ v. x ≡ v.items)) → IfSome list (λ x. x ≡ part)
-kept_list None kept part is made = tt
-kept_list (Some x) None part is made = absurd made
-kept_list (Some x) (Some v) part is made = made ∙ is
+kept_list list kept part is made = grind arith
 
 if_is : (kept : Option (Vec ClauseParts)) (part : List ClauseParts) → IfSome kept (λ v. v.items ≡ part) → IsFilter part → IfSome kept (λ v. IsFilter v.items)
-if_is None part is set = tt
-if_is (Some v) part is set = rw is set
+if_is kept part is set = grind arith
 
 pub stands_labels : (old r1 : List ℕ) (count : ℕ) → number_at w8 old ≡ Some (count, r1) → count ≤ 16 → (kept : Option (Vec (List ℕ))) (new : List ℕ) →
     Stands (λ (v : Vec (List ℕ)). v.items) (run_at label_at next_label None count) r1 kept new (λ _. Unit {0}) →
@@ -68,20 +59,14 @@ module _ (old r1 r2 r3 r4 new : List ℕ) (wanted barred : Option (Vec (List ℕ
 
   pub stands_clause : n + m ≤ 8 → (clause : Option ClauseParts) → IfSome clause (λ c. IsSomeAnd wanted (λ a. IsSomeAnd barred (λ b. c ≡ clause_with a.items b.items on off since))) →
       Stands (λ (c : ClauseParts). c) clause_at old clause new (λ _. Unit {0})
-  stands_clause le clause made = record {
-    part = clause_with s1.part s2.part on off since;
-    stands = is_clause le;
-    is_part = kept_clause clause wanted barred s1.part s2.part on off since s1.is_part s2.is_part made;
-    told = tt;
-  }
+  stands_clause le clause made = grind (arith, is_clause, kept_clause)
 
 -- ---- filters
 
 pub stands_filter : (old r1 : List ℕ) (count : ℕ) → number_at w8 old ≡ Some (count, r1) → count ≤ 16 → (filter : Option (List ClauseParts)) (kept : Option (Vec ClauseParts)) (new : List ℕ) →
     Stands (λ (v : Vec ClauseParts). v.items) (run_at (λ (_ : ℕ). clause_at) same_clause 0 count) r1 kept new (λ _. Unit {0}) → IfSome filter (λ f. IsSomeAnd kept (λ v. f ≡ v.items)) →
     Stands (λ (f : List ClauseParts). f) filter_at old filter new (λ _. Unit {0})
-stands_filter old r1 count e few filter kept new s made =
-    record { part = s.part; stands = rw (e, le-leb count 16 few, s.stands) refl; is_part = kept_list filter kept s.part s.is_part made; told = tt }
+stands_filter old r1 count e few filter kept new s made = grind (arith, le-leb, kept_list)
 
 pub if_filter : (old r1 : List ℕ) (count : ℕ) → number_at w8 old ≡ Some (count, r1) → count ≤ 16 → (kept : Option (Vec ClauseParts)) (new : List ℕ) →
     Stands (λ (v : Vec ClauseParts). v.items) (run_at (λ (_ : ℕ). clause_at) same_clause 0 count) r1 kept new (λ _. Unit {0}) → IfSome kept (λ v. IsFilter v.items)

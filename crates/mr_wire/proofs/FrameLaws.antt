@@ -1,5 +1,5 @@
 -- The laws of what stands behind the kind of a frame.
-use Rattle.std.proofs.Common.{◌≡◌, ℕ, zero, suc, ◌≤◌, ◌<◌, true, List, [], ◌∷◌, ◌++◌, length, Option, Some, None, refl, sym, ap, subst, ◌∙◌, arith, append_assoc}
+use Rattle.std.proofs.Common.{◌≡◌, ℕ, ◌≤◌, ◌<◌, true, List, [], ◌∷◌, ◌++◌, length, Option, Some, None, refl, sym, ap, subst, ◌∙◌, arith, append_assoc}
 use Rattle.std.specs.Prelude.{nat_le}
 use Rattle.std.specs.List.{AllByRecursion}
 use Rattle.std.specs.Int.{w8}
@@ -9,7 +9,6 @@ use Rattle.mr_mail.specs.Mail.{Mail}
 use Rattle.mr_filter.specs.Filter.{ClauseParts}
 use Rattle.mr_madewith.specs.Revision.{Rev}
 use Rattle.mr_wire.specs.declared.frame.Mode.{Mode}
-use Rattle.mr_wire.specs.declared.frame.Mode.TheVariants.{Partial, Full}
 use Rattle.mr_wire.specs.declared.frame.Header.{Header}
 use Rattle.mr_wire.specs.declared.frame.Body.{Body}
 use Rattle.mr_wire.specs.declared.frame.Body.TheVariants as body
@@ -52,17 +51,13 @@ reads_bit : Reads (λ n. n ≤ 1) u8 (only_at (λ n. nat_le n 1) (number_at w8))
 reads_bit = reads_like (λ n. n ≤ 1) u8 (reads_only (λ n. nat_le n 1) reads_u8) (λ n h. leb-true n 1 h.1) (λ n h. (omega arith, le-leb n 1 h)) (λ n. refl)
 
 mode_is : (n : ℕ) → n ≤ 1 → mode_byte (mode_of n) ≡ n
-mode_is zero h = refl
-mode_is (suc zero) h = refl
-mode_is (suc (suc n)) h = absurd (omega arith)
+mode_is n h = grind arith
 
 mode_byte_in : (mode : Mode) → mode_byte mode ≤ 1
-mode_byte_in Partial = omega arith
-mode_byte_in Full = omega arith
+mode_byte_in mode = grind arith
 
 mode_of_byte : (mode : Mode) → mode_of (mode_byte mode) ≡ mode
-mode_of_byte Partial = refl
-mode_of_byte Full = refl
+mode_of_byte mode = grind arith
 
 reads_revision : Reads (λ r. IsDescent (descent_of r) × IsLetter r.message) (λ r. descent_bytes (descent_of r) ++ message_bytes r.message) revision_at
 reads_revision = reads_as (λ (p : DescentParts × Mail). rev_with p.0 p.1) (λ (r : Rev). (descent_of r, r.message)) (λ r. refl) (λ p. refl) (reads_then reads_descent (λ _. reads_message))
@@ -77,19 +72,11 @@ pub record TakesBody (k : Kind) (bytes : List ℕ) (says : Body) (rest : List �
 
 takes_of : {X : Type 0} {f : X → Type 0} {s : X → List ℕ} {at : Reader X} (to : X → Body) (k : Kind) → Reads f s at → ((x : X) → s x ≡ body_bytes (to x)) → ((x : X) → kind_of_body (to x) ≡ k) → ((x : X) → f x → IsSaid (to x)) →
     (bytes : List ℕ) (says : Body) (rest : List ℕ) → as_at to at bytes ≡ Some (says, rest) → TakesBody k bytes says rest
-takes_of {X} {f} {s} to k reads same kinds said bytes says rest e =
-    let t = as_takes to reads bytes says rest e in
-    let whole : bytes ≡ body_bytes (to t.0) ++ rest = t.2 ∙ ap (λ (z : List ℕ). z ++ rest) (same t.0) in
-    subst (λ (b : Body). TakesBody k bytes b rest) (sym t.1) (record { parts = whole; kind_is = kinds t.0; said = said t.0 t.3 })
+takes_of to k reads same kinds said bytes says rest e = grind (arith, as_takes)
 
 -- a mode is spelled by its bit
 reads_mode : Reads (λ (m : Mode). Unit {0}) (λ m. u8 (mode_byte m)) mode_at
-reads_mode = record {
-  takes = λ bytes m rest e.
-      let t = as_takes mode_of reads_bit bytes m rest e in
-      (t.2 ∙ ap (λ (n : ℕ). u8 n ++ rest) (sym (mode_is t.0 t.3) ∙ ap mode_byte (sym t.1)), tt);
-  again = λ m rest h. as_again mode_of reads_bit (mode_byte m) rest (mode_byte_in m) ∙ ap (λ (x : Mode). Some (x, rest)) (mode_of_byte m);
-}
+reads_mode = grind (arith, as_takes, reads_bit, mode_is, as_again, mode_byte_in, mode_of_byte)
 
 body_takes : (k : Kind) (bytes : List ℕ) (says : Body) (rest : List ℕ) → body_at k bytes ≡ Some (says, rest) → TakesBody k bytes says rest
 body_takes kind.Start = takes_of body.Start kind.Start reads_mode (λ m. refl) (λ m. refl) (λ m h. tt)
@@ -114,12 +101,7 @@ body_again body.End rest h = refl
 -- ---- records
 
 index_passes : (says : Body) (index : ℕ) → IsIndexOf says index → index_fits (kind_of_body says) index ≡ true
-index_passes (body.Start mode) index h = eq-eqb index 0 h
-index_passes (body.Item r) index h = le-leb 1 index h
-index_passes (body.MoveOut descent) index h = le-leb 1 index h
-index_passes (body.Held vector) index h = le-leb 1 index h
-index_passes (body.Know piece) index h = le-leb 1 index h
-index_passes body.End index h = le-leb 1 index h
+index_passes says index h = grind (arith, eq-eqb, le-leb)
 
 -- what the bytes of a record tell
 pub record TakesRecord (k : Kind) (bytes : List ℕ) (r : Sent) (rest : List ℕ) : Type 0 where
@@ -179,10 +161,7 @@ pub record TakesFrame (k : Kind) (bytes : List ℕ) (f : Frame) (rest : List ℕ
 
 frame_of_takes : {X : Type 0} {f : X → Type 0} {s : X → List ℕ} {at : Reader X} (to : X → Frame) (k : Kind) → Reads f s at → ((x : X) → s x ≡ part_bytes (to x)) → ((x : X) → kind_of (to x) ≡ k) → ((x : X) → f x → IsFrame (to x)) →
     (bytes : List ℕ) (y : Frame) (rest : List ℕ) → as_at to at bytes ≡ Some (y, rest) → TakesFrame k bytes y rest
-frame_of_takes to k reads same kinds said bytes y rest e =
-    let t = as_takes to reads bytes y rest e in
-    let whole : bytes ≡ part_bytes (to t.0) ++ rest = t.2 ∙ ap (λ (z : List ℕ). z ++ rest) (same t.0) in
-    subst (λ (b : Frame). TakesFrame k bytes b rest) (sym t.1) (record { parts = whole; kind_is = kinds t.0; in_grammar = said t.0 t.3 })
+frame_of_takes to k reads same kinds said bytes y rest e = grind (arith, as_takes)
 
 record_frame : (k : Kind) (bytes : List ℕ) (y : Frame) (rest : List ℕ) → as_at frame.Record (record_at k) bytes ≡ Some (y, rest) → TakesFrame k bytes y rest
 record_frame k bytes y rest e =
@@ -203,12 +182,7 @@ frame_takes kind.Know = record_frame kind.Know
 frame_takes kind.End = record_frame kind.End
 
 kinds_are_records : (says : Body) → frame_at (kind_of_body says) ≡ as_at frame.Record (record_at (kind_of_body says))
-kinds_are_records (body.Start mode) = refl
-kinds_are_records (body.Item r) = refl
-kinds_are_records (body.MoveOut descent) = refl
-kinds_are_records (body.Held vector) = refl
-kinds_are_records (body.Know piece) = refl
-kinds_are_records body.End = refl
+kinds_are_records says = grind arith
 
 pub frame_again : (f : Frame) (rest : List ℕ) → IsFrame f → frame_at (kind_of f) (part_bytes f ++ rest) ≡ Some (f, rest)
 frame_again (frame.Ask q) rest h = as_again frame.Ask reads_ask q rest h

@@ -39,9 +39,7 @@ abbrev IsCount : ℕ → Type 0
 IsCount n = (1 ≤ n) × (n ≤ 65536)
 
 count_of_items : Reads IsCount u32 (only_at (λ n. nat_le 1 n && nat_le n 65536) (number_at w32))
-count_of_items = reads_like IsCount u32 (reads_only (λ n. nat_le 1 n && nat_le n 65536) reads_u32)
-    (λ n h. (leb-true 1 n (and_left (nat_le 1 n) (nat_le n 65536) h.1), leb-true n 65536 (and_right (nat_le 1 n) (nat_le n 65536) h.1)))
-    (λ n h. (omega arith, both (nat_le 1 n) (nat_le n 65536) (le-leb 1 n h.0) (le-leb n 65536 h.1))) (λ n. refl)
+count_of_items = grind (arith, reads_like, reads_only, reads_u32, leb-true, and_left, and_right, both, le-leb)
 
 abbrev AreListed : List Name → Type 0
 AreListed items = IsCount (length items) × RunFits ItemFits next_item None items
@@ -50,8 +48,7 @@ reads_listed : Reads AreListed (λ items. u32 (length items) ++ flat_map name_by
 reads_listed = reads_counted length count_of_items (λ n. reads_run next_item reads_item None n)
 
 choose : {A : Type 0} (b : Bool) (x y : Option A) (z : A) → cond b x y ≡ Some z → ((b ≡ true) × (x ≡ Some z)) ⊎ ((b ≡ false) × (y ≡ Some z))
-choose true x y z e = inl (refl, e)
-choose false x y z e = inr (refl, e)
+choose b x y z e = grind arith
 
 listed_framed : (items : List Name) → AreListed items → AreFramed (Some items)
 listed_framed items h = record { rise = (h.0.0, h.0.1, items_rise items None h.1); each = items_are items None h.1 }
@@ -82,10 +79,7 @@ items_take bytes items rest e =
     test_listed false x z e = absurd cc
 
 items_again : (items : Option (List Name)) (rest : List ℕ) → AreFramed items → items_at (items_bytes items ++ rest) ≡ Some (items, rest)
-items_again None rest h = rw (reads_u8.again 0 rest (lit< tt)) refl
-items_again (Some items) rest h =
-    let fits : AreListed items = ((h.rise.0, h.rise.1), items_fit items None h.rise.2 h.each) in
-    ap items_at (append_assoc (u8 1) (u32 (length items) ++ flat_map name_bytes items) rest) ∙ rw (reads_u8.again 1 ((u32 (length items) ++ flat_map name_bytes items) ++ rest) (lit< tt), reads_listed.again items rest fits) refl
+items_again items rest h = grind (arith, reads_u8, lit<, items_fit, append_assoc, reads_listed)
 
 pub reads_items : Reads AreFramed items_bytes items_at
 reads_items = record { takes = items_take; again = items_again }
@@ -98,12 +92,10 @@ reads_fragment = reads_like IsFramed fragment_bytes
 -- ---- reading
 
 pub items_more : (first : Option Name) (xs : List Name) (x : Name) → first ≡ first_item xs → first_or first x ≡ first_item (xs ++ x ∷ [])
-items_more first [] x h = ap (λ (o : Option Name). first_or o x) h
-items_more first (y ∷ ys) x h = ap (λ (o : Option Name). first_or o x) h
+items_more first xs x h = grind arith
 
 pub if_listed : (kept : Option ItemSet) (items : Option (List Name)) → IfSome kept (λ set. listed_items set ≡ items) → AreItems items → IfSome kept (λ set. AreItems (listed_items set))
-if_listed None items is are = tt
-if_listed (Some set) items is are = rw is are
+if_listed kept items is are = grind arith
 
 pub if_items : {old new : List ℕ} {kept : Option ItemSet} {Note : Option (List Name) → Type 0} → Stands listed_items items_at old kept new Note → IfSome kept (λ set. AreItems (listed_items set))
 if_items {old} {new} {kept} s = if_listed kept s.part s.is_part ((items_take old s.part new s.stands).1.rise)
@@ -125,16 +117,11 @@ stands_listed old r1 tag e is set kept least new s made =
     record { part = Some s.part; stands = rw (e', s.stands) refl; is_part = kept_set set kept s.part s.is_part made; told = s.told ∙ least_first s.part }
 
 pub stands_all : (old r1 : List ℕ) (tag : ℕ) (set : ItemSet) → listed_items set ≡ None → number_at w8 old ≡ Some (tag, r1) → tag ≡ 0 → Stands listed_items items_at old (Some set) r1 (λ items. None ≡ least_item items)
-stands_all old r1 tag set none e is =
-    let e' : number_at w8 old ≡ Some (0, r1) = e ∙ ap (λ (n : ℕ). Some (n, r1)) is in
-    record { part = None; stands = rw e' refl; is_part = none; told = refl }
+stands_all old r1 tag set h e is = grind arith
 
 kept_fragment : (f : Option Piece) (set : Option ItemSet) (vector : Option (List AuthorColumn)) (items : Option (List Name)) (columns : List AuthorColumn) → IfSome set (λ s. listed_items s ≡ items) → IfSome vector (λ v. v ≡ columns) →
     IfSome f (λ f. IsSomeAnd set (λ s. IsSomeAnd vector (λ v. f ≡ record { items = listed_items s; vector = v }))) → IfSome f (λ f. f ≡ record { items = items; vector = columns })
-kept_fragment None set vector items columns a b made = tt
-kept_fragment (Some f) None vector items columns a b made = absurd made
-kept_fragment (Some f) (Some s) None items columns a b made = absurd made
-kept_fragment (Some f) (Some s) (Some v) items columns a b made = made ∙ rw (a, b) refl
+kept_fragment f set vector items columns a b made = grind arith
 
 pub stands_fragment : (old r1 new : List ℕ) (f : Option Piece) (set : Option ItemSet) (vector : Option (List AuthorColumn)) (least : Option Name) →
     Stands listed_items items_at old set r1 (λ items. least ≡ least_item items) → Stands (λ (v : List AuthorColumn). v) vector_at r1 vector new (λ _. Unit {0}) →

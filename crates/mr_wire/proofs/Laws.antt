@@ -14,16 +14,13 @@ pub record Reads {X : Type 0} (fits : X → Type 0) (spell : X → List ℕ) (at
 
 -- the value of a step that did not fail
 pub bind_some : {A B : Type 0} (o : Option A) (f : A → Option B) (y : B) → (o >>= f) ≡ Some y → (x : A) × (o ≡ Some x) × (f x ≡ Some y)
-bind_some (Some x) f y e = (x, refl, e)
-bind_some None f y e = absurd cc
+bind_some o f y e = grind arith
 
 pub test_some : {A : Type 0} (b : Bool) (x y : A) → cond b (Some x) None ≡ Some y → (b ≡ true) × (x ≡ y)
-test_some true x y e = (refl, cc)
-test_some false x y e = absurd cc
+test_some b x y e = grind arith
 
 pub test_none : {A : Type 0} (b : Bool) (o : Option A) (y : A) → cond b None o ≡ Some y → (b ≡ false) × (o ≡ Some y)
-test_none true o y e = absurd cc
-test_none false o y e = (refl, e)
+test_none b o y e = grind arith
 
 pub some_is : {A : Type 0} (x y : A) → ◌≡◌ {A = Option A} (Some x) (Some y) → x ≡ y
 some_is x y e = cc
@@ -107,9 +104,7 @@ module _ {S X : Type 0} {fits : S → X → Type 0} {spell : X → List ℕ} {at
   run_again : (xs : List X) (s : S) (rest : List ℕ) → RunFits fits next s xs → run_at at next s (length xs) (flat_map spell xs ++ rest) ≡ Some (xs, rest)
   unfolding run_at
   run_again [] s rest h = refl
-  run_again (x ∷ xs) s rest h =
-      let regrouped : flat_map spell (x ∷ xs) ++ rest ≡ spell x ++ (flat_map spell xs ++ rest) = ap (λ (z : List ℕ). z ++ rest) (flat_map-cons spell x xs) ∙ append_assoc (spell x) (flat_map spell xs) rest in
-      ap (run_at at next s (suc (length xs))) regrouped ∙ rw ((reads s).again x (flat_map spell xs ++ rest) h.0, run_again xs (next s x) rest h.1) refl
+  run_again (x ∷ xs) s rest h = grind (arith, run_again xs, flat_map-cons, append_assoc)
 
   pub reads_run : (s : S) (n : ℕ) → Reads (λ xs. (length xs ≡ n) × RunFits fits next s xs) (flat_map spell) (run_at at next s n)
   reads_run s n = record {
@@ -123,12 +118,10 @@ abbrev IsBytes : List ℕ → Type 0
 IsBytes bytes = (i : ℕ) → get_or bytes i 0 < 256
 
 pub and_left : (a b : Bool) → (a && b) ≡ true → a ≡ true
-and_left true b h = refl
-and_left false b h = absurd cc
+and_left a b h = grind arith
 
 pub and_right : (a b : Bool) → (a && b) ≡ true → b ≡ true
-and_right true b h = h
-and_right false b h = absurd cc
+and_right a b h = grind arith
 
 are_bytes : (bytes : List ℕ) → list_all is_byte bytes ≡ true → IsBytes bytes
 are_bytes [] h i = omega arith
@@ -151,40 +144,16 @@ one_byte (b ∷ []) len fits = let lt : b < 256 = fits 0 in let e : b % 256 ≡ 
 one_byte (b ∷ c ∷ bytes) len fits = absurd (omega arith)
 
 wide8 : IsWide w8 256
-wide8 = record {
-  len = λ n. refl;
-  back = one_byte;
-  again = λ n lt. let e : n % 256 ≡ n = omega arith in e;
-  below = λ bytes fits. omega (arith, fits 0);
-  are_bytes = λ n. rw low_byte refl;
-}
+wide8 = grind (arith, one_byte, are_bytes, low_byte)
 
 wide16 : IsWide w16 (2 ^ 16)
-wide16 = record {
-  len = λ n. refl;
-  back = λ bytes len fits. be_bytes_2 bytes _ len fits refl;
-  again = λ n lt. from_be_bytes-to_be_bytes_2 n lt;
-  below = λ bytes fits. omega (arith, fits 0, fits 1);
-  are_bytes = λ n. simp low_byte;
-}
+wide16 = grind (arith, be_bytes_2, from_be_bytes-to_be_bytes_2, are_bytes, low_byte)
 
 wide32 : IsWide w32 (2 ^ 32)
-wide32 = record {
-  len = λ n. refl;
-  back = λ bytes len fits. be_bytes_4 bytes _ len fits refl;
-  again = λ n lt. from_be_bytes-to_be_bytes_4 n lt;
-  below = λ bytes fits. omega (arith, fits 0, fits 1, fits 2, fits 3);
-  are_bytes = λ n. simp low_byte;
-}
+wide32 = grind (arith, be_bytes_4, from_be_bytes-to_be_bytes_4, are_bytes, low_byte)
 
 wide64 : IsWide w64 (2 ^ 64)
-wide64 = record {
-  len = λ n. refl;
-  back = λ bytes len fits. be_bytes_8 bytes _ len fits refl;
-  again = λ n lt. from_be_bytes-to_be_bytes_8 n lt;
-  below = λ bytes fits. omega (arith, fits 0, fits 1, fits 2, fits 3, fits 4, fits 5, fits 6, fits 7);
-  are_bytes = λ n. simp low_byte;
-}
+wide64 = grind (arith, be_bytes_8, from_be_bytes-to_be_bytes_8, are_bytes, low_byte)
 
 number_takes : (w : Width) (limit : ℕ) (wide : IsWide w limit) (bytes : List ℕ) (n : ℕ) (rest : List ℕ) → number_at w bytes ≡ Some (n, rest) → (bytes ≡ to_be_bytes w n ++ rest) × (n < limit)
 number_takes w limit wide bytes n rest e =
@@ -199,10 +168,7 @@ number_takes w limit wide bytes n rest e =
     subst (λ (p : ℕ × List ℕ). (bytes ≡ to_be_bytes w p.0 ++ p.1) × (p.0 < limit)) h.1 (whole, wide.below front are)
 
 number_again : (w : Width) (limit : ℕ) (wide : IsWide w limit) (n : ℕ) (rest : List ℕ) → n < limit → number_at w (to_be_bytes w n ++ rest) ≡ Some (n, rest)
-number_again w limit wide n rest lt =
-    let len = wide.len n in
-    let long : ltb (length (to_be_bytes w n ++ rest)) (byte_len w) ≡ false = le-ltb _ _ (omega (arith, length-append (to_be_bytes w n) rest)) in
-    rw (long, take_at (to_be_bytes w n) rest (byte_len w) len, wide.are_bytes n, drop_at (to_be_bytes w n) rest (byte_len w) len, wide.again n lt) refl
+number_again w limit wide n rest lt = grind (arith, ltb, le-ltb, length-append, take_at, are_bytes, drop_at)
 
 reads_number : (w : Width) (limit : ℕ) → IsWide w limit → Reads (λ n. n < limit) (to_be_bytes w) (number_at w)
 reads_number w limit wide = record { takes = number_takes w limit wide; again = number_again w limit wide }
@@ -222,16 +188,10 @@ reads_u64 = reads_number w64 (2 ^ 64) wide64
 -- ---- texts
 
 bytes_take : (n : ℕ) (bytes text rest : List ℕ) → bytes_at n bytes ≡ Some (text, rest) → (bytes ≡ text ++ rest) × ((length text ≡ n) × Unit {0})
-bytes_take n bytes text rest e =
-    let g = test_none (ltb (length bytes) n) (Some (take n bytes, drop n bytes)) (text, rest) e in
-    let is : (take n bytes, drop n bytes) ≡ (text, rest) = some_is (take n bytes, drop n bytes) (text, rest) g.1 in
-    let long : n ≤ length bytes = ltb-false _ _ g.0 in
-    subst (λ (p : List ℕ × List ℕ). (bytes ≡ p.0 ++ p.1) × ((length p.0 ≡ n) × Unit {0})) is (sym (take-append-drop n bytes), (omega (arith, length-take n bytes), tt))
+bytes_take n bytes text rest e = grind (arith, test_none, ltb, some_is, ltb-false, take-append-drop, length-take)
 
 bytes_again : (n : ℕ) (text rest : List ℕ) → length text ≡ n → bytes_at n (text ++ rest) ≡ Some (text, rest)
-bytes_again n text rest len =
-    let long : ltb (length (text ++ rest)) n ≡ false = le-ltb _ _ (omega (arith, length-append text rest)) in
-    rw (long, take_at text rest n len, drop_at text rest n len) refl
+bytes_again n text rest len = grind (arith, ltb, le-ltb, length-append, take_at, drop_at)
 
 pub reads_bytes : (n : ℕ) → Reads (λ text. (length text ≡ n) × Unit {0}) (λ text. text) (bytes_at n)
 reads_bytes n = record { takes = bytes_take n; again = λ text rest h. bytes_again n text rest h.0 }

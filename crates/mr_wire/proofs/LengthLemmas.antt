@@ -1,5 +1,5 @@
 -- How many bytes parts take.
-use Rattle.std.proofs.Common.{◌≡◌, ◌+◌, ◌*◌, List, [], ◌∷◌, ◌++◌, length, refl, ap, arith}
+use Rattle.std.proofs.Common.{◌≡◌, ◌+◌, ◌*◌, List, [], ◌∷◌, length, refl, ap, arith}
 use Rattle.std.specs.List.{flat_map}
 use Rattle.std.proofs.lemmas.List.{length-append}
 use Rattle.std.proofs.lemmas.List.Concat.{flat_map-cons, length-flat_map}
@@ -7,7 +7,7 @@ use Rattle.mr_version.specs.Name.{Name}
 use Rattle.mr_concise.specs.declared.column.Hole.{Hole}
 use Rattle.mr_concise.specs.declared.vector.AuthorColumn.{AuthorColumn}
 use Rattle.mr_wire.specs.Frames.{Question}
-use Rattle.mr_wire.specs.Spelling.{u32, name_bytes, hole_bytes, column_bytes, filter_bytes, fragment_bytes}
+use Rattle.mr_wire.specs.Spelling.{name_bytes, hole_bytes, column_bytes, filter_bytes}
 use Rattle.mr_wire.specs.FrameSpelling.{ask_bytes}
 use Rattle.mr_wire.specs.Encoding.{total_len}
 
@@ -23,6 +23,4 @@ length_of_names [] = refl
 length_of_names (x ∷ xs) = omega (arith, ap length (flat_map-cons name_bytes x xs), length-append (name_bytes x) (flat_map name_bytes xs), length_of_names xs)
 
 pub length_of_ask : (q : Question) → length (ask_bytes q) ≡ 14 + length (filter_bytes q.filter) + total_len q.fragments
-length_of_ask q =
-    let many : length (flat_map fragment_bytes q.fragments) ≡ total_len q.fragments = length-flat_map fragment_bytes q.fragments in
-    omega (arith, many, length-append (filter_bytes q.filter) (u32 (length q.fragments) ++ flat_map fragment_bytes q.fragments))
+length_of_ask q = grind (arith, length-flat_map, length-append)

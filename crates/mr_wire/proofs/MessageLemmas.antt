@@ -1,5 +1,5 @@
 -- Messages are read from their parts.
-use Rattle.std.proofs.Common.{◌≡◌, ℕ, ◌≤◌, ◌<◌, ◌^◌, Bool, true, false, List, ◌++◌, length, Option, Some, None, refl, sym, ap, ◌∙◌, arith, lit<, append_assoc}
+use Rattle.std.proofs.Common.{◌≡◌, ℕ, ◌≤◌, ◌<◌, ◌^◌, true, false, List, ◌++◌, length, Option, Some, refl, arith, lit<, append_assoc}
 use Rattle.std.specs.Prelude.{IfSome, IsSomeAnd, nat_le}
 use Rattle.std.specs.Global.{Vec}
 use Rattle.std.specs.Int.{w16, w32}
@@ -21,11 +21,7 @@ pub is_text : (bs : List ℕ) → IsUtf8 bs → is_utf8 bs ≡ true
 is_text bs h = is_utf8-from_IsUtf8 bs h
 
 pub no_text : (bs : List ℕ) → (IsUtf8 bs → ⊥) → is_utf8 bs ≡ false
-no_text bs h = at_test (is_utf8 bs) refl
-  where
-    at_test : (b : Bool) → is_utf8 bs ≡ b → is_utf8 bs ≡ false
-    at_test true e = absurd (h (IsUtf8-from_is_utf8 bs e))
-    at_test false e = e
+no_text bs h = grind (arith, IsUtf8-from_is_utf8)
 
 -- ---- the law
 
@@ -46,10 +42,7 @@ reads_body : Reads (λ body. (length body ≤ 65536) × Unit {0}) (λ body. u32 
 reads_body = reads_counted length few_32 reads_bytes
 
 regrouped : (m : Mail) → (u16 (length m.from) ++ m.from) ++ ((u16 (length m.subject) ++ m.subject) ++ ((u32 (length m.body) ++ m.body) ++ card_bytes m)) ≡ message_bytes m
-regrouped m = join (u16 (length m.from) ++ m.from) (u16 (length m.subject) ++ m.subject) (u32 (length m.body) ++ m.body) (card_bytes m)
-  where
-    join : (a b c d : List ℕ) → a ++ (b ++ (c ++ d)) ≡ (a ++ (b ++ c)) ++ d
-    join a b c d = sym (append_assoc a (b ++ c) d ∙ ap (λ (z : List ℕ). a ++ z) (append_assoc b c d))
+regrouped m = grind (arith, append_assoc)
 
 pub reads_message : Reads IsLetter message_bytes message_at
 reads_message = reads_like IsLetter message_bytes
@@ -67,9 +60,7 @@ if_labels {old} {new} {kept} s = if_set kept s.part s.is_part ((reads_label_set.
 
 kept_message : (message : Option Mail) (kept : Option (Vec (List ℕ))) (labels : List (List ℕ)) (from subject body : List ℕ) (flags day : ℕ) → IfSome kept (λ v. v.items ≡ labels) →
     IfSome message (λ m. IsSomeAnd kept (λ v. m ≡ message_with from subject body v.items flags day)) → IfSome message (λ m. m ≡ message_with from subject body labels flags day)
-kept_message None kept labels from subject body flags day is made = tt
-kept_message (Some m) None labels from subject body flags day is made = absurd made
-kept_message (Some m) (Some v) labels from subject body flags day is made = made ∙ rw is refl
+kept_message message kept labels from subject body flags day is made = grind arith
 
 pub stands_message : (old r1 r2 r3 r4 r5 new : List ℕ) (from subject body : List ℕ) (kept : Option (Vec (List ℕ))) (n flags day : ℕ) (message : Option Mail) →
     text_at 254 old ≡ Some (from, r1) → text_at 998 r1 ≡ Some (subject, r2) → message_body_at r2 ≡ Some (body, r3) → Stands (λ (v : Vec (List ℕ)). v.items) labels_at r3 kept r4 (λ labels. length labels ≡ n) →

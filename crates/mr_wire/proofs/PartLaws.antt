@@ -16,16 +16,13 @@ use Rattle.mr_wire.specs.Parts.{author_at, counter_at, name_at, hole_at, column_
 use Rattle.mr_wire.proofs.Laws.{Reads, RunFits, and_left, and_right, reads_like, reads_only, reads_as, reads_then, reads_counted, reads_run, reads_u16, reads_u32}
 
 pub reads_author : Reads (λ n. n < 64) u16 author_at
-reads_author = reads_like (λ n. n < 64) u16 (reads_only (λ n. nat_lt n 64) reads_u16)
-    (λ n h. ltb-true n 64 h.1) (λ n h. (omega arith, lt-ltb n 64 h)) (λ n. refl)
+reads_author = grind (arith, reads_like, reads_only, reads_u16, ltb-true, lt-ltb)
 
 pub both : (a b : Bool) → a ≡ true → b ≡ true → (a && b) ≡ true
 both a b p q = rw (p, q) refl
 
 pub reads_counter : Reads (λ n. (1 ≤ n) × (n ≤ 1000000)) u32 counter_at
-reads_counter = reads_like (λ n. (1 ≤ n) × (n ≤ 1000000)) u32 (reads_only (λ n. nat_le 1 n && nat_le n 1000000) reads_u32)
-    (λ n h. (leb-true 1 n (and_left (nat_le 1 n) (nat_le n 1000000) h.1), leb-true n 1000000 (and_right (nat_le 1 n) (nat_le n 1000000) h.1)))
-    (λ n h. (omega arith, both (nat_le 1 n) (nat_le n 1000000) (le-leb 1 n h.0) (le-leb n 1000000 h.1))) (λ n. refl)
+reads_counter = grind (arith, reads_like, reads_only, reads_u32, leb-true, and_left, and_right, both, le-leb)
 
 pub reads_name : Reads (λ (v : Name). IsVersion v.author v.counter) name_bytes name_at
 reads_name = reads_like (λ (v : Name). IsVersion v.author v.counter) name_bytes
@@ -61,15 +58,7 @@ rising_last (x ∷ xs) low end h = let later = rising_last xs (x.last + 1) end h
 
 pub holes_fit : (upto : ℕ) (holes : List Hole) (above : ℕ) → upto ≤ 1000000 → IsRising above (hole_edges holes ++ (upto + 1) ∷ []) → RunFits (HoleFits upto) after_hole above holes
 holes_fit upto [] above le h = tt
-holes_fit upto (x ∷ xs) above le h =
-    let last = rising_last xs (x.last + 1) (upto + 1) h.1.1 in
-    let a = h.0 in
-    let b = h.1.0 in
-    let within : (x.first < 2 ^ 32) × (x.last < 2 ^ 32) = (omega arith, omega arith) in
-    let test : nat_lt above x.first && nat_le x.first x.last && nat_lt x.last upto ≡ true =
-    both (nat_lt above x.first && nat_le x.first x.last) (nat_lt x.last upto)
-    (both (nat_lt above x.first) (nat_le x.first x.last) (lt-ltb above x.first a) (le-leb x.first x.last (omega arith))) (lt-ltb x.last upto (omega arith)) in
-    ((within, test), holes_fit upto xs (x.last + 1) le h.1.1)
+holes_fit upto (x ∷ xs) above le h = grind (arith, holes_fit upto xs, rising_last, both, lt-ltb, le-leb)
 
 -- the count of a column's holes
 few_holes : Reads (λ n. n ≤ 4096) u16 (only_at (λ n. nat_le n 4096) (number_at w16))

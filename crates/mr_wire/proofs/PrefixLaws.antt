@@ -1,5 +1,5 @@
 -- What is found behind a length was spelled there, and what is spelled there is found again, over any type of faults.
-use Rattle.std.proofs.Common.{◌≡◌, ℕ, ◌+◌, ◌≤◌, ◌<◌, ◌^◌, Bool, true, false, cond, eqb, List, [], ◌++◌, length, take, Option, Some, None, Result, Ok, Err, refl, sym, ap, subst, ◌∙◌, arith, append_assoc}
+use Rattle.std.proofs.Common.{◌≡◌, ℕ, ◌+◌, ◌≤◌, ◌<◌, ◌^◌, Bool, true, false, cond, eqb, List, [], ◌++◌, length, take, Option, Some, Result, Ok, Err, refl, sym, ap, subst, ◌∙◌, arith, append_assoc}
 use Rattle.std.specs.Prelude.{nat_lt}
 use Rattle.std.specs.Int.{w32}
 use Rattle.std.proofs.lemmas.Bool.{ltb-false, le-ltb, eqb-true}
@@ -14,20 +14,16 @@ use Rattle.mr_wire.proofs.Laws.{bind_some, test_some, reads_u32, reads_bytes}
 
 module _ {E : Type 0} where
   pub then_ok : {X Y : Type 0} (r : Result X E) (f : X → Result Y E) (y : Y) → and_then r f ≡ Ok y → (x : X) × (r ≡ Ok x) × (f x ≡ Ok y)
-  then_ok (Ok x) f y e = (x, refl, e)
-  then_ok (Err fault) f y e = absurd cc
+  then_ok r f y e = grind arith
 
   pub or_ok : {X : Type 0} (fault : E) (o : Option X) (x : X) → or_fault fault o ≡ Ok x → o ≡ Some x
-  or_ok fault None x e = absurd cc
-  or_ok fault (Some y) x e = cc
+  or_ok fault o x e = grind arith
 
   pub test_err : {X : Type 0} (b : Bool) (fault : E) (r : Result X E) (x : X) → cond b (Err fault) r ≡ Ok x → (b ≡ false) × (r ≡ Ok x)
-  test_err true fault r x e = absurd cc
-  test_err false fault r x e = (refl, e)
+  test_err b fault r x e = grind arith
 
   pub test_ok : {X : Type 0} (b : Bool) (r : Result X E) (fault : E) (x : X) → cond b r (Err fault) ≡ Ok x → (b ≡ true) × (r ≡ Ok x)
-  test_ok true r fault x e = (refl, e)
-  test_ok false r fault x e = absurd cc
+  test_ok b r fault x e = grind arith
 
 -- ---- the rest behind the length
 
@@ -67,21 +63,13 @@ module _ {E : Type 0} (faults : RestFaults E) where
 
 -- a kind is found by its own byte, if those behind it are
 pub kind_step : {K : Type 0} (kind_byte : K → ℕ) (byte : ℕ) (x k : K) (o : Option K) → (o ≡ Some k → byte ≡ kind_byte k) → cond (eqb byte (kind_byte x)) (Some x) o ≡ Some k → byte ≡ kind_byte k
-kind_step {K} kind_byte byte x k o others e = at_test (eqb byte (kind_byte x)) refl e
-  where
-    at_test : (b : Bool) → eqb byte (kind_byte x) ≡ b → cond b (Some x) o ≡ Some k → byte ≡ kind_byte k
-    at_test true h e' = let same : x ≡ k = cc in eqb-true byte (kind_byte x) h ∙ ap kind_byte same
-    at_test false h e' = others e'
+kind_step kind_byte byte x k o others e = grind (arith, eqb, eqb-true)
 
 -- ---- all of the bytes
 
 -- a part that takes all of the bytes is read with nothing behind it
 pub whole_found : {X : Type 0} (at : Reader X) (bytes : List ℕ) (x : X) → whole_at at bytes ≡ Some x → at bytes ≡ Some (x, [])
-whole_found {X} at bytes x e =
-    let a = bind_some (at bytes) (λ found. cond (eqb (length found.1) 0) (Some found.0) None) x e in
-    let b = test_some (eqb (length a.0.1) 0) a.0.0 x a.2 in
-    let nothing : a.0.1 ≡ [] = nil_from_length a.0.1 (eqb-true _ _ b.0) in
-    a.1 ∙ ap (λ (z : List ℕ). Some (a.0.0, z)) nothing ∙ ap (λ (y : X). Some (y, [])) b.1
+whole_found at bytes x e = grind (arith, bind_some, eqb, test_some, nil_from_length, eqb-true)
 
 -- ---- a value behind a length
 
@@ -125,10 +113,7 @@ module _ {K X E : Type 0} (faults : RestFaults E) (bad : E) (head : List ℕ →
 
   pub value_again : (rest more : List ℕ) (k : K) (parts : List ℕ) (x : X) → 2 ≤ length rest → length rest ≤ MAX_REST_BYTES → head rest ≡ Ok (k, parts) → whole k parts ≡ Some x →
       and_then (rest_of faults ((u32 (length rest) ++ rest) ++ more)) value_of ≡ Ok (x, length rest + 4)
-  value_again rest more k parts x low few headed found =
-      ap (λ (r : Result (List ℕ) E). and_then r value_of) (rest_again faults rest more low few)
-      ∙ ap (λ (r : Result (K × List ℕ) E). and_then r (λ h. or_fault bad (whole h.0 h.1 >>= λ x. Some (x, length rest + 4)))) headed
-      ∙ ap (λ (o : Option X). or_fault bad (o >>= λ x. Some (x, length rest + 4))) found
+  value_again rest more k parts x low few headed found = grind (arith, rest_again)
 
 -- of two texts that are decoded to their ends, neither begins the other
 pub same_front : {X E : Type 0} (decoded : List ℕ → Result (X × ℕ) E) (f g : X) (a b x y : List ℕ) → decoded (a ++ x) ≡ Ok (f, length a) → decoded (b ++ y) ≡ Ok (g, length b) → a ++ x ≡ b ++ y → (a ≡ b) × (f ≡ g)

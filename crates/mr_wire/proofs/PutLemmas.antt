@@ -1,5 +1,5 @@
 -- what is written of a frame's parts
-use Rattle.std.proofs.Common.{◌≡◌, ℕ, zero, suc, ◌+◌, ◌<◌, List, [], ◌∷◌, ◌++◌, length, get_or, take, Result, Ok, Err, ap, sym, ◌∙◌, append_assoc, arith}
+use Rattle.std.proofs.Common.{◌≡◌, ℕ, zero, suc, ◌+◌, ◌<◌, List, [], ◌∷◌, ◌++◌, length, get_or, take, Result, ap, sym, ◌∙◌, append_assoc, arith}
 use Rattle.std.proofs.lemmas.List.{append-nil, take_more}
 use Rattle.std.proofs.lemmas.List.Concat.{flat_map-append}
 use Rattle.std.specs.List.{flat_map}
@@ -9,7 +9,7 @@ use Rattle.mr_concise.specs.Column.{IsColumn}
 use Rattle.mr_concise.specs.Vector.{IsVectorFrom}
 use Rattle.mr_wire.specs.Kinds.{kind_byte}
 use Rattle.mr_wire.specs.Spelling.{u32}
-use Rattle.mr_wire.specs.FrameSpelling.{part_bytes, kind_of, rest_bytes, frame_bytes}
+use Rattle.mr_wire.specs.FrameSpelling.{part_bytes, kind_of, frame_bytes}
 use Rattle.mr_wire.specs.declared.frame.Frame.{Frame}
 use Rattle.mr_wire.specs.declared.kind.Kind.{Kind}
 
@@ -21,25 +21,19 @@ column_of_vector (x ∷ xs) low (suc i) d lt h = column_of_vector xs (x.author +
 
 -- what follows, where a call succeeds
 pub on_ok : {E A B : Type 0} (r : Result (Unit {0}) E) → (A → B) → OnOk r A → OnOk r B
-on_ok (Ok x) f a = f a
-on_ok (Err fault) f a = tt
+on_ok r f a = grind arith
 
 -- two parts that are written one after the other
 pub two_parts : {E : Type 0} (r : Result (Unit {0}) E) (o a b o1 o2 : List ℕ) → o1 ≡ o ++ a → OnOk r (o2 ≡ o1 ++ b) → OnOk r (o2 ≡ o ++ (a ++ b))
-two_parts (Err fault) o a b o1 o2 e1 e2 = tt
-two_parts (Ok x) o a b o1 o2 e1 e2 = e2 ∙ ap (λ (z : List ℕ). z ++ b) e1 ∙ append_assoc o a b
+two_parts r o a b o1 o2 e1 e2 = grind (arith, append_assoc)
 
 -- so are five
 pub five_parts : {E : Type 0} (r : Result (Unit {0}) E) (o a b c d e o1 o2 o3 o4 o5 : List ℕ) → o1 ≡ o ++ a → o2 ≡ o1 ++ b → o3 ≡ o2 ++ c → o4 ≡ o3 ++ d → OnOk r (o5 ≡ o4 ++ e) → OnOk r (o5 ≡ o ++ (a ++ (b ++ (c ++ (d ++ e)))))
-five_parts r o a b c d e o1 o2 o3 o4 o5 e1 e2 e3 e4 e5 =
-    two_parts r o a (b ++ (c ++ (d ++ e))) o1 o5 e1 (two_parts r o1 b (c ++ (d ++ e)) o2 o5 e2 (two_parts r o2 c (d ++ e) o3 o5 e3 (two_parts r o3 d e o4 o5 e4 e5)))
+five_parts r o a b c d e o1 o2 o3 o4 o5 e1 e2 e3 e4 e5 = grind (arith, two_parts)
 
 -- a frame is its start, and the bytes of its parts
 pub frame_from_parts : (f : Frame) (kind : Kind) (parts : ℕ) (start out : List ℕ) → kind_of f ≡ kind → parts ≡ length (part_bytes f) → start ≡ u32 (parts + 2) ++ (2 ∷ kind_byte kind ∷ []) → out ≡ start ++ part_bytes f → out ≡ frame_bytes 2 f
-frame_from_parts f kind parts start out k n s e =
-    let len : parts + 2 ≡ length (rest_bytes 2 f) = omega (arith, n) in
-    e ∙ ap (λ (z : List ℕ). z ++ part_bytes f) (s ∙ ap (λ (m : ℕ). u32 m ++ (2 ∷ kind_byte kind ∷ [])) len) ∙ append_assoc (u32 (length (rest_bytes 2 f))) (2 ∷ kind_byte kind ∷ []) (part_bytes f)
-    ∙ ap (λ (c : Kind). u32 (length (rest_bytes 2 f)) ++ (2 ∷ kind_byte c ∷ part_bytes f)) (sym k)
+frame_from_parts f kind parts start out k n s e = grind (arith, append_assoc)
 
 -- of a run one part more is written
 pub run_more : {X : Type 0} (bytes : X → List ℕ) (xs : List X) (i : ℕ) (x : X) (start before now : List ℕ) → before ≡ start ++ flat_map bytes (take i xs) → i < length xs → x ≡ get_or xs i x → now ≡ before ++ bytes x → now ≡ start ++ flat_map bytes (take (i + 1) xs)

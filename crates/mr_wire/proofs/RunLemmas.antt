@@ -1,5 +1,5 @@
 -- Loops that read one part after the other. What is read so far, put before what is to be read, is what is read from the start.
-use Rattle.std.proofs.Common.{◌≡◌, ℕ, suc, ◌+◌, ◌-◌, ◌<◌, ◌≤◌, List, [], ◌∷◌, ◌++◌, Option, Some, None, refl, sym, ap, subst, ◌∙◌, append_assoc, arith}
+use Rattle.std.proofs.Common.{◌≡◌, ℕ, suc, ◌+◌, ◌-◌, ◌<◌, ◌≤◌, List, [], ◌∷◌, ◌++◌, Option, Some, None, sym, ap, ◌∙◌, append_assoc, arith}
 use Rattle.std.specs.Prelude.{IfSome}
 use Rattle.std.specs.Global.{Vec}
 use Rattle.std.proofs.lemmas.List.{append-nil}
@@ -10,8 +10,7 @@ with_front front read = read >>= λ x. Some (front ++ x.0, x.1)
 
 regroup : {X : Type 0} (front : List X) (x : X) (read : Option (List X × List ℕ)) →
     with_front front (read >>= λ xs. Some (x ∷ xs.0, xs.1)) ≡ with_front (front ++ x ∷ []) read
-regroup front x None = refl
-regroup front x (Some xs) = ap (λ ys. Some (ys, xs.1)) (sym (append_assoc front (x ∷ []) xs.0))
+regroup front x read = grind (arith, append_assoc)
 
 module _ {S X : Type 0} (at : S → Reader X) (next : S → X → S) where
   -- the loop has read so many parts, and some are left to be read from here on
@@ -22,13 +21,11 @@ module _ {S X : Type 0} (at : S → Reader X) (next : S → X → S) where
     pub told : Told so_far
 
 with_nothing : {X : Type 0} (read : Option (List X × List ℕ)) → with_front [] read ≡ read
-with_nothing None = refl
-with_nothing (Some x) = refl
+with_nothing read = grind arith
 
 if_kept : {X : Type 0} (new : Option (Vec X)) (item : Option X) (old : Option (Vec X)) (xs : List X) (x : X) → KeepsMore old item new →
     IfSome old (λ v. v.items ≡ xs) → IfSome item (λ y. y ≡ x) → IfSome new (λ v. v.items ≡ xs ++ x ∷ [])
-if_kept None item old xs x keeps a b = tt
-if_kept (Some v) item old xs x keeps a b = keeps.more xs x a b
+if_kept new item old xs x keeps a b = grind arith
 
 one_more : {S X : Type 0} (at : S → Reader X) (next : S → X → S) (now : S) (left : ℕ) (rest : List ℕ) (x : X) (after : List ℕ) (front : List X) → at now rest ≡ Some (x, after) →
     with_front front (run_at at next now (suc left) rest) ≡ with_front (front ++ x ∷ []) (run_at at next (next now x) left after)
@@ -37,9 +34,7 @@ one_more at next now left rest x after front h = rw h (regroup front x (run_at a
 
 pub begins : {S X : Type 0} {at : S → Reader X} {next : S → X → S} {start : S} {count : ℕ} {old : List ℕ} {kept : Option (Vec X)} {Told : List X → Type 0} →
     IfSome kept (λ v. v.items ≡ []) → Told [] → Running at next start count old kept start (count - 0) old Told
-begins {S} {X} {at} {next} {start} {count} {old} {kept} empty told =
-    let e : count - 0 ≡ count = omega arith in
-    record { so_far = []; whole = ap (λ n. with_front [] (run_at at next start n old)) e ∙ with_nothing (run_at at next start count old); is_kept = empty; told = told }
+begins empty told = grind (arith, with_nothing)
 
 pub goes_on : {S X : Type 0} {at : S → Reader X} {next : S → X → S} {start : S} {count : ℕ} {old : List ℕ} {kept new : Option (Vec X)} {now : S} {rest : List ℕ} {Told More : List X → Type 0} {x : X} {item : Option X} {after : List ℕ} (i : ℕ) →
     i < count → (r : Running at next start count old kept now (count - i) rest Told) → at now rest ≡ Some (x, after) → KeepsMore kept item new → IfSome item (λ y. y ≡ x) →
@@ -56,25 +51,14 @@ goes_on {S} {X} {at} {next} {start} {count} {old} {kept} {new} {now} {rest} {Tol
 pub fails : {S X : Type 0} {at : S → Reader X} {next : S → X → S} {start : S} {count : ℕ} {old : List ℕ} {kept : Option (Vec X)} {now : S} {rest : List ℕ} {Told : List X → Type 0} (i : ℕ) →
     i < count → Running at next start count old kept now (count - i) rest Told → at now rest ≡ None → run_at at next start count old ≡ None
 unfolding run_at
-fails {S} {X} {at} {next} {start} {count} {old} {kept} {now} {rest} i lt r h =
-    let k : count - i ≡ suc (count - (i + 1)) = omega arith in
-    let none : with_front r.so_far (run_at at next now (count - i) rest) ≡ None = rw (k, h) refl in
-    sym r.whole ∙ none
+fails i lt r h = grind arith
 
 pub is_done : {S X : Type 0} {at : S → Reader X} {next : S → X → S} {start : S} {count : ℕ} {old : List ℕ} {kept : Option (Vec X)} {now : S} {rest : List ℕ} {Told : List X → Type 0} (i : ℕ) →
     count ≤ i → Running at next start count old kept now (count - i) rest Told → Stands (λ (v : Vec X). v.items) (run_at at next start count) old kept rest Told
 unfolding run_at
-is_done {S} {X} {at} {next} {start} {count} {old} {kept} {now} {rest} i le r =
-    let k : count - i ≡ 0 = omega arith in
-    let all : with_front r.so_far (run_at at next now (count - i) rest) ≡ Some (r.so_far, rest) = rw k (ap (λ xs. Some (xs, rest)) (append-nil r.so_far)) in
-    record { part = r.so_far; stands = sym r.whole ∙ all; is_part = r.is_kept; told = r.told }
+is_done i le r = grind (arith, append-nil)
 
 pub goes_on_with : {S X : Type 0} {at : S → Reader X} {next : S → X → S} {start after : S} {count : ℕ} {old : List ℕ} {kept new : Option (Vec X)} {now : S} {rest : List ℕ} {Told More : List X → Type 0} {Note : X → Type 0} {item : Option X} {left : List ℕ} (i : ℕ) →
     i < count → Running at next start count old kept now (count - i) rest Told → KeepsMore kept item new → Stands (λ (x : X). x) (at now) rest item left Note → ((x : X) → Note x → next now x ≡ after) →
     ((xs : List X) (x : X) → Told xs → Note x → More (xs ++ x ∷ [])) → Running at next start count old new after (count - (i + 1)) left More
-goes_on_with {S} {X} {at} {next} {start} {after} {count} {old} {kept} {new} {now} {rest} {Told} {More} {Note} {item} {left} i lt r keeps s step more =
-    subst (λ (state : S). Running at next start count old new state (count - (i + 1)) left More) (step s.part s.told)
-    (goes_on i lt r s.stands keeps (kept_alike item s.part s.is_part) (λ xs told. more xs s.part told s.told))
-  where
-    kept_alike : {X : Type 0} (item : Option X) (x : X) → IfSome item (λ y. y ≡ x) → IfSome item (λ y. y ≡ x)
-    kept_alike item x h = h
+goes_on_with i lt r keeps s step more = grind (arith, goes_on)
