@@ -1,5 +1,5 @@
 -- One letter more of a sender, and one entry more of a subscriber.
-use Rattle.std.proofs.Common.{◌≡◌, List, [], ◌∷◌, ◌++◌, None, Result, Ok, Err, OnErr, sym, ap, subst, ◌∙◌, append_assoc, arith}
+use Rattle.std.proofs.Common.{◌≡◌, List, [], ◌∷◌, ◌++◌, None, Result, OnErr, sym, ap, subst, ◌∙◌, append_assoc, arith}
 use Rattle.std.proofs.lemmas.List.{append-nil, map-append}
 use Rattle.std.specs.Option.{option_to_list}
 use Rattle.mr_mail.specs.Mail.{MailCard}
@@ -15,8 +15,7 @@ use Rattle.mr_threads.proofs.Serving.{with_items-append, with_items-nil}
 
 -- what holds in any case holds of an error
 pub holds_on_err : {T E : Type 0} (r : Result T E) (P : Type 0) → P → OnErr r P
-holds_on_err (Ok x) P h = tt
-holds_on_err (Err e) P h = h
+holds_on_err r P h = grind arith
 
 with_letters-append : {E : Type 0} (p q r : PostView E) (xs ys : List E) → q ≡ with_letters p xs → r ≡ with_letters q ys → r ≡ with_letters p (xs ++ ys)
 with_letters-append p q r xs ys h k = k ∙ (ap (λ x. with_letters x ys) h ∙ ap (λ l. record p { sent = l }) (append_assoc p.sent xs ys))
@@ -34,21 +33,11 @@ module _ {E A R : Type 0} where
 
   -- letters after letters
   pub says-append : (t u v : Talk E A R) (xs ys : List (Said E A)) → Says t xs u → Says u ys v → Says t (xs ++ ys) v
-  says-append t u v xs ys h k = record {
-    post = with_letters-append t.post u.post v.post (letters_said xs) (letters_said ys) h.post k.post ∙ ap (with_letters t.post) (sym (map-append (λ (x : Said E A). x.letter) xs ys));
-    tap = with_items-append _ _ _ _ _ h.tap k.tap ∙ ap (λ l. record t.tap { passed = t.tap.passed ++ l }) (sym (map-append (λ (x : Said E A). x.answer) xs ys));
-    replies = k.replies ∙ (ap (λ l. l ++ answers_heard ys) h.replies ∙ (append_assoc t.replies.items (answers_heard xs) (answers_heard ys) ∙ ap (λ l. t.replies.items ++ l) (sym (map-append (λ (x : Said E A). x.answer) xs ys))));
-  }
+  says-append t u v xs ys h k = grind (arith, with_letters-append, map-append, with_items-append, append_assoc)
 
   -- all that was posted was answered
   pub says_in_part : (t u : Talk E A R) (xs : List (Said E A)) → Says t xs u → SaysInPart t u
-  says_in_part t u xs h = record {
-    answered = xs;
-    unanswered = [];
-    one_at_most = omega arith;
-    post = h.post ∙ ap (with_letters t.post) (sym (append-nil (letters_said xs)));
-    passed = ap (λ e. e.passed) h.tap;
-  }
+  says_in_part t u xs h = grind (arith, append-nil)
 
   -- nothing was posted
   pub posts_none : (t u : Talk E A R) → u.post ≡ t.post → u.tap ≡ t.tap → SaysInPart t u
@@ -88,8 +77,4 @@ module _ {E A R : Type 0} where
 
   -- one reply more
   pub hears_more : (t u v : Talk E A R) (answer : A) → HearsOut t u → v.tap.passed ≡ u.tap.passed ++ answer ∷ [] → v.replies.items ≡ u.replies.items ++ answer ∷ [] → HearsOut t v
-  hears_more t u v answer h passed replies = record {
-    rest = h.rest ++ answer ∷ [];
-    passed = passed ∙ (ap (λ l. l ++ answer ∷ []) h.passed ∙ append_assoc t.tap.passed h.rest (answer ∷ []));
-    replies = replies ∙ (ap (λ l. l ++ answer ∷ []) h.replies ∙ append_assoc t.replies.items h.rest (answer ∷ []));
-  }
+  hears_more t u v answer h passed replies = grind (arith, append_assoc)

@@ -1,15 +1,13 @@
 -- One letter more, or one end mark.
-use Rattle.std.proofs.Common.{◌≡◌, ◌==◌, ◌<◌, ◌+◌, ℕ, Bool, true, false, cond, List, [], ◌∷◌, ◌++◌, length, take, drop, get_or, sym, refl, ap, ◌∙◌, subst, append_assoc, add-one}
+use Rattle.std.proofs.Common.{◌≡◌, ◌<◌, ◌+◌, ℕ, List, [], ◌∷◌, ◌++◌, length, take, drop, get_or, sym, refl, ap, ◌∙◌, subst, append_assoc, add-one, arith}
 use Rattle.std.proofs.Math.Seq.{take-suc}
 use Rattle.std.proofs.lemmas.List.{append-nil, map-append, take-append-drop}
 use Rattle.mr_feed.specs.declared.entry.Entry.{Entry}
 use Rattle.mr_lane.specs.declared.piece.Piece.TheVariants.{Item, End}
 use Rattle.mr_lane.specs.declared.note.Sender.{Sender}
-use Rattle.mr_lane.specs.declared.note.Sender.TheVariants.{User, FirstLink, SecondLink}
 use Rattle.mr_lane.specs.declared.note.Note.{Note}
-use Rattle.mr_lane.specs.Note.{sender_number}
 use Rattle.mr_lane.specs.Tap.{TapEnd}
-use Rattle.mr_threads.specs.Exchange.{Said, Exchange, said, said_by, answers_heard, answers_to, Replays}
+use Rattle.mr_threads.specs.Exchange.{Said, Exchange, said_by, answers_heard, answers_to, Replays}
 use Rattle.mr_threads.specs.inner.Exchange.{exchange}
 use Rattle.mr_lane.specs.Letters.{letter_in, letters_in}
 use Rattle.mr_threads.specs.Lanes.{with_items}
@@ -48,12 +46,7 @@ module _ {E A : Type 0} where
   -- the conversation of one sender, and exchanges after exchanges
   pub said_by-append : (sender : Sender) (xs ys : List (Exchange E A)) → said_by sender (xs ++ ys) ≡ said_by sender xs ++ said_by sender ys
   said_by-append sender [] ys = refl
-  said_by-append sender (x ∷ xs) ys =
-      let rest = said_by-append sender xs ys in
-      elim (sender_number sender == sender_number x.sender) as (λ (b : Bool). cond b (said x.letter x.answer ∷ said_by sender (xs ++ ys)) (said_by sender (xs ++ ys)) ≡ cond b (said x.letter x.answer ∷ said_by sender xs) (said_by sender xs) ++ said_by sender ys) [
-        | true ↦ ap (λ l. said x.letter x.answer ∷ l) rest
-        | false ↦ rest
-      ]
+  said_by-append sender (x ∷ xs) ys = grind (arith, said_by-append sender xs ys)
 
   pub answers_to-append : (sender : Sender) (xs ys : List (Exchange E A)) → answers_to sender (xs ++ ys) ≡ answers_to sender xs ++ answers_to sender ys
   answers_to-append sender xs ys = ap answers_heard (said_by-append sender xs ys) ∙ map-append (λ (x : Said E A). x.answer) (said_by sender xs) (said_by sender ys)
@@ -64,32 +57,15 @@ module _ {E A : Type 0} where
   Replays-append steps s t u (x ∷ xs) ys h k = (h.0, h.1, Replays-append steps h.0 t u xs ys h.2 k)
 
   gives-append : {R : Type 0} (old mid new : Replies A R) (xs ys : List (Exchange E A)) → GivesAnswers old xs mid → GivesAnswers mid ys new → GivesAnswers old (xs ++ ys) new
-  gives-append old mid new xs ys h k = record {
-    user = with_items-append _ _ _ _ _ h.user k.user ∙ ap (with_items old.user) (sym (answers_to-append User xs ys));
-    first_link = with_items-append _ _ _ _ _ h.first_link k.first_link ∙ ap (with_items old.first_link) (sym (answers_to-append FirstLink xs ys));
-    second_link = with_items-append _ _ _ _ _ h.second_link k.second_link ∙ ap (with_items old.second_link) (sym (answers_to-append SecondLink xs ys));
-  }
+  gives-append old mid new xs ys h k = grind (arith, with_items-append, answers_to-append)
 
   -- one answer is the answer of one exchange
   pub gives_one : {R : Type 0} (old new : Replies A R) (sender : Sender) (letter : E) (answer : A) → GivesAnswer old sender answer new → GivesAnswers old (exchange sender letter answer ∷ []) new
-  gives_one old new sender letter answer h = record {
-    user = h.user ∙ ap (with_items old.user) (one_to User);
-    first_link = h.first_link ∙ ap (with_items old.first_link) (one_to FirstLink);
-    second_link = h.second_link ∙ ap (with_items old.second_link) (one_to SecondLink);
-  }
-    where
-      one_to : (to : Sender) → cond (sender_number to == sender_number sender) (answer ∷ []) [] ≡ answers_to to (exchange sender letter answer ∷ [])
-      one_to to = elim (sender_number to == sender_number sender) as (λ (b : Bool). cond b (answer ∷ []) [] ≡ answers_heard (cond b (said letter answer ∷ []) [])) [
-        | true ↦ refl
-        | false ↦ refl
-      ]
+  gives_one old new sender letter answer h = grind arith
 
 -- entries after entries
 tells-append : {R : Type 0} (old mid new : Feeds R) (xs ys : List Entry) → TellsBoth old xs mid → TellsBoth mid ys new → TellsBoth old (xs ++ ys) new
-tells-append old mid new xs ys h k = record {
-  indexer = with_items-append _ _ _ _ _ h.indexer k.indexer;
-  notifier = with_items-append _ _ _ _ _ h.notifier k.notifier;
-}
+tells-append old mid new xs ys h k = grind (arith, with_items-append)
 
 -- the entries before one were told
 pub told_before : {R : Type 0} (old new : Feeds R) (all : List Entry) (n : ℕ) (entry : Entry) → n < length all → entry ≡ get_or all n entry
@@ -114,36 +90,18 @@ module _ {M E A R : Type 0} (steps : M → E → A → M → Type 0) (feed_of : 
 
   -- nothing is served as the desk has taken nothing
   pub serving_none : (core : Core M E A R) → core.desk.taken ≡ [] → Serving steps feed_of core core
-  serving_none core none = record {
-    exchanges = [];
-    letters = ap letters_in none;
-    serves = record {
-      replays = refl;
-      answers = record { user = with_items-nil core.replies.user; first_link = with_items-nil core.replies.first_link; second_link = with_items-nil core.replies.second_link };
-      entries = [];
-      grows = sym (append-nil (feed_of core.machine));
-      tells = record { indexer = with_items-nil core.feeds.indexer; notifier = with_items-nil core.feeds.notifier };
-    };
-  }
+  serving_none core h = grind (arith, with_items-nil, append-nil)
 
   -- what was served so far, at a core that differs in its desk alone
   served_at : (old core mid : Core M E A R) (xs : List (Exchange E A)) → Serves steps feed_of old xs core
       → mid.machine ≡ core.machine → mid.replies ≡ core.replies → mid.feeds ≡ core.feeds → Serves steps feed_of old xs mid
-  served_at old core mid xs h same_machine same_replies same_feeds = record {
-    replays = subst (Replays steps old.machine xs) (sym same_machine) h.replays;
-    answers = subst (GivesAnswers old.replies xs) (sym same_replies) h.answers;
-    entries = h.entries;
-    grows = ap feed_of same_machine ∙ h.grows;
-    tells = subst (TellsBoth old.feeds h.entries) (sym same_feeds) h.tells;
-  }
+  served_at old core mid xs h same_machine same_replies same_feeds = grind arith
 
   -- one letter more among those that were taken
   letter_more : (core mid new : Core M E A R) (xs : List (Exchange E A)) (sender : Sender) (letter : E) (answer : A) → letters_in core.desk.taken ≡ letters_with_senders xs
       → mid.desk.taken ≡ core.desk.taken ++ record { sender = sender; piece = Item letter } ∷ [] → new.desk ≡ mid.desk
       → letters_in new.desk.taken ≡ letters_with_senders (xs ++ exchange sender letter answer ∷ [])
-  letter_more core mid new xs sender letter answer h taken same_desk =
-      ap (λ d. letters_in d.taken) same_desk ∙ (ap letters_in taken ∙ (letters_in-append core.desk.taken (record { sender = sender; piece = Item letter } ∷ [])
-      ∙ (ap (λ l. l ++ (sender, letter) ∷ []) h ∙ sym (map-append (λ (x : Exchange E A). (x.sender, x.letter)) xs (exchange sender letter answer ∷ [])))))
+  letter_more core mid new xs sender letter answer h taken same_desk = grind (arith, letters_in-append, map-append)
 
   -- the desk took one letter more, and it was served
   pub serving_more : (old core mid new : Core M E A R) (sender : Sender) (letter : E) (answer : A) → Serving steps feed_of old core
@@ -191,15 +149,10 @@ module _ {M E A R : Type 0} (steps : M → E → A → M → Type 0) (feed_of : 
 
   -- the machine of a core that ran short was led by all letters that were answered
   pub replays_short : (old new : Core M E A R) (h : RanShort steps feed_of old new) → Replays steps old.machine h.exchanges h.served.machine
-  replays_short old new h = subst (λ xs. Replays steps old.machine xs h.served.machine) (sym h.in_order)
-      (Replays-append steps old.machine h.between.machine h.served.machine h.before (h.last ∷ []) h.served_before.replays h.serves.replays)
+  replays_short old new h = grind (arith, Replays-append)
 
   -- the desk took an end mark more
   pub serving_mark : (old core new : Core M E A R) (sender : Sender) → Serving steps feed_of old core
       → new.machine ≡ core.machine → new.replies ≡ core.replies → new.feeds ≡ core.feeds
       → new.desk.taken ≡ core.desk.taken ++ record { sender = sender; piece = End } ∷ [] → Serving steps feed_of old new
-  serving_mark old core new sender h same_machine same_replies same_feeds taken = record {
-    exchanges = h.exchanges;
-    letters = ap letters_in taken ∙ (letters_in-append core.desk.taken (record { sender = sender; piece = End } ∷ []) ∙ (append-nil (letters_in core.desk.taken) ∙ h.letters));
-    serves = served_at old core new h.exchanges h.serves same_machine same_replies same_feeds;
-  }
+  serving_mark old core new sender h same_machine same_replies same_feeds taken = grind (arith, letters_in-append, append-nil, served_at)
