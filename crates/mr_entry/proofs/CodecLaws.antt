@@ -44,16 +44,21 @@ pub record IsCodec {X E : Type 0} (IsSpelled : X → List ℕ → Type 0) (decod
   pub again : (x : X) (text more : List ℕ) → IsSpelled x text → decoded (text ++ more) ≡ Ok (x, length text)
 
 module _ {X E : Type 0} {IsSpelled : X → List ℕ → Type 0} {decoded : List ℕ → Result (X × ℕ) E} (codec : IsCodec IsSpelled decoded) where
-  pub is_spelled : (bytes : List ℕ) (r : Result (X × ℕ) E) → ((x : X × ℕ) → r ≡ Ok x → decoded bytes ≡ Ok x) → IfOk r (λ found. IsSpelled found.0 (take found.1 bytes))
-  is_spelled bytes (Ok x) h = (codec.takes bytes x.0 x.1 (h x refl)).0
-  is_spelled bytes (Err fault) h = tt
-
-  pub is_within : (bytes : List ℕ) (r : Result (X × ℕ) E) → ((x : X × ℕ) → r ≡ Ok x → decoded bytes ≡ Ok x) → IfOk r (λ found. found.1 ≤ length bytes)
-  is_within bytes (Ok x) h = (codec.takes bytes x.0 x.1 (h x refl)).1
-  is_within bytes (Err fault) h = tt
-
   pub is_found : (bytes text more : List ℕ) (x : X) → IsSpelled x text → bytes ≡ text ++ more → decoded bytes ≡ Ok (x, length text)
   is_found bytes text more x s same = ap decoded same ∙ codec.again x text more s
+
+  -- what an answer says of the bytes, where answers that are no faults are what is decoded
+  module _ (Answers : Result (X × ℕ) E → Result (X × ℕ) E → Type 0) (of_ok : (read : Result (X × ℕ) E) (x : X × ℕ) → Answers read (Ok x) → read ≡ Ok x) where
+    pub record IsAnswered (bytes : List ℕ) (r : Result (X × ℕ) E) : Type 0 where
+      pub spelled : IfOk r (λ found. IsSpelled found.0 (take found.1 bytes))
+      pub within : IfOk r (λ found. found.1 ≤ length bytes)
+      pub whole : (x : X) (text more : List ℕ) → IsSpelled x text → bytes ≡ text ++ more → Answers (Ok (x, length text)) r
+
+    pub answered : (bytes : List ℕ) (r : Result (X × ℕ) E) → Answers (decoded bytes) r → IsAnswered bytes r
+    answered bytes (Ok p) exact =
+        let t = codec.takes bytes p.0 p.1 (of_ok (decoded bytes) p exact) in
+        record { spelled = t.0; within = t.1; whole = λ x text more s same. subst (λ (read : Result (X × ℕ) E). Answers read (Ok p)) (is_found bytes text more x s same) exact }
+    answered bytes (Err fault) exact = record { spelled = tt; within = tt; whole = λ x text more s same. subst (λ (read : Result (X × ℕ) E). Answers read (Err fault)) (is_found bytes text more x s same) exact }
 
   pub begins_no_other : (x y : X) (a b more left : List ℕ) → IsSpelled x a → IsSpelled y b → a ++ more ≡ b ++ left → (a ≡ b) × (x ≡ y)
   begins_no_other x y a b more left s t same = same_front decoded x y a b more left (codec.again x a more s) (codec.again y b left t) same

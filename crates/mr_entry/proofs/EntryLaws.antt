@@ -25,7 +25,7 @@ use Rattle.mr_entry.specs.Fault.{fault_of_event}
 use Rattle.mr_entry.specs.declared.event.fault.EventFault.{EventFault}
 use Rattle.mr_entry.specs.declared.event.fault.EventFault.TheVariants as event_fault
 use Rattle.mr_entry.specs.declared.fault.EntryFault.{EntryFault}
-use Rattle.mr_entry.specs.declared.fault.EntryFault.TheVariants.{OutOfMemory, Truncated, BadKind, OtherFormat, BadBody, BadEvent, TooLong}
+use Rattle.mr_entry.specs.declared.fault.EntryFault.TheVariants.{OutOfMemory, Truncated, BadKind, OtherFormat, BadBody}
 use Rattle.mr_entry.proofs.CodecLaws.{IsCodec, Takes, byte_alone, by_kind, takes_of}
 use Rattle.mr_entry.proofs.EventLaws.{event_codec}
 
@@ -125,9 +125,7 @@ parts_again (entry.Note n) rest is = ap (or_fault BadBody) (as_again entry.Note 
 
 kind_fits : (e : Entry) → kind_byte e < 256
 kind_fits (entry.Head h) = omega arith
-kind_fits (entry.Event issued e) = omega arith
-kind_fits (entry.Nexts stream count) = omega arith
-kind_fits (entry.Note n) = omega arith
+kind_fits e = omega arith
 
 entry_takes : (bytes : List ℕ) (e : Entry) (rest : List ℕ) → entry_read bytes ≡ Ok (e, rest) → (bytes ≡ entry_bytes e ++ rest) × IsEntry e
 entry_takes bytes e rest h =
@@ -170,11 +168,7 @@ module _ (issued : ℕ) (behind : List ℕ) where
   of_event : (read : Result (Event × ℕ) EventFault) (fault : EventFault) → AnswersEvent read (Err fault) → Answers (counted_event issued behind read) (Err (fault_of_event fault))
   of_event (Ok e) event_fault.OutOfMemory h = refl
   of_event (Err fault) event_fault.OutOfMemory h = absurd cc
-  of_event read event_fault.Truncated h = ap (counted_event issued behind) h
-  of_event read event_fault.TooLong h = ap (counted_event issued behind) h
-  of_event read event_fault.BadForm h = ap (counted_event issued behind) h
-  of_event read event_fault.BadKind h = ap (counted_event issued behind) h
-  of_event read event_fault.BadBody h = ap (counted_event issued behind) h
+  of_event read fault h = ap (counted_event issued behind) h
 
   pub is_event_fault : (bytes : List ℕ) (fault : EventFault) (told : EntryFault) → number_at w32 bytes ≡ Some (issued, behind) → AnswersEvent (event_decoded behind) (Err fault) → told ≡ fault_of_event fault → Answers (event_read bytes) (Err told)
   is_event_fault bytes fault told counted h is =
@@ -189,12 +183,7 @@ module _ (bytes : List ℕ) where
   stays : (read : Result (Entry × List ℕ) EntryFault) (fault : EntryFault) → Answers read (Err fault) → Answers (sized read) (Err fault)
   stays (Ok f) OutOfMemory h = refl
   stays (Err fault) OutOfMemory h = absurd cc
-  stays read Truncated h = ap sized h
-  stays read BadKind h = ap sized h
-  stays read (OtherFormat format) h = ap sized h
-  stays read BadBody h = ap sized h
-  stays read (BadEvent fault) h = ap sized h
-  stays read TooLong h = ap sized h
+  stays read fault h = ap sized h
 
   pub fault_stays : (fault : EntryFault) → Answers (entry_read bytes) (Err fault) → Answers (decoded bytes) (Err fault)
   fault_stays fault = stays (entry_read bytes) fault

@@ -58,13 +58,7 @@ reads_versions =
 -- a kind's byte is one of which it is the kind
 is_byte_of : (k : Kind) → (frame_kind_byte k < 256) × (kind_of_byte 2 (frame_kind_byte k) ≡ Some k)
 is_byte_of frame_kind.Ask = (omega arith, refl)
-is_byte_of frame_kind.Start = (omega arith, refl)
-is_byte_of frame_kind.Item = (omega arith, refl)
-is_byte_of frame_kind.MoveOut = (omega arith, refl)
-is_byte_of frame_kind.Held = (omega arith, refl)
-is_byte_of frame_kind.Know = (omega arith, refl)
-is_byte_of frame_kind.End = (omega arith, refl)
-is_byte_of frame_kind.Receipt = (omega arith, refl)
+is_byte_of k = (omega arith, refl)
 
 kind_again : (k : Kind) (rest : List ℕ) → frame_kind_at (frame_kind_byte k ∷ rest) ≡ Some (k, rest)
 kind_again k rest =
@@ -150,17 +144,8 @@ head_takes (form ∷ byte ∷ more) kind parts e =
     ap (λ (n : ℕ). n ∷ byte ∷ more) (eqb-true form 1 a.0) ∙ ap (λ (p : ℕ × List ℕ). 1 ∷ p.0 ∷ p.1) is
 
 head_again : (e : Event) → kind_and_parts (rest_bytes e) ≡ Ok (event_kind e, event_parts e)
-head_again (event.Create message) = refl
-head_again (event.Edit bases message) = refl
 head_again event.Retire = refl
-head_again event.Pull = refl
-head_again (event.Receive f) = refl
-head_again (event.CutIn session) = refl
-head_again (event.Answer q) = refl
-head_again (event.Next stream) = refl
-head_again (event.CutOut stream) = refl
-head_again (event.Vouch version) = refl
-head_again (event.Release r) = refl
+head_again e = refl
 
 whole_again : (e : Event) → IsEvent e → whole_event (event_kind e) (event_parts e) ≡ Some e
 whole_again e h =

@@ -48,11 +48,8 @@ edit_is = refl
 pub retire_is : event_bytes Retire ≡ 0 ∷ 0 ∷ 0 ∷ 2 ∷ 1 ∷ 2 ∷ []
 retire_is = refl
 
-pub pull_is : event_bytes Pull ≡ 0 ∷ 0 ∷ 0 ∷ 2 ∷ 1 ∷ 3 ∷ []
-pull_is = refl
-
-pub pull_is_read : event_decoded (0 ∷ 0 ∷ 0 ∷ 2 ∷ 1 ∷ 3 ∷ 9 ∷ 9 ∷ []) ≡ Ok (Pull, 6)
-pull_is_read = refl
+pub pull_is : (event_bytes Pull ≡ 0 ∷ 0 ∷ 0 ∷ 2 ∷ 1 ∷ 3 ∷ []) × (event_decoded (0 ∷ 0 ∷ 0 ∷ 2 ∷ 1 ∷ 3 ∷ 9 ∷ 9 ∷ []) ≡ Ok (Pull, 6))
+pull_is = (refl, refl)
 
 -- the end of the stream 1 of replica 0, for the session 1 of replica 1
 abbrev end : Frame
@@ -62,11 +59,8 @@ end = frame.Record (record { header = record { source = 0; stream = 1; target = 
 abbrev receive_row : List ℕ
 receive_row = 0 ∷ 0 ∷ 0 ∷ 27 ∷ 1 ∷ 4 ∷ 6 ∷ 0 ∷ 0 ∷ (number_row 1 ++ 0 ∷ 1 ∷ (number_row 1 ++ 0 ∷ 0 ∷ 0 ∷ 4 ∷ []))
 
-pub receive_is : event_bytes (Receive end) ≡ receive_row
-receive_is = refl
-
-pub receive_is_read : event_decoded receive_row ≡ Ok (Receive end, 31)
-receive_is_read = refl
+pub receive_is : (event_bytes (Receive end) ≡ receive_row) × (event_decoded receive_row ≡ Ok (Receive end, 31))
+receive_is = (refl, refl)
 
 -- the session 3 is cut
 pub cut_in_is : event_bytes (CutIn 3) ≡ 0 ∷ 0 ∷ 0 ∷ 10 ∷ 1 ∷ 5 ∷ number_row 3
@@ -80,29 +74,23 @@ ask = Answer (record { target = 1; session = 1; filter = record { all_labels = c
 abbrev ask_row : List ℕ
 ask_row = 0 ∷ 0 ∷ 0 ∷ 32 ∷ 1 ∷ 6 ∷ 0 ∷ 1 ∷ (number_row 1 ++ 1 ∷ 1 ∷ 5 ∷ 105 ∷ 110 ∷ 98 ∷ 111 ∷ 120 ∷ 0 ∷ 0 ∷ 0 ∷ 0 ∷ 0 ∷ 0 ∷ 0 ∷ 0 ∷ 1 ∷ 0 ∷ 0 ∷ 0 ∷ [])
 
-pub ask_is : event_bytes ask ≡ ask_row
-ask_is = refl
-
-pub ask_is_read : event_decoded ask_row ≡ Ok (ask, 36)
+pub ask_is : (event_bytes ask ≡ ask_row) × (event_decoded ask_row ≡ Ok (ask, 36))
 unfolding run_at
-ask_is_read = refl
+ask_is = (refl, refl)
 
 -- the stream 1 is drawn from, and cut
-pub next_is : event_bytes (Next 1) ≡ 0 ∷ 0 ∷ 0 ∷ 10 ∷ 1 ∷ 7 ∷ number_row 1
-next_is = refl
-
-pub next_is_read : event_decoded (0 ∷ 0 ∷ 0 ∷ 10 ∷ 1 ∷ 7 ∷ number_row 1) ≡ Ok (Next 1, 14)
-next_is_read = refl
+pub next_is : (event_bytes (Next 1) ≡ 0 ∷ 0 ∷ 0 ∷ 10 ∷ 1 ∷ 7 ∷ number_row 1) × (event_decoded (0 ∷ 0 ∷ 0 ∷ 10 ∷ 1 ∷ 7 ∷ number_row 1) ≡ Ok (Next 1, 14))
+next_is = (refl, refl)
 
 pub cut_out_is : event_bytes (CutOut 1) ≡ 0 ∷ 0 ∷ 0 ∷ 10 ∷ 1 ∷ 8 ∷ number_row 1
 cut_out_is = refl
 
 -- 1.1 is vouched for, and its receipt by replica 0 is taken
-pub vouch_is : event_bytes (Vouch (name 1 1)) ≡ 0 ∷ 0 ∷ 0 ∷ 8 ∷ 1 ∷ 9 ∷ 0 ∷ 1 ∷ 0 ∷ 0 ∷ 0 ∷ 1 ∷ []
-vouch_is = refl
+abbrev vouch_row : List ℕ
+vouch_row = 0 ∷ 0 ∷ 0 ∷ 8 ∷ 1 ∷ 9 ∷ 0 ∷ 1 ∷ 0 ∷ 0 ∷ 0 ∷ 1 ∷ []
 
-pub vouch_is_read : event_decoded (0 ∷ 0 ∷ 0 ∷ 8 ∷ 1 ∷ 9 ∷ 0 ∷ 1 ∷ 0 ∷ 0 ∷ 0 ∷ 1 ∷ []) ≡ Ok (Vouch (name 1 1), 12)
-vouch_is_read = refl
+pub vouch_is : (event_bytes (Vouch (name 1 1)) ≡ vouch_row) × (event_decoded vouch_row ≡ Ok (Vouch (name 1 1), 12))
+vouch_is = (refl, refl)
 
 pub release_is : event_bytes (Release (record { giver = 0; descent = descent_with (name 1 1) (name 1 1) [] })) ≡ 0 ∷ 0 ∷ 0 ∷ 18 ∷ 1 ∷ 10 ∷ 0 ∷ 0 ∷ 0 ∷ 1 ∷ 0 ∷ 0 ∷ 0 ∷ 1 ∷ 0 ∷ 1 ∷ 0 ∷ 0 ∷ 0 ∷ 1 ∷ 0 ∷ 0 ∷ []
 release_is = refl
@@ -118,25 +106,16 @@ pub half_a_length : event_decoded (0 ∷ 0 ∷ 0 ∷ []) ≡ Err Truncated
 half_a_length = refl
 
 -- of 8,388,609 bytes there is no event, and of 8,388,608 they are not there
-pub one_too_long : event_decoded (0 ∷ 128 ∷ 0 ∷ 1 ∷ []) ≡ Err TooLong
-one_too_long = refl
-
-pub longest_is_missing : event_decoded (0 ∷ 128 ∷ 0 ∷ 0 ∷ []) ≡ Err Truncated
-longest_is_missing = refl
+pub one_too_long : (event_decoded (0 ∷ 128 ∷ 0 ∷ 1 ∷ []) ≡ Err TooLong) × (event_decoded (0 ∷ 128 ∷ 0 ∷ 0 ∷ []) ≡ Err Truncated)
+one_too_long = (refl, refl)
 
 -- form and kind take two bytes, whether or not they are there
-pub too_short : event_decoded (0 ∷ 0 ∷ 0 ∷ 1 ∷ []) ≡ Err BadBody
-too_short = refl
-
-pub half_an_event : event_decoded (0 ∷ 0 ∷ 0 ∷ 2 ∷ 1 ∷ []) ≡ Err Truncated
-half_an_event = refl
+pub too_short : (event_decoded (0 ∷ 0 ∷ 0 ∷ 1 ∷ []) ≡ Err BadBody) × (event_decoded (0 ∷ 0 ∷ 0 ∷ 2 ∷ 1 ∷ []) ≡ Err Truncated)
+too_short = (refl, refl)
 
 -- the form comes before the kind, and the kind before the body
-pub other_form : event_decoded (0 ∷ 0 ∷ 0 ∷ 2 ∷ 2 ∷ 11 ∷ []) ≡ Err BadForm
-other_form = refl
-
-pub other_kind : event_decoded (0 ∷ 0 ∷ 0 ∷ 3 ∷ 1 ∷ 11 ∷ 0 ∷ []) ≡ Err BadKind
-other_kind = refl
+pub other_form : (event_decoded (0 ∷ 0 ∷ 0 ∷ 2 ∷ 2 ∷ 11 ∷ []) ≡ Err BadForm) × (event_decoded (0 ∷ 0 ∷ 0 ∷ 3 ∷ 1 ∷ 11 ∷ 0 ∷ []) ≡ Err BadKind)
+other_form = (refl, refl)
 
 -- a pull has no body
 pub body_of_a_pull : event_decoded (0 ∷ 0 ∷ 0 ∷ 3 ∷ 1 ∷ 3 ∷ 0 ∷ []) ≡ Err BadBody

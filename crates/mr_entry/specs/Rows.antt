@@ -6,6 +6,7 @@ use Rattle.mr_entry.specs.Head.{HeadParts}
 use Rattle.mr_entry.specs.Events.{events_of_entry}
 use Rattle.mr_entry.specs.Spelling.{entry_bytes}
 use Rattle.mr_entry.specs.Decoding.{decoded}
+use Rattle.mr_entry.specs.declared.entry.Entry.{Entry}
 use Rattle.mr_entry.specs.declared.entry.Entry.TheVariants as entry
 use Rattle.mr_entry.specs.declared.fault.EntryFault.TheVariants.{Truncated, BadKind, OtherFormat, BadBody, BadEvent}
 
@@ -32,34 +33,25 @@ head_is = refl
 abbrev pull_row : List ℕ
 pull_row = 1 ∷ 0 ∷ 0 ∷ 0 ∷ 7 ∷ 0 ∷ 0 ∷ 0 ∷ 2 ∷ 1 ∷ 3 ∷ []
 
-pub pull_is : entry_bytes (entry.Event 7 Pull) ≡ pull_row
-pull_is = refl
-
-pub pull_is_read : decoded (pull_row ++ (9 ∷ 9 ∷ [])) ≡ Ok (entry.Event 7 Pull, 11)
-pull_is_read = refl
+pub pull_is : (entry_bytes (entry.Event 7 Pull) ≡ pull_row) × (decoded (pull_row ++ (9 ∷ 9 ∷ [])) ≡ Ok (entry.Event 7 Pull, 11))
+pull_is = (refl, refl)
 
 -- three Nexts of stream 4
 abbrev nexts_row : List ℕ
 nexts_row = 2 ∷ 0 ∷ 0 ∷ 0 ∷ 0 ∷ 0 ∷ 0 ∷ 0 ∷ 4 ∷ 0 ∷ 0 ∷ 0 ∷ 3 ∷ []
 
-pub nexts_is : entry_bytes (entry.Nexts 4 3) ≡ nexts_row
-nexts_is = refl
-
-pub nexts_is_read : decoded (nexts_row ++ (1 ∷ [])) ≡ Ok (entry.Nexts 4 3, 13)
-nexts_is_read = refl
-
-pub nexts_are_told : events_of_entry (entry.Nexts 4 3) ≡ Next 4 ∷ Next 4 ∷ Next 4 ∷ []
-nexts_are_told = refl
+pub nexts_is : (entry_bytes (entry.Nexts 4 3) ≡ nexts_row) × (decoded (nexts_row ++ (1 ∷ [])) ≡ Ok (entry.Nexts 4 3, 13)) × (events_of_entry (entry.Nexts 4 3) ≡ Next 4 ∷ Next 4 ∷ Next 4 ∷ [])
+nexts_is = (refl, refl, refl)
 
 -- a note of kind 9 with two bytes
 abbrev note_row : List ℕ
 note_row = 3 ∷ 9 ∷ 0 ∷ 0 ∷ 0 ∷ 2 ∷ 1 ∷ 2 ∷ []
 
-pub note_is : entry_bytes (entry.Note (record { kind = 9; bytes = 1 ∷ 2 ∷ [] })) ≡ note_row
-note_is = refl
+abbrev note : Entry
+note = entry.Note (record { kind = 9; bytes = 1 ∷ 2 ∷ [] })
 
-pub note_is_read : decoded (note_row ++ (3 ∷ [])) ≡ Ok (entry.Note (record { kind = 9; bytes = 1 ∷ 2 ∷ [] }), 8)
-note_is_read = refl
+pub note_is : (entry_bytes note ≡ note_row) × (decoded (note_row ++ (3 ∷ [])) ≡ Ok (note, 8))
+note_is = (refl, refl)
 
 -- ---- bytes that begin no entry
 
@@ -70,22 +62,16 @@ pub another_kind : decoded (4 ∷ []) ≡ Err BadKind
 another_kind = refl
 
 -- of another format nothing else is read
-pub another_format : decoded (0 ∷ 0 ∷ 2 ∷ []) ≡ Err (OtherFormat 2)
-another_format = refl
-
-pub half_a_format : decoded (0 ∷ 0 ∷ []) ≡ Err BadBody
-half_a_format = refl
+pub another_format : (decoded (0 ∷ 0 ∷ 2 ∷ []) ≡ Err (OtherFormat 2)) × (decoded (0 ∷ 0 ∷ []) ≡ Err BadBody)
+another_format = (refl, refl)
 
 -- ids go up to 63
 pub no_id : decoded (0 ∷ 0 ∷ 1 ∷ 0 ∷ 64 ∷ 0 ∷ 0 ∷ 3 ∷ 232 ∷ birth_row ++ mark_row ++ (0 ∷ 0 ∷ 0 ∷ 0 ∷ [])) ≡ Err BadBody
 no_id = refl
 
 -- the count of an event comes first, and then what is wrong with the event
-pub half_a_count : decoded (1 ∷ 0 ∷ 0 ∷ 7 ∷ []) ≡ Err BadBody
-half_a_count = refl
-
-pub no_event : decoded (1 ∷ 0 ∷ 0 ∷ 0 ∷ 7 ∷ []) ≡ Err (BadEvent event.Truncated)
-no_event = refl
+pub half_a_count : (decoded (1 ∷ 0 ∷ 0 ∷ 7 ∷ []) ≡ Err BadBody) × (decoded (1 ∷ 0 ∷ 0 ∷ 0 ∷ 7 ∷ []) ≡ Err (BadEvent event.Truncated))
+half_a_count = (refl, refl)
 
 pub another_form : decoded (1 ∷ 0 ∷ 0 ∷ 0 ∷ 7 ∷ 0 ∷ 0 ∷ 0 ∷ 2 ∷ 2 ∷ 3 ∷ []) ≡ Err (BadEvent event.BadForm)
 another_form = refl

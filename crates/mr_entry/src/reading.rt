@@ -38,22 +38,14 @@ fn author(input: &mut Input<'_>) -> Option<Author>
     Author::try_new(id).ok()
 }
 
-fn birth(input: &mut Input<'_>) -> Option<Birth>
-    ensures { Gives (bytes_at 16) input.old result input.new }
+/// So many bytes.
+fn array<const N: usize>(input: &mut Input<'_>) -> Option<[u8; N]>
+    ensures { Gives (bytes_at N) input.old result input.new }
 {
-    let front = input.bytes(16)?;
-    let mut birth = [0u8; 16];
-    birth.copy_from_slice(front);
-    Some(birth)
-}
-
-fn mark(input: &mut Input<'_>) -> Option<Mark>
-    ensures { Gives (bytes_at 32) input.old result input.new }
-{
-    let front = input.bytes(32)?;
-    let mut mark = [0u8; 32];
-    mark.copy_from_slice(front);
-    Some(mark)
+    let front = input.bytes(N)?;
+    let mut bytes = [0u8; N];
+    bytes.copy_from_slice(front);
+    Some(bytes)
 }
 
 /// The text of these bytes, if they are UTF-8.
@@ -88,8 +80,8 @@ pub(crate) fn head_in<'a>(input: &mut Input<'a>) -> Option<HeadRead<'a>>
 {
     let id = author(input)?;
     let event_limit = input.u32()?;
-    let birth = birth(input)?;
-    let mark = mark(input)?;
+    let birth = array::<16>(input)?;
+    let mark = array::<32>(input)?;
     let filter = filter_text(input)?;
     Some(HeadRead {
         id,

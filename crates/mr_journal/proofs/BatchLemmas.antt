@@ -1,12 +1,16 @@
 -- one more batch behind those of a journal
-use Rattle.std.proofs.Common.{◌≡◌, inl, ℕ, zero, suc, ◌+◌, ◌*◌, List, [], ◌∷◌, ◌++◌, length, refl, sym, ◌∙◌, ap, arith, length-append, append_assoc}
+use Rattle.std.proofs.Common.{◌≡◌, ◌⊎◌, inl, inr, ⊎_elim, ℕ, zero, suc, ◌+◌, ◌*◌, List, [], ◌∷◌, ◌++◌, length, refl, sym, ◌∙◌, ap, arith, length-append, append_assoc}
 use Rattle.std.proofs.lemmas.List.{append-nil}
 use Rattle.std.proofs.lemmas.List.Concat.{flat_map-append}
 use Rattle.std.specs.List.{flat_map, slice_index, AllByRecursion}
 use Rattle.std.specs.Int.{w32, to_be_bytes}
 use Rattle.sha2.specs.Sha256.{sha256, digest_bytes}
+use Rattle.mr_journal.specs.Device.{LeavesOnly}
 use Rattle.mr_journal.specs.inner.Device.{IsStaged}
-use Rattle.mr_journal.specs.Format.{AreBatches, IsBatch, Stands, batch, body, head, sealed, u64}
+use Rattle.mr_journal.specs.Format.{AreBatches, Fits, IsBatch, Stands, batch, body, head, sealed, u64}
+use Rattle.mr_journal.specs.Journal.{Keeps}
+use Rattle.mr_journal.specs.declared.journal.Journal.{Journal}
+use Rattle.mr_journal.proofs.Moments.{widened}
 
 length-digest_bytes : (h : List ℕ) (n : ℕ) → length (digest_bytes h n) ≡ 4 * n
 unfolding digest_bytes
@@ -23,14 +27,14 @@ length-sealed entries =
     let size = length (body entries) in
     omega (arith, length-append (u64 size) (sha256 (body entries) ++ body entries), length-append (sha256 (body entries)) (body entries), length-sha256 (body entries))
 
-all_push : (batches : List (List (List ℕ))) (more : List (List ℕ)) → AllByRecursion IsBatch batches → IsBatch more → AllByRecursion IsBatch (batches ++ more ∷ [])
-all_push [] more each is = (is, tt)
-all_push (b ∷ batches) more each is = (each.0, all_push batches more each.1 is)
+pub all_push : {A : Type 0} (P : A → Type 0) (xs : List A) (x : A) → AllByRecursion P xs → P x → AllByRecursion P (xs ++ x ∷ [])
+all_push P [] x each is = (is, tt)
+all_push P (y ∷ xs) x each is = (each.0, all_push P xs x each.1 is)
 
 pub grown : (entries more : List (List ℕ)) (front : List ℕ) → AreBatches entries front → IsBatch more → AreBatches (entries ++ more) (front ++ batch more)
 grown entries more front are is = record {
   batches = are.batches ++ more ∷ [];
-  each = all_push are.batches more are.each is;
+  each = all_push IsBatch are.batches more are.each is;
   front_is = ap (λ (l : List ℕ). l ++ batch more) are.front_is
       ∙ append_assoc (head 1) (flat_map batch are.batches) (batch more)
       ∙ ap (λ (l : List ℕ). head 1 ++ (flat_map batch are.batches ++ l)) (sym (append-nil (batch more)))
@@ -40,12 +44,19 @@ grown entries more front are is = record {
       ∙ sym (flat_map-append (λ b. b) are.batches (more ∷ []));
 }
 
-pub behind_gate : (front : List ℕ) (more : List (List ℕ)) → front ++ (1 ∷ (sealed more ++ (0 ∷ []))) ≡ (front ++ batch more) ++ (0 ∷ [])
-behind_gate front more = sym (append_assoc front (batch more) (0 ∷ []))
+-- a batch that fits, and what stands where its gate is open
+pub fitting : {place : ℕ} {more : List (List ℕ)} → Fits place more → IsBatch more
+fitting fits = record { entries_are = fits.entries_are; whole = omega (arith, fits.room) }
 
--- a file with a closed gate behind whole batches stands for their entries
-pub stands_staged : (entries : List (List ℕ)) (front : List ℕ) (most : ℕ) (file : List ℕ) → AreBatches entries front → IsStaged front most file → Stands entries file
-stands_staged entries front most file are staged = inl (record { front = front; left = staged.tail; batches = are; file_is = staged.file_is })
+pub behind_gate : (front bytes : List ℕ) (more : List (List ℕ)) → bytes ≡ sealed more ++ (0 ∷ []) → front ++ (1 ∷ bytes) ≡ (front ++ batch more) ++ (0 ∷ [])
+behind_gate front bytes more is = ap (λ (l : List ℕ). front ++ (1 ∷ l)) is ∙ sym (append_assoc front (batch more) (0 ∷ []))
 
-pub stands_rest : (entries : List (List ℕ)) (front file : List ℕ) → AreBatches entries front → file ≡ front ++ (0 ∷ []) → Stands entries file
-stands_rest entries front file are is = inl (record { front = front; left = []; batches = are; file_is = is })
+-- a crash over a commit leaves the entries, or those and the batch
+pub commit_leaves : {D : Type 0} {seen : D → List ℕ} {may_leave : D → List ℕ → Type 0} {moment : D → ℕ} {left_since : D → ℕ → List ℕ → Type 0} {old new : D} {place : ℕ} {entries more : List (List ℕ)} {journal : Journal D}
+    (keeps : Keeps seen may_leave entries journal) (bytes : List ℕ) → Fits place more → bytes ≡ sealed more ++ (0 ∷ []) → LeavesOnly moment left_since old new (λ c. IsStaged keeps.front (length bytes) c ⊎ (c ≡ keeps.front ++ (1 ∷ bytes)))
+    → LeavesOnly moment left_since old new (λ c. Stands entries c ⊎ Stands (entries ++ more) c)
+commit_leaves {entries = entries} {more} keeps bytes fits is leaves =
+    widened {P = λ c. IsStaged keeps.front (length bytes) c ⊎ (c ≡ keeps.front ++ (1 ∷ bytes))} (λ c. Stands entries c ⊎ Stands (entries ++ more) c) leaves (λ c left. ⊎_elim
+    (λ (staged : IsStaged keeps.front (length bytes) c). inl (inl (record { front = keeps.front; left = staged.tail; batches = keeps.batches; file_is = staged.file_is })))
+    (λ (whole : c ≡ keeps.front ++ (1 ∷ bytes)). inr (inl (record { front = keeps.front ++ batch more; left = []; batches = grown entries more keeps.front keeps.batches (fitting fits); file_is = whole ∙ behind_gate keeps.front bytes more is })))
+    left)

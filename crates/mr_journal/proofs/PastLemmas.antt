@@ -1,5 +1,6 @@
 -- one more content joins those that a file in memory has had
-use Rattle.std.proofs.Common.{◌≡◌, ◌⊎◌, inl, inr, ⊎_elim, ℕ, zero, suc, ◌≤◌, List, [], ◌∷◌, ◌++◌, length, drop, Vec, refl, sym, ◌∙◌, subst, arith, length-append}
+use Rattle.std.proofs.Common.{◌≡◌, ◌⊎◌, inl, inr, ⊎_elim, ℕ, List, [], ◌∷◌, ◌++◌, length, drop, Vec, sym, ◌∙◌, subst, arith, length-append}
+use Rattle.std.proofs.lemmas.List.{drop-append-le}
 use Rattle.std.specs.declared.alloc.Global.{Global}
 use Rattle.mr_journal.specs.Device.{Passes}
 use Rattle.mr_journal.specs.Past.{HadBeen, LeftSince}
@@ -22,19 +23,10 @@ stays (p ∷ past) v file (inl (inl here)) = inl here
 stays (p ∷ past) v file (inl (inr there)) = inr (stays past v file (inl there))
 stays (p ∷ past) v file (inr new) = inr (stays past v file (inr new))
 
-drop_joined : (t : ℕ) (past : Contents) (v : Vec ℕ Global) → t ≤ length past → drop t (past ++ v ∷ []) ≡ drop t past ++ v ∷ []
-drop_joined zero past v le = refl
-drop_joined (suc t) [] v le = absurd (omega arith)
-drop_joined (suc t) (p ∷ past) v le = drop_joined t past v (omega arith)
-
-passes_on : (past : Contents) (v : Vec ℕ Global) (old new : List ℕ) → v.items ≡ old → Passes (length past) (length (past ++ v ∷ [])) (LeftSince past old) (LeftSince (past ++ v ∷ []) new) (λ c. c ≡ new)
-passes_on past v old new is = record {
-  later = omega (arith, length-append past (v ∷ []));
-  no_more = λ t c le left. ⊎_elim (λ now. inr now) (λ had. inl (⊎_elim (λ (was : HadBeen (drop t past) c). inr was) (λ (at : c ≡ v.items). inl (at ∙ is)) (joins (drop t past) v c (subst (λ (l : Contents). HadBeen l c) (drop_joined t past v le) had)))) left;
-  no_less = λ t c le left. inr (subst (λ (l : Contents). HadBeen l c) (sym (drop_joined t past v le)) (stays (drop t past) v c (⊎_elim (λ (now : c ≡ old). inr (now ∙ sym is)) (λ (had : HadBeen (drop t past) c). inl had) left)));
-}
-
 -- time passes where the old content was put beside the earlier ones
 pub passes_to : (past later : Contents) (v : Vec ℕ Global) (old new : List ℕ) → v.items ≡ old → later ≡ past ++ v ∷ [] → Passes (length past) (length later) (LeftSince past old) (LeftSince later new) (λ c. c ≡ new)
-passes_to past later v old new is same =
-    subst (λ (l : Contents). Passes (length past) (length l) (LeftSince past old) (LeftSince l new) (λ c. c ≡ new)) (sym same) (passes_on past v old new is)
+passes_to past later v old new is same = rw same (record {
+  later = omega (arith, length-append past (v ∷ []));
+  no_more = λ t c le left. ⊎_elim (λ now. inr now) (λ had. inl (⊎_elim (λ (was : HadBeen (drop t past) c). inr was) (λ (at : c ≡ v.items). inl (at ∙ is)) (joins (drop t past) v c (subst (λ (l : Contents). HadBeen l c) (drop-append-le t past (v ∷ []) le) had)))) left;
+  no_less = λ t c le left. inr (subst (λ (l : Contents). HadBeen l c) (sym (drop-append-le t past (v ∷ []) le)) (stays (drop t past) v c (⊎_elim (λ (now : c ≡ old). inr (now ∙ sym is)) (λ (had : HadBeen (drop t past) c). inl had) left)));
+})

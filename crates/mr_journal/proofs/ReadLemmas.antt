@@ -1,20 +1,22 @@
 -- what the bytes at a place say
-use Rattle.std.proofs.Common.{◌≡◌, ◌≢◌, ⊎_elim, ℕ, zero, suc, ◌+◌, ◌<◌, ◌≤◌, ◌^◌, min, Bool, true, false, not, Err, List, [], ◌∷◌, ◌++◌, length, get_or, take, drop, refl, sym, ◌∙◌, ap, arith, length-append, length-take, length-drop, take-append-drop, append_assoc}
+use Rattle.std.proofs.Common.{◌≡◌, ◌≢◌, ⊎_elim, ℕ, zero, suc, ◌+◌, ◌<◌, ◌≤◌, ◌^◌, min, Bool, true, false, not, Option, Result, Err, Vec, List, [], ◌∷◌, ◌++◌, length, get_or, take, drop, refl, sym, ◌∙◌, ap, subst, arith, length-append, length-take, length-drop, take-append-drop, append_assoc}
 use Rattle.std.proofs.lemmas.List.{append-nil, take_at, drop_at, drop-drop, drop_more, get_or-take, get_or-drop, get_or_past}
-use Rattle.std.proofs.lemmas.Bool.{cases_lt}
+use Rattle.std.proofs.lemmas.Bool.{cases_lt, not-false, not-true}
+use Rattle.std.proofs.lemmas.Bool.Decides.{not_from_Decides}
 use Rattle.std.proofs.lemmas.Slice.Eq.{bytes_eq-Decides}
 use Rattle.std.specs.Str.{bytes_eq}
+use Rattle.std.specs.declared.alloc.Global.{Global}
 use Rattle.std.proofs.lemmas.Nat.{be_bytes_4, be_bytes_8, from_be_bytes-to_be_bytes_4, from_be_bytes-to_be_bytes_8}
 use Rattle.std.specs.Int.{w32, w64, from_be_bytes}
 use Rattle.std.proofs.lemmas.List.Concat.{flat_map-append}
 use Rattle.sha2.specs.Sha256.{sha256}
-use Rattle.mr_journal.specs.Format.{AreBatches, AreEntries, IsDamagedAt, batch, body, entry_bytes, head, u32, u64}
+use Rattle.mr_journal.specs.Format.{AreBatches, AreEntries, IsBatch, IsDamagedAt, batch, body, entry_bytes, head, u32, u64}
 use Rattle.mr_journal.specs.inner.Format.{framed}
 use Rattle.mr_journal.specs.declared.fault.JournalFault.{JournalFault}
-use Rattle.mr_journal.specs.declared.fault.JournalFault.TheVariants.{OutOfMemory, Failed, NotAJournal, OtherFormat, Damaged, TooLarge}
+use Rattle.mr_journal.specs.declared.fault.JournalFault.TheVariants.{OutOfMemory, Failed, Damaged}
 use Rattle.mr_journal.specs.Reading.{IsReason}
 use Rattle.mr_journal.specs.inner.Reading.{IsFound, IsNothing}
-use Rattle.mr_journal.proofs.BatchLemmas.{length-sha256, grown}
+use Rattle.mr_journal.proofs.BatchLemmas.{length-sealed, length-sha256, grown}
 
 -- a byte of a part of bytes is a byte
 pub byte_of_part : (k n : ℕ) (bytes : List ℕ) → ((i : ℕ) → get_or bytes i 0 < 256) → (i : ℕ) → get_or (take n (drop k bytes)) i 0 < 256
@@ -106,43 +108,50 @@ framed_batch more left =
     let size = u64 (length (body more)) in
     ap (λ (l : List ℕ). 1 ∷ l) (append_assoc size (sha256 (body more) ++ body more) left ∙ ap (λ (l : List ℕ). size ++ l) (append_assoc (sha256 (body more)) (body more) left))
 
--- one more batch is read
-pub read_one : (entries more : List (List ℕ)) (front bytes left file : List ℕ) → AreBatches entries front → file ≡ front ++ framed bytes left → bytes ≡ body more → AreEntries more → length bytes < 2 ^ 64
-    → AreBatches (entries ++ more) (front ++ batch more) × (file ≡ (front ++ batch more) ++ left)
-read_one entries more front bytes left file are file_is bytes_are fit lt = (
-  grown entries more front are (record { entries_are = fit; whole = omega (arith, lt, ap length bytes_are) }),
-  file_is ∙ ap (λ (l : List ℕ). front ++ framed l left) bytes_are ∙ ap (λ (l : List ℕ). front ++ l) (sym (framed_batch more left)) ∙ sym (append_assoc front (batch more) left),
-)
+-- whole batches up to a place of a file, and what stands there
+pub record ReadTo (entries : List (List ℕ)) (place : ℕ) (file : List ℕ) : Type 0 where
+  pub front : List ℕ
+  pub left : List ℕ
+  pub batches : AreBatches entries front
+  pub file_is : file ≡ front ++ left
+  pub place_is : place ≡ length front
 
-pub damaged : (entries : List (List ℕ)) (front rest file : List ℕ) (place : ℕ) → AreBatches entries front → file ≡ front ++ rest → place ≡ length front → IsNothing rest → IsDamagedAt place file
-damaged entries front rest file place are file_is place_is nothing = record {
-  front = front;
-  rest = rest;
-  entries = entries;
-  batches = are;
-  file_is = file_is;
-  place_is = place_is;
-  no_gate = nothing.no_gate;
-  no_batch = λ more left is e. nothing.no_body (body more) left is.whole (e ∙ framed_batch more left);
-}
+module _ {entries : List (List ℕ)} {place : ℕ} {file : List ℕ} (so_far : ReadTo entries place file) where
+  -- what is found there stands there
+  pub found_there : (r : Result (Option (Vec ℕ Global)) JournalFault) (now : List ℕ) → now ≡ file → IsFound r place (drop place now) → IsFound r place so_far.left
+  found_there r now same found =
+      subst (λ (l : List ℕ). IsFound r place l) (ap (λ (l : List ℕ). drop place l) (same ∙ so_far.file_is) ∙ drop_at so_far.front so_far.left place (sym so_far.place_is)) found
 
--- a body that is no entries leaves nothing either
-pub damaged_body : (entries : List (List ℕ)) (front bytes left file : List ℕ) (place : ℕ) → AreBatches entries front → file ≡ front ++ framed bytes left → place ≡ length front → length bytes < 2 ^ 64 → ((more : List (List ℕ)) → AreEntries more → bytes ≢ body more)
-    → IsDamagedAt place file
-damaged_body entries front bytes left file place are file_is place_is lt none = record {
-  front = front;
-  rest = framed bytes left;
-  entries = entries;
-  batches = are;
-  file_is = file_is;
-  place_is = place_is;
-  no_gate = λ behind e. absurd (omega (arith, ap (λ (l : List ℕ). get_or l 0 0) e));
-  no_batch = λ more behind is e.
-      let framed_too : framed bytes left ≡ framed (body more) behind = e ∙ framed_batch more behind in
-      let same = same_front (length bytes) (sha256 bytes) (body more) behind (framed bytes left) lt is.whole (take-framed bytes left) framed_too in
+  -- one more batch is read
+  pub read_one : (more : List (List ℕ)) (bytes left : List ℕ) (next : ℕ) → so_far.left ≡ framed bytes left → bytes ≡ body more → AreEntries more → length bytes < 2 ^ 64 → next ≡ place + (41 + length bytes) → ReadTo (entries ++ more) next file
+  read_one more bytes left next is bytes_are fit lt next_is = record {
+    front = so_far.front ++ batch more;
+    left = left;
+    batches = grown entries more so_far.front so_far.batches (record { entries_are = fit; whole = omega (arith, lt, ap length bytes_are) });
+    file_is = so_far.file_is ∙ ap (λ (l : List ℕ). so_far.front ++ l) (is ∙ ap (λ (l : List ℕ). framed l left) bytes_are ∙ sym (framed_batch more left)) ∙ sym (append_assoc so_far.front (batch more) left);
+    place_is = omega (arith, next_is, so_far.place_is, ap length bytes_are, length-append so_far.front (batch more), length-sealed more);
+  }
+
+  damaged : ((left : List ℕ) → so_far.left ≢ 0 ∷ left) → ((more : List (List ℕ)) (left : List ℕ) → IsBatch more → so_far.left ≢ batch more ++ left) → IsDamagedAt place file
+  damaged no_gate no_batch =
+      record { front = so_far.front; rest = so_far.left; entries = entries; batches = so_far.batches; file_is = so_far.file_is; place_is = so_far.place_is; no_gate = no_gate; no_batch = no_batch }
+
+  -- a body that is no entries leaves nothing
+  pub damaged_body : (bytes left : List ℕ) → so_far.left ≡ framed bytes left → length bytes < 2 ^ 64 → ((more : List (List ℕ)) → AreEntries more → bytes ≢ body more) → IsDamagedAt place file
+  damaged_body bytes left is lt none =
+      damaged (λ behind e. absurd (omega (arith, ap (λ (l : List ℕ). get_or l 0 0) (sym is ∙ e)))) (λ more behind is_batch e.
+      let framed_too : framed bytes left ≡ framed (body more) behind = sym is ∙ e ∙ framed_batch more behind in
+      let same = same_front (length bytes) (sha256 bytes) (body more) behind (framed bytes left) lt is_batch.whole (take-framed bytes left) framed_too in
       let back : bytes ++ left ≡ body more ++ behind = sym (drop-framed bytes left) ∙ ap (λ (l : List ℕ). drop 41 l) framed_too ∙ drop-framed (body more) behind in
-      none more is.entries_are (sym (take_at bytes left (length bytes) refl) ∙ ap (λ (l : List ℕ). take (length bytes) l) back ∙ ap (λ (n : ℕ). take n (body more ++ behind)) same.0 ∙ take_at (body more) behind (length (body more)) refl);
-}
+      none more is_batch.entries_are (sym (take_at bytes left (length bytes) refl) ∙ ap (λ (l : List ℕ). take (length bytes) l) back ∙ ap (λ (n : ℕ). take n (body more ++ behind)) same.0 ∙ take_at (body more) behind (length (body more)) refl))
+
+  -- what was found is the reason why the file is refused
+  pub reason_found : (fault : JournalFault) → IsFound (Err fault) place so_far.left → IsReason fault file
+  reason_found OutOfMemory found = tt
+  reason_found Failed found = tt
+  reason_found (Damaged at) found =
+      subst (λ (n : ℕ). IsDamagedAt n file) (sym found.0) (damaged found.1.no_gate (λ more left is e. found.1.no_body (body more) left is.whole (e ∙ framed_batch more left)))
+  reason_found fault found = absurd found
 
 same_u32 : (m n : ℕ) → m < 2 ^ 32 → n < 2 ^ 32 → u32 m ≡ u32 n → m ≡ n
 same_u32 m n m_lt n_lt same = sym (from_be_bytes-to_be_bytes_4 m m_lt) ∙ ap (from_be_bytes w32) same ∙ from_be_bytes-to_be_bytes_4 n n_lt
@@ -173,10 +182,6 @@ split_one bytes rest entry behind more is rest_is =
     ∙ ap (λ (l : List ℕ). (body more ++ l) ++ behind) (sym (append-nil (entry_bytes entry)))
     ∙ ap (λ (l : List ℕ). l ++ behind) (sym (flat_map-append entry_bytes more (entry ∷ [])))
 
-pub entries_push : (more : List (List ℕ)) (entry : List ℕ) → AreEntries more → length entry < 2 ^ 32 → AreEntries (more ++ entry ∷ [])
-entries_push [] entry are lt = (lt, tt)
-entries_push (e ∷ more) entry are lt = (are.0, entries_push more entry are.1 lt)
-
 -- what stands behind an entry of a body is a body too
 pub body_behind : (others : List (List ℕ)) (rest entry behind : List ℕ) → AreEntries others → rest ≡ body others → rest ≡ entry_bytes entry ++ behind → length entry < 2 ^ 32 → (later : List (List ℕ)) × AreEntries later × (behind ≡ body later)
 body_behind [] rest entry behind are is rest_is lt = absurd (omega (arith, ap length is, ap length rest_is, length-append (entry_bytes entry) behind, length-append (u32 (length entry)) entry))
@@ -192,29 +197,12 @@ pub body_begins : (others : List (List ℕ)) (rest : List ℕ) → rest ≡ body
 body_begins [] rest is some are = absurd (omega (arith, ap length is))
 body_begins (f ∷ others) rest is some are = (f, body others, are.0, is)
 
-not_false : (t r : Bool) → r ≡ not t → r ≡ false → t ≡ true
-not_false true r is off = refl
-not_false false r is off = absurd (cc)
-
-not_true : (t r : Bool) → r ≡ not t → r ≡ true → t ≡ true → ⊥
-not_true true r is on same = cc
-not_true false r is on same = cc
-
 -- what a test of bytes says
 pub tested_same : (a b : List ℕ) (r : Bool) → r ≡ not (bytes_eq a b) → r ≡ false → a ≡ b
-tested_same a b r is off = (bytes_eq-Decides a b).0 (not_false (bytes_eq a b) r is off)
+tested_same a b r is off = (bytes_eq-Decides a b).0 (not-false (bytes_eq a b) (sym is ∙ off))
 
 pub tested_other : (a b : List ℕ) (r : Bool) → r ≡ not (bytes_eq a b) → r ≡ true → a ≢ b
-tested_other a b r is on same = not_true (bytes_eq a b) r is on ((bytes_eq-Decides a b).1 same)
-
--- what was found behind whole batches is the reason why the file is refused
-pub reason_found : (fault : JournalFault) (entries : List (List ℕ)) (front rest file : List ℕ) (place : ℕ) → AreBatches entries front → file ≡ front ++ rest → place ≡ length front → IsFound (Err fault) place rest → IsReason fault file
-reason_found OutOfMemory entries front rest file place are file_is place_is found = tt
-reason_found Failed entries front rest file place are file_is place_is found = tt
-reason_found NotAJournal entries front rest file place are file_is place_is found = absurd found
-reason_found (OtherFormat format) entries front rest file place are file_is place_is found = absurd found
-reason_found (Damaged at) entries front rest file place are file_is place_is found = damaged entries front rest file at are file_is (found.0 ∙ place_is) found.1
-reason_found TooLarge entries front rest file place are file_is place_is found = absurd found
+tested_other a b r is on = not_from_Decides (bytes_eq a b) (bytes_eq-Decides a b) (not-true (bytes_eq a b) (sym is ∙ on))
 
 -- a head alone is no batches
 pub none_yet : AreBatches [] (head 1)

@@ -1,16 +1,17 @@
 -- files that stand for the same entries
-use Rattle.std.proofs.Common.{◌≡◌, inl, inr, ℕ, zero, suc, ◌+◌, ◌-◌, ◌<◌, ◌≤◌, List, [], ◌∷◌, ◌++◌, Err, length, get_or, take, drop, refl, sym, ◌∙◌, ap, arith, length-append, length-take, length-drop, take-append-drop, append_assoc, codes}
+use Rattle.std.proofs.Common.{◌≡◌, ◌⊎◌, inl, inr, ℕ, zero, suc, ◌+◌, ◌-◌, ◌<◌, ◌≤◌, List, [], ◌∷◌, ◌++◌, Err, length, get_or, take, drop, refl, sym, ◌∙◌, ap, arith, length-append, length-take, length-drop, take-append-drop, append_assoc, codes}
 use Rattle.std.proofs.lemmas.List.{take_at, take_all}
 use Rattle.std.proofs.lemmas.Nat.{be_bytes_2}
 use Rattle.std.specs.Int.{w16, from_be_bytes}
 use Rattle.mr_journal.specs.declared.fault.JournalFault.{JournalFault}
-use Rattle.mr_journal.specs.declared.fault.JournalFault.TheVariants.{OutOfMemory, Failed, NotAJournal, OtherFormat, Damaged, TooLarge}
-use Rattle.mr_journal.specs.Device.{Cut, Torn}
+use Rattle.mr_journal.specs.declared.fault.JournalFault.TheVariants.{NotAJournal, OtherFormat}
+use Rattle.mr_journal.specs.Device.{Cut, IsUntouched, LeavesOnly, Only, Rests, Torn}
 use Rattle.mr_journal.specs.inner.Device.{IsStaged}
 use Rattle.mr_journal.specs.Format.{IsNew, Stands, StandAlike, head, u16}
 use Rattle.mr_journal.specs.inner.Format.{IsRead}
 use Rattle.mr_journal.specs.Reading.{IsReason}
 use Rattle.mr_journal.specs.inner.Reading.{IsHeadOf}
+use Rattle.mr_journal.proofs.Moments.{joined, widened}
 use Rattle.mr_journal.proofs.ReadLemmas.{byte_of_part, none_yet}
 
 pub both_new : (file c : List ℕ) → IsNew file → IsNew c → StandAlike file c
@@ -52,14 +53,22 @@ pub cut_done : (front left file : List ℕ) (n : ℕ) → file ≡ front ++ (0 �
 cut_done front left file n is n_is =
     ap (λ (l : List ℕ). take n l) (is ∙ sym (append_assoc front (0 ∷ []) left)) ∙ take_at (front ++ (0 ∷ [])) left n (omega (arith, n_is, length-append front (0 ∷ [])))
 
+module _ {D : Type 0} {seen : D → List ℕ} {may_leave : D → List ℕ → Type 0} {moment : D → ℕ} {left_since : D → ℕ → List ℕ → Type 0} {old mid : D} (looked : IsUntouched seen may_leave moment left_since old mid) where
+  -- a device that was looked at has its file
+  pub rests_still : Only (seen old) (may_leave mid) → Rests seen may_leave (seen old) mid
+  rests_still durable = record { file_is = looked.same; durable = durable }
+
+  -- what a crash leaves over the look and the cut behind it
+  pub cut_leaves : {new : D} {entries : List (List ℕ)} {place : ℕ} → IsRead entries place (seen old) → LeavesOnly moment left_since mid new (Cut (place + 1) (seen old)) → LeavesOnly moment left_since old new (λ c. may_leave old c ⊎ StandAlike (seen old) c)
+  cut_leaves {entries = entries} {place} read leaves =
+      let P : List ℕ → Type 0 = λ c. may_leave old c ⊎ StandAlike (seen old) c in
+      joined (widened P looked.moments (λ c left. inl left)) (widened P leaves (λ c cut. inr (cut_left entries place (place + 1) (seen old) c read refl cut)))
+
 -- the first bytes say why a file is refused
 pub reason_head : (fault : JournalFault) (first file : List ℕ) → first ≡ take 10 file → IsHeadOf (Err fault) first → (IsNew file → ⊥) → IsReason fault file
-reason_head OutOfMemory first file first_is is_head not_new = absurd is_head
-reason_head Failed first file first_is is_head not_new = absurd is_head
 reason_head NotAJournal first file first_is is_head not_new = (not_new, λ format rest lt e. is_head format lt (first_is ∙ ap (λ (l : List ℕ). take 10 l) e ∙ take_at (head format) rest 10 refl))
 reason_head (OtherFormat format) first file first_is is_head not_new = (drop 10 file, sym (take-append-drop 10 file) ∙ ap (λ (l : List ℕ). l ++ drop 10 file) (sym first_is ∙ is_head.0), is_head.1, is_head.2)
-reason_head (Damaged at) first file first_is is_head not_new = absurd is_head
-reason_head TooLarge first file first_is is_head not_new = absurd is_head
+reason_head fault first file first_is is_head not_new = absurd is_head
 
 -- ten bytes that begin as a journal are a head of the format that their last two spell
 pub head_read : (first number : List ℕ) (format : ℕ) → length first ≡ 10 → take 8 first ≡ codes "Jimetsal" → number ≡ take 2 (drop 8 first) → ((i : ℕ) → get_or first i 0 < 256) → format ≡ from_be_bytes w16 number → first ≡ head format

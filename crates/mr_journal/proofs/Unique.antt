@@ -7,7 +7,7 @@ use Rattle.std.specs.List.{flat_map, AllByRecursion}
 use Rattle.sha2.specs.Sha256.{sha256}
 use Rattle.mr_journal.specs.declared.fault.JournalFault.{JournalFault}
 use Rattle.mr_journal.specs.declared.fault.JournalFault.TheVariants.{OutOfMemory, Failed, NotAJournal, OtherFormat, Damaged, TooLarge}
-use Rattle.mr_journal.specs.Format.{AreEntries, IsBatch, IsNew, Stands, batch, body, entry_bytes, head, u16, u32}
+use Rattle.mr_journal.specs.Format.{AreBatches, AreEntries, IsBatch, IsNew, Stands, batch, body, entry_bytes, head, u16, u32}
 use Rattle.mr_journal.specs.inner.Format.{framed}
 use Rattle.mr_journal.specs.Reading.{IsReason}
 use Rattle.mr_journal.proofs.ReadLemmas.{drop-framed, entry_front, framed_batch, same_front, take-framed}
@@ -38,29 +38,20 @@ batch_unique m n p q m_is n_is same =
 gate_no_batch : (left rest : List ℕ) (n : List (List ℕ)) → 0 ∷ left ≢ batch n ++ rest
 gate_no_batch left rest n same = omega (arith, ap (λ (l : List ℕ). get_or l 0 0) same)
 
--- batches up to a closed gate are the same ones
-batches_unique : (ms ns : List (List (List ℕ))) (p q : List ℕ) → AllByRecursion IsBatch ms → AllByRecursion IsBatch ns → flat_map batch ms ++ (0 ∷ p) ≡ flat_map batch ns ++ (0 ∷ q) → ms ≡ ns
-batches_unique [] [] p q m_are n_are same = refl
-batches_unique [] (n ∷ ns) p q m_are n_are same = absurd (gate_no_batch p (flat_map batch ns ++ (0 ∷ q)) n (same ∙ append_assoc (batch n) (flat_map batch ns) (0 ∷ q)))
-batches_unique (m ∷ ms) [] p q m_are n_are same = absurd (gate_no_batch q (flat_map batch ms ++ (0 ∷ p)) m (sym same ∙ append_assoc (batch m) (flat_map batch ms) (0 ∷ p)))
-batches_unique (m ∷ ms) (n ∷ ns) p q m_are n_are same =
-    let one = batch_unique m n (flat_map batch ms ++ (0 ∷ p)) (flat_map batch ns ++ (0 ∷ q)) m_are.0 n_are.0 (sym (append_assoc (batch m) (flat_map batch ms) (0 ∷ p)) ∙ same ∙ append_assoc (batch n) (flat_map batch ns) (0 ∷ q)) in
-    let others = batches_unique ms ns p q m_are.1 n_are.1 one.1 in
-    λ i. one.0 i ∷ others i
-
--- batches up to a closed gate are not followed by anything else
-gate_or_batch : (ms ns : List (List (List ℕ))) (p rest : List ℕ) → AllByRecursion IsBatch ms → AllByRecursion IsBatch ns → ((left : List ℕ) → rest ≢ 0 ∷ left) → ((more : List (List ℕ)) (left : List ℕ) → IsBatch more → rest ≢ batch more ++ left)
-    → flat_map batch ms ++ (0 ∷ p) ≢ flat_map batch ns ++ rest
-gate_or_batch [] [] p rest m_are n_are no_gate no_batch same = no_gate p (sym same)
-gate_or_batch [] (n ∷ ns) p rest m_are n_are no_gate no_batch same = gate_no_batch p (flat_map batch ns ++ rest) n (same ∙ append_assoc (batch n) (flat_map batch ns) rest)
-gate_or_batch (m ∷ ms) [] p rest m_are n_are no_gate no_batch same = no_batch m (flat_map batch ms ++ (0 ∷ p)) m_are.0 (sym same ∙ append_assoc (batch m) (flat_map batch ms) (0 ∷ p))
-gate_or_batch (m ∷ ms) (n ∷ ns) p rest m_are n_are no_gate no_batch same =
+-- batches up to a closed gate are those up to what begins no batch, and that is the gate
+batches_unique : (ms ns : List (List (List ℕ))) (p rest : List ℕ) → AllByRecursion IsBatch ms → AllByRecursion IsBatch ns → ((more : List (List ℕ)) (left : List ℕ) → IsBatch more → rest ≢ batch more ++ left)
+    → flat_map batch ms ++ (0 ∷ p) ≡ flat_map batch ns ++ rest → (ms ≡ ns) × (0 ∷ p ≡ rest)
+batches_unique [] [] p rest m_are n_are none same = (refl, same)
+batches_unique [] (n ∷ ns) p rest m_are n_are none same = absurd (gate_no_batch p (flat_map batch ns ++ rest) n (same ∙ append_assoc (batch n) (flat_map batch ns) rest))
+batches_unique (m ∷ ms) [] p rest m_are n_are none same = absurd (none m (flat_map batch ms ++ (0 ∷ p)) m_are.0 (sym same ∙ append_assoc (batch m) (flat_map batch ms) (0 ∷ p)))
+batches_unique (m ∷ ms) (n ∷ ns) p rest m_are n_are none same =
     let one = batch_unique m n (flat_map batch ms ++ (0 ∷ p)) (flat_map batch ns ++ rest) m_are.0 n_are.0 (sym (append_assoc (batch m) (flat_map batch ms) (0 ∷ p)) ∙ same ∙ append_assoc (batch n) (flat_map batch ns) rest) in
-    gate_or_batch ms ns p rest m_are.1 n_are.1 no_gate no_batch one.1
+    let others = batches_unique ms ns p rest m_are.1 n_are.1 none one.1 in
+    (λ i. one.0 i ∷ others.0 i, others.1)
 
 -- what stands behind the head of a journal
-behind_head : (batches : List (List (List ℕ))) (front rest file : List ℕ) → front ≡ head 1 ++ flat_map batch batches → file ≡ front ++ rest → file ≡ head 1 ++ (flat_map batch batches ++ rest)
-behind_head batches front rest file front_is file_is = file_is ∙ ap (λ (l : List ℕ). l ++ rest) front_is ∙ append_assoc (head 1) (flat_map batch batches) rest
+behind_head : {entries : List (List ℕ)} {front : List ℕ} (are : AreBatches entries front) (rest file : List ℕ) → file ≡ front ++ rest → file ≡ head 1 ++ (flat_map batch are.batches ++ rest)
+behind_head are rest file file_is = file_is ∙ ap (λ (l : List ℕ). l ++ rest) are.front_is ∙ append_assoc (head 1) (flat_map batch are.batches) rest
 
 -- a head is no new file
 head_not_new : (format : ℕ) (rest file : List ℕ) → file ≡ head format ++ rest → IsNew file → ⊥
@@ -69,12 +60,11 @@ head_not_new format rest file is (inr staged) = omega (arith, ap (λ (l : List �
 
 pub one_list : (file : List ℕ) (a b : List (List ℕ)) → Stands a file → Stands b file → a ≡ b
 one_list file a b (inl x) (inl y) =
-    let x_is = behind_head x.batches.batches x.front (0 ∷ x.left) file x.batches.front_is x.file_is in
-    let y_is = behind_head y.batches.batches y.front (0 ∷ y.left) file y.batches.front_is y.file_is in
-    let same = batches_unique x.batches.batches y.batches.batches x.left y.left x.batches.each y.batches.each (append_cancel_left (head 1) _ _ (sym x_is ∙ y_is)) in
-    x.batches.entries_are ∙ ap (λ (bs : List (List (List ℕ))). flat_map (λ b. b) bs) same ∙ sym y.batches.entries_are
-one_list file a b (inl x) (inr y) = absurd (head_not_new 1 _ file (behind_head x.batches.batches x.front (0 ∷ x.left) file x.batches.front_is x.file_is) y.1)
-one_list file a b (inr x) (inl y) = absurd (head_not_new 1 _ file (behind_head y.batches.batches y.front (0 ∷ y.left) file y.batches.front_is y.file_is) x.1)
+    let both = append_cancel_left (head 1) _ _ (sym (behind_head x.batches (0 ∷ x.left) file x.file_is) ∙ behind_head y.batches (0 ∷ y.left) file y.file_is) in
+    let same = batches_unique x.batches.batches y.batches.batches x.left (0 ∷ y.left) x.batches.each y.batches.each (λ more left _. gate_no_batch y.left left more) both in
+    x.batches.entries_are ∙ ap (λ (bs : List (List (List ℕ))). flat_map (λ b. b) bs) same.0 ∙ sym y.batches.entries_are
+one_list file a b (inl x) (inr y) = absurd (head_not_new 1 _ file (behind_head x.batches (0 ∷ x.left) file x.file_is) y.1)
+one_list file a b (inr x) (inl y) = absurd (head_not_new 1 _ file (behind_head y.batches (0 ∷ y.left) file y.file_is) x.1)
 one_list file a b (inr x) (inr y) = x.0 ∙ sym y.0
 
 -- heads that are spelled alike are of one format
@@ -87,13 +77,13 @@ same_format m n p q m_lt n_lt same =
 pub not_refused : (file : List ℕ) (entries : List (List ℕ)) (fault : JournalFault) → Stands entries file → IsReason fault file → (fault ≡ OutOfMemory) ⊎ (fault ≡ Failed)
 not_refused file entries OutOfMemory stands reason = inl refl
 not_refused file entries Failed stands reason = inr refl
-not_refused file entries NotAJournal (inl x) reason = absurd (reason.1 1 _ (omega arith) (behind_head x.batches.batches x.front (0 ∷ x.left) file x.batches.front_is x.file_is))
+not_refused file entries NotAJournal (inl x) reason = absurd (reason.1 1 _ (omega arith) (behind_head x.batches (0 ∷ x.left) file x.file_is))
 not_refused file entries NotAJournal (inr x) reason = absurd (reason.0 x.1)
-not_refused file entries (OtherFormat format) (inl x) reason = absurd (reason.3 (same_format format 1 reason.0 _ reason.2 (omega arith) (sym reason.1 ∙ behind_head x.batches.batches x.front (0 ∷ x.left) file x.batches.front_is x.file_is)))
+not_refused file entries (OtherFormat format) (inl x) reason = absurd (reason.3 (same_format format 1 reason.0 _ reason.2 (omega arith) (sym reason.1 ∙ behind_head x.batches (0 ∷ x.left) file x.file_is)))
 not_refused file entries (OtherFormat format) (inr x) reason = absurd (head_not_new format reason.0 file reason.1 x.1)
 not_refused file entries (Damaged place) (inl x) reason =
-    let x_is = behind_head x.batches.batches x.front (0 ∷ x.left) file x.batches.front_is x.file_is in
-    let y_is = behind_head reason.batches.batches reason.front reason.rest file reason.batches.front_is reason.file_is in
-    absurd (gate_or_batch x.batches.batches reason.batches.batches x.left reason.rest x.batches.each reason.batches.each reason.no_gate reason.no_batch (append_cancel_left (head 1) _ _ (sym x_is ∙ y_is)))
-not_refused file entries (Damaged place) (inr x) reason = absurd (head_not_new 1 _ file (behind_head reason.batches.batches reason.front reason.rest file reason.batches.front_is reason.file_is) x.1)
+    let both = append_cancel_left (head 1) _ _ (sym (behind_head x.batches (0 ∷ x.left) file x.file_is) ∙ behind_head reason.batches reason.rest file reason.file_is) in
+    let same = batches_unique x.batches.batches reason.batches.batches x.left reason.rest x.batches.each reason.batches.each reason.no_batch both in
+    absurd (reason.no_gate x.left (sym same.1))
+not_refused file entries (Damaged place) (inr x) reason = absurd (head_not_new 1 _ file (behind_head reason.batches reason.rest file reason.file_is) x.1)
 not_refused file entries TooLarge stands reason = absurd reason

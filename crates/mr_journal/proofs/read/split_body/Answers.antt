@@ -1,8 +1,9 @@
-use Rattle.std.proofs.Common.{◌≡◌, ◌<◌, ◌++◌, ◌∷◌, [], ℕ, List, length, ap, ◌∙◌, arith, rules, append_assoc}
+use Rattle.std.proofs.Common.{◌≡◌, ◌<◌, ◌^◌, ◌++◌, ◌∷◌, [], ℕ, List, length, ap, ◌∙◌, arith, rules, append_assoc}
 use Rattle.std.proofs.lemmas.Bool.Decides.{nat_tests}
 use Rattle.std.proofs.lemmas.List.{map-append}
 use Rattle.mr_journal.specs.Format.{contents}
-use Rattle.mr_journal.proofs.ReadLemmas.{body_behind, body_begins, entries_push, split_one}
+use Rattle.mr_journal.proofs.BatchLemmas.{all_push}
+use Rattle.mr_journal.proofs.ReadLemmas.{body_behind, body_begins, split_one}
 use Rattle.mr_journal.proofs.read.split_body.Goals as goal
 
 pub returns-in_default : goal.returns-in_default
@@ -24,7 +25,7 @@ loop-rest-preserved c =
     ∙ ap (λ (e : List ℕ). (contents c.args.entries.now.items ++ done.0) ++ e ∷ []) kept
     ∙ append_assoc (contents c.args.entries.now.items) done.0 (entry ∷ []) in
     record {
-      done = (done.0 ++ entry ∷ [], entries_push done.0 entry done.1 split.1, split_one c.args.bytes.now c.loop-rest.rest.now entry c.in-Some.behind.now done.0 done.2 split.0, joined);
+      done = (done.0 ++ entry ∷ [], all_push (λ (e : List ℕ). length e < 2 ^ 32) done.0 entry done.1 split.1, split_one c.args.bytes.now c.loop-rest.rest.now entry c.in-Some.behind.now done.0 done.2 split.0, joined);
       left = λ more are is.
           let left = c.loop-rest.invariant.left more are is in
           body_behind left.0 c.loop-rest.rest.now entry c.in-Some.behind.now left.1 left.2 split.0 split.1;
