@@ -1,5 +1,5 @@
 -- Where no end can go on: all logs are done, or the history is stuck.
-use Rattle.std.proofs.Common.{◌≡◌, ◌≤◌, ◌<◌, refl, sym, ap, subst, ◌∙◌, ◌+◌, cond, nat_lt, arith, ℕ, zero, suc, Bool, true, false, List, [], ◌∷◌, ◌++◌, length, take, drop, Option, Some, None, Result, Ok, Err, IfOk, inl, inr, ◌⊎◌, below_more, le_of_eq}
+use Rattle.std.proofs.Common.{◌≡◌, ◌≤◌, ◌<◌, refl, sym, ap, subst, ◌∙◌, ◌+◌, cond, nat_lt, arith, ℕ, zero, suc, Bool, true, false, List, [], ◌∷◌, ◌++◌, length, take, drop, Option, Some, None, Result, IfOk, inl, inr, below_more, le_of_eq}
 use Rattle.std.specs.Prelude.{All}
 use Rattle.std.specs.List.{slice_get}
 use Rattle.std.specs.Option.{option_map}
@@ -126,13 +126,7 @@ module _ {K : Type 0} where
 
   pub next_found : {E : Type 0} (form : Form K) (ends : List (State K)) (given : GivenNumbers) (done : List ℕ) (from : ℕ) → IsFirstReady form ends given done from (length ends) None
       → (r : Result (Option Ready) E) → IfOk r (IsFirstReady form ends given done 0 from) → IfOk r (FindsReady form ends given done)
-  next_found form ends given done from first (Ok (Some ready)) h = h
-  next_found form ends given done from first (Ok None) h = λ place. by place (cases_lt place from)
-    where
-      by : (place : ℕ) → (place < from) ⊎ (from ≤ place) → Rests ends given done place
-      by place (inl low) = h place (omega arith) low
-      by place (inr high) = λ end position event next. first place high (slice_get_within ends place end next.end_is) end position event next
-  next_found form ends given done from first (Err e) h = tt
+  next_found form ends given done from first r h = grind (arith, cases_lt, slice_get_within)
 
 module _ {K : Type 0} (form : Form K) where
   -- the same by what was found in an equal list
@@ -150,12 +144,7 @@ module _ {K : Type 0} where
 
   pub left_none : (ends : List (State K)) (progress : List Progress) (place : ℕ) (end : State K) (p : Progress) → slice_get ends place ≡ Some end → slice_get progress place ≡ Some p → length end.log ≤ p.done
       → (other : State K) (position : ℕ) → ¬ IsLeftAt ends (done_of progress) place other position
-  left_none ends progress place end p is_end is_p none other position at =
-      let same : end ≡ other = some_one end other (slice_get ends place) is_end at.end_is in
-      let number : p.done ≡ position = some_one p.done position (slice_get (done_of progress) place) (done_there progress place p is_p) at.done_is in
-      let log : length end.log ≡ length other.log = ap (λ (s : State K). length s.log) same in
-      let left = at.left in
-      absurd (omega (arith, none, number, log, left))
+  left_none ends progress place end p is_end is_p h other position at = grind (arith, some_one, done_there)
 
   -- ---- how an end is found ready
 
@@ -165,11 +154,7 @@ module _ {K : Type 0} where
   -- where its next event has no act, it rests
   pub rests_unnamed : (ends : List (State K)) (given : GivenNumbers) (progress : List Progress) (place : ℕ) (end : State K) (p : Progress) (e : ReplicaEvent) → slice_get ends place ≡ Some end → slice_get progress place ≡ Some p
       → slice_get end.log p.done ≡ Some e → Names given e None → Rests ends given (done_of progress) place
-  rests_unnamed ends given progress place end p e is_end is_p is_e none other position event next =
-      let same : end ≡ other = some_one end other (slice_get ends place) is_end next.end_is in
-      let number : p.done ≡ position = some_one p.done position (slice_get (done_of progress) place) (done_there progress place p is_p) next.done_is in
-      let is = ap (λ (s : State K). slice_get s.log p.done) same ∙ ap (slice_get other.log) number ∙ next.event_is in
-      subst (λ (x : ReplicaEvent). Names given x None) (some_one e event (slice_get end.log p.done) is_e is) none
+  rests_unnamed ends given progress place end p e is_end is_p is_e h other position event next = grind (arith, some_one, done_there)
 
 module _ {K : Type 0} (form : Form K) where
   -- where it has one, it goes on by that
@@ -194,8 +179,7 @@ module _ {K : Type 0} (ends : List (State K)) (done : List ℕ) where
   same_id i s t p q at bt = ap (λ (z : State K). z.id) (some_one s t (slice_get ends i) at.end_is bt.end_is)
 
   no_lower_more : (i r : ℕ) → AreNoLower ends done i r → ((end : State K) (position : ℕ) → IsLeftAt ends done i end position → r ≤ end.id) → AreNoLower ends done (i + 1) r
-  no_lower_more i r before here place end position low at =
-      below_more (λ n. (end : State K) (position : ℕ) → IsLeftAt ends done n end position → r ≤ end.id) i (λ n less end position at. before n end position less at) here place low end position at
+  no_lower_more i r before here place end position low at = grind (arith, below_more)
 
   has_here : (i : ℕ) (y : ℕ × ℕ) → FindsLeftAt ends done i (Some y) → HasLeft ends done y.0 y.1
   has_here i y k = record { place = i; end = k.0; position = k.1; is = k.2; id = k.3; next = k.4 }
@@ -225,5 +209,4 @@ module _ {K : Type 0} (ends : List (State K)) (done : List ℕ) where
       below_more (λ n. (end : State K) (position : ℕ) → ¬ IsLeftAt ends done n end position) i (λ n less end position at. h n end position less at) k place low end position at
 
   pub left_upto : (i n : ℕ) (o : Option (ℕ × ℕ)) → n ≤ i → FindsLeftTo ends done i o → FindsLeftTo ends done n o
-  left_upto i n (Some x) most h = (h.0, λ place end position low at. h.1 place end position (omega (arith, low, most)) at)
-  left_upto i n None most h = λ place end position low at. h place end position (omega (arith, low, most)) at
+  left_upto i n o most h = grind arith

@@ -1,13 +1,12 @@
 -- What a world promises holds of replicas that are equal to its own.
-use Rattle.std.proofs.Common.{◌≡◌, ◌≢◌, ◌⊎◌, inl, inr, refl, sym, ap, subst, ◌∙◌, cond, ℕ, Bool, true, false, List, [], ◌∷◌, Option, Some, None, is_none, find, map, ◌==◌, eqb-true}
+use Rattle.std.proofs.Common.{◌≡◌, ◌≢◌, ◌⊎◌, inl, inr, refl, sym, ap, subst, ◌∙◌, cond, ℕ, Bool, true, false, List, [], ◌∷◌, Option, Some, None, is_none, find, map, ◌==◌, eqb-true, arith}
 use Rattle.std.specs.Prelude.{IsTrue, All, is_some}
 use Rattle.std.proofs.lemmas.Bool.{true≢false}
 use Rattle.std.proofs.lemmas.List.Elements.{All-head, All-tail, All-nil, All-cons}
 use Rattle.mr_version.specs.Name.{Name}
 use Rattle.mr_filter.specs.Filter.{ClauseParts}
-use Rattle.mr_filter.specs.Meaning.{selects}
 use Rattle.mr_forms.specs.Known.{Form}
-use Rattle.mr_mail.specs.Mail.{Mail, MailCard, card_of}
+use Rattle.mr_mail.specs.Mail.{Mail, MailCard}
 use Rattle.mr_model.specs.Headline.{EachPair, InIssueOrder, IsCurrent, IsSoundHolding, added}
 use Rattle.mr_model.specs.Laws.{KnowsDownward}
 use Rattle.mr_model.proofs.Basics.{is_refl}
@@ -33,9 +32,7 @@ use Rattle.mr_settle.proofs.RetireLemmas.{none_after}
 -- a selection asks for the filter alone
 same_selection : (filters gilters : ℕ → List ClauseParts) (r q : ℕ) → filters r ≡ gilters q → (issues : List (Issue Mail)) (v : Name) → selection (setting_of filters) issues r v ≡ selection (setting_of gilters) issues q v
 same_selection filters gilters r q e [] v = refl
-same_selection filters gilters r q e (x ∷ earlier) v =
-    let rest = same_selection filters gilters r q e earlier v in
-    λ i. cond (is x.version v) (selects (e i) (card_of x.message)) (rest i)
+same_selection filters gilters r q e (x ∷ earlier) v = grind (arith, same_selection filters gilters r q e earlier v)
 
 module _ {A : Type 0} where
   all_in : (P : A → Type 0) (xs : List A) (x : A) → All P xs → In x xs → P x

@@ -36,9 +36,7 @@ module _ {A : Type 0} where
   pub split_at : (xs : List A) (i : ℕ) (x : A) → slice_get xs i ≡ Some x → (left : List A) × (xs ≡ take i xs ++ x ∷ left) × (take (suc i) xs ≡ take i xs ++ x ∷ [])
   split_at [] i x e = absurd (none-some x e)
   split_at (y ∷ ys) zero x e = let is : y ≡ x = some_one y x (Some y) refl e in (ys, ap (λ z. z ∷ ys) is, ap (λ z. z ∷ []) is)
-  split_at (y ∷ ys) (suc i) x e =
-      let rest = split_at ys i x e in
-      (rest.0, ap (λ zs. y ∷ zs) rest.1, ap (λ zs. y ∷ zs) rest.2)
+  split_at (y ∷ ys) (suc i) x e = grind (arith, split_at ys i x e)
 
   pub get_all : (P : A → Type 0) (xs : List A) (i : ℕ) (x : A) → All P xs → slice_get xs i ≡ Some x → P x
   get_all P [] i x all e = absurd (none-some x e)
@@ -62,6 +60,4 @@ module _ {A B : Type 0} (R : A → B → Type 0) (y : B) where
   zip_more_from (z ∷ zs) (suc i) x (v ∷ ys) low is all h = (all.0, zip_more_from zs i x ys (omega (arith, low)) is all.1 h)
 
   pub zip_take_more : (xs : List A) (i : ℕ) (x : A) (ys : List B) → i < length xs → x ≡ get_or xs i x → AllZip R (take i xs) ys → R x y → AllZip R (take (i + 1) xs) (ys ++ y ∷ [])
-  zip_take_more xs i x ys low is all h =
-      let next : suc i ≡ i + 1 = omega arith in
-      subst (λ (n : ℕ). AllZip R (take n xs) (ys ++ y ∷ [])) next (zip_more_from xs i x ys low is all h)
+  zip_take_more xs i x ys low is all h = grind (arith, zip_more_from)

@@ -1,5 +1,5 @@
 -- What the history says of logs, as it grows by one event.
-use Rattle.std.proofs.Common.{◌≡◌, ◌≢◌, ◌==◌, refl, sym, ap, subst, ◌∙◌, ℕ, Bool, true, false, cond, List, [], ◌∷◌, ◌++◌, Option, Some, None, Ok, eq-eqb, append-nil}
+use Rattle.std.proofs.Common.{◌≡◌, ◌≢◌, ◌==◌, refl, sym, ap, subst, ◌∙◌, ℕ, Bool, true, false, cond, List, [], ◌∷◌, ◌++◌, Option, Some, None, Ok, eq-eqb, append-nil, arith}
 use Rattle.std.specs.Prelude.{is_none, is_some, IsSome, All}
 use Rattle.std.specs.List.{filter_map, cons_option}
 use Rattle.std.specs.Option.{option_and_then, option_map}
@@ -32,8 +32,7 @@ filter_map-same {A} {B} f g (x ∷ xs) h =
     λ i. cons_option (first i) (rest i)
 
 none_mapped : {A B : Type 0} (f : A → B) (o : Option A) → is_none (option_map f o) ≡ is_none o
-none_mapped f None = refl
-none_mapped f (Some x) = refl
+none_mapped f o = grind arith
 
 -- what is made of a pool's element stays, where it was there
 made_still : {A B : Type 0} (f : A → B) (xs ys : List A) (n : ℕ) → Grew xs ys → is_none (option_map f (numbered xs n)) ≡ false → option_map f (numbered ys n) ≡ option_map f (numbered xs n)
@@ -41,9 +40,7 @@ made_still f xs ys n grew there = ap (option_map f) (number_stays xs ys n grew (
 
 -- what was admitted was asked for
 was_asked : (mine : Bool) (answer : Answer) (o : Option Task) → IsSome (cond mine (option_and_then (admitted answer) o) None) → is_none o ≡ false
-was_asked mine answer (Some task) is = refl
-was_asked true answer None is = cc (is)
-was_asked false answer None is = cc (is)
+was_asked mine answer o is = grind arith
 
 module _ {K : Type 0} (w w' : WorldView K) (asks : Grew w.asks w'.asks) (records : Grew w.records w'.records) (receipts : Grew w.receipts w'.receipts) where
   -- an act that asked for something asks for the same
@@ -52,21 +49,16 @@ module _ {K : Type 0} (w w' : WorldView K) (asks : Grew w.asks w'.asks) (records
   asks_still (act.DeliverPart n bytes) there = made_still (delivering bytes) w.records w'.records n records there
   asks_still (act.Answer n) there = made_still answering w.asks w'.asks n asks there
   asks_still (act.Release n) there = made_still releasing w.receipts w'.receipts n receipts there
-  asks_still a there = refl
+  asks_still a there = grind (arith, made_still)
 
   -- of an event that was admitted, each log has what it had
   admitted_still : (q : ℕ) (x : Answered) → IsSome (admitted_at w x.event.replica x) → admitted_at w' q x ≡ admitted_at w q x
-  admitted_still q x is =
-      ap (λ (o : Option Task). cond (x.event.replica == q) (option_and_then (admitted x.answer) o) None)
-      (asks_still x.event.act (was_asked (x.event.replica == x.event.replica) x.answer (asked_in w x.event.act) is))
+  admitted_still q x is = grind (arith, asks_still, was_asked)
 
   -- the history grows by one event
   module _ (e : Event Mail) (answer : Answer) (grows : w'.answers ≡ w.answers ++ answered e answer ∷ []) (only : OnlyAdmits w) (here : is_none (asked_in w e.act) ≡ false) where
     log_grows : (q : ℕ) → log_in w' q ≡ log_in w q ++ filter_map (admitted_at w' q) (answered e answer ∷ [])
-    log_grows q =
-        ap (filter_map (admitted_at w' q)) grows
-        ∙ filter_map-append (admitted_at w' q) w.answers (answered e answer ∷ [])
-        ∙ ap (λ (xs : List ReplicaEvent). xs ++ filter_map (admitted_at w' q) (answered e answer ∷ [])) (filter_map-same (admitted_at w' q) (admitted_at w q) w.answers (All-weaker (λ x. IsSome (admitted_at w x.event.replica x)) (λ x. admitted_at w' q x ≡ admitted_at w q x) (admitted_still q) w.answers only))
+    log_grows q = grind (arith, filter_map-append, filter_map-same, All-weaker, admitted_still)
 
     -- the replica was asked for this, and told something
     module _ (r : ℕ) (asked : ReplicaEvent) (told : Reply) (is_for : e.replica ≡ r) (is : asked_in w e.act ≡ Some (Step asked)) (is_answer : answer ≡ Stepped (Ok told)) where
@@ -75,9 +67,7 @@ module _ {K : Type 0} (w w' : WorldView K) (asks : Grew w.asks w'.asks) (records
 
       -- the admitted event is behind the others of its replica
       pub log_with : log_in w' r ≡ log_in w r ++ asked ∷ []
-      log_with =
-          let alone : filter_map (admitted_at w' r) (answered e answer ∷ []) ≡ asked ∷ [] = rw one_more refl in
-          log_grows r ∙ ap (λ (xs : List ReplicaEvent). log_in w r ++ xs) alone
+      log_with = grind (arith, one_more, log_grows)
 
       -- and nothing but admitted events has happened
       pub only_on : OnlyAdmits w'
@@ -88,8 +78,4 @@ module _ {K : Type 0} (w w' : WorldView K) (asks : Grew w.asks w'.asks) (records
 
     -- the other logs stay
     pub log_without : (q : ℕ) → q ≢ e.replica → log_in w' q ≡ log_in w q
-    log_without q other =
-        let theirs : (e.replica == q) ≡ false = ne_eqb e.replica q (λ same. other (sym same)) in
-        let none : admitted_at w' q (answered e answer) ≡ None = rw theirs refl in
-        let nothing : filter_map (admitted_at w' q) (answered e answer ∷ []) ≡ [] = rw none refl in
-        log_grows q ∙ ap (λ (xs : List ReplicaEvent). log_in w q ++ xs) nothing ∙ append-nil (log_in w q)
+    log_without q other = grind (arith, ne_eqb, log_grows, append-nil)

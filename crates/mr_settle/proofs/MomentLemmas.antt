@@ -1,5 +1,5 @@
 -- Of an id that no replica of a world has, nothing is held in its history.
-use Rattle.std.proofs.Common.{◌≡◌, ◌≢◌, inl, inr, refl, sym, ap, subst, ◌∙◌, cond, ℕ, Bool, true, false, List, [], ◌∷◌, Option, Some, None, is_none, find, ◌==◌}
+use Rattle.std.proofs.Common.{◌≡◌, ◌≢◌, inl, inr, refl, sym, ap, subst, ◌∙◌, ℕ, false, List, [], ◌∷◌, Option, None, is_none, find, ◌==◌, arith}
 use Rattle.std.specs.Prelude.{All}
 use Rattle.std.proofs.lemmas.Bool.{both_ways}
 use Rattle.std.proofs.lemmas.List.Elements.{All-weaker, All-head, All-tail, All-nil, All-cons, All-append}
@@ -7,9 +7,9 @@ use Rattle.mr_version.specs.Name.{Name}
 use Rattle.mr_filter.specs.Filter.{ClauseParts}
 use Rattle.mr_forms.specs.Known.{Form}
 use Rattle.mr_mail.specs.Mail.{Mail, MailCard}
-use Rattle.mr_model.specs.Changes.{Reception.AsTaken, Reception.AsKnown, Reception.AsFinished, Change, Change.Asks, Change.Closes, Change.Gives, Change.Issues, Change.Misfits, Change.Offers, Change.Opens, Change.Releases, Change.Retires, Change.Stays, Change.Takes, Change.TakesEntry, Change.Vouches, change, change_by_reply, change_of, change_if_found, happens, is_closed, after, with_mark}
+use Rattle.mr_model.specs.Changes.{Reception.AsTaken, Reception.AsKnown, Reception.AsFinished, Change, Change.Issues, Change.Opens, Change.Releases, Change.Takes, change, change_by_reply, change_of, change_if_found, happens, after}
 use Rattle.mr_model.specs.History as model
-use Rattle.mr_model.specs.Moment.{Holding, Holds, Mark.CloseMark, numbered, start}
+use Rattle.mr_model.specs.Moment.{Holding, Holds, numbered, start}
 use Rattle.mr_model.specs.declared.event.Act.{Act}
 use Rattle.mr_model.specs.declared.event.Act.TheVariants as act
 use Rattle.mr_model.specs.declared.event.Event.{Event}
@@ -35,34 +35,17 @@ Leaves (Releases r x) q = q ≢ r
 Leaves c q = Unit {0}
 
 leaves_holding : (s : MailSetting) (m : MailMoment) (c : Change Mail MailCard) (q : ℕ) → Leaves c q → (happens s m c).holding q ≡ m.holding q
-leaves_holding s m (Issues r x) q ne = at_other m.holding r _ q ne
-leaves_holding s m (Takes r x reception) q ne = at_other m.holding r _ q ne
-leaves_holding s m (Releases r x) q ne = at_other m.holding r _ q ne
-leaves_holding s m (Asks r ask) q h = refl
-leaves_holding s m (Opens r t ask) q h = refl
-leaves_holding s m (Gives r t x) q h = refl
-leaves_holding s m (Retires r) q h = refl
-leaves_holding s m (Offers r u e) q h = refl
-leaves_holding s m (Closes r u) q h = by (is_closed (m.offered r u))
-  where
-    by : (b : Bool) → (cond b m (with_mark m r u CloseMark)).holding q ≡ m.holding q
-    by true = refl
-    by false = refl
-leaves_holding s m (TakesEntry r u e) q h = refl
-leaves_holding s m (Vouches r v x) q h = refl
-leaves_holding s m Stays q h = refl
-leaves_holding s m Misfits q h = refl
+leaves_holding s m c q ne = grind (arith, at_other)
 
 found_leaves : {A : Type 0} (o : Option A) (made : A → Change Mail MailCard) (q : ℕ) → ((x : A) → Leaves (made x) q) → Leaves (change_if_found o made) q
-found_leaves None made q h = tt
-found_leaves (Some x) made q h = h x
+found_leaves o made q h = grind arith
 
 -- an act changes what its own replica holds, and nothing that another does
 taken_leaves : (m : MailMoment) (r n : ℕ) (reply : model.Reply MailCard) (q : ℕ) → q ≢ r → Leaves (change_by_reply m r n reply) q
 taken_leaves m r n model.Took q ne = found_leaves (numbered m.given n) (λ x. Takes r x AsTaken) q (λ x. ne)
 taken_leaves m r n model.Known q ne = found_leaves (numbered m.given n) (λ x. Takes r x AsKnown) q (λ x. ne)
 taken_leaves m r n model.Finished q ne = found_leaves (numbered m.given n) (λ x. Takes r x AsFinished) q (λ x. ne)
-taken_leaves m r n reply q ne = tt
+taken_leaves m r n reply q ne = grind (arith, found_leaves)
 
 change_leaves : (m : MailMoment) (r : ℕ) (a : Act Mail) (reply : model.Reply MailCard) (q : ℕ) → q ≢ r → Leaves (change_of m r a reply) q
 change_leaves m r (act.Create message) (model.Issued v) q ne = ne
@@ -72,7 +55,7 @@ change_leaves m r (act.DeliverPart n bytes) reply q ne = taken_leaves m r n repl
 change_leaves m r (act.Answer n) (model.Streaming t) q ne = found_leaves (numbered m.asks n) (Opens r t) q (λ x. tt)
 change_leaves m r (act.Release n) model.Done q ne = found_leaves (numbered m.receipts n) (Releases r) q (λ x. ne)
 change_leaves m r a model.Refused q ne = tt
-change_leaves m r a reply q ne = tt
+change_leaves m r a reply q ne = grind (arith, taken_leaves, found_leaves)
 
 -- ---- a history without events of q
 

@@ -1,5 +1,5 @@
 -- What becomes of a world by one event of one of its replicas.
-use Rattle.std.proofs.Common.{◌≡◌, ◌≢◌, ◌==◌, refl, sym, ap, subst, ◌∙◌, ℕ, Bool, true, false, cond, List, [], ◌∷◌, Some, None, Result, Ok, Err, inl, inr}
+use Rattle.std.proofs.Common.{◌≡◌, ◌≢◌, ◌==◌, refl, sym, ap, subst, ◌∙◌, ℕ, List, [], ◌∷◌, Some, Result, Ok, Err, inl, inr, arith}
 use Rattle.std.specs.Prelude.{is_none, find}
 use Rattle.std.specs.Option.{option_map}
 use Rattle.mr_forms.specs.Known.{Form}
@@ -14,14 +14,12 @@ use Rattle.mr_replica.specs.declared.refusal.Refusal.{Refusal}
 use Rattle.mr_replica.specs.declared.refusal.Refusal.TheVariants.{OutOfMemory}
 use Rattle.mr_wire.specs.Frames.{Question, Sent}
 use Rattle.mr_wire.specs.declared.frame.Receipt.{Receipt}
-use Rattle.mr_world.specs.Does.{Does, StepsTo}
+use Rattle.mr_world.specs.Does.{StepsTo}
 use Rattle.mr_world.specs.Given.{GivenLists, with_given}
 use Rattle.mr_world.specs.Kept.{WorldView, MemberView, given_in, member_at, replica_at}
-use Rattle.mr_world.specs.Run.{Becomes, Happens, asked_in, ids_of}
+use Rattle.mr_world.specs.Run.{Becomes, Happens, ids_of}
 use Rattle.mr_world.specs.declared.answer.Answer.{Answer}
 use Rattle.mr_world.specs.declared.answer.Answer.TheVariants.{Stepped}
-use Rattle.mr_world.specs.declared.task.Task.{Task}
-use Rattle.mr_world.specs.declared.task.Task.TheVariants.{Step}
 use Rattle.mr_settle.specs.inner.Numbers.{Grew}
 use Rattle.mr_settle.proofs.ListLemmas.{some_one}
 use Rattle.mr_settle.proofs.NamedLemmas.{IsNamed}
@@ -32,17 +30,13 @@ module _ {K : Type 0} where
   -- a member of this id is there where the id is
   pub there_if : (ms : List (MemberView K)) (q : ℕ) → is_none (member_at ms q) ≡ is_none (find (λ i. i == q) (ids_of ms))
   there_if [] q = refl
-  there_if (m ∷ ms) q = by (m.replica.id == q) (there_if ms q)
-    where
-      by : (b : Bool) → is_none (member_at ms q) ≡ is_none (find (λ i. i == q) (ids_of ms)) → is_none (cond b (Some m) (member_at ms q)) ≡ is_none (cond b (Some m.replica.id) (find (λ i. i == q) (ids_of ms)))
-      by true h = refl
-      by false h = h
+  there_if (m ∷ ms) q = grind (arith, there_if ms q)
 
 -- ---- what is given
 
 given_asks : (lists : GivenLists) (outcome : Result Reply Refusal) → Grew lists.asks (with_given lists (Stepped outcome)).asks
 given_asks lists (Ok (reply.Asked question)) = inr (question, refl)
-given_asks lists outcome = inl refl
+given_asks lists outcome = grind arith
 
 given_records : (lists : GivenLists) (outcome : Result Reply Refusal) → Grew lists.records (with_given lists (Stepped outcome)).records
 given_records lists (Ok (reply.Gave sent)) = inr (sent, refl)
@@ -50,7 +44,7 @@ given_records lists outcome = inl refl
 
 given_receipts : (lists : GivenLists) (outcome : Result Reply Refusal) → Grew lists.receipts (with_given lists (Stepped outcome)).receipts
 given_receipts lists (Ok (reply.Vouched receipt)) = inr (receipt, refl)
-given_receipts lists outcome = inl refl
+given_receipts lists outcome = grind arith
 
 -- The replica r was asked for this, answered, and is another; the others are as they were, and each pool is as it was or has one more.
 pub record Turns {K : Type 0} (form : Form K) (w : WorldView K) (r : ℕ) (e : ReplicaEvent) (answer : Answer) (w' : WorldView K) : Type 0 where
@@ -84,10 +78,7 @@ module _ {K : Type 0} (form : Form K) where
     records = subst (λ (xs : List Sent). Grew w.records xs) (sym (ap (λ (lists : GivenLists). lists.records) gives)) (given_records (given_in w) outcome);
     receipts = subst (λ (xs : List Receipt). Grew w.receipts xs) (sym (ap (λ (lists : GivenLists). lists.receipts) gives)) (given_receipts (given_in w) outcome);
   }
-  stepped_turns w w' r e answer old new becomes gives h = absurd h
+  stepped_turns w w' r e answer old new becomes gives h = grind (arith, given_asks, given_records, given_receipts)
 
   pub turns : (w w' : WorldView K) (r : ℕ) (e : ReplicaEvent) (we : Event Mail) (answer : Answer) → IsNamed w r e we → Happens form w we answer w' → Turns form w r e answer w'
-  turns w w' r e we answer named h =
-      let task_is : h.task ≡ Step e = some_one h.task (Step e) (asked_in w we.act) h.asks named.asks in
-      stepped_turns w w' r e answer h.old h.new (subst (λ (q : ℕ). Becomes q h.old h.new w.members w'.members) named.is_for h.becomes) h.gives
-      (subst (λ (t : Task). Does form t h.old answer h.new) task_is h.does).0
+  turns w w' r e we answer named h = grind (arith, some_one, stepped_turns)

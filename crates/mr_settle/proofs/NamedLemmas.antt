@@ -1,5 +1,5 @@
 -- The act that is named for a log's event asks for just that, and where none is named no act does.
-use Rattle.std.proofs.Common.{◌≡◌, refl, sym, ap, subst, ◌∙◌, cond, ℕ, Bool, true, false, List, Option, Some, None}
+use Rattle.std.proofs.Common.{◌≡◌, refl, sym, ap, subst, ◌∙◌, cond, ℕ, Bool, true, false, List, Option, Some, None, arith}
 use Rattle.std.specs.Prelude.{nat_lt}
 use Rattle.std.specs.Option.{IsSomeAnd, MatchOption, option_map}
 use Rattle.mr_mail.specs.Mail.{Mail}
@@ -70,11 +70,7 @@ module _ (asks : List Question) (records : List Sent) (receipts : List Receipt) 
   IsGivenFor o = Unit {0}
 
   given_for_one : {A : Type 0} (asks_for : A → Task) (pool : List A) (n : ℕ) → ((x : A) → In x pool → IsGivenFor (Some (asks_for x))) → IsGivenFor (option_map asks_for (numbered pool n))
-  given_for_one {A} asks_for pool n each = by (numbered pool n) (numbered_in pool n)
-    where
-      by : (o : Option A) → ((x : A) → o ≡ Some x → In x pool) → IsGivenFor (option_map asks_for o)
-      by None there = tt
-      by (Some x) there = each x (there x refl)
+  given_for_one asks_for pool n each = grind (arith, numbered_in)
 
   given_for : (a : Act Mail) → IsGivenFor (asked asks records receipts a)
   given_for (act.Receive n) = given_for_one receiving records n (λ sent i. (sent, refl, i))
@@ -85,7 +81,7 @@ module _ (asks : List Question) (records : List Sent) (receipts : List Receipt) 
       part false sent i = (sent, refl, i)
   given_for (act.Answer n) = given_for_one answering asks n (λ question i. i)
   given_for (act.Release n) = given_for_one releasing receipts n (λ receipt i. i)
-  given_for a = tt
+  given_for a = grind (arith, given_for_one)
 
   given_if_asked : (a : Act Mail) (event : ReplicaEvent) → asked asks records receipts a ≡ Some (task.Step event) → IsGiven event
   given_if_asked a event is = subst IsGivenFor is (given_for a)
@@ -120,29 +116,21 @@ module _ (g : GivenNumbers) (bytes : Option (List ℕ)) (o : Option ℕ) where
 
   -- no act asks a replica to take what is no record
   names_none : (f : Frame) → ((sent : Sent) → f ≡ frame.Record sent → ⊥) → bytes ≡ None → o ≡ found_in g.records bytes → Names g (replica.Receive f) (option_map (λ n. act.Receive n) o)
-  names_none f other none is = subst (λ (p : Option ℕ). Names g (replica.Receive f) (option_map (λ n. act.Receive n) p)) (sym (is ∙ ap (found_in g.records) none))
-      (λ asks records receipts tells a asked_for. (let given = given_if_asked asks records receipts a (replica.Receive f) asked_for in other given.0 given.1))
+  names_none f other h is = grind (arith, given_if_asked)
 
   names_receive : (f : Frame) → HasBytes (carried (replica.Receive f)) bytes → o ≡ found_in g.records bytes → Names g (replica.Receive f) (option_map (λ n. act.Receive n) o)
-  names_receive (frame.Record sent) has is = names_record sent has is
-  names_receive (frame.Ask question) none is = names_none (frame.Ask question) (λ sent e. cc) none is
-  names_receive (frame.Receipt receipt) none is = names_none (frame.Receipt receipt) (λ sent e. cc) none is
+  names_receive f has is = grind (arith, names_record, names_none)
 
 -- by `Option::map` the act is made of the number, where there is one
 abbrev IsMade : (ℕ → Act Mail) → Option ℕ → Option (Act Mail) → Type 0
 IsMade by_number o named = MatchOption o (named ≡ None) (λ n. IsSomeAnd named (λ a. a ≡ by_number n))
 
 is_mapped : (by_number : ℕ → Act Mail) (o : Option ℕ) (named : Option (Act Mail)) → IsMade by_number o named → named ≡ option_map by_number o
-is_mapped by_number None named made = made
-is_mapped by_number (Some n) (Some a) made = ap (λ (z : Act Mail). Some z) made
-is_mapped by_number (Some n) None made = absurd made
+is_mapped by_number o named made = grind arith
 
 module _ (g : GivenNumbers) (event : ReplicaEvent) (bytes : Option (List ℕ)) (has : HasBytes (carried event) bytes) (o : Option ℕ) (named : Option (Act Mail)) where
   names_made : (same : ReplicaEvent) (by_number : ℕ → Act Mail) → event ≡ same → IsMade by_number o named → (HasBytes (carried same) bytes → Names g same (option_map by_number o)) → Names g event named
-  names_made same by_number is made names =
-      subst (λ (e : ReplicaEvent). Names g e named) (sym is)
-      (subst (λ (p : Option (Act Mail)). Names g same p) (sym (is_mapped by_number o named made))
-      (names (subst (λ (e : ReplicaEvent). HasBytes (carried e) bytes) is has)))
+  names_made same by_number is made names = grind (arith, is_mapped)
 
   pub named_receive : (f : Frame) → event ≡ replica.Receive f → o ≡ found_in g.records bytes → IsMade (λ n. act.Receive n) o named → Names g event named
   named_receive f is found made = names_made (replica.Receive f) (λ n. act.Receive n) is made (λ it_has. names_receive g bytes o f it_has found)

@@ -1,5 +1,5 @@
 -- The numbers of a pool that grows.
-use Rattle.std.proofs.Common.{◌≡◌, ◌≢◌, ◌≤◌, refl, sym, ap, subst, ◌∙◌, ◌+◌, ◌==◌, cond, arith, ℕ, Bool, true, false, List, [], ◌∷◌, length, Option, Some, None, inl, inr, ◌⊎◌, eqb-true, eq-eqb}
+use Rattle.std.proofs.Common.{◌≡◌, ◌≢◌, ◌≤◌, refl, sym, ap, subst, ◌∙◌, ◌+◌, ◌==◌, arith, ℕ, Bool, true, false, List, [], ◌∷◌, length, Option, Some, None, inl, inr, ◌⊎◌, eqb-true, eq-eqb}
 use Rattle.std.specs.Prelude.{is_none}
 use Rattle.mr_model.specs.Moment.{numbered}
 use Rattle.mr_model.specs.Rules.{In}
@@ -25,32 +25,20 @@ module _ {A : Type 0} where
 
   pub numbered_within : (xs : List A) (n : ℕ) (x : A) → numbered xs n ≡ Some x → n ≤ length xs
   numbered_within [] n x e = absurd (none-some x e)
-  numbered_within (y ∷ older) n x e = by (n == length older + 1) refl e (numbered_within older n x)
-    where
-      by : (b : Bool) → (n == length older + 1) ≡ b → cond b (Some y) (numbered older n) ≡ Some x → (numbered older n ≡ Some x → n ≤ length older) → n ≤ length (y ∷ older)
-      by true is h below = let at = eqb-true n (length older + 1) is in omega (arith, at)
-      by false is h below = let low = below h in omega (arith, low)
+  numbered_within (y ∷ older) n x e = grind (arith, numbered_within older n x, eqb-true)
 
   -- an older number stays
   pub numbered_front : (y : A) (xs : List A) (n : ℕ) (x : A) → numbered xs n ≡ Some x → numbered (y ∷ xs) n ≡ Some x
-  numbered_front y xs n x e =
-      let within = numbered_within xs n x e in
-      let other : (n == length xs + 1) ≡ false = ne_eqb n (length xs + 1) (λ at. absurd (omega (arith, at, within))) in
-      rw other e
+  numbered_front y xs n x e = grind (arith, numbered_within, ne_eqb)
 
   pub numbered_newest : (x : A) (xs : List A) → numbered (x ∷ xs) (length (x ∷ xs)) ≡ Some x
   numbered_newest x xs = let is : (length (x ∷ xs) == length xs + 1) ≡ true = eq-eqb (length (x ∷ xs)) (length xs + 1) (omega arith) in rw is refl
 
   pub numbered_grew : (xs ys : List A) (n : ℕ) (x : A) → Grew xs ys → numbered xs n ≡ Some x → numbered ys n ≡ Some x
-  numbered_grew xs ys n x (inl same) e = rw same e
-  numbered_grew xs ys n x (inr more) e = rw more.1 (numbered_front more.0 xs n x e)
+  numbered_grew xs ys n x h e = grind (arith, numbered_front)
 
   pub number_stays : (xs ys : List A) (n : ℕ) → Grew xs ys → is_none (numbered xs n) ≡ false → numbered ys n ≡ numbered xs n
-  number_stays xs ys n grew there = by (numbered xs n) refl there
-    where
-      by : (o : Option A) → numbered xs n ≡ o → is_none o ≡ false → numbered ys n ≡ numbered xs n
-      by None e h = cc (h)
-      by (Some x) e h = numbered_grew xs ys n x grew e ∙ sym e
+  number_stays xs ys n grew there = grind (arith, numbered_grew)
 
   -- ---- spellings
 

@@ -1,5 +1,5 @@
 -- What a map keyed by bytes has once some bytes were put in.
-use Rattle.std.proofs.Common.{◌≡◌, ◌≢◌, refl, sym, ◌∙◌, ℕ, Bool, true, false, List, Some}
+use Rattle.std.proofs.Common.{◌≡◌, ◌≢◌, sym, ◌∙◌, ℕ, Bool, true, false, List, Some, arith}
 use Rattle.std.specs.Global.{Vec}
 use Rattle.std.specs.BTreeMap.{BTreeMap, UpdatesBy, get_by}
 use Rattle.std.specs.Map.{lookup, IsKeyTest, AreApart, KeepsOthers}
@@ -16,11 +16,7 @@ unfolding KeepsOthers
 other_entries eq test old new h = h
 
 unequal : (a b : List ℕ) → a ≢ b → bytes_eq a b ≡ false
-unequal a b ne = by (bytes_eq a b) refl
-  where
-    by : (t : Bool) → bytes_eq a b ≡ t → t ≡ false
-    by true e = absurd (ne ((bytes_eq-Decides a b).0 e))
-    by false e = refl
+unequal a b ne = grind (arith, bytes_eq-Decides)
 
 apart : (bs cs ks : List ℕ) → bytes_eq bs cs ≡ false → is_eq (slice_cmp nat_cmp bs ks) ≡ true → is_eq (slice_cmp nat_cmp cs ks) ≡ false
 apart bs cs ks n y = is_eq-slice_cmp cs ks ∙ (nat_list_eq_equiv.symm cs ks ∙ sym (nat_list_eq_equiv.congr bs ks cs (sym (is_eq-slice_cmp bs ks) ∙ y)) ∙ n)

@@ -1,5 +1,5 @@
 -- A replica that has retired tells nothing more.
-use Rattle.std.proofs.Common.{◌≡◌, refl, ap, subst, ◌∙◌, true, List, [], ◌∷◌, ◌++◌, Option, Some, None, Result, Ok, Err}
+use Rattle.std.proofs.Common.{◌≡◌, refl, ap, subst, ◌∙◌, true, List, [], ◌∷◌, ◌++◌, Option, Some, None, Result, Ok, Err, arith}
 use Rattle.mr_forms.specs.Known.{Form}
 use Rattle.mr_replica.specs.State.{State}
 use Rattle.mr_replica.specs.Step.{first_refusal, Changes, Answers, Steps}
@@ -30,8 +30,7 @@ module _ {K : Type 0} (form : Form K) where
   ]
 
   changes_of : (s : State K) (event : Event) (first : Option Refusal) (told : Reply) (new : State K) → GoesOn s event first (Ok told) new → Changes form s event told new
-  changes_of s event None told new h = h.1
-  changes_of s event (Some e) told new h = cc (h.0)
+  changes_of s event first told new h = grind arith
 
   refused : (s : State K) (event : Event) (e : Refusal) (told : Reply) (new : State K) → first_refusal s event ≡ Some e → Steps form s event (Ok told) new → ⊥
   refused s event e told new is h = let no = subst (λ (o : Option Refusal). GoesOn s event o (Ok told) new) is h in cc (no.0)
@@ -55,18 +54,14 @@ module _ {K : Type 0} (form : Form K) where
   admitted_rests s (Receive (frame.Record sent)) new r h = absurd (refused s (Receive (frame.Record sent)) refusal.Retired h.0 new (rw r refl) h.1)
   admitted_rests s (Receive (frame.Ask question)) new r h = absurd (refused s (Receive (frame.Ask question)) refusal.Retired h.0 new (rw r refl) h.1)
   admitted_rests s (Receive (frame.Receipt receipt)) new r h = absurd (refused s (Receive (frame.Receipt receipt)) refusal.Retired h.0 new (rw r refl) h.1)
-  admitted_rests s event new r h = absurd (refused s event refusal.Retired h.0 new (rw r refl) h.1)
+  admitted_rests s event new r h = grind (arith, changes_of, rests_as, refused)
 
   all_rest : (s new : State K) (events : List Event) → s.is_retired ≡ true → AdmitsAll form s events new → new.feed ≡ s.feed
   all_rest s new [] r h = ap (λ (z : State K). z.feed) h
   all_rest s new (event ∷ events) r h = let one = admitted_rests s event h.0 r h.1 in all_rest h.0 new events one.retired h.2 ∙ one.feed
 
   retires : (s new : State K) → Admits form s Retire new → Rests s new
-  retires s new h = by h.0 (changes_of s Retire (first_refusal s Retire) h.0 new h.1)
-    where
-      by : (told : Reply) → Changes form s Retire told new → Rests s new
-      by reply.Done c = rests_as s new _ c refl refl
-      by told c = absurd c
+  retires s new h = grind (arith, changes_of, rests_as)
 
   -- behind its Retire an end was told nothing
   pub none_after : (end : State K) → IsItsLog form end → (before after : List Event) → end.log ≡ before ++ Retire ∷ after → HadTold form end before

@@ -1,14 +1,12 @@
 -- Specifications of replicas that have ids of their own are not refused.
-use Rattle.std.proofs.Common.{◌≡◌, ◌≢◌, refl, sym, ap, ◌∙◌, ◌==◌, ◌||◌, ◌↔◌, arith, ℕ, nat_lt, Bool, true, false, List, [], ◌∷◌, None, IsTrue, not, eqb-true}
+use Rattle.std.proofs.Common.{◌≡◌, ◌≢◌, refl, sym, ap, ◌∙◌, ◌==◌, ◌||◌, ◌↔◌, arith, ℕ, Bool, true, false, List, [], ◌∷◌, None, IsTrue, not, eqb-true}
 use Rattle.std.specs.Prelude.{All}
 use Rattle.std.specs.List.{list_any, AllZip}
 use Rattle.std.proofs.lemmas.Bool.{eqb-false, le-ltb, ne_eqb}
 use Rattle.std.proofs.lemmas.List.Elements.{All-nil, All-cons, All-head, All-tail}
 use Rattle.std.proofs.lemmas.List.Kept.{AllPairs-cons}
 use Rattle.mr_forms.proofs.PartLemmas.{AllPairs-head, AllPairs-tail}
-use Rattle.mr_feed.specs.declared.port.TheConstants.{MAX_CAPACITY}
 use Rattle.mr_replica.specs.State.{State}
-use Rattle.mr_replica.specs.declared.replica.TheConstants.{MAX_EVENTS}
 use Rattle.mr_world.specs.Made.{has_same_id, has_bad_limit, has_bad_capacity, spec_refusal}
 use Rattle.mr_world.specs.declared.spec.Spec.{Spec}
 use Rattle.mr_settle.specs.History.{IsSpecOf}
@@ -17,10 +15,7 @@ use Rattle.mr_settle.specs.inner.Explains.{share_id}
 use Rattle.mr_settle.specs.inner.Way.{HasGoodLimit}
 
 limit_good : (spec : Spec) → HasGoodLimit spec → has_bad_limit spec ≡ false
-limit_good spec h =
-    let some : (spec.event_limit == 0) ≡ false = ne_eqb spec.event_limit 0 (λ e. absurd (omega (arith, e, h.0))) in
-    let few : nat_lt MAX_EVENTS spec.event_limit ≡ false = le-ltb MAX_EVENTS spec.event_limit h.1 in
-    rw (some, few) refl
+limit_good spec h = grind (arith, ne_eqb, le-ltb)
 
 none_bad : (ps : List Spec) → All HasGoodLimit ps → list_any has_bad_limit ps ≡ false
 none_bad [] all = refl
@@ -49,9 +44,7 @@ module _ {K : Type 0} where
   none_small [] [] are = refl
   none_small [] (p ∷ ps) are = absurd are
   none_small (x ∷ xs) [] are = absurd are
-  none_small (x ∷ xs) (p ∷ ps) are =
-      let first : has_bad_capacity p ≡ false = ap (λ (n : ℕ). (n == 0) || nat_lt MAX_CAPACITY n) are.0.port_capacity in
-      ap (λ (b : Bool). b || list_any has_bad_capacity ps) first ∙ none_small xs ps are.1
+  none_small (x ∷ xs) (p ∷ ps) are = grind (arith, none_small xs ps are.1)
 
   pub none_refused : (xs : List (State K)) (ps : List Spec) → AreDistinct xs → AllZip IsSpecOf xs ps → All HasGoodLimit ps → spec_refusal ps ≡ None
   none_refused xs ps distinct are limits = rw (none_same xs ps distinct are, none_bad ps limits, none_small xs ps are) refl
@@ -60,11 +53,7 @@ module _ {K : Type 0} where
 
   none_has : (id : ℕ) (xs : List (State K)) → list_any (λ z. z.id == id) xs ≡ false → All (λ z. id ≢ z.id) xs
   none_has id [] h = All-nil (λ (z : State K). id ≢ z.id)
-  none_has id (x ∷ xs) h = by (x.id == id) refl h (none_has id xs)
-    where
-      by : (b : Bool) → (x.id == id) ≡ b → (b || list_any (λ z. z.id == id) xs) ≡ false → (list_any (λ z. z.id == id) xs ≡ false → All (λ z. id ≢ z.id) xs) → All (λ (z : State K). id ≢ z.id) (x ∷ xs)
-      by true is e rest = cc (e)
-      by false is e rest = All-cons (λ (z : State K). id ≢ z.id) x xs (λ same. eqb-false x.id id is (sym same)) (rest e)
+  none_has id (x ∷ xs) h = grind (arith, none_has id xs, All-cons, eqb-false)
 
   some_has : (id : ℕ) (xs : List (State K)) → list_any (λ z. z.id == id) xs ≡ true → All (λ z. id ≢ z.id) xs → ⊥
   some_has id [] h all = cc (h)
@@ -91,5 +80,4 @@ module _ {K : Type 0} where
       by false is e rest = rest e
 
   pub distinct_by : (xs : List (State K)) (b : Bool) → b ≡ share_id xs → IsTrue (not b) ↔ AreDistinct xs
-  distinct_by xs true is = (λ h. cc (h), λ distinct. absurd (share_some xs (sym is) distinct))
-  distinct_by xs false is = (λ h. share_none xs (sym is), λ distinct. refl)
+  distinct_by xs b is = grind (arith, share_some, share_none)

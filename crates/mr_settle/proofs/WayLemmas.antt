@@ -19,9 +19,6 @@ use Rattle.mr_replica.specs.Replay.{IsFresh, Replays, IsItsLog}
 use Rattle.mr_replica.specs.declared.event.Event.{Event as ReplicaEvent}
 use Rattle.mr_replica.specs.declared.event.Reply.{Reply}
 use Rattle.mr_replica.specs.declared.refusal.Refusal.{Refusal}
-use Rattle.mr_wire.specs.Frames.{Question, Sent}
-use Rattle.mr_wire.specs.declared.frame.Frame.TheVariants as frame
-use Rattle.mr_wire.specs.declared.frame.Receipt.{Receipt}
 use Rattle.mr_world.specs.Kept.{WorldView, MemberView, member_at, replica_at}
 use Rattle.mr_world.specs.Made.{IsMadeOf}
 use Rattle.mr_world.specs.Run.{Happens, Leads, asked_in, ids_of, stop_fault}
@@ -30,7 +27,7 @@ use Rattle.mr_world.specs.declared.answer.Answer.TheVariants.{Stepped}
 use Rattle.mr_world.specs.declared.task.Task.{Task}
 use Rattle.mr_world.specs.declared.spec.Spec.{Spec}
 use Rattle.mr_settle.proofs.AdmitLemmas.{next_admitted, replays_more}
-use Rattle.mr_settle.specs.inner.Numbers.{Tells, Grew}
+use Rattle.mr_settle.specs.inner.Numbers.{Grew}
 use Rattle.mr_settle.proofs.PoolLemmas.{nothing_told, tells_on}
 use Rattle.mr_settle.specs.History.{admitted_at, log_in, OnlyAdmits, IsSpecOf, IsStartOf, IsWorldOf}
 use Rattle.mr_settle.specs.Explains.{AreDistinct}
@@ -50,18 +47,10 @@ use Rattle.mr_settle.proofs.LogLemmas.{only_on, log_with, log_without}
 
 module _ {K : Type 0} where
   pub tell_on : (w w' : WorldView K) (old new : GivenNumbers) → Grew w.asks w'.asks → Grew w.records w'.records → Grew w.receipts w'.receipts → TellAll w old → NotesNewest old w' new → TellAll w' new
-  tell_on w w' old new asks records receipts tells notes = record {
-    of_asks = tells_on (λ x. frame.Ask x) one_ask w.asks w'.asks notes.ask old.asks new.asks tells.of_asks asks notes.ask_is notes.asks;
-    of_records = tells_on (λ x. frame.Record x) one_record w.records w'.records notes.record_ old.records new.records tells.of_records records notes.record_is notes.records;
-    of_receipts = tells_on (λ x. frame.Receipt x) one_receipt w.receipts w'.receipts notes.receipt old.receipts new.receipts tells.of_receipts receipts notes.receipt_is notes.receipts;
-  }
+  tell_on w w' old new asks records receipts tells notes = grind (arith, tells_on, one_ask, one_record, one_receipt)
 
   pub tell_nothing : (w : WorldView K) → w.asks ≡ [] → w.records ≡ [] → w.receipts ≡ [] → TellAll w nothing_given
-  tell_nothing w asks records receipts = record {
-    of_asks = subst (λ (xs : List Question). Tells (λ x. frame.Ask x) xs (nothing_given).asks) (sym asks) (nothing_told (λ x. frame.Ask x) one_ask);
-    of_records = subst (λ (xs : List Sent). Tells (λ x. frame.Record x) xs (nothing_given).records) (sym records) (nothing_told (λ x. frame.Record x) one_record);
-    of_receipts = subst (λ (xs : List Receipt). Tells (λ x. frame.Receipt x) xs (nothing_given).receipts) (sym receipts) (nothing_told (λ x. frame.Receipt x) one_receipt);
-  }
+  tell_nothing w asks records receipts = grind (arith, nothing_told, one_ask, one_record, one_receipt)
 
   -- ---- ids
 
@@ -207,8 +196,7 @@ module _ {K : Type 0} (form : Form K) (stable : IsByMeaning form) where
 -- ---- the next event can happen
 
 named_there : {A B : Type 0} (f : A → B) (o : Option A) (y : B) → option_map f o ≡ Some y → is_none o ≡ false
-named_there f None y e = cc (e)
-named_there f (Some x) y e = refl
+named_there f o y e = grind arith
 
 goes : {K : Type 0} (w : WorldView K) (e : Event Mail) → is_none (member_at w.members e.replica) ≡ false → is_none (asked_in w e.act) ≡ false → stop_fault w e ≡ None
 goes w e there asks = rw (there, asks) refl
@@ -261,10 +249,7 @@ module _ {K : Type 0} (form : Form K) where
   made_ids [] (p ∷ ps) members are made = absurd are
   made_ids (x ∷ xs) [] members are made = absurd are
   made_ids (x ∷ xs) (p ∷ ps) [] are made = absurd made
-  made_ids (x ∷ xs) (p ∷ ps) (m ∷ ms) are made =
-      let id : m.replica.id ≡ x.id = ap (λ (s : State K). s.id) made.0.replica.is_empty ∙ are.0.id in
-      let rest = made_ids xs ps ms are.1 made.1 in
-      λ j. id j ∷ rest j
+  made_ids (x ∷ xs) (p ∷ ps) (m ∷ ms) are made = grind (arith, made_ids xs ps ms are.1 made.1)
 
   -- nothing is done
   pub begins : (ends : List (State K)) (w : WorldView K) (done : List ℕ) → AreDistinct ends → IsStartOf form ends w → length done ≡ length ends → ((i p : ℕ) → slice_get done i ≡ Some p → p ≡ 0) → IsUnderWay form ends w done
@@ -294,14 +279,8 @@ pub nearer : {K : Type 0} (ends : List (State K)) (done : List ℕ) (place posit
     → left_over ends (slice_set done place (position + 1)) < left_over ends done
 nearer [] done place position end is is_p low = absurd (cc (is))
 nearer (x ∷ xs) [] place position end is is_p low = absurd (cc (is_p))
-nearer (x ∷ xs) (d ∷ ds) zero position end is is_p low =
-    let mine : x ≡ end = some_one x end (Some x) refl is in
-    let number : d ≡ position = some_one d position (Some d) refl is_p in
-    let log : length x.log ≡ length end.log = ap (λ (s : State _). length s.log) mine in
-    omega (arith, low, number, log)
+nearer (x ∷ xs) (d ∷ ds) zero position end is is_p low = grind (arith, some_one)
 nearer (x ∷ xs) (d ∷ ds) (suc place) position end is is_p low = let rest = nearer xs ds place position end is is_p low in omega (arith, rest)
 
 pub ready_nearer : {K : Type 0} (form : Form K) (ends : List (State K)) (given : GivenNumbers) (done : List ℕ) (ready : Ready) → IsReady form ends given done ready → left_over ends (slice_set done ready.place ready.after) < left_over ends done
-ready_nearer form ends given done ready is =
-    subst (λ (n : ℕ). left_over ends (slice_set done ready.place n) < left_over ends done) (sym is.after)
-    (nearer ends done ready.place is.position is.end is.next.end_is is.next.done_is (slice_get_within is.end.log is.position is.event is.next.event_is))
+ready_nearer form ends given done ready is = grind (arith, nearer, slice_get_within)
