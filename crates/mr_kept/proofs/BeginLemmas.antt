@@ -1,10 +1,9 @@
 -- why no replica is begun
-use Rattle.std.proofs.Common.{◌≡◌, ◌≢◌, ◌⊎◌, ⊎_elim, ℕ, ◌==◌, Bool, false, List, [], ◌∷◌, length, Err, refl, sym, subst, ◌∙◌}
+use Rattle.std.proofs.Common.{◌≡◌, ◌≢◌, ◌⊎◌, ⊎_elim, ℕ, ◌==◌, Bool, false, List, [], ◌∷◌, length, refl, sym, subst, ◌∙◌}
 use Rattle.std.specs.Prelude.{IsTrue, Vec}
 use Rattle.std.specs.declared.alloc.Global.{Global}
 use Rattle.std.proofs.lemmas.Bool.{false≢true}
 use Rattle.mr_filter.specs.Filter.{ClauseParts}
-use Rattle.mr_filter.specs.Grammar.{Reads}
 use Rattle.mr_journal.specs.Fault.{IsOfBatch}
 use Rattle.mr_journal.specs.Format.{AreBatches, Fits, Stands, contents}
 use Rattle.mr_journal.specs.Journal.{Keeps, end_of}
@@ -12,15 +11,12 @@ use Rattle.mr_journal.specs.Reading.{IsReason}
 use Rattle.mr_journal.specs.declared.fault.JournalFault.{JournalFault}
 use Rattle.mr_journal.specs.declared.fault.JournalFault.TheVariants as journal
 use Rattle.mr_journal.specs.declared.journal.Journal.{Journal}
-use Rattle.mr_entry.specs.Encoding.{Encodes}
 use Rattle.mr_entry.specs.Head.{HeadParts}
 use Rattle.mr_entry.specs.Spelling.{entry_bytes}
 use Rattle.mr_entry.specs.declared.entry.Entry.TheVariants as entry
-use Rattle.mr_entry.specs.declared.fault.EntryFault.{EntryFault}
-use Rattle.mr_entry.specs.declared.fault.EntryFault.TheVariants as spelling
 use Rattle.mr_kept.specs.declared.fault.OpenFault.{OpenFault}
 use Rattle.mr_kept.specs.declared.fault.OpenFault.TheVariants as fault
-use Rattle.mr_kept.specs.Beginning.{IsBeginFault, IsLimit, IsOfFile, IsOfSetup}
+use Rattle.mr_kept.specs.Beginning.{IsBeginFault, IsOfFile, IsOfSetup}
 
 -- by what it was to be begun with
 pub of_setup : (file : List ℕ) (id : ℕ) (filter : List ClauseParts) (limit : ℕ) (birth mark : List ℕ) (why : OpenFault) → IsOfSetup filter limit why → IsBeginFault file id filter limit birth mark why
@@ -54,9 +50,7 @@ of_commit file head texts batch j journal.TooLarge none stands keeps of is large
 )
 of_commit file head texts batch j journal.OutOfMemory none stands keeps of is large = tt
 of_commit file head texts batch j journal.Failed none stands keeps of is large = tt
-of_commit file head texts batch j journal.NotAJournal none stands keeps of is large = absurd of
-of_commit file head texts batch j (journal.OtherFormat f) none stands keeps of is large = absurd of
-of_commit file head texts batch j (journal.Damaged at) none stands keeps of is large = absurd of
+of_commit file head texts batch j why none stands keeps of is large = absurd of
 
 -- the batch of a head isn't empty
 pub some_batch : (l : List (Vec ℕ Global)) (text : List ℕ) → contents l ≡ text ∷ [] → l ≢ []

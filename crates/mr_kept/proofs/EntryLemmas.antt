@@ -2,12 +2,11 @@
 use Rattle.std.proofs.Common.{zero, suc, ◌≡◌, ℕ, ◌+◌, ◌-◌, ◌<◌, ◌≤◌, List, [], ◌∷◌, ◌++◌, length, take, drop, get_or, arith, refl, sym, ap, subst, ◌∙◌, append_assoc, append-nil}
 use Rattle.std.proofs.lemmas.List.{map-append, take_more}
 use Rattle.std.proofs.Math.Seq.{take-length}
-use Rattle.std.specs.Prelude.{Vec}
 use Rattle.std.specs.declared.alloc.Global.{Global}
 use Rattle.mr_journal.specs.Format.{contents}
-use Rattle.std.specs.List.{AllByRecursion}
-use Rattle.std.specs.Prelude.{map, replicate}
-use Rattle.std.proofs.lemmas.List.Concat.{flat_map-cons}
+use Rattle.std.specs.List.{AllByRecursion, flat_map}
+use Rattle.std.specs.Prelude.{Vec, map, replicate}
+use Rattle.std.proofs.lemmas.List.Concat.{flat_map-append, flat_map-cons}
 use Rattle.mr_replica.specs.declared.event.Event.{Event}
 use Rattle.mr_replica.specs.declared.event.Event.TheVariants.{Next}
 use Rattle.mr_replica.specs.declared.replica.TheConstants.{MAX_EVENTS}
@@ -26,13 +25,12 @@ pub all_append : {A : Type 0} (P : A → Type 0) (xs ys : List A) → AllByRecur
 all_append P [] ys h k = k
 all_append P (x ∷ xs) ys h k = (h.0, all_append P xs ys h.1 k)
 
-pub bytes_append : (xs ys : List Entry) → map entry_bytes (xs ++ ys) ≡ map entry_bytes xs ++ map entry_bytes ys
-bytes_append [] ys = refl
-bytes_append (x ∷ xs) ys = ap (λ (l : List (List ℕ)). entry_bytes x ∷ l) (bytes_append xs ys)
+pub all_split : {A : Type 0} (P : A → Type 0) (xs ys : List A) → AllByRecursion P (xs ++ ys) → AllByRecursion P xs × AllByRecursion P ys
+all_split P [] ys h = (tt, h)
+all_split P (x ∷ xs) ys h = let rest = all_split P xs ys h.1 in ((h.0, rest.0), rest.1)
 
 pub contents_append : (xs ys : List (Vec ℕ Global)) → contents (xs ++ ys) ≡ contents xs ++ contents ys
-contents_append [] ys = refl
-contents_append (x ∷ xs) ys = ap (λ (l : List (List ℕ)). x.items ∷ l) (contents_append xs ys)
+contents_append = map-append (λ (v : Vec ℕ Global). v.items)
 
 -- the first, and what stands behind it
 pub contents_first : (l : List (Vec ℕ Global)) (x : Vec ℕ Global) → 1 ≤ length l → x ≡ get_or l 0 x → contents l ≡ x.items ∷ contents (take (length l - 1) (drop 1 l))
@@ -45,14 +43,11 @@ contents_first (y ∷ ys) x some is =
 pub spelled_append : (xs ys : List Entry) (a b : List (List ℕ)) → AreSpelled xs a → AreSpelled ys b → AreSpelled (xs ++ ys) (a ++ b)
 spelled_append xs ys a b h k = record {
   in_grammar = all_append IsEntry xs ys h.in_grammar k.in_grammar;
-  written = ap (λ (l : List (List ℕ)). l ++ b) h.written ∙ ap (λ (l : List (List ℕ)). map entry_bytes xs ++ l) k.written ∙ sym (bytes_append xs ys);
+  written = ap (λ (l : List (List ℕ)). l ++ b) h.written ∙ ap (λ (l : List (List ℕ)). map entry_bytes xs ++ l) k.written ∙ sym (map-append entry_bytes xs ys);
 }
 
 pub spelled_one : (x : Entry) (text : List ℕ) → IsEntry x → text ≡ entry_bytes x → AreSpelled (x ∷ []) (text ∷ [])
 spelled_one x text is e = record { in_grammar = (is, tt); written = ap (λ (t : List ℕ). t ∷ []) e }
-
-pub all_spelled : (xs ys : List Entry) → AllByRecursion IsEntry xs → AllByRecursion IsEntry ys → AllByRecursion IsEntry (xs ++ ys)
-all_spelled xs ys h k = all_append IsEntry xs ys h k
 
 -- ---- counts
 
@@ -62,17 +57,14 @@ issued_append n (x ∷ xs) ys = issued_append (counted n x) xs ys
 
 -- ---- what entries tell
 
+tells_more : {T : Type 0} (told : Entry → List T) (xs : List Entry) (x : Entry) → flat_map told (xs ++ x ∷ []) ≡ flat_map told xs ++ told x
+tells_more {T} told xs x = flat_map-append told xs (x ∷ []) ∙ ap (λ (l : List T). flat_map told xs ++ l) (flat_map-cons told x [] ∙ append-nil (told x))
+
 pub events_cons : (x : Entry) (xs : List Entry) → events_of (x ∷ xs) ≡ events_of_entry x ++ events_of xs
 events_cons x xs = flat_map-cons events_of_entry x xs
 
 pub events_append : (xs ys : List Entry) → events_of (xs ++ ys) ≡ events_of xs ++ events_of ys
-events_append [] ys = refl
-events_append (x ∷ xs) ys =
-    events_cons x (xs ++ ys) ∙ ap (λ (l : List Event). events_of_entry x ++ l) (events_append xs ys) ∙ sym (append_assoc (events_of_entry x) (events_of xs) (events_of ys))
-    ∙ ap (λ (l : List Event). l ++ events_of ys) (sym (events_cons x xs))
-
-events_one : (x : Entry) → events_of (x ∷ []) ≡ events_of_entry x
-events_one x = events_cons x [] ∙ append-nil (events_of_entry x)
+events_append = flat_map-append events_of_entry
 
 -- a head tells none
 pub events_head : (h : HeadParts) (xs : List Entry) → events_of (entry.Head h ∷ xs) ≡ events_of xs
@@ -82,13 +74,7 @@ pub notes_cons : (x : Entry) (xs : List Entry) → notes_of (x ∷ xs) ≡ notes
 notes_cons x xs = flat_map-cons notes_of_entry x xs
 
 pub notes_append : (xs ys : List Entry) → notes_of (xs ++ ys) ≡ notes_of xs ++ notes_of ys
-notes_append [] ys = refl
-notes_append (x ∷ xs) ys =
-    notes_cons x (xs ++ ys) ∙ ap (λ (l : List NoteParts). notes_of_entry x ++ l) (notes_append xs ys) ∙ sym (append_assoc (notes_of_entry x) (notes_of xs) (notes_of ys))
-    ∙ ap (λ (l : List NoteParts). l ++ notes_of ys) (sym (notes_cons x xs))
-
-notes_one : (x : Entry) → notes_of (x ∷ []) ≡ notes_of_entry x
-notes_one x = notes_cons x [] ∙ append-nil (notes_of_entry x)
+notes_append = flat_map-append notes_of_entry
 
 -- nor has a head a note
 pub notes_head : (h : HeadParts) (xs : List Entry) → notes_of (entry.Head h ∷ xs) ≡ notes_of xs
@@ -123,17 +109,13 @@ note_more list ns i n texts after text so_far within is spells after_is =
 
 -- ---- counters
 
-pub belong_append : (n : ℕ) (xs : List Entry) (y : Entry) → AllBelong n xs → Belongs (issued_after n (events_of xs)) y → AllBelong n (xs ++ y ∷ [])
-belong_append n [] y h k = (k, tt)
-belong_append n (x ∷ xs) y h k =
-    let same : issued_after n (events_of (x ∷ xs)) ≡ issued_after (issued_after n (events_of_entry x)) (events_of xs) = ap (issued_after n) (events_cons x xs) ∙ issued_append n (events_of_entry x) (events_of xs) in
-    (h.0, belong_append (issued_after n (events_of_entry x)) xs y h.1 (subst (λ (m : ℕ). Belongs m y) same k))
+-- how many versions are issued behind an entry and others
+pub issued_cons : (n : ℕ) (x : Entry) (xs : List Entry) → issued_after n (events_of (x ∷ xs)) ≡ issued_after (issued_after n (events_of_entry x)) (events_of xs)
+issued_cons n x xs = ap (issued_after n) (events_cons x xs) ∙ issued_append n (events_of_entry x) (events_of xs)
 
 pub all_belong : (n : ℕ) (xs ys : List Entry) → AllBelong n xs → AllBelong (issued_after n (events_of xs)) ys → AllBelong n (xs ++ ys)
 all_belong n [] ys h k = k
-all_belong n (x ∷ xs) ys h k =
-    let same : issued_after n (events_of (x ∷ xs)) ≡ issued_after (issued_after n (events_of_entry x)) (events_of xs) = ap (issued_after n) (events_cons x xs) ∙ issued_append n (events_of_entry x) (events_of xs) in
-    (h.0, all_belong (issued_after n (events_of_entry x)) xs ys h.1 (subst (λ (m : ℕ). AllBelong m ys) same k))
+all_belong n (x ∷ xs) ys h k = (h.0, all_belong (issued_after n (events_of_entry x)) xs ys h.1 (subst (λ (m : ℕ). AllBelong m ys) (issued_cons n x xs) k))
 
 -- ---- loops
 
@@ -147,22 +129,6 @@ pub record GatheredSoFar (texts : List (List ℕ)) (events : List Event) (issued
   pub issued_is : issued ≡ issued_after 0 events
   pub notes_told : notes ≡ notes_of list
 
-gathered_more : (texts : List (List ℕ)) (events after : List Event) (issued now : ℕ) (notes notes_after : List NoteParts) (e : Entry) (text : List ℕ) → GatheredSoFar texts events issued notes → Spells e text
-    → after ≡ events ++ events_of_entry e → now ≡ issued_after issued (events_of_entry e) → notes_after ≡ notes ++ notes_of_entry e → Belongs issued e → length after ≤ MAX_EVENTS + 1
-    → GatheredSoFar (texts ++ text ∷ []) after now notes_after
-gathered_more texts events after issued now notes notes_after e text so_far spells after_is now_is notes_is belongs few =
-    let told : events_of (so_far.list ++ e ∷ []) ≡ after =
-    events_append so_far.list (e ∷ []) ∙ ap (λ (l : List Event). l ++ events_of (e ∷ [])) so_far.events_told ∙ ap (λ (l : List Event). events ++ l) (events_one e) ∙ sym after_is in
-    record {
-      list = so_far.list ++ e ∷ [];
-      spelled = spelled_append so_far.list (e ∷ []) texts (text ∷ []) so_far.spelled (spelled_one e text spells.in_grammar spells.written);
-      belong = belong_append 0 so_far.list e so_far.belong (subst (λ (m : ℕ). Belongs m e) (so_far.issued_is ∙ ap (issued_after 0) (sym so_far.events_told)) belongs);
-      few = few;
-      events_told = told;
-      issued_is = now_is ∙ ap (λ (m : ℕ). issued_after m (events_of_entry e)) so_far.issued_is ∙ sym (issued_append 0 events (events_of_entry e)) ∙ ap (issued_after 0) (sym after_is);
-      notes_told = notes_is ∙ ap (λ (l : List NoteParts). l ++ notes_of_entry e) so_far.notes_told ∙ ap (λ (l : List NoteParts). notes_of so_far.list ++ l) (sym (notes_one e)) ∙ sym (notes_append so_far.list (e ∷ []));
-    }
-
 -- one entry more of those that are read
 pub gathered_next : (entries : List (Vec ℕ Global)) (i : ℕ) (bytes : Vec ℕ Global) (events after : List Event) (issued now : ℕ) (notes notes_after : List NoteParts) (e : Entry)
     → GatheredSoFar (contents (take i entries)) events issued notes → i < length entries → bytes ≡ get_or entries i bytes → Spells e bytes.items → after ≡ events ++ events_of_entry e
@@ -170,8 +136,15 @@ pub gathered_next : (entries : List (Vec ℕ Global)) (i : ℕ) (bytes : Vec ℕ
 gathered_next entries i bytes events after issued now notes notes_after e so_far within is spells after_is now_is notes_is belongs few =
     let run : take (i + 1) entries ≡ take i entries ++ bytes ∷ [] = take_more entries i bytes within ∙ ap (λ (y : Vec ℕ Global). take i entries ++ y ∷ []) (sym is) in
     let texts : contents (take i entries) ++ bytes.items ∷ [] ≡ contents (take (i + 1) entries) = sym (contents_append (take i entries) (bytes ∷ [])) ∙ ap contents (sym run) in
-    subst (λ (l : List (List ℕ)). GatheredSoFar l after now notes_after) texts
-    (gathered_more (contents (take i entries)) events after issued now notes notes_after e bytes.items so_far spells after_is now_is notes_is belongs few)
+    record {
+      list = so_far.list ++ e ∷ [];
+      spelled = subst (λ (l : List (List ℕ)). AreSpelled (so_far.list ++ e ∷ []) l) texts (spelled_append so_far.list (e ∷ []) (contents (take i entries)) (bytes.items ∷ []) so_far.spelled (spelled_one e bytes.items spells.in_grammar spells.written));
+      belong = all_belong 0 so_far.list (e ∷ []) so_far.belong (subst (λ (m : ℕ). Belongs m e) (so_far.issued_is ∙ ap (issued_after 0) (sym so_far.events_told)) belongs, tt);
+      few = few;
+      events_told = tells_more events_of_entry so_far.list e ∙ ap (λ (l : List Event). l ++ events_of_entry e) so_far.events_told ∙ sym after_is;
+      issued_is = now_is ∙ ap (λ (m : ℕ). issued_after m (events_of_entry e)) so_far.issued_is ∙ sym (issued_append 0 events (events_of_entry e)) ∙ ap (issued_after 0) (sym after_is);
+      notes_told = notes_is ∙ ap (λ (l : List NoteParts). l ++ notes_of_entry e) so_far.notes_told ∙ sym (tells_more notes_of_entry so_far.list e);
+    }
 
 -- a run of Nexts issues no version
 pub run_issues : (n stream count : ℕ) → issued_after n (replicate count (Next stream)) ≡ n

@@ -1,5 +1,5 @@
 -- a replica has issued as many versions as the events of its log issue
-use Rattle.std.proofs.Common.{◌≡◌, ℕ, Bool, true, false, List, [], ◌∷◌, Option, Some, None, refl, ap, ◌∙◌}
+use Rattle.std.proofs.Common.{◌≡◌, ℕ, Bool, true, false, List, [], ◌∷◌, Option, Some, None, ap, ◌∙◌}
 use Rattle.mr_filter.specs.Filter.{ClauseParts}
 use Rattle.mr_forms.specs.Known.{Form}
 use Rattle.mr_madewith.specs.Revision.{Rev}
@@ -23,17 +23,14 @@ use Rattle.mr_replica.proofs.Replies.{step_changes}
 use Rattle.mr_kept.specs.Entries.{counted, issued_after}
 
 module _ {K : Type 0} (form : Form K) where
-  same_issued : (s new made : State K) → new ≡ made → made.issued ≡ s.issued → new.issued ≡ s.issued
-  same_issued s new made is same = ap (λ (z : State K). z.issued) is ∙ same
-
   line_issues : (s : State K) (sent : Sent) (line : DescentParts) (comer : Option Rev) (told : Reply) (new : State K) → TakesLine form s sent line comer told new → new.issued ≡ s.issued
-  line_issues s sent line comer reply.Known new h = same_issued s new _ h.1 refl
-  line_issues s sent line comer reply.Took new h = same_issued s new _ h.2 refl
+  line_issues s sent line comer reply.Known new h = ap (λ (z : State K). z.issued) h.1
+  line_issues s sent line comer reply.Took new h = ap (λ (z : State K). z.issued) h.2
   line_issues s sent line comer told new h = absurd h
 
   end_issues : (s : State K) (sent : Sent) (session : Session) (full : Bool) (new : State K) → Ends form s sent session full new → new.issued ≡ s.issued
-  end_issues s sent session true new h = same_issued s new _ h.1 refl
-  end_issues s sent session false new h = same_issued s new _ h refl
+  end_issues s sent session true new h = ap (λ (z : State K). z.issued) h.1
+  end_issues s sent session false new h = ap (λ (z : State K). z.issued) h
 
   session_issues : (s : State K) (sent : Sent) (session : Option Session) (new : State K) → EndsSession form s sent session new → new.issued ≡ s.issued
   session_issues s sent None new h = absurd h
@@ -43,9 +40,9 @@ module _ {K : Type 0} (form : Form K) where
   body_issues s sent (body.Item r) told new h = line_issues s sent (line_of r) (entering s (body.Item r)) told new h
   body_issues s sent (body.MoveOut line) told new h = line_issues s sent line None told new h
   body_issues s sent body.End reply.Finished new h = session_issues s sent (session_for s sent) new h
-  body_issues s sent (body.Start mode) reply.Took new h = same_issued s new _ h refl
-  body_issues s sent (body.Held vector) reply.Took new h = same_issued s new _ h refl
-  body_issues s sent (body.Know piece) reply.Took new h = same_issued s new _ h refl
+  body_issues s sent (body.Start mode) reply.Took new h = ap (λ (z : State K). z.issued) h
+  body_issues s sent (body.Held vector) reply.Took new h = ap (λ (z : State K). z.issued) h
+  body_issues s sent (body.Know piece) reply.Took new h = ap (λ (z : State K). z.issued) h
   body_issues s sent b told new h = absurd h
 
   frame_issues : (s : State K) (f : Frame) (told : Reply) (new : State K) → TakesFrame form s f told new → new.issued ≡ s.issued
@@ -55,15 +52,15 @@ module _ {K : Type 0} (form : Form K) where
   change_issues : (s : State K) (event : Event) (told : Reply) (new : State K) → Changes form s event told new → new.issued ≡ counted s.issued event
   change_issues s (Create message) (reply.Issued v) new h = ap (λ (z : State K). z.issued) h.4
   change_issues s (Edit bases message) (reply.Issued v) new h = ap (λ (z : State K). z.issued) h.4
-  change_issues s Retire reply.Done new h = same_issued s new _ h refl
-  change_issues s Pull (reply.Asked question) new h = same_issued s new _ h.1 refl
+  change_issues s Retire reply.Done new h = ap (λ (z : State K). z.issued) h
+  change_issues s Pull (reply.Asked question) new h = ap (λ (z : State K). z.issued) h.1
   change_issues s (Receive f) told new h = frame_issues s f told new h
-  change_issues s (CutIn session) reply.Done new h = same_issued s new _ h refl
-  change_issues s (Answer question) (reply.Streaming stream) new h = same_issued s new _ h.3 refl
-  change_issues s (Next stream) (reply.Gave sent) new h = same_issued s new _ h.2 refl
-  change_issues s (CutOut stream) reply.Done new h = same_issued s new _ h refl
-  change_issues s (Vouch version) (reply.Vouched receipt) new h = same_issued s new _ h.1 refl
-  change_issues s (Release receipt) reply.Done new h = same_issued s new _ h refl
+  change_issues s (CutIn session) reply.Done new h = ap (λ (z : State K). z.issued) h
+  change_issues s (Answer question) (reply.Streaming stream) new h = ap (λ (z : State K). z.issued) h.3
+  change_issues s (Next stream) (reply.Gave sent) new h = ap (λ (z : State K). z.issued) h.2
+  change_issues s (CutOut stream) reply.Done new h = ap (λ (z : State K). z.issued) h
+  change_issues s (Vouch version) (reply.Vouched receipt) new h = ap (λ (z : State K). z.issued) h.1
+  change_issues s (Release receipt) reply.Done new h = ap (λ (z : State K). z.issued) h
   change_issues s event told new h = absurd h
 
   all_issue : (s new : State K) (events : List Event) → AdmitsAll form s events new → new.issued ≡ issued_after s.issued events

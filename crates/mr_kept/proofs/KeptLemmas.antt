@@ -4,13 +4,14 @@ use Rattle.std.specs.Prelude.{map, Vec}
 use Rattle.std.specs.declared.alloc.Global.{Global}
 use Rattle.std.proofs.Math.Seq.{take-length}
 use Rattle.std.proofs.lemmas.Bool.{le-leb, leb-true}
-use Rattle.std.proofs.lemmas.List.{take-append-drop, take-append-le, length-append, drop_min}
+use Rattle.std.proofs.lemmas.List.{take-append-drop, take-append-le, length-append, drop_min, map-append}
 use Rattle.mr_journal.specs.Device.{LeavesOnly}
 use Rattle.mr_journal.specs.Format.{Stands, contents}
 use Rattle.mr_journal.specs.Journal.{Keeps, device_of}
 use Rattle.mr_journal.proofs.Moments.{widened}
 use Rattle.mr_entry.specs.Head.{HeadParts}
 use Rattle.mr_entry.specs.Events.{events_of}
+use Rattle.mr_entry.specs.Grammar.{IsEntry}
 use Rattle.mr_entry.specs.Note.{NoteParts}
 use Rattle.mr_entry.specs.Spelling.{entry_bytes}
 use Rattle.mr_entry.specs.declared.entry.Entry.{Entry}
@@ -21,7 +22,7 @@ use Rattle.mr_journal.specs.declared.journal.Journal.{Journal}
 use Rattle.mr_kept.specs.declared.journaled.Journaled.{Journaled}
 use Rattle.mr_kept.specs.Entries.{AllBelong, AreSpelled, batch_entries, issued_after}
 use Rattle.mr_kept.specs.Kept.{AreHeaded, IsKept, entries_waiting, head_of, issued_of, journal_of, kept_of, notes_waiting, replica_of, waiting}
-use Rattle.mr_kept.proofs.EntryLemmas.{all_belong, all_spelled, bytes_append, events_append, events_head, issued_append}
+use Rattle.mr_kept.proofs.EntryLemmas.{all_append, all_belong, events_append, events_head, issued_append}
 use Rattle.mr_kept.proofs.RunLemmas.{batch_belongs, batch_tells}
 
 -- entries of events and notes behind those that are there
@@ -45,12 +46,12 @@ module _ {K D V : Type 0} {seen : D → List ℕ} {may_leave : D → List ℕ �
       let log : List Event = (replica_of old).log in
       let more : List Entry = entries_waiting old in
       let log_is : (replica_of new).log ≡ log = ap (λ (s : State K). s.log) replica in
-      let bytes : map entry_bytes entries ++ batch ≡ map entry_bytes (entries ++ more) = ap (λ (l : List (List ℕ)). map entry_bytes entries ++ l) spelled.written ∙ sym (bytes_append entries more) in
+      let bytes : map entry_bytes entries ++ batch ≡ map entry_bytes (entries ++ more) = ap (λ (l : List (List ℕ)). map entry_bytes entries ++ l) spelled.written ∙ sym (map-append entry_bytes entries more) in
       let told : events_of (entries ++ more) ≡ log =
       events_append entries more ∙ ap (λ (l : List Event). l ++ events_of more) h.events ∙ ap (λ (l : List Event). take (kept_of old) log ++ l) (batch_tells (issued_of old) (waiting old) (notes_waiting old)) ∙ take-append-drop (kept_of old) log in
       let all : take (kept_of new) (replica_of new).log ≡ log = ap (λ (n : ℕ). take n (replica_of new).log) kept ∙ ap (take (length log)) log_is ∙ take-length log in
       record {
-        in_grammar = all_spelled entries more h.in_grammar spelled.in_grammar;
+        in_grammar = all_append IsEntry entries more h.in_grammar spelled.in_grammar;
         order = headed_more (head_of old) (head_of new) entries (issued_of old) (waiting old) (notes_waiting old) head h.counted h.order;
         device = subst (λ (l : List (List ℕ)). Keeps seen may_leave l (journal_of new)) bytes keeps;
         within = le-leb (kept_of new) (length (replica_of new).log) (omega (arith, kept, ap length log_is));
@@ -93,9 +94,7 @@ module _ {K D V : Type 0} where
   pub spelled_waits : (old : Journaled K D V) (log : List Event) (n : ℕ) (notes : List NoteParts) (batch given : List (Vec ℕ Global)) → log ≡ (replica_of old).log → n ≡ min (kept_of old) (length log)
       → notes ≡ notes_waiting old → given ≡ batch → AreSpelled (batch_entries (issued_of old) (take (length log - n) (drop n log)) notes) (contents batch) → AreSpelled (entries_waiting old) (contents given)
   spelled_waits old log n notes batch given is place same_notes same spelled =
-      subst (λ (events : List Event). AreSpelled (batch_entries (issued_of old) events (notes_waiting old)) (contents given)) (waiting_is old log n is place)
-      (subst (λ (ns : List NoteParts). AreSpelled (batch_entries (issued_of old) (take (length log - n) (drop n log)) ns) (contents given)) same_notes
-      (subst (λ (texts : List (Vec ℕ Global)). AreSpelled (batch_entries (issued_of old) (take (length log - n) (drop n log)) notes) (contents texts)) (sym same) spelled))
+      subst (λ (l : List Entry). AreSpelled l (contents given)) (waits_are old log n notes is place same_notes) (rw same spelled)
 
 module _ {K D V : Type 0} {moment : D → ℕ} {left_since : D → ℕ → List ℕ → Type 0} where
   -- the batch is the entries of what waited
@@ -104,6 +103,6 @@ module _ {K D V : Type 0} {moment : D → ℕ} {left_since : D → ℕ → List 
       → LeavesOnly moment left_since before after (λ c. Stands (map entry_bytes entries) c ⊎ Stands (map entry_bytes (entries ++ entries_waiting old)) c)
   moments_all entries old batch before after spelled leaves =
       let more : List Entry = entries_waiting old in
-      let bytes : map entry_bytes entries ++ batch ≡ map entry_bytes (entries ++ more) = ap (λ (l : List (List ℕ)). map entry_bytes entries ++ l) spelled.written ∙ sym (bytes_append entries more) in
+      let bytes : map entry_bytes entries ++ batch ≡ map entry_bytes (entries ++ more) = ap (λ (l : List (List ℕ)). map entry_bytes entries ++ l) spelled.written ∙ sym (map-append entry_bytes entries more) in
       widened {P = λ c. Stands (map entry_bytes entries) c ⊎ Stands (map entry_bytes entries ++ batch) c} (λ c. Stands (map entry_bytes entries) c ⊎ Stands (map entry_bytes (entries ++ more)) c) leaves
       (λ c here. ⊎_elim (λ now. inl now) (λ all. inr (subst (λ (l : List (List ℕ)). Stands l c) bytes all)) here)

@@ -24,9 +24,10 @@ use Rattle.mr_kept.specs.Entries.{AreSpelled, notes_of}
 use Rattle.mr_kept.specs.Kept.{AreHeaded, IsKept, entries_waiting, head_of, issued_of, journal_of, kept_of, notes_waiting, replica_of, waiting}
 use Rattle.mr_kept.specs.Whole.{HasLog, IsOf}
 use Rattle.mr_kept.proofs.CloseLemmas.{same_setting, setting_on}
-use Rattle.mr_kept.proofs.EntryLemmas.{all_spelled, events_append, events_head, notes_append, notes_head}
+use Rattle.mr_kept.proofs.EntryLemmas.{all_append, events_append, events_head, notes_append, notes_head}
 use Rattle.mr_kept.proofs.RunLemmas.{batch_notes, batch_tells}
 use Rattle.mr_kept.proofs.KeptLemmas.{headed_more, stands_now}
+use Rattle.mr_kept.proofs.OpenLemmas.{all_setting}
 
 module _ {K : Type 0} (form : Form K) where
   -- what a beginning of the events leads to
@@ -36,11 +37,7 @@ module _ {K : Type 0} (form : Form K) where
     pub setting : IsOfSameSetting s mid
 
   reached : (s new : State K) (xs ys : List Event) → AdmitsAll form s (xs ++ ys) new → (mid : State K) × Reaches s xs mid × IsOfSameSetting mid new
-  reached s new [] ys h = (s, record { admits = refl; log_is = sym (append-nil s.log); setting = same_setting s }, all_same s new ys h)
-    where
-      all_same : (s new : State K) (events : List Event) → AdmitsAll form s events new → IsOfSameSetting s new
-      all_same s new [] h = subst (λ (z : State K). IsOfSameSetting s z) (sym h) (same_setting s)
-      all_same s new (event ∷ events) h = setting_on s h.0 new (step_setting form s h.0 event (Ok h.1.0) h.1.1) (all_same h.0 new events h.2)
+  reached s new [] ys h = (s, record { admits = refl; log_is = sym (append-nil s.log); setting = same_setting s }, all_setting form s new ys h)
   reached s new (x ∷ xs) ys h =
       let rest = reached h.0 new xs ys h.2 in
       let log = step_log form s h.0 x (Ok h.1.0) h.1.1 in (
@@ -78,9 +75,6 @@ module _ {K : Type 0} (form : Form K) where
         setting = way.2;
       }
 
-  setting_back : (s t : State K) → IsOfSameSetting s t → IsOfSameSetting t s
-  setting_back s t same = record { id = sym same.id; filter = sym same.filter; event_limit = sym same.event_limit }
-
   -- the head of a replica is that of each of its setting
   same_head : (head : HeadParts) (s t : State K) → IsOfSameSetting t s → IsOf head s → IsOf head t
   same_head head s t same is = record {
@@ -91,7 +85,7 @@ module _ {K : Type 0} (form : Form K) where
   }
 
   pub head_on : (head : HeadParts) (s t : State K) → IsOfSameSetting s t → IsOf head s → IsOf head t
-  head_on head s t same is = same_head head s t (setting_back s t same) is
+  head_on head s t same is = same_head head s t (record { id = sym same.id; filter = sym same.filter; event_limit = sym same.event_limit }) is
 
   -- entries that tell a beginning of a replica's log
   has_log : (head : HeadParts) (s : State K) (entries : List Entry) (left : List Event) (file : List ℕ) → IsOf head s → IsItsLog form s → s.log ≡ events_of entries ++ left → AllByRecursion IsEntry entries → AreHeaded head entries
@@ -134,7 +128,7 @@ module _ {K D V : Type 0} {seen : D → List ℕ} {may_leave : D → List ℕ �
       ⊎_elim
       (λ old. inl (has_log form (head_of j) (replica_of j) entries (waiting j) c of is before kept.in_grammar kept.order old))
       (λ all. inr (subst (λ (ns : List NoteParts). HasLog form c (head_of j) ns) told
-      (has_log form (head_of j) (replica_of j) (entries ++ more) [] c of is after (all_spelled entries more kept.in_grammar spelled.in_grammar) order all))) left
+      (has_log form (head_of j) (replica_of j) (entries ++ more) [] c of is after (all_append IsEntry entries more kept.in_grammar spelled.in_grammar) order all))) left
 
 module _ {K D V : Type 0} (form : Form K) where
   -- where no note waits, the notes are the same

@@ -1,9 +1,10 @@
 -- journals that are begun, opened and closed
-use Rattle.std.proofs.Common.{Ok, ◌≡◌, ◌⊎◌, inl, inr, ⊎_elim, ℕ, ◌==◌, Bool, true, false, List, [], ◌∷◌, ◌++◌, length, take, drop, refl, sym, ap, subst, ◌∙◌, arith, append-nil}
+use Rattle.std.proofs.Common.{Ok, ◌≡◌, ◌⊎◌, inl, inr, ⊎_elim, ℕ, ◌-◌, ◌≤◌, ◌==◌, Bool, true, false, List, [], ◌∷◌, ◌++◌, length, get_or, take, drop, refl, sym, ap, subst, ◌∙◌, arith, append-nil}
 use Rattle.std.specs.Prelude.{◌&&◌, MatchBool, nat_le, map, Vec}
 use Rattle.std.specs.declared.alloc.Global.{Global}
 use Rattle.std.specs.List.{AllByRecursion}
 use Rattle.std.proofs.Math.Seq.{take-length, drop-append_seam}
+use Rattle.std.proofs.lemmas.List.{map-append, nil_from_length}
 use Rattle.std.proofs.lemmas.Bool.{eqb-true, false≢true, le-leb, leb-true}
 use Rattle.mr_forms.specs.Known.{Form}
 use Rattle.mr_filter.specs.Filter.{ClauseParts}
@@ -32,40 +33,55 @@ use Rattle.mr_kept.specs.Kept.{IsKept, Tells, entries_waiting, head_of, issued_o
 use Rattle.mr_kept.specs.Opening.{Begins, GoesOn, HasCut, IsReplayed, Reopens}
 use Rattle.mr_kept.specs.inner.Opening.{IsClosedIn, IsRead}
 use Rattle.mr_kept.proofs.CloseLemmas.{same_setting, setting_on, taken_cuts}
-use Rattle.mr_kept.proofs.EntryLemmas.{bytes_append, events_head}
+use Rattle.mr_kept.proofs.EntryLemmas.{contents_first, events_head}
 use Rattle.mr_kept.proofs.IssuedLemmas.{replayed_issued}
 use Rattle.mr_kept.proofs.KeptLemmas.{kept_on, stands_now}
 
 -- ---- replayed
 
+-- the first of the texts is this head, whose text means this filter
+pub record IsHeaded (texts rest : List (List ℕ)) (head : HeadParts) (filter : List ClauseParts) : Type 0 where
+  pub text : List ℕ
+  pub first : texts ≡ text ∷ rest
+  pub spells : Spells (entry.Head head) text
+  pub reads : Reads head.filter filter
+
+pub is_headed : {head : HeadParts} {filter : List ClauseParts} (entries items : List (Vec ℕ Global)) (x : Vec ℕ Global) (bytes text : List ℕ) → items ≡ entries → 1 ≤ length items → x ≡ get_or items 0 x → bytes ≡ x.items
+    → Spells (entry.Head head) bytes → text ≡ head.filter → Reads text filter → IsHeaded (contents entries) (contents (take (length items - 1) (drop 1 items))) head filter
+is_headed {head} {filter} entries items x bytes text same some is bytes_is spells text_is reads = record {
+  text = x.items;
+  first = ap contents (sym same) ∙ contents_first items x some is;
+  spells = subst (λ (t : List ℕ). Spells (entry.Head head) t) bytes_is spells;
+  reads = subst (λ (t : List ℕ). Reads t filter) text_is reads;
+}
+
 module _ {K : Type 0} (form : Form K) where
-  all_setting : (s new : State K) (events : List Event) → AdmitsAll form s events new → IsOfSameSetting s new
+  pub all_setting : (s new : State K) (events : List Event) → AdmitsAll form s events new → IsOfSameSetting s new
   all_setting s new [] h = subst (λ (z : State K). IsOfSameSetting s z) (sym h) (same_setting s)
   all_setting s new (event ∷ events) h = setting_on s h.0 new (step_setting form s h.0 event (Ok h.1.0) h.1.1) (all_setting h.0 new events h.2)
 
-  -- a replica that was replayed is of the id, the filter and the limit that it was replayed with
-  pub replayed_setting : (id : ℕ) (filter : List ClauseParts) (event_limit : ℕ) (events : List Event) (s : State K) → Replays form id filter event_limit events s → (s.id ≡ id) × (s.event_limit ≡ event_limit)
+  -- a replica that was replayed is of the id, the limit and the filter that it was replayed with
+  pub replayed_setting : (id : ℕ) (filter : List ClauseParts) (event_limit : ℕ) (events : List Event) (s : State K) → Replays form id filter event_limit events s → (s.id ≡ id) × (s.event_limit ≡ event_limit) × (s.filter ≡ filter)
   replayed_setting id filter event_limit events s h =
       let same = all_setting h.fresh s events h.admits in
       let fresh = h.is_fresh.is_empty in
-      (same.id ∙ ap (λ (z : State K). z.id) fresh, same.event_limit ∙ ap (λ (z : State K). z.event_limit) fresh)
-
-  replayed_filter : (id : ℕ) (filter : List ClauseParts) (event_limit : ℕ) (events : List Event) (s : State K) → Replays form id filter event_limit events s → s.filter ≡ filter
-  replayed_filter id filter event_limit events s h =
-      let same = all_setting h.fresh s events h.admits in
-      same.filter ∙ ap (λ (z : State K). z.filter) h.is_fresh.is_empty
+      (same.id ∙ ap (λ (z : State K). z.id) fresh, same.event_limit ∙ ap (λ (z : State K). z.event_limit) fresh, same.filter ∙ ap (λ (z : State K). z.filter) fresh)
 
   -- a head and what was gathered behind it
-  pub is_replayed : (entries rest : List (Vec ℕ Global)) (first : Vec ℕ Global) (head : HeadParts) (list : List Entry) (filter : List ClauseParts) (events : List Event) (kept issued : ℕ) (notes : List NoteParts) (s : State K)
-      → contents entries ≡ first.items ∷ contents rest → Spells (entry.Head head) first.items → AreSpelled list (contents rest) → AreInOrder list → events_of list ≡ events → issued ≡ issued_after 0 events → notes ≡ notes_of list
-      → Reads head.filter filter → kept ≡ length events → Replays form head.id filter head.event_limit events s → s.log ≡ events → IsReplayed form (contents entries) head s kept issued notes
-  is_replayed entries rest first head list filter events kept issued notes s texts spells spelled order told issued_is notes_is reads kept_is replays log =
-      let same : s.filter ≡ filter = replayed_filter head.id filter head.event_limit events s replays in
+  pub is_replayed : {texts rest : List (List ℕ)} {head : HeadParts} {filter : List ClauseParts} → IsHeaded texts rest head filter → (list : List Entry) (events : List Event) (id limit kept issued : ℕ) (notes : List NoteParts) (s : State K)
+      → AreSpelled list rest → AreInOrder list → events_of list ≡ events → issued ≡ issued_after 0 events → notes ≡ notes_of list → kept ≡ length events → id ≡ head.id → limit ≡ head.event_limit → Replays form id filter limit events s
+      → s.log ≡ events → IsReplayed form texts head s kept issued notes
+  is_replayed {texts} {rest} {head} {filter} headed list events id limit kept issued notes s spelled order told issued_is notes_is kept_is id_is limit_is as_given log =
+      let replays = subst (λ (n : ℕ). Replays form n filter head.event_limit events s) id_is (subst (λ (n : ℕ). Replays form id filter n events s) limit_is as_given) in
+      let same : s.filter ≡ filter = (replayed_setting head.id filter head.event_limit events s replays).2 in
       record {
         entries = list;
-        spelled = record { in_grammar = (spells.in_grammar, spelled.in_grammar); written = texts ∙ ap (λ (t : List ℕ). t ∷ contents rest) spells.written ∙ ap (λ (l : List (List ℕ)). entry_bytes (entry.Head head) ∷ l) spelled.written };
+        spelled = record {
+          in_grammar = (headed.spells.in_grammar, spelled.in_grammar);
+          written = headed.first ∙ ap (λ (t : List ℕ). t ∷ rest) headed.spells.written ∙ ap (λ (l : List (List ℕ)). entry_bytes (entry.Head head) ∷ l) spelled.written;
+        };
         order = order;
-        filter = subst (λ (f : List ClauseParts). Reads head.filter f) (sym same) reads;
+        filter = subst (λ (f : List ClauseParts). Reads head.filter f) (sym same) headed.reads;
         replays = subst (λ (f : List ClauseParts). Replays form head.id f head.event_limit (events_of list) s) (sym same) (subst (λ (l : List Event). Replays form head.id filter head.event_limit l s) (sym told) replays);
         log_is = log ∙ sym told;
         kept_is = kept_is ∙ ap length (sym told);
@@ -86,10 +102,6 @@ both_held : (a b : Bool) → (a && b) ≡ true → (a ≡ true) × (b ≡ true)
 both_held true b h = (refl, h)
 both_held false b h = absurd (false≢true h)
 
-empty : {A : Type 0} (l : List A) → length l ≡ 0 → l ≡ []
-empty [] none = refl
-empty (x ∷ xs) none = absurd (omega (arith, none))
-
 module _ {K D V : Type 0} where
   -- all is kept
   pub none_waits : (j : Journaled K D V) → length (replica_of j).log ≡ kept_of j → notes_waiting j ≡ [] → nothing_waits j ≡ true
@@ -97,16 +109,11 @@ module _ {K D V : Type 0} where
 
   -- no note waits
   pub no_note_waits : (j : Journaled K D V) → nothing_waits j ≡ true → notes_waiting j ≡ []
-  no_note_waits j none = empty (notes_waiting j) (eqb-true (length (notes_waiting j)) 0 (both_held (nat_le (length (replica_of j).log) (kept_of j)) _ none).1)
+  no_note_waits j none = nil_from_length (notes_waiting j) (eqb-true (length (notes_waiting j)) 0 (both_held (nat_le (length (replica_of j).log) (kept_of j)) _ none).1)
 
   -- then what waits are the events
   no_note_more : (j : Journaled K D V) → notes_waiting j ≡ [] → entries_waiting j ≡ entries_of (issued_of j) (waiting j)
   no_note_more j none = ap (batch_entries (issued_of j) (waiting j)) none ∙ append-nil (entries_of (issued_of j) (waiting j))
-
-  -- what waits once all was kept
-  waits_more : (old mid : Journaled K D V) (more : List Event) → kept_of old ≡ length (replica_of old).log → kept_of mid ≡ kept_of old → (replica_of mid).log ≡ (replica_of old).log ++ more → waiting mid ≡ more
-  waits_more old mid more whole kept log =
-      ap (λ (n : ℕ). drop n (replica_of mid).log) (kept ∙ whole) ∙ ap (drop (length (replica_of old).log)) log ∙ drop-append_seam (replica_of old).log more
 
 module _ {K D V : Type 0} {seen : D → List ℕ} {may_leave : D → List ℕ → Type 0} where
   all_kept : (entries : List Entry) (j : Journaled K D V) → IsKept seen may_leave entries j → nothing_waits j ≡ true → kept_of j ≡ length (replica_of j).log
@@ -146,17 +153,21 @@ module _ {K D V : Type 0} {seen : D → List ℕ} {may_leave : D → List ℕ �
   -- ---- what closes
 
   -- before what closes is kept
-  pub kept_mid : (entries : List Entry) (old mid : Journaled K D V) (all : Bool) → IsKept seen may_leave entries old → journal_of mid ≡ journal_of old → head_of mid ≡ head_of old → kept_of mid ≡ kept_of old → issued_of mid ≡ issued_of old
-      → Takes (closers (replica_of old)) all (replica_of old) (replica_of mid) → IsKept seen may_leave entries mid
-  kept_mid entries old mid all h journal head kept issued takes = kept_on entries old mid takes.more h journal head kept issued takes.log_is
+  pub kept_mid : (entries : List Entry) (old : Journaled K D V) (s : State K) (all : Bool) → IsKept seen may_leave entries old → Takes (closers (replica_of old)) all (replica_of old) s → IsKept seen may_leave entries (record old { replica = s })
+  kept_mid entries old s all h takes = kept_on entries old (record old { replica = s }) takes.more h refl refl refl refl takes.log_is
+
+  -- that is what waits, where nothing waited
+  closers_wait : (entries : List Entry) (old : Journaled K D V) (s : State K) (all : Bool) → IsKept seen may_leave entries old → nothing_waits old ≡ true → (takes : Takes (closers (replica_of old)) all (replica_of old) s)
+      → entries_waiting (record old { replica = s }) ≡ entries_of (issued_of old) takes.more
+  closers_wait entries old s all h none takes =
+      let log : List Event = (replica_of old).log in
+      let waits : drop (kept_of old) s.log ≡ takes.more = ap (λ (n : ℕ). drop n s.log) (all_kept entries old h none) ∙ ap (drop (length log)) takes.log_is ∙ drop-append_seam log takes.more in
+      no_note_more (record old { replica = s }) (no_note_waits old none) ∙ ap (entries_of (issued_of old)) waits
 
   -- and once it is
-  pub closed_in : (entries : List Entry) (old mid new : Journaled K D V) (all : Bool) → IsKept seen may_leave entries old → nothing_waits old ≡ true → kept_of mid ≡ kept_of old → issued_of mid ≡ issued_of old
-      → Takes (closers (replica_of old)) all (replica_of old) (replica_of mid) → notes_waiting mid ≡ notes_waiting old → replica_of new ≡ replica_of mid → IsKept seen may_leave (entries ++ entries_waiting mid) new → IsClosedIn seen may_leave entries all old new
-  closed_in entries old mid new all h none kept issued takes notes replica after =
-      let waits : waiting mid ≡ takes.more = waits_more old mid takes.more (all_kept entries old h none) kept takes.log_is in
-      let same : entries_waiting mid ≡ entries_of (issued_of old) takes.more =
-      no_note_more mid (notes ∙ no_note_waits old none) ∙ ap (entries_of (issued_of mid)) waits ∙ ap (λ (n : ℕ). entries_of n takes.more) issued in
+  pub closed_in : (entries : List Entry) (old : Journaled K D V) (s : State K) (new : Journaled K D V) (all : Bool) → IsKept seen may_leave entries old → nothing_waits old ≡ true → Takes (closers (replica_of old)) all (replica_of old) s
+      → replica_of new ≡ s → IsKept seen may_leave (entries ++ entries_waiting (record old { replica = s })) new → IsClosedIn seen may_leave entries all old new
+  closed_in entries old s new all h none takes replica after =
       let on = subst (λ (s : State K). IsOfSameSetting (replica_of old) s) (sym replica) takes.setting in
       record {
         closed = record {
@@ -167,7 +178,7 @@ module _ {K D V : Type 0} {seen : D → List ℕ} {may_leave : D → List ℕ �
           setting = on;
           rest = subst (λ (s : State K). MatchBool all (takes.left ≡ []) (IsFull s)) (sym replica) takes.rest;
         };
-        kept = subst (λ (l : List Entry). IsKept seen may_leave (entries ++ l) new) same after;
+        kept = subst (λ (l : List Entry). IsKept seen may_leave (entries ++ l) new) (closers_wait entries old s all h none takes) after;
       }
 
   -- ---- what a crash leaves
@@ -179,44 +190,45 @@ module _ {K D V : Type 0} {seen : D → List ℕ} {may_leave : D → List ℕ �
 pub cut_left : (entries : List Entry) (issued : ℕ) (events : List Event) (c : List ℕ) → AllByRecursion IsCut events → Stands (map entry_bytes entries) c ⊎ Stands (map entry_bytes (entries ++ entries_of issued events)) c → HasCut (map entry_bytes entries) c
 cut_left entries issued events c cuts here = ⊎_elim
     (λ now. record { issued = 0; events = []; cuts = tt; stands = subst (λ (l : List (List ℕ)). Stands l c) (sym (append-nil (map entry_bytes entries))) now })
-    (λ all. record { issued = issued; events = events; cuts = cuts; stands = subst (λ (l : List (List ℕ)). Stands l c) (bytes_append entries (entries_of issued events)) all }) here
+    (λ all. record { issued = issued; events = events; cuts = cuts; stands = subst (λ (l : List (List ℕ)). Stands l c) (map-append entry_bytes entries (entries_of issued events)) all }) here
 
 pub goes_on : (file c : List ℕ) → StandAlike file c → GoesOn file c
 goes_on file c same = (same.0, same.1, record { issued = 0; events = []; cuts = tt; stands = subst (λ (l : List (List ℕ)). Stands l c) (sym (append-nil same.0)) same.2 })
 
 module _ {K D V : Type 0} {seen : D → List ℕ} {may_leave : D → List ℕ → Type 0} {moment : D → ℕ} {left_since : D → ℕ → List ℕ → Type 0} where
   -- over the commit of what closes
-  pub moments_close : (entries : List Entry) (old mid : Journaled K D V) (all : Bool) (before after : D) → IsKept seen may_leave entries old → nothing_waits old ≡ true → kept_of mid ≡ kept_of old
-      → Takes (closers (replica_of old)) all (replica_of old) (replica_of mid)
-      → notes_waiting mid ≡ notes_waiting old → LeavesOnly moment left_since before after (λ c. Stands (map entry_bytes entries) c ⊎ Stands (map entry_bytes (entries ++ entries_waiting mid)) c)
+  pub moments_close : (entries : List Entry) (old : Journaled K D V) (s : State K) (all : Bool) (before after : D) → IsKept seen may_leave entries old → nothing_waits old ≡ true → Takes (closers (replica_of old)) all (replica_of old) s
+      → LeavesOnly moment left_since before after (λ c. Stands (map entry_bytes entries) c ⊎ Stands (map entry_bytes (entries ++ entries_waiting (record old { replica = s }))) c)
       → LeavesOnly moment left_since before after (HasCut (map entry_bytes entries))
-  moments_close entries old mid all before after h none kept takes notes leaves =
-      let waits : waiting mid ≡ takes.more = waits_more old mid takes.more (all_kept entries old h none) kept takes.log_is in
-      let cuts : AllByRecursion IsCut (waiting mid) = subst (λ (l : List Event). AllByRecursion IsCut l) (sym waits) (taken_cuts (replica_of old) (replica_of old) (replica_of mid) all takes) in
-      let same : entries_waiting mid ≡ entries_of (issued_of mid) (waiting mid) = no_note_more mid (notes ∙ no_note_waits old none) in
+  moments_close entries old s all before after h none takes leaves =
+      let mid : Journaled K D V = record old { replica = s } in
       widened {P = λ c. Stands (map entry_bytes entries) c ⊎ Stands (map entry_bytes (entries ++ entries_waiting mid)) c} (HasCut (map entry_bytes entries)) leaves
-      (λ c here. cut_left entries (issued_of mid) (waiting mid) c cuts (subst (λ (l : List Entry). Stands (map entry_bytes entries) c ⊎ Stands (map entry_bytes (entries ++ l)) c) same here))
+      (λ c here. cut_left entries (issued_of old) takes.more c (taken_cuts (replica_of old) s all takes)
+      (subst (λ (l : List Entry). Stands (map entry_bytes entries) c ⊎ Stands (map entry_bytes (entries ++ l)) c) (closers_wait entries old s all h none takes) here))
 
 -- ---- begun
 
-pub begins : (file c : List ℕ) (texts batch : List (List ℕ)) (head : HeadParts) → texts ≡ [] → batch ≡ entry_bytes (entry.Head head) ∷ [] → Stands texts file → Stands texts c ⊎ Stands (texts ++ batch) c → StandAlike file c ⊎ Begins file c
-begins file c texts batch head none batch_is stood left = ⊎_elim
-    (λ now. inl (texts, stood, now))
-    (λ all. inr (head, subst (λ (l : List (List ℕ)). Stands l file) none stood, subst (λ (l : List (List ℕ)). Stands l c) (ap (λ (l : List (List ℕ)). l ++ batch) none ∙ batch_is) all)) left
-
--- no entries have no texts
-no_texts : (l : List (Vec ℕ Global)) → length l ≡ 0 → contents l ≡ []
-no_texts [] none = refl
-no_texts (x ∷ xs) none = absurd (omega (arith, none))
-
-pub empty_texts : (l : List (Vec ℕ Global)) (b : Bool) → b ≡ (length l == 0) → b ≡ true → contents l ≡ []
-empty_texts l b is so = no_texts l (eqb-true (length l) 0 (sym is ∙ so))
-
-pub as_begun : {A B C : Type 0} → A ⊎ B → A ⊎ (B ⊎ C)
-as_begun here = ⊎_elim (λ a. inl a) (λ b. inr (inl b)) here
-
 pub as_going : {A B C : Type 0} → (B → C) → A ⊎ B → A ⊎ C
 as_going from here = ⊎_elim (λ a. inl a) (λ b. inr (from b)) here
+
+module _ {D : Type 0} {moment : D → ℕ} {left_since : D → ℕ → List ℕ → Type 0} (may_leave : D → List ℕ → Type 0) (file : List ℕ) (before : D) where
+  -- over an opening of the journal alone
+  pub moments_begun : (after : D) → LeavesOnly moment left_since before after (λ c. may_leave before c ⊎ StandAlike file c) → LeavesOnly moment left_since before after (λ c. may_leave before c ⊎ (StandAlike file c ⊎ Begins file c))
+  moments_begun after leaves =
+      widened {P = λ c. may_leave before c ⊎ StandAlike file c} (λ c. may_leave before c ⊎ (StandAlike file c ⊎ Begins file c)) leaves (λ c here. as_going (λ (same : StandAlike file c). inl same) here)
+
+  -- and over the commit of a head
+  pub moments_head : (mid after : D) (texts batch : List (List ℕ)) (head : HeadParts) → texts ≡ [] → batch ≡ entry_bytes (entry.Head head) ∷ [] → Stands texts file → LeavesOnly moment left_since before mid (λ c. may_leave before c ⊎ StandAlike file c)
+      → LeavesOnly moment left_since mid after (λ c. Stands texts c ⊎ Stands (texts ++ batch) c) → LeavesOnly moment left_since before after (λ c. may_leave before c ⊎ (StandAlike file c ⊎ Begins file c))
+  moments_head mid after texts batch head none batch_is stood first second =
+      joined (moments_begun mid first)
+      (widened {P = λ c. Stands texts c ⊎ Stands (texts ++ batch) c} (λ c. may_leave before c ⊎ (StandAlike file c ⊎ Begins file c)) second (λ c left. inr (⊎_elim
+      (λ now. inl (texts, stood, now))
+      (λ all. inr (head, subst (λ (l : List (List ℕ)). Stands l file) none stood, subst (λ (l : List (List ℕ)). Stands l c) (ap (λ (l : List (List ℕ)). l ++ batch) none ∙ batch_is) all)) left)))
+
+-- no entries have no texts
+pub empty_texts : (l : List (Vec ℕ Global)) (b : Bool) → b ≡ (length l == 0) → b ≡ true → contents l ≡ []
+empty_texts l b is so = ap contents (nil_from_length l (eqb-true (length l) 0 (sym is ∙ so)))
 
 -- the entries from before, and behind them what closes
 pub goes_cut : (file c : List ℕ) (texts : List (List ℕ)) (entries : List Entry) → texts ≡ map entry_bytes entries → Stands texts file → HasCut (map entry_bytes entries) c → GoesOn file c

@@ -1,5 +1,5 @@
 -- what is wrong with bytes that are no entry, or no entry that belongs where it stands
-use Rattle.std.proofs.Common.{◌≡◌, ◌⊎◌, Result, Err, refl, ℕ, ◌+◌, ◌<◌, ◌≤◌, List, ◌∷◌, ◌++◌, length, take, drop, get_or, arith, sym, ap, subst, ◌∙◌, length-drop}
+use Rattle.std.proofs.Common.{◌≡◌, inr, Result, Err, refl, ℕ, ◌+◌, ◌<◌, ◌≤◌, List, ◌∷◌, ◌++◌, length, take, drop, get_or, arith, sym, ap, subst, ◌∙◌, length-drop}
 use Rattle.std.proofs.lemmas.List.{drop_more, length-map, length-take-le, take-append-drop}
 use Rattle.std.specs.Prelude.{◌≢◌, Option, Vec}
 use Rattle.std.specs.declared.alloc.Global.{Global}
@@ -15,15 +15,15 @@ use Rattle.mr_entry.specs.Head.{HeadParts}
 use Rattle.mr_entry.specs.Note.{NoteParts}
 use Rattle.mr_entry.specs.Spelling.{entry_bytes}
 use Rattle.mr_entry.specs.declared.entry.Entry.{Entry}
-use Rattle.mr_entry.specs.declared.entry.Entry.TheVariants as entry
 use Rattle.mr_replica.specs.declared.event.Event.{Event}
 use Rattle.mr_replica.specs.declared.replica.TheConstants.{MAX_EVENTS}
 use Rattle.mr_kept.specs.declared.fault.OpenFault.{OpenFault}
 use Rattle.mr_kept.specs.declared.fault.OpenFault.TheVariants as fault
 use Rattle.mr_kept.specs.Entries.{issued_after}
-use Rattle.mr_kept.specs.Opening.{IsOfOther, IsOfPlace}
-use Rattle.mr_kept.specs.Refusing.{IsBehindHead, IsLonger, IsNoHead, IsNoReplay, IsRefused, IsWrong, StopsAt}
+use Rattle.mr_kept.specs.Opening.{IsOfPlace}
+use Rattle.mr_kept.specs.Refusing.{IsLonger, IsNoLog, IsNoReplay, IsRefused, IsWrong, StopsAt}
 use Rattle.mr_kept.proofs.EntryLemmas.{GatheredSoFar, contents_append}
+use Rattle.mr_kept.proofs.OpenLemmas.{IsHeaded}
 
 -- what was read is only the front of the bytes
 pub is_longer : (bytes : List ℕ) (found : Entry) (used : ℕ) → Spells found (take used bytes) → used ≤ length bytes → used ≢ length bytes → IsLonger bytes
@@ -62,13 +62,13 @@ stops_at entries i place bytes events issued notes why so_far within is place_is
           (so_far.issued_is ∙ ap (issued_after 0) (sym so_far.events_told)) (ap length (sym so_far.events_told)) wrong;
     }
 
--- what is refused is refused for the first text, or behind it
-pub refused_at : {K : Type 0} (form : Form K) (texts rest : List (List ℕ)) (text mark : List ℕ) (birth : Option (List ℕ)) (why : OpenFault) → texts ≡ text ∷ rest
-    → IsNoHead text why ⊎ ((head : HeadParts) × Spells (entry.Head head) text × (IsOfOther head mark birth why ⊎ (IsOfPlace head mark birth × IsBehindHead form head rest why))) → IsRefused form texts mark birth why
-refused_at form texts rest text mark birth why is h = subst (λ (l : List (List ℕ)). IsRefused form l mark birth why) (sym is) h
-
--- why the events make no replica
 module _ {K : Type 0} (form : Form K) where
+  -- what is refused behind a head and its filter
+  pub refused_log : {texts rest : List (List ℕ)} {head : HeadParts} {filter : List ClauseParts} → IsHeaded texts rest head filter → (mark : List ℕ) (birth : Option (List ℕ)) (why : OpenFault) → IsOfPlace head mark birth → IsNoLog form head filter rest why
+      → IsRefused form texts mark birth why
+  refused_log {head = head} {filter} headed mark birth why place wrong = subst (λ (l : List (List ℕ)). IsRefused form l mark birth why) (sym headed.first) (inr (head, headed.spells, inr (place, inr (filter, headed.reads, wrong))))
+
+  -- why the events make no replica
   pub no_replay : {S : Type 0} (head : HeadParts) (filter : List ClauseParts) (events given : List Event) (id limit : ℕ) (why : ReplayFault) → id ≡ head.id → limit ≡ head.event_limit → events ≡ given
       → (◌≡◌ {A = Result S ReplayFault} (Err why) (Err replay.BadLimit) → ¬ ((1 ≤ limit) × (limit ≤ MAX_EVENTS))) → IsReplayFault form id filter limit given why → IsNoReplay form head filter events (fault.Replay why)
   no_replay head filter events given id limit replay.BadLimit id_is limit_is same bad h = subst (λ (n : ℕ). ¬ ((1 ≤ n) × (n ≤ MAX_EVENTS))) limit_is (bad refl)

@@ -30,6 +30,7 @@ use Rattle.mr_kept.specs.Entries.{AreSpelled, batch_entries, counted, entries_of
 use Rattle.mr_kept.specs.inner.Entries.{AreSoFar, HasNoEntry, IsOfEntries, IsOfEvent, run_of}
 use Rattle.mr_kept.specs.Fault.{kept_fault_of, kept_fault_of_entry}
 use Rattle.mr_kept.specs.Kept.{entries_waiting, journal_of}
+use Rattle.mr_kept.proofs.EntryLemmas.{all_split}
 use Rattle.mr_kept.proofs.RunLemmas.{an_entry, begins_none, one_run, run_ends}
 
 -- ---- faults
@@ -43,14 +44,6 @@ ok_no_err : {T E : Type 0} (r : Result T E) (v : T) (x : E) → r ≡ Ok v → r
 ok_no_err r v x is other = cc
 
 -- ---- entries that are none
-
-all_back : (P : Entry → Type 0) (xs ys : List Entry) → AllByRecursion P (xs ++ ys) → AllByRecursion P ys
-all_back P [] ys h = h
-all_back P (x ∷ xs) ys h = all_back P xs ys h.1
-
-all_front : (P : Entry → Type 0) (xs ys : List Entry) → AllByRecursion P (xs ++ ys) → AllByRecursion P xs
-all_front P [] ys h = tt
-all_front P (x ∷ xs) ys h = (h.0, all_front P xs ys h.1)
 
 -- a run of more than so many Nexts stands first
 pub record BeginsRun (s k : ℕ) (list : List Entry) : Type 0 where
@@ -92,7 +85,7 @@ run_over n events texts now s k later so_far many all =
     let at : entries_of n (events ++ Next s ∷ later) ≡ so_far.list ++ entries_of now (replicate (suc k) (Next s) ++ later) =
     so_far.all (Next s ∷ later) ∙ ap (λ (l : List Event). so_far.list ++ entries_of now l) grown in
     no_long_run s k (entries_of now (replicate (suc k) (Next s) ++ later)) many (run_first now s k later)
-    (all_back IsEntry so_far.list (entries_of now (replicate (suc k) (Next s) ++ later)) (subst (λ (l : List Entry). AllByRecursion IsEntry l) at all))
+    (all_split IsEntry so_far.list (entries_of now (replicate (suc k) (Next s) ++ later)) (subst (λ (l : List Entry). AllByRecursion IsEntry l) at all)).1
 
 other_over : (n : ℕ) (events : List Event) (texts : List (List ℕ)) (now s k : ℕ) (e : Event) (later : List Event) → ((u : ℕ) → e ≢ Next u) → AreSoFar n events texts now s k → (IsEntry (entry.Event (counted now e) e) → ⊥)
     → AllByRecursion IsEntry (entries_of n (events ++ e ∷ later)) → ⊥
@@ -100,7 +93,7 @@ other_over n events texts now s k e later other so_far none all =
     let behind : List Entry = entry.Event (counted now e) e ∷ entries_of (counted now e) later in
     let at : entries_of n (events ++ e ∷ later) ≡ so_far.list ++ (run_of s k ++ behind) =
     so_far.all (e ∷ later) ∙ ap (λ (l : List Entry). so_far.list ++ l) (run_ends now s k (e ∷ later) (begins_none now s e later other) ∙ ap (λ (l : List Entry). run_of s k ++ l) (an_entry now e later other)) in
-    none (all_back IsEntry (run_of s k) behind (all_back IsEntry so_far.list (run_of s k ++ behind) (subst (λ (l : List Entry). AllByRecursion IsEntry l) at all))).0
+    none (all_split IsEntry (run_of s k) behind (all_split IsEntry so_far.list (run_of s k ++ behind) (subst (λ (l : List Entry). AllByRecursion IsEntry l) at all)).1).1.0
 
 over : (n : ℕ) (events : List Event) (texts : List (List ℕ)) (now s k : ℕ) (e : Event) (later : List Event) → AreSoFar n events texts now s k → HasNoEntry now s k e → AllByRecursion IsEntry (entries_of n (events ++ e ∷ later)) → ⊥
 over n events texts now s k (Next u) later so_far h all =
@@ -114,9 +107,7 @@ event_over n events i e texts now s k kept.TooLarge within is so_far h = λ all.
     let split : events ≡ take i events ++ e ∷ drop (suc i) events =
     sym (take-append-drop i events) ∙ ap (λ (l : List Event). take i events ++ l) (drop-cons events i e within ∙ ap (λ (x : Event). x ∷ drop (suc i) events) (sym is)) in
     over n (take i events) texts now s k e (drop (suc i) events) so_far h (subst (λ (l : List Event). AllByRecursion IsEntry (entries_of n l)) split all)
-event_over n events i e texts now s k kept.OutOfMemory within is so_far h = tt
-event_over n events i e texts now s k kept.Failed within is so_far h = h
-event_over n events i e texts now s k (kept.Refused r) within is so_far h = h
+event_over n events i e texts now s k fault within is so_far h = h
 
 -- memory is wanting
 pub of_memory : (entries : List Entry) (fault : KeptFault) → fault ≡ kept.OutOfMemory → IsOfEntries entries fault
@@ -139,30 +130,19 @@ count_over now s k e other many = none_over now s k (counted now e) e other refl
 pub event_fault : (now s k count : ℕ) (e : Event) (fault : EntryFault) → ((u : ℕ) → e ≢ Next u) → count ≡ counted now e → Encodes (entry.Event count e) (Err fault) → IsOfEvent now s k e (kept_fault_of_entry fault)
 event_fault now s k count e spelling.OutOfMemory other same h = tt
 event_fault now s k count e spelling.TooLong other same h = none_over now s k count e other same (λ is. omega (arith, h, is.1.few))
-event_fault now s k count e spelling.Truncated other same h = absurd h
-event_fault now s k count e spelling.BadKind other same h = absurd h
-event_fault now s k count e (spelling.OtherFormat f) other same h = absurd h
-event_fault now s k count e spelling.BadBody other same h = absurd h
-event_fault now s k count e (spelling.BadEvent f) other same h = absurd h
+event_fault now s k count e fault other same h = absurd h
 
 -- the entry of a run is never too long
 pub run_fault : (s k : ℕ) (fault : EntryFault) → Encodes (entry.Nexts s k) (Err fault) → kept_fault_of_entry fault ≡ kept.OutOfMemory
 run_fault s k spelling.OutOfMemory h = refl
-run_fault s k spelling.TooLong h = absurd h
-run_fault s k spelling.Truncated h = absurd h
-run_fault s k spelling.BadKind h = absurd h
-run_fault s k (spelling.OtherFormat f) h = absurd h
-run_fault s k spelling.BadBody h = absurd h
-run_fault s k (spelling.BadEvent f) h = absurd h
+run_fault s k fault h = absurd h
 
 -- ---- notes
 
 -- the events alone can't be spelled
 pub events_fault : (n : ℕ) (events : List Event) (ns : List NoteParts) (fault : KeptFault) → IsOfEntries (entries_of n events) fault → IsOfEntries (batch_entries n events ns) fault
-events_fault n events ns kept.TooLarge h = λ all. h (all_front IsEntry (entries_of n events) (map entry.Note ns) all)
-events_fault n events ns kept.OutOfMemory h = h
-events_fault n events ns kept.Failed h = h
-events_fault n events ns (kept.Refused r) h = h
+events_fault n events ns kept.TooLarge h = λ all. h (all_split IsEntry (entries_of n events) (map entry.Note ns) all).0
+events_fault n events ns fault h = h
 
 no_note : (ns : List NoteParts) (i : ℕ) (x : NoteParts) → i < length ns → x ≡ get_or ns i x → 2 ^ 32 ≤ length x.bytes → AllByRecursion IsEntry (map entry.Note ns) → ⊥
 no_note [] i x within is long all = omega (arith, within)
@@ -172,12 +152,8 @@ no_note (y ∷ ns) (suc i) x within is long all = no_note ns i x (omega (arith, 
 -- nor can a note
 pub note_fault : (n : ℕ) (events : List Event) (ns : List NoteParts) (i : ℕ) (x : NoteParts) (fault : EntryFault) → i < length ns → x ≡ get_or ns i x → Encodes (entry.Note x) (Err fault) → IsOfEntries (batch_entries n events ns) (kept_fault_of_entry fault)
 note_fault n events ns i x spelling.OutOfMemory within is h = tt
-note_fault n events ns i x spelling.TooLong within is h = λ all. no_note ns i x within is h (all_back IsEntry (entries_of n events) (map entry.Note ns) all)
-note_fault n events ns i x spelling.Truncated within is h = absurd h
-note_fault n events ns i x spelling.BadKind within is h = absurd h
-note_fault n events ns i x (spelling.OtherFormat f) within is h = absurd h
-note_fault n events ns i x spelling.BadBody within is h = absurd h
-note_fault n events ns i x (spelling.BadEvent f) within is h = absurd h
+note_fault n events ns i x spelling.TooLong within is h = λ all. no_note ns i x within is h (all_split IsEntry (entries_of n events) (map entry.Note ns) all).1
+note_fault n events ns i x fault within is h = absurd h
 
 -- ---- a journal's room
 
@@ -213,12 +189,8 @@ never_failed entries fault h is = subst (λ (f : KeptFault). IsOfEntries entries
 
 -- the device failed, as the journal tells
 pub failed_is : (fault : JournalFault) → IsOfBatch fault → kept_fault_of fault ≡ kept.Failed → fault ≡ journal.Failed
-failed_is journal.OutOfMemory of is = absurd (cc)
 failed_is journal.Failed of is = refl
-failed_is journal.NotAJournal of is = absurd of
-failed_is (journal.OtherFormat f) of is = absurd of
-failed_is (journal.Damaged at) of is = absurd of
-failed_is journal.TooLarge of is = absurd (cc)
+failed_is fault of is = absurd (cc)
 
 module _ {K D V : Type 0} where
   pub has_room : (old : Journaled K D V) (given : List (Vec ℕ Global)) (r : Result (Unit {0}) JournalFault) (v : Unit {0}) → r ≡ Ok v → AreSpelled (entries_waiting old) (contents given)
@@ -233,11 +205,9 @@ module _ {K D V : Type 0} where
       → (fault ≡ journal.TooLarge → Fits (end_of (journal_of old)) texts → ⊥) → IsUncommitted old (kept_fault_of fault)
   no_room old texts journal.OutOfMemory sound spelled of large = sound
   no_room old texts journal.Failed sound spelled of large = tt
-  no_room old texts journal.NotAJournal sound spelled of large = absurd of
-  no_room old texts (journal.OtherFormat f) sound spelled of large = absurd of
-  no_room old texts (journal.Damaged at) sound spelled of large = absurd of
   no_room old texts journal.TooLarge sound spelled of large =
       (sound, λ room. large refl (subst (λ (l : List (List ℕ)). Fits (end_of (journal_of old)) l) (sym spelled.written) room.fits))
+  no_room old texts fault sound spelled of large = absurd of
 
   -- why the journal didn't keep them
   pub journal_fault : (old : Journaled K D V) (given : List (Vec ℕ Global)) (fault : JournalFault) → has_failed (journal_of old) ≡ false → AreSpelled (entries_waiting old) (contents given) → IsOfBatch fault
@@ -248,5 +218,4 @@ module _ {K D V : Type 0} where
   pub batch_fault : (old : Journaled K D V) (entries : List Entry) (fault : KeptFault) → has_failed (journal_of old) ≡ false → entries ≡ entries_waiting old → IsOfEntries entries fault → IsUncommitted old fault
   batch_fault old entries kept.TooLarge sound same h = (sound, λ room. h (subst (λ (l : List Entry). AllByRecursion IsEntry l) (sym same) room.in_grammar))
   batch_fault old entries kept.OutOfMemory sound same h = sound
-  batch_fault old entries kept.Failed sound same h = absurd h
-  batch_fault old entries (kept.Refused r) sound same h = absurd h
+  batch_fault old entries fault sound same h = absurd h

@@ -139,15 +139,13 @@ one_more n events e now is = ap (λ (m : ℕ). counted m e) is ∙ sym (issued_a
 
 -- a Next of the stream of the run
 pub run_grows : (n : ℕ) (events : List Event) (texts : List (List ℕ)) (now s t k more : ℕ) → s ≡ t → more ≡ k + 1 → AreSoFar n events texts now s k → AreSoFar n (events ++ Next t ∷ []) texts now s more
-run_grows n events texts now s t k more same more_is so_far =
-    let grown : AreSoFar n (events ++ Next s ∷ []) texts now s (k + 1) = record {
-      list = so_far.list;
-      spelled = so_far.spelled;
-      all = λ later. ap (entries_of n) (append_assoc events (Next s ∷ []) later) ∙ so_far.all (Next s ∷ later)
-          ∙ ap (λ (l : List Event). so_far.list ++ entries_of now l) (sym (append_assoc (replicate k (Next s)) (Next s ∷ []) later) ∙ ap (λ (l : List Event). l ++ later) (replicate_more k (Next s)));
-      counted_is = one_more n events (Next s) now so_far.counted_is;
-    } in
-    subst (λ (m : ℕ). AreSoFar n (events ++ Next t ∷ []) texts now s m) (sym more_is) (subst (λ (m : ℕ). AreSoFar n (events ++ Next m ∷ []) texts now s (k + 1)) same grown)
+run_grows n events texts now s t k more same more_is so_far = rw (← same, more_is) (record {
+  list = so_far.list;
+  spelled = so_far.spelled;
+  all = λ later. ap (entries_of n) (append_assoc events (Next s ∷ []) later) ∙ so_far.all (Next s ∷ later)
+      ∙ ap (λ (l : List Event). so_far.list ++ entries_of now l) (sym (append_assoc (replicate k (Next s)) (Next s ∷ []) later) ∙ ap (λ (l : List Event). l ++ later) (replicate_more k (Next s)));
+  counted_is = one_more n events (Next s) now so_far.counted_is;
+})
 
 -- a Next of another one: the run is ended
 pub run_changes : (n : ℕ) (events : List Event) (texts ended : List (List ℕ)) (now after s t k : ℕ) → s ≢ t → AreSoFar n events texts now s k → after ≡ now
@@ -172,38 +170,25 @@ an_entry n (Next t) later other = absurd (other t refl)
 an_entry n e later other = refl
 
 -- another event: the run is ended, and the event is an entry
-ended_more : (n : ℕ) (events : List Event) (texts ended : List (List ℕ)) (now s k : ℕ) (e : Event) (count : ℕ) (text : List ℕ) (t : ℕ) → ((u : ℕ) → e ≢ Next u) → AreSoFar n events texts now s k
-    → ((list : List Entry) → AreSpelled list texts → AreSpelled (list ++ run_of s k) ended) → count ≡ counted now e → Spells (entry.Event count e) text → AreSoFar n (events ++ e ∷ []) (ended ++ text ∷ []) count t 0
-ended_more n events texts ended now s k e count text t other so_far end count_is spells =
-    let list : List Entry = so_far.list ++ run_of s k in
-    let x : Entry = entry.Event count e in
-    record {
-      list = list ++ x ∷ [];
-      spelled = spelled_append list (x ∷ []) ended (text ∷ []) (end so_far.list so_far.spelled) (spelled_one x text spells.in_grammar spells.written);
-      all = λ later. ap (entries_of n) (append_assoc events (e ∷ []) later) ∙ so_far.all (e ∷ later)
-          ∙ ap (λ (l : List Entry). so_far.list ++ l) (run_ends now s k (e ∷ later) (begins_none now s e later other))
-          ∙ sym (append_assoc so_far.list (run_of s k) (entries_of now (e ∷ later)))
-          ∙ ap (λ (l : List Entry). list ++ l) (an_entry now e later other ∙ ap (λ (m : ℕ). entry.Event m e ∷ entries_of m later) (sym count_is))
-          ∙ sym (append_assoc list (x ∷ []) (entries_of count later));
-      counted_is = count_is ∙ one_more n events e now so_far.counted_is;
-    }
-
 pub event_more : (n : ℕ) (events : List Event) (texts ended after : List (List ℕ)) (was now s k : ℕ) (e : Event) (count : ℕ) (text : List ℕ) (t m : ℕ) → ((u : ℕ) → e ≢ Next u) → AreSoFar n events texts was s k
     → ((list : List Entry) → AreSpelled list texts → AreSpelled (list ++ run_of s k) ended) → now ≡ was → m ≡ 0 → count ≡ counted now e → Spells (entry.Event count e) text → after ≡ ended ++ text ∷ []
     → AreSoFar n (events ++ e ∷ []) after count t m
 event_more n events texts ended after was now s k e count text t m other so_far end same none count_is spells after_is =
-    subst (λ (l : List (List ℕ)). AreSoFar n (events ++ e ∷ []) l count t m) (sym after_is)
-    (subst (λ (l : ℕ). AreSoFar n (events ++ e ∷ []) (ended ++ text ∷ []) count t l) (sym none)
-    (ended_more n events texts ended was s k e count text t other so_far end (count_is ∙ ap (λ (l : ℕ). counted l e) same) spells))
+    let list : List Entry = so_far.list ++ run_of s k in
+    let x : Entry = entry.Event count e in
+    let count_then : count ≡ counted was e = count_is ∙ ap (λ (l : ℕ). counted l e) same in
+    rw (after_is, none) (record {
+      list = list ++ x ∷ [];
+      spelled = spelled_append list (x ∷ []) ended (text ∷ []) (end so_far.list so_far.spelled) (spelled_one x text spells.in_grammar spells.written);
+      all = λ later. ap (entries_of n) (append_assoc events (e ∷ []) later) ∙ so_far.all (e ∷ later)
+          ∙ ap (λ (l : List Entry). so_far.list ++ l) (run_ends was s k (e ∷ later) (begins_none was s e later other))
+          ∙ sym (append_assoc so_far.list (run_of s k) (entries_of was (e ∷ later)))
+          ∙ ap (λ (l : List Entry). list ++ l) (an_entry was e later other ∙ ap (λ (l : ℕ). entry.Event l e ∷ entries_of l later) (sym count_then))
+          ∙ sym (append_assoc list (x ∷ []) (entries_of count later));
+      counted_is = count_then ∙ one_more n events e was so_far.counted_is;
+    })
 
 -- ---- all of them
-
-all_so_far : (n : ℕ) (events : List Event) (texts ended : List (List ℕ)) (now s k : ℕ) → AreSoFar n events texts now s k → ((list : List Entry) → AreSpelled list texts → AreSpelled (list ++ run_of s k) ended)
-    → AreSpelled (entries_of n events) ended
-all_so_far n events texts ended now s k so_far end =
-    let list : entries_of n events ≡ so_far.list ++ run_of s k =
-    ap (entries_of n) (sym (append-nil events)) ∙ so_far.all [] ∙ ap (λ (l : List Entry). so_far.list ++ l) (run_ends now s k [] refl ∙ append-nil (run_of s k)) in
-    subst (λ (l : List Entry). AreSpelled l ended) (sym list) (end so_far.list so_far.spelled)
 
 pub next_so_far : (n : ℕ) (events : List Event) (i : ℕ) (e : Event) (texts after : List (List ℕ)) (now next s t k m : ℕ) → i < length events → e ≡ get_or events i e → AreSoFar n (take i events) texts now s k
     → ((n : ℕ) (l : List Event) → AreSoFar n l texts now s k → AreSoFar n (l ++ e ∷ []) after next t m) → AreSoFar n (take (i + 1) events) after next t m
@@ -212,4 +197,7 @@ next_so_far n events i e texts after now next s t k m within is so_far step =
 
 pub whole_so_far : (n : ℕ) (events : List Event) (i : ℕ) (texts ended : List (List ℕ)) (now s k : ℕ) → length events ≤ i → AreSoFar n (take i events) texts now s k
     → ((list : List Entry) → AreSpelled list texts → AreSpelled (list ++ run_of s k) ended) → AreSpelled (entries_of n events) ended
-whole_so_far n events i texts ended now s k whole so_far end = all_so_far n events texts ended now s k (subst (λ (l : List Event). AreSoFar n l texts now s k) (take_all i events whole) so_far) end
+whole_so_far n events i texts ended now s k whole so_far end =
+    let list : entries_of n events ≡ so_far.list ++ run_of s k =
+    ap (entries_of n) (sym (append-nil (take i events) ∙ take_all i events whole)) ∙ so_far.all [] ∙ ap (λ (l : List Entry). so_far.list ++ l) (run_ends now s k [] refl ∙ append-nil (run_of s k)) in
+    subst (λ (l : List Entry). AreSpelled l ended) (sym list) (end so_far.list so_far.spelled)

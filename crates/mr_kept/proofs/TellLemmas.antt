@@ -92,50 +92,60 @@ module _ {K : Type 0} (form : Form K) where
       same = record { journal = refl; head = refl; kept = refl; issued = refl; notes = refl };
     }
 
-    wants_more : (old now : Journaled K D V) (count left : ℕ) (so : GivenSoFar stream records bytes old now count left) → count < records → (left ≡ 0 → ⊥) → WantsMore records bytes so.given
-    wants_more old now count left so few some = record {
-      few = omega (arith, so.length_is, few);
-      short = omega (arith, so.left_is, some);
-      no_end = so.no_end;
-    }
-
     leaving_more : (old mid new : Journaled K D V) (given : List Sent) (sent : Sent) → leaving mid ≡ leaving old ++ map Gave given → leaving new ≡ leaving mid ++ Gave sent ∷ []
         → leaving new ≡ leaving old ++ map Gave (given ++ sent ∷ [])
     leaving_more old mid new given sent before now =
         now ∙ ap (λ (l : List Reply). l ++ Gave sent ∷ []) before ∙ append_assoc (leaving old) (map Gave given) (Gave sent ∷ []) ∙ ap (λ (l : List Reply). leaving old ++ l) (sym (map-append Gave given (sent ∷ [])))
 
-    -- one record more, which is no End
-    pub one_given : (old mid new : Journaled K D V) (count left size : ℕ) (sent : Sent) → GivenSoFar stream records bytes old mid count left → count < records → (left ≡ 0 → ⊥) → size ≡ size_of sent → is_end sent ≡ false
-        → Steps form (replica_of mid) (Next stream) (Ok (Gave sent)) (replica_of new) → leaving new ≡ leaving mid ++ Gave sent ∷ [] → has_failed (journal_of mid) ≡ false → SameJournal mid new
-        → GivenSoFar stream records bytes old new (count + 1) (left - size)
-    one_given old mid new count left size sent so few some size_is last step held sound same = record {
-      given = so.given ++ sent ∷ [];
-      gives = gives_more (replica_of old) stream so.given (replica_of mid) (replica_of new) sent so.gives step;
-      length_is = length-append so.given (sent ∷ []) ∙ ap (λ (n : ℕ). n + 1) so.length_is;
-      left_is = left_more so.given sent bytes left size so.left_is size_is;
-      no_end = any_more so.given sent false so.no_end last;
-      wanted = wanted_more records bytes so.given sent count so.length_is so.wanted (wants_more old mid count left so few some);
-      leaving_is = leaving_more old mid new so.given sent so.leaving_is held;
-      sound = λ _. ap has_failed (sym so.same.journal) ∙ sound;
-      same = same_then old mid new so.same same;
-    }
+    module _ {old mid : Journaled K D V} {count left : ℕ} (so : GivenSoFar stream records bytes old mid count left) (few : count < records) (some : left ≡ 0 → ⊥) where
+      wants_more : WantsMore records bytes so.given
+      wants_more = record { few = omega (arith, so.length_is, few); short = omega (arith, so.left_is, some); no_end = so.no_end }
 
-    -- with the End it is over
-    pub end_given : (old mid new : Journaled K D V) (count left : ℕ) (sent : Sent) → GivenSoFar stream records bytes old mid count left → count < records → (left ≡ 0 → ⊥) → is_end sent ≡ true
-        → Steps form (replica_of mid) (Next stream) (Ok (Gave sent)) (replica_of new) → leaving new ≡ leaving mid ++ Gave sent ∷ [] → has_failed (journal_of mid) ≡ false
-        → Tells form stream records bytes old (Ok true) new
-    end_given old mid new count left sent so few some last step held sound =
-        let all : list_any is_end (so.given ++ sent ∷ []) ≡ true = any_more so.given sent true so.no_end last in
-        let longer : length (so.given ++ sent ∷ []) ≡ length so.given + 1 = length-append so.given (sent ∷ []) in
-        record {
-          given = so.given ++ sent ∷ [];
-          reached = replica_of new;
-          gives = gives_more (replica_of old) stream so.given (replica_of mid) (replica_of new) sent so.gives step;
-          wanted = λ n less. wanted_more records bytes so.given sent count so.length_is so.wanted (wants_more old mid count left so few some) n (omega (arith, less, longer, so.length_is));
-          leaving_is = leaving_more old mid new so.given sent so.leaving_is held;
-          sound = λ _. ap has_failed (sym so.same.journal) ∙ sound;
-          ends_by = (λ (more : WantsMore records bytes (so.given ++ sent ∷ [])). let is : true ≡ false = sym all ∙ more.no_end in cc, sym all, refl);
-        }
+      -- one record more, which is no End
+      pub one_given : (new : Journaled K D V) (size : ℕ) (sent : Sent) → size ≡ size_of sent → is_end sent ≡ false → Steps form (replica_of mid) (Next stream) (Ok (Gave sent)) (replica_of new) → leaving new ≡ leaving mid ++ Gave sent ∷ []
+          → has_failed (journal_of mid) ≡ false → SameJournal mid new → GivenSoFar stream records bytes old new (count + 1) (left - size)
+      one_given new size sent size_is last step held sound same = record {
+        given = so.given ++ sent ∷ [];
+        gives = gives_more (replica_of old) stream so.given (replica_of mid) (replica_of new) sent so.gives step;
+        length_is = length-append so.given (sent ∷ []) ∙ ap (λ (n : ℕ). n + 1) so.length_is;
+        left_is = left_more so.given sent bytes left size so.left_is size_is;
+        no_end = any_more so.given sent false so.no_end last;
+        wanted = wanted_more records bytes so.given sent count so.length_is so.wanted wants_more;
+        leaving_is = leaving_more old mid new so.given sent so.leaving_is held;
+        sound = λ _. ap has_failed (sym so.same.journal) ∙ sound;
+        same = same_then old mid new so.same same;
+      }
+
+      -- with the End it is over
+      pub end_given : (new : Journaled K D V) (sent : Sent) → is_end sent ≡ true → Steps form (replica_of mid) (Next stream) (Ok (Gave sent)) (replica_of new) → leaving new ≡ leaving mid ++ Gave sent ∷ [] → has_failed (journal_of mid) ≡ false
+          → Tells form stream records bytes old (Ok true) new
+      end_given new sent last step held sound =
+          let all : list_any is_end (so.given ++ sent ∷ []) ≡ true = any_more so.given sent true so.no_end last in
+          let longer : length (so.given ++ sent ∷ []) ≡ length so.given + 1 = length-append so.given (sent ∷ []) in
+          record {
+            given = so.given ++ sent ∷ [];
+            reached = replica_of new;
+            gives = gives_more (replica_of old) stream so.given (replica_of mid) (replica_of new) sent so.gives step;
+            wanted = λ n less. wanted_more records bytes so.given sent count so.length_is so.wanted wants_more n (omega (arith, less, longer, so.length_is));
+            leaving_is = leaving_more old mid new so.given sent so.leaving_is held;
+            sound = λ _. ap has_failed (sym so.same.journal) ∙ sound;
+            ends_by = (λ (more : WantsMore records bytes (so.given ++ sent ∷ [])). let is : true ≡ false = sym all ∙ more.no_end in cc, sym all, refl);
+          }
+
+      -- or with a Next that isn't answered
+      pub refused_by : (new : Journaled K D V) (fault : KeptFault) (answer : Result Bool KeptFault) → Answered form (journal_of mid) (replica_of mid) (Next stream) (Err fault) (replica_of new) → leaving new ≡ leaving mid
+          → IsErrAnd answer (λ e. e ≡ fault) → Tells form stream records bytes old answer new
+      refused_by new fault answer answered held exit =
+          let p = err_from_is_err_and answer exit in
+          rw (p.1, p.2) (record {
+            given = so.given;
+            reached = replica_of mid;
+            gives = so.gives;
+            wanted = λ n less. so.wanted n (omega (arith, less, so.length_is));
+            leaving_is = held ∙ so.leaving_is;
+            sound = so.sound;
+            ends_by = (wants_more, subst (λ (j : Journal D). Answered form j (replica_of mid) (Next stream) (Err fault) (replica_of new)) so.same.journal answered);
+          })
 
     -- with as many records or bytes as are wanted
     pub enough_given : (old now : Journaled K D V) (count left : ℕ) → GivenSoFar stream records bytes old now count left → (records ≤ count) ⊎ (left ≡ 0) → Tells form stream records bytes old (Ok false) now
@@ -152,24 +162,3 @@ module _ {K : Type 0} (form : Form K) where
         refl,
       );
     }
-
-    -- or with a Next that isn't answered
-    pub refused_given : (old mid new : Journaled K D V) (count left : ℕ) (fault : KeptFault) → GivenSoFar stream records bytes old mid count left → count < records → (left ≡ 0 → ⊥)
-        → Answered form (journal_of mid) (replica_of mid) (Next stream) (Err fault) (replica_of new) → leaving new ≡ leaving mid → Tells form stream records bytes old (Err fault) new
-    refused_given old mid new count left fault so few some answered held = record {
-      given = so.given;
-      reached = replica_of mid;
-      gives = so.gives;
-      wanted = λ n less. so.wanted n (omega (arith, less, so.length_is));
-      leaving_is = held ∙ so.leaving_is;
-      sound = so.sound;
-      ends_by = (wants_more old mid count left so few some, subst (λ (j : Journal D). Answered form j (replica_of mid) (Next stream) (Err fault) (replica_of new)) so.same.journal answered);
-    }
-
-    pub refused_by : (old mid new : Journaled K D V) (count left : ℕ) (fault : KeptFault) (answer : Result Bool KeptFault) → GivenSoFar stream records bytes old mid count left → count < records → (left ≡ 0 → ⊥)
-        → Answered form (journal_of mid) (replica_of mid) (Next stream) (Err fault) (replica_of new) → leaving new ≡ leaving mid → IsErrAnd answer (λ e. e ≡ fault) → Tells form stream records bytes old answer new
-    refused_by old mid new count left fault answer so few some answered held exit =
-        let p = err_from_is_err_and answer exit in
-        let P : Result Bool KeptFault → Type 0 = λ a. Tells form stream records bytes old a new in
-        let as_answer : KeptFault → Result Bool KeptFault = λ e. Err e in
-        subst P (sym (p.1 ∙ ap as_answer p.2)) (refused_given old mid new count left fault so few some answered held)

@@ -39,7 +39,7 @@ use Rattle.mr_kept.specs.Kept.{head_of, issued_of, journal_of, kept_of, replica_
 use Rattle.mr_kept.specs.Opening.{IsOfOther, IsOfPlace, IsReplayed, Reopens}
 use Rattle.mr_kept.specs.Refusing.{IsBehindHead, IsLonger, IsNoFilter, IsNoHead, IsNoReplay, IsOpenFault, IsOutOfOrder, IsRefused, IsUnread, IsWrong, StopsAt}
 use Rattle.mr_kept.specs.Whole.{ComesBack, HasLog, HasLogOf, IsOf, IsOfMachine}
-use Rattle.mr_kept.proofs.EntryLemmas.{events_append, events_cons, issued_append}
+use Rattle.mr_kept.proofs.EntryLemmas.{all_split, events_append, events_cons, issued_cons}
 use Rattle.mr_kept.proofs.LogLemmas.{replayed_few}
 use Rattle.mr_kept.specs.inner.Opening.{IsRead}
 use Rattle.mr_kept.proofs.OpenLemmas.{as_going, replayed_setting}
@@ -84,10 +84,6 @@ wrong_memory place issued count e text why s b few (inr other) =
 
 -- ---- entries
 
-all_front : {A : Type 0} (P : A → Type 0) (xs ys : List A) → AllByRecursion P (xs ++ ys) → AllByRecursion P xs
-all_front P [] ys h = tt
-all_front P (x ∷ xs) ys h = (h.0, all_front P xs ys h.1)
-
 same_entries : (xs ys : List Entry) → AllByRecursion IsEntry xs → AllByRecursion IsEntry ys → map entry_bytes xs ≡ map entry_bytes ys → xs ≡ ys
 same_entries [] [] a b is = refl
 same_entries [] (y ∷ ys) a b is = absurd cc
@@ -122,8 +118,7 @@ stands_at (x ∷ xs) (y ∷ ys) text left a b is =
 belongs_at : (n : ℕ) (before : List Entry) (e : Entry) (behind : List Entry) → AllBelong n (before ++ e ∷ behind) → Belongs (issued_after n (events_of before)) e
 belongs_at n [] e behind h = h.0
 belongs_at n (x ∷ xs) e behind h =
-    let same : issued_after n (events_of (x ∷ xs)) ≡ issued_after (issued_after n (events_of_entry x)) (events_of xs) = ap (issued_after n) (events_cons x xs) ∙ issued_append n (events_of_entry x) (events_of xs) in
-    subst (λ (m : ℕ). Belongs m e) (sym same) (belongs_at (issued_after n (events_of_entry x)) xs e behind h.1)
+    subst (λ (m : ℕ). Belongs m e) (sym (issued_cons n x xs)) (belongs_at (issued_after n (events_of_entry x)) xs e behind h.1)
 
 few_at : (before : List Entry) (e : Entry) (behind : List Entry) → length (events_of before) + length (events_of_entry e) ≤ length (events_of (before ++ e ∷ behind))
 few_at before e behind =
@@ -157,14 +152,8 @@ other_place head mark birth fault.Copied place h = h place.mark_is
 other_place head mark birth fault.OtherBirth place h = h.3 (place.birth_is h.0 h.1)
 other_place head mark birth why place h = h
 
-same_head : (a b : HeadParts) → entry.Head a ≡ entry.Head b → a ≡ b
-same_head a b is = cc
-
-first_head : (a b : HeadParts) (xs ys : List Entry) → entry.Head a ∷ xs ≡ entry.Head b ∷ ys → a ≡ b
-first_head a b xs ys is = cc
-
-behind_first : (a b : HeadParts) (xs ys : List Entry) → entry.Head a ∷ xs ≡ entry.Head b ∷ ys → xs ≡ ys
-behind_first a b xs ys is = cc
+same_heads : (a b : HeadParts) (xs ys : List Entry) → entry.Head a ∷ xs ≡ entry.Head b ∷ ys → (a ≡ b) × (xs ≡ ys)
+same_heads a b xs ys is = (cc, cc)
 
 module _ {K : Type 0} (form : Form K) (meaning : IsByMeaning form) where
   replay_machine : (head : HeadParts) (filter : List ClauseParts) (events : List Event) (s : State K) (why : OpenFault) → 1 ≤ head.event_limit → head.event_limit ≤ MAX_EVENTS → Replays form head.id filter head.event_limit events s
@@ -213,7 +202,8 @@ module _ {K : Type 0} (form : Form K) (meaning : IsByMeaning form) where
     refused_machine texts mark birth why place is h =
         ⊎_elim (no_head_machine why)
         (λ found.
-        let same : found.0 ≡ head = same_head found.0 head (one_entry (entry.Head found.0) (entry.Head head) (entry_bytes (entry.Head head)) found.1 head_spells) in
+        let one = one_entry (entry.Head found.0) (entry.Head head) (entry_bytes (entry.Head head)) found.1 head_spells in
+        let same : found.0 ≡ head = (same_heads found.0 head [] [] (ap (λ (e : Entry). e ∷ []) one)).0 in
         ⊎_elim (λ other. absurd (other_place head mark birth why place (subst (λ (x : HeadParts). IsOfOther x mark birth why) same other)))
         (λ behind. behind_machine why (subst (λ (x : HeadParts). IsBehindHead form x (map entry_bytes left.entries) why) same behind.1)) found.2)
         (subst (λ (l : List (List ℕ)). IsRefused form l mark birth why) is h)
@@ -223,7 +213,8 @@ module _ {K : Type 0} (form : Form K) (meaning : IsByMeaning form) where
     of_replayed texts h t kept issued told stands is =
         let same : entry.Head h ∷ is.entries ≡ entry.Head head ∷ left.entries =
         same_entries (entry.Head h ∷ is.entries) (entry.Head head ∷ left.entries) is.spelled.in_grammar left.in_grammar (sym is.spelled.written ∙ one_list file texts (map entry_bytes (entry.Head head ∷ left.entries)) stands left.stands) in
-        let head_is : h ≡ head = first_head h head is.entries left.entries same in
+        let heads = same_heads h head is.entries left.entries same in
+        let head_is : h ≡ head = heads.0 in
         let setting = replayed_setting form h.id t.filter h.event_limit (events_of is.entries) t is.replays in
         let filters : t.filter ≡ s.filter = Reads-unique head.filter t.filter s.filter (subst (λ (x : HeadParts). Reads x.filter t.filter) head_is is.filter) left.head_is.tells.filter in (
           head_is,
@@ -233,7 +224,7 @@ module _ {K : Type 0} (form : Form K) (meaning : IsByMeaning form) where
             limit_from = subst (λ (x : HeadParts). 1 ≤ x.event_limit) (sym head_is) left.head_is.limit_from;
             limit_to = subst (λ (x : HeadParts). x.event_limit ≤ MAX_EVENTS) (sym head_is) left.head_is.limit_to;
           },
-          ap notes_of (behind_first h head is.entries left.entries same) ∙ left.notes_are,
+          ap notes_of heads.1 ∙ left.notes_are,
         )
 
     -- and so is a file that stands for the same entries
@@ -284,9 +275,10 @@ module _ {K : Type 0} (form : Form K) (meaning : IsByMeaning form) where
     pub comes_back : {D V : Type 0} (seen : D → List ℕ) (may_leave : D → List ℕ → Type 0) (all : Bool) (told : List NoteParts) (j : Journaled K D V) → Reopens form seen may_leave file all told j → ComesBack form s all (replica_of j) × (told ≡ notes)
     comes_back seen may_leave all told j again =
         let entries : List Entry = entry.Head (head_of j) ∷ again.entries in
-        let same : entries ≡ entry.Head head ∷ left.entries = same_entries entries (entry.Head head ∷ left.entries) (all_front IsEntry entries _ again.kept.in_grammar) left.in_grammar (one_list file (map entry_bytes entries) (map entry_bytes (entry.Head head ∷ left.entries)) again.stood left.stands) in
-        let head_is : head_of j ≡ head = first_head (head_of j) head again.entries left.entries same in
-        let list : again.entries ≡ left.entries = behind_first (head_of j) head again.entries left.entries same in
+        let same : entries ≡ entry.Head head ∷ left.entries = same_entries entries (entry.Head head ∷ left.entries) (all_split IsEntry entries _ again.kept.in_grammar).0 left.in_grammar (one_list file (map entry_bytes entries) (map entry_bytes (entry.Head head ∷ left.entries)) again.stood left.stands) in
+        let heads = same_heads (head_of j) head again.entries left.entries same in
+        let head_is : head_of j ≡ head = heads.0 in
+        let list : again.entries ≡ left.entries = heads.1 in
         let t : State K = again.replica in
         let filters : t.filter ≡ s.filter = Reads-unique head.filter t.filter s.filter (subst (λ (h : HeadParts). Reads h.filter t.filter) head_is again.tells.filter) left.head_is.tells.filter in
         let id : t.id ≡ head.id = again.tells.id ∙ ap (λ (h : HeadParts). h.id) head_is in

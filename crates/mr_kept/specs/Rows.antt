@@ -99,11 +99,8 @@ misplaced_row head = (head, refl, refl)
 pub counter_row : IsOutOfOrder 1 0 0 (entry.Event 1 Pull) (fault.OtherCounter 1)
 counter_row = (1, Pull, refl, refl, λ is. omega (arith, is))
 
-pub cut_row : IsCut (CutIn 3)
-cut_row = tt
-
-pub no_cut_row : IsCut (Next 3) → ⊥
-no_cut_row is = is
+pub cut_row : IsCut (CutIn 3) × (IsCut (Next 3) → ⊥)
+cut_row = (tt, λ is. is)
 
 -- where replica 3 has issued one version, somebody who knows its second knows more
 pub above_row : IsAbove 3 1 (record { author = 3; counter = 2 })
@@ -116,18 +113,12 @@ pub end_row : (header : Header) → (size_of (record { header = header; body = E
 end_row header = (refl, refl)
 
 -- before the first record one is wanted, but of no bytes none is
-pub first_row : WantsMore 3 100 []
-first_row = record { few = omega arith; short = omega arith; no_end = refl }
-
-pub no_bytes_row : WantsMore 3 0 [] → ⊥
-no_bytes_row more = omega (arith, more.short)
+pub first_row : WantsMore 3 100 [] × (WantsMore 3 0 [] → ⊥)
+first_row = (record { few = omega arith; short = omega arith; no_end = refl }, λ more. omega (arith, more.short))
 
 -- nor behind as many as were asked for, nor behind an End
-pub enough_row : (sent : Sent) → WantsMore 1 100 (sent ∷ []) → ⊥
-enough_row sent more = omega (arith, more.few)
-
-pub ended_row : (header : Header) → WantsMore 3 100 (record { header = header; body = End } ∷ []) → ⊥
-ended_row header more = let is : true ≡ false = more.no_end in cc
+pub enough_row : (sent : Sent) (header : Header) → (WantsMore 1 100 (sent ∷ []) → ⊥) × (WantsMore 3 100 (record { header = header; body = End } ∷ []) → ⊥)
+enough_row sent header = (λ more. omega (arith, more.few), λ more. let is : true ≡ false = more.no_end in cc)
 
 -- ---- faults with the words of the system
 
@@ -156,19 +147,14 @@ pub no_room_row : {K D V : Type 0} (j : Journaled K D V) → has_failed (journal
 no_room_row j sound none = record { sound = sound; room = λ some. absurd (some none) }
 
 -- behind 2^32 - 1 Nexts of a stream one more has no entry, but one of another stream has
-pub long_run_row : HasNoEntry 0 2 4294967295 (Next 2)
-long_run_row = (refl, omega arith)
-
-pub other_stream_row : HasNoEntry 0 2 4294967295 (Next 3) → ⊥
-other_stream_row is = omega (arith, is.0)
+pub long_run_row : HasNoEntry 0 2 4294967295 (Next 2) × (HasNoEntry 0 2 4294967295 (Next 3) → ⊥)
+long_run_row = ((refl, omega arith), λ is. omega (arith, is.0))
 
 -- ---- why no replica is begun
 
-pub no_limit_row : (file birth mark : List ℕ) → IsBeginFault file 3 [] 0 birth mark (fault.Replay BadLimit)
-no_limit_row file birth mark limit = omega (arith, limit.low)
-
-pub high_limit_row : (file birth mark : List ℕ) → IsBeginFault file 3 [] 1000001 birth mark (fault.Replay BadLimit)
-high_limit_row file birth mark limit = omega (arith, limit.high)
+-- by a limit of no event, or of more than a replica admits
+pub no_limit_row : (file birth mark : List ℕ) → IsBeginFault file 3 [] 0 birth mark (fault.Replay BadLimit) × IsBeginFault file 3 [] 1000001 birth mark (fault.Replay BadLimit)
+no_limit_row file birth mark = (λ limit. omega (arith, limit.low), λ limit. omega (arith, limit.high))
 
 -- a journal that has an entry, and a setup that can be kept
 pub not_empty_row : (file birth mark : List ℕ) (entries : List (List ℕ)) → entries ≢ [] → Stands entries file → IsBeginFault file 3 [] 100 birth mark fault.NotEmpty

@@ -1,12 +1,14 @@
 //! What was open is closed.
 ghost use Rattle.std.specs.Prelude.{◌≡◌, [], IfOk, OnOk, IsTrue, List, true, map};
-ghost use Rattle.mr_replica.specs.declared.event.Event.TheVariants as asked;
+ghost use Rattle.mr_replica.specs.Step.{Steps};
+ghost use Rattle.mr_replica.specs.StepThen.{answer_by};
+ghost use Rattle.mr_replica.specs.declared.event.Reply.TheVariants.{Done};
 ghost use Rattle.mr_journal.specs.Device.{LeavesOnly};
 ghost use Rattle.mr_journal.specs.Journal.{device_of};
 ghost use Rattle.mr_entry.specs.Spelling.{entry_bytes};
 ghost use Rattle.mr_entry.specs.declared.entry.Entry.{Entry};
-ghost use Rattle.mr_kept.specs.Closing.{AreClosed, Takes, closers};
-ghost use Rattle.mr_kept.specs.inner.Closing.{Closes, sessions_of, streams_of};
+ghost use Rattle.mr_kept.specs.Closing.{AreClosed};
+ghost use Rattle.mr_kept.specs.inner.Closing.{Closes, ClosesAll, cut_of, to_close};
 ghost use Rattle.mr_kept.specs.Entries.{notes_of};
 ghost use Rattle.mr_kept.specs.Opening.{HasCut};
 
@@ -15,29 +17,38 @@ use crate::journaled::Journaled;
 use mr_forms::Knowledge;
 use mr_journal::Device;
 use mr_replica::{Refusal, Replica};
+use std::alloc::{AllocError, Global};
+
+/// What can be open.
+#[derive(Clone, Copy)]
+pub(crate) enum Kind {
+    Sessions,
+    Streams,
+}
 
 /// Closes each open session and each open stream, of a retired replica streams alone, and tells whether none is left: else
 /// the log is full.
-fn close_all<K: Knowledge>(replica: &mut Replica<K>) -> Result<bool, KeptFault>
-    ensures takes { IfOk result (λ all. Takes (closers replica.old) all replica.old replica.new) }
-    ensures closed { IfOk result (λ all. IsTrue all → AreClosed replica.new) }
+fn close_all<K: Knowledge>(alloc: Global, replica: &mut Replica<K>) -> Result<bool, KeptFault>
+    ensures { IfOk result (λ all. ClosesAll all replica.old replica.new) }
 {
-    if replica.is_retired() {
-        return close_streams(replica);
-    }
-    if !close_sessions(replica)? {
+    let sessions = close_each(alloc, replica, Kind::Sessions)?;
+    if !sessions {
         return Ok(false);
     }
-    close_streams(replica)
+    close_each(alloc, replica, Kind::Streams)
 }
 
-fn close_sessions<K: Knowledge>(replica: &mut Replica<K>) -> Result<bool, KeptFault>
-    ensures closes { IfOk result (λ all. Closes asked.CutIn sessions_of all replica.old replica.new) }
-    ensures streams { OnOk result (replica.new.streams ≡ replica.old.streams) }
+/// Those of one kind.
+fn close_each<K: Knowledge>(
+    alloc: Global,
+    replica: &mut Replica<K>,
+    kind: Kind,
+) -> Result<bool, KeptFault>
+    ensures { IfOk result (λ all. Closes kind all replica.old replica.new) }
 {
-    let numbers = replica.open_sessions()?;
-    for session in &numbers {
-        match replica.cut_in(*session) {
+    let numbers = numbers_of(alloc, replica, kind)?;
+    for number in &numbers {
+        match cut(replica, kind, *number) {
             Ok(()) => {}
             Err(Refusal::LogFull) => return Ok(false),
             Err(refusal) => return Err(KeptFault::Refused(refusal)),
@@ -46,19 +57,28 @@ fn close_sessions<K: Knowledge>(replica: &mut Replica<K>) -> Result<bool, KeptFa
     Ok(true)
 }
 
-fn close_streams<K: Knowledge>(replica: &mut Replica<K>) -> Result<bool, KeptFault>
-    ensures closes { IfOk result (λ all. Closes asked.CutOut streams_of all replica.old replica.new) }
-    ensures sessions { OnOk result (replica.new.sessions ≡ replica.old.sessions) }
+/// The numbers of those that are to be closed.
+fn numbers_of<K: Knowledge>(
+    alloc: Global,
+    replica: &Replica<K>,
+    kind: Kind,
+) -> Result<Vec<u64>, AllocError>
+    ensures { IfOk result (λ numbers. numbers.items ≡ to_close kind replica.now) }
 {
-    let numbers = replica.open_streams()?;
-    for stream in &numbers {
-        match replica.cut_out(*stream) {
-            Ok(()) => {}
-            Err(Refusal::LogFull) => return Ok(false),
-            Err(refusal) => return Err(KeptFault::Refused(refusal)),
-        }
+    match kind {
+        Kind::Sessions if replica.is_retired() => Ok(Vec::new(alloc)),
+        Kind::Sessions => replica.open_sessions(),
+        Kind::Streams => replica.open_streams(),
     }
-    Ok(true)
+}
+
+fn cut<K: Knowledge>(replica: &mut Replica<K>, kind: Kind, number: u64) -> Result<(), Refusal>
+    ensures { Steps K.form replica.old (cut_of kind number) (answer_by (λ _. Done) result) replica.new }
+{
+    match kind {
+        Kind::Sessions => replica.cut_in(number),
+        Kind::Streams => replica.cut_out(number),
+    }
 }
 
 impl<K: Knowledge, D: Device + Drop> Journaled<K, D> {
@@ -83,7 +103,7 @@ impl<K: Knowledge, D: Device + Drop> Journaled<K, D> {
     {
         // the replica is its log replayed
         let _log = self.replica.log();
-        let are_closed = close_all(&mut self.replica)?;
+        let are_closed = close_all(self.alloc, &mut self.replica)?;
         // nobody asked for these events, so nobody waits for their replies
         let _ = self.commit()?;
         Ok(are_closed)

@@ -1,41 +1,31 @@
-use Rattle.std.proofs.Common.{◌≡◌, ◌⊎◌, ◌∙◌, ◌++◌, inl, inr, ℕ, List, [], length, ap, subst, sym, Result, Err}
+use Rattle.std.proofs.Common.{◌≡◌, ◌∙◌, ◌++◌, inl, ℕ, List, [], length, ap, subst, sym, Result, Err}
 use Rattle.std.specs.Prelude.{IsTrue}
-use Rattle.mr_journal.specs.Device.{LeavesOnly}
-use Rattle.mr_journal.specs.Format.{StandAlike, Stands, contents}
-use Rattle.mr_journal.specs.Journal.{Keeps, device_of}
-use Rattle.mr_journal.proofs.Moments.{joined, started, widened}
+use Rattle.mr_journal.specs.Format.{Stands, contents}
+use Rattle.mr_journal.specs.Journal.{Keeps}
+use Rattle.mr_journal.proofs.Moments.{started}
 use Rattle.mr_entry.specs.Head.{HeadParts}
 use Rattle.mr_kept.specs.Beginning.{HasParts}
-use Rattle.mr_kept.specs.Opening.{Begins}
 use Rattle.mr_journal.specs.declared.fault.JournalFault.{JournalFault}
 use Rattle.mr_kept.proofs.BeginLemmas.{device_failed, no_journal_fault, of_commit, of_open, of_setup, some_batch, some_texts}
-use Rattle.mr_kept.proofs.OpenLemmas.{as_begun, begins, empty_texts, kept_begun, none_waits}
+use Rattle.mr_kept.proofs.OpenLemmas.{empty_texts, kept_begun, moments_begun, moments_head, none_waits}
 use Rattle.mr_kept.proofs.journaled.Journaled.begin.Goals as goal
 
 pub returns-in-Err-clause-any_moment : goal.returns-in-Err-clause-any_moment
 returns-in-Err-clause-any_moment g c = λ told. started {old = c.args.device} (λ file left. inl (g.met.D.Device.only_now c.args.device file left))
 
 pub returns-in-Err-open-clause-any_moment : goal.returns-in-Err-open-clause-any_moment
-returns-in-Err-open-clause-any_moment g c = λ told.
-    let P : List ℕ → Type 0 = λ f. g.D.Device.may_leave c.args.device f ⊎ (StandAlike (g.D.Device.seen c.args.device) f ⊎ Begins (g.D.Device.seen c.args.device) f) in
-    widened P (c.in-Err-open.ensures.any_moment told) (λ f here. as_begun here)
+returns-in-Err-open-clause-any_moment g c = λ told. moments_begun g.D.Device.may_leave (g.D.Device.seen c.args.device) c.args.device _ (c.in-Err-open.ensures.any_moment told)
 
 pub returns-then-not-is_empty-clause-any_moment : goal.returns-then-not-is_empty-clause-any_moment
-returns-then-not-is_empty-clause-any_moment g c = λ told.
-    let P : List ℕ → Type 0 = λ f. g.D.Device.may_leave c.args.device f ⊎ (StandAlike (g.D.Device.seen c.args.device) f ⊎ Begins (g.D.Device.seen c.args.device) f) in
-    subst (λ d. LeavesOnly g.D.Device.moment g.D.Device.left_since c.args.device d P) (sym c.into_device.ensures) (widened P (c.in-Ok-open.ensures.any_moment told) (λ f here. as_begun here))
+returns-then-not-is_empty-clause-any_moment g c = λ told. rw c.into_device.ensures (moments_begun g.D.Device.may_leave (g.D.Device.seen c.args.device) c.args.device _ (c.in-Ok-open.ensures.any_moment told))
 
 pub returns-in-Err-commit-clause-any_moment : goal.returns-in-Err-commit-clause-any_moment
 returns-in-Err-commit-clause-any_moment g c = λ told.
-    let file = g.D.Device.seen c.args.device in
-    let P : List ℕ → Type 0 = λ f. g.D.Device.may_leave c.args.device f ⊎ (StandAlike file f ⊎ Begins file f) in
-    let texts = contents c.in-Ok-open.opened.1.items in
     let opened = c.in-Ok-open.ensures.opened told in
-    let none : texts ≡ [] = ap contents (sym c.deref-found.ensures.value) ∙ empty_texts c.deref-found.result.now c.is_empty.result c.is_empty.ensures c.if-not-is_empty.false in
-    let batch = ap contents c.deref.ensures.value ∙ c.in-Ok.ensures.batch.1 in
-    subst (λ d. LeavesOnly g.D.Device.moment g.D.Device.left_since c.args.device d P) (sym c.into_device-in-Err-commit.ensures)
-    (joined (widened P (c.in-Ok-open.ensures.any_moment told) (λ f here. as_begun here))
-    (widened P (c.commit.ensures.any_moment told texts opened.0) (λ f left. inr (begins file f texts (contents c.deref.result.now) c.in-Ok.first.0 none batch opened.1 left))))
+    let none : contents c.in-Ok-open.opened.1.items ≡ [] = ap contents (sym c.deref-found.ensures.value) ∙ empty_texts c.deref-found.result.now c.is_empty.result c.is_empty.ensures c.if-not-is_empty.false in
+    rw c.into_device-in-Err-commit.ensures
+    (moments_head g.D.Device.may_leave (g.D.Device.seen c.args.device) c.args.device _ _ _ (contents c.deref.result.now) c.in-Ok.first.0 none (ap contents c.deref.ensures.value ∙ c.in-Ok.ensures.batch.1) opened.1
+    (c.in-Ok-open.ensures.any_moment told) (c.commit.ensures.any_moment told _ opened.0))
 
 pub returns-clause-empty : goal.returns-clause-empty
 returns-clause-empty g c = λ told.
@@ -53,15 +43,11 @@ returns-clause-kept g c = λ told.
 
 pub returns-clause-any_moment : goal.returns-clause-any_moment
 returns-clause-any_moment g c = λ told.
-    let file = g.D.Device.seen c.args.device in
-    let P : List ℕ → Type 0 = λ f. g.D.Device.may_leave c.args.device f ⊎ (StandAlike file f ⊎ Begins file f) in
-    let texts = contents c.in-Ok-open.opened.1.items in
     let opened = c.in-Ok-open.ensures.opened told in
-    let none : texts ≡ [] = ap contents (sym c.deref-found.ensures.value) ∙ empty_texts c.deref-found.result.now c.is_empty.result c.is_empty.ensures c.if-not-is_empty.false in
-    let batch = ap contents c.deref.ensures.value ∙ c.in-Ok.ensures.batch.1 in
-    subst (λ j. LeavesOnly g.D.Device.moment g.D.Device.left_since c.args.device (device_of j) P) (sym c.fresh.ensures.journal)
-    (joined (widened P (c.in-Ok-open.ensures.any_moment told) (λ f here. as_begun here))
-    (widened P (c.commit.ensures.any_moment told texts opened.0) (λ f left. inr (begins file f texts (contents c.deref.result.now) c.in-Ok.first.0 none batch opened.1 left))))
+    let none : contents c.in-Ok-open.opened.1.items ≡ [] = ap contents (sym c.deref-found.ensures.value) ∙ empty_texts c.deref-found.result.now c.is_empty.result c.is_empty.ensures c.if-not-is_empty.false in
+    rw c.fresh.ensures.journal
+    (moments_head g.D.Device.may_leave (g.D.Device.seen c.args.device) c.args.device _ _ _ (contents c.deref.result.now) c.in-Ok.first.0 none (ap contents c.deref.ensures.value ∙ c.in-Ok.ensures.batch.1) opened.1
+    (c.in-Ok-open.ensures.any_moment told) (c.commit.ensures.any_moment told _ opened.0))
 
 pub returns-clause-head : goal.returns-clause-head
 returns-clause-head g c =

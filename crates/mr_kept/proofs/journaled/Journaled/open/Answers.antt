@@ -1,8 +1,6 @@
-use Rattle.std.proofs.Common.{◌⊎◌, inl, inr, ℕ, List, refl, subst, sym}
-use Rattle.mr_journal.specs.Device.{LeavesOnly}
+use Rattle.std.proofs.Common.{inl, inr, refl, subst, sym}
 use Rattle.mr_entry.specs.Head.{HeadParts}
-use Rattle.mr_kept.specs.Opening.{GoesOn, IsOfPlace}
-use Rattle.mr_kept.specs.Whole.{HasLog}
+use Rattle.mr_kept.specs.Opening.{IsOfPlace}
 use Rattle.mr_kept.proofs.OpenLemmas.{moments_alike, moments_open, reopens}
 use Rattle.mr_kept.proofs.WholeLemmas.{comes_back, has_alike, has_open, opens}
 use Rattle.mr_kept.proofs.journaled.Journaled.open.Goals as goal
@@ -12,9 +10,7 @@ returns-in-Err-clause-any_moment g c = λ told. moments_alike g.D.Device.may_lea
 
 pub returns-in-Err-of_entries-clause-any_moment : goal.returns-in-Err-of_entries-clause-any_moment
 returns-in-Err-of_entries-clause-any_moment g c = λ told.
-    let file = g.D.Device.seen c.args.device in
-    let P : List ℕ → Type 0 = λ f. g.D.Device.may_leave c.args.device f ⊎ GoesOn file f in
-    subst (λ d. LeavesOnly g.D.Device.moment g.D.Device.left_since c.args.device d P) (sym c.in-Err-of_entries.ensures.device) (moments_alike g.D.Device.may_leave file _ _ (c.in-Ok.ensures.any_moment told))
+    rw c.in-Err-of_entries.ensures.device (moments_alike g.D.Device.may_leave (g.D.Device.seen c.args.device) _ _ (c.in-Ok.ensures.any_moment told))
 
 pub close-requires : goal.close-requires
 close-requires g c = record { waits = c.in-Ok-of_entries.ensures.none_waits }
@@ -42,12 +38,10 @@ returns-in-Ok-close-clause-any_moment g c = λ told.
 
 pub returns-in-Err-close-clause-any_moment : goal.returns-in-Err-close-clause-any_moment
 returns-in-Err-close-clause-any_moment g c = λ told.
-    let file = g.D.Device.seen c.args.device in
     let opened = c.in-Ok.ensures.opened told in
     let read = c.in-Ok-of_entries.ensures.read opened.0 in
-    let P : List ℕ → Type 0 = λ f. g.D.Device.may_leave c.args.device f ⊎ GoesOn file f in
-    subst (λ d. LeavesOnly g.D.Device.moment g.D.Device.left_since c.args.device d P) (sym c.into_device.ensures)
-    (moments_open read file opened.1 c.in-Ok.opened.0 _ _ c.in-Ok-of_entries.ensures.journal (c.in-Ok.ensures.any_moment told) (c.close.ensures.any_moment told _ read.kept))
+    rw c.into_device.ensures
+    (moments_open read (g.D.Device.seen c.args.device) opened.1 c.in-Ok.opened.0 _ _ c.in-Ok-of_entries.ensures.journal (c.in-Ok.ensures.any_moment told) (c.close.ensures.any_moment told _ read.kept))
 
 -- ---- why it isn't opened, and that a journal that a replica left is
 
@@ -87,8 +81,7 @@ returns-in-Err-clause-left g c = λ told head s notes left.
 
 pub returns-in-Err-of_entries-clause-left : goal.returns-in-Err-of_entries-clause-left
 returns-in-Err-of_entries-clause-left g c = λ told head s notes left.
-    let P : List ℕ → Type 0 = λ f. g.D.Device.may_leave c.args.device f ⊎ HasLog g.K.Knowledge.form f head notes in
-    subst (λ d. LeavesOnly g.D.Device.moment g.D.Device.left_since c.args.device d P) (sym c.in-Err-of_entries.ensures.device)
+    rw c.in-Err-of_entries.ensures.device
     (has_alike g.K.Knowledge.form g.met.K.Knowledge.by_meaning (g.D.Device.seen c.args.device) head s notes left g.D.Device.may_leave _ _ (c.in-Ok.ensures.any_moment told))
 
 pub returns-in-Ok-close-clause-left : goal.returns-in-Ok-close-clause-left
@@ -102,7 +95,6 @@ pub returns-in-Err-close-clause-left : goal.returns-in-Err-close-clause-left
 returns-in-Err-close-clause-left g c = λ told head s notes left.
     let opened = c.in-Ok.ensures.opened told in
     let read = c.in-Ok-of_entries.ensures.read opened.0 in
-    let P : List ℕ → Type 0 = λ f. g.D.Device.may_leave c.args.device f ⊎ HasLog g.K.Knowledge.form f head notes in
-    subst (λ d. LeavesOnly g.D.Device.moment g.D.Device.left_since c.args.device d P) (sym c.into_device.ensures)
+    rw c.into_device.ensures
     (has_open g.K.Knowledge.form g.met.K.Knowledge.by_meaning (g.D.Device.seen c.args.device) head s notes left read opened.1 c.in-Ok.opened.0 _ _ c.in-Ok-of_entries.ensures.journal
     (c.in-Ok.ensures.any_moment told) (c.close.ensures.left told _ read.kept))
